@@ -1,0 +1,310 @@
+-- The names that differ between two lists of entries, each in rising order, by one pass over both.
+use Rattle.std.proofs.Common.{◌≡◌, ℕ, Bool, true, false, cond, not, ◌&&◌, ◌||◌, T, suc, length, IsTrue, List, [], ◌∷◌, bytes_eq, Option, Some, None, option_map, refl, sym, ap, subst, ◌∙◌}
+use Rattle.std.proofs.lemmas.Bool.{cases_Bool, cond-true, cond-false, false≢true}
+use mathlib.Core.Logic.{inl, inr}
+use Rattle.std.specs.Ordering.{is_lt, is_eq, ordering_reverse}
+use Rattle.std.specs.Cmp.{tied_itself}
+use Rattle.std.specs.Cmp.Lexicographic.{nat_list_cmp_total}
+use Rattle.std.specs.declared.cmp.Ordering.{Ordering}
+use Rattle.std.specs.declared.cmp.Ordering.TheVariants.{Less, Equal, Greater}
+use Rattle.std.specs.FinMap as map
+use Rattle.std.specs.FinMap.{find, is_sorted}
+use Rattle.std.specs.FinMap.Entries.{below_all}
+use Rattle.std.specs.List.{AllByRecursion}
+use Rattle.std.specs.List.Sorted.{IsStrictlySortedBy}
+use Rattle.std.proofs.lemmas.Map.Text.{is_eq-slice_cmp}
+use Rattle.ks_symbols.specs.declared.kinds.Kind.{Kind}
+use Rattle.ks_symbols.specs.Configuration.{NameMap, IsConfiguration}
+use Rattle.ks_output.proofs.Entries.{order, first, second, find_below, tied}
+use Rattle.ks_symbols.specs.Names.{is_name, is_symbol_name}
+use Rattle.ks_output.specs.Models.{HasNames}
+use Rattle.ks_output.proofs.WrittenLines.{and_parts}
+use Rattle.ks_compare.specs.Pass.{Step, Ends, Old, New, Both, step, by_order, with_first}
+use Rattle.ks_compare.specs.Changes.{compared, unlike, differ, is_in, AreChanges}
+
+abbrev pub OldList : Type 0
+OldList = List (List ℕ × List ℕ)
+
+abbrev pub NewList : Type 0
+NewList = List (List ℕ × (Kind × List ℕ))
+
+pub turn : Ordering → List ℕ × List ℕ → List ℕ × (Kind × List ℕ) → List (List ℕ) → List (List ℕ) → List (List ℕ) → List (List ℕ)
+turn Less e y old both new = e.0 ∷ old
+turn Equal e y old both new = cond (unlike e.1 (compared y.1)) (e.0 ∷ both) both
+turn Greater e y old both new = y.0 ∷ new
+
+merged_first : List ℕ × List ℕ → (NewList → List (List ℕ)) → NewList → List (List ℕ)
+merged_first e rest [] = e.0 ∷ rest []
+merged_first e rest (y ∷ ys) = turn (order e.0 y.0) e y (rest (y ∷ ys)) (rest ys) (merged_first e rest ys)
+
+keys : NewList → List (List ℕ)
+keys [] = []
+keys (y ∷ ys) = y.0 ∷ keys ys
+
+pub merged : OldList → NewList → List (List ℕ)
+merged [] ys = keys ys
+merged (e ∷ xs) ys = merged_first e (merged xs) ys
+
+-- what each step of the pass does
+pub merged-old : (e : List ℕ × List ℕ) (xs : OldList) → merged (e ∷ xs) [] ≡ e.0 ∷ merged xs []
+unfolding merged merged_first
+merged-old e xs = refl
+
+pub merged-new : (y : List ℕ × (Kind × List ℕ)) (ys : NewList) → merged [] (y ∷ ys) ≡ y.0 ∷ merged [] ys
+unfolding merged keys
+merged-new y ys = refl
+
+pub merged-none : merged [] [] ≡ []
+unfolding merged keys
+merged-none = refl
+
+pub merged-both : (e : List ℕ × List ℕ) (y : List ℕ × (Kind × List ℕ)) (xs : OldList) (ys : NewList)
+    → merged (e ∷ xs) (y ∷ ys) ≡ turn (order e.0 y.0) e y (merged xs (y ∷ ys)) (merged xs ys) (merged (e ∷ xs) ys)
+unfolding merged merged_first
+merged-both e y xs ys = refl
+
+pub merged-less : (e : List ℕ × List ℕ) (y : List ℕ × (Kind × List ℕ)) (xs : OldList) (ys : NewList) → order e.0 y.0 ≡ Less → merged (e ∷ xs) (y ∷ ys) ≡ e.0 ∷ merged xs (y ∷ ys)
+unfolding turn
+merged-less e y xs ys is = merged-both e y xs ys ∙ ap (λ o. turn o e y (merged xs (y ∷ ys)) (merged xs ys) (merged (e ∷ xs) ys)) is
+
+pub merged-greater : (e : List ℕ × List ℕ) (y : List ℕ × (Kind × List ℕ)) (xs : OldList) (ys : NewList) → order e.0 y.0 ≡ Greater → merged (e ∷ xs) (y ∷ ys) ≡ y.0 ∷ merged (e ∷ xs) ys
+unfolding turn
+merged-greater e y xs ys is = merged-both e y xs ys ∙ ap (λ o. turn o e y (merged xs (y ∷ ys)) (merged xs ys) (merged (e ∷ xs) ys)) is
+
+pub merged-equal : (e : List ℕ × List ℕ) (y : List ℕ × (Kind × List ℕ)) (xs : OldList) (ys : NewList) → order e.0 y.0 ≡ Equal
+    → merged (e ∷ xs) (y ∷ ys) ≡ cond (unlike e.1 (compared y.1)) (e.0 ∷ merged xs ys) (merged xs ys)
+unfolding turn
+merged-equal e y xs ys is = merged-both e y xs ys ∙ ap (λ o. turn o e y (merged xs (y ∷ ys)) (merged xs ys) (merged (e ∷ xs) ys)) is
+
+-- what the names are
+abbrev Above : List ℕ → List (List ℕ) → Type 0
+Above z names = AllByRecursion (λ n. order z n ≡ Less) names
+
+record Good (xs : OldList) (ys : NewList) (names : List (List ℕ)) : Type 0 where
+  low : (z : List ℕ) → T (below_all order z xs) → T (below_all order z ys) → Above z names
+  rising : IsStrictlySortedBy order names
+  each : (x : List ℕ) → is_in names x ≡ differ (find order x xs) (option_map compared (find order x ys))
+
+less : (o : Ordering) → T (is_lt o) → o ≡ Less
+less Less p = refl
+less Equal p = absurd p
+less Greater p = absurd p
+
+is_less : (o : Ordering) → o ≡ Less → T (is_lt o)
+is_less o e = subst (λ r. T (is_lt r)) (sym e) tt
+
+two : (a b : Bool) → T a → T b → T (a && b)
+two true b p q = q
+two false b p q = absurd p
+
+-- a name below the first of a rising list is below all
+below_more : {X : Type 0} (z k : List ℕ) (es : List (List ℕ × X)) → order z k ≡ Less → T (below_all order k es) → T (below_all order z es)
+below_more z k [] p h = tt
+below_more z k (e ∷ es) p h =
+    two _ _ (is_less _ (nat_list_cmp_total.trans z k e.0 p (less _ (first _ _ h)))) (below_more z k es p (second _ _ h))
+
+here_test : (x k : List ℕ) → is_eq (order x k) ≡ bytes_eq x k
+here_test x k = is_eq-slice_cmp x k
+
+-- one more name that the old entries have alone
+cons_old : (e : List ℕ × List ℕ) (xs : OldList) (ys : NewList) (names : List (List ℕ)) → T (below_all order e.0 xs) → T (below_all order e.0 ys) → Good xs ys names → Good (e ∷ xs) ys (e.0 ∷ names)
+unfolding IsStrictlySortedBy
+cons_old e xs ys names h g good = record {
+  low = λ z a b. (less _ (first _ _ a), good.low z (second _ _ a) b);
+  rising = (good.low e.0 h g, good.rising);
+  each = λ x. elim (cases_Bool (is_eq (order x e.0))) [
+    | inl same ↦
+        let none : find order x ys ≡ None = ap (λ (k : List ℕ). find order k ys) (tied x e.0 same) ∙ find_below e.0 ys g in
+        ap (λ b. b || is_in names x) (sym (here_test x e.0) ∙ same)
+        ∙ ap (λ o. differ (Some e.1) (option_map compared o)) (sym none)
+        ∙ ap (λ o. differ o (option_map compared (find order x ys))) (sym (cond-true (is_eq (order x e.0)) (Some e.1) (find order x xs) same))
+    | inr ne ↦
+        ap (λ b. b || is_in names x) (sym (here_test x e.0) ∙ ne)
+        ∙ good.each x
+        ∙ ap (λ o. differ o (option_map compared (find order x ys))) (sym (cond-false (is_eq (order x e.0)) (Some e.1) (find order x xs) ne))
+  ];
+}
+
+-- one that the new entries have alone
+cons_new : (y : List ℕ × (Kind × List ℕ)) (xs : OldList) (ys : NewList) (names : List (List ℕ)) → T (below_all order y.0 xs) → T (below_all order y.0 ys) → Good xs ys names → Good xs (y ∷ ys) (y.0 ∷ names)
+unfolding IsStrictlySortedBy
+cons_new y xs ys names h g good = record {
+  low = λ z a b. (less _ (first _ _ b), good.low z a (second _ _ b));
+  rising = (good.low y.0 h g, good.rising);
+  each = λ x. elim (cases_Bool (is_eq (order x y.0))) [
+    | inl same ↦
+        let none : find order x xs ≡ None = ap (λ (k : List ℕ). find order k xs) (tied x y.0 same) ∙ find_below y.0 xs h in
+        ap (λ b. b || is_in names x) (sym (here_test x y.0) ∙ same)
+        ∙ ap (λ o. differ o (Some (compared y.1))) (sym none)
+        ∙ ap (λ o. differ (find order x xs) (option_map compared o)) (sym (cond-true (is_eq (order x y.0)) (Some y.1) (find order x ys) same))
+    | inr ne ↦
+        ap (λ b. b || is_in names x) (sym (here_test x y.0) ∙ ne)
+        ∙ good.each x
+        ∙ ap (λ o. differ (find order x xs) (option_map compared o)) (sym (cond-false (is_eq (order x y.0)) (Some y.1) (find order x ys) ne))
+  ];
+}
+
+-- one that both have
+chosen_low : (d : Bool) (z k : List ℕ) (names : List (List ℕ)) → order z k ≡ Less → Above z names → Above z (cond d (k ∷ names) names)
+chosen_low true z k names p h = (p, h)
+chosen_low false z k names p h = h
+
+chosen_rising : (d : Bool) (k : List ℕ) (names : List (List ℕ)) → Above k names → IsStrictlySortedBy order names → IsStrictlySortedBy order (cond d (k ∷ names) names)
+unfolding IsStrictlySortedBy
+chosen_rising true k names p h = (p, h)
+chosen_rising false k names p h = h
+
+chosen_is : (d : Bool) (x k : List ℕ) (names : List (List ℕ)) → bytes_eq x k ≡ true → is_in names x ≡ false → is_in (cond d (k ∷ names) names) x ≡ d
+chosen_is true x k names e h = ap (λ b. b || is_in names x) e
+chosen_is false x k names e h = h
+
+chosen_other : (d : Bool) (x k : List ℕ) (names : List (List ℕ)) → bytes_eq x k ≡ false → is_in (cond d (k ∷ names) names) x ≡ is_in names x
+chosen_other true x k names e = ap (λ b. b || is_in names x) e
+chosen_other false x k names e = refl
+
+cons_both : (k t : List ℕ) (s : Kind × List ℕ) (xs : OldList) (ys : NewList) (names : List (List ℕ)) → T (below_all order k xs) → T (below_all order k ys) → Good xs ys names
+    → Good ((k, t) ∷ xs) ((k, s) ∷ ys) (cond (unlike t (compared s)) (k ∷ names) names)
+cons_both k t s xs ys names h g good =
+    let d = unlike t (compared s) in
+    record {
+      low = λ z a b. chosen_low d z k names (less _ (first _ _ a)) (good.low z (second _ _ a) (second _ _ b));
+      rising = chosen_rising d k names (good.low k h g) good.rising;
+      each = λ x. elim (cases_Bool (is_eq (order x k))) [
+        | inl same ↦
+            let no_old : find order x xs ≡ None = ap (λ (n : List ℕ). find order n xs) (tied x k same) ∙ find_below k xs h in
+            let no_new : find order x ys ≡ None = ap (λ (n : List ℕ). find order n ys) (tied x k same) ∙ find_below k ys g in
+            let absent : is_in names x ≡ false = good.each x ∙ ap (λ o. differ o (option_map compared (find order x ys))) no_old ∙ ap (λ o. differ None (option_map compared o)) no_new in
+            chosen_is d x k names (sym (here_test x k) ∙ same) absent
+            ∙ ap (λ b. differ (cond b (Some t) (find order x xs)) (option_map compared (cond b (Some s) (find order x ys)))) (sym same)
+        | inr ne ↦
+            chosen_other d x k names (sym (here_test x k) ∙ ne)
+            ∙ good.each x
+            ∙ ap (λ b. differ (cond b (Some t) (find order x xs)) (option_map compared (cond b (Some s) (find order x ys)))) (sym ne)
+      ];
+    }
+
+nothing : Good [] [] []
+unfolding IsStrictlySortedBy
+nothing = record { low = λ z a b. tt; rising = tt; each = λ x. refl }
+
+good_new : (ys : NewList) → T (is_sorted order ys) → Good [] ys (merged [] ys)
+good_new [] h = subst (Good [] []) (sym merged-none) nothing
+good_new (y ∷ ys) h = subst (Good [] (y ∷ ys)) (sym (merged-new y ys)) (cons_new y [] ys (merged [] ys) tt (first _ _ h) (good_new ys (second _ _ h)))
+
+turned : (x y : List ℕ) → order x y ≡ Greater → order y x ≡ Less
+turned x y e = nat_list_cmp_total.antisymm y x ∙ ap ordering_reverse e
+
+good_step : (e : List ℕ × List ℕ) (y : List ℕ × (Kind × List ℕ)) (xs : OldList) (ys : NewList) (o : Ordering) → order e.0 y.0 ≡ o → T (is_sorted order (e ∷ xs)) → T (is_sorted order (y ∷ ys))
+    → Good xs (y ∷ ys) (merged xs (y ∷ ys)) → Good xs ys (merged xs ys) → Good (e ∷ xs) ys (merged (e ∷ xs) ys) → Good (e ∷ xs) (y ∷ ys) (merged (e ∷ xs) (y ∷ ys))
+good_step e y xs ys Less is h g old both new =
+    subst (Good (e ∷ xs) (y ∷ ys)) (sym (merged-less e y xs ys is))
+    (cons_old e xs (y ∷ ys) (merged xs (y ∷ ys)) (first _ _ h) (two _ _ (is_less _ is) (below_more e.0 y.0 ys is (first _ _ g))) old)
+good_step e y xs ys Greater is h g old both new =
+    let back = turned e.0 y.0 is in
+    subst (Good (e ∷ xs) (y ∷ ys)) (sym (merged-greater e y xs ys is))
+    (cons_new y (e ∷ xs) ys (merged (e ∷ xs) ys) (two _ _ (is_less _ back) (below_more y.0 e.0 xs back (first _ _ h))) (first _ _ g) new)
+good_step e y xs ys Equal is h g old both new =
+    let same : e.0 ≡ y.0 = tied e.0 y.0 (ap is_eq is) in
+    subst (Good (e ∷ xs) (y ∷ ys)) (sym (merged-equal e y xs ys is))
+    (subst (λ (k : List ℕ). Good (e ∷ xs) ((k, y.1) ∷ ys) (cond (unlike e.1 (compared y.1)) (e.0 ∷ merged xs ys) (merged xs ys))) same
+    (cons_both e.0 e.1 y.1 xs ys (merged xs ys) (first _ _ h) (subst (λ (k : List ℕ). T (below_all order k ys)) (sym same) (first _ _ g)) both))
+
+good_first : (e : List ℕ × List ℕ) (xs : OldList) → T (is_sorted order (e ∷ xs)) → ((ys : NewList) → T (is_sorted order ys) → Good xs ys (merged xs ys))
+    → (ys : NewList) → T (is_sorted order ys) → Good (e ∷ xs) ys (merged (e ∷ xs) ys)
+good_first e xs h rest [] g = subst (Good (e ∷ xs) []) (sym (merged-old e xs)) (cons_old e xs [] (merged xs []) (first _ _ h) tt (rest [] tt))
+good_first e xs h rest (y ∷ ys) g =
+    good_step e y xs ys (order e.0 y.0) refl h g (rest (y ∷ ys) g) (rest ys (second _ _ g)) (good_first e xs h rest ys (second _ _ g))
+
+good : (xs : OldList) (ys : NewList) → T (is_sorted order xs) → T (is_sorted order ys) → Good xs ys (merged xs ys)
+good [] ys h g = good_new ys g
+good (e ∷ xs) ys h g = good_first e xs h (λ zs. good xs zs (second _ _ h)) ys g
+
+-- the pass gives the changes of two maps
+pub merged_changes : (old : NameMap (List ℕ)) (new : NameMap (Kind × List ℕ)) → AreChanges old new (merged (map.entries old) (map.entries new))
+merged_changes old new =
+    let all = good (map.entries old) (map.entries new) (map.entries_sorted old) (map.entries_sorted new) in
+    record {
+      rising = all.rising;
+      each = λ x. all.each x ∙ ap (λ o. differ o (option_map compared (find order x (map.entries new)))) (sym (map.get-entries old x)) ∙ ap (λ o. differ (map.get old x) (option_map compared o)) (sym (map.get-entries new x));
+    }
+
+-- what the pass does at a step
+pub record TakesOld (name : List ℕ) (b : Option (List ℕ × List ℕ)) (xs : OldList) (right : NewList) : Type 0 where
+  pub left : merged (with_first b xs) right ≡ name ∷ merged xs right
+  pub more : length (with_first b xs) ≡ suc (length xs)
+
+pub record TakesNew (name : List ℕ) (a : Option (List ℕ × (Kind × List ℕ))) (xs : OldList) (ys : NewList) : Type 0 where
+  pub left : merged xs (with_first a ys) ≡ name ∷ merged xs ys
+  pub more : length (with_first a ys) ≡ suc (length ys)
+
+pub record TakesBoth (name : List ℕ) (d : Bool) (b : Option (List ℕ × List ℕ)) (a : Option (List ℕ × (Kind × List ℕ))) (xs : OldList) (ys : NewList) : Type 0 where
+  pub left : merged (with_first b xs) (with_first a ys) ≡ cond d (name ∷ merged xs ys) (merged xs ys)
+  pub more : length (with_first b xs) ≡ suc (length xs)
+  pub fewer : length (with_first a ys) ≡ suc (length ys)
+
+-- by the step that is told
+pub Takes : Step → Option (List ℕ × List ℕ) → Option (List ℕ × (Kind × List ℕ)) → OldList → NewList → Type 0
+Takes Ends b a xs ys = merged (with_first b xs) (with_first a ys) ≡ []
+Takes (Old name) b a xs ys = TakesOld name b xs (with_first a ys)
+Takes (New name) b a xs ys = TakesNew name a (with_first b xs) ys
+Takes (Both name d) b a xs ys = TakesBoth name d b a xs ys
+
+takes_by_order : (o : Ordering) (e : List ℕ × List ℕ) (y : List ℕ × (Kind × List ℕ)) (xs : OldList) (ys : NewList) → order e.0 y.0 ≡ o → Takes (by_order o e y) (Some e) (Some y) xs ys
+unfolding Takes
+takes_by_order Less e y xs ys is = record { left = merged-less e y xs ys is; more = refl }
+takes_by_order Equal e y xs ys is = record { left = merged-equal e y xs ys is; more = refl; fewer = refl }
+takes_by_order Greater e y xs ys is = record { left = merged-greater e y xs ys is; more = refl }
+
+new_alone : (xs : OldList) (ys : NewList) (y : List ℕ × (Kind × List ℕ)) → Takes (New y.0) None (Some y) xs ys
+unfolding Takes
+new_alone xs ys y = record { left = merged-new y ys; more = refl }
+
+takes : (b : Option (List ℕ × List ℕ)) (a : Option (List ℕ × (Kind × List ℕ))) (xs : OldList) (ys : NewList) → Takes (step b a) b a xs ys
+unfolding Takes
+takes None None xs ys = merged-none
+takes (Some e) None xs ys = record { left = merged-old e xs; more = refl }
+takes None (Some y) xs ys = new_alone xs ys y
+takes (Some e) (Some y) xs ys = takes_by_order (order e.0 y.0) e y xs ys refl
+
+pub takes_end : (b : Option (List ℕ × List ℕ)) (a : Option (List ℕ × (Kind × List ℕ))) (xs : OldList) (ys : NewList) → Ends ≡ step b a → merged (with_first b xs) (with_first a ys) ≡ []
+unfolding Takes
+takes_end b a xs ys is = subst (λ s. Takes s b a xs ys) (sym is) (takes b a xs ys)
+
+pub takes_old : (name : List ℕ) (b : Option (List ℕ × List ℕ)) (a : Option (List ℕ × (Kind × List ℕ))) (xs : OldList) (ys : NewList) → Old name ≡ step b a → TakesOld name b xs (with_first a ys)
+unfolding Takes
+takes_old name b a xs ys is = subst (λ s. Takes s b a xs ys) (sym is) (takes b a xs ys)
+
+pub takes_new : (name : List ℕ) (b : Option (List ℕ × List ℕ)) (a : Option (List ℕ × (Kind × List ℕ))) (xs : OldList) (ys : NewList) → New name ≡ step b a → TakesNew name a (with_first b xs) ys
+unfolding Takes
+takes_new name b a xs ys is = subst (λ s. Takes s b a xs ys) (sym is) (takes b a xs ys)
+
+pub takes_both : (name : List ℕ) (d : Bool) (b : Option (List ℕ × List ℕ)) (a : Option (List ℕ × (Kind × List ℕ))) (xs : OldList) (ys : NewList) → Both name d ≡ step b a → TakesBoth name d b a xs ys
+unfolding Takes
+takes_both name d b a xs ys is = subst (λ s. Takes s b a xs ys) (sym is) (takes b a xs ys)
+
+-- legal names
+or_true : (b : Bool) → (b || true) ≡ true
+or_true true = refl
+or_true false = refl
+
+each_in : (P : List ℕ → Type 0) (names : List (List ℕ)) → ((x : List ℕ) → is_in names x ≡ true → P x) → AllByRecursion P names
+each_in P [] f = tt
+each_in P (n ∷ names) f = (
+  f n (ap (λ b. b || is_in names n) (sym (here_test n n) ∙ ap is_eq (tied_itself nat_list_cmp_total n))),
+  each_in P names (λ x e. f x (ap (λ b. bytes_eq x n || b) e ∙ or_true (bytes_eq x n))),
+)
+
+legal_differ : (o : Option (List ℕ)) (s : Option (Kind × List ℕ)) (P : Type 0) → ((t : List ℕ) → o ≡ Some t → P) → ((t : Kind × List ℕ) → s ≡ Some t → P) → differ o (option_map compared s) ≡ true → P
+legal_differ None None P f g e = absurd (false≢true e)
+legal_differ (Some t) s P f g e = f t refl
+legal_differ None (Some t) P f g e = g t refl
+
+name_of_symbol : (x : List ℕ) → IsTrue (is_symbol_name x) → IsTrue (is_name x)
+unfolding is_symbol_name
+name_of_symbol x h = (and_parts _ _ h).0
+
+pub legal_changes : (old : NameMap (List ℕ)) (new : NameMap (Kind × List ℕ)) → HasNames old → IsConfiguration new → AllByRecursion (λ n. IsTrue (is_name n)) (merged (map.entries old) (map.entries new))
+legal_changes old new h g =
+    let are = merged_changes old new in
+    each_in (λ n. IsTrue (is_name n)) (merged (map.entries old) (map.entries new)) (λ x e.
+    legal_differ (map.get old x) (map.get new x) (IsTrue (is_name x)) (λ t is. h x t is) (λ s is. name_of_symbol x (g x s is).named) (sym (are.each x) ∙ e))

@@ -1,0 +1,215 @@
+-- The lines of the header that define a name.
+use Rattle.std.proofs.Common.{◌≡◌, ℕ, ◌-◌, ◌⊎◌, Bool, true, false, cond, not, ◌&&◌, T, nat_eq, List, [], ◌∷◌, ◌++◌, length, length-append, take, drop, codes, bytes_eq, flat_map, map as map_list, Option, Some, None, refl, sym, ap, ◌∙◌, append_assoc, arith, inl, inr}
+use Rattle.std.specs.List.{list_all, starts_with, ends_with, filter}
+use Rattle.std.specs.Ordering.{is_eq}
+use Rattle.std.specs.Cmp.Lexicographic.{nat_list_eq_equiv}
+use Rattle.std.specs.FinMap as map
+use Rattle.std.specs.FinMap.{find, is_sorted}
+use Rattle.std.proofs.lemmas.Bool.{cases_Bool, cond-true, cond-false, false≢true}
+use Rattle.std.proofs.lemmas.List.Folds.{list_all-append}
+use Rattle.std.proofs.lemmas.Map.Text.{is_eq-slice_cmp}
+use Rattle.bstr.specs.Text.{lines_of}
+use Rattle.bstr.proofs.lemmas.LineLemmas.{lines-nil}
+use Rattle.ks_symbols.specs.declared.kinds.Kind.{Kind}
+use Rattle.ks_symbols.specs.declared.kinds.Kind.TheVariants as kind
+use Rattle.ks_symbols.specs.Names.{is_word_byte, is_symbol_name, module_end, less}
+use Rattle.ks_symbols.specs.Kinds.{is_string_byte, class_of}
+use Rattle.ks_symbols.specs.Values.{is_escaped, escape, quoted}
+use Rattle.ks_symbols.specs.Titles.{is_title}
+use Rattle.ks_symbols.specs.Configuration.{IsEntry}
+use Rattle.ks_symbols.proofs.Spellings.{run_is, word_bytes}
+use Rattle.ks_output.specs.AutoConf.{lf}
+use Rattle.ks_output.specs.Header.{header_heading, has_radix, switch_value, defined_as, definition_lines, header_text, without_lf, lf_lines, defines, definitions}
+use Rattle.ks_output.specs.Laws.{definition_of, DefinitionsAreOfEntries, AreAlike, AlikeIsDefinedAlike}
+use Rattle.ks_output.proofs.Entries.{order, find_below, tied, AllEntries, all_entries, first, second}
+use Rattle.ks_output.proofs.WrittenLines.{is_plain, and_parts, plain-append, plain_name, plain_title, plain_text, lines-plain, ends_with-plain, take_front, drop_front}
+
+-- lines
+without_lf-plain : (l : List ℕ) → without_lf (l ++ 10 ∷ []) ≡ l
+without_lf-plain l =
+    let bs = l ++ 10 ∷ [] in
+    let place : length bs - 1 ≡ length l = omega (arith, length-append l (10 ∷ [])) in
+    cond-true (ends_with nat_eq bs lf) (take (length bs - 1) bs) bs (ends_with-plain l) ∙ ap (λ (k : ℕ). take k bs) place ∙ take_front l (10 ∷ [])
+
+next : (l rest : List ℕ) → is_plain l ≡ true → lf_lines (l ++ 10 ∷ rest) ≡ l ∷ lf_lines rest
+unfolding lf_lines
+next l rest h = ap (map_list without_lf) (lines-plain l rest h) ∙ ap (λ (q : List ℕ). q ∷ map_list without_lf (lines_of rest)) (without_lf-plain l)
+
+none_left : lf_lines [] ≡ []
+unfolding lf_lines
+none_left = ap (map_list without_lf) lines-nil
+
+-- what stands behind a name: a space first, or the end of a module's macro and a space
+Shape : List ℕ → Type 0
+Shape d = (rest : List ℕ) × ((d ≡ 32 ∷ rest) ⊎ (d ≡ module_end ++ 32 ∷ rest))
+
+switch_shape : (text : List ℕ) → Shape (switch_value text)
+unfolding Shape
+switch_shape text = elim (cases_Bool (bytes_eq text (codes "m"))) [
+  | inl same ↦ (49 ∷ [], inr (cond-true (bytes_eq text (codes "m")) _ _ same))
+  | inr ne ↦ (49 ∷ [], inl (cond-false (bytes_eq text (codes "m")) _ _ ne))
+]
+
+shape : (k : Kind) (text : List ℕ) → Shape (defined_as k text)
+unfolding Shape
+shape kind.Bool text = switch_shape text
+shape kind.Tristate text = switch_shape text
+shape kind.Text text = (quoted text, inl refl)
+shape kind.Int text = (text, inl refl)
+shape kind.Hex text = (cond (has_radix text) [] (codes "0x") ++ text, inl refl)
+
+-- it holds no end of a line
+plain_choice : (b : Bool) (x y : List ℕ) → is_plain x ≡ true → is_plain y ≡ true → is_plain (cond b x y) ≡ true
+plain_choice true x y p q = p
+plain_choice false x y p q = q
+
+plain_escape : (b : ℕ) → is_string_byte b ≡ true → is_plain (escape b) ≡ true
+plain_escape b h = plain_choice (is_escaped b) (92 ∷ b ∷ []) (b ∷ []) (ap (λ x. x && true) h) (ap (λ x. x && true) h)
+
+plain_escaped : (text : List ℕ) → is_plain text ≡ true → is_plain (flat_map escape text) ≡ true
+plain_escaped [] h = refl
+plain_escaped (b ∷ text) h =
+    let parts = and_parts (is_string_byte b) (is_plain text) h in
+    plain-append (escape b) (flat_map escape text) (plain_escape b parts.0) (plain_escaped text parts.1)
+
+plain_value : (k : Kind) (text : List ℕ) → is_plain text ≡ true → is_plain (defined_as k text) ≡ true
+plain_value kind.Bool text h = plain_choice (bytes_eq text (codes "m")) (module_end ++ codes " 1") (codes " 1") refl refl
+plain_value kind.Tristate text h = plain_choice (bytes_eq text (codes "m")) (module_end ++ codes " 1") (codes " 1") refl refl
+plain_value kind.Text text h = plain-append (flat_map escape text) (34 ∷ []) (plain_escaped text h) refl
+plain_value kind.Int text h = h
+plain_value kind.Hex text h = plain-append (cond (has_radix text) [] (codes "0x")) text (plain_choice (has_radix text) [] (codes "0x") refl refl) h
+
+-- which name a line defines
+not_true : (b : Bool) → not b ≡ true → b ≡ false
+not_true true e = absurd (false≢true e)
+not_true false e = refl
+
+run_defines : (x run rest : List ℕ) → list_all is_word_byte run ≡ true → defines x (codes "#define CONFIG_" ++ (run ++ 32 ∷ rest)) ≡ bytes_eq (less run) x
+run_defines x run rest h =
+    let text = run ++ 32 ∷ rest in
+    ap (λ (r : List ℕ). starts_with nat_eq (drop (length r) text) (codes " ") && bytes_eq (less r) x) (run_is is_word_byte run 32 rest h refl)
+    ∙ ap (λ (l : List ℕ). starts_with nat_eq l (codes " ") && bytes_eq (less run) x) (drop_front run (32 ∷ rest))
+
+less-symbol : (name : List ℕ) → is_symbol_name name ≡ true → less name ≡ name
+unfolding is_symbol_name
+less-symbol name h =
+    let other : ends_with nat_eq name module_end ≡ false = not_true (ends_with nat_eq name module_end) (and_parts _ _ h).1 in
+    cond-false (ends_with nat_eq name module_end) _ _ other
+
+less-module : (name : List ℕ) → less (name ++ module_end) ≡ name
+less-module name =
+    let run = name ++ module_end in
+    let place : length run - 7 ≡ length name = omega (arith, length-append name module_end) in
+    let ends : ends_with nat_eq run module_end ≡ true = ap (λ (k : ℕ). bytes_eq module_end (drop k run)) place ∙ ap (bytes_eq module_end) (drop_front name module_end) in
+    cond-true (ends_with nat_eq run module_end) _ _ ends ∙ ap (λ (k : ℕ). take k run) place ∙ take_front name module_end
+
+words : (name : List ℕ) → is_symbol_name name ≡ true → list_all is_word_byte name ≡ true
+unfolding is_symbol_name
+words name h = word_bytes name (and_parts _ _ h).0
+
+line_defines : (x name d : List ℕ) → is_symbol_name name ≡ true → Shape d → defines x (codes "#define CONFIG_" ++ name ++ d) ≡ bytes_eq name x
+unfolding Shape
+line_defines x name d h (rest, inl is) =
+    ap (λ (e : List ℕ). defines x (codes "#define CONFIG_" ++ name ++ e)) is
+    ∙ run_defines x name rest (words name h)
+    ∙ ap (λ (n : List ℕ). bytes_eq n x) (less-symbol name h)
+line_defines x name d h (rest, inr is) =
+    ap (λ (e : List ℕ). defines x (codes "#define CONFIG_" ++ name ++ e)) is
+    ∙ ap (λ (e : List ℕ). defines x (codes "#define CONFIG_" ++ e)) (sym (append_assoc name module_end (32 ∷ rest)))
+    ∙ run_defines x (name ++ module_end) rest (list_all-append is_word_byte name module_end ∙ ap (λ b. b && true) (words name h))
+    ∙ ap (λ (n : List ℕ). bytes_eq n x) (less-module name)
+
+-- the entries' lines
+abbrev Defined : List ℕ → Kind × List ℕ → Type 0
+Defined name s = (is_symbol_name name ≡ true) × (is_plain s.1 ≡ true)
+
+abbrev line_of : List ℕ → Kind × List ℕ → List ℕ
+line_of name s = codes "#define CONFIG_" ++ name ++ defined_as s.0 s.1
+
+plain_line : (name : List ℕ) (s : Kind × List ℕ) → Defined name s → is_plain (line_of name s) ≡ true
+unfolding is_symbol_name
+plain_line name s h =
+    plain-append (codes "#define CONFIG_" ++ name) (defined_as s.0 s.1) (plain-append (codes "#define CONFIG_") name refl (plain_name name (and_parts _ _ h.0).0)) (plain_value s.0 s.1 h.1)
+
+lines_of_entries : (es : List (List ℕ × (Kind × List ℕ))) → AllEntries Defined es → lf_lines (definition_lines es) ≡ map_list (λ e. line_of e.0 e.1) es
+lines_of_entries [] h = none_left
+lines_of_entries (e ∷ es) h =
+    ap lf_lines (append_assoc (line_of e.0 e.1) (10 ∷ []) (definition_lines es))
+    ∙ next (line_of e.0 e.1) (definition_lines es) (plain_line e.0 e.1 h.0)
+    ∙ ap (λ q. line_of e.0 e.1 ∷ q) (lines_of_entries es h.1)
+
+-- of lines of rising names at most one is about a name
+same_test : (x y : List ℕ) → bytes_eq y x ≡ is_eq (order x y)
+same_test x y = nat_list_eq_equiv.symm y x ∙ sym (is_eq-slice_cmp x y)
+
+found : (es : List (List ℕ × (Kind × List ℕ))) (x : List ℕ) → T (is_sorted order es) → AllEntries Defined es
+    → filter (defines x) (map_list (λ e. line_of e.0 e.1) es) ≡ definition_of x (find order x es)
+found [] x s h = refl
+found (e ∷ es) x s h =
+    let line = line_of e.0 e.1 in
+    let rest = filter (defines x) (map_list (λ e. line_of e.0 e.1) es) in
+    let again = found es x (second _ _ s) h.1 in
+    let test : defines x line ≡ is_eq (order x e.0) = line_defines x e.0 (defined_as e.1.0 e.1.1) h.0.0 (shape e.1.0 e.1.1) ∙ same_test x e.0 in
+    ap (λ b. cond b (line ∷ rest) rest) test
+    ∙ elim (cases_Bool (is_eq (order x e.0))) [
+      | inl same ↦
+          let here : x ≡ e.0 = tied x e.0 same in
+          let none : find order x es ≡ None = ap (λ (k : List ℕ). find order k es) here ∙ find_below e.0 es (first _ _ s) in
+          cond-true (is_eq (order x e.0)) (line ∷ rest) rest same
+          ∙ ap (λ q. line ∷ q) (again ∙ ap (definition_of x) none)
+          ∙ ap (λ (n : List ℕ). line_of n e.1 ∷ []) (sym here)
+          ∙ ap (definition_of x) (sym (cond-true (is_eq (order x e.0)) (Some e.1) (find order x es) same))
+      | inr ne ↦
+          cond-false (is_eq (order x e.0)) (line ∷ rest) rest ne
+          ∙ again
+          ∙ ap (definition_of x) (sym (cond-false (is_eq (order x e.0)) (Some e.1) (find order x es) ne))
+    ]
+
+-- the heading
+heading_lines : (title rest : List ℕ) → header_heading title ++ rest ≡ codes "/*" ++ 10 ∷ (codes " * Automatically generated file; DO NOT EDIT." ++ 10 ∷ ((codes " * " ++ title) ++ 10 ∷ (codes " */" ++ 10 ∷ rest)))
+heading_lines title rest = ap (λ (l : List ℕ). codes "/*\n * Automatically generated file; DO NOT EDIT.\n * " ++ l) (append_assoc title (codes "\n */\n") rest)
+
+heading_defines : (x title rest : List ℕ) → is_title title ≡ true → filter (defines x) (lf_lines (header_heading title ++ rest)) ≡ filter (defines x) (lf_lines rest)
+heading_defines x title rest h =
+    let last = codes " */" ++ 10 ∷ rest in
+    let titled = (codes " * " ++ title) ++ 10 ∷ last in
+    ap (filter (defines x)) (ap lf_lines (heading_lines title rest)
+    ∙ next (codes "/*") (codes " * Automatically generated file; DO NOT EDIT." ++ 10 ∷ titled) refl
+    ∙ ap (λ q. codes "/*" ∷ q) (next (codes " * Automatically generated file; DO NOT EDIT.") titled refl
+    ∙ ap (λ q. codes " * Automatically generated file; DO NOT EDIT." ∷ q) (next (codes " * " ++ title) last (plain-append (codes " * ") title refl (plain_title title h))
+    ∙ ap (λ q. (codes " * " ++ title) ∷ q) (next (codes " */") rest refl))))
+
+defined : (x : List ℕ) (s : Kind × List ℕ) → IsEntry x s → Defined x s
+defined x s h = (h.named, plain_text s.0 s.1 h.typed)
+
+pub definitions_are_of_entries : DefinitionsAreOfEntries
+unfolding definitions header_text
+definitions_are_of_entries title settings t h x =
+    let es = map.entries settings in
+    let each : AllEntries Defined es = all_entries Defined settings (λ y s is. defined y s (h y s is)) in
+    heading_defines x title (definition_lines es) t
+    ∙ ap (filter (defines x)) (lines_of_entries es each)
+    ∙ found es x (map.entries_sorted settings) each
+    ∙ ap (definition_of x) (sym (map.get-entries settings x))
+
+-- what is alike is defined alike
+same_class : (j k : Kind) (text : List ℕ) → class_of j ≡ class_of k → defined_as j text ≡ defined_as k text
+same_class kind.Bool kind.Bool text e = refl
+same_class kind.Bool kind.Tristate text e = refl
+same_class kind.Tristate kind.Bool text e = refl
+same_class kind.Tristate kind.Tristate text e = refl
+same_class kind.Text kind.Text text e = refl
+same_class kind.Int kind.Int text e = refl
+same_class kind.Hex kind.Hex text e = refl
+same_class j k text e = absurd (cc e)
+
+alike : (x : List ℕ) (a b : Option (Kind × List ℕ)) → AreAlike a b → definition_of x a ≡ definition_of x b
+alike x None None h = refl
+alike x (Some s) (Some t) h =
+    ap (λ (d : List ℕ). (codes "#define CONFIG_" ++ x ++ d) ∷ []) (same_class s.0 t.0 s.1 h.0 ∙ ap (defined_as t.0) h.1)
+alike x None (Some t) h = absurd h
+alike x (Some s) None h = absurd h
+
+pub alike_is_defined_alike : AlikeIsDefinedAlike
+alike_is_defined_alike first second old new s t g h x e =
+    definitions_are_of_entries first old s g x ∙ alike x (map.get old x) (map.get new x) e ∙ sym (definitions_are_of_entries second new t h x)

@@ -1,0 +1,4 @@
+pub mod AutoConf
+pub mod Header
+pub mod Models
+pub mod Laws

@@ -1,0 +1,152 @@
+-- Settings have names of symbols and texts of their kinds.
+use Rattle.std.proofs.Common.{◌≡◌, ℕ, ◌+◌, Bool, true, false, cond, not, ◌&&◌, nat_eq, nat_lt, length, List, [], ◌∷◌, ◌++◌, map as map_list, find, Option, Some, None, option_and_then, IsTrue, bytes_eq, refl, sym, subst, ◌∙◌}
+use Rattle.std.specs.List.{ends_with}
+use Rattle.std.specs.Map.{lookup}
+use Rattle.std.specs.Cmp.Lexicographic.{bytes_decides}
+use Rattle.std.proofs.lemmas.Bool.{cond-false, cases_Bool}
+use Rattle.std.proofs.lemmas.List.{append-nil}
+use mathlib.Core.Logic.{⊎_elim}
+use Rattle.ks_symbols.specs.declared.kinds.Kind.{Kind}
+use Rattle.ks_symbols.specs.declared.kinds.Kind.TheVariants as kind
+use Rattle.ks_symbols.specs.declared.error.SourceError.{SourceError}
+use Rattle.ks_symbols.specs.declared.error.SourceError.TheVariants as fault
+use Rattle.ks_symbols.specs.Names.{is_name, is_symbol_name, module_end}
+use Rattle.ks_symbols.specs.Kinds.{is_text, is_off}
+use Rattle.ks_symbols.specs.Values.{text_of}
+use Rattle.ks_symbols.specs.Lines.{lines, max_bytes}
+use Rattle.ks_symbols.specs.Statements.{Statement, Assigns, Unsets, statement}
+use Rattle.ks_symbols.specs.Refusals.{or_else}
+use Rattle.ks_symbols.specs.DotConfig.{setting, gives, entry_with, last_about}
+use Rattle.ks_symbols.specs.Forms.{Form, Silent, Title, Untitled, Entry, HasKind, Unknown, form}
+use Rattle.ks_symbols.specs.Kconfig.{says, entry_of, declares, declarations, declared, story, lacks_kind, form_fault, goes_on, first_form_fault, kconfig_refusal}
+use Rattle.std.specs.FinMap as map
+use Rattle.ks_symbols.specs.Configuration.{NameMap, IsConfiguration, HasSymbolNames}
+use Rattle.ks_symbols.specs.Laws.{SettingsAreConfigurations}
+use Rattle.ks_symbols.proofs.Readings.{reads_are_texts}
+use Rattle.ks_symbols.proofs.Story.{story_after, story_is}
+
+-- each entry of a story has the name of a symbol
+Legal : List Form → Type 0
+Legal [] = Unit {0}
+Legal (Entry x ∷ earlier) = IsTrue (is_symbol_name x) × Legal earlier
+Legal (f ∷ earlier) = Legal earlier
+
+pub none_both : (a b : Option SourceError) → or_else a b ≡ None → (a ≡ None) × (b ≡ None)
+none_both None b e = (refl, e)
+none_both (Some x) b e = absurd (cc e)
+
+entry_ok : (a b l : Bool) (n : ℕ) → cond (not a) (Some (fault.BadName n)) (cond b (Some (fault.ModuleName n)) (cond l (Some (fault.NoType n)) None)) ≡ None → (a && not b) ≡ true
+entry_ok false b l n e = absurd (cc e)
+entry_ok true true l n e = absurd (cc e)
+entry_ok true false l n e = refl
+
+one_more : (n : ℕ) (said : List Form) (f : Form) (later : List Form) → Legal said → form_fault n said f later ≡ None → Legal (goes_on f said)
+unfolding Legal is_symbol_name
+one_more n said Silent later h e = h
+one_more n said (Title t) later h e = h
+one_more n said Untitled later h e = h
+one_more n said (Entry x) later h e = (entry_ok (is_name x) (ends_with nat_eq x module_end) (lacks_kind (find says later)) n e, h)
+one_more n said (HasKind k) later h e = h
+one_more n said Unknown later h e = h
+
+all_legal : (n : ℕ) (said forms : List Form) → Legal said → first_form_fault n said forms ≡ None → Legal (story_after said forms)
+unfolding first_form_fault story_after
+all_legal n said [] h e = h
+all_legal n said (f ∷ later) h e =
+    let parts = none_both (form_fault n said f later) (first_form_fault (n + 1) (goes_on f said) later) e in
+    all_legal (n + 1) (goes_on f said) later (one_more n said f later h parts.0) parts.1
+
+LegalName : Option (List ℕ) → Type 0
+LegalName None = Unit {0}
+LegalName (Some x) = IsTrue (is_symbol_name x)
+
+entry_legal : (said : List Form) → Legal said → LegalName (entry_of said)
+unfolding Legal LegalName
+entry_legal [] h = tt
+entry_legal (Silent ∷ said) h = tt
+entry_legal (Title t ∷ said) h = tt
+entry_legal (Untitled ∷ said) h = tt
+entry_legal (Entry x ∷ said) h = h.0
+entry_legal (HasKind k ∷ said) h = tt
+entry_legal (Unknown ∷ said) h = tt
+
+declares_legal : (x : List ℕ) (k d : Kind) (o : Option (List ℕ)) (rest : List (List ℕ × Kind)) → LegalName o → lookup (bytes_eq x) (declares d o ++ rest) ≡ Some k
+    → (lookup (bytes_eq x) rest ≡ Some k → IsTrue (is_symbol_name x)) → IsTrue (is_symbol_name x)
+unfolding LegalName
+declares_legal x k d None rest h e later = later e
+declares_legal x k d (Some y) rest h e later =
+    ⊎_elim
+    (λ yes. subst (λ (l : List ℕ). IsTrue (is_symbol_name l)) (sym ((bytes_decides x y).0 yes)) h)
+    (λ ne. later (sym (cond-false (bytes_eq x y) _ _ ne) ∙ e))
+    (cases_Bool (bytes_eq x y))
+
+declared_legal : (said : List Form) (x : List ℕ) (k : Kind) → Legal said → lookup (bytes_eq x) (declarations said) ≡ Some k → IsTrue (is_symbol_name x)
+unfolding declarations Legal
+declared_legal [] x k h e = absurd (cc e)
+declared_legal (Silent ∷ said) x k h e = declared_legal said x k h e
+declared_legal (Title t ∷ said) x k h e = declared_legal said x k h e
+declared_legal (Untitled ∷ said) x k h e = declared_legal said x k h e
+declared_legal (Entry y ∷ said) x k h e = declared_legal said x k h.1 e
+declared_legal (HasKind d ∷ said) x k h e = declares_legal x k d (entry_of said) (declarations said) (entry_legal said h) e (λ r. declared_legal said x k h r)
+declared_legal (Unknown ∷ said) x k h e = declared_legal said x k h e
+
+pub accepted : (b : Bool) (r : Option SourceError) → cond b (Some fault.TooLarge) r ≡ None → r ≡ None
+accepted true r e = absurd (cc e)
+accepted false r e = e
+
+name_legal : (text x : List ℕ) (k : Kind) → kconfig_refusal text ≡ None → declared text x ≡ Some k → IsTrue (is_symbol_name x)
+unfolding kconfig_refusal declared Legal
+name_legal text x k e d =
+    let forms = map_list form (lines text) in
+    let none = accepted (nat_lt max_bytes (length text)) (first_form_fault 1 [] forms) e in
+    let told : story_after [] forms ≡ story text = story_is [] forms ∙ append-nil (story text) in
+    declared_legal (story text) x k (subst Legal told (all_legal 1 [] forms tt none)) d
+
+chain : {X Y : Type 0} (f : X → Option Y) (o : Option X) (y : Y) → option_and_then f o ≡ Some y → (x : X) × (o ≡ Some x) × (f x ≡ Some y)
+chain f None y e = absurd (cc e)
+chain f (Some x) y e = (x, refl, e)
+
+text_ok : (k : Kind) (w t : List ℕ) → text_of k w ≡ Some t → IsTrue (is_text k t)
+text_ok kind.Text w t e = ((reads_are_texts kind.Text w t).0 e).0
+text_ok kind.Bool w t e = let r = (reads_are_texts kind.Bool w t).0 e in subst (λ (l : List ℕ). IsTrue (is_text kind.Bool l)) (sym r.1) r.0
+text_ok kind.Tristate w t e = let r = (reads_are_texts kind.Tristate w t).0 e in subst (λ (l : List ℕ). IsTrue (is_text kind.Tristate l)) (sym r.1) r.0
+text_ok kind.Int w t e = let r = (reads_are_texts kind.Int w t).0 e in subst (λ (l : List ℕ). IsTrue (is_text kind.Int l)) (sym r.1) r.0
+text_ok kind.Hex w t e = let r = (reads_are_texts kind.Hex w t).0 e in subst (λ (l : List ℕ). IsTrue (is_text kind.Hex l)) (sym r.1) r.0
+
+switched : (b : Bool) (k : Kind) (t : List ℕ) (s : Kind × List ℕ) → cond b None (Some (k, t)) ≡ Some s → (b ≡ false) × ((k, t) ≡ s)
+switched true k t s e = absurd (cc e)
+switched false k t s e = (refl, cc e)
+
+-- what holds of a text that a value gives
+IsGiven : Kind × List ℕ → Type 0
+IsGiven s = IsTrue (is_text s.0 s.1) × (is_off s.0 s.1 ≡ false)
+
+entry_text : (k : Kind) (w : List ℕ) (o : Option (List ℕ)) (s : Kind × List ℕ) → text_of k w ≡ o → entry_with k o ≡ Some s → IsGiven s
+unfolding IsGiven
+entry_text k w None s is e = absurd (cc e)
+entry_text k w (Some t) s is e =
+    let told = switched (is_off k t) k t s e in
+    subst IsGiven told.1 (text_ok k w t is, told.0)
+
+gives_text : (k : Kind) (said : Option Statement) (s : Kind × List ℕ) → gives k said ≡ Some s → IsGiven s
+unfolding gives
+gives_text k None s e = absurd (cc e)
+gives_text k (Some (Unsets n)) s e = absurd (cc e)
+gives_text k (Some (Assigns n w)) s e = entry_text k w (text_of k w) s refl e
+
+-- what symbols with legal names are set to is a configuration
+pub configured : (kinds : List ℕ → Option Kind) (all : List (List ℕ)) (settings : NameMap (Kind × List ℕ)) → HasSymbolNames kinds
+    → ((x : List ℕ) → map.get settings x ≡ setting kinds all x) → IsConfiguration settings
+unfolding setting IsGiven
+configured kinds all settings names are x s e =
+    let found = chain (λ k. option_and_then (λ line. gives k (statement line)) (last_about x all)) (kinds x) s (sym (are x) ∙ e) in
+    let line = chain (λ line. gives found.0 (statement line)) (last_about x all) s found.2 in
+    let given = gives_text found.0 (statement line.0) s line.2 in
+    record { named = names x found.0 found.1; typed = given.0; on = given.1 }
+
+-- accepted texts declare legal names
+pub declares_names : (text : List ℕ) → kconfig_refusal text ≡ None → HasSymbolNames (declared text)
+declares_names text none x k e = name_legal text x k none e
+
+pub settings_are_configurations : SettingsAreConfigurations
+settings_are_configurations kconfig dotconfig settings none are = configured (declared kconfig) (lines dotconfig) settings (declares_names kconfig none) are

@@ -1,0 +1,52 @@
+-- The first fault of lines, and refusals.
+use Rattle.std.proofs.Common.{◌≡◌, ℕ, ◌+◌, ◌<◌, ◌≤◌, Bool, true, false, cond, nat_lt, List, [], ◌∷◌, length, Option, Some, None, Result, Ok, Err, IfOk, refl, ap, arith}
+use Rattle.std.proofs.lemmas.Bool.{cond-true, cond-false}
+use Rattle.std.proofs.lemmas.Bool.Decides.{nat_tests}
+use Rattle.std.proofs.lemmas.List.Sums.{sum_by-cons}
+use Rattle.ks_symbols.specs.declared.kinds.Kind.{Kind}
+use Rattle.ks_symbols.specs.declared.error.SourceError.{SourceError}
+use Rattle.ks_symbols.specs.declared.error.SourceError.TheVariants as fault
+use Rattle.ks_symbols.specs.Lines.{lines, max_bytes}
+use Rattle.ks_symbols.specs.DotConfig.{first_fault, dotconfig_refusal, line_fault, is_of_unknown, unknown_count}
+use Rattle.ks_symbols.specs.Refusals.{or_else, IsRefusal, RefusedBy}
+use Rattle.ks_symbols.specs.Statements.{statement}
+
+pub no_fault : (faults : ℕ → List ℕ → Option SourceError) (n : ℕ) (line : List ℕ) (rest : List (List ℕ)) → faults n line ≡ None
+    → first_fault faults n (line ∷ rest) ≡ first_fault faults (n + 1) rest
+unfolding first_fault
+no_fault faults n line rest none = ap (λ o. or_else o (first_fault faults (n + 1) rest)) none
+
+pub fault_here : (faults : ℕ → List ℕ → Option SourceError) (n : ℕ) (line : List ℕ) (rest : List (List ℕ)) (e : SourceError) → faults n line ≡ Some e
+    → first_fault faults n (line ∷ rest) ≡ Some e
+unfolding first_fault
+fault_here faults n line rest e is = ap (λ o. or_else o (first_fault faults (n + 1) rest)) is
+
+pub no_fault_left : (faults : ℕ → List ℕ → Option SourceError) (n : ℕ) → first_fault faults n [] ≡ None
+unfolding first_fault
+no_fault_left faults n = refl
+
+-- an error that is the refusal f is also the refusal g, where g follows from f
+pub refused : (e : SourceError) (f g : Option SourceError) → (f ≡ Some e → g ≡ Some e) → IsRefusal e f → IsRefusal e g
+refused fault.OutOfMemory f g h r = tt
+refused e f g h r = h r
+
+pub too_large : (kinds : List ℕ → Option Kind) (text : List ℕ) → 67108864 < length text → dotconfig_refusal kinds text ≡ Some fault.TooLarge
+unfolding dotconfig_refusal
+too_large kinds text large = cond-true (nat_lt max_bytes (length text)) _ _ (grind (arith, nat_tests))
+
+pub not_large : (kinds : List ℕ → Option Kind) (text : List ℕ) → length text ≤ 67108864 → dotconfig_refusal kinds text ≡ first_fault (line_fault kinds) 1 (lines text)
+unfolding dotconfig_refusal
+not_large kinds text small = cond-false (nat_lt max_bytes (length text)) _ _ (grind (arith, nat_tests))
+
+pub unknown-cons : (kinds : List ℕ → Option Kind) (line : List ℕ) (rest : List (List ℕ))
+    → unknown_count kinds (line ∷ rest) ≡ (cond (is_of_unknown kinds (statement line)) 1 0) + unknown_count kinds rest
+unknown-cons kinds line rest = sum_by-cons (λ l. cond (is_of_unknown kinds (statement l)) 1 0) line rest
+
+pub at_most_one : (b : Bool) → cond b 1 0 ≤ 1
+at_most_one true = omega arith
+at_most_one false = omega arith
+
+-- what an answer promises, where it is known that nothing was refused
+pub if_accepted : {X : Type 0} (r : Result X SourceError) (f : Option SourceError) (P Q : X → Type 0) → RefusedBy r f → IfOk r P → (f ≡ None → (x : X) → P x → Q x) → IfOk r Q
+if_accepted (Ok x) f P Q none p h = h none x p
+if_accepted (Err e) f P Q none p h = tt

@@ -1,0 +1,116 @@
+-- The forms that a line of a bare Kconfig may have (a selection of Documentation/kbuild/kconfig-language.rst).
+use Rattle.std.specs.Prelude.{ℕ, Bool, ◌||◌, ◌&&◌, not, ◌==◌, nat_eq, List, length, codes, [], ◌∷◌, drop, bytes_eq, Option, Some, None, if◌then◌else◌, false, take_while, is_some}
+use Rattle.std.specs.List.{list_all, starts_with, prefix_len}
+use Rattle.ks_symbols.specs.declared.kinds.Kind.{Kind}
+use Rattle.ks_symbols.specs.declared.kinds.Kind.TheVariants as kind
+use Rattle.ks_symbols.specs.declared.forms.Form as kconfig
+use Rattle.ks_symbols.specs.declared.forms.Form.TheVariants as shown
+
+-- Words stand between blanks.
+abbrev pub is_blank : ℕ → Bool
+is_blank b = b == 32 || b == 9
+
+abbrev pub is_no_blank : ℕ → Bool
+is_no_blank b = not (is_blank b)
+
+abbrev pub skip_blanks : List ℕ → List ℕ
+skip_blanks text = drop (prefix_len is_blank text) text
+
+abbrev pub first_word : List ℕ → List ℕ
+first_word text = take_while is_no_blank text
+
+-- what follows the first word and the blanks behind it
+abbrev pub after_word : List ℕ → List ℕ
+after_word text = skip_blanks (drop (length (first_word text)) text)
+
+-- The forms of lines
+pub data Form : Type 0 where
+  -- an empty line or a comment
+  Silent : Form
+  -- mainmenu, and a title between quotes
+  Title : List ℕ → Form
+  -- another line whose first word is mainmenu
+  Untitled : Form
+  -- config or menuconfig, and one word
+  Entry : List ℕ → Form
+  -- a kind
+  HasKind : Kind → Form
+  -- no form
+  Unknown : Form
+
+-- a form of the code, without where its bytes lie
+abbrev pub seen_form : kconfig.Form → Form
+seen_form shown.Silent = Silent
+seen_form (shown.Title title) = Title title.now
+seen_form shown.Untitled = Untitled
+seen_form (shown.Entry name) = Entry name.now
+seen_form (shown.HasKind k) = HasKind k
+seen_form shown.Unknown = Unknown
+
+-- what follows a text that goes up to the next quote, where a backslash takes the next byte along
+unfoldable pub after_quote : List ℕ → Option (List ℕ)
+after_quote [] = None
+after_quote (b ∷ []) = if b == 34 then Some [] else None
+after_quote (b ∷ c ∷ rest) = if b == 34 then Some (c ∷ rest) else (if b == 92 then after_quote rest else after_quote (c ∷ rest))
+
+abbrev pub is_all_blanks : Option (List ℕ) → Bool
+is_all_blanks None = false
+is_all_blanks (Some rest) = list_all is_blank rest
+
+-- a prompt, and blanks
+abbrev pub is_prompt : List ℕ → Bool
+is_prompt text = starts_with nat_eq text (34 ∷ []) && is_all_blanks (after_quote (drop 1 text))
+
+-- one word, and blanks
+abbrev pub is_one_word : List ℕ → Bool
+is_one_word text = not (length text == 0) && length (after_word text) == 0
+
+abbrev pub is_state : List ℕ → Bool
+is_state word = bytes_eq word (codes "y") || bytes_eq word (codes "m") || bytes_eq word (codes "n")
+
+-- the kind that a word names, with a prompt or nothing behind it
+abbrev pub named_kind : List ℕ → Option Kind
+named_kind word =
+    if bytes_eq word (codes "bool") then Some kind.Bool
+    else (if bytes_eq word (codes "tristate") then Some kind.Tristate
+    else (if bytes_eq word (codes "string") then Some kind.Text
+    else (if bytes_eq word (codes "int") then Some kind.Int
+    else (if bytes_eq word (codes "hex") then Some kind.Hex else None))))
+
+-- the kind that a word names, with a value behind it
+abbrev pub valued_kind : List ℕ → Option Kind
+valued_kind word =
+    if bytes_eq word (codes "def_bool") then Some kind.Bool
+    else (if bytes_eq word (codes "def_tristate") then Some kind.Tristate else None)
+
+abbrev pub kind_where : Bool → Option Kind → Form
+kind_where b None = Unknown
+kind_where b (Some k) = if b then HasKind k else Unknown
+
+unfoldable pub kind_form : List ℕ → List ℕ → Form
+kind_form word rest =
+    if is_some (named_kind word) then kind_where (length rest == 0 || is_prompt rest) (named_kind word)
+    else kind_where (is_one_word rest && is_state (first_word rest)) (valued_kind word)
+
+abbrev pub is_no_quote : ℕ → Bool
+is_no_quote b = not (b == 34)
+
+-- the title that goes up to the next quote, behind which stand blanks
+unfoldable pub title_form : List ℕ → Form
+title_form rest =
+    let title = take_while is_no_quote (drop 1 rest) in
+    let behind = drop (length title) (drop 1 rest) in
+    if starts_with nat_eq rest (34 ∷ []) && starts_with nat_eq behind (34 ∷ []) && list_all is_blank (drop 1 behind) then Title title else Untitled
+
+-- the form of a line whose first word stands behind no blanks, or behind some
+unfoldable pub word_form : Bool → List ℕ → List ℕ → Form
+word_form at_front word rest =
+    if bytes_eq word (codes "mainmenu") then (if at_front then title_form rest else Untitled)
+    else (if bytes_eq word (codes "config") || bytes_eq word (codes "menuconfig") then (if at_front && is_one_word rest then Entry (first_word rest) else Unknown)
+    else kind_form word rest)
+
+unfoldable pub form : List ℕ → Form
+form line =
+    let text = skip_blanks line in
+    if length text == 0 || starts_with nat_eq text (codes "#") then Silent
+    else word_form (length text == length line) (first_word text) (after_word text)

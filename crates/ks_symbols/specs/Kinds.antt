@@ -1,0 +1,74 @@
+-- The kinds of symbols and their texts (sym_string_valid of scripts/kconfig/symbol.c; that a number has no idle zeros is a rule of this project).
+use Rattle.std.specs.Prelude.{ℕ, Bool, ◌||◌, ◌&&◌, not, ◌==◌, nat_eq, List, length, slice_index, codes, ◌≡◌, cond, drop, bytes_eq, if◌then◌else◌, refl, false}
+use Rattle.std.specs.List.{list_all, starts_with}
+use Rattle.std.specs.Char.{is_ascii_digit, is_ascii_hexdigit}
+use Rattle.std.specs.Coded.{Coded, code_by, coded_ℕ}
+use Rattle.ks_symbols.specs.declared.kinds.Kind.{Kind}
+use Rattle.ks_symbols.specs.declared.kinds.Kind.TheVariants as kind
+
+-- 0 alone, or a digit 1 to 9 followed by digits
+abbrev pub is_numeral : List ℕ → Bool
+is_numeral digits = bytes_eq digits (codes "0") || (not (length digits == 0) && not (slice_index digits 0 == 48) && list_all is_ascii_digit digits)
+
+-- a numeral, which a minus may precede
+abbrev pub is_integer : List ℕ → Bool
+is_integer text = is_numeral (cond (starts_with nat_eq text (codes "-")) (drop 1 text) text)
+
+-- hexadecimal digits, which 0x or 0X may precede
+abbrev pub is_hexadecimal : List ℕ → Bool
+is_hexadecimal text =
+    let digits = cond (starts_with nat_eq text (codes "0x") || starts_with nat_eq text (codes "0X")) (drop 2 text) text in
+    not (length digits == 0) && list_all is_ascii_hexdigit digits
+
+-- what no line and no C string can hold: LF, CR and NUL
+abbrev pub is_string_byte : ℕ → Bool
+is_string_byte b = not (b == 10 || b == 13 || b == 0)
+
+-- whether it is a text of the kind
+unfoldable pub is_text : Kind → List ℕ → Bool
+is_text kind.Bool text = bytes_eq text (codes "y") || bytes_eq text (codes "n")
+is_text kind.Tristate text = bytes_eq text (codes "y") || bytes_eq text (codes "m") || bytes_eq text (codes "n")
+is_text kind.Text text = list_all is_string_byte text
+is_text kind.Int text = is_integer text
+is_text kind.Hex text = is_hexadecimal text
+
+-- a bool or tristate with the value n
+abbrev pub is_off : Kind → List ℕ → Bool
+is_off kind.Bool text = bytes_eq text (codes "n")
+is_off kind.Tristate text = bytes_eq text (codes "n")
+is_off k text = false
+
+-- bool and tristate count as one
+pub data Class : Type 0 where
+  Switch : Class
+  Text : Class
+  Int : Class
+  Hex : Class
+
+abbrev pub class_of : Kind → Class
+class_of kind.Bool = Switch
+class_of kind.Tristate = Switch
+class_of kind.Text = Text
+class_of kind.Int = Int
+class_of kind.Hex = Hex
+
+-- kinds as numbers, by which a proof tells them apart
+abbrev pub kind_number : Kind → ℕ
+kind_number kind.Bool = 0
+kind_number kind.Tristate = 1
+kind_number kind.Text = 2
+kind_number kind.Int = 3
+kind_number kind.Hex = 4
+
+abbrev pub numbered_kind : ℕ → Kind
+numbered_kind n = if n == 0 then kind.Bool else if n == 1 then kind.Tristate else if n == 2 then kind.Text else if n == 3 then kind.Int else kind.Hex
+
+abbrev pub numbered_again : (k : Kind) → numbered_kind (kind_number k) ≡ k
+numbered_again kind.Bool = refl
+numbered_again kind.Tristate = refl
+numbered_again kind.Text = refl
+numbered_again kind.Int = refl
+numbered_again kind.Hex = refl
+
+abbrev pub coded_kind : Coded Kind
+coded_kind = code_by ℕ coded_ℕ kind_number numbered_kind numbered_again

@@ -1,0 +1,15 @@
+pub mod Names
+pub mod Lines
+pub mod Decimal
+pub mod Kinds
+pub mod Values
+pub mod Refusals
+pub mod Configuration
+pub mod Statements
+pub mod DotConfig
+pub mod Titles
+pub mod Forms
+pub mod Kconfig
+pub mod Progress
+pub mod Settling
+pub mod Laws

@@ -1,0 +1,215 @@
+//! The forms of lines that a bare Kconfig may have, as Documentation/kbuild/kconfig-language.rst spells them.
+//!
+//! Only how a line is spelled is looked at here; what it means beside its neighbours is `kconfig`'s.
+ghost use Rattle.std.specs.Prelude.{◌≡◌, length, drop, take_while, option_map};
+ghost use Rattle.std.specs.List.{list_all};
+ghost use Rattle.ks_symbols.specs.Forms.{is_blank, is_no_blank, is_no_quote, skip_blanks, first_word, after_word, is_one_word, is_state, after_quote, is_prompt, named_kind, valued_kind, kind_form, title_form, word_form, form, seen_form};
+
+use crate::kinds::Kind;
+
+/// What a line is.
+pub(crate) enum Form<'a> {
+    /// An empty line or a comment.
+    Silent,
+    /// The title.
+    Title(&'a [u8]),
+    /// Another line whose first word is `mainmenu`.
+    Untitled,
+    /// The entry of a symbol.
+    Entry(&'a [u8]),
+    /// The kind of a symbol.
+    HasKind(Kind),
+    Unknown,
+}
+
+fn is_blank(byte: u8) -> bool
+    ensures { result ≡ is_blank byte }
+{
+    byte == b' ' || byte == b'\t'
+}
+
+fn all_blank(bytes: &[u8]) -> bool
+    ensures { result ≡ list_all is_blank bytes.now }
+{
+    bytes.iter().all(|byte| is_blank(*byte))
+}
+
+fn skip_blanks(text: &[u8]) -> &[u8]
+    ensures { result.now ≡ skip_blanks text.now }
+{
+    let mut end = 0;
+    while end < text.len() && is_blank(text[end]) {
+        end += 1;
+    }
+    &text[end..]
+}
+
+/// The bytes up to the first blank, and those from it on.
+fn split_blank(text: &[u8]) -> (&[u8], &[u8])
+    ensures word { result.0.now ≡ take_while is_no_blank text.now }
+    ensures rest { result.1.now ≡ drop (length result.0.now) text.now }
+{
+    let mut end = 0;
+    while end < text.len() && !is_blank(text[end]) {
+        end += 1;
+    }
+    text.split_at(end)
+}
+
+/// The first word, and what follows it and the blanks behind it.
+fn next_word(text: &[u8]) -> (&[u8], &[u8])
+    ensures word { result.0.now ≡ first_word text.now }
+    ensures rest { result.1.now ≡ after_word text.now }
+{
+    let (word, rest) = split_blank(text);
+    (word, skip_blanks(rest))
+}
+
+fn is_one_word(text: &[u8]) -> bool
+    ensures { result ≡ is_one_word text.now }
+{
+    !text.is_empty() && next_word(text).1.is_empty()
+}
+
+fn is_state(word: &[u8]) -> bool
+    ensures { result ≡ is_state word.now }
+{
+    word == b"y".as_slice() || word == b"m".as_slice() || word == b"n".as_slice()
+}
+
+/// The bytes up to the first quote, and those from it on.
+fn split_quote(text: &[u8]) -> (&[u8], &[u8])
+    ensures front { result.0.now ≡ take_while is_no_quote text.now }
+    ensures rest { result.1.now ≡ drop (length result.0.now) text.now }
+{
+    let mut end = 0;
+    while end < text.len() && text[end] != b'"' {
+        end += 1;
+    }
+    text.split_at(end)
+}
+
+/// What follows the quote that ends a prompt.
+fn after_quote(text: &[u8]) -> Option<&[u8]>
+    ensures { option_map (λ rest. rest.now) result ≡ after_quote text.now }
+{
+    let mut rest = text;
+    while rest.len() > 1 && rest[0] != b'"' {
+        rest = if rest[0] == b'\\' {
+            &rest[2..]
+        } else {
+            &rest[1..]
+        };
+    }
+    if rest.starts_with(b"\"") {
+        Some(&rest[1..])
+    } else {
+        None
+    }
+}
+
+fn is_prompt(text: &[u8]) -> bool
+    ensures { result ≡ is_prompt text.now }
+{
+    text.starts_with(b"\"")
+        && match after_quote(&text[1..]) {
+            Some(rest) => all_blank(rest),
+            None => false,
+        }
+}
+
+fn named_kind(word: &[u8]) -> Option<Kind>
+    ensures { result ≡ named_kind word.now }
+{
+    if word == b"bool".as_slice() {
+        Some(Kind::Bool)
+    } else if word == b"tristate".as_slice() {
+        Some(Kind::Tristate)
+    } else if word == b"string".as_slice() {
+        Some(Kind::Text)
+    } else if word == b"int".as_slice() {
+        Some(Kind::Int)
+    } else if word == b"hex".as_slice() {
+        Some(Kind::Hex)
+    } else {
+        None
+    }
+}
+
+fn valued_kind(word: &[u8]) -> Option<Kind>
+    ensures { result ≡ valued_kind word.now }
+{
+    if word == b"def_bool".as_slice() {
+        Some(Kind::Bool)
+    } else if word == b"def_tristate".as_slice() {
+        Some(Kind::Tristate)
+    } else {
+        None
+    }
+}
+
+#[tactic(auto, unfolding(crate::specs::Forms::kind_form))]
+fn kind_form<'a>(word: &[u8], rest: &[u8]) -> Form<'a>
+    ensures { seen_form result ≡ kind_form word.now rest.now }
+{
+    if let Some(kind) = named_kind(word) {
+        return if rest.is_empty() || is_prompt(rest) {
+            Form::HasKind(kind)
+        } else {
+            Form::Unknown
+        };
+    }
+    match valued_kind(word) {
+        Some(kind) if is_one_word(rest) && is_state(next_word(rest).0) => Form::HasKind(kind),
+        _ => Form::Unknown,
+    }
+}
+
+#[tactic(auto, unfolding(crate::specs::Forms::title_form))]
+fn title_form(rest: &[u8]) -> Form<'_>
+    ensures { seen_form result ≡ title_form rest.now }
+{
+    if !rest.starts_with(b"\"") {
+        return Form::Untitled;
+    }
+    let (title, behind) = split_quote(&rest[1..]);
+    if behind.starts_with(b"\"") && all_blank(&behind[1..]) {
+        Form::Title(title)
+    } else {
+        Form::Untitled
+    }
+}
+
+#[tactic(auto, unfolding(crate::specs::Forms::word_form))]
+fn word_form<'a>(at_front: bool, word: &[u8], rest: &'a [u8]) -> Form<'a>
+    ensures { seen_form result ≡ word_form at_front word.now rest.now }
+{
+    if word == b"mainmenu".as_slice() {
+        if at_front {
+            title_form(rest)
+        } else {
+            Form::Untitled
+        }
+    } else if word == b"config".as_slice() || word == b"menuconfig".as_slice() {
+        if at_front && is_one_word(rest) {
+            Form::Entry(next_word(rest).0)
+        } else {
+            Form::Unknown
+        }
+    } else {
+        kind_form(word, rest)
+    }
+}
+
+#[tactic(auto, unfolding(crate::specs::Forms::form))]
+pub(crate) fn form_of(line: &[u8]) -> Form<'_>
+    ensures { seen_form result ≡ form line.now }
+{
+    let text = skip_blanks(line);
+    if text.is_empty() || text.starts_with(b"#") {
+        return Form::Silent;
+    }
+    let (word, rest) = next_word(text);
+    word_form(text.len() == line.len(), word, rest)
+}
+

@@ -1,0 +1,97 @@
+//! The five kinds of symbols, and which texts each may have.
+//!
+//! As sym_string_valid of scripts/kconfig/symbol.c, but stricter on numbers: an empty one would define a
+//! macro with no value, and `007` would be another number to a C compiler.
+ghost use Rattle.std.specs.Prelude.{◌≡◌};
+ghost use Rattle.std.specs.List.{list_all};
+ghost use Rattle.std.specs.Char.{is_ascii_digit, is_ascii_hexdigit};
+ghost use Rattle.ks_symbols.specs.Kinds.{is_text, is_string_byte, is_numeral, is_integer, is_hexadecimal, is_off};
+
+/// The kind of a symbol.
+#[derive(Clone, Copy, Debug, PartialEq, Eq)]
+pub enum Kind {
+    /// `bool`: y or n.
+    Bool,
+    /// `tristate`: y, m or n.
+    Tristate,
+    /// `string`: any bytes but LF, CR and NUL.
+    Text,
+    /// `int`: a decimal number of any length, which may be negative.
+    Int,
+    /// `hex`: hexadecimal digits, with or without `0x` or `0X`.
+    Hex,
+}
+
+pub(crate) fn is_string_byte(byte: u8) -> bool
+    ensures { result ≡ is_string_byte byte }
+{
+    byte != b'\n' && byte != b'\r' && byte != 0
+}
+
+fn all_string_bytes(bytes: &[u8]) -> bool
+    ensures { result ≡ list_all is_string_byte bytes.now }
+{
+    bytes.iter().all(|byte| is_string_byte(*byte))
+}
+
+fn all_digits(bytes: &[u8]) -> bool
+    ensures { result ≡ list_all is_ascii_digit bytes.now }
+{
+    bytes.iter().all(|byte| byte.is_ascii_digit())
+}
+
+fn all_hexdigits(bytes: &[u8]) -> bool
+    ensures { result ≡ list_all is_ascii_hexdigit bytes.now }
+{
+    bytes.iter().all(|byte| byte.is_ascii_hexdigit())
+}
+
+fn is_numeral(digits: &[u8]) -> bool
+    ensures { result ≡ is_numeral digits.now }
+{
+    digits == b"0".as_slice() || (!digits.is_empty() && digits[0] != b'0' && all_digits(digits))
+}
+
+fn is_integer(text: &[u8]) -> bool
+    ensures { result ≡ is_integer text.now }
+{
+    is_numeral(if text.starts_with(b"-") {
+        &text[1..]
+    } else {
+        text
+    })
+}
+
+fn is_hexadecimal(text: &[u8]) -> bool
+    ensures { result ≡ is_hexadecimal text.now }
+{
+    let prefixed = text.starts_with(b"0x") || text.starts_with(b"0X");
+    let digits = if prefixed { &text[2..] } else { text };
+    !digits.is_empty() && all_hexdigits(digits)
+}
+
+/// Whether it is a text of the kind, without quotes and escapes.
+#[tactic(auto, unfolding(crate::specs::Kinds::is_text))]
+pub fn value_is_valid(kind: Kind, text: &[u8]) -> bool
+    ensures { result ≡ is_text kind text.now }
+{
+    match kind {
+        Kind::Bool => text == b"y".as_slice() || text == b"n".as_slice(),
+        Kind::Tristate => text == b"y".as_slice()
+            || text == b"m".as_slice()
+            || text == b"n".as_slice(),
+        Kind::Text => all_string_bytes(text),
+        Kind::Int => is_integer(text),
+        Kind::Hex => is_hexadecimal(text),
+    }
+}
+
+/// Whether the text is the n of a bool or tristate, which counts as no value.
+pub(crate) fn is_off(kind: Kind, text: &[u8]) -> bool
+    ensures { result ≡ is_off kind text.now }
+{
+    match kind {
+        Kind::Bool | Kind::Tristate => text == b"n".as_slice(),
+        _ => false,
+    }
+}

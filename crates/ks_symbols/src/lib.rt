@@ -1,0 +1,29 @@
+//! Names, kinds and values of Kconfig symbols, and the readers of Kconfig and `.config` texts.
+#![tactic(auto)]
+
+mod decimal;
+mod dotconfig;
+mod error;
+mod forms;
+mod kconfig;
+mod kinds;
+mod laws;
+mod limits;
+mod names;
+mod settings;
+mod statements;
+mod symbols;
+mod titles;
+mod values;
+
+pub use decimal::{decimals_read_back, read_decimal, write_decimal};
+pub use dotconfig::read_dotconfig;
+pub use error::SourceError;
+pub use kconfig::read_kconfig;
+pub use kinds::{Kind, value_is_valid};
+pub use laws::{reads_are_texts, settings_are_configurations, statements_are_spelled};
+pub use limits::MAX_BYTES;
+pub use names::{Name, Path, name_is_legal, path_is_legal, target_is_legal};
+pub use settings::{Entries, Settings};
+pub use statements::{Statement, is_silent, parse_statement};
+pub use symbols::Symbols;

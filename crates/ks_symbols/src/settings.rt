@@ -1,0 +1,135 @@
+//! The settings.
+ghost use Rattle.std.specs.Prelude.{◌≡◌, ◌+◌, ◌^◌, ◌<◌, OnOk, Some, None, List, ℕ, cond, bytes_eq, option_map};
+ghost use Rattle.std.specs.FinMap as map;
+ghost use Rattle.std.specs.Iterator.{item_count};
+ghost use Rattle.std.specs.Map.Iter.{TakesFirst};
+ghost use Rattle.ks_symbols.specs.Configuration.{lent_entry};
+
+use crate::kinds::Kind;
+use std::alloc::{AllocError, Global};
+use std::collections::BTreeMap;
+use std::collections::btree_map::Iter;
+use std::marker::Model;
+
+/// The symbols that have a value, with their kinds and texts, and how many lines spoke of names that are not declared.
+#[derive(Drop)]
+pub struct Settings {
+    entries: BTreeMap<Vec<u8>, (Kind, Vec<u8>)>,
+    unknown: u64,
+}
+
+impl Model for Settings {
+    ghost use Rattle.ks_symbols.specs.Configuration.{SettingsView, coded_settings_view, named, seen_setting};
+
+    ghost Value = { SettingsView };
+
+    ghost coded = { coded_settings_view };
+
+    ghost view = { λ s. record { entries = named seen_setting s.entries.entries; unknown = s.unknown } };
+}
+
+/// The entries of settings, by rising names: name, kind and text.
+#[derive(Drop)]
+pub struct Entries<'a> {
+    inner: Iter<'a, Vec<u8>, (Kind, Vec<u8>)>,
+}
+
+impl<'a> Model for Entries<'a> {
+    ghost use Rattle.std.specs.Prelude.{List, ℕ, map};
+    ghost use Rattle.std.specs.Coded.{coded_list, coded×, coded_ℕ};
+    ghost use Rattle.ks_symbols.specs.declared.kinds.Kind.{Kind};
+    ghost use Rattle.ks_symbols.specs.Kinds.{coded_kind};
+    ghost use Rattle.ks_symbols.specs.Configuration.{seen_entry};
+
+    ghost Value = { List (List ℕ × (Kind × List ℕ)) };
+
+    ghost coded = { coded_list (coded× (coded_list coded_ℕ) (coded× coded_kind (coded_list coded_ℕ))) };
+
+    ghost view = { λ e. map seen_entry e.inner };
+}
+
+impl<'a> Iterator for Entries<'a> {
+    type Item = (&'a [u8], Kind, &'a [u8]);
+
+    ghost next_gives = { TakesFirst lent_entry };
+
+    ghost remaining = { item_count (λ rest. rest) };
+
+    fn next(&mut self) -> Option<(&'a [u8], Kind, &'a [u8])> {
+        match self.inner.next() {
+            Some((name, (kind, text))) => Some((name, *kind, text)),
+            None => None,
+        }
+    }
+}
+
+impl Settings {
+    pub(crate) fn new(alloc: Global) -> Settings
+        ensures entries { result.entries ≡ map.empty }
+        ensures unknown { result.unknown ≡ 0 }
+    {
+        Settings {
+            entries: BTreeMap::new(alloc),
+            unknown: 0,
+        }
+    }
+
+    /// The kind and the text of a symbol that has a value.
+    pub fn get(&self, name: &[u8]) -> Option<(Kind, &[u8])>
+        ensures { option_map (λ s. (s.0, s.1.now)) result ≡ map.get self.now.entries name.now }
+    {
+        match self.entries.get(name) {
+            Some((kind, text)) => Some((*kind, text)),
+            None => None,
+        }
+    }
+
+    /// The entries, by rising names.
+    pub fn entries(&self) -> Entries<'_>
+        ensures { result ≡ map.entries self.now.entries }
+    {
+        Entries {
+            inner: self.entries.iter(),
+        }
+    }
+
+    /// How many lines spoke of names that are not declared.
+    pub fn unknown(&self) -> u64
+        ensures { result ≡ self.now.unknown }
+    {
+        self.unknown
+    }
+
+    /// Gives a symbol a kind and a text, in place of those before.
+    pub(crate) fn put(
+        &mut self,
+        alloc: Global,
+        name: &[u8],
+        kind: Kind,
+        text: Vec<u8>,
+    ) -> Result<(), AllocError>
+        ensures entries { OnOk result ((x : List ℕ) → map.get self.new.entries x ≡ cond (bytes_eq name.now x) (Some (kind, text.items)) (map.get self.old.entries x)) }
+        ensures unknown { OnOk result (self.new.unknown ≡ self.old.unknown) }
+    {
+        let name = Vec::from_slice(alloc, name)?;
+        self.entries.insert(name, (kind, text))?;
+        Ok(())
+    }
+
+    /// Takes a symbol's value away.
+    pub(crate) fn clear(&mut self, name: &[u8])
+        ensures entries { (x : List ℕ) → map.get self.new.entries x ≡ cond (bytes_eq name.now x) None (map.get self.old.entries x) }
+        ensures unknown { self.new.unknown ≡ self.old.unknown }
+    {
+        self.entries.remove(name);
+    }
+
+    /// Counts a line about a name that is not declared.
+    pub(crate) fn skip(&mut self)
+        requires { self.old.unknown < 2 ^ 63 }
+        ensures entries { self.new.entries ≡ self.old.entries }
+        ensures unknown { self.new.unknown ≡ self.old.unknown + 1 }
+    {
+        self.unknown += 1;
+    }
+}

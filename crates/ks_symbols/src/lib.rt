@@ -30,3 +30,6 @@ pub use names::{Name, Path, name_is_legal, path_is_legal, target_is_legal};
 pub use settings::{Entries, Settings};
 pub use statements::{Statement, is_silent, parse_statement};
 pub use symbols::Symbols;
+
+#[cfg(test)]
+mod tests;

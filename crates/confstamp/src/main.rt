@@ -5,4 +5,10 @@ mod preview;
 
 pub use preview::{PreviewError, preview_to};
 
+#[cfg(test)]
+use ks_symbols::SourceError;
+
 fn main() {}
+
+#[cfg(test)]
+mod tests;

@@ -1,7 +1,7 @@
 use Rattle.std.proofs.Common.{◌≡◌, ◌++◌, ◌∷◌, take}
 use Rattle.std.specs.List.{flat_map}
 use Rattle.ks_symbols.specs.Values.{escape}
-use Rattle.ks_output.proofs.write_quoted.Given as goal
+use Rattle.ks_output.proofs.header.append_quoted.Given as goal
 
 -- the quote and the bytes so far
 abbrev pub invariant-loop-byte : goal.invariant-loop-byte

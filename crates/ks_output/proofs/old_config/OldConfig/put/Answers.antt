@@ -1,9 +1,9 @@
 use Rattle.std.proofs.Common.{List, ℕ, ap, ◌∙◌}
 use Rattle.std.specs.FinMap as map
-use Rattle.ks_output.specs.Models.{seen_text}
+use Rattle.ks_output.specs.OldConfig.{seen_text}
 use Rattle.ks_symbols.specs.Configuration.{named}
 use Rattle.ks_symbols.proofs.Tables.{insert-named}
-use Rattle.ks_output.proofs.auto_conf.OldConfig.put.Goals as goal
+use Rattle.ks_output.proofs.old_config.OldConfig.put.Goals as goal
 
 pub returns-clause-texts : goal.returns-clause-texts
 returns-clause-texts c =

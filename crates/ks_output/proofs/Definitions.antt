@@ -247,12 +247,12 @@ found_line name line e =
       run = run;
       value = drop 1 behind;
       word = split.0;
-      spelled = opened line (codes "#define CONFIG_") begins.0 ∙ ap (λ (l : List ℕ). codes "#define CONFIG_" ++ l) (split.1 ∙ ap (λ (l : List ℕ). run ++ l) (opened behind (codes " ") begins.1));
+      spelled = opened line (codes "#define CONFIG_") begins.0 ∙ ap (λ (l : List ℕ). codes "#define CONFIG_" ++ l) (split.1 ∙ ap (λ (l : List ℕ). run ++ l) (opened behind (codes " ") begins.1) ∙ sym (append_assoc run (codes " ") (drop 1 behind)));
       named = (bytes_decides (less run) name).0 parts.1;
     }
 
 pub definitions_are_lines : DefinitionsAreLines
 definitions_are_lines name line = (
   found_line name line,
-  λ w. ap (defines name) w.spelled ∙ run_defines name w.run w.value w.word ∙ eq-bytes_eq (less w.run) name w.named,
+  λ w. ap (defines name) w.spelled ∙ ap (λ (l : List ℕ). defines name (codes "#define CONFIG_" ++ l)) (append_assoc w.run (codes " ") w.value) ∙ run_defines name w.run w.value w.word ∙ eq-bytes_eq (less w.run) name w.named,
 )

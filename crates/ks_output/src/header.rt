@@ -97,11 +97,7 @@ fn append_header(settings: &Settings, title: &[u8], out: &mut Vec<u8>) -> Result
 }
 
 /// Appends the header, or leaves the vector as it was.
-pub fn write_header(
-    settings: &Settings,
-    title: &[u8],
-    out: &mut Vec<u8>,
-) -> Result<(), AllocError>
+pub fn write_header(settings: &Settings, title: &[u8], out: &mut Vec<u8>) -> Result<(), AllocError>
     ensures written { OnOk result (out.new.items ≡ out.old.items ++ header_text title.now settings.now.entries) }
     ensures kept { OnErr result (out.new.items ≡ out.old.items) }
 {

@@ -9,5 +9,7 @@ mod old_config;
 
 pub use auto_conf::{AutoError, read_auto, write_auto};
 pub use header::write_header;
-pub use laws::{auto_texts_read_back, definitions_are_lines, entries_are_defined, texts_are_of_entries};
+pub use laws::{
+    auto_texts_read_back, definitions_are_lines, entries_are_defined, texts_are_of_entries,
+};
 pub use old_config::{OldConfig, OldEntries};

@@ -103,12 +103,7 @@ impl OldConfig {
     }
 
     /// Gives a name a text, in place of that before.
-    pub(crate) fn put(
-        &mut self,
-        alloc: Global,
-        name: &[u8],
-        text: &[u8],
-    ) -> Result<(), AllocError>
+    pub(crate) fn put(&mut self, alloc: Global, name: &[u8], text: &[u8]) -> Result<(), AllocError>
         ensures texts { OnOk result (self.new.texts ≡ map.insert self.old.texts name.now text.now) }
         ensures generation { OnOk result (self.new.generation ≡ self.old.generation) }
     {

@@ -3,10 +3,10 @@ use Rattle.std.specs.FinMap as map
 use Rattle.std.specs.List.{AllByRecursion}
 use Rattle.ks_symbols.specs.Names.{is_name}
 use Rattle.ks_symbols.specs.Configuration.{lent_entry}
-use Rattle.ks_output.specs.Models.{lent_old_entry}
+use Rattle.ks_output.specs.OldConfig.{lent_old_entry}
 use Rattle.ks_compare.specs.Pass.{with_first}
 use Rattle.ks_compare.proofs.Merge.{merged}
-use Rattle.ks_compare.proofs.changed.Given as goal
+use Rattle.ks_compare.proofs.comparison.changed.Given as goal
 
 -- the names so far and what the pass gives of the entries that are left
 abbrev pub invariant-loop-names : goal.invariant-loop-names

@@ -5,12 +5,12 @@ use Rattle.std.specs.FinMap as map
 use Rattle.std.specs.List.{AllByRecursion}
 use Rattle.ks_symbols.specs.Names.{is_name}
 use Rattle.ks_symbols.specs.Configuration.{lent_entry}
-use Rattle.ks_output.specs.Models.{lent_old_entry}
+use Rattle.ks_output.specs.OldConfig.{lent_old_entry}
 use Rattle.ks_compare.specs.Changes.{AreChanges}
 use Rattle.ks_compare.specs.Pass.{with_first}
 use Rattle.ks_compare.proofs.Merge.{NewList, OldList, merged, merged_changes, legal_changes, takes_end, takes_old, takes_new, takes_both}
-use Rattle.ks_compare.proofs.changed.Goals as goal
-use Rattle.ks_compare.proofs.changed.Goals.{then-differs+in_ok-new-in-Both+in_ok-push-in-Both, else-differs}
+use Rattle.ks_compare.proofs.comparison.changed.Goals as goal
+use Rattle.ks_compare.proofs.comparison.changed.Goals.{then-differs+in_ok-new-in-Both+in_ok-push-in-Both, else-differs}
 
 abbrev AreLegal : List (List ℕ) → Type 0
 AreLegal names = AllByRecursion (λ n. IsTrue (is_name n)) names

@@ -1,0 +1,4 @@
+pub mod PathLemmas
+pub mod Places
+pub mod StampLemmas
+pub mod Touching

@@ -1,0 +1,4 @@
+pub mod Files
+pub mod Faults
+pub mod Paths
+pub mod Stamps

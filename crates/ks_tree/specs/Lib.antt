@@ -2,3 +2,5 @@ pub mod Files
 pub mod Faults
 pub mod Paths
 pub mod Stamps
+pub mod Memory
+pub mod Fuse

@@ -4,3 +4,4 @@ pub mod Paths
 pub mod Stamps
 pub mod Memory
 pub mod Fuse
+pub mod Folder

@@ -2,6 +2,7 @@
 #![tactic(auto)]
 
 mod fault;
+mod folder;
 mod fuse;
 mod memory;
 mod paths;
@@ -10,6 +11,7 @@ mod stamps;
 mod tree;
 
 pub use fault::{TreeError, TreeFault};
+pub use folder::FolderTree;
 pub use fuse::{FuseMode, FuseTree};
 pub use memory::{FilesIter, MemoryTree};
 pub use paths::{

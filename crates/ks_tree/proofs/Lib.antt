@@ -1,0 +1,5 @@
+pub mod PathLemmas
+pub mod Places
+pub mod StampLemmas
+pub mod Touching
+pub mod Stored

@@ -1,0 +1,7 @@
+pub mod Files
+pub mod Faults
+pub mod Paths
+pub mod Stamps
+pub mod Memory
+pub mod Fuse
+pub mod Folder

@@ -1,0 +1,35 @@
+-- The number that a stamp holds, and what touching leaves. A format of this project: the usual tool's stamps are empty, and their time counts.
+use Rattle.std.specs.Prelude.{◌≡◌, ◌≢◌, ℕ, ◌<◌, ◌^◌, List, [], ◌∷◌, ◌++◌, ◌⊎◌, Option, Some, None, decimal, Bool, true, if◌then◌else◌, bytes_eq, IsTrue, ⊤}
+use Rattle.std.specs.List.{list_any}
+use Rattle.ks_symbols.specs.Names.{is_name}
+use Rattle.ks_tree.specs.declared.fault.TreeError.{TreeError}
+use Rattle.ks_tree.specs.declared.fault.TreeError.TheVariants as error
+use Rattle.ks_tree.specs.Files.{Files, content, IsTooLarge}
+use Rattle.ks_tree.specs.Paths.{stamp_path, stamp_temporary}
+
+-- the bytes of the stamp of generation g
+abbrev pub stamp_text : ℕ → List ℕ
+stamp_text g = decimal g ++ 10 ∷ []
+
+-- A missing or empty stamp counts as 0, and else it is the decimal of its number and LF.
+abbrev pub HasNumber : Option (List ℕ) → ℕ → Type 0
+HasNumber None n = n ≡ 0
+HasNumber (Some stamp) n = ((stamp ≡ []) × (n ≡ 0)) ⊎ ((stamp ≡ stamp_text n) × (n < 2 ^ 64))
+
+-- It holds no number.
+abbrev pub IsNoStamp : Option (List ℕ) → Type 0
+IsNoStamp file = (n : ℕ) → HasNumber file n → ⊥
+
+-- Why the stamp of a name was not read, memory and device aside.
+abbrev pub IsStampRefusal : List ℕ → Option (List ℕ) → TreeError → Type 0
+IsStampRefusal x file (error.BadStamp y) = (y ≡ x) × IsNoStamp file × (IsTooLarge file → ⊥)
+IsStampRefusal x file error.TooLarge = IsTooLarge file
+IsStampRefusal x file e = ⊤
+
+abbrev pub is_in : List (List ℕ) → List ℕ → Bool
+is_in xs x = list_any (bytes_eq x) xs
+
+-- These names' stamps are set, and nothing else has changed but the temporary file.
+pub record Touches (xs : List (List ℕ)) (g : ℕ) (old new : Files) : Type 0 where
+  pub stamps : (x : List ℕ) → IsTrue (is_name x) → content new (stamp_path x) ≡ (if is_in xs x then Some (stamp_text g) else content old (stamp_path x))
+  pub others : (q : List ℕ) → q ≢ stamp_temporary → ((x : List ℕ) → is_in xs x ≡ true → q ≢ stamp_path x) → content new q ≡ content old q

@@ -1,0 +1,23 @@
+//! Trees of files, replacing files in them, and the stamps of names.
+#![tactic(auto)]
+
+mod fault;
+mod folder;
+mod fuse;
+mod memory;
+mod paths;
+mod replacement;
+mod stamps;
+mod tree;
+
+pub use fault::{TreeError, TreeFault};
+pub use folder::FolderTree;
+pub use fuse::{FuseMode, FuseTree};
+pub use memory::{FilesIter, MemoryTree};
+pub use paths::{
+    auto_path, auto_temporary, command_path, command_temporary, header_path, header_temporary,
+    paths_never_meet, stamp_path, stamp_temporary,
+};
+pub use replacement::replace;
+pub use stamps::{read_stamp, touch, touch_all};
+pub use tree::Tree;

@@ -5,7 +5,7 @@
 ghost use Rattle.std.specs.Prelude.{◌≡◌, ◌↔◌, IfOk, OnOk, IsTrue, Some, option_map};
 ghost use Rattle.ks_symbols.specs.Names.{is_path};
 ghost use Rattle.ks_tree.specs.Files.{content};
-ghost use Rattle.ks_commands.specs.Outputs.{IsNamed};
+ghost use Rattle.ks_commands.specs.Outputs.{IsLegalIfNamed, IsNamed};
 
 use crate::refusal::Refusal;
 use ks_symbols::path_is_legal;
@@ -40,7 +40,9 @@ pub(crate) fn read_file<T: Tree>(
 }
 
 /// Refuses a word that may be left out and is no legal path.
-pub(crate) fn check_named(path: Option<&str>) -> Result<(), Refusal> {
+pub(crate) fn check_named(path: Option<&str>) -> Result<(), Refusal>
+    ensures { OnOk result (IsLegalIfNamed (option_map (λ p. p.now) path.entry)) }
+{
     match path {
         Some(path) => check_path(path),
         None => Ok(()),

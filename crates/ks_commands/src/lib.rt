@@ -7,7 +7,7 @@ mod preview;
 mod refusal;
 mod request;
 
-pub use performing::perform;
+pub use performing::{perform, refuse};
 pub use preview::{PreviewError, preview_to};
 pub use refusal::Refusal;
 pub use request::Request;

@@ -47,8 +47,8 @@ fn preview<T: Tree, W: Write>(
     Ok(())
 }
 
-/// Prints why a command was refused, as well as that goes.
-fn refuse<E: Write>(err: &mut E, refusal: &Refusal) -> u8
+/// Prints `confstamp: ` and why a command was refused, as well as that goes. The status is 2 also where that fails.
+pub fn refuse<E: Write>(err: &mut E, refusal: &Refusal) -> u8
     ensures { result ≡ 2 }
 {
     let _ = writeln!(err, "confstamp: {refusal}");

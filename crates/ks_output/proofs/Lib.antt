@@ -5,4 +5,5 @@ pub mod LegalNames
 pub mod Pieces
 pub mod ReadBack
 pub mod Texts
+pub mod Worked
 pub mod WrittenLines

@@ -5,4 +5,5 @@ pub mod OldConfig
 pub mod Header
 pub mod Definitions
 pub mod Laws
+pub mod Examples
 pub mod Appending

@@ -1,5 +1,6 @@
 pub mod Definitions
 pub mod Entries
+pub mod LastLine
 pub mod LastRemark
 pub mod LegalNames
 pub mod Pieces

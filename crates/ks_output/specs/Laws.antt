@@ -1,9 +1,11 @@
--- Laws of the definitions: an auto.conf reads back as what was written, and the header defines a name by its entry alone.
-use Rattle.std.specs.Prelude.{◌≡◌, ◌≤◌, ◌<◌, ◌^◌, ◌↔◌, ℕ, true, List, [], ◌∷◌, ◌++◌, codes, length, Option, Some, None, IsTrue, option_map}
+-- Laws of the definitions: the last line of a name counts, what is written reads back, and the header defines a name by its entry alone.
+use Rattle.std.specs.Prelude.{◌≡◌, ◌≤◌, ◌<◌, ◌^◌, ◌↔◌, ℕ, true, nat_eq, List, [], ◌∷◌, ◌++◌, codes, length, drop, find, reverse, Option, Some, None, IsTrue, option_map}
+use Rattle.std.specs.List.{starts_with}
 use Rattle.std.specs.FinMap as map
 use Rattle.ks_symbols.specs.declared.kinds.Kind.{Kind}
 use Rattle.ks_symbols.specs.Kinds.{class_of}
-use Rattle.ks_symbols.specs.Lines.{max_bytes}
+use Rattle.ks_symbols.specs.Names.{is_name}
+use Rattle.ks_symbols.specs.Lines.{lines, max_bytes}
 use Rattle.ks_symbols.specs.Titles.{is_title}
 use Rattle.ks_symbols.specs.Configuration.{IsConfiguration, NameMap}
 use Rattle.ks_output.specs.AutoText.{auto_text}
@@ -11,6 +13,16 @@ use Rattle.ks_output.specs.AutoConf.{auto_map, auto_generation, auto_fault, auto
 use Rattle.ks_output.specs.OldConfig.{HasNames, texts_of}
 use Rattle.ks_output.specs.Header.{header_text, defined_as}
 use Rattle.ks_output.specs.Definitions.{Defines, defines, definitions}
+
+-- how a line begins that gives a name its text
+abbrev pub beginning : List ℕ → List ℕ
+beginning name = codes "CONFIG_" ++ name ++ codes "="
+
+-- The text of a legal name is the rest of the last line that begins so.
+abbrev pub LastLineCounts : Type 0
+LastLineCounts =
+    (text name : List ℕ) → IsTrue (is_name name)
+    → map.get (auto_map text) name ≡ option_map (drop (length (beginning name))) (find (λ line. starts_with nat_eq line (beginning name)) (reverse (lines text)))
 
 -- What holds of each auto.conf that is written
 abbrev pub OfWritten : (List ℕ → NameMap (Kind × List ℕ) → ℕ → Type 0) → Type 0

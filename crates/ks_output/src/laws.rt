@@ -2,7 +2,12 @@
 //!
 //! Each law is the contract of a call that does nothing.
 ghost use Rattle.ks_output.specs.Examples.{DefinitionLines, FilesOfSwitches, LinesRead, MacrosRead};
-ghost use Rattle.ks_output.specs.Laws.{AlikeIsDefinedAlike, DefinitionsAreLines, DefinitionsAreOfEntries, GenerationReadsBack, HasNoFault, IsAccepted, TextsAreOfEntries, TextsHaveNames, TextsReadBack};
+ghost use Rattle.ks_output.specs.Laws.{AlikeIsDefinedAlike, DefinitionsAreLines, DefinitionsAreOfEntries, GenerationReadsBack, HasNoFault, IsAccepted, LastLineCounts, TextsAreOfEntries, TextsHaveNames, TextsReadBack};
+
+/// An auto.conf gives a name what the last line about it spells.
+pub fn last_lines_count()
+    ensures { LastLineCounts }
+{}
 
 /// An auto.conf that was written of a configuration reads back: its texts and its generation, and it is accepted.
 pub fn auto_texts_read_back()

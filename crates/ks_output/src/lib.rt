@@ -11,7 +11,7 @@ pub use auto_conf::{AutoError, read_auto, write_auto};
 pub use header::write_header;
 pub use laws::{
     auto_texts_read_back, definitions_are_lines, entries_are_defined, examples_are_worked,
-    texts_are_of_entries,
+    last_lines_count, texts_are_of_entries,
 };
 pub use old_config::{OldConfig, OldEntries};
 

@@ -2,7 +2,8 @@
 //!
 //! Each law is the contract of a call that does nothing.
 ghost use Rattle.ks_output.specs.Examples.{DefinitionLines, FilesOfSwitches, LinesRead, MacrosRead};
-ghost use Rattle.ks_output.specs.Laws.{AlikeIsDefinedAlike, DefinitionsAreLines, DefinitionsAreOfEntries, GenerationReadsBack, HasNoFault, IsAccepted, LastLineCounts, TextsAreOfEntries, TextsHaveNames, TextsReadBack};
+ghost use Rattle.ks_output.specs.HeaderLaws.{AlikeIsDefinedAlike, DefinitionsAreLines, DefinitionsAreOfEntries};
+ghost use Rattle.ks_output.specs.Laws.{GenerationReadsBack, HasNoFault, IsAccepted, LastLineCounts, TextsAreOfEntries, TextsHaveNames, TextsReadBack};
 
 /// An auto.conf gives a name what the last line about it spells.
 pub fn last_lines_count()

@@ -73,55 +73,15 @@ fn files_of_other_kinds(rt: HostRuntime) -> Result<(), AllocError> {
     #[rattlefmt::skip]
     let rows: [(&str, &[u8], &[u8], &[u8], &[u8]); 8] = [
         ("nothing at all", b"", b"", b"", b""),
-        (
-            "an undeclared name",
-            SWITCHES,
-            b"CONFIG_A=y\n# CONFIG_A is not set\nCONFIG_ZZ=7\n",
-            b"",
-            b"",
-        ),
-        (
-            "quotes and backslashes",
-            STRING,
-            br#"CONFIG_S="a\"b\\c""#,
-            b"CONFIG_S=a\"b\\c\n",
-            b"#define CONFIG_S \"a\\\"b\\\\c\"\n",
-        ),
-        (
-            "an empty string",
-            STRING,
-            b"CONFIG_S=\"\"\n",
-            b"CONFIG_S=\n",
-            b"#define CONFIG_S \"\"\n",
-        ),
-        (
-            "the string n",
-            STRING,
-            b"CONFIG_S=\"n\"\n",
-            b"CONFIG_S=n\n",
-            b"#define CONFIG_S \"n\"\n",
-        ),
-        (
-            "the string y",
-            STRING,
-            b"CONFIG_S=\"y\"\n",
-            b"CONFIG_S=y\n",
-            b"#define CONFIG_S \"y\"\n",
-        ),
-        (
-            "hexadecimal numbers",
-            NUMBERS,
-            b"CONFIG_G=1f\nCONFIG_H=0x1f\nCONFIG_I=0X1F\n",
-            b"CONFIG_G=1f\nCONFIG_H=0x1f\nCONFIG_I=0X1F\n",
-            b"#define CONFIG_G 0x1f\n#define CONFIG_H 0x1f\n#define CONFIG_I 0X1F\n",
-        ),
-        (
-            "integers",
-            NUMBERS,
-            b"CONFIG_J=-0\nCONFIG_K=0\nCONFIG_L=-12\n",
-            b"CONFIG_J=-0\nCONFIG_K=0\nCONFIG_L=-12\n",
-            b"#define CONFIG_J -0\n#define CONFIG_K 0\n#define CONFIG_L -12\n",
-        ),
+        ("an undeclared name", SWITCHES, b"CONFIG_A=y\n# CONFIG_A is not set\nCONFIG_ZZ=7\n", b"", b""),
+        ("quotes and backslashes", STRING, br#"CONFIG_S="a\"b\\c""#, b"CONFIG_S=a\"b\\c\n", b"#define CONFIG_S \"a\\\"b\\\\c\"\n"),
+        ("an empty string", STRING, b"CONFIG_S=\"\"\n", b"CONFIG_S=\n", b"#define CONFIG_S \"\"\n"),
+        ("the string n", STRING, b"CONFIG_S=\"n\"\n", b"CONFIG_S=n\n", b"#define CONFIG_S \"n\"\n"),
+        ("the string y", STRING, b"CONFIG_S=\"y\"\n", b"CONFIG_S=y\n", b"#define CONFIG_S \"y\"\n"),
+        ("hexadecimal numbers", NUMBERS, b"CONFIG_G=1f\nCONFIG_H=0x1f\nCONFIG_I=0X1F\n",
+            b"CONFIG_G=1f\nCONFIG_H=0x1f\nCONFIG_I=0X1F\n", b"#define CONFIG_G 0x1f\n#define CONFIG_H 0x1f\n#define CONFIG_I 0X1F\n"),
+        ("integers", NUMBERS, b"CONFIG_J=-0\nCONFIG_K=0\nCONFIG_L=-12\n",
+            b"CONFIG_J=-0\nCONFIG_K=0\nCONFIG_L=-12\n", b"#define CONFIG_J -0\n#define CONFIG_K 0\n#define CONFIG_L -12\n"),
     ];
     for (name, kconfig, dotconfig, entries, definitions) in rows {
         let (auto, header) = written(alloc, kconfig, dotconfig)?;
@@ -169,78 +129,26 @@ fn readings(rt: HostRuntime) -> Result<(), AllocError> {
     let rows: [(&str, &[u8], &str); 22] = [
         ("an empty text", b"", "#0"),
         ("a whole file", SWITCHES_AUTO, "A=y B=m #1"),
-        (
-            "the last line of a name",
-            b"CONFIG_A=y\nCONFIG_A=m\n",
-            "A=m #0",
-        ),
-        (
-            "the last generation",
-            b"#generation 3\nCONFIG_S=a=b\n#generation 5\n",
-            "S=a=b #5",
-        ),
-        (
-            "the largest generation",
-            b"#generation 18446744073709551615\n",
-            "#18446744073709551615",
-        ),
-        (
-            "one more than the largest",
-            b"#generation 18446744073709551616\n",
-            "11 BadAuto line 1",
-        ),
-        (
-            "a generation with an idle zero",
-            b"#generation 05\n",
-            "11 BadAuto line 1",
-        ),
+        ("the last line of a name", b"CONFIG_A=y\nCONFIG_A=m\n", "A=m #0"),
+        ("the last generation", b"#generation 3\nCONFIG_S=a=b\n#generation 5\n", "S=a=b #5"),
+        ("the largest generation", b"#generation 18446744073709551615\n", "#18446744073709551615"),
+        ("one more than the largest", b"#generation 18446744073709551616\n", "11 BadAuto line 1"),
+        ("a generation with an idle zero", b"#generation 05\n", "11 BadAuto line 1"),
         ("no generation", b"#generation \n", "11 BadAuto line 1"),
-        (
-            "a generation without its end",
-            b"#\n# Auto\n# Demo\n#\nCONFIG_A=y\nCONFIG_B=m\n#generation 1",
-            "11 BadAuto line 7",
-        ),
-        (
-            "a name that leaves its folder",
-            b"#\n# Auto\n# Demo\n#\nCONFIG_../x=y\n",
-            "11 BadAuto line 5",
-        ),
+        ("a generation without its end", b"#\n# Auto\n# Demo\n#\nCONFIG_A=y\nCONFIG_B=m\n#generation 1", "11 BadAuto line 7"),
+        ("a name that leaves its folder", b"#\n# Auto\n# Demo\n#\nCONFIG_../x=y\n", "11 BadAuto line 5"),
         ("no name", b"CONFIG_=y\n", "11 BadAuto line 1"),
         ("no text", b"\nCONFIG_A\n", "11 BadAuto line 2"),
         ("a blank in front", b" CONFIG_A=y\n", "11 BadAuto line 1"),
-        (
-            "the first faulty line",
-            b"#generation 1\nA\n#generation 01\n",
-            "11 BadAuto line 2",
-        ),
-        (
-            "names out of order",
-            b"CONFIG_B=y\nCONFIG_A=y\n",
-            "A=y B=y #0",
-        ),
+        ("the first faulty line", b"#generation 1\nA\n#generation 01\n", "11 BadAuto line 2"),
+        ("names out of order", b"CONFIG_B=y\nCONFIG_A=y\n", "A=y B=y #0"),
         ("the text n", b"CONFIG_S=n\n", "S=n #0"),
         ("an empty string", b"CONFIG_S=\n", "S= #0"),
-        (
-            "a quoted text, as it stands",
-            b"CONFIG_S=\"a\"\n",
-            "S=\"a\" #0",
-        ),
-        (
-            "lines that end in CR LF",
-            b"CONFIG_A=y\r\n#generation 4\r\n",
-            "A=y #4",
-        ),
+        ("a quoted text, as it stands", b"CONFIG_S=\"a\"\n", "S=\"a\" #0"),
+        ("lines that end in CR LF", b"CONFIG_A=y\r\n#generation 4\r\n", "A=y #4"),
         ("a last line without its end", b"CONFIG_A=y", "A=y #0"),
-        (
-            "a name of a module",
-            b"CONFIG_A_MODULE=y\n",
-            "A_MODULE=y #0",
-        ),
-        (
-            "comments",
-            b"# CONFIG_A is not set\n#generation\n#generation3\n",
-            "#0",
-        ),
+        ("a name of a module", b"CONFIG_A_MODULE=y\n", "A_MODULE=y #0"),
+        ("comments", b"# CONFIG_A is not set\n#generation\n#generation3\n", "#0"),
     ];
     for (name, auto, want) in rows {
         let found = said(alloc, auto)?;

@@ -1,0 +1,5 @@
+pub mod CommandLineLemmas
+pub mod CommandStepLemmas
+pub mod CommandFormLemmas
+-- pub mod CommandAgainLemmas
+pub mod CommandWriteLemmas

@@ -1,0 +1,9 @@
+//! What an object was built from: the names in its sources, its dependency file, and the command file that records both.
+#![tactic(auto)]
+
+mod command_file;
+
+pub use command_file::{
+    CommandError, CommandFile, Dep, command_is_legal,
+    read_command, write_command,
+};

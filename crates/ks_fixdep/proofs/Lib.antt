@@ -1,5 +1,6 @@
 pub mod CommandLineLemmas
 pub mod CommandStepLemmas
 pub mod CommandFormLemmas
--- pub mod CommandAgainLemmas
+pub mod CommandFitLemmas
+pub mod CommandTextLemmas
 pub mod CommandWriteLemmas

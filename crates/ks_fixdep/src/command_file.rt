@@ -6,13 +6,13 @@ ghost use Rattle.std.specs.Prelude.{◌≡◌};
 ghost use Rattle.ks_fixdep.specs.CommandFile.{is_command, is_command_byte};
 ghost use Rattle.ks_fixdep.specs.declared.command_file.CommandError.TheVariants.{OutOfMemory};
 
-//mod laws;
+mod laws;
 mod reading;
 #[cfg(test)]
 mod tests;
 mod writing;
 
-//pub use laws::{command_examples, command_files_fit, command_texts_read_back};
+pub use laws::{command_examples, command_files_fit, command_texts_read_back};
 pub use reading::read_command;
 pub use writing::write_command;
 

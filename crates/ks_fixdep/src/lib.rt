@@ -4,6 +4,6 @@
 mod command_file;
 
 pub use command_file::{
-    CommandError, CommandFile, Dep, command_is_legal,
-    read_command, write_command,
+    CommandError, CommandFile, Dep, command_examples, command_files_fit, command_is_legal,
+    command_texts_read_back, read_command, write_command,
 };

@@ -201,6 +201,7 @@ form-begins {A = A} n form (l ∷ ls) rest a e = tested (form (content l)) refl 
   where
     with_rest : A → Result (A × List (List ℕ)) ℕ
     with_rest x = Ok (x, ls)
+
     tested : (o : Option A) → form (content l) ≡ o → (or_fault n o >>= with_rest) ≡ Ok (a, rest) → BeginsAs form a rest (l ∷ ls)
     tested None is e = absurd cc
     tested (Some x) is e =
@@ -233,6 +234,7 @@ said-is n line o e = behind-is-sound (behind generation_mark line) e
     number-is : (x : Option ℕ) → (or_fault n x >>= λ g. Ok (Some g)) ≡ Ok o → is_some x ≡ true
     number-is None e = absurd cc
     number-is (Some g) e = refl
+
     behind-is-sound : (x : Option (List ℕ)) → said_behind n x ≡ Ok o → (not (is_some x) || is_some (option_and_then decimal_value (option_and_then (before line_feed) x))) ≡ true
     behind-is-sound None e = refl
     behind-is-sound (Some x) e = number-is (option_and_then decimal_value (before line_feed x)) e

@@ -246,7 +246,7 @@ source_in-is t line s e =
     let name = and_then-steps (behind t) (behind (codes "source_") line) value.value value.first in (
       checks.0,
       behind-is (codes "source_") line name.value name.first
-      ∙ ap (λ l. codes "source_" ++ l) (behind-is t name.value value.value name.next ∙ ap (λ l. t ++ l) (behind-is (codes " := ") value.value s value.next) ∙ sym (append_assoc t (codes " := ") s)),
+          ∙ ap (λ l. codes "source_" ++ l) (behind-is t name.value value.value name.next ∙ ap (λ l. t ++ l) (behind-is (codes " := ") value.value s value.next) ∙ sym (append_assoc t (codes " := ") s)),
     )
 
 -- a value between a front and an end, which passes

@@ -46,7 +46,6 @@ pub content-ended : (x : List ℕ) → content (ended x) ≡ x
 unfolding content
 content-ended x = ap ((λ o. unwrap_or o (ended x))) (before-end x (10 ∷ []))
 
-
 -- the lines behind the dependency lines
 abbrev last_lines : List ℕ → List (List ℕ)
 last_lines t = [] ∷ target_line t ∷ [] ∷ deps_end t ∷ []

@@ -12,13 +12,12 @@ mod reading;
 mod tests;
 mod writing;
 
+use ks_symbols::{Name, Path};
 pub use laws::{command_examples, command_files_fit, command_texts_read_back};
 pub use reading::read_command;
-pub use writing::write_command;
-
-use ks_symbols::{Name, Path};
 use std::alloc::{AllocError, AllocFailed};
 use thiserror::Error;
+pub use writing::write_command;
 
 /// A prerequisite that stands on a line of its own, or a name that was found in one.
 #[derive(Drop)]

@@ -13,7 +13,9 @@ ghost use Rattle.ks_fixdep.specs.declared.command_file.CommandError.TheVariants.
 
 use super::{CommandError, CommandFile, Dep, command_is_legal};
 use bstr::ByteSlice;
-use ks_symbols::{MAX_BYTES, Name, Path, name_is_legal, path_is_legal, read_decimal, target_is_legal};
+use ks_symbols::{
+    MAX_BYTES, Name, Path, name_is_legal, path_is_legal, read_decimal, target_is_legal,
+};
 use memchr::memchr;
 use std::alloc::{AllocError, Global};
 

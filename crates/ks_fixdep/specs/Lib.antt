@@ -1,4 +1,14 @@
 -- The definitions, in reading order.
+pub mod Scan
+pub mod NameIter
+pub mod Stream
+pub mod Scanner
+pub mod FoundNames
+pub mod SourceScan
+pub mod DepRefusals
+pub mod Tokens
+pub mod DependencyFile
+pub mod Progress
 pub mod CommandLines
 pub mod CommandFile
 pub mod CommandReads
@@ -6,3 +16,4 @@ pub mod CommandReading
 pub mod CommandLaws
 pub mod CommandExamples
 pub mod CommandWriting
+pub mod Record

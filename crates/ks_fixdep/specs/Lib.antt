@@ -1,5 +1,6 @@
 -- The definitions, in reading order.
 pub mod Scan
+pub mod Places
 pub mod NameIter
 pub mod Stream
 pub mod Scanner

@@ -1,9 +1,15 @@
 //! Laws of the definitions, each the contract of a function that does nothing.
 ghost use Rattle.std.specs.Prelude.{◌≡◌, [], List, ℕ, map, flat_map, length};
 ghost use Rattle.ks_fixdep.specs.Scan.{taken, bare_name};
+ghost use Rattle.ks_fixdep.specs.Places.{ListsTaken};
 ghost use Rattle.ks_fixdep.specs.FoundNames.{all_noted, names_in};
 ghost use Rattle.ks_fixdep.specs.Record.{names_of, deps_after, config_names};
 ghost use Rattle.ks_fixdep.specs.declared.dependency_file.Role.{Role};
+
+/// What the scan of a text lists is exactly what is taken at one of its places, by rising place.
+pub fn names_by_places()
+    ensures { (t : List ℕ) → ListsTaken t }
+{}
 
 /// The names of all sources are those of their whole texts, each once, by its first text and its first place there.
 pub fn names_of_all_sources()

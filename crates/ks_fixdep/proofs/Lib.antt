@@ -8,6 +8,7 @@ pub mod NotedLemmas
 pub mod TokenLemmas
 pub mod RoleLemmas
 pub mod NameLemmas
+pub mod JoinLemmas
 pub mod OnceLemmas
 pub mod DepsLemmas
 pub mod CommandLineLemmas

@@ -3,6 +3,7 @@ pub mod Scan
 pub mod Places
 pub mod NameIter
 pub mod Stream
+pub mod Pieces
 pub mod Scanner
 pub mod FoundNames
 pub mod SourceScan

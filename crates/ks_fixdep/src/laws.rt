@@ -2,6 +2,7 @@
 ghost use Rattle.std.specs.Prelude.{◌≡◌, [], List, ℕ, map, flat_map, length};
 ghost use Rattle.ks_fixdep.specs.Scan.{taken, bare_name};
 ghost use Rattle.ks_fixdep.specs.Places.{ListsTaken};
+ghost use Rattle.ks_fixdep.specs.Pieces.{PiecesGiveTheWhole};
 ghost use Rattle.ks_fixdep.specs.FoundNames.{all_noted, names_in};
 ghost use Rattle.ks_fixdep.specs.Record.{names_of, deps_after, config_names};
 ghost use Rattle.ks_fixdep.specs.declared.dependency_file.Role.{Role};
@@ -9,6 +10,11 @@ ghost use Rattle.ks_fixdep.specs.declared.dependency_file.Role.{Role};
 /// What the scan of a text lists is exactly what is taken at one of its places, by rising place.
 pub fn names_by_places()
     ensures { (t : List ℕ) → ListsTaken t }
+{}
+
+/// What a scanner lends for the pieces of a text in turn, and at its end, is what the scan of the joined text lists.
+pub fn pieces_give_the_whole()
+    ensures { PiecesGiveTheWhole }
 {}
 
 /// The names of all sources are those of their whole texts, each once, by its first text and its first place there.

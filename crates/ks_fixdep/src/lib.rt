@@ -22,7 +22,9 @@ pub use command_file::{
 pub use dep_error::DepError;
 pub use dependency_file::{Prerequisites, Role, read_depfile};
 pub use found_names::FoundNames;
-pub use laws::{names_by_places, names_of_a_record, names_of_all_sources};
+pub use laws::{
+    names_by_places, names_of_a_record, names_of_all_sources, pieces_give_the_whole,
+};
 pub use name_iter::NameIter;
 pub use scan::{Found, names};
 pub use scanner::{Fed, Scanner};

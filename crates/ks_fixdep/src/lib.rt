@@ -12,6 +12,8 @@ mod runs;
 mod scan;
 mod scanner;
 mod source_scan;
+#[cfg(test)]
+mod tests;
 mod tokens;
 
 pub use building::{build, build_from};

@@ -115,7 +115,7 @@ cons-cases : (y : NameAt) (xs : List NameAt) (x : NameAt) → Contains (y ∷ xs
 cons-cases y xs x (zero, below, at) = inl at
 cons-cases y xs x (suc k, below, at) = inr (k, omega (arith, below), at)
 
-cons-in : (o : Option NameAt) (xs : List NameAt) (x : NameAt) → Contains xs x → Contains (cons_option o xs) x
+pub cons-in : (o : Option NameAt) (xs : List NameAt) (x : NameAt) → Contains xs x → Contains (cons_option o xs) x
 cons-in None xs x is = is
 cons-in (Some y) xs x (k, below, at) = (suc k, omega (arith, below), at)
 

@@ -25,7 +25,8 @@ pub use dep_error::DepError;
 pub use dependency_file::{Prerequisites, Role, read_depfile};
 pub use found_names::FoundNames;
 pub use laws::{
-    names_by_places, names_of_a_record, names_of_all_sources, pieces_give_the_whole,
+    ended_names_are_followed, names_by_places, names_of_a_record, names_of_all_sources,
+    pieces_give_the_whole, recording_examples,
 };
 pub use name_iter::NameIter;
 pub use scan::{Found, names};

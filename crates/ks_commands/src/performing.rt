@@ -1,7 +1,7 @@
 //! Doing what was asked for, over any tree and any two writers.
 //!
 //! A command that is refused as a whole writes nothing to the output and one line to standard error.
-ghost use Rattle.std.specs.Prelude.{◌≡◌, ◌↔◌, ℕ, List, Option, IfOk, OnOk, None, Some, option_map, string_bytes};
+ghost use Rattle.std.specs.Prelude.{◌≡◌, ◌↔◌, ◌⊎◌, ℕ, List, Option, IfOk, OnOk, None, Some, option_map, string_bytes};
 ghost use Rattle.std.specs.Io.KnownBytes.{Keeps};
 ghost use Rattle.ks_commands.specs.Outputs.{IsNamed, WritesPreview};
 ghost use Rattle.ks_commands.specs.Requests.{IsPreviewOf};
@@ -69,6 +69,7 @@ pub fn perform<T: Tree, W: Write, E: Write>(
         → WritesPreview (T.files tree.old) k d o (W.contents out.old) (W.contents out.new) }
     ensures unchanged { (k d : List ℕ) (o : Option (List ℕ)) → IsPreviewOf k d o request.now → T.is_honest tree.old
         → T.files tree.new ≡ T.files tree.old }
+    ensures status { (k d : List ℕ) (o : Option (List ℕ)) → IsPreviewOf k d o request.now → (result ≡ 0) ⊎ (result ≡ 2) }
 {
     let outcome = match request {
         Request::Preview {

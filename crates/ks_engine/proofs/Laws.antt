@@ -1,0 +1,40 @@
+-- The laws of the layers below: all that the proofs here use of them beside the contracts of their calls.
+use Rattle.std.proofs.Common.{◌≡◌, ◌≢◌, ℕ, ◌≤◌, List, Option, Some, length}
+use Rattle.ks_output.specs.Laws.{TextsReadBack, GenerationReadsBack, HasNoFault, AlikeIsDefinedAlike}
+use Rattle.ks_output.proofs.ReadBack.{texts_read_back, generation_reads_back, has_no_fault}
+use Rattle.ks_output.proofs.Definitions.{alike_is_defined_alike}
+use Rattle.ks_tree.specs.Paths.{Place, CommandFile, path_of, IsLegalPlace, PathsNeverMeet, command_path}
+use Rattle.ks_tree.specs.Stamps.{HasNumber}
+use Rattle.ks_tree.proofs.Places.{paths_never_meet}
+use Rattle.ks_tree.proofs.StampLemmas.{number_unique, number_short}
+
+-- an auto.conf reads back: its texts, its generation, and no fault
+pub texts_back : TextsReadBack
+texts_back = texts_read_back
+
+pub generation_back : GenerationReadsBack
+generation_back = generation_reads_back
+
+pub no_fault : HasNoFault
+no_fault = has_no_fault
+
+-- entries that are alike are defined alike
+pub alike : AlikeIsDefinedAlike
+alike = alike_is_defined_alike
+
+-- no two files that the commands write stand at one path
+pub never_meet : PathsNeverMeet
+never_meet = paths_never_meet
+
+pub apart : (a b : Place) → IsLegalPlace a → IsLegalPlace b → (a ≡ b → ⊥) → path_of a ≢ path_of b
+apart a b legal_a legal_b differ = λ e. differ (never_meet a b legal_a legal_b e)
+
+pub command-injective : (o p : List ℕ) → command_path o ≡ command_path p → o ≡ p
+command-injective o p e = let same : CommandFile o ≡ CommandFile p = never_meet (CommandFile o) (CommandFile p) tt tt e in cc
+
+-- a stamp has one number, and then it is short
+pub one_number : (stamp : Option (List ℕ)) (m n : ℕ) → HasNumber stamp m → HasNumber stamp n → m ≡ n
+one_number = number_unique
+
+pub short_stamp : (s : List ℕ) (n : ℕ) → HasNumber (Some s) n → length s ≤ 21
+short_stamp = number_short

@@ -1,0 +1,7 @@
+pub mod Laws
+pub mod Heart
+pub mod Headers
+pub mod Reading
+pub mod Writes
+pub mod Steps
+pub mod Following

@@ -1,0 +1,9 @@
+pub mod History
+pub mod Staleness
+pub mod Legal
+pub mod Refusals
+pub mod Synchronised
+pub mod Asked
+pub mod Shows
+pub mod Views
+pub mod Follows

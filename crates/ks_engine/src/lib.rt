@@ -1,0 +1,11 @@
+//! Synchronising a tree, recording its objects, and the question which of them are stale.
+#![tactic(auto)]
+
+mod error;
+mod last_sync;
+mod staleness;
+mod synchronise;
+
+pub use error::EngineError;
+pub use staleness::{BuildState, Verdict};
+pub use synchronise::{Report, sync};

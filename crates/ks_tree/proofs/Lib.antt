@@ -2,3 +2,4 @@ pub mod PathLemmas
 pub mod Places
 pub mod StampLemmas
 pub mod Touching
+pub mod Stored

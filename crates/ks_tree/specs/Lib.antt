@@ -2,3 +2,6 @@ pub mod Files
 pub mod Faults
 pub mod Paths
 pub mod Stamps
+pub mod Memory
+pub mod Fuse
+pub mod Folder

@@ -2,12 +2,18 @@
 #![tactic(auto)]
 
 mod fault;
+mod folder;
+mod fuse;
+mod memory;
 mod paths;
 mod replacement;
 mod stamps;
 mod tree;
 
 pub use fault::{TreeError, TreeFault};
+pub use folder::FolderTree;
+pub use fuse::{FuseMode, FuseTree};
+pub use memory::{FilesIter, MemoryTree};
 pub use paths::{
     auto_path, auto_temporary, command_path, command_temporary, header_path, header_temporary,
     paths_never_meet, stamp_path, stamp_temporary,

@@ -1,0 +1,22 @@
+-- The files of a tree in memory, and how they are lent.
+use Rattle.std.specs.Prelude.{◌≡◌, ℕ, List, Option, Vec, cond, bytes_eq}
+use Rattle.std.specs.Coded.{Coded, coded_ℕ, coded_list}
+use Rattle.std.specs.Borrow.{Bor}
+use Rattle.std.specs.FinMap as map
+use Rattle.ks_symbols.specs.Configuration.{named}
+use Rattle.ks_tree.specs.Files.{Files}
+
+abbrev pub coded_files : Coded Files
+coded_files = map.code (coded_list coded_ℕ) (coded_list coded_ℕ)
+
+-- the files that a map from owned paths to owned bytes holds
+abbrev pub files_of : {Y Z : Type 0} → List (Vec ℕ Y × Vec ℕ Z) → Files
+files_of entries = named (λ bytes. bytes.items) entries
+
+-- a file as a finite map has it: its path and its bytes
+abbrev pub seen_file : {Y Z : Type 0} → Vec ℕ Y × Vec ℕ Z → List ℕ × List ℕ
+seen_file e = (e.0.items, e.1.items)
+
+-- a file as it is lent
+abbrev pub lent_file : Bor (List ℕ) × Bor (List ℕ) → List ℕ × List ℕ
+lent_file e = (e.0.now, e.1.now)

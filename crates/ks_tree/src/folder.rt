@@ -1,0 +1,257 @@
+//! A tree that is a folder of the system: what users meet. That a folder acts as an honest tree does is the premise under which
+//! the theorems are read for it; no clause calls this tree honest. What is proved is that every `Device` is counted.
+//!
+//! Only the system's "no such file" counts as a missing file. A folder, a file in the place of a folder, and every other
+//! failure are `Device`, since a build that takes an unreadable file for a missing one would call objects fresh.
+ghost use Rattle.std.specs.Prelude.{◌≡◌, ◌≤◌, ◌+◌, min, length, IfErr, IfOk, MatchOption, IsUtf8, string_bytes, IsErrOf};
+ghost use Rattle.std.specs.FinMap as map;
+ghost use Rattle.ks_tree.specs.Files.{HasRisen};
+ghost use Rattle.ks_tree.specs.Folder.{place_of};
+
+use crate::{Tree, TreeFault};
+use ks_symbols::MAX_BYTES;
+use std::alloc::Global;
+use std::fs::OpenFile;
+use std::io::{ErrorKind, Read, Seek, SeekFrom};
+use std::rt::Files;
+use std::{fs, io};
+
+/// A folder, by its path. A path that begins with `/` names that file itself, any other one below the folder.
+#[derive(Drop)]
+pub struct FolderTree<R: Files> {
+    files: R,
+    root: String,
+    failures: u64,
+    kept: Option<Kept<R::File>>,
+}
+
+/// The file of the last `read_at`, kept open so that a prerequisite costs one open however many pieces it has.
+#[derive(Drop)]
+struct Kept<F> {
+    path: Vec<u8>,
+    file: F,
+    position: u64,
+}
+
+/// Whether the error says that memory was refused, and not that the system failed.
+fn is_refused_memory(error: &io::Error) -> bool {
+    error.kind() == ErrorKind::OutOfMemory && error.raw_os_error().is_none()
+}
+
+/// The bytes of an open file, or `None` where there are too many. No more than one byte past the limit is read, so that a
+/// device without an end is refused as well.
+fn read_bytes<F: Read + OpenFile + Drop>(alloc: Global, file: F) -> io::Result<Option<Vec<u8>>> {
+    let limit = MAX_BYTES as u64;
+    let len = file.metadata()?.len();
+    if len > limit {
+        return Ok(None);
+    }
+    let mut bytes = Vec::with_capacity(alloc, len as usize + 1)?;
+    file.take(limit + 1).read_to_end(&mut bytes)?;
+    if bytes.len() > MAX_BYTES {
+        return Ok(None);
+    }
+    Ok(Some(bytes))
+}
+
+/// Reads until the room is full or the file has no more.
+fn fill<F: Read>(file: &mut F, into: &mut [u8]) -> io::Result<usize>
+    ensures { IfOk result (λ n. n ≤ length into.new) }
+{
+    let mut filled = 0;
+    for _ in 0..u64::MAX {
+        if filled == into.len() {
+            break;
+        }
+        match file.read(&mut into[filled..]) {
+            Ok(0) => break,
+            Ok(len) => filled += len,
+            Err(error) if error.kind() == ErrorKind::Interrupted => {}
+            Err(error) => return Err(error),
+        }
+    }
+    Ok(filled)
+}
+
+impl<F: Read + Seek> Kept<F> {
+    /// The bytes from an offset on, as many as there is room for. A piece behind the last one needs no seek.
+    fn read(&mut self, offset: u64, into: &mut [u8]) -> io::Result<usize>
+        ensures { IfOk result (λ n. n ≤ length into.new) }
+    {
+        if self.position != offset {
+            self.position = self.file.seek(SeekFrom::Start(offset))?;
+        }
+        let len = fill(&mut self.file, into)?;
+        self.position = self.position.saturating_add(len as u64);
+        Ok(len)
+    }
+}
+
+/// Writes the file. Its folders are made where they are missing.
+fn write_bytes<R: Files>(files: &R, place: &str, bytes: &[u8]) -> io::Result<()> {
+    match fs::write(files, place, bytes) {
+        Err(error) if error.kind() == ErrorKind::NotFound => {
+            if let Some((folder, _)) = place.rsplit_once('/') {
+                fs::create_dir_all(files, folder)?;
+            }
+            fs::write(files, place, bytes)
+        }
+        outcome => outcome,
+    }
+}
+
+impl<R: Files> FolderTree<R> {
+    /// The tree of a folder. An empty root is the current folder.
+    pub fn new(files: R, root: String) -> FolderTree<R> {
+        FolderTree {
+            files,
+            root,
+            failures: 0,
+            kept: None,
+        }
+    }
+
+    /// How often the system has failed, up to the greatest `u64`.
+    pub fn failures(&self) -> u64
+        ensures { result ≡ ⟦<FolderTree<R> as Tree>⟧.failures self.now }
+    {
+        self.failures
+    }
+
+    /// Counts a failure of the system.
+    fn device(&mut self) -> TreeFault
+        ensures device { result ≡ TreeFault.Device }
+        ensures later { self.old.failures ≤ self.new.failures }
+        ensures counted { self.new.failures ≡ min (self.old.failures + 1) 18446744073709551615 }
+    {
+        self.failures = self.failures.saturating_add(1);
+        TreeFault::Device
+    }
+
+    /// The fault that an error of the system makes.
+    fn fault(&mut self, error: &io::Error) -> TreeFault
+        ensures later { self.old.failures ≤ self.new.failures }
+        ensures cause { result ≡ TreeFault.Device → HasRisen self.old.failures self.new.failures }
+        ensures never { result ≡ TreeFault.TooLarge → ⊥ }
+    {
+        if is_refused_memory(error) {
+            TreeFault::OutOfMemory
+        } else {
+            self.device()
+        }
+    }
+
+    /// Where the path stands in the system, or `None` where it isn't text.
+    fn place(&self, alloc: Global, path: &[u8]) -> Result<Option<String>, TreeFault>
+        ensures place { IfOk result (λ found. MatchOption found (IsUtf8 path.now → ⊥)
+            (λ place. string_bytes place ≡ place_of (string_bytes self.now.root) path.now)) }
+        ensures refused { IfErr result (λ e. e ≡ TreeFault.OutOfMemory) }
+    {
+        let Ok(path) = str::from_utf8(path) else {
+            return Ok(None);
+        };
+        let root = self.root.as_str();
+        if path.starts_with('/') || root.is_empty() {
+            return Ok(Some(String::from_str(alloc, path)?));
+        }
+        Ok(Some(format!(in alloc; "{root}/{path}")?))
+    }
+
+    /// The open file at a path, or `None` where there is none.
+    fn open(&mut self, alloc: Global, path: &[u8]) -> Result<Option<R::File>, TreeFault>
+        ensures later { self.old.failures ≤ self.new.failures }
+        ensures cause { IsErrOf result TreeFault.Device → HasRisen self.old.failures self.new.failures }
+        ensures never { IsErrOf result TreeFault.TooLarge → ⊥ }
+    {
+        let Some(place) = self.place(alloc, path)? else {
+            return Err(self.device());
+        };
+        match fs::open(&self.files, place.as_str()) {
+            Ok(file) => Ok(Some(file)),
+            Err(error) if error.kind() == ErrorKind::NotFound => Ok(None),
+            Err(error) => Err(self.fault(&error)),
+        }
+    }
+
+    /// The kept file, where it is that of the path, or else the path's own, newly opened.
+    fn take_kept(&mut self, alloc: Global, path: &[u8]) -> Result<Option<Kept<R::File>>, TreeFault>
+        ensures later { self.old.failures ≤ self.new.failures }
+        ensures cause { IsErrOf result TreeFault.Device → HasRisen self.old.failures self.new.failures }
+        ensures never { IsErrOf result TreeFault.TooLarge → ⊥ }
+    {
+        if let Some(kept) = self.kept.take() {
+            if kept.path.as_slice() == path {
+                return Ok(Some(kept));
+            }
+        }
+        let Some(file) = self.open(alloc, path)? else {
+            return Ok(None);
+        };
+        Ok(Some(Kept {
+            path: path.to_vec(alloc)?,
+            file,
+            position: 0,
+        }))
+    }
+}
+
+impl<R: Files> Tree for FolderTree<R> {
+    ghost files = { λ t. map.empty };
+
+    ghost is_honest = { λ t. ⊥ };
+
+    ghost failures = { λ t. t.failures };
+
+    fn read(&mut self, alloc: Global, path: &[u8]) -> Result<Option<Vec<u8>>, TreeFault> {
+        let Some(file) = self.open(alloc, path)? else {
+            return Ok(None);
+        };
+        match read_bytes(alloc, file) {
+            Ok(Some(bytes)) => Ok(Some(bytes)),
+            Ok(None) => Err(TreeFault::TooLarge),
+            Err(error) => Err(self.fault(&error)),
+        }
+    }
+
+    fn read_at(
+        &mut self,
+        alloc: Global,
+        path: &[u8],
+        offset: u64,
+        into: &mut [u8],
+    ) -> Result<Option<usize>, TreeFault> {
+        let Some(mut kept) = self.take_kept(alloc, path)? else {
+            return Ok(None);
+        };
+        // After a failure the position isn't known, so the file is not kept.
+        match kept.read(offset, into) {
+            Ok(len) => {
+                self.kept = Some(kept);
+                Ok(Some(len))
+            }
+            Err(error) => Err(self.fault(&error)),
+        }
+    }
+
+    fn write(&mut self, alloc: Global, path: &[u8], bytes: &[u8]) -> Result<(), TreeFault> {
+        self.kept = None;
+        let Some(place) = self.place(alloc, path)? else {
+            return Err(self.device());
+        };
+        match write_bytes(&self.files, place.as_str(), bytes) {
+            Ok(()) => Ok(()),
+            Err(error) => Err(self.fault(&error)),
+        }
+    }
+
+    fn rename(&mut self, alloc: Global, from: &[u8], to: &[u8]) -> Result<(), TreeFault> {
+        self.kept = None;
+        let (Some(from), Some(to)) = (self.place(alloc, from)?, self.place(alloc, to)?) else {
+            return Err(self.device());
+        };
+        match fs::rename(&self.files, from.as_str(), to.as_str()) {
+            Ok(()) => Ok(()),
+            Err(error) => Err(self.fault(&error)),
+        }
+    }
+}

@@ -1,50 +1,82 @@
--- What a preview writes.
-use Rattle.std.specs.Prelude.{◌≡◌, ℕ, List, ◌++◌, codes, flat_map, Option, None, Result, Ok, Err, IsSome, ⊤}
-use Rattle.std.specs.List.{AllByRecursion}
+-- What a preview prints: which stamps a synchronisation would renew, and the auto.conf that it would write. The form is this project's.
+use Rattle.std.specs.Prelude.{◌≡◌, ◌+◌, ◌-◌, ◌^◌, ◌==◌, ◌++◌, ℕ, List, [], codes, flat_map, Option, Some, None, option_map, Result, Ok, Err, ⊤, if◌then◌else◌}
 use Rattle.std.specs.FinMap as map
 use Rattle.std.specs.Io.KnownBytes.{Appends}
 use Rattle.ks_symbols.specs.declared.kinds.Kind.{Kind}
 use Rattle.ks_symbols.specs.declared.error.SourceError.{SourceError}
+use Rattle.ks_symbols.specs.declared.error.SourceError.TheVariants as source
 use Rattle.ks_symbols.specs.Lines.{lines}
+use Rattle.ks_symbols.specs.Refusals.{or_else}
 use Rattle.ks_symbols.specs.Configuration.{NameMap}
 use Rattle.ks_symbols.specs.DotConfig.{setting, dotconfig_refusal}
-use Rattle.ks_symbols.specs.Refusals.{or_else, IsRefusal}
 use Rattle.ks_symbols.specs.Kconfig.{declared, title_of, kconfig_refusal}
-use Rattle.ks_output.specs.AutoConf.{auto_text}
-use Rattle.confstamp.specs.declared.PreviewError.{PreviewError}
-use Rattle.confstamp.specs.declared.PreviewError.TheVariants as failure
+use Rattle.ks_output.specs.declared.auto_conf.AutoError.{AutoError}
+use Rattle.ks_output.specs.declared.auto_conf.AutoError.TheVariants as auto
+use Rattle.ks_output.specs.AutoConf.{auto_text, auto_map, auto_generation, auto_refusal}
+use Rattle.ks_compare.specs.Changes.{AreChanges}
+use Rattle.confstamp.specs.declared.preview.PreviewError.{PreviewError}
+use Rattle.confstamp.specs.declared.preview.PreviewError.TheVariants as preview
 
--- The settings of a Kconfig text and a `.config` text: one map, since maps that answer alike are equal.
+-- the settings of a Kconfig and a `.config`: one map, since configurations that agree are one
 abbrev pub AreSettings : List ℕ → List ℕ → NameMap (Kind × List ℕ) → Type 0
 AreSettings kconfig dotconfig settings = (x : List ℕ) → map.get settings x ≡ setting (declared kconfig) (lines dotconfig) x
 
--- why the two texts are refused
+-- what an old auto.conf holds; none is the empty one of generation 0
+abbrev pub old_texts : Option (List ℕ) → NameMap (List ℕ)
+old_texts None = map.empty
+old_texts (Some text) = auto_map text
+
+abbrev pub old_generation : Option (List ℕ) → ℕ
+old_generation None = 0
+old_generation (Some text) = auto_generation text
+
+-- a line `touch NAME` for each name
+abbrev pub touch_lines : List (List ℕ) → List ℕ
+touch_lines names = flat_map (λ name. codes "touch " ++ name ++ codes "\n") names
+
+-- a preview: the names that differ from the old auto.conf, and the auto.conf of the generation after it
+pub record IsPreview (kconfig dotconfig : List ℕ) (old : Option (List ℕ)) (text : List ℕ) : Type 0 where
+  pub settings : NameMap (Kind × List ℕ)
+  pub names : List (List ℕ)
+  pub are_settings : AreSettings kconfig dotconfig settings
+  pub are_changes : AreChanges (old_texts old) settings names
+  pub whole : text ≡ touch_lines names ++ auto_text (title_of kconfig) settings (old_generation old + 1)
+
+-- a writer's known bytes grow by a preview
+pub record Previews (kconfig dotconfig : List ℕ) (old before after : Option (List ℕ)) : Type 0 where
+  pub text : List ℕ
+  pub is_preview : IsPreview kconfig dotconfig old text
+  pub appended : Appends before after text
+
+-- Why there is none: first the two texts, then the old auto.conf, then its generation, which has none after it.
 abbrev pub source_refusal : List ℕ → List ℕ → Option SourceError
 source_refusal kconfig dotconfig = or_else (kconfig_refusal kconfig) (dotconfig_refusal (declared kconfig) dotconfig)
 
-abbrev pub touch_line : List ℕ → List ℕ
-touch_line name = codes "touch " ++ name ++ codes "\n"
+abbrev pub old_refusal : Option (List ℕ) → Option AutoError
+old_refusal None = None
+old_refusal (Some text) = auto_refusal text
 
-abbrev pub preview_text : List (List ℕ) → List ℕ → NameMap (Kind × List ℕ) → ℕ → List ℕ
-preview_text names title settings g = flat_map touch_line names ++ auto_text title settings g
+abbrev pub full_refusal : ℕ → Option PreviewError
+full_refusal generation = if generation == 2 ^ 64 - 1 then Some preview.GenerationFull else None
 
--- A name has a text in the settings, and none in the empty map.
-abbrev pub DiffersFromNothing : NameMap (Kind × List ℕ) → List ℕ → Type 0
-DiffersFromNothing settings name = IsSome (map.get settings name)
+unfoldable pub preview_refusal : List ℕ → List ℕ → Option (List ℕ) → Option PreviewError
+preview_refusal kconfig dotconfig old =
+    or_else (option_map preview.Source (source_refusal kconfig dotconfig))
+    (or_else (option_map preview.Auto (old_refusal old)) (full_refusal (old_generation old)))
 
--- A writer's known bytes grow by a preview of the two texts.
-abbrev pub Previews : List ℕ → List ℕ → Option (List ℕ) → Option (List ℕ) → Type 0
-Previews kconfig dotconfig old new =
-    (settings : NameMap (Kind × List ℕ)) × (names : List (List ℕ)) × AreSettings kconfig dotconfig settings
-    × AllByRecursion (DiffersFromNothing settings) names × Appends old new (preview_text names (title_of kconfig) settings 1)
+-- An error is the refusal that the definitions have, or want of memory, or a failing output of what is not refused.
+abbrev pub IsPreviewRefusal : PreviewError → Option PreviewError → Type 0
+IsPreviewRefusal preview.Output refusal = refusal ≡ None
+IsPreviewRefusal preview.OutOfMemory refusal = ⊤
+IsPreviewRefusal (preview.Source source.OutOfMemory) refusal = ⊤
+IsPreviewRefusal (preview.Auto auto.OutOfMemory) refusal = ⊤
+IsPreviewRefusal e refusal = refusal ≡ Some e
 
--- A preview's result against the refusal that the definitions have: want of memory and a failing output aside, it refuses exactly then, and so.
-abbrev pub PreviewRefusedBy : {X : Type 0} → Result X PreviewError → Option SourceError → Type 0
+abbrev pub PreviewRefusedBy : {X : Type 0} → Result X PreviewError → Option PreviewError → Type 0
 PreviewRefusedBy (Ok x) refusal = refusal ≡ None
-PreviewRefusedBy (Err (failure.Source e)) refusal = IsRefusal e refusal
-PreviewRefusedBy (Err failure.Output) refusal = refusal ≡ None
+PreviewRefusedBy (Err e) refusal = IsPreviewRefusal e refusal
 
--- a refusal of the texts leaves the writer's known bytes
+-- all but a failing output leaves the writer's known bytes
 abbrev pub WritesNothing : PreviewError → Option (List ℕ) → Option (List ℕ) → Type 0
-WritesNothing (failure.Source e) old new = new ≡ old
-WritesNothing failure.Output old new = ⊤
+WritesNothing preview.Output before after = ⊤
+WritesNothing e before after = after ≡ before

@@ -1,5 +1,5 @@
 -- The names that differ between two lists of entries, each in rising order, by one pass over both.
-use Rattle.std.proofs.Common.{◌≡◌, ℕ, Bool, true, false, cond, not, ◌&&◌, ◌||◌, T, suc, length, IsTrue, List, [], ◌∷◌, bytes_eq, Option, Some, None, option_map, refl, sym, ap, subst, ◌∙◌}
+use Rattle.std.proofs.Common.{◌≡◌, ℕ, Bool, true, false, cond, not, ◌&&◌, ◌||◌, T, suc, length, IsTrue, List, [], ◌∷◌, bytes_eq, Option, Some, None, option_map, map as map_list, refl, sym, ap, subst, ◌∙◌}
 use Rattle.std.proofs.lemmas.Bool.{cases_Bool, cond-true, cond-false, false≢true}
 use mathlib.Core.Logic.{inl, inr}
 use Rattle.std.specs.Ordering.{is_lt, is_eq, ordering_reverse}
@@ -17,7 +17,7 @@ use Rattle.ks_symbols.specs.declared.kinds.Kind.{Kind}
 use Rattle.ks_symbols.specs.Configuration.{NameMap, IsConfiguration}
 use Rattle.ks_output.proofs.Entries.{order, first, second, find_below, tied}
 use Rattle.ks_symbols.specs.Names.{is_name, is_symbol_name}
-use Rattle.ks_output.specs.Models.{HasNames}
+use Rattle.ks_output.specs.OldConfig.{HasNames}
 use Rattle.ks_output.proofs.WrittenLines.{and_parts}
 use Rattle.ks_compare.specs.Pass.{Step, Ends, Old, New, Both, step, by_order, with_first}
 use Rattle.ks_compare.specs.Changes.{compared, unlike, differ, is_in, AreChanges}
@@ -37,9 +37,8 @@ merged_first : List ℕ × List ℕ → (NewList → List (List ℕ)) → NewLis
 merged_first e rest [] = e.0 ∷ rest []
 merged_first e rest (y ∷ ys) = turn (order e.0 y.0) e y (rest (y ∷ ys)) (rest ys) (merged_first e rest ys)
 
-keys : NewList → List (List ℕ)
-keys [] = []
-keys (y ∷ ys) = y.0 ∷ keys ys
+abbrev keys : NewList → List (List ℕ)
+keys ys = map_list (λ y. y.0) ys
 
 pub merged : OldList → NewList → List (List ℕ)
 merged [] ys = keys ys
@@ -51,11 +50,11 @@ unfolding merged merged_first
 merged-old e xs = refl
 
 pub merged-new : (y : List ℕ × (Kind × List ℕ)) (ys : NewList) → merged [] (y ∷ ys) ≡ y.0 ∷ merged [] ys
-unfolding merged keys
+unfolding merged
 merged-new y ys = refl
 
 pub merged-none : merged [] [] ≡ []
-unfolding merged keys
+unfolding merged
 merged-none = refl
 
 pub merged-both : (e : List ℕ × List ℕ) (y : List ℕ × (Kind × List ℕ)) (xs : OldList) (ys : NewList)
@@ -77,7 +76,7 @@ unfolding turn
 merged-equal e y xs ys is = merged-both e y xs ys ∙ ap (λ o. turn o e y (merged xs (y ∷ ys)) (merged xs ys) (merged (e ∷ xs) ys)) is
 
 -- what the names are
-abbrev Above : List ℕ → List (List ℕ) → Type 0
+abbrev pub Above : List ℕ → List (List ℕ) → Type 0
 Above z names = AllByRecursion (λ n. order z n ≡ Less) names
 
 record Good (xs : OldList) (ys : NewList) (names : List (List ℕ)) : Type 0 where
@@ -103,7 +102,7 @@ below_more z k [] p h = tt
 below_more z k (e ∷ es) p h =
     two _ _ (is_less _ (nat_list_cmp_total.trans z k e.0 p (less _ (first _ _ h)))) (below_more z k es p (second _ _ h))
 
-here_test : (x k : List ℕ) → is_eq (order x k) ≡ bytes_eq x k
+pub here_test : (x k : List ℕ) → is_eq (order x k) ≡ bytes_eq x k
 here_test x k = is_eq-slice_cmp x k
 
 -- one more name that the old entries have alone
@@ -191,7 +190,7 @@ good_new : (ys : NewList) → T (is_sorted order ys) → Good [] ys (merged [] y
 good_new [] h = subst (Good [] []) (sym merged-none) nothing
 good_new (y ∷ ys) h = subst (Good [] (y ∷ ys)) (sym (merged-new y ys)) (cons_new y [] ys (merged [] ys) tt (first _ _ h) (good_new ys (second _ _ h)))
 
-turned : (x y : List ℕ) → order x y ≡ Greater → order y x ≡ Less
+pub turned : (x y : List ℕ) → order x y ≡ Greater → order y x ≡ Less
 turned x y e = nat_list_cmp_total.antisymm y x ∙ ap ordering_reverse e
 
 good_step : (e : List ℕ × List ℕ) (y : List ℕ × (Kind × List ℕ)) (xs : OldList) (ys : NewList) (o : Ordering) → order e.0 y.0 ≡ o → T (is_sorted order (e ∷ xs)) → T (is_sorted order (y ∷ ys))
@@ -226,6 +225,17 @@ merged_changes old new =
     record {
       rising = all.rising;
       each = λ x. all.each x ∙ ap (λ o. differ o (option_map compared (find order x (map.entries new)))) (sym (map.get-entries old x)) ∙ ap (λ o. differ (map.get old x) (option_map compared o)) (sym (map.get-entries new x));
+    }
+
+-- against no texts each name changes
+pub first_names : (new : NameMap (Kind × List ℕ)) → AreChanges map.empty new (map_list (λ e. e.0) (map.entries new))
+unfolding merged
+first_names new =
+    let all = good_new (map.entries new) (map.entries_sorted new) in
+    let none : NameMap (List ℕ) = map.empty in
+    record {
+      rising = all.rising;
+      each = λ x. all.each x ∙ ap (λ o. differ o (option_map compared (find order x (map.entries new)))) (sym (map.get-empty order x)) ∙ ap (λ o. differ (map.get none x) (option_map compared o)) (sym (map.get-entries new x));
     }
 
 -- what the pass does at a step
@@ -294,12 +304,12 @@ each_in P (n ∷ names) f = (
   each_in P names (λ x e. f x (ap (λ b. bytes_eq x n || b) e ∙ or_true (bytes_eq x n))),
 )
 
-legal_differ : (o : Option (List ℕ)) (s : Option (Kind × List ℕ)) (P : Type 0) → ((t : List ℕ) → o ≡ Some t → P) → ((t : Kind × List ℕ) → s ≡ Some t → P) → differ o (option_map compared s) ≡ true → P
+pub legal_differ : (o : Option (List ℕ)) (s : Option (Kind × List ℕ)) (P : Type 0) → ((t : List ℕ) → o ≡ Some t → P) → ((t : Kind × List ℕ) → s ≡ Some t → P) → differ o (option_map compared s) ≡ true → P
 legal_differ None None P f g e = absurd (false≢true e)
 legal_differ (Some t) s P f g e = f t refl
 legal_differ None (Some t) P f g e = g t refl
 
-name_of_symbol : (x : List ℕ) → IsTrue (is_symbol_name x) → IsTrue (is_name x)
+pub name_of_symbol : (x : List ℕ) → IsTrue (is_symbol_name x) → IsTrue (is_name x)
 unfolding is_symbol_name
 name_of_symbol x h = (and_parts _ _ h).0
 

@@ -1,8 +1,9 @@
 -- The lines of the header that define a name.
-use Rattle.std.proofs.Common.{◌≡◌, ℕ, ◌-◌, ◌⊎◌, Bool, true, false, cond, not, ◌&&◌, T, nat_eq, List, [], ◌∷◌, ◌++◌, length, length-append, take, drop, codes, bytes_eq, flat_map, map as map_list, Option, Some, None, refl, sym, ap, ◌∙◌, append_assoc, arith, inl, inr}
+use Rattle.std.proofs.Common.{◌≡◌, ℕ, ◌-◌, ◌⊎◌, Bool, true, false, cond, not, ◌&&◌, T, nat_eq, List, [], ◌∷◌, ◌++◌, length, length-append, take, drop, codes, bytes_eq, flat_map, map as map_list, take_while, option_map, Option, Some, None, refl, sym, ap, subst, ◌∙◌, append_assoc, arith, inl, inr}
 use Rattle.std.specs.List.{list_all, starts_with, ends_with, filter}
 use Rattle.std.specs.Ordering.{is_eq}
-use Rattle.std.specs.Cmp.Lexicographic.{nat_list_eq_equiv}
+use Rattle.std.specs.Cmp.Lexicographic.{nat_list_eq_equiv, bytes_decides}
+use Rattle.std.proofs.lemmas.List.Sums.{take_while-cons}
 use Rattle.std.specs.FinMap as map
 use Rattle.std.specs.FinMap.{find, is_sorted}
 use Rattle.std.proofs.lemmas.Bool.{cases_Bool, cond-true, cond-false, false≢true}
@@ -18,18 +19,19 @@ use Rattle.ks_symbols.specs.Values.{is_escaped, escape, quoted}
 use Rattle.ks_symbols.specs.Titles.{is_title}
 use Rattle.ks_symbols.specs.Configuration.{IsEntry}
 use Rattle.ks_symbols.proofs.Spellings.{run_is, word_bytes}
-use Rattle.ks_output.specs.AutoConf.{lf}
-use Rattle.ks_output.specs.Header.{header_heading, has_radix, switch_value, defined_as, definition_lines, header_text, without_lf, lf_lines, defines, definitions}
-use Rattle.ks_output.specs.Laws.{definition_of, DefinitionsAreOfEntries, AreAlike, AlikeIsDefinedAlike}
+use Rattle.ks_output.specs.Header.{header_heading, has_radix, switch_value, defined_as, definition_lines, header_text}
+use Rattle.ks_output.specs.Definitions.{without_lf, lf_lines, Defines, defines, definitions}
+use Rattle.ks_output.specs.Laws.{definition_of, DefinitionsAreLines, DefinitionsAreOfEntries, AlikeIsDefinedAlike}
 use Rattle.ks_output.proofs.Entries.{order, find_below, tied, AllEntries, all_entries, first, second}
-use Rattle.ks_output.proofs.WrittenLines.{is_plain, and_parts, plain-append, plain_name, plain_title, plain_text, lines-plain, ends_with-plain, take_front, drop_front}
+use Rattle.ks_output.proofs.Texts.{texts_are_of_entries}
+use Rattle.ks_output.proofs.WrittenLines.{is_plain, and_parts, plain-append, plain_name, plain_title, plain_text, lines-plain, ends_with-plain, take_front, drop_front, opened}
 
 -- lines
 without_lf-plain : (l : List ℕ) → without_lf (l ++ 10 ∷ []) ≡ l
 without_lf-plain l =
     let bs = l ++ 10 ∷ [] in
     let place : length bs - 1 ≡ length l = omega (arith, length-append l (10 ∷ [])) in
-    cond-true (ends_with nat_eq bs lf) (take (length bs - 1) bs) bs (ends_with-plain l) ∙ ap (λ (k : ℕ). take k bs) place ∙ take_front l (10 ∷ [])
+    cond-true (ends_with nat_eq bs (10 ∷ [])) (take (length bs - 1) bs) bs (ends_with-plain l) ∙ ap (λ (k : ℕ). take k bs) place ∙ take_front l (10 ∷ [])
 
 next : (l rest : List ℕ) → is_plain l ≡ true → lf_lines (l ++ 10 ∷ rest) ≡ l ∷ lf_lines rest
 unfolding lf_lines
@@ -192,7 +194,7 @@ definitions_are_of_entries title settings t h x =
     ∙ found es x (map.entries_sorted settings) each
     ∙ ap (definition_of x) (sym (map.get-entries settings x))
 
--- what is alike is defined alike
+-- entries of one class and text are defined alike
 same_class : (j k : Kind) (text : List ℕ) → class_of j ≡ class_of k → defined_as j text ≡ defined_as k text
 same_class kind.Bool kind.Bool text e = refl
 same_class kind.Bool kind.Tristate text e = refl
@@ -203,13 +205,54 @@ same_class kind.Int kind.Int text e = refl
 same_class kind.Hex kind.Hex text e = refl
 same_class j k text e = absurd (cc e)
 
-alike : (x : List ℕ) (a b : Option (Kind × List ℕ)) → AreAlike a b → definition_of x a ≡ definition_of x b
-alike x None None h = refl
-alike x (Some s) (Some t) h =
-    ap (λ (d : List ℕ). (codes "#define CONFIG_" ++ x ++ d) ∷ []) (same_class s.0 t.0 s.1 h.0 ∙ ap (defined_as t.0) h.1)
-alike x None (Some t) h = absurd h
-alike x (Some s) None h = absurd h
+alike : (x : List ℕ) (a b : Option (Kind × List ℕ)) → option_map (λ s. s.1) a ≡ option_map (λ s. s.1) b
+    → ((s t : Kind × List ℕ) → a ≡ Some s → b ≡ Some t → class_of s.0 ≡ class_of t.0) → definition_of x a ≡ definition_of x b
+alike x None None same one = refl
+alike x (Some s) (Some t) same one =
+    let text : s.1 ≡ t.1 = cc in
+    ap (λ (d : List ℕ). (codes "#define CONFIG_" ++ x ++ d) ∷ []) (same_class s.0 t.0 s.1 (one s t refl refl) ∙ ap (defined_as t.0) text)
+alike x None (Some t) same one = absurd (cc same)
+alike x (Some s) None same one = absurd (cc same)
 
 pub alike_is_defined_alike : AlikeIsDefinedAlike
-alike_is_defined_alike first second old new s t g h x e =
-    definitions_are_of_entries first old s g x ∙ alike x (map.get old x) (map.get new x) e ∙ sym (definitions_are_of_entries second new t h x)
+alike_is_defined_alike title later old new s t g h x same one =
+    definitions_are_of_entries title old s g x
+    ∙ alike x (map.get old x) (map.get new x) (sym (texts_are_of_entries old x) ∙ same ∙ texts_are_of_entries new x) one
+    ∙ sym (definitions_are_of_entries later new t h x)
+
+-- a line that the test takes is spelled as a definition
+run_split : (xs : List ℕ) → (list_all is_word_byte (take_while is_word_byte xs) ≡ true) × (xs ≡ take_while is_word_byte xs ++ drop (length (take_while is_word_byte xs)) xs)
+run_split [] = (refl, refl)
+run_split (b ∷ xs) =
+    let again = run_split xs in
+    let Split = λ (l : List ℕ). (list_all is_word_byte l ≡ true) × (b ∷ xs ≡ l ++ drop (length l) (b ∷ xs)) in
+    elim (cases_Bool (is_word_byte b)) [
+      | inl word ↦ subst Split (sym (take_while-cons is_word_byte b xs ∙ cond-true (is_word_byte b) _ _ word)) (ap (λ x. x && list_all is_word_byte (take_while is_word_byte xs)) word ∙ again.0, ap (λ (l : List ℕ). b ∷ l) again.1)
+      | inr ne ↦ subst Split (sym (take_while-cons is_word_byte b xs ∙ cond-false (is_word_byte b) _ _ ne)) (refl, refl)
+    ]
+
+-- equal texts pass the test
+eq-bytes_eq : (xs ys : List ℕ) → xs ≡ ys → bytes_eq xs ys ≡ true
+eq-bytes_eq xs ys e = (bytes_decides xs ys).1 e
+
+found_line : (name line : List ℕ) → defines name line ≡ true → Defines name line
+found_line name line e =
+    let rest = drop 15 line in
+    let run = take_while is_word_byte rest in
+    let behind = drop (length run) rest in
+    let parts = and_parts (starts_with nat_eq line (codes "#define CONFIG_") && starts_with nat_eq behind (codes " ")) (bytes_eq (less run) name) e in
+    let begins = and_parts (starts_with nat_eq line (codes "#define CONFIG_")) (starts_with nat_eq behind (codes " ")) parts.0 in
+    let split = run_split rest in
+    record {
+      run = run;
+      value = drop 1 behind;
+      word = split.0;
+      spelled = opened line (codes "#define CONFIG_") begins.0 ∙ ap (λ (l : List ℕ). codes "#define CONFIG_" ++ l) (split.1 ∙ ap (λ (l : List ℕ). run ++ l) (opened behind (codes " ") begins.1) ∙ sym (append_assoc run (codes " ") (drop 1 behind)));
+      named = (bytes_decides (less run) name).0 parts.1;
+    }
+
+pub definitions_are_lines : DefinitionsAreLines
+definitions_are_lines name line = (
+  found_line name line,
+  λ w. ap (defines name) w.spelled ∙ ap (λ (l : List ℕ). defines name (codes "#define CONFIG_" ++ l)) (append_assoc w.run (codes " ") w.value) ∙ run_defines name w.run w.value w.word ∙ eq-bytes_eq (less w.run) name w.named,
+)

@@ -9,7 +9,8 @@ use Rattle.std.proofs.lemmas.List.Elements.{filter_map-append}
 use Rattle.ks_symbols.specs.Lines.{max_bytes}
 use Rattle.ks_symbols.specs.Configuration.{NameMap}
 use Rattle.ks_output.specs.declared.auto_conf.AutoError.TheVariants as fault
-use Rattle.ks_output.specs.AutoConf.{Remark, Gives, Numbers, Silent, Faulty, remarks, given, number, texts_given, auto_map, auto_generation, first_faulty, auto_fault, auto_refusal}
+use Rattle.ks_output.specs.AutoLines.{Remark, Gives, Numbers, Silent, Faulty, remarks}
+use Rattle.ks_output.specs.AutoConf.{given, number, texts_given, auto_map, auto_generation, first_faulty, auto_fault, auto_refusal}
 
 -- entries that are put over a map, the first last
 pub put_all : NameMap (List ℕ) → List (List ℕ × List ℕ) → NameMap (List ℕ)

@@ -12,8 +12,9 @@ use Rattle.ks_symbols.specs.Decimal.{decimal_value}
 use Rattle.ks_symbols.specs.Statements.{Statement, Assigns, Unsets, statement, is_silent}
 use Rattle.ks_symbols.specs.Configuration.{NameMap}
 use Rattle.ks_symbols.proofs.Spellings.{statements_are_spelled}
-use Rattle.ks_output.specs.AutoConf.{lf, generation_mark, Remark, Gives, Numbers, Silent, Faulty, numbered, assigned, remark, auto_map}
-use Rattle.ks_output.specs.Models.{HasNames}
+use Rattle.ks_output.specs.AutoLines.{generation_mark, Remark, Gives, Numbers, Silent, Faulty, numbered, assigned, remark}
+use Rattle.ks_output.specs.AutoConf.{auto_map}
+use Rattle.ks_output.specs.OldConfig.{HasNames}
 use Rattle.ks_output.proofs.Entries.{order, tied}
 use Rattle.ks_output.proofs.LastRemark.{texts_after, texts_after-gives, texts_after-numbers, texts_after-silent, texts_after-faulty, texts_after-nil, texts_after-empty}
 
@@ -42,8 +43,8 @@ legal_remark : (line : List ℕ) → Legal (remark line)
 unfolding remark Legal
 legal_remark line =
     let bare = without_terminator line in
-    either (starts_with nat_eq bare generation_mark) (numbered (ends_with nat_eq line lf) (decimal_value (drop 12 bare))) (cond (is_silent bare) Silent (assigned (statement bare)))
-    (legal_number (ends_with nat_eq line lf) (decimal_value (drop 12 bare)))
+    either (starts_with nat_eq bare generation_mark) (numbered (ends_with nat_eq line (10 ∷ [])) (decimal_value (drop 12 bare))) (cond (is_silent bare) Silent (assigned (statement bare)))
+    (legal_number (ends_with nat_eq line (10 ∷ [])) (decimal_value (drop 12 bare)))
     (either (is_silent bare) Silent (assigned (statement bare)) tt (legal_assigned bare (statement bare) refl))
 
 some_is : (t u : List ℕ) → Some t ≡ Some u → t ≡ u

@@ -4,4 +4,5 @@ pub mod LastRemark
 pub mod LegalNames
 pub mod Pieces
 pub mod ReadBack
+pub mod Texts
 pub mod WrittenLines

@@ -5,7 +5,7 @@ use mathlib.Core.Logic.{inl, inr}
 use Rattle.std.specs.Ordering.{is_eq}
 use Rattle.std.specs.Cmp.Lexicographic.{nat_list_cmp_total}
 use Rattle.std.specs.FinMap as map
-use Rattle.std.specs.FinMap.{find, is_sorted}
+use Rattle.std.specs.FinMap.{find, is_sorted, slice_cmp-IsAntisymmetric, nat_cmp-IsAntisymmetric}
 use Rattle.std.proofs.lemmas.Bool.{cases_Bool, cond-true, cond-false, ne_eqb}
 use Rattle.std.proofs.lemmas.Fmt.{digits_decimal}
 use Rattle.bstr.proofs.lemmas.LineLemmas.{lines-nil}
@@ -17,10 +17,15 @@ use Rattle.ks_symbols.specs.Titles.{is_title}
 use Rattle.ks_symbols.specs.Configuration.{IsConfiguration, IsEntry, NameMap}
 use Rattle.ks_symbols.proofs.Digits.{own, reads_back}
 use Rattle.ks_symbols.proofs.Spellings.{statements_are_spelled}
-use Rattle.ks_output.specs.AutoConf.{lf, heading, entry_line, entry_lines, generation_line, generation_mark, auto_text, Remark, Gives, Numbers, Silent, numbered, assigned, remark, remarks, auto_fault, first_faulty}
-use Rattle.ks_output.specs.Laws.{TextsReadBack, GenerationReadsBack, HasNoFault}
+use Rattle.ks_output.specs.AutoText.{heading, entry_line, entry_lines, generation_line, auto_text}
+use Rattle.ks_output.specs.AutoLines.{generation_mark, Remark, Gives, Numbers, Silent, numbered, assigned, remark, remarks}
+use Rattle.ks_output.specs.AutoConf.{auto_map, auto_fault, first_faulty, auto_refusal}
+use Rattle.ks_output.specs.declared.auto_conf.AutoError.TheVariants as fault
+use Rattle.ks_output.specs.OldConfig.{texts_of}
+use Rattle.ks_output.specs.Laws.{TextsReadBack, GenerationReadsBack, HasNoFault, IsAccepted}
 use Rattle.ks_output.proofs.Entries.{order, find_below, tied, AllEntries, all_entries, first, second}
-use Rattle.ks_output.proofs.LastRemark.{texts_after, texts_after-gives, texts_after-numbers, texts_after-silent, texts_after-nil, texts_after-empty, number_after, number_after-gives, number_after-numbers, number_after-silent, number_after-nil, number_after-zero, faulty-nil, faulty-gives, faulty-numbers, faulty-silent}
+use Rattle.ks_output.proofs.LastRemark.{texts_after, texts_after-gives, texts_after-numbers, texts_after-silent, texts_after-nil, texts_after-empty, number_after, number_after-gives, number_after-numbers, number_after-silent, number_after-nil, number_after-zero, faulty-nil, faulty-gives, faulty-numbers, faulty-silent, not_large}
+use Rattle.ks_output.proofs.Texts.{texts_are_of_entries}
 use Rattle.ks_output.proofs.WrittenLines.{is_plain, and_parts, plain-append, plain_name, plain_digits, plain_title, plain_text, lines-plain, without_terminator-plain, ends_with-plain}
 
 -- what a line says that holds no end of a line but its own
@@ -29,10 +34,10 @@ said_by l =
     if starts_with nat_eq l generation_mark then numbered true (decimal_value (drop 12 l))
     else (if is_silent l then Silent else assigned (statement l))
 
-remark-plain : (l : List ℕ) → is_plain l ≡ true → remark (l ++ lf) ≡ said_by l
+remark-plain : (l : List ℕ) → is_plain l ≡ true → remark (l ++ 10 ∷ []) ≡ said_by l
 unfolding remark said_by
 remark-plain l h =
-    ap (λ (bare : List ℕ). if starts_with nat_eq bare generation_mark then numbered (ends_with nat_eq (l ++ lf) lf) (decimal_value (drop 12 bare))
+    ap (λ (bare : List ℕ). if starts_with nat_eq bare generation_mark then numbered (ends_with nat_eq (l ++ 10 ∷ []) (10 ∷ [])) (decimal_value (drop 12 bare))
     else (if is_silent bare then Silent else assigned (statement bare))) (without_terminator-plain l h)
     ∙ ap (λ b. if starts_with nat_eq l generation_mark then numbered b (decimal_value (drop 12 l))
     else (if is_silent l then Silent else assigned (statement l))) (ends_with-plain l)
@@ -86,7 +91,7 @@ plain_entry name text p q =
 entry_remark : (name text rest : List ℕ) → is_name name ≡ true → is_plain text ≡ true → remarks (entry_line name text ++ rest) ≡ Gives name text ∷ remarks rest
 entry_remark name text rest h p =
     let line = codes "CONFIG_" ++ name ++ codes "=" ++ text in
-    ap remarks (append_assoc line lf rest) ∙ next line rest (Gives name text) (plain_entry name text (plain_name name h) p) (said_by_entry name text h)
+    ap remarks (append_assoc line (10 ∷ []) rest) ∙ next line rest (Gives name text) (plain_entry name text (plain_name name h) p) (said_by_entry name text h)
 
 abbrev Written : List ℕ → Kind × List ℕ → Type 0
 Written name s = (is_name name ≡ true) × (is_plain s.1 ≡ true)
@@ -184,8 +189,9 @@ unfolding after
 after-none None = refl
 after-none (Some s) = refl
 
-pub texts_read_back : TextsReadBack
-texts_read_back title settings g t h small x =
+texts_at : (title : List ℕ) (settings : NameMap (Kind × List ℕ)) (g : ℕ) → is_title title ≡ true → IsConfiguration settings → g < 2 ^ 64
+    → (x : List ℕ) → map.get (auto_map (auto_text title settings g)) x ≡ option_map (λ s. s.1) (map.get settings x)
+texts_at title settings g t h small x =
     let es = map.entries settings in
     let said = gives_all es ++ Numbers g ∷ [] in
     ap (λ m. map.get m x) (sym (texts_after-empty (auto_text title settings g))
@@ -195,3 +201,14 @@ texts_read_back title settings g t h small x =
     ∙ ap (λ o. after o (find order x es)) (map.get-empty order x)
     ∙ after-none (find order x es)
     ∙ ap (option_map (λ s. s.1)) (sym (map.get-entries settings x))
+
+pub texts_read_back : TextsReadBack
+texts_read_back title settings g t h small =
+    map.same_map nat_list_cmp_total (slice_cmp-IsAntisymmetric nat_cmp-IsAntisymmetric) (auto_map (auto_text title settings g)) (texts_of settings)
+    (λ x. texts_at title settings g t h small x ∙ sym (texts_are_of_entries settings x))
+
+-- and the text is not refused
+pub is_accepted : IsAccepted
+unfolding auto_fault
+is_accepted title settings g t h small few =
+    not_large (auto_text title settings g) few ∙ ap (option_map fault.BadAuto) (has_no_fault title settings g t h small)

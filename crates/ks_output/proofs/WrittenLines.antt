@@ -139,7 +139,7 @@ plain_title title e = plain_from is_title_byte refl refl refl title (and_parts _
 literal : (text said : List ℕ) → is_plain said ≡ true → bytes_eq text said ≡ true → is_plain text ≡ true
 literal text said h e = ap is_plain ((bytes_decides text said).0 e) ∙ h
 
-opened : (xs needle : List ℕ) → starts_with nat_eq xs needle ≡ true → xs ≡ needle ++ drop (length needle) xs
+pub opened : (xs needle : List ℕ) → starts_with nat_eq xs needle ≡ true → xs ≡ needle ++ drop (length needle) xs
 opened xs needle e =
     sym (take-append-drop (length needle) xs) ∙ ap (λ (l : List ℕ). l ++ drop (length needle) xs) (sym ((bytes_decides needle (take (length needle) xs)).0 e))
 

@@ -1,31 +1,48 @@
--- Laws: what is written of a configuration reads back.
-use Rattle.std.specs.Prelude.{◌≡◌, ◌<◌, ◌^◌, ℕ, List, [], ◌∷◌, ◌++◌, codes, Option, Some, None, IsTrue, option_map, ⊤}
+-- Laws of the definitions: an auto.conf reads back as what was written, and the header defines a name by its entry alone.
+use Rattle.std.specs.Prelude.{◌≡◌, ◌≤◌, ◌<◌, ◌^◌, ◌↔◌, ℕ, true, List, [], ◌∷◌, ◌++◌, codes, length, Option, Some, None, IsTrue, option_map}
 use Rattle.std.specs.FinMap as map
 use Rattle.ks_symbols.specs.declared.kinds.Kind.{Kind}
 use Rattle.ks_symbols.specs.Kinds.{class_of}
+use Rattle.ks_symbols.specs.Lines.{max_bytes}
 use Rattle.ks_symbols.specs.Titles.{is_title}
 use Rattle.ks_symbols.specs.Configuration.{IsConfiguration, NameMap}
-use Rattle.ks_symbols.specs.declared.kinds.Kind.TheVariants as kind
-use Rattle.ks_output.specs.Header.{header_text, defined_as, definitions}
-use Rattle.ks_output.specs.AutoConf.{auto_text, auto_map, auto_generation, auto_fault}
+use Rattle.ks_output.specs.AutoText.{auto_text}
+use Rattle.ks_output.specs.AutoConf.{auto_map, auto_generation, auto_fault, auto_refusal}
+use Rattle.ks_output.specs.OldConfig.{HasNames, texts_of}
+use Rattle.ks_output.specs.Header.{header_text, defined_as}
+use Rattle.ks_output.specs.Definitions.{Defines, defines, definitions}
 
--- An auto.conf that was written gives the texts back, ..
+-- What holds of each auto.conf that is written
+abbrev pub OfWritten : (List ℕ → NameMap (Kind × List ℕ) → ℕ → Type 0) → Type 0
+OfWritten P =
+    (title : List ℕ) (settings : NameMap (Kind × List ℕ)) (g : ℕ) → IsTrue (is_title title) → IsConfiguration settings → g < 2 ^ 64 → P title settings g
+
+-- It gives the texts back, ..
 abbrev pub TextsReadBack : Type 0
-TextsReadBack =
-    (title : List ℕ) (settings : NameMap (Kind × List ℕ)) (g : ℕ) → IsTrue (is_title title) → IsConfiguration settings → g < 2 ^ 64
-    → (x : List ℕ) → map.get (auto_map (auto_text title settings g)) x ≡ option_map (λ s. s.1) (map.get settings x)
+TextsReadBack = OfWritten (λ title settings g. auto_map (auto_text title settings g) ≡ texts_of settings)
 
 -- .. the generation, ..
 abbrev pub GenerationReadsBack : Type 0
-GenerationReadsBack =
-    (title : List ℕ) (settings : NameMap (Kind × List ℕ)) (g : ℕ) → IsTrue (is_title title) → IsConfiguration settings → g < 2 ^ 64
-    → auto_generation (auto_text title settings g) ≡ g
+GenerationReadsBack = OfWritten (λ title settings g. auto_generation (auto_text title settings g) ≡ g)
 
--- .. and has no faulty line.
+-- .. has no faulty line, ..
 abbrev pub HasNoFault : Type 0
-HasNoFault =
-    (title : List ℕ) (settings : NameMap (Kind × List ℕ)) (g : ℕ) → IsTrue (is_title title) → IsConfiguration settings → g < 2 ^ 64
-    → auto_fault (auto_text title settings g) ≡ None
+HasNoFault = OfWritten (λ title settings g. auto_fault (auto_text title settings g) ≡ None)
+
+-- .. and is not refused, unless it is too large.
+abbrev pub IsAccepted : Type 0
+IsAccepted = OfWritten (λ title settings g. length (auto_text title settings g) ≤ max_bytes → auto_refusal (auto_text title settings g) ≡ None)
+
+-- The texts of a configuration are those of its entries, under legal names.
+abbrev pub TextsAreOfEntries : Type 0
+TextsAreOfEntries = (settings : NameMap (Kind × List ℕ)) (x : List ℕ) → map.get (texts_of settings) x ≡ option_map (λ s. s.1) (map.get settings x)
+
+abbrev pub TextsHaveNames : Type 0
+TextsHaveNames = (settings : NameMap (Kind × List ℕ)) → IsConfiguration settings → HasNames (texts_of settings)
+
+-- The test of a line finds what the relation says.
+abbrev pub DefinitionsAreLines : Type 0
+DefinitionsAreLines = (name line : List ℕ) → (defines name line ≡ true) ↔ Defines name line
 
 -- the definition that an entry has, if there is one
 abbrev pub definition_of : List ℕ → Option (Kind × List ℕ) → List (List ℕ)
@@ -38,14 +55,12 @@ DefinitionsAreOfEntries =
     (title : List ℕ) (settings : NameMap (Kind × List ℕ)) → IsTrue (is_title title) → IsConfiguration settings
     → (x : List ℕ) → definitions x (header_text title settings) ≡ definition_of x (map.get settings x)
 
--- Two entries, or none, that are of one class and have one text
-abbrev pub AreAlike : Option (Kind × List ℕ) → Option (Kind × List ℕ) → Type 0
-AreAlike None None = ⊤
-AreAlike (Some s) (Some t) = (class_of s.0 ≡ class_of t.0) × (s.1 ≡ t.1)
-AreAlike s t = ⊥
+-- A name that has kinds in both configurations has kinds of one class; bool and tristate are one.
+abbrev pub HasOneClass : NameMap (Kind × List ℕ) → NameMap (Kind × List ℕ) → List ℕ → Type 0
+HasOneClass old new x = (s t : Kind × List ℕ) → map.get old x ≡ Some s → map.get new x ≡ Some t → class_of s.0 ≡ class_of t.0
 
--- Entries that are alike have the same definitions.
+-- Where the texts of a name are the same and its kinds of one class, two headers define it by the same lines.
 abbrev pub AlikeIsDefinedAlike : Type 0
 AlikeIsDefinedAlike =
-    (first second : List ℕ) (old new : NameMap (Kind × List ℕ)) → IsTrue (is_title first) → IsTrue (is_title second) → IsConfiguration old → IsConfiguration new
-    → (x : List ℕ) → AreAlike (map.get old x) (map.get new x) → definitions x (header_text first old) ≡ definitions x (header_text second new)
+    (title later : List ℕ) (old new : NameMap (Kind × List ℕ)) → IsTrue (is_title title) → IsTrue (is_title later) → IsConfiguration old → IsConfiguration new
+    → (x : List ℕ) → map.get (texts_of old) x ≡ map.get (texts_of new) x → HasOneClass old new x → definitions x (header_text title old) ≡ definitions x (header_text later new)

@@ -1,4 +1,8 @@
+pub mod AutoText
+pub mod AutoLines
 pub mod AutoConf
+pub mod OldConfig
 pub mod Header
-pub mod Models
+pub mod Definitions
 pub mod Laws
+pub mod Appending

@@ -1,20 +1,24 @@
-//! Reading auto.conf.
-ghost use Rattle.std.specs.Prelude.{◌≡◌, List, ℕ, Some, OnOk, IfOk, option_map, vec_items};
-ghost use Rattle.std.specs.FinMap as map;
-ghost use Rattle.std.specs.List.{ends_with};
+//! auto.conf, written and read: for each symbol that has a value its text, and the generation.
+//!
+//! The next synchronisation finds in it what this one knew. A name without its text would be a change that is never
+//! seen, so a line that says nothing known is refused with its number, and a generation cut off by a full disk too.
+//! The heading and the lines are those of conf_write_autoconf in scripts/kconfig/confdata.c. That names rise, that a
+//! string stands without quotes and that the generation stands at the end are rules of this project.
+ghost use Rattle.std.specs.Prelude.{◌≡◌, ◌++◌, OnOk, OnErr, IfOk};
 ghost use Rattle.bstr.specs.Text.{without_terminator};
 ghost use Rattle.ks_output.specs.declared.auto_conf.AutoError.TheVariants.{OutOfMemory};
-ghost use Rattle.std.specs.Iterator.{item_count};
-ghost use Rattle.std.specs.Map.Iter.{TakesFirst};
-ghost use Rattle.ks_output.specs.Models.{HasNames, lent_old_entry};
-ghost use Rattle.ks_output.specs.AutoConf.{seen_remark, remark, auto_map, auto_generation, AutoRefusedBy, auto_refusal};
+ghost use Rattle.ks_output.specs.Appending.{Keeps};
+ghost use Rattle.ks_output.specs.AutoText.{auto_text, heading, entry_line, generation_line};
+ghost use Rattle.ks_output.specs.AutoLines.{seen_remark, remark};
+ghost use Rattle.ks_output.specs.AutoConf.{auto_map, auto_generation, AutoRefusedBy, auto_refusal};
+ghost use Rattle.ks_output.specs.OldConfig.{HasNames};
 
+use crate::appending::append_all;
+use crate::old_config::OldConfig;
 use bstr::ByteSlice;
-use ks_symbols::{MAX_BYTES, Statement, is_silent, parse_statement, read_decimal};
+use itoa::Buffer;
+use ks_symbols::{MAX_BYTES, Settings, Statement, is_silent, parse_statement, read_decimal};
 use std::alloc::{AllocError, Global};
-use std::collections::BTreeMap;
-use std::collections::btree_map::Iter;
-use std::marker::Model;
 use thiserror::Error;
 
 /// Why an auto.conf is refused.
@@ -36,110 +40,74 @@ impl From<AllocError> for AutoError {
     }
 }
 
-/// The texts and the generation of an auto.conf.
-#[derive(Drop)]
-pub struct OldConfig {
-    texts: BTreeMap<Vec<u8>, Vec<u8>>,
+/// Appends the heading with a title.
+fn append_heading(title: &[u8], out: &mut Vec<u8>) -> Result<(), AllocError>
+    ensures written { OnOk result (out.new.items ≡ out.old.items ++ heading title.now) }
+    ensures kept { Keeps out.old.items out.new.items }
+{
+    append_all(
+        &[
+            b"#\n# Automatically generated file; DO NOT EDIT.\n# ",
+            title,
+            b"\n#\n",
+        ],
+        out,
+    )
+}
+
+/// Appends the line of an entry.
+fn append_entry(name: &[u8], text: &[u8], out: &mut Vec<u8>) -> Result<(), AllocError>
+    ensures written { OnOk result (out.new.items ≡ out.old.items ++ entry_line name.now text.now) }
+    ensures kept { Keeps out.old.items out.new.items }
+{
+    append_all(&[b"CONFIG_", name, b"=", text, b"\n"], out)
+}
+
+/// Appends the line of a generation.
+fn append_generation(generation: u64, out: &mut Vec<u8>) -> Result<(), AllocError>
+    ensures written { OnOk result (out.new.items ≡ out.old.items ++ generation_line generation) }
+    ensures kept { Keeps out.old.items out.new.items }
+{
+    let mut buffer = Buffer::new();
+    let digits = buffer.format(generation);
+    append_all(&[b"#generation ", digits.as_bytes(), b"\n"], out)
+}
+
+/// Appends auto.conf, or a beginning of it.
+#[tactic(auto, unfolding(crate::specs::AutoText::auto_text))]
+fn append_auto(
+    settings: &Settings,
+    title: &[u8],
     generation: u64,
+    out: &mut Vec<u8>,
+) -> Result<(), AllocError>
+    ensures written { OnOk result (out.new.items ≡ out.old.items ++ auto_text title.now settings.now.entries generation) }
+    ensures kept { Keeps out.old.items out.new.items }
+{
+    append_heading(title, out)?;
+    for (name, _, text) in settings.entries() {
+        append_entry(name, text, out)?;
+    }
+    append_generation(generation, out)
 }
 
-impl Model for OldConfig {
-    ghost use Rattle.ks_output.specs.Models.{OldTexts, coded_old_texts, seen_text};
-    ghost use Rattle.ks_symbols.specs.Configuration.{named};
-
-    ghost Value = { OldTexts };
-
-    ghost coded = { coded_old_texts };
-
-    ghost view = { λ s. record { texts = named seen_text s.texts.entries; generation = s.generation } };
-}
-
-/// The entries of an auto.conf, by rising names: name and text.
-#[derive(Drop)]
-pub struct OldEntries<'a> {
-    inner: Iter<'a, Vec<u8>, Vec<u8>>,
-}
-
-impl<'a> Model for OldEntries<'a> {
-    ghost use Rattle.std.specs.Prelude.{List, ℕ, map};
-    ghost use Rattle.std.specs.Coded.{coded_list, coded×, coded_ℕ};
-    ghost use Rattle.ks_output.specs.Models.{seen_old_entry};
-
-    ghost Value = { List (List ℕ × List ℕ) };
-
-    ghost coded = { coded_list (coded× (coded_list coded_ℕ) (coded_list coded_ℕ)) };
-
-    ghost view = { λ e. map seen_old_entry e.inner };
-}
-
-impl<'a> Iterator for OldEntries<'a> {
-    type Item = (&'a [u8], &'a [u8]);
-
-    ghost next_gives = { TakesFirst lent_old_entry };
-
-    ghost remaining = { item_count (λ rest. rest) };
-
-    fn next(&mut self) -> Option<(&'a [u8], &'a [u8])> {
-        match self.inner.next() {
-            Some((name, text)) => Some((name, text)),
-            None => None,
+/// Appends auto.conf, or leaves the vector as it was.
+pub fn write_auto(
+    settings: &Settings,
+    title: &[u8],
+    generation: u64,
+    out: &mut Vec<u8>,
+) -> Result<(), AllocError>
+    ensures written { OnOk result (out.new.items ≡ out.old.items ++ auto_text title.now settings.now.entries generation) }
+    ensures kept { OnErr result (out.new.items ≡ out.old.items) }
+{
+    let start = out.len();
+    match append_auto(settings, title, generation, out) {
+        Ok(()) => Ok(()),
+        Err(refused) => {
+            out.truncate(start);
+            Err(refused)
         }
-    }
-}
-
-impl OldConfig {
-    /// The entries, by rising names.
-    pub fn entries(&self) -> OldEntries<'_>
-        ensures { result ≡ map.entries self.now.texts }
-    {
-        OldEntries {
-            inner: self.texts.iter(),
-        }
-    }
-
-    /// No texts, and generation 0.
-    pub fn new(alloc: Global) -> OldConfig
-        ensures texts { result.texts ≡ map.empty }
-        ensures generation { result.generation ≡ 0 }
-    {
-        OldConfig {
-            texts: BTreeMap::new(alloc),
-            generation: 0,
-        }
-    }
-
-    pub fn generation(&self) -> u64
-        ensures { result ≡ self.now.generation }
-    {
-        self.generation
-    }
-
-    /// The text of a name.
-    pub fn get(&self, name: &[u8]) -> Option<&[u8]>
-        ensures { option_map (λ t. t.now) result ≡ map.get self.now.texts name.now }
-    {
-        match self.texts.get(name) {
-            Some(text) => Some(text),
-            None => None,
-        }
-    }
-
-    /// Gives a name a text, in place of that before.
-    fn put(&mut self, alloc: Global, name: &[u8], text: &[u8]) -> Result<(), AllocError>
-        ensures texts { OnOk result (self.new.texts ≡ map.insert self.old.texts name.now text.now) }
-        ensures generation { OnOk result (self.new.generation ≡ self.old.generation) }
-    {
-        let name = Vec::from_slice(alloc, name)?;
-        let text = Vec::from_slice(alloc, text)?;
-        self.texts.insert(name, text)?;
-        Ok(())
-    }
-
-    fn set_generation(&mut self, generation: u64)
-        ensures texts { self.new.texts ≡ self.old.texts }
-        ensures generation { self.new.generation ≡ generation }
-    {
-        self.generation = generation;
     }
 }
 
@@ -152,6 +120,7 @@ enum Remark<'a> {
     Faulty,
 }
 
+/// A line without the LF or CR LF that ends it.
 fn without_end(line: &[u8]) -> &[u8]
     ensures { result.now ≡ without_terminator line.now }
 {
@@ -166,7 +135,7 @@ fn without_end(line: &[u8]) -> &[u8]
 }
 
 /// What a line says, which is given with its end.
-#[tactic(auto, unfolding(crate::specs::AutoConf::remark))]
+#[tactic(auto, unfolding(crate::specs::AutoLines::remark))]
 fn parse_remark(line: &[u8]) -> Remark<'_>
     ensures { seen_remark result ≡ remark line.now }
 {
@@ -186,7 +155,7 @@ fn parse_remark(line: &[u8]) -> Remark<'_>
     }
 }
 
-/// The texts and the generation that an auto.conf has.
+/// The texts and the generation that an auto.conf has, also one of the usual tool. Its lines may stand in any order.
 pub fn read_auto(alloc: Global, text: &[u8]) -> Result<OldConfig, AutoError>
     ensures texts { IfOk result (λ c. c.texts ≡ auto_map text.now) }
     ensures generation { IfOk result (λ c. c.generation ≡ auto_generation text.now) }
@@ -196,7 +165,7 @@ pub fn read_auto(alloc: Global, text: &[u8]) -> Result<OldConfig, AutoError>
     if text.len() > MAX_BYTES {
         return Err(AutoError::TooLarge);
     }
-    let mut old = OldConfig::new(alloc);
+    let mut old = OldConfig::empty(alloc);
     let mut number: u64 = 1;
     for line in text.lines_with_terminator() {
         match parse_remark(line) {

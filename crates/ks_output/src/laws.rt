@@ -1,11 +1,25 @@
-//! Laws of the definitions.
-ghost use Rattle.ks_output.specs.Laws.{AlikeIsDefinedAlike, DefinitionsAreOfEntries, GenerationReadsBack, HasNoFault, TextsReadBack};
+//! Laws of the definitions: what the layers above rest on, and what a reader may check the definitions by.
+//!
+//! Each law is the contract of a call that does nothing.
+ghost use Rattle.ks_output.specs.Laws.{AlikeIsDefinedAlike, DefinitionsAreLines, DefinitionsAreOfEntries, GenerationReadsBack, HasNoFault, IsAccepted, TextsAreOfEntries, TextsHaveNames, TextsReadBack};
 
-/// What is written of a configuration reads back: its texts, its generation, and no fault.
+/// An auto.conf that was written of a configuration reads back: its texts and its generation, and it is accepted.
 pub fn auto_texts_read_back()
     ensures texts { TextsReadBack }
     ensures generation { GenerationReadsBack }
     ensures fault { HasNoFault }
+    ensures accepted { IsAccepted }
+{}
+
+/// What an auto.conf keeps of a configuration is the text of each entry.
+pub fn texts_are_of_entries()
+    ensures texts { TextsAreOfEntries }
+    ensures names { TextsHaveNames }
+{}
+
+/// A line is counted among the definitions of a name exactly if it is spelled as one.
+pub fn definitions_are_lines()
+    ensures { DefinitionsAreLines }
 {}
 
 /// The header defines each name by its entry alone, in which bool and tristate count as one.

@@ -13,3 +13,4 @@ pub mod Kconfig
 pub mod Progress
 pub mod Settling
 pub mod Laws
+pub mod Examples

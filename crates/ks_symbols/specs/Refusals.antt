@@ -3,8 +3,8 @@ use Rattle.std.specs.Prelude.{◌≡◌, Option, Some, None, Result, Ok, Err, �
 use Rattle.ks_symbols.specs.declared.error.SourceError.{SourceError}
 use Rattle.ks_symbols.specs.declared.error.SourceError.TheVariants as fault
 
--- the first fault of lines that are counted from a number on
-abbrev pub or_else : Option SourceError → Option SourceError → Option SourceError
+-- the first refusal, or the second where there is none
+abbrev pub or_else : {E : Type 0} → Option E → Option E → Option E
 or_else None later = later
 or_else (Some e) later = Some e
 

@@ -21,9 +21,15 @@ pub use dotconfig::read_dotconfig;
 pub use error::SourceError;
 pub use kconfig::read_kconfig;
 pub use kinds::{Kind, value_is_valid};
-pub use laws::{reads_are_texts, settings_are_configurations, statements_are_spelled};
+pub use laws::{
+    agreeing_configurations_are_one, examples_hold, lines_are_the_text, reads_are_texts,
+    settings_are_configurations, statements_are_spelled,
+};
 pub use limits::MAX_BYTES;
 pub use names::{Name, Path, name_is_legal, path_is_legal, target_is_legal};
 pub use settings::{Entries, Settings};
 pub use statements::{Statement, is_silent, parse_statement};
 pub use symbols::Symbols;
+
+#[cfg(test)]
+mod tests;

@@ -1,0 +1,107 @@
+-- Laws of the changes.
+use Rattle.std.proofs.Common.{◌≡◌, ◌↔◌, ℕ, Bool, true, false, not, ◌||◌, List, [], ◌∷◌, bytes_eq, Option, Some, None, option_map, IsTrue, refl, sym, ap, subst, ◌∙◌, map as map_list}
+use mathlib.Core.Logic.{inl, inr}
+use Rattle.std.proofs.lemmas.Bool.{cases_Bool, false≢true}
+use Rattle.std.specs.Ordering.{is_eq, ordering_reverse}
+use Rattle.std.specs.Cmp.{tied_itself}
+use Rattle.std.specs.Cmp.Lexicographic.{nat_list_cmp_total, bytes_decides}
+use Rattle.std.specs.declared.cmp.Ordering.{Ordering}
+use Rattle.std.specs.declared.cmp.Ordering.TheVariants.{Less, Equal, Greater}
+use Rattle.std.specs.FinMap as map
+use Rattle.std.specs.FinMap.{find}
+use Rattle.std.specs.List.{AllByRecursion}
+use Rattle.std.specs.List.Sorted.{IsStrictlySortedBy}
+use Rattle.ks_symbols.specs.declared.kinds.Kind.{Kind}
+use Rattle.ks_symbols.specs.Names.{is_name}
+use Rattle.ks_symbols.specs.Configuration.{NameMap}
+use Rattle.ks_output.specs.OldConfig.{HasNames, texts_of}
+use Rattle.ks_output.proofs.Entries.{order, tied}
+use Rattle.ks_output.proofs.Texts.{texts_are_of_entries}
+use Rattle.ks_output.proofs.Definitions.{alike_is_defined_alike}
+use Rattle.ks_compare.specs.Changes.{compared, differ, differs, is_in, AreChanges}
+use Rattle.ks_compare.specs.Laws.{ChangesExist, ChangesAreOne, ChangesAreLegal, FirstChangesAreNames, NothingChanges, UnchangedIsKept, UnchangedIsDefinedAlike}
+use Rattle.ks_compare.proofs.Merge.{Above, merged, merged_changes, first_names, here_test, turned, legal_differ, name_of_symbol}
+
+pub changes_exist : ChangesExist
+changes_exist old new = (merged (map.entries old) (map.entries new), merged_changes old new)
+
+-- a name below all of a list is not in it
+not_in : (x : List ℕ) (names : List (List ℕ)) → Above x names → is_in names x ≡ false
+not_in x [] h = refl
+not_in x (n ∷ names) h = ap (λ b. b || is_in names x) (sym (here_test x n) ∙ ap is_eq h.0) ∙ not_in x names h.1
+
+below_too : (x y : List ℕ) (names : List (List ℕ)) → order x y ≡ Less → Above y names → Above x names
+below_too x y [] p h = tt
+below_too x y (n ∷ names) p h = (nat_list_cmp_total.trans x y n p h.0, below_too x y names p h.1)
+
+first_in : (x : List ℕ) (names : List (List ℕ)) → is_in (x ∷ names) x ≡ true
+first_in x names = ap (λ b. b || is_in names x) (sym (here_test x x) ∙ ap is_eq (tied_itself nat_list_cmp_total x))
+
+-- a name that the first of another list is above is in no such list
+missing : (x y : List ℕ) (a b : List (List ℕ)) → order x y ≡ Less → Above y b → is_in (x ∷ a) x ≡ is_in (y ∷ b) x → false ≡ true
+missing x y a b p h e = sym (not_in x (y ∷ b) (p, below_too x y b p h)) ∙ sym e ∙ first_in x a
+
+-- what is in the lists behind equal first names
+tails : (x : List ℕ) (a b : List (List ℕ)) → Above x a → Above x b → ((z : List ℕ) → is_in (x ∷ a) z ≡ is_in (x ∷ b) z) → (z : List ℕ) → is_in a z ≡ is_in b z
+tails x a b h g same z = elim (cases_Bool (is_eq (order z x))) [
+  | inl here ↦
+      let is : z ≡ x = tied z x here in
+      ap (is_in a) is ∙ not_in x a h ∙ sym (not_in x b g) ∙ ap (is_in b) (sym is)
+  | inr ne ↦
+      let other : bytes_eq z x ≡ false = sym (here_test z x) ∙ ne in
+      ap (λ b. b || is_in a z) (sym other) ∙ same z ∙ ap (λ c. c || is_in b z) other
+]
+
+-- rising lists of the same names are equal
+rising_one : (a b : List (List ℕ)) → IsStrictlySortedBy order a → IsStrictlySortedBy order b → ((x : List ℕ) → is_in a x ≡ is_in b x) → a ≡ b
+unfolding IsStrictlySortedBy
+rising_one [] [] h g same = refl
+rising_one [] (y ∷ b) h g same = absurd (false≢true (same y ∙ first_in y b))
+rising_one (x ∷ a) [] h g same = absurd (false≢true (sym (same x) ∙ first_in x a))
+rising_one (x ∷ a) (y ∷ b) h g same =
+    elim (order x y) as (λ o. order x y ≡ o → x ∷ a ≡ y ∷ b) [
+      | Less ↦ λ is. absurd (false≢true (missing x y a b is g.0 (same x)))
+      | Equal ↦ λ is.
+          let here : x ≡ y = tied x y (ap is_eq is) in
+          let behind : a ≡ b =
+          rising_one a b h.1 g.1 (tails x a b h.0 (subst (λ (n : List ℕ). Above n b) (sym here) g.0) (λ z. same z ∙ ap (λ (n : List ℕ). is_in (n ∷ b) z) (sym here))) in
+          ap (λ (n : List ℕ). n ∷ a) here ∙ ap (λ (l : List (List ℕ)). y ∷ l) behind
+      | Greater ↦ λ is. absurd (false≢true (missing y x b a (turned x y is) h.0 (sym (same y))))
+    ] refl
+
+pub changes_are_one : ChangesAreOne
+changes_are_one old new names others h g = rising_one names others h.rising g.rising (λ x. h.each x ∙ sym (g.each x))
+
+pub changes_are_legal : ChangesAreLegal
+changes_are_legal old new names h g are x e =
+    legal_differ (map.get old x) (map.get new x) (IsTrue (is_name x)) (λ t is. h x t is) (λ s is. name_of_symbol x (g x s is).named) (sym (are.each x) ∙ e)
+
+pub first_changes_are_names : FirstChangesAreNames
+first_changes_are_names settings = first_names settings
+
+not_false : (b : Bool) → not b ≡ false → b ≡ true
+not_false true e = refl
+not_false false e = absurd (false≢true (sym e))
+
+-- what does not differ is the same
+alike : (a b : Option (List ℕ)) → (differ a b ≡ false) ↔ (a ≡ b)
+alike None None = (λ e. refl, λ e. refl)
+alike None (Some u) = (λ e. absurd (false≢true (sym e)), λ e. absurd (cc e))
+alike (Some t) None = (λ e. absurd (false≢true (sym e)), λ e. absurd (cc e))
+alike (Some t) (Some u) = (
+  λ e. ap (λ (v : List ℕ). Some v) ((bytes_decides t u).0 (not_false (bytes_eq t u) e)),
+  λ e. let same : t ≡ u = cc e in ap not ((bytes_decides t u).1 same),
+)
+
+pub unchanged_is_kept : UnchangedIsKept
+unchanged_is_kept old new x =
+    let told = alike (map.get old x) (option_map compared (map.get new x)) in
+    (λ e. told.0 e ∙ sym (texts_are_of_entries new x), λ e. told.1 (e ∙ texts_are_of_entries new x))
+
+pub nothing_changes : NothingChanges
+unfolding IsStrictlySortedBy
+nothing_changes settings = record { rising = tt; each = λ x. sym ((unchanged_is_kept (texts_of settings) settings x).1 refl) }
+
+pub unchanged_is_defined_alike : UnchangedIsDefinedAlike
+unchanged_is_defined_alike title later old new s t g h x same one =
+    alike_is_defined_alike title later old new s t g h x ((unchanged_is_kept (texts_of old) new x).0 same) one

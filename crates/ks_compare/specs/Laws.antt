@@ -1,0 +1,45 @@
+-- Laws of the changes: there is one list of them, of legal names, and what did not change is defined alike.
+use Rattle.std.specs.Prelude.{◌≡◌, ◌↔◌, ℕ, true, false, List, [], map as map_list, IsTrue}
+use Rattle.std.specs.FinMap as map
+use Rattle.ks_symbols.specs.declared.kinds.Kind.{Kind}
+use Rattle.ks_symbols.specs.Names.{is_name}
+use Rattle.ks_symbols.specs.Titles.{is_title}
+use Rattle.ks_symbols.specs.Configuration.{IsConfiguration, NameMap}
+use Rattle.ks_output.specs.OldConfig.{HasNames, texts_of}
+use Rattle.ks_output.specs.Header.{header_text}
+use Rattle.ks_output.specs.Definitions.{definitions}
+use Rattle.ks_output.specs.Laws.{HasOneClass}
+use Rattle.ks_compare.specs.Changes.{differs, is_in, AreChanges}
+
+-- Two maps have changes, ..
+abbrev pub ChangesExist : Type 0
+ChangesExist = (old : NameMap (List ℕ)) (new : NameMap (Kind × List ℕ)) → (names : List (List ℕ)) × AreChanges old new names
+
+-- .. in one list only, ..
+abbrev pub ChangesAreOne : Type 0
+ChangesAreOne =
+    (old : NameMap (List ℕ)) (new : NameMap (Kind × List ℕ)) (names others : List (List ℕ)) → AreChanges old new names → AreChanges old new others → names ≡ others
+
+-- .. and each changed name is legal.
+abbrev pub ChangesAreLegal : Type 0
+ChangesAreLegal =
+    (old : NameMap (List ℕ)) (new : NameMap (Kind × List ℕ)) (names : List (List ℕ)) → HasNames old → IsConfiguration new → AreChanges old new names
+    → (x : List ℕ) → is_in names x ≡ true → IsTrue (is_name x)
+
+-- Against no texts at all each name of a configuration changes; against its own texts none does.
+abbrev pub FirstChangesAreNames : Type 0
+FirstChangesAreNames = (settings : NameMap (Kind × List ℕ)) → AreChanges map.empty settings (map_list (λ e. e.0) (map.entries settings))
+
+abbrev pub NothingChanges : Type 0
+NothingChanges = (settings : NameMap (Kind × List ℕ)) → AreChanges (texts_of settings) settings []
+
+-- A name that does not differ has, in the old auto.conf, what the next one keeps of it.
+abbrev pub UnchangedIsKept : Type 0
+UnchangedIsKept =
+    (old : NameMap (List ℕ)) (new : NameMap (Kind × List ℕ)) (x : List ℕ) → (differs old new x ≡ false) ↔ (map.get old x ≡ map.get (texts_of new) x)
+
+-- Where its kinds are of one class, the two headers define it by the same lines.
+abbrev pub UnchangedIsDefinedAlike : Type 0
+UnchangedIsDefinedAlike =
+    (title later : List ℕ) (old new : NameMap (Kind × List ℕ)) → IsTrue (is_title title) → IsTrue (is_title later) → IsConfiguration old → IsConfiguration new
+    → (x : List ℕ) → differs (texts_of old) new x ≡ false → HasOneClass old new x → definitions x (header_text title old) ≡ definitions x (header_text later new)

@@ -1,0 +1,17 @@
+pub mod RunLemmas
+pub mod ScanLemmas
+pub mod StreamLemmas
+pub mod CutLemmas
+pub mod PieceLemmas
+pub mod NotedLemmas
+pub mod TokenLemmas
+pub mod RoleLemmas
+pub mod NameLemmas
+pub mod OnceLemmas
+pub mod DepsLemmas
+pub mod CommandLineLemmas
+pub mod CommandStepLemmas
+pub mod CommandFormLemmas
+pub mod CommandFitLemmas
+pub mod CommandTextLemmas
+pub mod CommandWriteLemmas

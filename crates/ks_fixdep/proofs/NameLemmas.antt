@@ -1,0 +1,46 @@
+-- Names without their places.
+use Rattle.std.proofs.Common.{◌≡◌, ℕ, zero, suc, ◌-◌, List, [], ◌∷◌, ◌++◌, Option, Some, None, length, take, refl, ap, ◌∙◌, map, arith}
+use Rattle.std.proofs.lemmas.List.{map-append}
+use Rattle.ks_fixdep.specs.Scan.{NameAt, taken, taken_from}
+use Rattle.ks_fixdep.proofs.ScanLemmas.{taken_from-zero}
+use Rattle.ks_fixdep.specs.declared.scan.Found.{Found}
+use Rattle.ks_fixdep.specs.NameIter.{seen_found}
+use Rattle.ks_fixdep.specs.Scan.{bare_name}
+use Rattle.ks_fixdep.specs.Stream.{list_of, carried_at, further, ended, last_word}
+
+take_nil : (n : ℕ) → take {A = ℕ} n [] ≡ []
+take_nil zero = refl
+take_nil (suc n) = refl
+
+pub map-name : (fs : List Found) → map (λ f. f.name.now) fs ≡ map bare_name (map seen_found fs)
+map-name [] = refl
+map-name (f ∷ fs) = ap (λ l. f.name.now ∷ l) (map-name fs)
+
+pub map-carried : (i : ℕ) (x : Option (List ℕ)) → map bare_name (carried_at i x) ≡ list_of x
+map-carried i None = refl
+map-carried i (Some x) = refl
+
+pub map-name-further : (n : ℕ) (xs : List NameAt) → map bare_name (map (further n) xs) ≡ map bare_name xs
+map-name-further n [] = refl
+map-name-further n (x ∷ xs) = ap (λ l. x.name ∷ l) (map-name-further n xs)
+
+pub ended-nil : ended [] ≡ []
+ended-nil =
+    let none : length {A = ℕ} [] - 0 ≡ 0 = omega arith in
+    ap taken (take_nil (length {A = ℕ} [] - length (last_word []))) ∙ ap (taken_from [] 0) none ∙ taken_from-zero [] 0
+
+-- the names of a longer text, without their places
+pub names-longer : (t p : List ℕ) (i n : ℕ) (carried : Option (List ℕ)) (xs : List NameAt) → ended (t ++ p) ≡ ended t ++ carried_at i carried ++ map (further n) xs
+    → map bare_name (ended (t ++ p)) ≡ map bare_name (ended t) ++ list_of carried ++ map bare_name xs
+names-longer t p i n carried xs e =
+    ap (map bare_name) e
+    ∙ map-append bare_name (ended t ++ carried_at i carried) (map (further n) xs)
+    ∙ ap (λ l. l ++ map bare_name (map (further n) xs)) (map-append bare_name (ended t) (carried_at i carried))
+    ∙ ap (λ l. map bare_name (ended t) ++ l ++ map bare_name (map (further n) xs)) (map-carried i carried)
+    ∙ ap (λ l. map bare_name (ended t) ++ list_of carried ++ l) (map-name-further n xs)
+
+pub names-whole : (t : List ℕ) (i : ℕ) (carried : Option (List ℕ)) → taken t ≡ ended t ++ carried_at i carried → map bare_name (taken t) ≡ map bare_name (ended t) ++ list_of carried
+names-whole t i carried e =
+    ap (map bare_name) e
+    ∙ map-append bare_name (ended t) (carried_at i carried)
+    ∙ ap (λ l. map bare_name (ended t) ++ l) (map-carried i carried)

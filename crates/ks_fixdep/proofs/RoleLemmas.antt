@@ -1,0 +1,174 @@
+-- One more token.
+use Rattle.std.proofs.Common.{◌≡◌, ℕ, suc, ◌+◌, ◌-◌, Bool, true, false, List, [], ◌∷◌, ◌++◌, length, drop, refl, sym, ap, ◌∙◌, arith, append_assoc, append-nil, reverse, ⊎_elim, length-append, map, Bor, Option, Some, None, Result, Ok, Err, subst, get_or, take, ◌<◌, ◌≤◌, drop-cons, take-append-drop}
+use Rattle.std.proofs.lemmas.List.{reverse-append, drop_all, drop-append-le, map-append}
+use Rattle.std.proofs.lemmas.Bool.{cond-true, cond-false, cases_Bool, cond_both, and_from}
+use Rattle.std.specs.List.{list_all}
+use Rattle.std.specs.Str.{bytes_eq}
+use Rattle.std.specs.Prelude.{if◌then◌else◌, not, nat_eq, ◌||◌, ◌&&◌}
+use Rattle.std.proofs.lemmas.List.Folds.{list_any-append, list_all-append}
+use Rattle.std.specs.List.{after_last, list_any, suffix_len, prefix_len, ends_with}
+use Rattle.ks_fixdep.specs.declared.dependency_file.Role.{Role}
+use Rattle.ks_symbols.specs.Names.{is_path}
+use Rattle.ks_symbols.specs.Refusals.{or_else}
+use Rattle.ks_fixdep.specs.DepRefusals.{IsRefusal, RefusedBy}
+use Rattle.ks_fixdep.specs.DependencyFile.{is_kept, is_target_token, header_path, role_after, with_roles, fault_after, first_fault, token_refusal, added, once}
+use Rattle.ks_fixdep.specs.Tokens.{tokens, is_separator, is_some_token}
+use Rattle.ks_fixdep.specs.declared.dep_error.DepError.{DepError}
+use Rattle.ks_fixdep.specs.declared.dep_error.DepError.TheVariants as errors
+use Rattle.std.specs.Result.{IsErr, IsErrAnd, result_err}
+use Rattle.std.specs.List.{slice_split}
+use Rattle.std.proofs.lemmas.List.Sums.{length-filter, count_by-le-length}
+use Rattle.std.proofs.lemmas.List.Splits.{length-slice_split}
+
+-- the entry of one more token, if it is kept
+abbrev pub entry_of : List (List ℕ) → List ℕ → List (List ℕ × Role)
+entry_of before x = if is_kept x then (x, role_after before) ∷ [] else []
+
+pub with_roles-push : (before xs : List (List ℕ)) (x : List ℕ) → with_roles before (xs ++ x ∷ []) ≡ with_roles before xs ++ entry_of (before ++ xs) x
+with_roles-push before [] x = ap (λ b. entry_of b x) (sym (append-nil before))
+with_roles-push before (y ∷ xs) x =
+    let later = with_roles-push (before ++ y ∷ []) xs x ∙ ap (λ b. with_roles (before ++ y ∷ []) xs ++ entry_of b x) (append_assoc before (y ∷ []) xs) in
+    let r = role_after before in
+    elim (is_kept y) as (λ v. (if v then (y, r) ∷ with_roles (before ++ y ∷ []) (xs ++ x ∷ []) else with_roles (before ++ y ∷ []) (xs ++ x ∷ [])) ≡ (if v then (y, r) ∷ with_roles (before ++ y ∷ []) xs else with_roles (before ++ y ∷ []) xs) ++ entry_of (before ++ y ∷ xs) x) [
+      | true ↦ ap (λ l. (y, r) ∷ l) later
+      | false ↦ later
+    ]
+
+pub after_last-push : (xs : List (List ℕ)) (x : List ℕ) → after_last is_target_token (xs ++ x ∷ []) ≡ (if is_target_token x then [] else after_last is_target_token xs ++ x ∷ [])
+after_last-push xs x =
+    let p = λ (y : List ℕ). not (is_target_token y) in
+    let turned : reverse (xs ++ x ∷ []) ≡ x ∷ reverse xs = reverse-append xs (x ∷ []) in
+    let size = length-append xs (x ∷ []) in
+    ⊎_elim
+    (λ stands.
+    let none : suffix_len p (xs ++ x ∷ []) ≡ 0 = ap (prefix_len p) turned ∙ cond-false _ _ _ (ap not stands) in
+    drop_all (length (xs ++ x ∷ []) - suffix_len p (xs ++ x ∷ [])) (xs ++ x ∷ []) (omega (arith, none)) ∙ sym (cond-true _ _ _ stands))
+    (λ other.
+    let more : suffix_len p (xs ++ x ∷ []) ≡ 1 + suffix_len p xs = ap (prefix_len p) turned ∙ cond-true _ _ _ (ap not other) in
+    let count : length (xs ++ x ∷ []) - suffix_len p (xs ++ x ∷ []) ≡ length xs - suffix_len p xs = omega (arith, more, size) in
+    ap (λ k. drop k (xs ++ x ∷ [])) count ∙ drop-append-le (length xs - suffix_len p xs) xs (x ∷ []) (omega arith) ∙ sym (cond-false _ _ _ other))
+    (cases_Bool (is_target_token x))
+
+-- the facts of one more token
+pub seen-push : (ys : List (Bor (List ℕ))) (y : Bor (List ℕ)) → map (λ x. x.now) (ys ++ y ∷ []) ≡ map (λ x. x.now) ys ++ y.now ∷ []
+seen-push ys y = map-append (λ x. x.now) ys (y ∷ [])
+
+or-false : (a b : Bool) → b ≡ false → (a || (b || false)) ≡ a
+or-false true b e = refl
+or-false false false e = refl
+or-false false true e = e
+
+or-true : (a b : Bool) → b ≡ true → (a || (b || false)) ≡ true
+or-true true b e = refl
+or-true false true e = refl
+or-true false false e = e
+
+module _ (seen : List (List ℕ)) (x : List ℕ) where
+  pub target-no : is_target_token x ≡ false → list_any is_target_token (seen ++ x ∷ []) ≡ list_any is_target_token seen
+  target-no other = list_any-append is_target_token seen (x ∷ []) ∙ or-false (list_any is_target_token seen) (is_target_token x) other
+
+  pub target-yes : is_target_token x ≡ true → list_any is_target_token (seen ++ x ∷ []) ≡ true
+  target-yes stands = list_any-append is_target_token seen (x ∷ []) ∙ or-true (list_any is_target_token seen) (is_target_token x) stands
+
+  pub kept-no : is_kept x ≡ false → list_any is_kept (seen ++ x ∷ []) ≡ list_any is_kept seen
+  kept-no not_kept = list_any-append is_kept seen (x ∷ []) ∙ or-false (list_any is_kept seen) (is_kept x) not_kept
+
+  pub kept-yes : is_kept x ≡ true → list_any is_kept (seen ++ x ∷ []) ≡ true
+  kept-yes kept = list_any-append is_kept seen (x ∷ []) ∙ or-true (list_any is_kept seen) (is_kept x) kept
+
+  pub since-target : is_target_token x ≡ true → list_any is_kept (after_last is_target_token (seen ++ x ∷ [])) ≡ false
+  since-target target = ap (list_any is_kept) (after_last-push seen x ∙ cond-true _ _ _ target)
+
+  since-other : is_target_token x ≡ false → list_any is_kept (after_last is_target_token (seen ++ x ∷ [])) ≡ (list_any is_kept (after_last is_target_token seen) || (is_kept x || false))
+  since-other other = ap (list_any is_kept) (after_last-push seen x ∙ cond-false _ _ _ other) ∙ list_any-append is_kept (after_last is_target_token seen) (x ∷ [])
+
+  pub since-no : is_target_token x ≡ false → is_kept x ≡ false → list_any is_kept (after_last is_target_token (seen ++ x ∷ [])) ≡ list_any is_kept (after_last is_target_token seen)
+  since-no other not_kept = since-other other ∙ or-false (list_any is_kept (after_last is_target_token seen)) (is_kept x) not_kept
+
+  pub since-yes : is_target_token x ≡ false → is_kept x ≡ true → list_any is_kept (after_last is_target_token (seen ++ x ∷ [])) ≡ true
+  since-yes other kept = since-other other ∙ or-true (list_any is_kept (after_last is_target_token seen)) (is_kept x) kept
+
+  pub roles-no : is_kept x ≡ false → with_roles [] (seen ++ x ∷ []) ≡ with_roles [] seen
+  roles-no not_kept = with_roles-push [] seen x ∙ ap (λ l. with_roles [] seen ++ l) (cond-false _ _ _ not_kept) ∙ append-nil (with_roles [] seen)
+
+  pub roles-yes : is_kept x ≡ true → with_roles [] (seen ++ x ∷ []) ≡ with_roles [] seen ++ (x, role_after seen) ∷ []
+  roles-yes kept = with_roles-push [] seen x ∙ ap (λ l. with_roles [] seen ++ l) (cond-true _ _ _ kept)
+
+pub role-same : (a b : Bool) (s l c : Role) → (if a then (if b then l else c) else s) ≡ (if not a then s else if b then l else c)
+role-same true b s l c = refl
+role-same false b s l c = refl
+
+pub not-kept-target : (x : List ℕ) → is_target_token x ≡ true → is_kept x ≡ false
+not-kept-target x target = ap (λ t. not t && not (ends_with nat_eq x header_path)) target
+
+pub kept-when : (x : List ℕ) (h : Bool) → is_target_token x ≡ false → ends_with nat_eq x header_path ≡ h → is_kept x ≡ not h
+kept-when x h other is = ap (λ t. not t && not (ends_with nat_eq x header_path)) other ∙ ap not is
+
+-- ---- refusals
+
+-- the faults of the tokens seen, of one more, and of the rest
+pub faults-split : (before xs : List (List ℕ)) (x : List ℕ) (ys : List (List ℕ)) → first_fault before (xs ++ x ∷ ys) ≡ or_else (first_fault before xs) (or_else (fault_after (before ++ xs) x) (first_fault ((before ++ xs) ++ x ∷ []) ys))
+faults-split before [] x ys = ap (λ b. or_else (fault_after b x) (first_fault (b ++ x ∷ []) ys)) (sym (append-nil before))
+faults-split before (z ∷ xs) x ys =
+    ap (or_else (fault_after before z)) (faults-split (before ++ z ∷ []) xs x ys)
+    ∙ or-assoc (fault_after before z) (first_fault (before ++ z ∷ []) xs) (or_else (fault_after ((before ++ z ∷ []) ++ xs) x) (first_fault (((before ++ z ∷ []) ++ xs) ++ x ∷ []) ys))
+    ∙ ap (λ b. or_else (or_else (fault_after before z) (first_fault (before ++ z ∷ []) xs)) (or_else (fault_after b x) (first_fault (b ++ x ∷ []) ys))) (append_assoc before (z ∷ []) xs)
+  where
+    or-assoc : (a b c : Option DepError) → or_else a (or_else b c) ≡ or_else (or_else a b) c
+    or-assoc None b c = refl
+    or-assoc (Some f) b c = refl
+
+pub faults-fit : (seen : List (List ℕ)) (x : List ℕ) → first_fault [] seen ≡ None → fault_after seen x ≡ None → first_fault [] (seen ++ x ∷ []) ≡ None
+faults-fit seen x none fits = faults-split [] seen x [] ∙ ap (λ a. or_else a (or_else (fault_after seen x) None)) none ∙ ap (λ b. or_else b None) fits
+
+faults-first : (seen : List (List ℕ)) (x : List ℕ) (ys : List (List ℕ)) (e : DepError) → first_fault [] seen ≡ None → fault_after seen x ≡ Some e → first_fault [] (seen ++ x ∷ ys) ≡ Some e
+faults-first seen x ys e none fault = faults-split [] seen x ys ∙ ap (λ a. or_else a (or_else (fault_after seen x) (first_fault (seen ++ x ∷ []) ys))) none ∙ ap (λ b. or_else b (first_fault (seen ++ x ∷ []) ys)) fault
+
+first-is : (ts : List (List ℕ)) (e : DepError) → first_fault [] ts ≡ Some e → token_refusal ts ≡ Some e
+unfolding token_refusal
+first-is ts e is = ap (λ o. or_else o (if list_any is_kept ts then None else Some errors.NoTarget)) is
+
+-- the refusal of one token is that of the text, where all tokens before it fit
+pub refused-through : (e : DepError) (ts seen : List (List ℕ)) (x : List ℕ) (ys : List (List ℕ)) → ts ≡ seen ++ x ∷ ys → first_fault [] seen ≡ None → IsRefusal e (fault_after seen x) → IsRefusal e (token_refusal ts)
+refused-through errors.OutOfMemory ts seen x ys is none says = tt
+refused-through errors.NoTarget ts seen x ys is none says = first-is ts errors.NoTarget (ap (first_fault []) is ∙ faults-first seen x ys errors.NoTarget none says)
+refused-through (errors.BadPath n) ts seen x ys is none says = first-is ts (errors.BadPath n) (ap (first_fault []) is ∙ faults-first seen x ys (errors.BadPath n) none says)
+refused-through errors.BadCommand ts seen x ys is none says = first-is ts errors.BadCommand (ap (first_fault []) is ∙ faults-first seen x ys errors.BadCommand none says)
+refused-through errors.TooLarge ts seen x ys is none says = first-is ts errors.TooLarge (ap (first_fault []) is ∙ faults-first seen x ys errors.TooLarge none says)
+
+pub none-kept : (ts : List (List ℕ)) → first_fault [] ts ≡ None → list_any is_kept ts ≡ false → token_refusal ts ≡ Some errors.NoTarget
+unfolding token_refusal
+none-kept ts none kept = ap (λ o. or_else o (if list_any is_kept ts then None else Some errors.NoTarget)) none ∙ ap (λ b. if b then None else Some errors.NoTarget) kept
+
+pub some-kept : (ts : List (List ℕ)) → first_fault [] ts ≡ None → list_any is_kept ts ≡ true → token_refusal ts ≡ None
+unfolding token_refusal
+some-kept ts none kept = ap (λ o. or_else o (if list_any is_kept ts then None else Some errors.NoTarget)) none ∙ ap (λ b. if b then None else Some errors.NoTarget) kept
+
+-- ---- a call that answers another call's refusal
+
+pub refused-err : {X : Type 0} (r : Result X DepError) (e : DepError) (refusal : Option DepError) → IsErr r → IsErrAnd r (λ y. y ≡ e) → IsRefusal e refusal → RefusedBy r refusal
+refused-err (Ok x) e refusal err same says = absurd cc
+refused-err (Err y) e refusal err same says = subst (λ z. IsRefusal z refusal) (sym same) says
+
+-- ---- what is noted of legal paths
+
+-- prerequisites stay legal with one more, and then there is one
+pub legal-added : (ps : List (List ℕ × Role)) (path : List ℕ) (r : Role) → list_all (λ p. is_path p.0) ps ≡ true → is_path path ≡ true → list_all (λ p. is_path p.0) (added ps (path, r)) ≡ true
+legal-added ps path r all legal = elim (list_any (λ x. bytes_eq path x.0) ps) as (λ b. list_all (λ p. is_path p.0) (if b then ps else ps ++ (path, r) ∷ []) ≡ true) [
+  | true ↦ all
+  | false ↦ list_all-append (λ p. is_path p.0) ps ((path, r) ∷ []) ∙ and_from _ _ all (and_from _ _ legal refl)
+]
+
+pub some-added : (ps : List (List ℕ × Role)) (p : List ℕ × Role) → 0 < length (added ps p)
+some-added [] p = omega arith
+some-added (q ∷ ps) p = elim (list_any (λ x. bytes_eq p.0 x.0) (q ∷ ps)) as (λ b. 0 < length (if b then q ∷ ps else (q ∷ ps) ++ p ∷ [])) [ true ↦ omega arith | false ↦ omega arith ]
+
+-- ---- the whole
+
+pub tokens-length : (d : List ℕ) → length (tokens d) ≤ length d + 1
+unfolding tokens
+tokens-length d = omega (arith, length-filter is_some_token (slice_split is_separator d), count_by-le-length is_some_token (slice_split is_separator d), length-slice_split is_separator d, count_by-le-length is_separator d)
+
+-- a list, parted at a place
+pub parted : (all : List (List ℕ)) (n : ℕ) (x : List ℕ) → n < length all → x ≡ get_or all n x → all ≡ take n all ++ x ∷ drop (suc n) all
+parted all n x below is = sym (take-append-drop n all) ∙ ap (λ l. take n all ++ l) (drop-cons all n x below) ∙ ap (λ y. take n all ++ y ∷ drop (suc n) all) (sym is)

@@ -1,0 +1,10 @@
+use Rattle.std.proofs.Common.{◌≡◌, ◌-◌, length}
+use Rattle.ks_fixdep.specs.NameIter.{names_left}
+use Rattle.ks_fixdep.proofs.name_iter.NameIterIterator.next.Given as goal
+
+-- what is left to take is what was left at the start
+abbrev pub invariant-loop-skipped : goal.invariant-loop-skipped
+invariant-loop-skipped l = names_left l.self ≡ names_left l.fn.self
+
+abbrev pub decreases-loop-skipped : goal.decreases-loop-skipped
+decreases-loop-skipped l = length l.self.text.now - l.self.next_place

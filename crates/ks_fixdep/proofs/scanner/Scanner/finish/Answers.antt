@@ -1,0 +1,15 @@
+use Rattle.std.proofs.Common.{◌++◌, refl, sym, ap, ◌∙◌, length}
+use Rattle.ks_fixdep.specs.Stream.{kept_name, within, carried_at, ended, before_last_word}
+use Rattle.ks_fixdep.proofs.PieceLemmas.{taken-finish}
+use Rattle.ks_fixdep.proofs.StreamLemmas.{last_word-nil}
+use Rattle.ks_fixdep.proofs.scanner.Scanner.finish.Goals as goal
+
+pub returns : goal.returns
+returns c = (
+  (refl, (λ _. tt), c.clear.ensures ∙ ap within (sym last_word-nil)),
+  record {
+    name = λ t stands. taken-finish t ∙ ap (λ x. ended t ++ carried_at (length (before_last_word t)) x) (sym (c.name.ensures.value ∙ ap kept_name (c.swap.ensures.x_after ∙ c.self.view_is ∙ stands)));
+    legal = c.name.ensures.legal;
+    after = tt;
+  },
+)

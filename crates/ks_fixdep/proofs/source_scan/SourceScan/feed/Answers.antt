@@ -1,0 +1,18 @@
+use Rattle.std.proofs.Common.{length, map}
+use Rattle.std.specs.Option.{option_copied}
+use Rattle.ks_fixdep.specs.NameIter.{names_left}
+use Rattle.ks_fixdep.specs.Scan.{bare_name}
+use Rattle.ks_fixdep.specs.Stream.{ended, list_of, before_last_word}
+use Rattle.ks_fixdep.proofs.NameLemmas.{names-longer}
+use Rattle.ks_fixdep.proofs.NotedLemmas.{noted_in_parts, on_ok}
+use Rattle.ks_fixdep.proofs.source_scan.SourceScan.feed.Goals as goal
+
+pub returns : goal.returns
+returns c = λ t stands.
+    let carried = option_copied c.feed-fed.result.carried in
+    let names = names_left c.feed-fed.result.names in
+    let longer = names-longer t c.args.piece.now (length (before_last_word t)) (length t) carried names (c.feed-fed.ensures.lends t stands.word) in
+    on_ok c.note_all.result (λ noted. record {
+      word = c.feed-fed.follows.holds-at-none t stands.word;
+      names = noted_in_parts (map bare_name (ended t)) (list_of carried) (map bare_name names) _ _ _ _ stands.names c.in_ok-note_carried.ensures noted longer;
+    }) c.note_all.ensures

@@ -1,0 +1,11 @@
+use Rattle.std.proofs.Common.{[], sym, ap, ◌∙◌, map}
+use Rattle.ks_fixdep.specs.FoundNames.{all_noted}
+use Rattle.ks_fixdep.specs.Scan.{bare_name}
+use Rattle.ks_fixdep.proofs.NameLemmas.{ended-nil}
+use Rattle.ks_fixdep.proofs.source_scan.SourceScan.new.Goals as goal
+
+pub returns : goal.returns
+returns c = record {
+  word = c.new.ensures;
+  names = c.new-2.ensures ∙ ap (λ xs. all_noted [] (map bare_name xs)) (sym ended-nil);
+}

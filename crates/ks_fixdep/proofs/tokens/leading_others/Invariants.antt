@@ -1,0 +1,9 @@
+use Rattle.std.proofs.Common.{◌≡◌, ℕ, ◌≤◌, ◌<◌, ◌-◌, length, true, get_or}
+use Rattle.ks_fixdep.specs.Tokens.{is_other}
+use Rattle.ks_fixdep.proofs.tokens.leading_others.Given as goal
+
+abbrev pub invariant-loop-end : goal.invariant-loop-end
+invariant-loop-end l = (l.end ≤ length l.text) × ((k : ℕ) → k < l.end → is_other (get_or l.text k 0) ≡ true)
+
+abbrev pub decreases-loop-end : goal.decreases-loop-end
+decreases-loop-end l = length l.text - l.end

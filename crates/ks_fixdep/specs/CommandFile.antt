@@ -1,0 +1,79 @@
+-- What a command file says, and its text: the layout of scripts/basic/fixdep.c. The prefix `savedcmd_` and the line of the generation are this project's own.
+use Rattle.std.specs.Prelude.{◌<◌, ◌^◌, ◌&&◌, ◌==◌, ℕ, Bool, not, IsTrue, List, [], ◌∷◌, ◌++◌, Option, Some, None, IfSome, map, flat_map, codes, decimal}
+use Rattle.std.specs.List.{list_all}
+use Rattle.ks_symbols.specs.Names.{is_name, is_path, is_target}
+use Rattle.ks_fixdep.specs.declared.command_file.Dep.{Dep}
+use Rattle.ks_fixdep.specs.declared.command_file.Dep.TheVariants.{File, Config}
+use Rattle.ks_fixdep.specs.declared.command_file.CommandFile as code
+use Rattle.ks_fixdep.specs.CommandLines.{line_feed}
+
+-- a command file without where it lies in memory
+pub record Record : Type 0 where
+  pub target : List ℕ
+  pub command : List ℕ
+  pub source : List ℕ
+  pub deps : List Dep
+  pub generation : Option ℕ
+
+abbrev pub view : code.CommandFile → Record
+view f = record { target = f.target; command = f.command.items; source = f.source; deps = f.deps.items; generation = f.generation }
+
+-- no line feed, carriage return or NUL
+abbrev pub is_command_byte : ℕ → Bool
+is_command_byte b = not (b == 10) && not (b == 13) && not (b == 0)
+
+unfoldable pub is_command : List ℕ → Bool
+is_command command = list_all is_command_byte command
+
+-- a legal path, or a legal name
+abbrev pub is_dep : Dep → Bool
+is_dep (File path) = is_path path
+is_dep (Config name) = is_name name
+
+-- each part is legal
+pub record IsLegal (f : Record) : Type 0 where
+  pub target : IsTrue (is_target f.target)
+  pub command : IsTrue (is_command f.command)
+  pub source : IsTrue (is_path f.source)
+  pub deps : IsTrue (list_all is_dep f.deps)
+  pub generation : IfSome f.generation (λ g. g < 2 ^ 64)
+
+-- a listed file, or a name that is found in a source
+abbrev pub dep_line : Dep → List ℕ
+dep_line (File path) = codes "  " ++ path ++ codes " \\"
+dep_line (Config name) = codes "    $(wildcard include/config/" ++ name ++ codes ") \\"
+
+abbrev pub deps_begin : List ℕ → List ℕ
+deps_begin target = codes "deps_" ++ target ++ codes " := \\"
+
+abbrev pub target_line : List ℕ → List ℕ
+target_line target = target ++ codes ": $(deps_" ++ target ++ codes ")"
+
+abbrev pub deps_end : List ℕ → List ℕ
+deps_end target = codes "$(deps_" ++ target ++ codes "):"
+
+-- the lines but for that of the generation
+abbrev pub layout : Record → List (List ℕ)
+layout f =
+    (codes "savedcmd_" ++ f.target ++ codes " := " ++ f.command)
+    ∷ []
+    ∷ (codes "source_" ++ f.target ++ codes " := " ++ f.source)
+    ∷ []
+    ∷ deps_begin f.target
+    ∷ (map dep_line f.deps ++ [] ∷ target_line f.target ∷ [] ∷ deps_end f.target ∷ [])
+
+-- what the line of a generation begins with
+abbrev pub generation_mark : List ℕ
+generation_mark = codes "#generation "
+
+abbrev pub generation_line : Option ℕ → List (List ℕ)
+generation_line None = []
+generation_line (Some g) = (generation_mark ++ decimal g) ∷ []
+
+-- a line with its end
+abbrev pub ended : List ℕ → List ℕ
+ended line = line ++ line_feed
+
+-- the text
+abbrev pub command_text : Record → List ℕ
+command_text f = flat_map ended (layout f ++ generation_line f.generation)

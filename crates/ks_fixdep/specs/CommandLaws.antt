@@ -1,0 +1,20 @@
+-- What reading and writing a command file come to.
+use Rattle.std.specs.Prelude.{◌≡◌, ℕ, List, Ok}
+use Rattle.ks_fixdep.specs.CommandFile.{Record, IsLegal, command_text}
+use Rattle.ks_fixdep.specs.CommandReads.{CommandReads}
+use Rattle.ks_fixdep.specs.CommandReading.{reading}
+
+-- what is written of a command file is a text of it, and reads as it
+abbrev pub WrittenReads : Type 0
+WrittenReads = (f : Record) → IsLegal f → CommandReads (command_text f) f
+
+abbrev pub ReadsBack : Type 0
+ReadsBack = (f : Record) → IsLegal f → reading (command_text f) ≡ Ok f
+
+-- what is read fits the layout line by line
+abbrev pub ReadFits : Type 0
+ReadFits = (text : List ℕ) (f : Record) → reading text ≡ Ok f → CommandReads text f
+
+-- what fits is read
+abbrev pub FitsRead : Type 0
+FitsRead = (text : List ℕ) (f : Record) → CommandReads text f → reading text ≡ Ok f

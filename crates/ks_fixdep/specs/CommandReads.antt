@@ -1,0 +1,28 @@
+-- Which texts read as a command file: those with the lines of its layout, and behind them any that Kbuild appends. Among these the last generation counts. Rules of this project.
+use Rattle.std.specs.Prelude.{◌≡◌, ℕ, Bool, not, ◌||◌, IsTrue, List, ◌++◌, Option, map, is_some, option_and_then}
+use Rattle.std.specs.List.{list_all, filter_map}
+use Rattle.memchr.specs.Find.{last_of}
+use Rattle.ks_symbols.specs.Decimal.{decimal_value}
+use Rattle.ks_fixdep.specs.CommandLines.{line_feed, lines, content, behind, between}
+use Rattle.ks_fixdep.specs.CommandFile.{Record, IsLegal, layout, generation_mark}
+
+-- the generation that a line says: a decimal stands between the mark and the line feed
+abbrev pub generation_in : List ℕ → Option ℕ
+generation_in line = option_and_then decimal_value (between generation_mark line_feed line)
+
+-- a line that begins as a generation line is one
+abbrev pub is_sound : List ℕ → Bool
+is_sound line = not (is_some (behind generation_mark line)) || is_some (generation_in line)
+
+-- the lines of a text, each with its end, are those of a command file
+pub record LinesRead (ls : List (List ℕ)) (f : Record) : Type 0 where
+  pub laid_out : List (List ℕ)
+  pub appended : List (List ℕ)
+  pub legal : IsLegal f
+  pub parts : ls ≡ laid_out ++ appended
+  pub fits : map content laid_out ≡ layout f
+  pub sound : IsTrue (list_all is_sound appended)
+  pub generation : f.generation ≡ last_of (filter_map generation_in appended)
+
+abbrev pub CommandReads : List ℕ → Record → Type 0
+CommandReads text f = LinesRead (lines text) f

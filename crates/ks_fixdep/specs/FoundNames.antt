@@ -1,0 +1,28 @@
+-- The names found in a text, each once, in the order in which they were first noted. (fixdep.c keeps a table of hashes for this.)
+use Rattle.std.specs.Prelude.{◌≡◌, ℕ, List, [], ◌∷◌, ◌++◌, if◌then◌else◌, map, IsTrue}
+use Rattle.std.specs.List.{fold, list_all, list_any}
+use Rattle.std.specs.Str.{bytes_eq}
+use Rattle.ks_symbols.specs.Names.{is_name}
+use Rattle.ks_fixdep.specs.Scan.{taken, bare_name}
+use Rattle.ks_fixdep.specs.Stream.{ended}
+
+-- the names, and x at their end unless x is among them
+abbrev pub noted : List (List ℕ) → List ℕ → List (List ℕ)
+noted names x = if list_any (bytes_eq x) names then names else names ++ x ∷ []
+
+-- the names, and each of those behind in turn
+abbrev pub all_noted : List (List ℕ) → List (List ℕ) → List (List ℕ)
+all_noted names behind = fold noted names behind
+
+-- Legal names, each of them once: to note them all in turn gives them back.
+pub record AreFoundNames (names : List (List ℕ)) : Type 0 where
+  pub legal : IsTrue (list_all is_name names)
+  pub once : all_noted [] names ≡ names
+
+-- the names of a text, each once, by its first place there
+abbrev pub names_in : List ℕ → List (List ℕ)
+names_in t = all_noted [] (map bare_name (taken t))
+
+-- those whose run is followed by a byte of the text
+abbrev pub names_ended : List ℕ → List (List ℕ)
+names_ended t = all_noted [] (map bare_name (ended t))

@@ -1,0 +1,19 @@
+-- The definitions, in reading order.
+pub mod Scan
+pub mod NameIter
+pub mod Stream
+pub mod Scanner
+pub mod FoundNames
+pub mod SourceScan
+pub mod DepRefusals
+pub mod Tokens
+pub mod DependencyFile
+pub mod Progress
+pub mod CommandLines
+pub mod CommandFile
+pub mod CommandReads
+pub mod CommandReading
+pub mod CommandLaws
+pub mod CommandExamples
+pub mod CommandWriting
+pub mod Record

@@ -1,0 +1,286 @@
+//! Reading a command file. Each function takes one line, or the lines from one number on, and answers what the definition of
+//! these lines answers: what they say, or the number of the first that does not fit.
+ghost use Rattle.std.specs.Prelude.{◌≡◌, ◌∷◌, [], ◌<◌, ◌≤◌, ◌+◌, ◌^◌, List, ℕ, length, drop, IfOk, IfSome, IsTrue, IsErrOf, OnOk, flat_map};
+ghost use Rattle.std.specs.Option.{option_copied};
+ghost use Rattle.std.specs.Str.{bytes_eq};
+ghost use Rattle.ks_symbols.specs.Names.{is_name, is_path, is_target};
+ghost use Rattle.ks_symbols.specs.Lines.{max_bytes};
+ghost use Rattle.ks_fixdep.specs.CommandLines.{lines, content};
+ghost use Rattle.ks_fixdep.specs.CommandFile.{view};
+ghost use Rattle.ks_fixdep.specs.CommandReading as Reading;
+ghost use Rattle.ks_fixdep.specs.CommandReading.{Gives, reading};
+ghost use Rattle.ks_fixdep.specs.declared.command_file.CommandError.TheVariants.{TooLarge};
+
+use super::{CommandError, CommandFile, Dep, command_is_legal};
+use bstr::ByteSlice;
+use ks_symbols::{
+    MAX_BYTES, Name, Path, name_is_legal, path_is_legal, read_decimal, target_is_legal,
+};
+use memchr::memchr;
+use std::alloc::{AllocError, Global};
+
+/// The first line with its line feed, and what follows it.
+fn split_line(text: &[u8]) -> (&[u8], &[u8])
+    ensures first { 0 < length text.now → lines text.now ≡ result.0.now ∷ lines result.1.now }
+    ensures shorter { 0 < length text.now → length result.1.now < length text.now }
+{
+    match memchr(b'\n', text) {
+        Some(end) => text.split_at(end + 1),
+        None => (text, &[]),
+    }
+}
+
+/// A line without its line feed.
+#[tactic(auto, unfolding(crate::specs::CommandLines::content))]
+fn content_of(line: &[u8]) -> &[u8]
+    ensures { result.now ≡ content line.now }
+{
+    match line.strip_suffix(b"\n") {
+        Some(content) => content,
+        None => line,
+    }
+}
+
+/// The first line without its line feed, and what follows it.
+fn line_at(number: u64, text: &[u8]) -> Result<(&[u8], &[u8]), CommandError>
+    ensures value { Gives (λ x. (x.0.now, lines x.1.now)) result (Reading.line_at number (lines text.now)) }
+    ensures shorter { IfOk result (λ x. length x.1.now < length text.now) }
+{
+    if text.is_empty() {
+        return Err(CommandError::BadCommandFile(number));
+    }
+    let (line, rest) = split_line(text);
+    Ok((content_of(line), rest))
+}
+
+/// Whether a line is these parts, one behind the other.
+fn is_joined(line: &[u8], parts: &[&[u8]]) -> bool
+    ensures { result ≡ bytes_eq line.now (flat_map (λ p. p.now) parts.now) }
+{
+    let mut rest = line;
+    for part in parts {
+        match rest.strip_prefix(*part) {
+            Some(after) => rest = after,
+            None => return false,
+        }
+    }
+    rest.is_empty()
+}
+
+/// What follows a line that is these parts.
+#[tactic(auto, unfolding(crate::specs::CommandReading::fixed_at))]
+fn fixed_at<'a>(number: u64, parts: &[&[u8]], text: &'a [u8]) -> Result<&'a [u8], CommandError>
+    ensures shorter { IfOk result (λ r. length r.now < length text.now) }
+    ensures value { Gives (λ r. lines r.now) result (Reading.fixed_at number (flat_map (λ p. p.now) parts.now) (lines text.now)) }
+{
+    let (line, rest) = line_at(number, text)?;
+    if !is_joined(line, parts) {
+        return Err(CommandError::BadCommandFile(number));
+    }
+    Ok(rest)
+}
+
+/// The target and the command of a line.
+#[tactic(auto, unfolding(crate::specs::CommandReading::saved_command, ks_symbols::specs::Names::is_target))]
+fn saved_command(line: &[u8]) -> Option<(&[u8], &[u8])>
+    ensures value { Reading.copied_pair result ≡ Reading.saved_command line.now }
+    ensures legal { IfSome result (λ p. IsTrue (is_path p.0.now)) }
+{
+    let named = line.strip_prefix(b"savedcmd_")?;
+    let (target, command) = named.split_once_str(b" := ")?;
+    if target_is_legal(target) && command_is_legal(command) {
+        Some((target, command))
+    } else {
+        None
+    }
+}
+
+/// The source of a line.
+#[tactic(auto, unfolding(crate::specs::CommandReading::source_in))]
+fn source_in<'a>(target: &[u8], line: &'a [u8]) -> Option<&'a [u8]>
+    ensures value { option_copied result ≡ Reading.source_in target.now line.now }
+    ensures legal { IfSome result (λ x. IsTrue (is_path x.now)) }
+{
+    let source = line
+        .strip_prefix(b"source_")?
+        .strip_prefix(target)?
+        .strip_prefix(b" := ")?;
+    if path_is_legal(source) {
+        Some(source)
+    } else {
+        None
+    }
+}
+
+/// The name of a dependency line.
+#[tactic(auto, unfolding(crate::specs::CommandReading::name_in))]
+fn name_in(line: &[u8]) -> Option<&[u8]>
+    ensures value { option_copied result ≡ Reading.name_in line.now }
+    ensures legal { IfSome result (λ x. IsTrue (is_name x.now)) }
+{
+    let name = line
+        .strip_prefix(b"    $(wildcard include/config/")?
+        .strip_suffix(b") \\")?;
+    if name_is_legal(name) {
+        Some(name)
+    } else {
+        None
+    }
+}
+
+/// The path of a dependency line.
+#[tactic(auto, unfolding(crate::specs::CommandReading::path_in))]
+fn path_in(line: &[u8]) -> Option<&[u8]>
+    ensures value { option_copied result ≡ Reading.path_in line.now }
+    ensures legal { IfSome result (λ x. IsTrue (is_path x.now)) }
+{
+    let path = line.strip_prefix(b"  ")?.strip_suffix(b" \\")?;
+    if path_is_legal(path) {
+        Some(path)
+    } else {
+        None
+    }
+}
+
+/// What a line says of the generation.
+#[tactic(auto, unfolding(crate::specs::CommandReading::said))]
+fn said(number: u64, line: &[u8]) -> Result<Option<u64>, CommandError>
+    ensures { Gives (λ g. g) result (Reading.said number line.now) }
+{
+    let Some(after) = line.strip_prefix(b"#generation ") else {
+        return Ok(None);
+    };
+    let Some(digits) = after.strip_suffix(b"\n") else {
+        return Err(CommandError::BadCommandFile(number));
+    };
+    match read_decimal(digits) {
+        Some(generation) => Ok(Some(generation)),
+        None => Err(CommandError::BadCommandFile(number)),
+    }
+}
+
+/// The file or the name of a dependency line.
+#[tactic(auto, unfolding(crate::specs::CommandReading::dep_in))]
+fn dep_in(alloc: Global, line: &[u8]) -> Result<Option<Dep>, AllocError>
+    ensures { IfOk result (λ d. d ≡ Reading.dep_in line.now) }
+{
+    if let Some(name) = name_in(line) {
+        return Ok(Some(Dep::Config(Name::new(alloc, name)?)));
+    }
+    match path_in(line) {
+        Some(path) => Ok(Some(Dep::File(Path::new(alloc, path)?))),
+        None => Ok(None),
+    }
+}
+
+/// The dependency lines in front, and what follows them.
+fn dependencies(alloc: Global, text: &[u8]) -> Result<(Vec<Dep>, &[u8]), AllocError>
+    ensures deps { IfOk result (λ r. r.0.items ≡ Reading.deps_in (lines text.now)) }
+    ensures rest { IfOk result (λ r. lines r.1.now ≡ drop (length r.0.items) (lines text.now)) }
+    ensures fits { IfOk result (λ r. length r.0.items + length r.1.now ≤ length text.now) }
+{
+    let mut deps = Vec::new(alloc);
+    let mut rest = text;
+    while !rest.is_empty() {
+        let (line, after) = split_line(rest);
+        let Some(dep) = dep_in(alloc, content_of(line))? else {
+            return Ok((deps, rest));
+        };
+        let Ok(()) = deps.push(dep) else {
+            return Err(AllocError);
+        };
+        rest = after;
+    }
+    Ok((deps, rest))
+}
+
+/// The generation of the lines, of which the first has this number.
+fn generation_from(first: u64, text: &[u8]) -> Result<Option<u64>, CommandError>
+    requires { first + length text.now < 2 ^ 64 }
+    ensures { Gives (λ g. g) result (Reading.generation_from first (lines text.now)) }
+{
+    let mut generation = None;
+    let mut number = first;
+    let mut rest = text;
+    while !rest.is_empty() {
+        let (line, after) = split_line(rest);
+        generation = said(number, line)?.or(generation);
+        number += 1;
+        rest = after;
+    }
+    Ok(generation)
+}
+
+/// The generation of what follows the dependency lines, where all of it fits.
+#[tactic(auto, unfolding(crate::specs::CommandReading::end_from))]
+fn end_from(number: u64, target: &[u8], text: &[u8]) -> Result<Option<u64>, CommandError>
+    requires { number + 4 + length text.now < 2 ^ 64 }
+    ensures { Gives (λ g. g) result (Reading.end_from number target.now (lines text.now)) }
+{
+    let rest = fixed_at(number, &[], text)?;
+    let rest = fixed_at(number + 1, &[target, b": $(deps_", target, b")"], rest)?;
+    let rest = fixed_at(number + 2, &[], rest)?;
+    let rest = fixed_at(number + 3, &[b"$(deps_", target, b"):"], rest)?;
+    generation_from(number + 4, rest)
+}
+
+/// The target and the command of the first line, and what follows it.
+#[tactic(auto, unfolding(crate::specs::CommandReading::form_at))]
+fn saved_at(text: &[u8]) -> Result<((&[u8], &[u8]), &[u8]), CommandError>
+    ensures value { Gives (λ x. ((x.0.0.now, x.0.1.now), lines x.1.now)) result (Reading.form_at 1 Reading.saved_command (lines text.now)) }
+    ensures legal { IfOk result (λ x. IsTrue (is_path x.0.0.now)) }
+    ensures shorter { IfOk result (λ x. length x.1.now < length text.now) }
+{
+    let (line, rest) = line_at(1, text)?;
+    match saved_command(line) {
+        Some(saved) => Ok((saved, rest)),
+        None => Err(CommandError::BadCommandFile(1)),
+    }
+}
+
+/// The source of the line with number 3, and what follows it.
+#[tactic(auto, unfolding(crate::specs::CommandReading::form_at))]
+fn source_at<'a>(target: &[u8], text: &'a [u8]) -> Result<(&'a [u8], &'a [u8]), CommandError>
+    ensures value { Gives (λ x. (x.0.now, lines x.1.now)) result (Reading.form_at 3 (Reading.source_in target.now) (lines text.now)) }
+    ensures legal { IfOk result (λ x. IsTrue (is_path x.0.now)) }
+    ensures shorter { IfOk result (λ x. length x.1.now < length text.now) }
+{
+    let (line, rest) = line_at(3, text)?;
+    match source_in(target, line) {
+        Some(source) => Ok((source, rest)),
+        None => Err(CommandError::BadCommandFile(3)),
+    }
+}
+
+/// What a text of bounded length reads as.
+#[tactic(auto, unfolding(crate::specs::CommandReading::record_in))]
+fn record_in(alloc: Global, text: &[u8]) -> Result<CommandFile, CommandError>
+    requires { length text.now ≤ max_bytes }
+    ensures { Gives view result (Reading.record_in (lines text.now)) }
+{
+    let ((target, command), rest) = saved_at(text)?;
+    let rest = fixed_at(2, &[], rest)?;
+    let (source, rest) = source_at(target, rest)?;
+    let rest = fixed_at(4, &[], rest)?;
+    let rest = fixed_at(5, &[b"deps_", target, b" := \\"], rest)?;
+    let (deps, rest) = dependencies(alloc, rest)?;
+    let generation = end_from(6 + deps.len() as u64, target, rest)?;
+    Ok(CommandFile {
+        target: Path::new(alloc, target)?,
+        command: command.to_vec(alloc)?,
+        source: Path::new(alloc, source)?,
+        deps,
+        generation,
+    })
+}
+
+/// Reads a command file.
+pub fn read_command(alloc: Global, text: &[u8]) -> Result<CommandFile, CommandError>
+    ensures large { max_bytes < length text.now → IsErrOf result TooLarge }
+    ensures exact { length text.now ≤ max_bytes → Gives view result (reading text.now) }
+{
+    if text.len() > MAX_BYTES {
+        return Err(CommandError::TooLarge);
+    }
+    record_in(alloc, text)
+}

@@ -1,0 +1,117 @@
+//! The names found in one source, each once. A header names the same symbol many times, and one line of the
+//! command file is enough. The order of first places is kept, so that the same sources give the same file.
+//! The set hashes by a fixed key, since making an empty one takes no memory and no randomness.
+ghost use Rattle.std.specs.Prelude.{◌≡◌, ◌↔◌, [], IfOk, IfSome, IsTrue, OnOk, OnErr, length, map};
+ghost use Rattle.std.specs.Option.{option_copied};
+ghost use Rattle.ks_symbols.specs.Names.{is_name};
+ghost use Rattle.ks_fixdep.specs.NameIter.{names_left};
+ghost use Rattle.ks_fixdep.specs.FoundNames.{all_noted, names_in};
+ghost use Rattle.ks_fixdep.specs.Scan.{bare_name};
+ghost use Rattle.ks_fixdep.specs.Stream.{list_of};
+
+use crate::name_iter::NameIter;
+use crate::scan::names;
+use indexmap::IndexSet;
+use std::alloc::{AllocError, Global};
+use std::marker::Model;
+
+/// Legal names in the order in which they were first noted, each once.
+#[derive(Drop)]
+pub struct FoundNames {
+    alloc: Global,
+    names: IndexSet<Vec<u8>>,
+}
+
+impl Model for FoundNames {
+    ghost use Rattle.std.specs.Prelude.{List, ℕ, map};
+    ghost use Rattle.indexmap.specs.IndexSet.{keys};
+    ghost use Rattle.ks_fixdep.specs.FoundNames.{AreFoundNames};
+
+    ghost Value = { List (List ℕ) };
+
+    ghost view = { λ f. map (λ v. v.items) (keys f.names) };
+
+    ghost invariant = { λ f. AreFoundNames (map (λ v. v.items) (keys f.names)) };
+}
+
+impl FoundNames {
+    ghost use Rattle.ks_fixdep.specs.FoundNames.{noted, AreFoundNames};
+
+    /// No names. It takes no memory until one is noted.
+    pub fn new(alloc: Global) -> Self
+        ensures { result ≡ [] }
+    {
+        FoundNames {
+            alloc,
+            names: IndexSet::new(alloc),
+        }
+    }
+
+    /// Notes a name, unless it was noted before.
+    pub fn note(&mut self, name: &[u8]) -> Result<(), AllocError>
+        requires { IsTrue (is_name name.now) }
+        ensures ok { OnOk result (self.new ≡ noted self.old name.now) }
+        ensures err { OnErr result (self.new ≡ self.old) }
+    {
+        if self.names.contains(name) {
+            return Ok(());
+        }
+        let owned = name.to_vec(self.alloc)?;
+        let Ok(_) = self.names.insert(owned) else {
+            return Err(AllocError);
+        };
+        Ok(())
+    }
+
+    /// How many names there are.
+    pub fn len(&self) -> usize
+        ensures { result ≡ length self.now }
+    {
+        self.names.len()
+    }
+
+    /// Whether there is none.
+    pub fn is_empty(&self) -> bool
+        ensures { IsTrue result ↔ (self.now ≡ []) }
+    {
+        self.names.is_empty()
+    }
+
+    /// The names, in the order in which they were first noted.
+    pub fn as_slice(&self) -> &[Vec<u8>]
+        ensures value { map (λ v. v.items) result.now ≡ self.now }
+        ensures found { AreFoundNames self.now }
+    {
+        self.names.as_slice()
+    }
+}
+
+/// Notes the names that are left, in their order.
+pub(crate) fn note_all(found: &mut FoundNames, names: NameIter<'_>) -> Result<(), AllocError>
+    ensures { OnOk result (found.new ≡ all_noted found.old (map bare_name (names_left names.entry))) }
+{
+    for next in names {
+        found.note(next.name)?;
+    }
+    Ok(())
+}
+
+/// Notes a name, if there is one.
+pub(crate) fn note_carried(found: &mut FoundNames, carried: Option<&[u8]>) -> Result<(), AllocError>
+    requires { IfSome carried (λ name. IsTrue (is_name name.now)) }
+    ensures { OnOk result (found.new ≡ all_noted found.old (list_of (option_copied carried.entry))) }
+{
+    match carried {
+        Some(name) => found.note(name),
+        None => Ok(()),
+    }
+}
+
+/// The names of a whole text.
+pub(crate) fn names_of_text(alloc: Global, text: &[u8]) -> Result<FoundNames, AllocError>
+    ensures { IfOk result (λ found. found ≡ names_in text.now) }
+{
+    let mut found = FoundNames::new(alloc);
+    note_all(&mut found, names(text))?;
+    Ok(found)
+}

@@ -1,0 +1,29 @@
+//! What an object was built from: the names in its sources, its dependency file, and the command file that records both.
+#![tactic(auto)]
+
+mod building;
+mod command_file;
+mod dep_error;
+mod dependency_file;
+mod found_names;
+mod laws;
+mod name_iter;
+mod runs;
+mod scan;
+mod scanner;
+mod source_scan;
+mod tokens;
+
+pub use building::{build, build_from};
+pub use command_file::{
+    CommandError, CommandFile, Dep, command_examples, command_files_fit, command_is_legal,
+    command_texts_read_back, read_command, write_command,
+};
+pub use dep_error::DepError;
+pub use dependency_file::{Prerequisites, Role, read_depfile};
+pub use found_names::FoundNames;
+pub use laws::{names_of_a_record, names_of_all_sources};
+pub use name_iter::NameIter;
+pub use scan::{Found, names};
+pub use scanner::{Fed, Scanner};
+pub use source_scan::SourceScan;

@@ -1,0 +1,112 @@
+//! The C header `include/generated/autoconf.h`: a macro for each symbol that has a value.
+//!
+//! It is what an object is compiled with, so the staleness of objects rests on it: the definitions of a name depend
+//! on that name's entry alone. The forms are those of print_symbol_for_c in scripts/kconfig/confdata.c. That the
+//! names rise is a rule of this project.
+ghost use Rattle.std.specs.Prelude.{◌≡◌, ◌++◌, OnOk, OnErr};
+ghost use Rattle.ks_symbols.specs.Values.{quoted};
+ghost use Rattle.ks_output.specs.Appending.{Keeps};
+ghost use Rattle.ks_output.specs.Header.{header_text, header_heading, definition_line, defined_as};
+
+use crate::appending::append_all;
+use ks_symbols::{Kind, Settings};
+use std::alloc::AllocError;
+
+/// Appends the heading with a title.
+fn append_heading(title: &[u8], out: &mut Vec<u8>) -> Result<(), AllocError>
+    ensures written { OnOk result (out.new.items ≡ out.old.items ++ header_heading title.now) }
+    ensures kept { Keeps out.old.items out.new.items }
+{
+    append_all(
+        &[
+            b"/*\n * Automatically generated file; DO NOT EDIT.\n * ",
+            title,
+            b"\n */\n",
+        ],
+        out,
+    )
+}
+
+/// Appends a text between quotes.
+fn append_quoted(text: &[u8], out: &mut Vec<u8>) -> Result<(), AllocError>
+    ensures written { OnOk result (out.new.items ≡ out.old.items ++ quoted text.now) }
+    ensures kept { Keeps out.old.items out.new.items }
+{
+    out.push(b'"')?;
+    for byte in text {
+        if *byte == b'"' || *byte == b'\\' {
+            out.push(b'\\')?;
+        }
+        out.push(*byte)?;
+    }
+    out.push(b'"')?;
+    Ok(())
+}
+
+/// Appends what stands behind the name in a definition.
+fn append_value(kind: Kind, text: &[u8], out: &mut Vec<u8>) -> Result<(), AllocError>
+    ensures written { OnOk result (out.new.items ≡ out.old.items ++ defined_as kind text.now) }
+    ensures kept { Keeps out.old.items out.new.items }
+{
+    match kind {
+        Kind::Bool | Kind::Tristate => {
+            let is_module = text == b"m".as_slice();
+            out.extend_from_slice(if is_module { b"_MODULE 1" } else { b" 1" })
+        }
+        Kind::Text => {
+            out.extend_from_slice(b" ")?;
+            append_quoted(text, out)
+        }
+        Kind::Int => append_all(&[b" ", text], out),
+        Kind::Hex => {
+            let has_radix = text.starts_with(b"0x") || text.starts_with(b"0X");
+            out.extend_from_slice(if has_radix { b" " } else { b" 0x" })?;
+            out.extend_from_slice(text)
+        }
+    }
+}
+
+/// Appends the definition of an entry.
+fn append_definition(
+    name: &[u8],
+    kind: Kind,
+    text: &[u8],
+    out: &mut Vec<u8>,
+) -> Result<(), AllocError>
+    ensures written { OnOk result (out.new.items ≡ out.old.items ++ definition_line name.now kind text.now) }
+    ensures kept { Keeps out.old.items out.new.items }
+{
+    out.extend_from_slice(b"#define CONFIG_")?;
+    out.extend_from_slice(name)?;
+    append_value(kind, text, out)?;
+    out.extend_from_slice(b"\n")?;
+    Ok(())
+}
+
+/// Appends the header, or a beginning of it.
+#[tactic(auto, unfolding(crate::specs::Header::header_text))]
+fn append_header(settings: &Settings, title: &[u8], out: &mut Vec<u8>) -> Result<(), AllocError>
+    ensures written { OnOk result (out.new.items ≡ out.old.items ++ header_text title.now settings.now.entries) }
+    ensures kept { Keeps out.old.items out.new.items }
+{
+    append_heading(title, out)?;
+    for (name, kind, text) in settings.entries() {
+        append_definition(name, kind, text, out)?;
+    }
+    Ok(())
+}
+
+/// Appends the header, or leaves the vector as it was.
+pub fn write_header(settings: &Settings, title: &[u8], out: &mut Vec<u8>) -> Result<(), AllocError>
+    ensures written { OnOk result (out.new.items ≡ out.old.items ++ header_text title.now settings.now.entries) }
+    ensures kept { OnErr result (out.new.items ≡ out.old.items) }
+{
+    let start = out.len();
+    match append_header(settings, title, out) {
+        Ok(()) => Ok(()),
+        Err(refused) => {
+            out.truncate(start);
+            Err(refused)
+        }
+    }
+}

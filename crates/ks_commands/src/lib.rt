@@ -1,14 +1,9 @@
-//! The program `confstamp`.
+//! The commands of the program `confstamp`, over any tree of files and any two writers.
 #![tactic(auto)]
 
 mod preview;
 
 pub use preview::{PreviewError, preview_to};
-
-#[cfg(test)]
-use ks_symbols::SourceError;
-
-fn main() {}
 
 #[cfg(test)]
 mod tests;

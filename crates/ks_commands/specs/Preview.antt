@@ -12,10 +12,11 @@ use Rattle.ks_symbols.specs.DotConfig.{setting, dotconfig_refusal}
 use Rattle.ks_symbols.specs.Kconfig.{declared, title_of, kconfig_refusal}
 use Rattle.ks_output.specs.declared.auto_conf.AutoError.{AutoError}
 use Rattle.ks_output.specs.declared.auto_conf.AutoError.TheVariants as auto
-use Rattle.ks_output.specs.AutoConf.{auto_text, auto_map, auto_generation, auto_refusal}
+use Rattle.ks_output.specs.AutoText.{auto_text}
+use Rattle.ks_output.specs.AutoConf.{auto_map, auto_generation, auto_refusal}
 use Rattle.ks_compare.specs.Changes.{AreChanges}
-use Rattle.confstamp.specs.declared.preview.PreviewError.{PreviewError}
-use Rattle.confstamp.specs.declared.preview.PreviewError.TheVariants as preview
+use Rattle.ks_commands.specs.declared.preview.PreviewError.{PreviewError}
+use Rattle.ks_commands.specs.declared.preview.PreviewError.TheVariants as preview
 
 -- the settings of a Kconfig and a `.config`: one map, since configurations that agree are one
 abbrev pub AreSettings : List ℕ → List ℕ → NameMap (Kind × List ℕ) → Type 0

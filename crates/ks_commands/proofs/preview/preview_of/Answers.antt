@@ -3,11 +3,11 @@ use Rattle.std.proofs.lemmas.Result.{err_from_is_err_and}
 use Rattle.std.specs.Borrow.{Bor}
 use Rattle.ks_symbols.specs.Configuration.{NameMap}
 use Rattle.ks_symbols.specs.Kconfig.{title_of}
-use Rattle.ks_output.specs.AutoConf.{auto_text}
+use Rattle.ks_output.specs.AutoText.{auto_text}
 use Rattle.ks_compare.specs.Changes.{AreChanges}
-use Rattle.confstamp.specs.Preview.{old_generation, touch_lines}
-use Rattle.confstamp.proofs.Refusing.{texts_refused, auto_refused, preview_refusal-old, preview_refusal-full, full_refusal-full, full_refusal-below}
-use Rattle.confstamp.proofs.preview.preview_of.Goals as goal
+use Rattle.ks_commands.specs.Preview.{old_generation, touch_lines}
+use Rattle.ks_commands.proofs.Refusing.{texts_refused, auto_refused, preview_refusal-old, preview_refusal-full, full_refusal-full, full_refusal-below}
+use Rattle.ks_commands.proofs.preview.preview_of.Goals as goal
 
 pub returns-in_err-symbols-clause-refusal : goal.returns-in_err-symbols-clause-refusal
 returns-in_err-symbols-clause-refusal c =

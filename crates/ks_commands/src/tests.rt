@@ -1,4 +1,5 @@
 use super::*;
+use ks_symbols::SourceError;
 use std::alloc::{AllocError, Global};
 
 /// A title, a bool and a tristate.

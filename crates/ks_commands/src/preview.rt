@@ -6,10 +6,11 @@ ghost use Rattle.std.specs.Prelude.{◌≡◌, ◌+◌, ◌++◌, None, IfOk, On
 ghost use Rattle.ks_symbols.specs.Configuration.{IsConfiguration};
 ghost use Rattle.ks_symbols.specs.Kconfig.{title_of};
 ghost use Rattle.ks_symbols.specs.Refusals.{RefusedBy};
-ghost use Rattle.ks_output.specs.AutoConf.{AutoRefusedBy, auto_text};
-ghost use Rattle.ks_output.specs.Models.{HasNames};
-ghost use Rattle.confstamp.specs.declared.preview.PreviewError.TheVariants.{Auto, OutOfMemory, Source};
-ghost use Rattle.confstamp.specs.Preview.{AreSettings, IsPreview, PreviewRefusedBy, Previews, WritesNothing, old_generation, old_refusal, old_texts, preview_refusal, source_refusal, touch_lines};
+ghost use Rattle.ks_output.specs.AutoConf.{AutoRefusedBy};
+ghost use Rattle.ks_output.specs.AutoText.{auto_text};
+ghost use Rattle.ks_output.specs.OldConfig.{HasNames};
+ghost use Rattle.ks_commands.specs.declared.preview.PreviewError.TheVariants.{Auto, OutOfMemory, Source};
+ghost use Rattle.ks_commands.specs.Preview.{AreSettings, IsPreview, PreviewRefusedBy, Previews, WritesNothing, old_generation, old_refusal, old_texts, preview_refusal, source_refusal, touch_lines};
 
 use ks_compare::changed;
 use ks_output::{AutoError, OldConfig, read_auto, write_auto};
@@ -86,7 +87,7 @@ fn read_old(alloc: Global, old: Option<&[u8]>) -> Result<OldConfig, AutoError>
 {
     match old {
         Some(text) => read_auto(alloc, text),
-        None => Ok(OldConfig::new(alloc)),
+        None => Ok(OldConfig::empty(alloc)),
     }
 }
 
@@ -114,7 +115,7 @@ fn preview_text(
 {
     let mut text = Vec::new(alloc);
     write_touches(names, &mut text)?;
-    write_auto(alloc, settings, title, generation, &mut text)?;
+    write_auto(settings, title, generation, &mut text)?;
     Ok(text)
 }
 

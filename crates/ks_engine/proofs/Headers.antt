@@ -1,18 +1,17 @@
 -- Which headers a fresh object may meet.
-use Rattle.std.proofs.Common.{◌≡◌, inl, inr, ⊎_elim, ℕ, List, Option, Some, None, Bool, true, false, ◌&&◌, ◌||◌, sym, ◌∙◌, ap, refl, true≢false, option_map, subst}
+use Rattle.std.proofs.Common.{◌≡◌, inl, inr, ⊎_elim, ℕ, List, Option, Some, None, Bool, true, false, ◌&&◌, ◌||◌, sym, ◌∙◌, ap, refl, true≢false, subst}
 use Rattle.std.specs.FinMap.{get}
 use Rattle.std.proofs.lemmas.Bool.{or_parts, not-false, cond-true, cond-false, false_from_ne_true}
 use Rattle.std.proofs.lemmas.Slice.Eq.{bytes_eq-Decides}
-use Rattle.ks_symbols.specs.declared.kinds.Kind.{Kind}
-use Rattle.ks_symbols.specs.Kinds.{class_of}
-use Rattle.ks_output.specs.Header.{header_text, definitions}
-use Rattle.ks_output.specs.Laws.{AreAlike}
-use Rattle.ks_compare.specs.Changes.{differ, is_in}
-use Rattle.ks_engine.specs.History.{History, Begun, Synced, Broken, Recorded, Record, Configuration, Texts, texts, before, changes, last_record}
+use Rattle.ks_output.specs.Header.{header_text}
+use Rattle.ks_output.specs.Definitions.{definitions}
+use Rattle.ks_output.specs.OldConfig.{texts_of}
+use Rattle.ks_compare.specs.Changes.{differ, differs, is_in}
+use Rattle.ks_engine.specs.History.{History, Begun, Synced, Broken, Recorded, Record, Configuration, Texts, before, last_record}
 use Rattle.ks_engine.specs.Staleness.{names_of, found, renewed_since_sync, suspect_since}
 use Rattle.ks_engine.specs.Legal.{AreAllRenewed, MayBeHeader, IsSource, IsHistory, HasConfiguration, HasOneKind}
 use Rattle.ks_engine.proofs.Heart.{record_cases}
-use Rattle.ks_engine.proofs.Laws.{alike}
+use Rattle.ks_engine.proofs.Laws.{alike, entry_texts}
 
 differ-false : (a b : Option (List ℕ)) → differ a b ≡ false → a ≡ b
 differ-false None None e = refl
@@ -20,8 +19,8 @@ differ-false None (Some v) e = absurd cc
 differ-false (Some u) None e = absurd cc
 differ-false (Some u) (Some v) e = ap (λ w. Some w) ((bytes_eq-Decides u v).0 (not-false _ e))
 
-same_where : (a : Texts) (new : Configuration) (x : List ℕ) → changes a new x ≡ false → a x ≡ texts new x
-same_where a new x e = differ-false (a x) (texts new x) e
+same_where : (a : Texts) (new : Configuration) (x : List ℕ) → differs a new x ≡ false → get a x ≡ get (texts_of new) x
+same_where a new x e = differ-false (get a x) _ e ∙ sym (entry_texts new x)
 
 -- a header of a history, by a configuration that has the text of the last completed synchronisation at x
 record HeaderAt (h : History) (x : List ℕ) (b : List ℕ) : Type 0 where
@@ -30,13 +29,13 @@ record HeaderAt (h : History) (x : List ℕ) (b : List ℕ) : Type 0 where
   written : b ≡ header_text title config
   source : IsSource title config
   one : HasConfiguration h config
-  text : texts config x ≡ before h x
+  text : get (texts_of config) x ≡ get (before h) x
 
 not_both : (b : Bool) → b ≡ true → b ≡ false → ⊥
 not_both b p q = true≢false (sym p ∙ q)
 
 -- The name isn't renewed, so it isn't changed either.
-kept : (renewed : List (List ℕ)) (old : Texts) (new : Configuration) (x : List ℕ) → AreAllRenewed renewed old new → is_in renewed x ≡ false → old x ≡ texts new x
+kept : (renewed : List (List ℕ)) (old : Texts) (new : Configuration) (x : List ℕ) → AreAllRenewed renewed old new → is_in renewed x ≡ false → get old x ≡ get (texts_of new) x
 kept renewed old new x all out = same_where old new x (false_from_ne_true _ (λ d. not_both _ (all x d) out))
 
 header_untouched : (h : History) (x : List ℕ) (b : List ℕ) → IsHistory h → MayBeHeader h b → renewed_since_sync h x ≡ false → HeaderAt h x b
@@ -61,20 +60,20 @@ module _ (o : List ℕ) (x : List ℕ) (r : Record) (named : is_in r.names x ≡
       let parts = or_parts _ s out in
       (and_in (is_in (found past o) x) b (ap (λ w. is_in (names_of w) x) last ∙ named) parts.0, parts.1)
 
-  before_kept : (h : History) → last_record h o ≡ Some r → suspect_since h o x ≡ false → before h x ≡ before r.past x
+  before_kept : (h : History) → last_record h o ≡ Some r → suspect_since h o x ≡ false → get (before h) x ≡ get (before r.past) x
   before_kept (Begun first) last out = absurd cc
   before_kept (Synced t config past) last out =
-      let parts = step_parts past (changes (before past) config x) _ last out in
+      let parts = step_parts past (differs (before past) config x) _ last out in
       sym (same_where (before past) config x parts.0) ∙ before_kept past last parts.1
   before_kept (Broken t config renewed past) last out = before_kept past last (step_parts past (is_in renewed x) _ last out).1
   before_kept (Recorded p command names header past) last out = ⊎_elim
-      (λ here. ap (λ (w : Record). before w.past x) here.1)
+      (λ here. ap (λ (w : Record). get (before w.past) x) here.1)
       (λ there. before_kept past there.1 (sym (cond-false _ _ _ there.0) ∙ out))
       (record_cases p o _ _ r last)
 
   untouched_then : (h : History) → last_record h o ≡ Some r → suspect_since h o x ≡ false → renewed_since_sync r.past x ≡ false
   untouched_then (Begun first) last out = absurd cc
-  untouched_then (Synced t config past) last out = untouched_then past last (step_parts past (changes (before past) config x) _ last out).1
+  untouched_then (Synced t config past) last out = untouched_then past last (step_parts past (differs (before past) config x) _ last out).1
   untouched_then (Broken t config renewed past) last out = untouched_then past last (step_parts past (is_in renewed x) _ last out).1
   untouched_then (Recorded p command names header past) last out = ⊎_elim
       (λ here. ap (λ (w : Record). renewed_since_sync w.past x) (sym here.1) ∙ and_in (is_in names x) _ (ap (λ (w : Record). is_in w.names x) here.1 ∙ named) (sym (cond-true _ _ _ here.0) ∙ out))
@@ -117,12 +116,6 @@ configs_then (Recorded p command names header past) o r c last has = ⊎_elim
     (λ there. configs_then past o r c there.1 has)
     (record_cases p o _ _ r last)
 
-are_alike : (a b : Option (Kind × List ℕ)) → option_map (λ e. e.1) a ≡ option_map (λ e. e.1) b → ((s t : Kind × List ℕ) → a ≡ Some s → b ≡ Some t → class_of s.0 ≡ class_of t.0) → AreAlike a b
-are_alike None None e kinds = tt
-are_alike None (Some v) e kinds = absurd cc
-are_alike (Some u) None e kinds = absurd cc
-are_alike (Some u) (Some v) e kinds = (kinds u v refl refl, cc)
-
 -- Of an object that is fresh at one of its names, the header defines the name in the same lines as at the record.
 pub same_definitions : (h : History) (o : List ℕ) (r : Record) (x : List ℕ) (b : List ℕ) → IsHistory h → HasOneKind h → last_record h o ≡ Some r → is_in r.names x ≡ true →
     suspect_since h o x ≡ false → MayBeHeader h b → definitions x b ≡ definitions x r.header
@@ -130,9 +123,8 @@ same_definitions h o r x b is one last named out may =
     let legal = record_legal h o r is last in
     let now = header_fresh o x r named h b is last out may in
     let past = header_untouched r.past x r.header legal.0 legal.1 (untouched_then o x r named h last out) in
-    let entries : AreAlike (get now.config x) (get past.config x) =
-    are_alike _ _ (now.text ∙ before_kept o x r named h last out ∙ sym past.text)
-    (λ u v p q. one now.config past.config now.one (configs_then h o r past.config last past.one) x u v p q) in
+    let texts = now.text ∙ before_kept o x r named h last out ∙ sym past.text in
+    let kinds = one now.config past.config now.one (configs_then h o r past.config last past.one) x in
     ap (definitions x) now.written
-    ∙ alike now.title past.title now.config past.config now.source.title past.source.title now.source.config past.source.config x entries
+    ∙ alike now.title past.title now.config past.config now.source.title past.source.title now.source.config past.source.config x texts kinds
     ∙ ap (definitions x) (sym past.written)

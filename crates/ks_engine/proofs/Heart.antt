@@ -1,8 +1,8 @@
 -- What stamps and generations say of a history.
 use Rattle.std.proofs.Common.{◌≡◌, ◌⊎◌, inl, inr, ⊎_elim, ℕ, ◌+◌, ◌≤◌, List, Option, Some, Bool, true, false, ◌&&◌, ◌||◌, cond, nat_lt, sym, ◌∙◌, ap, refl, arith, bytes_eq}
 use Rattle.std.proofs.lemmas.Bool.{lt-ltb, le-ltb, cond-true, cond-false}
-use Rattle.ks_compare.specs.Changes.{is_in}
-use Rattle.ks_engine.specs.History.{History, Begun, Synced, Broken, Recorded, Record, before, done, changes, last_record, NoneBroken}
+use Rattle.ks_compare.specs.Changes.{differs, is_in}
+use Rattle.ks_engine.specs.History.{History, Begun, Synced, Broken, Recorded, Record, before, done, last_record, NoneBroken}
 use Rattle.ks_engine.specs.Staleness.{names_of, found, renewed_since_sync, changed_since, suspect_since}
 use Rattle.ks_engine.specs.Shows.{stamp}
 
@@ -12,7 +12,7 @@ cond_le false m n k p q = q
 
 pub stamp-le : (h : History) (x : List ℕ) → stamp h x ≤ done h + 1
 stamp-le (Begun first) x = omega arith
-stamp-le (Synced t config past) x = let le = stamp-le past x in cond_le (changes (before past) config x) _ _ _ (omega arith) (omega arith)
+stamp-le (Synced t config past) x = let le = stamp-le past x in cond_le (differs (before past) config x) _ _ _ (omega arith) (omega arith)
 stamp-le (Broken t config renewed past) x = cond_le (is_in renewed x) _ _ _ (omega arith) (stamp-le past x)
 stamp-le (Recorded o command names header past) x = stamp-le past x
 
@@ -25,7 +25,7 @@ pub renewed_since_sync-lt : (h : History) (x : List ℕ) → renewed_since_sync 
 renewed_since_sync-lt (Begun first) x = refl
 renewed_since_sync-lt (Synced t config past) x =
     let le = stamp-le past x in
-    sym (le-ltb (done past + 1) _ (cond_le (changes (before past) config x) _ _ _ (omega arith) le))
+    sym (le-ltb (done past + 1) _ (cond_le (differs (before past) config x) _ _ _ (omega arith) le))
 renewed_since_sync-lt (Broken t config renewed past) x = or_raised (is_in renewed x) _ (done past) (stamp past x) (renewed_since_sync-lt past x)
 renewed_since_sync-lt (Recorded o command names header past) x = renewed_since_sync-lt past x
 
@@ -56,8 +56,8 @@ pub suspect_since-lt : (h : History) (o : List ℕ) (r : Record) (x : List ℕ) 
     suspect_since h o x ≡ (is_in r.names x && nat_lt (done r.past) (stamp h x))
 suspect_since-lt (Begun first) o r x e = absurd cc
 suspect_since-lt (Synced t config past) o r x e =
-    ap (λ ns. (is_in (names_of ns) x && changes (before past) config x) || suspect_since past o x) e
-    ∙ and_or_raised (is_in r.names x) (changes (before past) config x) _ (done r.past) (done past) (stamp past x) (generation-le past o r e) (suspect_since-lt past o r x e)
+    ap (λ ns. (is_in (names_of ns) x && differs (before past) config x) || suspect_since past o x) e
+    ∙ and_or_raised (is_in r.names x) (differs (before past) config x) _ (done r.past) (done past) (stamp past x) (generation-le past o r e) (suspect_since-lt past o r x e)
 suspect_since-lt (Broken t config renewed past) o r x e =
     ap (λ ns. (is_in (names_of ns) x && is_in renewed x) || suspect_since past o x) e
     ∙ and_or_raised (is_in r.names x) (is_in renewed x) _ (done r.past) (done past) (stamp past x) (generation-le past o r e) (suspect_since-lt past o r x e)
@@ -79,7 +79,7 @@ and_false false c e = refl
 
 pub suspect_since-changed_since : (h : History) (o x : List ℕ) → NoneBroken h → suspect_since h o x ≡ changed_since h o x
 suspect_since-changed_since (Begun first) o x n = refl
-suspect_since-changed_since (Synced t config past) o x n = ap (λ b. (is_in (found past o) x && changes (before past) config x) || b) (suspect_since-changed_since past o x n)
+suspect_since-changed_since (Synced t config past) o x n = ap (λ b. (is_in (found past o) x && differs (before past) config x) || b) (suspect_since-changed_since past o x n)
 suspect_since-changed_since (Broken t config renewed past) o x n = absurd n
 suspect_since-changed_since (Recorded p command names header past) o x n = elim (bytes_eq p o) as (λ v. cond v (is_in names x && renewed_since_sync past x) (suspect_since past o x) ≡ cond v false (changed_since past o x)) [
   | true ↦ and_false (is_in names x) _ (none_touched past x n)

@@ -1,22 +1,27 @@
 -- The laws of the layers below: all that the proofs here use of them beside the contracts of their calls.
 use Rattle.std.proofs.Common.{◌≡◌, ◌≢◌, ℕ, ◌≤◌, List, Option, Some, length}
-use Rattle.ks_output.specs.Laws.{TextsReadBack, GenerationReadsBack, HasNoFault, AlikeIsDefinedAlike}
-use Rattle.ks_output.proofs.ReadBack.{texts_read_back, generation_reads_back, has_no_fault}
+use Rattle.ks_output.specs.Laws.{TextsReadBack, GenerationReadsBack, IsAccepted, TextsAreOfEntries, AlikeIsDefinedAlike}
+use Rattle.ks_output.proofs.ReadBack.{texts_read_back, generation_reads_back, is_accepted}
+use Rattle.ks_output.proofs.Texts.{texts_are_of_entries}
 use Rattle.ks_output.proofs.Definitions.{alike_is_defined_alike}
 use Rattle.ks_tree.specs.Paths.{Place, CommandFile, path_of, IsLegalPlace, PathsNeverMeet, command_path}
 use Rattle.ks_tree.specs.Stamps.{HasNumber}
 use Rattle.ks_tree.proofs.Places.{paths_never_meet}
 use Rattle.ks_tree.proofs.StampLemmas.{number_unique, number_short}
 
--- an auto.conf reads back: its texts, its generation, and no fault
+-- an auto.conf reads back: it is accepted, with its texts and its generation
 pub texts_back : TextsReadBack
 texts_back = texts_read_back
 
 pub generation_back : GenerationReadsBack
 generation_back = generation_reads_back
 
-pub no_fault : HasNoFault
-no_fault = has_no_fault
+pub accepted : IsAccepted
+accepted = is_accepted
+
+-- the texts of a configuration are those of its entries
+pub entry_texts : TextsAreOfEntries
+entry_texts = texts_are_of_entries
 
 -- entries that are alike are defined alike
 pub alike : AlikeIsDefinedAlike

@@ -15,8 +15,9 @@ use Rattle.ks_symbols.specs.DotConfig.{setting, unknown_count, dotconfig_refusal
 use Rattle.ks_symbols.specs.Refusals.{or_else, IsRefusal}
 use Rattle.ks_output.specs.declared.auto_conf.AutoError.{AutoError}
 use Rattle.ks_output.specs.declared.auto_conf.AutoError.TheVariants as auto
-use Rattle.ks_output.specs.AutoConf.{auto_text, auto_map, auto_generation, auto_refusal, IsAutoRefusal}
-use Rattle.ks_output.specs.Models.{OldTexts, HasNames}
+use Rattle.ks_output.specs.AutoText.{auto_text}
+use Rattle.ks_output.specs.AutoConf.{auto_map, auto_generation, auto_refusal, IsAutoRefusal}
+use Rattle.ks_output.specs.OldConfig.{OldTexts, HasNames}
 use Rattle.ks_tree.specs.Files.{Files, content, IsTooLarge}
 use Rattle.ks_tree.specs.Paths.{auto_path}
 use Rattle.ks_tree.specs.declared.fault.TreeFault.{TreeFault}
@@ -28,7 +29,6 @@ use Rattle.ks_engine.specs.History.{Configuration}
 use Rattle.ks_engine.specs.Legal.{IsSource}
 use Rattle.ks_engine.specs.Synchronised.{OldAuto, read_unless, old_auto, synced_at, last_generation, Sources, AreSources, source_refusal, AreChanged, Plan, plan_over, IsSyncPlan}
 use Rattle.ks_engine.specs.Views.{old_of}
-use Rattle.ks_engine.proofs.Laws.{no_fault}
 
 -- ---- the two texts
 
@@ -56,10 +56,9 @@ name_of_symbol : (x : List ℕ) → IsTrue (is_symbol_name x) → IsTrue (is_nam
 unfolding is_symbol_name
 name_of_symbol x h = (and_parts _ _ h).0
 
-pub are_changed : (old : OldTexts) (new : Configuration) (names : List (List ℕ)) → HasNames old.texts → IsConfiguration new → AreChanges old.texts new names → AreChanged (get old.texts) new names
+pub are_changed : (old : OldTexts) (new : Configuration) (names : List (List ℕ)) → HasNames old.texts → IsConfiguration new → AreChanges old.texts new names → AreChanged old.texts new names
 are_changed old new names legal config are = record {
-  rising = are.rising;
-  each = are.each;
+  are = are;
   legal = λ x among. legal_differ (get old.texts x) (get new x) (IsTrue (is_name x)) (λ t is. legal x t is) (λ s is. name_of_symbol x (config x s is).named) (sym (are.each x) ∙ among);
 }
 
@@ -92,12 +91,12 @@ same_old a b p q = λ i. record { texts = p i; generation = q i }
 
 pub old_read : (old : OldTexts) (file : Option (List ℕ)) (b : List ℕ) → file ≡ Some b → auto_refusal b ≡ None → old.texts ≡ auto_map b → old.generation ≡ auto_generation b
     → old_auto file ≡ Ok (old_of old)
-old_read old file b at fine texts generation = old_some file b None at fine ∙ ap (λ a. Ok a) (same_old _ (old_of old) (ap get (sym texts)) (sym generation))
+old_read old file b at fine texts generation = old_some file b None at fine ∙ ap (λ a. Ok a) (same_old _ (old_of old) (sym texts) (sym generation))
 
 pub old_none : (old : OldTexts) (file : Option (List ℕ)) → file ≡ None → old.texts ≡ empty → old.generation ≡ 0 → old_auto file ≡ Ok (old_of old)
 unfolding old_auto
 old_none old file at none zero =
-    ap old_auto at ∙ ap (λ a. Ok a) (same_old _ (old_of old) ((λ i x. sym (get-empty (slice_cmp nat_cmp) x) i) ∙ ap get (sym none)) (sym zero))
+    ap old_auto at ∙ ap (λ a. Ok a) (same_old _ (old_of old) (sym none) (sym zero))
 
 pub names_none : (old : OldTexts) → old.texts ≡ empty → HasNames old.texts
 names_none old none = subst HasNames (sym none) (λ x t is. absurd (not_there x t is))
@@ -126,9 +125,3 @@ pub given_fault : (f : TreeFault) → (f ≡ fault.TooLarge → ⊥) → IsGiven
 given_fault fault.TooLarge small = absurd (small refl)
 given_fault fault.OutOfMemory small = tt
 given_fault fault.Device small = tt
-
--- an auto.conf that was written is not refused
-pub fine_text : (title : List ℕ) (config : Configuration) (g : ℕ) → IsSource title config → g < 2 ^ 64 → length (auto_text title config g) ≤ max_bytes → auto_refusal (auto_text title config g) ≡ None
-unfolding auto_refusal
-fine_text title config g legal small fits =
-    cond-false _ _ _ (le-ltb max_bytes (length (auto_text title config g)) fits) ∙ ap (option_map auto.BadAuto) (no_fault title config g legal.title legal.config small)

@@ -5,22 +5,23 @@ use Rattle.std.proofs.lemmas.Slice.Eq.{bytes_eq-Decides}
 use Rattle.std.specs.FinMap as map
 use Rattle.ks_symbols.specs.Lines.{max_bytes}
 use Rattle.ks_symbols.specs.Names.{is_name}
-use Rattle.ks_output.specs.AutoConf.{auto_text, auto_map, auto_generation, auto_refusal}
+use Rattle.ks_output.specs.AutoText.{auto_text}
+use Rattle.ks_output.specs.AutoConf.{auto_map, auto_generation, auto_refusal}
 use Rattle.ks_output.specs.Header.{header_text}
-use Rattle.ks_compare.specs.Changes.{is_in}
+use Rattle.ks_compare.specs.Changes.{differs, is_in}
 use Rattle.ks_tree.specs.Files.{Files, content, SameButBoth}
 use Rattle.ks_tree.specs.Paths.{auto_path, header_path, stamp_path, command_path, command_temporary, Place, Header, AutoConf, Stamp, CommandFile, AutoTemporary, HeaderTemporary, StampTemporary, CommandTemporary, path_of, IsLegalPlace}
 use Rattle.ks_tree.specs.Stamps.{HasNumber, stamp_text}
 use Rattle.ks_engine.specs.declared.error.EngineError.{EngineError}
 use Rattle.ks_engine.specs.declared.error.EngineError.TheVariants.{TooLarge, GenerationFull}
 use Rattle.ks_engine.specs.Refusals.{and_then}
-use Rattle.ks_engine.specs.History.{History, Begun, Synced, Broken, Recorded, Record, Configuration, Texts, texts, before, done, changes, last_record}
+use Rattle.ks_engine.specs.History.{History, Begun, Synced, Broken, Recorded, Record, Configuration, Texts, before, done, last_record}
 use Rattle.ks_engine.specs.Legal.{IsSource, IsHistory, MayBeHeader}
 use Rattle.ks_engine.specs.Shows.{Shows, IsAuto, IsCommandFile, stamp}
 use Rattle.ks_engine.specs.Synchronised.{OldAuto, read_unless, old_auto, Sources, Plan, plan_over, IsSyncPlan, AreChanged, SyncLeaves}
 use Rattle.ks_engine.proofs.Heart.{record_cases}
-use Rattle.ks_engine.proofs.Laws.{texts_back, generation_back, apart, command-injective}
-use Rattle.ks_engine.proofs.Reading.{old_some, fine_text}
+use Rattle.ks_engine.proofs.Laws.{texts_back, generation_back, accepted, apart, command-injective}
+use Rattle.ks_engine.proofs.Reading.{old_some}
 
 pub done_le : (h : History) → IsHistory h → done h ≤ 18446744073709551615
 done_le (Begun first) is = omega arith
@@ -35,16 +36,13 @@ pub record IsRead (b : Option (List ℕ)) (h : History) : Type 0 where
   pub texts : auto.texts ≡ before h
   pub generation : auto.generation ≡ done h
 
-all_same : (f g : Texts) → ((x : List ℕ) → f x ≡ g x) → f ≡ g
-all_same f g each = λ i x. each x i
-
 pub auto_read : (h : History) (b : Option (List ℕ)) → IsHistory h → IsAuto h b → IsRead b h
 unfolding old_auto
-auto_read (Begun first) None legal is = record { auto = record { texts = λ x. None; generation = 0 }; reads = refl; texts = all_same _ _ (λ x. sym (is x)); generation = refl }
+auto_read (Begun first) None legal is = record { auto = record { texts = map.empty; generation = 0 }; reads = refl; texts = sym is; generation = refl }
 auto_read (Begun first) (Some b) legal is = record {
-  auto = record { texts = map.get (auto_map b); generation = auto_generation b };
+  auto = record { texts = auto_map b; generation = auto_generation b };
   reads = old_some (Some b) b None refl is.0;
-  texts = all_same _ _ is.2;
+  texts = is.2;
   generation = is.1;
 }
 auto_read (Synced t config past) b legal is =
@@ -52,9 +50,9 @@ auto_read (Synced t config past) b legal is =
     let room = legal.2 in
     let small : done past + 1 < 2 ^ 64 = omega arith in
     record {
-      auto = record { texts = map.get (auto_map text); generation = auto_generation text };
-      reads = old_some b text None is.0 (fine_text t config (done past + 1) legal.1 small is.1);
-      texts = all_same _ _ (texts_back t config (done past + 1) legal.1.title legal.1.config small);
+      auto = record { texts = auto_map text; generation = auto_generation text };
+      reads = old_some b text None is.0 (accepted t config (done past + 1) legal.1.title legal.1.config small is.1);
+      texts = texts_back t config (done past + 1) legal.1.title legal.1.config small;
       generation = generation_back t config (done past + 1) legal.1.title legal.1.config small;
     }
 auto_read (Broken t config renewed past) b legal is = let r = auto_read past b legal.0 is in record { auto = r.auto; reads = r.reads; texts = r.texts; generation = r.generation }
@@ -117,8 +115,8 @@ command_kept old new plan changed renewed are leaves o = leaves.others (command_
 
 module _ (old new : Files) (h : History) (plan : Plan) (changed renewed : List (List ℕ)) (shows : Shows old h) (facts : PlanFacts (before h) (done h) plan)
     (are : AreChanged plan.old plan.config changed) (leaves : SyncLeaves old new plan changed renewed) where
-  changes_now : (x : List ℕ) → is_in changed x ≡ changes (before h) plan.config x
-  changes_now x = are.each x ∙ ap (λ (t : Texts). changes t plan.config x) facts.same_old
+  differs_now : (x : List ℕ) → is_in changed x ≡ differs (before h) plan.config x
+  differs_now x = are.are.each x ∙ ap (λ (t : Texts). differs t plan.config x) facts.same_old
 
   room : done h < 18446744073709551615
   room = let le = done_le h shows.history in let other : done h ≡ 18446744073709551615 → ⊥ = λ e. facts.room (facts.same_generation ∙ e) in omega arith
@@ -135,11 +133,11 @@ module _ (old new : Files) (h : History) (plan : Plan) (changed renewed : List (
 
   pub broken_shows : content new auto_path ≡ content old auto_path → Shows new (Broken plan.title plan.config renewed h)
   broken_shows auto = record {
-    history = (shows.history, facts.source, λ x in_it. sym (changes_now x) ∙ leaves.within x in_it);
+    history = (shows.history, facts.source, λ x in_it. sym (differs_now x) ∙ leaves.within x in_it);
     auto = subst (IsAuto h) (sym auto) shows.auto;
     header = λ some. ⊎_elim
         (λ kept. let was = shows.header some in (was.0, kept ∙ was.1, inr was.2))
-        (λ made. (header_text plan.title plan.config, made.1, inl ((λ x d. ap (λ xs. is_in xs x) made.0 ∙ changes_now x ∙ d), refl)))
+        (λ made. (header_text plan.title plan.config, made.1, inl ((λ x d. ap (λ xs. is_in xs x) made.0 ∙ differs_now x ∙ d), refl)))
         leaves.header;
     stamps = next_stamp;
     commands = next_commands;
@@ -151,7 +149,7 @@ module _ (old new : Files) (h : History) (plan : Plan) (changed renewed : List (
     history = (shows.history, facts.source, room);
     auto = (auto ∙ ap (λ g. Some (auto_text plan.title plan.config (g + 1))) facts.same_generation, subst (λ g. length (auto_text plan.title plan.config (g + 1)) ≤ max_bytes) facts.same_generation facts.small);
     header = λ some. (header_text plan.title plan.config, header, refl);
-    stamps = λ x name. subst (λ b. HasNumber (content new (stamp_path x)) (cond b (done h + 1) (stamp h x))) (ap (λ xs. is_in xs x) all ∙ changes_now x) (next_stamp x name);
+    stamps = λ x name. subst (λ b. HasNumber (content new (stamp_path x)) (cond b (done h + 1) (stamp h x))) (ap (λ xs. is_in xs x) all ∙ differs_now x) (next_stamp x name);
     commands = next_commands;
   }
 

@@ -1,6 +1,6 @@
 -- What the writes of a synchronisation leave, one after another.
 use Rattle.std.proofs.Common.{◌≡◌, ◌⊎◌, inl, inr, ⊎_elim, ℕ, ◌+◌, List, Some, true, false, ◌∙◌, refl, subst, zero, suc, [], ◌∷◌, take, bytes_eq, ◌||◌, Result, Ok, Err, OnOk, OnErr, IfErr}
-use Rattle.ks_output.specs.AutoConf.{auto_text}
+use Rattle.ks_output.specs.AutoText.{auto_text}
 use Rattle.ks_output.specs.Header.{header_text}
 use Rattle.ks_compare.specs.Changes.{is_in}
 use Rattle.ks_tree.specs.Files.{Files, content, SameButBoth}

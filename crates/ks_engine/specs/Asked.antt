@@ -1,12 +1,10 @@
 -- What is answered of an object, by the files: first its target, then its command file, then auto.conf, then its stamps.
 use Rattle.std.specs.Prelude.{◌≡◌, ◌⊎◌, ℕ, ◌<◌, ◌≤◌, List, [], ◌∷◌, Option, Some, None, Result, Ok, Err, nat_lt, if◌then◌else◌, length, bytes_eq}
-use Rattle.std.specs.List.{filter_map}
 use Rattle.ks_symbols.specs.Lines.{max_bytes}
 use Rattle.ks_symbols.specs.Names.{is_target}
-use Rattle.ks_fixdep.specs.declared.command_file.Dep.{Dep}
-use Rattle.ks_fixdep.specs.declared.command_file.Dep.TheVariants.{File, Config}
 use Rattle.ks_fixdep.specs.CommandFile.{Record, is_command}
 use Rattle.ks_fixdep.specs.CommandReading.{reading}
+use Rattle.ks_fixdep.specs.Record.{config_names}
 use Rattle.ks_tree.specs.Files.{Files, content, IsTooLarge}
 use Rattle.ks_tree.specs.Paths.{auto_path, stamp_path, command_path}
 use Rattle.ks_tree.specs.Stamps.{HasNumber, IsNoStamp}
@@ -17,14 +15,6 @@ use Rattle.ks_engine.specs.declared.staleness.Verdict.TheVariants.{Fresh, Change
 use Rattle.ks_engine.specs.declared.staleness.BuildState.{BuildState}
 use Rattle.ks_engine.specs.declared.staleness.BuildState.TheVariants.{CommandDiffers, Verdict as Judged}
 use Rattle.ks_engine.specs.Synchronised.{last_generation}
-
--- the name that a dependency is, and those of a command file
-abbrev pub name_of : Dep → Option (List ℕ)
-name_of (File path) = None
-name_of (Config name) = Some name
-
-abbrev pub names_in : List Dep → List (List ℕ)
-names_in deps = filter_map name_of deps
 
 -- an answer at once, or by the stamps of these names against a generation
 pub data Asked : Type 0 where
@@ -52,7 +42,7 @@ command_file o (Some b) = if nat_lt max_bytes (length b) then Err TooLarge else 
 abbrev pub asked_of : Files → Result (Option Record) EngineError → Asked
 asked_of files (Err e) = Answered (Err e)
 asked_of files (Ok None) = Answered (Ok NoCommandFile)
-asked_of files (Ok (Some file)) = asked_since files (names_in file.deps) file.generation
+asked_of files (Ok (Some file)) = asked_since files (config_names file.deps) file.generation
 
 -- what an object's files say before its stamps
 unfoldable pub asked : Files → List ℕ → Asked

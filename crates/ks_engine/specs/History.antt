@@ -1,20 +1,16 @@
 -- Histories of a tree: which synchronisations were completed or broken off, and which objects were recorded between them.
-use Rattle.std.specs.Prelude.{ℕ, ◌+◌, Bool, List, Option, Some, None, option_map, bytes_eq, if◌then◌else◌}
-use Rattle.std.specs.FinMap as map
+use Rattle.std.specs.Prelude.{ℕ, ◌+◌, List, Option, Some, None, bytes_eq, if◌then◌else◌}
 use Rattle.ks_symbols.specs.declared.kinds.Kind.{Kind}
 use Rattle.ks_symbols.specs.Configuration.{NameMap}
-use Rattle.ks_compare.specs.Changes.{compared, differ}
+use Rattle.ks_output.specs.OldConfig.{texts_of}
 
 -- from names to kinds and texts
 abbrev pub Configuration : Type 0
 Configuration = NameMap (Kind × List ℕ)
 
--- what a comparison sees of each name
+-- what an auto.conf keeps of one: from names to texts
 abbrev pub Texts : Type 0
-Texts = List ℕ → Option (List ℕ)
-
-abbrev pub texts : Configuration → Texts
-texts config x = option_map compared (map.get config x)
+Texts = NameMap (List ℕ)
 
 -- The texts at first, and the events since, the newest outermost.
 pub data History : Type 0 where
@@ -29,7 +25,7 @@ pub data History : Type 0 where
 -- the texts of the last completed synchronisation
 abbrev pub before : History → Texts
 before (Begun first) = first
-before (Synced title config past) = texts config
+before (Synced title config past) = texts_of config
 before (Broken title config renewed past) = before past
 before (Recorded object command names header past) = before past
 
@@ -39,10 +35,6 @@ done (Begun first) = 0
 done (Synced title config past) = done past + 1
 done (Broken title config renewed past) = done past
 done (Recorded object command names header past) = done past
-
--- whether a synchronisation to a configuration changes a name: it has a text in one of the two alone, or two different texts
-abbrev pub changes : Texts → Configuration → List ℕ → Bool
-changes old new x = differ (old x) (texts new x)
 
 -- the last record of an object, and what was before it
 pub record Record : Type 0 where

@@ -1,17 +1,15 @@
 -- Which histories there are, and the headers that may stand after them.
-use Rattle.std.specs.Prelude.{◌≡◌, ◌⊎◌, ℕ, ◌<◌, List, Bool, true, Some, IsTrue}
-use Rattle.std.specs.FinMap as map
-use Rattle.ks_symbols.specs.declared.kinds.Kind.{Kind}
+use Rattle.std.specs.Prelude.{◌≡◌, ◌⊎◌, ℕ, ◌<◌, List, true, IsTrue}
 use Rattle.ks_symbols.specs.Configuration.{IsConfiguration}
-use Rattle.ks_symbols.specs.Kinds.{class_of}
 use Rattle.ks_symbols.specs.Titles.{is_title}
 use Rattle.ks_output.specs.Header.{header_text}
-use Rattle.ks_compare.specs.Changes.{is_in}
-use Rattle.ks_engine.specs.History.{History, Begun, Synced, Broken, Recorded, Configuration, Texts, before, done, changes}
+use Rattle.ks_output.specs.Laws.{HasOneClass}
+use Rattle.ks_compare.specs.Changes.{differs, is_in}
+use Rattle.ks_engine.specs.History.{History, Begun, Synced, Broken, Recorded, Configuration, Texts, before, done}
 
 -- The stamp of each changed name was renewed.
 abbrev pub AreAllRenewed : List (List ℕ) → Texts → Configuration → Type 0
-AreAllRenewed renewed old new = (x : List ℕ) → changes old new x ≡ true → is_in renewed x ≡ true
+AreAllRenewed renewed old new = (x : List ℕ) → differs old new x ≡ true → is_in renewed x ≡ true
 
 -- The header is that of the last completed synchronisation, or of one that was broken off behind it with all stamps renewed.
 abbrev pub MayBeHeader : History → List ℕ → Type 0
@@ -29,7 +27,7 @@ pub record IsSource (t : List ℕ) (c : Configuration) : Type 0 where
 abbrev pub IsHistory : History → Type 0
 IsHistory (Begun first) = Unit {0}
 IsHistory (Synced title config past) = IsHistory past × IsSource title config × (done past < 18446744073709551615)
-IsHistory (Broken title config renewed past) = IsHistory past × IsSource title config × ((x : List ℕ) → is_in renewed x ≡ true → changes (before past) config x ≡ true)
+IsHistory (Broken title config renewed past) = IsHistory past × IsSource title config × ((x : List ℕ) → is_in renewed x ≡ true → differs (before past) config x ≡ true)
 IsHistory (Recorded object command names header past) = IsHistory past × (0 < done past) × MayBeHeader past header
 
 -- a configuration of one of the synchronisations
@@ -41,6 +39,4 @@ HasConfiguration (Recorded object command names header past) c = HasConfiguratio
 
 -- No name has two kinds, where bool and tristate count as one.
 abbrev pub HasOneKind : History → Type 0
-HasOneKind h =
-    (c d : Configuration) → HasConfiguration h c → HasConfiguration h d
-    → (x : List ℕ) (s t : Kind × List ℕ) → map.get c x ≡ Some s → map.get d x ≡ Some t → class_of s.0 ≡ class_of t.0
+HasOneKind h = (c d : Configuration) → HasConfiguration h c → HasConfiguration h d → (x : List ℕ) → HasOneClass c d x

@@ -1,23 +1,24 @@
 -- When the files of a tree show a history.
 use Rattle.std.specs.Prelude.{◌≡◌, ℕ, ◌+◌, ◌<◌, ◌≤◌, List, Option, Some, None, Result, Ok, IsTrue, length, if◌then◌else◌}
-use Rattle.std.specs.FinMap as map
+use Rattle.std.specs.FinMap.{empty}
 use Rattle.ks_symbols.specs.Lines.{max_bytes}
 use Rattle.ks_symbols.specs.Names.{is_name}
-use Rattle.ks_output.specs.AutoConf.{auto_text, auto_map, auto_generation, auto_refusal}
-use Rattle.ks_compare.specs.Changes.{compared, is_in}
+use Rattle.ks_output.specs.AutoText.{auto_text}
+use Rattle.ks_output.specs.AutoConf.{auto_map, auto_generation, auto_refusal}
+use Rattle.ks_compare.specs.Changes.{differs, is_in}
 use Rattle.ks_fixdep.specs.CommandFile.{Record as CommandRecord}
 use Rattle.ks_fixdep.specs.CommandReading.{reading}
 use Rattle.ks_tree.specs.Files.{Files, content}
 use Rattle.ks_tree.specs.Paths.{auto_path, header_path, stamp_path, command_path}
 use Rattle.ks_tree.specs.Stamps.{HasNumber}
-use Rattle.ks_engine.specs.History.{History, Begun, Synced, Broken, Recorded, Record, Texts, before, done, changes, last_record}
+use Rattle.ks_engine.specs.History.{History, Begun, Synced, Broken, Recorded, Record, Texts, before, done, last_record}
 use Rattle.ks_engine.specs.Legal.{IsHistory, MayBeHeader}
-use Rattle.ks_engine.specs.Asked.{names_in}
+use Rattle.ks_fixdep.specs.Record.{config_names}
 
 -- At first it is missing, or one that can be read and has no generation.
 abbrev pub IsFirstAuto : Texts → Option (List ℕ) → Type 0
-IsFirstAuto first None = (x : List ℕ) → first x ≡ None
-IsFirstAuto first (Some b) = (auto_refusal b ≡ None) × (auto_generation b ≡ 0) × ((x : List ℕ) → map.get (auto_map b) x ≡ first x)
+IsFirstAuto first None = first ≡ empty
+IsFirstAuto first (Some b) = (auto_refusal b ≡ None) × (auto_generation b ≡ 0) × (auto_map b ≡ first)
 
 -- auto.conf: then it is that of the last completed synchronisation, whose number is its generation
 abbrev pub IsAuto : History → Option (List ℕ) → Type 0
@@ -29,7 +30,7 @@ IsAuto (Recorded object command names header past) file = IsAuto past file
 -- the number of a name's stamp: the generation of the last synchronisation that touched it, completed or not
 abbrev pub stamp : History → List ℕ → ℕ
 stamp (Begun first) x = 0
-stamp (Synced title config past) x = if changes (before past) config x then done past + 1 else stamp past x
+stamp (Synced title config past) x = if differs (before past) config x then done past + 1 else stamp past x
 stamp (Broken title config renewed past) x = if is_in renewed x then done past + 1 else stamp past x
 stamp (Recorded object command names header past) x = stamp past x
 
@@ -40,7 +41,7 @@ pub record IsCommandFile (o : List ℕ) (r : Record) (b : List ℕ) : Type 0 whe
   pub reads : reading b ≡ Ok file
   pub target : file.target ≡ o
   pub command : file.command ≡ r.command
-  pub names : names_in file.deps ≡ r.names
+  pub names : config_names file.deps ≡ r.names
   pub generation : file.generation ≡ Some (done r.past)
 
 pub record Shows (files : Files) (h : History) : Type 0 where

@@ -1,9 +1,6 @@
 -- What a synchronisation comes to, by the files before it and the two texts, and what it leaves.
 use Rattle.std.specs.Prelude.{◌≡◌, ◌≢◌, ◌⊎◌, ℕ, ◌+◌, ◌-◌, ◌^◌, List, Option, Some, None, Result, Ok, Err, true, nat_eq, nat_lt, if◌then◌else◌, length, IsTrue}
-use Rattle.std.specs.Ordering.{nat_cmp}
-use Rattle.std.specs.Cmp.Lexicographic.{slice_cmp}
 use Rattle.std.specs.FinMap as map
-use Rattle.std.specs.List.Sorted.{IsStrictlySortedBy}
 use Rattle.ks_symbols.specs.declared.error.SourceError.{SourceError}
 use Rattle.ks_symbols.specs.Lines.{max_bytes, lines}
 use Rattle.ks_symbols.specs.Names.{is_name}
@@ -11,9 +8,10 @@ use Rattle.ks_symbols.specs.Refusals.{or_else}
 use Rattle.ks_symbols.specs.Kconfig.{declared, title_of, kconfig_refusal}
 use Rattle.ks_symbols.specs.DotConfig.{setting, unknown_count, dotconfig_refusal}
 use Rattle.ks_output.specs.declared.auto_conf.AutoError.{AutoError}
-use Rattle.ks_output.specs.AutoConf.{auto_text, auto_map, auto_generation, auto_refusal}
+use Rattle.ks_output.specs.AutoText.{auto_text}
+use Rattle.ks_output.specs.AutoConf.{auto_map, auto_generation, auto_refusal}
 use Rattle.ks_output.specs.Header.{header_text}
-use Rattle.ks_compare.specs.Changes.{is_in}
+use Rattle.ks_compare.specs.Changes.{AreChanges, is_in}
 use Rattle.ks_tree.specs.Files.{Files, content}
 use Rattle.ks_tree.specs.Paths.{auto_path, auto_temporary, header_path, header_temporary, stamp_path, stamp_temporary}
 use Rattle.ks_tree.specs.Stamps.{stamp_text}
@@ -21,7 +19,7 @@ use Rattle.ks_engine.specs.declared.error.EngineError.{EngineError}
 use Rattle.ks_engine.specs.declared.error.EngineError.TheVariants.{TooLarge, NeverSynced, GenerationFull}
 use Rattle.ks_engine.specs.declared.synchronise.Report.{Report}
 use Rattle.ks_engine.specs.Refusals.{IsGivenUp, of_source, of_auto, and_then}
-use Rattle.ks_engine.specs.History.{Configuration, Texts, changes}
+use Rattle.ks_engine.specs.History.{Configuration, Texts}
 use Rattle.ks_engine.specs.Legal.{IsSource}
 
 -- why a Kconfig and a `.config` are refused
@@ -47,12 +45,12 @@ pub record OldAuto : Type 0 where
   pub generation : ℕ
 
 abbrev pub read_unless : Option AutoError → List ℕ → Result OldAuto EngineError
-read_unless None b = Ok (record { texts = map.get (auto_map b); generation = auto_generation b })
+read_unless None b = Ok (record { texts = auto_map b; generation = auto_generation b })
 read_unless (Some e) b = Err (of_auto e)
 
 -- A missing auto.conf has no texts and generation 0.
 unfoldable pub old_auto : Option (List ℕ) → Result OldAuto EngineError
-old_auto None = Ok (record { texts = λ x. None; generation = 0 })
+old_auto None = Ok (record { texts = map.empty; generation = 0 })
 old_auto (Some b) = read_unless (auto_refusal b) b
 
 abbrev pub synced_at : OldAuto → Result ℕ EngineError
@@ -83,10 +81,9 @@ IsSyncPlan files kconfig dotconfig result =
     ((e : SourceError) × (source_refusal kconfig dotconfig ≡ Some e) × (result ≡ Err (of_source e)))
     ⊎ ((s : Sources) × AreSources kconfig dotconfig s × (result ≡ and_then (old_auto (content files auto_path)) (plan_over s)))
 
--- exactly the names that differ, rising, each once
+-- the names that differ, which are legal
 pub record AreChanged (old : Texts) (new : Configuration) (names : List (List ℕ)) : Type 0 where
-  pub rising : IsStrictlySortedBy (slice_cmp nat_cmp) names
-  pub each : (x : List ℕ) → is_in names x ≡ changes old new x
+  pub are : AreChanges old new names
   pub legal : (x : List ℕ) → is_in names x ≡ true → IsTrue (is_name x)
 
 -- Stamps of some changes are renewed. Where all are, the header may be the new one, and then auto.conf may be. All else but the temporary files is as before.

@@ -1,10 +1,9 @@
 -- Values of the code as the definitions have them.
 use Rattle.std.specs.Prelude.{◌≡◌, ℕ, ◌+◌, List, Some, Ok}
-use Rattle.std.specs.FinMap as map
 use Rattle.ks_symbols.specs.declared.error.SourceError.{SourceError}
-use Rattle.ks_output.specs.AutoConf.{auto_text}
+use Rattle.ks_output.specs.AutoText.{auto_text}
 use Rattle.ks_output.specs.Header.{header_text}
-use Rattle.ks_output.specs.Models.{OldTexts}
+use Rattle.ks_output.specs.OldConfig.{OldTexts}
 use Rattle.ks_tree.specs.Files.{Files}
 use Rattle.ks_engine.specs.declared.error.EngineError.{EngineError}
 use Rattle.ks_engine.specs.declared.synchronise.Sources.{Sources as SourceValues}
@@ -13,7 +12,7 @@ use Rattle.ks_engine.specs.Refusals.{of_source}
 use Rattle.ks_engine.specs.Synchronised.{Sources, source_refusal, OldAuto, Plan, IsSyncPlan, AreChanged}
 
 abbrev pub old_of : OldTexts → OldAuto
-old_of old = record { texts = map.get old.texts; generation = old.generation }
+old_of old = record { texts = old.texts; generation = old.generation }
 
 abbrev pub sources_of : SourceValues → Sources
 sources_of s = record { title = s.symbols.title; config = s.settings.entries; unknown = s.settings.unknown }

@@ -1,7 +1,7 @@
 //! What the last completed synchronisation left in auto.conf. It is replaced last, so its generation is that of header and stamps
 //! as well, unless a synchronisation was broken off behind it.
 ghost use Rattle.std.specs.Prelude.{◌≡◌, ◌⊎◌, ◌↔◌, ◌≤◌, IfOk, IsErrOf};
-ghost use Rattle.ks_output.specs.Models.{HasNames};
+ghost use Rattle.ks_output.specs.OldConfig.{HasNames};
 ghost use Rattle.ks_tree.specs.Files.{content, HasRisen};
 ghost use Rattle.ks_tree.specs.Paths.{auto_path};
 ghost use Rattle.ks_engine.specs.Refusals.{Answers};
@@ -24,7 +24,7 @@ pub(crate) fn read_old<T: Tree>(alloc: Global, tree: &mut T) -> Result<OldConfig
 {
     match tree.read(alloc, auto_path())? {
         Some(text) => Ok(read_auto(alloc, &text)?),
-        None => Ok(OldConfig::new(alloc)),
+        None => Ok(OldConfig::empty(alloc)),
     }
 }
 

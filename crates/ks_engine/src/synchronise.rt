@@ -3,9 +3,9 @@
 //! (conf_write_autoconf of scripts/kconfig/confdata.c writes in the same order.)
 ghost use Rattle.std.specs.Prelude.{◌≡◌, ◌⊎◌, ◌↔◌, ◌≤◌, ◌+◌, Some, Ok, Err, IfOk, IfErr, OnOk, OnErr, MatchResult, IsErrOf};
 ghost use Rattle.ks_symbols.specs.Configuration.{IsConfiguration};
-ghost use Rattle.ks_output.specs.AutoConf.{auto_text};
+ghost use Rattle.ks_output.specs.AutoText.{auto_text};
 ghost use Rattle.ks_output.specs.Header.{header_text};
-ghost use Rattle.ks_output.specs.Models.{HasNames};
+ghost use Rattle.ks_output.specs.OldConfig.{HasNames};
 ghost use Rattle.ks_tree.specs.Files.{HasRisen};
 ghost use Rattle.ks_engine.specs.Synchronised.{Plan, AreSources, plan_over, IsSyncPlan, SyncDone, SyncSome, IsSynced, IsSyncRefused};
 ghost use Rattle.ks_engine.specs.Refusals.{IsGivenUp};
@@ -75,9 +75,9 @@ fn work_over(alloc: Global, sources: &Sources, old: &OldConfig) -> Result<Work, 
     let settings = &sources.settings;
     let touched = changed(alloc, old, settings)?;
     let mut header = Vec::new(alloc);
-    write_header(alloc, settings, title, &mut header)?;
+    write_header(settings, title, &mut header)?;
     let mut auto = Vec::new(alloc);
-    write_auto(alloc, settings, title, generation, &mut auto)?;
+    write_auto(settings, title, generation, &mut auto)?;
     if auto.len() > MAX_BYTES {
         return Err(EngineError::TooLarge);
     }

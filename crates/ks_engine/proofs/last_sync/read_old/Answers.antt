@@ -25,7 +25,7 @@ returns-in_ok-read_auto-in-Some-clause-read g c = λ honest.
 pub returns-in-None-clause-read : goal.returns-in-None-clause-read
 returns-in-None-clause-read g c = λ honest.
     let at = ap (content (g.T.Tree.files c.args.tree.now)) (sym c.auto_path.ensures) ∙ sym (c.in_ok-text.ensures.found honest) ∙ ap (option_map (λ v. v.items)) c.in-None.is in
-    old_none c.new.result (content (g.T.Tree.files c.args.tree.now) auto_path) at c.new.ensures.texts c.new.ensures.generation
+    old_none c.empty.result (content (g.T.Tree.files c.args.tree.now) auto_path) at c.empty.ensures.texts c.empty.ensures.generation
 
 pub returns-in-None-clause-names : goal.returns-in-None-clause-names
-returns-in-None-clause-names g c = names_none c.new.result c.new.ensures.texts
+returns-in-None-clause-names g c = names_none c.empty.result c.empty.ensures.texts

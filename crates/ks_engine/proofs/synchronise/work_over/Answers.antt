@@ -1,5 +1,5 @@
 use Rattle.std.proofs.Common.{◌≤◌, ◌+◌, ◌++◌, ◌∙◌, ap, sym, refl, subst, arith, length}
-use Rattle.ks_output.specs.AutoConf.{auto_text}
+use Rattle.ks_output.specs.AutoText.{auto_text}
 use Rattle.ks_output.specs.Header.{header_text}
 use Rattle.ks_engine.specs.Views.{sources_of, old_of}
 use Rattle.ks_engine.proofs.Reading.{are_changed, plan_made}

@@ -4,6 +4,9 @@ use Rattle.ks_output.specs.Laws.{TextsReadBack, GenerationReadsBack, IsAccepted,
 use Rattle.ks_output.proofs.ReadBack.{texts_read_back, generation_reads_back, is_accepted}
 use Rattle.ks_output.proofs.Texts.{texts_are_of_entries}
 use Rattle.ks_output.proofs.Definitions.{alike_is_defined_alike}
+use Rattle.ks_fixdep.specs.CommandLines.{lines}
+use Rattle.ks_fixdep.specs.CommandLaws.{ReadFits}
+use Rattle.ks_fixdep.proofs.CommandFitLemmas.{lines-fit}
 use Rattle.ks_tree.specs.Paths.{Place, CommandFile, path_of, IsLegalPlace, PathsNeverMeet, command_path}
 use Rattle.ks_tree.specs.Stamps.{HasNumber}
 use Rattle.ks_tree.proofs.Places.{paths_never_meet}
@@ -43,3 +46,7 @@ one_number = number_unique
 
 pub short_stamp : (s : List ℕ) (n : ℕ) → HasNumber (Some s) n → length s ≤ 21
 short_stamp = number_short
+
+-- a command file that is read fits its layout, so its parts are legal
+pub read_fits : ReadFits
+read_fits text f reads = lines-fit f (lines text) reads

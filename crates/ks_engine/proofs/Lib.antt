@@ -5,3 +5,4 @@ pub mod Reading
 pub mod Writes
 pub mod Steps
 pub mod Following
+pub mod Asking

@@ -56,9 +56,9 @@ IsBadStamp file x answer = (IsNoStamp file × (answer ≡ Err (BadStamp x))) ⊎
 abbrev pub IsByStamps : Files → ℕ → List (List ℕ) → Result Verdict EngineError → Type 0
 IsByStamps files g [] answer = answer ≡ Ok Fresh
 IsByStamps files g (x ∷ xs) answer =
-    ((n : ℕ) × HasNumber (content files (stamp_path x)) n × (g < n) × (answer ≡ Ok (Changed x)))
-    ⊎ ((n : ℕ) × HasNumber (content files (stamp_path x)) n × (n ≤ g) × IsByStamps files g xs answer)
-    ⊎ IsBadStamp (content files (stamp_path x)) x answer
+    ((n : ℕ) × HasNumber (content files (stamp_path x)) n × ((g < n) × (answer ≡ Ok (Changed x))))
+    ⊎ (((n : ℕ) × HasNumber (content files (stamp_path x)) n × ((n ≤ g) × IsByStamps files g xs answer))
+    ⊎ IsBadStamp (content files (stamp_path x)) x answer)
 
 abbrev pub IsAnswer : Files → Asked → Result Verdict EngineError → Type 0
 IsAnswer files (Answered known) answer = answer ≡ known

@@ -4,6 +4,7 @@ pub mod Legal
 pub mod Refusals
 pub mod Synchronised
 pub mod Asked
+pub mod Judged
 pub mod Shows
 pub mod Views
 pub mod Follows

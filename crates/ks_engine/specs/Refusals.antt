@@ -45,6 +45,11 @@ IsGivenUp OutOfMemory = ⊤
 IsGivenUp Device = ⊤
 IsGivenUp e = ⊥
 
+-- an answer that is one of these two; no success is
+abbrev pub GaveUp : {A : Type 0} → Result A EngineError → Type 0
+GaveUp (Ok x) = ⊥
+GaveUp (Err e) = IsGivenUp e
+
 -- A call answers what a step comes to, or gives up.
 abbrev pub Answers : {A V : Type 0} → Result V EngineError → (A → V) → Result A EngineError → Type 0
 Answers step view (Ok x) = step ≡ Ok (view x)

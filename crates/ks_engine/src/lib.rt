@@ -7,5 +7,5 @@ mod staleness;
 mod synchronise;
 
 pub use error::EngineError;
-pub use staleness::{BuildState, Verdict};
+pub use staleness::{BuildState, Verdict, outdated, stale};
 pub use synchronise::{Report, sync};

@@ -93,7 +93,7 @@ module _ (u v : List ℕ) (border : Border u v) where
   left-begins : (i : ℕ) → i < length u → begins_word (u ++ v) i ≡ begins_word u i
   left-begins i inside = ap (λ x. (i == 0) || not (is_word_byte x)) (left-at (i - 1) (omega arith))
 
-  left-run : (i : ℕ) → OccursAt u prefix i → run_at (u ++ v) (i + 7) ≡ run_at u (i + 7)
+  pub left-run : (i : ℕ) → OccursAt u prefix i → run_at (u ++ v) (i + 7) ≡ run_at u (i + 7)
   left-run i stands =
       let fits = stands.fits in
       let rest = drop (i + 7) u in
@@ -165,7 +165,7 @@ module _ (u v : List ℕ) (border : Border u v) where
       let place : length u + suc j - 1 ≡ length u + (suc j - 1) = omega arith in
       begins-alike (u ++ v) v (length u + suc j) (suc j) (omega arith) (omega arith) (ap (λ k. get_or (u ++ v) k 0) place ∙ right-at (suc j - 1))
 
-  right-run : (j : ℕ) → run_at (u ++ v) (length u + j + 7) ≡ run_at v (j + 7)
+  pub right-run : (j : ℕ) → run_at (u ++ v) (length u + j + 7) ≡ run_at v (j + 7)
   right-run j =
       let place : length u + j + 7 ≡ length u + (j + 7) = omega arith in
       let behind : drop (length u) (u ++ v) ≡ v = drop-append-le (length u) u v (omega arith) ∙ ap (λ l. l ++ v) (drop_all (length u) u (omega arith)) in

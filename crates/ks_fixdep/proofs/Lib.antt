@@ -1,5 +1,6 @@
 pub mod RunLemmas
 pub mod ScanLemmas
+pub mod PlaceLemmas
 pub mod StreamLemmas
 pub mod CutLemmas
 pub mod PieceLemmas
@@ -7,6 +8,7 @@ pub mod NotedLemmas
 pub mod TokenLemmas
 pub mod RoleLemmas
 pub mod NameLemmas
+pub mod JoinLemmas
 pub mod OnceLemmas
 pub mod DepsLemmas
 pub mod CommandLineLemmas

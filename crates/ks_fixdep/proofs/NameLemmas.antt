@@ -1,12 +1,12 @@
 -- Names without their places.
-use Rattle.std.proofs.Common.{◌≡◌, ℕ, zero, suc, ◌-◌, List, [], ◌∷◌, ◌++◌, Option, Some, None, length, take, refl, ap, ◌∙◌, map, arith}
+use Rattle.std.proofs.Common.{◌≡◌, ℕ, zero, suc, ◌-◌, List, [], ◌∷◌, ◌++◌, Option, Some, None, length, take, refl, ap, ◌∙◌, map, arith, append_assoc, sym}
 use Rattle.std.proofs.lemmas.List.{map-append}
 use Rattle.ks_fixdep.specs.Scan.{NameAt, taken, taken_from}
 use Rattle.ks_fixdep.proofs.ScanLemmas.{taken_from-zero}
 use Rattle.ks_fixdep.specs.declared.scan.Found.{Found}
 use Rattle.ks_fixdep.specs.NameIter.{seen_found}
 use Rattle.ks_fixdep.specs.Scan.{bare_name}
-use Rattle.ks_fixdep.specs.Stream.{list_of, carried_at, further, ended, last_word}
+use Rattle.ks_fixdep.specs.Stream.{list_of, carried_at, lent_behind, further, ended, last_word, before_last_word}
 
 take_nil : (n : ℕ) → take {A = ℕ} n [] ≡ []
 take_nil zero = refl
@@ -30,14 +30,17 @@ ended-nil =
     ap taken (take_nil (length {A = ℕ} [] - length (last_word []))) ∙ ap (taken_from [] 0) none ∙ taken_from-zero [] 0
 
 -- the names of a longer text, without their places
-pub names-longer : (t p : List ℕ) (i n : ℕ) (carried : Option (List ℕ)) (xs : List NameAt) → ended (t ++ p) ≡ ended t ++ carried_at i carried ++ map (further n) xs
+pub names-longer : (t p : List ℕ) (carried : Option (List ℕ)) (xs : List NameAt) → ended (t ++ p) ≡ ended t ++ lent_behind t carried xs
     → map bare_name (ended (t ++ p)) ≡ map bare_name (ended t) ++ list_of carried ++ map bare_name xs
-names-longer t p i n carried xs e =
+names-longer t p carried xs e =
+    let place = length (before_last_word t) in
+    let behind = map (further (length t)) xs in
     ap (map bare_name) e
-    ∙ map-append bare_name (ended t ++ carried_at i carried) (map (further n) xs)
-    ∙ ap (λ l. l ++ map bare_name (map (further n) xs)) (map-append bare_name (ended t) (carried_at i carried))
-    ∙ ap (λ l. map bare_name (ended t) ++ l ++ map bare_name (map (further n) xs)) (map-carried i carried)
-    ∙ ap (λ l. map bare_name (ended t) ++ list_of carried ++ l) (map-name-further n xs)
+    ∙ map-append bare_name (ended t) (lent_behind t carried xs)
+    ∙ ap (λ l. map bare_name (ended t) ++ l) (map-append bare_name (carried_at place carried) behind)
+    ∙ ap (λ l. map bare_name (ended t) ++ (l ++ map bare_name behind)) (map-carried place carried)
+    ∙ ap (λ l. map bare_name (ended t) ++ (list_of carried ++ l)) (map-name-further (length t) xs)
+    ∙ sym (append_assoc (map bare_name (ended t)) (list_of carried) (map bare_name xs))
 
 pub names-whole : (t : List ℕ) (i : ℕ) (carried : Option (List ℕ)) → taken t ≡ ended t ++ carried_at i carried → map bare_name (taken t) ≡ map bare_name (ended t) ++ list_of carried
 names-whole t i carried e =

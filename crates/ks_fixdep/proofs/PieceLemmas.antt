@@ -20,10 +20,10 @@ use Rattle.ks_fixdep.proofs.CutLemmas.{taken-cut, taken_after-cut}
 
 -- ---- a text that is one word
 
-whole-run : (w : List ℕ) → list_all is_word_byte w ≡ true → take_while is_word_byte w ≡ w
+pub whole-run : (w : List ℕ) → list_all is_word_byte w ≡ true → take_while is_word_byte w ≡ w
 whole-run w all = sym (word-is w (length w) (le_refl (length w)) (λ k below. AllPass-from_list_all is_word_byte w all k 0 below) (λ past. absurd (omega arith))) ∙ take_all (length w) w (le_refl (length w))
 
-all-drop : (w : List ℕ) (n : ℕ) → list_all is_word_byte w ≡ true → list_all is_word_byte (drop n w) ≡ true
+pub all-drop : (w : List ℕ) (n : ℕ) → list_all is_word_byte w ≡ true → list_all is_word_byte (drop n w) ≡ true
 all-drop w zero all = all
 all-drop [] (suc n) all = refl
 all-drop (b ∷ w) (suc n) all = all-drop w n (and_parts (is_word_byte b) (list_all is_word_byte w) all).1

@@ -1,7 +1,9 @@
 -- The definitions, in reading order.
 pub mod Scan
+pub mod Places
 pub mod NameIter
 pub mod Stream
+pub mod Pieces
 pub mod Scanner
 pub mod FoundNames
 pub mod SourceScan

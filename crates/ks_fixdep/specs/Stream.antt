@@ -1,5 +1,5 @@
 -- A text that comes in pieces: which names are complete so far, and what has to be kept of it.
-use Rattle.std.specs.Prelude.{ℕ, ◌+◌, ◌-◌, nat_le, List, [], ◌∷◌, ◌++◌, Option, Some, None, length, take, drop, if◌then◌else◌}
+use Rattle.std.specs.Prelude.{ℕ, ◌+◌, ◌-◌, nat_le, List, [], ◌∷◌, ◌++◌, Option, Some, None, length, map, take, drop, if◌then◌else◌}
 use Rattle.std.specs.List.{list_all}
 use Rattle.std.specs.Str.{bytes_eq}
 use Rattle.ks_symbols.specs.Names.{is_word_byte}
@@ -48,6 +48,10 @@ ended t = taken (before_last_word t)
 abbrev pub carried_at : ℕ → Option (List ℕ) → List NameAt
 carried_at i None = []
 carried_at i (Some x) = record { place = i; name = x } ∷ []
+
+-- what is lent behind a text: the name that began in its last word, and those that begin later, counted from its end
+abbrev pub lent_behind : List ℕ → Option (List ℕ) → List NameAt → List NameAt
+lent_behind t carried names = carried_at (length (before_last_word t)) carried ++ map (further (length t)) names
 
 -- a name as a list of at most one
 abbrev pub list_of : Option (List ℕ) → List (List ℕ)

@@ -12,6 +12,8 @@ mod runs;
 mod scan;
 mod scanner;
 mod source_scan;
+#[cfg(test)]
+mod tests;
 mod tokens;
 
 pub use building::{build, build_from};
@@ -22,7 +24,10 @@ pub use command_file::{
 pub use dep_error::DepError;
 pub use dependency_file::{Prerequisites, Role, read_depfile};
 pub use found_names::FoundNames;
-pub use laws::{names_of_a_record, names_of_all_sources};
+pub use laws::{
+    ended_names_are_followed, names_by_places, names_of_a_record, names_of_all_sources,
+    pieces_give_the_whole, recording_examples,
+};
 pub use name_iter::NameIter;
 pub use scan::{Found, names};
 pub use scanner::{Fed, Scanner};

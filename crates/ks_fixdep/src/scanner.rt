@@ -8,7 +8,7 @@ ghost use Rattle.std.specs.Option.{option_copied};
 ghost use Rattle.std.specs.Borrow.{sem};
 ghost use Rattle.ks_symbols.specs.Names.{is_word_byte, is_name};
 ghost use Rattle.ks_fixdep.specs.Scan.{taken};
-ghost use Rattle.ks_fixdep.specs.Stream.{kept, kept_name, lengthened, ended, further, carried_at, before_last_word};
+ghost use Rattle.ks_fixdep.specs.Stream.{kept, kept_name, lengthened, ended, lent_behind, carried_at, before_last_word};
 
 use crate::name_iter::NameIter;
 use crate::runs::{leading_word, name_of_whole, trailing_word};
@@ -111,10 +111,11 @@ impl Scanner {
         }
     }
 
-    /// Takes the next piece of the text, and lends the names that a byte of it follows.
+    /// Takes the next piece of the text, and lends the names whose run is followed by a byte of it. The places of
+    /// those in the piece count from its beginning.
     pub fn feed<'a>(&'a mut self, piece: &'a [u8]) -> Fed<'a>
         ensures lends { (t : List ℕ) → self.old ≡ kept t → ended (t ++ piece.now)
-            ≡ ended t ++ carried_at (length (before_last_word t)) (option_copied result.carried) ++ map (further (length t)) (names_left result.names) }
+            ≡ ended t ++ lent_behind t (option_copied result.carried) (names_left result.names) }
         ensures legal { IfSome result.carried (λ name. IsTrue (is_name name.now)) }
         ensures* after { sem 𝓛 (Keeps self.entry (λ new. (t : List ℕ) → self.old ≡ kept t → new ≡ kept (t ++ piece.now))) }
     {

@@ -1,4 +1,5 @@
-use Rattle.std.proofs.Common.{◌++◌, ◌<◌, refl, sym, ap, ◌∙◌, [], length, map, take, ◌-◌, arith}
+use Rattle.std.proofs.Common.{◌++◌, ◌<◌, refl, sym, ap, ◌∙◌, [], length, map, take, ◌-◌, arith, append_assoc}
+use Rattle.ks_fixdep.specs.NameIter.{names_left}
 use Rattle.std.specs.Option.{option_copied}
 use Rattle.ks_fixdep.specs.Scan.{taken_after}
 use Rattle.ks_fixdep.specs.Stream.{kept_name, lengthened, carried_at, ended, before_last_word, further}
@@ -14,7 +15,7 @@ returns-then-head-piece c =
     let whole = c.if-head-piece.true in (
       (refl, (λ _. tt), λ t stands. c.push.ensures ∙ ap (λ k. lengthened k head) (c.self.view_is ∙ stands) ∙ word-kept t p head is all whole),
       record {
-        lends = λ t stands. word-lends t p head is all whole ∙ ap (λ l. ended t ++ [] ++ map (further (length t)) l) (sym c.starting_at.ensures);
+        lends = λ t stands. word-lends t p head is all whole ∙ ap (λ l. ended t ++ [] ++ map (further (length t)) l) (sym c.starting_at.ensures) ∙ append_assoc (ended t) [] (map (further (length t)) (names_left c.starting_at.result));
         legal = tt;
         after = tt;
       },
@@ -39,7 +40,8 @@ returns c =
             (let name = c.name.ensures.value ∙ ap kept_name (c.swap.ensures.x_after ∙ c.push.ensures ∙ ap (λ k. lengthened k head) (c.self.view_is ∙ stands)) in
             piece-lends t p head tail is short last
             ∙ ap (λ x. ended t ++ carried_at (length (before_last_word t)) x ++ map (further (length t)) (taken_after (take (length p - length tail) p) (length head))) (sym name)
-            ∙ ap (λ l. ended t ++ carried_at (length (before_last_word t)) (option_copied c.name.result) ++ map (further (length t)) l) (sym c.starting_at-2.ensures));
+            ∙ ap (λ l. ended t ++ carried_at (length (before_last_word t)) (option_copied c.name.result) ++ map (further (length t)) l) (sym c.starting_at-2.ensures)
+            ∙ append_assoc (ended t) (carried_at (length (before_last_word t)) (option_copied c.name.result)) (map (further (length t)) (names_left c.starting_at-2.result)));
         legal = c.name.ensures.legal;
         after = tt;
       },

@@ -11,7 +11,7 @@ pub returns : goal.returns
 returns c = λ t stands.
     let carried = option_copied c.feed-fed.result.carried in
     let names = names_left c.feed-fed.result.names in
-    let longer = names-longer t c.args.piece.now (length (before_last_word t)) (length t) carried names (c.feed-fed.ensures.lends t stands.word) in
+    let longer = names-longer t c.args.piece.now carried names (c.feed-fed.ensures.lends t stands.word) in
     on_ok c.note_all.result (λ noted. record {
       word = c.feed-fed.follows.holds-at-none t stands.word;
       names = noted_in_parts (map bare_name (ended t)) (list_of carried) (map bare_name names) _ _ _ _ stands.names c.in_ok-note_carried.ensures noted longer;

@@ -1,0 +1,5 @@
+use Rattle.ks_fixdep.proofs.JoinLemmas.{ended-followed}
+use Rattle.ks_fixdep.proofs.laws.ended_names_are_followed.Goals as goal
+
+pub returns : goal.returns
+returns c = ended-followed

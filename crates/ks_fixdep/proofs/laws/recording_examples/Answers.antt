@@ -1,0 +1,21 @@
+use Rattle.std.proofs.Common.{refl}
+use Rattle.ks_symbols.specs.Names.{is_name, is_path}
+use Rattle.ks_fixdep.specs.Scan.{taken_from, taken_at, name_of}
+use Rattle.ks_fixdep.specs.Tokens.{tokens}
+use Rattle.ks_fixdep.specs.DependencyFile.{prerequisites, dependency_refusal, token_refusal}
+use Rattle.ks_fixdep.proofs.laws.recording_examples.Goals as goal
+
+pub returns-clause-names : goal.returns-clause-names
+unfolding taken_from taken_at name_of is_name
+returns-clause-names c = refl
+
+pub returns-clause-roles : goal.returns-clause-roles
+unfolding prerequisites tokens
+returns-clause-roles c = refl
+
+pub returns-clause-fault : goal.returns-clause-fault
+unfolding dependency_refusal token_refusal tokens is_path
+returns-clause-fault c = refl
+
+pub returns-clause-lines : goal.returns-clause-lines
+returns-clause-lines c = refl

@@ -1,0 +1,28 @@
+-- A text that is fed in pieces, against the scan of the whole.
+use Rattle.std.specs.Prelude.{◌≡◌, ◌++◌, ℕ, List, [], ◌∷◌, Bool, nat_lt, ◌+◌, filter, length, flat_map}
+use Rattle.ks_fixdep.specs.Scan.{NameAt, run_at, taken}
+use Rattle.ks_fixdep.specs.Stream.{ended}
+
+-- a byte of the text follows the run of x
+abbrev pub is_followed : List ℕ → NameAt → Bool
+is_followed t x = nat_lt (x.place + 7 + length (run_at t (x.place + 7))) (length t)
+
+-- what is ended in a text are the names of it whose run is followed by a byte
+abbrev pub EndedAreFollowed : Type 0
+EndedAreFollowed = (t : List ℕ) → ended t ≡ filter (is_followed t) (taken t)
+
+-- each list was lent for its piece: behind what was ended before, it is what is ended now
+abbrev pub LentInTurn : List ℕ → List (List ℕ) → List (List NameAt) → Type 0
+LentInTurn before [] [] = Unit {0}
+LentInTurn before [] (xs ∷ lent) = ⊥
+LentInTurn before (p ∷ ps) [] = ⊥
+LentInTurn before (p ∷ ps) (xs ∷ lent) = (ended (before ++ p) ≡ ended before ++ xs) × LentInTurn (before ++ p) ps lent
+
+-- all pieces together
+abbrev pub joined : List (List ℕ) → List ℕ
+joined pieces = flat_map (λ p. p) pieces
+
+-- What is lent for the pieces in turn, and last at the end of the text, is what the joined text has.
+abbrev pub PiecesGiveTheWhole : Type 0
+PiecesGiveTheWhole = (pieces : List (List ℕ)) (lent : List (List NameAt)) (last : List NameAt) → LentInTurn [] pieces lent → taken (joined pieces) ≡ ended (joined pieces) ++ last
+    → flat_map (λ xs. xs) lent ++ last ≡ taken (joined pieces)

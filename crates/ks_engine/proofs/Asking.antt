@@ -96,10 +96,10 @@ built_other files o command file legal word read other = built_read files o comm
 
 -- ---- the stamps of the names that are left
 
-deps_next : (deps : List Dep) (i : ℕ) (d : Dep) → i < length deps → d ≡ get_or deps i d → drop i deps ≡ d ∷ drop (suc i) deps
+pub deps_next : (deps : List Dep) (i : ℕ) (d : Dep) → i < length deps → d ≡ get_or deps i d → drop i deps ≡ d ∷ drop (suc i) deps
 deps_next deps i d h is = drop-cons deps i d h ∙ ap (λ z. z ∷ drop (suc i) deps) (sym is)
 
-names_next : (deps : List Dep) (i : ℕ) (d : Dep) (x : List ℕ) → i < length deps → d ≡ get_or deps i d → d ≡ Config x → config_names (drop i deps) ≡ x ∷ config_names (drop (suc i) deps)
+pub names_next : (deps : List Dep) (i : ℕ) (d : Dep) (x : List ℕ) → i < length deps → d ≡ get_or deps i d → d ≡ Config x → config_names (drop i deps) ≡ x ∷ config_names (drop (suc i) deps)
 names_next deps i d x h is config = ap config_names (deps_next deps i d h is) ∙ ap (λ z. config_names (z ∷ drop (suc i) deps)) config
 
 bad_next : (files : Files) (g : ℕ) (deps : List Dep) (i : ℕ) (d : Dep) (x : List ℕ) (answer : Result Verdict EngineError) → i < length deps → d ≡ get_or deps i d → d ≡ Config x

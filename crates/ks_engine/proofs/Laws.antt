@@ -1,12 +1,19 @@
 -- The laws of the layers below: all that the proofs here use of them beside the contracts of their calls.
-use Rattle.std.proofs.Common.{◌≡◌, ◌≢◌, ℕ, ◌≤◌, List, Option, Some, length}
+use Rattle.std.proofs.Common.{◌≡◌, ◌≢◌, ℕ, ◌≤◌, List, [], Option, Some, length, map}
 use Rattle.ks_output.specs.Laws.{TextsReadBack, GenerationReadsBack, IsAccepted, TextsAreOfEntries, AlikeIsDefinedAlike}
 use Rattle.ks_output.proofs.ReadBack.{texts_read_back, generation_reads_back, is_accepted}
 use Rattle.ks_output.proofs.Texts.{texts_are_of_entries}
 use Rattle.ks_output.proofs.Definitions.{alike_is_defined_alike}
 use Rattle.ks_fixdep.specs.CommandLines.{lines}
-use Rattle.ks_fixdep.specs.CommandLaws.{ReadFits}
-use Rattle.ks_fixdep.proofs.CommandFitLemmas.{lines-fit}
+use Rattle.ks_fixdep.specs.declared.dependency_file.Role.{Role}
+use Rattle.ks_fixdep.specs.CommandFile.{command_text}
+use Rattle.ks_fixdep.specs.CommandLaws.{ReadFits, ReadsBack}
+use Rattle.ks_fixdep.specs.FoundNames.{names_in}
+use Rattle.ks_fixdep.specs.Record.{names_of, deps_after, config_names}
+use Rattle.ks_fixdep.proofs.CommandFitLemmas.{lines-fit, lines-read}
+use Rattle.ks_fixdep.proofs.CommandTextLemmas.{written-reads}
+use Rattle.ks_fixdep.proofs.DepsLemmas.{record_names}
+use Rattle.ks_symbols.proofs.Digits.{reads_back}
 use Rattle.ks_tree.specs.Paths.{Place, CommandFile, path_of, IsLegalPlace, PathsNeverMeet, command_path}
 use Rattle.ks_tree.specs.Stamps.{HasNumber}
 use Rattle.ks_tree.proofs.Places.{paths_never_meet}
@@ -50,3 +57,11 @@ short_stamp = number_short
 -- a command file that is read fits its layout, so its parts are legal
 pub read_fits : ReadFits
 read_fits text f reads = lines-fit f (lines text) reads
+
+-- a command file that is written reads back
+pub written_reads : ReadsBack
+written_reads f legal = lines-read f (lines (command_text f)) (written-reads reads_back f legal)
+
+-- the names of a record are those of its sources
+pub names_of_record : (ps : List (List ℕ × Role)) (ts : List (List ℕ)) → length ps ≡ length ts → config_names (deps_after [] ps (map names_in ts)) ≡ names_of (map names_in ts)
+names_of_record = record_names

@@ -6,3 +6,7 @@ pub mod Writes
 pub mod Steps
 pub mod Following
 pub mod Asking
+pub mod Pieces
+pub mod Scanning
+pub mod Drafting
+pub mod RecordSteps

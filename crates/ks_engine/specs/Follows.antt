@@ -1,10 +1,13 @@
 -- What each call does to the files of a tree and to its history.
-use Rattle.std.specs.Prelude.{◌≡◌, ◌⊎◌, ℕ, List, Option, Some, Result, Ok, Err}
+use Rattle.std.specs.Prelude.{◌≡◌, ◌⊎◌, ℕ, ◌<◌, List, Some, Result, Ok, Err}
 use Rattle.ks_tree.specs.Files.{Files, content}
 use Rattle.ks_engine.specs.declared.error.EngineError.{EngineError}
+use Rattle.ks_tree.specs.Paths.{header_path}
+use Rattle.ks_engine.specs.declared.recording.Recorded.{Recorded as RecordAnswer}
 use Rattle.ks_engine.specs.declared.synchronise.Report.{Report}
 use Rattle.ks_engine.specs.Refusals.{IsGivenUp}
-use Rattle.ks_engine.specs.History.{History, Synced, Broken, before, done}
+use Rattle.ks_engine.specs.History.{History, Synced, Broken, Recorded, before, done}
+use Rattle.ks_engine.specs.Recording.{record_plan, IsRecorded, IsRecordTried}
 use Rattle.ks_engine.specs.Synchronised.{Plan, IsSyncPlan, AreChanged, IsSynced, IsBrokenOff}
 
 -- the files of a tree, how often its device has failed, and what was done to it
@@ -38,3 +41,25 @@ FollowsSync old kconfig dotconfig (Ok report) new = FollowsSynced old kconfig do
 FollowsSync old kconfig dotconfig (Err e) new =
     (IsSyncPlan old.files kconfig dotconfig (Err e) × IsSame old new)
     ⊎ (IsGivenUp e × (IsSame old new ⊎ ((broken : IsBrokenOff old.files new.files kconfig dotconfig) × IsBrokenEvent old.history broken.plan broken.some.0 new.history)))
+
+-- ---- recording
+
+-- The object, its command and its names are the newest event, with the header as it stood, under the last generation.
+pub record FollowsRecorded (old : State) (depfile target command : List ℕ) (answer : RecordAnswer) (new : State) : Type 0 where
+  pub files : IsRecorded old.files new.files depfile target command answer
+  pub header : List ℕ
+  pub stood : content old.files header_path ≡ Some header
+  pub history : new.history ≡ Recorded target command files.plan.names header old.history
+  pub some : 0 < done old.history
+  pub generation : answer.generation ≡ done old.history
+
+-- One that was given up at the write has left the old command file, or is recorded.
+abbrev pub IsRecordEvent : State → List ℕ → List ℕ → List (List ℕ) → History → Type 0
+IsRecordEvent old target command names next =
+    (next ≡ old.history) ⊎ ((header : List ℕ) × (content old.files header_path ≡ Some header) × (next ≡ Recorded target command names header old.history))
+
+abbrev pub FollowsRecord : State → List ℕ → List ℕ → List ℕ → Result RecordAnswer EngineError → State → Type 0
+FollowsRecord old depfile target command (Ok answer) new = FollowsRecorded old depfile target command answer new
+FollowsRecord old depfile target command (Err e) new =
+    ((record_plan old.files depfile target command ≡ Err e) × IsSame old new)
+    ⊎ (IsGivenUp e × (IsSame old new ⊎ ((tried : IsRecordTried old.files new.files depfile target command) × IsRecordEvent old target command tried.plan.names new.history)))

@@ -5,6 +5,8 @@ pub mod Refusals
 pub mod Synchronised
 pub mod Asked
 pub mod Judged
+pub mod Recording
 pub mod Shows
 pub mod Views
+pub mod Drafts
 pub mod Follows

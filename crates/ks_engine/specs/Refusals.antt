@@ -10,8 +10,10 @@ use Rattle.ks_tree.specs.declared.fault.TreeError.{TreeError}
 use Rattle.ks_tree.specs.declared.fault.TreeError.TheVariants as stamp
 use Rattle.ks_fixdep.specs.declared.command_file.CommandError.{CommandError}
 use Rattle.ks_fixdep.specs.declared.command_file.CommandError.TheVariants as command
+use Rattle.ks_fixdep.specs.declared.dep_error.DepError.{DepError}
+use Rattle.ks_fixdep.specs.declared.dep_error.DepError.TheVariants as dep
 use Rattle.ks_engine.specs.declared.error.EngineError.{EngineError}
-use Rattle.ks_engine.specs.declared.error.EngineError.TheVariants.{Source, TooLarge, OutOfMemory, BadAuto, BadCommandFile, BadStamp, Device}
+use Rattle.ks_engine.specs.declared.error.EngineError.TheVariants.{Source, TooLarge, OutOfMemory, BadAuto, NoTarget, BadPath, BadCommand, BadCommandFile, BadStamp, Device}
 
 abbrev pub of_source : SourceError → EngineError
 of_source source.TooLarge = TooLarge
@@ -27,6 +29,13 @@ abbrev pub of_command : CommandError → EngineError
 of_command (command.BadCommandFile line) = BadCommandFile line
 of_command command.TooLarge = TooLarge
 of_command command.OutOfMemory = OutOfMemory
+
+abbrev pub of_dep : DepError → EngineError
+of_dep dep.NoTarget = NoTarget
+of_dep (dep.BadPath token) = BadPath token
+of_dep dep.BadCommand = BadCommand
+of_dep dep.TooLarge = TooLarge
+of_dep dep.OutOfMemory = OutOfMemory
 
 abbrev pub of_tree : TreeFault → EngineError
 of_tree fault.TooLarge = TooLarge

@@ -2,9 +2,9 @@
 //! files that are too large have one member each, whichever layer met them.
 ghost use Rattle.std.specs.Prelude.{◌≡◌};
 ghost use Rattle.ks_engine.specs.declared.error.EngineError.TheVariants.{OutOfMemory};
-ghost use Rattle.ks_engine.specs.Refusals.{of_source, of_auto, of_command, of_tree, of_stamp};
+ghost use Rattle.ks_engine.specs.Refusals.{of_source, of_auto, of_command, of_dep, of_tree, of_stamp};
 
-use ks_fixdep::CommandError;
+use ks_fixdep::{CommandError, DepError};
 use ks_output::AutoError;
 use ks_symbols::{Name, Path, SourceError};
 use ks_tree::{TreeError, TreeFault};
@@ -91,6 +91,20 @@ impl From<CommandError> for EngineError {
             CommandError::BadCommandFile(line) => EngineError::BadCommandFile(line),
             CommandError::TooLarge => EngineError::TooLarge,
             CommandError::OutOfMemory => EngineError::OutOfMemory,
+        }
+    }
+}
+
+impl From<DepError> for EngineError {
+    ghost from_gives = { λ error e. e ≡ of_dep error };
+
+    fn from(error: DepError) -> EngineError {
+        match error {
+            DepError::NoTarget => EngineError::NoTarget,
+            DepError::BadPath(token) => EngineError::BadPath(token),
+            DepError::BadCommand => EngineError::BadCommand,
+            DepError::TooLarge => EngineError::TooLarge,
+            DepError::OutOfMemory => EngineError::OutOfMemory,
         }
     }
 }

@@ -3,9 +3,12 @@
 
 mod error;
 mod last_sync;
+mod recording;
+mod sources;
 mod staleness;
 mod synchronise;
 
 pub use error::EngineError;
+pub use recording::{Recorded, record_object};
 pub use staleness::{BuildState, Verdict, outdated, stale};
 pub use synchronise::{Report, sync};

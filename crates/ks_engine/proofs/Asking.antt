@@ -1,0 +1,289 @@
+-- What the files answer of an object, and what a shown tree answers of a recorded one.
+use Rattle.std.proofs.Common.{◌≡◌, ◌⊎◌, inl, inr, ⊎_elim, ℕ, suc, ◌+◌, ◌<◌, ◌≤◌, List, [], ◌∷◌, Option, Some, None, Result, Ok, Err, Bool, true, false, ◌&&◌, cond, nat_lt, nat_eq, sym, ◌∙◌, ap, ap₂, refl, subst, arith, length, get_or, drop, drop-cons, bytes_eq, find, lt_of_lt_of_le, option_map, IsTrue}
+use Rattle.std.specs.List.{list_all}
+use Rattle.std.proofs.lemmas.Bool.{lt-ltb, le-ltb, cond-false, cond-true, and_parts, and_from, ne_eqb, or_left, or_right, or_cases}
+use Rattle.std.proofs.lemmas.Slice.Eq.{bytes_eq-Decides}
+use Rattle.ks_symbols.specs.Lines.{max_bytes}
+use Rattle.ks_symbols.specs.Names.{is_name, is_target}
+use Rattle.ks_compare.specs.Changes.{is_in}
+use Rattle.ks_fixdep.specs.declared.command_file.Dep.{Dep}
+use Rattle.ks_fixdep.specs.declared.command_file.Dep.TheVariants.{File, Config}
+use Rattle.ks_fixdep.specs.CommandFile.{Record as CommandRecord, is_command, is_dep}
+use Rattle.ks_fixdep.specs.CommandReading.{reading}
+use Rattle.ks_fixdep.specs.Record.{config_names}
+use Rattle.ks_tree.specs.Files.{Files, content, IsTooLarge}
+use Rattle.ks_tree.specs.Paths.{auto_path, stamp_path, command_path}
+use Rattle.ks_tree.specs.Stamps.{HasNumber, IsNoStamp, IsStampRefusal}
+use Rattle.ks_tree.specs.declared.fault.TreeError.{TreeError}
+use Rattle.ks_tree.specs.declared.fault.TreeError.TheVariants as stamp_error
+use Rattle.ks_engine.specs.declared.error.EngineError.{EngineError}
+use Rattle.ks_engine.specs.declared.error.EngineError.TheVariants.{BadPath, BadCommand}
+use Rattle.ks_engine.specs.declared.staleness.Verdict.{Verdict}
+use Rattle.ks_engine.specs.declared.staleness.Verdict.TheVariants.{Fresh}
+use Rattle.ks_engine.specs.declared.staleness.BuildState.{BuildState}
+use Rattle.ks_engine.specs.Refusals.{of_stamp, IsGivenUp, GaveUp, and_then}
+use Rattle.ks_engine.specs.History.{History, Begun, Synced, Broken, Recorded, Record, done, last_record, NoneBroken}
+use Rattle.ks_engine.specs.Staleness.{found, names_of, changed_since, suspect_since, first_changed, first_suspect, verdict}
+use Rattle.ks_engine.specs.Legal.{IsHistory, HasOneKind}
+use Rattle.ks_engine.specs.Shows.{Shows, stamp}
+use Rattle.ks_engine.specs.Synchronised.{OldAuto, old_auto, synced_at, last_generation}
+use Rattle.ks_engine.specs.Asked.{Asked, Answered, ByStamps, asked, asked_at, asked_since, asked_of, of_target, command_file, IsBadStamp, IsByStamps, IsAnswer, Built, Differs, Asks, built, built_by, judged, IsBuilt}
+use Rattle.ks_engine.specs.Judged.{HasSameDefinitions, IsJudged, IsBuildJudged}
+use Rattle.ks_engine.proofs.Heart.{suspect_since-lt, suspect_since-changed_since, generation-le, record_cases}
+use Rattle.ks_engine.proofs.Headers.{same_definitions}
+use Rattle.ks_engine.proofs.Laws.{one_number, short_stamp, read_fits}
+use Rattle.ks_engine.proofs.Steps.{auto_read}
+
+-- ---- the steps of a question
+
+pub asked_illegal : (files : Files) (o : List ℕ) → false ≡ is_target o → asked files o ≡ Answered (Err (BadPath 0))
+unfolding asked
+asked_illegal files o bad = cond-false _ _ _ (sym bad)
+
+pub asked_read : (files : Files) (o : List ℕ) (r : Result (Option CommandRecord) EngineError) → true ≡ is_target o → command_file o (content files (command_path o)) ≡ r → asked files o ≡ asked_of files r
+unfolding asked
+asked_read files o r legal read = cond-true _ _ _ (sym legal) ∙ ap (asked_of files) read
+
+pub answer_by : (files : Files) (a b : Asked) (answer : Result Verdict EngineError) → a ≡ b → IsAnswer files b answer → IsAnswer files a answer
+answer_by files a b answer same is = subst (λ q. IsAnswer files q answer) (sym same) is
+
+pub ask_refused : (files : Files) (o : List ℕ) (e : EngineError) → true ≡ is_target o → IsGivenUp e ⊎ (command_file o (content files (command_path o)) ≡ Err e)
+    → IsGivenUp e ⊎ IsAnswer files (asked files o) (Err e)
+ask_refused files o e legal (inl given) = inl given
+ask_refused files o e legal (inr bad) = inr (answer_by files _ _ _ (asked_read files o _ legal bad) refl)
+
+-- a verdict of the same files
+pub judged_here : {P : Type 0} (files mid : Files) (names : List (List ℕ)) (g : Option ℕ) (answer : Result Verdict EngineError) → mid ≡ files
+    → P ⊎ IsAnswer mid (asked_since mid names g) answer → P ⊎ IsAnswer files (asked_since files names g) answer
+judged_here {P} files mid names g answer same said = subst (λ f. P ⊎ IsAnswer f (asked_since f names g) answer) same said
+
+pub ask_judged : {P : Type 0} (files : Files) (o : List ℕ) (file : CommandRecord) (answer : Result Verdict EngineError) → true ≡ is_target o → command_file o (content files (command_path o)) ≡ Ok (Some file)
+    → P ⊎ IsAnswer files (asked_since files (config_names file.deps) file.generation) answer → P ⊎ IsAnswer files (asked files o) answer
+ask_judged files o file answer legal read (inl given) = inl given
+ask_judged files o file answer legal read (inr said) = inr (answer_by files _ _ answer (asked_read files o _ legal read) said)
+
+-- ---- the steps of a question about a command
+
+pub built_illegal : (files : Files) (o command : List ℕ) → false ≡ is_target o → built files o command ≡ Asks (Answered (Err (BadPath 0)))
+unfolding built
+built_illegal files o command bad = cond-false _ _ _ (sym bad)
+
+pub built_bad_command : (files : Files) (o command : List ℕ) → true ≡ is_target o → false ≡ is_command command → built files o command ≡ Asks (Answered (Err BadCommand))
+unfolding built
+built_bad_command files o command legal bad = cond-true _ _ _ (sym legal) ∙ cond-false _ _ _ (sym bad)
+
+pub built_read : (files : Files) (o command : List ℕ) (r : Result (Option CommandRecord) EngineError) → true ≡ is_target o → true ≡ is_command command
+    → command_file o (content files (command_path o)) ≡ r → built files o command ≡ built_by files command r
+unfolding built
+built_read files o command r legal word read = cond-true _ _ _ (sym legal) ∙ cond-true _ _ _ (sym word) ∙ ap (built_by files command) read
+
+pub built_as : (files : Files) (a b : Built) (answer : Result BuildState EngineError) → a ≡ b → IsBuilt files b answer → IsBuilt files a answer
+built_as files a b answer same is = subst (λ q. IsBuilt files q answer) (sym same) is
+
+pub built_refused : (files : Files) (o command : List ℕ) (e : EngineError) → true ≡ is_target o → true ≡ is_command command → IsGivenUp e ⊎ (command_file o (content files (command_path o)) ≡ Err e)
+    → IsGivenUp e ⊎ IsBuilt files (built files o command) (Err e)
+built_refused files o command e legal word (inl given) = inl given
+built_refused files o command e legal word (inr bad) = inr (built_as files _ _ _ (built_read files o command _ legal word bad) (Err e, refl, refl))
+
+pub built_same : (files : Files) (o command : List ℕ) (file : CommandRecord) → true ≡ is_target o → true ≡ is_command command
+    → command_file o (content files (command_path o)) ≡ Ok (Some file) → bytes_eq file.command command ≡ true
+    → built files o command ≡ Asks (asked_since files (config_names file.deps) file.generation)
+built_same files o command file legal word read same = built_read files o command _ legal word read ∙ cond-true _ _ _ same
+
+pub built_other : (files : Files) (o command : List ℕ) (file : CommandRecord) → true ≡ is_target o → true ≡ is_command command
+    → command_file o (content files (command_path o)) ≡ Ok (Some file) → bytes_eq file.command command ≡ false → built files o command ≡ Differs
+built_other files o command file legal word read other = built_read files o command _ legal word read ∙ cond-false _ _ _ other
+
+-- ---- the stamps of the names that are left
+
+pub deps_next : (deps : List Dep) (i : ℕ) (d : Dep) → i < length deps → d ≡ get_or deps i d → drop i deps ≡ d ∷ drop (suc i) deps
+deps_next deps i d h is = drop-cons deps i d h ∙ ap (λ z. z ∷ drop (suc i) deps) (sym is)
+
+pub names_next : (deps : List Dep) (i : ℕ) (d : Dep) (x : List ℕ) → i < length deps → d ≡ get_or deps i d → d ≡ Config x → config_names (drop i deps) ≡ x ∷ config_names (drop (suc i) deps)
+names_next deps i d x h is config = ap config_names (deps_next deps i d h is) ∙ ap (λ z. config_names (z ∷ drop (suc i) deps)) config
+
+bad_next : (files : Files) (g : ℕ) (deps : List Dep) (i : ℕ) (d : Dep) (x : List ℕ) (answer : Result Verdict EngineError) → i < length deps → d ≡ get_or deps i d → d ≡ Config x
+    → IsBadStamp (content files (stamp_path x)) x answer → IsByStamps files g (config_names (drop i deps)) answer
+bad_next files g deps i d x answer h is config bad = subst (λ ys. IsByStamps files g ys answer) (sym (names_next deps i d x h is config)) (inr (inr bad))
+
+pub stamp_refused : (files mid : Files) (g : ℕ) (deps : List Dep) (i : ℕ) (d : Dep) (x : List ℕ) (e : TreeError) → mid ≡ files → i < length deps → d ≡ get_or deps i d → d ≡ Config x
+    → IsStampRefusal x (content mid (stamp_path x)) e
+    → ((answer : Result Verdict EngineError) → IsByStamps files g (config_names (drop i deps)) answer → IsByStamps files g (config_names deps) answer)
+    → IsGivenUp (of_stamp e) ⊎ IsByStamps files g (config_names deps) (Err (of_stamp e))
+stamp_refused files mid g deps i d x stamp_error.OutOfMemory same h is config why rest = inl tt
+stamp_refused files mid g deps i d x stamp_error.Device same h is config why rest = inl tt
+stamp_refused files mid g deps i d x stamp_error.TooLarge same h is config why rest =
+    inr (rest _ (bad_next files g deps i d x _ h is config (inr (subst (λ f. IsTooLarge (content f (stamp_path x))) same why, refl))))
+stamp_refused files mid g deps i d x (stamp_error.BadStamp y) same h is config why rest =
+    inr (rest _ (bad_next files g deps i d x _ h is config (inl (subst (λ f. IsNoStamp (content f (stamp_path x))) same why.1, ap (λ z. Err (of_stamp (stamp_error.BadStamp z))) why.0))))
+
+-- ---- what a shown tree answers of a recorded object
+
+-- by the stamps that a history has, the first name above the generation
+stamps_answer : (files : Files) (h : History) (g : ℕ) (names : List (List ℕ)) (answer : Result Verdict EngineError) →
+    ((x : List ℕ) → IsTrue (is_name x) → HasNumber (content files (stamp_path x)) (stamp h x)) → list_all is_name names ≡ true →
+    IsByStamps files g names answer → answer ≡ Ok (verdict (find (λ x. nat_lt g (stamp h x)) names))
+stamps_answer files h g [] answer stamps legal is = is
+stamps_answer files h g (x ∷ xs) answer stamps legal is =
+    let parts = and_parts (is_name x) _ legal in
+    let here = stamps x parts.0 in
+    ⊎_elim
+    (λ above.
+    let same = one_number _ _ _ above.1 here in
+    let test : nat_lt g (stamp h x) ≡ true = lt-ltb _ _ (subst (λ n. g < n) same above.2.0) in
+    above.2.1 ∙ ap (λ o. Ok (verdict o)) (sym (cond-true _ (Some x) _ test)))
+    (λ more. ⊎_elim
+    (λ below.
+    let same = one_number _ _ _ below.1 here in
+    let test : nat_lt g (stamp h x) ≡ false = le-ltb _ _ (subst (λ n. n ≤ g) same below.2.0) in
+    stamps_answer files h g xs answer stamps parts.1 below.2.1 ∙ ap (λ o. Ok (verdict o)) (sym (cond-false _ (Some x) _ test)))
+    (λ bad. absurd (no_bad (content files (stamp_path x)) x answer (stamp h x) here bad))
+    more)
+    is
+  where
+    no_bad : (file : Option (List ℕ)) (x : List ℕ) (answer : Result Verdict EngineError) (n : ℕ) → HasNumber file n → IsBadStamp file x answer → ⊥
+    no_bad file x answer n has (inl bad) = bad.0 n has
+    no_bad file x answer n has (inr large) =
+        let is = large.0 in
+        let short = short_stamp is.0 n (subst (λ f. HasNumber f n) is.1 has) in
+        let long = is.2 in omega arith
+
+-- the names among legal dependencies are legal
+legal_names : (deps : List Dep) → list_all is_dep deps ≡ true → list_all is_name (config_names deps) ≡ true
+legal_names [] legal = refl
+legal_names (File path ∷ deps) legal = legal_names deps (and_parts (is_dep (File path)) _ legal).1
+legal_names (Config name ∷ deps) legal = let parts = and_parts (is_dep (Config name)) _ legal in and_from (is_dep (Config name)) _ parts.0 (legal_names deps parts.1)
+
+-- tests that agree on the members of a list find the same
+pub find_same : (p q : List ℕ → Bool) (xs : List (List ℕ)) → ((x : List ℕ) → is_in xs x ≡ true → p x ≡ q x) → find p xs ≡ find q xs
+find_same p q [] same = refl
+find_same p q (x ∷ xs) same =
+    ap (λ b. cond b (Some x) (find p xs)) (same x (or_left _ _ ((bytes_eq-Decides x x).1 refl)))
+    ∙ ap (λ o. cond (q x) (Some x) o) (find_same p q xs (λ y among. same y (or_right (bytes_eq y x) _ among)))
+
+and_true : (i b : Bool) → i ≡ true → (i && b) ≡ b
+and_true true b e = refl
+and_true false b e = absurd cc
+
+-- a record stands after a completed synchronisation
+pub done_recorded : (h : History) (o : List ℕ) (r : Record) → IsHistory h → last_record h o ≡ Some r → 0 < done r.past
+done_recorded (Begun first) o r is last = absurd cc
+done_recorded (Synced t config past) o r is last = done_recorded past o r is.0 last
+done_recorded (Broken t config renewed past) o r is last = done_recorded past o r is.0 last
+done_recorded (Recorded p command names header past) o r is last = ⊎_elim
+    (λ here. subst (λ (w : Record). 0 < done w.past) here.1 is.1)
+    (λ there. done_recorded past o r is.0 there.1)
+    (record_cases p o _ _ r last)
+
+-- the generation that a shown auto.conf has, behind a completed synchronisation
+pub last_shown : (files : Files) (h : History) → Shows files h → 0 < done h → last_generation (content files auto_path) ≡ Ok (done h)
+last_shown files h shows some =
+    let read = auto_read h (content files auto_path) shows.history shows.auto in
+    let same = read.generation in
+    ap (λ o. and_then o synced_at) read.reads ∙ cond-false _ _ _ (ne_eqb read.auto.generation 0 (λ e. omega arith)) ∙ ap (λ n. Ok n) same
+
+-- what a shown command file is read as
+file_shown : (files : Files) (h : History) (o : List ℕ) (r : Record) (shows : Shows files h) (last : last_record h o ≡ Some r)
+    → command_file o (content files (command_path o)) ≡ Ok (Some (shows.commands o r last).2.file)
+file_shown files h o r shows last =
+    let at = shows.commands o r last in
+    let is = at.2 in
+    ap (command_file o) at.1
+    ∙ (cond-false _ _ _ (le-ltb max_bytes (length at.0) is.small) ∙ ap (of_target o) is.reads ∙ cond-true _ _ _ ((bytes_eq-Decides is.file.target o).1 is.target))
+
+target_shown : (files : Files) (h : History) (o : List ℕ) (r : Record) → Shows files h → last_record h o ≡ Some r → true ≡ is_target o
+target_shown files h o r shows last = let at = shows.commands o r last in sym (ap is_target (sym at.2.target) ∙ (read_fits at.0 at.2.file at.2.reads).legal.target)
+
+since_shown : (files : Files) (h : History) (o : List ℕ) (r : Record) (shows : Shows files h) (last : last_record h o ≡ Some r)
+    → asked_since files (config_names (shows.commands o r last).2.file.deps) (shows.commands o r last).2.file.generation ≡ ByStamps (done r.past) r.names
+since_shown files h o r shows last =
+    let is = (shows.commands o r last).2 in
+    let le = generation-le h o r last in
+    let some = done_recorded h o r shows.history last in
+    ap₂ (asked_since files) is.names is.generation
+    ∙ ap (asked_at (done r.past) r.names) (last_shown files h shows (lt_of_lt_of_le some le))
+    ∙ cond-false (nat_lt (done h) (done r.past)) _ _ (le-ltb (done h) (done r.past) le)
+
+-- THE ANSWER: of a recorded object, the first of its names that is suspect.
+by_stamps : (files : Files) (h : History) (o : List ℕ) (r : Record) (answer : Result Verdict EngineError) → Shows files h → last_record h o ≡ Some r →
+    IsByStamps files (done r.past) r.names answer → answer ≡ Ok (verdict (first_suspect h o))
+by_stamps files h o r answer shows last is =
+    let at = shows.commands o r last in
+    let legal = ap (list_all is_name) (sym at.2.names) ∙ legal_names at.2.file.deps (read_fits at.0 at.2.file at.2.reads).legal.deps in
+    stamps_answer files h (done r.past) r.names answer shows.stamps legal is
+    ∙ ap (λ o. Ok (verdict o))
+    (find_same _ _ r.names (λ x among. sym (suspect_since-lt h o r x last ∙ and_true (is_in r.names x) _ among))
+    ∙ ap (λ ns. find (suspect_since h o) (names_of ns)) (sym last))
+
+-- nothing found: no member passes
+find_none : (p : List ℕ → Bool) (xs : List (List ℕ)) (x : List ℕ) → find p xs ≡ None → is_in xs x ≡ true → p x ≡ false
+find_none p [] x none among = absurd cc
+find_none p (y ∷ xs) x none among =
+    elim (p y) as (λ b. p y ≡ b → cond b (Some y) (find p xs) ≡ None → p x ≡ false) [
+      | true ↦ λ _ e. absurd cc
+      | false ↦ λ fails e. ⊎_elim
+          (λ same. ap p ((bytes_eq-Decides x y).0 same) ∙ fails)
+          (λ more. find_none p xs x e more)
+          (or_cases (bytes_eq x y) _ among)
+    ] refl none
+
+fresh_none : (o : Option (List ℕ)) → ◌≡◌ {A = Result Verdict EngineError} (Ok Fresh) (Ok (verdict o)) → o ≡ None
+fresh_none None e = refl
+fresh_none (Some x) e = absurd cc
+
+-- Fresh means the same definitions.
+safe : (files : Files) (h : History) (o : List ℕ) (r : Record) (answer : Result Verdict EngineError) → Shows files h → last_record h o ≡ Some r
+    → answer ≡ Ok (verdict (first_suspect h o)) → HasOneKind h → answer ≡ Ok Fresh → HasSameDefinitions files r
+safe files h o r answer shows last suspect kinds fresh = λ x among.
+    let none = fresh_none _ (sym fresh ∙ suspect) in
+    let header = shows.header (lt_of_lt_of_le (done_recorded h o r shows.history last) (generation-le h o r last)) in (
+      header.0,
+      header.1,
+      same_definitions h o r x header.0 shows.history kinds last among
+          (find_none (suspect_since h o) r.names x (ap (λ ns. find (suspect_since h o) (names_of ns)) (sym last) ∙ none) among) header.2,
+    )
+
+-- what is answered by the stamps is judged by the history
+pub judges : (files : Files) (h : History) (o : List ℕ) (r : Record) (answer : Result Verdict EngineError) → Shows files h → last_record h o ≡ Some r
+    → GaveUp answer ⊎ IsByStamps files (done r.past) r.names answer → IsJudged files h o r answer
+judges files h o r answer shows last (inl given) = record {
+  suspect = inl given;
+  changed = λ none. inl given;
+  safe = λ kinds fresh. absurd (subst (λ (a : Result Verdict EngineError). GaveUp a) fresh given);
+}
+judges files h o r answer shows last (inr is) =
+    let suspect = by_stamps files h o r answer shows last is in
+    record {
+      suspect = inr suspect;
+      changed = λ none. inr (suspect ∙ ap (λ f. Ok (verdict f)) (find_same _ _ (found h o) (λ x among. suspect_since-changed_since h o x none)));
+      safe = safe files h o r answer shows last suspect;
+    }
+
+pub stale_judged : (files : Files) (h : History) (o : List ℕ) (r : Record) (answer : Result Verdict EngineError) → GaveUp answer ⊎ IsAnswer files (asked files o) answer → Shows files h → last_record h o ≡ Some r
+    → IsJudged files h o r answer
+stale_judged files h o r answer said shows last =
+    let whole = asked_read files o _ (target_shown files h o r shows last) (file_shown files h o r shows last) ∙ since_shown files h o r shows last in
+    judges files h o r answer shows last (subst (λ q. GaveUp answer ⊎ IsAnswer files q answer) whole said)
+
+-- ---- and of the command that built it
+
+gave_up : (answer : Result BuildState EngineError) → GaveUp answer → (v : Result Verdict EngineError) × (answer ≡ judged v) × GaveUp v
+gave_up (Ok x) given = absurd given
+gave_up (Err e) given = (Err e, refl, given)
+
+pub build_judged : (files : Files) (h : History) (o command : List ℕ) (r : Record) (answer : Result BuildState EngineError) → GaveUp answer ⊎ IsBuilt files (built files o command) answer
+    → IsTrue (is_command command) → Shows files h → last_record h o ≡ Some r → IsBuildJudged files h o command r answer
+build_judged files h o command r answer (inl given) word shows last = record {
+  differs = λ other. inl given;
+  same = λ same. let v = gave_up answer given in (v.0, v.1, judges files h o r v.0 shows last (inl v.2));
+}
+build_judged files h o command r answer (inr is) word shows last =
+    let file = (shows.commands o r last).2 in
+    let target = target_shown files h o r shows last in
+    let read = file_shown files h o r shows last in
+    record {
+      differs = λ other. inr (subst (λ q. IsBuilt files q answer) (built_other files o command file.file target (sym word) read (ap (λ c. bytes_eq c command) file.command ∙ other)) is);
+      same = λ same.
+          let asks = subst (λ q. IsBuilt files q answer) (built_same files o command file.file target (sym word) read (ap (λ c. bytes_eq c command) file.command ∙ same)) is in
+          (asks.0, asks.2, judges files h o r asks.0 shows last (inr (subst (λ q. IsAnswer files q asks.0) (since_shown files h o r shows last) asks.1)));
+    }

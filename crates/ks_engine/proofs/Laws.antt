@@ -1,0 +1,67 @@
+-- The laws of the layers below: all that the proofs here use of them beside the contracts of their calls.
+use Rattle.std.proofs.Common.{◌≡◌, ◌≢◌, ℕ, ◌≤◌, List, [], Option, Some, length, map}
+use Rattle.ks_output.specs.Laws.{TextsReadBack, GenerationReadsBack, IsAccepted, TextsAreOfEntries, AlikeIsDefinedAlike}
+use Rattle.ks_output.proofs.ReadBack.{texts_read_back, generation_reads_back, is_accepted}
+use Rattle.ks_output.proofs.Texts.{texts_are_of_entries}
+use Rattle.ks_output.proofs.Definitions.{alike_is_defined_alike}
+use Rattle.ks_fixdep.specs.CommandLines.{lines}
+use Rattle.ks_fixdep.specs.declared.dependency_file.Role.{Role}
+use Rattle.ks_fixdep.specs.CommandFile.{command_text}
+use Rattle.ks_fixdep.specs.CommandLaws.{ReadFits, ReadsBack}
+use Rattle.ks_fixdep.specs.FoundNames.{names_in}
+use Rattle.ks_fixdep.specs.Record.{names_of, deps_after, config_names}
+use Rattle.ks_fixdep.proofs.CommandFitLemmas.{lines-fit, lines-read}
+use Rattle.ks_fixdep.proofs.CommandTextLemmas.{written-reads}
+use Rattle.ks_fixdep.proofs.DepsLemmas.{record_names}
+use Rattle.ks_symbols.proofs.Digits.{reads_back}
+use Rattle.ks_tree.specs.Paths.{Place, CommandFile, path_of, IsLegalPlace, PathsNeverMeet, command_path}
+use Rattle.ks_tree.specs.Stamps.{HasNumber}
+use Rattle.ks_tree.proofs.Places.{paths_never_meet}
+use Rattle.ks_tree.proofs.StampLemmas.{number_unique, number_short}
+
+-- an auto.conf reads back: it is accepted, with its texts and its generation
+pub texts_back : TextsReadBack
+texts_back = texts_read_back
+
+pub generation_back : GenerationReadsBack
+generation_back = generation_reads_back
+
+pub accepted : IsAccepted
+accepted = is_accepted
+
+-- the texts of a configuration are those of its entries
+pub entry_texts : TextsAreOfEntries
+entry_texts = texts_are_of_entries
+
+-- entries that are alike are defined alike
+pub alike : AlikeIsDefinedAlike
+alike = alike_is_defined_alike
+
+-- no two files that the commands write stand at one path
+pub never_meet : PathsNeverMeet
+never_meet = paths_never_meet
+
+pub apart : (a b : Place) → IsLegalPlace a → IsLegalPlace b → (a ≡ b → ⊥) → path_of a ≢ path_of b
+apart a b legal_a legal_b differ = λ e. differ (never_meet a b legal_a legal_b e)
+
+pub command-injective : (o p : List ℕ) → command_path o ≡ command_path p → o ≡ p
+command-injective o p e = let same : CommandFile o ≡ CommandFile p = never_meet (CommandFile o) (CommandFile p) tt tt e in cc
+
+-- a stamp has one number, and then it is short
+pub one_number : (stamp : Option (List ℕ)) (m n : ℕ) → HasNumber stamp m → HasNumber stamp n → m ≡ n
+one_number = number_unique
+
+pub short_stamp : (s : List ℕ) (n : ℕ) → HasNumber (Some s) n → length s ≤ 21
+short_stamp = number_short
+
+-- a command file that is read fits its layout, so its parts are legal
+pub read_fits : ReadFits
+read_fits text f reads = lines-fit f (lines text) reads
+
+-- a command file that is written reads back
+pub written_reads : ReadsBack
+written_reads f legal = lines-read f (lines (command_text f)) (written-reads reads_back f legal)
+
+-- the names of a record are those of its sources
+pub names_of_record : (ps : List (List ℕ × Role)) (ts : List (List ℕ)) → length ps ≡ length ts → config_names (deps_after [] ps (map names_in ts)) ≡ names_of (map names_in ts)
+names_of_record = record_names

@@ -1,0 +1,12 @@
+pub mod Laws
+pub mod Heart
+pub mod Headers
+pub mod Reading
+pub mod Writes
+pub mod Steps
+pub mod Following
+pub mod Asking
+pub mod Pieces
+pub mod Scanning
+pub mod Drafting
+pub mod RecordSteps

@@ -1,0 +1,43 @@
+-- A source read in pieces.
+use Rattle.std.proofs.Common.{◌≡◌, ℕ, ◌+◌, ◌-◌, ◌≤◌, ◌<◌, List, ◌++◌, Option, Some, Ok, Err, sym, ap, ◌∙◌, length, take, drop, min, arith}
+use Rattle.std.proofs.lemmas.Bool.{lt-ltb, le-ltb, cond-true, cond-false}
+use Rattle.std.proofs.lemmas.List.{length-take, length-drop, take_all, take-append-drop, take-take, drop-take}
+use Rattle.std.proofs.Math.Seq.{take-append_seam}
+use Rattle.ks_tree.specs.Files.{IsPieceRead, piece}
+use Rattle.ks_fixdep.specs.FoundNames.{names_in}
+use Rattle.ks_engine.specs.Recording.{scanned}
+use Rattle.ks_engine.specs.declared.error.EngineError.TheVariants.{TooLarge}
+
+take_further : (n m : ℕ) (xs : List ℕ) → take (n + m) xs ≡ take n xs ++ take m (drop n xs)
+take_further n m xs =
+    sym (take-append-drop n (take (n + m) xs)) ∙ ap (λ l. l ++ drop n (take (n + m) xs)) (take-take n (n + m) xs (omega arith)) ∙ ap (λ l. take n xs ++ l) (drop-take n m xs)
+
+-- how many bytes a piece has
+count_is : (b old new : List ℕ) (offset n : ℕ) → IsPieceRead b offset old new n → n ≡ min (length old) (length b - offset)
+count_is b old new offset n read = read.is ∙ length-take (length old) (drop offset b) ∙ ap (min (length old)) (length-drop offset b)
+
+-- Nothing is left: all has been read.
+pub scanned_whole : (path b old new : List ℕ) (found : List (List ℕ)) (offset n : ℕ) → IsPieceRead b offset old new n → length old ≡ 4096 → n ≡ 0 → offset ≤ 67108864
+    → found ≡ names_in (take offset b) → scanned path (Some b) ≡ Ok found
+scanned_whole path b old new found offset n read room none small names =
+    let count = count_is b old new offset n read in
+    let past : length b ≤ offset = omega arith in
+    cond-false _ _ _ (le-ltb 67108864 (length b) (omega arith)) ∙ ap (λ l. Ok l) (sym (names ∙ ap names_in (take_all offset b past)))
+
+-- A byte past the limit has been read.
+pub scanned_large : (path b old new : List ℕ) (offset n : ℕ) → IsPieceRead b offset old new n → 67108864 < offset + n → offset ≤ 67108864 → scanned path (Some b) ≡ Err TooLarge
+scanned_large path b old new offset n read large small =
+    let count = count_is b old new offset n read in
+    cond-true _ _ _ (lt-ltb 67108864 (length b) (omega arith))
+
+-- The next piece stands behind what has been read.
+pub piece_behind : (b old new : List ℕ) (offset n : ℕ) → IsPieceRead b offset old new n → take offset b ++ take n new ≡ take (offset + n) b
+piece_behind b old new offset n read =
+    let p = piece b offset (length old) in
+    let count = read.is ∙ length-take (length old) (drop offset b) in
+    let lead : take n new ≡ p = ap (take n) read.bytes ∙ ap (λ m. take m (p ++ drop n old)) read.is ∙ take-append_seam p (drop n old) in
+    let same : p ≡ take n (drop offset b) = sym (take_all n p (omega (arith, read.is))) ∙ take-take n (length old) (drop offset b) (omega arith) in
+    ap (λ l. take offset b ++ l) (lead ∙ same) ∙ sym (take_further offset n b)
+
+pub same_source : (file : Option (List ℕ)) (a b : List ℕ) → file ≡ Some a → file ≡ Some b → a ≡ b
+same_source file a b p q = let e : Some a ≡ Some b = sym p ∙ q in cc

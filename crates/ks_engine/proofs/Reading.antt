@@ -1,0 +1,127 @@
+-- What the calls of the layers below give for the definitions of auto.conf and of the two texts.
+use Rattle.std.proofs.Common.{◌≡◌, ◌⊎◌, inl, inr, ℕ, ◌+◌, ◌^◌, ◌<◌, ◌≤◌, List, Option, Some, None, option_map, Result, Ok, Err, true, sym, ◌∙◌, ap, ap₂, refl, subst, length, IsTrue}
+use Rattle.std.proofs.lemmas.Bool.{lt-ltb, le-ltb, ne_eqb, cond-true, cond-false, and_parts}
+use Rattle.std.specs.Ordering.{nat_cmp}
+use Rattle.std.specs.Cmp.Lexicographic.{slice_cmp}
+use Rattle.std.specs.FinMap.{get, empty, get-empty}
+use Rattle.ks_symbols.specs.declared.error.SourceError.{SourceError}
+use Rattle.ks_symbols.specs.declared.error.SourceError.TheVariants as source
+use Rattle.ks_symbols.specs.declared.kinds.Kind.{Kind}
+use Rattle.ks_symbols.specs.Configuration.{NameMap, IsConfiguration}
+use Rattle.ks_symbols.specs.Names.{is_name, is_symbol_name}
+use Rattle.ks_symbols.specs.Lines.{max_bytes, lines}
+use Rattle.ks_symbols.specs.Kconfig.{declared, title_of, kconfig_refusal}
+use Rattle.ks_symbols.specs.DotConfig.{setting, unknown_count, dotconfig_refusal}
+use Rattle.ks_symbols.specs.Refusals.{or_else, IsRefusal}
+use Rattle.ks_output.specs.declared.auto_conf.AutoError.{AutoError}
+use Rattle.ks_output.specs.declared.auto_conf.AutoError.TheVariants as auto
+use Rattle.ks_output.specs.AutoText.{auto_text}
+use Rattle.ks_output.specs.AutoConf.{auto_map, auto_generation, auto_refusal, IsAutoRefusal}
+use Rattle.ks_output.specs.OldConfig.{OldTexts, HasNames}
+use Rattle.ks_tree.specs.Files.{Files, content, IsTooLarge}
+use Rattle.ks_tree.specs.Paths.{auto_path}
+use Rattle.ks_tree.specs.declared.fault.TreeFault.{TreeFault}
+use Rattle.ks_tree.specs.declared.fault.TreeFault.TheVariants as fault
+use Rattle.ks_engine.specs.declared.error.EngineError.{EngineError}
+use Rattle.ks_engine.specs.Refusals.{of_tree, of_auto, of_source, IsGivenUp, and_then}
+use Rattle.ks_compare.specs.Changes.{AreChanges, compared, differ, differs, is_in}
+use Rattle.ks_engine.specs.History.{Configuration}
+use Rattle.ks_engine.specs.Legal.{IsSource}
+use Rattle.ks_engine.specs.Synchronised.{OldAuto, read_unless, old_auto, synced_at, last_generation, Sources, AreSources, source_refusal, AreChanged, Plan, plan_over, IsSyncPlan}
+use Rattle.ks_engine.specs.Views.{old_of}
+
+-- ---- the two texts
+
+pub are_sources : (kconfig dotconfig : List ℕ) (s : Sources) (kinds : List ℕ → Option Kind) → ((x : List ℕ) → kinds x ≡ declared kconfig x)
+    → kconfig_refusal kconfig ≡ None → dotconfig_refusal kinds dotconfig ≡ None → s.title ≡ title_of kconfig
+    → ((x : List ℕ) → get s.config x ≡ setting kinds (lines dotconfig) x) → s.unknown ≡ unknown_count kinds (lines dotconfig) → IsSource s.title s.config → AreSources kconfig dotconfig s
+are_sources kconfig dotconfig s kinds same first second title settings unknown legal =
+    let kinds_same : kinds ≡ declared kconfig = λ i x. same x i in
+    record {
+      accepted = ap₂ or_else first (ap (λ k. dotconfig_refusal k dotconfig) (sym kinds_same) ∙ second);
+      title = title;
+      settings = λ x. settings x ∙ ap (λ k. setting k (lines dotconfig) x) kinds_same;
+      unknown = unknown ∙ ap (λ k. unknown_count k (lines dotconfig)) kinds_same;
+      legal = legal;
+    }
+
+-- ---- the names that changed
+
+legal_differ : (o : Option (List ℕ)) (s : Option (Kind × List ℕ)) (P : Type 0) → ((t : List ℕ) → o ≡ Some t → P) → ((t : Kind × List ℕ) → s ≡ Some t → P) → differ o (option_map compared s) ≡ true → P
+legal_differ None None P f g e = absurd cc
+legal_differ (Some t) s P f g e = f t refl
+legal_differ None (Some t) P f g e = g t refl
+
+name_of_symbol : (x : List ℕ) → IsTrue (is_symbol_name x) → IsTrue (is_name x)
+unfolding is_symbol_name
+name_of_symbol x h = (and_parts _ _ h).0
+
+pub are_changed : (old : OldTexts) (new : Configuration) (names : List (List ℕ)) → HasNames old.texts → IsConfiguration new → AreChanges old.texts new names → AreChanged old.texts new names
+are_changed old new names legal config are = record {
+  are = are;
+  legal = λ x among. legal_differ (get old.texts x) (get new x) (IsTrue (is_name x)) (λ t is. legal x t is) (λ s is. name_of_symbol x (config x s is).named) (sym (are.each x) ∙ among);
+}
+
+pub plan_made : (s : Sources) (a : OldAuto) → (a.generation ≡ 18446744073709551615 → ⊥) → length (auto_text s.title s.config (a.generation + 1)) ≤ max_bytes
+    → plan_over s a ≡ Ok (record { title = s.title; config = s.config; unknown = s.unknown; old = a.texts; generation = a.generation })
+plan_made s a room small = cond-false _ _ _ (ne_eqb a.generation 18446744073709551615 room) ∙ cond-false _ _ _ (le-ltb max_bytes _ small)
+
+-- ---- auto.conf
+
+auto_large : (b : List ℕ) → max_bytes < length b → auto_refusal b ≡ Some auto.TooLarge
+unfolding auto_refusal
+auto_large b large = cond-true _ _ _ (lt-ltb max_bytes (length b) large)
+
+pub old_some : (file : Option (List ℕ)) (b : List ℕ) (refusal : Option AutoError) → file ≡ Some b → auto_refusal b ≡ refusal → old_auto file ≡ read_unless refusal b
+unfolding old_auto
+old_some file b refusal at is = ap old_auto at ∙ ap (λ r. read_unless r b) is
+
+pub old_fault : (f : TreeFault) (file : Option (List ℕ)) → (f ≡ fault.TooLarge → IsTooLarge file) → IsGivenUp (of_tree f) ⊎ (old_auto file ≡ Err (of_tree f))
+old_fault fault.TooLarge file large = let is = large refl in inr (old_some file is.0 _ is.1 (auto_large is.0 is.2))
+old_fault fault.OutOfMemory file large = inl tt
+old_fault fault.Device file large = inl tt
+
+pub old_refused : (e : AutoError) (file : Option (List ℕ)) (b : List ℕ) → file ≡ Some b → IsAutoRefusal e (auto_refusal b) → IsGivenUp (of_auto e) ⊎ (old_auto file ≡ Err (of_auto e))
+old_refused (auto.BadAuto line) file b at is = inr (old_some file b _ at is)
+old_refused auto.TooLarge file b at is = inr (old_some file b _ at is)
+old_refused auto.OutOfMemory file b at is = inl tt
+
+same_old : (a b : OldAuto) → a.texts ≡ b.texts → a.generation ≡ b.generation → a ≡ b
+same_old a b p q = λ i. record { texts = p i; generation = q i }
+
+pub old_read : (old : OldTexts) (file : Option (List ℕ)) (b : List ℕ) → file ≡ Some b → auto_refusal b ≡ None → old.texts ≡ auto_map b → old.generation ≡ auto_generation b
+    → old_auto file ≡ Ok (old_of old)
+old_read old file b at fine texts generation = old_some file b None at fine ∙ ap (λ a. Ok a) (same_old _ (old_of old) (sym texts) (sym generation))
+
+pub old_none : (old : OldTexts) (file : Option (List ℕ)) → file ≡ None → old.texts ≡ empty → old.generation ≡ 0 → old_auto file ≡ Ok (old_of old)
+unfolding old_auto
+old_none old file at none zero =
+    ap old_auto at ∙ ap (λ a. Ok a) (same_old _ (old_of old) (sym none) (sym zero))
+
+pub names_none : (old : OldTexts) → old.texts ≡ empty → HasNames old.texts
+names_none old none = subst HasNames (sym none) (λ x t is. absurd (not_there x t is))
+  where
+    no_texts : NameMap (List ℕ)
+    no_texts = empty
+
+    not_there : (x t : List ℕ) → get no_texts x ≡ Some t → ⊥
+    not_there x t is = let none : Some t ≡ None = sym is ∙ get-empty (slice_cmp nat_cmp) x in cc
+
+-- the generation of what was read
+pub generation_of : (file : Option (List ℕ)) (a : OldAuto) (r : Result ℕ EngineError) → old_auto file ≡ Ok a → synced_at a ≡ r → last_generation file ≡ r
+generation_of file a r is at = ap (λ o. and_then o synced_at) is ∙ at
+
+-- ---- the plan of a synchronisation, by its sources and by auto.conf
+
+pub plan_of_old : (files : Files) (kconfig dotconfig : List ℕ) (s : Sources) (e : EngineError) → AreSources kconfig dotconfig s → old_auto (content files auto_path) ≡ Err e → IsSyncPlan files kconfig dotconfig (Err e)
+plan_of_old files kconfig dotconfig s e are bad = inr (s, are, sym (ap (λ o. and_then o (plan_over s)) bad))
+
+pub plan_of_over : (files : Files) (kconfig dotconfig : List ℕ) (s : Sources) (a : OldAuto) (r : Result Plan EngineError) → AreSources kconfig dotconfig s → old_auto (content files auto_path) ≡ Ok a → plan_over s a ≡ r
+    → IsSyncPlan files kconfig dotconfig r
+plan_of_over files kconfig dotconfig s a r are read over = inr (s, are, sym (ap (λ o. and_then o (plan_over s)) read ∙ over))
+
+-- a fault that is no TooLarge gives up
+pub given_fault : (f : TreeFault) → (f ≡ fault.TooLarge → ⊥) → IsGivenUp (of_tree f)
+given_fault fault.TooLarge small = absurd (small refl)
+given_fault fault.OutOfMemory small = tt
+given_fault fault.Device small = tt

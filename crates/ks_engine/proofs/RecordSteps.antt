@@ -1,0 +1,186 @@
+-- A record goes on with each history that the files show.
+use Rattle.std.proofs.Common.{◌≡◌, ◌⊎◌, inl, inr, ⊎_elim, ℕ, suc, ◌+◌, ◌<◌, ◌≤◌, List, [], ◌∷◌, Option, Some, None, Result, Ok, Err, Bool, true, false, cond, nat_lt, nat_eq, IfOk, IfErr, sym, ◌∙◌, ap, ap₂, refl, subst, arith, length, map}
+use Rattle.std.proofs.lemmas.Bool.{ltb-false, eqb-false}
+use Rattle.ks_symbols.specs.Lines.{max_bytes}
+use Rattle.ks_fixdep.specs.declared.dependency_file.Role.{Role}
+use Rattle.ks_fixdep.specs.CommandFile.{Record as CommandRecord, command_text}
+use Rattle.ks_fixdep.specs.FoundNames.{names_in}
+use Rattle.ks_fixdep.specs.Record.{config_names, names_of, deps_after, record_of}
+use Rattle.ks_tree.specs.Files.{Files, content, SameButBoth}
+use Rattle.ks_tree.specs.Paths.{auto_path, header_path, command_path, command_temporary}
+use Rattle.ks_engine.specs.declared.error.EngineError.{EngineError}
+use Rattle.ks_engine.specs.declared.error.EngineError.TheVariants.{TooLarge, NeverSynced}
+use Rattle.ks_engine.specs.declared.recording.Recorded.{Recorded as Answer}
+use Rattle.ks_engine.specs.Refusals.{and_then}
+use Rattle.ks_engine.specs.History.{History, Record, Recorded, done}
+use Rattle.ks_engine.specs.Shows.{Shows, IsCommandFile}
+use Rattle.ks_engine.specs.Follows.{at, FollowsRecord, IsRecordEvent}
+use Rattle.ks_engine.specs.Synchronised.{OldAuto, synced_at, last_generation}
+use Rattle.ks_engine.specs.Recording.{words, there, listed, scanned, scanned_all, followed, RecordPlan, numbered, drafted, record_plan, IsRecordPlan, IsRecorded, IsRecordTried, IsRecordRefused}
+use Rattle.ks_engine.proofs.Laws.{names_of_record, written_reads}
+use Rattle.ks_engine.proofs.Steps.{IsRead, auto_read, recorded_shows, untouched_shows}
+
+-- ---- the parts of a plan
+
+then_made : {A B : Type 0} (step : Result A EngineError) (next : A → Result B EngineError) (y : B) → and_then step next ≡ Ok y → (x : A) × (step ≡ Ok x) × (next x ≡ Ok y)
+then_made (Ok x) next y e = (x, refl, e)
+then_made (Err e') next y e = absurd cc
+
+-- what a plan was made of
+record Made (files : Files) (d t c : List ℕ) (plan : RecordPlan) : Type 0 where
+  ps : List (List ℕ × Role)
+  g : ℕ
+  found : List (List (List ℕ))
+  synced : last_generation (content files auto_path) ≡ Ok g
+  all : scanned_all files ps ≡ Ok found
+  draft : drafted t c ps g found ≡ Ok plan
+
+made_of : (files : Files) (d t c : List ℕ) (plan : RecordPlan) → record_plan files d t c ≡ Ok plan → Made files d t c plan
+unfolding record_plan
+made_of files d t c plan e =
+    let one = then_made (words d t c) _ plan e in
+    let two = then_made (there d (content files d)) _ plan one.2 in
+    let three = then_made (listed two.0) _ plan two.2 in
+    let four = then_made (last_generation (content files auto_path)) _ plan three.2 in
+    let five = then_made (scanned_all files three.0) _ plan four.2 in
+    record { ps = three.0; g = four.0; found = five.0; synced = four.1; all = five.1; draft = five.2 }
+
+-- the parts of what was drafted
+record Drafted (t c : List ℕ) (ps : List (List ℕ × Role)) (g : ℕ) (found : List (List (List ℕ))) (plan : RecordPlan) : Type 0 where
+  file : plan.file ≡ numbered (record_of t c ps found) g
+  generation : plan.generation ≡ g
+  names : plan.names ≡ names_of found
+  small : length (command_text plan.file) ≤ max_bytes
+
+drafted_of : (t c : List ℕ) (ps : List (List ℕ × Role)) (g : ℕ) (found : List (List (List ℕ))) (plan : RecordPlan) → drafted t c ps g found ≡ Ok plan → Drafted t c ps g found plan
+drafted_of t c ps g found plan e =
+    let file = numbered (record_of t c ps found) g in
+    let made : RecordPlan = record { file = file; generation = g; names = names_of found } in
+    elim (nat_lt max_bytes (length (command_text file))) as (λ b. nat_lt max_bytes (length (command_text file)) ≡ b → cond b (Err TooLarge) (Ok made) ≡ Ok plan → Drafted t c ps g found plan) [
+      | true ↦ λ large e. absurd (err_ok TooLarge plan e)
+      | false ↦ λ small e. subst (λ (p : RecordPlan). Drafted t c ps g found p) (ok_ok made plan e) (record { file = refl; generation = refl; names = refl; small = ltb-false _ _ small })
+    ] refl e
+  where
+    err_ok : (e : EngineError) (p : RecordPlan) → Err e ≡ Ok p → ⊥
+    err_ok e p q = cc
+
+    ok_ok : (p q : RecordPlan) → ◌≡◌ {A = Result RecordPlan EngineError} (Ok p) (Ok q) → p ≡ q
+    ok_ok p q e = cc
+
+-- ---- the names of a plan are those of its command file
+
+-- what was found are the names of texts, one for each prerequisite
+FoundIn : List (List ℕ × Role) → List (List (List ℕ)) → Type 0
+FoundIn ps found = (ts : List (List ℕ)) × (found ≡ map names_in ts) × (length ps ≡ length ts)
+
+scanned_text : (path : List ℕ) (file : Option (List ℕ)) (x : List (List ℕ)) → scanned path file ≡ Ok x → (b : List ℕ) × (x ≡ names_in b)
+scanned_text path None x e = absurd cc
+scanned_text path (Some b) x e = (b, by_test (nat_lt max_bytes (length b)) e)
+  where
+    by_test : (large : Bool) → cond large (Err TooLarge) (Ok (names_in b)) ≡ Ok x → x ≡ names_in b
+    by_test true e = absurd cc
+    by_test false e = cc
+
+found_first : (ps : List (List ℕ × Role)) (p : List ℕ × Role) (file : Option (List ℕ)) (found : List (List (List ℕ))) (one : Result (List (List ℕ)) EngineError) (rest : Result (List (List (List ℕ))) EngineError)
+    → scanned p.0 file ≡ one → ((xs : List (List (List ℕ))) → rest ≡ Ok xs → FoundIn ps xs) → followed one rest ≡ Ok found → FoundIn (p ∷ ps) found
+unfolding FoundIn
+found_first ps p file found (Err bad) rest is later e = absurd cc
+found_first ps p file found (Ok x) (Err bad) is later e = absurd cc
+found_first ps p file found (Ok x) (Ok xs) is later e =
+    let text = scanned_text p.0 file x is in
+    let more = later xs refl in
+    let whole : found ≡ x ∷ xs = cc in
+    (text.0 ∷ more.0, whole ∙ ap₂ (λ y ys. y ∷ ys) text.1 more.1, ap suc more.2)
+
+found_in : (files : Files) (ps : List (List ℕ × Role)) (found : List (List (List ℕ))) → scanned_all files ps ≡ Ok found → FoundIn ps found
+unfolding scanned_all FoundIn
+found_in files [] found e = let none : found ≡ [] = cc in ([], none, refl)
+found_in files (p ∷ ps) found e = found_first ps p (content files p.0) found (scanned p.0 (content files p.0)) (scanned_all files ps) refl (λ xs is. found_in files ps xs is) e
+
+pub count_names : (files : Files) (d t c : List ℕ) (plan : RecordPlan) → IsRecordPlan files d t c plan → config_names plan.file.deps ≡ plan.names
+unfolding FoundIn
+count_names files d t c plan is =
+    let made = made_of files d t c plan is.planned in
+    let parts = drafted_of t c made.ps made.g made.found plan made.draft in
+    let texts = found_in files made.ps made.found made.all in
+    ap (λ (f : CommandRecord). config_names f.deps) parts.file
+    ∙ ap (λ l. config_names (deps_after [] made.ps l)) texts.1
+    ∙ names_of_record made.ps texts.0 texts.2
+    ∙ ap names_of (sym texts.1) ∙ sym parts.names
+
+-- ---- the history goes on
+
+-- a shown tree with a generation has a completed synchronisation
+record SyncedAt (h : History) (g : ℕ) : Type 0 where
+  same : g ≡ done h
+  some : 0 < done h
+
+synced_at_shown : (auto : OldAuto) (h : History) (g : ℕ) → auto.generation ≡ done h → synced_at auto ≡ Ok g → SyncedAt h g
+synced_at_shown auto h g same e =
+    elim (nat_eq auto.generation 0) as (λ b. nat_eq auto.generation 0 ≡ b → cond b (Err NeverSynced) (Ok auto.generation) ≡ Ok g → SyncedAt h g) [
+      | true ↦ λ zero e. absurd (err_ok NeverSynced g e)
+      | false ↦ λ some e.
+          let is : auto.generation ≡ g = ok_ok auto.generation g e in
+          let other : auto.generation ≡ 0 → ⊥ = eqb-false _ _ some in
+          record { same = omega arith; some = omega arith }
+    ] refl e
+  where
+    err_ok : (e : EngineError) (n : ℕ) → Err e ≡ Ok n → ⊥
+    err_ok e n q = cc
+
+    ok_ok : (m n : ℕ) → ◌≡◌ {A = Result ℕ EngineError} (Ok m) (Ok n) → m ≡ n
+    ok_ok m n e = cc
+
+plan_synced : (files : Files) (h : History) (g : ℕ) → Shows files h → last_generation (content files auto_path) ≡ Ok g → SyncedAt h g
+plan_synced files h g shows is =
+    let read = auto_read h (content files auto_path) shows.history shows.auto in
+    synced_at_shown read.auto h g read.generation (sym (ap (λ o. and_then o synced_at) read.reads) ∙ is)
+
+-- the command file of a plan says what is recorded
+record PlanRecords (h : History) (t c header : List ℕ) (plan : RecordPlan) : Type 0 where
+  some : 0 < done h
+  generation : plan.generation ≡ done h
+  file : IsCommandFile t (record { command = c; names = plan.names; header = header; past = h }) (command_text plan.file)
+
+plan_records : (files : Files) (h : History) (d t c header : List ℕ) (plan : RecordPlan) → Shows files h → IsRecordPlan files d t c plan → PlanRecords h t c header plan
+plan_records files h d t c header plan shows is =
+    let made = made_of files d t c plan is.planned in
+    let parts = drafted_of t c made.ps made.g made.found plan made.draft in
+    let synced = plan_synced files h made.g shows made.synced in
+    record {
+      some = synced.some;
+      generation = parts.generation ∙ synced.same;
+      file = record {
+        small = parts.small;
+        file = plan.file;
+        reads = written_reads plan.file is.legal;
+        target = ap (λ (f : CommandRecord). f.target) parts.file;
+        command = ap (λ (f : CommandRecord). f.command) parts.file;
+        names = count_names files d t c plan is;
+        generation = ap (λ (f : CommandRecord). f.generation) parts.file ∙ ap (λ n. Some n) synced.same;
+      };
+    }
+
+pub record_follows : (old new : Files) (m n : ℕ) (h : History) (d t c : List ℕ) (r : Result Answer EngineError) → Shows old h → IfOk r (IsRecorded old new d t c) → IfErr r (IsRecordRefused old new d t c)
+    → (next : History) × FollowsRecord (at old m h) d t c r (at new n next) × Shows new next
+record_follows old new m n h d t c (Ok answer) shows ok err =
+    let header_of = plan_records old h d t c [] ok.plan shows ok.planned in
+    let header = shows.header header_of.some in
+    let facts = plan_records old h d t c header.0 ok.plan shows ok.planned in (
+      Recorded t c ok.plan.names header.0 h,
+      record { files = ok; header = header.0; stood = header.1; history = refl; some = facts.some; generation = ok.generation ∙ facts.generation },
+      recorded_shows old new h t c ok.plan.names header.0 (command_text ok.plan.file) shows facts.some header.1 facts.file ok.written ok.others,
+    )
+record_follows old new m n h d t c (Err e) shows ok (inl plain) = (h, inl (plain.0, (plain.1, refl)), subst (λ f. Shows f h) (sym plain.1) shows)
+record_follows old new m n h d t c (Err e) shows ok (inr (given, inl same)) = (h, inr (given, inl (same, refl)), subst (λ f. Shows f h) (sym same) shows)
+record_follows old new m n h d t c (Err e) shows ok (inr (given, inr tried)) =
+    let next = after_tried tried tried.either in (next.0, inr (given, inr (tried, next.1)), next.2)
+  where
+    after_tried : (tried : IsRecordTried old new d t c) → (content new (command_path t) ≡ content old (command_path t)) ⊎ (content new (command_path t) ≡ Some (command_text tried.plan.file))
+        → (next : History) × IsRecordEvent (at old m h) t c tried.plan.names next × Shows new next
+    after_tried tried (inl kept) = (h, inl refl, untouched_shows old new h t shows kept tried.others)
+    after_tried tried (inr made) =
+        let header_of = plan_records old h d t c [] tried.plan shows tried.planned in
+        let header = shows.header header_of.some in
+        let facts = plan_records old h d t c header.0 tried.plan shows tried.planned in
+        (Recorded t c tried.plan.names header.0 h, inr (header.0, header.1, refl), recorded_shows old new h t c tried.plan.names header.0 (command_text tried.plan.file) shows facts.some header.1 facts.file made tried.others)

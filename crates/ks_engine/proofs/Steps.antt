@@ -1,0 +1,210 @@
+-- The files after each call show the history after it.
+use Rattle.std.proofs.Common.{◌≡◌, inl, inr, ⊎_elim, ℕ, ◌+◌, ◌<◌, ◌≤◌, ◌^◌, List, Option, Some, None, Result, Ok, Err, Bool, true, false, cond, nat_eq, nat_lt, sym, ◌∙◌, ap, refl, subst, subst₂, arith, length, true≢false, IsTrue, bytes_eq}
+use Rattle.std.proofs.lemmas.Bool.{ltb-false, eqb-false, cond-false}
+use Rattle.std.proofs.lemmas.Slice.Eq.{bytes_eq-Decides}
+use Rattle.std.specs.FinMap as map
+use Rattle.ks_symbols.specs.Lines.{max_bytes}
+use Rattle.ks_symbols.specs.Names.{is_name}
+use Rattle.ks_output.specs.AutoText.{auto_text}
+use Rattle.ks_output.specs.AutoConf.{auto_map, auto_generation, auto_refusal}
+use Rattle.ks_output.specs.Header.{header_text}
+use Rattle.ks_compare.specs.Changes.{differs, is_in}
+use Rattle.ks_tree.specs.Files.{Files, content, SameButBoth}
+use Rattle.ks_tree.specs.Paths.{auto_path, header_path, stamp_path, command_path, command_temporary, Place, Header, AutoConf, Stamp, CommandFile, AutoTemporary, HeaderTemporary, StampTemporary, CommandTemporary, path_of, IsLegalPlace}
+use Rattle.ks_tree.specs.Stamps.{HasNumber, stamp_text}
+use Rattle.ks_engine.specs.declared.error.EngineError.{EngineError}
+use Rattle.ks_engine.specs.declared.error.EngineError.TheVariants.{TooLarge, GenerationFull}
+use Rattle.ks_engine.specs.Refusals.{and_then}
+use Rattle.ks_engine.specs.History.{History, Begun, Synced, Broken, Recorded, Record, Configuration, Texts, before, done, last_record}
+use Rattle.ks_engine.specs.Legal.{IsSource, IsHistory, MayBeHeader}
+use Rattle.ks_engine.specs.Shows.{Shows, IsAuto, IsCommandFile, stamp}
+use Rattle.ks_engine.specs.Synchronised.{OldAuto, read_unless, old_auto, Sources, Plan, plan_over, IsSyncPlan, AreChanged, SyncLeaves}
+use Rattle.ks_engine.proofs.Heart.{record_cases}
+use Rattle.ks_engine.proofs.Laws.{texts_back, generation_back, accepted, apart, command-injective}
+use Rattle.ks_engine.proofs.Reading.{old_some}
+
+pub done_le : (h : History) → IsHistory h → done h ≤ 18446744073709551615
+done_le (Begun first) is = omega arith
+done_le (Synced t config past) is = let room = is.2 in omega arith
+done_le (Broken t config renewed past) is = done_le past is.0
+done_le (Recorded o command names header past) is = done_le past is.0
+
+-- what a shown auto.conf reads as
+pub record IsRead (b : Option (List ℕ)) (h : History) : Type 0 where
+  pub auto : OldAuto
+  pub reads : old_auto b ≡ Ok auto
+  pub texts : auto.texts ≡ before h
+  pub generation : auto.generation ≡ done h
+
+pub auto_read : (h : History) (b : Option (List ℕ)) → IsHistory h → IsAuto h b → IsRead b h
+unfolding old_auto
+auto_read (Begun first) None legal is = record { auto = record { texts = map.empty; generation = 0 }; reads = refl; texts = sym is; generation = refl }
+auto_read (Begun first) (Some b) legal is = record {
+  auto = record { texts = auto_map b; generation = auto_generation b };
+  reads = old_some (Some b) b None refl is.0;
+  texts = is.2;
+  generation = is.1;
+}
+auto_read (Synced t config past) b legal is =
+    let text = auto_text t config (done past + 1) in
+    let room = legal.2 in
+    let small : done past + 1 < 2 ^ 64 = omega arith in
+    record {
+      auto = record { texts = auto_map text; generation = auto_generation text };
+      reads = old_some b text None is.0 (accepted t config (done past + 1) legal.1.title legal.1.config small is.1);
+      texts = texts_back t config (done past + 1) legal.1.title legal.1.config small;
+      generation = generation_back t config (done past + 1) legal.1.title legal.1.config small;
+    }
+auto_read (Broken t config renewed past) b legal is = let r = auto_read past b legal.0 is in record { auto = r.auto; reads = r.reads; texts = r.texts; generation = r.generation }
+auto_read (Recorded o command names header past) b legal is = let r = auto_read past b legal.0 is in record { auto = r.auto; reads = r.reads; texts = r.texts; generation = r.generation }
+
+-- what stands where nothing was refused
+pub record PlanFacts (old : Texts) (generation : ℕ) (plan : Plan) : Type 0 where
+  pub source : IsSource plan.title plan.config
+  pub same_old : plan.old ≡ old
+  pub same_generation : plan.generation ≡ generation
+  pub room : plan.generation ≡ 18446744073709551615 → ⊥
+  pub small : length (auto_text plan.title plan.config (plan.generation + 1)) ≤ max_bytes
+
+plan_over_facts : (s : Sources) (auto : OldAuto) (plan : Plan) → IsSource s.title s.config → plan_over s auto ≡ Ok plan → PlanFacts auto.texts auto.generation plan
+plan_over_facts s auto plan legal e =
+    let made : Plan = record { title = s.title; config = s.config; unknown = s.unknown; old = auto.texts; generation = auto.generation } in
+    let text = auto_text s.title s.config (auto.generation + 1) in
+    elim (nat_eq auto.generation 18446744073709551615) as (λ b. nat_eq auto.generation 18446744073709551615 ≡ b →
+    cond b (Err GenerationFull) (cond (nat_lt max_bytes (length text)) (Err TooLarge) (Ok made)) ≡ Ok plan → PlanFacts auto.texts auto.generation plan) [
+      | true ↦ λ full e. absurd (err_ok GenerationFull plan e)
+      | false ↦ λ room. elim (nat_lt max_bytes (length text)) as (λ b. nat_lt max_bytes (length text) ≡ b →
+          cond b (Err TooLarge) (Ok made) ≡ Ok plan → PlanFacts auto.texts auto.generation plan) [
+            | true ↦ λ large e. absurd (err_ok TooLarge plan e)
+            | false ↦ λ small e. subst (λ (p : Plan). PlanFacts auto.texts auto.generation p) (ok_ok made plan e)
+                (record { source = legal; same_old = refl; same_generation = refl; room = eqb-false _ _ room; small = ltb-false _ _ small })
+          ] refl
+    ] refl e
+  where
+    err_ok : (e : EngineError) (p : Plan) → Err e ≡ Ok p → ⊥
+    err_ok e p q = cc
+
+    ok_ok : (p q : Plan) → ◌≡◌ {A = Result Plan EngineError} (Ok p) (Ok q) → p ≡ q
+    ok_ok p q e = cc
+
+pub plan_facts : (files : Files) (h : History) (kconfig dotconfig : List ℕ) (plan : Plan) → Shows files h → IsSyncPlan files kconfig dotconfig (Ok plan) → PlanFacts (before h) (done h) plan
+plan_facts files h kconfig dotconfig plan shows (inl refused) = absurd (ok_err plan _ refused.2)
+  where
+    ok_err : (p : Plan) (e : EngineError) → Ok p ≡ Err e → ⊥
+    ok_err p e q = cc
+plan_facts files h kconfig dotconfig plan shows (inr made) =
+    let read = auto_read h (content files auto_path) shows.history shows.auto in
+    subst₂ (λ (t : Texts) g. PlanFacts t g plan) read.texts read.generation
+    (plan_over_facts made.0 read.auto plan made.1.legal (sym (made.2 ∙ ap (λ o. and_then o (plan_over made.0)) read.reads)))
+
+-- ---- the stamps, the header and the command files of the next history
+
+number_cond : (b : Bool) (file : Option (List ℕ)) (n g : ℕ) → g < 2 ^ 64 → HasNumber file n → HasNumber (cond b (Some (stamp_text g)) file) (cond b g n)
+number_cond true file n g small has = inr (refl, small)
+number_cond false file n g small has = has
+
+-- A command file is neither a stamp nor another file of a synchronisation.
+command_kept : (old new : Files) (plan : Plan) (changed renewed : List (List ℕ)) → AreChanged plan.old plan.config changed → SyncLeaves old new plan changed renewed → (o : List ℕ) → content new (command_path o) ≡ content old (command_path o)
+command_kept old new plan changed renewed are leaves o = leaves.others (command_path o)
+    (λ x among. apart (CommandFile o) (Stamp x) tt (are.legal x among) (λ e. cc))
+    (apart (CommandFile o) Header tt tt (λ e. cc))
+    (apart (CommandFile o) AutoConf tt tt (λ e. cc))
+    (apart (CommandFile o) StampTemporary tt tt (λ e. cc))
+    (apart (CommandFile o) HeaderTemporary tt tt (λ e. cc))
+    (apart (CommandFile o) AutoTemporary tt tt (λ e. cc))
+
+module _ (old new : Files) (h : History) (plan : Plan) (changed renewed : List (List ℕ)) (shows : Shows old h) (facts : PlanFacts (before h) (done h) plan)
+    (are : AreChanged plan.old plan.config changed) (leaves : SyncLeaves old new plan changed renewed) where
+  differs_now : (x : List ℕ) → is_in changed x ≡ differs (before h) plan.config x
+  differs_now x = are.are.each x ∙ ap (λ (t : Texts). differs t plan.config x) facts.same_old
+
+  room : done h < 18446744073709551615
+  room = let le = done_le h shows.history in let other : done h ≡ 18446744073709551615 → ⊥ = λ e. facts.room (facts.same_generation ∙ e) in omega arith
+
+  next_stamp : (x : List ℕ) → IsTrue (is_name x) → HasNumber (content new (stamp_path x)) (cond (is_in renewed x) (done h + 1) (stamp h x))
+  next_stamp x name =
+      let small : done h + 1 < 2 ^ 64 = let below = room in omega arith in
+      subst (λ file. HasNumber file (cond (is_in renewed x) (done h + 1) (stamp h x)))
+      (sym (leaves.stamps x name ∙ ap (λ g. cond (is_in renewed x) (Some (stamp_text (g + 1))) (content old (stamp_path x))) facts.same_generation))
+      (number_cond (is_in renewed x) _ (stamp h x) (done h + 1) small (shows.stamps x name))
+
+  next_commands : (o : List ℕ) (r : Record) → last_record h o ≡ Some r → (b : List ℕ) × (content new (command_path o) ≡ Some b) × IsCommandFile o r b
+  next_commands o r last = let was = shows.commands o r last in (was.0, command_kept old new plan changed renewed are leaves o ∙ was.1, was.2)
+
+  pub broken_shows : content new auto_path ≡ content old auto_path → Shows new (Broken plan.title plan.config renewed h)
+  broken_shows auto = record {
+    history = (shows.history, facts.source, λ x in_it. sym (differs_now x) ∙ leaves.within x in_it);
+    auto = subst (IsAuto h) (sym auto) shows.auto;
+    header = λ some. ⊎_elim
+        (λ kept. let was = shows.header some in (was.0, kept ∙ was.1, inr was.2))
+        (λ made. (header_text plan.title plan.config, made.1, inl ((λ x d. ap (λ xs. is_in xs x) made.0 ∙ differs_now x ∙ d), refl)))
+        leaves.header;
+    stamps = next_stamp;
+    commands = next_commands;
+  }
+
+  pub synced_shows : renewed ≡ changed → content new header_path ≡ Some (header_text plan.title plan.config)
+      → content new auto_path ≡ Some (auto_text plan.title plan.config (plan.generation + 1)) → Shows new (Synced plan.title plan.config h)
+  synced_shows all header auto = record {
+    history = (shows.history, facts.source, room);
+    auto = (auto ∙ ap (λ g. Some (auto_text plan.title plan.config (g + 1))) facts.same_generation, subst (λ g. length (auto_text plan.title plan.config (g + 1)) ≤ max_bytes) facts.same_generation facts.small);
+    header = λ some. (header_text plan.title plan.config, header, refl);
+    stamps = λ x name. subst (λ b. HasNumber (content new (stamp_path x)) (cond b (done h + 1) (stamp h x))) (ap (λ xs. is_in xs x) all ∙ differs_now x) (next_stamp x name);
+    commands = next_commands;
+  }
+
+-- ---- a record
+
+pub recorded_shows : (old new : Files) (h : History) (o command : List ℕ) (names : List (List ℕ)) (header b : List ℕ) → Shows old h → 0 < done h
+    → content old header_path ≡ Some header → IsCommandFile o (record { command = command; names = names; header = header; past = h }) b
+    → content new (command_path o) ≡ Some b → SameButBoth (command_temporary o) (command_path o) old new → Shows new (Recorded o command names header h)
+recorded_shows old new h o command names header b shows some at is written others = record {
+  history = (shows.history, some, let was = shows.header some in subst (MayBeHeader h) (same_some was.0 header (sym was.1 ∙ at)) was.2);
+  auto = subst (IsAuto h) (sym (kept AutoConf tt (λ e. cc) (λ e. cc))) shows.auto;
+  header = λ some. let was = shows.header some in (was.0, kept Header tt (λ e. cc) (λ e. cc) ∙ was.1, was.2);
+  stamps = λ x name. subst (λ file. HasNumber file (stamp h x)) (sym (kept (Stamp x) name (λ e. cc) (λ e. cc))) (shows.stamps x name);
+  commands = λ p r last. ⊎_elim
+      (λ here. (
+        b,
+        ap (λ q. content new (command_path q)) (sym ((bytes_eq-Decides o p).0 here.0)) ∙ written,
+        subst₂ (λ q w. IsCommandFile q w b) ((bytes_eq-Decides o p).0 here.0) here.1 is,
+      ))
+      (λ there. let was = shows.commands p r there.1 in (
+        was.0,
+        others (command_path p) (apart (CommandFile p) (CommandTemporary o) tt tt (λ e. cc))
+            (λ same. not_both _ ((bytes_eq-Decides o p).1 (sym (command-injective p o same))) there.0) ∙ was.1,
+        was.2,
+      ))
+      (record_cases o p _ _ r last);
+}
+  where
+    kept : (q : Place) → IsLegalPlace q → (q ≡ CommandFile o → ⊥) → (q ≡ CommandTemporary o → ⊥) → content new (path_of q) ≡ content old (path_of q)
+    kept q legal file temporary = others (path_of q) (apart q (CommandTemporary o) legal tt temporary) (apart q (CommandFile o) legal tt file)
+
+    same_some : (x y : List ℕ) → Some x ≡ Some y → x ≡ y
+    same_some x y e = cc
+
+    not_both : (b : Bool) → b ≡ true → b ≡ false → ⊥
+    not_both b p q = true≢false (sym p ∙ q)
+
+-- ---- a call that leaves all but the temporary files of a record
+
+pub untouched_shows : (old new : Files) (h : History) (o : List ℕ) → Shows old h → content new (command_path o) ≡ content old (command_path o)
+    → SameButBoth (command_temporary o) (command_path o) old new → Shows new h
+untouched_shows old new h o shows same others = record {
+  history = shows.history;
+  auto = subst (IsAuto h) (sym (kept AutoConf tt (λ e. cc) (λ e. cc))) shows.auto;
+  header = λ some. let was = shows.header some in (was.0, kept Header tt (λ e. cc) (λ e. cc) ∙ was.1, was.2);
+  stamps = λ x name. subst (λ file. HasNumber file (stamp h x)) (sym (kept (Stamp x) name (λ e. cc) (λ e. cc))) (shows.stamps x name);
+  commands = λ p r last. let was = shows.commands p r last in (was.0, command_same p ∙ was.1, was.2);
+}
+  where
+    kept : (q : Place) → IsLegalPlace q → (q ≡ CommandFile o → ⊥) → (q ≡ CommandTemporary o → ⊥) → content new (path_of q) ≡ content old (path_of q)
+    kept q legal file temporary = others (path_of q) (apart q (CommandTemporary o) legal tt temporary) (apart q (CommandFile o) legal tt file)
+
+    by_target : (p : List ℕ) (b : Bool) → bytes_eq p o ≡ b → content new (command_path p) ≡ content old (command_path p)
+    by_target p true e = ap (λ q. content new (command_path q)) ((bytes_eq-Decides p o).0 e) ∙ same ∙ ap (λ q. content old (command_path q)) (sym ((bytes_eq-Decides p o).0 e))
+    by_target p false e = others (command_path p) (apart (CommandFile p) (CommandTemporary o) tt tt (λ e. cc)) (λ at. true≢false (sym ((bytes_eq-Decides p o).1 (command-injective p o at)) ∙ e))
+
+    command_same : (p : List ℕ) → content new (command_path p) ≡ content old (command_path p)
+    command_same p = by_target p _ refl

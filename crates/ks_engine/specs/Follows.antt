@@ -1,0 +1,65 @@
+-- What each call does to the files of a tree and to its history.
+use Rattle.std.specs.Prelude.{◌≡◌, ◌⊎◌, ℕ, ◌<◌, List, Some, Result, Ok, Err}
+use Rattle.ks_tree.specs.Files.{Files, content}
+use Rattle.ks_engine.specs.declared.error.EngineError.{EngineError}
+use Rattle.ks_tree.specs.Paths.{header_path}
+use Rattle.ks_engine.specs.declared.recording.Recorded.{Recorded as RecordAnswer}
+use Rattle.ks_engine.specs.declared.synchronise.Report.{Report}
+use Rattle.ks_engine.specs.Refusals.{IsGivenUp}
+use Rattle.ks_engine.specs.History.{History, Synced, Broken, Recorded, before, done}
+use Rattle.ks_engine.specs.Recording.{record_plan, IsRecorded, IsRecordTried}
+use Rattle.ks_engine.specs.Synchronised.{Plan, IsSyncPlan, AreChanged, IsSynced, IsBrokenOff}
+
+-- the files of a tree, how often its device has failed, and what was done to it
+pub record State : Type 0 where
+  pub files : Files
+  pub failures : ℕ
+  pub history : History
+
+abbrev pub at : Files → ℕ → History → State
+at files failures history = record { files = files; failures = failures; history = history }
+
+-- neither the files nor the history have changed
+abbrev pub IsSame : State → State → Type 0
+IsSame old new = (new.files ≡ old.files) × (new.history ≡ old.history)
+
+-- ---- synchronising
+
+-- A completed synchronisation is the newest event, and reports what changed since the one before it.
+pub record FollowsSynced (old : State) (kconfig dotconfig : List ℕ) (report : Report) (new : State) : Type 0 where
+  pub files : IsSynced old.files new.files kconfig dotconfig report
+  pub history : new.history ≡ Synced files.plan.title files.plan.config old.history
+  pub generation : report.generation ≡ done new.history
+  pub changed : AreChanged (before old.history) files.plan.config report.touched.items
+
+-- One that was given up behind its first write is a broken one with the stamps that it renewed, or a completed one.
+abbrev pub IsBrokenEvent : History → Plan → List (List ℕ) → History → Type 0
+IsBrokenEvent past plan renewed next = (next ≡ Broken plan.title plan.config renewed past) ⊎ (next ≡ Synced plan.title plan.config past)
+
+abbrev pub FollowsSync : State → List ℕ → List ℕ → Result Report EngineError → State → Type 0
+FollowsSync old kconfig dotconfig (Ok report) new = FollowsSynced old kconfig dotconfig report new
+FollowsSync old kconfig dotconfig (Err e) new =
+    (IsSyncPlan old.files kconfig dotconfig (Err e) × IsSame old new)
+    ⊎ (IsGivenUp e × (IsSame old new ⊎ ((broken : IsBrokenOff old.files new.files kconfig dotconfig) × IsBrokenEvent old.history broken.plan broken.some.0 new.history)))
+
+-- ---- recording
+
+-- The object, its command and its names are the newest event, with the header as it stood, under the last generation.
+pub record FollowsRecorded (old : State) (depfile target command : List ℕ) (answer : RecordAnswer) (new : State) : Type 0 where
+  pub files : IsRecorded old.files new.files depfile target command answer
+  pub header : List ℕ
+  pub stood : content old.files header_path ≡ Some header
+  pub history : new.history ≡ Recorded target command files.plan.names header old.history
+  pub some : 0 < done old.history
+  pub generation : answer.generation ≡ done old.history
+
+-- One that was given up at the write has left the old command file, or is recorded.
+abbrev pub IsRecordEvent : State → List ℕ → List ℕ → List (List ℕ) → History → Type 0
+IsRecordEvent old target command names next =
+    (next ≡ old.history) ⊎ ((header : List ℕ) × (content old.files header_path ≡ Some header) × (next ≡ Recorded target command names header old.history))
+
+abbrev pub FollowsRecord : State → List ℕ → List ℕ → List ℕ → Result RecordAnswer EngineError → State → Type 0
+FollowsRecord old depfile target command (Ok answer) new = FollowsRecorded old depfile target command answer new
+FollowsRecord old depfile target command (Err e) new =
+    ((record_plan old.files depfile target command ≡ Err e) × IsSame old new)
+    ⊎ (IsGivenUp e × (IsSame old new ⊎ ((tried : IsRecordTried old.files new.files depfile target command) × IsRecordEvent old target command tried.plan.names new.history)))

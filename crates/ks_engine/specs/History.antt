@@ -1,0 +1,58 @@
+-- Histories of a tree: which synchronisations were completed or broken off, and which objects were recorded between them.
+use Rattle.std.specs.Prelude.{ℕ, ◌+◌, List, Option, Some, None, bytes_eq, if◌then◌else◌}
+use Rattle.ks_symbols.specs.declared.kinds.Kind.{Kind}
+use Rattle.ks_symbols.specs.Configuration.{NameMap}
+use Rattle.ks_output.specs.OldConfig.{texts_of}
+
+-- from names to kinds and texts
+abbrev pub Configuration : Type 0
+Configuration = NameMap (Kind × List ℕ)
+
+-- what an auto.conf keeps of one: from names to texts
+abbrev pub Texts : Type 0
+Texts = NameMap (List ℕ)
+
+-- The texts at first, and the events since, the newest outermost.
+pub data History : Type 0 where
+  Begun : (first : Texts) → History
+  -- a synchronisation that replaced auto.conf
+  Synced : (title : List ℕ) (config : Configuration) (past : History) → History
+  -- one that was broken off before that, and had renewed the stamps of these names
+  Broken : (title : List ℕ) (config : Configuration) (renewed : List (List ℕ)) (past : History) → History
+  -- an object and the command that builds it, with the names found in its dependencies, and the header at that time
+  Recorded : (object command : List ℕ) (names : List (List ℕ)) (header : List ℕ) (past : History) → History
+
+-- the texts of the last completed synchronisation
+abbrev pub before : History → Texts
+before (Begun first) = first
+before (Synced title config past) = texts_of config
+before (Broken title config renewed past) = before past
+before (Recorded object command names header past) = before past
+
+-- how many synchronisations were completed
+abbrev pub done : History → ℕ
+done (Begun first) = 0
+done (Synced title config past) = done past + 1
+done (Broken title config renewed past) = done past
+done (Recorded object command names header past) = done past
+
+-- the last record of an object, and what was before it
+pub record Record : Type 0 where
+  pub command : List ℕ
+  pub names : List (List ℕ)
+  pub header : List ℕ
+  pub past : History
+
+abbrev pub last_record : History → List ℕ → Option Record
+last_record (Begun first) o = None
+last_record (Synced title config past) o = last_record past o
+last_record (Broken title config renewed past) o = last_record past o
+last_record (Recorded object command names header past) o =
+    if bytes_eq object o then Some (record { command = command; names = names; header = header; past = past }) else last_record past o
+
+-- no synchronisation was broken off
+abbrev pub NoneBroken : History → Type 0
+NoneBroken (Begun first) = Unit {0}
+NoneBroken (Synced title config past) = NoneBroken past
+NoneBroken (Broken title config renewed past) = ⊥
+NoneBroken (Recorded object command names header past) = NoneBroken past

@@ -1,0 +1,12 @@
+pub mod History
+pub mod Staleness
+pub mod Legal
+pub mod Refusals
+pub mod Synchronised
+pub mod Asked
+pub mod Judged
+pub mod Recording
+pub mod Shows
+pub mod Views
+pub mod Drafts
+pub mod Follows

@@ -1,0 +1,34 @@
+-- Values of the code as the definitions have them.
+use Rattle.std.specs.Prelude.{◌≡◌, ℕ, ◌+◌, List, Some, Ok}
+use Rattle.ks_symbols.specs.declared.error.SourceError.{SourceError}
+use Rattle.ks_output.specs.AutoText.{auto_text}
+use Rattle.ks_output.specs.Header.{header_text}
+use Rattle.ks_output.specs.OldConfig.{OldTexts}
+use Rattle.ks_tree.specs.Files.{Files}
+use Rattle.ks_engine.specs.declared.error.EngineError.{EngineError}
+use Rattle.ks_engine.specs.declared.synchronise.Sources.{Sources as SourceValues}
+use Rattle.ks_engine.specs.declared.synchronise.Work.{Work}
+use Rattle.ks_engine.specs.Refusals.{of_source}
+use Rattle.ks_engine.specs.Synchronised.{Sources, source_refusal, OldAuto, Plan, IsSyncPlan, AreChanged}
+
+abbrev pub old_of : OldTexts → OldAuto
+old_of old = record { texts = old.texts; generation = old.generation }
+
+abbrev pub sources_of : SourceValues → Sources
+sources_of s = record { title = s.symbols.title; config = s.settings.entries; unknown = s.settings.unknown }
+
+-- the refusal of the two texts
+abbrev pub IsSourceRefusal : List ℕ → List ℕ → EngineError → Type 0
+IsSourceRefusal kconfig dotconfig e = (refusal : SourceError) × (source_refusal kconfig dotconfig ≡ Some refusal) × (e ≡ of_source refusal)
+
+-- the work of a plan: its changes and its texts
+pub record IsWork (plan : Plan) (work : Work) : Type 0 where
+  pub generation : work.report.generation ≡ plan.generation + 1
+  pub unknown : work.report.unknown ≡ plan.unknown
+  pub changed : AreChanged plan.old plan.config work.report.touched.items
+  pub header : work.header.items ≡ header_text plan.title plan.config
+  pub auto : work.auto.items ≡ auto_text plan.title plan.config (plan.generation + 1)
+
+-- the work of the plan for these files and texts
+abbrev pub IsPlanned : Files → List ℕ → List ℕ → Work → Type 0
+IsPlanned files kconfig dotconfig work = (plan : Plan) × IsSyncPlan files kconfig dotconfig (Ok plan) × IsWork plan work

@@ -1,0 +1,14 @@
+//! Synchronising a tree, recording its objects, and the question which of them are stale.
+#![tactic(auto)]
+
+mod error;
+mod last_sync;
+mod recording;
+mod sources;
+mod staleness;
+mod synchronise;
+
+pub use error::EngineError;
+pub use recording::{Recorded, record_object};
+pub use staleness::{BuildState, Verdict, outdated, stale};
+pub use synchronise::{Report, sync};

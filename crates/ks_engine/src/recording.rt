@@ -1,0 +1,188 @@
+//! Recording an object: the command that builds it, the files that it is made of, and the names in them, under the generation of
+//! the last completed synchronisation. A greater number, as that of a stamp, would hide a synchronisation that was broken off.
+ghost use Rattle.std.specs.Prelude.{◌≡◌, ◌⊎◌, ◌↔◌, ◌≤◌, Ok, Err, IfOk, IfErr, OnOk, IsTrue, IsErrOf, length};
+ghost use Rattle.std.specs.List.{list_all};
+ghost use Rattle.ks_symbols.specs.Names.{is_path, is_target};
+ghost use Rattle.ks_fixdep.specs.CommandFile.{is_command, is_dep, command_text, IsLegal};
+ghost use Rattle.ks_fixdep.specs.Record.{config_names};
+ghost use Rattle.ks_tree.specs.Files.{content, HasRisen};
+ghost use Rattle.ks_engine.specs.Refusals.{Answers, IsGivenUp};
+ghost use Rattle.ks_engine.specs.Recording.{RecordPlan, words, there, drafted, record_plan, IsRecordPlan, IsRecorded, IsRecordRefused};
+ghost use Rattle.ks_engine.specs.History.{History};
+ghost use Rattle.ks_engine.specs.Shows.{Shows};
+ghost use Rattle.ks_engine.specs.Follows.{at, FollowsRecord};
+ghost use Rattle.ks_engine.specs.Drafts.{IsDraft};
+
+use crate::EngineError;
+use crate::last_sync::read_generation;
+use crate::sources::scan_all;
+use ks_fixdep::{
+    CommandFile, Dep, FoundNames, Prerequisites, build_from, command_is_legal, read_depfile,
+    write_command,
+};
+use ks_symbols::{MAX_BYTES, Path, path_is_legal, target_is_legal};
+use ks_tree::{Tree, command_path, command_temporary, replace};
+use std::alloc::Global;
+
+/// What was recorded.
+#[derive(Clone, Copy, Debug)]
+pub struct Recorded {
+    pub generation: u64,
+    /// How many names the command file holds.
+    pub names: usize,
+}
+
+/// What is to be written.
+#[derive(Drop)]
+struct Draft {
+    answer: Recorded,
+    text: Vec<u8>,
+}
+
+fn check_words(depfile: &[u8], target: &[u8], command: &[u8]) -> Result<(), EngineError>
+    ensures no_device { IsErrOf result EngineError.Device → ⊥ }
+    ensures words { Answers (words depfile.now target.now command.now) (λ _. tt) result }
+    ensures depfile { OnOk result (IsTrue (is_path depfile.now)) }
+    ensures target { OnOk result (IsTrue (is_target target.now)) }
+    ensures command { OnOk result (IsTrue (is_command command.now)) }
+{
+    if !path_is_legal(depfile) || !target_is_legal(target) {
+        return Err(EngineError::BadPath(0));
+    }
+    if !command_is_legal(command) {
+        return Err(EngineError::BadCommand);
+    }
+    Ok(())
+}
+
+/// A file that has to be there.
+fn read_there<T: Tree>(alloc: Global, tree: &mut T, path: &[u8]) -> Result<Vec<u8>, EngineError>
+    requires { IsTrue (is_path path.now) }
+    ensures honest { T.is_honest tree.old ↔ T.is_honest tree.new }
+    ensures unchanged { T.is_honest tree.old → T.files tree.new ≡ T.files tree.old }
+    ensures bytes { T.is_honest tree.old → Answers (there path.now (content (T.files tree.old) path.now)) (λ v. v.items) result }
+    ensures later { T.failures tree.old ≤ T.failures tree.new }
+    ensures cause { IsErrOf result EngineError.Device → HasRisen (T.failures tree.old) (T.failures tree.new) }
+{
+    match tree.read(alloc, path)? {
+        Some(text) => Ok(text),
+        None => Err(EngineError::MissingFile(Path::new(alloc, path)?)),
+    }
+}
+
+/// How many names there are among dependencies. All of these are legal, as their types say.
+fn count_names(deps: &[Dep]) -> usize
+    ensures count { result ≡ length (config_names deps.now) }
+    ensures legal { IsTrue (list_all is_dep deps.now) }
+{
+    let mut count = 0;
+    for dep in deps {
+        match dep {
+            Dep::File(path) => {
+                path.as_bytes();
+            }
+            Dep::Config(name) => {
+                name.as_bytes();
+                count += 1;
+            }
+        }
+    }
+    count
+}
+
+/// The command file that is to be written, before it is.
+fn make_draft(
+    alloc: Global,
+    target: &[u8],
+    command: &[u8],
+    prerequisites: &Prerequisites,
+    generation: u64,
+    found: &[FoundNames],
+) -> Result<Draft, EngineError>
+    requires target { IsTrue (is_target target.now) }
+    requires command { IsTrue (is_command command.now) }
+    requires each { length found.now ≡ length prerequisites.now }
+    ensures no_device { IsErrOf result EngineError.Device → ⊥ }
+    ensures drafted { IfOk result (λ d. (plan : RecordPlan) × (drafted target.now command.now prerequisites.now generation found.now ≡ Ok plan) × IsLegal plan.file × IsDraft plan d) }
+    ensures refused { IfErr result (λ e. IsGivenUp e ⊎ (drafted target.now command.now prerequisites.now generation found.now ≡ Err e)) }
+{
+    let mut file: CommandFile = build_from(alloc, target, command, prerequisites, found)?;
+    file.source.as_bytes();
+    file.generation = Some(generation);
+    let names = count_names(&file.deps);
+    let mut text = Vec::new(alloc);
+    write_command(&file, &mut text)?;
+    if text.len() > MAX_BYTES {
+        return Err(EngineError::TooLarge);
+    }
+    let answer = Recorded { generation, names };
+    Ok(Draft { answer, text })
+}
+
+/// All steps before the write.
+fn prepare<T: Tree>(
+    alloc: Global,
+    tree: &mut T,
+    depfile: &[u8],
+    target: &[u8],
+    command: &[u8],
+) -> Result<Draft, EngineError>
+    ensures honest { T.is_honest tree.old ↔ T.is_honest tree.new }
+    ensures unchanged { T.is_honest tree.old → T.files tree.new ≡ T.files tree.old }
+    ensures planned { T.is_honest tree.old → IfOk result (λ d. (plan : RecordPlan) × IsRecordPlan (T.files tree.old) depfile.now target.now command.now plan × IsDraft plan d) }
+    ensures refused { T.is_honest tree.old → IfErr result (λ e. IsGivenUp e ⊎ (record_plan (T.files tree.old) depfile.now target.now command.now ≡ Err e)) }
+    ensures later { T.failures tree.old ≤ T.failures tree.new }
+    ensures cause { IsErrOf result EngineError.Device → HasRisen (T.failures tree.old) (T.failures tree.new) }
+{
+    check_words(depfile, target, command)?;
+    let text = read_there(alloc, tree, depfile)?;
+    let prerequisites = read_depfile(alloc, &text)?;
+    let generation = read_generation(alloc, tree)?;
+    let found = scan_all(alloc, tree, &prerequisites)?;
+    make_draft(alloc, target, command, &prerequisites, generation, &found)
+}
+
+/// A record, by the files.
+fn write_record<T: Tree>(
+    alloc: Global,
+    tree: &mut T,
+    depfile: &[u8],
+    target: &[u8],
+    command: &[u8],
+) -> Result<Recorded, EngineError>
+    ensures honest { T.is_honest tree.old ↔ T.is_honest tree.new }
+    ensures recorded { T.is_honest tree.old → IfOk result (IsRecorded (T.files tree.old) (T.files tree.new) depfile.now target.now command.now) }
+    ensures refused { T.is_honest tree.old → IfErr result (IsRecordRefused (T.files tree.old) (T.files tree.new) depfile.now target.now command.now) }
+    ensures later { T.failures tree.old ≤ T.failures tree.new }
+    ensures cause { IsErrOf result EngineError.Device → HasRisen (T.failures tree.old) (T.failures tree.new) }
+{
+    let draft = prepare(alloc, tree, depfile, target, command)?;
+    let path = command_path(alloc, target)?;
+    let temporary = command_temporary(alloc, target)?;
+    replace(alloc, tree, &temporary, &path, &draft.text)?;
+    Ok(draft.answer)
+}
+
+/// Records an object: by which command it is built, and what the files of its dependency file name. The header at this time is
+/// what the object counts as compiled with.
+pub fn record_object<T: Tree>(
+    alloc: Global,
+    tree: &mut T,
+    depfile: &[u8],
+    target: &[u8],
+    command: &[u8],
+) -> Result<Recorded, EngineError>
+    ensures honest { T.is_honest tree.old ↔ T.is_honest tree.new }
+    // By the files: the command file is written and all else is as before, or it was refused, or given up at the write.
+    ensures recorded { T.is_honest tree.old → IfOk result (IsRecorded (T.files tree.old) (T.files tree.new) depfile.now target.now command.now) }
+    ensures refused { T.is_honest tree.old → IfErr result (IsRecordRefused (T.files tree.old) (T.files tree.new) depfile.now target.now command.now) }
+    // By histories: each one that the files show goes on with this answer, and the files show the next one.
+    ensures follows { T.is_honest tree.old → (h : History) → Shows (T.files tree.old) h → (next : History)
+        × FollowsRecord (at (T.files tree.old) (T.failures tree.old) h) depfile.now target.now command.now result (at (T.files tree.new) (T.failures tree.new) next)
+        × Shows (T.files tree.new) next }
+    // The device is to blame only where the tree counted a failure.
+    ensures later { T.failures tree.old ≤ T.failures tree.new }
+    ensures cause { IsErrOf result EngineError.Device → HasRisen (T.failures tree.old) (T.failures tree.new) }
+{
+    write_record(alloc, tree, depfile, target, command)
+}

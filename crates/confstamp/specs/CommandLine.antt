@@ -19,6 +19,9 @@ taking name ids = with_rules (new_app name) (map required ids)
 abbrev pub preview_app : App
 preview_app = with_rule (taking (codes "preview") (codes "KCONFIG" ∷ codes "DOTCONFIG" ∷ [])) (new_rule (codes "OLDAUTO"))
 
+abbrev pub fixdep_app : App
+fixdep_app = taking (codes "fixdep") (codes "DEPFILE" ∷ codes "TARGET" ∷ codes "COMMAND" ∷ [])
+
 -- a command line with these commands below it
 abbrev pub with_all : App → List App → App
 with_all app [] = app
@@ -29,4 +32,4 @@ abbrev pub command_line_app : App
 command_line_app = with_all
     (on_top (λ s. record s { has_version = true; subcommand_required = true; no_binary_name = true })
     (new_app (codes "confstamp")))
-    (preview_app ∷ [])
+    (preview_app ∷ fixdep_app ∷ [])

@@ -43,10 +43,16 @@ pub(crate) fn command_line<'a>(alloc: Global) -> Result<Command<'a>, AllocError>
     ensures { IfOk result (λ c. app_of c ≡ command_line_app) }
 {
     let preview = preview_command(alloc)?;
+    let fixdep = with_words(
+        alloc,
+        "fixdep",
+        "Show the command file of an object, from the compiler's dependency file",
+        &["DEPFILE", "TARGET", "COMMAND"],
+    )?;
     let top = Command::new(alloc, "confstamp")
         .bin_name("confstamp")?
         .version("0.1.0")
         .no_binary_name(true)
         .subcommand_required(true);
-    top.subcommand(preview)
+    top.subcommand(preview)?.subcommand(fixdep)
 }

@@ -76,6 +76,28 @@ fn preview_request(alloc: Global, matches: &ArgMatches<'_>) -> Result<Request, A
     })
 }
 
+fn fixdep_request(alloc: Global, matches: &ArgMatches<'_>) -> Result<Request, AllocError> {
+    Ok(Request::Fixdep {
+        depfile: word(alloc, matches, "DEPFILE")?,
+        target: word(alloc, matches, "TARGET")?,
+        command: word(alloc, matches, "COMMAND")?,
+    })
+}
+
+/// The request of the command `name` with these matches.
+fn request_named(alloc: Global, name: &str, matches: &ArgMatches<'_>) -> Result<Request, AllocError>
+    ensures preview { IfOk result (λ r. (k d : List ℕ) → name.now ≡ codes "preview"
+        → first_value (found_of matches.now) (codes "KCONFIG") ≡ Some k
+        → first_value (found_of matches.now) (codes "DOTCONFIG") ≡ Some d
+        → IsPreviewOf k d (first_value (found_of matches.now) (codes "OLDAUTO")) r) }
+{
+    if name == "preview" {
+        preview_request(alloc, matches)
+    } else {
+        fixdep_request(alloc, matches)
+    }
+}
+
 /// That a command is missing. `clap` says so itself before this can come.
 fn missing_command(alloc: Global) -> Result<WordsError, AllocError> {
     let mut command = command_line(alloc)?;
@@ -95,7 +117,7 @@ pub fn request_of<'a>(alloc: Global, words: &'a [&'a str]) -> Result<Request, Wo
     let command = command_line(alloc)?;
     let matches = command.try_get_matches_from(words)?;
     match matches.subcommand() {
-        Some((_, inner)) => Ok(preview_request(alloc, inner)?),
+        Some((name, inner)) => Ok(request_named(alloc, name, inner)?),
         None => Err(missing_command(alloc)?),
     }
 }

@@ -7,3 +7,4 @@ use Rattle.ks_commands.specs.declared.request.Request.TheVariants.{Preview}
 abbrev pub IsPreviewOf : List ℕ → List ℕ → Option (List ℕ) → Request → Type 0
 IsPreviewOf kconfig dotconfig old (Preview k d o) =
     (string_bytes k ≡ kconfig) × (string_bytes d ≡ dotconfig) × (option_map (λ path. string_bytes path) o ≡ old)
+IsPreviewOf kconfig dotconfig old _ = ⊥

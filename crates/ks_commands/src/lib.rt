@@ -1,6 +1,7 @@
 //! The commands of the program `confstamp`, over any tree of files and any two writers.
 #![tactic(auto)]
 
+mod fixdep;
 mod inputs;
 mod performing;
 mod preview;

@@ -6,6 +6,7 @@ ghost use Rattle.std.specs.Io.KnownBytes.{Keeps};
 ghost use Rattle.ks_commands.specs.Outputs.{IsNamed, WritesPreview};
 ghost use Rattle.ks_commands.specs.Requests.{IsPreviewOf};
 
+use crate::fixdep::command_file_text;
 use crate::inputs::{check_named, check_path, lent, read_file, read_named};
 use crate::preview::preview_to;
 use crate::refusal::Refusal;
@@ -47,6 +48,25 @@ fn preview<T: Tree, W: Write>(
     Ok(())
 }
 
+fn fixdep<T: Tree, W: Write>(
+    alloc: Global,
+    tree: &mut T,
+    depfile: &str,
+    target: &str,
+    command: &str,
+    out: &mut W,
+) -> Result<(), Refusal>
+    ensures honest { T.is_honest tree.old ↔ T.is_honest tree.new }
+    ensures unchanged { T.is_honest tree.old → T.files tree.new ≡ T.files tree.old }
+{
+    let text = command_file_text(alloc, tree, depfile, target, command)?;
+    if out.write_all(&text).is_err() {
+        return Err(Refusal::Output);
+    }
+    flush(out)?;
+    Ok(())
+}
+
 /// Prints `confstamp: ` and why a command was refused, as well as that goes. The status is 2 also where that fails.
 pub fn refuse<E: Write>(err: &mut E, refusal: &Refusal) -> u8
     ensures { result ≡ 2 }
@@ -83,6 +103,18 @@ pub fn perform<T: Tree, W: Write, E: Write>(
             };
             preview(alloc, tree, kconfig.as_str(), dotconfig.as_str(), old, out)
         }
+        Request::Fixdep {
+            depfile,
+            target,
+            command,
+        } => fixdep(
+            alloc,
+            tree,
+            depfile.as_str(),
+            target.as_str(),
+            command.as_str(),
+            out,
+        ),
     };
     match outcome {
         Ok(()) => 0,

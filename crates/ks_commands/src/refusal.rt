@@ -3,9 +3,11 @@
 //! A text is a number, a name and the place. The number says which part refused: 1 to 8 a line of a Kconfig or
 //! `.config`, 11 one of auto.conf, 30 the tree, and so on; docs/refusals.md has them all.
 ghost use Rattle.std.specs.Prelude.{◌≡◌};
-ghost use Rattle.ks_commands.specs.declared.refusal.Refusal.TheVariants.{OutOfMemory, Preview, Tree};
+ghost use Rattle.ks_commands.specs.declared.refusal.Refusal.TheVariants.{Dependencies, Engine, OutOfMemory, Preview, Tree};
 
 use crate::preview::PreviewError;
+use ks_engine::EngineError;
+use ks_fixdep::DepError;
 use ks_tree::TreeFault;
 use std::alloc::AllocError;
 use thiserror::Error;
@@ -17,9 +19,17 @@ pub enum Refusal {
     Preview(PreviewError),
     #[error("{0}")]
     Tree(TreeFault),
-    /// An argument is no legal path.
+    /// The dependency file, or an argument of `fixdep`, is refused.
+    #[error("{0}")]
+    Dependencies(DepError),
+    #[error("{0}")]
+    Engine(EngineError),
+    /// An argument is no legal path, or no legal target.
     #[error("21 BadPath token 0")]
     BadArgument,
+    /// The command holds a line feed, a carriage return or a NUL.
+    #[error("22 BadCommand")]
+    BadCommand,
     /// A file that has to be there is missing.
     #[error("40 MissingFile {0}")]
     MissingFile(String),
@@ -43,6 +53,22 @@ impl From<TreeFault> for Refusal {
 
     fn from(fault: TreeFault) -> Refusal {
         Refusal::Tree(fault)
+    }
+}
+
+impl From<DepError> for Refusal {
+    ghost from_gives = { λ e r. r ≡ Dependencies e };
+
+    fn from(error: DepError) -> Refusal {
+        Refusal::Dependencies(error)
+    }
+}
+
+impl From<EngineError> for Refusal {
+    ghost from_gives = { λ e r. r ≡ Engine e };
+
+    fn from(error: EngineError) -> Refusal {
+        Refusal::Engine(error)
     }
 }
 

@@ -9,4 +9,10 @@ pub enum Request {
         dotconfig: String,
         old: Option<String>,
     },
+    /// The command file of an object, without a generation.
+    Fixdep {
+        depfile: String,
+        target: String,
+        command: String,
+    },
 }

@@ -11,4 +11,5 @@ returns c =
     let versioned = ap app_of_fields c.version.ensures ∙ ap (on_top (λ s. record s { has_version = true })) named in
     let bare = ap app_of_fields c.no_binary_name.ensures ∙ ap (on_top (λ s. record s { no_binary_name = true })) versioned in
     let top = ap app_of_fields c.subcommand_required-top.ensures ∙ ap (on_top (λ s. record s { subcommand_required = true })) bare in
-    IfOk-weaker c.subcommand.result _ _ (λ r h. added _ _ _ _ _ h c.in_ok-preview.ensures.local top c.in_ok-preview.ensures.app) c.subcommand.ensures
+    let one = added _ _ _ _ _ c.in_ok-subcommand.ensures c.in_ok-preview.ensures.local top c.in_ok-preview.ensures.app in
+    IfOk-weaker c.subcommand-2.result _ _ (λ r h. added _ _ _ _ _ h c.in_ok-fixdep.ensures.local one c.in_ok-fixdep.ensures.app) c.subcommand-2.ensures

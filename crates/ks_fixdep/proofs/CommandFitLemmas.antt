@@ -1,5 +1,5 @@
 -- Lines that fit the layout are read, and lines that are read fit it.
-use Rattle.std.proofs.Common.{◌≡◌, ℕ, zero, suc, ◌+◌, Bool, true, false, List, [], ◌∷◌, ◌++◌, length, take, drop, refl, sym, ap, ◌∙◌, arith, Option, Some, None, Result, Ok, Err, map, append_assoc, subst, ◌<◌, ◌^◌}
+use Rattle.std.proofs.Common.{◌≡◌, ℕ, ◌+◌, Bool, true, false, List, [], ◌∷◌, ◌++◌, length, take, drop, refl, sym, ap, ◌∙◌, Option, Some, None, Result, Ok, Err, map, append_assoc, subst, ◌<◌, ◌^◌}
 use Rattle.std.specs.Prelude.{◌&&◌, ◌||◌, not, codes, is_some, option_and_then, if◌then◌else◌, IfSome, nat_lt}
 use Rattle.std.specs.Option.{option_or}
 use Rattle.std.specs.List.{list_all, filter_map, cons_option}

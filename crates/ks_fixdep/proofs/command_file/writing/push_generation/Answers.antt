@@ -1,4 +1,4 @@
-use Rattle.std.proofs.Common.{◌≡◌, ◌++◌, ◌∷◌, [], sym, ap, ◌∙◌, append_assoc, append-nil, decimal, Some}
+use Rattle.std.proofs.Common.{◌++◌, ◌∷◌, [], sym, ap, ◌∙◌, append_assoc, append-nil, decimal}
 use Rattle.std.specs.Prelude.{codes, flat_map}
 use Rattle.ks_fixdep.specs.CommandFile.{ended, generation_line}
 use Rattle.ks_fixdep.proofs.command_file.writing.push_generation.Goals as goal

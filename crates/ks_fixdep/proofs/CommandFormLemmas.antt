@@ -14,7 +14,7 @@ use Rattle.memchr.specs.Find.{first_of, matches, matches_from, match_len, occurs
 use Rattle.ks_symbols.specs.Names.{is_name, is_path, is_target, is_path_byte}
 use Rattle.ks_fixdep.specs.CommandLines.{behind, before, between}
 use Rattle.ks_fixdep.specs.CommandFile.{is_command}
-use Rattle.ks_fixdep.specs.CommandReading.{checked, split_once, cut, saved_command, source_in, path_in, name_in, dep_in, either_dep}
+use Rattle.ks_fixdep.specs.CommandForms.{checked, split_once, cut, saved_command, source_in, path_in, name_in, dep_in, either_dep}
 
 pub and-parts : (a b : Bool) → (a && b) ≡ true → (a ≡ true) × (b ≡ true)
 and-parts true b e = (refl, e)

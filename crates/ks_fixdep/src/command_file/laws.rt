@@ -1,7 +1,7 @@
 //! Laws of command files: what is written is read, and what is read is what fits the layout.
 ghost use Rattle.std.specs.Prelude.{◌≡◌, ◌++◌, ◌-◌, [], Ok, Err, codes, take, length};
 ghost use Rattle.ks_fixdep.specs.CommandExamples.{example, example_front, example_lines};
-ghost use Rattle.ks_fixdep.specs.CommandLaws.{FitsRead, ReadFits, ReadsBack, WrittenReads};
+ghost use Rattle.ks_fixdep.specs.CommandLaws.{FitsRead, ReadFits, ReadsBack, RefusedAtFirst, WrittenReads};
 ghost use Rattle.ks_fixdep.specs.CommandReading.{reading};
 
 /// The text of a command file reads as it, line by line and by the reader.
@@ -12,10 +12,11 @@ pub fn command_texts_read_back()
     ks_symbols::decimals_read_back();
 }
 
-/// What the reader takes is exactly what fits the layout.
+/// What the reader takes is exactly what fits the layout, and what it refuses it refuses at the first line that does not.
 pub fn command_files_fit()
     ensures read { ReadFits }
     ensures fits { FitsRead }
+    ensures refused { RefusedAtFirst }
 {}
 
 /// A further line behind, a faulty generation line, a text that ends too early, one that is cut just before the line feed of

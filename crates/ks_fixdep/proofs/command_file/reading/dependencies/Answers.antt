@@ -1,7 +1,8 @@
 use Rattle.std.proofs.Common.{◌≡◌, ◌+◌, ◌<◌, ◌∷◌, ◌++◌, [], length, length-append, drop, sym, ap, ◌∙◌, arith, append-nil, append_assoc}
 use Rattle.std.proofs.lemmas.Bool.Decides.{nat_tests}
 use Rattle.ks_fixdep.specs.CommandLines.{lines}
-use Rattle.ks_fixdep.specs.CommandReading.{deps_in, dep_in}
+use Rattle.ks_fixdep.specs.CommandForms.{dep_in}
+use Rattle.ks_fixdep.specs.CommandReading.{deps_in}
 use Rattle.ks_fixdep.proofs.CommandLineLemmas.{lines-none}
 use Rattle.ks_fixdep.proofs.CommandStepLemmas.{deps-step, deps-stop, deps-nil, drop-one}
 use Rattle.ks_fixdep.proofs.command_file.reading.dependencies.Goals as goal

@@ -1,5 +1,5 @@
 -- The forms of the lines of a command file: what a line of each form says. Rules of this project.
-use Rattle.std.specs.Prelude.{◌≡◌, ℕ, ◌+◌, Bool, ◌&&◌, List, length, take, drop, Option, Some, None, codes, if◌then◌else◌, option_and_then}
+use Rattle.std.specs.Prelude.{ℕ, ◌+◌, Bool, ◌&&◌, List, length, take, drop, Option, Some, None, codes, if◌then◌else◌, option_and_then}
 use Rattle.memchr.specs.Find.{first_of, matches}
 use Rattle.ks_symbols.specs.Names.{is_name, is_path, is_target}
 use Rattle.ks_fixdep.specs.declared.command_file.Dep.{Dep}

@@ -14,7 +14,7 @@ generation_in line = option_and_then decimal_value (between generation_mark line
 abbrev pub is_sound : List ℕ → Bool
 is_sound line = not (is_some (behind generation_mark line)) || is_some (generation_in line)
 
--- the lines of a text, each with its end, are those of a command file
+-- The lines of a text, each with its end, are those of a command file. Of the layout's lines the contents count, so the last one may lack its line feed.
 pub record LinesRead (ls : List (List ℕ)) (f : Record) : Type 0 where
   pub laid_out : List (List ℕ)
   pub appended : List (List ℕ)

@@ -37,10 +37,7 @@ fn split_line(text: &[u8]) -> (&[u8], &[u8])
 fn content_of(line: &[u8]) -> &[u8]
     ensures { result.now ≡ content line.now }
 {
-    match line.strip_suffix(b"\n") {
-        Some(content) => content,
-        None => line,
-    }
+    line.strip_suffix(b"\n").unwrap_or(line)
 }
 
 /// The first line without its line feed, and what follows it.
@@ -188,9 +185,7 @@ fn dependencies(alloc: Global, text: &[u8]) -> Result<(Vec<Dep>, &[u8]), AllocEr
         let Some(dep) = dep_in(alloc, content_of(line))? else {
             return Ok((deps, rest));
         };
-        let Ok(()) = deps.push(dep) else {
-            return Err(AllocError);
-        };
+        deps.push(dep)?;
         rest = after;
     }
     Ok((deps, rest))

@@ -24,7 +24,7 @@ loop-alloc-preserved c =
     let some : 0 < length c.loop-alloc.rest.now = grind (arith, nat_tests) in
     let is = c.split_line.ensures.first some in
     let found = ap dep_in (sym c.content_of.ensures) ∙ sym c.in_ok-dep.ensures ∙ c.in-Some.is in
-    let pushed : c.push.new.self.items ≡ items ++ dep ∷ [] = c.in-Ok.ensures.items in
+    let pushed : c.push.new.self.items ≡ items ++ dep ∷ [] = c.in_ok-push.ensures.items in
     let more : length c.push.new.self.items ≡ length items + 1 = ap length pushed ∙ length-append items (dep ∷ []) in
     record {
       same = ap (λ l. l ++ deps_in after) pushed ∙ append_assoc items (dep ∷ []) (deps_in after)

@@ -6,7 +6,7 @@ use Rattle.std.specs.Prelude.{not, ◌||◌, flat_map, slice_get}
 use Rattle.std.proofs.lemmas.Bool.{cond-true, cond-false}
 use Rattle.std.proofs.lemmas.Grind.{fold-append}
 use Rattle.std.proofs.lemmas.List.Folds.{list_any-append}
-use Rattle.std.proofs.lemmas.List.Elements.{filter-append, filter_agree}
+use Rattle.std.proofs.lemmas.List.Elements.{filter-append}
 use Rattle.std.specs.List.{list_any}
 use Rattle.std.specs.Str.{bytes_eq}
 use Rattle.ks_fixdep.specs.FoundNames.{noted, all_noted, names_in}
@@ -17,7 +17,6 @@ use Rattle.ks_fixdep.specs.Scan.{taken}
 use Rattle.ks_fixdep.specs.Scan.{bare_name}
 use Rattle.ks_fixdep.specs.declared.dependency_file.Role.{Role}
 use Rattle.ks_fixdep.specs.declared.dependency_file.Role.TheVariants as role
-use Rattle.std.proofs.lemmas.Slice.Eq.{bytes_eq-Decides}
 
 -- not noted before, so not among those kept either
 not_kept : (y : List ℕ) (seen zs : List (List ℕ)) → list_any (bytes_eq y) zs ≡ false → list_any (bytes_eq y) (new_names seen zs) ≡ false

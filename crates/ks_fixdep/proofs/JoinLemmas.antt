@@ -1,8 +1,8 @@
 -- Pieces of a text, and the names that are ended in it.
-use Rattle.std.proofs.Common.{◌≡◌, ℕ, zero, suc, ◌+◌, ◌-◌, ◌≤◌, ◌<◌, Bool, true, false, List, [], ◌∷◌, ◌++◌, length, take, drop, get_or, Option, Some, None, refl, sym, ap, subst, ◌∙◌, arith, inl, inr, ⊎_elim, map, append_assoc, append-nil, length-append, length-drop, drop-drop}
-use Rattle.std.proofs.lemmas.Bool.{cond-true, cond-false, cases_lt, cases_eq, false≢true, lt-ltb, le-ltb, and_parts}
+use Rattle.std.proofs.Common.{◌≡◌, ℕ, zero, ◌+◌, ◌-◌, Bool, true, false, List, [], ◌∷◌, ◌++◌, length, drop, get_or, Option, Some, None, refl, sym, ap, ◌∙◌, arith, inl, ⊎_elim, map, append_assoc, append-nil, length-append, length-drop}
+use Rattle.std.proofs.lemmas.Bool.{cond-true, cond-false, cases_lt, false≢true, lt-ltb, le-ltb, and_parts}
 use Rattle.std.proofs.lemmas.List.Elements.{filter-append}
-use Rattle.std.specs.Prelude.{flat_map, filter, Contains, nat_lt, if◌then◌else◌}
+use Rattle.std.specs.Prelude.{flat_map, filter, Contains}
 use Rattle.std.specs.List.{list_all}
 use Rattle.memchr.specs.Find.{occurs_at}
 use Rattle.memchr.proofs.lemmas.MatchLemmas.{OccursAt-true}
@@ -62,6 +62,7 @@ followed-right u w stops all = ap (λ l. filter (is_followed (u ++ w)) (map (fur
   where
     run : length (run_at (u ++ w) (length u + 0 + 7)) ≡ length (drop 7 w)
     run = ap length (right-run u w (inl stops) 0 ∙ whole-run (drop 7 w) (all-drop w 7 all))
+
     none : (name : Option (List ℕ)) → filter (is_followed (u ++ w)) (map (further (length u)) (carried_at 0 name)) ≡ []
     none None = refl
     none (Some name) = cond-false _ _ _ (le-ltb (length u + 0 + 7 + length (run_at (u ++ w) (length u + 0 + 7))) (length (u ++ w)) (omega (arith, run, length-drop 7 w, length-append u w)))

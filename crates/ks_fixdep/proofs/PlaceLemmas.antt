@@ -1,18 +1,18 @@
 -- What is listed of a text is what is taken of it.
 use Rattle.std.proofs.Common.{◌≡◌, ℕ, zero, suc, ◌+◌, ◌-◌, ◌≤◌, ◌<◌, Bool, true, false, List, [], ◌∷◌, length, take, drop, get_or, Option, Some, None, refl, sym, ap, subst, ◌∙◌, arith, inl, inr, ⊎_elim, map, length-drop, length-take-le, get_or-drop, get_or-take}
-use Rattle.std.proofs.lemmas.Bool.{cond-true, cases_lt, cases_eq, and_parts, and_from, or_cases, or_left, or_right, eqb-true, false≢true, cases_Bool, eq-eqb}
+use Rattle.std.proofs.lemmas.Bool.{cond-true, cases_lt, cases_eq, and_parts, or_cases, or_left, or_right, eqb-true, eq-eqb}
 use Rattle.std.proofs.lemmas.Slice.Eq.{bytes_eq-Decides}
-use Rattle.std.specs.Prelude.{◌⊎◌, ◌||◌, not, ◌==◌, Contains, if◌then◌else◌}
-use Rattle.std.specs.List.{list_all, prefix_len, take_while, cons_option}
+use Rattle.std.specs.Prelude.{◌⊎◌, not, ◌==◌, Contains, if◌then◌else◌}
+use Rattle.std.specs.List.{prefix_len, cons_option}
 use Rattle.std.specs.List.Sorted.{IsStrictlyIncreasing}
 use Rattle.std.proofs.lemmas.List.Sums.{AllPass-from_list_all, prefix_len-le-length, prefix_len_stops}
-use Rattle.memchr.specs.Find.{OccursAt, occurs_at}
+use Rattle.memchr.specs.Find.{occurs_at}
 use Rattle.memchr.proofs.lemmas.MatchLemmas.{occurs_at-true, OccursAt-true}
 use Rattle.ks_symbols.specs.Names.{is_word_byte, is_name, less}
-use Rattle.ks_fixdep.specs.Scan.{NameAt, prefix, run_at, begins_word, is_place, name_of, placed, taken_at, taken_from, taken_after, taken}
-use Rattle.ks_fixdep.specs.Places.{IsPlace, IsRun, IsTaken, ListsTaken}
+use Rattle.ks_fixdep.specs.Scan.{NameAt, prefix, run_at, begins_word, is_place, name_of, placed, taken_at, taken_from}
+use Rattle.ks_fixdep.specs.Places.{IsRun, IsTaken, ListsTaken}
 use Rattle.ks_fixdep.proofs.RunLemmas.{word-is, name_of-legal}
-use Rattle.ks_fixdep.proofs.ScanLemmas.{taken_at-place, taken_from-step, taken_from-zero, word-passes, run_at-ends}
+use Rattle.ks_fixdep.proofs.ScanLemmas.{taken_at-place, word-passes, run_at-ends}
 
 -- ---- one place
 

@@ -1,7 +1,7 @@
 -- One more token.
 use Rattle.std.proofs.Common.{◌≡◌, ℕ, suc, ◌+◌, ◌-◌, Bool, true, false, List, [], ◌∷◌, ◌++◌, length, drop, refl, sym, ap, ◌∙◌, arith, append_assoc, append-nil, reverse, ⊎_elim, length-append, map, Bor, Option, Some, None, Result, Ok, Err, subst, get_or, take, ◌<◌, ◌≤◌, drop-cons, take-append-drop}
 use Rattle.std.proofs.lemmas.List.{reverse-append, drop_all, drop-append-le, map-append}
-use Rattle.std.proofs.lemmas.Bool.{cond-true, cond-false, cases_Bool, cond_both, and_from}
+use Rattle.std.proofs.lemmas.Bool.{cond-true, cond-false, cases_Bool, and_from}
 use Rattle.std.specs.List.{list_all}
 use Rattle.std.specs.Str.{bytes_eq}
 use Rattle.std.specs.Prelude.{if◌then◌else◌, not, nat_eq, ◌||◌, ◌&&◌}
@@ -11,11 +11,11 @@ use Rattle.ks_fixdep.specs.declared.dependency_file.Role.{Role}
 use Rattle.ks_symbols.specs.Names.{is_path}
 use Rattle.ks_symbols.specs.Refusals.{or_else}
 use Rattle.ks_fixdep.specs.DepRefusals.{IsRefusal, RefusedBy}
-use Rattle.ks_fixdep.specs.DependencyFile.{is_kept, is_target_token, header_path, role_after, with_roles, fault_after, first_fault, token_refusal, added, once}
+use Rattle.ks_fixdep.specs.DependencyFile.{is_kept, is_target_token, header_path, role_after, with_roles, fault_after, first_fault, token_refusal, added}
 use Rattle.ks_fixdep.specs.Tokens.{tokens, is_separator, is_some_token}
 use Rattle.ks_fixdep.specs.declared.dep_error.DepError.{DepError}
 use Rattle.ks_fixdep.specs.declared.dep_error.DepError.TheVariants as errors
-use Rattle.std.specs.Result.{IsErr, IsErrAnd, result_err}
+use Rattle.std.specs.Result.{IsErr, IsErrAnd}
 use Rattle.std.specs.List.{slice_split}
 use Rattle.std.proofs.lemmas.List.Sums.{length-filter, count_by-le-length}
 use Rattle.std.proofs.lemmas.List.Splits.{length-slice_split}

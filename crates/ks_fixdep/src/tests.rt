@@ -163,7 +163,10 @@ fn a_name_is_noted_once(rt: HostRuntime) -> Result<(), Fail> {
         found.note(name)?;
     }
     assert_eq!(rt; found.len(), 3);
-    assert_eq!(rt; spelled(rt.alloc(), &found)?.as_slice(), b"B A C ".as_slice());
+    assert_eq!(rt;
+        spelled(rt.alloc(), &found)?.as_slice(),
+        b"B A C ".as_slice()
+    );
     Ok(())
 }
 
@@ -231,9 +234,15 @@ fn prerequisites_have_their_roles_by_place(rt: HostRuntime) -> Result<(), Fail> 
 fn a_dependency_file_may_have_64_mebibytes(rt: HostRuntime) -> Result<(), Fail> {
     let mut text = vec![in rt.alloc(); b' '; MAX_BYTES - 8]?;
     text.extend_from_slice(b"x.o: x.c")?;
-    assert_eq!(rt; prerequisites(rt.alloc(), &text)?.as_slice(), b"Sx.c ".as_slice());
+    assert_eq!(rt;
+        prerequisites(rt.alloc(), &text)?.as_slice(),
+        b"Sx.c ".as_slice()
+    );
     text.push(b'c')?;
-    assert_eq!(rt; prerequisites(rt.alloc(), &text)?.as_slice(), b"9 TooLarge".as_slice());
+    assert_eq!(rt;
+        prerequisites(rt.alloc(), &text)?.as_slice(),
+        b"9 TooLarge".as_slice()
+    );
     Ok(())
 }
 

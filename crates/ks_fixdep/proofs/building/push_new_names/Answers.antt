@@ -1,4 +1,4 @@
-use Rattle.std.proofs.Common.{◌≡◌, ◌++◌, map, length, take, drop, take_all, true, sym, ap, ◌∙◌, arith}
+use Rattle.std.proofs.Common.{◌≡◌, ◌++◌, map, length, take, drop, take_all, true, ap, ◌∙◌}
 use Rattle.std.specs.List.{list_all}
 use Rattle.ks_symbols.specs.Names.{is_name}
 use Rattle.ks_fixdep.specs.declared.command_file.Dep.TheVariants.{Config}

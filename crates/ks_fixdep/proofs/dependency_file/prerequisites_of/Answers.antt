@@ -1,9 +1,8 @@
-use Rattle.std.proofs.Common.{◌≡◌, ◌++◌, ◌∷◌, ◌<◌, [], map, List, ℕ, length, sym, ap, subst, ◌∙◌, arith, drop, suc, refl, true}
+use Rattle.std.proofs.Common.{◌≡◌, ◌++◌, ◌∷◌, [], map, length, sym, ap, subst, ◌∙◌, arith, drop, suc, refl}
 use Rattle.std.proofs.lemmas.Iterator.Consumers.{YieldsList-from_first, YieldsList-end, YieldsList-turn, YieldsList-so_far}
-use Rattle.std.specs.List.{list_any}
 use Rattle.std.proofs.lemmas.List.{length-map}
 use Rattle.ks_fixdep.specs.Tokens.{tokens}
-use Rattle.ks_fixdep.specs.DependencyFile.{is_kept, first_fault, token_refusal, once, with_roles, prerequisites}
+use Rattle.ks_fixdep.specs.DependencyFile.{first_fault, token_refusal, once, with_roles, prerequisites}
 use Rattle.ks_fixdep.specs.Progress.{Stands}
 use Rattle.ks_fixdep.proofs.RoleLemmas.{seen-push, faults-fit, tokens-length, refused-err, refused-through, none-kept, some-kept, parted}
 use Rattle.ks_fixdep.proofs.dependency_file.prerequisites_of.Goals as goal

@@ -1,10 +1,8 @@
-use Rattle.std.proofs.Common.{◌≡◌, ◌+◌, ◌++◌, ◌∷◌, [], length, length-append, sym, ap, subst, ◌∙◌, true, false, arith, List, ℕ, ◌<◌}
+use Rattle.std.proofs.Common.{◌≡◌, ◌+◌, ◌++◌, ◌∷◌, [], length, length-append, sym, ap, subst, ◌∙◌, true, false, List, ℕ, ◌<◌}
 use Rattle.std.specs.List.{list_all, list_any, after_last}
 use Rattle.ks_symbols.specs.Names.{is_path}
 use Rattle.ks_fixdep.specs.declared.dependency_file.Role.{Role}
-use Rattle.std.specs.Prelude.{if◌then◌else◌, not}
-use Rattle.std.proofs.lemmas.Bool.{cond-true, cond-false}
-use Rattle.std.proofs.lemmas.List.Folds.{list_any-append}
+use Rattle.std.specs.Prelude.{if◌then◌else◌}
 use Rattle.std.proofs.lemmas.List.Sums.{fold-append}
 use Rattle.ks_fixdep.specs.declared.dependency_file.Role.TheVariants as role
 use Rattle.ks_fixdep.specs.DependencyFile.{is_kept, is_target_token, with_roles, role_after, once, added, entries_seen}

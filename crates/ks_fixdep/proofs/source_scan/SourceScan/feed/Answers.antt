@@ -1,8 +1,8 @@
-use Rattle.std.proofs.Common.{length, map}
+use Rattle.std.proofs.Common.{map}
 use Rattle.std.specs.Option.{option_copied}
 use Rattle.ks_fixdep.specs.NameIter.{names_left}
 use Rattle.ks_fixdep.specs.Scan.{bare_name}
-use Rattle.ks_fixdep.specs.Stream.{ended, list_of, before_last_word}
+use Rattle.ks_fixdep.specs.Stream.{ended, list_of}
 use Rattle.ks_fixdep.proofs.NameLemmas.{names-longer}
 use Rattle.ks_fixdep.proofs.NotedLemmas.{noted_in_parts, on_ok}
 use Rattle.ks_fixdep.proofs.source_scan.SourceScan.feed.Goals as goal

@@ -14,7 +14,7 @@ ghost use Rattle.ks_commands.specs.Preview.{AreSettings, IsPreview, PreviewRefus
 
 use ks_compare::changed;
 use ks_output::{AutoError, OldConfig, read_auto, write_auto};
-use ks_symbols::{Name, Settings, SourceError, Symbols, read_dotconfig, read_kconfig};
+use ks_symbols::{Name, Settings, SourceError, read_dotconfig, read_kconfig};
 use std::alloc::{AllocError, Global};
 use std::io::Write;
 use thiserror::Error;
@@ -62,20 +62,22 @@ impl From<AllocError> for PreviewError {
     }
 }
 
-/// What the two texts declare and set.
+/// The title of the Kconfig, and what the `.config` sets its symbols to. The symbols themselves are let go: nothing
+/// after the settings asks for them, and they are as large as these.
 fn read_sources(
     alloc: Global,
     kconfig: &[u8],
     dotconfig: &[u8],
-) -> Result<(Symbols, Settings), SourceError>
-    ensures title { IfOk result (λ p. p.0.title ≡ title_of kconfig.now) }
+) -> Result<(Vec<u8>, Settings), SourceError>
+    ensures title { IfOk result (λ p. p.0.items ≡ title_of kconfig.now) }
     ensures settings { IfOk result (λ p. AreSettings kconfig.now dotconfig.now p.1.entries) }
     ensures configured { IfOk result (λ p. IsConfiguration p.1.entries) }
     ensures refusal { RefusedBy result (source_refusal kconfig.now dotconfig.now) }
 {
     let symbols = read_kconfig(alloc, kconfig)?;
     let settings = read_dotconfig(alloc, dotconfig, &symbols)?;
-    Ok((symbols, settings))
+    let title = Vec::from_slice(alloc, symbols.title())?;
+    Ok((title, settings))
 }
 
 /// The old auto.conf, or the empty one where there is none.
@@ -129,14 +131,13 @@ fn preview_of(
     ensures text { IfOk result (λ t. IsPreview kconfig.now dotconfig.now (option_map (λ t. t.now) old.entry) t.items) }
     ensures refusal { PreviewRefusedBy result (preview_refusal kconfig.now dotconfig.now (option_map (λ t. t.now) old.entry)) }
 {
-    let (symbols, settings) = read_sources(alloc, kconfig, dotconfig)?;
+    let (title, settings) = read_sources(alloc, kconfig, dotconfig)?;
     let before = read_old(alloc, old)?;
     if before.generation() == u64::MAX {
         return Err(PreviewError::GenerationFull);
     }
     let names = changed(alloc, &before, &settings)?;
-    let title = symbols.title();
-    let text = preview_text(alloc, &names, &settings, title, before.generation() + 1)?;
+    let text = preview_text(alloc, &names, &settings, &title, before.generation() + 1)?;
     Ok(text)
 }
 

@@ -8,7 +8,7 @@ use Rattle.ks_symbols.specs.Configuration.{IsConfiguration, NameMap}
 use Rattle.ks_output.specs.OldConfig.{HasNames, texts_of}
 use Rattle.ks_output.specs.Header.{header_text}
 use Rattle.ks_output.specs.Definitions.{definitions}
-use Rattle.ks_output.specs.Laws.{HasOneClass}
+use Rattle.ks_output.specs.HeaderLaws.{HasOneClass}
 use Rattle.ks_compare.specs.Changes.{differs, is_in, AreChanges}
 
 -- Two maps have changes, ..

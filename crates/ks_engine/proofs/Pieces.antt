@@ -16,13 +16,13 @@ take_further n m xs =
 count_is : (b old new : List ℕ) (offset n : ℕ) → IsPieceRead b offset old new n → n ≡ min (length old) (length b - offset)
 count_is b old new offset n read = read.is ∙ length-take (length old) (drop offset b) ∙ ap (min (length old)) (length-drop offset b)
 
--- Nothing is left: all has been read.
-pub scanned_whole : (path b old new : List ℕ) (found : List (List ℕ)) (offset n : ℕ) → IsPieceRead b offset old new n → length old ≡ 4096 → n ≡ 0 → offset ≤ 67108864
-    → found ≡ names_in (take offset b) → scanned path (Some b) ≡ Ok found
-scanned_whole path b old new found offset n read room none small names =
+-- The room was not filled: all has been read.
+pub scanned_whole : (path b old new : List ℕ) (found : List (List ℕ)) (offset n : ℕ) → IsPieceRead b offset old new n → length old ≡ 4096 → n < 4096 → offset + n ≤ 67108864
+    → found ≡ names_in (take (offset + n) b) → scanned path (Some b) ≡ Ok found
+scanned_whole path b old new found offset n read room short small names =
     let count = count_is b old new offset n read in
-    let past : length b ≤ offset = omega arith in
-    cond-false _ _ _ (le-ltb 67108864 (length b) (omega arith)) ∙ ap (λ l. Ok l) (sym (names ∙ ap names_in (take_all offset b past)))
+    let past : length b ≤ offset + n = omega arith in
+    cond-false _ _ _ (le-ltb 67108864 (length b) (omega arith)) ∙ ap (λ l. Ok l) (sym (names ∙ ap names_in (take_all (offset + n) b past)))
 
 -- A byte past the limit has been read.
 pub scanned_large : (path b old new : List ℕ) (offset n : ℕ) → IsPieceRead b offset old new n → 67108864 < offset + n → offset ≤ 67108864 → scanned path (Some b) ≡ Err TooLarge

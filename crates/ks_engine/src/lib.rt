@@ -12,5 +12,6 @@ mod synchronise;
 pub use commands::{Command, Reply, run};
 pub use error::EngineError;
 pub use recording::{Recorded, record_object};
+pub use sources::scan_all;
 pub use staleness::{BuildState, Verdict, outdated, stale};
 pub use synchronise::{Report, sync};

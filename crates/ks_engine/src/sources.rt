@@ -32,14 +32,14 @@ fn scan_file<T: Tree>(alloc: Global, tree: &mut T, path: &[u8]) -> Result<FoundN
         let Some(count) = tree.read_at(alloc, path, offset, &mut piece)? else {
             return Err(EngineError::MissingFile(Path::new(alloc, path)?));
         };
-        if count == 0 {
-            return Ok(source.finish()?);
-        }
         offset += count as u64;
         if offset > MAX_BYTES as u64 {
             return Err(EngineError::TooLarge);
         }
         source.feed(&piece[..count])?;
+        if count < PIECE {
+            return Ok(source.finish()?);
+        }
     }
 }
 
@@ -64,8 +64,8 @@ fn scan_at<T: Tree>(
     }
 }
 
-/// The names of each prerequisite, in their order.
-pub(crate) fn scan_all<T: Tree>(
+/// The names of each prerequisite, in their order. A file that is missing, or longer than 64 MiB, is refused.
+pub fn scan_all<T: Tree>(
     alloc: Global,
     tree: &mut T,
     prerequisites: &Prerequisites,

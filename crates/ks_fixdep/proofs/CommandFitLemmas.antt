@@ -1,5 +1,5 @@
 -- Lines that fit the layout are read, and lines that are read fit it.
-use Rattle.std.proofs.Common.{◌≡◌, ℕ, zero, suc, ◌+◌, Bool, true, false, List, [], ◌∷◌, ◌++◌, length, take, drop, refl, sym, ap, ◌∙◌, arith, Option, Some, None, Result, Ok, Err, map, append_assoc, subst, ◌<◌, ◌^◌}
+use Rattle.std.proofs.Common.{◌≡◌, ℕ, ◌+◌, Bool, true, false, List, [], ◌∷◌, ◌++◌, length, take, drop, refl, sym, ap, ◌∙◌, Option, Some, None, Result, Ok, Err, map, append_assoc, subst, ◌<◌, ◌^◌}
 use Rattle.std.specs.Prelude.{◌&&◌, ◌||◌, not, codes, is_some, option_and_then, if◌then◌else◌, IfSome, nat_lt}
 use Rattle.std.specs.Option.{option_or}
 use Rattle.std.specs.List.{list_all, filter_map, cons_option}
@@ -14,7 +14,8 @@ use Rattle.ks_fixdep.specs.declared.command_file.Dep.{Dep}
 use Rattle.ks_fixdep.specs.CommandLines.{line_feed, content, behind, before, between}
 use Rattle.ks_fixdep.specs.CommandFile.{Record, is_command, is_dep, IsLegal, dep_line, deps_begin, target_line, deps_end, layout, generation_mark}
 use Rattle.ks_fixdep.specs.CommandReads.{generation_in, is_sound, LinesRead}
-use Rattle.ks_fixdep.specs.CommandReading.{◌>>=◌, or_fault, fixed_at, form_at, deps_in, dep_in, onto_deps, saved_command, source_in, said, said_behind, generation_from, end_from, record_in}
+use Rattle.ks_fixdep.specs.CommandForms.{dep_in, saved_command, source_in}
+use Rattle.ks_fixdep.specs.CommandReading.{◌>>=◌, or_fault, fixed_at, form_at, deps_in, onto_deps, said, said_behind, generation_from, end_from, record_in}
 use Rattle.ks_fixdep.proofs.CommandFormLemmas.{and-parts, bytes-refl, bytes-same, saved_command-line, source_in-line, dep-line, dep_in-none, saved_command-is, source_in-is, dep_in-is}
 
 -- ---- one line
@@ -161,22 +162,22 @@ lines-read f ls is =
 -- ---- what is read fits
 
 -- a value that came through a step
-record Steps {A B : Type 0} (from : Result A ℕ) (step : A → Result B ℕ) (to : B) : Type 0 where
-  value : A
-  first : from ≡ Ok value
-  next : step value ≡ Ok to
+pub record Steps {A B : Type 0} (from : Result A ℕ) (step : A → Result B ℕ) (to : B) : Type 0 where
+  pub value : A
+  pub first : from ≡ Ok value
+  pub next : step value ≡ Ok to
 
-steps : {A B : Type 0} (from : Result A ℕ) (step : A → Result B ℕ) (to : B) → (from >>= step) ≡ Ok to → Steps from step to
+pub steps : {A B : Type 0} (from : Result A ℕ) (step : A → Result B ℕ) (to : B) → (from >>= step) ≡ Ok to → Steps from step to
 steps (Ok x) step to e = record { value = x; first = refl; next = e }
 steps (Err n) step to e = absurd cc
 
 -- a line of this content, and the lines after it
-record Begins (x : List ℕ) (rest ls : List (List ℕ)) : Type 0 where
-  line : List ℕ
-  is : ls ≡ line ∷ rest
-  fits : content line ≡ x
+pub record Begins (x : List ℕ) (rest ls : List (List ℕ)) : Type 0 where
+  pub line : List ℕ
+  pub is : ls ≡ line ∷ rest
+  pub fits : content line ≡ x
 
-fixed-begins : (n : ℕ) (x : List ℕ) (ls rest : List (List ℕ)) → fixed_at n x ls ≡ Ok rest → Begins x rest ls
+pub fixed-begins : (n : ℕ) (x : List ℕ) (ls rest : List (List ℕ)) → fixed_at n x ls ≡ Ok rest → Begins x rest ls
 unfolding fixed_at
 fixed-begins n x [] rest e = absurd cc
 fixed-begins n x (l ∷ ls) rest e = tested (bytes_eq (content l) x) refl e

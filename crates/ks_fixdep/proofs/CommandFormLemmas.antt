@@ -1,7 +1,7 @@
 -- A line of the layout says what it was made of, and no other line does.
-use Rattle.std.proofs.Common.{◌≡◌, ℕ, zero, suc, ◌+◌, ◌-◌, ◌<◌, ◌≤◌, Bool, true, false, List, [], ◌∷◌, ◌++◌, length, take, drop, get_or, refl, sym, ap, ◌∙◌, arith, ⊎_elim, Option, Some, None, subst, length-append, append_assoc, inl, inr}
+use Rattle.std.proofs.Common.{◌≡◌, ℕ, zero, suc, ◌+◌, ◌-◌, ◌<◌, ◌≤◌, Bool, true, false, List, [], ◌∷◌, ◌++◌, length, take, drop, refl, sym, ap, ◌∙◌, arith, ⊎_elim, Option, Some, None, subst, length-append, append_assoc, inl, inr}
 use Rattle.std.proofs.Math.Seq.{take-append_seam, drop-append_seam, drop-append-add}
-use Rattle.std.proofs.lemmas.List.{drop-append-le, get_or_append_left, take-append-drop, drop-drop}
+use Rattle.std.proofs.lemmas.List.{take-append-drop, drop-drop}
 use Rattle.std.proofs.lemmas.Slice.Eq.{bytes_eq-Decides}
 use Rattle.ks_fixdep.specs.declared.command_file.Dep.{Dep}
 use Rattle.ks_fixdep.specs.declared.command_file.Dep.TheVariants.{File, Config}
@@ -14,7 +14,7 @@ use Rattle.memchr.specs.Find.{first_of, matches, matches_from, match_len, occurs
 use Rattle.ks_symbols.specs.Names.{is_name, is_path, is_target, is_path_byte}
 use Rattle.ks_fixdep.specs.CommandLines.{behind, before, between}
 use Rattle.ks_fixdep.specs.CommandFile.{is_command}
-use Rattle.ks_fixdep.specs.CommandReading.{checked, split_once, cut, saved_command, source_in, path_in, name_in, dep_in, either_dep}
+use Rattle.ks_fixdep.specs.CommandForms.{checked, split_once, cut, saved_command, source_in, path_in, name_in, dep_in, either_dep}
 
 pub and-parts : (a b : Bool) → (a && b) ≡ true → (a ≡ true) × (b ≡ true)
 and-parts true b e = (refl, e)

@@ -1,12 +1,14 @@
 -- One more line.
-use Rattle.std.proofs.Common.{◌≡◌, ℕ, zero, suc, ◌+◌, ◌<◌, ◌≤◌, Bool, true, false, List, [], ◌∷◌, ◌++◌, length, take, drop, refl, sym, ap, ◌∙◌, arith, Option, Some, None, Result, Ok, Err, append_assoc, append-nil, subst}
+use Rattle.std.proofs.Common.{◌≡◌, ℕ, zero, suc, ◌+◌, List, [], ◌∷◌, drop, refl, sym, ap, ◌∙◌, arith, Option, Some, None, Result, Ok, Err, subst}
 use Rattle.std.specs.Result.{IsErr, IsErrAnd}
 use Rattle.std.specs.Option.{option_or}
 use Rattle.ks_fixdep.specs.declared.command_file.Dep.{Dep}
 use Rattle.ks_fixdep.specs.declared.command_file.CommandError.{CommandError}
 use Rattle.ks_fixdep.specs.declared.command_file.CommandError.TheVariants as errors
-use Rattle.ks_fixdep.specs.CommandLines.{lines, content}
-use Rattle.ks_fixdep.specs.CommandReading.{◌>>=◌, Fails, Gives, said, generation_from, deps_in, dep_in, onto_deps}
+use Rattle.ks_fixdep.specs.CommandLines.{content}
+use Rattle.ks_fixdep.specs.CommandForms.{dep_in}
+use Rattle.ks_fixdep.specs.CommandAnswers.{Fails, Gives}
+use Rattle.ks_fixdep.specs.CommandReading.{◌>>=◌, said, generation_from, deps_in, onto_deps}
 
 -- a fault goes through
 pub fails-through : {A B : Type 0} (e : CommandError) (r : Result A ℕ) (s : Result B ℕ) → ((m : ℕ) → r ≡ Err m → s ≡ Err m) → Fails e r → Fails e s

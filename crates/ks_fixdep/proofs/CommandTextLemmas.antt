@@ -1,5 +1,5 @@
 -- The lines of a written text are those of the layout and the line of the generation, and so the text reads as what was written.
-use Rattle.std.proofs.Common.{◌≡◌, ℕ, ◌-◌, ◌<◌, ◌^◌, Bool, true, false, List, [], ◌∷◌, ◌++◌, length, refl, sym, ap, ◌∙◌, Option, Some, None, append_assoc, map}
+use Rattle.std.proofs.Common.{◌≡◌, ℕ, ◌<◌, ◌^◌, Bool, true, false, List, [], ◌∷◌, ◌++◌, length, refl, sym, ap, ◌∙◌, Option, Some, None, append_assoc, map}
 use Rattle.std.specs.Prelude.{◌==◌, ◌&&◌, ◌||◌, not, nat_le, nat_lt, codes, flat_map, decimal, if◌then◌else◌, IfSome, is_some, option_and_then, unwrap_or}
 use Rattle.std.specs.List.{list_all, filter_map, cons_option, onto_first}
 use Rattle.std.specs.Char.{is_ascii_digit}
@@ -8,13 +8,13 @@ use Rattle.std.proofs.lemmas.Bool.{cond-false}
 use Rattle.std.proofs.lemmas.List.{map-append}
 use Rattle.std.proofs.lemmas.List.Folds.{list_all-append}
 use Rattle.memchr.specs.Find.{last_of}
-use Rattle.ks_symbols.specs.Names.{is_name, is_path, is_target, is_path_byte, is_word_byte}
+use Rattle.ks_symbols.specs.Names.{is_name, is_path, is_path_byte, is_word_byte}
 use Rattle.ks_symbols.specs.Decimal.{decimal_value, is_canonical, starts_well}
 use Rattle.ks_fixdep.specs.declared.command_file.Dep.{Dep}
 use Rattle.ks_fixdep.specs.declared.command_file.Dep.TheVariants.{File, Config}
-use Rattle.ks_fixdep.specs.CommandLines.{line_feed, lines, content, behind, before, between}
-use Rattle.ks_fixdep.specs.CommandFile.{Record, is_command, is_command_byte, is_dep, IsLegal, dep_line, deps_begin, target_line, deps_end, layout, generation_mark, generation_line, ended, command_text}
-use Rattle.ks_fixdep.specs.CommandReads.{generation_in, is_sound, LinesRead, CommandReads}
+use Rattle.ks_fixdep.specs.CommandLines.{line_feed, lines, content, behind, before}
+use Rattle.ks_fixdep.specs.CommandFile.{Record, is_command, is_command_byte, is_dep, IsLegal, dep_line, target_line, deps_end, layout, generation_mark, generation_line, ended, command_text}
+use Rattle.ks_fixdep.specs.CommandReads.{generation_in, is_sound, CommandReads}
 use Rattle.ks_fixdep.proofs.CommandFormLemmas.{and-parts, other-byte, all-imp, path-bytes, target-path, before-end, behind-front}
 
 -- ---- no line of the layout has a line feed in it, so the lines of the text are these

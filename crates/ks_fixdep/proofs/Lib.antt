@@ -16,4 +16,5 @@ pub mod CommandStepLemmas
 pub mod CommandFormLemmas
 pub mod CommandFitLemmas
 pub mod CommandTextLemmas
+pub mod CommandFaultLemmas
 pub mod CommandWriteLemmas

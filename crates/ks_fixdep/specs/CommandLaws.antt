@@ -1,7 +1,8 @@
 -- What reading and writing a command file come to.
-use Rattle.std.specs.Prelude.{◌≡◌, ℕ, List, Ok}
+use Rattle.std.specs.Prelude.{◌≡◌, ℕ, List, Ok, Err}
+use Rattle.ks_fixdep.specs.CommandLines.{lines}
 use Rattle.ks_fixdep.specs.CommandFile.{Record, IsLegal, command_text}
-use Rattle.ks_fixdep.specs.CommandReads.{CommandReads}
+use Rattle.ks_fixdep.specs.CommandReads.{CommandReads, IsFirstMisfit}
 use Rattle.ks_fixdep.specs.CommandReading.{reading}
 
 -- what is written of a command file is a text of it, and reads as it
@@ -18,3 +19,7 @@ ReadFits = (text : List ℕ) (f : Record) → reading text ≡ Ok f → CommandR
 -- what fits is read
 abbrev pub FitsRead : Type 0
 FitsRead = (text : List ℕ) (f : Record) → CommandReads text f → reading text ≡ Ok f
+
+-- a refusal names the first line that does not fit
+abbrev pub RefusedAtFirst : Type 0
+RefusedAtFirst = (text : List ℕ) (n : ℕ) → reading text ≡ Err n → IsFirstMisfit (lines text) n

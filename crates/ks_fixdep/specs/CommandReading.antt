@@ -1,68 +1,17 @@
--- What a text reads as, or the number of its first line that does not fit: the forms of the lines, and the lines by their numbers.
-use Rattle.std.specs.Prelude.{◌≡◌, ℕ, ◌+◌, Bool, ◌&&◌, List, [], ◌∷◌, length, take, drop, Option, Some, None, Result, Ok, Err, ⊤, codes, if◌then◌else◌, option_and_then}
+-- What a text reads as, or the number of its first line that does not fit: the lines by their numbers, each in its form.
+use Rattle.std.specs.Prelude.{ℕ, ◌+◌, List, [], ◌∷◌, length, drop, Option, Some, None, Result, Ok, Err, if◌then◌else◌, option_and_then}
 use Rattle.std.specs.Option.{option_or}
 use Rattle.std.specs.Str.{bytes_eq}
-use Rattle.std.specs.Borrow.{Bor}
-use Rattle.memchr.specs.Find.{first_of, matches}
-use Rattle.ks_symbols.specs.Names.{is_name, is_path, is_target}
 use Rattle.ks_symbols.specs.Decimal.{decimal_value}
-use Rattle.ks_fixdep.specs.declared.command_file.CommandError.{CommandError}
-use Rattle.ks_fixdep.specs.declared.command_file.CommandError.TheVariants as errors
 use Rattle.ks_fixdep.specs.declared.command_file.Dep.{Dep}
-use Rattle.ks_fixdep.specs.declared.command_file.Dep.TheVariants.{File, Config}
-use Rattle.ks_fixdep.specs.CommandLines.{line_feed, lines, content, behind, before, between}
-use Rattle.ks_fixdep.specs.CommandFile.{Record, is_command, deps_begin, target_line, deps_end, generation_mark}
+use Rattle.ks_fixdep.specs.CommandLines.{line_feed, lines, content, behind, before}
+use Rattle.ks_fixdep.specs.CommandFile.{Record, deps_begin, target_line, deps_end, generation_mark}
+use Rattle.ks_fixdep.specs.CommandForms.{saved_command, source_in, dep_in}
 
 infixl 10 ◌>>=◌
 abbrev pub ◌>>=◌ : {A B : Type 0} → Result A ℕ → (A → Result B ℕ) → Result B ℕ
 (Ok x) >>= f = f x
 (Err n) >>= f = Err n
-
--- ---- forms of lines
-
--- the value, if it passes
-abbrev pub checked : {A : Type 0} → (A → Bool) → A → Option A
-checked test x = if test x then Some x else None
-
--- what stands before and behind a separator at a place
-abbrev pub cut : List ℕ → List ℕ → Option ℕ → Option (List ℕ × List ℕ)
-cut separator xs None = None
-cut separator xs (Some k) = Some (take k xs, drop (k + length separator) xs)
-
--- what stands before and behind the first separator
-abbrev pub split_once : List ℕ → List ℕ → Option (List ℕ × List ℕ)
-split_once separator xs = cut separator xs (first_of (matches xs separator 0))
-
--- the target and the command
-unfoldable pub saved_command : List ℕ → Option (List ℕ × List ℕ)
-saved_command line =
-    option_and_then (checked (λ p. is_target p.0 && is_command p.1))
-    (option_and_then (split_once (codes " := ")) (behind (codes "savedcmd_") line))
-
--- the source
-unfoldable pub source_in : List ℕ → List ℕ → Option (List ℕ)
-source_in target line =
-    let named = option_and_then (behind target) (behind (codes "source_") line) in
-    option_and_then (checked is_path) (option_and_then (behind (codes " := ")) named)
-
--- the path of a listed file
-unfoldable pub path_in : List ℕ → Option (List ℕ)
-path_in line = option_and_then (checked is_path) (between (codes "  ") (codes " \\") line)
-
--- the name that was found
-unfoldable pub name_in : List ℕ → Option (List ℕ)
-name_in line = option_and_then (checked is_name) (between (codes "    $(wildcard include/config/") (codes ") \\") line)
-
-abbrev pub either_dep : Option (List ℕ) → Option (List ℕ) → Option Dep
-either_dep (Some name) path = Some (Config name)
-either_dep None (Some path) = Some (File path)
-either_dep None None = None
-
--- the file or the name of a dependency line
-unfoldable pub dep_in : List ℕ → Option Dep
-dep_in line = either_dep (name_in line) (path_in line)
-
--- ---- lines by their numbers
 
 abbrev pub or_fault : {A : Type 0} → ℕ → Option A → Result A ℕ
 or_fault n None = Err n
@@ -111,8 +60,6 @@ generation_from n (l ∷ ls) = do
   later ← generation_from (n + 1) ls
   Ok (option_or later own)
 
--- ---- the whole
-
 -- the generation of the lines behind the dependency lines, the first of which has number n
 unfoldable pub end_from : ℕ → List ℕ → List (List ℕ) → Result (Option ℕ) ℕ
 end_from n target ls = do
@@ -135,21 +82,3 @@ record_in ls = do
 -- what a text reads as, or the number of its first line that does not fit
 abbrev pub reading : List ℕ → Result Record ℕ
 reading text = record_in (lines text)
-
--- ---- what a call answers
-
--- A refusal is that of the definition, or want of memory.
-abbrev pub Fails : {Y : Type 0} → CommandError → Result Y ℕ → Type 0
-Fails errors.OutOfMemory read = ⊤
-Fails errors.TooLarge read = ⊥
-Fails (errors.BadCommandFile n) read = read ≡ Err n
-
--- The answer, seen by view, is what the definition gives, and so is a refusal, want of memory aside.
-abbrev pub Gives : {X Y : Type 0} → (X → Y) → Result X CommandError → Result Y ℕ → Type 0
-Gives view (Ok x) read = read ≡ Ok (view x)
-Gives view (Err e) read = Fails e read
-
--- the two parts of a line, without where they lie in memory
-abbrev pub copied_pair : Option (Bor (List ℕ) × Bor (List ℕ)) → Option (List ℕ × List ℕ)
-copied_pair None = None
-copied_pair (Some p) = Some (p.0.now, p.1.now)

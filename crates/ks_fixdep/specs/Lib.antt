@@ -14,7 +14,9 @@ pub mod Progress
 pub mod CommandLines
 pub mod CommandFile
 pub mod CommandReads
+pub mod CommandForms
 pub mod CommandReading
+pub mod CommandAnswers
 pub mod CommandLaws
 pub mod CommandExamples
 pub mod CommandWriting

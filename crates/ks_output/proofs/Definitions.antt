@@ -21,7 +21,7 @@ use Rattle.ks_symbols.specs.Configuration.{IsEntry}
 use Rattle.ks_symbols.proofs.Spellings.{run_is, word_bytes}
 use Rattle.ks_output.specs.Header.{header_heading, has_radix, switch_value, defined_as, definition_lines, header_text}
 use Rattle.ks_output.specs.Definitions.{without_lf, lf_lines, Defines, defines, definitions}
-use Rattle.ks_output.specs.Laws.{definition_of, DefinitionsAreLines, DefinitionsAreOfEntries, AlikeIsDefinedAlike}
+use Rattle.ks_output.specs.HeaderLaws.{definition_of, DefinitionsAreLines, DefinitionsAreOfEntries, AlikeIsDefinedAlike}
 use Rattle.ks_output.proofs.Entries.{order, find_below, tied, AllEntries, all_entries, first, second}
 use Rattle.ks_output.proofs.Texts.{texts_are_of_entries}
 use Rattle.ks_output.proofs.WrittenLines.{is_plain, and_parts, plain-append, plain_name, plain_title, plain_text, lines-plain, ends_with-plain, take_front, drop_front, opened}

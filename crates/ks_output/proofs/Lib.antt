@@ -1,8 +1,10 @@
 pub mod Definitions
 pub mod Entries
+pub mod LastLine
 pub mod LastRemark
 pub mod LegalNames
 pub mod Pieces
 pub mod ReadBack
 pub mod Texts
+pub mod Worked
 pub mod WrittenLines

@@ -29,7 +29,7 @@ use Rattle.ks_output.proofs.Texts.{texts_are_of_entries}
 use Rattle.ks_output.proofs.WrittenLines.{is_plain, and_parts, plain-append, plain_name, plain_digits, plain_title, plain_text, lines-plain, without_terminator-plain, ends_with-plain}
 
 -- what a line says that holds no end of a line but its own
-said_by : List ℕ → Remark
+unfoldable pub said_by : List ℕ → Remark
 said_by l =
     if starts_with nat_eq l generation_mark then numbered true (decimal_value (drop 12 l))
     else (if is_silent l then Silent else assigned (statement l))
@@ -77,7 +77,7 @@ heading_remarks title rest h =
     ∙ ap (λ q. Silent ∷ Silent ∷ Silent ∷ q) (next (35 ∷ []) rest Silent refl said_by_mark)
 
 -- the lines of the entries
-said_by_entry : (name text : List ℕ) → is_name name ≡ true → said_by (codes "CONFIG_" ++ name ++ codes "=" ++ text) ≡ Gives name text
+pub said_by_entry : (name text : List ℕ) → is_name name ≡ true → said_by (codes "CONFIG_" ++ name ++ codes "=" ++ text) ≡ Gives name text
 unfolding said_by
 said_by_entry name text h =
     let line = codes "CONFIG_" ++ name ++ codes "=" ++ text in

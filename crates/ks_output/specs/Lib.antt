@@ -5,4 +5,6 @@ pub mod OldConfig
 pub mod Header
 pub mod Definitions
 pub mod Laws
+pub mod HeaderLaws
+pub mod Examples
 pub mod Appending

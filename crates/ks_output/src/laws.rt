@@ -1,7 +1,14 @@
 //! Laws of the definitions: what the layers above rest on, and what a reader may check the definitions by.
 //!
 //! Each law is the contract of a call that does nothing.
-ghost use Rattle.ks_output.specs.Laws.{AlikeIsDefinedAlike, DefinitionsAreLines, DefinitionsAreOfEntries, GenerationReadsBack, HasNoFault, IsAccepted, TextsAreOfEntries, TextsHaveNames, TextsReadBack};
+ghost use Rattle.ks_output.specs.Examples.{DefinitionLines, FilesOfSwitches, LinesRead, MacrosRead};
+ghost use Rattle.ks_output.specs.HeaderLaws.{AlikeIsDefinedAlike, DefinitionsAreLines, DefinitionsAreOfEntries};
+ghost use Rattle.ks_output.specs.Laws.{GenerationReadsBack, HasNoFault, IsAccepted, LastLineCounts, TextsAreOfEntries, TextsHaveNames, TextsReadBack};
+
+/// An auto.conf gives a name what the last line about it spells.
+pub fn last_lines_count()
+    ensures { LastLineCounts }
+{}
 
 /// An auto.conf that was written of a configuration reads back: its texts and its generation, and it is accepted.
 pub fn auto_texts_read_back()
@@ -26,4 +33,12 @@ pub fn definitions_are_lines()
 pub fn entries_are_defined()
     ensures entries { DefinitionsAreOfEntries }
     ensures alike { AlikeIsDefinedAlike }
+{}
+
+/// The formats as they stand on a disk, by worked examples.
+pub fn examples_are_worked()
+    ensures files { FilesOfSwitches }
+    ensures definitions { DefinitionLines }
+    ensures lines { LinesRead }
+    ensures macros { MacrosRead }
 {}

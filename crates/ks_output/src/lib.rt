@@ -10,6 +10,10 @@ mod old_config;
 pub use auto_conf::{AutoError, read_auto, write_auto};
 pub use header::write_header;
 pub use laws::{
-    auto_texts_read_back, definitions_are_lines, entries_are_defined, texts_are_of_entries,
+    auto_texts_read_back, definitions_are_lines, entries_are_defined, examples_are_worked,
+    last_lines_count, texts_are_of_entries,
 };
 pub use old_config::{OldConfig, OldEntries};
+
+#[cfg(test)]
+mod tests;

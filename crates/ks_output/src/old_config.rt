@@ -6,7 +6,7 @@ ghost use Rattle.std.specs.Prelude.{◌≡◌, OnOk, option_map};
 ghost use Rattle.std.specs.FinMap as map;
 ghost use Rattle.std.specs.Iterator.{item_count};
 ghost use Rattle.std.specs.Map.Iter.{TakesFirst};
-ghost use Rattle.ks_output.specs.OldConfig.{lent_old_entry};
+ghost use Rattle.ks_output.specs.OldConfig.{HasNames, lent_old_entry};
 
 use std::alloc::{AllocError, Global};
 use std::collections::BTreeMap;
@@ -69,6 +69,7 @@ impl OldConfig {
     pub fn empty(alloc: Global) -> OldConfig
         ensures texts { result.texts ≡ map.empty }
         ensures generation { result.generation ≡ 0 }
+        ensures names { HasNames result.texts }
     {
         OldConfig {
             texts: BTreeMap::new(alloc),

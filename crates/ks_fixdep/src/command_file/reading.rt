@@ -7,8 +7,10 @@ ghost use Rattle.ks_symbols.specs.Names.{is_name, is_path, is_target};
 ghost use Rattle.ks_symbols.specs.Lines.{max_bytes};
 ghost use Rattle.ks_fixdep.specs.CommandLines.{lines, content};
 ghost use Rattle.ks_fixdep.specs.CommandFile.{view};
+ghost use Rattle.ks_fixdep.specs.CommandForms as Forms;
 ghost use Rattle.ks_fixdep.specs.CommandReading as Reading;
-ghost use Rattle.ks_fixdep.specs.CommandReading.{Gives, reading};
+ghost use Rattle.ks_fixdep.specs.CommandReading.{reading};
+ghost use Rattle.ks_fixdep.specs.CommandAnswers.{Gives, copied_pair};
 ghost use Rattle.ks_fixdep.specs.declared.command_file.CommandError.TheVariants.{TooLarge};
 
 use super::{CommandError, CommandFile, Dep, command_is_legal};
@@ -35,10 +37,7 @@ fn split_line(text: &[u8]) -> (&[u8], &[u8])
 fn content_of(line: &[u8]) -> &[u8]
     ensures { result.now ≡ content line.now }
 {
-    match line.strip_suffix(b"\n") {
-        Some(content) => content,
-        None => line,
-    }
+    line.strip_suffix(b"\n").unwrap_or(line)
 }
 
 /// The first line without its line feed, and what follows it.
@@ -81,9 +80,9 @@ fn fixed_at<'a>(number: u64, parts: &[&[u8]], text: &'a [u8]) -> Result<&'a [u8]
 }
 
 /// The target and the command of a line.
-#[tactic(auto, unfolding(crate::specs::CommandReading::saved_command, ks_symbols::specs::Names::is_target))]
+#[tactic(auto, unfolding(crate::specs::CommandForms::saved_command, ks_symbols::specs::Names::is_target))]
 fn saved_command(line: &[u8]) -> Option<(&[u8], &[u8])>
-    ensures value { Reading.copied_pair result ≡ Reading.saved_command line.now }
+    ensures value { copied_pair result ≡ Forms.saved_command line.now }
     ensures legal { IfSome result (λ p. IsTrue (is_path p.0.now)) }
 {
     let named = line.strip_prefix(b"savedcmd_")?;
@@ -96,9 +95,9 @@ fn saved_command(line: &[u8]) -> Option<(&[u8], &[u8])>
 }
 
 /// The source of a line.
-#[tactic(auto, unfolding(crate::specs::CommandReading::source_in))]
+#[tactic(auto, unfolding(crate::specs::CommandForms::source_in))]
 fn source_in<'a>(target: &[u8], line: &'a [u8]) -> Option<&'a [u8]>
-    ensures value { option_copied result ≡ Reading.source_in target.now line.now }
+    ensures value { option_copied result ≡ Forms.source_in target.now line.now }
     ensures legal { IfSome result (λ x. IsTrue (is_path x.now)) }
 {
     let source = line
@@ -113,9 +112,9 @@ fn source_in<'a>(target: &[u8], line: &'a [u8]) -> Option<&'a [u8]>
 }
 
 /// The name of a dependency line.
-#[tactic(auto, unfolding(crate::specs::CommandReading::name_in))]
+#[tactic(auto, unfolding(crate::specs::CommandForms::name_in))]
 fn name_in(line: &[u8]) -> Option<&[u8]>
-    ensures value { option_copied result ≡ Reading.name_in line.now }
+    ensures value { option_copied result ≡ Forms.name_in line.now }
     ensures legal { IfSome result (λ x. IsTrue (is_name x.now)) }
 {
     let name = line
@@ -129,9 +128,9 @@ fn name_in(line: &[u8]) -> Option<&[u8]>
 }
 
 /// The path of a dependency line.
-#[tactic(auto, unfolding(crate::specs::CommandReading::path_in))]
+#[tactic(auto, unfolding(crate::specs::CommandForms::path_in))]
 fn path_in(line: &[u8]) -> Option<&[u8]>
-    ensures value { option_copied result ≡ Reading.path_in line.now }
+    ensures value { option_copied result ≡ Forms.path_in line.now }
     ensures legal { IfSome result (λ x. IsTrue (is_path x.now)) }
 {
     let path = line.strip_prefix(b"  ")?.strip_suffix(b" \\")?;
@@ -160,9 +159,9 @@ fn said(number: u64, line: &[u8]) -> Result<Option<u64>, CommandError>
 }
 
 /// The file or the name of a dependency line.
-#[tactic(auto, unfolding(crate::specs::CommandReading::dep_in))]
+#[tactic(auto, unfolding(crate::specs::CommandForms::dep_in))]
 fn dep_in(alloc: Global, line: &[u8]) -> Result<Option<Dep>, AllocError>
-    ensures { IfOk result (λ d. d ≡ Reading.dep_in line.now) }
+    ensures { IfOk result (λ d. d ≡ Forms.dep_in line.now) }
 {
     if let Some(name) = name_in(line) {
         return Ok(Some(Dep::Config(Name::new(alloc, name)?)));
@@ -186,9 +185,7 @@ fn dependencies(alloc: Global, text: &[u8]) -> Result<(Vec<Dep>, &[u8]), AllocEr
         let Some(dep) = dep_in(alloc, content_of(line))? else {
             return Ok((deps, rest));
         };
-        let Ok(()) = deps.push(dep) else {
-            return Err(AllocError);
-        };
+        deps.push(dep)?;
         rest = after;
     }
     Ok((deps, rest))
@@ -227,7 +224,7 @@ fn end_from(number: u64, target: &[u8], text: &[u8]) -> Result<Option<u64>, Comm
 /// The target and the command of the first line, and what follows it.
 #[tactic(auto, unfolding(crate::specs::CommandReading::form_at))]
 fn saved_at(text: &[u8]) -> Result<((&[u8], &[u8]), &[u8]), CommandError>
-    ensures value { Gives (λ x. ((x.0.0.now, x.0.1.now), lines x.1.now)) result (Reading.form_at 1 Reading.saved_command (lines text.now)) }
+    ensures value { Gives (λ x. ((x.0.0.now, x.0.1.now), lines x.1.now)) result (Reading.form_at 1 Forms.saved_command (lines text.now)) }
     ensures legal { IfOk result (λ x. IsTrue (is_path x.0.0.now)) }
     ensures shorter { IfOk result (λ x. length x.1.now < length text.now) }
 {
@@ -241,7 +238,7 @@ fn saved_at(text: &[u8]) -> Result<((&[u8], &[u8]), &[u8]), CommandError>
 /// The source of the line with number 3, and what follows it.
 #[tactic(auto, unfolding(crate::specs::CommandReading::form_at))]
 fn source_at<'a>(target: &[u8], text: &'a [u8]) -> Result<(&'a [u8], &'a [u8]), CommandError>
-    ensures value { Gives (λ x. (x.0.now, lines x.1.now)) result (Reading.form_at 3 (Reading.source_in target.now) (lines text.now)) }
+    ensures value { Gives (λ x. (x.0.now, lines x.1.now)) result (Reading.form_at 3 (Forms.source_in target.now) (lines text.now)) }
     ensures legal { IfOk result (λ x. IsTrue (is_path x.0.now)) }
     ensures shorter { IfOk result (λ x. length x.1.now < length text.now) }
 {

@@ -15,9 +15,7 @@ fn push_line(out: &mut Vec<u8>, parts: &[&[u8]]) -> Result<(), AllocError>
     for part in parts {
         out.extend_from_slice(part)?;
     }
-    let Ok(()) = out.push(b'\n') else {
-        return Err(AllocError);
-    };
+    out.push(b'\n')?;
     Ok(())
 }
 
@@ -67,9 +65,7 @@ fn push_generation(out: &mut Vec<u8>, generation: Option<u64>) -> Result<(), All
     if let Some(number) = generation {
         out.extend_from_slice(b"#generation ")?;
         write_decimal(number, out)?;
-        let Ok(()) = out.push(b'\n') else {
-            return Err(AllocError);
-        };
+        out.push(b'\n')?;
     }
     Ok(())
 }

@@ -1,7 +1,8 @@
-use Rattle.std.proofs.Common.{◌≡◌, ◌+◌, ◌<◌, ◌∷◌, ◌++◌, [], length, length-append, drop, sym, ap, ◌∙◌, arith, rules, Some, None, append-nil, append_assoc}
+use Rattle.std.proofs.Common.{◌≡◌, ◌+◌, ◌<◌, ◌∷◌, ◌++◌, [], length, length-append, drop, sym, ap, ◌∙◌, arith, append-nil, append_assoc}
 use Rattle.std.proofs.lemmas.Bool.Decides.{nat_tests}
 use Rattle.ks_fixdep.specs.CommandLines.{lines}
-use Rattle.ks_fixdep.specs.CommandReading.{deps_in, dep_in}
+use Rattle.ks_fixdep.specs.CommandForms.{dep_in}
+use Rattle.ks_fixdep.specs.CommandReading.{deps_in}
 use Rattle.ks_fixdep.proofs.CommandLineLemmas.{lines-none}
 use Rattle.ks_fixdep.proofs.CommandStepLemmas.{deps-step, deps-stop, deps-nil, drop-one}
 use Rattle.ks_fixdep.proofs.command_file.reading.dependencies.Goals as goal
@@ -23,7 +24,7 @@ loop-alloc-preserved c =
     let some : 0 < length c.loop-alloc.rest.now = grind (arith, nat_tests) in
     let is = c.split_line.ensures.first some in
     let found = ap dep_in (sym c.content_of.ensures) ∙ sym c.in_ok-dep.ensures ∙ c.in-Some.is in
-    let pushed : c.push.new.self.items ≡ items ++ dep ∷ [] = c.in-Ok.ensures.items in
+    let pushed : c.push.new.self.items ≡ items ++ dep ∷ [] = c.in_ok-push.ensures.items in
     let more : length c.push.new.self.items ≡ length items + 1 = ap length pushed ∙ length-append items (dep ∷ []) in
     record {
       same = ap (λ l. l ++ deps_in after) pushed ∙ append_assoc items (dep ∷ []) (deps_in after)

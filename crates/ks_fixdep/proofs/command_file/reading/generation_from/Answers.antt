@@ -1,4 +1,4 @@
-use Rattle.std.proofs.Common.{◌≡◌, ◌+◌, ◌<◌, ◌∷◌, [], length, sym, ap, ◌∙◌, arith, rules, Some, None}
+use Rattle.std.proofs.Common.{◌+◌, ◌<◌, length, sym, ap, ◌∙◌, arith}
 use Rattle.std.proofs.lemmas.Bool.Decides.{nat_tests}
 use Rattle.ks_fixdep.specs.CommandLines.{lines}
 use Rattle.ks_fixdep.specs.CommandReading.{said, generation_from}

@@ -1,4 +1,4 @@
-use Rattle.std.proofs.Common.{◌≡◌, ◌<◌, ◌+◌, ◌++◌, ◌∷◌, [], suc, drop, take, length, refl, sym, ap, ◌∙◌, true, false, drop-cons, get_or, Bor, List, ℕ, arith, Bool}
+use Rattle.std.proofs.Common.{◌≡◌, ◌<◌, ◌+◌, [], suc, drop, take, length, sym, ap, ◌∙◌, drop-cons, get_or, Bor, List, ℕ, arith}
 use Rattle.std.specs.Prelude.{flat_map, ◌&&◌}
 use Rattle.std.specs.Str.{bytes_eq}
 use Rattle.ks_fixdep.proofs.CommandLineLemmas.{front-eq}

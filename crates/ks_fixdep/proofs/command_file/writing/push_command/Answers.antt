@@ -1,4 +1,4 @@
-use Rattle.std.proofs.Common.{◌≡◌, ◌++◌, sym, ap, ◌∙◌}
+use Rattle.std.proofs.Common.{◌≡◌, ◌++◌, ap, ◌∙◌}
 use Rattle.ks_fixdep.specs.CommandFile.{view, command_text}
 use Rattle.ks_fixdep.proofs.CommandWriteLemmas.{front, back, deps, last, text-parts, four-parts, on-ok}
 use Rattle.ks_fixdep.proofs.command_file.writing.push_command.Goals as goal

@@ -1,14 +1,14 @@
-use Rattle.std.proofs.Common.{◌≡◌, ◌++◌, ◌∷◌, [], sym, ap, ◌∙◌, append_assoc, append-nil, decimal, Some}
+use Rattle.std.proofs.Common.{◌++◌, ◌∷◌, [], sym, ap, ◌∙◌, append_assoc, append-nil, decimal}
 use Rattle.std.specs.Prelude.{codes, flat_map}
 use Rattle.ks_fixdep.specs.CommandFile.{ended, generation_line}
 use Rattle.ks_fixdep.proofs.command_file.writing.push_generation.Goals as goal
 
-pub returns-in-Ok-clause-ok : goal.returns-in-Ok-clause-ok
-returns-in-Ok-clause-ok c =
+pub returns-in_ok-push-clause-ok : goal.returns-in_ok-push-clause-ok
+returns-in_ok-push-clause-ok c =
     let out = c.args.out.now.items in
     let mark = codes "#generation " in
     let d = decimal c.in-Some.number in
-    c.in-Ok.ensures.items
+    c.in_ok-push.ensures.items
     ∙ ap (λ l. l ++ 10 ∷ []) (c.in_ok-write_decimal.ensures.written ∙ ap (λ l. l ++ d) c.in_ok-extend_from_slice.ensures.items)
     ∙ append_assoc (out ++ mark) d (10 ∷ [])
     ∙ append_assoc out mark (d ++ 10 ∷ [])

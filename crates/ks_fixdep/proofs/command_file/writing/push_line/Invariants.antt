@@ -1,7 +1,5 @@
-use Rattle.std.proofs.Common.{◌≡◌, ◌++◌, take, map}
+use Rattle.std.proofs.Common.{◌≡◌, ◌++◌, take}
 use Rattle.std.specs.Prelude.{flat_map}
-use Rattle.ks_fixdep.specs.CommandFile.{ended, dep_line}
-use Rattle.ks_fixdep.specs.CommandWriting.{joined}
 use Rattle.ks_fixdep.proofs.command_file.writing.push_line.Given as goal
 
 -- what was written so far

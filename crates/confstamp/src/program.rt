@@ -1,0 +1,48 @@
+//! The program over any tree and any two writers: its words in, its status out.
+ghost use Rattle.std.specs.Prelude.{◌≡◌, ◌↔◌, ℕ, List, ◌∷◌, [], None, codes};
+ghost use Rattle.clap.specs.Walk.{texts};
+ghost use Rattle.ks_commands.specs.Outputs.{WritesPreview};
+ghost use Rattle.confstamp.specs.Words.{IsPlainWord};
+
+use crate::words::{WordsError, request_of};
+use ks_commands::{Refusal, perform, refuse};
+use ks_tree::Tree;
+use std::alloc::Global;
+use std::io::Write;
+
+/// Prints what `clap` has to say in place of a request: help and the version to the output, status 0, and a
+/// mistake in the words to standard error, status 2.
+fn explain<W: Write, E: Write>(error: &clap::Error, out: &mut W, err: &mut E) -> u8 {
+    if error.use_stderr() {
+        let _ = write!(err, "{error}");
+        let _ = err.flush();
+        return 2;
+    }
+    if write!(out, "{error}").is_ok() && out.flush().is_ok() {
+        0
+    } else {
+        refuse(err, &Refusal::Output)
+    }
+}
+
+/// Runs the command that the words after the program's name make, and answers the exit status: 0 done, 2 refused.
+pub fn execute<'a, T: Tree, W: Write, E: Write>(
+    alloc: Global,
+    tree: &mut T,
+    words: &'a [&'a str],
+    out: &mut W,
+    err: &mut E,
+) -> u8
+    ensures honest { T.is_honest tree.old ↔ T.is_honest tree.new }
+    ensures preview { (k d : List ℕ) → texts words.entry.now ≡ codes "preview" ∷ k ∷ d ∷ []
+        → IsPlainWord k → IsPlainWord d → T.is_honest tree.old → result ≡ 0
+        → WritesPreview (T.files tree.old) k d None (W.contents out.old) (W.contents out.new) }
+    ensures unchanged { (k d : List ℕ) → texts words.entry.now ≡ codes "preview" ∷ k ∷ d ∷ []
+        → IsPlainWord k → IsPlainWord d → T.is_honest tree.old → T.files tree.new ≡ T.files tree.old }
+{
+    match request_of(alloc, words) {
+        Ok(request) => perform(alloc, tree, &request, out, err),
+        Err(WordsError::Refused(error)) => explain(&error, out, err),
+        Err(WordsError::OutOfMemory) => refuse(err, &Refusal::OutOfMemory),
+    }
+}

@@ -1,0 +1,123 @@
+//! What the words after the program's name ask for.
+ghost use Rattle.std.specs.Prelude.{◌≡◌, ℕ, List, [], ◌∷◌, IfErr, IfOk, Option, codes, Some, None, option_map, string_bytes};
+ghost use Rattle.clap.specs.Words.{first_value, found_of, kind_of};
+ghost use Rattle.clap.specs.Walk.{texts};
+ghost use Rattle.clap.specs.declared.error.kind.ErrorKind.TheVariants.{OutOfMemory as NoMemory};
+ghost use Rattle.ks_commands.specs.Requests.{IsPreviewOf};
+ghost use Rattle.confstamp.specs.Words.{IsPlainWord, IsWantOfMemory};
+
+use crate::command_line::command_line;
+use clap::ArgMatches;
+use clap::error::ErrorKind;
+use ks_commands::Request;
+use std::alloc::{AllocError, Global};
+use thiserror::Error;
+
+/// Why the words are no request.
+#[derive(Debug, Drop, Error)]
+pub enum WordsError {
+    /// What `clap` has to say in place of a request: a mistake in the words, help, or the version.
+    #[error("{0}")]
+    Refused(clap::Error),
+    #[error("10 OutOfMemory")]
+    OutOfMemory,
+}
+
+impl From<AllocError> for WordsError {
+    ghost from_gives = { λ _ w. IsWantOfMemory w };
+
+    fn from(_error: AllocError) -> WordsError {
+        WordsError::OutOfMemory
+    }
+}
+
+impl From<clap::Error> for WordsError {
+    ghost from_gives = { λ e w. kind_of e ≡ NoMemory → IsWantOfMemory w };
+
+    fn from(error: clap::Error) -> WordsError {
+        match error.kind() {
+            ErrorKind::OutOfMemory => WordsError::OutOfMemory,
+            _ => WordsError::Refused(error),
+        }
+    }
+}
+
+/// The word of the required argument `id`.
+fn word(alloc: Global, matches: &ArgMatches<'_>, id: &str) -> Result<String, AllocError>
+    ensures { IfOk result (λ s. (t : List ℕ) → first_value (found_of matches.now) id.now ≡ Some t → string_bytes s ≡ t) }
+{
+    String::from_str(alloc, matches.get_str(id).unwrap_or(""))
+}
+
+/// The word of the argument `id`, where it is there.
+fn optional_word(
+    alloc: Global,
+    matches: &ArgMatches<'_>,
+    id: &str,
+) -> Result<Option<String>, AllocError>
+    ensures { IfOk result (λ o. option_map (λ s. string_bytes s) o ≡ first_value (found_of matches.now) id.now) }
+{
+    match matches.get_str(id) {
+        Some(text) => Ok(Some(String::from_str(alloc, text)?)),
+        None => Ok(None),
+    }
+}
+
+fn preview_request(alloc: Global, matches: &ArgMatches<'_>) -> Result<Request, AllocError>
+    ensures { IfOk result (λ r. (k d : List ℕ)
+        → first_value (found_of matches.now) (codes "KCONFIG") ≡ Some k
+        → first_value (found_of matches.now) (codes "DOTCONFIG") ≡ Some d
+        → IsPreviewOf k d (first_value (found_of matches.now) (codes "OLDAUTO")) r) }
+{
+    Ok(Request::Preview {
+        kconfig: word(alloc, matches, "KCONFIG")?,
+        dotconfig: word(alloc, matches, "DOTCONFIG")?,
+        old: optional_word(alloc, matches, "OLDAUTO")?,
+    })
+}
+
+fn fixdep_request(alloc: Global, matches: &ArgMatches<'_>) -> Result<Request, AllocError> {
+    Ok(Request::Fixdep {
+        depfile: word(alloc, matches, "DEPFILE")?,
+        target: word(alloc, matches, "TARGET")?,
+        command: word(alloc, matches, "COMMAND")?,
+    })
+}
+
+/// The request of the command `name` with these matches.
+fn request_named(alloc: Global, name: &str, matches: &ArgMatches<'_>) -> Result<Request, AllocError>
+    ensures preview { IfOk result (λ r. (k d : List ℕ) → name.now ≡ codes "preview"
+        → first_value (found_of matches.now) (codes "KCONFIG") ≡ Some k
+        → first_value (found_of matches.now) (codes "DOTCONFIG") ≡ Some d
+        → IsPreviewOf k d (first_value (found_of matches.now) (codes "OLDAUTO")) r) }
+{
+    if name == "preview" {
+        preview_request(alloc, matches)
+    } else {
+        fixdep_request(alloc, matches)
+    }
+}
+
+/// That a command is missing. `clap` says so itself before this can come.
+fn missing_command(alloc: Global) -> Result<WordsError, AllocError> {
+    let mut command = command_line(alloc)?;
+    let error = command.error(ErrorKind::MissingSubcommand, "a command is needed")?;
+    Ok(WordsError::Refused(error))
+}
+
+/// The request that the words after the program's name make. A word that begins with `-` is taken behind `--`.
+pub fn request_of<'a>(alloc: Global, words: &'a [&'a str]) -> Result<Request, WordsError>
+    ensures preview { IfOk result (λ r. (k d : List ℕ)
+        → texts words.entry.now ≡ codes "preview" ∷ k ∷ d ∷ []
+        → IsPlainWord k → IsPlainWord d → IsPreviewOf k d None r) }
+    ensures preview_taken { IfErr result (λ e. (k d : List ℕ)
+        → texts words.entry.now ≡ codes "preview" ∷ k ∷ d ∷ []
+        → IsPlainWord k → IsPlainWord d → IsWantOfMemory e) }
+{
+    let command = command_line(alloc)?;
+    let matches = command.try_get_matches_from(words)?;
+    match matches.subcommand() {
+        Some((name, inner)) => Ok(request_named(alloc, name, inner)?),
+        None => Err(missing_command(alloc)?),
+    }
+}

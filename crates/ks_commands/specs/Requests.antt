@@ -1,0 +1,10 @@
+-- What is asked of the program, without where its words lie.
+use Rattle.std.specs.Prelude.{◌≡◌, ℕ, List, Option, option_map, string_bytes}
+use Rattle.ks_commands.specs.declared.request.Request.{Request}
+use Rattle.ks_commands.specs.declared.request.Request.TheVariants.{Preview}
+
+-- the request is a preview of these two files, over this old auto.conf if there is one
+abbrev pub IsPreviewOf : List ℕ → List ℕ → Option (List ℕ) → Request → Type 0
+IsPreviewOf kconfig dotconfig old (Preview k d o) =
+    (string_bytes k ≡ kconfig) × (string_bytes d ≡ dotconfig) × (option_map (λ path. string_bytes path) o ≡ old)
+IsPreviewOf kconfig dotconfig old _ = ⊥

@@ -1,0 +1,66 @@
+//! Worked comparisons: an old auto.conf, new settings, and the names that changed.
+ghost use Rattle.ks_output.specs.OldConfig.{HasNames};
+
+use crate::changed;
+use ks_output::{OldConfig, read_auto};
+use ks_symbols::{read_dotconfig, read_kconfig};
+use std::alloc::{AllocError, Global};
+
+const KCONFIG: &[u8] =
+    b"config A\n\tbool\nconfig B\n\ttristate\nconfig S\n\tstring\nconfig H\n\thex\n";
+
+/// The names that change between an old configuration and a `.config`.
+fn changes(alloc: Global, old: &OldConfig, dotconfig: &[u8]) -> Result<String, AllocError>
+    requires { HasNames old.now.texts }
+{
+    let Ok(symbols) = read_kconfig(alloc, KCONFIG) else {
+        return String::from_str(alloc, "Kconfig");
+    };
+    let Ok(settings) = read_dotconfig(alloc, dotconfig, &symbols) else {
+        return String::from_str(alloc, ".config");
+    };
+    let mut names = String::new(alloc);
+    for name in &changed(alloc, old, &settings)? {
+        names.push_str(&String::from_utf8_lossy(alloc, name.as_bytes())?)?;
+        names.push_str(" ")?;
+    }
+    Ok(names)
+}
+
+#[test]
+fn first_comparison(rt: HostRuntime) -> Result<(), AllocError> {
+    let alloc = rt.alloc();
+    let none = OldConfig::empty(alloc);
+    assert!(rt; changes(alloc, &none, b"CONFIG_B=m\nCONFIG_A=y\n")?.as_str() == "A B ");
+    assert!(rt; changes(alloc, &none, b"")?.as_str() == "");
+    Ok(())
+}
+
+#[test]
+fn comparisons(rt: HostRuntime) -> Result<(), AllocError> {
+    let alloc = rt.alloc();
+    #[rattlefmt::skip]
+    let rows: [(&str, &[u8], &[u8], &str); 13] = [
+        ("an empty auto.conf", b"", b"CONFIG_B=m\nCONFIG_A=y\n", "A B "),
+        ("the same", b"CONFIG_A=y\nCONFIG_B=m\n#generation 1\n", b"CONFIG_B=m\nCONFIG_A=y\n", ""),
+        ("another text", b"CONFIG_A=y\nCONFIG_B=m\n#generation 1\n", b"CONFIG_A=y\nCONFIG_B=y\n", "B "),
+        ("a name that is off now", b"CONFIG_A=y\nCONFIG_B=m\n#generation 1\n", b"CONFIG_B=m\n", "A "),
+        ("a name that is off in both", b"CONFIG_B=m\n#generation 1\n", b"CONFIG_B=m\n# CONFIG_A is not set\n", ""),
+        ("a name that vanished", b"CONFIG_A=y\nCONFIG_Z=y\n", b"CONFIG_A=y\n", "Z "),
+        ("the last line of a name", b"CONFIG_A=n\nCONFIG_A=y\r\n", b"CONFIG_A=y\n", ""),
+        ("the string n", b"CONFIG_S=n\n", b"CONFIG_S=\"n\"\n", ""),
+        ("an empty string, as before", b"CONFIG_S=\n", b"CONFIG_S=\"\"\n", ""),
+        ("an empty string, and none before", b"CONFIG_A=y\n", b"CONFIG_A=y\nCONFIG_S=\"\"\n", "S "),
+        ("an empty string before, and none now", b"CONFIG_S=", b"", "S "),
+        ("the same number in other letters", b"CONFIG_H=0x1f\n", b"CONFIG_H=0x1F\n", "H "),
+        ("all at once, rising", b"CONFIG_Z=1\nCONFIG_B=m\nCONFIG_AA=y\n", b"CONFIG_S=\"x\"\nCONFIG_B=y\nCONFIG_A=y\n", "A AA B S Z "),
+    ];
+    for (name, auto, dotconfig, want) in rows {
+        let found = match read_auto(alloc, auto) {
+            Ok(old) => changes(alloc, &old, dotconfig)?,
+            Err(error) => error.to_string(alloc)?,
+        };
+        assert!(rt; found.as_str() == want, "{name}: {found}");
+    }
+    Ok(())
+}

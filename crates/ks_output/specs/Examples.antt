@@ -1,0 +1,50 @@
+-- Worked examples of the formats, as they stand on a disk.
+use Rattle.std.specs.Prelude.{◌≡◌, ℕ, true, false, List, [], ◌∷◌, codes}
+use Rattle.std.specs.FinMap as map
+use Rattle.ks_symbols.specs.declared.kinds.Kind.{Kind}
+use Rattle.ks_symbols.specs.declared.kinds.Kind.TheVariants as kind
+use Rattle.ks_symbols.specs.Configuration.{NameMap}
+use Rattle.ks_output.specs.AutoText.{auto_text}
+use Rattle.ks_output.specs.AutoLines.{Gives, Numbers, Silent, Faulty, remark}
+use Rattle.ks_output.specs.Header.{definition_line, header_text}
+use Rattle.ks_output.specs.Definitions.{defines}
+
+-- a bool and a module: both files
+abbrev pub FilesOfSwitches : Type 0
+FilesOfSwitches =
+    (settings : NameMap (Kind × List ℕ)) → map.entries settings ≡ (codes "A", (kind.Bool, codes "y")) ∷ (codes "B", (kind.Tristate, codes "m")) ∷ []
+    → (auto_text (codes "Demo") settings 1 ≡ codes "#\n# Automatically generated file; DO NOT EDIT.\n# Demo\n#\nCONFIG_A=y\nCONFIG_B=m\n#generation 1\n")
+    × (header_text (codes "Demo") settings ≡ codes "/*\n * Automatically generated file; DO NOT EDIT.\n * Demo\n */\n#define CONFIG_A 1\n#define CONFIG_B_MODULE 1\n")
+
+-- strings are quoted in the header, and numbers stand as they were written
+abbrev pub DefinitionLines : Type 0
+DefinitionLines =
+    (definition_line (codes "S") kind.Text (codes "a\"b\\c") ≡ codes "#define CONFIG_S \"a\\\"b\\\\c\"\n")
+    × (definition_line (codes "S") kind.Text [] ≡ codes "#define CONFIG_S \"\"\n")
+    × (definition_line (codes "S") kind.Text (codes "n") ≡ codes "#define CONFIG_S \"n\"\n")
+    × (definition_line (codes "H") kind.Hex (codes "1f") ≡ codes "#define CONFIG_H 0x1f\n")
+    × (definition_line (codes "H") kind.Hex (codes "0x1f") ≡ codes "#define CONFIG_H 0x1f\n")
+    × (definition_line (codes "H") kind.Hex (codes "0X1F") ≡ codes "#define CONFIG_H 0X1F\n")
+    × (definition_line (codes "I") kind.Int (codes "-12") ≡ codes "#define CONFIG_I -12\n")
+
+-- lines of an auto.conf
+abbrev pub LinesRead : Type 0
+LinesRead =
+    (remark (codes "CONFIG_S=a=b\r\n") ≡ Gives (codes "S") (codes "a=b"))
+    × (remark (codes "CONFIG_S=n\n") ≡ Gives (codes "S") (codes "n"))
+    × (remark (codes "CONFIG_S=") ≡ Gives (codes "S") [])
+    × (remark (codes "CONFIG_../x=y\n") ≡ Faulty)
+    × (remark (codes "# CONFIG_S is not set\n") ≡ Silent)
+    × (remark (codes "#generation 5\n") ≡ Numbers 5)
+    × (remark (codes "#generation 05\n") ≡ Faulty)
+    × (remark (codes "#generation 5") ≡ Faulty)
+
+-- The macro of a module defines the symbol; one _MODULE alone is cut off.
+abbrev pub MacrosRead : Type 0
+MacrosRead =
+    (defines (codes "B") (codes "#define CONFIG_B 1") ≡ true)
+    × (defines (codes "B") (codes "#define CONFIG_B_MODULE 1") ≡ true)
+    × (defines (codes "B_MODULE") (codes "#define CONFIG_B_MODULE 1") ≡ false)
+    × (defines (codes "C_MODULE") (codes "#define CONFIG_C_MODULE_MODULE 1") ≡ true)
+    × (defines (codes "B") (codes "#define CONFIG_BB 1") ≡ false)
+    × (defines (codes "B") (codes "#define CONFIG_B") ≡ false)

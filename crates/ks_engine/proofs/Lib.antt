@@ -10,3 +10,4 @@ pub mod Pieces
 pub mod Scanning
 pub mod Drafting
 pub mod RecordSteps
+pub mod Running

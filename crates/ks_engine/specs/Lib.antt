@@ -10,3 +10,5 @@ pub mod Shows
 pub mod Views
 pub mod Drafts
 pub mod Follows
+pub mod Actions
+pub mod Runs

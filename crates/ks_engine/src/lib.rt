@@ -1,6 +1,7 @@
 //! Synchronising a tree, recording its objects, and the question which of them are stale.
 #![tactic(auto)]
 
+mod commands;
 mod error;
 mod last_sync;
 mod recording;
@@ -8,6 +9,7 @@ mod sources;
 mod staleness;
 mod synchronise;
 
+pub use commands::{Command, Reply, run};
 pub use error::EngineError;
 pub use recording::{Recorded, record_object};
 pub use sources::scan_all;

@@ -1,0 +1,204 @@
+-- A run goes on by one action; and what its last history says of each of its steps.
+use Rattle.std.proofs.Common.{◌≡◌, ◌⊎◌, ℕ, ◌+◌, ◌<◌, List, [], ◌∷◌, ◌++◌, ◌∙◌, ap, sym, refl, subst, subst₂, inl, inr, ⊎_elim, Result, Ok, Err, Some, map, take, length, get_or}
+use Rattle.std.specs.List.{All}
+use Rattle.std.proofs.lemmas.List.{take_more, map-append}
+use Rattle.std.proofs.lemmas.List.Elements.{All-nil, All-cons, All-head, All-tail}
+use Rattle.ks_engine.specs.Actions.{Action, Sync, Record, Stale, action}
+use Rattle.ks_engine.specs.declared.commands.Command.{Command}
+use Rattle.ks_engine.specs.declared.commands.Reply.{Reply}
+use Rattle.ks_engine.specs.declared.commands.Reply.TheVariants.{Synced, Recorded, Verdict, Refused}
+use Rattle.ks_engine.specs.declared.error.EngineError.{EngineError}
+use Rattle.ks_engine.specs.declared.staleness.Verdict.{Verdict as VerdictValue}
+use Rattle.ks_engine.specs.declared.staleness.Verdict.TheVariants.{Fresh}
+use Rattle.ks_engine.specs.Refusals.{GaveUp}
+use Rattle.ks_engine.specs.History.{History, Synced as SyncedEvent, Broken as BrokenEvent, Recorded as RecordedEvent, Record as LastRecord, Configuration, last_record, NoneBroken}
+use Rattle.ks_engine.specs.Staleness.{first_changed, first_suspect, verdict}
+use Rattle.ks_engine.specs.Legal.{HasConfiguration, HasOneKind}
+use Rattle.ks_engine.specs.Judged.{HasSameDefinitions, IsJudged}
+use Rattle.ks_engine.specs.Follows.{State, IsBrokenEvent}
+use Rattle.ks_engine.specs.Runs.{IsShown, Step, Follows, Leaves, Leads, Run, IsSuspectVerdict, IsChangedVerdict, IsSafeVerdict, IsGivenUpSync}
+
+-- a run, before anything is said of its verdicts
+pub record Trace (first : State) (asked : List Action) (answered : List Reply) (last : State) : Type 0 where
+  pub steps : List Step
+  pub actions : map (λ step. step.action) steps ≡ asked
+  pub replies : map (λ step. step.reply) steps ≡ answered
+  pub leads : Leads first steps last
+  pub shown : IsShown last
+
+pub no_steps : (first : State) → IsShown first → Trace first [] [] first
+no_steps first shown = record { steps = []; actions = refl; replies = refl; leads = refl; shown = shown }
+
+leads_more : (first : State) (steps : List Step) (mid : State) (step : Step) → Leads first steps mid → step.before ≡ mid
+    → Follows step.before step.action step.reply step.after → IsShown step.after → Leads first (steps ++ step ∷ []) step.after
+leads_more first [] mid step leads begins follows shown = (begins ∙ leads, follows, shown, refl)
+leads_more first (s ∷ ss) mid step leads begins follows shown = (leads.0, leads.1, leads.2, leads_more s.after ss mid step leads.3 begins follows shown)
+
+trace_more : (first : State) (acts : List Action) (rs : List Reply) (mid : State) (a : Action) (r : Reply) (last : State)
+    → Trace first acts rs mid → Follows mid a r last → IsShown last → Trace first (acts ++ a ∷ []) (rs ++ r ∷ []) last
+trace_more first acts rs mid a r last trace follows shown =
+    let step : Step = record { before = mid; action = a; reply = r; after = last } in
+    record {
+      steps = trace.steps ++ step ∷ [];
+      actions = map-append (λ s. s.action) trace.steps (step ∷ []) ∙ ap (λ xs. xs ++ a ∷ []) trace.actions;
+      replies = map-append (λ s. s.reply) trace.steps (step ∷ []) ∙ ap (λ xs. xs ++ r ∷ []) trace.replies;
+      leads = leads_more first trace.steps mid step trace.leads refl follows shown;
+      shown = shown;
+    }
+
+-- the same, of the commands up to a place
+pub more : (first : State) (cs : List Command) (i : ℕ) (d : Command) (rs new : List Reply) (mid : State) (r : Reply) (last : State)
+    → i < length cs → Trace first (map action (take i cs)) rs mid → Follows mid (action (get_or cs i d)) r last → IsShown last → new ≡ rs ++ r ∷ []
+    → Trace first (map action (take (i + 1) cs)) new last
+more first cs i d rs new mid r last test trace follows shown items =
+    subst₂ (λ acts qs. Trace first acts qs last)
+    (sym (map-append action (take i cs) (get_or cs i d ∷ [])) ∙ ap (map action) (sym (take_more cs i d test)))
+    (sym items)
+    (trace_more first (map action (take i cs)) rs mid (action (get_or cs i d)) r last trace follows shown)
+
+-- ---- what an action adds to a history: nothing, a completed synchronisation, a record, or a broken synchronisation where it was given up
+
+GoesOn : History → Action → Reply → History → Type 0
+GoesOn h a r next =
+    (next ≡ h)
+    ⊎ (((t : List ℕ) × (c : Configuration) × (next ≡ SyncedEvent t c h))
+    ⊎ (((o : List ℕ) × (w : List ℕ) × (names : List (List ℕ)) × (header : List ℕ) × (next ≡ RecordedEvent o w names header h))
+    ⊎ (IsGivenUpSync a r × ((t : List ℕ) × (c : Configuration) × (renewed : List (List ℕ)) × (next ≡ BrokenEvent t c renewed h)))))
+
+goes_on : (old : State) (a : Action) (r : Reply) (new : State) → Leaves old a r new → GoesOn old.history a r new.history
+unfolding GoesOn
+goes_on old (Sync k d) (Synced report) new is = inr (inl (is.files.plan.title, is.files.plan.config, is.history))
+goes_on old (Sync k d) (Refused e) new (inl plain) = inl plain.1.1
+goes_on old (Sync k d) (Refused e) new (inr (given, inl same)) = inl same.1
+goes_on old (Sync k d) (Refused e) new (inr (given, inr (broken, inl event))) = inr (inr (inr (given, (broken.plan.title, broken.plan.config, broken.some.0, event))))
+goes_on old (Sync k d) (Refused e) new (inr (given, inr (broken, inr event))) = inr (inl (broken.plan.title, broken.plan.config, event))
+goes_on old (Sync k d) (Recorded answer) new is = absurd is
+goes_on old (Sync k d) (Verdict v) new is = absurd is
+goes_on old (Record d o c) (Recorded answer) new is = inr (inr (inl (o, c, is.files.plan.names, is.header, is.history)))
+goes_on old (Record d o c) (Refused e) new (inl plain) = inl plain.1.1
+goes_on old (Record d o c) (Refused e) new (inr (given, inl same)) = inl same.1
+goes_on old (Record d o c) (Refused e) new (inr (given, inr (tried, inl kept))) = inl kept
+goes_on old (Record d o c) (Refused e) new (inr (given, inr (tried, inr event))) = inr (inr (inl (o, c, tried.plan.names, event.0, event.2)))
+goes_on old (Record d o c) (Synced report) new is = absurd is
+goes_on old (Record d o c) (Verdict v) new is = absurd is
+goes_on old (Stale o) (Verdict v) new is = inl is.same.1
+goes_on old (Stale o) (Refused e) new is = inl is.same.1
+goes_on old (Stale o) (Synced report) new is = absurd is
+goes_on old (Stale o) (Recorded answer) new is = absurd is
+
+-- What a history goes on to has no broken synchronisation only where it has none itself, ..
+none_before : (h : History) (a : Action) (r : Reply) (next : History) → GoesOn h a r next → NoneBroken next → NoneBroken h
+unfolding GoesOn
+none_before h a r next (inl same) none = subst NoneBroken same none
+none_before h a r next (inr (inl (t, c, is))) none = subst NoneBroken is none
+none_before h a r next (inr (inr (inl (o, w, names, header, is)))) none = subst NoneBroken is none
+none_before h a r next (inr (inr (inr (given, (t, c, renewed, is))))) none = absurd (subst NoneBroken is none)
+
+-- .. has none where no synchronisation was given up, ..
+none_after : (h : History) (a : Action) (r : Reply) (next : History) → GoesOn h a r next → (IsGivenUpSync a r → ⊥) → NoneBroken h → NoneBroken next
+unfolding GoesOn
+none_after h a r next (inl same) kept none = subst NoneBroken (sym same) none
+none_after h a r next (inr (inl (t, c, is))) kept none = subst NoneBroken (sym is) none
+none_after h a r next (inr (inr (inl (o, w, names, header, is)))) kept none = subst NoneBroken (sym is) none
+none_after h a r next (inr (inr (inr (given, is)))) kept none = absurd (kept given)
+
+-- .. and has its configurations.
+configuration_after : (h : History) (a : Action) (r : Reply) (next : History) → GoesOn h a r next → (d : Configuration) → HasConfiguration h d → HasConfiguration next d
+unfolding GoesOn
+configuration_after h a r next (inl same) d has = subst (λ n. HasConfiguration n d) (sym same) has
+configuration_after h a r next (inr (inl (t, c, is))) d has = subst (λ n. HasConfiguration n d) (sym is) (inr has)
+configuration_after h a r next (inr (inr (inl (o, w, names, header, is)))) d has = subst (λ n. HasConfiguration n d) (sym is) has
+configuration_after h a r next (inr (inr (inr (given, (t, c, renewed, is))))) d has = subst (λ n. HasConfiguration n d) (sym is) (inr has)
+
+-- ---- the same along the steps
+
+none_first : (first : State) (steps : List Step) (last : State) → Leads first steps last → NoneBroken last.history → NoneBroken first.history
+none_first first [] last leads none = subst (λ (s : State). NoneBroken s.history) leads none
+none_first first (s ∷ ss) last leads none =
+    subst (λ (t : State). NoneBroken t.history) leads.0
+    (none_before s.before.history s.action s.reply s.after.history (goes_on s.before s.action s.reply s.after leads.1.leaves) (none_first s.after ss last leads.3 none))
+
+none_last : (first : State) (steps : List Step) (last : State) → Leads first steps last → NoneBroken first.history
+    → All (λ step. IsGivenUpSync step.action step.reply → ⊥) steps → NoneBroken last.history
+none_last first [] last leads none kept = subst (λ (s : State). NoneBroken s.history) (sym leads) none
+none_last first (s ∷ ss) last leads none kept =
+    none_last s.after ss last leads.3
+    (none_after s.before.history s.action s.reply s.after.history (goes_on s.before s.action s.reply s.after leads.1.leaves) (All-head (λ step. IsGivenUpSync step.action step.reply → ⊥) s ss kept)
+    (subst (λ (t : State). NoneBroken t.history) (sym leads.0) none))
+    (All-tail (λ step. IsGivenUpSync step.action step.reply → ⊥) s ss kept)
+
+configuration_last : (first : State) (steps : List Step) (last : State) → Leads first steps last → (c : Configuration) → HasConfiguration first.history c → HasConfiguration last.history c
+configuration_last first [] last leads c has = subst (λ (s : State). HasConfiguration s.history c) (sym leads) has
+configuration_last first (s ∷ ss) last leads c has =
+    configuration_last s.after ss last leads.3 c
+    (configuration_after s.before.history s.action s.reply s.after.history (goes_on s.before s.action s.reply s.after leads.1.leaves) c (subst (λ (t : State). HasConfiguration t.history c) (sym leads.0) has))
+
+one_kind_first : (first : State) (steps : List Step) (last : State) → Leads first steps last → HasOneKind last.history → HasOneKind first.history
+one_kind_first first steps last leads one = λ c d has_c has_d. one c d (configuration_last first steps last leads c has_c) (configuration_last first steps last leads d has_d)
+
+-- ---- the verdict of a step
+
+same_verdict : (u v : VerdictValue) → ◌≡◌ {A = Result VerdictValue EngineError} (Ok u) (Ok v) → u ≡ v
+same_verdict u v e = cc
+
+told : (v w : VerdictValue) → GaveUp {A = VerdictValue} (Ok v) ⊎ (◌≡◌ {A = Result VerdictValue EngineError} (Ok v) (Ok w)) → v ≡ w
+told v w (inl given) = absurd given
+told v w (inr is) = same_verdict v w is
+
+suspect_verdict : (old : State) (a : Action) (r : Reply) (new : State) → Leaves old a r new → IsSuspectVerdict old.history a r
+suspect_verdict old (Stale o) (Verdict v) new is = λ w last. told v _ (is.recorded w last).suspect
+suspect_verdict old (Stale o) (Refused e) new is = tt
+suspect_verdict old (Stale o) (Synced e) new is = tt
+suspect_verdict old (Stale o) (Recorded e) new is = tt
+suspect_verdict old (Sync k d) r new is = tt
+suspect_verdict old (Record d o c) r new is = tt
+
+changed_verdict : (old : State) (a : Action) (r : Reply) (new : State) → NoneBroken old.history → Leaves old a r new → IsChangedVerdict old.history a r
+changed_verdict old (Stale o) (Verdict v) new none is = λ w last. told v _ ((is.recorded w last).changed none)
+changed_verdict old (Stale o) (Refused e) new none is = tt
+changed_verdict old (Stale o) (Synced e) new none is = tt
+changed_verdict old (Stale o) (Recorded e) new none is = tt
+changed_verdict old (Sync k d) r new none is = tt
+changed_verdict old (Record d o c) r new none is = tt
+
+safe_verdict : (old : State) (a : Action) (r : Reply) (new : State) → HasOneKind old.history → Leaves old a r new → IsSafeVerdict old a r
+safe_verdict old (Stale o) (Verdict v) new one is = λ w last fresh. (is.recorded w last).safe one (ap (λ x. Ok x) fresh)
+safe_verdict old (Stale o) (Refused e) new one is = tt
+safe_verdict old (Stale o) (Synced e) new one is = tt
+safe_verdict old (Stale o) (Recorded e) new one is = tt
+safe_verdict old (Sync k d) r new one is = tt
+safe_verdict old (Record d o c) r new one is = tt
+
+suspect_all : (first : State) (steps : List Step) (last : State) → Leads first steps last → All (λ step. IsSuspectVerdict step.before.history step.action step.reply) steps
+suspect_all first [] last leads = All-nil _
+suspect_all first (s ∷ ss) last leads =
+    All-cons (λ step. IsSuspectVerdict step.before.history step.action step.reply) s ss (suspect_verdict s.before s.action s.reply s.after leads.1.leaves) (suspect_all s.after ss last leads.3)
+
+changed_all : (first : State) (steps : List Step) (last : State) → Leads first steps last → NoneBroken last.history → All (λ step. IsChangedVerdict step.before.history step.action step.reply) steps
+changed_all first [] last leads none = All-nil _
+changed_all first (s ∷ ss) last leads none =
+    All-cons (λ step. IsChangedVerdict step.before.history step.action step.reply) s ss
+    (changed_verdict s.before s.action s.reply s.after
+    (none_before s.before.history s.action s.reply s.after.history (goes_on s.before s.action s.reply s.after leads.1.leaves) (none_first s.after ss last leads.3 none)) leads.1.leaves)
+    (changed_all s.after ss last leads.3 none)
+
+safe_all : (first : State) (steps : List Step) (last : State) → Leads first steps last → HasOneKind last.history → All (λ step. IsSafeVerdict step.before step.action step.reply) steps
+safe_all first [] last leads one = All-nil _
+safe_all first (s ∷ ss) last leads one =
+    All-cons (λ step. IsSafeVerdict step.before step.action step.reply) s ss
+    (safe_verdict s.before s.action s.reply s.after (one_kind_first s.before (s ∷ ss) last (refl, leads.1, leads.2, leads.3) one) leads.1.leaves)
+    (safe_all s.after ss last leads.3 one)
+
+-- From the steps alone all is told of the verdicts.
+pub run_of : (first : State) (acts : List Action) (rs : List Reply) (last : State) → Trace first acts rs last → Run first acts rs last
+run_of first acts rs last trace = record {
+  steps = trace.steps;
+  actions = trace.actions;
+  replies = trace.replies;
+  leads = trace.leads;
+  shown = trace.shown;
+  suspect = suspect_all first trace.steps last trace.leads;
+  changed = λ none. changed_all first trace.steps last trace.leads none;
+  safe = λ one. safe_all first trace.steps last trace.leads one;
+  unbroken = none_last first trace.steps last trace.leads;
+}

@@ -1,0 +1,38 @@
+use Rattle.std.proofs.Common.{◌≡◌, Err, sym, ap, subst}
+use Rattle.ks_engine.specs.declared.error.EngineError.{EngineError}
+use Rattle.ks_engine.specs.declared.error.EngineError.TheVariants.{Device}
+use Rattle.ks_engine.specs.declared.commands.Reply.TheVariants.{Synced, Refused}
+use Rattle.ks_engine.specs.Actions.{action}
+use Rattle.ks_engine.specs.Follows.{at}
+use Rattle.ks_engine.specs.Runs.{Follows}
+use Rattle.ks_engine.proofs.commands.answer.Goals as goal
+
+refused_is : (e : EngineError) → Refused e ≡ Refused Device → e ≡ Device
+refused_is e same = cc
+
+pub returns-in-Ok-clause-follows : goal.returns-in-Ok-clause-follows
+returns-in-Ok-clause-follows g c = λ honest h shows.
+    let n = c.in-Ok.ensures.follows honest h shows in (
+      n.0,
+      subst (λ command. Follows (at (g.T.Tree.files c.args.tree.now) (g.T.Tree.failures c.args.tree.now) h) (action command) (Synced c.in-Ok.report) (at (g.T.Tree.files c.sync.new.tree) (g.T.Tree.failures c.sync.new.tree) n.0))
+          (sym c.in-Sync.is) (record { leaves = n.1; cause = λ e. absurd cc }),
+      n.2,
+    )
+
+pub returns-in-Err-clause-follows : goal.returns-in-Err-clause-follows
+returns-in-Err-clause-follows g c = λ honest h shows.
+    let n = c.in-Err.ensures.follows honest h shows in (
+      n.0,
+      subst (λ command. Follows (at (g.T.Tree.files c.args.tree.now) (g.T.Tree.failures c.args.tree.now) h) (action command) (Refused c.in-Err.error) (at (g.T.Tree.files c.sync.new.tree) (g.T.Tree.failures c.sync.new.tree) n.0))
+          (sym c.in-Sync.is) (record { leaves = n.1; cause = λ e. c.in-Err.ensures.cause (ap (λ x. Err x) (refused_is c.in-Err.error e)) }),
+      n.2,
+    )
+
+pub returns-in-Err-record_object-clause-follows : goal.returns-in-Err-record_object-clause-follows
+returns-in-Err-record_object-clause-follows g c = λ honest h shows.
+    let n = c.in-Err-record_object.ensures.follows honest h shows in (
+      n.0,
+      subst (λ command. Follows (at (g.T.Tree.files c.args.tree.now) (g.T.Tree.failures c.args.tree.now) h) (action command) (Refused c.in-Err-record_object.error) (at (g.T.Tree.files c.record_object.new.tree) (g.T.Tree.failures c.record_object.new.tree) n.0))
+          (sym c.in-Record.is) (record { leaves = n.1; cause = λ e. c.in-Err-record_object.ensures.cause (ap (λ x. Err x) (refused_is c.in-Err-record_object.error e)) }),
+      n.2,
+    )

@@ -1,0 +1,92 @@
+-- Runs: actions with their replies, and the states between them.
+use Rattle.std.specs.Prelude.{◌≡◌, ◌⊎◌, ℕ, List, [], ◌∷◌, Some, Result, Ok, Err, map}
+use Rattle.std.specs.List.{All}
+use Rattle.ks_tree.specs.Files.{HasRisen}
+use Rattle.ks_engine.specs.declared.error.EngineError.{EngineError}
+use Rattle.ks_engine.specs.declared.error.EngineError.TheVariants.{Device}
+use Rattle.ks_engine.specs.declared.staleness.Verdict.{Verdict as VerdictValue}
+use Rattle.ks_engine.specs.declared.staleness.Verdict.TheVariants.{Fresh}
+use Rattle.ks_engine.specs.declared.commands.Reply.{Reply}
+use Rattle.ks_engine.specs.declared.commands.Reply.TheVariants.{Synced, Recorded, Verdict, Refused}
+use Rattle.ks_engine.specs.Refusals.{IsGivenUp, GaveUp}
+use Rattle.ks_engine.specs.History.{History, Record as LastRecord, last_record, NoneBroken}
+use Rattle.ks_engine.specs.Staleness.{first_changed, first_suspect, verdict}
+use Rattle.ks_engine.specs.Legal.{HasOneKind}
+use Rattle.ks_engine.specs.Shows.{Shows}
+use Rattle.ks_engine.specs.Asked.{asked, IsAnswer}
+use Rattle.ks_engine.specs.Judged.{HasSameDefinitions, IsJudged}
+use Rattle.ks_engine.specs.Follows.{State, IsSame, FollowsSync, FollowsRecord}
+use Rattle.ks_engine.specs.Actions.{Action, Sync, Record, Stale}
+
+abbrev pub IsShown : State → Type 0
+IsShown s = Shows s.files s.history
+
+-- A question changes nothing, and is answered by the files; of a recorded object, as its history says.
+pub record FollowsStale (old : State) (o : List ℕ) (answer : Result VerdictValue EngineError) (new : State) : Type 0 where
+  pub same : IsSame old new
+  pub by_files : GaveUp answer ⊎ IsAnswer old.files (asked old.files o) answer
+  pub recorded : (r : LastRecord) → last_record old.history o ≡ Some r → IsJudged old.files old.history o r answer
+
+-- the state after an action, by its reply
+abbrev pub Leaves : State → Action → Reply → State → Type 0
+Leaves old (Sync kconfig dotconfig) (Synced report) new = FollowsSync old kconfig dotconfig (Ok report) new
+Leaves old (Sync kconfig dotconfig) (Refused e) new = FollowsSync old kconfig dotconfig (Err e) new
+Leaves old (Record depfile target command) (Recorded answer) new = FollowsRecord old depfile target command (Ok answer) new
+Leaves old (Record depfile target command) (Refused e) new = FollowsRecord old depfile target command (Err e) new
+Leaves old (Stale target) (Verdict v) new = FollowsStale old target (Ok v) new
+Leaves old (Stale target) (Refused e) new = FollowsStale old target (Err e) new
+Leaves old _ _ new = ⊥
+
+-- .. and the device is to blame only where a failure was counted
+pub record Follows (old : State) (action : Action) (reply : Reply) (new : State) : Type 0 where
+  pub leaves : Leaves old action reply new
+  pub cause : reply ≡ Refused Device → HasRisen old.failures new.failures
+
+-- one action, with the states around it
+pub record Step : Type 0 where
+  pub before : State
+  pub action : Action
+  pub reply : Reply
+  pub after : State
+
+-- Each step begins where the one before it ended, and each state is shown.
+abbrev pub Leads : State → List Step → State → Type 0
+Leads first [] last = last ≡ first
+Leads first (step ∷ steps) last =
+    (step.before ≡ first) × Follows step.before step.action step.reply step.after × IsShown step.after × Leads step.after steps last
+
+-- A verdict on a recorded object is the first of its names that is suspect, ..
+abbrev pub IsSuspectVerdict : History → Action → Reply → Type 0
+IsSuspectVerdict h (Stale o) (Verdict v) = (r : LastRecord) → last_record h o ≡ Some r → v ≡ verdict (first_suspect h o)
+IsSuspectVerdict h _ _ = Unit {0}
+
+-- .. or the first that a completed synchronisation changed since the record.
+abbrev pub IsChangedVerdict : History → Action → Reply → Type 0
+IsChangedVerdict h (Stale o) (Verdict v) = (r : LastRecord) → last_record h o ≡ Some r → v ≡ verdict (first_changed h o)
+IsChangedVerdict h _ _ = Unit {0}
+
+-- Where a recorded object is called fresh, the header defines each of its names in the same lines as at its record.
+abbrev pub IsSafeVerdict : State → Action → Reply → Type 0
+IsSafeVerdict s (Stale o) (Verdict v) = (r : LastRecord) → last_record s.history o ≡ Some r → v ≡ Fresh → HasSameDefinitions s.files r
+IsSafeVerdict s _ _ = Unit {0}
+
+-- A synchronisation that was given up may have been broken off.
+abbrev pub IsGivenUpSync : Action → Reply → Type 0
+IsGivenUpSync (Sync kconfig dotconfig) (Refused e) = IsGivenUp e
+IsGivenUpSync _ _ = ⊥
+
+-- A run of actions with these replies: the steps, and what holds of the verdicts among them.
+pub record Run (first : State) (asked : List Action) (answered : List Reply) (last : State) : Type 0 where
+  pub steps : List Step
+  pub actions : map (λ step. step.action) steps ≡ asked
+  pub replies : map (λ step. step.reply) steps ≡ answered
+  pub leads : Leads first steps last
+  pub shown : IsShown last
+  -- whatever was broken off
+  pub suspect : All (λ step. IsSuspectVerdict step.before.history step.action step.reply) steps
+  -- where no synchronisation was broken off
+  pub changed : NoneBroken last.history → All (λ step. IsChangedVerdict step.before.history step.action step.reply) steps
+  -- where no name has two kinds
+  pub safe : HasOneKind last.history → All (λ step. IsSafeVerdict step.before step.action step.reply) steps
+  -- and none was broken off where no synchronisation was given up
+  pub unbroken : NoneBroken first.history → All (λ step. IsGivenUpSync step.action step.reply → ⊥) steps → NoneBroken last.history

@@ -1,5 +1,5 @@
 -- No two files of different kinds stand at one path.
-use Rattle.std.proofs.Common.{◌+◌, ◌-◌, ◌≤◌, ◌<◌, inl, inr, length, take, drop, get_or, append_assoc, arith, length-take, ◌≡◌, ◌≢◌, ℕ, List, [], ◌∷◌, ◌++◌, Bool, true, false, ◌&&◌, ◌||◌, cond, sym, ◌∙◌, ap, refl, subst, codes, nat_eq, IsTrue, true≢false, leb}
+use Rattle.std.proofs.Common.{◌+◌, ◌≤◌, ◌<◌, inl, inr, length, take, drop, get_or, append_assoc, arith, length-take, ◌≡◌, ◌≢◌, ℕ, List, [], ◌∷◌, ◌++◌, Bool, true, false, ◌||◌, cond, sym, ◌∙◌, ap, refl, subst, codes, nat_eq, IsTrue, true≢false}
 use Rattle.std.specs.List.{list_any, list_all}
 use Rattle.std.proofs.lemmas.Bool.{or_right, cases_eq, ne_eqb, and_parts, cond-true, cond-false}
 use Rattle.std.proofs.lemmas.List.{take_more, drop-append-le, drop_all, append_cancel_left, append_cancel_right}

@@ -1,8 +1,7 @@
 -- A path tells which of the files that the commands write stands at it.
-use Rattle.std.proofs.Common.{◌≡◌, ◌-◌, ◌+◌, ℕ, List, [], ◌∷◌, ◌++◌, codes, nat_eq, cond, length, take, drop, ap, sym, ◌∙◌, refl, IsTrue, length-append, append_assoc, arith}
+use Rattle.std.proofs.Common.{◌≡◌, ◌-◌, ℕ, List, ◌++◌, codes, nat_eq, cond, length, take, drop, ap, sym, ◌∙◌, refl, length-append, append_assoc, arith}
 use Rattle.std.proofs.lemmas.List.{take-append-le, take_all}
-use Rattle.ks_symbols.specs.Names.{is_name}
-use Rattle.ks_tree.specs.Paths.{auto_path, auto_temporary, header_path, header_temporary, stamp_path, stamp_temporary, command_path, command_temporary, dotted, Place, AutoConf, Header, Stamp, CommandFile, AutoTemporary, HeaderTemporary, StampTemporary, CommandTemporary, path_of, IsLegalPlace, PathsNeverMeet}
+use Rattle.ks_tree.specs.Paths.{auto_temporary, header_temporary, stamp_path, stamp_temporary, command_path, command_temporary, dotted, Place, AutoConf, Header, Stamp, CommandFile, AutoTemporary, HeaderTemporary, StampTemporary, CommandTemporary, path_of, IsLegalPlace, PathsNeverMeet}
 use Rattle.ks_tree.proofs.PathLemmas.{ending, has_dot, last, undotted, undotted-dotted, ending-stamp, ending-auto, ending-header, ending-command, ending-command_temporary, ending-auto_temporary, ending-header_temporary, ending-stamp_temporary}
 
 -- without its last n bytes

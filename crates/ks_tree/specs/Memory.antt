@@ -1,5 +1,5 @@
 -- The files of a tree in memory, and how they are lent.
-use Rattle.std.specs.Prelude.{◌≡◌, ℕ, List, Option, Vec, cond, bytes_eq}
+use Rattle.std.specs.Prelude.{ℕ, List, Vec}
 use Rattle.std.specs.Coded.{Coded, coded_ℕ, coded_list}
 use Rattle.std.specs.Borrow.{Bor}
 use Rattle.std.specs.FinMap as map

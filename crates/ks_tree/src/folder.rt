@@ -102,7 +102,9 @@ fn write_bytes<R: Files>(files: &R, place: &str, bytes: &[u8]) -> io::Result<()>
 
 impl<R: Files> FolderTree<R> {
     /// The tree of a folder. An empty root is the current folder.
-    pub fn new(files: R, root: String) -> FolderTree<R> {
+    pub fn new(files: R, root: String) -> FolderTree<R>
+        ensures { ⟦<FolderTree<R> as Tree>⟧.failures result ≡ 0 }
+    {
         FolderTree {
             files,
             root,

@@ -1,6 +1,4 @@
-use Rattle.std.proofs.Common.{IsTrue, ◌≡◌, ◌≢◌, ℕ, List, sym, ◌∙◌, arith}
-use Rattle.ks_tree.specs.Paths.{stamp_path, stamp_temporary}
-use Rattle.ks_symbols.specs.Names.{is_name}
+use Rattle.std.proofs.Common.{sym, ◌∙◌, arith}
 use Rattle.ks_tree.proofs.PathLemmas.{apart, ending-stamp, ending-stamp_temporary}
 use Rattle.ks_tree.proofs.stamps.touch.Goals as goal
 

@@ -1,6 +1,7 @@
 -- The laws of the layers below: all that the proofs here use of them beside the contracts of their calls.
 use Rattle.std.proofs.Common.{◌≡◌, ◌≢◌, ℕ, ◌≤◌, List, [], Option, Some, length, map}
-use Rattle.ks_output.specs.Laws.{TextsReadBack, GenerationReadsBack, IsAccepted, TextsAreOfEntries, AlikeIsDefinedAlike}
+use Rattle.ks_output.specs.Laws.{TextsReadBack, GenerationReadsBack, IsAccepted, TextsAreOfEntries}
+use Rattle.ks_output.specs.HeaderLaws.{AlikeIsDefinedAlike}
 use Rattle.ks_output.proofs.ReadBack.{texts_read_back, generation_reads_back, is_accepted}
 use Rattle.ks_output.proofs.Texts.{texts_are_of_entries}
 use Rattle.ks_output.proofs.Definitions.{alike_is_defined_alike}

@@ -3,7 +3,7 @@ use Rattle.std.specs.Prelude.{◌≡◌, ◌⊎◌, ℕ, ◌<◌, List, true, Is
 use Rattle.ks_symbols.specs.Configuration.{IsConfiguration}
 use Rattle.ks_symbols.specs.Titles.{is_title}
 use Rattle.ks_output.specs.Header.{header_text}
-use Rattle.ks_output.specs.Laws.{HasOneClass}
+use Rattle.ks_output.specs.HeaderLaws.{HasOneClass}
 use Rattle.ks_compare.specs.Changes.{differs, is_in}
 use Rattle.ks_engine.specs.History.{History, Begun, Synced, Broken, Recorded, Configuration, Texts, before, done}
 

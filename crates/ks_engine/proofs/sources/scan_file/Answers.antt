@@ -5,6 +5,15 @@ use Rattle.ks_engine.specs.Recording.{scanned}
 use Rattle.ks_engine.proofs.Pieces.{scanned_whole, scanned_large, piece_behind, same_source}
 use Rattle.ks_engine.proofs.sources.scan_file.Goals as goal
 
+pub returns-then-count-lt-PIECE-clause-names : goal.returns-then-count-lt-PIECE-clause-names
+returns-then-count-lt-PIECE-clause-names g c = λ honest.
+    let now = c.loop-source.invariant.honest.0 honest in
+    let read = subst (IsReadAt (content (g.T.Tree.files c.loop-source.tree) c.args.path.now) c.loop-source.offset c.loop-source.piece c.read_at.new.into) c.in-Some.is (c.in_ok-count.ensures.found now) in
+    let at = ap (λ f. content f c.args.path.now) (sym (c.loop-source.invariant.unchanged honest)) ∙ read.1 in
+    let standing = subst (StandsAfter c.feed.new.self) (piece_behind read.0 c.loop-source.piece c.read_at.new.into c.loop-source.offset c.in-Some.count read.2) (c.in_ok-feed.ensures _ (c.loop-source.invariant.stands honest read.0 at)) in
+    ap (scanned c.args.path.now) at
+    ∙ scanned_whole c.args.path.now read.0 c.loop-source.piece c.read_at.new.into _ c.loop-source.offset c.in-Some.count read.2 c.loop-source.invariant.room c.if-count-lt-PIECE.true c.if-offset.false (c.in_ok-finish.ensures _ standing)
+
 pub returns-then-offset-clause-names : goal.returns-then-offset-clause-names
 returns-then-offset-clause-names g c = λ honest.
     let now = c.loop-source.invariant.honest.0 honest in

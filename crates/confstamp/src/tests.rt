@@ -77,7 +77,11 @@ fn words_that_are_no_command(rt: HostRuntime) -> Result<(), Fail> {
         let found = run_words(alloc, words)?;
         assert!(rt; found.starts_with("2 error: "));
     }
-    for words in [["--help"].as_slice(), ["help", "preview"].as_slice(), ["--version"].as_slice()] {
+    for words in [
+        ["--help"].as_slice(),
+        ["help", "preview"].as_slice(),
+        ["--version"].as_slice(),
+    ] {
         let found = run_words(alloc, words)?;
         assert!(rt; found.starts_with("0 "));
     }

@@ -31,7 +31,9 @@ fn outcome(
 
 /// The lines of a preview's auto.conf that its title and entries stand between.
 fn whole(alloc: Global, touches: &str, title: &str, rest: &str) -> Result<String, AllocError> {
-    format!(in alloc; "{touches}#\n# Automatically generated file; DO NOT EDIT.\n# {title}\n#\n{rest}")
+    format!(in alloc;
+        "{touches}#\n# Automatically generated file; DO NOT EDIT.\n# {title}\n#\n{rest}"
+    )
 }
 
 #[test]

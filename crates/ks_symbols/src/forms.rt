@@ -212,4 +212,3 @@ pub(crate) fn form_of(line: &[u8]) -> Form<'_>
     let (word, rest) = next_word(text);
     word_form(text.len() == line.len(), word, rest)
 }
-

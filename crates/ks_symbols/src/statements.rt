@@ -73,4 +73,3 @@ pub fn is_silent(line: &[u8]) -> bool
 {
     line.is_empty() || line.starts_with(b"#")
 }
-

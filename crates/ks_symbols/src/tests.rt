@@ -125,7 +125,10 @@ fn names_and_paths(rt: HostRuntime) -> Result<(), AllocError> {
     let alloc = rt.alloc();
     let mut longer = Vec::from_slice(alloc, LONGEST)?;
     longer.push(b'N')?;
-    assert!(rt; name_is_legal(LONGEST) && !name_is_legal(&longer), "128 bytes and 129");
+    assert!(rt;
+        name_is_legal(LONGEST) && !name_is_legal(&longer),
+        "128 bytes and 129"
+    );
     assert!(rt; !name_is_legal(b"") && !name_is_legal(b"A-B") && name_is_legal(b"_0"));
     assert!(rt; path_is_legal(b"/a/../b.h") && !path_is_legal(b"a b") && !path_is_legal(b"a$b"));
     assert!(rt; !path_is_legal(b"a:") && path_is_legal(b"a/") && !target_is_legal(b"a/"));
@@ -152,9 +155,21 @@ fn values_and_lines(rt: HostRuntime) -> Result<(), AllocError> {
     let mut out = Vec::new(alloc);
     write_decimal(u64::MAX, &mut out)?;
     assert!(rt; out.as_slice() == b"18446744073709551615".as_slice());
-    assert!(rt; matches!(parse_statement(b"CONFIG_A=y=z"), Some(Statement::Assigns(b"A", b"y=z"))));
-    assert!(rt; matches!(parse_statement(b"# CONFIG_A is not set"), Some(Statement::Unsets(b"A"))));
-    assert!(rt; parse_statement(b"CONFIG_=y").is_none() && parse_statement(b"# CONFIG_A is not").is_none());
+    assert!(rt;
+        matches!(
+            parse_statement(b"CONFIG_A=y=z"),
+            Some(Statement::Assigns(b"A", b"y=z"))
+        )
+    );
+    assert!(rt;
+        matches!(
+            parse_statement(b"# CONFIG_A is not set"),
+            Some(Statement::Unsets(b"A"))
+        )
+    );
+    assert!(rt;
+        parse_statement(b"CONFIG_=y").is_none() && parse_statement(b"# CONFIG_A is not").is_none()
+    );
     assert!(rt; is_silent(b"") && is_silent(b"#") && !is_silent(b" "));
     Ok(())
 }
@@ -166,6 +181,8 @@ fn look_ups(rt: HostRuntime) -> Result<(), SourceError> {
     let settings = read_dotconfig(alloc, b"CONFIG_S=\"a\"\nCONFIG_H=1f\n", &symbols)?;
     assert!(rt; matches!(settings.get(b"S"), Some((Kind::Text, b"a"))));
     assert!(rt; settings.get(b"I").is_none() && settings.get(b"T").is_none());
-    assert!(rt; symbols.kind_of(b"H") == Some(Kind::Hex) && symbols.title() == b"Main menu".as_slice());
+    assert!(rt;
+        symbols.kind_of(b"H") == Some(Kind::Hex) && symbols.title() == b"Main menu".as_slice()
+    );
     Ok(())
 }

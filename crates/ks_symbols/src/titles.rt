@@ -42,4 +42,3 @@ pub(crate) fn is_title(title: &[u8]) -> bool
 {
     !title.is_empty() && title.len() <= MAX_TITLE && all_title_bytes(title) && !ends_comment(title)
 }
-

@@ -14,7 +14,7 @@ returns-in-Some-clause-preview c k d are first second =
     let rows_are = same_Some _ _ (c.in-Some.ensures.rows ∙ ap (option_map (λ q. q.1)) found) in
     let old_is = first_value-rows (found_of c.in-Some.inner.now) (codes "OLDAUTO") ∙ ap (first_of (codes "OLDAUTO")) rows_are in
     subst (λ (o : Option (List ℕ)). IsPreviewOf k d o c.in_ok-request_named-in-Some.field-0) old_is
-    (c.in_ok-request_named-in-Some.ensures k d name_is
+    (c.in_ok-request_named-in-Some.ensures.preview k d name_is
     (first_value-rows (found_of c.in-Some.inner.now) (codes "KCONFIG") ∙ ap (first_of (codes "KCONFIG")) rows_are)
     (first_value-rows (found_of c.in-Some.inner.now) (codes "DOTCONFIG") ∙ ap (first_of (codes "DOTCONFIG")) rows_are))
 

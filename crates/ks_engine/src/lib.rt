@@ -8,6 +8,8 @@ mod recording;
 mod sources;
 mod staleness;
 mod synchronise;
+#[cfg(test)]
+mod tests;
 
 pub use commands::{Command, Reply, run};
 pub use error::EngineError;

@@ -31,7 +31,7 @@ use Rattle.ks_engine.specs.Asked.{Asked, Answered, ByStamps, asked, asked_at, as
 use Rattle.ks_engine.specs.Judged.{HasSameDefinitions, IsJudged, IsBuildJudged}
 use Rattle.ks_engine.proofs.Heart.{suspect_since-lt, suspect_since-changed_since, generation-le, record_cases}
 use Rattle.ks_engine.proofs.Headers.{same_definitions}
-use Rattle.ks_engine.proofs.Laws.{one_number, short_stamp, read_fits}
+use Rattle.ks_engine.proofs.LowerLaws.{one_number, short_stamp, read_fits}
 use Rattle.ks_engine.proofs.Steps.{auto_read}
 
 -- ---- the steps of a question

@@ -17,7 +17,7 @@ use Rattle.ks_engine.specs.Shows.{Shows, IsCommandFile}
 use Rattle.ks_engine.specs.Follows.{at, FollowsRecord, IsRecordEvent}
 use Rattle.ks_engine.specs.Synchronised.{OldAuto, synced_at, last_generation}
 use Rattle.ks_engine.specs.Recording.{words, there, listed, scanned, scanned_all, followed, RecordPlan, numbered, drafted, record_plan, IsRecordPlan, IsRecorded, IsRecordTried, IsRecordRefused}
-use Rattle.ks_engine.proofs.Laws.{names_of_record, written_reads}
+use Rattle.ks_engine.proofs.LowerLaws.{names_of_record, written_reads}
 use Rattle.ks_engine.proofs.Steps.{IsRead, auto_read, recorded_shows, untouched_shows}
 
 -- ---- the parts of a plan

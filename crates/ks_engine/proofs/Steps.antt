@@ -20,7 +20,7 @@ use Rattle.ks_engine.specs.Legal.{IsSource, IsHistory, MayBeHeader}
 use Rattle.ks_engine.specs.Shows.{Shows, IsAuto, IsCommandFile, stamp}
 use Rattle.ks_engine.specs.Synchronised.{OldAuto, read_unless, old_auto, Sources, Plan, plan_over, IsSyncPlan, AreChanged, SyncLeaves}
 use Rattle.ks_engine.proofs.Heart.{record_cases}
-use Rattle.ks_engine.proofs.Laws.{texts_back, generation_back, accepted, apart, command-injective}
+use Rattle.ks_engine.proofs.LowerLaws.{texts_back, generation_back, accepted, apart, command-injective}
 use Rattle.ks_engine.proofs.Reading.{old_some}
 
 pub done_le : (h : History) → IsHistory h → done h ≤ 18446744073709551615

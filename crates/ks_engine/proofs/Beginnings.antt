@@ -1,5 +1,5 @@
 -- Trees to begin with, and the one plan of a synchronisation.
-use Rattle.std.proofs.Common.{◌≡◌, inl, inr, ℕ, List, Option, Some, None, Result, Ok, Err, refl, sym, ◌∙◌, ap, subst, nat_cmp, arith}
+use Rattle.std.proofs.Common.{◌≡◌, inl, inr, ℕ, List, Some, None, Err, refl, sym, ◌∙◌, ap, subst, nat_cmp, arith}
 use Rattle.std.specs.Cmp.Lexicographic.{slice_cmp, nat_list_cmp_total}
 use Rattle.std.specs.FinMap.{empty, get, get-empty, same_map, slice_cmp-IsAntisymmetric, nat_cmp-IsAntisymmetric}
 use Rattle.ks_symbols.specs.declared.error.SourceError.{SourceError}
@@ -9,7 +9,7 @@ use Rattle.ks_tree.specs.Stamps.{HasNumber}
 use Rattle.ks_engine.specs.Refusals.{of_source, and_then}
 use Rattle.ks_engine.specs.History.{Texts, Configuration}
 use Rattle.ks_engine.specs.Shows.{IsFirstAuto}
-use Rattle.ks_engine.specs.Synchronised.{Sources, AreSources, source_refusal, old_auto, plan_over}
+use Rattle.ks_engine.specs.Synchronised.{Sources, AreSources, old_auto, plan_over}
 use Rattle.ks_engine.specs.Laws.{EmptyTreeShows, UsualTreeShows, PlansAreOne}
 
 pub usual_shows : UsualTreeShows

@@ -184,6 +184,9 @@ fn one_reply_for_each_command(rt: HostRuntime) -> Result<(), Fail> {
         told.push_str(one.as_str())?;
         told.push_str("; ")?;
     }
-    assert_eq!(rt; told.as_str(), "generation 1 touched A B unknown 0; generation 1 names 3; fresh; 21 BadPath token 0; ");
+    assert_eq!(rt;
+        told.as_str(),
+        "generation 1 touched A B unknown 0; generation 1 names 3; fresh; 21 BadPath token 0; "
+    );
     Ok(())
 }

@@ -32,7 +32,11 @@ fn break_off(
             ),
         ],
     )?;
-    let mode = if half { FuseMode::Half } else { FuseMode::Clean };
+    let mode = if half {
+        FuseMode::Half
+    } else {
+        FuseMode::Clean
+    };
     let mut fuse = FuseTree::new(tree, passes, fails, mode);
     let told = answer(alloc, &mut fuse, Step::Sync(KCONFIG, ONLY_B))?;
     assert_eq!(rt; told.as_str(), "30 Device", "{passes} {half}");

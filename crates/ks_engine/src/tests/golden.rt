@@ -2,16 +2,26 @@
 use super::Step;
 
 pub const KCONFIG: &str = "mainmenu \"Demo\"\nconfig A\n\tbool\nconfig B\n\ttristate\n";
+
 pub const KCONFIG_D: &str =
     "mainmenu \"Demo\"\nconfig A\n\tbool\nconfig B\n\ttristate\nconfig D\n\tbool\n";
+
 pub const WITHOUT_A: &str = "mainmenu \"Demo\"\nconfig B\n\ttristate\n";
+
 pub const STRING: &str = "config S\n\tstring\n";
+
 pub const BOTH: &str = "CONFIG_A=y\nCONFIG_B=m\n";
+
 pub const ONLY_B: &str = "CONFIG_B=m\n";
 
-const AUTO: &str = "#\n# Automatically generated file; DO NOT EDIT.\n# Demo\n#\nCONFIG_A=y\nCONFIG_B=m\n#generation 1\n";
-const HEADER: &str = "/*\n * Automatically generated file; DO NOT EDIT.\n * Demo\n */\n#define CONFIG_A 1\n#define CONFIG_B_MODULE 1\n";
-const COMMAND_FILE: &str = "savedcmd_x.o := cc -c x.c\n\nsource_x.o := x.c\n\ndeps_x.o := \\\n    $(wildcard include/config/A) \\\n    $(wildcard include/config/B) \\\n  a.h \\\n    $(wildcard include/config/C) \\\n  b.h \\\n\nx.o: $(deps_x.o)\n\n$(deps_x.o):\n#generation 1\n";
+const AUTO: &str =
+    "#\n# Automatically generated file; DO NOT EDIT.\n# Demo\n#\nCONFIG_A=y\nCONFIG_B=m\n#generation 1\n";
+
+const HEADER: &str =
+    "/*\n * Automatically generated file; DO NOT EDIT.\n * Demo\n */\n#define CONFIG_A 1\n#define CONFIG_B_MODULE 1\n";
+
+const COMMAND_FILE: &str =
+    "savedcmd_x.o := cc -c x.c\n\nsource_x.o := x.c\n\ndeps_x.o := \\\n    $(wildcard include/config/A) \\\n    $(wildcard include/config/B) \\\n  a.h \\\n    $(wildcard include/config/C) \\\n  b.h \\\n\nx.o: $(deps_x.o)\n\n$(deps_x.o):\n#generation 1\n";
 
 /// An object's sources and its dependency file.
 pub const SOURCES: &[(Step<'_>, &str)] = &[

@@ -1,5 +1,5 @@
 -- What the files answer of an object, and what a shown tree answers of a recorded one.
-use Rattle.std.proofs.Common.{◌≡◌, ◌⊎◌, inl, inr, ⊎_elim, ℕ, suc, ◌+◌, ◌<◌, ◌≤◌, List, [], ◌∷◌, Option, Some, None, Result, Ok, Err, Bool, true, false, ◌&&◌, cond, nat_lt, nat_eq, sym, ◌∙◌, ap, ap₂, refl, subst, arith, length, get_or, drop, drop-cons, bytes_eq, find, lt_of_lt_of_le, option_map, IsTrue}
+use Rattle.std.proofs.Common.{◌≡◌, ◌⊎◌, inl, inr, ⊎_elim, ℕ, suc, ◌<◌, ◌≤◌, List, [], ◌∷◌, Option, Some, None, Result, Ok, Err, Bool, true, false, ◌&&◌, cond, nat_lt, sym, ◌∙◌, ap, ap₂, refl, subst, arith, length, get_or, drop, drop-cons, bytes_eq, find, lt_of_lt_of_le, IsTrue}
 use Rattle.std.specs.List.{list_all}
 use Rattle.std.proofs.lemmas.Bool.{lt-ltb, le-ltb, cond-false, cond-true, and_parts, and_from, ne_eqb, or_left, or_right, or_cases}
 use Rattle.std.proofs.lemmas.Slice.Eq.{bytes_eq-Decides}
@@ -9,7 +9,6 @@ use Rattle.ks_compare.specs.Changes.{is_in}
 use Rattle.ks_fixdep.specs.declared.command_file.Dep.{Dep}
 use Rattle.ks_fixdep.specs.declared.command_file.Dep.TheVariants.{File, Config}
 use Rattle.ks_fixdep.specs.CommandFile.{Record as CommandRecord, is_command, is_dep}
-use Rattle.ks_fixdep.specs.CommandReading.{reading}
 use Rattle.ks_fixdep.specs.Record.{config_names}
 use Rattle.ks_tree.specs.Files.{Files, content, IsTooLarge}
 use Rattle.ks_tree.specs.Paths.{auto_path, stamp_path, command_path}
@@ -22,16 +21,16 @@ use Rattle.ks_engine.specs.declared.staleness.Verdict.{Verdict}
 use Rattle.ks_engine.specs.declared.staleness.Verdict.TheVariants.{Fresh}
 use Rattle.ks_engine.specs.declared.staleness.BuildState.{BuildState}
 use Rattle.ks_engine.specs.Refusals.{of_stamp, IsGivenUp, GaveUp, and_then}
-use Rattle.ks_engine.specs.History.{History, Begun, Synced, Broken, Recorded, Record, done, last_record, NoneBroken}
-use Rattle.ks_engine.specs.Staleness.{found, names_of, changed_since, suspect_since, first_changed, first_suspect, verdict}
+use Rattle.ks_engine.specs.History.{History, Begun, Synced, Broken, Recorded, Record, done, last_record}
+use Rattle.ks_engine.specs.Staleness.{found, names_of, suspect_since, first_suspect, verdict}
 use Rattle.ks_engine.specs.Legal.{IsHistory, HasOneKind}
 use Rattle.ks_engine.specs.Shows.{Shows, stamp}
-use Rattle.ks_engine.specs.Synchronised.{OldAuto, old_auto, synced_at, last_generation}
+use Rattle.ks_engine.specs.Synchronised.{synced_at, last_generation}
 use Rattle.ks_engine.specs.Asked.{Asked, Answered, ByStamps, asked, asked_at, asked_since, asked_of, of_target, command_file, IsBadStamp, IsByStamps, IsAnswer, Built, Differs, Asks, built, built_by, judged, IsBuilt}
 use Rattle.ks_engine.specs.Judged.{HasSameDefinitions, IsJudged, IsBuildJudged}
 use Rattle.ks_engine.proofs.Heart.{suspect_since-lt, suspect_since-changed_since, generation-le, record_cases}
 use Rattle.ks_engine.proofs.Headers.{same_definitions}
-use Rattle.ks_engine.proofs.Laws.{one_number, short_stamp, read_fits}
+use Rattle.ks_engine.proofs.LowerLaws.{one_number, short_stamp, read_fits}
 use Rattle.ks_engine.proofs.Steps.{auto_read}
 
 -- ---- the steps of a question

@@ -1,5 +1,5 @@
 -- The command file that is written: its names are counted, its parts are legal, and it reads back.
-use Rattle.std.proofs.Common.{◌≡◌, ◌⊎◌, inl, inr, ℕ, suc, ◌+◌, ◌<◌, ◌≤◌, ◌^◌, List, [], ◌∷◌, Option, Some, None, Result, Ok, Err, true, sym, ◌∙◌, ap, refl, subst, arith, length, get_or, drop, map, cond, nat_lt, IsTrue}
+use Rattle.std.proofs.Common.{◌≡◌, ◌⊎◌, inl, inr, ℕ, suc, ◌+◌, ◌<◌, ◌≤◌, List, ◌∷◌, None, Result, Ok, Err, true, sym, ◌∙◌, ap, subst, arith, length, get_or, drop, IsTrue}
 use Rattle.std.specs.List.{list_all}
 use Rattle.std.proofs.lemmas.Bool.{and_from, lt-ltb, le-ltb, cond-true, cond-false}
 use Rattle.ks_symbols.specs.Lines.{max_bytes}

@@ -1,5 +1,5 @@
 -- A synchronisation goes on with each history that the files show.
-use Rattle.std.proofs.Common.{◌≡◌, ◌⊎◌, inl, inr, ⊎_elim, ℕ, ◌+◌, List, Result, Ok, Err, IfOk, IfErr, sym, ◌∙◌, ap, refl, subst}
+use Rattle.std.proofs.Common.{inl, inr, ⊎_elim, ℕ, ◌+◌, List, Result, Ok, Err, IfOk, IfErr, sym, ◌∙◌, ap, refl, subst}
 use Rattle.ks_tree.specs.Files.{Files}
 use Rattle.ks_engine.specs.declared.error.EngineError.{EngineError}
 use Rattle.ks_engine.specs.declared.synchronise.Report.{Report}

@@ -11,7 +11,7 @@ use Rattle.ks_engine.specs.History.{History, Begun, Synced, Broken, Recorded, Re
 use Rattle.ks_engine.specs.Staleness.{names_of, found, renewed_since_sync, suspect_since}
 use Rattle.ks_engine.specs.Legal.{AreAllRenewed, MayBeHeader, IsSource, IsHistory, HasConfiguration, HasOneKind}
 use Rattle.ks_engine.proofs.Heart.{record_cases}
-use Rattle.ks_engine.proofs.Laws.{alike, entry_texts}
+use Rattle.ks_engine.proofs.LowerLaws.{alike, entry_texts}
 
 differ-false : (a b : Option (List ℕ)) → differ a b ≡ false → a ≡ b
 differ-false None None e = refl

@@ -1,4 +1,4 @@
-pub mod Laws
+pub mod LowerLaws
 pub mod Heart
 pub mod Headers
 pub mod Reading
@@ -11,3 +11,4 @@ pub mod Scanning
 pub mod Drafting
 pub mod RecordSteps
 pub mod Running
+pub mod Beginnings

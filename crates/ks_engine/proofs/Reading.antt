@@ -1,18 +1,16 @@
 -- What the calls of the layers below give for the definitions of auto.conf and of the two texts.
-use Rattle.std.proofs.Common.{◌≡◌, ◌⊎◌, inl, inr, ℕ, ◌+◌, ◌^◌, ◌<◌, ◌≤◌, List, Option, Some, None, option_map, Result, Ok, Err, true, sym, ◌∙◌, ap, ap₂, refl, subst, length, IsTrue}
+use Rattle.std.proofs.Common.{◌≡◌, ◌⊎◌, inl, inr, ℕ, ◌+◌, ◌<◌, ◌≤◌, List, Option, Some, None, option_map, Result, Ok, Err, true, sym, ◌∙◌, ap, ap₂, refl, subst, length, IsTrue}
 use Rattle.std.proofs.lemmas.Bool.{lt-ltb, le-ltb, ne_eqb, cond-true, cond-false, and_parts}
 use Rattle.std.specs.Ordering.{nat_cmp}
 use Rattle.std.specs.Cmp.Lexicographic.{slice_cmp}
 use Rattle.std.specs.FinMap.{get, empty, get-empty}
-use Rattle.ks_symbols.specs.declared.error.SourceError.{SourceError}
-use Rattle.ks_symbols.specs.declared.error.SourceError.TheVariants as source
 use Rattle.ks_symbols.specs.declared.kinds.Kind.{Kind}
 use Rattle.ks_symbols.specs.Configuration.{NameMap, IsConfiguration}
 use Rattle.ks_symbols.specs.Names.{is_name, is_symbol_name}
 use Rattle.ks_symbols.specs.Lines.{max_bytes, lines}
 use Rattle.ks_symbols.specs.Kconfig.{declared, title_of, kconfig_refusal}
 use Rattle.ks_symbols.specs.DotConfig.{setting, unknown_count, dotconfig_refusal}
-use Rattle.ks_symbols.specs.Refusals.{or_else, IsRefusal}
+use Rattle.ks_symbols.specs.Refusals.{or_else}
 use Rattle.ks_output.specs.declared.auto_conf.AutoError.{AutoError}
 use Rattle.ks_output.specs.declared.auto_conf.AutoError.TheVariants as auto
 use Rattle.ks_output.specs.AutoText.{auto_text}
@@ -23,11 +21,11 @@ use Rattle.ks_tree.specs.Paths.{auto_path}
 use Rattle.ks_tree.specs.declared.fault.TreeFault.{TreeFault}
 use Rattle.ks_tree.specs.declared.fault.TreeFault.TheVariants as fault
 use Rattle.ks_engine.specs.declared.error.EngineError.{EngineError}
-use Rattle.ks_engine.specs.Refusals.{of_tree, of_auto, of_source, IsGivenUp, and_then}
-use Rattle.ks_compare.specs.Changes.{AreChanges, compared, differ, differs, is_in}
+use Rattle.ks_engine.specs.Refusals.{of_tree, of_auto, IsGivenUp, and_then}
+use Rattle.ks_compare.specs.Changes.{AreChanges, compared, differ}
 use Rattle.ks_engine.specs.History.{Configuration}
 use Rattle.ks_engine.specs.Legal.{IsSource}
-use Rattle.ks_engine.specs.Synchronised.{OldAuto, read_unless, old_auto, synced_at, last_generation, Sources, AreSources, source_refusal, AreChanged, Plan, plan_over, IsSyncPlan}
+use Rattle.ks_engine.specs.Synchronised.{OldAuto, read_unless, old_auto, synced_at, last_generation, Sources, AreSources, AreChanged, Plan, plan_over, IsSyncPlan}
 use Rattle.ks_engine.specs.Views.{old_of}
 
 -- ---- the two texts

@@ -1,24 +1,24 @@
 -- A record goes on with each history that the files show.
-use Rattle.std.proofs.Common.{◌≡◌, ◌⊎◌, inl, inr, ⊎_elim, ℕ, suc, ◌+◌, ◌<◌, ◌≤◌, List, [], ◌∷◌, Option, Some, None, Result, Ok, Err, Bool, true, false, cond, nat_lt, nat_eq, IfOk, IfErr, sym, ◌∙◌, ap, ap₂, refl, subst, arith, length, map}
+use Rattle.std.proofs.Common.{◌≡◌, ◌⊎◌, inl, inr, ℕ, suc, ◌<◌, ◌≤◌, List, [], ◌∷◌, Option, Some, None, Result, Ok, Err, Bool, true, false, cond, nat_lt, nat_eq, IfOk, IfErr, sym, ◌∙◌, ap, ap₂, refl, subst, arith, length, map}
 use Rattle.std.proofs.lemmas.Bool.{ltb-false, eqb-false}
 use Rattle.ks_symbols.specs.Lines.{max_bytes}
 use Rattle.ks_fixdep.specs.declared.dependency_file.Role.{Role}
 use Rattle.ks_fixdep.specs.CommandFile.{Record as CommandRecord, command_text}
 use Rattle.ks_fixdep.specs.FoundNames.{names_in}
 use Rattle.ks_fixdep.specs.Record.{config_names, names_of, deps_after, record_of}
-use Rattle.ks_tree.specs.Files.{Files, content, SameButBoth}
-use Rattle.ks_tree.specs.Paths.{auto_path, header_path, command_path, command_temporary}
+use Rattle.ks_tree.specs.Files.{Files, content}
+use Rattle.ks_tree.specs.Paths.{auto_path, command_path}
 use Rattle.ks_engine.specs.declared.error.EngineError.{EngineError}
 use Rattle.ks_engine.specs.declared.error.EngineError.TheVariants.{TooLarge, NeverSynced}
 use Rattle.ks_engine.specs.declared.recording.Recorded.{Recorded as Answer}
 use Rattle.ks_engine.specs.Refusals.{and_then}
-use Rattle.ks_engine.specs.History.{History, Record, Recorded, done}
+use Rattle.ks_engine.specs.History.{History, Recorded, done}
 use Rattle.ks_engine.specs.Shows.{Shows, IsCommandFile}
 use Rattle.ks_engine.specs.Follows.{at, FollowsRecord, IsRecordEvent}
 use Rattle.ks_engine.specs.Synchronised.{OldAuto, synced_at, last_generation}
 use Rattle.ks_engine.specs.Recording.{words, there, listed, scanned, scanned_all, followed, RecordPlan, numbered, drafted, record_plan, IsRecordPlan, IsRecorded, IsRecordTried, IsRecordRefused}
-use Rattle.ks_engine.proofs.Laws.{names_of_record, written_reads}
-use Rattle.ks_engine.proofs.Steps.{IsRead, auto_read, recorded_shows, untouched_shows}
+use Rattle.ks_engine.proofs.LowerLaws.{names_of_record, written_reads}
+use Rattle.ks_engine.proofs.Steps.{auto_read, recorded_shows, untouched_shows}
 
 -- ---- the parts of a plan
 

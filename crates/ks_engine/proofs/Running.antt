@@ -1,5 +1,5 @@
 -- A run goes on by one action; and what its last history says of each of its steps.
-use Rattle.std.proofs.Common.{◌≡◌, ◌⊎◌, ℕ, ◌+◌, ◌<◌, List, [], ◌∷◌, ◌++◌, ◌∙◌, ap, sym, refl, subst, subst₂, inl, inr, ⊎_elim, Result, Ok, Err, Some, map, take, length, get_or}
+use Rattle.std.proofs.Common.{◌≡◌, ◌⊎◌, ℕ, ◌+◌, ◌<◌, List, [], ◌∷◌, ◌++◌, ◌∙◌, ap, sym, refl, subst, subst₂, inl, inr, Result, Ok, map, take, length, get_or}
 use Rattle.std.specs.List.{All}
 use Rattle.std.proofs.lemmas.List.{take_more, map-append}
 use Rattle.std.proofs.lemmas.List.Elements.{All-nil, All-cons, All-head, All-tail}
@@ -9,13 +9,10 @@ use Rattle.ks_engine.specs.declared.commands.Reply.{Reply}
 use Rattle.ks_engine.specs.declared.commands.Reply.TheVariants.{Synced, Recorded, Verdict, Refused}
 use Rattle.ks_engine.specs.declared.error.EngineError.{EngineError}
 use Rattle.ks_engine.specs.declared.staleness.Verdict.{Verdict as VerdictValue}
-use Rattle.ks_engine.specs.declared.staleness.Verdict.TheVariants.{Fresh}
 use Rattle.ks_engine.specs.Refusals.{GaveUp}
-use Rattle.ks_engine.specs.History.{History, Synced as SyncedEvent, Broken as BrokenEvent, Recorded as RecordedEvent, Record as LastRecord, Configuration, last_record, NoneBroken}
-use Rattle.ks_engine.specs.Staleness.{first_changed, first_suspect, verdict}
+use Rattle.ks_engine.specs.History.{History, Synced as SyncedEvent, Broken as BrokenEvent, Recorded as RecordedEvent, Configuration, NoneBroken}
 use Rattle.ks_engine.specs.Legal.{HasConfiguration, HasOneKind}
-use Rattle.ks_engine.specs.Judged.{HasSameDefinitions, IsJudged}
-use Rattle.ks_engine.specs.Follows.{State, IsBrokenEvent}
+use Rattle.ks_engine.specs.Follows.{State}
 use Rattle.ks_engine.specs.Runs.{IsShown, Step, Follows, Leaves, Leads, Run, IsSuspectVerdict, IsChangedVerdict, IsSafeVerdict, IsGivenUpSync}
 
 -- a run, before anything is said of its verdicts

@@ -1,9 +1,8 @@
 -- Prerequisites scanned one after the other.
-use Rattle.std.proofs.Common.{◌≡◌, ◌⊎◌, inl, inr, subst, ℕ, suc, ◌+◌, ◌≤◌, ◌<◌, List, [], ◌∷◌, ◌++◌, Option, Some, None, Result, Ok, Err, refl, sym, ap, ◌∙◌, length, drop, map, append_assoc, append-nil, arith, slice_get, drop-cons}
+use Rattle.std.proofs.Common.{◌≡◌, ℕ, suc, ◌+◌, ◌≤◌, List, [], ◌∷◌, ◌++◌, Some, Result, Ok, Err, refl, sym, ap, ◌∙◌, length, drop, append_assoc, append-nil, arith, slice_get, drop-cons}
 use Rattle.std.proofs.lemmas.List.{drop_all}
 use Rattle.std.proofs.lemmas.Option.{slice_get_within, get_or_from_slice_get}
 use Rattle.ks_fixdep.specs.declared.dependency_file.Role.{Role}
-use Rattle.ks_fixdep.specs.FoundNames.{names_in}
 use Rattle.ks_tree.specs.Files.{Files, content}
 use Rattle.ks_engine.specs.Recording.{scanned, scanned_all, followed}
 use Rattle.ks_engine.specs.declared.error.EngineError.{EngineError}

@@ -1,12 +1,12 @@
 -- The files after each call show the history after it.
 use Rattle.std.proofs.Common.{◌≡◌, inl, inr, ⊎_elim, ℕ, ◌+◌, ◌<◌, ◌≤◌, ◌^◌, List, Option, Some, None, Result, Ok, Err, Bool, true, false, cond, nat_eq, nat_lt, sym, ◌∙◌, ap, refl, subst, subst₂, arith, length, true≢false, IsTrue, bytes_eq}
-use Rattle.std.proofs.lemmas.Bool.{ltb-false, eqb-false, cond-false}
+use Rattle.std.proofs.lemmas.Bool.{ltb-false, eqb-false}
 use Rattle.std.proofs.lemmas.Slice.Eq.{bytes_eq-Decides}
 use Rattle.std.specs.FinMap as map
 use Rattle.ks_symbols.specs.Lines.{max_bytes}
 use Rattle.ks_symbols.specs.Names.{is_name}
 use Rattle.ks_output.specs.AutoText.{auto_text}
-use Rattle.ks_output.specs.AutoConf.{auto_map, auto_generation, auto_refusal}
+use Rattle.ks_output.specs.AutoConf.{auto_map, auto_generation}
 use Rattle.ks_output.specs.Header.{header_text}
 use Rattle.ks_compare.specs.Changes.{differs, is_in}
 use Rattle.ks_tree.specs.Files.{Files, content, SameButBoth}
@@ -15,12 +15,12 @@ use Rattle.ks_tree.specs.Stamps.{HasNumber, stamp_text}
 use Rattle.ks_engine.specs.declared.error.EngineError.{EngineError}
 use Rattle.ks_engine.specs.declared.error.EngineError.TheVariants.{TooLarge, GenerationFull}
 use Rattle.ks_engine.specs.Refusals.{and_then}
-use Rattle.ks_engine.specs.History.{History, Begun, Synced, Broken, Recorded, Record, Configuration, Texts, before, done, last_record}
+use Rattle.ks_engine.specs.History.{History, Begun, Synced, Broken, Recorded, Record, Texts, before, done, last_record}
 use Rattle.ks_engine.specs.Legal.{IsSource, IsHistory, MayBeHeader}
 use Rattle.ks_engine.specs.Shows.{Shows, IsAuto, IsCommandFile, stamp}
-use Rattle.ks_engine.specs.Synchronised.{OldAuto, read_unless, old_auto, Sources, Plan, plan_over, IsSyncPlan, AreChanged, SyncLeaves}
+use Rattle.ks_engine.specs.Synchronised.{OldAuto, old_auto, Sources, Plan, plan_over, IsSyncPlan, AreChanged, SyncLeaves}
 use Rattle.ks_engine.proofs.Heart.{record_cases}
-use Rattle.ks_engine.proofs.Laws.{texts_back, generation_back, accepted, apart, command-injective}
+use Rattle.ks_engine.proofs.LowerLaws.{texts_back, generation_back, accepted, apart, command-injective}
 use Rattle.ks_engine.proofs.Reading.{old_some}
 
 pub done_le : (h : History) → IsHistory h → done h ≤ 18446744073709551615

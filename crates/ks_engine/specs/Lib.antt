@@ -12,3 +12,4 @@ pub mod Drafts
 pub mod Follows
 pub mod Actions
 pub mod Runs
+pub mod Laws

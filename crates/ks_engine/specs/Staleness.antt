@@ -1,5 +1,5 @@
 -- What stale means, by the events of a history and their order alone: no generation is compared here.
-use Rattle.std.specs.Prelude.{ℕ, List, [], Option, Some, None, Bool, true, false, ◌&&◌, ◌||◌, if◌then◌else◌, bytes_eq, find}
+use Rattle.std.specs.Prelude.{ℕ, List, [], Option, Some, None, Bool, false, ◌&&◌, ◌||◌, if◌then◌else◌, bytes_eq, find}
 use Rattle.ks_compare.specs.Changes.{differs, is_in}
 use Rattle.ks_engine.specs.declared.staleness.Verdict.{Verdict}
 use Rattle.ks_engine.specs.declared.staleness.Verdict.TheVariants.{Fresh, Changed}

@@ -1,5 +1,5 @@
 -- What a synchronisation comes to, by the files before it and the two texts, and what it leaves.
-use Rattle.std.specs.Prelude.{◌≡◌, ◌≢◌, ◌⊎◌, ℕ, ◌+◌, ◌-◌, ◌^◌, List, Option, Some, None, Result, Ok, Err, true, nat_eq, nat_lt, if◌then◌else◌, length, IsTrue}
+use Rattle.std.specs.Prelude.{◌≡◌, ◌≢◌, ◌⊎◌, ℕ, ◌+◌, List, Option, Some, None, Result, Ok, Err, true, nat_eq, nat_lt, if◌then◌else◌, length, IsTrue}
 use Rattle.std.specs.FinMap as map
 use Rattle.ks_symbols.specs.declared.error.SourceError.{SourceError}
 use Rattle.ks_symbols.specs.Lines.{max_bytes, lines}

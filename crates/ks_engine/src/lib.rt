@@ -4,13 +4,17 @@
 mod commands;
 mod error;
 mod last_sync;
+mod laws;
 mod recording;
 mod sources;
 mod staleness;
 mod synchronise;
+#[cfg(test)]
+mod tests;
 
 pub use commands::{Command, Reply, run};
 pub use error::EngineError;
+pub use laws::{beginnings_are_shown, plans_are_one};
 pub use recording::{Recorded, record_object};
 pub use sources::scan_all;
 pub use staleness::{BuildState, Verdict, outdated, stale};

@@ -96,11 +96,7 @@ fn first_above<T: Tree>(
 }
 
 /// The verdict on an object that has a command file.
-fn judge<T: Tree>(
-    alloc: Global,
-    tree: &mut T,
-    file: &CommandFile,
-) -> Result<Verdict, EngineError>
+fn judge<T: Tree>(alloc: Global, tree: &mut T, file: &CommandFile) -> Result<Verdict, EngineError>
     ensures honest { T.is_honest tree.old ↔ T.is_honest tree.new }
     ensures unchanged { T.is_honest tree.old → T.files tree.new ≡ T.files tree.old }
     ensures answer { T.is_honest tree.old → GaveUp result ⊎ IsAnswer (T.files tree.old) (asked_since (T.files tree.old) (config_names file.now.deps.items) file.now.generation) result }

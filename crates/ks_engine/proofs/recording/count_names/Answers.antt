@@ -1,4 +1,4 @@
-use Rattle.std.proofs.Common.{◌≡◌, ◌+◌, sym, ◌∙◌, ap, refl, arith, length, drop, subst}
+use Rattle.std.proofs.Common.{◌≡◌, ◌+◌, sym, ◌∙◌, ap, arith, length, drop, subst}
 use Rattle.std.proofs.lemmas.List.{drop_all}
 use Rattle.std.specs.List.{list_all}
 use Rattle.ks_symbols.specs.Names.{is_name, is_path}
@@ -15,17 +15,17 @@ loop-dep-preserved c =
     let rest = length (config_names (drop (c.loop-dep.dep-index + 1) deps)) in
     elim c.match-dep.branch [
       | in-File w ↦ record {
-          within = omega arith;
-          count = subst (λ n. n + rest ≡ all) (sym w.count-is) (count_file deps c.loop-dep.dep-index c.dep-item.result _ c.loop-dep.count all c.loop-dep-test.true c.dep-item.is w.in-File.is c.loop-dep.invariant.count);
-          legal = legal_next deps c.loop-dep.dep-index c.dep-item.result c.loop-dep-test.true c.dep-item.is
-              (ap is_dep w.in-File.is ∙ ap is_path (sym w.as_bytes.ensures.value) ∙ w.as_bytes.ensures.legal) c.loop-dep.invariant.legal;
-        }
+        within = omega arith;
+        count = subst (λ n. n + rest ≡ all) (sym w.count-is) (count_file deps c.loop-dep.dep-index c.dep-item.result _ c.loop-dep.count all c.loop-dep-test.true c.dep-item.is w.in-File.is c.loop-dep.invariant.count);
+        legal = legal_next deps c.loop-dep.dep-index c.dep-item.result c.loop-dep-test.true c.dep-item.is
+            (ap is_dep w.in-File.is ∙ ap is_path (sym w.as_bytes.ensures.value) ∙ w.as_bytes.ensures.legal) c.loop-dep.invariant.legal;
+      }
       | in-Config w ↦ record {
-          within = omega arith;
-          count = subst (λ n. n + rest ≡ all) (sym w.count-is) (count_name deps c.loop-dep.dep-index c.dep-item.result _ c.loop-dep.count all c.loop-dep-test.true c.dep-item.is w.in-Config.is c.loop-dep.invariant.count);
-          legal = legal_next deps c.loop-dep.dep-index c.dep-item.result c.loop-dep-test.true c.dep-item.is
-              (ap is_dep w.in-Config.is ∙ ap is_name (sym w.as_bytes-in-Config.ensures.value) ∙ w.as_bytes-in-Config.ensures.legal) c.loop-dep.invariant.legal;
-        }
+        within = omega arith;
+        count = subst (λ n. n + rest ≡ all) (sym w.count-is) (count_name deps c.loop-dep.dep-index c.dep-item.result _ c.loop-dep.count all c.loop-dep-test.true c.dep-item.is w.in-Config.is c.loop-dep.invariant.count);
+        legal = legal_next deps c.loop-dep.dep-index c.dep-item.result c.loop-dep-test.true c.dep-item.is
+            (ap is_dep w.in-Config.is ∙ ap is_name (sym w.as_bytes-in-Config.ensures.value) ∙ w.as_bytes-in-Config.ensures.legal) c.loop-dep.invariant.legal;
+      }
     ]
 
 pub returns : goal.returns

@@ -1,4 +1,4 @@
-use Rattle.std.proofs.Common.{◌≡◌, ◌<◌, ◌≤◌, ◌++◌, inr, Some, sym, ◌∙◌, ap, refl, subst, arith, length}
+use Rattle.std.proofs.Common.{◌<◌, ◌≤◌, ◌++◌, inr, sym, ◌∙◌, ap, refl, subst, arith, length}
 use Rattle.std.specs.List.{list_all}
 use Rattle.ks_symbols.specs.Names.{is_path, is_target}
 use Rattle.ks_fixdep.specs.CommandFile.{Record, view, is_command, is_dep, command_text}

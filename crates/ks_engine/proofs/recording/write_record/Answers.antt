@@ -1,10 +1,8 @@
-use Rattle.std.proofs.Common.{◌≡◌, ◌≢◌, ◌⊎◌, inl, inr, ⊎_elim, Some, Err, sym, ◌∙◌, ap, subst, subst₂, length}
+use Rattle.std.proofs.Common.{◌≡◌, ◌≢◌, inl, inr, ⊎_elim, Some, Err, sym, ◌∙◌, ap, subst, subst₂, length}
 use Rattle.std.proofs.lemmas.Result.{err_from_is_err_and}
-use Rattle.ks_fixdep.specs.CommandFile.{command_text}
 use Rattle.ks_tree.specs.Files.{Files, content, SameButBoth}
 use Rattle.ks_tree.specs.Paths.{command_path, command_temporary, CommandFile, CommandTemporary}
-use Rattle.ks_engine.specs.Recording.{IsRecordPlan}
-use Rattle.ks_engine.proofs.Laws.{apart}
+use Rattle.ks_engine.proofs.LowerLaws.{apart}
 use Rattle.ks_engine.proofs.Reading.{given_fault}
 use Rattle.ks_engine.proofs.RecordSteps.{count_names}
 use Rattle.ks_engine.proofs.recording.write_record.Goals as goal

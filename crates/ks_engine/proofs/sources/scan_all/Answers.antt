@@ -34,7 +34,7 @@ loop-place-preserved g c = record {
       let here : c.loop-place.place < length c.args.prerequisites.now = omega arith in
       let at = slice_get-get_or c.args.prerequisites.now c.loop-place.place ([], Source) here in
       let said = subst (λ f. scanned (get_or c.args.prerequisites.now c.loop-place.place ([], Source)).0 (content f (get_or c.args.prerequisites.now c.loop-place.place ([], Source)).0) ≡ Ok c.in_ok-names.names) same
-          (c.in_ok-names.ensures.names now _ at) in
+      (c.in_ok-names.ensures.names now _ at) in
       let next = scanned_next (g.T.Tree.files c.args.tree.now) c.args.prerequisites.now c.loop-place.place _ c.loop-place.found.items c.in_ok-names.names _ at said (c.loop-place.invariant.rest honest) in
       next ∙ ap (λ l. behind l (scanned_all (g.T.Tree.files c.args.tree.now) (drop (c.loop-place.place + 1) c.args.prerequisites.now))) (sym c.in_ok-push.ensures.items);
 }

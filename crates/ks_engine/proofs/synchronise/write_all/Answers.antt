@@ -1,8 +1,8 @@
-use Rattle.std.proofs.Common.{◌≡◌, ◌⊎◌, inl, inr, ⊎_elim, Some, ◌∙◌, ap, sym, subst, subst₂, take, refl}
+use Rattle.std.proofs.Common.{◌≡◌, inl, inr, ⊎_elim, Some, ◌∙◌, ap, sym, subst, subst₂, take}
 use Rattle.ks_tree.specs.Files.{content, SameButBoth}
-use Rattle.ks_tree.specs.Paths.{auto_path, auto_temporary, header_path, header_temporary, Header, AutoConf, HeaderTemporary, AutoTemporary}
+use Rattle.ks_tree.specs.Paths.{Header, AutoConf, HeaderTemporary, AutoTemporary}
 use Rattle.ks_tree.specs.Stamps.{Touches}
-use Rattle.ks_engine.proofs.Laws.{apart}
+use Rattle.ks_engine.proofs.LowerLaws.{apart}
 use Rattle.ks_engine.proofs.Writes.{after_stamps, headed, finished, header_stays, on_err, on_ok_map, on_err_map, is_in_take}
 use Rattle.ks_engine.proofs.synchronise.write_all.Goals as goal
 

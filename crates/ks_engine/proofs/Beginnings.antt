@@ -1,0 +1,53 @@
+-- Trees to begin with, and the one plan of a synchronisation.
+use Rattle.std.proofs.Common.{◌≡◌, inl, inr, ℕ, List, Some, None, Err, refl, sym, ◌∙◌, ap, subst, nat_cmp, arith}
+use Rattle.std.specs.Cmp.Lexicographic.{slice_cmp, nat_list_cmp_total}
+use Rattle.std.specs.FinMap.{empty, get, get-empty, same_map, slice_cmp-IsAntisymmetric, nat_cmp-IsAntisymmetric}
+use Rattle.ks_symbols.specs.declared.error.SourceError.{SourceError}
+use Rattle.ks_tree.specs.Files.{content}
+use Rattle.ks_tree.specs.Paths.{auto_path, stamp_path}
+use Rattle.ks_tree.specs.Stamps.{HasNumber}
+use Rattle.ks_engine.specs.Refusals.{of_source, and_then}
+use Rattle.ks_engine.specs.History.{Texts, Configuration}
+use Rattle.ks_engine.specs.Shows.{IsFirstAuto}
+use Rattle.ks_engine.specs.Synchronised.{Sources, AreSources, old_auto, plan_over}
+use Rattle.ks_engine.specs.Laws.{EmptyTreeShows, UsualTreeShows, PlansAreOne}
+
+pub usual_shows : UsualTreeShows
+usual_shows files first auto stamps = record {
+  history = tt;
+  auto = auto;
+  header = λ some. absurd (omega arith);
+  stamps = stamps;
+  commands = λ o r last. absurd cc;
+}
+
+no_texts : Texts
+no_texts = empty
+
+pub empty_shows : EmptyTreeShows
+unfolding no_texts
+empty_shows =
+    usual_shows empty no_texts (subst (IsFirstAuto no_texts) (sym (get-empty (slice_cmp nat_cmp) auto_path)) refl)
+    (λ x name. subst (λ file. HasNumber file 0) (sym (get-empty (slice_cmp nat_cmp) (stamp_path x))) refl)
+
+same_sources : (s t : Sources) → s.title ≡ t.title → s.config ≡ t.config → s.unknown ≡ t.unknown → s ≡ t
+same_sources s t p q r = λ i. record { title = p i; config = q i; unknown = r i }
+
+same_config : (c d : Configuration) → ((x : List ℕ) → get c x ≡ get d x) → c ≡ d
+same_config c d each = same_map nat_list_cmp_total (slice_cmp-IsAntisymmetric nat_cmp-IsAntisymmetric) c d each
+
+one_source : (kconfig dotconfig : List ℕ) (s t : Sources) → AreSources kconfig dotconfig s → AreSources kconfig dotconfig t → s ≡ t
+one_source kconfig dotconfig s t a b =
+    same_sources s t (a.title ∙ sym b.title) (same_config s.config t.config (λ x. a.settings x ∙ sym (b.settings x))) (a.unknown ∙ sym b.unknown)
+
+some_some : (d e : SourceError) → Some d ≡ Some e → d ≡ e
+some_some d e p = cc
+
+some_none : (e : SourceError) → Some e ≡ None → ⊥
+some_none e p = cc
+
+pub one_plan : PlansAreOne
+one_plan files k d r s (inl a) (inl b) = a.2 ∙ ap (λ e. Err (of_source e)) (some_some a.0 b.0 (sym a.1 ∙ b.1)) ∙ sym b.2
+one_plan files k d r s (inl a) (inr b) = absurd (some_none a.0 (sym a.1 ∙ b.1.accepted))
+one_plan files k d r s (inr a) (inl b) = absurd (some_none b.0 (sym b.1 ∙ a.1.accepted))
+one_plan files k d r s (inr a) (inr b) = a.2 ∙ ap (λ (w : Sources). and_then (old_auto (content files auto_path)) (plan_over w)) (one_source k d a.0 b.0 a.1 b.1) ∙ sym b.2

@@ -67,23 +67,17 @@ fn previews(rt: HostRuntime) -> Result<(), Fail> {
 #[test]
 fn words_that_are_no_command(rt: HostRuntime) -> Result<(), Fail> {
     let alloc = rt.alloc();
-    let none: [&str; 0] = [];
-    for words in [
-        none.as_slice(),
-        ["bogus"].as_slice(),
-        ["preview", "K1"].as_slice(),
-        ["preview", "K1", "c1", "c1", "c1"].as_slice(),
-    ] {
-        let found = run_words(alloc, words)?;
-        assert!(rt; found.starts_with("2 error: "));
-    }
-    for words in [
-        ["--help"].as_slice(),
-        ["help", "preview"].as_slice(),
-        ["--version"].as_slice(),
-    ] {
-        let found = run_words(alloc, words)?;
-        assert!(rt; found.starts_with("0 "));
-    }
+    let found = run_words(alloc, &[])?;
+    assert!(rt; found.starts_with("2 error: "), "no words");
+    let found = run_words(alloc, &["bogus"])?;
+    assert!(rt; found.starts_with("2 error: "), "another command");
+    let found = run_words(alloc, &["preview", "K1"])?;
+    assert!(rt; found.starts_with("2 error: "), "a word too few");
+    let found = run_words(alloc, &["preview", "K1", "c1", "c1", "c1"])?;
+    assert!(rt; found.starts_with("2 error: "), "a word too many");
+    let found = run_words(alloc, &["--help"])?;
+    assert!(rt; found.starts_with("0 "), "help");
+    let found = run_words(alloc, &["--version"])?;
+    assert!(rt; found.starts_with("0 "), "the version");
     Ok(())
 }

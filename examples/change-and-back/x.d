@@ -1,0 +1,2 @@
+x.o: x.c a.h \
+ include/generated/autoconf.h a.h b.h

@@ -1,0 +1,7 @@
+//! Laws of the definitions: each is the contract of a call that does nothing, so that it is proved.
+ghost use Rattle.ks_script.specs.Laws.{LinesAreSpelled};
+
+/// A line asks for what it spells, and for nothing else.
+pub fn lines_are_spelled()
+    ensures { LinesAreSpelled }
+{}

@@ -42,7 +42,7 @@ fn scripts(rt: HostRuntime) -> Result<(), AllocError> {
         ("a command of spaces", b"record x.d x.o  cc  \n", "record|x.d|x.o| cc  |\n"),
         ("a target that is no path", b"stale a$b\n", "stale|a$b|||\n"),
         ("a dependency file that is no path", b"record a$b x.o cc\n", "record|a$b|x.o|cc|\n"),
-        ("a lone CR", b"stale x\r.o\n", "stale|x\r.o|||\n"),
+        ("a lone CR", b"stale x\r.o\r", "stale|x\r.o\r|||\n"),
         ("two targets", b"stale x.o y.o", "50 BadScript line 1"),
         ("two spaces before a target", b"stale  x.o", "50 BadScript line 1"),
         ("no third space", b"record x.d x.o", "50 BadScript line 1"),

@@ -1,10 +1,15 @@
 -- What is asked of the program, without where its words lie.
 use Rattle.std.specs.Prelude.{◌≡◌, ℕ, List, Option, option_map, string_bytes}
 use Rattle.ks_commands.specs.declared.request.Request.{Request}
-use Rattle.ks_commands.specs.declared.request.Request.TheVariants.{Preview}
+use Rattle.ks_commands.specs.declared.request.Request.TheVariants.{Batch, Preview}
 
 -- the request is a preview of these two files, over this old auto.conf if there is one
 abbrev pub IsPreviewOf : List ℕ → List ℕ → Option (List ℕ) → Request → Type 0
 IsPreviewOf kconfig dotconfig old (Preview k d o) =
     (string_bytes k ≡ kconfig) × (string_bytes d ≡ dotconfig) × (option_map (λ path. string_bytes path) o ≡ old)
 IsPreviewOf kconfig dotconfig old _ = ⊥
+
+-- the request is a run of the script at this path
+abbrev pub IsBatchOf : List ℕ → Request → Type 0
+IsBatchOf path (Batch p) = string_bytes p ≡ path
+IsBatchOf path _ = ⊥

@@ -115,6 +115,7 @@ pub fn perform<T: Tree, W: Write, E: Write>(
             command.as_str(),
             out,
         ),
+        _ => Err(Refusal::Output),
     };
     match outcome {
         Ok(()) => 0,

@@ -3,6 +3,8 @@
 /// One command of the program, with its words in order.
 #[derive(Debug, Drop)]
 pub enum Request {
+    /// Bring the tree to a configuration.
+    Sync { kconfig: String, dotconfig: String },
     /// What a synchronisation would do, over an old auto.conf or as the first one.
     Preview {
         kconfig: String,
@@ -15,4 +17,16 @@ pub enum Request {
         target: String,
         command: String,
     },
+    /// Write the command file of an object that was just compiled.
+    Record {
+        depfile: String,
+        target: String,
+        command: String,
+    },
+    /// Which of these objects are stale.
+    Stale { targets: Vec<String> },
+    /// Whether an object was built by another command, or is stale.
+    Outdated { target: String, command: String },
+    /// The commands of a script, in one run.
+    Batch { script: String },
 }

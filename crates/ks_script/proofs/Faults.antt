@@ -1,0 +1,46 @@
+-- The first fault of lines, and refusals.
+use Rattle.std.proofs.Common.{◌≡◌, ℕ, ◌+◌, ◌<◌, ◌≤◌, Bool, true, false, cond, nat_lt, List, [], ◌∷◌, ◌++◌, length, Option, Some, None, option_map, refl, ap, ◌∙◌, arith}
+use Rattle.std.specs.List.{cons_option, position_from}
+use Rattle.std.proofs.lemmas.Bool.{cond-true, cond-false}
+use Rattle.std.proofs.lemmas.Bool.Decides.{nat_tests}
+use Rattle.ks_symbols.specs.Lines.{lines, max_bytes}
+use Rattle.ks_script.specs.declared.error.ScriptError.{ScriptError}
+use Rattle.ks_script.specs.declared.error.ScriptError.TheVariants as fault
+use Rattle.ks_script.specs.ScriptRefusals.{is_faulty, line_fault, script_refusal, IsRefusal}
+
+passed : (b : Bool) (e : ScriptError) → cond b (Some e) None ≡ None → b ≡ false
+passed true e h = absurd (cc h)
+passed false e h = refl
+
+told : (b : Bool) (e said : ScriptError) → cond b (Some e) None ≡ Some said → (b ≡ true) × (e ≡ said)
+told true e said h = (refl, cc h)
+told false e said h = absurd (cc h)
+
+pub no_fault : (n : ℕ) (line : List ℕ) (rest : List (List ℕ)) → line_fault n line ≡ None → position_from is_faulty n (line ∷ rest) ≡ position_from is_faulty (n + 1) rest
+unfolding line_fault
+no_fault n line rest none = cond-false (is_faulty line) _ _ (passed (is_faulty line) (fault.BadScript n) none)
+
+pub fault_here : (n : ℕ) (line : List ℕ) (rest : List (List ℕ)) (e : ScriptError) → line_fault n line ≡ Some e
+    → option_map fault.BadScript (position_from is_faulty n (line ∷ rest)) ≡ Some e
+unfolding line_fault
+fault_here n line rest e is =
+    let said = told (is_faulty line) (fault.BadScript n) e is in
+    ap (option_map fault.BadScript) (cond-true (is_faulty line) _ _ said.0) ∙ ap Some said.1
+
+-- an error that is the refusal f is also the refusal g, where g follows from f
+pub refused : (e : ScriptError) (f g : Option ScriptError) → (f ≡ Some e → g ≡ Some e) → IsRefusal e f → IsRefusal e g
+refused fault.OutOfMemory f g h r = tt
+refused e f g h r = h r
+
+pub too_large : (text : List ℕ) → 67108864 < length text → script_refusal text ≡ Some fault.TooLarge
+unfolding script_refusal
+too_large text large = cond-true (nat_lt max_bytes (length text)) _ _ (grind (arith, nat_tests))
+
+pub not_large : (text : List ℕ) → length text ≤ 67108864 → script_refusal text ≡ option_map fault.BadScript (position_from is_faulty 1 (lines text))
+unfolding script_refusal
+not_large text small = cond-false (nat_lt max_bytes (length text)) _ _ (grind (arith, nat_tests))
+
+pub option_append : {X : Type 0} (xs : List X) (o : Option X) (rest : List X) → (xs ++ cons_option o []) ++ rest ≡ xs ++ cons_option o rest
+option_append [] None rest = refl
+option_append [] (Some x) rest = refl
+option_append (y ∷ ys) o rest = ap (λ l. y ∷ l) (option_append ys o rest)

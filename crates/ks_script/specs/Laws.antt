@@ -1,0 +1,7 @@
+-- Laws: the definitions said in another way.
+use Rattle.std.specs.Prelude.{◌≡◌, ◌↔◌, ℕ, List, Some}
+use Rattle.ks_script.specs.Script.{Line, Says, script_line}
+
+-- A line asks for what it spells, and for nothing else.
+abbrev pub LinesAreSpelled : Type 0
+LinesAreSpelled = (line : List ℕ) (said : Line) → (script_line line ≡ Some said) ↔ Says line said

@@ -1,0 +1,159 @@
+//! Reading a script: which commands it asks for, in the order of its lines.
+//!
+//! A script that is read wrongly asks the wrong question of a build, so its lines have one spelling each: words stand
+//! apart by one space and are not empty, and any other line is refused with its number. Nothing is opened or run here.
+//! The form is a rule of this project.
+ghost use Rattle.std.specs.Prelude.{◌≡◌, ◌++◌, [], length, map, option_map, take_while, drop, OnOk, IfOk};
+ghost use Rattle.std.specs.List.{cons_option, list_all};
+ghost use Rattle.ks_script.specs.Script.{is_word_byte, is_word, first_word, seen_line, sync_line, record_line, stale_line, script_line, script_lines};
+ghost use Rattle.ks_script.specs.ScriptRefusals.{line_fault, script_refusal, RefusedBy};
+
+use crate::error::ScriptError;
+use bstr::ByteSlice;
+use ks_symbols::{MAX_BYTES, is_silent, path_is_legal};
+use std::alloc::Global;
+
+/// A line of a script that asks for a command, by its words as they stand.
+#[derive(Debug, Drop)]
+pub enum ScriptLine<'a> {
+    /// `sync KCONFIG DOTCONFIG`, both legal paths.
+    Sync {
+        kconfig: &'a [u8],
+        dotconfig: &'a [u8],
+    },
+    /// `record DEPFILE TARGET COMMAND`; the command is the rest of the line and may be empty.
+    Record {
+        depfile: &'a [u8],
+        target: &'a [u8],
+        command: &'a [u8],
+    },
+    /// `stale TARGET`.
+    Stale {
+        target: &'a [u8],
+    },
+}
+
+fn all_word_bytes(text: &[u8]) -> bool
+    ensures { result ≡ list_all is_word_byte text.now }
+{
+    text.iter().all(|byte| *byte != b' ')
+}
+
+/// Whether the bytes are one word.
+fn is_word(text: &[u8]) -> bool
+    ensures { result ≡ is_word text.now }
+{
+    !text.is_empty() && all_word_bytes(text)
+}
+
+/// The bytes up to the first space, and what follows them.
+fn split_word(text: &[u8]) -> (&[u8], &[u8])
+    ensures word { result.0.now ≡ take_while is_word_byte text.now }
+    ensures rest { result.1.now ≡ drop (length result.0.now) text.now }
+{
+    let end = text.find_byte(b' ').unwrap_or(text.len());
+    text.split_at(end)
+}
+
+/// The first word, and what stands behind the space that ends it.
+#[tactic(auto, unfolding(crate::specs::Script::first_word))]
+fn first_word(text: &[u8]) -> Option<(&[u8], &[u8])>
+    ensures { option_map (λ cut. (cut.0.now, cut.1.now)) result ≡ first_word text.now }
+{
+    let (word, rest) = split_word(text);
+    if !word.is_empty() && rest.starts_with(b" ") {
+        Some((word, &rest[1..]))
+    } else {
+        None
+    }
+}
+
+#[tactic(auto, unfolding(crate::specs::Script::sync_line))]
+fn sync_line(words: &[u8]) -> Option<ScriptLine<'_>>
+    ensures { option_map seen_line result ≡ sync_line words.now }
+{
+    let (kconfig, dotconfig) = first_word(words)?;
+    if path_is_legal(kconfig) && path_is_legal(dotconfig) {
+        Some(ScriptLine::Sync { kconfig, dotconfig })
+    } else {
+        None
+    }
+}
+
+#[tactic(auto, unfolding(crate::specs::Script::record_line))]
+fn record_line(words: &[u8]) -> Option<ScriptLine<'_>>
+    ensures { option_map seen_line result ≡ record_line words.now }
+{
+    let (depfile, rest) = first_word(words)?;
+    let (target, command) = first_word(rest)?;
+    Some(ScriptLine::Record {
+        depfile,
+        target,
+        command,
+    })
+}
+
+#[tactic(auto, unfolding(crate::specs::Script::stale_line))]
+fn stale_line(words: &[u8]) -> Option<ScriptLine<'_>>
+    ensures { option_map seen_line result ≡ stale_line words.now }
+{
+    if is_word(words) {
+        Some(ScriptLine::Stale { target: words })
+    } else {
+        None
+    }
+}
+
+/// What a line, without its end, asks for.
+#[tactic(auto, unfolding(crate::specs::Script::script_line))]
+fn parse_line(line: &[u8]) -> Option<ScriptLine<'_>>
+    ensures { option_map seen_line result ≡ script_line line.now }
+{
+    if line.starts_with(b"sync ") {
+        sync_line(&line[5..])
+    } else if line.starts_with(b"record ") {
+        record_line(&line[7..])
+    } else if line.starts_with(b"stale ") {
+        stale_line(&line[6..])
+    } else {
+        None
+    }
+}
+
+/// Takes in the line of a number.
+#[tactic(auto, unfolding(crate::specs::ScriptRefusals::line_fault))]
+fn take_line<'a>(
+    lines: &mut Vec<ScriptLine<'a>>,
+    number: u64,
+    line: &'a [u8],
+) -> Result<(), ScriptError>
+    ensures lines { OnOk result (map seen_line lines.new.items ≡ map seen_line lines.old.items ++ cons_option (script_line line.now) []) }
+    ensures refusal { RefusedBy result (line_fault number line.now) }
+{
+    match parse_line(line) {
+        Some(said) => lines.push(said)?,
+        None => {
+            if !is_silent(line) {
+                return Err(ScriptError::BadScript(number));
+            }
+        }
+    }
+    Ok(())
+}
+
+/// The lines of a script that ask for a command, in their order. Comments and empty lines ask for none.
+pub fn read_script(alloc: Global, text: &[u8]) -> Result<Vec<ScriptLine<'_>>, ScriptError>
+    ensures lines { IfOk result (λ lines. map seen_line lines.items ≡ script_lines text.now) }
+    ensures refusal { RefusedBy result (script_refusal text.now) }
+{
+    if text.len() > MAX_BYTES {
+        return Err(ScriptError::TooLarge);
+    }
+    let mut lines = Vec::new(alloc);
+    let mut number: u64 = 1;
+    for line in text.lines() {
+        take_line(&mut lines, number, line)?;
+        number += 1;
+    }
+    Ok(lines)
+}

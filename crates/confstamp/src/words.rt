@@ -69,10 +69,13 @@ fn preview_request(alloc: Global, matches: &ArgMatches<'_>) -> Result<Request, A
         → first_value (found_of matches.now) (codes "DOTCONFIG") ≡ Some d
         → IsPreviewOf k d (first_value (found_of matches.now) (codes "OLDAUTO")) r) }
 {
+    let kconfig = word(alloc, matches, "KCONFIG")?;
+    let dotconfig = word(alloc, matches, "DOTCONFIG")?;
+    let old = optional_word(alloc, matches, "OLDAUTO")?;
     Ok(Request::Preview {
-        kconfig: word(alloc, matches, "KCONFIG")?,
-        dotconfig: word(alloc, matches, "DOTCONFIG")?,
-        old: optional_word(alloc, matches, "OLDAUTO")?,
+        kconfig,
+        dotconfig,
+        old,
     })
 }
 
@@ -80,9 +83,8 @@ fn batch_request(alloc: Global, matches: &ArgMatches<'_>) -> Result<Request, All
     ensures { IfOk result (λ r. (p : List ℕ)
         → first_value (found_of matches.now) (codes "SCRIPT") ≡ Some p → IsBatchOf p r) }
 {
-    Ok(Request::Batch {
-        script: word(alloc, matches, "SCRIPT")?,
-    })
+    let script = word(alloc, matches, "SCRIPT")?;
+    Ok(Request::Batch { script })
 }
 
 /// The words of the argument `id`.

@@ -29,11 +29,25 @@ fn help_of_each_command(rt: HostRuntime) -> Result<(), Fail> {
     for usage in &USAGES {
         assert!(rt; top.out.contains(usage.about), "{}", usage.name);
         let found = run_words(alloc, &["help", usage.name])?;
-        assert_eq!(rt; (found.status, found.err.as_str()), (0, ""), "{}", usage.name);
+        assert_eq!(rt;
+            (found.status, found.err.as_str()),
+            (0, ""),
+            "{}",
+            usage.name
+        );
         assert!(rt; found.out.starts_with(usage.about), "{}", usage.name);
-        assert!(rt; found.out.as_str().trim_end().ends_with(usage.notes), "{}", usage.name);
+        assert!(rt;
+            found.out.as_str().trim_end().ends_with(usage.notes),
+            "{}",
+            usage.name
+        );
         for word in usage.words {
-            assert!(rt; found.out.contains(word.help), "{} {}", usage.name, word.name);
+            assert!(rt;
+                found.out.contains(word.help),
+                "{} {}",
+                usage.name,
+                word.name
+            );
         }
     }
     Ok(())

@@ -41,6 +41,15 @@ pub no_escape : (word : Text) → slice_index word 0 ≢ 45 → bytes_eq word (4
 no_escape [] plain = refl
 no_escape (x ∷ xs) plain = rw (not_hyphen x plain) refl
 
+pub batch_rows : (p : Text) → slice_index p 0 ≢ 45
+    → subcommand_of command_line_app (codes "batch" ∷ p ∷ []) ≡ Some (codes "batch", given (codes "SCRIPT") p ∷ [])
+unfolding clap_on_literals
+batch_rows p f = simp (no_escape p f, no_hyphen p f) refl
+
+pub batch_takes : (p : Text) → slice_index p 0 ≢ 45 → takes command_line_app (codes "batch" ∷ p ∷ []) ≡ true
+unfolding clap_on_literals
+batch_takes p f = simp (no_escape p f, no_hyphen p f) refl
+
 pub preview_rows : (k d : Text) → slice_index k 0 ≢ 45 → slice_index d 0 ≢ 45
     → subcommand_of command_line_app (codes "preview" ∷ k ∷ d ∷ []) ≡ Some (codes "preview", given (codes "KCONFIG") k ∷ given (codes "DOTCONFIG") d ∷ [])
 unfolding clap_on_literals

@@ -1,35 +1,57 @@
 -- The command line as `clap` sees it. The words are this project's.
-use Rattle.std.specs.Prelude.{ℕ, List, [], ◌∷◌, map, codes, true}
+use Rattle.std.specs.Prelude.{List, [], ◌∷◌, codes, true, fold, map, Some}
 use Rattle.clap.specs.Words.{App, Rule, Text, new_app, new_rule, with_rule, with_subcommand}
 use Rattle.clap.specs.Simple.{on_top}
+use Rattle.clap.specs.Lexer.{usize_max}
+use Rattle.confstamp.specs.declared.usage.Times.{Times}
+use Rattle.confstamp.specs.declared.usage.Times.TheVariants.{Once, AtMostOnce, AtLeastOnce}
+use Rattle.confstamp.specs.declared.usage.Usage.{Usage}
+use Rattle.confstamp.specs.declared.usage.Word.{Word}
 
--- a word that has to be there
-abbrev pub required : Text → Rule
-required id = record (new_rule id) { required = true }
+-- a word that stands once, that may be left out, or that may stand several times
+abbrev pub once : Text → Rule
+once name = record (new_rule name) { required = true }
 
--- a command with these rules
-abbrev pub with_rules : App → List Rule → App
-with_rules app [] = app
-with_rules app (r ∷ rs) = with_rules (with_rule app r) rs
+abbrev pub at_most_once : Text → Rule
+at_most_once name = new_rule name
 
--- a command that takes each of these words once
-abbrev pub taking : Text → List Text → App
-taking name ids = with_rules (new_app name) (map required ids)
+abbrev pub at_least_once : Text → Rule
+at_least_once name = record (once name) { range = Some (record { start_inclusive = 1; end_inclusive = usize_max }) }
 
-abbrev pub preview_app : App
-preview_app = with_rule (taking (codes "preview") (codes "KCONFIG" ∷ codes "DOTCONFIG" ∷ [])) (new_rule (codes "OLDAUTO"))
+abbrev pub rule_for : Text → Times → Rule
+rule_for name Once = once name
+rule_for name AtMostOnce = at_most_once name
+rule_for name AtLeastOnce = at_least_once name
 
-abbrev pub fixdep_app : App
-fixdep_app = taking (codes "fixdep") (codes "DEPFILE" ∷ codes "TARGET" ∷ codes "COMMAND" ∷ [])
+-- the rule of a word of the program's table
+abbrev pub word_rule : Word → Rule
+word_rule word = rule_for word.name.now word.times
+
+-- a command that takes these words
+abbrev pub taking : Text → List Rule → App
+taking name rules = fold with_rule (new_app name) rules
+
+-- the command of a row of the program's table
+abbrev pub usage_app : Usage → App
+usage_app usage = taking usage.name.now (map word_rule usage.words.now)
 
 -- a command line with these commands below it
 abbrev pub with_all : App → List App → App
-with_all app [] = app
-with_all app (sub ∷ subs) = with_all (with_subcommand app sub.top) subs
+with_all app subs = fold (λ a sub. with_subcommand a sub.top) app subs
+
+-- the program without its commands
+abbrev pub bare_app : App
+bare_app =
+    on_top (λ s. record s { has_version = true; subcommand_required = true; no_binary_name = true }) (new_app (codes "confstamp"))
 
 -- the whole command line
 abbrev pub command_line_app : App
-command_line_app = with_all
-    (on_top (λ s. record s { has_version = true; subcommand_required = true; no_binary_name = true })
-    (new_app (codes "confstamp")))
-    (preview_app ∷ fixdep_app ∷ [])
+command_line_app = with_all bare_app
+    (taking (codes "sync") (once (codes "KCONFIG") ∷ once (codes "DOTCONFIG") ∷ [])
+    ∷ taking (codes "preview") (once (codes "KCONFIG") ∷ once (codes "DOTCONFIG") ∷ at_most_once (codes "OLDAUTO") ∷ [])
+    ∷ taking (codes "fixdep") (once (codes "DEPFILE") ∷ once (codes "TARGET") ∷ once (codes "COMMAND") ∷ [])
+    ∷ taking (codes "record") (once (codes "DEPFILE") ∷ once (codes "TARGET") ∷ once (codes "COMMAND") ∷ [])
+    ∷ taking (codes "stale") (at_least_once (codes "TARGET") ∷ [])
+    ∷ taking (codes "batch") (once (codes "SCRIPT") ∷ [])
+    ∷ taking (codes "outdated") (once (codes "TARGET") ∷ once (codes "COMMAND") ∷ [])
+    ∷ [])

@@ -3,6 +3,7 @@
 
 mod command_line;
 mod program;
+mod usage;
 mod words;
 
 use ks_tree::FolderTree;

@@ -3,7 +3,7 @@ ghost use Rattle.std.specs.Prelude.{◌≡◌, ℕ, List, [], ◌∷◌, IfErr, 
 ghost use Rattle.clap.specs.Words.{first_value, found_of, kind_of};
 ghost use Rattle.clap.specs.Walk.{texts};
 ghost use Rattle.clap.specs.declared.error.kind.ErrorKind.TheVariants.{OutOfMemory as NoMemory};
-ghost use Rattle.ks_commands.specs.Requests.{IsPreviewOf};
+ghost use Rattle.ks_commands.specs.Requests.{IsBatchOf, IsPreviewOf};
 ghost use Rattle.confstamp.specs.Words.{IsPlainWord, IsWantOfMemory};
 
 use crate::command_line::command_line;
@@ -69,32 +69,68 @@ fn preview_request(alloc: Global, matches: &ArgMatches<'_>) -> Result<Request, A
         → first_value (found_of matches.now) (codes "DOTCONFIG") ≡ Some d
         → IsPreviewOf k d (first_value (found_of matches.now) (codes "OLDAUTO")) r) }
 {
+    let kconfig = word(alloc, matches, "KCONFIG")?;
+    let dotconfig = word(alloc, matches, "DOTCONFIG")?;
+    let old = optional_word(alloc, matches, "OLDAUTO")?;
     Ok(Request::Preview {
-        kconfig: word(alloc, matches, "KCONFIG")?,
-        dotconfig: word(alloc, matches, "DOTCONFIG")?,
-        old: optional_word(alloc, matches, "OLDAUTO")?,
+        kconfig,
+        dotconfig,
+        old,
     })
 }
 
-fn fixdep_request(alloc: Global, matches: &ArgMatches<'_>) -> Result<Request, AllocError> {
-    Ok(Request::Fixdep {
-        depfile: word(alloc, matches, "DEPFILE")?,
-        target: word(alloc, matches, "TARGET")?,
-        command: word(alloc, matches, "COMMAND")?,
-    })
+fn batch_request(alloc: Global, matches: &ArgMatches<'_>) -> Result<Request, AllocError>
+    ensures { IfOk result (λ r. (p : List ℕ)
+        → first_value (found_of matches.now) (codes "SCRIPT") ≡ Some p → IsBatchOf p r) }
+{
+    let script = word(alloc, matches, "SCRIPT")?;
+    Ok(Request::Batch { script })
 }
 
-/// The request of the command `name` with these matches.
+/// The words of the argument `id`.
+fn all_words(alloc: Global, matches: &ArgMatches<'_>, id: &str) -> Result<Vec<String>, AllocError> {
+    let mut words = Vec::new(alloc);
+    if let Some(texts) = matches.get_strs(id) {
+        for text in texts {
+            words.push(String::from_str(alloc, *text)?)?;
+        }
+    }
+    Ok(words)
+}
+
+/// The request of the command `name` with these matches, where `clap` let that name through.
 fn request_named(alloc: Global, name: &str, matches: &ArgMatches<'_>) -> Result<Request, AllocError>
+    ensures batch { IfOk result (λ r. (p : List ℕ) → name.now ≡ codes "batch"
+        → first_value (found_of matches.now) (codes "SCRIPT") ≡ Some p → IsBatchOf p r) }
     ensures preview { IfOk result (λ r. (k d : List ℕ) → name.now ≡ codes "preview"
         → first_value (found_of matches.now) (codes "KCONFIG") ≡ Some k
         → first_value (found_of matches.now) (codes "DOTCONFIG") ≡ Some d
         → IsPreviewOf k d (first_value (found_of matches.now) (codes "OLDAUTO")) r) }
 {
-    if name == "preview" {
-        preview_request(alloc, matches)
-    } else {
-        fixdep_request(alloc, matches)
+    match name {
+        "sync" => Ok(Request::Sync {
+            kconfig: word(alloc, matches, "KCONFIG")?,
+            dotconfig: word(alloc, matches, "DOTCONFIG")?,
+        }),
+        "preview" => preview_request(alloc, matches),
+        "fixdep" => Ok(Request::Fixdep {
+            depfile: word(alloc, matches, "DEPFILE")?,
+            target: word(alloc, matches, "TARGET")?,
+            command: word(alloc, matches, "COMMAND")?,
+        }),
+        "record" => Ok(Request::Record {
+            depfile: word(alloc, matches, "DEPFILE")?,
+            target: word(alloc, matches, "TARGET")?,
+            command: word(alloc, matches, "COMMAND")?,
+        }),
+        "batch" => batch_request(alloc, matches),
+        "outdated" => Ok(Request::Outdated {
+            target: word(alloc, matches, "TARGET")?,
+            command: word(alloc, matches, "COMMAND")?,
+        }),
+        _ => Ok(Request::Stale {
+            targets: all_words(alloc, matches, "TARGET")?,
+        }),
     }
 }
 
@@ -107,6 +143,10 @@ fn missing_command(alloc: Global) -> Result<WordsError, AllocError> {
 
 /// The request that the words after the program's name make. A word that begins with `-` is taken behind `--`.
 pub fn request_of<'a>(alloc: Global, words: &'a [&'a str]) -> Result<Request, WordsError>
+    ensures batch { IfOk result (λ r. (p : List ℕ) → texts words.entry.now ≡ codes "batch" ∷ p ∷ []
+        → IsPlainWord p → IsBatchOf p r) }
+    ensures batch_taken { IfErr result (λ e. (p : List ℕ) → texts words.entry.now ≡ codes "batch" ∷ p ∷ []
+        → IsPlainWord p → IsWantOfMemory e) }
     ensures preview { IfOk result (λ r. (k d : List ℕ)
         → texts words.entry.now ≡ codes "preview" ∷ k ∷ d ∷ []
         → IsPlainWord k → IsPlainWord d → IsPreviewOf k d None r) }

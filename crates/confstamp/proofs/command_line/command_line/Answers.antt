@@ -1,15 +1,25 @@
-use Rattle.std.proofs.Common.{◌≡◌, ◌∙◌, ap, codes, true}
-use Rattle.std.proofs.lemmas.Result.{IfOk-weaker}
-use Rattle.clap.specs.Words.{App, new_app}
+use Rattle.std.proofs.Common.{◌≡◌, ◌∙◌, ap, codes, sym, true, arith, refl}
 use Rattle.clap.specs.Simple.{app_of_fields, on_top}
-use Rattle.confstamp.proofs.RuleLemmas.{added}
+use Rattle.clap.specs.Words.{app_of, new_app, with_subcommand}
+use Rattle.confstamp.specs.CommandLine.{bare_app, usage_app}
+use Rattle.confstamp.proofs.RuleLemmas.{added, fold_more}
 use Rattle.confstamp.proofs.command_line.command_line.Goals as goal
+
+pub loop-usage-init : goal.loop-usage-init
+loop-usage-init c =
+    let named : app_of c.in_ok-bin_name.field-0 ≡ new_app (codes "confstamp") = ap app_of_fields c.in_ok-bin_name.ensures.0 ∙ c.new.ensures.app in
+    let told : app_of c.after_help.result ≡ new_app (codes "confstamp")
+    = ap app_of_fields c.after_help.ensures ∙ (ap app_of_fields c.about.ensures ∙ named) in
+    let versioned = ap app_of_fields c.version.ensures ∙ ap (on_top (λ s. record s { has_version = true })) told in
+    let bare = ap app_of_fields c.no_binary_name.ensures ∙ ap (on_top (λ s. record s { no_binary_name = true })) versioned in
+    ap app_of_fields c.subcommand_required-command.ensures ∙ ap (on_top (λ s. record s { subcommand_required = true })) bare
+
+pub loop-usage-preserved : goal.loop-usage-preserved
+loop-usage-preserved c =
+    added _ _ _ _ _ c.in_ok-command.ensures c.in_ok-subcommand.ensures.local c.loop-usage.invariant c.in_ok-subcommand.ensures.app
+    ∙ sym (fold_more (λ a sub. with_subcommand a sub.top) usage_app bare_app _ c.loop-usage.usage-index _ c.loop-usage-test.true)
 
 pub returns : goal.returns
 returns c =
-    let named = ap app_of_fields c.in_ok-bin_name.ensures.0 ∙ c.new.ensures.app in
-    let versioned = ap app_of_fields c.version.ensures ∙ ap (on_top (λ s. record s { has_version = true })) named in
-    let bare = ap app_of_fields c.no_binary_name.ensures ∙ ap (on_top (λ s. record s { no_binary_name = true })) versioned in
-    let top = ap app_of_fields c.subcommand_required-top.ensures ∙ ap (on_top (λ s. record s { subcommand_required = true })) bare in
-    let one = added _ _ _ _ _ c.in_ok-subcommand.ensures c.in_ok-preview.ensures.local top c.in_ok-preview.ensures.app in
-    IfOk-weaker c.subcommand-2.result _ _ (λ r h. added _ _ _ _ _ h c.in_ok-fixdep.ensures.local one c.in_ok-fixdep.ensures.app) c.subcommand-2.ensures
+    let all : c.loop-usage.usage-index ≡ 7 = omega arith in
+    c.loop-usage.invariant ∙ rw all refl

@@ -1,2 +1,5 @@
 pub mod Refusing
 pub mod Writing
+pub mod Printing
+pub mod Headline
+pub mod Verdicts

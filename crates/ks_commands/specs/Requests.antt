@@ -1,7 +1,7 @@
 -- What is asked of the program, without where its words lie.
-use Rattle.std.specs.Prelude.{◌≡◌, ℕ, List, Option, option_map, string_bytes}
+use Rattle.std.specs.Prelude.{◌≡◌, ℕ, List, Option, map, option_map, string_bytes, ⊤}
 use Rattle.ks_commands.specs.declared.request.Request.{Request}
-use Rattle.ks_commands.specs.declared.request.Request.TheVariants.{Batch, Preview}
+use Rattle.ks_commands.specs.declared.request.Request.TheVariants.{Batch, Outdated, Preview, Record, Stale, Sync}
 
 -- the request is a preview of these two files, over this old auto.conf if there is one
 abbrev pub IsPreviewOf : List ℕ → List ℕ → Option (List ℕ) → Request → Type 0
@@ -13,3 +13,20 @@ IsPreviewOf kconfig dotconfig old _ = ⊥
 abbrev pub IsBatchOf : List ℕ → Request → Type 0
 IsBatchOf path (Batch p) = string_bytes p ≡ path
 IsBatchOf path _ = ⊥
+
+-- the request asks which of these objects are stale
+abbrev pub IsStaleOf : List (List ℕ) → Request → Type 0
+IsStaleOf objects (Stale targets) = map (λ target. string_bytes target) targets.items ≡ objects
+IsStaleOf objects _ = ⊥
+
+-- the request asks whether this object was built by this command
+abbrev pub IsOutdatedOf : List ℕ → List ℕ → Request → Type 0
+IsOutdatedOf object command (Outdated t c) = (string_bytes t ≡ object) × (string_bytes c ≡ command)
+IsOutdatedOf object command _ = ⊥
+
+-- all requests but a synchronisation, a record and a script, which may write to the tree
+abbrev pub OnlyReads : Request → Type 0
+OnlyReads (Sync kconfig dotconfig) = ⊥
+OnlyReads (Record depfile target command) = ⊥
+OnlyReads (Batch script) = ⊥
+OnlyReads _ = ⊤

@@ -2,7 +2,7 @@
 //!
 //! All paths are looked at before the first file is read, so that a misspelt word costs nothing; and all files
 //! are read before anything is parsed.
-ghost use Rattle.std.specs.Prelude.{◌≡◌, ◌↔◌, IfOk, OnOk, IsTrue, Some, option_map};
+ghost use Rattle.std.specs.Prelude.{◌≡◌, ◌↔◌, ◌≤◌, IfOk, OnOk, IsTrue, Some, option_map};
 ghost use Rattle.ks_symbols.specs.Names.{is_path};
 ghost use Rattle.ks_tree.specs.Files.{content};
 ghost use Rattle.ks_commands.specs.Outputs.{IsLegalIfNamed, IsNamed};
@@ -24,6 +24,23 @@ pub(crate) fn check_path(path: &str) -> Result<(), Refusal>
 }
 
 /// The bytes of a file that has to be there.
+pub(crate) fn read_there<T: Tree>(
+    alloc: Global,
+    tree: &mut T,
+    path: &[u8],
+) -> Result<Vec<u8>, Refusal>
+    ensures honest { T.is_honest tree.old ↔ T.is_honest tree.new }
+    ensures unchanged { T.is_honest tree.old → T.files tree.new ≡ T.files tree.old }
+    ensures bytes { T.is_honest tree.old → IfOk result (λ v. content (T.files tree.old) path.now ≡ Some v.items) }
+    ensures later { T.failures tree.old ≤ T.failures tree.new }
+{
+    match tree.read(alloc, path)? {
+        Some(bytes) => Ok(bytes),
+        None => Err(Refusal::MissingFile(String::from_utf8_lossy(alloc, path)?)),
+    }
+}
+
+/// The bytes of the file that a word names.
 pub(crate) fn read_file<T: Tree>(
     alloc: Global,
     tree: &mut T,
@@ -33,10 +50,7 @@ pub(crate) fn read_file<T: Tree>(
     ensures unchanged { T.is_honest tree.old → T.files tree.new ≡ T.files tree.old }
     ensures bytes { T.is_honest tree.old → IfOk result (λ v. content (T.files tree.old) path.now ≡ Some v.items) }
 {
-    match tree.read(alloc, path.as_bytes())? {
-        Some(bytes) => Ok(bytes),
-        None => Err(Refusal::MissingFile(String::from_str(alloc, path)?)),
-    }
+    read_there(alloc, tree, path.as_bytes())
 }
 
 /// Refuses a word that may be left out and is no legal path.

@@ -1,30 +1,32 @@
 //! Doing what was asked for, over any tree and any two writers.
 //!
 //! A command that is refused as a whole writes nothing to the output and one line to standard error.
-ghost use Rattle.std.specs.Prelude.{◌≡◌, ◌↔◌, ◌⊎◌, ℕ, List, Option, IfOk, OnOk, None, Some, option_map, string_bytes};
-ghost use Rattle.std.specs.Io.KnownBytes.{Keeps};
-ghost use Rattle.ks_commands.specs.Outputs.{IsNamed, WritesPreview};
-ghost use Rattle.ks_commands.specs.Requests.{IsPreviewOf};
+ghost use Rattle.std.specs.Prelude.{◌≡◌, ◌↔◌, ◌⊎◌, ◌<◌, ◌≤◌, ℕ, List, Option, IfOk, OnOk, option_map, string_bytes};
+ghost use Rattle.ks_engine.specs.History.{History};
+ghost use Rattle.ks_engine.specs.Shows.{Shows};
+ghost use Rattle.ks_engine.specs.Follows.{at};
+ghost use Rattle.ks_commands.specs.Batch.{WritesBatch};
+ghost use Rattle.ks_commands.specs.Outputs.{WritesPreview};
+ghost use Rattle.ks_commands.specs.Questions.{WritesState, WritesVerdicts};
+ghost use Rattle.ks_commands.specs.Replies.{code_of};
+ghost use Rattle.ks_commands.specs.Requests.{IsBatchOf, IsOutdatedOf, IsPreviewOf, IsStaleOf, OnlyReads};
+ghost use Rattle.ks_commands.specs.declared.status.Status.TheVariants.{Done};
 
+use crate::batch::run_script;
+use crate::changes::{record_target, synchronise};
 use crate::fixdep::command_file_text;
 use crate::inputs::{check_named, check_path, lent, read_file, read_named};
+use crate::output::{flush, put};
 use crate::preview::preview_to;
+use crate::questions::{outdated_target, stale_targets};
 use crate::refusal::Refusal;
 use crate::request::Request;
+use crate::status::{Status, exit_status};
 use ks_tree::Tree;
 use std::alloc::Global;
 use std::io::Write;
 
-/// Sees out what a writer may have kept back.
-fn flush<W: Write>(out: &mut W) -> Result<(), Refusal>
-    ensures { OnOk result (Keeps (W.contents out.old) (W.contents out.new)) }
-{
-    match out.flush() {
-        Ok(()) => Ok(()),
-        Err(_) => Err(Refusal::Output),
-    }
-}
-
+/// Prints what a synchronisation would do.
 fn preview<T: Tree, W: Write>(
     alloc: Global,
     tree: &mut T,
@@ -32,10 +34,11 @@ fn preview<T: Tree, W: Write>(
     dotconfig: &str,
     old: Option<&str>,
     out: &mut W,
-) -> Result<(), Refusal>
+) -> Result<Status, Refusal>
     ensures honest { T.is_honest tree.old ↔ T.is_honest tree.new }
     ensures unchanged { T.is_honest tree.old → T.files tree.new ≡ T.files tree.old }
     ensures written { T.is_honest tree.old → OnOk result (WritesPreview (T.files tree.old) kconfig.now dotconfig.now (option_map (λ p. p.now) old.entry) (W.contents out.old) (W.contents out.new)) }
+    ensures done { IfOk result (λ status. status ≡ Done) }
 {
     check_path(kconfig)?;
     check_path(dotconfig)?;
@@ -45,9 +48,10 @@ fn preview<T: Tree, W: Write>(
     let old = read_named(alloc, tree, old)?;
     preview_to(alloc, &kconfig, &dotconfig, lent(&old), out)?;
     flush(out)?;
-    Ok(())
+    Ok(Status::Done)
 }
 
+/// Prints the command file of an object.
 fn fixdep<T: Tree, W: Write>(
     alloc: Global,
     tree: &mut T,
@@ -55,16 +59,91 @@ fn fixdep<T: Tree, W: Write>(
     target: &str,
     command: &str,
     out: &mut W,
-) -> Result<(), Refusal>
+) -> Result<Status, Refusal>
     ensures honest { T.is_honest tree.old ↔ T.is_honest tree.new }
     ensures unchanged { T.is_honest tree.old → T.files tree.new ≡ T.files tree.old }
 {
     let text = command_file_text(alloc, tree, depfile, target, command)?;
-    if out.write_all(&text).is_err() {
-        return Err(Refusal::Output);
+    put(out, &text)?;
+    Ok(Status::Done)
+}
+
+/// The path that may be named, lent.
+fn lent_path(path: &Option<String>) -> Option<&str>
+    ensures { option_map (λ p. p.now) result ≡ option_map (λ p. string_bytes p) path.now }
+{
+    match path {
+        Some(path) => Some(path.as_str()),
+        None => None,
     }
-    flush(out)?;
-    Ok(())
+}
+
+/// Does what was asked for, unless it is refused as a whole.
+fn outcome<T: Tree, W: Write>(
+    alloc: Global,
+    tree: &mut T,
+    request: &Request,
+    out: &mut W,
+) -> Result<Status, Refusal>
+    ensures honest { T.is_honest tree.old ↔ T.is_honest tree.new }
+    ensures preview { (k d : List ℕ) (o : Option (List ℕ)) → IsPreviewOf k d o request.now → T.is_honest tree.old
+        → OnOk result (WritesPreview (T.files tree.old) k d o (W.contents out.old) (W.contents out.new)) }
+    ensures preview_done { (k d : List ℕ) (o : Option (List ℕ)) → IsPreviewOf k d o request.now → IfOk result (λ status. status ≡ Done) }
+    ensures batch { (p : List ℕ) → IsBatchOf p request.now → T.is_honest tree.old → (h : History) → Shows (T.files tree.old) h
+        → IfOk result (λ status. code_of status < 2 → (last : History)
+        × WritesBatch p (at (T.files tree.old) (T.failures tree.old) h) (at (T.files tree.new) (T.failures tree.new) last) (W.contents out.old) (W.contents out.new) (code_of status)) }
+    ensures stale { (objects : List (List ℕ)) → IsStaleOf objects request.now → T.is_honest tree.old
+        → IfOk result (λ status. code_of status < 2 → WritesVerdicts (T.files tree.old) objects (W.contents out.old) (W.contents out.new) (code_of status)) }
+    ensures outdated { (object command : List ℕ) → IsOutdatedOf object command request.now → T.is_honest tree.old
+        → IfOk result (λ status. code_of status < 2 → WritesState (T.files tree.old) object command (W.contents out.old) (W.contents out.new) (code_of status)) }
+    ensures unchanged { OnlyReads request.now → T.is_honest tree.old → T.files tree.new ≡ T.files tree.old }
+{
+    match request {
+        Request::Sync { kconfig, dotconfig } => {
+            synchronise(alloc, tree, kconfig.as_str(), dotconfig.as_str(), out)
+        }
+        Request::Preview {
+            kconfig,
+            dotconfig,
+            old,
+        } => {
+            let old = lent_path(old);
+            preview(alloc, tree, kconfig.as_str(), dotconfig.as_str(), old, out)
+        }
+        Request::Fixdep {
+            depfile,
+            target,
+            command,
+        } => {
+            fixdep(
+                alloc,
+                tree,
+                depfile.as_str(),
+                target.as_str(),
+                command.as_str(),
+                out,
+            )
+        }
+        Request::Record {
+            depfile,
+            target,
+            command,
+        } => {
+            record_target(
+                alloc,
+                tree,
+                depfile.as_str(),
+                target.as_str(),
+                command.as_str(),
+                out,
+            )
+        }
+        Request::Stale { targets } => stale_targets(alloc, tree, targets, out),
+        Request::Outdated { target, command } => {
+            outdated_target(alloc, tree, target.as_str(), command.as_str(), out)
+        }
+        Request::Batch { script } => run_script(alloc, tree, script.as_str(), out),
+    }
 }
 
 /// Prints `confstamp: ` and why a command was refused, as well as that goes. The status is 2 also where that fails.
@@ -76,7 +155,8 @@ pub fn refuse<E: Write>(err: &mut E, refusal: &Refusal) -> u8
     2
 }
 
-/// Does what was asked for, and answers the exit status: 0 done, 2 refused.
+/// Does what was asked for, and answers the exit status: 0 done and nothing stale, 1 something stale or built by
+/// another command, 2 something refused.
 pub fn perform<T: Tree, W: Write, E: Write>(
     alloc: Global,
     tree: &mut T,
@@ -85,40 +165,26 @@ pub fn perform<T: Tree, W: Write, E: Write>(
     err: &mut E,
 ) -> u8
     ensures honest { T.is_honest tree.old ↔ T.is_honest tree.new }
+    ensures at_most { result ≤ 2 }
+    // A preview, and what writes nothing to the tree.
     ensures preview { (k d : List ℕ) (o : Option (List ℕ)) → IsPreviewOf k d o request.now → T.is_honest tree.old → result ≡ 0
         → WritesPreview (T.files tree.old) k d o (W.contents out.old) (W.contents out.new) }
     ensures unchanged { (k d : List ℕ) (o : Option (List ℕ)) → IsPreviewOf k d o request.now → T.is_honest tree.old
         → T.files tree.new ≡ T.files tree.old }
     ensures status { (k d : List ℕ) (o : Option (List ℕ)) → IsPreviewOf k d o request.now → (result ≡ 0) ⊎ (result ≡ 2) }
+    ensures only_reads { OnlyReads request.now → T.is_honest tree.old → T.files tree.new ≡ T.files tree.old }
+    // A script: from each history that the files show its commands ran, and the files show the last one.
+    ensures batch { (p : List ℕ) → IsBatchOf p request.now → T.is_honest tree.old → (h : History) → Shows (T.files tree.old) h → result < 2
+        → (last : History) × WritesBatch p (at (T.files tree.old) (T.failures tree.old) h) (at (T.files tree.new) (T.failures tree.new) last)
+        (W.contents out.old) (W.contents out.new) result }
+    // Questions about objects.
+    ensures stale { (objects : List (List ℕ)) → IsStaleOf objects request.now → T.is_honest tree.old → result < 2
+        → WritesVerdicts (T.files tree.old) objects (W.contents out.old) (W.contents out.new) result }
+    ensures outdated { (object command : List ℕ) → IsOutdatedOf object command request.now → T.is_honest tree.old → result < 2
+        → WritesState (T.files tree.old) object command (W.contents out.old) (W.contents out.new) result }
 {
-    let outcome = match request {
-        Request::Preview {
-            kconfig,
-            dotconfig,
-            old,
-        } => {
-            let old = match old {
-                Some(path) => Some(path.as_str()),
-                None => None,
-            };
-            preview(alloc, tree, kconfig.as_str(), dotconfig.as_str(), old, out)
-        }
-        Request::Fixdep {
-            depfile,
-            target,
-            command,
-        } => fixdep(
-            alloc,
-            tree,
-            depfile.as_str(),
-            target.as_str(),
-            command.as_str(),
-            out,
-        ),
-        _ => Err(Refusal::Output),
-    };
-    match outcome {
-        Ok(()) => 0,
+    match outcome(alloc, tree, request, out) {
+        Ok(status) => exit_status(status),
         Err(refusal) => refuse(err, &refusal),
     }
 }

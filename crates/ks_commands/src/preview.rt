@@ -94,7 +94,7 @@ fn read_old(alloc: Global, old: Option<&[u8]>) -> Result<OldConfig, AutoError>
 }
 
 /// A line `touch NAME` for each name.
-fn write_touches(names: &[Name], out: &mut Vec<u8>) -> Result<(), AllocError>
+pub(crate) fn write_touches(names: &[Name], out: &mut Vec<u8>) -> Result<(), AllocError>
     ensures { OnOk result (out.new.items ≡ out.old.items ++ touch_lines names.now) }
 {
     for name in names {

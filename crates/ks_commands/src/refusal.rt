@@ -3,13 +3,14 @@
 //! A text is a number, a name and the place. The number says which part refused: 1 to 8 a line of a Kconfig or
 //! `.config`, 11 one of auto.conf, 30 the tree, and so on; docs/refusals.md has them all.
 ghost use Rattle.std.specs.Prelude.{◌≡◌};
-ghost use Rattle.ks_commands.specs.declared.refusal.Refusal.TheVariants.{Dependencies, Engine, OutOfMemory, Preview, Tree};
+ghost use Rattle.ks_commands.specs.declared.refusal.Refusal.TheVariants.{Dependencies, Engine, OutOfMemory, Preview, Script, Tree};
 
 use crate::preview::PreviewError;
 use ks_engine::EngineError;
 use ks_fixdep::DepError;
+use ks_script::ScriptError;
 use ks_tree::TreeFault;
-use std::alloc::AllocError;
+use std::alloc::{AllocError, AllocFailed};
 use thiserror::Error;
 
 /// Why a command was refused as a whole.
@@ -24,6 +25,8 @@ pub enum Refusal {
     Dependencies(DepError),
     #[error("{0}")]
     Engine(EngineError),
+    #[error("{0}")]
+    Script(ScriptError),
     /// An argument is no legal path, or no legal target.
     #[error("21 BadPath token 0")]
     BadArgument,
@@ -69,6 +72,22 @@ impl From<EngineError> for Refusal {
 
     fn from(error: EngineError) -> Refusal {
         Refusal::Engine(error)
+    }
+}
+
+impl From<ScriptError> for Refusal {
+    ghost from_gives = { λ e r. r ≡ Script e };
+
+    fn from(error: ScriptError) -> Refusal {
+        Refusal::Script(error)
+    }
+}
+
+impl<T: Drop> From<AllocFailed<T>> for Refusal {
+    ghost from_gives = { λ _ r. r ≡ OutOfMemory };
+
+    fn from(_error: AllocFailed<T>) -> Refusal {
+        Refusal::OutOfMemory
     }
 }
 

@@ -4,7 +4,10 @@
 #[derive(Debug, Drop)]
 pub enum Request {
     /// Bring the tree to a configuration.
-    Sync { kconfig: String, dotconfig: String },
+    Sync {
+        kconfig: String,
+        dotconfig: String,
+    },
     /// What a synchronisation would do, over an old auto.conf or as the first one.
     Preview {
         kconfig: String,
@@ -24,9 +27,16 @@ pub enum Request {
         command: String,
     },
     /// Which of these objects are stale.
-    Stale { targets: Vec<String> },
+    Stale {
+        targets: Vec<String>,
+    },
     /// Whether an object was built by another command, or is stale.
-    Outdated { target: String, command: String },
+    Outdated {
+        target: String,
+        command: String,
+    },
     /// The commands of a script, in one run.
-    Batch { script: String },
+    Batch {
+        script: String,
+    },
 }

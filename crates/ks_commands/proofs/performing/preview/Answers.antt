@@ -1,4 +1,4 @@
-use Rattle.std.proofs.Common.{◌≡◌, ℕ, List, Option, option_map, ap, sym, subst, ◌∙◌}
+use Rattle.std.proofs.Common.{ℕ, List, option_map, ap, sym, subst, ◌∙◌}
 use Rattle.std.specs.Borrow.{Bor}
 use Rattle.ks_tree.specs.Files.{Files, content}
 use Rattle.ks_commands.specs.Outputs.{IsNamed}

@@ -1,6 +1,5 @@
 use Rattle.std.proofs.Common.{subst}
 use Rattle.std.specs.Io.KnownBytes.{Appends}
-use Rattle.ks_commands.proofs.Refusing.{nothing_written}
 use Rattle.ks_commands.proofs.preview.preview_to.Goals as goal
 
 pub returns-in-Ok-clause-written : goal.returns-in-Ok-clause-written

@@ -1,0 +1,53 @@
+-- What a script does to a tree, and what is printed of it.
+use Rattle.std.specs.Prelude.{◌≡◌, ◌≤◌, ℕ, true, IsTrue, List, Option, Some, map, option_and_then, option_map, if◌then◌else◌}
+use Rattle.std.specs.List.{list_all, list_any}
+use Rattle.std.specs.Io.KnownBytes.{Appends}
+use Rattle.ks_symbols.specs.Names.{is_path}
+use Rattle.ks_tree.specs.Files.{Files, content}
+use Rattle.ks_engine.specs.declared.commands.Reply.{Reply}
+use Rattle.ks_engine.specs.Actions.{Action}
+use Rattle.ks_engine.specs.Actions as asked
+use Rattle.ks_engine.specs.Follows.{State, at}
+use Rattle.ks_engine.specs.Runs.{Run}
+use Rattle.ks_script.specs.Script.{Line, Sync, Record, Stale, script_lines}
+use Rattle.ks_commands.specs.declared.batch.Loaded.{Loaded}
+use Rattle.ks_commands.specs.declared.batch.Loaded.TheVariants as loaded
+use Rattle.ks_commands.specs.Replies.{reply_lines, is_answered, is_stale}
+
+-- what a line asks for, with the files at its paths; nothing where one of them is missing
+abbrev pub action_in : Files → Line → Option Action
+action_in files (Sync kconfig dotconfig) = option_and_then (λ k. option_map (λ d. asked.Sync k d) (content files dotconfig)) (content files kconfig)
+action_in files (Record depfile target command) = Some (asked.Record depfile target command)
+action_in files (Stale target) = Some (asked.Stale target)
+
+-- the action of a command whose files are read
+abbrev pub loaded_action : Loaded → Action
+loaded_action (loaded.Sync kconfig dotconfig) = asked.Sync kconfig.items dotconfig.items
+loaded_action (loaded.Record depfile target command) = asked.Record depfile.now target.now command.now
+loaded_action (loaded.Stale target) = asked.Stale target.now
+
+-- These are the actions of a script, by the files that it names.
+abbrev pub IsScript : List ℕ → Files → List Action → Type 0
+IsScript text files actions = map (action_in files) (script_lines text) ≡ map (λ a. Some a) actions
+
+-- The actions of a script ran without a refusal. The text is their lines, and the status says whether something is stale.
+pub record IsBatch (script : List ℕ) (before after : State) (text : List ℕ) (status : ℕ) : Type 0 where
+  pub actions : List Action
+  pub named : IsScript script before.files actions
+  -- what the tree has counted once all files are read
+  pub failures : ℕ
+  pub later : before.failures ≤ failures
+  pub replies : List Reply
+  pub run : Run (at before.files failures before.history) actions replies after
+  pub answered : list_all is_answered replies ≡ true
+  pub lines : text ≡ reply_lines actions replies
+  pub stale : status ≡ (if list_any is_stale replies then 1 else 0)
+
+-- The path is legal, the script is there, and what the writer is known to hold grew by the lines of its run.
+pub record WritesBatch (path : List ℕ) (before after : State) (known_before known_after : Option (List ℕ)) (status : ℕ) : Type 0 where
+  pub script : List ℕ
+  pub text : List ℕ
+  pub legal : IsTrue (is_path path)
+  pub there : content before.files path ≡ Some script
+  pub batch : IsBatch script before after text status
+  pub appended : Appends known_before known_after text

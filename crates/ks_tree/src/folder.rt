@@ -12,7 +12,7 @@ use crate::{Tree, TreeFault};
 use ks_symbols::MAX_BYTES;
 use std::alloc::Global;
 use std::fs::OpenFile;
-use std::io::{ErrorKind, Read, Seek, SeekFrom};
+use std::io::{BufRead, BufReader, ErrorKind, Read, Seek, SeekFrom};
 use std::rt::Files;
 use std::{fs, io};
 
@@ -25,11 +25,15 @@ pub struct FolderTree<R: Files> {
     kept: Option<Kept<R::File>>,
 }
 
-/// The file of the last `read_at`, kept open so that a prerequisite costs one open however many pieces it has.
+/// How much of a file is read from the system at once, for the pieces that follow.
+const READ_AHEAD: usize = 65536;
+
+/// The file of the last `read_at`, kept open so that a prerequisite costs one open however many pieces it has. Its next piece
+/// stands at the position.
 #[derive(Drop)]
 struct Kept<F> {
     path: Vec<u8>,
-    file: F,
+    reader: BufReader<F>,
     position: u64,
 }
 
@@ -54,6 +58,17 @@ fn read_bytes<F: Read + OpenFile + Drop>(alloc: Global, file: F) -> io::Result<O
     Ok(Some(bytes))
 }
 
+/// A reader of a newly opened file, in the memory of an earlier one if there is one.
+fn reader_of<F: Read + Drop>(alloc: Global, earlier: Option<BufReader<F>>, file: F) -> io::Result<BufReader<F>> {
+    let Some(mut reader) = earlier else {
+        return BufReader::with_capacity(alloc, READ_AHEAD, file);
+    };
+    let left = reader.buffer().len();
+    reader.consume(left);
+    *reader.get_mut() = file;
+    Ok(reader)
+}
+
 /// Reads until the room is full or the file has no more.
 fn fill<F: Read>(file: &mut F, into: &mut [u8]) -> io::Result<usize>
     ensures { IfOk result (λ n. n ≤ length into.new) }
@@ -74,14 +89,15 @@ fn fill<F: Read>(file: &mut F, into: &mut [u8]) -> io::Result<usize>
 }
 
 impl<F: Read + Seek> Kept<F> {
-    /// The bytes from an offset on, as many as there is room for. A piece behind the last one needs no seek.
+    /// The bytes from an offset on, as many as there is room for. Only a piece behind the last one is taken from what was
+    /// read ahead. Fewer bytes than there is room for are given only where the file itself had no more at this call.
     fn read(&mut self, offset: u64, into: &mut [u8]) -> io::Result<usize>
         ensures { IfOk result (λ n. n ≤ length into.new) }
     {
         if self.position != offset {
-            self.position = self.file.seek(SeekFrom::Start(offset))?;
+            self.position = self.reader.seek(SeekFrom::Start(offset))?;
         }
-        let len = fill(&mut self.file, into)?;
+        let len = fill(&mut self.reader, into)?;
         self.position = self.position.saturating_add(len as u64);
         Ok(len)
     }
@@ -175,25 +191,32 @@ impl<R: Files> FolderTree<R> {
         }
     }
 
-    /// The kept file, where it is that of the path, or else the path's own, newly opened.
-    fn take_kept(&mut self, alloc: Global, path: &[u8]) -> Result<Option<Kept<R::File>>, TreeFault>
+    /// The kept file, where it is that of the path, or else the path's own, newly opened. It is opened anew for its first
+    /// bytes too, so that nothing is given that was read ahead for an earlier reading.
+    fn take_kept(&mut self, alloc: Global, path: &[u8], offset: u64) -> Result<Option<Kept<R::File>>, TreeFault>
         ensures later { self.old.failures ≤ self.new.failures }
         ensures cause { IsErrOf result TreeFault.Device → HasRisen self.old.failures self.new.failures }
         ensures never { IsErrOf result TreeFault.TooLarge → ⊥ }
     {
+        let mut earlier = None;
         if let Some(kept) = self.kept.take() {
-            if kept.path.as_slice() == path {
+            if offset > 0 && kept.path.as_slice() == path {
                 return Ok(Some(kept));
             }
+            earlier = Some(kept.reader);
         }
         let Some(file) = self.open(alloc, path)? else {
             return Ok(None);
         };
-        Ok(Some(Kept {
-            path: path.to_vec(alloc)?,
-            file,
-            position: 0,
-        }))
+        let path = path.to_vec(alloc)?;
+        match reader_of(alloc, earlier, file) {
+            Ok(reader) => Ok(Some(Kept {
+                path,
+                reader,
+                position: 0,
+            })),
+            Err(error) => Err(self.fault(&error)),
+        }
     }
 }
 
@@ -222,7 +245,7 @@ impl<R: Files> Tree for FolderTree<R> {
         offset: u64,
         into: &mut [u8],
     ) -> Result<Option<usize>, TreeFault> {
-        let Some(mut kept) = self.take_kept(alloc, path)? else {
+        let Some(mut kept) = self.take_kept(alloc, path, offset)? else {
             return Ok(None);
         };
         // After a failure the position isn't known, so the file is not kept.

@@ -42,6 +42,7 @@ fn push_new_names(
     ensures before { OnOk result (before.new ≡ all_noted before.old names.now) }
 {
     for name in names.as_slice() {
+        let name = name.as_bytes();
         let count = before.len();
         before.note(name)?;
         if count < before.len() {

@@ -86,7 +86,7 @@ pub fn scan_all<T: Tree>(
     ensures cause { IsErrOf result EngineError.Device → HasRisen (T.failures tree.old) (T.failures tree.new) }
 {
     let mut room = [0; PIECE];
-    let mut found = Vec::new(alloc);
+    let mut found = Vec::with_capacity(alloc, prerequisites.len())?;
     for place in 0..prerequisites.len() {
         let names = scan_at(alloc, tree, prerequisites, place, &mut room)?;
         found.push(names)?;

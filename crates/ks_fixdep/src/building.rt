@@ -61,7 +61,7 @@ fn dependencies(
     requires { length found.now ≡ length prerequisites.now }
     ensures { IfOk result (λ deps. deps.items ≡ deps_after [] prerequisites.now found.now) }
 {
-    let mut deps = Vec::new(alloc);
+    let mut deps = Vec::with_capacity(alloc, prerequisites.len())?;
     let mut before = FoundNames::new(alloc);
     for (place, names) in found.iter().enumerate() {
         push_own_line(alloc, prerequisites, place, &mut deps)?;

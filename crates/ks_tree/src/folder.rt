@@ -4,6 +4,7 @@
 //! Only the system's "no such file" counts as a missing file. A folder, a file in the place of a folder, and every other
 //! failure are `Device`, since a build that takes an unreadable file for a missing one would call objects fresh.
 ghost use Rattle.std.specs.Prelude.{◌≡◌, ◌≤◌, ◌+◌, min, length, IfErr, IfOk, MatchOption, IsUtf8, string_bytes, IsErrOf};
+ghost use Rattle.std.specs.Cow.{cow_str_bytes};
 ghost use Rattle.std.specs.FinMap as map;
 ghost use Rattle.ks_tree.specs.Files.{HasRisen};
 ghost use Rattle.ks_tree.specs.Folder.{place_of};
@@ -11,6 +12,7 @@ ghost use Rattle.ks_tree.specs.Folder.{place_of};
 use crate::{Tree, TreeFault};
 use ks_symbols::MAX_BYTES;
 use std::alloc::Global;
+use std::borrow::CowStr;
 use std::fs::OpenFile;
 use std::io::{BufRead, BufReader, ErrorKind, Read, Seek, SeekFrom};
 use std::rt::Files;
@@ -58,15 +60,28 @@ fn read_bytes<F: Read + OpenFile + Drop>(alloc: Global, file: F) -> io::Result<O
     Ok(Some(bytes))
 }
 
-/// A reader of a newly opened file, in the memory of an earlier one if there is one.
-fn reader_of<F: Read + Drop>(alloc: Global, earlier: Option<BufReader<F>>, file: F) -> io::Result<BufReader<F>> {
-    let Some(mut reader) = earlier else {
-        return BufReader::with_capacity(alloc, READ_AHEAD, file);
+/// A newly opened file, in the memory of the file that was kept before, if there was one. What was read ahead of that one is
+/// dropped.
+fn keep<F: Read + Drop>(
+    alloc: Global,
+    earlier: Option<Kept<F>>,
+    path: &[u8],
+    file: F,
+) -> io::Result<Kept<F>> {
+    let Some(mut kept) = earlier else {
+        return Ok(Kept {
+            path: path.to_vec(alloc)?,
+            reader: BufReader::with_capacity(alloc, READ_AHEAD, file)?,
+            position: 0,
+        });
     };
-    let left = reader.buffer().len();
-    reader.consume(left);
-    *reader.get_mut() = file;
-    Ok(reader)
+    kept.path.clear();
+    kept.path.extend_from_slice(path)?;
+    let left = kept.reader.buffer().len();
+    kept.reader.consume(left);
+    *kept.reader.get_mut() = file;
+    kept.position = 0;
+    Ok(kept)
 }
 
 /// Reads until the room is full or the file has no more.
@@ -160,9 +175,9 @@ impl<R: Files> FolderTree<R> {
     }
 
     /// Where the path stands in the system, or `None` where it isn't text.
-    fn place(&self, alloc: Global, path: &[u8]) -> Result<Option<String>, TreeFault>
+    fn place<'a>(&self, alloc: Global, path: &'a [u8]) -> Result<Option<CowStr<'a>>, TreeFault>
         ensures place { IfOk result (λ found. MatchOption found (IsUtf8 path.now → ⊥)
-            (λ place. string_bytes place ≡ place_of (string_bytes self.now.root) path.now)) }
+            (λ place. cow_str_bytes place ≡ place_of (string_bytes self.now.root) path.now)) }
         ensures refused { IfErr result (λ e. e ≡ TreeFault.OutOfMemory) }
     {
         let Ok(path) = str::from_utf8(path) else {
@@ -170,9 +185,9 @@ impl<R: Files> FolderTree<R> {
         };
         let root = self.root.as_str();
         if path.starts_with('/') || root.is_empty() {
-            return Ok(Some(String::from_str(alloc, path)?));
+            return Ok(Some(CowStr::Borrowed(path)));
         }
-        Ok(Some(format!(in alloc; "{root}/{path}")?))
+        Ok(Some(CowStr::Owned(format!(in alloc; "{root}/{path}")?)))
     }
 
     /// The open file at a path, or `None` where there is none.
@@ -193,7 +208,12 @@ impl<R: Files> FolderTree<R> {
 
     /// The kept file, where it is that of the path, or else the path's own, newly opened. It is opened anew for its first
     /// bytes too, so that nothing is given that was read ahead for an earlier reading.
-    fn take_kept(&mut self, alloc: Global, path: &[u8], offset: u64) -> Result<Option<Kept<R::File>>, TreeFault>
+    fn take_kept(
+        &mut self,
+        alloc: Global,
+        path: &[u8],
+        offset: u64,
+    ) -> Result<Option<Kept<R::File>>, TreeFault>
         ensures later { self.old.failures ≤ self.new.failures }
         ensures cause { IsErrOf result TreeFault.Device → HasRisen self.old.failures self.new.failures }
         ensures never { IsErrOf result TreeFault.TooLarge → ⊥ }
@@ -203,18 +223,13 @@ impl<R: Files> FolderTree<R> {
             if offset > 0 && kept.path.as_slice() == path {
                 return Ok(Some(kept));
             }
-            earlier = Some(kept.reader);
+            earlier = Some(kept);
         }
         let Some(file) = self.open(alloc, path)? else {
             return Ok(None);
         };
-        let path = path.to_vec(alloc)?;
-        match reader_of(alloc, earlier, file) {
-            Ok(reader) => Ok(Some(Kept {
-                path,
-                reader,
-                position: 0,
-            })),
+        match keep(alloc, earlier, path, file) {
+            Ok(kept) => Ok(Some(kept)),
             Err(error) => Err(self.fault(&error)),
         }
     }

@@ -17,26 +17,32 @@ use std::alloc::Global;
 const PIECE: usize = 4096;
 
 /// The names of the file at a path, each once, by its first place there. A file that is gone between two pieces is missing.
-fn scan_file<T: Tree>(alloc: Global, tree: &mut T, path: &[u8]) -> Result<FoundNames, EngineError>
-    requires { IsTrue (is_path path.now) }
+/// Each piece is read into the same room.
+fn scan_file<T: Tree>(
+    alloc: Global,
+    tree: &mut T,
+    path: &[u8],
+    room: &mut [u8],
+) -> Result<FoundNames, EngineError>
+    requires path { IsTrue (is_path path.now) }
+    requires room { length room.old ≡ 4096 }
     ensures honest { T.is_honest tree.old ↔ T.is_honest tree.new }
     ensures unchanged { T.is_honest tree.old → T.files tree.new ≡ T.files tree.old }
     ensures names { T.is_honest tree.old → Answers (scanned path.now (content (T.files tree.old) path.now)) (λ found. found) result }
     ensures later { T.failures tree.old ≤ T.failures tree.new }
     ensures cause { IsErrOf result EngineError.Device → HasRisen (T.failures tree.old) (T.failures tree.new) }
 {
-    let mut piece = [0; PIECE];
     let mut source = SourceScan::new(alloc);
     let mut offset: u64 = 0;
     loop {
-        let Some(count) = tree.read_at(alloc, path, offset, &mut piece)? else {
+        let Some(count) = tree.read_at(alloc, path, offset, room)? else {
             return Err(EngineError::MissingFile(Path::new(alloc, path)?));
         };
         offset += count as u64;
         if offset > MAX_BYTES as u64 {
             return Err(EngineError::TooLarge);
         }
-        source.feed(&piece[..count])?;
+        source.feed(&room[..count])?;
         if count < PIECE {
             return Ok(source.finish()?);
         }
@@ -49,8 +55,10 @@ fn scan_at<T: Tree>(
     tree: &mut T,
     prerequisites: &Prerequisites,
     place: usize,
+    room: &mut [u8],
 ) -> Result<FoundNames, EngineError>
-    requires { place < length prerequisites.now }
+    requires place { place < length prerequisites.now }
+    requires room { length room.old ≡ 4096 }
     ensures honest { T.is_honest tree.old ↔ T.is_honest tree.new }
     ensures unchanged { T.is_honest tree.old → T.files tree.new ≡ T.files tree.old }
     ensures names { T.is_honest tree.old → (p : List ℕ × Role) → slice_get prerequisites.now place ≡ Some p
@@ -59,7 +67,7 @@ fn scan_at<T: Tree>(
     ensures cause { IsErrOf result EngineError.Device → HasRisen (T.failures tree.old) (T.failures tree.new) }
 {
     match prerequisites.get(place) {
-        Some((path, _)) => scan_file(alloc, tree, path),
+        Some((path, _)) => scan_file(alloc, tree, path, room),
         None => unreachable!(),
     }
 }
@@ -77,9 +85,10 @@ pub fn scan_all<T: Tree>(
     ensures later { T.failures tree.old ≤ T.failures tree.new }
     ensures cause { IsErrOf result EngineError.Device → HasRisen (T.failures tree.old) (T.failures tree.new) }
 {
-    let mut found = Vec::new(alloc);
+    let mut room = [0; PIECE];
+    let mut found = Vec::with_capacity(alloc, prerequisites.len())?;
     for place in 0..prerequisites.len() {
-        let names = scan_at(alloc, tree, prerequisites, place)?;
+        let names = scan_at(alloc, tree, prerequisites, place, &mut room)?;
         found.push(names)?;
     }
     Ok(found)

@@ -16,5 +16,6 @@ pub mod CommandStepLemmas
 pub mod CommandFormLemmas
 pub mod CommandFitLemmas
 pub mod CommandTextLemmas
+pub mod AsciiLemmas
 pub mod CommandFaultLemmas
 pub mod CommandWriteLemmas

@@ -1,5 +1,5 @@
--- Names and paths kept as owned vectors.
-use Rattle.std.proofs.Common.{◌≡◌, ℕ, Bool, true, false, List, [], ◌∷◌, ◌++◌, refl, ap, sym, ◌∙◌, map, Vec, Global, length, get_or, ◌<◌, Some}
+-- Names and paths kept as owned text.
+use Rattle.std.proofs.Common.{◌≡◌, ℕ, Bool, true, false, List, [], ◌∷◌, ◌++◌, refl, ap, sym, ◌∙◌, map, String, Global, length, get_or, ◌<◌, Some}
 use Rattle.std.specs.Map.{lookup}
 use Rattle.std.specs.Option.{is_some}
 use Rattle.std.specs.Str.{bytes_eq}
@@ -10,25 +10,25 @@ use Rattle.std.proofs.lemmas.Grind.{fold-append}
 use Rattle.std.proofs.lemmas.Bool.{cond-false}
 use Rattle.std.proofs.lemmas.List.{map-append}
 use Rattle.ks_fixdep.specs.FoundNames.{noted, all_noted}
-use Rattle.std.specs.Prelude.{◌||◌, ◌&&◌, Result, Ok, Err, OnOk, slice_get, if◌then◌else◌}
+use Rattle.std.specs.Prelude.{string_bytes, ◌||◌, ◌&&◌, Result, Ok, Err, OnOk, slice_get, if◌then◌else◌}
 use Rattle.std.specs.List.{list_all, list_any}
 use Rattle.std.proofs.lemmas.Option.{get_or_from_slice_get, slice_get_within}
 use Rattle.std.proofs.lemmas.List.Sums.{AllPass-from_list_all}
 
-abbrev pub items_of : List (Vec ℕ Global) → List (List ℕ)
-items_of vs = map (λ v. v.items) vs
+abbrev pub items_of : List (String Global) → List (List ℕ)
+items_of vs = map (λ v. string_bytes v) vs
 
--- a test of the bytes, over the vectors
-pub any-items : (test : List ℕ → Bool) (vs : List (Vec ℕ Global)) → list_any test (map (λ v. v.items) vs) ≡ list_any (λ v. test v.items) vs
+-- a test of the bytes, over the texts
+pub any-items : (test : List ℕ → Bool) (vs : List (String Global)) → list_any test (map (λ v. string_bytes v) vs) ≡ list_any (λ v. test (string_bytes v)) vs
 any-items test [] = refl
-any-items test (v ∷ vs) = ap (λ b. test v.items || b) (any-items test vs)
+any-items test (v ∷ vs) = ap (λ b. test (string_bytes v) || b) (any-items test vs)
 
--- what a set of vectors says once a new one is in it
-pub items_inserted : (ks new : List (Vec ℕ Global)) (owned : Vec ℕ Global) (name : List ℕ) → owned.items ≡ name → list_any (λ v. bytes_eq name v.items) ks ≡ false
-    → new ≡ (if list_any (λ v. bytes_eq owned.items v.items) ks then ks else ks ++ owned ∷ []) → items_of new ≡ noted (items_of ks) name
+-- what a set of texts says once a new one is in it
+pub items_inserted : (ks new : List (String Global)) (owned : String Global) (name : List ℕ) → string_bytes owned ≡ name → list_any (λ v. bytes_eq name (string_bytes v)) ks ≡ false
+    → new ≡ (if list_any (λ v. bytes_eq (string_bytes owned) (string_bytes v)) ks then ks else ks ++ owned ∷ []) → items_of new ≡ noted (items_of ks) name
 items_inserted ks new owned name same absent is =
-    ap items_of (is ∙ cond-false _ _ _ (ap (λ n. list_any (λ v. bytes_eq n v.items) ks) same ∙ absent))
-    ∙ map-append (λ v. v.items) ks (owned ∷ [])
+    ap items_of (is ∙ cond-false _ _ _ (ap (λ n. list_any (λ v. bytes_eq n (string_bytes v)) ks) same ∙ absent))
+    ∙ map-append (λ v. string_bytes v) ks (owned ∷ [])
     ∙ ap (λ n. items_of ks ++ n ∷ []) same
     ∙ sym (cond-false _ _ _ (any-items (bytes_eq name) ks ∙ absent))
 
@@ -44,33 +44,33 @@ pub on_ok : {T E P Q : Type 0} (r : Result T E) → (P → Q) → OnOk r P → O
 on_ok (Ok x) f p = f p
 on_ok (Err e) f p = tt
 
-abbrev same_items : Vec ℕ Global → Vec ℕ Global → Bool
-same_items a b = bytes_eq a.items b.items
+abbrev same_items : String Global → String Global → Bool
+same_items a b = bytes_eq (string_bytes a) (string_bytes b)
 
 -- a path is looked up among the entries_seen
-pub some-any : (path : List ℕ) (es : List (Vec ℕ Global × Role)) → is_some (lookup (λ k. bytes_eq path k.items) es) ≡ list_any (λ x. bytes_eq path x.0) (entries_seen es)
+pub some-any : (path : List ℕ) (es : List (String Global × Role)) → is_some (lookup (λ k. bytes_eq path (string_bytes k)) es) ≡ list_any (λ x. bytes_eq path x.0) (entries_seen es)
 some-any path [] = refl
-some-any path (e ∷ es) = elim (bytes_eq path e.0.items) as (λ b. is_some (if b then Some e.1 else lookup (λ k. bytes_eq path k.items) es) ≡ (b || list_any (λ x. bytes_eq path x.0) (entries_seen es))) [
+some-any path (e ∷ es) = elim (bytes_eq path (string_bytes e.0)) as (λ b. is_some (if b then Some e.1 else lookup (λ k. bytes_eq path (string_bytes k)) es) ≡ (b || list_any (λ x. bytes_eq path x.0) (entries_seen es))) [
   | true ↦ refl
   | false ↦ some-any path es
 ]
 
 -- a path that is not there goes to the end
-pub insert-new : (k : Vec ℕ Global) (r : Role) (es : List (Vec ℕ Global × Role)) → list_any (λ x. bytes_eq k.items x.0) (entries_seen es) ≡ false → entries_seen (insert_entry same_items es k r) ≡ entries_seen es ++ (k.items, r) ∷ []
+pub insert-new : (k : String Global) (r : Role) (es : List (String Global × Role)) → list_any (λ x. bytes_eq (string_bytes k) x.0) (entries_seen es) ≡ false → entries_seen (insert_entry same_items es k r) ≡ entries_seen es ++ (string_bytes k, r) ∷ []
 insert-new k r [] none = refl
-insert-new k r (e ∷ es) none = (elim (bytes_eq k.items e.0.items) as (λ b. (b || list_any (λ x. bytes_eq k.items x.0) (entries_seen es)) ≡ false → entries_seen (if b then (e.0, r) ∷ es else e ∷ insert_entry same_items es k r) ≡ entries_seen (e ∷ es) ++ (k.items, r) ∷ []) [
+insert-new k r (e ∷ es) none = (elim (bytes_eq (string_bytes k) (string_bytes e.0)) as (λ b. (b || list_any (λ x. bytes_eq (string_bytes k) x.0) (entries_seen es)) ≡ false → entries_seen (if b then (e.0, r) ∷ es else e ∷ insert_entry same_items es k r) ≡ entries_seen (e ∷ es) ++ (string_bytes k, r) ∷ []) [
   | true ↦ λ t. absurd cc
-  | false ↦ λ f. ap (λ l. (e.0.items, e.1) ∷ l) (insert-new k r es f)
+  | false ↦ λ f. ap (λ l. (string_bytes e.0, e.1) ∷ l) (insert-new k r es f)
 ]) none
 
 -- what a test says of all items holds of the one at a place
 pub passes_at : {X : Type 0} (test : X → Bool) (xs : List X) (k : ℕ) (x : X) → list_all test xs ≡ true → slice_get xs k ≡ Some x → test x ≡ true
 passes_at test xs k x all at = ap test (sym (get_or_from_slice_get xs k x x at)) ∙ AllPass-from_list_all test xs all k x (slice_get_within xs k x at)
 
--- and of the bytes of all vectors, of those of the one at a place
-all-items : (test : List ℕ → Bool) (vs : List (Vec ℕ Global)) → list_all test (items_of vs) ≡ list_all (λ v. test v.items) vs
+-- and of the bytes of all texts, of those of the one at a place
+all-items : (test : List ℕ → Bool) (vs : List (String Global)) → list_all test (items_of vs) ≡ list_all (λ v. test (string_bytes v)) vs
 all-items test [] = refl
-all-items test (v ∷ vs) = ap (λ b. test v.items && b) (all-items test vs)
+all-items test (v ∷ vs) = ap (λ b. test (string_bytes v) && b) (all-items test vs)
 
-pub passes_in : (test : List ℕ → Bool) (vs : List (Vec ℕ Global)) (k : ℕ) (v : Vec ℕ Global) → list_all test (items_of vs) ≡ true → k < length vs → v ≡ get_or vs k v → test v.items ≡ true
-passes_in test vs k v all below is = ap (λ w. test w.items) is ∙ AllPass-from_list_all (λ w. test w.items) vs (sym (all-items test vs) ∙ all) k v below
+pub passes_in : (test : List ℕ → Bool) (vs : List (String Global)) (k : ℕ) (v : String Global) → list_all test (items_of vs) ≡ true → k < length vs → v ≡ get_or vs k v → test (string_bytes v) ≡ true
+passes_in test vs k v all below is = ap (λ w. test (string_bytes w)) is ∙ AllPass-from_list_all (λ w. test (string_bytes w)) vs (sym (all-items test vs) ∙ all) k v below

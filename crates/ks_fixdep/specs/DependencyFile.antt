@@ -1,5 +1,5 @@
 -- Dependency files, as compilers write them with -MD: their prerequisites and the roles of these. The cut into tokens, the roles and the refusals are rules of this project.
-use Rattle.std.specs.Prelude.{◌+◌, ◌<◌, Option, Some, None, ℕ, Bool, ◌&&◌, not, nat_eq, nat_le, IsTrue, List, [], ◌∷◌, ◌++◌, if◌then◌else◌, codes, map, Vec, length, fold}
+use Rattle.std.specs.Prelude.{◌+◌, ◌<◌, Option, Some, None, ℕ, Bool, ◌&&◌, not, nat_eq, nat_le, IsTrue, List, [], ◌∷◌, ◌++◌, if◌then◌else◌, codes, map, String, string_bytes, length, fold}
 use Rattle.std.specs.Global.{Global}
 use Rattle.std.specs.List.{list_all, list_any, ends_with, after_last}
 use Rattle.std.specs.Str.{bytes_eq}
@@ -77,5 +77,5 @@ pub record ArePrerequisites (ps : List (List ℕ × Role)) : Type 0 where
   pub legal : IsTrue (list_all (λ p. is_path p.0) ps)
 
 -- what a map from paths to roles says
-abbrev pub entries_seen : List (Vec ℕ Global × Role) → List (List ℕ × Role)
-entries_seen es = map (λ e. (e.0.items, e.1)) es
+abbrev pub entries_seen : List (String Global × Role) → List (List ℕ × Role)
+entries_seen es = map (λ e. (string_bytes e.0, e.1)) es

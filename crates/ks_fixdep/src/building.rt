@@ -42,6 +42,7 @@ fn push_new_names(
     ensures before { OnOk result (before.new ≡ all_noted before.old names.now) }
 {
     for name in names.as_slice() {
+        let name = name.as_bytes();
         let count = before.len();
         before.note(name)?;
         if count < before.len() {
@@ -60,7 +61,7 @@ fn dependencies(
     requires { length found.now ≡ length prerequisites.now }
     ensures { IfOk result (λ deps. deps.items ≡ deps_after [] prerequisites.now found.now) }
 {
-    let mut deps = Vec::new(alloc);
+    let mut deps = Vec::with_capacity(alloc, prerequisites.len())?;
     let mut before = FoundNames::new(alloc);
     for (place, names) in found.iter().enumerate() {
         push_own_line(alloc, prerequisites, place, &mut deps)?;

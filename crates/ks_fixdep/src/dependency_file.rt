@@ -11,6 +11,7 @@ ghost use Rattle.ks_fixdep.specs.DepRefusals.{IsRefusal, RefusedBy};
 ghost use Rattle.ks_fixdep.specs.DependencyFile.{is_target_token, header_path, added, entries_seen, prerequisites, token_refusal, dependency_refusal};
 ghost use Rattle.ks_fixdep.specs.declared.dependency_file.Role.TheVariants as role;
 
+use crate::ascii::as_text;
 use crate::dep_error::DepError;
 use crate::tokens::Tokens;
 use indexmap::IndexMap;
@@ -32,7 +33,7 @@ pub enum Role {
 /// The prerequisites of an object with their roles, in the order of their first places. There is one at least.
 #[derive(Drop)]
 pub struct Prerequisites {
-    by_path: IndexMap<Vec<u8>, Role>,
+    by_path: IndexMap<String, Role>,
 }
 
 impl Model for Prerequisites {
@@ -63,7 +64,7 @@ impl Prerequisites {
         ensures legal { IfSome result (λ p. IsTrue (is_path p.0.now)) }
     {
         match self.by_path.get_index(place) {
-            Some((path, role)) => Some((path.as_slice(), *role)),
+            Some((path, role)) => Some((path.as_bytes(), *role)),
             None => None,
         }
     }
@@ -97,16 +98,18 @@ fn next_role(has_kept: bool, has_kept_since_target: bool) -> Role
 /// Notes a prerequisite, unless its path was noted before.
 fn note(
     alloc: Global,
-    by_path: &mut IndexMap<Vec<u8>, Role>,
+    by_path: &mut IndexMap<String, Role>,
     path: &[u8],
     role: Role,
 ) -> Result<(), AllocError>
+    requires { IsTrue (is_path path.now) }
     ensures { OnOk result (entries_seen by_path.new.entries ≡ added (entries_seen by_path.old.entries) (path.now, role)) }
 {
+    let path = as_text(path);
     if by_path.contains_key(path) {
         return Ok(());
     }
-    let owned = path.to_vec(alloc)?;
+    let owned = String::from_str(alloc, path)?;
     let Ok(_) = by_path.insert(owned, role) else {
         return Err(AllocError);
     };
@@ -120,7 +123,7 @@ struct Progress {
     has_target: bool,
     has_kept: bool,
     has_kept_since_target: bool,
-    by_path: IndexMap<Vec<u8>, Role>,
+    by_path: IndexMap<String, Role>,
 }
 
 impl Progress {

@@ -1,7 +1,7 @@
 //! The names found in one source, each once. A header names the same symbol many times, and one line of the
 //! command file is enough. The order of first places is kept, so that the same sources give the same file.
 //! The set hashes by a fixed key, since making an empty one takes no memory and no randomness.
-ghost use Rattle.std.specs.Prelude.{◌≡◌, ◌↔◌, [], IfOk, IfSome, IsTrue, OnOk, OnErr, length, map};
+ghost use Rattle.std.specs.Prelude.{◌≡◌, ◌↔◌, [], IfOk, IfSome, IsTrue, OnOk, OnErr, length, map, string_bytes};
 ghost use Rattle.std.specs.Option.{option_copied};
 ghost use Rattle.ks_symbols.specs.Names.{is_name};
 ghost use Rattle.ks_fixdep.specs.NameIter.{names_left};
@@ -9,6 +9,7 @@ ghost use Rattle.ks_fixdep.specs.FoundNames.{all_noted, names_in};
 ghost use Rattle.ks_fixdep.specs.Scan.{bare_name};
 ghost use Rattle.ks_fixdep.specs.Stream.{list_of};
 
+use crate::ascii::as_text;
 use crate::name_iter::NameIter;
 use crate::scan::names;
 use indexmap::IndexSet;
@@ -19,19 +20,19 @@ use std::marker::Model;
 #[derive(Drop)]
 pub struct FoundNames {
     alloc: Global,
-    names: IndexSet<Vec<u8>>,
+    names: IndexSet<String>,
 }
 
 impl Model for FoundNames {
-    ghost use Rattle.std.specs.Prelude.{List, ℕ, map};
+    ghost use Rattle.std.specs.Prelude.{List, ℕ, map, string_bytes};
     ghost use Rattle.indexmap.specs.IndexSet.{keys};
     ghost use Rattle.ks_fixdep.specs.FoundNames.{AreFoundNames};
 
     ghost Value = { List (List ℕ) };
 
-    ghost view = { λ f. map (λ v. v.items) (keys f.names) };
+    ghost view = { λ f. map (λ n. string_bytes n) (keys f.names) };
 
-    ghost invariant = { λ f. AreFoundNames (map (λ v. v.items) (keys f.names)) };
+    ghost invariant = { λ f. AreFoundNames (map (λ n. string_bytes n) (keys f.names)) };
 }
 
 impl FoundNames {
@@ -53,10 +54,11 @@ impl FoundNames {
         ensures ok { OnOk result (self.new ≡ noted self.old name.now) }
         ensures err { OnErr result (self.new ≡ self.old) }
     {
+        let name = as_text(name);
         if self.names.contains(name) {
             return Ok(());
         }
-        let owned = name.to_vec(self.alloc)?;
+        let owned = String::from_str(self.alloc, name)?;
         let Ok(_) = self.names.insert(owned) else {
             return Err(AllocError);
         };
@@ -78,8 +80,8 @@ impl FoundNames {
     }
 
     /// The names, in the order in which they were first noted.
-    pub fn as_slice(&self) -> &[Vec<u8>]
-        ensures value { map (λ v. v.items) result.now ≡ self.now }
+    pub fn as_slice(&self) -> &[String]
+        ensures value { map (λ n. string_bytes n) result.now ≡ self.now }
         ensures found { AreFoundNames self.now }
     {
         self.names.as_slice()

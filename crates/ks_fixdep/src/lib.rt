@@ -1,6 +1,7 @@
 //! What an object was built from: the names in its sources, its dependency file, and the command file that records both.
 #![tactic(auto)]
 
+mod ascii;
 mod building;
 mod command_file;
 mod dep_error;

@@ -13,7 +13,6 @@ ghost use Rattle.ks_fixdep.specs.Stream.{kept, kept_name, lengthened, ended, len
 use crate::name_iter::NameIter;
 use crate::runs::{leading_word, name_of_whole, trailing_word};
 use std::marker::Model;
-use std::mem;
 
 const LONGEST_WORD: usize = 142;
 
@@ -42,6 +41,15 @@ impl OpenWord {
             len: 0,
             is_too_long: false,
         }
+    }
+
+    /// Becomes a copy of another word. No more is copied than that word's own bytes.
+    fn set(&mut self, other: &OpenWord)
+        ensures { self.new ≡ other.now }
+    {
+        self.bytes[..other.len].copy_from_slice(&other.bytes[..other.len]);
+        self.len = other.len;
+        self.is_too_long = other.is_too_long;
     }
 
     fn clear(&mut self)
@@ -128,7 +136,7 @@ impl Scanner {
             };
         }
         let tail = trailing_word(piece);
-        mem::swap(&mut self.lent, &mut self.word);
+        self.lent.set(&self.word);
         self.word.clear();
         self.word.push(tail);
         Fed {
@@ -143,7 +151,7 @@ impl Scanner {
         ensures legal { IfSome result (λ name. IsTrue (is_name name.now)) }
         ensures* after { sem 𝓛 (Keeps self.entry (λ new. new ≡ kept [])) }
     {
-        mem::swap(&mut self.lent, &mut self.word);
+        self.lent.set(&self.word);
         self.word.clear();
         self.lent.name()
     }

@@ -4,6 +4,7 @@
 //! Only the system's "no such file" counts as a missing file. A folder, a file in the place of a folder, and every other
 //! failure are `Device`, since a build that takes an unreadable file for a missing one would call objects fresh.
 ghost use Rattle.std.specs.Prelude.{◌≡◌, ◌≤◌, ◌+◌, min, length, IfErr, IfOk, MatchOption, IsUtf8, string_bytes, IsErrOf};
+ghost use Rattle.std.specs.Cow.{cow_str_bytes};
 ghost use Rattle.std.specs.FinMap as map;
 ghost use Rattle.ks_tree.specs.Files.{HasRisen};
 ghost use Rattle.ks_tree.specs.Folder.{place_of};
@@ -11,8 +12,9 @@ ghost use Rattle.ks_tree.specs.Folder.{place_of};
 use crate::{Tree, TreeFault};
 use ks_symbols::MAX_BYTES;
 use std::alloc::Global;
+use std::borrow::CowStr;
 use std::fs::OpenFile;
-use std::io::{ErrorKind, Read, Seek, SeekFrom};
+use std::io::{BufRead, BufReader, ErrorKind, Read, Seek, SeekFrom};
 use std::rt::Files;
 use std::{fs, io};
 
@@ -25,11 +27,15 @@ pub struct FolderTree<R: Files> {
     kept: Option<Kept<R::File>>,
 }
 
-/// The file of the last `read_at`, kept open so that a prerequisite costs one open however many pieces it has.
+/// How much of a file is read from the system at once, for the pieces that follow.
+const READ_AHEAD: usize = 65536;
+
+/// The file of the last `read_at`, kept open so that a prerequisite costs one open however many pieces it has. Its next piece
+/// stands at the position.
 #[derive(Drop)]
 struct Kept<F> {
     path: Vec<u8>,
-    file: F,
+    reader: BufReader<F>,
     position: u64,
 }
 
@@ -54,6 +60,30 @@ fn read_bytes<F: Read + OpenFile + Drop>(alloc: Global, file: F) -> io::Result<O
     Ok(Some(bytes))
 }
 
+/// A newly opened file, in the memory of the file that was kept before, if there was one. What was read ahead of that one is
+/// dropped.
+fn keep<F: Read + Drop>(
+    alloc: Global,
+    earlier: Option<Kept<F>>,
+    path: &[u8],
+    file: F,
+) -> io::Result<Kept<F>> {
+    let Some(mut kept) = earlier else {
+        return Ok(Kept {
+            path: path.to_vec(alloc)?,
+            reader: BufReader::with_capacity(alloc, READ_AHEAD, file)?,
+            position: 0,
+        });
+    };
+    kept.path.clear();
+    kept.path.extend_from_slice(path)?;
+    let left = kept.reader.buffer().len();
+    kept.reader.consume(left);
+    *kept.reader.get_mut() = file;
+    kept.position = 0;
+    Ok(kept)
+}
+
 /// Reads until the room is full or the file has no more.
 fn fill<F: Read>(file: &mut F, into: &mut [u8]) -> io::Result<usize>
     ensures { IfOk result (λ n. n ≤ length into.new) }
@@ -74,14 +104,15 @@ fn fill<F: Read>(file: &mut F, into: &mut [u8]) -> io::Result<usize>
 }
 
 impl<F: Read + Seek> Kept<F> {
-    /// The bytes from an offset on, as many as there is room for. A piece behind the last one needs no seek.
+    /// The bytes from an offset on, as many as there is room for. Only a piece behind the last one is taken from what was
+    /// read ahead. Fewer bytes than there is room for are given only where the file itself had no more at this call.
     fn read(&mut self, offset: u64, into: &mut [u8]) -> io::Result<usize>
         ensures { IfOk result (λ n. n ≤ length into.new) }
     {
         if self.position != offset {
-            self.position = self.file.seek(SeekFrom::Start(offset))?;
+            self.position = self.reader.seek(SeekFrom::Start(offset))?;
         }
-        let len = fill(&mut self.file, into)?;
+        let len = fill(&mut self.reader, into)?;
         self.position = self.position.saturating_add(len as u64);
         Ok(len)
     }
@@ -144,9 +175,9 @@ impl<R: Files> FolderTree<R> {
     }
 
     /// Where the path stands in the system, or `None` where it isn't text.
-    fn place(&self, alloc: Global, path: &[u8]) -> Result<Option<String>, TreeFault>
+    fn place<'a>(&self, alloc: Global, path: &'a [u8]) -> Result<Option<CowStr<'a>>, TreeFault>
         ensures place { IfOk result (λ found. MatchOption found (IsUtf8 path.now → ⊥)
-            (λ place. string_bytes place ≡ place_of (string_bytes self.now.root) path.now)) }
+            (λ place. cow_str_bytes place ≡ place_of (string_bytes self.now.root) path.now)) }
         ensures refused { IfErr result (λ e. e ≡ TreeFault.OutOfMemory) }
     {
         let Ok(path) = str::from_utf8(path) else {
@@ -154,9 +185,9 @@ impl<R: Files> FolderTree<R> {
         };
         let root = self.root.as_str();
         if path.starts_with('/') || root.is_empty() {
-            return Ok(Some(String::from_str(alloc, path)?));
+            return Ok(Some(CowStr::Borrowed(path)));
         }
-        Ok(Some(format!(in alloc; "{root}/{path}")?))
+        Ok(Some(CowStr::Owned(format!(in alloc; "{root}/{path}")?)))
     }
 
     /// The open file at a path, or `None` where there is none.
@@ -175,25 +206,32 @@ impl<R: Files> FolderTree<R> {
         }
     }
 
-    /// The kept file, where it is that of the path, or else the path's own, newly opened.
-    fn take_kept(&mut self, alloc: Global, path: &[u8]) -> Result<Option<Kept<R::File>>, TreeFault>
+    /// The kept file, where it is that of the path, or else the path's own, newly opened. It is opened anew for its first
+    /// bytes too, so that nothing is given that was read ahead for an earlier reading.
+    fn take_kept(
+        &mut self,
+        alloc: Global,
+        path: &[u8],
+        offset: u64,
+    ) -> Result<Option<Kept<R::File>>, TreeFault>
         ensures later { self.old.failures ≤ self.new.failures }
         ensures cause { IsErrOf result TreeFault.Device → HasRisen self.old.failures self.new.failures }
         ensures never { IsErrOf result TreeFault.TooLarge → ⊥ }
     {
+        let mut earlier = None;
         if let Some(kept) = self.kept.take() {
-            if kept.path.as_slice() == path {
+            if offset > 0 && kept.path.as_slice() == path {
                 return Ok(Some(kept));
             }
+            earlier = Some(kept);
         }
         let Some(file) = self.open(alloc, path)? else {
             return Ok(None);
         };
-        Ok(Some(Kept {
-            path: path.to_vec(alloc)?,
-            file,
-            position: 0,
-        }))
+        match keep(alloc, earlier, path, file) {
+            Ok(kept) => Ok(Some(kept)),
+            Err(error) => Err(self.fault(&error)),
+        }
     }
 }
 
@@ -222,7 +260,7 @@ impl<R: Files> Tree for FolderTree<R> {
         offset: u64,
         into: &mut [u8],
     ) -> Result<Option<usize>, TreeFault> {
-        let Some(mut kept) = self.take_kept(alloc, path)? else {
+        let Some(mut kept) = self.take_kept(alloc, path, offset)? else {
             return Ok(None);
         };
         // After a failure the position isn't known, so the file is not kept.

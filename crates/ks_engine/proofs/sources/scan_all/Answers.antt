@@ -11,7 +11,7 @@ use Rattle.ks_engine.proofs.sources.scan_all.Goals as goal
 
 pub returns-in_err-names-clause-names : goal.returns-in_err-names-clause-names
 returns-in_err-names-clause-names g c = λ honest.
-    let p = err_from_is_err_and c.from_residual.result c.from_residual.ensures.1 in
+    let p = err_from_is_err_and c.from_residual-in_err-names.result c.from_residual-in_err-names.ensures.1 in
     let now = c.loop-place.invariant.honest.0 honest in
     let same = c.loop-place.invariant.unchanged honest in
     let here : c.loop-place.place < length c.args.prerequisites.now = omega arith in

@@ -9,7 +9,7 @@ invariant-loop-source g l = record {
   honest : g.T.Tree.is_honest l.fn.tree ↔ g.T.Tree.is_honest l.tree;
   unchanged : g.T.Tree.is_honest l.fn.tree → g.T.Tree.files l.tree ≡ g.T.Tree.files l.fn.tree;
   later : g.T.Tree.failures l.fn.tree ≤ g.T.Tree.failures l.tree;
-  room : length l.piece ≡ 4096;
+  full : length l.room ≡ 4096;
   small : l.offset ≤ 67108864;
   stands : g.T.Tree.is_honest l.fn.tree → (b : List ℕ) → content (g.T.Tree.files l.fn.tree) l.path ≡ Some b → StandsAfter l.source (take l.offset b);
 }

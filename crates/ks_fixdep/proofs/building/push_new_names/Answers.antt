@@ -11,13 +11,13 @@ pub note-requires : goal.note-requires
 note-requires c =
     let slice = c.as_slice-name-items.result.now in
     let legal : list_all is_name (items_of slice) ≡ true = ap (list_all is_name) c.as_slice-name-items.ensures.value ∙ c.as_slice-name-items.ensures.found.legal in
-    ap is_name c.deref.ensures.value ∙ passes_in is_name slice c.loop-name.name-index c.name-item.result legal c.loop-name-test.true c.name-item.is
+    ap is_name c.as_bytes-name.ensures.value ∙ passes_in is_name slice c.loop-name.name-index c.name-item.result legal c.loop-name-test.true c.name-item.is
 
 pub new-requires : goal.new-requires
 new-requires c =
     let slice = c.as_slice-name-items.result.now in
     let legal : list_all is_name (items_of slice) ≡ true = ap (list_all is_name) c.as_slice-name-items.ensures.value ∙ c.as_slice-name-items.ensures.found.legal in
-    ap is_name c.deref-then-count-len.ensures.value ∙ passes_in is_name slice c.loop-name.name-index c.name-item.result legal c.loop-name-test.true c.name-item.is
+    ap is_name c.as_bytes-name.ensures.value ∙ passes_in is_name slice c.loop-name.name-index c.name-item.result legal c.loop-name-test.true c.name-item.is
 
 pub returns-clause-deps : goal.returns-clause-deps
 returns-clause-deps c =

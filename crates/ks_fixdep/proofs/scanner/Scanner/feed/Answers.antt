@@ -37,7 +37,7 @@ returns c =
       (refl, (λ _. tt), λ t stands. c.push-2.ensures ∙ ap (λ k. lengthened k tail) c.clear.ensures ∙ piece-kept t p head tail is short last),
       record {
         lends = λ t stands.
-            (let name = c.name.ensures.value ∙ ap kept_name (c.swap.ensures.x_after ∙ c.push.ensures ∙ ap (λ k. lengthened k head) (c.self.view_is ∙ stands)) in
+            (let name = c.name.ensures.value ∙ ap kept_name (c.set.ensures ∙ c.push.ensures ∙ ap (λ k. lengthened k head) (c.self.view_is ∙ stands)) in
             piece-lends t p head tail is short last
             ∙ ap (λ x. ended t ++ carried_at (length (before_last_word t)) x ++ map (further (length t)) (taken_after (take (length p - length tail) p) (length head))) (sym name)
             ∙ ap (λ l. ended t ++ carried_at (length (before_last_word t)) (option_copied c.name.result) ++ map (further (length t)) l) (sym c.starting_at-2.ensures)

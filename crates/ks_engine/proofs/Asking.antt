@@ -114,7 +114,8 @@ stamp_refused files mid g deps i d x stamp_error.Device same h is config why res
 stamp_refused files mid g deps i d x stamp_error.TooLarge same h is config why rest =
     inr (rest _ (bad_next files g deps i d x _ h is config (inr (subst (λ f. IsTooLarge (content f (stamp_path x))) same why, refl))))
 stamp_refused files mid g deps i d x (stamp_error.BadStamp y) same h is config why rest =
-    inr (rest _ (bad_next files g deps i d x _ h is config (inl (subst (λ f. IsNoStamp (content f (stamp_path x))) same why.1, ap (λ z. Err (of_stamp (stamp_error.BadStamp z))) why.0))))
+    let none = subst (λ f. IsNoStamp (content f (stamp_path x)) × (IsTooLarge (content f (stamp_path x)) → ⊥)) same (why.1, why.2) in
+    inr (rest _ (bad_next files g deps i d x _ h is config (inl (none.0, none.1, ap (λ z. Err (of_stamp (stamp_error.BadStamp z))) why.0))))
 
 -- ---- what a shown tree answers of a recorded object
 

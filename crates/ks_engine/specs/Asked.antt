@@ -48,9 +48,9 @@ asked_of files (Ok (Some file)) = asked_since files (config_names file.deps) fil
 unfoldable pub asked : Files → List ℕ → Asked
 asked files o = if is_target o then asked_of files (command_file o (content files (command_path o))) else Answered (Err (BadPath 0))
 
--- a stamp that holds no number, or is too large to be read
+-- a stamp that is too large to be read, or else holds no number
 abbrev pub IsBadStamp : Option (List ℕ) → List ℕ → Result Verdict EngineError → Type 0
-IsBadStamp file x answer = (IsNoStamp file × (answer ≡ Err (BadStamp x))) ⊎ (IsTooLarge file × (answer ≡ Err TooLarge))
+IsBadStamp file x answer = (IsNoStamp file × (IsTooLarge file → ⊥) × (answer ≡ Err (BadStamp x))) ⊎ (IsTooLarge file × (answer ≡ Err TooLarge))
 
 -- The first name whose stamp is above the generation; the stamps up to it hold numbers.
 abbrev pub IsByStamps : Files → ℕ → List (List ℕ) → Result Verdict EngineError → Type 0

@@ -25,8 +25,9 @@ use Rattle.ks_engine.specs.History.{History, Begun, Synced, Broken, Recorded, Re
 use Rattle.ks_engine.specs.Staleness.{found, names_of, suspect_since, first_suspect, verdict}
 use Rattle.ks_engine.specs.Legal.{IsHistory, HasOneKind}
 use Rattle.ks_engine.specs.Shows.{Shows, stamp}
-use Rattle.ks_engine.specs.Synchronised.{synced_at, last_generation}
-use Rattle.ks_engine.specs.Asked.{Asked, Answered, ByStamps, asked, asked_at, asked_since, asked_of, of_target, command_file, IsBadStamp, IsByStamps, IsAnswer, Built, Differs, Asks, built, built_by, judged, IsBuilt}
+use Rattle.ks_engine.specs.LastSync.{synced_at, last_generation}
+use Rattle.ks_engine.specs.Asked.{Asked, Answered, ByStamps, asked, asked_at, asked_since, asked_of, of_target, command_file, IsBadStamp, IsByStamps, IsAnswer}
+use Rattle.ks_engine.specs.Built.{Built, Differs, Asks, built, built_by, judged, IsBuilt}
 use Rattle.ks_engine.specs.Judged.{HasSameDefinitions, IsJudged, IsBuildJudged}
 use Rattle.ks_engine.proofs.Heart.{suspect_since-lt, suspect_since-changed_since, generation-le, record_cases}
 use Rattle.ks_engine.proofs.Headers.{same_definitions}

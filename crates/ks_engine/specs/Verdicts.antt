@@ -9,7 +9,6 @@ use Rattle.ks_engine.specs.Staleness.{first_changed, first_suspect, verdict}
 use Rattle.ks_engine.specs.Judged.{HasSameDefinitions}
 use Rattle.ks_engine.specs.Follows.{State}
 use Rattle.ks_engine.specs.Actions.{Action, Sync, Stale}
-use Rattle.ks_engine.specs.Follows.{State}
 
 -- A verdict on a recorded object is the first of its names that is suspect, ..
 abbrev pub IsSuspectVerdict : History → Action → Reply → Type 0

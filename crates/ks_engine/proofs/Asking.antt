@@ -25,8 +25,9 @@ use Rattle.ks_engine.specs.History.{History, Begun, Synced, Broken, Recorded, Re
 use Rattle.ks_engine.specs.Staleness.{found, names_of, suspect_since, first_suspect, verdict}
 use Rattle.ks_engine.specs.Legal.{IsHistory, HasOneKind}
 use Rattle.ks_engine.specs.Shows.{Shows, stamp}
-use Rattle.ks_engine.specs.Synchronised.{synced_at, last_generation}
-use Rattle.ks_engine.specs.Asked.{Asked, Answered, ByStamps, asked, asked_at, asked_since, asked_of, of_target, command_file, IsBadStamp, IsByStamps, IsAnswer, Built, Differs, Asks, built, built_by, judged, IsBuilt}
+use Rattle.ks_engine.specs.LastSync.{synced_at, last_generation}
+use Rattle.ks_engine.specs.Asked.{Asked, Answered, ByStamps, asked, asked_at, asked_since, asked_of, of_target, command_file, IsBadStamp, IsByStamps, IsAnswer}
+use Rattle.ks_engine.specs.Built.{Built, Differs, Asks, built, built_by, judged, IsBuilt}
 use Rattle.ks_engine.specs.Judged.{HasSameDefinitions, IsJudged, IsBuildJudged}
 use Rattle.ks_engine.proofs.Heart.{suspect_since-lt, suspect_since-changed_since, generation-le, record_cases}
 use Rattle.ks_engine.proofs.Headers.{same_definitions}
@@ -114,7 +115,8 @@ stamp_refused files mid g deps i d x stamp_error.Device same h is config why res
 stamp_refused files mid g deps i d x stamp_error.TooLarge same h is config why rest =
     inr (rest _ (bad_next files g deps i d x _ h is config (inr (subst (λ f. IsTooLarge (content f (stamp_path x))) same why, refl))))
 stamp_refused files mid g deps i d x (stamp_error.BadStamp y) same h is config why rest =
-    inr (rest _ (bad_next files g deps i d x _ h is config (inl (subst (λ f. IsNoStamp (content f (stamp_path x))) same why.1, ap (λ z. Err (of_stamp (stamp_error.BadStamp z))) why.0))))
+    let none = subst (λ f. IsNoStamp (content f (stamp_path x)) × (IsTooLarge (content f (stamp_path x)) → ⊥)) same (why.1, why.2) in
+    inr (rest _ (bad_next files g deps i d x _ h is config (inl (none.0, none.1, ap (λ z. Err (of_stamp (stamp_error.BadStamp z))) why.0))))
 
 -- ---- what a shown tree answers of a recorded object
 

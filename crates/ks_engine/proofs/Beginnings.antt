@@ -9,7 +9,8 @@ use Rattle.ks_tree.specs.Stamps.{HasNumber}
 use Rattle.ks_engine.specs.Refusals.{of_source, and_then}
 use Rattle.ks_engine.specs.History.{Texts, Configuration}
 use Rattle.ks_engine.specs.Shows.{IsFirstAuto}
-use Rattle.ks_engine.specs.Synchronised.{Sources, AreSources, old_auto, plan_over}
+use Rattle.ks_engine.specs.SyncPlan.{Sources, AreSources, plan_over}
+use Rattle.ks_engine.specs.LastSync.{old_auto}
 use Rattle.ks_engine.specs.Laws.{EmptyTreeShows, UsualTreeShows, PlansAreOne}
 
 pub usual_shows : UsualTreeShows

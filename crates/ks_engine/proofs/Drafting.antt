@@ -18,8 +18,9 @@ use Rattle.ks_tree.specs.Paths.{auto_path}
 use Rattle.ks_engine.specs.declared.error.EngineError.{EngineError}
 use Rattle.ks_engine.specs.declared.error.EngineError.TheVariants.{TooLarge}
 use Rattle.ks_engine.specs.Refusals.{of_dep, IsGivenUp, and_then}
-use Rattle.ks_engine.specs.Synchronised.{last_generation}
-use Rattle.ks_engine.specs.Recording.{words, there, listed, listed_unless, scanned_all, RecordPlan, numbered, drafted, record_plan}
+use Rattle.ks_engine.specs.LastSync.{last_generation}
+use Rattle.ks_engine.specs.Recording.{words, there, listed, listed_unless, scanned_all}
+use Rattle.ks_engine.specs.Recorded.{RecordPlan, numbered, drafted, record_plan}
 use Rattle.ks_engine.proofs.Asking.{deps_next, names_next}
 
 plus_one : (i : ℕ) → suc i ≡ i + 1

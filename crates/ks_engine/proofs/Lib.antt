@@ -1,5 +1,6 @@
 pub mod LowerLaws
 pub mod Heart
+pub mod Causes
 pub mod Headers
 pub mod Reading
 pub mod Writes

@@ -25,7 +25,9 @@ use Rattle.ks_engine.specs.Refusals.{of_tree, of_auto, IsGivenUp, and_then}
 use Rattle.ks_compare.specs.Changes.{AreChanges, compared, differ}
 use Rattle.ks_engine.specs.History.{Configuration}
 use Rattle.ks_engine.specs.Legal.{IsSource}
-use Rattle.ks_engine.specs.Synchronised.{OldAuto, read_unless, old_auto, synced_at, last_generation, Sources, AreSources, AreChanged, Plan, plan_over, IsSyncPlan}
+use Rattle.ks_engine.specs.Synchronised.{AreChanged}
+use Rattle.ks_engine.specs.LastSync.{OldAuto, read_unless, old_auto, synced_at, last_generation}
+use Rattle.ks_engine.specs.SyncPlan.{Sources, AreSources, Plan, plan_over, IsSyncPlan}
 use Rattle.ks_engine.specs.Views.{old_of}
 
 -- ---- the two texts

@@ -15,8 +15,9 @@ use Rattle.ks_engine.specs.Refusals.{and_then}
 use Rattle.ks_engine.specs.History.{History, Recorded, done}
 use Rattle.ks_engine.specs.Shows.{Shows, IsCommandFile}
 use Rattle.ks_engine.specs.Follows.{at, FollowsRecord, IsRecordEvent}
-use Rattle.ks_engine.specs.Synchronised.{OldAuto, synced_at, last_generation}
-use Rattle.ks_engine.specs.Recording.{words, there, listed, scanned, scanned_all, followed, RecordPlan, numbered, drafted, record_plan, IsRecordPlan, IsRecorded, IsRecordTried, IsRecordRefused}
+use Rattle.ks_engine.specs.LastSync.{OldAuto, synced_at, last_generation}
+use Rattle.ks_engine.specs.Recording.{words, there, listed, scanned, scanned_all, followed}
+use Rattle.ks_engine.specs.Recorded.{RecordPlan, numbered, drafted, record_plan, IsRecordPlan, IsRecorded, IsRecordTried, IsRecordRefused}
 use Rattle.ks_engine.proofs.LowerLaws.{names_of_record, written_reads}
 use Rattle.ks_engine.proofs.Steps.{auto_read, recorded_shows, untouched_shows}
 

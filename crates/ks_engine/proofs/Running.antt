@@ -13,7 +13,8 @@ use Rattle.ks_engine.specs.Refusals.{GaveUp}
 use Rattle.ks_engine.specs.History.{History, Synced as SyncedEvent, Broken as BrokenEvent, Recorded as RecordedEvent, Configuration, NoneBroken}
 use Rattle.ks_engine.specs.Legal.{HasConfiguration, HasOneKind}
 use Rattle.ks_engine.specs.Follows.{State}
-use Rattle.ks_engine.specs.Runs.{IsShown, Step, Follows, Leaves, Leads, Run, IsSuspectVerdict, IsChangedVerdict, IsSafeVerdict, IsGivenUpSync}
+use Rattle.ks_engine.specs.Runs.{IsShown, Step, Follows, Leaves, Leads, Run}
+use Rattle.ks_engine.specs.Verdicts.{IsSuspectVerdict, IsChangedVerdict, IsSafeVerdict, IsGivenUpSync}
 
 -- a run, before anything is said of its verdicts
 pub record Trace (first : State) (asked : List Action) (answered : List Reply) (last : State) : Type 0 where

@@ -18,7 +18,9 @@ use Rattle.ks_engine.specs.Refusals.{and_then}
 use Rattle.ks_engine.specs.History.{History, Begun, Synced, Broken, Recorded, Record, Texts, before, done, last_record}
 use Rattle.ks_engine.specs.Legal.{IsSource, IsHistory, MayBeHeader}
 use Rattle.ks_engine.specs.Shows.{Shows, IsAuto, IsCommandFile, stamp}
-use Rattle.ks_engine.specs.Synchronised.{OldAuto, old_auto, Sources, Plan, plan_over, IsSyncPlan, AreChanged, SyncLeaves}
+use Rattle.ks_engine.specs.Synchronised.{AreChanged, SyncLeaves}
+use Rattle.ks_engine.specs.LastSync.{OldAuto, old_auto}
+use Rattle.ks_engine.specs.SyncPlan.{Sources, Plan, plan_over, IsSyncPlan}
 use Rattle.ks_engine.proofs.Heart.{record_cases}
 use Rattle.ks_engine.proofs.LowerLaws.{texts_back, generation_back, accepted, apart, command-injective}
 use Rattle.ks_engine.proofs.Reading.{old_some}

@@ -6,7 +6,8 @@ use Rattle.ks_compare.specs.Changes.{is_in}
 use Rattle.ks_tree.specs.Files.{Files, content, SameButBoth}
 use Rattle.ks_tree.specs.Paths.{auto_path, auto_temporary, header_path, header_temporary, stamp_path, Place, Header, AutoConf, Stamp, AutoTemporary, HeaderTemporary, StampTemporary, path_of, IsLegalPlace}
 use Rattle.ks_tree.specs.Stamps.{Touches}
-use Rattle.ks_engine.specs.Synchronised.{Plan, AreChanged, SyncLeaves}
+use Rattle.ks_engine.specs.Synchronised.{AreChanged, SyncLeaves}
+use Rattle.ks_engine.specs.SyncPlan.{Plan}
 use Rattle.ks_engine.proofs.LowerLaws.{apart}
 
 module _ (old : Files) (plan : Plan) (changed : List (List ℕ)) (are : AreChanged plan.old plan.config changed) where

@@ -2,19 +2,17 @@
 use Rattle.std.specs.Prelude.{◌≡◌, ◌⊎◌, ℕ, ◌<◌, ◌≤◌, List, [], ◌∷◌, Option, Some, None, Result, Ok, Err, nat_lt, if◌then◌else◌, length, bytes_eq}
 use Rattle.ks_symbols.specs.Lines.{max_bytes}
 use Rattle.ks_symbols.specs.Names.{is_target}
-use Rattle.ks_fixdep.specs.CommandFile.{Record, is_command}
+use Rattle.ks_fixdep.specs.CommandFile.{Record}
 use Rattle.ks_fixdep.specs.CommandReading.{reading}
 use Rattle.ks_fixdep.specs.Record.{config_names}
 use Rattle.ks_tree.specs.Files.{Files, content, IsTooLarge}
 use Rattle.ks_tree.specs.Paths.{auto_path, stamp_path, command_path}
 use Rattle.ks_tree.specs.Stamps.{HasNumber, IsNoStamp}
 use Rattle.ks_engine.specs.declared.error.EngineError.{EngineError}
-use Rattle.ks_engine.specs.declared.error.EngineError.TheVariants.{TooLarge, BadPath, BadCommand, BadCommandFile, BadStamp}
+use Rattle.ks_engine.specs.declared.error.EngineError.TheVariants.{TooLarge, BadPath, BadCommandFile, BadStamp}
 use Rattle.ks_engine.specs.declared.staleness.Verdict.{Verdict}
 use Rattle.ks_engine.specs.declared.staleness.Verdict.TheVariants.{Fresh, Changed, NoCommandFile, Unnumbered, Ahead}
-use Rattle.ks_engine.specs.declared.staleness.BuildState.{BuildState}
-use Rattle.ks_engine.specs.declared.staleness.BuildState.TheVariants.{CommandDiffers, Verdict as Judged}
-use Rattle.ks_engine.specs.Synchronised.{last_generation}
+use Rattle.ks_engine.specs.LastSync.{last_generation}
 
 -- an answer at once, or by the stamps of these names against a generation
 pub data Asked : Type 0 where
@@ -48,9 +46,9 @@ asked_of files (Ok (Some file)) = asked_since files (config_names file.deps) fil
 unfoldable pub asked : Files → List ℕ → Asked
 asked files o = if is_target o then asked_of files (command_file o (content files (command_path o))) else Answered (Err (BadPath 0))
 
--- a stamp that holds no number, or is too large to be read
+-- a stamp that is too large to be read, or else holds no number
 abbrev pub IsBadStamp : Option (List ℕ) → List ℕ → Result Verdict EngineError → Type 0
-IsBadStamp file x answer = (IsNoStamp file × (answer ≡ Err (BadStamp x))) ⊎ (IsTooLarge file × (answer ≡ Err TooLarge))
+IsBadStamp file x answer = (IsNoStamp file × (IsTooLarge file → ⊥) × (answer ≡ Err (BadStamp x))) ⊎ (IsTooLarge file × (answer ≡ Err TooLarge))
 
 -- The first name whose stamp is above the generation; the stamps up to it hold numbers.
 abbrev pub IsByStamps : Files → ℕ → List (List ℕ) → Result Verdict EngineError → Type 0
@@ -63,28 +61,3 @@ IsByStamps files g (x ∷ xs) answer =
 abbrev pub IsAnswer : Files → Asked → Result Verdict EngineError → Type 0
 IsAnswer files (Answered known) answer = answer ≡ known
 IsAnswer files (ByStamps g names) answer = IsByStamps files g names answer
-
--- ---- whether an object was built by a command
-
--- the saved command is another one, or the rest is as asked
-pub data Built : Type 0 where
-  Differs : Built
-  Asks : Asked → Built
-
-abbrev pub built_by : Files → List ℕ → Result (Option Record) EngineError → Built
-built_by files command (Ok (Some file)) = if bytes_eq file.command command then Asks (asked_of files (Ok (Some file))) else Differs
-built_by files command read = Asks (asked_of files read)
-
--- The two words come first; the command is compared before a generation or auto.conf is looked at.
-unfoldable pub built : Files → List ℕ → List ℕ → Built
-built files o command =
-    if is_target o then (if is_command command then built_by files command (command_file o (content files (command_path o))) else Asks (Answered (Err BadCommand)))
-    else Asks (Answered (Err (BadPath 0)))
-
-abbrev pub judged : Result Verdict EngineError → Result BuildState EngineError
-judged (Ok verdict) = Ok (Judged verdict)
-judged (Err e) = Err e
-
-abbrev pub IsBuilt : Files → Built → Result BuildState EngineError → Type 0
-IsBuilt files Differs answer = answer ≡ Ok CommandDiffers
-IsBuilt files (Asks question) answer = (verdict : Result Verdict EngineError) × IsAnswer files question verdict × (answer ≡ judged verdict)

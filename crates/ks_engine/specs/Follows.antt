@@ -7,8 +7,9 @@ use Rattle.ks_engine.specs.declared.recording.Recorded.{Recorded as RecordAnswer
 use Rattle.ks_engine.specs.declared.synchronise.Report.{Report}
 use Rattle.ks_engine.specs.Refusals.{IsGivenUp}
 use Rattle.ks_engine.specs.History.{History, Synced, Broken, Recorded, before, done}
-use Rattle.ks_engine.specs.Recording.{record_plan, IsRecorded, IsRecordTried}
-use Rattle.ks_engine.specs.Synchronised.{Plan, IsSyncPlan, AreChanged, IsSynced, IsBrokenOff}
+use Rattle.ks_engine.specs.Recorded.{record_plan, IsRecorded, IsRecordTried}
+use Rattle.ks_engine.specs.Synchronised.{AreChanged, IsSynced, IsBrokenOff}
+use Rattle.ks_engine.specs.SyncPlan.{Plan, IsSyncPlan}
 
 -- the files of a tree, how often its device has failed, and what was done to it
 pub record State : Type 0 where

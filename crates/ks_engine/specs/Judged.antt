@@ -14,7 +14,7 @@ use Rattle.ks_engine.specs.History.{History, Record, last_record, NoneBroken}
 use Rattle.ks_engine.specs.Staleness.{first_changed, first_suspect, verdict}
 use Rattle.ks_engine.specs.Legal.{HasOneKind}
 use Rattle.ks_engine.specs.Shows.{Shows}
-use Rattle.ks_engine.specs.Asked.{judged}
+use Rattle.ks_engine.specs.Built.{judged}
 
 -- The header in the tree defines each of the names in the same lines as the header at the record.
 abbrev pub HasSameDefinitions : Files → Record → Type 0

@@ -1,14 +1,17 @@
--- Laws of the definitions: which trees show a history without events, and that a synchronisation has one plan.
-use Rattle.std.specs.Prelude.{◌≡◌, ℕ, List, Result, IsTrue}
+-- Laws of the definitions: which trees show a history without events, that a synchronisation has one plan, and that a suspicion has a cause.
+use Rattle.std.specs.Prelude.{◌≡◌, ◌⊎◌, ℕ, ◌≤◌, List, Some, Result, true, IsTrue}
 use Rattle.std.specs.FinMap.{empty}
 use Rattle.ks_symbols.specs.Names.{is_name}
 use Rattle.ks_tree.specs.Files.{Files, content}
 use Rattle.ks_tree.specs.Paths.{auto_path, stamp_path}
 use Rattle.ks_tree.specs.Stamps.{HasNumber}
 use Rattle.ks_engine.specs.declared.error.EngineError.{EngineError}
-use Rattle.ks_engine.specs.History.{Begun, Texts}
+use Rattle.ks_compare.specs.Changes.{differs}
+use Rattle.ks_engine.specs.History.{History, Begun, Synced, Broken, Recorded, Record, Texts, before, done, last_record}
+use Rattle.ks_engine.specs.Staleness.{suspect_since}
+use Rattle.ks_engine.specs.Legal.{IsHistory}
 use Rattle.ks_engine.specs.Shows.{Shows, IsFirstAuto}
-use Rattle.ks_engine.specs.Synchronised.{Plan, IsSyncPlan}
+use Rattle.ks_engine.specs.SyncPlan.{Plan, IsSyncPlan}
 
 -- An empty tree shows a history that begins with no texts, ..
 abbrev pub EmptyTreeShows : Type 0
@@ -24,3 +27,15 @@ UsualTreeShows =
 abbrev pub PlansAreOne : Type 0
 PlansAreOne =
     (files : Files) (kconfig dotconfig : List ℕ) (r s : Result Plan EngineError) → IsSyncPlan files kconfig dotconfig r → IsSyncPlan files kconfig dotconfig s → r ≡ s
+
+-- A synchronisation, completed or broken off, that began behind g completed ones or more, and would change x from what the last of them set.
+abbrev pub HasChangeBehind : ℕ → List ℕ → History → Type 0
+HasChangeBehind g x (Begun first) = ⊥
+HasChangeBehind g x (Synced title config past) = ((g ≤ done past) × (differs (before past) config x ≡ true)) ⊎ HasChangeBehind g x past
+HasChangeBehind g x (Broken title config renewed past) = ((g ≤ done past) × (differs (before past) config x ≡ true)) ⊎ HasChangeBehind g x past
+HasChangeBehind g x (Recorded object command names header past) = HasChangeBehind g x past
+
+-- Where a name of an object is suspect, such a synchronisation began behind those that were completed before its record.
+abbrev pub SuspicionsHaveCauses : Type 0
+SuspicionsHaveCauses =
+    (h : History) (o x : List ℕ) (r : Record) → IsHistory h → last_record h o ≡ Some r → suspect_since h o x ≡ true → HasChangeBehind (done r.past) x h

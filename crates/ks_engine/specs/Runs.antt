@@ -5,18 +5,17 @@ use Rattle.ks_tree.specs.Files.{HasRisen}
 use Rattle.ks_engine.specs.declared.error.EngineError.{EngineError}
 use Rattle.ks_engine.specs.declared.error.EngineError.TheVariants.{Device}
 use Rattle.ks_engine.specs.declared.staleness.Verdict.{Verdict as VerdictValue}
-use Rattle.ks_engine.specs.declared.staleness.Verdict.TheVariants.{Fresh}
 use Rattle.ks_engine.specs.declared.commands.Reply.{Reply}
 use Rattle.ks_engine.specs.declared.commands.Reply.TheVariants.{Synced, Recorded, Verdict, Refused}
-use Rattle.ks_engine.specs.Refusals.{IsGivenUp, GaveUp}
-use Rattle.ks_engine.specs.History.{History, Record as LastRecord, last_record, NoneBroken}
-use Rattle.ks_engine.specs.Staleness.{first_changed, first_suspect, verdict}
+use Rattle.ks_engine.specs.Refusals.{GaveUp}
+use Rattle.ks_engine.specs.History.{Record as LastRecord, last_record, NoneBroken}
 use Rattle.ks_engine.specs.Legal.{HasOneKind}
 use Rattle.ks_engine.specs.Shows.{Shows}
 use Rattle.ks_engine.specs.Asked.{asked, IsAnswer}
-use Rattle.ks_engine.specs.Judged.{HasSameDefinitions, IsJudged}
+use Rattle.ks_engine.specs.Judged.{IsJudged}
 use Rattle.ks_engine.specs.Follows.{State, IsSame, FollowsSync, FollowsRecord}
 use Rattle.ks_engine.specs.Actions.{Action, Sync, Record, Stale}
+use Rattle.ks_engine.specs.Verdicts.{IsSuspectVerdict, IsChangedVerdict, IsSafeVerdict, IsGivenUpSync}
 
 abbrev pub IsShown : State → Type 0
 IsShown s = Shows s.files s.history
@@ -54,26 +53,6 @@ abbrev pub Leads : State → List Step → State → Type 0
 Leads first [] last = last ≡ first
 Leads first (step ∷ steps) last =
     (step.before ≡ first) × Follows step.before step.action step.reply step.after × IsShown step.after × Leads step.after steps last
-
--- A verdict on a recorded object is the first of its names that is suspect, ..
-abbrev pub IsSuspectVerdict : History → Action → Reply → Type 0
-IsSuspectVerdict h (Stale o) (Verdict v) = (r : LastRecord) → last_record h o ≡ Some r → v ≡ verdict (first_suspect h o)
-IsSuspectVerdict h _ _ = Unit {0}
-
--- .. or the first that a completed synchronisation changed since the record.
-abbrev pub IsChangedVerdict : History → Action → Reply → Type 0
-IsChangedVerdict h (Stale o) (Verdict v) = (r : LastRecord) → last_record h o ≡ Some r → v ≡ verdict (first_changed h o)
-IsChangedVerdict h _ _ = Unit {0}
-
--- Where a recorded object is called fresh, the header defines each of its names in the same lines as at its record.
-abbrev pub IsSafeVerdict : State → Action → Reply → Type 0
-IsSafeVerdict s (Stale o) (Verdict v) = (r : LastRecord) → last_record s.history o ≡ Some r → v ≡ Fresh → HasSameDefinitions s.files r
-IsSafeVerdict s _ _ = Unit {0}
-
--- A synchronisation that was given up may have been broken off.
-abbrev pub IsGivenUpSync : Action → Reply → Type 0
-IsGivenUpSync (Sync kconfig dotconfig) (Refused e) = IsGivenUp e
-IsGivenUpSync _ _ = ⊥
 
 -- A run of actions with these replies: the steps, and what holds of the verdicts among them.
 pub record Run (first : State) (asked : List Action) (answered : List Reply) (last : State) : Type 0 where

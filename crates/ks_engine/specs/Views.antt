@@ -9,7 +9,9 @@ use Rattle.ks_engine.specs.declared.error.EngineError.{EngineError}
 use Rattle.ks_engine.specs.declared.synchronise.Sources.{Sources as SourceValues}
 use Rattle.ks_engine.specs.declared.synchronise.Work.{Work}
 use Rattle.ks_engine.specs.Refusals.{of_source}
-use Rattle.ks_engine.specs.Synchronised.{Sources, source_refusal, OldAuto, Plan, IsSyncPlan, AreChanged}
+use Rattle.ks_engine.specs.Synchronised.{AreChanged}
+use Rattle.ks_engine.specs.SyncPlan.{Sources, source_refusal, Plan, IsSyncPlan}
+use Rattle.ks_engine.specs.LastSync.{OldAuto}
 
 abbrev pub old_of : OldTexts → OldAuto
 old_of old = record { texts = old.texts; generation = old.generation }

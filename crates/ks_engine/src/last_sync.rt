@@ -5,7 +5,7 @@ ghost use Rattle.ks_output.specs.OldConfig.{HasNames};
 ghost use Rattle.ks_tree.specs.Files.{content, HasRisen};
 ghost use Rattle.ks_tree.specs.Paths.{auto_path};
 ghost use Rattle.ks_engine.specs.Refusals.{Answers};
-ghost use Rattle.ks_engine.specs.Synchronised.{old_auto, last_generation};
+ghost use Rattle.ks_engine.specs.LastSync.{old_auto, last_generation};
 ghost use Rattle.ks_engine.specs.Views.{old_of};
 
 use crate::EngineError;

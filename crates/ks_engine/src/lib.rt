@@ -14,7 +14,7 @@ mod tests;
 
 pub use commands::{Command, Reply, run};
 pub use error::EngineError;
-pub use laws::{beginnings_are_shown, plans_are_one};
+pub use laws::{beginnings_are_shown, plans_are_one, suspicions_have_causes};
 pub use recording::{Recorded, record_object};
 pub use sources::scan_all;
 pub use staleness::{BuildState, Verdict, outdated, stale};

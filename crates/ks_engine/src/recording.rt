@@ -7,7 +7,8 @@ ghost use Rattle.ks_fixdep.specs.CommandFile.{is_command, is_dep, command_text, 
 ghost use Rattle.ks_fixdep.specs.Record.{config_names};
 ghost use Rattle.ks_tree.specs.Files.{content, HasRisen};
 ghost use Rattle.ks_engine.specs.Refusals.{Answers, IsGivenUp};
-ghost use Rattle.ks_engine.specs.Recording.{RecordPlan, words, there, drafted, record_plan, IsRecordPlan, IsRecorded, IsRecordRefused};
+ghost use Rattle.ks_engine.specs.Recording.{words, there};
+ghost use Rattle.ks_engine.specs.Recorded.{RecordPlan, drafted, record_plan, IsRecordPlan, IsRecorded, IsRecordRefused};
 ghost use Rattle.ks_engine.specs.History.{History};
 ghost use Rattle.ks_engine.specs.Shows.{Shows};
 ghost use Rattle.ks_engine.specs.Follows.{at, FollowsRecord};

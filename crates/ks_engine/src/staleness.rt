@@ -8,7 +8,8 @@ ghost use Rattle.ks_tree.specs.Paths.{command_path};
 ghost use Rattle.ks_engine.specs.Refusals.{Answers, GaveUp};
 ghost use Rattle.ks_engine.specs.History.{History, Record, last_record};
 ghost use Rattle.ks_engine.specs.Shows.{Shows};
-ghost use Rattle.ks_engine.specs.Asked.{command_file, asked, asked_since, built, IsByStamps, IsAnswer, IsBuilt};
+ghost use Rattle.ks_engine.specs.Asked.{command_file, asked, asked_since, IsByStamps, IsAnswer};
+ghost use Rattle.ks_engine.specs.Built.{built, IsBuilt};
 ghost use Rattle.ks_engine.specs.Judged.{JudgesRecorded, IsBuildJudged};
 
 use crate::EngineError;

@@ -8,6 +8,7 @@ use std::test::Fail;
 
 mod broken_off;
 mod golden;
+mod texts;
 
 use golden::*;
 

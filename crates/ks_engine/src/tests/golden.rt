@@ -14,14 +14,31 @@ pub const BOTH: &str = "CONFIG_A=y\nCONFIG_B=m\n";
 
 pub const ONLY_B: &str = "CONFIG_B=m\n";
 
-const AUTO: &str =
+pub const AUTO: &str =
     "#\n# Automatically generated file; DO NOT EDIT.\n# Demo\n#\nCONFIG_A=y\nCONFIG_B=m\n#generation 1\n";
 
-const HEADER: &str =
+pub const HEADER: &str =
     "/*\n * Automatically generated file; DO NOT EDIT.\n * Demo\n */\n#define CONFIG_A 1\n#define CONFIG_B_MODULE 1\n";
 
-const COMMAND_FILE: &str =
+pub const COMMAND_FILE: &str =
     "savedcmd_x.o := cc -c x.c\n\nsource_x.o := x.c\n\ndeps_x.o := \\\n    $(wildcard include/config/A) \\\n    $(wildcard include/config/B) \\\n  a.h \\\n    $(wildcard include/config/C) \\\n  b.h \\\n\nx.o: $(deps_x.o)\n\n$(deps_x.o):\n#generation 1\n";
+
+/// What it is without a number, with a number above that of auto.conf, and cut behind its eighth line.
+pub const UNNUMBERED: &str =
+    "savedcmd_x.o := cc -c x.c\n\nsource_x.o := x.c\n\ndeps_x.o := \\\n    $(wildcard include/config/A) \\\n    $(wildcard include/config/B) \\\n  a.h \\\n    $(wildcard include/config/C) \\\n  b.h \\\n\nx.o: $(deps_x.o)\n\n$(deps_x.o):\n";
+
+pub const NUMBERED_FIVE: &str =
+    "savedcmd_x.o := cc -c x.c\n\nsource_x.o := x.c\n\ndeps_x.o := \\\n    $(wildcard include/config/A) \\\n    $(wildcard include/config/B) \\\n  a.h \\\n    $(wildcard include/config/C) \\\n  b.h \\\n\nx.o: $(deps_x.o)\n\n$(deps_x.o):\n#generation 5\n";
+
+pub const CUT: &str =
+    "savedcmd_x.o := cc -c x.c\n\nsource_x.o := x.c\n\ndeps_x.o := \\\n    $(wildcard include/config/A) \\\n    $(wildcard include/config/B) \\\n  a.h \\\n";
+
+/// The auto.conf and the header of the same Kconfig with B alone.
+pub const AUTO_B: &str =
+    "#\n# Automatically generated file; DO NOT EDIT.\n# Demo\n#\nCONFIG_B=m\n#generation 2\n";
+
+pub const HEADER_B: &str =
+    "/*\n * Automatically generated file; DO NOT EDIT.\n * Demo\n */\n#define CONFIG_B_MODULE 1\n";
 
 /// An object's sources and its dependency file.
 pub const SOURCES: &[(Step<'_>, &str)] = &[
@@ -66,12 +83,6 @@ pub const FIRST_FILES: &[(Step<'_>, &str)] = &[
     (Step::Sync(WITHOUT_A, ONLY_B), "generation 2 touched A unknown 0"),
     (Step::Stale("x.o"), "stale A"),
     (Step::Read("x.c"), "#ifdef CONFIG_A\nCONFIG_B\n"),
-    (Step::Sync("", ""), "generation 3 touched B unknown 0"),
-    (Step::Sync(KCONFIG, "CONFIG_A=y\n# CONFIG_A is not set\nCONFIG_ZZ=7\n"), "generation 4 touched unknown 1"),
-    (Step::Sync(STRING, "CONFIG_S=\"\"\n"), "generation 5 touched S unknown 0"),
-    (Step::Sync(STRING, ""), "generation 6 touched S unknown 0"),
-    (Step::Sync(STRING, "CONFIG_S=\"n\"\n"), "generation 7 touched S unknown 0"),
-    (Step::Sync(STRING, "CONFIG_S=\"n\"\n"), "generation 8 touched unknown 0"),
 ];
 
 #[rattlefmt::skip]

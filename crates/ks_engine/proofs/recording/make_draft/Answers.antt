@@ -3,7 +3,7 @@ use Rattle.std.specs.List.{list_all}
 use Rattle.ks_symbols.specs.Names.{is_path, is_target}
 use Rattle.ks_fixdep.specs.CommandFile.{Record, view, is_command, is_dep, command_text}
 use Rattle.ks_fixdep.specs.Record.{config_names, names_of}
-use Rattle.ks_engine.specs.Recording.{numbered}
+use Rattle.ks_engine.specs.Recorded.{numbered}
 use Rattle.ks_engine.proofs.Drafting.{draft_large, draft_made}
 use Rattle.ks_engine.proofs.recording.make_draft.Goals as goal
 

@@ -1,7 +1,7 @@
 use Rattle.std.proofs.Common.{◌≡◌, ◌⊎◌, sym, ◌∙◌, ap, Ok, Err}
 use Rattle.std.proofs.lemmas.Result.{err_from_is_err_and, IfOk-weaker}
 use Rattle.ks_engine.specs.Refusals.{IsGivenUp}
-use Rattle.ks_engine.specs.Recording.{RecordPlan, IsRecordPlan, record_plan}
+use Rattle.ks_engine.specs.Recorded.{RecordPlan, IsRecordPlan, record_plan}
 use Rattle.ks_engine.specs.Drafts.{IsDraft}
 use Rattle.ks_engine.proofs.Writes.{if_err_map}
 use Rattle.ks_engine.proofs.Drafting.{or_given, depfile_refused, depfile_listed, at_words, at_depfile, at_listed, at_synced, at_scanned, at_drafted, synced_there, scanned_there}

@@ -1,7 +1,7 @@
 use Rattle.std.proofs.Common.{◌⊎◌, inl, inr, ⊎_elim, Err}
 use Rattle.std.proofs.lemmas.Result.{err_from_is_err_and, IfOk-weaker}
 use Rattle.ks_engine.specs.Refusals.{IsGivenUp}
-use Rattle.ks_engine.specs.Synchronised.{IsSyncPlan}
+use Rattle.ks_engine.specs.SyncPlan.{IsSyncPlan}
 use Rattle.ks_engine.specs.Views.{IsPlanned}
 use Rattle.ks_engine.proofs.Reading.{plan_of_old, plan_of_over}
 use Rattle.ks_engine.proofs.Writes.{if_err_map}

@@ -1,0 +1,33 @@
+-- A suspicion has a cause.
+use Rattle.std.proofs.Common.{◌≡◌, inl, inr, ⊎_elim, List, ℕ, true, ◌&&◌, sym, ◌∙◌, subst, arith}
+use Rattle.std.proofs.lemmas.Bool.{cond-true, cond-false, and_parts, or_cases}
+use Rattle.ks_compare.specs.Changes.{differs, is_in}
+use Rattle.ks_engine.specs.History.{History, Begun, Synced, Broken, Recorded, Record, before, done}
+use Rattle.ks_engine.specs.Staleness.{found, renewed_since_sync}
+use Rattle.ks_engine.specs.Legal.{IsHistory}
+use Rattle.ks_engine.specs.Laws.{HasChangeBehind, SuspicionsHaveCauses}
+use Rattle.ks_engine.proofs.Heart.{generation-le, record_cases}
+
+-- a renewed stamp, by the synchronisation that was broken off
+renewals : (h : History) (x : List ℕ) → IsHistory h → renewed_since_sync h x ≡ true → HasChangeBehind (done h) x h
+renewals (Begun first) x is renewed = absurd cc
+renewals (Synced title config past) x is renewed = absurd cc
+renewals (Broken title config names past) x is renewed =
+    ⊎_elim (λ here. inl (omega arith, is.2 x here)) (λ earlier. inr (renewals past x is.0 earlier)) (or_cases (is_in names x) _ renewed)
+renewals (Recorded object command names header past) x is renewed = renewals past x is.0 renewed
+
+pub suspicions : SuspicionsHaveCauses
+suspicions (Begun first) o x r is last suspect = absurd cc
+suspicions (Synced title config past) o x r is last suspect = ⊎_elim
+    (λ here. inl (generation-le past o r last, (and_parts (is_in (found past o) x) _ here).1))
+    (λ earlier. inr (suspicions past o x r is.0 last earlier))
+    (or_cases (is_in (found past o) x && differs (before past) config x) _ suspect)
+suspicions (Broken title config names past) o x r is last suspect = ⊎_elim
+    (λ here. inl (generation-le past o r last, is.2 x (and_parts (is_in (found past o) x) _ here).1))
+    (λ earlier. inr (suspicions past o x r is.0 last earlier))
+    (or_cases (is_in (found past o) x && is_in names x) _ suspect)
+suspicions (Recorded object command names header past) o x r is last suspect = ⊎_elim
+    (λ here. subst (λ (w : Record). HasChangeBehind (done w.past) x past) here.1
+    (renewals past x is.0 (and_parts (is_in names x) _ (sym (cond-true _ _ _ here.0) ∙ suspect)).1))
+    (λ there. suspicions past o x r is.0 there.1 (sym (cond-false _ _ _ there.0) ∙ suspect))
+    (record_cases object o _ _ r last)

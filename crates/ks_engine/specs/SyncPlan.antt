@@ -1,0 +1,55 @@
+-- What a synchronisation comes to, by the files before it and the two texts.
+use Rattle.std.specs.Prelude.{◌≡◌, ◌⊎◌, ℕ, ◌+◌, List, Option, Some, None, Result, Ok, Err, nat_eq, nat_lt, if◌then◌else◌, length}
+use Rattle.std.specs.FinMap as map
+use Rattle.ks_symbols.specs.declared.error.SourceError.{SourceError}
+use Rattle.ks_symbols.specs.Lines.{max_bytes, lines}
+use Rattle.ks_symbols.specs.Refusals.{or_else}
+use Rattle.ks_symbols.specs.Kconfig.{declared, title_of, kconfig_refusal}
+use Rattle.ks_symbols.specs.DotConfig.{setting, unknown_count, dotconfig_refusal}
+use Rattle.ks_output.specs.AutoText.{auto_text}
+use Rattle.ks_tree.specs.Files.{Files, content}
+use Rattle.ks_tree.specs.Paths.{auto_path}
+use Rattle.ks_engine.specs.declared.error.EngineError.{EngineError}
+use Rattle.ks_engine.specs.declared.error.EngineError.TheVariants.{TooLarge, GenerationFull}
+use Rattle.ks_engine.specs.Refusals.{of_source, and_then}
+use Rattle.ks_engine.specs.History.{Configuration, Texts}
+use Rattle.ks_engine.specs.Legal.{IsSource}
+use Rattle.ks_engine.specs.LastSync.{OldAuto, old_auto}
+
+-- why a Kconfig and a `.config` are refused
+abbrev pub source_refusal : List ℕ → List ℕ → Option SourceError
+source_refusal kconfig dotconfig = or_else (kconfig_refusal kconfig) (dotconfig_refusal (declared kconfig) dotconfig)
+
+pub record Sources : Type 0 where
+  pub title : List ℕ
+  pub config : Configuration
+  pub unknown : ℕ
+
+-- what the two texts set
+pub record AreSources (kconfig dotconfig : List ℕ) (s : Sources) : Type 0 where
+  pub accepted : source_refusal kconfig dotconfig ≡ None
+  pub title : s.title ≡ title_of kconfig
+  pub settings : (x : List ℕ) → map.get s.config x ≡ setting (declared kconfig) (lines dotconfig) x
+  pub unknown : s.unknown ≡ unknown_count (declared kconfig) (lines dotconfig)
+  pub legal : IsSource s.title s.config
+
+-- a synchronisation against which no refusal stands
+pub record Plan : Type 0 where
+  pub title : List ℕ
+  pub config : Configuration
+  pub unknown : ℕ
+  pub old : Texts
+  -- of the last completed one
+  pub generation : ℕ
+
+abbrev pub plan_over : Sources → OldAuto → Result Plan EngineError
+plan_over s auto =
+    if nat_eq auto.generation 18446744073709551615 then Err GenerationFull
+    else (if nat_lt max_bytes (length (auto_text s.title s.config (auto.generation + 1))) then Err TooLarge
+    else Ok (record { title = s.title; config = s.config; unknown = s.unknown; old = auto.texts; generation = auto.generation }))
+
+-- What is to be done, or why it is refused: first the texts, then auto.conf, then what would be written.
+abbrev pub IsSyncPlan : Files → List ℕ → List ℕ → Result Plan EngineError → Type 0
+IsSyncPlan files kconfig dotconfig result =
+    ((e : SourceError) × (source_refusal kconfig dotconfig ≡ Some e) × (result ≡ Err (of_source e)))
+    ⊎ ((s : Sources) × AreSources kconfig dotconfig s × (result ≡ and_then (old_auto (content files auto_path)) (plan_over s)))

@@ -6,7 +6,8 @@ use Rattle.std.proofs.lemmas.List.Elements.{All-nil, All-cons}
 use Rattle.ks_engine.specs.Actions.{Action, Sync, Record, Stale}
 use Rattle.ks_engine.specs.declared.commands.Reply.{Reply}
 use Rattle.ks_engine.specs.declared.commands.Reply.TheVariants.{Synced, Recorded, Verdict, Refused}
-use Rattle.ks_engine.specs.Runs.{Step, IsGivenUpSync}
+use Rattle.ks_engine.specs.Runs.{Step}
+use Rattle.ks_engine.specs.Verdicts.{IsGivenUpSync}
 use Rattle.ks_commands.specs.Replies.{is_answered}
 use Rattle.ks_commands.specs.Laws.{BatchTellsChanges}
 

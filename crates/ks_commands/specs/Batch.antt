@@ -1,5 +1,5 @@
 -- What a script does to a tree, and what is printed of it.
-use Rattle.std.specs.Prelude.{◌≡◌, ◌≤◌, ℕ, true, IsTrue, List, Option, Some, map, option_and_then, option_map, if◌then◌else◌}
+use Rattle.std.specs.Prelude.{◌≡◌, ◌≤◌, ℕ, true, IsTrue, List, Option, Some, None, map, option_and_then, option_map, if◌then◌else◌}
 use Rattle.std.specs.List.{list_all, list_any}
 use Rattle.std.specs.Io.KnownBytes.{Appends}
 use Rattle.ks_symbols.specs.Names.{is_path}
@@ -10,6 +10,7 @@ use Rattle.ks_engine.specs.Actions as asked
 use Rattle.ks_engine.specs.Follows.{State, at}
 use Rattle.ks_engine.specs.Runs.{Run}
 use Rattle.ks_script.specs.Script.{Line, Sync, Record, Stale, script_lines}
+use Rattle.ks_script.specs.ScriptRefusals.{script_refusal}
 use Rattle.ks_commands.specs.declared.batch.Loaded.{Loaded}
 use Rattle.ks_commands.specs.declared.batch.Loaded.TheVariants as loaded
 use Rattle.ks_commands.specs.Replies.{reply_lines, is_answered, is_stale}
@@ -30,9 +31,10 @@ loaded_action (loaded.Stale target) = asked.Stale target.now
 abbrev pub IsScript : List ℕ → Files → List Action → Type 0
 IsScript text files actions = map (action_in files) (script_lines text) ≡ map (λ a. Some a) actions
 
--- The actions of a script ran without a refusal. The text is their lines, and the status says whether something is stale.
+-- The actions of a script without a faulty line ran without a refusal. The text is their lines, and the status says whether something is stale.
 pub record IsBatch (script : List ℕ) (before after : State) (text : List ℕ) (status : ℕ) : Type 0 where
   pub actions : List Action
+  pub sound : script_refusal script ≡ None
   pub named : IsScript script before.files actions
   -- what the tree has counted once all files are read
   pub failures : ℕ

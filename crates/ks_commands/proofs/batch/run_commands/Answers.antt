@@ -5,6 +5,7 @@ use Rattle.ks_engine.specs.Follows.{at}
 use Rattle.ks_engine.specs.Runs.{Run}
 use Rattle.ks_engine.specs.Shows.{Shows}
 use Rattle.ks_script.specs.Script.{seen_line, script_lines}
+use Rattle.ks_script.specs.ScriptRefusals.{script_refusal}
 use Rattle.ks_commands.specs.Batch.{action_in, loaded_action}
 use Rattle.ks_commands.specs.Replies.{reply_lines, is_answered, is_stale}
 use Rattle.ks_commands.proofs.batch.run_commands.Goals as goal
@@ -25,6 +26,7 @@ returns-clause-ran g c = λ honest h shows small.
       c.in_ok-script.ensures.bytes honest,
       record {
         actions = map loaded_action c.in_ok-loaded.loaded.items;
+        sound = ap script_refusal (sym c.deref.ensures.value) ∙ c.in_ok-lines.ensures.refusal;
         named = ap₂ (λ f ls. map (action_in f) ls) (sym same_1) (sym said) ∙ c.in_ok-loaded.ensures.actions honest_1;
         failures = failures;
         later = omega (arith, c.in_ok-script.ensures.later, c.in_ok-loaded.ensures.later);

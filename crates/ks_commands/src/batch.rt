@@ -10,6 +10,7 @@ ghost use Rattle.ks_engine.specs.Shows.{Shows};
 ghost use Rattle.ks_engine.specs.Follows.{at};
 ghost use Rattle.ks_script.specs.Script.{seen_line};
 ghost use Rattle.ks_commands.specs.Batch.{IsBatch, WritesBatch, action_in, loaded_action};
+ghost use Rattle.ks_commands.specs.Changes.{StillShows};
 ghost use Rattle.ks_commands.specs.Replies.{code_of};
 
 use crate::inputs::{check_path, read_there};
@@ -132,6 +133,7 @@ fn run_commands<T: Tree>(alloc: Global, tree: &mut T, path: &[u8]) -> Result<Out
     ensures ran { T.is_honest tree.old → (h : History) → Shows (T.files tree.old) h → IfOk result (λ outcome. code_of outcome.status < 2
         → (last : History) × (script : List ℕ) × (content (T.files tree.old) path.now ≡ Some script)
         × IsBatch script (at (T.files tree.old) (T.failures tree.old) h) (at (T.files tree.new) (T.failures tree.new) last) outcome.text.items (code_of outcome.status)) }
+    ensures shown { T.is_honest tree.old → StillShows (T.files tree.old) (T.files tree.new) }
 {
     let script = read_there(alloc, tree, path)?;
     let lines = read_script(alloc, &script)?;
@@ -154,6 +156,7 @@ pub(crate) fn run_script<T: Tree, W: Write>(
     ensures ran { T.is_honest tree.old → (h : History) → Shows (T.files tree.old) h → IfOk result (λ status. code_of status < 2
         → (last : History) × WritesBatch path.now (at (T.files tree.old) (T.failures tree.old) h) (at (T.files tree.new) (T.failures tree.new) last)
         (W.contents out.old) (W.contents out.new) (code_of status)) }
+    ensures shown { T.is_honest tree.old → StillShows (T.files tree.old) (T.files tree.new) }
 {
     check_path(path)?;
     let outcome = run_commands(alloc, tree, path.as_bytes())?;

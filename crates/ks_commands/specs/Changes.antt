@@ -6,7 +6,7 @@ use Rattle.ks_tree.specs.Files.{Files, content}
 use Rattle.ks_engine.specs.declared.recording.Recorded.{Recorded}
 use Rattle.ks_engine.specs.declared.synchronise.Report.{Report}
 use Rattle.ks_engine.specs.History.{History}
-use Rattle.ks_engine.specs.Recording.{IsRecorded}
+use Rattle.ks_engine.specs.Recorded.{IsRecorded}
 use Rattle.ks_engine.specs.Shows.{Shows}
 use Rattle.ks_engine.specs.Synchronised.{IsSynced}
 use Rattle.ks_commands.specs.Replies.{recorded_line, report_lines}

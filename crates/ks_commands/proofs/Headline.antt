@@ -27,4 +27,4 @@ none_given_up (s ∷ ss) h =
 
 pub batch_tells_changes : BatchTellsChanges
 batch_tells_changes script before after text status batch none =
-    batch.run.changed (batch.run.unbroken none (none_given_up batch.run.steps (ap (list_all is_answered) batch.run.replies ∙ batch.answered)))
+    batch.runs.run.changed (batch.runs.run.unbroken none (none_given_up batch.runs.run.steps (ap (list_all is_answered) batch.runs.run.replies ∙ batch.told.answered)))

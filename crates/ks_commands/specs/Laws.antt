@@ -10,4 +10,4 @@ use Rattle.ks_commands.specs.Batch.{IsBatch}
 abbrev pub BatchTellsChanges : Type 0
 BatchTellsChanges =
     (script : List ℕ) (before after : State) (text : List ℕ) (status : ℕ) → (batch : IsBatch script before after text status)
-    → NoneBroken before.history → All (λ step. IsChangedVerdict step.before.history step.action step.reply) batch.run.steps
+    → NoneBroken before.history → All (λ step. IsChangedVerdict step.before.history step.action step.reply) batch.runs.run.steps

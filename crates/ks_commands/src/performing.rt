@@ -5,7 +5,7 @@ ghost use Rattle.std.specs.Prelude.{◌≡◌, ◌↔◌, ◌⊎◌, ◌<◌, �
 ghost use Rattle.ks_engine.specs.History.{History};
 ghost use Rattle.ks_engine.specs.Shows.{Shows};
 ghost use Rattle.ks_engine.specs.Follows.{at};
-ghost use Rattle.ks_commands.specs.Batch.{WritesBatch};
+ghost use Rattle.ks_commands.specs.Batch.{RunsOrNot, WritesBatch};
 ghost use Rattle.ks_commands.specs.Changes.{StillShows, WritesRecord, WritesSync};
 ghost use Rattle.ks_commands.specs.Outputs.{WritesCommandFile, WritesPreview};
 ghost use Rattle.ks_commands.specs.Questions.{WritesState, WritesVerdicts};
@@ -95,6 +95,8 @@ fn outcome<T: Tree, W: Write>(
     ensures batch { (p : List ℕ) → IsBatchOf p request.now → T.is_honest tree.old → (h : History) → Shows (T.files tree.old) h
         → IfOk result (λ status. code_of status < 2 → (last : History)
         × WritesBatch p (at (T.files tree.old) (T.failures tree.old) h) (at (T.files tree.new) (T.failures tree.new) last) (W.contents out.old) (W.contents out.new) (code_of status)) }
+    ensures whole { (p : List ℕ) → IsBatchOf p request.now → T.is_honest tree.old
+        → RunsOrNot p (T.files tree.old) (T.failures tree.old) (T.files tree.new) (T.failures tree.new) }
     ensures stale { (objects : List (List ℕ)) → IsStaleOf objects request.now → T.is_honest tree.old
         → IfOk result (λ status. code_of status < 2 → WritesVerdicts (T.files tree.old) objects (W.contents out.old) (W.contents out.new) (code_of status)) }
     ensures outdated { (object command : List ℕ) → IsOutdatedOf object command request.now → T.is_honest tree.old
@@ -166,11 +168,13 @@ pub fn perform<T: Tree, W: Write, E: Write>(
     ensures recorded { (d t c : List ℕ) → IsRecordOf d t c request.now → T.is_honest tree.old → result ≡ 0
         → WritesRecord d t c (T.files tree.old) (T.files tree.new) (W.contents out.old) (W.contents out.new) }
     ensures shown { T.is_honest tree.old → StillShows (T.files tree.old) (T.files tree.new) }
-    // A script: from each history that the files show its commands ran, and the files show the last one.
+    // A script: from each history that the files show its commands ran, all or none; and what is printed of them.
     ensures batch { (p : List ℕ) → IsBatchOf p request.now → T.is_honest tree.old → (h : History) → Shows (T.files tree.old) h → result < 2
         → (last : History) × WritesBatch p (at (T.files tree.old) (T.failures tree.old) h) (at (T.files tree.new) (T.failures tree.new) last)
         (W.contents out.old) (W.contents out.new) result }
     // Questions about objects.
+    ensures whole { (p : List ℕ) → IsBatchOf p request.now → T.is_honest tree.old
+        → RunsOrNot p (T.files tree.old) (T.failures tree.old) (T.files tree.new) (T.failures tree.new) }
     ensures stale { (objects : List (List ℕ)) → IsStaleOf objects request.now → T.is_honest tree.old → result < 2
         → WritesVerdicts (T.files tree.old) objects (W.contents out.old) (W.contents out.new) result }
     ensures outdated { (object command : List ℕ) → IsOutdatedOf object command request.now → T.is_honest tree.old → result < 2

@@ -1,7 +1,7 @@
 //! An output that fails: the command's work on the tree stays done, the refusal is told where that goes, and the
 //! status is 2 also where it doesn't.
 use super::golden::{AUTO, COMMAND_FILE};
-use super::{Step, play, request_of, text, world};
+use super::{Step, play, request_of, shown, text, world};
 use crate::perform;
 use std::alloc::Global;
 use std::io;
@@ -41,7 +41,6 @@ impl Write for Failing {
 }
 
 /// A command, what was done before it, and a file of the tree as it stands after it.
-#[derive(Clone, Copy)]
 struct Case<'a> {
     before: &'a [(Step<'a>, &'a str)],
     step: Step<'a>,
@@ -49,8 +48,8 @@ struct Case<'a> {
     holds: &'a str,
 }
 
-/// How many bytes a command prints on an output that doesn't fail.
-fn printed(rt: &impl Abort, alloc: Global, case: Case<'_>) -> Result<usize, Fail> {
+/// How often a command calls an output that doesn't fail: for each byte, and for the flush.
+fn calls_made(rt: &impl Abort, alloc: Global, case: &Case<'_>) -> Result<usize, Fail> {
     let mut tree = world(rt, alloc)?;
     play(rt, alloc, &mut tree, case.before)?;
     let Some(request) = request_of(alloc, case.step)? else {
@@ -59,11 +58,11 @@ fn printed(rt: &impl Abort, alloc: Global, case: Case<'_>) -> Result<usize, Fail
     let mut out: Vec<u8> = Vec::new(alloc);
     let mut err: Vec<u8> = Vec::new(alloc);
     perform(alloc, &mut tree, &request, &mut out, &mut err);
-    Ok(out.len())
+    Ok(out.len().saturating_add(1))
 }
 
-/// A command over an output that takes so many bytes. The tree is then as after the whole command.
-fn break_off(rt: &impl Abort, alloc: Global, case: Case<'_>, passes: usize) -> Result<(), Fail> {
+/// A command over an output that fails after so many calls. The tree is then as after the whole command.
+fn break_off(rt: &impl Abort, alloc: Global, case: &Case<'_>, passes: usize) -> Result<(), Fail> {
     let mut tree = world(rt, alloc)?;
     play(rt, alloc, &mut tree, case.before)?;
     let Some(request) = request_of(alloc, case.step)? else {
@@ -74,29 +73,37 @@ fn break_off(rt: &impl Abort, alloc: Global, case: Case<'_>, passes: usize) -> R
     let mut err: Vec<u8> = Vec::new(alloc);
     let status = perform(alloc, &mut tree, &request, &mut out, &mut err);
     let step = case.step;
-    assert_eq!(rt; status, 2, "{passes} {step:?}");
-    assert_eq!(rt; out.taken.len(), passes, "{passes} {step:?}");
-    assert_eq!(rt; text(&err), "confstamp: 51 Output\n", "{passes} {step:?}");
-    play(rt, alloc, &mut tree, &[(Step::Read(case.path), case.holds)])
+    let place = format!(in alloc; "{passes} {step:?}")?;
+    assert_eq!(rt; status, 2, "{place}");
+    assert_eq!(rt; out.taken.len(), passes, "{place}");
+    assert_eq!(rt; text(&err), "confstamp: 51 Output\n", "{place}");
+    let left = shown(alloc, &mut tree, case.path)?;
+    assert_eq!(rt; left.as_str(), case.holds, "{place}");
+    Ok(())
 }
 
-#[test]
 #[rattlefmt::skip]
+const SYNCED: &[(Step<'_>, &str)] = &[(Step::Sync("K1", "c1"), "0 generation 1\ntouch A\ntouch B\nunknown 0\n")];
+
+const SCRIPT: &[(Step<'_>, &str)] = &[(Step::Put("script", "sync K1 c1\nstale x.o\n"), "done")];
+
+const AUTO_PATH: &str = "include/config/auto.conf";
+
+#[rattlefmt::skip]
+const CASES: &[Case<'_>] = &[
+    Case { before: &[], step: Step::Sync("K1", "c1"), path: AUTO_PATH, holds: AUTO },
+    Case { before: &[], step: Step::Preview("K1", "c1"), path: AUTO_PATH, holds: "none" },
+    Case { before: &[], step: Step::Fixdep("x.d", "x.o", "cc"), path: ".x.o.cmd", holds: "none" },
+    Case { before: SYNCED, step: Step::Record("x.d", "x.o", "cc -c x.c"), path: ".x.o.cmd", holds: COMMAND_FILE },
+    Case { before: SYNCED, step: Step::Stale(&["x.o", "y.o"]), path: ".x.o.cmd", holds: "none" },
+    Case { before: SYNCED, step: Step::Outdated("x.o", "cc"), path: ".x.o.cmd", holds: "none" },
+    Case { before: SCRIPT, step: Step::Batch("script"), path: AUTO_PATH, holds: AUTO },
+];
+
+#[test]
 fn an_output_that_fails(rt: HostRuntime) -> Result<(), Fail> {
-    let synced: &[(Step<'_>, &str)] = &[(Step::Sync("K1", "c1"), "0 generation 1\ntouch A\ntouch B\nunknown 0\n")];
-    let script: &[(Step<'_>, &str)] = &[(Step::Put("script", "sync K1 c1\nstale x.o\n"), "done")];
-    let auto = "include/config/auto.conf";
-    for case in [
-        Case { before: &[], step: Step::Sync("K1", "c1"), path: auto, holds: AUTO },
-        Case { before: &[], step: Step::Preview("K1", "c1"), path: auto, holds: "none" },
-        Case { before: &[], step: Step::Fixdep("x.d", "x.o", "cc"), path: ".x.o.cmd", holds: "none" },
-        Case { before: synced, step: Step::Record("x.d", "x.o", "cc -c x.c"), path: ".x.o.cmd", holds: COMMAND_FILE },
-        Case { before: synced, step: Step::Stale(&["x.o", "y.o"]), path: ".x.o.cmd", holds: "none" },
-        Case { before: synced, step: Step::Outdated("x.o", "cc"), path: ".x.o.cmd", holds: "none" },
-        Case { before: script, step: Step::Batch("script"), path: auto, holds: AUTO },
-    ] {
-        // The call after the last byte is the flush.
-        for passes in 0..printed(&rt, rt.alloc(), case)? + 1 {
+    for case in CASES {
+        for passes in 0..calls_made(&rt, rt.alloc(), case)? {
             break_off(&rt, rt.alloc(), case, passes)?;
         }
     }

@@ -1,6 +1,5 @@
-use Rattle.std.proofs.Common.{◌∙◌, List, ℕ, ap, sym, subst}
+use Rattle.std.proofs.Common.{subst}
 use Rattle.std.specs.Io.KnownBytes.{Appends}
-use Rattle.ks_tree.specs.Files.{content}
 use Rattle.ks_commands.proofs.batch.run_script.Goals as goal
 
 pub returns-clause-ran : goal.returns-clause-ran
@@ -11,7 +10,7 @@ returns-clause-ran g c = λ honest h shows small.
         script = ran.1;
         text = c.in_ok-outcome.outcome.text.items;
         legal = c.in_ok-check_path.ensures;
-        there = ap (λ (path : List ℕ). content (g.T.Tree.files c.args.tree.now) path) (sym c.as_bytes.ensures.value) ∙ ran.2;
+        there = ran.2;
         batch = ran.3;
         appended = subst (Appends (g.W.Write.contents c.args.out.now) (g.W.Write.contents c.put.new.out)) c.deref.ensures.value c.in_ok-put.ensures;
       },

@@ -18,6 +18,54 @@ make_work_folder() {
     trap 'exit 1' HUP INT TERM
 }
 
+# Folders usr/src/linux-headers-VERSION-ARCH below $1 whose kbuild package is there and writes savedcmd_.
+usable_trees() {
+    for tree in "$1"/usr/src/linux-headers-*-amd64; do
+        if [ -x "$tree/scripts/basic/fixdep" ] && [ -d "${tree%-amd64}-common/include" ] &&
+            grep -q savedcmd_ "$tree/scripts/basic/fixdep"; then
+            echo "$tree"
+        fi
+    done
+}
+
+# Unpacks a headers package, its common part and its kbuild package into $work/packages.
+download_packages() {
+    command -v apt-get > "$work/log" || fail 'no linux-headers package with a fixdep that writes savedcmd_, and no apt-get'
+    for meta in linux-headers-amd64 linux-headers-6.12-amd64; do
+        package=$(apt-cache depends "$meta" 2> "$work/log" |
+            sed -n 's/.*Depends: \(linux-headers-.*-amd64\)$/\1/p' | head -n 1)
+        [ -n "$package" ] || continue
+        release=${package#linux-headers-}
+        release=${release%-amd64}
+        dpkg --compare-versions "${release%%[!0-9.]*}" ge 6.2 || continue
+        echo "downloading $package" >&2
+        mkdir -p "$work/packages"
+        (cd "$work/packages" && apt-get -q download "$package" "${package%-amd64}-common" "linux-kbuild-$release") \
+            > "$work/log" 2>&1 || fail "apt-get could not download $package"
+        for archive in "$work/packages"/*.deb; do
+            dpkg-deb -x "$archive" "$work/packages"
+        done
+        return 0
+    done
+    fail 'apt knows no linux-headers of Linux 6.2 or later'
+}
+
+# $work/tree: one folder that looks as a built kernel's source tree: the common headers and the generated ones together. The
+# kernel's program goes to $work/kernel-fixdep.
+merge_tree() {
+    tree=$(usable_trees "${HEADERS:-}" | tail -n 1)
+    if [ -z "$tree" ]; then
+        [ -z "${HEADERS:-}" ] || fail "no headers package with a fixdep that writes savedcmd_ in $HEADERS"
+        download_packages
+        tree=$(usable_trees "$work/packages" | tail -n 1)
+        [ -n "$tree" ] || fail 'the downloaded packages hold no fixdep that writes savedcmd_'
+    fi
+    mkdir -p "$work/tree/samples"
+    cp -R "${tree%-amd64}-common/include" "${tree%-amd64}-common/arch" "$work/tree"
+    cp -R "$tree/include" "$tree/arch" "$work/tree"
+    cp "$tree/scripts/basic/fixdep" "$work/kernel-fixdep"
+}
+
 # install_tool COMMAND PACKAGE: true if the command is there in the end.
 install_tool() {
     command -v "$1" > /dev/null && return 0

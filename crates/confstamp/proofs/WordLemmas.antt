@@ -1,8 +1,14 @@
 -- What the command line makes of words that begin with no hyphen.
-use Rattle.std.proofs.Common.{◌≡◌, ◌≢◌, ◌==◌, ℕ, List, [], ◌∷◌, Option, Some, None, refl, codes, true, false, slice_index, option_map, arith}
+use Rattle.std.proofs.Common.{◌≡◌, ◌≢◌, ◌==◌, ap, subst, ℕ, List, [], ◌∷◌, Option, Some, None, refl, codes, true, false, slice_index, option_map, arith}
+use Rattle.std.proofs.lemmas.Bool.{true≢false}
 use Rattle.std.proofs.lemmas.Bool.Decides.{nat_tests}
-use Rattle.clap.specs.Words.{Row, Text, first_of, is_simple, subcommand_name_of, subcommand_of, subcommand_rows, subcommand_rows_of, takes}
-use Rattle.std.specs.Prelude.{Box, IfErr, IsErrAnd, Result, Ok, Err}
+use Rattle.clap.specs.Words.{Row, Text, first_of, first_value, is_simple, rows_of, subcommand_name_of, subcommand_of, subcommand_rows, subcommand_rows_of, takes}
+use Rattle.std.specs.Prelude.{Box, IfErr, IsErrAnd, IsSomeAnd, Result, Ok, Err, is_some}
+use Rattle.std.proofs.lemmas.Option.{same_Some}
+use Rattle.ks_commands.specs.Requests.{IsBatchOf, IsPreviewOf}
+use Rattle.ks_commands.specs.declared.request.Request.{Request}
+use Rattle.ks_commands.specs.declared.request.Request.TheVariants as request
+use Rattle.confstamp.specs.Words.{IsRequestOf}
 use Rattle.std.specs.Box.{box_value}
 use Rattle.clap.specs.declared.parser.matches.ArgMatches.{ArgMatches}
 use Rattle.clap.specs.declared.parser.matches.SubCommand.{SubCommand}
@@ -12,6 +18,8 @@ use Rattle.clap.specs.declared.builder.value_parser.ValueParser.TheVariants as v
 use Rattle.clap.specs.Words.{reading_of}
 use Rattle.clap.specs.Lexer.{strip_byte}
 use Rattle.std.specs.Str.{bytes_eq}
+use Rattle.clap.specs.declared.parser.matches.Found.{Found}
+use Rattle.clap.proofs.WalkLemmas.{first_value-rows}
 use Rattle.clap.proofs.OnLiterals.{clap_on_literals}
 use Rattle.confstamp.specs.CommandLine.{command_line_app}
 
@@ -59,6 +67,10 @@ pub preview_takes : (k d : Text) → slice_index k 0 ≢ 45 → slice_index d 0 
 unfolding clap_on_literals
 preview_takes k d f g = simp (no_escape k f, no_hyphen k f, no_escape d g, no_hyphen d g) refl
 
+-- what is found for a name, by its row
+pub first_at : (f : Found) (name : Text) → first_value f name ≡ first_of name (rows_of f)
+first_at f name = first_value-rows f name
+
 -- the name of the subcommand that was entered, by its rows
 pub entered_name : (m : ArgMatches) → subcommand_name_of m ≡ option_map (λ p. p.0) (subcommand_rows_of m)
 entered_name m = go (out-ArgMatches m).subcommand
@@ -66,6 +78,32 @@ entered_name m = go (out-ArgMatches m).subcommand
     go : {Z : Type 0} (o : Option (Box SubCommand Z)) → option_map (λ b. (out-SubCommand (box_value b)).name.now) o ≡ option_map (λ p. p.0) (subcommand_rows o)
     go None = refl
     go (Some b) = refl
+
+-- what holds of the name and the rows of a subcommand holds of the two together
+pub both : (o : Option (Text × List Row)) (name : Text) (rows : List Row) (P : Text → List Row → Type 0)
+    → Some name ≡ option_map (λ p. p.0) o → Some rows ≡ option_map (λ p. p.1) o → P name rows → IsSomeAnd o (λ p. P p.0 p.1)
+both None name rows P e f h = absurd (true≢false (ap is_some e))
+both (Some p) name rows P e f h = subst (λ n. P n p.1) (same_Some _ _ e) (subst (P name) (same_Some _ _ f) h)
+
+-- the request of a command is no other command's: their names begin with other letters, and `stale` is the rest
+pub preview_of : (k d : Text) (r : Request) → IsRequestOf (codes "preview") (given (codes "KCONFIG") k ∷ given (codes "DOTCONFIG") d ∷ []) r
+    → IsPreviewOf k d None r
+preview_of k d (request.Preview k' d' o) h = (h.1, h.2, h.3)
+preview_of k d (request.Sync k' d') h = absurd (true≢false (ap (λ t. slice_index t 0 == 112) h.0))
+preview_of k d (request.Fixdep d' t c) h = absurd (true≢false (ap (λ t. slice_index t 0 == 112) h.0))
+preview_of k d (request.Record d' t c) h = absurd (true≢false (ap (λ t. slice_index t 0 == 112) h.0))
+preview_of k d (request.Stale ts) h = absurd (h.0 1 [] (omega arith) refl)
+preview_of k d (request.Batch s) h = absurd (true≢false (ap (λ t. slice_index t 0 == 112) h.0))
+preview_of k d (request.Outdated t c) h = absurd (true≢false (ap (λ t. slice_index t 0 == 112) h.0))
+
+pub batch_of : (p : Text) (r : Request) → IsRequestOf (codes "batch") (given (codes "SCRIPT") p ∷ []) r → IsBatchOf p r
+batch_of p (request.Batch s) h = h.1
+batch_of p (request.Sync k d) h = absurd (true≢false (ap (λ t. slice_index t 0 == 98) h.0))
+batch_of p (request.Preview k d o) h = absurd (true≢false (ap (λ t. slice_index t 0 == 98) h.0))
+batch_of p (request.Fixdep d t c) h = absurd (true≢false (ap (λ t. slice_index t 0 == 98) h.0))
+batch_of p (request.Record d t c) h = absurd (true≢false (ap (λ t. slice_index t 0 == 98) h.0))
+batch_of p (request.Stale ts) h = absurd (h.0 4 [] (omega arith) refl)
+batch_of p (request.Outdated t c) h = absurd (true≢false (ap (λ t. slice_index t 0 == 98) h.0))
 
 -- what holds of the error holds where there is an error
 pub err_all : {T E : Type 0} (r : Result T E) (P Q : E → Type 0) → ((e : E) → P e → Q e) → IsErrAnd r P → IfErr r Q

@@ -1,5 +1,9 @@
--- Words of the command line, and why they are no request.
-use Rattle.std.specs.Prelude.{◌≢◌, ℕ, List, slice_index}
+-- Words of the command line, the requests that they make, and why they make none.
+use Rattle.std.specs.Prelude.{◌≡◌, ◌≢◌, ℕ, List, [], ◌∷◌, codes, map, option_map, slice_index, string_bytes, unwrap_or}
+use Rattle.std.specs.List.{All}
+use Rattle.clap.specs.Words.{Row, Text, all_of, first_of}
+use Rattle.ks_commands.specs.declared.request.Request.{Request}
+use Rattle.ks_commands.specs.declared.request.Request.TheVariants as request
 use Rattle.confstamp.specs.declared.words.WordsError.{WordsError}
 use Rattle.confstamp.specs.declared.words.WordsError.TheVariants.{OutOfMemory}
 
@@ -11,3 +15,35 @@ IsPlainWord word = slice_index word 0 ≢ 45
 abbrev pub IsWantOfMemory : WordsError → Type 0
 IsWantOfMemory OutOfMemory = Unit {0}
 IsWantOfMemory _ = ⊥
+
+-- the word that stands for this name, and the words that stand for it
+abbrev pub word_at : Text → List Row → Text
+word_at name rows = unwrap_or (first_of name rows) []
+
+abbrev pub words_at : Text → List Row → List Text
+words_at name rows = unwrap_or (all_of name rows) []
+
+-- the name is that of no command but `stale`
+abbrev pub IsNoOther : Text → Type 0
+IsNoOther name = All (λ other. name ≢ other)
+    (codes "sync" ∷ codes "preview" ∷ codes "fixdep" ∷ codes "record" ∷ codes "batch" ∷ codes "outdated" ∷ [])
+
+-- the request is that of the command, and holds what `clap` found for each of its words
+abbrev pub IsRequestOf : Text → List Row → Request → Type 0
+IsRequestOf command rows (request.Sync k d) = (command ≡ codes "sync")
+    × (string_bytes k ≡ word_at (codes "KCONFIG") rows) × (string_bytes d ≡ word_at (codes "DOTCONFIG") rows)
+IsRequestOf command rows (request.Preview k d o) = (command ≡ codes "preview")
+    × (string_bytes k ≡ word_at (codes "KCONFIG") rows) × (string_bytes d ≡ word_at (codes "DOTCONFIG") rows)
+    × (option_map (λ path. string_bytes path) o ≡ first_of (codes "OLDAUTO") rows)
+IsRequestOf command rows (request.Fixdep d t c) = (command ≡ codes "fixdep")
+    × (string_bytes d ≡ word_at (codes "DEPFILE") rows) × (string_bytes t ≡ word_at (codes "TARGET") rows)
+    × (string_bytes c ≡ word_at (codes "COMMAND") rows)
+IsRequestOf command rows (request.Record d t c) = (command ≡ codes "record")
+    × (string_bytes d ≡ word_at (codes "DEPFILE") rows) × (string_bytes t ≡ word_at (codes "TARGET") rows)
+    × (string_bytes c ≡ word_at (codes "COMMAND") rows)
+IsRequestOf command rows (request.Stale ts) =
+    IsNoOther command × (map (λ t. string_bytes t) ts.items ≡ words_at (codes "TARGET") rows)
+IsRequestOf command rows (request.Batch s) =
+    (command ≡ codes "batch") × (string_bytes s ≡ word_at (codes "SCRIPT") rows)
+IsRequestOf command rows (request.Outdated t c) = (command ≡ codes "outdated")
+    × (string_bytes t ≡ word_at (codes "TARGET") rows) × (string_bytes c ≡ word_at (codes "COMMAND") rows)

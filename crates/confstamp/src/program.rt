@@ -1,6 +1,10 @@
 //! The program over any tree and any two writers: its words in, its status out.
-ghost use Rattle.std.specs.Prelude.{◌≡◌, ◌↔◌, ℕ, List, ◌∷◌, [], None, codes};
+ghost use Rattle.std.specs.Prelude.{◌≡◌, ◌↔◌, ◌<◌, ℕ, List, ◌∷◌, [], None, codes};
 ghost use Rattle.clap.specs.Walk.{texts};
+ghost use Rattle.ks_engine.specs.History.{History};
+ghost use Rattle.ks_engine.specs.Shows.{Shows};
+ghost use Rattle.ks_engine.specs.Follows.{at};
+ghost use Rattle.ks_commands.specs.Batch.{WritesBatch};
 ghost use Rattle.ks_commands.specs.Outputs.{WritesPreview};
 ghost use Rattle.confstamp.specs.Words.{IsPlainWord};
 
@@ -25,7 +29,8 @@ fn explain<W: Write, E: Write>(error: &clap::Error, out: &mut W, err: &mut E) ->
     }
 }
 
-/// Runs the command that the words after the program's name make, and answers the exit status: 0 done, 2 refused.
+/// Runs the command that the words after the program's name make, and answers the exit status: 0 done and nothing stale,
+/// 1 something stale or built by another command, 2 something refused.
 pub fn execute<'a, T: Tree, W: Write, E: Write>(
     alloc: Global,
     tree: &mut T,
@@ -39,6 +44,11 @@ pub fn execute<'a, T: Tree, W: Write, E: Write>(
         → WritesPreview (T.files tree.old) k d None (W.contents out.old) (W.contents out.new) }
     ensures unchanged { (k d : List ℕ) → texts words.entry.now ≡ codes "preview" ∷ k ∷ d ∷ []
         → IsPlainWord k → IsPlainWord d → T.is_honest tree.old → T.files tree.new ≡ T.files tree.old }
+    // A script: from each history that the files show its commands ran, and the files show the last one.
+    ensures batch { (p : List ℕ) → texts words.entry.now ≡ codes "batch" ∷ p ∷ [] → IsPlainWord p → T.is_honest tree.old
+        → (h : History) → Shows (T.files tree.old) h → result < 2
+        → (last : History) × WritesBatch p (at (T.files tree.old) (T.failures tree.old) h) (at (T.files tree.new) (T.failures tree.new) last)
+        (W.contents out.old) (W.contents out.new) result }
 {
     match request_of(alloc, words) {
         Ok(request) => perform(alloc, tree, &request, out, err),

@@ -1,10 +1,11 @@
 //! What the words after the program's name ask for.
-ghost use Rattle.std.specs.Prelude.{◌≡◌, ℕ, List, [], ◌∷◌, IfErr, IfOk, Option, codes, Some, None, option_map, string_bytes};
-ghost use Rattle.clap.specs.Words.{first_value, found_of, kind_of};
+ghost use Rattle.std.specs.Prelude.{◌≡◌, ℕ, List, [], ◌∷◌, IfErr, IfOk, IsSomeAnd, codes, true, map, None, option_map, string_bytes};
+ghost use Rattle.clap.specs.Words.{first_of, found_of, kind_of, rows_of, subcommand_of, takes};
 ghost use Rattle.clap.specs.Walk.{texts};
 ghost use Rattle.clap.specs.declared.error.kind.ErrorKind.TheVariants.{OutOfMemory as NoMemory};
 ghost use Rattle.ks_commands.specs.Requests.{IsBatchOf, IsPreviewOf};
-ghost use Rattle.confstamp.specs.Words.{IsPlainWord, IsWantOfMemory};
+ghost use Rattle.confstamp.specs.CommandLine.{command_line_app};
+ghost use Rattle.confstamp.specs.Words.{IsPlainWord, IsRequestOf, IsWantOfMemory, word_at, words_at};
 
 use crate::command_line::command_line;
 use clap::ArgMatches;
@@ -43,19 +44,21 @@ impl From<clap::Error> for WordsError {
 }
 
 /// The word of the required argument `id`.
+#[tactic(auto, using(crate::proofs::WordLemmas::first_at))]
 fn word(alloc: Global, matches: &ArgMatches<'_>, id: &str) -> Result<String, AllocError>
-    ensures { IfOk result (λ s. (t : List ℕ) → first_value (found_of matches.now) id.now ≡ Some t → string_bytes s ≡ t) }
+    ensures { IfOk result (λ s. string_bytes s ≡ word_at id.now (rows_of (found_of matches.now))) }
 {
     String::from_str(alloc, matches.get_str(id).unwrap_or(""))
 }
 
 /// The word of the argument `id`, where it is there.
+#[tactic(auto, using(crate::proofs::WordLemmas::first_at))]
 fn optional_word(
     alloc: Global,
     matches: &ArgMatches<'_>,
     id: &str,
 ) -> Result<Option<String>, AllocError>
-    ensures { IfOk result (λ o. option_map (λ s. string_bytes s) o ≡ first_value (found_of matches.now) id.now) }
+    ensures { IfOk result (λ o. option_map (λ s. string_bytes s) o ≡ first_of id.now (rows_of (found_of matches.now))) }
 {
     match matches.get_str(id) {
         Some(text) => Ok(Some(String::from_str(alloc, text)?)),
@@ -63,11 +66,22 @@ fn optional_word(
     }
 }
 
+/// The words of the argument `id`.
+fn all_words(alloc: Global, matches: &ArgMatches<'_>, id: &str) -> Result<Vec<String>, AllocError>
+    ensures { IfOk result (λ ws. map (λ s. string_bytes s) ws.items ≡ words_at id.now (rows_of (found_of matches.now))) }
+{
+    let mut words = Vec::new(alloc);
+    let Some(texts) = matches.get_strs(id) else {
+        return Ok(words);
+    };
+    for text in texts {
+        words.push(String::from_str(alloc, *text)?)?;
+    }
+    Ok(words)
+}
+
 fn preview_request(alloc: Global, matches: &ArgMatches<'_>) -> Result<Request, AllocError>
-    ensures { IfOk result (λ r. (k d : List ℕ)
-        → first_value (found_of matches.now) (codes "KCONFIG") ≡ Some k
-        → first_value (found_of matches.now) (codes "DOTCONFIG") ≡ Some d
-        → IsPreviewOf k d (first_value (found_of matches.now) (codes "OLDAUTO")) r) }
+    ensures { IfOk result (IsRequestOf (codes "preview") (rows_of (found_of matches.now))) }
 {
     let kconfig = word(alloc, matches, "KCONFIG")?;
     let dotconfig = word(alloc, matches, "DOTCONFIG")?;
@@ -79,33 +93,9 @@ fn preview_request(alloc: Global, matches: &ArgMatches<'_>) -> Result<Request, A
     })
 }
 
-fn batch_request(alloc: Global, matches: &ArgMatches<'_>) -> Result<Request, AllocError>
-    ensures { IfOk result (λ r. (p : List ℕ)
-        → first_value (found_of matches.now) (codes "SCRIPT") ≡ Some p → IsBatchOf p r) }
-{
-    let script = word(alloc, matches, "SCRIPT")?;
-    Ok(Request::Batch { script })
-}
-
-/// The words of the argument `id`.
-fn all_words(alloc: Global, matches: &ArgMatches<'_>, id: &str) -> Result<Vec<String>, AllocError> {
-    let mut words = Vec::new(alloc);
-    if let Some(texts) = matches.get_strs(id) {
-        for text in texts {
-            words.push(String::from_str(alloc, *text)?)?;
-        }
-    }
-    Ok(words)
-}
-
 /// The request of the command `name` with these matches, where `clap` let that name through.
 fn request_named(alloc: Global, name: &str, matches: &ArgMatches<'_>) -> Result<Request, AllocError>
-    ensures batch { IfOk result (λ r. (p : List ℕ) → name.now ≡ codes "batch"
-        → first_value (found_of matches.now) (codes "SCRIPT") ≡ Some p → IsBatchOf p r) }
-    ensures preview { IfOk result (λ r. (k d : List ℕ) → name.now ≡ codes "preview"
-        → first_value (found_of matches.now) (codes "KCONFIG") ≡ Some k
-        → first_value (found_of matches.now) (codes "DOTCONFIG") ≡ Some d
-        → IsPreviewOf k d (first_value (found_of matches.now) (codes "OLDAUTO")) r) }
+    ensures { IfOk result (IsRequestOf name.now (rows_of (found_of matches.now))) }
 {
     match name {
         "sync" => Ok(Request::Sync {
@@ -123,7 +113,9 @@ fn request_named(alloc: Global, name: &str, matches: &ArgMatches<'_>) -> Result<
             target: word(alloc, matches, "TARGET")?,
             command: word(alloc, matches, "COMMAND")?,
         }),
-        "batch" => batch_request(alloc, matches),
+        "batch" => Ok(Request::Batch {
+            script: word(alloc, matches, "SCRIPT")?,
+        }),
         "outdated" => Ok(Request::Outdated {
             target: word(alloc, matches, "TARGET")?,
             command: word(alloc, matches, "COMMAND")?,
@@ -143,6 +135,9 @@ fn missing_command(alloc: Global) -> Result<WordsError, AllocError> {
 
 /// The request that the words after the program's name make. A word that begins with `-` is taken behind `--`.
 pub fn request_of<'a>(alloc: Global, words: &'a [&'a str]) -> Result<Request, WordsError>
+    ensures exact { IfOk result (λ r. IsSomeAnd (subcommand_of command_line_app (texts words.entry.now))
+        (λ command. IsRequestOf command.0 command.1 r)) }
+    ensures taken { IfErr result (λ e. takes command_line_app (texts words.entry.now) ≡ true → IsWantOfMemory e) }
     ensures batch { IfOk result (λ r. (p : List ℕ) → texts words.entry.now ≡ codes "batch" ∷ p ∷ []
         → IsPlainWord p → IsBatchOf p r) }
     ensures batch_taken { IfErr result (λ e. (p : List ℕ) → texts words.entry.now ≡ codes "batch" ∷ p ∷ []

@@ -6,7 +6,8 @@ use Rattle.std.proofs.lemmas.List.Elements.{All-nil, All-cons}
 use Rattle.ks_engine.specs.Actions.{Action, Sync, Record, Stale}
 use Rattle.ks_engine.specs.declared.commands.Reply.{Reply}
 use Rattle.ks_engine.specs.declared.commands.Reply.TheVariants.{Synced, Recorded, Verdict, Refused}
-use Rattle.ks_engine.specs.Runs.{Step, IsGivenUpSync}
+use Rattle.ks_engine.specs.Runs.{Step}
+use Rattle.ks_engine.specs.Verdicts.{IsGivenUpSync}
 use Rattle.ks_commands.specs.Replies.{is_answered}
 use Rattle.ks_commands.specs.Laws.{BatchTellsChanges}
 
@@ -26,4 +27,4 @@ none_given_up (s ∷ ss) h =
 
 pub batch_tells_changes : BatchTellsChanges
 batch_tells_changes script before after text status batch none =
-    batch.run.changed (batch.run.unbroken none (none_given_up batch.run.steps (ap (list_all is_answered) batch.run.replies ∙ batch.answered)))
+    batch.runs.run.changed (batch.runs.run.unbroken none (none_given_up batch.runs.run.steps (ap (list_all is_answered) batch.runs.run.replies ∙ batch.told.answered)))

@@ -3,3 +3,4 @@ pub mod Writing
 pub mod Printing
 pub mod Headline
 pub mod Verdicts
+pub mod Scripts

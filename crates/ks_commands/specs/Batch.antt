@@ -1,5 +1,5 @@
 -- What a script does to a tree, and what is printed of it.
-use Rattle.std.specs.Prelude.{◌≡◌, ◌≤◌, ℕ, true, IsTrue, List, Option, Some, map, option_and_then, option_map, if◌then◌else◌}
+use Rattle.std.specs.Prelude.{◌≡◌, ◌⊎◌, ◌≤◌, ℕ, true, IsTrue, List, Option, Some, map, option_and_then, option_map, if◌then◌else◌}
 use Rattle.std.specs.List.{list_all, list_any}
 use Rattle.std.specs.Io.KnownBytes.{Appends}
 use Rattle.ks_symbols.specs.Names.{is_path}
@@ -8,7 +8,9 @@ use Rattle.ks_engine.specs.declared.commands.Reply.{Reply}
 use Rattle.ks_engine.specs.Actions.{Action}
 use Rattle.ks_engine.specs.Actions as asked
 use Rattle.ks_engine.specs.Follows.{State, at}
+use Rattle.ks_engine.specs.History.{History}
 use Rattle.ks_engine.specs.Runs.{Run}
+use Rattle.ks_engine.specs.Shows.{Shows}
 use Rattle.ks_script.specs.Script.{Line, Sync, Record, Stale, script_lines}
 use Rattle.ks_commands.specs.declared.batch.Loaded.{Loaded}
 use Rattle.ks_commands.specs.declared.batch.Loaded.TheVariants as loaded
@@ -30,8 +32,8 @@ loaded_action (loaded.Stale target) = asked.Stale target.now
 abbrev pub IsScript : List ℕ → Files → List Action → Type 0
 IsScript text files actions = map (action_in files) (script_lines text) ≡ map (λ a. Some a) actions
 
--- The actions of a script ran without a refusal. The text is their lines, and the status says whether something is stale.
-pub record IsBatch (script : List ℕ) (before after : State) (text : List ℕ) (status : ℕ) : Type 0 where
+-- The actions of a script ran, all of them; they are those by the files before the first one.
+pub record RunsScript (script : List ℕ) (before after : State) : Type 0 where
   pub actions : List Action
   pub named : IsScript script before.files actions
   -- what the tree has counted once all files are read
@@ -39,9 +41,17 @@ pub record IsBatch (script : List ℕ) (before after : State) (text : List ℕ) 
   pub later : before.failures ≤ failures
   pub replies : List Reply
   pub run : Run (at before.files failures before.history) actions replies after
+
+-- No action was refused. The text is their lines, and the status says whether something is stale.
+pub record IsAnswered (actions : List Action) (replies : List Reply) (text : List ℕ) (status : ℕ) : Type 0 where
   pub answered : list_all is_answered replies ≡ true
   pub lines : text ≡ reply_lines actions replies
   pub stale : status ≡ (if list_any is_stale replies then 1 else 0)
+
+-- A script ran without a refusal, and this is what it prints.
+pub record IsBatch (script : List ℕ) (before after : State) (text : List ℕ) (status : ℕ) : Type 0 where
+  pub runs : RunsScript script before after
+  pub told : IsAnswered runs.actions runs.replies text status
 
 -- The path is legal, the script is there, and what the writer is known to hold grew by the lines of its run.
 pub record WritesBatch (path : List ℕ) (before after : State) (known_before known_after : Option (List ℕ)) (status : ℕ) : Type 0 where
@@ -51,3 +61,12 @@ pub record WritesBatch (path : List ℕ) (before after : State) (known_before kn
   pub there : content before.files path ≡ Some script
   pub batch : IsBatch script before after text status
   pub appended : Appends known_before known_after text
+
+-- The script at a path ran whole, with refusals or without.
+abbrev pub RunsWhole : List ℕ → State → State → Type 0
+RunsWhole path before after = (script : List ℕ) × (content before.files path ≡ Some script) × RunsScript script before after
+
+-- From each history that the files show it ran whole, or the files are as before.
+abbrev pub RunsOrNot : List ℕ → Files → ℕ → Files → ℕ → Type 0
+RunsOrNot path old counted new later =
+    (h : History) → Shows old h → (new ≡ old) ⊎ ((last : History) × RunsWhole path (at old counted h) (at new later last))

@@ -8,7 +8,8 @@ use Rattle.ks_engine.specs.declared.staleness.BuildState.{BuildState}
 use Rattle.ks_engine.specs.declared.staleness.Verdict.{Verdict}
 use Rattle.ks_engine.specs.History.{History, Record, last_record}
 use Rattle.ks_engine.specs.Shows.{Shows}
-use Rattle.ks_engine.specs.Asked.{asked, built, IsAnswer, IsBuilt}
+use Rattle.ks_engine.specs.Asked.{asked, IsAnswer}
+use Rattle.ks_engine.specs.Built.{built, IsBuilt}
 use Rattle.ks_engine.specs.Judged.{JudgesRecorded, IsBuildJudged}
 use Rattle.ks_commands.specs.Replies.{build_line, is_build_stale, is_verdict_stale, verdict_line}
 

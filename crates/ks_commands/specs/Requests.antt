@@ -1,13 +1,27 @@
 -- What is asked of the program, without where its words lie.
 use Rattle.std.specs.Prelude.{◌≡◌, ℕ, List, Option, map, option_map, string_bytes, ⊤}
 use Rattle.ks_commands.specs.declared.request.Request.{Request}
-use Rattle.ks_commands.specs.declared.request.Request.TheVariants.{Batch, Outdated, Preview, Record, Stale, Sync}
+use Rattle.ks_commands.specs.declared.request.Request.TheVariants.{Batch, Fixdep, Outdated, Preview, Record, Stale, Sync}
+
+-- the request is to bring the tree to these two files
+abbrev pub IsSyncOf : List ℕ → List ℕ → Request → Type 0
+IsSyncOf kconfig dotconfig (Sync k d) = (string_bytes k ≡ kconfig) × (string_bytes d ≡ dotconfig)
+IsSyncOf kconfig dotconfig _ = ⊥
 
 -- the request is a preview of these two files, over this old auto.conf if there is one
 abbrev pub IsPreviewOf : List ℕ → List ℕ → Option (List ℕ) → Request → Type 0
 IsPreviewOf kconfig dotconfig old (Preview k d o) =
     (string_bytes k ≡ kconfig) × (string_bytes d ≡ dotconfig) × (option_map (λ path. string_bytes path) o ≡ old)
 IsPreviewOf kconfig dotconfig old _ = ⊥
+
+-- the request is for the command file of this object, to be printed, or to be written
+abbrev pub IsFixdepOf : List ℕ → List ℕ → List ℕ → Request → Type 0
+IsFixdepOf depfile target command (Fixdep d t c) = (string_bytes d ≡ depfile) × (string_bytes t ≡ target) × (string_bytes c ≡ command)
+IsFixdepOf depfile target command _ = ⊥
+
+abbrev pub IsRecordOf : List ℕ → List ℕ → List ℕ → Request → Type 0
+IsRecordOf depfile target command (Record d t c) = (string_bytes d ≡ depfile) × (string_bytes t ≡ target) × (string_bytes c ≡ command)
+IsRecordOf depfile target command _ = ⊥
 
 -- the request is a run of the script at this path
 abbrev pub IsBatchOf : List ℕ → Request → Type 0

@@ -1,18 +1,21 @@
 //! Running a script: all that it names is read before its first command runs.
 //!
 //! So a script that is misspelt, or that names a missing file, changes nothing.
-ghost use Rattle.std.specs.Prelude.{◌≡◌, ◌↔◌, ◌<◌, ◌≤◌, ℕ, List, Some, IfOk, IsTrue, map};
+ghost use Rattle.std.specs.Prelude.{◌≡◌, ◌⊎◌, ◌↔◌, ◌<◌, ◌≤◌, ℕ, List, Some, IfOk, IsTrue, map};
 ghost use Rattle.ks_symbols.specs.Names.{is_path};
 ghost use Rattle.ks_tree.specs.Files.{content};
 ghost use Rattle.ks_engine.specs.Actions.{action};
 ghost use Rattle.ks_engine.specs.History.{History};
 ghost use Rattle.ks_engine.specs.Shows.{Shows};
 ghost use Rattle.ks_engine.specs.Follows.{at};
+ghost use Rattle.ks_engine.specs.Runs.{Run};
+ghost use Rattle.ks_engine.specs.declared.commands.Reply.{Reply};
 ghost use Rattle.ks_script.specs.Script.{seen_line};
-ghost use Rattle.ks_commands.specs.Batch.{IsBatch, WritesBatch, action_in, loaded_action};
+ghost use Rattle.ks_commands.specs.Batch.{IsAnswered, IsBatch, RunsOrNot, WritesBatch, action_in, loaded_action};
+ghost use Rattle.ks_commands.specs.Changes.{StillShows};
 ghost use Rattle.ks_commands.specs.Replies.{code_of};
 
-use crate::inputs::{check_path, read_there};
+use crate::inputs::{check_path, read_file, read_there};
 use crate::output::put;
 use crate::refusal::Refusal;
 use crate::replies::{print_replies, status_of};
@@ -126,21 +129,40 @@ fn commands<'a>(alloc: Global, all: &'a [Loaded<'_>]) -> Result<Vec<Command<'a>>
     Ok(commands)
 }
 
-/// Runs the commands of the script at a path.
-fn run_commands<T: Tree>(alloc: Global, tree: &mut T, path: &[u8]) -> Result<Outcome, Refusal>
+/// Runs commands, and makes the lines of their replies.
+fn run_commands<T: Tree>(
+    alloc: Global,
+    tree: &mut T,
+    commands: &[Command<'_>],
+) -> Result<Outcome, Refusal>
+    ensures honest { T.is_honest tree.old ↔ T.is_honest tree.new }
+    ensures told { T.is_honest tree.old → (h : History) → Shows (T.files tree.old) h → IfOk result (λ outcome. code_of outcome.status < 2 → (last : History) × (replies : List Reply)
+        × Run (at (T.files tree.old) (T.failures tree.old) h) (map action commands.now) replies (at (T.files tree.new) (T.failures tree.new) last)
+        × IsAnswered (map action commands.now) replies outcome.text.items (code_of outcome.status)) }
+    ensures whole { T.is_honest tree.old → (h : History) → Shows (T.files tree.old) h → (T.files tree.new ≡ T.files tree.old) ⊎ ((last : History) × (replies : List Reply)
+        × Run (at (T.files tree.old) (T.failures tree.old) h) (map action commands.now) replies (at (T.files tree.new) (T.failures tree.new) last)) }
+    ensures shown { T.is_honest tree.old → StillShows (T.files tree.old) (T.files tree.new) }
+{
+    let replies = run(alloc, tree, commands)?;
+    let text = print_replies(alloc, commands, &replies)?;
+    let status = status_of(&replies);
+    Ok(Outcome { text, status })
+}
+
+/// Runs the script at a path.
+fn run_at_path<T: Tree>(alloc: Global, tree: &mut T, path: &str) -> Result<Outcome, Refusal>
     ensures honest { T.is_honest tree.old ↔ T.is_honest tree.new }
     ensures ran { T.is_honest tree.old → (h : History) → Shows (T.files tree.old) h → IfOk result (λ outcome. code_of outcome.status < 2
         → (last : History) × (script : List ℕ) × (content (T.files tree.old) path.now ≡ Some script)
         × IsBatch script (at (T.files tree.old) (T.failures tree.old) h) (at (T.files tree.new) (T.failures tree.new) last) outcome.text.items (code_of outcome.status)) }
+    ensures whole { T.is_honest tree.old → RunsOrNot path.now (T.files tree.old) (T.failures tree.old) (T.files tree.new) (T.failures tree.new) }
+    ensures shown { T.is_honest tree.old → StillShows (T.files tree.old) (T.files tree.new) }
 {
-    let script = read_there(alloc, tree, path)?;
+    let script = read_file(alloc, tree, path)?;
     let lines = read_script(alloc, &script)?;
     let loaded = load_all(alloc, tree, &lines)?;
     let commands = commands(alloc, &loaded)?;
-    let replies = run(alloc, tree, &commands)?;
-    let text = print_replies(alloc, &commands, &replies)?;
-    let status = status_of(&replies);
-    Ok(Outcome { text, status })
+    run_commands(alloc, tree, &commands)
 }
 
 /// Runs the script at a path, and prints a line for each of its commands.
@@ -154,9 +176,11 @@ pub(crate) fn run_script<T: Tree, W: Write>(
     ensures ran { T.is_honest tree.old → (h : History) → Shows (T.files tree.old) h → IfOk result (λ status. code_of status < 2
         → (last : History) × WritesBatch path.now (at (T.files tree.old) (T.failures tree.old) h) (at (T.files tree.new) (T.failures tree.new) last)
         (W.contents out.old) (W.contents out.new) (code_of status)) }
+    ensures shown { T.is_honest tree.old → StillShows (T.files tree.old) (T.files tree.new) }
+    ensures whole { T.is_honest tree.old → RunsOrNot path.now (T.files tree.old) (T.failures tree.old) (T.files tree.new) (T.failures tree.new) }
 {
     check_path(path)?;
-    let outcome = run_commands(alloc, tree, path.as_bytes())?;
+    let outcome = run_at_path(alloc, tree, path)?;
     put(out, &outcome.text)?;
     Ok(outcome.status)
 }

@@ -2,9 +2,10 @@
 //!
 //! The words are looked at first, then the dependency file is read, then each prerequisite in order. Sources are
 //! read in pieces, none of them whole.
-ghost use Rattle.std.specs.Prelude.{◌≡◌, ◌↔◌, OnOk, IsTrue};
+ghost use Rattle.std.specs.Prelude.{◌≡◌, ◌↔◌, IfOk, OnOk, IsTrue};
 ghost use Rattle.ks_symbols.specs.Names.{is_target};
 ghost use Rattle.ks_fixdep.specs.CommandFile.{is_command};
+ghost use Rattle.ks_commands.specs.Outputs.{IsCommandFileText};
 
 use crate::inputs::{check_path, read_file};
 use crate::refusal::Refusal;
@@ -38,6 +39,7 @@ pub(crate) fn command_file_text<T: Tree>(
 ) -> Result<Vec<u8>, Refusal>
     ensures honest { T.is_honest tree.old ↔ T.is_honest tree.new }
     ensures unchanged { T.is_honest tree.old → T.files tree.new ≡ T.files tree.old }
+    ensures text { T.is_honest tree.old → IfOk result (λ text. IsCommandFileText (T.files tree.old) depfile.now target.now command.now text.items) }
 {
     check_path(depfile)?;
     check_object(target, command)?;

@@ -49,6 +49,7 @@ pub(crate) fn read_file<T: Tree>(
     ensures honest { T.is_honest tree.old ↔ T.is_honest tree.new }
     ensures unchanged { T.is_honest tree.old → T.files tree.new ≡ T.files tree.old }
     ensures bytes { T.is_honest tree.old → IfOk result (λ v. content (T.files tree.old) path.now ≡ Some v.items) }
+    ensures later { T.failures tree.old ≤ T.failures tree.new }
 {
     read_there(alloc, tree, path.as_bytes())
 }

@@ -5,11 +5,12 @@ ghost use Rattle.std.specs.Prelude.{◌≡◌, ◌↔◌, ◌⊎◌, ◌<◌, �
 ghost use Rattle.ks_engine.specs.History.{History};
 ghost use Rattle.ks_engine.specs.Shows.{Shows};
 ghost use Rattle.ks_engine.specs.Follows.{at};
-ghost use Rattle.ks_commands.specs.Batch.{WritesBatch};
-ghost use Rattle.ks_commands.specs.Outputs.{WritesPreview};
+ghost use Rattle.ks_commands.specs.Batch.{RunsOrNot, WritesBatch};
+ghost use Rattle.ks_commands.specs.Changes.{StillShows, WritesRecord, WritesSync};
+ghost use Rattle.ks_commands.specs.Outputs.{WritesCommandFile, WritesPreview};
 ghost use Rattle.ks_commands.specs.Questions.{WritesState, WritesVerdicts};
 ghost use Rattle.ks_commands.specs.Replies.{code_of};
-ghost use Rattle.ks_commands.specs.Requests.{IsBatchOf, IsOutdatedOf, IsPreviewOf, IsStaleOf, OnlyReads};
+ghost use Rattle.ks_commands.specs.Requests.{IsBatchOf, IsFixdepOf, IsOutdatedOf, IsPreviewOf, IsRecordOf, IsStaleOf, IsSyncOf, OnlyReads};
 ghost use Rattle.ks_commands.specs.declared.status.Status.TheVariants.{Done};
 
 use crate::batch::run_script;
@@ -62,6 +63,8 @@ fn fixdep<T: Tree, W: Write>(
 ) -> Result<Status, Refusal>
     ensures honest { T.is_honest tree.old ↔ T.is_honest tree.new }
     ensures unchanged { T.is_honest tree.old → T.files tree.new ≡ T.files tree.old }
+    ensures written { T.is_honest tree.old → OnOk result (WritesCommandFile (T.files tree.old) depfile.now target.now command.now (W.contents out.old) (W.contents out.new)) }
+    ensures done { IfOk result (λ status. status ≡ Done) }
 {
     let text = command_file_text(alloc, tree, depfile, target, command)?;
     put(out, &text)?;
@@ -92,57 +95,41 @@ fn outcome<T: Tree, W: Write>(
     ensures batch { (p : List ℕ) → IsBatchOf p request.now → T.is_honest tree.old → (h : History) → Shows (T.files tree.old) h
         → IfOk result (λ status. code_of status < 2 → (last : History)
         × WritesBatch p (at (T.files tree.old) (T.failures tree.old) h) (at (T.files tree.new) (T.failures tree.new) last) (W.contents out.old) (W.contents out.new) (code_of status)) }
+    ensures whole { (p : List ℕ) → IsBatchOf p request.now → T.is_honest tree.old
+        → RunsOrNot p (T.files tree.old) (T.failures tree.old) (T.files tree.new) (T.failures tree.new) }
     ensures stale { (objects : List (List ℕ)) → IsStaleOf objects request.now → T.is_honest tree.old
         → IfOk result (λ status. code_of status < 2 → WritesVerdicts (T.files tree.old) objects (W.contents out.old) (W.contents out.new) (code_of status)) }
     ensures outdated { (object command : List ℕ) → IsOutdatedOf object command request.now → T.is_honest tree.old
         → IfOk result (λ status. code_of status < 2 → WritesState (T.files tree.old) object command (W.contents out.old) (W.contents out.new) (code_of status)) }
+    ensures fixdep { (d t c : List ℕ) → IsFixdepOf d t c request.now → T.is_honest tree.old
+        → OnOk result (WritesCommandFile (T.files tree.old) d t c (W.contents out.old) (W.contents out.new)) }
+    ensures sync { (k d : List ℕ) → IsSyncOf k d request.now → T.is_honest tree.old
+        → OnOk result (WritesSync k d (T.files tree.old) (T.files tree.new) (W.contents out.old) (W.contents out.new)) }
+    ensures recorded { (d t c : List ℕ) → IsRecordOf d t c request.now → T.is_honest tree.old
+        → OnOk result (WritesRecord d t c (T.files tree.old) (T.files tree.new) (W.contents out.old) (W.contents out.new)) }
     ensures unchanged { OnlyReads request.now → T.is_honest tree.old → T.files tree.new ≡ T.files tree.old }
+    ensures shown { T.is_honest tree.old → StillShows (T.files tree.old) (T.files tree.new) }
 {
     match request {
-        Request::Sync { kconfig, dotconfig } => {
-            synchronise(alloc, tree, kconfig.as_str(), dotconfig.as_str(), out)
-        }
+        Request::Sync { kconfig, dotconfig } => synchronise(alloc, tree, kconfig, dotconfig, out),
         Request::Preview {
             kconfig,
             dotconfig,
             old,
-        } => {
-            let old = lent_path(old);
-            preview(alloc, tree, kconfig.as_str(), dotconfig.as_str(), old, out)
-        }
+        } => preview(alloc, tree, kconfig, dotconfig, lent_path(old), out),
         Request::Fixdep {
             depfile,
             target,
             command,
-        } => {
-            fixdep(
-                alloc,
-                tree,
-                depfile.as_str(),
-                target.as_str(),
-                command.as_str(),
-                out,
-            )
-        }
+        } => fixdep(alloc, tree, depfile, target, command, out),
         Request::Record {
             depfile,
             target,
             command,
-        } => {
-            record_target(
-                alloc,
-                tree,
-                depfile.as_str(),
-                target.as_str(),
-                command.as_str(),
-                out,
-            )
-        }
+        } => record_target(alloc, tree, depfile, target, command, out),
         Request::Stale { targets } => stale_targets(alloc, tree, targets, out),
-        Request::Outdated { target, command } => {
-            outdated_target(alloc, tree, target.as_str(), command.as_str(), out)
-        }
-        Request::Batch { script } => run_script(alloc, tree, script.as_str(), out),
+        Request::Outdated { target, command } => outdated_target(alloc, tree, target, command, out),
+        Request::Batch { script } => run_script(alloc, tree, script, out),
     }
 }
 
@@ -172,12 +159,22 @@ pub fn perform<T: Tree, W: Write, E: Write>(
     ensures unchanged { (k d : List ℕ) (o : Option (List ℕ)) → IsPreviewOf k d o request.now → T.is_honest tree.old
         → T.files tree.new ≡ T.files tree.old }
     ensures status { (k d : List ℕ) (o : Option (List ℕ)) → IsPreviewOf k d o request.now → (result ≡ 0) ⊎ (result ≡ 2) }
+    ensures fixdep { (d t c : List ℕ) → IsFixdepOf d t c request.now → T.is_honest tree.old → result ≡ 0
+        → WritesCommandFile (T.files tree.old) d t c (W.contents out.old) (W.contents out.new) }
     ensures only_reads { OnlyReads request.now → T.is_honest tree.old → T.files tree.new ≡ T.files tree.old }
-    // A script: from each history that the files show its commands ran, and the files show the last one.
+    // What writes to the tree.
+    ensures sync { (k d : List ℕ) → IsSyncOf k d request.now → T.is_honest tree.old → result ≡ 0
+        → WritesSync k d (T.files tree.old) (T.files tree.new) (W.contents out.old) (W.contents out.new) }
+    ensures recorded { (d t c : List ℕ) → IsRecordOf d t c request.now → T.is_honest tree.old → result ≡ 0
+        → WritesRecord d t c (T.files tree.old) (T.files tree.new) (W.contents out.old) (W.contents out.new) }
+    ensures shown { T.is_honest tree.old → StillShows (T.files tree.old) (T.files tree.new) }
+    // A script: from each history that the files show its commands ran, all or none; and what is printed of them.
     ensures batch { (p : List ℕ) → IsBatchOf p request.now → T.is_honest tree.old → (h : History) → Shows (T.files tree.old) h → result < 2
         → (last : History) × WritesBatch p (at (T.files tree.old) (T.failures tree.old) h) (at (T.files tree.new) (T.failures tree.new) last)
         (W.contents out.old) (W.contents out.new) result }
     // Questions about objects.
+    ensures whole { (p : List ℕ) → IsBatchOf p request.now → T.is_honest tree.old
+        → RunsOrNot p (T.files tree.old) (T.failures tree.old) (T.files tree.new) (T.failures tree.new) }
     ensures stale { (objects : List (List ℕ)) → IsStaleOf objects request.now → T.is_honest tree.old → result < 2
         → WritesVerdicts (T.files tree.old) objects (W.contents out.old) (W.contents out.new) result }
     ensures outdated { (object command : List ℕ) → IsOutdatedOf object command request.now → T.is_honest tree.old → result < 2

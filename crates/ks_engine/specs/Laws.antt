@@ -28,14 +28,14 @@ abbrev pub PlansAreOne : Type 0
 PlansAreOne =
     (files : Files) (kconfig dotconfig : List ℕ) (r s : Result Plan EngineError) → IsSyncPlan files kconfig dotconfig r → IsSyncPlan files kconfig dotconfig s → r ≡ s
 
--- A synchronisation, completed or broken off, that began behind g completed ones or more, and would change x from what the last of them set.
+-- A synchronisation, completed or broken off, that began when g or more were completed, and whose configuration differs at x from the last of these.
 abbrev pub HasChangeBehind : ℕ → List ℕ → History → Type 0
 HasChangeBehind g x (Begun first) = ⊥
 HasChangeBehind g x (Synced title config past) = ((g ≤ done past) × (differs (before past) config x ≡ true)) ⊎ HasChangeBehind g x past
 HasChangeBehind g x (Broken title config renewed past) = ((g ≤ done past) × (differs (before past) config x ≡ true)) ⊎ HasChangeBehind g x past
 HasChangeBehind g x (Recorded object command names header past) = HasChangeBehind g x past
 
--- Where a name of an object is suspect, such a synchronisation began behind those that were completed before its record.
+-- Where a name of an object is suspect, such a synchronisation began behind the last one that was completed before its record.
 abbrev pub SuspicionsHaveCauses : Type 0
 SuspicionsHaveCauses =
     (h : History) (o x : List ℕ) (r : Record) → IsHistory h → last_record h o ≡ Some r → suspect_since h o x ≡ true → HasChangeBehind (done r.past) x h

@@ -12,7 +12,7 @@ pub fn plans_are_one()
     ensures { PlansAreOne }
 {}
 
-/// A name is suspect only where some synchronisation that began since would change it.
+/// A name of an object is suspect only where a synchronisation that began behind the last one before its record would change it.
 pub fn suspicions_have_causes()
     ensures { SuspicionsHaveCauses }
 {}

@@ -42,11 +42,10 @@ fn push_new_names(
     ensures before { OnOk result (before.new ≡ all_noted before.old names.now) }
 {
     for name in names.as_slice() {
-        let name = name.as_bytes();
         let count = before.len();
-        before.note(name)?;
+        before.note_text(name.as_str())?;
         if count < before.len() {
-            deps.push(Dep::Config(Name::new(alloc, name)?))?;
+            deps.push(Dep::Config(Name::new(alloc, name.as_bytes())?))?;
         }
     }
     Ok(())

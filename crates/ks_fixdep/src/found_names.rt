@@ -2,7 +2,9 @@
 //! command file is enough. The order of first places is kept, so that the same sources give the same file.
 //! The set hashes by a fixed key, since making an empty one takes no memory and no randomness.
 ghost use Rattle.std.specs.Prelude.{◌≡◌, ◌↔◌, [], IfOk, IfSome, IsTrue, OnOk, OnErr, length, map, string_bytes};
+ghost use Rattle.std.specs.List.{list_any};
 ghost use Rattle.std.specs.Option.{option_copied};
+ghost use Rattle.std.specs.Str.{bytes_eq};
 ghost use Rattle.ks_symbols.specs.Names.{is_name};
 ghost use Rattle.ks_fixdep.specs.NameIter.{names_left};
 ghost use Rattle.ks_fixdep.specs.FoundNames.{all_noted, names_in};
@@ -48,13 +50,34 @@ impl FoundNames {
         }
     }
 
+    /// Whether a name was noted last. A source often names a symbol twice in a row, and this needs no hash.
+    fn ends_with(&self, name: &[u8]) -> bool
+        ensures { IsTrue result → IsTrue (list_any (bytes_eq name.now) self.now) }
+    {
+        let Some(last) = self.names.last() else {
+            return false;
+        };
+        name == last.as_bytes()
+    }
+
     /// Notes a name, unless it was noted before.
     pub fn note(&mut self, name: &[u8]) -> Result<(), AllocError>
         requires { IsTrue (is_name name.now) }
         ensures ok { OnOk result (self.new ≡ noted self.old name.now) }
         ensures err { OnErr result (self.new ≡ self.old) }
     {
-        let name = as_text(name);
+        if self.ends_with(name) {
+            return Ok(());
+        }
+        self.note_text(as_text(name))
+    }
+
+    /// Notes a name that is text.
+    pub(crate) fn note_text(&mut self, name: &str) -> Result<(), AllocError>
+        requires { IsTrue (is_name name.now) }
+        ensures ok { OnOk result (self.new ≡ noted self.old name.now) }
+        ensures err { OnErr result (self.new ≡ self.old) }
+    {
         if self.names.contains(name) {
             return Ok(());
         }

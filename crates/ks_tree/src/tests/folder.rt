@@ -64,10 +64,7 @@ fn the_kept_file_is_let_go(rt: HostRuntime) -> Result<(), Fail> {
         ],
     )?;
     let place = format!(in alloc; "{root}/p")?;
-    OpenOptions::new()
-        .append(true)
-        .open(&rt, place.as_str())?
-        .write_all(b" and more")?;
+    append(&rt, place.as_str(), b" and more")?;
     run(
         &rt,
         alloc,
@@ -79,6 +76,123 @@ fn the_kept_file_is_let_go(rt: HostRuntime) -> Result<(), Fail> {
             (Step::Piece("q", 1), "4 hird.."),
         ],
     )?;
+    assert_eq!(rt; tree.failures(), 0);
+    fs::remove_dir_all(&rt, root.as_str())?;
+    Ok(())
+}
+
+/// Adds bytes at the end of a file, as another program does.
+fn append(rt: &HostRuntime, place: &str, bytes: &[u8]) -> io::Result<()> {
+    OpenOptions::new()
+        .append(true)
+        .open(rt, place)?
+        .write_all(bytes)
+}
+
+#[test]
+fn pieces_are_as_without_reading_ahead(rt: HostRuntime) -> Result<(), Fail> {
+    let alloc = rt.alloc();
+    let root = fresh_folder(&rt, "ahead")?;
+    let mut tree = FolderTree::new(&rt, root.clone()?);
+    run(
+        &rt,
+        alloc,
+        &mut tree,
+        &[
+            (Step::Write("p", "abcdefghij"), "done"),
+            (Step::Write("q", "0123456789"), "done"),
+            // behind the last piece, before it, at the end and past it
+            (Step::Piece("p", 0), "6 abcdef"),
+            (Step::Piece("p", 6), "4 ghij.."),
+            (Step::Piece("p", 2), "6 cdefgh"),
+            (Step::Piece("p", 8), "2 ij...."),
+            (Step::Piece("p", 10), "0 ......"),
+            (Step::Piece("p", 11), "0 ......"),
+            (Step::Piece("p", 4), "6 efghij"),
+            (Step::Piece("p", 9), "1 j....."),
+            // two files in turns
+            (Step::Piece("p", 0), "6 abcdef"),
+            (Step::Piece("q", 0), "6 012345"),
+            (Step::Piece("p", 6), "4 ghij.."),
+            (Step::Piece("q", 6), "4 6789.."),
+            (Step::Piece("none", 6), "none"),
+            (Step::Piece("q", 8), "2 89...."),
+            // written and moved over between two pieces
+            (Step::Piece("p", 0), "6 abcdef"),
+            (Step::Write("p", "ABCDEFGHIJ"), "done"),
+            (Step::Piece("p", 6), "4 GHIJ.."),
+            (Step::Piece("p", 0), "6 ABCDEF"),
+            (Step::Move("q", "p"), "done"),
+            (Step::Piece("p", 6), "4 6789.."),
+        ],
+    )?;
+    assert_eq!(rt; tree.failures(), 0);
+    fs::remove_dir_all(&rt, root.as_str())?;
+    Ok(())
+}
+
+#[test]
+fn what_others_write_is_seen(rt: HostRuntime) -> Result<(), Fail> {
+    let alloc = rt.alloc();
+    let root = fresh_folder(&rt, "others")?;
+    let place = format!(in alloc; "{root}/p")?;
+    let mut tree = FolderTree::new(&rt, root.clone()?);
+    run(
+        &rt,
+        alloc,
+        &mut tree,
+        &[
+            (Step::Write("p", "abcdefgh"), "done"),
+            (Step::Piece("p", 0), "6 abcdef"),
+        ],
+    )?;
+    append(&rt, place.as_str(), b"IJKL")?;
+    run(
+        &rt,
+        alloc,
+        &mut tree,
+        &[
+            (Step::Piece("p", 6), "6 ghIJKL"),
+            (Step::Piece("p", 12), "0 ......"),
+        ],
+    )?;
+    append(&rt, place.as_str(), b"mn")?;
+    run(&rt, alloc, &mut tree, &[(Step::Piece("p", 12), "2 mn....")])?;
+    fs::write(&rt, place.as_str(), "short")?;
+    run(
+        &rt,
+        alloc,
+        &mut tree,
+        &[
+            (Step::Piece("p", 0), "5 short."),
+            (Step::Piece("p", 5), "0 ......"),
+        ],
+    )?;
+    fs::remove_dir_all(&rt, root.as_str())?;
+    Ok(())
+}
+
+#[test]
+fn a_large_file_in_pieces(rt: HostRuntime) -> Result<(), Fail> {
+    let alloc = rt.alloc();
+    let root = fresh_folder(&rt, "large")?;
+    let mut tree = FolderTree::new(&rt, root.clone()?);
+    let mut bytes = Vec::new(alloc);
+    for number in 0..50_000_u32 {
+        bytes.extend_from_slice(&number.wrapping_mul(2_654_435_761).to_le_bytes())?;
+    }
+    tree.write(alloc, b"large", &bytes)?;
+    for size in [4096, 1000, 65536, 70_000] {
+        let mut room = vec![in alloc; 0; size]?;
+        let mut read = Vec::new(alloc);
+        for _ in 0..=bytes.len() / size {
+            let Some(count) = tree.read_at(alloc, b"large", read.len() as u64, &mut room)? else {
+                break;
+            };
+            read.extend_from_slice(&room[..count])?;
+        }
+        assert!(rt; read == bytes, "{size}");
+    }
     assert_eq!(rt; tree.failures(), 0);
     fs::remove_dir_all(&rt, root.as_str())?;
     Ok(())

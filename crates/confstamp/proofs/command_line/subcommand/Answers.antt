@@ -1,4 +1,4 @@
-use Rattle.std.proofs.Common.{◌≡◌, ◌∙◌, ap₂, sym, rules}
+use Rattle.std.proofs.Common.{◌∙◌, ap₂, sym, rules}
 use Rattle.clap.specs.Words.{new_app, with_rule}
 use Rattle.confstamp.specs.CommandLine.{word_rule}
 use Rattle.confstamp.proofs.RuleLemmas.{fold_more}

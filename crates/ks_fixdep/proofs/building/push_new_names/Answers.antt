@@ -7,17 +7,17 @@ use Rattle.ks_fixdep.proofs.NotedLemmas.{passes_in, items_of}
 use Rattle.ks_fixdep.proofs.DepsLemmas.{configs-new}
 use Rattle.ks_fixdep.proofs.building.push_new_names.Goals as goal
 
-pub note-requires : goal.note-requires
-note-requires c =
+pub note_text-requires : goal.note_text-requires
+note_text-requires c =
     let slice = c.as_slice-name-items.result.now in
     let legal : list_all is_name (items_of slice) ≡ true = ap (list_all is_name) c.as_slice-name-items.ensures.value ∙ c.as_slice-name-items.ensures.found.legal in
-    ap is_name c.as_bytes-name.ensures.value ∙ passes_in is_name slice c.loop-name.name-index c.name-item.result legal c.loop-name-test.true c.name-item.is
+    ap is_name c.as_str.ensures.value ∙ passes_in is_name slice c.loop-name.name-index c.name-item.result legal c.loop-name-test.true c.name-item.is
 
 pub new-requires : goal.new-requires
 new-requires c =
     let slice = c.as_slice-name-items.result.now in
     let legal : list_all is_name (items_of slice) ≡ true = ap (list_all is_name) c.as_slice-name-items.ensures.value ∙ c.as_slice-name-items.ensures.found.legal in
-    ap is_name c.as_bytes-name.ensures.value ∙ passes_in is_name slice c.loop-name.name-index c.name-item.result legal c.loop-name-test.true c.name-item.is
+    ap is_name c.as_bytes.ensures.value ∙ passes_in is_name slice c.loop-name.name-index c.name-item.result legal c.loop-name-test.true c.name-item.is
 
 pub returns-clause-deps : goal.returns-clause-deps
 returns-clause-deps c =

@@ -1,0 +1,102 @@
+//! Previews from bytes to bytes: what they print, and why there is none.
+use crate::*;
+use ks_symbols::SourceError;
+use std::alloc::{AllocError, Global};
+
+/// A title, a bool and a tristate.
+const DEMO: &[u8] = b"mainmenu \"Demo\"\nconfig A\n\tbool\nconfig B\n\ttristate\n";
+
+/// The auto.conf of both symbols, at generation 1.
+const DEMO_AUTO: &[u8] = br#"#
+# Automatically generated file; DO NOT EDIT.
+# Demo
+#
+CONFIG_A=y
+CONFIG_B=m
+#generation 1
+"#;
+
+/// What the preview of two texts and an old auto.conf writes, or why there is none.
+fn outcome(
+    alloc: Global,
+    kconfig: &[u8],
+    dotconfig: &[u8],
+    old: Option<&[u8]>,
+) -> Result<String, AllocError> {
+    let mut out: Vec<u8> = Vec::new(alloc);
+    match preview_to(alloc, kconfig, dotconfig, old, &mut out) {
+        Ok(()) => String::from_utf8_lossy(alloc, &out),
+        Err(error) => error.to_string(alloc),
+    }
+}
+
+/// The lines of a preview's auto.conf that its title and entries stand between.
+fn whole(alloc: Global, touches: &str, title: &str, rest: &str) -> Result<String, AllocError> {
+    format!(in alloc;
+        "{touches}#\n# Automatically generated file; DO NOT EDIT.\n# {title}\n#\n{rest}"
+    )
+}
+
+#[test]
+#[rattlefmt::skip]
+fn previews(rt: HostRuntime) -> Result<(), AllocError> {
+    let alloc = rt.alloc();
+    let rows: [(&str, &[u8], &[u8], Option<&[u8]>, &str, &str, &str); 8] = [
+        ("a first one", DEMO, b"CONFIG_A=y\nCONFIG_B=m\n", None,
+            "touch A\ntouch B\n", "Demo", "CONFIG_A=y\nCONFIG_B=m\n#generation 1\n"),
+        ("CR LF and no end", DEMO, b"CONFIG_A=y\r\nCONFIG_B=m", None,
+            "touch A\ntouch B\n", "Demo", "CONFIG_A=y\nCONFIG_B=m\n#generation 1\n"),
+        ("the last line counts", DEMO, b"CONFIG_A=y\n# CONFIG_A is not set\nCONFIG_ZZ=7\n", None,
+            "", "Demo", "#generation 1\n"),
+        ("nothing", b"", b"", None, "", "Main menu", "#generation 1\n"),
+        ("nothing changed", DEMO, b"CONFIG_A=y\nCONFIG_B=m\n", Some(DEMO_AUTO),
+            "", "Demo", "CONFIG_A=y\nCONFIG_B=m\n#generation 2\n"),
+        ("one vanished, one changed", b"mainmenu \"Demo\"\nconfig B\n\ttristate\n", b"CONFIG_A=y\nCONFIG_B=y\n", Some(DEMO_AUTO),
+            "touch A\ntouch B\n", "Demo", "CONFIG_B=y\n#generation 2\n"),
+        ("an empty string", b"config S\n\tstring\n", b"CONFIG_S=\"\"\n", Some(b""),
+            "touch S\n", "Main menu", "CONFIG_S=\n#generation 1\n"),
+        ("a string and a number", b"config S\n\tstring\nconfig H\n\thex\n", b"CONFIG_S=\"a\\\"b\\\\c\"\nCONFIG_H=0X1F\n", None,
+            "touch H\ntouch S\n", "Main menu", "CONFIG_H=0X1F\nCONFIG_S=a\"b\\c\n#generation 1\n"),
+    ];
+    for (name, kconfig, dotconfig, old, touches, title, rest) in rows {
+        let want = whole(alloc, touches, title, rest)?;
+        let found = outcome(alloc, kconfig, dotconfig, old)?;
+        assert!(rt; found.as_str() == want.as_str(), "{name}");
+    }
+    Ok(())
+}
+
+#[test]
+#[rattlefmt::skip]
+fn refusals(rt: HostRuntime) -> Result<(), AllocError> {
+    let alloc = rt.alloc();
+    let rows: [(&[u8], &[u8], Option<&[u8]>, &str); 13] = [
+        (b"config A\n\tbool\n\thelp\n", b"", None, "1 NotBare line 3"),
+        (b"config A-B\n\tbool\n", b"", None, "2 BadName line 1"),
+        (b"config FOO_MODULE\n\tbool\n", b"", None, "3 ModuleName line 1"),
+        (b"config A\nconfig B\n\tbool\n", b"", None, "4 NoType line 1"),
+        (b"config A\n\tbool\nconfig A\n\ttristate\n", b"", None, "5 TypeClash line 4"),
+        (b"mainmenu \"a*/b\"\n", b"", None, "6 BadTitle line 1"),
+        (DEMO, b"\nCONFIG_A = y\n", None, "7 NotAConfigLine line 2"),
+        (DEMO, b"CONFIG_A=m\n", None, "8 BadValue line 1"),
+        (DEMO, b"", Some(b"#\n#\n\n#\nCONFIG_../x=y\n"), "11 BadAuto line 5"),
+        (DEMO, b"", Some(b"#generation 1"), "11 BadAuto line 1"),
+        (DEMO, b"", Some(b"#generation 18446744073709551615\n"), "42 GenerationFull"),
+        (DEMO, b"CONFIG_A=m\n", Some(b"CONFIG_A\n"), "8 BadValue line 1"),
+        (b"config A\n", b"CONFIG_A=m\n", Some(b"CONFIG_A\n"), "4 NoType line 1"),
+    ];
+    for (kconfig, dotconfig, old, want) in rows {
+        let found = outcome(alloc, kconfig, dotconfig, old)?;
+        assert!(rt; found.as_str() == want);
+    }
+    for (error, want) in [
+        (PreviewError::Source(SourceError::TooLarge), "9 TooLarge"),
+        (PreviewError::Source(SourceError::OutOfMemory), "10 OutOfMemory"),
+        (PreviewError::OutOfMemory, "10 OutOfMemory"),
+        (PreviewError::Output, "51 Output"),
+    ] {
+        let text = error.to_string(alloc)?;
+        assert!(rt; text.as_str() == want);
+    }
+    Ok(())
+}

@@ -86,6 +86,14 @@ fn long_name(alloc: Global, letters: usize, behind: &[u8]) -> Result<Vec<u8>, Al
     Ok(text)
 }
 
+fn all_names(alloc: Global, text: &[u8]) -> Result<Vec<u8>, AllocError> {
+    let mut all = Vec::new(alloc);
+    for found in names(text) {
+        push_name(&mut all, found.name)?;
+    }
+    Ok(all)
+}
+
 #[test]
 #[rattlefmt::skip]
 fn names_stand_at_their_places(rt: HostRuntime) -> Result<(), Fail> {
@@ -115,6 +123,11 @@ fn the_longest_name_whole_and_byte_by_byte(rt: HostRuntime) -> Result<(), Fail> 
         (129, b"_MODULE".as_slice(), false),
     ] {
         let text = long_name(rt.alloc(), letters, behind)?;
+        let first = names(&text).next();
+        assert_eq!(rt;
+            first.map(|found| (found.place, found.name.len())),
+            taken.then_some((0, letters))
+        );
         let want = if taken { letters + 1 } else { 0 };
         for size in [1, 7, 142, 4096] {
             let pieces = in_pieces(rt.alloc(), &text, size)?;
@@ -139,6 +152,11 @@ fn pieces_of_all_sizes_lend_the_same_names(rt: HostRuntime) -> Result<(), Fail> 
         let all = lent(rt.alloc(), pieces)?;
         assert_eq!(rt; all.as_slice(), want, "{name}");
     }
+    for size in [1, 7, 4096] {
+        let pieces = in_pieces(rt.alloc(), b"int CONFIG_ALPHA;", size)?;
+        let all = lent(rt.alloc(), &pieces)?;
+        assert_eq!(rt; all.as_slice(), b"ALPHA ".as_slice(), "a short source in pieces of {size}");
+    }
     for size in 1..=300usize {
         let pieces = in_pieces(rt.alloc(), golden::BORDERS, size)?;
         let all = lent(rt.alloc(), &pieces)?;
@@ -146,6 +164,8 @@ fn pieces_of_all_sizes_lend_the_same_names(rt: HostRuntime) -> Result<(), Fail> 
         let once = found_in(rt.alloc(), &pieces)?;
         assert_eq!(rt; once.as_slice(), golden::BORDER_NAMES_ONCE, "once, in pieces of {size}");
     }
+    let whole = all_names(rt.alloc(), golden::BORDERS)?;
+    assert_eq!(rt; whole.as_slice(), golden::BORDER_NAMES, "in no pieces");
     let mut text = vec![in rt.alloc(); b' '; 4093]?;
     text.extend_from_slice(b"CONFIG_ALPHA")?;
     let pieces = in_pieces(rt.alloc(), &text, 4096)?;
@@ -226,6 +246,35 @@ fn prerequisites_have_their_roles_by_place(rt: HostRuntime) -> Result<(), Fail> 
     for (name, text, want) in rows {
         let read = prerequisites(rt.alloc(), text)?;
         assert_eq!(rt; read.as_slice(), want, "{name}");
+    }
+    Ok(())
+}
+
+#[test]
+#[rattlefmt::skip]
+fn each_cut_of_a_dependency_file_is_read_or_refused(rt: HostRuntime) -> Result<(), Fail> {
+    // the last cut of each row, what is settled there, and where the path begins that is cut
+    let rows: [(usize, &[u8], usize); 11] = [
+        ( 5, b"20 NoTarget",     53), // no more than the target
+        ( 8, b"S",                5), // in the source
+        ( 9, b"Sx.c ",           53),
+        (12, b"Sx.c +",           9), // in a listed file
+        (16, b"Sx.c +a.h ",      53),
+        (43, b"Sx.c +a.h +",     16), // in the header that is passed over, which is another file until it is whole
+        (45, b"Sx.c +a.h ",      53), // it is whole
+        (47, b"Sx.c +a.h +",     45), // in a repeat, which is another file until it is whole
+        (49, b"Sx.c +a.h ",      53), // it is whole
+        (52, b"Sx.c +a.h +",     49), // in the last file
+        (53, b"Sx.c +a.h +b.h ", 53),
+    ];
+    for end in 0..=golden::DEPFILE.len() {
+        let text = &golden::DEPFILE[..end];
+        let (_, settled, open) = *rows.iter().find(|row| end <= row.0).ok_or("no row")?;
+        let mut want = settled.to_vec(rt.alloc())?;
+        if open < end {
+            push_name(&mut want, &text[open..])?;
+        }
+        assert_eq!(rt; prerequisites(rt.alloc(), text)?, want, "cut at {end}");
     }
     Ok(())
 }

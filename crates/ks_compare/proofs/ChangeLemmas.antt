@@ -1,24 +1,19 @@
 -- Laws of the changes.
-use Rattle.std.proofs.Common.{◌≡◌, ◌↔◌, ℕ, Bool, true, false, not, ◌||◌, List, [], ◌∷◌, bytes_eq, Option, Some, None, option_map, IsTrue, refl, sym, ap, subst, ◌∙◌, map as map_list}
+use Rattle.std.proofs.Common.{◌≡◌, ◌↔◌, ℕ, Bool, true, false, not, ◌||◌, List, [], ◌∷◌, bytes_eq, Option, Some, None, option_map, IsTrue, refl, sym, ap, subst, ◌∙◌}
 use mathlib.Core.Logic.{inl, inr}
 use Rattle.std.proofs.lemmas.Bool.{cases_Bool, false≢true}
-use Rattle.std.specs.Ordering.{is_eq, ordering_reverse}
+use Rattle.std.specs.Ordering.{is_eq}
 use Rattle.std.specs.Cmp.{tied_itself}
 use Rattle.std.specs.Cmp.Lexicographic.{nat_list_cmp_total, bytes_decides}
-use Rattle.std.specs.declared.cmp.Ordering.{Ordering}
 use Rattle.std.specs.declared.cmp.Ordering.TheVariants.{Less, Equal, Greater}
 use Rattle.std.specs.FinMap as map
-use Rattle.std.specs.FinMap.{find}
-use Rattle.std.specs.List.{AllByRecursion}
 use Rattle.std.specs.List.Sorted.{IsStrictlySortedBy}
-use Rattle.ks_symbols.specs.declared.kinds.Kind.{Kind}
 use Rattle.ks_symbols.specs.Names.{is_name}
-use Rattle.ks_symbols.specs.Configuration.{NameMap}
-use Rattle.ks_output.specs.OldConfig.{HasNames, texts_of}
+use Rattle.ks_output.specs.OldConfig.{texts_of}
 use Rattle.ks_output.proofs.Entries.{order, tied}
 use Rattle.ks_output.proofs.Texts.{texts_are_of_entries}
 use Rattle.ks_output.proofs.Definitions.{alike_is_defined_alike}
-use Rattle.ks_compare.specs.Changes.{compared, differ, differs, is_in, AreChanges}
+use Rattle.ks_compare.specs.Changes.{compared, differ, is_in}
 use Rattle.ks_compare.specs.Laws.{ChangesExist, ChangesAreOne, ChangesAreLegal, FirstChangesAreNames, NothingChanges, UnchangedIsKept, UnchangedIsDefinedAlike}
 use Rattle.ks_compare.proofs.Merge.{Above, merged, merged_changes, first_names, here_test, turned, legal_differ, name_of_symbol}
 

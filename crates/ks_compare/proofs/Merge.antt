@@ -1,5 +1,5 @@
 -- The names that differ between two lists of entries, each in rising order, by one pass over both.
-use Rattle.std.proofs.Common.{◌≡◌, ℕ, Bool, true, false, cond, not, ◌&&◌, ◌||◌, T, suc, length, IsTrue, List, [], ◌∷◌, bytes_eq, Option, Some, None, option_map, map as map_list, refl, sym, ap, subst, ◌∙◌}
+use Rattle.std.proofs.Common.{◌≡◌, ℕ, Bool, true, false, cond, ◌&&◌, ◌||◌, T, suc, length, IsTrue, List, [], ◌∷◌, bytes_eq, Option, Some, None, option_map, map as map_list, refl, sym, ap, subst, ◌∙◌}
 use Rattle.std.proofs.lemmas.Bool.{cases_Bool, cond-true, cond-false, false≢true}
 use mathlib.Core.Logic.{inl, inr}
 use Rattle.std.specs.Ordering.{is_lt, is_eq, ordering_reverse}

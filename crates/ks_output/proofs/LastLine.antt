@@ -1,18 +1,17 @@
 -- The text of a name is what its last line gives.
-use Rattle.std.proofs.Common.{◌≡◌, ℕ, Bool, true, false, cond, nat_eq, List, [], ◌∷◌, ◌++◌, length, take, drop, reverse, codes, bytes_eq, map as map_list, Option, Some, None, option_map, refl, sym, ap, ◌∙◌}
+use Rattle.std.proofs.Common.{◌≡◌, ℕ, true, false, cond, nat_eq, List, [], ◌∷◌, ◌++◌, length, take, drop, reverse, map as map_list, Some, option_map, refl, sym, ap, ◌∙◌}
 use Rattle.std.specs.List.{starts_with, ends_with, filter_map, find}
 use mathlib.Core.Logic.{inl, inr}
 use Rattle.std.proofs.lemmas.Bool.{cases_Bool, cond-true, cond-false, false≢true, false_from_ne_true}
 use Rattle.std.proofs.lemmas.Grind.{reverse_onto}
 use Rattle.std.specs.Ordering.{is_eq}
-use Rattle.std.specs.Cmp.{tied_itself}
 use Rattle.std.specs.Cmp.Lexicographic.{nat_list_cmp_total, bytes_decides}
 use Rattle.std.specs.FinMap as map
 use Rattle.bstr.specs.Text.{lines_of, without_terminator}
 use Rattle.ks_symbols.specs.Names.{is_name}
 use Rattle.ks_symbols.specs.Lines.{lines}
 use Rattle.ks_symbols.specs.Decimal.{decimal_value}
-use Rattle.ks_symbols.specs.Statements.{Assigns, statement, is_silent}
+use Rattle.ks_symbols.specs.Statements.{statement, is_silent}
 use Rattle.ks_output.specs.AutoLines.{generation_mark, Remark, Gives, Numbers, Silent, Faulty, numbered, assigned, remark, remarks}
 use Rattle.ks_output.specs.AutoConf.{given, texts_given, auto_map}
 use Rattle.ks_output.specs.Laws.{beginning, LastLineCounts}

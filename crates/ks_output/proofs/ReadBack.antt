@@ -19,7 +19,7 @@ use Rattle.ks_symbols.proofs.Digits.{own, reads_back}
 use Rattle.ks_symbols.proofs.Spellings.{statements_are_spelled}
 use Rattle.ks_output.specs.AutoText.{heading, entry_line, entry_lines, generation_line, auto_text}
 use Rattle.ks_output.specs.AutoLines.{generation_mark, Remark, Gives, Numbers, Silent, numbered, assigned, remark, remarks}
-use Rattle.ks_output.specs.AutoConf.{auto_map, auto_fault, first_faulty, auto_refusal}
+use Rattle.ks_output.specs.AutoConf.{auto_map, auto_fault, first_faulty}
 use Rattle.ks_output.specs.declared.auto_conf.AutoError.TheVariants as fault
 use Rattle.ks_output.specs.OldConfig.{texts_of}
 use Rattle.ks_output.specs.Laws.{TextsReadBack, GenerationReadsBack, HasNoFault, IsAccepted}

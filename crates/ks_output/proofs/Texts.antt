@@ -6,7 +6,6 @@ use Rattle.std.specs.FinMap as map
 use Rattle.std.specs.FinMap.{find}
 use Rattle.ks_symbols.specs.declared.kinds.Kind.{Kind}
 use Rattle.ks_symbols.specs.Names.{is_name, is_symbol_name}
-use Rattle.ks_symbols.specs.Configuration.{NameMap}
 use Rattle.ks_output.specs.OldConfig.{texts_of}
 use Rattle.ks_output.specs.Laws.{TextsAreOfEntries, TextsHaveNames}
 use Rattle.ks_output.proofs.Entries.{order}

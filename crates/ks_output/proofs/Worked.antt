@@ -1,6 +1,5 @@
 -- The worked examples, by computation.
 use Rattle.std.proofs.Common.{◌≡◌, ℕ, List, ◌++◌, codes, decimal, refl, sym, ap, ◌∙◌}
-use Rattle.ks_symbols.specs.declared.kinds.Kind.{Kind}
 use Rattle.ks_symbols.specs.Names.{is_name}
 use Rattle.ks_symbols.proofs.Digits.{reads_only_written}
 use Rattle.ks_symbols.specs.Statements.{statement, assignment, unsetting}

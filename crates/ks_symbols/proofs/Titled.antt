@@ -1,5 +1,5 @@
 -- The title of an accepted text is a title.
-use Rattle.std.proofs.Common.{◌≡◌, ℕ, ◌+◌, Bool, true, false, cond, not, ◌&&◌, nat_lt, length, List, [], ◌∷◌, codes, map as map_list, Option, Some, None, IsTrue, refl, subst, ◌∙◌}
+use Rattle.std.proofs.Common.{◌≡◌, ℕ, ◌+◌, Bool, true, false, cond, not, ◌&&◌, nat_lt, length, List, [], ◌∷◌, codes, map as map_list, Some, None, IsTrue, refl, subst, ◌∙◌}
 use Rattle.std.specs.List.{list_any}
 use Rattle.std.proofs.lemmas.List.{append-nil}
 use Rattle.ks_symbols.specs.declared.error.SourceError.TheVariants as fault

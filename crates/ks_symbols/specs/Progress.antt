@@ -1,5 +1,5 @@
 -- How far a reader of Kconfig is, and what each line does to that. `Kconfig` says what a whole text means.
-use Rattle.std.specs.Prelude.{ℕ, Bool, ◌&&◌, not, nat_eq, List, Option, Some, None, if◌then◌else◌, refl, map, false, true}
+use Rattle.std.specs.Prelude.{ℕ, Bool, ◌&&◌, not, nat_eq, List, Option, Some, None, if◌then◌else◌, refl, false, true}
 use Rattle.std.specs.List.{ends_with}
 use Rattle.std.specs.Coded.{Coded, code_by, coded_ℕ, coded_list, coded×, coded_option, coded_bool}
 use Rattle.ks_symbols.specs.declared.kinds.Kind.{Kind}

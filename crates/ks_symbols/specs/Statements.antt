@@ -1,5 +1,5 @@
 -- The two lines of a `.config` that speak of a symbol (scripts/kconfig/confdata.c).
-use Rattle.std.specs.Prelude.{ℕ, Bool, ◌||◌, ◌&&◌, not, ◌==◌, nat_eq, List, length, codes, ◌≡◌, IsTrue, ◌++◌, drop, bytes_eq, Option, Some, None, if◌then◌else◌, false, take_while}
+use Rattle.std.specs.Prelude.{ℕ, Bool, ◌||◌, ◌&&◌, ◌==◌, nat_eq, List, length, codes, ◌≡◌, IsTrue, ◌++◌, drop, bytes_eq, Option, Some, None, if◌then◌else◌, false, take_while}
 use Rattle.std.specs.List.{starts_with}
 use Rattle.ks_symbols.specs.declared.statements.Statement as dotconfig
 use Rattle.ks_symbols.specs.declared.statements.Statement.TheVariants as said

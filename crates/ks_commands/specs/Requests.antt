@@ -44,3 +44,10 @@ OnlyReads (Sync kconfig dotconfig) = ⊥
 OnlyReads (Record depfile target command) = ⊥
 OnlyReads (Batch script) = ⊥
 OnlyReads _ = ⊤
+
+-- a request that is done or refused, and tells of no object that it is stale
+abbrev pub IsNoQuestion : Request → Type 0
+IsNoQuestion (Stale targets) = ⊥
+IsNoQuestion (Outdated target command) = ⊥
+IsNoQuestion (Batch script) = ⊥
+IsNoQuestion _ = ⊤

@@ -10,7 +10,7 @@ ghost use Rattle.ks_commands.specs.Changes.{StillShows, WritesRecord, WritesSync
 ghost use Rattle.ks_commands.specs.Outputs.{WritesCommandFile, WritesPreview};
 ghost use Rattle.ks_commands.specs.Questions.{WritesState, WritesVerdicts};
 ghost use Rattle.ks_commands.specs.Replies.{code_of};
-ghost use Rattle.ks_commands.specs.Requests.{IsBatchOf, IsFixdepOf, IsOutdatedOf, IsPreviewOf, IsRecordOf, IsStaleOf, IsSyncOf, OnlyReads};
+ghost use Rattle.ks_commands.specs.Requests.{IsBatchOf, IsFixdepOf, IsNoQuestion, IsOutdatedOf, IsPreviewOf, IsRecordOf, IsStaleOf, IsSyncOf, OnlyReads};
 ghost use Rattle.ks_commands.specs.declared.status.Status.TheVariants.{Done};
 
 use crate::batch::run_script;
@@ -91,7 +91,7 @@ fn outcome<T: Tree, W: Write>(
     ensures honest { T.is_honest tree.old ↔ T.is_honest tree.new }
     ensures preview { (k d : List ℕ) (o : Option (List ℕ)) → IsPreviewOf k d o request.now → T.is_honest tree.old
         → OnOk result (WritesPreview (T.files tree.old) k d o (W.contents out.old) (W.contents out.new)) }
-    ensures preview_done { (k d : List ℕ) (o : Option (List ℕ)) → IsPreviewOf k d o request.now → IfOk result (λ status. status ≡ Done) }
+    ensures done { IsNoQuestion request.now → IfOk result (λ status. status ≡ Done) }
     ensures batch { (p : List ℕ) → IsBatchOf p request.now → T.is_honest tree.old → (h : History) → Shows (T.files tree.old) h
         → IfOk result (λ status. code_of status < 2 → (last : History)
         × WritesBatch p (at (T.files tree.old) (T.failures tree.old) h) (at (T.files tree.new) (T.failures tree.new) last) (W.contents out.old) (W.contents out.new) (code_of status)) }
@@ -153,6 +153,7 @@ pub fn perform<T: Tree, W: Write, E: Write>(
 ) -> u8
     ensures honest { T.is_honest tree.old ↔ T.is_honest tree.new }
     ensures at_most { result ≤ 2 }
+    ensures done { IsNoQuestion request.now → (result ≡ 0) ⊎ (result ≡ 2) }
     // A preview, and what writes nothing to the tree.
     ensures preview { (k d : List ℕ) (o : Option (List ℕ)) → IsPreviewOf k d o request.now → T.is_honest tree.old → result ≡ 0
         → WritesPreview (T.files tree.old) k d o (W.contents out.old) (W.contents out.new) }

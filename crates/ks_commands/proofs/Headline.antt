@@ -7,7 +7,7 @@ use Rattle.ks_engine.specs.Actions.{Action, Sync, Record, Stale}
 use Rattle.ks_engine.specs.declared.commands.Reply.{Reply}
 use Rattle.ks_engine.specs.declared.commands.Reply.TheVariants.{Synced, Recorded, Verdict, Refused}
 use Rattle.ks_engine.specs.Runs.{Step, IsGivenUpSync}
-use Rattle.ks_commands.specs.Replies.{is_answered}
+use Rattle.ks_commands.specs.Statuses.{is_answered}
 use Rattle.ks_commands.specs.Laws.{BatchTellsChanges}
 
 not_refused : (a : Action) (r : Reply) → is_answered r ≡ true → IsGivenUpSync a r → ⊥

@@ -5,7 +5,7 @@ use Rattle.ks_engine.specs.Actions.{Action}
 use Rattle.ks_engine.specs.declared.commands.Reply.{Reply}
 use Rattle.ks_engine.specs.Follows.{State, at}
 use Rattle.ks_engine.specs.Runs.{Run}
-use Rattle.ks_commands.specs.Batch.{IsScript, RunsScript}
+use Rattle.ks_commands.specs.Scripts.{IsScript, RunsScript}
 
 abbrev pub runs_script : (script : List ℕ) (before : State) (files : Files) (counted : ℕ) (actions asked : List Action) (replies : List Reply) (after : State)
     → files ≡ before.files → before.failures ≤ counted → IsScript script before.files actions → asked ≡ actions → Run (at files counted before.history) asked replies after

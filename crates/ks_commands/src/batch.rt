@@ -11,9 +11,10 @@ ghost use Rattle.ks_engine.specs.Follows.{at};
 ghost use Rattle.ks_engine.specs.Runs.{Run};
 ghost use Rattle.ks_engine.specs.declared.commands.Reply.{Reply};
 ghost use Rattle.ks_script.specs.Script.{seen_line};
-ghost use Rattle.ks_commands.specs.Batch.{IsAnswered, IsBatch, RunsOrNot, WritesBatch, action_in, loaded_action};
+ghost use Rattle.ks_commands.specs.Batch.{IsAnswered, IsBatch, WritesBatch};
+ghost use Rattle.ks_commands.specs.Scripts.{RunsOrNot, action_in, loaded_action};
 ghost use Rattle.ks_commands.specs.Changes.{StillShows};
-ghost use Rattle.ks_commands.specs.Replies.{code_of};
+ghost use Rattle.ks_commands.specs.Statuses.{code_of};
 
 use crate::inputs::{check_path, read_file, read_there};
 use crate::output::put;

@@ -5,11 +5,12 @@ ghost use Rattle.std.specs.Prelude.{◌≡◌, ◌↔◌, ◌⊎◌, ◌<◌, �
 ghost use Rattle.ks_engine.specs.History.{History};
 ghost use Rattle.ks_engine.specs.Shows.{Shows};
 ghost use Rattle.ks_engine.specs.Follows.{at};
-ghost use Rattle.ks_commands.specs.Batch.{RunsOrNot, WritesBatch};
+ghost use Rattle.ks_commands.specs.Batch.{WritesBatch};
+ghost use Rattle.ks_commands.specs.Scripts.{RunsOrNot};
 ghost use Rattle.ks_commands.specs.Changes.{StillShows, WritesRecord, WritesSync};
 ghost use Rattle.ks_commands.specs.Outputs.{WritesCommandFile, WritesPreview};
 ghost use Rattle.ks_commands.specs.Questions.{WritesState, WritesVerdicts};
-ghost use Rattle.ks_commands.specs.Replies.{code_of};
+ghost use Rattle.ks_commands.specs.Statuses.{code_of};
 ghost use Rattle.ks_commands.specs.Requests.{IsBatchOf, IsFixdepOf, IsNoQuestion, IsOutdatedOf, IsPreviewOf, IsRecordOf, IsStaleOf, IsSyncOf, OnlyReads};
 ghost use Rattle.ks_commands.specs.declared.status.Status.TheVariants.{Done};
 

@@ -6,8 +6,9 @@ use Rattle.ks_engine.specs.Follows.{at}
 use Rattle.ks_engine.specs.History.{History}
 use Rattle.ks_engine.specs.Shows.{Shows}
 use Rattle.ks_script.specs.Script.{seen_line, script_lines}
-use Rattle.ks_commands.specs.Batch.{IsAnswered, IsBatch, action_in, loaded_action}
-use Rattle.ks_commands.specs.Replies.{code_of}
+use Rattle.ks_commands.specs.Batch.{IsAnswered, IsBatch}
+use Rattle.ks_commands.specs.Scripts.{action_in, loaded_action}
+use Rattle.ks_commands.specs.Statuses.{code_of}
 use Rattle.ks_commands.proofs.Scripts.{either, runs_script}
 use Rattle.ks_commands.proofs.batch.run_at_path.Goals as goal
 

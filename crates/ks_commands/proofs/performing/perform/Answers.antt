@@ -3,7 +3,7 @@ use Rattle.ks_engine.specs.Follows.{at}
 use Rattle.ks_commands.specs.Batch.{WritesBatch}
 use Rattle.ks_commands.specs.declared.request.Request.{Request}
 use Rattle.ks_commands.specs.declared.request.Request.TheVariants as request
-use Rattle.ks_commands.specs.Replies.{code_of}
+use Rattle.ks_commands.specs.Statuses.{code_of}
 use Rattle.ks_commands.specs.Requests.{IsNoQuestion, IsPreviewOf}
 use Rattle.ks_commands.proofs.performing.perform.Goals as goal
 

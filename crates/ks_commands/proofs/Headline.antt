@@ -8,7 +8,7 @@ use Rattle.ks_engine.specs.declared.commands.Reply.{Reply}
 use Rattle.ks_engine.specs.declared.commands.Reply.TheVariants.{Synced, Recorded, Verdict, Refused}
 use Rattle.ks_engine.specs.Runs.{Step}
 use Rattle.ks_engine.specs.Verdicts.{IsGivenUpSync}
-use Rattle.ks_commands.specs.Replies.{is_answered}
+use Rattle.ks_commands.specs.Statuses.{is_answered}
 use Rattle.ks_commands.specs.Laws.{BatchTellsChanges}
 
 not_refused : (a : Action) (r : Reply) → is_answered r ≡ true → IsGivenUpSync a r → ⊥

@@ -5,7 +5,8 @@ use Rattle.std.proofs.lemmas.Bool.{and_parts}
 use Rattle.ks_engine.specs.declared.commands.Command.{Command}
 use Rattle.ks_engine.specs.declared.commands.Reply.{Reply}
 use Rattle.ks_engine.specs.Actions.{action}
-use Rattle.ks_commands.specs.Replies.{reply_line, reply_lines, is_answered}
+use Rattle.ks_commands.specs.Replies.{reply_line, reply_lines}
+use Rattle.ks_commands.specs.Statuses.{is_answered}
 
 pub lines_from : (cs : List Command) (rs : List Reply) (i : ℕ) (c : Command) (r : Reply) → i < length cs → i < length rs
     → reply_lines (map action (drop i cs)) (drop i rs) ≡ reply_line (action (get_or cs i c)) (get_or rs i r) ++ reply_lines (map action (drop (suc i) cs)) (drop (suc i) rs)

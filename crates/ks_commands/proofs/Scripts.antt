@@ -1,16 +1,18 @@
 -- The run of a script, from that of the commands that it was read as.
-use Rattle.std.proofs.Common.{◌≡◌, ◌⊎◌, ◌≤◌, ℕ, inl, inr, List, subst₂}
+use Rattle.std.proofs.Common.{◌≡◌, ◌⊎◌, ◌≤◌, ℕ, inl, inr, List, None, subst₂}
 use Rattle.ks_tree.specs.Files.{Files}
 use Rattle.ks_engine.specs.Actions.{Action}
 use Rattle.ks_engine.specs.declared.commands.Reply.{Reply}
 use Rattle.ks_engine.specs.Follows.{State, at}
 use Rattle.ks_engine.specs.Runs.{Run}
-use Rattle.ks_commands.specs.Batch.{IsScript, RunsScript}
+use Rattle.ks_script.specs.ScriptRefusals.{script_refusal}
+use Rattle.ks_commands.specs.Scripts.{IsScript, RunsScript}
 
 abbrev pub runs_script : (script : List ℕ) (before : State) (files : Files) (counted : ℕ) (actions asked : List Action) (replies : List Reply) (after : State)
-    → files ≡ before.files → before.failures ≤ counted → IsScript script before.files actions → asked ≡ actions → Run (at files counted before.history) asked replies after
+    → script_refusal script ≡ None → files ≡ before.files → before.failures ≤ counted → IsScript script before.files actions → asked ≡ actions → Run (at files counted before.history) asked replies after
     → RunsScript script before after
-runs_script script before files counted actions asked replies after same later named are run = record {
+runs_script script before files counted actions asked replies after sound same later named are run = record {
+  sound = sound;
   actions = actions;
   named = named;
   failures = counted;

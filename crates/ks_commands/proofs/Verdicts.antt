@@ -8,7 +8,8 @@ use Rattle.std.proofs.lemmas.List.Folds.{list_any-append}
 use Rattle.ks_tree.specs.Files.{Files}
 use Rattle.ks_engine.specs.declared.staleness.Verdict.{Verdict}
 use Rattle.ks_commands.specs.Questions.{AreVerdicts, IsVerdictOn}
-use Rattle.ks_commands.specs.Replies.{is_verdict_stale, verdict_line}
+use Rattle.ks_commands.specs.Replies.{verdict_line}
+use Rattle.ks_commands.specs.Statuses.{is_verdict_stale}
 
 -- an answer is no want of memory
 pub answered : {A : Type 0} → ⊥ ⊎ A → A

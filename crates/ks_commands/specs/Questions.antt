@@ -11,7 +11,8 @@ use Rattle.ks_engine.specs.Shows.{Shows}
 use Rattle.ks_engine.specs.Asked.{asked, IsAnswer}
 use Rattle.ks_engine.specs.Built.{built, IsBuilt}
 use Rattle.ks_engine.specs.Judged.{JudgesRecorded, IsBuildJudged}
-use Rattle.ks_commands.specs.Replies.{build_line, is_build_stale, is_verdict_stale, verdict_line}
+use Rattle.ks_commands.specs.Replies.{build_line, verdict_line}
+use Rattle.ks_commands.specs.Statuses.{is_build_stale, is_verdict_stale}
 
 -- what the files say of an object, and what its history says where it is recorded
 pub record IsVerdictOn (files : Files) (o : List ℕ) (v : Verdict) : Type 0 where

@@ -1,5 +1,5 @@
--- The lines that are printed of what the engine answers, and the status that answers come to. Their form is this project's.
-use Rattle.std.specs.Prelude.{ℕ, Bool, true, false, List, [], ◌∷◌, ◌++◌, length, codes, decimal}
+-- The lines that are printed of what the engine answers. Their form is this project's.
+use Rattle.std.specs.Prelude.{ℕ, List, [], ◌∷◌, ◌++◌, length, codes, decimal}
 use Rattle.ks_engine.specs.declared.recording.Recorded.{Recorded as RecordAnswer}
 use Rattle.ks_engine.specs.declared.synchronise.Report.{Report}
 use Rattle.ks_engine.specs.declared.staleness.BuildState.{BuildState}
@@ -7,10 +7,8 @@ use Rattle.ks_engine.specs.declared.staleness.BuildState.TheVariants.{CommandDif
 use Rattle.ks_engine.specs.declared.staleness.Verdict.{Verdict as VerdictValue}
 use Rattle.ks_engine.specs.declared.staleness.Verdict.TheVariants as verdict
 use Rattle.ks_engine.specs.declared.commands.Reply.{Reply}
-use Rattle.ks_engine.specs.declared.commands.Reply.TheVariants.{Synced, Recorded, Verdict, Refused}
+use Rattle.ks_engine.specs.declared.commands.Reply.TheVariants.{Synced, Recorded, Verdict}
 use Rattle.ks_engine.specs.Actions.{Action, Sync, Record, Stale}
-use Rattle.ks_commands.specs.declared.status.Status.{Status}
-use Rattle.ks_commands.specs.declared.status.Status.TheVariants as status
 use Rattle.ks_commands.specs.Preview.{touch_lines}
 
 -- why an object is stale, or that it is fresh
@@ -44,24 +42,6 @@ unfoldable pub build_line : List ℕ → BuildState → List ℕ
 build_line target CommandDiffers = target ++ codes " command-differs\n"
 build_line target (Judged v) = verdict_line target v
 
--- it is no refusal
-abbrev pub is_answered : Reply → Bool
-is_answered (Refused e) = false
-is_answered _ = true
-
--- any verdict but fresh is stale, and so is another command
-abbrev pub is_verdict_stale : VerdictValue → Bool
-is_verdict_stale verdict.Fresh = false
-is_verdict_stale _ = true
-
-abbrev pub is_build_stale : BuildState → Bool
-is_build_stale CommandDiffers = true
-is_build_stale (Judged v) = is_verdict_stale v
-
-abbrev pub is_stale : Reply → Bool
-is_stale (Verdict v) = is_verdict_stale v
-is_stale _ = false
-
 -- the line of an action with its reply; nothing is said here of the line of a refusal
 unfoldable pub reply_line : Action → Reply → List ℕ
 reply_line (Sync kconfig dotconfig) (Synced report) = synced_line report
@@ -73,9 +53,3 @@ reply_line _ _ = []
 unfoldable pub reply_lines : List Action → List Reply → List ℕ
 reply_lines (action ∷ actions) (reply ∷ replies) = reply_line action reply ++ reply_lines actions replies
 reply_lines _ _ = []
-
--- the exit status
-abbrev pub code_of : Status → ℕ
-code_of status.Done = 0
-code_of status.Stale = 1
-code_of status.Refused = 2

@@ -11,9 +11,10 @@ ghost use Rattle.ks_engine.specs.Follows.{at};
 ghost use Rattle.ks_engine.specs.Runs.{Run};
 ghost use Rattle.ks_engine.specs.declared.commands.Reply.{Reply};
 ghost use Rattle.ks_script.specs.Script.{seen_line};
-ghost use Rattle.ks_commands.specs.Batch.{IsAnswered, IsBatch, RunsOrNot, WritesBatch, action_in, loaded_action};
+ghost use Rattle.ks_commands.specs.Batch.{IsAnswered, IsBatch, WritesBatch};
+ghost use Rattle.ks_commands.specs.Scripts.{RunsOrNot, action_in, loaded_action};
 ghost use Rattle.ks_commands.specs.Changes.{StillShows};
-ghost use Rattle.ks_commands.specs.Replies.{code_of};
+ghost use Rattle.ks_commands.specs.Statuses.{code_of};
 
 use crate::inputs::{check_path, read_file, read_there};
 use crate::output::put;
@@ -62,20 +63,16 @@ fn load<'a, T: Tree>(
     ensures later { T.failures tree.old ≤ T.failures tree.new }
 {
     match line {
-        ScriptLine::Sync { kconfig, dotconfig } => Ok(Loaded::Sync {
+        ScriptLine::Sync(kconfig, dotconfig) => Ok(Loaded::Sync {
             kconfig: read_there(alloc, tree, *kconfig)?,
             dotconfig: read_there(alloc, tree, *dotconfig)?,
         }),
-        ScriptLine::Record {
-            depfile,
-            target,
-            command,
-        } => Ok(Loaded::Record {
+        ScriptLine::Record(depfile, target, command) => Ok(Loaded::Record {
             depfile: *depfile,
             target: *target,
             command: *command,
         }),
-        ScriptLine::Stale { target } => Ok(Loaded::Stale { target: *target }),
+        ScriptLine::Stale(target) => Ok(Loaded::Stale { target: *target }),
     }
 }
 

@@ -5,12 +5,13 @@ ghost use Rattle.std.specs.Prelude.{◌≡◌, ◌↔◌, ◌⊎◌, ◌<◌, �
 ghost use Rattle.ks_engine.specs.History.{History};
 ghost use Rattle.ks_engine.specs.Shows.{Shows};
 ghost use Rattle.ks_engine.specs.Follows.{at};
-ghost use Rattle.ks_commands.specs.Batch.{RunsOrNot, WritesBatch};
-ghost use Rattle.ks_commands.specs.Changes.{StillShows, WritesRecord, WritesSync};
+ghost use Rattle.ks_commands.specs.Batch.{WritesBatch};
+ghost use Rattle.ks_commands.specs.Scripts.{RunsOrNot};
+ghost use Rattle.ks_commands.specs.Changes.{StillShows};
 ghost use Rattle.ks_commands.specs.Outputs.{WritesCommandFile, WritesPreview};
-ghost use Rattle.ks_commands.specs.Questions.{WritesState, WritesVerdicts};
-ghost use Rattle.ks_commands.specs.Replies.{code_of};
-ghost use Rattle.ks_commands.specs.Requests.{IsBatchOf, IsFixdepOf, IsOutdatedOf, IsPreviewOf, IsRecordOf, IsStaleOf, IsSyncOf, OnlyReads};
+ghost use Rattle.ks_commands.specs.Performed.{IsPerformed};
+ghost use Rattle.ks_commands.specs.Statuses.{code_of};
+ghost use Rattle.ks_commands.specs.Requests.{IsBatchOf, IsNoQuestion, IsPreviewOf, OnlyReads};
 ghost use Rattle.ks_commands.specs.declared.status.Status.TheVariants.{Done};
 
 use crate::batch::run_script;
@@ -91,22 +92,14 @@ fn outcome<T: Tree, W: Write>(
     ensures honest { T.is_honest tree.old ↔ T.is_honest tree.new }
     ensures preview { (k d : List ℕ) (o : Option (List ℕ)) → IsPreviewOf k d o request.now → T.is_honest tree.old
         → OnOk result (WritesPreview (T.files tree.old) k d o (W.contents out.old) (W.contents out.new)) }
-    ensures preview_done { (k d : List ℕ) (o : Option (List ℕ)) → IsPreviewOf k d o request.now → IfOk result (λ status. status ≡ Done) }
+    ensures done { IsNoQuestion request.now → IfOk result (λ status. status ≡ Done) }
     ensures batch { (p : List ℕ) → IsBatchOf p request.now → T.is_honest tree.old → (h : History) → Shows (T.files tree.old) h
         → IfOk result (λ status. code_of status < 2 → (last : History)
         × WritesBatch p (at (T.files tree.old) (T.failures tree.old) h) (at (T.files tree.new) (T.failures tree.new) last) (W.contents out.old) (W.contents out.new) (code_of status)) }
     ensures whole { (p : List ℕ) → IsBatchOf p request.now → T.is_honest tree.old
         → RunsOrNot p (T.files tree.old) (T.failures tree.old) (T.files tree.new) (T.failures tree.new) }
-    ensures stale { (objects : List (List ℕ)) → IsStaleOf objects request.now → T.is_honest tree.old
-        → IfOk result (λ status. code_of status < 2 → WritesVerdicts (T.files tree.old) objects (W.contents out.old) (W.contents out.new) (code_of status)) }
-    ensures outdated { (object command : List ℕ) → IsOutdatedOf object command request.now → T.is_honest tree.old
-        → IfOk result (λ status. code_of status < 2 → WritesState (T.files tree.old) object command (W.contents out.old) (W.contents out.new) (code_of status)) }
-    ensures fixdep { (d t c : List ℕ) → IsFixdepOf d t c request.now → T.is_honest tree.old
-        → OnOk result (WritesCommandFile (T.files tree.old) d t c (W.contents out.old) (W.contents out.new)) }
-    ensures sync { (k d : List ℕ) → IsSyncOf k d request.now → T.is_honest tree.old
-        → OnOk result (WritesSync k d (T.files tree.old) (T.files tree.new) (W.contents out.old) (W.contents out.new)) }
-    ensures recorded { (d t c : List ℕ) → IsRecordOf d t c request.now → T.is_honest tree.old
-        → OnOk result (WritesRecord d t c (T.files tree.old) (T.files tree.new) (W.contents out.old) (W.contents out.new)) }
+    ensures performed { T.is_honest tree.old → IfOk result (λ status. code_of status < 2
+        → IsPerformed request.now (T.files tree.old) (T.files tree.new) (W.contents out.old) (W.contents out.new) (code_of status)) }
     ensures unchanged { OnlyReads request.now → T.is_honest tree.old → T.files tree.new ≡ T.files tree.old }
     ensures shown { T.is_honest tree.old → StillShows (T.files tree.old) (T.files tree.new) }
 {
@@ -153,32 +146,24 @@ pub fn perform<T: Tree, W: Write, E: Write>(
 ) -> u8
     ensures honest { T.is_honest tree.old ↔ T.is_honest tree.new }
     ensures at_most { result ≤ 2 }
-    // A preview, and what writes nothing to the tree.
+    ensures done { IsNoQuestion request.now → (result ≡ 0) ⊎ (result ≡ 2) }
+    // By the files: what each request leaves and prints.
+    ensures performed { T.is_honest tree.old → result < 2
+        → IsPerformed request.now (T.files tree.old) (T.files tree.new) (W.contents out.old) (W.contents out.new) result }
+    ensures only_reads { OnlyReads request.now → T.is_honest tree.old → T.files tree.new ≡ T.files tree.old }
+    // By histories: the files show one as before. The commands of a script ran, all or none; and what is printed of them.
+    ensures shown { T.is_honest tree.old → StillShows (T.files tree.old) (T.files tree.new) }
+    ensures whole { (p : List ℕ) → IsBatchOf p request.now → T.is_honest tree.old
+        → RunsOrNot p (T.files tree.old) (T.failures tree.old) (T.files tree.new) (T.failures tree.new) }
+    ensures batch { (p : List ℕ) → IsBatchOf p request.now → T.is_honest tree.old → (h : History) → Shows (T.files tree.old) h → result < 2
+        → (last : History) × WritesBatch p (at (T.files tree.old) (T.failures tree.old) h) (at (T.files tree.new) (T.failures tree.new) last)
+        (W.contents out.old) (W.contents out.new) result }
+    // The same of a preview, as a caller has its words.
     ensures preview { (k d : List ℕ) (o : Option (List ℕ)) → IsPreviewOf k d o request.now → T.is_honest tree.old → result ≡ 0
         → WritesPreview (T.files tree.old) k d o (W.contents out.old) (W.contents out.new) }
     ensures unchanged { (k d : List ℕ) (o : Option (List ℕ)) → IsPreviewOf k d o request.now → T.is_honest tree.old
         → T.files tree.new ≡ T.files tree.old }
     ensures status { (k d : List ℕ) (o : Option (List ℕ)) → IsPreviewOf k d o request.now → (result ≡ 0) ⊎ (result ≡ 2) }
-    ensures fixdep { (d t c : List ℕ) → IsFixdepOf d t c request.now → T.is_honest tree.old → result ≡ 0
-        → WritesCommandFile (T.files tree.old) d t c (W.contents out.old) (W.contents out.new) }
-    ensures only_reads { OnlyReads request.now → T.is_honest tree.old → T.files tree.new ≡ T.files tree.old }
-    // What writes to the tree.
-    ensures sync { (k d : List ℕ) → IsSyncOf k d request.now → T.is_honest tree.old → result ≡ 0
-        → WritesSync k d (T.files tree.old) (T.files tree.new) (W.contents out.old) (W.contents out.new) }
-    ensures recorded { (d t c : List ℕ) → IsRecordOf d t c request.now → T.is_honest tree.old → result ≡ 0
-        → WritesRecord d t c (T.files tree.old) (T.files tree.new) (W.contents out.old) (W.contents out.new) }
-    ensures shown { T.is_honest tree.old → StillShows (T.files tree.old) (T.files tree.new) }
-    // A script: from each history that the files show its commands ran, all or none; and what is printed of them.
-    ensures batch { (p : List ℕ) → IsBatchOf p request.now → T.is_honest tree.old → (h : History) → Shows (T.files tree.old) h → result < 2
-        → (last : History) × WritesBatch p (at (T.files tree.old) (T.failures tree.old) h) (at (T.files tree.new) (T.failures tree.new) last)
-        (W.contents out.old) (W.contents out.new) result }
-    // Questions about objects.
-    ensures whole { (p : List ℕ) → IsBatchOf p request.now → T.is_honest tree.old
-        → RunsOrNot p (T.files tree.old) (T.failures tree.old) (T.files tree.new) (T.failures tree.new) }
-    ensures stale { (objects : List (List ℕ)) → IsStaleOf objects request.now → T.is_honest tree.old → result < 2
-        → WritesVerdicts (T.files tree.old) objects (W.contents out.old) (W.contents out.new) result }
-    ensures outdated { (object command : List ℕ) → IsOutdatedOf object command request.now → T.is_honest tree.old → result < 2
-        → WritesState (T.files tree.old) object command (W.contents out.old) (W.contents out.new) result }
 {
     match outcome(alloc, tree, request, out) {
         Ok(status) => exit_status(status),

@@ -6,7 +6,8 @@ ghost use Rattle.std.specs.Io.KnownBytes.{Appends};
 ghost use Rattle.ks_engine.specs.declared.staleness.BuildState.{BuildState as State};
 ghost use Rattle.ks_engine.specs.declared.staleness.Verdict.{Verdict as Answer};
 ghost use Rattle.ks_commands.specs.Questions.{AreVerdicts, IsStateOf, IsVerdictOn, WritesState, WritesVerdicts};
-ghost use Rattle.ks_commands.specs.Replies.{build_line, code_of, is_build_stale, is_verdict_stale, verdict_line};
+ghost use Rattle.ks_commands.specs.Replies.{build_line, verdict_line};
+ghost use Rattle.ks_commands.specs.Statuses.{code_of, is_build_stale, is_verdict_stale};
 
 use crate::output::put;
 use crate::refusal::Refusal;

@@ -4,7 +4,8 @@
 ghost use Rattle.std.specs.Prelude.{◌≡◌, ◌<◌, ◌++◌, OnOk, IfOk, IsTrue, map, length, if◌then◌else◌};
 ghost use Rattle.std.specs.List.{list_all, list_any};
 ghost use Rattle.ks_engine.specs.Actions.{action};
-ghost use Rattle.ks_commands.specs.Replies.{build_line, code_of, counted, is_answered, is_build_stale, is_stale, is_verdict_stale, recorded_line, reply_line, reply_lines, report_lines, synced_line, verdict_line, verdict_text};
+ghost use Rattle.ks_commands.specs.Replies.{build_line, counted, recorded_line, reply_line, reply_lines, report_lines, synced_line, verdict_line, verdict_text};
+ghost use Rattle.ks_commands.specs.Statuses.{code_of, is_answered, is_build_stale, is_stale, is_verdict_stale};
 
 use crate::preview::write_touches;
 use crate::status::Status;

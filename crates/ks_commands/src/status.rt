@@ -1,6 +1,6 @@
 //! How a command ended that was not refused as a whole.
 ghost use Rattle.std.specs.Prelude.{◌≡◌, max};
-ghost use Rattle.ks_commands.specs.Replies.{code_of};
+ghost use Rattle.ks_commands.specs.Statuses.{code_of};
 
 /// How a command ended.
 #[derive(Clone, Copy, Debug, PartialEq, Eq)]

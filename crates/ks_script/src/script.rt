@@ -17,20 +17,11 @@ use std::alloc::Global;
 #[derive(Debug, Drop)]
 pub enum ScriptLine<'a> {
     /// `sync KCONFIG DOTCONFIG`, both legal paths.
-    Sync {
-        kconfig: &'a [u8],
-        dotconfig: &'a [u8],
-    },
+    Sync(&'a [u8], &'a [u8]),
     /// `record DEPFILE TARGET COMMAND`; the command is the rest of the line and may be empty.
-    Record {
-        depfile: &'a [u8],
-        target: &'a [u8],
-        command: &'a [u8],
-    },
+    Record(&'a [u8], &'a [u8], &'a [u8]),
     /// `stale TARGET`.
-    Stale {
-        target: &'a [u8],
-    },
+    Stale(&'a [u8]),
 }
 
 fn all_word_bytes(text: &[u8]) -> bool
@@ -74,7 +65,7 @@ fn sync_line(words: &[u8]) -> Option<ScriptLine<'_>>
 {
     let (kconfig, dotconfig) = first_word(words)?;
     if path_is_legal(kconfig) && path_is_legal(dotconfig) {
-        Some(ScriptLine::Sync { kconfig, dotconfig })
+        Some(ScriptLine::Sync(kconfig, dotconfig))
     } else {
         None
     }
@@ -86,11 +77,7 @@ fn record_line(words: &[u8]) -> Option<ScriptLine<'_>>
 {
     let (depfile, rest) = first_word(words)?;
     let (target, command) = first_word(rest)?;
-    Some(ScriptLine::Record {
-        depfile,
-        target,
-        command,
-    })
+    Some(ScriptLine::Record(depfile, target, command))
 }
 
 #[tactic(auto, unfolding(crate::specs::Script::stale_line))]
@@ -98,7 +85,7 @@ fn stale_line(words: &[u8]) -> Option<ScriptLine<'_>>
     ensures { option_map seen_line result ≡ stale_line words.now }
 {
     if is_word(words) {
-        Some(ScriptLine::Stale { target: words })
+        Some(ScriptLine::Stale(words))
     } else {
         None
     }

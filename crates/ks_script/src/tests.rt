@@ -11,13 +11,9 @@ fn outcome(alloc: Global, text: &[u8]) -> Result<String, AllocError> {
     let mut whole = String::new(alloc);
     for line in &lines {
         let words: [&[u8]; 4] = match *line {
-            ScriptLine::Sync { kconfig, dotconfig } => [b"sync", kconfig, dotconfig, b""],
-            ScriptLine::Record {
-                depfile,
-                target,
-                command,
-            } => [b"record", depfile, target, command],
-            ScriptLine::Stale { target } => [b"stale", target, b"", b""],
+            ScriptLine::Sync(kconfig, dotconfig) => [b"sync", kconfig, dotconfig, b""],
+            ScriptLine::Record(depfile, target, command) => [b"record", depfile, target, command],
+            ScriptLine::Stale(target) => [b"stale", target, b"", b""],
         };
         for word in words {
             whole.push_str(&String::from_utf8_lossy(alloc, word)?)?;

@@ -1,6 +1,6 @@
 use Rattle.std.proofs.Common.{◌≡◌, ◌↔◌, ◌≤◌, map, take, Some}
 use Rattle.ks_script.specs.Script.{seen_line}
-use Rattle.ks_commands.specs.Batch.{action_in, loaded_action}
+use Rattle.ks_commands.specs.Scripts.{action_in, loaded_action}
 use Rattle.ks_commands.proofs.batch.load_all.Given as goal
 
 abbrev pub invariant-loop-line : goal.invariant-loop-line

@@ -6,8 +6,10 @@ use Rattle.ks_engine.specs.Follows.{at}
 use Rattle.ks_engine.specs.History.{History}
 use Rattle.ks_engine.specs.Shows.{Shows}
 use Rattle.ks_script.specs.Script.{seen_line, script_lines}
-use Rattle.ks_commands.specs.Batch.{IsAnswered, IsBatch, action_in, loaded_action}
-use Rattle.ks_commands.specs.Replies.{code_of}
+use Rattle.ks_script.specs.ScriptRefusals.{script_refusal}
+use Rattle.ks_commands.specs.Batch.{IsAnswered, IsBatch}
+use Rattle.ks_commands.specs.Scripts.{action_in, loaded_action}
+use Rattle.ks_commands.specs.Statuses.{code_of}
 use Rattle.ks_commands.proofs.Scripts.{either, runs_script}
 use Rattle.ks_commands.proofs.batch.run_at_path.Goals as goal
 
@@ -20,11 +22,10 @@ returns-clause-ran g c = λ honest h shows.
     let same = c.in_ok-loaded.ensures.unchanged honest_1 ∙ same_1 in
     let before = at files (g.T.Tree.failures c.args.tree.now) h in
     let script = c.in_ok-script.script.items in
-    let actions = map loaded_action c.in_ok-loaded.loaded.items in
-    let asked = map action c.deref-4.result.now in
     let later : g.T.Tree.failures c.args.tree.now ≤ g.T.Tree.failures c.load_all.new.tree = omega (arith, c.in_ok-script.ensures.later, c.in_ok-loaded.ensures.later) in
-    let are : asked ≡ actions = ap (map action) c.deref-4.ensures.value ∙ c.in_ok-commands.ensures ∙ ap (map loaded_action) c.deref-3.ensures.value in
+    let are = ap (map action) c.deref-4.ensures.value ∙ c.in_ok-commands.ensures ∙ ap (map loaded_action) c.deref-3.ensures.value in
     let said = ap (map seen_line) c.deref-2.ensures.value ∙ c.in_ok-lines.ensures.lines ∙ ap script_lines c.deref.ensures.value in
+    let sound = ap script_refusal (sym c.deref.ensures.value) ∙ c.in_ok-lines.ensures.refusal in
     let named = ap₂ (λ f ls. map (action_in f) ls) (sym same_1) (sym said) ∙ c.in_ok-loaded.ensures.actions honest_1 in
     let shows_2 = subst (λ f. Shows f h) (sym same) shows in
     IfOk-weaker c.run_commands.result _
@@ -36,7 +37,7 @@ returns-clause-ran g c = λ honest h shows.
       script,
       c.in_ok-script.ensures.bytes honest,
       record {
-        runs = runs_script script before _ _ actions asked ran.1 _ same later named are ran.2;
+        runs = runs_script script before _ _ _ _ ran.1 _ sound same later named are ran.2;
         told = subst (λ (acts : List Action). IsAnswered acts ran.1 outcome.text.items (code_of outcome.status)) are ran.3;
       },
     )) (c.run_commands.ensures.told honest_2 h shows_2)
@@ -50,13 +51,12 @@ returns-clause-whole g c = λ honest h shows.
     let same = c.in_ok-loaded.ensures.unchanged honest_1 ∙ same_1 in
     let before = at files (g.T.Tree.failures c.args.tree.now) h in
     let script = c.in_ok-script.script.items in
-    let actions = map loaded_action c.in_ok-loaded.loaded.items in
-    let asked = map action c.deref-4.result.now in
     let later : g.T.Tree.failures c.args.tree.now ≤ g.T.Tree.failures c.load_all.new.tree = omega (arith, c.in_ok-script.ensures.later, c.in_ok-loaded.ensures.later) in
-    let are : asked ≡ actions = ap (map action) c.deref-4.ensures.value ∙ c.in_ok-commands.ensures ∙ ap (map loaded_action) c.deref-3.ensures.value in
+    let are = ap (map action) c.deref-4.ensures.value ∙ c.in_ok-commands.ensures ∙ ap (map loaded_action) c.deref-3.ensures.value in
     let said = ap (map seen_line) c.deref-2.ensures.value ∙ c.in_ok-lines.ensures.lines ∙ ap script_lines c.deref.ensures.value in
+    let sound = ap script_refusal (sym c.deref.ensures.value) ∙ c.in_ok-lines.ensures.refusal in
     let named = ap₂ (λ f ls. map (action_in f) ls) (sym same_1) (sym said) ∙ c.in_ok-loaded.ensures.actions honest_1 in
     let shows_2 = subst (λ f. Shows f h) (sym same) shows in
     either (λ unchanged. unchanged ∙ same)
-    (λ ran. (ran.0, (script, c.in_ok-script.ensures.bytes honest, runs_script script before _ _ actions asked ran.1 _ same later named are ran.2)))
+    (λ ran. (ran.0, (script, c.in_ok-script.ensures.bytes honest, runs_script script before _ _ _ _ ran.1 _ sound same later named are ran.2)))
     (c.run_commands.ensures.whole honest_2 h shows_2)

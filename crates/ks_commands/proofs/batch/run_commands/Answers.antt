@@ -1,7 +1,8 @@
-use Rattle.std.proofs.Common.{◌∙◌, inr, sym, ap, subst, subst₂, map, IsTrue, cond}
+use Rattle.std.proofs.Common.{◌∙◌, inr, sym, ap, subst, map, IsTrue, cond}
 use Rattle.std.specs.List.{list_all, list_any}
 use Rattle.ks_engine.specs.Actions.{action}
-use Rattle.ks_commands.specs.Replies.{reply_lines, is_answered, is_stale}
+use Rattle.ks_commands.specs.Replies.{reply_lines}
+use Rattle.ks_commands.specs.Statuses.{is_answered, is_stale}
 use Rattle.ks_commands.proofs.batch.run_commands.Goals as goal
 
 pub returns-in_err-text-clause-whole : goal.returns-in_err-text-clause-whole

@@ -1,8 +1,9 @@
 use Rattle.std.proofs.Common.{◌≡◌, ◌∙◌, ◌<◌, List, ℕ, IfOk, subst, string_bytes}
 use Rattle.ks_engine.specs.Follows.{at}
 use Rattle.ks_engine.specs.History.{History}
-use Rattle.ks_commands.specs.Batch.{RunsOrNot, WritesBatch}
-use Rattle.ks_commands.specs.Replies.{code_of}
+use Rattle.ks_commands.specs.Batch.{WritesBatch}
+use Rattle.ks_commands.specs.Scripts.{RunsOrNot}
+use Rattle.ks_commands.specs.Statuses.{code_of}
 use Rattle.ks_commands.specs.Requests.{IsBatchOf}
 use Rattle.ks_commands.proofs.performing.outcome.Goals as goal
 

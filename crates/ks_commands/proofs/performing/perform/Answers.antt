@@ -1,11 +1,26 @@
-use Rattle.std.proofs.Common.{◌∙◌, ◌<◌, inl, ap, sym, subst}
+use Rattle.std.proofs.Common.{◌∙◌, ℕ, List, Option, ◌<◌, inl, ap, sym, subst}
 use Rattle.ks_engine.specs.Follows.{at}
 use Rattle.ks_commands.specs.Batch.{WritesBatch}
-use Rattle.ks_commands.specs.Replies.{code_of}
+use Rattle.ks_commands.specs.declared.request.Request.{Request}
+use Rattle.ks_commands.specs.declared.request.Request.TheVariants as request
+use Rattle.ks_commands.specs.Statuses.{code_of}
+use Rattle.ks_commands.specs.Requests.{IsNoQuestion, IsPreviewOf}
 use Rattle.ks_commands.proofs.performing.perform.Goals as goal
 
+preview_is_none : (k d : List ℕ) (o : Option (List ℕ)) (r : Request) → IsPreviewOf k d o r → IsNoQuestion r
+preview_is_none k d o (request.Preview k' d' o') is = tt
+preview_is_none k d o (request.Sync k' d') is = tt
+preview_is_none k d o (request.Fixdep d' t c) is = tt
+preview_is_none k d o (request.Record d' t c) is = tt
+preview_is_none k d o (request.Stale ts) is = is
+preview_is_none k d o (request.Outdated t c) is = is
+preview_is_none k d o (request.Batch p) is = is
+
 pub returns-in-Ok-clause-status : goal.returns-in-Ok-clause-status
-returns-in-Ok-clause-status g c = λ k d o is. inl (c.exit_status.ensures ∙ ap code_of (c.in-Ok.ensures.preview_done k d o is))
+returns-in-Ok-clause-status g c = λ k d o is. inl (c.exit_status.ensures ∙ ap code_of (c.in-Ok.ensures.done (preview_is_none k d o c.args.request.now is)))
+
+pub returns-in-Ok-clause-done : goal.returns-in-Ok-clause-done
+returns-in-Ok-clause-done g c = λ none. inl (c.exit_status.ensures ∙ ap code_of (c.in-Ok.ensures.done none))
 
 pub returns-in-Ok-clause-batch : goal.returns-in-Ok-clause-batch
 returns-in-Ok-clause-batch g c = λ p is honest h shows small.

@@ -1,6 +1,6 @@
 use Rattle.std.proofs.Common.{◌∙◌, ◌<◌, ◌++◌, ◌∷◌, [], arith, sym, ap, subst, subst₂, string_bytes, map, take}
 use Rattle.ks_commands.specs.Questions.{AreVerdicts, IsVerdictOn}
-use Rattle.ks_commands.specs.Replies.{code_of}
+use Rattle.ks_commands.specs.Statuses.{code_of}
 use Rattle.ks_commands.proofs.Verdicts.{verdicts_more, map-take_more}
 use Rattle.ks_commands.proofs.questions.ask_all.Goals as goal
 

@@ -1,6 +1,6 @@
 use Rattle.std.proofs.Common.{◌≡◌, ◌↔◌, ◌<◌, map, take, string_bytes}
 use Rattle.ks_commands.specs.Questions.{AreVerdicts}
-use Rattle.ks_commands.specs.Replies.{code_of}
+use Rattle.ks_commands.specs.Statuses.{code_of}
 use Rattle.ks_commands.proofs.questions.ask_all.Given as goal
 
 abbrev pub invariant-loop-target : goal.invariant-loop-target

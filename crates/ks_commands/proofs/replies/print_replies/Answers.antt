@@ -1,7 +1,8 @@
 use Rattle.std.proofs.Common.{◌<◌, ◌++◌, ◌∙◌, sym, ap, subst, arith, length, map, drop, append-nil, IsTrue}
 use Rattle.std.proofs.lemmas.List.{drop_all}
 use Rattle.ks_engine.specs.Actions.{action}
-use Rattle.ks_commands.specs.Replies.{reply_lines, is_answered}
+use Rattle.ks_commands.specs.Replies.{reply_lines}
+use Rattle.ks_commands.specs.Statuses.{is_answered}
 use Rattle.ks_commands.proofs.Printing.{lines_more, answered_at, no_lines}
 use Rattle.ks_commands.proofs.replies.print_replies.Goals as goal
 

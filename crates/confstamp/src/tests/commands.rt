@@ -1,0 +1,27 @@
+//! Each command as it is meant to be used, and the questions about objects.
+use super::golden::*;
+use super::*;
+
+#[test]
+fn each_command_once(rt: HostRuntime) -> Result<(), Fail> {
+    let mut tree = world(&rt, rt.alloc())?;
+    play(&rt, rt.alloc(), &mut tree, EACH_COMMAND)
+}
+
+#[test]
+fn questions_about_objects(rt: HostRuntime) -> Result<(), Fail> {
+    let mut tree = world(&rt, rt.alloc())?;
+    play(&rt, rt.alloc(), &mut tree, QUESTIONS)
+}
+
+#[test]
+fn a_tree_without_its_auto_conf(rt: HostRuntime) -> Result<(), Fail> {
+    let mut tree = world(&rt, rt.alloc())?;
+    play(&rt, rt.alloc(), &mut tree, WITHOUT_AUTO_CONF)
+}
+
+#[test]
+fn a_tree_of_the_usual_tool(rt: HostRuntime) -> Result<(), Fail> {
+    let mut tree = world(&rt, rt.alloc())?;
+    play(&rt, rt.alloc(), &mut tree, USUAL_TREE)
+}

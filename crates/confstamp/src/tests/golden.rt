@@ -1,0 +1,114 @@
+//! The inputs of the examples, whole files, and what is asked and told.
+use super::Step;
+
+const KCONFIG: &str = "mainmenu \"Demo\"\nconfig A\n\tbool\nconfig B\n\ttristate\n";
+
+const KCONFIG_D: &str =
+    "mainmenu \"Demo\"\nconfig A\n\tbool\nconfig B\n\ttristate\nconfig D\n\tbool\n";
+
+pub const AUTO: &str =
+    "#\n# Automatically generated file; DO NOT EDIT.\n# Demo\n#\nCONFIG_A=y\nCONFIG_B=m\n#generation 1\n";
+
+const USUAL_AUTO: &str = "#\n# Automatically generated file; DO NOT EDIT.\n# Demo\n#\nCONFIG_A=y\n";
+
+const HEADER: &str =
+    "/*\n * Automatically generated file; DO NOT EDIT.\n * Demo\n */\n#define CONFIG_A 1\n#define CONFIG_B_MODULE 1\n";
+
+const COMMAND_FILE: &str =
+    "savedcmd_x.o := cc -c x.c\n\nsource_x.o := x.c\n\ndeps_x.o := \\\n    $(wildcard include/config/A) \\\n    $(wildcard include/config/B) \\\n  a.h \\\n    $(wildcard include/config/C) \\\n  b.h \\\n\nx.o: $(deps_x.o)\n\n$(deps_x.o):\n#generation 1\n";
+
+const CUT_COMMAND_FILE: &str =
+    "savedcmd_x.o := cc -c x.c\n\nsource_x.o := x.c\n\ndeps_x.o := \\\n    $(wildcard include/config/A) \\\n    $(wildcard include/config/B) \\\n  a.h \\\n";
+
+const FIXDEP: &str =
+    "0 savedcmd_x.o := cc -c x.c\n\nsource_x.o := x.c\n\ndeps_x.o := \\\n    $(wildcard include/config/A) \\\n    $(wildcard include/config/B) \\\n  a.h \\\n    $(wildcard include/config/C) \\\n  b.h \\\n\nx.o: $(deps_x.o)\n\n$(deps_x.o):\n";
+
+const PREVIEW: &str =
+    "0 touch A\ntouch B\n#\n# Automatically generated file; DO NOT EDIT.\n# Demo\n#\nCONFIG_A=y\nCONFIG_B=m\n#generation 1\n";
+
+const PREVIEW_OVER: &str =
+    "0 touch A\n#\n# Automatically generated file; DO NOT EDIT.\n# Demo\n#\nCONFIG_B=m\n#generation 2\n";
+
+/// Kconfig files, `.config` files, an object's sources and its dependency file.
+#[rattlefmt::skip]
+pub const INPUTS: &[(Step<'_>, &str)] = &[
+    (Step::Put("K1", KCONFIG), "done"),
+    (Step::Put("K2", KCONFIG_D), "done"),
+    (Step::Put("c1", "CONFIG_A=y\nCONFIG_B=m\n"), "done"),
+    (Step::Put("c2", "CONFIG_A=y\nCONFIG_B=m\nCONFIG_D=y\n"), "done"),
+    (Step::Put("c3", "CONFIG_B=m\nCONFIG_D=y\n"), "done"),
+    (Step::Put("only_b", "CONFIG_B=m\n"), "done"),
+    (Step::Put("faulty", "\nCONFIG_A=m\n"), "done"),
+    (Step::Put("x.d", "x.o: x.c a.h \\\n include/generated/autoconf.h a.h b.h\n"), "done"),
+    (Step::Put("x.c", "#ifdef CONFIG_A\nCONFIG_B\n"), "done"),
+    (Step::Put("a.h", "CONFIG_B CONFIG_C_MODULE\n"), "done"),
+    (Step::Put("b.h", "CONFIG_A\n"), "done"),
+];
+
+#[rattlefmt::skip]
+pub const EACH_COMMAND: &[(Step<'_>, &str)] = &[
+    (Step::Words(&["preview", "K1", "c1"]), PREVIEW),
+    (Step::Words(&["fixdep", "x.d", "x.o", "cc -c x.c"]), FIXDEP),
+    (Step::Read("include/config/auto.conf"), "none"),
+    (Step::Read(".x.o.cmd"), "none"),
+    (Step::Words(&["sync", "K1", "c1"]), "0 generation 1\ntouch A\ntouch B\nunknown 0\n"),
+    (Step::Read("include/config/auto.conf"), AUTO),
+    (Step::Read("include/generated/autoconf.h"), HEADER),
+    (Step::Words(&["record", "x.d", "x.o", "cc -c x.c"]), "0 record x.o generation 1 names 3\n"),
+    (Step::Read(".x.o.cmd"), COMMAND_FILE),
+    (Step::Words(&["stale", "x.o"]), "0 x.o fresh\n"),
+    (Step::Words(&["outdated", "x.o", "cc -c x.c"]), "0 x.o fresh\n"),
+    (Step::Put("script", "stale x.o\n"), "done"),
+    (Step::Words(&["batch", "script"]), "0 x.o fresh\n"),
+    (Step::Words(&["preview", "K1", "only_b", "include/config/auto.conf"]), PREVIEW_OVER),
+    (Step::Words(&["sync", "K1", "c2"]), "0 generation 2\nunknown 1\n"),
+];
+
+#[rattlefmt::skip]
+pub const QUESTIONS: &[(Step<'_>, &str)] = &[
+    (Step::Words(&["sync", "K1", "c1"]), "0 generation 1\ntouch A\ntouch B\nunknown 0\n"),
+    (Step::Words(&["record", "x.d", "x.o", "cc -c x.c"]), "0 record x.o generation 1 names 3\n"),
+    (Step::Words(&["stale", "x.o", "z.o"]), "1 x.o fresh\nz.o stale no-command-file\n"),
+    (Step::Words(&["stale", "x.o", "a$b"]), "2 x.o fresh\na$b refused 21 BadPath token 0\n"),
+    (Step::Words(&["stale", "a$b", "z.o", "x.o"]), "2 a$b refused 21 BadPath token 0\nz.o stale no-command-file\nx.o fresh\n"),
+    (Step::Words(&["outdated", "x.o", "cc -O2 -c x.c"]), "1 x.o command-differs\n"),
+    (Step::Words(&["outdated", "z.o", ""]), "1 z.o stale no-command-file\n"),
+    (Step::Words(&["outdated", "x.o", "--", "-c"]), "1 x.o command-differs\n"),
+    (Step::Words(&["stale", "--", "x.o", "-o"]), "1 x.o fresh\n-o stale no-command-file\n"),
+    (Step::Words(&["outdated", "a$b", "cc"]), "2 a$b refused 21 BadPath token 0\n"),
+    (Step::Words(&["outdated", "x.o", "a\nb"]), "2 x.o refused 22 BadCommand\n"),
+    (Step::Words(&["sync", "K1", "only_b"]), "0 generation 2\ntouch A\nunknown 0\n"),
+    (Step::Words(&["outdated", "x.o", "cc -c x.c"]), "1 x.o stale A\n"),
+    (Step::Words(&["stale", "x.o"]), "1 x.o stale A\n"),
+    (Step::Put("include/config/A", "01\n"), "done"),
+    (Step::Words(&["stale", "x.o"]), "2 x.o refused 31 BadStamp A\n"),
+    (Step::Put("include/config/A", "7"), "done"),
+    (Step::Words(&["stale", "x.o"]), "2 x.o refused 31 BadStamp A\n"),
+    (Step::Put(".x.o.cmd", CUT_COMMAND_FILE), "done"),
+    (Step::Words(&["stale", "x.o"]), "2 x.o refused 23 BadCommandFile line 9\n"),
+    (Step::Words(&["outdated", "x.o", "cc -c x.c"]), "2 x.o refused 23 BadCommandFile line 9\n"),
+    (Step::Put(".x.o.cmd", "savedcmd_x.o := cc\n\nsource_x.o := x.c\n\ndeps_x.o := \\\n\nx.o: $(deps_x.o)\n\n$(deps_x.o):\n"), "done"),
+    (Step::Words(&["stale", "x.o"]), "1 x.o stale not-numbered\n"),
+    (Step::Words(&["outdated", "x.o", "cc"]), "1 x.o stale not-numbered\n"),
+    (Step::Put(".x.o.cmd", "savedcmd_x.o := cc\n\nsource_x.o := x.c\n\ndeps_x.o := \\\n\nx.o: $(deps_x.o)\n\n$(deps_x.o):\n#generation 5\n"), "done"),
+    (Step::Words(&["stale", "x.o"]), "1 x.o stale generation-ahead\n"),
+];
+
+/// The command is compared before auto.conf is looked for.
+#[rattlefmt::skip]
+pub const WITHOUT_AUTO_CONF: &[(Step<'_>, &str)] = &[
+    (Step::Put(".x.o.cmd", COMMAND_FILE), "done"),
+    (Step::Words(&["outdated", "x.o", "cc -O2 -c x.c"]), "1 x.o command-differs\n"),
+    (Step::Words(&["outdated", "x.o", "cc -c x.c"]), "2 x.o refused 41 NeverSynced\n"),
+    (Step::Words(&["stale", "x.o"]), "2 x.o refused 41 NeverSynced\n"),
+];
+
+#[rattlefmt::skip]
+pub const USUAL_TREE: &[(Step<'_>, &str)] = &[
+    (Step::Put("include/config/auto.conf", USUAL_AUTO), "done"),
+    (Step::Put("include/config/A", ""), "done"),
+    (Step::Words(&["record", "x.d", "x.o", "cc -c x.c"]), "2 confstamp: 41 NeverSynced\n"),
+    (Step::Words(&["sync", "K1", "c1"]), "0 generation 1\ntouch B\nunknown 0\n"),
+    (Step::Read("include/config/A"), ""),
+    (Step::Words(&["record", "x.d", "x.o", "cc -c x.c"]), "0 record x.o generation 1 names 3\n"),
+];

@@ -1,0 +1,177 @@
+//! The refusals of a whole command: nothing on the output, one line on standard error, and nothing changed.
+use super::golden::AUTO;
+use super::{Step, execute, play, told, world};
+use ks_tree::{FuseMode, FuseTree, Tree};
+use std::io;
+use std::io::{ErrorKind, Write};
+use std::test::Fail;
+
+#[rattlefmt::skip]
+const SYNC_AND_PREVIEW: &[(Step<'_>, &str)] = &[
+    (Step::Words(&["sync", "a$b", "c1"]), "2 confstamp: 21 BadPath token 0\n"),
+    (Step::Words(&["sync", "missing", "a$b"]), "2 confstamp: 21 BadPath token 0\n"),
+    (Step::Words(&["sync", "missing", "faulty"]), "2 confstamp: 40 MissingFile missing\n"),
+    (Step::Words(&["sync", "c1", "missing"]), "2 confstamp: 40 MissingFile missing\n"),
+    (Step::Words(&["sync", "c1", "c1"]), "2 confstamp: 1 NotBare line 1\n"),
+    (Step::Words(&["sync", "K1", "faulty"]), "2 confstamp: 8 BadValue line 2\n"),
+    (Step::Words(&["preview", "K1", "faulty"]), "2 confstamp: 8 BadValue line 2\n"),
+    (Step::Words(&["preview", "a$b", "c1"]), "2 confstamp: 21 BadPath token 0\n"),
+    (Step::Words(&["preview", "missing", "c1", "a$b"]), "2 confstamp: 21 BadPath token 0\n"),
+    (Step::Words(&["preview", "c1", "c1", "missing"]), "2 confstamp: 40 MissingFile missing\n"),
+    (Step::Put("include/config/auto.conf", "#\n#\n#\n#\nCONFIG_../x=y\n"), "done"),
+    (Step::Words(&["sync", "K1", "c1"]), "2 confstamp: 11 BadAuto line 5\n"),
+    (Step::Words(&["preview", "K1", "c1", "include/config/auto.conf"]), "2 confstamp: 11 BadAuto line 5\n"),
+    (Step::Put("include/config/auto.conf", "#generation 18446744073709551615\n"), "done"),
+    (Step::Words(&["sync", "K1", "c1"]), "2 confstamp: 42 GenerationFull\n"),
+    (Step::Words(&["preview", "K1", "c1", "include/config/auto.conf"]), "2 confstamp: 42 GenerationFull\n"),
+    (Step::Read("include/config/auto.conf"), "#generation 18446744073709551615\n"),
+    (Step::Read("include/generated/autoconf.h"), "none"),
+];
+
+#[rattlefmt::skip]
+const FIXDEP_AND_RECORD: &[(Step<'_>, &str)] = &[
+    (Step::Words(&["fixdep", "a$b", "d/", "a\nb"]), "2 confstamp: 21 BadPath token 0\n"),
+    (Step::Words(&["fixdep", "missing", "d/", "a\nb"]), "2 confstamp: 21 BadPath token 0\n"),
+    (Step::Words(&["fixdep", "missing", "x.o", "a\nb"]), "2 confstamp: 22 BadCommand\n"),
+    (Step::Words(&["fixdep", "missing", "x.o", "cc"]), "2 confstamp: 40 MissingFile missing\n"),
+    (Step::Words(&["record", "a$b", "d/", "a\nb"]), "2 confstamp: 21 BadPath token 0\n"),
+    (Step::Words(&["record", "missing", "d/", "a\nb"]), "2 confstamp: 21 BadPath token 0\n"),
+    (Step::Words(&["record", "missing", "x.o", "a\nb"]), "2 confstamp: 22 BadCommand\n"),
+    (Step::Words(&["record", "missing", "x.o", "cc"]), "2 confstamp: 40 MissingFile missing\n"),
+    (Step::Words(&["record", "x.d", "x.o", "cc"]), "2 confstamp: 41 NeverSynced\n"),
+    (Step::Words(&["sync", "K1", "c1"]), "0 generation 1\ntouch A\ntouch B\nunknown 0\n"),
+    (Step::Put("y.d", "a.h b.h\n"), "done"),
+    (Step::Words(&["fixdep", "y.d", "x.o", "cc"]), "2 confstamp: 20 NoTarget\n"),
+    (Step::Words(&["record", "y.d", "x.o", "cc"]), "2 confstamp: 20 NoTarget\n"),
+    (Step::Put("y.d", "x.o: x.c a$b.h\n"), "done"),
+    (Step::Words(&["fixdep", "y.d", "x.o", "cc"]), "2 confstamp: 21 BadPath token 3\n"),
+    (Step::Words(&["record", "y.d", "x.o", "cc"]), "2 confstamp: 21 BadPath token 3\n"),
+    (Step::Put("y.d", "x.o: x.c gone.h\n"), "done"),
+    (Step::Words(&["fixdep", "y.d", "x.o", "cc"]), "2 confstamp: 40 MissingFile gone.h\n"),
+    (Step::Words(&["record", "y.d", "x.o", "cc"]), "2 confstamp: 40 MissingFile gone.h\n"),
+    (Step::Read(".x.o.cmd"), "none"),
+];
+
+#[rattlefmt::skip]
+const SCRIPTS: &[(Step<'_>, &str)] = &[
+    (Step::Words(&["batch", "a$b"]), "2 confstamp: 21 BadPath token 0\n"),
+    (Step::Words(&["batch", "missing"]), "2 confstamp: 40 MissingFile missing\n"),
+    (Step::Put("script", "stale x.o y.o\n"), "done"),
+    (Step::Words(&["batch", "script"]), "2 confstamp: 50 BadScript line 1\n"),
+    (Step::Put("script", "stale  x.o\n"), "done"),
+    (Step::Words(&["batch", "script"]), "2 confstamp: 50 BadScript line 1\n"),
+    (Step::Put("script", "record x.d x.o\n"), "done"),
+    (Step::Words(&["batch", "script"]), "2 confstamp: 50 BadScript line 1\n"),
+    (Step::Put("script", "sync K1 c1\nsync K1 a$b\n"), "done"),
+    (Step::Words(&["batch", "script"]), "2 confstamp: 50 BadScript line 2\n"),
+    (Step::Put("script", "sync K1 c1\nsync missing gone\n"), "done"),
+    (Step::Words(&["batch", "script"]), "2 confstamp: 40 MissingFile missing\n"),
+    (Step::Read("include/config/auto.conf"), "none"),
+];
+
+/// `big` has one byte more than the limit.
+#[rattlefmt::skip]
+const TOO_LARGE: &[(Step<'_>, &str)] = &[
+    (Step::Words(&["sync", "big", "c1"]), "2 confstamp: 9 TooLarge\n"),
+    (Step::Words(&["sync", "K1", "big"]), "2 confstamp: 9 TooLarge\n"),
+    (Step::Words(&["preview", "K1", "c1", "big"]), "2 confstamp: 9 TooLarge\n"),
+    (Step::Words(&["fixdep", "big", "x.o", "cc"]), "2 confstamp: 9 TooLarge\n"),
+    (Step::Words(&["batch", "big"]), "2 confstamp: 9 TooLarge\n"),
+    (Step::Words(&["sync", "K1", "c1"]), "0 generation 1\ntouch A\ntouch B\nunknown 0\n"),
+    (Step::Put("y.d", "x.o: x.c big\n"), "done"),
+    (Step::Words(&["fixdep", "y.d", "x.o", "cc"]), "2 confstamp: 9 TooLarge\n"),
+    (Step::Words(&["record", "y.d", "x.o", "cc"]), "2 confstamp: 9 TooLarge\n"),
+];
+
+/// What a tree answers of which each call fails.
+#[rattlefmt::skip]
+const FAILING_TREE: &[(Step<'_>, &str)] = &[
+    (Step::Words(&["sync", "K1", "c1"]), "2 confstamp: 30 Device\n"),
+    (Step::Words(&["preview", "K1", "c1"]), "2 confstamp: 30 Device\n"),
+    (Step::Words(&["fixdep", "x.d", "x.o", "cc"]), "2 confstamp: 30 Device\n"),
+    (Step::Words(&["record", "x.d", "x.o", "cc"]), "2 confstamp: 30 Device\n"),
+    (Step::Words(&["stale", "x.o", "y.o"]), "2 x.o refused 30 Device\ny.o refused 30 Device\n"),
+    (Step::Words(&["outdated", "x.o", "cc"]), "2 x.o refused 30 Device\n"),
+    (Step::Words(&["batch", "script"]), "2 confstamp: 30 Device\n"),
+];
+
+#[test]
+fn whole_commands_refused(rt: HostRuntime) -> Result<(), Fail> {
+    for steps in [SYNC_AND_PREVIEW, FIXDEP_AND_RECORD, SCRIPTS] {
+        let mut tree = world(&rt, rt.alloc())?;
+        play(&rt, rt.alloc(), &mut tree, steps)?;
+    }
+    Ok(())
+}
+
+#[test]
+fn a_tree_that_fails(rt: HostRuntime) -> Result<(), Fail> {
+    let tree = world(&rt, rt.alloc())?;
+    let mut tree = FuseTree::new(tree, 0, None, FuseMode::Clean);
+    play(&rt, rt.alloc(), &mut tree, FAILING_TREE)
+}
+
+/// A device that fails while a script runs refuses a line, and the lines after it are still answered.
+#[test]
+fn a_device_that_fails_once(rt: HostRuntime) -> Result<(), Fail> {
+    let alloc = rt.alloc();
+    let mut tree = world(&rt, alloc)?;
+    let script = Step::Put("script", "sync K1 c1\nsync K1 c1\n");
+    play(&rt, alloc, &mut tree, &[(script, "done")])?;
+    let mut tree = FuseTree::new(tree, 10, Some(1), FuseMode::Clean);
+    let found = told(alloc, &mut tree, Step::Words(&["batch", "script"]))?;
+    let want = "2 refused 30 Device\nsync generation 1 touched 2 unknown 0\n";
+    assert_eq!(rt; found.as_str(), want);
+    let mut tree = tree.into_inner();
+    play(
+        &rt,
+        alloc,
+        &mut tree,
+        &[(Step::Read("include/config/auto.conf"), AUTO)],
+    )
+}
+
+#[test]
+fn files_above_the_limit(rt: HostRuntime) -> Result<(), Fail> {
+    let mut tree = world(&rt, rt.alloc())?;
+    let big: Vec<u8> = vec![in rt.alloc(); b'\n'; 67_108_865]?;
+    tree.write(rt.alloc(), b"big", &big)?;
+    play(&rt, rt.alloc(), &mut tree, TOO_LARGE)
+}
+
+/// Takes nothing.
+#[derive(Drop)]
+struct Full {}
+
+impl Write for Full {
+    fn write(&mut self, _bytes: &[u8]) -> io::Result<usize> {
+        Err(io::Error::from(ErrorKind::StorageFull))
+    }
+
+    fn flush(&mut self) -> io::Result<()> {
+        Ok(())
+    }
+}
+
+#[test]
+#[rattlefmt::skip]
+fn an_output_that_is_full(rt: HostRuntime) -> Result<(), Fail> {
+    let rows: [&[&str]; 8] = [
+        &["preview", "K1", "c1"],
+        &["fixdep", "x.d", "x.o", "cc"],
+        &["sync", "K1", "c1"],
+        &["record", "x.d", "x.o", "cc -c x.c"],
+        &["stale", "x.o"],
+        &["outdated", "x.o", "cc"],
+        &["batch", "script"],
+        &["--help"],
+    ];
+    let mut tree = world(&rt, rt.alloc())?;
+    play(&rt, rt.alloc(), &mut tree, &[(Step::Put("script", "stale x.o\n"), "done")])?;
+    for words in rows {
+        let mut err: Vec<u8> = Vec::new(rt.alloc());
+        let status = execute(rt.alloc(), &mut tree, words, &mut Full {}, &mut err);
+        assert_eq!(rt; (status, err.as_slice()), (2, b"confstamp: 51 Output\n".as_slice()), "{words:?}");
+    }
+    play(&rt, rt.alloc(), &mut tree, &[(Step::Words(&["stale", "x.o"]), "0 x.o fresh\n")])
+}

@@ -1,0 +1,73 @@
+//! Scripts: a change and a change back, refused lines, and lines that ask for nothing.
+use super::{Step, play, world};
+use std::test::Fail;
+
+const CHANGE_AND_BACK: &str = "sync K2 c1
+record x.d x.o cc -c x.c
+sync K2 c2
+stale x.o
+sync K2 c3
+stale x.o
+sync K2 c2
+stale x.o
+record x.d x.o cc -c x.c
+stale x.o
+";
+
+const CHANGE_AND_BACK_TOLD: &str = "1 sync generation 1 touched 2 unknown 0
+record x.o generation 1 names 3
+sync generation 2 touched 1 unknown 0
+x.o fresh
+sync generation 3 touched 1 unknown 0
+x.o stale A
+sync generation 4 touched 1 unknown 0
+x.o stale A
+record x.o generation 4 names 3
+x.o fresh
+";
+
+/// A refusal is a line, and the commands after it run.
+const REFUSED_LINES: &str = "sync K1 faulty
+record missing x.o cc
+stale a$b
+stale x.o
+sync K1 c1
+";
+
+const REFUSED_LINES_TOLD: &str = "2 refused 8 BadValue line 2
+refused 40 MissingFile missing
+a$b refused 21 BadPath token 0
+x.o stale no-command-file
+sync generation 1 touched 2 unknown 0
+";
+
+#[test]
+#[rattlefmt::skip]
+fn scripts(rt: HostRuntime) -> Result<(), Fail> {
+    let rows: [(&str, &str); 5] = [
+        (CHANGE_AND_BACK, CHANGE_AND_BACK_TOLD),
+        (REFUSED_LINES, REFUSED_LINES_TOLD),
+        ("# nothing\n\n#\n", "0 "),
+        ("", "0 "),
+        ("sync K1 c1\r\nrecord x.d x.o cc  -c x.c\nstale x.o", "0 sync generation 1 touched 2 unknown 0\nrecord x.o generation 1 names 3\nx.o fresh\n"),
+    ];
+    for (script, want) in rows {
+        let mut tree = world(&rt, rt.alloc())?;
+        play(&rt, rt.alloc(), &mut tree, &[(Step::Put("script", script), "done"), (Step::Words(&["batch", "script"]), want)])?;
+    }
+    Ok(())
+}
+
+/// The command of a record is the rest of its line, and may be empty.
+#[test]
+#[rattlefmt::skip]
+fn an_empty_command(rt: HostRuntime) -> Result<(), Fail> {
+    let mut tree = world(&rt, rt.alloc())?;
+    play(&rt, rt.alloc(), &mut tree, &[
+        (Step::Words(&["sync", "K1", "c1"]), "0 generation 1\ntouch A\ntouch B\nunknown 0\n"),
+        (Step::Put("y.d", "y.o: c1\n"), "done"),
+        (Step::Put("script", "record y.d y.o \n"), "done"),
+        (Step::Words(&["batch", "script"]), "0 record y.o generation 1 names 2\n"),
+        (Step::Read(".y.o.cmd"), "savedcmd_y.o := \n\nsource_y.o := c1\n\ndeps_y.o := \\\n    $(wildcard include/config/A) \\\n    $(wildcard include/config/B) \\\n\ny.o: $(deps_y.o)\n\n$(deps_y.o):\n#generation 1\n"),
+    ])
+}

@@ -1,75 +1,87 @@
 -- A line of a script asks for what it spells.
-use Rattle.std.proofs.Common.{◌≡◌, ℕ, ◌&&◌, ◌==◌, Bool, true, false, not, cond, nat_eq, List, [], ◌∷◌, ◌++◌, length, take, drop, take_while, codes, Option, Some, None, refl, sym, ap, subst, ◌∙◌, append_assoc, nat_le, arith}
-use Rattle.std.specs.List.{list_all, starts_with}
+use Rattle.std.proofs.Common.{◌≡◌, ℕ, ◌&&◌, ◌==◌, Bool, true, false, not, cond, nat_eq, IsTrue, List, [], ◌∷◌, ◌++◌, length, take, drop, take_while, codes, Option, Some, None, option_map, option_and_then, refl, sym, ap, subst, ◌∙◌, append_assoc, nat_le, arith}
+use Rattle.std.specs.List.{list_all, starts_with, prefix_len}
 use Rattle.std.specs.Cmp.Lexicographic.{bytes_decides}
+use Rattle.std.proofs.Math.Seq.{drop-append_seam}
 use Rattle.std.proofs.lemmas.Bool.{cond-true, cond-false, cases_Bool, and_parts}
-use Rattle.std.proofs.lemmas.List.{take-append-drop, nil_from_length}
-use Rattle.std.proofs.lemmas.List.Sums.{take_while-cons}
 use Rattle.std.proofs.lemmas.Bool.Decides.{nat_tests}
+use Rattle.std.proofs.lemmas.List.{take-append-drop}
+use Rattle.std.proofs.lemmas.List.Folds.{length-prefix_len}
+use Rattle.std.proofs.lemmas.List.Sums.{take_while-cons}
 use mathlib.Core.Logic.{⊎_elim}
 use Rattle.ks_symbols.specs.Names.{is_path, is_path_byte}
-use Rattle.ks_script.specs.Script.{is_word_byte, is_word, Line, Sync, Record, Stale, Says, script_line, sync_line, record_line, stale_line}
+use Rattle.ks_symbols.proofs.Spellings.{run_is}
+use Rattle.ks_script.specs.Script.{is_word_byte, is_word, Line, Sync, Record, Stale, Says, first_word, script_line, sync_line, record_line, stale_line}
 use Rattle.ks_script.specs.Laws.{LinesAreSpelled}
 
--- a text is its run and what follows
-run_split : (p : ℕ → Bool) (xs : List ℕ) → xs ≡ take_while p xs ++ drop (length (take_while p xs)) xs
-run_split p [] = refl
-run_split p (x ∷ xs) =
-    ⊎_elim
-    (λ yes. subst (λ (l : List ℕ). x ∷ xs ≡ l ++ drop (length l) (x ∷ xs)) (sym (take_while-cons p x xs ∙ cond-true (p x) _ _ yes)) (ap (λ (l : List ℕ). x ∷ l) (run_split p xs)))
-    (λ ne. subst (λ (l : List ℕ). x ∷ xs ≡ l ++ drop (length l) (x ∷ xs)) (sym (take_while-cons p x xs ∙ cond-false (p x) _ _ ne)) refl)
-    (cases_Bool (p x))
+both : (a b : Bool) → a ≡ true → b ≡ true → (a && b) ≡ true
+both true b p q = q
+both false b p q = absurd (cc p)
 
--- the run passes
-run_passes : (p : ℕ → Bool) (xs : List ℕ) → list_all p (take_while p xs) ≡ true
-run_passes p [] = refl
-run_passes p (x ∷ xs) =
-    ⊎_elim
-    (λ yes. ap (list_all p) (take_while-cons p x xs ∙ cond-true (p x) _ _ yes) ∙ ap (λ b. b && list_all p (take_while p xs)) yes ∙ run_passes p xs)
-    (λ ne. ap (list_all p) (take_while-cons p x xs ∙ cond-false (p x) _ _ ne))
-    (cases_Bool (p x))
+chosen : {X : Type 0} (b : Bool) (said told : X) → cond b (Some said) None ≡ Some told → (b ≡ true) × (said ≡ told)
+chosen true said told e = (refl, cc e)
+chosen false said told e = absurd (cc e)
 
-run_is : (p : ℕ → Bool) (xs : List ℕ) (c : ℕ) (rest : List ℕ) → list_all p xs ≡ true → p c ≡ false → take_while p (xs ++ c ∷ rest) ≡ xs
-run_is p [] c rest h e = take_while-cons p c rest ∙ cond-false (p c) _ _ e
-run_is p (x ∷ xs) c rest h e =
-    let parts = and_parts (p x) (list_all p xs) h in
-    take_while-cons p x (xs ++ c ∷ rest) ∙ cond-true (p x) _ _ parts.0 ∙ ap (λ (l : List ℕ). x ∷ l) (run_is p xs c rest parts.1 e)
+-- what was found behind something that was found
+found : {X Y : Type 0} (f : X → Option Y) (o : Option X) (y : Y) → option_and_then f o ≡ Some y → (x : X) × (o ≡ Some x) × (f x ≡ Some y)
+found f None y e = absurd (cc e)
+found f (Some x) y e = (x, refl, e)
 
-run_all : (p : ℕ → Bool) (xs : List ℕ) → list_all p xs ≡ true → take_while p xs ≡ xs
-run_all p [] h = refl
-run_all p (x ∷ xs) h =
-    let parts = and_parts (p x) (list_all p xs) h in
-    take_while-cons p x xs ∙ cond-true (p x) _ _ parts.0 ∙ ap (λ (l : List ℕ). x ∷ l) (run_all p xs parts.1)
-
-behind_is : (xs rest : List ℕ) → drop (length xs) (xs ++ rest) ≡ rest
-behind_is [] rest = refl
-behind_is (x ∷ xs) rest = behind_is xs rest
+mapped : {X Y : Type 0} (f : X → Y) (o : Option X) (y : Y) → option_map f o ≡ Some y → (x : X) × (o ≡ Some x) × (f x ≡ y)
+mapped f None y e = absurd (cc e)
+mapped f (Some x) y e = (x, refl, cc e)
 
 -- a text that starts with a needle
 opened : (xs needle : List ℕ) → starts_with nat_eq xs needle ≡ true → xs ≡ needle ++ drop (length needle) xs
 opened xs needle e =
     sym (take-append-drop (length needle) xs) ∙ ap (λ (l : List ℕ). l ++ drop (length needle) xs) (sym ((bytes_decides needle (take (length needle) xs)).0 e))
 
-chosen : (b : Bool) (said told : Line) → cond b (Some said) None ≡ Some told → (b ≡ true) × (said ≡ told)
-chosen true said told e = (refl, cc e)
-chosen false said told e = absurd (cc e)
+-- a text is its run and what follows, and the run passes
+run_split : (p : ℕ → Bool) (xs : List ℕ) → xs ≡ take_while p xs ++ drop (length (take_while p xs)) xs
+run_split p xs =
+    sym (take-append-drop (prefix_len p xs) xs) ∙ ap (λ (n : ℕ). take_while p xs ++ drop n xs) (sym (length-prefix_len p xs))
 
-both : (a b : Bool) → a ≡ true → b ≡ true → (a && b) ≡ true
-both true b p q = q
-both false b p q = absurd (cc p)
+run_passes : (p : ℕ → Bool) (xs : List ℕ) → list_all p (take_while p xs) ≡ true
+run_passes p [] = refl
+run_passes p (x ∷ xs) =
+    ⊎_elim
+    (λ yes. ap (list_all p) (take_while-cons p x xs ∙ cond-true (p x) _ _ yes) ∙ both (p x) _ yes (run_passes p xs))
+    (λ ne. ap (list_all p) (take_while-cons p x xs ∙ cond-false (p x) _ _ ne))
+    (cases_Bool (p x))
 
-nothing_left : (xs : List ℕ) → (length xs == 0) ≡ true → xs ≡ []
-nothing_left xs e = nil_from_length xs (grind (arith, nat_tests))
+-- a first word is a word and a space, whatever stands behind them
+abbrev Cut : List ℕ → List ℕ × List ℕ → Type 0
+Cut text cut = IsTrue (is_word cut.0) × (text ≡ cut.0 ++ codes " " ++ cut.1)
 
+cut_of : (text : List ℕ) (cut : List ℕ × List ℕ) → first_word text ≡ Some cut → Cut text cut
+unfolding first_word
+cut_of text cut e =
+    let word = take_while is_word_byte text in
+    let rest = drop (length word) text in
+    let told = chosen (not (length word == 0) && starts_with nat_eq rest (codes " ")) (word, drop 1 rest) cut e in
+    let parts = and_parts (not (length word == 0)) (starts_with nat_eq rest (codes " ")) told.0 in
+    subst (Cut text) told.1 (
+      both (not (length word == 0)) (list_all is_word_byte word) parts.0 (run_passes is_word_byte text),
+      run_split is_word_byte text ∙ ap (λ (l : List ℕ). word ++ l) (opened rest (codes " ") parts.1) ∙ sym (append_assoc word (codes " ") (drop 1 rest)),
+    )
+
+first_word_is : (word rest : List ℕ) → is_word word ≡ true → first_word (word ++ codes " " ++ rest) ≡ Some (word, rest)
+unfolding first_word
+first_word_is word rest h =
+    let parts = and_parts (not (length word == 0)) (list_all is_word_byte word) h in
+    ap first_word (append_assoc word (codes " ") rest)
+    ∙ ap (λ (w : List ℕ). told w (drop (length w) (word ++ 32 ∷ rest))) (run_is is_word_byte word 32 rest parts.1 refl)
+    ∙ ap (told word) (drop-append_seam word (32 ∷ rest))
+    ∙ cond-true (not (length word == 0) && true) _ _ (both _ true parts.0 refl)
+  where
+    told : List ℕ → List ℕ → Option (List ℕ × List ℕ)
+    told w behind = cond (not (length w == 0) && starts_with nat_eq behind (codes " ")) (Some (w, drop 1 behind)) None
+
+-- a path has no space
 first_of_five : (a b c d e : Bool) → (a && b && c && d && e) ≡ true → a ≡ true
 first_of_five true b c d e h = refl
 first_of_five false b c d e h = absurd (cc h)
 
-nothing_behind : (xs : List ℕ) → drop (length xs) xs ≡ []
-nothing_behind [] = refl
-nothing_behind (x ∷ xs) = nothing_behind xs
-
--- a path has no space
 path_words : (xs : List ℕ) → list_all is_path_byte xs ≡ true → list_all is_word_byte xs ≡ true
 path_words [] h = refl
 path_words (x ∷ xs) h =
@@ -79,64 +91,42 @@ path_words (x ∷ xs) h =
     no_space : (x : ℕ) → is_path_byte x ≡ true → is_word_byte x ≡ true
     no_space x e = let h = first_of_five (nat_le 33 x) (nat_le x 126) (not (x == 36)) (not (x == 35)) (not (x == 92)) e in grind (arith, nat_tests)
 
-path_is_word : (path : List ℕ) → is_path path ≡ true → list_all is_word_byte path ≡ true
+path_is_word : (path : List ℕ) → is_path path ≡ true → is_word path ≡ true
 unfolding is_path
-path_is_word path e = path_words path (and_parts _ _ (and_parts _ _ e).0).1
+path_is_word path e =
+    let bytes = and_parts _ _ (and_parts _ _ e).0 in
+    both (not (length path == 0)) _ (and_parts _ _ bytes.0).0 (path_words path bytes.1)
 
 says_sync : (line words : List ℕ) (said : Line) → line ≡ codes "sync " ++ words → sync_line words ≡ Some said → Says line said
 unfolding sync_line
 says_sync line words said is e =
-    let kconfig = take_while is_word_byte words in
-    let rest = drop (length kconfig) words in
-    let told = chosen (starts_with nat_eq rest (codes " ") && (is_path kconfig && is_path (drop 1 rest))) (Sync kconfig (drop 1 rest)) said e in
-    let parts = and_parts (starts_with nat_eq rest (codes " ")) (is_path kconfig && is_path (drop 1 rest)) told.0 in
-    let paths = and_parts (is_path kconfig) (is_path (drop 1 rest)) parts.1 in
-    subst (Says line) told.1 (
-      paths.0,
-      paths.1,
-      is ∙ ap (λ (l : List ℕ). codes "sync " ++ l) (run_split is_word_byte words ∙ ap (λ (l : List ℕ). kconfig ++ l) (opened rest (codes " ") parts.0)) ∙ sync_join kconfig (drop 1 rest),
+    let cut = found (λ (c : List ℕ × List ℕ). cond (is_path c.0 && is_path c.1) (Some (Sync c.0 c.1)) None) (first_word words) said e in
+    let told = chosen (is_path cut.0.0 && is_path cut.0.1) (Sync cut.0.0 cut.0.1) said cut.2 in
+    let paths = and_parts (is_path cut.0.0) (is_path cut.0.1) told.0 in
+    subst (Says line) told.1 (paths.0, paths.1, is ∙ ap (λ (l : List ℕ). codes "sync " ++ l) (cut_of words cut.0 cut.1).1)
+
+four_pieces : (a b c d e : List ℕ) → a ++ b ++ (c ++ d ++ e) ≡ a ++ b ++ c ++ d ++ e
+four_pieces a b c d e = sym (append_assoc (a ++ b) (c ++ d) e) ∙ ap (λ (l : List ℕ). l ++ e) (sym (append_assoc (a ++ b) c d))
+
+says_record : (line words : List ℕ) (said : Line) → line ≡ codes "record " ++ words → record_line words ≡ Some said → Says line said
+unfolding record_line
+says_record line words said is e =
+    let cut = found (λ (c : List ℕ × List ℕ). option_map (λ (b : List ℕ × List ℕ). Record c.0 b.0 b.1) (first_word c.1)) (first_word words) said e in
+    let behind = mapped (λ (b : List ℕ × List ℕ). Record cut.0.0 b.0 b.1) (first_word cut.0.1) said cut.2 in
+    let first = cut_of words cut.0 cut.1 in
+    let second = cut_of cut.0.1 behind.0 behind.1 in
+    subst (Says line) behind.2 (
+      first.0,
+      second.0,
+      is ∙ ap (λ (l : List ℕ). codes "record " ++ l)
+          (first.1 ∙ ap (λ (l : List ℕ). cut.0.0 ++ codes " " ++ l) second.1 ∙ four_pieces cut.0.0 (codes " ") behind.0.0 (codes " ") behind.0.1),
     )
-  where
-    sync_join : (a b : List ℕ) → codes "sync " ++ (a ++ (codes " " ++ b)) ≡ codes "sync " ++ a ++ codes " " ++ b
-    sync_join a b = ap (λ (l : List ℕ). codes "sync " ++ l) (sym (append_assoc a (codes " ") b))
 
 says_stale : (line words : List ℕ) (said : Line) → line ≡ codes "stale " ++ words → stale_line words ≡ Some said → Says line said
 unfolding stale_line
 says_stale line words said is e =
     let told = chosen (is_word words) (Stale words) said e in
     subst (Says line) told.1 (told.0, is)
-
-three_words : (a b c : List ℕ) → (((a ++ codes " ") ++ b) ++ codes " ") ++ c ≡ a ++ (codes " " ++ (b ++ (codes " " ++ c)))
-three_words a b c =
-    append_assoc ((a ++ codes " ") ++ b) (codes " ") c
-    ∙ append_assoc (a ++ codes " ") b (codes " " ++ c)
-    ∙ append_assoc a (codes " ") (b ++ (codes " " ++ c))
-
-says_record : (line words : List ℕ) (said : Line) → line ≡ codes "record " ++ words → record_line words ≡ Some said → Says line said
-unfolding record_line
-says_record line words said is e =
-    let depfile = take_while is_word_byte words in
-    let rest = drop (length depfile) words in
-    let target = take_while is_word_byte (drop 1 rest) in
-    let behind = drop (length target) (drop 1 rest) in
-    let first = not (length depfile == 0) && starts_with nat_eq rest (codes " ") in
-    let second = not (length target == 0) && starts_with nat_eq behind (codes " ") in
-    let told = chosen (first && second) (Record depfile target (drop 1 behind)) said e in
-    let parts = and_parts first second told.0 in
-    let one = and_parts (not (length depfile == 0)) (starts_with nat_eq rest (codes " ")) parts.0 in
-    let two = and_parts (not (length target == 0)) (starts_with nat_eq behind (codes " ")) parts.1 in
-    subst (Says line) told.1 (
-      both (not (length depfile == 0)) (list_all is_word_byte depfile) one.0 (run_passes is_word_byte words),
-      both (not (length target == 0)) (list_all is_word_byte target) two.0 (run_passes is_word_byte (drop 1 rest)),
-      is ∙ ap (λ (l : List ℕ). codes "record " ++ l)
-          (run_split is_word_byte words
-          ∙ ap (λ (l : List ℕ). depfile ++ l) (opened rest (codes " ") one.1)
-          ∙ ap (λ (l : List ℕ). depfile ++ (codes " " ++ l)) (run_split is_word_byte (drop 1 rest) ∙ ap (λ (l : List ℕ). target ++ l) (opened behind (codes " ") two.1)))
-          ∙ record_join depfile target (drop 1 behind),
-    )
-  where
-    record_join : (a b c : List ℕ) → codes "record " ++ (a ++ (codes " " ++ (b ++ (codes " " ++ c)))) ≡ codes "record " ++ a ++ codes " " ++ b ++ codes " " ++ c
-    record_join a b c = ap (λ (l : List ℕ). codes "record " ++ l) (sym (three_words a b c))
 
 spelled : (line : List ℕ) (said : Line) → script_line line ≡ Some said → Says line said
 unfolding script_line
@@ -152,50 +142,27 @@ spelled line said e =
     (λ yes. says_record line (drop 7 line) said (opened line (codes "record ") yes) (sym (cond-true second _ _ yes) ∙ rest))
     (λ no_record.
     let last : cond third (stale_line (drop 6 line)) None ≡ Some said = sym (cond-false second _ _ no_record) ∙ rest in
-    ⊎_elim
-    (λ yes. says_stale line (drop 6 line) said (opened line (codes "stale ") yes) (sym (cond-true third _ _ yes) ∙ last))
-    (λ none. let bad : None ≡ Some said = sym (cond-false third _ _ none) ∙ last in absurd (cc bad))
-    (cases_Bool third))
+    let yes = chosen_line third (stale_line (drop 6 line)) said last in
+    says_stale line (drop 6 line) said (opened line (codes "stale ") yes.0) yes.1)
     (cases_Bool second))
     (cases_Bool first)
-
-sync_is : (kconfig dotconfig : List ℕ) → is_path kconfig ≡ true → is_path dotconfig ≡ true → sync_line (kconfig ++ 32 ∷ dotconfig) ≡ Some (Sync kconfig dotconfig)
-unfolding sync_line
-sync_is kconfig dotconfig k d =
-    let words = kconfig ++ 32 ∷ dotconfig in
-    ap (λ (n : List ℕ). cond (starts_with nat_eq (drop (length n) words) (codes " ") && (is_path n && is_path (drop 1 (drop (length n) words)))) (Some (Sync n (drop 1 (drop (length n) words)))) None)
-    (run_is is_word_byte kconfig 32 dotconfig (path_is_word kconfig k) refl)
-    ∙ ap (λ (b : List ℕ). cond (starts_with nat_eq b (codes " ") && (is_path kconfig && is_path (drop 1 b))) (Some (Sync kconfig (drop 1 b))) None) (behind_is kconfig (32 ∷ dotconfig))
-    ∙ cond-true (is_path kconfig && is_path dotconfig) (Some (Sync kconfig dotconfig)) None (both (is_path kconfig) (is_path dotconfig) k d)
-
-record_is : (depfile target command : List ℕ) → is_word depfile ≡ true → is_word target ≡ true → record_line (depfile ++ 32 ∷ (target ++ 32 ∷ command)) ≡ Some (Record depfile target command)
-unfolding record_line
-record_is depfile target command d t =
-    let words = depfile ++ 32 ∷ (target ++ 32 ∷ command) in
-    let d_parts = and_parts (not (length depfile == 0)) (list_all is_word_byte depfile) d in
-    let t_parts = and_parts (not (length target == 0)) (list_all is_word_byte target) t in
-    ap (λ (n : List ℕ). behind_of n (drop (length n) words)) (run_is is_word_byte depfile 32 (target ++ 32 ∷ command) d_parts.1 refl)
-    ∙ ap (behind_of depfile) (behind_is depfile (32 ∷ (target ++ 32 ∷ command)))
-    ∙ ap (λ (n : List ℕ). told depfile true n (drop (length n) (target ++ 32 ∷ command))) (run_is is_word_byte target 32 command t_parts.1 refl)
-    ∙ ap (told depfile true target) (behind_is target (32 ∷ command))
-    ∙ cond-true ((not (length depfile == 0) && true) && (not (length target == 0) && true)) (Some (Record depfile target command)) None
-    (both (not (length depfile == 0) && true) (not (length target == 0) && true) (both (not (length depfile == 0)) true d_parts.0 refl) (both (not (length target == 0)) true t_parts.0 refl))
   where
-    told : List ℕ → Bool → List ℕ → List ℕ → Option Line
-    told dep spaced tar behind = cond ((not (length dep == 0) && spaced) && (not (length tar == 0) && starts_with nat_eq behind (codes " "))) (Some (Record dep tar (drop 1 behind))) None
-
-    behind_of : List ℕ → List ℕ → Option Line
-    behind_of dep rest = told dep (starts_with nat_eq rest (codes " ")) (take_while is_word_byte (drop 1 rest)) (drop (length (take_while is_word_byte (drop 1 rest))) (drop 1 rest))
-
-stale_is : (target : List ℕ) → is_word target ≡ true → stale_line target ≡ Some (Stale target)
-unfolding stale_line
-stale_is target t = cond-true (is_word target) _ _ t
+    chosen_line : (b : Bool) (o : Option Line) (told : Line) → cond b o None ≡ Some told → (b ≡ true) × (o ≡ Some told)
+    chosen_line true o told h = (refl, h)
+    chosen_line false o told h = absurd (cc h)
 
 spells : (line : List ℕ) (said : Line) → Says line said → script_line line ≡ Some said
-unfolding script_line
-spells line (Sync kconfig dotconfig) h = ap script_line h.2 ∙ ap sync_line (append_assoc kconfig (codes " ") dotconfig) ∙ sync_is kconfig dotconfig h.0 h.1
-spells line (Record depfile target command) h = ap script_line h.2 ∙ ap record_line (three_words depfile target command) ∙ record_is depfile target command h.0 h.1
-spells line (Stale target) h = ap script_line h.1 ∙ stale_is target h.0
+unfolding script_line sync_line record_line stale_line
+spells line (Sync kconfig dotconfig) h =
+    ap script_line h.2
+    ∙ ap (option_and_then (λ (c : List ℕ × List ℕ). cond (is_path c.0 && is_path c.1) (Some (Sync c.0 c.1)) None)) (first_word_is kconfig dotconfig (path_is_word kconfig h.0))
+    ∙ cond-true (is_path kconfig && is_path dotconfig) _ _ (both (is_path kconfig) (is_path dotconfig) h.0 h.1)
+spells line (Record depfile target command) h =
+    ap script_line h.2
+    ∙ ap record_line (sym (four_pieces depfile (codes " ") target (codes " ") command))
+    ∙ ap (option_and_then (λ (c : List ℕ × List ℕ). option_map (λ (b : List ℕ × List ℕ). Record c.0 b.0 b.1) (first_word c.1))) (first_word_is depfile (target ++ codes " " ++ command) h.0)
+    ∙ ap (option_map (λ (b : List ℕ × List ℕ). Record depfile b.0 b.1)) (first_word_is target command h.1)
+spells line (Stale target) h = ap script_line h.1 ∙ cond-true (is_word target) _ _ h.0
 
 pub lines_are_spelled : LinesAreSpelled
 lines_are_spelled line said = (spelled line said, spells line said)

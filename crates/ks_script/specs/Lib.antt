@@ -1,3 +1,4 @@
 pub mod Script
 pub mod ScriptRefusals
 pub mod Laws
+pub mod Examples

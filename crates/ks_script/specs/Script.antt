@@ -1,5 +1,5 @@
 -- What a script asks for, line by line. A rule of this project.
-use Rattle.std.specs.Prelude.{◌≡◌, ℕ, ◌++◌, ◌&&◌, ◌==◌, Bool, not, nat_eq, IsTrue, List, length, drop, codes, take_while, Option, Some, None, if◌then◌else◌}
+use Rattle.std.specs.Prelude.{◌≡◌, ℕ, ◌++◌, ◌&&◌, ◌==◌, Bool, not, nat_eq, IsTrue, List, length, drop, codes, take_while, Option, Some, None, option_map, option_and_then, if◌then◌else◌}
 use Rattle.std.specs.List.{starts_with, list_all, filter_map}
 use Rattle.ks_symbols.specs.Names.{is_path}
 use Rattle.ks_symbols.specs.Lines.{lines}
@@ -25,20 +25,19 @@ Says line (Sync kconfig dotconfig) = IsTrue (is_path kconfig) × IsTrue (is_path
 Says line (Record depfile target command) = IsTrue (is_word depfile) × IsTrue (is_word target) × (line ≡ codes "record " ++ depfile ++ codes " " ++ target ++ codes " " ++ command)
 Says line (Stale target) = IsTrue (is_word target) × (line ≡ codes "stale " ++ target)
 
--- The same as a function: the one thing that a line asks for, by what stands up to the first space and behind it.
+-- the first word, and what stands behind the space that ends it
+unfoldable pub first_word : List ℕ → Option (List ℕ × List ℕ)
+first_word text =
+    let word = take_while is_word_byte text in
+    let rest = drop (length word) text in
+    if not (length word == 0) && starts_with nat_eq rest (codes " ") then Some (word, drop 1 rest) else None
+
+-- The same as a function: the one thing that a line asks for, word by word.
 unfoldable pub sync_line : List ℕ → Option Line
-sync_line words =
-    let kconfig = take_while is_word_byte words in
-    let rest = drop (length kconfig) words in
-    if starts_with nat_eq rest (codes " ") && (is_path kconfig && is_path (drop 1 rest)) then Some (Sync kconfig (drop 1 rest)) else None
+sync_line words = option_and_then (λ cut. if is_path cut.0 && is_path cut.1 then Some (Sync cut.0 cut.1) else None) (first_word words)
 
 unfoldable pub record_line : List ℕ → Option Line
-record_line words =
-    let depfile = take_while is_word_byte words in
-    let rest = drop (length depfile) words in
-    let target = take_while is_word_byte (drop 1 rest) in
-    let behind = drop (length target) (drop 1 rest) in
-    if (not (length depfile == 0) && starts_with nat_eq rest (codes " ")) && (not (length target == 0) && starts_with nat_eq behind (codes " ")) then Some (Record depfile target (drop 1 behind)) else None
+record_line words = option_and_then (λ cut. option_map (λ behind. Record cut.0 behind.0 behind.1) (first_word cut.1)) (first_word words)
 
 unfoldable pub stale_line : List ℕ → Option Line
 stale_line words = if is_word words then Some (Stale words) else None

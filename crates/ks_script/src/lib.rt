@@ -6,5 +6,8 @@ mod laws;
 mod script;
 
 pub use error::ScriptError;
-pub use laws::lines_are_spelled;
+pub use laws::{examples_hold, lines_are_spelled};
 pub use script::{ScriptLine, read_script};
+
+#[cfg(test)]
+mod tests;

@@ -5,7 +5,7 @@
 //! The form is a rule of this project.
 ghost use Rattle.std.specs.Prelude.{◌≡◌, ◌++◌, [], length, map, option_map, take_while, drop, OnOk, IfOk};
 ghost use Rattle.std.specs.List.{cons_option, list_all};
-ghost use Rattle.ks_script.specs.Script.{is_word_byte, is_word, seen_line, sync_line, record_line, stale_line, script_line, script_lines};
+ghost use Rattle.ks_script.specs.Script.{is_word_byte, is_word, first_word, seen_line, sync_line, record_line, stale_line, script_line, script_lines};
 ghost use Rattle.ks_script.specs.ScriptRefusals.{line_fault, script_refusal, RefusedBy};
 
 use crate::error::ScriptError;
@@ -55,15 +55,24 @@ fn split_word(text: &[u8]) -> (&[u8], &[u8])
     text.split_at(end)
 }
 
+/// The first word, and what stands behind the space that ends it.
+#[tactic(auto, unfolding(crate::specs::Script::first_word))]
+fn first_word(text: &[u8]) -> Option<(&[u8], &[u8])>
+    ensures { option_map (λ cut. (cut.0.now, cut.1.now)) result ≡ first_word text.now }
+{
+    let (word, rest) = split_word(text);
+    if !word.is_empty() && rest.starts_with(b" ") {
+        Some((word, &rest[1..]))
+    } else {
+        None
+    }
+}
+
 #[tactic(auto, unfolding(crate::specs::Script::sync_line))]
 fn sync_line(words: &[u8]) -> Option<ScriptLine<'_>>
     ensures { option_map seen_line result ≡ sync_line words.now }
 {
-    let (kconfig, rest) = split_word(words);
-    if !rest.starts_with(b" ") {
-        return None;
-    }
-    let dotconfig = &rest[1..];
+    let (kconfig, dotconfig) = first_word(words)?;
     if path_is_legal(kconfig) && path_is_legal(dotconfig) {
         Some(ScriptLine::Sync { kconfig, dotconfig })
     } else {
@@ -75,20 +84,13 @@ fn sync_line(words: &[u8]) -> Option<ScriptLine<'_>>
 fn record_line(words: &[u8]) -> Option<ScriptLine<'_>>
     ensures { option_map seen_line result ≡ record_line words.now }
 {
-    let (depfile, rest) = split_word(words);
-    if depfile.is_empty() || !rest.starts_with(b" ") {
-        return None;
-    }
-    let (target, behind) = split_word(&rest[1..]);
-    if !target.is_empty() && behind.starts_with(b" ") {
-        Some(ScriptLine::Record {
-            depfile,
-            target,
-            command: &behind[1..],
-        })
-    } else {
-        None
-    }
+    let (depfile, rest) = first_word(words)?;
+    let (target, command) = first_word(rest)?;
+    Some(ScriptLine::Record {
+        depfile,
+        target,
+        command,
+    })
 }
 
 #[tactic(auto, unfolding(crate::specs::Script::stale_line))]

@@ -6,6 +6,7 @@ use std::process::Abort;
 use std::test::Fail;
 
 mod commands;
+mod failing_output;
 mod golden;
 mod help;
 mod refusals;

@@ -1,167 +1,102 @@
-//! Worked examples over a tree in memory: tables of what is asked, and of the status and all that is printed.
-use crate::*;
-use ks_tree::{FuseMode, FuseTree, MemoryTree, Tree};
+//! Previews from bytes to bytes: what they print, and why there is none.
+use super::*;
+use ks_symbols::SourceError;
 use std::alloc::{AllocError, Global};
-use std::process::Abort;
-use std::test::Fail;
 
-mod failing_output;
-mod golden;
-mod previews;
-mod refusals;
-mod scripts;
+/// A title, a bool and a tristate.
+const DEMO: &[u8] = b"mainmenu \"Demo\"\nconfig A\n\tbool\nconfig B\n\ttristate\n";
 
-use golden::*;
+/// The auto.conf of both symbols, at generation 1.
+const DEMO_AUTO: &[u8] = br#"#
+# Automatically generated file; DO NOT EDIT.
+# Demo
+#
+CONFIG_A=y
+CONFIG_B=m
+#generation 1
+"#;
 
-/// One thing done to a tree.
-#[derive(Clone, Copy, Debug)]
-enum Step<'a> {
-    Sync(&'a str, &'a str),
-    Preview(&'a str, &'a str),
-    PreviewOver(&'a str, &'a str, &'a str),
-    Fixdep(&'a str, &'a str, &'a str),
-    Record(&'a str, &'a str, &'a str),
-    Stale(&'a [&'a str]),
-    Outdated(&'a str, &'a str),
-    Batch(&'a str),
-    Put(&'a str, &'a str),
-    Read(&'a str),
-}
-
-fn text(bytes: &[u8]) -> &str {
-    str::from_utf8(bytes).unwrap_or("not text")
-}
-
-fn owned(alloc: Global, word: &str) -> Result<String, AllocError> {
-    String::from_str(alloc, word)
-}
-
-fn stale_request(alloc: Global, words: &[&str]) -> Result<Request, AllocError> {
-    let mut targets = Vec::new(alloc);
-    for word in words {
-        targets.push(owned(alloc, *word)?)?;
-    }
-    Ok(Request::Stale { targets })
-}
-
-fn preview_request(
+/// What the preview of two texts and an old auto.conf writes, or why there is none.
+fn outcome(
     alloc: Global,
-    kconfig: &str,
-    dotconfig: &str,
-    old: Option<&str>,
-) -> Result<Request, AllocError> {
-    let old = match old {
-        Some(path) => Some(owned(alloc, path)?),
-        None => None,
-    };
-    Ok(Request::Preview {
-        kconfig: owned(alloc, kconfig)?,
-        dotconfig: owned(alloc, dotconfig)?,
-        old,
-    })
-}
-
-/// The request of a step, where it is one.
-fn request_of(alloc: Global, step: Step<'_>) -> Result<Option<Request>, AllocError> {
-    Ok(Some(match step {
-        Step::Sync(kconfig, dotconfig) => Request::Sync {
-            kconfig: owned(alloc, kconfig)?,
-            dotconfig: owned(alloc, dotconfig)?,
-        },
-        Step::Preview(kconfig, dotconfig) => preview_request(alloc, kconfig, dotconfig, None)?,
-        Step::PreviewOver(kconfig, dotconfig, old) => {
-            preview_request(alloc, kconfig, dotconfig, Some(old))?
-        }
-        Step::Fixdep(depfile, target, command) => Request::Fixdep {
-            depfile: owned(alloc, depfile)?,
-            target: owned(alloc, target)?,
-            command: owned(alloc, command)?,
-        },
-        Step::Record(depfile, target, command) => Request::Record {
-            depfile: owned(alloc, depfile)?,
-            target: owned(alloc, target)?,
-            command: owned(alloc, command)?,
-        },
-        Step::Stale(words) => stale_request(alloc, words)?,
-        Step::Outdated(target, command) => Request::Outdated {
-            target: owned(alloc, target)?,
-            command: owned(alloc, command)?,
-        },
-        Step::Batch(script) => Request::Batch {
-            script: owned(alloc, script)?,
-        },
-        Step::Put(..) | Step::Read(..) => return Ok(None),
-    }))
-}
-
-/// The bytes of a file as text.
-fn shown<T: Tree>(alloc: Global, tree: &mut T, path: &str) -> Result<String, Fail> {
-    match tree.read(alloc, path.as_bytes())? {
-        Some(bytes) => Ok(owned(alloc, text(&bytes))?),
-        None => Ok(owned(alloc, "none")?),
-    }
-}
-
-/// What comes of a step: what was read, or the status, the output and standard error, one behind the other.
-fn told<T: Tree>(alloc: Global, tree: &mut T, step: Step<'_>) -> Result<String, Fail> {
-    if let Step::Put(path, bytes) = step {
-        tree.write(alloc, path.as_bytes(), bytes.as_bytes())?;
-        return Ok(owned(alloc, "done")?);
-    }
-    if let Step::Read(path) = step {
-        return shown(alloc, tree, path);
-    }
-    let Some(request) = request_of(alloc, step)? else {
-        return Ok(owned(alloc, "no request")?);
-    };
+    kconfig: &[u8],
+    dotconfig: &[u8],
+    old: Option<&[u8]>,
+) -> Result<String, AllocError> {
     let mut out: Vec<u8> = Vec::new(alloc);
-    let mut err: Vec<u8> = Vec::new(alloc);
-    let status = perform(alloc, tree, &request, &mut out, &mut err);
-    let (out, err) = (text(&out), text(&err));
-    Ok(format!(in alloc; "{status} {out}{err}")?)
+    match preview_to(alloc, kconfig, dotconfig, old, &mut out) {
+        Ok(()) => String::from_utf8_lossy(alloc, &out),
+        Err(error) => error.to_string(alloc),
+    }
 }
 
-/// Takes the steps one after another, each with what is to come of it.
-fn play<T: Tree>(
-    rt: &impl Abort,
-    alloc: Global,
-    tree: &mut T,
-    steps: &[(Step<'_>, &str)],
-) -> Result<(), Fail> {
-    for (step, want) in steps {
-        let found = told(alloc, tree, *step)?;
-        assert_eq!(rt; found.as_str(), *want, "{step:?}");
+/// The lines of a preview's auto.conf that its title and entries stand between.
+fn whole(alloc: Global, touches: &str, title: &str, rest: &str) -> Result<String, AllocError> {
+    format!(in alloc;
+        "{touches}#\n# Automatically generated file; DO NOT EDIT.\n# {title}\n#\n{rest}"
+    )
+}
+
+#[test]
+#[rattlefmt::skip]
+fn previews(rt: HostRuntime) -> Result<(), AllocError> {
+    let alloc = rt.alloc();
+    let rows: [(&str, &[u8], &[u8], Option<&[u8]>, &str, &str, &str); 8] = [
+        ("a first one", DEMO, b"CONFIG_A=y\nCONFIG_B=m\n", None,
+            "touch A\ntouch B\n", "Demo", "CONFIG_A=y\nCONFIG_B=m\n#generation 1\n"),
+        ("CR LF and no end", DEMO, b"CONFIG_A=y\r\nCONFIG_B=m", None,
+            "touch A\ntouch B\n", "Demo", "CONFIG_A=y\nCONFIG_B=m\n#generation 1\n"),
+        ("the last line counts", DEMO, b"CONFIG_A=y\n# CONFIG_A is not set\nCONFIG_ZZ=7\n", None,
+            "", "Demo", "#generation 1\n"),
+        ("nothing", b"", b"", None, "", "Main menu", "#generation 1\n"),
+        ("nothing changed", DEMO, b"CONFIG_A=y\nCONFIG_B=m\n", Some(DEMO_AUTO),
+            "", "Demo", "CONFIG_A=y\nCONFIG_B=m\n#generation 2\n"),
+        ("one vanished, one changed", b"mainmenu \"Demo\"\nconfig B\n\ttristate\n", b"CONFIG_A=y\nCONFIG_B=y\n", Some(DEMO_AUTO),
+            "touch A\ntouch B\n", "Demo", "CONFIG_B=y\n#generation 2\n"),
+        ("an empty string", b"config S\n\tstring\n", b"CONFIG_S=\"\"\n", Some(b""),
+            "touch S\n", "Main menu", "CONFIG_S=\n#generation 1\n"),
+        ("a string and a number", b"config S\n\tstring\nconfig H\n\thex\n", b"CONFIG_S=\"a\\\"b\\\\c\"\nCONFIG_H=0X1F\n", None,
+            "touch H\ntouch S\n", "Main menu", "CONFIG_H=0X1F\nCONFIG_S=a\"b\\c\n#generation 1\n"),
+    ];
+    for (name, kconfig, dotconfig, old, touches, title, rest) in rows {
+        let want = whole(alloc, touches, title, rest)?;
+        let found = outcome(alloc, kconfig, dotconfig, old)?;
+        assert!(rt; found.as_str() == want.as_str(), "{name}");
     }
     Ok(())
 }
 
-/// A tree with the inputs of all examples.
-fn world(rt: &impl Abort, alloc: Global) -> Result<MemoryTree, Fail> {
-    let mut tree = MemoryTree::new(alloc);
-    play(rt, alloc, &mut tree, INPUTS)?;
-    Ok(tree)
-}
-
 #[test]
-fn each_command_once(rt: HostRuntime) -> Result<(), Fail> {
-    let mut tree = world(&rt, rt.alloc())?;
-    play(&rt, rt.alloc(), &mut tree, EACH_COMMAND)
-}
-
-#[test]
-fn questions_about_objects(rt: HostRuntime) -> Result<(), Fail> {
-    let mut tree = world(&rt, rt.alloc())?;
-    play(&rt, rt.alloc(), &mut tree, QUESTIONS)
-}
-
-#[test]
-fn a_tree_without_its_auto_conf(rt: HostRuntime) -> Result<(), Fail> {
-    let mut tree = world(&rt, rt.alloc())?;
-    play(&rt, rt.alloc(), &mut tree, WITHOUT_AUTO_CONF)
-}
-
-#[test]
-fn a_tree_of_the_usual_tool(rt: HostRuntime) -> Result<(), Fail> {
-    let mut tree = world(&rt, rt.alloc())?;
-    play(&rt, rt.alloc(), &mut tree, USUAL_TREE)
+#[rattlefmt::skip]
+fn refusals(rt: HostRuntime) -> Result<(), AllocError> {
+    let alloc = rt.alloc();
+    let rows: [(&[u8], &[u8], Option<&[u8]>, &str); 13] = [
+        (b"config A\n\tbool\n\thelp\n", b"", None, "1 NotBare line 3"),
+        (b"config A-B\n\tbool\n", b"", None, "2 BadName line 1"),
+        (b"config FOO_MODULE\n\tbool\n", b"", None, "3 ModuleName line 1"),
+        (b"config A\nconfig B\n\tbool\n", b"", None, "4 NoType line 1"),
+        (b"config A\n\tbool\nconfig A\n\ttristate\n", b"", None, "5 TypeClash line 4"),
+        (b"mainmenu \"a*/b\"\n", b"", None, "6 BadTitle line 1"),
+        (DEMO, b"\nCONFIG_A = y\n", None, "7 NotAConfigLine line 2"),
+        (DEMO, b"CONFIG_A=m\n", None, "8 BadValue line 1"),
+        (DEMO, b"", Some(b"#\n#\n\n#\nCONFIG_../x=y\n"), "11 BadAuto line 5"),
+        (DEMO, b"", Some(b"#generation 1"), "11 BadAuto line 1"),
+        (DEMO, b"", Some(b"#generation 18446744073709551615\n"), "42 GenerationFull"),
+        (DEMO, b"CONFIG_A=m\n", Some(b"CONFIG_A\n"), "8 BadValue line 1"),
+        (b"config A\n", b"CONFIG_A=m\n", Some(b"CONFIG_A\n"), "4 NoType line 1"),
+    ];
+    for (kconfig, dotconfig, old, want) in rows {
+        let found = outcome(alloc, kconfig, dotconfig, old)?;
+        assert!(rt; found.as_str() == want);
+    }
+    for (error, want) in [
+        (PreviewError::Source(SourceError::TooLarge), "9 TooLarge"),
+        (PreviewError::Source(SourceError::OutOfMemory), "10 OutOfMemory"),
+        (PreviewError::OutOfMemory, "10 OutOfMemory"),
+        (PreviewError::Output, "51 Output"),
+    ] {
+        let text = error.to_string(alloc)?;
+        assert!(rt; text.as_str() == want);
+    }
+    Ok(())
 }

@@ -14,7 +14,7 @@ const USUAL_AUTO: &str = "#\n# Automatically generated file; DO NOT EDIT.\n# Dem
 const HEADER: &str =
     "/*\n * Automatically generated file; DO NOT EDIT.\n * Demo\n */\n#define CONFIG_A 1\n#define CONFIG_B_MODULE 1\n";
 
-const COMMAND_FILE: &str =
+pub const COMMAND_FILE: &str =
     "savedcmd_x.o := cc -c x.c\n\nsource_x.o := x.c\n\ndeps_x.o := \\\n    $(wildcard include/config/A) \\\n    $(wildcard include/config/B) \\\n  a.h \\\n    $(wildcard include/config/C) \\\n  b.h \\\n\nx.o: $(deps_x.o)\n\n$(deps_x.o):\n#generation 1\n";
 
 const CUT_COMMAND_FILE: &str =

@@ -1,9 +1,7 @@
 //! The refusals of a whole command: nothing on the output, one line on standard error, and nothing changed.
 use super::golden::AUTO;
-use super::{Step, execute, play, told, world};
+use super::{Step, play, told, world};
 use ks_tree::{FuseMode, FuseTree, Tree};
-use std::io;
-use std::io::{ErrorKind, Write};
 use std::test::Fail;
 
 #[rattlefmt::skip]
@@ -137,41 +135,4 @@ fn files_above_the_limit(rt: HostRuntime) -> Result<(), Fail> {
     let big: Vec<u8> = vec![in rt.alloc(); b'\n'; 67_108_865]?;
     tree.write(rt.alloc(), b"big", &big)?;
     play(&rt, rt.alloc(), &mut tree, TOO_LARGE)
-}
-
-/// Takes nothing.
-#[derive(Drop)]
-struct Full {}
-
-impl Write for Full {
-    fn write(&mut self, _bytes: &[u8]) -> io::Result<usize> {
-        Err(io::Error::from(ErrorKind::StorageFull))
-    }
-
-    fn flush(&mut self) -> io::Result<()> {
-        Ok(())
-    }
-}
-
-#[test]
-#[rattlefmt::skip]
-fn an_output_that_is_full(rt: HostRuntime) -> Result<(), Fail> {
-    let rows: [&[&str]; 8] = [
-        &["preview", "K1", "c1"],
-        &["fixdep", "x.d", "x.o", "cc"],
-        &["sync", "K1", "c1"],
-        &["record", "x.d", "x.o", "cc -c x.c"],
-        &["stale", "x.o"],
-        &["outdated", "x.o", "cc"],
-        &["batch", "script"],
-        &["--help"],
-    ];
-    let mut tree = world(&rt, rt.alloc())?;
-    play(&rt, rt.alloc(), &mut tree, &[(Step::Put("script", "stale x.o\n"), "done")])?;
-    for words in rows {
-        let mut err: Vec<u8> = Vec::new(rt.alloc());
-        let status = execute(rt.alloc(), &mut tree, words, &mut Full {}, &mut err);
-        assert_eq!(rt; (status, err.as_slice()), (2, b"confstamp: 51 Output\n".as_slice()), "{words:?}");
-    }
-    play(&rt, rt.alloc(), &mut tree, &[(Step::Words(&["stale", "x.o"]), "0 x.o fresh\n")])
 }

@@ -1,8 +1,7 @@
 //! An output that fails: the command's work on the tree stays done, the refusal is told where that goes, and the
 //! status is 2 also where it doesn't.
 use super::golden::{AUTO, COMMAND_FILE};
-use super::{Step, play, request_of, shown, text, world};
-use crate::perform;
+use super::{Step, execute, play, run_over, shown, world};
 use std::alloc::Global;
 use std::io;
 use std::io::{ErrorKind, Write};
@@ -43,7 +42,7 @@ impl Write for Failing {
 /// A command, what was done before it, and a file of the tree as it stands after it.
 struct Case<'a> {
     before: &'a [(Step<'a>, &'a str)],
-    step: Step<'a>,
+    words: &'a [&'a str],
     path: &'a str,
     holds: &'a str,
 }
@@ -52,38 +51,34 @@ struct Case<'a> {
 fn calls_made(rt: &impl Abort, alloc: Global, case: &Case<'_>) -> Result<usize, Fail> {
     let mut tree = world(rt, alloc)?;
     play(rt, alloc, &mut tree, case.before)?;
-    let Some(request) = request_of(alloc, case.step)? else {
-        return Ok(0);
-    };
-    let mut out: Vec<u8> = Vec::new(alloc);
-    let mut err: Vec<u8> = Vec::new(alloc);
-    perform(alloc, &mut tree, &request, &mut out, &mut err);
-    Ok(out.len().saturating_add(1))
+    let run = run_over(alloc, &mut tree, case.words)?;
+    Ok(run.out.len().saturating_add(1))
 }
 
 /// A command over an output that fails after so many calls. The tree is then as after the whole command.
 fn break_off(rt: &impl Abort, alloc: Global, case: &Case<'_>, passes: usize) -> Result<(), Fail> {
     let mut tree = world(rt, alloc)?;
     play(rt, alloc, &mut tree, case.before)?;
-    let Some(request) = request_of(alloc, case.step)? else {
-        return Ok(());
-    };
     let taken = Vec::new(alloc);
     let mut out = Failing { taken, passes };
     let mut err: Vec<u8> = Vec::new(alloc);
-    let status = perform(alloc, &mut tree, &request, &mut out, &mut err);
-    let step = case.step;
-    let place = format!(in alloc; "{passes} {step:?}")?;
+    let status = execute(alloc, &mut tree, case.words, &mut out, &mut err);
+    let words = case.words;
+    let place = format!(in alloc; "{passes} {words:?}")?;
     assert_eq!(rt; status, 2, "{place}");
     assert_eq!(rt; out.taken.len(), passes, "{place}");
-    assert_eq!(rt; text(&err), "confstamp: 51 Output\n", "{place}");
+    assert_eq!(rt;
+        err.as_slice(),
+        b"confstamp: 51 Output\n".as_slice(),
+        "{place}"
+    );
     let left = shown(alloc, &mut tree, case.path)?;
     assert_eq!(rt; left.as_str(), case.holds, "{place}");
     Ok(())
 }
 
 #[rattlefmt::skip]
-const SYNCED: &[(Step<'_>, &str)] = &[(Step::Sync("K1", "c1"), "0 generation 1\ntouch A\ntouch B\nunknown 0\n")];
+const SYNCED: &[(Step<'_>, &str)] = &[(Step::Words(&["sync", "K1", "c1"]), "0 generation 1\ntouch A\ntouch B\nunknown 0\n")];
 
 const SCRIPT: &[(Step<'_>, &str)] = &[(Step::Put("script", "sync K1 c1\nstale x.o\n"), "done")];
 
@@ -91,13 +86,14 @@ const AUTO_PATH: &str = "include/config/auto.conf";
 
 #[rattlefmt::skip]
 const CASES: &[Case<'_>] = &[
-    Case { before: &[], step: Step::Sync("K1", "c1"), path: AUTO_PATH, holds: AUTO },
-    Case { before: &[], step: Step::Preview("K1", "c1"), path: AUTO_PATH, holds: "none" },
-    Case { before: &[], step: Step::Fixdep("x.d", "x.o", "cc"), path: ".x.o.cmd", holds: "none" },
-    Case { before: SYNCED, step: Step::Record("x.d", "x.o", "cc -c x.c"), path: ".x.o.cmd", holds: COMMAND_FILE },
-    Case { before: SYNCED, step: Step::Stale(&["x.o", "y.o"]), path: ".x.o.cmd", holds: "none" },
-    Case { before: SYNCED, step: Step::Outdated("x.o", "cc"), path: ".x.o.cmd", holds: "none" },
-    Case { before: SCRIPT, step: Step::Batch("script"), path: AUTO_PATH, holds: AUTO },
+    Case { before: &[], words: &["sync", "K1", "c1"], path: AUTO_PATH, holds: AUTO },
+    Case { before: &[], words: &["preview", "K1", "c1"], path: AUTO_PATH, holds: "none" },
+    Case { before: &[], words: &["fixdep", "x.d", "x.o", "cc"], path: ".x.o.cmd", holds: "none" },
+    Case { before: SYNCED, words: &["record", "x.d", "x.o", "cc -c x.c"], path: ".x.o.cmd", holds: COMMAND_FILE },
+    Case { before: SYNCED, words: &["stale", "x.o", "y.o"], path: ".x.o.cmd", holds: "none" },
+    Case { before: SYNCED, words: &["outdated", "x.o", "cc"], path: ".x.o.cmd", holds: "none" },
+    Case { before: SCRIPT, words: &["batch", "script"], path: AUTO_PATH, holds: AUTO },
+    Case { before: &[], words: &["help", "batch"], path: AUTO_PATH, holds: "none" },
 ];
 
 #[test]
@@ -115,9 +111,6 @@ fn both_outputs_that_fail(rt: HostRuntime) -> Result<(), Fail> {
     let alloc = rt.alloc();
     for passes in 0..40 {
         let mut tree = world(&rt, alloc)?;
-        let Some(request) = request_of(alloc, Step::Sync("K1", "c1"))? else {
-            return Ok(());
-        };
         let mut out = Failing {
             taken: Vec::new(alloc),
             passes,
@@ -126,7 +119,7 @@ fn both_outputs_that_fail(rt: HostRuntime) -> Result<(), Fail> {
             taken: Vec::new(alloc),
             passes: passes / 2,
         };
-        let status = perform(alloc, &mut tree, &request, &mut out, &mut err);
+        let status = execute(alloc, &mut tree, &["sync", "K1", "c1"], &mut out, &mut err);
         assert_eq!(rt; status, 2, "{passes}");
     }
     Ok(())

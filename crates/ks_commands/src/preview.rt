@@ -105,18 +105,19 @@ pub(crate) fn write_touches(names: &[Name], out: &mut Vec<u8>) -> Result<(), All
     Ok(())
 }
 
-/// The touch lines, and then auto.conf.
+/// The touch lines, and then auto.conf. The names are let go between the two.
 fn preview_text(
     alloc: Global,
-    names: &[Name],
+    names: Vec<Name>,
     settings: &Settings,
     title: &[u8],
     generation: u64,
 ) -> Result<Vec<u8>, AllocError>
-    ensures { IfOk result (λ t. t.items ≡ touch_lines names.now ++ auto_text title.now settings.now.entries generation) }
+    ensures { IfOk result (λ t. t.items ≡ touch_lines names.items ++ auto_text title.now settings.now.entries generation) }
 {
     let mut text = Vec::new(alloc);
-    write_touches(names, &mut text)?;
+    write_touches(&names, &mut text)?;
+    drop(names);
     write_auto(settings, title, generation, &mut text)?;
     Ok(text)
 }
@@ -137,7 +138,7 @@ fn preview_of(
         return Err(PreviewError::GenerationFull);
     }
     let names = changed(alloc, &before, &settings)?;
-    let text = preview_text(alloc, &names, &settings, &title, before.generation() + 1)?;
+    let text = preview_text(alloc, names, &settings, &title, before.generation() + 1)?;
     Ok(text)
 }
 

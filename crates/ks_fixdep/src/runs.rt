@@ -19,7 +19,8 @@ const LONGEST_NAME: usize = 128;
 pub(crate) fn is_word(byte: u8) -> bool
     ensures { result ≡ is_word_byte byte }
 {
-    byte.is_ascii_alphanumeric() || byte == b'_'
+    // without a branch, since this is asked of each byte of a word
+    byte.is_ascii_alphanumeric() | (byte == b'_')
 }
 
 /// The longest run of word bytes that the text begins with.

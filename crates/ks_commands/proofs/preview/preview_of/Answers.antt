@@ -45,7 +45,6 @@ returns-clause-text c =
       are_changes = subst (λ (texts : NameMap (List ℕ)). AreChanges texts entries names) c.in_ok-before.ensures.texts c.in_ok-names.ensures;
       whole =
           c.in_ok-text.ensures
-          ∙ ap (λ (ns : List (List ℕ)). touch_lines ns ++ auto_text c.deref-2.result.now entries (c.generation-2.result + 1)) c.deref.ensures.value
-          ∙ ap (λ (t : List ℕ). touch_lines names ++ auto_text t entries (c.generation-2.result + 1)) (c.deref-2.ensures.value ∙ c.in_ok-title.ensures.title)
+          ∙ ap (λ (t : List ℕ). touch_lines names ++ auto_text t entries (c.generation-2.result + 1)) (c.deref.ensures.value ∙ c.in_ok-title.ensures.title)
           ∙ ap (λ (g : ℕ). touch_lines names ++ auto_text (title_of c.args.kconfig.now) entries (g + 1)) (c.generation-2.ensures ∙ c.in_ok-before.ensures.generation);
     }

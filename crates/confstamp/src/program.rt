@@ -1,5 +1,5 @@
 //! The program over any tree and any two writers: its words in, its status out.
-ghost use Rattle.std.specs.Prelude.{◌≡◌, ◌↔◌, ◌<◌, ℕ, List, ◌∷◌, [], None, codes};
+ghost use Rattle.std.specs.Prelude.{◌≡◌, ◌↔◌, ◌⊎◌, ◌<◌, ◌≤◌, ℕ, List, ◌∷◌, [], None, codes};
 ghost use Rattle.clap.specs.Walk.{texts};
 ghost use Rattle.ks_engine.specs.History.{History};
 ghost use Rattle.ks_engine.specs.Shows.{Shows};
@@ -16,7 +16,9 @@ use std::io::Write;
 
 /// Prints what `clap` has to say in place of a request: help and the version to the output, status 0, and a
 /// mistake in the words to standard error, status 2.
-fn explain<W: Write, E: Write>(error: &clap::Error, out: &mut W, err: &mut E) -> u8 {
+fn explain<W: Write, E: Write>(error: &clap::Error, out: &mut W, err: &mut E) -> u8
+    ensures { (result ≡ 0) ⊎ (result ≡ 2) }
+{
     if error.use_stderr() {
         let _ = write!(err, "{error}");
         let _ = err.flush();
@@ -39,6 +41,7 @@ pub fn execute<'a, T: Tree, W: Write, E: Write>(
     err: &mut E,
 ) -> u8
     ensures honest { T.is_honest tree.old ↔ T.is_honest tree.new }
+    ensures at_most { result ≤ 2 }
     ensures preview { (k d : List ℕ) → texts words.entry.now ≡ codes "preview" ∷ k ∷ d ∷ []
         → IsPlainWord k → IsPlainWord d → T.is_honest tree.old → result ≡ 0
         → WritesPreview (T.files tree.old) k d None (W.contents out.old) (W.contents out.new) }

@@ -9,7 +9,8 @@ use Rattle.ks_output.specs.declared.auto_conf.AutoError.TheVariants as auto
 use Rattle.ks_output.specs.AutoConf.{IsAutoRefusal}
 use Rattle.ks_commands.specs.declared.preview.PreviewError.{PreviewError}
 use Rattle.ks_commands.specs.declared.preview.PreviewError.TheVariants as preview
-use Rattle.ks_commands.specs.Preview.{IsPreviewRefusal, WritesNothing, source_refusal, old_refusal, old_generation, full_refusal, preview_refusal}
+use Rattle.ks_engine.specs.SyncPlan.{source_refusal}
+use Rattle.ks_commands.specs.Preview.{IsPreviewRefusal, WritesNothing, old_refusal, old_generation, full_refusal, preview_refusal}
 
 pub source_refused : (e : SourceError) (r : Option SourceError) (later : Option PreviewError) → IsRefusal e r
     → IsPreviewRefusal (preview.Source e) (or_else (option_map preview.Source r) later)

@@ -3,18 +3,18 @@ use Rattle.std.specs.Prelude.{◌≡◌, ◌+◌, ◌-◌, ◌^◌, ◌==◌, �
 use Rattle.std.specs.FinMap as map
 use Rattle.std.specs.Io.KnownBytes.{Appends}
 use Rattle.ks_symbols.specs.declared.kinds.Kind.{Kind}
-use Rattle.ks_symbols.specs.declared.error.SourceError.{SourceError}
 use Rattle.ks_symbols.specs.declared.error.SourceError.TheVariants as source
 use Rattle.ks_symbols.specs.Lines.{lines}
 use Rattle.ks_symbols.specs.Refusals.{or_else}
 use Rattle.ks_symbols.specs.Configuration.{NameMap}
-use Rattle.ks_symbols.specs.DotConfig.{setting, dotconfig_refusal}
-use Rattle.ks_symbols.specs.Kconfig.{declared, title_of, kconfig_refusal}
+use Rattle.ks_symbols.specs.DotConfig.{setting}
+use Rattle.ks_symbols.specs.Kconfig.{declared, title_of}
 use Rattle.ks_output.specs.declared.auto_conf.AutoError.{AutoError}
 use Rattle.ks_output.specs.declared.auto_conf.AutoError.TheVariants as auto
 use Rattle.ks_output.specs.AutoText.{auto_text}
 use Rattle.ks_output.specs.AutoConf.{auto_map, auto_generation, auto_refusal}
 use Rattle.ks_compare.specs.Changes.{AreChanges}
+use Rattle.ks_engine.specs.SyncPlan.{source_refusal}
 use Rattle.ks_commands.specs.declared.preview.PreviewError.{PreviewError}
 use Rattle.ks_commands.specs.declared.preview.PreviewError.TheVariants as preview
 
@@ -50,9 +50,6 @@ pub record Previews (kconfig dotconfig : List ℕ) (old before after : Option (L
   pub appended : Appends before after text
 
 -- Why there is none: first the two texts, then the old auto.conf, then its generation, which has none after it.
-abbrev pub source_refusal : List ℕ → List ℕ → Option SourceError
-source_refusal kconfig dotconfig = or_else (kconfig_refusal kconfig) (dotconfig_refusal (declared kconfig) dotconfig)
-
 abbrev pub old_refusal : Option (List ℕ) → Option AutoError
 old_refusal None = None
 old_refusal (Some text) = auto_refusal text

@@ -10,7 +10,8 @@ ghost use Rattle.ks_output.specs.AutoConf.{AutoRefusedBy};
 ghost use Rattle.ks_output.specs.AutoText.{auto_text};
 ghost use Rattle.ks_output.specs.OldConfig.{HasNames};
 ghost use Rattle.ks_commands.specs.declared.preview.PreviewError.TheVariants.{Auto, OutOfMemory, Source};
-ghost use Rattle.ks_commands.specs.Preview.{AreSettings, IsPreview, PreviewRefusedBy, Previews, WritesNothing, old_generation, old_refusal, old_texts, preview_refusal, source_refusal, touch_lines};
+ghost use Rattle.ks_engine.specs.SyncPlan.{source_refusal};
+ghost use Rattle.ks_commands.specs.Preview.{AreSettings, IsPreview, PreviewRefusedBy, Previews, WritesNothing, old_generation, old_refusal, old_texts, preview_refusal, touch_lines};
 
 use ks_compare::changed;
 use ks_output::{AutoError, OldConfig, read_auto, write_auto};

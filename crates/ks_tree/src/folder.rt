@@ -28,7 +28,7 @@ pub struct FolderTree<R: Files> {
 }
 
 /// How much of a file is read from the system at once, for the pieces that follow.
-const READ_AHEAD: usize = 65536;
+const READ_AHEAD: usize = 32768;
 
 /// The file of the last `read_at`, kept open so that a prerequisite costs one open however many pieces it has. Its next piece
 /// stands at the position.

@@ -50,8 +50,8 @@ pub(crate) fn command_file_text<T: Tree>(
         alloc,
         target.as_bytes(),
         command.as_bytes(),
-        &prerequisites,
-        &found,
+        prerequisites,
+        found,
     )?;
     let mut text = Vec::new(alloc);
     write_command(&file, &mut text)?;

@@ -12,7 +12,8 @@ use Rattle.ks_fixdep.specs.DependencyFile.{prerequisites, dependency_refusal}
 use Rattle.ks_fixdep.specs.declared.command_file.Dep.{Dep}
 use Rattle.ks_fixdep.specs.declared.command_file.Dep.TheVariants.{File, Config}
 use Rattle.ks_fixdep.specs.CommandFile.{Record as CommandRecord, is_command, is_dep, command_text}
-use Rattle.ks_fixdep.specs.Record.{config_names, names_of, record_of, record_refusal}
+use Rattle.ks_fixdep.specs.FoundNames.{names_of}
+use Rattle.ks_fixdep.specs.Record.{config_names, record_of, record_refusal}
 use Rattle.ks_tree.specs.Files.{Files, content}
 use Rattle.ks_tree.specs.Paths.{auto_path}
 use Rattle.ks_engine.specs.declared.error.EngineError.{EngineError}

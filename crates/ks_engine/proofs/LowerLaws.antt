@@ -9,11 +9,13 @@ use Rattle.ks_fixdep.specs.CommandLines.{lines}
 use Rattle.ks_fixdep.specs.declared.dependency_file.Role.{Role}
 use Rattle.ks_fixdep.specs.CommandFile.{command_text}
 use Rattle.ks_fixdep.specs.CommandLaws.{ReadFits, ReadsBack}
-use Rattle.ks_fixdep.specs.FoundNames.{names_in}
-use Rattle.ks_fixdep.specs.Record.{names_of, deps_after, config_names}
+use Rattle.ks_fixdep.specs.FoundNames.{names_in, names_of}
+use Rattle.ks_fixdep.specs.Record.{deps_after, config_names}
 use Rattle.ks_fixdep.proofs.CommandFitLemmas.{lines-fit, lines-read}
 use Rattle.ks_fixdep.proofs.CommandTextLemmas.{written-reads}
+use Rattle.ks_fixdep.specs.SourceScan.{counts_after}
 use Rattle.ks_fixdep.proofs.DepsLemmas.{record_names}
+use Rattle.ks_fixdep.proofs.SourceLemmas.{counts-length}
 use Rattle.ks_symbols.proofs.Digits.{reads_back}
 use Rattle.ks_tree.specs.Paths.{Place, CommandFile, path_of, IsLegalPlace, PathsNeverMeet, command_path}
 use Rattle.ks_tree.specs.Stamps.{HasNumber}
@@ -66,3 +68,7 @@ written_reads f legal = lines-read f (lines (command_text f)) (written-reads rea
 -- the names of a record are those of its sources
 pub names_of_record : (ps : List (List ℕ × Role)) (ts : List (List ℕ)) → length ps ≡ length ts → config_names (deps_after [] ps (map names_in ts)) ≡ names_of (map names_in ts)
 names_of_record = record_names
+
+-- there is a count for each text
+pub counts_of_texts : (ts : List (List ℕ)) → length (counts_after [] ts) ≡ length ts
+counts_of_texts = counts-length []

@@ -3,7 +3,8 @@ use Rattle.std.specs.Prelude.{◌≡◌, ◌⊎◌, ℕ, List, Some, Result, Ok,
 use Rattle.ks_symbols.specs.Lines.{max_bytes}
 use Rattle.ks_fixdep.specs.declared.dependency_file.Role.{Role}
 use Rattle.ks_fixdep.specs.CommandFile.{Record as CommandRecord, IsLegal, command_text}
-use Rattle.ks_fixdep.specs.Record.{names_of, record_of}
+use Rattle.ks_fixdep.specs.FoundNames.{names_of}
+use Rattle.ks_fixdep.specs.Record.{record_of}
 use Rattle.ks_tree.specs.Files.{Files, content, SameButBoth}
 use Rattle.ks_tree.specs.Paths.{auto_path, command_path, command_temporary}
 use Rattle.ks_engine.specs.declared.error.EngineError.{EngineError}

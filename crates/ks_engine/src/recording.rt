@@ -1,10 +1,12 @@
 //! Recording an object: the command that builds it, the files that it is made of, and the names in them, under the generation of
 //! the last completed synchronisation. A greater number, as that of a stamp, would hide a synchronisation that was broken off.
-ghost use Rattle.std.specs.Prelude.{◌≡◌, ◌⊎◌, ◌↔◌, ◌≤◌, Ok, Err, IfOk, IfErr, OnOk, IsTrue, IsErrOf, length};
+ghost use Rattle.std.specs.Prelude.{◌≡◌, ◌⊎◌, ◌↔◌, ◌≤◌, List, ℕ, Ok, Err, IfOk, IfErr, OnOk, IsTrue, IsErrOf, length, map};
 ghost use Rattle.std.specs.List.{list_all};
 ghost use Rattle.ks_symbols.specs.Names.{is_path, is_target};
 ghost use Rattle.ks_fixdep.specs.CommandFile.{is_command, is_dep, command_text, IsLegal};
+ghost use Rattle.ks_fixdep.specs.FoundNames.{names_in};
 ghost use Rattle.ks_fixdep.specs.Record.{config_names};
+ghost use Rattle.ks_fixdep.specs.SourceScan.{AreNamesOf};
 ghost use Rattle.ks_tree.specs.Files.{content, HasRisen};
 ghost use Rattle.ks_engine.specs.Refusals.{Answers, IsGivenUp};
 ghost use Rattle.ks_engine.specs.Recording.{words, there};
@@ -18,7 +20,7 @@ use crate::EngineError;
 use crate::last_sync::read_generation;
 use crate::sources::scan_all;
 use ks_fixdep::{
-    CommandFile, Dep, FoundNames, Prerequisites, build_from, command_is_legal, read_depfile,
+    CommandFile, Dep, NamesBySource, Prerequisites, build_from, command_is_legal, read_depfile,
     write_command,
 };
 use ks_symbols::{MAX_BYTES, Path, path_is_legal, target_is_legal};
@@ -96,16 +98,18 @@ fn make_draft(
     alloc: Global,
     target: &[u8],
     command: &[u8],
-    prerequisites: &Prerequisites,
+    prerequisites: Prerequisites,
     generation: u64,
-    found: &[FoundNames],
+    found: NamesBySource,
 ) -> Result<Draft, EngineError>
     requires target { IsTrue (is_target target.now) }
     requires command { IsTrue (is_command command.now) }
-    requires each { length found.now ≡ length prerequisites.now }
+    requires each { length found.counts.items ≡ length prerequisites }
     ensures no_device { IsErrOf result EngineError.Device → ⊥ }
-    ensures drafted { IfOk result (λ d. (plan : RecordPlan) × (drafted target.now command.now prerequisites.now generation found.now ≡ Ok plan) × IsLegal plan.file × IsDraft plan d) }
-    ensures refused { IfErr result (λ e. IsGivenUp e ⊎ (drafted target.now command.now prerequisites.now generation found.now ≡ Err e)) }
+    ensures drafted { IfOk result (λ d. (ts : List (List ℕ)) → AreNamesOf found ts → (plan : RecordPlan)
+        × (drafted target.now command.now prerequisites generation (map names_in ts) ≡ Ok plan) × IsLegal plan.file × IsDraft plan d) }
+    ensures refused { IfErr result (λ e. (ts : List (List ℕ)) → AreNamesOf found ts
+        → IsGivenUp e ⊎ (drafted target.now command.now prerequisites generation (map names_in ts) ≡ Err e)) }
 {
     let mut file: CommandFile = build_from(alloc, target, command, prerequisites, found)?;
     file.source.as_bytes();
@@ -140,7 +144,7 @@ fn prepare<T: Tree>(
     let prerequisites = read_depfile(alloc, &text)?;
     let generation = read_generation(alloc, tree)?;
     let found = scan_all(alloc, tree, &prerequisites)?;
-    make_draft(alloc, target, command, &prerequisites, generation, &found)
+    make_draft(alloc, target, command, prerequisites, generation, found)
 }
 
 /// A record, by the files.

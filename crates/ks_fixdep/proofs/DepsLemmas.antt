@@ -1,6 +1,7 @@
 -- The names of a record's dependency lines.
-use Rattle.std.proofs.Common.{◌≡◌, ℕ, suc, ◌+◌, ◌≤◌, ◌<◌, true, false, List, [], ◌∷◌, ◌++◌, Some, refl, ap, sym, ◌∙◌, map, cond, append_assoc, append-nil, length, length-append, drop, drop-cons, le_refl, arith}
-use Rattle.std.proofs.lemmas.List.{drop-append-le, drop_all, map-append}
+use Rattle.std.proofs.Common.{◌≡◌, ℕ, suc, ◌+◌, ◌-◌, true, false, List, [], ◌∷◌, ◌++◌, Some, refl, ap, ap₂, subst, sym, ◌∙◌, map, cond, append_assoc, append-nil, length, length-append, take, drop, drop-cons, arith}
+use Rattle.std.proofs.lemmas.List.{append_cancel_left, drop-drop}
+use Rattle.std.proofs.Math.Seq.{drop-append_seam, take-append_seam}
 use Rattle.std.proofs.lemmas.Option.{slice_get_within, get_or_from_slice_get}
 use Rattle.std.specs.Prelude.{not, ◌||◌, flat_map, slice_get}
 use Rattle.std.proofs.lemmas.Bool.{cond-true, cond-false}
@@ -9,14 +10,17 @@ use Rattle.std.proofs.lemmas.List.Folds.{list_any-append}
 use Rattle.std.proofs.lemmas.List.Elements.{filter-append}
 use Rattle.std.specs.List.{list_any}
 use Rattle.std.specs.Str.{bytes_eq}
-use Rattle.ks_fixdep.specs.FoundNames.{noted, all_noted, names_in}
-use Rattle.ks_fixdep.specs.Record.{new_names, own_line, deps_after, config_names, names_of}
+use Rattle.ks_fixdep.specs.FoundNames.{noted, all_noted, names_in, names_of}
+use Rattle.ks_fixdep.specs.Record.{new_names, own_line, deps_after, config_names}
 use Rattle.ks_fixdep.specs.declared.command_file.Dep.{Dep}
 use Rattle.ks_fixdep.specs.declared.command_file.Dep.TheVariants.{Config}
+use Rattle.ks_fixdep.specs.SourceScan.{counts_after}
 use Rattle.ks_fixdep.specs.Scan.{taken}
 use Rattle.ks_fixdep.specs.Scan.{bare_name}
 use Rattle.ks_fixdep.specs.declared.dependency_file.Role.{Role}
 use Rattle.ks_fixdep.specs.declared.dependency_file.Role.TheVariants as role
+use Rattle.ks_fixdep.proofs.OnceLemmas.{all_noted_again}
+use Rattle.ks_fixdep.proofs.SourceLemmas.{joined}
 
 -- not noted before, so not among those kept either
 not_kept : (y : List ℕ) (seen zs : List (List ℕ)) → list_any (bytes_eq y) zs ≡ false → list_any (bytes_eq y) (new_names seen zs) ≡ false
@@ -83,54 +87,96 @@ names_behind seen (p ∷ ps) (t ∷ ts) len =
 pub record_names : (ps : List (List ℕ × Role)) (ts : List (List ℕ)) → length ps ≡ length ts → config_names (deps_after [] ps (map names_in ts)) ≡ names_of (map names_in ts)
 record_names ps ts len = names_behind [] ps ts len
 
--- ---- one more name
+-- ---- one source after the other
 
--- a list that grows by a name had it not
-pub noted-longer : (xs : List (List ℕ)) (x : List ℕ) → length xs < length (noted xs x) → noted xs x ≡ xs ++ x ∷ []
-noted-longer xs x more = (elim (list_any (bytes_eq x) xs) as (λ b. length xs < length (cond b xs (xs ++ x ∷ [])) → cond b xs (xs ++ x ∷ []) ≡ xs ++ x ∷ []) [
-  | true ↦ λ same. absurd (omega (arith, same))
-  | false ↦ λ _. refl
-]) more
+-- the names of these texts that were not noted before
+left : List (List ℕ) → List (List ℕ) → List (List ℕ)
+left before ts = new_names before (names_of (map names_in ts))
 
--- and one that does not grow stays
-pub noted-same : (xs : List (List ℕ)) (x : List ℕ) → length (noted xs x) ≤ length xs → noted xs x ≡ xs
-noted-same xs x less = (elim (list_any (bytes_eq x) xs) as (λ b. length (cond b xs (xs ++ x ∷ [])) ≤ length xs → cond b xs (xs ++ x ∷ []) ≡ xs) [
-  | true ↦ λ _. refl
-  | false ↦ λ long. absurd (omega (arith, long, length-append xs (x ∷ [])))
-]) less
+all_behind : (before ts : List (List ℕ)) → all_noted before (joined ts) ≡ before ++ left before ts
+unfolding left
+all_behind before ts = sym (all_noted_again before [] (joined ts)) ∙ new_once before (joined ts)
 
--- the lines of the names behind the first n, with one more
-pub configs-longer : (n : ℕ) (xs : List (List ℕ)) (x : List ℕ) → n ≤ length xs → map Config (drop n (xs ++ x ∷ [])) ≡ map Config (drop n xs) ++ Config x ∷ []
-configs-longer n xs x le = ap (map Config) (drop-append-le n xs (x ∷ []) le) ∙ map-append Config (drop n xs) (x ∷ [])
+-- those of the first text, and then those that are left
+left_next : (before : List (List ℕ)) (t : List ℕ) (ts : List (List ℕ)) → left before (t ∷ ts) ≡ new_names before (names_in t) ++ left (all_noted before (names_in t)) ts
+left_next before t ts =
+    let after = all_noted before (names_in t) in
+    append_cancel_left before _ _ (
+      sym (all_behind before (t ∷ ts))
+      ∙ fold-append noted before (names_in t) (joined ts)
+      ∙ all_behind after ts
+      ∙ ap (λ l. l ++ left after ts) (new_once before (map bare_name (taken t)))
+      ∙ append_assoc before (new_names before (names_in t)) (left after ts)
+    )
 
--- the lines of the names of one source, once they are all noted
-pub configs-new : (seen names : List (List ℕ)) → all_noted [] names ≡ names → map Config (drop (length seen) (all_noted seen names)) ≡ map Config (new_names seen names)
-configs-new seen names once =
-    let new : all_noted seen names ≡ seen ++ new_names seen names = ap (all_noted seen) (sym once) ∙ new_once seen names ∙ ap (λ l. seen ++ new_names seen l) once in
-    ap (λ l. map Config (drop (length seen) l)) new
-    ∙ ap (map Config) (drop-append-le (length seen) seen (new_names seen names) (le_refl (length seen)) ∙ ap (λ l. l ++ new_names seen names) (drop_all (length seen) seen (le_refl (length seen))))
+-- What is listed so far, and what is still to be listed of these prerequisites, counts, texts and names, are the whole.
+pub record Remaining (whole : List Dep) (ps : List (List ℕ × Role)) (counts : List ℕ) (ts : List (List ℕ)) (listed : ℕ) (names : List (List ℕ)) (deps : List Dep) : Type 0 where
+  before : List (List ℕ)
+  listed_is : listed ≡ length before
+  names_are : names ≡ left before ts
+  counts_are : counts ≡ counts_after before ts
+  deps_are : whole ≡ deps ++ deps_after before ps (map names_in ts)
 
--- what is listed of one prerequisite, and of those behind it
-pub deps-step : (before : List (List ℕ)) (ps : List (List ℕ × Role)) (found : List (List (List ℕ))) (i : ℕ) (p : List ℕ × Role) (names : List (List ℕ)) → slice_get ps i ≡ Some p → slice_get found i ≡ Some names
-    → deps_after before (drop i ps) (drop i found) ≡ own_line p ++ (map Config (new_names before names) ++ deps_after (all_noted before names) (drop (i + 1) ps) (drop (i + 1) found))
-deps-step before ps found i p names is_p is_names =
+-- one turn: the prerequisite's own line, and then its new names
+turn : (whole : List Dep) (p : List ℕ × Role) (ps : List (List ℕ × Role)) (count : ℕ) (counts : List ℕ) (ts : List (List ℕ)) (listed : ℕ) (names : List (List ℕ)) (deps own all : List Dep)
+    → Remaining whole (p ∷ ps) (count ∷ counts) ts listed names deps → own ≡ deps ++ own_line p → all ≡ own ++ map Config (take (count - listed) names)
+    → Remaining whole ps counts (drop 1 ts) count (drop (count - listed) names) all
+turn whole p ps count counts [] listed names deps own all r is_own is_all = let none : count ∷ counts ≡ [] = r.counts_are in absurd cc
+turn whole p ps count counts (t ∷ ts) listed names deps own all r is_own is_all =
+    let after = all_noted r.before (names_in t) in
+    let new = new_names r.before (names_in t) in
+    let counted : count ∷ counts ≡ length after ∷ counts_after after ts = r.counts_are in
+    let head : count ≡ length after = cc in
+    let tail : counts ≡ counts_after after ts = cc in
+    let grown = ap length (new_once r.before (map bare_name (taken t))) ∙ length-append r.before new in
+    let many : count - listed ≡ length new = omega (arith, head, grown, r.listed_is) in
+    let names_is = r.names_are ∙ left_next r.before t ts in
+    let configs : take (count - listed) names ≡ new = ap₂ take many names_is ∙ take-append_seam new (left after ts) in
+    let rest = deps_after after ps (map names_in ts) in
+    record {
+      before = after;
+      listed_is = head;
+      names_are = ap₂ drop many names_is ∙ drop-append_seam new (left after ts);
+      counts_are = tail;
+      deps_are = r.deps_are
+          ∙ sym (append_assoc deps (own_line p) (map Config new ++ rest))
+          ∙ ap (λ l. l ++ (map Config new ++ rest)) (sym is_own)
+          ∙ sym (append_assoc own (map Config new) rest)
+          ∙ ap (λ l. l ++ rest) (ap (λ l. own ++ map Config l) (sym configs) ∙ sym is_all);
+    }
+
+-- what stands from a place on
+pub from : {A : Type 0} (xs : List A) (i : ℕ) (x : A) → slice_get xs i ≡ Some x → drop i xs ≡ x ∷ drop (i + 1) xs
+from xs i x is =
     let next : suc i ≡ i + 1 = omega arith in
-    ap (λ l. deps_after before l (drop i found)) (drop-cons ps i p (slice_get_within ps i p is_p) ∙ ap (λ q. q ∷ drop (suc i) ps) (get_or_from_slice_get ps i p p is_p))
-    ∙ ap (λ l. deps_after before (p ∷ drop (suc i) ps) l) (drop-cons found i names (slice_get_within found i names is_names) ∙ ap (λ n. n ∷ drop (suc i) found) (get_or_from_slice_get found i names names is_names))
-    ∙ ap (λ k. own_line p ++ (map Config (new_names before names) ++ deps_after (all_noted before names) (drop k ps) (drop k found))) next
+    drop-cons xs i x (slice_get_within xs i x is) ∙ ap₂ (λ y n. y ∷ drop n xs) (get_or_from_slice_get xs i x x is) next
 
--- one turn over the prerequisites: its own line, and then its new names
-pub deps-turn : (ps : List (List ℕ × Role)) (found : List (List (List ℕ))) (i : ℕ) (p : List ℕ × Role) (names : List (List ℕ)) → slice_get ps i ≡ Some p → slice_get found i ≡ Some names
-    → (whole deps listed all : List Dep) (before after : List (List ℕ)) → whole ≡ deps ++ deps_after before (drop i ps) (drop i found)
-    → listed ≡ deps ++ own_line p → all ≡ listed ++ map Config (new_names before names) → after ≡ all_noted before names
-    → whole ≡ all ++ deps_after after (drop (i + 1) ps) (drop (i + 1) found)
-deps-turn ps found i p names is_p is_names whole deps listed all before after is own new noted_all =
-    let configs = map Config (new_names before names) in
-    let rest = deps_after (all_noted before names) (drop (i + 1) ps) (drop (i + 1) found) in
-    is
-    ∙ ap (λ l. deps ++ l) (deps-step before ps found i p names is_p is_names)
-    ∙ sym (append_assoc deps (own_line p) (configs ++ rest))
-    ∙ ap (λ l. l ++ (configs ++ rest)) (sym own)
-    ∙ sym (append_assoc listed configs rest)
-    ∙ ap (λ l. l ++ rest) (sym new)
-    ∙ ap (λ names. all ++ deps_after names (drop (i + 1) ps) (drop (i + 1) found)) (sym noted_all)
+pub remaining-turn : (whole : List Dep) (p : List ℕ × Role) (ps : List (List ℕ × Role)) (counts : List ℕ) (ts : List (List ℕ)) (i count listed : ℕ) (names : List (List ℕ)) (deps own all : List Dep)
+    → slice_get counts i ≡ Some count → Remaining whole (p ∷ ps) (drop i counts) (drop i ts) listed names deps
+    → own ≡ deps ++ own_line p → all ≡ own ++ map Config (take (count - listed) names)
+    → Remaining whole ps (drop (i + 1) counts) (drop (i + 1) ts) count (drop (count - listed) names) all
+remaining-turn whole p ps counts ts i count listed names deps own all is_count r is_own is_all =
+    let here : Remaining whole (p ∷ ps) (count ∷ drop (i + 1) counts) (drop i ts) listed names deps = record {
+      before = r.before;
+      listed_is = r.listed_is;
+      names_are = r.names_are;
+      counts_are = sym (from counts i count is_count) ∙ r.counts_are;
+      deps_are = r.deps_are;
+    } in
+    let next = turn whole p ps count (drop (i + 1) counts) (drop i ts) listed names deps own all here is_own is_all in
+    subst (λ l. Remaining whole ps (drop (i + 1) counts) l count (drop (count - listed) names) all) (drop-drop 1 i ts) next
+
+-- before the first one
+pub remaining-first : (ps : List (List ℕ × Role)) (counts : List ℕ) (ts names : List (List ℕ)) → names ≡ names_of (map names_in ts) → counts ≡ counts_after [] ts
+    → Remaining (deps_after [] ps (map names_in ts)) ps counts ts 0 names []
+unfolding left
+remaining-first ps counts ts names is_names is_counts =
+    record { before = []; listed_is = refl; names_are = is_names ∙ sym (all_new (names_of (map names_in ts))); counts_are = is_counts; deps_are = refl }
+  where
+    all_new : (xs : List (List ℕ)) → new_names [] xs ≡ xs
+    all_new [] = refl
+    all_new (x ∷ xs) = ap (λ l. x ∷ l) (all_new xs)
+
+-- and behind the last
+pub remaining-none : (whole : List Dep) (counts : List ℕ) (ts : List (List ℕ)) (listed : ℕ) (names : List (List ℕ)) (deps : List Dep) → Remaining whole [] counts ts listed names deps → deps ≡ whole
+remaining-none whole counts ts listed names deps r = sym (r.deps_are ∙ append-nil deps)

@@ -1,5 +1,6 @@
 pub mod RunLemmas
 pub mod ScanLemmas
+pub mod SourceLemmas
 pub mod PlaceLemmas
 pub mod StreamLemmas
 pub mod CutLemmas

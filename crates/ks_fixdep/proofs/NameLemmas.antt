@@ -1,5 +1,7 @@
 -- Names without their places.
-use Rattle.std.proofs.Common.{◌≡◌, ℕ, zero, suc, ◌-◌, List, [], ◌∷◌, ◌++◌, Option, Some, None, length, take, refl, ap, ◌∙◌, map, arith, append_assoc, sym}
+use Rattle.std.proofs.Common.{◌≡◌, ℕ, zero, suc, ◌-◌, List, [], ◌∷◌, ◌++◌, Option, Some, None, Bool, true, length, drop, take, refl, ap, ◌∙◌, map, arith, append_assoc, sym}
+use Rattle.std.specs.List.{list_all}
+use Rattle.std.proofs.lemmas.Bool.{and_parts}
 use Rattle.std.proofs.lemmas.List.{map-append}
 use Rattle.ks_fixdep.specs.Scan.{NameAt, taken, taken_from}
 use Rattle.ks_fixdep.proofs.ScanLemmas.{taken_from-zero}
@@ -8,9 +10,18 @@ use Rattle.ks_fixdep.specs.NameIter.{seen_found}
 use Rattle.ks_fixdep.specs.Scan.{bare_name}
 use Rattle.ks_fixdep.specs.Stream.{list_of, carried_at, lent_behind, further, ended, last_word, before_last_word}
 
-take_nil : (n : ℕ) → take {A = ℕ} n [] ≡ []
-take_nil zero = refl
-take_nil (suc n) = refl
+pub take_none : {A : Type 0} (n : ℕ) → take {A = A} n [] ≡ []
+take_none zero = refl
+take_none (suc n) = refl
+
+pub drop_none : {A : Type 0} (n : ℕ) → drop {A = A} n [] ≡ []
+drop_none zero = refl
+drop_none (suc n) = refl
+
+pub list_all-drop : {A : Type 0} (test : A → Bool) (n : ℕ) (xs : List A) → list_all test xs ≡ true → list_all test (drop n xs) ≡ true
+list_all-drop test zero xs all = all
+list_all-drop test (suc n) [] all = refl
+list_all-drop test (suc n) (x ∷ xs) all = list_all-drop test n xs (and_parts _ _ all).1
 
 pub map-name : (fs : List Found) → map (λ f. f.name.now) fs ≡ map bare_name (map seen_found fs)
 map-name [] = refl
@@ -27,7 +38,7 @@ map-name-further n (x ∷ xs) = ap (λ l. x.name ∷ l) (map-name-further n xs)
 pub ended-nil : ended [] ≡ []
 ended-nil =
     let none : length {A = ℕ} [] - 0 ≡ 0 = omega arith in
-    ap taken (take_nil (length {A = ℕ} [] - length (last_word []))) ∙ ap (taken_from [] 0) none ∙ taken_from-zero [] 0
+    ap taken (take_none (length {A = ℕ} [] - length (last_word []))) ∙ ap (taken_from [] 0) none ∙ taken_from-zero [] 0
 
 -- the names of a longer text, without their places
 pub names-longer : (t p : List ℕ) (carried : Option (List ℕ)) (xs : List NameAt) → ended (t ++ p) ≡ ended t ++ lent_behind t carried xs

@@ -9,14 +9,11 @@ use Rattle.ks_fixdep.specs.DependencyFile.{entries_seen}
 use Rattle.std.proofs.lemmas.Grind.{fold-append}
 use Rattle.std.proofs.lemmas.Bool.{cond-false}
 use Rattle.std.proofs.lemmas.List.{map-append}
-use Rattle.ks_fixdep.specs.FoundNames.{noted, all_noted}
+use Rattle.ks_fixdep.specs.FoundNames.{noted, all_noted, texts_of}
 use Rattle.std.specs.Prelude.{string_bytes, ◌||◌, ◌&&◌, Result, Ok, Err, OnOk, slice_get, if◌then◌else◌}
 use Rattle.std.specs.List.{list_all, list_any}
 use Rattle.std.proofs.lemmas.Option.{get_or_from_slice_get, slice_get_within}
 use Rattle.std.proofs.lemmas.List.Sums.{AllPass-from_list_all}
-
-abbrev pub items_of : List (String Global) → List (List ℕ)
-items_of vs = map (λ v. string_bytes v) vs
 
 -- a test of the bytes, over the texts
 pub any-items : (test : List ℕ → Bool) (vs : List (String Global)) → list_any test (map (λ v. string_bytes v) vs) ≡ list_any (λ v. test (string_bytes v)) vs
@@ -25,20 +22,20 @@ any-items test (v ∷ vs) = ap (λ b. test (string_bytes v) || b) (any-items tes
 
 -- what a set of texts says once a new one is in it
 pub items_inserted : (ks new : List (String Global)) (owned : String Global) (name : List ℕ) → string_bytes owned ≡ name → list_any (λ v. bytes_eq name (string_bytes v)) ks ≡ false
-    → new ≡ (if list_any (λ v. bytes_eq (string_bytes owned) (string_bytes v)) ks then ks else ks ++ owned ∷ []) → items_of new ≡ noted (items_of ks) name
+    → new ≡ (if list_any (λ v. bytes_eq (string_bytes owned) (string_bytes v)) ks then ks else ks ++ owned ∷ []) → texts_of new ≡ noted (texts_of ks) name
 items_inserted ks new owned name same absent is =
-    ap items_of (is ∙ cond-false _ _ _ (ap (λ n. list_any (λ v. bytes_eq n (string_bytes v)) ks) same ∙ absent))
+    ap texts_of (is ∙ cond-false _ _ _ (ap (λ n. list_any (λ v. bytes_eq n (string_bytes v)) ks) same ∙ absent))
     ∙ map-append (λ v. string_bytes v) ks (owned ∷ [])
-    ∙ ap (λ n. items_of ks ++ n ∷ []) same
+    ∙ ap (λ n. texts_of ks ++ n ∷ []) same
     ∙ sym (cond-false _ _ _ (any-items (bytes_eq name) ks ∙ absent))
 
--- names noted in two parts, and in three
-pub noted_in_two : (a l whole n0 n1 : List (List ℕ)) → n0 ≡ all_noted [] a → n1 ≡ all_noted n0 l → whole ≡ a ++ l → n1 ≡ all_noted [] whole
-noted_in_two a l whole n0 n1 e0 e1 e = e1 ∙ ap (λ n. all_noted n l) e0 ∙ sym (fold-append noted [] a l) ∙ ap (all_noted []) (sym e)
+-- names noted behind others in two parts, and in three
+pub noted_in_two : (base a l whole n0 n1 : List (List ℕ)) → n0 ≡ all_noted base a → n1 ≡ all_noted n0 l → whole ≡ a ++ l → n1 ≡ all_noted base whole
+noted_in_two base a l whole n0 n1 e0 e1 e = e1 ∙ ap (λ n. all_noted n l) e0 ∙ sym (fold-append noted base a l) ∙ ap (all_noted base) (sym e)
 
-pub noted_in_parts : (a l m whole n0 n1 n2 : List (List ℕ)) → n0 ≡ all_noted [] a → n1 ≡ all_noted n0 l → n2 ≡ all_noted n1 m → whole ≡ a ++ l ++ m → n2 ≡ all_noted [] whole
-noted_in_parts a l m whole n0 n1 n2 e0 e1 e2 e =
-    e2 ∙ ap (λ n. all_noted n m) (noted_in_two a l (a ++ l) n0 n1 e0 e1 refl) ∙ sym (fold-append noted [] (a ++ l) m) ∙ ap (all_noted []) (sym e)
+pub noted_in_parts : (base a l m whole n0 n1 n2 : List (List ℕ)) → n0 ≡ all_noted base a → n1 ≡ all_noted n0 l → n2 ≡ all_noted n1 m → whole ≡ a ++ l ++ m → n2 ≡ all_noted base whole
+noted_in_parts base a l m whole n0 n1 n2 e0 e1 e2 e =
+    e2 ∙ ap (λ n. all_noted n m) (noted_in_two base a l (a ++ l) n0 n1 e0 e1 refl) ∙ sym (fold-append noted base (a ++ l) m) ∙ ap (all_noted base) (sym e)
 
 pub on_ok : {T E P Q : Type 0} (r : Result T E) → (P → Q) → OnOk r P → OnOk r Q
 on_ok (Ok x) f p = f p
@@ -68,9 +65,9 @@ pub passes_at : {X : Type 0} (test : X → Bool) (xs : List X) (k : ℕ) (x : X)
 passes_at test xs k x all at = ap test (sym (get_or_from_slice_get xs k x x at)) ∙ AllPass-from_list_all test xs all k x (slice_get_within xs k x at)
 
 -- and of the bytes of all texts, of those of the one at a place
-all-items : (test : List ℕ → Bool) (vs : List (String Global)) → list_all test (items_of vs) ≡ list_all (λ v. test (string_bytes v)) vs
+all-items : (test : List ℕ → Bool) (vs : List (String Global)) → list_all test (texts_of vs) ≡ list_all (λ v. test (string_bytes v)) vs
 all-items test [] = refl
 all-items test (v ∷ vs) = ap (λ b. test (string_bytes v) && b) (all-items test vs)
 
-pub passes_in : (test : List ℕ → Bool) (vs : List (String Global)) (k : ℕ) (v : String Global) → list_all test (items_of vs) ≡ true → k < length vs → v ≡ get_or vs k v → test (string_bytes v) ≡ true
+pub passes_in : (test : List ℕ → Bool) (vs : List (String Global)) (k : ℕ) (v : String Global) → list_all test (texts_of vs) ≡ true → k < length vs → v ≡ get_or vs k v → test (string_bytes v) ≡ true
 passes_in test vs k v all below is = ap (λ w. test (string_bytes w)) is ∙ AllPass-from_list_all (λ w. test (string_bytes w)) vs (sym (all-items test vs) ∙ all) k v below

@@ -1,10 +1,14 @@
 -- The names found in a text, each once, in the order in which they were first noted. (fixdep.c keeps a table of hashes for this.)
-use Rattle.std.specs.Prelude.{◌≡◌, ℕ, List, [], ◌∷◌, ◌++◌, if◌then◌else◌, map, IsTrue}
+use Rattle.std.specs.Prelude.{◌≡◌, ℕ, List, [], ◌∷◌, ◌++◌, if◌then◌else◌, flat_map, map, string_bytes, IsTrue, String}
+use Rattle.std.specs.Global.{Global}
 use Rattle.std.specs.List.{fold, list_all, list_any}
 use Rattle.std.specs.Str.{bytes_eq}
 use Rattle.ks_symbols.specs.Names.{is_name}
 use Rattle.ks_fixdep.specs.Scan.{taken, bare_name}
-use Rattle.ks_fixdep.specs.Stream.{ended}
+
+-- the bytes of texts
+abbrev pub texts_of : List (String Global) → List (List ℕ)
+texts_of texts = map (λ text. string_bytes text) texts
 
 -- the names, and x at their end unless x is among them
 abbrev pub noted : List (List ℕ) → List ℕ → List (List ℕ)
@@ -23,6 +27,6 @@ pub record AreFoundNames (names : List (List ℕ)) : Type 0 where
 abbrev pub names_in : List ℕ → List (List ℕ)
 names_in t = all_noted [] (map bare_name (taken t))
 
--- those whose run is followed by a byte of the text
-abbrev pub names_ended : List ℕ → List (List ℕ)
-names_ended t = all_noted [] (map bare_name (ended t))
+-- the names of all sources, each once, by its first source and its first place there
+abbrev pub names_of : List (List (List ℕ)) → List (List ℕ)
+names_of found = all_noted [] (flat_map (λ names. names) found)

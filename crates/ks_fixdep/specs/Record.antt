@@ -1,5 +1,5 @@
 -- What is recorded of an object: its source, its listed files, and the names that each of its prerequisites has first (fixdep.c; that a name stands with its first prerequisite is a rule of this project).
-use Rattle.std.specs.Prelude.{ℕ, List, [], ◌∷◌, ◌++◌, map, filter, flat_map, not, Option, None, Some, if◌then◌else◌}
+use Rattle.std.specs.Prelude.{ℕ, List, [], ◌∷◌, ◌++◌, map, filter, not, Option, None, Some, if◌then◌else◌}
 use Rattle.std.specs.List.{list_any}
 use Rattle.std.specs.Str.{bytes_eq}
 use Rattle.ks_symbols.specs.Names.{is_target}
@@ -12,10 +12,6 @@ use Rattle.ks_fixdep.specs.declared.dep_error.DepError.{DepError}
 use Rattle.ks_fixdep.specs.declared.dep_error.DepError.TheVariants as errors
 use Rattle.ks_fixdep.specs.declared.dependency_file.Role.{Role}
 use Rattle.ks_fixdep.specs.declared.dependency_file.Role.TheVariants as role
-
--- the names of all prerequisites, each once, by its first prerequisite and its first place there
-abbrev pub names_of : List (List (List ℕ)) → List (List ℕ)
-names_of found = all_noted [] (flat_map (λ names. names) found)
 
 -- the names that no prerequisite before has
 abbrev pub new_names : List (List ℕ) → List (List ℕ) → List (List ℕ)

@@ -1,52 +1,49 @@
 //! The command file of an object, from its prerequisites and the names found in them. Each name stands once,
 //! with the first prerequisite that has it, so that the file is short and the same on every machine.
-ghost use Rattle.std.specs.Prelude.{◌≡◌, ◌<◌, ◌++◌, [], List, ℕ, IfOk, OnOk, Some, length, map, slice_get};
-ghost use Rattle.ks_fixdep.specs.declared.dependency_file.Role.{Role};
+ghost use Rattle.std.specs.Prelude.{◌≡◌, ◌++◌, [], List, ℕ, IfOk, IsTrue, OnOk, drop, length, map, string_bytes, take};
+ghost use Rattle.std.specs.List.{list_all};
+ghost use Rattle.ks_symbols.specs.Names.{is_name, is_path};
 ghost use Rattle.ks_fixdep.specs.CommandFile.{view};
 ghost use Rattle.ks_fixdep.specs.DepRefusals.{RefusedBy};
-ghost use Rattle.ks_fixdep.specs.FoundNames.{all_noted, names_in};
-ghost use Rattle.ks_fixdep.specs.Record.{own_line, new_names, deps_after, source_of, record_of, record_refusal};
+ghost use Rattle.ks_fixdep.specs.FoundNames.{names_in, texts_of};
+ghost use Rattle.ks_fixdep.specs.Record.{own_line, deps_after, source_of, record_of, record_refusal};
+ghost use Rattle.ks_fixdep.specs.SourceScan.{AreNamesOf};
 ghost use Rattle.ks_fixdep.specs.declared.command_file.Dep.TheVariants.{Config};
 
 use crate::command_file::{CommandFile, Dep, command_is_legal};
 use crate::dep_error::DepError;
 use crate::dependency_file::{Prerequisites, Role};
-use crate::found_names::{FoundNames, names_of_text};
+use crate::source_scan::{NamesBySource, SourceScan};
+use indexmap::set::IntoIter;
 use ks_symbols::{Name, Path, target_is_legal};
 use std::alloc::{AllocError, Global};
 
 /// Lists a prerequisite, where its role says so.
-fn push_own_line(
-    alloc: Global,
-    prerequisites: &Prerequisites,
-    place: usize,
-    deps: &mut Vec<Dep>,
-) -> Result<(), AllocError>
-    requires { place < length prerequisites.now }
-    ensures { OnOk result ((p : List ℕ × Role) → slice_get prerequisites.now place ≡ Some p → deps.new.items ≡ deps.old.items ++ own_line p) }
+fn push_own_line(path: String, role: Role, deps: &mut Vec<Dep>) -> Result<(), AllocError>
+    requires { IsTrue (is_path (string_bytes path)) }
+    ensures { OnOk result (deps.new.items ≡ deps.old.items ++ own_line (string_bytes path, role)) }
 {
-    if let Some((path, Role::Listed)) = prerequisites.get(place) {
-        deps.push(Dep::File(Path::new(alloc, path)?))?;
+    if role == Role::Listed {
+        deps.push(Dep::File(Path::from_vec(path.into_bytes())))?;
     }
     Ok(())
 }
 
-/// Lists the names that were not noted before, and notes them.
-fn push_new_names(
-    alloc: Global,
-    names: &FoundNames,
-    before: &mut FoundNames,
+/// Lists the next names, as many of them as this.
+fn push_names(
+    names: &mut IntoIter<String>,
+    count: usize,
     deps: &mut Vec<Dep>,
 ) -> Result<(), AllocError>
-    ensures deps { OnOk result (deps.new.items ≡ deps.old.items ++ map Config (new_names before.old names.now)) }
-    ensures before { OnOk result (before.new ≡ all_noted before.old names.now) }
+    requires { IsTrue (list_all is_name (texts_of names.old)) }
+    ensures deps { OnOk result (deps.new.items ≡ deps.old.items ++ map Config (take count (texts_of names.old))) }
+    ensures rest { OnOk result (texts_of names.new ≡ drop count (texts_of names.old)) }
 {
-    for name in names.as_slice() {
-        let count = before.len();
-        before.note_text(name.as_str())?;
-        if count < before.len() {
-            deps.push(Dep::Config(Name::new(alloc, name.as_bytes())?))?;
-        }
+    for _ in 0..count {
+        let Some(name) = names.next() else {
+            return Ok(());
+        };
+        deps.push(Dep::Config(Name::from_vec(name.into_bytes())))?;
     }
     Ok(())
 }
@@ -54,17 +51,25 @@ fn push_new_names(
 /// The dependency lines of an object.
 fn dependencies(
     alloc: Global,
-    prerequisites: &Prerequisites,
-    found: &[FoundNames],
+    prerequisites: Prerequisites,
+    found: NamesBySource,
 ) -> Result<Vec<Dep>, AllocError>
-    requires { length found.now ≡ length prerequisites.now }
-    ensures { IfOk result (λ deps. deps.items ≡ deps_after [] prerequisites.now found.now) }
+    requires { length found.counts.items ≡ length prerequisites }
+    ensures { IfOk result (λ deps. (ts : List (List ℕ)) → AreNamesOf found ts → deps.items ≡ deps_after [] prerequisites (map names_in ts)) }
 {
-    let mut deps = Vec::with_capacity(alloc, prerequisites.len())?;
-    let mut before = FoundNames::new(alloc);
-    for (place, names) in found.iter().enumerate() {
-        push_own_line(alloc, prerequisites, place, &mut deps)?;
-        push_new_names(alloc, names, &mut before, &mut deps)?;
+    let NamesBySource { names, counts } = found;
+    let most = prerequisites.len().saturating_add(names.len());
+    let mut deps = Vec::with_capacity(alloc, most)?;
+    let mut entries = prerequisites.into_entries();
+    let mut names = names.into_names();
+    let mut listed = 0;
+    for count in &counts {
+        let Some((path, role)) = entries.next() else {
+            unreachable!();
+        };
+        push_own_line(path, role, &mut deps)?;
+        push_names(&mut names, count.saturating_sub(listed), &mut deps)?;
+        listed = *count;
     }
     Ok(deps)
 }
@@ -85,11 +90,11 @@ pub fn build_from(
     alloc: Global,
     target: &[u8],
     command: &[u8],
-    prerequisites: &Prerequisites,
-    found: &[FoundNames],
+    prerequisites: Prerequisites,
+    found: NamesBySource,
 ) -> Result<CommandFile, DepError>
-    requires { length found.now ≡ length prerequisites.now }
-    ensures value { IfOk result (λ f. view f ≡ record_of target.now command.now prerequisites.now found.now) }
+    requires { length found.counts.items ≡ length prerequisites }
+    ensures value { IfOk result (λ f. (ts : List (List ℕ)) → AreNamesOf found ts → view f ≡ record_of target.now command.now prerequisites (map names_in ts)) }
     ensures refusal { RefusedBy result (record_refusal target.now command.now) }
 {
     if !target_is_legal(target) {
@@ -101,7 +106,7 @@ pub fn build_from(
     Ok(CommandFile {
         target: Path::new(alloc, target)?,
         command: command.to_vec(alloc)?,
-        source: source_path(alloc, prerequisites)?,
+        source: source_path(alloc, &prerequisites)?,
         deps: dependencies(alloc, prerequisites, found)?,
         generation: None,
     })
@@ -112,16 +117,17 @@ pub fn build(
     alloc: Global,
     target: &[u8],
     command: &[u8],
-    prerequisites: &Prerequisites,
+    prerequisites: Prerequisites,
     texts: &[&[u8]],
 ) -> Result<CommandFile, DepError>
-    requires { length texts.now ≡ length prerequisites.now }
-    ensures value { IfOk result (λ f. view f ≡ record_of target.now command.now prerequisites.now (map (λ t. names_in t.now) texts.now)) }
+    requires { length texts.now ≡ length prerequisites }
+    ensures value { IfOk result (λ f. view f ≡ record_of target.now command.now prerequisites (map (λ t. names_in t.now) texts.now)) }
     ensures refusal { RefusedBy result (record_refusal target.now command.now) }
 {
-    let mut found = Vec::new(alloc);
+    let mut scan = SourceScan::new(alloc);
     for text in texts {
-        found.push(names_of_text(alloc, text)?)?;
+        scan.feed(text)?;
+        scan.end_source()?;
     }
-    build_from(alloc, target, command, prerequisites, &found)
+    build_from(alloc, target, command, prerequisites, scan.finish())
 }

@@ -2,7 +2,7 @@
 //! several. Which file is scanned for names and which is listed for make follows from its place alone. Paths
 //! that a makefile would read as something else are refused, so that no command file says what was not meant.
 ghost use Rattle.std.specs.Prelude.{◌≡◌, ◌≤◌, ◌<◌, ◌+◌, ◌^◌, ◌++◌, ◌∷◌, [], List, ℕ, IfOk, IfErr, IfSome, OnOk, IsTrue, None, nat_eq, length, slice_get, if◌then◌else◌};
-ghost use Rattle.std.specs.List.{ends_with};
+ghost use Rattle.std.specs.List.{ends_with, list_all};
 ghost use Rattle.std.specs.Option.{option_map};
 ghost use Rattle.ks_symbols.specs.Lines.{max_bytes};
 ghost use Rattle.ks_symbols.specs.Names.{is_path};
@@ -15,6 +15,7 @@ use crate::ascii::as_text;
 use crate::dep_error::DepError;
 use crate::tokens::Tokens;
 use indexmap::IndexMap;
+use indexmap::map::IntoIter;
 use ks_symbols::{MAX_BYTES, path_is_legal};
 use std::alloc::{AllocError, Global};
 use std::marker::Model;
@@ -67,6 +68,14 @@ impl Prerequisites {
             Some((path, role)) => Some((path.as_bytes(), *role)),
             None => None,
         }
+    }
+
+    /// Their paths and roles, owned, in their order.
+    pub(crate) fn into_entries(self) -> IntoIter<String, Role>
+        ensures value { entries_seen result ≡ self }
+        ensures legal { IsTrue (list_all (λ p. is_path p.0) (entries_seen result)) }
+    {
+        self.by_path.into_iter()
     }
 }
 

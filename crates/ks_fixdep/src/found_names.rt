@@ -1,20 +1,21 @@
 //! The names found in one source, each once. A header names the same symbol many times, and one line of the
 //! command file is enough. The order of first places is kept, so that the same sources give the same file.
 //! The set hashes by a fixed key, since making an empty one takes no memory and no randomness.
-ghost use Rattle.std.specs.Prelude.{◌≡◌, ◌↔◌, [], IfOk, IfSome, IsTrue, OnOk, OnErr, length, map, string_bytes};
-ghost use Rattle.std.specs.List.{list_any};
+ghost use Rattle.std.specs.Prelude.{◌≡◌, ◌↔◌, [], IfSome, IsTrue, OnOk, OnErr, length, map};
+ghost use Rattle.std.specs.List.{list_all, list_any};
 ghost use Rattle.std.specs.Option.{option_copied};
 ghost use Rattle.std.specs.Str.{bytes_eq};
 ghost use Rattle.ks_symbols.specs.Names.{is_name};
 ghost use Rattle.ks_fixdep.specs.NameIter.{names_left};
-ghost use Rattle.ks_fixdep.specs.FoundNames.{all_noted, names_in};
+ghost use Rattle.ks_fixdep.specs.FoundNames.{all_noted};
 ghost use Rattle.ks_fixdep.specs.Scan.{bare_name};
 ghost use Rattle.ks_fixdep.specs.Stream.{list_of};
 
 use crate::ascii::as_text;
 use crate::name_iter::NameIter;
-use crate::scan::names;
+use crate::prefix_finder::PrefixFinder;
 use indexmap::IndexSet;
+use indexmap::set::IntoIter;
 use std::alloc::{AllocError, Global};
 use std::marker::Model;
 
@@ -26,19 +27,19 @@ pub struct FoundNames {
 }
 
 impl Model for FoundNames {
-    ghost use Rattle.std.specs.Prelude.{List, ℕ, map, string_bytes};
+    ghost use Rattle.std.specs.Prelude.{List, ℕ};
     ghost use Rattle.indexmap.specs.IndexSet.{keys};
-    ghost use Rattle.ks_fixdep.specs.FoundNames.{AreFoundNames};
+    ghost use Rattle.ks_fixdep.specs.FoundNames.{AreFoundNames, texts_of};
 
     ghost Value = { List (List ℕ) };
 
-    ghost view = { λ f. map (λ n. string_bytes n) (keys f.names) };
+    ghost view = { λ f. texts_of (keys f.names) };
 
-    ghost invariant = { λ f. AreFoundNames (map (λ n. string_bytes n) (keys f.names)) };
+    ghost invariant = { λ f. AreFoundNames (texts_of (keys f.names)) };
 }
 
 impl FoundNames {
-    ghost use Rattle.ks_fixdep.specs.FoundNames.{noted, AreFoundNames};
+    ghost use Rattle.ks_fixdep.specs.FoundNames.{noted, texts_of, AreFoundNames};
 
     /// No names. It takes no memory until one is noted.
     pub fn new(alloc: Global) -> Self
@@ -104,18 +105,30 @@ impl FoundNames {
 
     /// The names, in the order in which they were first noted.
     pub fn as_slice(&self) -> &[String]
-        ensures value { map (λ n. string_bytes n) result.now ≡ self.now }
+        ensures value { texts_of result.now ≡ self.now }
         ensures found { AreFoundNames self.now }
     {
         self.names.as_slice()
     }
+
+    /// The names, owned, in the order in which they were first noted.
+    pub(crate) fn into_names(self) -> IntoIter<String>
+        ensures value { texts_of result ≡ self }
+        ensures legal { IsTrue (list_all is_name (texts_of result)) }
+    {
+        self.names.into_iter()
+    }
 }
 
 /// Notes the names that are left, in their order.
-pub(crate) fn note_all(found: &mut FoundNames, names: NameIter<'_>) -> Result<(), AllocError>
+pub(crate) fn note_all(
+    found: &mut FoundNames,
+    mut names: NameIter<'_>,
+    finder: &PrefixFinder,
+) -> Result<(), AllocError>
     ensures { OnOk result (found.new ≡ all_noted found.old (map bare_name (names_left names.entry))) }
 {
-    for next in names {
+    while let Some(next) = names.next_by(finder) {
         found.note(next.name)?;
     }
     Ok(())
@@ -130,13 +143,4 @@ pub(crate) fn note_carried(found: &mut FoundNames, carried: Option<&[u8]>) -> Re
         Some(name) => found.note(name),
         None => Ok(()),
     }
-}
-
-/// The names of a whole text.
-pub(crate) fn names_of_text(alloc: Global, text: &[u8]) -> Result<FoundNames, AllocError>
-    ensures { IfOk result (λ found. found ≡ names_in text.now) }
-{
-    let mut found = FoundNames::new(alloc);
-    note_all(&mut found, names(text))?;
-    Ok(found)
 }

@@ -3,8 +3,8 @@ ghost use Rattle.std.specs.Prelude.{◌≡◌, ◌∷◌, [], List, ℕ, Some, c
 ghost use Rattle.ks_fixdep.specs.Scan.{taken, bare_name};
 ghost use Rattle.ks_fixdep.specs.Places.{ListsTaken};
 ghost use Rattle.ks_fixdep.specs.Pieces.{EndedAreFollowed, PiecesGiveTheWhole};
-ghost use Rattle.ks_fixdep.specs.FoundNames.{all_noted, names_in};
-ghost use Rattle.ks_fixdep.specs.Record.{names_of, deps_after, config_names};
+ghost use Rattle.ks_fixdep.specs.FoundNames.{all_noted, names_in, names_of};
+ghost use Rattle.ks_fixdep.specs.Record.{deps_after, config_names};
 ghost use Rattle.ks_fixdep.specs.DependencyFile.{prerequisites, dependency_refusal};
 ghost use Rattle.ks_fixdep.specs.declared.command_file.Dep.TheVariants.{File, Config};
 ghost use Rattle.ks_fixdep.specs.declared.dep_error.DepError.TheVariants as errors;

@@ -9,6 +9,7 @@ mod dependency_file;
 mod found_names;
 mod laws;
 mod name_iter;
+mod prefix_finder;
 mod runs;
 mod scan;
 mod scanner;
@@ -32,4 +33,4 @@ pub use laws::{
 pub use name_iter::NameIter;
 pub use scan::{Found, names};
 pub use scanner::{Fed, Scanner};
-pub use source_scan::SourceScan;
+pub use source_scan::{NamesBySource, SourceScan};

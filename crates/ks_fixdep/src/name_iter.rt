@@ -1,12 +1,11 @@
-//! The names of a text, one by one. The search for `CONFIG_` is memchr's, which reads many bytes at a time,
-//! and no byte of a run is looked at twice.
+//! The names of a text, one by one. No byte of a run is looked at twice.
 ghost use Rattle.std.specs.Prelude.{◌≡◌, ◌≤◌, length};
 ghost use Rattle.std.specs.Iterator.{YieldsFirstBy, item_count};
 ghost use Rattle.ks_fixdep.specs.Scan.{taken_after};
 
+use crate::prefix_finder::PrefixFinder;
 use crate::runs::{PREFIX, leading_word};
 use crate::scan::{Found, found_at};
-use memchr::memmem;
 
 /// An iterator over the names of a text, by rising place.
 #[derive(Drop)]
@@ -17,7 +16,7 @@ pub struct NameIter<'a> {
 }
 
 impl<'a> NameIter<'a> {
-    ghost use Rattle.ks_fixdep.specs.NameIter.{names_left};
+    ghost use Rattle.ks_fixdep.specs.NameIter.{seen_found, names_left};
 
     /// The names from a place on.
     pub(crate) fn starting_at(text: &'a [u8], place: usize) -> NameIter<'a>
@@ -28,6 +27,22 @@ impl<'a> NameIter<'a> {
             text,
             next_place: place,
         }
+    }
+
+    /// The next name, by a search that stands ready.
+    pub(crate) fn next_by(&mut self, finder: &PrefixFinder) -> Option<Found<'a>>
+        ensures { YieldsFirstBy seen_found names_left self.old result self.new }
+    {
+        while let Some(skipped) = finder.find(&self.text[self.next_place..]) {
+            let place = self.next_place + skipped;
+            let run = leading_word(&self.text[place + PREFIX.len()..]);
+            self.next_place = place + PREFIX.len() + run.len();
+            if let Some(found) = found_at(self.text, place, run) {
+                return Some(found);
+            }
+        }
+        self.next_place = self.text.len();
+        None
     }
 }
 
@@ -41,15 +56,6 @@ impl<'a> Iterator for NameIter<'a> {
     ghost remaining = { item_count names_left };
 
     fn next(&mut self) -> Option<Found<'a>> {
-        while let Some(skipped) = memmem::find(&self.text[self.next_place..], PREFIX) {
-            let place = self.next_place + skipped;
-            let run = leading_word(&self.text[place + PREFIX.len()..]);
-            self.next_place = place + PREFIX.len() + run.len();
-            if let Some(found) = found_at(self.text, place, run) {
-                return Some(found);
-            }
-        }
-        self.next_place = self.text.len();
-        None
+        self.next_by(&PrefixFinder::new())
     }
 }

@@ -19,8 +19,7 @@ const LONGEST_NAME: usize = 128;
 pub(crate) fn is_word(byte: u8) -> bool
     ensures { result ≡ is_word_byte byte }
 {
-    // without a branch, since this is asked of each byte of a word
-    byte.is_ascii_alphanumeric() | (byte == b'_')
+    byte.is_ascii_alphanumeric() || byte == b'_'
 }
 
 /// The longest run of word bytes that the text begins with.

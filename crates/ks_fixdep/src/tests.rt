@@ -54,7 +54,8 @@ fn found_in(alloc: Global, pieces: &[&[u8]]) -> Result<Vec<u8>, AllocError> {
     for piece in pieces {
         scan.feed(piece)?;
     }
-    spelled(alloc, &scan.finish()?)
+    scan.end_source()?;
+    spelled(alloc, scan.finish().names())
 }
 
 fn spelled(alloc: Global, found: &FoundNames) -> Result<Vec<u8>, AllocError> {
@@ -308,19 +309,19 @@ fn command_text(
         out.extend_from_slice(b"another number of prerequisites")?;
         return Ok(out);
     }
-    let mut found = Vec::new(alloc);
+    let mut scan = SourceScan::new(alloc);
     for text in texts {
-        let mut scan = SourceScan::new(alloc);
         scan.feed(text)?;
-        found.push(scan.finish()?)?;
+        scan.end_source()?;
     }
-    if read.len() != found.len() {
+    let found = scan.finish();
+    if read.len() != found.sources() {
         return Ok(out);
     }
     let (target, command) = words;
-    let built = build_from(alloc, target, command, &read, &found)?;
+    let built = build_from(alloc, target, command, read, found)?;
     write_command(&built, &mut out)?;
-    let whole = build(alloc, target, command, &read, texts)?;
+    let whole = build(alloc, target, command, read_depfile(alloc, depfile)?, texts)?;
     let mut again = Vec::new(alloc);
     write_command(&whole, &mut again)?;
     if again != out {

@@ -1,5 +1,6 @@
-use Rattle.std.proofs.Common.{◌≡◌, ◌⊎◌, sym, ◌∙◌, ap, Ok, Err}
+use Rattle.std.proofs.Common.{◌≡◌, ◌⊎◌, sym, ◌∙◌, ap, map, Ok, Err}
 use Rattle.std.proofs.lemmas.Result.{err_from_is_err_and, IfOk-weaker}
+use Rattle.ks_fixdep.specs.FoundNames.{names_in}
 use Rattle.ks_engine.specs.Refusals.{IsGivenUp}
 use Rattle.ks_engine.specs.Recorded.{RecordPlan, IsRecordPlan, record_plan}
 use Rattle.ks_engine.specs.Drafts.{IsDraft}
@@ -42,7 +43,7 @@ returns-in_err-found-clause-refused g c = λ honest.
     let same_later = c.in_ok-generation.ensures.unchanged first ∙ same in
     rw (p.1, p.2) (or_given (λ said. at_scanned files c.args.depfile.now c.args.target.now c.args.command.now c.deref.result.now c.in_ok-prerequisites.prerequisites c.in_ok-generation.generation _ c.in_ok-check_words.ensures.words
     (c.in_ok-text.ensures.bytes honest ∙ ap (λ b. Ok b) (sym c.deref.ensures.value)) (depfile_listed c.deref.result.now c.in_ok-prerequisites.prerequisites c.in_ok-prerequisites.ensures.refusal c.in_ok-prerequisites.ensures.value)
-    (synced_there files _ _ same (c.in_ok-generation.ensures.read first)) (scanned_there files _ c.in_ok-prerequisites.prerequisites _ same_later said)) (c.in_err-found.ensures.names second))
+    (synced_there files _ _ same (c.in_ok-generation.ensures.read first)) (scanned_there files _ c.in_ok-prerequisites.prerequisites _ same_later said)) (c.in_err-found.ensures.refused second))
 
 pub returns-clause-planned : goal.returns-clause-planned
 returns-clause-planned g c = λ honest.
@@ -51,18 +52,19 @@ returns-clause-planned g c = λ honest.
     let second = c.in_ok-generation.ensures.honest.0 first in
     let same = c.in_ok-text.ensures.unchanged honest in
     let same_later = c.in_ok-generation.ensures.unchanged first ∙ same in
+    let found = c.in_ok-found.ensures.names second in
     IfOk-weaker c.make_draft.result _ (λ d. (plan : RecordPlan) × IsRecordPlan files c.args.depfile.now c.args.target.now c.args.command.now plan × IsDraft plan d)
-    (λ d made. (
+    (λ d drafted. (let made = drafted found.0 found.1 in (
       made.0,
       record {
-        planned = at_drafted files c.args.depfile.now c.args.target.now c.args.command.now c.deref.result.now c.in_ok-prerequisites.prerequisites c.in_ok-generation.generation c.deref-2.result.now _ c.in_ok-check_words.ensures.words
+        planned = at_drafted files c.args.depfile.now c.args.target.now c.args.command.now c.deref.result.now c.in_ok-prerequisites.prerequisites c.in_ok-generation.generation (map names_in found.0) _ c.in_ok-check_words.ensures.words
             (c.in_ok-text.ensures.bytes honest ∙ ap (λ b. Ok b) (sym c.deref.ensures.value)) (depfile_listed c.deref.result.now c.in_ok-prerequisites.prerequisites c.in_ok-prerequisites.ensures.refusal c.in_ok-prerequisites.ensures.value)
             (synced_there files _ _ same (c.in_ok-generation.ensures.read first))
-            (scanned_there files _ c.in_ok-prerequisites.prerequisites _ same_later (c.in_ok-found.ensures.names second) ∙ ap (λ l. Ok l) (sym c.deref-2.ensures.value)) made.1;
+            (scanned_there files _ c.in_ok-prerequisites.prerequisites _ same_later found.2) made.1;
         legal = made.2;
       },
       made.3,
-    )) c.make_draft.ensures.drafted
+    ))) c.make_draft.ensures.drafted
 
 pub returns-clause-refused : goal.returns-clause-refused
 returns-clause-refused g c = λ honest.
@@ -71,8 +73,9 @@ returns-clause-refused g c = λ honest.
     let second = c.in_ok-generation.ensures.honest.0 first in
     let same = c.in_ok-text.ensures.unchanged honest in
     let same_later = c.in_ok-generation.ensures.unchanged first ∙ same in
+    let found = c.in_ok-found.ensures.names second in
     if_err_map c.make_draft.result _ (λ e. IsGivenUp e ⊎ (record_plan files c.args.depfile.now c.args.target.now c.args.command.now ≡ Err e))
-    (λ e said. or_given (λ bad. at_drafted files c.args.depfile.now c.args.target.now c.args.command.now c.deref.result.now c.in_ok-prerequisites.prerequisites c.in_ok-generation.generation c.deref-2.result.now _ c.in_ok-check_words.ensures.words
+    (λ e said. or_given (λ bad. at_drafted files c.args.depfile.now c.args.target.now c.args.command.now c.deref.result.now c.in_ok-prerequisites.prerequisites c.in_ok-generation.generation (map names_in found.0) _ c.in_ok-check_words.ensures.words
     (c.in_ok-text.ensures.bytes honest ∙ ap (λ b. Ok b) (sym c.deref.ensures.value)) (depfile_listed c.deref.result.now c.in_ok-prerequisites.prerequisites c.in_ok-prerequisites.ensures.refusal c.in_ok-prerequisites.ensures.value)
     (synced_there files _ _ same (c.in_ok-generation.ensures.read first))
-    (scanned_there files _ c.in_ok-prerequisites.prerequisites _ same_later (c.in_ok-found.ensures.names second) ∙ ap (λ l. Ok l) (sym c.deref-2.ensures.value)) bad) said) c.make_draft.ensures.refused
+    (scanned_there files _ c.in_ok-prerequisites.prerequisites _ same_later found.2) bad) (said found.0 found.1)) c.make_draft.ensures.refused

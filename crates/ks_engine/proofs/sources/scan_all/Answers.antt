@@ -1,44 +1,69 @@
-use Rattle.std.proofs.Common.{rules, ◌≡◌, ◌⊎◌, inl, inr, ⊎_elim, ◌+◌, [], Ok, Err, sym, ap, ◌∙◌, subst, arith, get_or, drop, length, ◌<◌}
-use Rattle.std.proofs.lemmas.Grind.{common_steps}
+use Rattle.std.proofs.Common.{rules, ◌≡◌, ◌<◌, ◌⊎◌, inl, inr, ⊎_elim, ◌+◌, ◌++◌, ◌∷◌, [], Ok, Err, sym, ap, ◌∙◌, subst, arith, get_or, drop, length, map}
+use Rattle.std.proofs.lemmas.List.{length-append, map-append}
 use Rattle.std.proofs.lemmas.Option.{slice_get-get_or}
 use Rattle.std.proofs.lemmas.Result.{err_from_is_err_and}
 use Rattle.ks_fixdep.specs.declared.dependency_file.Role.TheVariants.{Source}
+use Rattle.ks_fixdep.specs.FoundNames.{names_in}
 use Rattle.ks_tree.specs.Files.{content}
 use Rattle.ks_engine.specs.Refusals.{IsGivenUp}
 use Rattle.ks_engine.specs.Recording.{scanned, scanned_all}
+use Rattle.ks_engine.proofs.LowerLaws.{counts_of_texts}
 use Rattle.ks_engine.proofs.Scanning.{behind, scanned_next, scanned_refused, scanned_end}
 use Rattle.ks_engine.proofs.sources.scan_all.Goals as goal
 
-pub returns-in_err-names-clause-names : goal.returns-in_err-names-clause-names
-returns-in_err-names-clause-names g c = λ honest.
-    let p = err_from_is_err_and c.from_residual-in_err-names.result c.from_residual-in_err-names.ensures.1 in
+pub returns-in_err-scan_at-clause-refused : goal.returns-in_err-scan_at-clause-refused
+returns-in_err-scan_at-clause-refused g c = λ honest.
+    let ps = c.args.prerequisites.now in
+    let p = err_from_is_err_and c.from_residual.result c.from_residual.ensures.1 in
     let now = c.loop-place.invariant.honest.0 honest in
     let same = c.loop-place.invariant.unchanged honest in
-    let here : c.loop-place.place < length c.args.prerequisites.now = omega arith in
-    let at = slice_get-get_or c.args.prerequisites.now c.loop-place.place ([], Source) here in
-    let said = subst (λ f. IsGivenUp c.in_err-names.field-0.0 ⊎ (scanned (get_or c.args.prerequisites.now c.loop-place.place ([], Source)).0 (content f (get_or c.args.prerequisites.now c.loop-place.place ([], Source)).0) ≡ Err c.in_err-names.field-0.0)) same
-    (c.in_err-names.ensures.names now _ at) in
+    let i = c.loop-place.place in
+    let here : i < length ps = omega arith in
+    let one = get_or ps i ([], Source) in
+    let at = slice_get-get_or ps i ([], Source) here in
+    let error = c.in_err-scan_at.field-0.0 in
+    let so_far = c.loop-place.invariant.scanned in
+    let said = subst (λ f. IsGivenUp error ⊎ (scanned one.0 (content f one.0) ≡ Err error)) same (c.in_err-scan_at.ensures.refused now one at) in
     rw (p.1, p.2) (⊎_elim (λ given. inl given)
-    (λ bad. inr (scanned_refused (g.T.Tree.files c.args.tree.now) c.args.prerequisites.now c.loop-place.place _ c.loop-place.found.items c.in_err-names.field-0.0 _ at bad (c.loop-place.invariant.rest honest))) said)
+    (λ bad. inr (scanned_refused (g.T.Tree.files c.args.tree.now) ps i _ (map names_in so_far.0) error _ at bad (so_far.3 honest))) said)
 
 pub loop-place-preserved : goal.loop-place-preserved
-loop-place-preserved g c = record {
-  honest = search rules;
-  unchanged = search rules;
-  later = search rules;
-  within = omega arith;
-  each = grind (arith, common_steps);
-  rest = λ honest.
-      let now = c.loop-place.invariant.honest.0 honest in
-      let same = c.loop-place.invariant.unchanged honest in
-      let here : c.loop-place.place < length c.args.prerequisites.now = omega arith in
-      let at = slice_get-get_or c.args.prerequisites.now c.loop-place.place ([], Source) here in
-      let said = subst (λ f. scanned (get_or c.args.prerequisites.now c.loop-place.place ([], Source)).0 (content f (get_or c.args.prerequisites.now c.loop-place.place ([], Source)).0) ≡ Ok c.in_ok-names.names) same
-      (c.in_ok-names.ensures.names now _ at) in
-      let next = scanned_next (g.T.Tree.files c.args.tree.now) c.args.prerequisites.now c.loop-place.place _ c.loop-place.found.items c.in_ok-names.names _ at said (c.loop-place.invariant.rest honest) in
-      next ∙ ap (λ l. behind l (scanned_all (g.T.Tree.files c.args.tree.now) (drop (c.loop-place.place + 1) c.args.prerequisites.now))) (sym c.in_ok-push.ensures.items);
-}
+loop-place-preserved g c =
+    let ps = c.args.prerequisites.now in
+    let i = c.loop-place.place in
+    let so_far = c.loop-place.invariant.scanned in
+    let next = c.in_ok-scan_at.ensures.scanned so_far.0 so_far.1 in
+    record {
+      honest = search rules;
+      unchanged = search rules;
+      later = search rules;
+      within = omega arith;
+      room = c.scan_at.auto.room ∙ c.loop-place.invariant.room;
+      scanned = (
+        so_far.0 ++ next.0 ∷ [],
+        next.1,
+        length-append so_far.0 (next.0 ∷ []) ∙ ap (λ n. n + 1) so_far.2,
+        λ honest.
+            (let now = c.loop-place.invariant.honest.0 honest in
+            let same = c.loop-place.invariant.unchanged honest in
+            let here : i < length ps = omega arith in
+            let one = get_or ps i ([], Source) in
+            let at = slice_get-get_or ps i ([], Source) here in
+            let said = subst (λ f. scanned one.0 (content f one.0) ≡ Ok (names_in next.0)) same (next.2 now one at) in
+            scanned_next (g.T.Tree.files c.args.tree.now) ps i _ (map names_in so_far.0) (names_in next.0) _ at said (so_far.3 honest)
+            ∙ ap (λ l. behind l (scanned_all (g.T.Tree.files c.args.tree.now) (drop (i + 1) ps))) (sym (map-append names_in so_far.0 (next.0 ∷ [])))),
+      );
+    }
 
 pub returns-clause-names : goal.returns-clause-names
-returns-clause-names g c = λ honest.
-    scanned_end (g.T.Tree.files c.args.tree.now) c.args.prerequisites.now c.loop-place.place c.loop-place.found.items _ (omega arith) (c.loop-place.invariant.rest honest)
+returns-clause-names g c =
+    let so_far = c.loop-place.invariant.scanned in
+    let are = c.finish.ensures so_far.0 so_far.1 in
+    λ honest. (so_far.0, are, scanned_end (g.T.Tree.files c.args.tree.now) c.args.prerequisites.now c.loop-place.place (map names_in so_far.0) _ (omega arith) (so_far.3 honest))
+
+pub returns-clause-each : goal.returns-clause-each
+returns-clause-each g c =
+    let so_far = c.loop-place.invariant.scanned in
+    let are = c.finish.ensures so_far.0 so_far.1 in
+    let many = ap length are.counts ∙ counts_of_texts so_far.0 ∙ so_far.2 in
+    omega (arith, many)

@@ -6,6 +6,7 @@ use Rattle.ks_fixdep.proofs.source_scan.SourceScan.new.Goals as goal
 
 pub returns : goal.returns
 returns c = record {
-  word = c.new.ensures;
-  names = c.new-2.ensures ∙ ap (λ xs. all_noted [] (map bare_name xs)) (sym ended-nil);
+  word = c.new-2.ensures;
+  names = c.new-3.ensures ∙ ap (λ xs. all_noted [] (map bare_name xs)) (sym ended-nil);
+  counts = c.new-4.ensures.items;
 }

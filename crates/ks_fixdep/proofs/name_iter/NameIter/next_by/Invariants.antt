@@ -1,6 +1,6 @@
 use Rattle.std.proofs.Common.{◌≡◌, ◌-◌, length}
 use Rattle.ks_fixdep.specs.NameIter.{names_left}
-use Rattle.ks_fixdep.proofs.name_iter.NameIterIterator.next.Given as goal
+use Rattle.ks_fixdep.proofs.name_iter.NameIter.next_by.Given as goal
 
 -- what is left to take is what was left at the start
 abbrev pub invariant-loop-skipped : goal.invariant-loop-skipped

@@ -1,0 +1,15 @@
+-- What the program does with words that `clap` takes.
+use Rattle.std.specs.Prelude.{ℕ, List, Option, IsSomeAnd}
+use Rattle.clap.specs.Words.{Text, subcommand_of}
+use Rattle.ks_tree.specs.Files.{Files}
+use Rattle.ks_commands.specs.declared.request.Request.{Request}
+use Rattle.ks_commands.specs.Performed.{IsPerformed}
+use Rattle.confstamp.specs.CommandLine.{command_line_app}
+use Rattle.confstamp.specs.Words.{IsRequestOf}
+
+-- The words make a request: that of the command that `clap` finds in them, with what it finds for each of its words.
+-- By the files it was performed, with this status.
+pub record PerformsWords (words : List Text) (old new : Files) (before after : Option (List ℕ)) (status : ℕ) : Type 0 where
+  pub request : Request
+  pub made : IsSomeAnd (subcommand_of command_line_app words) (λ command. IsRequestOf command.0 command.1 request)
+  pub performed : IsPerformed request old new before after status

@@ -1,10 +1,17 @@
+use Rattle.std.proofs.Common.{◌≡◌, ◌⊎◌, ◌<◌, ℕ, arith}
 use Rattle.confstamp.proofs.program.execute.Goals as goal
+
+-- what is done or refused, and not refused, is done
+below_two : {n : ℕ} → (n ≡ 0) ⊎ (n ≡ 2) → n < 2 → n ≡ 0
+below_two either small = grind (arith)
 
 pub returns-in-Ok-clause-performed : goal.returns-in-Ok-clause-performed
 returns-in-Ok-clause-performed g c = λ taken honest small. record {
   request = c.in-Ok.request;
   made = c.in-Ok.ensures.exact;
   performed = c.perform.ensures.performed honest small;
+  done = λ none. below_two (c.perform.ensures.done none) small;
+  unchanged = λ reads. c.perform.ensures.only_reads reads honest;
 }
 
 pub returns-in-Ok-clause-unchanged : goal.returns-in-Ok-clause-unchanged

@@ -8,8 +8,9 @@ ghost use Rattle.ks_engine.specs.Follows.{at};
 ghost use Rattle.ks_commands.specs.Batch.{WritesBatch};
 ghost use Rattle.ks_commands.specs.Changes.{StillShows};
 ghost use Rattle.ks_commands.specs.Outputs.{WritesPreview};
+ghost use Rattle.ks_commands.specs.Scripts.{RunsOrNot};
 ghost use Rattle.confstamp.specs.CommandLine.{command_line_app};
-ghost use Rattle.confstamp.specs.Performing.{PerformsWords};
+ghost use Rattle.confstamp.specs.Performing.{AreBatchOf, PerformsWords};
 ghost use Rattle.confstamp.specs.Words.{IsPlainWord};
 
 use crate::words::{WordsError, request_of};
@@ -60,6 +61,13 @@ pub fn execute<'a, T: Tree, W: Write, E: Write>(
         → (h : History) → Shows (T.files tree.old) h → result < 2
         → (last : History) × WritesBatch p (at (T.files tree.old) (T.failures tree.old) h) (at (T.files tree.new) (T.failures tree.new) last)
         (W.contents out.old) (W.contents out.new) result }
+    // The same of the script that `clap` finds, as in `batch -- -s`. Whatever the status, its commands ran, all or none.
+    ensures script { (p : List ℕ) → AreBatchOf (texts words.entry.now) p → T.is_honest tree.old
+        → (h : History) → Shows (T.files tree.old) h → result < 2
+        → (last : History) × WritesBatch p (at (T.files tree.old) (T.failures tree.old) h) (at (T.files tree.new) (T.failures tree.new) last)
+        (W.contents out.old) (W.contents out.new) result }
+    ensures whole { (p : List ℕ) → AreBatchOf (texts words.entry.now) p → T.is_honest tree.old
+        → RunsOrNot p (T.files tree.old) (T.failures tree.old) (T.files tree.new) (T.failures tree.new) }
 {
     match request_of(alloc, words) {
         Ok(request) => perform(alloc, tree, &request, out, err),

@@ -47,3 +47,7 @@ IsRequestOf command rows (request.Batch s) =
     (command ≡ codes "batch") × (string_bytes s ≡ word_at (codes "SCRIPT") rows)
 IsRequestOf command rows (request.Outdated t c) = (command ≡ codes "outdated")
     × (string_bytes t ≡ word_at (codes "TARGET") rows) × (string_bytes c ≡ word_at (codes "COMMAND") rows)
+
+-- the command is `batch`, and this is the script that `clap` found for it
+abbrev pub IsScriptOf : Text → List Row → Text → Type 0
+IsScriptOf command rows path = (command ≡ codes "batch") × (word_at (codes "SCRIPT") rows ≡ path)

@@ -1,11 +1,16 @@
 //! The program over any tree and any two writers: its words in, its status out.
-ghost use Rattle.std.specs.Prelude.{◌≡◌, ◌↔◌, ◌⊎◌, ◌<◌, ◌≤◌, ℕ, List, ◌∷◌, [], None, codes};
+ghost use Rattle.std.specs.Prelude.{◌≡◌, ◌↔◌, ◌⊎◌, ◌<◌, ◌≤◌, ℕ, List, ◌∷◌, [], None, codes, true};
 ghost use Rattle.clap.specs.Walk.{texts};
+ghost use Rattle.clap.specs.Words.{takes};
 ghost use Rattle.ks_engine.specs.History.{History};
 ghost use Rattle.ks_engine.specs.Shows.{Shows};
 ghost use Rattle.ks_engine.specs.Follows.{at};
 ghost use Rattle.ks_commands.specs.Batch.{WritesBatch};
+ghost use Rattle.ks_commands.specs.Changes.{StillShows};
 ghost use Rattle.ks_commands.specs.Outputs.{WritesPreview};
+ghost use Rattle.ks_commands.specs.Scripts.{RunsOrNot};
+ghost use Rattle.confstamp.specs.CommandLine.{command_line_app};
+ghost use Rattle.confstamp.specs.Performing.{AreBatchOf, PerformsWords};
 ghost use Rattle.confstamp.specs.Words.{IsPlainWord};
 
 use crate::words::{WordsError, request_of};
@@ -42,6 +47,10 @@ pub fn execute<'a, T: Tree, W: Write, E: Write>(
 ) -> u8
     ensures honest { T.is_honest tree.old ↔ T.is_honest tree.new }
     ensures at_most { result ≤ 2 }
+    // Of all words that `clap` takes: by the files, the request that they make was performed.
+    ensures performed { takes command_line_app (texts words.entry.now) ≡ true → T.is_honest tree.old → result < 2
+        → PerformsWords (texts words.entry.now) (T.files tree.old) (T.files tree.new) (W.contents out.old) (W.contents out.new) result }
+    ensures shown { T.is_honest tree.old → StillShows (T.files tree.old) (T.files tree.new) }
     ensures preview { (k d : List ℕ) → texts words.entry.now ≡ codes "preview" ∷ k ∷ d ∷ []
         → IsPlainWord k → IsPlainWord d → T.is_honest tree.old → result ≡ 0
         → WritesPreview (T.files tree.old) k d None (W.contents out.old) (W.contents out.new) }
@@ -52,6 +61,13 @@ pub fn execute<'a, T: Tree, W: Write, E: Write>(
         → (h : History) → Shows (T.files tree.old) h → result < 2
         → (last : History) × WritesBatch p (at (T.files tree.old) (T.failures tree.old) h) (at (T.files tree.new) (T.failures tree.new) last)
         (W.contents out.old) (W.contents out.new) result }
+    // The same of the script that `clap` finds, as in `batch -- -s`. Whatever the status, its commands ran, all or none.
+    ensures script { (p : List ℕ) → AreBatchOf (texts words.entry.now) p → T.is_honest tree.old
+        → (h : History) → Shows (T.files tree.old) h → result < 2
+        → (last : History) × WritesBatch p (at (T.files tree.old) (T.failures tree.old) h) (at (T.files tree.new) (T.failures tree.new) last)
+        (W.contents out.old) (W.contents out.new) result }
+    ensures whole { (p : List ℕ) → AreBatchOf (texts words.entry.now) p → T.is_honest tree.old
+        → RunsOrNot p (T.files tree.old) (T.failures tree.old) (T.files tree.new) (T.failures tree.new) }
 {
     match request_of(alloc, words) {
         Ok(request) => perform(alloc, tree, &request, out, err),

@@ -102,11 +102,11 @@ left_next : (before : List (List ℕ)) (t : List ℕ) (ts : List (List ℕ)) →
 left_next before t ts =
     let after = all_noted before (names_in t) in
     append_cancel_left before _ _ (
-      sym (all_behind before (t ∷ ts))
-      ∙ fold-append noted before (names_in t) (joined ts)
-      ∙ all_behind after ts
-      ∙ ap (λ l. l ++ left after ts) (new_once before (map bare_name (taken t)))
-      ∙ append_assoc before (new_names before (names_in t)) (left after ts)
+    sym (all_behind before (t ∷ ts))
+    ∙ fold-append noted before (names_in t) (joined ts)
+    ∙ all_behind after ts
+    ∙ ap (λ l. l ++ left after ts) (new_once before (map bare_name (taken t)))
+    ∙ append_assoc before (new_names before (names_in t)) (left after ts)
     )
 
 -- What is listed so far, and what is still to be listed of these prerequisites, counts, texts and names, are the whole.

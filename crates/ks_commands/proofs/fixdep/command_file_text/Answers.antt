@@ -1,4 +1,4 @@
-use Rattle.std.proofs.Common.{◌≡◌, ◌++◌, [], None, Ok, map, sym, ap, ap₂, subst, ◌∙◌}
+use Rattle.std.proofs.Common.{◌≡◌, ◌++◌, Ok, map, sym, ap, ap₂, subst, ◌∙◌}
 use Rattle.ks_fixdep.specs.CommandFile.{command_text, view}
 use Rattle.ks_fixdep.specs.DependencyFile.{dependency_refusal, prerequisites}
 use Rattle.ks_fixdep.specs.FoundNames.{names_in}

@@ -1,9 +1,8 @@
-use Rattle.std.proofs.Common.{◌≡◌, ◌+◌, ◌++◌, ◌∷◌, [], suc, length, map, take, ap, subst, sym, ◌∙◌, arith}
+use Rattle.std.proofs.Common.{◌≡◌, ◌+◌, [], suc, length, map, take, ap, subst, sym, ◌∙◌, arith}
 use Rattle.std.proofs.Math.Seq.{take-suc}
 use Rattle.std.proofs.lemmas.List.{length-map, map-append, take_all}
 use Rattle.std.proofs.lemmas.Simd.{map-map}
 use Rattle.std.proofs.lemmas.Result.{IfOk-weaker}
-use Rattle.ks_fixdep.specs.CommandFile.{view}
 use Rattle.ks_fixdep.specs.FoundNames.{names_in}
 use Rattle.ks_fixdep.specs.Record.{record_of}
 use Rattle.ks_fixdep.specs.SourceScan.{StandsAfter}

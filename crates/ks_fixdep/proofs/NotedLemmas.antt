@@ -1,5 +1,5 @@
 -- Names and paths kept as owned text.
-use Rattle.std.proofs.Common.{◌≡◌, ℕ, Bool, true, false, List, [], ◌∷◌, ◌++◌, refl, ap, sym, ◌∙◌, map, String, Global, length, get_or, ◌<◌, Some}
+use Rattle.std.proofs.Common.{◌≡◌, ℕ, Bool, true, false, List, [], ◌∷◌, ◌++◌, refl, ap, sym, ◌∙◌, map, String, Global, Some}
 use Rattle.std.specs.Map.{lookup}
 use Rattle.std.specs.Option.{is_some}
 use Rattle.std.specs.Str.{bytes_eq}
@@ -10,7 +10,7 @@ use Rattle.std.proofs.lemmas.Grind.{fold-append}
 use Rattle.std.proofs.lemmas.Bool.{cond-false}
 use Rattle.std.proofs.lemmas.List.{map-append}
 use Rattle.ks_fixdep.specs.FoundNames.{noted, all_noted, texts_of}
-use Rattle.std.specs.Prelude.{string_bytes, ◌||◌, ◌&&◌, Result, Ok, Err, OnOk, slice_get, if◌then◌else◌}
+use Rattle.std.specs.Prelude.{string_bytes, ◌||◌, Result, Ok, Err, OnOk, slice_get, if◌then◌else◌}
 use Rattle.std.specs.List.{list_all, list_any}
 use Rattle.std.proofs.lemmas.Option.{get_or_from_slice_get, slice_get_within}
 use Rattle.std.proofs.lemmas.List.Sums.{AllPass-from_list_all}
@@ -63,11 +63,3 @@ insert-new k r (e ∷ es) none = (elim (bytes_eq (string_bytes k) (string_bytes 
 -- what a test says of all items holds of the one at a place
 pub passes_at : {X : Type 0} (test : X → Bool) (xs : List X) (k : ℕ) (x : X) → list_all test xs ≡ true → slice_get xs k ≡ Some x → test x ≡ true
 passes_at test xs k x all at = ap test (sym (get_or_from_slice_get xs k x x at)) ∙ AllPass-from_list_all test xs all k x (slice_get_within xs k x at)
-
--- and of the bytes of all texts, of those of the one at a place
-all-items : (test : List ℕ → Bool) (vs : List (String Global)) → list_all test (texts_of vs) ≡ list_all (λ v. test (string_bytes v)) vs
-all-items test [] = refl
-all-items test (v ∷ vs) = ap (λ b. test (string_bytes v) && b) (all-items test vs)
-
-pub passes_in : (test : List ℕ → Bool) (vs : List (String Global)) (k : ℕ) (v : String Global) → list_all test (texts_of vs) ≡ true → k < length vs → v ≡ get_or vs k v → test (string_bytes v) ≡ true
-passes_in test vs k v all below is = ap (λ w. test (string_bytes w)) is ∙ AllPass-from_list_all (λ w. test (string_bytes w)) vs (sym (all-items test vs) ∙ all) k v below

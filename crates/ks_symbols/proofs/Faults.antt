@@ -1,5 +1,5 @@
 -- The first fault of lines, and refusals.
-use Rattle.std.proofs.Common.{◌≡◌, ℕ, ◌+◌, ◌<◌, ◌≤◌, Bool, true, false, cond, nat_lt, List, [], ◌∷◌, length, Option, Some, None, Result, Ok, Err, IfOk, refl, ap, arith}
+use Rattle.std.proofs.Common.{◌≡◌, inl, inr, ℕ, ◌+◌, ◌<◌, ◌≤◌, Bool, true, false, cond, nat_lt, List, [], ◌∷◌, length, Option, Some, None, Result, Ok, Err, IfOk, refl, ap, arith}
 use Rattle.std.proofs.lemmas.Bool.{cond-true, cond-false}
 use Rattle.std.proofs.lemmas.Bool.Decides.{nat_tests}
 use Rattle.std.proofs.lemmas.List.Sums.{sum_by-cons}
@@ -26,9 +26,9 @@ unfolding first_fault
 no_fault_left faults n = refl
 
 -- an error that is the refusal f is also the refusal g, where g follows from f
-pub refused : (e : SourceError) (f g : Option SourceError) → (f ≡ Some e → g ≡ Some e) → IsRefusal e f → IsRefusal e g
-refused fault.OutOfMemory f g h r = tt
-refused e f g h r = h r
+pub refused : (e : SourceError) (f g : Option SourceError) → (f ≡ Some e → g ≡ Some e) → IsRefusal fault.OutOfMemory e f → IsRefusal fault.OutOfMemory e g
+refused e f g h (inl memory) = inl memory
+refused e f g h (inr r) = inr (h r)
 
 pub too_large : (kinds : List ℕ → Option Kind) (text : List ℕ) → 67108864 < length text → dotconfig_refusal kinds text ≡ Some fault.TooLarge
 unfolding dotconfig_refusal
@@ -47,6 +47,6 @@ at_most_one true = omega arith
 at_most_one false = omega arith
 
 -- what an answer promises, where it is known that nothing was refused
-pub if_accepted : {X : Type 0} (r : Result X SourceError) (f : Option SourceError) (P Q : X → Type 0) → RefusedBy r f → IfOk r P → (f ≡ None → (x : X) → P x → Q x) → IfOk r Q
+pub if_accepted : {X : Type 0} (r : Result X SourceError) (f : Option SourceError) (P Q : X → Type 0) → RefusedBy fault.OutOfMemory r f → IfOk r P → (f ≡ None → (x : X) → P x → Q x) → IfOk r Q
 if_accepted (Ok x) f P Q none p h = h none x p
 if_accepted (Err e) f P Q none p h = tt

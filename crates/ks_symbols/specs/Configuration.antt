@@ -1,5 +1,5 @@
 -- What contracts see of symbols and settings, and what a configuration is.
-use Rattle.std.specs.Prelude.{ℕ, List, ◌≡◌, IsTrue, Option, Some, refl, Vec, map as map_list, false}
+use Rattle.std.specs.Prelude.{ℕ, List, ◌≡◌, IsTrue, Option, Some, refl, map as map_list, false}
 use Rattle.std.specs.Coded.{Coded, code_by, coded_ℕ, coded_list, coded×}
 use Rattle.ks_symbols.specs.declared.kinds.Kind.{Kind}
 use Rattle.std.specs.Ordering.{nat_cmp}
@@ -33,16 +33,9 @@ coded_settings_view =
     code_by (NameMap (Kind × List ℕ) × ℕ) (coded× (map.code (coded_list coded_ℕ) (coded× coded_kind (coded_list coded_ℕ))) coded_ℕ)
     (λ d. (d.entries, d.unknown)) (λ p. record { entries = p.0; unknown = p.1 }) (λ _. refl)
 
--- the map of entries that are kept by owned bytes, with what their values are seen as
-abbrev pub named : {Y V X : Type 0} → (V → X) → List (Vec ℕ Y × V) → NameMap X
-named see entries = map.from_entries (map_list (λ e. (e.0.items, see e.1)) entries)
-
-abbrev pub seen_setting : {Y : Type 0} → Kind × Vec ℕ Y → Kind × List ℕ
-seen_setting s = (s.0, s.1.items)
-
--- an entry as a finite map has it
-abbrev pub seen_entry : {Y : Type 0} → Vec ℕ Y × (Kind × Vec ℕ Y) → List ℕ × (Kind × List ℕ)
-seen_entry e = (e.0.items, seen_setting e.1)
+-- the map of entries whose names are lent
+abbrev pub by_name : {X : Type 0} → List (Bor (List ℕ) × X) → NameMap X
+by_name entries = map.from_entries (map_list (λ e. (e.0.now, e.1)) entries)
 
 -- an entry as it is lent
 abbrev pub lent_entry : Bor (List ℕ) × Kind × Bor (List ℕ) → List ℕ × (Kind × List ℕ)

@@ -5,6 +5,8 @@ use Rattle.std.specs.Char.{is_ascii_digit, is_ascii_hexdigit}
 use Rattle.std.specs.Coded.{Coded, code_by, coded_ℕ}
 use Rattle.ks_symbols.specs.declared.kinds.Kind.{Kind}
 use Rattle.ks_symbols.specs.declared.kinds.Kind.TheVariants as kind
+use Rattle.ks_symbols.specs.declared.kinds.Class.{Class}
+use Rattle.ks_symbols.specs.declared.kinds.Class.TheVariants as class
 
 -- 0 alone, or a digit 1 to 9 followed by digits
 abbrev pub is_numeral : List ℕ → Bool
@@ -39,18 +41,12 @@ is_off kind.Tristate text = bytes_eq text (codes "n")
 is_off k text = false
 
 -- bool and tristate count as one
-pub data Class : Type 0 where
-  Switch : Class
-  Text : Class
-  Int : Class
-  Hex : Class
-
 abbrev pub class_of : Kind → Class
-class_of kind.Bool = Switch
-class_of kind.Tristate = Switch
-class_of kind.Text = Text
-class_of kind.Int = Int
-class_of kind.Hex = Hex
+class_of kind.Bool = class.Switch
+class_of kind.Tristate = class.Switch
+class_of kind.Text = class.Text
+class_of kind.Int = class.Int
+class_of kind.Hex = class.Hex
 
 -- kinds as numbers, by which a proof tells them apart
 abbrev pub kind_number : Kind → ℕ
@@ -72,3 +68,22 @@ numbered_again kind.Hex = refl
 
 abbrev pub coded_kind : Coded Kind
 coded_kind = code_by ℕ coded_ℕ kind_number numbered_kind numbered_again
+
+-- classes as numbers, likewise
+abbrev pub class_number : Class → ℕ
+class_number class.Switch = 0
+class_number class.Text = 1
+class_number class.Int = 2
+class_number class.Hex = 3
+
+abbrev pub numbered_class : ℕ → Class
+numbered_class n = if n == 0 then class.Switch else if n == 1 then class.Text else if n == 2 then class.Int else class.Hex
+
+abbrev pub class_again : (k : Class) → numbered_class (class_number k) ≡ k
+class_again class.Switch = refl
+class_again class.Text = refl
+class_again class.Int = refl
+class_again class.Hex = refl
+
+abbrev pub coded_class : Coded Class
+coded_class = code_by ℕ coded_ℕ class_number numbered_class class_again

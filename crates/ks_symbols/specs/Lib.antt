@@ -14,3 +14,4 @@ pub mod Progress
 pub mod Settling
 pub mod Laws
 pub mod Examples
+pub mod Table

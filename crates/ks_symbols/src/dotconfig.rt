@@ -16,7 +16,7 @@ ghost use Rattle.ks_symbols.specs.Settling.{after_statement};
 use crate::error::SourceError;
 use crate::kinds::{Kind, is_off};
 use crate::limits::MAX_BYTES;
-use crate::settings::Settings;
+use crate::settings::{Settings, SettingsDraft};
 use crate::statements::{Statement, is_silent, parse_statement};
 use crate::symbols::Symbols;
 use crate::values::text_of;
@@ -26,7 +26,7 @@ use std::alloc::Global;
 /// Takes in a value of a declared symbol.
 fn assign(
     alloc: Global,
-    settings: &mut Settings,
+    settings: &mut SettingsDraft,
     number: u64,
     kind: Kind,
     name: &[u8],
@@ -34,17 +34,15 @@ fn assign(
 ) -> Result<(), SourceError>
     ensures entries { OnOk result ((x : List ℕ) → map.get settings.new.entries x ≡ cond (bytes_eq name.now x) (entry_with kind (text_of kind written.now)) (map.get settings.old.entries x)) }
     ensures unknown { OnOk result (settings.new.unknown ≡ settings.old.unknown) }
-    ensures refusal { RefusedBy result (value_fault number written.now (Some kind)) }
+    ensures refusal { RefusedBy SourceError.OutOfMemory result (value_fault number written.now (Some kind)) }
 {
     let Some(text) = text_of(alloc, kind, written).map_err(|_| SourceError::OutOfMemory)? else {
         return Err(SourceError::BadValue(number));
     };
     if is_off(kind, &text) {
-        settings.clear(name);
+        settings.clear(name)?;
     } else {
-        settings
-            .put(alloc, name, kind, text)
-            .map_err(|_| SourceError::OutOfMemory)?;
+        settings.put(name, kind, &text)?;
     }
     Ok(())
 }
@@ -52,7 +50,7 @@ fn assign(
 /// Takes in the line of a number.
 fn apply(
     alloc: Global,
-    settings: &mut Settings,
+    settings: &mut SettingsDraft,
     symbols: &Symbols,
     number: u64,
     line: &[u8],
@@ -60,7 +58,7 @@ fn apply(
     requires { settings.old.unknown < 2 ^ 63 }
     ensures entries { OnOk result ((x : List ℕ) → map.get settings.new.entries x ≡ after_statement (map.get symbols.now.kinds x) x (statement line.now) (map.get settings.old.entries x)) }
     ensures unknown { OnOk result (settings.new.unknown ≡ settings.old.unknown + (if is_of_unknown (map.get symbols.now.kinds) (statement line.now) then 1 else 0)) }
-    ensures refusal { RefusedBy result (fault_of_statement (map.get symbols.now.kinds) number line.now (statement line.now)) }
+    ensures refusal { RefusedBy SourceError.OutOfMemory result (fault_of_statement (map.get symbols.now.kinds) number line.now (statement line.now)) }
 {
     match parse_statement(line) {
         None => {
@@ -73,7 +71,7 @@ fn apply(
         Some(Statement::Unsets(name)) => {
             match symbols.kind_of(name) {
                 None => settings.skip(),
-                Some(_) => settings.clear(name),
+                Some(_) => settings.clear(name)?,
             }
             Ok(())
         }
@@ -95,17 +93,17 @@ pub fn read_dotconfig(
 ) -> Result<Settings, SourceError>
     ensures entries { IfOk result (λ s. (x : List ℕ) → map.get s.entries x ≡ setting (map.get symbols.now.kinds) (lines text.now) x) }
     ensures unknown { IfOk result (λ s. s.unknown ≡ unknown_count (map.get symbols.now.kinds) (lines text.now)) }
-    ensures refusal { RefusedBy result (dotconfig_refusal (map.get symbols.now.kinds) text.now) }
+    ensures refusal { RefusedBy SourceError.OutOfMemory result (dotconfig_refusal (map.get symbols.now.kinds) text.now) }
     ensures configured { HasSymbolNames (map.get symbols.now.kinds) → IfOk result (λ s. IsConfiguration s.entries) }
 {
     if text.len() > MAX_BYTES {
         return Err(SourceError::TooLarge);
     }
-    let mut settings = Settings::new(alloc);
+    let mut settings = SettingsDraft::new(alloc);
     let mut number: u64 = 1;
     for line in text.lines() {
         apply(alloc, &mut settings, symbols, number, line)?;
         number += 1;
     }
-    Ok(settings)
+    Ok(settings.close(alloc)?)
 }

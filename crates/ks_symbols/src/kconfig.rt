@@ -6,7 +6,8 @@
 ghost use Rattle.std.specs.Prelude.{◌≡◌, ◌+◌, ◌≤◌, ◌<◌, ◌^◌, ℕ, List, option_map, unwrap_or, codes, vec_items, IfOk, OnOk, IsTrue};
 ghost use Rattle.std.specs.FinMap as map;
 ghost use Rattle.ks_symbols.specs.Refusals.{RefusedBy};
-ghost use Rattle.ks_symbols.specs.Configuration.{named, HasSymbolNames};
+ghost use Rattle.ks_symbols.specs.Configuration.{by_name, HasSymbolNames};
+ghost use Rattle.ks_symbols.specs.Table.{with_values};
 ghost use Rattle.ks_symbols.specs.Progress.{no_progress, waiting_fault, progress_after, step_fault};
 ghost use Rattle.ks_symbols.specs.Forms.{form, Title, Entry, HasKind};
 ghost use Rattle.ks_symbols.specs.Titles.{is_title};
@@ -18,10 +19,11 @@ use crate::kinds::Kind;
 use crate::limits::MAX_BYTES;
 use crate::names::name_is_legal;
 use crate::symbols::Symbols;
+use crate::table::Draft;
 use crate::titles::is_title;
 use bstr::ByteSlice;
 use std::alloc::{AllocError, Global};
-use std::collections::BTreeMap;
+use std::collections::HashMap;
 use std::marker::Model;
 
 /// Whether a symbol of a kind was declared with another one before.
@@ -34,56 +36,58 @@ fn clashes(kind: Kind, before: Option<Kind>) -> bool
     }
 }
 
-fn kind_in(kinds: &BTreeMap<Vec<u8>, Kind>, name: &[u8]) -> Option<Kind>
-    ensures { result ≡ map.get (named (λ k. k) kinds.now.entries) name.now }
+/// Declares a symbol, and tells the kind that it was declared with before.
+fn declare<'a>(
+    kinds: &mut HashMap<&'a [u8], Kind>,
+    name: &'a [u8],
+    kind: Kind,
+) -> Result<Option<Kind>, AllocError>
+    ensures before { IfOk result (λ before. before ≡ map.get (by_name kinds.old.entries) name.now) }
+    ensures declared { OnOk result (by_name kinds.new.entries ≡ map.insert (by_name kinds.old.entries) name.now kind) }
 {
-    kinds.get(name).copied()
+    Ok(kinds.insert(name, kind)?)
 }
 
-fn declare(kinds: &mut BTreeMap<Vec<u8>, Kind>, name: Vec<u8>, kind: Kind) -> Result<(), AllocError>
-    ensures { OnOk result (named (λ k. k) kinds.new.entries ≡ map.insert (named (λ k. k) kinds.old.entries) name.items kind) }
-{
-    kinds.insert(name, kind)?;
-    Ok(())
-}
-
-/// The title, or the one that a text without a title line has.
-fn title_or_default(alloc: Global, title: Option<Vec<u8>>) -> Result<Vec<u8>, AllocError>
-    ensures { IfOk result (λ t. t.items ≡ unwrap_or (option_map vec_items title) (codes "Main menu")) }
+/// A copy of the title, or of the one that a text without a title line has.
+fn title_or_default(alloc: Global, title: Option<&[u8]>) -> Result<Vec<u8>, AllocError>
+    ensures { IfOk result (λ t. t.items ≡ unwrap_or (option_map (λ l. l.now) title.entry) (codes "Main menu")) }
 {
     match title {
-        Some(title) => Ok(title),
+        Some(title) => Vec::from_slice(alloc, title),
         None => Vec::from_slice(alloc, b"Main menu"),
     }
 }
 
-/// What was read of a Kconfig text so far.
+/// What was read of a Kconfig text so far. A clash is told at its line, so while the text is read its names stand in a
+/// hash table too.
 #[derive(Drop)]
-struct Reader {
-    kinds: BTreeMap<Vec<u8>, Kind>,
-    title: Option<Vec<u8>>,
+struct Reader<'a> {
+    kinds: HashMap<&'a [u8], Kind>,
+    symbols: Draft<Kind>,
+    title: Option<&'a [u8]>,
     started: bool,
-    waiting: Option<(u64, Vec<u8>)>,
+    waiting: Option<(u64, &'a [u8])>,
 }
 
-impl Model for Reader {
+impl<'a> Model for Reader<'a> {
     ghost use Rattle.std.specs.Prelude.{option_map};
-    ghost use Rattle.ks_symbols.specs.Configuration.{named};
+    ghost use Rattle.ks_symbols.specs.Configuration.{by_name};
     ghost use Rattle.ks_symbols.specs.Progress.{Progress, coded_progress};
 
     ghost Value = { Progress };
 
     ghost coded = { coded_progress };
 
-    ghost view = { λ s. record { kinds = named (λ k. k) s.kinds.entries; title = option_map (λ t. t.items) s.title; started = s.started; waiting = option_map (λ w. (w.0, w.1.items)) s.waiting } };
+    ghost view = { λ s. record { kinds = by_name s.kinds.entries; symbols = s.symbols; title = option_map (λ t. t.now) s.title; started = s.started; waiting = option_map (λ w. (w.0, w.1.now)) s.waiting } };
 }
 
-impl Reader {
-    fn new(alloc: Global) -> Reader
+impl<'a> Reader<'a> {
+    fn new(alloc: Global) -> Reader<'a>
         ensures { result ≡ no_progress }
     {
         Reader {
-            kinds: BTreeMap::new(alloc),
+            kinds: HashMap::new(alloc),
+            symbols: Draft::new(alloc),
             title: None,
             started: false,
             waiting: None,
@@ -92,7 +96,7 @@ impl Reader {
 
     /// Whether no entry waits for its kind.
     fn check_waiting(&self) -> Result<(), SourceError>
-        ensures refusal { RefusedBy result (waiting_fault self.now.waiting) }
+        ensures refusal { RefusedBy SourceError.OutOfMemory result (waiting_fault self.now.waiting) }
         ensures none { OnOk result (self.now.waiting ≡ None) }
     {
         match &self.waiting {
@@ -101,23 +105,22 @@ impl Reader {
         }
     }
 
-    fn take_title(&mut self, alloc: Global, number: u64, title: &[u8]) -> Result<(), SourceError>
+    fn take_title(&mut self, number: u64, title: &'a [u8]) -> Result<(), SourceError>
         ensures progress { OnOk result (self.new ≡ progress_after self.old number (Title title.now)) }
-        ensures refusal { RefusedBy result (step_fault self.old number (Title title.now)) }
+        ensures refusal { RefusedBy SourceError.OutOfMemory result (step_fault self.old number (Title title.now)) }
     {
         self.check_waiting()?;
         if !is_title(title) || self.started {
             return Err(SourceError::BadTitle(number));
         }
-        let title = Vec::from_slice(alloc, title).map_err(|_| SourceError::OutOfMemory)?;
         self.title = Some(title);
         self.started = true;
         Ok(())
     }
 
-    fn take_entry(&mut self, alloc: Global, number: u64, name: &[u8]) -> Result<(), SourceError>
+    fn take_entry(&mut self, number: u64, name: &'a [u8]) -> Result<(), SourceError>
         ensures progress { OnOk result (self.new ≡ progress_after self.old number (Entry name.now)) }
-        ensures refusal { RefusedBy result (step_fault self.old number (Entry name.now)) }
+        ensures refusal { RefusedBy SourceError.OutOfMemory result (step_fault self.old number (Entry name.now)) }
     {
         self.check_waiting()?;
         if !name_is_legal(name) {
@@ -126,7 +129,6 @@ impl Reader {
         if name.ends_with(b"_MODULE") {
             return Err(SourceError::ModuleName(number));
         }
-        let name = Vec::from_slice(alloc, name).map_err(|_| SourceError::OutOfMemory)?;
         self.started = true;
         self.waiting = Some((number, name));
         Ok(())
@@ -134,30 +136,31 @@ impl Reader {
 
     fn take_kind(&mut self, number: u64, kind: Kind) -> Result<(), SourceError>
         ensures progress { OnOk result (self.new ≡ progress_after self.old number (HasKind kind)) }
-        ensures refusal { RefusedBy result (step_fault self.old number (HasKind kind)) }
+        ensures refusal { RefusedBy SourceError.OutOfMemory result (step_fault self.old number (HasKind kind)) }
     {
         let Some((_, name)) = self.waiting.take() else {
             return Err(SourceError::NotBare(number));
         };
-        if clashes(kind, kind_in(&self.kinds, &name)) {
+        let before = declare(&mut self.kinds, name, kind)?;
+        if clashes(kind, before) {
             return Err(SourceError::TypeClash(number));
         }
-        declare(&mut self.kinds, name, kind).map_err(|_| SourceError::OutOfMemory)?;
+        self.symbols.put(name, kind, b"")?;
         Ok(())
     }
 
-    fn take_line(&mut self, alloc: Global, number: u64, line: &[u8]) -> Result<(), SourceError>
+    fn take_line(&mut self, number: u64, line: &'a [u8]) -> Result<(), SourceError>
         ensures progress { OnOk result (self.new ≡ progress_after self.old number (form line.now)) }
-        ensures refusal { RefusedBy result (step_fault self.old number (form line.now)) }
+        ensures refusal { RefusedBy SourceError.OutOfMemory result (step_fault self.old number (form line.now)) }
     {
         match form_of(line) {
             Form::Silent => Ok(()),
-            Form::Title(title) => self.take_title(alloc, number, title),
+            Form::Title(title) => self.take_title(number, title),
             Form::Untitled => {
                 self.check_waiting()?;
                 Err(SourceError::BadTitle(number))
             }
-            Form::Entry(name) => self.take_entry(alloc, number, name),
+            Form::Entry(name) => self.take_entry(number, name),
             Form::HasKind(kind) => self.take_kind(number, kind),
             Form::Unknown => Err(SourceError::NotBare(number)),
         }
@@ -165,13 +168,13 @@ impl Reader {
 
     /// The symbols, where no entry waits for its kind.
     fn finish(self, alloc: Global) -> Result<Symbols, SourceError>
-        ensures kinds { IfOk result (λ s. s.kinds ≡ self.kinds) }
-        ensures title { IfOk result (λ s. s.title ≡ unwrap_or self.title (codes "Main menu")) }
-        ensures refusal { RefusedBy result (waiting_fault self.waiting) }
+        ensures kinds { IfOk result (λ s. s.kinds ≡ with_values (λ e. e.0) self.entry.symbols) }
+        ensures title { IfOk result (λ s. s.title ≡ unwrap_or self.entry.title (codes "Main menu")) }
+        ensures refusal { RefusedBy SourceError.OutOfMemory result (waiting_fault self.entry.waiting) }
     {
         self.check_waiting()?;
-        let title = title_or_default(alloc, self.title).map_err(|_| SourceError::OutOfMemory)?;
-        Ok(Symbols::new(self.kinds, title))
+        let title = title_or_default(alloc, self.title)?;
+        Ok(Symbols::new(self.symbols.close(alloc)?, title))
     }
 }
 
@@ -179,7 +182,7 @@ impl Reader {
 pub fn read_kconfig(alloc: Global, text: &[u8]) -> Result<Symbols, SourceError>
     ensures kinds { IfOk result (λ s. (x : List ℕ) → map.get s.kinds x ≡ declared text.now x) }
     ensures title { IfOk result (λ s. s.title ≡ title_of text.now) }
-    ensures refusal { RefusedBy result (kconfig_refusal text.now) }
+    ensures refusal { RefusedBy SourceError.OutOfMemory result (kconfig_refusal text.now) }
     ensures names { IfOk result (λ s. HasSymbolNames (map.get s.kinds)) }
     ensures titled { IfOk result (λ s. IsTrue (is_title s.title)) }
 {
@@ -189,7 +192,7 @@ pub fn read_kconfig(alloc: Global, text: &[u8]) -> Result<Symbols, SourceError>
     let mut reader = Reader::new(alloc);
     let mut number: u64 = 1;
     for line in text.lines() {
-        reader.take_line(alloc, number, line)?;
+        reader.take_line(number, line)?;
         number += 1;
     }
     reader.finish(alloc)

@@ -5,7 +5,7 @@
 ghost use Rattle.std.specs.Prelude.{◌≡◌};
 ghost use Rattle.std.specs.List.{list_all};
 ghost use Rattle.std.specs.Char.{is_ascii_digit, is_ascii_hexdigit};
-ghost use Rattle.ks_symbols.specs.Kinds.{is_text, is_string_byte, is_numeral, is_integer, is_hexadecimal, is_off};
+ghost use Rattle.ks_symbols.specs.Kinds.{is_text, is_string_byte, is_numeral, is_integer, is_hexadecimal, is_off, class_of};
 
 /// The kind of a symbol.
 #[derive(Clone, Copy, Debug, PartialEq, Eq)]
@@ -20,6 +20,32 @@ pub enum Kind {
     Int,
     /// `hex`: hexadecimal digits, with or without `0x` or `0X`.
     Hex,
+}
+
+/// What of a kind the header depends on: `bool` and `tristate` are one class.
+#[derive(Clone, Copy, Debug, PartialEq, Eq)]
+pub enum Class {
+    /// `bool` and `tristate`.
+    Switch,
+    /// `string`.
+    Text,
+    /// `int`.
+    Int,
+    /// `hex`.
+    Hex,
+}
+
+impl Kind {
+    pub fn class(self) -> Class
+        ensures { result ≡ class_of self }
+    {
+        match self {
+            Kind::Bool | Kind::Tristate => Class::Switch,
+            Kind::Text => Class::Text,
+            Kind::Int => Class::Int,
+            Kind::Hex => Class::Hex,
+        }
+    }
 }
 
 pub(crate) fn is_string_byte(byte: u8) -> bool

@@ -13,6 +13,7 @@ mod names;
 mod settings;
 mod statements;
 mod symbols;
+mod table;
 mod titles;
 mod values;
 
@@ -20,7 +21,7 @@ pub use decimal::{decimals_read_back, read_decimal, write_decimal};
 pub use dotconfig::read_dotconfig;
 pub use error::SourceError;
 pub use kconfig::read_kconfig;
-pub use kinds::{Kind, value_is_valid};
+pub use kinds::{Class, Kind, value_is_valid};
 pub use laws::{
     agreeing_configurations_are_one, examples_hold, lines_are_the_text, reads_are_texts,
     settings_are_configurations, statements_are_spelled,
@@ -28,8 +29,9 @@ pub use laws::{
 pub use limits::MAX_BYTES;
 pub use names::{Name, Path, name_is_legal, path_is_legal, target_is_legal};
 pub use settings::{Entries, Settings};
-pub use statements::{Statement, is_silent, parse_statement};
+pub use statements::{Statement, is_silent, parse_statement, split_word};
 pub use symbols::Symbols;
+pub use table::{Draft, Rows, Table};
 
 #[cfg(test)]
 mod tests;

@@ -1,51 +1,49 @@
 //! The settings.
-ghost use Rattle.std.specs.Prelude.{◌≡◌, ◌+◌, ◌^◌, ◌<◌, OnOk, Some, None, List, ℕ, cond, bytes_eq, option_map};
+ghost use Rattle.std.specs.Prelude.{◌≡◌, ◌+◌, ◌^◌, ◌<◌, OnOk, IfOk, Some, None, List, ℕ, cond, bytes_eq, option_map};
 ghost use Rattle.std.specs.FinMap as map;
 ghost use Rattle.std.specs.Iterator.{item_count};
 ghost use Rattle.std.specs.Map.Iter.{TakesFirst};
 ghost use Rattle.ks_symbols.specs.Configuration.{lent_entry};
 
 use crate::kinds::Kind;
+use crate::table::{Draft, Rows, Table};
 use std::alloc::{AllocError, Global};
-use std::collections::BTreeMap;
-use std::collections::btree_map::Iter;
 use std::marker::Model;
 
 /// The symbols that have a value, with their kinds and texts, and how many lines spoke of names that are not declared.
 #[derive(Drop)]
 pub struct Settings {
-    entries: BTreeMap<Vec<u8>, (Kind, Vec<u8>)>,
+    entries: Table<Kind>,
     unknown: u64,
 }
 
 impl Model for Settings {
-    ghost use Rattle.ks_symbols.specs.Configuration.{SettingsView, coded_settings_view, named, seen_setting};
+    ghost use Rattle.ks_symbols.specs.Configuration.{SettingsView, coded_settings_view};
 
     ghost Value = { SettingsView };
 
     ghost coded = { coded_settings_view };
 
-    ghost view = { λ s. record { entries = named seen_setting s.entries.entries; unknown = s.unknown } };
+    ghost view = { λ s. record { entries = s.entries; unknown = s.unknown } };
 }
 
 /// The entries of settings, by rising names: name, kind and text.
 #[derive(Drop)]
 pub struct Entries<'a> {
-    inner: Iter<'a, Vec<u8>, (Kind, Vec<u8>)>,
+    inner: Rows<'a, Kind>,
 }
 
 impl<'a> Model for Entries<'a> {
-    ghost use Rattle.std.specs.Prelude.{List, ℕ, map};
+    ghost use Rattle.std.specs.Prelude.{List, ℕ};
     ghost use Rattle.std.specs.Coded.{coded_list, coded×, coded_ℕ};
     ghost use Rattle.ks_symbols.specs.declared.kinds.Kind.{Kind};
     ghost use Rattle.ks_symbols.specs.Kinds.{coded_kind};
-    ghost use Rattle.ks_symbols.specs.Configuration.{seen_entry};
 
     ghost Value = { List (List ℕ × (Kind × List ℕ)) };
 
     ghost coded = { coded_list (coded× (coded_list coded_ℕ) (coded× coded_kind (coded_list coded_ℕ))) };
 
-    ghost view = { λ e. map seen_entry e.inner };
+    ghost view = { λ e. e.inner };
 }
 
 impl<'a> Iterator for Entries<'a> {
@@ -56,32 +54,16 @@ impl<'a> Iterator for Entries<'a> {
     ghost remaining = { item_count (λ rest. rest) };
 
     fn next(&mut self) -> Option<(&'a [u8], Kind, &'a [u8])> {
-        match self.inner.next() {
-            Some((name, (kind, text))) => Some((name, *kind, text)),
-            None => None,
-        }
+        self.inner.next()
     }
 }
 
 impl Settings {
-    pub(crate) fn new(alloc: Global) -> Settings
-        ensures entries { result.entries ≡ map.empty }
-        ensures unknown { result.unknown ≡ 0 }
-    {
-        Settings {
-            entries: BTreeMap::new(alloc),
-            unknown: 0,
-        }
-    }
-
     /// The kind and the text of a symbol that has a value.
     pub fn get(&self, name: &[u8]) -> Option<(Kind, &[u8])>
         ensures { option_map (λ s. (s.0, s.1.now)) result ≡ map.get self.now.entries name.now }
     {
-        match self.entries.get(name) {
-            Some((kind, text)) => Some((*kind, text)),
-            None => None,
-        }
+        self.entries.get(name)
     }
 
     /// The entries, by rising names.
@@ -89,7 +71,7 @@ impl Settings {
         ensures { result ≡ map.entries self.now.entries }
     {
         Entries {
-            inner: self.entries.iter(),
+            inner: self.entries.rows(),
         }
     }
 
@@ -99,29 +81,50 @@ impl Settings {
     {
         self.unknown
     }
+}
+
+/// Settings while their lines are read.
+#[derive(Drop)]
+pub(crate) struct SettingsDraft {
+    entries: Draft<Kind>,
+    unknown: u64,
+}
+
+impl Model for SettingsDraft {
+    ghost use Rattle.ks_symbols.specs.Configuration.{SettingsView, coded_settings_view};
+
+    ghost Value = { SettingsView };
+
+    ghost coded = { coded_settings_view };
+
+    ghost view = { λ s. record { entries = s.entries; unknown = s.unknown } };
+}
+
+impl SettingsDraft {
+    pub(crate) fn new(alloc: Global) -> SettingsDraft
+        ensures entries { result.entries ≡ map.empty }
+        ensures unknown { result.unknown ≡ 0 }
+    {
+        SettingsDraft {
+            entries: Draft::new(alloc),
+            unknown: 0,
+        }
+    }
 
     /// Gives a symbol a kind and a text, in place of those before.
-    pub(crate) fn put(
-        &mut self,
-        alloc: Global,
-        name: &[u8],
-        kind: Kind,
-        text: Vec<u8>,
-    ) -> Result<(), AllocError>
-        ensures entries { OnOk result ((x : List ℕ) → map.get self.new.entries x ≡ cond (bytes_eq name.now x) (Some (kind, text.items)) (map.get self.old.entries x)) }
+    pub(crate) fn put(&mut self, name: &[u8], kind: Kind, text: &[u8]) -> Result<(), AllocError>
+        ensures entries { OnOk result ((x : List ℕ) → map.get self.new.entries x ≡ cond (bytes_eq name.now x) (Some (kind, text.now)) (map.get self.old.entries x)) }
         ensures unknown { OnOk result (self.new.unknown ≡ self.old.unknown) }
     {
-        let name = Vec::from_slice(alloc, name)?;
-        self.entries.insert(name, (kind, text))?;
-        Ok(())
+        self.entries.put(name, kind, text)
     }
 
     /// Takes a symbol's value away.
-    pub(crate) fn clear(&mut self, name: &[u8])
-        ensures entries { (x : List ℕ) → map.get self.new.entries x ≡ cond (bytes_eq name.now x) None (map.get self.old.entries x) }
-        ensures unknown { self.new.unknown ≡ self.old.unknown }
+    pub(crate) fn clear(&mut self, name: &[u8]) -> Result<(), AllocError>
+        ensures entries { OnOk result ((x : List ℕ) → map.get self.new.entries x ≡ cond (bytes_eq name.now x) None (map.get self.old.entries x)) }
+        ensures unknown { OnOk result (self.new.unknown ≡ self.old.unknown) }
     {
-        self.entries.remove(name);
+        self.entries.remove(name)
     }
 
     /// Counts a line about a name that is not declared.
@@ -131,5 +134,14 @@ impl Settings {
         ensures unknown { self.new.unknown ≡ self.old.unknown + 1 }
     {
         self.unknown += 1;
+    }
+
+    pub(crate) fn close(self, alloc: Global) -> Result<Settings, AllocError>
+        ensures { IfOk result (λ s. s ≡ self) }
+    {
+        Ok(Settings {
+            entries: self.entries.close(alloc)?,
+            unknown: self.unknown,
+        })
     }
 }

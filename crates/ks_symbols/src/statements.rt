@@ -18,7 +18,7 @@ pub enum Statement<'a> {
 }
 
 /// The word bytes at the front, and what follows them.
-fn split_word(text: &[u8]) -> (&[u8], &[u8])
+pub fn split_word(text: &[u8]) -> (&[u8], &[u8])
     ensures word { result.0.now ≡ take_while is_word_byte text.now }
     ensures rest { result.1.now ≡ drop (length result.0.now) text.now }
 {

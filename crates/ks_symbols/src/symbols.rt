@@ -1,32 +1,33 @@
 //! The declared symbols.
 ghost use Rattle.std.specs.Prelude.{◌≡◌};
 ghost use Rattle.std.specs.FinMap as map;
-ghost use Rattle.ks_symbols.specs.Configuration.{named};
+ghost use Rattle.ks_symbols.specs.Table.{with_values};
 
 use crate::kinds::Kind;
-use std::collections::BTreeMap;
+use crate::table::Table;
 use std::marker::Model;
 
 /// The symbols that a Kconfig text declares, with their kinds, and its title.
 #[derive(Drop)]
 pub struct Symbols {
-    kinds: BTreeMap<Vec<u8>, Kind>,
+    kinds: Table<Kind>,
     title: Vec<u8>,
 }
 
 impl Model for Symbols {
-    ghost use Rattle.ks_symbols.specs.Configuration.{Declarations, coded_declarations, named};
+    ghost use Rattle.ks_symbols.specs.Configuration.{Declarations, coded_declarations};
+    ghost use Rattle.ks_symbols.specs.Table.{with_values};
 
     ghost Value = { Declarations };
 
     ghost coded = { coded_declarations };
 
-    ghost view = { λ s. record { kinds = named (λ k. k) s.kinds.entries; title = s.title.items } };
+    ghost view = { λ s. record { kinds = with_values (λ e. e.0) s.kinds; title = s.title.items } };
 }
 
 impl Symbols {
-    pub(crate) fn new(kinds: BTreeMap<Vec<u8>, Kind>, title: Vec<u8>) -> Symbols
-        ensures kinds { result.kinds ≡ named (λ k. k) kinds.entries }
+    pub(crate) fn new(kinds: Table<Kind>, title: Vec<u8>) -> Symbols
+        ensures kinds { result.kinds ≡ with_values (λ e. e.0) kinds }
         ensures title { result.title ≡ title.items }
     {
         Symbols { kinds, title }
@@ -42,6 +43,9 @@ impl Symbols {
     pub fn kind_of(&self, name: &[u8]) -> Option<Kind>
         ensures { result ≡ map.get self.now.kinds name.now }
     {
-        self.kinds.get(name).copied()
+        match self.kinds.get(name) {
+            Some((kind, _)) => Some(kind),
+            None => None,
+        }
     }
 }

@@ -7,6 +7,10 @@ const DEMO: &[u8] = b"mainmenu \"Demo\"\nconfig A\n\tbool\nconfig B\n\ttristate\
 /// A symbol of each kind that holds a value.
 const VALUES: &[u8] = b"config S\n\tstring\nconfig I\n\tint\nconfig H\n\thex\n";
 
+/// Symbols whose names begin alike, and begin with each kind of byte that a name has.
+const ALIKE: &[u8] =
+    b"config a\n\tbool\nconfig _\n\tbool\nconfig A_\n\tbool\nconfig AA\n\tbool\nconfig A\n\tbool\nconfig 0\n\tbool\n";
+
 const LONGEST: &[u8; 128] = &[b'N'; 128];
 
 /// The title and, for each name, `name kind` as the Kconfig has them, or the refusal.
@@ -83,7 +87,7 @@ fn kconfigs(rt: HostRuntime) -> Result<(), AllocError> {
 #[rattlefmt::skip]
 fn dotconfigs(rt: HostRuntime) -> Result<(), AllocError> {
     let alloc = rt.alloc();
-    let rows: [(&str, &[u8], &[u8], &str); 28] = [
+    let rows: [(&str, &[u8], &[u8], &str); 32] = [
         ("two switches", DEMO, b"CONFIG_B=m\nCONFIG_A=y\n", "A=y B=m unknown 0"),
         ("CR LF and no end", DEMO, b"CONFIG_A=y\r\nCONFIG_B=m", "A=y B=m unknown 0"),
         ("off, and a name of none", DEMO, b"CONFIG_A=y\n# CONFIG_A is not set\nCONFIG_ZZ=7\n", "unknown 1"),
@@ -96,6 +100,10 @@ fn dotconfigs(rt: HostRuntime) -> Result<(), AllocError> {
         ("a line of blanks", DEMO, b" \n", "7 NotAConfigLine line 1"),
         ("m for a bool", DEMO, b"CONFIG_A=m\n", "8 BadValue line 1"),
         ("a faulty value, then a good one", DEMO, b"CONFIG_A=x\nCONFIG_A=y\n", "8 BadValue line 1"),
+        ("one symbol", b"config A\n\tbool\n", b"CONFIG_A=y\n", "A=y unknown 0"),
+        ("three lines of a name", VALUES, b"CONFIG_I=1\nCONFIG_I=2\nCONFIG_I=3\n", "I=3 unknown 0"),
+        ("and other names between", VALUES, b"CONFIG_I=1\nCONFIG_S=\"a\"\nCONFIG_I=2\nCONFIG_H=1\nCONFIG_I=3\n", "H=1 I=3 S=a unknown 0"),
+        ("names that begin alike", ALIKE, b"CONFIG_a=y\nCONFIG__=y\nCONFIG_AA=y\nCONFIG_A_=y\nCONFIG_0=y\nCONFIG_A=y\n", "0=y A=y AA=y A_=y _=y a=y unknown 0"),
         ("quotes and backslashes", VALUES, b"CONFIG_S=\"a\\\"b\\\\c\"\n", "S=a\"b\\c unknown 0"),
         ("an empty string", VALUES, b"CONFIG_S=\"\"\n", "S= unknown 0"),
         ("the string n", VALUES, b"CONFIG_S=\"n\"\n", "S=n unknown 0"),

@@ -7,12 +7,12 @@ use Rattle.ks_symbols.proofs.LastLine.{declared_after}
 use Rattle.std.proofs.lemmas.Result.{on_ok_weaker}
 use Rattle.ks_symbols.proofs.dotconfig.apply.Goals as goal
 
-pub returns-in-Some-clause-entries : goal.returns-in-Some-clause-entries
+pub returns-in_ok-clear-in-Some-clause-entries : goal.returns-in_ok-clear-in-Some-clause-entries
 unfolding gives
-returns-in-Some-clause-entries c = λ x.
+returns-in_ok-clear-in-Some-clause-entries c = λ x.
     let before = map.get c.args.settings.now.entries x in
     let kinds = map.get c.args.symbols.now.kinds in
-    c.clear.ensures.entries x
+    c.in_ok-clear-in-Some.ensures.entries x
     ∙ declared_after kinds c.in-Some.field-0 (Unsets c.in-Some-Unsets.name.now) (sym c.in-Some.ensures) x before
     ∙ ap (λ f. after_statement (kinds x) x (Some (seen_statement f)) before) (sym c.in-Some-Unsets.field-0-is)
     ∙ ap (λ said. after_statement (kinds x) x said before) c.in-Some-Unsets.ensures

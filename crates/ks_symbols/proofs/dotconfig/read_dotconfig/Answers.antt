@@ -1,4 +1,4 @@
-use Rattle.std.proofs.Common.{◌≡◌, ◌+◌, ◌≤◌, ℕ, ◌∷◌, None, length, sym, ap, ◌∙◌, cond, zero-add, arith}
+use Rattle.std.proofs.Common.{◌≡◌, inr, ◌+◌, ◌≤◌, ℕ, ◌∷◌, None, length, sym, ap, ◌∙◌, cond, zero-add, arith}
 use Rattle.std.specs.Ordering.{nat_cmp}
 use Rattle.std.specs.Cmp.Lexicographic.{slice_cmp}
 use Rattle.std.specs.FinMap as map
@@ -12,7 +12,7 @@ use Rattle.ks_symbols.proofs.Configured.{configured}
 use Rattle.ks_symbols.proofs.dotconfig.read_dotconfig.Goals as goal
 
 pub returns-then-text-gt-MAX_BYTES-clause-refusal : goal.returns-then-text-gt-MAX_BYTES-clause-refusal
-returns-then-text-gt-MAX_BYTES-clause-refusal c = too_large (map.get c.args.symbols.now.kinds) c.args.text.now c.if-text-gt-MAX_BYTES.true
+returns-then-text-gt-MAX_BYTES-clause-refusal c = inr (too_large (map.get c.args.symbols.now.kinds) c.args.text.now c.if-text-gt-MAX_BYTES.true)
 
 pub loop-line-init : goal.loop-line-init
 unfolding lines
@@ -79,7 +79,8 @@ pub returns-clause-entries : goal.returns-clause-entries
 returns-clause-entries c = λ x.
     let kinds = map.get c.args.symbols.now.kinds in
     let before = map.get c.loop-line.settings.entries x in
-    sym (settled-nil (kinds x) x before)
+    ap (λ s. map.get s.entries x) c.in_ok-close.ensures
+    ∙ sym (settled-nil (kinds x) x before)
     ∙ ap (settled (kinds x) x before) (sym c.in-None.ensures.steps.0)
     ∙ c.loop-line.invariant.entries x
     ∙ settled-setting kinds x (lines c.args.text.now)
@@ -95,4 +96,4 @@ returns-clause-refusal c =
 
 pub returns-clause-configured : goal.returns-clause-configured
 returns-clause-configured c = λ names.
-    configured (map.get c.args.symbols.now.kinds) (lines c.args.text.now) c.loop-line.settings.entries names (returns-clause-entries c)
+    configured (map.get c.args.symbols.now.kinds) (lines c.args.text.now) c.in_ok-close.field-0.entries names (returns-clause-entries c)

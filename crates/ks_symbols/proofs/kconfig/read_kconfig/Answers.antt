@@ -1,21 +1,24 @@
-use Rattle.std.proofs.Common.{◌≡◌, ◌+◌, ℕ, List, [], map as map_list, unwrap_or, codes, length, IsTrue, sym, ap, subst, ◌∙◌, arith}
+use Rattle.std.proofs.Common.{◌≡◌, inr, ◌+◌, ℕ, List, [], map as map_list, unwrap_or, codes, length, IsTrue, sym, ap, subst, ◌∙◌, arith}
 use Rattle.std.specs.FinMap as map
 use Rattle.std.proofs.lemmas.Result.{err_from_is_err_and}
 use Rattle.ks_symbols.specs.Lines.{lines}
+use Rattle.ks_symbols.specs.declared.error.SourceError.TheVariants as fault
 use Rattle.ks_symbols.specs.Refusals.{or_else, RefusedBy}
 use Rattle.ks_symbols.specs.Forms.{form}
 use Rattle.ks_symbols.specs.Titles.{is_title}
 use Rattle.ks_symbols.specs.Kconfig.{declared, title_of, kconfig_refusal}
 use Rattle.ks_symbols.specs.Progress.{no_progress, progress_after, step_fault, waiting_fault}
+use Rattle.ks_symbols.specs.Table.{with_values}
+use Rattle.ks_symbols.proofs.Tables.{get-with_values}
 use Rattle.ks_symbols.proofs.Faults.{refused, if_accepted}
-use Rattle.ks_symbols.proofs.Story.{run_fault, run_fault-cons, run_fault-nil, run_end, run_end-cons, found, too_long, read_all}
+use Rattle.ks_symbols.proofs.Story.{run_fault, run_fault-cons, run_fault-nil, run_end, run_end-cons, found, too_long, read_all, symbols_kept}
 use Rattle.ks_symbols.specs.Configuration.{HasSymbolNames}
 use Rattle.ks_symbols.proofs.Configured.{declares_names}
 use Rattle.ks_symbols.proofs.Titled.{title_is_title}
 use Rattle.ks_symbols.proofs.kconfig.read_kconfig.Goals as goal
 
 pub returns-then-text-gt-MAX_BYTES-clause-refusal : goal.returns-then-text-gt-MAX_BYTES-clause-refusal
-returns-then-text-gt-MAX_BYTES-clause-refusal c = too_long c.args.text.now c.if-text-gt-MAX_BYTES.true
+returns-then-text-gt-MAX_BYTES-clause-refusal c = inr (too_long c.args.text.now c.if-text-gt-MAX_BYTES.true)
 
 pub loop-line-init : goal.loop-line-init
 unfolding lines
@@ -73,11 +76,12 @@ unfolding declared
 returns-clause-kinds c =
     let s = c.loop-line.reader in
     let n = c.loop-line.number in
+    let forms = map_list form (lines c.args.text.now) in
     let empty : map_list form c.loop-line.line-iterator ≡ [] = ap (map_list form) c.in-None.ensures.steps.0 in
-    if_accepted c.finish.result (waiting_fault s.waiting) (λ t. t.kinds ≡ s.kinds) (λ t. (x : List ℕ) → map.get t.kinds x ≡ declared c.args.text.now x) c.finish.ensures.refusal c.finish.ensures.kinds (λ none t same x.
-    let stands = read_all c.args.text.now s n (ap (run_end s n) (sym empty) ∙ c.loop-line.invariant.ends)
-    (sym c.loop-line.invariant.refusal ∙ ap (run_fault s n) empty ∙ run_fault-nil s n ∙ none) in
-    ap (λ m. map.get m x) same ∙ stands.kinds x)
+    let ends : run_end s n [] ≡ run_end no_progress 1 forms = ap (run_end s n) (sym empty) ∙ c.loop-line.invariant.ends in
+    if_accepted c.finish.result (waiting_fault s.waiting) (λ t. t.kinds ≡ with_values (λ e. e.0) s.symbols) (λ t. (x : List ℕ) → map.get t.kinds x ≡ declared c.args.text.now x) c.finish.ensures.refusal c.finish.ensures.kinds (λ none t same x.
+    let stands = read_all c.args.text.now s n ends (sym c.loop-line.invariant.refusal ∙ ap (run_fault s n) empty ∙ run_fault-nil s n ∙ none) in
+    ap (λ m. map.get m x) same ∙ get-with_values (λ e. e.0) s.symbols x ∙ symbols_kept s n forms ends x ∙ stands.kinds x)
 
 pub returns-clause-title : goal.returns-clause-title
 unfolding title_of
@@ -95,7 +99,7 @@ returns-clause-refusal c =
     let s = c.loop-line.reader in
     let n = c.loop-line.number in
     let empty : map_list form c.loop-line.line-iterator ≡ [] = ap (map_list form) c.in-None.ensures.steps.0 in
-    subst (RefusedBy c.finish.result)
+    subst (RefusedBy fault.OutOfMemory c.finish.result)
     (sym (found c.args.text.now c.if-text-gt-MAX_BYTES.false ∙ sym c.loop-line.invariant.refusal ∙ ap (run_fault s n) empty ∙ run_fault-nil s n))
     c.finish.ensures.refusal
 

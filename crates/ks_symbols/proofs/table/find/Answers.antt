@@ -1,0 +1,24 @@
+use Rattle.std.proofs.Common.{Some, List, ℕ, sym, ap, ◌∙◌, rules}
+use Rattle.std.proofs.lemmas.Fn.{always_returns_same}
+use Rattle.ks_symbols.specs.Table.{name_in, entry_in}
+use Rattle.ks_symbols.proofs.LastOnes.{order}
+use Rattle.ks_symbols.proofs.Records.{found_at, searchable, parted_none}
+use Rattle.ks_symbols.proofs.table.find.Goals as goal
+
+pub returns-in-Ok : goal.returns-in-Ok
+returns-in-Ok g c =
+    let bytes = c.args.bytes.now in
+    let q = c.args.name.now in
+    let it = c.index-records-index.result in
+    let here = c.in-Ok.ensures.position (λ r. order (name_in bytes r) q) (always_returns_same _ _ _ (λ a r f' k. search rules)) in
+    ap (λ (t : List ℕ). Some (it.value, t)) c.text_of.ensures
+    ∙ ap (λ r. Some (entry_in bytes r).1) c.index-records-index.is
+    ∙ sym (found_at bytes q c.args.records.now c.in-Ok.index it c.in-Ok.ensures.bound c.requires (here it))
+
+pub returns-in-Err : goal.returns-in-Err
+returns-in-Err g c =
+    let bytes = c.args.bytes.now in
+    let q = c.args.name.now in
+    let rs = c.args.records.now in
+    let here = c.in-Err.ensures.position (λ r. order (name_in bytes r) q) (always_returns_same _ _ _ (λ a r f' k. search rules)) in
+    sym (parted_none bytes q rs c.in-Err.field-0 (here (searchable bytes q rs c.requires)))

@@ -1,0 +1,272 @@
+//! A map from names that is filled once and then only asked: its names and texts lie in one vector of bytes, and the
+//! records of them in another one, in rising order of the names and none twice.
+//!
+//! A configuration is read line by line, compared and written, and never changed in between. So lines are kept as they
+//! come, in a `Draft`, and put in order once, when it is closed. Of several lines about a name the last counts.
+ghost use Rattle.std.specs.Prelude.{◌≡◌, OnOk, IfOk, List, ℕ, T, map as map_list, option_map, slice_range};
+ghost use Rattle.std.specs.FinMap as map;
+ghost use Rattle.std.specs.FinMap.{find, is_sorted};
+ghost use Rattle.std.specs.Iterator.{item_count};
+ghost use Rattle.std.specs.Map.Iter.{TakesFirst};
+ghost use Rattle.std.specs.Ordering.{nat_cmp};
+ghost use Rattle.std.specs.Cmp.Lexicographic.{slice_cmp};
+ghost use Rattle.std.specs.List.Sorted.{IsSortedByKey, IsStableByKey};
+ghost use Rattle.ks_symbols.specs.Table.{name_in, text_in, entry_in, said_in, after_line, begins_with, last_ones, lent_row};
+
+use std::alloc::{AllocError, Global};
+use std::marker::Model;
+use std::slice::Iter;
+
+/// Where a name and the text behind it lie in the bytes, and what the name has besides.
+#[derive(Clone, Copy)]
+pub(crate) struct Record<V> {
+    start: usize,
+    middle: usize,
+    end: usize,
+    value: V,
+}
+
+/// The bytes from one place up to another, as far as there are any.
+fn piece(bytes: &[u8], from: usize, to: usize) -> &[u8]
+    ensures { result.now ≡ slice_range bytes.now from to }
+{
+    let rest = &bytes[from.min(bytes.len())..];
+    &rest[..to.saturating_sub(from).min(rest.len())]
+}
+
+fn name_of<'a, V>(bytes: &'a [u8], at: &Record<V>) -> &'a [u8]
+    ensures { result.now ≡ name_in bytes.now at.now }
+{
+    piece(bytes, at.start, at.middle)
+}
+
+fn text_of<'a, V>(bytes: &'a [u8], at: &Record<V>) -> &'a [u8]
+    ensures { result.now ≡ text_in bytes.now at.now }
+{
+    piece(bytes, at.middle, at.end)
+}
+
+/// Puts records in rising order of their names, those of one name in the order in which they stand.
+fn sort_records<V>(bytes: &[u8], records: &mut Vec<Record<V>>) -> Result<(), AllocError>
+    ensures sorted { OnOk result (IsSortedByKey (name_in bytes.now) (slice_cmp nat_cmp) records.new.items) }
+    ensures stable { IsStableByKey (name_in bytes.now) (slice_cmp nat_cmp) records.old.items records.new.items }
+{
+    records.sort_by(|a, b| name_of(bytes, a).cmp(name_of(bytes, b)))
+}
+
+/// Whether the first of the records has the name.
+fn begins_with<V>(bytes: &[u8], records: &[Record<Option<V>>], name: &[u8]) -> bool
+    ensures { result ≡ begins_with name.now (map_list (said_in bytes.now) records.now) }
+{
+    match records.first() {
+        Some(first) => name == name_of(bytes, first),
+        None => false,
+    }
+}
+
+/// Of records in the order of their names the last one of each name, if it gives the name something.
+fn last_ones<V: Copy>(
+    alloc: Global,
+    bytes: &[u8],
+    records: &[Record<Option<V>>],
+) -> Result<Vec<Record<V>>, AllocError>
+    ensures { IfOk result (λ kept. map_list (entry_in bytes.now) kept.items ≡ last_ones (map_list (said_in bytes.now) records.now)) }
+{
+    let mut kept = Vec::with_capacity(alloc, records.len())?;
+    let mut rest = records;
+    while let Some((first, later)) = rest.split_first() {
+        if !begins_with(bytes, later, name_of(bytes, first)) {
+            if let Some(value) = first.value {
+                kept.push(Record {
+                    start: first.start,
+                    middle: first.middle,
+                    end: first.end,
+                    value,
+                })?;
+            }
+        }
+        rest = later;
+    }
+    Ok(kept)
+}
+
+/// The value and the text of a name, of records whose names rise.
+fn find<'a, V: Copy>(bytes: &'a [u8], records: &[Record<V>], name: &[u8]) -> Option<(V, &'a [u8])>
+    requires { T (is_sorted (slice_cmp nat_cmp) (map_list (entry_in bytes.now) records.now)) }
+    ensures { option_map (λ s. (s.0, s.1.now)) result ≡ find (slice_cmp nat_cmp) name.now (map_list (entry_in bytes.now) records.now) }
+{
+    match records.binary_search_by(|at| name_of(bytes, at).cmp(name)) {
+        Ok(index) => {
+            let at = &records[index];
+            Some((at.value, text_of(bytes, at)))
+        }
+        Err(_) => None,
+    }
+}
+
+/// Lines about names in the order in which they come, seen as the map that they make: the last line about a name counts.
+#[derive(Drop)]
+pub struct Draft<V> {
+    bytes: Vec<u8>,
+    records: Vec<Record<Option<V>>>,
+}
+
+impl<V> Model for Draft<V> {
+    ghost use Rattle.std.specs.Prelude.{List, ℕ, map, length};
+    ghost use Rattle.std.specs.Coded.{coded_list, coded×, coded_ℕ};
+    ghost use Rattle.std.specs.FinMap.{code, empty};
+    ghost use Rattle.ks_symbols.specs.Configuration.{NameMap};
+
+    ghost Value = { NameMap (V × List ℕ) };
+
+    ghost coded = { code (coded_list coded_ℕ) (coded× V.code (coded_list coded_ℕ)) };
+
+    ghost use Rattle.ks_symbols.specs.Table.{said_in, after_lines, LieIn};
+
+    ghost view = { λ d. after_lines empty (map (said_in d.bytes.items) d.records.items) };
+
+    ghost invariant = { λ d. LieIn (length d.bytes.items) d.records.items };
+}
+
+impl<V: Copy> Draft<V> {
+    pub fn new(alloc: Global) -> Draft<V>
+        ensures { result ≡ map.empty }
+    {
+        Draft {
+            bytes: Vec::new(alloc),
+            records: Vec::new(alloc),
+        }
+    }
+
+    fn push(&mut self, name: &[u8], value: Option<V>, text: &[u8]) -> Result<(), AllocError>
+        ensures { OnOk result (self.new ≡ after_line self.old name.now (option_map (λ v. (v, text.now)) value)) }
+    {
+        let start = self.bytes.len();
+        self.bytes.extend_from_slice(name)?;
+        let middle = self.bytes.len();
+        self.bytes.extend_from_slice(text)?;
+        let end = self.bytes.len();
+        self.records.push(Record {
+            start,
+            middle,
+            end,
+            value,
+        })?;
+        Ok(())
+    }
+
+    /// Gives a name a value and a text, in place of those before.
+    pub fn put(&mut self, name: &[u8], value: V, text: &[u8]) -> Result<(), AllocError>
+        ensures { OnOk result (self.new ≡ map.insert self.old name.now (value, text.now)) }
+    {
+        self.push(name, Some(value), text)
+    }
+
+    /// Takes away what a name has.
+    pub fn remove(&mut self, name: &[u8]) -> Result<(), AllocError>
+        ensures { OnOk result (self.new ≡ map.remove self.old name.now) }
+    {
+        self.push(name, None, b"")
+    }
+
+    /// The map, put in order.
+    pub fn close(self, alloc: Global) -> Result<Table<V>, AllocError>
+        ensures { IfOk result (λ t. t ≡ self) }
+    {
+        let Draft { bytes, mut records } = self;
+        sort_records(&bytes, &mut records)?;
+        let records = last_ones(alloc, &bytes, &records)?;
+        Ok(Table { bytes, records })
+    }
+}
+
+/// A map from names to values and texts, in rising order of the names.
+#[derive(Drop)]
+pub struct Table<V> {
+    bytes: Vec<u8>,
+    records: Vec<Record<V>>,
+}
+
+impl<V> Model for Table<V> {
+    ghost use Rattle.std.specs.Prelude.{List, ℕ, map, T};
+    ghost use Rattle.std.specs.Coded.{coded_list, coded×, coded_ℕ};
+    ghost use Rattle.std.specs.FinMap.{code, from_entries, is_sorted};
+    ghost use Rattle.std.specs.Ordering.{nat_cmp};
+    ghost use Rattle.std.specs.Cmp.Lexicographic.{slice_cmp};
+    ghost use Rattle.ks_symbols.specs.Configuration.{NameMap};
+
+    ghost Value = { NameMap (V × List ℕ) };
+
+    ghost coded = { code (coded_list coded_ℕ) (coded× V.code (coded_list coded_ℕ)) };
+
+    ghost use Rattle.ks_symbols.specs.Table.{entry_in};
+
+    ghost view = { λ t. from_entries (map (entry_in t.bytes.items) t.records.items) };
+
+    ghost invariant = { λ t. T (is_sorted (slice_cmp nat_cmp) (map (entry_in t.bytes.items) t.records.items)) };
+}
+
+impl<V: Copy> Table<V> {
+    /// No names. It takes no memory.
+    pub fn empty(alloc: Global) -> Table<V>
+        ensures { result ≡ map.empty }
+    {
+        Table {
+            bytes: Vec::new(alloc),
+            records: Vec::new(alloc),
+        }
+    }
+
+    /// The value and the text of a name.
+    pub fn get(&self, name: &[u8]) -> Option<(V, &[u8])>
+        ensures { option_map (λ s. (s.0, s.1.now)) result ≡ map.get self.now name.now }
+    {
+        find(&self.bytes, &self.records, name)
+    }
+
+    /// The rows, by rising names.
+    pub fn rows(&self) -> Rows<'_, V>
+        ensures { result ≡ map.entries self.now }
+    {
+        Rows {
+            bytes: &self.bytes,
+            inner: self.records.iter(),
+        }
+    }
+}
+
+/// The rows of a table, by rising names: name, value and text.
+#[derive(Drop)]
+pub struct Rows<'a, V> {
+    bytes: &'a [u8],
+    inner: Iter<'a, Record<V>>,
+}
+
+impl<'a, V> Model for Rows<'a, V> {
+    ghost use Rattle.std.specs.Prelude.{List, ℕ, map};
+    ghost use Rattle.std.specs.Coded.{coded_list, coded×, coded_ℕ};
+    ghost use Rattle.std.specs.Slice.Iter.{iter_rest};
+
+    ghost Value = { List (List ℕ × (V × List ℕ)) };
+
+    ghost coded = { coded_list (coded× (coded_list coded_ℕ) (coded× V.code (coded_list coded_ℕ))) };
+
+    ghost use Rattle.ks_symbols.specs.Table.{entry_in};
+
+    ghost view = { λ r. map (entry_in r.bytes.now) (iter_rest r.inner) };
+}
+
+impl<'a, V: Copy> Iterator for Rows<'a, V> {
+    type Item = (&'a [u8], V, &'a [u8]);
+
+    ghost next_gives = { TakesFirst lent_row };
+
+    ghost remaining = { item_count (λ rest. rest) };
+
+    fn next(&mut self) -> Option<(&'a [u8], V, &'a [u8])> {
+        match self.inner.next() {
+            Some(at) => Some((name_of(self.bytes, at), at.value, text_of(self.bytes, at))),
+            None => None,
+        }
+    }
+}

@@ -21,6 +21,9 @@ use Rattle.ks_symbols.specs.Configuration.{IsEntry}
 use Rattle.ks_symbols.proofs.Spellings.{run_is, word_bytes}
 use Rattle.ks_output.specs.Header.{header_heading, has_radix, switch_value, defined_as, definition_lines, header_text}
 use Rattle.ks_output.specs.Definitions.{without_lf, lf_lines, Defines, defines, definitions}
+use Rattle.std.specs.Option.{option_and_then}
+use Rattle.ks_symbols.specs.declared.kinds.Class.{Class}
+use Rattle.ks_output.specs.OldConfig.{kept}
 use Rattle.ks_output.specs.HeaderLaws.{definition_of, DefinitionsAreLines, DefinitionsAreOfEntries, AlikeIsDefinedAlike}
 use Rattle.ks_output.proofs.Entries.{order, find_below, tied, AllEntries, all_entries, first, second}
 use Rattle.ks_output.proofs.Texts.{texts_are_of_entries}
@@ -205,19 +208,25 @@ same_class kind.Int kind.Int text e = refl
 same_class kind.Hex kind.Hex text e = refl
 same_class j k text e = absurd (cc e)
 
-alike : (x : List ℕ) (a b : Option (Kind × List ℕ)) → option_map (λ s. s.1) a ≡ option_map (λ s. s.1) b
-    → ((s t : Kind × List ℕ) → a ≡ Some s → b ≡ Some t → class_of s.0 ≡ class_of t.0) → definition_of x a ≡ definition_of x b
-alike x None None same one = refl
-alike x (Some s) (Some t) same one =
-    let text : s.1 ≡ t.1 = cc in
-    ap (λ (d : List ℕ). (codes "#define CONFIG_" ++ x ++ d) ∷ []) (same_class s.0 t.0 s.1 (one s t refl refl) ∙ ap (defined_as t.0) text)
-alike x None (Some t) same one = absurd (cc same)
-alike x (Some s) None same one = absurd (cc same)
+kept_text : Option (Option Class × List ℕ) → List ℕ
+kept_text None = []
+kept_text (Some t) = t.1
+
+alike : (x : List ℕ) (a b : Option (Kind × List ℕ)) → option_map kept a ≡ option_map kept b → definition_of x a ≡ definition_of x b
+unfolding kept_text
+alike x None None same = refl
+alike x (Some s) (Some t) same =
+    let text : s.1 ≡ t.1 = ap kept_text same in
+    let of : Some (class_of s.0) ≡ Some (class_of t.0) = ap (option_and_then (λ t. t.0)) same in
+    let class : class_of s.0 ≡ class_of t.0 = cc of in
+    ap (λ (d : List ℕ). (codes "#define CONFIG_" ++ x ++ d) ∷ []) (same_class s.0 t.0 s.1 class ∙ ap (defined_as t.0) text)
+alike x None (Some t) same = absurd (cc same)
+alike x (Some s) None same = absurd (cc same)
 
 pub alike_is_defined_alike : AlikeIsDefinedAlike
-alike_is_defined_alike title later old new s t g h x same one =
+alike_is_defined_alike title later old new s t g h x same =
     definitions_are_of_entries title old s g x
-    ∙ alike x (map.get old x) (map.get new x) (sym (texts_are_of_entries old x) ∙ same ∙ texts_are_of_entries new x) one
+    ∙ alike x (map.get old x) (map.get new x) (sym (texts_are_of_entries old x) ∙ same ∙ texts_are_of_entries new x)
     ∙ sym (definitions_are_of_entries later new t h x)
 
 -- a line that the test takes is spelled as a definition

@@ -4,7 +4,10 @@ pub mod LastLine
 pub mod LastRemark
 pub mod LegalNames
 pub mod Pieces
+pub mod PlaceSteps
+pub mod PlainTexts
 pub mod ReadBack
+pub mod SmallNumbers
 pub mod Texts
 pub mod Worked
 pub mod WrittenLines

@@ -5,29 +5,30 @@ use Rattle.std.specs.Cmp.Lexicographic.{nat_list_cmp_total}
 use Rattle.std.specs.FinMap as map
 use Rattle.std.specs.FinMap.{find}
 use Rattle.ks_symbols.specs.declared.kinds.Kind.{Kind}
+use Rattle.ks_symbols.specs.declared.kinds.Class.{Class}
 use Rattle.ks_symbols.specs.Names.{is_name, is_symbol_name}
-use Rattle.ks_output.specs.OldConfig.{texts_of}
+use Rattle.ks_output.specs.OldConfig.{kept, texts_of}
 use Rattle.ks_output.specs.Laws.{TextsAreOfEntries, TextsHaveNames}
 use Rattle.ks_output.proofs.Entries.{order}
 use Rattle.ks_output.proofs.WrittenLines.{and_parts}
 
-chosen : (b : Bool) (s : Kind × List ℕ) (o : Option (Kind × List ℕ)) → cond b (Some s.1) (option_map (λ t. t.1) o) ≡ option_map (λ t. t.1) (cond b (Some s) o)
+chosen : (b : Bool) (s : Kind × List ℕ) (o : Option (Kind × List ℕ)) → cond b (Some (kept s)) (option_map kept o) ≡ option_map kept (cond b (Some s) o)
 chosen true s o = refl
 chosen false s o = refl
 
-find_text : (es : List (List ℕ × (Kind × List ℕ))) (x : List ℕ) → find order x (map_list (λ e. (e.0, e.1.1)) es) ≡ option_map (λ s. s.1) (find order x es)
+find_text : (es : List (List ℕ × (Kind × List ℕ))) (x : List ℕ) → find order x (map_list (λ e. (e.0, kept e.1)) es) ≡ option_map kept (find order x es)
 find_text [] x = refl
-find_text (e ∷ es) x = ap (cond (is_eq (order x e.0)) (Some e.1.1)) (find_text es x) ∙ chosen (is_eq (order x e.0)) e.1 (find order x es)
+find_text (e ∷ es) x = ap (cond (is_eq (order x e.0)) (Some (kept e.1))) (find_text es x) ∙ chosen (is_eq (order x e.0)) e.1 (find order x es)
 
 pub texts_are_of_entries : TextsAreOfEntries
 unfolding texts_of
 texts_are_of_entries settings x =
-    map.get-from_entries nat_list_cmp_total (map_list (λ e. (e.0, e.1.1)) (map.entries settings)) x
+    map.get-from_entries nat_list_cmp_total (map_list (λ e. (e.0, kept e.1)) (map.entries settings)) x
     ∙ find_text (map.entries settings) x
-    ∙ ap (option_map (λ s. s.1)) (sym (map.get-entries settings x))
+    ∙ ap (option_map kept) (sym (map.get-entries settings x))
 
 -- the entry whose text it is
-pub entry_behind : (o : Option (Kind × List ℕ)) (t : List ℕ) → option_map (λ s. s.1) o ≡ Some t → (s : Kind × List ℕ) × (o ≡ Some s)
+pub entry_behind : (o : Option (Kind × List ℕ)) (t : Option Class × List ℕ) → option_map kept o ≡ Some t → (s : Kind × List ℕ) × (o ≡ Some s)
 entry_behind None t e = absurd (cc e)
 entry_behind (Some s) t e = (s, refl)
 

@@ -4,9 +4,10 @@ use Rattle.ks_symbols.specs.Names.{is_name}
 use Rattle.ks_symbols.proofs.Digits.{reads_only_written}
 use Rattle.ks_symbols.specs.Statements.{statement, assignment, unsetting}
 use Rattle.ks_output.specs.AutoText.{heading, entry_lines, generation_line, auto_text}
-use Rattle.ks_output.specs.AutoLines.{remark}
+use Rattle.ks_output.specs.AutoLines.{said_by, class_remark}
+use Rattle.ks_output.specs.AutoConf.{is_typed, heard, first_faulty}
 use Rattle.ks_output.specs.Header.{header_heading, definition_lines, header_text}
-use Rattle.ks_output.specs.Examples.{FilesOfSwitches, DefinitionLines, LinesRead, MacrosRead}
+use Rattle.ks_output.specs.Examples.{FilesOfSwitches, EntryLines, DefinitionLines, LinesRead, FaultsFound, MacrosRead}
 
 first_generation : decimal 1 ≡ codes "1"
 first_generation = sym (reads_only_written (codes "1") 1 refl)
@@ -15,16 +16,23 @@ pub files_of_switches : FilesOfSwitches
 unfolding auto_text header_text
 files_of_switches settings e = (
   ap (λ es. heading (codes "Demo") ++ entry_lines es ++ generation_line 1) e
-      ∙ ap (λ (digits : List ℕ). codes "#\n# Automatically generated file; DO NOT EDIT.\n# Demo\n#\nCONFIG_A=y\nCONFIG_B=m\n#generation " ++ digits ++ codes "\n") first_generation,
+      ∙ ap (λ (digits : List ℕ). codes "#\n# Automatically generated file; DO NOT EDIT.\n# Demo\n#\n#typed\nCONFIG_A=y\nCONFIG_B=m\n#generation " ++ digits ++ codes "\n") first_generation,
   ap (λ es. header_heading (codes "Demo") ++ definition_lines es) e,
 )
 
 pub definition_lines_are : DefinitionLines
 definition_lines_are = (refl, refl, refl, refl, refl, refl, refl)
 
+pub entry_lines_are : EntryLines
+entry_lines_are = (refl, refl, refl, refl)
+
 pub lines_read : LinesRead
-unfolding remark statement assignment unsetting is_name
-lines_read = (refl, refl, refl, refl, refl, refl, refl, refl)
+unfolding said_by class_remark statement assignment unsetting is_name
+lines_read = (refl, refl, refl, refl, refl, refl, refl, refl, refl, refl, refl, refl, refl, refl, refl)
+
+pub faults_found : FaultsFound
+unfolding is_typed heard first_faulty
+faults_found = (refl, refl, refl, refl, refl, refl)
 
 pub macros_read : MacrosRead
 macros_read = (refl, refl, refl, refl, refl, refl)

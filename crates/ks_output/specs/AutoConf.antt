@@ -1,22 +1,42 @@
--- What an auto.conf says when it is read, and why one is refused. The last line about a name counts, as in scripts/kconfig/confdata.c; that a line that says nothing known is refused is a rule of this project.
-use Rattle.std.specs.Prelude.{◌≡◌, ℕ, ◌+◌, nat_lt, List, [], ◌∷◌, length, reverse, slice_index, Option, Some, None, option_map, if◌then◌else◌, Result, Ok, Err, ⊤}
+-- What an auto.conf says when it is read, and why one is refused. The last line about a name counts, as in scripts/kconfig/confdata.c; the typed form, and that a line that says nothing known is refused, are rules of this project.
+use Rattle.std.specs.Prelude.{ℕ, ◌+◌, Bool, true, false, not, nat_lt, List, [], ◌∷◌, length, bytes_eq, reverse, slice_index, Option, Some, None, option_map, if◌then◌else◌}
 use Rattle.std.specs.List.{filter_map}
 use Rattle.std.specs.FinMap as map
+use Rattle.ks_symbols.specs.declared.kinds.Class.{Class}
+use Rattle.ks_symbols.specs.declared.kinds.Class.TheVariants as class
 use Rattle.ks_symbols.specs.Lines.{max_bytes}
-use Rattle.ks_symbols.specs.Configuration.{NameMap}
 use Rattle.ks_output.specs.declared.auto_conf.AutoError.{AutoError}
 use Rattle.ks_output.specs.declared.auto_conf.AutoError.TheVariants as fault
-use Rattle.ks_output.specs.AutoLines.{Remark, Gives, Numbers, Faulty, remarks}
+use Rattle.ks_output.specs.AutoLines.{Remark, Gives, Marks, Types, Mistypes, Numbers, Silent, Faulty, remarks}
+use Rattle.ks_output.specs.OldConfig.{Texts}
 
-abbrev pub given : Remark → Option (List ℕ × List ℕ)
-given (Gives name text) = Some (name, text)
-given r = None
+-- A file is typed where the mark stands before its first entry.
+unfoldable pub is_typed : List Remark → Bool
+is_typed [] = false
+is_typed (Marks ∷ said) = true
+is_typed (Gives name text ∷ said) = false
+is_typed (r ∷ said) = is_typed said
 
--- The texts: of each name the last line counts.
-unfoldable pub texts_given : List Remark → NameMap (List ℕ)
-texts_given said = map.from_entries (filter_map given (reverse said))
+-- each remark behind the one of the line before it
+unfoldable pub neighbours : Remark → List Remark → List (Remark × Remark)
+neighbours before [] = []
+neighbours before (r ∷ said) = (before, r) ∷ neighbours r said
 
-unfoldable pub auto_map : List ℕ → NameMap (List ℕ)
+-- In a typed file the line right before an entry says its class, and where it says none the entry is a bool or tristate.
+abbrev pub class_by : Bool → Remark → Option Class
+class_by false before = None
+class_by true (Types name k) = Some k
+class_by true before = Some class.Switch
+
+abbrev pub given : Bool → Remark × Remark → Option (List ℕ × (Option Class × List ℕ))
+given typed (before, Gives name text) = Some (name, (class_by typed before, text))
+given typed pair = None
+
+-- The texts with their classes: of each name the last line counts.
+unfoldable pub texts_given : List Remark → Texts
+texts_given said = map.from_entries (filter_map (given (is_typed said)) (reverse (neighbours Silent said)))
+
+unfoldable pub auto_map : List ℕ → Texts
 auto_map text = texts_given (remarks text)
 
 abbrev pub number : Remark → Option ℕ
@@ -30,25 +50,40 @@ last_number said = slice_index (filter_map number (reverse said)) 0
 unfoldable pub auto_generation : List ℕ → ℕ
 auto_generation text = last_number (remarks text)
 
+abbrev pub without_class : Remark → Remark
+without_class (Types name k) = Silent
+without_class Mistypes = Silent
+without_class r = r
+
+-- Lines on classes say nothing in an untyped file, nor before the mark of a typed one.
+unfoldable pub heard : Bool → List Remark → List Remark
+heard typed [] = []
+heard typed (Marks ∷ said) = Marks ∷ (if typed then said else heard typed said)
+heard typed (r ∷ said) = without_class r ∷ heard typed said
+
+-- The line of a class stands right before an entry of its name.
+abbrev pub is_followed : List ℕ → List Remark → Bool
+is_followed name (Gives other text ∷ later) = bytes_eq name other
+is_followed name later = false
+
+-- whether a line is faulty, by the lines behind it
+abbrev pub is_faulty : Remark → List Remark → Bool
+is_faulty Faulty later = true
+is_faulty Mistypes later = true
+is_faulty (Types name k) later = not (is_followed name later)
+is_faulty r later = false
+
 -- the number of the first faulty line, where they are counted from n on
 unfoldable pub first_faulty : ℕ → List Remark → Option ℕ
 first_faulty n [] = None
-first_faulty n (Faulty ∷ said) = Some n
-first_faulty n (r ∷ said) = first_faulty (n + 1) said
+first_faulty n (r ∷ later) = if is_faulty r later then Some n else first_faulty (n + 1) later
+
+abbrev pub fault_in : List Remark → Option ℕ
+fault_in said = first_faulty 1 (heard (is_typed said) said)
 
 unfoldable pub auto_fault : List ℕ → Option ℕ
-auto_fault text = first_faulty 1 (remarks text)
+auto_fault text = fault_in (remarks text)
 
 -- Why a text is refused: it is too large, or a line is faulty.
 unfoldable pub auto_refusal : List ℕ → Option AutoError
 auto_refusal text = if nat_lt max_bytes (length text) then Some fault.TooLarge else option_map fault.BadAuto (auto_fault text)
-
--- An error is the refusal that the definitions have, or want of memory.
-abbrev pub IsAutoRefusal : AutoError → Option AutoError → Type 0
-IsAutoRefusal fault.OutOfMemory refusal = ⊤
-IsAutoRefusal e refusal = refusal ≡ Some e
-
--- A reader's result against that refusal: want of memory aside, it refuses exactly then, and so.
-abbrev pub AutoRefusedBy : {X : Type 0} → Result X AutoError → Option AutoError → Type 0
-AutoRefusedBy (Ok x) refusal = refusal ≡ None
-AutoRefusedBy (Err e) refusal = IsAutoRefusal e refusal

@@ -1,11 +1,13 @@
 -- Worked examples of the formats, as they stand on a disk.
-use Rattle.std.specs.Prelude.{◌≡◌, ℕ, true, false, List, [], ◌∷◌, codes}
+use Rattle.std.specs.Prelude.{◌≡◌, ℕ, true, false, List, [], ◌∷◌, codes, Some, None}
 use Rattle.std.specs.FinMap as map
 use Rattle.ks_symbols.specs.declared.kinds.Kind.{Kind}
 use Rattle.ks_symbols.specs.declared.kinds.Kind.TheVariants as kind
+use Rattle.ks_symbols.specs.declared.kinds.Class.TheVariants as class
 use Rattle.ks_symbols.specs.Configuration.{NameMap}
-use Rattle.ks_output.specs.AutoText.{auto_text}
-use Rattle.ks_output.specs.AutoLines.{Gives, Numbers, Silent, Faulty, remark}
+use Rattle.ks_output.specs.AutoText.{auto_text, entry_lines}
+use Rattle.ks_output.specs.AutoLines.{Gives, Marks, Types, Mistypes, Numbers, Silent, Faulty, remark}
+use Rattle.ks_output.specs.AutoConf.{fault_in}
 use Rattle.ks_output.specs.Header.{definition_line, header_text}
 use Rattle.ks_output.specs.Definitions.{defines}
 
@@ -13,8 +15,16 @@ use Rattle.ks_output.specs.Definitions.{defines}
 abbrev pub FilesOfSwitches : Type 0
 FilesOfSwitches =
     (settings : NameMap (Kind × List ℕ)) → map.entries settings ≡ (codes "A", (kind.Bool, codes "y")) ∷ (codes "B", (kind.Tristate, codes "m")) ∷ []
-    → (auto_text (codes "Demo") settings 1 ≡ codes "#\n# Automatically generated file; DO NOT EDIT.\n# Demo\n#\nCONFIG_A=y\nCONFIG_B=m\n#generation 1\n")
+    → (auto_text (codes "Demo") settings 1 ≡ codes "#\n# Automatically generated file; DO NOT EDIT.\n# Demo\n#\n#typed\nCONFIG_A=y\nCONFIG_B=m\n#generation 1\n")
     × (header_text (codes "Demo") settings ≡ codes "/*\n * Automatically generated file; DO NOT EDIT.\n * Demo\n */\n#define CONFIG_A 1\n#define CONFIG_B_MODULE 1\n")
+
+-- lines of an entry: its class, unless it is a bool or tristate, and its text
+abbrev pub EntryLines : Type 0
+EntryLines =
+    (entry_lines ((codes "S", (kind.Text, codes "y")) ∷ []) ≡ codes "#type S string\nCONFIG_S=y\n")
+    × (entry_lines ((codes "H", (kind.Hex, codes "10")) ∷ []) ≡ codes "#type H hex\nCONFIG_H=10\n")
+    × (entry_lines ((codes "I", (kind.Int, codes "10")) ∷ []) ≡ codes "#type I int\nCONFIG_I=10\n")
+    × (entry_lines ((codes "B", (kind.Tristate, codes "m")) ∷ []) ≡ codes "CONFIG_B=m\n")
 
 -- strings are quoted in the header, and numbers stand as they were written
 abbrev pub DefinitionLines : Type 0
@@ -38,6 +48,23 @@ LinesRead =
     × (remark (codes "#generation 5\n") ≡ Numbers 5)
     × (remark (codes "#generation 05\n") ≡ Faulty)
     × (remark (codes "#generation 5") ≡ Faulty)
+    × (remark (codes "#typed\n") ≡ Marks)
+    × (remark (codes "#typed \n") ≡ Silent)
+    × (remark (codes "#type S string\n") ≡ Types (codes "S") class.Text)
+    × (remark (codes "#type H hex") ≡ Types (codes "H") class.Hex)
+    × (remark (codes "#type S bool\n") ≡ Mistypes)
+    × (remark (codes "#type  string\n") ≡ Mistypes)
+    × (remark (codes "#type\n") ≡ Silent)
+
+-- Lines on classes count behind the mark alone, which counts before the first entry alone.
+abbrev pub FaultsFound : Type 0
+FaultsFound =
+    (fault_in (Marks ∷ Types (codes "S") class.Text ∷ Gives (codes "S") (codes "y") ∷ []) ≡ None)
+    × (fault_in (Marks ∷ Types (codes "S") class.Text ∷ Gives (codes "T") (codes "x") ∷ []) ≡ Some 2)
+    × (fault_in (Marks ∷ Types (codes "S") class.Text ∷ Silent ∷ Gives (codes "S") (codes "y") ∷ []) ≡ Some 2)
+    × (fault_in (Marks ∷ Gives (codes "S") (codes "y") ∷ Mistypes ∷ []) ≡ Some 3)
+    × (fault_in (Types (codes "S") class.Text ∷ Marks ∷ Gives (codes "T") (codes "x") ∷ []) ≡ None)
+    × (fault_in (Gives (codes "T") (codes "x") ∷ Marks ∷ Mistypes ∷ []) ≡ None)
 
 -- The macro of a module defines the symbol; one _MODULE alone is cut off.
 abbrev pub MacrosRead : Type 0

@@ -2,7 +2,6 @@
 use Rattle.std.specs.Prelude.{◌≡◌, ◌↔◌, ℕ, true, List, [], ◌∷◌, ◌++◌, codes, Option, Some, None, IsTrue}
 use Rattle.std.specs.FinMap as map
 use Rattle.ks_symbols.specs.declared.kinds.Kind.{Kind}
-use Rattle.ks_symbols.specs.Kinds.{class_of}
 use Rattle.ks_symbols.specs.Titles.{is_title}
 use Rattle.ks_symbols.specs.Configuration.{IsConfiguration, NameMap}
 use Rattle.ks_output.specs.OldConfig.{texts_of}
@@ -24,12 +23,8 @@ DefinitionsAreOfEntries =
     (title : List ℕ) (settings : NameMap (Kind × List ℕ)) → IsTrue (is_title title) → IsConfiguration settings
     → (x : List ℕ) → definitions x (header_text title settings) ≡ definition_of x (map.get settings x)
 
--- A name that has kinds in both configurations has kinds of one class; bool and tristate are one.
-abbrev pub HasOneClass : NameMap (Kind × List ℕ) → NameMap (Kind × List ℕ) → List ℕ → Type 0
-HasOneClass old new x = (s t : Kind × List ℕ) → map.get old x ≡ Some s → map.get new x ≡ Some t → class_of s.0 ≡ class_of t.0
-
--- Where the texts of a name are the same and its kinds of one class, two headers define it by the same lines.
+-- Where a name's texts and their classes are the same, two headers define it by the same lines.
 abbrev pub AlikeIsDefinedAlike : Type 0
 AlikeIsDefinedAlike =
     (title later : List ℕ) (old new : NameMap (Kind × List ℕ)) → IsTrue (is_title title) → IsTrue (is_title later) → IsConfiguration old → IsConfiguration new
-    → (x : List ℕ) → map.get (texts_of old) x ≡ map.get (texts_of new) x → HasOneClass old new x → definitions x (header_text title old) ≡ definitions x (header_text later new)
+    → (x : List ℕ) → map.get (texts_of old) x ≡ map.get (texts_of new) x → definitions x (header_text title old) ≡ definitions x (header_text later new)

@@ -1,10 +1,11 @@
 pub mod AutoText
 pub mod AutoLines
-pub mod AutoConf
 pub mod OldConfig
+pub mod AutoConf
 pub mod Header
 pub mod Definitions
 pub mod Laws
 pub mod HeaderLaws
 pub mod Examples
 pub mod Appending
+pub mod Places

@@ -1,37 +1,48 @@
 -- What contracts see of an auto.conf that was read, and what an auto.conf keeps of a configuration.
-use Rattle.std.specs.Prelude.{◌≡◌, ℕ, List, map as map_list, Some, IsTrue, refl, Vec}
+use Rattle.std.specs.Prelude.{◌≡◌, ℕ, List, map as map_list, Option, Some, IsTrue, refl}
+use Rattle.std.specs.Option.{option_and_then}
 use Rattle.std.specs.Borrow.{Bor}
 use Rattle.std.specs.FinMap as map
-use Rattle.std.specs.Coded.{Coded, code_by, coded_ℕ, coded_list, coded×}
+use Rattle.std.specs.Coded.{Coded, code_by, coded_ℕ, coded_list, coded_option, coded×}
 use Rattle.ks_symbols.specs.declared.kinds.Kind.{Kind}
+use Rattle.ks_symbols.specs.declared.kinds.Class.{Class}
+use Rattle.ks_symbols.specs.Kinds.{class_of, coded_class}
 use Rattle.ks_symbols.specs.Names.{is_name}
 use Rattle.ks_symbols.specs.Configuration.{NameMap}
 
+-- texts with their classes, of which the untyped form has none
+abbrev pub Texts : Type 0
+Texts = NameMap (Option Class × List ℕ)
+
 -- the names with their texts, and the generation
 pub record OldTexts : Type 0 where
-  pub texts : NameMap (List ℕ)
+  pub texts : Texts
   pub generation : ℕ
+
+abbrev pub coded_text : Coded (Option Class × List ℕ)
+coded_text = coded× (coded_option coded_class) (coded_list coded_ℕ)
 
 abbrev pub coded_old_texts : Coded OldTexts
 coded_old_texts =
-    code_by (NameMap (List ℕ) × ℕ) (coded× (map.code (coded_list coded_ℕ) (coded_list coded_ℕ)) coded_ℕ)
+    code_by (Texts × ℕ) (coded× (map.code (coded_list coded_ℕ) coded_text) coded_ℕ)
     (λ d. (d.texts, d.generation)) (λ p. record { texts = p.0; generation = p.1 }) (λ _. refl)
 
-abbrev pub seen_text : {Y : Type 0} → Vec ℕ Y → List ℕ
-seen_text t = t.items
-
--- an entry as a finite map has it
-abbrev pub seen_old_entry : {Y : Type 0} → Vec ℕ Y × Vec ℕ Y → List ℕ × List ℕ
-seen_old_entry e = (e.0.items, e.1.items)
-
 -- an entry as it is lent
-abbrev pub lent_old_entry : Bor (List ℕ) × Bor (List ℕ) → List ℕ × List ℕ
-lent_old_entry e = (e.0.now, e.1.now)
+abbrev pub lent_old_entry : Bor (List ℕ) × Option Class × Bor (List ℕ) → List ℕ × (Option Class × List ℕ)
+lent_old_entry e = (e.0.now, (e.1, e.2.now))
+
+-- the class of a name, if it has a text and that a class
+abbrev pub class_in : Texts → List ℕ → Option Class
+class_in texts name = option_and_then (λ t. t.0) (map.get texts name)
 
 -- Each name is legal.
-abbrev pub HasNames : NameMap (List ℕ) → Type 0
-HasNames texts = (x t : List ℕ) → map.get texts x ≡ Some t → IsTrue (is_name x)
+abbrev pub HasNames : Texts → Type 0
+HasNames texts = (x : List ℕ) (t : Option Class × List ℕ) → map.get texts x ≡ Some t → IsTrue (is_name x)
 
--- What an auto.conf keeps of a configuration: the text of each entry
-unfoldable pub texts_of : NameMap (Kind × List ℕ) → NameMap (List ℕ)
-texts_of settings = map.from_entries (map_list (λ e. (e.0, e.1.1)) (map.entries settings))
+-- What an auto.conf keeps of an entry: its class and its text
+abbrev pub kept : Kind × List ℕ → Option Class × List ℕ
+kept s = (Some (class_of s.0), s.1)
+
+-- .. and so of a configuration
+unfoldable pub texts_of : NameMap (Kind × List ℕ) → Texts
+texts_of settings = map.from_entries (map_list (λ e. (e.0, kept e.1)) (map.entries settings))

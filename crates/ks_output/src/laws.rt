@@ -1,16 +1,20 @@
 //! Laws of the definitions: what the layers above rest on, and what a reader may check the definitions by.
 //!
 //! Each law is the contract of a call that does nothing.
-ghost use Rattle.ks_output.specs.Examples.{DefinitionLines, FilesOfSwitches, LinesRead, MacrosRead};
+ghost use Rattle.ks_output.specs.Examples.{DefinitionLines, EntryLines, FaultsFound, FilesOfSwitches, LinesRead, MacrosRead};
 ghost use Rattle.ks_output.specs.HeaderLaws.{AlikeIsDefinedAlike, DefinitionsAreLines, DefinitionsAreOfEntries};
-ghost use Rattle.ks_output.specs.Laws.{GenerationReadsBack, HasNoFault, IsAccepted, LastLineCounts, TextsAreOfEntries, TextsHaveNames, TextsReadBack};
+ghost use Rattle.ks_output.specs.Laws.{GenerationFits, GenerationReadsBack, HasNoFault, IsAccepted, LastLineCounts, TextsAreOfEntries, TextsHaveNames, TextsReadBack, UntypedHasNoClass};
 
-/// An auto.conf gives a name what the last line about it spells.
+/// An auto.conf gives a name what the last line about it spells, one of the untyped form no class, and its generation
+/// fits 64 bits.
 pub fn last_lines_count()
-    ensures { LastLineCounts }
+    ensures texts { LastLineCounts }
+    ensures untyped { UntypedHasNoClass }
+    ensures generation { GenerationFits }
 {}
 
-/// An auto.conf that was written of a configuration reads back: its texts and its generation, and it is accepted.
+/// An auto.conf that was written of a configuration reads back: its texts with their classes and its generation, and
+/// it is accepted.
 pub fn auto_texts_read_back()
     ensures texts { TextsReadBack }
     ensures generation { GenerationReadsBack }
@@ -18,7 +22,7 @@ pub fn auto_texts_read_back()
     ensures accepted { IsAccepted }
 {}
 
-/// What an auto.conf keeps of a configuration is the text of each entry.
+/// What an auto.conf keeps of a configuration is the class and the text of each entry.
 pub fn texts_are_of_entries()
     ensures texts { TextsAreOfEntries }
     ensures names { TextsHaveNames }
@@ -38,7 +42,9 @@ pub fn entries_are_defined()
 /// The formats as they stand on a disk, by worked examples.
 pub fn examples_are_worked()
     ensures files { FilesOfSwitches }
+    ensures entries { EntryLines }
     ensures definitions { DefinitionLines }
     ensures lines { LinesRead }
+    ensures faults { FaultsFound }
     ensures macros { MacrosRead }
 {}

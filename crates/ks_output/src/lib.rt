@@ -3,11 +3,15 @@
 
 mod appending;
 mod auto_conf;
+mod auto_lines;
+mod auto_text;
 mod header;
 mod laws;
 mod old_config;
+mod places;
 
-pub use auto_conf::{AutoError, read_auto, write_auto};
+pub use auto_conf::{AutoError, read_auto, read_auto_generation};
+pub use auto_text::write_auto;
 pub use header::write_header;
 pub use laws::{
     auto_texts_read_back, definitions_are_lines, entries_are_defined, examples_are_worked,

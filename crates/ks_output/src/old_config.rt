@@ -1,66 +1,62 @@
-//! What an auto.conf said: a text for each name, and the generation.
+//! What an auto.conf said: a text for each name, in the typed form with its class, and the generation.
 //!
-//! It knows no kinds, and nothing of the lines that it was read from. Whoever compares it with new settings walks
-//! over its entries in rising order of the names.
-ghost use Rattle.std.specs.Prelude.{◌≡◌, OnOk, option_map};
+//! It knows nothing of the lines that it was read from. Whoever compares it with new settings walks over its entries
+//! in rising order of the names.
+ghost use Rattle.std.specs.Prelude.{◌≡◌, OnOk, IfOk, option_map};
 ghost use Rattle.std.specs.FinMap as map;
 ghost use Rattle.std.specs.Iterator.{item_count};
 ghost use Rattle.std.specs.Map.Iter.{TakesFirst};
-ghost use Rattle.ks_output.specs.OldConfig.{HasNames, lent_old_entry};
+ghost use Rattle.ks_output.specs.OldConfig.{HasNames, lent_old_entry, class_in};
 
+use ks_symbols::{Class, Draft, Rows, Table};
 use std::alloc::{AllocError, Global};
-use std::collections::BTreeMap;
-use std::collections::btree_map::Iter;
 use std::marker::Model;
 
 /// The texts and the generation of an auto.conf.
 #[derive(Drop)]
 pub struct OldConfig {
-    texts: BTreeMap<Vec<u8>, Vec<u8>>,
+    texts: Table<Option<Class>>,
     generation: u64,
 }
 
 impl Model for OldConfig {
-    ghost use Rattle.ks_output.specs.OldConfig.{OldTexts, coded_old_texts, seen_text};
-    ghost use Rattle.ks_symbols.specs.Configuration.{named};
+    ghost use Rattle.ks_output.specs.OldConfig.{OldTexts, coded_old_texts};
 
     ghost Value = { OldTexts };
 
     ghost coded = { coded_old_texts };
 
-    ghost view = { λ s. record { texts = named seen_text s.texts.entries; generation = s.generation } };
+    ghost view = { λ s. record { texts = s.texts; generation = s.generation } };
 }
 
-/// The entries of an auto.conf, by rising names: name and text.
+/// The entries of an auto.conf, by rising names: name, class and text.
 #[derive(Drop)]
 pub struct OldEntries<'a> {
-    inner: Iter<'a, Vec<u8>, Vec<u8>>,
+    inner: Rows<'a, Option<Class>>,
 }
 
 impl<'a> Model for OldEntries<'a> {
-    ghost use Rattle.std.specs.Prelude.{List, ℕ, map};
+    ghost use Rattle.std.specs.Prelude.{List, ℕ, Option};
     ghost use Rattle.std.specs.Coded.{coded_list, coded×, coded_ℕ};
-    ghost use Rattle.ks_output.specs.OldConfig.{seen_old_entry};
+    ghost use Rattle.ks_symbols.specs.declared.kinds.Class.{Class};
+    ghost use Rattle.ks_output.specs.OldConfig.{coded_text};
 
-    ghost Value = { List (List ℕ × List ℕ) };
+    ghost Value = { List (List ℕ × (Option Class × List ℕ)) };
 
-    ghost coded = { coded_list (coded× (coded_list coded_ℕ) (coded_list coded_ℕ)) };
+    ghost coded = { coded_list (coded× (coded_list coded_ℕ) coded_text) };
 
-    ghost view = { λ e. map seen_old_entry e.inner };
+    ghost view = { λ e. e.inner };
 }
 
 impl<'a> Iterator for OldEntries<'a> {
-    type Item = (&'a [u8], &'a [u8]);
+    type Item = (&'a [u8], Option<Class>, &'a [u8]);
 
     ghost next_gives = { TakesFirst lent_old_entry };
 
     ghost remaining = { item_count (λ rest. rest) };
 
-    fn next(&mut self) -> Option<(&'a [u8], &'a [u8])> {
-        match self.inner.next() {
-            Some((name, text)) => Some((name, text)),
-            None => None,
-        }
+    fn next(&mut self) -> Option<(&'a [u8], Option<Class>, &'a [u8])> {
+        self.inner.next()
     }
 }
 
@@ -72,7 +68,7 @@ impl OldConfig {
         ensures names { HasNames result.texts }
     {
         OldConfig {
-            texts: BTreeMap::new(alloc),
+            texts: Table::empty(alloc),
             generation: 0,
         }
     }
@@ -86,10 +82,20 @@ impl OldConfig {
 
     /// The text of a name.
     pub fn get(&self, name: &[u8]) -> Option<&[u8]>
-        ensures { option_map (λ t. t.now) result ≡ map.get self.now.texts name.now }
+        ensures { option_map (λ t. t.now) result ≡ option_map (λ t. t.1) (map.get self.now.texts name.now) }
     {
         match self.texts.get(name) {
-            Some(text) => Some(text),
+            Some((_, text)) => Some(text),
+            None => None,
+        }
+    }
+
+    /// The class of a name, where the file is of the typed form. It takes no memory.
+    pub fn class(&self, name: &[u8]) -> Option<Class>
+        ensures { result ≡ class_in self.now.texts name.now }
+    {
+        match self.texts.get(name) {
+            Some((class, _)) => class,
             None => None,
         }
     }
@@ -99,19 +105,50 @@ impl OldConfig {
         ensures { result ≡ map.entries self.now.texts }
     {
         OldEntries {
-            inner: self.texts.iter(),
+            inner: self.texts.rows(),
+        }
+    }
+}
+
+/// An old configuration while its lines are read.
+#[derive(Drop)]
+pub(crate) struct OldDraft {
+    texts: Draft<Option<Class>>,
+    generation: u64,
+}
+
+impl Model for OldDraft {
+    ghost use Rattle.ks_output.specs.OldConfig.{OldTexts, coded_old_texts};
+
+    ghost Value = { OldTexts };
+
+    ghost coded = { coded_old_texts };
+
+    ghost view = { λ s. record { texts = s.texts; generation = s.generation } };
+}
+
+impl OldDraft {
+    pub(crate) fn new(alloc: Global) -> OldDraft
+        ensures texts { result.texts ≡ map.empty }
+        ensures generation { result.generation ≡ 0 }
+    {
+        OldDraft {
+            texts: Draft::new(alloc),
+            generation: 0,
         }
     }
 
-    /// Gives a name a text, in place of that before.
-    pub(crate) fn put(&mut self, alloc: Global, name: &[u8], text: &[u8]) -> Result<(), AllocError>
-        ensures texts { OnOk result (self.new.texts ≡ map.insert self.old.texts name.now text.now) }
+    /// Gives a name a class, where it is known, and a text, in place of those before.
+    pub(crate) fn put(
+        &mut self,
+        name: &[u8],
+        class: Option<Class>,
+        text: &[u8],
+    ) -> Result<(), AllocError>
+        ensures texts { OnOk result (self.new.texts ≡ map.insert self.old.texts name.now (class, text.now)) }
         ensures generation { OnOk result (self.new.generation ≡ self.old.generation) }
     {
-        let name = Vec::from_slice(alloc, name)?;
-        let text = Vec::from_slice(alloc, text)?;
-        self.texts.insert(name, text)?;
-        Ok(())
+        self.texts.put(name, class, text)
     }
 
     pub(crate) fn set_generation(&mut self, generation: u64)
@@ -119,5 +156,14 @@ impl OldConfig {
         ensures generation { self.new.generation ≡ generation }
     {
         self.generation = generation;
+    }
+
+    pub(crate) fn close(self, alloc: Global) -> Result<OldConfig, AllocError>
+        ensures { IfOk result (λ c. c ≡ self) }
+    {
+        Ok(OldConfig {
+            texts: self.texts.close(alloc)?,
+            generation: self.generation,
+        })
     }
 }

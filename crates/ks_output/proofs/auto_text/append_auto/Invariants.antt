@@ -2,7 +2,7 @@ use Rattle.std.proofs.Common.{◌≡◌, ◌++◌}
 use Rattle.std.specs.FinMap as map
 use Rattle.ks_output.specs.Appending.{Keeps}
 use Rattle.ks_output.specs.AutoText.{heading, entry_lines}
-use Rattle.ks_output.proofs.auto_conf.append_auto.Given as goal
+use Rattle.ks_output.proofs.auto_text.append_auto.Given as goal
 
 -- the text so far and the lines of the entries that are left
 abbrev pub invariant-loop-name : goal.invariant-loop-name

@@ -1,0 +1,99 @@
+//! What one line of an auto.conf says.
+//!
+//! The lines of the usual tool are among those that are read. A line that begins as one of this project's own, on the
+//! generation or a class, and is none, is told from a comment: what it meant to say would be lost.
+ghost use Rattle.std.specs.Prelude.{◌≡◌};
+ghost use Rattle.bstr.specs.Text.{without_terminator};
+ghost use Rattle.ks_output.specs.AutoLines.{seen_remark, remark, class_remark, spelled_class};
+
+use ks_symbols::{
+    Class, Statement, is_silent, name_is_legal, parse_statement, read_decimal, split_word,
+};
+
+/// What a line says.
+#[derive(Clone, Copy)]
+pub(crate) enum Remark<'a> {
+    /// A name has a text.
+    Gives(&'a [u8], &'a [u8]),
+    /// The mark of the typed form.
+    Marks,
+    /// The name that the next line gives a text is of a class.
+    Types(&'a [u8], Class),
+    /// It begins as the line of a class, and is none.
+    Mistypes,
+    /// The generation.
+    Numbers(u64),
+    /// A comment or an empty line.
+    Silent,
+    /// None of these.
+    Faulty,
+}
+
+/// A line without the LF or CR LF that ends it.
+fn without_end(line: &[u8]) -> &[u8]
+    ensures { result.now ≡ without_terminator line.now }
+{
+    let n = line.len();
+    if n == 0 || line[n - 1] != b'\n' {
+        return line;
+    }
+    if n == 1 || line[n - 2] != b'\r' {
+        return &line[..n - 1];
+    }
+    &line[..n - 2]
+}
+
+/// The class that what stands behind the name spells.
+fn spelled_class(behind: &[u8]) -> Option<Class>
+    ensures { result ≡ spelled_class behind.now }
+{
+    if behind == b" string".as_slice() {
+        Some(Class::Text)
+    } else if behind == b" int".as_slice() {
+        Some(Class::Int)
+    } else if behind == b" hex".as_slice() {
+        Some(Class::Hex)
+    } else {
+        None
+    }
+}
+
+/// What the line of a class says, behind `#type `.
+#[tactic(auto, unfolding(crate::specs::AutoLines::class_remark))]
+fn parse_class(text: &[u8]) -> Remark<'_>
+    ensures { seen_remark result ≡ class_remark text.now }
+{
+    let (name, behind) = split_word(text);
+    if !name_is_legal(name) {
+        return Remark::Mistypes;
+    }
+    match spelled_class(behind) {
+        Some(class) => Remark::Types(name, class),
+        None => Remark::Mistypes,
+    }
+}
+
+/// What a line says, which is given with its end.
+#[tactic(auto, unfolding(crate::specs::AutoLines::said_by))]
+pub(crate) fn parse_remark(line: &[u8]) -> Remark<'_>
+    ensures { seen_remark result ≡ remark line.now }
+{
+    let bare = without_end(line);
+    if bare.starts_with(b"#generation ") {
+        match read_decimal(&bare[12..]) {
+            Some(generation) if line.ends_with(b"\n") => Remark::Numbers(generation),
+            _ => Remark::Faulty,
+        }
+    } else if bare == b"#typed".as_slice() {
+        Remark::Marks
+    } else if bare.starts_with(b"#type ") {
+        parse_class(&bare[6..])
+    } else if is_silent(bare) {
+        Remark::Silent
+    } else {
+        match parse_statement(bare) {
+            Some(Statement::Assigns(name, text)) => Remark::Gives(name, text),
+            _ => Remark::Faulty,
+        }
+    }
+}

@@ -1,0 +1,74 @@
+//! Where a line of an auto.conf stands: what the lines before it leave to be known of it.
+//!
+//! The line of a class is refused only when the next line is read, so the place remembers it. A file is typed or not
+//! once its mark or its first entry is read, and stays so.
+ghost use Rattle.std.specs.Prelude.{◌≡◌, ◌<◌, option_map};
+ghost use Rattle.ks_output.specs.AutoLines.{seen_remark};
+ghost use Rattle.ks_output.specs.Places.{seen_place, class_at, behind, wants_entry, blamed};
+
+use crate::auto_lines::Remark;
+use ks_symbols::Class;
+
+/// The place of a line.
+#[derive(Clone, Copy)]
+pub(crate) enum Place<'a> {
+    /// Before the mark of the typed form and before the first entry.
+    Front,
+    /// Behind the first entry of a file of the untyped form.
+    Untyped,
+    /// Behind the mark of a file of the typed form.
+    Typed,
+    /// The same, right behind the line that says the class of a name.
+    Entry(&'a [u8], Class),
+}
+
+impl<'a> Place<'a> {
+    /// The class of an entry that stands here.
+    pub(crate) fn class(self) -> Option<Class>
+        ensures { result ≡ class_at (seen_place self.entry) }
+    {
+        match self {
+            Place::Front | Place::Untyped => None,
+            Place::Typed => Some(Class::Switch),
+            Place::Entry(_, class) => Some(class),
+        }
+    }
+
+    /// The place behind a line that stands here, or None where it is faulty or an entry has to stand here.
+    pub(crate) fn behind(self, remark: Remark<'a>) -> Option<Place<'a>>
+        ensures { option_map seen_place result ≡ behind (seen_place self.entry) (seen_remark remark.entry) }
+    {
+        match (self, remark) {
+            (Place::Entry(wanted, _), Remark::Gives(name, _)) if wanted == name => {
+                Some(Place::Typed)
+            }
+            (Place::Entry(_, _), _) | (_, Remark::Faulty) => None,
+            (Place::Typed, Remark::Mistypes) => None,
+            (Place::Typed, Remark::Types(name, class)) => Some(Place::Entry(name, class)),
+            (Place::Front, Remark::Marks) => Some(Place::Typed),
+            (Place::Front, Remark::Gives(_, _)) => Some(Place::Untyped),
+            (place, _) => Some(place),
+        }
+    }
+
+    /// Whether an entry has to stand here, so that a text must not end here.
+    pub(crate) fn wants_entry(self) -> bool
+        ensures { result ≡ wants_entry (seen_place self.entry) }
+    {
+        match self {
+            Place::Entry(_, _) => true,
+            _ => false,
+        }
+    }
+
+    /// The line to blame where a line of this number can't stand here: itself, or that of the class before it.
+    pub(crate) fn blamed(self, number: u64) -> u64
+        requires { 0 < number }
+        ensures { result ≡ blamed (seen_place self.entry) number }
+    {
+        match self {
+            Place::Entry(_, _) => number - 1,
+            _ => number,
+        }
+    }
+}

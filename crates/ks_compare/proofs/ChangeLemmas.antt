@@ -1,19 +1,22 @@
 -- Laws of the changes.
-use Rattle.std.proofs.Common.{◌≡◌, ◌↔◌, ℕ, Bool, true, false, not, ◌||◌, List, [], ◌∷◌, bytes_eq, Option, Some, None, option_map, IsTrue, refl, sym, ap, subst, ◌∙◌}
+use Rattle.std.proofs.Common.{◌≡◌, ◌↔◌, ℕ, Bool, true, false, not, ◌||◌, ◌&&◌, List, [], ◌∷◌, bytes_eq, Option, Some, None, option_map, IsTrue, refl, sym, ap, subst, ◌∙◌}
 use mathlib.Core.Logic.{inl, inr}
-use Rattle.std.proofs.lemmas.Bool.{cases_Bool, false≢true}
+use Rattle.std.proofs.lemmas.Bool.{cases_Bool, false≢true, eq-eqb, eqb-true}
 use Rattle.std.specs.Ordering.{is_eq}
 use Rattle.std.specs.Cmp.{tied_itself}
 use Rattle.std.specs.Cmp.Lexicographic.{nat_list_cmp_total, bytes_decides}
 use Rattle.std.specs.declared.cmp.Ordering.TheVariants.{Less, Equal, Greater}
 use Rattle.std.specs.FinMap as map
 use Rattle.std.specs.List.Sorted.{IsStrictlySortedBy}
+use Rattle.ks_symbols.specs.declared.kinds.Class.{Class}
+use Rattle.ks_symbols.specs.Kinds.{class_number, numbered_class, class_again}
 use Rattle.ks_symbols.specs.Names.{is_name}
 use Rattle.ks_output.specs.OldConfig.{texts_of}
 use Rattle.ks_output.proofs.Entries.{order, tied}
+use Rattle.ks_output.proofs.WrittenLines.{and_parts}
 use Rattle.ks_output.proofs.Texts.{texts_are_of_entries}
 use Rattle.ks_output.proofs.Definitions.{alike_is_defined_alike}
-use Rattle.ks_compare.specs.Changes.{compared, differ, is_in}
+use Rattle.ks_compare.specs.Changes.{compared, same_class, unlike, differ, is_in}
 use Rattle.ks_compare.specs.Laws.{ChangesExist, ChangesAreOne, ChangesAreLegal, FirstChangesAreNames, NothingChanges, UnchangedIsKept, UnchangedIsDefinedAlike}
 use Rattle.ks_compare.proofs.Merge.{Above, merged, merged_changes, first_names, here_test, turned, legal_differ, name_of_symbol}
 
@@ -79,13 +82,32 @@ not_false true e = refl
 not_false false e = absurd (false≢true (sym e))
 
 -- what does not differ is the same
-alike : (a b : Option (List ℕ)) → (differ a b ≡ false) ↔ (a ≡ b)
+class_tells : (k l : Class) → class_number k ≡ class_number l → k ≡ l
+class_tells k l e = sym (class_again k) ∙ ap numbered_class e ∙ class_again l
+
+same_class_tells : (a b : Option Class) → (same_class a b ≡ true) ↔ (a ≡ b)
+same_class_tells None None = (λ e. refl, λ e. refl)
+same_class_tells None (Some l) = (λ e. absurd (false≢true e), λ e. absurd (cc e))
+same_class_tells (Some k) None = (λ e. absurd (false≢true e), λ e. absurd (cc e))
+same_class_tells (Some k) (Some l) = (
+  λ e. ap (λ m. Some m) (class_tells k l (eqb-true (class_number k) (class_number l) e)),
+  λ e. let same : k ≡ l = cc e in eq-eqb (class_number k) (class_number l) (ap class_number same),
+)
+
+like : (t u : Option Class × List ℕ) → (unlike t u ≡ false) ↔ (t ≡ u)
+like t u = (
+  λ e. let both = and_parts (same_class t.0 u.0) (bytes_eq t.1 u.1) (not_false _ e) in
+      ap (λ k. (k, t.1)) ((same_class_tells t.0 u.0).0 both.0) ∙ ap (λ (l : List ℕ). (u.0, l)) ((bytes_decides t.1 u.1).0 both.1),
+  λ e. ap not (ap (λ b. b && bytes_eq t.1 u.1) ((same_class_tells t.0 u.0).1 (ap (λ p. p.0) e)) ∙ (bytes_decides t.1 u.1).1 (ap (λ p. p.1) e)),
+)
+
+alike : (a b : Option (Option Class × List ℕ)) → (differ a b ≡ false) ↔ (a ≡ b)
 alike None None = (λ e. refl, λ e. refl)
 alike None (Some u) = (λ e. absurd (false≢true (sym e)), λ e. absurd (cc e))
 alike (Some t) None = (λ e. absurd (false≢true (sym e)), λ e. absurd (cc e))
 alike (Some t) (Some u) = (
-  λ e. ap (λ (v : List ℕ). Some v) ((bytes_decides t u).0 (not_false (bytes_eq t u) e)),
-  λ e. let same : t ≡ u = cc e in ap not ((bytes_decides t u).1 same),
+  λ e. ap (λ v. Some v) ((like t u).0 e),
+  λ e. let same : t ≡ u = cc e in (like t u).1 same,
 )
 
 pub unchanged_is_kept : UnchangedIsKept
@@ -98,5 +120,5 @@ unfolding IsStrictlySortedBy
 nothing_changes settings = record { rising = tt; each = λ x. sym ((unchanged_is_kept (texts_of settings) settings x).1 refl) }
 
 pub unchanged_is_defined_alike : UnchangedIsDefinedAlike
-unchanged_is_defined_alike title later old new s t g h x same one =
-    alike_is_defined_alike title later old new s t g h x ((unchanged_is_kept (texts_of old) new x).0 same) one
+unchanged_is_defined_alike title later old new s t g h x same =
+    alike_is_defined_alike title later old new s t g h x ((unchanged_is_kept (texts_of old) new x).0 same)

@@ -14,26 +14,27 @@ use Rattle.std.specs.List.{AllByRecursion}
 use Rattle.std.specs.List.Sorted.{IsStrictlySortedBy}
 use Rattle.std.proofs.lemmas.Map.Text.{is_eq-slice_cmp}
 use Rattle.ks_symbols.specs.declared.kinds.Kind.{Kind}
+use Rattle.ks_symbols.specs.declared.kinds.Class.{Class}
 use Rattle.ks_symbols.specs.Configuration.{NameMap, IsConfiguration}
 use Rattle.ks_output.proofs.Entries.{order, first, second, find_below, tied}
 use Rattle.ks_symbols.specs.Names.{is_name, is_symbol_name}
-use Rattle.ks_output.specs.OldConfig.{HasNames}
+use Rattle.ks_output.specs.OldConfig.{Texts, HasNames}
 use Rattle.ks_output.proofs.WrittenLines.{and_parts}
 use Rattle.ks_compare.specs.Pass.{Step, Ends, Old, New, Both, step, by_order, with_first}
 use Rattle.ks_compare.specs.Changes.{compared, unlike, differ, is_in, AreChanges}
 
 abbrev pub OldList : Type 0
-OldList = List (List ℕ × List ℕ)
+OldList = List (List ℕ × (Option Class × List ℕ))
 
 abbrev pub NewList : Type 0
 NewList = List (List ℕ × (Kind × List ℕ))
 
-pub turn : Ordering → List ℕ × List ℕ → List ℕ × (Kind × List ℕ) → List (List ℕ) → List (List ℕ) → List (List ℕ) → List (List ℕ)
+pub turn : Ordering → List ℕ × (Option Class × List ℕ) → List ℕ × (Kind × List ℕ) → List (List ℕ) → List (List ℕ) → List (List ℕ) → List (List ℕ)
 turn Less e y old both new = e.0 ∷ old
 turn Equal e y old both new = cond (unlike e.1 (compared y.1)) (e.0 ∷ both) both
 turn Greater e y old both new = y.0 ∷ new
 
-merged_first : List ℕ × List ℕ → (NewList → List (List ℕ)) → NewList → List (List ℕ)
+merged_first : List ℕ × (Option Class × List ℕ) → (NewList → List (List ℕ)) → NewList → List (List ℕ)
 merged_first e rest [] = e.0 ∷ rest []
 merged_first e rest (y ∷ ys) = turn (order e.0 y.0) e y (rest (y ∷ ys)) (rest ys) (merged_first e rest ys)
 
@@ -45,7 +46,7 @@ merged [] ys = keys ys
 merged (e ∷ xs) ys = merged_first e (merged xs) ys
 
 -- what each step of the pass does
-pub merged-old : (e : List ℕ × List ℕ) (xs : OldList) → merged (e ∷ xs) [] ≡ e.0 ∷ merged xs []
+pub merged-old : (e : List ℕ × (Option Class × List ℕ)) (xs : OldList) → merged (e ∷ xs) [] ≡ e.0 ∷ merged xs []
 unfolding merged merged_first
 merged-old e xs = refl
 
@@ -57,20 +58,20 @@ pub merged-none : merged [] [] ≡ []
 unfolding merged
 merged-none = refl
 
-pub merged-both : (e : List ℕ × List ℕ) (y : List ℕ × (Kind × List ℕ)) (xs : OldList) (ys : NewList)
+pub merged-both : (e : List ℕ × (Option Class × List ℕ)) (y : List ℕ × (Kind × List ℕ)) (xs : OldList) (ys : NewList)
     → merged (e ∷ xs) (y ∷ ys) ≡ turn (order e.0 y.0) e y (merged xs (y ∷ ys)) (merged xs ys) (merged (e ∷ xs) ys)
 unfolding merged merged_first
 merged-both e y xs ys = refl
 
-pub merged-less : (e : List ℕ × List ℕ) (y : List ℕ × (Kind × List ℕ)) (xs : OldList) (ys : NewList) → order e.0 y.0 ≡ Less → merged (e ∷ xs) (y ∷ ys) ≡ e.0 ∷ merged xs (y ∷ ys)
+pub merged-less : (e : List ℕ × (Option Class × List ℕ)) (y : List ℕ × (Kind × List ℕ)) (xs : OldList) (ys : NewList) → order e.0 y.0 ≡ Less → merged (e ∷ xs) (y ∷ ys) ≡ e.0 ∷ merged xs (y ∷ ys)
 unfolding turn
 merged-less e y xs ys is = merged-both e y xs ys ∙ ap (λ o. turn o e y (merged xs (y ∷ ys)) (merged xs ys) (merged (e ∷ xs) ys)) is
 
-pub merged-greater : (e : List ℕ × List ℕ) (y : List ℕ × (Kind × List ℕ)) (xs : OldList) (ys : NewList) → order e.0 y.0 ≡ Greater → merged (e ∷ xs) (y ∷ ys) ≡ y.0 ∷ merged (e ∷ xs) ys
+pub merged-greater : (e : List ℕ × (Option Class × List ℕ)) (y : List ℕ × (Kind × List ℕ)) (xs : OldList) (ys : NewList) → order e.0 y.0 ≡ Greater → merged (e ∷ xs) (y ∷ ys) ≡ y.0 ∷ merged (e ∷ xs) ys
 unfolding turn
 merged-greater e y xs ys is = merged-both e y xs ys ∙ ap (λ o. turn o e y (merged xs (y ∷ ys)) (merged xs ys) (merged (e ∷ xs) ys)) is
 
-pub merged-equal : (e : List ℕ × List ℕ) (y : List ℕ × (Kind × List ℕ)) (xs : OldList) (ys : NewList) → order e.0 y.0 ≡ Equal
+pub merged-equal : (e : List ℕ × (Option Class × List ℕ)) (y : List ℕ × (Kind × List ℕ)) (xs : OldList) (ys : NewList) → order e.0 y.0 ≡ Equal
     → merged (e ∷ xs) (y ∷ ys) ≡ cond (unlike e.1 (compared y.1)) (e.0 ∷ merged xs ys) (merged xs ys)
 unfolding turn
 merged-equal e y xs ys is = merged-both e y xs ys ∙ ap (λ o. turn o e y (merged xs (y ∷ ys)) (merged xs ys) (merged (e ∷ xs) ys)) is
@@ -106,7 +107,7 @@ pub here_test : (x k : List ℕ) → is_eq (order x k) ≡ bytes_eq x k
 here_test x k = is_eq-slice_cmp x k
 
 -- one more name that the old entries have alone
-cons_old : (e : List ℕ × List ℕ) (xs : OldList) (ys : NewList) (names : List (List ℕ)) → T (below_all order e.0 xs) → T (below_all order e.0 ys) → Good xs ys names → Good (e ∷ xs) ys (e.0 ∷ names)
+cons_old : (e : List ℕ × (Option Class × List ℕ)) (xs : OldList) (ys : NewList) (names : List (List ℕ)) → T (below_all order e.0 xs) → T (below_all order e.0 ys) → Good xs ys names → Good (e ∷ xs) ys (e.0 ∷ names)
 unfolding IsStrictlySortedBy
 cons_old e xs ys names h g good = record {
   low = λ z a b. (less _ (first _ _ a), good.low z (second _ _ a) b);
@@ -161,7 +162,7 @@ chosen_other : (d : Bool) (x k : List ℕ) (names : List (List ℕ)) → bytes_e
 chosen_other true x k names e = ap (λ b. b || is_in names x) e
 chosen_other false x k names e = refl
 
-cons_both : (k t : List ℕ) (s : Kind × List ℕ) (xs : OldList) (ys : NewList) (names : List (List ℕ)) → T (below_all order k xs) → T (below_all order k ys) → Good xs ys names
+cons_both : (k : List ℕ) (t : Option Class × List ℕ) (s : Kind × List ℕ) (xs : OldList) (ys : NewList) (names : List (List ℕ)) → T (below_all order k xs) → T (below_all order k ys) → Good xs ys names
     → Good ((k, t) ∷ xs) ((k, s) ∷ ys) (cond (unlike t (compared s)) (k ∷ names) names)
 cons_both k t s xs ys names h g good =
     let d = unlike t (compared s) in
@@ -193,7 +194,7 @@ good_new (y ∷ ys) h = subst (Good [] (y ∷ ys)) (sym (merged-new y ys)) (cons
 pub turned : (x y : List ℕ) → order x y ≡ Greater → order y x ≡ Less
 turned x y e = nat_list_cmp_total.antisymm y x ∙ ap ordering_reverse e
 
-good_step : (e : List ℕ × List ℕ) (y : List ℕ × (Kind × List ℕ)) (xs : OldList) (ys : NewList) (o : Ordering) → order e.0 y.0 ≡ o → T (is_sorted order (e ∷ xs)) → T (is_sorted order (y ∷ ys))
+good_step : (e : List ℕ × (Option Class × List ℕ)) (y : List ℕ × (Kind × List ℕ)) (xs : OldList) (ys : NewList) (o : Ordering) → order e.0 y.0 ≡ o → T (is_sorted order (e ∷ xs)) → T (is_sorted order (y ∷ ys))
     → Good xs (y ∷ ys) (merged xs (y ∷ ys)) → Good xs ys (merged xs ys) → Good (e ∷ xs) ys (merged (e ∷ xs) ys) → Good (e ∷ xs) (y ∷ ys) (merged (e ∷ xs) (y ∷ ys))
 good_step e y xs ys Less is h g old both new =
     subst (Good (e ∷ xs) (y ∷ ys)) (sym (merged-less e y xs ys is))
@@ -208,7 +209,7 @@ good_step e y xs ys Equal is h g old both new =
     (subst (λ (k : List ℕ). Good (e ∷ xs) ((k, y.1) ∷ ys) (cond (unlike e.1 (compared y.1)) (e.0 ∷ merged xs ys) (merged xs ys))) same
     (cons_both e.0 e.1 y.1 xs ys (merged xs ys) (first _ _ h) (subst (λ (k : List ℕ). T (below_all order k ys)) (sym same) (first _ _ g)) both))
 
-good_first : (e : List ℕ × List ℕ) (xs : OldList) → T (is_sorted order (e ∷ xs)) → ((ys : NewList) → T (is_sorted order ys) → Good xs ys (merged xs ys))
+good_first : (e : List ℕ × (Option Class × List ℕ)) (xs : OldList) → T (is_sorted order (e ∷ xs)) → ((ys : NewList) → T (is_sorted order ys) → Good xs ys (merged xs ys))
     → (ys : NewList) → T (is_sorted order ys) → Good (e ∷ xs) ys (merged (e ∷ xs) ys)
 good_first e xs h rest [] g = subst (Good (e ∷ xs) []) (sym (merged-old e xs)) (cons_old e xs [] (merged xs []) (first _ _ h) tt (rest [] tt))
 good_first e xs h rest (y ∷ ys) g =
@@ -219,7 +220,7 @@ good [] ys h g = good_new ys g
 good (e ∷ xs) ys h g = good_first e xs h (λ zs. good xs zs (second _ _ h)) ys g
 
 -- the pass gives the changes of two maps
-pub merged_changes : (old : NameMap (List ℕ)) (new : NameMap (Kind × List ℕ)) → AreChanges old new (merged (map.entries old) (map.entries new))
+pub merged_changes : (old : Texts) (new : NameMap (Kind × List ℕ)) → AreChanges old new (merged (map.entries old) (map.entries new))
 merged_changes old new =
     let all = good (map.entries old) (map.entries new) (map.entries_sorted old) (map.entries_sorted new) in
     record {
@@ -232,14 +233,14 @@ pub first_names : (new : NameMap (Kind × List ℕ)) → AreChanges map.empty ne
 unfolding merged
 first_names new =
     let all = good_new (map.entries new) (map.entries_sorted new) in
-    let none : NameMap (List ℕ) = map.empty in
+    let none : Texts = map.empty in
     record {
       rising = all.rising;
       each = λ x. all.each x ∙ ap (λ o. differ o (option_map compared (find order x (map.entries new)))) (sym (map.get-empty order x)) ∙ ap (λ o. differ (map.get none x) (option_map compared o)) (sym (map.get-entries new x));
     }
 
 -- what the pass does at a step
-pub record TakesOld (name : List ℕ) (b : Option (List ℕ × List ℕ)) (xs : OldList) (right : NewList) : Type 0 where
+pub record TakesOld (name : List ℕ) (b : Option (List ℕ × (Option Class × List ℕ))) (xs : OldList) (right : NewList) : Type 0 where
   pub left : merged (with_first b xs) right ≡ name ∷ merged xs right
   pub more : length (with_first b xs) ≡ suc (length xs)
 
@@ -247,19 +248,19 @@ pub record TakesNew (name : List ℕ) (a : Option (List ℕ × (Kind × List ℕ
   pub left : merged xs (with_first a ys) ≡ name ∷ merged xs ys
   pub more : length (with_first a ys) ≡ suc (length ys)
 
-pub record TakesBoth (name : List ℕ) (d : Bool) (b : Option (List ℕ × List ℕ)) (a : Option (List ℕ × (Kind × List ℕ))) (xs : OldList) (ys : NewList) : Type 0 where
+pub record TakesBoth (name : List ℕ) (d : Bool) (b : Option (List ℕ × (Option Class × List ℕ))) (a : Option (List ℕ × (Kind × List ℕ))) (xs : OldList) (ys : NewList) : Type 0 where
   pub left : merged (with_first b xs) (with_first a ys) ≡ cond d (name ∷ merged xs ys) (merged xs ys)
   pub more : length (with_first b xs) ≡ suc (length xs)
   pub fewer : length (with_first a ys) ≡ suc (length ys)
 
 -- by the step that is told
-pub Takes : Step → Option (List ℕ × List ℕ) → Option (List ℕ × (Kind × List ℕ)) → OldList → NewList → Type 0
+pub Takes : Step → Option (List ℕ × (Option Class × List ℕ)) → Option (List ℕ × (Kind × List ℕ)) → OldList → NewList → Type 0
 Takes Ends b a xs ys = merged (with_first b xs) (with_first a ys) ≡ []
 Takes (Old name) b a xs ys = TakesOld name b xs (with_first a ys)
 Takes (New name) b a xs ys = TakesNew name a (with_first b xs) ys
 Takes (Both name d) b a xs ys = TakesBoth name d b a xs ys
 
-takes_by_order : (o : Ordering) (e : List ℕ × List ℕ) (y : List ℕ × (Kind × List ℕ)) (xs : OldList) (ys : NewList) → order e.0 y.0 ≡ o → Takes (by_order o e y) (Some e) (Some y) xs ys
+takes_by_order : (o : Ordering) (e : List ℕ × (Option Class × List ℕ)) (y : List ℕ × (Kind × List ℕ)) (xs : OldList) (ys : NewList) → order e.0 y.0 ≡ o → Takes (by_order o e y) (Some e) (Some y) xs ys
 unfolding Takes
 takes_by_order Less e y xs ys is = record { left = merged-less e y xs ys is; more = refl }
 takes_by_order Equal e y xs ys is = record { left = merged-equal e y xs ys is; more = refl; fewer = refl }
@@ -269,26 +270,26 @@ new_alone : (xs : OldList) (ys : NewList) (y : List ℕ × (Kind × List ℕ)) �
 unfolding Takes
 new_alone xs ys y = record { left = merged-new y ys; more = refl }
 
-takes : (b : Option (List ℕ × List ℕ)) (a : Option (List ℕ × (Kind × List ℕ))) (xs : OldList) (ys : NewList) → Takes (step b a) b a xs ys
+takes : (b : Option (List ℕ × (Option Class × List ℕ))) (a : Option (List ℕ × (Kind × List ℕ))) (xs : OldList) (ys : NewList) → Takes (step b a) b a xs ys
 unfolding Takes
 takes None None xs ys = merged-none
 takes (Some e) None xs ys = record { left = merged-old e xs; more = refl }
 takes None (Some y) xs ys = new_alone xs ys y
 takes (Some e) (Some y) xs ys = takes_by_order (order e.0 y.0) e y xs ys refl
 
-pub takes_end : (b : Option (List ℕ × List ℕ)) (a : Option (List ℕ × (Kind × List ℕ))) (xs : OldList) (ys : NewList) → Ends ≡ step b a → merged (with_first b xs) (with_first a ys) ≡ []
+pub takes_end : (b : Option (List ℕ × (Option Class × List ℕ))) (a : Option (List ℕ × (Kind × List ℕ))) (xs : OldList) (ys : NewList) → Ends ≡ step b a → merged (with_first b xs) (with_first a ys) ≡ []
 unfolding Takes
 takes_end b a xs ys is = subst (λ s. Takes s b a xs ys) (sym is) (takes b a xs ys)
 
-pub takes_old : (name : List ℕ) (b : Option (List ℕ × List ℕ)) (a : Option (List ℕ × (Kind × List ℕ))) (xs : OldList) (ys : NewList) → Old name ≡ step b a → TakesOld name b xs (with_first a ys)
+pub takes_old : (name : List ℕ) (b : Option (List ℕ × (Option Class × List ℕ))) (a : Option (List ℕ × (Kind × List ℕ))) (xs : OldList) (ys : NewList) → Old name ≡ step b a → TakesOld name b xs (with_first a ys)
 unfolding Takes
 takes_old name b a xs ys is = subst (λ s. Takes s b a xs ys) (sym is) (takes b a xs ys)
 
-pub takes_new : (name : List ℕ) (b : Option (List ℕ × List ℕ)) (a : Option (List ℕ × (Kind × List ℕ))) (xs : OldList) (ys : NewList) → New name ≡ step b a → TakesNew name a (with_first b xs) ys
+pub takes_new : (name : List ℕ) (b : Option (List ℕ × (Option Class × List ℕ))) (a : Option (List ℕ × (Kind × List ℕ))) (xs : OldList) (ys : NewList) → New name ≡ step b a → TakesNew name a (with_first b xs) ys
 unfolding Takes
 takes_new name b a xs ys is = subst (λ s. Takes s b a xs ys) (sym is) (takes b a xs ys)
 
-pub takes_both : (name : List ℕ) (d : Bool) (b : Option (List ℕ × List ℕ)) (a : Option (List ℕ × (Kind × List ℕ))) (xs : OldList) (ys : NewList) → Both name d ≡ step b a → TakesBoth name d b a xs ys
+pub takes_both : (name : List ℕ) (d : Bool) (b : Option (List ℕ × (Option Class × List ℕ))) (a : Option (List ℕ × (Kind × List ℕ))) (xs : OldList) (ys : NewList) → Both name d ≡ step b a → TakesBoth name d b a xs ys
 unfolding Takes
 takes_both name d b a xs ys is = subst (λ s. Takes s b a xs ys) (sym is) (takes b a xs ys)
 
@@ -304,7 +305,7 @@ each_in P (n ∷ names) f = (
   each_in P names (λ x e. f x (ap (λ b. bytes_eq x n || b) e ∙ or_true (bytes_eq x n))),
 )
 
-pub legal_differ : (o : Option (List ℕ)) (s : Option (Kind × List ℕ)) (P : Type 0) → ((t : List ℕ) → o ≡ Some t → P) → ((t : Kind × List ℕ) → s ≡ Some t → P) → differ o (option_map compared s) ≡ true → P
+pub legal_differ : (o : Option (Option Class × List ℕ)) (s : Option (Kind × List ℕ)) (P : Type 0) → ((t : Option Class × List ℕ) → o ≡ Some t → P) → ((t : Kind × List ℕ) → s ≡ Some t → P) → differ o (option_map compared s) ≡ true → P
 legal_differ None None P f g e = absurd (false≢true e)
 legal_differ (Some t) s P f g e = f t refl
 legal_differ None (Some t) P f g e = g t refl
@@ -313,7 +314,7 @@ pub name_of_symbol : (x : List ℕ) → IsTrue (is_symbol_name x) → IsTrue (is
 unfolding is_symbol_name
 name_of_symbol x h = (and_parts _ _ h).0
 
-pub legal_changes : (old : NameMap (List ℕ)) (new : NameMap (Kind × List ℕ)) → HasNames old → IsConfiguration new → AllByRecursion (λ n. IsTrue (is_name n)) (merged (map.entries old) (map.entries new))
+pub legal_changes : (old : Texts) (new : NameMap (Kind × List ℕ)) → HasNames old → IsConfiguration new → AllByRecursion (λ n. IsTrue (is_name n)) (merged (map.entries old) (map.entries new))
 legal_changes old new h g =
     let are = merged_changes old new in
     each_in (λ n. IsTrue (is_name n)) (merged (map.entries old) (map.entries new)) (λ x e.

@@ -5,25 +5,24 @@ use Rattle.ks_symbols.specs.declared.kinds.Kind.{Kind}
 use Rattle.ks_symbols.specs.Names.{is_name}
 use Rattle.ks_symbols.specs.Titles.{is_title}
 use Rattle.ks_symbols.specs.Configuration.{IsConfiguration, NameMap}
-use Rattle.ks_output.specs.OldConfig.{HasNames, texts_of}
+use Rattle.ks_output.specs.OldConfig.{Texts, HasNames, texts_of}
 use Rattle.ks_output.specs.Header.{header_text}
 use Rattle.ks_output.specs.Definitions.{definitions}
-use Rattle.ks_output.specs.HeaderLaws.{HasOneClass}
 use Rattle.ks_compare.specs.Changes.{differs, is_in, AreChanges}
 
 -- Two maps have changes, ..
 abbrev pub ChangesExist : Type 0
-ChangesExist = (old : NameMap (List ℕ)) (new : NameMap (Kind × List ℕ)) → (names : List (List ℕ)) × AreChanges old new names
+ChangesExist = (old : Texts) (new : NameMap (Kind × List ℕ)) → (names : List (List ℕ)) × AreChanges old new names
 
 -- .. in one list only, ..
 abbrev pub ChangesAreOne : Type 0
 ChangesAreOne =
-    (old : NameMap (List ℕ)) (new : NameMap (Kind × List ℕ)) (names others : List (List ℕ)) → AreChanges old new names → AreChanges old new others → names ≡ others
+    (old : Texts) (new : NameMap (Kind × List ℕ)) (names others : List (List ℕ)) → AreChanges old new names → AreChanges old new others → names ≡ others
 
 -- .. and each changed name is legal.
 abbrev pub ChangesAreLegal : Type 0
 ChangesAreLegal =
-    (old : NameMap (List ℕ)) (new : NameMap (Kind × List ℕ)) (names : List (List ℕ)) → HasNames old → IsConfiguration new → AreChanges old new names
+    (old : Texts) (new : NameMap (Kind × List ℕ)) (names : List (List ℕ)) → HasNames old → IsConfiguration new → AreChanges old new names
     → (x : List ℕ) → is_in names x ≡ true → IsTrue (is_name x)
 
 -- Against no texts at all each name of a configuration changes; against its own texts none does.
@@ -36,10 +35,10 @@ NothingChanges = (settings : NameMap (Kind × List ℕ)) → AreChanges (texts_o
 -- A name that does not differ has, in the old auto.conf, what the next one keeps of it.
 abbrev pub UnchangedIsKept : Type 0
 UnchangedIsKept =
-    (old : NameMap (List ℕ)) (new : NameMap (Kind × List ℕ)) (x : List ℕ) → (differs old new x ≡ false) ↔ (map.get old x ≡ map.get (texts_of new) x)
+    (old : Texts) (new : NameMap (Kind × List ℕ)) (x : List ℕ) → (differs old new x ≡ false) ↔ (map.get old x ≡ map.get (texts_of new) x)
 
--- Where its kinds are of one class, the two headers define it by the same lines.
+-- .. and the two headers define it by the same lines.
 abbrev pub UnchangedIsDefinedAlike : Type 0
 UnchangedIsDefinedAlike =
     (title later : List ℕ) (old new : NameMap (Kind × List ℕ)) → IsTrue (is_title title) → IsTrue (is_title later) → IsConfiguration old → IsConfiguration new
-    → (x : List ℕ) → differs (texts_of old) new x ≡ false → HasOneClass old new x → definitions x (header_text title old) ≡ definitions x (header_text later new)
+    → (x : List ℕ) → differs (texts_of old) new x ≡ false → definitions x (header_text title old) ≡ definitions x (header_text later new)

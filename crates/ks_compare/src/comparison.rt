@@ -2,7 +2,7 @@
 //!
 //! A name that is left out here is a stamp that is never touched, and an object that stays stale unseen; one too many
 //! is work that make does for nothing. So the list is exact: one pass over two lists that rise by the same order.
-//! What of an entry counts for a difference is said once, by `compared` of the definitions: today its text alone.
+//! What of an entry counts for a difference is said once, by `compared` of the definitions: its class and its text.
 ghost use Rattle.std.specs.Prelude.{◌≡◌, IfOk, option_map};
 ghost use Rattle.ks_symbols.specs.Configuration.{IsConfiguration, lent_entry};
 ghost use Rattle.ks_output.specs.OldConfig.{HasNames, lent_old_entry};
@@ -10,7 +10,7 @@ ghost use Rattle.ks_compare.specs.Changes.{AreChanges};
 ghost use Rattle.ks_compare.specs.Pass.{seen_step, step, with_first};
 
 use ks_output::{OldConfig, OldEntries};
-use ks_symbols::{Entries, Kind, Name, Settings};
+use ks_symbols::{Class, Entries, Kind, Name, Settings};
 use std::alloc::{AllocError, Global};
 use std::cmp::Ordering;
 
@@ -27,24 +27,24 @@ enum Step<'a> {
 
 /// The step at two entries, where None is the end of a list.
 fn next_step<'a>(
-    before: Option<(&'a [u8], &'a [u8])>,
+    before: Option<(&'a [u8], Option<Class>, &'a [u8])>,
     after: Option<(&'a [u8], Kind, &'a [u8])>,
 ) -> Step<'a>
     ensures { seen_step result ≡ step (option_map lent_old_entry before.entry) (option_map lent_entry after.entry) }
 {
     match (before, after) {
         (None, None) => Step::Ends,
-        (Some((name, _)), None) => Step::Old(name),
+        (Some((name, _, _)), None) => Step::Old(name),
         (None, Some((name, _, _))) => Step::New(name),
-        (Some((old, was)), Some((new, _, is))) => match old.cmp(new) {
+        (Some((old, class, was)), Some((new, kind, is))) => match old.cmp(new) {
             Ordering::Less => Step::Old(old),
-            Ordering::Equal => Step::Both(old, was != is),
+            Ordering::Equal => Step::Both(old, class != Some(kind.class()) || was != is),
             Ordering::Greater => Step::New(new),
         },
     }
 }
 
-fn next_old<'a>(rest: &mut OldEntries<'a>) -> Option<(&'a [u8], &'a [u8])>
+fn next_old<'a>(rest: &mut OldEntries<'a>) -> Option<(&'a [u8], Option<Class>, &'a [u8])>
     ensures { with_first (option_map lent_old_entry result) rest.new ≡ rest.old }
 {
     rest.next()
@@ -56,7 +56,8 @@ fn next_new<'a>(rest: &mut Entries<'a>) -> Option<(&'a [u8], Kind, &'a [u8])>
     rest.next()
 }
 
-/// The names that have a text in one of the two alone, or different texts in both: rising, each once.
+/// The names that have a text in one of the two alone, or in both another text or another class: rising, each once. A
+/// name that has no class yet, as in an auto.conf of the untyped form, has another one now.
 pub fn changed(alloc: Global, old: &OldConfig, new: &Settings) -> Result<Vec<Name>, AllocError>
     requires old { HasNames old.now.texts }
     requires new { IsConfiguration new.now.entries }

@@ -20,7 +20,7 @@ pub fn first_changes_are_names()
     ensures again { NothingChanges }
 {}
 
-/// What does not differ is as it was: in auto.conf, and, its kinds being of one class, in the header.
+/// What does not differ is as it was, in auto.conf and in the header.
 pub fn unchanged_is_kept()
     ensures kept { UnchangedIsKept }
     ensures alike { UnchangedIsDefinedAlike }

@@ -1,5 +1,5 @@
 -- Names and paths kept as owned text.
-use Rattle.std.proofs.Common.{◌≡◌, ℕ, Bool, true, false, List, [], ◌∷◌, ◌++◌, refl, ap, sym, ◌∙◌, map, String, Global, Some}
+use Rattle.std.proofs.Common.{◌≡◌, ℕ, suc, ◌+◌, ◌<◌, length, get_or, drop, drop-cons, arith, Bool, true, false, List, [], ◌∷◌, ◌++◌, refl, ap, sym, ◌∙◌, map, String, Global, Some}
 use Rattle.std.specs.Map.{lookup}
 use Rattle.std.specs.Option.{is_some}
 use Rattle.std.specs.Str.{bytes_eq}
@@ -63,3 +63,9 @@ insert-new k r (e ∷ es) none = (elim (bytes_eq (string_bytes k) (string_bytes 
 -- what a test says of all items holds of the one at a place
 pub passes_at : {X : Type 0} (test : X → Bool) (xs : List X) (k : ℕ) (x : X) → list_all test xs ≡ true → slice_get xs k ≡ Some x → test x ≡ true
 passes_at test xs k x all at = ap test (sym (get_or_from_slice_get xs k x x at)) ∙ AllPass-from_list_all test xs all k x (slice_get_within xs k x at)
+
+-- the text at a place, and those behind it
+pub texts_next : (vs : List (String Global)) (i : ℕ) (v : String Global) → i < length vs → v ≡ get_or vs i v → texts_of (drop i vs) ≡ string_bytes v ∷ texts_of (drop (i + 1) vs)
+texts_next vs i v h is =
+    let same : suc i ≡ i + 1 = omega arith in
+    ap texts_of (drop-cons vs i v h) ∙ ap (λ z. string_bytes z ∷ texts_of (drop (suc i) vs)) (sym is) ∙ ap (λ k. string_bytes v ∷ texts_of (drop k vs)) same

@@ -1,5 +1,5 @@
 -- One more token.
-use Rattle.std.proofs.Common.{◌≡◌, ℕ, suc, ◌+◌, ◌-◌, Bool, true, false, List, [], ◌∷◌, ◌++◌, length, drop, refl, sym, ap, ◌∙◌, arith, append_assoc, append-nil, reverse, ⊎_elim, length-append, map, Bor, Option, Some, None, Result, Ok, Err, subst, get_or, take, ◌<◌, ◌≤◌, drop-cons, take-append-drop}
+use Rattle.std.proofs.Common.{◌≡◌, inl, inr, ℕ, suc, ◌+◌, ◌-◌, Bool, true, false, List, [], ◌∷◌, ◌++◌, length, drop, refl, sym, ap, ◌∙◌, arith, append_assoc, append-nil, reverse, ⊎_elim, length-append, map, Bor, Option, Some, None, Result, Ok, Err, subst, get_or, take, ◌<◌, ◌≤◌, drop-cons, take-append-drop}
 use Rattle.std.proofs.lemmas.List.{reverse-append, drop_all, drop-append-le, map-append}
 use Rattle.std.proofs.lemmas.Bool.{cond-true, cond-false, cases_Bool, and_from}
 use Rattle.std.specs.List.{list_all}
@@ -10,7 +10,7 @@ use Rattle.std.specs.List.{after_last, list_any, suffix_len, prefix_len, ends_wi
 use Rattle.ks_fixdep.specs.declared.dependency_file.Role.{Role}
 use Rattle.ks_symbols.specs.Names.{is_path}
 use Rattle.ks_symbols.specs.Refusals.{or_else}
-use Rattle.ks_fixdep.specs.DepRefusals.{IsRefusal, RefusedBy}
+use Rattle.ks_symbols.specs.Refusals.{IsRefusal, RefusedBy}
 use Rattle.ks_fixdep.specs.DependencyFile.{is_kept, is_target_token, header_path, role_after, with_roles, fault_after, first_fault, token_refusal, added}
 use Rattle.ks_fixdep.specs.Tokens.{tokens, is_separator, is_some_token}
 use Rattle.ks_fixdep.specs.declared.dep_error.DepError.{DepError}
@@ -129,12 +129,10 @@ unfolding token_refusal
 first-is ts e is = ap (λ o. or_else o (if list_any is_kept ts then None else Some errors.NoTarget)) is
 
 -- the refusal of one token is that of the text, where all tokens before it fit
-pub refused-through : (e : DepError) (ts seen : List (List ℕ)) (x : List ℕ) (ys : List (List ℕ)) → ts ≡ seen ++ x ∷ ys → first_fault [] seen ≡ None → IsRefusal e (fault_after seen x) → IsRefusal e (token_refusal ts)
-refused-through errors.OutOfMemory ts seen x ys is none says = tt
-refused-through errors.NoTarget ts seen x ys is none says = first-is ts errors.NoTarget (ap (first_fault []) is ∙ faults-first seen x ys errors.NoTarget none says)
-refused-through (errors.BadPath n) ts seen x ys is none says = first-is ts (errors.BadPath n) (ap (first_fault []) is ∙ faults-first seen x ys (errors.BadPath n) none says)
-refused-through errors.BadCommand ts seen x ys is none says = first-is ts errors.BadCommand (ap (first_fault []) is ∙ faults-first seen x ys errors.BadCommand none says)
-refused-through errors.TooLarge ts seen x ys is none says = first-is ts errors.TooLarge (ap (first_fault []) is ∙ faults-first seen x ys errors.TooLarge none says)
+pub refused-through : (e : DepError) (ts seen : List (List ℕ)) (x : List ℕ) (ys : List (List ℕ)) → ts ≡ seen ++ x ∷ ys → first_fault [] seen ≡ None
+    → IsRefusal errors.OutOfMemory e (fault_after seen x) → IsRefusal errors.OutOfMemory e (token_refusal ts)
+refused-through e ts seen x ys is none (inl memory) = inl memory
+refused-through e ts seen x ys is none (inr says) = inr (first-is ts e (ap (first_fault []) is ∙ faults-first seen x ys e none says))
 
 pub none-kept : (ts : List (List ℕ)) → first_fault [] ts ≡ None → list_any is_kept ts ≡ false → token_refusal ts ≡ Some errors.NoTarget
 unfolding token_refusal
@@ -146,9 +144,9 @@ some-kept ts none kept = ap (λ o. or_else o (if list_any is_kept ts then None e
 
 -- ---- a call that answers another call's refusal
 
-pub refused-err : {X : Type 0} (r : Result X DepError) (e : DepError) (refusal : Option DepError) → IsErr r → IsErrAnd r (λ y. y ≡ e) → IsRefusal e refusal → RefusedBy r refusal
+pub refused-err : {X : Type 0} (r : Result X DepError) (e : DepError) (refusal : Option DepError) → IsErr r → IsErrAnd r (λ y. y ≡ e) → IsRefusal errors.OutOfMemory e refusal → RefusedBy errors.OutOfMemory r refusal
 refused-err (Ok x) e refusal err same says = absurd cc
-refused-err (Err y) e refusal err same says = subst (λ z. IsRefusal z refusal) (sym same) says
+refused-err (Err y) e refusal err same says = subst (λ z. IsRefusal errors.OutOfMemory z refusal) (sym same) says
 
 -- ---- what is noted of legal paths
 

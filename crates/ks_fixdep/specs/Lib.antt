@@ -7,12 +7,12 @@ pub mod Pieces
 pub mod Scanner
 pub mod FoundNames
 pub mod SourceScan
-pub mod DepRefusals
 pub mod Tokens
 pub mod DependencyFile
 pub mod Progress
 pub mod CommandLines
 pub mod CommandFile
+pub mod Lent
 pub mod CommandReads
 pub mod CommandForms
 pub mod CommandReading

@@ -3,8 +3,8 @@
 ghost use Rattle.std.specs.Prelude.{◌≡◌, ◌++◌, [], List, ℕ, IfOk, IsTrue, OnOk, drop, length, map, string_bytes, take};
 ghost use Rattle.std.specs.List.{list_all};
 ghost use Rattle.ks_symbols.specs.Names.{is_name, is_path};
+ghost use Rattle.ks_symbols.specs.Refusals.{RefusedBy};
 ghost use Rattle.ks_fixdep.specs.CommandFile.{view};
-ghost use Rattle.ks_fixdep.specs.DepRefusals.{RefusedBy};
 ghost use Rattle.ks_fixdep.specs.FoundNames.{names_in, texts_of};
 ghost use Rattle.ks_fixdep.specs.Record.{own_line, deps_after, source_of, record_of, record_refusal};
 ghost use Rattle.ks_fixdep.specs.SourceScan.{AreNamesOf};
@@ -95,7 +95,7 @@ pub fn build_from(
 ) -> Result<CommandFile, DepError>
     requires { length found.counts.items ≡ length prerequisites }
     ensures value { IfOk result (λ f. (ts : List (List ℕ)) → AreNamesOf found ts → view f ≡ record_of target.now command.now prerequisites (map names_in ts)) }
-    ensures refusal { RefusedBy result (record_refusal target.now command.now) }
+    ensures refusal { RefusedBy DepError.OutOfMemory result (record_refusal target.now command.now) }
 {
     if !target_is_legal(target) {
         return Err(DepError::BadPath(0));
@@ -122,7 +122,7 @@ pub fn build(
 ) -> Result<CommandFile, DepError>
     requires { length texts.now ≡ length prerequisites }
     ensures value { IfOk result (λ f. view f ≡ record_of target.now command.now prerequisites (map (λ t. names_in t.now) texts.now)) }
-    ensures refusal { RefusedBy result (record_refusal target.now command.now) }
+    ensures refusal { RefusedBy DepError.OutOfMemory result (record_refusal target.now command.now) }
 {
     let mut scan = SourceScan::new(alloc);
     for text in texts {

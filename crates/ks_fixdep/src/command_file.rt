@@ -7,6 +7,7 @@ ghost use Rattle.ks_fixdep.specs.CommandFile.{is_command, is_command_byte};
 ghost use Rattle.ks_fixdep.specs.declared.command_file.CommandError.TheVariants.{OutOfMemory};
 
 mod laws;
+mod lent;
 mod reading;
 #[cfg(test)]
 mod tests;
@@ -14,7 +15,8 @@ mod writing;
 
 use ks_symbols::{Name, Path};
 pub use laws::{command_examples, command_files_fit, command_texts_read_back};
-pub use reading::read_command;
+pub use lent::{LentCommand, LentDep, LentName};
+pub use reading::{lend_command, read_command};
 use std::alloc::{AllocError, AllocFailed};
 use thiserror::Error;
 pub use writing::write_command;

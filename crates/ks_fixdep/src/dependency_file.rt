@@ -6,8 +6,8 @@ ghost use Rattle.std.specs.List.{ends_with, list_all};
 ghost use Rattle.std.specs.Option.{option_map};
 ghost use Rattle.ks_symbols.specs.Lines.{max_bytes};
 ghost use Rattle.ks_symbols.specs.Names.{is_path};
+ghost use Rattle.ks_symbols.specs.Refusals.{IsRefusal, RefusedBy};
 ghost use Rattle.ks_fixdep.specs.Tokens.{tokens};
-ghost use Rattle.ks_fixdep.specs.DepRefusals.{IsRefusal, RefusedBy};
 ghost use Rattle.ks_fixdep.specs.DependencyFile.{is_target_token, header_path, added, entries_seen, prerequisites, token_refusal, dependency_refusal};
 ghost use Rattle.ks_fixdep.specs.declared.dependency_file.Role.TheVariants as role;
 
@@ -19,6 +19,9 @@ use indexmap::map::IntoIter;
 use ks_symbols::{MAX_BYTES, path_is_legal};
 use std::alloc::{AllocError, Global};
 use std::marker::Model;
+
+/// About how many bytes a path takes in a dependency file, with what stands between it and the next one.
+const USUAL_PATH: usize = 36;
 
 const HEADER: &[u8] = b"include/generated/autoconf.h";
 
@@ -139,17 +142,17 @@ impl Progress {
     ghost use Rattle.ks_fixdep.specs.Progress.{Stands};
     ghost use Rattle.ks_fixdep.specs.DependencyFile.{fault_after};
 
-    /// No token was read yet.
-    fn new(alloc: Global) -> Progress
-        ensures { Stands result [] }
+    /// No token was read yet, and there is room for so many paths.
+    fn with_capacity(alloc: Global, paths: usize) -> Result<Progress, AllocError>
+        ensures { IfOk result (λ p. Stands p []) }
     {
-        Progress {
+        Ok(Progress {
             number: 0,
             has_target: false,
             has_kept: false,
             has_kept_since_target: false,
-            by_path: IndexMap::new(alloc),
-        }
+            by_path: IndexMap::with_capacity(alloc, paths)?,
+        })
     }
 
     /// Takes one more token.
@@ -157,7 +160,7 @@ impl Progress {
         requires { self.old.number < 2 ^ 63 }
         ensures stands { OnOk result ((seen : List (List ℕ)) → Stands self.old seen → Stands self.new (seen ++ token.now ∷ [])) }
         ensures fits { OnOk result ((seen : List (List ℕ)) → Stands self.old seen → fault_after seen token.now ≡ None) }
-        ensures refusal { IfErr result (λ e. (seen : List (List ℕ)) → Stands self.old seen → IsRefusal e (fault_after seen token.now)) }
+        ensures refusal { IfErr result (λ e. (seen : List (List ℕ)) → Stands self.old seen → IsRefusal DepError.OutOfMemory e (fault_after seen token.now)) }
     {
         self.number += 1;
         if names_target(token) {
@@ -186,9 +189,9 @@ impl Progress {
 fn prerequisites_of(alloc: Global, text: &[u8]) -> Result<Prerequisites, DepError>
     requires { length text.now ≤ max_bytes }
     ensures value { IfOk result (λ p. p ≡ prerequisites text.now) }
-    ensures refusal { RefusedBy result (token_refusal (tokens text.now)) }
+    ensures refusal { RefusedBy DepError.OutOfMemory result (token_refusal (tokens text.now)) }
 {
-    let mut progress = Progress::new(alloc);
+    let mut progress = Progress::with_capacity(alloc, text.len() / USUAL_PATH)?;
     for token in Tokens::new(text) {
         progress.take(alloc, token)?;
     }
@@ -205,7 +208,7 @@ fn prerequisites_of(alloc: Global, text: &[u8]) -> Result<Prerequisites, DepErro
 #[tactic(auto, unfolding(crate::specs::DependencyFile::dependency_refusal))]
 pub fn read_depfile(alloc: Global, text: &[u8]) -> Result<Prerequisites, DepError>
     ensures value { IfOk result (λ p. p ≡ prerequisites text.now) }
-    ensures refusal { RefusedBy result (dependency_refusal text.now) }
+    ensures refusal { RefusedBy DepError.OutOfMemory result (dependency_refusal text.now) }
 {
     if text.len() > MAX_BYTES {
         return Err(DepError::TooLarge);

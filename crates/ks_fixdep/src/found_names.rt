@@ -144,3 +144,13 @@ pub(crate) fn note_carried(found: &mut FoundNames, carried: Option<&[u8]>) -> Re
         None => Ok(()),
     }
 }
+
+/// Notes names that were found before, in their order.
+pub(crate) fn note_known(found: &mut FoundNames, known: &FoundNames) -> Result<(), AllocError>
+    ensures { OnOk result (found.new ≡ all_noted found.old known.now) }
+{
+    for name in known.as_slice() {
+        found.note_text(name.as_str())?;
+    }
+    Ok(())
+}

@@ -18,10 +18,12 @@ mod source_scan;
 mod tests;
 mod tokens;
 
+pub use ascii::{name_as_text, path_as_text};
 pub use building::{build, build_from};
 pub use command_file::{
-    CommandError, CommandFile, Dep, command_examples, command_files_fit, command_is_legal,
-    command_texts_read_back, read_command, write_command,
+    CommandError, CommandFile, Dep, LentCommand, LentDep, LentName, command_examples,
+    command_files_fit, command_is_legal, command_texts_read_back, lend_command, read_command,
+    write_command,
 };
 pub use dep_error::DepError;
 pub use dependency_file::{Prerequisites, Role, read_depfile};

@@ -1,9 +1,10 @@
 //! The names of the sources of an object. Each source comes in pieces, and one source after the other: the scanner, what was
 //! found, and where each source ended are one value, which stands after the text so far. Whoever reads sources needs to know
 //! no more of the scan than that. A name is kept once for all sources, since headers name the same symbols again and again.
-ghost use Rattle.std.specs.Prelude.{◌≡◌, ◌++◌, ◌∷◌, [], List, ℕ, OnOk, length};
+ghost use Rattle.std.specs.Prelude.{◌≡◌, ◌+◌, ◌++◌, ◌∷◌, [], List, ℕ, OnOk, length};
+ghost use Rattle.ks_fixdep.specs.FoundNames.{names_in};
 
-use crate::found_names::{FoundNames, note_all, note_carried};
+use crate::found_names::{FoundNames, note_all, note_carried, note_known};
 use crate::prefix_finder::PrefixFinder;
 use crate::scanner::Scanner;
 use std::alloc::{AllocError, Global};
@@ -30,7 +31,8 @@ impl SourceScan {
 
     /// A scan that stands before the first source. It takes no memory.
     pub fn new(alloc: Global) -> Self
-        ensures { StandsAfter result [] [] }
+        ensures stands { StandsAfter result [] [] }
+        ensures counts { result.counts.items ≡ [] }
     {
         SourceScan {
             finder: PrefixFinder::new(),
@@ -42,7 +44,8 @@ impl SourceScan {
 
     /// Takes the next piece of the source. After an `Err` the scan stands after no text that is known: start anew.
     pub fn feed(&mut self, piece: &[u8]) -> Result<(), AllocError>
-        ensures { (ts : List (List ℕ)) → (t : List ℕ) → StandsAfter self.old ts t → OnOk result (StandsAfter self.new ts (t ++ piece.now)) }
+        ensures stands { (ts : List (List ℕ)) → (t : List ℕ) → StandsAfter self.old ts t → OnOk result (StandsAfter self.new ts (t ++ piece.now)) }
+        ensures counts { OnOk result (self.new.counts.items ≡ self.old.counts.items) }
     {
         let fed = self.scanner.feed(piece);
         note_carried(&mut self.names, fed.carried)?;
@@ -51,16 +54,35 @@ impl SourceScan {
 
     /// Ends the source: the next piece is the first one of another.
     pub fn end_source(&mut self) -> Result<(), AllocError>
-        ensures { (ts : List (List ℕ)) → (t : List ℕ) → StandsAfter self.old ts t → OnOk result (StandsAfter self.new (ts ++ t ∷ []) []) }
+        ensures stands { (ts : List (List ℕ)) → (t : List ℕ) → StandsAfter self.old ts t → OnOk result (StandsAfter self.new (ts ++ t ∷ []) []) }
+        ensures counts { OnOk result (length self.new.counts.items ≡ length self.old.counts.items + 1) }
     {
         note_carried(&mut self.names, self.scanner.finish())?;
         self.counts.push(self.names.len())?;
         Ok(())
     }
 
+    /// Takes a whole source as the next one, of which the names are known.
+    pub fn add_known(&mut self, known: &FoundNames) -> Result<(), AllocError>
+        ensures stands { (ts : List (List ℕ)) → (t : List ℕ) → StandsAfter self.old ts [] → known.now ≡ names_in t → OnOk result (StandsAfter self.new (ts ++ t ∷ []) []) }
+        ensures counts { OnOk result (length self.new.counts.items ≡ length self.old.counts.items + 1) }
+    {
+        note_known(&mut self.names, known)?;
+        self.counts.push(self.names.len())?;
+        Ok(())
+    }
+
+    /// The names of the one source that has ended.
+    pub fn into_found(self) -> FoundNames
+        ensures { (t : List ℕ) → StandsAfter self (t ∷ []) [] → result ≡ names_in t }
+    {
+        self.names
+    }
+
     /// The names of the sources that have ended.
     pub fn finish(self) -> NamesBySource
-        ensures { (ts : List (List ℕ)) → StandsAfter self ts [] → AreNamesOf result ts }
+        ensures names { (ts : List (List ℕ)) → StandsAfter self ts [] → AreNamesOf result ts }
+        ensures counts { result.counts.items ≡ self.counts.items }
     {
         NamesBySource {
             names: self.names,

@@ -9,7 +9,11 @@ ghost use Rattle.ks_fixdep.specs.Tokens.{is_separator, is_other, tokens};
 fn separates(byte: u8) -> bool
     ensures { result ≡ is_separator byte }
 {
-    matches!(byte, b' ' | b'\t' | b'\\' | b'\r' | b'\n')
+    // Of most bytes two comparisons tell that they are none.
+    if byte > b' ' {
+        return byte == b'\\';
+    }
+    matches!(byte, b' ' | b'\t' | b'\r' | b'\n')
 }
 
 /// How many separators the text begins with.

@@ -1,19 +1,20 @@
 //! Reading a command file. Each function takes one line, or the lines from one number on, and answers what the definition of
 //! these lines answers: what they say, or the number of the first that does not fit.
-ghost use Rattle.std.specs.Prelude.{◌≡◌, ◌∷◌, [], ◌<◌, ◌≤◌, ◌+◌, ◌^◌, List, ℕ, length, drop, IfOk, IfSome, IsTrue, IsErrOf, OnOk, flat_map};
-ghost use Rattle.std.specs.Option.{option_copied};
+ghost use Rattle.std.specs.Prelude.{◌≡◌, ◌∷◌, [], ◌<◌, ◌≤◌, ◌+◌, ◌^◌, List, ℕ, length, drop, IfOk, IfSome, IsTrue, IsErrOf, OnOk, flat_map, map};
+ghost use Rattle.std.specs.Option.{option_copied, option_map};
 ghost use Rattle.std.specs.Str.{bytes_eq};
 ghost use Rattle.ks_symbols.specs.Names.{is_name, is_path, is_target};
 ghost use Rattle.ks_symbols.specs.Lines.{max_bytes};
 ghost use Rattle.ks_fixdep.specs.CommandLines.{lines, content};
 ghost use Rattle.ks_fixdep.specs.CommandFile.{view};
+ghost use Rattle.ks_fixdep.specs.Lent.{seen_dep, lent_view};
 ghost use Rattle.ks_fixdep.specs.CommandForms as Forms;
 ghost use Rattle.ks_fixdep.specs.CommandReading as Reading;
 ghost use Rattle.ks_fixdep.specs.CommandReading.{reading};
 ghost use Rattle.ks_fixdep.specs.CommandAnswers.{Gives, copied_pair};
 ghost use Rattle.ks_fixdep.specs.declared.command_file.CommandError.TheVariants.{TooLarge};
 
-use super::{CommandError, CommandFile, Dep, command_is_legal};
+use super::{CommandError, CommandFile, Dep, LentCommand, LentDep, LentName, command_is_legal};
 use bstr::ByteSlice;
 use ks_symbols::{
     MAX_BYTES, Name, Path, name_is_legal, path_is_legal, read_decimal, target_is_legal,
@@ -280,4 +281,70 @@ pub fn read_command(alloc: Global, text: &[u8]) -> Result<CommandFile, CommandEr
         return Err(CommandError::TooLarge);
     }
     record_in(alloc, text)
+}
+
+/// The file or the name of a dependency line, in its memory.
+#[tactic(auto, unfolding(crate::specs::CommandForms::dep_in))]
+fn lent_dep_in(line: &[u8]) -> Option<LentDep<'_>>
+    ensures { option_map seen_dep result ≡ Forms.dep_in line.now }
+{
+    if let Some(name) = name_in(line) {
+        return Some(LentDep::Config(LentName::new(name)));
+    }
+    match path_in(line) {
+        Some(path) => Some(LentDep::File(path)),
+        None => None,
+    }
+}
+
+/// The dependency lines in front, in their memory, and what follows them.
+fn lent_dependencies(alloc: Global, text: &[u8]) -> Result<(Vec<LentDep<'_>>, &[u8]), AllocError>
+    ensures deps { IfOk result (λ r. map seen_dep r.0.items ≡ Reading.deps_in (lines text.now)) }
+    ensures rest { IfOk result (λ r. lines r.1.now ≡ drop (length r.0.items) (lines text.now)) }
+    ensures fits { IfOk result (λ r. length r.0.items + length r.1.now ≤ length text.now) }
+{
+    let mut deps = Vec::new(alloc);
+    let mut rest = text;
+    while !rest.is_empty() {
+        let (line, after) = split_line(rest);
+        let Some(dep) = lent_dep_in(content_of(line)) else {
+            return Ok((deps, rest));
+        };
+        deps.push(dep)?;
+        rest = after;
+    }
+    Ok((deps, rest))
+}
+
+/// What a text of bounded length reads as, in its memory.
+#[tactic(auto, unfolding(crate::specs::CommandReading::record_in))]
+fn lent_record_in(alloc: Global, text: &[u8]) -> Result<LentCommand<'_>, CommandError>
+    requires { length text.now ≤ max_bytes }
+    ensures { Gives lent_view result (Reading.record_in (lines text.now)) }
+{
+    let ((target, command), rest) = saved_at(text)?;
+    let rest = fixed_at(2, &[], rest)?;
+    let (source, rest) = source_at(target, rest)?;
+    let rest = fixed_at(4, &[], rest)?;
+    let rest = fixed_at(5, &[b"deps_", target, b" := \\"], rest)?;
+    let (deps, rest) = lent_dependencies(alloc, rest)?;
+    let generation = end_from(6 + deps.len() as u64, target, rest)?;
+    Ok(LentCommand {
+        target,
+        command,
+        source,
+        deps,
+        generation,
+    })
+}
+
+/// Reads a command file in the memory of its text.
+pub fn lend_command(alloc: Global, text: &[u8]) -> Result<LentCommand<'_>, CommandError>
+    ensures large { max_bytes < length text.now → IsErrOf result TooLarge }
+    ensures exact { length text.now ≤ max_bytes → Gives lent_view result (reading text.now) }
+{
+    if text.len() > MAX_BYTES {
+        return Err(CommandError::TooLarge);
+    }
+    lent_record_in(alloc, text)
 }

@@ -1,4 +1,4 @@
-use Rattle.std.proofs.Common.{◌≡◌, ◌++◌, ◌∷◌, [], map, length, sym, ap, subst, ◌∙◌, arith, drop, suc, refl}
+use Rattle.std.proofs.Common.{◌≡◌, inr, ◌++◌, ◌∷◌, [], map, length, sym, ap, subst, ◌∙◌, arith, drop, suc, refl}
 use Rattle.std.proofs.lemmas.Iterator.Consumers.{YieldsList-from_first, YieldsList-end, YieldsList-turn, YieldsList-so_far}
 use Rattle.std.proofs.lemmas.List.{length-map}
 use Rattle.ks_fixdep.specs.Tokens.{tokens}
@@ -43,7 +43,7 @@ returns-in_err-take-clause-refusal c =
     let ys = drop (suc (length xs)) all in
     let is : tokens c.args.text.now ≡ seen ++ x ∷ ys = same ∙ parted all (length xs) x turn.0 turn.1 ∙ ap (λ l. l ++ x ∷ ys) (sym front) in
     let e = c.in_err-take.field-0.0 in
-    refused-err c.from_residual.result e (token_refusal (tokens c.args.text.now)) c.from_residual.ensures.0 c.from_residual.ensures.1
+    refused-err c.from_residual-in_err-take.result e (token_refusal (tokens c.args.text.now)) c.from_residual-in_err-take.ensures.0 c.from_residual-in_err-take.ensures.1
     (refused-through e (tokens c.args.text.now) seen x ys is c.loop-token.invariant.fits (c.in_err-take.ensures.refusal seen c.loop-token.invariant.stands))
 
 pub returns-then-not-progress-clause-refusal : goal.returns-then-not-progress-clause-refusal
@@ -53,7 +53,7 @@ returns-then-not-progress-clause-refusal c =
     let road = YieldsList-from_first (λ x. x.now) (λ s. tokens s.rest.now) {s = source} (tokens source.rest.now) refl in
     let all = (YieldsList-end road c.loop-token.yielded c.loop-token.token-iterator c.loop-token.yielded_by c.next.result c.next.new.self c.in-None.is c.next.ensures.steps).0 in
     let same : seen ≡ tokens c.args.text.now = all ∙ ap (λ s. tokens s.rest.now) c.into_iter-token-iterator.ensures.into_iter_gives ∙ c.new-token-items.ensures in
-    ap token_refusal (sym same) ∙ none-kept seen c.loop-token.invariant.fits (sym c.loop-token.invariant.stands.kept ∙ c.if-not-progress.true)
+    inr (ap token_refusal (sym same) ∙ none-kept seen c.loop-token.invariant.fits (sym c.loop-token.invariant.stands.kept ∙ c.if-not-progress.true))
 
 pub returns-clause-refusal : goal.returns-clause-refusal
 returns-clause-refusal c =

@@ -10,8 +10,8 @@ use Rattle.ks_fixdep.proofs.OnceLemmas.{all_noted_again}
 use Rattle.ks_fixdep.proofs.SourceLemmas.{counts-last, names_of-last}
 use Rattle.ks_fixdep.proofs.source_scan.SourceScan.end_source.Goals as goal
 
-pub returns : goal.returns
-returns c = λ ts t stands.
+pub returns-clause-stands : goal.returns-clause-stands
+returns-clause-stands c = λ ts t stands.
     let earlier = names_of (map names_in ts) in
     let carried = option_copied c.finish.result in
     let whole = names-whole t (length (before_last_word t)) carried (c.finish.ensures.name t stands.word) in

@@ -8,8 +8,8 @@ use Rattle.ks_fixdep.proofs.NameLemmas.{names-longer}
 use Rattle.ks_fixdep.proofs.NotedLemmas.{noted_in_parts, on_ok}
 use Rattle.ks_fixdep.proofs.source_scan.SourceScan.feed.Goals as goal
 
-pub returns : goal.returns
-returns c = λ ts t stands.
+pub returns-clause-stands : goal.returns-clause-stands
+returns-clause-stands c = λ ts t stands.
     let carried = option_copied c.feed-fed.result.carried in
     let names = names_left c.feed-fed.result.names in
     let longer = names-longer t c.args.piece.now carried names (c.feed-fed.ensures.lends t stands.word) in

@@ -4,8 +4,8 @@ use Rattle.ks_fixdep.specs.Scan.{bare_name}
 use Rattle.ks_fixdep.proofs.NameLemmas.{ended-nil}
 use Rattle.ks_fixdep.proofs.source_scan.SourceScan.new.Goals as goal
 
-pub returns : goal.returns
-returns c = record {
+pub returns-clause-stands : goal.returns-clause-stands
+returns-clause-stands c = record {
   word = c.new-2.ensures;
   names = c.new-3.ensures ∙ ap (λ xs. all_noted [] (map bare_name xs)) (sym ended-nil);
   counts = c.new-4.ensures.items;

@@ -3,3 +3,4 @@ pub mod Places
 pub mod StampLemmas
 pub mod Touching
 pub mod Stored
+pub mod Tables

@@ -4,7 +4,7 @@ use Rattle.std.proofs.lemmas.Bool.{cond-true, cond-false, false_from_ne_true}
 use Rattle.std.specs.BTreeMap.{BTreeMap, UpdatesBy}
 use Rattle.std.specs.Cmp.Lexicographic.{slice_cmp, bytes_decides}
 use Rattle.std.specs.Map.{lookup}
-use Rattle.ks_symbols.proofs.Tables.{is_key, get-named, get-updates}
+use Rattle.ks_tree.proofs.Tables.{is_key, get-named, get-updates}
 use Rattle.ks_tree.specs.Files.{Files, content, SameBut, IsMoved}
 use Rattle.ks_tree.specs.Memory.{files_of}
 

@@ -1,5 +1,7 @@
 -- Which calls of a tree pass, and what becomes of the others.
-use Rattle.std.specs.Prelude.{ℕ, ◌+◌, ◌-◌, min, Bool, true, false, ◌&&◌, ◌||◌, ◌==◌, not, nat_lt, Option, Some, None, if◌then◌else◌}
+use Rattle.std.specs.Prelude.{◌≡◌, ◌⊎◌, ◌/◌, List, take, length, ℕ, ◌+◌, ◌-◌, min, Bool, true, false, ◌&&◌, ◌||◌, ◌==◌, not, nat_lt, Option, Some, None, if◌then◌else◌}
+use Rattle.ks_tree.specs.declared.tree.Tree.{Ghosts}
+use Rattle.ks_tree.specs.Files.{content, IsMoved, HasRisen}
 use Rattle.ks_tree.specs.declared.fuse.Fuse.{Fuse}
 use Rattle.ks_tree.specs.declared.fuse.FuseTree.{FuseTree}
 use Rattle.ks_tree.specs.declared.fuse.FuseMode.{FuseMode}
@@ -43,3 +45,23 @@ abbrev pub after_call : Fuse → Fuse
 after_call f =
     if passes_next f then record f { passes = f.passes - 1 }
     else record f { fails = one_less f.fails; failed = min (f.failed + 1) 18446744073709551615 }
+
+-- how often calls have failed, of the tree behind the fuse and by the fuse
+abbrev pub failed_in : {T : Type 0} → Ghosts T → FuseTree T → ℕ
+failed_in tree t = tree.failures t.inner + t.fuse.failed
+
+-- The fuse counts each call. One that passes fails by the device only where the tree behind the fuse counted that; any other one fails so.
+pub record IsFuseCall {T : Type 0} (tree : Ghosts T) (old new : FuseTree T) (device : Type 0) : Type 0 where
+  pub counted : fuse_of new ≡ after_call (fuse_of old)
+  pub passed : turn_of (fuse_of old) ≡ Pass → device → HasRisen (tree.failures (inner_of old)) (tree.failures (inner_of new))
+  pub failed : (turn_of (fuse_of old) ≡ Pass → ⊥) → device
+  pub clean : turn_of (fuse_of old) ≡ Fail → inner_of new ≡ inner_of old
+
+-- A half write left the first half of its bytes, unless the tree behind the fuse did not take it.
+abbrev pub IsHalfWritten : {T : Type 0} → Ghosts T → List ℕ → List ℕ → T → T → Type 0
+IsHalfWritten tree path bytes old new =
+    (content (tree.files new) path ≡ Some (take (length bytes / 2) bytes)) ⊎ (tree.files new ≡ tree.files old) ⊎ HasRisen (tree.failures old) (tree.failures new)
+
+-- A half rename has happened, unless the tree behind the fuse did not do it.
+abbrev pub IsHalfMoved : {T : Type 0} → Ghosts T → List ℕ → List ℕ → T → T → Type 0
+IsHalfMoved tree from to old new = IsMoved from to (tree.files old) (tree.files new) ⊎ (tree.files new ≡ tree.files old)

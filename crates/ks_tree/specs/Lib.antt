@@ -1,4 +1,5 @@
 pub mod Files
+pub mod Frames
 pub mod Faults
 pub mod Paths
 pub mod Stamps

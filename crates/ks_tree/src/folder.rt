@@ -3,18 +3,20 @@
 //!
 //! Only the system's "no such file" counts as a missing file. A folder, a file in the place of a folder, and every other
 //! failure are `Device`, since a build that takes an unreadable file for a missing one would call objects fresh.
-ghost use Rattle.std.specs.Prelude.{◌≡◌, ◌≤◌, ◌+◌, min, length, IfErr, IfOk, MatchOption, IsUtf8, string_bytes, IsErrOf};
+ghost use Rattle.std.specs.Prelude.{◌≡◌, ◌≤◌, ◌+◌, min, length, IfErr, IfOk, OnOk, MatchOption, IsUtf8, string_bytes, IsErrOf};
 ghost use Rattle.std.specs.Cow.{cow_str_bytes};
 ghost use Rattle.std.specs.FinMap as map;
 ghost use Rattle.ks_tree.specs.Files.{HasRisen};
 ghost use Rattle.ks_tree.specs.Folder.{place_of};
 
-use crate::{Tree, TreeFault};
+use crate::new_file::write_new;
+use crate::{Claim, Tree, TreeFault};
 use ks_symbols::MAX_BYTES;
 use std::alloc::Global;
 use std::borrow::CowStr;
-use std::fs::OpenFile;
+use std::fs::Metadata;
 use std::io::{BufRead, BufReader, ErrorKind, Read, Seek, SeekFrom};
+use std::os::unix::fs::{FileTypeExt, MetadataExt};
 use std::rt::Files;
 use std::{fs, io};
 
@@ -25,6 +27,8 @@ pub struct FolderTree<R: Files> {
     root: String,
     failures: u64,
     kept: Option<Kept<R::File>>,
+    /// The file that was written last, claimed until it is moved or another one is written.
+    written: Option<R::File>,
 }
 
 /// How much of a file is read from the system at once, for the pieces that follow.
@@ -44,15 +48,29 @@ fn is_refused_memory(error: &io::Error) -> bool {
     error.kind() == ErrorKind::OutOfMemory && error.raw_os_error().is_none()
 }
 
-/// The bytes of an open file, or `None` where there are too many. No more than one byte past the limit is read, so that a
-/// device without an end is refused as well.
-fn read_bytes<F: Read + OpenFile + Drop>(alloc: Global, file: F) -> io::Result<Option<Vec<u8>>> {
+/// Whether a file can be read to its end without waiting for anybody: a regular file, a disk, and `/dev/null`.
+fn has_an_end(found: &Metadata) -> bool {
+    let kind = found.file_type();
+    let is_null = kind.is_char_device() && found.rdev() == NULL_DEVICE;
+    found.is_file() || kind.is_block_device() || is_null
+}
+
+/// The number of `/dev/null`.
+const NULL_DEVICE: u64 = 0x103;
+
+/// The bytes of the file at a place, or `None` where there are too many. A pipe isn't even opened, since that may wait for
+/// ever. No more than one byte past the limit is read, however the file grows.
+fn read_bytes<R: Files>(files: &R, alloc: Global, place: &str) -> io::Result<Option<Vec<u8>>> {
+    let found = fs::metadata(files, place)?;
+    if !has_an_end(&found) {
+        return Err(io::Error::from(ErrorKind::InvalidInput));
+    }
     let limit = MAX_BYTES as u64;
-    let len = file.metadata()?.len();
-    if len > limit {
+    if found.len() > limit {
         return Ok(None);
     }
-    let mut bytes = Vec::with_capacity(alloc, len as usize + 1)?;
+    let file = fs::open(files, place)?;
+    let mut bytes = Vec::with_capacity(alloc, found.len() as usize + 1)?;
     file.take(limit + 1).read_to_end(&mut bytes)?;
     if bytes.len() > MAX_BYTES {
         return Ok(None);
@@ -118,20 +136,10 @@ impl<F: Read + Seek> Kept<F> {
     }
 }
 
-/// Writes the file. Its folders are made where they are missing.
-fn write_bytes<R: Files>(files: &R, place: &str, bytes: &[u8]) -> io::Result<()> {
-    match fs::write(files, place, bytes) {
-        Err(error) if error.kind() == ErrorKind::NotFound => {
-            if let Some((folder, _)) = place.rsplit_once('/') {
-                fs::create_dir_all(files, folder)?;
-            }
-            fs::write(files, place, bytes)
-        }
-        outcome => outcome,
-    }
-}
-
-impl<R: Files> FolderTree<R> {
+impl<R: Files> FolderTree<R>
+where
+    R::File: Claim,
+{
     /// The tree of a folder. An empty root is the current folder.
     pub fn new(files: R, root: String) -> FolderTree<R>
         ensures { ⟦<FolderTree<R> as Tree>⟧.failures result ≡ 0 }
@@ -141,6 +149,7 @@ impl<R: Files> FolderTree<R> {
             root,
             failures: 0,
             kept: None,
+            written: None,
         }
     }
 
@@ -165,6 +174,7 @@ impl<R: Files> FolderTree<R> {
     fn fault(&mut self, error: &io::Error) -> TreeFault
         ensures later { self.old.failures ≤ self.new.failures }
         ensures cause { result ≡ TreeFault.Device → HasRisen self.old.failures self.new.failures }
+        ensures uncounted { result ≡ TreeFault.OutOfMemory → self.new.failures ≡ self.old.failures }
         ensures never { result ≡ TreeFault.TooLarge → ⊥ }
     {
         if is_refused_memory(error) {
@@ -194,6 +204,8 @@ impl<R: Files> FolderTree<R> {
     fn open(&mut self, alloc: Global, path: &[u8]) -> Result<Option<R::File>, TreeFault>
         ensures later { self.old.failures ≤ self.new.failures }
         ensures cause { IsErrOf result TreeFault.Device → HasRisen self.old.failures self.new.failures }
+        ensures passed { OnOk result (self.new.failures ≡ self.old.failures) }
+        ensures uncounted { IsErrOf result TreeFault.OutOfMemory → self.new.failures ≡ self.old.failures }
         ensures never { IsErrOf result TreeFault.TooLarge → ⊥ }
     {
         let Some(place) = self.place(alloc, path)? else {
@@ -216,6 +228,8 @@ impl<R: Files> FolderTree<R> {
     ) -> Result<Option<Kept<R::File>>, TreeFault>
         ensures later { self.old.failures ≤ self.new.failures }
         ensures cause { IsErrOf result TreeFault.Device → HasRisen self.old.failures self.new.failures }
+        ensures passed { OnOk result (self.new.failures ≡ self.old.failures) }
+        ensures uncounted { IsErrOf result TreeFault.OutOfMemory → self.new.failures ≡ self.old.failures }
         ensures never { IsErrOf result TreeFault.TooLarge → ⊥ }
     {
         let mut earlier = None;
@@ -235,20 +249,24 @@ impl<R: Files> FolderTree<R> {
     }
 }
 
-impl<R: Files> Tree for FolderTree<R> {
+impl<R: Files> Tree for FolderTree<R>
+where
+    R::File: Claim,
+{
     ghost files = { λ t. map.empty };
 
-    ghost is_honest = { λ t. ⊥ };
+    ghost is_honest = { ⊥ };
 
     ghost failures = { λ t. t.failures };
 
     fn read(&mut self, alloc: Global, path: &[u8]) -> Result<Option<Vec<u8>>, TreeFault> {
-        let Some(file) = self.open(alloc, path)? else {
-            return Ok(None);
+        let Some(place) = self.place(alloc, path)? else {
+            return Err(self.device());
         };
-        match read_bytes(alloc, file) {
+        match read_bytes(&self.files, alloc, place.as_str()) {
             Ok(Some(bytes)) => Ok(Some(bytes)),
             Ok(None) => Err(TreeFault::TooLarge),
+            Err(error) if error.kind() == ErrorKind::NotFound => Ok(None),
             Err(error) => Err(self.fault(&error)),
         }
     }
@@ -275,11 +293,15 @@ impl<R: Files> Tree for FolderTree<R> {
 
     fn write(&mut self, alloc: Global, path: &[u8], bytes: &[u8]) -> Result<(), TreeFault> {
         self.kept = None;
+        self.written = None;
         let Some(place) = self.place(alloc, path)? else {
             return Err(self.device());
         };
-        match write_bytes(&self.files, place.as_str(), bytes) {
-            Ok(()) => Ok(()),
+        match write_new(&self.files, place.as_str(), bytes) {
+            Ok(file) => {
+                self.written = Some(file);
+                Ok(())
+            }
             Err(error) => Err(self.fault(&error)),
         }
     }
@@ -289,7 +311,9 @@ impl<R: Files> Tree for FolderTree<R> {
         let (Some(from), Some(to)) = (self.place(alloc, from)?, self.place(alloc, to)?) else {
             return Err(self.device());
         };
-        match fs::rename(&self.files, from.as_str(), to.as_str()) {
+        let outcome = fs::rename(&self.files, from.as_str(), to.as_str());
+        self.written = None;
+        match outcome {
             Ok(()) => Ok(()),
             Err(error) => Err(self.fault(&error)),
         }

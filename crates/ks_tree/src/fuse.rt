@@ -1,7 +1,8 @@
 //! A tree whose calls fail by a count, with which tests break every command off between any two of its calls. It keeps the
 //! contract of the tree that it passes the calls on to.
-ghost use Rattle.std.specs.Prelude.{◌≡◌, ◌≢◌, ◌+◌, ◌≤◌};
-ghost use Rattle.ks_tree.specs.Files.{HasRisen};
+ghost use Rattle.std.specs.Prelude.{◌≡◌, ◌≢◌, ◌⊎◌, ◌+◌, ◌≤◌, ℕ, List, length, Some, IsSome, IfSome, IfOk, OnOk, OnErr, IsErrOf, option_map};
+ghost use Rattle.ks_symbols.specs.Lines.{max_bytes};
+ghost use Rattle.ks_tree.specs.Files.{content, SameBut, IsMoved, IsTooLarge, IsReadAt, HasRisen};
 
 use crate::{Tree, TreeFault};
 use std::alloc::Global;
@@ -97,13 +98,26 @@ impl<T: Drop> FuseTree<T> {
 }
 
 impl<T: Tree + Drop> Tree for FuseTree<T> {
+    ghost use Rattle.ks_tree.specs.Fuse.{IsFuseCall, IsHalfMoved, IsHalfWritten, failed_in, fuse_of, inner_of, turn_of};
+
     ghost files = { λ t. T.files t.inner };
 
-    ghost is_honest = { λ t. T.is_honest t.inner };
+    ghost is_honest = { T.is_honest };
 
     ghost failures = { λ t. T.failures t.inner + t.fuse.failed };
 
-    fn read(&mut self, alloc: Global, path: &[u8]) -> Result<Option<Vec<u8>>, TreeFault> {
+    fn read(&mut self, alloc: Global, path: &[u8]) -> Result<Option<Vec<u8>>, TreeFault>
+        ensures found { T.is_honest → IfOk result (λ found. option_map (λ v. v.items) found ≡ content (T.files (inner_of self.old)) path.now) }
+        ensures small { T.is_honest → IfOk result (λ found. (b : List ℕ) → content (T.files (inner_of self.old)) path.now ≡ Some b → length b ≤ max_bytes) }
+        ensures too_large { T.is_honest → IsErrOf result TreeFault.TooLarge → IsTooLarge (content (T.files (inner_of self.old)) path.now) }
+        ensures unchanged { T.is_honest → T.files (inner_of self.new) ≡ T.files (inner_of self.old) }
+        ensures later { failed_in T.Tree self.old ≤ failed_in T.Tree self.new }
+        ensures uncounted { IsErrOf result TreeFault.OutOfMemory → failed_in T.Tree self.new ≡ failed_in T.Tree self.old }
+        ensures cause { IsErrOf result TreeFault.Device → HasRisen (failed_in T.Tree self.old) (failed_in T.Tree self.new) }
+        // Of the fuse: which calls pass, and what the others leave.
+        ensures fuse { IsFuseCall T.Tree self.old self.new (IsErrOf result TreeFault.Device) }
+        ensures nothing { (turn_of (fuse_of self.old) ≡ Turn.Pass → ⊥) → inner_of self.new ≡ inner_of self.old }
+    {
         match self.fuse.turn() {
             Turn::Pass => self.inner.read(alloc, path),
             Turn::Fail | Turn::HalfDone => Err(TreeFault::Device),
@@ -116,14 +130,37 @@ impl<T: Tree + Drop> Tree for FuseTree<T> {
         path: &[u8],
         offset: u64,
         into: &mut [u8],
-    ) -> Result<Option<usize>, TreeFault> {
+    ) -> Result<Option<usize>, TreeFault>
+        ensures found { T.is_honest → IfOk result (IsReadAt (content (T.files (inner_of self.old)) path.now) offset into.old into.new) }
+        ensures within { IfOk result (λ found. IfSome found (λ n. n ≤ length into.new)) }
+        ensures unchanged { T.is_honest → T.files (inner_of self.new) ≡ T.files (inner_of self.old) }
+        ensures never { IsErrOf result TreeFault.TooLarge → ⊥ }
+        ensures later { failed_in T.Tree self.old ≤ failed_in T.Tree self.new }
+        ensures uncounted { IsErrOf result TreeFault.OutOfMemory → failed_in T.Tree self.new ≡ failed_in T.Tree self.old }
+        ensures cause { IsErrOf result TreeFault.Device → HasRisen (failed_in T.Tree self.old) (failed_in T.Tree self.new) }
+        // Of the fuse: which calls pass, and what the others leave.
+        ensures fuse { IsFuseCall T.Tree self.old self.new (IsErrOf result TreeFault.Device) }
+        ensures nothing { (turn_of (fuse_of self.old) ≡ Turn.Pass → ⊥) → inner_of self.new ≡ inner_of self.old }
+    {
         match self.fuse.turn() {
             Turn::Pass => self.inner.read_at(alloc, path, offset, into),
             Turn::Fail | Turn::HalfDone => Err(TreeFault::Device),
         }
     }
 
-    fn write(&mut self, alloc: Global, path: &[u8], bytes: &[u8]) -> Result<(), TreeFault> {
+    fn write(&mut self, alloc: Global, path: &[u8], bytes: &[u8]) -> Result<(), TreeFault>
+        ensures written { T.is_honest → OnOk result (content (T.files (inner_of self.new)) path.now ≡ Some bytes.now) }
+        ensures others { T.is_honest → SameBut path.now (T.files (inner_of self.old)) (T.files (inner_of self.new)) }
+        ensures refused { T.is_honest → IsErrOf result TreeFault.OutOfMemory → T.files (inner_of self.new) ≡ T.files (inner_of self.old) }
+        ensures never { IsErrOf result TreeFault.TooLarge → ⊥ }
+        ensures later { failed_in T.Tree self.old ≤ failed_in T.Tree self.new }
+        ensures uncounted { IsErrOf result TreeFault.OutOfMemory → failed_in T.Tree self.new ≡ failed_in T.Tree self.old }
+        ensures cause { IsErrOf result TreeFault.Device → HasRisen (failed_in T.Tree self.old) (failed_in T.Tree self.new) }
+        // Of the fuse: which calls pass, and what the others leave.
+        ensures fuse { IsFuseCall T.Tree self.old self.new (IsErrOf result TreeFault.Device) }
+        ensures half { turn_of (fuse_of self.old) ≡ Turn.HalfDone → T.is_honest
+            → IsHalfWritten T.Tree path.now bytes.now (inner_of self.old) (inner_of self.new) }
+    {
         match self.fuse.turn() {
             Turn::Pass => self.inner.write(alloc, path, bytes),
             Turn::Fail => Err(TreeFault::Device),
@@ -134,7 +171,22 @@ impl<T: Tree + Drop> Tree for FuseTree<T> {
         }
     }
 
-    fn rename(&mut self, alloc: Global, from: &[u8], to: &[u8]) -> Result<(), TreeFault> {
+    fn rename(&mut self, alloc: Global, from: &[u8], to: &[u8]) -> Result<(), TreeFault>
+        requires differ { from.now ≢ to.now }
+        requires there { T.is_honest → IsSome (content (T.files (inner_of self.old)) from.now) }
+        ensures moved { T.is_honest → OnOk result (IsMoved from.now to.now (T.files (inner_of self.old)) (T.files (inner_of self.new))) }
+        ensures failed { T.is_honest → OnErr result ((T.files (inner_of self.new) ≡ T.files (inner_of self.old))
+            ⊎ IsMoved from.now to.now (T.files (inner_of self.old)) (T.files (inner_of self.new))) }
+        ensures refused { T.is_honest → IsErrOf result TreeFault.OutOfMemory → T.files (inner_of self.new) ≡ T.files (inner_of self.old) }
+        ensures never { IsErrOf result TreeFault.TooLarge → ⊥ }
+        ensures later { failed_in T.Tree self.old ≤ failed_in T.Tree self.new }
+        ensures uncounted { IsErrOf result TreeFault.OutOfMemory → failed_in T.Tree self.new ≡ failed_in T.Tree self.old }
+        ensures cause { IsErrOf result TreeFault.Device → HasRisen (failed_in T.Tree self.old) (failed_in T.Tree self.new) }
+        // Of the fuse: which calls pass, and what the others leave.
+        ensures fuse { IsFuseCall T.Tree self.old self.new (IsErrOf result TreeFault.Device) }
+        ensures half { turn_of (fuse_of self.old) ≡ Turn.HalfDone → T.is_honest
+            → IsHalfMoved T.Tree from.now to.now (inner_of self.old) (inner_of self.new) }
+    {
         match self.fuse.turn() {
             Turn::Pass => self.inner.rename(alloc, from, to),
             Turn::Fail => Err(TreeFault::Device),

@@ -5,6 +5,7 @@ mod fault;
 mod folder;
 mod fuse;
 mod memory;
+mod new_file;
 mod paths;
 mod replacement;
 mod stamps;
@@ -14,6 +15,7 @@ pub use fault::{TreeError, TreeFault};
 pub use folder::FolderTree;
 pub use fuse::{FuseMode, FuseTree};
 pub use memory::{FilesIter, MemoryTree};
+pub use new_file::Claim;
 pub use paths::{
     auto_path, auto_temporary, command_path, command_temporary, header_path, header_temporary,
     paths_never_meet, stamp_path, stamp_temporary,

@@ -100,7 +100,7 @@ fn copy_from(bytes: &[u8], offset: u64, into: &mut [u8]) -> usize
 impl Tree for MemoryTree {
     ghost files = { λ t. t };
 
-    ghost is_honest = { λ t. ⊤ };
+    ghost is_honest = { ⊤ };
 
     ghost failures = { λ t. 0 };
 

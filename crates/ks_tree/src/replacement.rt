@@ -1,7 +1,8 @@
 //! Replacing a file whole. A build that is broken off must never find half a header or half an auto.conf, so the bytes are
 //! written beside their place and moved there. Power loss is left out: nothing is synced to the disk.
 ghost use Rattle.std.specs.Prelude.{◌≡◌, ◌≢◌, ◌↔◌, ◌⊎◌, ◌≤◌, Some, None, OnOk, OnErr, IsErrOf};
-ghost use Rattle.ks_tree.specs.Files.{content, SameButBoth, HasRisen};
+ghost use Rattle.ks_tree.specs.Frames.{Counted};
+ghost use Rattle.ks_tree.specs.Files.{content, SameButBoth};
 
 use crate::{Tree, TreeFault};
 use std::alloc::Global;
@@ -15,15 +16,13 @@ pub fn replace<T: Tree>(
     bytes: &[u8],
 ) -> Result<(), TreeFault>
     requires { temporary.now ≢ path.now }
-    ensures honest { T.is_honest tree.old ↔ T.is_honest tree.new }
-    ensures written { T.is_honest tree.old → OnOk result (content (T.files tree.new) path.now ≡ Some bytes.now) }
-    ensures gone { T.is_honest tree.old → OnOk result (content (T.files tree.new) temporary.now ≡ None) }
-    ensures old_or_new { T.is_honest tree.old → OnErr result
+    ensures written { T.is_honest → OnOk result (content (T.files tree.new) path.now ≡ Some bytes.now) }
+    ensures gone { T.is_honest → OnOk result (content (T.files tree.new) temporary.now ≡ None) }
+    ensures old_or_new { T.is_honest → OnErr result
         ((content (T.files tree.new) path.now ≡ content (T.files tree.old) path.now) ⊎ (content (T.files tree.new) path.now ≡ Some bytes.now)) }
-    ensures others { T.is_honest tree.old → SameButBoth temporary.now path.now (T.files tree.old) (T.files tree.new) }
+    ensures others { T.is_honest → SameButBoth temporary.now path.now (T.files tree.old) (T.files tree.new) }
     ensures never { IsErrOf result TreeFault.TooLarge → ⊥ }
-    ensures later { T.failures tree.old ≤ T.failures tree.new }
-    ensures cause { IsErrOf result TreeFault.Device → HasRisen (T.failures tree.old) (T.failures tree.new) }
+    ensures counted { Counted T.Tree tree.old tree.new (IsErrOf result TreeFault.Device) }
 {
     tree.write(alloc, temporary, bytes)?;
     tree.rename(alloc, temporary, path)

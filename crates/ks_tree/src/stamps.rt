@@ -1,7 +1,8 @@
 //! The stamps of names: `include/config/NAME` holds the generation of the last synchronisation that changed the name. Writing a
 //! stamp renews the file's time as well, so a plain make that looks at times still works.
 ghost use Rattle.std.specs.Prelude.{◌≡◌, ◌↔◌, ◌⊎◌, ◌≤◌, ℕ, Some, None, Option, take, IfOk, IfErr, IfSome, IfNone, OnOk, OnErr, IsErrOf};
-ghost use Rattle.ks_tree.specs.Files.{content, HasRisen, SameButBoth};
+ghost use Rattle.ks_tree.specs.Frames.{Counted, Reads};
+ghost use Rattle.ks_tree.specs.Files.{content, SameButBoth};
 ghost use Rattle.ks_tree.specs.Paths.{stamp_path, stamp_temporary};
 ghost use Rattle.ks_tree.specs.Stamps.{HasNumber, IsStampRefusal, Touches, stamp_text};
 
@@ -34,12 +35,9 @@ fn stamp_text(alloc: Global, generation: u64) -> Result<Vec<u8>, AllocError>
 
 /// The number of a name's stamp: 0 where there is none or an empty one.
 pub fn read_stamp<T: Tree>(alloc: Global, tree: &mut T, name: &Name) -> Result<u64, TreeError>
-    ensures honest { T.is_honest tree.old ↔ T.is_honest tree.new }
-    ensures unchanged { T.is_honest tree.old → T.files tree.new ≡ T.files tree.old }
-    ensures number { T.is_honest tree.old → IfOk result (λ n. HasNumber (content (T.files tree.old) (stamp_path name.now)) n) }
-    ensures refused { T.is_honest tree.old → IfErr result (IsStampRefusal name.now (content (T.files tree.old) (stamp_path name.now))) }
-    ensures later { T.failures tree.old ≤ T.failures tree.new }
-    ensures cause { IsErrOf result TreeError.Device → HasRisen (T.failures tree.old) (T.failures tree.new) }
+    ensures number { T.is_honest → IfOk result (λ n. HasNumber (content (T.files tree.old) (stamp_path name.now)) n) }
+    ensures refused { T.is_honest → IfErr result (IsStampRefusal name.now (content (T.files tree.old) (stamp_path name.now))) }
+    ensures reads { Reads T.Tree tree.old tree.new (IsErrOf result TreeError.Device) }
 {
     let path = stamp_path(alloc, name)?;
     let Some(stamp) = tree.read(alloc, &path)? else {
@@ -58,15 +56,13 @@ pub fn touch<T: Tree>(
     name: &Name,
     generation: u64,
 ) -> Result<(), TreeFault>
-    ensures honest { T.is_honest tree.old ↔ T.is_honest tree.new }
-    ensures stamp { T.is_honest tree.old → OnOk result (content (T.files tree.new) (stamp_path name.now) ≡ Some (stamp_text generation)) }
-    ensures gone { T.is_honest tree.old → OnOk result (content (T.files tree.new) stamp_temporary ≡ None) }
-    ensures old_or_new { T.is_honest tree.old → OnErr result
+    ensures stamp { T.is_honest → OnOk result (content (T.files tree.new) (stamp_path name.now) ≡ Some (stamp_text generation)) }
+    ensures gone { T.is_honest → OnOk result (content (T.files tree.new) stamp_temporary ≡ None) }
+    ensures old_or_new { T.is_honest → OnErr result
         ((content (T.files tree.new) (stamp_path name.now) ≡ content (T.files tree.old) (stamp_path name.now)) ⊎ (content (T.files tree.new) (stamp_path name.now) ≡ Some (stamp_text generation))) }
-    ensures others { T.is_honest tree.old → SameButBoth stamp_temporary (stamp_path name.now) (T.files tree.old) (T.files tree.new) }
+    ensures others { T.is_honest → SameButBoth stamp_temporary (stamp_path name.now) (T.files tree.old) (T.files tree.new) }
     ensures never { IsErrOf result TreeFault.TooLarge → ⊥ }
-    ensures later { T.failures tree.old ≤ T.failures tree.new }
-    ensures cause { IsErrOf result TreeFault.Device → HasRisen (T.failures tree.old) (T.failures tree.new) }
+    ensures counted { Counted T.Tree tree.old tree.new (IsErrOf result TreeFault.Device) }
 {
     let path = stamp_path(alloc, name)?;
     let text = stamp_text(alloc, generation)?;
@@ -80,13 +76,11 @@ pub fn touch_all<T: Tree>(
     names: &[Name],
     generation: u64,
 ) -> Result<(), TreeFault>
-    ensures honest { T.is_honest tree.old ↔ T.is_honest tree.new }
-    ensures all { T.is_honest tree.old → OnOk result (Touches names.now generation (T.files tree.old) (T.files tree.new)) }
+    ensures all { T.is_honest → OnOk result (Touches names.now generation (T.files tree.old) (T.files tree.new)) }
     // After a fault the stamps of a beginning of the names are set.
-    ensures some { T.is_honest tree.old → OnErr result ((n : ℕ) × Touches (take n names.now) generation (T.files tree.old) (T.files tree.new)) }
+    ensures some { T.is_honest → OnErr result ((n : ℕ) × Touches (take n names.now) generation (T.files tree.old) (T.files tree.new)) }
     ensures never { IsErrOf result TreeFault.TooLarge → ⊥ }
-    ensures later { T.failures tree.old ≤ T.failures tree.new }
-    ensures cause { IsErrOf result TreeFault.Device → HasRisen (T.failures tree.old) (T.failures tree.new) }
+    ensures counted { Counted T.Tree tree.old tree.new (IsErrOf result TreeFault.Device) }
 {
     for name in names {
         touch(alloc, tree, name, generation)?;

@@ -1,6 +1,6 @@
 //! A tree of files, by what each of its calls may do. Everything above this crate stands on this contract alone, so that it
 //! holds of a tree in memory, of one whose calls fail, and of a folder that acts as it says.
-ghost use Rattle.std.specs.Prelude.{◌≡◌, ◌≢◌, ◌↔◌, ◌⊎◌, ◌<◌, ◌≤◌, ℕ, List, length, Some, None, IsSome, IfSome, IfOk, OnOk, OnErr, IsErrOf, option_map};
+ghost use Rattle.std.specs.Prelude.{◌≡◌, ◌≢◌, ◌⊎◌, ◌<◌, ◌≤◌, ℕ, List, length, Some, None, IsSome, IfSome, IfOk, OnOk, OnErr, IsErrOf, option_map};
 ghost use Rattle.ks_symbols.specs.Lines.{max_bytes};
 ghost use Rattle.ks_tree.specs.Files.{Files, content, SameBut, IsMoved, IsTooLarge, IsReadAt, HasRisen};
 
@@ -13,19 +13,19 @@ pub trait Tree {
     ghost files: { Self → Files };
 
     /// It does what is asked of it, and nobody else writes it.
-    ghost is_honest: { Self → Type 0 };
+    ghost is_honest: { Type 0 };
 
     /// How often the device has failed.
     ghost failures: { Self → ℕ };
 
     /// The bytes of a file, or `None` where there is no file.
     fn read(&mut self, alloc: Global, path: &[u8]) -> Result<Option<Vec<u8>>, TreeFault>
-        ensures honest { is_honest self.old ↔ is_honest self.new }
-        ensures found { is_honest self.old → IfOk result (λ found. option_map (λ v. v.items) found ≡ content (files self.old) path.now) }
-        ensures small { is_honest self.old → IfOk result (λ found. (b : List ℕ) → content (files self.old) path.now ≡ Some b → length b ≤ max_bytes) }
-        ensures too_large { is_honest self.old → IsErrOf result TreeFault.TooLarge → IsTooLarge (content (files self.old) path.now) }
-        ensures unchanged { is_honest self.old → files self.new ≡ files self.old }
+        ensures found { is_honest → IfOk result (λ found. option_map (λ v. v.items) found ≡ content (files self.old) path.now) }
+        ensures small { is_honest → IfOk result (λ found. (b : List ℕ) → content (files self.old) path.now ≡ Some b → length b ≤ max_bytes) }
+        ensures too_large { is_honest → IsErrOf result TreeFault.TooLarge → IsTooLarge (content (files self.old) path.now) }
+        ensures unchanged { is_honest → files self.new ≡ files self.old }
         ensures later { failures self.old ≤ failures self.new }
+        ensures uncounted { IsErrOf result TreeFault.OutOfMemory → failures self.new ≡ failures self.old }
         ensures cause { IsErrOf result TreeFault.Device → HasRisen (failures self.old) (failures self.new) };
 
     /// Fills `into` with the bytes of a file from an offset on, and tells how many there were, or `None` where there is no file.
@@ -37,33 +37,33 @@ pub trait Tree {
         offset: u64,
         into: &mut [u8],
     ) -> Result<Option<usize>, TreeFault>
-        ensures honest { is_honest self.old ↔ is_honest self.new }
-        ensures found { is_honest self.old → IfOk result (IsReadAt (content (files self.old) path.now) offset into.old into.new) }
+        ensures found { is_honest → IfOk result (IsReadAt (content (files self.old) path.now) offset into.old into.new) }
         ensures within { IfOk result (λ found. IfSome found (λ n. n ≤ length into.new)) }
-        ensures unchanged { is_honest self.old → files self.new ≡ files self.old }
+        ensures unchanged { is_honest → files self.new ≡ files self.old }
         ensures never { IsErrOf result TreeFault.TooLarge → ⊥ }
         ensures later { failures self.old ≤ failures self.new }
+        ensures uncounted { IsErrOf result TreeFault.OutOfMemory → failures self.new ≡ failures self.old }
         ensures cause { IsErrOf result TreeFault.Device → HasRisen (failures self.old) (failures self.new) };
 
     /// Writes a whole file, in the place of what was there. After `Device` the path may hold anything, or nothing.
     fn write(&mut self, alloc: Global, path: &[u8], bytes: &[u8]) -> Result<(), TreeFault>
-        ensures honest { is_honest self.old ↔ is_honest self.new }
-        ensures written { is_honest self.old → OnOk result (content (files self.new) path.now ≡ Some bytes.now) }
-        ensures others { is_honest self.old → SameBut path.now (files self.old) (files self.new) }
-        ensures refused { is_honest self.old → IsErrOf result TreeFault.OutOfMemory → files self.new ≡ files self.old }
+        ensures written { is_honest → OnOk result (content (files self.new) path.now ≡ Some bytes.now) }
+        ensures others { is_honest → SameBut path.now (files self.old) (files self.new) }
+        ensures refused { is_honest → IsErrOf result TreeFault.OutOfMemory → files self.new ≡ files self.old }
         ensures never { IsErrOf result TreeFault.TooLarge → ⊥ }
         ensures later { failures self.old ≤ failures self.new }
+        ensures uncounted { IsErrOf result TreeFault.OutOfMemory → failures self.new ≡ failures self.old }
         ensures cause { IsErrOf result TreeFault.Device → HasRisen (failures self.old) (failures self.new) };
 
     /// Moves a file to a path, in the place of what was there. After `Device` it has moved, or nothing has changed.
     fn rename(&mut self, alloc: Global, from: &[u8], to: &[u8]) -> Result<(), TreeFault>
         requires differ { from.now ≢ to.now }
-        requires there { is_honest self.old → IsSome (content (files self.old) from.now) }
-        ensures honest { is_honest self.old ↔ is_honest self.new }
-        ensures moved { is_honest self.old → OnOk result (IsMoved from.now to.now (files self.old) (files self.new)) }
-        ensures failed { is_honest self.old → OnErr result ((files self.new ≡ files self.old) ⊎ IsMoved from.now to.now (files self.old) (files self.new)) }
-        ensures refused { is_honest self.old → IsErrOf result TreeFault.OutOfMemory → files self.new ≡ files self.old }
+        requires there { is_honest → IsSome (content (files self.old) from.now) }
+        ensures moved { is_honest → OnOk result (IsMoved from.now to.now (files self.old) (files self.new)) }
+        ensures failed { is_honest → OnErr result ((files self.new ≡ files self.old) ⊎ IsMoved from.now to.now (files self.old) (files self.new)) }
+        ensures refused { is_honest → IsErrOf result TreeFault.OutOfMemory → files self.new ≡ files self.old }
         ensures never { IsErrOf result TreeFault.TooLarge → ⊥ }
         ensures later { failures self.old ≤ failures self.new }
+        ensures uncounted { IsErrOf result TreeFault.OutOfMemory → failures self.new ≡ failures self.old }
         ensures cause { IsErrOf result TreeFault.Device → HasRisen (failures self.old) (failures self.new) };
 }

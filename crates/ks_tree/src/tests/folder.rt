@@ -4,7 +4,7 @@ use crate::*;
 use ks_symbols::MAX_BYTES;
 use std::fs::{OpenFile, OpenOptions};
 use std::io::Write;
-use std::os::unix::fs::PermissionsExt;
+use std::os::unix::fs::{MetadataExt, PermissionsExt, symlink};
 use std::test::Fail;
 use std::{env, fs, io, process};
 
@@ -239,23 +239,108 @@ fn failures_are_counted(rt: HostRuntime) -> Result<(), Fail> {
 }
 
 #[test]
-fn a_full_device(rt: HostRuntime) -> Result<(), Fail> {
+fn devices(rt: HostRuntime) -> Result<(), Fail> {
     let alloc = rt.alloc();
     let mut tree = FolderTree::new(&rt, String::new(alloc));
-    if fs::exists(&rt, "/dev/full")? && fs::exists(&rt, "/dev/zero")? {
+    if fs::exists(&rt, "/dev/null")? && fs::exists(&rt, "/dev/zero")? {
         run(
             &rt,
             alloc,
             &mut tree,
             &[
-                (Step::Write("/dev/full", "x"), "30 Device"),
-                (Step::Read("/dev/zero"), "9 TooLarge"),
+                (
+                    Step::Write("/dev/null", "no device is removed"),
+                    "30 Device",
+                ),
+                (Step::Read("/dev/null"), ""),
+                (Step::Read("/dev/zero"), "30 Device"),
             ],
         )?;
-        assert_eq!(rt; tree.failures(), 1);
+        assert_eq!(rt; tree.failures(), 2);
     } else {
         println!(rt; "skipped: no such devices here")?;
     }
+    Ok(())
+}
+
+#[test]
+fn what_is_left_over_is_not_written_into(rt: HostRuntime) -> Result<(), Fail> {
+    let alloc = rt.alloc();
+    let root = fresh_folder(&rt, "left_over")?;
+    let at = |name: &str| format!(in alloc; "{root}/{name}");
+    let mut tree = FolderTree::new(&rt, root.clone()?);
+    run(
+        &rt,
+        alloc,
+        &mut tree,
+        &[(Step::Write("other", "kept"), "done")],
+    )?;
+    symlink(&rt, "other", at("link")?.as_str())?;
+    symlink(&rt, "nowhere", at("dangling")?.as_str())?;
+    fs::hard_link(&rt, at("other")?.as_str(), at("hard_link")?.as_str())?;
+    fs::create_dir(&rt, at("empty")?.as_str())?;
+    fs::write(&rt, at("longer")?.as_str(), "longer than what is written")?;
+    fs::set_permissions(&rt, at("longer")?.as_str(), fs::Permissions::from_mode(0))?;
+    for place in ["link", "dangling", "hard_link", "empty", "longer"] {
+        run(
+            &rt,
+            alloc,
+            &mut tree,
+            &[
+                (Step::Write(place, "new"), "done"),
+                (Step::Read(place), "new"),
+                (Step::Read("other"), "kept"),
+                (Step::Read("nowhere"), "none"),
+            ],
+        )?;
+        let found = fs::symlink_metadata(&rt, at(place)?.as_str())?;
+        assert!(rt; found.is_file() && found.nlink() == 1, "{place}");
+    }
+    assert_eq!(rt; tree.failures(), 0);
+    fs::remove_dir_all(&rt, root.as_str())?;
+    Ok(())
+}
+
+#[test]
+fn of_two_writers_one_is_refused(rt: HostRuntime) -> Result<(), Fail> {
+    let alloc = rt.alloc();
+    let root = fresh_folder(&rt, "two")?;
+    let mut first = FolderTree::new(&rt, root.clone()?);
+    let mut second = FolderTree::new(&rt, root.clone()?);
+    run(
+        &rt,
+        alloc,
+        &mut first,
+        &[(Step::Write("t", "first"), "done")],
+    )?;
+    run(
+        &rt,
+        alloc,
+        &mut second,
+        &[
+            (Step::Write("t", "second"), "30 Device"),
+            (Step::Read("t"), "first"),
+        ],
+    )?;
+    run(&rt, alloc, &mut first, &[(Step::Move("t", "x"), "done")])?;
+    run(
+        &rt,
+        alloc,
+        &mut second,
+        &[
+            (Step::Write("t", "second"), "done"),
+            (Step::Read("x"), "first"),
+            (Step::Write("x", "no file that counts is claimed"), "done"),
+        ],
+    )?;
+    run(
+        &rt,
+        alloc,
+        &mut first,
+        &[(Step::Write("t", "third"), "done")],
+    )?;
+    assert_eq!(rt; (first.failures(), second.failures()), (0, 1));
+    fs::remove_dir_all(&rt, root.as_str())?;
     Ok(())
 }
 

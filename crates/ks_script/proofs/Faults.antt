@@ -1,12 +1,13 @@
 -- The first fault of lines, and refusals.
-use Rattle.std.proofs.Common.{◌≡◌, ℕ, ◌+◌, ◌<◌, ◌≤◌, Bool, true, false, cond, nat_lt, List, [], ◌∷◌, ◌++◌, length, Option, Some, None, option_map, refl, ap, ◌∙◌, arith}
+use Rattle.std.proofs.Common.{◌≡◌, inl, inr, ℕ, ◌+◌, ◌<◌, ◌≤◌, Bool, true, false, cond, nat_lt, List, [], ◌∷◌, ◌++◌, length, Option, Some, None, option_map, refl, ap, ◌∙◌, arith}
 use Rattle.std.specs.List.{cons_option, position_from}
 use Rattle.std.proofs.lemmas.Bool.{cond-true, cond-false}
 use Rattle.std.proofs.lemmas.Bool.Decides.{nat_tests}
 use Rattle.ks_symbols.specs.Lines.{lines, max_bytes}
 use Rattle.ks_script.specs.declared.error.ScriptError.{ScriptError}
 use Rattle.ks_script.specs.declared.error.ScriptError.TheVariants as fault
-use Rattle.ks_script.specs.ScriptRefusals.{is_faulty, line_fault, script_refusal, IsRefusal}
+use Rattle.ks_script.specs.ScriptRefusals.{is_faulty, line_fault, script_refusal}
+use Rattle.ks_symbols.specs.Refusals.{IsRefusal}
 
 passed : (b : Bool) (e : ScriptError) → cond b (Some e) None ≡ None → b ≡ false
 passed true e h = absurd (cc h)
@@ -28,9 +29,9 @@ fault_here n line rest e is =
     ap (option_map fault.BadScript) (cond-true (is_faulty line) _ _ said.0) ∙ ap Some said.1
 
 -- an error that is the refusal f is also the refusal g, where g follows from f
-pub refused : (e : ScriptError) (f g : Option ScriptError) → (f ≡ Some e → g ≡ Some e) → IsRefusal e f → IsRefusal e g
-refused fault.OutOfMemory f g h r = tt
-refused e f g h r = h r
+pub refused : (e : ScriptError) (f g : Option ScriptError) → (f ≡ Some e → g ≡ Some e) → IsRefusal fault.OutOfMemory e f → IsRefusal fault.OutOfMemory e g
+refused e f g h (inl memory) = inl memory
+refused e f g h (inr r) = inr (h r)
 
 pub too_large : (text : List ℕ) → 67108864 < length text → script_refusal text ≡ Some fault.TooLarge
 unfolding script_refusal

@@ -1,5 +1,5 @@
 -- Why a script is refused: it is too large, or a line asks for nothing and is no comment.
-use Rattle.std.specs.Prelude.{◌≡◌, ℕ, ◌&&◌, Bool, not, nat_lt, is_none, List, length, Option, Some, None, option_map, if◌then◌else◌, Result, Ok, Err, ⊤}
+use Rattle.std.specs.Prelude.{ℕ, ◌&&◌, Bool, not, nat_lt, is_none, List, length, Option, Some, None, option_map, if◌then◌else◌}
 use Rattle.std.specs.List.{position_from}
 use Rattle.ks_symbols.specs.Lines.{max_bytes, lines}
 use Rattle.ks_symbols.specs.Statements.{is_silent}
@@ -18,13 +18,3 @@ line_fault number line = if is_faulty line then Some (fault.BadScript number) el
 -- The first faulty line counts, by its number from 1 on.
 unfoldable pub script_refusal : List ℕ → Option ScriptError
 script_refusal text = if nat_lt max_bytes (length text) then Some fault.TooLarge else option_map fault.BadScript (position_from is_faulty 1 (lines text))
-
--- An error is the refusal that the definitions have, or want of memory.
-abbrev pub IsRefusal : ScriptError → Option ScriptError → Type 0
-IsRefusal fault.OutOfMemory refusal = ⊤
-IsRefusal e refusal = refusal ≡ Some e
-
--- A reader's result against that refusal: want of memory aside, it refuses exactly then, and so.
-abbrev pub RefusedBy : {X : Type 0} → Result X ScriptError → Option ScriptError → Type 0
-RefusedBy (Ok x) refusal = refusal ≡ None
-RefusedBy (Err e) refusal = IsRefusal e refusal

@@ -6,7 +6,8 @@
 ghost use Rattle.std.specs.Prelude.{◌≡◌, ◌++◌, [], length, map, option_map, take_while, drop, OnOk, IfOk};
 ghost use Rattle.std.specs.List.{cons_option, list_all};
 ghost use Rattle.ks_script.specs.Script.{is_word_byte, is_word, first_word, seen_line, sync_line, record_line, stale_line, script_line, script_lines};
-ghost use Rattle.ks_script.specs.ScriptRefusals.{line_fault, script_refusal, RefusedBy};
+ghost use Rattle.ks_script.specs.ScriptRefusals.{line_fault, script_refusal};
+ghost use Rattle.ks_symbols.specs.Refusals.{RefusedBy};
 
 use crate::error::ScriptError;
 use bstr::ByteSlice;
@@ -115,7 +116,7 @@ fn take_line<'a>(
     line: &'a [u8],
 ) -> Result<(), ScriptError>
     ensures lines { OnOk result (map seen_line lines.new.items ≡ map seen_line lines.old.items ++ cons_option (script_line line.now) []) }
-    ensures refusal { RefusedBy result (line_fault number line.now) }
+    ensures refusal { RefusedBy ScriptError.OutOfMemory result (line_fault number line.now) }
 {
     match parse_line(line) {
         Some(said) => lines.push(said)?,
@@ -131,7 +132,7 @@ fn take_line<'a>(
 /// The lines of a script that ask for a command, in their order. Comments and empty lines ask for none.
 pub fn read_script(alloc: Global, text: &[u8]) -> Result<Vec<ScriptLine<'_>>, ScriptError>
     ensures lines { IfOk result (λ lines. map seen_line lines.items ≡ script_lines text.now) }
-    ensures refusal { RefusedBy result (script_refusal text.now) }
+    ensures refusal { RefusedBy ScriptError.OutOfMemory result (script_refusal text.now) }
 {
     if text.len() > MAX_BYTES {
         return Err(ScriptError::TooLarge);

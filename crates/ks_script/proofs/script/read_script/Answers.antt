@@ -1,4 +1,4 @@
-use Rattle.std.proofs.Common.{◌≡◌, ◌∷◌, ◌++◌, option_map, length, map, sym, ap, ◌∙◌, arith, append-nil}
+use Rattle.std.proofs.Common.{◌≡◌, inr, ◌∷◌, ◌++◌, option_map, length, map, sym, ap, ◌∙◌, arith, append-nil}
 use Rattle.std.specs.List.{filter_map, position_from}
 use Rattle.std.proofs.lemmas.Result.{err_from_is_err_and}
 use Rattle.ks_symbols.specs.Lines.{lines}
@@ -9,7 +9,7 @@ use Rattle.ks_script.proofs.Faults.{no_fault, fault_here, refused, too_large, no
 use Rattle.ks_script.proofs.script.read_script.Goals as goal
 
 pub returns-then-text-gt-MAX_BYTES-clause-refusal : goal.returns-then-text-gt-MAX_BYTES-clause-refusal
-returns-then-text-gt-MAX_BYTES-clause-refusal c = too_large c.args.text.now c.if-text-gt-MAX_BYTES.true
+returns-then-text-gt-MAX_BYTES-clause-refusal c = inr (too_large c.args.text.now c.if-text-gt-MAX_BYTES.true)
 
 pub loop-line-init : goal.loop-line-init
 unfolding lines

@@ -1,5 +1,5 @@
 -- What the files answer of an object, and what a shown tree answers of a recorded one.
-use Rattle.std.proofs.Common.{◌≡◌, ◌⊎◌, inl, inr, ⊎_elim, ℕ, suc, ◌<◌, ◌≤◌, List, [], ◌∷◌, Option, Some, None, Result, Ok, Err, Bool, true, false, ◌&&◌, cond, nat_lt, sym, ◌∙◌, ap, ap₂, refl, subst, arith, length, get_or, drop, drop-cons, bytes_eq, find, lt_of_lt_of_le, IsTrue}
+use Rattle.std.proofs.Common.{map, ◌≡◌, ◌⊎◌, inl, inr, ⊎_elim, ℕ, suc, ◌+◌, ◌<◌, ◌≤◌, List, [], ◌∷◌, Option, Some, None, Result, Ok, Err, Bool, true, false, ◌&&◌, cond, nat_lt, sym, ◌∙◌, ap, ap₂, refl, subst, arith, length, get_or, drop, drop-cons, bytes_eq, find, lt_of_lt_of_le, IsTrue}
 use Rattle.std.specs.List.{list_all}
 use Rattle.std.proofs.lemmas.Bool.{lt-ltb, le-ltb, cond-false, cond-true, and_parts, and_from, ne_eqb, or_left, or_right, or_cases}
 use Rattle.std.proofs.lemmas.Slice.Eq.{bytes_eq-Decides}
@@ -8,6 +8,9 @@ use Rattle.ks_symbols.specs.Names.{is_name, is_target}
 use Rattle.ks_compare.specs.Changes.{is_in}
 use Rattle.ks_fixdep.specs.declared.command_file.Dep.{Dep}
 use Rattle.ks_fixdep.specs.declared.command_file.Dep.TheVariants.{File, Config}
+use Rattle.std.proofs.lemmas.List.{get_or-map, length-map}
+use Rattle.ks_fixdep.specs.declared.command_file.lent.LentDep.{LentDep}
+use Rattle.ks_fixdep.specs.Lent.{seen_dep}
 use Rattle.ks_fixdep.specs.CommandFile.{Record as CommandRecord, is_command, is_dep}
 use Rattle.ks_fixdep.specs.Record.{config_names}
 use Rattle.ks_tree.specs.Files.{Files, content, IsTooLarge}
@@ -18,18 +21,17 @@ use Rattle.ks_tree.specs.declared.fault.TreeError.TheVariants as stamp_error
 use Rattle.ks_engine.specs.declared.error.EngineError.{EngineError}
 use Rattle.ks_engine.specs.declared.error.EngineError.TheVariants.{BadPath, BadCommand}
 use Rattle.ks_engine.specs.declared.staleness.Verdict.{Verdict}
-use Rattle.ks_engine.specs.declared.staleness.Verdict.TheVariants.{Fresh}
+use Rattle.ks_engine.specs.declared.staleness.Verdict.TheVariants.{Fresh, Changed}
 use Rattle.ks_engine.specs.declared.staleness.BuildState.{BuildState}
 use Rattle.ks_engine.specs.Refusals.{of_stamp, IsGivenUp, GaveUp, and_then}
-use Rattle.ks_engine.specs.History.{History, Begun, Synced, Broken, Recorded, Record, done, last_record}
+use Rattle.ks_engine.specs.History.{History, Record, done, last_record}
 use Rattle.ks_engine.specs.Staleness.{found, names_of, suspect_since, first_suspect, verdict}
-use Rattle.ks_engine.specs.Legal.{IsHistory, HasOneKind}
 use Rattle.ks_engine.specs.Shows.{Shows, stamp}
 use Rattle.ks_engine.specs.LastSync.{synced_at, last_generation}
 use Rattle.ks_engine.specs.Asked.{Asked, Answered, ByStamps, asked, asked_at, asked_since, asked_of, of_target, command_file, IsBadStamp, IsByStamps, IsAnswer}
 use Rattle.ks_engine.specs.Built.{Built, Differs, Asks, built, built_by, judged, IsBuilt}
 use Rattle.ks_engine.specs.Judged.{HasSameDefinitions, IsJudged, IsBuildJudged}
-use Rattle.ks_engine.proofs.Heart.{suspect_since-lt, suspect_since-changed_since, generation-le, record_cases}
+use Rattle.ks_engine.proofs.Heart.{suspect_since-lt, suspect_since-changed_since, generation-le, synced-lt, recorded_synced}
 use Rattle.ks_engine.proofs.Headers.{same_definitions}
 use Rattle.ks_engine.proofs.LowerLaws.{one_number, short_stamp, read_fits}
 use Rattle.ks_engine.proofs.Steps.{auto_read}
@@ -61,6 +63,10 @@ pub ask_judged : {P : Type 0} (files : Files) (o : List ℕ) (file : CommandReco
     → P ⊎ IsAnswer files (asked_since files (config_names file.deps) file.generation) answer → P ⊎ IsAnswer files (asked files o) answer
 ask_judged files o file answer legal read (inl given) = inl given
 ask_judged files o file answer legal read (inr said) = inr (answer_by files _ _ answer (asked_read files o _ legal read) said)
+
+pub refused_at : (o : List ℕ) (file given : Option (List ℕ)) (e : EngineError) → file ≡ given → IsGivenUp e ⊎ (command_file o given ≡ Err e) → IsGivenUp e ⊎ (command_file o file ≡ Err e)
+refused_at o file given e at (inl gave) = inl gave
+refused_at o file given e at (inr bad) = inr (ap (command_file o) at ∙ bad)
 
 -- ---- the steps of a question about a command
 
@@ -118,6 +124,37 @@ stamp_refused files mid g deps i d x (stamp_error.BadStamp y) same h is config w
     let none = subst (λ f. IsNoStamp (content f (stamp_path x)) × (IsTooLarge (content f (stamp_path x)) → ⊥)) same (why.1, why.2) in
     inr (rest _ (bad_next files g deps i d x _ h is config (inl (none.0, none.1, ap (λ z. Err (of_stamp (stamp_error.BadStamp z))) why.0))))
 
+-- a dependency that is lent, among those that are seen
+pub seen_at : (deps : List LentDep) (i : ℕ) (d : LentDep) → i < length deps → d ≡ get_or deps i d → seen_dep d ≡ get_or (map seen_dep deps) i (seen_dep d)
+seen_at deps i d h is = ap seen_dep is ∙ sym (get_or-map seen_dep deps i d (seen_dep d) h)
+
+pub seen_within : (deps : List LentDep) (i : ℕ) → i < length deps → i < length (map seen_dep deps)
+seen_within deps i h = subst (λ n. i < n) (sym (length-map deps seen_dep)) h
+
+-- a stamp that is not above the generation, or a file, leaves the answer to the others
+next_place : (files : Files) (g : ℕ) (deps : List Dep) (i : ℕ) (answer : Result Verdict EngineError) → IsByStamps files g (config_names (drop (i + 1) deps)) answer → IsByStamps files g (config_names (drop (suc i) deps)) answer
+next_place files g deps i answer said = let same : i + 1 ≡ suc i = omega arith in subst (λ k. IsByStamps files g (config_names (drop k deps)) answer) same said
+
+pub stamp_below : (files mid : Files) (g : ℕ) (deps : List Dep) (i : ℕ) (d : Dep) (x : List ℕ) (n : ℕ) → mid ≡ files → i < length deps → d ≡ get_or deps i d → d ≡ Config x
+    → HasNumber (content mid (stamp_path x)) n → n ≤ g
+    → ((answer : Result Verdict EngineError) → IsByStamps files g (config_names (drop i deps)) answer → IsByStamps files g (config_names deps) answer)
+    → (answer : Result Verdict EngineError) → IsByStamps files g (config_names (drop (i + 1) deps)) answer → IsByStamps files g (config_names deps) answer
+stamp_below files mid g deps i d x n same h is config has below rest answer said =
+    rest answer (subst (λ ys. IsByStamps files g ys answer) (sym (names_next deps i d x h is config)) (inr (inl (n, subst (λ f. HasNumber (content f (stamp_path x)) n) same has, (below, next_place files g deps i answer said)))))
+
+pub stamp_above : (files mid : Files) (g : ℕ) (deps : List Dep) (i : ℕ) (d : Dep) (x : List ℕ) (n : ℕ) (y : List ℕ) → mid ≡ files → i < length deps → d ≡ get_or deps i d → d ≡ Config x
+    → HasNumber (content mid (stamp_path x)) n → g < n → y ≡ x
+    → ((answer : Result Verdict EngineError) → IsByStamps files g (config_names (drop i deps)) answer → IsByStamps files g (config_names deps) answer)
+    → IsByStamps files g (config_names deps) (Ok (Changed y))
+stamp_above files mid g deps i d x n y same h is config has above named rest =
+    rest (Ok (Changed y)) (subst (λ ys. IsByStamps files g ys (Ok (Changed y))) (sym (names_next deps i d x h is config)) (inl (n, subst (λ f. HasNumber (content f (stamp_path x)) n) same has, (above, ap (λ z. Ok (Changed z)) named))))
+
+pub file_passed : (files : Files) (g : ℕ) (deps : List Dep) (i : ℕ) (d : Dep) (p : List ℕ) → i < length deps → d ≡ get_or deps i d → d ≡ File p
+    → ((answer : Result Verdict EngineError) → IsByStamps files g (config_names (drop i deps)) answer → IsByStamps files g (config_names deps) answer)
+    → (answer : Result Verdict EngineError) → IsByStamps files g (config_names (drop (i + 1) deps)) answer → IsByStamps files g (config_names deps) answer
+file_passed files g deps i d p h is file rest answer said =
+    rest answer (subst (λ ys. IsByStamps files g ys answer) (sym (ap config_names (deps_next deps i d h is) ∙ ap (λ z. config_names (z ∷ drop (suc i) deps)) file)) (next_place files g deps i answer said))
+
 -- ---- what a shown tree answers of a recorded object
 
 -- by the stamps that a history has, the first name above the generation
@@ -166,16 +203,6 @@ and_true : (i b : Bool) → i ≡ true → (i && b) ≡ b
 and_true true b e = refl
 and_true false b e = absurd cc
 
--- a record stands after a completed synchronisation
-pub done_recorded : (h : History) (o : List ℕ) (r : Record) → IsHistory h → last_record h o ≡ Some r → 0 < done r.past
-done_recorded (Begun first) o r is last = absurd cc
-done_recorded (Synced t config past) o r is last = done_recorded past o r is.0 last
-done_recorded (Broken t config renewed past) o r is last = done_recorded past o r is.0 last
-done_recorded (Recorded p command names header past) o r is last = ⊎_elim
-    (λ here. subst (λ (w : Record). 0 < done w.past) here.1 is.1)
-    (λ there. done_recorded past o r is.0 there.1)
-    (record_cases p o _ _ r last)
-
 -- the generation that a shown auto.conf has, behind a completed synchronisation
 pub last_shown : (files : Files) (h : History) → Shows files h → 0 < done h → last_generation (content files auto_path) ≡ Ok (done h)
 last_shown files h shows some =
@@ -200,7 +227,7 @@ since_shown : (files : Files) (h : History) (o : List ℕ) (r : Record) (shows :
 since_shown files h o r shows last =
     let is = (shows.commands o r last).2 in
     let le = generation-le h o r last in
-    let some = done_recorded h o r shows.history last in
+    let some = synced-lt r.past (recorded_synced h o r shows.history last).0 in
     ap₂ (asked_since files) is.names is.generation
     ∙ ap (asked_at (done r.past) r.names) (last_shown files h shows (lt_of_lt_of_le some le))
     ∙ cond-false (nat_lt (done h) (done r.past)) _ _ (le-ltb (done h) (done r.past) le)
@@ -213,7 +240,7 @@ by_stamps files h o r answer shows last is =
     let legal = ap (list_all is_name) (sym at.2.names) ∙ legal_names at.2.file.deps (read_fits at.0 at.2.file at.2.reads).legal.deps in
     stamps_answer files h (done r.past) r.names answer shows.stamps legal is
     ∙ ap (λ o. Ok (verdict o))
-    (find_same _ _ r.names (λ x among. sym (suspect_since-lt h o r x last ∙ and_true (is_in r.names x) _ among))
+    (find_same _ _ r.names (λ x among. sym (suspect_since-lt h o r x shows.history last ∙ and_true (is_in r.names x) _ among))
     ∙ ap (λ ns. find (suspect_since h o) (names_of ns)) (sym last))
 
 -- nothing found: no member passes
@@ -234,13 +261,13 @@ fresh_none (Some x) e = absurd cc
 
 -- Fresh means the same definitions.
 safe : (files : Files) (h : History) (o : List ℕ) (r : Record) (answer : Result Verdict EngineError) → Shows files h → last_record h o ≡ Some r
-    → answer ≡ Ok (verdict (first_suspect h o)) → HasOneKind h → answer ≡ Ok Fresh → HasSameDefinitions files r
-safe files h o r answer shows last suspect kinds fresh = λ x among.
+    → answer ≡ Ok (verdict (first_suspect h o)) → answer ≡ Ok Fresh → HasSameDefinitions files r
+safe files h o r answer shows last suspect fresh = λ x among.
     let none = fresh_none _ (sym fresh ∙ suspect) in
-    let header = shows.header (lt_of_lt_of_le (done_recorded h o r shows.history last) (generation-le h o r last)) in (
+    let header = shows.header (recorded_synced h o r shows.history last).1 in (
       header.0,
       header.1,
-      same_definitions h o r x header.0 shows.history kinds last among
+      same_definitions h o r x header.0 shows.history last among
           (find_none (suspect_since h o) r.names x (ap (λ ns. find (suspect_since h o) (names_of ns)) (sym last) ∙ none) among) header.2,
     )
 
@@ -250,7 +277,7 @@ pub judges : (files : Files) (h : History) (o : List ℕ) (r : Record) (answer :
 judges files h o r answer shows last (inl given) = record {
   suspect = inl given;
   changed = λ none. inl given;
-  safe = λ kinds fresh. absurd (subst (λ (a : Result Verdict EngineError). GaveUp a) fresh given);
+  safe = λ fresh. absurd (subst (λ (a : Result Verdict EngineError). GaveUp a) fresh given);
 }
 judges files h o r answer shows last (inr is) =
     let suspect = by_stamps files h o r answer shows last is in

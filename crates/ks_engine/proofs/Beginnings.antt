@@ -1,5 +1,5 @@
 -- Trees to begin with, and the one plan of a synchronisation.
-use Rattle.std.proofs.Common.{◌≡◌, inl, inr, ℕ, List, Some, None, Err, refl, sym, ◌∙◌, ap, subst, nat_cmp, arith}
+use Rattle.std.proofs.Common.{◌≡◌, inl, inr, ℕ, ◌<◌, ◌^◌, List, Option, Some, None, Err, refl, sym, ◌∙◌, ap, subst, nat_cmp, arith}
 use Rattle.std.specs.Cmp.Lexicographic.{slice_cmp, nat_list_cmp_total}
 use Rattle.std.specs.FinMap.{empty, get, get-empty, same_map, slice_cmp-IsAntisymmetric, nat_cmp-IsAntisymmetric}
 use Rattle.ks_symbols.specs.declared.error.SourceError.{SourceError}
@@ -11,16 +11,27 @@ use Rattle.ks_engine.specs.History.{Texts, Configuration}
 use Rattle.ks_engine.specs.Shows.{IsFirstAuto}
 use Rattle.ks_engine.specs.SyncPlan.{Sources, AreSources, plan_over}
 use Rattle.ks_engine.specs.LastSync.{old_auto}
-use Rattle.ks_engine.specs.Laws.{EmptyTreeShows, UsualTreeShows, PlansAreOne}
+use Rattle.ks_engine.specs.Laws.{EmptyTreeShows, UsualTreeShows, UntypedTreeShows, PlansAreOne}
+use Rattle.ks_engine.proofs.LowerLaws.{small_generation}
+
+-- the generation of a first auto.conf fits 64 bits
+first_fits : (texts : Texts) (generation : ℕ) (file : Option (List ℕ)) → IsFirstAuto texts generation file → generation < 2 ^ 64
+first_fits texts generation None is = subst (λ n. n < 2 ^ 64) (sym is.1) (omega arith)
+first_fits texts generation (Some b) is = subst (λ n. n < 2 ^ 64) is.1 (small_generation b)
+
+pub untyped_shows : UntypedTreeShows
+untyped_shows files texts generation stamps auto bound numbers =
+    let small = first_fits texts generation (content files auto_path) auto in
+    record {
+      history = (omega (arith, small), bound);
+      auto = auto;
+      header = λ some. absurd some;
+      stamps = numbers;
+      commands = λ o r last. absurd cc;
+    }
 
 pub usual_shows : UsualTreeShows
-usual_shows files first auto stamps = record {
-  history = tt;
-  auto = auto;
-  header = λ some. absurd (omega arith);
-  stamps = stamps;
-  commands = λ o r last. absurd cc;
-}
+usual_shows files texts auto stamps = untyped_shows files texts 0 (λ x. 0) auto (λ x. omega arith) stamps
 
 no_texts : Texts
 no_texts = empty
@@ -28,7 +39,7 @@ no_texts = empty
 pub empty_shows : EmptyTreeShows
 unfolding no_texts
 empty_shows =
-    usual_shows empty no_texts (subst (IsFirstAuto no_texts) (sym (get-empty (slice_cmp nat_cmp) auto_path)) refl)
+    usual_shows empty no_texts (subst (IsFirstAuto no_texts 0) (sym (get-empty (slice_cmp nat_cmp) auto_path)) (refl, refl))
     (λ x name. subst (λ file. HasNumber file 0) (sym (get-empty (slice_cmp nat_cmp) (stamp_path x))) refl)
 
 same_sources : (s t : Sources) → s.title ≡ t.title → s.config ≡ t.config → s.unknown ≡ t.unknown → s ≡ t

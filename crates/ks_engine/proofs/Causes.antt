@@ -10,14 +10,14 @@ use Rattle.ks_engine.proofs.Heart.{generation-le, record_cases}
 
 -- a renewed stamp, by the synchronisation that was broken off
 renewals : (h : History) (x : List ℕ) → IsHistory h → renewed_since_sync h x ≡ true → HasChangeBehind (done h) x h
-renewals (Begun first) x is renewed = absurd cc
+renewals (Begun texts generation stamps) x is renewed = absurd cc
 renewals (Synced title config past) x is renewed = absurd cc
 renewals (Broken title config names past) x is renewed =
     ⊎_elim (λ here. inl (omega arith, is.2 x here)) (λ earlier. inr (renewals past x is.0 earlier)) (or_cases (is_in names x) _ renewed)
 renewals (Recorded object command names header past) x is renewed = renewals past x is.0 renewed
 
 pub suspicions : SuspicionsHaveCauses
-suspicions (Begun first) o x r is last suspect = absurd cc
+suspicions (Begun texts generation stamps) o x r is last suspect = absurd cc
 suspicions (Synced title config past) o x r is last suspect = ⊎_elim
     (λ here. inl (generation-le past o r last, (and_parts (is_in (found past o) x) _ here).1))
     (λ earlier. inr (suspicions past o x r is.0 last earlier))

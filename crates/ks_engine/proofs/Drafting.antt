@@ -7,7 +7,7 @@ use Rattle.ks_symbols.specs.Names.{is_target}
 use Rattle.ks_fixdep.specs.declared.dep_error.DepError.{DepError}
 use Rattle.ks_fixdep.specs.declared.dep_error.DepError.TheVariants as dep
 use Rattle.ks_fixdep.specs.declared.dependency_file.Role.{Role}
-use Rattle.ks_fixdep.specs.DepRefusals.{IsRefusal}
+use Rattle.ks_symbols.specs.Refusals.{IsRefusal}
 use Rattle.ks_fixdep.specs.DependencyFile.{prerequisites, dependency_refusal}
 use Rattle.ks_fixdep.specs.declared.command_file.Dep.{Dep}
 use Rattle.ks_fixdep.specs.declared.command_file.Dep.TheVariants.{File, Config}
@@ -48,15 +48,12 @@ legal_next deps i d h is legal before rest =
 
 -- ---- the draft of a command file
 
-pub build_refused : (t c : List ℕ) (e : DepError) → IsTrue (is_target t) → IsTrue (is_command c) → IsRefusal e (record_refusal t c) → IsGivenUp (of_dep e)
-build_refused t c e legal word is = by_error e (subst (IsRefusal e) (cond-true _ _ _ legal ∙ cond-true _ _ _ word) is)
+pub build_refused : (t c : List ℕ) (e : DepError) → IsTrue (is_target t) → IsTrue (is_command c) → IsRefusal dep.OutOfMemory e (record_refusal t c) → IsGivenUp (of_dep e)
+build_refused t c e legal word is = by_error (subst (IsRefusal dep.OutOfMemory e) (cond-true _ _ _ legal ∙ cond-true _ _ _ word) is)
   where
-    by_error : (e : DepError) → IsRefusal e None → IsGivenUp (of_dep e)
-    by_error dep.NoTarget is = absurd cc
-    by_error (dep.BadPath token) is = absurd cc
-    by_error dep.BadCommand is = absurd cc
-    by_error dep.TooLarge is = absurd cc
-    by_error dep.OutOfMemory is = tt
+    by_error : IsRefusal dep.OutOfMemory e None → IsGivenUp (of_dep e)
+    by_error (inl memory) = subst (λ x. IsGivenUp (of_dep x)) (sym memory) tt
+    by_error (inr is) = absurd cc
 
 pub draft_large : (t c : List ℕ) (ps : List (List ℕ × Role)) (g : ℕ) (found : List (List (List ℕ))) (file : CommandRecord) → file ≡ numbered (record_of t c ps found) g
     → max_bytes < length (command_text file) → drafted t c ps g found ≡ Err TooLarge
@@ -70,12 +67,9 @@ draft_made t c ps g found file is small =
 
 -- ---- the dependency file
 
-pub depfile_refused : (e : DepError) (d : List ℕ) → IsRefusal e (dependency_refusal d) → IsGivenUp (of_dep e) ⊎ (listed d ≡ Err (of_dep e))
-depfile_refused dep.NoTarget d is = inr (ap (λ r. listed_unless r d) is)
-depfile_refused (dep.BadPath token) d is = inr (ap (λ r. listed_unless r d) is)
-depfile_refused dep.BadCommand d is = inr (ap (λ r. listed_unless r d) is)
-depfile_refused dep.TooLarge d is = inr (ap (λ r. listed_unless r d) is)
-depfile_refused dep.OutOfMemory d is = inl tt
+pub depfile_refused : (e : DepError) (d : List ℕ) → IsRefusal dep.OutOfMemory e (dependency_refusal d) → IsGivenUp (of_dep e) ⊎ (listed d ≡ Err (of_dep e))
+depfile_refused e d (inl memory) = inl (subst (λ x. IsGivenUp (of_dep x)) (sym memory) tt)
+depfile_refused e d (inr is) = inr (ap (λ r. listed_unless r d) is)
 
 pub depfile_listed : (d : List ℕ) (ps : List (List ℕ × Role)) → dependency_refusal d ≡ None → ps ≡ prerequisites d → listed d ≡ Ok ps
 depfile_listed d ps none is = ap (λ r. listed_unless r d) none ∙ ap (λ l. Ok l) (sym is)

@@ -18,7 +18,7 @@ after_broken old new h k d broken shows =
     broken.some.1.auto
 
 pub sync_follows : (old new : Files) (m n : ℕ) (h : History) (k d : List ℕ) (r : Result Report EngineError) → Shows old h → IfOk r (IsSynced old new k d) → IfErr r (IsSyncRefused old new k d)
-    → (next : History) × FollowsSync (at old m h) k d r (at new n next) × Shows new next
+    → (next : History) × FollowsSync k d r (at old m h) (at new n next) × Shows new next
 sync_follows old new m n h k d (Ok report) shows ok err =
     let plan = ok.plan in
     let facts = plan_facts old h k d plan shows ok.planned in (

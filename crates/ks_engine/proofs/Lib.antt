@@ -1,8 +1,10 @@
 pub mod LowerLaws
 pub mod Heart
 pub mod Causes
+pub mod OtherRecords
 pub mod Headers
 pub mod Reading
+pub mod Keeping
 pub mod Writes
 pub mod Steps
 pub mod Following

@@ -1,9 +1,11 @@
 -- The laws of the layers below: all that the proofs here use of them beside the contracts of their calls.
 use Rattle.std.proofs.Common.{◌≡◌, ◌≢◌, ℕ, ◌≤◌, List, [], Option, Some, length, map}
-use Rattle.ks_output.specs.Laws.{TextsReadBack, GenerationReadsBack, IsAccepted, TextsAreOfEntries}
+use Rattle.ks_output.specs.Laws.{TextsReadBack, GenerationReadsBack, GenerationFits, IsAccepted}
 use Rattle.ks_output.specs.HeaderLaws.{AlikeIsDefinedAlike}
 use Rattle.ks_output.proofs.ReadBack.{texts_read_back, generation_reads_back, is_accepted}
-use Rattle.ks_output.proofs.Texts.{texts_are_of_entries}
+use Rattle.ks_output.proofs.SmallNumbers.{generation_fits}
+use Rattle.ks_compare.specs.Laws.{ChangesAreLegal, UnchangedIsKept}
+use Rattle.ks_compare.proofs.ChangeLemmas.{changes_are_legal, unchanged_is_kept}
 use Rattle.ks_output.proofs.Definitions.{alike_is_defined_alike}
 use Rattle.ks_fixdep.specs.CommandLines.{lines}
 use Rattle.ks_fixdep.specs.declared.dependency_file.Role.{Role}
@@ -32,9 +34,17 @@ generation_back = generation_reads_back
 pub accepted : IsAccepted
 accepted = is_accepted
 
--- the texts of a configuration are those of its entries
-pub entry_texts : TextsAreOfEntries
-entry_texts = texts_are_of_entries
+-- a name that does not differ is kept
+pub unchanged : UnchangedIsKept
+unchanged = unchanged_is_kept
+
+-- the changed names are legal
+pub legal_changes : ChangesAreLegal
+legal_changes = changes_are_legal
+
+-- a generation that is read fits 64 bits
+pub small_generation : GenerationFits
+small_generation = generation_fits
 
 -- entries that are alike are defined alike
 pub alike : AlikeIsDefinedAlike

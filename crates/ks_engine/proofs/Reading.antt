@@ -1,34 +1,36 @@
 -- What the calls of the layers below give for the definitions of auto.conf and of the two texts.
-use Rattle.std.proofs.Common.{◌≡◌, ◌⊎◌, inl, inr, ℕ, ◌+◌, ◌<◌, ◌≤◌, List, Option, Some, None, option_map, Result, Ok, Err, true, sym, ◌∙◌, ap, ap₂, refl, subst, length, IsTrue}
-use Rattle.std.proofs.lemmas.Bool.{lt-ltb, le-ltb, ne_eqb, cond-true, cond-false, and_parts}
+use Rattle.std.proofs.Common.{◌≡◌, ◌⊎◌, inl, inr, ℕ, ◌+◌, ◌<◌, ◌≤◌, List, Option, Some, None, Result, Ok, Err, sym, ◌∙◌, ap, ap₂, refl, subst, length, nat_eq, if◌then◌else◌}
+use Rattle.std.proofs.lemmas.Bool.{lt-ltb, le-ltb, ne_eqb, cond-true, cond-false}
 use Rattle.std.specs.Ordering.{nat_cmp}
 use Rattle.std.specs.Cmp.Lexicographic.{slice_cmp}
 use Rattle.std.specs.FinMap.{get, empty, get-empty}
 use Rattle.ks_symbols.specs.declared.kinds.Kind.{Kind}
-use Rattle.ks_symbols.specs.Configuration.{NameMap, IsConfiguration}
-use Rattle.ks_symbols.specs.Names.{is_name, is_symbol_name}
+use Rattle.ks_symbols.specs.Configuration.{IsConfiguration}
 use Rattle.ks_symbols.specs.Lines.{max_bytes, lines}
 use Rattle.ks_symbols.specs.Kconfig.{declared, title_of, kconfig_refusal}
 use Rattle.ks_symbols.specs.DotConfig.{setting, unknown_count, dotconfig_refusal}
-use Rattle.ks_symbols.specs.Refusals.{or_else}
+use Rattle.ks_symbols.specs.Refusals.{or_else, IsRefusal}
 use Rattle.ks_output.specs.declared.auto_conf.AutoError.{AutoError}
 use Rattle.ks_output.specs.declared.auto_conf.AutoError.TheVariants as auto
 use Rattle.ks_output.specs.AutoText.{auto_text}
-use Rattle.ks_output.specs.AutoConf.{auto_map, auto_generation, auto_refusal, IsAutoRefusal}
-use Rattle.ks_output.specs.OldConfig.{OldTexts, HasNames}
+use Rattle.ks_output.specs.AutoConf.{auto_map, auto_generation, auto_refusal}
+use Rattle.ks_symbols.specs.declared.kinds.Class.{Class}
+use Rattle.ks_output.specs.OldConfig.{Texts, OldTexts, HasNames}
 use Rattle.ks_tree.specs.Files.{Files, content, IsTooLarge}
 use Rattle.ks_tree.specs.Paths.{auto_path}
 use Rattle.ks_tree.specs.declared.fault.TreeFault.{TreeFault}
 use Rattle.ks_tree.specs.declared.fault.TreeFault.TheVariants as fault
 use Rattle.ks_engine.specs.declared.error.EngineError.{EngineError}
+use Rattle.ks_engine.specs.declared.error.EngineError.TheVariants.{NeverSynced}
 use Rattle.ks_engine.specs.Refusals.{of_tree, of_auto, IsGivenUp, and_then}
-use Rattle.ks_compare.specs.Changes.{AreChanges, compared, differ}
+use Rattle.ks_compare.specs.Changes.{AreChanges}
 use Rattle.ks_engine.specs.History.{Configuration}
 use Rattle.ks_engine.specs.Legal.{IsSource}
 use Rattle.ks_engine.specs.Synchronised.{AreChanged}
 use Rattle.ks_engine.specs.LastSync.{OldAuto, read_unless, old_auto, synced_at, last_generation}
 use Rattle.ks_engine.specs.SyncPlan.{Sources, AreSources, Plan, plan_over, IsSyncPlan}
 use Rattle.ks_engine.specs.Views.{old_of}
+use Rattle.ks_engine.proofs.LowerLaws.{legal_changes}
 
 -- ---- the two texts
 
@@ -47,20 +49,8 @@ are_sources kconfig dotconfig s kinds same first second title settings unknown l
 
 -- ---- the names that changed
 
-legal_differ : (o : Option (List ℕ)) (s : Option (Kind × List ℕ)) (P : Type 0) → ((t : List ℕ) → o ≡ Some t → P) → ((t : Kind × List ℕ) → s ≡ Some t → P) → differ o (option_map compared s) ≡ true → P
-legal_differ None None P f g e = absurd cc
-legal_differ (Some t) s P f g e = f t refl
-legal_differ None (Some t) P f g e = g t refl
-
-name_of_symbol : (x : List ℕ) → IsTrue (is_symbol_name x) → IsTrue (is_name x)
-unfolding is_symbol_name
-name_of_symbol x h = (and_parts _ _ h).0
-
 pub are_changed : (old : OldTexts) (new : Configuration) (names : List (List ℕ)) → HasNames old.texts → IsConfiguration new → AreChanges old.texts new names → AreChanged old.texts new names
-are_changed old new names legal config are = record {
-  are = are;
-  legal = λ x among. legal_differ (get old.texts x) (get new x) (IsTrue (is_name x)) (λ t is. legal x t is) (λ s is. name_of_symbol x (config x s is).named) (sym (are.each x) ∙ among);
-}
+are_changed old new names legal config are = record { are = are; legal = legal_changes old.texts new names legal config are }
 
 pub plan_made : (s : Sources) (a : OldAuto) → (a.generation ≡ 18446744073709551615 → ⊥) → length (auto_text s.title s.config (a.generation + 1)) ≤ max_bytes
     → plan_over s a ≡ Ok (record { title = s.title; config = s.config; unknown = s.unknown; old = a.texts; generation = a.generation })
@@ -81,10 +71,9 @@ old_fault fault.TooLarge file large = let is = large refl in inr (old_some file 
 old_fault fault.OutOfMemory file large = inl tt
 old_fault fault.Device file large = inl tt
 
-pub old_refused : (e : AutoError) (file : Option (List ℕ)) (b : List ℕ) → file ≡ Some b → IsAutoRefusal e (auto_refusal b) → IsGivenUp (of_auto e) ⊎ (old_auto file ≡ Err (of_auto e))
-old_refused (auto.BadAuto line) file b at is = inr (old_some file b _ at is)
-old_refused auto.TooLarge file b at is = inr (old_some file b _ at is)
-old_refused auto.OutOfMemory file b at is = inl tt
+pub old_refused : (e : AutoError) (file : Option (List ℕ)) (b : List ℕ) → file ≡ Some b → IsRefusal auto.OutOfMemory e (auto_refusal b) → IsGivenUp (of_auto e) ⊎ (old_auto file ≡ Err (of_auto e))
+old_refused e file b at (inl memory) = inl (subst (λ x. IsGivenUp (of_auto x)) (sym memory) tt)
+old_refused e file b at (inr is) = inr (old_some file b _ at is)
 
 same_old : (a b : OldAuto) → a.texts ≡ b.texts → a.generation ≡ b.generation → a ≡ b
 same_old a b p q = λ i. record { texts = p i; generation = q i }
@@ -101,15 +90,33 @@ old_none old file at none zero =
 pub names_none : (old : OldTexts) → old.texts ≡ empty → HasNames old.texts
 names_none old none = subst HasNames (sym none) (λ x t is. absurd (not_there x t is))
   where
-    no_texts : NameMap (List ℕ)
+    no_texts : Texts
     no_texts = empty
 
-    not_there : (x t : List ℕ) → get no_texts x ≡ Some t → ⊥
+    not_there : (x : List ℕ) (t : Option Class × List ℕ) → get no_texts x ≡ Some t → ⊥
     not_there x t is = let none : Some t ≡ None = sym is ∙ get-empty (slice_cmp nat_cmp) x in cc
 
 -- the generation of what was read
 pub generation_of : (file : Option (List ℕ)) (a : OldAuto) (r : Result ℕ EngineError) → old_auto file ≡ Ok a → synced_at a ≡ r → last_generation file ≡ r
 generation_of file a r is at = ap (λ o. and_then o synced_at) is ∙ at
+
+-- what is read of an auto.conf where its texts are not
+pub last_refused : (file : Option (List ℕ)) (e : EngineError) → IsGivenUp e ⊎ (old_auto file ≡ Err e) → IsGivenUp e ⊎ (last_generation file ≡ Err e)
+last_refused file e (inl given) = inl given
+last_refused file e (inr bad) = inr (ap (λ o. and_then o synced_at) bad)
+
+pub last_none : (file : Option (List ℕ)) → file ≡ None → last_generation file ≡ Err NeverSynced
+unfolding old_auto
+last_none file at = ap last_generation at
+
+last_read : (file : Option (List ℕ)) (b : List ℕ) (g : ℕ) → file ≡ Some b → auto_refusal b ≡ None → g ≡ auto_generation b → last_generation file ≡ (if nat_eq g 0 then Err NeverSynced else Ok g)
+last_read file b g at fine is = ap (λ o. and_then o synced_at) (old_some file b None at fine) ∙ ap (λ n. if nat_eq n 0 then Err NeverSynced else Ok n) (sym is)
+
+pub last_zero : (file : Option (List ℕ)) (b : List ℕ) (g : ℕ) → file ≡ Some b → auto_refusal b ≡ None → g ≡ auto_generation b → g ≡ 0 → last_generation file ≡ Err NeverSynced
+last_zero file b g at fine is zero = last_read file b g at fine is ∙ ap (λ n. if nat_eq n 0 then Err NeverSynced else Ok n) zero
+
+pub last_some : (file : Option (List ℕ)) (b : List ℕ) (g : ℕ) → file ≡ Some b → auto_refusal b ≡ None → g ≡ auto_generation b → (g ≡ 0 → ⊥) → last_generation file ≡ Ok g
+last_some file b g at fine is some = last_read file b g at fine is ∙ cond-false _ _ _ (ne_eqb g 0 some)
 
 -- ---- the plan of a synchronisation, by its sources and by auto.conf
 

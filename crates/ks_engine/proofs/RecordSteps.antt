@@ -1,25 +1,26 @@
 -- A record goes on with each history that the files show.
-use Rattle.std.proofs.Common.{◌≡◌, ◌⊎◌, inl, inr, ℕ, suc, ◌<◌, ◌≤◌, List, [], ◌∷◌, Option, Some, None, Result, Ok, Err, Bool, true, false, cond, nat_lt, nat_eq, IfOk, IfErr, sym, ◌∙◌, ap, ap₂, refl, subst, arith, length, map}
+use Rattle.std.proofs.Common.{◌≡◌, ◌⊎◌, inl, inr, ⊎_elim, ℕ, suc, ◌<◌, ◌≤◌, List, [], ◌∷◌, Option, Some, None, Result, Ok, Err, Bool, true, false, cond, nat_lt, nat_eq, IfOk, IfErr, sym, ◌∙◌, ap, ap₂, refl, subst, arith, length, map}
 use Rattle.std.proofs.lemmas.Bool.{ltb-false, eqb-false}
 use Rattle.ks_symbols.specs.Lines.{max_bytes}
 use Rattle.ks_fixdep.specs.declared.dependency_file.Role.{Role}
 use Rattle.ks_fixdep.specs.CommandFile.{Record as CommandRecord, command_text}
 use Rattle.ks_fixdep.specs.FoundNames.{names_in, names_of}
 use Rattle.ks_fixdep.specs.Record.{config_names, deps_after, record_of}
-use Rattle.ks_tree.specs.Files.{Files, content}
-use Rattle.ks_tree.specs.Paths.{auto_path, command_path}
+use Rattle.ks_tree.specs.Files.{Files, content, SameButBoth}
+use Rattle.ks_tree.specs.Paths.{auto_path, command_path, command_temporary}
 use Rattle.ks_engine.specs.declared.error.EngineError.{EngineError}
 use Rattle.ks_engine.specs.declared.error.EngineError.TheVariants.{TooLarge, NeverSynced}
 use Rattle.ks_engine.specs.declared.recording.Recorded.{Recorded as Answer}
 use Rattle.ks_engine.specs.Refusals.{and_then}
-use Rattle.ks_engine.specs.History.{History, Recorded, done}
+use Rattle.ks_engine.specs.History.{History, Recorded, done, WasSynced}
 use Rattle.ks_engine.specs.Shows.{Shows, IsCommandFile}
 use Rattle.ks_engine.specs.Follows.{at, FollowsRecord, IsRecordEvent}
 use Rattle.ks_engine.specs.LastSync.{OldAuto, synced_at, last_generation}
 use Rattle.ks_engine.specs.Recording.{words, there, listed, scanned, scanned_all, followed}
 use Rattle.ks_engine.specs.Recorded.{RecordPlan, numbered, drafted, record_plan, IsRecordPlan, IsRecorded, IsRecordTried, IsRecordRefused}
+use Rattle.ks_engine.proofs.Heart.{synced_or_not}
 use Rattle.ks_engine.proofs.LowerLaws.{names_of_record, written_reads}
-use Rattle.ks_engine.proofs.Steps.{auto_read, recorded_shows, untouched_shows}
+use Rattle.ks_engine.proofs.Steps.{auto_read, recorded_shows, unclaimed_shows, untouched_shows}
 
 -- ---- the parts of a plan
 
@@ -162,26 +163,37 @@ plan_records files h d t c header plan shows is =
       };
     }
 
+module _ (old new : Files) (m : ℕ) (h : History) (d t c : List ℕ) (shows : Shows old h) where
+  -- a command file that was written is the newest event, unless the history has no synchronisation yet
+  added : (plan : RecordPlan) → IsRecordPlan old d t c plan → content new (command_path t) ≡ Some (command_text plan.file) → SameButBoth (command_temporary t) (command_path t) old new
+      → WasSynced h ⊎ (WasSynced h → ⊥)
+      → (next : History) × ((WasSynced h × IsRecordEvent (at old m h) t c plan.names next) ⊎ ((WasSynced h → ⊥) × (next ≡ h))) × Shows new next
+  added plan is written others (inl some) =
+      let header = shows.header some in
+      let facts = plan_records old h d t c header.0 plan shows is in (
+        Recorded t c plan.names header.0 h,
+        inl (some, (header.0, header.1, refl)),
+        recorded_shows old new h t c plan.names header.0 (command_text plan.file) shows some header.1 facts.file written others,
+      )
+  added plan is written others (inr none) = (h, inr (none, refl), unclaimed_shows old new h t shows none others)
+
+  after_tried : (tried : IsRecordTried old new d t c) → (content new (command_path t) ≡ content old (command_path t)) ⊎ (content new (command_path t) ≡ Some (command_text tried.plan.file))
+      → (next : History) × ((next ≡ h) ⊎ IsRecordEvent (at old m h) t c tried.plan.names next) × Shows new next
+  after_tried tried (inl kept) = (h, inl refl, untouched_shows old new h t shows kept tried.others)
+  after_tried tried (inr made) =
+      let next = added tried.plan tried.planned made tried.others (synced_or_not h) in
+      (next.0, ⊎_elim (λ claimed. inr claimed.1) (λ same. inl same.1) next.1, next.2)
+
 pub record_follows : (old new : Files) (m n : ℕ) (h : History) (d t c : List ℕ) (r : Result Answer EngineError) → Shows old h → IfOk r (IsRecorded old new d t c) → IfErr r (IsRecordRefused old new d t c)
-    → (next : History) × FollowsRecord (at old m h) d t c r (at new n next) × Shows new next
+    → (next : History) × FollowsRecord d t c r (at old m h) (at new n next) × Shows new next
 record_follows old new m n h d t c (Ok answer) shows ok err =
-    let header_of = plan_records old h d t c [] ok.plan shows ok.planned in
-    let header = shows.header header_of.some in
-    let facts = plan_records old h d t c header.0 ok.plan shows ok.planned in (
-      Recorded t c ok.plan.names header.0 h,
-      record { files = ok; header = header.0; stood = header.1; history = refl; some = facts.some; generation = ok.generation ∙ facts.generation },
-      recorded_shows old new h t c ok.plan.names header.0 (command_text ok.plan.file) shows facts.some header.1 facts.file ok.written ok.others,
+    let facts = plan_records old h d t c [] ok.plan shows ok.planned in
+    let next = added old new m h d t c shows ok.plan ok.planned ok.written ok.others (synced_or_not h) in (
+      next.0,
+      record { files = ok; generation = ok.generation ∙ facts.generation; some = facts.some; history = next.1 },
+      next.2,
     )
 record_follows old new m n h d t c (Err e) shows ok (inl plain) = (h, inl (plain.0, (plain.1, refl)), subst (λ f. Shows f h) (sym plain.1) shows)
 record_follows old new m n h d t c (Err e) shows ok (inr (given, inl same)) = (h, inr (given, inl (same, refl)), subst (λ f. Shows f h) (sym same) shows)
 record_follows old new m n h d t c (Err e) shows ok (inr (given, inr tried)) =
-    let next = after_tried tried tried.either in (next.0, inr (given, inr (tried, next.1)), next.2)
-  where
-    after_tried : (tried : IsRecordTried old new d t c) → (content new (command_path t) ≡ content old (command_path t)) ⊎ (content new (command_path t) ≡ Some (command_text tried.plan.file))
-        → (next : History) × IsRecordEvent (at old m h) t c tried.plan.names next × Shows new next
-    after_tried tried (inl kept) = (h, inl refl, untouched_shows old new h t shows kept tried.others)
-    after_tried tried (inr made) =
-        let header_of = plan_records old h d t c [] tried.plan shows tried.planned in
-        let header = shows.header header_of.some in
-        let facts = plan_records old h d t c header.0 tried.plan shows tried.planned in
-        (Recorded t c tried.plan.names header.0 h, inr (header.0, header.1, refl), recorded_shows old new h t c tried.plan.names header.0 (command_text tried.plan.file) shows facts.some header.1 facts.file made tried.others)
+    let next = after_tried old new m h d t c shows tried tried.either in (next.0, inr (given, inr (tried, next.1)), next.2)

@@ -1,5 +1,5 @@
 -- A run goes on by one action; and what its last history says of each of its steps.
-use Rattle.std.proofs.Common.{◌≡◌, ◌⊎◌, ℕ, ◌+◌, ◌<◌, List, [], ◌∷◌, ◌++◌, ◌∙◌, ap, sym, refl, subst, subst₂, inl, inr, Result, Ok, map, take, length, get_or}
+use Rattle.std.proofs.Common.{◌≡◌, ◌⊎◌, ℕ, ◌+◌, ◌<◌, List, [], ◌∷◌, ◌++◌, ◌∙◌, ap, sym, refl, subst, subst₂, inl, inr, ⊎_elim, Result, Ok, map, take, length, get_or}
 use Rattle.std.specs.List.{All}
 use Rattle.std.proofs.lemmas.List.{take_more, map-append}
 use Rattle.std.proofs.lemmas.List.Elements.{All-nil, All-cons, All-head, All-tail}
@@ -11,7 +11,6 @@ use Rattle.ks_engine.specs.declared.error.EngineError.{EngineError}
 use Rattle.ks_engine.specs.declared.staleness.Verdict.{Verdict as VerdictValue}
 use Rattle.ks_engine.specs.Refusals.{GaveUp}
 use Rattle.ks_engine.specs.History.{History, Synced as SyncedEvent, Broken as BrokenEvent, Recorded as RecordedEvent, Configuration, NoneBroken}
-use Rattle.ks_engine.specs.Legal.{HasConfiguration, HasOneKind}
 use Rattle.ks_engine.specs.Follows.{State}
 use Rattle.ks_engine.specs.Runs.{IsShown, Step, Follows, Leaves, Leads, Run}
 use Rattle.ks_engine.specs.Verdicts.{IsSuspectVerdict, IsChangedVerdict, IsSafeVerdict, IsGivenUpSync}
@@ -28,12 +27,12 @@ pub no_steps : (first : State) → IsShown first → Trace first [] [] first
 no_steps first shown = record { steps = []; actions = refl; replies = refl; leads = refl; shown = shown }
 
 leads_more : (first : State) (steps : List Step) (mid : State) (step : Step) → Leads first steps mid → step.before ≡ mid
-    → Follows step.before step.action step.reply step.after → IsShown step.after → Leads first (steps ++ step ∷ []) step.after
+    → Follows step.action step.reply step.before step.after → IsShown step.after → Leads first (steps ++ step ∷ []) step.after
 leads_more first [] mid step leads begins follows shown = (begins ∙ leads, follows, shown, refl)
 leads_more first (s ∷ ss) mid step leads begins follows shown = (leads.0, leads.1, leads.2, leads_more s.after ss mid step leads.3 begins follows shown)
 
 trace_more : (first : State) (acts : List Action) (rs : List Reply) (mid : State) (a : Action) (r : Reply) (last : State)
-    → Trace first acts rs mid → Follows mid a r last → IsShown last → Trace first (acts ++ a ∷ []) (rs ++ r ∷ []) last
+    → Trace first acts rs mid → Follows a r mid last → IsShown last → Trace first (acts ++ a ∷ []) (rs ++ r ∷ []) last
 trace_more first acts rs mid a r last trace follows shown =
     let step : Step = record { before = mid; action = a; reply = r; after = last } in
     record {
@@ -46,7 +45,7 @@ trace_more first acts rs mid a r last trace follows shown =
 
 -- the same, of the commands up to a place
 pub more : (first : State) (cs : List Command) (i : ℕ) (d : Command) (rs new : List Reply) (mid : State) (r : Reply) (last : State)
-    → i < length cs → Trace first (map action (take i cs)) rs mid → Follows mid (action (get_or cs i d)) r last → IsShown last → new ≡ rs ++ r ∷ []
+    → i < length cs → Trace first (map action (take i cs)) rs mid → Follows (action (get_or cs i d)) r mid last → IsShown last → new ≡ rs ++ r ∷ []
     → Trace first (map action (take (i + 1) cs)) new last
 more first cs i d rs new mid r last test trace follows shown items =
     subst₂ (λ acts qs. Trace first acts qs last)
@@ -72,7 +71,7 @@ goes_on old (Sync k d) (Refused e) new (inr (given, inr (broken, inl event))) = 
 goes_on old (Sync k d) (Refused e) new (inr (given, inr (broken, inr event))) = inr (inl (broken.plan.title, broken.plan.config, event))
 goes_on old (Sync k d) (Recorded answer) new is = absurd is
 goes_on old (Sync k d) (Verdict v) new is = absurd is
-goes_on old (Record d o c) (Recorded answer) new is = inr (inr (inl (o, c, is.files.plan.names, is.header, is.history)))
+goes_on old (Record d o c) (Recorded answer) new is = ⊎_elim (λ claimed. inr (inr (inl (o, c, is.files.plan.names, claimed.1.0, claimed.1.2)))) (λ none. inl none.1) is.history
 goes_on old (Record d o c) (Refused e) new (inl plain) = inl plain.1.1
 goes_on old (Record d o c) (Refused e) new (inr (given, inl same)) = inl same.1
 goes_on old (Record d o c) (Refused e) new (inr (given, inr (tried, inl kept))) = inl kept
@@ -92,21 +91,13 @@ none_before h a r next (inr (inl (t, c, is))) none = subst NoneBroken is none
 none_before h a r next (inr (inr (inl (o, w, names, header, is)))) none = subst NoneBroken is none
 none_before h a r next (inr (inr (inr (given, (t, c, renewed, is))))) none = absurd (subst NoneBroken is none)
 
--- .. has none where no synchronisation was given up, ..
+-- .. and has none where no synchronisation was given up.
 none_after : (h : History) (a : Action) (r : Reply) (next : History) → GoesOn h a r next → (IsGivenUpSync a r → ⊥) → NoneBroken h → NoneBroken next
 unfolding GoesOn
 none_after h a r next (inl same) kept none = subst NoneBroken (sym same) none
 none_after h a r next (inr (inl (t, c, is))) kept none = subst NoneBroken (sym is) none
 none_after h a r next (inr (inr (inl (o, w, names, header, is)))) kept none = subst NoneBroken (sym is) none
 none_after h a r next (inr (inr (inr (given, is)))) kept none = absurd (kept given)
-
--- .. and has its configurations.
-configuration_after : (h : History) (a : Action) (r : Reply) (next : History) → GoesOn h a r next → (d : Configuration) → HasConfiguration h d → HasConfiguration next d
-unfolding GoesOn
-configuration_after h a r next (inl same) d has = subst (λ n. HasConfiguration n d) (sym same) has
-configuration_after h a r next (inr (inl (t, c, is))) d has = subst (λ n. HasConfiguration n d) (sym is) (inr has)
-configuration_after h a r next (inr (inr (inl (o, w, names, header, is)))) d has = subst (λ n. HasConfiguration n d) (sym is) has
-configuration_after h a r next (inr (inr (inr (given, (t, c, renewed, is))))) d has = subst (λ n. HasConfiguration n d) (sym is) (inr has)
 
 -- ---- the same along the steps
 
@@ -124,15 +115,6 @@ none_last first (s ∷ ss) last leads none kept =
     (none_after s.before.history s.action s.reply s.after.history (goes_on s.before s.action s.reply s.after leads.1.leaves) (All-head (λ step. IsGivenUpSync step.action step.reply → ⊥) s ss kept)
     (subst (λ (t : State). NoneBroken t.history) (sym leads.0) none))
     (All-tail (λ step. IsGivenUpSync step.action step.reply → ⊥) s ss kept)
-
-configuration_last : (first : State) (steps : List Step) (last : State) → Leads first steps last → (c : Configuration) → HasConfiguration first.history c → HasConfiguration last.history c
-configuration_last first [] last leads c has = subst (λ (s : State). HasConfiguration s.history c) (sym leads) has
-configuration_last first (s ∷ ss) last leads c has =
-    configuration_last s.after ss last leads.3 c
-    (configuration_after s.before.history s.action s.reply s.after.history (goes_on s.before s.action s.reply s.after leads.1.leaves) c (subst (λ (t : State). HasConfiguration t.history c) (sym leads.0) has))
-
-one_kind_first : (first : State) (steps : List Step) (last : State) → Leads first steps last → HasOneKind last.history → HasOneKind first.history
-one_kind_first first steps last leads one = λ c d has_c has_d. one c d (configuration_last first steps last leads c has_c) (configuration_last first steps last leads d has_d)
 
 -- ---- the verdict of a step
 
@@ -159,13 +141,13 @@ changed_verdict old (Stale o) (Recorded e) new none is = tt
 changed_verdict old (Sync k d) r new none is = tt
 changed_verdict old (Record d o c) r new none is = tt
 
-safe_verdict : (old : State) (a : Action) (r : Reply) (new : State) → HasOneKind old.history → Leaves old a r new → IsSafeVerdict old a r
-safe_verdict old (Stale o) (Verdict v) new one is = λ w last fresh. (is.recorded w last).safe one (ap (λ x. Ok x) fresh)
-safe_verdict old (Stale o) (Refused e) new one is = tt
-safe_verdict old (Stale o) (Synced e) new one is = tt
-safe_verdict old (Stale o) (Recorded e) new one is = tt
-safe_verdict old (Sync k d) r new one is = tt
-safe_verdict old (Record d o c) r new one is = tt
+safe_verdict : (old : State) (a : Action) (r : Reply) (new : State) → Leaves old a r new → IsSafeVerdict old a r
+safe_verdict old (Stale o) (Verdict v) new is = λ w last fresh. (is.recorded w last).safe (ap (λ x. Ok x) fresh)
+safe_verdict old (Stale o) (Refused e) new is = tt
+safe_verdict old (Stale o) (Synced e) new is = tt
+safe_verdict old (Stale o) (Recorded e) new is = tt
+safe_verdict old (Sync k d) r new is = tt
+safe_verdict old (Record d o c) r new is = tt
 
 suspect_all : (first : State) (steps : List Step) (last : State) → Leads first steps last → All (λ step. IsSuspectVerdict step.before.history step.action step.reply) steps
 suspect_all first [] last leads = All-nil _
@@ -180,12 +162,10 @@ changed_all first (s ∷ ss) last leads none =
     (none_before s.before.history s.action s.reply s.after.history (goes_on s.before s.action s.reply s.after leads.1.leaves) (none_first s.after ss last leads.3 none)) leads.1.leaves)
     (changed_all s.after ss last leads.3 none)
 
-safe_all : (first : State) (steps : List Step) (last : State) → Leads first steps last → HasOneKind last.history → All (λ step. IsSafeVerdict step.before step.action step.reply) steps
-safe_all first [] last leads one = All-nil _
-safe_all first (s ∷ ss) last leads one =
-    All-cons (λ step. IsSafeVerdict step.before step.action step.reply) s ss
-    (safe_verdict s.before s.action s.reply s.after (one_kind_first s.before (s ∷ ss) last (refl, leads.1, leads.2, leads.3) one) leads.1.leaves)
-    (safe_all s.after ss last leads.3 one)
+safe_all : (first : State) (steps : List Step) (last : State) → Leads first steps last → All (λ step. IsSafeVerdict step.before step.action step.reply) steps
+safe_all first [] last leads = All-nil _
+safe_all first (s ∷ ss) last leads =
+    All-cons (λ step. IsSafeVerdict step.before step.action step.reply) s ss (safe_verdict s.before s.action s.reply s.after leads.1.leaves) (safe_all s.after ss last leads.3)
 
 -- From the steps alone all is told of the verdicts.
 pub run_of : (first : State) (acts : List Action) (rs : List Reply) (last : State) → Trace first acts rs last → Run first acts rs last
@@ -197,6 +177,6 @@ run_of first acts rs last trace = record {
   shown = trace.shown;
   suspect = suspect_all first trace.steps last trace.leads;
   changed = λ none. changed_all first trace.steps last trace.leads none;
-  safe = λ one. safe_all first trace.steps last trace.leads one;
+  safe = safe_all first trace.steps last trace.leads;
   unbroken = none_last first trace.steps last trace.leads;
 }

@@ -15,18 +15,18 @@ use Rattle.ks_tree.specs.Stamps.{HasNumber, stamp_text}
 use Rattle.ks_engine.specs.declared.error.EngineError.{EngineError}
 use Rattle.ks_engine.specs.declared.error.EngineError.TheVariants.{TooLarge, GenerationFull}
 use Rattle.ks_engine.specs.Refusals.{and_then}
-use Rattle.ks_engine.specs.History.{History, Begun, Synced, Broken, Recorded, Record, Texts, before, done, last_record}
+use Rattle.ks_engine.specs.History.{History, Begun, Synced, Broken, Recorded, Record, Texts, before, done, WasSynced, last_record}
 use Rattle.ks_engine.specs.Legal.{IsSource, IsHistory, MayBeHeader}
 use Rattle.ks_engine.specs.Shows.{Shows, IsAuto, IsCommandFile, stamp}
 use Rattle.ks_engine.specs.Synchronised.{AreChanged, SyncLeaves}
 use Rattle.ks_engine.specs.LastSync.{OldAuto, old_auto}
 use Rattle.ks_engine.specs.SyncPlan.{Sources, Plan, plan_over, IsSyncPlan}
-use Rattle.ks_engine.proofs.Heart.{record_cases}
+use Rattle.ks_engine.proofs.Heart.{record_cases, recorded_synced}
 use Rattle.ks_engine.proofs.LowerLaws.{texts_back, generation_back, accepted, apart, command-injective}
 use Rattle.ks_engine.proofs.Reading.{old_some}
 
 pub done_le : (h : History) → IsHistory h → done h ≤ 18446744073709551615
-done_le (Begun first) is = omega arith
+done_le (Begun texts generation stamps) is = is.0
 done_le (Synced t config past) is = let room = is.2 in omega arith
 done_le (Broken t config renewed past) is = done_le past is.0
 done_le (Recorded o command names header past) is = done_le past is.0
@@ -40,8 +40,8 @@ pub record IsRead (b : Option (List ℕ)) (h : History) : Type 0 where
 
 pub auto_read : (h : History) (b : Option (List ℕ)) → IsHistory h → IsAuto h b → IsRead b h
 unfolding old_auto
-auto_read (Begun first) None legal is = record { auto = record { texts = map.empty; generation = 0 }; reads = refl; texts = sym is; generation = refl }
-auto_read (Begun first) (Some b) legal is = record {
+auto_read (Begun texts generation stamps) None legal is = record { auto = record { texts = map.empty; generation = 0 }; reads = refl; texts = sym is.0; generation = sym is.1 }
+auto_read (Begun texts generation stamps) (Some b) legal is = record {
   auto = record { texts = auto_map b; generation = auto_generation b };
   reads = old_some (Some b) b None refl is.0;
   texts = is.2;
@@ -157,7 +157,7 @@ module _ (old new : Files) (h : History) (plan : Plan) (changed renewed : List (
 
 -- ---- a record
 
-pub recorded_shows : (old new : Files) (h : History) (o command : List ℕ) (names : List (List ℕ)) (header b : List ℕ) → Shows old h → 0 < done h
+pub recorded_shows : (old new : Files) (h : History) (o command : List ℕ) (names : List (List ℕ)) (header b : List ℕ) → Shows old h → WasSynced h
     → content old header_path ≡ Some header → IsCommandFile o (record { command = command; names = names; header = header; past = h }) b
     → content new (command_path o) ≡ Some b → SameButBoth (command_temporary o) (command_path o) old new → Shows new (Recorded o command names header h)
 recorded_shows old new h o command names header b shows some at is written others = record {
@@ -188,6 +188,20 @@ recorded_shows old new h o command names header b shows some at is written other
 
     not_both : (b : Bool) → b ≡ true → b ≡ false → ⊥
     not_both b p q = true≢false (sym p ∙ q)
+
+-- ---- a record before the first synchronisation of a history, which has no recorded objects
+
+pub unclaimed_shows : (old new : Files) (h : History) (o : List ℕ) → Shows old h → (WasSynced h → ⊥) → SameButBoth (command_temporary o) (command_path o) old new → Shows new h
+unclaimed_shows old new h o shows none others = record {
+  history = shows.history;
+  auto = subst (IsAuto h) (sym (kept AutoConf tt (λ e. cc) (λ e. cc))) shows.auto;
+  header = λ some. absurd (none some);
+  stamps = λ x name. subst (λ file. HasNumber file (stamp h x)) (sym (kept (Stamp x) name (λ e. cc) (λ e. cc))) (shows.stamps x name);
+  commands = λ p r last. absurd (none (recorded_synced h p r shows.history last).1);
+}
+  where
+    kept : (q : Place) → IsLegalPlace q → (q ≡ CommandFile o → ⊥) → (q ≡ CommandTemporary o → ⊥) → content new (path_of q) ≡ content old (path_of q)
+    kept q legal file temporary = others (path_of q) (apart q (CommandTemporary o) legal tt temporary) (apart q (CommandFile o) legal tt file)
 
 -- ---- a call that leaves all but the temporary files of a record
 

@@ -1,12 +1,14 @@
 -- What each call does to the files of a tree and to its history.
 use Rattle.std.specs.Prelude.{◌≡◌, ◌⊎◌, ℕ, ◌<◌, List, Some, Result, Ok, Err}
+use Rattle.ks_tree.specs.declared.tree.Tree.{Ghosts}
 use Rattle.ks_tree.specs.Files.{Files, content}
 use Rattle.ks_engine.specs.declared.error.EngineError.{EngineError}
 use Rattle.ks_tree.specs.Paths.{header_path}
 use Rattle.ks_engine.specs.declared.recording.Recorded.{Recorded as RecordAnswer}
 use Rattle.ks_engine.specs.declared.synchronise.Report.{Report}
 use Rattle.ks_engine.specs.Refusals.{IsGivenUp}
-use Rattle.ks_engine.specs.History.{History, Synced, Broken, Recorded, before, done}
+use Rattle.ks_engine.specs.History.{History, Synced, Broken, Recorded, before, done, WasSynced}
+use Rattle.ks_engine.specs.Shows.{Shows}
 use Rattle.ks_engine.specs.Recorded.{record_plan, IsRecorded, IsRecordTried}
 use Rattle.ks_engine.specs.Synchronised.{AreChanged, IsSynced, IsBrokenOff}
 use Rattle.ks_engine.specs.SyncPlan.{Plan, IsSyncPlan}
@@ -19,6 +21,12 @@ pub record State : Type 0 where
 
 abbrev pub at : Files → ℕ → History → State
 at files failures history = record { files = files; failures = failures; history = history }
+
+-- From each history that the files of an honest tree show there is a next one by this relation, and the files then show it.
+abbrev pub GoesOn : {T : Type 0} → Ghosts T → T → T → (State → State → Type 0) → Type 0
+GoesOn tree old new follows =
+    tree.is_honest → (h : History) → Shows (tree.files old) h → (next : History)
+    × follows (at (tree.files old) (tree.failures old) h) (at (tree.files new) (tree.failures new) next) × Shows (tree.files new) next
 
 -- neither the files nor the history have changed
 abbrev pub IsSame : State → State → Type 0
@@ -37,30 +45,29 @@ pub record FollowsSynced (old : State) (kconfig dotconfig : List ℕ) (report : 
 abbrev pub IsBrokenEvent : History → Plan → List (List ℕ) → History → Type 0
 IsBrokenEvent past plan renewed next = (next ≡ Broken plan.title plan.config renewed past) ⊎ (next ≡ Synced plan.title plan.config past)
 
-abbrev pub FollowsSync : State → List ℕ → List ℕ → Result Report EngineError → State → Type 0
-FollowsSync old kconfig dotconfig (Ok report) new = FollowsSynced old kconfig dotconfig report new
-FollowsSync old kconfig dotconfig (Err e) new =
+abbrev pub FollowsSync : List ℕ → List ℕ → Result Report EngineError → State → State → Type 0
+FollowsSync kconfig dotconfig (Ok report) old new = FollowsSynced old kconfig dotconfig report new
+FollowsSync kconfig dotconfig (Err e) old new =
     (IsSyncPlan old.files kconfig dotconfig (Err e) × IsSame old new)
     ⊎ (IsGivenUp e × (IsSame old new ⊎ ((broken : IsBrokenOff old.files new.files kconfig dotconfig) × IsBrokenEvent old.history broken.plan broken.some.0 new.history)))
 
 -- ---- recording
 
--- The object, its command and its names are the newest event, with the header as it stood, under the last generation.
-pub record FollowsRecorded (old : State) (depfile target command : List ℕ) (answer : RecordAnswer) (new : State) : Type 0 where
-  pub files : IsRecorded old.files new.files depfile target command answer
-  pub header : List ℕ
-  pub stood : content old.files header_path ≡ Some header
-  pub history : new.history ≡ Recorded target command files.plan.names header old.history
-  pub some : 0 < done old.history
-  pub generation : answer.generation ≡ done old.history
-
--- One that was given up at the write has left the old command file, or is recorded.
+-- The object, its command and its names are the newest event, with the header as it stood.
 abbrev pub IsRecordEvent : State → List ℕ → List ℕ → List (List ℕ) → History → Type 0
 IsRecordEvent old target command names next =
-    (next ≡ old.history) ⊎ ((header : List ℕ) × (content old.files header_path ≡ Some header) × (next ≡ Recorded target command names header old.history))
+    (header : List ℕ) × (content old.files header_path ≡ Some header) × (next ≡ Recorded target command names header old.history)
 
-abbrev pub FollowsRecord : State → List ℕ → List ℕ → List ℕ → Result RecordAnswer EngineError → State → Type 0
-FollowsRecord old depfile target command (Ok answer) new = FollowsRecorded old depfile target command answer new
-FollowsRecord old depfile target command (Err e) new =
+-- It is recorded under the last generation. Before the first synchronisation of its history it is not claimed: no event is added.
+pub record FollowsRecorded (old : State) (depfile target command : List ℕ) (answer : RecordAnswer) (new : State) : Type 0 where
+  pub files : IsRecorded old.files new.files depfile target command answer
+  pub generation : answer.generation ≡ done old.history
+  pub some : 0 < done old.history
+  pub history : (WasSynced old.history × IsRecordEvent old target command files.plan.names new.history) ⊎ ((WasSynced old.history → ⊥) × (new.history ≡ old.history))
+
+-- One that was given up at the write has left the old command file, or is recorded.
+abbrev pub FollowsRecord : List ℕ → List ℕ → List ℕ → Result RecordAnswer EngineError → State → State → Type 0
+FollowsRecord depfile target command (Ok answer) old new = FollowsRecorded old depfile target command answer new
+FollowsRecord depfile target command (Err e) old new =
     ((record_plan old.files depfile target command ≡ Err e) × IsSame old new)
-    ⊎ (IsGivenUp e × (IsSame old new ⊎ ((tried : IsRecordTried old.files new.files depfile target command) × IsRecordEvent old target command tried.plan.names new.history)))
+    ⊎ (IsGivenUp e × (IsSame old new ⊎ ((tried : IsRecordTried old.files new.files depfile target command) × ((new.history ≡ old.history) ⊎ IsRecordEvent old target command tried.plan.names new.history))))

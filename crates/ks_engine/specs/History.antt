@@ -1,6 +1,7 @@
 -- Histories of a tree: which synchronisations were completed or broken off, and which objects were recorded between them.
-use Rattle.std.specs.Prelude.{ℕ, ◌+◌, List, Option, Some, None, bytes_eq, if◌then◌else◌}
+use Rattle.std.specs.Prelude.{ℕ, ◌+◌, List, Option, Some, None, ⊤, bytes_eq, if◌then◌else◌}
 use Rattle.ks_symbols.specs.declared.kinds.Kind.{Kind}
+use Rattle.ks_symbols.specs.declared.kinds.Class.{Class}
 use Rattle.ks_symbols.specs.Configuration.{NameMap}
 use Rattle.ks_output.specs.OldConfig.{texts_of}
 
@@ -8,13 +9,13 @@ use Rattle.ks_output.specs.OldConfig.{texts_of}
 abbrev pub Configuration : Type 0
 Configuration = NameMap (Kind × List ℕ)
 
--- what an auto.conf keeps of one: from names to texts
+-- what an auto.conf keeps of one: from names to classes and texts
 abbrev pub Texts : Type 0
-Texts = NameMap (List ℕ)
+Texts = NameMap (Option Class × List ℕ)
 
--- The texts at first, and the events since, the newest outermost.
+-- What stood at first, the texts and the generation of auto.conf and the numbers of the stamps, and the events since, the newest outermost.
 pub data History : Type 0 where
-  Begun : (first : Texts) → History
+  Begun : (texts : Texts) (generation : ℕ) (stamps : List ℕ → ℕ) → History
   -- a synchronisation that replaced auto.conf
   Synced : (title : List ℕ) (config : Configuration) (past : History) → History
   -- one that was broken off before that, and had renewed the stamps of these names
@@ -22,19 +23,26 @@ pub data History : Type 0 where
   -- an object and the command that builds it, with the names found in its dependencies, and the header at that time
   Recorded : (object command : List ℕ) (names : List (List ℕ)) (header : List ℕ) (past : History) → History
 
--- the texts of the last completed synchronisation
+-- the texts of the last completed synchronisation, or those at first
 abbrev pub before : History → Texts
-before (Begun first) = first
+before (Begun texts generation stamps) = texts
 before (Synced title config past) = texts_of config
 before (Broken title config renewed past) = before past
 before (Recorded object command names header past) = before past
 
--- how many synchronisations were completed
+-- the generation: the one at first, and how many synchronisations were completed since
 abbrev pub done : History → ℕ
-done (Begun first) = 0
+done (Begun texts generation stamps) = generation
 done (Synced title config past) = done past + 1
 done (Broken title config renewed past) = done past
 done (Recorded object command names header past) = done past
+
+-- a synchronisation was completed
+abbrev pub WasSynced : History → Type 0
+WasSynced (Begun texts generation stamps) = ⊥
+WasSynced (Synced title config past) = ⊤
+WasSynced (Broken title config renewed past) = WasSynced past
+WasSynced (Recorded object command names header past) = WasSynced past
 
 -- the last record of an object, and what was before it
 pub record Record : Type 0 where
@@ -44,7 +52,7 @@ pub record Record : Type 0 where
   pub past : History
 
 abbrev pub last_record : History → List ℕ → Option Record
-last_record (Begun first) o = None
+last_record (Begun texts generation stamps) o = None
 last_record (Synced title config past) o = last_record past o
 last_record (Broken title config renewed past) o = last_record past o
 last_record (Recorded object command names header past) o =
@@ -52,7 +60,7 @@ last_record (Recorded object command names header past) o =
 
 -- no synchronisation was broken off
 abbrev pub NoneBroken : History → Type 0
-NoneBroken (Begun first) = Unit {0}
+NoneBroken (Begun texts generation stamps) = Unit {0}
 NoneBroken (Synced title config past) = NoneBroken past
 NoneBroken (Broken title config renewed past) = ⊥
 NoneBroken (Recorded object command names header past) = NoneBroken past

@@ -12,7 +12,6 @@ use Rattle.ks_engine.specs.declared.staleness.BuildState.TheVariants.{CommandDif
 use Rattle.ks_engine.specs.Refusals.{GaveUp}
 use Rattle.ks_engine.specs.History.{History, Record, last_record, NoneBroken}
 use Rattle.ks_engine.specs.Staleness.{first_changed, first_suspect, verdict}
-use Rattle.ks_engine.specs.Legal.{HasOneKind}
 use Rattle.ks_engine.specs.Shows.{Shows}
 use Rattle.ks_engine.specs.Built.{judged}
 
@@ -25,8 +24,8 @@ pub record IsJudged (files : Files) (h : History) (o : List ℕ) (r : Record) (a
   pub suspect : GaveUp answer ⊎ (answer ≡ Ok (verdict (first_suspect h o)))
   -- Where no synchronisation was broken off, that is the first that one of them changed since the record.
   pub changed : NoneBroken h → GaveUp answer ⊎ (answer ≡ Ok (verdict (first_changed h o)))
-  -- Where it is fresh, and no name has two kinds, its names are defined as at its record.
-  pub safe : HasOneKind h → answer ≡ Ok Fresh → HasSameDefinitions files r
+  -- Where it is fresh, its names are defined as at its record.
+  pub safe : answer ≡ Ok Fresh → HasSameDefinitions files r
 
 -- of each object that is recorded in a history that the files show
 abbrev pub JudgesRecorded : Files → List ℕ → Result Verdict EngineError → Type 0

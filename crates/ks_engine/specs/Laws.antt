@@ -1,5 +1,5 @@
 -- Laws of the definitions: which trees show a history without events, that a synchronisation has one plan, and that a suspicion has a cause.
-use Rattle.std.specs.Prelude.{◌≡◌, ◌⊎◌, ℕ, ◌≤◌, List, Some, Result, true, IsTrue}
+use Rattle.std.specs.Prelude.{◌≡◌, ◌⊎◌, ℕ, ◌+◌, ◌≤◌, List, Some, Result, true, IsTrue}
 use Rattle.std.specs.FinMap.{empty}
 use Rattle.ks_symbols.specs.Names.{is_name}
 use Rattle.ks_tree.specs.Files.{Files, content}
@@ -15,13 +15,20 @@ use Rattle.ks_engine.specs.SyncPlan.{Plan, IsSyncPlan}
 
 -- An empty tree shows a history that begins with no texts, ..
 abbrev pub EmptyTreeShows : Type 0
-EmptyTreeShows = Shows empty (Begun empty)
+EmptyTreeShows = Shows empty (Begun empty 0 (λ x. 0))
 
--- .. and a tree of the usual tool one that begins with the texts of its auto.conf: its stamps are empty.
+-- .. a tree of the usual tool one that begins with the texts of its auto.conf: its stamps are empty; ..
 abbrev pub UsualTreeShows : Type 0
 UsualTreeShows =
-    (files : Files) (first : Texts) → IsFirstAuto first (content files auto_path)
-    → ((x : List ℕ) → IsTrue (is_name x) → HasNumber (content files (stamp_path x)) 0) → Shows files (Begun first)
+    (files : Files) (texts : Texts) → IsFirstAuto texts 0 (content files auto_path)
+    → ((x : List ℕ) → IsTrue (is_name x) → HasNumber (content files (stamp_path x)) 0) → Shows files (Begun texts 0 (λ x. 0))
+
+-- .. and a tree that synchronisations of the untyped form left, completed or broken off anywhere, one that begins with the generation of its auto.conf.
+abbrev pub UntypedTreeShows : Type 0
+UntypedTreeShows =
+    (files : Files) (texts : Texts) (generation : ℕ) (stamps : List ℕ → ℕ) → IsFirstAuto texts generation (content files auto_path)
+    → ((x : List ℕ) → stamps x ≤ generation + 1) → ((x : List ℕ) → IsTrue (is_name x) → HasNumber (content files (stamp_path x)) (stamps x))
+    → Shows files (Begun texts generation stamps)
 
 -- The files and the two texts determine what a synchronisation comes to: it has a plan or is refused, and for one reason.
 abbrev pub PlansAreOne : Type 0
@@ -30,7 +37,7 @@ PlansAreOne =
 
 -- A synchronisation, completed or broken off, that began when g or more were completed, and whose configuration differs at x from the last of these.
 abbrev pub HasChangeBehind : ℕ → List ℕ → History → Type 0
-HasChangeBehind g x (Begun first) = ⊥
+HasChangeBehind g x (Begun texts generation stamps) = ⊥
 HasChangeBehind g x (Synced title config past) = ((g ≤ done past) × (differs (before past) config x ≡ true)) ⊎ HasChangeBehind g x past
 HasChangeBehind g x (Broken title config renewed past) = ((g ≤ done past) × (differs (before past) config x ≡ true)) ⊎ HasChangeBehind g x past
 HasChangeBehind g x (Recorded object command names header past) = HasChangeBehind g x past

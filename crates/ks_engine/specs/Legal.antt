@@ -1,11 +1,10 @@
 -- Which histories there are, and the headers that may stand after them.
-use Rattle.std.specs.Prelude.{◌≡◌, ◌⊎◌, ℕ, ◌<◌, List, true, IsTrue}
+use Rattle.std.specs.Prelude.{◌≡◌, ◌⊎◌, ℕ, ◌+◌, ◌<◌, ◌≤◌, List, true, IsTrue}
 use Rattle.ks_symbols.specs.Configuration.{IsConfiguration}
 use Rattle.ks_symbols.specs.Titles.{is_title}
 use Rattle.ks_output.specs.Header.{header_text}
-use Rattle.ks_output.specs.HeaderLaws.{HasOneClass}
 use Rattle.ks_compare.specs.Changes.{differs, is_in}
-use Rattle.ks_engine.specs.History.{History, Begun, Synced, Broken, Recorded, Configuration, Texts, before, done}
+use Rattle.ks_engine.specs.History.{History, Begun, Synced, Broken, Recorded, Configuration, Texts, before, done, WasSynced}
 
 -- The stamp of each changed name was renewed.
 abbrev pub AreAllRenewed : List (List ℕ) → Texts → Configuration → Type 0
@@ -13,7 +12,7 @@ AreAllRenewed renewed old new = (x : List ℕ) → differs old new x ≡ true �
 
 -- The header is that of the last completed synchronisation, or of one that was broken off behind it with all stamps renewed.
 abbrev pub MayBeHeader : History → List ℕ → Type 0
-MayBeHeader (Begun first) b = ⊥
+MayBeHeader (Begun texts generation stamps) b = ⊥
 MayBeHeader (Synced title config past) b = b ≡ header_text title config
 MayBeHeader (Broken title config renewed past) b = (AreAllRenewed renewed (before past) config × (b ≡ header_text title config)) ⊎ MayBeHeader past b
 MayBeHeader (Recorded object command names header past) b = MayBeHeader past b
@@ -23,20 +22,9 @@ pub record IsSource (t : List ℕ) (c : Configuration) : Type 0 where
   pub title : IsTrue (is_title t)
   pub config : IsConfiguration c
 
--- A broken synchronisation renewed only names that it changes. A record stands behind a completed one, and its header is one of that time.
+-- At first a synchronisation may have been broken off, so no stamp is above the next generation. One in the history renewed only names that it changes. A record stands behind a completed one, and its header is one of that time.
 abbrev pub IsHistory : History → Type 0
-IsHistory (Begun first) = Unit {0}
+IsHistory (Begun texts generation stamps) = (generation ≤ 18446744073709551615) × ((x : List ℕ) → stamps x ≤ generation + 1)
 IsHistory (Synced title config past) = IsHistory past × IsSource title config × (done past < 18446744073709551615)
 IsHistory (Broken title config renewed past) = IsHistory past × IsSource title config × ((x : List ℕ) → is_in renewed x ≡ true → differs (before past) config x ≡ true)
-IsHistory (Recorded object command names header past) = IsHistory past × (0 < done past) × MayBeHeader past header
-
--- a configuration of one of the synchronisations
-abbrev pub HasConfiguration : History → Configuration → Type 0
-HasConfiguration (Begun first) c = ⊥
-HasConfiguration (Synced title config past) c = (c ≡ config) ⊎ HasConfiguration past c
-HasConfiguration (Broken title config renewed past) c = (c ≡ config) ⊎ HasConfiguration past c
-HasConfiguration (Recorded object command names header past) c = HasConfiguration past c
-
--- No name has two kinds, where bool and tristate count as one.
-abbrev pub HasOneKind : History → Type 0
-HasOneKind h = (c d : Configuration) → HasConfiguration h c → HasConfiguration h d → (x : List ℕ) → HasOneClass c d x
+IsHistory (Recorded object command names header past) = IsHistory past × WasSynced past × MayBeHeader past header

@@ -9,6 +9,7 @@ pub mod Asked
 pub mod Built
 pub mod Judged
 pub mod Recording
+pub mod Memos
 pub mod Recorded
 pub mod Shows
 pub mod Views
@@ -17,4 +18,5 @@ pub mod Follows
 pub mod Actions
 pub mod Verdicts
 pub mod Runs
+pub mod OtherRecords
 pub mod Laws

@@ -1,5 +1,5 @@
 -- Runs: actions with their replies, and the states between them.
-use Rattle.std.specs.Prelude.{◌≡◌, ◌⊎◌, ℕ, List, [], ◌∷◌, Some, Result, Ok, Err, map}
+use Rattle.std.specs.Prelude.{◌≡◌, ◌⊎◌, ◌≤◌, ℕ, List, [], ◌∷◌, Some, Result, Ok, Err, map}
 use Rattle.std.specs.List.{All}
 use Rattle.ks_tree.specs.Files.{HasRisen}
 use Rattle.ks_engine.specs.declared.error.EngineError.{EngineError}
@@ -9,7 +9,6 @@ use Rattle.ks_engine.specs.declared.commands.Reply.{Reply}
 use Rattle.ks_engine.specs.declared.commands.Reply.TheVariants.{Synced, Recorded, Verdict, Refused}
 use Rattle.ks_engine.specs.Refusals.{GaveUp}
 use Rattle.ks_engine.specs.History.{Record as LastRecord, last_record, NoneBroken}
-use Rattle.ks_engine.specs.Legal.{HasOneKind}
 use Rattle.ks_engine.specs.Shows.{Shows}
 use Rattle.ks_engine.specs.Asked.{asked, IsAnswer}
 use Rattle.ks_engine.specs.Judged.{IsJudged}
@@ -28,17 +27,18 @@ pub record FollowsStale (old : State) (o : List ℕ) (answer : Result VerdictVal
 
 -- the state after an action, by its reply
 abbrev pub Leaves : State → Action → Reply → State → Type 0
-Leaves old (Sync kconfig dotconfig) (Synced report) new = FollowsSync old kconfig dotconfig (Ok report) new
-Leaves old (Sync kconfig dotconfig) (Refused e) new = FollowsSync old kconfig dotconfig (Err e) new
-Leaves old (Record depfile target command) (Recorded answer) new = FollowsRecord old depfile target command (Ok answer) new
-Leaves old (Record depfile target command) (Refused e) new = FollowsRecord old depfile target command (Err e) new
+Leaves old (Sync kconfig dotconfig) (Synced report) new = FollowsSync kconfig dotconfig (Ok report) old new
+Leaves old (Sync kconfig dotconfig) (Refused e) new = FollowsSync kconfig dotconfig (Err e) old new
+Leaves old (Record depfile target command) (Recorded answer) new = FollowsRecord depfile target command (Ok answer) old new
+Leaves old (Record depfile target command) (Refused e) new = FollowsRecord depfile target command (Err e) old new
 Leaves old (Stale target) (Verdict v) new = FollowsStale old target (Ok v) new
 Leaves old (Stale target) (Refused e) new = FollowsStale old target (Err e) new
 Leaves old _ _ new = ⊥
 
--- .. and the device is to blame only where a failure was counted
-pub record Follows (old : State) (action : Action) (reply : Reply) (new : State) : Type 0 where
+-- .. where the count of failures never fell, and the device is to blame only where it rose
+pub record Follows (action : Action) (reply : Reply) (old new : State) : Type 0 where
   pub leaves : Leaves old action reply new
+  pub later : old.failures ≤ new.failures
   pub cause : reply ≡ Refused Device → HasRisen old.failures new.failures
 
 -- one action, with the states around it
@@ -52,7 +52,7 @@ pub record Step : Type 0 where
 abbrev pub Leads : State → List Step → State → Type 0
 Leads first [] last = last ≡ first
 Leads first (step ∷ steps) last =
-    (step.before ≡ first) × Follows step.before step.action step.reply step.after × IsShown step.after × Leads step.after steps last
+    (step.before ≡ first) × Follows step.action step.reply step.before step.after × IsShown step.after × Leads step.after steps last
 
 -- A run of actions with these replies: the steps, and what holds of the verdicts among them.
 pub record Run (first : State) (asked : List Action) (answered : List Reply) (last : State) : Type 0 where
@@ -65,7 +65,7 @@ pub record Run (first : State) (asked : List Action) (answered : List Reply) (la
   pub suspect : All (λ step. IsSuspectVerdict step.before.history step.action step.reply) steps
   -- where no synchronisation was broken off
   pub changed : NoneBroken last.history → All (λ step. IsChangedVerdict step.before.history step.action step.reply) steps
-  -- where no name has two kinds
-  pub safe : HasOneKind last.history → All (λ step. IsSafeVerdict step.before step.action step.reply) steps
+  -- and of each that is fresh the header defines the names as at its record
+  pub safe : All (λ step. IsSafeVerdict step.before step.action step.reply) steps
   -- and none was broken off where no synchronisation was given up
   pub unbroken : NoneBroken first.history → All (λ step. IsGivenUpSync step.action step.reply → ⊥) steps → NoneBroken last.history

@@ -15,14 +15,14 @@ found h o = names_of (last_record h o)
 
 -- whether x was found at the last record of o, and a synchronisation completed since then changed it
 abbrev pub changed_since : History → List ℕ → List ℕ → Bool
-changed_since (Begun first) o x = false
+changed_since (Begun texts generation stamps) o x = false
 changed_since (Synced title config past) o x = (is_in (found past o) x && differs (before past) config x) || changed_since past o x
 changed_since (Broken title config renewed past) o x = changed_since past o x
 changed_since (Recorded object command names header past) o x = if bytes_eq object o then false else changed_since past o x
 
 -- whether a broken synchronisation since the last completed one renewed the stamp of x
 abbrev pub renewed_since_sync : History → List ℕ → Bool
-renewed_since_sync (Begun first) x = false
+renewed_since_sync (Begun texts generation stamps) x = false
 renewed_since_sync (Synced title config past) x = false
 renewed_since_sync (Broken title config renewed past) x = is_in renewed x || renewed_since_sync past x
 renewed_since_sync (Recorded object command names header past) x = renewed_since_sync past x
@@ -30,7 +30,7 @@ renewed_since_sync (Recorded object command names header past) x = renewed_since
 -- Whether x was found at the last record of o, and was touched since: changed by a completed synchronisation, or renewed by a broken one,
 -- where those count as well that were broken off after the last completed synchronisation before the record.
 abbrev pub suspect_since : History → List ℕ → List ℕ → Bool
-suspect_since (Begun first) o x = false
+suspect_since (Begun texts generation stamps) o x = false
 suspect_since (Synced title config past) o x = (is_in (found past o) x && differs (before past) config x) || suspect_since past o x
 suspect_since (Broken title config renewed past) o x = (is_in (found past o) x && is_in renewed x) || suspect_since past o x
 suspect_since (Recorded object command names header past) o x = if bytes_eq object o then is_in names x && renewed_since_sync past x else suspect_since past o x

@@ -1,12 +1,13 @@
 -- Values of the code as the definitions have them.
-use Rattle.std.specs.Prelude.{◌≡◌, ℕ, ◌+◌, List, Some, Ok}
+use Rattle.std.specs.Prelude.{◌≡◌, ◌≢◌, ℕ, ◌+◌, List, Option, Some, None, Ok}
 use Rattle.ks_symbols.specs.declared.error.SourceError.{SourceError}
 use Rattle.ks_output.specs.AutoText.{auto_text}
 use Rattle.ks_output.specs.Header.{header_text}
 use Rattle.ks_output.specs.OldConfig.{OldTexts}
 use Rattle.ks_tree.specs.Files.{Files}
 use Rattle.ks_engine.specs.declared.error.EngineError.{EngineError}
-use Rattle.ks_engine.specs.declared.synchronise.Sources.{Sources as SourceValues}
+use Rattle.ks_engine.specs.declared.planning.Sources.{Sources as SourceValues}
+use Rattle.ks_engine.specs.declared.synchronise.Report.{Report}
 use Rattle.ks_engine.specs.declared.synchronise.Work.{Work}
 use Rattle.ks_engine.specs.Refusals.{of_source}
 use Rattle.ks_engine.specs.Synchronised.{AreChanged}
@@ -17,11 +18,22 @@ abbrev pub old_of : OldTexts → OldAuto
 old_of old = record { texts = old.texts; generation = old.generation }
 
 abbrev pub sources_of : SourceValues → Sources
-sources_of s = record { title = s.symbols.title; config = s.settings.entries; unknown = s.settings.unknown }
+sources_of s = record { title = s.title.items; config = s.settings.entries; unknown = s.settings.unknown }
 
 -- the refusal of the two texts
 abbrev pub IsSourceRefusal : List ℕ → List ℕ → EngineError → Type 0
 IsSourceRefusal kconfig dotconfig e = (refusal : SourceError) × (source_refusal kconfig dotconfig ≡ Some refusal) × (e ≡ of_source refusal)
+
+-- what is reported over an old auto.conf
+pub record Reports (s : Sources) (old : OldAuto) (report : Report) : Type 0 where
+  pub room : old.generation ≢ 18446744073709551615
+  pub generation : report.generation ≡ old.generation + 1
+  pub unknown : report.unknown ≡ s.unknown
+  pub changed : AreChanged old.texts s.config report.touched.items
+
+abbrev pub PlansOver : Sources → OldAuto → Option Report → Type 0
+PlansOver s old None = old.generation ≡ 18446744073709551615
+PlansOver s old (Some report) = Reports s old report
 
 -- the work of a plan: its changes and its texts
 pub record IsWork (plan : Plan) (work : Work) : Type 0 where

@@ -1,12 +1,15 @@
 //! Runs of commands: what a build asks of a tree, in order, and one reply for each.
-ghost use Rattle.std.specs.Prelude.{◌≡◌, ◌↔◌, IfOk, OnErr, map, length};
+ghost use Rattle.std.specs.Prelude.{◌≡◌, ◌≤◌, IfOk, OnErr, map, length};
 ghost use Rattle.ks_engine.specs.History.{History};
 ghost use Rattle.ks_engine.specs.Shows.{Shows};
-ghost use Rattle.ks_engine.specs.Follows.{at};
+ghost use Rattle.ks_engine.specs.Follows.{GoesOn, at};
 ghost use Rattle.ks_engine.specs.Actions.{action};
+ghost use Rattle.ks_engine.specs.Memos.{IsMemoOf};
 ghost use Rattle.ks_engine.specs.Runs.{Follows, Run};
 
-use crate::{EngineError, Recorded, Report, Verdict, record_object, stale, sync};
+use crate::memos::Memo;
+use crate::recording::record_by;
+use crate::{EngineError, Recorded, Report, Verdict, stale_by, sync};
 use ks_tree::Tree;
 use std::alloc::{AllocError, Global};
 
@@ -37,26 +40,29 @@ pub enum Reply {
 }
 
 /// Answers one command.
-fn answer<T: Tree>(alloc: Global, tree: &mut T, command: &Command<'_>) -> Reply
-    ensures honest { T.is_honest tree.old ↔ T.is_honest tree.new }
-    ensures follows { T.is_honest tree.old → (h : History) → Shows (T.files tree.old) h → (next : History)
-        × Follows (at (T.files tree.old) (T.failures tree.old) h) (action command.now) result (at (T.files tree.new) (T.failures tree.new) next)
-        × Shows (T.files tree.new) next }
+fn answer<T: Tree>(alloc: Global, tree: &mut T, memo: &mut Memo, command: &Command<'_>) -> Reply
+    requires memo { T.is_honest → IsMemoOf (T.files tree.old) memo.old }
+    ensures memo { T.is_honest → IsMemoOf (T.files tree.new) memo.new }
+    ensures follows { GoesOn T.Tree tree.old tree.new (Follows (action command.now) result) }
+    ensures later { T.failures tree.old ≤ T.failures tree.new }
 {
     match command {
-        Command::Sync { kconfig, dotconfig } => match sync(alloc, tree, kconfig, dotconfig) {
-            Ok(report) => Reply::Synced(report),
-            Err(error) => Reply::Refused(error),
-        },
+        Command::Sync { kconfig, dotconfig } => {
+            memo.clear();
+            match sync(alloc, tree, kconfig, dotconfig) {
+                Ok(report) => Reply::Synced(report),
+                Err(error) => Reply::Refused(error),
+            }
+        }
         Command::Record {
             depfile,
             target,
             command,
-        } => match record_object(alloc, tree, depfile, target, command) {
+        } => match record_by(alloc, tree, memo, depfile, target, command) {
             Ok(recorded) => Reply::Recorded(recorded),
             Err(error) => Reply::Refused(error),
         },
-        Command::Stale { target } => match stale(alloc, tree, target) {
+        Command::Stale { target } => match stale_by(alloc, tree, memo, target) {
             Ok(verdict) => Reply::Verdict(verdict),
             Err(error) => Reply::Refused(error),
         },
@@ -69,16 +75,17 @@ pub fn run<T: Tree>(
     tree: &mut T,
     commands: &[Command<'_>],
 ) -> Result<Vec<Reply>, AllocError>
-    ensures honest { T.is_honest tree.old ↔ T.is_honest tree.new }
     // From each history that the files show there is a run with these replies, and the files show its last history.
-    ensures runs { T.is_honest tree.old → (h : History) → Shows (T.files tree.old) h → IfOk result (λ replies. (last : History)
+    ensures runs { T.is_honest → (h : History) → Shows (T.files tree.old) h → IfOk result (λ replies. (last : History)
         × Run (at (T.files tree.old) (T.failures tree.old) h) (map action commands.now) replies.items (at (T.files tree.new) (T.failures tree.new) last)) }
     ensures each { IfOk result (λ replies. length replies.items ≡ length commands.now) }
-    ensures unchanged { T.is_honest tree.old → OnErr result (T.files tree.new ≡ T.files tree.old) }
+    ensures unchanged { T.is_honest → OnErr result (T.files tree.new ≡ T.files tree.old) }
+    ensures later { T.failures tree.old ≤ T.failures tree.new }
 {
     let mut replies = Vec::with_capacity(alloc, commands.len())?;
+    let mut memo = Memo::new(alloc);
     for command in commands {
-        let reply = answer(alloc, tree, command);
+        let reply = answer(alloc, tree, &mut memo, command);
         replies.push(reply).unwrap();
     }
     Ok(replies)

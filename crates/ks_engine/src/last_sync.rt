@@ -2,25 +2,23 @@
 //! as well, unless a synchronisation was broken off behind it.
 ghost use Rattle.std.specs.Prelude.{◌≡◌, ◌⊎◌, ◌↔◌, ◌≤◌, IfOk, IsErrOf};
 ghost use Rattle.ks_output.specs.OldConfig.{HasNames};
-ghost use Rattle.ks_tree.specs.Files.{content, HasRisen};
+ghost use Rattle.ks_tree.specs.Frames.{Reads};
+ghost use Rattle.ks_tree.specs.Files.{content};
 ghost use Rattle.ks_tree.specs.Paths.{auto_path};
 ghost use Rattle.ks_engine.specs.Refusals.{Answers};
 ghost use Rattle.ks_engine.specs.LastSync.{old_auto, last_generation};
 ghost use Rattle.ks_engine.specs.Views.{old_of};
 
 use crate::EngineError;
-use ks_output::{OldConfig, read_auto};
+use ks_output::{OldConfig, read_auto, read_auto_generation};
 use ks_tree::{Tree, auto_path};
 use std::alloc::Global;
 
 /// The texts and the generation of auto.conf, which are none and 0 where it is missing.
 pub(crate) fn read_old<T: Tree>(alloc: Global, tree: &mut T) -> Result<OldConfig, EngineError>
-    ensures honest { T.is_honest tree.old ↔ T.is_honest tree.new }
-    ensures unchanged { T.is_honest tree.old → T.files tree.new ≡ T.files tree.old }
-    ensures read { T.is_honest tree.old → Answers (old_auto (content (T.files tree.old) auto_path)) old_of result }
+    ensures reads { Reads T.Tree tree.old tree.new (IsErrOf result EngineError.Device) }
+    ensures read { T.is_honest → Answers (old_auto (content (T.files tree.old) auto_path)) old_of result }
     ensures names { IfOk result (λ old. HasNames old.texts) }
-    ensures later { T.failures tree.old ≤ T.failures tree.new }
-    ensures cause { IsErrOf result EngineError.Device → HasRisen (T.failures tree.old) (T.failures tree.new) }
 {
     match tree.read(alloc, auto_path())? {
         Some(text) => Ok(read_auto(alloc, &text)?),
@@ -30,15 +28,15 @@ pub(crate) fn read_old<T: Tree>(alloc: Global, tree: &mut T) -> Result<OldConfig
 
 /// The generation of auto.conf, where a synchronisation was completed.
 pub(crate) fn read_generation<T: Tree>(alloc: Global, tree: &mut T) -> Result<u64, EngineError>
-    ensures honest { T.is_honest tree.old ↔ T.is_honest tree.new }
-    ensures unchanged { T.is_honest tree.old → T.files tree.new ≡ T.files tree.old }
-    ensures read { T.is_honest tree.old → Answers (last_generation (content (T.files tree.old) auto_path)) (λ g. g) result }
-    ensures later { T.failures tree.old ≤ T.failures tree.new }
-    ensures cause { IsErrOf result EngineError.Device → HasRisen (T.failures tree.old) (T.failures tree.new) }
+    ensures reads { Reads T.Tree tree.old tree.new (IsErrOf result EngineError.Device) }
+    ensures read { T.is_honest → Answers (last_generation (content (T.files tree.old) auto_path)) (λ g. g) result }
 {
-    let old = read_old(alloc, tree)?;
-    match old.generation() {
-        0 => Err(EngineError::NeverSynced),
-        generation => Ok(generation),
+    let Some(text) = tree.read(alloc, auto_path())? else {
+        return Err(EngineError::NeverSynced);
+    };
+    let generation = read_auto_generation(&text)?;
+    if generation == 0 {
+        return Err(EngineError::NeverSynced);
     }
+    Ok(generation)
 }

@@ -1,10 +1,13 @@
 //! Laws of the definitions, each the contract of a function that does nothing.
-ghost use Rattle.ks_engine.specs.Laws.{EmptyTreeShows, UsualTreeShows, PlansAreOne, SuspicionsHaveCauses};
+ghost use Rattle.ks_engine.specs.OtherRecords.{OtherRecordsDoNotMatter};
+ghost use Rattle.ks_engine.specs.Laws.{EmptyTreeShows, UsualTreeShows, UntypedTreeShows, PlansAreOne, SuspicionsHaveCauses};
 
-/// There are trees to begin with: an empty one, and each of the usual tool.
+/// There are trees to begin with: an empty one, each of the usual tool, and each that the untyped form left, whose stamps may
+/// be one above the generation where a synchronisation was broken off.
 pub fn beginnings_are_shown()
     ensures empty { EmptyTreeShows }
     ensures usual { UsualTreeShows }
+    ensures untyped { UntypedTreeShows }
 {}
 
 /// A synchronisation comes to one thing: no tree and no texts have both a plan and a refusal, or two of either.
@@ -15,4 +18,10 @@ pub fn plans_are_one()
 /// A name of an object is suspect only where a synchronisation that began behind the last one before its record would change it.
 pub fn suspicions_have_causes()
     ensures { SuspicionsHaveCauses }
+{}
+
+/// What is said of an object goes by its own records: a history without those of all others says the same of it. So objects may
+/// be recorded in any order, and side by side.
+pub fn other_records_do_not_matter()
+    ensures { OtherRecordsDoNotMatter }
 {}

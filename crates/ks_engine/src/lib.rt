@@ -5,6 +5,8 @@ mod commands;
 mod error;
 mod last_sync;
 mod laws;
+mod memos;
+mod planning;
 mod recording;
 mod sources;
 mod staleness;
@@ -14,8 +16,12 @@ mod tests;
 
 pub use commands::{Command, Reply, run};
 pub use error::EngineError;
-pub use laws::{beginnings_are_shown, plans_are_one, suspicions_have_causes};
+pub use laws::{
+    beginnings_are_shown, other_records_do_not_matter, plans_are_one, suspicions_have_causes,
+};
+pub use memos::Memo;
+pub use planning::{Sources, plan, read_sources};
 pub use recording::{Recorded, record_object};
 pub use sources::scan_all;
-pub use staleness::{BuildState, Verdict, outdated, stale};
+pub use staleness::{BuildState, Verdict, outdated, stale, stale_by};
 pub use synchronise::{Report, sync};

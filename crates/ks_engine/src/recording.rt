@@ -7,18 +7,18 @@ ghost use Rattle.ks_fixdep.specs.CommandFile.{is_command, is_dep, command_text, 
 ghost use Rattle.ks_fixdep.specs.FoundNames.{names_in};
 ghost use Rattle.ks_fixdep.specs.Record.{config_names};
 ghost use Rattle.ks_fixdep.specs.SourceScan.{AreNamesOf};
-ghost use Rattle.ks_tree.specs.Files.{content, HasRisen};
+ghost use Rattle.ks_tree.specs.Frames.{Counted, Reads};
+ghost use Rattle.ks_tree.specs.Files.{content};
 ghost use Rattle.ks_engine.specs.Refusals.{Answers, IsGivenUp};
 ghost use Rattle.ks_engine.specs.Recording.{words, there};
 ghost use Rattle.ks_engine.specs.Recorded.{RecordPlan, drafted, record_plan, IsRecordPlan, IsRecorded, IsRecordRefused};
-ghost use Rattle.ks_engine.specs.History.{History};
-ghost use Rattle.ks_engine.specs.Shows.{Shows};
-ghost use Rattle.ks_engine.specs.Follows.{at, FollowsRecord};
+ghost use Rattle.ks_engine.specs.Follows.{GoesOn, FollowsRecord};
+ghost use Rattle.ks_engine.specs.Memos.{IsMemoOf};
 ghost use Rattle.ks_engine.specs.Drafts.{IsDraft};
 
 use crate::EngineError;
-use crate::last_sync::read_generation;
-use crate::sources::scan_all;
+use crate::memos::Memo;
+use crate::sources::scan_all_by;
 use ks_fixdep::{
     CommandFile, Dep, NamesBySource, Prerequisites, build_from, command_is_legal, read_depfile,
     write_command,
@@ -26,6 +26,9 @@ use ks_fixdep::{
 use ks_symbols::{MAX_BYTES, Path, path_is_legal, target_is_legal};
 use ks_tree::{Tree, command_path, command_temporary, replace};
 use std::alloc::Global;
+
+/// About how many bytes a line of a command file takes, with the line feed.
+const USUAL_LINE: usize = 48;
 
 /// What was recorded.
 #[derive(Clone, Copy, Debug)]
@@ -61,11 +64,8 @@ fn check_words(depfile: &[u8], target: &[u8], command: &[u8]) -> Result<(), Engi
 /// A file that has to be there.
 fn read_there<T: Tree>(alloc: Global, tree: &mut T, path: &[u8]) -> Result<Vec<u8>, EngineError>
     requires { IsTrue (is_path path.now) }
-    ensures honest { T.is_honest tree.old ↔ T.is_honest tree.new }
-    ensures unchanged { T.is_honest tree.old → T.files tree.new ≡ T.files tree.old }
-    ensures bytes { T.is_honest tree.old → Answers (there path.now (content (T.files tree.old) path.now)) (λ v. v.items) result }
-    ensures later { T.failures tree.old ≤ T.failures tree.new }
-    ensures cause { IsErrOf result EngineError.Device → HasRisen (T.failures tree.old) (T.failures tree.new) }
+    ensures reads { Reads T.Tree tree.old tree.new (IsErrOf result EngineError.Device) }
+    ensures bytes { T.is_honest → Answers (there path.now (content (T.files tree.old) path.now)) (λ v. v.items) result }
 {
     match tree.read(alloc, path)? {
         Some(text) => Ok(text),
@@ -115,7 +115,7 @@ fn make_draft(
     file.source.as_bytes();
     file.generation = Some(generation);
     let names = count_names(&file.deps);
-    let mut text = Vec::new(alloc);
+    let mut text = Vec::with_capacity(alloc, file.deps.len().saturating_mul(USUAL_LINE))?;
     write_command(&file, &mut text)?;
     if text.len() > MAX_BYTES {
         return Err(EngineError::TooLarge);
@@ -128,22 +128,22 @@ fn make_draft(
 fn prepare<T: Tree>(
     alloc: Global,
     tree: &mut T,
+    memo: &mut Memo,
     depfile: &[u8],
     target: &[u8],
     command: &[u8],
 ) -> Result<Draft, EngineError>
-    ensures honest { T.is_honest tree.old ↔ T.is_honest tree.new }
-    ensures unchanged { T.is_honest tree.old → T.files tree.new ≡ T.files tree.old }
-    ensures planned { T.is_honest tree.old → IfOk result (λ d. (plan : RecordPlan) × IsRecordPlan (T.files tree.old) depfile.now target.now command.now plan × IsDraft plan d) }
-    ensures refused { T.is_honest tree.old → IfErr result (λ e. IsGivenUp e ⊎ (record_plan (T.files tree.old) depfile.now target.now command.now ≡ Err e)) }
-    ensures later { T.failures tree.old ≤ T.failures tree.new }
-    ensures cause { IsErrOf result EngineError.Device → HasRisen (T.failures tree.old) (T.failures tree.new) }
+    requires memo { T.is_honest → IsMemoOf (T.files tree.old) memo.old }
+    ensures memo { T.is_honest → IsMemoOf (T.files tree.new) memo.new }
+    ensures reads { Reads T.Tree tree.old tree.new (IsErrOf result EngineError.Device) }
+    ensures planned { T.is_honest → IfOk result (λ d. (plan : RecordPlan) × IsRecordPlan (T.files tree.old) depfile.now target.now command.now plan × IsDraft plan d) }
+    ensures refused { T.is_honest → IfErr result (λ e. IsGivenUp e ⊎ (record_plan (T.files tree.old) depfile.now target.now command.now ≡ Err e)) }
 {
     check_words(depfile, target, command)?;
     let text = read_there(alloc, tree, depfile)?;
     let prerequisites = read_depfile(alloc, &text)?;
-    let generation = read_generation(alloc, tree)?;
-    let found = scan_all(alloc, tree, &prerequisites)?;
+    let generation = memo.generation(alloc, tree)?;
+    let found = scan_all_by(alloc, tree, memo, &prerequisites)?;
     make_draft(alloc, target, command, prerequisites, generation, found)
 }
 
@@ -151,19 +151,22 @@ fn prepare<T: Tree>(
 fn write_record<T: Tree>(
     alloc: Global,
     tree: &mut T,
+    memo: &mut Memo,
     depfile: &[u8],
     target: &[u8],
     command: &[u8],
 ) -> Result<Recorded, EngineError>
-    ensures honest { T.is_honest tree.old ↔ T.is_honest tree.new }
-    ensures recorded { T.is_honest tree.old → IfOk result (IsRecorded (T.files tree.old) (T.files tree.new) depfile.now target.now command.now) }
-    ensures refused { T.is_honest tree.old → IfErr result (IsRecordRefused (T.files tree.old) (T.files tree.new) depfile.now target.now command.now) }
-    ensures later { T.failures tree.old ≤ T.failures tree.new }
-    ensures cause { IsErrOf result EngineError.Device → HasRisen (T.failures tree.old) (T.failures tree.new) }
+    requires memo { T.is_honest → IsMemoOf (T.files tree.old) memo.old }
+    ensures memo { T.is_honest → IsMemoOf (T.files tree.new) memo.new }
+    ensures recorded { T.is_honest → IfOk result (IsRecorded (T.files tree.old) (T.files tree.new) depfile.now target.now command.now) }
+    ensures refused { T.is_honest → IfErr result (IsRecordRefused (T.files tree.old) (T.files tree.new) depfile.now target.now command.now) }
+    ensures counted { Counted T.Tree tree.old tree.new (IsErrOf result EngineError.Device) }
 {
-    let draft = prepare(alloc, tree, depfile, target, command)?;
+    let draft = prepare(alloc, tree, memo, depfile, target, command)?;
     let path = command_path(alloc, target)?;
     let temporary = command_temporary(alloc, target)?;
+    memo.forget(&temporary);
+    memo.forget(&path);
     replace(alloc, tree, &temporary, &path, &draft.text)?;
     Ok(draft.answer)
 }
@@ -177,17 +180,33 @@ pub fn record_object<T: Tree>(
     target: &[u8],
     command: &[u8],
 ) -> Result<Recorded, EngineError>
-    ensures honest { T.is_honest tree.old ↔ T.is_honest tree.new }
     // By the files: the command file is written and all else is as before, or it was refused, or given up at the write.
-    ensures recorded { T.is_honest tree.old → IfOk result (IsRecorded (T.files tree.old) (T.files tree.new) depfile.now target.now command.now) }
-    ensures refused { T.is_honest tree.old → IfErr result (IsRecordRefused (T.files tree.old) (T.files tree.new) depfile.now target.now command.now) }
+    ensures recorded { T.is_honest → IfOk result (IsRecorded (T.files tree.old) (T.files tree.new) depfile.now target.now command.now) }
+    ensures refused { T.is_honest → IfErr result (IsRecordRefused (T.files tree.old) (T.files tree.new) depfile.now target.now command.now) }
     // By histories: each one that the files show goes on with this answer, and the files show the next one.
-    ensures follows { T.is_honest tree.old → (h : History) → Shows (T.files tree.old) h → (next : History)
-        × FollowsRecord (at (T.files tree.old) (T.failures tree.old) h) depfile.now target.now command.now result (at (T.files tree.new) (T.failures tree.new) next)
-        × Shows (T.files tree.new) next }
+    ensures follows { GoesOn T.Tree tree.old tree.new (FollowsRecord depfile.now target.now command.now result) }
     // The device is to blame only where the tree counted a failure.
-    ensures later { T.failures tree.old ≤ T.failures tree.new }
-    ensures cause { IsErrOf result EngineError.Device → HasRisen (T.failures tree.old) (T.failures tree.new) }
+    ensures counted { Counted T.Tree tree.old tree.new (IsErrOf result EngineError.Device) }
 {
-    write_record(alloc, tree, depfile, target, command)
+    let mut memo = Memo::of_one_object(alloc);
+    record_by(alloc, tree, &mut memo, depfile, target, command)
+}
+
+/// Records an object, by what was read before and what is still to be read.
+pub(crate) fn record_by<T: Tree>(
+    alloc: Global,
+    tree: &mut T,
+    memo: &mut Memo,
+    depfile: &[u8],
+    target: &[u8],
+    command: &[u8],
+) -> Result<Recorded, EngineError>
+    requires memo { T.is_honest → IsMemoOf (T.files tree.old) memo.old }
+    ensures memo { T.is_honest → IsMemoOf (T.files tree.new) memo.new }
+    ensures recorded { T.is_honest → IfOk result (IsRecorded (T.files tree.old) (T.files tree.new) depfile.now target.now command.now) }
+    ensures refused { T.is_honest → IfErr result (IsRecordRefused (T.files tree.old) (T.files tree.new) depfile.now target.now command.now) }
+    ensures follows { GoesOn T.Tree tree.old tree.new (FollowsRecord depfile.now target.now command.now result) }
+    ensures counted { Counted T.Tree tree.old tree.new (IsErrOf result EngineError.Device) }
+{
+    write_record(alloc, tree, memo, depfile, target, command)
 }

@@ -1,16 +1,19 @@
 //! The names in the prerequisites of an object. Each file is read in pieces, and none of them whole: a prerequisite can be
 //! generated and large, and the scan needs no more of it than the word that a piece ends in.
-ghost use Rattle.std.specs.Prelude.{◌≡◌, ◌⊎◌, ◌↔◌, ◌≤◌, ◌<◌, ◌++◌, ◌∷◌, [], List, ℕ, Err, IfErr, IfOk, IsErrOf, IsTrue, Ok, OnOk, Some, length, map, slice_get};
+ghost use Rattle.std.specs.Prelude.{◌≡◌, ◌+◌, ◌⊎◌, ◌↔◌, ◌≤◌, ◌<◌, ◌++◌, ◌∷◌, [], List, ℕ, Err, IfErr, IfOk, IsErrOf, IsTrue, Ok, OnOk, Some, length, map, slice_get};
 ghost use Rattle.ks_symbols.specs.Names.{is_path};
 ghost use Rattle.ks_fixdep.specs.declared.dependency_file.Role.{Role};
 ghost use Rattle.ks_fixdep.specs.FoundNames.{names_in};
 ghost use Rattle.ks_fixdep.specs.SourceScan.{AreNamesOf, StandsAfter};
-ghost use Rattle.ks_tree.specs.Files.{content, HasRisen};
+ghost use Rattle.ks_tree.specs.Frames.{Reads};
+ghost use Rattle.ks_tree.specs.Files.{content};
 ghost use Rattle.ks_engine.specs.Refusals.{IsGivenUp};
+ghost use Rattle.ks_engine.specs.Memos.{IsMemoOf, IsSource};
 ghost use Rattle.ks_engine.specs.Recording.{scanned, scanned_all};
 
 use crate::EngineError;
-use ks_fixdep::{NamesBySource, Prerequisites, SourceScan};
+use crate::memos::Memo;
+use ks_fixdep::{FoundNames, NamesBySource, Prerequisites, SourceScan};
 use ks_symbols::{MAX_BYTES, Path};
 use ks_tree::Tree;
 use std::alloc::Global;
@@ -20,7 +23,7 @@ const PIECE: usize = 4096;
 
 /// Scans the file at a path as the next source. A file that is gone between two pieces is missing. Each piece is read into the
 /// same room.
-fn scan_file<T: Tree>(
+pub(crate) fn scan_file<T: Tree>(
     alloc: Global,
     tree: &mut T,
     path: &[u8],
@@ -29,13 +32,11 @@ fn scan_file<T: Tree>(
 ) -> Result<(), EngineError>
     requires path { IsTrue (is_path path.now) }
     requires room { length room.old ≡ 4096 }
-    ensures honest { T.is_honest tree.old ↔ T.is_honest tree.new }
-    ensures unchanged { T.is_honest tree.old → T.files tree.new ≡ T.files tree.old }
+    ensures reads { Reads T.Tree tree.old tree.new (IsErrOf result EngineError.Device) }
     ensures scanned { (ts : List (List ℕ)) → StandsAfter scan.old ts [] → OnOk result ((t : List ℕ) × StandsAfter scan.new (ts ++ t ∷ []) []
-        × (T.is_honest tree.old → scanned path.now (content (T.files tree.old) path.now) ≡ Ok (names_in t))) }
-    ensures refused { T.is_honest tree.old → IfErr result (λ e. IsGivenUp e ⊎ (scanned path.now (content (T.files tree.old) path.now) ≡ Err e)) }
-    ensures later { T.failures tree.old ≤ T.failures tree.new }
-    ensures cause { IsErrOf result EngineError.Device → HasRisen (T.failures tree.old) (T.failures tree.new) }
+        × (T.is_honest → scanned path.now (content (T.files tree.old) path.now) ≡ Ok (names_in t))) }
+    ensures counts { OnOk result (length scan.new.counts.items ≡ length scan.old.counts.items + 1) }
+    ensures refused { T.is_honest → IfErr result (λ e. IsGivenUp e ⊎ (scanned path.now (content (T.files tree.old) path.now) ≡ Err e)) }
 {
     let mut offset: u64 = 0;
     loop {
@@ -54,30 +55,80 @@ fn scan_file<T: Tree>(
     }
 }
 
-/// Scans the prerequisite at a place as the next source.
+/// The names of the file at a path, scanned by itself.
+pub(crate) fn scan_alone<T: Tree>(
+    alloc: Global,
+    tree: &mut T,
+    path: &[u8],
+    room: &mut [u8],
+) -> Result<FoundNames, EngineError>
+    requires path { IsTrue (is_path path.now) }
+    requires room { length room.old ≡ 4096 }
+    ensures reads { Reads T.Tree tree.old tree.new (IsErrOf result EngineError.Device) }
+    ensures found { T.is_honest → IfOk result (IsSource (T.files tree.old) path.now) }
+    ensures refused { T.is_honest → IfErr result (λ e. IsGivenUp e ⊎ (scanned path.now (content (T.files tree.old) path.now) ≡ Err e)) }
+{
+    let mut scan = SourceScan::new(alloc);
+    scan_file(alloc, tree, path, room, &mut scan)?;
+    Ok(scan.into_found())
+}
+
+/// Takes the prerequisite at a place as the next source.
 fn scan_at<T: Tree>(
     alloc: Global,
     tree: &mut T,
+    memo: &mut Memo,
     prerequisites: &Prerequisites,
     place: usize,
     room: &mut [u8],
     scan: &mut SourceScan,
 ) -> Result<(), EngineError>
+    requires memo { T.is_honest → IsMemoOf (T.files tree.old) memo.old }
     requires place { place < length prerequisites.now }
     requires room { length room.old ≡ 4096 }
-    ensures honest { T.is_honest tree.old ↔ T.is_honest tree.new }
-    ensures unchanged { T.is_honest tree.old → T.files tree.new ≡ T.files tree.old }
-    ensures scanned { (ts : List (List ℕ)) → StandsAfter scan.old ts [] → OnOk result ((t : List ℕ) × StandsAfter scan.new (ts ++ t ∷ []) []
-        × (T.is_honest tree.old → (p : List ℕ × Role) → slice_get prerequisites.now place ≡ Some p → scanned p.0 (content (T.files tree.old) p.0) ≡ Ok (names_in t))) }
-    ensures refused { T.is_honest tree.old → (p : List ℕ × Role) → slice_get prerequisites.now place ≡ Some p
+    ensures memo { T.is_honest → IsMemoOf (T.files tree.new) memo.new }
+    ensures reads { Reads T.Tree tree.old tree.new (IsErrOf result EngineError.Device) }
+    ensures scanned { T.is_honest → (ts : List (List ℕ)) → StandsAfter scan.old ts [] → OnOk result ((t : List ℕ) × StandsAfter scan.new (ts ++ t ∷ []) []
+        × ((p : List ℕ × Role) → slice_get prerequisites.now place ≡ Some p → scanned p.0 (content (T.files tree.old) p.0) ≡ Ok (names_in t))) }
+    ensures counts { OnOk result (length scan.new.counts.items ≡ length scan.old.counts.items + 1) }
+    ensures refused { T.is_honest → (p : List ℕ × Role) → slice_get prerequisites.now place ≡ Some p
         → IfErr result (λ e. IsGivenUp e ⊎ (scanned p.0 (content (T.files tree.old) p.0) ≡ Err e)) }
-    ensures later { T.failures tree.old ≤ T.failures tree.new }
-    ensures cause { IsErrOf result EngineError.Device → HasRisen (T.failures tree.old) (T.failures tree.new) }
 {
     match prerequisites.get(place) {
-        Some((path, _)) => scan_file(alloc, tree, path, room, scan),
+        Some((path, _)) => memo.add_source(alloc, tree, path, room, scan),
         None => unreachable!(),
     }
+}
+
+/// The names of the prerequisites, in their order, by what was read before and what is still to be read.
+pub(crate) fn scan_all_by<T: Tree>(
+    alloc: Global,
+    tree: &mut T,
+    memo: &mut Memo,
+    prerequisites: &Prerequisites,
+) -> Result<NamesBySource, EngineError>
+    requires memo { T.is_honest → IsMemoOf (T.files tree.old) memo.old }
+    ensures memo { T.is_honest → IsMemoOf (T.files tree.new) memo.new }
+    ensures reads { Reads T.Tree tree.old tree.new (IsErrOf result EngineError.Device) }
+    ensures names { T.is_honest → IfOk result (λ found. (ts : List (List ℕ)) × AreNamesOf found ts
+        × (scanned_all (T.files tree.old) prerequisites.now ≡ Ok (map names_in ts))) }
+    ensures refused { T.is_honest → IfErr result (λ e. IsGivenUp e ⊎ (scanned_all (T.files tree.old) prerequisites.now ≡ Err e)) }
+    ensures each { IfOk result (λ found. length found.counts.items ≡ length prerequisites.now) }
+{
+    let mut room = [0; PIECE];
+    let mut scan = SourceScan::new(alloc);
+    for place in 0..prerequisites.len() {
+        scan_at(
+            alloc,
+            tree,
+            memo,
+            prerequisites,
+            place,
+            &mut room,
+            &mut scan,
+        )?;
+    }
+    Ok(scan.finish())
 }
 
 /// The names of the prerequisites, in their order. A file that is missing, or longer than 64 MiB, is refused.
@@ -86,19 +137,12 @@ pub fn scan_all<T: Tree>(
     tree: &mut T,
     prerequisites: &Prerequisites,
 ) -> Result<NamesBySource, EngineError>
-    ensures honest { T.is_honest tree.old ↔ T.is_honest tree.new }
-    ensures unchanged { T.is_honest tree.old → T.files tree.new ≡ T.files tree.old }
-    ensures names { T.is_honest tree.old → IfOk result (λ found. (ts : List (List ℕ)) × AreNamesOf found ts
+    ensures reads { Reads T.Tree tree.old tree.new (IsErrOf result EngineError.Device) }
+    ensures names { T.is_honest → IfOk result (λ found. (ts : List (List ℕ)) × AreNamesOf found ts
         × (scanned_all (T.files tree.old) prerequisites.now ≡ Ok (map names_in ts))) }
-    ensures refused { T.is_honest tree.old → IfErr result (λ e. IsGivenUp e ⊎ (scanned_all (T.files tree.old) prerequisites.now ≡ Err e)) }
+    ensures refused { T.is_honest → IfErr result (λ e. IsGivenUp e ⊎ (scanned_all (T.files tree.old) prerequisites.now ≡ Err e)) }
     ensures each { IfOk result (λ found. length found.counts.items ≡ length prerequisites.now) }
-    ensures later { T.failures tree.old ≤ T.failures tree.new }
-    ensures cause { IsErrOf result EngineError.Device → HasRisen (T.failures tree.old) (T.failures tree.new) }
 {
-    let mut room = [0; PIECE];
-    let mut scan = SourceScan::new(alloc);
-    for place in 0..prerequisites.len() {
-        scan_at(alloc, tree, prerequisites, place, &mut room, &mut scan)?;
-    }
-    Ok(scan.finish())
+    let mut memo = Memo::of_one_object(alloc);
+    scan_all_by(alloc, tree, &mut memo, prerequisites)
 }

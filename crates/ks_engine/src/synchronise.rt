@@ -6,20 +6,18 @@ ghost use Rattle.ks_symbols.specs.Configuration.{IsConfiguration};
 ghost use Rattle.ks_output.specs.AutoText.{auto_text};
 ghost use Rattle.ks_output.specs.Header.{header_text};
 ghost use Rattle.ks_output.specs.OldConfig.{HasNames};
-ghost use Rattle.ks_tree.specs.Files.{HasRisen};
+ghost use Rattle.ks_tree.specs.Frames.{Counted, Reads};
 ghost use Rattle.ks_engine.specs.Synchronised.{SyncDone, SyncSome, IsSynced, IsSyncRefused};
-ghost use Rattle.ks_engine.specs.SyncPlan.{Plan, AreSources, plan_over, IsSyncPlan};
+ghost use Rattle.ks_engine.specs.SyncPlan.{Plan, plan_over, IsSyncPlan};
 ghost use Rattle.ks_engine.specs.Refusals.{IsGivenUp};
-ghost use Rattle.ks_engine.specs.History.{History};
-ghost use Rattle.ks_engine.specs.Shows.{Shows};
-ghost use Rattle.ks_engine.specs.Follows.{at, FollowsSync};
-ghost use Rattle.ks_engine.specs.Views.{sources_of, old_of, IsSourceRefusal, IsWork, IsPlanned};
+ghost use Rattle.ks_engine.specs.Follows.{GoesOn, FollowsSync};
+ghost use Rattle.ks_engine.specs.Views.{sources_of, old_of, IsWork, IsPlanned};
 
 use crate::EngineError;
 use crate::last_sync::read_old;
-use ks_compare::changed;
+use crate::planning::{Sources, plan, read_sources};
 use ks_output::{OldConfig, write_auto, write_header};
-use ks_symbols::{MAX_BYTES, Name, Settings, Symbols, read_dotconfig, read_kconfig};
+use ks_symbols::{MAX_BYTES, Name};
 use ks_tree::{
     Tree, TreeFault, auto_path, auto_temporary, header_path, header_temporary, replace, touch_all,
 };
@@ -43,23 +41,6 @@ struct Work {
     auto: Vec<u8>,
 }
 
-/// What a Kconfig and a `.config` say.
-#[derive(Drop)]
-struct Sources {
-    symbols: Symbols,
-    settings: Settings,
-}
-
-fn read_sources(alloc: Global, kconfig: &[u8], dotconfig: &[u8]) -> Result<Sources, EngineError>
-    ensures no_device { IsErrOf result EngineError.Device → ⊥ }
-    ensures read { IfOk result (λ s. AreSources kconfig.now dotconfig.now (sources_of s)) }
-    ensures refused { IfErr result (λ e. IsGivenUp e ⊎ IsSourceRefusal kconfig.now dotconfig.now e) }
-{
-    let symbols = read_kconfig(alloc, kconfig)?;
-    let settings = read_dotconfig(alloc, dotconfig, &symbols)?;
-    Ok(Sources { symbols, settings })
-}
-
 /// All that is to be written, before any of it is.
 fn work_over(alloc: Global, sources: &Sources, old: &OldConfig) -> Result<Work, EngineError>
     requires old { HasNames old.now.texts }
@@ -68,26 +49,17 @@ fn work_over(alloc: Global, sources: &Sources, old: &OldConfig) -> Result<Work, 
     ensures planned { IfOk result (λ work. (plan : Plan) × (plan_over (sources_of sources.now) (old_of old.now) ≡ Ok plan) × IsWork plan work) }
     ensures refused { IfErr result (λ e. IsGivenUp e ⊎ (plan_over (sources_of sources.now) (old_of old.now) ≡ Err e)) }
 {
-    if old.generation() == u64::MAX {
+    let Some(report) = plan(alloc, sources, old)? else {
         return Err(EngineError::GenerationFull);
-    }
-    let generation = old.generation() + 1;
-    let title = sources.symbols.title();
-    let settings = &sources.settings;
-    let touched = changed(alloc, old, settings)?;
+    };
+    let (title, settings) = (sources.title.as_slice(), &sources.settings);
     let mut header = Vec::new(alloc);
     write_header(settings, title, &mut header)?;
     let mut auto = Vec::new(alloc);
-    write_auto(settings, title, generation, &mut auto)?;
+    write_auto(settings, title, report.generation, &mut auto)?;
     if auto.len() > MAX_BYTES {
         return Err(EngineError::TooLarge);
     }
-    let unknown = settings.unknown();
-    let report = Report {
-        generation,
-        touched,
-        unknown,
-    };
     Ok(Work {
         report,
         header,
@@ -102,12 +74,9 @@ fn prepare<T: Tree>(
     kconfig: &[u8],
     dotconfig: &[u8],
 ) -> Result<Work, EngineError>
-    ensures honest { T.is_honest tree.old ↔ T.is_honest tree.new }
-    ensures unchanged { T.is_honest tree.old → T.files tree.new ≡ T.files tree.old }
-    ensures planned { T.is_honest tree.old → IfOk result (IsPlanned (T.files tree.old) kconfig.now dotconfig.now) }
-    ensures refused { T.is_honest tree.old → IfErr result (λ e. IsGivenUp e ⊎ IsSyncPlan (T.files tree.old) kconfig.now dotconfig.now (Err e)) }
-    ensures later { T.failures tree.old ≤ T.failures tree.new }
-    ensures cause { IsErrOf result EngineError.Device → HasRisen (T.failures tree.old) (T.failures tree.new) }
+    ensures reads { Reads T.Tree tree.old tree.new (IsErrOf result EngineError.Device) }
+    ensures planned { T.is_honest → IfOk result (IsPlanned (T.files tree.old) kconfig.now dotconfig.now) }
+    ensures refused { T.is_honest → IfErr result (λ e. IsGivenUp e ⊎ IsSyncPlan (T.files tree.old) kconfig.now dotconfig.now (Err e)) }
 {
     let sources = read_sources(alloc, kconfig, dotconfig)?;
     let old = read_old(alloc, tree)?;
@@ -116,12 +85,10 @@ fn prepare<T: Tree>(
 
 /// The stamps, then the header, then auto.conf: an auto.conf before its stamps would hide the change for good.
 fn write_all<T: Tree>(alloc: Global, tree: &mut T, work: &Work) -> Result<(), TreeFault>
-    ensures honest { T.is_honest tree.old ↔ T.is_honest tree.new }
-    ensures all { T.is_honest tree.old → (plan : Plan) → IsWork plan work.now → OnOk result (SyncDone (T.files tree.old) (T.files tree.new) plan work.now.report.touched.items) }
-    ensures some { T.is_honest tree.old → (plan : Plan) → IsWork plan work.now → OnErr result (SyncSome (T.files tree.old) (T.files tree.new) plan work.now.report.touched.items) }
+    ensures all { T.is_honest → (plan : Plan) → IsWork plan work.now → OnOk result (SyncDone (T.files tree.old) (T.files tree.new) plan work.now.report.touched.items) }
+    ensures some { T.is_honest → (plan : Plan) → IsWork plan work.now → OnErr result (SyncSome (T.files tree.old) (T.files tree.new) plan work.now.report.touched.items) }
     ensures never { IsErrOf result TreeFault.TooLarge → ⊥ }
-    ensures later { T.failures tree.old ≤ T.failures tree.new }
-    ensures cause { IsErrOf result TreeFault.Device → HasRisen (T.failures tree.old) (T.failures tree.new) }
+    ensures counted { Counted T.Tree tree.old tree.new (IsErrOf result TreeFault.Device) }
 {
     touch_all(alloc, tree, &work.report.touched, work.report.generation)?;
     replace(alloc, tree, header_temporary(), header_path(), &work.header)?;
@@ -135,11 +102,9 @@ fn synchronise<T: Tree>(
     kconfig: &[u8],
     dotconfig: &[u8],
 ) -> Result<Report, EngineError>
-    ensures honest { T.is_honest tree.old ↔ T.is_honest tree.new }
-    ensures synced { T.is_honest tree.old → IfOk result (IsSynced (T.files tree.old) (T.files tree.new) kconfig.now dotconfig.now) }
-    ensures refused { T.is_honest tree.old → IfErr result (IsSyncRefused (T.files tree.old) (T.files tree.new) kconfig.now dotconfig.now) }
-    ensures later { T.failures tree.old ≤ T.failures tree.new }
-    ensures cause { IsErrOf result EngineError.Device → HasRisen (T.failures tree.old) (T.failures tree.new) }
+    ensures synced { T.is_honest → IfOk result (IsSynced (T.files tree.old) (T.files tree.new) kconfig.now dotconfig.now) }
+    ensures refused { T.is_honest → IfErr result (IsSyncRefused (T.files tree.old) (T.files tree.new) kconfig.now dotconfig.now) }
+    ensures counted { Counted T.Tree tree.old tree.new (IsErrOf result EngineError.Device) }
 {
     let work = prepare(alloc, tree, kconfig, dotconfig)?;
     write_all(alloc, tree, &work)?;
@@ -154,17 +119,13 @@ pub fn sync<T: Tree>(
     kconfig: &[u8],
     dotconfig: &[u8],
 ) -> Result<Report, EngineError>
-    ensures honest { T.is_honest tree.old ↔ T.is_honest tree.new }
     // By the files: it did all of it, or it was refused, or given up in one of the named states.
-    ensures synced { T.is_honest tree.old → IfOk result (IsSynced (T.files tree.old) (T.files tree.new) kconfig.now dotconfig.now) }
-    ensures refused { T.is_honest tree.old → IfErr result (IsSyncRefused (T.files tree.old) (T.files tree.new) kconfig.now dotconfig.now) }
+    ensures synced { T.is_honest → IfOk result (IsSynced (T.files tree.old) (T.files tree.new) kconfig.now dotconfig.now) }
+    ensures refused { T.is_honest → IfErr result (IsSyncRefused (T.files tree.old) (T.files tree.new) kconfig.now dotconfig.now) }
     // By histories: each one that the files show goes on with this answer, and the files show the next one.
-    ensures follows { T.is_honest tree.old → (h : History) → Shows (T.files tree.old) h → (next : History)
-        × FollowsSync (at (T.files tree.old) (T.failures tree.old) h) kconfig.now dotconfig.now result (at (T.files tree.new) (T.failures tree.new) next)
-        × Shows (T.files tree.new) next }
+    ensures follows { GoesOn T.Tree tree.old tree.new (FollowsSync kconfig.now dotconfig.now result) }
     // The device is to blame only where the tree counted a failure.
-    ensures later { T.failures tree.old ≤ T.failures tree.new }
-    ensures cause { IsErrOf result EngineError.Device → HasRisen (T.failures tree.old) (T.failures tree.new) }
+    ensures counted { Counted T.Tree tree.old tree.new (IsErrOf result EngineError.Device) }
 {
     synchronise(alloc, tree, kconfig, dotconfig)
 }

@@ -46,7 +46,7 @@ const HALF: [Left<'_>; 7] = [
 const HALF_WRITTEN: [(u64, &str, usize); 3] = [
     (1, "include/config/stamp.tmp", 1),
     (3, "include/generated/autoconf.h.tmp", 43),
-    (5, "include/config/auto.conf.tmp", 40),
+    (5, "include/config/auto.conf.tmp", 44),
 ];
 
 #[rattlefmt::skip]
@@ -195,6 +195,70 @@ fn each_call_broken_off(rt: HostRuntime) -> Result<(), Fail> {
                 recorded_between(&rt, alloc, &mut tree, left)?;
             }
         }
+    }
+    Ok(())
+}
+
+/// What the untyped form left of the synchronisation with B alone: the stamps of A and B, the header and auto.conf.
+#[rattlefmt::skip]
+const UNTYPED: [[&str; 4]; 5] = [
+    ["1\n", "1\n", HEADER, UNTYPED_AUTO],
+    ["2\n", "1\n", HEADER, UNTYPED_AUTO],
+    ["2\n", "2\n", HEADER, UNTYPED_AUTO],
+    ["2\n", "1\n", HEADER_B, UNTYPED_AUTO],
+    ["2\n", "1\n", HEADER_B, UNTYPED_AUTO_B],
+];
+
+/// Each of these trees is synchronised, which touches all names, old and new; then an object is recorded and asked for.
+#[test]
+fn the_untyped_form_broken_off(rt: HostRuntime) -> Result<(), Fail> {
+    let alloc = rt.alloc();
+    for [a, b, header, auto] in UNTYPED {
+        let mut tree = MemoryTree::new(alloc);
+        play(&rt, alloc, &mut tree, SOURCES)?;
+        let left = [
+            (Step::Put("include/config/A", a), "done"),
+            (Step::Put("include/config/B", b), "done"),
+            (Step::Put("include/generated/autoconf.h", header), "done"),
+            (Step::Put("include/config/auto.conf", auto), "done"),
+        ];
+        play(&rt, alloc, &mut tree, &left)?;
+        let (first, again) = if auto == UNTYPED_AUTO {
+            (
+                "generation 2 touched A B unknown 0",
+                "generation 3 touched A unknown 0",
+            )
+        } else {
+            (
+                "generation 3 touched A B unknown 0",
+                "generation 4 touched A unknown 0",
+            )
+        };
+        let steps = [
+            (
+                Step::Record("x.d", "x.o", "cc -c x.c"),
+                if auto == UNTYPED_AUTO {
+                    "generation 1 names 3"
+                } else {
+                    "generation 2 names 3"
+                },
+            ),
+            (Step::Sync(KCONFIG, BOTH), first),
+            (Step::Stale("x.o"), "stale A"),
+        ];
+        play(&rt, alloc, &mut tree, &steps)?;
+        let recorded = if auto == UNTYPED_AUTO {
+            "generation 2 names 3"
+        } else {
+            "generation 3 names 3"
+        };
+        let steps = [
+            (Step::Record("x.d", "x.o", "cc -c x.c"), recorded),
+            (Step::Stale("x.o"), "fresh"),
+            (Step::Sync(KCONFIG, ONLY_B), again),
+            (Step::Stale("x.o"), "stale A"),
+        ];
+        play(&rt, alloc, &mut tree, &steps)?;
     }
     Ok(())
 }

@@ -15,6 +15,10 @@ pub const BOTH: &str = "CONFIG_A=y\nCONFIG_B=m\n";
 pub const ONLY_B: &str = "CONFIG_B=m\n";
 
 pub const AUTO: &str =
+    "#\n# Automatically generated file; DO NOT EDIT.\n# Demo\n#\n#typed\nCONFIG_A=y\nCONFIG_B=m\n#generation 1\n";
+
+/// The same in the untyped form.
+pub const UNTYPED_AUTO: &str =
     "#\n# Automatically generated file; DO NOT EDIT.\n# Demo\n#\nCONFIG_A=y\nCONFIG_B=m\n#generation 1\n";
 
 pub const HEADER: &str =
@@ -35,6 +39,9 @@ pub const CUT: &str =
 
 /// The auto.conf and the header of the same Kconfig with B alone.
 pub const AUTO_B: &str =
+    "#\n# Automatically generated file; DO NOT EDIT.\n# Demo\n#\n#typed\nCONFIG_B=m\n#generation 2\n";
+
+pub const UNTYPED_AUTO_B: &str =
     "#\n# Automatically generated file; DO NOT EDIT.\n# Demo\n#\nCONFIG_B=m\n#generation 2\n";
 
 pub const HEADER_B: &str =
@@ -100,8 +107,8 @@ pub const REFUSALS: &[(Step<'_>, &str)] = &[
     (Step::Put("include/config/auto.conf", "CONFIG_A=y\n"), "done"),
     (Step::Put("include/config/A", ""), "done"),
     (Step::Record("x.d", "x.o", "cc"), "41 NeverSynced"),
-    (Step::Sync(KCONFIG, BOTH), "generation 1 touched B unknown 0"),
-    (Step::Read("include/config/A"), ""),
+    (Step::Sync(KCONFIG, BOTH), "generation 1 touched A B unknown 0"),
+    (Step::Read("include/config/A"), "1\n"),
     (Step::Record("x.d", "x.o", "cc"), "40 MissingFile b.h"),
     (Step::Record("y.d", "x.o", "cc"), "40 MissingFile y.d"),
     (Step::Record("a$b", "x.o", "cc"), "21 BadPath token 0"),

@@ -8,13 +8,13 @@ use std::test::Fail;
 const HEX: &str = "config H\n\thex\n";
 
 const NO_SETTINGS_AUTO: &str =
-    "#\n# Automatically generated file; DO NOT EDIT.\n# Main menu\n#\n#generation 1\n";
+    "#\n# Automatically generated file; DO NOT EDIT.\n# Main menu\n#\n#typed\n#generation 1\n";
 
 const NO_SETTINGS_HEADER: &str =
     "/*\n * Automatically generated file; DO NOT EDIT.\n * Main menu\n */\n";
 
 const FULL: &str =
-    "#\n# Automatically generated file; DO NOT EDIT.\n# Demo\n#\nCONFIG_A=y\nCONFIG_B=m\n#generation 18446744073709551615\n";
+    "#\n# Automatically generated file; DO NOT EDIT.\n# Demo\n#\n#typed\nCONFIG_A=y\nCONFIG_B=m\n#generation 18446744073709551615\n";
 
 const NEARLY_FULL: &str =
     "#\n# Automatically generated file; DO NOT EDIT.\n# Demo\n#\nCONFIG_A=y\nCONFIG_B=m\n#generation 18446744073709551614\n";
@@ -37,7 +37,7 @@ const NO_SETTINGS: &[(Step<'_>, &str)] = &[
 #[rattlefmt::skip]
 const UNSET_BY_ITS_LAST_LINE: &[(Step<'_>, &str)] = &[
     (Step::Sync(KCONFIG, "CONFIG_A=y\n# CONFIG_A is not set\nCONFIG_ZZ=7\n"), "generation 1 touched unknown 1"),
-    (Step::Read("include/config/auto.conf"), "#\n# Automatically generated file; DO NOT EDIT.\n# Demo\n#\n#generation 1\n"),
+    (Step::Read("include/config/auto.conf"), "#\n# Automatically generated file; DO NOT EDIT.\n# Demo\n#\n#typed\n#generation 1\n"),
     (Step::Read("include/generated/autoconf.h"), "/*\n * Automatically generated file; DO NOT EDIT.\n * Demo\n */\n"),
     (Step::Read("include/config/A"), "none"),
 ];
@@ -45,7 +45,7 @@ const UNSET_BY_ITS_LAST_LINE: &[(Step<'_>, &str)] = &[
 #[rattlefmt::skip]
 const ESCAPED_STRING: &[(Step<'_>, &str)] = &[
     (Step::Sync(STRING, "CONFIG_S=\"a\\\"b\\\\c\"\n"), "generation 1 touched S unknown 0"),
-    (Step::Read("include/config/auto.conf"), "#\n# Automatically generated file; DO NOT EDIT.\n# Main menu\n#\nCONFIG_S=a\"b\\c\n#generation 1\n"),
+    (Step::Read("include/config/auto.conf"), "#\n# Automatically generated file; DO NOT EDIT.\n# Main menu\n#\n#typed\n#type S string\nCONFIG_S=a\"b\\c\n#generation 1\n"),
     (Step::Read("include/generated/autoconf.h"), "/*\n * Automatically generated file; DO NOT EDIT.\n * Main menu\n */\n#define CONFIG_S \"a\\\"b\\\\c\"\n"),
     (Step::Sync(STRING, "CONFIG_S=\"a\\n\"\n"), "8 BadValue line 1"),
     (Step::Sync(STRING, "CONFIG_S=\"a\n"), "8 BadValue line 1"),
@@ -57,7 +57,7 @@ const ESCAPED_STRING: &[(Step<'_>, &str)] = &[
 const EMPTY_STRING: &[(Step<'_>, &str)] = &[
     (Step::Sync(STRING, ""), "generation 1 touched unknown 0"),
     (Step::Sync(STRING, "CONFIG_S=\"\"\n"), "generation 2 touched S unknown 0"),
-    (Step::Read("include/config/auto.conf"), "#\n# Automatically generated file; DO NOT EDIT.\n# Main menu\n#\nCONFIG_S=\n#generation 2\n"),
+    (Step::Read("include/config/auto.conf"), "#\n# Automatically generated file; DO NOT EDIT.\n# Main menu\n#\n#typed\n#type S string\nCONFIG_S=\n#generation 2\n"),
     (Step::Read("include/generated/autoconf.h"), "/*\n * Automatically generated file; DO NOT EDIT.\n * Main menu\n */\n#define CONFIG_S \"\"\n"),
     (Step::Sync(STRING, ""), "generation 3 touched S unknown 0"),
 ];
@@ -65,7 +65,7 @@ const EMPTY_STRING: &[(Step<'_>, &str)] = &[
 #[rattlefmt::skip]
 const STRING_N: &[(Step<'_>, &str)] = &[
     (Step::Sync(STRING, "CONFIG_S=\"n\"\n"), "generation 1 touched S unknown 0"),
-    (Step::Read("include/config/auto.conf"), "#\n# Automatically generated file; DO NOT EDIT.\n# Main menu\n#\nCONFIG_S=n\n#generation 1\n"),
+    (Step::Read("include/config/auto.conf"), "#\n# Automatically generated file; DO NOT EDIT.\n# Main menu\n#\n#typed\n#type S string\nCONFIG_S=n\n#generation 1\n"),
     (Step::Read("include/generated/autoconf.h"), "/*\n * Automatically generated file; DO NOT EDIT.\n * Main menu\n */\n#define CONFIG_S \"n\"\n"),
     (Step::Sync(STRING, "CONFIG_S=\"n\"\n"), "generation 2 touched unknown 0"),
 ];
@@ -73,24 +73,66 @@ const STRING_N: &[(Step<'_>, &str)] = &[
 #[rattlefmt::skip]
 const HEX_AS_WRITTEN: &[(Step<'_>, &str)] = &[
     (Step::Sync(HEX, "CONFIG_H=1f\n"), "generation 1 touched H unknown 0"),
-    (Step::Read("include/config/auto.conf"), "#\n# Automatically generated file; DO NOT EDIT.\n# Main menu\n#\nCONFIG_H=1f\n#generation 1\n"),
+    (Step::Read("include/config/auto.conf"), "#\n# Automatically generated file; DO NOT EDIT.\n# Main menu\n#\n#typed\n#type H hex\nCONFIG_H=1f\n#generation 1\n"),
     (Step::Read("include/generated/autoconf.h"), "/*\n * Automatically generated file; DO NOT EDIT.\n * Main menu\n */\n#define CONFIG_H 0x1f\n"),
     (Step::Sync(HEX, "CONFIG_H=0x1f\n"), "generation 2 touched H unknown 0"),
-    (Step::Read("include/config/auto.conf"), "#\n# Automatically generated file; DO NOT EDIT.\n# Main menu\n#\nCONFIG_H=0x1f\n#generation 2\n"),
+    (Step::Read("include/config/auto.conf"), "#\n# Automatically generated file; DO NOT EDIT.\n# Main menu\n#\n#typed\n#type H hex\nCONFIG_H=0x1f\n#generation 2\n"),
     (Step::Read("include/generated/autoconf.h"), "/*\n * Automatically generated file; DO NOT EDIT.\n * Main menu\n */\n#define CONFIG_H 0x1f\n"),
     (Step::Sync(HEX, "CONFIG_H=0X1F\n"), "generation 3 touched H unknown 0"),
     (Step::Read("include/generated/autoconf.h"), "/*\n * Automatically generated file; DO NOT EDIT.\n * Main menu\n */\n#define CONFIG_H 0X1F\n"),
     (Step::Sync(HEX, "CONFIG_H=0x\n"), "8 BadValue line 1"),
 ];
 
-// The kinds are not compared, so S is not touched: only the header tells the two apart.
+// A symbol whose kind changes is touched, though its text stays; bool and tristate are one class.
 #[rattlefmt::skip]
 const RETYPED: &[(Step<'_>, &str)] = &[
     (Step::Sync("config S\n\tbool\n", "CONFIG_S=y\n"), "generation 1 touched S unknown 0"),
+    (Step::Read("include/config/auto.conf"), "#\n# Automatically generated file; DO NOT EDIT.\n# Main menu\n#\n#typed\nCONFIG_S=y\n#generation 1\n"),
     (Step::Read("include/generated/autoconf.h"), "/*\n * Automatically generated file; DO NOT EDIT.\n * Main menu\n */\n#define CONFIG_S 1\n"),
-    (Step::Sync(STRING, "CONFIG_S=\"y\"\n"), "generation 2 touched unknown 0"),
-    (Step::Read("include/config/auto.conf"), "#\n# Automatically generated file; DO NOT EDIT.\n# Main menu\n#\nCONFIG_S=y\n#generation 2\n"),
+    (Step::Put("s.d", "s.o: s.c\n"), "done"),
+    (Step::Put("s.c", "CONFIG_S\n"), "done"),
+    (Step::Record("s.d", "s.o", "cc"), "generation 1 names 1"),
+    (Step::Sync("config S\n\ttristate\n", "CONFIG_S=y\n"), "generation 2 touched unknown 0"),
+    (Step::Stale("s.o"), "fresh"),
+    (Step::Sync(STRING, "CONFIG_S=\"y\"\n"), "generation 3 touched S unknown 0"),
+    (Step::Stale("s.o"), "stale S"),
+    (Step::Read("include/config/auto.conf"), "#\n# Automatically generated file; DO NOT EDIT.\n# Main menu\n#\n#typed\n#type S string\nCONFIG_S=y\n#generation 3\n"),
     (Step::Read("include/generated/autoconf.h"), "/*\n * Automatically generated file; DO NOT EDIT.\n * Main menu\n */\n#define CONFIG_S \"y\"\n"),
+];
+
+#[rattlefmt::skip]
+const RETYPED_NUMBER: &[(Step<'_>, &str)] = &[
+    (Step::Sync("config H\n\tint\n", "CONFIG_H=10\n"), "generation 1 touched H unknown 0"),
+    (Step::Read("include/generated/autoconf.h"), "/*\n * Automatically generated file; DO NOT EDIT.\n * Main menu\n */\n#define CONFIG_H 10\n"),
+    (Step::Sync(HEX, "CONFIG_H=10\n"), "generation 2 touched H unknown 0"),
+    (Step::Read("include/config/auto.conf"), "#\n# Automatically generated file; DO NOT EDIT.\n# Main menu\n#\n#typed\n#type H hex\nCONFIG_H=10\n#generation 2\n"),
+    (Step::Read("include/generated/autoconf.h"), "/*\n * Automatically generated file; DO NOT EDIT.\n * Main menu\n */\n#define CONFIG_H 0x10\n"),
+];
+
+// The untyped form knows no class, so all of its names are touched, once.
+#[rattlefmt::skip]
+const UNTYPED_STRING: &[(Step<'_>, &str)] = &[
+    (Step::Put("include/config/auto.conf", "#\n# Automatically generated file; DO NOT EDIT.\n# Main menu\n#\nCONFIG_S=y\n#generation 1\n"), "done"),
+    (Step::Put("include/config/S", "1\n"), "done"),
+    (Step::Sync(STRING, "CONFIG_S=\"y\"\n"), "generation 2 touched S unknown 0"),
+    (Step::Read("include/config/auto.conf"), "#\n# Automatically generated file; DO NOT EDIT.\n# Main menu\n#\n#typed\n#type S string\nCONFIG_S=y\n#generation 2\n"),
+    (Step::Sync(STRING, "CONFIG_S=\"y\"\n"), "generation 3 touched unknown 0"),
+];
+
+#[rattlefmt::skip]
+const UNTYPED_TREE: &[(Step<'_>, &str)] = &[
+    (Step::Put("include/config/auto.conf", UNTYPED_AUTO), "done"),
+    (Step::Put("include/generated/autoconf.h", HEADER), "done"),
+    (Step::Put("include/config/A", "1\n"), "done"),
+    (Step::Put("include/config/B", "1\n"), "done"),
+    (Step::Record("x.d", "x.o", "cc -c x.c"), "generation 1 names 3"),
+    (Step::Read(".x.o.cmd"), COMMAND_FILE),
+    (Step::Stale("x.o"), "fresh"),
+    (Step::Sync(KCONFIG, BOTH), "generation 2 touched A B unknown 0"),
+    (Step::Stale("x.o"), "stale A"),
+    (Step::Record("x.d", "x.o", "cc -c x.c"), "generation 2 names 3"),
+    (Step::Sync(KCONFIG, BOTH), "generation 3 touched unknown 0"),
+    (Step::Stale("x.o"), "fresh"),
 ];
 
 #[rattlefmt::skip]
@@ -104,16 +146,19 @@ const VANISHED_WHILE_UNSET: &[(Step<'_>, &str)] = &[
 #[rattlefmt::skip]
 const LAST_GENERATION: &[(Step<'_>, &str)] = &[
     (Step::Put("include/config/auto.conf", NEARLY_FULL), "done"),
-    (Step::Sync(KCONFIG, BOTH), "generation 18446744073709551615 touched unknown 0"),
+    (Step::Sync(KCONFIG, BOTH), "generation 18446744073709551615 touched A B unknown 0"),
     (Step::Read("include/config/auto.conf"), FULL),
     (Step::Sync(KCONFIG, BOTH), "42 GenerationFull"),
     (Step::Sync(KCONFIG, ONLY_B), "42 GenerationFull"),
     (Step::Read("include/config/auto.conf"), FULL),
-    (Step::Read("include/config/A"), "none"),
+    (Step::Read("include/config/A"), "18446744073709551615\n"),
 ];
 
 #[rattlefmt::skip]
 const FAULTY_AUTO: &[(Step<'_>, &str)] = &[
+    (Step::Put("include/config/auto.conf", "#\n# Automatically generated file; DO NOT EDIT.\n# Demo\n#\n#typed\n#type S string\nCONFIG_T=x\n#generation 1\n"), "done"),
+    (Step::Sync(KCONFIG, BOTH), "11 BadAuto line 6"),
+    (Step::Record("x.d", "x.o", "cc -c x.c"), "11 BadAuto line 6"),
     (Step::Put("include/config/auto.conf", STRANGE_NAME), "done"),
     (Step::Sync(KCONFIG, BOTH), "11 BadAuto line 5"),
     (Step::Read("include/config/auto.conf"), STRANGE_NAME),
@@ -130,8 +175,8 @@ const USUAL_TREE: &[(Step<'_>, &str)] = &[
     (Step::Put("include/config/A", ""), "done"),
     (Step::Record("x.d", "x.o", "cc -c x.c"), "41 NeverSynced"),
     (Step::Read(".x.o.cmd"), "none"),
-    (Step::Sync(KCONFIG, BOTH), "generation 1 touched B unknown 0"),
-    (Step::Read("include/config/A"), ""),
+    (Step::Sync(KCONFIG, BOTH), "generation 1 touched A B unknown 0"),
+    (Step::Read("include/config/A"), "1\n"),
     (Step::Read("include/config/B"), "1\n"),
 ];
 
@@ -191,6 +236,9 @@ fn what_the_files_hold(rt: HostRuntime) -> Result<(), Fail> {
         STRING_N,
         HEX_AS_WRITTEN,
         RETYPED,
+        RETYPED_NUMBER,
+        UNTYPED_STRING,
+        UNTYPED_TREE,
         VANISHED_WHILE_UNSET,
         LAST_GENERATION,
     ] {

@@ -28,38 +28,33 @@ pub returns-in_err-generation-clause-refused : goal.returns-in_err-generation-cl
 returns-in_err-generation-clause-refused g c = λ honest.
     let p = err_from_is_err_and c.from_residual-in_err-generation.result c.from_residual-in_err-generation.ensures.1 in
     let files = g.T.Tree.files c.args.tree.now in
-    let first = c.in_ok-text.ensures.honest.0 honest in
     rw (p.1, p.2) (or_given (λ said. at_synced files c.args.depfile.now c.args.target.now c.args.command.now c.deref.result.now c.in_ok-prerequisites.prerequisites _ c.in_ok-check_words.ensures.words
     (c.in_ok-text.ensures.bytes honest ∙ ap (λ b. Ok b) (sym c.deref.ensures.value)) (depfile_listed c.deref.result.now c.in_ok-prerequisites.prerequisites c.in_ok-prerequisites.ensures.refusal c.in_ok-prerequisites.ensures.value)
-    (synced_there files _ _ (c.in_ok-text.ensures.unchanged honest) said)) (c.in_err-generation.ensures.read first))
+    (synced_there files _ _ (c.in_ok-text.ensures.reads.unchanged honest) said)) (c.in_err-generation.ensures.read honest))
 
 pub returns-in_err-found-clause-refused : goal.returns-in_err-found-clause-refused
 returns-in_err-found-clause-refused g c = λ honest.
     let p = err_from_is_err_and c.from_residual-in_err-found.result c.from_residual-in_err-found.ensures.1 in
     let files = g.T.Tree.files c.args.tree.now in
-    let first = c.in_ok-text.ensures.honest.0 honest in
-    let second = c.in_ok-generation.ensures.honest.0 first in
-    let same = c.in_ok-text.ensures.unchanged honest in
-    let same_later = c.in_ok-generation.ensures.unchanged first ∙ same in
+    let same = c.in_ok-text.ensures.reads.unchanged honest in
+    let same_later = c.in_ok-generation.ensures.reads.unchanged honest ∙ same in
     rw (p.1, p.2) (or_given (λ said. at_scanned files c.args.depfile.now c.args.target.now c.args.command.now c.deref.result.now c.in_ok-prerequisites.prerequisites c.in_ok-generation.generation _ c.in_ok-check_words.ensures.words
     (c.in_ok-text.ensures.bytes honest ∙ ap (λ b. Ok b) (sym c.deref.ensures.value)) (depfile_listed c.deref.result.now c.in_ok-prerequisites.prerequisites c.in_ok-prerequisites.ensures.refusal c.in_ok-prerequisites.ensures.value)
-    (synced_there files _ _ same (c.in_ok-generation.ensures.read first)) (scanned_there files _ c.in_ok-prerequisites.prerequisites _ same_later said)) (c.in_err-found.ensures.refused second))
+    (synced_there files _ _ same (c.in_ok-generation.ensures.read honest)) (scanned_there files _ c.in_ok-prerequisites.prerequisites _ same_later said)) (c.in_err-found.ensures.refused honest))
 
 pub returns-clause-planned : goal.returns-clause-planned
 returns-clause-planned g c = λ honest.
     let files = g.T.Tree.files c.args.tree.now in
-    let first = c.in_ok-text.ensures.honest.0 honest in
-    let second = c.in_ok-generation.ensures.honest.0 first in
-    let same = c.in_ok-text.ensures.unchanged honest in
-    let same_later = c.in_ok-generation.ensures.unchanged first ∙ same in
-    let found = c.in_ok-found.ensures.names second in
+    let same = c.in_ok-text.ensures.reads.unchanged honest in
+    let same_later = c.in_ok-generation.ensures.reads.unchanged honest ∙ same in
+    let found = c.in_ok-found.ensures.names honest in
     IfOk-weaker c.make_draft.result _ (λ d. (plan : RecordPlan) × IsRecordPlan files c.args.depfile.now c.args.target.now c.args.command.now plan × IsDraft plan d)
     (λ d drafted. (let made = drafted found.0 found.1 in (
       made.0,
       record {
         planned = at_drafted files c.args.depfile.now c.args.target.now c.args.command.now c.deref.result.now c.in_ok-prerequisites.prerequisites c.in_ok-generation.generation (map names_in found.0) _ c.in_ok-check_words.ensures.words
             (c.in_ok-text.ensures.bytes honest ∙ ap (λ b. Ok b) (sym c.deref.ensures.value)) (depfile_listed c.deref.result.now c.in_ok-prerequisites.prerequisites c.in_ok-prerequisites.ensures.refusal c.in_ok-prerequisites.ensures.value)
-            (synced_there files _ _ same (c.in_ok-generation.ensures.read first))
+            (synced_there files _ _ same (c.in_ok-generation.ensures.read honest))
             (scanned_there files _ c.in_ok-prerequisites.prerequisites _ same_later found.2) made.1;
         legal = made.2;
       },
@@ -69,13 +64,11 @@ returns-clause-planned g c = λ honest.
 pub returns-clause-refused : goal.returns-clause-refused
 returns-clause-refused g c = λ honest.
     let files = g.T.Tree.files c.args.tree.now in
-    let first = c.in_ok-text.ensures.honest.0 honest in
-    let second = c.in_ok-generation.ensures.honest.0 first in
-    let same = c.in_ok-text.ensures.unchanged honest in
-    let same_later = c.in_ok-generation.ensures.unchanged first ∙ same in
-    let found = c.in_ok-found.ensures.names second in
+    let same = c.in_ok-text.ensures.reads.unchanged honest in
+    let same_later = c.in_ok-generation.ensures.reads.unchanged honest ∙ same in
+    let found = c.in_ok-found.ensures.names honest in
     if_err_map c.make_draft.result _ (λ e. IsGivenUp e ⊎ (record_plan files c.args.depfile.now c.args.target.now c.args.command.now ≡ Err e))
     (λ e said. or_given (λ bad. at_drafted files c.args.depfile.now c.args.target.now c.args.command.now c.deref.result.now c.in_ok-prerequisites.prerequisites c.in_ok-generation.generation (map names_in found.0) _ c.in_ok-check_words.ensures.words
     (c.in_ok-text.ensures.bytes honest ∙ ap (λ b. Ok b) (sym c.deref.ensures.value)) (depfile_listed c.deref.result.now c.in_ok-prerequisites.prerequisites c.in_ok-prerequisites.ensures.refusal c.in_ok-prerequisites.ensures.value)
-    (synced_there files _ _ same (c.in_ok-generation.ensures.read first))
+    (synced_there files _ _ same (c.in_ok-generation.ensures.read honest))
     (scanned_there files _ c.in_ok-prerequisites.prerequisites _ same_later found.2) bad) (said found.0 found.1)) c.make_draft.ensures.refused

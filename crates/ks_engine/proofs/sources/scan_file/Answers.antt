@@ -1,4 +1,4 @@
-use Rattle.std.proofs.Common.{rules, ◌++◌, [], arith, subst, sym, ap, ◌∙◌, inr, refl, take}
+use Rattle.std.proofs.Common.{rules, ◌++◌, [], arith, subst, sym, ap, ◌∙◌, inr, refl, take, length}
 use Rattle.ks_tree.specs.Files.{content, IsReadAt, IsPieceRead}
 use Rattle.ks_fixdep.specs.FoundNames.{names_in}
 use Rattle.ks_engine.specs.Recording.{scanned}
@@ -8,13 +8,12 @@ use Rattle.ks_engine.proofs.sources.scan_file.Goals as goal
 pub returns-then-count-lt-PIECE-clause-scanned : goal.returns-then-count-lt-PIECE-clause-scanned
 returns-then-count-lt-PIECE-clause-scanned g c = λ ts before.
     let stood = c.loop-count.invariant.stands ts before in
-    let fed = c.in_ok-feed.ensures ts stood.0 stood.1 in
+    let fed = c.in_ok-feed.ensures.stands ts stood.0 stood.1 in
     let piece = take c.in-Some.count c.read_at.new.into in (
       stood.0 ++ piece,
-      c.in_ok-end_source.ensures ts (stood.0 ++ piece) fed,
+      c.in_ok-end_source.ensures.stands ts (stood.0 ++ piece) fed,
       λ honest.
-          (let now = c.loop-count.invariant.honest.0 honest in
-          let read = subst (IsReadAt (content (g.T.Tree.files c.loop-count.tree) c.args.path.now) c.loop-count.offset c.loop-count.room c.read_at.new.into) c.in-Some.is (c.in_ok-count.ensures.found now) in
+          (let read = subst (IsReadAt (content (g.T.Tree.files c.loop-count.tree) c.args.path.now) c.loop-count.offset c.loop-count.room c.read_at.new.into) c.in-Some.is (c.in_ok-count.ensures.found honest) in
           let at = ap (λ f. content f c.args.path.now) (sym (c.loop-count.invariant.unchanged honest)) ∙ read.1 in
           let text = ap (λ t. t ++ piece) (stood.2 honest read.0 at) ∙ piece_behind read.0 c.loop-count.room c.read_at.new.into c.loop-count.offset c.in-Some.count read.2 in
           ap (scanned c.args.path.now) at
@@ -23,36 +22,34 @@ returns-then-count-lt-PIECE-clause-scanned g c = λ ts before.
 
 pub returns-then-offset-clause-refused : goal.returns-then-offset-clause-refused
 returns-then-offset-clause-refused g c = λ honest.
-    let now = c.loop-count.invariant.honest.0 honest in
-    let read = subst (IsReadAt (content (g.T.Tree.files c.loop-count.tree) c.args.path.now) c.loop-count.offset c.loop-count.room c.read_at.new.into) c.in-Some.is (c.in_ok-count.ensures.found now) in
+    let read = subst (IsReadAt (content (g.T.Tree.files c.loop-count.tree) c.args.path.now) c.loop-count.offset c.loop-count.room c.read_at.new.into) c.in-Some.is (c.in_ok-count.ensures.found honest) in
     let at = ap (λ f. content f c.args.path.now) (sym (c.loop-count.invariant.unchanged honest)) ∙ read.1 in
     inr (ap (scanned c.args.path.now) at ∙ scanned_large c.args.path.now read.0 c.loop-count.room c.read_at.new.into c.loop-count.offset c.in-Some.count read.2 c.if-offset.true c.loop-count.invariant.small)
 
 pub loop-count-init : goal.loop-count-init
 loop-count-init g c = record {
-  honest = search rules;
   unchanged = λ _. refl;
   later = search rules;
   full = c.requires.room;
+  counts = refl;
   small = omega arith;
   stands = λ ts before. ([], before, λ _ b _. refl);
 }
 
 pub loop-count-preserved : goal.loop-count-preserved
 loop-count-preserved g c = record {
-  honest = search rules;
   unchanged = search rules;
   later = search rules;
   full = c.read_at.auto.into ∙ c.loop-count.invariant.full;
+  counts = ap length c.in_ok-feed.ensures.counts ∙ c.loop-count.invariant.counts;
   small = c.if-offset.false;
   stands = λ ts before.
       let stood = c.loop-count.invariant.stands ts before in
       let piece = take c.in-Some.count c.read_at.new.into in (
         stood.0 ++ piece,
-        c.in_ok-feed.ensures ts stood.0 stood.1,
+        c.in_ok-feed.ensures.stands ts stood.0 stood.1,
         λ honest b at.
-            (let now = c.loop-count.invariant.honest.0 honest in
-            let read = subst (IsReadAt (content (g.T.Tree.files c.loop-count.tree) c.args.path.now) c.loop-count.offset c.loop-count.room c.read_at.new.into) c.in-Some.is (c.in_ok-count.ensures.found now) in
+            (let read = subst (IsReadAt (content (g.T.Tree.files c.loop-count.tree) c.args.path.now) c.loop-count.offset c.loop-count.room c.read_at.new.into) c.in-Some.is (c.in_ok-count.ensures.found honest) in
             let there = ap (λ f. content f c.args.path.now) (c.loop-count.invariant.unchanged honest) ∙ at in
             let same = same_source _ read.0 b read.1 there in
             let part = subst (λ text. IsPieceRead text c.loop-count.offset c.loop-count.room c.read_at.new.into c.in-Some.count) same read.2 in

@@ -7,14 +7,13 @@ use Rattle.ks_engine.proofs.synchronise.synchronise.Goals as goal
 pub returns-in_err-work-clause-refused : goal.returns-in_err-work-clause-refused
 returns-in_err-work-clause-refused g c = λ honest.
     let p = err_from_is_err_and c.from_residual.result c.from_residual.ensures.1 in
-    let same = c.prepare.ensures.unchanged honest in
+    let same = c.prepare.ensures.reads.unchanged honest in
     rw (p.1, p.2) (⊎_elim (λ given. inr (given, inl same)) (λ bad. inl (bad, same)) (c.in_err-work.ensures.refused honest))
 
 pub returns-in_err-write_all-clause-refused : goal.returns-in_err-write_all-clause-refused
 returns-in_err-write_all-clause-refused g c = λ honest.
     let p = err_from_is_err_and c.from_residual-in_err-write_all.result c.from_residual-in_err-write_all.ensures.1 in
     let planned = c.in_ok-work.ensures.planned honest in
-    let mid = c.prepare.ensures.honest.0 honest in
     let names = c.in_ok-work.work.report.touched.items in
     rw (p.1, p.2) (inr (
       given_fault c.in_err-write_all.field-0.0 (λ e. c.in_err-write_all.ensures.never (ap (λ f. Err f) e)),
@@ -23,19 +22,18 @@ returns-in_err-write_all-clause-refused g c = λ honest.
         planned = planned.1;
         names = names;
         changed = planned.2.changed;
-        some = subst (λ f. SyncSome f (g.T.Tree.files c.write_all.new.tree) planned.0 names) (c.prepare.ensures.unchanged honest) (c.in_err-write_all.ensures.some mid planned.0 planned.2);
+        some = subst (λ f. SyncSome f (g.T.Tree.files c.write_all.new.tree) planned.0 names) (c.prepare.ensures.reads.unchanged honest) (c.in_err-write_all.ensures.some honest planned.0 planned.2);
       }),
     ))
 
 pub returns-clause-synced : goal.returns-clause-synced
 returns-clause-synced g c = λ honest.
     let planned = c.in_ok-work.ensures.planned honest in
-    let mid = c.prepare.ensures.honest.0 honest in
     record {
       plan = planned.0;
       planned = planned.1;
       generation = planned.2.generation;
       unknown = planned.2.unknown;
       changed = planned.2.changed;
-      done = subst (λ f. SyncDone f (g.T.Tree.files c.write_all.new.tree) planned.0 c.in_ok-work.work.report.touched.items) (c.prepare.ensures.unchanged honest) (c.in_ok-write_all.ensures.all mid planned.0 planned.2);
+      done = subst (λ f. SyncDone f (g.T.Tree.files c.write_all.new.tree) planned.0 c.in_ok-work.work.report.touched.items) (c.prepare.ensures.reads.unchanged honest) (c.in_ok-write_all.ensures.all honest planned.0 planned.2);
     }

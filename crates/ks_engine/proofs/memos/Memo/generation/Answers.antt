@@ -1,0 +1,18 @@
+use Rattle.std.proofs.Common.{◌≡◌, sym, ◌∙◌, ap, subst, Ok}
+use Rattle.std.specs.Prelude.{IfSome}
+use Rattle.ks_tree.specs.Files.{content}
+use Rattle.ks_tree.specs.Paths.{auto_path}
+use Rattle.ks_engine.specs.LastSync.{last_generation}
+use Rattle.ks_engine.specs.Memos.{AreStamps, AreSources}
+use Rattle.ks_engine.proofs.memos.Memo.generation.Goals as goal
+
+pub returns-clause-memo : goal.returns-clause-memo
+returns-clause-memo g c = λ honest.
+    let same = c.in_ok-generation.ensures.reads.unchanged honest in
+    let old = c.requires.memo honest in
+    let new = g.T.Tree.files c.read_generation.new.tree in
+    record {
+      generation = λ k is. subst (λ o. IfSome o (λ n. last_generation (content new auto_path) ≡ Ok n)) is (ap (λ f. last_generation (content f auto_path)) same ∙ c.in_ok-generation.ensures.read honest);
+      stamps = subst (λ f. AreStamps f c.args.self.now.stamps.entries) (sym same) old.stamps;
+      sources = subst (λ f. AreSources f c.args.self.now.sources.entries) (sym same) old.sources;
+    }

@@ -1,0 +1,36 @@
+-- What a command has read of a tree, and keeps: each thing kept is what the files say.
+use Rattle.std.specs.Prelude.{◌≡◌, ◌≢◌, ℕ, List, Some, Ok, IsTrue, String, string_bytes}
+use Rattle.std.specs.Global.{Global}
+use Rattle.std.specs.List.{All}
+use Rattle.ks_symbols.specs.Names.{is_name}
+use Rattle.ks_tree.specs.Files.{Files, content}
+use Rattle.ks_tree.specs.Paths.{auto_path, stamp_path}
+use Rattle.ks_tree.specs.Stamps.{HasNumber}
+use Rattle.ks_engine.specs.declared.memos.Memo.{Memo}
+use Rattle.ks_fixdep.specs.FoundNames.{names_in}
+use Rattle.ks_engine.specs.LastSync.{last_generation}
+use Rattle.ks_engine.specs.Recording.{scanned}
+
+-- the stamp of a name holds this number
+abbrev pub IsStamp : Files → List ℕ → ℕ → Type 0
+IsStamp files x n = IsTrue (is_name x) × HasNumber (content files (stamp_path x)) n
+
+abbrev pub AreStamps : Files → List (String Global × ℕ) → Type 0
+AreStamps files kept = All (λ s. IsStamp files (string_bytes s.0) s.1) kept
+
+-- These are the names of the file at a path.
+abbrev pub IsSource : Files → List ℕ → List (List ℕ) → Type 0
+IsSource files path names = (t : List ℕ) × (names ≡ names_in t) × (scanned path (content files path) ≡ Ok (names_in t))
+
+abbrev pub AreSources : Files → List (String Global × List (List ℕ)) → Type 0
+AreSources files kept = All (λ s. IsSource files (string_bytes s.0) s.1) kept
+
+-- Each thing kept is what the files say.
+pub record IsMemoOf (files : Files) (memo : Memo) : Type 0 where
+  pub generation : (g : ℕ) → memo.generation ≡ Some g → last_generation (content files auto_path) ≡ Ok g
+  pub stamps : AreStamps files memo.stamps.entries
+  pub sources : AreSources files memo.sources.entries
+
+-- The names of the file at this path are not kept.
+abbrev pub IsNoSource : List ℕ → Memo → Type 0
+IsNoSource path memo = All (λ s. string_bytes s.0 ≢ path) memo.sources.entries

@@ -1,0 +1,175 @@
+//! What one command has read of a tree so far, so that it reads no file twice: hundreds of objects have one auto.conf, and share
+//! most of their stamps. A synchronisation drops all of it; a record changes nothing that is kept. Between commands nothing is kept,
+//! since others may write then.
+ghost use Rattle.std.specs.Prelude.{◌≡◌, ◌+◌, ◌⊎◌, ◌++◌, ◌∷◌, [], List, ℕ, length, Ok, Err, OnOk, IfOk, IfErr, IsErrOf, IsTrue};
+ghost use Rattle.ks_symbols.specs.Names.{is_name, is_path};
+ghost use Rattle.ks_fixdep.specs.FoundNames.{names_in};
+ghost use Rattle.ks_fixdep.specs.SourceScan.{StandsAfter};
+ghost use Rattle.ks_tree.specs.Frames.{Reads};
+ghost use Rattle.ks_tree.specs.Files.{Files, content};
+ghost use Rattle.ks_tree.specs.Paths.{auto_path, stamp_path};
+ghost use Rattle.ks_tree.specs.Stamps.{HasNumber, IsStampRefusal};
+ghost use Rattle.ks_engine.specs.Refusals.{Answers, IsGivenUp};
+ghost use Rattle.ks_engine.specs.Recording.{scanned};
+ghost use Rattle.ks_engine.specs.LastSync.{last_generation};
+ghost use Rattle.ks_engine.specs.Memos.{IsMemoOf, IsNoSource};
+
+use crate::EngineError;
+use crate::last_sync::read_generation;
+use crate::sources::{scan_alone, scan_file};
+use indexmap::IndexMap;
+use ks_fixdep::{FoundNames, SourceScan, name_as_text, path_as_text};
+use ks_symbols::Name;
+use ks_tree::{Tree, TreeError, read_stamp};
+use std::alloc::Global;
+
+/// The generation of the last completed synchronisation, and the numbers of stamps, as far as they were read.
+#[derive(Drop)]
+pub struct Memo {
+    generation: Option<u64>,
+    stamps: IndexMap<String, u64>,
+    sources: IndexMap<String, FoundNames>,
+    keeps_sources: bool,
+}
+
+/// The number of a name's stamp.
+fn read_stamp_of<T: Tree>(alloc: Global, tree: &mut T, name: &[u8]) -> Result<u64, TreeError>
+    requires { IsTrue (is_name name.now) }
+    ensures reads { Reads T.Tree tree.old tree.new (IsErrOf result TreeError.Device) }
+    ensures number { T.is_honest → IfOk result (λ n. HasNumber (content (T.files tree.old) (stamp_path name.now)) n) }
+    ensures refused { T.is_honest → IfErr result (IsStampRefusal name.now (content (T.files tree.old) (stamp_path name.now))) }
+{
+    let name = Name::new(alloc, name)?;
+    read_stamp(alloc, tree, &name)
+}
+
+impl Memo {
+    /// Nothing was read yet. It takes no memory.
+    pub fn new(alloc: Global) -> Memo
+        ensures { (files : Files) → IsMemoOf files result }
+    {
+        Memo {
+            generation: None,
+            stamps: IndexMap::new(alloc),
+            sources: IndexMap::new(alloc),
+            keeps_sources: true,
+        }
+    }
+
+    /// Nothing was read yet, and no source will be kept: of a single object each is read once anyway.
+    pub(crate) fn of_one_object(alloc: Global) -> Memo
+        ensures { (files : Files) → IsMemoOf files result }
+    {
+        Memo {
+            generation: None,
+            stamps: IndexMap::new(alloc),
+            sources: IndexMap::new(alloc),
+            keeps_sources: false,
+        }
+    }
+
+    /// Forgets all, and keeps its memory.
+    pub(crate) fn clear(&mut self)
+        ensures { (files : Files) → IsMemoOf files self.new }
+    {
+        self.generation = None;
+        self.stamps.clear();
+        self.sources.clear();
+    }
+
+    /// The generation of auto.conf, which is read once.
+    pub(crate) fn generation<T: Tree>(
+        &mut self,
+        alloc: Global,
+        tree: &mut T,
+    ) -> Result<u64, EngineError>
+        requires memo { T.is_honest → IsMemoOf (T.files tree.old) self.old }
+        ensures reads { Reads T.Tree tree.old tree.new (IsErrOf result EngineError.Device) }
+        ensures memo { T.is_honest → IsMemoOf (T.files tree.new) self.new }
+        ensures read { T.is_honest → Answers (last_generation (content (T.files tree.old) auto_path)) (λ g. g) result }
+    {
+        if let Some(generation) = self.generation {
+            return Ok(generation);
+        }
+        let generation = read_generation(alloc, tree)?;
+        self.generation = Some(generation);
+        Ok(generation)
+    }
+
+    /// The number of a name's stamp, which is read once.
+    pub(crate) fn stamp<T: Tree>(
+        &mut self,
+        alloc: Global,
+        tree: &mut T,
+        name: &[u8],
+    ) -> Result<u64, TreeError>
+        requires memo { T.is_honest → IsMemoOf (T.files tree.old) self.old }
+        requires name { IsTrue (is_name name.now) }
+        ensures reads { Reads T.Tree tree.old tree.new (IsErrOf result TreeError.Device) }
+        ensures memo { T.is_honest → IsMemoOf (T.files tree.new) self.new }
+        ensures number { T.is_honest → IfOk result (λ n. HasNumber (content (T.files tree.old) (stamp_path name.now)) n) }
+        ensures refused { T.is_honest → IfErr result (IsStampRefusal name.now (content (T.files tree.old) (stamp_path name.now))) }
+    {
+        let text = name_as_text(name);
+        if let Some(number) = self.stamps.get(text) {
+            return Ok(*number);
+        }
+        let number = read_stamp_of(alloc, tree, name)?;
+        let owned = String::from_str(alloc, text)?;
+        let Ok(_) = self.stamps.insert(owned, number) else {
+            return Err(TreeError::OutOfMemory);
+        };
+        Ok(number)
+    }
+
+    /// Takes the file at a path as the next source of a scan. It is scanned once.
+    pub(crate) fn add_source<T: Tree>(
+        &mut self,
+        alloc: Global,
+        tree: &mut T,
+        path: &[u8],
+        room: &mut [u8],
+        scan: &mut SourceScan,
+    ) -> Result<(), EngineError>
+        requires memo { T.is_honest → IsMemoOf (T.files tree.old) self.old }
+        requires path { IsTrue (is_path path.now) }
+        requires room { length room.old ≡ 4096 }
+        ensures memo { T.is_honest → IsMemoOf (T.files tree.new) self.new }
+        ensures reads { Reads T.Tree tree.old tree.new (IsErrOf result EngineError.Device) }
+        ensures scanned { T.is_honest → (ts : List (List ℕ)) → StandsAfter scan.old ts [] → OnOk result ((t : List ℕ) × StandsAfter scan.new (ts ++ t ∷ []) []
+            × (scanned path.now (content (T.files tree.old) path.now) ≡ Ok (names_in t))) }
+        ensures counts { OnOk result (length scan.new.counts.items ≡ length scan.old.counts.items + 1) }
+        ensures refused { T.is_honest → IfErr result (λ e. IsGivenUp e ⊎ (scanned path.now (content (T.files tree.old) path.now) ≡ Err e)) }
+    {
+        if !self.keeps_sources {
+            return scan_file(alloc, tree, path, room, scan);
+        }
+        let text = path_as_text(path);
+        if let Some(names) = self.sources.get(text) {
+            scan.add_known(names)?;
+            return Ok(());
+        }
+        let names = scan_alone(alloc, tree, path, room)?;
+        scan.add_known(&names)?;
+        let owned = String::from_str(alloc, text)?;
+        let Ok(_) = self.sources.insert(owned, names) else {
+            return Err(EngineError::OutOfMemory);
+        };
+        Ok(())
+    }
+
+    /// Forgets the sources if the file at a path is among them, since it is to be written.
+    pub(crate) fn forget(&mut self, path: &[u8])
+        ensures memo { (files : Files) → IsMemoOf files self.old → IsMemoOf files self.new }
+        ensures gone { IsNoSource path.now self.new }
+        ensures others { (q : List ℕ) → IsNoSource q self.old → IsNoSource q self.new }
+    {
+        let is_kept = match str::from_utf8(path) {
+            Ok(text) => self.sources.contains_key(text),
+            Err(_) => true,
+        };
+        if is_kept {
+            self.sources.clear();
+        }
+    }
+}

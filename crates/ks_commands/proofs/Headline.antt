@@ -1,30 +1,144 @@
--- In a batch without refusals no synchronisation is broken off.
-use Rattle.std.proofs.Common.{◌≡◌, ◌∙◌, true, List, [], ◌∷◌, map, ap}
-use Rattle.std.specs.List.{All, list_all}
-use Rattle.std.proofs.lemmas.Bool.{and_parts, false≢true}
-use Rattle.std.proofs.lemmas.List.Elements.{All-nil, All-cons}
-use Rattle.ks_engine.specs.Actions.{Action, Sync, Record, Stale}
+-- What scripts and runs of the program tell: no synchronisation was broken off before one of them where none was at the end.
+use Rattle.std.proofs.Common.{◌∙◌, ◌<◌, ℕ, List, [], ◌∷◌, Result, Ok, Err, inl, inr, ⊎_elim, sym, ap, subst, map, fold, max, arith, string_bytes}
+use Rattle.std.specs.List.{All}
+use Rattle.std.proofs.lemmas.List.Elements.{All-nil, All-cons, All-weaker}
 use Rattle.ks_engine.specs.declared.commands.Reply.{Reply}
 use Rattle.ks_engine.specs.declared.commands.Reply.TheVariants.{Synced, Recorded, Verdict, Refused}
-use Rattle.ks_engine.specs.Runs.{Step}
+use Rattle.ks_engine.specs.declared.error.EngineError.{EngineError}
+use Rattle.ks_engine.specs.declared.recording.Recorded.{Recorded as RecordAnswer}
+use Rattle.ks_engine.specs.declared.synchronise.Report.{Report}
+use Rattle.ks_engine.specs.Actions.{Action, Sync, Record, Stale}
+use Rattle.ks_engine.specs.Follows.{State, FollowsSync, FollowsRecord}
+use Rattle.ks_engine.specs.History.{NoneBroken}
+use Rattle.ks_engine.specs.Runs.{FollowsStale, Leads, Leaves, Step}
 use Rattle.ks_engine.specs.Verdicts.{IsGivenUpSync}
-use Rattle.ks_commands.specs.Statuses.{is_answered}
-use Rattle.ks_commands.specs.Laws.{BatchTellsChanges}
+use Rattle.ks_commands.specs.declared.request.Request.{Request}
+use Rattle.ks_commands.specs.declared.request.Request.TheVariants as request
+use Rattle.ks_commands.specs.Endings.{Ending}
+use Rattle.ks_commands.specs.Laws.{BatchTellsChanges, ProgramsTellChanges}
+use Rattle.ks_commands.specs.Performed.{Continues, EndsStale, by_histories}
+use Rattle.ks_commands.specs.Programs.{Chain, ProgramRun, ProgramTellsChanges, TellsChange, changes_told}
+use Rattle.ks_commands.specs.Statuses.{reply_status, worst}
 
-not_refused : (a : Action) (r : Reply) → is_answered r ≡ true → IsGivenUpSync a r → ⊥
-not_refused (Sync k d) (Refused e) h given = absurd (false≢true h)
-not_refused (Sync k d) (Synced report) h given = given
-not_refused (Sync k d) (Recorded answer) h given = given
-not_refused (Sync k d) (Verdict v) h given = given
-not_refused (Record d o c) r h given = given
-not_refused (Stale o) r h given = given
+-- ---- none was broken off before a step where none is behind it
 
-none_given_up : (steps : List Step) → list_all is_answered (map (λ step. step.reply) steps) ≡ true → All (λ step. IsGivenUpSync step.action step.reply → ⊥) steps
-none_given_up [] h = All-nil (λ step. IsGivenUpSync step.action step.reply → ⊥)
-none_given_up (s ∷ ss) h =
-    let parts = and_parts (is_answered s.reply) (list_all is_answered (map (λ step. step.reply) ss)) h in
-    All-cons (λ step. IsGivenUpSync step.action step.reply → ⊥) s ss (not_refused s.action s.reply parts.0) (none_given_up ss parts.1)
+none_before_sync : (k d : List ℕ) (answer : Result Report EngineError) (old new : State) → FollowsSync k d answer old new → NoneBroken new.history → NoneBroken old.history
+none_before_sync k d (Ok report) old new is none = subst NoneBroken is.history none
+none_before_sync k d (Err e) old new (inl plain) none = subst NoneBroken plain.1.1 none
+none_before_sync k d (Err e) old new (inr (given, inl same)) none = subst NoneBroken same.1 none
+none_before_sync k d (Err e) old new (inr (given, inr (broken, inl event))) none = absurd (subst NoneBroken event none)
+none_before_sync k d (Err e) old new (inr (given, inr (broken, inr event))) none = subst NoneBroken event none
+
+none_before_record : (d t c : List ℕ) (answer : Result RecordAnswer EngineError) (old new : State) → FollowsRecord d t c answer old new → NoneBroken new.history → NoneBroken old.history
+none_before_record d t c (Ok answer) old new is none =
+    ⊎_elim (λ claimed. subst NoneBroken claimed.1.2 none) (λ unclaimed. subst NoneBroken unclaimed.1 none) is.history
+none_before_record d t c (Err e) old new (inl plain) none = subst NoneBroken plain.1.1 none
+none_before_record d t c (Err e) old new (inr (given, inl same)) none = subst NoneBroken same.1 none
+none_before_record d t c (Err e) old new (inr (given, inr (tried, inl kept))) none = subst NoneBroken kept none
+none_before_record d t c (Err e) old new (inr (given, inr (tried, inr event))) none = subst NoneBroken event.2 none
+
+none_before_step : (a : Action) (r : Reply) (old new : State) → Leaves old a r new → NoneBroken new.history → NoneBroken old.history
+none_before_step (Sync k d) (Synced report) old new is none = none_before_sync k d (Ok report) old new is none
+none_before_step (Sync k d) (Refused e) old new is none = none_before_sync k d (Err e) old new is none
+none_before_step (Sync k d) (Recorded answer) old new is none = absurd is
+none_before_step (Sync k d) (Verdict v) old new is none = absurd is
+none_before_step (Record d t c) (Recorded answer) old new is none = none_before_record d t c (Ok answer) old new is none
+none_before_step (Record d t c) (Refused e) old new is none = none_before_record d t c (Err e) old new is none
+none_before_step (Record d t c) (Synced report) old new is none = absurd is
+none_before_step (Record d t c) (Verdict v) old new is none = absurd is
+none_before_step (Stale o) (Verdict v) old new is none = subst NoneBroken is.same.1 none
+none_before_step (Stale o) (Refused e) old new is none = subst NoneBroken is.same.1 none
+none_before_step (Stale o) (Synced report) old new is none = absurd is
+none_before_step (Stale o) (Recorded answer) old new is none = absurd is
+
+none_before_steps : (first : State) (steps : List Step) (last : State) → Leads first steps last → NoneBroken last.history → NoneBroken first.history
+none_before_steps first [] last leads none = subst (λ (s : State). NoneBroken s.history) leads none
+none_before_steps first (s ∷ ss) last leads none =
+    subst (λ (t : State). NoneBroken t.history) leads.0 (none_before_step s.action s.reply s.before s.after leads.1.leaves (none_before_steps s.after ss last leads.3 none))
+
+none_before_program : (r : Request) (ended : Ending) (old new : State) → Continues r ended old new → NoneBroken new.history → NoneBroken old.history
+none_before_program (request.Sync k d) ended old new (inl stopped) none = subst NoneBroken stopped.0.1 none
+none_before_program (request.Sync k d) ended old new (inr synced) none = none_before_sync _ _ synced.2 old new synced.3 none
+none_before_program (request.Preview k d o) ended old new is none = subst NoneBroken is.0.1 none
+none_before_program (request.Fixdep d t c) ended old new is none = subst NoneBroken is.0.1 none
+none_before_program (request.Record d t c) ended old new is none = none_before_record _ _ _ is.0 old new is.1 none
+none_before_program (request.Stale ts) ended old new is none = subst NoneBroken is.0.1 none
+none_before_program (request.Outdated t c) ended old new is none = subst NoneBroken is.0.1 none
+none_before_program (request.Batch p) ended old new (inl stopped) none = subst NoneBroken stopped.0.1 none
+none_before_program (request.Batch p) ended old new (inr (actions, at, inl memory)) none = subst NoneBroken memory.0.1 none
+none_before_program (request.Batch p) ended old new (inr (actions, at, inr ran)) none =
+    none_before_steps _ ran.1.2.steps new ran.1.2.leads none
+
+none_at_first : (first : State) (runs : List ProgramRun) (last : State) → Chain first runs last → NoneBroken last.history → NoneBroken first.history
+none_at_first first [] last same none = subst NoneBroken same.1 none
+none_at_first first (run ∷ runs) last chain none =
+    subst NoneBroken chain.0.1 (none_before_program run.request run.ended run.before run.after chain.1 (none_at_first run.after runs last chain.3 none))
+
+-- ---- what is told then
+
+stale_tells : (old new : State) (objects : List (List ℕ)) (ended : Ending) → NoneBroken old.history → EndsStale (by_histories old new) objects ended → EndsStale (changes_told old) objects ended
+stale_tells old new objects ended none (inl memory) = inl memory
+stale_tells old new objects ended none (inr (text, status, are, tells)) = inr (
+  text,
+  status,
+  record {
+    answers = are.answers;
+    of_objects = are.of_objects;
+    each = All-weaker (λ p. FollowsStale old p.0 p.1 new) (λ p. TellsChange old p.0 p.1)
+        (λ p is. record { changed = λ r was. (is.recorded r was).changed none; safe = λ r was fresh. (is.recorded r was).safe fresh }) are.answers are.each;
+    lines = are.lines;
+    worst_of = are.worst_of;
+  },
+  tells,
+)
+
+program_tells : (r : Request) (ended : Ending) (old new : State) → Continues r ended old new → NoneBroken new.history → ProgramTellsChanges (record { before = old; request = r; ended = ended; after = new })
+program_tells (request.Sync k d) ended old new (inl stopped) none = inl (tt, stopped.1)
+program_tells (request.Sync k d) ended old new (inr synced) none = inr (synced.0, synced.1, synced.2, tt, synced.4)
+program_tells (request.Preview k d o) ended old new is none = (tt, is.1)
+program_tells (request.Fixdep d t c) ended old new is none = (tt, is.1)
+program_tells (request.Record d t c) ended old new is none = (is.0, tt, is.2)
+program_tells (request.Stale ts) ended old new is none =
+    (tt, stale_tells old new (map (λ t. string_bytes t) ts.items) ended (none_before_program (request.Stale ts) ended old new is none) is.1)
+program_tells (request.Outdated t c) ended old new is none = (tt, (is.1.0, tt, is.1.2))
+program_tells (request.Batch p) ended old new (inl stopped) none = inl (tt, stopped.1)
+program_tells (request.Batch p) ended old new (inr (actions, at, inl memory)) none = inr (actions, at, inl (tt, memory.1))
+program_tells (request.Batch p) ended old new (inr (actions, at, inr ran)) none =
+    let run = ran.1.2 in
+    inr (actions, at, inr (ran.0, (run.steps, run.actions, run.replies, run.changed none), ran.2))
+
+pub programs_tell_changes : ProgramsTellChanges
+programs_tell_changes first last [] chain none = All-nil ProgramTellsChanges
+programs_tell_changes first last (run ∷ runs) chain none =
+    All-cons ProgramTellsChanges run runs (program_tells run.request run.ended run.before run.after chain.1 (none_at_first run.after runs last chain.3 none))
+    (programs_tell_changes run.after last runs chain.3 none)
+
+-- ---- a script without a refusal
+
+-- a worst status below 2 is one of statuses below 2
+below_two : (a : ℕ) (xs : List ℕ) → fold max a xs < 2 → a < 2
+below_two a [] h = h
+below_two a (x ∷ xs) h = omega (arith, below_two (max a x) xs h)
+
+not_given_up : (a : Action) (r : Reply) → reply_status r < 2 → IsGivenUpSync a r → ⊥
+not_given_up (Sync k d) (Refused e) small given = omega (arith, small)
+not_given_up (Sync k d) (Synced report) small given = given
+not_given_up (Sync k d) (Recorded answer) small given = given
+not_given_up (Sync k d) (Verdict v) small given = given
+not_given_up (Record d o c) r small given = given
+not_given_up (Stale o) r small given = given
+
+none_given_up : (a : ℕ) (steps : List Step) → fold max a (map reply_status (map (λ step. step.reply) steps)) < 2 → All (λ step. IsGivenUpSync step.action step.reply → ⊥) steps
+none_given_up a [] small = All-nil (λ step. IsGivenUpSync step.action step.reply → ⊥)
+none_given_up a (s ∷ ss) small =
+    let one = reply_status s.reply in
+    let both = below_two (max a one) (map reply_status (map (λ step. step.reply) ss)) small in
+    All-cons (λ step. IsGivenUpSync step.action step.reply → ⊥) s ss (not_given_up s.action s.reply (omega (arith, both))) (none_given_up (max a one) ss small)
 
 pub batch_tells_changes : BatchTellsChanges
-batch_tells_changes script before after text status batch none =
-    batch.runs.run.changed (batch.runs.run.unbroken none (none_given_up batch.runs.run.steps (ap (list_all is_answered) batch.runs.run.replies ∙ batch.told.answered)))
+batch_tells_changes path o old new small none (inl stopped) = inl (tt, stopped.1)
+batch_tells_changes path o old new small none (inr (actions, at, inl memory)) = inr (actions, at, inl (tt, memory.1))
+batch_tells_changes path o old new small none (inr (actions, at, inr ran)) =
+    let run = ran.1.2 in
+    let below : worst (map reply_status (map (λ step. step.reply) run.steps)) < 2 = subst (λ n. n < 2) (ran.2.1 ∙ ap (λ rs. worst (map reply_status rs)) (sym run.replies)) small in
+    inr (actions, at, inr (ran.0, (run.steps, run.actions, run.replies, run.changed (run.unbroken none (none_given_up 0 run.steps below))), ran.2))

@@ -1,6 +1,8 @@
 pub mod Refusing
 pub mod Writing
 pub mod Printing
-pub mod Headline
+pub mod Loading
+pub mod Continuing
 pub mod Verdicts
-pub mod Scripts
+pub mod Ending
+pub mod Headline

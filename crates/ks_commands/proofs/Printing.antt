@@ -1,12 +1,12 @@
 -- The lines of replies, from a place on.
-use Rattle.std.proofs.Common.{◌≡◌, ◌∙◌, ◌<◌, ◌+◌, ℕ, zero, suc, true, List, [], ◌∷◌, ◌++◌, length, drop, map, get_or, refl, sym, ap, ap₂, subst, arith, drop-cons, append_assoc}
-use Rattle.std.specs.List.{list_all}
-use Rattle.std.proofs.lemmas.Bool.{and_parts}
+use Rattle.std.proofs.Common.{◌≡◌, ◌∙◌, ◌<◌, ◌+◌, ℕ, suc, List, [], ◌∷◌, ◌++◌, length, drop, take, map, get_or, max, refl, sym, ap, ap₂, subst, arith, drop-cons, append_assoc}
+use Rattle.std.proofs.lemmas.List.{map-append, take_more}
+use Rattle.std.proofs.lemmas.List.Sums.{fold-append}
 use Rattle.ks_engine.specs.declared.commands.Command.{Command}
 use Rattle.ks_engine.specs.declared.commands.Reply.{Reply}
 use Rattle.ks_engine.specs.Actions.{action}
 use Rattle.ks_commands.specs.Replies.{reply_line, reply_lines}
-use Rattle.ks_commands.specs.Statuses.{is_answered}
+use Rattle.ks_commands.specs.Statuses.{worst}
 
 pub lines_from : (cs : List Command) (rs : List Reply) (i : ℕ) (c : Command) (r : Reply) → i < length cs → i < length rs
     → reply_lines (map action (drop i cs)) (drop i rs) ≡ reply_line (action (get_or cs i c)) (get_or rs i r) ++ reply_lines (map action (drop (suc i) cs)) (drop (suc i) rs)
@@ -16,11 +16,6 @@ lines_from cs rs i c r in_cs in_rs = ap₂ (λ xs ys. reply_lines (map action xs
 pub no_lines : (rs : List Reply) → reply_lines [] rs ≡ []
 unfolding reply_lines
 no_lines rs = refl
-
-pub answered_at : (rs : List Reply) (i : ℕ) (r : Reply) → i < length rs → list_all is_answered rs ≡ true → is_answered (get_or rs i r) ≡ true
-answered_at [] i r lt all = absurd (omega arith)
-answered_at (x ∷ rs) zero r lt all = (and_parts (is_answered x) _ all).0
-answered_at (x ∷ rs) (suc i) r lt all = answered_at rs i r (omega arith) (and_parts (is_answered x) _ all).1
 
 -- one line more
 pub lines_more : (cs : List Command) (rs : List Reply) (i : ℕ) (c : Command) (r : Reply) (old new all : List ℕ) → i < length cs → i < length rs
@@ -37,3 +32,10 @@ lines_more cs rs i c r old new all in_cs in_rs so_far at more =
 -- a piece behind what was appended already
 pub then_appended : (old one new a b : List ℕ) → one ≡ old ++ a → new ≡ one ++ b → new ≡ old ++ (a ++ b)
 then_appended old one new a b first second = second ∙ ap (λ xs. xs ++ b) first ∙ append_assoc old a b
+
+-- the worst of one status more
+pub worst_more : {X : Type 0} (f : X → ℕ) (xs : List X) (i : ℕ) (x : X) (status one all : ℕ) → i < length xs → x ≡ get_or xs i x
+    → status ≡ worst (map f (take i xs)) → one ≡ f x → all ≡ max status one → all ≡ worst (map f (take (i + 1) xs))
+worst_more f xs i x status one all within at so_far this now =
+    now ∙ ap₂ max so_far (this ∙ ap f at)
+    ∙ sym (ap (λ ys. worst (map f ys)) (take_more xs i x within) ∙ ap worst (map-append f (take i xs) (get_or xs i x ∷ [])) ∙ fold-append max 0 (map f (take i xs)) (f (get_or xs i x) ∷ []))

@@ -1,37 +1,44 @@
 -- The refusal of a part is that of the preview, where the parts before it are not refused.
-use Rattle.std.proofs.Common.{◌≡◌, ◌≢◌, ◌-◌, ◌^◌, ℕ, List, Option, Some, None, option_map, refl, ap, ◌∙◌}
+use Rattle.std.proofs.Common.{◌≡◌, inl, inr, sym, subst, ◌≢◌, ◌-◌, ◌^◌, ℕ, List, Option, Some, None, option_map, refl, ap, ◌∙◌}
 use Rattle.std.proofs.lemmas.Bool.{cond-true, cond-false, eq-eqb, ne_eqb}
 use Rattle.ks_symbols.specs.declared.error.SourceError.{SourceError}
 use Rattle.ks_symbols.specs.declared.error.SourceError.TheVariants as source
 use Rattle.ks_symbols.specs.Refusals.{or_else, IsRefusal}
 use Rattle.ks_output.specs.declared.auto_conf.AutoError.{AutoError}
 use Rattle.ks_output.specs.declared.auto_conf.AutoError.TheVariants as auto
-use Rattle.ks_output.specs.AutoConf.{IsAutoRefusal}
 use Rattle.ks_commands.specs.declared.preview.PreviewError.{PreviewError}
 use Rattle.ks_commands.specs.declared.preview.PreviewError.TheVariants as preview
 use Rattle.ks_engine.specs.SyncPlan.{source_refusal}
 use Rattle.ks_commands.specs.Preview.{IsPreviewRefusal, WritesNothing, old_refusal, old_generation, full_refusal, preview_refusal}
 
-pub source_refused : (e : SourceError) (r : Option SourceError) (later : Option PreviewError) → IsRefusal e r
+source_refusal_is : (e : SourceError) (o : Option PreviewError) → o ≡ Some (preview.Source e) → IsPreviewRefusal (preview.Source e) o
+source_refusal_is (source.NotBare n) o h = h
+source_refusal_is (source.BadName n) o h = h
+source_refusal_is (source.ModuleName n) o h = h
+source_refusal_is (source.NoType n) o h = h
+source_refusal_is (source.TypeClash n) o h = h
+source_refusal_is (source.BadTitle n) o h = h
+source_refusal_is (source.NotAConfigLine n) o h = h
+source_refusal_is (source.BadValue n) o h = h
+source_refusal_is source.TooLarge o h = h
+source_refusal_is source.OutOfMemory o h = tt
+
+auto_refusal_is : (e : AutoError) (o : Option PreviewError) → o ≡ Some (preview.Auto e) → IsPreviewRefusal (preview.Auto e) o
+auto_refusal_is (auto.BadAuto n) o h = h
+auto_refusal_is auto.TooLarge o h = h
+auto_refusal_is auto.OutOfMemory o h = tt
+
+pub source_refused : (e : SourceError) (r : Option SourceError) (later : Option PreviewError) → IsRefusal source.OutOfMemory e r
     → IsPreviewRefusal (preview.Source e) (or_else (option_map preview.Source r) later)
-source_refused (source.NotBare n) r later h = ap (λ o. or_else (option_map preview.Source o) later) h
-source_refused (source.BadName n) r later h = ap (λ o. or_else (option_map preview.Source o) later) h
-source_refused (source.ModuleName n) r later h = ap (λ o. or_else (option_map preview.Source o) later) h
-source_refused (source.NoType n) r later h = ap (λ o. or_else (option_map preview.Source o) later) h
-source_refused (source.TypeClash n) r later h = ap (λ o. or_else (option_map preview.Source o) later) h
-source_refused (source.BadTitle n) r later h = ap (λ o. or_else (option_map preview.Source o) later) h
-source_refused (source.NotAConfigLine n) r later h = ap (λ o. or_else (option_map preview.Source o) later) h
-source_refused (source.BadValue n) r later h = ap (λ o. or_else (option_map preview.Source o) later) h
-source_refused source.TooLarge r later h = ap (λ o. or_else (option_map preview.Source o) later) h
-source_refused source.OutOfMemory r later h = tt
+source_refused e r later (inl memory) = subst (λ x. IsPreviewRefusal (preview.Source x) (or_else (option_map preview.Source r) later)) (sym memory) tt
+source_refused e r later (inr h) = source_refusal_is e _ (ap (λ o. or_else (option_map preview.Source o) later) h)
 
-pub auto_refused : (e : AutoError) (r : Option AutoError) (later : Option PreviewError) → IsAutoRefusal e r
+pub auto_refused : (e : AutoError) (r : Option AutoError) (later : Option PreviewError) → IsRefusal auto.OutOfMemory e r
     → IsPreviewRefusal (preview.Auto e) (or_else (option_map preview.Auto r) later)
-auto_refused (auto.BadAuto n) r later h = ap (λ o. or_else (option_map preview.Auto o) later) h
-auto_refused auto.TooLarge r later h = ap (λ o. or_else (option_map preview.Auto o) later) h
-auto_refused auto.OutOfMemory r later h = tt
+auto_refused e r later (inl memory) = subst (λ x. IsPreviewRefusal (preview.Auto x) (or_else (option_map preview.Auto r) later)) (sym memory) tt
+auto_refused e r later (inr h) = auto_refusal_is e _ (ap (λ o. or_else (option_map preview.Auto o) later) h)
 
-pub texts_refused : (kconfig dotconfig : List ℕ) (old : Option (List ℕ)) (e : SourceError) → IsRefusal e (source_refusal kconfig dotconfig)
+pub texts_refused : (kconfig dotconfig : List ℕ) (old : Option (List ℕ)) (e : SourceError) → IsRefusal source.OutOfMemory e (source_refusal kconfig dotconfig)
     → IsPreviewRefusal (preview.Source e) (preview_refusal kconfig dotconfig old)
 unfolding preview_refusal
 texts_refused kconfig dotconfig old e h = source_refused e (source_refusal kconfig dotconfig) _ h

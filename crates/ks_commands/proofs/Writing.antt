@@ -1,7 +1,9 @@
--- What a writer is known to hold, over two calls.
-use Rattle.std.proofs.Common.{◌≡◌, ℕ, List, Option, Some, None, subst, ◌∙◌}
+-- What a writer is known to hold, over several calls.
+use Rattle.std.proofs.Common.{◌≡◌, ◌+◌, ◌-◌, ℕ, refl, List, [], ◌++◌, Option, Some, None, subst, sym, ap, ◌∙◌, append_assoc, append-nil, take, drop, length}
+use Rattle.std.proofs.lemmas.List.{take_rest, take-append-drop}
+use Rattle.std.proofs.Math.Seq.{take-add}
 use Rattle.std.specs.Io.KnownBytes.{Appends, Keeps}
-use Rattle.ks_commands.specs.Preview.{IsPreview, Previews}
+use Rattle.ks_commands.specs.Endings.{IsPart}
 
 -- what was appended stays
 pub appended_kept : (first second third : Option (List ℕ)) (text : List ℕ) → Appends first second text → Keeps second third → Appends first third text
@@ -10,11 +12,41 @@ appended_kept (Some x) None third text a k = absurd a
 appended_kept (Some x) (Some y) None text a k = absurd k
 appended_kept (Some x) (Some y) (Some z) text a k = k ∙ a
 
--- a preview of the same texts, which the writer keeps
-pub preview_kept : (k k' d d' : List ℕ) (o o' first second third : Option (List ℕ)) → k ≡ k' → d ≡ d' → o ≡ o' → Previews k d o first second → Keeps second third
-    → Previews k' d' o' first third
-preview_kept k k' d d' o o' first second third same_k same_d same_o p kept = record {
-  text = p.text;
-  is_preview = subst (λ (x : List ℕ). IsPreview x d' o' p.text) same_k (subst (λ (x : List ℕ). IsPreview k x o' p.text) same_d (subst (λ (x : Option (List ℕ)). IsPreview k d x p.text) same_o p.is_preview));
-  appended = appended_kept first second third p.text p.appended kept;
-}
+pub keeps_itself : (known : Option (List ℕ)) → Keeps known known
+keeps_itself None = tt
+keeps_itself (Some x) = refl
+
+pub nothing_appended : (known : Option (List ℕ)) → Appends known known []
+nothing_appended None = tt
+nothing_appended (Some x) = sym (append-nil x)
+
+pub kept_of_nothing : (first second : Option (List ℕ)) → Appends first second [] → Keeps first second
+kept_of_nothing None second a = tt
+kept_of_nothing (Some x) None a = absurd a
+kept_of_nothing (Some x) (Some y) a = a ∙ append-nil x
+
+-- and more is appended to it
+pub appended_more : (first second third : Option (List ℕ)) (a b : List ℕ) → Appends first second a → Appends second third b → Appends first third (a ++ b)
+appended_more None second third a b p q = tt
+appended_more (Some x) None third a b p q = absurd p
+appended_more (Some x) (Some y) None a b p q = absurd q
+appended_more (Some x) (Some y) (Some z) a b p q = q ∙ ap (λ l. l ++ b) p ∙ append_assoc x a b
+
+-- the next bytes of a text that is written from its front
+pub written_more : (first second third : Option (List ℕ)) (xs : List ℕ) (i n : ℕ) → Appends first second (take i xs)
+    → Appends second third (take n (take (length xs - i) (drop i xs))) → Appends first third (take (i + n) xs)
+written_more first second third xs i n p q =
+    subst (Appends first third) (ap (λ l. take i xs ++ take n l) (take_rest xs i) ∙ sym (take-add i n xs)) (appended_more first second third (take i xs) _ p q)
+
+pub part_written : (first second third : Option (List ℕ)) (xs : List ℕ) (i : ℕ) → Appends first second (take i xs) → Keeps second third → IsPart xs first third
+part_written first second third xs i p k = (take i xs, drop i xs, sym (take-append-drop i xs), appended_kept first second third (take i xs) p k)
+
+-- a part of what stands behind that which is written
+pub part_behind : (first second third : Option (List ℕ)) (front xs behind whole : List ℕ) → whole ≡ front ++ (xs ++ behind) → Appends first second front → IsPart xs second third
+    → IsPart whole first third
+part_behind first second third front xs behind whole is p part = (
+  front ++ part.0,
+  part.1 ++ behind,
+  is ∙ ap (λ l. front ++ l) (ap (λ l. l ++ behind) part.2 ∙ append_assoc part.0 part.1 behind) ∙ sym (append_assoc front part.0 (part.1 ++ behind)),
+  appended_more first second third front part.0 p part.3,
+)

@@ -1,13 +1,53 @@
--- The law that a script's answers rest on: what its verdicts tell.
-use Rattle.std.specs.Prelude.{ℕ, List}
+-- Laws of the definitions: what a preview has written, what a refusal leaves, the statuses, and what runs of the program tell.
+use Rattle.std.specs.Prelude.{◌≡◌, ◌⊎◌, ◌<◌, ◌≤◌, ℕ, List, Option, Err, IfOk, Ok}
 use Rattle.std.specs.List.{All}
-use Rattle.ks_engine.specs.History.{NoneBroken}
+use Rattle.ks_tree.specs.Files.{Files}
 use Rattle.ks_engine.specs.Follows.{State}
-use Rattle.ks_engine.specs.Verdicts.{IsChangedVerdict}
-use Rattle.ks_commands.specs.Batch.{IsBatch}
+use Rattle.ks_engine.specs.History.{NoneBroken}
+use Rattle.ks_commands.specs.declared.refusal.Refusal.{Refusal}
+use Rattle.ks_commands.specs.declared.request.Request.{Request}
+use Rattle.ks_commands.specs.declared.status.Outcome.{Outcome}
+use Rattle.ks_commands.specs.declared.status.Status.TheVariants.{Done}
+use Rattle.ks_commands.specs.Endings.{Ending, Printed}
+use Rattle.ks_commands.specs.Outputs.{WritesPreview}
+use Rattle.ks_commands.specs.Performed.{Ends, EndsBatch, by_files, by_histories}
+use Rattle.ks_commands.specs.Programs.{Chain, ProgramRun, ProgramTellsChanges, changes_told}
+use Rattle.ks_commands.specs.Requests.{IsPreviewOf}
+use Rattle.ks_commands.specs.Scripts.{HasGivenUp}
+use Rattle.ks_commands.specs.Statuses.{code_of}
 
--- After a history without a broken synchronisation, each verdict of a script on a recorded object is the first of its names that changed since.
+-- A preview is done or refused, leaves the files as they are, and once done it has printed what is said of these words.
+pub record IsPreviewed (k d : List ℕ) (o : Option (List ℕ)) (old new : Files) (before after : Option (List ℕ)) (status : ℕ) : Type 0 where
+  pub answered : (status ≡ 0) ⊎ (status ≡ 2)
+  pub written : status ≡ 0 → WritesPreview old k d o before after
+  pub unchanged : new ≡ old
+
+abbrev pub PreviewsArePerformed : Type 0
+PreviewsArePerformed =
+    (k d : List ℕ) (o : Option (List ℕ)) (request : Request) (ended : Ending) (old new : Files)
+    (before after err_before err_after : Option (List ℕ)) (status : ℕ)
+    → IsPreviewOf k d o request → Ends old (by_files old new) request ended → Printed ended before after err_before err_after status
+    → IsPreviewed k d o old new before after status
+
+-- A refusal of the whole command leaves the files as before, but for want of memory and a failure of the device.
+abbrev pub RefusalsChangeNothing : Type 0
+RefusalsChangeNothing = (request : Request) (refusal : Refusal) (old new : Files)
+    → (HasGivenUp refusal → ⊥) → Ends old (by_files old new) request (Err refusal) → new ≡ old
+
+-- The status is at most 2, and 0 or 2 of what is done or refused.
+pub record IsStatusOf (ended : Ending) (status : ℕ) : Type 0 where
+  pub at_most : status ≤ 2
+  pub done : IfOk ended (λ o. o.status ≡ Done) → (status ≡ 0) ⊎ (status ≡ 2)
+
+abbrev pub StatusesAreAtMostTwo : Type 0
+StatusesAreAtMostTwo = (ended : Ending) (before after err_before err_after : Option (List ℕ)) (status : ℕ)
+    → Printed ended before after err_before err_after status → IsStatusOf ended status
+
+-- A script that runs without a refusal, after a history without a broken synchronisation, tells what changed.
 abbrev pub BatchTellsChanges : Type 0
-BatchTellsChanges =
-    (script : List ℕ) (before after : State) (text : List ℕ) (status : ℕ) → (batch : IsBatch script before after text status)
-    → NoneBroken before.history → All (λ step. IsChangedVerdict step.before.history step.action step.reply) batch.runs.run.steps
+BatchTellsChanges = (path : List ℕ) (o : Outcome) (old new : State) → code_of o.status < 2 → NoneBroken old.history
+    → EndsBatch old.files (by_histories old new) path (Ok o) → EndsBatch old.files (changes_told old) path (Ok o)
+
+-- So does each of any list of runs of the program, of which no synchronisation was broken off.
+abbrev pub ProgramsTellChanges : Type 0
+ProgramsTellChanges = (first last : State) (runs : List ProgramRun) → Chain first runs last → NoneBroken last.history → All ProgramTellsChanges runs

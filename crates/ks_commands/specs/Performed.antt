@@ -1,18 +1,173 @@
--- What each request leaves in the tree and prints, where nothing of it was refused.
-use Rattle.std.specs.Prelude.{ℕ, List, Option, map, option_map, string_bytes, ⊤}
-use Rattle.ks_tree.specs.Files.{Files}
+-- What each request comes to, by the files of a tree and by its history alike.
+use Rattle.std.specs.Prelude.{◌≡◌, ◌≢◌, ◌⊎◌, ◌≤◌, ℕ, List, Option, Result, Ok, Err, map, flat_map, option_map, string_bytes, length, Some, IfOk, IsTrue}
+use Rattle.std.specs.List.{All}
+use Rattle.ks_fixdep.specs.CommandFile.{is_command}
+use Rattle.ks_tree.specs.declared.tree.Tree.{Ghosts}
+use Rattle.ks_tree.specs.Files.{Files, HasRisen}
+use Rattle.ks_engine.specs.declared.error.EngineError.{EngineError}
+use Rattle.ks_engine.specs.declared.error.EngineError.TheVariants.{OutOfMemory, Device}
+use Rattle.ks_engine.specs.declared.commands.Reply.{Reply}
+use Rattle.ks_engine.specs.declared.recording.Recorded.{Recorded as RecordAnswer}
+use Rattle.ks_engine.specs.declared.synchronise.Report.{Report}
+use Rattle.ks_engine.specs.declared.staleness.BuildState.{BuildState}
+use Rattle.ks_engine.specs.declared.staleness.Verdict.{Verdict}
+use Rattle.ks_engine.specs.Actions.{Action}
+use Rattle.ks_engine.specs.Asked.{asked, IsAnswer}
+use Rattle.ks_engine.specs.Built.{built, IsBuilt}
+use Rattle.ks_engine.specs.Follows.{State, at, IsSame, GoesOn, FollowsSync, FollowsRecord}
+use Rattle.ks_engine.specs.History.{History, Record as LastRecord, last_record}
+use Rattle.ks_engine.specs.Judged.{IsJudged, IsBuildJudged}
+use Rattle.ks_engine.specs.Recorded.{IsRecorded, IsRecordRefused}
+use Rattle.ks_engine.specs.Refusals.{Answers, GaveUp}
+use Rattle.ks_engine.specs.Runs.{Run, FollowsStale}
+use Rattle.ks_engine.specs.Shows.{Shows}
+use Rattle.ks_engine.specs.Synchronised.{IsSynced, IsSyncRefused}
+use Rattle.ks_commands.specs.declared.preview.PreviewError.{PreviewError}
+use Rattle.ks_commands.specs.declared.preview.PreviewError.TheVariants.{Output as PreviewOutput}
+use Rattle.ks_commands.specs.declared.refusal.Refusal.TheVariants.{Engine}
 use Rattle.ks_commands.specs.declared.request.Request.{Request}
 use Rattle.ks_commands.specs.declared.request.Request.TheVariants.{Batch, Fixdep, Outdated, Preview, Record, Stale, Sync}
-use Rattle.ks_commands.specs.Changes.{WritesRecord, WritesSync}
-use Rattle.ks_commands.specs.Outputs.{WritesCommandFile, WritesPreview}
-use Rattle.ks_commands.specs.Questions.{WritesState, WritesVerdicts}
+use Rattle.ks_commands.specs.declared.status.Status.TheVariants.{Done}
+use Rattle.ks_commands.specs.Endings.{Answered, Ending, Stopped, Tells}
+use Rattle.ks_commands.specs.Inputs.{Inputs, Texts, command_file_at, inputs_at, texts_at}
+use Rattle.ks_commands.specs.Preview.{IsPreview, IsPreviewRefusal, of_preview, preview_refusal}
+use Rattle.ks_commands.specs.Replies.{answer_line, build_line, recorded_line, reply_lines, report_lines, verdict_line}
+use Rattle.ks_commands.specs.Requests.{IsNoQuestion}
+use Rattle.ks_commands.specs.Scripts.{StoppedScript, script_at}
+use Rattle.ks_commands.specs.Statuses.{build_status, reply_status, status_unless_refused, verdict_status, worst}
 
--- By the files alone; what a script does is said by its history.
-abbrev pub IsPerformed : Request → Files → Files → Option (List ℕ) → Option (List ℕ) → ℕ → Type 0
-IsPerformed (Sync k d) old new before after status = WritesSync (string_bytes k) (string_bytes d) old new before after
-IsPerformed (Preview k d o) old new before after status = WritesPreview old (string_bytes k) (string_bytes d) (option_map (λ path. string_bytes path) o) before after
-IsPerformed (Fixdep d t c) old new before after status = WritesCommandFile old (string_bytes d) (string_bytes t) (string_bytes c) before after
-IsPerformed (Record d t c) old new before after status = WritesRecord (string_bytes d) (string_bytes t) (string_bytes c) old new before after
-IsPerformed (Stale targets) old new before after status = WritesVerdicts old (map (λ target. string_bytes target) targets.items) before after status
-IsPerformed (Outdated t c) old new before after status = WritesState old (string_bytes t) (string_bytes c) before after status
-IsPerformed (Batch script) old new before after status = ⊤
+-- What the engine's calls answer and leave: the one way of saying it by files, the other by histories.
+pub record Effects : Type 1 where
+  -- all is as before
+  pub same : Type 0
+  pub sync : (kconfig dotconfig : List ℕ) → Result Report EngineError → Type 0
+  pub recording : (depfile target command : List ℕ) → Result RecordAnswer EngineError → Type 0
+  pub stale : (target : List ℕ) → Result Verdict EngineError → Type 0
+  pub outdated : (target command : List ℕ) → Result BuildState EngineError → Type 0
+  pub run : List Action → List Reply → Type 0
+
+-- Nothing has changed where the two files can't be read. Else it ends as the engine answers.
+abbrev pub EndsSync : Files → Effects → List ℕ → List ℕ → Ending → Type 0
+EndsSync files effects k d ended =
+    (effects.same × Stopped (texts_at files k d) ended)
+    ⊎ ((t : Texts) × (texts_at files k d ≡ Ok t)
+    × (answer : Result Report EngineError) × effects.sync t.kconfig t.dotconfig answer × Answered report_lines answer ended)
+
+-- The engine looks at the words of a record itself.
+abbrev pub EndsRecord : Effects → List ℕ → List ℕ → List ℕ → Ending → Type 0
+EndsRecord effects d t c ended = (answer : Result RecordAnswer EngineError) × effects.recording d t c answer × Answered (recorded_line t) answer ended
+
+-- A preview of what the files hold, or the refusal that their texts have.
+abbrev pub EndsPreview : Files → List ℕ → List ℕ → Option (List ℕ) → Ending → Type 0
+EndsPreview files k d o ended =
+    Stopped (inputs_at files k d o) ended
+    ⊎ ((i : Inputs) × (inputs_at files k d o ≡ Ok i) × (((text : List ℕ) × IsPreview i.kconfig i.dotconfig i.old text × Tells text 0 ended)
+    ⊎ ((e : PreviewError) × (e ≢ PreviewOutput) × IsPreviewRefusal e (preview_refusal i.kconfig i.dotconfig i.old) × (ended ≡ Err (of_preview e)))))
+
+abbrev pub EndsFixdep : Files → List ℕ → List ℕ → List ℕ → Ending → Type 0
+EndsFixdep files d t c ended =
+    (answer : Result (List ℕ) EngineError) × Answers (command_file_at files d t c) (λ text. text) answer × Answered (λ text. text) answer ended
+
+-- Each object has its answer, in order: a line for each, and the worst status.
+pub record AreAnswers (stale : List ℕ → Result Verdict EngineError → Type 0) (objects : List (List ℕ)) (text : List ℕ) (status : ℕ) : Type 0 where
+  pub answers : List (List ℕ × Result Verdict EngineError)
+  pub of_objects : map (λ p. p.0) answers ≡ objects
+  pub each : All (λ p. stale p.0 p.1) answers
+  pub lines : text ≡ flat_map (λ p. answer_line verdict_line p.0 p.1) answers
+  pub worst_of : status ≡ worst (map (λ p. status_unless_refused verdict_status p.1) answers)
+
+abbrev pub EndsStale : Effects → List (List ℕ) → Ending → Type 0
+EndsStale effects objects ended =
+    (ended ≡ Err (Engine OutOfMemory)) ⊎ ((text : List ℕ) × (status : ℕ) × AreAnswers effects.stale objects text status × Tells text status ended)
+
+abbrev pub EndsOutdated : Effects → List ℕ → List ℕ → Ending → Type 0
+EndsOutdated effects o c ended =
+    (answer : Result BuildState EngineError) × effects.outdated o c answer
+    × Tells (answer_line build_line o answer) (status_unless_refused build_status answer) ended
+
+-- Memory is refused before the first command; else each command has its reply and its line.
+abbrev pub RunsAll : Type 0 → (List Reply → Type 0) → List Action → Ending → Type 0
+RunsAll same run actions ended =
+    (same × (ended ≡ Err (Engine OutOfMemory)))
+    ⊎ ((replies : List Reply) × run replies × Tells (reply_lines actions replies) (worst (map reply_status replies)) ended)
+
+-- Nothing has changed where the script or its files can't be read.
+abbrev pub EndsBatch : Files → Effects → List ℕ → Ending → Type 0
+EndsBatch files effects path ended =
+    (effects.same × StoppedScript (script_at files path) ended)
+    ⊎ ((actions : List Action) × (script_at files path ≡ Ok actions) × RunsAll effects.same (effects.run actions) actions ended)
+
+abbrev pub Ends : Files → Effects → Request → Ending → Type 0
+Ends files effects (Sync k d) ended = EndsSync files effects (string_bytes k) (string_bytes d) ended
+Ends files effects (Preview k d o) ended = effects.same × EndsPreview files (string_bytes k) (string_bytes d) (option_map (λ path. string_bytes path) o) ended
+Ends files effects (Fixdep d t c) ended = effects.same × EndsFixdep files (string_bytes d) (string_bytes t) (string_bytes c) ended
+Ends files effects (Record d t c) ended = EndsRecord effects (string_bytes d) (string_bytes t) (string_bytes c) ended
+Ends files effects (Stale targets) ended = effects.same × EndsStale effects (map (λ target. string_bytes target) targets.items) ended
+Ends files effects (Outdated t c) ended = effects.same × EndsOutdated effects (string_bytes t) (string_bytes c) ended
+Ends files effects (Batch script) ended = EndsBatch files effects (string_bytes script) ended
+
+-- ---- by files
+
+abbrev pub LeavesSync : Files → Files → List ℕ → List ℕ → Result Report EngineError → Type 0
+LeavesSync old new k d (Ok report) = IsSynced old new k d report
+LeavesSync old new k d (Err e) = IsSyncRefused old new k d e
+
+abbrev pub LeavesRecord : Files → Files → List ℕ → List ℕ → List ℕ → Result RecordAnswer EngineError → Type 0
+LeavesRecord old new d t c (Ok answer) = IsRecorded old new d t c answer
+LeavesRecord old new d t c (Err e) = IsRecordRefused old new d t c e
+
+-- what a question is answered, whichever history is shown
+pub record IsAnswerOn (files : Files) (o : List ℕ) (answer : Result Verdict EngineError) : Type 0 where
+  pub by_files : GaveUp answer ⊎ IsAnswer files (asked files o) answer
+  pub recorded : (h : History) (r : LastRecord) → Shows files h → last_record h o ≡ Some r → IsJudged files h o r answer
+
+pub record IsStateOf (files : Files) (o command : List ℕ) (answer : Result BuildState EngineError) : Type 0 where
+  pub by_files : GaveUp answer ⊎ IsBuilt files (built files o command) answer
+  pub recorded : IsTrue (is_command command) → (h : History) (r : LastRecord)
+      → Shows files h → last_record h o ≡ Some r → IsBuildJudged files h o command r answer
+
+-- A run is said by its history alone.
+abbrev pub by_files : Files → Files → Effects
+by_files old new = record {
+  same = new ≡ old;
+  sync = LeavesSync old new;
+  recording = LeavesRecord old new;
+  stale = IsAnswerOn old;
+  outdated = IsStateOf old;
+  run = λ actions replies. length replies ≡ length actions;
+}
+
+-- ---- by histories
+
+-- of an object and a command
+pub record FollowsOutdated (old : State) (o command : List ℕ) (answer : Result BuildState EngineError) (new : State) : Type 0 where
+  pub same : IsSame old new
+  pub by_files : GaveUp answer ⊎ IsBuilt old.files (built old.files o command) answer
+  pub recorded : IsTrue (is_command command) → (r : LastRecord) → last_record old.history o ≡ Some r → IsBuildJudged old.files old.history o command r answer
+
+-- The files of a script are read before its run begins.
+abbrev pub Runs : State → State → List Action → List Reply → Type 0
+Runs old new actions replies = (failures : ℕ) × (old.failures ≤ failures) × Run (at old.files failures old.history) actions replies new
+
+abbrev pub by_histories : State → State → Effects
+by_histories old new = record {
+  same = IsSame old new;
+  sync = λ k d answer. FollowsSync k d answer old new;
+  recording = λ d t c answer. FollowsRecord d t c answer old new;
+  stale = λ o answer. FollowsStale old o answer new;
+  outdated = λ o command answer. FollowsOutdated old o command answer new;
+  run = Runs old new;
+}
+
+-- The next state of a tree, by this request that ended so.
+abbrev pub Continues : Request → Ending → State → State → Type 0
+Continues request ended old new = Ends old.files (by_histories old new) request ended
+
+-- ---- both
+
+-- It ended so: by the files, by each history that they show, and by what the tree has counted.
+pub record Performs {T : Type 0} (tree : Ghosts T) (old new : T) (request : Request) (ended : Ending) : Type 0 where
+  pub done : IsNoQuestion request → IfOk ended (λ o. o.status ≡ Done)
+  pub files : tree.is_honest → Ends (tree.files old) (by_files (tree.files old) (tree.files new)) request ended
+  pub goes_on : GoesOn tree old new (Continues request ended)
+  pub cause : ended ≡ Err (Engine Device) → HasRisen (tree.failures old) (tree.failures new)

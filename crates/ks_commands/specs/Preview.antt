@@ -2,28 +2,24 @@
 use Rattle.std.specs.Prelude.{◌≡◌, ◌+◌, ◌-◌, ◌^◌, ◌==◌, ◌++◌, ℕ, List, codes, flat_map, Option, Some, None, option_map, Result, Ok, Err, ⊤, if◌then◌else◌}
 use Rattle.std.specs.FinMap as map
 use Rattle.std.specs.Io.KnownBytes.{Appends}
-use Rattle.ks_symbols.specs.declared.kinds.Kind.{Kind}
 use Rattle.ks_symbols.specs.declared.error.SourceError.TheVariants as source
-use Rattle.ks_symbols.specs.Lines.{lines}
 use Rattle.ks_symbols.specs.Refusals.{or_else}
-use Rattle.ks_symbols.specs.Configuration.{NameMap}
-use Rattle.ks_symbols.specs.DotConfig.{setting}
-use Rattle.ks_symbols.specs.Kconfig.{declared, title_of}
+use Rattle.ks_output.specs.OldConfig.{Texts}
 use Rattle.ks_output.specs.declared.auto_conf.AutoError.{AutoError}
 use Rattle.ks_output.specs.declared.auto_conf.AutoError.TheVariants as auto
 use Rattle.ks_output.specs.AutoText.{auto_text}
 use Rattle.ks_output.specs.AutoConf.{auto_map, auto_generation, auto_refusal}
-use Rattle.ks_compare.specs.Changes.{AreChanges}
-use Rattle.ks_engine.specs.SyncPlan.{source_refusal}
+use Rattle.ks_engine.specs.SyncPlan.{Sources, AreSources, source_refusal}
+use Rattle.ks_engine.specs.Synchronised.{AreChanged}
+use Rattle.ks_engine.specs.Refusals.{of_auto, of_source}
+use Rattle.ks_engine.specs.declared.error.EngineError.TheVariants.{GenerationFull, OutOfMemory}
+use Rattle.ks_commands.specs.declared.refusal.Refusal.{Refusal}
+use Rattle.ks_commands.specs.declared.refusal.Refusal.TheVariants.{Engine, Output}
 use Rattle.ks_commands.specs.declared.preview.PreviewError.{PreviewError}
 use Rattle.ks_commands.specs.declared.preview.PreviewError.TheVariants as preview
 
--- the settings of a Kconfig and a `.config`: one map, since configurations that agree are one
-abbrev pub AreSettings : List ℕ → List ℕ → NameMap (Kind × List ℕ) → Type 0
-AreSettings kconfig dotconfig settings = (x : List ℕ) → map.get settings x ≡ setting (declared kconfig) (lines dotconfig) x
-
 -- what an old auto.conf holds; none is the empty one of generation 0
-abbrev pub old_texts : Option (List ℕ) → NameMap (List ℕ)
+abbrev pub old_texts : Option (List ℕ) → Texts
 old_texts None = map.empty
 old_texts (Some text) = auto_map text
 
@@ -34,20 +30,6 @@ old_generation (Some text) = auto_generation text
 -- a line `touch NAME` for each name
 abbrev pub touch_lines : List (List ℕ) → List ℕ
 touch_lines names = flat_map (λ name. codes "touch " ++ name ++ codes "\n") names
-
--- a preview: the names that differ from the old auto.conf, and the auto.conf of the generation after it
-pub record IsPreview (kconfig dotconfig : List ℕ) (old : Option (List ℕ)) (text : List ℕ) : Type 0 where
-  pub settings : NameMap (Kind × List ℕ)
-  pub names : List (List ℕ)
-  pub are_settings : AreSettings kconfig dotconfig settings
-  pub are_changes : AreChanges (old_texts old) settings names
-  pub whole : text ≡ touch_lines names ++ auto_text (title_of kconfig) settings (old_generation old + 1)
-
--- a writer's known bytes grow by a preview
-pub record Previews (kconfig dotconfig : List ℕ) (old before after : Option (List ℕ)) : Type 0 where
-  pub text : List ℕ
-  pub is_preview : IsPreview kconfig dotconfig old text
-  pub appended : Appends before after text
 
 -- Why there is none: first the two texts, then the old auto.conf, then its generation, which has none after it.
 abbrev pub old_refusal : Option (List ℕ) → Option AutoError
@@ -61,6 +43,21 @@ unfoldable pub preview_refusal : List ℕ → List ℕ → Option (List ℕ) →
 preview_refusal kconfig dotconfig old =
     or_else (option_map preview.Source (source_refusal kconfig dotconfig))
     (or_else (option_map preview.Auto (old_refusal old)) (full_refusal (old_generation old)))
+
+-- a preview of texts that are accepted: the names that differ from the old auto.conf, and the auto.conf of the generation after it
+pub record IsPreview (kconfig dotconfig : List ℕ) (old : Option (List ℕ)) (text : List ℕ) : Type 0 where
+  pub accepted : preview_refusal kconfig dotconfig old ≡ None
+  pub sources : Sources
+  pub names : List (List ℕ)
+  pub are_sources : AreSources kconfig dotconfig sources
+  pub changed : AreChanged (old_texts old) sources.config names
+  pub whole : text ≡ touch_lines names ++ auto_text sources.title sources.config (old_generation old + 1)
+
+-- a writer's known bytes grow by a preview
+pub record Previews (kconfig dotconfig : List ℕ) (old before after : Option (List ℕ)) : Type 0 where
+  pub text : List ℕ
+  pub is_preview : IsPreview kconfig dotconfig old text
+  pub appended : Appends before after text
 
 -- An error is the refusal that the definitions have, or want of memory, or a failing output of what is not refused.
 abbrev pub IsPreviewRefusal : PreviewError → Option PreviewError → Type 0
@@ -78,3 +75,11 @@ PreviewRefusedBy (Err e) refusal = IsPreviewRefusal e refusal
 abbrev pub WritesNothing : PreviewError → Option (List ℕ) → Option (List ℕ) → Type 0
 WritesNothing preview.Output before after = ⊤
 WritesNothing e before after = after ≡ before
+
+-- the same refusal of the whole command
+abbrev pub of_preview : PreviewError → Refusal
+of_preview (preview.Source e) = Engine (of_source e)
+of_preview (preview.Auto e) = Engine (of_auto e)
+of_preview preview.OutOfMemory = Engine OutOfMemory
+of_preview preview.GenerationFull = Engine GenerationFull
+of_preview preview.Output = Output

@@ -1,5 +1,6 @@
 -- The lines that are printed of what the engine answers. Their form is this project's.
-use Rattle.std.specs.Prelude.{ℕ, List, [], ◌∷◌, ◌++◌, length, codes, decimal}
+use Rattle.std.specs.Prelude.{ℕ, List, [], ◌∷◌, ◌++◌, length, codes, Result, Ok, Err}
+use Rattle.ks_engine.specs.declared.error.EngineError.{EngineError}
 use Rattle.ks_engine.specs.declared.recording.Recorded.{Recorded as RecordAnswer}
 use Rattle.ks_engine.specs.declared.synchronise.Report.{Report}
 use Rattle.ks_engine.specs.declared.staleness.BuildState.{BuildState}
@@ -7,8 +8,9 @@ use Rattle.ks_engine.specs.declared.staleness.BuildState.TheVariants.{CommandDif
 use Rattle.ks_engine.specs.declared.staleness.Verdict.{Verdict as VerdictValue}
 use Rattle.ks_engine.specs.declared.staleness.Verdict.TheVariants as verdict
 use Rattle.ks_engine.specs.declared.commands.Reply.{Reply}
-use Rattle.ks_engine.specs.declared.commands.Reply.TheVariants.{Synced, Recorded, Verdict}
+use Rattle.ks_engine.specs.declared.commands.Reply.TheVariants.{Synced, Recorded, Verdict, Refused}
 use Rattle.ks_engine.specs.Actions.{Action, Sync, Record, Stale}
+use Rattle.ks_commands.specs.Faults.{counted, fault_text}
 use Rattle.ks_commands.specs.Preview.{touch_lines}
 
 -- why an object is stale, or that it is fresh
@@ -19,10 +21,6 @@ verdict_text verdict.NoCommandFile = codes " stale no-command-file"
 verdict_text verdict.Unnumbered = codes " stale not-numbered"
 verdict_text verdict.Ahead = codes " stale generation-ahead"
 
--- a number behind its label
-unfoldable pub counted : List ℕ → ℕ → List ℕ
-counted label n = label ++ decimal n
-
 -- one line each: an object with its verdict, what was recorded, and what was synchronised
 unfoldable pub verdict_line : List ℕ → VerdictValue → List ℕ
 verdict_line target v = target ++ verdict_text v ++ codes "\n"
@@ -31,7 +29,9 @@ unfoldable pub recorded_line : List ℕ → RecordAnswer → List ℕ
 recorded_line target r = codes "record " ++ target ++ counted (codes " generation ") r.generation ++ counted (codes " names ") r.names ++ codes "\n"
 
 unfoldable pub synced_line : Report → List ℕ
-synced_line r = counted (codes "sync generation ") r.generation ++ counted (codes " touched ") (length r.touched.items) ++ counted (codes " unknown ") r.unknown ++ codes "\n"
+synced_line r =
+    counted (codes "sync generation ") r.generation ++ counted (codes " touched ") (length r.touched.items)
+    ++ counted (codes " unknown ") r.unknown ++ codes "\n"
 
 -- a synchronisation with a line for each touched name
 unfoldable pub report_lines : Report → List ℕ
@@ -42,11 +42,25 @@ unfoldable pub build_line : List ℕ → BuildState → List ℕ
 build_line target CommandDiffers = target ++ codes " command-differs\n"
 build_line target (Judged v) = verdict_line target v
 
--- the line of an action with its reply; nothing is said here of the line of a refusal
+-- a fault, and that of an object
+unfoldable pub refused_line : EngineError → List ℕ
+refused_line e = codes "refused " ++ fault_text e ++ codes "\n"
+
+unfoldable pub refused_target_line : List ℕ → EngineError → List ℕ
+refused_target_line target e = target ++ codes " " ++ refused_line e
+
+-- the answer to a question about an object
+abbrev pub answer_line : {A : Type 0} → (List ℕ → A → List ℕ) → List ℕ → Result A EngineError → List ℕ
+answer_line line target (Ok x) = line target x
+answer_line line target (Err e) = refused_target_line target e
+
+-- the line of an action with its reply
 unfoldable pub reply_line : Action → Reply → List ℕ
 reply_line (Sync kconfig dotconfig) (Synced report) = synced_line report
 reply_line (Record depfile target command) (Recorded answer) = recorded_line target answer
 reply_line (Stale target) (Verdict v) = verdict_line target v
+reply_line (Stale target) (Refused e) = refused_target_line target e
+reply_line _ (Refused e) = refused_line e
 reply_line _ _ = []
 
 -- one line for each action with its reply

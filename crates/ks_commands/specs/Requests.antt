@@ -1,7 +1,7 @@
 -- What is asked of the program, without where its words lie.
 use Rattle.std.specs.Prelude.{◌≡◌, ℕ, List, Option, option_map, string_bytes, ⊤}
 use Rattle.ks_commands.specs.declared.request.Request.{Request}
-use Rattle.ks_commands.specs.declared.request.Request.TheVariants.{Batch, Outdated, Preview, Record, Stale, Sync}
+use Rattle.ks_commands.specs.declared.request.Request.TheVariants.{Batch, Outdated, Preview, Stale}
 
 -- the request is a preview of these two files, over this old auto.conf if there is one
 abbrev pub IsPreviewOf : List ℕ → List ℕ → Option (List ℕ) → Request → Type 0
@@ -13,13 +13,6 @@ IsPreviewOf kconfig dotconfig old _ = ⊥
 abbrev pub IsBatchOf : List ℕ → Request → Type 0
 IsBatchOf path (Batch p) = string_bytes p ≡ path
 IsBatchOf path _ = ⊥
-
--- all requests but a synchronisation, a record and a script, which may write to the tree
-abbrev pub OnlyReads : Request → Type 0
-OnlyReads (Sync kconfig dotconfig) = ⊥
-OnlyReads (Record depfile target command) = ⊥
-OnlyReads (Batch script) = ⊥
-OnlyReads _ = ⊤
 
 -- a request that is done or refused, and tells of no object that it is stale
 abbrev pub IsNoQuestion : Request → Type 0

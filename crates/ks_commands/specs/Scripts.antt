@@ -1,50 +1,67 @@
--- What a script does to a tree.
-use Rattle.std.specs.Prelude.{◌≡◌, ◌⊎◌, ◌≤◌, ℕ, List, Option, Some, None, map, option_and_then, option_map}
-use Rattle.ks_tree.specs.Files.{Files, content}
-use Rattle.ks_engine.specs.declared.commands.Reply.{Reply}
+-- What a script asks for, by the files that it names.
+use Rattle.std.specs.Prelude.{◌≡◌, ◌⊎◌, ℕ, List, [], ◌∷◌, Option, Some, None, Result, Ok, Err}
+use Rattle.ks_tree.specs.Files.{Files}
+use Rattle.ks_engine.specs.declared.error.EngineError.{EngineError}
+use Rattle.ks_engine.specs.declared.error.EngineError.TheVariants.{TooLarge, OutOfMemory}
 use Rattle.ks_engine.specs.Actions.{Action}
 use Rattle.ks_engine.specs.Actions as asked
-use Rattle.ks_engine.specs.Follows.{State, at}
-use Rattle.ks_engine.specs.History.{History}
-use Rattle.ks_engine.specs.Runs.{Run}
-use Rattle.ks_engine.specs.Shows.{Shows}
+use Rattle.ks_engine.specs.Recording.{followed}
+use Rattle.ks_engine.specs.Refusals.{IsGivenUp, and_then}
 use Rattle.ks_script.specs.Script.{Line, Sync, Record, Stale, script_lines}
 use Rattle.ks_script.specs.ScriptRefusals.{script_refusal}
-use Rattle.ks_commands.specs.declared.batch.Loaded.{Loaded}
-use Rattle.ks_commands.specs.declared.batch.Loaded.TheVariants as loaded
+use Rattle.ks_script.specs.declared.error.ScriptError.{ScriptError}
+use Rattle.ks_script.specs.declared.error.ScriptError.TheVariants as script
+use Rattle.ks_commands.specs.declared.refusal.Refusal.{Refusal}
+use Rattle.ks_commands.specs.declared.refusal.Refusal.TheVariants.{Engine, BadScript}
+use Rattle.ks_commands.specs.Endings.{Ending}
+use Rattle.ks_commands.specs.Inputs.{given, read_texts}
 
--- what a line asks for, with the files at its paths; nothing where one of them is missing
-abbrev pub action_in : Files → Line → Option Action
-action_in files (Sync kconfig dotconfig) = option_and_then (λ k. option_map (λ d. asked.Sync k d) (content files dotconfig)) (content files kconfig)
-action_in files (Record depfile target command) = Some (asked.Record depfile target command)
-action_in files (Stale target) = Some (asked.Stale target)
+-- what a line asks for, with the files at its paths
+abbrev pub action_at : Files → Line → Result Action EngineError
+action_at files (Sync kconfig dotconfig) = and_then (read_texts files kconfig dotconfig) (λ t. Ok (asked.Sync t.kconfig t.dotconfig))
+action_at files (Record depfile target command) = Ok (asked.Record depfile target command)
+action_at files (Stale target) = Ok (asked.Stale target)
 
--- the action of a command whose files are read
-abbrev pub loaded_action : Loaded → Action
-loaded_action (loaded.Sync kconfig dotconfig) = asked.Sync kconfig.items dotconfig.items
-loaded_action (loaded.Record depfile target command) = asked.Record depfile.now target.now command.now
-loaded_action (loaded.Stale target) = asked.Stale target.now
+-- the actions of lines in their order, or the first refusal
+abbrev pub actions_at : Files → List Line → Result (List Action) EngineError
+actions_at files [] = Ok []
+actions_at files (line ∷ lines) = followed (action_at files line) (actions_at files lines)
 
--- These are the actions of a script, by the files that it names.
-abbrev pub IsScript : List ℕ → Files → List Action → Type 0
-IsScript text files actions = map (action_in files) (script_lines text) ≡ map (λ a. Some a) actions
+abbrev pub of_engine : {A : Type 0} → Result A EngineError → Result A Refusal
+of_engine (Ok x) = Ok x
+of_engine (Err e) = Err (Engine e)
 
--- The actions of a script without a faulty line ran, all of them; they are those by the files before the first one.
-pub record RunsScript (script : List ℕ) (before after : State) : Type 0 where
-  pub sound : script_refusal script ≡ None
-  pub actions : List Action
-  pub named : IsScript script before.files actions
-  -- what the tree has counted once all files are read
-  pub failures : ℕ
-  pub later : before.failures ≤ failures
-  pub replies : List Reply
-  pub run : Run (at before.files failures before.history) actions replies after
+abbrev pub of_script : ScriptError → Refusal
+of_script (script.BadScript line) = BadScript line
+of_script script.TooLarge = Engine TooLarge
+of_script script.OutOfMemory = Engine OutOfMemory
 
--- The script at a path ran whole, with refusals or without.
-abbrev pub RunsWhole : List ℕ → State → State → Type 0
-RunsWhole path before after = (script : List ℕ) × (content before.files path ≡ Some script) × RunsScript script before after
+abbrev pub unless_refused : Option ScriptError → Result (List Action) EngineError → Result (List Action) Refusal
+unless_refused None actions = of_engine actions
+unless_refused (Some e) actions = Err (of_script e)
 
--- From each history that the files show it ran whole, or the files are as before.
-abbrev pub RunsOrNot : List ℕ → Files → ℕ → Files → ℕ → Type 0
-RunsOrNot path old counted new later =
-    (h : History) → Shows old h → (new ≡ old) ⊎ ((last : History) × RunsWhole path (at old counted h) (at new later last))
+-- what a script asks for, or its first faulty line
+abbrev pub script_actions : Files → List ℕ → Result (List Action) Refusal
+script_actions files text = unless_refused (script_refusal text) (actions_at files (script_lines text))
+
+abbrev pub actions_of : Files → Result (List ℕ) EngineError → Result (List Action) Refusal
+actions_of files (Ok text) = script_actions files text
+actions_of files (Err e) = Err (Engine e)
+
+-- The path, then the script, then its lines, then the files that they name.
+unfoldable pub script_at : Files → List ℕ → Result (List Action) Refusal
+script_at files path = actions_of files (given files path)
+
+-- memory is refused, or the device fails: no file decides these
+abbrev pub HasGivenUp : Refusal → Type 0
+HasGivenUp (Engine e) = IsGivenUp e
+HasGivenUp r = ⊥
+
+-- A call answers what a step comes to, or gives up.
+abbrev pub AnswersScript : {A V : Type 0} → Result V Refusal → (A → V) → Result A Refusal → Type 0
+AnswersScript step view (Ok x) = step ≡ Ok (view x)
+AnswersScript step view (Err r) = HasGivenUp r ⊎ (step ≡ Err r)
+
+-- It is refused as the script is, or gives up before its first command.
+abbrev pub StoppedScript : Result (List Action) Refusal → Ending → Type 0
+StoppedScript step ended = (r : Refusal) × (HasGivenUp r ⊎ (step ≡ Err r)) × (ended ≡ Err r)

@@ -1,5 +1,6 @@
--- The status that answers come to: what is refused, and what counts as stale.
-use Rattle.std.specs.Prelude.{ℕ, Bool, true, false}
+-- The status that answers come to: 2 where one is refused, else 1 where something is stale, else 0.
+use Rattle.std.specs.Prelude.{ℕ, List, Result, Ok, Err, fold, max}
+use Rattle.ks_engine.specs.declared.error.EngineError.{EngineError}
 use Rattle.ks_engine.specs.declared.staleness.BuildState.{BuildState}
 use Rattle.ks_engine.specs.declared.staleness.BuildState.TheVariants.{CommandDiffers, Verdict as Judged}
 use Rattle.ks_engine.specs.declared.staleness.Verdict.{Verdict as VerdictValue}
@@ -9,23 +10,27 @@ use Rattle.ks_engine.specs.declared.commands.Reply.TheVariants.{Verdict, Refused
 use Rattle.ks_commands.specs.declared.status.Status.{Status}
 use Rattle.ks_commands.specs.declared.status.Status.TheVariants as status
 
--- it is no refusal
-abbrev pub is_answered : Reply → Bool
-is_answered (Refused e) = false
-is_answered _ = true
-
 -- any verdict but fresh is stale, and so is another command
-abbrev pub is_verdict_stale : VerdictValue → Bool
-is_verdict_stale verdict.Fresh = false
-is_verdict_stale _ = true
+abbrev pub verdict_status : VerdictValue → ℕ
+verdict_status verdict.Fresh = 0
+verdict_status _ = 1
 
-abbrev pub is_build_stale : BuildState → Bool
-is_build_stale CommandDiffers = true
-is_build_stale (Judged v) = is_verdict_stale v
+abbrev pub build_status : BuildState → ℕ
+build_status CommandDiffers = 1
+build_status (Judged v) = verdict_status v
 
-abbrev pub is_stale : Reply → Bool
-is_stale (Verdict v) = is_verdict_stale v
-is_stale _ = false
+abbrev pub status_unless_refused : {A : Type 0} → (A → ℕ) → Result A EngineError → ℕ
+status_unless_refused of (Ok x) = of x
+status_unless_refused of (Err e) = 2
+
+abbrev pub reply_status : Reply → ℕ
+reply_status (Verdict v) = verdict_status v
+reply_status (Refused e) = 2
+reply_status _ = 0
+
+-- the worst of several
+abbrev pub worst : List ℕ → ℕ
+worst statuses = fold max 0 statuses
 
 -- the exit status
 abbrev pub code_of : Status → ℕ

@@ -1,76 +1,52 @@
 //! The two commands that change a tree: a synchronisation, and the record of an object.
 //!
 //! A refusal of the engine is one of the whole command, and prints nothing to the output.
-ghost use Rattle.std.specs.Prelude.{◌≡◌, ◌↔◌, IfOk, OnOk};
+ghost use Rattle.std.specs.Prelude.{◌≡◌, Err, IfOk};
+ghost use Rattle.ks_tree.specs.Files.{HasRisen};
+ghost use Rattle.ks_engine.specs.Follows.{GoesOn};
+ghost use Rattle.ks_engine.specs.declared.error.EngineError.TheVariants.{Device};
+ghost use Rattle.ks_commands.specs.declared.refusal.Refusal.TheVariants.{Engine};
 ghost use Rattle.ks_commands.specs.declared.status.Status.TheVariants.{Done};
-ghost use Rattle.ks_commands.specs.Changes.{IsSyncOfFiles, StillShows, WritesRecord, WritesSync};
+ghost use Rattle.ks_commands.specs.Performed.{EndsRecord, EndsSync, by_files, by_histories};
 
-use crate::inputs::{check_path, read_file};
-use crate::output::put;
+use crate::inputs::texts_at;
 use crate::refusal::Refusal;
-use crate::replies::{write_recorded_line, write_report};
-use crate::status::Status;
-use ks_engine::{Report, record_object, sync};
+use crate::replies::{tell_recorded, tell_report};
+use crate::status::Outcome;
+use ks_engine::{record_object, sync};
 use ks_tree::Tree;
 use std::alloc::Global;
-use std::io::Write;
 
-/// Synchronises a tree with the files that two words name.
-fn sync_files<T: Tree>(
+/// Brings a tree to the configuration of the files that two words name, and tells what that touched.
+pub(crate) fn synchronise<T: Tree>(
     alloc: Global,
     tree: &mut T,
-    kconfig: &str,
-    dotconfig: &str,
-) -> Result<Report, Refusal>
-    ensures honest { T.is_honest tree.old ↔ T.is_honest tree.new }
-    ensures synced { T.is_honest tree.old → IfOk result (IsSyncOfFiles kconfig.now dotconfig.now (T.files tree.old) (T.files tree.new)) }
-    ensures shown { T.is_honest tree.old → StillShows (T.files tree.old) (T.files tree.new) }
+    kconfig: &[u8],
+    dotconfig: &[u8],
+) -> Result<Outcome, Refusal>
+    ensures done { IfOk result (λ o. o.status ≡ Done) }
+    ensures files { T.is_honest → EndsSync (T.files tree.old) (by_files (T.files tree.old) (T.files tree.new)) kconfig.now dotconfig.now result }
+    ensures goes_on { GoesOn T.Tree tree.old tree.new (λ old new. EndsSync old.files (by_histories old new) kconfig.now dotconfig.now result) }
+    ensures cause { result ≡ Err (Engine Device) → HasRisen (T.failures tree.old) (T.failures tree.new) }
 {
-    check_path(kconfig)?;
-    check_path(dotconfig)?;
-    let kconfig = read_file(alloc, tree, kconfig)?;
-    let dotconfig = read_file(alloc, tree, dotconfig)?;
-    Ok(sync(alloc, tree, &kconfig, &dotconfig)?)
+    let texts = texts_at(alloc, tree, kconfig, dotconfig)?;
+    let report = sync(alloc, tree, &texts.kconfig, &texts.dotconfig)?;
+    Ok(tell_report(alloc, &report)?)
 }
 
-/// Brings a tree to a configuration, and prints what that touched.
-pub(crate) fn synchronise<T: Tree, W: Write>(
+/// Writes the command file of an object, and tells under which generation. Its words are looked at by the engine.
+pub(crate) fn record_target<T: Tree>(
     alloc: Global,
     tree: &mut T,
-    kconfig: &str,
-    dotconfig: &str,
-    out: &mut W,
-) -> Result<Status, Refusal>
-    ensures honest { T.is_honest tree.old ↔ T.is_honest tree.new }
-    ensures written { T.is_honest tree.old → OnOk result (WritesSync kconfig.now dotconfig.now (T.files tree.old) (T.files tree.new) (W.contents out.old) (W.contents out.new)) }
-    ensures shown { T.is_honest tree.old → StillShows (T.files tree.old) (T.files tree.new) }
-    ensures done { IfOk result (λ status. status ≡ Done) }
+    depfile: &[u8],
+    target: &[u8],
+    command: &[u8],
+) -> Result<Outcome, Refusal>
+    ensures done { IfOk result (λ o. o.status ≡ Done) }
+    ensures files { T.is_honest → EndsRecord (by_files (T.files tree.old) (T.files tree.new)) depfile.now target.now command.now result }
+    ensures goes_on { GoesOn T.Tree tree.old tree.new (λ old new. EndsRecord (by_histories old new) depfile.now target.now command.now result) }
+    ensures cause { result ≡ Err (Engine Device) → HasRisen (T.failures tree.old) (T.failures tree.new) }
 {
-    let report = sync_files(alloc, tree, kconfig, dotconfig)?;
-    let mut text = Vec::new(alloc);
-    write_report(&report, &mut text)?;
-    put(out, &text)?;
-    Ok(Status::Done)
-}
-
-/// Writes the command file of an object, and prints under which generation. Its paths are looked at by the engine.
-pub(crate) fn record_target<T: Tree, W: Write>(
-    alloc: Global,
-    tree: &mut T,
-    depfile: &str,
-    target: &str,
-    command: &str,
-    out: &mut W,
-) -> Result<Status, Refusal>
-    ensures honest { T.is_honest tree.old ↔ T.is_honest tree.new }
-    ensures written { T.is_honest tree.old → OnOk result (WritesRecord depfile.now target.now command.now (T.files tree.old) (T.files tree.new) (W.contents out.old) (W.contents out.new)) }
-    ensures shown { T.is_honest tree.old → StillShows (T.files tree.old) (T.files tree.new) }
-    ensures done { IfOk result (λ status. status ≡ Done) }
-{
-    let (depfile, command) = (depfile.as_bytes(), command.as_bytes());
-    let recorded = record_object(alloc, tree, depfile, target.as_bytes(), command)?;
-    let mut text = Vec::new(alloc);
-    write_recorded_line(target.as_bytes(), &recorded, &mut text)?;
-    put(out, &text)?;
-    Ok(Status::Done)
+    let recorded = record_object(alloc, tree, depfile, target, command)?;
+    Ok(tell_recorded(alloc, target, &recorded)?)
 }

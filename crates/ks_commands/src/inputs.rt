@@ -2,82 +2,148 @@
 //!
 //! All paths are looked at before the first file is read, so that a misspelt word costs nothing; and all files
 //! are read before anything is parsed.
-ghost use Rattle.std.specs.Prelude.{◌≡◌, ◌↔◌, ◌≤◌, IfOk, OnOk, IsTrue, Some, option_map};
-ghost use Rattle.ks_symbols.specs.Names.{is_path};
-ghost use Rattle.ks_tree.specs.Files.{content};
-ghost use Rattle.ks_commands.specs.Outputs.{IsLegalIfNamed, IsNamed};
+ghost use Rattle.std.specs.Prelude.{◌≡◌, IsErrOf, option_map};
+ghost use Rattle.ks_tree.specs.Frames.{Reads};
+ghost use Rattle.ks_engine.specs.Refusals.{Answers};
+ghost use Rattle.ks_commands.specs.Inputs.{given, given_if_named, inputs_at, legal, legal_if_named, texts_at};
+ghost use Rattle.ks_commands.specs.Inputs as inputs;
+ghost use Rattle.ks_commands.specs.Views.{seen_inputs, seen_texts};
 
-use crate::refusal::Refusal;
-use ks_symbols::path_is_legal;
+use ks_engine::EngineError;
+use ks_symbols::{Path, path_is_legal};
 use ks_tree::Tree;
 use std::alloc::Global;
 
+/// A Kconfig and a `.config`.
+#[derive(Drop)]
+pub(crate) struct Texts {
+    pub(crate) kconfig: Vec<u8>,
+    pub(crate) dotconfig: Vec<u8>,
+}
+
+/// The texts of a preview, with the old auto.conf where one is named.
+#[derive(Drop)]
+pub(crate) struct Inputs {
+    pub(crate) texts: Texts,
+    pub(crate) old: Option<Vec<u8>>,
+}
+
 /// Refuses a word that is no legal path.
-pub(crate) fn check_path(path: &str) -> Result<(), Refusal>
-    ensures { OnOk result (IsTrue (is_path path.now)) }
+fn check_path(path: &[u8]) -> Result<(), EngineError>
+    ensures { result ≡ legal path.now }
 {
-    if path_is_legal(path.as_bytes()) {
+    if path_is_legal(path) {
         Ok(())
     } else {
-        Err(Refusal::BadArgument)
+        Err(EngineError::BadPath(0))
     }
-}
-
-/// The bytes of a file that has to be there.
-pub(crate) fn read_there<T: Tree>(
-    alloc: Global,
-    tree: &mut T,
-    path: &[u8],
-) -> Result<Vec<u8>, Refusal>
-    ensures honest { T.is_honest tree.old ↔ T.is_honest tree.new }
-    ensures unchanged { T.is_honest tree.old → T.files tree.new ≡ T.files tree.old }
-    ensures bytes { T.is_honest tree.old → IfOk result (λ v. content (T.files tree.old) path.now ≡ Some v.items) }
-    ensures later { T.failures tree.old ≤ T.failures tree.new }
-{
-    match tree.read(alloc, path)? {
-        Some(bytes) => Ok(bytes),
-        None => Err(Refusal::MissingFile(String::from_utf8_lossy(alloc, path)?)),
-    }
-}
-
-/// The bytes of the file that a word names.
-pub(crate) fn read_file<T: Tree>(
-    alloc: Global,
-    tree: &mut T,
-    path: &str,
-) -> Result<Vec<u8>, Refusal>
-    ensures honest { T.is_honest tree.old ↔ T.is_honest tree.new }
-    ensures unchanged { T.is_honest tree.old → T.files tree.new ≡ T.files tree.old }
-    ensures bytes { T.is_honest tree.old → IfOk result (λ v. content (T.files tree.old) path.now ≡ Some v.items) }
-    ensures later { T.failures tree.old ≤ T.failures tree.new }
-{
-    read_there(alloc, tree, path.as_bytes())
 }
 
 /// Refuses a word that may be left out and is no legal path.
-pub(crate) fn check_named(path: Option<&str>) -> Result<(), Refusal>
-    ensures { OnOk result (IsLegalIfNamed (option_map (λ p. p.now) path.entry)) }
+fn check_named(path: Option<&str>) -> Result<(), EngineError>
+    ensures { result ≡ legal_if_named (option_map (λ p. p.now) path.entry) }
 {
     match path {
-        Some(path) => check_path(path),
+        Some(path) => check_path(path.as_bytes()),
         None => Ok(()),
     }
 }
 
+/// The bytes of a file that has to be there.
+pub(crate) fn read_given<T: Tree>(
+    alloc: Global,
+    tree: &mut T,
+    path: &[u8],
+) -> Result<Vec<u8>, EngineError>
+    ensures reads { Reads T.Tree tree.old tree.new (IsErrOf result EngineError.Device) }
+    ensures bytes { T.is_honest → Answers (given (T.files tree.old) path.now) (λ v. v.items) result }
+{
+    check_path(path)?;
+    match tree.read(alloc, path)? {
+        Some(bytes) => Ok(bytes),
+        None => Err(EngineError::MissingFile(Path::new(alloc, path)?)),
+    }
+}
+
 /// The bytes of the file that may be named, where one is named.
-pub(crate) fn read_named<T: Tree>(
+fn read_named<T: Tree>(
     alloc: Global,
     tree: &mut T,
     path: Option<&str>,
-) -> Result<Option<Vec<u8>>, Refusal>
-    ensures honest { T.is_honest tree.old ↔ T.is_honest tree.new }
-    ensures unchanged { T.is_honest tree.old → T.files tree.new ≡ T.files tree.old }
-    ensures bytes { T.is_honest tree.old → IfOk result (λ found. IsNamed (T.files tree.old) (option_map (λ p. p.now) path.entry) (option_map (λ v. v.items) found)) }
+) -> Result<Option<Vec<u8>>, EngineError>
+    ensures reads { Reads T.Tree tree.old tree.new (IsErrOf result EngineError.Device) }
+    ensures bytes { T.is_honest → Answers (given_if_named (T.files tree.old) (option_map (λ p. p.now) path.entry)) (option_map (λ v. v.items)) result }
 {
     match path {
-        Some(path) => Ok(Some(read_file(alloc, tree, path)?)),
+        Some(path) => Ok(Some(read_given(alloc, tree, path.as_bytes())?)),
         None => Ok(None),
     }
+}
+
+/// The two files of a synchronisation.
+pub(crate) fn read_texts<T: Tree>(
+    alloc: Global,
+    tree: &mut T,
+    kconfig: &[u8],
+    dotconfig: &[u8],
+) -> Result<Texts, EngineError>
+    ensures reads { Reads T.Tree tree.old tree.new (IsErrOf result EngineError.Device) }
+    ensures texts { T.is_honest → Answers (inputs.read_texts (T.files tree.old) kconfig.now dotconfig.now) seen_texts result }
+{
+    let kconfig = read_given(alloc, tree, kconfig)?;
+    let dotconfig = read_given(alloc, tree, dotconfig)?;
+    Ok(Texts { kconfig, dotconfig })
+}
+
+/// The files that the two words of a synchronisation name.
+#[tactic(auto, unfolding(crate::specs::Inputs::texts_at))]
+pub(crate) fn texts_at<T: Tree>(
+    alloc: Global,
+    tree: &mut T,
+    kconfig: &[u8],
+    dotconfig: &[u8],
+) -> Result<Texts, EngineError>
+    ensures reads { Reads T.Tree tree.old tree.new (IsErrOf result EngineError.Device) }
+    ensures texts { T.is_honest → Answers (texts_at (T.files tree.old) kconfig.now dotconfig.now) seen_texts result }
+{
+    check_path(kconfig)?;
+    check_path(dotconfig)?;
+    read_texts(alloc, tree, kconfig, dotconfig)
+}
+
+/// The files of a preview, the old auto.conf last.
+fn read_inputs<T: Tree>(
+    alloc: Global,
+    tree: &mut T,
+    kconfig: &[u8],
+    dotconfig: &[u8],
+    old: Option<&str>,
+) -> Result<Inputs, EngineError>
+    ensures reads { Reads T.Tree tree.old tree.new (IsErrOf result EngineError.Device) }
+    ensures inputs { T.is_honest
+        → Answers (inputs.read_inputs (T.files tree.old) kconfig.now dotconfig.now (option_map (λ p. p.now) old.entry)) seen_inputs result }
+{
+    let texts = read_texts(alloc, tree, kconfig, dotconfig)?;
+    let old = read_named(alloc, tree, old)?;
+    Ok(Inputs { texts, old })
+}
+
+/// The files that the words of a preview name.
+#[tactic(auto, unfolding(crate::specs::Inputs::inputs_at))]
+pub(crate) fn inputs_at<T: Tree>(
+    alloc: Global,
+    tree: &mut T,
+    kconfig: &[u8],
+    dotconfig: &[u8],
+    old: Option<&str>,
+) -> Result<Inputs, EngineError>
+    ensures reads { Reads T.Tree tree.old tree.new (IsErrOf result EngineError.Device) }
+    ensures inputs { T.is_honest → Answers (inputs_at (T.files tree.old) kconfig.now dotconfig.now (option_map (λ p. p.now) old.entry)) seen_inputs result }
+{
+    check_path(kconfig)?;
+    check_path(dotconfig)?;
+    check_named(old)?;
+    read_inputs(alloc, tree, kconfig, dotconfig, old)
 }
 
 /// Bytes that may be missing, lent.

@@ -1,7 +1,27 @@
 //! Laws of the definitions, each the contract of a function that does nothing.
-ghost use Rattle.ks_commands.specs.Laws.{BatchTellsChanges};
+ghost use Rattle.ks_commands.specs.Laws.{BatchTellsChanges, PreviewsArePerformed, ProgramsTellChanges, RefusalsChangeNothing, StatusesAreAtMostTwo};
+
+/// What is said of a preview as a caller has its words.
+pub fn previews_are_performed()
+    ensures { PreviewsArePerformed }
+{}
+
+/// What a refusal leaves, memory and the device aside.
+pub fn refusals_change_nothing()
+    ensures { RefusalsChangeNothing }
+{}
+
+/// What the status can be, also on a tree that is not honest.
+pub fn statuses_are_at_most_two()
+    ensures { StatusesAreAtMostTwo }
+{}
 
 /// A script that runs without a refusal tells what changed, where nothing was broken off before it.
 pub fn batch_tells_changes()
     ensures { BatchTellsChanges }
+{}
+
+/// The headline for runs of the program one after the other, as a build makes them.
+pub fn programs_tell_changes()
+    ensures { ProgramsTellChanges }
 {}

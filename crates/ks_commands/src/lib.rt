@@ -3,6 +3,7 @@
 
 mod batch;
 mod changes;
+mod faults;
 mod fixdep;
 mod inputs;
 mod laws;
@@ -15,8 +16,12 @@ mod replies;
 mod request;
 mod status;
 
-pub use laws::batch_tells_changes;
-pub use performing::{perform, refuse};
+pub use laws::{
+    batch_tells_changes, previews_are_performed, programs_tell_changes, refusals_change_nothing,
+    statuses_are_at_most_two,
+};
+pub use output::refuse;
+pub use performing::perform;
 pub use preview::{PreviewError, preview_to};
 pub use refusal::Refusal;
 pub use request::Request;

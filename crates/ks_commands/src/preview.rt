@@ -2,20 +2,16 @@
 //!
 //! The whole text is made before its first byte is written, so that a refusal of what was read writes
 //! nothing.
-ghost use Rattle.std.specs.Prelude.{◌≡◌, ◌+◌, ◌++◌, None, IfOk, OnOk, IfErr, IsTrue, option_map};
-ghost use Rattle.ks_symbols.specs.Configuration.{IsConfiguration};
-ghost use Rattle.ks_symbols.specs.Kconfig.{title_of};
+ghost use Rattle.std.specs.Prelude.{◌≡◌, ◌+◌, ◌++◌, None, IfOk, OnOk, IfErr, IsErrOf, option_map};
 ghost use Rattle.ks_symbols.specs.Refusals.{RefusedBy};
-ghost use Rattle.ks_output.specs.AutoConf.{AutoRefusedBy};
 ghost use Rattle.ks_output.specs.AutoText.{auto_text};
 ghost use Rattle.ks_output.specs.OldConfig.{HasNames};
 ghost use Rattle.ks_commands.specs.declared.preview.PreviewError.TheVariants.{Auto, OutOfMemory, Source};
-ghost use Rattle.ks_engine.specs.SyncPlan.{source_refusal};
-ghost use Rattle.ks_commands.specs.Preview.{AreSettings, IsPreview, PreviewRefusedBy, Previews, WritesNothing, old_generation, old_refusal, old_texts, preview_refusal, touch_lines};
+ghost use Rattle.ks_commands.specs.Preview.{IsPreview, PreviewRefusedBy, Previews, WritesNothing, old_generation, old_refusal, old_texts, preview_refusal, touch_lines};
 
-use ks_compare::changed;
+use ks_engine::{Report, Sources, plan, read_sources};
 use ks_output::{AutoError, OldConfig, read_auto, write_auto};
-use ks_symbols::{Name, Settings, SourceError, read_dotconfig, read_kconfig};
+use ks_symbols::{Name, SourceError};
 use std::alloc::{AllocError, Global};
 use std::io::Write;
 use thiserror::Error;
@@ -63,30 +59,12 @@ impl From<AllocError> for PreviewError {
     }
 }
 
-/// The title of the Kconfig, and what the `.config` sets its symbols to. The symbols themselves are let go: nothing
-/// after the settings asks for them, and they are as large as these.
-fn read_sources(
-    alloc: Global,
-    kconfig: &[u8],
-    dotconfig: &[u8],
-) -> Result<(Vec<u8>, Settings), SourceError>
-    ensures title { IfOk result (λ p. p.0.items ≡ title_of kconfig.now) }
-    ensures settings { IfOk result (λ p. AreSettings kconfig.now dotconfig.now p.1.entries) }
-    ensures configured { IfOk result (λ p. IsConfiguration p.1.entries) }
-    ensures refusal { RefusedBy result (source_refusal kconfig.now dotconfig.now) }
-{
-    let symbols = read_kconfig(alloc, kconfig)?;
-    let settings = read_dotconfig(alloc, dotconfig, &symbols)?;
-    let title = Vec::from_slice(alloc, symbols.title())?;
-    Ok((title, settings))
-}
-
 /// The old auto.conf, or the empty one where there is none.
 fn read_old(alloc: Global, old: Option<&[u8]>) -> Result<OldConfig, AutoError>
     ensures texts { IfOk result (λ c. c.texts ≡ old_texts (option_map (λ t. t.now) old.entry)) }
     ensures generation { IfOk result (λ c. c.generation ≡ old_generation (option_map (λ t. t.now) old.entry)) }
     ensures names { IfOk result (λ c. HasNames c.texts) }
-    ensures refusal { AutoRefusedBy result (old_refusal (option_map (λ t. t.now) old.entry)) }
+    ensures refusal { RefusedBy AutoError.OutOfMemory result (old_refusal (option_map (λ t. t.now) old.entry)) }
 {
     match old {
         Some(text) => read_auto(alloc, text),
@@ -107,24 +85,19 @@ pub(crate) fn write_touches(names: &[Name], out: &mut Vec<u8>) -> Result<(), All
 }
 
 /// The touch lines, and then auto.conf. The names are let go between the two.
-fn preview_text(
-    alloc: Global,
-    names: Vec<Name>,
-    settings: &Settings,
-    title: &[u8],
-    generation: u64,
-) -> Result<Vec<u8>, AllocError>
-    ensures { IfOk result (λ t. t.items ≡ touch_lines names.items ++ auto_text title.now settings.now.entries generation) }
+fn preview_text(alloc: Global, report: Report, sources: &Sources) -> Result<Vec<u8>, AllocError>
+    ensures { IfOk result (λ t. t.items ≡ touch_lines report.touched.items ++ auto_text sources.now.title.items sources.now.settings.entries report.generation) }
 {
+    let generation = report.generation;
     let mut text = Vec::new(alloc);
-    write_touches(&names, &mut text)?;
-    drop(names);
-    write_auto(settings, title, generation, &mut text)?;
+    write_touches(&report.touched, &mut text)?;
+    drop(report);
+    write_auto(&sources.settings, &sources.title, generation, &mut text)?;
     Ok(text)
 }
 
-/// The text of a preview.
-fn preview_of(
+/// The text of a preview, of any length.
+pub(crate) fn preview_of(
     alloc: Global,
     kconfig: &[u8],
     dotconfig: &[u8],
@@ -132,15 +105,14 @@ fn preview_of(
 ) -> Result<Vec<u8>, PreviewError>
     ensures text { IfOk result (λ t. IsPreview kconfig.now dotconfig.now (option_map (λ t. t.now) old.entry) t.items) }
     ensures refusal { PreviewRefusedBy result (preview_refusal kconfig.now dotconfig.now (option_map (λ t. t.now) old.entry)) }
+    ensures no_output { IsErrOf result PreviewError.Output → ⊥ }
 {
-    let (title, settings) = read_sources(alloc, kconfig, dotconfig)?;
+    let sources = read_sources(alloc, kconfig, dotconfig)?;
     let before = read_old(alloc, old)?;
-    if before.generation() == u64::MAX {
+    let Some(report) = plan(alloc, &sources, &before)? else {
         return Err(PreviewError::GenerationFull);
-    }
-    let names = changed(alloc, &before, &settings)?;
-    let text = preview_text(alloc, names, &settings, &title, before.generation() + 1)?;
-    Ok(text)
+    };
+    Ok(preview_text(alloc, report, &sources)?)
 }
 
 /// Writes what a synchronisation over an old auto.conf would touch, a line `touch NAME` each, and the

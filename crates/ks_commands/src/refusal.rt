@@ -1,70 +1,24 @@
-//! Why a command was refused as a whole, with the texts that users see.
-//!
-//! A text is a number, a name and the place. The number says which part refused: 1 to 8 a line of a Kconfig or
-//! `.config`, 11 one of auto.conf, 30 the tree, and so on; docs/refusals.md has them all.
+//! Why a command was refused as a whole. The texts that users see stand in `faults.rt`.
 ghost use Rattle.std.specs.Prelude.{◌≡◌};
-ghost use Rattle.ks_commands.specs.declared.refusal.Refusal.TheVariants.{Dependencies, Engine, OutOfMemory, Preview, Script, Tree};
+ghost use Rattle.ks_engine.specs.declared.error.EngineError.TheVariants.{OutOfMemory};
+ghost use Rattle.ks_commands.specs.Preview.{of_preview};
+ghost use Rattle.ks_commands.specs.Scripts.{of_script};
+ghost use Rattle.ks_commands.specs.declared.refusal.Refusal.TheVariants.{Engine};
 
 use crate::preview::PreviewError;
 use ks_engine::EngineError;
-use ks_fixdep::DepError;
 use ks_script::ScriptError;
-use ks_tree::TreeFault;
 use std::alloc::{AllocError, AllocFailed};
-use thiserror::Error;
 
 /// Why a command was refused as a whole.
-#[derive(Debug, Drop, Error)]
+#[derive(Debug, Drop)]
 pub enum Refusal {
-    #[error("{0}")]
-    Preview(PreviewError),
-    #[error("{0}")]
-    Tree(TreeFault),
-    /// The dependency file, or an argument of `fixdep`, is refused.
-    #[error("{0}")]
-    Dependencies(DepError),
-    #[error("{0}")]
+    /// A word, a file, its text or the tree, under the engine's numbers 1 to 42.
     Engine(EngineError),
-    #[error("{0}")]
-    Script(ScriptError),
-    /// An argument is no legal path, or no legal target.
-    #[error("21 BadPath token 0")]
-    BadArgument,
-    /// The command holds a line feed, a carriage return or a NUL.
-    #[error("22 BadCommand")]
-    BadCommand,
-    /// A file that has to be there is missing.
-    #[error("40 MissingFile {0}")]
-    MissingFile(String),
-    #[error("10 OutOfMemory")]
-    OutOfMemory,
+    /// The line of a script that is no command.
+    BadScript(u64),
     /// The output failed; a beginning of the text may be out.
-    #[error("51 Output")]
     Output,
-}
-
-impl From<PreviewError> for Refusal {
-    ghost from_gives = { λ e r. r ≡ Preview e };
-
-    fn from(error: PreviewError) -> Refusal {
-        Refusal::Preview(error)
-    }
-}
-
-impl From<TreeFault> for Refusal {
-    ghost from_gives = { λ e r. r ≡ Tree e };
-
-    fn from(fault: TreeFault) -> Refusal {
-        Refusal::Tree(fault)
-    }
-}
-
-impl From<DepError> for Refusal {
-    ghost from_gives = { λ e r. r ≡ Dependencies e };
-
-    fn from(error: DepError) -> Refusal {
-        Refusal::Dependencies(error)
-    }
 }
 
 impl From<EngineError> for Refusal {
@@ -75,26 +29,44 @@ impl From<EngineError> for Refusal {
     }
 }
 
+impl From<PreviewError> for Refusal {
+    ghost from_gives = { λ e r. r ≡ of_preview e };
+
+    fn from(error: PreviewError) -> Refusal {
+        match error {
+            PreviewError::Source(error) => Refusal::Engine(EngineError::from(error)),
+            PreviewError::Auto(error) => Refusal::Engine(EngineError::from(error)),
+            PreviewError::OutOfMemory => Refusal::Engine(EngineError::OutOfMemory),
+            PreviewError::GenerationFull => Refusal::Engine(EngineError::GenerationFull),
+            PreviewError::Output => Refusal::Output,
+        }
+    }
+}
+
 impl From<ScriptError> for Refusal {
-    ghost from_gives = { λ e r. r ≡ Script e };
+    ghost from_gives = { λ e r. r ≡ of_script e };
 
     fn from(error: ScriptError) -> Refusal {
-        Refusal::Script(error)
+        match error {
+            ScriptError::BadScript(line) => Refusal::BadScript(line),
+            ScriptError::TooLarge => Refusal::Engine(EngineError::TooLarge),
+            ScriptError::OutOfMemory => Refusal::Engine(EngineError::OutOfMemory),
+        }
     }
 }
 
 impl<T: Drop> From<AllocFailed<T>> for Refusal {
-    ghost from_gives = { λ _ r. r ≡ OutOfMemory };
+    ghost from_gives = { λ _ r. r ≡ Engine OutOfMemory };
 
     fn from(_error: AllocFailed<T>) -> Refusal {
-        Refusal::OutOfMemory
+        Refusal::Engine(EngineError::OutOfMemory)
     }
 }
 
 impl From<AllocError> for Refusal {
-    ghost from_gives = { λ _ r. r ≡ OutOfMemory };
+    ghost from_gives = { λ _ r. r ≡ Engine OutOfMemory };
 
     fn from(_error: AllocError) -> Refusal {
-        Refusal::OutOfMemory
+        Refusal::Engine(EngineError::OutOfMemory)
     }
 }

@@ -1,14 +1,15 @@
 //! The lines that are printed of what the engine answers, and the status that answers come to.
 //!
-//! A line of a verdict is the same for one object and in a script. Refusals are printed by their texts.
-ghost use Rattle.std.specs.Prelude.{◌≡◌, ◌<◌, ◌++◌, OnOk, IfOk, IsTrue, map, length, if◌then◌else◌};
-ghost use Rattle.std.specs.List.{list_all, list_any};
+//! A line of a verdict or of a refusal is the same for one object and in a script.
+ghost use Rattle.std.specs.Prelude.{◌≡◌, ◌++◌, List, ℕ, OnOk, IfOk, map, length};
 ghost use Rattle.ks_engine.specs.Actions.{action};
-ghost use Rattle.ks_commands.specs.Replies.{build_line, counted, recorded_line, reply_line, reply_lines, report_lines, synced_line, verdict_line, verdict_text};
-ghost use Rattle.ks_commands.specs.Statuses.{code_of, is_answered, is_build_stale, is_stale, is_verdict_stale};
+ghost use Rattle.ks_commands.specs.Faults.{counted};
+ghost use Rattle.ks_commands.specs.Replies.{build_line, recorded_line, refused_line, refused_target_line, reply_line, reply_lines, report_lines, synced_line, verdict_line, verdict_text};
+ghost use Rattle.ks_commands.specs.Statuses.{build_status, code_of, reply_status, verdict_status, worst};
 
+use crate::faults::write_fault;
 use crate::preview::write_touches;
-use crate::status::Status;
+use crate::status::{Outcome, Status, worse};
 use itoa::Buffer;
 use ks_engine::{BuildState, Command, EngineError, Recorded, Reply, Report, Verdict};
 use std::alloc::{AllocError, Global};
@@ -30,7 +31,7 @@ fn write_verdict(verdict: &Verdict, text: &mut Vec<u8>) -> Result<(), AllocError
 }
 
 /// A number behind its label.
-#[tactic(auto, unfolding(crate::specs::Replies::counted))]
+#[tactic(auto, unfolding(crate::specs::Faults::counted))]
 fn write_count(label: &[u8], count: u64, text: &mut Vec<u8>) -> Result<(), AllocError>
     ensures { OnOk result (text.new.items ≡ text.old.items ++ counted label.now count) }
 {
@@ -54,7 +55,7 @@ pub(crate) fn write_verdict_line(
 
 /// `record TARGET generation N names M`.
 #[tactic(auto, unfolding(crate::specs::Replies::recorded_line))]
-pub(crate) fn write_recorded_line(
+fn write_recorded_line(
     target: &[u8],
     recorded: &Recorded,
     text: &mut Vec<u8>,
@@ -82,7 +83,7 @@ fn write_synced_line(report: &Report, text: &mut Vec<u8>) -> Result<(), AllocErr
 
 /// The lines `generation N`, `touch NAME` for each touched name, and `unknown U`.
 #[tactic(auto, unfolding(crate::specs::Replies::report_lines))]
-pub(crate) fn write_report(report: &Report, text: &mut Vec<u8>) -> Result<(), AllocError>
+fn write_report(report: &Report, text: &mut Vec<u8>) -> Result<(), AllocError>
     ensures { OnOk result (text.new.items ≡ text.old.items ++ report_lines report.now) }
 {
     write_count(b"generation ", report.generation, text)?;
@@ -94,34 +95,33 @@ pub(crate) fn write_report(report: &Report, text: &mut Vec<u8>) -> Result<(), Al
 }
 
 /// `refused FAULT`.
-fn write_refusal(alloc: Global, error: &EngineError, text: &mut Vec<u8>) -> Result<(), AllocError> {
-    let fault = error.to_string(alloc)?;
+#[tactic(auto, unfolding(crate::specs::Replies::refused_line))]
+fn write_refusal(error: &EngineError, text: &mut Vec<u8>) -> Result<(), AllocError>
+    ensures { OnOk result (text.new.items ≡ text.old.items ++ refused_line error.now) }
+{
     text.extend_from_slice(b"refused ")?;
-    text.extend_from_slice(fault.as_bytes())?;
+    write_fault(error, text)?;
     text.extend_from_slice(b"\n")
 }
 
 /// `TARGET refused FAULT`.
+#[tactic(auto, unfolding(crate::specs::Replies::refused_target_line))]
 pub(crate) fn write_refused_target(
-    alloc: Global,
     target: &[u8],
     error: &EngineError,
     text: &mut Vec<u8>,
-) -> Result<(), AllocError> {
+) -> Result<(), AllocError>
+    ensures { OnOk result (text.new.items ≡ text.old.items ++ refused_target_line target.now error.now) }
+{
     text.extend_from_slice(target)?;
     text.extend_from_slice(b" ")?;
-    write_refusal(alloc, error, text)
+    write_refusal(error, text)
 }
 
 /// The line of a command with its reply.
 #[tactic(auto, unfolding(crate::specs::Replies::reply_line))]
-fn write_reply(
-    alloc: Global,
-    command: &Command<'_>,
-    reply: &Reply,
-    text: &mut Vec<u8>,
-) -> Result<(), AllocError>
-    ensures { IsTrue (is_answered reply.now) → OnOk result (text.new.items ≡ text.old.items ++ reply_line (action command.now) reply.now) }
+fn write_reply(command: &Command<'_>, reply: &Reply, text: &mut Vec<u8>) -> Result<(), AllocError>
+    ensures { OnOk result (text.new.items ≡ text.old.items ++ reply_line (action command.now) reply.now) }
 {
     match (command, reply) {
         (Command::Sync { .. }, Reply::Synced(report)) => write_synced_line(report, text),
@@ -132,27 +132,31 @@ fn write_reply(
             write_verdict_line(*target, verdict, text)
         }
         (Command::Stale { target }, Reply::Refused(error)) => {
-            write_refused_target(alloc, *target, error, text)
+            write_refused_target(*target, error, text)
         }
-        (_, Reply::Refused(error)) => write_refusal(alloc, error, text),
+        (_, Reply::Refused(error)) => write_refusal(error, text),
         _ => Ok(()),
     }
 }
 
-/// The lines of commands with their replies.
-pub(crate) fn print_replies(
+/// The lines of commands with their replies, and what these come to.
+pub(crate) fn tell_replies(
     alloc: Global,
     commands: &[Command<'_>],
     replies: &[Reply],
-) -> Result<Vec<u8>, AllocError>
+) -> Result<Outcome, AllocError>
     requires { length replies.now ≡ length commands.now }
-    ensures { IsTrue (list_all is_answered replies.now) → IfOk result (λ text. text.items ≡ reply_lines (map action commands.now) replies.now) }
+    ensures lines { IfOk result (λ o. o.text.items ≡ reply_lines (map action commands.now) replies.now) }
+    ensures status { IfOk result (λ o. code_of o.status ≡ worst (map reply_status replies.now)) }
 {
     let mut text = Vec::new(alloc);
+    let mut status = Status::Done;
     for (index, command) in commands.iter().enumerate() {
-        write_reply(alloc, command, &replies[index], &mut text)?;
+        let reply = &replies[index];
+        write_reply(command, reply, &mut text)?;
+        status = worse(status, reply_status(reply));
     }
-    Ok(text)
+    Ok(Outcome { text, status })
 }
 
 /// `TARGET command-differs`, or the line of its verdict.
@@ -173,26 +177,19 @@ pub(crate) fn write_build_line(
     }
 }
 
-fn is_verdict_stale(verdict: &Verdict) -> bool
-    ensures { result ≡ is_verdict_stale verdict.now }
-{
-    !matches!(verdict, Verdict::Fresh)
-}
-
 /// What a verdict comes to.
 pub(crate) fn verdict_status(verdict: &Verdict) -> Status
-    ensures { code_of result ≡ (if is_verdict_stale verdict.now then 1 else 0) }
+    ensures { code_of result ≡ verdict_status verdict.now }
 {
-    if is_verdict_stale(verdict) {
-        Status::Stale
-    } else {
-        Status::Done
+    match verdict {
+        Verdict::Fresh => Status::Done,
+        _ => Status::Stale,
     }
 }
 
 /// What the state of an object comes to.
 pub(crate) fn build_status(state: &BuildState) -> Status
-    ensures { code_of result ≡ (if is_build_stale state.now then 1 else 0) }
+    ensures { code_of result ≡ build_status state.now }
 {
     match state {
         BuildState::CommandDiffers => Status::Stale,
@@ -200,45 +197,37 @@ pub(crate) fn build_status(state: &BuildState) -> Status
     }
 }
 
-fn is_answered(reply: &Reply) -> bool
-    ensures { result ≡ is_answered reply.now }
-{
-    !matches!(reply, Reply::Refused(_))
-}
-
-fn is_stale(reply: &Reply) -> bool
-    ensures { result ≡ is_stale reply.now }
+/// What a reply comes to.
+fn reply_status(reply: &Reply) -> Status
+    ensures { code_of result ≡ reply_status reply.now }
 {
     match reply {
-        Reply::Verdict(verdict) => is_verdict_stale(verdict),
-        _ => false,
+        Reply::Verdict(verdict) => verdict_status(verdict),
+        Reply::Refused(_) => Status::Refused,
+        _ => Status::Done,
     }
 }
 
-/// Whether no reply is a refusal.
-fn all_answered(replies: &[Reply]) -> bool
-    ensures { result ≡ list_all is_answered replies.now }
+/// A synchronisation, told name by name.
+pub(crate) fn tell_report(alloc: Global, report: &Report) -> Result<Outcome, AllocError>
+    ensures { IfOk result (λ o. (o.text.items ≡ report_lines report.now) × (code_of o.status ≡ 0)) }
 {
-    replies.iter().all(|reply| is_answered(reply))
+    let mut text = Vec::new(alloc);
+    write_report(report, &mut text)?;
+    let status = Status::Done;
+    Ok(Outcome { text, status })
 }
 
-/// Whether some object is stale.
-fn some_stale(replies: &[Reply]) -> bool
-    ensures { result ≡ list_any is_stale replies.now }
+/// What was recorded of an object, told.
+pub(crate) fn tell_recorded(
+    alloc: Global,
+    target: &[u8],
+    recorded: &Recorded,
+) -> Result<Outcome, AllocError>
+    ensures { IfOk result (λ o. (o.text.items ≡ recorded_line target.now recorded.now) × (code_of o.status ≡ 0)) }
 {
-    replies.iter().any(|reply| is_stale(reply))
-}
-
-/// What replies come to.
-pub(crate) fn status_of(replies: &[Reply]) -> Status
-    ensures answered { code_of result < 2 → IsTrue (list_all is_answered replies.now) }
-    ensures stale { code_of result < 2 → code_of result ≡ (if list_any is_stale replies.now then 1 else 0) }
-{
-    if !all_answered(replies) {
-        Status::Refused
-    } else if some_stale(replies) {
-        Status::Stale
-    } else {
-        Status::Done
-    }
+    let mut text = Vec::new(alloc);
+    write_recorded_line(target, recorded, &mut text)?;
+    let status = Status::Done;
+    Ok(Outcome { text, status })
 }

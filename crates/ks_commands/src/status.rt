@@ -13,6 +13,13 @@ pub(crate) enum Status {
     Refused,
 }
 
+/// What is to be printed of a command, and how it ended.
+#[derive(Drop)]
+pub(crate) struct Outcome {
+    pub(crate) text: Vec<u8>,
+    pub(crate) status: Status,
+}
+
 /// The exit status.
 pub(crate) fn exit_status(status: Status) -> u8
     ensures { result ≡ code_of status }

@@ -11,6 +11,7 @@ const DEMO_AUTO: &[u8] = br#"#
 # Automatically generated file; DO NOT EDIT.
 # Demo
 #
+#typed
 CONFIG_A=y
 CONFIG_B=m
 #generation 1
@@ -33,7 +34,7 @@ fn outcome(
 /// The lines of a preview's auto.conf that its title and entries stand between.
 fn whole(alloc: Global, touches: &str, title: &str, rest: &str) -> Result<String, AllocError> {
     format!(in alloc;
-        "{touches}#\n# Automatically generated file; DO NOT EDIT.\n# {title}\n#\n{rest}"
+        "{touches}#\n# Automatically generated file; DO NOT EDIT.\n# {title}\n#\n#typed\n{rest}"
     )
 }
 
@@ -41,7 +42,7 @@ fn whole(alloc: Global, touches: &str, title: &str, rest: &str) -> Result<String
 #[rattlefmt::skip]
 fn previews(rt: HostRuntime) -> Result<(), AllocError> {
     let alloc = rt.alloc();
-    let rows: [(&str, &[u8], &[u8], Option<&[u8]>, &str, &str, &str); 8] = [
+    let rows: [(&str, &[u8], &[u8], Option<&[u8]>, &str, &str, &str); 10] = [
         ("a first one", DEMO, b"CONFIG_A=y\nCONFIG_B=m\n", None,
             "touch A\ntouch B\n", "Demo", "CONFIG_A=y\nCONFIG_B=m\n#generation 1\n"),
         ("CR LF and no end", DEMO, b"CONFIG_A=y\r\nCONFIG_B=m", None,
@@ -51,12 +52,16 @@ fn previews(rt: HostRuntime) -> Result<(), AllocError> {
         ("nothing", b"", b"", None, "", "Main menu", "#generation 1\n"),
         ("nothing changed", DEMO, b"CONFIG_A=y\nCONFIG_B=m\n", Some(DEMO_AUTO),
             "", "Demo", "CONFIG_A=y\nCONFIG_B=m\n#generation 2\n"),
+        ("a bool that is a string now", b"config S\n\tstring\n", b"CONFIG_S=\"y\"\n", Some(b"#typed\nCONFIG_S=y\n"),
+            "touch S\n", "Main menu", "#type S string\nCONFIG_S=y\n#generation 1\n"),
+        ("over the untyped form", DEMO, b"CONFIG_A=y\n", Some(b"CONFIG_A=y\nCONFIG_B=m\n#generation 1\n"),
+            "touch A\ntouch B\n", "Demo", "CONFIG_A=y\n#generation 2\n"),
         ("one vanished, one changed", b"mainmenu \"Demo\"\nconfig B\n\ttristate\n", b"CONFIG_A=y\nCONFIG_B=y\n", Some(DEMO_AUTO),
             "touch A\ntouch B\n", "Demo", "CONFIG_B=y\n#generation 2\n"),
         ("an empty string", b"config S\n\tstring\n", b"CONFIG_S=\"\"\n", Some(b""),
-            "touch S\n", "Main menu", "CONFIG_S=\n#generation 1\n"),
+            "touch S\n", "Main menu", "#type S string\nCONFIG_S=\n#generation 1\n"),
         ("a string and a number", b"config S\n\tstring\nconfig H\n\thex\n", b"CONFIG_S=\"a\\\"b\\\\c\"\nCONFIG_H=0X1F\n", None,
-            "touch H\ntouch S\n", "Main menu", "CONFIG_H=0X1F\nCONFIG_S=a\"b\\c\n#generation 1\n"),
+            "touch H\ntouch S\n", "Main menu", "#type H hex\nCONFIG_H=0X1F\n#type S string\nCONFIG_S=a\"b\\c\n#generation 1\n"),
     ];
     for (name, kconfig, dotconfig, old, touches, title, rest) in rows {
         let want = whole(alloc, touches, title, rest)?;
@@ -70,7 +75,7 @@ fn previews(rt: HostRuntime) -> Result<(), AllocError> {
 #[rattlefmt::skip]
 fn refusals(rt: HostRuntime) -> Result<(), AllocError> {
     let alloc = rt.alloc();
-    let rows: [(&[u8], &[u8], Option<&[u8]>, &str); 13] = [
+    let rows: [(&[u8], &[u8], Option<&[u8]>, &str); 14] = [
         (b"config A\n\tbool\n\thelp\n", b"", None, "1 NotBare line 3"),
         (b"config A-B\n\tbool\n", b"", None, "2 BadName line 1"),
         (b"config FOO_MODULE\n\tbool\n", b"", None, "3 ModuleName line 1"),
@@ -81,6 +86,7 @@ fn refusals(rt: HostRuntime) -> Result<(), AllocError> {
         (DEMO, b"CONFIG_A=m\n", None, "8 BadValue line 1"),
         (DEMO, b"", Some(b"#\n#\n\n#\nCONFIG_../x=y\n"), "11 BadAuto line 5"),
         (DEMO, b"", Some(b"#generation 1"), "11 BadAuto line 1"),
+        (DEMO, b"", Some(b"#typed\n#type S string\nCONFIG_T=x\n"), "11 BadAuto line 2"),
         (DEMO, b"", Some(b"#generation 18446744073709551615\n"), "42 GenerationFull"),
         (DEMO, b"CONFIG_A=m\n", Some(b"CONFIG_A\n"), "8 BadValue line 1"),
         (b"config A\n", b"CONFIG_A=m\n", Some(b"CONFIG_A\n"), "4 NoType line 1"),

@@ -1,6 +1,6 @@
 use Rattle.std.proofs.Common.{◌≡◌, map, take}
 use Rattle.ks_engine.specs.Actions.{action}
-use Rattle.ks_commands.specs.Scripts.{loaded_action}
+use Rattle.ks_commands.specs.Views.{loaded_action}
 use Rattle.ks_commands.proofs.batch.commands.Given as goal
 
 abbrev pub invariant-loop-loaded : goal.invariant-loop-loaded

@@ -1,12 +1,14 @@
-use Rattle.std.proofs.Common.{◌≡◌, ◌↔◌, ◌≤◌, map, take, Some}
+use Rattle.std.proofs.Common.{◌≡◌, ◌≤◌, map, drop}
 use Rattle.ks_script.specs.Script.{seen_line}
-use Rattle.ks_commands.specs.Scripts.{action_in, loaded_action}
+use Rattle.ks_commands.specs.Scripts.{actions_at}
+use Rattle.ks_commands.specs.Views.{loaded_action}
+use Rattle.ks_commands.proofs.Loading.{behind}
 use Rattle.ks_commands.proofs.batch.load_all.Given as goal
 
 abbrev pub invariant-loop-line : goal.invariant-loop-line
 invariant-loop-line g l = record {
-  honest : g.T.Tree.is_honest l.fn.tree ↔ g.T.Tree.is_honest l.tree;
-  unchanged : g.T.Tree.is_honest l.fn.tree → g.T.Tree.files l.tree ≡ g.T.Tree.files l.fn.tree;
-  actions : g.T.Tree.is_honest l.fn.tree → map (action_in (g.T.Tree.files l.fn.tree)) (map seen_line (take l.line-index l.lines)) ≡ map (λ a. Some a) (map loaded_action l.all.items);
+  unchanged : g.T.Tree.is_honest → g.T.Tree.files l.tree ≡ g.T.Tree.files l.fn.tree;
   later : g.T.Tree.failures l.fn.tree ≤ g.T.Tree.failures l.tree;
+  actions : g.T.Tree.is_honest → behind (map loaded_action l.all.items) (actions_at (g.T.Tree.files l.fn.tree) (map seen_line (drop l.line-index l.lines)))
+      ≡ actions_at (g.T.Tree.files l.fn.tree) (map seen_line l.lines);
 }

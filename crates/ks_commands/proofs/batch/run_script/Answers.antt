@@ -1,17 +1,80 @@
-use Rattle.std.proofs.Common.{subst}
-use Rattle.std.specs.Io.KnownBytes.{Appends}
+use Rattle.std.proofs.Common.{◌≡◌, inl, inr, Ok, Err, sym, ap, ◌∙◌, ◌≤◌, subst, map, length, refl, arith}
+use Rattle.std.proofs.lemmas.Result.{err_from_is_err_and}
+use Rattle.std.proofs.lemmas.List.{length-map}
+use Rattle.ks_engine.specs.Actions.{action}
+use Rattle.ks_engine.specs.Follows.{at}
+use Rattle.ks_engine.specs.Shows.{Shows}
+use Rattle.ks_commands.specs.declared.refusal.Refusal.TheVariants.{Engine}
+use Rattle.ks_commands.specs.Performed.{Runs}
+use Rattle.ks_commands.specs.Views.{loaded_action}
+use Rattle.ks_commands.proofs.Continuing.{run_follows, runs_all, script_missing, script_stopped, script_there}
 use Rattle.ks_commands.proofs.batch.run_script.Goals as goal
 
-pub returns-clause-ran : goal.returns-clause-ran
-returns-clause-ran g c = λ honest h shows small.
-    let ran = c.in_ok-outcome.ensures.ran honest h shows small in (
-      ran.0,
-      record {
-        script = ran.1;
-        text = c.in_ok-outcome.outcome.text.items;
-        legal = c.in_ok-check_path.ensures;
-        there = ran.2;
-        batch = ran.3;
-        appended = subst (Appends (g.W.Write.contents c.args.out.now) (g.W.Write.contents c.put.new.out)) c.deref.ensures.value c.in_ok-put.ensures;
-      },
+pub returns-in_err-script-clause-files : goal.returns-in_err-script-clause-files
+returns-in_err-script-clause-files g c = λ honest.
+    let p = err_from_is_err_and c.from_residual.result c.from_residual.ensures.1 in
+    inl (c.in_err-script.ensures.reads.unchanged honest, (Engine c.in_err-script.field-0.0, script_missing _ c.args.path.now _ (c.in_err-script.ensures.bytes honest), p.1 ∙ ap (λ r. Err r) p.2))
+
+pub returns-in_err-script-clause-goes_on : goal.returns-in_err-script-clause-goes_on
+returns-in_err-script-clause-goes_on g c = λ honest h shows.
+    let p = err_from_is_err_and c.from_residual.result c.from_residual.ensures.1 in
+    let same = c.in_err-script.ensures.reads.unchanged honest in (
+      h,
+      inl ((same, refl), (Engine c.in_err-script.field-0.0, script_missing _ c.args.path.now _ (c.in_err-script.ensures.bytes honest), p.1 ∙ ap (λ r. Err r) p.2)),
+      subst (λ f. Shows f h) (sym same) shows,
+    )
+
+pub returns-in_err-loaded-clause-files : goal.returns-in_err-loaded-clause-files
+returns-in_err-loaded-clause-files g c = λ honest.
+    let p = err_from_is_err_and c.from_residual-in_err-loaded.result c.from_residual-in_err-loaded.ensures.1 in
+    let same = c.in_ok-script.ensures.reads.unchanged honest in
+    let there = c.in_ok-script.ensures.bytes honest ∙ ap (λ b. Ok b) (sym c.deref.ensures.value) in
+    let r = c.in_err-loaded.field-0.0 in
+    inl (c.in_err-loaded.ensures.reads.unchanged honest ∙ same, (r, script_stopped _ _ c.args.path.now _ r same there (c.in_err-loaded.ensures.actions honest), p.1 ∙ ap (λ r. Err r) p.2))
+
+pub returns-in_err-loaded-clause-goes_on : goal.returns-in_err-loaded-clause-goes_on
+returns-in_err-loaded-clause-goes_on g c = λ honest h shows.
+    let p = err_from_is_err_and c.from_residual-in_err-loaded.result c.from_residual-in_err-loaded.ensures.1 in
+    let same = c.in_ok-script.ensures.reads.unchanged honest in
+    let same_later = c.in_err-loaded.ensures.reads.unchanged honest ∙ same in
+    let there = c.in_ok-script.ensures.bytes honest ∙ ap (λ b. Ok b) (sym c.deref.ensures.value) in
+    let r = c.in_err-loaded.field-0.0 in (
+      h,
+      inl ((same_later, refl), (r, script_stopped _ _ c.args.path.now _ r same there (c.in_err-loaded.ensures.actions honest), p.1 ∙ ap (λ r. Err r) p.2)),
+      subst (λ f. Shows f h) (sym same_later) shows,
+    )
+
+pub returns-clause-files : goal.returns-clause-files
+returns-clause-files g c = λ honest.
+    let same = c.in_ok-script.ensures.reads.unchanged honest in
+    let same_later = c.in_ok-loaded.ensures.reads.unchanged honest ∙ same in
+    let there = c.in_ok-script.ensures.bytes honest ∙ ap (λ b. Ok b) (sym c.deref.ensures.value) in
+    let actions = map loaded_action c.in_ok-loaded.loaded.items in
+    let are = ap (map action) c.deref-3.ensures.value ∙ c.in_ok-commands.ensures ∙ ap (map loaded_action) c.deref-2.ensures.value in
+    inr (
+      actions,
+      script_there _ _ c.args.path.now _ (Ok actions) same there (c.in_ok-loaded.ensures.actions honest),
+      runs_all _ _ _ (λ replies. length replies ≡ length actions) _ _ _ (λ unchanged. unchanged ∙ same_later)
+          (λ replies each. each ∙ sym (length-map c.deref-3.result.now action) ∙ ap length are) are (c.run_commands.ensures.files honest),
+    )
+
+pub returns-clause-goes_on : goal.returns-clause-goes_on
+returns-clause-goes_on g c = λ honest h shows.
+    let failures = g.T.Tree.failures in
+    let same = c.in_ok-script.ensures.reads.unchanged honest in
+    let same_later = c.in_ok-loaded.ensures.reads.unchanged honest ∙ same in
+    let there = c.in_ok-script.ensures.bytes honest ∙ ap (λ b. Ok b) (sym c.deref.ensures.value) in
+    let actions = map loaded_action c.in_ok-loaded.loaded.items in
+    let are = ap (map action) c.deref-3.ensures.value ∙ c.in_ok-commands.ensures ∙ ap (map loaded_action) c.deref-2.ensures.value in
+    let later : failures c.args.tree.now ≤ failures c.load_script.new.tree = omega (arith, c.in_ok-script.ensures.reads.counted.later, c.in_ok-loaded.ensures.reads.counted.later) in
+    let next = c.run_commands.ensures.goes_on honest h (subst (λ f. Shows f h) (sym same_later) shows) in
+    let last = at (g.T.Tree.files c.run_commands.new.tree) (failures c.run_commands.new.tree) next.0 in (
+      next.0,
+      inr (
+        actions,
+        script_there _ _ c.args.path.now _ (Ok actions) same there (c.in_ok-loaded.ensures.actions honest),
+        runs_all _ _ _ (Runs (at (g.T.Tree.files c.args.tree.now) (failures c.args.tree.now) h) last actions) _ _ _ (λ s. (s.0 ∙ same_later, s.1))
+            (λ replies run. run_follows _ _ _ _ h _ _ replies last same_later later are run) are next.1,
+      ),
+      next.2,
     )

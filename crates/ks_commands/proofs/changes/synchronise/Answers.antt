@@ -1,13 +1,68 @@
-use Rattle.std.proofs.Common.{◌∙◌, ◌++◌, ap, subst}
-use Rattle.std.specs.Io.KnownBytes.{Appends}
-use Rattle.ks_commands.specs.Replies.{report_lines}
+use Rattle.std.proofs.Common.{inr, Ok, Err, sym, ap, ◌∙◌, subst}
+use Rattle.std.proofs.lemmas.Result.{err_from_is_err_and}
+use Rattle.ks_engine.specs.Follows.{at}
+use Rattle.ks_engine.specs.Shows.{Shows}
+use Rattle.ks_commands.specs.Views.{seen_texts}
+use Rattle.ks_commands.proofs.Continuing.{sync_follows, sync_leaves}
 use Rattle.ks_commands.proofs.changes.synchronise.Goals as goal
 
-pub returns-clause-written : goal.returns-clause-written
-returns-clause-written g c = λ honest. record {
-  report = c.in_ok-report.report;
-  is_sync = c.in_ok-report.ensures.synced honest;
-  appended =
-      subst (Appends (g.W.Write.contents c.args.out.now) (g.W.Write.contents c.put.new.out))
-      (c.deref.ensures.value ∙ c.in_ok-write_report.ensures ∙ ap (λ l. l ++ report_lines c.in_ok-report.report) c.new-text.ensures.items) c.in_ok-put.ensures;
-}
+pub returns-in_err-report-clause-files : goal.returns-in_err-report-clause-files
+returns-in_err-report-clause-files g c = λ honest.
+    let p = err_from_is_err_and c.from_residual-in_err-report.result c.from_residual-in_err-report.ensures.1 in
+    let e = c.in_err-report.field-0.0 in
+    inr (
+      seen_texts c.in_ok-texts.texts,
+      c.in_ok-texts.ensures.texts honest,
+      Err e,
+      sync_leaves _ _ _ _ _ _ _ (Err e) (c.in_ok-texts.ensures.reads.unchanged honest) c.deref.ensures.value c.deref-2.ensures.value (c.in_err-report.ensures.refused honest),
+      p.1 ∙ ap (λ r. Err r) p.2,
+    )
+
+pub returns-in_err-report-clause-goes_on : goal.returns-in_err-report-clause-goes_on
+returns-in_err-report-clause-goes_on g c = λ honest h shows.
+    let p = err_from_is_err_and c.from_residual-in_err-report.result c.from_residual-in_err-report.ensures.1 in
+    let e = c.in_err-report.field-0.0 in
+    let failures = g.T.Tree.failures in
+    let same = c.in_ok-texts.ensures.reads.unchanged honest in
+    let next = c.in_err-report.ensures.follows honest h (subst (λ f. Shows f h) (sym same) shows) in (
+      next.0,
+      inr (
+        seen_texts c.in_ok-texts.texts,
+        c.in_ok-texts.ensures.texts honest,
+        Err e,
+        sync_follows _ _ (failures c.args.tree.now) (failures c.texts_at.new.tree) h _ _ _ _ (Err e) (at _ (failures c.sync.new.tree) next.0) same c.deref.ensures.value c.deref-2.ensures.value next.1,
+        p.1 ∙ ap (λ r. Err r) p.2,
+      ),
+      next.2,
+    )
+
+pub returns-in_err-tell_report-clause-goes_on : goal.returns-in_err-tell_report-clause-goes_on
+returns-in_err-tell_report-clause-goes_on g c = λ honest h shows.
+    let p = err_from_is_err_and c.from_residual-in_err-tell_report.result c.from_residual-in_err-tell_report.ensures.1 in
+    let same = c.in_ok-texts.ensures.reads.unchanged honest in
+    let next = c.in_ok-report.ensures.follows honest h (subst (λ f. Shows f h) (sym same) shows) in (
+      next.0,
+      inr (
+        seen_texts c.in_ok-texts.texts,
+        c.in_ok-texts.ensures.texts honest,
+        Ok c.in_ok-report.report,
+        sync_follows _ _ _ _ h _ _ _ _ (Ok c.in_ok-report.report) _ same c.deref.ensures.value c.deref-2.ensures.value next.1,
+        rw p.1 p.2,
+      ),
+      next.2,
+    )
+
+pub returns-clause-goes_on : goal.returns-clause-goes_on
+returns-clause-goes_on g c = λ honest h shows.
+    let same = c.in_ok-texts.ensures.reads.unchanged honest in
+    let next = c.in_ok-report.ensures.follows honest h (subst (λ f. Shows f h) (sym same) shows) in (
+      next.0,
+      inr (
+        seen_texts c.in_ok-texts.texts,
+        c.in_ok-texts.ensures.texts honest,
+        Ok c.in_ok-report.report,
+        sync_follows _ _ _ _ h _ _ _ _ (Ok c.in_ok-report.report) _ same c.deref.ensures.value c.deref-2.ensures.value next.1,
+        c.in_ok-tell_report.ensures,
+      ),
+      next.2,
+    )

@@ -1,22 +1,26 @@
-use Rattle.std.proofs.Common.{◌≡◌, ◌∙◌, ◌<◌, List, ℕ, IfOk, subst, string_bytes}
-use Rattle.ks_engine.specs.Follows.{at}
-use Rattle.ks_engine.specs.History.{History}
-use Rattle.ks_commands.specs.Batch.{WritesBatch}
-use Rattle.ks_commands.specs.Scripts.{RunsOrNot}
-use Rattle.ks_commands.specs.Statuses.{code_of}
-use Rattle.ks_commands.specs.Requests.{IsBatchOf}
+use Rattle.std.proofs.Common.{refl, sym, subst}
+use Rattle.ks_engine.specs.Shows.{Shows}
+use Rattle.ks_commands.proofs.Continuing.{stale_follows}
 use Rattle.ks_commands.proofs.performing.outcome.Goals as goal
 
-pub returns-in-Batch-clause-batch : goal.returns-in-Batch-clause-batch
-returns-in-Batch-clause-batch g c = λ p is honest h shows.
-    let same : string_bytes c.in-Batch.script ≡ p = subst (IsBatchOf p) c.in-Batch.is is in
-    subst (λ (path : List ℕ). IfOk c.run_script.result (λ status. code_of status < 2 → (last : History)
-    × WritesBatch path (at (g.T.Tree.files c.args.tree.now) (g.T.Tree.failures c.args.tree.now) h) (at (g.T.Tree.files c.run_script.new.tree) (g.T.Tree.failures c.run_script.new.tree) last)
-    (g.W.Write.contents c.args.out.now) (g.W.Write.contents c.run_script.new.out) (code_of status)))
-    (c.deref-in-Batch.ensures ∙ same) (c.run_script.ensures.ran honest h shows)
+pub returns-in-Sync-clause-goes_on : goal.returns-in-Sync-clause-goes_on
+returns-in-Sync-clause-goes_on g c = λ honest h shows.
+    let next = c.synchronise.ensures.goes_on honest h shows in
+    (next.0, rw (c.in-Sync.is, ← c.as_bytes.ensures.value, ← c.as_bytes-in-Sync.ensures.value) next.1, next.2)
 
-pub returns-in-Batch-clause-whole : goal.returns-in-Batch-clause-whole
-returns-in-Batch-clause-whole g c = λ p is honest.
-    let same : string_bytes c.in-Batch.script ≡ p = subst (IsBatchOf p) c.in-Batch.is is in
-    subst (λ (path : List ℕ). RunsOrNot path (g.T.Tree.files c.args.tree.now) (g.T.Tree.failures c.args.tree.now) (g.T.Tree.files c.run_script.new.tree) (g.T.Tree.failures c.run_script.new.tree))
-    (c.deref-in-Batch.ensures ∙ same) (c.run_script.ensures.whole honest)
+pub returns-in-Stale-clause-files : goal.returns-in-Stale-clause-files
+returns-in-Stale-clause-files g c = λ honest.
+    rw (c.in-Stale.is, ← c.deref.ensures.value) (c.stale_targets.ensures.reads.unchanged honest, c.stale_targets.ensures.told honest)
+
+pub returns-in-Stale-clause-goes_on : goal.returns-in-Stale-clause-goes_on
+returns-in-Stale-clause-goes_on g c = λ honest h shows.
+    let same = c.stale_targets.ensures.reads.unchanged honest in (
+      h,
+      rw (c.in-Stale.is, ← c.deref.ensures.value) ((same, refl), stale_follows _ _ _ _ h _ _ same shows (c.stale_targets.ensures.told honest)),
+      subst (λ f. Shows f h) (sym same) shows,
+    )
+
+pub returns-in-Batch-clause-goes_on : goal.returns-in-Batch-clause-goes_on
+returns-in-Batch-clause-goes_on g c = λ honest h shows.
+    let next = c.run_script.ensures.goes_on honest h shows in
+    (next.0, rw (c.in-Batch.is, ← c.as_bytes-in-Batch.ensures.value) next.1, next.2)

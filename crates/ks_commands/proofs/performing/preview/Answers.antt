@@ -1,28 +1,20 @@
-use Rattle.std.proofs.Common.{ℕ, List, option_map, ap, sym, subst, ◌∙◌}
-use Rattle.std.specs.Borrow.{Bor}
-use Rattle.ks_tree.specs.Files.{Files, content}
-use Rattle.ks_commands.specs.Outputs.{IsNamed}
-use Rattle.ks_commands.proofs.Writing.{preview_kept}
+use Rattle.std.proofs.Common.{inr, Err, ap, ◌∙◌}
+use Rattle.std.proofs.lemmas.Result.{err_from_is_err_and}
+use Rattle.ks_commands.specs.Views.{seen_inputs}
 use Rattle.ks_commands.proofs.performing.preview.Goals as goal
 
-pub returns-clause-written : goal.returns-clause-written
-returns-clause-written g c honest =
-    let k = c.in_ok-kconfig.kconfig.items in
-    let d = c.in_ok-dotconfig.dotconfig.items in
-    let first = c.in_ok-kconfig.ensures.unchanged honest in
-    let after_first = c.in_ok-kconfig.ensures.honest.0 honest in
-    let second = c.in_ok-dotconfig.ensures.unchanged after_first ∙ first in
-    let after_second = c.in_ok-dotconfig.ensures.honest.0 after_first in
-    record {
-      kconfig_bytes = k;
-      dotconfig_bytes = d;
-      old_bytes = option_map (λ v. v.items) c.in_ok-old.old;
-      kconfig_legal = c.in_ok-check_path.ensures;
-      dotconfig_legal = c.in_ok-check_path-2.ensures;
-      old_legal = c.in_ok-check_named.ensures;
-      kconfig_there = c.in_ok-kconfig.ensures.bytes honest;
-      dotconfig_there = ap (λ (f : Files). content f c.args.dotconfig.now) (sym first) ∙ c.in_ok-dotconfig.ensures.bytes after_first;
-      old_there =
-          subst (λ (f : Files). IsNamed f (option_map (λ (p : Bor (List ℕ)). p.now) c.args.old) (option_map (λ v. v.items) c.in_ok-old.old)) second (c.in_ok-old.ensures.bytes after_second);
-      previews = preview_kept _ _ _ _ _ _ _ _ _ c.deref.ensures.value c.deref-2.ensures.value c.lent.ensures c.in_ok-preview_to.ensures.written c.in_ok-flush.ensures;
-    }
+pub returns-in_err-text-clause-told : goal.returns-in_err-text-clause-told
+returns-in_err-text-clause-told g c = λ honest.
+    let p = err_from_is_err_and c.from_residual-in_err-text.result c.from_residual-in_err-text.ensures.1 in
+    let i = seen_inputs c.in_ok-inputs.inputs in
+    let e = c.in_err-text.field-0.0 in
+    inr (
+      i,
+      c.in_ok-inputs.ensures.inputs honest,
+      inr (
+        e,
+        λ same. c.in_err-text.ensures.no_output (ap (λ e. Err e) same),
+        rw (← c.deref.ensures.value, ← c.deref-2.ensures.value, ← c.lent-old.ensures) c.in_err-text.ensures.refusal,
+        p.1 ∙ ap (λ r. Err r) p.2,
+      ),
+    )

@@ -1,5 +1,6 @@
 use Rattle.std.proofs.Common.{◌∙◌, ◌++◌, ap, codes}
-use Rattle.ks_commands.specs.Replies.{counted, synced_line}
+use Rattle.ks_commands.specs.Faults.{counted}
+use Rattle.ks_commands.specs.Replies.{synced_line}
 use Rattle.ks_commands.proofs.Printing.{then_appended}
 use Rattle.ks_commands.proofs.replies.write_synced_line.Goals as goal
 

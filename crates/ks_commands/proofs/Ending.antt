@@ -1,0 +1,91 @@
+-- What follows from how a request ended.
+use Rattle.std.proofs.Common.{◌≡◌, ◌∙◌, ◌≤◌, ℕ, List, Option, Ok, Err, inl, inr, sym, ap, subst, arith, lit≤}
+use Rattle.std.specs.Io.KnownBytes.{Appends}
+use Rattle.ks_tree.specs.Files.{Files}
+use Rattle.ks_engine.specs.declared.error.EngineError.{EngineError}
+use Rattle.ks_engine.specs.declared.error.EngineError.TheVariants.{OutOfMemory}
+use Rattle.ks_engine.specs.Refusals.{IsGivenUp}
+use Rattle.ks_commands.specs.declared.refusal.Refusal.{Refusal}
+use Rattle.ks_commands.specs.declared.refusal.Refusal.TheVariants.{Engine}
+use Rattle.ks_commands.specs.declared.request.Request.TheVariants as request
+use Rattle.ks_commands.specs.declared.status.Outcome.{Outcome}
+use Rattle.ks_commands.specs.declared.status.Status.{Status}
+use Rattle.ks_commands.specs.declared.status.Status.TheVariants as status
+use Rattle.ks_commands.specs.Endings.{Ending, Printed}
+use Rattle.ks_commands.specs.Laws.{IsPreviewed, PreviewsArePerformed, RefusalsChangeNothing, StatusesAreAtMostTwo}
+use Rattle.ks_commands.specs.Outputs.{WritesPreview}
+use Rattle.ks_commands.specs.Performed.{EndsPreview}
+use Rattle.ks_commands.specs.Scripts.{HasGivenUp}
+use Rattle.ks_commands.specs.Statuses.{code_of}
+
+same_refusal : (r s : Refusal) → ◌≡◌ {A = Ending} (Err r) (Err s) → r ≡ s
+same_refusal r s e = cc
+
+no_outcome : {C : Type 0} (o : Outcome) (r : Refusal) → ◌≡◌ {A = Ending} (Ok o) (Err r) → C
+no_outcome o r e = absurd cc
+
+-- ---- refusals
+
+-- a refusal that is none of memory and the device stands by none of these
+given_up : {C : Type 0} (r : Refusal) (e : EngineError) → (HasGivenUp r → ⊥) → ◌≡◌ {A = Ending} (Err r) (Err (Engine e)) → IsGivenUp e → C
+given_up r e plain is up = absurd (plain (subst HasGivenUp (sym (same_refusal r (Engine e) is)) up))
+
+no_memory : {C : Type 0} (r : Refusal) → (HasGivenUp r → ⊥) → r ≡ Engine OutOfMemory → C
+no_memory r plain is = absurd (plain (subst HasGivenUp (sym is) tt))
+
+pub refusals_change_nothing : RefusalsChangeNothing
+refusals_change_nothing (request.Sync k d) r old new plain (inl stopped) = stopped.0
+refusals_change_nothing (request.Sync k d) r old new plain (inr (t, at, Ok report, synced, told)) = no_memory r plain told
+refusals_change_nothing (request.Sync k d) r old new plain (inr (t, at, Err e, inl refused, told)) = refused.1
+refusals_change_nothing (request.Sync k d) r old new plain (inr (t, at, Err e, inr up, told)) = given_up r e plain told up.0
+refusals_change_nothing (request.Preview k d o) r old new plain ends = ends.0
+refusals_change_nothing (request.Fixdep d t c) r old new plain ends = ends.0
+refusals_change_nothing (request.Record d t c) r old new plain (Ok answer, recorded, told) = no_memory r plain told
+refusals_change_nothing (request.Record d t c) r old new plain (Err e, inl refused, told) = refused.1
+refusals_change_nothing (request.Record d t c) r old new plain (Err e, inr up, told) = given_up r e plain told up.0
+refusals_change_nothing (request.Stale ts) r old new plain ends = ends.0
+refusals_change_nothing (request.Outdated t c) r old new plain ends = ends.0
+refusals_change_nothing (request.Batch p) r old new plain (inl stopped) = stopped.0
+refusals_change_nothing (request.Batch p) r old new plain (inr (actions, at, inl memory)) = memory.0
+refusals_change_nothing (request.Batch p) r old new plain (inr (actions, at, inr ran)) = no_memory r plain ran.2
+
+-- ---- statuses
+
+code_at_most : (s : Status) → code_of s ≤ 2
+code_at_most status.Done = lit≤ tt
+code_at_most status.Stale = lit≤ tt
+code_at_most status.Refused = lit≤ tt
+
+pub statuses_are_at_most_two : StatusesAreAtMostTwo
+statuses_are_at_most_two (Ok o) b a eb ea s (inl prints) = record { at_most = rw prints.answers (code_at_most o.status); done = λ is. inl (prints.answers ∙ ap code_of is) }
+statuses_are_at_most_two (Ok o) b a eb ea s (inr failed) = record { at_most = omega (arith, failed.1); done = λ is. inr failed.1 }
+statuses_are_at_most_two (Err r) b a eb ea s refused = record { at_most = omega (arith, refused.2); done = λ is. inr refused.2 }
+
+-- ---- previews
+
+preview_written : (files : Files) (k d : List ℕ) (o : Option (List ℕ)) (outcome : Outcome) (before after : Option (List ℕ)) → EndsPreview files k d o (Ok outcome)
+    → Appends before after outcome.text.items → (code_of outcome.status ≡ 0) × WritesPreview files k d o before after
+preview_written files k d o outcome before after (inl stopped) appended = no_outcome outcome (Engine stopped.0) stopped.2
+preview_written files k d o outcome before after (inr (i, at, inl (text, is, told))) appended =
+    (told.1, record { inputs = i; there = at; previews = record { text = text; is_preview = is; appended = subst (Appends before after) told.0 appended } })
+preview_written files k d o outcome before after (inr (i, at, inr (e, other, refusal, ended))) appended = no_outcome outcome _ ended
+
+done_or_refused : (k d : List ℕ) (o : Option (List ℕ)) (ended : Ending) (old new : Files) (b a eb ea : Option (List ℕ)) (s : ℕ) → new ≡ old → EndsPreview old k d o ended
+    → Printed ended b a eb ea s → IsPreviewed k d o old new b a s
+done_or_refused k d o (Ok outcome) old new b a eb ea s same ends (inl prints) =
+    let both = preview_written old k d o outcome b a ends prints.output in
+    record { answered = inl (prints.answers ∙ both.0); written = λ zero. both.1; unchanged = same }
+done_or_refused k d o (Ok outcome) old new b a eb ea s same ends (inr failed) =
+    record { answered = inr failed.1; written = λ zero. absurd (omega (arith, zero, failed.1)); unchanged = same }
+done_or_refused k d o (Err r) old new b a eb ea s same ends refused =
+    record { answered = inr refused.2; written = λ zero. absurd (omega (arith, zero, refused.2)); unchanged = same }
+
+pub previews_are_performed : PreviewsArePerformed
+previews_are_performed k d o (request.Preview k' d' o') ended old new b a eb ea s is ends printed =
+    rw (← is.0, ← is.1, ← is.2) (done_or_refused _ _ _ ended old new b a eb ea s ends.0 ends.1 printed)
+previews_are_performed k d o (request.Sync k' d') ended old new b a eb ea s is ends printed = absurd is
+previews_are_performed k d o (request.Fixdep d' t c) ended old new b a eb ea s is ends printed = absurd is
+previews_are_performed k d o (request.Record d' t c) ended old new b a eb ea s is ends printed = absurd is
+previews_are_performed k d o (request.Stale ts) ended old new b a eb ea s is ends printed = absurd is
+previews_are_performed k d o (request.Outdated t c) ended old new b a eb ea s is ends printed = absurd is
+previews_are_performed k d o (request.Batch p) ended old new b a eb ea s is ends printed = absurd is

@@ -1,0 +1,50 @@
+-- How a request ends: with a text and a status, or refused as a whole.
+use Rattle.std.specs.Prelude.{◌≡◌, ◌⊎◌, ◌++◌, ℕ, List, Option, Result, Ok, Err}
+use Rattle.std.specs.Io.KnownBytes.{Appends, Keeps}
+use Rattle.ks_engine.specs.declared.error.EngineError.{EngineError}
+use Rattle.ks_engine.specs.declared.error.EngineError.TheVariants.{OutOfMemory}
+use Rattle.ks_engine.specs.Refusals.{IsGivenUp}
+use Rattle.ks_commands.specs.declared.refusal.Refusal.{Refusal}
+use Rattle.ks_commands.specs.declared.refusal.Refusal.TheVariants.{Engine, Output}
+use Rattle.ks_commands.specs.declared.status.Outcome.{Outcome}
+use Rattle.ks_commands.specs.Faults.{complaint}
+use Rattle.ks_commands.specs.Statuses.{code_of}
+
+abbrev pub Ending : Type 0
+Ending = Result Outcome Refusal
+
+-- this text and this status, unless memory is refused for them
+abbrev pub Tells : List ℕ → ℕ → Ending → Type 0
+Tells text status (Ok o) = (o.text.items ≡ text) × (code_of o.status ≡ status)
+Tells text status (Err e) = e ≡ Engine OutOfMemory
+
+-- an answer of the engine with the status 0, or its refusal
+abbrev pub Answered : {A : Type 0} → (A → List ℕ) → Result A EngineError → Ending → Type 0
+Answered text (Ok x) ended = Tells (text x) 0 ended
+Answered text (Err e) ended = ended ≡ Err (Engine e)
+
+-- it is refused as a step before it is, or memory or the device fails there
+abbrev pub Stopped : {A : Type 0} → Result A EngineError → Ending → Type 0
+Stopped step ended = (e : EngineError) × (IsGivenUp e ⊎ (step ≡ Err e)) × (ended ≡ Err (Engine e))
+
+-- ---- what is printed of it
+
+-- Known bytes grow by a beginning of some bytes.
+abbrev pub IsPart : List ℕ → Option (List ℕ) → Option (List ℕ) → Type 0
+IsPart bytes before after = (part : List ℕ) × (rest : List ℕ) × (bytes ≡ part ++ rest) × Appends before after part
+
+-- Standard error grows by a beginning of the line of the refusal, by all of it unless it fails.
+abbrev pub Complains : Refusal → Option (List ℕ) → Option (List ℕ) → Type 0
+Complains refusal before after = IsPart (complaint refusal) before after
+
+-- The output grows by the text, standard error stays, and the status is that of the answers.
+pub record Prints (o : Outcome) (before after err_before err_after : Option (List ℕ)) (status : ℕ) : Type 0 where
+  pub output : Appends before after o.text.items
+  pub error : Keeps err_before err_after
+  pub answers : status ≡ code_of o.status
+
+-- An output that fails is refused as well; a refusal leaves the output.
+abbrev pub Printed : Ending → Option (List ℕ) → Option (List ℕ) → Option (List ℕ) → Option (List ℕ) → ℕ → Type 0
+Printed (Ok o) before after err_before err_after status =
+    Prints o before after err_before err_after status ⊎ (Complains Output err_before err_after × (status ≡ 2))
+Printed (Err e) before after err_before err_after status = Keeps before after × Complains e err_before err_after × (status ≡ 2)

@@ -1,0 +1,54 @@
+-- Runs of the program, one after the other over the files of one tree.
+use Rattle.std.specs.Prelude.{◌≡◌, ◌⊎◌, ℕ, List, [], ◌∷◌, Some, Result, Ok, map, ⊤}
+use Rattle.std.specs.List.{All}
+use Rattle.ks_engine.specs.declared.commands.Reply.{Reply}
+use Rattle.ks_engine.specs.declared.error.EngineError.{EngineError}
+use Rattle.ks_engine.specs.declared.staleness.Verdict.{Verdict}
+use Rattle.ks_engine.specs.declared.staleness.Verdict.TheVariants.{Fresh}
+use Rattle.ks_engine.specs.Actions.{Action}
+use Rattle.ks_engine.specs.Follows.{State, IsSame}
+use Rattle.ks_engine.specs.History.{Record as LastRecord, last_record}
+use Rattle.ks_engine.specs.Judged.{HasSameDefinitions}
+use Rattle.ks_engine.specs.Refusals.{GaveUp}
+use Rattle.ks_engine.specs.Runs.{IsShown, Step}
+use Rattle.ks_engine.specs.Staleness.{first_changed, verdict}
+use Rattle.ks_engine.specs.Verdicts.{IsChangedVerdict}
+use Rattle.ks_commands.specs.declared.request.Request.{Request}
+use Rattle.ks_commands.specs.Endings.{Ending}
+use Rattle.ks_commands.specs.Performed.{Continues, Effects, Ends}
+
+pub record ProgramRun : Type 0 where
+  pub before : State
+  pub request : Request
+  pub ended : Ending
+  pub after : State
+
+-- Each begins with the files and the history that the one before it left, and goes on as `perform` promises.
+abbrev pub Chain : State → List ProgramRun → State → Type 0
+Chain first [] last = IsSame first last
+Chain first (run ∷ runs) last =
+    IsSame first run.before × Continues run.request run.ended run.before run.after × IsShown run.after × Chain run.after runs last
+
+-- What is answered of a recorded object is the first of its names that changed since the record. Fresh, the header defines its names as then.
+pub record TellsChange (s : State) (o : List ℕ) (answer : Result Verdict EngineError) : Type 0 where
+  pub changed : (r : LastRecord) → last_record s.history o ≡ Some r → GaveUp answer ⊎ (answer ≡ Ok (verdict (first_changed s.history o)))
+  pub safe : (r : LastRecord) → last_record s.history o ≡ Some r → answer ≡ Ok Fresh → HasSameDefinitions s.files r
+
+-- the steps of a script's run, whose verdicts do the same
+abbrev pub StepsTellChanges : List Action → List Reply → Type 0
+StepsTellChanges actions replies = (steps : List Step) × (map (λ step. step.action) steps ≡ actions) × (map (λ step. step.reply) steps ≡ replies)
+    × All (λ step. IsChangedVerdict step.before.history step.action step.reply) steps
+
+abbrev pub changes_told : State → Effects
+changes_told s = record {
+  same = ⊤;
+  sync = λ k d answer. ⊤;
+  recording = λ d t c answer. ⊤;
+  stale = TellsChange s;
+  outdated = λ o command answer. ⊤;
+  run = StepsTellChanges;
+}
+
+-- All that a run of the program prints of recorded objects tells what changed.
+abbrev pub ProgramTellsChanges : ProgramRun → Type 0
+ProgramTellsChanges run = Ends run.before.files (changes_told run.before) run.request run.ended

@@ -1,14 +1,16 @@
 -- What the command line makes of words that begin with no hyphen.
-use Rattle.std.proofs.Common.{◌≡◌, ◌≢◌, ◌==◌, ◌∙◌, ap, subst, sym, ℕ, List, [], ◌∷◌, Option, Some, None, refl, codes, true, false, slice_index, option_map, arith}
+use Rattle.std.proofs.Common.{◌≡◌, ◌≢◌, ◌⊎◌, ◌==◌, ◌∙◌, inl, inr, ap, subst, sym, ℕ, List, [], ◌∷◌, Option, Some, None, refl, codes, true, false, slice_index, option_map, arith}
 use Rattle.std.proofs.lemmas.Bool.{true≢false}
 use Rattle.std.proofs.lemmas.Bool.Decides.{nat_tests}
-use Rattle.clap.specs.Words.{Row, Text, first_of, first_value, is_simple, rows_of, subcommand_name_of, subcommand_of, subcommand_rows, subcommand_rows_of, takes}
+use Rattle.clap.specs.declared.error.Error.{Error}
+use Rattle.clap.specs.declared.error.kind.ErrorKind.TheVariants.{DisplayHelp, DisplayVersion}
+use Rattle.clap.specs.Words.{HasKind, IsAmong, Kinds, kind_of, Row, Text, first_of, first_value, is_simple, is_simple_and_free, rows_of, subcommand_name_of, subcommand_of, subcommand_rows, subcommand_rows_of, takes}
 use Rattle.std.specs.Prelude.{Box, IfErr, IsErrAnd, IsSomeAnd, Result, Ok, Err, is_some}
 use Rattle.std.proofs.lemmas.Option.{same_Some}
 use Rattle.ks_commands.specs.Requests.{IsBatchOf, IsPreviewOf}
 use Rattle.ks_commands.specs.declared.request.Request.{Request}
 use Rattle.ks_commands.specs.declared.request.Request.TheVariants as request
-use Rattle.confstamp.specs.Words.{IsRequestOf, IsScriptOf}
+use Rattle.confstamp.specs.Words.{IsHelp, IsRequestOf}
 use Rattle.std.specs.Box.{box_value}
 use Rattle.clap.specs.declared.parser.matches.ArgMatches.{ArgMatches}
 use Rattle.clap.specs.declared.parser.matches.SubCommand.{SubCommand}
@@ -22,6 +24,10 @@ use Rattle.clap.specs.declared.parser.matches.Found.{Found}
 use Rattle.clap.proofs.WalkLemmas.{first_value-rows}
 use Rattle.clap.proofs.OnLiterals.{clap_on_literals}
 use Rattle.confstamp.specs.CommandLine.{command_line_app}
+
+pub is_free_line : is_simple_and_free command_line_app ≡ true
+unfolding clap_on_literals
+is_free_line = refl
 
 pub is_simple_line : is_simple command_line_app ≡ true
 unfolding clap_on_literals
@@ -96,25 +102,23 @@ preview_of k d (request.Stale ts) h = absurd (h.0 1 [] (omega arith) refl)
 preview_of k d (request.Batch s) h = absurd (true≢false (ap (λ t. slice_index t 0 == 112) h.0))
 preview_of k d (request.Outdated t c) h = absurd (true≢false (ap (λ t. slice_index t 0 == 112) h.0))
 
-pub script_of : (name : Text) (rows : List Row) (p : Text) (r : Request) → IsRequestOf name rows r → IsScriptOf name rows p → IsBatchOf p r
-script_of name rows p (request.Batch s) h is = h.1 ∙ is.1
-script_of name rows p (request.Sync k d) h is = absurd (true≢false (ap (λ t. slice_index t 0 == 98) (sym is.0 ∙ h.0)))
-script_of name rows p (request.Preview k d o) h is = absurd (true≢false (ap (λ t. slice_index t 0 == 98) (sym is.0 ∙ h.0)))
-script_of name rows p (request.Fixdep d t c) h is = absurd (true≢false (ap (λ t. slice_index t 0 == 98) (sym is.0 ∙ h.0)))
-script_of name rows p (request.Record d t c) h is = absurd (true≢false (ap (λ t. slice_index t 0 == 98) (sym is.0 ∙ h.0)))
-script_of name rows p (request.Stale ts) h is = absurd (h.0 4 [] (omega arith) is.0)
-script_of name rows p (request.Outdated t c) h is = absurd (true≢false (ap (λ t. slice_index t 0 == 98) (sym is.0 ∙ h.0)))
-
 pub batch_of : (p : Text) (r : Request) → IsRequestOf (codes "batch") (given (codes "SCRIPT") p ∷ []) r → IsBatchOf p r
-batch_of p r h = script_of _ (given (codes "SCRIPT") p ∷ []) p r h (refl, refl)
-
--- the same of what `clap` found in the words
-pub script_asked : (found : Option (Text × List Row)) (p : Text) (r : Request)
-    → IsSomeAnd found (λ command. IsRequestOf command.0 command.1 r) → IsSomeAnd found (λ command. IsScriptOf command.0 command.1 p) → IsBatchOf p r
-script_asked None p r h is = absurd h
-script_asked (Some command) p r h is = script_of command.0 command.1 p r h is
+batch_of p (request.Batch s) h = h.1
+batch_of p (request.Sync k d) h = absurd (true≢false (ap (λ t. slice_index t 0 == 98) h.0))
+batch_of p (request.Preview k d o) h = absurd (true≢false (ap (λ t. slice_index t 0 == 98) h.0))
+batch_of p (request.Fixdep d t c) h = absurd (true≢false (ap (λ t. slice_index t 0 == 98) h.0))
+batch_of p (request.Record d t c) h = absurd (true≢false (ap (λ t. slice_index t 0 == 98) h.0))
+batch_of p (request.Stale ts) h = absurd (h.0 4 [] (omega arith) refl)
+batch_of p (request.Outdated t c) h = absurd (true≢false (ap (λ t. slice_index t 0 == 98) h.0))
 
 -- what holds of the error holds where there is an error
 pub err_all : {T E : Type 0} (r : Result T E) (P Q : E → Type 0) → ((e : E) → P e → Q e) → IsErrAnd r P → IfErr r Q
 err_all (Ok x) P Q f h = tt
 err_all (Err e) P Q f h = f e h
+
+-- help that is told is among the kinds of the error
+pub help_among : (e : Error) (kinds : Kinds) → HasKind kinds e → IsHelp (kind_of e) → IsAmong DisplayHelp kinds ⊎ IsAmong DisplayVersion kinds
+help_among e kinds (inl memory) (inl help) = absurd cc
+help_among e kinds (inl memory) (inr version) = absurd cc
+help_among e kinds (inr among) (inl help) = inl (subst (λ k. IsAmong k kinds) help among)
+help_among e kinds (inr among) (inr version) = inr (subst (λ k. IsAmong k kinds) version among)

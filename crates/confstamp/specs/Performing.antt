@@ -1,24 +1,31 @@
--- What the program does with words that `clap` takes.
-use Rattle.std.specs.Prelude.{◌≡◌, ℕ, List, Option, IsSomeAnd, true}
-use Rattle.clap.specs.Words.{Text, subcommand_of, takes}
-use Rattle.ks_tree.specs.Files.{Files}
+-- What the program does with its words.
+use Rattle.std.specs.Prelude.{◌≡◌, ◌⊎◌, ℕ, List, Option, Result, Err, IsSomeAnd, true}
+use Rattle.clap.specs.Words.{IsAmong, Text, fault_of, subcommand_of, takes}
+use Rattle.clap.specs.declared.error.kind.ErrorKind.TheVariants.{DisplayHelp, DisplayVersion}
+use Rattle.ks_tree.specs.declared.tree.Tree.{Ghosts}
+use Rattle.ks_engine.specs.declared.error.EngineError.TheVariants.{OutOfMemory}
+use Rattle.ks_commands.specs.declared.refusal.Refusal.TheVariants.{Engine}
 use Rattle.ks_commands.specs.declared.request.Request.{Request}
-use Rattle.ks_commands.specs.Performed.{IsPerformed}
-use Rattle.ks_commands.specs.Requests.{IsNoQuestion, OnlyReads}
+use Rattle.ks_commands.specs.Endings.{Ending, Printed}
+use Rattle.ks_commands.specs.Performed.{Performs}
 use Rattle.confstamp.specs.CommandLine.{command_line_app}
-use Rattle.confstamp.specs.Words.{IsRequestOf, IsScriptOf}
+use Rattle.confstamp.specs.Words.{IsRequestOf}
 
--- The words make a request: that of the command that `clap` finds in them, with what it finds for each of its words.
--- By the files it was performed, with this status. The status is 0 but for questions and scripts, and a request that only
--- reads leaves the files as they are.
-pub record PerformsWords (words : List Text) (old new : Files) (before after : Option (List ℕ)) (status : ℕ) : Type 0 where
-  pub request : Request
-  pub made : IsSomeAnd (subcommand_of command_line_app words) (λ command. IsRequestOf command.0 command.1 request)
-  pub performed : IsPerformed request old new before after status
-  pub done : IsNoQuestion request → status ≡ 0
-  pub unchanged : OnlyReads request → new ≡ old
+-- The request is that of the command that `clap` finds in the words, with what it finds for each of its words.
+abbrev pub Makes : List Text → Request → Type 0
+Makes words request = IsSomeAnd (subcommand_of command_line_app words) (λ command. IsRequestOf command.0 command.1 request)
 
--- `clap` takes the words, and they are `batch` with this script.
-abbrev pub AreBatchOf : List Text → Text → Type 0
-AreBatchOf words path =
-    (takes command_line_app words ≡ true) × IsSomeAnd (subcommand_of command_line_app words) (λ command. IsScriptOf command.0 command.1 path)
+-- The words ask for help or for the version.
+abbrev pub AsksForHelp : List Text → Type 0
+AsksForHelp words = IsAmong DisplayHelp (fault_of command_line_app words) ⊎ IsAmong DisplayVersion (fault_of command_line_app words)
+
+-- `clap` does not take the words, and the status is 2, or 0 for help and the version.
+abbrev pub Explains : List Text → ℕ → Type 0
+Explains words status = (takes command_line_app words ≡ true → ⊥) × ((status ≡ 2) ⊎ ((status ≡ 0) × AsksForHelp words))
+
+-- The request of the words was performed; or memory was refused for it, or the words were explained, and the tree is as before.
+abbrev pub Executes : {T : Type 0} → Ghosts T → List Text → T → T → Option (List ℕ) → Option (List ℕ) → Option (List ℕ) → Option (List ℕ) → ℕ → Type 0
+Executes tree words old new before after err_before err_after status =
+    ((request : Request) × Makes words request
+    × (ended : Ending) × Performs tree old new request ended × Printed ended before after err_before err_after status)
+    ⊎ ((new ≡ old) × (Printed (Err (Engine OutOfMemory)) before after err_before err_after status ⊎ Explains words status))

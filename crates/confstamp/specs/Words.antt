@@ -1,11 +1,15 @@
 -- Words of the command line, the requests that they make, and why they make none.
-use Rattle.std.specs.Prelude.{◌≡◌, ◌≢◌, ℕ, List, [], ◌∷◌, codes, map, option_map, slice_index, string_bytes, unwrap_or}
+use Rattle.std.specs.Prelude.{◌≡◌, ◌≢◌, ◌⊎◌, ℕ, List, [], ◌∷◌, codes, map, option_map, slice_index, string_bytes, unwrap_or}
 use Rattle.std.specs.List.{All}
 use Rattle.clap.specs.Words.{Row, Text, all_of, first_of}
 use Rattle.ks_commands.specs.declared.request.Request.{Request}
 use Rattle.ks_commands.specs.declared.request.Request.TheVariants as request
 use Rattle.confstamp.specs.declared.words.WordsError.{WordsError}
-use Rattle.confstamp.specs.declared.words.WordsError.TheVariants.{OutOfMemory}
+use Rattle.confstamp.specs.declared.words.WordsError.TheVariants.{OutOfMemory, Refused}
+use Rattle.clap.specs.Words.{kind_of}
+use Rattle.clap.specs.declared.error.Error.{Error}
+use Rattle.clap.specs.declared.error.kind.ErrorKind.{ErrorKind}
+use Rattle.clap.specs.declared.error.kind.ErrorKind.TheVariants.{DisplayHelp, DisplayVersion, OutOfMemory as NoMemory}
 
 -- the word does not begin with `-`
 abbrev pub IsPlainWord : List ℕ → Type 0
@@ -15,6 +19,19 @@ IsPlainWord word = slice_index word 0 ≢ 45
 abbrev pub IsWantOfMemory : WordsError → Type 0
 IsWantOfMemory OutOfMemory = Unit {0}
 IsWantOfMemory _ = ⊥
+
+-- help, or the version
+abbrev pub IsHelp : ErrorKind → Type 0
+IsHelp kind = (kind ≡ DisplayHelp) ⊎ (kind ≡ DisplayVersion)
+
+abbrev pub TellsHelp : WordsError → Type 0
+TellsHelp (Refused e) = IsHelp (kind_of e)
+TellsHelp OutOfMemory = ⊥
+
+-- what becomes of an error of `clap`
+pub record IsTold (e : Error) (told : WordsError) : Type 0 where
+  pub memory : kind_of e ≡ NoMemory → IsWantOfMemory told
+  pub help : TellsHelp told → IsHelp (kind_of e)
 
 -- the word that stands for this name, and the words that stand for it
 abbrev pub word_at : Text → List Row → Text
@@ -47,7 +64,3 @@ IsRequestOf command rows (request.Batch s) =
     (command ≡ codes "batch") × (string_bytes s ≡ word_at (codes "SCRIPT") rows)
 IsRequestOf command rows (request.Outdated t c) = (command ≡ codes "outdated")
     × (string_bytes t ≡ word_at (codes "TARGET") rows) × (string_bytes c ≡ word_at (codes "COMMAND") rows)
-
--- the command is `batch`, and this is the script that `clap` found for it
-abbrev pub IsScriptOf : Text → List Row → Text → Type 0
-IsScriptOf command rows path = (command ≡ codes "batch") × (word_at (codes "SCRIPT") rows ≡ path)

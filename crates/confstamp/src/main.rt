@@ -2,11 +2,15 @@
 #![tactic(auto)]
 
 mod command_line;
+mod laws;
+mod lock;
 mod program;
 mod usage;
 mod words;
 
 use ks_tree::FolderTree;
+pub use laws::{batch_words, preview_words};
+use lock::lock_folder;
 pub use program::execute;
 use std::io::{BufWriter, ErrorKind};
 use std::process::ExitCode;
@@ -22,18 +26,20 @@ fn run(rt: &HostRuntime) -> io::Result<u8> {
         texts.push(word.as_str())?;
     }
     let mut tree = FolderTree::new(rt, String::new(alloc));
+    let _locked = lock_folder(rt, &mut tree, &texts)?;
     let mut out = BufWriter::new(alloc, rt.stdout())?;
     let mut err = rt.stderr();
     Ok(execute(alloc, &mut tree, &texts, &mut out, &mut err))
 }
 
-/// What cannot even be read of the words, or made room for, is told as a refusal.
+/// What cannot even be read of the words, or made room for, and that another program is in the way, is told as a refusal.
 fn main(rt: HostRuntime) -> ExitCode {
     match run(&rt) {
         Ok(status) => ExitCode::from(status),
         Err(error) => {
             let text = match error.kind() {
                 ErrorKind::OutOfMemory => "confstamp: 10 OutOfMemory",
+                ErrorKind::WouldBlock => "confstamp: another confstamp is at work in this folder",
                 _ => "confstamp: the words are not UTF-8 text",
             };
             let _ = eprintln!(rt; "{text}");

@@ -1,11 +1,11 @@
 //! What the words after the program's name ask for.
-ghost use Rattle.std.specs.Prelude.{◌≡◌, ℕ, List, [], ◌∷◌, IfErr, IfOk, IsSomeAnd, codes, true, map, None, option_map, string_bytes};
-ghost use Rattle.clap.specs.Words.{first_of, found_of, kind_of, rows_of, subcommand_of, takes};
+ghost use Rattle.std.specs.Prelude.{◌≡◌, ℕ, List, [], ◌∷◌, IfErr, IfOk, codes, true, map, None, option_map, string_bytes};
+ghost use Rattle.clap.specs.Words.{first_of, found_of, rows_of, takes};
 ghost use Rattle.clap.specs.Walk.{texts};
-ghost use Rattle.clap.specs.declared.error.kind.ErrorKind.TheVariants.{OutOfMemory as NoMemory};
 ghost use Rattle.ks_commands.specs.Requests.{IsBatchOf, IsPreviewOf};
 ghost use Rattle.confstamp.specs.CommandLine.{command_line_app};
-ghost use Rattle.confstamp.specs.Words.{IsPlainWord, IsRequestOf, IsWantOfMemory, word_at, words_at};
+ghost use Rattle.confstamp.specs.Performing.{AsksForHelp, Makes};
+ghost use Rattle.confstamp.specs.Words.{IsPlainWord, IsRequestOf, IsTold, IsWantOfMemory, TellsHelp, word_at, words_at};
 
 use crate::command_line::command_line;
 use clap::ArgMatches;
@@ -33,7 +33,7 @@ impl From<AllocError> for WordsError {
 }
 
 impl From<clap::Error> for WordsError {
-    ghost from_gives = { λ e w. kind_of e ≡ NoMemory → IsWantOfMemory w };
+    ghost from_gives = { IsTold };
 
     fn from(error: clap::Error) -> WordsError {
         match error.kind() {
@@ -127,7 +127,9 @@ fn request_named(alloc: Global, name: &str, matches: &ArgMatches<'_>) -> Result<
 }
 
 /// That a command is missing. `clap` says so itself before this can come.
-fn missing_command(alloc: Global) -> Result<WordsError, AllocError> {
+fn missing_command(alloc: Global) -> Result<WordsError, AllocError>
+    ensures { IfOk result (λ w. TellsHelp w → ⊥) }
+{
     let mut command = command_line(alloc)?;
     let error = command.error(ErrorKind::MissingSubcommand, "a command is needed")?;
     Ok(WordsError::Refused(error))
@@ -135,19 +137,14 @@ fn missing_command(alloc: Global) -> Result<WordsError, AllocError> {
 
 /// The request that the words after the program's name make. A word that begins with `-` is taken behind `--`.
 pub fn request_of<'a>(alloc: Global, words: &'a [&'a str]) -> Result<Request, WordsError>
-    ensures exact { IfOk result (λ r. IsSomeAnd (subcommand_of command_line_app (texts words.entry.now))
-        (λ command. IsRequestOf command.0 command.1 r)) }
+    ensures exact { IfOk result (λ r. Makes (texts words.entry.now) r) }
     ensures taken { IfErr result (λ e. takes command_line_app (texts words.entry.now) ≡ true → IsWantOfMemory e) }
+    ensures help { IfErr result (λ e. TellsHelp e → AsksForHelp (texts words.entry.now)) }
     ensures batch { IfOk result (λ r. (p : List ℕ) → texts words.entry.now ≡ codes "batch" ∷ p ∷ []
         → IsPlainWord p → IsBatchOf p r) }
-    ensures batch_taken { IfErr result (λ e. (p : List ℕ) → texts words.entry.now ≡ codes "batch" ∷ p ∷ []
-        → IsPlainWord p → IsWantOfMemory e) }
     ensures preview { IfOk result (λ r. (k d : List ℕ)
         → texts words.entry.now ≡ codes "preview" ∷ k ∷ d ∷ []
         → IsPlainWord k → IsPlainWord d → IsPreviewOf k d None r) }
-    ensures preview_taken { IfErr result (λ e. (k d : List ℕ)
-        → texts words.entry.now ≡ codes "preview" ∷ k ∷ d ∷ []
-        → IsPlainWord k → IsPlainWord d → IsWantOfMemory e) }
 {
     let command = command_line(alloc)?;
     let matches = command.try_get_matches_from(words)?;

@@ -25,3 +25,15 @@ fn a_tree_of_the_usual_tool(rt: HostRuntime) -> Result<(), Fail> {
     let mut tree = world(&rt, rt.alloc())?;
     play(&rt, rt.alloc(), &mut tree, USUAL_TREE)
 }
+
+#[test]
+fn a_tree_of_the_untyped_form(rt: HostRuntime) -> Result<(), Fail> {
+    let mut tree = world(&rt, rt.alloc())?;
+    play(&rt, rt.alloc(), &mut tree, UNTYPED_TREE)
+}
+
+#[test]
+fn a_symbol_that_changes_its_kind(rt: HostRuntime) -> Result<(), Fail> {
+    let mut tree = world(&rt, rt.alloc())?;
+    play(&rt, rt.alloc(), &mut tree, RETYPED)
+}

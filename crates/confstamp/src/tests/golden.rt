@@ -7,6 +7,9 @@ const KCONFIG_D: &str =
     "mainmenu \"Demo\"\nconfig A\n\tbool\nconfig B\n\ttristate\nconfig D\n\tbool\n";
 
 pub const AUTO: &str =
+    "#\n# Automatically generated file; DO NOT EDIT.\n# Demo\n#\n#typed\nCONFIG_A=y\nCONFIG_B=m\n#generation 1\n";
+
+const UNTYPED_AUTO: &str =
     "#\n# Automatically generated file; DO NOT EDIT.\n# Demo\n#\nCONFIG_A=y\nCONFIG_B=m\n#generation 1\n";
 
 const USUAL_AUTO: &str = "#\n# Automatically generated file; DO NOT EDIT.\n# Demo\n#\nCONFIG_A=y\n";
@@ -24,10 +27,10 @@ const FIXDEP: &str =
     "0 savedcmd_x.o := cc -c x.c\n\nsource_x.o := x.c\n\ndeps_x.o := \\\n    $(wildcard include/config/A) \\\n    $(wildcard include/config/B) \\\n  a.h \\\n    $(wildcard include/config/C) \\\n  b.h \\\n\nx.o: $(deps_x.o)\n\n$(deps_x.o):\n";
 
 const PREVIEW: &str =
-    "0 touch A\ntouch B\n#\n# Automatically generated file; DO NOT EDIT.\n# Demo\n#\nCONFIG_A=y\nCONFIG_B=m\n#generation 1\n";
+    "0 touch A\ntouch B\n#\n# Automatically generated file; DO NOT EDIT.\n# Demo\n#\n#typed\nCONFIG_A=y\nCONFIG_B=m\n#generation 1\n";
 
 const PREVIEW_OVER: &str =
-    "0 touch A\n#\n# Automatically generated file; DO NOT EDIT.\n# Demo\n#\nCONFIG_B=m\n#generation 2\n";
+    "0 touch A\n#\n# Automatically generated file; DO NOT EDIT.\n# Demo\n#\n#typed\nCONFIG_B=m\n#generation 2\n";
 
 /// Kconfig files, `.config` files, an object's sources and its dependency file.
 #[rattlefmt::skip]
@@ -108,7 +111,37 @@ pub const USUAL_TREE: &[(Step<'_>, &str)] = &[
     (Step::Put("include/config/auto.conf", USUAL_AUTO), "done"),
     (Step::Put("include/config/A", ""), "done"),
     (Step::Words(&["record", "x.d", "x.o", "cc -c x.c"]), "2 confstamp: 41 NeverSynced\n"),
-    (Step::Words(&["sync", "K1", "c1"]), "0 generation 1\ntouch B\nunknown 0\n"),
-    (Step::Read("include/config/A"), ""),
+    (Step::Words(&["sync", "K1", "c1"]), "0 generation 1\ntouch A\ntouch B\nunknown 0\n"),
+    (Step::Read("include/config/A"), "1\n"),
     (Step::Words(&["record", "x.d", "x.o", "cc -c x.c"]), "0 record x.o generation 1 names 3\n"),
+];
+
+/// A tree of the untyped form: its first synchronisation touches all names, and the next one none.
+#[rattlefmt::skip]
+pub const UNTYPED_TREE: &[(Step<'_>, &str)] = &[
+    (Step::Put("include/config/auto.conf", UNTYPED_AUTO), "done"),
+    (Step::Put("include/config/A", "1\n"), "done"),
+    (Step::Put("include/config/B", "1\n"), "done"),
+    (Step::Put("include/generated/autoconf.h", HEADER), "done"),
+    (Step::Words(&["record", "x.d", "x.o", "cc -c x.c"]), "0 record x.o generation 1 names 3\n"),
+    (Step::Words(&["stale", "x.o"]), "0 x.o fresh\n"),
+    (Step::Words(&["sync", "K1", "c1"]), "0 generation 2\ntouch A\ntouch B\nunknown 0\n"),
+    (Step::Words(&["stale", "x.o"]), "1 x.o stale A\n"),
+    (Step::Words(&["record", "x.d", "x.o", "cc -c x.c"]), "0 record x.o generation 2 names 3\n"),
+    (Step::Words(&["sync", "K1", "c1"]), "0 generation 3\nunknown 0\n"),
+    (Step::Words(&["stale", "x.o"]), "0 x.o fresh\n"),
+];
+
+/// A bool that becomes a string of the same text.
+#[rattlefmt::skip]
+pub const RETYPED: &[(Step<'_>, &str)] = &[
+    (Step::Put("bool", "config S\n\tbool\n"), "done"),
+    (Step::Put("string", "config S\n\tstring\n"), "done"),
+    (Step::Put("y", "CONFIG_S=y\n"), "done"),
+    (Step::Put("quoted", "CONFIG_S=\"y\"\n"), "done"),
+    (Step::Words(&["sync", "bool", "y"]), "0 generation 1\ntouch S\nunknown 0\n"),
+    (Step::Words(&["preview", "string", "quoted", "include/config/auto.conf"]),
+        "0 touch S\n#\n# Automatically generated file; DO NOT EDIT.\n# Main menu\n#\n#typed\n#type S string\nCONFIG_S=y\n#generation 2\n"),
+    (Step::Words(&["sync", "string", "quoted"]), "0 generation 2\ntouch S\nunknown 0\n"),
+    (Step::Read("include/config/auto.conf"), "#\n# Automatically generated file; DO NOT EDIT.\n# Main menu\n#\n#typed\n#type S string\nCONFIG_S=y\n#generation 2\n"),
 ];

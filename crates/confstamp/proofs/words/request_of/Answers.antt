@@ -1,10 +1,10 @@
 use Rattle.std.proofs.Common.{◌∙◌, ap, subst, IsSomeAnd}
 use Rattle.std.proofs.lemmas.Result.{IfErr-weaker}
 use Rattle.clap.specs.Walk.{texts}
-use Rattle.clap.specs.Words.{is_simple, subcommand_of, subcommand_rows_of, takes}
+use Rattle.clap.specs.Words.{HasKind, fault_of, is_simple, is_simple_and_free, subcommand_of, subcommand_rows_of, takes}
 use Rattle.confstamp.specs.CommandLine.{command_line_app}
 use Rattle.confstamp.specs.Words.{IsRequestOf}
-use Rattle.confstamp.proofs.WordLemmas.{batch_of, batch_rows, batch_takes, both, entered_name, err_all, is_simple_line, preview_of, preview_rows, preview_takes}
+use Rattle.confstamp.proofs.WordLemmas.{batch_of, batch_rows, batch_takes, both, entered_name, err_all, help_among, is_free_line, is_simple_line, preview_of, preview_rows, preview_takes}
 use Rattle.confstamp.proofs.words.request_of.Goals as goal
 
 pub returns-in-Some-clause-exact : goal.returns-in-Some-clause-exact
@@ -28,16 +28,13 @@ returns-in-Some-clause-preview c k d are first second =
 pub returns-in_err-matches-clause-taken : goal.returns-in_err-matches-clause-taken
 returns-in_err-matches-clause-taken c =
     err_all c.from_residual-in_err-matches.result _ _
-    (λ e h passes. h (c.in_err-matches.ensures.passes (ap (λ app. takes app (texts c.args.words.now)) c.in_ok-command.ensures ∙ passes)))
+    (λ e h passes. h.memory (c.in_err-matches.ensures.passes (ap (λ app. takes app (texts c.args.words.now)) c.in_ok-command.ensures ∙ passes)))
     c.from_residual-in_err-matches.ensures.1
 
-pub returns-in_err-matches-clause-batch_taken : goal.returns-in_err-matches-clause-batch_taken
-returns-in_err-matches-clause-batch_taken c =
-    IfErr-weaker c.from_residual-in_err-matches.result _ _ (λ e h p are plain. h (ap (takes command_line_app) are ∙ batch_takes p plain))
-    (returns-in_err-matches-clause-taken c)
-
-pub returns-in_err-matches-clause-preview_taken : goal.returns-in_err-matches-clause-preview_taken
-returns-in_err-matches-clause-preview_taken c =
-    IfErr-weaker c.from_residual-in_err-matches.result _ _
-    (λ e h k d are first second. h (ap (takes command_line_app) are ∙ preview_takes k d first second))
-    (returns-in_err-matches-clause-taken c)
+pub returns-in_err-matches-clause-help : goal.returns-in_err-matches-clause-help
+returns-in_err-matches-clause-help c =
+    let has = c.in_err-matches.ensures.kinds (ap is_simple_and_free c.in_ok-command.ensures ∙ is_free_line) in
+    let words = texts c.args.words.now in
+    err_all c.from_residual-in_err-matches.result _ _
+    (λ w told help. help_among c.in_err-matches.field-0.0 (fault_of command_line_app words) (subst (λ app. HasKind (fault_of app words) c.in_err-matches.field-0.0) c.in_ok-command.ensures has) (told.help help))
+    c.from_residual-in_err-matches.ensures.1

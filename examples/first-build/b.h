@@ -1,1 +1,3 @@
-CONFIG_A
+#ifdef CONFIG_A
+#define LARGE 42
+#endif

@@ -1,0 +1,7 @@
+#include "greet.h"
+#include "repeat.h"
+
+int times(void)
+{
+	return REPEAT;
+}

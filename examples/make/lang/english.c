@@ -1,0 +1,6 @@
+#include "greet.h"
+
+const char *english(void)
+{
+	return word(0);
+}

@@ -1,0 +1,603 @@
+/* Runs the program on trees that are made at random, and compares what it prints, its status and every file of the tree
+   with what model.c says: answers by the definitions, a refusal leaves the tree, what was written reads back.
+
+       fuzz PROGRAM SEED CASES [SECONDS]
+
+   A case is a tree and up to four commands over it. The same seed makes the same cases. The folder is the current one, and
+   is emptied. At the first difference the case is left there and told, status 1. */
+#define _GNU_SOURCE
+#include "model.h"
+
+#include <errno.h>
+#include <fcntl.h>
+#include <ftw.h>
+#include <spawn.h>
+#include <stdarg.h>
+#include <stdio.h>
+#include <stdlib.h>
+#include <string.h>
+#include <sys/stat.h>
+#include <sys/wait.h>
+#include <time.h>
+#include <unistd.h>
+
+extern char **environ;
+
+static void give_up(const char *what)
+{
+    fprintf(stderr, "fuzz: %s: %s\n", what, strerror(errno));
+    exit(2);
+}
+
+/* Chance: a generator of 64 bits (splitmix), so that a case depends on its seed alone. */
+
+static uint64_t state;
+
+static uint64_t next_number(void)
+{
+    uint64_t z = state += 0x9e3779b97f4a7c15;
+    z = (z ^ (z >> 30)) * 0xbf58476d1ce4e5b9;
+    z = (z ^ (z >> 27)) * 0x94d049bb133111eb;
+    return z ^ (z >> 31);
+}
+
+static size_t below(size_t limit)
+{
+    return (size_t)(next_number() % limit);
+}
+
+static bool one_in(size_t count)
+{
+    return below(count) == 0;
+}
+
+#define PICK(table) (table)[below(sizeof(table) / sizeof *(table))]
+
+/* Texts made at random: mostly what a reader takes, with some faults. */
+
+static const char *const names[] = {"A", "B", "C", "D", "E_1", "x86", "CONFIG_A", "A_MODULE_B", "MODULE", "0", "S", "H"};
+static const char *const kinds[] = {"bool", "tristate", "string", "int", "hex"};
+
+static const char *name(void)
+{
+    static char odd[160];
+    if (!one_in(60))
+        return PICK(names);
+    size_t length = one_in(2) ? 128 + below(2) : below(3);
+    memset(odd, 'L', length);
+    strcpy(odd + length, one_in(3) ? "_MODULE" : one_in(3) ? "-" : "");
+    return odd;
+}
+
+static const char *line_end(void)
+{
+    return one_in(30) ? "\r\n" : "\n";
+}
+
+static const char *value(void)
+{
+    static const char *const values[] = {
+        "y", "m", "n", "y", "m", "n", "\"\"", "\"text\"", "\"a\\\"b\\\\c\"", "\"n\"", "\"a\\n\"", "\"a", "\"a\"b", "0", "-12", "-0",
+        "007", "42", "0x1f", "1f", "0X1F", "0x", "", "-", "+1", "\"\\\"", "y ", "99999999999999999999999", "\"\303\244 $# \\\\\"",
+    };
+    return PICK(values);
+}
+
+static const char *value_of_kind(size_t kind)
+{
+    static const char *const fitting[][4] = {
+        {"y", "n", "y", "y"}, {"y", "m", "n", "m"}, {"\"\"", "\"s\"", "\"n\"", "\"a\\\"b\\\\\""}, {"0", "-1", "77", "10"}, {"0x1f", "1F", "0", "10"},
+    };
+    return one_in(30) ? value() : fitting[kind][below(4)];
+}
+
+/* Changes a byte, cuts off the end, or doubles a part. */
+static Bytes damaged(Bytes text)
+{
+    static const char bytes[] = {'\0', '\n', '\r', '"', '\\', '#', '\377', ' ', '\t', ':', '=', '$', '_', 'A', '/', '.'};
+    Text made = {0};
+    size_t place = below(text.length + 1);
+    add(&made, (Bytes){text.at, place});
+    switch (below(4)) {
+    case 0:
+        break;
+    case 1:
+        add(&made, (Bytes){&PICK(bytes), 1});
+        if (place < text.length)
+            add(&made, (Bytes){text.at + place + 1, text.length - place - 1});
+        break;
+    case 2:
+        add(&made, (Bytes){&PICK(bytes), 1});
+        add(&made, (Bytes){text.at + place, text.length - place});
+        break;
+    default:
+        add(&made, (Bytes){text.at + (place > 9 ? place - 9 : 0), text.length - (place > 9 ? place - 9 : 0)});
+    }
+    return of_text(&made);
+}
+
+static Bytes perhaps_damaged(Text *text, size_t one_of)
+{
+    Bytes made = of_text(text);
+    while (one_in(one_of))
+        made = damaged(made);
+    return made;
+}
+
+/* The kinds that the last Kconfig gave the names, so that most values of a .config fit. */
+static size_t kind_of_name[sizeof names / sizeof *names];
+
+static Bytes made_kconfig(void)
+{
+    static const char *const comments[] = {"# a comment", "", "   ", "\t# config B"};
+    static const char *const titles[] = {"Demo", "Linux/x86 6.1.0 Kernel Configuration", "*/", "a\\b", ""};
+    Text text = {0};
+    if (one_in(2))
+        add_text(&text, "mainmenu \"%s\"%s", titles[one_in(12) ? below(5) : below(2)], line_end());
+    for (size_t i = 0; i < sizeof names / sizeof *names; i++) {
+        if (one_in(4))
+            continue;
+        if (one_in(12))
+            add_text(&text, "%s%s", PICK(comments), line_end());
+        if (one_in(3))
+            kind_of_name[i] = below(5);
+        size_t kind = kind_of_name[i];
+        add_text(&text, "%s%s%s%s", one_in(5) ? "menuconfig" : "config", one_in(9) ? "\t" : " ", one_in(200) ? name() : names[i], line_end());
+        if (kind < 2 && one_in(6))
+            add_text(&text, "\tdef_%s %c", kinds[kind], "ymn"[below(3)]);
+        else
+            add_text(&text, "%s%s%s", one_in(8) ? "" : "\t", kinds[kind], one_in(6) ? " \"a \\\"prompt\\\"\"" : "");
+        add_text(&text, "%s", line_end());
+    }
+    return perhaps_damaged(&text, 14);
+}
+
+static Bytes made_dotconfig(void)
+{
+    Text text = {0};
+    for (size_t count = below(14); count > 0; count--) {
+        size_t which = below(sizeof names / sizeof *names);
+        if (one_in(7))
+            add_text(&text, "# CONFIG_%s is not set%s", names[which], line_end());
+        else if (one_in(15))
+            add_text(&text, "%s%s", one_in(3) ? "# a comment" : "", line_end());
+        else if (one_in(15))
+            add_text(&text, "CONFIG_%s=%s%s", name(), value(), line_end());
+        else
+            add_text(&text, "CONFIG_%s=%s%s", names[which], value_of_kind(kind_of_name[which]), line_end());
+    }
+    return perhaps_damaged(&text, 14);
+}
+
+static Bytes made_auto(void)
+{
+    static const char *const numbers[] = {"0", "1", "2", "3", "7", "18446744073709551615", "18446744073709551614", "01", "18446744073709551616", ""};
+    Text text = {0};
+    if (one_in(2))
+        add_text(&text, "#\n# Automatically generated file; DO NOT EDIT.\n# Demo\n#\n");
+    if (one_in(2))
+        add_text(&text, "#typed%s", line_end());
+    for (size_t count = below(8); count > 0; count--) {
+        const char *entry = name();
+        if (one_in(3))
+            add_text(&text, "#type %s %s%s", one_in(20) ? name() : entry, kinds[one_in(20) ? below(5) : 2 + below(3)], line_end());
+        add_text(&text, "CONFIG_%s=%s%s", entry, value(), line_end());
+        if (one_in(30))
+            add_text(&text, "#typed%s", line_end());
+    }
+    if (!one_in(5))
+        add_text(&text, "#generation %s%s", numbers[one_in(8) ? below(10) : 1 + below(4)], line_end());
+    return perhaps_damaged(&text, 10);
+}
+
+static Bytes made_source(void)
+{
+    static const char *const between[] = {" ", "\n", "\t", "(", ")", "x", "_", "CONFIG_", "_MODULE", "\0", "\r\n", "-", "\377", "CONFIG"};
+    Text text = {0};
+    for (size_t count = below(12); count > 0; count--) {
+        if (one_in(3))
+            add_text(&text, "CONFIG_%s%s", name(), one_in(5) ? "_MODULE" : "");
+        const char *gap = PICK(between);
+        add(&text, (Bytes){gap, *gap ? strlen(gap) : 1});
+    }
+    return of_text(&text);
+}
+
+static const char *const sources[] = {"x.c", "a.h", "b.h", "d/c.h", "t.s", "./a.h", "d//c.h"};
+static const char *const odd_paths[] = {"none.h", "d", "x.c/y", "a$b.h", "include/generated/autoconf.h", "y.o:", "a.h", "\303\244.h", "a#b", "a;b", "(a)", "d/"};
+
+static Bytes made_depfile(void)
+{
+    Text text = {0};
+    if (!one_in(30))
+        add_text(&text, "x.o:");
+    for (size_t count = below(8) + !one_in(20); count > 0; count--)
+        add_text(&text, "%s%s", one_in(5) ? " \\\n " : " ", one_in(12) ? PICK(odd_paths) : PICK(sources));
+    if (one_in(4))
+        add_text(&text, "\ny.o: %s %s", PICK(sources), PICK(sources));
+    add_text(&text, "%s", line_end());
+    return perhaps_damaged(&text, 20);
+}
+
+static const char *const targets[] = {"x.o", "d/y.o", "d/e/z.o"};
+static const char *const odd_targets[] = {"x.o/", "a$b", "", "d", "none.o", "x.c/y.o"};
+static const char *const commands[] = {"cc -c x.c", "cc -O2 -c x.c", "", " := ", "$(x) #\\", "cc \303\244"};
+static const char *const odd_commands[] = {"a\nb", "a\rb", "x.o := y"};
+
+static const char *target(void)
+{
+    return one_in(25) ? PICK(odd_targets) : PICK(targets);
+}
+
+static const char *command(void)
+{
+    return one_in(25) ? PICK(odd_commands) : PICK(commands);
+}
+
+static Bytes made_command_file(const char *of)
+{
+    Text text = {0};
+    add_text(&text, "%s%s := %s\n\nsource_%s := %s\n\ndeps_%s := \\\n", one_in(30) ? "cmd_" : "savedcmd_", of, PICK(commands), of, PICK(sources), of);
+    for (size_t count = below(5); count > 0; count--)
+        add_text(&text, one_in(2) ? "  %s \\\n" : "    $(wildcard include/config/%s) \\\n", one_in(9) ? name() : PICK(names));
+    add_text(&text, "\n%s: $(deps_%s)\n\n$(deps_%s):\n", of, of, of);
+    if (one_in(4))
+        add_text(&text, "\n#SYMVER f 0x1\n");
+    if (!one_in(6))
+        add_text(&text, "#generation %zu\n", below(4));
+    return perhaps_damaged(&text, 6);
+}
+
+static Bytes made_script(void)
+{
+    Text text = {0};
+    for (size_t count = below(6) + 1; count > 0; count--) {
+        switch (below(7)) {
+        case 0:
+            add_text(&text, "%s%s", one_in(2) ? "# a comment" : "", line_end());
+            break;
+        case 1:
+        case 2:
+            add_text(&text, "sync %s %s%s", one_in(2) ? "Kconfig" : "K2", one_in(2) ? ".config" : "c2", line_end());
+            break;
+        case 3:
+        case 4:
+            add_text(&text, "record x.d %s %s%s", target(), PICK(commands), line_end());
+            break;
+        default:
+            add_text(&text, "stale %s%s", target(), line_end());
+        }
+    }
+    return perhaps_damaged(&text, 10);
+}
+
+static void put_text(Tree *tree, const char *path, Bytes bytes)
+{
+    put(tree, bytes_of(path), bytes);
+}
+
+static Bytes command_file_of(const char *of)
+{
+    Text path = {0};
+    const char *base = strrchr(of, '/');
+    base = base ? base + 1 : of;
+    add_text(&path, "%.*s.%s.cmd", (int)(base - of), of, base);
+    return of_text(&path);
+}
+
+static Tree made_tree(void)
+{
+    static const char *const stamps[] = {"", "0\n", "1\n", "2\n", "3\n", "7\n", "01\n", "7", "7\r\n", "x"};
+    Tree tree = {0};
+    for (size_t i = 0; i < sizeof names / sizeof *names; i++)
+        kind_of_name[i] = below(5);
+    put_text(&tree, "K2", made_kconfig());
+    put_text(&tree, "Kconfig", made_kconfig());
+    put_text(&tree, ".config", made_dotconfig());
+    put_text(&tree, "c2", made_dotconfig());
+    put_text(&tree, "x.d", made_depfile());
+    put_text(&tree, "script", made_script());
+    for (size_t i = 0; i < 5; i++)
+        if (!one_in(40))
+            put_text(&tree, sources[i], made_source());
+    if (one_in(3))
+        put_text(&tree, "include/config/auto.conf", made_auto());
+    if (one_in(2)) {
+        const char *of = PICK(targets);
+        put(&tree, command_file_of(of), made_command_file(one_in(20) ? "w.o" : of));
+    }
+    for (size_t count = one_in(2) ? below(4) : 0; count > 0; count--) {
+        Text path = {0};
+        add_text(&path, "include/config/%s", PICK(names));
+        put(&tree, of_text(&path), bytes_of(stamps[one_in(8) ? below(10) : below(5)]));
+    }
+    if (one_in(40))
+        take_away(&tree, tree.files[below(tree.count)].path);
+    return tree;
+}
+
+/* A command: its words, as the program and the model get them. */
+
+enum { MOST_WORDS = 8 };
+
+typedef struct {
+    Bytes words[MOST_WORDS];
+    size_t count;
+} Command;
+
+static void word(Command *made, const char *text)
+{
+    made->words[made->count++] = copy_of(bytes_of(text));
+}
+
+static const char *file_word(const char *usual)
+{
+    return one_in(40) ? PICK(odd_paths) : usual;
+}
+
+static Command made_command(void)
+{
+    Command made = {.count = 0};
+    switch (below(10)) {
+    case 0:
+    case 1:
+        word(&made, "sync");
+        word(&made, file_word(one_in(4) ? "K2" : "Kconfig"));
+        word(&made, file_word(one_in(3) ? "c2" : ".config"));
+        break;
+    case 2:
+        word(&made, "preview");
+        word(&made, file_word("Kconfig"));
+        word(&made, file_word(".config"));
+        if (one_in(2))
+            word(&made, file_word("include/config/auto.conf"));
+        break;
+    case 3:
+    case 4:
+    case 5:
+        word(&made, one_in(3) ? "fixdep" : "record");
+        word(&made, file_word("x.d"));
+        word(&made, target());
+        word(&made, command());
+        break;
+    case 6:
+    case 7:
+        word(&made, "stale");
+        for (size_t count = 1 + below(3); count > 0; count--)
+            word(&made, target());
+        break;
+    case 8:
+        word(&made, "outdated");
+        word(&made, target());
+        word(&made, command());
+        break;
+    default:
+        word(&made, "batch");
+        word(&made, file_word("script"));
+    }
+    return made;
+}
+
+/* The tree on the disk, below the current folder. */
+
+static void make_folders(char *path)
+{
+    for (char *slash = strchr(path, '/'); slash; slash = strchr(slash + 1, '/')) {
+        *slash = '\0';
+        if (mkdir(path, 0777) && errno != EEXIST)
+            give_up(path);
+        *slash = '/';
+    }
+}
+
+static void write_file(Bytes path, Bytes bytes)
+{
+    char *place = (char *)copy_of(path).at;
+    make_folders(place);
+    int file = open(place, O_WRONLY | O_CREAT | O_TRUNC | O_CLOEXEC, 0666);
+    if (file < 0 || write(file, bytes.at ? bytes.at : "", bytes.length) != (ssize_t)bytes.length || close(file))
+        give_up(place);
+}
+
+static Bytes read_whole(int file)
+{
+    Text text = {0};
+    char room[8192];
+    ssize_t length;
+    while ((length = read(file, room, sizeof room)) > 0)
+        add(&text, (Bytes){room, (size_t)length});
+    if (length < 0)
+        give_up("read");
+    return of_text(&text);
+}
+
+static Tree found;
+
+static int note_file(const char *path, const struct stat *about, int kind, struct FTW *place)
+{
+    (void)about;
+    (void)place;
+    if (kind != FTW_F)
+        return kind == FTW_D ? 0 : 1;
+    int file = open(path, O_RDONLY | O_CLOEXEC);
+    if (file < 0)
+        give_up(path);
+    put(&found, bytes_of(path), read_whole(file));
+    close(file);
+    return 0;
+}
+
+static int remove_entry(const char *path, const struct stat *about, int kind, struct FTW *place)
+{
+    (void)about;
+    (void)kind;
+    return place->level == 0 ? 0 : remove(path);
+}
+
+static void empty_folder(void)
+{
+    if (nftw(".", remove_entry, 16, FTW_DEPTH | FTW_PHYS))
+        give_up("emptying the folder");
+}
+
+/* Runs the program with these words. What it prints goes to two files that were opened before. */
+
+static const char *program;
+static int output_file, error_file;
+
+static Bytes printed(int file)
+{
+    if (lseek(file, 0, SEEK_SET))
+        give_up("lseek");
+    return read_whole(file);
+}
+
+static Answer run_program(const Command *command)
+{
+    char *words[MOST_WORDS + 2] = {(char *)program};
+    for (size_t i = 0; i < command->count; i++)
+        words[i + 1] = (char *)command->words[i].at;
+    if (ftruncate(output_file, 0) || ftruncate(error_file, 0) || lseek(output_file, 0, SEEK_SET) || lseek(error_file, 0, SEEK_SET))
+        give_up("ftruncate");
+    posix_spawn_file_actions_t actions;
+    posix_spawn_file_actions_init(&actions);
+    posix_spawn_file_actions_adddup2(&actions, output_file, 1);
+    posix_spawn_file_actions_adddup2(&actions, error_file, 2);
+    pid_t child;
+    errno = posix_spawn(&child, program, &actions, NULL, words, environ);
+    if (errno)
+        give_up(program);
+    posix_spawn_file_actions_destroy(&actions);
+    int status;
+    if (waitpid(child, &status, 0) != child)
+        give_up("waitpid");
+    Bytes output = printed(output_file), error = printed(error_file);
+    return (Answer){WIFEXITED(status) ? WEXITSTATUS(status) : 128 + WTERMSIG(status), output, error};
+}
+
+/* Whether standard error is the line that is expected, and behind it at most one line more, of two spaces and a place. */
+static bool is_told(Bytes error, Bytes expected)
+{
+    if (error.length < expected.length || (expected.length && memcmp(error.at, expected.at, expected.length)))
+        return false;
+    Bytes rest = {error.at + expected.length, error.length - expected.length};
+    if (rest.length == 0)
+        return true;
+    bool is_place = expected.length > 0 && rest.length > 3 && memcmp(rest.at, "  ", 2) == 0;
+    return is_place && memchr(rest.at, '\n', rest.length) == rest.at + rest.length - 1;
+}
+
+static void show(const char *what, Bytes text)
+{
+    fprintf(stderr, "%s:\n", what);
+    if (text.length)
+        fwrite(text.at, 1, text.length, stderr);
+    fputs(text.length && text.at[text.length - 1] == '\n' ? "" : "\n", stderr);
+}
+
+/* Tells the first file in which the two trees differ. */
+static bool same_trees(const Tree *wanted, const Tree *there, bool is_loud)
+{
+    for (size_t i = 0; i < wanted->count; i++) {
+        const File *file = find(there, wanted->files[i].path);
+        if (file && same(file->bytes, wanted->files[i].bytes))
+            continue;
+        if (is_loud) {
+            show("the file that differs", wanted->files[i].path);
+            show("expected", wanted->files[i].bytes);
+            show("found", file ? file->bytes : bytes_of("(no file)"));
+        }
+        return false;
+    }
+    for (size_t i = 0; i < there->count; i++)
+        if (!find(wanted, there->files[i].path)) {
+            if (is_loud)
+                show("a file that should not be", there->files[i].path);
+            return false;
+        }
+    return true;
+}
+
+static uint64_t refusals;
+
+/* Runs a command both ways, and compares. */
+static bool agrees(Tree *tree, const Command *command)
+{
+    Answer wanted = run_words(tree, command->words, command->count);
+    Answer answer = run_program(command);
+    found = (Tree){0};
+    if (nftw(".", note_file, 16, FTW_PHYS))
+        give_up("reading the folder");
+    refusals += wanted.status == 2;
+    bool is_same = answer.status == wanted.status && same(answer.output, wanted.output) && is_told(answer.error, wanted.error);
+    if (is_same && same_trees(tree, &found, false))
+        return true;
+    fprintf(stderr, "status %d, expected %d; words:", answer.status, wanted.status);
+    for (size_t i = 0; i < command->count; i++)
+        fprintf(stderr, " '%s'", command->words[i].at);
+    fputc('\n', stderr);
+    show("expected output", wanted.output);
+    show("output", answer.output);
+    show("expected error", wanted.error);
+    show("error", answer.error);
+    same_trees(tree, &found, true);
+    return false;
+}
+
+/* A file of the tree becomes another one, as an editor or a compiler makes it. */
+static void edit(Tree *tree)
+{
+    switch (below(4)) {
+    case 0:
+        put_text(tree, ".config", made_dotconfig());
+        write_file(bytes_of(".config"), find(tree, bytes_of(".config"))->bytes);
+        break;
+    case 1:
+        put_text(tree, "c2", made_dotconfig());
+        write_file(bytes_of("c2"), find(tree, bytes_of("c2"))->bytes);
+        break;
+    default:
+        break;
+    }
+}
+
+static bool run_case(uint64_t seed, uint64_t number, uint64_t *runs)
+{
+    state = seed ^ (number * 0xd1342543de82ef95);
+    forget_all();
+    empty_folder();
+    Tree tree = made_tree();
+    for (size_t i = 0; i < tree.count; i++)
+        write_file(tree.files[i].path, tree.files[i].bytes);
+    for (size_t count = 1 + below(4); count > 0; count--) {
+        Command command = made_command();
+        ++*runs;
+        if (!agrees(&tree, &command)) {
+            fprintf(stderr, "fuzz: seed %llu, case %llu\n", (unsigned long long)seed, (unsigned long long)number);
+            return false;
+        }
+        edit(&tree);
+    }
+    return true;
+}
+
+int main(int count, char **words)
+{
+    if (count < 4) {
+        fputs("usage: fuzz PROGRAM SEED CASES [SECONDS]\n", stderr);
+        return 2;
+    }
+    program = words[1];
+    auto_is_typed = getenv("TYPED") != NULL;
+    uint64_t seed = strtoull(words[2], NULL, 10), cases = strtoull(words[3], NULL, 10), runs = 0, number = 0;
+    time_t end = count > 4 ? time(NULL) + atol(words[4]) : 0;
+    output_file = open("../output", O_RDWR | O_CREAT | O_TRUNC | O_CLOEXEC, 0666);
+    error_file = open("../error", O_RDWR | O_CREAT | O_TRUNC | O_CLOEXEC, 0666);
+    if (output_file < 0 || error_file < 0)
+        give_up("../output");
+    for (; number < cases && (end == 0 || time(NULL) < end); number++)
+        if (!run_case(seed, number, &runs))
+            return 1;
+    printf("%llu cases, %llu commands, %llu refused\n", (unsigned long long)number, (unsigned long long)runs, (unsigned long long)refusals);
+    return 0;
+}

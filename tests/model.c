@@ -1,0 +1,1494 @@
+#include "model.h"
+
+#include <inttypes.h>
+#include <stdarg.h>
+#include <stdio.h>
+#include <stdlib.h>
+#include <string.h>
+
+bool auto_is_typed;
+
+/* Memory and texts */
+
+typedef struct Block {
+    struct Block *next;
+    size_t used, room;
+    max_align_t bytes[];
+} Block;
+
+static Block *blocks;
+
+void *keep(size_t size)
+{
+    size = (size + 15) & ~(size_t)15;
+    if (!blocks || blocks->room - blocks->used < size) {
+        size_t room = size > 1 << 20 ? size : 1 << 20;
+        Block *block = malloc(sizeof *block + room);
+        if (!block) {
+            fputs("model: no memory\n", stderr);
+            exit(2);
+        }
+        block->next = blocks;
+        block->used = 0;
+        block->room = room;
+        blocks = block;
+    }
+    void *kept = (char *)blocks->bytes + blocks->used;
+    blocks->used += size;
+    return kept;
+}
+
+void forget_all(void)
+{
+    while (blocks && blocks->next) {
+        Block *next = blocks->next;
+        free(blocks);
+        blocks = next;
+    }
+    if (blocks)
+        blocks->used = 0;
+}
+
+Bytes bytes_of(const char *text)
+{
+    return (Bytes){text, strlen(text)};
+}
+
+Bytes copy_of(Bytes bytes)
+{
+    char *copy = keep(bytes.length + 1);
+    if (bytes.length)
+        memcpy(copy, bytes.at, bytes.length);
+    copy[bytes.length] = '\0';
+    return (Bytes){copy, bytes.length};
+}
+
+bool same(Bytes a, Bytes b)
+{
+    return a.length == b.length && (a.length == 0 || memcmp(a.at, b.at, a.length) == 0);
+}
+
+bool is_text(Bytes a, const char *text)
+{
+    return same(a, bytes_of(text));
+}
+
+static int compare(Bytes a, Bytes b)
+{
+    size_t shorter = a.length < b.length ? a.length : b.length;
+    int order = shorter ? memcmp(a.at, b.at, shorter) : 0;
+    return order ? order : (a.length > b.length) - (a.length < b.length);
+}
+
+static bool starts(Bytes a, const char *text)
+{
+    size_t length = strlen(text);
+    return a.length >= length && memcmp(a.at, text, length) == 0;
+}
+
+static bool ends(Bytes a, const char *text)
+{
+    size_t length = strlen(text);
+    return a.length >= length && memcmp(a.at + a.length - length, text, length) == 0;
+}
+
+static Bytes from(Bytes a, size_t place)
+{
+    return (Bytes){a.at + place, a.length - place};
+}
+
+static Bytes upto(Bytes a, size_t place)
+{
+    return (Bytes){a.at, place};
+}
+
+/* The place of the first such byte, or the length. */
+static size_t place_of(Bytes a, char byte)
+{
+    const char *found = a.length ? memchr(a.at, byte, a.length) : NULL;
+    return found ? (size_t)(found - a.at) : a.length;
+}
+
+void add(Text *text, Bytes bytes)
+{
+    if (text->room - text->length < bytes.length) {
+        size_t room = 2 * (text->length + bytes.length) + 64;
+        char *at = keep(room);
+        if (text->length)
+            memcpy(at, text->at, text->length);
+        text->at = at;
+        text->room = room;
+    }
+    if (bytes.length)
+        memcpy(text->at + text->length, bytes.at, bytes.length);
+    text->length += bytes.length;
+}
+
+/* %s is a text without NUL of at most 2,000 bytes; longer ones go by add. */
+void add_text(Text *text, const char *format, ...)
+{
+    char line[4096];
+    va_list words;
+    va_start(words, format);
+    int length = vsnprintf(line, sizeof line, format, words);
+    va_end(words);
+    add(text, (Bytes){line, (size_t)length});
+}
+
+Bytes of_text(const Text *text)
+{
+    return (Bytes){text->at, text->length};
+}
+
+static const Fault none = {{NULL, 0}};
+
+static bool refused(Fault fault)
+{
+    return fault.text.length > 0;
+}
+
+static Fault fault(const char *format, ...)
+{
+    char line[2200];
+    va_list words;
+    va_start(words, format);
+    int length = vsnprintf(line, sizeof line, format, words);
+    va_end(words);
+    return (Fault){copy_of((Bytes){line, (size_t)length})};
+}
+
+static Fault fault_of(const char *name, Bytes place)
+{
+    Text text = {0};
+    add_text(&text, "%s ", name);
+    add(&text, place);
+    return (Fault){of_text(&text)};
+}
+
+/* Names, lines, decimals */
+
+static bool is_word_byte(char byte)
+{
+    return (byte >= 'a' && byte <= 'z') || (byte >= 'A' && byte <= 'Z') || (byte >= '0' && byte <= '9') || byte == '_';
+}
+
+static bool is_name(Bytes text)
+{
+    for (size_t i = 0; i < text.length; i++)
+        if (!is_word_byte(text.at[i]))
+            return false;
+    return text.length >= 1 && text.length <= 128;
+}
+
+static bool is_path(Bytes text)
+{
+    for (size_t i = 0; i < text.length; i++) {
+        char byte = text.at[i];
+        if (byte < 0x21 || byte > 0x7e || byte == '$' || byte == '#' || byte == '\\')
+            return false;
+    }
+    return text.length >= 1 && text.length <= 1024 && text.at[text.length - 1] != ':';
+}
+
+static bool is_target(Bytes text)
+{
+    return is_path(text) && text.at[text.length - 1] != '/';
+}
+
+static bool is_command(Bytes text)
+{
+    return place_of(text, '\n') == text.length && place_of(text, '\r') == text.length && place_of(text, '\0') == text.length;
+}
+
+typedef struct {
+    Bytes rest, line;
+    uint64_t number;
+    bool is_ended;
+} Lines;
+
+static Lines lines_of(Bytes text)
+{
+    return (Lines){.rest = text};
+}
+
+/* The next line that ends at LF, with its CR. */
+static bool next_plain_line(Lines *lines)
+{
+    if (lines->rest.length == 0)
+        return false;
+    size_t length = place_of(lines->rest, '\n');
+    lines->is_ended = length < lines->rest.length;
+    lines->line = upto(lines->rest, length);
+    lines->rest = from(lines->rest, length + lines->is_ended);
+    lines->number++;
+    return true;
+}
+
+/* The next line that ends at LF or at CR LF. */
+static bool next_line(Lines *lines)
+{
+    if (!next_plain_line(lines))
+        return false;
+    if (lines->is_ended && ends(lines->line, "\r"))
+        lines->line.length--;
+    return true;
+}
+
+static bool read_decimal(Bytes text, uint64_t *number)
+{
+    if (text.length == 0 || (text.at[0] == '0' && text.length > 1))
+        return false;
+    *number = 0;
+    for (size_t i = 0; i < text.length; i++) {
+        if (text.at[i] < '0' || text.at[i] > '9')
+            return false;
+        uint64_t digit = (uint64_t)(text.at[i] - '0');
+        if (*number > (UINT64_MAX - digit) / 10)
+            return false;
+        *number = 10 * *number + digit;
+    }
+    return true;
+}
+
+/* Kinds and values */
+
+typedef enum { BOOL, TRISTATE, STRING, INT, HEX, NO_KIND } Kind;
+
+static const char *const kind_words[] = {"bool", "tristate", "string", "int", "hex"};
+
+static bool is_int(Bytes text)
+{
+    if (starts(text, "-"))
+        text = from(text, 1);
+    for (size_t i = 0; i < text.length; i++)
+        if (text.at[i] < '0' || text.at[i] > '9')
+            return false;
+    return text.length == 1 || (text.length > 1 && text.at[0] != '0');
+}
+
+static bool is_hex(Bytes text)
+{
+    if (starts(text, "0x") || starts(text, "0X"))
+        text = from(text, 2);
+    for (size_t i = 0; i < text.length; i++)
+        if (!strchr("0123456789abcdefABCDEF", text.at[i]) || !text.at[i])
+            return false;
+    return text.length > 0;
+}
+
+/* The text of a written value, if it is one of this kind. */
+static bool read_value(Kind kind, Bytes written, Bytes *text)
+{
+    *text = written;
+    switch (kind) {
+    case BOOL:
+        return is_text(written, "y") || is_text(written, "n");
+    case TRISTATE:
+        return is_text(written, "y") || is_text(written, "m") || is_text(written, "n");
+    case INT:
+        return is_int(written);
+    case HEX:
+        return is_hex(written);
+    default:
+        break;
+    }
+    Text plain = {0};
+    if (written.length < 2 || written.at[0] != '"' || !is_command(written))
+        return false;
+    size_t i = 1;
+    for (; i < written.length && written.at[i] != '"'; i++) {
+        if (written.at[i] == '\\') {
+            i++;
+            if (i == written.length || (written.at[i] != '"' && written.at[i] != '\\'))
+                return false;
+        }
+        add(&plain, (Bytes){written.at + i, 1});
+    }
+    *text = of_text(&plain);
+    return i == written.length - 1;
+}
+
+static bool is_off(Kind kind, Bytes text)
+{
+    return (kind == BOOL || kind == TRISTATE) && is_text(text, "n");
+}
+
+/* Kconfig */
+
+typedef struct {
+    Bytes name;
+    Kind kind;
+    Bytes text; /* of a setting; set where is_set */
+    bool is_set;
+} Symbol;
+
+typedef struct {
+    Symbol *symbols;
+    size_t count, room;
+    Bytes title;
+} Symbols;
+
+static Symbol *symbol_named(const Symbols *symbols, Bytes name)
+{
+    for (size_t i = 0; i < symbols->count; i++)
+        if (same(symbols->symbols[i].name, name))
+            return &symbols->symbols[i];
+    return NULL;
+}
+
+static void declare(Symbols *symbols, Bytes name, Kind kind)
+{
+    if (symbols->count == symbols->room) {
+        size_t room = 2 * symbols->room + 8;
+        Symbol *grown = keep(room * sizeof *grown);
+        if (symbols->count)
+            memcpy(grown, symbols->symbols, symbols->count * sizeof *grown);
+        symbols->symbols = grown;
+        symbols->room = room;
+    }
+    symbols->symbols[symbols->count++] = (Symbol){.name = name, .kind = kind};
+}
+
+static size_t blanks_of(Bytes text)
+{
+    size_t i = 0;
+    while (i < text.length && (text.at[i] == ' ' || text.at[i] == '\t'))
+        i++;
+    return i;
+}
+
+static size_t word_length(Bytes text)
+{
+    size_t i = 0;
+    while (i < text.length && text.at[i] != ' ' && text.at[i] != '\t')
+        i++;
+    return i;
+}
+
+static bool is_blank(Bytes text)
+{
+    return blanks_of(text) == text.length;
+}
+
+/* `"`, bytes, `"`, blanks. In a prompt a `\` takes the next byte along, and no other `"` stands. */
+static bool is_prompt(Bytes text)
+{
+    if (!starts(text, "\""))
+        return false;
+    for (size_t i = 1; i < text.length; i++) {
+        if (text.at[i] == '\\')
+            i++;
+        else if (text.at[i] == '"')
+            return is_blank(from(text, i + 1));
+    }
+    return false;
+}
+
+typedef enum { EMPTY, TITLE, ENTRY, KIND, FORMLESS } Form;
+
+/* The form of a line; of a title and an entry its word, of a kind line the kind. */
+static Form form_of(Bytes line, Bytes *word, Kind *kind)
+{
+    Bytes said = from(line, blanks_of(line));
+    bool is_indented = said.length < line.length;
+    if (said.length == 0 || said.at[0] == '#')
+        return EMPTY;
+    Bytes first = upto(said, word_length(said));
+    Bytes behind = from(said, first.length);
+    Bytes rest = from(behind, blanks_of(behind));
+    if (is_text(first, "mainmenu")) {
+        while (rest.length && (ends(rest, " ") || ends(rest, "\t")))
+            rest.length--;
+        bool is_title = !is_indented && rest.length >= 2 && rest.at[0] == '"' && ends(rest, "\"");
+        *word = is_title ? (Bytes){rest.at + 1, rest.length - 2} : (Bytes){NULL, 0};
+        return TITLE;
+    }
+    if (!is_indented && (is_text(first, "config") || is_text(first, "menuconfig"))) {
+        *word = upto(rest, word_length(rest));
+        return word->length && is_blank(from(rest, word->length)) ? ENTRY : FORMLESS;
+    }
+    for (*kind = BOOL; *kind < NO_KIND; (*kind)++)
+        if (is_text(first, kind_words[*kind]))
+            return rest.length == 0 || is_prompt(rest) ? KIND : FORMLESS;
+    if (is_text(first, "def_bool") || is_text(first, "def_tristate")) {
+        *kind = is_text(first, "def_bool") ? BOOL : TRISTATE;
+        bool is_value = rest.length && strchr("ymn", rest.at[0]) && rest.at[0] && is_blank(from(rest, 1));
+        return is_value ? KIND : FORMLESS;
+    }
+    return FORMLESS;
+}
+
+static bool is_title(Bytes text)
+{
+    for (size_t i = 0; i < text.length; i++) {
+        unsigned char byte = (unsigned char)text.at[i];
+        if (byte < 0x20 || byte == 0x7f || byte == '"' || byte == '\\')
+            return false;
+        if (byte == '*' && i + 1 < text.length && text.at[i + 1] == '/')
+            return false;
+    }
+    return text.length >= 1 && text.length <= 256;
+}
+
+/* Whether the line behind an entry leaves it without a kind. */
+static bool leaves_untyped(Lines lines)
+{
+    Bytes word;
+    Kind kind;
+    while (next_line(&lines)) {
+        Form form = form_of(lines.line, &word, &kind);
+        if (form != EMPTY)
+            return form == ENTRY || form == TITLE;
+    }
+    return true;
+}
+
+static Fault read_kconfig(Bytes text, Symbols *symbols)
+{
+    *symbols = (Symbols){.title = bytes_of("Main menu")};
+    if (text.length > MAX_BYTES)
+        return fault("9 TooLarge");
+    Lines lines = lines_of(text);
+    Bytes word = {NULL, 0}, entry = {NULL, 0};
+    Kind kind;
+    bool has_title = false, has_entry = false, is_behind_entry = false;
+    while (next_line(&lines)) {
+        Form form = form_of(lines.line, &word, &kind);
+        if (form == EMPTY)
+            continue;
+        if (form == FORMLESS || (form == KIND && !is_behind_entry))
+            return fault("1 NotBare line %" PRIu64, lines.number);
+        if (form == TITLE) {
+            if (has_title || has_entry || !is_title(word))
+                return fault("6 BadTitle line %" PRIu64, lines.number);
+            symbols->title = word;
+            has_title = true;
+        } else if (form == ENTRY) {
+            if (!is_name(word))
+                return fault("2 BadName line %" PRIu64, lines.number);
+            if (ends(word, "_MODULE"))
+                return fault("3 ModuleName line %" PRIu64, lines.number);
+            if (leaves_untyped(lines))
+                return fault("4 NoType line %" PRIu64, lines.number);
+            has_entry = true;
+            entry = word;
+        } else {
+            Symbol *earlier = symbol_named(symbols, entry);
+            if (earlier && earlier->kind != kind)
+                return fault("5 TypeClash line %" PRIu64, lines.number);
+            if (!earlier)
+                declare(symbols, entry, kind);
+        }
+        is_behind_entry = form == ENTRY;
+    }
+    return none;
+}
+
+/* .config */
+
+/* `CONFIG_NAME=value`, up to the first `=`. */
+static bool split_statement(Bytes line, Bytes *name, Bytes *value)
+{
+    size_t place = place_of(line, '=');
+    if (place == line.length || place < 7 || !starts(line, "CONFIG_"))
+        return false;
+    *name = (Bytes){line.at + 7, place - 7};
+    *value = from(line, place + 1);
+    return is_name(*name);
+}
+
+static bool split_unset(Bytes line, Bytes *name)
+{
+    if (!starts(line, "# CONFIG_") || !ends(line, " is not set") || line.length < 20)
+        return false;
+    *name = (Bytes){line.at + 9, line.length - 20};
+    return is_name(*name);
+}
+
+static Fault read_dotconfig(Bytes text, Symbols *symbols, uint64_t *unknown)
+{
+    *unknown = 0;
+    if (text.length > MAX_BYTES)
+        return fault("9 TooLarge");
+    Lines lines = lines_of(text);
+    Bytes name, value;
+    while (next_line(&lines)) {
+        bool is_value = split_statement(lines.line, &name, &value);
+        if (!is_value && !split_unset(lines.line, &name)) {
+            if (lines.line.length && lines.line.at[0] != '#')
+                return fault("7 NotAConfigLine line %" PRIu64, lines.number);
+            continue;
+        }
+        Symbol *symbol = symbol_named(symbols, name);
+        if (!symbol) {
+            ++*unknown;
+            continue;
+        }
+        symbol->is_set = is_value;
+        if (!is_value)
+            continue;
+        if (!read_value(symbol->kind, value, &symbol->text))
+            return fault("8 BadValue line %" PRIu64, lines.number);
+        symbol->is_set = !is_off(symbol->kind, symbol->text);
+    }
+    return none;
+}
+
+static int by_name(const void *a, const void *b)
+{
+    return compare(((const Symbol *)a)->name, ((const Symbol *)b)->name);
+}
+
+/* The settings, in rising order of the names. */
+static Symbols settings_of(const Symbols *symbols)
+{
+    Symbols settings = {.title = symbols->title};
+    for (size_t i = 0; i < symbols->count; i++)
+        if (symbols->symbols[i].is_set) {
+            declare(&settings, symbols->symbols[i].name, symbols->symbols[i].kind);
+            settings.symbols[settings.count - 1].text = symbols->symbols[i].text;
+        }
+    if (settings.count)
+        qsort(settings.symbols, settings.count, sizeof *settings.symbols, by_name);
+    return settings;
+}
+
+/* auto.conf and the header */
+
+typedef struct {
+    Symbols entries; /* kind: TRISTATE for a bool or tristate; NO_KIND where it isn't known */
+    uint64_t generation;
+} Old;
+
+static Kind class_of(Kind kind)
+{
+    return kind == BOOL ? TRISTATE : kind;
+}
+
+/* Whether a `#type ` line is of its form, with the name and the kind that it tells. */
+static bool split_type(Bytes line, Bytes *name, Kind *kind)
+{
+    Bytes rest = from(line, strlen("#type "));
+    size_t place = place_of(rest, ' ');
+    if (place == rest.length)
+        return false;
+    *name = upto(rest, place);
+    for (*kind = STRING; *kind < NO_KIND; (*kind)++)
+        if (is_text(from(rest, place + 1), kind_words[*kind]))
+            return is_name(*name);
+    return false;
+}
+
+/* Whether the next line is an entry of this name. */
+static bool is_followed_by(Lines lines, Bytes name)
+{
+    Bytes found, text;
+    return next_line(&lines) && split_statement(lines.line, &found, &text) && same(found, name);
+}
+
+static Fault read_auto(Bytes text, Old *old)
+{
+    *old = (Old){.generation = 0};
+    if (text.length > MAX_BYTES)
+        return fault("9 TooLarge");
+    Lines lines = lines_of(text);
+    Bytes name, value, typed_name;
+    Kind kind, told = NO_KIND;
+    bool is_typed = false, has_entry = false;
+    while (next_line(&lines)) {
+        Kind next_told = is_typed ? TRISTATE : NO_KIND;
+        if (split_statement(lines.line, &name, &value)) {
+            Symbol *entry = symbol_named(&old->entries, name);
+            if (!entry) {
+                declare(&old->entries, name, NO_KIND);
+                entry = &old->entries.symbols[old->entries.count - 1];
+            }
+            entry->text = value;
+            entry->kind = told;
+        } else if (starts(lines.line, "#generation ")) {
+            if (!lines.is_ended || !read_decimal(from(lines.line, strlen("#generation ")), &old->generation))
+                return fault("11 BadAuto line %" PRIu64, lines.number);
+        } else if (is_typed && starts(lines.line, "#type ")) {
+            if (!split_type(lines.line, &typed_name, &kind) || !is_followed_by(lines, typed_name))
+                return fault("11 BadAuto line %" PRIu64, lines.number);
+            next_told = kind;
+        } else if (auto_is_typed && !has_entry && is_text(lines.line, "#typed")) {
+            is_typed = true;
+            next_told = TRISTATE;
+        } else if (lines.line.length && lines.line.at[0] != '#') {
+            return fault("11 BadAuto line %" PRIu64, lines.number);
+        }
+        has_entry = has_entry || starts(lines.line, "CONFIG_");
+        told = next_told;
+    }
+    return none;
+}
+
+static Bytes auto_text(const Symbols *settings, uint64_t generation)
+{
+    Text text = {0};
+    add_text(&text, "#\n# Automatically generated file; DO NOT EDIT.\n# ");
+    add(&text, settings->title);
+    add_text(&text, "\n#\n%s", auto_is_typed ? "#typed\n" : "");
+    for (size_t i = 0; i < settings->count; i++) {
+        const Symbol *setting = &settings->symbols[i];
+        if (auto_is_typed && class_of(setting->kind) != TRISTATE) {
+            add_text(&text, "#type ");
+            add(&text, setting->name);
+            add_text(&text, " %s\n", kind_words[setting->kind]);
+        }
+        add_text(&text, "CONFIG_");
+        add(&text, setting->name);
+        add_text(&text, "=");
+        add(&text, setting->text);
+        add_text(&text, "\n");
+    }
+    add_text(&text, "#generation %" PRIu64 "\n", generation);
+    return of_text(&text);
+}
+
+static void add_quoted(Text *text, Bytes bytes)
+{
+    add_text(text, "\"");
+    for (size_t i = 0; i < bytes.length; i++) {
+        if (bytes.at[i] == '"' || bytes.at[i] == '\\')
+            add_text(text, "\\");
+        add(text, (Bytes){bytes.at + i, 1});
+    }
+    add_text(text, "\"");
+}
+
+static Bytes header_text(const Symbols *settings)
+{
+    Text text = {0};
+    add_text(&text, "/*\n * Automatically generated file; DO NOT EDIT.\n * ");
+    add(&text, settings->title);
+    add_text(&text, "\n */\n");
+    for (size_t i = 0; i < settings->count; i++) {
+        const Symbol *setting = &settings->symbols[i];
+        bool is_switch = class_of(setting->kind) == TRISTATE;
+        add_text(&text, "#define CONFIG_");
+        add(&text, setting->name);
+        add_text(&text, is_switch && is_text(setting->text, "m") ? "_MODULE " : " ");
+        if (is_switch)
+            add_text(&text, "1");
+        else if (setting->kind == STRING)
+            add_quoted(&text, setting->text);
+        else {
+            bool has_prefix = starts(setting->text, "0x") || starts(setting->text, "0X");
+            add_text(&text, setting->kind == HEX && !has_prefix ? "0x" : "");
+            add(&text, setting->text);
+        }
+        add_text(&text, "\n");
+    }
+    return of_text(&text);
+}
+
+static int by_bytes(const void *a, const void *b)
+{
+    return compare(*(const Bytes *)a, *(const Bytes *)b);
+}
+
+static bool differs(const Symbol *old, const Symbol *new)
+{
+    if (!old || !new)
+        return true;
+    bool is_other_kind = auto_is_typed && old->kind != class_of(new->kind);
+    return is_other_kind || !same(old->text, new->text);
+}
+
+/* The names that differ, rising. */
+static size_t changes(const Old *old, const Symbols *settings, Bytes **names)
+{
+    *names = keep((old->entries.count + settings->count + 1) * sizeof **names);
+    size_t count = 0;
+    for (size_t i = 0; i < old->entries.count; i++) {
+        const Symbol *entry = &old->entries.symbols[i];
+        if (differs(entry, symbol_named(settings, entry->name)))
+            (*names)[count++] = entry->name;
+    }
+    for (size_t i = 0; i < settings->count; i++)
+        if (!symbol_named(&old->entries, settings->symbols[i].name))
+            (*names)[count++] = settings->symbols[i].name;
+    qsort(*names, count, sizeof **names, by_bytes);
+    return count;
+}
+
+/* The scan, dependency files, command files */
+
+typedef struct {
+    Bytes *names;
+    size_t count, room;
+} Names;
+
+static bool has_name(const Names *names, Bytes name)
+{
+    for (size_t i = 0; i < names->count; i++)
+        if (same(names->names[i], name))
+            return true;
+    return false;
+}
+
+static void note(Names *names, Bytes name)
+{
+    if (names->count == names->room) {
+        size_t room = 2 * names->room + 8;
+        Bytes *grown = keep(room * sizeof *grown);
+        if (names->count)
+            memcpy(grown, names->names, names->count * sizeof *grown);
+        names->names = grown;
+        names->room = room;
+    }
+    names->names[names->count++] = name;
+}
+
+/* The names at the places of a text that weren't noted yet. */
+static void scan(Bytes text, Names *names)
+{
+    for (size_t i = 0; i < text.length; i++) {
+        if (!starts(from(text, i), "CONFIG_") || (i > 0 && is_word_byte(text.at[i - 1])))
+            continue;
+        Bytes run = from(text, i + 7);
+        size_t length = 0;
+        while (length < run.length && is_word_byte(run.at[length]))
+            length++;
+        run.length = length;
+        if (ends(run, "_MODULE"))
+            run.length -= 7;
+        if (is_name(run) && !has_name(names, run))
+            note(names, run);
+    }
+}
+
+typedef enum { SOURCE, LISTED, SCANNED } Role;
+
+typedef struct {
+    Bytes path;
+    Role role;
+} Prerequisite;
+
+typedef struct {
+    Prerequisite *all;
+    size_t count;
+} Prerequisites;
+
+static bool is_separator(char byte)
+{
+    return byte == ' ' || byte == '\t' || byte == '\\' || byte == '\r' || byte == '\n';
+}
+
+static bool next_token(Bytes *rest, Bytes *token)
+{
+    while (rest->length && is_separator(rest->at[0]))
+        *rest = from(*rest, 1);
+    size_t length = 0;
+    while (length < rest->length && !is_separator(rest->at[length]))
+        length++;
+    *token = upto(*rest, length);
+    *rest = from(*rest, length);
+    return length > 0;
+}
+
+static void add_prerequisite(Prerequisites *list, Bytes path, Role role)
+{
+    for (size_t i = 0; i < list->count; i++)
+        if (same(list->all[i].path, path))
+            return;
+    list->all[list->count++] = (Prerequisite){path, role};
+}
+
+static Fault read_depfile(Bytes text, Prerequisites *list)
+{
+    if (text.length > MAX_BYTES)
+        return fault("9 TooLarge");
+    *list = (Prerequisites){keep((text.length / 2 + 1) * sizeof(Prerequisite)), 0};
+    Bytes rest = text, token;
+    uint64_t number = 0;
+    bool has_target = false, has_source = false, is_first = false;
+    while (next_token(&rest, &token)) {
+        number++;
+        if (ends(token, ":")) {
+            has_target = true;
+            is_first = true;
+            continue;
+        }
+        if (!has_target)
+            return fault("20 NoTarget");
+        if (ends(token, "include/generated/autoconf.h"))
+            continue;
+        if (!is_path(token))
+            return fault("21 BadPath token %" PRIu64, number);
+        add_prerequisite(list, token, !has_source ? SOURCE : is_first ? SCANNED : LISTED);
+        has_source = true;
+        is_first = false;
+    }
+    return has_source ? none : fault("20 NoTarget");
+}
+
+typedef struct {
+    Bytes target, command;
+    Names names;
+    bool has_generation;
+    uint64_t generation;
+} CommandFile;
+
+/* `before`, bytes, `after`: the bytes between. */
+static bool between(Bytes line, const char *before, const char *after, Bytes *middle)
+{
+    size_t first = strlen(before), last = strlen(after);
+    if (line.length < first + last || !starts(line, before) || !ends(line, after))
+        return false;
+    *middle = (Bytes){line.at + first, line.length - first - last};
+    return true;
+}
+
+static bool is_line(Bytes line, const char *before, Bytes target, const char *after)
+{
+    Bytes middle;
+    return between(line, before, after, &middle) && same(middle, target);
+}
+
+static bool split_saved(Bytes line, CommandFile *file)
+{
+    if (!starts(line, "savedcmd_"))
+        return false;
+    Bytes rest = from(line, strlen("savedcmd_"));
+    for (size_t i = 0; i + 4 <= rest.length; i++)
+        if (starts(from(rest, i), " := ")) {
+            file->target = upto(rest, i);
+            file->command = from(rest, i + 4);
+            return is_target(file->target) && is_command(file->command);
+        }
+    return false;
+}
+
+/* Whether the line fits at its step of the layout, and the next step. */
+static bool fits(Bytes line, int *step, CommandFile *file)
+{
+    Bytes middle;
+    Text source = {0};
+    switch (*step) {
+    case 0:
+        ++*step;
+        return split_saved(line, file);
+    case 2:
+        ++*step;
+        add_text(&source, "source_");
+        add(&source, file->target);
+        add_text(&source, " := ");
+        return line.length > source.length && memcmp(line.at, source.at, source.length) == 0 && is_path(from(line, source.length));
+    case 4:
+        ++*step;
+        return is_line(line, "deps_", file->target, " := \\");
+    case 5:
+        if (line.length == 0) {
+            ++*step;
+            return true;
+        }
+        if (between(line, "    $(wildcard include/config/", ") \\", &middle) && is_name(middle)) {
+            note(&file->names, middle);
+            return true;
+        }
+        return between(line, "  ", " \\", &middle) && is_path(middle);
+    case 6:
+        ++*step;
+        add(&source, file->target);
+        add_text(&source, ": $(deps_");
+        add(&source, file->target);
+        add_text(&source, ")");
+        return same(line, of_text(&source));
+    case 8:
+        ++*step;
+        return is_line(line, "$(deps_", file->target, "):");
+    default:
+        ++*step;
+        return line.length == 0;
+    }
+}
+
+static Fault read_command(Bytes text, CommandFile *file)
+{
+    *file = (CommandFile){.has_generation = false};
+    if (text.length > MAX_BYTES)
+        return fault("9 TooLarge");
+    Lines lines = lines_of(text);
+    int step = 0;
+    while (next_plain_line(&lines)) {
+        if (step < 9) {
+            if (!fits(lines.line, &step, file))
+                return fault("23 BadCommandFile line %" PRIu64, lines.number);
+        } else if (starts(lines.line, "#generation ")) {
+            Bytes number = from(lines.line, strlen("#generation "));
+            if (!lines.is_ended || !read_decimal(number, &file->generation))
+                return fault("23 BadCommandFile line %" PRIu64, lines.number);
+            file->has_generation = true;
+        }
+    }
+    return step < 9 ? fault("23 BadCommandFile line %" PRIu64, lines.number + 1) : none;
+}
+
+/* Trees */
+
+/* The path as the system takes it: without what says nothing. */
+static Bytes plain_path(Bytes path)
+{
+    Text plain = {0};
+    for (size_t i = 0; i < path.length;) {
+        size_t length = place_of(from(path, i), '/');
+        Bytes part = {path.at + i, length};
+        if (length == 0 && i == 0)
+            add_text(&plain, "/");
+        else if (length > 0 && !is_text(part, ".")) {
+            if (plain.length > 1 || (plain.length == 1 && plain.at[0] != '/'))
+                add_text(&plain, "/");
+            add(&plain, part);
+        }
+        i += length + 1;
+    }
+    return of_text(&plain);
+}
+
+static File *file_at(const Tree *tree, Bytes path)
+{
+    for (size_t i = 0; i < tree->count; i++)
+        if (same(tree->files[i].path, path))
+            return &tree->files[i];
+    return NULL;
+}
+
+const File *find(const Tree *tree, Bytes path)
+{
+    return file_at(tree, plain_path(path));
+}
+
+void put(Tree *tree, Bytes path, Bytes bytes)
+{
+    path = plain_path(path);
+    File *file = file_at(tree, path);
+    if (!file) {
+        if (tree->count == tree->room) {
+            size_t room = 2 * tree->room + 16;
+            File *grown = keep(room * sizeof *grown);
+            if (tree->count)
+                memcpy(grown, tree->files, tree->count * sizeof *grown);
+            tree->files = grown;
+            tree->room = room;
+        }
+        file = &tree->files[tree->count++];
+        file->path = copy_of(path);
+    }
+    file->bytes = bytes;
+}
+
+void take_away(Tree *tree, Bytes path)
+{
+    File *file = file_at(tree, plain_path(path));
+    if (file)
+        *file = tree->files[--tree->count];
+}
+
+Tree copy_of_tree(const Tree *tree)
+{
+    Tree copy = {0};
+    for (size_t i = 0; i < tree->count; i++)
+        put(&copy, tree->files[i].path, tree->files[i].bytes);
+    return copy;
+}
+
+/* Whether a file stands where the path has a folder, or the path is a folder. */
+static bool is_no_file(const Tree *tree, Bytes path)
+{
+    bool asks_folder = ends(path, "/") || ends(path, "/.") || is_text(path, ".");
+    path = plain_path(path);
+    for (size_t i = 0; i < tree->count; i++) {
+        Bytes other = tree->files[i].path;
+        if (other.length > path.length && other.at[path.length] == '/' && same(upto(other, path.length), path))
+            return true;
+        if (other.length < path.length && path.at[other.length] == '/' && same(upto(path, other.length), other))
+            return true;
+        if (asks_folder && same(other, path))
+            return true;
+    }
+    return is_text(path, "") || is_text(path, "/");
+}
+
+/* The bytes of a file, or none. */
+static Fault read_file(const Tree *tree, Bytes path, Bytes *bytes, bool *is_there)
+{
+    *is_there = false;
+    if (is_no_file(tree, path))
+        return fault("30 Device");
+    const File *file = find(tree, path);
+    if (!file)
+        return none;
+    if (file->bytes.length > MAX_BYTES)
+        return fault("9 TooLarge");
+    *bytes = file->bytes;
+    *is_there = true;
+    return none;
+}
+
+/* The bytes of a file that has to be there. */
+static Fault load(const Tree *tree, Bytes path, Bytes *bytes)
+{
+    bool is_there;
+    Fault found = read_file(tree, path, bytes, &is_there);
+    return refused(found) || is_there ? found : fault_of("40 MissingFile", path);
+}
+
+static Bytes joined(const char *before, Bytes middle, const char *after)
+{
+    Text text = {0};
+    add_text(&text, "%s", before);
+    add(&text, middle);
+    add_text(&text, "%s", after);
+    return of_text(&text);
+}
+
+static Bytes command_path(Bytes target)
+{
+    size_t base = target.length;
+    while (base > 0 && target.at[base - 1] != '/')
+        base--;
+    Text text = {0};
+    add(&text, upto(target, base));
+    add_text(&text, ".");
+    add(&text, from(target, base));
+    add_text(&text, ".cmd");
+    return of_text(&text);
+}
+
+static const char auto_path[] = "include/config/auto.conf";
+static const char header_path[] = "include/generated/autoconf.h";
+
+static Fault read_old(const Tree *tree, Old *old)
+{
+    Bytes text;
+    bool is_there;
+    *old = (Old){.generation = 0};
+    Fault found = read_file(tree, bytes_of(auto_path), &text, &is_there);
+    if (refused(found) || !is_there)
+        return found;
+    return read_auto(text, old);
+}
+
+static Fault last_generation(const Tree *tree, uint64_t *generation)
+{
+    Old old;
+    Fault found = read_old(tree, &old);
+    *generation = old.generation;
+    return !refused(found) && old.generation == 0 ? fault("41 NeverSynced") : found;
+}
+
+static Fault read_stamp(const Tree *tree, Bytes name, uint64_t *number)
+{
+    Bytes text;
+    bool is_there;
+    *number = 0;
+    Fault found = read_file(tree, joined("include/config/", name, ""), &text, &is_there);
+    if (refused(found) || !is_there || text.length == 0)
+        return found;
+    if (!ends(text, "\n") || !read_decimal(upto(text, text.length - 1), number))
+        return fault_of("31 BadStamp", name);
+    return none;
+}
+
+/* Commands */
+
+typedef struct {
+    uint64_t generation, unknown;
+    Bytes *touched;
+    size_t count;
+    Symbols settings;
+} Plan;
+
+static Fault plan_of(Bytes kconfig, Bytes dotconfig, Plan *plan)
+{
+    Symbols symbols;
+    Fault found = read_kconfig(kconfig, &symbols);
+    if (!refused(found))
+        found = read_dotconfig(dotconfig, &symbols, &plan->unknown);
+    if (!refused(found))
+        plan->settings = settings_of(&symbols);
+    return found;
+}
+
+static Fault plan_over(const Old *old, Plan *plan)
+{
+    if (old->generation == UINT64_MAX)
+        return fault("42 GenerationFull");
+    plan->generation = old->generation + 1;
+    plan->count = changes(old, &plan->settings, &plan->touched);
+    return none;
+}
+
+static Fault synchronise(Tree *tree, Bytes kconfig, Bytes dotconfig, Plan *plan)
+{
+    Old old;
+    Fault found = plan_of(kconfig, dotconfig, plan);
+    if (!refused(found))
+        found = read_old(tree, &old);
+    if (!refused(found))
+        found = plan_over(&old, plan);
+    if (refused(found))
+        return found;
+    Bytes text = auto_text(&plan->settings, plan->generation);
+    if (text.length > MAX_BYTES)
+        return fault("9 TooLarge");
+    char number[24];
+    snprintf(number, sizeof number, "%" PRIu64 "\n", plan->generation);
+    for (size_t i = 0; i < plan->count; i++)
+        put(tree, joined("include/config/", plan->touched[i], ""), copy_of(bytes_of(number)));
+    put(tree, bytes_of(header_path), header_text(&plan->settings));
+    put(tree, bytes_of(auto_path), text);
+    return none;
+}
+
+/* The command file's text up to its last line, and how many names it has. */
+static Fault list_prerequisites(const Tree *tree, const Prerequisites *list, Text *text, size_t *count)
+{
+    Names names = {0};
+    for (size_t i = 0; i < list->count; i++) {
+        Bytes source;
+        Fault found = load(tree, list->all[i].path, &source);
+        if (refused(found))
+            return found;
+        if (list->all[i].role == LISTED)
+            add(text, joined("  ", list->all[i].path, " \\\n"));
+        size_t first = names.count;
+        scan(source, &names);
+        for (; first < names.count; first++)
+            add(text, joined("    $(wildcard include/config/", names.names[first], ") \\\n"));
+    }
+    *count = names.count;
+    return none;
+}
+
+static Fault check_record(Bytes depfile, Bytes target, Bytes command)
+{
+    if (!is_path(depfile) || !is_target(target))
+        return fault("21 BadPath token 0");
+    return is_command(command) ? none : fault("22 BadCommand");
+}
+
+static Fault read_prerequisites(const Tree *tree, Bytes depfile, Prerequisites *list)
+{
+    Bytes bytes;
+    Fault found = load(tree, depfile, &bytes);
+    return refused(found) ? found : read_depfile(bytes, list);
+}
+
+static Fault command_text(const Tree *tree, const Prerequisites *list, Bytes target, Bytes command, Text *text, size_t *count)
+{
+    add(text, joined("savedcmd_", target, " := "));
+    add(text, joined("", command, "\n\n"));
+    add(text, joined("source_", target, " := "));
+    add(text, joined("", list->all[0].path, "\n\n"));
+    add(text, joined("deps_", target, " := \\\n"));
+    Fault found = list_prerequisites(tree, list, text, count);
+    add(text, joined("\n", target, ": $(deps_"));
+    add(text, joined("", target, ")\n\n"));
+    add(text, joined("$(deps_", target, "):\n"));
+    return found;
+}
+
+static Fault record(Tree *tree, Bytes depfile, Bytes target, Bytes command, uint64_t *generation, size_t *count)
+{
+    Prerequisites list;
+    Text text = {0};
+    Fault found = check_record(depfile, target, command);
+    if (!refused(found))
+        found = read_prerequisites(tree, depfile, &list);
+    if (!refused(found))
+        found = last_generation(tree, generation);
+    if (!refused(found))
+        found = command_text(tree, &list, target, command, &text, count);
+    if (refused(found))
+        return found;
+    add_text(&text, "#generation %" PRIu64 "\n", *generation);
+    if (text.length > MAX_BYTES)
+        return fault("9 TooLarge");
+    if (is_no_file(tree, command_path(target)))
+        return fault("30 Device");
+    put(tree, command_path(target), of_text(&text));
+    return none;
+}
+
+/* What is said behind the target: `fresh`, or `stale` and why, or `command-differs`. `command` is NULL for `stale`. */
+static Fault verdict_of(const Tree *tree, Bytes target, const Bytes *command, Bytes *verdict)
+{
+    if (!is_target(target))
+        return fault("21 BadPath token 0");
+    if (command && !is_command(*command))
+        return fault("22 BadCommand");
+    Bytes text;
+    bool is_there;
+    CommandFile file;
+    uint64_t generation, stamp;
+    Fault found = read_file(tree, command_path(target), &text, &is_there);
+    *verdict = bytes_of("stale no-command-file");
+    if (refused(found) || !is_there)
+        return found;
+    found = read_command(text, &file);
+    if (!refused(found) && !same(file.target, target))
+        found = fault("23 BadCommandFile line 1");
+    *verdict = bytes_of("command-differs");
+    if (refused(found) || (command && !same(*command, file.command)))
+        return found;
+    *verdict = bytes_of("stale not-numbered");
+    if (!file.has_generation)
+        return none;
+    found = last_generation(tree, &generation);
+    *verdict = bytes_of("stale generation-ahead");
+    if (refused(found) || file.generation > generation)
+        return found;
+    for (size_t i = 0; i < file.names.count; i++) {
+        found = read_stamp(tree, file.names.names[i], &stamp);
+        *verdict = joined("stale ", file.names.names[i], "");
+        if (refused(found) || stamp > file.generation)
+            return found;
+    }
+    *verdict = bytes_of("fresh");
+    return none;
+}
+
+static Answer refusal(Fault found)
+{
+    return (Answer){2, {NULL, 0}, joined("confstamp: ", found.text, "\n")};
+}
+
+/* A line for a target, and the status that the answers so far come to. */
+static void answer_target(const Tree *tree, Bytes target, const Bytes *command, Text *output, int *status)
+{
+    Bytes verdict;
+    Fault found = verdict_of(tree, target, command, &verdict);
+    add(output, target);
+    add(output, refused(found) ? joined(" refused ", found.text, "\n") : joined(" ", verdict, "\n"));
+    if (refused(found))
+        *status = 2;
+    else if (!is_text(verdict, "fresh") && *status == 0)
+        *status = 1;
+}
+
+static Fault load_all(const Tree *tree, const Bytes *paths, size_t count, Bytes *texts)
+{
+    for (size_t i = 0; i < count; i++)
+        if (!is_path(paths[i]))
+            return fault("21 BadPath token 0");
+    for (size_t i = 0; i < count; i++) {
+        Fault found = load(tree, paths[i], &texts[i]);
+        if (refused(found))
+            return found;
+    }
+    return none;
+}
+
+static void add_touched(Text *output, const Plan *plan)
+{
+    for (size_t i = 0; i < plan->count; i++)
+        add(output, joined("touch ", plan->touched[i], "\n"));
+}
+
+static Answer run_sync(Tree *tree, const Bytes *words)
+{
+    Bytes texts[2];
+    Plan plan;
+    Text output = {0};
+    Fault found = load_all(tree, words, 2, texts);
+    if (!refused(found))
+        found = synchronise(tree, texts[0], texts[1], &plan);
+    if (refused(found))
+        return refusal(found);
+    add_text(&output, "generation %" PRIu64 "\n", plan.generation);
+    add_touched(&output, &plan);
+    add_text(&output, "unknown %" PRIu64 "\n", plan.unknown);
+    return (Answer){0, of_text(&output), {NULL, 0}};
+}
+
+static Answer run_preview(const Tree *tree, const Bytes *words, size_t count)
+{
+    Bytes texts[3];
+    Plan plan;
+    Old old = {.generation = 0};
+    Text output = {0};
+    Fault found = load_all(tree, words, count, texts);
+    if (!refused(found))
+        found = plan_of(texts[0], texts[1], &plan);
+    if (!refused(found) && count == 3)
+        found = read_auto(texts[2], &old);
+    if (!refused(found))
+        found = plan_over(&old, &plan);
+    if (refused(found))
+        return refusal(found);
+    add_touched(&output, &plan);
+    add(&output, auto_text(&plan.settings, plan.generation));
+    return (Answer){0, of_text(&output), {NULL, 0}};
+}
+
+static Answer run_fixdep(const Tree *tree, const Bytes *words)
+{
+    Prerequisites list;
+    Text output = {0};
+    size_t count;
+    Fault found = check_record(words[0], words[1], words[2]);
+    if (!refused(found))
+        found = read_prerequisites(tree, words[0], &list);
+    if (!refused(found))
+        found = command_text(tree, &list, words[1], words[2], &output, &count);
+    return refused(found) ? refusal(found) : (Answer){0, of_text(&output), {NULL, 0}};
+}
+
+static Answer run_record(Tree *tree, const Bytes *words)
+{
+    uint64_t generation;
+    size_t count;
+    Text output = {0};
+    Fault found = record(tree, words[0], words[1], words[2], &generation, &count);
+    if (refused(found))
+        return refusal(found);
+    add(&output, joined("record ", words[1], ""));
+    add_text(&output, " generation %" PRIu64 " names %zu\n", generation, count);
+    return (Answer){0, of_text(&output), {NULL, 0}};
+}
+
+static Answer run_questions(const Tree *tree, const Bytes *targets, size_t count, const Bytes *command)
+{
+    Text output = {0};
+    int status = 0;
+    for (size_t i = 0; i < count; i++)
+        answer_target(tree, targets[i], command, &output, &status);
+    return (Answer){status, of_text(&output), {NULL, 0}};
+}
+
+/* A line of a script: its command and its words. */
+typedef struct {
+    enum { SYNC, RECORD, STALE } command;
+    Bytes words[3];
+} Step;
+
+/* Cuts off `count` words that aren't empty and end at a space. */
+static bool cut_words(Bytes *rest, size_t count, Bytes *words)
+{
+    for (size_t i = 0; i < count; i++) {
+        size_t length = place_of(*rest, ' ');
+        if (length == 0 || length == rest->length)
+            return false;
+        words[i] = upto(*rest, length);
+        *rest = from(*rest, length + 1);
+    }
+    return true;
+}
+
+static bool is_word(Bytes text)
+{
+    return text.length > 0 && place_of(text, ' ') == text.length;
+}
+
+static bool read_step(Bytes line, Step *step)
+{
+    Bytes first, rest = line;
+    if (!cut_words(&rest, 1, &first))
+        return false;
+    if (is_text(first, "stale")) {
+        step->command = STALE;
+        step->words[0] = rest;
+        return is_word(rest);
+    }
+    if (is_text(first, "sync")) {
+        step->command = SYNC;
+        bool is_cut = cut_words(&rest, 1, step->words);
+        step->words[1] = rest;
+        return is_cut && is_word(rest) && is_path(step->words[0]) && is_path(rest);
+    }
+    step->command = RECORD;
+    bool is_cut = is_text(first, "record") && cut_words(&rest, 2, step->words);
+    step->words[2] = rest;
+    return is_cut;
+}
+
+static Fault read_script(Bytes text, Step **steps, size_t *count)
+{
+    *count = 0;
+    if (text.length > MAX_BYTES)
+        return fault("9 TooLarge");
+    *steps = keep((text.length + 1) * sizeof **steps);
+    Lines lines = lines_of(text);
+    while (next_line(&lines)) {
+        if (lines.line.length == 0 || lines.line.at[0] == '#')
+            continue;
+        if (!read_step(lines.line, &(*steps)[*count]))
+            return fault("50 BadScript line %" PRIu64, lines.number);
+        ++*count;
+    }
+    return none;
+}
+
+static void run_step(Tree *tree, const Step *step, const Bytes *texts, Text *output, int *status)
+{
+    Plan plan;
+    uint64_t generation;
+    size_t names;
+    Fault found;
+    if (step->command == RECORD) {
+        found = record(tree, step->words[0], step->words[1], step->words[2], &generation, &names);
+        if (!refused(found)) {
+            add(output, joined("record ", step->words[1], ""));
+            add_text(output, " generation %" PRIu64 " names %zu\n", generation, names);
+        }
+    } else {
+        found = synchronise(tree, texts[0], texts[1], &plan);
+        if (!refused(found))
+            add_text(output, "sync generation %" PRIu64 " touched %zu unknown %" PRIu64 "\n", plan.generation, plan.count, plan.unknown);
+    }
+    if (refused(found)) {
+        add(output, joined("refused ", found.text, "\n"));
+        *status = 2;
+    }
+}
+
+static Answer run_batch(Tree *tree, Bytes script)
+{
+    Bytes text;
+    Step *steps;
+    size_t count;
+    Fault found = load_all(tree, &script, 1, &text);
+    if (!refused(found))
+        found = read_script(text, &steps, &count);
+    if (refused(found))
+        return refusal(found);
+    Bytes(*texts)[2] = keep((count + 1) * sizeof *texts);
+    for (size_t i = 0; i < count; i++)
+        if (steps[i].command == SYNC) {
+            found = load_all(tree, steps[i].words, 2, texts[i]);
+            if (refused(found))
+                return refusal(found);
+        }
+    Text output = {0};
+    int status = 0;
+    for (size_t i = 0; i < count; i++)
+        if (steps[i].command == STALE)
+            answer_target(tree, steps[i].words[0], NULL, &output, &status);
+        else
+            run_step(tree, &steps[i], texts[i], &output, &status);
+    return (Answer){status, of_text(&output), {NULL, 0}};
+}
+
+Answer run_words(Tree *tree, const Bytes *words, size_t count)
+{
+    if (is_text(words[0], "sync") && count == 3)
+        return run_sync(tree, words + 1);
+    if (is_text(words[0], "preview") && (count == 3 || count == 4))
+        return run_preview(tree, words + 1, count - 1);
+    if (is_text(words[0], "fixdep") && count == 4)
+        return run_fixdep(tree, words + 1);
+    if (is_text(words[0], "record") && count == 4)
+        return run_record(tree, words + 1);
+    if (is_text(words[0], "stale") && count >= 2)
+        return run_questions(tree, words + 1, count - 1, NULL);
+    if (is_text(words[0], "outdated") && count == 3)
+        return run_questions(tree, words + 1, 1, words + 2);
+    if (is_text(words[0], "batch") && count == 2)
+        return run_batch(tree, words[1]);
+    fputs("model: words that it doesn't know\n", stderr);
+    exit(2);
+}

@@ -1,0 +1,66 @@
+/* What confstamp is to do, in C: the texts of docs/formats.md, the refusals of docs/refusals.md, and each command over files
+   in memory. It is written from these two documents and shares no code with the program, so that the sweeps beside it have
+   answers to compare with. All memory comes from one arena, which forget_all empties. */
+#ifndef MODEL_H
+#define MODEL_H
+
+#include <stdbool.h>
+#include <stddef.h>
+#include <stdint.h>
+
+/* Whether auto.conf tells the kinds of its entries (`#typed`, `#type NAME KIND`). */
+extern bool auto_is_typed;
+
+enum { MAX_BYTES = 67108864 };
+
+typedef struct {
+    const char *at;
+    size_t length;
+} Bytes;
+
+/* A text that grows. */
+typedef struct {
+    char *at;
+    size_t length, room;
+} Text;
+
+void *keep(size_t size);
+void forget_all(void);
+Bytes bytes_of(const char *text);
+Bytes copy_of(Bytes bytes);
+bool same(Bytes a, Bytes b);
+bool is_text(Bytes a, const char *text);
+void add(Text *text, Bytes bytes);
+void add_text(Text *text, const char *format, ...) __attribute__((format(printf, 2, 3)));
+Bytes of_text(const Text *text);
+
+/* The files of a tree by their paths, in no order. A path is taken as it is spelled, but that `./` and `//` say nothing. */
+typedef struct {
+    Bytes path, bytes;
+} File;
+
+typedef struct {
+    File *files;
+    size_t count, room;
+} Tree;
+
+void put(Tree *tree, Bytes path, Bytes bytes);
+void take_away(Tree *tree, Bytes path);
+const File *find(const Tree *tree, Bytes path);
+Tree copy_of_tree(const Tree *tree);
+
+/* A refusal as it is printed: empty where there is none. */
+typedef struct {
+    Bytes text;
+} Fault;
+
+/* What a command did: the exit status, standard output, and the first line of standard error. */
+typedef struct {
+    int status;
+    Bytes output, error;
+} Answer;
+
+/* The words behind the program's name, run over a tree. */
+Answer run_words(Tree *tree, const Bytes *words, size_t count);
+
+#endif

@@ -1,0 +1,83 @@
+/* Preloaded into the program: makes one call of the C library fail, and writes a byte to descriptor 9 where it did.
+
+   REFUSE=N     the Nth call of malloc or realloc gives nothing
+   WRITE=N      the Nth write to standard output fails, as on a full disk
+   PIECE=N      a write to standard output takes N bytes at most */
+#define _GNU_SOURCE
+#include <dlfcn.h>
+#include <errno.h>
+#include <stdlib.h>
+#include <sys/uio.h>
+#include <unistd.h>
+
+static long number(const char *name)
+{
+    const char *text = getenv(name);
+    return text ? atol(text) : 0;
+}
+
+static void mark(void)
+{
+    static ssize_t (*next)(int, const void *, size_t);
+    if (!next)
+        next = (ssize_t(*)(int, const void *, size_t))dlsym(RTLD_NEXT, "write");
+    int before = errno;
+    if (next(9, "x", 1) < 1)
+        errno = before;
+}
+
+static int is_refused(void)
+{
+    static long left = -1;
+    if (left < 0)
+        left = number("REFUSE");
+    if (left == 0 || --left > 0)
+        return 0;
+    mark();
+    errno = ENOMEM;
+    return 1;
+}
+
+void *malloc(size_t size)
+{
+    static void *(*next)(size_t);
+    if (!next)
+        next = (void *(*)(size_t))dlsym(RTLD_NEXT, "malloc");
+    return is_refused() ? NULL : next(size);
+}
+
+void *realloc(void *old, size_t size)
+{
+    static void *(*next)(void *, size_t);
+    if (!next)
+        next = (void *(*)(void *, size_t))dlsym(RTLD_NEXT, "realloc");
+    return is_refused() ? NULL : next(old, size);
+}
+
+ssize_t write(int file, const void *bytes, size_t length)
+{
+    static ssize_t (*next)(int, const void *, size_t);
+    static long left = -1;
+    if (!next)
+        next = (ssize_t(*)(int, const void *, size_t))dlsym(RTLD_NEXT, "write");
+    if (file != STDOUT_FILENO)
+        return next(file, bytes, length);
+    if (left < 0)
+        left = number("WRITE");
+    if (left > 0 && --left == 0) {
+        mark();
+        errno = ENOSPC;
+        return -1;
+    }
+    size_t piece = (size_t)number("PIECE");
+    return next(file, bytes, piece && piece < length ? piece : length);
+}
+
+/* So that no write goes another way. */
+ssize_t writev(int file, const struct iovec *parts, int count)
+{
+    for (int i = 0; i < count; i++)
+        if (parts[i].iov_len)
+            return write(file, parts[i].iov_base, parts[i].iov_len);
+    return 0;
+}

@@ -5,6 +5,12 @@ fail() {
     exit 2
 }
 
+# The head of a script is its help.
+if [ "${1-}" = --help ]; then
+    sed -n '/^#!/d; /^#/!q; s/^# \{0,1\}//; p' "$0"
+    exit
+fi
+
 # The absolute path of the program to be measured.
 find_confstamp() {
     confstamp=${CONFSTAMP:-$root/crates/confstamp/out/confstamp}
@@ -16,6 +22,18 @@ make_work_folder() {
     work=$(mktemp -d)
     trap 'rm -rf "$work"' EXIT
     trap 'exit 1' HUP INT TERM
+}
+
+# A work folder in a file system in memory, where FOLDER does not name another one; `file_system` is which it is.
+choose_folder() {
+    folder=${FOLDER:-}
+    if [ -z "$folder" ] && [ -d /dev/shm ] && [ -w /dev/shm ]; then
+        folder=/dev/shm
+    fi
+    TMPDIR=${folder:-${TMPDIR:-/tmp}}
+    export TMPDIR
+    make_work_folder
+    file_system=$(df -T "$work" | awk 'NR == 2 { print $2 }')
 }
 
 # Folders usr/src/linux-headers-VERSION-ARCH below $1 whose kbuild package is there and writes savedcmd_.
@@ -93,7 +111,7 @@ keep_run() {
         number=$((number + 1))
         kept=$first-$number
     done
-    cp "$run/README.md" "$run/raw.csv" "$run/summary" "$kept"
+    cp "$run"/* "$kept"
     echo "$kept"
 }
 
@@ -129,6 +147,24 @@ time_runs() {
     done
 }
 
+# time_once CASE COMMAND..: one line of raw.csv, for the round `index`; the round 0 isn't counted.
+time_once() {
+    label=$1
+    shift
+    start=$(date +%s%N)
+    "$@" > "$work/output" < /dev/null || fail "status $? of: $*"
+    end=$(date +%s%N)
+    [ "$index" = 0 ] || echo "$label,$index,$((end - start))" >> "$run/raw.csv"
+}
+
+# peak CASE COMMAND..: peak resident memory in kilobytes.
+peak() {
+    label=$1
+    shift
+    /usr/bin/time -f %M -o "$work/peak" "$@" > "$work/output" < /dev/null || fail "status $? of: $*"
+    echo "peak,$label,$(tail -n 1 "$work/peak")" >> "$run/raw.csv"
+}
+
 # best CASE, median CASE: in milliseconds.
 best() {
     sorted "$1" | awk 'NR == 1 { printf "%.2f", $1 / 1e6 }'
@@ -140,4 +176,75 @@ median() {
 
 sorted() {
     awk -F , -v label="$1" '$1 == label { print $3 }' "$run/raw.csv" | sort -n
+}
+
+# make_input FOLDER SYMBOLS WIDTH: a Kconfig and a .config of that many symbols, their names at least WIDTH bytes long.
+# Of 100 symbols 26 are y, 40 m, 20 not set, 6 int, 4 string, 2 hex, 1 string with escapes, 1 without a line. The
+# order is not that of the names, as in a real file.
+make_input() {
+    mkdir -p "$1"
+    awk -v folder="$1" -v symbols="$2" -v width="$3" '
+        BEGIN {
+            kconfig = folder "/Kconfig"
+            dotconfig = folder "/.config"
+            filler = "DRIVER_OF_SOME_DEVICE_WITH_A_RATHER_LONG_NAME"
+            print "mainmenu \"Linux/bench 1.0 Kernel Configuration\"\n" > kconfig
+            print "#\n# Automatically generated file; DO NOT EDIT." > dotconfig
+            print "# Linux/bench 1.0 Kernel Configuration\n#" > dotconfig
+            step = 7919
+            for (place = 0; place < symbols; place++) {
+                number = (place * step) % symbols
+                name = sprintf("%s_%d", substr("BENCH", 1 + number % 4), number)
+                if (length(name) < width) name = name "_" substr(filler, 1, width - length(name) - 1)
+                form = number % 100
+                off = 0
+                if (form < 26) { kind = "bool"; value = "y" }
+                else if (form < 66) { kind = "tristate"; value = "m" }
+                else if (form < 86) { kind = form % 2 ? "bool" : "tristate"; off = 1 }
+                else if (form < 92) { kind = "int"; value = form == 86 ? -number : number }
+                else if (form < 96) { kind = "string"; value = "\"/sbin/driver-" number " --some option\"" }
+                else if (form < 98) { kind = "hex"; value = sprintf("0x%x", number) }
+                else if (form < 99) { kind = "string"; value = "\"a \\\"quoted\\\" word and a \\\\\"" }
+                else { kind = "string"; value = "" }
+                printf "config %s\n\t%s\n", name, kind > kconfig
+                if (off) printf "# CONFIG_%s is not set\n", name > dotconfig
+                else if (value != "") printf "CONFIG_%s=%s\n", name, value > dotconfig
+            }
+        }
+    '
+}
+
+# The same symbols for the kernel's conf: it takes a value of .config only for a symbol with a prompt, and m only where
+# a symbol with the attribute `modules` is y; and it asks about a string that has no line.
+make_input_for_conf() {
+    mkdir -p "$2"
+    {
+        sed 's/^\t\(.*\)$/\t\1 "prompt"/' "$1/Kconfig"
+        printf 'config MODULES\n\tbool "modules"\n\tmodules\n'
+    } > "$2/Kconfig"
+    {
+        cat "$1/.config"
+        echo CONFIG_MODULES=y
+        awk '
+            FILENAME ~ /Kconfig$/ { if ($1 == "config") name = $2; else if ($1 == "string") strings[name] = 1; next }
+            match($0, /CONFIG_[A-Z0-9_]*/) { delete strings[substr($0, RSTART + 7, RLENGTH - 7)] }
+            END { for (name in strings) print "CONFIG_" name "=\"\"" }
+        ' "$1/Kconfig" "$1/.config"
+    } > "$2/.config"
+}
+
+# The kernel's program: CONF, or one of an installed package, or the one beside the objects of bench/make-objects.
+find_conf() {
+    conf=${CONF:-}
+    for candidate in "$(cache_folder)/linux-6.12/conf" /usr/lib/linux-kbuild-*/scripts/kconfig/conf; do
+        if [ -z "$conf" ] && [ -x "$candidate" ]; then
+            conf=$candidate
+        fi
+    done
+    [ -n "$conf" ]
+}
+
+# Where what takes long to make is kept.
+cache_folder() {
+    echo "${CACHE:-${XDG_CACHE_HOME:-$HOME/.cache}/confstamp}"
 }

@@ -4,7 +4,7 @@ ghost use Rattle.clap.specs.Words.{app_of, rule_of};
 ghost use Rattle.clap.specs.declared.builder.command.Command.TheViews.{out-Command};
 ghost use Rattle.confstamp.specs.CommandLine.{command_line_app, usage_app, word_rule};
 
-use crate::usage::{ABOUT, NOTES, Times, USAGES, Usage, Word};
+use crate::usage::{ABOUT, CALL, NOTES, Times, USAGES, Usage, Word};
 use clap::{Arg, Command};
 use std::alloc::{AllocError, Global};
 
@@ -40,6 +40,7 @@ pub(crate) fn command_line<'a>(alloc: Global) -> Result<Command<'a>, AllocError>
     let mut command = Command::new(alloc, "confstamp")
         .bin_name("confstamp")?
         .about(ABOUT)
+        .override_usage(CALL)
         .after_help(NOTES)
         .version("0.1.0")
         .no_binary_name(true)

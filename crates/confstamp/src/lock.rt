@@ -43,17 +43,19 @@ fn is_alone<'a, T: Tree>(
     }
 }
 
-/// The current folder, locked as long as it is open: by this program alone for a synchronisation, and beside others for every
+/// The folder, or the current one for an empty path, locked as long as it is open: by this program alone for a synchronisation, and beside others for every
 /// other command. An error of the kind `WouldBlock` says that another program is in the way.
 pub(crate) fn lock_folder<'a, T: Tree>(
     rt: &HostRuntime,
     tree: &mut T,
+    folder: &str,
     words: &'a [&'a str],
 ) -> io::Result<Option<File>> {
     let Some(is_alone) = is_alone(rt.alloc(), tree, words)? else {
         return Ok(None);
     };
-    let Ok(folder) = File::open(rt, ".") else {
+    let path = if folder.is_empty() { "." } else { folder };
+    let Ok(folder) = File::open(rt, path) else {
         return Ok(None);
     };
     let outcome = if is_alone {

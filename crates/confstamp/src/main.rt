@@ -1,13 +1,15 @@
-//! The program `confstamp`: a command line over the current folder and the standard streams.
+//! The program `confstamp`: a command line over the current folder, or that of `-C`, and the standard streams.
 #![tactic(auto)]
 
 mod command_line;
+mod folder;
 mod laws;
 mod lock;
 mod program;
 mod usage;
 mod words;
 
+use folder::{is_folder, take_place};
 use ks_tree::FolderTree;
 pub use laws::{batch_words, preview_words};
 use lock::lock_folder;
@@ -17,7 +19,7 @@ use std::process::ExitCode;
 use std::{env, io};
 pub use words::{WordsError, request_of};
 
-/// Runs the command over the current folder and the standard streams.
+/// Runs the command over its folder and the standard streams.
 fn run(rt: &HostRuntime) -> io::Result<u8> {
     let alloc = rt.alloc();
     let words: Vec<String> = env::args(rt)?.skip(1).collect(alloc)?;
@@ -25,11 +27,20 @@ fn run(rt: &HostRuntime) -> io::Result<u8> {
     for word in &words {
         texts.push(word.as_str())?;
     }
-    let mut tree = FolderTree::new(rt, String::new(alloc));
-    let _locked = lock_folder(rt, &mut tree, &texts)?;
+    let Some(place) = take_place(alloc, &texts)? else {
+        let _ = eprintln!(rt; "confstamp: -C: a folder is needed behind it");
+        return Ok(2);
+    };
+    let folder = place.folder.as_str();
+    if !is_folder(rt, folder) {
+        let _ = eprintln!(rt; "confstamp: -C: {folder}: No such folder");
+        return Ok(2);
+    }
+    let mut tree = FolderTree::new(rt, place.folder.clone()?);
+    let _locked = lock_folder(rt, &mut tree, folder, place.words)?;
     let mut out = BufWriter::new(alloc, rt.stdout())?;
     let mut err = rt.stderr();
-    Ok(execute(alloc, &mut tree, &texts, &mut out, &mut err))
+    Ok(execute(alloc, &mut tree, place.words, &mut out, &mut err))
 }
 
 /// What cannot even be read of the words, or made room for, and that another program is in the way, is told as a refusal.

@@ -4,9 +4,13 @@
 pub(crate) const ABOUT: &str =
     "Which objects of a kernel build are stale after a change of .config";
 
+/// How the program is called.
+pub(crate) const CALL: &str = "confstamp [-C DIR]... <COMMAND>";
+
 /// What holds for all commands.
 pub(crate) const NOTES: &str = "\
-Files are looked up in the current folder. A word that begins with - is taken behind --.
+Files are looked up in the current folder, or below DIR of -C DIR in front of the command.
+A word that begins with - is taken behind --.
 
 Exit status:
   0  done, and nothing is stale

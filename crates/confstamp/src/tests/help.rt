@@ -58,7 +58,7 @@ fn help_of_each_command(rt: HostRuntime) -> Result<(), Fail> {
 fn help_goes_to_the_output(rt: HostRuntime) -> Result<(), Fail> {
     let alloc = rt.alloc();
     let top = run_words(alloc, &["help"])?;
-    assert!(rt; top.out.contains("\nUsage: confstamp <COMMAND>\n"));
+    assert!(rt; top.out.contains("\nUsage: confstamp [-C DIR]... <COMMAND>\n"));
     let rows: [(&str, &[&str], &str); 8] = [
         ("a flag", &["--help"], top.out.as_str()),
         ("a short flag", &["-h"], top.out.as_str()),

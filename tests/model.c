@@ -1473,7 +1473,7 @@ static Answer run_batch(Tree *tree, Bytes script)
     return (Answer){status, of_text(&output), {NULL, 0}};
 }
 
-Answer run_words(Tree *tree, const Bytes *words, size_t count)
+static Answer run_command(Tree *tree, const Bytes *words, size_t count)
 {
     if (is_text(words[0], "sync") && count == 3)
         return run_sync(tree, words + 1);
@@ -1491,4 +1491,53 @@ Answer run_words(Tree *tree, const Bytes *words, size_t count)
         return run_batch(tree, words[1]);
     fputs("model: words that it doesn't know\n", stderr);
     exit(2);
+}
+
+/* Whether a command synchronises: `sync`, or the script of a `batch` has such a line. */
+static bool synchronises(const Tree *tree, const Bytes *words, size_t count)
+{
+    Bytes text;
+    Step *steps;
+    size_t steps_count;
+    if (!is_text(words[0], "batch") || count != 2)
+        return is_text(words[0], "sync");
+    if (refused(load_all(tree, words + 1, 1, &text)) || refused(read_script(text, &steps, &steps_count)))
+        return false;
+    for (size_t i = 0; i < steps_count; i++)
+        if (steps[i].command == SYNC)
+            return true;
+    return false;
+}
+
+/* Whether auto.conf has no generation, while the stamp of one of its names has a number. */
+static bool numbers_are_lost(const Tree *tree)
+{
+    Bytes text;
+    bool is_there, is_generation = false;
+    Old old;
+    if (refused(read_file(tree, bytes_of(auto_path), &text, &is_there)) || !is_there || refused(read_auto(text, &old)))
+        return false;
+    Lines lines = lines_of(text);
+    while (next_line(&lines))
+        is_generation = starts(lines.line, "#generation ");
+    if (is_generation || old.generation)
+        return false;
+    for (size_t i = 0; i < old.entries.count; i++) {
+        uint64_t number;
+        if (!refused(read_stamp(tree, old.entries.symbols[i].name, &number)) && number > 0)
+            return true;
+    }
+    return false;
+}
+
+static const char lost_numbers[] = "confstamp: auto.conf has lost its generation (another tool wrote it), so numbers begin again: "
+                                   "remove include/config and build everything anew\n";
+
+Answer run_words(Tree *tree, const Bytes *words, size_t count)
+{
+    bool is_lost = synchronises(tree, words, count) && numbers_are_lost(tree);
+    Answer answer = run_command(tree, words, count);
+    if (is_lost)
+        answer.error = joined(lost_numbers, answer.error, "");
+    return answer;
 }

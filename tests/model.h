@@ -54,7 +54,8 @@ typedef struct {
     Bytes text;
 } Fault;
 
-/* What a command did: the exit status, standard output, and the first line of standard error. */
+/* What a command did: the exit status, standard output, and what standard error begins with: the
+   first line, or the one that numbers are lost and then the one of a refusal. */
 typedef struct {
     int status;
     Bytes output, error;

@@ -29,7 +29,7 @@ fn script_syncs<T: Tree>(alloc: Global, tree: &mut T, script: &str) -> io::Resul
 }
 
 /// Whether the command that the words make has to be alone in its folder, or `None` where they make none.
-fn is_alone<'a, T: Tree>(
+pub(crate) fn is_alone<'a, T: Tree>(
     alloc: Global,
     tree: &mut T,
     words: &'a [&'a str],
@@ -45,13 +45,12 @@ fn is_alone<'a, T: Tree>(
 
 /// The folder, or the current one for an empty path, locked as long as it is open: by this program alone for a synchronisation, and beside others for every
 /// other command. An error of the kind `WouldBlock` says that another program is in the way.
-pub(crate) fn lock_folder<'a, T: Tree>(
+pub(crate) fn lock_folder(
     rt: &HostRuntime,
-    tree: &mut T,
     folder: &str,
-    words: &'a [&'a str],
+    alone: Option<bool>,
 ) -> io::Result<Option<File>> {
-    let Some(is_alone) = is_alone(rt.alloc(), tree, words)? else {
+    let Some(is_alone) = alone else {
         return Ok(None);
     };
     let path = if folder.is_empty() { "." } else { folder };

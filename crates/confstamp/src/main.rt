@@ -5,6 +5,7 @@ mod command_line;
 mod folder;
 mod laws;
 mod lock;
+mod lost_numbers;
 mod program;
 mod usage;
 mod words;
@@ -12,12 +13,18 @@ mod words;
 use folder::{is_folder, take_place};
 use ks_tree::FolderTree;
 pub use laws::{batch_words, preview_words};
-use lock::lock_folder;
+use lock::{is_alone, lock_folder};
+use lost_numbers::numbers_are_lost;
 pub use program::execute;
 use std::io::{BufWriter, ErrorKind};
 use std::process::ExitCode;
 use std::{env, io};
 pub use words::{WordsError, request_of};
+
+/// What is said before a synchronisation over an auto.conf that another tool wrote.
+const LOST_NUMBERS: &str =
+    "confstamp: auto.conf has lost its generation (another tool wrote it), so numbers begin again: \
+    remove include/config and build everything anew";
 
 /// Runs the command over its folder and the standard streams.
 fn run(rt: &HostRuntime) -> io::Result<u8> {
@@ -37,7 +44,11 @@ fn run(rt: &HostRuntime) -> io::Result<u8> {
         return Ok(2);
     }
     let mut tree = FolderTree::new(rt, place.folder.clone()?);
-    let _locked = lock_folder(rt, &mut tree, folder, place.words)?;
+    let alone = is_alone(alloc, &mut tree, place.words)?;
+    let _locked = lock_folder(rt, folder, alone)?;
+    if alone == Some(true) && numbers_are_lost(alloc, &mut tree) {
+        let _ = eprintln!(rt; "{LOST_NUMBERS}");
+    }
     let mut out = BufWriter::new(alloc, rt.stdout())?;
     let mut err = rt.stderr();
     Ok(execute(alloc, &mut tree, place.words, &mut out, &mut err))

@@ -51,7 +51,22 @@ fn run(rt: &HostRuntime) -> io::Result<u8> {
     }
     let mut out = BufWriter::new(alloc, rt.stdout())?;
     let mut err = rt.stderr();
-    Ok(execute(alloc, &mut tree, place.words, &mut out, &mut err))
+    let failures = tree.failures();
+    let status = execute(alloc, &mut tree, place.words, &mut out, &mut err);
+    if status == 2 && tree.failures() > failures {
+        tell_failure(rt, &tree);
+    }
+    Ok(status)
+}
+
+/// Says where the system failed last, and why, behind all else. Where memory is refused for it the line is left out.
+fn tell_failure(rt: &HostRuntime, tree: &FolderTree<&HostRuntime>) {
+    let Some(fault) = tree.last_fault() else {
+        return;
+    };
+    if let Ok(told) = fault.tell(rt.alloc()) {
+        let _ = eprintln!(rt; "  {told}");
+    }
 }
 
 /// What cannot even be read of the words, or made room for, and that another program is in the way, is told as a refusal.

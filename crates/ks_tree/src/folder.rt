@@ -9,6 +9,7 @@ ghost use Rattle.std.specs.FinMap as map;
 ghost use Rattle.ks_tree.specs.Files.{HasRisen};
 ghost use Rattle.ks_tree.specs.Folder.{place_of};
 
+use crate::folder_fault::FolderFault;
 use crate::new_file::write_new;
 use crate::{Claim, Tree, TreeFault};
 use ks_symbols::MAX_BYTES;
@@ -26,6 +27,8 @@ pub struct FolderTree<R: Files> {
     files: R,
     root: String,
     failures: u64,
+    /// What failed last, where something can be said of it.
+    last_fault: Option<FolderFault>,
     kept: Option<Kept<R::File>>,
     /// The file that was written last, claimed until it is moved or another one is written.
     written: Option<R::File>,
@@ -55,6 +58,15 @@ fn has_an_end(found: &Metadata) -> bool {
     found.is_file() || kind.is_block_device() || is_null
 }
 
+/// Why such a file isn't read.
+fn without_an_end(found: &Metadata) -> io::Error {
+    if found.is_dir() {
+        io::Error::new(ErrorKind::IsADirectory, "Is a directory")
+    } else {
+        io::Error::new(ErrorKind::InvalidInput, "Not a regular file")
+    }
+}
+
 /// The number of `/dev/null`.
 const NULL_DEVICE: u64 = 0x103;
 
@@ -63,7 +75,7 @@ const NULL_DEVICE: u64 = 0x103;
 fn read_bytes<R: Files>(files: &R, alloc: Global, place: &str) -> io::Result<Option<Vec<u8>>> {
     let found = fs::metadata(files, place)?;
     if !has_an_end(&found) {
-        return Err(io::Error::from(ErrorKind::InvalidInput));
+        return Err(without_an_end(&found));
     }
     let limit = MAX_BYTES as u64;
     if found.len() > limit {
@@ -148,6 +160,7 @@ where
             files,
             root,
             failures: 0,
+            last_fault: None,
             kept: None,
             written: None,
         }
@@ -160,6 +173,11 @@ where
         self.failures
     }
 
+    /// What failed last, or `None` where nothing has failed, or nothing can be said of it for want of memory.
+    pub fn last_fault(&self) -> Option<&FolderFault> {
+        self.last_fault.as_ref()
+    }
+
     /// Counts a failure of the system.
     fn device(&mut self) -> TreeFault
         ensures device { result ≡ TreeFault.Device }
@@ -167,21 +185,23 @@ where
         ensures counted { self.new.failures ≡ min (self.old.failures + 1) 18446744073709551615 }
     {
         self.failures = self.failures.saturating_add(1);
+        self.last_fault = None;
         TreeFault::Device
     }
 
-    /// The fault that an error of the system makes.
-    fn fault(&mut self, error: &io::Error) -> TreeFault
+    /// The fault that an error of the system at a path makes.
+    fn fault(&mut self, alloc: Global, path: &[u8], error: &io::Error) -> TreeFault
         ensures later { self.old.failures ≤ self.new.failures }
         ensures cause { result ≡ TreeFault.Device → HasRisen self.old.failures self.new.failures }
         ensures uncounted { result ≡ TreeFault.OutOfMemory → self.new.failures ≡ self.old.failures }
         ensures never { result ≡ TreeFault.TooLarge → ⊥ }
     {
         if is_refused_memory(error) {
-            TreeFault::OutOfMemory
-        } else {
-            self.device()
+            return TreeFault::OutOfMemory;
         }
+        let fault = self.device();
+        self.last_fault = FolderFault::new(alloc, path, error);
+        fault
     }
 
     /// Where the path stands in the system, or `None` where it isn't text.
@@ -214,7 +234,7 @@ where
         match fs::open(&self.files, place.as_str()) {
             Ok(file) => Ok(Some(file)),
             Err(error) if error.kind() == ErrorKind::NotFound => Ok(None),
-            Err(error) => Err(self.fault(&error)),
+            Err(error) => Err(self.fault(alloc, path, &error)),
         }
     }
 
@@ -244,7 +264,7 @@ where
         };
         match keep(alloc, earlier, path, file) {
             Ok(kept) => Ok(Some(kept)),
-            Err(error) => Err(self.fault(&error)),
+            Err(error) => Err(self.fault(alloc, path, &error)),
         }
     }
 }
@@ -267,7 +287,7 @@ where
             Ok(Some(bytes)) => Ok(Some(bytes)),
             Ok(None) => Err(TreeFault::TooLarge),
             Err(error) if error.kind() == ErrorKind::NotFound => Ok(None),
-            Err(error) => Err(self.fault(&error)),
+            Err(error) => Err(self.fault(alloc, path, &error)),
         }
     }
 
@@ -287,7 +307,7 @@ where
                 self.kept = Some(kept);
                 Ok(Some(len))
             }
-            Err(error) => Err(self.fault(&error)),
+            Err(error) => Err(self.fault(alloc, path, &error)),
         }
     }
 
@@ -302,20 +322,20 @@ where
                 self.written = Some(file);
                 Ok(())
             }
-            Err(error) => Err(self.fault(&error)),
+            Err(error) => Err(self.fault(alloc, path, &error)),
         }
     }
 
     fn rename(&mut self, alloc: Global, from: &[u8], to: &[u8]) -> Result<(), TreeFault> {
         self.kept = None;
-        let (Some(from), Some(to)) = (self.place(alloc, from)?, self.place(alloc, to)?) else {
+        let (Some(old), Some(new)) = (self.place(alloc, from)?, self.place(alloc, to)?) else {
             return Err(self.device());
         };
-        let outcome = fs::rename(&self.files, from.as_str(), to.as_str());
+        let outcome = fs::rename(&self.files, old.as_str(), new.as_str());
         self.written = None;
         match outcome {
             Ok(()) => Ok(()),
-            Err(error) => Err(self.fault(&error)),
+            Err(error) => Err(self.fault(alloc, to, &error)),
         }
     }
 }

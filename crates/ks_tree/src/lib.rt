@@ -3,6 +3,7 @@
 
 mod fault;
 mod folder;
+mod folder_fault;
 mod fuse;
 mod memory;
 mod new_file;
@@ -13,6 +14,7 @@ mod tree;
 
 pub use fault::{TreeError, TreeFault};
 pub use folder::FolderTree;
+pub use folder_fault::FolderFault;
 pub use fuse::{FuseMode, FuseTree};
 pub use memory::{FilesIter, MemoryTree};
 pub use new_file::Claim;

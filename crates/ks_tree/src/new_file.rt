@@ -63,7 +63,12 @@ where
             Err(error) => return Err(error),
         }
     }
-    Err(io::Error::from(ErrorKind::ResourceBusy))
+    Err(claimed())
+}
+
+/// That another program has claimed what stands at a place.
+fn claimed() -> io::Error {
+    io::Error::new(ErrorKind::ResourceBusy, "Another program is writing it")
 }
 
 /// Makes the folders above a place.
@@ -92,7 +97,7 @@ where
 {
     let kind = fs::symlink_metadata(files, place)?.file_type();
     if kind.is_block_device() || kind.is_char_device() {
-        return Err(io::Error::from(ErrorKind::ResourceBusy));
+        return Err(io::Error::new(ErrorKind::ResourceBusy, "A device stands there"));
     }
     if kind.is_dir() {
         return fs::remove_dir(files, place);
@@ -118,7 +123,7 @@ where
         return fs::remove_file(files, place);
     };
     if !file.claim() {
-        return Err(io::Error::from(ErrorKind::ResourceBusy));
+        return Err(claimed());
     }
     // Before it was claimed it may have been moved, and a file of another program may stand here.
     let (file, found) = (file.metadata()?, fs::symlink_metadata(files, place)?);

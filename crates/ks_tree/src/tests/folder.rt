@@ -2,6 +2,7 @@
 use super::{STEPS, Step, run};
 use crate::*;
 use ks_symbols::MAX_BYTES;
+use std::alloc::{AllocError, Global};
 use std::fs::{OpenFile, OpenOptions};
 use std::io::Write;
 use std::os::unix::fs::{MetadataExt, PermissionsExt, symlink};
@@ -228,12 +229,48 @@ fn failures_are_counted(rt: HostRuntime) -> Result<(), Fail> {
         Some(TreeFault::Device),
         "not text"
     );
+    assert!(rt; tree.last_fault().is_none(), "no path to tell");
     assert_eq!(rt;
         tree.rename(alloc, b"none", b"some"),
         Err(TreeFault::Device),
         "no file to move"
     );
     assert_eq!(rt; tree.failures(), 11);
+    fs::remove_dir_all(&rt, root.as_str())?;
+    Ok(())
+}
+
+/// What is told of the last failure.
+fn told(alloc: Global, tree: &FolderTree<&HostRuntime>) -> Result<String, AllocError> {
+    match tree.last_fault() {
+        Some(fault) => fault.tell(alloc),
+        None => String::from_str(alloc, "none"),
+    }
+}
+
+#[test]
+fn the_last_failure_is_told(rt: HostRuntime) -> Result<(), Fail> {
+    let alloc = rt.alloc();
+    let root = fresh_folder(&rt, "told")?;
+    let mut tree = FolderTree::new(&rt, root.clone()?);
+    tree.write(alloc, b"file", b"bytes")?;
+    tree.write(alloc, b"folder/file", b"bytes")?;
+    symlink(&rt, "loop", format!(in alloc; "{root}/loop")?.as_str())?;
+    assert!(rt; tree.last_fault().is_none(), "nothing has failed");
+    let rows = [
+        ("folder", "folder: Is a directory"),
+        ("file/below", "file/below: Not a directory"),
+        ("loop", "loop: Too many levels of symbolic links"),
+    ];
+    assert!(rt; tree.read(alloc, b"folder").is_err());
+    assert_eq!(rt; told(alloc, &tree)?.as_str(), "folder: Is a directory");
+    for (path, want) in rows {
+        assert_eq!(rt;
+            tree.read_at(alloc, path.as_bytes(), 0, &mut [0; 4]).err(),
+            Some(TreeFault::Device)
+        );
+        assert_eq!(rt; told(alloc, &tree)?.as_str(), want);
+    }
     fs::remove_dir_all(&rt, root.as_str())?;
     Ok(())
 }

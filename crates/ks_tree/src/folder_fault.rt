@@ -1,0 +1,42 @@
+//! What the system said of a failure, for the user: no clause speaks of it. Without it `30 Device` would leave the user to
+//! guess which file it was, and why.
+use std::alloc::{AllocError, Global};
+use std::io;
+
+/// A failure of the system: at which path of the tree, and why.
+#[derive(Drop)]
+pub struct FolderFault {
+    path: String,
+    error: io::Error,
+}
+
+/// What stands behind the system's words in the text of an error.
+const NUMBER: &str = " (os error ";
+
+impl FolderFault {
+    /// The failure at a path, or `None` where memory is refused for it or the path isn't text.
+    pub(crate) fn new(alloc: Global, path: &[u8], error: &io::Error) -> Option<FolderFault> {
+        let path = str::from_utf8(path).ok()?;
+        Some(FolderFault {
+            path: String::from_str(alloc, path).ok()?,
+            error: *error,
+        })
+    }
+
+    /// The path and the reason, in the system's words: `a/b.h: Permission denied`.
+    pub fn tell(&self, alloc: Global) -> Result<String, AllocError> {
+        let path = self.path.as_str();
+        let error = self.error;
+        let words = format!(in alloc; "{error}")?;
+        let reason = without_number(words.as_str());
+        format!(in alloc; "{path}: {reason}")
+    }
+}
+
+/// The text of an error without the system's number for it.
+fn without_number(words: &str) -> &str {
+    match words.split_once(NUMBER) {
+        Some((reason, _)) => reason,
+        None => words,
+    }
+}

@@ -1,10 +1,19 @@
 -- The actions of lines, from a place on.
-use Rattle.std.proofs.Common.{◌≡◌, ◌∙◌, ◌<◌, ◌+◌, ℕ, suc, List, [], ◌∷◌, ◌++◌, Result, Ok, Err, map, drop, length, get_or, refl, ap, subst, sym, arith, drop-cons, append_assoc}
-use Rattle.ks_tree.specs.Files.{Files}
+use Rattle.std.proofs.Common.{◌≡◌, ◌∙◌, ◌<◌, ◌≤◌, ◌+◌, ℕ, true, false, suc, List, [], ◌∷◌, ◌++◌, Option, Some, None, IsSome, take, Result, Ok, Err, map, drop, length, get_or, refl, ap, subst, sym, arith, drop-cons, append_assoc, bytes_eq, true≢false}
+use Rattle.std.specs.List.{All}
+use Rattle.std.proofs.lemmas.List.{append-nil, drop_all, take_more}
+use Rattle.std.proofs.lemmas.List.Elements.{All-append, All-cons, All-nil, All-weaker}
+use Rattle.std.specs.FinMap as map_of
+use Rattle.std.specs.Cmp.Lexicographic.{bytes_decides}
+use Rattle.ks_tree.specs.Files.{Files, SameBut, content}
 use Rattle.ks_engine.specs.declared.error.EngineError.{EngineError}
 use Rattle.ks_engine.specs.Actions.{Action}
+use Rattle.ks_engine.specs.Actions as asked
 use Rattle.ks_engine.specs.Recording.{followed}
-use Rattle.ks_script.specs.Script.{Line}
+use Rattle.ks_engine.specs.Refusals.{and_then}
+use Rattle.ks_script.specs.Script.{Line, Sync, Record, Stale}
+use Rattle.ks_commands.specs.Inputs.{Texts, given}
+use Rattle.ks_commands.specs.Kept.{AreGiven, AreKept, IsKept}
 use Rattle.ks_commands.specs.Scripts.{action_at, actions_at}
 
 -- actions in front of an answer
@@ -16,25 +25,100 @@ behind_next : (front : List Action) (a : Action) (rest : Result (List Action) En
 behind_next front a (Ok actions) = ap (λ l. Ok l) (sym (append_assoc front (a ∷ []) actions))
 behind_next front a (Err e) = refl
 
-lines_from : {X : Type 0} (files : Files) (f : X → Line) (xs : List X) (i : ℕ) (x : X) → i < length xs → x ≡ get_or xs i x
-    → actions_at files (map f (drop i xs)) ≡ followed (action_at files (f x)) (actions_at files (map f (drop (i + 1) xs)))
-lines_from files f xs i x within at =
+lines_from : {X : Type 0} (files : Files) (f : X → Line) (xs : List X) (i : ℕ) (d : X) → i < length xs
+    → actions_at files (map f (drop i xs)) ≡ followed (action_at files (f (get_or xs i d))) (actions_at files (map f (drop (i + 1) xs)))
+lines_from files f xs i d within =
     let next : suc i ≡ i + 1 = omega arith in
-    subst (λ (j : ℕ). actions_at files (map f (drop i xs)) ≡ followed (action_at files (f x)) (actions_at files (map f (drop j xs)))) next
-    (ap (λ ys. actions_at files (map f ys)) (drop-cons xs i x within) ∙ ap (λ y. followed (action_at files (f y)) (actions_at files (map f (drop (suc i) xs)))) (sym at))
+    subst (λ (j : ℕ). actions_at files (map f (drop i xs)) ≡ followed (action_at files (f (get_or xs i d))) (actions_at files (map f (drop j xs)))) next
+    (ap (λ ys. actions_at files (map f ys)) (drop-cons xs i d within))
 
-pub actions_next : {X : Type 0} (files : Files) (f : X → Line) (xs : List X) (i : ℕ) (x : X) (front : List Action) (a : Action) (all : Result (List Action) EngineError)
-    → i < length xs → x ≡ get_or xs i x → action_at files (f x) ≡ Ok a → behind front (actions_at files (map f (drop i xs))) ≡ all
+pub actions_next : {X : Type 0} (files : Files) (f : X → Line) (xs : List X) (i : ℕ) (d : X) (front : List Action) (a : Action) (all : Result (List Action) EngineError)
+    → i < length xs → action_at files (f (get_or xs i d)) ≡ Ok a → behind front (actions_at files (map f (drop i xs))) ≡ all
     → behind (front ++ a ∷ []) (actions_at files (map f (drop (i + 1) xs))) ≡ all
-actions_next files f xs i x front a all within at is before =
+actions_next files f xs i d front a all within is before =
     let rest = actions_at files (map f (drop (i + 1) xs)) in
-    sym (behind_next front a rest) ∙ sym (ap (behind front) (lines_from files f xs i x within at ∙ ap (λ r. followed r rest) is)) ∙ before
+    sym (behind_next front a rest) ∙ sym (ap (behind front) (lines_from files f xs i d within ∙ ap (λ r. followed r rest) is)) ∙ before
 
-pub actions_refused : {X : Type 0} (files : Files) (f : X → Line) (xs : List X) (i : ℕ) (x : X) (front : List Action) (e : EngineError) (all : Result (List Action) EngineError)
-    → i < length xs → x ≡ get_or xs i x → action_at files (f x) ≡ Err e → behind front (actions_at files (map f (drop i xs))) ≡ all → all ≡ Err e
-actions_refused files f xs i x front e all within at is before =
-    sym before ∙ ap (behind front) (lines_from files f xs i x within at ∙ ap (λ r. followed r (actions_at files (map f (drop (i + 1) xs)))) is)
+pub actions_refused : {X : Type 0} (files : Files) (f : X → Line) (xs : List X) (i : ℕ) (d : X) (front : List Action) (e : EngineError) (all : Result (List Action) EngineError)
+    → i < length xs → action_at files (f (get_or xs i d)) ≡ Err e → behind front (actions_at files (map f (drop i xs))) ≡ all → all ≡ Err e
+actions_refused files f xs i d front e all within is before =
+    sym before ∙ ap (behind front) (lines_from files f xs i d within ∙ ap (λ r. followed r (actions_at files (map f (drop (i + 1) xs)))) is)
+
+pub actions_end : {X : Type 0} (files : Files) (f : X → Line) (xs : List X) (i : ℕ) (front : List Action) (all : Result (List Action) EngineError) → length xs ≤ i
+    → behind front (actions_at files (map f (drop i xs))) ≡ all → all ≡ Ok front
+actions_end files f xs i front all past before =
+    sym before ∙ ap (λ ys. behind front (actions_at files (map f ys))) (drop_all i xs past) ∙ ap (λ l. Ok l) (append-nil front)
 
 pub actions_begin : (all : Result (List Action) EngineError) → behind [] all ≡ all
 actions_begin (Ok actions) = refl
 actions_begin (Err e) = refl
+
+-- ---- what is kept, and one file more
+
+some_of : (o : Option (List ℕ)) → IsSome o → (b : List ℕ) × (o ≡ Some b)
+some_of None is = absurd cc
+some_of (Some b) is = (b, refl)
+
+some_is : (o : Option (List ℕ)) (b : List ℕ) → o ≡ Some b → IsSome o
+some_is None b is = cc
+some_is (Some c) b is = refl
+
+some_same : (o : Option (List ℕ)) (a b : List ℕ) → o ≡ Some a → o ≡ Some b → a ≡ b
+some_same o a b p q = let e : Some a ≡ Some b = sym p ∙ q in cc
+
+none_some : (o : Option (List ℕ)) (b : List ℕ) → o ≡ None → o ≡ Some b → ⊥
+none_some None b p q = cc
+none_some (Some c) b p q = cc
+
+-- where it stands, or elsewhere
+beside : (p q : List ℕ) (old new : Files) (P : Option (List ℕ) → Type 0) → SameBut p old new → (q ≡ p → P (content new q)) → (P (content old q)) → P (content new q)
+beside p q old new P others here there = (elim (bytes_eq p q) as (λ b. bytes_eq p q ≡ b → P (content new q)) [
+  | true ↦ λ t. here (sym ((bytes_decides p q).0 t))
+  | false ↦ λ f. subst P (sym (others q (λ e. true≢false (sym ((bytes_decides p q).1 (sym e)) ∙ f)))) there
+]) refl
+
+pub given_more : (files old new : Files) (p b : List ℕ) → given files p ≡ Ok b → content new p ≡ Some b → SameBut p old new → AreGiven files old → AreGiven files new
+given_more files old new p b is at others are = λ q bytes.
+    beside p q old new (λ o. o ≡ Some bytes → given files q ≡ Ok bytes) others
+    (λ same found. ap (given files) same ∙ is ∙ ap (λ x. Ok x) (some_same (content new p) b bytes at (ap (content new) (sym same) ∙ found)))
+    (are q bytes)
+
+pub kept_more : (old new : Files) (p b q : List ℕ) → content new p ≡ Some b → SameBut p old new → IsKept old q → IsKept new q
+kept_more old new p b q at others is = beside p q old new IsSome others (λ same. some_is _ b (ap (content new) same ∙ at)) is
+
+abbrev two : List ℕ → List ℕ → Texts
+two kconfig dotconfig = record { kconfig = kconfig; dotconfig = dotconfig }
+
+abbrev asked_of : Result Texts EngineError → Result Action EngineError
+asked_of texts = and_then texts (λ t. Ok (asked.Sync t.kconfig t.dotconfig))
+
+sync_action : (files : Files) (k d a b : List ℕ) → given files k ≡ Ok a → given files d ≡ Ok b → action_at files (Sync k d) ≡ Ok (asked.Sync a b)
+sync_action files k d a b first second =
+    ap (λ r. asked_of (and_then r (λ kconfig. and_then (given files d) (λ dotconfig. Ok (two kconfig dotconfig))))) first
+    ∙ ap (λ r. asked_of (and_then r (λ dotconfig. Ok (two a dotconfig)))) second
+
+-- the action of a line whose files are kept
+pub kept_action : (files kept : Files) (line : Line) → AreGiven files kept → AreKept kept line → (a : Action) × (action_at files line ≡ Ok a)
+kept_action files kept (Sync k d) given are =
+    let has_k = some_of _ are.0 in
+    let has_d = some_of _ are.1 in
+    (asked.Sync has_k.0 has_d.0, sync_action files k d has_k.0 has_d.0 (given k has_k.0 has_k.1) (given d has_d.0 has_d.1))
+kept_action files kept (Record d t c) given are = (asked.Record d t c, refl)
+kept_action files kept (Stale t) given are = (asked.Stale t, refl)
+
+are_more : (old new : Files) → ((q : List ℕ) → IsKept old q → IsKept new q) → (line : Line) → AreKept old line → AreKept new line
+are_more old new grows (Sync k d) are = (grows k are.0, grows d are.1)
+are_more old new grows (Record d t c) are = are
+are_more old new grows (Stale t) are = are
+
+-- the lines up to a place, and the one there
+pub kept_next : {X : Type 0} (f : X → Line) (old new : Files) (xs : List X) (i : ℕ) (d : X) → i < length xs → ((q : List ℕ) → IsKept old q → IsKept new q)
+    → All (λ y. AreKept old (f y)) (take i xs) → AreKept new (f (get_or xs i d)) → All (λ y. AreKept new (f y)) (take (i + 1) xs)
+kept_next f old new xs i d within grows are is =
+    subst (All (λ y. AreKept new (f y))) (sym (take_more xs i d within))
+    (All-append (λ y. AreKept new (f y)) (take i xs) (get_or xs i d ∷ [])
+    (All-weaker (λ y. AreKept old (f y)) (λ y. AreKept new (f y)) (λ y. are_more old new grows (f y)) (take i xs) are)
+    (All-cons (λ y. AreKept new (f y)) (get_or xs i d) [] is (All-nil (λ y. AreKept new (f y)))))
+
+pub none_kept : (files kept : Files) → kept ≡ map_of.empty → AreGiven files kept
+none_kept files kept is = λ path bytes at. absurd (none_some (content kept path) bytes (ap (λ f. content f path) is ∙ map_of.get-empty _ path) at)

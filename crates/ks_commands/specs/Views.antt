@@ -1,9 +1,5 @@
 -- Values of the code as the definitions have them.
 use Rattle.std.specs.Prelude.{option_map}
-use Rattle.ks_engine.specs.Actions.{Action}
-use Rattle.ks_engine.specs.Actions as asked
-use Rattle.ks_commands.specs.declared.batch.Loaded.{Loaded}
-use Rattle.ks_commands.specs.declared.batch.Loaded.TheVariants as loaded
 use Rattle.ks_commands.specs.declared.inputs.Inputs.{Inputs as InputValues}
 use Rattle.ks_commands.specs.declared.inputs.Texts.{Texts as TextValues}
 use Rattle.ks_commands.specs.Inputs.{Inputs, Texts, with_old}
@@ -13,9 +9,3 @@ seen_texts t = record { kconfig = t.kconfig.items; dotconfig = t.dotconfig.items
 
 abbrev pub seen_inputs : InputValues → Inputs
 seen_inputs i = with_old (seen_texts i.texts) (option_map (λ v. v.items) i.old)
-
--- the action of a command whose files are read
-abbrev pub loaded_action : Loaded → Action
-loaded_action (loaded.Sync texts) = asked.Sync texts.kconfig.items texts.dotconfig.items
-loaded_action (loaded.Record depfile target command) = asked.Record depfile.now target.now command.now
-loaded_action (loaded.Stale target) = asked.Stale target.now

@@ -1,123 +1,162 @@
 //! Running a script: all that it names is read before its first command runs.
 //!
-//! So a script that is misspelt, or that names a missing file, changes nothing.
-ghost use Rattle.std.specs.Prelude.{◌≡◌, IfOk, Err, IsErrOf, length, map};
+//! So a script that is misspelt, or that names a missing file, changes nothing. A file that several lines name is read and
+//! kept once, and their commands lend it.
+ghost use Rattle.std.specs.Prelude.{◌≡◌, ◌⊎◌, ℕ, List, IfErr, IfOk, OnOk, Ok, Err, Some, IsErrOf, length, map};
+ghost use Rattle.std.specs.List.{All};
 ghost use Rattle.ks_tree.specs.Frames.{Reads};
 ghost use Rattle.ks_engine.specs.Actions.{action};
 ghost use Rattle.ks_engine.specs.Follows.{GoesOn, IsSame};
-ghost use Rattle.ks_engine.specs.Refusals.{Answers};
+ghost use Rattle.ks_engine.specs.Refusals.{IsGivenUp};
 ghost use Rattle.ks_engine.specs.Runs.{Run};
 ghost use Rattle.ks_engine.specs.declared.commands.Reply.{Reply};
 ghost use Rattle.ks_engine.specs.declared.error.EngineError.TheVariants.{Device};
-ghost use Rattle.ks_tree.specs.Files.{HasRisen};
+ghost use Rattle.ks_tree.specs.Files.{Files, HasRisen, content};
 ghost use Rattle.ks_script.specs.Script.{seen_line};
 ghost use Rattle.ks_commands.specs.declared.refusal.Refusal.TheVariants.{Engine};
 ghost use Rattle.ks_commands.specs.Performed.{EndsBatch, RunsAll, by_files, by_histories};
-ghost use Rattle.ks_commands.specs.Scripts.{AnswersScript, action_at, actions_at, script_actions};
-ghost use Rattle.ks_commands.specs.Views.{loaded_action};
+ghost use Rattle.ks_commands.specs.Inputs.{given};
+ghost use Rattle.ks_commands.specs.Kept.{AreGiven, AreKept, IsKept};
+ghost use Rattle.ks_commands.specs.Scripts.{HasGivenUp, action_at, actions_at, of_engine, script_actions};
 
-use crate::inputs::{Texts, read_given, read_texts};
+use crate::inputs::read_given;
 use crate::refusal::Refusal;
 use crate::replies::tell_replies;
 use crate::status::Outcome;
 use ks_engine::{Command, EngineError, run};
 use ks_script::{ScriptLine, read_script};
-use ks_tree::Tree;
+use ks_tree::{MemoryTree, Tree};
 use std::alloc::{AllocError, Global};
 
-/// A command of a script, with the texts of the files that a synchronisation names.
+/// The lines of a script, and each file that they name once.
 #[derive(Drop)]
-enum Loaded<'a> {
-    Sync(Texts),
-    Record {
-        depfile: &'a [u8],
-        target: &'a [u8],
-        command: &'a [u8],
-    },
-    Stale {
-        target: &'a [u8],
-    },
+struct Loaded<'a> {
+    lines: Vec<ScriptLine<'a>>,
+    kept: MemoryTree,
 }
 
-/// Reads the files that a line names.
-fn load<'a, T: Tree>(
+/// Keeps the file at a path, unless it is kept already.
+fn keep_file<T: Tree>(
     alloc: Global,
     tree: &mut T,
-    line: &ScriptLine<'a>,
-) -> Result<Loaded<'a>, EngineError>
+    kept: &mut MemoryTree,
+    path: &[u8],
+) -> Result<(), EngineError>
+    requires given { T.is_honest → AreGiven (T.files tree.old) kept.old }
     ensures reads { Reads T.Tree tree.old tree.new (IsErrOf result EngineError.Device) }
-    ensures action { T.is_honest → Answers (action_at (T.files tree.old) (seen_line line.now)) loaded_action result }
+    ensures given { T.is_honest → AreGiven (T.files tree.old) kept.new }
+    ensures here { OnOk result (IsKept kept.new path.now) }
+    ensures grows { (q : List ℕ) → IsKept kept.old q → IsKept kept.new q }
+    ensures refused { T.is_honest → IfErr result (λ e. IsGivenUp e ⊎ (given (T.files tree.old) path.now ≡ Err e)) }
+{
+    if kept.get(path).is_some() {
+        return Ok(());
+    }
+    let text = read_given(alloc, tree, path)?;
+    let path = path.to_vec(alloc)?;
+    kept.put(path, text)?;
+    Ok(())
+}
+
+/// Keeps the files that a line names.
+fn keep_files<T: Tree>(
+    alloc: Global,
+    tree: &mut T,
+    kept: &mut MemoryTree,
+    line: &ScriptLine<'_>,
+) -> Result<(), EngineError>
+    requires given { T.is_honest → AreGiven (T.files tree.old) kept.old }
+    ensures reads { Reads T.Tree tree.old tree.new (IsErrOf result EngineError.Device) }
+    ensures given { T.is_honest → AreGiven (T.files tree.old) kept.new }
+    ensures here { OnOk result (AreKept kept.new (seen_line line.now)) }
+    ensures grows { (q : List ℕ) → IsKept kept.old q → IsKept kept.new q }
+    ensures refused { T.is_honest → IfErr result (λ e. IsGivenUp e ⊎ (action_at (T.files tree.old) (seen_line line.now) ≡ Err e)) }
 {
     match line {
         ScriptLine::Sync(kconfig, dotconfig) => {
-            Ok(Loaded::Sync(read_texts(alloc, tree, *kconfig, *dotconfig)?))
+            keep_file(alloc, tree, kept, *kconfig)?;
+            keep_file(alloc, tree, kept, *dotconfig)
         }
-        ScriptLine::Record(depfile, target, command) => Ok(Loaded::Record {
-            depfile: *depfile,
-            target: *target,
-            command: *command,
-        }),
-        ScriptLine::Stale(target) => Ok(Loaded::Stale { target: *target }),
+        ScriptLine::Record(..) | ScriptLine::Stale(_) => Ok(()),
     }
 }
 
-/// Reads the files that the lines name, in order.
-fn load_all<'a, T: Tree>(
+/// Reads the files that the lines name, in order, and each of them once.
+fn named_files<T: Tree>(
     alloc: Global,
     tree: &mut T,
-    lines: &[ScriptLine<'a>],
-) -> Result<Vec<Loaded<'a>>, EngineError>
+    lines: &[ScriptLine<'_>],
+) -> Result<MemoryTree, EngineError>
     ensures reads { Reads T.Tree tree.old tree.new (IsErrOf result EngineError.Device) }
-    ensures actions { T.is_honest → Answers (actions_at (T.files tree.old) (map seen_line lines.now)) (λ all. map loaded_action all.items) result }
+    ensures given { T.is_honest → IfOk result (AreGiven (T.files tree.old)) }
+    ensures here { IfOk result (λ kept. All (λ line. AreKept kept (seen_line line)) lines.now) }
+    ensures refused { T.is_honest → IfErr result (λ e. IsGivenUp e ⊎ (actions_at (T.files tree.old) (map seen_line lines.now) ≡ Err e)) }
 {
-    let mut all = Vec::new(alloc);
+    let mut kept = MemoryTree::new(alloc);
     for line in lines {
-        all.push(load(alloc, tree, line)?)?;
+        keep_files(alloc, tree, &mut kept, line)?;
     }
-    Ok(all)
+    Ok(kept)
 }
 
-/// What a script asks for, with the files that it names.
+/// The lines of a script, with the files that they name.
 fn load_script<'a, T: Tree>(
     alloc: Global,
     tree: &mut T,
     script: &'a [u8],
-) -> Result<Vec<Loaded<'a>>, Refusal>
+) -> Result<Loaded<'a>, Refusal>
     ensures reads { Reads T.Tree tree.old tree.new (result ≡ Err (Engine Device)) }
-    ensures actions { T.is_honest → AnswersScript (script_actions (T.files tree.old) script.now) (λ all. map loaded_action all.items) result }
+    ensures given { T.is_honest → IfOk result (λ all. AreGiven (T.files tree.old) all.kept) }
+    ensures here { IfOk result (λ all. All (λ line. AreKept all.kept (seen_line line)) all.lines.items) }
+    ensures lines { T.is_honest → IfOk result (λ all.
+        script_actions (T.files tree.old) script.now ≡ of_engine (actions_at (T.files tree.old) (map seen_line all.lines.items))) }
+    ensures refused { T.is_honest → IfErr result (λ r. HasGivenUp r ⊎ (script_actions (T.files tree.old) script.now ≡ Err r)) }
 {
     let lines = read_script(alloc, script)?;
-    Ok(load_all(alloc, tree, &lines)?)
+    let kept = named_files(alloc, tree, &lines)?;
+    Ok(Loaded { lines, kept })
 }
 
-fn command<'a>(loaded: &'a Loaded<'_>) -> Command<'a>
-    ensures { action result ≡ loaded_action loaded.now }
+/// The bytes of a kept file.
+fn kept_file<'a>(kept: &'a MemoryTree, path: &[u8]) -> &'a [u8]
+    requires { IsKept kept.now path.now }
+    ensures { content kept.now path.now ≡ Some result.now }
 {
-    match loaded {
-        Loaded::Sync(texts) => Command::Sync {
-            kconfig: texts.kconfig.as_slice(),
-            dotconfig: texts.dotconfig.as_slice(),
+    kept.get(path).unwrap()
+}
+
+/// The command of a line, which lends its words and the files that it names.
+fn command<'a>(line: &ScriptLine<'a>, kept: &'a MemoryTree) -> Command<'a>
+    requires { AreKept kept.now (seen_line line.now) }
+    ensures { (files : Files) → AreGiven files kept.now → action_at files (seen_line line.now) ≡ Ok (action result) }
+{
+    match line {
+        ScriptLine::Sync(kconfig, dotconfig) => Command::Sync {
+            kconfig: kept_file(kept, *kconfig),
+            dotconfig: kept_file(kept, *dotconfig),
         },
-        Loaded::Record {
-            depfile,
-            target,
-            command,
-        } => Command::Record {
+        ScriptLine::Record(depfile, target, command) => Command::Record {
             depfile: *depfile,
             target: *target,
             command: *command,
         },
-        Loaded::Stale { target } => Command::Stale { target: *target },
+        ScriptLine::Stale(target) => Command::Stale { target: *target },
     }
 }
 
-/// The commands, which lend the texts.
-fn commands<'a>(alloc: Global, all: &'a [Loaded<'_>]) -> Result<Vec<Command<'a>>, AllocError>
-    ensures { IfOk result (λ commands. map action commands.items ≡ map loaded_action all.now) }
+/// The commands of lines, which are let go.
+fn commands<'a>(
+    alloc: Global,
+    lines: Vec<ScriptLine<'a>>,
+    kept: &'a MemoryTree,
+) -> Result<Vec<Command<'a>>, AllocError>
+    requires { All (λ line. AreKept kept.now (seen_line line)) lines.items }
+    ensures { (files : Files) → AreGiven files kept.now
+        → IfOk result (λ commands. actions_at files (map seen_line lines.entry.items) ≡ Ok (map action commands.items)) }
 {
-    let mut commands = Vec::new(alloc);
-    for loaded in all {
-        commands.push(command(loaded))?;
+    let mut commands = Vec::with_capacity(alloc, lines.len())?;
+    for line in &lines {
+        commands.push(command(line, kept))?;
     }
     Ok(commands)
 }
@@ -149,7 +188,7 @@ pub(crate) fn run_script<T: Tree>(
     ensures cause { result ≡ Err (Engine Device) → HasRisen (T.failures tree.old) (T.failures tree.new) }
 {
     let script = read_given(alloc, tree, path)?;
-    let loaded = load_script(alloc, tree, &script)?;
-    let commands = commands(alloc, &loaded)?;
+    let Loaded { lines, kept } = load_script(alloc, tree, &script)?;
+    let commands = commands(alloc, lines, &kept)?;
     run_commands(alloc, tree, &commands)
 }

@@ -81,7 +81,7 @@ fn read_named<T: Tree>(
 }
 
 /// The two files of a synchronisation.
-pub(crate) fn read_texts<T: Tree>(
+fn read_texts<T: Tree>(
     alloc: Global,
     tree: &mut T,
     kconfig: &[u8],

@@ -1,6 +1,7 @@
-//! Previews from bytes to bytes: what they print, and why there is none.
+//! Previews from bytes to bytes: what they print, and why there is none; and scripts whose lines name files more than once.
 use super::*;
 use ks_symbols::SourceError;
+use ks_tree::MemoryTree;
 use std::alloc::{AllocError, Global};
 
 /// A title, a bool and a tristate.
@@ -103,6 +104,53 @@ fn refusals(rt: HostRuntime) -> Result<(), AllocError> {
     ] {
         let text = error.to_string(alloc)?;
         assert!(rt; text.as_str() == want);
+    }
+    Ok(())
+}
+
+/// The status of a script over a Kconfig and two `.config`s, and what it prints.
+fn batch(alloc: Global, script: &[u8]) -> Result<String, AllocError> {
+    let mut tree = MemoryTree::new(alloc);
+    let files: [(&[u8], &[u8]); 4] = [
+        (b"K", DEMO),
+        (b"c", b"CONFIG_A=y\n"),
+        (b"d", b"CONFIG_B=m\n"),
+        (b"S", script),
+    ];
+    for (path, bytes) in files {
+        tree.put(
+            Vec::from_slice(alloc, path)?,
+            Vec::from_slice(alloc, bytes)?,
+        )?;
+    }
+    let mut out: Vec<u8> = Vec::new(alloc);
+    let mut err: Vec<u8> = Vec::new(alloc);
+    let request = Request::Batch {
+        script: "S".to_string(alloc)?,
+    };
+    let status = perform(alloc, &mut tree, &request, &mut out, &mut err);
+    out.extend_from_slice(&err)?;
+    format!(in alloc; "{status}\n{}", String::from_utf8_lossy(alloc, &out)?)
+}
+
+#[test]
+#[rattlefmt::skip]
+fn scripts(rt: HostRuntime) -> Result<(), AllocError> {
+    let alloc = rt.alloc();
+    let rows: [(&str, &[u8], &str); 6] = [
+        ("one pair, three times", b"sync K c\nsync K c\nsync K c\n",
+            "0\nsync generation 1 touched 1 unknown 0\nsync generation 2 touched 0 unknown 0\nsync generation 3 touched 0 unknown 0\n"),
+        ("two pairs in turn", b"sync K c\nsync K d\nsync K c\n",
+            "0\nsync generation 1 touched 1 unknown 0\nsync generation 2 touched 2 unknown 0\nsync generation 3 touched 2 unknown 0\n"),
+        ("a .config that is the Kconfig of an earlier line", b"sync K c\nsync K K\n",
+            "2\nsync generation 1 touched 1 unknown 0\nrefused 7 NotAConfigLine line 1\n"),
+        ("a later line with a missing .config", b"sync K c\nsync K e\nsync f c\n", "2\nconfstamp: 40 MissingFile e\n"),
+        ("a later line with a missing Kconfig", b"sync K c\nsync f e\n", "2\nconfstamp: 40 MissingFile f\n"),
+        ("a directory of its own is another path", b"sync K c\nsync ./K c\n", "2\nconfstamp: 40 MissingFile ./K\n"),
+    ];
+    for (name, script, want) in rows {
+        let found = batch(alloc, script)?;
+        assert!(rt; found.as_str() == want, "{name}: {found}");
     }
     Ok(())
 }

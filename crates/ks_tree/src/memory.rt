@@ -1,14 +1,15 @@
-//! A tree in memory, on which tests and worked examples run. It is honest, and only memory can fail it.
-ghost use Rattle.std.specs.Prelude.{◌≡◌, ◌≤◌, length, ⊤};
+//! A tree in memory, on which tests and worked examples run, and in which a script's files are kept. It is honest, and only
+//! memory can fail it.
+ghost use Rattle.std.specs.Prelude.{◌≡◌, ◌≤◌, length, option_map, OnErr, OnOk, Some, ⊤};
 ghost use Rattle.std.specs.FinMap as map;
 ghost use Rattle.std.specs.Iterator.{item_count};
 ghost use Rattle.std.specs.Map.Iter.{TakesFirst};
-ghost use Rattle.ks_tree.specs.Files.{IsPieceRead};
+ghost use Rattle.ks_tree.specs.Files.{IsPieceRead, SameBut, content};
 ghost use Rattle.ks_tree.specs.Memory.{lent_file};
 
 use crate::{Tree, TreeFault};
 use ks_symbols::MAX_BYTES;
-use std::alloc::Global;
+use std::alloc::{AllocError, Global};
 use std::collections::BTreeMap;
 use std::collections::btree_map::Iter;
 use std::marker::Model;
@@ -81,6 +82,26 @@ impl MemoryTree {
             inner: self.files.iter(),
         }
     }
+
+    /// The bytes of a file, lent, or `None` where there is no file.
+    pub fn get(&self, path: &[u8]) -> Option<&[u8]>
+        ensures { option_map (λ b. b.now) result ≡ content self.now path.now }
+    {
+        match self.files.get(path) {
+            Some(bytes) => Some(bytes),
+            None => None,
+        }
+    }
+
+    /// Puts a file at a path, in the place of what was there.
+    pub fn put(&mut self, path: Vec<u8>, bytes: Vec<u8>) -> Result<(), AllocError>
+        ensures written { OnOk result (content self.new path.items ≡ Some bytes.items) }
+        ensures others { SameBut path.items self.old self.new }
+        ensures refused { OnErr result (self.new ≡ self.old) }
+    {
+        self.files.insert(path, bytes)?;
+        Ok(())
+    }
 }
 
 /// Copies the bytes from an offset on, as many as there is room for.
@@ -130,7 +151,7 @@ impl Tree for MemoryTree {
     fn write(&mut self, alloc: Global, path: &[u8], bytes: &[u8]) -> Result<(), TreeFault> {
         let path = path.to_vec(alloc)?;
         let bytes = bytes.to_vec(alloc)?;
-        self.files.insert(path, bytes)?;
+        self.put(path, bytes)?;
         Ok(())
     }
 

@@ -1,7 +1,12 @@
-use Rattle.std.proofs.Common.{◌≡◌, map, take}
+use Rattle.std.proofs.Common.{◌≡◌, map, drop}
+use Rattle.ks_tree.specs.Files.{Files}
 use Rattle.ks_engine.specs.Actions.{action}
-use Rattle.ks_commands.specs.Views.{loaded_action}
+use Rattle.ks_script.specs.Script.{seen_line}
+use Rattle.ks_commands.specs.Kept.{AreGiven}
+use Rattle.ks_commands.specs.Scripts.{actions_at}
+use Rattle.ks_commands.proofs.Loading.{behind}
 use Rattle.ks_commands.proofs.batch.commands.Given as goal
 
-abbrev pub invariant-loop-loaded : goal.invariant-loop-loaded
-invariant-loop-loaded l = map action l.commands.items ≡ map loaded_action (take l.loaded-index l.all)
+abbrev pub invariant-loop-line : goal.invariant-loop-line
+invariant-loop-line l = (files : Files) → AreGiven files l.kept
+    → behind (map action l.commands.items) (actions_at files (map seen_line (drop l.line-index l.line-items))) ≡ actions_at files (map seen_line l.line-items)

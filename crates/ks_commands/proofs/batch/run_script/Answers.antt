@@ -6,7 +6,7 @@ use Rattle.ks_engine.specs.Follows.{at}
 use Rattle.ks_engine.specs.Shows.{Shows}
 use Rattle.ks_commands.specs.declared.refusal.Refusal.TheVariants.{Engine}
 use Rattle.ks_commands.specs.Performed.{Runs}
-use Rattle.ks_commands.specs.Views.{loaded_action}
+use Rattle.ks_commands.specs.Scripts.{of_engine}
 use Rattle.ks_commands.proofs.Continuing.{run_follows, runs_all, script_missing, script_stopped, script_there}
 use Rattle.ks_commands.proofs.batch.run_script.Goals as goal
 
@@ -24,55 +24,59 @@ returns-in_err-script-clause-goes_on g c = λ honest h shows.
       subst (λ f. Shows f h) (sym same) shows,
     )
 
-pub returns-in_err-loaded-clause-files : goal.returns-in_err-loaded-clause-files
-returns-in_err-loaded-clause-files g c = λ honest.
-    let p = err_from_is_err_and c.from_residual-in_err-loaded.result c.from_residual-in_err-loaded.ensures.1 in
+pub returns-in_err-lines-clause-files : goal.returns-in_err-lines-clause-files
+returns-in_err-lines-clause-files g c = λ honest.
+    let p = err_from_is_err_and c.from_residual-in_err-lines.result c.from_residual-in_err-lines.ensures.1 in
     let same = c.in_ok-script.ensures.reads.unchanged honest in
     let there = c.in_ok-script.ensures.bytes honest ∙ ap (λ b. Ok b) (sym c.deref.ensures.value) in
-    let r = c.in_err-loaded.field-0.0 in
-    inl (c.in_err-loaded.ensures.reads.unchanged honest ∙ same, (r, script_stopped _ _ c.args.path.now _ r same there (c.in_err-loaded.ensures.actions honest), p.1 ∙ ap (λ r. Err r) p.2))
+    let r = c.in_err-lines.field-0.0 in
+    inl (c.in_err-lines.ensures.reads.unchanged honest ∙ same, (r, script_stopped _ _ c.args.path.now _ r same there (c.in_err-lines.ensures.refused honest), p.1 ∙ ap (λ r. Err r) p.2))
 
-pub returns-in_err-loaded-clause-goes_on : goal.returns-in_err-loaded-clause-goes_on
-returns-in_err-loaded-clause-goes_on g c = λ honest h shows.
-    let p = err_from_is_err_and c.from_residual-in_err-loaded.result c.from_residual-in_err-loaded.ensures.1 in
+pub returns-in_err-lines-clause-goes_on : goal.returns-in_err-lines-clause-goes_on
+returns-in_err-lines-clause-goes_on g c = λ honest h shows.
+    let p = err_from_is_err_and c.from_residual-in_err-lines.result c.from_residual-in_err-lines.ensures.1 in
     let same = c.in_ok-script.ensures.reads.unchanged honest in
-    let same_later = c.in_err-loaded.ensures.reads.unchanged honest ∙ same in
+    let same_later = c.in_err-lines.ensures.reads.unchanged honest ∙ same in
     let there = c.in_ok-script.ensures.bytes honest ∙ ap (λ b. Ok b) (sym c.deref.ensures.value) in
-    let r = c.in_err-loaded.field-0.0 in (
+    let r = c.in_err-lines.field-0.0 in (
       h,
-      inl ((same_later, refl), (r, script_stopped _ _ c.args.path.now _ r same there (c.in_err-loaded.ensures.actions honest), p.1 ∙ ap (λ r. Err r) p.2)),
+      inl ((same_later, refl), (r, script_stopped _ _ c.args.path.now _ r same there (c.in_err-lines.ensures.refused honest), p.1 ∙ ap (λ r. Err r) p.2)),
       subst (λ f. Shows f h) (sym same_later) shows,
     )
 
 pub returns-clause-files : goal.returns-clause-files
 returns-clause-files g c = λ honest.
+    let mid = g.T.Tree.files c.read_given.new.tree in
     let same = c.in_ok-script.ensures.reads.unchanged honest in
-    let same_later = c.in_ok-loaded.ensures.reads.unchanged honest ∙ same in
+    let same_later = c.in_ok-lines.ensures.reads.unchanged honest ∙ same in
     let there = c.in_ok-script.ensures.bytes honest ∙ ap (λ b. Ok b) (sym c.deref.ensures.value) in
-    let actions = map loaded_action c.in_ok-loaded.loaded.items in
-    let are = ap (map action) c.deref-3.ensures.value ∙ c.in_ok-commands.ensures ∙ ap (map loaded_action) c.deref-2.ensures.value in
+    let actions = map action c.in_ok-commands.commands.items in
+    let asked = c.in_ok-lines.ensures.lines honest ∙ ap of_engine (c.in_ok-commands.ensures mid (c.in_ok-lines.ensures.given honest)) in
+    let are = ap (map action) c.deref-2.ensures.value in
     inr (
       actions,
-      script_there _ _ c.args.path.now _ (Ok actions) same there (c.in_ok-loaded.ensures.actions honest),
+      script_there _ _ c.args.path.now _ (Ok actions) same there asked,
       runs_all _ _ _ (λ replies. length replies ≡ length actions) _ _ _ (λ unchanged. unchanged ∙ same_later)
-          (λ replies each. each ∙ sym (length-map c.deref-3.result.now action) ∙ ap length are) are (c.run_commands.ensures.files honest),
+          (λ replies each. each ∙ sym (length-map c.deref-2.result.now action) ∙ ap length are) are (c.run_commands.ensures.files honest),
     )
 
 pub returns-clause-goes_on : goal.returns-clause-goes_on
 returns-clause-goes_on g c = λ honest h shows.
     let failures = g.T.Tree.failures in
+    let mid = g.T.Tree.files c.read_given.new.tree in
     let same = c.in_ok-script.ensures.reads.unchanged honest in
-    let same_later = c.in_ok-loaded.ensures.reads.unchanged honest ∙ same in
+    let same_later = c.in_ok-lines.ensures.reads.unchanged honest ∙ same in
     let there = c.in_ok-script.ensures.bytes honest ∙ ap (λ b. Ok b) (sym c.deref.ensures.value) in
-    let actions = map loaded_action c.in_ok-loaded.loaded.items in
-    let are = ap (map action) c.deref-3.ensures.value ∙ c.in_ok-commands.ensures ∙ ap (map loaded_action) c.deref-2.ensures.value in
-    let later : failures c.args.tree.now ≤ failures c.load_script.new.tree = omega (arith, c.in_ok-script.ensures.reads.counted.later, c.in_ok-loaded.ensures.reads.counted.later) in
+    let actions = map action c.in_ok-commands.commands.items in
+    let asked = c.in_ok-lines.ensures.lines honest ∙ ap of_engine (c.in_ok-commands.ensures mid (c.in_ok-lines.ensures.given honest)) in
+    let are = ap (map action) c.deref-2.ensures.value in
+    let later : failures c.args.tree.now ≤ failures c.load_script.new.tree = omega (arith, c.in_ok-script.ensures.reads.counted.later, c.in_ok-lines.ensures.reads.counted.later) in
     let next = c.run_commands.ensures.goes_on honest h (subst (λ f. Shows f h) (sym same_later) shows) in
     let last = at (g.T.Tree.files c.run_commands.new.tree) (failures c.run_commands.new.tree) next.0 in (
       next.0,
       inr (
         actions,
-        script_there _ _ c.args.path.now _ (Ok actions) same there (c.in_ok-loaded.ensures.actions honest),
+        script_there _ _ c.args.path.now _ (Ok actions) same there asked,
         runs_all _ _ _ (Runs (at (g.T.Tree.files c.args.tree.now) (failures c.args.tree.now) h) last actions) _ _ _ (λ s. (s.0 ∙ same_later, s.1))
             (λ replies run. run_follows _ _ _ _ h _ _ replies last same_later later are run) are next.1,
       ),

@@ -43,8 +43,9 @@ pub(crate) fn is_alone<'a, T: Tree>(
     }
 }
 
-/// The folder, or the current one for an empty path, locked as long as it is open: by this program alone for a synchronisation, and beside others for every
-/// other command. An error of the kind `WouldBlock` says that another program is in the way.
+/// The folder, or the current one for an empty path, locked as long as it is open: by this program alone for a
+/// synchronisation, and beside others for every other command, as `is_alone` says. An error of the kind `WouldBlock` says
+/// that another program is in the way.
 pub(crate) fn lock_folder(
     rt: &HostRuntime,
     folder: &str,

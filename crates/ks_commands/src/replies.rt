@@ -14,6 +14,9 @@ use itoa::Buffer;
 use ks_engine::{BuildState, Command, EngineError, Recorded, Reply, Report, Verdict};
 use std::alloc::{AllocError, Global};
 
+/// Room for a usual line of a reply. Where there is enough of it no text is copied to a larger place.
+const USUAL_LINE: usize = 64;
+
 #[tactic(auto, unfolding(crate::specs::Replies::verdict_text))]
 fn write_verdict(verdict: &Verdict, text: &mut Vec<u8>) -> Result<(), AllocError>
     ensures { OnOk result (text.new.items ≡ text.old.items ++ verdict_text verdict.now) }
@@ -149,7 +152,7 @@ pub(crate) fn tell_replies(
     ensures lines { IfOk result (λ o. o.text.items ≡ reply_lines (map action commands.now) replies.now) }
     ensures status { IfOk result (λ o. code_of o.status ≡ worst (map reply_status replies.now)) }
 {
-    let mut text = Vec::new(alloc);
+    let mut text = Vec::with_capacity(alloc, replies.len().saturating_mul(USUAL_LINE))?;
     let mut status = Status::Done;
     for (index, command) in commands.iter().enumerate() {
         let reply = &replies[index];

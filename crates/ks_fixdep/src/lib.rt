@@ -36,3 +36,4 @@ pub use name_iter::NameIter;
 pub use scan::{Found, names};
 pub use scanner::{Fed, Scanner};
 pub use source_scan::{NamesBySource, SourceScan};
+pub use tokens::token_at;

@@ -5,7 +5,7 @@ mod golden;
 
 use crate::{
     DepError, FoundNames, Role, Scanner, SourceScan, build, build_from, names, read_depfile,
-    write_command,
+    token_at, write_command,
 };
 use ks_symbols::{MAX_BYTES, write_decimal};
 use std::alloc::{AllocError, Global};
@@ -249,6 +249,14 @@ fn prerequisites_have_their_roles_by_place(rt: HostRuntime) -> Result<(), Fail> 
         assert_eq!(rt; read.as_slice(), want, "{name}");
     }
     Ok(())
+}
+
+#[test]
+fn tokens_by_their_numbers(rt: HostRuntime) {
+    let text = b"x.o: y.o:\r\n\tx.c \\\r\n a#";
+    assert!(rt; token_at(text, 1) == Some(b"x.o:".as_slice()));
+    assert!(rt; token_at(text, 4) == Some(b"a#".as_slice()));
+    assert!(rt; token_at(text, 5).is_none());
 }
 
 #[test]

@@ -1,6 +1,6 @@
 //! The tokens of a dependency file. Compilers put a backslash at the end of a line that goes on; here it
 //! stands between tokens as a space does, so no line has to be put together.
-ghost use Rattle.std.specs.Prelude.{◌≡◌, ◌≤◌, length};
+ghost use Rattle.std.specs.Prelude.{◌≡◌, ◌≤◌, ◌-◌, length, option_map, slice_get};
 ghost use Rattle.std.specs.Iterator.{YieldsFirstRef, item_count};
 ghost use Rattle.std.specs.List.{prefix_len};
 ghost use Rattle.ks_fixdep.specs.Tokens.{is_separator, is_other, tokens};
@@ -67,4 +67,11 @@ impl<'a> Iterator for Tokens<'a> {
         self.rest = rest;
         if token.is_empty() { None } else { Some(token) }
     }
+}
+
+/// The token of a number, counted from 1, where the text has so many.
+pub fn token_at(text: &[u8], number: u64) -> Option<&[u8]>
+    ensures { option_map (λ t. t.now) result ≡ slice_get (tokens text.now) (number - 1) }
+{
+    Tokens::new(text).nth(number.saturating_sub(1) as usize)
 }

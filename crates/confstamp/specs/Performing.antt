@@ -1,5 +1,5 @@
 -- What the program does with its words.
-use Rattle.std.specs.Prelude.{◌≡◌, ◌⊎◌, ℕ, List, Option, Result, Err, IsSomeAnd, true}
+use Rattle.std.specs.Prelude.{◌≡◌, ◌⊎◌, ℕ, List, [], Option, Result, Err, IsSomeAnd, true}
 use Rattle.clap.specs.Words.{IsAmong, Text, fault_of, subcommand_of, takes}
 use Rattle.clap.specs.declared.error.kind.ErrorKind.TheVariants.{DisplayHelp, DisplayVersion}
 use Rattle.ks_tree.specs.declared.tree.Tree.{Ghosts}
@@ -8,6 +8,7 @@ use Rattle.ks_commands.specs.declared.refusal.Refusal.TheVariants.{Engine}
 use Rattle.ks_commands.specs.declared.request.Request.{Request}
 use Rattle.ks_commands.specs.Endings.{Ending, Printed}
 use Rattle.ks_commands.specs.Performed.{Performs}
+use Rattle.ks_commands.specs.Sites.{IsSiteLine, ending_site}
 use Rattle.confstamp.specs.CommandLine.{command_line_app}
 use Rattle.confstamp.specs.Words.{IsRequestOf}
 
@@ -23,9 +24,11 @@ AsksForHelp words = IsAmong DisplayHelp (fault_of command_line_app words) ⊎ Is
 abbrev pub Explains : List Text → ℕ → Type 0
 Explains words status = (takes command_line_app words ≡ true → ⊥) × ((status ≡ 2) ⊎ ((status ≡ 0) × AsksForHelp words))
 
--- The request of the words was performed; or memory was refused for it, or the words were explained, and the tree is as before.
+-- The request of the words was performed, and a refusal told with where it points; or memory was refused for it, or the words were explained, and the tree is as before.
 abbrev pub Executes : {T : Type 0} → Ghosts T → List Text → T → T → Option (List ℕ) → Option (List ℕ) → Option (List ℕ) → Option (List ℕ) → ℕ → Type 0
 Executes tree words old new before after err_before err_after status =
     ((request : Request) × Makes words request
-    × (ended : Ending) × Performs tree old new request ended × Printed ended before after err_before err_after status)
-    ⊎ ((new ≡ old) × (Printed (Err (Engine OutOfMemory)) before after err_before err_after status ⊎ Explains words status))
+    × (ended : Ending) × Performs tree old new request ended
+    × (behind : List ℕ) × IsSiteLine tree.is_honest (tree.files new) (ending_site request ended) behind
+    × Printed behind ended before after err_before err_after status)
+    ⊎ ((new ≡ old) × (Printed [] (Err (Engine OutOfMemory)) before after err_before err_after status ⊎ Explains words status))

@@ -57,9 +57,9 @@ code_at_most status.Stale = lit≤ tt
 code_at_most status.Refused = lit≤ tt
 
 pub statuses_are_at_most_two : StatusesAreAtMostTwo
-statuses_are_at_most_two (Ok o) b a eb ea s (inl prints) = record { at_most = rw prints.answers (code_at_most o.status); done = λ is. inl (prints.answers ∙ ap code_of is) }
-statuses_are_at_most_two (Ok o) b a eb ea s (inr failed) = record { at_most = omega (arith, failed.1); done = λ is. inr failed.1 }
-statuses_are_at_most_two (Err r) b a eb ea s refused = record { at_most = omega (arith, refused.2); done = λ is. inr refused.2 }
+statuses_are_at_most_two (Ok o) behind b a eb ea s (inl prints) = record { at_most = rw prints.answers (code_at_most o.status); done = λ is. inl (prints.answers ∙ ap code_of is) }
+statuses_are_at_most_two (Ok o) behind b a eb ea s (inr failed) = record { at_most = omega (arith, failed.1); done = λ is. inr failed.1 }
+statuses_are_at_most_two (Err r) behind b a eb ea s refused = record { at_most = omega (arith, refused.2); done = λ is. inr refused.2 }
 
 -- ---- previews
 
@@ -70,22 +70,22 @@ preview_written files k d o outcome before after (inr (i, at, inl (text, is, tol
     (told.1, record { inputs = i; there = at; previews = record { text = text; is_preview = is; appended = subst (Appends before after) told.0 appended } })
 preview_written files k d o outcome before after (inr (i, at, inr (e, other, refusal, ended))) appended = no_outcome outcome _ ended
 
-done_or_refused : (k d : List ℕ) (o : Option (List ℕ)) (ended : Ending) (old new : Files) (b a eb ea : Option (List ℕ)) (s : ℕ) → new ≡ old → EndsPreview old k d o ended
-    → Printed ended b a eb ea s → IsPreviewed k d o old new b a s
-done_or_refused k d o (Ok outcome) old new b a eb ea s same ends (inl prints) =
+done_or_refused : (k d : List ℕ) (o : Option (List ℕ)) (ended : Ending) (behind : List ℕ) (old new : Files) (b a eb ea : Option (List ℕ)) (s : ℕ) → new ≡ old → EndsPreview old k d o ended
+    → Printed behind ended b a eb ea s → IsPreviewed k d o old new b a s
+done_or_refused k d o (Ok outcome) behind old new b a eb ea s same ends (inl prints) =
     let both = preview_written old k d o outcome b a ends prints.output in
     record { answered = inl (prints.answers ∙ both.0); written = λ zero. both.1; unchanged = same }
-done_or_refused k d o (Ok outcome) old new b a eb ea s same ends (inr failed) =
+done_or_refused k d o (Ok outcome) behind old new b a eb ea s same ends (inr failed) =
     record { answered = inr failed.1; written = λ zero. absurd (omega (arith, zero, failed.1)); unchanged = same }
-done_or_refused k d o (Err r) old new b a eb ea s same ends refused =
+done_or_refused k d o (Err r) behind old new b a eb ea s same ends refused =
     record { answered = inr refused.2; written = λ zero. absurd (omega (arith, zero, refused.2)); unchanged = same }
 
 pub previews_are_performed : PreviewsArePerformed
-previews_are_performed k d o (request.Preview k' d' o') ended old new b a eb ea s is ends printed =
-    rw (← is.0, ← is.1, ← is.2) (done_or_refused _ _ _ ended old new b a eb ea s ends.0 ends.1 printed)
-previews_are_performed k d o (request.Sync k' d') ended old new b a eb ea s is ends printed = absurd is
-previews_are_performed k d o (request.Fixdep d' t c) ended old new b a eb ea s is ends printed = absurd is
-previews_are_performed k d o (request.Record d' t c) ended old new b a eb ea s is ends printed = absurd is
-previews_are_performed k d o (request.Stale ts) ended old new b a eb ea s is ends printed = absurd is
-previews_are_performed k d o (request.Outdated t c) ended old new b a eb ea s is ends printed = absurd is
-previews_are_performed k d o (request.Batch p) ended old new b a eb ea s is ends printed = absurd is
+previews_are_performed k d o (request.Preview k' d' o') ended behind old new b a eb ea s is ends printed =
+    rw (← is.0, ← is.1, ← is.2) (done_or_refused _ _ _ ended behind old new b a eb ea s ends.0 ends.1 printed)
+previews_are_performed k d o (request.Sync k' d') ended behind old new b a eb ea s is ends printed = absurd is
+previews_are_performed k d o (request.Fixdep d' t c) ended behind old new b a eb ea s is ends printed = absurd is
+previews_are_performed k d o (request.Record d' t c) ended behind old new b a eb ea s is ends printed = absurd is
+previews_are_performed k d o (request.Stale ts) ended behind old new b a eb ea s is ends printed = absurd is
+previews_are_performed k d o (request.Outdated t c) ended behind old new b a eb ea s is ends printed = absurd is
+previews_are_performed k d o (request.Batch p) ended behind old new b a eb ea s is ends printed = absurd is

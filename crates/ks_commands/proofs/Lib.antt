@@ -3,6 +3,7 @@ pub mod Writing
 pub mod Printing
 pub mod Loading
 pub mod Continuing
+pub mod Siting
 pub mod Verdicts
 pub mod Ending
 pub mod Headline

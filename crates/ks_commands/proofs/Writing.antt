@@ -1,6 +1,7 @@
 -- What a writer is known to hold, over several calls.
-use Rattle.std.proofs.Common.{◌≡◌, ◌+◌, ◌-◌, ℕ, refl, List, [], ◌++◌, Option, Some, None, subst, sym, ap, ◌∙◌, append_assoc, append-nil, take, drop, length}
+use Rattle.std.proofs.Common.{◌≡◌, ◌+◌, ◌-◌, ◌<◌, ℕ, suc, refl, List, [], ◌∷◌, ◌++◌, Option, Some, None, Bor, subst, sym, ap, ◌∙◌, append_assoc, append-nil, take, drop, length, get_or, flat_map, drop-cons}
 use Rattle.std.proofs.lemmas.List.{take_rest, take-append-drop}
+use Rattle.std.proofs.lemmas.List.Concat.{flat_map-append}
 use Rattle.std.proofs.Math.Seq.{take-add}
 use Rattle.std.specs.Io.KnownBytes.{Appends, Keeps}
 use Rattle.ks_commands.specs.Endings.{IsPart}
@@ -50,3 +51,40 @@ part_behind first second third front xs behind whole is p part = (
   is ∙ ap (λ l. front ++ l) (ap (λ l. l ++ behind) part.2 ∙ append_assoc part.0 part.1 behind) ∙ sym (append_assoc front part.0 (part.1 ++ behind)),
   appended_more first second third front part.0 p part.3,
 )
+
+-- ---- texts one behind the other
+
+pub parts_at : (parts : List (Bor (List ℕ))) (i : ℕ) (p : Bor (List ℕ)) → i < length parts → flat_map (λ q. q.now) parts
+    ≡ flat_map (λ q. q.now) (take i parts) ++ ((get_or parts i p).now ++ flat_map (λ q. q.now) (drop (suc i) parts))
+parts_at parts i p within =
+    ap (flat_map (λ q. q.now)) (sym (take-append-drop i parts) ∙ ap (λ l. take i parts ++ l) (drop-cons parts i p within))
+    ∙ flat_map-append (λ q. q.now) (take i parts) (get_or parts i p ∷ drop (suc i) parts)
+
+pub parts_broken : (first second third : Option (List ℕ)) (parts : List (Bor (List ℕ))) (i : ℕ) (p : Bor (List ℕ)) → i < length parts
+    → Appends first second (flat_map (λ q. q.now) (take i parts)) → IsPart (get_or parts i p).now second third → IsPart (flat_map (λ q. q.now) parts) first third
+parts_broken first second third parts i p within a b = part_behind first second third _ _ _ _ (parts_at parts i p within) a b
+
+pub part_kept : (first second third : Option (List ℕ)) (text : List ℕ) → IsPart text first second → Keeps second third → IsPart text first third
+part_kept first second third text part kept = (part.0, part.1, part.2, appended_kept first second third part.0 part.3 kept)
+
+-- a part of the first text alone
+pub first_told : (first second third : Option (List ℕ)) (text line : List ℕ) → IsPart text first second → Keeps second third → IsPart (text ++ line) first third
+first_told first second third text line part kept =
+    part_kept first second third (text ++ line) (part.0, part.1 ++ line, ap (λ l. l ++ line) part.2 ∙ append_assoc part.0 part.1 line, part.3) kept
+
+-- the first text, and a part of the other
+pub both_told : (first second third fourth : Option (List ℕ)) (text line : List ℕ) → Appends first second text → IsPart line second third → Keeps third fourth → IsPart (text ++ line) first fourth
+both_told first second third fourth text line a part kept =
+    part_kept first third fourth (text ++ line) (part_behind first second third text line [] (text ++ line) (ap (λ l. text ++ l) (sym (append-nil line))) a part) kept
+
+-- how the pieces of the two lines stand behind one another
+pub fault_pieces : (a b c d : List ℕ) → a ++ (b ++ (c ++ (d ++ []))) ≡ a ++ (b ++ c) ++ d
+fault_pieces a b c d = ap (λ l. a ++ (b ++ (c ++ l))) (append-nil d) ∙ ap (λ l. a ++ l) (sym (append_assoc b c d)) ∙ sym (append_assoc a (b ++ c) d)
+
+pub site_pieces : (a b c d e f g : List ℕ) → a ++ (b ++ (c ++ (d ++ (e ++ (f ++ (g ++ [])))))) ≡ a ++ b ++ (c ++ d) ++ (e ++ f) ++ g
+site_pieces a b c d e f g =
+    ap (λ l. a ++ (b ++ (c ++ (d ++ l)))) (ap (λ l. e ++ (f ++ l)) (append-nil g) ∙ sym (append_assoc e f g))
+    ∙ ap (λ l. a ++ (b ++ l)) (sym (append_assoc c d ((e ++ f) ++ g)) ∙ sym (append_assoc (c ++ d) (e ++ f) g))
+    ∙ sym (append_assoc a b (((c ++ d) ++ (e ++ f)) ++ g))
+    ∙ sym (append_assoc (a ++ b) ((c ++ d) ++ (e ++ f)) g)
+    ∙ ap (λ l. l ++ g) (sym (append_assoc (a ++ b) (c ++ d) (e ++ f)))

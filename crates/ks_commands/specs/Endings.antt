@@ -1,5 +1,5 @@
 -- How a request ends: with a text and a status, or refused as a whole.
-use Rattle.std.specs.Prelude.{◌≡◌, ◌⊎◌, ◌++◌, ℕ, List, Option, Result, Ok, Err}
+use Rattle.std.specs.Prelude.{◌≡◌, ◌⊎◌, ◌++◌, ℕ, List, [], Option, Result, Ok, Err}
 use Rattle.std.specs.Io.KnownBytes.{Appends, Keeps}
 use Rattle.ks_engine.specs.declared.error.EngineError.{EngineError}
 use Rattle.ks_engine.specs.declared.error.EngineError.TheVariants.{OutOfMemory}
@@ -33,9 +33,9 @@ Stopped step ended = (e : EngineError) × (IsGivenUp e ⊎ (step ≡ Err e)) × 
 abbrev pub IsPart : List ℕ → Option (List ℕ) → Option (List ℕ) → Type 0
 IsPart bytes before after = (part : List ℕ) × (rest : List ℕ) × (bytes ≡ part ++ rest) × Appends before after part
 
--- Standard error grows by a beginning of the line of the refusal, by all of it unless it fails.
-abbrev pub Complains : Refusal → Option (List ℕ) → Option (List ℕ) → Type 0
-Complains refusal before after = IsPart (complaint refusal) before after
+-- Standard error grows by a beginning of the line of the refusal and of what stands behind that line, by all of it unless it fails.
+abbrev pub Complains : Refusal → List ℕ → Option (List ℕ) → Option (List ℕ) → Type 0
+Complains refusal behind before after = IsPart (complaint refusal ++ behind) before after
 
 -- The output grows by the text, standard error stays, and the status is that of the answers.
 pub record Prints (o : Outcome) (before after err_before err_after : Option (List ℕ)) (status : ℕ) : Type 0 where
@@ -43,8 +43,8 @@ pub record Prints (o : Outcome) (before after err_before err_after : Option (Lis
   pub error : Keeps err_before err_after
   pub answers : status ≡ code_of o.status
 
--- An output that fails is refused as well; a refusal leaves the output.
-abbrev pub Printed : Ending → Option (List ℕ) → Option (List ℕ) → Option (List ℕ) → Option (List ℕ) → ℕ → Type 0
-Printed (Ok o) before after err_before err_after status =
-    Prints o before after err_before err_after status ⊎ (Complains Output err_before err_after × (status ≡ 2))
-Printed (Err e) before after err_before err_after status = Keeps before after × Complains e err_before err_after × (status ≡ 2)
+-- An output that fails is refused as well; a refusal leaves the output, and is told with what stands behind its line.
+abbrev pub Printed : List ℕ → Ending → Option (List ℕ) → Option (List ℕ) → Option (List ℕ) → Option (List ℕ) → ℕ → Type 0
+Printed behind (Ok o) before after err_before err_after status =
+    Prints o before after err_before err_after status ⊎ (Complains Output [] err_before err_after × (status ≡ 2))
+Printed behind (Err e) before after err_before err_after status = Keeps before after × Complains e behind err_before err_after × (status ≡ 2)

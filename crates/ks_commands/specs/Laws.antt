@@ -24,9 +24,9 @@ pub record IsPreviewed (k d : List ℕ) (o : Option (List ℕ)) (old new : Files
 
 abbrev pub PreviewsArePerformed : Type 0
 PreviewsArePerformed =
-    (k d : List ℕ) (o : Option (List ℕ)) (request : Request) (ended : Ending) (old new : Files)
+    (k d : List ℕ) (o : Option (List ℕ)) (request : Request) (ended : Ending) (behind : List ℕ) (old new : Files)
     (before after err_before err_after : Option (List ℕ)) (status : ℕ)
-    → IsPreviewOf k d o request → Ends old (by_files old new) request ended → Printed ended before after err_before err_after status
+    → IsPreviewOf k d o request → Ends old (by_files old new) request ended → Printed behind ended before after err_before err_after status
     → IsPreviewed k d o old new before after status
 
 -- A refusal of the whole command leaves the files as before, but for want of memory and a failure of the device.
@@ -40,8 +40,8 @@ pub record IsStatusOf (ended : Ending) (status : ℕ) : Type 0 where
   pub done : IfOk ended (λ o. o.status ≡ Done) → (status ≡ 0) ⊎ (status ≡ 2)
 
 abbrev pub StatusesAreAtMostTwo : Type 0
-StatusesAreAtMostTwo = (ended : Ending) (before after err_before err_after : Option (List ℕ)) (status : ℕ)
-    → Printed ended before after err_before err_after status → IsStatusOf ended status
+StatusesAreAtMostTwo = (ended : Ending) (behind : List ℕ) (before after err_before err_after : Option (List ℕ)) (status : ℕ)
+    → Printed behind ended before after err_before err_after status → IsStatusOf ended status
 
 -- A script that runs without a refusal, after a history without a broken synchronisation, tells what changed.
 abbrev pub BatchTellsChanges : Type 0

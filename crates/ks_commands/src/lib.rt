@@ -14,6 +14,7 @@ mod questions;
 mod refusal;
 mod replies;
 mod request;
+mod sites;
 mod status;
 
 pub use laws::{

@@ -1,13 +1,21 @@
 //! Writing to the two streams. What is put there is seen out at once, so that a failure is told by the command that
 //! met it.
-ghost use Rattle.std.specs.Prelude.{◌≡◌, ◌++◌, List, ℕ, IfErr, IsTrue, Ok, OnOk, codes};
+ghost use Rattle.std.specs.Prelude.{◌≡◌, ◌++◌, List, [], ℕ, IfErr, IsTrue, Ok, OnOk, Some, codes, flat_map, option_map};
 ghost use Rattle.std.specs.Io.KnownBytes.{Appends, Keeps};
+ghost use Rattle.ks_tree.specs.Frames.{Reads};
 ghost use Rattle.ks_commands.specs.Endings.{Complains, IsPart, Printed};
+ghost use Rattle.ks_commands.specs.Faults.{complaint};
+ghost use Rattle.ks_commands.specs.Sites.{IsSiteLine, shown, site_line};
+ghost use Rattle.ks_commands.specs.Views.{seen_site};
 
 use crate::faults::{Place, refusal_fault};
+use crate::inputs::lent;
 use crate::refusal::Refusal;
+use crate::sites::{Part, Site, excerpt_at};
 use crate::status::{Outcome, exit_status};
 use itoa::Buffer;
+use ks_tree::Tree;
+use std::alloc::Global;
 use std::io::Write;
 
 /// Sees out what a writer may have kept back.
@@ -50,35 +58,124 @@ fn write_part<E: Write>(err: &mut E, bytes: &[u8]) -> bool
     true
 }
 
-/// Writes the line of a refusal, up to what fails.
-fn write_complaint<E: Write>(err: &mut E, name: &[u8], place: &[u8])
-    ensures { IsPart (codes "confstamp: " ++ (name.now ++ place.now) ++ codes "\n") (E.contents err.old) (E.contents err.new) }
+/// Writes some texts one behind the other, as much as goes out before the writer fails, and tells whether all did.
+fn write_parts<E: Write>(err: &mut E, parts: &[&[u8]]) -> bool
+    ensures part { IsPart (flat_map (λ p. p.now) parts.now) (E.contents err.old) (E.contents err.new) }
+    ensures whole { IsTrue result → Appends (E.contents err.old) (E.contents err.new) (flat_map (λ p. p.now) parts.now) }
 {
-    if !write_part(err, b"confstamp: ") {
-        return;
+    for part in parts {
+        if !write_part(err, *part) {
+            return false;
+        }
     }
-    if !write_part(err, name) {
-        return;
-    }
-    if !write_part(err, place) {
-        return;
-    }
-    let _ = write_part(err, b"\n");
+    true
 }
 
-/// Prints `confstamp: ` and why a command was refused, as well as that goes. The status is 2 also where that fails.
+/// Writes the line of a text with its place.
+fn write_fault_line<E: Write>(err: &mut E, name: &[u8], place: &[u8]) -> bool
+    ensures part { IsPart (codes "confstamp: " ++ (name.now ++ place.now) ++ codes "\n") (E.contents err.old) (E.contents err.new) }
+    ensures whole { IsTrue result → Appends (E.contents err.old) (E.contents err.new) (codes "confstamp: " ++ (name.now ++ place.now) ++ codes "\n") }
+{
+    write_parts(err, &[b"confstamp: ", name, place, b"\n"])
+}
+
+/// Writes the line of a refusal, and tells whether all of it went out.
 #[tactic(auto, unfolding(crate::specs::Faults::complaint))]
-pub fn refuse<E: Write>(err: &mut E, refusal: &Refusal) -> u8
-    ensures status { result ≡ 2 }
-    ensures told { Complains refusal.now (E.contents err.old) (E.contents err.new) }
+fn write_complaint<E: Write>(err: &mut E, refusal: &Refusal) -> bool
+    ensures part { IsPart (complaint refusal.now) (E.contents err.old) (E.contents err.new) }
+    ensures whole { IsTrue result → Appends (E.contents err.old) (E.contents err.new) (complaint refusal.now) }
 {
     let fault = refusal_fault(refusal);
     match fault.place {
-        Place::Nowhere => write_complaint(err, fault.name, b""),
+        Place::Nowhere => write_fault_line(err, fault.name, b""),
         Place::Numbered(number) => {
-            write_complaint(err, fault.name, Buffer::new().format(number).as_bytes())
+            write_fault_line(err, fault.name, Buffer::new().format(number).as_bytes())
         }
-        Place::Named(bytes) => write_complaint(err, fault.name, bytes),
+        Place::Named(bytes) => write_fault_line(err, fault.name, bytes),
+    }
+}
+
+/// Writes the line of a site: its path, the part, and what stands there.
+fn write_site_line<E: Write>(
+    err: &mut E,
+    path: &[u8],
+    label: &[u8],
+    number: &[u8],
+    text: Option<&[u8]>,
+)
+    ensures { IsPart (codes "  " ++ path.now ++ (label.now ++ number.now) ++ shown (option_map (λ t. t.now) text.entry) ++ codes "\n") (E.contents err.old) (E.contents err.new) }
+{
+    let _ = match text {
+        Some(text) => write_parts(err, &[b"  ", path, label, number, b": ", text, b"\n"]),
+        None => write_parts(err, &[b"  ", path, label, number, b"\n"]),
+    };
+}
+
+/// Writes where a refusal points.
+#[tactic(auto, unfolding(crate::specs::Sites::site_line, crate::specs::Sites::part_label, crate::specs::Faults::counted))]
+fn write_site<E: Write>(err: &mut E, site: &Site<'_>, text: Option<&[u8]>)
+    ensures { IsPart (site_line (seen_site site.now) (option_map (λ t. t.now) text.entry)) (E.contents err.old) (E.contents err.new) }
+{
+    let path = site.path;
+    match site.part {
+        Part::Whole => write_site_line(err, path, b"", b"", text),
+        Part::Line(number) => {
+            write_site_line(
+                err,
+                path,
+                b":",
+                Buffer::new().format(number).as_bytes(),
+                text,
+            )
+        }
+        Part::Token(number) => {
+            write_site_line(
+                err,
+                path,
+                b": token ",
+                Buffer::new().format(number).as_bytes(),
+                text,
+            )
+        }
+    }
+}
+
+/// Prints `confstamp: ` and why a command was refused, as well as that goes. The status is 2 also where that fails.
+pub fn refuse<E: Write>(err: &mut E, refusal: &Refusal) -> u8
+    ensures status { result ≡ 2 }
+    ensures told { Complains refusal.now [] (E.contents err.old) (E.contents err.new) }
+{
+    let _ = write_complaint(err, refusal);
+    let _ = err.flush();
+    2
+}
+
+/// Writes where a refusal points, with what stands there as far as the file can be read.
+fn write_found<T: Tree, E: Write>(alloc: Global, tree: &mut T, site: &Site<'_>, err: &mut E)
+    ensures reads { Reads T.Tree tree.old tree.new ⊥ }
+    ensures line { (line : List ℕ) × IsSiteLine T.is_honest (T.files tree.old) (Some (seen_site site.now)) line
+        × IsPart line (E.contents err.old) (E.contents err.new) }
+{
+    let text = excerpt_at(alloc, tree, site);
+    write_site(err, site, lent(&text));
+}
+
+/// Prints why a command was refused, and behind it which file that is about and what stands there. The file is read
+/// again once the refusal is told. The status is 2 also where that fails.
+pub(crate) fn refuse_at<T: Tree, E: Write>(
+    alloc: Global,
+    tree: &mut T,
+    site: &Site<'_>,
+    refusal: &Refusal,
+    err: &mut E,
+) -> u8
+    ensures status { result ≡ 2 }
+    ensures reads { Reads T.Tree tree.old tree.new ⊥ }
+    ensures told { (line : List ℕ) × IsSiteLine T.is_honest (T.files tree.old) (Some (seen_site site.now)) line
+        × Complains refusal.now line (E.contents err.old) (E.contents err.new) }
+{
+    if write_complaint(err, refusal) {
+        write_found(alloc, tree, site, err);
     }
     let _ = err.flush();
     2
@@ -86,7 +183,7 @@ pub fn refuse<E: Write>(err: &mut E, refusal: &Refusal) -> u8
 
 /// Prints what is to be printed of a command, and answers the exit status.
 pub(crate) fn print<W: Write, E: Write>(outcome: &Outcome, out: &mut W, err: &mut E) -> u8
-    ensures { Printed (Ok outcome.now) (W.contents out.old) (W.contents out.new) (E.contents err.old) (E.contents err.new) result }
+    ensures { Printed [] (Ok outcome.now) (W.contents out.old) (W.contents out.new) (E.contents err.old) (E.contents err.new) result }
 {
     match put(out, &outcome.text) {
         Ok(()) => exit_status(outcome.status),

@@ -1,8 +1,8 @@
 //! Doing what was asked for, over any tree and any two writers.
 //!
 //! The whole text of a command is made before its first byte is written, so that a command that is refused as a whole
-//! writes nothing to the output, and one line to standard error.
-ghost use Rattle.std.specs.Prelude.{◌≡◌, Err, IfOk, option_map, string_bytes};
+//! writes nothing to the output, and a line to standard error, with a second one where there is a file to point at.
+ghost use Rattle.std.specs.Prelude.{◌≡◌, ℕ, List, Err, IfOk, option_map, string_bytes};
 ghost use Rattle.ks_tree.specs.Files.{HasRisen};
 ghost use Rattle.ks_tree.specs.Frames.{Reads};
 ghost use Rattle.ks_engine.specs.Follows.{GoesOn};
@@ -11,17 +11,19 @@ ghost use Rattle.ks_commands.specs.declared.refusal.Refusal.TheVariants.{Engine}
 ghost use Rattle.ks_commands.specs.declared.status.Status.TheVariants.{Done};
 ghost use Rattle.ks_commands.specs.Endings.{Ending, Printed};
 ghost use Rattle.ks_commands.specs.Requests.{IsNoQuestion};
+ghost use Rattle.ks_commands.specs.Sites.{IsSiteLine, ending_site};
 ghost use Rattle.ks_commands.specs.Performed.{Continues, Ends, EndsFixdep, EndsPreview, Performs, by_files};
 
 use crate::batch::run_script;
 use crate::changes::{record_target, synchronise};
 use crate::fixdep::command_file_text;
 use crate::inputs::{inputs_at, lent};
-use crate::output::{print, refuse};
+use crate::output::{print, refuse, refuse_at};
 use crate::preview::preview_of;
 use crate::questions::{outdated_target, stale_targets};
 use crate::refusal::Refusal;
 use crate::request::Request;
+use crate::sites::site_of;
 use crate::status::{Outcome, Status};
 use ks_tree::Tree;
 use std::alloc::Global;
@@ -126,12 +128,17 @@ pub fn perform<T: Tree, W: Write, E: Write>(
     out: &mut W,
     err: &mut E,
 ) -> u8
-    // It ends with a text or a refusal: this is what it leaves, by the files and by histories, and what it prints.
+    // It ends with a text or a refusal: this is what it leaves, by the files and by histories, and what it prints; which
+    // file a refusal is about stands on a line of its own.
     ensures { (ended : Ending) × Performs T.Tree tree.old tree.new request.now ended
-        × Printed ended (W.contents out.old) (W.contents out.new) (E.contents err.old) (E.contents err.new) result }
+        × (behind : List ℕ) × IsSiteLine T.is_honest (T.files tree.new) (ending_site request.now ended) behind
+        × Printed behind ended (W.contents out.old) (W.contents out.new) (E.contents err.old) (E.contents err.new) result }
 {
     match outcome(alloc, tree, request) {
         Ok(outcome) => print(&outcome, out, err),
-        Err(refusal) => refuse(err, &refusal),
+        Err(refusal) => match site_of(request, &refusal) {
+            Some(site) => refuse_at(alloc, tree, &site, &refusal, err),
+            None => refuse(err, &refusal),
+        },
     }
 }

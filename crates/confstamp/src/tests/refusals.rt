@@ -1,4 +1,5 @@
-//! The refusals of a whole command: nothing on the output, one line on standard error, and nothing changed.
+//! The refusals of a whole command: nothing on the output, a line on standard error, behind it one that says where, and
+//! nothing changed.
 use super::golden::AUTO;
 use super::{Step, play, told, world};
 use ks_tree::{FuseMode, FuseTree, Tree};
@@ -10,15 +11,20 @@ const SYNC_AND_PREVIEW: &[(Step<'_>, &str)] = &[
     (Step::Words(&["sync", "missing", "a$b"]), "2 confstamp: 21 BadPath token 0\n"),
     (Step::Words(&["sync", "missing", "faulty"]), "2 confstamp: 40 MissingFile missing\n"),
     (Step::Words(&["sync", "c1", "missing"]), "2 confstamp: 40 MissingFile missing\n"),
-    (Step::Words(&["sync", "c1", "c1"]), "2 confstamp: 1 NotBare line 1\n"),
-    (Step::Words(&["sync", "K1", "faulty"]), "2 confstamp: 8 BadValue line 2\n"),
-    (Step::Words(&["preview", "K1", "faulty"]), "2 confstamp: 8 BadValue line 2\n"),
+    (Step::Words(&["sync", "c1", "c1"]), "2 confstamp: 1 NotBare line 1\n  c1:1: CONFIG_A=y\n"),
+    (Step::Words(&["sync", "K1", "faulty"]), "2 confstamp: 8 BadValue line 2\n  faulty:2: CONFIG_A=m\n"),
+    (Step::Words(&["preview", "K1", "faulty"]), "2 confstamp: 8 BadValue line 2\n  faulty:2: CONFIG_A=m\n"),
     (Step::Words(&["preview", "a$b", "c1"]), "2 confstamp: 21 BadPath token 0\n"),
     (Step::Words(&["preview", "missing", "c1", "a$b"]), "2 confstamp: 21 BadPath token 0\n"),
     (Step::Words(&["preview", "c1", "c1", "missing"]), "2 confstamp: 40 MissingFile missing\n"),
     (Step::Put("include/config/auto.conf", "#\n#\n#\n#\nCONFIG_../x=y\n"), "done"),
-    (Step::Words(&["sync", "K1", "c1"]), "2 confstamp: 11 BadAuto line 5\n"),
-    (Step::Words(&["preview", "K1", "c1", "include/config/auto.conf"]), "2 confstamp: 11 BadAuto line 5\n"),
+    (Step::Words(&["sync", "K1", "c1"]), "2 confstamp: 11 BadAuto line 5\n  include/config/auto.conf:5: CONFIG_../x=y\n"),
+    (Step::Words(&["record", "x.d", "x.o", "cc"]), "2 confstamp: 11 BadAuto line 5\n  include/config/auto.conf:5: CONFIG_../x=y\n"),
+    (Step::Put("old", "#\nCONFIG_\u{1b}[2J\u{7f}é\n"), "done"),
+    (Step::Words(&["preview", "K1", "c1", "old"]), "2 confstamp: 11 BadAuto line 2\n  old:2: CONFIG_?[2J?é\n"),
+    (Step::Put("old", ""), "done"),
+    (Step::Put("K9", "config A\r\n"), "done"),
+    (Step::Words(&["preview", "K9", "c1"]), "2 confstamp: 4 NoType line 1\n  K9:1: config A\n"),
     (Step::Put("include/config/auto.conf", "#generation 18446744073709551615\n"), "done"),
     (Step::Words(&["sync", "K1", "c1"]), "2 confstamp: 42 GenerationFull\n"),
     (Step::Words(&["preview", "K1", "c1", "include/config/auto.conf"]), "2 confstamp: 42 GenerationFull\n"),
@@ -39,11 +45,11 @@ const FIXDEP_AND_RECORD: &[(Step<'_>, &str)] = &[
     (Step::Words(&["record", "x.d", "x.o", "cc"]), "2 confstamp: 41 NeverSynced\n"),
     (Step::Words(&["sync", "K1", "c1"]), "0 generation 1\ntouch A\ntouch B\nunknown 0\n"),
     (Step::Put("y.d", "a.h b.h\n"), "done"),
-    (Step::Words(&["fixdep", "y.d", "x.o", "cc"]), "2 confstamp: 20 NoTarget\n"),
-    (Step::Words(&["record", "y.d", "x.o", "cc"]), "2 confstamp: 20 NoTarget\n"),
+    (Step::Words(&["fixdep", "y.d", "x.o", "cc"]), "2 confstamp: 20 NoTarget\n  y.d\n"),
+    (Step::Words(&["record", "y.d", "x.o", "cc"]), "2 confstamp: 20 NoTarget\n  y.d\n"),
     (Step::Put("y.d", "x.o: x.c a$b.h\n"), "done"),
-    (Step::Words(&["fixdep", "y.d", "x.o", "cc"]), "2 confstamp: 21 BadPath token 3\n"),
-    (Step::Words(&["record", "y.d", "x.o", "cc"]), "2 confstamp: 21 BadPath token 3\n"),
+    (Step::Words(&["fixdep", "y.d", "x.o", "cc"]), "2 confstamp: 21 BadPath token 3\n  y.d: token 3: a$b.h\n"),
+    (Step::Words(&["record", "y.d", "x.o", "cc"]), "2 confstamp: 21 BadPath token 3\n  y.d: token 3: a$b.h\n"),
     (Step::Put("y.d", "x.o: x.c gone.h\n"), "done"),
     (Step::Words(&["fixdep", "y.d", "x.o", "cc"]), "2 confstamp: 40 MissingFile gone.h\n"),
     (Step::Words(&["record", "y.d", "x.o", "cc"]), "2 confstamp: 40 MissingFile gone.h\n"),
@@ -55,13 +61,13 @@ const SCRIPTS: &[(Step<'_>, &str)] = &[
     (Step::Words(&["batch", "a$b"]), "2 confstamp: 21 BadPath token 0\n"),
     (Step::Words(&["batch", "missing"]), "2 confstamp: 40 MissingFile missing\n"),
     (Step::Put("script", "stale x.o y.o\n"), "done"),
-    (Step::Words(&["batch", "script"]), "2 confstamp: 50 BadScript line 1\n"),
+    (Step::Words(&["batch", "script"]), "2 confstamp: 50 BadScript line 1\n  script:1: stale x.o y.o\n"),
     (Step::Put("script", "stale  x.o\n"), "done"),
-    (Step::Words(&["batch", "script"]), "2 confstamp: 50 BadScript line 1\n"),
+    (Step::Words(&["batch", "script"]), "2 confstamp: 50 BadScript line 1\n  script:1: stale  x.o\n"),
     (Step::Put("script", "record x.d x.o\n"), "done"),
-    (Step::Words(&["batch", "script"]), "2 confstamp: 50 BadScript line 1\n"),
+    (Step::Words(&["batch", "script"]), "2 confstamp: 50 BadScript line 1\n  script:1: record x.d x.o\n"),
     (Step::Put("script", "sync K1 c1\nsync K1 a$b\n"), "done"),
-    (Step::Words(&["batch", "script"]), "2 confstamp: 50 BadScript line 2\n"),
+    (Step::Words(&["batch", "script"]), "2 confstamp: 50 BadScript line 2\n  script:2: sync K1 a$b\n"),
     (Step::Put("script", "sync K1 c1\nsync missing gone\n"), "done"),
     (Step::Words(&["batch", "script"]), "2 confstamp: 40 MissingFile missing\n"),
     (Step::Read("include/config/auto.conf"), "none"),
@@ -135,4 +141,22 @@ fn files_above_the_limit(rt: HostRuntime) -> Result<(), Fail> {
     let big: Vec<u8> = vec![in rt.alloc(); b'\n'; 67_108_865]?;
     tree.write(rt.alloc(), b"big", &big)?;
     play(&rt, rt.alloc(), &mut tree, TOO_LARGE)
+}
+
+/// Of a long line the beginning is shown. Where the file can't be read again, its name and the number are still told.
+#[test]
+fn what_stands_there(rt: HostRuntime) -> Result<(), Fail> {
+    let alloc = rt.alloc();
+    let mut tree = world(&rt, alloc)?;
+    let long: Vec<u8> = vec![in alloc; b'x'; 121]?;
+    tree.write(alloc, b"long", &long)?;
+    let found = told(alloc, &mut tree, Step::Words(&["batch", "long"]))?;
+    let shown = str::from_utf8(&long[..120])?;
+    let want = format!(in alloc; "2 confstamp: 50 BadScript line 1\n  long:1: {shown}\n")?;
+    assert_eq!(rt; found.as_str(), want.as_str());
+    let mut tree = FuseTree::new(tree, 2, None, FuseMode::Clean);
+    let found = told(alloc, &mut tree, Step::Words(&["sync", "K1", "faulty"]))?;
+    let want = "2 confstamp: 8 BadValue line 2\n  faulty:2\n";
+    assert_eq!(rt; found.as_str(), want);
+    Ok(())
 }

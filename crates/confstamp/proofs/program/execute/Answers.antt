@@ -7,7 +7,7 @@ use Rattle.confstamp.specs.Words.{IsHelp, IsWantOfMemory, TellsHelp}
 use Rattle.confstamp.proofs.program.execute.Goals as goal
 
 pub returns-in-Ok : goal.returns-in-Ok
-returns-in-Ok g c = inl (c.in-Ok.request, c.in-Ok.ensures.exact, c.perform.ensures.0, c.perform.ensures.1, c.perform.ensures.2)
+returns-in-Ok g c = inl (c.in-Ok.request, c.in-Ok.ensures.exact, c.perform.ensures.0, c.perform.ensures.1, c.perform.ensures.2, c.perform.ensures.3, c.perform.ensures.4)
 
 pub returns-in-Err-Refused : goal.returns-in-Err-Refused
 returns-in-Err-Refused g c =

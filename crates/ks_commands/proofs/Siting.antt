@@ -1,0 +1,99 @@
+-- What stands at a site, and what a read behind a refusal leaves.
+use Rattle.std.proofs.Common.{◌≡◌, ◌≢◌, ◌∙◌, ℕ, List, Option, Some, None, Ok, Err, IfSome, inl, inr, refl, sym, ap, subst, arith, option_map}
+use Rattle.ks_tree.specs.declared.tree.Tree.{Ghosts}
+use Rattle.ks_tree.specs.Files.{Files}
+use Rattle.ks_tree.specs.Frames.{Reads}
+use Rattle.ks_engine.specs.declared.error.EngineError.TheVariants.{OutOfMemory}
+use Rattle.ks_engine.specs.Follows.{State, at}
+use Rattle.ks_engine.specs.History.{History}
+use Rattle.ks_engine.specs.Shows.{Shows}
+use Rattle.ks_commands.specs.declared.refusal.Refusal.{Refusal}
+use Rattle.ks_commands.specs.declared.refusal.Refusal.TheVariants.{Engine}
+use Rattle.ks_commands.specs.declared.request.Request.{Request}
+use Rattle.ks_commands.specs.declared.request.Request.TheVariants as request
+use Rattle.ks_commands.specs.declared.sites.Part.{Part}
+use Rattle.ks_commands.specs.Endings.{Ending}
+use Rattle.ks_commands.specs.Performed.{Continues, Ends, Performs, by_files}
+use Rattle.ks_commands.specs.Sites.{IsSiteLine, IsThere, Site, excerpt, excerpt_at, excerpt_in, part_text, site_of}
+
+excerpt_of : (found : Option (List ℕ)) (text : List ℕ) → option_map excerpt found ≡ Some text → (bytes : List ℕ) × (text ≡ excerpt bytes)
+excerpt_of None text is = absurd cc
+excerpt_of (Some bytes) text is = (bytes, cc)
+
+-- what stands at a part is an excerpt
+pub excerpts : {V : Type 0} (items : V → List ℕ) (part : Part) (text : List ℕ) (found : Option V) → IfSome found (λ t. excerpt_in part text ≡ Some (items t))
+    → IfSome found (λ t. (bytes : List ℕ) × (items t ≡ excerpt bytes))
+excerpts items part text None is = is
+excerpts items part text (Some t) is = excerpt_of (part_text part text) (items t) is
+
+-- .. and on an honest tree that of the file
+pub are_there : {V : Type 0} (items : V → List ℕ) (honest : Type 0) (files : Files) (site : Site) (found : Option V)
+    → (honest → IfSome found (λ t. excerpt_at files site ≡ Some (items t))) → IfSome found (λ t. (bytes : List ℕ) × (items t ≡ excerpt bytes))
+    → IfSome (option_map items found) (IsThere honest files site)
+are_there items honest files site None there visible = visible
+are_there items honest files site (Some t) there visible = record { visible = visible; there = there }
+
+pub some_none : {C : Type 0} (site : Site) → ◌≡◌ {A = Option Site} (Some site) None → C
+some_none site is = absurd cc
+
+-- what stands there, with the files as they are after they were read
+pub there_kept : (honest : Type 0) (old new : Files) (site : Site) (text : List ℕ) → (honest → new ≡ old) → IsThere honest old site text → IsThere honest new site text
+there_kept honest old new site text same is = record { visible = is.visible; there = λ h. ap (λ (f : Files). excerpt_at f site) (same h) ∙ is.there h }
+
+if_there_kept : (honest : Type 0) (old new : Files) (site : Site) (text : Option (List ℕ)) → (honest → new ≡ old)
+    → IfSome text (IsThere honest old site) → IfSome text (IsThere honest new site)
+if_there_kept honest old new site None same is = is
+if_there_kept honest old new site (Some text) same is = there_kept honest old new site text same is
+
+pub site_line_kept : (honest : Type 0) (old new : Files) (site : Option Site) (line : List ℕ) → (honest → new ≡ old) → IsSiteLine honest old site line → IsSiteLine honest new site line
+site_line_kept honest old new None line same is = is
+site_line_kept honest old new (Some site) line same (text, there, whole) = (text, if_there_kept honest old new site text same there, whole)
+
+-- ---- a read behind a refusal
+
+-- want of memory has no site
+pub no_site : (request : Request) → site_of request (Engine OutOfMemory) ≡ None
+no_site (request.Sync k d) = refl
+no_site (request.Preview k d o) = refl
+no_site (request.Fixdep d t c) = refl
+no_site (request.Record d t c) = refl
+no_site (request.Stale ts) = refl
+no_site (request.Outdated t c) = refl
+no_site (request.Batch p) = refl
+
+no_memory : {C : Type 0} (r : Refusal) → r ≢ Engine OutOfMemory → ◌≡◌ {A = Ending} (Err r) (Err (Engine OutOfMemory)) → C
+no_memory r plain is = absurd (plain cc)
+
+-- What is counted behind a refusal does not matter to it.
+counted_behind : (asked : Request) (r : Refusal) (old : State) (files : Files) (m n : ℕ) (h : History) → r ≢ Engine OutOfMemory
+    → Continues asked (Err r) old (at files m h) → Continues asked (Err r) old (at files n h)
+counted_behind (request.Sync k d) r old files m n h plain (inl stopped) = inl stopped
+counted_behind (request.Sync k d) r old files m n h plain (inr (t, there, Ok report, synced, told)) = absurd (plain told)
+counted_behind (request.Sync k d) r old files m n h plain (inr (t, there, Err e, refused, told)) = inr (t, there, Err e, refused, told)
+counted_behind (request.Preview k d o) r old files m n h plain ends = ends
+counted_behind (request.Fixdep d t c) r old files m n h plain ends = ends
+counted_behind (request.Record d t c) r old files m n h plain (Ok answer, recorded, told) = absurd (plain told)
+counted_behind (request.Record d t c) r old files m n h plain (Err e, refused, told) = (Err e, refused, told)
+counted_behind (request.Stale ts) r old files m n h plain (same, inl memory) = no_memory r plain memory
+counted_behind (request.Stale ts) r old files m n h plain (same, inr (text, status, are, told)) = absurd (plain told)
+counted_behind (request.Outdated t c) r old files m n h plain (same, (answer, outdated, told)) = absurd (plain told)
+counted_behind (request.Batch p) r old files m n h plain (inl stopped) = inl stopped
+counted_behind (request.Batch p) r old files m n h plain (inr (actions, there, inl memory)) = no_memory r plain memory.1
+counted_behind (request.Batch p) r old files m n h plain (inr (actions, there, inr ran)) = absurd (plain ran.2)
+
+-- A refusal behind which a file was read again is that refusal.
+pub read_behind : {T : Type 0} (tree : Ghosts T) (old mid new : T) (asked : Request) (r : Refusal) → r ≢ Engine OutOfMemory
+    → Performs tree old mid asked (Err r) → Reads tree mid new ⊥ → Performs tree old new asked (Err r)
+read_behind tree old mid new asked r plain performs reads = record {
+  done = performs.done;
+  files = λ honest. subst (λ (f : Files). Ends (tree.files old) (by_files (tree.files old) f) asked (Err r)) (sym (reads.unchanged honest)) (performs.files honest);
+  goes_on = λ honest h shows.
+      let next = performs.goes_on honest h shows in
+      let from = at (tree.files old) (tree.failures old) h in (
+        next.0,
+        subst (λ (f : Files). Continues asked (Err r) from (at f (tree.failures new) next.0)) (sym (reads.unchanged honest))
+            (counted_behind asked r from (tree.files mid) (tree.failures mid) (tree.failures new) next.0 plain next.1),
+        subst (λ (f : Files). Shows f next.0) (sym (reads.unchanged honest)) next.2,
+      );
+  cause = λ is. omega (arith, performs.cause is, reads.counted.later);
+}

@@ -1,53 +1,64 @@
--- A hash table whose keys are lent bytes, seen as a finite map from bytes, and a map with other values.
-use Rattle.std.proofs.Common.{◌≡◌, ℕ, Bool, true, false, cond, List, [], ◌∷◌, map as map_list, Option, Some, option_map, bytes_eq, refl, sym, ap, subst, ◌∙◌}
+-- Entries seen as a finite map from bytes, and a map with other values.
+use Rattle.std.proofs.Common.{◌≡◌, ℕ, Bool, true, false, cond, inl, inr, List, [], ◌∷◌, ◌++◌, map as map_list, Option, Some, None, option_map, bytes_eq, refl, sym, ap, ◌∙◌}
 use Rattle.std.proofs.lemmas.Bool.{cases_Bool, cond-true, cond-false}
 use Rattle.std.proofs.lemmas.Map.Text.{is_eq-slice_cmp}
-use Rattle.std.specs.Borrow.{Bor}
-use mathlib.Core.Logic.{⊎_elim}
-use Rattle.std.specs.HashMap.{HashMap, UpdatesBy}
 use Rattle.std.specs.Ordering.{is_eq}
 use Rattle.std.specs.Cmp.Lexicographic.{nat_list_cmp_total, nat_list_eq_equiv, bytes_decides}
 use Rattle.std.specs.FinMap as map
 use Rattle.std.specs.FinMap.{find}
-use Rattle.std.specs.Map.{lookup, KeepsOthers}
 use Rattle.ks_symbols.specs.Configuration.{NameMap, by_name}
 use Rattle.ks_symbols.specs.Table.{with_values}
+use Rattle.ks_symbols.specs.TextMap.{value_of}
 use Rattle.ks_symbols.proofs.LastOnes.{order, bytes_exact, given_line}
 
--- whether a key is q
-abbrev pub is_key : List ℕ → Bor (List ℕ) → Bool
-is_key q k = bytes_eq q k.now
-
-found : {X : Type 0} (q : List ℕ) (es : List (Bor (List ℕ) × X)) → find order q (map_list (λ e. (e.0.now, e.1)) es) ≡ lookup (is_key q) es
+found : {X : Type 0} (q : List ℕ) (es : List (List ℕ × X)) → find order q es ≡ value_of q es
 found q [] = refl
-found q (e ∷ es) = ap (λ b. cond b (Some e.1) (find order q (map_list (λ f. (f.0.now, f.1)) es))) (is_eq-slice_cmp q e.0.now) ∙ ap (cond (is_key q e.0) (Some e.1)) (found q es)
+found q (e ∷ es) = ap (λ b. cond b (Some e.1) (find order q es)) (is_eq-slice_cmp q e.0) ∙ ap (cond (bytes_eq q e.0) (Some e.1)) (found q es)
 
--- what the map has at q is what the table has there
-pub get-by_name : {X : Type 0} (es : List (Bor (List ℕ) × X)) (q : List ℕ) → map.get (by_name es) q ≡ lookup (is_key q) es
-get-by_name es q = map.get-from_entries nat_list_cmp_total (map_list (λ e. (e.0.now, e.1)) es) q ∙ found q es
+-- what the map has at q is the value of q
+pub get-by_name : {X : Type 0} (es : List (List ℕ × X)) (q : List ℕ) → map.get (by_name es) q ≡ value_of q es
+get-by_name es q = map.get-from_entries nat_list_cmp_total es q ∙ found q es
 
-apart : (bs cs : List ℕ) → bytes_eq bs cs ≡ false → (k : Bor (List ℕ)) → is_key bs k ≡ true → is_key cs k ≡ false
-apart bs cs ne k here = nat_list_eq_equiv.symm cs k.now ∙ sym (nat_list_eq_equiv.congr bs k.now cs here) ∙ ne
+value_push : {X : Type 0} (q x : List ℕ) (v : X) (es : List (List ℕ × X)) → value_of x es ≡ None → value_of q (es ++ (x, v) ∷ []) ≡ cond (bytes_eq x q) (Some v) (value_of q es)
+value_push q x v [] none = ap (λ b. cond b (Some v) None) (nat_list_eq_equiv.symm q x)
+value_push q x v (e ∷ es) none = elim (cases_Bool (bytes_eq x e.0)) [
+  | inl is ↦ absurd (let e : Some e.1 ≡ None = sym (cond-true (bytes_eq x e.0) (Some e.1) (value_of x es) is) ∙ none in cc)
+  | inr ne ↦
+      ap (cond (bytes_eq q e.0) (Some e.1)) (value_push q x v es (sym (cond-false (bytes_eq x e.0) (Some e.1) (value_of x es) ne) ∙ none))
+      ∙ swapped (bytes_eq q e.0) (bytes_eq x q) (Some e.1) (Some v) (value_of q es) (λ here there. ne_both q x e.0 ne here there)
+]
+  where
+    ne_both : (q x y : List ℕ) → bytes_eq x y ≡ false → bytes_eq q y ≡ true → bytes_eq x q ≡ true → ⊥
+    ne_both q x y ne here there = let h : true ≡ false = sym (ap (λ (l : List ℕ). bytes_eq l y) ((bytes_decides x q).0 there) ∙ here) ∙ ne in cc
 
--- a write at the bytes bs leaves what each other key has
-lookup-updates : {X S : Type 0} (bs : List ℕ) (m n : HashMap (Bor (List ℕ)) X S) (w : Option X) → UpdatesBy (λ a b. bytes_eq a.now b.now) (is_key bs) m n w
-    → (q : List ℕ) → lookup (is_key q) n.entries ≡ cond (bytes_eq bs q) w (lookup (is_key q) m.entries)
-unfolding KeepsOthers
-lookup-updates bs m n w h q =
-    ⊎_elim
-    (λ is. subst (λ (l : List ℕ). lookup (is_key l) n.entries ≡ w) ((bytes_decides bs q).0 is) h.1 ∙ sym (cond-true (bytes_eq bs q) w _ is))
-    (λ ne. h.3 (is_key q) (λ x y. nat_list_eq_equiv.congr q x.now y.now) (apart bs q ne) ∙ sym (cond-false (bytes_eq bs q) w _ ne))
-    (cases_Bool (bytes_eq bs q))
+    swapped : {A : Type 0} (a b : Bool) (x y z : A) → (a ≡ true → b ≡ true → ⊥) → cond a x (cond b y z) ≡ cond b y (cond a x z)
+    swapped true true x y z h = absurd (h refl refl)
+    swapped true false x y z h = refl
+    swapped false true x y z h = refl
+    swapped false false x y z h = refl
 
--- an insertion into the table is one into the map
-pub insert-by_name : {X S : Type 0} (bs : List ℕ) (m n : HashMap (Bor (List ℕ)) X S) (v : X) → UpdatesBy (λ a b. bytes_eq a.now b.now) (is_key bs) m n (Some v)
-    → by_name n.entries ≡ map.insert (by_name m.entries) bs v
-insert-by_name bs m n v h =
+-- a pair at the end, of a text without a value, is an insertion into the map
+pub push-by_name : {X : Type 0} (es : List (List ℕ × X)) (x : List ℕ) (v : X) → value_of x es ≡ None → by_name (es ++ (x, v) ∷ []) ≡ map.insert (by_name es) x v
+push-by_name es x v none =
     map.same_map nat_list_cmp_total bytes_exact _ _ (λ q.
-    get-by_name n.entries q
-    ∙ lookup-updates bs m n (Some v) h q
-    ∙ ap (cond (bytes_eq bs q) (Some v)) (sym (get-by_name m.entries q))
-    ∙ sym (given_line (by_name m.entries) bs (Some v) q))
+    get-by_name (es ++ (x, v) ∷ []) q
+    ∙ value_push q x v es none
+    ∙ ap (cond (bytes_eq x q) (Some v)) (sym (get-by_name es q))
+    ∙ sym (given_line (by_name es) x (Some v) q))
+
+-- and so is nothing, where the text has the value
+pub again-by_name : {X : Type 0} (es : List (List ℕ × X)) (x : List ℕ) (v : X) → value_of x es ≡ Some v → by_name es ≡ map.insert (by_name es) x v
+again-by_name es x v there =
+    map.same_map nat_list_cmp_total bytes_exact _ _ (λ q.
+    same q ∙ sym (given_line (by_name es) x (Some v) q))
+  where
+    same : (q : List ℕ) → map.get (by_name es) q ≡ cond (bytes_eq x q) (Some v) (map.get (by_name es) q)
+    same q = elim (cases_Bool (bytes_eq x q)) [
+      | inl is ↦
+          ap (map.get (by_name es)) (sym ((bytes_decides x q).0 is)) ∙ get-by_name es x ∙ there
+          ∙ sym (cond-true (bytes_eq x q) (Some v) (map.get (by_name es) q) is)
+      | inr ne ↦ sym (cond-false (bytes_eq x q) (Some v) (map.get (by_name es) q) ne)
+    ]
 
 -- other values
 shown : {X Y : Type 0} (see : X → Y) (b : Bool) (s : X) (o : Option X) → cond b (Some (see s)) (option_map see o) ≡ option_map see (cond b (Some s) o)

@@ -1,5 +1,5 @@
 -- What contracts see of symbols and settings, and what a configuration is.
-use Rattle.std.specs.Prelude.{ℕ, List, ◌≡◌, IsTrue, Option, Some, refl, map as map_list, false}
+use Rattle.std.specs.Prelude.{ℕ, List, ◌≡◌, IsTrue, Option, Some, refl, false}
 use Rattle.std.specs.Coded.{Coded, code_by, coded_ℕ, coded_list, coded×}
 use Rattle.ks_symbols.specs.declared.kinds.Kind.{Kind}
 use Rattle.std.specs.Ordering.{nat_cmp}
@@ -33,9 +33,9 @@ coded_settings_view =
     code_by (NameMap (Kind × List ℕ) × ℕ) (coded× (map.code (coded_list coded_ℕ) (coded× coded_kind (coded_list coded_ℕ))) coded_ℕ)
     (λ d. (d.entries, d.unknown)) (λ p. record { entries = p.0; unknown = p.1 }) (λ _. refl)
 
--- the map of entries whose names are lent
-abbrev pub by_name : {X : Type 0} → List (Bor (List ℕ) × X) → NameMap X
-by_name entries = map.from_entries (map_list (λ e. (e.0.now, e.1)) entries)
+-- the map of entries in any order
+abbrev pub by_name : {X : Type 0} → List (List ℕ × X) → NameMap X
+by_name entries = map.from_entries entries
 
 -- an entry as it is lent
 abbrev pub lent_entry : Bor (List ℕ) × Kind × Bor (List ℕ) → List ℕ × (Kind × List ℕ)

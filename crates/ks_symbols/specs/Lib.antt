@@ -15,3 +15,5 @@ pub mod Settling
 pub mod Laws
 pub mod Examples
 pub mod Table
+pub mod Interner
+pub mod TextMap

@@ -3,7 +3,7 @@
 //! One missed declaration would leave a symbol out of the header, so whatever is not of the selection of
 //! forms is refused with its line, and nothing is guessed. Dependencies, defaults, choices, menus and
 //! `source` are left out: the values of a `.config` come resolved.
-ghost use Rattle.std.specs.Prelude.{◌≡◌, ◌+◌, ◌≤◌, ◌<◌, ◌^◌, ℕ, List, option_map, unwrap_or, codes, vec_items, IfOk, OnOk, IsTrue};
+ghost use Rattle.std.specs.Prelude.{◌≡◌, ◌+◌, ◌≤◌, ◌<◌, ◌^◌, ℕ, List, option_map, unwrap_or, codes, vec_items, false, Some, IfOk, OnOk, IsTrue};
 ghost use Rattle.std.specs.FinMap as map;
 ghost use Rattle.ks_symbols.specs.Refusals.{RefusedBy};
 ghost use Rattle.ks_symbols.specs.Configuration.{by_name, HasSymbolNames};
@@ -20,32 +20,31 @@ use crate::limits::MAX_BYTES;
 use crate::names::name_is_legal;
 use crate::symbols::Symbols;
 use crate::table::Draft;
+use crate::text_map::TextMap;
 use crate::titles::is_title;
 use bstr::ByteSlice;
 use std::alloc::{AllocError, Global};
-use std::collections::HashMap;
 use std::marker::Model;
 
 /// Whether a symbol of a kind was declared with another one before.
-fn clashes(kind: Kind, before: Option<Kind>) -> bool
-    ensures { result ≡ clashes kind before }
+fn clashes(kind: Kind, before: Kind) -> bool
+    ensures { result ≡ clashes kind (Some before) }
 {
-    match before {
-        None => false,
-        Some(before) => kind != before,
-    }
+    kind != before
 }
 
-/// Declares a symbol, and tells the kind that it was declared with before.
-fn declare<'a>(
-    kinds: &mut HashMap<&'a [u8], Kind>,
-    name: &'a [u8],
-    kind: Kind,
-) -> Result<Option<Kind>, AllocError>
-    ensures before { IfOk result (λ before. before ≡ map.get (by_name kinds.old.entries) name.now) }
-    ensures declared { OnOk result (by_name kinds.new.entries ≡ map.insert (by_name kinds.old.entries) name.now kind) }
+/// Declares a symbol, and tells whether it was declared with another kind before.
+fn declare(kinds: &mut TextMap<Kind>, name: &[u8], kind: Kind) -> Result<bool, AllocError>
+    ensures clash { IfOk result (λ clash. clash ≡ clashes kind (map.get (by_name kinds.old) name.now)) }
+    ensures declared { IfOk result (λ clash. clash ≡ false → by_name kinds.new ≡ map.insert (by_name kinds.old) name.now kind) }
 {
-    Ok(kinds.insert(name, kind)?)
+    match kinds.get(name) {
+        Some(before) => Ok(clashes(kind, *before)),
+        None => {
+            kinds.push(name, kind)?;
+            Ok(false)
+        }
+    }
 }
 
 /// A copy of the title, or of the one that a text without a title line has.
@@ -59,10 +58,10 @@ fn title_or_default(alloc: Global, title: Option<&[u8]>) -> Result<Vec<u8>, Allo
 }
 
 /// What was read of a Kconfig text so far. A clash is told at its line, so while the text is read its names stand in a
-/// hash table too.
+/// `TextMap` too.
 #[derive(Drop)]
 struct Reader<'a> {
-    kinds: HashMap<&'a [u8], Kind>,
+    kinds: TextMap<Kind>,
     symbols: Draft<Kind>,
     title: Option<&'a [u8]>,
     started: bool,
@@ -78,7 +77,7 @@ impl<'a> Model for Reader<'a> {
 
     ghost coded = { coded_progress };
 
-    ghost view = { λ s. record { kinds = by_name s.kinds.entries; symbols = s.symbols; title = option_map (λ t. t.now) s.title; started = s.started; waiting = option_map (λ w. (w.0, w.1.now)) s.waiting } };
+    ghost view = { λ s. record { kinds = by_name s.kinds; symbols = s.symbols; title = option_map (λ t. t.now) s.title; started = s.started; waiting = option_map (λ w. (w.0, w.1.now)) s.waiting } };
 }
 
 impl<'a> Reader<'a> {
@@ -86,7 +85,7 @@ impl<'a> Reader<'a> {
         ensures { result ≡ no_progress }
     {
         Reader {
-            kinds: HashMap::new(alloc),
+            kinds: TextMap::new(alloc),
             symbols: Draft::new(alloc),
             title: None,
             started: false,
@@ -141,8 +140,7 @@ impl<'a> Reader<'a> {
         let Some((_, name)) = self.waiting.take() else {
             return Err(SourceError::NotBare(number));
         };
-        let before = declare(&mut self.kinds, name, kind)?;
-        if clashes(kind, before) {
+        if declare(&mut self.kinds, name, kind)? {
             return Err(SourceError::TypeClash(number));
         }
         self.symbols.put(name, kind, b"")?;

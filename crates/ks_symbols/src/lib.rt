@@ -5,6 +5,7 @@ mod decimal;
 mod dotconfig;
 mod error;
 mod forms;
+mod interner;
 mod kconfig;
 mod kinds;
 mod laws;
@@ -14,12 +15,15 @@ mod settings;
 mod statements;
 mod symbols;
 mod table;
+mod text_map;
+mod texts;
 mod titles;
 mod values;
 
 pub use decimal::{decimals_read_back, read_decimal, write_decimal};
 pub use dotconfig::read_dotconfig;
 pub use error::SourceError;
+pub use interner::Interner;
 pub use kconfig::read_kconfig;
 pub use kinds::{Class, Kind, value_is_valid};
 pub use laws::{
@@ -32,6 +36,8 @@ pub use settings::{Entries, Settings};
 pub use statements::{Statement, is_silent, parse_statement, split_word};
 pub use symbols::Symbols;
 pub use table::{Draft, Rows, Table};
+pub use text_map::{LentEntries, TextMap};
+pub use texts::LentTexts;
 
 #[cfg(test)]
 mod tests;

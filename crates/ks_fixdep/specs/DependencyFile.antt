@@ -1,6 +1,5 @@
 -- Dependency files, as compilers write them with -MD: their prerequisites and the roles of these. The cut into tokens, the roles and the refusals are rules of this project.
-use Rattle.std.specs.Prelude.{◌+◌, ◌<◌, Option, Some, None, ℕ, Bool, ◌&&◌, not, nat_eq, nat_le, IsTrue, List, [], ◌∷◌, ◌++◌, if◌then◌else◌, codes, map, String, string_bytes, length, fold}
-use Rattle.std.specs.Global.{Global}
+use Rattle.std.specs.Prelude.{◌+◌, ◌<◌, Option, Some, None, ℕ, Bool, ◌&&◌, not, nat_eq, nat_le, IsTrue, List, [], ◌∷◌, ◌++◌, if◌then◌else◌, codes, length, fold}
 use Rattle.std.specs.List.{list_all, list_any, ends_with, after_last}
 use Rattle.std.specs.Str.{bytes_eq}
 use Rattle.ks_symbols.specs.Lines.{max_bytes}
@@ -75,7 +74,3 @@ dependency_refusal text = if nat_le (length text) max_bytes then token_refusal (
 pub record ArePrerequisites (ps : List (List ℕ × Role)) : Type 0 where
   pub some : 0 < length ps
   pub legal : IsTrue (list_all (λ p. is_path p.0) ps)
-
--- what a map from paths to roles says
-abbrev pub entries_seen : List (String Global × Role) → List (List ℕ × Role)
-entries_seen es = map (λ e. (string_bytes e.0, e.1)) es

@@ -1,14 +1,9 @@
 -- The names found in a text, each once, in the order in which they were first noted. (fixdep.c keeps a table of hashes for this.)
-use Rattle.std.specs.Prelude.{◌≡◌, ℕ, List, [], ◌∷◌, ◌++◌, if◌then◌else◌, flat_map, map, string_bytes, IsTrue, String}
-use Rattle.std.specs.Global.{Global}
+use Rattle.std.specs.Prelude.{◌≡◌, ℕ, List, [], ◌∷◌, ◌++◌, if◌then◌else◌, flat_map, map, IsTrue}
 use Rattle.std.specs.List.{fold, list_all, list_any}
 use Rattle.std.specs.Str.{bytes_eq}
 use Rattle.ks_symbols.specs.Names.{is_name}
 use Rattle.ks_fixdep.specs.Scan.{taken, bare_name}
-
--- the bytes of texts
-abbrev pub texts_of : List (String Global) → List (List ℕ)
-texts_of texts = map (λ text. string_bytes text) texts
 
 -- the names, and x at their end unless x is among them
 abbrev pub noted : List (List ℕ) → List ℕ → List (List ℕ)

@@ -1,5 +1,5 @@
 -- A command file that lies in the memory of its text.
-use Rattle.std.specs.Prelude.{List, map}
+use Rattle.std.specs.Prelude.{map}
 use Rattle.ks_fixdep.specs.declared.command_file.Dep.{Dep}
 use Rattle.ks_fixdep.specs.declared.command_file.Dep.TheVariants as dep
 use Rattle.ks_fixdep.specs.declared.command_file.lent.LentDep.{LentDep}

@@ -1,11 +1,11 @@
 //! The command file of an object, from its prerequisites and the names found in them. Each name stands once,
 //! with the first prerequisite that has it, so that the file is short and the same on every machine.
-ghost use Rattle.std.specs.Prelude.{◌≡◌, ◌++◌, [], List, ℕ, IfOk, IsTrue, OnOk, drop, length, map, string_bytes, take};
+ghost use Rattle.std.specs.Prelude.{◌≡◌, ◌++◌, [], List, ℕ, IfOk, IsTrue, OnOk, drop, length, map, take};
 ghost use Rattle.std.specs.List.{list_all};
 ghost use Rattle.ks_symbols.specs.Names.{is_name, is_path};
 ghost use Rattle.ks_symbols.specs.Refusals.{RefusedBy};
 ghost use Rattle.ks_fixdep.specs.CommandFile.{view};
-ghost use Rattle.ks_fixdep.specs.FoundNames.{names_in, texts_of};
+ghost use Rattle.ks_fixdep.specs.FoundNames.{names_in};
 ghost use Rattle.ks_fixdep.specs.Record.{own_line, deps_after, source_of, record_of, record_refusal};
 ghost use Rattle.ks_fixdep.specs.SourceScan.{AreNamesOf};
 ghost use Rattle.ks_fixdep.specs.declared.command_file.Dep.TheVariants.{Config};
@@ -14,36 +14,41 @@ use crate::command_file::{CommandFile, Dep, command_is_legal};
 use crate::dep_error::DepError;
 use crate::dependency_file::{Prerequisites, Role};
 use crate::source_scan::{NamesBySource, SourceScan};
-use indexmap::set::IntoIter;
-use ks_symbols::{Name, Path, target_is_legal};
+use ks_symbols::{LentTexts, Name, Path, target_is_legal};
 use std::alloc::{AllocError, Global};
 
 /// Lists a prerequisite, where its role says so.
-fn push_own_line(path: String, role: Role, deps: &mut Vec<Dep>) -> Result<(), AllocError>
-    requires { IsTrue (is_path (string_bytes path)) }
-    ensures { OnOk result (deps.new.items ≡ deps.old.items ++ own_line (string_bytes path, role)) }
+fn push_own_line(
+    alloc: Global,
+    path: &[u8],
+    role: Role,
+    deps: &mut Vec<Dep>,
+) -> Result<(), AllocError>
+    requires { IsTrue (is_path path.now) }
+    ensures { OnOk result (deps.new.items ≡ deps.old.items ++ own_line (path.now, role)) }
 {
     if role == Role::Listed {
-        deps.push(Dep::File(Path::from_vec(path.into_bytes())))?;
+        deps.push(Dep::File(Path::new(alloc, path)?))?;
     }
     Ok(())
 }
 
 /// Lists the next names, as many of them as this.
 fn push_names(
-    names: &mut IntoIter<String>,
+    alloc: Global,
+    names: &mut LentTexts<'_>,
     count: usize,
     deps: &mut Vec<Dep>,
 ) -> Result<(), AllocError>
-    requires { IsTrue (list_all is_name (texts_of names.old)) }
-    ensures deps { OnOk result (deps.new.items ≡ deps.old.items ++ map Config (take count (texts_of names.old))) }
-    ensures rest { OnOk result (texts_of names.new ≡ drop count (texts_of names.old)) }
+    requires { IsTrue (list_all is_name names.old) }
+    ensures deps { OnOk result (deps.new.items ≡ deps.old.items ++ map Config (take count names.old)) }
+    ensures rest { OnOk result (names.new ≡ drop count names.old) }
 {
     for _ in 0..count {
         let Some(name) = names.next() else {
             return Ok(());
         };
-        deps.push(Dep::Config(Name::from_vec(name.into_bytes())))?;
+        deps.push(Dep::Config(Name::new(alloc, name)?))?;
     }
     Ok(())
 }
@@ -51,24 +56,23 @@ fn push_names(
 /// The dependency lines of an object.
 fn dependencies(
     alloc: Global,
-    prerequisites: Prerequisites,
-    found: NamesBySource,
+    prerequisites: &Prerequisites,
+    found: &NamesBySource,
 ) -> Result<Vec<Dep>, AllocError>
-    requires { length found.counts.items ≡ length prerequisites }
-    ensures { IfOk result (λ deps. (ts : List (List ℕ)) → AreNamesOf found ts → deps.items ≡ deps_after [] prerequisites (map names_in ts)) }
+    requires { length found.now.counts.items ≡ length prerequisites.now }
+    ensures { IfOk result (λ deps. (ts : List (List ℕ)) → AreNamesOf found.now ts → deps.items ≡ deps_after [] prerequisites.now (map names_in ts)) }
 {
-    let NamesBySource { names, counts } = found;
-    let most = prerequisites.len().saturating_add(names.len());
+    let most = prerequisites.len().saturating_add(found.names.len());
     let mut deps = Vec::with_capacity(alloc, most)?;
-    let mut entries = prerequisites.into_entries();
-    let mut names = names.into_names();
+    let mut entries = prerequisites.entries();
+    let mut names = found.names.names();
     let mut listed = 0;
-    for count in &counts {
+    for count in &found.counts {
         let Some((path, role)) = entries.next() else {
             unreachable!();
         };
-        push_own_line(path, role, &mut deps)?;
-        push_names(&mut names, count.saturating_sub(listed), &mut deps)?;
+        push_own_line(alloc, path, *role, &mut deps)?;
+        push_names(alloc, &mut names, count.saturating_sub(listed), &mut deps)?;
         listed = *count;
     }
     Ok(deps)
@@ -107,7 +111,7 @@ pub fn build_from(
         target: Path::new(alloc, target)?,
         command: command.to_vec(alloc)?,
         source: source_path(alloc, &prerequisites)?,
-        deps: dependencies(alloc, prerequisites, found)?,
+        deps: dependencies(alloc, &prerequisites, &found)?,
         generation: None,
     })
 }

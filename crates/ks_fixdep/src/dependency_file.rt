@@ -8,20 +8,14 @@ ghost use Rattle.ks_symbols.specs.Lines.{max_bytes};
 ghost use Rattle.ks_symbols.specs.Names.{is_path};
 ghost use Rattle.ks_symbols.specs.Refusals.{IsRefusal, RefusedBy};
 ghost use Rattle.ks_fixdep.specs.Tokens.{tokens};
-ghost use Rattle.ks_fixdep.specs.DependencyFile.{is_target_token, header_path, added, entries_seen, prerequisites, token_refusal, dependency_refusal};
+ghost use Rattle.ks_fixdep.specs.DependencyFile.{is_target_token, header_path, added, prerequisites, token_refusal, dependency_refusal};
 ghost use Rattle.ks_fixdep.specs.declared.dependency_file.Role.TheVariants as role;
 
-use crate::ascii::as_text;
 use crate::dep_error::DepError;
 use crate::tokens::Tokens;
-use indexmap::IndexMap;
-use indexmap::map::IntoIter;
-use ks_symbols::{MAX_BYTES, path_is_legal};
+use ks_symbols::{LentEntries, MAX_BYTES, TextMap, path_is_legal};
 use std::alloc::{AllocError, Global};
 use std::marker::Model;
-
-/// About how many bytes a path takes in a dependency file, with what stands between it and the next one.
-const USUAL_PATH: usize = 36;
 
 const HEADER: &[u8] = b"include/generated/autoconf.h";
 
@@ -37,7 +31,7 @@ pub enum Role {
 /// The prerequisites of an object with their roles, in the order of their first places. There is one at least.
 #[derive(Drop)]
 pub struct Prerequisites {
-    by_path: IndexMap<String, Role>,
+    by_path: TextMap<Role>,
 }
 
 impl Model for Prerequisites {
@@ -46,11 +40,11 @@ impl Model for Prerequisites {
 
     ghost Value = { List (List ℕ × Role) };
 
-    ghost use Rattle.ks_fixdep.specs.DependencyFile.{entries_seen, ArePrerequisites};
+    ghost use Rattle.ks_fixdep.specs.DependencyFile.{ArePrerequisites};
 
-    ghost view = { λ p. entries_seen p.by_path.entries };
+    ghost view = { λ p. p.by_path };
 
-    ghost invariant = { λ p. ArePrerequisites (entries_seen p.by_path.entries) };
+    ghost invariant = { λ p. ArePrerequisites p.by_path };
 }
 
 impl Prerequisites {
@@ -67,18 +61,18 @@ impl Prerequisites {
         ensures value { option_map (λ p. (p.0.now, p.1)) result ≡ slice_get self.now place }
         ensures legal { IfSome result (λ p. IsTrue (is_path p.0.now)) }
     {
-        match self.by_path.get_index(place) {
-            Some((path, role)) => Some((path.as_bytes(), *role)),
+        match self.by_path.get_at(place) {
+            Some((path, role)) => Some((path, *role)),
             None => None,
         }
     }
 
-    /// Their paths and roles, owned, in their order.
-    pub(crate) fn into_entries(self) -> IntoIter<String, Role>
-        ensures value { entries_seen result ≡ self }
-        ensures legal { IsTrue (list_all (λ p. is_path p.0) (entries_seen result)) }
+    /// Their paths and roles, in their order.
+    pub(crate) fn entries(&self) -> LentEntries<'_, Role>
+        ensures value { result ≡ self.now }
+        ensures legal { IsTrue (list_all (λ p. is_path p.0) result) }
     {
-        self.by_path.into_iter()
+        self.by_path.entries()
     }
 }
 
@@ -108,24 +102,13 @@ fn next_role(has_kept: bool, has_kept_since_target: bool) -> Role
 }
 
 /// Notes a prerequisite, unless its path was noted before.
-fn note(
-    alloc: Global,
-    by_path: &mut IndexMap<String, Role>,
-    path: &[u8],
-    role: Role,
-) -> Result<(), AllocError>
-    requires { IsTrue (is_path path.now) }
-    ensures { OnOk result (entries_seen by_path.new.entries ≡ added (entries_seen by_path.old.entries) (path.now, role)) }
+fn note(by_path: &mut TextMap<Role>, path: &[u8], role: Role) -> Result<(), AllocError>
+    ensures { OnOk result (by_path.new ≡ added by_path.old (path.now, role)) }
 {
-    let path = as_text(path);
-    if by_path.contains_key(path) {
-        return Ok(());
+    match by_path.get(path) {
+        Some(_) => Ok(()),
+        None => by_path.push(path, role),
     }
-    let owned = String::from_str(alloc, path)?;
-    let Ok(_) = by_path.insert(owned, role) else {
-        return Err(AllocError);
-    };
-    Ok(())
 }
 
 /// What is known of the tokens so far.
@@ -135,28 +118,28 @@ struct Progress {
     has_target: bool,
     has_kept: bool,
     has_kept_since_target: bool,
-    by_path: IndexMap<String, Role>,
+    by_path: TextMap<Role>,
 }
 
 impl Progress {
     ghost use Rattle.ks_fixdep.specs.Progress.{Stands};
     ghost use Rattle.ks_fixdep.specs.DependencyFile.{fault_after};
 
-    /// No token was read yet, and there is room for so many paths.
-    fn with_capacity(alloc: Global, paths: usize) -> Result<Progress, AllocError>
-        ensures { IfOk result (λ p. Stands p []) }
+    /// No token was read yet.
+    fn new(alloc: Global) -> Progress
+        ensures { Stands result [] }
     {
-        Ok(Progress {
+        Progress {
             number: 0,
             has_target: false,
             has_kept: false,
             has_kept_since_target: false,
-            by_path: IndexMap::with_capacity(alloc, paths)?,
-        })
+            by_path: TextMap::new(alloc),
+        }
     }
 
     /// Takes one more token.
-    fn take(&mut self, alloc: Global, token: &[u8]) -> Result<(), DepError>
+    fn take(&mut self, token: &[u8]) -> Result<(), DepError>
         requires { self.old.number < 2 ^ 63 }
         ensures stands { OnOk result ((seen : List (List ℕ)) → Stands self.old seen → Stands self.new (seen ++ token.now ∷ [])) }
         ensures fits { OnOk result ((seen : List (List ℕ)) → Stands self.old seen → fault_after seen token.now ≡ None) }
@@ -178,7 +161,7 @@ impl Progress {
             return Err(DepError::BadPath(self.number));
         }
         let role = next_role(self.has_kept, self.has_kept_since_target);
-        note(alloc, &mut self.by_path, token, role)?;
+        note(&mut self.by_path, token, role)?;
         self.has_kept = true;
         self.has_kept_since_target = true;
         Ok(())
@@ -191,9 +174,9 @@ fn prerequisites_of(alloc: Global, text: &[u8]) -> Result<Prerequisites, DepErro
     ensures value { IfOk result (λ p. p ≡ prerequisites text.now) }
     ensures refusal { RefusedBy DepError.OutOfMemory result (token_refusal (tokens text.now)) }
 {
-    let mut progress = Progress::with_capacity(alloc, text.len() / USUAL_PATH)?;
+    let mut progress = Progress::new(alloc);
     for token in Tokens::new(text) {
-        progress.take(alloc, token)?;
+        progress.take(token)?;
     }
     if !progress.has_kept {
         return Err(DepError::NoTarget);

@@ -1,8 +1,7 @@
 //! The names found in one source, each once. A header names the same symbol many times, and one line of the
 //! command file is enough. The order of first places is kept, so that the same sources give the same file.
-//! The set hashes by a fixed key, since making an empty one takes no memory and no randomness.
 ghost use Rattle.std.specs.Prelude.{◌≡◌, ◌↔◌, [], IfSome, IsTrue, OnOk, OnErr, length, map};
-ghost use Rattle.std.specs.List.{list_all, list_any};
+ghost use Rattle.std.specs.List.{list_any};
 ghost use Rattle.std.specs.Option.{option_copied};
 ghost use Rattle.std.specs.Str.{bytes_eq};
 ghost use Rattle.ks_symbols.specs.Names.{is_name};
@@ -11,43 +10,38 @@ ghost use Rattle.ks_fixdep.specs.FoundNames.{all_noted};
 ghost use Rattle.ks_fixdep.specs.Scan.{bare_name};
 ghost use Rattle.ks_fixdep.specs.Stream.{list_of};
 
-use crate::ascii::as_text;
 use crate::name_iter::NameIter;
 use crate::prefix_finder::PrefixFinder;
-use indexmap::IndexSet;
-use indexmap::set::IntoIter;
+use ks_symbols::{Interner, LentTexts};
 use std::alloc::{AllocError, Global};
 use std::marker::Model;
 
 /// Legal names in the order in which they were first noted, each once.
 #[derive(Drop)]
 pub struct FoundNames {
-    alloc: Global,
-    names: IndexSet<String>,
+    names: Interner,
 }
 
 impl Model for FoundNames {
     ghost use Rattle.std.specs.Prelude.{List, ℕ};
-    ghost use Rattle.indexmap.specs.IndexSet.{keys};
-    ghost use Rattle.ks_fixdep.specs.FoundNames.{AreFoundNames, texts_of};
+    ghost use Rattle.ks_fixdep.specs.FoundNames.{AreFoundNames};
 
     ghost Value = { List (List ℕ) };
 
-    ghost view = { λ f. texts_of (keys f.names) };
+    ghost view = { λ f. f.names };
 
-    ghost invariant = { λ f. AreFoundNames (texts_of (keys f.names)) };
+    ghost invariant = { λ f. AreFoundNames f.names };
 }
 
 impl FoundNames {
-    ghost use Rattle.ks_fixdep.specs.FoundNames.{noted, texts_of, AreFoundNames};
+    ghost use Rattle.ks_fixdep.specs.FoundNames.{noted, AreFoundNames};
 
     /// No names. It takes no memory until one is noted.
     pub fn new(alloc: Global) -> Self
         ensures { result ≡ [] }
     {
         FoundNames {
-            alloc,
-            names: IndexSet::new(alloc),
+            names: Interner::new(alloc),
         }
     }
 
@@ -55,10 +49,10 @@ impl FoundNames {
     fn ends_with(&self, name: &[u8]) -> bool
         ensures { IsTrue result → IsTrue (list_any (bytes_eq name.now) self.now) }
     {
-        let Some(last) = self.names.last() else {
+        let Some(last) = self.names.text(self.names.len().saturating_sub(1)) else {
             return false;
         };
-        name == last.as_bytes()
+        name == last
     }
 
     /// Notes a name, unless it was noted before.
@@ -70,22 +64,7 @@ impl FoundNames {
         if self.ends_with(name) {
             return Ok(());
         }
-        self.note_text(as_text(name))
-    }
-
-    /// Notes a name that is text.
-    pub(crate) fn note_text(&mut self, name: &str) -> Result<(), AllocError>
-        requires { IsTrue (is_name name.now) }
-        ensures ok { OnOk result (self.new ≡ noted self.old name.now) }
-        ensures err { OnErr result (self.new ≡ self.old) }
-    {
-        if self.names.contains(name) {
-            return Ok(());
-        }
-        let owned = String::from_str(self.alloc, name)?;
-        let Ok(_) = self.names.insert(owned) else {
-            return Err(AllocError);
-        };
+        self.names.note(name)?;
         Ok(())
     }
 
@@ -100,23 +79,15 @@ impl FoundNames {
     pub fn is_empty(&self) -> bool
         ensures { IsTrue result ↔ (self.now ≡ []) }
     {
-        self.names.is_empty()
+        self.names.len() == 0
     }
 
     /// The names, in the order in which they were first noted.
-    pub fn as_slice(&self) -> &[String]
-        ensures value { texts_of result.now ≡ self.now }
-        ensures found { AreFoundNames self.now }
+    pub fn names(&self) -> LentTexts<'_>
+        ensures value { result ≡ self.now }
+        ensures found { AreFoundNames result }
     {
-        self.names.as_slice()
-    }
-
-    /// The names, owned, in the order in which they were first noted.
-    pub(crate) fn into_names(self) -> IntoIter<String>
-        ensures value { texts_of result ≡ self }
-        ensures legal { IsTrue (list_all is_name (texts_of result)) }
-    {
-        self.names.into_iter()
+        self.names.texts()
     }
 }
 
@@ -149,8 +120,8 @@ pub(crate) fn note_carried(found: &mut FoundNames, carried: Option<&[u8]>) -> Re
 pub(crate) fn note_known(found: &mut FoundNames, known: &FoundNames) -> Result<(), AllocError>
     ensures { OnOk result (found.new ≡ all_noted found.old known.now) }
 {
-    for name in known.as_slice() {
-        found.note_text(name.as_str())?;
+    for name in known.names() {
+        found.note(name)?;
     }
     Ok(())
 }

@@ -60,8 +60,8 @@ fn found_in(alloc: Global, pieces: &[&[u8]]) -> Result<Vec<u8>, AllocError> {
 
 fn spelled(alloc: Global, found: &FoundNames) -> Result<Vec<u8>, AllocError> {
     let mut all = Vec::new(alloc);
-    for name in found.as_slice() {
-        push_name(&mut all, name.as_bytes())?;
+    for name in found.names() {
+        push_name(&mut all, name)?;
     }
     Ok(all)
 }

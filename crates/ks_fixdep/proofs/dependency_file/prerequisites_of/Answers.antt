@@ -43,7 +43,7 @@ returns-in_err-take-clause-refusal c =
     let ys = drop (suc (length xs)) all in
     let is : tokens c.args.text.now ≡ seen ++ x ∷ ys = same ∙ parted all (length xs) x turn.0 turn.1 ∙ ap (λ l. l ++ x ∷ ys) (sym front) in
     let e = c.in_err-take.field-0.0 in
-    refused-err c.from_residual-in_err-take.result e (token_refusal (tokens c.args.text.now)) c.from_residual-in_err-take.ensures.0 c.from_residual-in_err-take.ensures.1
+    refused-err c.from_residual.result e (token_refusal (tokens c.args.text.now)) c.from_residual.ensures.0 c.from_residual.ensures.1
     (refused-through e (tokens c.args.text.now) seen x ys is c.loop-token.invariant.fits (c.in_err-take.ensures.refusal seen c.loop-token.invariant.stands))
 
 pub returns-then-not-progress-clause-refusal : goal.returns-then-not-progress-clause-refusal

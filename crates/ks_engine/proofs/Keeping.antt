@@ -1,11 +1,10 @@
 -- What is kept of a tree: what a look-up finds holds of the files, and what is added does.
-use Rattle.std.proofs.Common.{◌≡◌, ◌≢◌, true≢false, is_some, ℕ, Bool, true, false, List, [], ◌∷◌, Some, refl, ap, sym, ◌∙◌, subst, String, Global, if◌then◌else◌, bytes_eq}
-use Rattle.std.specs.Prelude.{string_bytes, IfSome}
+use Rattle.std.proofs.Common.{◌≡◌, ◌≢◌, true≢false, is_some, ℕ, true, false, List, [], ◌∷◌, ◌++◌, Some, refl, ap, sym, ◌∙◌, subst, if◌then◌else◌, bytes_eq}
+use Rattle.std.specs.Prelude.{IfSome}
 use Rattle.std.specs.List.{All}
-use Rattle.std.specs.Map.{lookup}
 use Rattle.std.proofs.lemmas.List.Elements.{All-nil, All-cons, All-head, All-tail}
 use Rattle.std.proofs.lemmas.Slice.Eq.{bytes_eq-Decides}
-use Rattle.indexmap.specs.IndexMap.{insert_entry}
+use Rattle.ks_symbols.specs.TextMap.{value_of}
 use Rattle.ks_tree.specs.Files.{Files, content, SameButBoth}
 use Rattle.ks_tree.specs.Paths.{auto_path, stamp_path, command_path, command_temporary, AutoConf, Stamp, CommandFile, CommandTemporary}
 use Rattle.ks_tree.specs.Stamps.{HasNumber}
@@ -15,65 +14,59 @@ use Rattle.ks_engine.specs.Memos.{IsStamp, AreStamps, IsSource, AreSources, IsNo
 use Rattle.ks_engine.specs.Recording.{scanned}
 use Rattle.ks_engine.proofs.LowerLaws.{apart}
 
-abbrev same_items : String Global → String Global → Bool
-same_items a b = bytes_eq (string_bytes a) (string_bytes b)
-
 module _ {V : Type 0} (P : List ℕ → V → Type 0) where
-  abbrev at : String Global × V → Type 0
-  at e = P (string_bytes e.0) e.1
+  abbrev at : List ℕ × V → Type 0
+  at e = P e.0 e.1
 
-  pub kept_found : (x : List ℕ) (v : V) (es : List (String Global × V)) → All (λ e. P (string_bytes e.0) e.1) es → lookup (λ k. bytes_eq x (string_bytes k)) es ≡ Some v → P x v
+  pub kept_found : (x : List ℕ) (v : V) (es : List (List ℕ × V)) → All (λ e. P e.0 e.1) es → value_of x es ≡ Some v → P x v
   kept_found x v [] all is = absurd cc
-  kept_found x v (e ∷ es) all is = (elim (bytes_eq x (string_bytes e.0)) as (λ b. bytes_eq x (string_bytes e.0) ≡ b → (if b then Some e.1 else lookup (λ k. bytes_eq x (string_bytes k)) es) ≡ Some v → P x v) [
-    | true ↦ λ t s. subst (λ o. IfSome o (P x)) s (subst (λ y. P y e.1) (sym ((bytes_eq-Decides x (string_bytes e.0)).0 t)) (All-head at e es all))
+  kept_found x v (e ∷ es) all is = (elim (bytes_eq x e.0) as (λ b. bytes_eq x e.0 ≡ b → (if b then Some e.1 else value_of x es) ≡ Some v → P x v) [
+    | true ↦ λ t s. subst (λ o. IfSome o (P x)) s (subst (λ y. P y e.1) (sym ((bytes_eq-Decides x e.0).0 t)) (All-head at e es all))
     | false ↦ λ f s. kept_found x v es (All-tail at e es all) s
   ]) refl is
 
-  pub kept_added : (k : String Global) (v : V) (es : List (String Global × V)) → All (λ e. P (string_bytes e.0) e.1) es → P (string_bytes k) v → All (λ e. P (string_bytes e.0) e.1) (insert_entry same_items es k v)
+  pub kept_added : (k : List ℕ) (v : V) (es : List (List ℕ × V)) → All (λ e. P e.0 e.1) es → P k v → All (λ e. P e.0 e.1) (es ++ (k, v) ∷ [])
   kept_added k v [] all new = All-cons at (k, v) [] new (All-nil at)
-  kept_added k v (e ∷ es) all new = (elim (bytes_eq (string_bytes k) (string_bytes e.0)) as (λ b. bytes_eq (string_bytes k) (string_bytes e.0) ≡ b → All (λ e. P (string_bytes e.0) e.1) (if b then (e.0, v) ∷ es else e ∷ insert_entry same_items es k v)) [
-    | true ↦ λ t. All-cons at (e.0, v) es (subst (λ y. P y v) ((bytes_eq-Decides (string_bytes k) (string_bytes e.0)).0 t) new) (All-tail at e es all)
-    | false ↦ λ f. All-cons at e _ (All-head at e es all) (kept_added k v es (All-tail at e es all) new)
-  ]) refl
+  kept_added k v (e ∷ es) all new = All-cons at e (es ++ (k, v) ∷ []) (All-head at e es all) (kept_added k v es (All-tail at e es all) new)
 
 -- ---- what a record writes is nothing that is kept
 
-stamps_kept : (old new : Files) (o : List ℕ) (es : List (String Global × ℕ)) → SameButBoth (command_temporary o) (command_path o) old new → AreStamps old es → AreStamps new es
+stamps_kept : (old new : Files) (o : List ℕ) (es : List (List ℕ × ℕ)) → SameButBoth (command_temporary o) (command_path o) old new → AreStamps old es → AreStamps new es
 stamps_kept old new o [] others are = All-nil _
 stamps_kept old new o (e ∷ es) others are =
-    let here = All-head (λ s. IsStamp old (string_bytes s.0) s.1) e es are in
-    let x = string_bytes e.0 in
+    let here = All-head (λ s. IsStamp old (s.0) s.1) e es are in
+    let x = e.0 in
     let same : content new (stamp_path x) ≡ content old (stamp_path x) =
     others (stamp_path x) (apart (Stamp x) (CommandTemporary o) here.0 tt (λ e. cc)) (apart (Stamp x) (CommandFile o) here.0 tt (λ e. cc)) in
-    All-cons (λ s. IsStamp new (string_bytes s.0) s.1) e es (here.0, subst (λ b. HasNumber b e.1) (sym same) here.1) (stamps_kept old new o es others (All-tail (λ s. IsStamp old (string_bytes s.0) s.1) e es are))
+    All-cons (λ s. IsStamp new (s.0) s.1) e es (here.0, subst (λ b. HasNumber b e.1) (sym same) here.1) (stamps_kept old new o es others (All-tail (λ s. IsStamp old (s.0) s.1) e es are))
 
-sources_kept : (old new : Files) (o : List ℕ) (es : List (String Global × List (List ℕ))) → SameButBoth (command_temporary o) (command_path o) old new
-    → All (λ s. string_bytes s.0 ≢ command_temporary o) es → All (λ s. string_bytes s.0 ≢ command_path o) es → AreSources old es → AreSources new es
+sources_kept : (old new : Files) (o : List ℕ) (es : List (List ℕ × List (List ℕ))) → SameButBoth (command_temporary o) (command_path o) old new
+    → All (λ s. s.0 ≢ command_temporary o) es → All (λ s. s.0 ≢ command_path o) es → AreSources old es → AreSources new es
 sources_kept old new o [] others no_temporary no_path are = All-nil _
 sources_kept old new o (e ∷ es) others no_temporary no_path are =
-    let path = string_bytes e.0 in
-    let same : content new path ≡ content old path = others path (All-head (λ s. string_bytes s.0 ≢ command_temporary o) e es no_temporary) (All-head (λ s. string_bytes s.0 ≢ command_path o) e es no_path) in
-    let here = All-head (λ s. IsSource old (string_bytes s.0) s.1) e es are in
-    All-cons (λ s. IsSource new (string_bytes s.0) s.1) e es (here.0, here.1, ap (scanned path) same ∙ here.2)
-    (sources_kept old new o es others (All-tail (λ s. string_bytes s.0 ≢ command_temporary o) e es no_temporary) (All-tail (λ s. string_bytes s.0 ≢ command_path o) e es no_path)
-    (All-tail (λ s. IsSource old (string_bytes s.0) s.1) e es are))
+    let path = e.0 in
+    let same : content new path ≡ content old path = others path (All-head (λ s. s.0 ≢ command_temporary o) e es no_temporary) (All-head (λ s. s.0 ≢ command_path o) e es no_path) in
+    let here = All-head (λ s. IsSource old (s.0) s.1) e es are in
+    All-cons (λ s. IsSource new (s.0) s.1) e es (here.0, here.1, ap (scanned path) same ∙ here.2)
+    (sources_kept old new o es others (All-tail (λ s. s.0 ≢ command_temporary o) e es no_temporary) (All-tail (λ s. s.0 ≢ command_path o) e es no_path)
+    (All-tail (λ s. IsSource old (s.0) s.1) e es are))
 
 pub memo_kept : (old new : Files) (o : List ℕ) (memo : Memo) → SameButBoth (command_temporary o) (command_path o) old new → IsNoSource (command_temporary o) memo → IsNoSource (command_path o) memo
     → IsMemoOf old memo → IsMemoOf new memo
 memo_kept old new o memo others no_temporary no_path is = record {
   generation = λ g kept. ap last_generation (others auto_path (apart AutoConf (CommandTemporary o) tt tt (λ e. cc)) (apart AutoConf (CommandFile o) tt tt (λ e. cc))) ∙ is.generation g kept;
-  stamps = stamps_kept old new o memo.stamps.entries others is.stamps;
-  sources = sources_kept old new o memo.sources.entries others no_temporary no_path is.sources;
+  stamps = stamps_kept old new o memo.stamps others is.stamps;
+  sources = sources_kept old new o memo.sources others no_temporary no_path is.sources;
 }
 
 -- ---- a path that a map has not
 
-not_kept : (x : List ℕ) {V : Type 0} (es : List (String Global × V)) → is_some (lookup (λ k. bytes_eq x (string_bytes k)) es) ≡ false → All (λ e. string_bytes e.0 ≢ x) es
+not_kept : (x : List ℕ) {V : Type 0} (es : List (List ℕ × V)) → is_some (value_of x es) ≡ false → All (λ e. e.0 ≢ x) es
 not_kept x [] none = All-nil _
-not_kept x (e ∷ es) none = (elim (bytes_eq x (string_bytes e.0)) as (λ b. bytes_eq x (string_bytes e.0) ≡ b → is_some (if b then Some e.1 else lookup (λ k. bytes_eq x (string_bytes k)) es) ≡ false → All (λ s. string_bytes s.0 ≢ x) (e ∷ es)) [
+not_kept x (e ∷ es) none = (elim (bytes_eq x e.0) as (λ b. bytes_eq x e.0 ≡ b → is_some (if b then Some e.1 else value_of x es) ≡ false → All (λ s. s.0 ≢ x) (e ∷ es)) [
   | true ↦ λ t s. absurd cc
-  | false ↦ λ f s. All-cons (λ s. string_bytes s.0 ≢ x) e es (λ same. true≢false (sym ((bytes_eq-Decides x (string_bytes e.0)).1 (sym same)) ∙ f)) (not_kept x es s)
+  | false ↦ λ f s. All-cons (λ s. s.0 ≢ x) e es (λ same. true≢false (sym ((bytes_eq-Decides x e.0).1 (sym same)) ∙ f)) (not_kept x es s)
 ]) refl none
 
-pub no_source : (x : List ℕ) (memo : Memo) → is_some (lookup (λ k. bytes_eq x (string_bytes k)) memo.sources.entries) ≡ false → IsNoSource x memo
-no_source x memo none = not_kept x memo.sources.entries none
+pub no_source : (x : List ℕ) (memo : Memo) → is_some (value_of x memo.sources) ≡ false → IsNoSource x memo
+no_source x memo none = not_kept x memo.sources none

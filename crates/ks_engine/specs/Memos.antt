@@ -1,6 +1,5 @@
 -- What a command has read of a tree, and keeps: each thing kept is what the files say.
-use Rattle.std.specs.Prelude.{◌≡◌, ◌≢◌, ℕ, List, Some, Ok, IsTrue, String, string_bytes}
-use Rattle.std.specs.Global.{Global}
+use Rattle.std.specs.Prelude.{◌≡◌, ◌≢◌, ℕ, List, Some, Ok, IsTrue}
 use Rattle.std.specs.List.{All}
 use Rattle.ks_symbols.specs.Names.{is_name}
 use Rattle.ks_tree.specs.Files.{Files, content}
@@ -15,22 +14,22 @@ use Rattle.ks_engine.specs.Recording.{scanned}
 abbrev pub IsStamp : Files → List ℕ → ℕ → Type 0
 IsStamp files x n = IsTrue (is_name x) × HasNumber (content files (stamp_path x)) n
 
-abbrev pub AreStamps : Files → List (String Global × ℕ) → Type 0
-AreStamps files kept = All (λ s. IsStamp files (string_bytes s.0) s.1) kept
+abbrev pub AreStamps : Files → List (List ℕ × ℕ) → Type 0
+AreStamps files kept = All (λ s. IsStamp files s.0 s.1) kept
 
 -- These are the names of the file at a path.
 abbrev pub IsSource : Files → List ℕ → List (List ℕ) → Type 0
 IsSource files path names = (t : List ℕ) × (names ≡ names_in t) × (scanned path (content files path) ≡ Ok (names_in t))
 
-abbrev pub AreSources : Files → List (String Global × List (List ℕ)) → Type 0
-AreSources files kept = All (λ s. IsSource files (string_bytes s.0) s.1) kept
+abbrev pub AreSources : Files → List (List ℕ × List (List ℕ)) → Type 0
+AreSources files kept = All (λ s. IsSource files s.0 s.1) kept
 
 -- Each thing kept is what the files say.
 pub record IsMemoOf (files : Files) (memo : Memo) : Type 0 where
   pub generation : (g : ℕ) → memo.generation ≡ Some g → last_generation (content files auto_path) ≡ Ok g
-  pub stamps : AreStamps files memo.stamps.entries
-  pub sources : AreSources files memo.sources.entries
+  pub stamps : AreStamps files memo.stamps
+  pub sources : AreSources files memo.sources
 
 -- The names of the file at this path are not kept.
 abbrev pub IsNoSource : List ℕ → Memo → Type 0
-IsNoSource path memo = All (λ s. string_bytes s.0 ≢ path) memo.sources.entries
+IsNoSource path memo = All (λ s. s.0 ≢ path) memo.sources

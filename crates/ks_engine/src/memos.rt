@@ -17,9 +17,8 @@ ghost use Rattle.ks_engine.specs.Memos.{IsMemoOf, IsNoSource};
 use crate::EngineError;
 use crate::last_sync::read_generation;
 use crate::sources::{scan_alone, scan_file};
-use indexmap::IndexMap;
-use ks_fixdep::{FoundNames, SourceScan, name_as_text, path_as_text};
-use ks_symbols::Name;
+use ks_fixdep::{FoundNames, SourceScan};
+use ks_symbols::{Name, TextMap};
 use ks_tree::{Tree, TreeError, read_stamp};
 use std::alloc::Global;
 
@@ -27,8 +26,8 @@ use std::alloc::Global;
 #[derive(Drop)]
 pub struct Memo {
     generation: Option<u64>,
-    stamps: IndexMap<String, u64>,
-    sources: IndexMap<String, FoundNames>,
+    stamps: TextMap<u64>,
+    sources: TextMap<FoundNames>,
     keeps_sources: bool,
 }
 
@@ -50,8 +49,8 @@ impl Memo {
     {
         Memo {
             generation: None,
-            stamps: IndexMap::new(alloc),
-            sources: IndexMap::new(alloc),
+            stamps: TextMap::new(alloc),
+            sources: TextMap::new(alloc),
             keeps_sources: true,
         }
     }
@@ -62,13 +61,13 @@ impl Memo {
     {
         Memo {
             generation: None,
-            stamps: IndexMap::new(alloc),
-            sources: IndexMap::new(alloc),
+            stamps: TextMap::new(alloc),
+            sources: TextMap::new(alloc),
             keeps_sources: false,
         }
     }
 
-    /// Forgets all, and keeps its memory.
+    /// Forgets all.
     pub(crate) fn clear(&mut self)
         ensures { (files : Files) → IsMemoOf files self.new }
     {
@@ -110,15 +109,11 @@ impl Memo {
         ensures number { T.is_honest → IfOk result (λ n. HasNumber (content (T.files tree.old) (stamp_path name.now)) n) }
         ensures refused { T.is_honest → IfErr result (IsStampRefusal name.now (content (T.files tree.old) (stamp_path name.now))) }
     {
-        let text = name_as_text(name);
-        if let Some(number) = self.stamps.get(text) {
+        if let Some(number) = self.stamps.get(name) {
             return Ok(*number);
         }
         let number = read_stamp_of(alloc, tree, name)?;
-        let owned = String::from_str(alloc, text)?;
-        let Ok(_) = self.stamps.insert(owned, number) else {
-            return Err(TreeError::OutOfMemory);
-        };
+        self.stamps.push(name, number)?;
         Ok(number)
     }
 
@@ -144,17 +139,13 @@ impl Memo {
         if !self.keeps_sources {
             return scan_file(alloc, tree, path, room, scan);
         }
-        let text = path_as_text(path);
-        if let Some(names) = self.sources.get(text) {
+        if let Some(names) = self.sources.get(path) {
             scan.add_known(names)?;
             return Ok(());
         }
         let names = scan_alone(alloc, tree, path, room)?;
         scan.add_known(&names)?;
-        let owned = String::from_str(alloc, text)?;
-        let Ok(_) = self.sources.insert(owned, names) else {
-            return Err(EngineError::OutOfMemory);
-        };
+        self.sources.push(path, names)?;
         Ok(())
     }
 
@@ -164,11 +155,7 @@ impl Memo {
         ensures gone { IsNoSource path.now self.new }
         ensures others { (q : List ℕ) → IsNoSource q self.old → IsNoSource q self.new }
     {
-        let is_kept = match str::from_utf8(path) {
-            Ok(text) => self.sources.contains_key(text),
-            Err(_) => true,
-        };
-        if is_kept {
+        if self.sources.get(path).is_some() {
             self.sources.clear();
         }
     }

@@ -17,6 +17,5 @@ pub mod CommandStepLemmas
 pub mod CommandFormLemmas
 pub mod CommandFitLemmas
 pub mod CommandTextLemmas
-pub mod AsciiLemmas
 pub mod CommandFaultLemmas
 pub mod CommandWriteLemmas

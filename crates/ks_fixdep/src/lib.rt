@@ -1,7 +1,6 @@
 //! What an object was built from: the names in its sources, its dependency file, and the command file that records both.
 #![tactic(auto)]
 
-mod ascii;
 mod building;
 mod command_file;
 mod dep_error;
@@ -18,7 +17,6 @@ mod source_scan;
 mod tests;
 mod tokens;
 
-pub use ascii::{name_as_text, path_as_text};
 pub use building::{build, build_from};
 pub use command_file::{
     CommandError, CommandFile, Dep, LentCommand, LentDep, LentName, command_examples,

@@ -1,4 +1,4 @@
-use Rattle.std.proofs.Common.{ap, map, ◌++◌, [], ◌∷◌, ◌∙◌, append-nil}
+use Rattle.std.proofs.Common.{ap, map, [], ◌∷◌, ◌∙◌, append-nil}
 use Rattle.ks_fixdep.specs.FoundNames.{all_noted, names_in, names_of}
 use Rattle.ks_fixdep.specs.Scan.{bare_name, taken}
 use Rattle.ks_fixdep.proofs.NameLemmas.{ended-nil}

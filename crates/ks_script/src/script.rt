@@ -129,6 +129,13 @@ fn take_line<'a>(
     Ok(())
 }
 
+/// How many lines ask for a command, so that they are given their place once.
+fn count_lines(text: &[u8]) -> usize {
+    text.lines()
+        .filter(|line| parse_line(line).is_some())
+        .count()
+}
+
 /// The lines of a script that ask for a command, in their order. Comments and empty lines ask for none.
 pub fn read_script(alloc: Global, text: &[u8]) -> Result<Vec<ScriptLine<'_>>, ScriptError>
     ensures lines { IfOk result (λ lines. map seen_line lines.items ≡ script_lines text.now) }
@@ -137,7 +144,9 @@ pub fn read_script(alloc: Global, text: &[u8]) -> Result<Vec<ScriptLine<'_>>, Sc
     if text.len() > MAX_BYTES {
         return Err(ScriptError::TooLarge);
     }
-    let mut lines = Vec::new(alloc);
+    let Ok(mut lines) = Vec::with_capacity(alloc, count_lines(text)) else {
+        return Err(ScriptError::OutOfMemory);
+    };
     let mut number: u64 = 1;
     for line in text.lines() {
         take_line(&mut lines, number, line)?;

@@ -16,7 +16,7 @@ unfolding lines
 loop-line-init c =
     let all : c.into_iter-line-iterator.result ≡ lines c.args.text.now = c.into_iter-line-iterator.ensures.into_iter_gives ∙ c.lines-line-items.ensures.value in
     record {
-      said = ap (λ ls. map seen_line ls ++ filter_map script_line c.into_iter-line-iterator.result) c.new-lines.ensures.items ∙ ap (filter_map script_line) all;
+      said = ap (λ ls. map seen_line ls ++ filter_map script_line c.into_iter-line-iterator.result) c.in-Ok.ensures.items ∙ ap (filter_map script_line) all;
       fault = ap (position_from is_faulty 1) all;
       numbers = omega (arith, ap length c.into_iter-line-iterator.ensures.into_iter_gives, c.lines-line-items.ensures.len, c.if-text-gt-MAX_BYTES.false);
     }

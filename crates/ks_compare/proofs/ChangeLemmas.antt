@@ -10,13 +10,13 @@ use Rattle.std.specs.FinMap as map
 use Rattle.std.specs.List.Sorted.{IsStrictlySortedBy}
 use Rattle.ks_symbols.specs.declared.kinds.Class.{Class}
 use Rattle.ks_symbols.specs.Kinds.{class_number, numbered_class, class_again}
-use Rattle.ks_symbols.specs.Names.{is_name}
+use Rattle.ks_symbols.specs.Names.{is_name, is_in}
 use Rattle.ks_output.specs.OldConfig.{texts_of}
 use Rattle.ks_output.proofs.Entries.{order, tied}
 use Rattle.ks_output.proofs.WrittenLines.{and_parts}
 use Rattle.ks_output.proofs.Texts.{texts_are_of_entries}
 use Rattle.ks_output.proofs.Definitions.{alike_is_defined_alike}
-use Rattle.ks_compare.specs.Changes.{compared, same_class, unlike, differ, is_in}
+use Rattle.ks_compare.specs.Changes.{compared, same_class, unlike, differ}
 use Rattle.ks_compare.specs.Laws.{ChangesExist, ChangesAreOne, ChangesAreLegal, FirstChangesAreNames, NothingChanges, UnchangedIsKept, UnchangedIsDefinedAlike}
 use Rattle.ks_compare.proofs.Merge.{Above, merged, merged_changes, first_names, here_test, turned, legal_differ, name_of_symbol}
 

@@ -15,13 +15,13 @@ use Rattle.std.specs.List.Sorted.{IsStrictlySortedBy}
 use Rattle.std.proofs.lemmas.Map.Text.{is_eq-slice_cmp}
 use Rattle.ks_symbols.specs.declared.kinds.Kind.{Kind}
 use Rattle.ks_symbols.specs.declared.kinds.Class.{Class}
-use Rattle.ks_symbols.specs.Configuration.{NameMap, IsConfiguration}
+use Rattle.ks_symbols.specs.Configuration.{IsConfiguration, Configuration}
 use Rattle.ks_output.proofs.Entries.{order, first, second, find_below, tied}
-use Rattle.ks_symbols.specs.Names.{is_name, is_symbol_name}
+use Rattle.ks_symbols.specs.Names.{is_name, is_symbol_name, is_in}
 use Rattle.ks_output.specs.OldConfig.{Texts, HasNames}
 use Rattle.ks_output.proofs.WrittenLines.{and_parts}
 use Rattle.ks_compare.specs.Pass.{Step, Ends, Old, New, Both, step, by_order, with_first}
-use Rattle.ks_compare.specs.Changes.{compared, unlike, differ, is_in, AreChanges}
+use Rattle.ks_compare.specs.Changes.{compared, unlike, differ, AreChanges}
 
 abbrev pub OldList : Type 0
 OldList = List (List ℕ × (Option Class × List ℕ))
@@ -220,7 +220,7 @@ good [] ys h g = good_new ys g
 good (e ∷ xs) ys h g = good_first e xs h (λ zs. good xs zs (second _ _ h)) ys g
 
 -- the pass gives the changes of two maps
-pub merged_changes : (old : Texts) (new : NameMap (Kind × List ℕ)) → AreChanges old new (merged (map.entries old) (map.entries new))
+pub merged_changes : (old : Texts) (new : Configuration) → AreChanges old new (merged (map.entries old) (map.entries new))
 merged_changes old new =
     let all = good (map.entries old) (map.entries new) (map.entries_sorted old) (map.entries_sorted new) in
     record {
@@ -229,7 +229,7 @@ merged_changes old new =
     }
 
 -- against no texts each name changes
-pub first_names : (new : NameMap (Kind × List ℕ)) → AreChanges map.empty new (map_list (λ e. e.0) (map.entries new))
+pub first_names : (new : Configuration) → AreChanges map.empty new (map_list (λ e. e.0) (map.entries new))
 unfolding merged
 first_names new =
     let all = good_new (map.entries new) (map.entries_sorted new) in
@@ -314,7 +314,7 @@ pub name_of_symbol : (x : List ℕ) → IsTrue (is_symbol_name x) → IsTrue (is
 unfolding is_symbol_name
 name_of_symbol x h = (and_parts _ _ h).0
 
-pub legal_changes : (old : Texts) (new : NameMap (Kind × List ℕ)) → HasNames old → IsConfiguration new → AllByRecursion (λ n. IsTrue (is_name n)) (merged (map.entries old) (map.entries new))
+pub legal_changes : (old : Texts) (new : Configuration) → HasNames old → IsConfiguration new → AllByRecursion (λ n. IsTrue (is_name n)) (merged (map.entries old) (map.entries new))
 legal_changes old new h g =
     let are = merged_changes old new in
     each_in (λ n. IsTrue (is_name n)) (merged (map.entries old) (map.entries new)) (λ x e.

@@ -1,15 +1,15 @@
 -- The names whose entries differ between an old auto.conf and new settings (conf_touch_deps of scripts/kconfig/confdata.c; that classes count and that the names rise are rules of this project).
-use Rattle.std.specs.Prelude.{◌≡◌, ℕ, Bool, true, false, not, ◌&&◌, ◌==◌, List, bytes_eq, Option, Some, None, option_map}
+use Rattle.std.specs.Prelude.{◌≡◌, ℕ, Bool, true, false, not, ◌&&◌, ◌==◌, List, Option, Some, None, option_map}
 use Rattle.std.specs.Ordering.{nat_cmp}
 use Rattle.std.specs.Cmp.Lexicographic.{slice_cmp}
 use Rattle.std.specs.Option.{option_eq}
 use Rattle.std.specs.FinMap as map
-use Rattle.std.specs.List.{list_any}
 use Rattle.std.specs.List.Sorted.{IsStrictlySortedBy}
 use Rattle.ks_symbols.specs.declared.kinds.Kind.{Kind}
 use Rattle.ks_symbols.specs.declared.kinds.Class.{Class}
 use Rattle.ks_symbols.specs.Kinds.{class_of, class_number}
-use Rattle.ks_symbols.specs.Configuration.{NameMap}
+use Rattle.ks_symbols.specs.Names.{is_in}
+use Rattle.ks_symbols.specs.Configuration.{Configuration}
 use Rattle.ks_output.specs.OldConfig.{Texts}
 
 -- What of an entry counts: its class and its text. Nothing above looks into an entry.
@@ -29,13 +29,10 @@ differ (Some t) (Some u) = unlike t u
 differ t u = true
 
 -- Whether a name has a text in one of the two alone, or two that differ
-abbrev pub differs : Texts → NameMap (Kind × List ℕ) → List ℕ → Bool
+abbrev pub differs : Texts → Configuration → List ℕ → Bool
 differs old new x = differ (map.get old x) (option_map compared (map.get new x))
 
-abbrev pub is_in : List (List ℕ) → List ℕ → Bool
-is_in names x = list_any (bytes_eq x) names
-
 -- The names that differ, rising, each once
-pub record AreChanges (old : Texts) (new : NameMap (Kind × List ℕ)) (names : List (List ℕ)) : Type 0 where
+pub record AreChanges (old : Texts) (new : Configuration) (names : List (List ℕ)) : Type 0 where
   pub rising : IsStrictlySortedBy (slice_cmp nat_cmp) names
   pub each : (x : List ℕ) → is_in names x ≡ differs old new x

@@ -2,43 +2,43 @@
 use Rattle.std.specs.Prelude.{◌≡◌, ◌↔◌, ℕ, true, false, List, [], map as map_list, IsTrue}
 use Rattle.std.specs.FinMap as map
 use Rattle.ks_symbols.specs.declared.kinds.Kind.{Kind}
-use Rattle.ks_symbols.specs.Names.{is_name}
+use Rattle.ks_symbols.specs.Names.{is_name, is_in}
 use Rattle.ks_symbols.specs.Titles.{is_title}
-use Rattle.ks_symbols.specs.Configuration.{IsConfiguration, NameMap}
+use Rattle.ks_symbols.specs.Configuration.{IsConfiguration, Configuration}
 use Rattle.ks_output.specs.OldConfig.{Texts, HasNames, texts_of}
 use Rattle.ks_output.specs.Header.{header_text}
 use Rattle.ks_output.specs.Definitions.{definitions}
-use Rattle.ks_compare.specs.Changes.{differs, is_in, AreChanges}
+use Rattle.ks_compare.specs.Changes.{differs, AreChanges}
 
 -- Two maps have changes, ..
 abbrev pub ChangesExist : Type 0
-ChangesExist = (old : Texts) (new : NameMap (Kind × List ℕ)) → (names : List (List ℕ)) × AreChanges old new names
+ChangesExist = (old : Texts) (new : Configuration) → (names : List (List ℕ)) × AreChanges old new names
 
 -- .. in one list only, ..
 abbrev pub ChangesAreOne : Type 0
 ChangesAreOne =
-    (old : Texts) (new : NameMap (Kind × List ℕ)) (names others : List (List ℕ)) → AreChanges old new names → AreChanges old new others → names ≡ others
+    (old : Texts) (new : Configuration) (names others : List (List ℕ)) → AreChanges old new names → AreChanges old new others → names ≡ others
 
 -- .. and each changed name is legal.
 abbrev pub ChangesAreLegal : Type 0
 ChangesAreLegal =
-    (old : Texts) (new : NameMap (Kind × List ℕ)) (names : List (List ℕ)) → HasNames old → IsConfiguration new → AreChanges old new names
+    (old : Texts) (new : Configuration) (names : List (List ℕ)) → HasNames old → IsConfiguration new → AreChanges old new names
     → (x : List ℕ) → is_in names x ≡ true → IsTrue (is_name x)
 
 -- Against no texts at all each name of a configuration changes; against its own texts none does.
 abbrev pub FirstChangesAreNames : Type 0
-FirstChangesAreNames = (settings : NameMap (Kind × List ℕ)) → AreChanges map.empty settings (map_list (λ e. e.0) (map.entries settings))
+FirstChangesAreNames = (settings : Configuration) → AreChanges map.empty settings (map_list (λ e. e.0) (map.entries settings))
 
 abbrev pub NothingChanges : Type 0
-NothingChanges = (settings : NameMap (Kind × List ℕ)) → AreChanges (texts_of settings) settings []
+NothingChanges = (settings : Configuration) → AreChanges (texts_of settings) settings []
 
 -- A name that does not differ has, in the old auto.conf, what the next one keeps of it.
 abbrev pub UnchangedIsKept : Type 0
 UnchangedIsKept =
-    (old : Texts) (new : NameMap (Kind × List ℕ)) (x : List ℕ) → (differs old new x ≡ false) ↔ (map.get old x ≡ map.get (texts_of new) x)
+    (old : Texts) (new : Configuration) (x : List ℕ) → (differs old new x ≡ false) ↔ (map.get old x ≡ map.get (texts_of new) x)
 
 -- .. and the two headers define it by the same lines.
 abbrev pub UnchangedIsDefinedAlike : Type 0
 UnchangedIsDefinedAlike =
-    (title later : List ℕ) (old new : NameMap (Kind × List ℕ)) → IsTrue (is_title title) → IsTrue (is_title later) → IsConfiguration old → IsConfiguration new
+    (title later : List ℕ) (old new : Configuration) → IsTrue (is_title title) → IsTrue (is_title later) → IsConfiguration old → IsConfiguration new
     → (x : List ℕ) → differs (texts_of old) new x ≡ false → definitions x (header_text title old) ≡ definitions x (header_text later new)

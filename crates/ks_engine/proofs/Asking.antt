@@ -4,8 +4,7 @@ use Rattle.std.specs.List.{list_all}
 use Rattle.std.proofs.lemmas.Bool.{lt-ltb, le-ltb, cond-false, cond-true, and_parts, and_from, ne_eqb, or_left, or_right, or_cases}
 use Rattle.std.proofs.lemmas.Slice.Eq.{bytes_eq-Decides}
 use Rattle.ks_symbols.specs.Lines.{max_bytes}
-use Rattle.ks_symbols.specs.Names.{is_name, is_target}
-use Rattle.ks_compare.specs.Changes.{is_in}
+use Rattle.ks_symbols.specs.Names.{is_name, is_target, is_in}
 use Rattle.ks_fixdep.specs.declared.command_file.Dep.{Dep}
 use Rattle.ks_fixdep.specs.declared.command_file.Dep.TheVariants.{File, Config}
 use Rattle.std.proofs.lemmas.List.{get_or-map, length-map}

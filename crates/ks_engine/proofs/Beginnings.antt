@@ -7,7 +7,8 @@ use Rattle.ks_tree.specs.Files.{content}
 use Rattle.ks_tree.specs.Paths.{auto_path, stamp_path}
 use Rattle.ks_tree.specs.Stamps.{HasNumber}
 use Rattle.ks_engine.specs.Refusals.{of_source, and_then}
-use Rattle.ks_engine.specs.History.{Texts, Configuration}
+use Rattle.ks_symbols.specs.Configuration.{Configuration}
+use Rattle.ks_output.specs.OldConfig.{Texts}
 use Rattle.ks_engine.specs.Shows.{IsFirstAuto}
 use Rattle.ks_engine.specs.SyncPlan.{Sources, AreSources, plan_over}
 use Rattle.ks_engine.specs.LastSync.{old_auto}

@@ -1,7 +1,8 @@
 -- A suspicion has a cause.
 use Rattle.std.proofs.Common.{◌≡◌, inl, inr, ⊎_elim, List, ℕ, true, ◌&&◌, sym, ◌∙◌, subst, arith}
 use Rattle.std.proofs.lemmas.Bool.{cond-true, cond-false, and_parts, or_cases}
-use Rattle.ks_compare.specs.Changes.{differs, is_in}
+use Rattle.ks_symbols.specs.Names.{is_in}
+use Rattle.ks_compare.specs.Changes.{differs}
 use Rattle.ks_engine.specs.History.{History, Begun, Synced, Broken, Recorded, Record, before, done}
 use Rattle.ks_engine.specs.Staleness.{found, renewed_since_sync}
 use Rattle.ks_engine.specs.Legal.{IsHistory}

@@ -3,7 +3,8 @@ use Rattle.std.proofs.Common.{inl, inr, ⊎_elim, ℕ, ◌+◌, List, Result, Ok
 use Rattle.ks_tree.specs.Files.{Files}
 use Rattle.ks_engine.specs.declared.error.EngineError.{EngineError}
 use Rattle.ks_engine.specs.declared.synchronise.Report.{Report}
-use Rattle.ks_engine.specs.History.{History, Texts, Synced, Broken}
+use Rattle.ks_output.specs.OldConfig.{Texts}
+use Rattle.ks_engine.specs.History.{History, Synced, Broken}
 use Rattle.ks_engine.specs.Shows.{Shows}
 use Rattle.ks_engine.specs.Synchronised.{AreChanged, IsSynced, IsBrokenOff, IsSyncRefused}
 use Rattle.ks_engine.specs.Follows.{at, FollowsSync, IsBrokenEvent}

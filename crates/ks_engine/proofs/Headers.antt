@@ -4,9 +4,11 @@ use Rattle.std.specs.FinMap.{get}
 use Rattle.std.proofs.lemmas.Bool.{or_parts, cond-true, cond-false, false_from_ne_true}
 use Rattle.ks_output.specs.Header.{header_text}
 use Rattle.ks_output.specs.Definitions.{definitions}
-use Rattle.ks_output.specs.OldConfig.{texts_of}
-use Rattle.ks_compare.specs.Changes.{differs, is_in}
-use Rattle.ks_engine.specs.History.{History, Begun, Synced, Broken, Recorded, Record, Configuration, Texts, before, last_record}
+use Rattle.ks_output.specs.OldConfig.{texts_of, Texts}
+use Rattle.ks_symbols.specs.Names.{is_in}
+use Rattle.ks_compare.specs.Changes.{differs}
+use Rattle.ks_symbols.specs.Configuration.{Configuration}
+use Rattle.ks_engine.specs.History.{History, Begun, Synced, Broken, Recorded, Record, before, last_record}
 use Rattle.ks_engine.specs.Staleness.{names_of, found, renewed_since_sync, suspect_since}
 use Rattle.ks_engine.specs.Legal.{AreAllRenewed, MayBeHeader, IsSource, IsHistory}
 use Rattle.ks_engine.proofs.Heart.{record_cases}

@@ -1,7 +1,8 @@
 -- What stamps and generations say of a history.
 use Rattle.std.proofs.Common.{◌≡◌, ◌⊎◌, inl, inr, ⊎_elim, ℕ, ◌+◌, ◌<◌, ◌≤◌, List, Option, Some, Bool, true, false, ◌&&◌, ◌||◌, cond, nat_lt, sym, ◌∙◌, ap, refl, subst, arith, bytes_eq}
 use Rattle.std.proofs.lemmas.Bool.{lt-ltb, le-ltb, cond-true, cond-false}
-use Rattle.ks_compare.specs.Changes.{differs, is_in}
+use Rattle.ks_symbols.specs.Names.{is_in}
+use Rattle.ks_compare.specs.Changes.{differs}
 use Rattle.ks_engine.specs.History.{History, Begun, Synced, Broken, Recorded, Record, before, done, WasSynced, last_record, NoneBroken}
 use Rattle.ks_engine.specs.Staleness.{names_of, found, renewed_since_sync, changed_since, suspect_since}
 use Rattle.ks_engine.specs.Legal.{IsHistory}

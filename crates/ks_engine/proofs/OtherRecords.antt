@@ -2,8 +2,10 @@
 use Rattle.std.proofs.Common.{◌≡◌, inl, inr, List, ℕ, ◌+◌, ◌<◌, Option, Some, Bool, true, false, ◌&&◌, ◌||◌, cond, sym, ◌∙◌, ap, ap₂, refl, subst}
 use Rattle.std.specs.Prelude.{bytes_eq, find}
 use Rattle.std.proofs.lemmas.Bool.{cond-true}
-use Rattle.ks_compare.specs.Changes.{differs, is_in}
-use Rattle.ks_engine.specs.History.{History, Begun, Synced, Broken, Recorded, Record, Texts, before, done, WasSynced, last_record}
+use Rattle.ks_symbols.specs.Names.{is_in}
+use Rattle.ks_compare.specs.Changes.{differs}
+use Rattle.ks_output.specs.OldConfig.{Texts}
+use Rattle.ks_engine.specs.History.{History, Begun, Synced, Broken, Recorded, Record, before, done, WasSynced, last_record}
 use Rattle.ks_engine.specs.Staleness.{names_of, found, changed_since, renewed_since_sync, suspect_since}
 use Rattle.ks_engine.specs.Legal.{IsHistory, MayBeHeader, AreAllRenewed}
 use Rattle.ks_engine.specs.OtherRecords.{own_history, OtherRecordsDoNotMatter}

@@ -5,7 +5,7 @@ use Rattle.std.specs.Ordering.{nat_cmp}
 use Rattle.std.specs.Cmp.Lexicographic.{slice_cmp}
 use Rattle.std.specs.FinMap.{get, empty, get-empty}
 use Rattle.ks_symbols.specs.declared.kinds.Kind.{Kind}
-use Rattle.ks_symbols.specs.Configuration.{IsConfiguration}
+use Rattle.ks_symbols.specs.Configuration.{IsConfiguration, Configuration}
 use Rattle.ks_symbols.specs.Lines.{max_bytes, lines}
 use Rattle.ks_symbols.specs.Kconfig.{declared, title_of, kconfig_refusal}
 use Rattle.ks_symbols.specs.DotConfig.{setting, unknown_count, dotconfig_refusal}
@@ -24,7 +24,6 @@ use Rattle.ks_engine.specs.declared.error.EngineError.{EngineError}
 use Rattle.ks_engine.specs.declared.error.EngineError.TheVariants.{NeverSynced}
 use Rattle.ks_engine.specs.Refusals.{of_tree, of_auto, IsGivenUp, and_then}
 use Rattle.ks_compare.specs.Changes.{AreChanges}
-use Rattle.ks_engine.specs.History.{Configuration}
 use Rattle.ks_engine.specs.Legal.{IsSource}
 use Rattle.ks_engine.specs.Synchronised.{AreChanged}
 use Rattle.ks_engine.specs.LastSync.{OldAuto, read_unless, old_auto, synced_at, last_generation}

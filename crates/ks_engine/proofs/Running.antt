@@ -10,7 +10,8 @@ use Rattle.ks_engine.specs.declared.commands.Reply.TheVariants.{Synced, Recorded
 use Rattle.ks_engine.specs.declared.error.EngineError.{EngineError}
 use Rattle.ks_engine.specs.declared.staleness.Verdict.{Verdict as VerdictValue}
 use Rattle.ks_engine.specs.Refusals.{GaveUp}
-use Rattle.ks_engine.specs.History.{History, Synced as SyncedEvent, Broken as BrokenEvent, Recorded as RecordedEvent, Configuration, NoneBroken}
+use Rattle.ks_symbols.specs.Configuration.{Configuration}
+use Rattle.ks_engine.specs.History.{History, Synced as SyncedEvent, Broken as BrokenEvent, Recorded as RecordedEvent, NoneBroken}
 use Rattle.ks_engine.specs.Follows.{State}
 use Rattle.ks_engine.specs.Runs.{IsShown, Step, Follows, Leaves, Leads, Run}
 use Rattle.ks_engine.specs.Verdicts.{IsSuspectVerdict, IsChangedVerdict, IsSafeVerdict, IsGivenUpSync}

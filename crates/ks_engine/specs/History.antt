@@ -1,17 +1,7 @@
 -- Histories of a tree: which synchronisations were completed or broken off, and which objects were recorded between them.
 use Rattle.std.specs.Prelude.{ℕ, ◌+◌, List, Option, Some, None, ⊤, bytes_eq, if◌then◌else◌}
-use Rattle.ks_symbols.specs.declared.kinds.Kind.{Kind}
-use Rattle.ks_symbols.specs.declared.kinds.Class.{Class}
-use Rattle.ks_symbols.specs.Configuration.{NameMap}
-use Rattle.ks_output.specs.OldConfig.{texts_of}
-
--- from names to kinds and texts
-abbrev pub Configuration : Type 0
-Configuration = NameMap (Kind × List ℕ)
-
--- what an auto.conf keeps of one: from names to classes and texts
-abbrev pub Texts : Type 0
-Texts = NameMap (Option Class × List ℕ)
+use Rattle.ks_symbols.specs.Configuration.{Configuration}
+use Rattle.ks_output.specs.OldConfig.{Texts, texts_of}
 
 -- What stood at first, the texts and the generation of auto.conf and the numbers of the stamps, and the events since, the newest outermost.
 pub data History : Type 0 where

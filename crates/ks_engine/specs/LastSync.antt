@@ -6,7 +6,7 @@ use Rattle.ks_output.specs.AutoConf.{auto_map, auto_generation, auto_refusal}
 use Rattle.ks_engine.specs.declared.error.EngineError.{EngineError}
 use Rattle.ks_engine.specs.declared.error.EngineError.TheVariants.{NeverSynced}
 use Rattle.ks_engine.specs.Refusals.{of_auto, and_then}
-use Rattle.ks_engine.specs.History.{Texts}
+use Rattle.ks_output.specs.OldConfig.{Texts}
 
 -- the texts and the generation of an auto.conf
 pub record OldAuto : Type 0 where

@@ -7,7 +7,8 @@ use Rattle.ks_tree.specs.Paths.{auto_path, stamp_path}
 use Rattle.ks_tree.specs.Stamps.{HasNumber}
 use Rattle.ks_engine.specs.declared.error.EngineError.{EngineError}
 use Rattle.ks_compare.specs.Changes.{differs}
-use Rattle.ks_engine.specs.History.{History, Begun, Synced, Broken, Recorded, Record, Texts, before, done, last_record}
+use Rattle.ks_output.specs.OldConfig.{Texts}
+use Rattle.ks_engine.specs.History.{History, Begun, Synced, Broken, Recorded, Record, before, done, last_record}
 use Rattle.ks_engine.specs.Staleness.{suspect_since}
 use Rattle.ks_engine.specs.Legal.{IsHistory}
 use Rattle.ks_engine.specs.Shows.{Shows, IsFirstAuto}

@@ -1,10 +1,12 @@
 -- Which histories there are, and the headers that may stand after them.
 use Rattle.std.specs.Prelude.{◌≡◌, ◌⊎◌, ℕ, ◌+◌, ◌<◌, ◌≤◌, List, true, IsTrue}
-use Rattle.ks_symbols.specs.Configuration.{IsConfiguration}
+use Rattle.ks_symbols.specs.Configuration.{IsConfiguration, Configuration}
 use Rattle.ks_symbols.specs.Titles.{is_title}
 use Rattle.ks_output.specs.Header.{header_text}
-use Rattle.ks_compare.specs.Changes.{differs, is_in}
-use Rattle.ks_engine.specs.History.{History, Begun, Synced, Broken, Recorded, Configuration, Texts, before, done, WasSynced}
+use Rattle.ks_symbols.specs.Names.{is_in}
+use Rattle.ks_compare.specs.Changes.{differs}
+use Rattle.ks_output.specs.OldConfig.{Texts}
+use Rattle.ks_engine.specs.History.{History, Begun, Synced, Broken, Recorded, before, done, WasSynced}
 
 -- The stamp of each changed name was renewed.
 abbrev pub AreAllRenewed : List (List ℕ) → Texts → Configuration → Type 0

@@ -1,6 +1,7 @@
 -- What stale means, by the events of a history and their order alone: no generation is compared here.
 use Rattle.std.specs.Prelude.{ℕ, List, [], Option, Some, None, Bool, false, ◌&&◌, ◌||◌, if◌then◌else◌, bytes_eq, find}
-use Rattle.ks_compare.specs.Changes.{differs, is_in}
+use Rattle.ks_symbols.specs.Names.{is_in}
+use Rattle.ks_compare.specs.Changes.{differs}
 use Rattle.ks_engine.specs.declared.staleness.Verdict.{Verdict}
 use Rattle.ks_engine.specs.declared.staleness.Verdict.TheVariants.{Fresh, Changed}
 use Rattle.ks_engine.specs.History.{History, Begun, Synced, Broken, Recorded, Record, before, last_record}

@@ -12,7 +12,8 @@ use Rattle.ks_tree.specs.Paths.{auto_path}
 use Rattle.ks_engine.specs.declared.error.EngineError.{EngineError}
 use Rattle.ks_engine.specs.declared.error.EngineError.TheVariants.{TooLarge, GenerationFull}
 use Rattle.ks_engine.specs.Refusals.{of_source, and_then}
-use Rattle.ks_engine.specs.History.{Configuration, Texts}
+use Rattle.ks_symbols.specs.Configuration.{Configuration}
+use Rattle.ks_output.specs.OldConfig.{Texts}
 use Rattle.ks_engine.specs.Legal.{IsSource}
 use Rattle.ks_engine.specs.LastSync.{OldAuto, old_auto}
 

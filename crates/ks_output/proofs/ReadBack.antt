@@ -16,7 +16,7 @@ use Rattle.ks_symbols.specs.Kinds.{class_of}
 use Rattle.ks_symbols.specs.Names.{is_word_byte, is_name, is_symbol_name}
 use Rattle.ks_symbols.specs.Statements.{Assigns, statement}
 use Rattle.ks_symbols.specs.Titles.{is_title}
-use Rattle.ks_symbols.specs.Configuration.{IsConfiguration, IsEntry, NameMap}
+use Rattle.ks_symbols.specs.Configuration.{IsConfiguration, IsEntry, Configuration}
 use Rattle.ks_symbols.proofs.Digits.{own, reads_back}
 use Rattle.ks_symbols.proofs.Spellings.{statements_are_spelled, run_is, word_bytes}
 use Rattle.ks_output.specs.AutoText.{heading, class_line, entry_line, entry_lines, generation_line, auto_text}
@@ -159,7 +159,7 @@ written x s h = ((and_parts _ _ h.named).0, plain_text s.0 s.1 h.typed)
 body : List (List ℕ × (Kind × List ℕ)) → ℕ → List Remark
 body es g = gives_all es ++ Numbers g ∷ []
 
-text_remarks : (title : List ℕ) (settings : NameMap (Kind × List ℕ)) (g : ℕ) → is_title title ≡ true → IsConfiguration settings → g < 2 ^ 64
+text_remarks : (title : List ℕ) (settings : Configuration) (g : ℕ) → is_title title ≡ true → IsConfiguration settings → g < 2 ^ 64
     → remarks (auto_text title settings g) ≡ headed (body (map.entries settings) g)
 unfolding auto_text body
 text_remarks title settings g t h small =
@@ -280,7 +280,7 @@ headed_texts said =
     ∙ texts_after-step true map.empty Silent Silent (Marks ∷ said)
     ∙ texts_after-step true map.empty Silent Marks said
 
-texts_at : (title : List ℕ) (settings : NameMap (Kind × List ℕ)) (g : ℕ) → is_title title ≡ true → IsConfiguration settings → g < 2 ^ 64
+texts_at : (title : List ℕ) (settings : Configuration) (g : ℕ) → is_title title ≡ true → IsConfiguration settings → g < 2 ^ 64
     → (x : List ℕ) → map.get (auto_map (auto_text title settings g)) x ≡ option_map kept (map.get settings x)
 unfolding auto_map
 texts_at title settings g t h small x =

@@ -5,7 +5,7 @@ use Rattle.ks_symbols.specs.declared.kinds.Kind.{Kind}
 use Rattle.ks_symbols.specs.declared.kinds.Class.{Class}
 use Rattle.ks_symbols.specs.declared.kinds.Class.TheVariants as class
 use Rattle.ks_symbols.specs.Kinds.{class_of}
-use Rattle.ks_symbols.specs.Configuration.{NameMap}
+use Rattle.ks_symbols.specs.Configuration.{Configuration}
 
 -- four comment lines, the third with the title, and the mark of the typed form
 abbrev pub heading : List ℕ → List ℕ
@@ -35,5 +35,5 @@ abbrev pub generation_line : ℕ → List ℕ
 generation_line g = codes "#generation " ++ decimal g ++ codes "\n"
 
 -- The heading, the lines of each entry by rising names, and the generation
-unfoldable pub auto_text : List ℕ → NameMap (Kind × List ℕ) → ℕ → List ℕ
+unfoldable pub auto_text : List ℕ → Configuration → ℕ → List ℕ
 auto_text title settings g = heading title ++ entry_lines (map.entries settings) ++ generation_line g

@@ -4,7 +4,7 @@ use Rattle.std.specs.FinMap as map
 use Rattle.ks_symbols.specs.declared.kinds.Kind.{Kind}
 use Rattle.ks_symbols.specs.declared.kinds.Kind.TheVariants as kind
 use Rattle.ks_symbols.specs.declared.kinds.Class.TheVariants as class
-use Rattle.ks_symbols.specs.Configuration.{NameMap}
+use Rattle.ks_symbols.specs.Configuration.{Configuration}
 use Rattle.ks_output.specs.AutoText.{auto_text, entry_lines}
 use Rattle.ks_output.specs.AutoLines.{Gives, Marks, Types, Mistypes, Numbers, Silent, Faulty, remark}
 use Rattle.ks_output.specs.AutoConf.{fault_in}
@@ -14,7 +14,7 @@ use Rattle.ks_output.specs.Definitions.{defines}
 -- a bool and a module: both files
 abbrev pub FilesOfSwitches : Type 0
 FilesOfSwitches =
-    (settings : NameMap (Kind × List ℕ)) → map.entries settings ≡ (codes "A", (kind.Bool, codes "y")) ∷ (codes "B", (kind.Tristate, codes "m")) ∷ []
+    (settings : Configuration) → map.entries settings ≡ (codes "A", (kind.Bool, codes "y")) ∷ (codes "B", (kind.Tristate, codes "m")) ∷ []
     → (auto_text (codes "Demo") settings 1 ≡ codes "#\n# Automatically generated file; DO NOT EDIT.\n# Demo\n#\n#typed\nCONFIG_A=y\nCONFIG_B=m\n#generation 1\n")
     × (header_text (codes "Demo") settings ≡ codes "/*\n * Automatically generated file; DO NOT EDIT.\n * Demo\n */\n#define CONFIG_A 1\n#define CONFIG_B_MODULE 1\n")
 

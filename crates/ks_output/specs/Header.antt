@@ -6,7 +6,7 @@ use Rattle.ks_symbols.specs.declared.kinds.Kind.{Kind}
 use Rattle.ks_symbols.specs.declared.kinds.Kind.TheVariants as kind
 use Rattle.ks_symbols.specs.Names.{module_end}
 use Rattle.ks_symbols.specs.Values.{quoted}
-use Rattle.ks_symbols.specs.Configuration.{NameMap}
+use Rattle.ks_symbols.specs.Configuration.{Configuration}
 
 -- a C comment, the third line with the title
 abbrev pub header_heading : List ℕ → List ℕ
@@ -34,5 +34,5 @@ abbrev pub definition_lines : List (List ℕ × (Kind × List ℕ)) → List ℕ
 definition_lines entries = flat_map (λ e. definition_line e.0 e.1.0 e.1.1) entries
 
 -- The heading, and a line for each entry by rising names
-unfoldable pub header_text : List ℕ → NameMap (Kind × List ℕ) → List ℕ
+unfoldable pub header_text : List ℕ → Configuration → List ℕ
 header_text title settings = header_heading title ++ definition_lines (map.entries settings)

@@ -6,7 +6,7 @@ use Rattle.ks_symbols.specs.declared.kinds.Kind.{Kind}
 use Rattle.ks_symbols.specs.Names.{is_name}
 use Rattle.ks_symbols.specs.Lines.{lines, max_bytes}
 use Rattle.ks_symbols.specs.Titles.{is_title}
-use Rattle.ks_symbols.specs.Configuration.{IsConfiguration, NameMap}
+use Rattle.ks_symbols.specs.Configuration.{IsConfiguration, Configuration}
 use Rattle.ks_output.specs.AutoText.{auto_text}
 use Rattle.ks_output.specs.AutoLines.{remarks}
 use Rattle.ks_output.specs.AutoConf.{is_typed, auto_map, auto_generation, auto_fault, auto_refusal}
@@ -31,9 +31,9 @@ abbrev pub GenerationFits : Type 0
 GenerationFits = (text : List ℕ) → auto_generation text < 2 ^ 64
 
 -- What holds of each auto.conf that is written
-abbrev pub OfWritten : (List ℕ → NameMap (Kind × List ℕ) → ℕ → Type 0) → Type 0
+abbrev pub OfWritten : (List ℕ → Configuration → ℕ → Type 0) → Type 0
 OfWritten P =
-    (title : List ℕ) (settings : NameMap (Kind × List ℕ)) (g : ℕ) → IsTrue (is_title title) → IsConfiguration settings → g < 2 ^ 64 → P title settings g
+    (title : List ℕ) (settings : Configuration) (g : ℕ) → IsTrue (is_title title) → IsConfiguration settings → g < 2 ^ 64 → P title settings g
 
 -- It gives the texts back with their classes, ..
 abbrev pub TextsReadBack : Type 0
@@ -53,7 +53,7 @@ IsAccepted = OfWritten (λ title settings g. length (auto_text title settings g)
 
 -- The texts of a configuration are those of its entries, with their classes and under legal names.
 abbrev pub TextsAreOfEntries : Type 0
-TextsAreOfEntries = (settings : NameMap (Kind × List ℕ)) (x : List ℕ) → map.get (texts_of settings) x ≡ option_map kept (map.get settings x)
+TextsAreOfEntries = (settings : Configuration) (x : List ℕ) → map.get (texts_of settings) x ≡ option_map kept (map.get settings x)
 
 abbrev pub TextsHaveNames : Type 0
-TextsHaveNames = (settings : NameMap (Kind × List ℕ)) → IsConfiguration settings → HasNames (texts_of settings)
+TextsHaveNames = (settings : Configuration) → IsConfiguration settings → HasNames (texts_of settings)

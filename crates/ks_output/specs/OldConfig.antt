@@ -8,7 +8,7 @@ use Rattle.ks_symbols.specs.declared.kinds.Kind.{Kind}
 use Rattle.ks_symbols.specs.declared.kinds.Class.{Class}
 use Rattle.ks_symbols.specs.Kinds.{class_of, coded_class}
 use Rattle.ks_symbols.specs.Names.{is_name}
-use Rattle.ks_symbols.specs.Configuration.{NameMap}
+use Rattle.ks_symbols.specs.Configuration.{NameMap, Configuration}
 
 -- texts with their classes, of which the untyped form has none
 abbrev pub Texts : Type 0
@@ -44,5 +44,5 @@ abbrev pub kept : Kind × List ℕ → Option Class × List ℕ
 kept s = (Some (class_of s.0), s.1)
 
 -- .. and so of a configuration
-unfoldable pub texts_of : NameMap (Kind × List ℕ) → Texts
+unfoldable pub texts_of : Configuration → Texts
 texts_of settings = map.from_entries (map_list (λ e. (e.0, kept e.1)) (map.entries settings))

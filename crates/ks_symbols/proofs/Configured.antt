@@ -20,7 +20,7 @@ use Rattle.ks_symbols.specs.DotConfig.{setting, gives, entry_with, last_about}
 use Rattle.ks_symbols.specs.Forms.{Form, Silent, Title, Untitled, Entry, HasKind, Unknown, form}
 use Rattle.ks_symbols.specs.Kconfig.{says, entry_of, declares, declarations, declared, story, lacks_kind, form_fault, goes_on, first_form_fault, kconfig_refusal}
 use Rattle.std.specs.FinMap as map
-use Rattle.ks_symbols.specs.Configuration.{NameMap, IsConfiguration, HasSymbolNames}
+use Rattle.ks_symbols.specs.Configuration.{IsConfiguration, HasSymbolNames, Configuration}
 use Rattle.ks_symbols.specs.Laws.{SettingsAreConfigurations}
 use Rattle.ks_symbols.proofs.Readings.{reads_are_texts}
 use Rattle.ks_symbols.proofs.Story.{story_after, story_is}
@@ -135,7 +135,7 @@ gives_text k (Some (Unsets n)) s e = absurd (cc e)
 gives_text k (Some (Assigns n w)) s e = entry_text k w (text_of k w) s refl e
 
 -- what symbols with legal names are set to is a configuration
-pub configured : (kinds : List ℕ → Option Kind) (all : List (List ℕ)) (settings : NameMap (Kind × List ℕ)) → HasSymbolNames kinds
+pub configured : (kinds : List ℕ → Option Kind) (all : List (List ℕ)) (settings : Configuration) → HasSymbolNames kinds
     → ((x : List ℕ) → map.get settings x ≡ setting kinds all x) → IsConfiguration settings
 unfolding setting IsGiven
 configured kinds all settings names are x s e =

@@ -11,7 +11,7 @@ use Rattle.ks_symbols.specs.declared.kinds.Kind.{Kind}
 use Rattle.ks_symbols.specs.declared.error.SourceError.{SourceError}
 use Rattle.ks_symbols.specs.declared.error.SourceError.TheVariants as fault
 use Rattle.ks_symbols.specs.Names.{is_name, module_end}
-use Rattle.ks_symbols.specs.Configuration.{NameMap}
+use Rattle.ks_symbols.specs.Configuration.{NameMap, Configuration}
 use Rattle.ks_symbols.specs.Lines.{lines, max_bytes}
 use Rattle.ks_symbols.specs.Refusals.{or_else}
 use Rattle.std.proofs.lemmas.Bool.{cond-true, cond-false}
@@ -37,7 +37,7 @@ abbrev pub lacking : Option (ℕ × List ℕ) → Option Form → Option SourceE
 lacking None next = None
 lacking (Some w) next = cond (lacks_kind next) (Some (fault.NoType w.0)) None
 
-abbrev made : NameMap Kind → NameMap (Kind × List ℕ) → Option (List ℕ) → Bool → Option (ℕ × List ℕ) → Progress
+abbrev made : NameMap Kind → Configuration → Option (List ℕ) → Bool → Option (ℕ × List ℕ) → Progress
 made kinds symbols title started waiting = record { kinds = kinds; symbols = symbols; title = title; started = started; waiting = waiting }
 
 entry_split : (a b l : Bool) (n : ℕ) (R : Option SourceError)
@@ -48,7 +48,7 @@ entry_split true true l n R = refl
 entry_split true false l n R = refl
 
 -- a step finds the faults of its line, and those of an entry for which the line comes next
-step_agrees : (kinds : NameMap Kind) (symbols : NameMap (Kind × List ℕ)) (title : Option (List ℕ)) (started : Bool) (waiting : Option (ℕ × List ℕ)) (said : List Form)
+step_agrees : (kinds : NameMap Kind) (symbols : Configuration) (title : Option (List ℕ)) (started : Bool) (waiting : Option (ℕ × List ℕ)) (said : List Form)
     → Matches (made kinds symbols title started waiting) said → (n : ℕ) (f : Form) (later : List Form) (R : Option SourceError)
     → or_else (lacking waiting (find says (f ∷ later))) (or_else (form_fault n said f later) R)
     ≡ or_else (step_fault (made kinds symbols title started waiting) n f) (or_else (lacking (progress_after (made kinds symbols title started waiting) n f).waiting (find says later)) R)
@@ -68,7 +68,7 @@ step_agrees kinds symbols title started (Some w) said m n (HasKind k) later R =
     ∙ ap (λ o. or_else (cond (clashes k o) (Some (fault.TypeClash n)) None) R) (sym (m.kinds w.1))
 
 -- and after a step with no fault the reader stands where the longer story leads
-step_matches : (kinds : NameMap Kind) (symbols : NameMap (Kind × List ℕ)) (title : Option (List ℕ)) (started : Bool) (waiting : Option (ℕ × List ℕ)) (said : List Form)
+step_matches : (kinds : NameMap Kind) (symbols : Configuration) (title : Option (List ℕ)) (started : Bool) (waiting : Option (ℕ × List ℕ)) (said : List Form)
     → Matches (made kinds symbols title started waiting) said → (n : ℕ) (f : Form) → step_fault (made kinds symbols title started waiting) n f ≡ None
     → Matches (progress_after (made kinds symbols title started waiting) n f) (goes_on f said)
 unfolding declarations title_in

@@ -13,6 +13,10 @@ use Rattle.ks_symbols.specs.Kinds.{is_text, is_off, coded_kind}
 abbrev pub NameMap : Type 0 → Type 0
 NameMap X = map.FinMap {K = List ℕ} (slice_cmp nat_cmp) X
 
+-- from names to kinds and texts
+abbrev pub Configuration : Type 0
+Configuration = NameMap (Kind × List ℕ)
+
 -- the declared symbols with their kinds, and the title
 pub record Declarations : Type 0 where
   pub kinds : NameMap Kind
@@ -25,12 +29,12 @@ coded_declarations =
 
 -- the symbols that have a value with their kinds and texts, and how many lines spoke of undeclared names
 pub record SettingsView : Type 0 where
-  pub entries : NameMap (Kind × List ℕ)
+  pub entries : Configuration
   pub unknown : ℕ
 
 abbrev pub coded_settings_view : Coded SettingsView
 coded_settings_view =
-    code_by (NameMap (Kind × List ℕ) × ℕ) (coded× (map.code (coded_list coded_ℕ) (coded× coded_kind (coded_list coded_ℕ))) coded_ℕ)
+    code_by (Configuration × ℕ) (coded× (map.code (coded_list coded_ℕ) (coded× coded_kind (coded_list coded_ℕ))) coded_ℕ)
     (λ d. (d.entries, d.unknown)) (λ p. record { entries = p.0; unknown = p.1 }) (λ _. refl)
 
 -- the map of entries in any order
@@ -51,5 +55,5 @@ pub record IsEntry (x : List ℕ) (s : Kind × List ℕ) : Type 0 where
   pub typed : IsTrue (is_text s.0 s.1)
   pub on : is_off s.0 s.1 ≡ false
 
-abbrev pub IsConfiguration : NameMap (Kind × List ℕ) → Type 0
+abbrev pub IsConfiguration : Configuration → Type 0
 IsConfiguration settings = (x : List ℕ) (s : Kind × List ℕ) → map.get settings x ≡ Some s → IsEntry x s

@@ -6,7 +6,7 @@ use Rattle.bstr.specs.Text.{lines_of}
 use Rattle.ks_symbols.specs.declared.kinds.Kind.{Kind}
 use Rattle.ks_symbols.specs.Lines.{lines, is_no_line_feed}
 use Rattle.ks_symbols.specs.Values.{Reads, text_of}
-use Rattle.ks_symbols.specs.Configuration.{NameMap, IsConfiguration}
+use Rattle.ks_symbols.specs.Configuration.{IsConfiguration, Configuration}
 use Rattle.ks_symbols.specs.Statements.{Statement, Says, statement}
 use Rattle.ks_symbols.specs.DotConfig.{setting}
 use Rattle.ks_symbols.specs.Kconfig.{declared, kconfig_refusal}
@@ -29,10 +29,10 @@ StatementsAreSpelled = (line : List ℕ) (said : Statement) → (statement line 
 
 -- Two configurations that agree at each name are one.
 abbrev pub AgreeingIsBeingOne : Type 0
-AgreeingIsBeingOne = (first second : NameMap (Kind × List ℕ)) → ((x : List ℕ) → map.get first x ≡ map.get second x) → first ≡ second
+AgreeingIsBeingOne = (first second : Configuration) → ((x : List ℕ) → map.get first x ≡ map.get second x) → first ≡ second
 
 -- What two texts without a fault set is a configuration.
 abbrev pub SettingsAreConfigurations : Type 0
 SettingsAreConfigurations =
-    (kconfig dotconfig : List ℕ) (settings : NameMap (Kind × List ℕ)) → kconfig_refusal kconfig ≡ None
+    (kconfig dotconfig : List ℕ) (settings : Configuration) → kconfig_refusal kconfig ≡ None
     → ((x : List ℕ) → map.get settings x ≡ setting (declared kconfig) (lines dotconfig) x) → IsConfiguration settings

@@ -1,6 +1,6 @@
 -- Word bytes, names of symbols and paths. A name is what `config` declares (Documentation/kbuild/kconfig-language.rst); its length, and what a path may hold, are rules of this project.
-use Rattle.std.specs.Prelude.{ℕ, Bool, ◌||◌, ◌&&◌, not, ◌==◌, nat_le, nat_eq, List, length, slice_index, ◌-◌, codes, if◌then◌else◌, take}
-use Rattle.std.specs.List.{list_all, ends_with}
+use Rattle.std.specs.Prelude.{ℕ, Bool, ◌||◌, ◌&&◌, not, ◌==◌, nat_le, nat_eq, List, length, slice_index, ◌-◌, codes, if◌then◌else◌, take, bytes_eq}
+use Rattle.std.specs.List.{list_all, list_any, ends_with}
 use Rattle.std.specs.Char.{is_ascii_alphanumeric}
 
 -- an ASCII letter, an ASCII digit or an underscore
@@ -10,6 +10,10 @@ is_word_byte b = is_ascii_alphanumeric b || b == 95
 -- 1 to 128 word bytes
 unfoldable pub is_name : List ℕ → Bool
 is_name name = not (length name == 0) && nat_le (length name) 128 && list_all is_word_byte name
+
+-- whether a name is among these
+abbrev pub is_in : List (List ℕ) → List ℕ → Bool
+is_in names x = list_any (bytes_eq x) names
 
 -- the end that marks a macro of a module
 abbrev pub module_end : List ℕ

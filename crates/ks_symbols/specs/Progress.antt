@@ -9,7 +9,7 @@ use Rattle.ks_symbols.specs.declared.error.SourceError.TheVariants as fault
 use Rattle.ks_symbols.specs.Names.{is_name, module_end}
 use Rattle.ks_symbols.specs.Kinds.{coded_kind}
 use Rattle.ks_symbols.specs.Refusals.{or_else}
-use Rattle.ks_symbols.specs.Configuration.{NameMap}
+use Rattle.ks_symbols.specs.Configuration.{NameMap, Configuration}
 use Rattle.ks_symbols.specs.Titles.{is_title}
 use Rattle.ks_symbols.specs.Forms.{Form, Silent, Title, Untitled, Entry, HasKind, Unknown}
 use Rattle.ks_symbols.specs.Kconfig.{clashes}
@@ -17,14 +17,14 @@ use Rattle.ks_symbols.specs.Kconfig.{clashes}
 -- the kinds so far, the symbols that are to be kept, the title, whether a title or an entry was seen, and the line and the name of an entry that waits for its kind
 pub record Progress : Type 0 where
   pub kinds : NameMap Kind
-  pub symbols : NameMap (Kind × List ℕ)
+  pub symbols : Configuration
   pub title : Option (List ℕ)
   pub started : Bool
   pub waiting : Option (ℕ × List ℕ)
 
 abbrev pub coded_progress : Coded Progress
 coded_progress =
-    code_by (NameMap Kind × (NameMap (Kind × List ℕ) × (Option (List ℕ) × (Bool × Option (ℕ × List ℕ)))))
+    code_by (NameMap Kind × (Configuration × (Option (List ℕ) × (Bool × Option (ℕ × List ℕ)))))
     (coded× (map.code (coded_list coded_ℕ) coded_kind) (coded× (map.code (coded_list coded_ℕ) (coded× coded_kind (coded_list coded_ℕ)))
     (coded× (coded_option (coded_list coded_ℕ)) (coded× coded_bool (coded_option (coded× coded_ℕ (coded_list coded_ℕ)))))))
     (λ s. (s.kinds, (s.symbols, (s.title, (s.started, s.waiting))))) (λ p. record { kinds = p.0; symbols = p.1.0; title = p.1.1.0; started = p.1.1.1.0; waiting = p.1.1.1.1 }) (λ _. refl)

@@ -3,9 +3,9 @@ use Rattle.std.proofs.Common.{IsTrue, ◌≡◌, ◌≢◌, ⊎_elim, ℕ, List,
 use Rattle.std.proofs.lemmas.Bool.{or_left, or_right, cases_Bool, cond-true}
 use Rattle.std.proofs.lemmas.Slice.Eq.{bytes_eq-Decides}
 use Rattle.ks_tree.specs.Files.{Files, content, SameButBoth}
-use Rattle.ks_symbols.specs.Names.{is_name}
+use Rattle.ks_symbols.specs.Names.{is_name, is_in}
 use Rattle.ks_tree.specs.Paths.{stamp_path, stamp_temporary}
-use Rattle.ks_tree.specs.Stamps.{stamp_text, is_in, Touches}
+use Rattle.ks_tree.specs.Stamps.{stamp_text, Touches}
 use Rattle.ks_tree.proofs.PathLemmas.{apart, ending-stamp, ending-stamp_temporary, stamp-injective}
 
 pub touches_none : (g : ℕ) (files : Files) → Touches [] g files files

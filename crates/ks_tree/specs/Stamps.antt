@@ -1,7 +1,6 @@
 -- The number that a stamp holds, and what touching leaves. A format of this project: the usual tool's stamps are empty, and their time counts.
-use Rattle.std.specs.Prelude.{◌≡◌, ◌≢◌, ℕ, ◌<◌, ◌^◌, List, [], ◌∷◌, ◌++◌, ◌⊎◌, Option, Some, None, decimal, Bool, true, if◌then◌else◌, bytes_eq, IsTrue, ⊤}
-use Rattle.std.specs.List.{list_any}
-use Rattle.ks_symbols.specs.Names.{is_name}
+use Rattle.std.specs.Prelude.{◌≡◌, ◌≢◌, ℕ, ◌<◌, ◌^◌, List, [], ◌∷◌, ◌++◌, ◌⊎◌, Option, Some, None, decimal, Bool, true, if◌then◌else◌, IsTrue, ⊤}
+use Rattle.ks_symbols.specs.Names.{is_name, is_in}
 use Rattle.ks_tree.specs.declared.fault.TreeError.{TreeError}
 use Rattle.ks_tree.specs.declared.fault.TreeError.TheVariants as error
 use Rattle.ks_tree.specs.Files.{Files, content, IsTooLarge}
@@ -25,9 +24,6 @@ abbrev pub IsStampRefusal : List ℕ → Option (List ℕ) → TreeError → Typ
 IsStampRefusal x file (error.BadStamp y) = (y ≡ x) × IsNoStamp file × (IsTooLarge file → ⊥)
 IsStampRefusal x file error.TooLarge = IsTooLarge file
 IsStampRefusal x file e = ⊤
-
-abbrev pub is_in : List (List ℕ) → List ℕ → Bool
-is_in xs x = list_any (bytes_eq x) xs
 
 -- These names' stamps are set, and nothing else has changed but the temporary file.
 pub record Touches (xs : List (List ℕ)) (g : ℕ) (old new : Files) : Type 0 where

@@ -24,7 +24,8 @@ AsksForHelp words = IsAmong DisplayHelp (fault_of command_line_app words) ⊎ Is
 abbrev pub Explains : List Text → ℕ → Type 0
 Explains words status = (takes command_line_app words ≡ true → ⊥) × ((status ≡ 2) ⊎ ((status ≡ 0) × AsksForHelp words))
 
--- The request of the words was performed, and a refusal told with where it points; or memory was refused for it, or the words were explained, and the tree is as before.
+-- The request of the words was performed, and a refusal told with where it points; or memory was refused for it, or the words were
+-- explained, and the tree is as before.
 abbrev pub Executes : {T : Type 0} → Ghosts T → List Text → T → T → Option (List ℕ) → Option (List ℕ) → Option (List ℕ) → Option (List ℕ) → ℕ → Type 0
 Executes tree words old new before after err_before err_after status =
     ((request : Request) × Makes words request

@@ -18,45 +18,54 @@ use Rattle.ks_commands.specs.Inputs.{given}
 use Rattle.ks_commands.specs.Performed.{EndsStale, IsAnswerOn, LeavesSync, Runs, RunsAll, by_files, by_histories}
 use Rattle.ks_commands.specs.Scripts.{HasGivenUp, actions_of, script_actions, script_at}
 
-pub sync_leaves : (old mid new : Files) (k k' d d' : List ℕ) (answer : Result Report EngineError) → mid ≡ old → k ≡ k' → d ≡ d' → LeavesSync mid new k d answer → LeavesSync old new k' d' answer
+pub sync_leaves : (old mid new : Files) (k k' d d' : List ℕ) (answer : Result Report EngineError) → mid ≡ old → k ≡ k' → d ≡ d'
+    → LeavesSync mid new k d answer → LeavesSync old new k' d' answer
 sync_leaves old mid new k k' d d' answer same same_k same_d leaves =
-    subst (λ (f : Files). LeavesSync f new k' d' answer) same (subst (λ (x : List ℕ). LeavesSync mid new x d' answer) same_k (subst (λ (x : List ℕ). LeavesSync mid new k x answer) same_d leaves))
+    subst (λ (f : Files). LeavesSync f new k' d' answer) same
+    (subst (λ (x : List ℕ). LeavesSync mid new x d' answer) same_k (subst (λ (x : List ℕ). LeavesSync mid new k x answer) same_d leaves))
 
 -- what was counted before does not matter to a synchronisation
-counted_aside : (old : Files) (m n : ℕ) (h : History) (k d : List ℕ) (answer : Result Report EngineError) (new : State) → FollowsSync k d answer (at old m h) new → FollowsSync k d answer (at old n h) new
+counted_aside : (old : Files) (m n : ℕ) (h : History) (k d : List ℕ) (answer : Result Report EngineError) (new : State)
+    → FollowsSync k d answer (at old m h) new → FollowsSync k d answer (at old n h) new
 counted_aside old m n h k d (Ok report) new f = record { files = f.files; history = f.history; generation = f.generation; changed = f.changed }
 counted_aside old m n h k d (Err e) new f = f
 
-pub sync_follows : (old mid : Files) (m n : ℕ) (h : History) (k k' d d' : List ℕ) (answer : Result Report EngineError) (new : State) → mid ≡ old → k ≡ k' → d ≡ d'
+pub sync_follows : (old mid : Files) (m n : ℕ) (h : History) (k k' d d' : List ℕ) (answer : Result Report EngineError) (new : State) → mid ≡ old → k ≡ k' → d
+    ≡ d'
     → FollowsSync k d answer (at mid n h) new → FollowsSync k' d' answer (at old m h) new
 sync_follows old mid m n h k k' d d' answer new same same_k same_d follows =
     counted_aside old n m h k' d' answer new (subst (λ (f : Files). FollowsSync k' d' answer (at f n h) new) same
     (subst (λ (x : List ℕ). FollowsSync x d' answer (at mid n h) new) same_k (subst (λ (x : List ℕ). FollowsSync k x answer (at mid n h) new) same_d follows)))
 
 -- a script that is refused where it is read
-pub script_missing : (files : Files) (path : List ℕ) (e : EngineError) → IsGivenUp e ⊎ (given files path ≡ Err e) → HasGivenUp (Engine e) ⊎ (script_at files path ≡ Err (Engine e))
+pub script_missing : (files : Files) (path : List ℕ) (e : EngineError) → IsGivenUp e ⊎ (given files path ≡ Err e) → HasGivenUp (Engine e)
+    ⊎ (script_at files path ≡ Err (Engine e))
 unfolding script_at
 script_missing files path e (inl up) = inl up
 script_missing files path e (inr bad) = inr (ap (actions_of files) bad)
 
 -- what its text asks for is what the script at the path asks for
-pub script_there : (files mid : Files) (path text : List ℕ) (r : Result (List Action) Refusal) → mid ≡ files → given files path ≡ Ok text → script_actions mid text ≡ r → script_at files path ≡ r
+pub script_there : (files mid : Files) (path text : List ℕ) (r : Result (List Action) Refusal) → mid ≡ files → given files path ≡ Ok text
+    → script_actions mid text ≡ r → script_at files path ≡ r
 unfolding script_at
 script_there files mid path text r same there is = ap (actions_of files) there ∙ ap (λ (f : Files). script_actions f text) (sym same) ∙ is
 
-pub runs_all : (A B : Type 0) (P Q : List Reply → Type 0) (asked actions : List Action) (ended : Ending) → (A → B) → ((replies : List Reply) → P replies → Q replies) → asked ≡ actions
+pub runs_all : (A B : Type 0) (P Q : List Reply → Type 0) (asked actions : List Action) (ended : Ending) → (A → B)
+    → ((replies : List Reply) → P replies → Q replies) → asked ≡ actions
     → RunsAll A P asked ended → RunsAll B Q actions ended
 runs_all A B P Q asked actions ended f g are (inl stopped) = inl (f stopped.0, stopped.1)
 runs_all A B P Q asked actions ended f g are (inr ran) = subst (λ (acts : List Action). RunsAll B Q acts ended) are (inr (ran.0, g ran.0 ran.1, ran.2))
 
 -- a run behind the reads of its script
-pub run_follows : (old mid : Files) (m n : ℕ) (h : History) (asked actions : List Action) (replies : List Reply) (new : State) → mid ≡ old → m ≤ n → asked ≡ actions
+pub run_follows : (old mid : Files) (m n : ℕ) (h : History) (asked actions : List Action) (replies : List Reply) (new : State) → mid ≡ old → m ≤ n → asked
+    ≡ actions
     → Run (at mid n h) asked replies new → Runs (at old m h) new actions replies
 run_follows old mid m n h asked actions replies new same later are run =
     (n, later, subst (λ (f : Files). Run (at f n h) actions replies new) same (subst (λ (acts : List Action). Run (at mid n h) acts replies new) are run))
 
 -- a script whose text or files are refused
-pub script_stopped : (files mid : Files) (path text : List ℕ) (r : Refusal) → mid ≡ files → given files path ≡ Ok text → HasGivenUp r ⊎ (script_actions mid text ≡ Err r)
+pub script_stopped : (files mid : Files) (path text : List ℕ) (r : Refusal) → mid ≡ files → given files path ≡ Ok text → HasGivenUp r
+    ⊎ (script_actions mid text ≡ Err r)
     → HasGivenUp r ⊎ (script_at files path ≡ Err r)
 script_stopped files mid path text r same there (inl up) = inl up
 script_stopped files mid path text r same there (inr bad) = inr (script_there files mid path text (Err r) same there bad)

@@ -57,20 +57,23 @@ code_at_most status.Stale = lit≤ tt
 code_at_most status.Refused = lit≤ tt
 
 pub statuses_are_at_most_two : StatusesAreAtMostTwo
-statuses_are_at_most_two (Ok o) behind b a eb ea s (inl prints) = record { at_most = rw prints.answers (code_at_most o.status); done = λ is. inl (prints.answers ∙ ap code_of is) }
+statuses_are_at_most_two (Ok o) behind b a eb ea s (inl prints)
+    = record { at_most = rw prints.answers (code_at_most o.status); done = λ is. inl (prints.answers ∙ ap code_of is) }
 statuses_are_at_most_two (Ok o) behind b a eb ea s (inr failed) = record { at_most = omega (arith, failed.1); done = λ is. inr failed.1 }
 statuses_are_at_most_two (Err r) behind b a eb ea s refused = record { at_most = omega (arith, refused.2); done = λ is. inr refused.2 }
 
 -- ---- previews
 
-preview_written : (files : Files) (k d : List ℕ) (o : Option (List ℕ)) (outcome : Outcome) (before after : Option (List ℕ)) → EndsPreview files k d o (Ok outcome)
+preview_written : (files : Files) (k d : List ℕ) (o : Option (List ℕ)) (outcome : Outcome) (before after : Option (List ℕ))
+    → EndsPreview files k d o (Ok outcome)
     → Appends before after outcome.text.items → (code_of outcome.status ≡ 0) × WritesPreview files k d o before after
 preview_written files k d o outcome before after (inl stopped) appended = no_outcome outcome (Engine stopped.0) stopped.2
 preview_written files k d o outcome before after (inr (i, at, inl (text, is, told))) appended =
     (told.1, record { inputs = i; there = at; previews = record { text = text; is_preview = is; appended = subst (Appends before after) told.0 appended } })
 preview_written files k d o outcome before after (inr (i, at, inr (e, other, refusal, ended))) appended = no_outcome outcome _ ended
 
-done_or_refused : (k d : List ℕ) (o : Option (List ℕ)) (ended : Ending) (behind : List ℕ) (old new : Files) (b a eb ea : Option (List ℕ)) (s : ℕ) → new ≡ old → EndsPreview old k d o ended
+done_or_refused : (k d : List ℕ) (o : Option (List ℕ)) (ended : Ending) (behind : List ℕ) (old new : Files) (b a eb ea : Option (List ℕ)) (s : ℕ) → new ≡ old
+    → EndsPreview old k d o ended
     → Printed behind ended b a eb ea s → IsPreviewed k d o old new b a s
 done_or_refused k d o (Ok outcome) behind old new b a eb ea s same ends (inl prints) =
     let both = preview_written old k d o outcome b a ends prints.output in

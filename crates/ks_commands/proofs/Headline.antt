@@ -22,14 +22,16 @@ use Rattle.ks_commands.specs.Statuses.{reply_status, worst}
 
 -- ---- none was broken off before a step where none is behind it
 
-none_before_sync : (k d : List ℕ) (answer : Result Report EngineError) (old new : State) → FollowsSync k d answer old new → NoneBroken new.history → NoneBroken old.history
+none_before_sync : (k d : List ℕ) (answer : Result Report EngineError) (old new : State) → FollowsSync k d answer old new → NoneBroken new.history
+    → NoneBroken old.history
 none_before_sync k d (Ok report) old new is none = subst NoneBroken is.history none
 none_before_sync k d (Err e) old new (inl plain) none = subst NoneBroken plain.1.1 none
 none_before_sync k d (Err e) old new (inr (given, inl same)) none = subst NoneBroken same.1 none
 none_before_sync k d (Err e) old new (inr (given, inr (broken, inl event))) none = absurd (subst NoneBroken event none)
 none_before_sync k d (Err e) old new (inr (given, inr (broken, inr event))) none = subst NoneBroken event none
 
-none_before_record : (d t c : List ℕ) (answer : Result RecordAnswer EngineError) (old new : State) → FollowsRecord d t c answer old new → NoneBroken new.history → NoneBroken old.history
+none_before_record : (d t c : List ℕ) (answer : Result RecordAnswer EngineError) (old new : State) → FollowsRecord d t c answer old new
+    → NoneBroken new.history → NoneBroken old.history
 none_before_record d t c (Ok answer) old new is none =
     ⊎_elim (λ claimed. subst NoneBroken claimed.1.2 none) (λ unclaimed. subst NoneBroken unclaimed.1 none) is.history
 none_before_record d t c (Err e) old new (inl plain) none = subst NoneBroken plain.1.1 none
@@ -54,7 +56,8 @@ none_before_step (Stale o) (Recorded answer) old new is none = absurd is
 none_before_steps : (first : State) (steps : List Step) (last : State) → Leads first steps last → NoneBroken last.history → NoneBroken first.history
 none_before_steps first [] last leads none = subst (λ (s : State). NoneBroken s.history) leads none
 none_before_steps first (s ∷ ss) last leads none =
-    subst (λ (t : State). NoneBroken t.history) leads.0 (none_before_step s.action s.reply s.before s.after leads.1.leaves (none_before_steps s.after ss last leads.3 none))
+    subst (λ (t : State). NoneBroken t.history) leads.0 (none_before_step s.action s.reply s.before s.after leads.1.leaves
+    (none_before_steps s.after ss last leads.3 none))
 
 none_before_program : (r : Request) (ended : Ending) (old new : State) → Continues r ended old new → NoneBroken new.history → NoneBroken old.history
 none_before_program (request.Sync k d) ended old new (inl stopped) none = subst NoneBroken stopped.0.1 none
@@ -76,7 +79,8 @@ none_at_first first (run ∷ runs) last chain none =
 
 -- ---- what is told then
 
-stale_tells : (old new : State) (objects : List (List ℕ)) (ended : Ending) → NoneBroken old.history → EndsStale (by_histories old new) objects ended → EndsStale (changes_told old) objects ended
+stale_tells : (old new : State) (objects : List (List ℕ)) (ended : Ending) → NoneBroken old.history → EndsStale (by_histories old new) objects ended
+    → EndsStale (changes_told old) objects ended
 stale_tells old new objects ended none (inl memory) = inl memory
 stale_tells old new objects ended none (inr (text, status, are, tells)) = inr (
   text,
@@ -92,7 +96,8 @@ stale_tells old new objects ended none (inr (text, status, are, tells)) = inr (
   tells,
 )
 
-program_tells : (r : Request) (ended : Ending) (old new : State) → Continues r ended old new → NoneBroken new.history → ProgramTellsChanges (record { before = old; request = r; ended = ended; after = new })
+program_tells : (r : Request) (ended : Ending) (old new : State) → Continues r ended old new → NoneBroken new.history
+    → ProgramTellsChanges (record { before = old; request = r; ended = ended; after = new })
 program_tells (request.Sync k d) ended old new (inl stopped) none = inl (tt, stopped.1)
 program_tells (request.Sync k d) ended old new (inr synced) none = inr (synced.0, synced.1, synced.2, tt, synced.4)
 program_tells (request.Preview k d o) ended old new is none = (tt, is.1)
@@ -128,7 +133,8 @@ not_given_up (Sync k d) (Verdict v) small given = given
 not_given_up (Record d o c) r small given = given
 not_given_up (Stale o) r small given = given
 
-none_given_up : (a : ℕ) (steps : List Step) → fold max a (map reply_status (map (λ step. step.reply) steps)) < 2 → All (λ step. IsGivenUpSync step.action step.reply → ⊥) steps
+none_given_up : (a : ℕ) (steps : List Step) → fold max a (map reply_status (map (λ step. step.reply) steps)) < 2
+    → All (λ step. IsGivenUpSync step.action step.reply → ⊥) steps
 none_given_up a [] small = All-nil (λ step. IsGivenUpSync step.action step.reply → ⊥)
 none_given_up a (s ∷ ss) small =
     let one = reply_status s.reply in
@@ -140,5 +146,6 @@ batch_tells_changes path o old new small none (inl stopped) = inl (tt, stopped.1
 batch_tells_changes path o old new small none (inr (actions, at, inl memory)) = inr (actions, at, inl (tt, memory.1))
 batch_tells_changes path o old new small none (inr (actions, at, inr ran)) =
     let run = ran.1.2 in
-    let below : worst (map reply_status (map (λ step. step.reply) run.steps)) < 2 = subst (λ n. n < 2) (ran.2.1 ∙ ap (λ rs. worst (map reply_status rs)) (sym run.replies)) small in
+    let below : worst (map reply_status (map (λ step. step.reply) run.steps)) < 2
+    = subst (λ n. n < 2) (ran.2.1 ∙ ap (λ rs. worst (map reply_status rs)) (sym run.replies)) small in
     inr (actions, at, inr (ran.0, (run.steps, run.actions, run.replies, run.changed (run.unbroken none (none_given_up 0 run.steps below))), ran.2))

@@ -32,19 +32,22 @@ lines_from files f xs i d within =
     subst (λ (j : ℕ). actions_at files (map f (drop i xs)) ≡ followed (action_at files (f (get_or xs i d))) (actions_at files (map f (drop j xs)))) next
     (ap (λ ys. actions_at files (map f ys)) (drop-cons xs i d within))
 
-pub actions_next : {X : Type 0} (files : Files) (f : X → Line) (xs : List X) (i : ℕ) (d : X) (front : List Action) (a : Action) (all : Result (List Action) EngineError)
+pub actions_next : {X : Type 0} (files : Files) (f : X → Line) (xs : List X) (i : ℕ) (d : X) (front : List Action) (a : Action)
+    (all : Result (List Action) EngineError)
     → i < length xs → action_at files (f (get_or xs i d)) ≡ Ok a → behind front (actions_at files (map f (drop i xs))) ≡ all
     → behind (front ++ a ∷ []) (actions_at files (map f (drop (i + 1) xs))) ≡ all
 actions_next files f xs i d front a all within is before =
     let rest = actions_at files (map f (drop (i + 1) xs)) in
     sym (behind_next front a rest) ∙ sym (ap (behind front) (lines_from files f xs i d within ∙ ap (λ r. followed r rest) is)) ∙ before
 
-pub actions_refused : {X : Type 0} (files : Files) (f : X → Line) (xs : List X) (i : ℕ) (d : X) (front : List Action) (e : EngineError) (all : Result (List Action) EngineError)
+pub actions_refused : {X : Type 0} (files : Files) (f : X → Line) (xs : List X) (i : ℕ) (d : X) (front : List Action) (e : EngineError)
+    (all : Result (List Action) EngineError)
     → i < length xs → action_at files (f (get_or xs i d)) ≡ Err e → behind front (actions_at files (map f (drop i xs))) ≡ all → all ≡ Err e
 actions_refused files f xs i d front e all within is before =
     sym before ∙ ap (behind front) (lines_from files f xs i d within ∙ ap (λ r. followed r (actions_at files (map f (drop (i + 1) xs)))) is)
 
-pub actions_end : {X : Type 0} (files : Files) (f : X → Line) (xs : List X) (i : ℕ) (front : List Action) (all : Result (List Action) EngineError) → length xs ≤ i
+pub actions_end : {X : Type 0} (files : Files) (f : X → Line) (xs : List X) (i : ℕ) (front : List Action) (all : Result (List Action) EngineError)
+    → length xs ≤ i
     → behind front (actions_at files (map f (drop i xs))) ≡ all → all ≡ Ok front
 actions_end files f xs i front all past before =
     sym before ∙ ap (λ ys. behind front (actions_at files (map f ys))) (drop_all i xs past) ∙ ap (λ l. Ok l) (append-nil front)
@@ -71,13 +74,15 @@ none_some None b p q = cc
 none_some (Some c) b p q = cc
 
 -- where it stands, or elsewhere
-beside : (p q : List ℕ) (old new : Files) (P : Option (List ℕ) → Type 0) → SameBut p old new → (q ≡ p → P (content new q)) → (P (content old q)) → P (content new q)
+beside : (p q : List ℕ) (old new : Files) (P : Option (List ℕ) → Type 0) → SameBut p old new → (q ≡ p → P (content new q)) → (P (content old q))
+    → P (content new q)
 beside p q old new P others here there = (elim (bytes_eq p q) as (λ b. bytes_eq p q ≡ b → P (content new q)) [
   | true ↦ λ t. here (sym ((bytes_decides p q).0 t))
   | false ↦ λ f. subst P (sym (others q (λ e. true≢false (sym ((bytes_decides p q).1 (sym e)) ∙ f)))) there
 ]) refl
 
-pub given_more : (files old new : Files) (p b : List ℕ) → given files p ≡ Ok b → content new p ≡ Some b → SameBut p old new → AreGiven files old → AreGiven files new
+pub given_more : (files old new : Files) (p b : List ℕ) → given files p ≡ Ok b → content new p ≡ Some b → SameBut p old new → AreGiven files old
+    → AreGiven files new
 given_more files old new p b is at others are = λ q bytes.
     beside p q old new (λ o. o ≡ Some bytes → given files q ≡ Ok bytes) others
     (λ same found. ap (given files) same ∙ is ∙ ap (λ x. Ok x) (some_same (content new p) b bytes at (ap (content new) (sym same) ∙ found)))

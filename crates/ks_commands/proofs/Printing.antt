@@ -9,7 +9,8 @@ use Rattle.ks_commands.specs.Replies.{reply_line, reply_lines}
 use Rattle.ks_commands.specs.Statuses.{worst}
 
 pub lines_from : (cs : List Command) (rs : List Reply) (i : ℕ) (c : Command) (r : Reply) → i < length cs → i < length rs
-    → reply_lines (map action (drop i cs)) (drop i rs) ≡ reply_line (action (get_or cs i c)) (get_or rs i r) ++ reply_lines (map action (drop (suc i) cs)) (drop (suc i) rs)
+    → reply_lines (map action (drop i cs)) (drop i rs) ≡ reply_line (action (get_or cs i c)) (get_or rs i r)
+    ++ reply_lines (map action (drop (suc i) cs)) (drop (suc i) rs)
 unfolding reply_lines
 lines_from cs rs i c r in_cs in_rs = ap₂ (λ xs ys. reply_lines (map action xs) ys) (drop-cons cs i c in_cs) (drop-cons rs i r in_rs)
 
@@ -38,4 +39,5 @@ pub worst_more : {X : Type 0} (f : X → ℕ) (xs : List X) (i : ℕ) (x : X) (s
     → status ≡ worst (map f (take i xs)) → one ≡ f x → all ≡ max status one → all ≡ worst (map f (take (i + 1) xs))
 worst_more f xs i x status one all within at so_far this now =
     now ∙ ap₂ max so_far (this ∙ ap f at)
-    ∙ sym (ap (λ ys. worst (map f ys)) (take_more xs i x within) ∙ ap worst (map-append f (take i xs) (get_or xs i x ∷ [])) ∙ fold-append max 0 (map f (take i xs)) (f (get_or xs i x) ∷ []))
+    ∙ sym (ap (λ ys. worst (map f ys)) (take_more xs i x within) ∙ ap worst (map-append f (take i xs) (get_or xs i x ∷ [])) ∙ fold-append max 0
+    (map f (take i xs)) (f (get_or xs i x) ∷ []))

@@ -37,7 +37,8 @@ pub some_none : {C : Type 0} (site : Site) → ◌≡◌ {A = Option Site} (Some
 some_none site is = absurd cc
 
 -- what stands there, with the files as they are after they were read
-pub there_kept : (honest : Type 0) (old new : Files) (site : Site) (text : List ℕ) → (honest → new ≡ old) → IsThere honest old site text → IsThere honest new site text
+pub there_kept : (honest : Type 0) (old new : Files) (site : Site) (text : List ℕ) → (honest → new ≡ old) → IsThere honest old site text
+    → IsThere honest new site text
 there_kept honest old new site text same is = record { visible = is.visible; there = λ h. ap (λ (f : Files). excerpt_at f site) (same h) ∙ is.there h }
 
 if_there_kept : (honest : Type 0) (old new : Files) (site : Site) (text : Option (List ℕ)) → (honest → new ≡ old)
@@ -45,7 +46,8 @@ if_there_kept : (honest : Type 0) (old new : Files) (site : Site) (text : Option
 if_there_kept honest old new site None same is = is
 if_there_kept honest old new site (Some text) same is = there_kept honest old new site text same is
 
-pub site_line_kept : (honest : Type 0) (old new : Files) (site : Option Site) (line : List ℕ) → (honest → new ≡ old) → IsSiteLine honest old site line → IsSiteLine honest new site line
+pub site_line_kept : (honest : Type 0) (old new : Files) (site : Option Site) (line : List ℕ) → (honest → new ≡ old) → IsSiteLine honest old site line
+    → IsSiteLine honest new site line
 site_line_kept honest old new None line same is = is
 site_line_kept honest old new (Some site) line same (text, there, whole) = (text, if_there_kept honest old new site text same there, whole)
 
@@ -86,7 +88,8 @@ pub read_behind : {T : Type 0} (tree : Ghosts T) (old mid new : T) (asked : Requ
     → Performs tree old mid asked (Err r) → Reads tree mid new ⊥ → Performs tree old new asked (Err r)
 read_behind tree old mid new asked r plain performs reads = record {
   done = performs.done;
-  files = λ honest. subst (λ (f : Files). Ends (tree.files old) (by_files (tree.files old) f) asked (Err r)) (sym (reads.unchanged honest)) (performs.files honest);
+  files = λ honest. subst (λ (f : Files). Ends (tree.files old) (by_files (tree.files old) f) asked (Err r)) (sym (reads.unchanged honest))
+      (performs.files honest);
   goes_on = λ honest h shows.
       let next = performs.goes_on honest h shows in
       let from = at (tree.files old) (tree.failures old) h in (

@@ -24,7 +24,8 @@ module _ (is : List ℕ → Result Verdict EngineError → Type 0) where
   no_answers = record { answers = []; of_objects = refl; each = All-nil (λ p. is p.0 p.1); lines = refl; worst_of = refl }
 
   pub answers_more : (objects : List (List ℕ)) (o : List ℕ) (answer : Result Verdict EngineError) (before after : List ℕ) (status one : ℕ)
-      → AreAnswers is objects before status → is o answer → after ≡ before ++ answer_line verdict_line o answer → one ≡ status_unless_refused verdict_status answer
+      → AreAnswers is objects before status → is o answer → after ≡ before ++ answer_line verdict_line o answer → one
+      ≡ status_unless_refused verdict_status answer
       → AreAnswers is (objects ++ o ∷ []) after (max status one)
   answers_more objects o answer before after status one so_far holds more this =
       let last : List Asked = (o, answer) ∷ [] in
@@ -43,5 +44,6 @@ module _ (is : List ℕ → Result Verdict EngineError → Type 0) where
       }
 
 -- the views of one element more
-pub map-take_more : {X Y : Type 0} (f : X → Y) (xs : List X) (i : ℕ) (d : X) → i < length xs → map f (take i xs) ++ f (get_or xs i d) ∷ [] ≡ map f (take (i + 1) xs)
+pub map-take_more : {X Y : Type 0} (f : X → Y) (xs : List X) (i : ℕ) (d : X) → i < length xs → map f (take i xs) ++ f (get_or xs i d) ∷ []
+    ≡ map f (take (i + 1) xs)
 map-take_more f xs i d within = sym (map-append f (take i xs) (get_or xs i d ∷ [])) ∙ ap (map f) (sym (take_more xs i d within))

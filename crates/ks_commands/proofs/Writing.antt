@@ -43,7 +43,8 @@ pub part_written : (first second third : Option (List ℕ)) (xs : List ℕ) (i :
 part_written first second third xs i p k = (take i xs, drop i xs, sym (take-append-drop i xs), appended_kept first second third (take i xs) p k)
 
 -- a part of what stands behind that which is written
-pub part_behind : (first second third : Option (List ℕ)) (front xs behind whole : List ℕ) → whole ≡ front ++ (xs ++ behind) → Appends first second front → IsPart xs second third
+pub part_behind : (first second third : Option (List ℕ)) (front xs behind whole : List ℕ) → whole ≡ front ++ (xs ++ behind) → Appends first second front
+    → IsPart xs second third
     → IsPart whole first third
 part_behind first second third front xs behind whole is p part = (
   front ++ part.0,
@@ -61,7 +62,8 @@ parts_at parts i p within =
     ∙ flat_map-append (λ q. q.now) (take i parts) (get_or parts i p ∷ drop (suc i) parts)
 
 pub parts_broken : (first second third : Option (List ℕ)) (parts : List (Bor (List ℕ))) (i : ℕ) (p : Bor (List ℕ)) → i < length parts
-    → Appends first second (flat_map (λ q. q.now) (take i parts)) → IsPart (get_or parts i p).now second third → IsPart (flat_map (λ q. q.now) parts) first third
+    → Appends first second (flat_map (λ q. q.now) (take i parts)) → IsPart (get_or parts i p).now second third
+    → IsPart (flat_map (λ q. q.now) parts) first third
 parts_broken first second third parts i p within a b = part_behind first second third _ _ _ _ (parts_at parts i p within) a b
 
 pub part_kept : (first second third : Option (List ℕ)) (text : List ℕ) → IsPart text first second → Keeps second third → IsPart text first third
@@ -73,9 +75,11 @@ first_told first second third text line part kept =
     part_kept first second third (text ++ line) (part.0, part.1 ++ line, ap (λ l. l ++ line) part.2 ∙ append_assoc part.0 part.1 line, part.3) kept
 
 -- the first text, and a part of the other
-pub both_told : (first second third fourth : Option (List ℕ)) (text line : List ℕ) → Appends first second text → IsPart line second third → Keeps third fourth → IsPart (text ++ line) first fourth
+pub both_told : (first second third fourth : Option (List ℕ)) (text line : List ℕ) → Appends first second text → IsPart line second third → Keeps third fourth
+    → IsPart (text ++ line) first fourth
 both_told first second third fourth text line a part kept =
-    part_kept first third fourth (text ++ line) (part_behind first second third text line [] (text ++ line) (ap (λ l. text ++ l) (sym (append-nil line))) a part) kept
+    part_kept first third fourth (text ++ line) (part_behind first second third text line [] (text ++ line) (ap (λ l. text ++ l) (sym (append-nil line))) a
+    part) kept
 
 -- how the pieces of the two lines stand behind one another
 pub fault_pieces : (a b c d : List ℕ) → a ++ (b ++ (c ++ (d ++ []))) ≡ a ++ (b ++ c) ++ d

@@ -103,7 +103,8 @@ fn write_site_line<E: Write>(
     number: &[u8],
     text: Option<&[u8]>,
 )
-    ensures { IsPart (codes "  " ++ path.now ++ (label.now ++ number.now) ++ shown (option_map (λ t. t.now) text.entry) ++ codes "\n") (E.contents err.old) (E.contents err.new) }
+    ensures { IsPart (codes "  " ++ path.now ++ (label.now ++ number.now) ++ shown (option_map (λ t. t.now) text.entry) ++ codes "\n") (E.contents err.old)
+        (E.contents err.new) }
 {
     let _ = match text {
         Some(text) => write_parts(err, &[b"  ", path, label, number, b": ", text, b"\n"]),

@@ -86,7 +86,8 @@ pub(crate) fn write_touches(names: &[Name], out: &mut Vec<u8>) -> Result<(), All
 
 /// The touch lines, and then auto.conf. The names are let go between the two.
 fn preview_text(alloc: Global, report: Report, sources: &Sources) -> Result<Vec<u8>, AllocError>
-    ensures { IfOk result (λ t. t.items ≡ touch_lines report.touched.items ++ auto_text sources.now.title.items sources.now.settings.entries report.generation) }
+    ensures { IfOk result (λ t. t.items ≡ touch_lines report.touched.items
+        ++ auto_text sources.now.title.items sources.now.settings.entries report.generation) }
 {
     let generation = report.generation;
     let mut text = Vec::new(alloc);

@@ -62,7 +62,8 @@ rising_one (x ∷ a) (y ∷ b) h g same =
       | Equal ↦ λ is.
           let here : x ≡ y = tied x y (ap is_eq is) in
           let behind : a ≡ b =
-          rising_one a b h.1 g.1 (tails x a b h.0 (subst (λ (n : List ℕ). Above n b) (sym here) g.0) (λ z. same z ∙ ap (λ (n : List ℕ). is_in (n ∷ b) z) (sym here))) in
+          rising_one a b h.1 g.1 (tails x a b h.0 (subst (λ (n : List ℕ). Above n b) (sym here) g.0)
+          (λ z. same z ∙ ap (λ (n : List ℕ). is_in (n ∷ b) z) (sym here))) in
           ap (λ (n : List ℕ). n ∷ a) here ∙ ap (λ (l : List (List ℕ)). y ∷ l) behind
       | Greater ↦ λ is. absurd (false≢true (missing y x b a (turned x y is) h.0 (sym (same y))))
     ] refl

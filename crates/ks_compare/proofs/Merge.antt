@@ -63,11 +63,13 @@ pub merged-both : (e : List ℕ × (Option Class × List ℕ)) (y : List ℕ × 
 unfolding merged merged_first
 merged-both e y xs ys = refl
 
-pub merged-less : (e : List ℕ × (Option Class × List ℕ)) (y : List ℕ × (Kind × List ℕ)) (xs : OldList) (ys : NewList) → order e.0 y.0 ≡ Less → merged (e ∷ xs) (y ∷ ys) ≡ e.0 ∷ merged xs (y ∷ ys)
+pub merged-less : (e : List ℕ × (Option Class × List ℕ)) (y : List ℕ × (Kind × List ℕ)) (xs : OldList) (ys : NewList) → order e.0 y.0 ≡ Less
+    → merged (e ∷ xs) (y ∷ ys) ≡ e.0 ∷ merged xs (y ∷ ys)
 unfolding turn
 merged-less e y xs ys is = merged-both e y xs ys ∙ ap (λ o. turn o e y (merged xs (y ∷ ys)) (merged xs ys) (merged (e ∷ xs) ys)) is
 
-pub merged-greater : (e : List ℕ × (Option Class × List ℕ)) (y : List ℕ × (Kind × List ℕ)) (xs : OldList) (ys : NewList) → order e.0 y.0 ≡ Greater → merged (e ∷ xs) (y ∷ ys) ≡ y.0 ∷ merged (e ∷ xs) ys
+pub merged-greater : (e : List ℕ × (Option Class × List ℕ)) (y : List ℕ × (Kind × List ℕ)) (xs : OldList) (ys : NewList) → order e.0 y.0 ≡ Greater
+    → merged (e ∷ xs) (y ∷ ys) ≡ y.0 ∷ merged (e ∷ xs) ys
 unfolding turn
 merged-greater e y xs ys is = merged-both e y xs ys ∙ ap (λ o. turn o e y (merged xs (y ∷ ys)) (merged xs ys) (merged (e ∷ xs) ys)) is
 
@@ -107,7 +109,8 @@ pub here_test : (x k : List ℕ) → is_eq (order x k) ≡ bytes_eq x k
 here_test x k = is_eq-slice_cmp x k
 
 -- one more name that the old entries have alone
-cons_old : (e : List ℕ × (Option Class × List ℕ)) (xs : OldList) (ys : NewList) (names : List (List ℕ)) → T (below_all order e.0 xs) → T (below_all order e.0 ys) → Good xs ys names → Good (e ∷ xs) ys (e.0 ∷ names)
+cons_old : (e : List ℕ × (Option Class × List ℕ)) (xs : OldList) (ys : NewList) (names : List (List ℕ)) → T (below_all order e.0 xs)
+    → T (below_all order e.0 ys) → Good xs ys names → Good (e ∷ xs) ys (e.0 ∷ names)
 unfolding IsStrictlySortedBy
 cons_old e xs ys names h g good = record {
   low = λ z a b. (less _ (first _ _ a), good.low z (second _ _ a) b);
@@ -126,7 +129,8 @@ cons_old e xs ys names h g good = record {
 }
 
 -- one that the new entries have alone
-cons_new : (y : List ℕ × (Kind × List ℕ)) (xs : OldList) (ys : NewList) (names : List (List ℕ)) → T (below_all order y.0 xs) → T (below_all order y.0 ys) → Good xs ys names → Good xs (y ∷ ys) (y.0 ∷ names)
+cons_new : (y : List ℕ × (Kind × List ℕ)) (xs : OldList) (ys : NewList) (names : List (List ℕ)) → T (below_all order y.0 xs) → T (below_all order y.0 ys)
+    → Good xs ys names → Good xs (y ∷ ys) (y.0 ∷ names)
 unfolding IsStrictlySortedBy
 cons_new y xs ys names h g good = record {
   low = λ z a b. (less _ (first _ _ b), good.low z a (second _ _ b));
@@ -149,7 +153,8 @@ chosen_low : (d : Bool) (z k : List ℕ) (names : List (List ℕ)) → order z k
 chosen_low true z k names p h = (p, h)
 chosen_low false z k names p h = h
 
-chosen_rising : (d : Bool) (k : List ℕ) (names : List (List ℕ)) → Above k names → IsStrictlySortedBy order names → IsStrictlySortedBy order (cond d (k ∷ names) names)
+chosen_rising : (d : Bool) (k : List ℕ) (names : List (List ℕ)) → Above k names → IsStrictlySortedBy order names
+    → IsStrictlySortedBy order (cond d (k ∷ names) names)
 unfolding IsStrictlySortedBy
 chosen_rising true k names p h = (p, h)
 chosen_rising false k names p h = h
@@ -162,7 +167,8 @@ chosen_other : (d : Bool) (x k : List ℕ) (names : List (List ℕ)) → bytes_e
 chosen_other true x k names e = ap (λ b. b || is_in names x) e
 chosen_other false x k names e = refl
 
-cons_both : (k : List ℕ) (t : Option Class × List ℕ) (s : Kind × List ℕ) (xs : OldList) (ys : NewList) (names : List (List ℕ)) → T (below_all order k xs) → T (below_all order k ys) → Good xs ys names
+cons_both : (k : List ℕ) (t : Option Class × List ℕ) (s : Kind × List ℕ) (xs : OldList) (ys : NewList) (names : List (List ℕ)) → T (below_all order k xs)
+    → T (below_all order k ys) → Good xs ys names
     → Good ((k, t) ∷ xs) ((k, s) ∷ ys) (cond (unlike t (compared s)) (k ∷ names) names)
 cons_both k t s xs ys names h g good =
     let d = unlike t (compared s) in
@@ -173,7 +179,8 @@ cons_both k t s xs ys names h g good =
         | inl same ↦
             let no_old : find order x xs ≡ None = ap (λ (n : List ℕ). find order n xs) (tied x k same) ∙ find_below k xs h in
             let no_new : find order x ys ≡ None = ap (λ (n : List ℕ). find order n ys) (tied x k same) ∙ find_below k ys g in
-            let absent : is_in names x ≡ false = good.each x ∙ ap (λ o. differ o (option_map compared (find order x ys))) no_old ∙ ap (λ o. differ None (option_map compared o)) no_new in
+            let absent : is_in names x ≡ false = good.each x ∙ ap (λ o. differ o (option_map compared (find order x ys))) no_old ∙ ap
+            (λ o. differ None (option_map compared o)) no_new in
             chosen_is d x k names (sym (here_test x k) ∙ same) absent
             ∙ ap (λ b. differ (cond b (Some t) (find order x xs)) (option_map compared (cond b (Some s) (find order x ys)))) (sym same)
         | inr ne ↦
@@ -194,8 +201,10 @@ good_new (y ∷ ys) h = subst (Good [] (y ∷ ys)) (sym (merged-new y ys)) (cons
 pub turned : (x y : List ℕ) → order x y ≡ Greater → order y x ≡ Less
 turned x y e = nat_list_cmp_total.antisymm y x ∙ ap ordering_reverse e
 
-good_step : (e : List ℕ × (Option Class × List ℕ)) (y : List ℕ × (Kind × List ℕ)) (xs : OldList) (ys : NewList) (o : Ordering) → order e.0 y.0 ≡ o → T (is_sorted order (e ∷ xs)) → T (is_sorted order (y ∷ ys))
-    → Good xs (y ∷ ys) (merged xs (y ∷ ys)) → Good xs ys (merged xs ys) → Good (e ∷ xs) ys (merged (e ∷ xs) ys) → Good (e ∷ xs) (y ∷ ys) (merged (e ∷ xs) (y ∷ ys))
+good_step : (e : List ℕ × (Option Class × List ℕ)) (y : List ℕ × (Kind × List ℕ)) (xs : OldList) (ys : NewList) (o : Ordering) → order e.0 y.0 ≡ o
+    → T (is_sorted order (e ∷ xs)) → T (is_sorted order (y ∷ ys))
+    → Good xs (y ∷ ys) (merged xs (y ∷ ys)) → Good xs ys (merged xs ys) → Good (e ∷ xs) ys (merged (e ∷ xs) ys)
+    → Good (e ∷ xs) (y ∷ ys) (merged (e ∷ xs) (y ∷ ys))
 good_step e y xs ys Less is h g old both new =
     subst (Good (e ∷ xs) (y ∷ ys)) (sym (merged-less e y xs ys is))
     (cons_old e xs (y ∷ ys) (merged xs (y ∷ ys)) (first _ _ h) (two _ _ (is_less _ is) (below_more e.0 y.0 ys is (first _ _ g))) old)
@@ -209,7 +218,8 @@ good_step e y xs ys Equal is h g old both new =
     (subst (λ (k : List ℕ). Good (e ∷ xs) ((k, y.1) ∷ ys) (cond (unlike e.1 (compared y.1)) (e.0 ∷ merged xs ys) (merged xs ys))) same
     (cons_both e.0 e.1 y.1 xs ys (merged xs ys) (first _ _ h) (subst (λ (k : List ℕ). T (below_all order k ys)) (sym same) (first _ _ g)) both))
 
-good_first : (e : List ℕ × (Option Class × List ℕ)) (xs : OldList) → T (is_sorted order (e ∷ xs)) → ((ys : NewList) → T (is_sorted order ys) → Good xs ys (merged xs ys))
+good_first : (e : List ℕ × (Option Class × List ℕ)) (xs : OldList) → T (is_sorted order (e ∷ xs))
+    → ((ys : NewList) → T (is_sorted order ys) → Good xs ys (merged xs ys))
     → (ys : NewList) → T (is_sorted order ys) → Good (e ∷ xs) ys (merged (e ∷ xs) ys)
 good_first e xs h rest [] g = subst (Good (e ∷ xs) []) (sym (merged-old e xs)) (cons_old e xs [] (merged xs []) (first _ _ h) tt (rest [] tt))
 good_first e xs h rest (y ∷ ys) g =
@@ -225,7 +235,8 @@ merged_changes old new =
     let all = good (map.entries old) (map.entries new) (map.entries_sorted old) (map.entries_sorted new) in
     record {
       rising = all.rising;
-      each = λ x. all.each x ∙ ap (λ o. differ o (option_map compared (find order x (map.entries new)))) (sym (map.get-entries old x)) ∙ ap (λ o. differ (map.get old x) (option_map compared o)) (sym (map.get-entries new x));
+      each = λ x. all.each x ∙ ap (λ o. differ o (option_map compared (find order x (map.entries new)))) (sym (map.get-entries old x)) ∙ ap
+          (λ o. differ (map.get old x) (option_map compared o)) (sym (map.get-entries new x));
     }
 
 -- against no texts each name changes
@@ -236,7 +247,8 @@ first_names new =
     let none : Texts = map.empty in
     record {
       rising = all.rising;
-      each = λ x. all.each x ∙ ap (λ o. differ o (option_map compared (find order x (map.entries new)))) (sym (map.get-empty order x)) ∙ ap (λ o. differ (map.get none x) (option_map compared o)) (sym (map.get-entries new x));
+      each = λ x. all.each x ∙ ap (λ o. differ o (option_map compared (find order x (map.entries new)))) (sym (map.get-empty order x)) ∙ ap
+          (λ o. differ (map.get none x) (option_map compared o)) (sym (map.get-entries new x));
     }
 
 -- what the pass does at a step
@@ -248,7 +260,8 @@ pub record TakesNew (name : List ℕ) (a : Option (List ℕ × (Kind × List ℕ
   pub left : merged xs (with_first a ys) ≡ name ∷ merged xs ys
   pub more : length (with_first a ys) ≡ suc (length ys)
 
-pub record TakesBoth (name : List ℕ) (d : Bool) (b : Option (List ℕ × (Option Class × List ℕ))) (a : Option (List ℕ × (Kind × List ℕ))) (xs : OldList) (ys : NewList) : Type 0 where
+pub record TakesBoth (name : List ℕ) (d : Bool) (b : Option (List ℕ × (Option Class × List ℕ))) (a : Option (List ℕ × (Kind × List ℕ))) (xs : OldList)
+    (ys : NewList) : Type 0 where
   pub left : merged (with_first b xs) (with_first a ys) ≡ cond d (name ∷ merged xs ys) (merged xs ys)
   pub more : length (with_first b xs) ≡ suc (length xs)
   pub fewer : length (with_first a ys) ≡ suc (length ys)
@@ -260,7 +273,8 @@ Takes (Old name) b a xs ys = TakesOld name b xs (with_first a ys)
 Takes (New name) b a xs ys = TakesNew name a (with_first b xs) ys
 Takes (Both name d) b a xs ys = TakesBoth name d b a xs ys
 
-takes_by_order : (o : Ordering) (e : List ℕ × (Option Class × List ℕ)) (y : List ℕ × (Kind × List ℕ)) (xs : OldList) (ys : NewList) → order e.0 y.0 ≡ o → Takes (by_order o e y) (Some e) (Some y) xs ys
+takes_by_order : (o : Ordering) (e : List ℕ × (Option Class × List ℕ)) (y : List ℕ × (Kind × List ℕ)) (xs : OldList) (ys : NewList) → order e.0 y.0 ≡ o
+    → Takes (by_order o e y) (Some e) (Some y) xs ys
 unfolding Takes
 takes_by_order Less e y xs ys is = record { left = merged-less e y xs ys is; more = refl }
 takes_by_order Equal e y xs ys is = record { left = merged-equal e y xs ys is; more = refl; fewer = refl }
@@ -277,19 +291,23 @@ takes (Some e) None xs ys = record { left = merged-old e xs; more = refl }
 takes None (Some y) xs ys = new_alone xs ys y
 takes (Some e) (Some y) xs ys = takes_by_order (order e.0 y.0) e y xs ys refl
 
-pub takes_end : (b : Option (List ℕ × (Option Class × List ℕ))) (a : Option (List ℕ × (Kind × List ℕ))) (xs : OldList) (ys : NewList) → Ends ≡ step b a → merged (with_first b xs) (with_first a ys) ≡ []
+pub takes_end : (b : Option (List ℕ × (Option Class × List ℕ))) (a : Option (List ℕ × (Kind × List ℕ))) (xs : OldList) (ys : NewList) → Ends ≡ step b a
+    → merged (with_first b xs) (with_first a ys) ≡ []
 unfolding Takes
 takes_end b a xs ys is = subst (λ s. Takes s b a xs ys) (sym is) (takes b a xs ys)
 
-pub takes_old : (name : List ℕ) (b : Option (List ℕ × (Option Class × List ℕ))) (a : Option (List ℕ × (Kind × List ℕ))) (xs : OldList) (ys : NewList) → Old name ≡ step b a → TakesOld name b xs (with_first a ys)
+pub takes_old : (name : List ℕ) (b : Option (List ℕ × (Option Class × List ℕ))) (a : Option (List ℕ × (Kind × List ℕ))) (xs : OldList) (ys : NewList)
+    → Old name ≡ step b a → TakesOld name b xs (with_first a ys)
 unfolding Takes
 takes_old name b a xs ys is = subst (λ s. Takes s b a xs ys) (sym is) (takes b a xs ys)
 
-pub takes_new : (name : List ℕ) (b : Option (List ℕ × (Option Class × List ℕ))) (a : Option (List ℕ × (Kind × List ℕ))) (xs : OldList) (ys : NewList) → New name ≡ step b a → TakesNew name a (with_first b xs) ys
+pub takes_new : (name : List ℕ) (b : Option (List ℕ × (Option Class × List ℕ))) (a : Option (List ℕ × (Kind × List ℕ))) (xs : OldList) (ys : NewList)
+    → New name ≡ step b a → TakesNew name a (with_first b xs) ys
 unfolding Takes
 takes_new name b a xs ys is = subst (λ s. Takes s b a xs ys) (sym is) (takes b a xs ys)
 
-pub takes_both : (name : List ℕ) (d : Bool) (b : Option (List ℕ × (Option Class × List ℕ))) (a : Option (List ℕ × (Kind × List ℕ))) (xs : OldList) (ys : NewList) → Both name d ≡ step b a → TakesBoth name d b a xs ys
+pub takes_both : (name : List ℕ) (d : Bool) (b : Option (List ℕ × (Option Class × List ℕ))) (a : Option (List ℕ × (Kind × List ℕ))) (xs : OldList)
+    (ys : NewList) → Both name d ≡ step b a → TakesBoth name d b a xs ys
 unfolding Takes
 takes_both name d b a xs ys is = subst (λ s. Takes s b a xs ys) (sym is) (takes b a xs ys)
 
@@ -305,7 +323,8 @@ each_in P (n ∷ names) f = (
   each_in P names (λ x e. f x (ap (λ b. bytes_eq x n || b) e ∙ or_true (bytes_eq x n))),
 )
 
-pub legal_differ : (o : Option (Option Class × List ℕ)) (s : Option (Kind × List ℕ)) (P : Type 0) → ((t : Option Class × List ℕ) → o ≡ Some t → P) → ((t : Kind × List ℕ) → s ≡ Some t → P) → differ o (option_map compared s) ≡ true → P
+pub legal_differ : (o : Option (Option Class × List ℕ)) (s : Option (Kind × List ℕ)) (P : Type 0) → ((t : Option Class × List ℕ) → o ≡ Some t → P)
+    → ((t : Kind × List ℕ) → s ≡ Some t → P) → differ o (option_map compared s) ≡ true → P
 legal_differ None None P f g e = absurd (false≢true e)
 legal_differ (Some t) s P f g e = f t refl
 legal_differ None (Some t) P f g e = g t refl
@@ -314,7 +333,8 @@ pub name_of_symbol : (x : List ℕ) → IsTrue (is_symbol_name x) → IsTrue (is
 unfolding is_symbol_name
 name_of_symbol x h = (and_parts _ _ h).0
 
-pub legal_changes : (old : Texts) (new : Configuration) → HasNames old → IsConfiguration new → AllByRecursion (λ n. IsTrue (is_name n)) (merged (map.entries old) (map.entries new))
+pub legal_changes : (old : Texts) (new : Configuration) → HasNames old → IsConfiguration new
+    → AllByRecursion (λ n. IsTrue (is_name n)) (merged (map.entries old) (map.entries new))
 legal_changes old new h g =
     let are = merged_changes old new in
     each_in (λ n. IsTrue (is_name n)) (merged (map.entries old) (map.entries new)) (λ x e.

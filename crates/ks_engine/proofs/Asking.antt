@@ -41,7 +41,8 @@ pub asked_illegal : (files : Files) (o : List ℕ) → false ≡ is_target o →
 unfolding asked
 asked_illegal files o bad = cond-false _ _ _ (sym bad)
 
-pub asked_read : (files : Files) (o : List ℕ) (r : Result (Option CommandRecord) EngineError) → true ≡ is_target o → command_file o (content files (command_path o)) ≡ r → asked files o ≡ asked_of files r
+pub asked_read : (files : Files) (o : List ℕ) (r : Result (Option CommandRecord) EngineError) → true ≡ is_target o
+    → command_file o (content files (command_path o)) ≡ r → asked files o ≡ asked_of files r
 unfolding asked
 asked_read files o r legal read = cond-true _ _ _ (sym legal) ∙ ap (asked_of files) read
 
@@ -58,12 +59,14 @@ pub judged_here : {P : Type 0} (files mid : Files) (names : List (List ℕ)) (g 
     → P ⊎ IsAnswer mid (asked_since mid names g) answer → P ⊎ IsAnswer files (asked_since files names g) answer
 judged_here {P} files mid names g answer same said = subst (λ f. P ⊎ IsAnswer f (asked_since f names g) answer) same said
 
-pub ask_judged : {P : Type 0} (files : Files) (o : List ℕ) (file : CommandRecord) (answer : Result Verdict EngineError) → true ≡ is_target o → command_file o (content files (command_path o)) ≡ Ok (Some file)
+pub ask_judged : {P : Type 0} (files : Files) (o : List ℕ) (file : CommandRecord) (answer : Result Verdict EngineError) → true ≡ is_target o
+    → command_file o (content files (command_path o)) ≡ Ok (Some file)
     → P ⊎ IsAnswer files (asked_since files (config_names file.deps) file.generation) answer → P ⊎ IsAnswer files (asked files o) answer
 ask_judged files o file answer legal read (inl given) = inl given
 ask_judged files o file answer legal read (inr said) = inr (answer_by files _ _ answer (asked_read files o _ legal read) said)
 
-pub refused_at : (o : List ℕ) (file given : Option (List ℕ)) (e : EngineError) → file ≡ given → IsGivenUp e ⊎ (command_file o given ≡ Err e) → IsGivenUp e ⊎ (command_file o file ≡ Err e)
+pub refused_at : (o : List ℕ) (file given : Option (List ℕ)) (e : EngineError) → file ≡ given → IsGivenUp e ⊎ (command_file o given ≡ Err e) → IsGivenUp e
+    ⊎ (command_file o file ≡ Err e)
 refused_at o file given e at (inl gave) = inl gave
 refused_at o file given e at (inr bad) = inr (ap (command_file o) at ∙ bad)
 
@@ -73,7 +76,8 @@ pub built_illegal : (files : Files) (o command : List ℕ) → false ≡ is_targ
 unfolding built
 built_illegal files o command bad = cond-false _ _ _ (sym bad)
 
-pub built_bad_command : (files : Files) (o command : List ℕ) → true ≡ is_target o → false ≡ is_command command → built files o command ≡ Asks (Answered (Err BadCommand))
+pub built_bad_command : (files : Files) (o command : List ℕ) → true ≡ is_target o → false ≡ is_command command → built files o command
+    ≡ Asks (Answered (Err BadCommand))
 unfolding built
 built_bad_command files o command legal bad = cond-true _ _ _ (sym legal) ∙ cond-false _ _ _ (sym bad)
 
@@ -85,7 +89,8 @@ built_read files o command r legal word read = cond-true _ _ _ (sym legal) ∙ c
 pub built_as : (files : Files) (a b : Built) (answer : Result BuildState EngineError) → a ≡ b → IsBuilt files b answer → IsBuilt files a answer
 built_as files a b answer same is = subst (λ q. IsBuilt files q answer) (sym same) is
 
-pub built_refused : (files : Files) (o command : List ℕ) (e : EngineError) → true ≡ is_target o → true ≡ is_command command → IsGivenUp e ⊎ (command_file o (content files (command_path o)) ≡ Err e)
+pub built_refused : (files : Files) (o command : List ℕ) (e : EngineError) → true ≡ is_target o → true ≡ is_command command → IsGivenUp e
+    ⊎ (command_file o (content files (command_path o)) ≡ Err e)
     → IsGivenUp e ⊎ IsBuilt files (built files o command) (Err e)
 built_refused files o command e legal word (inl given) = inl given
 built_refused files o command e legal word (inr bad) = inr (built_as files _ _ _ (built_read files o command _ legal word bad) (Err e, refl, refl))
@@ -104,14 +109,17 @@ built_other files o command file legal word read other = built_read files o comm
 pub deps_next : (deps : List Dep) (i : ℕ) (d : Dep) → i < length deps → d ≡ get_or deps i d → drop i deps ≡ d ∷ drop (suc i) deps
 deps_next deps i d h is = drop-cons deps i d h ∙ ap (λ z. z ∷ drop (suc i) deps) (sym is)
 
-pub names_next : (deps : List Dep) (i : ℕ) (d : Dep) (x : List ℕ) → i < length deps → d ≡ get_or deps i d → d ≡ Config x → config_names (drop i deps) ≡ x ∷ config_names (drop (suc i) deps)
+pub names_next : (deps : List Dep) (i : ℕ) (d : Dep) (x : List ℕ) → i < length deps → d ≡ get_or deps i d → d ≡ Config x → config_names (drop i deps) ≡ x
+    ∷ config_names (drop (suc i) deps)
 names_next deps i d x h is config = ap config_names (deps_next deps i d h is) ∙ ap (λ z. config_names (z ∷ drop (suc i) deps)) config
 
-bad_next : (files : Files) (g : ℕ) (deps : List Dep) (i : ℕ) (d : Dep) (x : List ℕ) (answer : Result Verdict EngineError) → i < length deps → d ≡ get_or deps i d → d ≡ Config x
+bad_next : (files : Files) (g : ℕ) (deps : List Dep) (i : ℕ) (d : Dep) (x : List ℕ) (answer : Result Verdict EngineError) → i < length deps → d
+    ≡ get_or deps i d → d ≡ Config x
     → IsBadStamp (content files (stamp_path x)) x answer → IsByStamps files g (config_names (drop i deps)) answer
 bad_next files g deps i d x answer h is config bad = subst (λ ys. IsByStamps files g ys answer) (sym (names_next deps i d x h is config)) (inr (inr bad))
 
-pub stamp_refused : (files mid : Files) (g : ℕ) (deps : List Dep) (i : ℕ) (d : Dep) (x : List ℕ) (e : TreeError) → mid ≡ files → i < length deps → d ≡ get_or deps i d → d ≡ Config x
+pub stamp_refused : (files mid : Files) (g : ℕ) (deps : List Dep) (i : ℕ) (d : Dep) (x : List ℕ) (e : TreeError) → mid ≡ files → i < length deps → d
+    ≡ get_or deps i d → d ≡ Config x
     → IsStampRefusal x (content mid (stamp_path x)) e
     → ((answer : Result Verdict EngineError) → IsByStamps files g (config_names (drop i deps)) answer → IsByStamps files g (config_names deps) answer)
     → IsGivenUp (of_stamp e) ⊎ IsByStamps files g (config_names deps) (Err (of_stamp e))
@@ -131,28 +139,34 @@ pub seen_within : (deps : List LentDep) (i : ℕ) → i < length deps → i < le
 seen_within deps i h = subst (λ n. i < n) (sym (length-map deps seen_dep)) h
 
 -- a stamp that is not above the generation, or a file, leaves the answer to the others
-next_place : (files : Files) (g : ℕ) (deps : List Dep) (i : ℕ) (answer : Result Verdict EngineError) → IsByStamps files g (config_names (drop (i + 1) deps)) answer → IsByStamps files g (config_names (drop (suc i) deps)) answer
+next_place : (files : Files) (g : ℕ) (deps : List Dep) (i : ℕ) (answer : Result Verdict EngineError)
+    → IsByStamps files g (config_names (drop (i + 1) deps)) answer → IsByStamps files g (config_names (drop (suc i) deps)) answer
 next_place files g deps i answer said = let same : i + 1 ≡ suc i = omega arith in subst (λ k. IsByStamps files g (config_names (drop k deps)) answer) same said
 
-pub stamp_below : (files mid : Files) (g : ℕ) (deps : List Dep) (i : ℕ) (d : Dep) (x : List ℕ) (n : ℕ) → mid ≡ files → i < length deps → d ≡ get_or deps i d → d ≡ Config x
+pub stamp_below : (files mid : Files) (g : ℕ) (deps : List Dep) (i : ℕ) (d : Dep) (x : List ℕ) (n : ℕ) → mid ≡ files → i < length deps → d ≡ get_or deps i d
+    → d ≡ Config x
     → HasNumber (content mid (stamp_path x)) n → n ≤ g
     → ((answer : Result Verdict EngineError) → IsByStamps files g (config_names (drop i deps)) answer → IsByStamps files g (config_names deps) answer)
     → (answer : Result Verdict EngineError) → IsByStamps files g (config_names (drop (i + 1) deps)) answer → IsByStamps files g (config_names deps) answer
 stamp_below files mid g deps i d x n same h is config has below rest answer said =
-    rest answer (subst (λ ys. IsByStamps files g ys answer) (sym (names_next deps i d x h is config)) (inr (inl (n, subst (λ f. HasNumber (content f (stamp_path x)) n) same has, (below, next_place files g deps i answer said)))))
+    rest answer (subst (λ ys. IsByStamps files g ys answer) (sym (names_next deps i d x h is config))
+    (inr (inl (n, subst (λ f. HasNumber (content f (stamp_path x)) n) same has, (below, next_place files g deps i answer said)))))
 
-pub stamp_above : (files mid : Files) (g : ℕ) (deps : List Dep) (i : ℕ) (d : Dep) (x : List ℕ) (n : ℕ) (y : List ℕ) → mid ≡ files → i < length deps → d ≡ get_or deps i d → d ≡ Config x
+pub stamp_above : (files mid : Files) (g : ℕ) (deps : List Dep) (i : ℕ) (d : Dep) (x : List ℕ) (n : ℕ) (y : List ℕ) → mid ≡ files → i < length deps → d
+    ≡ get_or deps i d → d ≡ Config x
     → HasNumber (content mid (stamp_path x)) n → g < n → y ≡ x
     → ((answer : Result Verdict EngineError) → IsByStamps files g (config_names (drop i deps)) answer → IsByStamps files g (config_names deps) answer)
     → IsByStamps files g (config_names deps) (Ok (Changed y))
 stamp_above files mid g deps i d x n y same h is config has above named rest =
-    rest (Ok (Changed y)) (subst (λ ys. IsByStamps files g ys (Ok (Changed y))) (sym (names_next deps i d x h is config)) (inl (n, subst (λ f. HasNumber (content f (stamp_path x)) n) same has, (above, ap (λ z. Ok (Changed z)) named))))
+    rest (Ok (Changed y)) (subst (λ ys. IsByStamps files g ys (Ok (Changed y))) (sym (names_next deps i d x h is config))
+    (inl (n, subst (λ f. HasNumber (content f (stamp_path x)) n) same has, (above, ap (λ z. Ok (Changed z)) named))))
 
 pub file_passed : (files : Files) (g : ℕ) (deps : List Dep) (i : ℕ) (d : Dep) (p : List ℕ) → i < length deps → d ≡ get_or deps i d → d ≡ File p
     → ((answer : Result Verdict EngineError) → IsByStamps files g (config_names (drop i deps)) answer → IsByStamps files g (config_names deps) answer)
     → (answer : Result Verdict EngineError) → IsByStamps files g (config_names (drop (i + 1) deps)) answer → IsByStamps files g (config_names deps) answer
 file_passed files g deps i d p h is file rest answer said =
-    rest answer (subst (λ ys. IsByStamps files g ys answer) (sym (ap config_names (deps_next deps i d h is) ∙ ap (λ z. config_names (z ∷ drop (suc i) deps)) file)) (next_place files g deps i answer said))
+    rest answer (subst (λ ys. IsByStamps files g ys answer) (sym
+    (ap config_names (deps_next deps i d h is) ∙ ap (λ z. config_names (z ∷ drop (suc i) deps)) file)) (next_place files g deps i answer said))
 
 -- ---- what a shown tree answers of a recorded object
 
@@ -189,7 +203,8 @@ stamps_answer files h g (x ∷ xs) answer stamps legal is =
 legal_names : (deps : List Dep) → list_all is_dep deps ≡ true → list_all is_name (config_names deps) ≡ true
 legal_names [] legal = refl
 legal_names (File path ∷ deps) legal = legal_names deps (and_parts (is_dep (File path)) _ legal).1
-legal_names (Config name ∷ deps) legal = let parts = and_parts (is_dep (Config name)) _ legal in and_from (is_dep (Config name)) _ parts.0 (legal_names deps parts.1)
+legal_names (Config name ∷ deps) legal = let parts = and_parts (is_dep (Config name)) _ legal
+    in and_from (is_dep (Config name)) _ parts.0 (legal_names deps parts.1)
 
 -- tests that agree on the members of a list find the same
 pub find_same : (p q : List ℕ → Bool) (xs : List (List ℕ)) → ((x : List ℕ) → is_in xs x ≡ true → p x ≡ q x) → find p xs ≡ find q xs
@@ -216,10 +231,12 @@ file_shown files h o r shows last =
     let at = shows.commands o r last in
     let is = at.2 in
     ap (command_file o) at.1
-    ∙ (cond-false _ _ _ (le-ltb max_bytes (length at.0) is.small) ∙ ap (of_target o) is.reads ∙ cond-true _ _ _ ((bytes_eq-Decides is.file.target o).1 is.target))
+    ∙ (cond-false _ _ _ (le-ltb max_bytes (length at.0) is.small) ∙ ap (of_target o) is.reads ∙ cond-true _ _ _
+    ((bytes_eq-Decides is.file.target o).1 is.target))
 
 target_shown : (files : Files) (h : History) (o : List ℕ) (r : Record) → Shows files h → last_record h o ≡ Some r → true ≡ is_target o
-target_shown files h o r shows last = let at = shows.commands o r last in sym (ap is_target (sym at.2.target) ∙ (read_fits at.0 at.2.file at.2.reads).legal.target)
+target_shown files h o r shows last = let at = shows.commands o r last
+    in sym (ap is_target (sym at.2.target) ∙ (read_fits at.0 at.2.file at.2.reads).legal.target)
 
 since_shown : (files : Files) (h : History) (o : List ℕ) (r : Record) (shows : Shows files h) (last : last_record h o ≡ Some r)
     → asked_since files (config_names (shows.commands o r last).2.file.deps) (shows.commands o r last).2.file.generation ≡ ByStamps (done r.past) r.names
@@ -286,7 +303,8 @@ judges files h o r answer shows last (inr is) =
       safe = safe files h o r answer shows last suspect;
     }
 
-pub stale_judged : (files : Files) (h : History) (o : List ℕ) (r : Record) (answer : Result Verdict EngineError) → GaveUp answer ⊎ IsAnswer files (asked files o) answer → Shows files h → last_record h o ≡ Some r
+pub stale_judged : (files : Files) (h : History) (o : List ℕ) (r : Record) (answer : Result Verdict EngineError) → GaveUp answer
+    ⊎ IsAnswer files (asked files o) answer → Shows files h → last_record h o ≡ Some r
     → IsJudged files h o r answer
 stale_judged files h o r answer said shows last =
     let whole = asked_read files o _ (target_shown files h o r shows last) (file_shown files h o r shows last) ∙ since_shown files h o r shows last in
@@ -298,7 +316,8 @@ gave_up : (answer : Result BuildState EngineError) → GaveUp answer → (v : Re
 gave_up (Ok x) given = absurd given
 gave_up (Err e) given = (Err e, refl, given)
 
-pub build_judged : (files : Files) (h : History) (o command : List ℕ) (r : Record) (answer : Result BuildState EngineError) → GaveUp answer ⊎ IsBuilt files (built files o command) answer
+pub build_judged : (files : Files) (h : History) (o command : List ℕ) (r : Record) (answer : Result BuildState EngineError) → GaveUp answer
+    ⊎ IsBuilt files (built files o command) answer
     → IsTrue (is_command command) → Shows files h → last_record h o ≡ Some r → IsBuildJudged files h o command r answer
 build_judged files h o command r answer (inl given) word shows last = record {
   differs = λ other. inl given;
@@ -309,8 +328,10 @@ build_judged files h o command r answer (inr is) word shows last =
     let target = target_shown files h o r shows last in
     let read = file_shown files h o r shows last in
     record {
-      differs = λ other. inr (subst (λ q. IsBuilt files q answer) (built_other files o command file.file target (sym word) read (ap (λ c. bytes_eq c command) file.command ∙ other)) is);
+      differs = λ other. inr (subst (λ q. IsBuilt files q answer)
+          (built_other files o command file.file target (sym word) read (ap (λ c. bytes_eq c command) file.command ∙ other)) is);
       same = λ same.
-          let asks = subst (λ q. IsBuilt files q answer) (built_same files o command file.file target (sym word) read (ap (λ c. bytes_eq c command) file.command ∙ same)) is in
+          let asks = subst (λ q. IsBuilt files q answer) (built_same files o command file.file target (sym word) read
+          (ap (λ c. bytes_eq c command) file.command ∙ same)) is in
           (asks.0, asks.2, judges files h o r asks.0 shows last (inr (subst (λ q. IsAnswer files q asks.0) (since_shown files h o r shows last) asks.1)));
     }

@@ -63,4 +63,5 @@ pub one_plan : PlansAreOne
 one_plan files k d r s (inl a) (inl b) = a.2 ∙ ap (λ e. Err (of_source e)) (some_some a.0 b.0 (sym a.1 ∙ b.1)) ∙ sym b.2
 one_plan files k d r s (inl a) (inr b) = absurd (some_none a.0 (sym a.1 ∙ b.1.accepted))
 one_plan files k d r s (inr a) (inl b) = absurd (some_none b.0 (sym b.1 ∙ a.1.accepted))
-one_plan files k d r s (inr a) (inr b) = a.2 ∙ ap (λ (w : Sources). and_then (old_auto (content files auto_path)) (plan_over w)) (one_source k d a.0 b.0 a.1 b.1) ∙ sym b.2
+one_plan files k d r s (inr a) (inr b) = a.2 ∙ ap (λ (w : Sources). and_then (old_auto (content files auto_path)) (plan_over w))
+    (one_source k d a.0 b.0 a.1 b.1) ∙ sym b.2

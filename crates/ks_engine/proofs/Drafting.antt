@@ -31,7 +31,8 @@ plus_one i = omega arith
 pub count_file : (deps : List Dep) (i : ℕ) (d : Dep) (p : List ℕ) (n m : ℕ) → i < length deps → d ≡ get_or deps i d → d ≡ File p
     → n + length (config_names (drop i deps)) ≡ m → n + length (config_names (drop (i + 1) deps)) ≡ m
 count_file deps i d p n m h is file before =
-    let names = ap config_names (deps_next deps i d h is) ∙ ap (λ z. config_names (z ∷ drop (suc i) deps)) file ∙ ap (λ j. config_names (drop j deps)) (plus_one i) in
+    let names = ap config_names (deps_next deps i d h is) ∙ ap (λ z. config_names (z ∷ drop (suc i) deps)) file ∙ ap (λ j. config_names (drop j deps))
+    (plus_one i) in
     ap (λ ys. n + length ys) (sym names) ∙ before
 
 -- and a name adds one
@@ -48,18 +49,21 @@ legal_next deps i d h is legal before rest =
 
 -- ---- the draft of a command file
 
-pub build_refused : (t c : List ℕ) (e : DepError) → IsTrue (is_target t) → IsTrue (is_command c) → IsRefusal dep.OutOfMemory e (record_refusal t c) → IsGivenUp (of_dep e)
+pub build_refused : (t c : List ℕ) (e : DepError) → IsTrue (is_target t) → IsTrue (is_command c) → IsRefusal dep.OutOfMemory e (record_refusal t c)
+    → IsGivenUp (of_dep e)
 build_refused t c e legal word is = by_error (subst (IsRefusal dep.OutOfMemory e) (cond-true _ _ _ legal ∙ cond-true _ _ _ word) is)
   where
     by_error : IsRefusal dep.OutOfMemory e None → IsGivenUp (of_dep e)
     by_error (inl memory) = subst (λ x. IsGivenUp (of_dep x)) (sym memory) tt
     by_error (inr is) = absurd cc
 
-pub draft_large : (t c : List ℕ) (ps : List (List ℕ × Role)) (g : ℕ) (found : List (List (List ℕ))) (file : CommandRecord) → file ≡ numbered (record_of t c ps found) g
+pub draft_large : (t c : List ℕ) (ps : List (List ℕ × Role)) (g : ℕ) (found : List (List (List ℕ))) (file : CommandRecord) → file
+    ≡ numbered (record_of t c ps found) g
     → max_bytes < length (command_text file) → drafted t c ps g found ≡ Err TooLarge
 draft_large t c ps g found file is large = cond-true _ _ _ (lt-ltb max_bytes _ (subst (λ (f : CommandRecord). max_bytes < length (command_text f)) is large))
 
-pub draft_made : (t c : List ℕ) (ps : List (List ℕ × Role)) (g : ℕ) (found : List (List (List ℕ))) (file : CommandRecord) → file ≡ numbered (record_of t c ps found) g
+pub draft_made : (t c : List ℕ) (ps : List (List ℕ × Role)) (g : ℕ) (found : List (List (List ℕ))) (file : CommandRecord) → file
+    ≡ numbered (record_of t c ps found) g
     → length (command_text file) ≤ max_bytes → drafted t c ps g found ≡ Ok (record { file = file; generation = g; names = names_of found })
 draft_made t c ps g found file is small =
     cond-false _ _ _ (le-ltb max_bytes _ (subst (λ (f : CommandRecord). length (command_text f) ≤ max_bytes) is small))
@@ -76,7 +80,8 @@ depfile_listed d ps none is = ap (λ r. listed_unless r d) none ∙ ap (λ l. Ok
 
 -- ---- the steps of a record: each refuses, or hands on to the next
 
-then_ok : {A B : Type 0} (step : Result A EngineError) (next : A → Result B EngineError) (x : A) (y : Result B EngineError) → step ≡ Ok x → next x ≡ y → and_then step next ≡ y
+then_ok : {A B : Type 0} (step : Result A EngineError) (next : A → Result B EngineError) (x : A) (y : Result B EngineError) → step ≡ Ok x → next x ≡ y
+    → and_then step next ≡ y
 then_ok step next x y is more = ap (λ r. and_then r next) is ∙ more
 
 then_err : {A B : Type 0} (step : Result A EngineError) (next : A → Result B EngineError) (e : EngineError) → step ≡ Err e → and_then step next ≡ Err e
@@ -104,19 +109,23 @@ module _ (files : Files) (d t c : List ℕ) where
   unfolding record_plan
   at_synced b ps e w th ls sy = then_ok _ _ tt _ w (then_ok _ _ b _ th (then_ok _ _ ps _ ls (then_err _ _ e sy)))
 
-  pub at_scanned : (b : List ℕ) (ps : List (List ℕ × Role)) (g : ℕ) (e : EngineError) → words d t c ≡ Ok tt → there d (content files d) ≡ Ok b → listed b ≡ Ok ps
+  pub at_scanned : (b : List ℕ) (ps : List (List ℕ × Role)) (g : ℕ) (e : EngineError) → words d t c ≡ Ok tt → there d (content files d) ≡ Ok b → listed b
+      ≡ Ok ps
       → last_generation (content files auto_path) ≡ Ok g → scanned_all files ps ≡ Err e → record_plan files d t c ≡ Err e
   unfolding record_plan
   at_scanned b ps g e w th ls sy sc = then_ok _ _ tt _ w (then_ok _ _ b _ th (then_ok _ _ ps _ ls (then_ok _ _ g _ sy (then_err _ _ e sc))))
 
-  pub at_drafted : (b : List ℕ) (ps : List (List ℕ × Role)) (g : ℕ) (found : List (List (List ℕ))) (r : Result RecordPlan EngineError) → words d t c ≡ Ok tt → there d (content files d) ≡ Ok b → listed b ≡ Ok ps
+  pub at_drafted : (b : List ℕ) (ps : List (List ℕ × Role)) (g : ℕ) (found : List (List (List ℕ))) (r : Result RecordPlan EngineError) → words d t c ≡ Ok tt
+      → there d (content files d) ≡ Ok b → listed b ≡ Ok ps
       → last_generation (content files auto_path) ≡ Ok g → scanned_all files ps ≡ Ok found → drafted t c ps g found ≡ r → record_plan files d t c ≡ r
   unfolding record_plan
   at_drafted b ps g found r w th ls sy sc dr = then_ok _ _ tt _ w (then_ok _ _ b _ th (then_ok _ _ ps _ ls (then_ok _ _ g _ sy (then_ok _ _ found _ sc dr))))
 
 -- what a call said of the files as they stood then
-pub synced_there : (files mid : Files) (r : Result ℕ EngineError) → mid ≡ files → last_generation (content mid auto_path) ≡ r → last_generation (content files auto_path) ≡ r
+pub synced_there : (files mid : Files) (r : Result ℕ EngineError) → mid ≡ files → last_generation (content mid auto_path) ≡ r
+    → last_generation (content files auto_path) ≡ r
 synced_there files mid r same said = subst (λ f. last_generation (content f auto_path) ≡ r) same said
 
-pub scanned_there : (files mid : Files) (ps : List (List ℕ × Role)) (r : Result (List (List (List ℕ))) EngineError) → mid ≡ files → scanned_all mid ps ≡ r → scanned_all files ps ≡ r
+pub scanned_there : (files mid : Files) (ps : List (List ℕ × Role)) (r : Result (List (List (List ℕ))) EngineError) → mid ≡ files → scanned_all mid ps ≡ r
+    → scanned_all files ps ≡ r
 scanned_there files mid ps r same said = subst (λ f. scanned_all f ps ≡ r) same said

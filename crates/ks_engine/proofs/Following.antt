@@ -14,11 +14,22 @@ after_broken : (old new : Files) (h : History) (k d : List ℕ) (broken : IsBrok
     → (next : History) × IsBrokenEvent h broken.plan broken.some.0 next × Shows new next
 after_broken old new h k d broken shows =
     let facts = plan_facts old h k d broken.plan shows broken.planned in ⊎_elim
-    (λ kept. (Broken broken.plan.title broken.plan.config broken.some.0 h, inl refl, broken_shows old new h broken.plan broken.names broken.some.0 shows facts broken.changed broken.some.1 kept))
-    (λ made. (Synced broken.plan.title broken.plan.config h, inr refl, synced_shows old new h broken.plan broken.names broken.some.0 shows facts broken.changed broken.some.1 made.0 made.1 made.2))
+    (λ kept. (
+      Broken broken.plan.title broken.plan.config broken.some.0 h,
+      inl refl,
+      broken_shows old new h broken.plan broken.names broken.some.0 shows facts
+          broken.changed broken.some.1 kept,
+    ))
+    (λ made. (
+      Synced broken.plan.title broken.plan.config h,
+      inr refl,
+      synced_shows old new h broken.plan broken.names broken.some.0 shows facts
+          broken.changed broken.some.1 made.0 made.1 made.2,
+    ))
     broken.some.1.auto
 
-pub sync_follows : (old new : Files) (m n : ℕ) (h : History) (k d : List ℕ) (r : Result Report EngineError) → Shows old h → IfOk r (IsSynced old new k d) → IfErr r (IsSyncRefused old new k d)
+pub sync_follows : (old new : Files) (m n : ℕ) (h : History) (k d : List ℕ) (r : Result Report EngineError) → Shows old h → IfOk r (IsSynced old new k d)
+    → IfErr r (IsSyncRefused old new k d)
     → (next : History) × FollowsSync k d r (at old m h) (at new n next) × Shows new next
 sync_follows old new m n h k d (Ok report) shows ok err =
     let plan = ok.plan in

@@ -29,7 +29,8 @@ not_both : (b : Bool) → b ≡ true → b ≡ false → ⊥
 not_both b p q = true≢false (sym p ∙ q)
 
 -- The name isn't renewed, so it isn't changed either.
-kept : (renewed : List (List ℕ)) (old : Texts) (new : Configuration) (x : List ℕ) → AreAllRenewed renewed old new → is_in renewed x ≡ false → get old x ≡ get (texts_of new) x
+kept : (renewed : List (List ℕ)) (old : Texts) (new : Configuration) (x : List ℕ) → AreAllRenewed renewed old new → is_in renewed x ≡ false → get old x
+    ≡ get (texts_of new) x
 kept renewed old new x all out = same_where old new x (false_from_ne_true _ (λ d. not_both _ (all x d) out))
 
 header_untouched : (h : History) (x : List ℕ) (b : List ℕ) → IsHistory h → MayBeHeader h b → renewed_since_sync h x ≡ false → HeaderAt h x b
@@ -38,7 +39,8 @@ header_untouched (Synced t config past) x b is may out = record { title = t; con
 header_untouched (Broken t config renewed past) x b is may out =
     let parts = or_parts (is_in renewed x) _ out in ⊎_elim
     (λ new. record { title = t; config = config; written = new.1; source = is.1; text = sym (kept renewed (before past) config x new.0 parts.0) })
-    (λ old. let w = header_untouched past x b is.0 old parts.1 in record { title = w.title; config = w.config; written = w.written; source = w.source; text = w.text })
+    (λ old. let w = header_untouched past x b is.0 old parts.1
+    in record { title = w.title; config = w.config; written = w.written; source = w.source; text = w.text })
     may
 header_untouched (Recorded o command names header past) x b is may out =
     let w = header_untouched past x b is.0 may out in record { title = w.title; config = w.config; written = w.written; source = w.source; text = w.text }
@@ -70,7 +72,8 @@ module _ (o : List ℕ) (x : List ℕ) (r : Record) (named : is_in r.names x ≡
   untouched_then (Synced t config past) last out = untouched_then past last (step_parts past (differs (before past) config x) _ last out).1
   untouched_then (Broken t config renewed past) last out = untouched_then past last (step_parts past (is_in renewed x) _ last out).1
   untouched_then (Recorded p command names header past) last out = ⊎_elim
-      (λ here. ap (λ (w : Record). renewed_since_sync w.past x) (sym here.1) ∙ and_in (is_in names x) _ (ap (λ (w : Record). is_in w.names x) here.1 ∙ named) (sym (cond-true _ _ _ here.0) ∙ out))
+      (λ here. ap (λ (w : Record). renewed_since_sync w.past x) (sym here.1) ∙ and_in (is_in names x) _ (ap (λ (w : Record). is_in w.names x) here.1 ∙ named)
+      (sym (cond-true _ _ _ here.0) ∙ out))
       (λ there. untouched_then past there.1 (sym (cond-false _ _ _ there.0) ∙ out))
       (record_cases p o _ _ r last)
 
@@ -80,11 +83,13 @@ module _ (o : List ℕ) (x : List ℕ) (r : Record) (named : is_in r.names x ≡
   header_fresh (Broken t config renewed past) b is last out may =
       let parts = step_parts past (is_in renewed x) _ last out in ⊎_elim
       (λ new. record { title = t; config = config; written = new.1; source = is.1; text = sym (kept renewed (before past) config x new.0 parts.0) })
-      (λ old. let w = header_fresh past b is.0 last parts.1 old in record { title = w.title; config = w.config; written = w.written; source = w.source; text = w.text })
+      (λ old. let w = header_fresh past b is.0 last parts.1 old
+      in record { title = w.title; config = w.config; written = w.written; source = w.source; text = w.text })
       may
   header_fresh (Recorded p command names header past) b is last out may = ⊎_elim
       (λ here.
-      let w = header_untouched past x b is.0 may (and_in (is_in names x) _ (ap (λ (w : Record). is_in w.names x) here.1 ∙ named) (sym (cond-true _ _ _ here.0) ∙ out)) in
+      let w = header_untouched past x b is.0 may (and_in (is_in names x) _ (ap (λ (w : Record). is_in w.names x) here.1 ∙ named)
+      (sym (cond-true _ _ _ here.0) ∙ out)) in
       record { title = w.title; config = w.config; written = w.written; source = w.source; text = w.text })
       (λ there.
       let w = header_fresh past b is.0 there.1 (sym (cond-false _ _ _ there.0) ∙ out) may in

@@ -28,7 +28,8 @@ renewed_since_sync-lt (Begun texts generation stamps) x is some = absurd some
 renewed_since_sync-lt (Synced t config past) x is some =
     let le = stamp-le past x is.0 in
     sym (le-ltb (done past + 1) _ (cond_le (differs (before past) config x) _ _ _ (omega arith) le))
-renewed_since_sync-lt (Broken t config renewed past) x is some = or_raised (is_in renewed x) _ (done past) (stamp past x) (renewed_since_sync-lt past x is.0 some)
+renewed_since_sync-lt (Broken t config renewed past) x is some
+    = or_raised (is_in renewed x) _ (done past) (stamp past x) (renewed_since_sync-lt past x is.0 some)
 renewed_since_sync-lt (Recorded o command names header past) x is some = renewed_since_sync-lt past x is.0 some
 
 and_or_raised : (i b t : Bool) (g d s : ℕ) → g ≤ d → t ≡ (i && nat_lt g s) → ((i && b) || t) ≡ (i && nat_lt g (cond b (d + 1) s))
@@ -59,12 +60,15 @@ pub suspect_since-lt : (h : History) (o : List ℕ) (r : Record) (x : List ℕ) 
 suspect_since-lt (Begun texts generation stamps) o r x is e = absurd cc
 suspect_since-lt (Synced t config past) o r x is e =
     ap (λ ns. (is_in (names_of ns) x && differs (before past) config x) || suspect_since past o x) e
-    ∙ and_or_raised (is_in r.names x) (differs (before past) config x) _ (done r.past) (done past) (stamp past x) (generation-le past o r e) (suspect_since-lt past o r x is.0 e)
+    ∙ and_or_raised (is_in r.names x) (differs (before past) config x) _ (done r.past) (done past) (stamp past x) (generation-le past o r e)
+    (suspect_since-lt past o r x is.0 e)
 suspect_since-lt (Broken t config renewed past) o r x is e =
     ap (λ ns. (is_in (names_of ns) x && is_in renewed x) || suspect_since past o x) e
-    ∙ and_or_raised (is_in r.names x) (is_in renewed x) _ (done r.past) (done past) (stamp past x) (generation-le past o r e) (suspect_since-lt past o r x is.0 e)
+    ∙ and_or_raised (is_in r.names x) (is_in renewed x) _ (done r.past) (done past) (stamp past x) (generation-le past o r e)
+    (suspect_since-lt past o r x is.0 e)
 suspect_since-lt (Recorded p command names header past) o r x is e = ⊎_elim
-    (λ here. cond-true _ _ _ here.0 ∙ ap (λ b. is_in names x && b) (renewed_since_sync-lt past x is.0 is.1) ∙ ap (λ (w : Record). is_in w.names x && nat_lt (done w.past) (stamp past x)) here.1)
+    (λ here. cond-true _ _ _ here.0 ∙ ap (λ b. is_in names x && b) (renewed_since_sync-lt past x is.0 is.1) ∙ ap
+    (λ (w : Record). is_in w.names x && nat_lt (done w.past) (stamp past x)) here.1)
     (λ there. cond-false _ _ _ there.0 ∙ suspect_since-lt past o r x is.0 there.1)
     (record_cases p o _ _ r e)
 
@@ -81,12 +85,14 @@ and_false false c e = refl
 
 pub suspect_since-changed_since : (h : History) (o x : List ℕ) → NoneBroken h → suspect_since h o x ≡ changed_since h o x
 suspect_since-changed_since (Begun texts generation stamps) o x n = refl
-suspect_since-changed_since (Synced t config past) o x n = ap (λ b. (is_in (found past o) x && differs (before past) config x) || b) (suspect_since-changed_since past o x n)
+suspect_since-changed_since (Synced t config past) o x n = ap (λ b. (is_in (found past o) x && differs (before past) config x) || b)
+    (suspect_since-changed_since past o x n)
 suspect_since-changed_since (Broken t config renewed past) o x n = absurd n
-suspect_since-changed_since (Recorded p command names header past) o x n = elim (bytes_eq p o) as (λ v. cond v (is_in names x && renewed_since_sync past x) (suspect_since past o x) ≡ cond v false (changed_since past o x)) [
-  | true ↦ and_false (is_in names x) _ (none_touched past x n)
-  | false ↦ suspect_since-changed_since past o x n
-]
+suspect_since-changed_since (Recorded p command names header past) o x n
+    = elim (bytes_eq p o) as (λ v. cond v (is_in names x && renewed_since_sync past x) (suspect_since past o x) ≡ cond v false (changed_since past o x)) [
+      | true ↦ and_false (is_in names x) _ (none_touched past x n)
+      | false ↦ suspect_since-changed_since past o x n
+    ]
 
 -- A completed synchronisation has a generation, and there is one or none.
 pub synced-lt : (h : History) → WasSynced h → 0 < done h

@@ -31,30 +31,35 @@ module _ {V : Type 0} (P : List ℕ → V → Type 0) where
 
 -- ---- what a record writes is nothing that is kept
 
-stamps_kept : (old new : Files) (o : List ℕ) (es : List (List ℕ × ℕ)) → SameButBoth (command_temporary o) (command_path o) old new → AreStamps old es → AreStamps new es
+stamps_kept : (old new : Files) (o : List ℕ) (es : List (List ℕ × ℕ)) → SameButBoth (command_temporary o) (command_path o) old new → AreStamps old es
+    → AreStamps new es
 stamps_kept old new o [] others are = All-nil _
 stamps_kept old new o (e ∷ es) others are =
     let here = All-head (λ s. IsStamp old (s.0) s.1) e es are in
     let x = e.0 in
     let same : content new (stamp_path x) ≡ content old (stamp_path x) =
     others (stamp_path x) (apart (Stamp x) (CommandTemporary o) here.0 tt (λ e. cc)) (apart (Stamp x) (CommandFile o) here.0 tt (λ e. cc)) in
-    All-cons (λ s. IsStamp new (s.0) s.1) e es (here.0, subst (λ b. HasNumber b e.1) (sym same) here.1) (stamps_kept old new o es others (All-tail (λ s. IsStamp old (s.0) s.1) e es are))
+    All-cons (λ s. IsStamp new (s.0) s.1) e es (here.0, subst (λ b. HasNumber b e.1) (sym same) here.1)
+    (stamps_kept old new o es others (All-tail (λ s. IsStamp old (s.0) s.1) e es are))
 
 sources_kept : (old new : Files) (o : List ℕ) (es : List (List ℕ × List (List ℕ))) → SameButBoth (command_temporary o) (command_path o) old new
     → All (λ s. s.0 ≢ command_temporary o) es → All (λ s. s.0 ≢ command_path o) es → AreSources old es → AreSources new es
 sources_kept old new o [] others no_temporary no_path are = All-nil _
 sources_kept old new o (e ∷ es) others no_temporary no_path are =
     let path = e.0 in
-    let same : content new path ≡ content old path = others path (All-head (λ s. s.0 ≢ command_temporary o) e es no_temporary) (All-head (λ s. s.0 ≢ command_path o) e es no_path) in
+    let same : content new path ≡ content old path = others path (All-head (λ s. s.0 ≢ command_temporary o) e es no_temporary)
+    (All-head (λ s. s.0 ≢ command_path o) e es no_path) in
     let here = All-head (λ s. IsSource old (s.0) s.1) e es are in
     All-cons (λ s. IsSource new (s.0) s.1) e es (here.0, here.1, ap (scanned path) same ∙ here.2)
     (sources_kept old new o es others (All-tail (λ s. s.0 ≢ command_temporary o) e es no_temporary) (All-tail (λ s. s.0 ≢ command_path o) e es no_path)
     (All-tail (λ s. IsSource old (s.0) s.1) e es are))
 
-pub memo_kept : (old new : Files) (o : List ℕ) (memo : Memo) → SameButBoth (command_temporary o) (command_path o) old new → IsNoSource (command_temporary o) memo → IsNoSource (command_path o) memo
+pub memo_kept : (old new : Files) (o : List ℕ) (memo : Memo) → SameButBoth (command_temporary o) (command_path o) old new
+    → IsNoSource (command_temporary o) memo → IsNoSource (command_path o) memo
     → IsMemoOf old memo → IsMemoOf new memo
 memo_kept old new o memo others no_temporary no_path is = record {
-  generation = λ g kept. ap last_generation (others auto_path (apart AutoConf (CommandTemporary o) tt tt (λ e. cc)) (apart AutoConf (CommandFile o) tt tt (λ e. cc))) ∙ is.generation g kept;
+  generation = λ g kept. ap last_generation (others auto_path (apart AutoConf (CommandTemporary o) tt tt (λ e. cc))
+      (apart AutoConf (CommandFile o) tt tt (λ e. cc))) ∙ is.generation g kept;
   stamps = stamps_kept old new o memo.stamps others is.stamps;
   sources = sources_kept old new o memo.sources others no_temporary no_path is.sources;
 }
@@ -63,10 +68,11 @@ memo_kept old new o memo others no_temporary no_path is = record {
 
 not_kept : (x : List ℕ) {V : Type 0} (es : List (List ℕ × V)) → is_some (value_of x es) ≡ false → All (λ e. e.0 ≢ x) es
 not_kept x [] none = All-nil _
-not_kept x (e ∷ es) none = (elim (bytes_eq x e.0) as (λ b. bytes_eq x e.0 ≡ b → is_some (if b then Some e.1 else value_of x es) ≡ false → All (λ s. s.0 ≢ x) (e ∷ es)) [
-  | true ↦ λ t s. absurd cc
-  | false ↦ λ f s. All-cons (λ s. s.0 ≢ x) e es (λ same. true≢false (sym ((bytes_eq-Decides x e.0).1 (sym same)) ∙ f)) (not_kept x es s)
-]) refl none
+not_kept x (e ∷ es) none = (elim (bytes_eq x e.0) as (λ b. bytes_eq x e.0 ≡ b → is_some (if b then Some e.1 else value_of x es) ≡ false
+    → All (λ s. s.0 ≢ x) (e ∷ es)) [
+      | true ↦ λ t s. absurd cc
+      | false ↦ λ f s. All-cons (λ s. s.0 ≢ x) e es (λ same. true≢false (sym ((bytes_eq-Decides x e.0).1 (sym same)) ∙ f)) (not_kept x es s)
+    ]) refl none
 
 pub no_source : (x : List ℕ) (memo : Memo) → is_some (value_of x memo.sources) ≡ false → IsNoSource x memo
 no_source x memo none = not_kept x memo.sources none

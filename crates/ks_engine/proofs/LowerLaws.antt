@@ -76,7 +76,8 @@ pub written_reads : ReadsBack
 written_reads f legal = lines-read f (lines (command_text f)) (written-reads reads_back f legal)
 
 -- the names of a record are those of its sources
-pub names_of_record : (ps : List (List ℕ × Role)) (ts : List (List ℕ)) → length ps ≡ length ts → config_names (deps_after [] ps (map names_in ts)) ≡ names_of (map names_in ts)
+pub names_of_record : (ps : List (List ℕ × Role)) (ts : List (List ℕ)) → length ps ≡ length ts → config_names (deps_after [] ps (map names_in ts))
+    ≡ names_of (map names_in ts)
 names_of_record = record_names
 
 -- there is a count for each text

@@ -40,7 +40,8 @@ was_synced (Recorded object command names header past) o is = holds_of_either Wa
 may_be_header : (h : History) (o b : List ℕ) → MayBeHeader h b → MayBeHeader (own_history h o) b
 may_be_header (Begun texts generation stamps) o b is = is
 may_be_header (Synced title config past) o b is = is
-may_be_header (Broken title config renewed past) o b (inl all) = inl (subst (λ (t : Texts). AreAllRenewed renewed t config) (sym (same_before past o)) all.0, all.1)
+may_be_header (Broken title config renewed past) o b (inl all)
+    = inl (subst (λ (t : Texts). AreAllRenewed renewed t config) (sym (same_before past o)) all.0, all.1)
 may_be_header (Broken title config renewed past) o b (inr earlier) = inr (may_be_header past o b earlier)
 may_be_header (Recorded object command names header past) o b is =
     holds_of_either (λ h. MayBeHeader h b) (bytes_eq object o) _ _ (may_be_header past o b is) (may_be_header past o b is)
@@ -86,7 +87,8 @@ same_changed (Synced title config past) o x =
     ap₂ (λ a b. a || b) (ap₂ (λ names (t : Texts). is_in names x && differs t config x) (same_found past o) (same_before past o)) (same_changed past o x)
 same_changed (Broken title config renewed past) o x = same_changed past o x
 same_changed (Recorded object command names header past) o x =
-    behind_record (λ h. changed_since h o x) (bytes_eq object o) _ _ false (changed_since past o x) (λ own. cond-true _ _ _ own) (λ other. same_changed past o x)
+    behind_record (λ h. changed_since h o x) (bytes_eq object o) _ _ false (changed_since past o x) (λ own. cond-true _ _ _ own)
+    (λ other. same_changed past o x)
 
 same_suspect : (h : History) (o x : List ℕ) → suspect_since (own_history h o) o x ≡ suspect_since h o x
 same_suspect (Begun texts generation stamps) o x = refl

@@ -10,14 +10,16 @@ use Rattle.ks_engine.specs.declared.error.EngineError.TheVariants.{TooLarge}
 
 take_further : (n m : ℕ) (xs : List ℕ) → take (n + m) xs ≡ take n xs ++ take m (drop n xs)
 take_further n m xs =
-    sym (take-append-drop n (take (n + m) xs)) ∙ ap (λ l. l ++ drop n (take (n + m) xs)) (take-take n (n + m) xs (omega arith)) ∙ ap (λ l. take n xs ++ l) (drop-take n m xs)
+    sym (take-append-drop n (take (n + m) xs)) ∙ ap (λ l. l ++ drop n (take (n + m) xs)) (take-take n (n + m) xs (omega arith)) ∙ ap (λ l. take n xs ++ l)
+    (drop-take n m xs)
 
 -- how many bytes a piece has
 count_is : (b old new : List ℕ) (offset n : ℕ) → IsPieceRead b offset old new n → n ≡ min (length old) (length b - offset)
 count_is b old new offset n read = read.is ∙ length-take (length old) (drop offset b) ∙ ap (min (length old)) (length-drop offset b)
 
 -- The room was not filled: all has been read.
-pub scanned_whole : (path b old new : List ℕ) (found : List (List ℕ)) (offset n : ℕ) → IsPieceRead b offset old new n → length old ≡ 4096 → n < 4096 → offset + n ≤ 67108864
+pub scanned_whole : (path b old new : List ℕ) (found : List (List ℕ)) (offset n : ℕ) → IsPieceRead b offset old new n → length old ≡ 4096 → n < 4096 → offset
+    + n ≤ 67108864
     → found ≡ names_in (take (offset + n) b) → scanned path (Some b) ≡ Ok found
 scanned_whole path b old new found offset n read room short small names =
     let count = count_is b old new offset n read in
@@ -25,7 +27,8 @@ scanned_whole path b old new found offset n read room short small names =
     cond-false _ _ _ (le-ltb 67108864 (length b) (omega arith)) ∙ ap (λ l. Ok l) (sym (names ∙ ap names_in (take_all (offset + n) b past)))
 
 -- A byte past the limit has been read.
-pub scanned_large : (path b old new : List ℕ) (offset n : ℕ) → IsPieceRead b offset old new n → 67108864 < offset + n → offset ≤ 67108864 → scanned path (Some b) ≡ Err TooLarge
+pub scanned_large : (path b old new : List ℕ) (offset n : ℕ) → IsPieceRead b offset old new n → 67108864 < offset + n → offset ≤ 67108864
+    → scanned path (Some b) ≡ Err TooLarge
 scanned_large path b old new offset n read large small =
     let count = count_is b old new offset n read in
     cond-true _ _ _ (lt-ltb 67108864 (length b) (omega arith))

@@ -35,7 +35,8 @@ use Rattle.ks_engine.proofs.LowerLaws.{legal_changes}
 
 pub are_sources : (kconfig dotconfig : List ℕ) (s : Sources) (kinds : List ℕ → Option Kind) → ((x : List ℕ) → kinds x ≡ declared kconfig x)
     → kconfig_refusal kconfig ≡ None → dotconfig_refusal kinds dotconfig ≡ None → s.title ≡ title_of kconfig
-    → ((x : List ℕ) → get s.config x ≡ setting kinds (lines dotconfig) x) → s.unknown ≡ unknown_count kinds (lines dotconfig) → IsSource s.title s.config → AreSources kconfig dotconfig s
+    → ((x : List ℕ) → get s.config x ≡ setting kinds (lines dotconfig) x) → s.unknown ≡ unknown_count kinds (lines dotconfig) → IsSource s.title s.config
+    → AreSources kconfig dotconfig s
 are_sources kconfig dotconfig s kinds same first second title settings unknown legal =
     let kinds_same : kinds ≡ declared kconfig = λ i x. same x i in
     record {
@@ -48,7 +49,8 @@ are_sources kconfig dotconfig s kinds same first second title settings unknown l
 
 -- ---- the names that changed
 
-pub are_changed : (old : OldTexts) (new : Configuration) (names : List (List ℕ)) → HasNames old.texts → IsConfiguration new → AreChanges old.texts new names → AreChanged old.texts new names
+pub are_changed : (old : OldTexts) (new : Configuration) (names : List (List ℕ)) → HasNames old.texts → IsConfiguration new → AreChanges old.texts new names
+    → AreChanged old.texts new names
 are_changed old new names legal config are = record { are = are; legal = legal_changes old.texts new names legal config are }
 
 pub plan_made : (s : Sources) (a : OldAuto) → (a.generation ≡ 18446744073709551615 → ⊥) → length (auto_text s.title s.config (a.generation + 1)) ≤ max_bytes
@@ -61,7 +63,8 @@ auto_large : (b : List ℕ) → max_bytes < length b → auto_refusal b ≡ Some
 unfolding auto_refusal
 auto_large b large = cond-true _ _ _ (lt-ltb max_bytes (length b) large)
 
-pub old_some : (file : Option (List ℕ)) (b : List ℕ) (refusal : Option AutoError) → file ≡ Some b → auto_refusal b ≡ refusal → old_auto file ≡ read_unless refusal b
+pub old_some : (file : Option (List ℕ)) (b : List ℕ) (refusal : Option AutoError) → file ≡ Some b → auto_refusal b ≡ refusal → old_auto file
+    ≡ read_unless refusal b
 unfolding old_auto
 old_some file b refusal at is = ap old_auto at ∙ ap (λ r. read_unless r b) is
 
@@ -70,14 +73,16 @@ old_fault fault.TooLarge file large = let is = large refl in inr (old_some file 
 old_fault fault.OutOfMemory file large = inl tt
 old_fault fault.Device file large = inl tt
 
-pub old_refused : (e : AutoError) (file : Option (List ℕ)) (b : List ℕ) → file ≡ Some b → IsRefusal auto.OutOfMemory e (auto_refusal b) → IsGivenUp (of_auto e) ⊎ (old_auto file ≡ Err (of_auto e))
+pub old_refused : (e : AutoError) (file : Option (List ℕ)) (b : List ℕ) → file ≡ Some b → IsRefusal auto.OutOfMemory e (auto_refusal b)
+    → IsGivenUp (of_auto e) ⊎ (old_auto file ≡ Err (of_auto e))
 old_refused e file b at (inl memory) = inl (subst (λ x. IsGivenUp (of_auto x)) (sym memory) tt)
 old_refused e file b at (inr is) = inr (old_some file b _ at is)
 
 same_old : (a b : OldAuto) → a.texts ≡ b.texts → a.generation ≡ b.generation → a ≡ b
 same_old a b p q = λ i. record { texts = p i; generation = q i }
 
-pub old_read : (old : OldTexts) (file : Option (List ℕ)) (b : List ℕ) → file ≡ Some b → auto_refusal b ≡ None → old.texts ≡ auto_map b → old.generation ≡ auto_generation b
+pub old_read : (old : OldTexts) (file : Option (List ℕ)) (b : List ℕ) → file ≡ Some b → auto_refusal b ≡ None → old.texts ≡ auto_map b → old.generation
+    ≡ auto_generation b
     → old_auto file ≡ Ok (old_of old)
 old_read old file b at fine texts generation = old_some file b None at fine ∙ ap (λ a. Ok a) (same_old _ (old_of old) (sym texts) (sym generation))
 
@@ -108,21 +113,26 @@ pub last_none : (file : Option (List ℕ)) → file ≡ None → last_generation
 unfolding old_auto
 last_none file at = ap last_generation at
 
-last_read : (file : Option (List ℕ)) (b : List ℕ) (g : ℕ) → file ≡ Some b → auto_refusal b ≡ None → g ≡ auto_generation b → last_generation file ≡ (if nat_eq g 0 then Err NeverSynced else Ok g)
+last_read : (file : Option (List ℕ)) (b : List ℕ) (g : ℕ) → file ≡ Some b → auto_refusal b ≡ None → g ≡ auto_generation b → last_generation file
+    ≡ (if nat_eq g 0 then Err NeverSynced else Ok g)
 last_read file b g at fine is = ap (λ o. and_then o synced_at) (old_some file b None at fine) ∙ ap (λ n. if nat_eq n 0 then Err NeverSynced else Ok n) (sym is)
 
-pub last_zero : (file : Option (List ℕ)) (b : List ℕ) (g : ℕ) → file ≡ Some b → auto_refusal b ≡ None → g ≡ auto_generation b → g ≡ 0 → last_generation file ≡ Err NeverSynced
+pub last_zero : (file : Option (List ℕ)) (b : List ℕ) (g : ℕ) → file ≡ Some b → auto_refusal b ≡ None → g ≡ auto_generation b → g ≡ 0 → last_generation file
+    ≡ Err NeverSynced
 last_zero file b g at fine is zero = last_read file b g at fine is ∙ ap (λ n. if nat_eq n 0 then Err NeverSynced else Ok n) zero
 
-pub last_some : (file : Option (List ℕ)) (b : List ℕ) (g : ℕ) → file ≡ Some b → auto_refusal b ≡ None → g ≡ auto_generation b → (g ≡ 0 → ⊥) → last_generation file ≡ Ok g
+pub last_some : (file : Option (List ℕ)) (b : List ℕ) (g : ℕ) → file ≡ Some b → auto_refusal b ≡ None → g ≡ auto_generation b → (g ≡ 0 → ⊥)
+    → last_generation file ≡ Ok g
 last_some file b g at fine is some = last_read file b g at fine is ∙ cond-false _ _ _ (ne_eqb g 0 some)
 
 -- ---- the plan of a synchronisation, by its sources and by auto.conf
 
-pub plan_of_old : (files : Files) (kconfig dotconfig : List ℕ) (s : Sources) (e : EngineError) → AreSources kconfig dotconfig s → old_auto (content files auto_path) ≡ Err e → IsSyncPlan files kconfig dotconfig (Err e)
+pub plan_of_old : (files : Files) (kconfig dotconfig : List ℕ) (s : Sources) (e : EngineError) → AreSources kconfig dotconfig s
+    → old_auto (content files auto_path) ≡ Err e → IsSyncPlan files kconfig dotconfig (Err e)
 plan_of_old files kconfig dotconfig s e are bad = inr (s, are, sym (ap (λ o. and_then o (plan_over s)) bad))
 
-pub plan_of_over : (files : Files) (kconfig dotconfig : List ℕ) (s : Sources) (a : OldAuto) (r : Result Plan EngineError) → AreSources kconfig dotconfig s → old_auto (content files auto_path) ≡ Ok a → plan_over s a ≡ r
+pub plan_of_over : (files : Files) (kconfig dotconfig : List ℕ) (s : Sources) (a : OldAuto) (r : Result Plan EngineError) → AreSources kconfig dotconfig s
+    → old_auto (content files auto_path) ≡ Ok a → plan_over s a ≡ r
     → IsSyncPlan files kconfig dotconfig r
 plan_of_over files kconfig dotconfig s a r are read over = inr (s, are, sym (ap (λ o. and_then o (plan_over s)) read ∙ over))
 

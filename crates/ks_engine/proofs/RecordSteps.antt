@@ -24,7 +24,8 @@ use Rattle.ks_engine.proofs.Steps.{auto_read, recorded_shows, unclaimed_shows, u
 
 -- ---- the parts of a plan
 
-then_made : {A B : Type 0} (step : Result A EngineError) (next : A → Result B EngineError) (y : B) → and_then step next ≡ Ok y → (x : A) × (step ≡ Ok x) × (next x ≡ Ok y)
+then_made : {A B : Type 0} (step : Result A EngineError) (next : A → Result B EngineError) (y : B) → and_then step next ≡ Ok y → (x : A) × (step ≡ Ok x)
+    × (next x ≡ Ok y)
 then_made (Ok x) next y e = (x, refl, e)
 then_made (Err e') next y e = absurd cc
 
@@ -54,13 +55,16 @@ record Drafted (t c : List ℕ) (ps : List (List ℕ × Role)) (g : ℕ) (found 
   names : plan.names ≡ names_of found
   small : length (command_text plan.file) ≤ max_bytes
 
-drafted_of : (t c : List ℕ) (ps : List (List ℕ × Role)) (g : ℕ) (found : List (List (List ℕ))) (plan : RecordPlan) → drafted t c ps g found ≡ Ok plan → Drafted t c ps g found plan
+drafted_of : (t c : List ℕ) (ps : List (List ℕ × Role)) (g : ℕ) (found : List (List (List ℕ))) (plan : RecordPlan) → drafted t c ps g found ≡ Ok plan
+    → Drafted t c ps g found plan
 drafted_of t c ps g found plan e =
     let file = numbered (record_of t c ps found) g in
     let made : RecordPlan = record { file = file; generation = g; names = names_of found } in
-    elim (nat_lt max_bytes (length (command_text file))) as (λ b. nat_lt max_bytes (length (command_text file)) ≡ b → cond b (Err TooLarge) (Ok made) ≡ Ok plan → Drafted t c ps g found plan) [
+    elim (nat_lt max_bytes (length (command_text file))) as (λ b. nat_lt max_bytes (length (command_text file)) ≡ b → cond b (Err TooLarge) (Ok made)
+    ≡ Ok plan → Drafted t c ps g found plan) [
       | true ↦ λ large e. absurd (err_ok TooLarge plan e)
-      | false ↦ λ small e. subst (λ (p : RecordPlan). Drafted t c ps g found p) (ok_ok made plan e) (record { file = refl; generation = refl; names = refl; small = ltb-false _ _ small })
+      | false ↦ λ small e. subst (λ (p : RecordPlan). Drafted t c ps g found p) (ok_ok made plan e)
+          (record { file = refl; generation = refl; names = refl; small = ltb-false _ _ small })
     ] refl e
   where
     err_ok : (e : EngineError) (p : RecordPlan) → Err e ≡ Ok p → ⊥
@@ -83,7 +87,8 @@ scanned_text path (Some b) x e = (b, by_test (nat_lt max_bytes (length b)) e)
     by_test true e = absurd cc
     by_test false e = cc
 
-found_first : (ps : List (List ℕ × Role)) (p : List ℕ × Role) (file : Option (List ℕ)) (found : List (List (List ℕ))) (one : Result (List (List ℕ)) EngineError) (rest : Result (List (List (List ℕ))) EngineError)
+found_first : (ps : List (List ℕ × Role)) (p : List ℕ × Role) (file : Option (List ℕ)) (found : List (List (List ℕ)))
+    (one : Result (List (List ℕ)) EngineError) (rest : Result (List (List (List ℕ))) EngineError)
     → scanned p.0 file ≡ one → ((xs : List (List (List ℕ))) → rest ≡ Ok xs → FoundIn ps xs) → followed one rest ≡ Ok found → FoundIn (p ∷ ps) found
 unfolding FoundIn
 found_first ps p file found (Err bad) rest is later e = absurd cc
@@ -97,7 +102,8 @@ found_first ps p file found (Ok x) (Ok xs) is later e =
 found_in : (files : Files) (ps : List (List ℕ × Role)) (found : List (List (List ℕ))) → scanned_all files ps ≡ Ok found → FoundIn ps found
 unfolding scanned_all FoundIn
 found_in files [] found e = let none : found ≡ [] = cc in ([], none, refl)
-found_in files (p ∷ ps) found e = found_first ps p (content files p.0) found (scanned p.0 (content files p.0)) (scanned_all files ps) refl (λ xs is. found_in files ps xs is) e
+found_in files (p ∷ ps) found e = found_first ps p (content files p.0) found (scanned p.0 (content files p.0)) (scanned_all files ps) refl
+    (λ xs is. found_in files ps xs is) e
 
 pub count_names : (files : Files) (d t c : List ℕ) (plan : RecordPlan) → IsRecordPlan files d t c plan → config_names plan.file.deps ≡ plan.names
 unfolding FoundIn
@@ -144,7 +150,8 @@ record PlanRecords (h : History) (t c header : List ℕ) (plan : RecordPlan) : T
   generation : plan.generation ≡ done h
   file : IsCommandFile t (record { command = c; names = plan.names; header = header; past = h }) (command_text plan.file)
 
-plan_records : (files : Files) (h : History) (d t c header : List ℕ) (plan : RecordPlan) → Shows files h → IsRecordPlan files d t c plan → PlanRecords h t c header plan
+plan_records : (files : Files) (h : History) (d t c header : List ℕ) (plan : RecordPlan) → Shows files h → IsRecordPlan files d t c plan
+    → PlanRecords h t c header plan
 plan_records files h d t c header plan shows is =
     let made = made_of files d t c plan is.planned in
     let parts = drafted_of t c made.ps made.g made.found plan made.draft in
@@ -165,7 +172,8 @@ plan_records files h d t c header plan shows is =
 
 module _ (old new : Files) (m : ℕ) (h : History) (d t c : List ℕ) (shows : Shows old h) where
   -- a command file that was written is the newest event, unless the history has no synchronisation yet
-  added : (plan : RecordPlan) → IsRecordPlan old d t c plan → content new (command_path t) ≡ Some (command_text plan.file) → SameButBoth (command_temporary t) (command_path t) old new
+  added : (plan : RecordPlan) → IsRecordPlan old d t c plan → content new (command_path t) ≡ Some (command_text plan.file)
+      → SameButBoth (command_temporary t) (command_path t) old new
       → WasSynced h ⊎ (WasSynced h → ⊥)
       → (next : History) × ((WasSynced h × IsRecordEvent (at old m h) t c plan.names next) ⊎ ((WasSynced h → ⊥) × (next ≡ h))) × Shows new next
   added plan is written others (inl some) =
@@ -177,14 +185,16 @@ module _ (old new : Files) (m : ℕ) (h : History) (d t c : List ℕ) (shows : S
       )
   added plan is written others (inr none) = (h, inr (none, refl), unclaimed_shows old new h t shows none others)
 
-  after_tried : (tried : IsRecordTried old new d t c) → (content new (command_path t) ≡ content old (command_path t)) ⊎ (content new (command_path t) ≡ Some (command_text tried.plan.file))
+  after_tried : (tried : IsRecordTried old new d t c) → (content new (command_path t) ≡ content old (command_path t))
+      ⊎ (content new (command_path t) ≡ Some (command_text tried.plan.file))
       → (next : History) × ((next ≡ h) ⊎ IsRecordEvent (at old m h) t c tried.plan.names next) × Shows new next
   after_tried tried (inl kept) = (h, inl refl, untouched_shows old new h t shows kept tried.others)
   after_tried tried (inr made) =
       let next = added tried.plan tried.planned made tried.others (synced_or_not h) in
       (next.0, ⊎_elim (λ claimed. inr claimed.1) (λ same. inl same.1) next.1, next.2)
 
-pub record_follows : (old new : Files) (m n : ℕ) (h : History) (d t c : List ℕ) (r : Result Answer EngineError) → Shows old h → IfOk r (IsRecorded old new d t c) → IfErr r (IsRecordRefused old new d t c)
+pub record_follows : (old new : Files) (m n : ℕ) (h : History) (d t c : List ℕ) (r : Result Answer EngineError) → Shows old h
+    → IfOk r (IsRecorded old new d t c) → IfErr r (IsRecordRefused old new d t c)
     → (next : History) × FollowsRecord d t c r (at old m h) (at new n next) × Shows new next
 record_follows old new m n h d t c (Ok answer) shows ok err =
     let facts = plan_records old h d t c [] ok.plan shows ok.planned in

@@ -68,11 +68,13 @@ unfolding GoesOn
 goes_on old (Sync k d) (Synced report) new is = inr (inl (is.files.plan.title, is.files.plan.config, is.history))
 goes_on old (Sync k d) (Refused e) new (inl plain) = inl plain.1.1
 goes_on old (Sync k d) (Refused e) new (inr (given, inl same)) = inl same.1
-goes_on old (Sync k d) (Refused e) new (inr (given, inr (broken, inl event))) = inr (inr (inr (given, (broken.plan.title, broken.plan.config, broken.some.0, event))))
+goes_on old (Sync k d) (Refused e) new (inr (given, inr (broken, inl event)))
+    = inr (inr (inr (given, (broken.plan.title, broken.plan.config, broken.some.0, event))))
 goes_on old (Sync k d) (Refused e) new (inr (given, inr (broken, inr event))) = inr (inl (broken.plan.title, broken.plan.config, event))
 goes_on old (Sync k d) (Recorded answer) new is = absurd is
 goes_on old (Sync k d) (Verdict v) new is = absurd is
-goes_on old (Record d o c) (Recorded answer) new is = ⊎_elim (λ claimed. inr (inr (inl (o, c, is.files.plan.names, claimed.1.0, claimed.1.2)))) (λ none. inl none.1) is.history
+goes_on old (Record d o c) (Recorded answer) new is = ⊎_elim (λ claimed. inr (inr (inl (o, c, is.files.plan.names, claimed.1.0, claimed.1.2))))
+    (λ none. inl none.1) is.history
 goes_on old (Record d o c) (Refused e) new (inl plain) = inl plain.1.1
 goes_on old (Record d o c) (Refused e) new (inr (given, inl same)) = inl same.1
 goes_on old (Record d o c) (Refused e) new (inr (given, inr (tried, inl kept))) = inl kept
@@ -106,14 +108,16 @@ none_first : (first : State) (steps : List Step) (last : State) → Leads first 
 none_first first [] last leads none = subst (λ (s : State). NoneBroken s.history) leads none
 none_first first (s ∷ ss) last leads none =
     subst (λ (t : State). NoneBroken t.history) leads.0
-    (none_before s.before.history s.action s.reply s.after.history (goes_on s.before s.action s.reply s.after leads.1.leaves) (none_first s.after ss last leads.3 none))
+    (none_before s.before.history s.action s.reply s.after.history (goes_on s.before s.action s.reply s.after leads.1.leaves)
+    (none_first s.after ss last leads.3 none))
 
 none_last : (first : State) (steps : List Step) (last : State) → Leads first steps last → NoneBroken first.history
     → All (λ step. IsGivenUpSync step.action step.reply → ⊥) steps → NoneBroken last.history
 none_last first [] last leads none kept = subst (λ (s : State). NoneBroken s.history) (sym leads) none
 none_last first (s ∷ ss) last leads none kept =
     none_last s.after ss last leads.3
-    (none_after s.before.history s.action s.reply s.after.history (goes_on s.before s.action s.reply s.after leads.1.leaves) (All-head (λ step. IsGivenUpSync step.action step.reply → ⊥) s ss kept)
+    (none_after s.before.history s.action s.reply s.after.history (goes_on s.before s.action s.reply s.after leads.1.leaves)
+    (All-head (λ step. IsGivenUpSync step.action step.reply → ⊥) s ss kept)
     (subst (λ (t : State). NoneBroken t.history) (sym leads.0) none))
     (All-tail (λ step. IsGivenUpSync step.action step.reply → ⊥) s ss kept)
 
@@ -150,23 +154,28 @@ safe_verdict old (Stale o) (Recorded e) new is = tt
 safe_verdict old (Sync k d) r new is = tt
 safe_verdict old (Record d o c) r new is = tt
 
-suspect_all : (first : State) (steps : List Step) (last : State) → Leads first steps last → All (λ step. IsSuspectVerdict step.before.history step.action step.reply) steps
+suspect_all : (first : State) (steps : List Step) (last : State) → Leads first steps last
+    → All (λ step. IsSuspectVerdict step.before.history step.action step.reply) steps
 suspect_all first [] last leads = All-nil _
 suspect_all first (s ∷ ss) last leads =
-    All-cons (λ step. IsSuspectVerdict step.before.history step.action step.reply) s ss (suspect_verdict s.before s.action s.reply s.after leads.1.leaves) (suspect_all s.after ss last leads.3)
+    All-cons (λ step. IsSuspectVerdict step.before.history step.action step.reply) s ss (suspect_verdict s.before s.action s.reply s.after leads.1.leaves)
+    (suspect_all s.after ss last leads.3)
 
-changed_all : (first : State) (steps : List Step) (last : State) → Leads first steps last → NoneBroken last.history → All (λ step. IsChangedVerdict step.before.history step.action step.reply) steps
+changed_all : (first : State) (steps : List Step) (last : State) → Leads first steps last → NoneBroken last.history
+    → All (λ step. IsChangedVerdict step.before.history step.action step.reply) steps
 changed_all first [] last leads none = All-nil _
 changed_all first (s ∷ ss) last leads none =
     All-cons (λ step. IsChangedVerdict step.before.history step.action step.reply) s ss
     (changed_verdict s.before s.action s.reply s.after
-    (none_before s.before.history s.action s.reply s.after.history (goes_on s.before s.action s.reply s.after leads.1.leaves) (none_first s.after ss last leads.3 none)) leads.1.leaves)
+    (none_before s.before.history s.action s.reply s.after.history (goes_on s.before s.action s.reply s.after leads.1.leaves)
+    (none_first s.after ss last leads.3 none)) leads.1.leaves)
     (changed_all s.after ss last leads.3 none)
 
 safe_all : (first : State) (steps : List Step) (last : State) → Leads first steps last → All (λ step. IsSafeVerdict step.before step.action step.reply) steps
 safe_all first [] last leads = All-nil _
 safe_all first (s ∷ ss) last leads =
-    All-cons (λ step. IsSafeVerdict step.before step.action step.reply) s ss (safe_verdict s.before s.action s.reply s.after leads.1.leaves) (safe_all s.after ss last leads.3)
+    All-cons (λ step. IsSafeVerdict step.before step.action step.reply) s ss (safe_verdict s.before s.action s.reply s.after leads.1.leaves)
+    (safe_all s.after ss last leads.3)
 
 -- From the steps alone all is told of the verdicts.
 pub run_of : (first : State) (acts : List Action) (rs : List Reply) (last : State) → Trace first acts rs last → Run first acts rs last

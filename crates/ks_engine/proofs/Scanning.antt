@@ -12,7 +12,8 @@ abbrev pub behind : List (List (List ℕ)) → Result (List (List (List ℕ))) E
 behind found (Ok more) = Ok (found ++ more)
 behind found (Err e) = Err e
 
-behind_next : (found : List (List (List ℕ))) (x : List (List ℕ)) (rest : Result (List (List (List ℕ))) EngineError) → behind found (followed (Ok x) rest) ≡ behind (found ++ x ∷ []) rest
+behind_next : (found : List (List (List ℕ))) (x : List (List ℕ)) (rest : Result (List (List (List ℕ))) EngineError) → behind found (followed (Ok x) rest)
+    ≡ behind (found ++ x ∷ []) rest
 behind_next found x (Err e) = refl
 behind_next found x (Ok more) = ap (λ l. Ok l) (sym (append_assoc found (x ∷ []) more))
 
@@ -28,14 +29,16 @@ at_next : (files : Files) (ps : List (List ℕ × Role)) (i : ℕ) (p : List ℕ
 unfolding scanned_all
 at_next files ps i p is = ap (scanned_all files) (drop_get ps i p is)
 
-pub scanned_next : (files : Files) (ps : List (List ℕ × Role)) (i : ℕ) (p : List ℕ × Role) (found : List (List (List ℕ))) (x : List (List ℕ)) (whole : Result (List (List (List ℕ))) EngineError)
+pub scanned_next : (files : Files) (ps : List (List ℕ × Role)) (i : ℕ) (p : List ℕ × Role) (found : List (List (List ℕ))) (x : List (List ℕ))
+    (whole : Result (List (List (List ℕ))) EngineError)
     → slice_get ps i ≡ Some p → scanned p.0 (content files p.0) ≡ Ok x
     → whole ≡ behind found (scanned_all files (drop i ps)) → whole ≡ behind (found ++ x ∷ []) (scanned_all files (drop (i + 1) ps))
 scanned_next files ps i p found x whole is ok before =
     before ∙ ap (behind found) (at_next files ps i p is ∙ ap (λ r. followed r (scanned_all files (drop (i + 1) ps))) ok)
     ∙ behind_next found x (scanned_all files (drop (i + 1) ps))
 
-pub scanned_refused : (files : Files) (ps : List (List ℕ × Role)) (i : ℕ) (p : List ℕ × Role) (found : List (List (List ℕ))) (error : EngineError) (whole : Result (List (List (List ℕ))) EngineError)
+pub scanned_refused : (files : Files) (ps : List (List ℕ × Role)) (i : ℕ) (p : List ℕ × Role) (found : List (List (List ℕ))) (error : EngineError)
+    (whole : Result (List (List (List ℕ))) EngineError)
     → slice_get ps i ≡ Some p → scanned p.0 (content files p.0) ≡ Err error
     → whole ≡ behind found (scanned_all files (drop i ps)) → whole ≡ Err error
 scanned_refused files ps i p found error whole is bad before =

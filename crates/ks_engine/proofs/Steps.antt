@@ -41,7 +41,13 @@ pub record IsRead (b : Option (List ℕ)) (h : History) : Type 0 where
 
 pub auto_read : (h : History) (b : Option (List ℕ)) → IsHistory h → IsAuto h b → IsRead b h
 unfolding old_auto
-auto_read (Begun texts generation stamps) None legal is = record { auto = record { texts = map.empty; generation = 0 }; reads = refl; texts = sym is.0; generation = sym is.1 }
+auto_read (Begun texts generation stamps) None legal is = record {
+  auto = record { texts = map.empty; generation = 0 };
+  reads = refl;
+  texts
+      = sym is.0;
+  generation = sym is.1;
+}
 auto_read (Begun texts generation stamps) (Some b) legal is = record {
   auto = record { texts = auto_map b; generation = auto_generation b };
   reads = old_some (Some b) b None refl is.0;
@@ -58,8 +64,10 @@ auto_read (Synced t config past) b legal is =
       texts = texts_back t config (done past + 1) legal.1.title legal.1.config small;
       generation = generation_back t config (done past + 1) legal.1.title legal.1.config small;
     }
-auto_read (Broken t config renewed past) b legal is = let r = auto_read past b legal.0 is in record { auto = r.auto; reads = r.reads; texts = r.texts; generation = r.generation }
-auto_read (Recorded o command names header past) b legal is = let r = auto_read past b legal.0 is in record { auto = r.auto; reads = r.reads; texts = r.texts; generation = r.generation }
+auto_read (Broken t config renewed past) b legal is = let r = auto_read past b legal.0 is
+    in record { auto = r.auto; reads = r.reads; texts = r.texts; generation = r.generation }
+auto_read (Recorded o command names header past) b legal is = let r = auto_read past b legal.0 is
+    in record { auto = r.auto; reads = r.reads; texts = r.texts; generation = r.generation }
 
 -- what stands where nothing was refused
 pub record PlanFacts (old : Texts) (generation : ℕ) (plan : Plan) : Type 0 where
@@ -69,7 +77,8 @@ pub record PlanFacts (old : Texts) (generation : ℕ) (plan : Plan) : Type 0 whe
   pub room : plan.generation ≡ 18446744073709551615 → ⊥
   pub small : length (auto_text plan.title plan.config (plan.generation + 1)) ≤ max_bytes
 
-plan_over_facts : (s : Sources) (auto : OldAuto) (plan : Plan) → IsSource s.title s.config → plan_over s auto ≡ Ok plan → PlanFacts auto.texts auto.generation plan
+plan_over_facts : (s : Sources) (auto : OldAuto) (plan : Plan) → IsSource s.title s.config → plan_over s auto ≡ Ok plan
+    → PlanFacts auto.texts auto.generation plan
 plan_over_facts s auto plan legal e =
     let made : Plan = record { title = s.title; config = s.config; unknown = s.unknown; old = auto.texts; generation = auto.generation } in
     let text = auto_text s.title s.config (auto.generation + 1) in
@@ -90,7 +99,8 @@ plan_over_facts s auto plan legal e =
     ok_ok : (p q : Plan) → ◌≡◌ {A = Result Plan EngineError} (Ok p) (Ok q) → p ≡ q
     ok_ok p q e = cc
 
-pub plan_facts : (files : Files) (h : History) (kconfig dotconfig : List ℕ) (plan : Plan) → Shows files h → IsSyncPlan files kconfig dotconfig (Ok plan) → PlanFacts (before h) (done h) plan
+pub plan_facts : (files : Files) (h : History) (kconfig dotconfig : List ℕ) (plan : Plan) → Shows files h → IsSyncPlan files kconfig dotconfig (Ok plan)
+    → PlanFacts (before h) (done h) plan
 plan_facts files h kconfig dotconfig plan shows (inl refused) = absurd (ok_err plan _ refused.2)
   where
     ok_err : (p : Plan) (e : EngineError) → Ok p ≡ Err e → ⊥
@@ -107,7 +117,8 @@ number_cond true file n g small has = inr (refl, small)
 number_cond false file n g small has = has
 
 -- A command file is neither a stamp nor another file of a synchronisation.
-command_kept : (old new : Files) (plan : Plan) (changed renewed : List (List ℕ)) → AreChanged plan.old plan.config changed → SyncLeaves old new plan changed renewed → (o : List ℕ) → content new (command_path o) ≡ content old (command_path o)
+command_kept : (old new : Files) (plan : Plan) (changed renewed : List (List ℕ)) → AreChanged plan.old plan.config changed
+    → SyncLeaves old new plan changed renewed → (o : List ℕ) → content new (command_path o) ≡ content old (command_path o)
 command_kept old new plan changed renewed are leaves o = leaves.others (command_path o)
     (λ x among. apart (CommandFile o) (Stamp x) tt (are.legal x among) (λ e. cc))
     (apart (CommandFile o) Header tt tt (λ e. cc))
@@ -150,9 +161,14 @@ module _ (old new : Files) (h : History) (plan : Plan) (changed renewed : List (
       → content new auto_path ≡ Some (auto_text plan.title plan.config (plan.generation + 1)) → Shows new (Synced plan.title plan.config h)
   synced_shows all header auto = record {
     history = (shows.history, facts.source, room);
-    auto = (auto ∙ ap (λ g. Some (auto_text plan.title plan.config (g + 1))) facts.same_generation, subst (λ g. length (auto_text plan.title plan.config (g + 1)) ≤ max_bytes) facts.same_generation facts.small);
+    auto = (
+      auto ∙ ap (λ g. Some (auto_text plan.title plan.config (g + 1))) facts.same_generation,
+      subst
+          (λ g. length (auto_text plan.title plan.config (g + 1)) ≤ max_bytes) facts.same_generation facts.small,
+    );
     header = λ some. (header_text plan.title plan.config, header, refl);
-    stamps = λ x name. subst (λ b. HasNumber (content new (stamp_path x)) (cond b (done h + 1) (stamp h x))) (ap (λ xs. is_in xs x) all ∙ differs_now x) (next_stamp x name);
+    stamps = λ x name. subst (λ b. HasNumber (content new (stamp_path x)) (cond b (done h + 1) (stamp h x))) (ap (λ xs. is_in xs x) all ∙ differs_now x)
+        (next_stamp x name);
     commands = next_commands;
   }
 
@@ -192,7 +208,8 @@ recorded_shows old new h o command names header b shows some at is written other
 
 -- ---- a record before the first synchronisation of a history, which has no recorded objects
 
-pub unclaimed_shows : (old new : Files) (h : History) (o : List ℕ) → Shows old h → (WasSynced h → ⊥) → SameButBoth (command_temporary o) (command_path o) old new → Shows new h
+pub unclaimed_shows : (old new : Files) (h : History) (o : List ℕ) → Shows old h → (WasSynced h → ⊥)
+    → SameButBoth (command_temporary o) (command_path o) old new → Shows new h
 unclaimed_shows old new h o shows none others = record {
   history = shows.history;
   auto = subst (IsAuto h) (sym (kept AutoConf tt (λ e. cc) (λ e. cc))) shows.auto;
@@ -220,8 +237,10 @@ untouched_shows old new h o shows same others = record {
     kept q legal file temporary = others (path_of q) (apart q (CommandTemporary o) legal tt temporary) (apart q (CommandFile o) legal tt file)
 
     by_target : (p : List ℕ) (b : Bool) → bytes_eq p o ≡ b → content new (command_path p) ≡ content old (command_path p)
-    by_target p true e = ap (λ q. content new (command_path q)) ((bytes_eq-Decides p o).0 e) ∙ same ∙ ap (λ q. content old (command_path q)) (sym ((bytes_eq-Decides p o).0 e))
-    by_target p false e = others (command_path p) (apart (CommandFile p) (CommandTemporary o) tt tt (λ e. cc)) (λ at. true≢false (sym ((bytes_eq-Decides p o).1 (command-injective p o at)) ∙ e))
+    by_target p true e = ap (λ q. content new (command_path q)) ((bytes_eq-Decides p o).0 e) ∙ same ∙ ap (λ q. content old (command_path q))
+        (sym ((bytes_eq-Decides p o).0 e))
+    by_target p false e = others (command_path p) (apart (CommandFile p) (CommandTemporary o) tt tt (λ e. cc))
+        (λ at. true≢false (sym ((bytes_eq-Decides p o).1 (command-injective p o at)) ∙ e))
 
     command_same : (p : List ℕ) → content new (command_path p) ≡ content old (command_path p)
     command_same p = by_target p _ refl

@@ -25,13 +25,15 @@ module _ (old : Files) (plan : Plan) (changed : List (List ℕ)) (are : AreChang
   }
 
   -- and then the header, old or new
-  pub after_header : (mid new : Files) → SyncLeaves old mid plan changed changed → content mid auto_path ≡ content old auto_path → content mid header_path ≡ content old header_path
+  pub after_header : (mid new : Files) → SyncLeaves old mid plan changed changed → content mid auto_path ≡ content old auto_path → content mid header_path
+      ≡ content old header_path
       → SameButBoth header_temporary header_path mid new
       → (content new header_path ≡ content mid header_path) ⊎ (content new header_path ≡ Some (header_text plan.title plan.config))
       → SyncLeaves old new plan changed changed
   after_header mid new leaves auto_kept header_kept others header = record {
     within = leaves.within;
-    stamps = λ x name. others (stamp_path x) (apart (Stamp x) HeaderTemporary name tt (λ e. cc)) (apart (Stamp x) Header name tt (λ e. cc)) ∙ leaves.stamps x name;
+    stamps = λ x name. others (stamp_path x) (apart (Stamp x) HeaderTemporary name tt (λ e. cc)) (apart (Stamp x) Header name tt (λ e. cc)) ∙ leaves.stamps x
+        name;
     header = ⊎_elim (λ kept. inl (kept ∙ header_kept)) (λ made. inr (refl, made)) header;
     auto = inl (others auto_path (apart AutoConf HeaderTemporary tt tt (λ e. cc)) (apart AutoConf Header tt tt (λ e. cc)) ∙ auto_kept);
     others = λ q stamps header auto ts th ta. others q th header ∙ leaves.others q stamps header auto ts th ta;
@@ -46,13 +48,15 @@ module _ (old : Files) (plan : Plan) (changed : List (List ℕ)) (are : AreChang
       let header = others header_path (apart Header AutoTemporary tt tt (λ e. cc)) (apart Header AutoConf tt tt (λ e. cc)) ∙ header_made in
       record {
         within = leaves.within;
-        stamps = λ x name. others (stamp_path x) (apart (Stamp x) AutoTemporary name tt (λ e. cc)) (apart (Stamp x) AutoConf name tt (λ e. cc)) ∙ leaves.stamps x name;
+        stamps = λ x name. others (stamp_path x) (apart (Stamp x) AutoTemporary name tt (λ e. cc)) (apart (Stamp x) AutoConf name tt (λ e. cc)) ∙
+            leaves.stamps x name;
         header = inr (refl, header);
         auto = ⊎_elim (λ kept. inl (kept ∙ auto_kept)) (λ made. inr (refl, header, made)) auto;
         others = λ q stamps header auto ts th ta. others q ta auto ∙ leaves.others q stamps header auto ts th ta;
       }
 
-  stamped_kept : (new : Files) (p : Place) → IsLegalPlace p → (p ≡ StampTemporary → ⊥) → ((x : List ℕ) → p ≡ Stamp x → ⊥) → Touches changed (plan.generation + 1) old new → content new (path_of p) ≡ content old (path_of p)
+  stamped_kept : (new : Files) (p : Place) → IsLegalPlace p → (p ≡ StampTemporary → ⊥) → ((x : List ℕ) → p ≡ Stamp x → ⊥)
+      → Touches changed (plan.generation + 1) old new → content new (path_of p) ≡ content old (path_of p)
   stamped_kept new p legal no_temporary no_stamp touched =
       touched.others (path_of p) (apart p StampTemporary legal tt no_temporary) (λ x among. apart p (Stamp x) legal (are.legal x among) (no_stamp x))
 
@@ -99,4 +103,5 @@ if_err_map (Err e) P Q f p = f e p
 pub is_in_take : (n : ℕ) (xs : List (List ℕ)) (x : List ℕ) → is_in (take n xs) x ≡ true → is_in xs x ≡ true
 is_in_take zero xs x e = absurd cc
 is_in_take (suc n) [] x e = absurd cc
-is_in_take (suc n) (y ∷ xs) x e = elim (bytes_eq x y) as (λ b. (b || is_in (take n xs) x) ≡ true → (b || is_in xs x) ≡ true) [ true ↦ λ e. refl | false ↦ λ e. is_in_take n xs x e ] e
+is_in_take (suc n) (y ∷ xs) x e = elim (bytes_eq x y) as (λ b. (b || is_in (take n xs) x) ≡ true → (b || is_in xs x) ≡ true)
+    [ true ↦ λ e. refl | false ↦ λ e. is_in_take n xs x e ] e

@@ -23,7 +23,8 @@ built_by files command read = Asks (asked_of files read)
 -- The two words come first; the command is compared before a generation or auto.conf is looked at.
 unfoldable pub built : Files → List ℕ → List ℕ → Built
 built files o command =
-    if is_target o then (if is_command command then built_by files command (command_file o (content files (command_path o))) else Asks (Answered (Err BadCommand)))
+    if is_target o then (if is_command command then built_by files command (command_file o (content files (command_path o)))
+    else Asks (Answered (Err BadCommand)))
     else Asks (Answered (Err (BadPath 0)))
 
 abbrev pub judged : Result Verdict EngineError → Result BuildState EngineError

@@ -49,7 +49,8 @@ abbrev pub FollowsSync : List ℕ → List ℕ → Result Report EngineError →
 FollowsSync kconfig dotconfig (Ok report) old new = FollowsSynced old kconfig dotconfig report new
 FollowsSync kconfig dotconfig (Err e) old new =
     (IsSyncPlan old.files kconfig dotconfig (Err e) × IsSame old new)
-    ⊎ (IsGivenUp e × (IsSame old new ⊎ ((broken : IsBrokenOff old.files new.files kconfig dotconfig) × IsBrokenEvent old.history broken.plan broken.some.0 new.history)))
+    ⊎ (IsGivenUp e × (IsSame old new ⊎ ((broken : IsBrokenOff old.files new.files kconfig dotconfig)
+    × IsBrokenEvent old.history broken.plan broken.some.0 new.history)))
 
 -- ---- recording
 
@@ -63,11 +64,13 @@ pub record FollowsRecorded (old : State) (depfile target command : List ℕ) (an
   pub files : IsRecorded old.files new.files depfile target command answer
   pub generation : answer.generation ≡ done old.history
   pub some : 0 < done old.history
-  pub history : (WasSynced old.history × IsRecordEvent old target command files.plan.names new.history) ⊎ ((WasSynced old.history → ⊥) × (new.history ≡ old.history))
+  pub history : (WasSynced old.history × IsRecordEvent old target command files.plan.names new.history)
+      ⊎ ((WasSynced old.history → ⊥) × (new.history ≡ old.history))
 
 -- One that was given up at the write has left the old command file, or is recorded.
 abbrev pub FollowsRecord : List ℕ → List ℕ → List ℕ → Result RecordAnswer EngineError → State → State → Type 0
 FollowsRecord depfile target command (Ok answer) old new = FollowsRecorded old depfile target command answer new
 FollowsRecord depfile target command (Err e) old new =
     ((record_plan old.files depfile target command ≡ Err e) × IsSame old new)
-    ⊎ (IsGivenUp e × (IsSame old new ⊎ ((tried : IsRecordTried old.files new.files depfile target command) × ((new.history ≡ old.history) ⊎ IsRecordEvent old target command tried.plan.names new.history))))
+    ⊎ (IsGivenUp e × (IsSame old new ⊎ ((tried : IsRecordTried old.files new.files depfile target command)
+    × ((new.history ≡ old.history) ⊎ IsRecordEvent old target command tried.plan.names new.history))))

@@ -17,7 +17,8 @@ use Rattle.ks_engine.specs.Built.{judged}
 
 -- The header in the tree defines each of the names in the same lines as the header at the record.
 abbrev pub HasSameDefinitions : Files → Record → Type 0
-HasSameDefinitions files r = (x : List ℕ) → is_in r.names x ≡ true → (b : List ℕ) × (content files header_path ≡ Some b) × (definitions x b ≡ definitions x r.header)
+HasSameDefinitions files r = (x : List ℕ) → is_in r.names x ≡ true → (b : List ℕ) × (content files header_path ≡ Some b)
+    × (definitions x b ≡ definitions x r.header)
 
 pub record IsJudged (files : Files) (h : History) (o : List ℕ) (r : Record) (answer : Result Verdict EngineError) : Type 0 where
   -- It is stale by the first of its names that is suspect, and else fresh.

@@ -34,7 +34,8 @@ UntypedTreeShows =
 -- The files and the two texts determine what a synchronisation comes to: it has a plan or is refused, and for one reason.
 abbrev pub PlansAreOne : Type 0
 PlansAreOne =
-    (files : Files) (kconfig dotconfig : List ℕ) (r s : Result Plan EngineError) → IsSyncPlan files kconfig dotconfig r → IsSyncPlan files kconfig dotconfig s → r ≡ s
+    (files : Files) (kconfig dotconfig : List ℕ) (r s : Result Plan EngineError) → IsSyncPlan files kconfig dotconfig r → IsSyncPlan files kconfig dotconfig s
+    → r ≡ s
 
 -- A synchronisation, completed or broken off, that began when g or more were completed, and whose configuration differs at x from the last of these.
 abbrev pub HasChangeBehind : ℕ → List ℕ → History → Type 0

@@ -24,9 +24,11 @@ pub record IsSource (t : List ℕ) (c : Configuration) : Type 0 where
   pub title : IsTrue (is_title t)
   pub config : IsConfiguration c
 
--- At first a synchronisation may have been broken off, so no stamp is above the next generation. One in the history renewed only names that it changes. A record stands behind a completed one, and its header is one of that time.
+-- At first a synchronisation may have been broken off, so no stamp is above the next generation. One in the history renewed only names that
+-- it changes. A record stands behind a completed one, and its header is one of that time.
 abbrev pub IsHistory : History → Type 0
 IsHistory (Begun texts generation stamps) = (generation ≤ 18446744073709551615) × ((x : List ℕ) → stamps x ≤ generation + 1)
 IsHistory (Synced title config past) = IsHistory past × IsSource title config × (done past < 18446744073709551615)
-IsHistory (Broken title config renewed past) = IsHistory past × IsSource title config × ((x : List ℕ) → is_in renewed x ≡ true → differs (before past) config x ≡ true)
+IsHistory (Broken title config renewed past) = IsHistory past × IsSource title config
+    × ((x : List ℕ) → is_in renewed x ≡ true → differs (before past) config x ≡ true)
 IsHistory (Recorded object command names header past) = IsHistory past × WasSynced past × MayBeHeader past header

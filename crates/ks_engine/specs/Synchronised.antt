@@ -22,11 +22,13 @@ pub record AreChanged (old : Texts) (new : Configuration) (names : List (List �
 -- Stamps of some changes are renewed. Where all are, the header may be the new one, and then auto.conf may be. All else but the temporary files is as before.
 pub record SyncLeaves (old new : Files) (plan : Plan) (changed renewed : List (List ℕ)) : Type 0 where
   pub within : (x : List ℕ) → is_in renewed x ≡ true → is_in changed x ≡ true
-  pub stamps : (x : List ℕ) → IsTrue (is_name x) → content new (stamp_path x) ≡ (if is_in renewed x then Some (stamp_text (plan.generation + 1)) else content old (stamp_path x))
+  pub stamps : (x : List ℕ) → IsTrue (is_name x) → content new (stamp_path x)
+      ≡ (if is_in renewed x then Some (stamp_text (plan.generation + 1)) else content old (stamp_path x))
   pub header : (content new header_path ≡ content old header_path)
       ⊎ ((renewed ≡ changed) × (content new header_path ≡ Some (header_text plan.title plan.config)))
   pub auto : (content new auto_path ≡ content old auto_path)
-      ⊎ ((renewed ≡ changed) × (content new header_path ≡ Some (header_text plan.title plan.config)) × (content new auto_path ≡ Some (auto_text plan.title plan.config (plan.generation + 1))))
+      ⊎ ((renewed ≡ changed) × (content new header_path ≡ Some (header_text plan.title plan.config))
+      × (content new auto_path ≡ Some (auto_text plan.title plan.config (plan.generation + 1))))
   pub others : (q : List ℕ) → ((x : List ℕ) → is_in changed x ≡ true → q ≢ stamp_path x) → q ≢ header_path → q ≢ auto_path
       → q ≢ stamp_temporary → q ≢ header_temporary → q ≢ auto_temporary → content new q ≡ content old q
 

@@ -136,7 +136,8 @@ fn prepare<T: Tree>(
     requires memo { T.is_honest → IsMemoOf (T.files tree.old) memo.old }
     ensures memo { T.is_honest → IsMemoOf (T.files tree.new) memo.new }
     ensures reads { Reads T.Tree tree.old tree.new (IsErrOf result EngineError.Device) }
-    ensures planned { T.is_honest → IfOk result (λ d. (plan : RecordPlan) × IsRecordPlan (T.files tree.old) depfile.now target.now command.now plan × IsDraft plan d) }
+    ensures planned { T.is_honest → IfOk result (λ d. (plan : RecordPlan) × IsRecordPlan (T.files tree.old) depfile.now target.now command.now plan
+        × IsDraft plan d) }
     ensures refused { T.is_honest → IfErr result (λ e. IsGivenUp e ⊎ (record_plan (T.files tree.old) depfile.now target.now command.now ≡ Err e)) }
 {
     check_words(depfile, target, command)?;

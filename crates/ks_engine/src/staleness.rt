@@ -119,7 +119,8 @@ fn judge<T: Tree>(
     requires memo { T.is_honest → IsMemoOf (T.files tree.old) memo.old }
     ensures reads { Reads T.Tree tree.old tree.new (IsErrOf result EngineError.Device) }
     ensures memo { T.is_honest → IsMemoOf (T.files tree.new) memo.new }
-    ensures answer { T.is_honest → GaveUp result ⊎ IsAnswer (T.files tree.old) (asked_since (T.files tree.old) (config_names (map seen_dep file.now.deps.items)) file.now.generation) result }
+    ensures answer { T.is_honest → GaveUp result ⊎ IsAnswer (T.files tree.old)
+        (asked_since (T.files tree.old) (config_names (map seen_dep file.now.deps.items)) file.now.generation) result }
 {
     let Some(generation) = file.generation else {
         return Ok(Verdict::Unnumbered);

@@ -85,8 +85,10 @@ fn prepare<T: Tree>(
 
 /// The stamps, then the header, then auto.conf: an auto.conf before its stamps would hide the change for good.
 fn write_all<T: Tree>(alloc: Global, tree: &mut T, work: &Work) -> Result<(), TreeFault>
-    ensures all { T.is_honest → (plan : Plan) → IsWork plan work.now → OnOk result (SyncDone (T.files tree.old) (T.files tree.new) plan work.now.report.touched.items) }
-    ensures some { T.is_honest → (plan : Plan) → IsWork plan work.now → OnErr result (SyncSome (T.files tree.old) (T.files tree.new) plan work.now.report.touched.items) }
+    ensures all { T.is_honest → (plan : Plan) → IsWork plan work.now
+        → OnOk result (SyncDone (T.files tree.old) (T.files tree.new) plan work.now.report.touched.items) }
+    ensures some { T.is_honest → (plan : Plan) → IsWork plan work.now
+        → OnErr result (SyncSome (T.files tree.old) (T.files tree.new) plan work.now.report.touched.items) }
     ensures never { IsErrOf result TreeFault.TooLarge → ⊥ }
     ensures counted { Counted T.Tree tree.old tree.new (IsErrOf result TreeFault.Device) }
 {

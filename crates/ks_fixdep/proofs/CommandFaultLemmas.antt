@@ -1,4 +1,5 @@
--- A refusal names the first line that does not fit: whatever stands behind that line it is refused again, and with other lines in its place the lines before it are read.
+-- A refusal names the first line that does not fit: whatever stands behind that line it is refused again, and with other lines in its place
+-- the lines before it are read.
 use Rattle.std.proofs.Common.{◌≡◌, ℕ, suc, ◌+◌, ◌-◌, ◌<◌, ◌≤◌, Bool, true, false, List, [], ◌∷◌, ◌++◌, length, take, drop, refl, sym, ap, ◌∙◌, arith, Option, Some, None, Result, Ok, Err, subst}
 use Rattle.std.specs.Prelude.{codes, option_and_then, if◌then◌else◌}
 use Rattle.std.specs.Option.{option_or}
@@ -88,13 +89,15 @@ fixed-reader {Y = Y} n x next r =
     first-reads : (fixed_at n x (ended x ∷ r.lines) >>= next) ≡ Ok r.value
     first-reads = ap (λ q. q >>= next) (fixed-line n x (ended x) r.lines true (ap (λ c. bytes_eq c x) (content-ended x) ∙ bytes-refl x)) ∙ r.reads
 
-    tested : (l : List ℕ) (ls : List (List ℕ)) (m : ℕ) (b : Bool) → bytes_eq (content l) x ≡ b → (fixed_at n x (l ∷ ls) >>= next) ≡ Err m → Refuses n (λ xs. fixed_at n x xs >>= next) (l ∷ ls) m
+    tested : (l : List ℕ) (ls : List (List ℕ)) (m : ℕ) (b : Bool) → bytes_eq (content l) x ≡ b → (fixed_at n x (l ∷ ls) >>= next) ≡ Err m
+        → Refuses n (λ xs. fixed_at n x xs >>= next) (l ∷ ls) m
     tested l ls m true is e =
         let step : (xs : List (List ℕ)) → (fixed_at n x (l ∷ xs) >>= next) ≡ next xs = λ xs. ap (λ q. q >>= next) (fixed-line n x l xs true is) in
         later n (λ xs. fixed_at n x xs >>= next) next l ls m step (r.refuses ls m (sym (step ls) ∙ e))
     tested l ls m false is e =
         let step : (xs : List (List ℕ)) → (fixed_at n x (l ∷ xs) >>= next) ≡ Err n = λ xs. ap (λ q. q >>= next) (fixed-line n x l xs false is) in
-        at-first n (λ xs. fixed_at n x xs >>= next) (l ∷ ls) m (ended x ∷ r.lines) r.value first-reads (err-same (fixed_at n x (l ∷ ls) >>= next) n m (step ls) e) (λ xs lt. step xs)
+        at-first n (λ xs. fixed_at n x xs >>= next) (l ∷ ls) m (ended x ∷ r.lines) r.value first-reads
+        (err-same (fixed_at n x (l ∷ ls) >>= next) n m (step ls) e) (λ xs lt. step xs)
 
     refuses : (ls : List (List ℕ)) (m : ℕ) → (fixed_at n x ls >>= next) ≡ Err m → Refuses n (λ xs. fixed_at n x xs >>= next) ls m
     refuses [] m e =
@@ -104,7 +107,8 @@ fixed-reader {Y = Y} n x next r =
 
 -- ---- one line of a form
 
-form-line : {A : Type 0} (n : ℕ) (form : List ℕ → Option A) (l : List ℕ) (ls : List (List ℕ)) (o : Option A) → form (content l) ≡ o → form_at n form (l ∷ ls) ≡ (or_fault n o >>= λ x. Ok (x, ls))
+form-line : {A : Type 0} (n : ℕ) (form : List ℕ → Option A) (l : List ℕ) (ls : List (List ℕ)) (o : Option A) → form (content l) ≡ o → form_at n form (l ∷ ls)
+    ≡ (or_fault n o >>= λ x. Ok (x, ls))
 unfolding form_at
 form-line n form l ls o is = ap (λ t. or_fault n t >>= λ x. Ok (x, ls)) is
 
@@ -131,14 +135,18 @@ form-reader {A = A} {Y = Y} n form x a next says readers =
     first-reads : (form_at n form (ended x ∷ r.lines) >>= λ p. next p.0 p.1) ≡ Ok r.value
     first-reads = ap (λ q. q >>= λ p. next p.0 p.1) (form-line n form (ended x) r.lines (Some a) (ap form (content-ended x) ∙ says)) ∙ r.reads
 
-    tested : (l : List ℕ) (ls : List (List ℕ)) (m : ℕ) (o : Option A) → form (content l) ≡ o → (form_at n form (l ∷ ls) >>= λ p. next p.0 p.1) ≡ Err m → Refuses n (λ xs. form_at n form xs >>= λ p. next p.0 p.1) (l ∷ ls) m
+    tested : (l : List ℕ) (ls : List (List ℕ)) (m : ℕ) (o : Option A) → form (content l) ≡ o → (form_at n form (l ∷ ls) >>= λ p. next p.0 p.1) ≡ Err m
+        → Refuses n (λ xs. form_at n form xs >>= λ p. next p.0 p.1) (l ∷ ls) m
     tested l ls m (Some b) is e =
-        let step : (xs : List (List ℕ)) → (form_at n form (l ∷ xs) >>= λ p. next p.0 p.1) ≡ next b xs = λ xs. ap (λ q. q >>= λ p. next p.0 p.1) (form-line n form l xs (Some b) is) in
+        let step : (xs : List (List ℕ)) → (form_at n form (l ∷ xs) >>= λ p. next p.0 p.1) ≡ next b xs
+        = λ xs. ap (λ q. q >>= λ p. next p.0 p.1) (form-line n form l xs (Some b) is) in
         let after = readers b (content l) is in
         later n (λ xs. form_at n form xs >>= λ p. next p.0 p.1) (next b) l ls m step (after.refuses ls m (sym (step ls) ∙ e))
     tested l ls m None is e =
-        let step : (xs : List (List ℕ)) → (form_at n form (l ∷ xs) >>= λ p. next p.0 p.1) ≡ Err n = λ xs. ap (λ q. q >>= λ p. next p.0 p.1) (form-line n form l xs None is) in
-        at-first n (λ xs. form_at n form xs >>= λ p. next p.0 p.1) (l ∷ ls) m (ended x ∷ r.lines) r.value first-reads (err-same (form_at n form (l ∷ ls) >>= λ p. next p.0 p.1) n m (step ls) e) (λ xs lt. step xs)
+        let step : (xs : List (List ℕ)) → (form_at n form (l ∷ xs) >>= λ p. next p.0 p.1) ≡ Err n
+        = λ xs. ap (λ q. q >>= λ p. next p.0 p.1) (form-line n form l xs None is) in
+        at-first n (λ xs. form_at n form xs >>= λ p. next p.0 p.1) (l ∷ ls) m (ended x ∷ r.lines) r.value first-reads
+        (err-same (form_at n form (l ∷ ls) >>= λ p. next p.0 p.1) n m (step ls) e) (λ xs lt. step xs)
 
     refuses : (ls : List (List ℕ)) (m : ℕ) → (form_at n form ls >>= λ p. next p.0 p.1) ≡ Err m → Refuses n (λ xs. form_at n form xs >>= λ p. next p.0 p.1) ls m
     refuses [] m e =
@@ -152,7 +160,8 @@ map-err : {Y Z : Type 0} (r : Result Y ℕ) (h : Y → Z) (m : ℕ) → (r >>= �
 map-err (Ok y) h m e = absurd cc
 map-err (Err n) h m e = cc
 
-mapped : {Y Z : Type 0} (n : ℕ) (reader : List (List ℕ) → Result Y ℕ) (h : Y → Z) (ls : List (List ℕ)) (m : ℕ) → Refuses n reader ls m → Refuses n (λ xs. reader xs >>= λ y. Ok (h y)) ls m
+mapped : {Y Z : Type 0} (n : ℕ) (reader : List (List ℕ) → Result Y ℕ) (h : Y → Z) (ls : List (List ℕ)) (m : ℕ) → Refuses n reader ls m
+    → Refuses n (λ xs. reader xs >>= λ y. Ok (h y)) ls m
 mapped n reader h ls m r =
     record {
       place = r.place;
@@ -200,7 +209,8 @@ generation-refuses : (n : ℕ) (ls : List (List ℕ)) (m : ℕ) → generation_f
 generation-refuses n [] m e = let none = generation-none n in absurd cc
 generation-refuses n (l ∷ ls) m e = tested (said n l) refl (λ f. generation-refuses (n + 1) ls m f)
   where
-    tested : (r : Result (Option ℕ) ℕ) → said n l ≡ r → (generation_from (n + 1) ls ≡ Err m → Refuses (n + 1) (generation_from (n + 1)) ls m) → Refuses n (generation_from n) (l ∷ ls) m
+    tested : (r : Result (Option ℕ) ℕ) → said n l ≡ r → (generation_from (n + 1) ls ≡ Err m → Refuses (n + 1) (generation_from (n + 1)) ls m)
+        → Refuses n (generation_from n) (l ∷ ls) m
     tested (Err k) is rest =
         let same : n ≡ k = said-number n l k is in
         let step : (xs : List (List ℕ)) → generation_from n (l ∷ xs) ≡ Err n = λ xs. generation-line n l xs (Err k) is ∙ ap (λ j. Err j) (sym same) in
@@ -233,7 +243,8 @@ stopped : {Y : Type 0} (next : List Dep → List (List ℕ) → Result Y ℕ) (l
 stopped next ls none = ap (λ ds. next ds (drop (length ds) ls)) none
 
 refuses-stopped : {Y : Type 0} (n : ℕ) (next : List Dep → List (List ℕ) → Result Y ℕ) → ((ls : List (List ℕ)) (y : Y) → next [] ls ≡ Ok y → deps_in ls ≡ [])
-    → (ls : List (List ℕ)) (m : ℕ) → ((xs : List (List ℕ)) → 0 < length ls → deps_in (take 1 ls ++ xs) ≡ []) → Refuses (n + 0) (next []) ls m → Refuses n (behind-deps next) ls m
+    → (ls : List (List ℕ)) (m : ℕ) → ((xs : List (List ℕ)) → 0 < length ls → deps_in (take 1 ls ++ xs) ≡ []) → Refuses (n + 0) (next []) ls m
+    → Refuses n (behind-deps next) ls m
 refuses-stopped n next stops ls m front r =
     record {
       place = r.place;
@@ -245,7 +256,8 @@ refuses-stopped n next stops ls m front r =
       reads = stopped next (take r.place ls ++ r.more) (stops (take r.place ls ++ r.more) r.value r.reads) ∙ r.reads;
     }
   where
-    deeper : (ls : List (List ℕ)) (k : ℕ) (xs : List (List ℕ)) → k < length ls → ((xs : List (List ℕ)) → 0 < length ls → deps_in (take 1 ls ++ xs) ≡ []) → deps_in (take (suc k) ls ++ xs) ≡ []
+    deeper : (ls : List (List ℕ)) (k : ℕ) (xs : List (List ℕ)) → k < length ls → ((xs : List (List ℕ)) → 0 < length ls → deps_in (take 1 ls ++ xs) ≡ [])
+        → deps_in (take (suc k) ls ++ xs) ≡ []
     deeper [] k xs lt front = absurd (omega arith)
     deeper (l ∷ ls) k xs lt front = front (take k ls ++ xs) (omega arith)
 
@@ -253,19 +265,23 @@ reader-at : {Y : Type 0} (n k : ℕ) (reader : List (List ℕ) → Result Y ℕ)
 reader-at n k reader same r = let P : ℕ → Type 0 = λ j. IsReader j reader in subst P same r
 
 deps-refuses : {Y : Type 0} (ls : List (List ℕ)) (n : ℕ) (next : List Dep → List (List ℕ) → Result Y ℕ) → ((ds : List Dep) → IsReader (n + length ds) (next ds))
-    → ((ds : List Dep) (xs : List (List ℕ)) (y : Y) → next ds xs ≡ Ok y → deps_in xs ≡ []) → (m : ℕ) → behind-deps next ls ≡ Err m → Refuses n (behind-deps next) ls m
+    → ((ds : List Dep) (xs : List (List ℕ)) (y : Y) → next ds xs ≡ Ok y → deps_in xs ≡ []) → (m : ℕ) → behind-deps next ls ≡ Err m
+    → Refuses n (behind-deps next) ls m
 deps-refuses [] n next readers stops m e =
     let none = readers [] in
     refuses-stopped n next (stops []) [] m (λ xs lt. absurd (omega arith)) (none.refuses [] m (sym (stopped next [] deps-none) ∙ e))
 deps-refuses {Y = Y} (l ∷ ls) n next readers stops m e =
     tested (dep_in (content l)) refl
-    (λ d f. deps-refuses ls (n + 1) (λ ds. next (d ∷ ds)) (λ ds. reader-at (n + suc (length ds)) (n + 1 + length ds) (next (d ∷ ds)) (omega arith) (readers (d ∷ ds))) (λ ds. stops (d ∷ ds)) m f)
+    (λ d f. deps-refuses ls (n + 1) (λ ds. next (d ∷ ds)) (λ ds. reader-at (n + suc (length ds)) (n + 1 + length ds) (next (d ∷ ds)) (omega arith)
+    (readers (d ∷ ds))) (λ ds. stops (d ∷ ds)) m f)
   where
     tested : (o : Option Dep) → dep_in (content l) ≡ o
-        → ((d : Dep) → behind-deps (λ ds. next (d ∷ ds)) ls ≡ Err m → Refuses (n + 1) (behind-deps (λ ds. next (d ∷ ds))) ls m) → Refuses n (behind-deps next) (l ∷ ls) m
+        → ((d : Dep) → behind-deps (λ ds. next (d ∷ ds)) ls ≡ Err m → Refuses (n + 1) (behind-deps (λ ds. next (d ∷ ds))) ls m)
+        → Refuses n (behind-deps next) (l ∷ ls) m
     tested None is rest =
         let none = readers [] in
-        refuses-stopped n next (stops []) (l ∷ ls) m (λ xs lt. deps-line l xs None is) (none.refuses (l ∷ ls) m (sym (stopped next (l ∷ ls) (deps-line l ls None is)) ∙ e))
+        refuses-stopped n next (stops []) (l ∷ ls) m (λ xs lt. deps-line l xs None is)
+        (none.refuses (l ∷ ls) m (sym (stopped next (l ∷ ls) (deps-line l ls None is)) ∙ e))
     tested (Some d) is rest =
         let step : (xs : List (List ℕ)) → behind-deps next (l ∷ xs) ≡ behind-deps (λ ds. next (d ∷ ds)) xs =
         λ xs. ap (λ ds. next ds (drop (length ds) (l ∷ xs))) (deps-line l xs (Some d) is) in
@@ -307,7 +323,8 @@ recorded t c s ds ls = end_from (6 + length ds) t ls >>= λ g. Ok (record { targ
 tail-reader : (t c s : List ℕ) → IsReader 6 (behind-deps (recorded t c s))
 tail-reader t c s =
     deps-reader 6 (recorded t c s)
-    (λ ds. mapped-reader (6 + length ds) (end_from (6 + length ds) t) (λ g. record { target = t; command = c; source = s; deps = ds; generation = g }) (end-reader (6 + length ds) t))
+    (λ ds. mapped-reader (6 + length ds) (end_from (6 + length ds) t) (λ g. record { target = t; command = c; source = s; deps = ds; generation = g })
+    (end-reader (6 + length ds) t))
     (λ ds xs y e. let step = steps (end_from (6 + length ds) t xs) _ y e in end-stops (6 + length ds) t xs step.value step.first)
 
 record-reader : IsReader 1 record_in
@@ -329,7 +346,12 @@ first-misfit ls n e =
     record {
       counted = omega (arith, f.number);
       within = omega (arith, f.number, f.within);
-      before = record { more = f.more; file = f.value; reads = lines-fit f.value (take (n - 1) ls ++ f.more) (ap (λ k. record_in (take k ls ++ f.more)) number ∙ f.reads) };
+      before = record {
+        more = f.more;
+        file = f.value;
+        reads
+            = lines-fit f.value (take (n - 1) ls ++ f.more) (ap (λ k. record_in (take k ls ++ f.more)) number ∙ f.reads);
+      };
       misfit = λ there begun.
           let read = lines-read begun.file (take n ls ++ begun.more) begun.reads in
           let refused = ap (λ k. record_in (take k ls ++ begun.more)) next ∙ f.again begun.more (omega (arith, f.number)) in

@@ -28,7 +28,8 @@ fixed-fits n x (l ∷ ls) xs more e =
     let first : content l ≡ x = cc in
     cond-true _ _ _ (ap (λ c. bytes_eq c x) first ∙ bytes-refl x)
 
-pub form-fits : {A : Type 0} (n : ℕ) (form : List ℕ → Option A) (x : List ℕ) (a : A) (ls xs more : List (List ℕ)) → map content ls ≡ x ∷ xs → form x ≡ Some a → form_at n form (ls ++ more) ≡ Ok (a, drop 1 ls ++ more)
+pub form-fits : {A : Type 0} (n : ℕ) (form : List ℕ → Option A) (x : List ℕ) (a : A) (ls xs more : List (List ℕ)) → map content ls ≡ x ∷ xs → form x ≡ Some a
+    → form_at n form (ls ++ more) ≡ Ok (a, drop 1 ls ++ more)
 unfolding form_at
 form-fits n form x a [] xs more e says = absurd cc
 form-fits n form x a (l ∷ ls) xs more e says =
@@ -54,7 +55,8 @@ deps-fit (d ∷ ds) (l ∷ ls) xs more e legal =
     let parts = and-parts (is_dep d) (list_all is_dep ds) legal in
     ap (λ o. onto_deps o (deps_in (ls ++ more))) (ap dep_in first ∙ dep-line d parts.0) ∙ ap (λ l. d ∷ l) (deps-fit ds ls xs more rest parts.1)
 
-behind-deps : (ds : List Dep) (ls xs more : List (List ℕ)) → map content ls ≡ map dep_line ds ++ xs → drop (length ds) (ls ++ more) ≡ drop (length ds) ls ++ more
+behind-deps : (ds : List Dep) (ls xs more : List (List ℕ)) → map content ls ≡ map dep_line ds ++ xs → drop (length ds) (ls ++ more) ≡ drop (length ds) ls
+    ++ more
 behind-deps [] ls xs more e = refl
 behind-deps (d ∷ ds) [] xs more e = absurd cc
 behind-deps (d ∷ ds) (l ∷ ls) xs more e = let rest : map content ls ≡ map dep_line ds ++ xs = cc in behind-deps ds ls xs more rest
@@ -70,7 +72,8 @@ some-said : (n : ℕ) (o : Option ℕ) → is_some o ≡ true → (or_fault n o 
 some-said n None e = absurd cc
 some-said n (Some g) e = refl
 
-behind-said : (n : ℕ) (o : Option (List ℕ)) → (not (is_some o) || is_some (option_and_then decimal_value (option_and_then (before line_feed) o))) ≡ true → said_behind n o ≡ Ok (option_and_then decimal_value (option_and_then (before line_feed) o))
+behind-said : (n : ℕ) (o : Option (List ℕ)) → (not (is_some o) || is_some (option_and_then decimal_value (option_and_then (before line_feed) o))) ≡ true
+    → said_behind n o ≡ Ok (option_and_then decimal_value (option_and_then (before line_feed) o))
 behind-said n None e = refl
 behind-said n (Some x) e = some-said n (option_and_then decimal_value (before line_feed x)) e
 
@@ -104,7 +107,8 @@ generation-sound n (l ∷ ls) sound =
 
 -- ---- the whole
 
-end-fits : (n : ℕ) (t : List ℕ) (ls more : List (List ℕ)) → map content ls ≡ [] ∷ target_line t ∷ [] ∷ deps_end t ∷ [] → end_from n t (ls ++ more) ≡ generation_from (n + 4) more
+end-fits : (n : ℕ) (t : List ℕ) (ls more : List (List ℕ)) → map content ls ≡ [] ∷ target_line t ∷ [] ∷ deps_end t ∷ [] → end_from n t (ls ++ more)
+    ≡ generation_from (n + 4) more
 unfolding end_from
 end-fits n t ls more e =
     let e1 = rest-fits [] ls (target_line t ∷ [] ∷ deps_end t ∷ []) e in
@@ -123,7 +127,8 @@ end-fits n t ls more e =
     none-left [] e = refl
     none-left (x ∷ xs) e = absurd cc
 
-record-fits : (f : Record) (ls more : List (List ℕ)) → IsLegal f → map content ls ≡ layout f → generation_from (6 + length f.deps + 4) more ≡ Ok f.generation → record_in (ls ++ more) ≡ Ok f
+record-fits : (f : Record) (ls more : List (List ℕ)) → IsLegal f → map content ls ≡ layout f → generation_from (6 + length f.deps + 4) more ≡ Ok f.generation
+    → record_in (ls ++ more) ≡ Ok f
 unfolding record_in
 record-fits f ls more legal e generation =
     let t = f.target in
@@ -142,7 +147,8 @@ record-fits f ls more legal e generation =
     let e4 = rest-fits [] l3 (deps_begin t ∷ deps) e3 in
     let e5 = rest-fits (deps_begin t) l4 deps e4 in
     rw (
-      form-fits 1 saved_command saved (t, f.command) ls ([] ∷ named ∷ [] ∷ deps_begin t ∷ deps) more e (saved_command-line t f.command legal.target legal.command),
+      form-fits 1 saved_command saved (t, f.command) ls ([] ∷ named ∷ [] ∷ deps_begin t ∷ deps) more e
+          (saved_command-line t f.command legal.target legal.command),
       fixed-fits 2 [] l1 (named ∷ [] ∷ deps_begin t ∷ deps) more e1,
       form-fits 3 (source_in t) named f.source l2 ([] ∷ deps_begin t ∷ deps) more e2 (source_in-line t f.source legal.source),
       fixed-fits 4 [] l3 (deps_begin t ∷ deps) more e3,
@@ -157,7 +163,8 @@ record-fits f ls more legal e generation =
 pub lines-read : (f : Record) (ls : List (List ℕ)) → LinesRead ls f → record_in ls ≡ Ok f
 lines-read f ls is =
     ap record_in is.parts
-    ∙ record-fits f is.laid_out is.appended is.legal is.fits (generation-sound (6 + length f.deps + 4) is.appended is.sound ∙ ap (λ g. Ok g) (sym is.generation))
+    ∙ record-fits f is.laid_out is.appended is.legal is.fits
+    (generation-sound (6 + length f.deps + 4) is.appended is.sound ∙ ap (λ g. Ok g) (sym is.generation))
 
 -- ---- what is read fits
 
@@ -236,7 +243,8 @@ said-is n line o e = behind-is-sound (behind generation_mark line) e
     number-is None e = absurd cc
     number-is (Some g) e = refl
 
-    behind-is-sound : (x : Option (List ℕ)) → said_behind n x ≡ Ok o → (not (is_some x) || is_some (option_and_then decimal_value (option_and_then (before line_feed) x))) ≡ true
+    behind-is-sound : (x : Option (List ℕ)) → said_behind n x ≡ Ok o
+        → (not (is_some x) || is_some (option_and_then decimal_value (option_and_then (before line_feed) x))) ≡ true
     behind-is-sound None e = refl
     behind-is-sound (Some x) e = number-is (option_and_then decimal_value (before line_feed x)) e
 
@@ -300,13 +308,15 @@ end-ends n t ls g e =
       generation = ok-same g (last_of (filter_map generation_in more)) (generation_from (n + 4) more) s4.next (generation-sound (n + 4) more sound);
     }
 
-saved-begins : (ls rest : List (List ℕ)) (t c : List ℕ) → form_at 1 saved_command ls ≡ Ok ((t, c), rest) → (is_target t ≡ true) × (is_command c ≡ true) × Begins (codes "savedcmd_" ++ t ++ codes " := " ++ c) rest ls
+saved-begins : (ls rest : List (List ℕ)) (t c : List ℕ) → form_at 1 saved_command ls ≡ Ok ((t, c), rest) → (is_target t ≡ true) × (is_command c ≡ true)
+    × Begins (codes "savedcmd_" ++ t ++ codes " := " ++ c) rest ls
 saved-begins ls rest t c e =
     let b = form-begins 1 saved_command ls rest (t, c) e in
     let line = saved_command-is (content b.line) t c b.says in
     (line.target_legal, line.command_legal, record { line = b.line; is = b.is; fits = line.is })
 
-source-begins : (ls rest : List (List ℕ)) (t s : List ℕ) → form_at 3 (source_in t) ls ≡ Ok (s, rest) → (is_path s ≡ true) × Begins (codes "source_" ++ t ++ codes " := " ++ s) rest ls
+source-begins : (ls rest : List (List ℕ)) (t s : List ℕ) → form_at 3 (source_in t) ls ≡ Ok (s, rest) → (is_path s ≡ true)
+    × Begins (codes "source_" ++ t ++ codes " := " ++ s) rest ls
 source-begins ls rest t s e =
     let b = form-begins 3 (source_in t) ls rest s e in
     let line = source_in-is t (content b.line) s b.says in
@@ -354,7 +364,14 @@ lines-fit f ls e =
     let end = end-ends (6 + length ds) t (drop (length ds) ls') s6.value s6.first in
     let r : Record = record { target = t; command = c; source = s3.value.0; deps = ds; generation = s6.value } in
     let P : Option ℕ → Type 0 = λ o. IfSome o (λ g. g < 2 ^ 64) in
-    let legal : IsLegal r = record { target = saved.0; command = saved.1; source = source.0; deps = deps.legal; generation = subst P (sym end.generation) (last-below end.appended) } in
+    let legal : IsLegal r = record {
+      target = saved.0;
+      command = saved.1;
+      source = source.0;
+      deps = deps.legal;
+      generation
+          = subst P (sym end.generation) (last-below end.appended);
+    } in
     let named = codes "source_" ++ t ++ codes " := " ++ s3.value.0 in
     let behind = map dep_line ds ++ [] ∷ target_line t ∷ [] ∷ deps_end t ∷ [] in
     let more = end.appended in
@@ -365,5 +382,14 @@ lines-fit f ls e =
     (front-one [] (deps_begin t ∷ behind) more s4.value s3.value.1 (fixed-begins 4 [] s3.value.1 s4.value s4.first)
     (front-one (deps_begin t) behind more ls' s4.value (fixed-begins 5 (deps_begin t) s4.value ls' s5.first)
     (front-deps ds ([] ∷ target_line t ∷ [] ∷ deps_end t ∷ []) more ls' deps end.front))))) in
-    let reads : LinesRead ls r = record { laid_out = front.laid; appended = more; legal = legal; parts = front.parts; fits = front.fits; sound = end.sound; generation = end.generation } in
+    let reads : LinesRead ls r = record {
+      laid_out = front.laid;
+      appended = more;
+      legal = legal;
+      parts = front.parts;
+      fits = front.fits;
+      sound
+          = end.sound;
+      generation = end.generation;
+    } in
     subst (LinesRead ls) (ok-same r f (Ok r) refl s6.next) reads

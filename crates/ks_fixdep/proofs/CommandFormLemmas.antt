@@ -82,19 +82,22 @@ pub source_in-line : (t s : List ℕ) → is_path s ≡ true → source_in t (co
 unfolding source_in
 source_in-line t s legal =
     ap (λ l. source_in t (codes "source_" ++ l)) (append_assoc t (codes " := ") s) ∙
-    ap (λ o. option_and_then (checked is_path) (option_and_then (behind (codes " := ")) (option_and_then (behind t) o))) (behind-front (codes "source_") (t ++ (codes " := " ++ s)))
+    ap (λ o. option_and_then (checked is_path) (option_and_then (behind (codes " := ")) (option_and_then (behind t) o)))
+    (behind-front (codes "source_") (t ++ (codes " := " ++ s)))
     ∙ ap (λ o. option_and_then (checked is_path) (option_and_then (behind (codes " := ")) o)) (behind-front t (codes " := " ++ s))
     ∙ ap (option_and_then (checked is_path)) (behind-front (codes " := ") s)
     ∙ cond-true _ _ _ legal
 
 -- the first match is the first place where the needle occurs
-pub first-match : (hay needle : List ℕ) (n i k : ℕ) → i ≤ k → k < i + n → ((j : ℕ) → i ≤ j → j < k → occurs_at hay needle j ≡ false) → occurs_at hay needle k ≡ true
+pub first-match : (hay needle : List ℕ) (n i k : ℕ) → i ≤ k → k < i + n → ((j : ℕ) → i ≤ j → j < k → occurs_at hay needle j ≡ false) → occurs_at hay needle k
+    ≡ true
     → first_of (matches_from hay needle 0 i n) ≡ Some k
 unfolding first_of matches_from
 first-match hay needle zero i k low high none here = absurd (omega arith)
 first-match hay needle (suc n) i k low high none here =
     elim (cases_lt i k) [
-      | inl lt ↦ ap first_of (cond-false _ _ _ (none i (omega arith) lt)) ∙ first-match hay needle n (i + 1) k (omega arith) (omega arith) (λ j l h. none j (omega arith) h) here
+      | inl lt ↦ ap first_of (cond-false _ _ _ (none i (omega arith) lt)) ∙ first-match hay needle n (i + 1) k (omega arith) (omega arith)
+          (λ j l h. none j (omega arith) h) here
       | inr ge ↦
           let e : i ≡ k = omega arith in
           ap first_of (cond-true _ _ _ (ap (occurs_at hay needle) e ∙ here)) ∙ ap (λ x. Some x) e
@@ -174,7 +177,8 @@ checked-parts test x y e =
 pub behind-is : (front xs x : List ℕ) → behind front xs ≡ Some x → xs ≡ front ++ x
 behind-is front xs x e =
     let parts = if-some (bytes_eq (take (length front) xs) front) (drop (length front) xs) x e in
-    sym (take-append-drop (length front) xs) ∙ ap (λ l. l ++ drop (length front) xs) (bytes-same (take (length front) xs) front parts.0) ∙ ap (λ l. front ++ l) parts.1
+    sym (take-append-drop (length front) xs) ∙ ap (λ l. l ++ drop (length front) xs) (bytes-same (take (length front) xs) front parts.0) ∙ ap
+    (λ l. front ++ l) parts.1
 
 pub before-is : (end xs x : List ℕ) → before end xs ≡ Some x → xs ≡ x ++ end
 before-is end xs x e =
@@ -193,7 +197,8 @@ first-occurs hay needle zero i k e = absurd cc
 first-occurs hay needle (suc n) i k e = either (occurs_at hay needle i) refl (λ found. first-occurs hay needle n (i + 1) k found) e
   where
     either : (b : Bool) → occurs_at hay needle i ≡ b → (first_of (matches_from hay needle 0 (i + 1) n) ≡ Some k → occurs_at hay needle k ≡ true)
-        → first_of (if b then i ∷ matches_from hay needle (match_len needle - 1) (i + 1) n else matches_from hay needle 0 (i + 1) n) ≡ Some k → occurs_at hay needle k ≡ true
+        → first_of (if b then i ∷ matches_from hay needle (match_len needle - 1) (i + 1) n else matches_from hay needle 0 (i + 1) n) ≡ Some k
+        → occurs_at hay needle k ≡ true
     either true here later found = let same : i ≡ k = cc in ap (occurs_at hay needle) (sym same) ∙ here
     either false here later found = later found
 
@@ -206,7 +211,8 @@ split-is sep xs a b e = at (first_of (matches xs sep 0)) refl e
     at : (found : Option ℕ) → first_of (matches xs sep 0) ≡ found → cut sep xs found ≡ Some (a, b) → xs ≡ a ++ (sep ++ b)
     at None is e = absurd cc
     at (Some k) is e =
-        let here = and-parts (nat_le (k + length sep) (length xs)) (bytes_eq (take (length sep) (drop k xs)) sep) (first-occurs xs sep (length xs + 1 - 0) 0 k is) in
+        let here = and-parts (nat_le (k + length sep) (length xs)) (bytes_eq (take (length sep) (drop k xs)) sep)
+        (first-occurs xs sep (length xs + 1 - 0) 0 k is) in
         let both = some-same (take k xs, drop (k + length sep) xs) (a, b) e in
         let front = ap (λ p. p.0) both in
         let back = ap (λ p. p.1) both in
@@ -246,11 +252,13 @@ source_in-is t line s e =
     let name = and_then-steps (behind t) (behind (codes "source_") line) value.value value.first in (
       checks.0,
       behind-is (codes "source_") line name.value name.first
-          ∙ ap (λ l. codes "source_" ++ l) (behind-is t name.value value.value name.next ∙ ap (λ l. t ++ l) (behind-is (codes " := ") value.value s value.next) ∙ sym (append_assoc t (codes " := ") s)),
+          ∙ ap (λ l. codes "source_" ++ l) (behind-is t name.value value.value name.next ∙ ap (λ l. t ++ l)
+          (behind-is (codes " := ") value.value s value.next) ∙ sym (append_assoc t (codes " := ") s)),
     )
 
 -- a value between a front and an end, which passes
-between-checked : (test : List ℕ → Bool) (front end line x : List ℕ) → option_and_then (checked test) (between front end line) ≡ Some x → (test x ≡ true) × (line ≡ front ++ (x ++ end))
+between-checked : (test : List ℕ → Bool) (front end line x : List ℕ) → option_and_then (checked test) (between front end line) ≡ Some x → (test x ≡ true)
+    × (line ≡ front ++ (x ++ end))
 between-checked test front end line x e =
     let legal = and_then-steps (checked test) (between front end line) x e in
     let checks = checked-parts test legal.value x legal.next in

@@ -42,4 +42,5 @@ and-under false p q r e = refl
 pub front-eq : (part rest more : List ℕ) → bytes_eq rest (part ++ more) ≡ (bytes_eq (take (length part) rest) part && bytes_eq (drop (length part) rest) more)
 front-eq [] rest more = refl
 front-eq (b ∷ part) [] more = refl
-front-eq (b ∷ part) (d ∷ rest) more = and-under (nat_eq d b) (bytes_eq rest (part ++ more)) (bytes_eq (take (length part) rest) part) (bytes_eq (drop (length part) rest) more) (front-eq part rest more)
+front-eq (b ∷ part) (d ∷ rest) more = and-under (nat_eq d b) (bytes_eq rest (part ++ more)) (bytes_eq (take (length part) rest) part)
+    (bytes_eq (drop (length part) rest) more) (front-eq part rest more)

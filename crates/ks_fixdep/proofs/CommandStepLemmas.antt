@@ -16,7 +16,8 @@ fails-through (errors.BadCommandFile n) r s through is = through n is
 fails-through errors.TooLarge r s through is = is
 fails-through errors.OutOfMemory r s through is = is
 
-pub gives-err : {X Y : Type 0} (view : X → Y) (r : Result X CommandError) (e : CommandError) (read : Result Y ℕ) → IsErr r → IsErrAnd r (λ y. y ≡ e) → Fails e read → Gives view r read
+pub gives-err : {X Y : Type 0} (view : X → Y) (r : Result X CommandError) (e : CommandError) (read : Result Y ℕ) → IsErr r → IsErrAnd r (λ y. y ≡ e)
+    → Fails e read → Gives view r read
 gives-err view (Ok x) e read err same fails = absurd cc
 gives-err view (Err y) e read err same fails = subst (λ z. Fails z read) (sym same) fails
 
@@ -24,7 +25,8 @@ gives-err view (Err y) e read err same fails = subst (λ z. Fails z read) (sym s
 abbrev pub with_found : Option ℕ → Result (Option ℕ) ℕ → Result (Option ℕ) ℕ
 with_found found read = read >>= λ later. Ok (option_or later found)
 
-found-twice : (own found : Option ℕ) (read : Result (Option ℕ) ℕ) → with_found found (read >>= λ later. Ok (option_or later own)) ≡ with_found (option_or own found) read
+found-twice : (own found : Option ℕ) (read : Result (Option ℕ) ℕ) → with_found found (read >>= λ later. Ok (option_or later own))
+    ≡ with_found (option_or own found) read
 found-twice own found (Err n) = refl
 found-twice own found (Ok None) = refl
 found-twice own found (Ok (Some g)) = refl

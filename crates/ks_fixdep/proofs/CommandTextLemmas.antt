@@ -65,7 +65,8 @@ plain-command c legal = all-imp is_command_byte is_plain_byte (λ b passes. ap n
 
 plain-name : (x : List ℕ) → is_name x ≡ true → is_plain x ≡ true
 unfolding is_name
-plain-name x legal = all-imp is_word_byte is_plain_byte (λ b passes. ap not (other-byte is_word_byte 10 b refl passes)) x (and-parts (not (length x == 0) && nat_le (length x) 128) (list_all is_word_byte x) legal).1
+plain-name x legal = all-imp is_word_byte is_plain_byte (λ b passes. ap not (other-byte is_word_byte 10 b refl passes)) x
+    (and-parts (not (length x == 0) && nat_le (length x) 128) (list_all is_word_byte x) legal).1
 
 plain-dep : (d : Dep) → is_dep d ≡ true → is_plain (dep_line d) ≡ true
 plain-dep (File p) legal = plain-append (codes "  " ++ p) (codes " \\") (plain-path p legal) refl
@@ -86,7 +87,8 @@ plain-decimal n back =
     let d = decimal n in
     let passed = chosen (is_canonical d && nat_lt (digits_value 10 d) (2 ^ 64)) (digits_value 10 d) n back in
     let form = and-parts (is_canonical d) (nat_lt (digits_value 10 d) (2 ^ 64)) passed in
-    all-imp is_ascii_digit is_plain_byte (λ b passes. ap not (other-byte is_ascii_digit 10 b refl passes)) d (and-parts (starts_well d) (list_all is_ascii_digit d) form.0).1
+    all-imp is_ascii_digit is_plain_byte (λ b passes. ap not (other-byte is_ascii_digit 10 b refl passes)) d
+    (and-parts (starts_well d) (list_all is_ascii_digit d) form.0).1
 
 plain-generation : (g : Option ℕ) → IfSome g (λ x. decimal_value (decimal x) ≡ Some x) → list_all is_plain (generation_line g) ≡ true
 plain-generation None back = refl
@@ -94,7 +96,8 @@ plain-generation (Some g) back = both-true (is_plain (codes "#generation " ++ de
 
 plain-last : (t : List ℕ) → is_plain t ≡ true → list_all is_plain (last_lines t) ≡ true
 plain-last t plain =
-    let target = plain-append (t ++ codes ": $(deps_" ++ t) (codes ")") (plain-append (t ++ codes ": $(deps_") t (plain-append t (codes ": $(deps_") plain refl) plain) refl in
+    let target = plain-append (t ++ codes ": $(deps_" ++ t) (codes ")")
+    (plain-append (t ++ codes ": $(deps_") t (plain-append t (codes ": $(deps_") plain refl) plain) refl in
     let deps = plain-append (codes "$(deps_" ++ t) (codes "):") plain refl in
     both-true (is_plain (target_line t)) (is_plain (deps_end t) && true) target (both-true (is_plain (deps_end t)) true deps refl)
 
@@ -105,8 +108,10 @@ plain-layout f legal =
     let saved = plain-append (t ++ codes " := ") f.command (plain-append t (codes " := ") target refl) (plain-command f.command legal.command) in
     let source = plain-append (t ++ codes " := ") f.source (plain-append t (codes " := ") target refl) (plain-path f.source legal.source) in
     let begin = plain-append t (codes " := \\") target refl in
-    let rest = list_all-append is_plain (map dep_line f.deps) (last_lines t) ∙ both-true (list_all is_plain (map dep_line f.deps)) (list_all is_plain (last_lines t)) (plain-deps f.deps legal.deps) (plain-last t target) in
-    ap (λ v. v && (is_plain (t ++ codes " := " ++ f.source) && (is_plain (t ++ codes " := \\") && list_all is_plain (map dep_line f.deps ++ last_lines t)))) saved
+    let rest = list_all-append is_plain (map dep_line f.deps) (last_lines t) ∙ both-true (list_all is_plain (map dep_line f.deps))
+    (list_all is_plain (last_lines t)) (plain-deps f.deps legal.deps) (plain-last t target) in
+    ap (λ v. v && (is_plain (t ++ codes " := " ++ f.source) && (is_plain (t ++ codes " := \\") && list_all is_plain (map dep_line f.deps ++ last_lines t))))
+    saved
     ∙ ap (λ v. v && (is_plain (t ++ codes " := \\") && list_all is_plain (map dep_line f.deps ++ last_lines t))) source
     ∙ ap (λ v. v && list_all is_plain (map dep_line f.deps ++ last_lines t)) begin
     ∙ rest

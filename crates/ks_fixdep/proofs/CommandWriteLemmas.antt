@@ -61,7 +61,8 @@ text-parts f =
     ∙ regroup l1 l3 l5 n (deps f.deps) (flat_map ended ends) (last f.generation)
     ∙ ap (λ x. (ended (codes "savedcmd_" ++ x) ++ (n ++ (l3 ++ (n ++ (l5 ++ []))))) ++ tail) (two-parts t (codes " := ") f.command)
     ∙ ap (λ x. (a1 ++ (n ++ (ended (codes "source_" ++ x) ++ (n ++ (l5 ++ []))))) ++ tail) (two-parts t (codes " := ") f.source)
-    ∙ ap (λ x. front t f.command f.source ++ (deps f.deps ++ ((n ++ (ended x ++ (n ++ (ended (deps_end t) ++ [])))) ++ last f.generation))) (around t (codes ": $(deps_") (codes ")"))
+    ∙ ap (λ x. front t f.command f.source ++ (deps f.deps ++ ((n ++ (ended x ++ (n ++ (ended (deps_end t) ++ [])))) ++ last f.generation)))
+    (around t (codes ": $(deps_") (codes ")"))
 
 pub four-parts : (o a b c d p q r s t : List ℕ) → a ≡ o ++ p → b ≡ a ++ q → c ≡ b ++ r → d ≡ c ++ s → t ≡ p ++ (q ++ (r ++ s)) → d ≡ o ++ t
 four-parts o a b c d p q r s t ea eb ec ed et = rw (et, ed, ec, eb, ea) (simp append_assoc refl)

@@ -23,7 +23,8 @@ prefix_len-zero [] no_word = refl
 prefix_len-zero (b ∷ v) no_word = cond-false _ _ _ no_word
 
 -- a run is not lengthened by what stands behind a byte that is no word byte
-word-append : (xs v : List ℕ) → (prefix_len is_word_byte xs < length xs) ⊎ (is_word_byte (get_or v 0 0) ≡ false) → take_while is_word_byte (xs ++ v) ≡ take_while is_word_byte xs
+word-append : (xs v : List ℕ) → (prefix_len is_word_byte xs < length xs) ⊎ (is_word_byte (get_or v 0 0) ≡ false) → take_while is_word_byte (xs ++ v)
+    ≡ take_while is_word_byte xs
 word-append xs v ends =
     let n = prefix_len is_word_byte xs in
     let le = prefix_len-le-length is_word_byte xs in
@@ -31,7 +32,8 @@ word-append xs v ends =
     prefix_len-append is_word_byte xs v
     ∙ ⊎_elim
     (λ early. cond-false _ _ _ (ne_eqb n (length xs) (λ all. absurd (omega arith))))
-    (λ stops. cond_both (n == length xs) (length xs + prefix_len is_word_byte v) n (λ x. x ≡ n) (λ all. omega (arith, eqb-true n (length xs) all, prefix_len-zero v stops)) (λ _. refl))
+    (λ stops. cond_both (n == length xs) (length xs + prefix_len is_word_byte v) n (λ x. x ≡ n)
+    (λ all. omega (arith, eqb-true n (length xs) all, prefix_len-zero v stops)) (λ _. refl))
     ends in
     ap (λ m. take m (xs ++ v)) same ∙ take-append-le n xs v le
 
@@ -53,7 +55,8 @@ module _ (u v : List ℕ) (border : Border u v) where
   left-at k below = get_or_append_left u v 0 k below
 
   right-at : (j : ℕ) → get_or (u ++ v) (length u + j) 0 ≡ get_or v j 0
-  right-at j = let back : length u + j - length u ≡ j = omega arith in get_or-append_right u v (length u) (length u + j) 0 refl (omega arith) ∙ ap (λ k. get_or v k 0) back
+  right-at j = let back : length u + j - length u ≡ j = omega arith in get_or-append_right u v (length u) (length u + j) 0 refl (omega arith) ∙ ap
+      (λ k. get_or v k 0) back
 
   -- a byte of an occurrence in the text is a word byte
   occurrence-passes : (i k : ℕ) → OccursAt (u ++ v) prefix i → i ≤ k → k < i + 7 → is_word_byte (get_or (u ++ v) k 0) ≡ true
@@ -68,7 +71,8 @@ module _ (u v : List ℕ) (border : Border u v) where
       ⊎_elim
       (λ over.
       ⊎_elim
-      (λ left. absurd (false≢true (sym left ∙ ap is_word_byte (sym (left-at (length u - 1) (omega arith))) ∙ occurrence-passes i (length u - 1) stands (omega arith) (omega arith))))
+      (λ left. absurd (false≢true (sym left ∙ ap is_word_byte (sym (left-at (length u - 1) (omega arith))) ∙ occurrence-passes i (length u - 1) stands
+      (omega arith) (omega arith))))
       (λ right.
       let here : length u + 0 ≡ length u = omega arith in
       absurd (false≢true (sym right ∙ ap is_word_byte (sym (right-at 0)) ∙ occurrence-passes i (length u + 0) stands (omega arith) (omega arith))))
@@ -157,7 +161,8 @@ module _ (u v : List ℕ) (border : Border u v) where
       ap (begins_word (u ++ v)) first)
       (λ some.
       let place : length u + 0 - 1 ≡ length u - 1 = omega arith in
-      begins-by (u ++ v) (length u + 0) (ap (λ k. is_word_byte (get_or (u ++ v) k 0)) place ∙ ap is_word_byte (left-at (length u - 1) (omega (arith, some))) ∙ left))
+      begins-by (u ++ v) (length u + 0) (ap (λ k. is_word_byte (get_or (u ++ v) k 0)) place ∙ ap is_word_byte (left-at (length u - 1) (omega (arith, some))) ∙
+      left))
       (cases_eq (length u) 0))
       (λ right. absurd (false≢true (sym right ∙ ap is_word_byte (stands.reads 0 (omega arith)) ∙ prefix-passes 0 (omega arith))))
       border
@@ -199,7 +204,8 @@ module _ (u v : List ℕ) (border : Border u v) where
       ∙ ap (cons_option (taken_at u i)) (left-taken_from n (i + 1) (omega arith))
       ∙ sym (taken_from-step u i n)
 
-  map-cons_option : (x : Option NameAt) (xs : List NameAt) → cons_option (option_map (further (length u)) x) (map (further (length u)) xs) ≡ map (further (length u)) (cons_option x xs)
+  map-cons_option : (x : Option NameAt) (xs : List NameAt) → cons_option (option_map (further (length u)) x) (map (further (length u)) xs)
+      ≡ map (further (length u)) (cons_option x xs)
   map-cons_option None xs = refl
   map-cons_option (Some x) xs = refl
 

@@ -25,13 +25,14 @@ use Rattle.ks_fixdep.proofs.SourceLemmas.{joined}
 -- not noted before, so not among those kept either
 not_kept : (y : List ℕ) (seen zs : List (List ℕ)) → list_any (bytes_eq y) zs ≡ false → list_any (bytes_eq y) (new_names seen zs) ≡ false
 not_kept y seen [] e = refl
-not_kept y seen (z ∷ zs) e = elim (bytes_eq y z) as (λ b. bytes_eq y z ≡ b → b || list_any (bytes_eq y) zs ≡ false → list_any (bytes_eq y) (new_names seen (z ∷ zs)) ≡ false) [
-  | true ↦ λ _ f. absurd cc
-  | false ↦ λ apart f. elim (not (list_any (bytes_eq z) seen)) as (λ k. list_any (bytes_eq y) (cond k (z ∷ new_names seen zs) (new_names seen zs)) ≡ false) [
-    | true ↦ ap (λ b. b || list_any (bytes_eq y) (new_names seen zs)) apart ∙ not_kept y seen zs f
-    | false ↦ not_kept y seen zs f
-  ]
-] refl e
+not_kept y seen (z ∷ zs) e = elim (bytes_eq y z) as (λ b. bytes_eq y z ≡ b → b || list_any (bytes_eq y) zs ≡ false
+    → list_any (bytes_eq y) (new_names seen (z ∷ zs)) ≡ false) [
+      | true ↦ λ _ f. absurd cc
+      | false ↦ λ apart f. elim (not (list_any (bytes_eq z) seen)) as (λ k. list_any (bytes_eq y) (cond k (z ∷ new_names seen zs) (new_names seen zs)) ≡ false) [
+        | true ↦ ap (λ b. b || list_any (bytes_eq y) (new_names seen zs)) apart ∙ not_kept y seen zs f
+        | false ↦ not_kept y seen zs f
+      ]
+    ] refl e
 
 -- The names noted behind those seen are the ones that are new.
 abbrev pub IsNew : List (List ℕ) → List (List ℕ) → Type 0
@@ -42,13 +43,16 @@ new_at_end y seen zs absent e =
     let kept = new_names seen zs in
     fold-append noted seen zs (y ∷ []) ∙ ap (λ n. noted n y) e
     ∙ elim (list_any (bytes_eq y) seen) as (λ b. list_any (bytes_eq y) seen ≡ b → noted (seen ++ kept) y ≡ seen ++ (kept ++ cond (not b) (y ∷ []) [])) [
-      | true ↦ λ there. cond-true _ _ _ (list_any-append (bytes_eq y) seen kept ∙ ap (λ b. b || list_any (bytes_eq y) kept) there) ∙ ap (λ l. seen ++ l) (sym (append-nil kept))
-      | false ↦ λ away. cond-false _ _ _ (list_any-append (bytes_eq y) seen kept ∙ ap (λ b. b || list_any (bytes_eq y) kept) away ∙ not_kept y seen zs absent) ∙ append_assoc seen kept (y ∷ [])
+      | true ↦ λ there. cond-true _ _ _ (list_any-append (bytes_eq y) seen kept ∙ ap (λ b. b || list_any (bytes_eq y) kept) there) ∙ ap (λ l. seen ++ l)
+          (sym (append-nil kept))
+      | false ↦ λ away. cond-false _ _ _ (list_any-append (bytes_eq y) seen kept ∙ ap (λ b. b || list_any (bytes_eq y) kept) away ∙ not_kept y seen zs absent)
+          ∙ append_assoc seen kept (y ∷ [])
     ] refl
     ∙ ap (λ l. seen ++ l) (sym (filter-append (λ x. not (list_any (bytes_eq x) seen)) zs (y ∷ [])))
 
 new_noted : (y : List ℕ) (seen zs : List (List ℕ)) → IsNew seen zs → IsNew seen (noted zs y)
-new_noted y seen zs e = elim (list_any (bytes_eq y) zs) as (λ b. list_any (bytes_eq y) zs ≡ b → IsNew seen (cond b zs (zs ++ y ∷ []))) [ true ↦ λ _. e | false ↦ λ absent. new_at_end y seen zs absent e ] refl
+new_noted y seen zs e = elim (list_any (bytes_eq y) zs) as (λ b. list_any (bytes_eq y) zs ≡ b → IsNew seen (cond b zs (zs ++ y ∷ [])))
+    [ true ↦ λ _. e | false ↦ λ absent. new_at_end y seen zs absent e ] refl
 
 new_all : (seen zs ys : List (List ℕ)) → IsNew seen zs → IsNew seen (all_noted zs ys)
 new_all seen zs [] e = e
@@ -84,7 +88,8 @@ names_behind seen (p ∷ ps) (t ∷ ts) len =
     ∙ names_behind (all_noted seen names) ps ts later
     ∙ sym (fold-append noted seen names (flat_map (λ l. l) (map names_in ts)))
 
-pub record_names : (ps : List (List ℕ × Role)) (ts : List (List ℕ)) → length ps ≡ length ts → config_names (deps_after [] ps (map names_in ts)) ≡ names_of (map names_in ts)
+pub record_names : (ps : List (List ℕ × Role)) (ts : List (List ℕ)) → length ps ≡ length ts → config_names (deps_after [] ps (map names_in ts))
+    ≡ names_of (map names_in ts)
 record_names ps ts len = names_behind [] ps ts len
 
 -- ---- one source after the other
@@ -98,7 +103,8 @@ unfolding left
 all_behind before ts = sym (all_noted_again before [] (joined ts)) ∙ new_once before (joined ts)
 
 -- those of the first text, and then those that are left
-left_next : (before : List (List ℕ)) (t : List ℕ) (ts : List (List ℕ)) → left before (t ∷ ts) ≡ new_names before (names_in t) ++ left (all_noted before (names_in t)) ts
+left_next : (before : List (List ℕ)) (t : List ℕ) (ts : List (List ℕ)) → left before (t ∷ ts) ≡ new_names before (names_in t)
+    ++ left (all_noted before (names_in t)) ts
 left_next before t ts =
     let after = all_noted before (names_in t) in
     append_cancel_left before _ _ (
@@ -110,7 +116,8 @@ left_next before t ts =
     )
 
 -- What is listed so far, and what is still to be listed of these prerequisites, counts, texts and names, are the whole.
-pub record Remaining (whole : List Dep) (ps : List (List ℕ × Role)) (counts : List ℕ) (ts : List (List ℕ)) (listed : ℕ) (names : List (List ℕ)) (deps : List Dep) : Type 0 where
+pub record Remaining (whole : List Dep) (ps : List (List ℕ × Role)) (counts : List ℕ) (ts : List (List ℕ)) (listed : ℕ) (names : List (List ℕ))
+    (deps : List Dep) : Type 0 where
   before : List (List ℕ)
   listed_is : listed ≡ length before
   names_are : names ≡ left before ts
@@ -118,7 +125,8 @@ pub record Remaining (whole : List Dep) (ps : List (List ℕ × Role)) (counts :
   deps_are : whole ≡ deps ++ deps_after before ps (map names_in ts)
 
 -- one turn: the prerequisite's own line, and then its new names
-turn : (whole : List Dep) (p : List ℕ × Role) (ps : List (List ℕ × Role)) (count : ℕ) (counts : List ℕ) (ts : List (List ℕ)) (listed : ℕ) (names : List (List ℕ)) (deps own all : List Dep)
+turn : (whole : List Dep) (p : List ℕ × Role) (ps : List (List ℕ × Role)) (count : ℕ) (counts : List ℕ) (ts : List (List ℕ)) (listed : ℕ)
+    (names : List (List ℕ)) (deps own all : List Dep)
     → Remaining whole (p ∷ ps) (count ∷ counts) ts listed names deps → own ≡ deps ++ own_line p → all ≡ own ++ map Config (take (count - listed) names)
     → Remaining whole ps counts (drop 1 ts) count (drop (count - listed) names) all
 turn whole p ps count counts [] listed names deps own all r is_own is_all = let none : count ∷ counts ≡ [] = r.counts_are in absurd cc
@@ -151,7 +159,8 @@ from xs i x is =
     let next : suc i ≡ i + 1 = omega arith in
     drop-cons xs i x (slice_get_within xs i x is) ∙ ap₂ (λ y n. y ∷ drop n xs) (get_or_from_slice_get xs i x x is) next
 
-pub remaining-turn : (whole : List Dep) (p : List ℕ × Role) (ps : List (List ℕ × Role)) (counts : List ℕ) (ts : List (List ℕ)) (i count listed : ℕ) (names : List (List ℕ)) (deps own all : List Dep)
+pub remaining-turn : (whole : List Dep) (p : List ℕ × Role) (ps : List (List ℕ × Role)) (counts : List ℕ) (ts : List (List ℕ)) (i count listed : ℕ)
+    (names : List (List ℕ)) (deps own all : List Dep)
     → slice_get counts i ≡ Some count → Remaining whole (p ∷ ps) (drop i counts) (drop i ts) listed names deps
     → own ≡ deps ++ own_line p → all ≡ own ++ map Config (take (count - listed) names)
     → Remaining whole ps (drop (i + 1) counts) (drop (i + 1) ts) count (drop (count - listed) names) all
@@ -167,7 +176,8 @@ remaining-turn whole p ps counts ts i count listed names deps own all is_count r
     subst (λ l. Remaining whole ps (drop (i + 1) counts) l count (drop (count - listed) names) all) (drop-drop 1 i ts) next
 
 -- before the first one
-pub remaining-first : (ps : List (List ℕ × Role)) (counts : List ℕ) (ts names : List (List ℕ)) → names ≡ names_of (map names_in ts) → counts ≡ counts_after [] ts
+pub remaining-first : (ps : List (List ℕ × Role)) (counts : List ℕ) (ts names : List (List ℕ)) → names ≡ names_of (map names_in ts) → counts
+    ≡ counts_after [] ts
     → Remaining (deps_after [] ps (map names_in ts)) ps counts ts 0 names []
 unfolding left
 remaining-first ps counts ts names is_names is_counts =
@@ -178,5 +188,6 @@ remaining-first ps counts ts names is_names is_counts =
     all_new (x ∷ xs) = ap (λ l. x ∷ l) (all_new xs)
 
 -- and behind the last
-pub remaining-none : (whole : List Dep) (counts : List ℕ) (ts : List (List ℕ)) (listed : ℕ) (names : List (List ℕ)) (deps : List Dep) → Remaining whole [] counts ts listed names deps → deps ≡ whole
+pub remaining-none : (whole : List Dep) (counts : List ℕ) (ts : List (List ℕ)) (listed : ℕ) (names : List (List ℕ)) (deps : List Dep)
+    → Remaining whole [] counts ts listed names deps → deps ≡ whole
 remaining-none whole counts ts listed names deps r = sym (r.deps_are ∙ append-nil deps)

@@ -17,7 +17,8 @@ use Rattle.ks_fixdep.proofs.CutLemmas.{left-run, right-run, taken-cut}
 use Rattle.ks_fixdep.proofs.PieceLemmas.{whole-run, all-drop, taken-word}
 use Rattle.ks_fixdep.proofs.PlaceLemmas.{cons-in, listed-only, taken_at-is}
 
-lent-whole : (before : List ℕ) (pieces : List (List ℕ)) (lent : List (List NameAt)) → LentInTurn before pieces lent → ended before ++ flat_map (λ xs. xs) lent ≡ ended (before ++ joined pieces)
+lent-whole : (before : List ℕ) (pieces : List (List ℕ)) (lent : List (List NameAt)) → LentInTurn before pieces lent → ended before ++ flat_map (λ xs. xs) lent
+    ≡ ended (before ++ joined pieces)
 lent-whole before [] [] turns = append-nil (ended before) ∙ ap ended (sym (append-nil before))
 lent-whole before [] (xs ∷ lent) turns = absurd turns
 lent-whole before (p ∷ ps) [] turns = absurd turns
@@ -28,7 +29,8 @@ lent-whole before (p ∷ ps) (xs ∷ lent) turns =
     ∙ ap ended (append_assoc before p (joined ps))
 
 -- What is lent for the pieces in turn, and last at the end, is what the joined text has.
-pub pieces-whole : (pieces : List (List ℕ)) (lent : List (List NameAt)) (last : List NameAt) → LentInTurn [] pieces lent → taken (joined pieces) ≡ ended (joined pieces) ++ last
+pub pieces-whole : (pieces : List (List ℕ)) (lent : List (List NameAt)) (last : List NameAt) → LentInTurn [] pieces lent → taken (joined pieces)
+    ≡ ended (joined pieces) ++ last
     → flat_map (λ xs. xs) lent ++ last ≡ taken (joined pieces)
 pieces-whole pieces lent last turns end =
     ap (λ l. (l ++ flat_map (λ xs. xs) lent) ++ last) (sym ended-nil) ∙ ap (λ l. l ++ last) (lent-whole [] pieces lent turns) ∙ sym end
@@ -57,7 +59,8 @@ followed-left u w stops x is =
     (cases_lt (x.place + 7 + length run) (length u))
 
 -- and the last word has none
-followed-right : (u w : List ℕ) → is_word_byte (get_or u (length u - 1) 0) ≡ false → list_all is_word_byte w ≡ true → filter (is_followed (u ++ w)) (map (further (length u)) (taken w)) ≡ []
+followed-right : (u w : List ℕ) → is_word_byte (get_or u (length u - 1) 0) ≡ false → list_all is_word_byte w ≡ true
+    → filter (is_followed (u ++ w)) (map (further (length u)) (taken w)) ≡ []
 followed-right u w stops all = ap (λ l. filter (is_followed (u ++ w)) (map (further (length u)) l)) (taken-word w all) ∙ none (name_of_word w)
   where
     run : length (run_at (u ++ w) (length u + 0 + 7)) ≡ length (drop 7 w)
@@ -65,7 +68,8 @@ followed-right u w stops all = ap (λ l. filter (is_followed (u ++ w)) (map (fur
 
     none : (name : Option (List ℕ)) → filter (is_followed (u ++ w)) (map (further (length u)) (carried_at 0 name)) ≡ []
     none None = refl
-    none (Some name) = cond-false _ _ _ (le-ltb (length u + 0 + 7 + length (run_at (u ++ w) (length u + 0 + 7))) (length (u ++ w)) (omega (arith, run, length-drop 7 w, length-append u w)))
+    none (Some name) = cond-false _ _ _ (le-ltb (length u + 0 + 7 + length (run_at (u ++ w) (length u + 0 + 7))) (length (u ++ w))
+        (omega (arith, run, length-drop 7 w, length-append u w)))
 
 -- What is ended in a text are the names of it whose run is followed by a byte.
 pub ended-followed : (t : List ℕ) → ended t ≡ filter (is_followed t) (taken t)

@@ -53,7 +53,8 @@ names-longer t p carried xs e =
     ∙ ap (λ l. map bare_name (ended t) ++ (list_of carried ++ l)) (map-name-further (length t) xs)
     ∙ sym (append_assoc (map bare_name (ended t)) (list_of carried) (map bare_name xs))
 
-pub names-whole : (t : List ℕ) (i : ℕ) (carried : Option (List ℕ)) → taken t ≡ ended t ++ carried_at i carried → map bare_name (taken t) ≡ map bare_name (ended t) ++ list_of carried
+pub names-whole : (t : List ℕ) (i : ℕ) (carried : Option (List ℕ)) → taken t ≡ ended t ++ carried_at i carried → map bare_name (taken t)
+    ≡ map bare_name (ended t) ++ list_of carried
 names-whole t i carried e =
     ap (map bare_name) e
     ∙ map-append bare_name (ended t) (carried_at i carried)

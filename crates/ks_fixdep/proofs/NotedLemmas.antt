@@ -15,7 +15,8 @@ use Rattle.std.proofs.lemmas.List.Sums.{AllPass-from_list_all}
 pub noted_in_two : (base a l whole n0 n1 : List (List ℕ)) → n0 ≡ all_noted base a → n1 ≡ all_noted n0 l → whole ≡ a ++ l → n1 ≡ all_noted base whole
 noted_in_two base a l whole n0 n1 e0 e1 e = e1 ∙ ap (λ n. all_noted n l) e0 ∙ sym (fold-append noted base a l) ∙ ap (all_noted base) (sym e)
 
-pub noted_in_parts : (base a l m whole n0 n1 n2 : List (List ℕ)) → n0 ≡ all_noted base a → n1 ≡ all_noted n0 l → n2 ≡ all_noted n1 m → whole ≡ a ++ l ++ m → n2 ≡ all_noted base whole
+pub noted_in_parts : (base a l m whole n0 n1 n2 : List (List ℕ)) → n0 ≡ all_noted base a → n1 ≡ all_noted n0 l → n2 ≡ all_noted n1 m → whole ≡ a ++ l ++ m
+    → n2 ≡ all_noted base whole
 noted_in_parts base a l m whole n0 n1 n2 e0 e1 e2 e =
     e2 ∙ ap (λ n. all_noted n m) (noted_in_two base a l (a ++ l) n0 n1 e0 e1 refl) ∙ sym (fold-append noted base (a ++ l) m) ∙ ap (all_noted base) (sym e)
 

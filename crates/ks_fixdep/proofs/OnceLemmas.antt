@@ -31,7 +31,8 @@ in_noted x y xs e = elim (list_any (bytes_eq y) xs) as (λ b. is_in x (cond b xs
 
 noted_in : (y : List ℕ) (xs : List (List ℕ)) → is_in y (noted xs y) ≡ true
 unfolding is_in
-noted_in y xs = elim (list_any (bytes_eq y) xs) as (λ b. list_any (bytes_eq y) xs ≡ b → is_in y (cond b xs (xs ++ y ∷ [])) ≡ true) [ true ↦ λ e. e | false ↦ λ _. in_last y xs ] refl
+noted_in y xs = elim (list_any (bytes_eq y) xs) as (λ b. list_any (bytes_eq y) xs ≡ b → is_in y (cond b xs (xs ++ y ∷ [])) ≡ true)
+    [ true ↦ λ e. e | false ↦ λ _. in_last y xs ] refl
 
 stays_in : (x : List ℕ) (xs ys : List (List ℕ)) → is_in x xs ≡ true → is_in x (all_noted xs ys) ≡ true
 stays_in x xs [] e = e
@@ -48,17 +49,19 @@ all_in x xs (y ∷ ys) e = elim (or_cases (bytes_eq x y) (list_any (bytes_eq x) 
 -- noting a name once more is noting it last
 pub noted_again : (xs zs : List (List ℕ)) (y : List ℕ) → all_noted xs (noted zs y) ≡ noted (all_noted xs zs) y
 unfolding is_in
-noted_again xs zs y = elim (list_any (bytes_eq y) zs) as (λ b. list_any (bytes_eq y) zs ≡ b → all_noted xs (cond b zs (zs ++ y ∷ [])) ≡ noted (all_noted xs zs) y) [
-  | true ↦ λ e. sym (cond-true _ _ _ (all_in y xs zs e))
-  | false ↦ λ _. fold-append noted xs zs (y ∷ [])
-] refl
+noted_again xs zs y = elim (list_any (bytes_eq y) zs) as (λ b. list_any (bytes_eq y) zs ≡ b → all_noted xs (cond b zs (zs ++ y ∷ []))
+    ≡ noted (all_noted xs zs) y) [
+      | true ↦ λ e. sym (cond-true _ _ _ (all_in y xs zs e))
+      | false ↦ λ _. fold-append noted xs zs (y ∷ [])
+    ] refl
 
 -- What was noted once already is noted as it stood.
 pub all_noted_again : (xs zs ys : List (List ℕ)) → all_noted xs (all_noted zs ys) ≡ all_noted (all_noted xs zs) ys
 all_noted_again xs zs [] = refl
 all_noted_again xs zs (y ∷ ys) = all_noted_again xs (noted zs y) ys ∙ ap (λ n. all_noted n ys) (noted_again xs zs y)
 
-joined : (xs : List (List ℕ)) (ts : List (List ℕ)) → all_noted xs (flat_map (λ names. names) (map names_in ts)) ≡ all_noted xs (flat_map (λ t. map bare_name (taken t)) ts)
+joined : (xs : List (List ℕ)) (ts : List (List ℕ)) → all_noted xs (flat_map (λ names. names) (map names_in ts))
+    ≡ all_noted xs (flat_map (λ t. map bare_name (taken t)) ts)
 joined xs [] = refl
 joined xs (t ∷ ts) =
     let here = map bare_name (taken t) in

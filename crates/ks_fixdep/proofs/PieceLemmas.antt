@@ -21,7 +21,8 @@ use Rattle.ks_fixdep.proofs.CutLemmas.{taken-cut, taken_after-cut}
 -- ---- a text that is one word
 
 pub whole-run : (w : List ℕ) → list_all is_word_byte w ≡ true → take_while is_word_byte w ≡ w
-whole-run w all = sym (word-is w (length w) (le_refl (length w)) (λ k below. AllPass-from_list_all is_word_byte w all k 0 below) (λ past. absurd (omega arith))) ∙ take_all (length w) w (le_refl (length w))
+whole-run w all = sym (word-is w (length w) (le_refl (length w)) (λ k below. AllPass-from_list_all is_word_byte w all k 0 below)
+    (λ past. absurd (omega arith))) ∙ take_all (length w) w (le_refl (length w))
 
 pub all-drop : (w : List ℕ) (n : ℕ) → list_all is_word_byte w ≡ true → list_all is_word_byte (drop n w) ≡ true
 all-drop w zero all = all
@@ -51,7 +52,8 @@ first-name w all =
     ⊎_elim
     (λ same.
     let equal : take 7 w ≡ prefix = (bytes_eq-Decides (take 7 w) prefix).0 same in
-    let size : 7 ≤ length w = ⊎_elim (λ short. absurd (omega (arith, ap length (sym (take_all 7 w (omega arith)) ∙ equal)))) (λ fits. fits) (cases_lt (length w) 7) in
+    let size : 7 ≤ length w = ⊎_elim (λ short. absurd (omega (arith, ap length (sym (take_all 7 w (omega arith)) ∙ equal)))) (λ fits. fits)
+    (cases_lt (length w) 7) in
     absurd (false≢true (sym other ∙ and_from _ _ (le-leb 7 (length w) size) same)))
     (λ e. e)
     (cases_Bool (bytes_eq (take 7 w) prefix)) in
@@ -108,7 +110,8 @@ whole-passes p whole =
     let size = length-take-le n p (prefix_len-le-length is_word_byte p) in
     take_all n p (omega (arith, size, whole))
 
-pub word-piece : (p : List ℕ) → list_all is_word_byte (take_while is_word_byte p) ≡ true → length (take_while is_word_byte p) ≡ length p → list_all is_word_byte p ≡ true
+pub word-piece : (p : List ℕ) → list_all is_word_byte (take_while is_word_byte p) ≡ true → length (take_while is_word_byte p) ≡ length p
+    → list_all is_word_byte p ≡ true
 word-piece p all whole = ap (list_all is_word_byte) (sym (whole-passes p whole)) ∙ all
 
 before-same : (t p : List ℕ) → list_all is_word_byte p ≡ true → before_last_word (t ++ p) ≡ before_last_word t
@@ -124,12 +127,14 @@ pub kept-word : (t p : List ℕ) → list_all is_word_byte p ≡ true → length
 kept-word t p all = within-lengthened (last_word t) p ∙ ap within (sym (last_word-append t p all))
 
 -- what `feed` does with a piece of word bytes: nothing is lent
-pub word-kept : (t p head : List ℕ) → head ≡ take_while is_word_byte p → list_all is_word_byte head ≡ true → length head ≡ length p → lengthened (kept t) head ≡ kept (t ++ p)
+pub word-kept : (t p head : List ℕ) → head ≡ take_while is_word_byte p → list_all is_word_byte head ≡ true → length head ≡ length p → lengthened (kept t) head
+    ≡ kept (t ++ p)
 word-kept t p head is all whole =
     let same : head ≡ p = is ∙ whole-passes p (ap length (sym is) ∙ whole) in
     ap (lengthened (kept t)) same ∙ kept-word t p (ap (list_all is_word_byte) (sym same) ∙ all)
 
-pub word-lends : (t p head : List ℕ) → head ≡ take_while is_word_byte p → list_all is_word_byte head ≡ true → length head ≡ length p → ended (t ++ p) ≡ ended t ++ [] ++ map (further (length t)) (taken_after p (length p))
+pub word-lends : (t p head : List ℕ) → head ≡ take_while is_word_byte p → list_all is_word_byte head ≡ true → length head ≡ length p → ended (t ++ p)
+    ≡ ended t ++ [] ++ map (further (length t)) (taken_after p (length p))
 word-lends t p head is all whole =
     let same : head ≡ p = is ∙ whole-passes p (ap length (sym is) ∙ whole) in
     ended-word t p (ap (list_all is_word_byte) (sym same) ∙ all)
@@ -215,19 +220,22 @@ module _ (t p : List ℕ) (short : length (take_while is_word_byte p) < length p
   mid_stops =
       let same : get_or p q 0 ≡ get_or (before_last_word p) q 0 =
       ap (λ l. get_or l q 0) (sym (split-last_word p)) ∙ get_or_append_left (before_last_word p) (last_word p) 0 q q_before in
-      ap is_word_byte (get_or-drop q (before_last_word p) 0 0 ∙ (let place : q + 0 ≡ q = omega arith in ap (λ k. get_or (before_last_word p) k 0) place) ∙ sym same) ∙ q_stops
+      ap is_word_byte (get_or-drop q (before_last_word p) 0 0 ∙ (let place : q + 0 ≡ q = omega arith in ap (λ k. get_or (before_last_word p) k 0) place) ∙ sym
+      same) ∙ q_stops
 
   word_passes : list_all is_word_byte (last_word t ++ head) ≡ true
   word_passes = list_all-append is_word_byte (last_word t) head ∙ and_from _ _ (last_word-passes t) (word-passes p)
 
-  pub fed-names : map (further (length t)) (taken_after (before_last_word p) (length head)) ≡ map (further (length (before_last_word t))) (map (further (length (last_word t ++ head))) (taken mid))
+  pub fed-names : map (further (length t)) (taken_after (before_last_word p) (length head))
+      ≡ map (further (length (before_last_word t))) (map (further (length (last_word t ++ head))) (taken mid))
   fed-names =
       let sizes : length t + length head ≡ length (before_last_word t) + length (last_word t ++ head) =
       omega (arith, length-before_last_word t, length-append (last_word t) head) in
       ap (map (further (length t))) (ap (λ l. taken_after l (length head)) (sym body_is) ∙ taken_after-cut head mid (inr mid_stops))
       ∙ map-further (length t) (length head) (length (before_last_word t)) (length (last_word t ++ head)) sizes (taken mid)
 
-  pub ended-piece : ended (t ++ p) ≡ ended t ++ carried_at (length (before_last_word t)) (kept_name (lengthened (kept t) head)) ++ map (further (length t)) (taken_after (before_last_word p) (length head))
+  pub ended-piece : ended (t ++ p) ≡ ended t ++ carried_at (length (before_last_word t)) (kept_name (lengthened (kept t) head))
+      ++ map (further (length t)) (taken_after (before_last_word p) (length head))
   ended-piece =
       let u = before_last_word t in
       let wh = last_word t ++ head in
@@ -246,13 +254,16 @@ module _ (t p : List ℕ) (short : length (take_while is_word_byte p) < length p
       ∙ ap (λ l. taken u ++ l) (map-append (further (length u)) (taken wh) (map (further (length wh)) (taken mid)))
       ∙ ap (λ l. taken u ++ (l ++ map (further (length u)) (map (further (length wh)) (taken mid)))) word_part
       ∙ ap (λ l. taken u ++ (carried_at (length u) (kept_name (lengthened (kept t) head)) ++ l)) (sym fed-names)
-      ∙ sym (append_assoc (taken u) (carried_at (length u) (kept_name (lengthened (kept t) head))) (map (further (length t)) (taken_after (before_last_word p) (length head))))
+      ∙ sym (append_assoc (taken u) (carried_at (length u) (kept_name (lengthened (kept t) head)))
+      (map (further (length t)) (taken_after (before_last_word p) (length head))))
 
 -- what `feed` does with any other piece
-pub piece-kept : (t p head tail : List ℕ) → head ≡ take_while is_word_byte p → length head < length p → tail ≡ last_word p → lengthened (Some []) tail ≡ kept (t ++ p)
+pub piece-kept : (t p head tail : List ℕ) → head ≡ take_while is_word_byte p → length head < length p → tail ≡ last_word p → lengthened (Some []) tail
+    ≡ kept (t ++ p)
 piece-kept t p head tail is short last = ap within last ∙ kept-fresh t p (omega (arith, short, ap length is))
 
-pub piece-fits : (p head tail : List ℕ) → head ≡ take_while is_word_byte p → length head < length p → tail ≡ last_word p → length head ≤ length (take (length p - length tail) p)
+pub piece-fits : (p head tail : List ℕ) → head ≡ take_while is_word_byte p → length head < length p → tail ≡ last_word p
+    → length head ≤ length (take (length p - length tail) p)
 piece-fits p head tail is short last =
     let less : length (take_while is_word_byte p) < length p = omega (arith, short, ap length is) in
     let inside = q_before p p less in
@@ -261,8 +272,11 @@ piece-fits p head tail is short last =
     omega (arith, ap length same, ap length is, inside, size)
 
 pub piece-lends : (t p head tail : List ℕ) → head ≡ take_while is_word_byte p → length head < length p → tail ≡ last_word p
-    → ended (t ++ p) ≡ ended t ++ carried_at (length (before_last_word t)) (kept_name (lengthened (kept t) head)) ++ map (further (length t)) (taken_after (take (length p - length tail) p) (length head))
+    → ended (t ++ p) ≡ ended t ++ carried_at (length (before_last_word t)) (kept_name (lengthened (kept t) head))
+    ++ map (further (length t)) (taken_after (take (length p - length tail) p) (length head))
 piece-lends t p head tail is short last =
     ended-piece t p (omega (arith, short, ap length is))
-    ∙ ap (λ w. ended t ++ carried_at (length (before_last_word t)) (kept_name (lengthened (kept t) (take_while is_word_byte p))) ++ map (further (length t)) (taken_after (take (length p - length w) p) (length (take_while is_word_byte p)))) (sym last)
-    ∙ ap (λ h. ended t ++ carried_at (length (before_last_word t)) (kept_name (lengthened (kept t) h)) ++ map (further (length t)) (taken_after (take (length p - length tail) p) (length h))) (sym is)
+    ∙ ap (λ w. ended t ++ carried_at (length (before_last_word t)) (kept_name (lengthened (kept t) (take_while is_word_byte p)))
+    ++ map (further (length t)) (taken_after (take (length p - length w) p) (length (take_while is_word_byte p)))) (sym last)
+    ∙ ap (λ h. ended t ++ carried_at (length (before_last_word t)) (kept_name (lengthened (kept t) h))
+    ++ map (further (length t)) (taken_after (take (length p - length tail) p) (length h))) (sym is)

@@ -25,10 +25,11 @@ placed-is i (Some name) x e =
 
 pub taken_at-is : (t : List ℕ) (i : ℕ) (x : NameAt) → taken_at t i ≡ Some x → (is_place t i ≡ true) × (x.place ≡ i) × (name_of (run_at t (i + 7)) ≡ Some x.name)
 unfolding taken_at
-taken_at-is t i x e = (elim (is_place t i) as (λ b. is_place t i ≡ b → (if b then placed i (name_of (run_at t (i + 7))) else None) ≡ Some x → (is_place t i ≡ true) × (x.place ≡ i) × (name_of (run_at t (i + 7)) ≡ Some x.name)) [
-  | true ↦ λ is same. let parts = placed-is i (name_of (run_at t (i + 7))) x same in (is, parts.0, parts.1)
-  | false ↦ λ is same. absurd cc
-]) refl e
+taken_at-is t i x e = (elim (is_place t i) as (λ b. is_place t i ≡ b → (if b then placed i (name_of (run_at t (i + 7))) else None) ≡ Some x
+    → (is_place t i ≡ true) × (x.place ≡ i) × (name_of (run_at t (i + 7)) ≡ Some x.name)) [
+      | true ↦ λ is same. let parts = placed-is i (name_of (run_at t (i + 7))) x same in (is, parts.0, parts.1)
+      | false ↦ λ is same. absurd cc
+    ]) refl e
 
 name_of-is : (run x : List ℕ) → name_of run ≡ Some x → x ≡ less run
 unfolding name_of
@@ -42,10 +43,12 @@ not-true false e = refl
 not-true true e = absurd cc
 
 begins-is : (t : List ℕ) (i : ℕ) → begins_word t i ≡ true → (i ≡ 0) ⊎ (is_word_byte (get_or t (i - 1) 0) ≡ false)
-begins-is t i e = ⊎_elim (λ first. inl (eqb-true i 0 first)) (λ other. inr (not-true (is_word_byte (get_or t (i - 1) 0)) other)) (or_cases (i == 0) (not (is_word_byte (get_or t (i - 1) 0))) e)
+begins-is t i e = ⊎_elim (λ first. inl (eqb-true i 0 first)) (λ other. inr (not-true (is_word_byte (get_or t (i - 1) 0)) other))
+    (or_cases (i == 0) (not (is_word_byte (get_or t (i - 1) 0))) e)
 
 begins-from : (t : List ℕ) (i : ℕ) → (i ≡ 0) ⊎ (is_word_byte (get_or t (i - 1) 0) ≡ false) → begins_word t i ≡ true
-begins-from t i e = ⊎_elim (λ first. or_left (i == 0) (not (is_word_byte (get_or t (i - 1) 0))) (eq-eqb i 0 first)) (λ other. or_right (i == 0) (not (is_word_byte (get_or t (i - 1) 0))) (ap not other)) e
+begins-from t i e = ⊎_elim (λ first. or_left (i == 0) (not (is_word_byte (get_or t (i - 1) 0))) (eq-eqb i 0 first))
+    (λ other. or_right (i == 0) (not (is_word_byte (get_or t (i - 1) 0))) (ap not other)) e
 
 past-end : (t : List ℕ) (k : ℕ) → length t ≤ k → get_or t k 0 ≡ 0
 past-end [] k le = refl
@@ -161,17 +164,19 @@ places xs = map (λ x. x.place) xs
 first-place : (t : List ℕ) (n i : ℕ) → 0 < length (places (taken_from t i n)) → i ≤ get_or (places (taken_from t i n)) 0 0
 unfolding taken_from places
 first-place t zero i some = absurd (omega (arith, some))
-first-place t (suc n) i some = (elim (taken_at t i) as (λ o. taken_at t i ≡ o → 0 < length (places (cons_option o (taken_from t (i + 1) n))) → i ≤ get_or (places (cons_option o (taken_from t (i + 1) n))) 0 0) [
-  | None ↦ λ _ more. let later = first-place t n (i + 1) more in omega (arith, later)
-  | (Some y) ↦ λ is _. let place = (taken_at-is t i y is).1 in omega (arith, place)
-]) refl some
+first-place t (suc n) i some = (elim (taken_at t i) as (λ o. taken_at t i ≡ o → 0 < length (places (cons_option o (taken_from t (i + 1) n)))
+    → i ≤ get_or (places (cons_option o (taken_from t (i + 1) n))) 0 0) [
+      | None ↦ λ _ more. let later = first-place t n (i + 1) more in omega (arith, later)
+      | (Some y) ↦ λ is _. let place = (taken_at-is t i y is).1 in omega (arith, place)
+    ]) refl some
 
 rising-from : (t : List ℕ) (n i : ℕ) → IsStrictlyIncreasing (places (taken_from t i n))
 unfolding taken_from places
 rising-from t zero i = λ k below. absurd (omega (arith, below))
 rising-from t (suc n) i = (elim (taken_at t i) as (λ o. taken_at t i ≡ o → IsStrictlyIncreasing (places (cons_option o (taken_from t (i + 1) n)))) [
   | None ↦ λ _. rising-from t n (i + 1)
-  | (Some y) ↦ λ is. rising-cons y.place (places (taken_from t (i + 1) n)) (λ more. let later = first-place t n (i + 1) more in let place = (taken_at-is t i y is).1 in omega (arith, later, place)) (rising-from t n (i + 1))
+  | (Some y) ↦ λ is. rising-cons y.place (places (taken_from t (i + 1) n)) (λ more. let later = first-place t n (i + 1) more in let place
+      = (taken_at-is t i y is).1 in omega (arith, later, place)) (rising-from t n (i + 1))
 ]) refl
 
 -- What is listed of a text is what is taken of it, by rising place.

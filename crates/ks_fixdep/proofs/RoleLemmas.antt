@@ -29,12 +29,14 @@ with_roles-push before [] x = ap (λ b. entry_of b x) (sym (append-nil before))
 with_roles-push before (y ∷ xs) x =
     let later = with_roles-push (before ++ y ∷ []) xs x ∙ ap (λ b. with_roles (before ++ y ∷ []) xs ++ entry_of b x) (append_assoc before (y ∷ []) xs) in
     let r = role_after before in
-    elim (is_kept y) as (λ v. (if v then (y, r) ∷ with_roles (before ++ y ∷ []) (xs ++ x ∷ []) else with_roles (before ++ y ∷ []) (xs ++ x ∷ [])) ≡ (if v then (y, r) ∷ with_roles (before ++ y ∷ []) xs else with_roles (before ++ y ∷ []) xs) ++ entry_of (before ++ y ∷ xs) x) [
+    elim (is_kept y) as (λ v. (if v then (y, r) ∷ with_roles (before ++ y ∷ []) (xs ++ x ∷ []) else with_roles (before ++ y ∷ []) (xs ++ x ∷ []))
+    ≡ (if v then (y, r) ∷ with_roles (before ++ y ∷ []) xs else with_roles (before ++ y ∷ []) xs) ++ entry_of (before ++ y ∷ xs) x) [
       | true ↦ ap (λ l. (y, r) ∷ l) later
       | false ↦ later
     ]
 
-pub after_last-push : (xs : List (List ℕ)) (x : List ℕ) → after_last is_target_token (xs ++ x ∷ []) ≡ (if is_target_token x then [] else after_last is_target_token xs ++ x ∷ [])
+pub after_last-push : (xs : List (List ℕ)) (x : List ℕ) → after_last is_target_token (xs ++ x ∷ [])
+    ≡ (if is_target_token x then [] else after_last is_target_token xs ++ x ∷ [])
 after_last-push xs x =
     let p = λ (y : List ℕ). not (is_target_token y) in
     let turned : reverse (xs ++ x ∷ []) ≡ x ∷ reverse xs = reverse-append xs (x ∷ []) in
@@ -79,10 +81,13 @@ module _ (seen : List (List ℕ)) (x : List ℕ) where
   pub since-target : is_target_token x ≡ true → list_any is_kept (after_last is_target_token (seen ++ x ∷ [])) ≡ false
   since-target target = ap (list_any is_kept) (after_last-push seen x ∙ cond-true _ _ _ target)
 
-  since-other : is_target_token x ≡ false → list_any is_kept (after_last is_target_token (seen ++ x ∷ [])) ≡ (list_any is_kept (after_last is_target_token seen) || (is_kept x || false))
-  since-other other = ap (list_any is_kept) (after_last-push seen x ∙ cond-false _ _ _ other) ∙ list_any-append is_kept (after_last is_target_token seen) (x ∷ [])
+  since-other : is_target_token x ≡ false → list_any is_kept (after_last is_target_token (seen ++ x ∷ []))
+      ≡ (list_any is_kept (after_last is_target_token seen) || (is_kept x || false))
+  since-other other = ap (list_any is_kept) (after_last-push seen x ∙ cond-false _ _ _ other) ∙ list_any-append is_kept (after_last is_target_token seen)
+      (x ∷ [])
 
-  pub since-no : is_target_token x ≡ false → is_kept x ≡ false → list_any is_kept (after_last is_target_token (seen ++ x ∷ [])) ≡ list_any is_kept (after_last is_target_token seen)
+  pub since-no : is_target_token x ≡ false → is_kept x ≡ false → list_any is_kept (after_last is_target_token (seen ++ x ∷ []))
+      ≡ list_any is_kept (after_last is_target_token seen)
   since-no other not_kept = since-other other ∙ or-false (list_any is_kept (after_last is_target_token seen)) (is_kept x) not_kept
 
   pub since-yes : is_target_token x ≡ false → is_kept x ≡ true → list_any is_kept (after_last is_target_token (seen ++ x ∷ [])) ≡ true
@@ -107,12 +112,15 @@ kept-when x h other is = ap (λ t. not t && not (ends_with nat_eq x header_path)
 -- ---- refusals
 
 -- the faults of the tokens seen, of one more, and of the rest
-pub faults-split : (before xs : List (List ℕ)) (x : List ℕ) (ys : List (List ℕ)) → first_fault before (xs ++ x ∷ ys) ≡ or_else (first_fault before xs) (or_else (fault_after (before ++ xs) x) (first_fault ((before ++ xs) ++ x ∷ []) ys))
+pub faults-split : (before xs : List (List ℕ)) (x : List ℕ) (ys : List (List ℕ)) → first_fault before (xs ++ x ∷ ys)
+    ≡ or_else (first_fault before xs) (or_else (fault_after (before ++ xs) x) (first_fault ((before ++ xs) ++ x ∷ []) ys))
 faults-split before [] x ys = ap (λ b. or_else (fault_after b x) (first_fault (b ++ x ∷ []) ys)) (sym (append-nil before))
 faults-split before (z ∷ xs) x ys =
     ap (or_else (fault_after before z)) (faults-split (before ++ z ∷ []) xs x ys)
-    ∙ or-assoc (fault_after before z) (first_fault (before ++ z ∷ []) xs) (or_else (fault_after ((before ++ z ∷ []) ++ xs) x) (first_fault (((before ++ z ∷ []) ++ xs) ++ x ∷ []) ys))
-    ∙ ap (λ b. or_else (or_else (fault_after before z) (first_fault (before ++ z ∷ []) xs)) (or_else (fault_after b x) (first_fault (b ++ x ∷ []) ys))) (append_assoc before (z ∷ []) xs)
+    ∙ or-assoc (fault_after before z) (first_fault (before ++ z ∷ []) xs)
+    (or_else (fault_after ((before ++ z ∷ []) ++ xs) x) (first_fault (((before ++ z ∷ []) ++ xs) ++ x ∷ []) ys))
+    ∙ ap (λ b. or_else (or_else (fault_after before z) (first_fault (before ++ z ∷ []) xs)) (or_else (fault_after b x) (first_fault (b ++ x ∷ []) ys)))
+    (append_assoc before (z ∷ []) xs)
   where
     or-assoc : (a b c : Option DepError) → or_else a (or_else b c) ≡ or_else (or_else a b) c
     or-assoc None b c = refl
@@ -121,8 +129,10 @@ faults-split before (z ∷ xs) x ys =
 pub faults-fit : (seen : List (List ℕ)) (x : List ℕ) → first_fault [] seen ≡ None → fault_after seen x ≡ None → first_fault [] (seen ++ x ∷ []) ≡ None
 faults-fit seen x none fits = faults-split [] seen x [] ∙ ap (λ a. or_else a (or_else (fault_after seen x) None)) none ∙ ap (λ b. or_else b None) fits
 
-faults-first : (seen : List (List ℕ)) (x : List ℕ) (ys : List (List ℕ)) (e : DepError) → first_fault [] seen ≡ None → fault_after seen x ≡ Some e → first_fault [] (seen ++ x ∷ ys) ≡ Some e
-faults-first seen x ys e none fault = faults-split [] seen x ys ∙ ap (λ a. or_else a (or_else (fault_after seen x) (first_fault (seen ++ x ∷ []) ys))) none ∙ ap (λ b. or_else b (first_fault (seen ++ x ∷ []) ys)) fault
+faults-first : (seen : List (List ℕ)) (x : List ℕ) (ys : List (List ℕ)) (e : DepError) → first_fault [] seen ≡ None → fault_after seen x ≡ Some e
+    → first_fault [] (seen ++ x ∷ ys) ≡ Some e
+faults-first seen x ys e none fault = faults-split [] seen x ys ∙ ap (λ a. or_else a (or_else (fault_after seen x) (first_fault (seen ++ x ∷ []) ys))) none ∙
+    ap (λ b. or_else b (first_fault (seen ++ x ∷ []) ys)) fault
 
 first-is : (ts : List (List ℕ)) (e : DepError) → first_fault [] ts ≡ Some e → token_refusal ts ≡ Some e
 unfolding token_refusal
@@ -136,37 +146,50 @@ refused-through e ts seen x ys is none (inr says) = inr (first-is ts e (ap (firs
 
 pub none-kept : (ts : List (List ℕ)) → first_fault [] ts ≡ None → list_any is_kept ts ≡ false → token_refusal ts ≡ Some errors.NoTarget
 unfolding token_refusal
-none-kept ts none kept = ap (λ o. or_else o (if list_any is_kept ts then None else Some errors.NoTarget)) none ∙ ap (λ b. if b then None else Some errors.NoTarget) kept
+none-kept ts none kept = ap (λ o. or_else o (if list_any is_kept ts then None else Some errors.NoTarget)) none ∙ ap
+    (λ b. if b then None else Some errors.NoTarget) kept
 
 pub some-kept : (ts : List (List ℕ)) → first_fault [] ts ≡ None → list_any is_kept ts ≡ true → token_refusal ts ≡ None
 unfolding token_refusal
-some-kept ts none kept = ap (λ o. or_else o (if list_any is_kept ts then None else Some errors.NoTarget)) none ∙ ap (λ b. if b then None else Some errors.NoTarget) kept
+some-kept ts none kept = ap (λ o. or_else o (if list_any is_kept ts then None else Some errors.NoTarget)) none ∙ ap
+    (λ b. if b then None else Some errors.NoTarget) kept
 
 -- ---- a call that answers another call's refusal
 
-pub refused-err : {X : Type 0} (r : Result X DepError) (e : DepError) (refusal : Option DepError) → IsErr r → IsErrAnd r (λ y. y ≡ e) → IsRefusal errors.OutOfMemory e refusal → RefusedBy errors.OutOfMemory r refusal
+pub refused-err : {X : Type 0} (r : Result X DepError) (e : DepError) (refusal : Option DepError) → IsErr r → IsErrAnd r (λ y. y ≡ e)
+    → IsRefusal errors.OutOfMemory e refusal → RefusedBy errors.OutOfMemory r refusal
 refused-err (Ok x) e refusal err same says = absurd cc
 refused-err (Err y) e refusal err same says = subst (λ z. IsRefusal errors.OutOfMemory z refusal) (sym same) says
 
 -- ---- what is noted of legal paths
 
 -- prerequisites stay legal with one more, and then there is one
-pub legal-added : (ps : List (List ℕ × Role)) (path : List ℕ) (r : Role) → list_all (λ p. is_path p.0) ps ≡ true → is_path path ≡ true → list_all (λ p. is_path p.0) (added ps (path, r)) ≡ true
-legal-added ps path r all legal = elim (list_any (λ x. bytes_eq path x.0) ps) as (λ b. list_all (λ p. is_path p.0) (if b then ps else ps ++ (path, r) ∷ []) ≡ true) [
-  | true ↦ all
-  | false ↦ list_all-append (λ p. is_path p.0) ps ((path, r) ∷ []) ∙ and_from _ _ all (and_from _ _ legal refl)
-]
+pub legal-added : (ps : List (List ℕ × Role)) (path : List ℕ) (r : Role) → list_all (λ p. is_path p.0) ps ≡ true → is_path path ≡ true
+    → list_all (λ p. is_path p.0) (added ps (path, r)) ≡ true
+legal-added ps path r all legal = elim (list_any (λ x. bytes_eq path x.0) ps) as (λ b. list_all (λ p. is_path p.0) (if b then ps else ps ++ (path, r) ∷ [])
+    ≡ true) [
+      | true ↦ all
+      | false ↦ list_all-append (λ p. is_path p.0) ps ((path, r) ∷ []) ∙ and_from _ _ all (and_from _ _ legal refl)
+    ]
 
 pub some-added : (ps : List (List ℕ × Role)) (p : List ℕ × Role) → 0 < length (added ps p)
 some-added [] p = omega arith
-some-added (q ∷ ps) p = elim (list_any (λ x. bytes_eq p.0 x.0) (q ∷ ps)) as (λ b. 0 < length (if b then q ∷ ps else (q ∷ ps) ++ p ∷ [])) [ true ↦ omega arith | false ↦ omega arith ]
+some-added (q ∷ ps) p = elim (list_any (λ x. bytes_eq p.0 x.0) (q ∷ ps)) as (λ b. 0 < length (if b then q ∷ ps else (q ∷ ps) ++ p ∷ []))
+    [ true ↦ omega arith | false ↦ omega arith ]
 
 -- ---- the whole
 
 pub tokens-length : (d : List ℕ) → length (tokens d) ≤ length d + 1
 unfolding tokens
-tokens-length d = omega (arith, length-filter is_some_token (slice_split is_separator d), count_by-le-length is_some_token (slice_split is_separator d), length-slice_split is_separator d, count_by-le-length is_separator d)
+tokens-length d = omega (
+  arith,
+  length-filter is_some_token (slice_split is_separator d),
+  count_by-le-length is_some_token (slice_split is_separator d),
+  length-slice_split is_separator d,
+  count_by-le-length is_separator d,
+)
 
 -- a list, parted at a place
 pub parted : (all : List (List ℕ)) (n : ℕ) (x : List ℕ) → n < length all → x ≡ get_or all n x → all ≡ take n all ++ x ∷ drop (suc n) all
-parted all n x below is = sym (take-append-drop n all) ∙ ap (λ l. take n all ++ l) (drop-cons all n x below) ∙ ap (λ y. take n all ++ y ∷ drop (suc n) all) (sym is)
+parted all n x below is = sym (take-append-drop n all) ∙ ap (λ l. take n all ++ l) (drop-cons all n x below) ∙ ap (λ y. take n all ++ y ∷ drop (suc n) all)
+    (sym is)

@@ -68,7 +68,8 @@ pub taken_after-jump : (t : List ℕ) (i j : ℕ) → i ≤ j → j ≤ length t
 taken_after-jump t i j le end none =
     let count : length t - i ≡ (j - i) + (length t - j) = omega arith in
     let place : i + (j - i) ≡ j = omega arith in
-    ap (taken_from t i) count ∙ taken_from-jump t i (j - i) (length t - j) (λ k low high. none k low (omega arith)) ∙ ap (λ k. taken_from t k (length t - j)) place
+    ap (taken_from t i) count ∙ taken_from-jump t i (j - i) (length t - j) (λ k low high. none k low (omega arith)) ∙ ap (λ k. taken_from t k (length t - j))
+    place
 
 pub taken_after-end : (t : List ℕ) → taken_after t (length t) ≡ []
 taken_after-end t = let zero_left : length t - length t ≡ 0 = omega arith in ap (taken_from t (length t)) zero_left ∙ taken_from-zero t (length t)
@@ -77,7 +78,8 @@ taken_after-end t = let zero_left : length t - length t ≡ 0 = omega arith in a
 pub OccursAt-drop : (t : List ℕ) (i k : ℕ) → i ≤ length t → OccursAt (drop i t) prefix k → OccursAt t prefix (i + k)
 OccursAt-drop t i k le stands = record {
   fits = omega (arith, stands.fits, length-drop i t);
-  reads = λ j below. (let place : i + k + j ≡ i + (k + j) = omega arith in ap (λ p. get_or t p 0) place) ∙ sym (get_or-drop i t (k + j) 0) ∙ stands.reads j below;
+  reads = λ j below. (let place : i + k + j ≡ i + (k + j) = omega arith in ap (λ p. get_or t p 0) place) ∙ sym (get_or-drop i t (k + j) 0) ∙ stands.reads j
+      below;
 }
 
 pub OccursAt-undrop : (t : List ℕ) (i k : ℕ) → i ≤ k → k ≤ length t → OccursAt t prefix k → OccursAt (drop i t) prefix (k - i)
@@ -124,17 +126,20 @@ word-inside t i k stands low high =
 -- so no name begins inside them
 pub inside-none : (t : List ℕ) (i k : ℕ) → OccursAt t prefix i → i < k → k ≤ i + 7 + length (run_at t (i + 7)) → begins_word t k ≡ false
 inside-none t i k stands low high =
-    not-begins (k == 0) (is_word_byte (get_or t (k - 1) 0)) (ne_eqb k 0 (λ none. absurd (omega arith))) (word-inside t i (k - 1) stands (omega arith) (omega arith))
+    not-begins (k == 0) (is_word_byte (get_or t (k - 1) 0)) (ne_eqb k 0 (λ none. absurd (omega arith)))
+    (word-inside t i (k - 1) stands (omega arith) (omega arith))
 
 -- where the search finds nothing more
 pub taken_after-nowhere : (t : List ℕ) (i : ℕ) → i ≤ length t → Nowhere (OccursAt (drop i t) prefix) 0 (length (drop i t) + 1) → taken_after t i ≡ []
 taken_after-nowhere t i le nowhere =
     taken_after-jump t i (length t) le (omega arith)
-    (λ k low high. taken_at-none t k (λ stands _. nowhere (k - i) (omega arith) (omega (arith, length-drop i t)) (OccursAt-undrop t i k low (omega arith) stands)))
+    (λ k low high. taken_at-none t k (λ stands _. nowhere (k - i) (omega arith) (omega (arith, length-drop i t))
+    (OccursAt-undrop t i k low (omega arith) stands)))
     ∙ taken_after-end t
 
 -- where the search finds the next occurrence, and goes on behind its run
-pub taken_after-found : (t : List ℕ) (i k : ℕ) → i ≤ length t → NoneBefore (OccursAt (drop i t) prefix) 0 (length (drop i t) + 1) k → OccursAt (drop i t) prefix k
+pub taken_after-found : (t : List ℕ) (i k : ℕ) → i ≤ length t → NoneBefore (OccursAt (drop i t) prefix) 0 (length (drop i t) + 1) k
+    → OccursAt (drop i t) prefix k
     → taken_after t i ≡ cons_option (taken_at t (i + k)) (taken_after t (i + k + 7 + length (run_at t (i + k + 7))))
 taken_after-found t i k le first stands =
     let at = i + k in
@@ -157,13 +162,15 @@ taken_after-found t i k le first stands =
 pub rest-is : (t : List ℕ) (i : ℕ) → take (length t - i) (drop i t) ≡ drop i t
 rest-is t i = take_all _ _ (omega (arith, length-drop i t))
 
-pub found-in-rest : (t : List ℕ) (i k : ℕ) (r : Option ℕ) → FindsNeedle (take (length t - i) (drop i t)) prefix 0 r → r ≡ Some k → FindsNeedle (drop i t) prefix 0 (Some k)
+pub found-in-rest : (t : List ℕ) (i k : ℕ) (r : Option ℕ) → FindsNeedle (take (length t - i) (drop i t)) prefix 0 r → r ≡ Some k
+    → FindsNeedle (drop i t) prefix 0 (Some k)
 found-in-rest t i k r found is =
     let P : List ℕ → Type 0 = λ h. FindsNeedle h prefix 0 (Some k) in
     let R : Option ℕ → Type 0 = λ o. FindsNeedle (take (length t - i) (drop i t)) prefix 0 o in
     subst P (rest-is t i) (subst R is found)
 
-pub nowhere-in-rest : (t : List ℕ) (i : ℕ) (r : Option ℕ) → FindsNeedle (take (length t - i) (drop i t)) prefix 0 r → r ≡ None → FindsNeedle (drop i t) prefix 0 None
+pub nowhere-in-rest : (t : List ℕ) (i : ℕ) (r : Option ℕ) → FindsNeedle (take (length t - i) (drop i t)) prefix 0 r → r ≡ None
+    → FindsNeedle (drop i t) prefix 0 None
 nowhere-in-rest t i r found is =
     let P : List ℕ → Type 0 = λ h. FindsNeedle h prefix 0 None in
     let R : Option ℕ → Type 0 = λ o. FindsNeedle (take (length t - i) (drop i t)) prefix 0 o in
@@ -178,7 +185,8 @@ pub taken_after-turn : (t run : List ℕ) (i k : ℕ) → i ≤ length t → Fin
 taken_after-turn t run i k le found is =
     taken_after-found t i k le found.0 found.1 ∙ ap (λ r. cons_option (taken_at t (i + k)) (taken_after t (i + k + 7 + length r))) (sym is)
 
-pub run_in_text : (t run : List ℕ) (i k : ℕ) → i ≤ length t → FindsNeedle (drop i t) prefix 0 (Some k) → run ≡ run_at t (i + k + 7) → i + k + 7 + length run ≤ length t
+pub run_in_text : (t run : List ℕ) (i k : ℕ) → i ≤ length t → FindsNeedle (drop i t) prefix 0 (Some k) → run ≡ run_at t (i + k + 7) → i + k + 7
+    + length run ≤ length t
 run_in_text t run i k le found is =
     let here = OccursAt-drop t i k le found.1 in
     let fits = here.fits in
@@ -188,16 +196,19 @@ run_in_text t run i k le found is =
 
 -- ---- legal names
 
-legal-placed : (i : ℕ) (o : Option (List ℕ)) (xs : List NameAt) → ((x : List ℕ) → o ≡ Some x → is_name x ≡ true) → list_all (λ x. is_name x.name) xs ≡ true → list_all (λ x. is_name x.name) (cons_option (placed i o) xs) ≡ true
+legal-placed : (i : ℕ) (o : Option (List ℕ)) (xs : List NameAt) → ((x : List ℕ) → o ≡ Some x → is_name x ≡ true) → list_all (λ x. is_name x.name) xs ≡ true
+    → list_all (λ x. is_name x.name) (cons_option (placed i o) xs) ≡ true
 legal-placed i None xs legal rest = rest
 legal-placed i (Some x) xs legal rest = and_from _ _ (legal x refl) rest
 
-legal-taken_at : (t : List ℕ) (i : ℕ) (xs : List NameAt) → list_all (λ x. is_name x.name) xs ≡ true → list_all (λ x. is_name x.name) (cons_option (taken_at t i) xs) ≡ true
+legal-taken_at : (t : List ℕ) (i : ℕ) (xs : List NameAt) → list_all (λ x. is_name x.name) xs ≡ true
+    → list_all (λ x. is_name x.name) (cons_option (taken_at t i) xs) ≡ true
 unfolding taken_at
-legal-taken_at t i xs rest = elim (is_place t i) as (λ b. list_all (λ x. is_name x.name) (cons_option (if b then placed i (name_of (run_at t (i + 7))) else None) xs) ≡ true) [
-  | true ↦ legal-placed i (name_of (run_at t (i + 7))) xs (λ x is. name_of-legal (run_at t (i + 7)) x is) rest
-  | false ↦ rest
-]
+legal-taken_at t i xs rest = elim (is_place t i) as (λ b. list_all (λ x. is_name x.name)
+    (cons_option (if b then placed i (name_of (run_at t (i + 7))) else None) xs) ≡ true) [
+      | true ↦ legal-placed i (name_of (run_at t (i + 7))) xs (λ x is. name_of-legal (run_at t (i + 7)) x is) rest
+      | false ↦ rest
+    ]
 
 -- what is taken has legal names
 pub taken_from-legal : (t : List ℕ) (i n : ℕ) → list_all (λ x. is_name x.name) (taken_from t i n) ≡ true

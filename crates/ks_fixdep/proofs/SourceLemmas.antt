@@ -21,14 +21,16 @@ pub names_of-last : (ts : List (List ℕ)) (t : List ℕ) → names_of (map name
 names_of-last ts t = noted-last [] ts t
 
 -- and counted last
-counted-last : (before ts : List (List ℕ)) (t : List ℕ) → counts_after before (ts ++ t ∷ []) ≡ counts_after before ts ++ length (all_noted before (joined (ts ++ t ∷ []))) ∷ []
+counted-last : (before ts : List (List ℕ)) (t : List ℕ) → counts_after before (ts ++ t ∷ []) ≡ counts_after before ts
+    ++ length (all_noted before (joined (ts ++ t ∷ []))) ∷ []
 counted-last before [] t = ap (λ names. length (all_noted before names) ∷ []) (sym (append-nil (names_in t)))
 counted-last before (s ∷ ts) t =
     let all = all_noted before (names_in s) in
     ap (λ l. length all ∷ l) (counted-last all ts t)
     ∙ ap (λ names. length all ∷ (counts_after all ts ++ length names ∷ [])) (sym (fold-append noted before (names_in s) (joined (ts ++ t ∷ []))))
 
-pub counts-last : (ts : List (List ℕ)) (t : List ℕ) → counts_after [] (ts ++ t ∷ []) ≡ counts_after [] ts ++ length (names_of (map names_in (ts ++ t ∷ []))) ∷ []
+pub counts-last : (ts : List (List ℕ)) (t : List ℕ) → counts_after [] (ts ++ t ∷ []) ≡ counts_after [] ts ++ length (names_of (map names_in (ts ++ t ∷ [])))
+    ∷ []
 counts-last ts t = counted-last [] ts t
 
 -- there is a count for each text

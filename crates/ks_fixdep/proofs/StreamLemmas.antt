@@ -33,7 +33,8 @@ unfolding last_word
 last_word-more b t not_all = cond-false _ _ _ not_all
 
 -- word bytes at the end, behind a byte that is none
-pub last_word-is : (t : List ℕ) (n : ℕ) → n ≤ length t → list_all is_word_byte (drop n t) ≡ true → (0 < n → is_word_byte (get_or t (n - 1) 0) ≡ false) → last_word t ≡ drop n t
+pub last_word-is : (t : List ℕ) (n : ℕ) → n ≤ length t → list_all is_word_byte (drop n t) ≡ true → (0 < n → is_word_byte (get_or t (n - 1) 0) ≡ false)
+    → last_word t ≡ drop n t
 last_word-is t zero le all stop = last_word-all t all
 last_word-is [] (suc n) le all stop = absurd (omega arith)
 last_word-is (b ∷ t) (suc n) le all stop =
@@ -68,7 +69,8 @@ last_word-append (b ∷ t) p all =
 pub last_word-fresh : (t p : List ℕ) → list_all is_word_byte p ≡ false → last_word (t ++ p) ≡ last_word p
 last_word-fresh [] p not_all = refl
 last_word-fresh (b ∷ t) p not_all =
-    let part : list_all is_word_byte ((b ∷ t) ++ p) ≡ false = list_all-append is_word_byte (b ∷ t) p ∙ ap (λ x. list_all is_word_byte (b ∷ t) && x) not_all ∙ and-false (list_all is_word_byte (b ∷ t)) in
+    let part : list_all is_word_byte ((b ∷ t) ++ p) ≡ false = list_all-append is_word_byte (b ∷ t) p ∙ ap (λ x. list_all is_word_byte (b ∷ t) && x) not_all ∙
+    and-false (list_all is_word_byte (b ∷ t)) in
     last_word-more b (t ++ p) part ∙ last_word-fresh t p not_all
 
 -- the text is what stands before its last word, and that word

@@ -1,4 +1,5 @@
--- Which texts read as a command file: those with the lines of its layout, and behind them any that Kbuild appends. Among these the last generation counts. Rules of this project.
+-- Which texts read as a command file: those with the lines of its layout, and behind them any that Kbuild appends. Among these the last
+-- generation counts. Rules of this project.
 use Rattle.std.specs.Prelude.{◌≡◌, ◌<◌, ◌≤◌, ◌+◌, ◌-◌, ℕ, Bool, not, ◌||◌, IsTrue, List, ◌++◌, length, take, Option, map, is_some, option_and_then}
 use Rattle.std.specs.List.{list_all, filter_map}
 use Rattle.memchr.specs.Find.{last_of}

@@ -1,4 +1,5 @@
--- Dependency files, as compilers write them with -MD: their prerequisites and the roles of these. The cut into tokens, the roles and the refusals are rules of this project.
+-- Dependency files, as compilers write them with -MD: their prerequisites and the roles of these. The cut into tokens, the roles and the
+-- refusals are rules of this project.
 use Rattle.std.specs.Prelude.{◌+◌, ◌<◌, Option, Some, None, ℕ, Bool, ◌&&◌, not, nat_eq, nat_le, IsTrue, List, [], ◌∷◌, ◌++◌, if◌then◌else◌, codes, length, fold}
 use Rattle.std.specs.List.{list_all, list_any, ends_with, after_last}
 use Rattle.std.specs.Str.{bytes_eq}
@@ -23,7 +24,8 @@ header_path = codes "include/generated/autoconf.h"
 abbrev pub is_kept : List ℕ → Bool
 is_kept x = not (is_target_token x) && not (ends_with nat_eq x header_path)
 
--- The role of a kept token by the tokens before it: the first of the file is the source, the first behind a later target is scanned and not listed, all others are listed.
+-- The role of a kept token by the tokens before it: the first of the file is the source, the first behind a later target is scanned and not
+-- listed, all others are listed.
 abbrev pub role_after : List (List ℕ) → Role
 role_after before =
     if not (list_any is_kept before) then role.Source

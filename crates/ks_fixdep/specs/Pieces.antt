@@ -24,5 +24,6 @@ joined pieces = flat_map (λ p. p) pieces
 
 -- What is lent for the pieces in turn, and last at the end of the text, is what the joined text has.
 abbrev pub PiecesGiveTheWhole : Type 0
-PiecesGiveTheWhole = (pieces : List (List ℕ)) (lent : List (List NameAt)) (last : List NameAt) → LentInTurn [] pieces lent → taken (joined pieces) ≡ ended (joined pieces) ++ last
+PiecesGiveTheWhole = (pieces : List (List ℕ)) (lent : List (List NameAt)) (last : List NameAt) → LentInTurn [] pieces lent → taken (joined pieces)
+    ≡ ended (joined pieces) ++ last
     → flat_map (λ xs. xs) lent ++ last ≡ taken (joined pieces)

@@ -1,4 +1,5 @@
--- What is recorded of an object: its source, its listed files, and the names that each of its prerequisites has first (fixdep.c; that a name stands with its first prerequisite is a rule of this project).
+-- What is recorded of an object: its source, its listed files, and the names that each of its prerequisites has first (fixdep.c; that a
+-- name stands with its first prerequisite is a rule of this project).
 use Rattle.std.specs.Prelude.{ℕ, List, [], ◌∷◌, ◌++◌, map, filter, not, Option, None, Some, if◌then◌else◌}
 use Rattle.std.specs.List.{list_any}
 use Rattle.std.specs.Str.{bytes_eq}

@@ -33,14 +33,17 @@ pub fn names_of_all_sources()
 
 /// The dependency lines of a record name what all its sources name, each once and in that order.
 pub fn names_of_a_record()
-    ensures { (ps : List (List ℕ × Role)) (ts : List (List ℕ)) → length ps ≡ length ts → config_names (deps_after [] ps (map names_in ts)) ≡ names_of (map names_in ts) }
+    ensures { (ps : List (List ℕ × Role)) (ts : List (List ℕ)) → length ps ≡ length ts → config_names (deps_after [] ps (map names_in ts))
+        ≡ names_of (map names_in ts) }
 {}
 
 /// Names inside words and with suffixes, the roles of three rules, a fault, and the dependency lines of a small object.
 pub fn recording_examples()
     ensures names { map bare_name (taken (codes "HIS_CONFIG_A CONFIG_B_MODULE CONFIG_C_MODULE_MODULE")) ≡ codes "B" ∷ codes "C_MODULE" ∷ [] }
-    ensures roles { prerequisites (codes "x.o: x.c\ny.o: t.s\nz.o: t.s u.h") ≡ (codes "x.c", role.Source) ∷ (codes "t.s", role.Scanned) ∷ (codes "u.h", role.Listed) ∷ [] }
+    ensures roles { prerequisites (codes "x.o: x.c\ny.o: t.s\nz.o: t.s u.h") ≡ (codes "x.c", role.Source) ∷ (codes "t.s", role.Scanned)
+        ∷ (codes "u.h", role.Listed) ∷ [] }
     ensures fault { dependency_refusal (codes "x.o: x.c a$b.h") ≡ Some (errors.BadPath 3) }
-    ensures lines { deps_after [] ((codes "x.c", role.Source) ∷ (codes "a.h", role.Listed) ∷ (codes "b.h", role.Listed) ∷ []) ((codes "A" ∷ codes "B" ∷ []) ∷ (codes "B" ∷ codes "C" ∷ []) ∷ (codes "A" ∷ []) ∷ [])
+    ensures lines { deps_after [] ((codes "x.c", role.Source) ∷ (codes "a.h", role.Listed) ∷ (codes "b.h", role.Listed) ∷ [])
+        ((codes "A" ∷ codes "B" ∷ []) ∷ (codes "B" ∷ codes "C" ∷ []) ∷ (codes "A" ∷ []) ∷ [])
         ≡ Config (codes "A") ∷ Config (codes "B") ∷ File (codes "a.h") ∷ Config (codes "C") ∷ File (codes "b.h") ∷ [] }
 {}

@@ -64,7 +64,8 @@ impl SourceScan {
 
     /// Takes a whole source as the next one, of which the names are known.
     pub fn add_known(&mut self, known: &FoundNames) -> Result<(), AllocError>
-        ensures stands { (ts : List (List ℕ)) → (t : List ℕ) → StandsAfter self.old ts [] → known.now ≡ names_in t → OnOk result (StandsAfter self.new (ts ++ t ∷ []) []) }
+        ensures stands { (ts : List (List ℕ)) → (t : List ℕ) → StandsAfter self.old ts [] → known.now ≡ names_in t
+            → OnOk result (StandsAfter self.new (ts ++ t ∷ []) []) }
         ensures counts { OnOk result (length self.new.counts.items ≡ length self.old.counts.items + 1) }
     {
         note_known(&mut self.names, known)?;

@@ -105,7 +105,8 @@ less-module : (name : List ℕ) → less (name ++ module_end) ≡ name
 less-module name =
     let run = name ++ module_end in
     let place : length run - 7 ≡ length name = omega (arith, length-append name module_end) in
-    let ends : ends_with nat_eq run module_end ≡ true = ap (λ (k : ℕ). bytes_eq module_end (drop k run)) place ∙ ap (bytes_eq module_end) (drop_front name module_end) in
+    let ends : ends_with nat_eq run module_end ≡ true = ap (λ (k : ℕ). bytes_eq module_end (drop k run)) place ∙ ap (bytes_eq module_end)
+    (drop_front name module_end) in
     cond-true (ends_with nat_eq run module_end) _ _ ends ∙ ap (λ (k : ℕ). take k run) place ∙ take_front name module_end
 
 words : (name : List ℕ) → is_symbol_name name ≡ true → list_all is_word_byte name ≡ true
@@ -134,7 +135,8 @@ line_of name s = codes "#define CONFIG_" ++ name ++ defined_as s.0 s.1
 plain_line : (name : List ℕ) (s : Kind × List ℕ) → Defined name s → is_plain (line_of name s) ≡ true
 unfolding is_symbol_name
 plain_line name s h =
-    plain-append (codes "#define CONFIG_" ++ name) (defined_as s.0 s.1) (plain-append (codes "#define CONFIG_") name refl (plain_name name (and_parts _ _ h.0).0)) (plain_value s.0 s.1 h.1)
+    plain-append (codes "#define CONFIG_" ++ name) (defined_as s.0 s.1)
+    (plain-append (codes "#define CONFIG_") name refl (plain_name name (and_parts _ _ h.0).0)) (plain_value s.0 s.1 h.1)
 
 lines_of_entries : (es : List (List ℕ × (Kind × List ℕ))) → AllEntries Defined es → lf_lines (definition_lines es) ≡ map_list (λ e. line_of e.0 e.1) es
 lines_of_entries [] h = none_left
@@ -171,17 +173,20 @@ found (e ∷ es) x s h =
     ]
 
 -- the heading
-heading_lines : (title rest : List ℕ) → header_heading title ++ rest ≡ codes "/*" ++ 10 ∷ (codes " * Automatically generated file; DO NOT EDIT." ++ 10 ∷ ((codes " * " ++ title) ++ 10 ∷ (codes " */" ++ 10 ∷ rest)))
+heading_lines : (title rest : List ℕ) → header_heading title ++ rest ≡ codes "/*" ++ 10
+    ∷ (codes " * Automatically generated file; DO NOT EDIT." ++ 10 ∷ ((codes " * " ++ title) ++ 10 ∷ (codes " */" ++ 10 ∷ rest)))
 heading_lines title rest = ap (λ (l : List ℕ). codes "/*\n * Automatically generated file; DO NOT EDIT.\n * " ++ l) (append_assoc title (codes "\n */\n") rest)
 
-heading_defines : (x title rest : List ℕ) → is_title title ≡ true → filter (defines x) (lf_lines (header_heading title ++ rest)) ≡ filter (defines x) (lf_lines rest)
+heading_defines : (x title rest : List ℕ) → is_title title ≡ true → filter (defines x) (lf_lines (header_heading title ++ rest))
+    ≡ filter (defines x) (lf_lines rest)
 heading_defines x title rest h =
     let last = codes " */" ++ 10 ∷ rest in
     let titled = (codes " * " ++ title) ++ 10 ∷ last in
     ap (filter (defines x)) (ap lf_lines (heading_lines title rest)
     ∙ next (codes "/*") (codes " * Automatically generated file; DO NOT EDIT." ++ 10 ∷ titled) refl
     ∙ ap (λ q. codes "/*" ∷ q) (next (codes " * Automatically generated file; DO NOT EDIT.") titled refl
-    ∙ ap (λ q. codes " * Automatically generated file; DO NOT EDIT." ∷ q) (next (codes " * " ++ title) last (plain-append (codes " * ") title refl (plain_title title h))
+    ∙ ap (λ q. codes " * Automatically generated file; DO NOT EDIT." ∷ q)
+    (next (codes " * " ++ title) last (plain-append (codes " * ") title refl (plain_title title h))
     ∙ ap (λ q. (codes " * " ++ title) ∷ q) (next (codes " */") rest refl))))
 
 defined : (x : List ℕ) (s : Kind × List ℕ) → IsEntry x s → Defined x s
@@ -230,13 +235,15 @@ alike_is_defined_alike title later old new s t g h x same =
     ∙ sym (definitions_are_of_entries later new t h x)
 
 -- a line that the test takes is spelled as a definition
-run_split : (xs : List ℕ) → (list_all is_word_byte (take_while is_word_byte xs) ≡ true) × (xs ≡ take_while is_word_byte xs ++ drop (length (take_while is_word_byte xs)) xs)
+run_split : (xs : List ℕ) → (list_all is_word_byte (take_while is_word_byte xs) ≡ true)
+    × (xs ≡ take_while is_word_byte xs ++ drop (length (take_while is_word_byte xs)) xs)
 run_split [] = (refl, refl)
 run_split (b ∷ xs) =
     let again = run_split xs in
     let Split = λ (l : List ℕ). (list_all is_word_byte l ≡ true) × (b ∷ xs ≡ l ++ drop (length l) (b ∷ xs)) in
     elim (cases_Bool (is_word_byte b)) [
-      | inl word ↦ subst Split (sym (take_while-cons is_word_byte b xs ∙ cond-true (is_word_byte b) _ _ word)) (ap (λ x. x && list_all is_word_byte (take_while is_word_byte xs)) word ∙ again.0, ap (λ (l : List ℕ). b ∷ l) again.1)
+      | inl word ↦ subst Split (sym (take_while-cons is_word_byte b xs ∙ cond-true (is_word_byte b) _ _ word))
+          (ap (λ x. x && list_all is_word_byte (take_while is_word_byte xs)) word ∙ again.0, ap (λ (l : List ℕ). b ∷ l) again.1)
       | inr ne ↦ subst Split (sym (take_while-cons is_word_byte b xs ∙ cond-false (is_word_byte b) _ _ ne)) (refl, refl)
     ]
 
@@ -256,12 +263,14 @@ found_line name line e =
       run = run;
       value = drop 1 behind;
       word = split.0;
-      spelled = opened line (codes "#define CONFIG_") begins.0 ∙ ap (λ (l : List ℕ). codes "#define CONFIG_" ++ l) (split.1 ∙ ap (λ (l : List ℕ). run ++ l) (opened behind (codes " ") begins.1) ∙ sym (append_assoc run (codes " ") (drop 1 behind)));
+      spelled = opened line (codes "#define CONFIG_") begins.0 ∙ ap (λ (l : List ℕ). codes "#define CONFIG_" ++ l)
+          (split.1 ∙ ap (λ (l : List ℕ). run ++ l) (opened behind (codes " ") begins.1) ∙ sym (append_assoc run (codes " ") (drop 1 behind)));
       named = (bytes_decides (less run) name).0 parts.1;
     }
 
 pub definitions_are_lines : DefinitionsAreLines
 definitions_are_lines name line = (
   found_line name line,
-  λ w. ap (defines name) w.spelled ∙ ap (λ (l : List ℕ). defines name (codes "#define CONFIG_" ++ l)) (append_assoc w.run (codes " ") w.value) ∙ run_defines name w.run w.value w.word ∙ eq-bytes_eq (less w.run) name w.named,
+  λ w. ap (defines name) w.spelled ∙ ap (λ (l : List ℕ). defines name (codes "#define CONFIG_" ++ l)) (append_assoc w.run (codes " ") w.value) ∙ run_defines
+      name w.run w.value w.word ∙ eq-bytes_eq (less w.run) name w.named,
 )

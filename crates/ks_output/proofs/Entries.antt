@@ -47,7 +47,8 @@ pub tied : (x y : List ℕ) → is_eq (order x y) ≡ true → x ≡ y
 tied x y e = slice_cmp-IsAntisymmetric nat_cmp-IsAntisymmetric x y (equal (order x y) e)
 
 -- an entry behind the first is one of the whole
-pub find_later : {X : Type 0} (e : List ℕ × X) (es : List (List ℕ × X)) (x : List ℕ) (s : X) → T (below_all order e.0 es) → find order x es ≡ Some s → find order x (e ∷ es) ≡ Some s
+pub find_later : {X : Type 0} (e : List ℕ × X) (es : List (List ℕ × X)) (x : List ℕ) (s : X) → T (below_all order e.0 es) → find order x es ≡ Some s
+    → find order x (e ∷ es) ≡ Some s
 find_later e es x s h is = elim (cases_Bool (is_eq (order x e.0))) [
   | inl same ↦
       let bad : None ≡ Some s = sym (find_below e.0 es h) ∙ ap (λ (k : List ℕ). find order k es) (sym (tied x e.0 same)) ∙ is in
@@ -60,7 +61,8 @@ abbrev pub AllEntries : {X : Type 0} → (List ℕ → X → Type 0) → List (L
 AllEntries P [] = Unit {0}
 AllEntries P (e ∷ es) = P e.0 e.1 × AllEntries P es
 
-each : {X : Type 0} (P : List ℕ → X → Type 0) (es : List (List ℕ × X)) → T (is_sorted order es) → ((x : List ℕ) (s : X) → find order x es ≡ Some s → P x s) → AllEntries P es
+each : {X : Type 0} (P : List ℕ → X → Type 0) (es : List (List ℕ × X)) → T (is_sorted order es) → ((x : List ℕ) (s : X) → find order x es ≡ Some s → P x s)
+    → AllEntries P es
 each P [] h f = tt
 each P (e ∷ es) h f = (f e.0 e.1 (find_first e es), each P es (second _ _ h) (λ x s is. f x s (find_later e es x s (first _ _ h) is)))
 

@@ -20,7 +20,8 @@ use Rattle.ks_output.proofs.PlainTexts.{plain, map-reverse, text_at}
 use Rattle.ks_output.proofs.ReadBack.{said_by_entry}
 use Rattle.ks_output.proofs.WrittenLines.{opened, take_front}
 
-gives_here : (line name : List ℕ) → is_name name ≡ true → starts_with nat_eq (without_terminator line) (beginning name) ≡ true → remark line ≡ Gives name (drop (length (beginning name)) (without_terminator line))
+gives_here : (line name : List ℕ) → is_name name ≡ true → starts_with nat_eq (without_terminator line) (beginning name) ≡ true → remark line
+    ≡ Gives name (drop (length (beginning name)) (without_terminator line))
 gives_here line name h e =
     let bare = without_terminator line in
     let ended = ends_with nat_eq line (codes "\n") in
@@ -30,7 +31,8 @@ begins : (needle rest : List ℕ) → starts_with nat_eq (needle ++ rest) needle
 begins needle rest = (bytes_decides needle (take (length needle) (needle ++ rest))).1 (sym (take_front needle rest))
 
 -- another line gives another name a text, or nothing
-gives_other : (line name other text : List ℕ) → starts_with nat_eq (without_terminator line) (beginning name) ≡ false → remark line ≡ Gives other text → is_eq (order name other) ≡ false
+gives_other : (line name other text : List ℕ) → starts_with nat_eq (without_terminator line) (beginning name) ≡ false → remark line ≡ Gives other text
+    → is_eq (order name other) ≡ false
 gives_other line name other text ne e = false_from_ne_true (is_eq (order name other)) (λ same.
     let here : name ≡ other = tied name other same in
     let spelled : without_terminator line ≡ beginning name ++ text = (told_text line other text e).1 ∙ ap (λ (n : List ℕ). beginning n ++ text) (sym here) in
@@ -42,7 +44,8 @@ passed name (Gives other text) said f = cond-false (is_eq (order name other)) (S
 passed name r said f = refl
 
 first_line : (name : List ℕ) (ls : List (List ℕ)) → is_name name ≡ true
-    → map.find order name (filter_map plain (map_list remark ls)) ≡ option_map (drop (length (beginning name))) (find (λ line. starts_with nat_eq line (beginning name)) (map_list without_terminator ls))
+    → map.find order name (filter_map plain (map_list remark ls))
+    ≡ option_map (drop (length (beginning name))) (find (λ line. starts_with nat_eq line (beginning name)) (map_list without_terminator ls))
 first_line name [] h = refl
 first_line name (l ∷ ls) h =
     let bare = without_terminator l in
@@ -64,16 +67,19 @@ unfolding lines
 last_line_counts text name h =
     text_at text name
     ∙ first_line name (reverse (lines_of text)) h
-    ∙ ap (λ (ls : List (List ℕ)). option_map (drop (length (beginning name))) (find (λ line. starts_with nat_eq line (beginning name)) ls)) (sym (map-reverse without_terminator (lines_of text)))
+    ∙ ap (λ (ls : List (List ℕ)). option_map (drop (length (beginning name))) (find (λ line. starts_with nat_eq line (beginning name)) ls))
+    (sym (map-reverse without_terminator (lines_of text)))
 
 -- untyped files
-unclassed : (b : Bool) (t : List ℕ) (o : Option (Option Class × List ℕ)) → option_and_then (λ e. e.0) o ≡ None → option_and_then (λ e. e.0) (cond b (Some (None, t)) o) ≡ None
+unclassed : (b : Bool) (t : List ℕ) (o : Option (Option Class × List ℕ)) → option_and_then (λ e. e.0) o ≡ None
+    → option_and_then (λ e. e.0) (cond b (Some (None, t)) o) ≡ None
 unclassed true t o e = refl
 unclassed false t o e = e
 
 none_classed : (name : List ℕ) (ps : List (Remark × Remark)) → option_and_then (λ e. e.0) (map.find order name (filter_map (given false) ps)) ≡ None
 none_classed name [] = refl
-none_classed name ((before, Gives other text) ∷ ps) = unclassed (is_eq (order name other)) text (map.find order name (filter_map (given false) ps)) (none_classed name ps)
+none_classed name ((before, Gives other text) ∷ ps) = unclassed (is_eq (order name other)) text (map.find order name (filter_map (given false) ps))
+    (none_classed name ps)
 none_classed name ((before, r) ∷ ps) = none_classed name ps
 
 pub untyped_has_no_class : UntypedHasNoClass

@@ -47,7 +47,8 @@ unfolding put_all with_given
 given_one typed m before (Gives x t) = refl
 given_one typed m before r = refl
 
-pub texts_after-step : (typed : Bool) (m : Texts) (before r : Remark) (said : List Remark) → texts_after typed m before (r ∷ said) ≡ texts_after typed (with_given typed m before r) r said
+pub texts_after-step : (typed : Bool) (m : Texts) (before r : Remark) (said : List Remark) → texts_after typed m before (r ∷ said)
+    ≡ texts_after typed (with_given typed m before r) r said
 unfolding texts_after neighbours
 texts_after-step typed m before r said =
     ap (put_all m) (latest_last (given typed) (before, r) (neighbours r said))
@@ -68,7 +69,8 @@ unfolding with_given
 with_given-class typed m a b (Gives x t) e = ap (λ (c : Option Class). map.insert m x (c, t)) e
 with_given-class typed m a b r e = refl
 
-pub texts_after-class : (typed : Bool) (m : Texts) (a b : Remark) (said : List Remark) → class_by typed a ≡ class_by typed b → texts_after typed m a said ≡ texts_after typed m b said
+pub texts_after-class : (typed : Bool) (m : Texts) (a b : Remark) (said : List Remark) → class_by typed a ≡ class_by typed b → texts_after typed m a said
+    ≡ texts_after typed m b said
 texts_after-class typed m a b [] e = texts_after-nil typed m a ∙ sym (texts_after-nil typed m b)
 texts_after-class typed m a b (r ∷ said) e =
     texts_after-step typed m a r said ∙ ap (λ n. texts_after typed n r said) (with_given-class typed m a b r e) ∙ sym (texts_after-step typed m b r said)

@@ -28,7 +28,8 @@ Leads p n r said None = fault_left p n (r ∷ said) ≡ Some (blamed p n)
 Leads p n r said (Some q) = fault_left p n (r ∷ said) ≡ fault_left q (n + 1) said
 
 -- an entry where one has to stand
-wanted : (x y t : List ℕ) (k : Class) (n : ℕ) (said : List Remark) (b : Bool) → bytes_eq x y ≡ b → 0 < n → Leads (Entry x k) n (Gives y t) said (cond b (Some Typed) None)
+wanted : (x y t : List ℕ) (k : Class) (n : ℕ) (said : List Remark) (b : Bool) → bytes_eq x y ≡ b → 0 < n
+    → Leads (Entry x k) n (Gives y t) said (cond b (Some Typed) None)
 unfolding Leads fault_left first_faulty
 wanted x y t k n said true e h =
     ap (λ c. cond (not c) (Some (n - 1)) (first_faulty (n - 1 + 1 + 1) said)) e
@@ -64,15 +65,18 @@ unfolding Leads
 goes_on p q n r said h is = sym (subst (Leads p n r said) (sym is) (leads p n r said h))
 
 -- and of a text's lines
-pub refused : (text : List ℕ) (p : Place) (n : ℕ) (r : Remark) (said : List Remark) → length text ≤ 67108864 → 0 < n → fault_left p n (r ∷ said) ≡ auto_fault text → None ≡ behind p r
+pub refused : (text : List ℕ) (p : Place) (n : ℕ) (r : Remark) (said : List Remark) → length text ≤ 67108864 → 0 < n → fault_left p n (r ∷ said)
+    ≡ auto_fault text → None ≡ behind p r
     → auto_refusal text ≡ Some (fault.BadAuto (blamed p n))
 refused text p n r said small h left is = not_large text small ∙ ap (option_map fault.BadAuto) (sym left ∙ stops p n r said h is)
 
-pub refused_at_end : (text : List ℕ) (p : Place) (n : ℕ) → length text ≤ 67108864 → fault_left p n [] ≡ auto_fault text → wants_entry p ≡ true → auto_refusal text ≡ Some (fault.BadAuto (blamed p n))
+pub refused_at_end : (text : List ℕ) (p : Place) (n : ℕ) → length text ≤ 67108864 → fault_left p n [] ≡ auto_fault text → wants_entry p ≡ true
+    → auto_refusal text ≡ Some (fault.BadAuto (blamed p n))
 unfolding Ends
 refused_at_end text p n small left is = not_large text small ∙ ap (option_map fault.BadAuto) (sym left ∙ subst (Ends p n) is (ends p n))
 
-pub accepted : (text : List ℕ) (p : Place) (n : ℕ) → length text ≤ 67108864 → fault_left p n [] ≡ auto_fault text → wants_entry p ≡ false → auto_refusal text ≡ None
+pub accepted : (text : List ℕ) (p : Place) (n : ℕ) → length text ≤ 67108864 → fault_left p n [] ≡ auto_fault text → wants_entry p ≡ false → auto_refusal text
+    ≡ None
 unfolding Ends
 accepted text p n small left is = not_large text small ∙ ap (option_map fault.BadAuto) (sym left ∙ subst (Ends p n) is (ends p n))
 
@@ -109,7 +113,8 @@ adds_wanted m x y t k said false = tt
 adds_wanted m x y t k said true =
     texts_after-step true m (Types x k) (Gives y t) said ∙ texts_after-class true (map.insert m y (Some k, t)) (Gives y t) Silent said refl
 
-adds_front : (m : Texts) (r : Remark) (said : List Remark) → with_given (is_typed said) m Silent r ≡ m → texts_after (is_typed said) m Silent (r ∷ said) ≡ texts_after (is_typed said) m Silent said
+adds_front : (m : Texts) (r : Remark) (said : List Remark) → with_given (is_typed said) m Silent r ≡ m → texts_after (is_typed said) m Silent (r ∷ said)
+    ≡ texts_after (is_typed said) m Silent said
 adds_front m r said e =
     texts_after-step (is_typed said) m Silent r said ∙ ap (λ n. texts_after (is_typed said) n r said) e ∙ texts_after-front m r Silent said
 
@@ -128,7 +133,8 @@ adds m Front Marks said = texts_after-step true m Silent Marks said ∙ texts_af
 adds m Front (Gives x t) said = texts_after-step false m Silent (Gives x t) said ∙ texts_after-class false _ (Gives x t) Silent said refl
 adds m Front r said = adds_front m r said refl
 
-pub adds_on : (m : Texts) (p q : Place) (r : Remark) (said : List Remark) → Some q ≡ behind p r → texts_left (with_line m p r) q said ≡ texts_left m p (r ∷ said)
+pub adds_on : (m : Texts) (p q : Place) (r : Remark) (said : List Remark) → Some q ≡ behind p r → texts_left (with_line m p r) q said
+    ≡ texts_left m p (r ∷ said)
 unfolding Adds
 adds_on m p q r said is = sym (subst (Adds m p r said) (sym is) (adds m p r said))
 

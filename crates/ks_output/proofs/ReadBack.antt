@@ -57,8 +57,10 @@ said_by_typed : said_by true (codes "#typed") ≡ Marks
 unfolding said_by
 said_by_typed = refl
 
-heading_lines : (title rest : List ℕ) → heading title ++ rest ≡ (35 ∷ []) ++ 10 ∷ (codes "# Automatically generated file; DO NOT EDIT." ++ 10 ∷ ((codes "# " ++ title) ++ 10 ∷ ((35 ∷ []) ++ 10 ∷ (codes "#typed" ++ 10 ∷ rest))))
-heading_lines title rest = ap (λ (l : List ℕ). codes "#\n# Automatically generated file; DO NOT EDIT.\n# " ++ l) (append_assoc title (codes "\n#\n#typed\n") rest)
+heading_lines : (title rest : List ℕ) → heading title ++ rest ≡ (35 ∷ []) ++ 10
+    ∷ (codes "# Automatically generated file; DO NOT EDIT." ++ 10 ∷ ((codes "# " ++ title) ++ 10 ∷ ((35 ∷ []) ++ 10 ∷ (codes "#typed" ++ 10 ∷ rest))))
+heading_lines title rest = ap (λ (l : List ℕ). codes "#\n# Automatically generated file; DO NOT EDIT.\n# " ++ l)
+    (append_assoc title (codes "\n#\n#typed\n") rest)
 
 headed : List Remark → List Remark
 headed said = Silent ∷ Silent ∷ Silent ∷ Silent ∷ Marks ∷ said
@@ -71,8 +73,10 @@ heading_remarks title rest h =
     let titled = (codes "# " ++ title) ++ 10 ∷ last in
     ap remarks (heading_lines title rest)
     ∙ next (35 ∷ []) (codes "# Automatically generated file; DO NOT EDIT." ++ 10 ∷ titled) Silent refl said_by_mark
-    ∙ ap (λ q. Silent ∷ q) (next (codes "# Automatically generated file; DO NOT EDIT.") titled Silent refl (said_by_comment (codes "Automatically generated file; DO NOT EDIT.")))
-    ∙ ap (λ q. Silent ∷ Silent ∷ q) (next (codes "# " ++ title) last Silent (plain-append (codes "# ") title refl (plain_title title h)) (said_by_comment title))
+    ∙ ap (λ q. Silent ∷ q) (next (codes "# Automatically generated file; DO NOT EDIT.") titled Silent refl
+    (said_by_comment (codes "Automatically generated file; DO NOT EDIT.")))
+    ∙ ap (λ q. Silent ∷ Silent ∷ q) (next (codes "# " ++ title) last Silent (plain-append (codes "# ") title refl (plain_title title h))
+    (said_by_comment title))
     ∙ ap (λ q. Silent ∷ Silent ∷ Silent ∷ q) (next (35 ∷ []) mark Silent refl said_by_mark)
     ∙ ap (λ q. Silent ∷ Silent ∷ Silent ∷ Silent ∷ q) (next (codes "#typed") rest Marks refl said_by_typed)
 
@@ -86,19 +90,22 @@ said_by_entry ended name text h =
 
 plain_entry : (name text : List ℕ) → is_plain name ≡ true → is_plain text ≡ true → is_plain (codes "CONFIG_" ++ name ++ codes "=" ++ text) ≡ true
 plain_entry name text p q =
-    plain-append (codes "CONFIG_" ++ name ++ codes "=") text (plain-append (codes "CONFIG_" ++ name) (codes "=") (plain-append (codes "CONFIG_") name refl p) refl) q
+    plain-append (codes "CONFIG_" ++ name ++ codes "=") text
+    (plain-append (codes "CONFIG_" ++ name) (codes "=") (plain-append (codes "CONFIG_") name refl p) refl) q
 
 entry_remark : (name text rest : List ℕ) → is_name name ≡ true → is_plain text ≡ true → remarks (entry_line name text ++ rest) ≡ Gives name text ∷ remarks rest
 entry_remark name text rest h p =
     let line = codes "CONFIG_" ++ name ++ codes "=" ++ text in
-    ap remarks (append_assoc line (10 ∷ []) rest) ∙ next line rest (Gives name text) (plain_entry name text (plain_name name h) p) (said_by_entry true name text h)
+    ap remarks (append_assoc line (10 ∷ []) rest) ∙ next line rest (Gives name text) (plain_entry name text (plain_name name h) p)
+    (said_by_entry true name text h)
 
 -- and of their classes
 class_is : (name end : List ℕ) → is_name name ≡ true → class_remark (name ++ 32 ∷ end) ≡ classed name (spelled_class (32 ∷ end))
 unfolding class_remark
 class_is name end h =
     let rest = name ++ 32 ∷ end in
-    ap (λ (n : List ℕ). if is_name n then classed n (spelled_class (drop (length n) rest)) else Mistypes) (run_is is_word_byte name 32 end (word_bytes name h) refl)
+    ap (λ (n : List ℕ). if is_name n then classed n (spelled_class (drop (length n) rest)) else Mistypes)
+    (run_is is_word_byte name 32 end (word_bytes name h) refl)
     ∙ ap (λ b. if b then classed name (spelled_class (drop (length name) rest)) else Mistypes) h
     ∙ ap (λ (l : List ℕ). classed name (spelled_class l)) (drop_front name (32 ∷ end))
 
@@ -113,7 +120,8 @@ unfolding said_by
 types_one name end rest k h p is =
     let line = codes "#type " ++ name ++ 32 ∷ end in
     ap remarks (append_assoc line (10 ∷ []) rest)
-    ∙ next line rest (Types name k) (plain-append (codes "#type " ++ name) (32 ∷ end) (plain-append (codes "#type ") name refl (plain_name name h)) p) (class_is name end h ∙ ap (classed name) is)
+    ∙ next line rest (Types name k) (plain-append (codes "#type " ++ name) (32 ∷ end) (plain-append (codes "#type ") name refl (plain_name name h)) p)
+    (class_is name end h ∙ ap (classed name) is)
 
 class_remarks : (name rest : List ℕ) (k : Class) → is_name name ≡ true → remarks (class_line name k ++ rest) ≡ types name k ++ remarks rest
 unfolding types
@@ -129,7 +137,8 @@ gives_all : List (List ℕ × (Kind × List ℕ)) → List Remark
 gives_all [] = []
 gives_all (e ∷ es) = types e.0 (class_of e.1.0) ++ Gives e.0 e.1.1 ∷ gives_all es
 
-entries_remarks : (es : List (List ℕ × (Kind × List ℕ))) (rest : List ℕ) → AllEntries Written es → remarks (entry_lines es ++ rest) ≡ gives_all es ++ remarks rest
+entries_remarks : (es : List (List ℕ × (Kind × List ℕ))) (rest : List ℕ) → AllEntries Written es → remarks (entry_lines es ++ rest) ≡ gives_all es
+    ++ remarks rest
 unfolding gives_all
 entries_remarks [] rest h = refl
 entries_remarks (e ∷ es) rest h =
@@ -148,7 +157,8 @@ said_by_generation g h = ap (numbered true) (reads_back g h)
 
 generation_remark : (g : ℕ) → g < 2 ^ 64 → remarks (generation_line g) ≡ Numbers g ∷ []
 generation_remark g h =
-    next (codes "#generation " ++ decimal g) [] (Numbers g) (plain-append (codes "#generation ") (decimal g) refl (plain_digits (decimal g) (digits_decimal own g h))) (said_by_generation g h)
+    next (codes "#generation " ++ decimal g) [] (Numbers g) (plain-append (codes "#generation ") (decimal g) refl
+    (plain_digits (decimal g) (digits_decimal own g h))) (said_by_generation g h)
     ∙ ap (λ (q : List (List ℕ)). Numbers g ∷ map_list remark q) lines-nil
 
 -- the whole text
@@ -170,7 +180,8 @@ text_remarks title settings g t h small =
     (entries_remarks es (generation_line g) (all_entries Written settings (λ x s is. written x s (h x s is)))
     ∙ ap (λ q. gives_all es ++ q) (generation_remark g small))
 
-body_next : (e : List ℕ × (Kind × List ℕ)) (es : List (List ℕ × (Kind × List ℕ))) (g : ℕ) → body (e ∷ es) g ≡ types e.0 (class_of e.1.0) ++ Gives e.0 e.1.1 ∷ body es g
+body_next : (e : List ℕ × (Kind × List ℕ)) (es : List (List ℕ × (Kind × List ℕ))) (g : ℕ) → body (e ∷ es) g ≡ types e.0 (class_of e.1.0) ++ Gives e.0 e.1.1
+    ∷ body es g
 unfolding body gives_all
 body_next e es g = append_assoc (types e.0 (class_of e.1.0)) (Gives e.0 e.1.1 ∷ gives_all es) (Numbers g ∷ [])
 
@@ -185,7 +196,8 @@ fault_on r later n e = cond-false (is_faulty r later) (Some n) (first_faulty (n 
 class_followed : (x t : List ℕ) (k : Class) (later : List Remark) (n : ℕ) → first_faulty n (Types x k ∷ Gives x t ∷ later) ≡ first_faulty (n + 1 + 1) later
 class_followed x t k later n = fault_on (Types x k) (Gives x t ∷ later) n (ap not (same_bytes x)) ∙ fault_on (Gives x t) later (n + 1) refl
 
-entry_fault : (x t : List ℕ) (k : Class) (later : List Remark) (n : ℕ) → ((m : ℕ) → first_faulty m later ≡ None) → first_faulty n (types x k ++ Gives x t ∷ later) ≡ None
+entry_fault : (x t : List ℕ) (k : Class) (later : List Remark) (n : ℕ) → ((m : ℕ) → first_faulty m later ≡ None)
+    → first_faulty n (types x k ++ Gives x t ∷ later) ≡ None
 unfolding types
 entry_fault x t class.Switch later n h = fault_on (Gives x t) later n refl ∙ h (n + 1)
 entry_fault x t class.Text later n h = class_followed x t class.Text later n ∙ h (n + 1 + 1)
@@ -238,14 +250,16 @@ generation_reads_back title settings g t h small =
 entry_text : (m : Texts) (before : Remark) (x t : List ℕ) (k : Class) (later : List Remark) → class_by true before ≡ Some class.Switch
     → texts_after true m before (types x k ++ Gives x t ∷ later) ≡ texts_after true (map.insert m x (Some k, t)) (Gives x t) later
 unfolding types with_given
-entry_text m before x t class.Switch later b = texts_after-step true m before (Gives x t) later ∙ ap (λ c. texts_after true (map.insert m x (c, t)) (Gives x t) later) b
+entry_text m before x t class.Switch later b = texts_after-step true m before (Gives x t) later ∙ ap
+    (λ c. texts_after true (map.insert m x (c, t)) (Gives x t) later) b
 entry_text m before x t k later b = texts_after-step true m before (Types x k) (Gives x t ∷ later) ∙ texts_after-step true m (Types x k) (Gives x t) later
 
 after : Option (Option Class × List ℕ) → Option (Kind × List ℕ) → Option (Option Class × List ℕ)
 after before None = before
 after before (Some s) = Some (kept s)
 
-texts_given_at : (es : List (List ℕ × (Kind × List ℕ))) (m : Texts) (before : Remark) (g : ℕ) (x : List ℕ) → T (is_sorted order es) → class_by true before ≡ Some class.Switch
+texts_given_at : (es : List (List ℕ × (Kind × List ℕ))) (m : Texts) (before : Remark) (g : ℕ) (x : List ℕ) → T (is_sorted order es) → class_by true before
+    ≡ Some class.Switch
     → map.get (texts_after true m before (body es g)) x ≡ after (map.get m x) (find order x es)
 unfolding after body gives_all with_given
 texts_given_at [] m before g x h b = ap (λ n. map.get n x) (texts_after-step true m before (Numbers g) [] ∙ texts_after-nil true m (Numbers g))

@@ -69,16 +69,19 @@ fits ended bare =
     (either (starts_with nat_eq bare class_mark) (class_remark (drop 6 bare)) others (fits_class (drop 6 bare))
     (either (is_silent bare) Silent (assigned (statement bare)) tt (fits_assigned (statement bare)))))
 
-fits_first : (r : Remark) (said : List Remark) → Fits r → slice_index (filter_map number said) 0 < 2 ^ 64 → slice_index (filter_map number (r ∷ said)) 0 < 2 ^ 64
+fits_first : (r : Remark) (said : List Remark) → Fits r → slice_index (filter_map number said) 0 < 2 ^ 64
+    → slice_index (filter_map number (r ∷ said)) 0 < 2 ^ 64
 unfolding Fits
 fits_first (Numbers g) said h later = h
 fits_first r said h later = later
 
 fits_last : (lines : List (List ℕ)) → slice_index (filter_map number (map_list remark lines)) 0 < 2 ^ 64
 fits_last [] = omega arith
-fits_last (line ∷ lines) = fits_first (remark line) (map_list remark lines) (fits (ends_with nat_eq line (codes "\n")) (without_terminator line)) (fits_last lines)
+fits_last (line ∷ lines) = fits_first (remark line) (map_list remark lines) (fits (ends_with nat_eq line (codes "\n")) (without_terminator line))
+    (fits_last lines)
 
 pub generation_fits : GenerationFits
 unfolding auto_generation
 generation_fits text =
-    subst (λ (said : List Remark). slice_index (filter_map number said) 0 < 2 ^ 64) (sym (map-reverse remark (lines_of text))) (fits_last (reverse (lines_of text)))
+    subst (λ (said : List Remark). slice_index (filter_map number said) 0 < 2 ^ 64) (sym (map-reverse remark (lines_of text)))
+    (fits_last (reverse (lines_of text)))

@@ -16,7 +16,8 @@ pub files_of_switches : FilesOfSwitches
 unfolding auto_text header_text
 files_of_switches settings e = (
   ap (λ es. heading (codes "Demo") ++ entry_lines es ++ generation_line 1) e
-      ∙ ap (λ (digits : List ℕ). codes "#\n# Automatically generated file; DO NOT EDIT.\n# Demo\n#\n#typed\nCONFIG_A=y\nCONFIG_B=m\n#generation " ++ digits ++ codes "\n") first_generation,
+      ∙ ap (λ (digits : List ℕ). codes "#\n# Automatically generated file; DO NOT EDIT.\n# Demo\n#\n#typed\nCONFIG_A=y\nCONFIG_B=m\n#generation " ++ digits
+      ++ codes "\n") first_generation,
   ap (λ es. header_heading (codes "Demo") ++ definition_lines es) e,
 )
 

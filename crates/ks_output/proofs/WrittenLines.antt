@@ -87,8 +87,10 @@ no_cr-plain (b ∷ l) h =
     let all = b ∷ l in
     let place : length all - 1 ≡ length l = omega arith in
     let other : (slice_index all (length all - 1) == 13) ≡ false =
-    ap (λ (k : ℕ). slice_index all k == 13) place ∙ (no_ends (slice_index all (length l) == 10) (slice_index all (length l) == 13) (slice_index all (length l) == 0) (last_plain b l h)).1 in
-    cond-false (nat_lt 0 (length all) && slice_index all (length all - 1) == 13) _ _ (ap (λ x. x && slice_index all (length all - 1) == 13) (lt-ltb 0 (length all) (omega arith)) ∙ other)
+    ap (λ (k : ℕ). slice_index all k == 13) place ∙ (no_ends (slice_index all (length l) == 10) (slice_index all (length l) == 13)
+    (slice_index all (length l) == 0) (last_plain b l h)).1 in
+    cond-false (nat_lt 0 (length all) && slice_index all (length all - 1) == 13) _ _
+    (ap (λ x. x && slice_index all (length all - 1) == 13) (lt-ltb 0 (length all) (omega arith)) ∙ other)
 
 last_place : (l : List ℕ) → length (l ++ 10 ∷ []) - 1 ≡ length l
 last_place l = omega (arith, length-append l (10 ∷ []))
@@ -148,14 +150,16 @@ plain_numeral digits e =
     ⊎_elim (literal digits (codes "0") refl) (λ more. plain_digits digits (and_parts _ _ more).1) (or_parts _ _ e)
 
 -- a text that may have a plain sign in front
-signed : (b : Bool) (sign text : List ℕ) → is_plain sign ≡ true → text ≡ sign ++ drop (length sign) text → is_plain (drop (length sign) text) ≡ true → is_plain text ≡ true
+signed : (b : Bool) (sign text : List ℕ) → is_plain sign ≡ true → text ≡ sign ++ drop (length sign) text → is_plain (drop (length sign) text) ≡ true
+    → is_plain text ≡ true
 signed b sign text h e p = ap is_plain e ∙ plain-append sign (drop (length sign) text) h p
 
 plain_integer : (text : List ℕ) → is_numeral (cond (starts_with nat_eq text (codes "-")) (drop 1 text) text) ≡ true → is_plain text ≡ true
 plain_integer text e =
     let test = starts_with nat_eq text (codes "-") in
     ⊎_elim
-    (λ yes. signed true (codes "-") text refl (opened text (codes "-") yes) (plain_numeral (drop 1 text) (ap is_numeral (sym (cond-true test (drop 1 text) text yes)) ∙ e)))
+    (λ yes. signed true (codes "-") text refl (opened text (codes "-") yes)
+    (plain_numeral (drop 1 text) (ap is_numeral (sym (cond-true test (drop 1 text) text yes)) ∙ e)))
     (λ ne. plain_numeral text (ap is_numeral (sym (cond-false test (drop 1 text) text ne)) ∙ e))
     (cases_Bool test)
 

@@ -1,4 +1,5 @@
--- What an auto.conf says when it is read, and why one is refused. The last line about a name counts, as in scripts/kconfig/confdata.c; the typed form, and that a line that says nothing known is refused, are rules of this project.
+-- What an auto.conf says when it is read, and why one is refused. The last line about a name counts, as in scripts/kconfig/confdata.c; the
+-- typed form, and that a line that says nothing known is refused, are rules of this project.
 use Rattle.std.specs.Prelude.{ℕ, ◌+◌, Bool, true, false, not, nat_lt, List, [], ◌∷◌, length, bytes_eq, reverse, slice_index, Option, Some, None, option_map, if◌then◌else◌}
 use Rattle.std.specs.List.{filter_map}
 use Rattle.std.specs.FinMap as map

@@ -1,4 +1,5 @@
--- What one line of an auto.conf says. The usual tool's lines are among those that are read; the lines of a generation, of the typed form and of a class are rules of this project.
+-- What one line of an auto.conf says. The usual tool's lines are among those that are read; the lines of a generation, of the typed form
+-- and of a class are rules of this project.
 use Rattle.std.specs.Prelude.{ℕ, Bool, true, nat_eq, List, length, drop, take_while, codes, bytes_eq, map as map_list, Option, Some, None, if◌then◌else◌}
 use Rattle.std.specs.List.{starts_with, ends_with}
 use Rattle.bstr.specs.Text.{lines_of, without_terminator}

@@ -1,4 +1,5 @@
--- The text of auto.conf as it is written (conf_write_autoconf of scripts/kconfig/confdata.c; rising names, strings without quotes, the lines on classes and the last line are rules of this project).
+-- The text of auto.conf as it is written (conf_write_autoconf of scripts/kconfig/confdata.c; rising names, strings without quotes, the
+-- lines on classes and the last line are rules of this project).
 use Rattle.std.specs.Prelude.{ℕ, List, [], ◌++◌, codes, flat_map, decimal}
 use Rattle.std.specs.FinMap as map
 use Rattle.ks_symbols.specs.declared.kinds.Kind.{Kind}

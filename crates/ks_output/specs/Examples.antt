@@ -15,8 +15,10 @@ use Rattle.ks_output.specs.Definitions.{defines}
 abbrev pub FilesOfSwitches : Type 0
 FilesOfSwitches =
     (settings : Configuration) → map.entries settings ≡ (codes "A", (kind.Bool, codes "y")) ∷ (codes "B", (kind.Tristate, codes "m")) ∷ []
-    → (auto_text (codes "Demo") settings 1 ≡ codes "#\n# Automatically generated file; DO NOT EDIT.\n# Demo\n#\n#typed\nCONFIG_A=y\nCONFIG_B=m\n#generation 1\n")
-    × (header_text (codes "Demo") settings ≡ codes "/*\n * Automatically generated file; DO NOT EDIT.\n * Demo\n */\n#define CONFIG_A 1\n#define CONFIG_B_MODULE 1\n")
+    → (auto_text (codes "Demo") settings 1
+    ≡ codes "#\n# Automatically generated file; DO NOT EDIT.\n# Demo\n#\n#typed\nCONFIG_A=y\nCONFIG_B=m\n#generation 1\n")
+    × (header_text (codes "Demo") settings
+    ≡ codes "/*\n * Automatically generated file; DO NOT EDIT.\n * Demo\n */\n#define CONFIG_A 1\n#define CONFIG_B_MODULE 1\n")
 
 -- lines of an entry: its class, unless it is a bool or tristate, and its text
 abbrev pub EntryLines : Type 0

@@ -20,7 +20,8 @@ beginning name = codes "CONFIG_" ++ name ++ codes "="
 abbrev pub LastLineCounts : Type 0
 LastLineCounts =
     (text name : List ℕ) → IsTrue (is_name name)
-    → option_map (λ t. t.1) (map.get (auto_map text) name) ≡ option_map (drop (length (beginning name))) (find (λ line. starts_with nat_eq line (beginning name)) (reverse (lines text)))
+    → option_map (λ t. t.1) (map.get (auto_map text) name) ≡ option_map (drop (length (beginning name)))
+    (find (λ line. starts_with nat_eq line (beginning name)) (reverse (lines text)))
 
 -- In an untyped file no name has a class.
 abbrev pub UntypedHasNoClass : Type 0

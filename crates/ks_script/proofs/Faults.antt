@@ -17,7 +17,8 @@ told : (b : Bool) (e said : ScriptError) → cond b (Some e) None ≡ Some said 
 told true e said h = (refl, cc h)
 told false e said h = absurd (cc h)
 
-pub no_fault : (n : ℕ) (line : List ℕ) (rest : List (List ℕ)) → line_fault n line ≡ None → position_from is_faulty n (line ∷ rest) ≡ position_from is_faulty (n + 1) rest
+pub no_fault : (n : ℕ) (line : List ℕ) (rest : List (List ℕ)) → line_fault n line ≡ None → position_from is_faulty n (line ∷ rest)
+    ≡ position_from is_faulty (n + 1) rest
 unfolding line_fault
 no_fault n line rest none = cond-false (is_faulty line) _ _ (passed (is_faulty line) (fault.BadScript n) none)
 

@@ -155,12 +155,14 @@ spells : (line : List ℕ) (said : Line) → Says line said → script_line line
 unfolding script_line sync_line record_line stale_line
 spells line (Sync kconfig dotconfig) h =
     ap script_line h.2
-    ∙ ap (option_and_then (λ (c : List ℕ × List ℕ). cond (is_path c.0 && is_path c.1) (Some (Sync c.0 c.1)) None)) (first_word_is kconfig dotconfig (path_is_word kconfig h.0))
+    ∙ ap (option_and_then (λ (c : List ℕ × List ℕ). cond (is_path c.0 && is_path c.1) (Some (Sync c.0 c.1)) None))
+    (first_word_is kconfig dotconfig (path_is_word kconfig h.0))
     ∙ cond-true (is_path kconfig && is_path dotconfig) _ _ (both (is_path kconfig) (is_path dotconfig) h.0 h.1)
 spells line (Record depfile target command) h =
     ap script_line h.2
     ∙ ap record_line (sym (four_pieces depfile (codes " ") target (codes " ") command))
-    ∙ ap (option_and_then (λ (c : List ℕ × List ℕ). option_map (λ (b : List ℕ × List ℕ). Record c.0 b.0 b.1) (first_word c.1))) (first_word_is depfile (target ++ codes " " ++ command) h.0)
+    ∙ ap (option_and_then (λ (c : List ℕ × List ℕ). option_map (λ (b : List ℕ × List ℕ). Record c.0 b.0 b.1) (first_word c.1)))
+    (first_word_is depfile (target ++ codes " " ++ command) h.0)
     ∙ ap (option_map (λ (b : List ℕ × List ℕ). Record depfile b.0 b.1)) (first_word_is target command h.1)
 spells line (Stale target) h = ap script_line h.1 ∙ cond-true (is_word target) _ _ h.0
 

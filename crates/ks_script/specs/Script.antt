@@ -22,7 +22,8 @@ pub data Line : Type 0 where
 -- how each is spelled
 abbrev pub Says : List ℕ → Line → Type 0
 Says line (Sync kconfig dotconfig) = IsTrue (is_path kconfig) × IsTrue (is_path dotconfig) × (line ≡ codes "sync " ++ kconfig ++ codes " " ++ dotconfig)
-Says line (Record depfile target command) = IsTrue (is_word depfile) × IsTrue (is_word target) × (line ≡ codes "record " ++ depfile ++ codes " " ++ target ++ codes " " ++ command)
+Says line (Record depfile target command) = IsTrue (is_word depfile) × IsTrue (is_word target)
+    × (line ≡ codes "record " ++ depfile ++ codes " " ++ target ++ codes " " ++ command)
 Says line (Stale target) = IsTrue (is_word target) × (line ≡ codes "stale " ++ target)
 
 -- the first word, and what stands behind the space that ends it

@@ -35,7 +35,8 @@ pub none_both : (a b : Option SourceError) → or_else a b ≡ None → (a ≡ N
 none_both None b e = (refl, e)
 none_both (Some x) b e = absurd (cc e)
 
-entry_ok : (a b l : Bool) (n : ℕ) → cond (not a) (Some (fault.BadName n)) (cond b (Some (fault.ModuleName n)) (cond l (Some (fault.NoType n)) None)) ≡ None → (a && not b) ≡ true
+entry_ok : (a b l : Bool) (n : ℕ) → cond (not a) (Some (fault.BadName n)) (cond b (Some (fault.ModuleName n)) (cond l (Some (fault.NoType n)) None)) ≡ None
+    → (a && not b) ≡ true
 entry_ok false b l n e = absurd (cc e)
 entry_ok true true l n e = absurd (cc e)
 entry_ok true false l n e = refl
@@ -70,7 +71,8 @@ entry_legal (Entry x ∷ said) h = h.0
 entry_legal (HasKind k ∷ said) h = tt
 entry_legal (Unknown ∷ said) h = tt
 
-declares_legal : (x : List ℕ) (k d : Kind) (o : Option (List ℕ)) (rest : List (List ℕ × Kind)) → LegalName o → lookup (bytes_eq x) (declares d o ++ rest) ≡ Some k
+declares_legal : (x : List ℕ) (k d : Kind) (o : Option (List ℕ)) (rest : List (List ℕ × Kind)) → LegalName o → lookup (bytes_eq x) (declares d o ++ rest)
+    ≡ Some k
     → (lookup (bytes_eq x) rest ≡ Some k → IsTrue (is_symbol_name x)) → IsTrue (is_symbol_name x)
 unfolding LegalName
 declares_legal x k d None rest h e later = later e

@@ -34,7 +34,8 @@ pub too_large : (kinds : List ℕ → Option Kind) (text : List ℕ) → 6710886
 unfolding dotconfig_refusal
 too_large kinds text large = cond-true (nat_lt max_bytes (length text)) _ _ (grind (arith, nat_tests))
 
-pub not_large : (kinds : List ℕ → Option Kind) (text : List ℕ) → length text ≤ 67108864 → dotconfig_refusal kinds text ≡ first_fault (line_fault kinds) 1 (lines text)
+pub not_large : (kinds : List ℕ → Option Kind) (text : List ℕ) → length text ≤ 67108864 → dotconfig_refusal kinds text
+    ≡ first_fault (line_fault kinds) 1 (lines text)
 unfolding dotconfig_refusal
 not_large kinds text small = cond-false (nat_lt max_bytes (length text)) _ _ (grind (arith, nat_tests))
 
@@ -47,6 +48,7 @@ at_most_one true = omega arith
 at_most_one false = omega arith
 
 -- what an answer promises, where it is known that nothing was refused
-pub if_accepted : {X : Type 0} (r : Result X SourceError) (f : Option SourceError) (P Q : X → Type 0) → RefusedBy fault.OutOfMemory r f → IfOk r P → (f ≡ None → (x : X) → P x → Q x) → IfOk r Q
+pub if_accepted : {X : Type 0} (r : Result X SourceError) (f : Option SourceError) (P Q : X → Type 0) → RefusedBy fault.OutOfMemory r f → IfOk r P
+    → (f ≡ None → (x : X) → P x → Q x) → IfOk r Q
 if_accepted (Ok x) f P Q none p h = h none x p
 if_accepted (Err e) f P Q none p h = tt

@@ -17,7 +17,8 @@ kept (Some k) x said before other = sym (cond-false (bytes_eq (name_of said) x) 
 
 -- a statement about a declared symbol changes that symbol alone
 pub declared_after : (kinds : List ℕ → Option Kind) (k : Kind) (said : Statement) → kinds (name_of said) ≡ Some k
-    → (x : List ℕ) (before : Option (Kind × List ℕ)) → cond (bytes_eq (name_of said) x) (gives k (Some said)) before ≡ after_statement (kinds x) x (Some said) before
+    → (x : List ℕ) (before : Option (Kind × List ℕ)) → cond (bytes_eq (name_of said) x) (gives k (Some said)) before
+    ≡ after_statement (kinds x) x (Some said) before
 declared_after kinds k said is x before =
     ⊎_elim
     (λ yes. ap (λ o. after_statement o x (Some said) before) (sym is ∙ ap kinds ((bytes_decides (name_of said) x).0 yes)))
@@ -50,7 +51,8 @@ find_joined : (test : List ℕ → Bool) (xs ys : List (List ℕ)) → find test
 unfolding first_of_two
 find_joined test [] ys = refl
 find_joined test (x ∷ xs) ys =
-    elim (test x) as (λ b. cond b (Some x) (find test (xs ++ ys)) ≡ first_of_two (cond b (Some x) (find test xs)) (find test ys)) [ true ↦ refl | false ↦ find_joined test xs ys ]
+    elim (test x) as (λ b. cond b (Some x) (find test (xs ++ ys)) ≡ first_of_two (cond b (Some x) (find test xs)) (find test ys))
+    [ true ↦ refl | false ↦ find_joined test xs ys ]
 
 one_more : (k : Kind) (x : List ℕ) (before : Option (Kind × List ℕ)) (line : List ℕ) (o : Option (List ℕ))
     → chosen k (after_statement (Some k) x (statement line) before) o ≡ chosen k before (first_of_two o (find (is_about x) (line ∷ [])))
@@ -83,7 +85,8 @@ from_nothing k (Some line) = refl
 pub settled-setting : (kinds : List ℕ → Option Kind) (x : List ℕ) (lines : List (List ℕ)) → settled (kinds x) x None lines ≡ setting kinds lines x
 unfolding setting
 settled-setting kinds x lines =
-    elim (kinds x) as (λ o. settled o x None lines ≡ option_and_then (λ k. option_and_then (λ line. gives k (statement line)) (find (is_about x) (reverse lines))) o) [
+    elim (kinds x) as (λ o. settled o x None lines ≡ option_and_then
+    (λ k. option_and_then (λ line. gives k (statement line)) (find (is_about x) (reverse lines))) o) [
       | None ↦ never x None lines
       | Some k ↦ settled_last k x None lines ∙ from_nothing k (find (is_about x) (reverse lines))
     ]

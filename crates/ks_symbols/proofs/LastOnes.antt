@@ -58,7 +58,8 @@ later_counts None true o before = refl
 later_counts None false o before = refl
 later_counts (Some s) b o before = refl
 
-pub got_lines : {X : Type 0} (m : NameMap X) (es : List (List ℕ × Option X)) (q : List ℕ) → map.get (after_lines m es) q ≡ unwrap_or (last_said q es) (map.get m q)
+pub got_lines : {X : Type 0} (m : NameMap X) (es : List (List ℕ × Option X)) (q : List ℕ) → map.get (after_lines m es) q
+    ≡ unwrap_or (last_said q es) (map.get m q)
 unfolding after_lines last_said
 got_lines m [] q = refl
 got_lines m (e ∷ es) q =
@@ -95,7 +96,8 @@ filter_shown : {X Y : Type 0} (p : Y → Bool) (f : X → Y) (xs : List X) → f
 filter_shown p f [] = refl
 filter_shown p f (x ∷ xs) =
     let rest = filter_shown p f xs in
-    elim (p (f x)) as (λ b. cond b (f x ∷ filter p (map_list f xs)) (filter p (map_list f xs)) ≡ map_list f (cond b (x ∷ filter (λ y. p (f y)) xs) (filter (λ y. p (f y)) xs))) [
+    elim (p (f x)) as (λ b. cond b (f x ∷ filter p (map_list f xs)) (filter p (map_list f xs))
+    ≡ map_list f (cond b (x ∷ filter (λ y. p (f y)) xs) (filter (λ y. p (f y)) xs))) [
       | true ↦ ap (λ (l : List _). f x ∷ l) rest
       | false ↦ rest
     ]
@@ -235,7 +237,8 @@ none_above q (e ∷ es) h =
     ap (λ o. or_else o (cond (bytes_eq q e.0) (Some e.1) None)) (none_above q es h.1)
     ∙ cond-false (bytes_eq q e.0) (Some e.1) None (sym (is_eq-slice_cmp q e.0) ∙ ap is_eq h.0)
 
-said_first : {Y : Type 0} (q : List ℕ) (e : List ℕ × Y) (es : List (List ℕ × Y)) → bytes_eq q e.0 ≡ true → (o : Option Y) → or_else (last_said q (e ∷ es)) o ≡ last_said q (e ∷ es)
+said_first : {Y : Type 0} (q : List ℕ) (e : List ℕ × Y) (es : List (List ℕ × Y)) → bytes_eq q e.0 ≡ true → (o : Option Y) → or_else (last_said q (e ∷ es)) o
+    ≡ last_said q (e ∷ es)
 unfolding last_said
 said_first q e es is o =
     elim (last_said q es) as (λ l. or_else (or_else l (cond (bytes_eq q e.0) (Some e.1) None)) o ≡ or_else l (cond (bytes_eq q e.0) (Some e.1) None)) [
@@ -243,7 +246,8 @@ said_first q e es is o =
       | Some s ↦ refl
     ]
 
-said_again : {Y : Type 0} (q x : List ℕ) (es : List (List ℕ × Y)) (y : Y) → begins_with x es ≡ true → or_else (last_said q es) (cond (bytes_eq q x) (Some y) None) ≡ last_said q es
+said_again : {Y : Type 0} (q x : List ℕ) (es : List (List ℕ × Y)) (y : Y) → begins_with x es ≡ true
+    → or_else (last_said q es) (cond (bytes_eq q x) (Some y) None) ≡ last_said q es
 said_again q x [] y b = absurd (false≢true b)
 said_again q x (f ∷ es) y b = elim (cases_Bool (bytes_eq q x)) [
   | inl is ↦
@@ -252,7 +256,8 @@ said_again q x (f ∷ es) y b = elim (cases_Bool (bytes_eq q x)) [
   | inr ne ↦ ap (or_else (last_said q (f ∷ es))) (cond-false (bytes_eq q x) (Some y) None ne) ∙ or_none (last_said q (f ∷ es))
 ]
 
-found_here : {X : Type 0} (q x : List ℕ) (o : Option X) (es : List (List ℕ × X)) → bytes_eq q x ≡ true → find order q es ≡ None → find order q (with_entry x o es) ≡ o
+found_here : {X : Type 0} (q x : List ℕ) (o : Option X) (es : List (List ℕ × X)) → bytes_eq q x ≡ true → find order q es ≡ None
+    → find order q (with_entry x o es) ≡ o
 found_here q x None es is none = none
 found_here q x (Some s) es is none = cond-true (is_eq (order q x)) (Some s) (find order q es) (is_eq-slice_cmp q x ∙ is)
 
@@ -265,7 +270,8 @@ unfolding last_ones last_said
 found q [] r = refl
 found q (e ∷ es) r =
     let rest = found q es r.1 in
-    elim (begins_with e.0 es) as (λ b. begins_with e.0 es ≡ b → find order q (cond b (last_ones es) (with_entry e.0 e.1 (last_ones es))) ≡ unwrap_or (or_else (last_said q es) (cond (bytes_eq q e.0) (Some e.1) None)) None) [
+    elim (begins_with e.0 es) as (λ b. begins_with e.0 es ≡ b → find order q (cond b (last_ones es) (with_entry e.0 e.1 (last_ones es)))
+    ≡ unwrap_or (or_else (last_said q es) (cond (bytes_eq q e.0) (Some e.1) None)) None) [
       | true ↦ λ b. rest ∙ ap (λ o. unwrap_or o None) (sym (said_again q e.0 es e.1 b))
       | false ↦ λ ne. elim (cases_Bool (bytes_eq q e.0)) [
         | inl is ↦
@@ -275,12 +281,14 @@ found q (e ∷ es) r =
         | inr other ↦
             found_later q e.0 e.1 (last_ones es) other
             ∙ rest
-            ∙ ap (λ o. unwrap_or o None) (sym (or_none (last_said q es)) ∙ ap (or_else (last_said q es)) (sym (cond-false (bytes_eq q e.0) (Some e.1) None other)))
+            ∙ ap (λ o. unwrap_or o None) (sym (or_none (last_said q es)) ∙ ap (or_else (last_said q es))
+            (sym (cond-false (bytes_eq q e.0) (Some e.1) None other)))
       ]
     ] refl
 
 -- Lines that are put in order by their names, stably: what is left rises, and is the map that the lines make.
-pub closed_rise : {X S : Type 0} (f : X → List ℕ × Option S) (ys : List X) → IsSortedByKey (λ x. (f x).0) order ys → T (is_sorted order (last_ones (map_list f ys)))
+pub closed_rise : {X S : Type 0} (f : X → List ℕ × Option S) (ys : List X) → IsSortedByKey (λ x. (f x).0) order ys
+    → T (is_sorted order (last_ones (map_list f ys)))
 closed_rise f ys sorted = last_ones_rise (map_list f ys) (rises f ys sorted)
 
 pub closed : {X S : Type 0} (f : X → List ℕ × Option S) (xs ys : List X) → IsSortedByKey (λ x. (f x).0) order ys → IsStableByKey (λ x. (f x).0) order xs ys

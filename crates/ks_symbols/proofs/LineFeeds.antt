@@ -34,8 +34,13 @@ first_line (b ∷ rest) =
     (λ same. ([], refl, inr (ap (λ (n : ℕ). take n (b ∷ rest)) (cond-true (b == 10) _ _ same) ∙ ap (λ (x : ℕ). x ∷ []) (eqb-true b 10 same))))
     (λ other.
     let s = first_line rest in
-    let whole : take (cond (b == 10) 1 (suc (line_len rest))) (b ∷ rest) ≡ b ∷ take (line_len rest) rest = ap (λ (n : ℕ). take n (b ∷ rest)) (cond-false (b == 10) _ _ other) in
-    (b ∷ s.0, ap (λ x. not x && is_free s.0) other ∙ s.1, ⊎_elim (λ e. inl (whole ∙ ap (λ (l : List ℕ). b ∷ l) e)) (λ e. inr (whole ∙ ap (λ (l : List ℕ). b ∷ l) e)) s.2))
+    let whole : take (cond (b == 10) 1 (suc (line_len rest))) (b ∷ rest) ≡ b ∷ take (line_len rest) rest
+    = ap (λ (n : ℕ). take n (b ∷ rest)) (cond-false (b == 10) _ _ other) in (
+      b ∷ s.0,
+      ap (λ x. not x && is_free s.0) other ∙ s.1,
+      ⊎_elim (λ e. inl (whole ∙ ap (λ (l : List ℕ). b ∷ l) e))
+          (λ e. inr (whole ∙ ap (λ (l : List ℕ). b ∷ l) e)) s.2,
+    ))
     (cases_Bool (b == 10))
 
 free_either : (c : Bool) (x y : List ℕ) → is_free x ≡ true → is_free y ≡ true → is_free (cond c x y) ≡ true
@@ -71,7 +76,9 @@ free-ended front h =
 free-stripped : (line : List ℕ) → Shape line → is_free (without_terminator line) ≡ true
 free-stripped line (front, h, cut) =
     ⊎_elim
-    (λ e. subst (λ (l : List ℕ). is_free (without_terminator l) ≡ true) (sym e) (free_either (nat_lt 0 (length front) && slice_index front (length front - 1) == 10) (no_cr (take (length front - 1) front)) front (free-no_cr (take (length front - 1) front) (free-take (length front - 1) front h)) h))
+    (λ e. subst (λ (l : List ℕ). is_free (without_terminator l) ≡ true) (sym e)
+    (free_either (nat_lt 0 (length front) && slice_index front (length front - 1) == 10) (no_cr (take (length front - 1) front)) front
+    (free-no_cr (take (length front - 1) front) (free-take (length front - 1) front h)) h))
     (λ e. subst (λ (l : List ℕ). is_free (without_terminator l) ≡ true) (sym e) (free-ended front h))
     cut
 

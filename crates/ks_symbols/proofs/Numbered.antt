@@ -44,7 +44,8 @@ place_found x (t ∷ ts) n h = elim (cases_Bool (bytes_eq x t)) [
   | inr ne ↦ later (place_found x ts) (place_of x ts) refl (sym (cond-false (bytes_eq x t) (Some 0) (option_map suc (place_of x ts)) ne) ∙ h)
 ]
   where
-    later : ((k : ℕ) → place_of x ts ≡ Some k → slice_get ts k ≡ Some x) → (o : Option ℕ) → place_of x ts ≡ o → option_map suc o ≡ Some n → slice_get (t ∷ ts) n ≡ Some x
+    later : ((k : ℕ) → place_of x ts ≡ Some k → slice_get ts k ≡ Some x) → (o : Option ℕ) → place_of x ts ≡ o → option_map suc o ≡ Some n
+        → slice_get (t ∷ ts) n ≡ Some x
     later found None e h = absurd (cc)
     later found (Some k) e h =
         let next : suc k ≡ n = cc in
@@ -58,12 +59,14 @@ or_else (Some n) o = Some n
 pub place_push : (y x : List ℕ) (ts : List (List ℕ)) → place_of y (ts ++ x ∷ []) ≡ or_else (place_of y ts) (cond (bytes_eq y x) (Some (length ts)) None)
 place_push y x [] = refl
 place_push y x (t ∷ ts) =
-    elim (bytes_eq y t) as (λ b. cond b (Some 0) (option_map suc (place_of y (ts ++ x ∷ []))) ≡ or_else (cond b (Some 0) (option_map suc (place_of y ts))) (cond (bytes_eq y x) (Some (suc (length ts))) None)) [
+    elim (bytes_eq y t) as (λ b. cond b (Some 0) (option_map suc (place_of y (ts ++ x ∷ [])))
+    ≡ or_else (cond b (Some 0) (option_map suc (place_of y ts))) (cond (bytes_eq y x) (Some (suc (length ts))) None)) [
       | true ↦ refl
       | false ↦ ap (option_map suc) (place_push y x ts) ∙ moved (place_of y ts) (bytes_eq y x)
     ]
   where
-    moved : (o : Option ℕ) (b : Bool) → option_map suc (or_else o (cond b (Some (length ts)) None)) ≡ or_else (option_map suc o) (cond b (Some (suc (length ts))) None)
+    moved : (o : Option ℕ) (b : Bool) → option_map suc (or_else o (cond b (Some (length ts)) None))
+        ≡ or_else (option_map suc o) (cond b (Some (suc (length ts))) None)
     moved None true = refl
     moved None false = refl
     moved (Some k) b = refl
@@ -116,7 +119,8 @@ module _ (slots : List (Option ℕ)) (p m : ℕ) (within : p < length slots) (fr
       )
 
   -- and where the first free place of a text takes its number, no search misses it
-  pub met : (first stop : ℕ) → first ≤ p → p < first + 8 → ((q : ℕ) → first ≤ q → q < p → get_or slots q None ≢ None) → IsMissed (set slots p (Some m)) first stop m → ⊥
+  pub met : (first stop : ℕ) → first ≤ p → p < first + 8 → ((q : ℕ) → first ≤ q → q < p → get_or slots q None ≢ None)
+      → IsMissed (set slots p (Some m)) first stop m → ⊥
   met first stop le lt taken h = elim (cases_lt p stop) [
     | inl inside ↦ h.none p le inside (get_or-set_same slots p (Some m) None within)
     | inr behind ↦ elim h.ended [
@@ -177,7 +181,8 @@ module _ (ts : List (List ℕ)) (x : List ℕ) (none : place_of x ts ≡ None) w
   noted_new = cond-false (list_any (bytes_eq x) ts) ts (ts ++ x ∷ []) (sym (place_any x ts) ∙ ap is_some none)
 
 -- what is found stays found
-pub all_kept : (ts : List (List ℕ)) (x : List ℕ) (i j : Index) → ((n : ℕ) (t : List ℕ) → slice_get ts n ≡ Some t → t ≢ x) → ((t : List ℕ) → (n : ℕ) → t ≢ x → Finds i t n → Finds j t n) → FindsAll ts i → FindsAll ts j
+pub all_kept : (ts : List (List ℕ)) (x : List ℕ) (i j : Index) → ((n : ℕ) (t : List ℕ) → slice_get ts n ≡ Some t → t ≢ x)
+    → ((t : List ℕ) → (n : ℕ) → t ≢ x → Finds i t n → Finds j t n) → FindsAll ts i → FindsAll ts j
 all_kept ts x i j other keeps all n t at = keeps t n (other n t at) (all n t at)
 
 pub all_pushed : (ts : List (List ℕ)) (x : List ℕ) (j : Index) → FindsAll ts j → Finds j x (length ts) → FindsAll (ts ++ x ∷ []) j

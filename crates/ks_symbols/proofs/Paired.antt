@@ -15,7 +15,8 @@ length_paired [] (v ∷ vs) e = absurd (omega arith)
 length_paired (t ∷ ts) [] e = absurd (omega arith)
 length_paired (t ∷ ts) (v ∷ vs) e = ap suc (length_paired ts vs (omega arith))
 
-pub got_paired : {V : Type 0} (ts : List (List ℕ)) (vs : List V) (n : ℕ) (t : List ℕ) (v : V) → slice_get ts n ≡ Some t → slice_get vs n ≡ Some v → Some (t, v) ≡ slice_get (paired ts vs) n
+pub got_paired : {V : Type 0} (ts : List (List ℕ)) (vs : List V) (n : ℕ) (t : List ℕ) (v : V) → slice_get ts n ≡ Some t → slice_get vs n ≡ Some v
+    → Some (t, v) ≡ slice_get (paired ts vs) n
 got_paired [] vs n t v a b = absurd (cc)
 got_paired (u ∷ ts) [] n t v a b = absurd (cc)
 got_paired (u ∷ ts) (w ∷ vs) zero t v a b =
@@ -58,7 +59,8 @@ value_paired x (t ∷ ts) (v ∷ vs) =
       | false ↦ value_paired x ts vs ∙ later v vs (place_of x ts)
     ]
 
-pub paired_push : {V : Type 0} (ts : List (List ℕ)) (vs : List V) (x : List ℕ) (v : V) → length ts ≡ length vs → paired (ts ++ x ∷ []) (vs ++ v ∷ []) ≡ paired ts vs ++ (x, v) ∷ []
+pub paired_push : {V : Type 0} (ts : List (List ℕ)) (vs : List V) (x : List ℕ) (v : V) → length ts ≡ length vs → paired (ts ++ x ∷ []) (vs ++ v ∷ [])
+    ≡ paired ts vs ++ (x, v) ∷ []
 paired_push [] [] x v e = refl
 paired_push [] (w ∷ vs) x v e = absurd (omega arith)
 paired_push (t ∷ ts) [] x v e = absurd (omega arith)

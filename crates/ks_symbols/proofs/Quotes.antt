@@ -21,7 +21,8 @@ or_not_false true b is = refl
 or_not_false false b is = ap not is
 
 pub byte_read : (xs : List ℕ) → 1 < length xs → (get_or xs 0 0 == 92) ≡ false
-    → unquoted_rest xs ≡ cond (get_or xs 0 0 == 34 || not (is_string_byte (get_or xs 0 0))) None (option_map (λ t. get_or xs 0 0 ∷ t) (unquoted_rest (drop 1 xs)))
+    → unquoted_rest xs ≡ cond (get_or xs 0 0 == 34 || not (is_string_byte (get_or xs 0 0))) None
+    (option_map (λ t. get_or xs 0 0 ∷ t) (unquoted_rest (drop 1 xs)))
 unfolding unquoted_rest
 byte_read [] more is = absurd (omega arith)
 byte_read (b ∷ []) more is = absurd (omega arith)
@@ -30,9 +31,11 @@ byte_read (b ∷ c ∷ rest) more is = cond-false (b == 92) _ _ is
 pub last_read : (xs : List ℕ) → length xs ≤ 1 → unquoted_rest xs ≡ cond (bytes_eq xs (34 ∷ [])) (Some []) None
 unfolding unquoted_rest
 last_read [] few = refl
-last_read (b ∷ []) few = elim (b == 34) as (λ r. cond {A = Option (List ℕ)} r (Some []) None ≡ cond {A = Option (List ℕ)} (r && true) (Some []) None) [ true ↦ refl | false ↦ refl ]
+last_read (b ∷ []) few = elim (b == 34) as (λ r. cond {A = Option (List ℕ)} r (Some []) None ≡ cond {A = Option (List ℕ)} (r && true) (Some []) None)
+    [ true ↦ refl | false ↦ refl ]
 last_read (b ∷ c ∷ rest) few = absurd (omega arith)
 
-pub pushed : (front : List ℕ) (x : ℕ) (o : Option (List ℕ)) → option_map (λ t. (front ++ x ∷ []) ++ t) o ≡ option_map (λ t. front ++ t) (option_map (λ t. x ∷ t) o)
+pub pushed : (front : List ℕ) (x : ℕ) (o : Option (List ℕ)) → option_map (λ t. (front ++ x ∷ []) ++ t) o
+    ≡ option_map (λ t. front ++ t) (option_map (λ t. x ∷ t) o)
 pushed front x None = refl
 pushed front x (Some t) = ap (λ (l : List ℕ). Some l) (append_assoc front (x ∷ []) t)

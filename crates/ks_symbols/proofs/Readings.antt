@@ -44,7 +44,8 @@ step_escape c rest t e h = (
   ap (λ (l : List ℕ). 92 ∷ c ∷ l) h.1 ∙ sym (ap (λ (l : List ℕ). (l ++ flat_map escape t) ++ 34 ∷ []) (cond-true (is_escaped c) (92 ∷ c ∷ []) (c ∷ []) e)),
 )
 
-step_byte : (c : ℕ) (rest t : List ℕ) → is_escaped c ≡ false → is_string_byte c ≡ true → IsTrue (list_all is_string_byte t) × (rest ≡ flat_map escape t ++ 34 ∷ [])
+step_byte : (c : ℕ) (rest t : List ℕ) → is_escaped c ≡ false → is_string_byte c ≡ true → IsTrue (list_all is_string_byte t)
+    × (rest ≡ flat_map escape t ++ 34 ∷ [])
     → IsTrue (list_all is_string_byte (c ∷ t)) × (c ∷ rest ≡ flat_map escape (c ∷ t) ++ 34 ∷ [])
 step_byte c rest t e s h = (
   ap (λ a. a && list_all is_string_byte t) s ∙ h.0,
@@ -57,7 +58,8 @@ unfolding unquoted_rest
 spelled [] t e = absurd (cc e)
 spelled (b ∷ []) t e =
     elim (eqb_tells b 34) [
-      | inl w ↦ subst (λ (l : List ℕ). IsTrue (list_all is_string_byte l) × (b ∷ [] ≡ flat_map escape l ++ 34 ∷ [])) (some_is [] t (sym (cond-true (b == 34) (Some []) None w.0) ∙ e)) (refl, ap (λ (x : ℕ). x ∷ []) w.1)
+      | inl w ↦ subst (λ (l : List ℕ). IsTrue (list_all is_string_byte l) × (b ∷ [] ≡ flat_map escape l ++ 34 ∷ []))
+          (some_is [] t (sym (cond-true (b == 34) (Some []) None w.0) ∙ e)) (refl, ap (λ (x : ℕ). x ∷ []) w.1)
       | inr w ↦ let bad : None ≡ Some t = sym (cond-false (b == 34) (Some []) None w.0) ∙ e in absurd (cc bad)
     ]
 spelled (b ∷ c ∷ rest) t e =
@@ -72,7 +74,8 @@ spelled (b ∷ c ∷ rest) t e =
           (λ ne. let bad : None ≡ Some t = sym (cond-false (is_escaped c) _ _ ne) ∙ told in absurd (cc bad))
           (cases_Bool (is_escaped c))
       | inr w ↦
-          let told : cond (b == 34 || not (is_string_byte b)) None (option_map (λ l. b ∷ l) (unquoted_rest (c ∷ rest))) ≡ Some t = sym (cond-false (b == 92) _ _ w.0) ∙ e in
+          let told : cond (b == 34 || not (is_string_byte b)) None (option_map (λ l. b ∷ l) (unquoted_rest (c ∷ rest))) ≡ Some t
+          = sym (cond-false (b == 92) _ _ w.0) ∙ e in
           ⊎_elim
           (λ yes. let bad : None ≡ Some t = sym (cond-true (b == 34 || not (is_string_byte b)) _ _ yes) ∙ told in absurd (cc bad))
           (λ ne.
@@ -89,10 +92,13 @@ not_quote c e = elim (cases_Bool (c == 34)) [
   | inr n ↦ (n, sym (ap (λ x. x || c == 92) n) ∙ e)
 ]
 
-plain_step : (c : ℕ) (l : List ℕ) → is_escaped c ≡ false → is_string_byte c ≡ true → unquoted_rest (c ∷ (l ++ 34 ∷ [])) ≡ option_map (λ t. c ∷ t) (unquoted_rest (l ++ 34 ∷ []))
+plain_step : (c : ℕ) (l : List ℕ) → is_escaped c ≡ false → is_string_byte c ≡ true → unquoted_rest (c ∷ (l ++ 34 ∷ []))
+    ≡ option_map (λ t. c ∷ t) (unquoted_rest (l ++ 34 ∷ []))
 unfolding unquoted_rest
-plain_step c [] e s = cond-false (c == 92) _ _ (not_quote c e).1 ∙ cond-false (c == 34 || not (is_string_byte c)) _ _ (ap (λ x. x || not (is_string_byte c)) (not_quote c e).0 ∙ ap not s)
-plain_step c (x ∷ l) e s = cond-false (c == 92) _ _ (not_quote c e).1 ∙ cond-false (c == 34 || not (is_string_byte c)) _ _ (ap (λ x. x || not (is_string_byte c)) (not_quote c e).0 ∙ ap not s)
+plain_step c [] e s = cond-false (c == 92) _ _ (not_quote c e).1 ∙ cond-false (c == 34 || not (is_string_byte c)) _ _
+    (ap (λ x. x || not (is_string_byte c)) (not_quote c e).0 ∙ ap not s)
+plain_step c (x ∷ l) e s = cond-false (c == 92) _ _ (not_quote c e).1 ∙ cond-false (c == 34 || not (is_string_byte c)) _ _
+    (ap (λ x. x || not (is_string_byte c)) (not_quote c e).0 ∙ ap not s)
 
 read_again : (t : List ℕ) → IsTrue (list_all is_string_byte t) → unquoted_rest (flat_map escape t ++ 34 ∷ []) ≡ Some t
 unfolding unquoted_rest

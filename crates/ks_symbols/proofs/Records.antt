@@ -20,7 +20,8 @@ use Rattle.ks_symbols.proofs.LastOnes.{order, bytes_exact, first, second, turned
 -- what lies in the bytes lies there still when bytes are appended
 pub range_more : (bs more : List ℕ) (a b : ℕ) → b ≤ length bs → slice_range (bs ++ more) a b ≡ slice_range bs a b
 range_more bs more zero b h = take-append-le (b - 0) bs more (omega arith)
-range_more [] more (suc a) b h = let none : b - suc a ≡ 0 = omega arith in ap (λ n. take n (drop (suc a) more)) none ∙ sym (ap (λ n. take n (drop (suc a) [])) none)
+range_more [] more (suc a) b h = let none : b - suc a ≡ 0 = omega arith
+    in ap (λ n. take n (drop (suc a) more)) none ∙ sym (ap (λ n. take n (drop (suc a) [])) none)
 range_more (x ∷ bs) more (suc a) b h =
     let less : b - suc a ≡ (b - 1) - a = omega arith in
     ap (λ n. take n (drop a (bs ++ more))) less ∙ range_more bs more a (b - 1) (omega arith) ∙ sym (ap (λ n. take n (drop a bs)) less)
@@ -29,7 +30,8 @@ range_more (x ∷ bs) more (suc a) b h =
 pub range_end : (bs more : List ℕ) (a b : ℕ) → a ≡ length bs → b ≡ length bs + length more → slice_range (bs ++ more) a b ≡ more
 range_end bs more a b from to =
     let long : b - a ≡ length more = omega arith in
-    ap (λ n. take n (drop a (bs ++ more))) long ∙ ap (λ n. take (length more) (drop n (bs ++ more))) from ∙ ap (take (length more)) (drop-append_seam bs more) ∙ take-length more
+    ap (λ n. take n (drop a (bs ++ more))) long ∙ ap (λ n. take (length more) (drop n (bs ++ more))) from ∙ ap (take (length more)) (drop-append_seam bs more)
+    ∙ take-length more
 
 pub lie_more : {V : Type 0} (n m : ℕ) (rs : List (Record V)) → n ≤ m → LieIn n rs → LieIn m rs
 lie_more n m [] le h = tt
@@ -42,7 +44,8 @@ lie_push n (s ∷ rs) r h p q = (h.0, h.1, lie_push n rs r h.2 p q)
 said_as : {V : Type 0} → Record (Option V) → List ℕ → List ℕ → List ℕ × Option (V × List ℕ)
 said_as r name text = (name, option_map (λ v. (v, text)) r.value)
 
-pub said_more : {V : Type 0} (bs more : List ℕ) (rs : List (Record (Option V))) → LieIn (length bs) rs → map_list (said_in (bs ++ more)) rs ≡ map_list (said_in bs) rs
+pub said_more : {V : Type 0} (bs more : List ℕ) (rs : List (Record (Option V))) → LieIn (length bs) rs → map_list (said_in (bs ++ more)) rs
+    ≡ map_list (said_in bs) rs
 unfolding said_as
 said_more bs more [] h = refl
 said_more bs more (r ∷ rs) h =
@@ -62,7 +65,8 @@ said_pushed bs name text rs r h from mid to =
     range_more (bs ++ name) text r.start r.middle (omega (arith, long)) ∙ range_end bs name r.start r.middle from mid in
     let there : text_in all r ≡ text = range_end (bs ++ name) text r.middle r.end (omega (arith, long)) (omega (arith, long)) in
     map-append (said_in all) rs (r ∷ [])
-    ∙ ap (λ (l : List _). l ++ said_in all r ∷ []) (said_more (bs ++ name) text rs (lie_more (length bs) (length (bs ++ name)) rs (omega (arith, long)) h) ∙ said_more bs name rs h)
+    ∙ ap (λ (l : List _). l ++ said_in all r ∷ []) (said_more (bs ++ name) text rs (lie_more (length bs) (length (bs ++ name)) rs (omega (arith, long)) h) ∙
+    said_more bs name rs h)
     ∙ ap (λ (n : List ℕ). map_list (said_in bs) rs ++ said_as r n (text_in all r) ∷ []) here
     ∙ ap (λ (t : List ℕ). map_list (said_in bs) rs ++ said_as r name t ∷ []) there
 
@@ -95,12 +99,14 @@ not_equal Greater h = absurd h
 
 module _ {V : Type 0} (bs q : List ℕ) where
   -- a record that the search finds, in rising order, is the one
-  below_at : (x : List ℕ) (rs : List (Record V)) (i : ℕ) (d : Record V) → i < length rs → T (below_all order x (map_list (entry_in bs) rs)) → T (is_lt (order x (name_in bs (get_or rs i d))))
+  below_at : (x : List ℕ) (rs : List (Record V)) (i : ℕ) (d : Record V) → i < length rs → T (below_all order x (map_list (entry_in bs) rs))
+      → T (is_lt (order x (name_in bs (get_or rs i d))))
   below_at x [] i d lt h = absurd (omega arith)
   below_at x (r ∷ rs) zero d lt h = first _ _ h
   below_at x (r ∷ rs) (suc i) d lt h = below_at x rs i d (omega arith) (second _ _ h)
 
-  pub found_at : (rs : List (Record V)) (i : ℕ) (d : Record V) → i < length rs → T (is_sorted order (map_list (entry_in bs) rs)) → order (name_in bs (get_or rs i d)) q ≡ Equal
+  pub found_at : (rs : List (Record V)) (i : ℕ) (d : Record V) → i < length rs → T (is_sorted order (map_list (entry_in bs) rs))
+      → order (name_in bs (get_or rs i d)) q ≡ Equal
       → find order q (map_list (entry_in bs) rs) ≡ Some (entry_in bs (get_or rs i d)).1
   found_at [] i d lt h is = absurd (omega arith)
   found_at (r ∷ rs) zero d lt h is = find_first q (entry_in bs r) (map_list (entry_in bs) rs) is
@@ -109,11 +115,13 @@ module _ {V : Type 0} (bs q : List ℕ) where
       let other : is_eq (order (name_in bs r) q) ≡ false = subst (λ (n : List ℕ). is_eq (order (name_in bs r) n) ≡ false) (tied _ q is) (not_equal _ above) in
       find_behind q (entry_in bs r) (map_list (entry_in bs) rs) other ∙ found_at rs i d (omega arith) (second _ _ h) is
 
-  pub found_none : (rs : List (Record V)) → ((k : ℕ) (d : Record V) → k < length rs → is_eq (order (name_in bs (get_or rs k d)) q) ≡ false) → find order q (map_list (entry_in bs) rs) ≡ None
+  pub found_none : (rs : List (Record V)) → ((k : ℕ) (d : Record V) → k < length rs → is_eq (order (name_in bs (get_or rs k d)) q) ≡ false)
+      → find order q (map_list (entry_in bs) rs) ≡ None
   found_none [] h = refl
   found_none (r ∷ rs) h = find_behind q (entry_in bs r) (map_list (entry_in bs) rs) (h 0 r (omega arith)) ∙ found_none rs (λ k d lt. h (suc k) d (omega arith))
 
-  rising : (rs : List (Record V)) → T (is_sorted order (map_list (entry_in bs) rs)) → (k : ℕ) (d : Record V) → suc k < length rs → is_lt (order (name_in bs (get_or rs (suc k) d)) (name_in bs (get_or rs k d))) ≡ false
+  rising : (rs : List (Record V)) → T (is_sorted order (map_list (entry_in bs) rs)) → (k : ℕ) (d : Record V) → suc k < length rs
+      → is_lt (order (name_in bs (get_or rs (suc k) d)) (name_in bs (get_or rs k d))) ≡ false
   rising [] h k d lt = absurd (omega arith)
   rising (r ∷ rs) h zero d lt = not_back (name_in bs r) _ (below_at (name_in bs r) rs 0 d (omega arith) (first _ _ h))
   rising (r ∷ rs) h (suc k) d lt = rising rs (second _ _ h) k d (omega arith)
@@ -124,10 +132,12 @@ module _ {V : Type 0} (bs q : List ℕ) where
       subst (λ (n : ℕ). is_lt (order (name_in bs (get_or rs n d)) (name_in bs (get_or rs k d))) ≡ false) on (rising rs h k d (omega arith))
 
   -- what the search asks, and that nothing is there where it finds nothing
-  pub searchable : (rs : List (Record V)) → T (is_sorted order (map_list (entry_in bs) rs)) → IsNonDecreasingBy (λ r. ordering_index (order (name_in bs r) q)) rs
+  pub searchable : (rs : List (Record V)) → T (is_sorted order (map_list (entry_in bs) rs))
+      → IsNonDecreasingBy (λ r. ordering_index (order (name_in bs r) q)) rs
   searchable rs h = searchable_from_sorted nat_list_cmp_total (name_in bs) rs q (sorted_by rs h)
 
-  pub parted_none : (rs : List (Record V)) (i : ℕ) → IsPartitionPoint (λ r. order (name_in bs r) q ≡ Less) (λ r. order (name_in bs r) q ≡ Greater) rs i → find order q (map_list (entry_in bs) rs) ≡ None
+  pub parted_none : (rs : List (Record V)) (i : ℕ) → IsPartitionPoint (λ r. order (name_in bs r) q ≡ Less) (λ r. order (name_in bs r) q ≡ Greater) rs i
+      → find order q (map_list (entry_in bs) rs) ≡ None
   parted_none rs i h = found_none rs (λ k d lt. elim (split k i) [
     | inl less ↦ ap is_eq (h.0 k d (omega arith) less)
     | inr more ↦ ap is_eq (h.1 k d more lt)

@@ -19,7 +19,8 @@ run_split : (p : ℕ → Bool) (xs : List ℕ) → xs ≡ take_while p xs ++ dro
 run_split p [] = refl
 run_split p (x ∷ xs) =
     ⊎_elim
-    (λ yes. subst (λ (l : List ℕ). x ∷ xs ≡ l ++ drop (length l) (x ∷ xs)) (sym (take_while-cons p x xs ∙ cond-true (p x) _ _ yes)) (ap (λ (l : List ℕ). x ∷ l) (run_split p xs)))
+    (λ yes. subst (λ (l : List ℕ). x ∷ xs ≡ l ++ drop (length l) (x ∷ xs)) (sym (take_while-cons p x xs ∙ cond-true (p x) _ _ yes))
+    (ap (λ (l : List ℕ). x ∷ l) (run_split p xs)))
     (λ ne. subst (λ (l : List ℕ). x ∷ xs ≡ l ++ drop (length l) (x ∷ xs)) (sym (take_while-cons p x xs ∙ cond-false (p x) _ _ ne)) refl)
     (cases_Bool (p x))
 
@@ -50,7 +51,8 @@ assigned : (name written : List ℕ) → is_name name ≡ true → assignment (n
 unfolding assignment
 assigned name written e =
     let text = name ++ 61 ∷ written in
-    ap (λ (n : List ℕ). cond (is_name n && starts_with nat_eq (drop (length n) text) (61 ∷ [])) (Some (Assigns n (drop 1 (drop (length n) text)))) None) (run_is is_word_byte name 61 written (word_bytes name e) refl)
+    ap (λ (n : List ℕ). cond (is_name n && starts_with nat_eq (drop (length n) text) (61 ∷ [])) (Some (Assigns n (drop 1 (drop (length n) text)))) None)
+    (run_is is_word_byte name 61 written (word_bytes name e) refl)
     ∙ ap (λ (b : List ℕ). cond (is_name name && starts_with nat_eq b (61 ∷ [])) (Some (Assigns name (drop 1 b))) None) (behind_is name (61 ∷ written))
     ∙ ap (λ b. cond (b && true) (Some (Assigns name written)) None) e
 
@@ -58,7 +60,8 @@ unset : (name : List ℕ) → is_name name ≡ true → unsetting (name ++ codes
 unfolding unsetting
 unset name e =
     let text = name ++ codes " is not set" in
-    ap (λ (n : List ℕ). cond (is_name n && bytes_eq (drop (length n) text) (codes " is not set")) (Some (Unsets n)) None) (run_is is_word_byte name 32 (drop 1 (codes " is not set")) (word_bytes name e) refl)
+    ap (λ (n : List ℕ). cond (is_name n && bytes_eq (drop (length n) text) (codes " is not set")) (Some (Unsets n)) None)
+    (run_is is_word_byte name 32 (drop 1 (codes " is not set")) (word_bytes name e) refl)
     ∙ ap (λ (b : List ℕ). cond (is_name name && bytes_eq b (codes " is not set")) (Some (Unsets name)) None) (behind_is name (codes " is not set"))
     ∙ ap (λ b. cond (b && true) (Some (Unsets name)) None) e
 
@@ -71,7 +74,8 @@ says_assignment line text said is e =
     let parts = and_parts (is_name name) (starts_with nat_eq behind (61 ∷ [])) told.0 in
     subst (Says line) told.1 (
       parts.0,
-      is ∙ ap (λ (l : List ℕ). codes "CONFIG_" ++ l) (run_split is_word_byte text ∙ ap (λ (l : List ℕ). name ++ l) (opened behind (61 ∷ []) parts.1) ∙ sym (append_assoc name (61 ∷ []) (drop 1 behind))),
+      is ∙ ap (λ (l : List ℕ). codes "CONFIG_" ++ l) (run_split is_word_byte text ∙ ap (λ (l : List ℕ). name ++ l) (opened behind (61 ∷ []) parts.1) ∙ sym
+          (append_assoc name (61 ∷ []) (drop 1 behind))),
     )
 
 says_unsetting : (line text : List ℕ) (said : Statement) → line ≡ codes "# CONFIG_" ++ text → unsetting text ≡ Some said → Says line said
@@ -83,7 +87,8 @@ says_unsetting line text said is e =
     let parts = and_parts (is_name name) (bytes_eq behind (codes " is not set")) told.0 in
     subst (Says line) told.1 (
       parts.0,
-      is ∙ ap (λ (l : List ℕ). codes "# CONFIG_" ++ l) (run_split is_word_byte text ∙ ap (λ (l : List ℕ). name ++ l) ((bytes_decides behind (codes " is not set")).0 parts.1)),
+      is ∙ ap (λ (l : List ℕ). codes "# CONFIG_" ++ l) (run_split is_word_byte text ∙ ap (λ (l : List ℕ). name ++ l)
+          ((bytes_decides behind (codes " is not set")).0 parts.1)),
     )
 
 spelled : (line : List ℕ) (said : Statement) → statement line ≡ Some said → Says line said

@@ -51,13 +51,15 @@ entry_split true false l n R = refl
 step_agrees : (kinds : NameMap Kind) (symbols : Configuration) (title : Option (List ℕ)) (started : Bool) (waiting : Option (ℕ × List ℕ)) (said : List Form)
     → Matches (made kinds symbols title started waiting) said → (n : ℕ) (f : Form) (later : List Form) (R : Option SourceError)
     → or_else (lacking waiting (find says (f ∷ later))) (or_else (form_fault n said f later) R)
-    ≡ or_else (step_fault (made kinds symbols title started waiting) n f) (or_else (lacking (progress_after (made kinds symbols title started waiting) n f).waiting (find says later)) R)
+    ≡ or_else (step_fault (made kinds symbols title started waiting) n f)
+    (or_else (lacking (progress_after (made kinds symbols title started waiting) n f).waiting (find says later)) R)
 step_agrees kinds symbols title started waiting said m n Silent later R = refl
 step_agrees kinds symbols title started None said m n Unknown later R = refl
 step_agrees kinds symbols title started (Some w) said m n Unknown later R = refl
 step_agrees kinds symbols title started None said m n Untitled later R = refl
 step_agrees kinds symbols title started (Some w) said m n Untitled later R = refl
-step_agrees kinds symbols title started None said m n (Title t) later R = ap (λ b. or_else (cond (is_title t && not b) None (Some (fault.BadTitle n))) R) (sym m.started)
+step_agrees kinds symbols title started None said m n (Title t) later R = ap (λ b. or_else (cond (is_title t && not b) None (Some (fault.BadTitle n))) R)
+    (sym m.started)
 step_agrees kinds symbols title started (Some w) said m n (Title t) later R = refl
 step_agrees kinds symbols title started None said m n (Entry x) later R =
     entry_split (is_name x) (ends_with nat_eq x module_end) (lacks_kind (find says later)) n R
@@ -101,7 +103,8 @@ pub run_end : Progress → ℕ → List Form → Progress
 run_end s n [] = s
 run_end s n (f ∷ later) = run_end (progress_after s n f) (n + 1) later
 
-pub run_fault-cons : (s : Progress) (n : ℕ) (f : Form) (later : List Form) → run_fault s n (f ∷ later) ≡ or_else (step_fault s n f) (run_fault (progress_after s n f) (n + 1) later)
+pub run_fault-cons : (s : Progress) (n : ℕ) (f : Form) (later : List Form) → run_fault s n (f ∷ later)
+    ≡ or_else (step_fault s n f) (run_fault (progress_after s n f) (n + 1) later)
 unfolding run_fault
 run_fault-cons s n f later = refl
 
@@ -129,7 +132,8 @@ run_agrees s said m n [] = at_end s.waiting
 run_agrees s said m n (f ∷ later) =
     let R = first_form_fault (n + 1) (goes_on f said) later in
     let after = progress_after s n f in
-    elim (step_fault s n f) as (λ o. step_fault s n f ≡ o → or_else o (run_fault after (n + 1) later) ≡ or_else o (or_else (lacking after.waiting (find says later)) R)) [
+    elim (step_fault s n f) as (λ o. step_fault s n f ≡ o → or_else o (run_fault after (n + 1) later)
+    ≡ or_else o (or_else (lacking after.waiting (find says later)) R)) [
       | None ↦ λ e. run_agrees after (goes_on f said) (step_matches s.kinds s.symbols s.title s.started s.waiting said m n f e) (n + 1) later
       | Some x ↦ λ e. refl
     ] refl
@@ -141,12 +145,14 @@ story_after said [] = said
 story_after said (f ∷ later) = story_after (goes_on f said) later
 
 -- and where it refuses nothing it ends where the whole story leads
-pub run_matches : (s : Progress) (said : List Form) → Matches s said → (n : ℕ) (forms : List Form) → run_fault s n forms ≡ None → Matches (run_end s n forms) (story_after said forms)
+pub run_matches : (s : Progress) (said : List Form) → Matches s said → (n : ℕ) (forms : List Form) → run_fault s n forms ≡ None
+    → Matches (run_end s n forms) (story_after said forms)
 unfolding run_fault run_end story_after
 run_matches s said m n [] e = m
 run_matches s said m n (f ∷ later) e =
     let after = progress_after s n f in
-    elim (step_fault s n f) as (λ o. step_fault s n f ≡ o → or_else o (run_fault after (n + 1) later) ≡ None → Matches (run_end after (n + 1) later) (story_after (goes_on f said) later)) [
+    elim (step_fault s n f) as (λ o. step_fault s n f ≡ o → or_else o (run_fault after (n + 1) later) ≡ None
+    → Matches (run_end after (n + 1) later) (story_after (goes_on f said) later)) [
       | None ↦ λ is h. run_matches after (goes_on f said) (step_matches s.kinds s.symbols s.title s.started s.waiting said m n f is) (n + 1) later h
       | Some x ↦ λ is h. absurd (cc h)
     ] refl e
@@ -155,7 +161,8 @@ went_on : (f : Form) (said rest : List Form) (b : Bool) → b ≡ says f → res
 went_on f said rest true e = sym (append_assoc rest (f ∷ []) said)
 went_on f said rest false e = ap (λ (l : List Form). l ++ said) (sym (append-nil rest))
 
-filtered : (f : Form) (later : List Form) (b : Bool) → reverse (cond b (f ∷ filter says later) (filter says later)) ≡ reverse (filter says later) ++ cond b (f ∷ []) []
+filtered : (f : Form) (later : List Form) (b : Bool) → reverse (cond b (f ∷ filter says later) (filter says later)) ≡ reverse (filter says later)
+    ++ cond b (f ∷ []) []
 filtered f later true = reverse_onto (filter says later) f []
 filtered f later false = sym (append-nil (reverse (filter says later)))
 
@@ -215,7 +222,8 @@ unfolding run_end
 kept_run s n [] h = h
 kept_run s n (f ∷ later) h = kept_run (progress_after s n f) (n + 1) later (kept_step s n f h)
 
-pub symbols_kept : (s : Progress) (n : ℕ) (forms : List Form) → run_end s n [] ≡ run_end no_progress 1 forms → (x : List ℕ) → option_map (λ e. e.0) (map.get s.symbols x) ≡ map.get s.kinds x
+pub symbols_kept : (s : Progress) (n : ℕ) (forms : List Form) → run_end s n [] ≡ run_end no_progress 1 forms → (x : List ℕ)
+    → option_map (λ e. e.0) (map.get s.symbols x) ≡ map.get s.kinds x
 unfolding run_end
 symbols_kept s n forms ends =
     subst KeepsKinds (sym ends) (kept_run no_progress 1 forms (λ x. ap (option_map (λ e. e.0)) (map.get-empty _ x) ∙ sym (map.get-empty _ x)))

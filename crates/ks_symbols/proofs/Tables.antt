@@ -19,7 +19,8 @@ found q (e ∷ es) = ap (λ b. cond b (Some e.1) (find order q es)) (is_eq-slice
 pub get-by_name : {X : Type 0} (es : List (List ℕ × X)) (q : List ℕ) → map.get (by_name es) q ≡ value_of q es
 get-by_name es q = map.get-from_entries nat_list_cmp_total es q ∙ found q es
 
-value_push : {X : Type 0} (q x : List ℕ) (v : X) (es : List (List ℕ × X)) → value_of x es ≡ None → value_of q (es ++ (x, v) ∷ []) ≡ cond (bytes_eq x q) (Some v) (value_of q es)
+value_push : {X : Type 0} (q x : List ℕ) (v : X) (es : List (List ℕ × X)) → value_of x es ≡ None → value_of q (es ++ (x, v) ∷ [])
+    ≡ cond (bytes_eq x q) (Some v) (value_of q es)
 value_push q x v [] none = ap (λ b. cond b (Some v) None) (nat_list_eq_equiv.symm q x)
 value_push q x v (e ∷ es) none = elim (cases_Bool (bytes_eq x e.0)) [
   | inl is ↦ absurd (let e : Some e.1 ≡ None = sym (cond-true (bytes_eq x e.0) (Some e.1) (value_of x es) is) ∙ none in cc)
@@ -65,11 +66,13 @@ shown : {X Y : Type 0} (see : X → Y) (b : Bool) (s : X) (o : Option X) → con
 shown see true s o = refl
 shown see false s o = refl
 
-find_values : {X Y : Type 0} (see : X → Y) (q : List ℕ) (es : List (List ℕ × X)) → find order q (map_list (λ e. (e.0, see e.1)) es) ≡ option_map see (find order q es)
+find_values : {X Y : Type 0} (see : X → Y) (q : List ℕ) (es : List (List ℕ × X)) → find order q (map_list (λ e. (e.0, see e.1)) es)
+    ≡ option_map see (find order q es)
 find_values see q [] = refl
 find_values see q (e ∷ es) = ap (cond (is_eq (order q e.0)) (Some (see e.1))) (find_values see q es) ∙ shown see (is_eq (order q e.0)) e.1 (find order q es)
 
 pub get-with_values : {X Y : Type 0} (see : X → Y) (m : NameMap X) (q : List ℕ) → map.get (with_values see m) q ≡ option_map see (map.get m q)
 unfolding with_values
 get-with_values see m q =
-    map.get-from_entries nat_list_cmp_total (map_list (λ e. (e.0, see e.1)) (map.entries m)) q ∙ find_values see q (map.entries m) ∙ ap (option_map see) (sym (map.get-entries m q))
+    map.get-from_entries nat_list_cmp_total (map_list (λ e. (e.0, see e.1)) (map.entries m)) q ∙ find_values see q (map.entries m) ∙ ap (option_map see)
+    (sym (map.get-entries m q))

@@ -106,7 +106,8 @@ title_form rest =
 unfoldable pub word_form : Bool → List ℕ → List ℕ → Form
 word_form at_front word rest =
     if bytes_eq word (codes "mainmenu") then (if at_front then title_form rest else Untitled)
-    else (if bytes_eq word (codes "config") || bytes_eq word (codes "menuconfig") then (if at_front && is_one_word rest then Entry (first_word rest) else Unknown)
+    else (if bytes_eq word (codes "config") || bytes_eq word (codes "menuconfig")
+    then (if at_front && is_one_word rest then Entry (first_word rest) else Unknown)
     else kind_form word rest)
 
 unfoldable pub form : List ℕ → Form

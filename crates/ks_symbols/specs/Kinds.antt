@@ -1,4 +1,5 @@
--- The kinds of symbols and their texts (sym_string_valid of scripts/kconfig/symbol.c, where the kernel warns; that a text of another form is refused is a rule of this project).
+-- The kinds of symbols and their texts (sym_string_valid of scripts/kconfig/symbol.c, where the kernel warns; that a text of another form
+-- is refused is a rule of this project).
 use Rattle.std.specs.Prelude.{ℕ, Bool, ◌||◌, ◌&&◌, not, ◌==◌, nat_eq, List, length, slice_index, codes, ◌≡◌, cond, drop, bytes_eq, if◌then◌else◌, refl, false}
 use Rattle.std.specs.List.{list_all, starts_with}
 use Rattle.std.specs.Char.{is_ascii_digit, is_ascii_hexdigit}

@@ -1,4 +1,5 @@
--- Word bytes, names of symbols and paths. A name is what `config` declares (Documentation/kbuild/kconfig-language.rst); its length, and what a path may hold, are rules of this project.
+-- Word bytes, names of symbols and paths. A name is what `config` declares (Documentation/kbuild/kconfig-language.rst); its length, and
+-- what a path may hold, are rules of this project.
 use Rattle.std.specs.Prelude.{ℕ, Bool, ◌||◌, ◌&&◌, not, ◌==◌, nat_le, nat_eq, List, length, slice_index, ◌-◌, codes, if◌then◌else◌, take, bytes_eq}
 use Rattle.std.specs.List.{list_all, list_any, ends_with}
 use Rattle.std.specs.Char.{is_ascii_alphanumeric}

@@ -14,7 +14,8 @@ use Rattle.ks_symbols.specs.Titles.{is_title}
 use Rattle.ks_symbols.specs.Forms.{Form, Silent, Title, Untitled, Entry, HasKind, Unknown}
 use Rattle.ks_symbols.specs.Kconfig.{clashes}
 
--- the kinds so far, the symbols that are to be kept, the title, whether a title or an entry was seen, and the line and the name of an entry that waits for its kind
+-- the kinds so far, the symbols that are to be kept, the title, whether a title or an entry was seen, and the line and the name of an entry
+-- that waits for its kind
 pub record Progress : Type 0 where
   pub kinds : NameMap Kind
   pub symbols : Configuration
@@ -27,7 +28,8 @@ coded_progress =
     code_by (NameMap Kind × (Configuration × (Option (List ℕ) × (Bool × Option (ℕ × List ℕ)))))
     (coded× (map.code (coded_list coded_ℕ) coded_kind) (coded× (map.code (coded_list coded_ℕ) (coded× coded_kind (coded_list coded_ℕ)))
     (coded× (coded_option (coded_list coded_ℕ)) (coded× coded_bool (coded_option (coded× coded_ℕ (coded_list coded_ℕ)))))))
-    (λ s. (s.kinds, (s.symbols, (s.title, (s.started, s.waiting))))) (λ p. record { kinds = p.0; symbols = p.1.0; title = p.1.1.0; started = p.1.1.1.0; waiting = p.1.1.1.1 }) (λ _. refl)
+    (λ s. (s.kinds, (s.symbols, (s.title, (s.started, s.waiting)))))
+    (λ p. record { kinds = p.0; symbols = p.1.0; title = p.1.1.0; started = p.1.1.1.0; waiting = p.1.1.1.1 }) (λ _. refl)
 
 abbrev pub no_progress : Progress
 no_progress = record { kinds = map.empty; symbols = map.empty; title = None; started = false; waiting = None }
@@ -51,7 +53,8 @@ given_fault s number k None = Some (fault.NotBare number)
 given_fault s number k (Some w) = if clashes k (map.get s.kinds w.1) then Some (fault.TypeClash number) else None
 
 abbrev pub name_fault : ℕ → List ℕ → Option SourceError
-name_fault number name = if not (is_name name) then Some (fault.BadName number) else (if ends_with nat_eq name module_end then Some (fault.ModuleName number) else None)
+name_fault number name = if not (is_name name) then Some (fault.BadName number)
+    else (if ends_with nat_eq name module_end then Some (fault.ModuleName number) else None)
 
 abbrev pub title_fault : Bool → ℕ → List ℕ → Option SourceError
 title_fault started number title = if is_title title && not started then None else Some (fault.BadTitle number)

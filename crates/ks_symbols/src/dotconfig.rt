@@ -32,7 +32,8 @@ fn assign(
     name: &[u8],
     written: &[u8],
 ) -> Result<(), SourceError>
-    ensures entries { OnOk result ((x : List ℕ) → map.get settings.new.entries x ≡ cond (bytes_eq name.now x) (entry_with kind (text_of kind written.now)) (map.get settings.old.entries x)) }
+    ensures entries { OnOk result ((x : List ℕ) → map.get settings.new.entries x ≡ cond (bytes_eq name.now x) (entry_with kind (text_of kind written.now))
+        (map.get settings.old.entries x)) }
     ensures unknown { OnOk result (settings.new.unknown ≡ settings.old.unknown) }
     ensures refusal { RefusedBy SourceError.OutOfMemory result (value_fault number written.now (Some kind)) }
 {
@@ -56,8 +57,10 @@ fn apply(
     line: &[u8],
 ) -> Result<(), SourceError>
     requires { settings.old.unknown < 2 ^ 63 }
-    ensures entries { OnOk result ((x : List ℕ) → map.get settings.new.entries x ≡ after_statement (map.get symbols.now.kinds x) x (statement line.now) (map.get settings.old.entries x)) }
-    ensures unknown { OnOk result (settings.new.unknown ≡ settings.old.unknown + (if is_of_unknown (map.get symbols.now.kinds) (statement line.now) then 1 else 0)) }
+    ensures entries { OnOk result ((x : List ℕ) → map.get settings.new.entries x ≡ after_statement (map.get symbols.now.kinds x) x (statement line.now)
+        (map.get settings.old.entries x)) }
+    ensures unknown { OnOk result (settings.new.unknown ≡ settings.old.unknown
+        + (if is_of_unknown (map.get symbols.now.kinds) (statement line.now) then 1 else 0)) }
     ensures refusal { RefusedBy SourceError.OutOfMemory result (fault_of_statement (map.get symbols.now.kinds) number line.now (statement line.now)) }
 {
     match parse_statement(line) {

@@ -44,7 +44,8 @@ fn first_place(text: &[u8], slots: usize) -> usize
 /// The number of a text, where it lies at one of its places with no free one before it.
 fn probe(slots: &[Option<usize>], texts: &Texts, text: &[u8]) -> Option<usize>
     ensures found { IfSome result (λ n. slice_get texts.now n ≡ Some text.now) }
-    ensures missed { IfNone result ((n : ℕ) → slice_get texts.now n ≡ Some text.now → (stop : ℕ) × IsMissed slots.now (first_place text.now (length slots.now)) stop n) }
+    ensures missed { IfNone result ((n : ℕ) → slice_get texts.now n ≡ Some text.now → (stop : ℕ)
+        × IsMissed slots.now (first_place text.now (length slots.now)) stop n) }
 {
     let first = first_place(text, slots.len());
     for place in first..first + PLACES {

@@ -77,7 +77,14 @@ impl<'a> Model for Reader<'a> {
 
     ghost coded = { coded_progress };
 
-    ghost view = { λ s. record { kinds = by_name s.kinds; symbols = s.symbols; title = option_map (λ t. t.now) s.title; started = s.started; waiting = option_map (λ w. (w.0, w.1.now)) s.waiting } };
+    ghost view = { λ s. record {
+      kinds = by_name s.kinds;
+      symbols = s.symbols;
+      title = option_map (λ t. t.now) s.title;
+      started = s.started;
+      waiting
+          = option_map (λ w. (w.0, w.1.now)) s.waiting;
+    } };
 }
 
 impl<'a> Reader<'a> {

@@ -113,7 +113,8 @@ impl SettingsDraft {
 
     /// Gives a symbol a kind and a text, in place of those before.
     pub(crate) fn put(&mut self, name: &[u8], kind: Kind, text: &[u8]) -> Result<(), AllocError>
-        ensures entries { OnOk result ((x : List ℕ) → map.get self.new.entries x ≡ cond (bytes_eq name.now x) (Some (kind, text.now)) (map.get self.old.entries x)) }
+        ensures entries { OnOk result ((x : List ℕ) → map.get self.new.entries x
+            ≡ cond (bytes_eq name.now x) (Some (kind, text.now)) (map.get self.old.entries x)) }
         ensures unknown { OnOk result (self.new.unknown ≡ self.old.unknown) }
     {
         self.entries.put(name, kind, text)

@@ -24,7 +24,8 @@ last-append (x ∷ z ∷ xs) y ys = last-append (z ∷ xs) y ys
 
 any-append : (f : ℕ → Bool) (xs ys : List ℕ) → list_any f (xs ++ ys) ≡ (list_any f xs || list_any f ys)
 any-append f [] ys = refl
-any-append f (x ∷ xs) ys = elim (f x) as (λ b. (b || list_any f (xs ++ ys)) ≡ ((b || list_any f xs) || list_any f ys)) [ true ↦ refl | false ↦ any-append f xs ys ]
+any-append f (x ∷ xs) ys = elim (f x) as (λ b. (b || list_any f (xs ++ ys)) ≡ ((b || list_any f xs) || list_any f ys))
+    [ true ↦ refl | false ↦ any-append f xs ys ]
 
 word_no_dot : (c : ℕ) → is_word_byte c ≡ true → nat_eq 46 c ≡ false
 word_no_dot c h = elim (cases_eq 46 c) [
@@ -44,7 +45,8 @@ stamp_no_dot x h = words_no_dot x (and_parts _ (list_all is_word_byte x) h).1
 dotted_dot : (p : List ℕ) (s : List ℕ) → has_dot (dotted p ++ s) ≡ true
 unfolding has_dot
 dotted_dot [] s = refl
-dotted_dot (c ∷ cs) s = elim (has_slash (c ∷ cs)) as (λ b. has_dot ((cond b (c ∷ dotted cs) (46 ∷ c ∷ cs)) ++ s) ≡ true) [ true ↦ or_right (nat_eq 46 c) _ (dotted_dot cs s) | false ↦ refl ]
+dotted_dot (c ∷ cs) s = elim (has_slash (c ∷ cs)) as (λ b. has_dot ((cond b (c ∷ dotted cs) (46 ∷ c ∷ cs)) ++ s) ≡ true)
+    [ true ↦ or_right (nat_eq 46 c) _ (dotted_dot cs s) | false ↦ refl ]
 
 -- ---- the paths apart
 
@@ -74,7 +76,8 @@ ending-command o = cond-true (has_dot (dotted o ++ codes ".cmd")) _ _ (dotted_do
 
 pub ending-command_temporary : (o : List ℕ) → ending (command_temporary o) ≡ 112
 unfolding ending command_temporary
-ending-command_temporary o = cond-true (has_dot (dotted o ++ codes ".cmd.tmp")) _ _ (dotted_dot o (codes ".cmd.tmp")) ∙ last-append (dotted o) 46 (codes "cmd.tmp") ∙ last_command_temporary
+ending-command_temporary o = cond-true (has_dot (dotted o ++ codes ".cmd.tmp")) _ _ (dotted_dot o (codes ".cmd.tmp")) ∙ last-append (dotted o) 46
+    (codes "cmd.tmp") ∙ last_command_temporary
 
 pub ending-auto : ending auto_path ≡ 102
 unfolding ending auto_path has_dot last
@@ -115,7 +118,8 @@ pub undotted-dotted : (p : List ℕ) → undotted (dotted p) ≡ p
 unfolding undotted
 undotted-dotted [] = refl
 undotted-dotted (c ∷ cs) = elim (has_slash (c ∷ cs)) as (λ b. has_slash (c ∷ cs) ≡ b → undotted (cond b (c ∷ dotted cs) (46 ∷ c ∷ cs)) ≡ c ∷ cs) [
-  | true ↦ λ e. cond-true _ (c ∷ undotted (dotted cs)) (dotted cs) (ap (λ b. nat_eq 47 c || b) (slash-dotted cs) ∙ e) ∙ ap (λ rest. c ∷ rest) (undotted-dotted cs)
+  | true ↦ λ e. cond-true _ (c ∷ undotted (dotted cs)) (dotted cs) (ap (λ b. nat_eq 47 c || b) (slash-dotted cs) ∙ e) ∙ ap (λ rest. c ∷ rest)
+      (undotted-dotted cs)
   | false ↦ λ e. cond-false _ (46 ∷ undotted (c ∷ cs)) (c ∷ cs) e
 ] refl
 
@@ -136,7 +140,8 @@ any-push f xs c = any-append f xs (c ∷ []) ∙ ap (λ b. list_any f xs || b) (
 pub dotted-slash : (xs : List ℕ) → dotted (xs ++ 47 ∷ []) ≡ xs ++ 47 ∷ 46 ∷ []
 dotted-slash [] = refl
 dotted-slash (x ∷ xs) =
-    cond-true _ (x ∷ dotted (xs ++ 47 ∷ [])) _ (any-push (nat_eq 47) (x ∷ xs) 47 ∙ or_right (has_slash (x ∷ xs)) true refl) ∙ ap (λ rest. x ∷ rest) (dotted-slash xs)
+    cond-true _ (x ∷ dotted (xs ++ 47 ∷ [])) _ (any-push (nat_eq 47) (x ∷ xs) 47 ∙ or_right (has_slash (x ∷ xs)) true refl) ∙ ap (λ rest. x ∷ rest)
+    (dotted-slash xs)
 
 -- any other byte belongs to the last part
 pub dotted-push : (xs : List ℕ) (c : ℕ) → nat_eq 47 c ≡ false → dotted (xs ++ c ∷ []) ≡ dotted xs ++ c ∷ []
@@ -159,13 +164,15 @@ border_slash p i n h slash is =
     let more : take (i + 1) p ≡ take i p ++ 47 ∷ [] = take_more p i 0 h ∙ ap (λ c. take i p ++ c ∷ []) slash in
     let none : drop (i + 1) (take (i + 1) p) ≡ [] = drop_all (i + 1) (take (i + 1) p) (omega (arith, length-take (i + 1) p)) in
     subst (λ n. dotted (take (i + 1) p) ≡ take n p ++ 46 ∷ drop n (take (i + 1) p)) (sym is)
-    (ap dotted more ∙ dotted-slash (take i p) ∙ sym (append_assoc (take i p) (47 ∷ []) (46 ∷ [])) ∙ ap (λ xs. xs ++ 46 ∷ []) (sym more) ∙ ap (λ rest. take (i + 1) p ++ 46 ∷ rest) (sym none))
+    (ap dotted more ∙ dotted-slash (take i p) ∙ sym (append_assoc (take i p) (47 ∷ []) (46 ∷ [])) ∙ ap (λ xs. xs ++ 46 ∷ []) (sym more) ∙ ap
+    (λ rest. take (i + 1) p ++ 46 ∷ rest) (sym none))
 
 pub border_other : (p : List ℕ) (i n : ℕ) → i < length p → (get_or p i 0 ≡ 47 → ⊥) → n ≤ i → dotted (take i p) ≡ take n p ++ 46 ∷ drop n (take i p)
     → dotted (take (i + 1) p) ≡ take n p ++ 46 ∷ drop n (take (i + 1) p)
 border_other p i n h other le border =
     let c = get_or p i 0 in
     let more : take (i + 1) p ≡ take i p ++ c ∷ [] = take_more p i 0 h in
-    let rest : drop n (take (i + 1) p) ≡ drop n (take i p) ++ c ∷ [] = ap (drop n) more ∙ drop-append-le n (take i p) (c ∷ []) (omega (arith, length-take i p)) in
+    let rest : drop n (take (i + 1) p) ≡ drop n (take i p) ++ c ∷ []
+    = ap (drop n) more ∙ drop-append-le n (take i p) (c ∷ []) (omega (arith, length-take i p)) in
     ap dotted more ∙ dotted-push (take i p) c (ne_eqb 47 c (λ e. other (sym e))) ∙ ap (λ xs. xs ++ c ∷ []) border
     ∙ append_assoc (take n p) (46 ∷ drop n (take i p)) (c ∷ []) ∙ ap (λ xs. take n p ++ 46 ∷ xs) (sym rest)

@@ -16,7 +16,8 @@ front-append xs ys n is =
 
 -- the file at a temporary path, by the ending of what stands before `.tmp`
 temporary_at : List ℕ → Place
-temporary_at p = cond (nat_eq (ending p) 0) StampTemporary (cond (nat_eq (ending p) 102) AutoTemporary (cond (nat_eq (ending p) 104) HeaderTemporary (CommandTemporary (undotted (front 4 p)))))
+temporary_at p = cond (nat_eq (ending p) 0) StampTemporary (cond (nat_eq (ending p) 102) AutoTemporary
+    (cond (nat_eq (ending p) 104) HeaderTemporary (CommandTemporary (undotted (front 4 p)))))
 
 place_at : List ℕ → Place
 place_at p = cond (nat_eq (ending p) 0) (Stamp (drop 15 p)) (cond (nat_eq (ending p) 102) AutoConf (cond (nat_eq (ending p) 104) Header

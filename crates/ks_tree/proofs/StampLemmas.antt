@@ -51,7 +51,8 @@ read_number stamp digits None is read = tt
 read_number stamp digits (Some n) is read =
     inr (is ∙ ap (λ ds. ds ++ 10 ∷ []) (reads_only_written digits n (sym read)), number_small digits n (sym read))
 
-pub read_none : (stamp digits : List ℕ) (o : Option ℕ) → stamp ≡ digits ++ 10 ∷ [] → o ≡ decimal_value digits → IfNone o ((n : ℕ) → HasNumber (Some stamp) n → ⊥)
+pub read_none : (stamp digits : List ℕ) (o : Option ℕ) → stamp ≡ digits ++ 10 ∷ [] → o ≡ decimal_value digits
+    → IfNone o ((n : ℕ) → HasNumber (Some stamp) n → ⊥)
 read_none stamp digits (Some n) is read = tt
 read_none stamp digits None is read = λ n has. ⊎_elim
     (λ none. not_ended digits (sym is ∙ none.0))

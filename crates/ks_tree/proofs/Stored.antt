@@ -8,7 +8,8 @@ use Rattle.ks_tree.proofs.Tables.{is_key, get-named, get-updates}
 use Rattle.ks_tree.specs.Files.{Files, content, SameBut, IsMoved}
 use Rattle.ks_tree.specs.Memory.{files_of}
 
-pub found : {Y Z : Type 0} (es : List (Vec ℕ Y × Vec ℕ Z)) (files : Files) (q : List ℕ) (o : Option (Vec ℕ Z)) → files_of es ≡ files → o ≡ lookup (is_key q) es → content files q ≡ option_map (λ v. v.items) o
+pub found : {Y Z : Type 0} (es : List (Vec ℕ Y × Vec ℕ Z)) (files : Files) (q : List ℕ) (o : Option (Vec ℕ Z)) → files_of es ≡ files → o
+    ≡ lookup (is_key q) es → content files q ≡ option_map (λ v. v.items) o
 found es files q o same is = ap (λ f. content f q) (sym same) ∙ get-named (λ v. v.items) es q ∙ ap (option_map (λ v. v.items)) (sym is)
 
 -- The path has this, and every other path what it had.
@@ -16,7 +17,8 @@ abbrev pub Sets : List ℕ → Option (List ℕ) → Files → Files → Type 0
 Sets p o old new = (q : List ℕ) → content new q ≡ cond (bytes_eq p q) o (content old q)
 
 module _ {Y Z : Type 0} (m n : BTreeMap (Vec ℕ Y) (Vec ℕ Z)) (old : Files) (same : files_of m.entries ≡ old) where
-  pub inserted : (k : Vec ℕ Y) (v : Vec ℕ Z) (p b : List ℕ) → UpdatesBy (λ x y. slice_cmp nat_cmp x.items y.items) (λ x. slice_cmp nat_cmp k.items x.items) m n (Some v)
+  pub inserted : (k : Vec ℕ Y) (v : Vec ℕ Z) (p b : List ℕ) → UpdatesBy (λ x y. slice_cmp nat_cmp x.items y.items) (λ x. slice_cmp nat_cmp k.items x.items) m
+      n (Some v)
       → k.items ≡ p → v.items ≡ b → Sets p (Some b) old (files_of n.entries)
   inserted k v p b updates key value = λ q.
       get-updates (λ w. w.items) k.items m n (Some v) updates q
@@ -24,7 +26,8 @@ module _ {Y Z : Type 0} (m n : BTreeMap (Vec ℕ Y) (Vec ℕ Z)) (old : Files) (
       ∙ ap (λ (w : List ℕ). cond (bytes_eq p q) (Some w) (content (files_of m.entries) q)) value
       ∙ ap (λ f. cond (bytes_eq p q) (Some b) (content f q)) same
 
-  pub removed : (p : List ℕ) → UpdatesBy (λ x y. slice_cmp nat_cmp x.items y.items) (λ x. slice_cmp nat_cmp p x.items) m n None → Sets p None old (files_of n.entries)
+  pub removed : (p : List ℕ) → UpdatesBy (λ x y. slice_cmp nat_cmp x.items y.items) (λ x. slice_cmp nat_cmp p x.items) m n None
+      → Sets p None old (files_of n.entries)
   removed p updates = λ q. get-updates (λ w. w.items) p m n None updates q ∙ ap (λ f. cond (bytes_eq p q) None (content f q)) same
 
 pub here : (p : List ℕ) (o : Option (List ℕ)) (old new : Files) → Sets p o old new → content new p ≡ o
@@ -33,7 +36,8 @@ here p o old new sets = sets p ∙ cond-true (bytes_eq p p) o _ ((bytes_decides 
 pub elsewhere : (p : List ℕ) (o : Option (List ℕ)) (old new : Files) → Sets p o old new → SameBut p old new
 elsewhere p o old new sets = λ q other. sets q ∙ cond-false (bytes_eq p q) o _ (false_from_ne_true _ (λ e. other (sym ((bytes_decides p q).0 e))))
 
-pub moved : (from to b : List ℕ) (old mid new : Files) → from ≢ to → content old from ≡ Some b → Sets to (Some b) old mid → Sets from None mid new → IsMoved from to old new
+pub moved : (from to b : List ℕ) (old mid new : Files) → from ≢ to → content old from ≡ Some b → Sets to (Some b) old mid → Sets from None mid new
+    → IsMoved from to old new
 moved from to b old mid new apart at put taken = record {
   arrived = elsewhere from None mid new taken to (λ e. apart (sym e)) ∙ here to (Some b) old mid put ∙ sym at;
   gone = here from None mid new taken;

@@ -13,7 +13,8 @@ touches_none g files = record { stamps = λ x name. refl; others = λ q a b. ref
 
 is_in_more : (xs : List (List ℕ)) (y x : List ℕ) → is_in (xs ++ y ∷ []) x ≡ (is_in xs x || bytes_eq x y)
 is_in_more [] y x = elim (bytes_eq x y) as (λ b. (b || false) ≡ b) [ true ↦ refl | false ↦ refl ]
-is_in_more (z ∷ xs) y x = elim (bytes_eq x z) as (λ b. (b || is_in (xs ++ y ∷ []) x) ≡ ((b || is_in xs x) || bytes_eq x y)) [ true ↦ refl | false ↦ is_in_more xs y x ]
+is_in_more (z ∷ xs) y x = elim (bytes_eq x z) as (λ b. (b || is_in (xs ++ y ∷ []) x) ≡ ((b || is_in xs x) || bytes_eq x y))
+    [ true ↦ refl | false ↦ is_in_more xs y x ]
 
 or_false : (b c : Bool) → c ≡ false → (b || c) ≡ b
 or_false true c e = refl

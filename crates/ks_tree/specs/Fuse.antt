@@ -60,7 +60,8 @@ pub record IsFuseCall {T : Type 0} (tree : Ghosts T) (old new : FuseTree T) (dev
 -- A half write left the first half of its bytes, unless the tree behind the fuse did not take it.
 abbrev pub IsHalfWritten : {T : Type 0} → Ghosts T → List ℕ → List ℕ → T → T → Type 0
 IsHalfWritten tree path bytes old new =
-    (content (tree.files new) path ≡ Some (take (length bytes / 2) bytes)) ⊎ (tree.files new ≡ tree.files old) ⊎ HasRisen (tree.failures old) (tree.failures new)
+    (content (tree.files new) path ≡ Some (take (length bytes / 2) bytes)) ⊎ (tree.files new ≡ tree.files old)
+    ⊎ HasRisen (tree.failures old) (tree.failures new)
 
 -- A half rename has happened, unless the tree behind the fuse did not do it.
 abbrev pub IsHalfMoved : {T : Type 0} → Ghosts T → List ℕ → List ℕ → T → T → Type 0

@@ -1,4 +1,5 @@
--- Where each file that the commands write stands. Stamps, auto.conf and the header are where scripts/kconfig/confdata.c has them, a command file is where scripts/Kbuild.include has it.
+-- Where each file that the commands write stands. Stamps, auto.conf and the header are where scripts/kconfig/confdata.c has them, a command
+-- file is where scripts/Kbuild.include has it.
 use Rattle.std.specs.Prelude.{◌≡◌, ℕ, List, [], ◌∷◌, ◌++◌, codes, Bool, nat_eq, if◌then◌else◌, IsTrue, ⊤}
 use Rattle.std.specs.List.{list_any}
 use Rattle.ks_symbols.specs.Names.{is_name}

@@ -59,7 +59,8 @@ pub fn touch<T: Tree>(
     ensures stamp { T.is_honest → OnOk result (content (T.files tree.new) (stamp_path name.now) ≡ Some (stamp_text generation)) }
     ensures gone { T.is_honest → OnOk result (content (T.files tree.new) stamp_temporary ≡ None) }
     ensures old_or_new { T.is_honest → OnErr result
-        ((content (T.files tree.new) (stamp_path name.now) ≡ content (T.files tree.old) (stamp_path name.now)) ⊎ (content (T.files tree.new) (stamp_path name.now) ≡ Some (stamp_text generation))) }
+        ((content (T.files tree.new) (stamp_path name.now) ≡ content (T.files tree.old) (stamp_path name.now))
+        ⊎ (content (T.files tree.new) (stamp_path name.now) ≡ Some (stamp_text generation))) }
     ensures others { T.is_honest → SameButBoth stamp_temporary (stamp_path name.now) (T.files tree.old) (T.files tree.new) }
     ensures never { IsErrOf result TreeFault.TooLarge → ⊥ }
     ensures counted { Counted T.Tree tree.old tree.new (IsErrOf result TreeFault.Device) }

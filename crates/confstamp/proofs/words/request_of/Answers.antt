@@ -36,5 +36,6 @@ returns-in_err-matches-clause-help c =
     let has = c.in_err-matches.ensures.kinds (ap is_simple_and_free c.in_ok-command.ensures ∙ is_free_line) in
     let words = texts c.args.words.now in
     err_all c.from_residual-in_err-matches.result _ _
-    (λ w told help. help_among c.in_err-matches.field-0.0 (fault_of command_line_app words) (subst (λ app. HasKind (fault_of app words) c.in_err-matches.field-0.0) c.in_ok-command.ensures has) (told.help help))
+    (λ w told help. help_among c.in_err-matches.field-0.0 (fault_of command_line_app words)
+    (subst (λ app. HasKind (fault_of app words) c.in_err-matches.field-0.0) c.in_ok-command.ensures has) (told.help help))
     c.from_residual-in_err-matches.ensures.1

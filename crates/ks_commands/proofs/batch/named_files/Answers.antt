@@ -24,14 +24,19 @@ loop-line-preserved g c =
       unchanged = λ honest. after.reads.unchanged honest ∙ before.unchanged honest;
       later = omega (arith, after.reads.counted.later, before.later);
       given = λ honest. subst (λ f. AreGiven f c.keep_files.new.kept) (before.unchanged honest) (after.given honest);
-      here = kept_next seen_line c.loop-line.kept c.keep_files.new.kept c.args.lines.now c.loop-line.line-index _ c.loop-line-test.true after.grows before.here after.here;
+      here = kept_next seen_line c.loop-line.kept c.keep_files.new.kept c.args.lines.now c.loop-line.line-index _ c.loop-line-test.true after.grows
+          before.here after.here;
       before = λ honest.
           let given = subst (λ f. AreGiven f c.keep_files.new.kept) (before.unchanged honest) (after.given honest) in
           let next = kept_action files c.keep_files.new.kept _ given after.here in
-          let front = before.before honest in
-          (front.0 ++ next.0 ∷ [], actions_next files seen_line c.args.lines.now c.loop-line.line-index _ front.0 next.0 _ c.loop-line-test.true next.1 front.1);
+          let front = before.before honest in (
+            front.0 ++ next.0 ∷ [],
+            actions_next files seen_line c.args.lines.now c.loop-line.line-index _ front.0 next.0 _ c.loop-line-test.true next.1
+                front.1,
+          );
     }
 
 pub returns-clause-here : goal.returns-clause-here
 returns-clause-here g c =
-    subst (All (λ line. AreKept c.loop-line.kept (seen_line line))) (take_all c.loop-line.line-index c.args.lines.now c.loop-line-test.false) c.loop-line.invariant.here
+    subst (All (λ line. AreKept c.loop-line.kept (seen_line line))) (take_all c.loop-line.line-index c.args.lines.now c.loop-line-test.false)
+    c.loop-line.invariant.here

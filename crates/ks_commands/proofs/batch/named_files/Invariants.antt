@@ -14,5 +14,6 @@ invariant-loop-line g l = record {
   given : g.T.Tree.is_honest → AreGiven (g.T.Tree.files l.fn.tree) l.kept;
   here : All (λ line. AreKept l.kept (seen_line line)) (take l.line-index l.lines);
   before : g.T.Tree.is_honest → (front : List Action)
-      × (behind front (actions_at (g.T.Tree.files l.fn.tree) (map seen_line (drop l.line-index l.lines))) ≡ actions_at (g.T.Tree.files l.fn.tree) (map seen_line l.lines));
+      × (behind front (actions_at (g.T.Tree.files l.fn.tree) (map seen_line (drop l.line-index l.lines)))
+      ≡ actions_at (g.T.Tree.files l.fn.tree) (map seen_line l.lines));
 }

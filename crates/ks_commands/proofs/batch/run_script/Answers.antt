@@ -13,14 +13,30 @@ use Rattle.ks_commands.proofs.batch.run_script.Goals as goal
 pub returns-in_err-script-clause-files : goal.returns-in_err-script-clause-files
 returns-in_err-script-clause-files g c = λ honest.
     let p = err_from_is_err_and c.from_residual.result c.from_residual.ensures.1 in
-    inl (c.in_err-script.ensures.reads.unchanged honest, (Engine c.in_err-script.field-0.0, script_missing _ c.args.path.now _ (c.in_err-script.ensures.bytes honest), p.1 ∙ ap (λ r. Err r) p.2))
+    inl (
+      c.in_err-script.ensures.reads.unchanged honest,
+      (
+        Engine c.in_err-script.field-0.0,
+        script_missing _ c.args.path.now _
+            (c.in_err-script.ensures.bytes honest),
+        p.1 ∙ ap (λ r. Err r) p.2,
+      ),
+    )
 
 pub returns-in_err-script-clause-goes_on : goal.returns-in_err-script-clause-goes_on
 returns-in_err-script-clause-goes_on g c = λ honest h shows.
     let p = err_from_is_err_and c.from_residual.result c.from_residual.ensures.1 in
     let same = c.in_err-script.ensures.reads.unchanged honest in (
       h,
-      inl ((same, refl), (Engine c.in_err-script.field-0.0, script_missing _ c.args.path.now _ (c.in_err-script.ensures.bytes honest), p.1 ∙ ap (λ r. Err r) p.2)),
+      inl (
+        (same, refl),
+        (
+          Engine c.in_err-script.field-0.0,
+          script_missing _ c.args.path.now _ (c.in_err-script.ensures.bytes honest),
+          p.1 ∙ ap
+              (λ r. Err r) p.2,
+        ),
+      ),
       subst (λ f. Shows f h) (sym same) shows,
     )
 
@@ -30,7 +46,10 @@ returns-in_err-lines-clause-files g c = λ honest.
     let same = c.in_ok-script.ensures.reads.unchanged honest in
     let there = c.in_ok-script.ensures.bytes honest ∙ ap (λ b. Ok b) (sym c.deref.ensures.value) in
     let r = c.in_err-lines.field-0.0 in
-    inl (c.in_err-lines.ensures.reads.unchanged honest ∙ same, (r, script_stopped _ _ c.args.path.now _ r same there (c.in_err-lines.ensures.refused honest), p.1 ∙ ap (λ r. Err r) p.2))
+    inl (
+      c.in_err-lines.ensures.reads.unchanged honest ∙ same,
+      (r, script_stopped _ _ c.args.path.now _ r same there (c.in_err-lines.ensures.refused honest), p.1 ∙ ap (λ r. Err r) p.2),
+    )
 
 pub returns-in_err-lines-clause-goes_on : goal.returns-in_err-lines-clause-goes_on
 returns-in_err-lines-clause-goes_on g c = λ honest h shows.
@@ -70,7 +89,8 @@ returns-clause-goes_on g c = λ honest h shows.
     let actions = map action c.in_ok-commands.commands.items in
     let asked = c.in_ok-lines.ensures.lines honest ∙ ap of_engine (c.in_ok-commands.ensures mid (c.in_ok-lines.ensures.given honest)) in
     let are = ap (map action) c.deref-2.ensures.value in
-    let later : failures c.args.tree.now ≤ failures c.load_script.new.tree = omega (arith, c.in_ok-script.ensures.reads.counted.later, c.in_ok-lines.ensures.reads.counted.later) in
+    let later : failures c.args.tree.now ≤ failures c.load_script.new.tree
+    = omega (arith, c.in_ok-script.ensures.reads.counted.later, c.in_ok-lines.ensures.reads.counted.later) in
     let next = c.run_commands.ensures.goes_on honest h (subst (λ f. Shows f h) (sym same_later) shows) in
     let last = at (g.T.Tree.files c.run_commands.new.tree) (failures c.run_commands.new.tree) next.0 in (
       next.0,

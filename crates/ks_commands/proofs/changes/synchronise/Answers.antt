@@ -14,7 +14,8 @@ returns-in_err-report-clause-files g c = λ honest.
       seen_texts c.in_ok-texts.texts,
       c.in_ok-texts.ensures.texts honest,
       Err e,
-      sync_leaves _ _ _ _ _ _ _ (Err e) (c.in_ok-texts.ensures.reads.unchanged honest) c.deref.ensures.value c.deref-2.ensures.value (c.in_err-report.ensures.refused honest),
+      sync_leaves _ _ _ _ _ _ _ (Err e) (c.in_ok-texts.ensures.reads.unchanged honest) c.deref.ensures.value c.deref-2.ensures.value
+          (c.in_err-report.ensures.refused honest),
       p.1 ∙ ap (λ r. Err r) p.2,
     )
 
@@ -30,7 +31,8 @@ returns-in_err-report-clause-goes_on g c = λ honest h shows.
         seen_texts c.in_ok-texts.texts,
         c.in_ok-texts.ensures.texts honest,
         Err e,
-        sync_follows _ _ (failures c.args.tree.now) (failures c.texts_at.new.tree) h _ _ _ _ (Err e) (at _ (failures c.sync.new.tree) next.0) same c.deref.ensures.value c.deref-2.ensures.value next.1,
+        sync_follows _ _ (failures c.args.tree.now) (failures c.texts_at.new.tree) h _ _ _ _ (Err e) (at _ (failures c.sync.new.tree) next.0) same
+            c.deref.ensures.value c.deref-2.ensures.value next.1,
         p.1 ∙ ap (λ r. Err r) p.2,
       ),
       next.2,

@@ -11,6 +11,11 @@ returns-clause-line g c =
     let found = c.excerpt_at-text.result in
     let text = option_map (λ t. t.items) found in (
       site_line site text,
-      (text, are_there (λ t. t.items) g.T.Tree.is_honest (g.T.Tree.files c.args.tree.now) site found c.excerpt_at-text.ensures.there c.excerpt_at-text.ensures.visible, refl),
+      (
+        text,
+        are_there (λ t. t.items) g.T.Tree.is_honest (g.T.Tree.files c.args.tree.now) site found c.excerpt_at-text.ensures.there
+            c.excerpt_at-text.ensures.visible,
+        refl,
+      ),
       subst (λ t. IsPart (site_line site t) (g.E.Write.contents c.args.err.now) (g.E.Write.contents c.write_site.new.err)) c.lent.ensures c.write_site.ensures,
     )

@@ -19,4 +19,5 @@ returns-in_default-clause-part g c = part_written _ _ _ c.args.bytes.now c.loop-
 pub returns-then-count-eq0-clause-part : goal.returns-then-count-eq0-clause-part
 returns-then-count-eq0-clause-part g c =
     part_written _ _ _ c.args.bytes.now c.loop-done.done c.loop-done.invariant.appended
-    (kept_of_nothing _ _ (subst (λ n. Appends (g.E.Write.contents c.loop-done.err) (g.E.Write.contents c.write.new.self) (take n (take (length c.args.bytes.now - c.loop-done.done) (drop c.loop-done.done c.args.bytes.now)))) c.if-count-eq0.true c.in-Ok.ensures.bytes))
+    (kept_of_nothing _ _ (subst (λ n. Appends (g.E.Write.contents c.loop-done.err) (g.E.Write.contents c.write.new.self)
+    (take n (take (length c.args.bytes.now - c.loop-done.done) (drop c.loop-done.done c.args.bytes.now)))) c.if-count-eq0.true c.in-Ok.ensures.bytes))

@@ -36,6 +36,7 @@ returns-in-Some g c =
           reads,
       told.0,
       subst (λ s. IsSiteLine g.T.Tree.is_honest (g.T.Tree.files c.refuse_at.new.tree) s told.0) found
-          (site_line_kept g.T.Tree.is_honest (g.T.Tree.files c.outcome.new.tree) (g.T.Tree.files c.refuse_at.new.tree) (Some site) told.0 reads.unchanged told.1),
+          (site_line_kept g.T.Tree.is_honest (g.T.Tree.files c.outcome.new.tree) (g.T.Tree.files c.refuse_at.new.tree) (Some site) told.0 reads.unchanged
+          told.1),
       (keeps_itself (g.W.Write.contents c.args.out.now), told.2, c.refuse_at.ensures.status),
     )

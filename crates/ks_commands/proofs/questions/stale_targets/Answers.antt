@@ -24,9 +24,11 @@ loop-target-preserved g c = record {
       let files = g.T.Tree.files c.args.tree.now in
       let said = c.in_ok-answered.ensures.told honest in
       let o = c.as_bytes.result.now in
-      let more = answers_more (IsAnswerOn files) (map (λ t. string_bytes t) (take i targets)) o said.0 c.loop-target.text.items c.ask.new.text.items (code_of c.loop-target.status) _
+      let more = answers_more (IsAnswerOn files) (map (λ t. string_bytes t) (take i targets)) o said.0 c.loop-target.text.items c.ask.new.text.items
+      (code_of c.loop-target.status) _
       (c.loop-target.invariant.told honest) (subst (λ f. IsAnswerOn f o said.0) (c.loop-target.invariant.unchanged honest) said.1) said.2 said.3 in
-      let taken = ap (λ b. map (λ t. string_bytes t) (take i targets) ++ b ∷ []) (c.as_bytes.ensures.value ∙ ap (λ t. string_bytes t) c.target-item.is) ∙ map-take_more (λ t. string_bytes t) targets i item c.loop-target-test.true in
+      let taken = ap (λ b. map (λ t. string_bytes t) (take i targets) ++ b ∷ []) (c.as_bytes.ensures.value ∙ ap (λ t. string_bytes t) c.target-item.is) ∙
+      map-take_more (λ t. string_bytes t) targets i item c.loop-target-test.true in
       subst₂ (λ objects status. AreAnswers (IsAnswerOn files) objects c.ask.new.text.items status) taken (sym c.worse-status.ensures) more;
 }
 
@@ -35,7 +37,8 @@ returns-clause-told g c = λ honest.
     inr (
       c.loop-target.text.items,
       code_of c.loop-target.status,
-      subst (λ ts. AreAnswers (IsAnswerOn (g.T.Tree.files c.args.tree.now)) (map (λ t. string_bytes t) ts) c.loop-target.text.items (code_of c.loop-target.status))
+      subst (λ ts. AreAnswers (IsAnswerOn (g.T.Tree.files c.args.tree.now)) (map (λ t. string_bytes t) ts) c.loop-target.text.items
+          (code_of c.loop-target.status))
           (take_all c.loop-target.target-index c.args.targets.now c.loop-target-test.false) (c.loop-target.invariant.told honest),
       (refl, refl),
     )

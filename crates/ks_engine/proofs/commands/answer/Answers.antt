@@ -14,7 +14,8 @@ pub returns-in-Ok-clause-follows : goal.returns-in-Ok-clause-follows
 returns-in-Ok-clause-follows g c = λ honest h shows.
     let n = c.in-Ok.ensures.follows honest h shows in (
       n.0,
-      subst (λ command. Follows (action command) (Synced c.in-Ok.report) (at (g.T.Tree.files c.args.tree.now) (g.T.Tree.failures c.args.tree.now) h) (at (g.T.Tree.files c.sync.new.tree) (g.T.Tree.failures c.sync.new.tree) n.0))
+      subst (λ command. Follows (action command) (Synced c.in-Ok.report) (at (g.T.Tree.files c.args.tree.now) (g.T.Tree.failures c.args.tree.now) h)
+          (at (g.T.Tree.files c.sync.new.tree) (g.T.Tree.failures c.sync.new.tree) n.0))
           (sym c.in-Sync.is) (record { leaves = n.1; later = c.in-Ok.ensures.counted.later; cause = λ e. absurd cc }),
       n.2,
     )
@@ -23,8 +24,14 @@ pub returns-in-Err-clause-follows : goal.returns-in-Err-clause-follows
 returns-in-Err-clause-follows g c = λ honest h shows.
     let n = c.in-Err.ensures.follows honest h shows in (
       n.0,
-      subst (λ command. Follows (action command) (Refused c.in-Err.error) (at (g.T.Tree.files c.args.tree.now) (g.T.Tree.failures c.args.tree.now) h) (at (g.T.Tree.files c.sync.new.tree) (g.T.Tree.failures c.sync.new.tree) n.0))
-          (sym c.in-Sync.is) (record { leaves = n.1; later = c.in-Err.ensures.counted.later; cause = λ e. c.in-Err.ensures.counted.cause (ap (λ x. Err x) (refused_is c.in-Err.error e)) }),
+      subst (λ command. Follows (action command) (Refused c.in-Err.error) (at (g.T.Tree.files c.args.tree.now) (g.T.Tree.failures c.args.tree.now) h)
+          (at (g.T.Tree.files c.sync.new.tree) (g.T.Tree.failures c.sync.new.tree) n.0))
+          (sym c.in-Sync.is) (record {
+            leaves = n.1;
+            later = c.in-Err.ensures.counted.later;
+            cause
+                = λ e. c.in-Err.ensures.counted.cause (ap (λ x. Err x) (refused_is c.in-Err.error e));
+          }),
       n.2,
     )
 
@@ -32,8 +39,15 @@ pub returns-in-Err-record_by-clause-follows : goal.returns-in-Err-record_by-clau
 returns-in-Err-record_by-clause-follows g c = λ honest h shows.
     let n = c.in-Err-record_by.ensures.follows honest h shows in (
       n.0,
-      subst (λ command. Follows (action command) (Refused c.in-Err-record_by.error) (at (g.T.Tree.files c.args.tree.now) (g.T.Tree.failures c.args.tree.now) h) (at (g.T.Tree.files c.record_by.new.tree) (g.T.Tree.failures c.record_by.new.tree) n.0))
-          (sym c.in-Record.is) (record { leaves = n.1; later = c.in-Err-record_by.ensures.counted.later; cause = λ e. c.in-Err-record_by.ensures.counted.cause (ap (λ x. Err x) (refused_is c.in-Err-record_by.error e)) }),
+      subst (λ command. Follows (action command) (Refused c.in-Err-record_by.error)
+          (at (g.T.Tree.files c.args.tree.now) (g.T.Tree.failures c.args.tree.now) h)
+          (at (g.T.Tree.files c.record_by.new.tree) (g.T.Tree.failures c.record_by.new.tree) n.0))
+          (sym c.in-Record.is) (record {
+            leaves = n.1;
+            later = c.in-Err-record_by.ensures.counted.later;
+            cause
+                = λ e. c.in-Err-record_by.ensures.counted.cause (ap (λ x. Err x) (refused_is c.in-Err-record_by.error e));
+          }),
       n.2,
     )
 

@@ -11,7 +11,8 @@ use Rattle.ks_engine.proofs.commands.run.Given as goal
 abbrev pub invariant-loop-command : goal.invariant-loop-command
 invariant-loop-command g l = record {
   runs : g.T.Tree.is_honest → (h : History) → Shows (g.T.Tree.files l.fn.tree) h
-      → (last : History) × Trace (at (g.T.Tree.files l.fn.tree) (g.T.Tree.failures l.fn.tree) h) (map action (take l.command-index l.commands)) l.replies.items (at (g.T.Tree.files l.tree) (g.T.Tree.failures l.tree) last);
+      → (last : History) × Trace (at (g.T.Tree.files l.fn.tree) (g.T.Tree.failures l.fn.tree) h) (map action (take l.command-index l.commands))
+      l.replies.items (at (g.T.Tree.files l.tree) (g.T.Tree.failures l.tree) last);
   later : g.T.Tree.failures l.fn.tree ≤ g.T.Tree.failures l.tree;
   memo : g.T.Tree.is_honest → IsMemoOf (g.T.Tree.files l.tree) l.memo;
   told : vec_len l.replies ≡ l.command-index;

@@ -9,7 +9,12 @@ use Rattle.ks_engine.proofs.planning.read_sources.Goals as goal
 pub returns-clause-read : goal.returns-clause-read
 returns-clause-read c =
     let copied = c.in_ok-title.ensures.items ∙ c.title.ensures in
-    are_sources c.args.kconfig.now c.args.dotconfig.now (sources_of (record { title = c.in_ok-title.title; settings = c.in_ok-settings.settings })) (get c.in_ok-symbols.symbols.kinds)
+    are_sources c.args.kconfig.now c.args.dotconfig.now (sources_of (record { title = c.in_ok-title.title; settings = c.in_ok-settings.settings }))
+    (get c.in_ok-symbols.symbols.kinds)
     c.in_ok-symbols.ensures.kinds c.in_ok-symbols.ensures.refusal c.in_ok-settings.ensures.refusal (copied ∙ c.in_ok-symbols.ensures.title)
     c.in_ok-settings.ensures.entries c.in_ok-settings.ensures.unknown
-    (record { title = subst (λ t. IsTrue (is_title t)) (sym copied) c.in_ok-symbols.ensures.titled; config = c.in_ok-settings.ensures.configured c.in_ok-symbols.ensures.names })
+    (record {
+      title = subst (λ t. IsTrue (is_title t)) (sym copied) c.in_ok-symbols.ensures.titled;
+      config
+          = c.in_ok-settings.ensures.configured c.in_ok-symbols.ensures.names;
+    })

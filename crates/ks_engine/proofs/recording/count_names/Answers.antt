@@ -16,13 +16,17 @@ loop-dep-preserved c =
     elim c.match-dep.branch [
       | in-File w ↦ record {
         within = omega arith;
-        count = subst (λ n. n + rest ≡ all) (sym w.count-is) (count_file deps c.loop-dep.dep-index c.dep-item.result _ c.loop-dep.count all c.loop-dep-test.true c.dep-item.is w.in-File.is c.loop-dep.invariant.count);
+        count = subst (λ n. n + rest ≡ all) (sym w.count-is)
+            (count_file deps c.loop-dep.dep-index c.dep-item.result _ c.loop-dep.count all c.loop-dep-test.true c.dep-item.is w.in-File.is
+            c.loop-dep.invariant.count);
         legal = legal_next deps c.loop-dep.dep-index c.dep-item.result c.loop-dep-test.true c.dep-item.is
             (ap is_dep w.in-File.is ∙ ap is_path (sym w.as_bytes.ensures.value) ∙ w.as_bytes.ensures.legal) c.loop-dep.invariant.legal;
       }
       | in-Config w ↦ record {
         within = omega arith;
-        count = subst (λ n. n + rest ≡ all) (sym w.count-is) (count_name deps c.loop-dep.dep-index c.dep-item.result _ c.loop-dep.count all c.loop-dep-test.true c.dep-item.is w.in-Config.is c.loop-dep.invariant.count);
+        count = subst (λ n. n + rest ≡ all) (sym w.count-is)
+            (count_name deps c.loop-dep.dep-index c.dep-item.result _ c.loop-dep.count all c.loop-dep-test.true c.dep-item.is w.in-Config.is
+            c.loop-dep.invariant.count);
         legal = legal_next deps c.loop-dep.dep-index c.dep-item.result c.loop-dep-test.true c.dep-item.is
             (ap is_dep w.in-Config.is ∙ ap is_name (sym w.as_bytes-in-Config.ensures.value) ∙ w.as_bytes-in-Config.ensures.legal) c.loop-dep.invariant.legal;
       }

@@ -12,7 +12,8 @@ pub returns-then-len-gt-MAX_BYTES-clause-refused : goal.returns-then-len-gt-MAX_
 returns-then-len-gt-MAX_BYTES-clause-refused c = λ ts are.
     let file = numbered (view c.in_ok-file.file) c.args.generation in
     let text = c.in_ok-write_command.ensures.ok ∙ ap (λ l. l ++ command_text file) c.in_ok-text.ensures.items in
-    inr (draft_large c.args.target.now c.args.command.now c.args.prerequisites c.args.generation (map names_in ts) file (ap (λ (f : Record). numbered f c.args.generation) (c.in_ok-file.ensures.value ts are))
+    inr (draft_large c.args.target.now c.args.command.now c.args.prerequisites c.args.generation (map names_in ts) file
+    (ap (λ (f : Record). numbered f c.args.generation) (c.in_ok-file.ensures.value ts are))
     (subst (λ n. 67108864 < n) (ap length text) (subst (λ n. 67108864 < n) (c.len-2.ensures ∙ c.write_command.new.out.ok.0) c.if-len-gt-MAX_BYTES.true)))
 
 pub returns-clause-drafted : goal.returns-clause-drafted
@@ -20,9 +21,11 @@ returns-clause-drafted c = λ ts are.
     let file = numbered (view c.in_ok-file.file) c.args.generation in
     let text = c.in_ok-write_command.ensures.ok ∙ ap (λ l. l ++ command_text file) c.in_ok-text.ensures.items in
     let value = c.in_ok-file.ensures.value ts are in
-    let small = subst (λ n. n ≤ 67108864) (ap length text) (subst (λ n. n ≤ 67108864) (c.len-2.ensures ∙ c.write_command.new.out.ok.0) c.if-len-gt-MAX_BYTES.false) in (
+    let small = subst (λ n. n ≤ 67108864) (ap length text) (subst (λ n. n ≤ 67108864) (c.len-2.ensures ∙ c.write_command.new.out.ok.0)
+    c.if-len-gt-MAX_BYTES.false) in (
       record { file = file; generation = c.args.generation; names = names_of (map names_in ts) },
-      draft_made c.args.target.now c.args.command.now c.args.prerequisites c.args.generation (map names_in ts) file (ap (λ (f : Record). numbered f c.args.generation) value) small,
+      draft_made c.args.target.now c.args.command.now c.args.prerequisites c.args.generation (map names_in ts) file
+          (ap (λ (f : Record). numbered f c.args.generation) value) small,
       record {
         target = ap (λ (f : Record). is_target f.target) value ∙ c.requires.target;
         command = ap (λ (f : Record). is_command f.command) value ∙ c.requires.command;

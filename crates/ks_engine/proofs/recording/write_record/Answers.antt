@@ -11,7 +11,8 @@ use Rattle.ks_engine.proofs.recording.write_record.Goals as goal
 
 pub replace-requires : goal.replace-requires
 replace-requires g c =
-    subst₂ (λ t p. t ≢ p) (sym (c.deref-3.ensures.value ∙ c.in_ok-temporary.ensures)) (sym (c.deref-4.ensures.value ∙ c.in_ok-path.ensures)) (apart (CommandTemporary c.args.target.now) (CommandFile c.args.target.now) tt tt (λ e. cc))
+    subst₂ (λ t p. t ≢ p) (sym (c.deref-3.ensures.value ∙ c.in_ok-temporary.ensures)) (sym (c.deref-4.ensures.value ∙ c.in_ok-path.ensures))
+    (apart (CommandTemporary c.args.target.now) (CommandFile c.args.target.now) tt tt (λ e. cc))
 
 pub returns-in_err-replace-clause-refused : goal.returns-in_err-replace-clause-refused
 returns-in_err-replace-clause-refused g c = λ honest.
@@ -32,7 +33,8 @@ returns-in_err-replace-clause-refused g c = λ honest.
             (λ kept. inl (subst₂ (λ q (f : Files). content new q ≡ content f q) path same kept))
             (λ made. inr (ap (content new) (sym path) ∙ made ∙ ap (λ b. Some b) (c.deref-5.ensures.value ∙ planned.2.text)))
             (c.in_err-replace.ensures.old_or_new honest);
-        others = subst (λ f. SameButBoth (command_temporary c.args.target.now) (command_path c.args.target.now) f new) same (subst₂ (λ t q. SameButBoth t q mid new) temporary path (c.in_err-replace.ensures.others honest));
+        others = subst (λ f. SameButBoth (command_temporary c.args.target.now) (command_path c.args.target.now) f new) same
+            (subst₂ (λ t q. SameButBoth t q mid new) temporary path (c.in_err-replace.ensures.others honest));
       }),
     ))
 
@@ -48,9 +50,11 @@ returns-clause-recorded g c = λ honest.
       plan = planned.0;
       planned = planned.1;
       generation = planned.2.generation;
-      names = planned.2.names ∙ ap length (count_names (g.T.Tree.files c.args.tree.now) c.args.depfile.now c.args.target.now c.args.command.now planned.0 planned.1);
+      names = planned.2.names ∙ ap length (count_names (g.T.Tree.files c.args.tree.now) c.args.depfile.now c.args.target.now c.args.command.now planned.0
+          planned.1);
       written = ap (content new) (sym path) ∙ c.in_ok-replace.ensures.written honest ∙ ap (λ b. Some b) (c.deref-5.ensures.value ∙ planned.2.text);
-      others = subst (λ f. SameButBoth (command_temporary c.args.target.now) (command_path c.args.target.now) f new) same (subst₂ (λ t q. SameButBoth t q mid new) temporary path (c.in_ok-replace.ensures.others honest));
+      others = subst (λ f. SameButBoth (command_temporary c.args.target.now) (command_path c.args.target.now) f new) same
+          (subst₂ (λ t q. SameButBoth t q mid new) temporary path (c.in_ok-replace.ensures.others honest));
     }
 
 pub returns-in_err-replace-clause-memo : goal.returns-in_err-replace-clause-memo
@@ -60,7 +64,8 @@ returns-in_err-replace-clause-memo g c = λ honest.
     let temporary = c.deref-3.ensures.value ∙ c.in_ok-temporary.ensures in
     let path = c.deref-4.ensures.value ∙ c.in_ok-path.ensures in
     memo_kept mid new c.args.target.now c.forget-2.new.self (subst₂ (λ t q. SameButBoth t q mid new) temporary path (c.in_err-replace.ensures.others honest))
-    (subst (λ q. IsNoSource q c.forget-2.new.self) (c.deref.ensures.value ∙ c.in_ok-temporary.ensures) (c.forget-2.ensures.others _ c.forget.ensures.gone)) (subst (λ q. IsNoSource q c.forget-2.new.self) (c.deref-2.ensures.value ∙ c.in_ok-path.ensures) c.forget-2.ensures.gone)
+    (subst (λ q. IsNoSource q c.forget-2.new.self) (c.deref.ensures.value ∙ c.in_ok-temporary.ensures) (c.forget-2.ensures.others _ c.forget.ensures.gone))
+    (subst (λ q. IsNoSource q c.forget-2.new.self) (c.deref-2.ensures.value ∙ c.in_ok-path.ensures) c.forget-2.ensures.gone)
     (c.forget-2.ensures.memo mid (c.forget.ensures.memo mid (c.prepare.ensures.memo honest)))
 
 pub returns-clause-memo : goal.returns-clause-memo
@@ -70,5 +75,6 @@ returns-clause-memo g c = λ honest.
     let temporary = c.deref-3.ensures.value ∙ c.in_ok-temporary.ensures in
     let path = c.deref-4.ensures.value ∙ c.in_ok-path.ensures in
     memo_kept mid new c.args.target.now c.forget-2.new.self (subst₂ (λ t q. SameButBoth t q mid new) temporary path (c.in_ok-replace.ensures.others honest))
-    (subst (λ q. IsNoSource q c.forget-2.new.self) (c.deref.ensures.value ∙ c.in_ok-temporary.ensures) (c.forget-2.ensures.others _ c.forget.ensures.gone)) (subst (λ q. IsNoSource q c.forget-2.new.self) (c.deref-2.ensures.value ∙ c.in_ok-path.ensures) c.forget-2.ensures.gone)
+    (subst (λ q. IsNoSource q c.forget-2.new.self) (c.deref.ensures.value ∙ c.in_ok-temporary.ensures) (c.forget-2.ensures.others _ c.forget.ensures.gone))
+    (subst (λ q. IsNoSource q c.forget-2.new.self) (c.deref-2.ensures.value ∙ c.in_ok-path.ensures) c.forget-2.ensures.gone)
     (c.forget-2.ensures.memo mid (c.forget.ensures.memo mid (c.prepare.ensures.memo honest)))

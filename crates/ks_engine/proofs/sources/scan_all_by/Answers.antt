@@ -53,8 +53,12 @@ loop-place-preserved g c =
 
 pub returns-clause-names : goal.returns-clause-names
 returns-clause-names g c = λ honest.
-    let so_far = c.loop-place.invariant.scanned honest in
-    (so_far.0, c.finish.ensures.names so_far.0 so_far.1, scanned_end (g.T.Tree.files c.args.tree.now) c.args.prerequisites.now c.loop-place.place (map names_in so_far.0) _ (omega arith) so_far.2)
+    let so_far = c.loop-place.invariant.scanned honest in (
+      so_far.0,
+      c.finish.ensures.names so_far.0 so_far.1,
+      scanned_end (g.T.Tree.files c.args.tree.now) c.args.prerequisites.now c.loop-place.place
+          (map names_in so_far.0) _ (omega arith) so_far.2,
+    )
 
 pub returns-clause-each : goal.returns-clause-each
 returns-clause-each g c = omega (arith, ap length c.finish.ensures.counts, c.loop-place.invariant.counts)

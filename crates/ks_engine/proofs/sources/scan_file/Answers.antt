@@ -13,18 +13,23 @@ returns-then-count-lt-PIECE-clause-scanned g c = λ ts before.
       stood.0 ++ piece,
       c.in_ok-end_source.ensures.stands ts (stood.0 ++ piece) fed,
       λ honest.
-          (let read = subst (IsReadAt (content (g.T.Tree.files c.loop-count.tree) c.args.path.now) c.loop-count.offset c.loop-count.room c.read_at.new.into) c.in-Some.is (c.in_ok-count.ensures.found honest) in
+          (let read = subst (IsReadAt (content (g.T.Tree.files c.loop-count.tree) c.args.path.now) c.loop-count.offset c.loop-count.room c.read_at.new.into)
+          c.in-Some.is (c.in_ok-count.ensures.found honest) in
           let at = ap (λ f. content f c.args.path.now) (sym (c.loop-count.invariant.unchanged honest)) ∙ read.1 in
-          let text = ap (λ t. t ++ piece) (stood.2 honest read.0 at) ∙ piece_behind read.0 c.loop-count.room c.read_at.new.into c.loop-count.offset c.in-Some.count read.2 in
+          let text = ap (λ t. t ++ piece) (stood.2 honest read.0 at) ∙ piece_behind read.0 c.loop-count.room c.read_at.new.into c.loop-count.offset
+          c.in-Some.count read.2 in
           ap (scanned c.args.path.now) at
-          ∙ scanned_whole c.args.path.now read.0 c.loop-count.room c.read_at.new.into _ c.loop-count.offset c.in-Some.count read.2 c.loop-count.invariant.full c.if-count-lt-PIECE.true c.if-offset.false (ap names_in text)),
+          ∙ scanned_whole c.args.path.now read.0 c.loop-count.room c.read_at.new.into _ c.loop-count.offset c.in-Some.count read.2 c.loop-count.invariant.full
+          c.if-count-lt-PIECE.true c.if-offset.false (ap names_in text)),
     )
 
 pub returns-then-offset-clause-refused : goal.returns-then-offset-clause-refused
 returns-then-offset-clause-refused g c = λ honest.
-    let read = subst (IsReadAt (content (g.T.Tree.files c.loop-count.tree) c.args.path.now) c.loop-count.offset c.loop-count.room c.read_at.new.into) c.in-Some.is (c.in_ok-count.ensures.found honest) in
+    let read = subst (IsReadAt (content (g.T.Tree.files c.loop-count.tree) c.args.path.now) c.loop-count.offset c.loop-count.room c.read_at.new.into)
+    c.in-Some.is (c.in_ok-count.ensures.found honest) in
     let at = ap (λ f. content f c.args.path.now) (sym (c.loop-count.invariant.unchanged honest)) ∙ read.1 in
-    inr (ap (scanned c.args.path.now) at ∙ scanned_large c.args.path.now read.0 c.loop-count.room c.read_at.new.into c.loop-count.offset c.in-Some.count read.2 c.if-offset.true c.loop-count.invariant.small)
+    inr (ap (scanned c.args.path.now) at ∙ scanned_large c.args.path.now read.0 c.loop-count.room c.read_at.new.into c.loop-count.offset c.in-Some.count
+    read.2 c.if-offset.true c.loop-count.invariant.small)
 
 pub loop-count-init : goal.loop-count-init
 loop-count-init g c = record {
@@ -49,7 +54,8 @@ loop-count-preserved g c = record {
         stood.0 ++ piece,
         c.in_ok-feed.ensures.stands ts stood.0 stood.1,
         λ honest b at.
-            (let read = subst (IsReadAt (content (g.T.Tree.files c.loop-count.tree) c.args.path.now) c.loop-count.offset c.loop-count.room c.read_at.new.into) c.in-Some.is (c.in_ok-count.ensures.found honest) in
+            (let read = subst (IsReadAt (content (g.T.Tree.files c.loop-count.tree) c.args.path.now) c.loop-count.offset c.loop-count.room c.read_at.new.into)
+            c.in-Some.is (c.in_ok-count.ensures.found honest) in
             let there = ap (λ f. content f c.args.path.now) (c.loop-count.invariant.unchanged honest) ∙ at in
             let same = same_source _ read.0 b read.1 there in
             let part = subst (λ text. IsPieceRead text c.loop-count.offset c.loop-count.room c.read_at.new.into c.in-Some.count) same read.2 in

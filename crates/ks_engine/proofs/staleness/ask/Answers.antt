@@ -6,7 +6,8 @@ use Rattle.ks_engine.proofs.Asking.{asked_illegal, asked_read, answer_by, ask_re
 use Rattle.ks_engine.proofs.staleness.ask.Goals as goal
 
 pub returns-then-not-target_is_legal-clause-answer : goal.returns-then-not-target_is_legal-clause-answer
-returns-then-not-target_is_legal-clause-answer g c = λ honest. inr (answer_by (g.T.Tree.files c.args.tree.now) _ _ _ (asked_illegal (g.T.Tree.files c.args.tree.now) c.args.target.now c.if-not-target_is_legal.ensures) refl)
+returns-then-not-target_is_legal-clause-answer g c = λ honest. inr
+    (answer_by (g.T.Tree.files c.args.tree.now) _ _ _ (asked_illegal (g.T.Tree.files c.args.tree.now) c.args.target.now c.if-not-target_is_legal.ensures) refl)
 
 pub returns-in_err-text-clause-answer : goal.returns-in_err-text-clause-answer
 returns-in_err-text-clause-answer g c = λ honest.
@@ -22,7 +23,8 @@ pub returns-in_err-file-clause-answer : goal.returns-in_err-file-clause-answer
 returns-in_err-file-clause-answer g c = λ honest.
     let p = err_from_is_err_and c.from_residual-in_err-file.result c.from_residual-in_err-file.ensures.1 in
     let at = sym (c.in_ok-text.ensures.read honest) ∙ ap (option_map (λ v. v.items)) c.in-Some.is ∙ ap (λ b. Some b) (sym c.deref.ensures.value) in
-    rw (p.1, p.2) (ask_refused (g.T.Tree.files c.args.tree.now) c.args.target.now _ c.if-not-target_is_legal.ensures (refused_at c.args.target.now _ _ _ at c.in_err-file.ensures.read))
+    rw (p.1, p.2) (ask_refused (g.T.Tree.files c.args.tree.now) c.args.target.now _ c.if-not-target_is_legal.ensures
+    (refused_at c.args.target.now _ _ _ at c.in_err-file.ensures.read))
 
 pub returns-clause-answer : goal.returns-clause-answer
 returns-clause-answer g c = λ honest.

@@ -11,8 +11,12 @@ use Rattle.ks_engine.proofs.staleness.first_above.Goals.{in-Config+in_ok-number-
 pub returns-in_err-number-in-Config-clause-answer : goal.returns-in_err-number-in-Config-clause-answer
 returns-in_err-number-in-Config-clause-answer g c = λ honest.
     let p = err_from_is_err_and c.from_residual.result c.from_residual.ensures.1 in
-    rw (p.1, p.2) (stamp_refused (g.T.Tree.files c.args.tree.now) _ c.args.generation (map seen_dep c.args.deps.now) c.loop-dep.dep-index (seen_dep c.dep-item.result) _ c.in_err-number-in-Config.field-0.0 (c.loop-dep.invariant.unchanged honest)
-    (seen_within c.args.deps.now c.loop-dep.dep-index c.loop-dep-test.true) (seen_at c.args.deps.now c.loop-dep.dep-index c.dep-item.result c.loop-dep-test.true c.dep-item.is) (ap seen_dep c.in-Config.is) (subst (λ x. IsStampRefusal x (content (g.T.Tree.files c.loop-dep.tree) (stamp_path x)) c.in_err-number-in-Config.field-0.0) c.as_bytes.ensures.value (c.in_err-number-in-Config.ensures.refused honest)) (c.loop-dep.invariant.rest honest))
+    rw (p.1, p.2) (stamp_refused (g.T.Tree.files c.args.tree.now) _ c.args.generation (map seen_dep c.args.deps.now) c.loop-dep.dep-index
+    (seen_dep c.dep-item.result) _ c.in_err-number-in-Config.field-0.0 (c.loop-dep.invariant.unchanged honest)
+    (seen_within c.args.deps.now c.loop-dep.dep-index c.loop-dep-test.true)
+    (seen_at c.args.deps.now c.loop-dep.dep-index c.dep-item.result c.loop-dep-test.true c.dep-item.is) (ap seen_dep c.in-Config.is)
+    (subst (λ x. IsStampRefusal x (content (g.T.Tree.files c.loop-dep.tree) (stamp_path x)) c.in_err-number-in-Config.field-0.0) c.as_bytes.ensures.value
+    (c.in_err-number-in-Config.ensures.refused honest)) (c.loop-dep.invariant.rest honest))
 
 pub loop-dep-preserved : goal.loop-dep-preserved
 loop-dep-preserved g c =
@@ -24,21 +28,30 @@ loop-dep-preserved g c =
             unchanged = λ h. said.reads.unchanged h ∙ old.unchanged h;
             memo = said.memo;
             later = omega (arith, old.later, said.reads.counted.later);
-            rest = λ h. stamp_below (g.T.Tree.files c.args.tree.now) _ c.args.generation (map seen_dep c.args.deps.now) c.loop-dep.dep-index (seen_dep c.dep-item.result) _ w.in_ok-number-in-Config.number (old.unchanged h)
-                (seen_within c.args.deps.now c.loop-dep.dep-index c.loop-dep-test.true) (seen_at c.args.deps.now c.loop-dep.dep-index c.dep-item.result c.loop-dep-test.true c.dep-item.is) (ap seen_dep w.in-Config.is) (subst (λ x. HasNumber (content (g.T.Tree.files c.loop-dep.tree) (stamp_path x)) w.in_ok-number-in-Config.number) w.as_bytes.ensures.value (said.number h)) w.if-generation-number.false (old.rest h);
+            rest = λ h. stamp_below (g.T.Tree.files c.args.tree.now) _ c.args.generation (map seen_dep c.args.deps.now) c.loop-dep.dep-index
+                (seen_dep c.dep-item.result) _ w.in_ok-number-in-Config.number (old.unchanged h)
+                (seen_within c.args.deps.now c.loop-dep.dep-index c.loop-dep-test.true)
+                (seen_at c.args.deps.now c.loop-dep.dep-index c.dep-item.result c.loop-dep-test.true c.dep-item.is) (ap seen_dep w.in-Config.is)
+                (subst (λ x. HasNumber (content (g.T.Tree.files c.loop-dep.tree) (stamp_path x)) w.in_ok-number-in-Config.number) w.as_bytes.ensures.value
+                (said.number h)) w.if-generation-number.false (old.rest h);
           })
       | in-File w ↦
           rw (w.tree-is, w.memo-is) (record {
             unchanged = old.unchanged;
             memo = old.memo;
             later = old.later;
-            rest = λ h. file_passed (g.T.Tree.files c.args.tree.now) c.args.generation (map seen_dep c.args.deps.now) c.loop-dep.dep-index (seen_dep c.dep-item.result) _ (seen_within c.args.deps.now c.loop-dep.dep-index c.loop-dep-test.true) (seen_at c.args.deps.now c.loop-dep.dep-index c.dep-item.result c.loop-dep-test.true c.dep-item.is) (ap seen_dep w.in-File.is) (old.rest h);
+            rest = λ h. file_passed (g.T.Tree.files c.args.tree.now) c.args.generation (map seen_dep c.args.deps.now) c.loop-dep.dep-index
+                (seen_dep c.dep-item.result) _ (seen_within c.args.deps.now c.loop-dep.dep-index c.loop-dep-test.true)
+                (seen_at c.args.deps.now c.loop-dep.dep-index c.dep-item.result c.loop-dep-test.true c.dep-item.is) (ap seen_dep w.in-File.is) (old.rest h);
           })
     ]
 
 pub returns-then-generation-number-clause-answer : goal.returns-then-generation-number-clause-answer
 returns-then-generation-number-clause-answer g c = λ honest.
-    let has = subst (λ x. HasNumber (content (g.T.Tree.files c.loop-dep.tree) (stamp_path x)) c.in_ok-number-in-Config.number) c.as_bytes.ensures.value (c.in_ok-number-in-Config.ensures.number honest) in
-    inr (stamp_above (g.T.Tree.files c.args.tree.now) _ c.args.generation (map seen_dep c.args.deps.now) c.loop-dep.dep-index (seen_dep c.dep-item.result) _ c.in_ok-number-in-Config.number _ (c.loop-dep.invariant.unchanged honest)
-    (seen_within c.args.deps.now c.loop-dep.dep-index c.loop-dep-test.true) (seen_at c.args.deps.now c.loop-dep.dep-index c.dep-item.result c.loop-dep-test.true c.dep-item.is) (ap seen_dep c.in-Config.is)
+    let has = subst (λ x. HasNumber (content (g.T.Tree.files c.loop-dep.tree) (stamp_path x)) c.in_ok-number-in-Config.number) c.as_bytes.ensures.value
+    (c.in_ok-number-in-Config.ensures.number honest) in
+    inr (stamp_above (g.T.Tree.files c.args.tree.now) _ c.args.generation (map seen_dep c.args.deps.now) c.loop-dep.dep-index (seen_dep c.dep-item.result) _
+    c.in_ok-number-in-Config.number _ (c.loop-dep.invariant.unchanged honest)
+    (seen_within c.args.deps.now c.loop-dep.dep-index c.loop-dep-test.true)
+    (seen_at c.args.deps.now c.loop-dep.dep-index c.dep-item.result c.loop-dep-test.true c.dep-item.is) (ap seen_dep c.in-Config.is)
     has c.if-generation-number.true (c.in_ok-changed-in-Config.ensures ∙ c.as_bytes-then-generation-number.ensures.value) (c.loop-dep.invariant.rest honest))

@@ -13,6 +13,7 @@ invariant-loop-dep g l = record {
   unchanged : g.T.Tree.is_honest → g.T.Tree.files l.tree ≡ g.T.Tree.files l.fn.tree;
   memo : g.T.Tree.is_honest → IsMemoOf (g.T.Tree.files l.tree) l.memo;
   later : g.T.Tree.failures l.fn.tree ≤ g.T.Tree.failures l.tree;
-  rest : g.T.Tree.is_honest → (answer : Result Verdict EngineError) → IsByStamps (g.T.Tree.files l.fn.tree) l.generation (config_names (drop l.dep-index (map seen_dep l.deps))) answer
+  rest : g.T.Tree.is_honest → (answer : Result Verdict EngineError)
+      → IsByStamps (g.T.Tree.files l.fn.tree) l.generation (config_names (drop l.dep-index (map seen_dep l.deps))) answer
       → IsByStamps (g.T.Tree.files l.fn.tree) l.generation (config_names (map seen_dep l.deps)) answer;
 }

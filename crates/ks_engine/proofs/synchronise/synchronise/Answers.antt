@@ -22,7 +22,8 @@ returns-in_err-write_all-clause-refused g c = λ honest.
         planned = planned.1;
         names = names;
         changed = planned.2.changed;
-        some = subst (λ f. SyncSome f (g.T.Tree.files c.write_all.new.tree) planned.0 names) (c.prepare.ensures.reads.unchanged honest) (c.in_err-write_all.ensures.some honest planned.0 planned.2);
+        some = subst (λ f. SyncSome f (g.T.Tree.files c.write_all.new.tree) planned.0 names) (c.prepare.ensures.reads.unchanged honest)
+            (c.in_err-write_all.ensures.some honest planned.0 planned.2);
       }),
     ))
 
@@ -35,5 +36,6 @@ returns-clause-synced g c = λ honest.
       generation = planned.2.generation;
       unknown = planned.2.unknown;
       changed = planned.2.changed;
-      done = subst (λ f. SyncDone f (g.T.Tree.files c.write_all.new.tree) planned.0 c.in_ok-work.work.report.touched.items) (c.prepare.ensures.reads.unchanged honest) (c.in_ok-write_all.ensures.all honest planned.0 planned.2);
+      done = subst (λ f. SyncDone f (g.T.Tree.files c.write_all.new.tree) planned.0 c.in_ok-work.work.report.touched.items)
+          (c.prepare.ensures.reads.unchanged honest) (c.in_ok-write_all.ensures.all honest planned.0 planned.2);
     }

@@ -14,8 +14,10 @@ loop-text-preserved c =
     let texts = c.args.texts.now in
     let i = c.loop-text.text-index in
     let next : suc i ≡ i + 1 = omega arith in
-    let longer = ap (map (λ t. t.now)) (ap (λ n. take n texts) (sym next) ∙ take-suc texts i _ c.loop-text-test.true) ∙ map-append (λ t. t.now) (take i texts) _ in
-    subst (λ ts. StandsAfter c.end_source.new.self ts []) (sym longer) (c.in_ok-end_source.ensures.stands _ _ (c.in_ok-feed.ensures.stands _ _ c.loop-text.invariant))
+    let longer = ap (map (λ t. t.now)) (ap (λ n. take n texts) (sym next) ∙ take-suc texts i _ c.loop-text-test.true) ∙ map-append (λ t. t.now)
+    (take i texts) _ in
+    subst (λ ts. StandsAfter c.end_source.new.self ts []) (sym longer)
+    (c.in_ok-end_source.ensures.stands _ _ (c.in_ok-feed.ensures.stands _ _ c.loop-text.invariant))
 
 pub build_from-requires : goal.build_from-requires
 build_from-requires c =
@@ -28,4 +30,5 @@ returns-clause-value c =
     let are = c.finish.ensures.names _ c.loop-text.invariant in
     let whole = take_all c.loop-text.text-index c.args.texts.now c.loop-text-test.false in
     let names = map-map names_in (λ t. t.now) c.args.texts.now in
-    IfOk-weaker c.build_from.result _ _ (λ f is. is _ are ∙ ap (λ l. record_of c.args.target.now c.args.command.now c.args.prerequisites l) (ap (λ l. map names_in (map (λ t. t.now) l)) whole ∙ names)) c.build_from.ensures.value
+    IfOk-weaker c.build_from.result _ _ (λ f is. is _ are ∙ ap (λ l. record_of c.args.target.now c.args.command.now c.args.prerequisites l)
+    (ap (λ l. map names_in (map (λ t. t.now) l)) whole ∙ names)) c.build_from.ensures.value

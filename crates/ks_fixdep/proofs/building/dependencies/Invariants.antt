@@ -13,5 +13,6 @@ invariant-loop-count l = record {
   names : IsTrue (list_all is_name l.names);
   each : length (drop l.count-index l.fn.found.counts.items) ≡ length l.entries;
   remaining : (ts : List (List ℕ)) → AreNamesOf l.fn.found ts
-      → Remaining (deps_after [] l.fn.prerequisites (map names_in ts)) l.entries (drop l.count-index l.fn.found.counts.items) (drop l.count-index ts) l.listed l.names l.deps.items;
+      → Remaining (deps_after [] l.fn.prerequisites (map names_in ts)) l.entries (drop l.count-index l.fn.found.counts.items) (drop l.count-index ts) l.listed
+      l.names l.deps.items;
 }

@@ -12,7 +12,8 @@ take-requires c =
     let source = c.into_iter-token-iterator.result in
     let all = tokens source.rest.now in
     let road = YieldsList-from_first (λ x. x.now) (λ s. tokens s.rest.now) {s = source} all refl in
-    let turn = YieldsList-turn road c.loop-token.yielded c.loop-token.token-iterator c.loop-token.yielded_by c.next.result c.next.new.self c.in-Some.token c.in-Some.is c.next.ensures.steps in
+    let turn = YieldsList-turn road c.loop-token.yielded c.loop-token.token-iterator c.loop-token.yielded_by c.next.result c.next.new.self c.in-Some.token
+    c.in-Some.is c.next.ensures.steps in
     let same : all ≡ tokens c.args.text.now = ap (λ s. tokens s.rest.now) c.into_iter-token-iterator.ensures.into_iter_gives ∙ c.new-token-items.ensures in
     let size : length all ≡ length (tokens c.args.text.now) = ap length same in
     let count = c.loop-token.invariant.stands.number ∙ length-map c.loop-token.yielded (λ x. x.now) in
@@ -37,9 +38,11 @@ returns-in_err-take-clause-refusal c =
     let seen = map (λ x. x.now) xs in
     let x = c.in-Some.token.now in
     let road = YieldsList-from_first (λ x. x.now) (λ s. tokens s.rest.now) {s = source} all refl in
-    let turn = YieldsList-turn road xs c.loop-token.token-iterator c.loop-token.yielded_by c.next.result c.next.new.self c.in-Some.token c.in-Some.is c.next.ensures.steps in
+    let turn = YieldsList-turn road xs c.loop-token.token-iterator c.loop-token.yielded_by c.next.result c.next.new.self c.in-Some.token c.in-Some.is
+    c.next.ensures.steps in
     let front = YieldsList-so_far road xs c.loop-token.token-iterator c.loop-token.yielded_by in
-    let same : tokens c.args.text.now ≡ all = sym (ap (λ s. tokens s.rest.now) c.into_iter-token-iterator.ensures.into_iter_gives ∙ c.new-token-items.ensures) in
+    let same : tokens c.args.text.now ≡ all = sym (ap (λ s. tokens s.rest.now) c.into_iter-token-iterator.ensures.into_iter_gives ∙ c.new-token-items.ensures)
+    in
     let ys = drop (suc (length xs)) all in
     let is : tokens c.args.text.now ≡ seen ++ x ∷ ys = same ∙ parted all (length xs) x turn.0 turn.1 ∙ ap (λ l. l ++ x ∷ ys) (sym front) in
     let e = c.in_err-take.field-0.0 in
@@ -51,8 +54,10 @@ returns-then-not-progress-clause-refusal c =
     let source = c.into_iter-token-iterator.result in
     let seen = map (λ x. x.now) c.loop-token.yielded in
     let road = YieldsList-from_first (λ x. x.now) (λ s. tokens s.rest.now) {s = source} (tokens source.rest.now) refl in
-    let all = (YieldsList-end road c.loop-token.yielded c.loop-token.token-iterator c.loop-token.yielded_by c.next.result c.next.new.self c.in-None.is c.next.ensures.steps).0 in
-    let same : seen ≡ tokens c.args.text.now = all ∙ ap (λ s. tokens s.rest.now) c.into_iter-token-iterator.ensures.into_iter_gives ∙ c.new-token-items.ensures in
+    let all = (YieldsList-end road c.loop-token.yielded c.loop-token.token-iterator c.loop-token.yielded_by c.next.result c.next.new.self c.in-None.is
+    c.next.ensures.steps).0 in
+    let same : seen ≡ tokens c.args.text.now = all ∙ ap (λ s. tokens s.rest.now) c.into_iter-token-iterator.ensures.into_iter_gives ∙
+    c.new-token-items.ensures in
     inr (ap token_refusal (sym same) ∙ none-kept seen c.loop-token.invariant.fits (sym c.loop-token.invariant.stands.kept ∙ c.if-not-progress.true))
 
 pub returns-clause-refusal : goal.returns-clause-refusal
@@ -60,8 +65,10 @@ returns-clause-refusal c =
     let source = c.into_iter-token-iterator.result in
     let seen = map (λ x. x.now) c.loop-token.yielded in
     let road = YieldsList-from_first (λ x. x.now) (λ s. tokens s.rest.now) {s = source} (tokens source.rest.now) refl in
-    let all = (YieldsList-end road c.loop-token.yielded c.loop-token.token-iterator c.loop-token.yielded_by c.next.result c.next.new.self c.in-None.is c.next.ensures.steps).0 in
-    let same : seen ≡ tokens c.args.text.now = all ∙ ap (λ s. tokens s.rest.now) c.into_iter-token-iterator.ensures.into_iter_gives ∙ c.new-token-items.ensures in
+    let all = (YieldsList-end road c.loop-token.yielded c.loop-token.token-iterator c.loop-token.yielded_by c.next.result c.next.new.self c.in-None.is
+    c.next.ensures.steps).0 in
+    let same : seen ≡ tokens c.args.text.now = all ∙ ap (λ s. tokens s.rest.now) c.into_iter-token-iterator.ensures.into_iter_gives ∙
+    c.new-token-items.ensures in
     ap token_refusal (sym same) ∙ some-kept seen c.loop-token.invariant.fits (sym c.loop-token.invariant.stands.kept ∙ c.if-not-progress.false)
 
 pub returns-clause-value : goal.returns-clause-value
@@ -70,8 +77,10 @@ returns-clause-value c =
     let source = c.into_iter-token-iterator.result in
     let seen = map (λ x. x.now) c.loop-token.yielded in
     let road = YieldsList-from_first (λ x. x.now) (λ s. tokens s.rest.now) {s = source} (tokens source.rest.now) refl in
-    let all = (YieldsList-end road c.loop-token.yielded c.loop-token.token-iterator c.loop-token.yielded_by c.next.result c.next.new.self c.in-None.is c.next.ensures.steps).0 in
-    let same : seen ≡ tokens c.args.text.now = all ∙ ap (λ s. tokens s.rest.now) c.into_iter-token-iterator.ensures.into_iter_gives ∙ c.new-token-items.ensures in
+    let all = (YieldsList-end road c.loop-token.yielded c.loop-token.token-iterator c.loop-token.yielded_by c.next.result c.next.new.self c.in-None.is
+    c.next.ensures.steps).0 in
+    let same : seen ≡ tokens c.args.text.now = all ∙ ap (λ s. tokens s.rest.now) c.into_iter-token-iterator.ensures.into_iter_gives ∙
+    c.new-token-items.ensures in
     c.loop-token.invariant.stands.found ∙ ap (λ ts. once (with_roles [] ts)) same
 
 pub invariant_of-result : goal.invariant_of-result

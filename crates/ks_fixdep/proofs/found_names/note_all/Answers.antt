@@ -11,7 +11,8 @@ use Rattle.ks_fixdep.proofs.found_names.note_all.Goals as goal
 pub note-requires : goal.note-requires
 note-requires c =
     let it = c.loop-next.names in
-    (and_parts _ _ (sym (ap (list_all (λ x. is_name x.name)) c.in-Some.ensures) ∙ taken_from-legal it.text.now it.next_place (length it.text.now - it.next_place))).0
+    (and_parts _ _ (sym (ap (list_all (λ x. is_name x.name)) c.in-Some.ensures) ∙ taken_from-legal it.text.now it.next_place
+    (length it.text.now - it.next_place))).0
 
 pub loop-next-preserved : goal.loop-next-preserved
 loop-next-preserved c =

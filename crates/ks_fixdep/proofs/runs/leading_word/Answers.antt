@@ -9,7 +9,8 @@ use Rattle.ks_fixdep.proofs.runs.leading_word.Goals.{then-loop-end-test+else-is_
 
 pub returns-clause-word : goal.returns-clause-word
 returns-clause-word c =
-    let stop = elim c.loop-end-test.branch as (λ _. (c.loop-end.end < length c.args.text.now → is_word_byte (get_or c.args.text.now c.loop-end.end 0) ≡ false)) [
+    let stop = elim c.loop-end-test.branch as (λ _. (c.loop-end.end < length c.args.text.now → is_word_byte (get_or c.args.text.now c.loop-end.end 0)
+    ≡ false)) [
       | then-loop-end-test+else-is_word w ↦ λ _. sym w.is_word.ensures ∙ w.if-is_word.false
       | else-loop-end-test w ↦ λ below. absurd (omega arith)
     ] in

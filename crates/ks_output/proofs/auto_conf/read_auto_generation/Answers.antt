@@ -18,7 +18,12 @@ loop-line-init c =
       generation = ap (number_after 0) all ∙ number_after-zero c.args.text.now;
       fault = ap (fault_left Front 1) all ∙ fault_left-start c.args.text.now;
       numbers = omega arith;
-      few = omega (arith, ap length c.into_iter-line-iterator.ensures.into_iter_gives, c.lines_with_terminator-line-items.ensures.len, c.if-text-gt-MAX_BYTES.false);
+      few = omega (
+        arith,
+        ap length c.into_iter-line-iterator.ensures.into_iter_gives,
+        c.lines_with_terminator-line-items.ensures.len,
+        c.if-text-gt-MAX_BYTES.false,
+      );
     }
 
 pub returns-in_default-clause-refusal : goal.returns-in_default-clause-refusal
@@ -26,7 +31,8 @@ returns-in_default-clause-refusal c = inr (
     let p = seen_place c.loop-line.place in
     let r = seen_remark c.parse_remark-remark.result in
     let rest = map_list remark c.next.new.self in
-    let split : map_list remark c.loop-line.line-iterator ≡ r ∷ rest = ap (map_list remark) c.in-Some.ensures.steps ∙ ap (λ (q : Remark). q ∷ rest) (sym c.parse_remark-remark.ensures) in
+    let split : map_list remark c.loop-line.line-iterator ≡ r ∷ rest = ap (map_list remark) c.in-Some.ensures.steps ∙ ap (λ (q : Remark). q ∷ rest)
+    (sym c.parse_remark-remark.ensures) in
     refused c.args.text.now p c.loop-line.number r rest c.if-text-gt-MAX_BYTES.false c.loop-line.invariant.numbers
     (ap (fault_left p c.loop-line.number) (sym split) ∙ c.loop-line.invariant.fault)
     (ap (option_map seen_place) (sym c.in_default.is) ∙ c.behind.ensures)
@@ -40,14 +46,16 @@ loop-line-preserved c =
     let g = c.loop-line.generation in
     let p = seen_place c.loop-line.place in
     let r = seen_remark c.parse_remark-remark.result in
-    let split : map_list remark c.loop-line.line-iterator ≡ r ∷ rest = ap (map_list remark) c.in-Some.ensures.steps ∙ ap (λ (q : Remark). q ∷ rest) (sym c.parse_remark-remark.ensures) in
+    let split : map_list remark c.loop-line.line-iterator ≡ r ∷ rest = ap (map_list remark) c.in-Some.ensures.steps ∙ ap (λ (q : Remark). q ∷ rest)
+    (sym c.parse_remark-remark.ensures) in
     let goes : Some (seen_place c.in-Some-behind.next) ≡ behind p r = ap (option_map seen_place) (sym c.in-Some-behind.is) ∙ c.behind.ensures in
     record {
       generation = ap (λ (m : ℕ). number_after m rest) (elim c.match-remark.branch [
         | in-Numbers w ↦ w.generation-is ∙ sym (with_number-numbers g w.in-Numbers.last) ∙ ap (λ q. with_number g (seen_remark q)) (sym w.in-Numbers.is)
         | in_default-remark w ↦ w.generation-is ∙ sym (with_number-others g c.parse_remark-remark.result w.in_default-remark.not-Numbers)
       ]) ∙ sym (number_after-step g r rest) ∙ ap (number_after g) (sym split) ∙ c.loop-line.invariant.generation;
-      fault = goes_on p (seen_place c.in-Some-behind.next) n r rest c.loop-line.invariant.numbers goes ∙ ap (fault_left p n) (sym split) ∙ c.loop-line.invariant.fault;
+      fault = goes_on p (seen_place c.in-Some-behind.next) n r rest c.loop-line.invariant.numbers goes ∙ ap (fault_left p n)
+          (sym split) ∙ c.loop-line.invariant.fault;
       numbers = omega arith;
       few = omega (arith, ap length c.in-Some.ensures.steps, c.loop-line.invariant.few);
     }

@@ -26,7 +26,8 @@ loop-line-init c =
           ap (λ m. settled (kinds x) x (map.get m x) c.into_iter-line-iterator.result) c.new-settings.ensures.entries
           ∙ ap (λ o. settled (kinds x) x o c.into_iter-line-iterator.result) (map.get-empty (slice_cmp nat_cmp) x)
           ∙ ap (settled (kinds x) x None) all;
-      unknown = ap (λ (n : ℕ). n + unknown_count kinds c.into_iter-line-iterator.result) c.new-settings.ensures.unknown ∙ zero-add _ ∙ ap (unknown_count kinds) all;
+      unknown = ap (λ (n : ℕ). n + unknown_count kinds c.into_iter-line-iterator.result) c.new-settings.ensures.unknown ∙ zero-add _ ∙ ap
+          (unknown_count kinds) all;
       refusal = ap (first_fault (line_fault kinds) 1) all;
       numbers = omega (arith, few);
       small = omega (arith, few, c.new-settings.ensures.unknown);

@@ -79,7 +79,8 @@ returns-clause-kinds c =
     let forms = map_list form (lines c.args.text.now) in
     let empty : map_list form c.loop-line.line-iterator ≡ [] = ap (map_list form) c.in-None.ensures.steps.0 in
     let ends : run_end s n [] ≡ run_end no_progress 1 forms = ap (run_end s n) (sym empty) ∙ c.loop-line.invariant.ends in
-    if_accepted c.finish.result (waiting_fault s.waiting) (λ t. t.kinds ≡ with_values (λ e. e.0) s.symbols) (λ t. (x : List ℕ) → map.get t.kinds x ≡ declared c.args.text.now x) c.finish.ensures.refusal c.finish.ensures.kinds (λ none t same x.
+    if_accepted c.finish.result (waiting_fault s.waiting) (λ t. t.kinds ≡ with_values (λ e. e.0) s.symbols)
+    (λ t. (x : List ℕ) → map.get t.kinds x ≡ declared c.args.text.now x) c.finish.ensures.refusal c.finish.ensures.kinds (λ none t same x.
     let stands = read_all c.args.text.now s n ends (sym c.loop-line.invariant.refusal ∙ ap (run_fault s n) empty ∙ run_fault-nil s n ∙ none) in
     ap (λ m. map.get m x) same ∙ get-with_values (λ e. e.0) s.symbols x ∙ symbols_kept s n forms ends x ∙ stands.kinds x)
 
@@ -89,7 +90,8 @@ returns-clause-title c =
     let s = c.loop-line.reader in
     let n = c.loop-line.number in
     let empty : map_list form c.loop-line.line-iterator ≡ [] = ap (map_list form) c.in-None.ensures.steps.0 in
-    if_accepted c.finish.result (waiting_fault s.waiting) (λ t. t.title ≡ unwrap_or s.title (codes "Main menu")) (λ t. t.title ≡ title_of c.args.text.now) c.finish.ensures.refusal c.finish.ensures.title (λ none t same.
+    if_accepted c.finish.result (waiting_fault s.waiting) (λ t. t.title ≡ unwrap_or s.title (codes "Main menu")) (λ t. t.title ≡ title_of c.args.text.now)
+    c.finish.ensures.refusal c.finish.ensures.title (λ none t same.
     let stands = read_all c.args.text.now s n (ap (run_end s n) (sym empty) ∙ c.loop-line.invariant.ends)
     (sym c.loop-line.invariant.refusal ∙ ap (run_fault s n) empty ∙ run_fault-nil s n ∙ none) in
     same ∙ stands.title)
@@ -106,11 +108,13 @@ returns-clause-refusal c =
 pub returns-clause-names : goal.returns-clause-names
 returns-clause-names c =
     let text = c.args.text.now in
-    if_accepted c.finish.result (kconfig_refusal text) (λ t. (x : List ℕ) → map.get t.kinds x ≡ declared text x) (λ t. HasSymbolNames (map.get t.kinds)) (returns-clause-refusal c) (returns-clause-kinds c)
+    if_accepted c.finish.result (kconfig_refusal text) (λ t. (x : List ℕ) → map.get t.kinds x ≡ declared text x) (λ t. HasSymbolNames (map.get t.kinds))
+    (returns-clause-refusal c) (returns-clause-kinds c)
     (λ none t are x k e. declares_names text none x k (sym (are x) ∙ e))
 
 pub returns-clause-titled : goal.returns-clause-titled
 returns-clause-titled c =
     let text = c.args.text.now in
-    if_accepted c.finish.result (kconfig_refusal text) (λ t. t.title ≡ title_of text) (λ t. IsTrue (is_title t.title)) (returns-clause-refusal c) (returns-clause-title c)
+    if_accepted c.finish.result (kconfig_refusal text) (λ t. t.title ≡ title_of text) (λ t. IsTrue (is_title t.title)) (returns-clause-refusal c)
+    (returns-clause-title c)
     (λ none t same. subst (λ (l : List ℕ). IsTrue (is_title l)) (sym same) (title_is_title text none))

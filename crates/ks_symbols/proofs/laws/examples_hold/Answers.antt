@@ -12,7 +12,8 @@ use Rattle.bstr.specs.Text.{line_len, lines_from}
 use Rattle.ks_symbols.proofs.laws.examples_hold.Goals as goal
 
 pub returns : goal.returns
-unfolding is_name lines is_text unquoted_rest unquoted text_of assignment unsetting statement gives setting line_fault first_fault dotconfig_refusal is_title after_quote kind_form title_form word_form form declarations title_in declared title_of first_form_fault kconfig_refusal line_len lines_from
+unfolding is_name lines is_text unquoted_rest unquoted text_of assignment unsetting statement gives setting line_fault first_fault dotconfig_refusal is_title
+    after_quote kind_form title_form word_form form declarations title_in declared title_of first_form_fault kconfig_refusal line_len lines_from
 returns c = record {
   one_module_end_off = refl;
   quotes_and_escapes_off = refl;

@@ -10,7 +10,8 @@ passed : {V : Type 0} (bs : List ℕ) (r : Record (Option V)) (rs : List (Record
 unfolding last_ones
 passed bs r rs is = cond-true (begins_with (name_in bs r) (map_list (said_in bs) rs)) _ _ is
 
-taken : {V : Type 0} (bs : List ℕ) (r : Record (Option V)) (rs : List (Record (Option V))) (o : Option V) → begins_with (name_in bs r) (map_list (said_in bs) rs) ≡ false → r.value ≡ o
+taken : {V : Type 0} (bs : List ℕ) (r : Record (Option V)) (rs : List (Record (Option V))) (o : Option V)
+    → begins_with (name_in bs r) (map_list (said_in bs) rs) ≡ false → r.value ≡ o
     → last_ones (map_list (said_in bs) (r ∷ rs)) ≡ with_entry (name_in bs r) (option_map (λ v. (v, text_in bs r)) o) (last_ones (map_list (said_in bs) rs))
 unfolding last_ones
 taken bs r rs o ne is =

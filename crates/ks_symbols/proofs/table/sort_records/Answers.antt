@@ -11,10 +11,12 @@ pub returns-clause-sorted : goal.returns-clause-sorted
 returns-clause-sorted g c =
     let bytes = c.args.bytes.now in
     on_ok_weaker c.sort_by.result
-    (λ sorted. sorted (λ x y. is_lt (slice_cmp nat_cmp (name_in bytes x) (name_in bytes y))) (ranks_by nat_list_cmp_total (name_in bytes)) (always_returns_same _ _ _ (λ a r f' k. search rules)))
+    (λ sorted. sorted (λ x y. is_lt (slice_cmp nat_cmp (name_in bytes x) (name_in bytes y))) (ranks_by nat_list_cmp_total (name_in bytes))
+    (always_returns_same _ _ _ (λ a r f' k. search rules)))
     c.sort_by.ensures.sorted
 
 pub returns-clause-stable : goal.returns-clause-stable
 returns-clause-stable g c =
     let bytes = c.args.bytes.now in
-    c.sort_by.ensures.stable (λ x y. is_lt (slice_cmp nat_cmp (name_in bytes x) (name_in bytes y))) (ranks_by nat_list_cmp_total (name_in bytes)) (always_returns_same _ _ _ (λ a r f' k. search rules))
+    c.sort_by.ensures.stable (λ x y. is_lt (slice_cmp nat_cmp (name_in bytes x) (name_in bytes y))) (ranks_by nat_list_cmp_total (name_in bytes))
+    (always_returns_same _ _ _ (λ a r f' k. search rules))

@@ -60,7 +60,8 @@ returns-then-rest-eq34 c =
     let stops : (x == 34 || not (is_string_byte x)) ≡ true =
     elim c.then-rest-eq34.branch [
       | then-rest-eq34-via-then-rest-eq34 w ↦ ap (λ t. t || not (is_string_byte x)) (eq-eqb x 34 w.if-rest-eq34.true)
-      | then-rest-eq34-via-else-rest-eq34+then-not-is_string_byte w ↦ or_not_false (x == 34) (is_string_byte x) (sym w.is_string_byte.ensures ∙ w.if-not-is_string_byte.true)
+      | then-rest-eq34-via-else-rest-eq34+then-not-is_string_byte w ↦ or_not_false (x == 34) (is_string_byte x)
+          (sym w.is_string_byte.ensures ∙ w.if-not-is_string_byte.true)
     ] in
     ap (joined c.loop-rest.text.items) (sym (read ∙ cond-true (x == 34 || not (is_string_byte x)) _ _ stops)) ∙ c.loop-rest.invariant
 

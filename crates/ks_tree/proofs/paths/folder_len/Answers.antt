@@ -13,7 +13,8 @@ loop-i-preserved c =
       }
       | else-byte-eq47 w ↦ record {
         within = omega arith;
-        border = subst (λ n. dotted (take (c.loop-i.i + 1) c.args.path.now) ≡ take n c.args.path.now ++ 46 ∷ drop n (take (c.loop-i.i + 1) c.args.path.now)) (sym w.len-is)
+        border = subst (λ n. dotted (take (c.loop-i.i + 1) c.args.path.now) ≡ take n c.args.path.now ++ 46 ∷ drop n (take (c.loop-i.i + 1) c.args.path.now))
+            (sym w.len-is)
             (border_other c.args.path.now c.loop-i.i c.loop-i.len c.loop-i-test.true w.if-byte-eq47.false c.loop-i.invariant.within c.loop-i.invariant.border);
       }
     ]

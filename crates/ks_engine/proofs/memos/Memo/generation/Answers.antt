@@ -12,7 +12,8 @@ returns-clause-memo g c = λ honest.
     let old = c.requires.memo honest in
     let new = g.T.Tree.files c.read_generation.new.tree in
     record {
-      generation = λ k is. subst (λ o. IfSome o (λ n. last_generation (content new auto_path) ≡ Ok n)) is (ap (λ f. last_generation (content f auto_path)) same ∙ c.in_ok-generation.ensures.read honest);
+      generation = λ k is. subst (λ o. IfSome o (λ n. last_generation (content new auto_path) ≡ Ok n)) is
+          (ap (λ f. last_generation (content f auto_path)) same ∙ c.in_ok-generation.ensures.read honest);
       stamps = subst (λ f. AreStamps f c.args.self.now.stamps) (sym same) old.stamps;
       sources = subst (λ f. AreSources f c.args.self.now.sources) (sym same) old.sources;
     }

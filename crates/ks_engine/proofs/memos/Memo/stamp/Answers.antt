@@ -8,7 +8,8 @@ use Rattle.ks_engine.proofs.memos.Memo.stamp.Goals as goal
 
 pub returns-in-Some-clause-number : goal.returns-in-Some-clause-number
 returns-in-Some-clause-number g c = λ honest.
-    (kept_found (IsStamp (g.T.Tree.files c.args.tree.now)) c.args.name.now c.in-Some.number.now c.args.self.now.stamps (c.requires.memo honest).stamps (sym c.in-Some.ensures)).1
+    (kept_found (IsStamp (g.T.Tree.files c.args.tree.now)) c.args.name.now c.in-Some.number.now c.args.self.now.stamps (c.requires.memo honest).stamps
+    (sym c.in-Some.ensures)).1
 
 pub returns-clause-memo : goal.returns-clause-memo
 returns-clause-memo g c = λ honest.
@@ -19,7 +20,8 @@ returns-clause-memo g c = λ honest.
     let has = subst (λ f. IsStamp f c.args.name.now c.in_ok-number.number) (sym same) (c.requires.name, c.in_ok-number.ensures.number honest) in
     record {
       generation = λ k is. ap (λ f. last_generation (content f auto_path)) same ∙ old.generation k is;
-      stamps = subst (AreStamps new) (sym c.in_ok-push.ensures.pushed) (kept_added (IsStamp new) c.args.name.now c.in_ok-number.number pairs (subst (λ f. AreStamps f pairs) (sym same) old.stamps) has);
+      stamps = subst (AreStamps new) (sym c.in_ok-push.ensures.pushed)
+          (kept_added (IsStamp new) c.args.name.now c.in_ok-number.number pairs (subst (λ f. AreStamps f pairs) (sym same) old.stamps) has);
       sources = subst (λ f. AreSources f c.args.self.now.sources) (sym same) old.sources;
     }
 

@@ -29,7 +29,8 @@ loop-alloc-preserved c =
     record {
       same = ap (λ l. l ++ deps_in after) pushed ∙ append_assoc items (dep ∷ []) (deps_in after)
           ∙ ap (λ l. items ++ l) (sym (deps-step (lines c.loop-alloc.rest.now) after c.split_line.result.0.now dep is found)) ∙ c.loop-alloc.invariant.same;
-      rest = sym (ap (λ k. drop k (lines c.args.text.now)) more ∙ drop-one (length items) (lines c.args.text.now) c.split_line.result.0.now after (sym c.loop-alloc.invariant.rest ∙ is));
+      rest = sym (ap (λ k. drop k (lines c.args.text.now)) more ∙ drop-one (length items) (lines c.args.text.now) c.split_line.result.0.now after
+          (sym c.loop-alloc.invariant.rest ∙ is));
       fits = omega (arith, more, c.split_line.ensures.shorter some, c.loop-alloc.invariant.fits);
     }
 

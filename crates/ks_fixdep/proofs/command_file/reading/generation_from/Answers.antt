@@ -12,7 +12,8 @@ returns-in_err-said c =
     let n = c.loop-rest.number in
     let ls = lines c.loop-rest.rest.now in
     let found = c.loop-rest.generation in
-    gives-err (λ g. g) c.from_residual.result c.in_err-said.field-0.0 (generation_from c.args.first (lines c.args.text.now)) c.from_residual.ensures.0 c.from_residual.ensures.1
+    gives-err (λ g. g) c.from_residual.result c.in_err-said.field-0.0 (generation_from c.args.first (lines c.args.text.now)) c.from_residual.ensures.0
+    c.from_residual.ensures.1
     (fails-through c.in_err-said.field-0.0 (said n c.split_line.result.0.now) (generation_from c.args.first (lines c.args.text.now))
     (λ m fault. sym c.loop-rest.invariant.same ∙ generation-fault n m c.split_line.result.0.now ls (lines c.split_line.result.1.now) found is fault)
     c.in_err-said.ensures)
@@ -26,11 +27,13 @@ loop-rest-preserved c =
     record {
       same =
           ap (λ g. with_found g (generation_from (n + 1) after)) c.or-generation.ensures
-          ∙ sym (generation-step n c.split_line.result.0.now (lines c.loop-rest.rest.now) after c.in_ok-said.field-0 c.loop-rest.generation is c.in_ok-said.ensures)
+          ∙ sym (generation-step n c.split_line.result.0.now (lines c.loop-rest.rest.now) after c.in_ok-said.field-0 c.loop-rest.generation is
+          c.in_ok-said.ensures)
           ∙ c.loop-rest.invariant.same;
       fits = omega (arith, c.split_line.ensures.shorter some, c.loop-rest.invariant.fits);
     }
 
 pub returns : goal.returns
 returns c =
-    sym c.loop-rest.invariant.same ∙ generation-end c.loop-rest.number c.loop-rest.generation (lines c.loop-rest.rest.now) (lines-none c.loop-rest.rest.now (grind (arith, nat_tests)))
+    sym c.loop-rest.invariant.same ∙ generation-end c.loop-rest.number c.loop-rest.generation (lines c.loop-rest.rest.now)
+    (lines-none c.loop-rest.rest.now (grind (arith, nat_tests)))

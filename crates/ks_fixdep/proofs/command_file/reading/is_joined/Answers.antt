@@ -9,7 +9,8 @@ none = record { ref_ptr = (0, 0); now = [] }
 
 step : (parts : List (Bor (List ℕ))) (i : ℕ) (rest : List ℕ) → i < length parts →
     let part = (get_or parts i none).now in
-    bytes_eq rest (flat_map (λ p. p.now) (drop i parts)) ≡ (bytes_eq (take (length part) rest) part && bytes_eq (drop (length part) rest) (flat_map (λ p. p.now) (drop (i + 1) parts)))
+    bytes_eq rest (flat_map (λ p. p.now) (drop i parts)) ≡ (bytes_eq (take (length part) rest) part
+    && bytes_eq (drop (length part) rest) (flat_map (λ p. p.now) (drop (i + 1) parts)))
 step parts i rest below =
     let part = (get_or parts i none).now in
     let next : i + 1 ≡ suc i = omega arith in

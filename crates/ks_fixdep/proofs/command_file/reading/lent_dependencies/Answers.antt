@@ -27,17 +27,20 @@ loop-line-preserved c =
     let some : 0 < length c.loop-line.rest.now = grind (arith, nat_tests) in
     let is = c.split_line.ensures.first some in
     let found = ap dep_in (sym c.content_of.ensures) ∙ sym c.lent_dep_in.ensures ∙ ap (option_map seen_dep) c.in-Some.is in
-    let pushed : map seen_dep c.push.new.self.items ≡ items ++ dep ∷ [] = ap (map seen_dep) c.in_ok-push.ensures.items ∙ map-append seen_dep old (c.in-Some.dep ∷ []) in
+    let pushed : map seen_dep c.push.new.self.items ≡ items ++ dep ∷ [] = ap (map seen_dep) c.in_ok-push.ensures.items ∙ map-append seen_dep old
+    (c.in-Some.dep ∷ []) in
     let more : length c.push.new.self.items ≡ length old + 1 = ap length c.in_ok-push.ensures.items ∙ length-append old (c.in-Some.dep ∷ []) in
     record {
       same = ap (λ l. l ++ deps_in after) pushed ∙ append_assoc items (dep ∷ []) (deps_in after)
           ∙ ap (λ l. items ++ l) (sym (deps-step (lines c.loop-line.rest.now) after c.split_line.result.0.now dep is found)) ∙ c.loop-line.invariant.same;
-      rest = sym (ap (λ k. drop k (lines c.args.text.now)) more ∙ drop-one (length old) (lines c.args.text.now) c.split_line.result.0.now after (sym c.loop-line.invariant.rest ∙ is));
+      rest = sym (ap (λ k. drop k (lines c.args.text.now)) more ∙ drop-one (length old) (lines c.args.text.now) c.split_line.result.0.now after
+          (sym c.loop-line.invariant.rest ∙ is));
       fits = omega (arith, more, c.split_line.ensures.shorter some, c.loop-line.invariant.fits);
     }
 
 pub returns-clause-deps : goal.returns-clause-deps
 returns-clause-deps c =
     sym (append-nil (map seen_dep c.loop-line.deps.items))
-    ∙ ap (λ l. map seen_dep c.loop-line.deps.items ++ l) (sym (deps-nil (lines c.loop-line.rest.now) (lines-none c.loop-line.rest.now (grind (arith, nat_tests)))))
+    ∙ ap (λ l. map seen_dep c.loop-line.deps.items ++ l) (sym
+    (deps-nil (lines c.loop-line.rest.now) (lines-none c.loop-line.rest.now (grind (arith, nat_tests)))))
     ∙ c.loop-line.invariant.same

@@ -60,5 +60,6 @@ returns-clause-stands c seen s =
       number = ap (λ n. n + 1) s.number ∙ sym (length-append seen (x ∷ []));
       found = c.in_ok-note.ensures ∙ ap (λ es. added es (x, made)) s.found ∙ ap (λ r. added (once (with_roles [] seen)) (x, r)) rule ∙ sym step;
       some = λ _. subst (λ (es : List (List ℕ × Role)). 0 < length es) (sym c.in_ok-note.ensures) (some-added before.by_path (x, made));
-      legal = ap (list_all (λ e. is_path e.0)) c.in_ok-note.ensures ∙ legal-added before.by_path x made s.legal (sym c.path_is_legal.ensures.legal ∙ c.if-not-path_is_legal.false);
+      legal = ap (list_all (λ e. is_path e.0)) c.in_ok-note.ensures ∙ legal-added before.by_path x made s.legal
+          (sym c.path_is_legal.ensures.legal ∙ c.if-not-path_is_legal.false);
     }

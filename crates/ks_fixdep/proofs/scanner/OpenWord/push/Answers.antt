@@ -10,7 +10,8 @@ pub invariant_of-self-2 : goal.invariant_of-self-2
 invariant_of-self-2 c =
     let it = c.self.inside in
     let more = c.args.more.now in
-    let joined = take-put_mid it.len (it.len + length more - it.len) it.bytes c.copy_from_slice.new.self (it.len + length more) (omega (arith, ap length c.copy_from_slice.ensures.after)) (omega arith) in (
+    let joined = take-put_mid it.len (it.len + length more - it.len) it.bytes c.copy_from_slice.new.self (it.len + length more)
+    (omega (arith, ap length c.copy_from_slice.ensures.after)) (omega arith) in (
       omega arith,
       ap (list_all is_word_byte) joined
           ∙ list_all-append is_word_byte (take it.len it.bytes) c.copy_from_slice.new.self

@@ -15,7 +15,8 @@ returns-then-head-piece c =
     let whole = c.if-head-piece.true in (
       (refl, (λ _. tt), λ t stands. c.push.ensures ∙ ap (λ k. lengthened k head) (c.self.view_is ∙ stands) ∙ word-kept t p head is all whole),
       record {
-        lends = λ t stands. word-lends t p head is all whole ∙ ap (λ l. ended t ++ [] ++ map (further (length t)) l) (sym c.starting_at.ensures) ∙ append_assoc (ended t) [] (map (further (length t)) (names_left c.starting_at.result));
+        lends = λ t stands. word-lends t p head is all whole ∙ ap (λ l. ended t ++ [] ++ map (further (length t)) l) (sym c.starting_at.ensures) ∙
+            append_assoc (ended t) [] (map (further (length t)) (names_left c.starting_at.result));
         legal = tt;
         after = tt;
       },
@@ -24,7 +25,8 @@ returns-then-head-piece c =
 pub starting_at-requires-2 : goal.starting_at-requires-2
 starting_at-requires-2 c =
     let short : length c.leading_word-head.result.now < length c.args.piece.now = omega arith in
-    piece-fits c.args.piece.now c.leading_word-head.result.now c.trailing_word-tail.result.now c.leading_word-head.ensures.word short c.trailing_word-tail.ensures.word
+    piece-fits c.args.piece.now c.leading_word-head.result.now c.trailing_word-tail.result.now c.leading_word-head.ensures.word short
+    c.trailing_word-tail.ensures.word
 
 pub returns : goal.returns
 returns c =
@@ -39,9 +41,12 @@ returns c =
         lends = λ t stands.
             (let name = c.name.ensures.value ∙ ap kept_name (c.set.ensures ∙ c.push.ensures ∙ ap (λ k. lengthened k head) (c.self.view_is ∙ stands)) in
             piece-lends t p head tail is short last
-            ∙ ap (λ x. ended t ++ carried_at (length (before_last_word t)) x ++ map (further (length t)) (taken_after (take (length p - length tail) p) (length head))) (sym name)
-            ∙ ap (λ l. ended t ++ carried_at (length (before_last_word t)) (option_copied c.name.result) ++ map (further (length t)) l) (sym c.starting_at-2.ensures)
-            ∙ append_assoc (ended t) (carried_at (length (before_last_word t)) (option_copied c.name.result)) (map (further (length t)) (names_left c.starting_at-2.result)));
+            ∙ ap (λ x. ended t ++ carried_at (length (before_last_word t)) x
+            ++ map (further (length t)) (taken_after (take (length p - length tail) p) (length head))) (sym name)
+            ∙ ap (λ l. ended t ++ carried_at (length (before_last_word t)) (option_copied c.name.result) ++ map (further (length t)) l)
+            (sym c.starting_at-2.ensures)
+            ∙ append_assoc (ended t) (carried_at (length (before_last_word t)) (option_copied c.name.result))
+            (map (further (length t)) (names_left c.starting_at-2.result)));
         legal = c.name.ensures.legal;
         after = tt;
       },

@@ -8,7 +8,8 @@ pub returns : goal.returns
 returns c = (
   (refl, (λ _. tt), c.clear.ensures ∙ ap within (sym last_word-nil)),
   record {
-    name = λ t stands. taken-finish t ∙ ap (λ x. ended t ++ carried_at (length (before_last_word t)) x) (sym (c.name.ensures.value ∙ ap kept_name (c.set.ensures ∙ c.self.view_is ∙ stands)));
+    name = λ t stands. taken-finish t ∙ ap (λ x. ended t ++ carried_at (length (before_last_word t)) x)
+        (sym (c.name.ensures.value ∙ ap kept_name (c.set.ensures ∙ c.self.view_is ∙ stands)));
     legal = c.name.ensures.legal;
     after = tt;
   },

@@ -15,7 +15,8 @@ returns-clause-stands c = λ ts t stands.
     let earlier = names_of (map names_in ts) in
     let carried = option_copied c.finish.result in
     let whole = names-whole t (length (before_last_word t)) carried (c.finish.ensures.name t stands.word) in
-    let noted = noted_in_two earlier (map bare_name (ended t)) (list_of carried) (map bare_name (taken t)) _ _ stands.names c.in_ok-note_carried.ensures whole in
+    let noted = noted_in_two earlier (map bare_name (ended t)) (list_of carried) (map bare_name (taken t)) _ _ stands.names c.in_ok-note_carried.ensures whole
+    in
     let names = noted ∙ sym (all_noted_again earlier [] (map bare_name (taken t))) ∙ sym (names_of-last ts t) in
     record {
       word = c.finish.follows.holds-at-none;

@@ -15,6 +15,7 @@ returns-clause-stands c = λ ts t stands.
     let longer = names-longer t c.args.piece.now carried names (c.feed-fed.ensures.lends t stands.word) in
     on_ok c.note_all.result (λ noted. record {
       word = c.feed-fed.follows.holds-at-none t stands.word;
-      names = noted_in_parts (names_of (map names_in ts)) (map bare_name (ended t)) (list_of carried) (map bare_name names) _ _ _ _ stands.names c.in_ok-note_carried.ensures noted longer;
+      names = noted_in_parts (names_of (map names_in ts)) (map bare_name (ended t)) (list_of carried) (map bare_name names) _ _ _ _ stands.names
+          c.in_ok-note_carried.ensures noted longer;
       counts = stands.counts;
     }) c.note_all.ensures

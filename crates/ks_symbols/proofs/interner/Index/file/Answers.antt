@@ -23,7 +23,8 @@ returns-then-place-len-clause-filed c = λ stop missed.
     let text = c.args.text.now in
     let p = c.in-Some.place in
     let within : p < length seen = omega (arith, c.if-place-len.true, c.len.ensures, c.args.self.now.slots.ok.0, ap length c.deref.ensures.value) in
-    absurd (met seen p c.args.number within c.in-Some.ensures.free (first_place text (length seen)) stop c.in-Some.ensures.later c.in-Some.ensures.within c.in-Some.ensures.first
+    absurd (met seen p c.args.number within c.in-Some.ensures.free (first_place text (length seen)) stop c.in-Some.ensures.later c.in-Some.ensures.within
+    c.in-Some.ensures.first
     (shown c.args.self.now.slots.items seen p c.args.number stop c.args.number text c.deref.ensures.value missed))
 
 pub returns-then-place-len-clause-others : goal.returns-then-place-len-clause-others

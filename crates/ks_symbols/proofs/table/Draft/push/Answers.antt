@@ -30,10 +30,12 @@ invariant_of-self-2 g c =
     let mid : c.len-middle.result ≡ length old + length c.args.name.now =
     c.len-middle.ensures ∙ c.extend_from_slice.new.self.ok.0 ∙ ap length c.in_ok-extend_from_slice.ensures.items ∙ length-append old c.args.name.now in
     let end : c.len-end.result ≡ length old + length c.args.name.now + length c.args.text.now =
-    c.len-end.ensures ∙ c.extend_from_slice-2.new.self.ok.0 ∙ ap length c.in_ok-extend_from_slice-2.ensures.items ∙ length-append c.extend_from_slice.new.self.items c.args.text.now
+    c.len-end.ensures ∙ c.extend_from_slice-2.new.self.ok.0 ∙ ap length c.in_ok-extend_from_slice-2.ensures.items ∙ length-append
+    c.extend_from_slice.new.self.items c.args.text.now
     ∙ ap (λ n. n + length c.args.text.now) (ap length c.in_ok-extend_from_slice.ensures.items ∙ length-append old c.args.name.now) in
     let n = length c.extend_from_slice-2.new.self.items in
-    rw (c.in_ok-push.ensures.items) (lie_push n c.self.inside.records.items _ (lie_more (length old) n c.self.inside.records.items (omega (arith, long)) c.self.invariant)
+    rw (c.in_ok-push.ensures.items) (lie_push n c.self.inside.records.items _
+    (lie_more (length old) n c.self.inside.records.items (omega (arith, long)) c.self.invariant)
     (omega (arith, long, mid)) (omega (arith, long, end)))
 
 pub returns : goal.returns
@@ -48,7 +50,8 @@ returns g c =
     let mid : c.len-middle.result ≡ length old + length c.args.name.now =
     c.len-middle.ensures ∙ c.extend_from_slice.new.self.ok.0 ∙ ap length c.in_ok-extend_from_slice.ensures.items ∙ length-append old c.args.name.now in
     let end : c.len-end.result ≡ length old + length c.args.name.now + length c.args.text.now =
-    c.len-end.ensures ∙ c.extend_from_slice-2.new.self.ok.0 ∙ ap length c.in_ok-extend_from_slice-2.ensures.items ∙ length-append c.extend_from_slice.new.self.items c.args.text.now
+    c.len-end.ensures ∙ c.extend_from_slice-2.new.self.ok.0 ∙ ap length c.in_ok-extend_from_slice-2.ensures.items ∙ length-append
+    c.extend_from_slice.new.self.items c.args.text.now
     ∙ ap (λ n. n + length c.args.text.now) (ap length c.in_ok-extend_from_slice.ensures.items ∙ length-append old c.args.name.now) in
     rw (bytes, c.in_ok-push.ensures.items)
     (ap (after_lines map.empty) (said_pushed old name text rs _ c.self.invariant start mid end)

@@ -12,7 +12,8 @@ invariant_of-self-in-Ok g c =
     let vs = c.self.inside.values.items in
     let none : place_of x ts ≡ None = no_place x ts vs c.self.invariant (ap (value_of x) c.self.view_is ∙ c.requires) in
     let texts : c.note.new.self ≡ ts ++ x ∷ [] = c.in-Ok.ensures.noted ∙ noted_new ts x none in
-    ap length texts ∙ length-append ts (x ∷ []) ∙ ap (λ n. n + 1) c.self.invariant ∙ sym (length-append vs (c.args.value ∷ [])) ∙ sym (ap length c.in_ok-push.ensures.items)
+    ap length texts ∙ length-append ts (x ∷ []) ∙ ap (λ n. n + 1) c.self.invariant ∙ sym (length-append vs (c.args.value ∷ [])) ∙ sym
+    (ap length c.in_ok-push.ensures.items)
 
 pub returns-clause-pushed : goal.returns-clause-pushed
 returns-clause-pushed g c =

@@ -24,7 +24,8 @@ pub invariant_of-self-2 : goal.invariant_of-self-2
 invariant_of-self-2 c =
     let old = c.self.inside.bytes.items in
     let text = c.args.text.now in
-    let all : length c.extend_from_slice.new.self.items ≡ length old + length text = ap length c.in_ok-extend_from_slice.ensures.items ∙ length-append old text in
+    let all : length c.extend_from_slice.new.self.items ≡ length old + length text
+    = ap length c.in_ok-extend_from_slice.ensures.items ∙ length-append old text in
     let end : c.len-end.result ≡ length c.extend_from_slice.new.self.items = c.len-end.ensures ∙ c.extend_from_slice.new.self.ok.0 in
     let n = length c.extend_from_slice.new.self.items in
     rw (c.in_ok-push.ensures.items)

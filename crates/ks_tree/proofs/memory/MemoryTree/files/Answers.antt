@@ -5,4 +5,5 @@ use Rattle.ks_tree.specs.Memory.{seen_file}
 use Rattle.ks_tree.proofs.memory.MemoryTree.files.Goals as goal
 
 pub returns : goal.returns
-returns c = ap (map_list seen_file) c.iter.ensures.rest ∙ sym (entries-named (λ v. v.items) c.self.inside.files.entries c.iter.ensures.ordered) ∙ ap map.entries c.self.view_is
+returns c = ap (map_list seen_file) c.iter.ensures.rest ∙ sym (entries-named (λ v. v.items) c.self.inside.files.entries c.iter.ensures.ordered) ∙ ap
+    map.entries c.self.view_is

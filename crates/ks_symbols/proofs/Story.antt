@@ -11,7 +11,7 @@ use Rattle.ks_symbols.specs.declared.kinds.Kind.{Kind}
 use Rattle.ks_symbols.specs.declared.error.SourceError.{SourceError}
 use Rattle.ks_symbols.specs.declared.error.SourceError.TheVariants as fault
 use Rattle.ks_symbols.specs.Names.{is_name, module_end}
-use Rattle.ks_symbols.specs.Configuration.{NameMap, Configuration}
+use Rattle.ks_symbols.specs.Configuration.{NameMap}
 use Rattle.ks_symbols.specs.Lines.{lines, max_bytes}
 use Rattle.ks_symbols.specs.Refusals.{or_else}
 use Rattle.std.proofs.lemmas.Bool.{cond-true, cond-false}
@@ -19,7 +19,7 @@ use Rattle.std.proofs.lemmas.Bool.Decides.{nat_tests}
 use Rattle.ks_symbols.specs.Forms.{Form, Silent, Title, Untitled, Entry, HasKind, Unknown, form}
 use Rattle.ks_symbols.specs.Kconfig.{says, opens, entry_of, declares, declarations, kind_in, title_in, lacks_kind, clashes, kind_fault, form_fault, goes_on, first_form_fault, story, kconfig_refusal}
 use Rattle.ks_symbols.specs.Titles.{is_title}
-use Rattle.ks_symbols.specs.Progress.{Progress, no_progress, progress_after, with_kind, waiting_fault, step_fault}
+use Rattle.ks_symbols.specs.Progress.{Progress, no_progress, progress_after, waiting_fault, step_fault}
 
 -- the reader stands where the story so far leads
 pub record Matches (s : Progress) (said : List Form) : Type 0 where
@@ -37,8 +37,8 @@ abbrev pub lacking : Option (ℕ × List ℕ) → Option Form → Option SourceE
 lacking None next = None
 lacking (Some w) next = cond (lacks_kind next) (Some (fault.NoType w.0)) None
 
-abbrev made : NameMap Kind → Configuration → Option (List ℕ) → Bool → Option (ℕ × List ℕ) → Progress
-made kinds symbols title started waiting = record { kinds = kinds; symbols = symbols; title = title; started = started; waiting = waiting }
+abbrev made : NameMap Kind → Option (List ℕ) → Bool → Option (ℕ × List ℕ) → Progress
+made kinds title started waiting = record { kinds = kinds; title = title; started = started; waiting = waiting }
 
 entry_split : (a b l : Bool) (n : ℕ) (R : Option SourceError)
     → or_else (cond (not a) (Some (fault.BadName n)) (cond b (Some (fault.ModuleName n)) (cond l (Some (fault.NoType n)) None))) R
@@ -48,42 +48,42 @@ entry_split true true l n R = refl
 entry_split true false l n R = refl
 
 -- a step finds the faults of its line, and those of an entry for which the line comes next
-step_agrees : (kinds : NameMap Kind) (symbols : Configuration) (title : Option (List ℕ)) (started : Bool) (waiting : Option (ℕ × List ℕ)) (said : List Form)
-    → Matches (made kinds symbols title started waiting) said → (n : ℕ) (f : Form) (later : List Form) (R : Option SourceError)
+step_agrees : (kinds : NameMap Kind) (title : Option (List ℕ)) (started : Bool) (waiting : Option (ℕ × List ℕ)) (said : List Form)
+    → Matches (made kinds title started waiting) said → (n : ℕ) (f : Form) (later : List Form) (R : Option SourceError)
     → or_else (lacking waiting (find says (f ∷ later))) (or_else (form_fault n said f later) R)
-    ≡ or_else (step_fault (made kinds symbols title started waiting) n f)
-    (or_else (lacking (progress_after (made kinds symbols title started waiting) n f).waiting (find says later)) R)
-step_agrees kinds symbols title started waiting said m n Silent later R = refl
-step_agrees kinds symbols title started None said m n Unknown later R = refl
-step_agrees kinds symbols title started (Some w) said m n Unknown later R = refl
-step_agrees kinds symbols title started None said m n Untitled later R = refl
-step_agrees kinds symbols title started (Some w) said m n Untitled later R = refl
-step_agrees kinds symbols title started None said m n (Title t) later R = ap (λ b. or_else (cond (is_title t && not b) None (Some (fault.BadTitle n))) R)
+    ≡ or_else (step_fault (made kinds title started waiting) n f)
+    (or_else (lacking (progress_after (made kinds title started waiting) n f).waiting (find says later)) R)
+step_agrees kinds title started waiting said m n Silent later R = refl
+step_agrees kinds title started None said m n Unknown later R = refl
+step_agrees kinds title started (Some w) said m n Unknown later R = refl
+step_agrees kinds title started None said m n Untitled later R = refl
+step_agrees kinds title started (Some w) said m n Untitled later R = refl
+step_agrees kinds title started None said m n (Title t) later R = ap (λ b. or_else (cond (is_title t && not b) None (Some (fault.BadTitle n))) R)
     (sym m.started)
-step_agrees kinds symbols title started (Some w) said m n (Title t) later R = refl
-step_agrees kinds symbols title started None said m n (Entry x) later R =
+step_agrees kinds title started (Some w) said m n (Title t) later R = refl
+step_agrees kinds title started None said m n (Entry x) later R =
     entry_split (is_name x) (ends_with nat_eq x module_end) (lacks_kind (find says later)) n R
-step_agrees kinds symbols title started (Some w) said m n (Entry x) later R = refl
-step_agrees kinds symbols title started None said m n (HasKind k) later R = ap (λ o. or_else (kind_fault n said k o) R) (sym m.waiting)
-step_agrees kinds symbols title started (Some w) said m n (HasKind k) later R =
+step_agrees kinds title started (Some w) said m n (Entry x) later R = refl
+step_agrees kinds title started None said m n (HasKind k) later R = ap (λ o. or_else (kind_fault n said k o) R) (sym m.waiting)
+step_agrees kinds title started (Some w) said m n (HasKind k) later R =
     ap (λ o. or_else (kind_fault n said k o) R) (sym m.waiting)
     ∙ ap (λ o. or_else (cond (clashes k o) (Some (fault.TypeClash n)) None) R) (sym (m.kinds w.1))
 
 -- and after a step with no fault the reader stands where the longer story leads
-step_matches : (kinds : NameMap Kind) (symbols : Configuration) (title : Option (List ℕ)) (started : Bool) (waiting : Option (ℕ × List ℕ)) (said : List Form)
-    → Matches (made kinds symbols title started waiting) said → (n : ℕ) (f : Form) → step_fault (made kinds symbols title started waiting) n f ≡ None
-    → Matches (progress_after (made kinds symbols title started waiting) n f) (goes_on f said)
+step_matches : (kinds : NameMap Kind) (title : Option (List ℕ)) (started : Bool) (waiting : Option (ℕ × List ℕ)) (said : List Form)
+    → Matches (made kinds title started waiting) said → (n : ℕ) (f : Form) → step_fault (made kinds title started waiting) n f ≡ None
+    → Matches (progress_after (made kinds title started waiting) n f) (goes_on f said)
 unfolding declarations title_in
-step_matches kinds symbols title started waiting said m n Silent e = m
-step_matches kinds symbols title started waiting said m n Unknown e = absurd (cc e)
-step_matches kinds symbols title started None said m n Untitled e = absurd (cc e)
-step_matches kinds symbols title started (Some w) said m n Untitled e = absurd (cc e)
-step_matches kinds symbols title started None said m n (Title t) e = record { kinds = m.kinds; started = refl; title = refl; waiting = refl }
-step_matches kinds symbols title started (Some w) said m n (Title t) e = absurd (cc e)
-step_matches kinds symbols title started None said m n (Entry x) e = record { kinds = m.kinds; started = refl; title = m.title; waiting = refl }
-step_matches kinds symbols title started (Some w) said m n (Entry x) e = absurd (cc e)
-step_matches kinds symbols title started None said m n (HasKind k) e = absurd (cc e)
-step_matches kinds symbols title started (Some w) said m n (HasKind k) e = record {
+step_matches kinds title started waiting said m n Silent e = m
+step_matches kinds title started waiting said m n Unknown e = absurd (cc e)
+step_matches kinds title started None said m n Untitled e = absurd (cc e)
+step_matches kinds title started (Some w) said m n Untitled e = absurd (cc e)
+step_matches kinds title started None said m n (Title t) e = record { kinds = m.kinds; started = refl; title = refl; waiting = refl }
+step_matches kinds title started (Some w) said m n (Title t) e = absurd (cc e)
+step_matches kinds title started None said m n (Entry x) e = record { kinds = m.kinds; started = refl; title = m.title; waiting = refl }
+step_matches kinds title started (Some w) said m n (Entry x) e = absurd (cc e)
+step_matches kinds title started None said m n (HasKind k) e = absurd (cc e)
+step_matches kinds title started (Some w) said m n (HasKind k) e = record {
   kinds = λ x.
       map.get-insert nat_list_cmp_total kinds w.1 k x
       ∙ ap (λ b. cond b (Some k) (map.get kinds x)) (is_eq-slice_cmp x w.1)
@@ -134,10 +134,10 @@ run_agrees s said m n (f ∷ later) =
     let after = progress_after s n f in
     elim (step_fault s n f) as (λ o. step_fault s n f ≡ o → or_else o (run_fault after (n + 1) later)
     ≡ or_else o (or_else (lacking after.waiting (find says later)) R)) [
-      | None ↦ λ e. run_agrees after (goes_on f said) (step_matches s.kinds s.symbols s.title s.started s.waiting said m n f e) (n + 1) later
+      | None ↦ λ e. run_agrees after (goes_on f said) (step_matches s.kinds s.title s.started s.waiting said m n f e) (n + 1) later
       | Some x ↦ λ e. refl
     ] refl
-    ∙ sym (step_agrees s.kinds s.symbols s.title s.started s.waiting said m n f later R)
+    ∙ sym (step_agrees s.kinds s.title s.started s.waiting said m n f later R)
 
 -- a story that goes on over forms
 unfoldable pub story_after : List Form → List Form → List Form
@@ -153,7 +153,7 @@ run_matches s said m n (f ∷ later) e =
     let after = progress_after s n f in
     elim (step_fault s n f) as (λ o. step_fault s n f ≡ o → or_else o (run_fault after (n + 1) later) ≡ None
     → Matches (run_end after (n + 1) later) (story_after (goes_on f said) later)) [
-      | None ↦ λ is h. run_matches after (goes_on f said) (step_matches s.kinds s.symbols s.title s.started s.waiting said m n f is) (n + 1) later h
+      | None ↦ λ is h. run_matches after (goes_on f said) (step_matches s.kinds s.title s.started s.waiting said m n f is) (n + 1) later h
       | Some x ↦ λ is h. absurd (cc h)
     ] refl e
 
@@ -192,38 +192,3 @@ found text small =
 pub too_long : (text : List ℕ) → 67108864 < length text → kconfig_refusal text ≡ Some fault.TooLarge
 unfolding kconfig_refusal
 too_long text large = cond-true (nat_lt max_bytes (length text)) _ _ (grind (arith, nat_tests))
-
--- the symbols that are kept have the kinds
-abbrev KeepsKinds : Progress → Type 0
-KeepsKinds s = (x : List ℕ) → option_map (λ e. e.0) (map.get s.symbols x) ≡ map.get s.kinds x
-
-chosen_kind : (b : Bool) (k : Kind) (o : Option (Kind × List ℕ)) → option_map (λ e. e.0) (cond b (Some (k, [])) o) ≡ cond b (Some k) (option_map (λ e. e.0) o)
-chosen_kind true k o = refl
-chosen_kind false k o = refl
-
-kept_with : (s : Progress) (k : Kind) (w : Option (ℕ × List ℕ)) → KeepsKinds s → KeepsKinds (with_kind s k w)
-kept_with s k None h = h
-kept_with s k (Some w) h = λ x.
-    ap (option_map (λ e. e.0)) (map.get-insert nat_list_cmp_total s.symbols w.1 (k, []) x)
-    ∙ chosen_kind _ k (map.get s.symbols x)
-    ∙ ap (cond _ (Some k)) (h x)
-    ∙ sym (map.get-insert nat_list_cmp_total s.kinds w.1 k x)
-
-kept_step : (s : Progress) (n : ℕ) (f : Form) → KeepsKinds s → KeepsKinds (progress_after s n f)
-kept_step s n Silent h = h
-kept_step s n Unknown h = h
-kept_step s n Untitled h = h
-kept_step s n (Title t) h = h
-kept_step s n (Entry x) h = h
-kept_step s n (HasKind k) h = kept_with s k s.waiting h
-
-kept_run : (s : Progress) (n : ℕ) (forms : List Form) → KeepsKinds s → KeepsKinds (run_end s n forms)
-unfolding run_end
-kept_run s n [] h = h
-kept_run s n (f ∷ later) h = kept_run (progress_after s n f) (n + 1) later (kept_step s n f h)
-
-pub symbols_kept : (s : Progress) (n : ℕ) (forms : List Form) → run_end s n [] ≡ run_end no_progress 1 forms → (x : List ℕ)
-    → option_map (λ e. e.0) (map.get s.symbols x) ≡ map.get s.kinds x
-unfolding run_end
-symbols_kept s n forms ends =
-    subst KeepsKinds (sym ends) (kept_run no_progress 1 forms (λ x. ap (option_map (λ e. e.0)) (map.get-empty _ x) ∙ sym (map.get-empty _ x)))

@@ -1,4 +1,4 @@
--- Entries seen as a finite map from bytes, and a map with other values.
+-- Entries seen as a finite map from bytes.
 use Rattle.std.proofs.Common.{◌≡◌, ℕ, Bool, true, false, cond, inl, inr, List, [], ◌∷◌, ◌++◌, map as map_list, Option, Some, None, option_map, bytes_eq, refl, sym, ap, ◌∙◌}
 use Rattle.std.proofs.lemmas.Bool.{cases_Bool, cond-true, cond-false}
 use Rattle.std.proofs.lemmas.Map.Text.{is_eq-slice_cmp}
@@ -7,7 +7,6 @@ use Rattle.std.specs.Cmp.Lexicographic.{nat_list_cmp_total, nat_list_eq_equiv, b
 use Rattle.std.specs.FinMap as map
 use Rattle.std.specs.FinMap.{find}
 use Rattle.ks_symbols.specs.Configuration.{NameMap, by_name}
-use Rattle.ks_symbols.specs.Table.{with_values}
 use Rattle.ks_symbols.specs.TextMap.{value_of}
 use Rattle.ks_symbols.proofs.LastOnes.{order, bytes_exact, given_line}
 
@@ -60,19 +59,3 @@ again-by_name es x v there =
           ∙ sym (cond-true (bytes_eq x q) (Some v) (map.get (by_name es) q) is)
       | inr ne ↦ sym (cond-false (bytes_eq x q) (Some v) (map.get (by_name es) q) ne)
     ]
-
--- other values
-shown : {X Y : Type 0} (see : X → Y) (b : Bool) (s : X) (o : Option X) → cond b (Some (see s)) (option_map see o) ≡ option_map see (cond b (Some s) o)
-shown see true s o = refl
-shown see false s o = refl
-
-find_values : {X Y : Type 0} (see : X → Y) (q : List ℕ) (es : List (List ℕ × X)) → find order q (map_list (λ e. (e.0, see e.1)) es)
-    ≡ option_map see (find order q es)
-find_values see q [] = refl
-find_values see q (e ∷ es) = ap (cond (is_eq (order q e.0)) (Some (see e.1))) (find_values see q es) ∙ shown see (is_eq (order q e.0)) e.1 (find order q es)
-
-pub get-with_values : {X Y : Type 0} (see : X → Y) (m : NameMap X) (q : List ℕ) → map.get (with_values see m) q ≡ option_map see (map.get m q)
-unfolding with_values
-get-with_values see m q =
-    map.get-from_entries nat_list_cmp_total (map_list (λ e. (e.0, see e.1)) (map.entries m)) q ∙ find_values see q (map.entries m) ∙ ap (option_map see)
-    (sym (map.get-entries m q))

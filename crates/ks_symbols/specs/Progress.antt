@@ -1,5 +1,5 @@
 -- How far a reader of Kconfig is, and what each line does to that. `Kconfig` says what a whole text means.
-use Rattle.std.specs.Prelude.{ℕ, [], Bool, ◌&&◌, not, nat_eq, List, Option, Some, None, if◌then◌else◌, refl, false, true}
+use Rattle.std.specs.Prelude.{ℕ, Bool, ◌&&◌, not, nat_eq, List, Option, Some, None, if◌then◌else◌, refl, false, true}
 use Rattle.std.specs.List.{ends_with}
 use Rattle.std.specs.Coded.{Coded, code_by, coded_ℕ, coded_list, coded×, coded_option, coded_bool}
 use Rattle.ks_symbols.specs.declared.kinds.Kind.{Kind}
@@ -9,34 +9,32 @@ use Rattle.ks_symbols.specs.declared.error.SourceError.TheVariants as fault
 use Rattle.ks_symbols.specs.Names.{is_name, module_end}
 use Rattle.ks_symbols.specs.Kinds.{coded_kind}
 use Rattle.ks_symbols.specs.Refusals.{or_else}
-use Rattle.ks_symbols.specs.Configuration.{NameMap, Configuration}
+use Rattle.ks_symbols.specs.Configuration.{NameMap}
 use Rattle.ks_symbols.specs.Titles.{is_title}
 use Rattle.ks_symbols.specs.Forms.{Form, Silent, Title, Untitled, Entry, HasKind, Unknown}
 use Rattle.ks_symbols.specs.Kconfig.{clashes}
 
--- the kinds so far, the symbols that are to be kept, the title, whether a title or an entry was seen, and the line and the name of an entry
--- that waits for its kind
+-- the kinds so far, the title, whether a title or an entry was seen, and the line and the name of an entry that waits for its kind
 pub record Progress : Type 0 where
   pub kinds : NameMap Kind
-  pub symbols : Configuration
   pub title : Option (List ℕ)
   pub started : Bool
   pub waiting : Option (ℕ × List ℕ)
 
 abbrev pub coded_progress : Coded Progress
 coded_progress =
-    code_by (NameMap Kind × (Configuration × (Option (List ℕ) × (Bool × Option (ℕ × List ℕ)))))
-    (coded× (map.code (coded_list coded_ℕ) coded_kind) (coded× (map.code (coded_list coded_ℕ) (coded× coded_kind (coded_list coded_ℕ)))
-    (coded× (coded_option (coded_list coded_ℕ)) (coded× coded_bool (coded_option (coded× coded_ℕ (coded_list coded_ℕ)))))))
-    (λ s. (s.kinds, (s.symbols, (s.title, (s.started, s.waiting)))))
-    (λ p. record { kinds = p.0; symbols = p.1.0; title = p.1.1.0; started = p.1.1.1.0; waiting = p.1.1.1.1 }) (λ _. refl)
+    code_by (NameMap Kind × (Option (List ℕ) × (Bool × Option (ℕ × List ℕ))))
+    (coded× (map.code (coded_list coded_ℕ) coded_kind)
+    (coded× (coded_option (coded_list coded_ℕ)) (coded× coded_bool (coded_option (coded× coded_ℕ (coded_list coded_ℕ))))))
+    (λ s. (s.kinds, (s.title, (s.started, s.waiting))))
+    (λ p. record { kinds = p.0; title = p.1.0; started = p.1.1.0; waiting = p.1.1.1 }) (λ _. refl)
 
 abbrev pub no_progress : Progress
-no_progress = record { kinds = map.empty; symbols = map.empty; title = None; started = false; waiting = None }
+no_progress = record { kinds = map.empty; title = None; started = false; waiting = None }
 
 abbrev pub with_kind : Progress → Kind → Option (ℕ × List ℕ) → Progress
 with_kind s k None = s
-with_kind s k (Some w) = record s { kinds = map.insert s.kinds w.1 k; symbols = map.insert s.symbols w.1 (k, []); waiting = None }
+with_kind s k (Some w) = record s { kinds = map.insert s.kinds w.1 k; waiting = None }
 
 abbrev pub progress_after : Progress → ℕ → Form → Progress
 progress_after s number (Title title) = record s { title = Some title; started = true }

@@ -50,7 +50,3 @@ last_ones (e ∷ es) = cond (begins_with e.0 es) (last_ones es) (with_entry e.0 
 -- a row as it is lent
 abbrev pub lent_row : {V : Type 0} → Bor (List ℕ) × V × Bor (List ℕ) → List ℕ × (V × List ℕ)
 lent_row e = (e.0.now, (e.1, e.2.now))
-
--- the same names with what a function makes of their values
-unfoldable pub with_values : {X Y : Type 0} → (X → Y) → NameMap X → NameMap Y
-with_values see m = map.from_entries (map_list (λ e. (e.0, see e.1)) (map.entries m))

@@ -7,7 +7,6 @@ ghost use Rattle.std.specs.Prelude.{◌≡◌, ◌+◌, ◌≤◌, ◌<◌, ◌^
 ghost use Rattle.std.specs.FinMap as map;
 ghost use Rattle.ks_symbols.specs.Refusals.{RefusedBy};
 ghost use Rattle.ks_symbols.specs.Configuration.{by_name, HasSymbolNames};
-ghost use Rattle.ks_symbols.specs.Table.{with_values};
 ghost use Rattle.ks_symbols.specs.Progress.{no_progress, waiting_fault, progress_after, step_fault};
 ghost use Rattle.ks_symbols.specs.Forms.{form, Title, Entry, HasKind};
 ghost use Rattle.ks_symbols.specs.Titles.{is_title};
@@ -19,7 +18,6 @@ use crate::kinds::Kind;
 use crate::limits::MAX_BYTES;
 use crate::names::name_is_legal;
 use crate::symbols::Symbols;
-use crate::table::Draft;
 use crate::text_map::TextMap;
 use crate::titles::is_title;
 use bstr::ByteSlice;
@@ -57,12 +55,10 @@ fn title_or_default(alloc: Global, title: Option<&[u8]>) -> Result<Vec<u8>, Allo
     }
 }
 
-/// What was read of a Kconfig text so far. A clash is told at its line, so while the text is read its names stand in a
-/// `TextMap` too.
+/// What was read of a Kconfig text so far.
 #[derive(Drop)]
 struct Reader<'a> {
     kinds: TextMap<Kind>,
-    symbols: Draft<Kind>,
     title: Option<&'a [u8]>,
     started: bool,
     waiting: Option<(u64, &'a [u8])>,
@@ -79,7 +75,6 @@ impl<'a> Model for Reader<'a> {
 
     ghost view = { λ s. record {
       kinds = by_name s.kinds;
-      symbols = s.symbols;
       title = option_map (λ t. t.now) s.title;
       started = s.started;
       waiting
@@ -93,7 +88,6 @@ impl<'a> Reader<'a> {
     {
         Reader {
             kinds: TextMap::new(alloc),
-            symbols: Draft::new(alloc),
             title: None,
             started: false,
             waiting: None,
@@ -150,7 +144,6 @@ impl<'a> Reader<'a> {
         if declare(&mut self.kinds, name, kind)? {
             return Err(SourceError::TypeClash(number));
         }
-        self.symbols.put(name, kind, b"")?;
         Ok(())
     }
 
@@ -173,13 +166,13 @@ impl<'a> Reader<'a> {
 
     /// The symbols, where no entry waits for its kind.
     fn finish(self, alloc: Global) -> Result<Symbols, SourceError>
-        ensures kinds { IfOk result (λ s. s.kinds ≡ with_values (λ e. e.0) self.entry.symbols) }
+        ensures kinds { IfOk result (λ s. s.kinds ≡ self.entry.kinds) }
         ensures title { IfOk result (λ s. s.title ≡ unwrap_or self.entry.title (codes "Main menu")) }
         ensures refusal { RefusedBy SourceError.OutOfMemory result (waiting_fault self.entry.waiting) }
     {
         self.check_waiting()?;
         let title = title_or_default(alloc, self.title)?;
-        Ok(Symbols::new(self.symbols.close(alloc)?, title))
+        Ok(Symbols::new(self.kinds, title))
     }
 }
 

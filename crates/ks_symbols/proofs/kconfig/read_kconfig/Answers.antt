@@ -8,10 +8,8 @@ use Rattle.ks_symbols.specs.Forms.{form}
 use Rattle.ks_symbols.specs.Titles.{is_title}
 use Rattle.ks_symbols.specs.Kconfig.{declared, title_of, kconfig_refusal}
 use Rattle.ks_symbols.specs.Progress.{no_progress, progress_after, step_fault, waiting_fault}
-use Rattle.ks_symbols.specs.Table.{with_values}
-use Rattle.ks_symbols.proofs.Tables.{get-with_values}
 use Rattle.ks_symbols.proofs.Faults.{refused, if_accepted}
-use Rattle.ks_symbols.proofs.Story.{run_fault, run_fault-cons, run_fault-nil, run_end, run_end-cons, found, too_long, read_all, symbols_kept}
+use Rattle.ks_symbols.proofs.Story.{run_fault, run_fault-cons, run_fault-nil, run_end, run_end-cons, found, too_long, read_all}
 use Rattle.ks_symbols.specs.Configuration.{HasSymbolNames}
 use Rattle.ks_symbols.proofs.Configured.{declares_names}
 use Rattle.ks_symbols.proofs.Titled.{title_is_title}
@@ -79,10 +77,10 @@ returns-clause-kinds c =
     let forms = map_list form (lines c.args.text.now) in
     let empty : map_list form c.loop-line.line-iterator ≡ [] = ap (map_list form) c.in-None.ensures.steps.0 in
     let ends : run_end s n [] ≡ run_end no_progress 1 forms = ap (run_end s n) (sym empty) ∙ c.loop-line.invariant.ends in
-    if_accepted c.finish.result (waiting_fault s.waiting) (λ t. t.kinds ≡ with_values (λ e. e.0) s.symbols)
+    if_accepted c.finish.result (waiting_fault s.waiting) (λ t. t.kinds ≡ s.kinds)
     (λ t. (x : List ℕ) → map.get t.kinds x ≡ declared c.args.text.now x) c.finish.ensures.refusal c.finish.ensures.kinds (λ none t same x.
     let stands = read_all c.args.text.now s n ends (sym c.loop-line.invariant.refusal ∙ ap (run_fault s n) empty ∙ run_fault-nil s n ∙ none) in
-    ap (λ m. map.get m x) same ∙ get-with_values (λ e. e.0) s.symbols x ∙ symbols_kept s n forms ends x ∙ stands.kinds x)
+    ap (λ m. map.get m x) same ∙ stands.kinds x)
 
 pub returns-clause-title : goal.returns-clause-title
 unfolding title_of

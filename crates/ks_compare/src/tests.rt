@@ -13,7 +13,19 @@ const KCONFIG: &[u8] =
 fn changes(alloc: Global, old: &OldConfig, dotconfig: &[u8]) -> Result<String, AllocError>
     requires { HasNames old.now.texts }
 {
-    let Ok(symbols) = read_kconfig(alloc, KCONFIG) else {
+    changes_by(alloc, KCONFIG, old, dotconfig)
+}
+
+/// The same, of the symbols of a Kconfig.
+fn changes_by(
+    alloc: Global,
+    kconfig: &[u8],
+    old: &OldConfig,
+    dotconfig: &[u8],
+) -> Result<String, AllocError>
+    requires { HasNames old.now.texts }
+{
+    let Ok(symbols) = read_kconfig(alloc, kconfig) else {
         return String::from_str(alloc, "Kconfig");
     };
     let Ok(settings) = read_dotconfig(alloc, dotconfig, &symbols) else {
@@ -74,5 +86,38 @@ fn comparisons(rt: HostRuntime) -> Result<(), AllocError> {
         };
         assert!(rt; found.as_str() == want, "{name}: {found}");
     }
+    Ok(())
+}
+
+/// A text of a line for each of the symbols S0999 down to S0000, but for one.
+fn lines_falling(alloc: Global, but: u32, before: &str, after: &str) -> Result<String, AllocError> {
+    let mut text = String::new(alloc);
+    for number in (0..1000).rev() {
+        if number != but {
+            text.push_str(&format!(in alloc; "{before}S{number:04}{after}")?)?;
+        }
+    }
+    Ok(text)
+}
+
+/// The names that change between an auto.conf without a symbol and a configuration of all thousand.
+fn changes_of_thousand(alloc: Global, missing: u32) -> Result<String, AllocError> {
+    let kconfig = lines_falling(alloc, 1000, "config ", "\n\tbool\n")?;
+    let dotconfig = lines_falling(alloc, 1000, "CONFIG_", "=y\n")?;
+    let mut auto = String::from_str(alloc, "#typed\n")?;
+    auto.push_str(&lines_falling(alloc, missing, "CONFIG_", "=y\n")?)?;
+    match read_auto(alloc, auto.as_bytes()) {
+        Ok(old) => changes_by(alloc, kconfig.as_bytes(), &old, dotconfig.as_bytes()),
+        Err(error) => error.to_string(alloc),
+    }
+}
+
+#[test]
+fn a_thousand_falling_symbols(rt: HostRuntime) -> Result<(), AllocError> {
+    let alloc = rt.alloc();
+    let found = changes_of_thousand(alloc, 500)?;
+    assert!(rt; found.as_str() == "S0500 ", "{found}");
+    let found = changes_of_thousand(alloc, 1000)?;
+    assert!(rt; found.as_str() == "", "{found}");
     Ok(())
 }

@@ -224,7 +224,7 @@ impl Interner {
     }
 
     /// Notes a text that wasn't noted before.
-    fn add(&mut self, text: &[u8]) -> Result<usize, AllocError>
+    pub(crate) fn add(&mut self, text: &[u8]) -> Result<usize, AllocError>
         requires { place_of text.now self.old ≡ None }
         ensures noted { OnOk result (self.new ≡ noted self.old text.now) }
         ensures number { IfOk result (λ n. place_of text.now self.new ≡ Some n) }

@@ -100,7 +100,7 @@ impl<V: Drop> TextMap<V> {
         ensures kept { OnErr result (self.new ≡ self.old) }
     {
         self.values.push(value)?;
-        let Ok(_) = self.texts.note(text) else {
+        let Ok(_) = self.texts.add(text) else {
             let _ = self.values.pop();
             return Err(AllocError);
         };

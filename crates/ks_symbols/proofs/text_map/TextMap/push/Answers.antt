@@ -11,7 +11,7 @@ invariant_of-self-in-Ok g c =
     let ts = c.self.inside.texts in
     let vs = c.self.inside.values.items in
     let none : place_of x ts ≡ None = no_place x ts vs c.self.invariant (ap (value_of x) c.self.view_is ∙ c.requires) in
-    let texts : c.note.new.self ≡ ts ++ x ∷ [] = c.in-Ok.ensures.noted ∙ noted_new ts x none in
+    let texts : c.add.new.self ≡ ts ++ x ∷ [] = c.in-Ok.ensures.noted ∙ noted_new ts x none in
     ap length texts ∙ length-append ts (x ∷ []) ∙ ap (λ n. n + 1) c.self.invariant ∙ sym (length-append vs (c.args.value ∷ [])) ∙ sym
     (ap length c.in_ok-push.ensures.items)
 
@@ -21,8 +21,12 @@ returns-clause-pushed g c =
     let ts = c.self.inside.texts in
     let vs = c.self.inside.values.items in
     let none : place_of x ts ≡ None = no_place x ts vs c.self.invariant (ap (value_of x) c.self.view_is ∙ c.requires) in
-    let texts : c.note.new.self ≡ ts ++ x ∷ [] = c.in-Ok.ensures.noted ∙ noted_new ts x none in
+    let texts : c.add.new.self ≡ ts ++ x ∷ [] = c.in-Ok.ensures.noted ∙ noted_new ts x none in
     ap (λ l. paired l c.push.new.self.items) texts
     ∙ ap (paired (ts ++ x ∷ [])) c.in_ok-push.ensures.items
     ∙ paired_push ts vs x c.args.value c.self.invariant
     ∙ ap (λ l. l ++ (x, c.args.value) ∷ []) c.self.view_is
+
+pub add-requires : goal.add-requires
+add-requires g c =
+    no_place c.args.text.now c.self.inside.texts c.self.inside.values.items c.self.invariant (ap (value_of c.args.text.now) c.self.view_is ∙ c.requires)

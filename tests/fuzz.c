@@ -475,15 +475,24 @@ static Answer run_program(const Command *command)
     return (Answer){WIFEXITED(status) ? WEXITSTATUS(status) : 128 + WTERMSIG(status), output, error};
 }
 
-/* Whether standard error is the line that is expected, and behind it at most one line more, of two spaces and a place. */
-static bool is_told(Bytes error, Bytes expected)
+/* Whether the output has a line that ends in a failure of the system. */
+static bool tells_device(Bytes output)
+{
+    static const char line[] = "refused 30 Device\n";
+    return memmem(output.at, output.length, line, sizeof line - 1) != NULL;
+}
+
+/* Whether standard error is the line that is expected, and behind it at most one line more, of two spaces and a place. Where
+   nothing is expected there may be such a line if the output tells a failure of the system. */
+static bool is_told(Bytes error, Bytes expected, Bytes output)
 {
     if (error.length < expected.length || (expected.length && memcmp(error.at, expected.at, expected.length)))
         return false;
     Bytes rest = {error.at + expected.length, error.length - expected.length};
     if (rest.length == 0)
         return true;
-    bool is_place = expected.length > 0 && rest.length > 3 && memcmp(rest.at, "  ", 2) == 0;
+    bool may_be = expected.length > 0 || tells_device(output);
+    bool is_place = may_be && rest.length > 3 && memcmp(rest.at, "  ", 2) == 0;
     return is_place && memchr(rest.at, '\n', rest.length) == rest.at + rest.length - 1;
 }
 
@@ -529,7 +538,7 @@ static bool agrees(Tree *tree, const Command *command)
     if (nftw(".", note_file, 16, FTW_PHYS))
         give_up("reading the folder");
     refusals += wanted.status == 2;
-    bool is_same = answer.status == wanted.status && same(answer.output, wanted.output) && is_told(answer.error, wanted.error);
+    bool is_same = answer.status == wanted.status && same(answer.output, wanted.output) && is_told(answer.error, wanted.error, wanted.output);
     if (is_same && same_trees(tree, &found, false))
         return true;
     fprintf(stderr, "status %d, expected %d; words:", answer.status, wanted.status);

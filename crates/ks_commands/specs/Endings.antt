@@ -33,7 +33,7 @@ Stopped step ended = (e : EngineError) × (IsGivenUp e ⊎ (step ≡ Err e)) × 
 abbrev pub IsPart : List ℕ → Option (List ℕ) → Option (List ℕ) → Type 0
 IsPart bytes before after = (part : List ℕ) × (rest : List ℕ) × (bytes ≡ part ++ rest) × Appends before after part
 
--- Standard error grows by a beginning of the line of the refusal and of what stands behind that line, by all of it unless it fails.
+-- Standard error grows by a beginning of the line of the refusal and of what stands behind that line.
 abbrev pub Complains : Refusal → List ℕ → Option (List ℕ) → Option (List ℕ) → Type 0
 Complains refusal behind before after = IsPart (complaint refusal ++ behind) before after
 

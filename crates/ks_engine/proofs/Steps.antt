@@ -4,13 +4,13 @@ use Rattle.std.proofs.lemmas.Bool.{ltb-false, eqb-false}
 use Rattle.std.proofs.lemmas.Slice.Eq.{bytes_eq-Decides}
 use Rattle.std.specs.FinMap as map
 use Rattle.ks_symbols.specs.Lines.{max_bytes}
-use Rattle.ks_symbols.specs.Names.{is_name, is_in}
+use Rattle.ks_symbols.specs.Names.{is_name, is_in, header_path}
 use Rattle.ks_output.specs.AutoText.{auto_text}
 use Rattle.ks_output.specs.AutoConf.{auto_map, auto_generation}
 use Rattle.ks_output.specs.Header.{header_text}
 use Rattle.ks_compare.specs.Changes.{differs}
 use Rattle.ks_tree.specs.Files.{Files, content, SameButBoth}
-use Rattle.ks_tree.specs.Paths.{auto_path, header_path, stamp_path, command_path, command_temporary, Place, Header, AutoConf, Stamp, CommandFile, AutoTemporary, HeaderTemporary, StampTemporary, CommandTemporary, path_of, IsLegalPlace}
+use Rattle.ks_tree.specs.Paths.{auto_path, stamp_path, command_path, command_temporary, Place, Header, AutoConf, Stamp, CommandFile, AutoTemporary, HeaderTemporary, StampTemporary, CommandTemporary, path_of, IsLegalPlace}
 use Rattle.ks_tree.specs.Stamps.{HasNumber, stamp_text}
 use Rattle.ks_engine.specs.declared.error.EngineError.{EngineError}
 use Rattle.ks_engine.specs.declared.error.EngineError.TheVariants.{TooLarge, GenerationFull}

@@ -2,9 +2,9 @@
 use Rattle.std.proofs.Common.{◌≡◌, ◌⊎◌, inl, inr, ⊎_elim, ℕ, ◌+◌, List, Some, true, false, ◌∙◌, refl, subst, zero, suc, [], ◌∷◌, take, bytes_eq, ◌||◌, Result, Ok, Err, OnOk, OnErr, IfErr}
 use Rattle.ks_output.specs.AutoText.{auto_text}
 use Rattle.ks_output.specs.Header.{header_text}
-use Rattle.ks_symbols.specs.Names.{is_in}
+use Rattle.ks_symbols.specs.Names.{is_in, header_path}
 use Rattle.ks_tree.specs.Files.{Files, content, SameButBoth}
-use Rattle.ks_tree.specs.Paths.{auto_path, auto_temporary, header_path, header_temporary, stamp_path, Place, Header, AutoConf, Stamp, AutoTemporary, HeaderTemporary, StampTemporary, path_of, IsLegalPlace}
+use Rattle.ks_tree.specs.Paths.{auto_path, auto_temporary, header_temporary, stamp_path, Place, Header, AutoConf, Stamp, AutoTemporary, HeaderTemporary, StampTemporary, path_of, IsLegalPlace}
 use Rattle.ks_tree.specs.Stamps.{Touches}
 use Rattle.ks_engine.specs.Synchronised.{AreChanged, SyncLeaves}
 use Rattle.ks_engine.specs.SyncPlan.{Plan}

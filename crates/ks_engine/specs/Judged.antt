@@ -1,9 +1,8 @@
 -- What an answer about a recorded object says, by the history that the files show.
 use Rattle.std.specs.Prelude.{◌≡◌, ◌⊎◌, ℕ, List, Some, Result, Ok, true, false, bytes_eq}
 use Rattle.ks_output.specs.Definitions.{definitions}
-use Rattle.ks_symbols.specs.Names.{is_in}
+use Rattle.ks_symbols.specs.Names.{is_in, header_path}
 use Rattle.ks_tree.specs.Files.{Files, content}
-use Rattle.ks_tree.specs.Paths.{header_path}
 use Rattle.ks_engine.specs.declared.error.EngineError.{EngineError}
 use Rattle.ks_engine.specs.declared.staleness.Verdict.{Verdict}
 use Rattle.ks_engine.specs.declared.staleness.Verdict.TheVariants.{Fresh}

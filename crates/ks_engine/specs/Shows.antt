@@ -2,14 +2,14 @@
 use Rattle.std.specs.Prelude.{◌≡◌, ℕ, ◌+◌, ◌≤◌, List, Option, Some, None, Ok, IsTrue, length, if◌then◌else◌}
 use Rattle.std.specs.FinMap.{empty}
 use Rattle.ks_symbols.specs.Lines.{max_bytes}
-use Rattle.ks_symbols.specs.Names.{is_name, is_in}
+use Rattle.ks_symbols.specs.Names.{is_name, is_in, header_path}
 use Rattle.ks_output.specs.AutoText.{auto_text}
 use Rattle.ks_output.specs.AutoConf.{auto_map, auto_generation, auto_refusal}
 use Rattle.ks_compare.specs.Changes.{differs}
 use Rattle.ks_fixdep.specs.CommandFile.{Record as CommandRecord}
 use Rattle.ks_fixdep.specs.CommandReading.{reading}
 use Rattle.ks_tree.specs.Files.{Files, content}
-use Rattle.ks_tree.specs.Paths.{auto_path, header_path, stamp_path, command_path}
+use Rattle.ks_tree.specs.Paths.{auto_path, stamp_path, command_path}
 use Rattle.ks_tree.specs.Stamps.{HasNumber}
 use Rattle.ks_output.specs.OldConfig.{Texts}
 use Rattle.ks_engine.specs.History.{History, Begun, Synced, Broken, Recorded, Record, before, done, WasSynced, last_record}

@@ -1,11 +1,11 @@
 -- What a synchronisation leaves: all of its plan, or a part of it where it was broken off.
 use Rattle.std.specs.Prelude.{◌≡◌, ◌≢◌, ◌⊎◌, ℕ, ◌+◌, List, Some, Ok, Err, true, if◌then◌else◌, IsTrue}
-use Rattle.ks_symbols.specs.Names.{is_name, is_in}
+use Rattle.ks_symbols.specs.Names.{is_name, is_in, header_path}
 use Rattle.ks_output.specs.AutoText.{auto_text}
 use Rattle.ks_output.specs.Header.{header_text}
 use Rattle.ks_compare.specs.Changes.{AreChanges}
 use Rattle.ks_tree.specs.Files.{Files, content}
-use Rattle.ks_tree.specs.Paths.{auto_path, auto_temporary, header_path, header_temporary, stamp_path, stamp_temporary}
+use Rattle.ks_tree.specs.Paths.{auto_path, auto_temporary, header_temporary, stamp_path, stamp_temporary}
 use Rattle.ks_tree.specs.Stamps.{stamp_text}
 use Rattle.ks_engine.specs.declared.error.EngineError.{EngineError}
 use Rattle.ks_engine.specs.declared.synchronise.Report.{Report}

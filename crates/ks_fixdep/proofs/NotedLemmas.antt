@@ -5,7 +5,8 @@ use Rattle.std.specs.Str.{bytes_eq}
 use Rattle.ks_symbols.specs.TextMap.{value_of}
 use Rattle.ks_fixdep.specs.declared.dependency_file.Role.{Role}
 use Rattle.std.proofs.lemmas.Grind.{fold-append}
-use Rattle.ks_fixdep.specs.FoundNames.{noted, all_noted}
+use Rattle.ks_symbols.specs.Interner.{noted}
+use Rattle.ks_fixdep.specs.FoundNames.{all_noted}
 use Rattle.std.specs.Prelude.{◌||◌, Result, Ok, Err, OnOk, slice_get, if◌then◌else◌}
 use Rattle.std.specs.List.{list_all, list_any}
 use Rattle.std.proofs.lemmas.Option.{get_or_from_slice_get, slice_get_within}

@@ -8,10 +8,10 @@ use Rattle.std.specs.Prelude.{if◌then◌else◌, not, nat_eq, ◌||◌, ◌&&�
 use Rattle.std.proofs.lemmas.List.Folds.{list_any-append, list_all-append}
 use Rattle.std.specs.List.{after_last, list_any, suffix_len, prefix_len, ends_with}
 use Rattle.ks_fixdep.specs.declared.dependency_file.Role.{Role}
-use Rattle.ks_symbols.specs.Names.{is_path}
+use Rattle.ks_symbols.specs.Names.{is_path, header_path}
 use Rattle.ks_symbols.specs.Refusals.{or_else}
 use Rattle.ks_symbols.specs.Refusals.{IsRefusal, RefusedBy}
-use Rattle.ks_fixdep.specs.DependencyFile.{is_kept, is_target_token, header_path, role_after, with_roles, fault_after, first_fault, token_refusal, added}
+use Rattle.ks_fixdep.specs.DependencyFile.{is_kept, is_target_token, role_after, with_roles, fault_after, first_fault, token_refusal, added}
 use Rattle.ks_fixdep.specs.Tokens.{tokens, is_separator, is_some_token}
 use Rattle.ks_fixdep.specs.declared.dep_error.DepError.{DepError}
 use Rattle.ks_fixdep.specs.declared.dep_error.DepError.TheVariants as errors

@@ -4,7 +4,7 @@ use Rattle.std.specs.Prelude.{◌+◌, ◌<◌, Option, Some, None, ℕ, Bool, �
 use Rattle.std.specs.List.{list_all, list_any, ends_with, after_last}
 use Rattle.std.specs.Str.{bytes_eq}
 use Rattle.ks_symbols.specs.Lines.{max_bytes}
-use Rattle.ks_symbols.specs.Names.{is_path}
+use Rattle.ks_symbols.specs.Names.{is_path, header_path}
 use Rattle.ks_fixdep.specs.Tokens.{tokens}
 use Rattle.ks_symbols.specs.Refusals.{or_else}
 use Rattle.ks_fixdep.specs.declared.dep_error.DepError.{DepError}
@@ -16,11 +16,7 @@ use Rattle.ks_fixdep.specs.declared.dependency_file.Role.TheVariants as role
 abbrev pub is_target_token : List ℕ → Bool
 is_target_token x = ends_with nat_eq x (codes ":")
 
--- the header that every source includes, so it says nothing
-abbrev pub header_path : List ℕ
-header_path = codes "include/generated/autoconf.h"
-
--- what is neither a target nor the header
+-- what is neither a target nor the header, which every source includes, so that it says nothing
 abbrev pub is_kept : List ℕ → Bool
 is_kept x = not (is_target_token x) && not (ends_with nat_eq x header_path)
 

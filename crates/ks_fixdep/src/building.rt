@@ -82,6 +82,7 @@ fn dependencies(
 fn source_path(alloc: Global, prerequisites: &Prerequisites) -> Result<Path, AllocError>
     ensures { IfOk result (λ path. path ≡ source_of prerequisites.now) }
 {
+    // By this call alone the proof knows that there is one.
     prerequisites.len();
     match prerequisites.get(0) {
         Some((path, _)) => Path::new(alloc, path),

@@ -5,10 +5,10 @@ ghost use Rattle.std.specs.Prelude.{◌≡◌, ◌≤◌, ◌<◌, ◌+◌, ◌^
 ghost use Rattle.std.specs.List.{ends_with, list_all};
 ghost use Rattle.std.specs.Option.{option_map};
 ghost use Rattle.ks_symbols.specs.Lines.{max_bytes};
-ghost use Rattle.ks_symbols.specs.Names.{is_path};
+ghost use Rattle.ks_symbols.specs.Names.{is_path, header_path};
 ghost use Rattle.ks_symbols.specs.Refusals.{IsRefusal, RefusedBy};
 ghost use Rattle.ks_fixdep.specs.Tokens.{tokens};
-ghost use Rattle.ks_fixdep.specs.DependencyFile.{is_target_token, header_path, added, prerequisites, token_refusal, dependency_refusal};
+ghost use Rattle.ks_fixdep.specs.DependencyFile.{is_target_token, added, prerequisites, token_refusal, dependency_refusal};
 ghost use Rattle.ks_fixdep.specs.declared.dependency_file.Role.TheVariants as role;
 
 use crate::dep_error::DepError;
@@ -84,6 +84,7 @@ fn names_target(token: &[u8]) -> bool
 }
 
 /// Whether a token is the header's.
+#[tactic(auto, unfolding(ks_symbols::specs::Names::header_path))]
 fn names_header(token: &[u8]) -> bool
     ensures { result ≡ ends_with nat_eq token.now header_path }
 {

@@ -34,7 +34,8 @@ impl Model for FoundNames {
 }
 
 impl FoundNames {
-    ghost use Rattle.ks_fixdep.specs.FoundNames.{noted, AreFoundNames};
+    ghost use Rattle.ks_symbols.specs.Interner.{noted};
+    ghost use Rattle.ks_fixdep.specs.FoundNames.{AreFoundNames};
 
     /// No names. It takes no memory until one is noted.
     pub fn new(alloc: Global) -> Self

@@ -1,5 +1,5 @@
 -- Word bytes, names of symbols and paths. A name is what `config` declares (Documentation/kbuild/kconfig-language.rst); its length, and
--- what a path may hold, are rules of this project.
+-- what a path may hold, are rules of this project. The header stands where scripts/kconfig/confdata.c has it.
 use Rattle.std.specs.Prelude.{ℕ, Bool, ◌||◌, ◌&&◌, not, ◌==◌, nat_le, nat_eq, List, length, slice_index, ◌-◌, codes, if◌then◌else◌, take, bytes_eq}
 use Rattle.std.specs.List.{list_all, list_any, ends_with}
 use Rattle.std.specs.Char.{is_ascii_alphanumeric}
@@ -39,3 +39,7 @@ is_path path = not (length path == 0) && nat_le (length path) 1024 && list_all i
 -- a path that names no folder
 unfoldable pub is_target : List ℕ → Bool
 is_target path = is_path path && not (slice_index path (length path - 1) == 47)
+
+-- the header that a synchronisation writes, and that every source includes
+unfoldable pub header_path : List ℕ
+header_path = codes "include/generated/autoconf.h"

@@ -3,8 +3,8 @@ use Rattle.std.proofs.Common.{◌+◌, ◌≤◌, ◌<◌, inl, inr, length, tak
 use Rattle.std.specs.List.{list_any, list_all}
 use Rattle.std.proofs.lemmas.Bool.{or_right, cases_eq, ne_eqb, and_parts, cond-true, cond-false}
 use Rattle.std.proofs.lemmas.List.{take_more, drop-append-le, drop_all, append_cancel_left, append_cancel_right}
-use Rattle.ks_symbols.specs.Names.{is_word_byte, is_name}
-use Rattle.ks_tree.specs.Paths.{auto_path, auto_temporary, header_path, header_temporary, stamp_temporary, stamp_path, has_slash, dotted, command_path, command_temporary}
+use Rattle.ks_symbols.specs.Names.{is_word_byte, is_name, header_path}
+use Rattle.ks_tree.specs.Paths.{auto_path, auto_temporary, header_temporary, stamp_temporary, stamp_path, has_slash, dotted, command_path, command_temporary}
 
 -- ---- which paths have a dot
 

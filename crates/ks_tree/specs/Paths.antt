@@ -2,7 +2,7 @@
 -- file is where scripts/Kbuild.include has it.
 use Rattle.std.specs.Prelude.{◌≡◌, ℕ, List, [], ◌∷◌, ◌++◌, codes, Bool, nat_eq, if◌then◌else◌, IsTrue, ⊤}
 use Rattle.std.specs.List.{list_any}
-use Rattle.ks_symbols.specs.Names.{is_name}
+use Rattle.ks_symbols.specs.Names.{is_name, header_path}
 
 -- A file is written at this path first, and then moved to its own.
 abbrev pub temporary : List ℕ → List ℕ
@@ -13,9 +13,6 @@ auto_path = codes "include/config/auto.conf"
 
 unfoldable pub auto_temporary : List ℕ
 auto_temporary = codes "include/config/auto.conf.tmp"
-
-unfoldable pub header_path : List ℕ
-header_path = codes "include/generated/autoconf.h"
 
 unfoldable pub header_temporary : List ℕ
 header_temporary = codes "include/generated/autoconf.h.tmp"

@@ -1,8 +1,8 @@
 //! Where each file that the commands write stands. Two of them at one path would make a build call an object fresh by another
 //! file's bytes, so `paths_never_meet` rules it out for every name and every target.
 ghost use Rattle.std.specs.Prelude.{◌≡◌, ◌≢◌, ◌≤◌, ◌∷◌, ◌++◌, length, take, drop, IfOk, IsTrue};
-ghost use Rattle.ks_symbols.specs.Names.{is_name};
-ghost use Rattle.ks_tree.specs.Paths.{auto_path, auto_temporary, header_path, header_temporary, stamp_path, stamp_temporary, command_path, command_temporary, dotted, PathsNeverMeet};
+ghost use Rattle.ks_symbols.specs.Names.{is_name, header_path};
+ghost use Rattle.ks_tree.specs.Paths.{auto_path, auto_temporary, header_temporary, stamp_path, stamp_temporary, command_path, command_temporary, dotted, PathsNeverMeet};
 
 use ks_symbols::Name;
 use std::alloc::{AllocError, Global};
@@ -24,7 +24,7 @@ pub fn auto_temporary() -> &'static [u8]
 }
 
 /// The header that the compiler reads.
-#[tactic(auto, unfolding(crate::specs::Paths::header_path))]
+#[tactic(auto, unfolding(ks_symbols::specs::Names::header_path))]
 pub fn header_path() -> &'static [u8]
     ensures { result.now ≡ header_path }
 {

@@ -1,5 +1,5 @@
 use Rattle.std.proofs.Common.{refl}
-use Rattle.ks_symbols.specs.Names.{is_name, is_path}
+use Rattle.ks_symbols.specs.Names.{is_name, is_path, header_path}
 use Rattle.ks_fixdep.specs.Scan.{taken_from, taken_at, name_of}
 use Rattle.ks_fixdep.specs.Tokens.{tokens}
 use Rattle.ks_fixdep.specs.DependencyFile.{prerequisites, dependency_refusal, token_refusal}
@@ -10,11 +10,11 @@ unfolding taken_from taken_at name_of is_name
 returns-clause-names c = refl
 
 pub returns-clause-roles : goal.returns-clause-roles
-unfolding prerequisites tokens
+unfolding prerequisites tokens header_path
 returns-clause-roles c = refl
 
 pub returns-clause-fault : goal.returns-clause-fault
-unfolding dependency_refusal token_refusal tokens is_path
+unfolding dependency_refusal token_refusal tokens is_path header_path
 returns-clause-fault c = refl
 
 pub returns-clause-lines : goal.returns-clause-lines

@@ -10,25 +10,27 @@ ghost use Rattle.ks_engine.specs.Views.{old_of, sources_of, PlansOver};
 use crate::Report;
 use ks_compare::changed;
 use ks_output::OldConfig;
-use ks_symbols::{Settings, SourceError, read_dotconfig, read_kconfig};
+use ks_symbols::{Settings, SourceError, draft_settings, read_kconfig};
 use std::alloc::{AllocError, Global};
 
-/// What a Kconfig and a `.config` say. The symbols are let go: nothing behind the settings asks for them, and they are as
-/// large as these.
+/// What a Kconfig and a `.config` say.
 #[derive(Drop)]
 pub struct Sources {
     pub title: Vec<u8>,
     pub settings: Settings,
 }
 
-/// Reads a Kconfig and a `.config`, in this order.
+/// Reads a Kconfig and a `.config`, in this order. The symbols are let go before the settings are put in order: nothing
+/// asks for them any more, and they are as large as these.
 pub fn read_sources(alloc: Global, kconfig: &[u8], dotconfig: &[u8]) -> Result<Sources, SourceError>
     ensures read { IfOk result (λ s. AreSources kconfig.now dotconfig.now (sources_of s)) }
     ensures refusal { RefusedBy SourceError.OutOfMemory result (source_refusal kconfig.now dotconfig.now) }
 {
     let symbols = read_kconfig(alloc, kconfig)?;
-    let settings = read_dotconfig(alloc, dotconfig, &symbols)?;
+    let draft = draft_settings(alloc, dotconfig, &symbols)?;
     let title = Vec::from_slice(alloc, symbols.title())?;
+    drop(symbols);
+    let settings = draft.close(alloc)?;
     Ok(Sources { title, settings })
 }
 

@@ -41,17 +41,19 @@ struct Work {
     auto: Vec<u8>,
 }
 
-/// All that is to be written, before any of it is.
-fn work_over(alloc: Global, sources: &Sources, old: &OldConfig) -> Result<Work, EngineError>
-    requires old { HasNames old.now.texts }
+/// All that is to be written, before any of it is. The old auto.conf is let go once it is compared, since the texts to come
+/// are as large.
+fn work_over(alloc: Global, sources: &Sources, old: OldConfig) -> Result<Work, EngineError>
+    requires old { HasNames old.texts }
     requires new { IsConfiguration sources.now.settings.entries }
     ensures no_device { IsErrOf result EngineError.Device → ⊥ }
-    ensures planned { IfOk result (λ work. (plan : Plan) × (plan_over (sources_of sources.now) (old_of old.now) ≡ Ok plan) × IsWork plan work) }
-    ensures refused { IfErr result (λ e. IsGivenUp e ⊎ (plan_over (sources_of sources.now) (old_of old.now) ≡ Err e)) }
+    ensures planned { IfOk result (λ work. (plan : Plan) × (plan_over (sources_of sources.now) (old_of old) ≡ Ok plan) × IsWork plan work) }
+    ensures refused { IfErr result (λ e. IsGivenUp e ⊎ (plan_over (sources_of sources.now) (old_of old) ≡ Err e)) }
 {
-    let Some(report) = plan(alloc, sources, old)? else {
+    let Some(report) = plan(alloc, sources, &old)? else {
         return Err(EngineError::GenerationFull);
     };
+    drop(old);
     let (title, settings) = (sources.title.as_slice(), &sources.settings);
     let mut header = Vec::new(alloc);
     write_header(settings, title, &mut header)?;
@@ -80,7 +82,7 @@ fn prepare<T: Tree>(
 {
     let sources = read_sources(alloc, kconfig, dotconfig)?;
     let old = read_old(alloc, tree)?;
-    work_over(alloc, &sources, &old)
+    work_over(alloc, &sources, old)
 }
 
 /// The stamps, then the header, then auto.conf: an auto.conf before its stamps would hide the change for good.

@@ -1,5 +1,5 @@
 -- Tables: the records of names, the map that lines make of each other, and the entries of a map.
-use Rattle.std.specs.Prelude.{ℕ, Bool, false, List, [], ◌∷◌, Option, Some, None, cond, option_map, slice_range, bytes_eq, ◌≤◌, map as map_list}
+use Rattle.std.specs.Prelude.{ℕ, Bool, false, List, [], ◌∷◌, Option, Some, None, cond, option_map, slice_range, bytes_eq, ◌≤◌}
 use Rattle.std.specs.Borrow.{Bor}
 use Rattle.std.specs.FinMap as map
 use Rattle.ks_symbols.specs.Configuration.{NameMap}

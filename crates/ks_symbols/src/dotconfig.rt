@@ -88,12 +88,13 @@ fn apply(
     }
 }
 
-/// The settings that a `.config` gives to the declared symbols.
-pub fn read_dotconfig(
+/// What the lines of a `.config` give to the declared symbols, not yet in order. The symbols are asked for no more behind it,
+/// so they can be let go before the settings are put in order, which takes as much memory as they have.
+pub fn draft_settings(
     alloc: Global,
     text: &[u8],
     symbols: &Symbols,
-) -> Result<Settings, SourceError>
+) -> Result<SettingsDraft, SourceError>
     ensures entries { IfOk result (λ s. (x : List ℕ) → map.get s.entries x ≡ setting (map.get symbols.now.kinds) (lines text.now) x) }
     ensures unknown { IfOk result (λ s. s.unknown ≡ unknown_count (map.get symbols.now.kinds) (lines text.now)) }
     ensures refusal { RefusedBy SourceError.OutOfMemory result (dotconfig_refusal (map.get symbols.now.kinds) text.now) }
@@ -108,5 +109,20 @@ pub fn read_dotconfig(
         apply(alloc, &mut settings, symbols, number, line)?;
         number += 1;
     }
-    Ok(settings.close(alloc)?)
+    Ok(settings)
+}
+
+/// The settings that a `.config` gives to the declared symbols.
+pub fn read_dotconfig(
+    alloc: Global,
+    text: &[u8],
+    symbols: &Symbols,
+) -> Result<Settings, SourceError>
+    ensures entries { IfOk result (λ s. (x : List ℕ) → map.get s.entries x ≡ setting (map.get symbols.now.kinds) (lines text.now) x) }
+    ensures unknown { IfOk result (λ s. s.unknown ≡ unknown_count (map.get symbols.now.kinds) (lines text.now)) }
+    ensures refusal { RefusedBy SourceError.OutOfMemory result (dotconfig_refusal (map.get symbols.now.kinds) text.now) }
+    ensures configured { HasSymbolNames (map.get symbols.now.kinds) → IfOk result (λ s. IsConfiguration s.entries) }
+{
+    let draft = draft_settings(alloc, text, symbols)?;
+    Ok(draft.close(alloc)?)
 }

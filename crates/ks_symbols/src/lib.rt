@@ -21,7 +21,7 @@ mod titles;
 mod values;
 
 pub use decimal::{decimals_read_back, read_decimal, write_decimal};
-pub use dotconfig::read_dotconfig;
+pub use dotconfig::{draft_settings, read_dotconfig};
 pub use error::SourceError;
 pub use interner::Interner;
 pub use kconfig::read_kconfig;
@@ -32,7 +32,7 @@ pub use laws::{
 };
 pub use limits::MAX_BYTES;
 pub use names::{Name, Path, name_is_legal, path_is_legal, target_is_legal};
-pub use settings::{Entries, Settings};
+pub use settings::{Entries, Settings, SettingsDraft};
 pub use statements::{Statement, is_silent, parse_statement, split_word};
 pub use symbols::Symbols;
 pub use table::{Draft, Rows, Table};

@@ -83,9 +83,9 @@ impl Settings {
     }
 }
 
-/// Settings while their lines are read.
+/// Settings while their lines are read: not yet in order, and so not to be asked.
 #[derive(Drop)]
-pub(crate) struct SettingsDraft {
+pub struct SettingsDraft {
     entries: Draft<Kind>,
     unknown: u64,
 }
@@ -137,7 +137,8 @@ impl SettingsDraft {
         self.unknown += 1;
     }
 
-    pub(crate) fn close(self, alloc: Global) -> Result<Settings, AllocError>
+    /// The settings, put in order.
+    pub fn close(self, alloc: Global) -> Result<Settings, AllocError>
         ensures { IfOk result (λ s. s ≡ self) }
     {
         Ok(Settings {

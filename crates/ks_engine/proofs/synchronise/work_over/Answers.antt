@@ -8,7 +8,7 @@ use Rattle.ks_engine.proofs.synchronise.work_over.Goals as goal
 pub returns-clause-planned : goal.returns-clause-planned
 returns-clause-planned c =
     let s = sources_of c.args.sources.now in
-    let a = old_of c.args.old.now in
+    let a = old_of c.args.old in
     let planned : Reports s a c.in-Some.report = subst (PlansOver s a) c.in-Some.is c.in_ok-report.ensures in
     let header = c.in_ok-write_header.ensures.written ∙ ap (λ l. l ++ header_text c.as_slice-title.result.now s.config) c.new-header.ensures.items ∙ ap
     (λ t. header_text t s.config) c.as_slice-title.ensures.value in

@@ -170,6 +170,14 @@ file_passed files g deps i d p h is file rest answer said =
 
 -- ---- what a shown tree answers of a recorded object
 
+-- a stamp that has a number is no bad one
+pub no_bad : (file : Option (List ℕ)) (x : List ℕ) (answer : Result Verdict EngineError) (n : ℕ) → HasNumber file n → IsBadStamp file x answer → ⊥
+no_bad file x answer n has (inl bad) = bad.0 n has
+no_bad file x answer n has (inr large) =
+    let is = large.0 in
+    let short = short_stamp is.0 n (subst (λ f. HasNumber f n) is.1 has) in
+    let long = is.2 in omega arith
+
 -- by the stamps that a history has, the first name above the generation
 stamps_answer : (files : Files) (h : History) (g : ℕ) (names : List (List ℕ)) (answer : Result Verdict EngineError) →
     ((x : List ℕ) → IsTrue (is_name x) → HasNumber (content files (stamp_path x)) (stamp h x)) → list_all is_name names ≡ true →
@@ -191,16 +199,9 @@ stamps_answer files h g (x ∷ xs) answer stamps legal is =
     (λ bad. absurd (no_bad (content files (stamp_path x)) x answer (stamp h x) here bad))
     more)
     is
-  where
-    no_bad : (file : Option (List ℕ)) (x : List ℕ) (answer : Result Verdict EngineError) (n : ℕ) → HasNumber file n → IsBadStamp file x answer → ⊥
-    no_bad file x answer n has (inl bad) = bad.0 n has
-    no_bad file x answer n has (inr large) =
-        let is = large.0 in
-        let short = short_stamp is.0 n (subst (λ f. HasNumber f n) is.1 has) in
-        let long = is.2 in omega arith
 
 -- the names among legal dependencies are legal
-legal_names : (deps : List Dep) → list_all is_dep deps ≡ true → list_all is_name (config_names deps) ≡ true
+pub legal_names : (deps : List Dep) → list_all is_dep deps ≡ true → list_all is_name (config_names deps) ≡ true
 legal_names [] legal = refl
 legal_names (File path ∷ deps) legal = legal_names deps (and_parts (is_dep (File path)) _ legal).1
 legal_names (Config name ∷ deps) legal = let parts = and_parts (is_dep (Config name)) _ legal
@@ -213,7 +214,7 @@ find_same p q (x ∷ xs) same =
     ap (λ b. cond b (Some x) (find p xs)) (same x (or_left _ _ ((bytes_eq-Decides x x).1 refl)))
     ∙ ap (λ o. cond (q x) (Some x) o) (find_same p q xs (λ y among. same y (or_right (bytes_eq y x) _ among)))
 
-and_true : (i b : Bool) → i ≡ true → (i && b) ≡ b
+pub and_true : (i b : Bool) → i ≡ true → (i && b) ≡ b
 and_true true b e = refl
 and_true false b e = absurd cc
 
@@ -225,7 +226,7 @@ last_shown files h shows some =
     ap (λ o. and_then o synced_at) read.reads ∙ cond-false _ _ _ (ne_eqb read.auto.generation 0 (λ e. omega arith)) ∙ ap (λ n. Ok n) same
 
 -- what a shown command file is read as
-file_shown : (files : Files) (h : History) (o : List ℕ) (r : Record) (shows : Shows files h) (last : last_record h o ≡ Some r)
+pub file_shown : (files : Files) (h : History) (o : List ℕ) (r : Record) (shows : Shows files h) (last : last_record h o ≡ Some r)
     → command_file o (content files (command_path o)) ≡ Ok (Some (shows.commands o r last).2.file)
 file_shown files h o r shows last =
     let at = shows.commands o r last in
@@ -234,11 +235,11 @@ file_shown files h o r shows last =
     ∙ (cond-false _ _ _ (le-ltb max_bytes (length at.0) is.small) ∙ ap (of_target o) is.reads ∙ cond-true _ _ _
     ((bytes_eq-Decides is.file.target o).1 is.target))
 
-target_shown : (files : Files) (h : History) (o : List ℕ) (r : Record) → Shows files h → last_record h o ≡ Some r → true ≡ is_target o
+pub target_shown : (files : Files) (h : History) (o : List ℕ) (r : Record) → Shows files h → last_record h o ≡ Some r → true ≡ is_target o
 target_shown files h o r shows last = let at = shows.commands o r last
     in sym (ap is_target (sym at.2.target) ∙ (read_fits at.0 at.2.file at.2.reads).legal.target)
 
-since_shown : (files : Files) (h : History) (o : List ℕ) (r : Record) (shows : Shows files h) (last : last_record h o ≡ Some r)
+pub since_shown : (files : Files) (h : History) (o : List ℕ) (r : Record) (shows : Shows files h) (last : last_record h o ≡ Some r)
     → asked_since files (config_names (shows.commands o r last).2.file.deps) (shows.commands o r last).2.file.generation ≡ ByStamps (done r.past) r.names
 since_shown files h o r shows last =
     let is = (shows.commands o r last).2 in

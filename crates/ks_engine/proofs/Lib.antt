@@ -9,6 +9,7 @@ pub mod Writes
 pub mod Steps
 pub mod Following
 pub mod Asking
+pub mod Explanations
 pub mod Pieces
 pub mod Scanning
 pub mod Drafting

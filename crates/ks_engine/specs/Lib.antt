@@ -8,6 +8,7 @@ pub mod Synchronised
 pub mod Asked
 pub mod Built
 pub mod Judged
+pub mod Explained
 pub mod Recording
 pub mod Memos
 pub mod Recorded

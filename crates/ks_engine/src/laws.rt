@@ -1,5 +1,6 @@
 //! Laws of the definitions, each the contract of a function that does nothing.
 ghost use Rattle.ks_engine.specs.OtherRecords.{OtherRecordsDoNotMatter};
+ghost use Rattle.ks_engine.specs.Explained.{PlacesAreFirst, PlacesAreTheirs};
 ghost use Rattle.ks_engine.specs.Laws.{EmptyTreeShows, UsualTreeShows, UntypedTreeShows, PlansAreOne, SuspicionsHaveCauses};
 
 /// There are trees to begin with: an empty one, each of the usual tool, and each that the untyped form left, whose stamps may
@@ -24,4 +25,12 @@ pub fn suspicions_have_causes()
 /// be recorded in any order, and side by side.
 pub fn other_records_do_not_matter()
     ensures { OtherRecordsDoNotMatter }
+{}
+
+/// A name of a record stands behind the first prerequisite in which it was found. A scanned prerequisite, as another rule of a
+/// dependency file has one, has no line of its own: its names stand behind the last one that has. So `theirs` is said of lists
+/// without one, which are all lists of a single rule.
+pub fn places_are_first()
+    ensures first { PlacesAreFirst }
+    ensures theirs { PlacesAreTheirs }
 {}

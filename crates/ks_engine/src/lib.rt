@@ -3,6 +3,7 @@
 
 mod commands;
 mod error;
+mod explaining;
 mod last_sync;
 mod laws;
 mod memos;
@@ -16,8 +17,10 @@ mod tests;
 
 pub use commands::{Command, Reply, run};
 pub use error::EngineError;
+pub use explaining::{Cause, Explanation, explain, explain_by};
 pub use laws::{
-    beginnings_are_shown, other_records_do_not_matter, plans_are_one, suspicions_have_causes,
+    beginnings_are_shown, other_records_do_not_matter, places_are_first, plans_are_one,
+    suspicions_have_causes,
 };
 pub use memos::Memo;
 pub use planning::{Sources, plan, read_sources};

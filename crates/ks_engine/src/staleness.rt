@@ -44,7 +44,7 @@ pub enum BuildState {
 }
 
 /// The text of a target's command file, where there is one.
-fn read_command_text<T: Tree>(
+pub(crate) fn read_command_text<T: Tree>(
     alloc: Global,
     tree: &mut T,
     target: &[u8],
@@ -58,7 +58,7 @@ fn read_command_text<T: Tree>(
 }
 
 /// What the text of a target's command file says.
-fn lend_for<'a>(
+pub(crate) fn lend_for<'a>(
     alloc: Global,
     target: &[u8],
     text: &'a [u8],

@@ -7,6 +7,7 @@ use std::process::Abort;
 use std::test::Fail;
 
 mod broken_off;
+mod explained;
 mod golden;
 mod texts;
 

@@ -75,6 +75,7 @@ abbrev pub IsExplainedBy : Files → List (List ℕ × List ℕ) → Asked → R
 IsExplainedBy files places (Answered known) answer = (told answer ≡ known) × IfOk answer (λ e. e.causes.items ≡ [])
 IsExplainedBy files places (ByStamps g names) answer = IsByAllStamps files g names places answer
 
+-- the names of an object's command file, where it has one
 abbrev pub places_of : Result (Option CommandRecord) EngineError → List (List ℕ × List ℕ)
 places_of (Ok (Some file)) = names_placed file
 places_of read = []
@@ -113,6 +114,7 @@ listed_last place ((path, role.Listed) ∷ ps) = path ∷ listed_last path ps
 listed_last place ((path, role.Source) ∷ ps) = place ∷ listed_last place ps
 listed_last place ((path, role.Scanned) ∷ ps) = place ∷ listed_last place ps
 
+-- whether it has a line of its own
 abbrev pub is_listed : List ℕ × Role → Bool
 is_listed (path, role.Listed) = true
 is_listed (path, role.Source) = false

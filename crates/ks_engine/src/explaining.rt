@@ -27,7 +27,8 @@ pub struct Cause {
     pub name: Name,
     /// The number of its stamp.
     pub generation: u64,
-    /// The first listed file in which it was found, or the source.
+    /// The file behind which it stands in the command file: the first one in which it was found, or, where that one has no line
+    /// there, the last before it that has.
     pub place: Path,
 }
 
@@ -161,7 +162,8 @@ fn explain_files<T: Tree>(
     explain_file(alloc, tree, memo, &file)
 }
 
-/// Why an object is stale, if it is. It writes nothing.
+/// Why an object is stale, if it is. It writes nothing. A stamp without a number is refused also behind the first cause, where
+/// `stale` would not look at it: a list that leaves a name out would be taken as whole.
 pub fn explain<T: Tree>(
     alloc: Global,
     tree: &mut T,

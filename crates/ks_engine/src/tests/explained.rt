@@ -57,3 +57,29 @@ fn all_that_speaks_for_a_verdict(rt: HostRuntime) -> Result<(), Fail> {
     }
     Ok(())
 }
+
+/// Two objects by one memo, and a target that is no path.
+#[test]
+fn several_objects_by_what_was_read_before(rt: HostRuntime) -> Result<(), Fail> {
+    let alloc = rt.alloc();
+    let mut tree = MemoryTree::new(alloc);
+    play(&rt, alloc, &mut tree, SOURCES)?;
+    play(&rt, alloc, &mut tree, TWO_OBJECTS)?;
+    let mut memo = Memo::new(alloc);
+    let first = explain_by(alloc, &mut tree, &mut memo, b"x.o");
+    let second = explain_by(alloc, &mut tree, &mut memo, b"y.o");
+    let last = explain_by(alloc, &mut tree, &mut memo, b"a$b");
+    assert_eq!(rt; told(alloc, &first)?.as_str(), "stale A; A 2 x.c; B 2 x.c");
+    assert_eq!(rt; told(alloc, &second)?.as_str(), "stale A; A 2 b.h; B 2 a.h");
+    assert_eq!(rt; told(alloc, &last)?.as_str(), "21 BadPath token 0");
+    Ok(())
+}
+
+#[rattlefmt::skip]
+const TWO_OBJECTS: &[(Step<'_>, &str)] = &[
+    (Step::Sync(KCONFIG_C, ALL), "generation 1 touched A B C unknown 0"),
+    (Step::Record("x.d", "x.o", "cc -c x.c"), "generation 1 names 3"),
+    (Step::Put("y.d", "y.o: b.h a.h\n"), "done"),
+    (Step::Record("y.d", "y.o", "cc -c b.h"), "generation 1 names 3"),
+    (Step::Sync(KCONFIG_C, "CONFIG_C=y\n"), "generation 2 touched A B unknown 0"),
+];

@@ -96,6 +96,7 @@ pub preview_of : (k d : Text) (r : Request) → IsRequestOf (codes "preview") (g
     → IsPreviewOf k d None r
 preview_of k d (request.Preview k' d' o) h = (h.1, h.2, h.3)
 preview_of k d (request.Sync k' d') h = absurd (true≢false (ap (λ t. slice_index t 0 == 112) h.0))
+preview_of k d (request.Diff k' d') h = absurd (true≢false (ap (λ t. slice_index t 0 == 112) h.0))
 preview_of k d (request.Fixdep d' t c) h = absurd (true≢false (ap (λ t. slice_index t 0 == 112) h.0))
 preview_of k d (request.Record d' t c) h = absurd (true≢false (ap (λ t. slice_index t 0 == 112) h.0))
 preview_of k d (request.Stale ts) h = absurd (h.0 1 [] (omega arith) refl)
@@ -106,9 +107,10 @@ pub batch_of : (p : Text) (r : Request) → IsRequestOf (codes "batch") (given (
 batch_of p (request.Batch s) h = h.1
 batch_of p (request.Sync k d) h = absurd (true≢false (ap (λ t. slice_index t 0 == 98) h.0))
 batch_of p (request.Preview k d o) h = absurd (true≢false (ap (λ t. slice_index t 0 == 98) h.0))
+batch_of p (request.Diff k d) h = absurd (true≢false (ap (λ t. slice_index t 0 == 98) h.0))
 batch_of p (request.Fixdep d t c) h = absurd (true≢false (ap (λ t. slice_index t 0 == 98) h.0))
 batch_of p (request.Record d t c) h = absurd (true≢false (ap (λ t. slice_index t 0 == 98) h.0))
-batch_of p (request.Stale ts) h = absurd (h.0 4 [] (omega arith) refl)
+batch_of p (request.Stale ts) h = absurd (h.0 5 [] (omega arith) refl)
 batch_of p (request.Outdated t c) h = absurd (true≢false (ap (λ t. slice_index t 0 == 98) h.0))
 
 -- what holds of the error holds where there is an error

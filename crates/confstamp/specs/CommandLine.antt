@@ -49,6 +49,7 @@ abbrev pub command_line_app : App
 command_line_app = with_all bare_app
     (taking (codes "sync") (once (codes "KCONFIG") ∷ once (codes "DOTCONFIG") ∷ [])
     ∷ taking (codes "preview") (once (codes "KCONFIG") ∷ once (codes "DOTCONFIG") ∷ at_most_once (codes "OLDAUTO") ∷ [])
+    ∷ taking (codes "diff") (once (codes "KCONFIG") ∷ once (codes "DOTCONFIG") ∷ [])
     ∷ taking (codes "fixdep") (once (codes "DEPFILE") ∷ once (codes "TARGET") ∷ once (codes "COMMAND") ∷ [])
     ∷ taking (codes "record") (once (codes "DEPFILE") ∷ once (codes "TARGET") ∷ once (codes "COMMAND") ∷ [])
     ∷ taking (codes "stale") (at_least_once (codes "TARGET") ∷ [])

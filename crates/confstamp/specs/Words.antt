@@ -43,7 +43,7 @@ words_at name rows = unwrap_or (all_of name rows) []
 -- the name is that of no command but `stale`
 abbrev pub IsNoOther : Text → Type 0
 IsNoOther name = All (λ other. name ≢ other)
-    (codes "sync" ∷ codes "preview" ∷ codes "fixdep" ∷ codes "record" ∷ codes "batch" ∷ codes "outdated" ∷ [])
+    (codes "sync" ∷ codes "preview" ∷ codes "diff" ∷ codes "fixdep" ∷ codes "record" ∷ codes "batch" ∷ codes "outdated" ∷ [])
 
 -- the request is that of the command, and holds what `clap` found for each of its words
 abbrev pub IsRequestOf : Text → List Row → Request → Type 0
@@ -52,6 +52,8 @@ IsRequestOf command rows (request.Sync k d) = (command ≡ codes "sync")
 IsRequestOf command rows (request.Preview k d o) = (command ≡ codes "preview")
     × (string_bytes k ≡ word_at (codes "KCONFIG") rows) × (string_bytes d ≡ word_at (codes "DOTCONFIG") rows)
     × (option_map (λ path. string_bytes path) o ≡ first_of (codes "OLDAUTO") rows)
+IsRequestOf command rows (request.Diff k d) = (command ≡ codes "diff")
+    × (string_bytes k ≡ word_at (codes "KCONFIG") rows) × (string_bytes d ≡ word_at (codes "DOTCONFIG") rows)
 IsRequestOf command rows (request.Fixdep d t c) = (command ≡ codes "fixdep")
     × (string_bytes d ≡ word_at (codes "DEPFILE") rows) × (string_bytes t ≡ word_at (codes "TARGET") rows)
     × (string_bytes c ≡ word_at (codes "COMMAND") rows)

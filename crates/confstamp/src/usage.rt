@@ -90,7 +90,7 @@ const SCRIPT: Word = Word {
     help: "A file with a command sync, record or stale on each line; empty lines and those that begin with # are skipped",
 };
 
-pub(crate) const USAGES: [Usage; 7] = [
+pub(crate) const USAGES: [Usage; 8] = [
     Usage {
         name: "sync",
         about: "Write auto.conf, the header and the stamps of all symbols that changed",
@@ -108,6 +108,16 @@ Example: confstamp sync Kconfig .config",
 Prints touch NAME for each stamp, then auto.conf. Writes no file.
 
 Example: confstamp preview Kconfig .config include/config/auto.conf",
+    },
+    Usage {
+        name: "diff",
+        about: "Show what sync would touch, with the old and the new value of each symbol",
+        words: &[KCONFIG, DOTCONFIG],
+        notes: "\
+Prints NAME OLD -> NEW for each, n where a symbol has no value, and both kinds where the values are alike.
+Writes no file.
+
+Example: confstamp diff Kconfig .config",
     },
     Usage {
         name: "fixdep",

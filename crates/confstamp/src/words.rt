@@ -103,6 +103,10 @@ fn request_named(alloc: Global, name: &str, matches: &ArgMatches<'_>) -> Result<
             dotconfig: word(alloc, matches, "DOTCONFIG")?,
         }),
         "preview" => preview_request(alloc, matches),
+        "diff" => Ok(Request::Diff {
+            kconfig: word(alloc, matches, "KCONFIG")?,
+            dotconfig: word(alloc, matches, "DOTCONFIG")?,
+        }),
         "fixdep" => Ok(Request::Fixdep {
             depfile: word(alloc, matches, "DEPFILE")?,
             target: word(alloc, matches, "TARGET")?,

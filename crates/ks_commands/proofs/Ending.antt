@@ -39,6 +39,7 @@ refusals_change_nothing (request.Sync k d) r old new plain (inr (t, at, Ok repor
 refusals_change_nothing (request.Sync k d) r old new plain (inr (t, at, Err e, inl refused, told)) = refused.1
 refusals_change_nothing (request.Sync k d) r old new plain (inr (t, at, Err e, inr up, told)) = given_up r e plain told up.0
 refusals_change_nothing (request.Preview k d o) r old new plain ends = ends.0
+refusals_change_nothing (request.Diff k d) r old new plain ends = ends.0
 refusals_change_nothing (request.Fixdep d t c) r old new plain ends = ends.0
 refusals_change_nothing (request.Record d t c) r old new plain (Ok answer, recorded, told) = no_memory r plain told
 refusals_change_nothing (request.Record d t c) r old new plain (Err e, inl refused, told) = refused.1
@@ -87,6 +88,7 @@ pub previews_are_performed : PreviewsArePerformed
 previews_are_performed k d o (request.Preview k' d' o') ended behind old new b a eb ea s is ends printed =
     rw (← is.0, ← is.1, ← is.2) (done_or_refused _ _ _ ended behind old new b a eb ea s ends.0 ends.1 printed)
 previews_are_performed k d o (request.Sync k' d') ended behind old new b a eb ea s is ends printed = absurd is
+previews_are_performed k d o (request.Diff k' d') ended behind old new b a eb ea s is ends printed = absurd is
 previews_are_performed k d o (request.Fixdep d' t c) ended behind old new b a eb ea s is ends printed = absurd is
 previews_are_performed k d o (request.Record d' t c) ended behind old new b a eb ea s is ends printed = absurd is
 previews_are_performed k d o (request.Stale ts) ended behind old new b a eb ea s is ends printed = absurd is

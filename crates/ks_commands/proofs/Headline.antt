@@ -63,6 +63,7 @@ none_before_program : (r : Request) (ended : Ending) (old new : State) → Conti
 none_before_program (request.Sync k d) ended old new (inl stopped) none = subst NoneBroken stopped.0.1 none
 none_before_program (request.Sync k d) ended old new (inr synced) none = none_before_sync _ _ synced.2 old new synced.3 none
 none_before_program (request.Preview k d o) ended old new is none = subst NoneBroken is.0.1 none
+none_before_program (request.Diff k d) ended old new is none = subst NoneBroken is.0.1 none
 none_before_program (request.Fixdep d t c) ended old new is none = subst NoneBroken is.0.1 none
 none_before_program (request.Record d t c) ended old new is none = none_before_record _ _ _ is.0 old new is.1 none
 none_before_program (request.Stale ts) ended old new is none = subst NoneBroken is.0.1 none
@@ -101,6 +102,7 @@ program_tells : (r : Request) (ended : Ending) (old new : State) → Continues r
 program_tells (request.Sync k d) ended old new (inl stopped) none = inl (tt, stopped.1)
 program_tells (request.Sync k d) ended old new (inr synced) none = inr (synced.0, synced.1, synced.2, tt, synced.4)
 program_tells (request.Preview k d o) ended old new is none = (tt, is.1)
+program_tells (request.Diff k d) ended old new is none = (tt, is.1)
 program_tells (request.Fixdep d t c) ended old new is none = (tt, is.1)
 program_tells (request.Record d t c) ended old new is none = (is.0, tt, is.2)
 program_tells (request.Stale ts) ended old new is none =

@@ -57,6 +57,7 @@ site_line_kept honest old new (Some site) line same (text, there, whole) = (text
 pub no_site : (request : Request) → site_of request (Engine OutOfMemory) ≡ None
 no_site (request.Sync k d) = refl
 no_site (request.Preview k d o) = refl
+no_site (request.Diff k d) = refl
 no_site (request.Fixdep d t c) = refl
 no_site (request.Record d t c) = refl
 no_site (request.Stale ts) = refl
@@ -73,6 +74,7 @@ counted_behind (request.Sync k d) r old files m n h plain (inl stopped) = inl st
 counted_behind (request.Sync k d) r old files m n h plain (inr (t, there, Ok report, synced, told)) = absurd (plain told)
 counted_behind (request.Sync k d) r old files m n h plain (inr (t, there, Err e, refused, told)) = inr (t, there, Err e, refused, told)
 counted_behind (request.Preview k d o) r old files m n h plain ends = ends
+counted_behind (request.Diff k d) r old files m n h plain ends = ends
 counted_behind (request.Fixdep d t c) r old files m n h plain ends = ends
 counted_behind (request.Record d t c) r old files m n h plain (Ok answer, recorded, told) = absurd (plain told)
 counted_behind (request.Record d t c) r old files m n h plain (Err e, refused, told) = (Err e, refused, told)

@@ -18,16 +18,18 @@ use Rattle.ks_engine.specs.Follows.{State, at, IsSame, GoesOn, FollowsSync, Foll
 use Rattle.ks_engine.specs.History.{History, Record as LastRecord, last_record}
 use Rattle.ks_engine.specs.Judged.{IsJudged, IsBuildJudged}
 use Rattle.ks_engine.specs.Recorded.{IsRecorded, IsRecordRefused}
-use Rattle.ks_engine.specs.Refusals.{Answers, GaveUp}
+use Rattle.ks_engine.specs.Refusals.{Answers, GaveUp, IsGivenUp}
 use Rattle.ks_engine.specs.Runs.{Run, FollowsStale}
 use Rattle.ks_engine.specs.Shows.{Shows}
+use Rattle.ks_engine.specs.SyncPlan.{IsSyncPlan}
 use Rattle.ks_engine.specs.Synchronised.{IsSynced, IsSyncRefused}
 use Rattle.ks_commands.specs.declared.preview.PreviewError.{PreviewError}
 use Rattle.ks_commands.specs.declared.preview.PreviewError.TheVariants.{Output as PreviewOutput}
 use Rattle.ks_commands.specs.declared.refusal.Refusal.TheVariants.{Engine}
 use Rattle.ks_commands.specs.declared.request.Request.{Request}
-use Rattle.ks_commands.specs.declared.request.Request.TheVariants.{Batch, Fixdep, Outdated, Preview, Record, Stale, Sync}
+use Rattle.ks_commands.specs.declared.request.Request.TheVariants.{Batch, Diff, Fixdep, Outdated, Preview, Record, Stale, Sync}
 use Rattle.ks_commands.specs.declared.status.Status.TheVariants.{Done}
+use Rattle.ks_commands.specs.Differences.{IsDiff}
 use Rattle.ks_commands.specs.Endings.{Answered, Ending, Stopped, Tells}
 use Rattle.ks_commands.specs.Inputs.{Inputs, Texts, command_file_at, inputs_at, texts_at}
 use Rattle.ks_commands.specs.Preview.{IsPreview, IsPreviewRefusal, of_preview, preview_refusal}
@@ -63,6 +65,14 @@ EndsPreview files k d o ended =
     Stopped (inputs_at files k d o) ended
     ⊎ ((i : Inputs) × (inputs_at files k d o ≡ Ok i) × (((text : List ℕ) × IsPreview i.kconfig i.dotconfig i.old text × Tells text 0 ended)
     ⊎ ((e : PreviewError) × (e ≢ PreviewOutput) × IsPreviewRefusal e (preview_refusal i.kconfig i.dotconfig i.old) × (ended ≡ Err (of_preview e)))))
+
+-- What a synchronisation would touch, told; or the refusal that it would have before its first write.
+abbrev pub EndsDiff : Files → List ℕ → List ℕ → Ending → Type 0
+EndsDiff files k d ended =
+    Stopped (texts_at files k d) ended
+    ⊎ ((t : Texts) × (texts_at files k d ≡ Ok t)
+    × (((text : List ℕ) × IsDiff files t.kconfig t.dotconfig text × Tells text 0 ended)
+    ⊎ ((e : EngineError) × (IsGivenUp e ⊎ IsSyncPlan files t.kconfig t.dotconfig (Err e)) × (ended ≡ Err (Engine e)))))
 
 abbrev pub EndsFixdep : Files → List ℕ → List ℕ → List ℕ → Ending → Type 0
 EndsFixdep files d t c ended =
@@ -100,6 +110,7 @@ EndsBatch files effects path ended =
 abbrev pub Ends : Files → Effects → Request → Ending → Type 0
 Ends files effects (Sync k d) ended = EndsSync files effects (string_bytes k) (string_bytes d) ended
 Ends files effects (Preview k d o) ended = effects.same × EndsPreview files (string_bytes k) (string_bytes d) (option_map (λ path. string_bytes path) o) ended
+Ends files effects (Diff k d) ended = effects.same × EndsDiff files (string_bytes k) (string_bytes d) ended
 Ends files effects (Fixdep d t c) ended = effects.same × EndsFixdep files (string_bytes d) (string_bytes t) (string_bytes c) ended
 Ends files effects (Record d t c) ended = EndsRecord effects (string_bytes d) (string_bytes t) (string_bytes c) ended
 Ends files effects (Stale targets) ended = effects.same × EndsStale effects (map (λ target. string_bytes target) targets.items) ended

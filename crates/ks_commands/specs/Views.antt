@@ -1,5 +1,7 @@
 -- Values of the code as the definitions have them.
-use Rattle.std.specs.Prelude.{option_map}
+use Rattle.std.specs.Prelude.{ℕ, List, Option, option_map}
+use Rattle.ks_symbols.specs.declared.kinds.Class.{Class}
+use Rattle.ks_commands.specs.declared.differences.Value.{Value}
 use Rattle.ks_commands.specs.declared.inputs.Inputs.{Inputs as InputValues}
 use Rattle.ks_commands.specs.declared.inputs.Texts.{Texts as TextValues}
 use Rattle.ks_commands.specs.declared.sites.Site.{Site as SiteValue}
@@ -14,3 +16,6 @@ seen_inputs i = with_old (seen_texts i.texts) (option_map (λ v. v.items) i.old)
 
 abbrev pub seen_site : SiteValue → Site
 seen_site s = (s.path.now, s.part)
+
+abbrev pub seen_value : Value → Option Class × List ℕ
+seen_value v = (v.class, v.text.now)

@@ -3,6 +3,7 @@
 
 mod batch;
 mod changes;
+mod differences;
 mod faults;
 mod fixdep;
 mod inputs;

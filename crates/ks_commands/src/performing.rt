@@ -16,6 +16,7 @@ ghost use Rattle.ks_commands.specs.Performed.{Continues, Ends, EndsFixdep, EndsP
 
 use crate::batch::run_script;
 use crate::changes::{record_target, synchronise};
+use crate::differences::tell_differences;
 use crate::fixdep::command_file_text;
 use crate::inputs::{inputs_at, lent};
 use crate::output::{print, refuse, refuse_at};
@@ -94,6 +95,9 @@ fn outcome<T: Tree>(alloc: Global, tree: &mut T, request: &Request) -> Result<Ou
         } => {
             let old = lent_path(old);
             preview(alloc, tree, kconfig.as_bytes(), dotconfig.as_bytes(), old)
+        }
+        Request::Diff { kconfig, dotconfig } => {
+            tell_differences(alloc, tree, kconfig.as_bytes(), dotconfig.as_bytes())
         }
         Request::Fixdep {
             depfile,

@@ -14,6 +14,11 @@ pub enum Request {
         dotconfig: String,
         old: Option<String>,
     },
+    /// What a synchronisation would touch, with the old and the new texts.
+    Diff {
+        kconfig: String,
+        dotconfig: String,
+    },
     /// The command file of an object, without a generation.
     Fixdep {
         depfile: String,

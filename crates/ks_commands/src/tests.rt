@@ -1,4 +1,5 @@
-//! Previews from bytes to bytes: what they print, and why there is none; and scripts whose lines name files more than once.
+//! Previews from bytes to bytes: what they print, and why there is none; what differs from auto.conf; and scripts whose lines
+//! name files more than once.
 use super::*;
 use ks_symbols::SourceError;
 use ks_tree::MemoryTree;
@@ -150,6 +151,71 @@ fn scripts(rt: HostRuntime) -> Result<(), AllocError> {
     ];
     for (name, script, want) in rows {
         let found = batch(alloc, script)?;
+        assert!(rt; found.as_str() == want, "{name}: {found}");
+    }
+    Ok(())
+}
+
+/// The status of a diff over a tree with these texts, and what it prints.
+fn diff(
+    alloc: Global,
+    kconfig: &[u8],
+    dotconfig: &[u8],
+    auto: Option<&[u8]>,
+) -> Result<String, AllocError> {
+    let mut tree = MemoryTree::new(alloc);
+    let files: [(&[u8], Option<&[u8]>); 3] = [
+        (b"K", Some(kconfig)),
+        (b"c", Some(dotconfig)),
+        (b"include/config/auto.conf", auto),
+    ];
+    for (path, bytes) in files {
+        if let Some(bytes) = bytes {
+            tree.put(
+                Vec::from_slice(alloc, path)?,
+                Vec::from_slice(alloc, bytes)?,
+            )?;
+        }
+    }
+    let mut out: Vec<u8> = Vec::new(alloc);
+    let mut err: Vec<u8> = Vec::new(alloc);
+    let request = Request::Diff {
+        kconfig: "K".to_string(alloc)?,
+        dotconfig: "c".to_string(alloc)?,
+    };
+    let status = perform(alloc, &mut tree, &request, &mut out, &mut err);
+    out.extend_from_slice(&err)?;
+    format!(in alloc; "{status}\n{}", String::from_utf8_lossy(alloc, &out)?)
+}
+
+#[test]
+#[rattlefmt::skip]
+fn differences(rt: HostRuntime) -> Result<(), AllocError> {
+    let alloc = rt.alloc();
+    let rows: [(&str, &[u8], &[u8], Option<&[u8]>, &str); 12] = [
+        ("a first one", DEMO, b"CONFIG_A=y\nCONFIG_B=m\n", None, "0\nA n -> y\nB n -> m\n"),
+        ("nothing changed", DEMO, b"CONFIG_A=y\nCONFIG_B=m\n", Some(DEMO_AUTO), "0\n"),
+        ("one vanished, one changed", b"config B\n\ttristate\n", b"CONFIG_A=y\nCONFIG_B=y\n", Some(DEMO_AUTO),
+            "0\nA y -> n\nB m -> y\n"),
+        ("a string and a number", b"config S\n\tstring\nconfig H\n\thex\n", b"CONFIG_S=\"a\\\"b\\\\c\"\nCONFIG_H=0X1F\n",
+            Some(b"#typed\n#type H hex\nCONFIG_H=0x1f\n#type S string\nCONFIG_S=\n"),
+            "0\nH 0x1f -> 0X1F\nS \"\" -> \"a\\\"b\\\\c\"\n"),
+        ("a bool that is a string now", b"config S\n\tstring\n", b"CONFIG_S=\"y\"\n", Some(b"#typed\nCONFIG_S=y\n"),
+            "0\nS y -> \"y\" (bool/tristate -> string)\n"),
+        ("a string that is a number now", b"config S\n\tint\n", b"CONFIG_S=7\n", Some(b"#typed\n#type S string\nCONFIG_S=7\n"),
+            "0\nS \"7\" -> 7 (string -> int)\n"),
+        ("over the untyped form", DEMO, b"CONFIG_A=y\n", Some(b"CONFIG_A=y\nCONFIG_B=m\n#generation 1\n"),
+            "0\nA y -> y (untyped -> bool/tristate)\nB m -> n\n"),
+        ("quotes of the usual tool", b"config S\n\tstring\n", b"CONFIG_S=\"a\"\n", Some(b"CONFIG_S=\"a\"\n"),
+            "0\nS \"a\" -> \"a\"\n"),
+        ("a faulty .config", DEMO, b"CONFIG_A=m\n", Some(b"CONFIG_A\n"), "2\nconfstamp: 8 BadValue line 1\n  c:1: CONFIG_A=m\n"),
+        ("a faulty auto.conf", DEMO, b"CONFIG_A=y\n", Some(b"CONFIG_A\n"),
+            "2\nconfstamp: 11 BadAuto line 1\n  include/config/auto.conf:1: CONFIG_A\n"),
+        ("the last generation", DEMO, b"", Some(b"#generation 18446744073709551615\n"), "2\nconfstamp: 42 GenerationFull\n"),
+        ("nothing", b"", b"", None, "0\n"),
+    ];
+    for (name, kconfig, dotconfig, auto, want) in rows {
+        let found = diff(alloc, kconfig, dotconfig, auto)?;
         assert!(rt; found.as_str() == want, "{name}: {found}");
     }
     Ok(())

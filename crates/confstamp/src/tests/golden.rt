@@ -51,6 +51,7 @@ pub const INPUTS: &[(Step<'_>, &str)] = &[
 #[rattlefmt::skip]
 pub const EACH_COMMAND: &[(Step<'_>, &str)] = &[
     (Step::Words(&["preview", "K1", "c1"]), PREVIEW),
+    (Step::Words(&["diff", "K1", "c1"]), "0 A n -> y\nB n -> m\n"),
     (Step::Words(&["fixdep", "x.d", "x.o", "cc -c x.c"]), FIXDEP),
     (Step::Read("include/config/auto.conf"), "none"),
     (Step::Read(".x.o.cmd"), "none"),
@@ -64,6 +65,8 @@ pub const EACH_COMMAND: &[(Step<'_>, &str)] = &[
     (Step::Put("script", "stale x.o\n"), "done"),
     (Step::Words(&["batch", "script"]), "0 x.o fresh\n"),
     (Step::Words(&["preview", "K1", "only_b", "include/config/auto.conf"]), PREVIEW_OVER),
+    (Step::Words(&["diff", "K1", "only_b"]), "0 A y -> n\n"),
+    (Step::Read("include/config/auto.conf"), AUTO),
     (Step::Words(&["sync", "K1", "c2"]), "0 generation 2\nunknown 1\n"),
 ];
 

@@ -5,10 +5,11 @@ use super::*;
 #[rattlefmt::skip]
 fn words_are_taken_as_meant(rt: HostRuntime) -> Result<(), Fail> {
     let alloc = rt.alloc();
-    let rows: [(&str, &[&str], &str); 17] = [
+    let rows: [(&str, &[&str], &str); 18] = [
         ("sync", &["sync", "K", "c"], r#"Sync { kconfig: "K", dotconfig: "c" }"#),
         ("a first preview", &["preview", "K", "c"], r#"Preview { kconfig: "K", dotconfig: "c", old: None }"#),
         ("a preview", &["preview", "K", "c", "a"], r#"Preview { kconfig: "K", dotconfig: "c", old: Some("a") }"#),
+        ("diff", &["diff", "K", "c"], r#"Diff { kconfig: "K", dotconfig: "c" }"#),
         ("fixdep", &["fixdep", "x.d", "x.o", "cc"], r#"Fixdep { depfile: "x.d", target: "x.o", command: "cc" }"#),
         ("record", &["record", "x.d", "x.o", "cc"], r#"Record { depfile: "x.d", target: "x.o", command: "cc" }"#),
         ("stale of one", &["stale", "x.o"], r#"Stale { targets: ["x.o"] }"#),
@@ -38,7 +39,7 @@ fn words_are_taken_as_meant(rt: HostRuntime) -> Result<(), Fail> {
 #[rattlefmt::skip]
 fn words_that_are_no_command(rt: HostRuntime) -> Result<(), Fail> {
     let alloc = rt.alloc();
-    let rows: [(&str, &[&str]); 22] = [
+    let rows: [(&str, &[&str]); 24] = [
         ("no words", &[]),
         ("another command", &["bogus"]),
         ("a command with an empty name", &["", "K", "c"]),
@@ -51,6 +52,8 @@ fn words_that_are_no_command(rt: HostRuntime) -> Result<(), Fail> {
         ("sync of three", &["sync", "K", "c", "a"]),
         ("preview of one word", &["preview", "K"]),
         ("preview of four", &["preview", "K", "c", "a", "b"]),
+        ("diff of one word", &["diff", "K"]),
+        ("diff of three", &["diff", "K", "c", "a"]),
         ("fixdep of two words", &["fixdep", "x.d", "x.o"]),
         ("fixdep of four", &["fixdep", "x.d", "x.o", "cc", "-c"]),
         ("record of two words", &["record", "x.d", "x.o"]),

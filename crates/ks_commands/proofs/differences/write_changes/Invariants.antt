@@ -1,0 +1,6 @@
+use Rattle.std.proofs.Common.{◌≡◌, ◌++◌, flat_map, take}
+use Rattle.ks_commands.specs.Differences.{difference_line}
+use Rattle.ks_commands.proofs.differences.write_changes.Given as goal
+
+abbrev pub invariant-loop-name : goal.invariant-loop-name
+invariant-loop-name l = l.text.items ≡ l.initial.text.items ++ flat_map (difference_line l.old.texts l.new.entries) (take l.name-index l.names)

@@ -1,0 +1,48 @@
+-- What differs between auto.conf and what a synchronisation would write, told with the texts of both. The form is this project's.
+use Rattle.std.specs.Prelude.{◌≡◌, ◌++◌, ℕ, List, [], codes, bytes_eq, flat_map, Ok, Option, Some, None, option_map, if◌then◌else◌}
+use Rattle.std.specs.FinMap as map
+use Rattle.ks_symbols.specs.declared.kinds.Class.{Class}
+use Rattle.ks_symbols.specs.declared.kinds.Class.TheVariants as class
+use Rattle.ks_symbols.specs.Configuration.{Configuration}
+use Rattle.ks_symbols.specs.Values.{quoted}
+use Rattle.ks_output.specs.OldConfig.{Texts}
+use Rattle.ks_compare.specs.Changes.{AreChanges, compared}
+use Rattle.ks_tree.specs.Files.{Files}
+use Rattle.ks_engine.specs.SyncPlan.{IsSyncPlan, Plan}
+
+-- how the class of an entry is called; an entry of the untyped form has none
+abbrev pub class_word : Option Class → List ℕ
+class_word None = codes "untyped"
+class_word (Some class.Switch) = codes "bool/tristate"
+class_word (Some class.Text) = codes "string"
+class_word (Some class.Int) = codes "int"
+class_word (Some class.Hex) = codes "hex"
+
+-- what a name has, with its class: a string as in a `.config`, all else as in auto.conf, and n where there is nothing
+abbrev pub shown_value : Option (Option Class × List ℕ) → List ℕ
+shown_value None = codes "n"
+shown_value (Some (Some class.Text, text)) = quoted text
+shown_value (Some (k, text)) = text
+
+-- both classes, where the texts are alike
+abbrev pub shown_classes : Option (Option Class × List ℕ) → Option (Option Class × List ℕ) → List ℕ
+shown_classes (Some t) (Some u) =
+    if bytes_eq t.1 u.1 then codes " (" ++ class_word t.0 ++ codes " -> " ++ class_word u.0 ++ codes ")" else []
+shown_classes t u = []
+
+-- the line of a name
+unfoldable pub change_line : List ℕ → Option (Option Class × List ℕ) → Option (Option Class × List ℕ) → List ℕ
+change_line name old new = name ++ codes " " ++ shown_value old ++ codes " -> " ++ shown_value new ++ shown_classes old new ++ codes "\n"
+
+abbrev pub difference_line : Texts → Configuration → List ℕ → List ℕ
+difference_line old new name = change_line name (map.get old name) (option_map compared (map.get new name))
+
+-- a line for exactly the names that differ, by rising names, each once
+pub record TellsChanges (old : Texts) (new : Configuration) (text : List ℕ) : Type 0 where
+  pub names : List (List ℕ)
+  pub changed : AreChanges old new names
+  pub lines : text ≡ flat_map (difference_line old new) names
+
+-- what a synchronisation of these two texts would touch, told
+abbrev pub IsDiff : Files → List ℕ → List ℕ → List ℕ → Type 0
+IsDiff files kconfig dotconfig text = (plan : Plan) × IsSyncPlan files kconfig dotconfig (Ok plan) × TellsChanges plan.old plan.config text

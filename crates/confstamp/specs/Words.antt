@@ -1,9 +1,11 @@
 -- Words of the command line, the requests that they make, and why they make none.
-use Rattle.std.specs.Prelude.{◌≡◌, ◌≢◌, ◌⊎◌, ℕ, List, [], ◌∷◌, codes, map, option_map, slice_index, string_bytes, unwrap_or}
+use Rattle.std.specs.Prelude.{◌≡◌, ◌≢◌, ◌⊎◌, ℕ, List, [], ◌∷◌, codes, option_map, slice_index, string_bytes, unwrap_or}
 use Rattle.std.specs.List.{All}
 use Rattle.clap.specs.Words.{Row, Text, all_of, first_of}
 use Rattle.ks_commands.specs.declared.request.Request.{Request}
+use Rattle.ks_commands.specs.declared.request.Targets.{Targets}
 use Rattle.ks_commands.specs.declared.request.Request.TheVariants as request
+use Rattle.ks_commands.specs.Targets.{file_of, words_of}
 use Rattle.confstamp.specs.declared.words.WordsError.{WordsError}
 use Rattle.confstamp.specs.declared.words.WordsError.TheVariants.{OutOfMemory, Refused}
 use Rattle.clap.specs.Words.{kind_of}
@@ -45,6 +47,10 @@ abbrev pub IsNoOther : Text → Type 0
 IsNoOther name = All (λ other. name ≢ other)
     (codes "sync" ∷ codes "preview" ∷ codes "diff" ∷ codes "fixdep" ∷ codes "record" ∷ codes "batch" ∷ codes "outdated" ∷ [])
 
+-- the objects of a question
+abbrev pub AreTargets : List Row → Targets → Type 0
+AreTargets rows targets = (words_of targets ≡ words_at (codes "TARGET") rows) × (file_of targets ≡ first_of (codes "FILE") rows)
+
 -- the request is that of the command, and holds what `clap` found for each of its words
 abbrev pub IsRequestOf : Text → List Row → Request → Type 0
 IsRequestOf command rows (request.Sync k d) = (command ≡ codes "sync")
@@ -61,7 +67,7 @@ IsRequestOf command rows (request.Record d t c) = (command ≡ codes "record")
     × (string_bytes d ≡ word_at (codes "DEPFILE") rows) × (string_bytes t ≡ word_at (codes "TARGET") rows)
     × (string_bytes c ≡ word_at (codes "COMMAND") rows)
 IsRequestOf command rows (request.Stale ts) =
-    IsNoOther command × (map (λ t. string_bytes t) ts.items ≡ words_at (codes "TARGET") rows)
+    IsNoOther command × AreTargets rows ts
 IsRequestOf command rows (request.Batch s) =
     (command ≡ codes "batch") × (string_bytes s ≡ word_at (codes "SCRIPT") rows)
 IsRequestOf command rows (request.Outdated t c) = (command ≡ codes "outdated")

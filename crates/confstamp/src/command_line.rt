@@ -16,7 +16,8 @@ fn argument<'a>(alloc: Global, word: &Word) -> Arg<'a>
     match word.times {
         Times::Once => argument.required(true),
         Times::AtMostOnce => argument,
-        Times::AtLeastOnce => argument.required(true).num_args(1..),
+        Times::AnyNumber => argument.num_args(1..),
+        Times::Behind(option) => argument.long(option),
     }
 }
 
@@ -30,7 +31,10 @@ fn subcommand<'a>(alloc: Global, usage: &Usage) -> Result<Command<'a>, AllocErro
     for word in usage.words {
         command = command.arg(argument(alloc, word))?;
     }
-    Ok(command)
+    match usage.choice {
+        Some(call) => Ok(command.override_usage(call).arg_required_else_help(true)),
+        None => Ok(command),
+    }
 }
 
 /// The program's command line.

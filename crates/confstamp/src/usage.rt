@@ -17,12 +17,14 @@ Exit status:
   1  some object is stale, or was built by another command
   2  something was refused";
 
-/// How often a word may stand.
+/// How a word may stand.
 #[derive(Clone, Copy)]
 pub(crate) enum Times {
     Once,
     AtMostOnce,
-    AtLeastOnce,
+    AnyNumber,
+    /// Behind the option of this name, at most once.
+    Behind(&'static str),
 }
 
 /// A word behind a command.
@@ -39,6 +41,8 @@ pub(crate) struct Usage {
     pub(crate) name: &'static str,
     pub(crate) about: &'static str,
     pub(crate) words: &'static [Word],
+    /// How it is called, where it needs one of its words though each of them may be left out.
+    pub(crate) choice: Option<&'static str>,
     pub(crate) notes: &'static str,
 }
 
@@ -74,8 +78,14 @@ const TARGET: Word = Word {
 
 const TARGETS: Word = Word {
     name: "TARGET",
-    times: Times::AtLeastOnce,
+    times: Times::AnyNumber,
     help: "The objects; the command file of d/x.o is d/.x.o.cmd",
+};
+
+const FROM: Word = Word {
+    name: "FILE",
+    times: Times::Behind("from"),
+    help: "A file with further objects, one a line; they come behind the others, and empty lines are skipped",
 };
 
 const COMMAND: Word = Word {
@@ -95,6 +105,7 @@ pub(crate) const USAGES: [Usage; 8] = [
         name: "sync",
         about: "Write auto.conf, the header and the stamps of all symbols that changed",
         words: &[KCONFIG, DOTCONFIG],
+        choice: None,
         notes: "\
 Prints the generation, touch NAME for each stamp, and how many lines name an unknown symbol.
 
@@ -104,6 +115,7 @@ Example: confstamp sync Kconfig .config",
         name: "preview",
         about: "Show what sync would touch, and the auto.conf that it would write",
         words: &[KCONFIG, DOTCONFIG, OLDAUTO],
+        choice: None,
         notes: "\
 Prints touch NAME for each stamp, then auto.conf. Writes no file.
 
@@ -113,6 +125,7 @@ Example: confstamp preview Kconfig .config include/config/auto.conf",
         name: "diff",
         about: "Show what sync would touch, with the old and the new value of each symbol",
         words: &[KCONFIG, DOTCONFIG],
+        choice: None,
         notes: "\
 Prints NAME OLD -> NEW for each, n where a symbol has no value, and both kinds where the values are alike.
 Writes no file.
@@ -123,6 +136,7 @@ Example: confstamp diff Kconfig .config",
         name: "fixdep",
         about: "Show the command file of an object, from the compiler's dependency file",
         words: &[DEPFILE, TARGET, COMMAND],
+        choice: None,
         notes: "\
 Prints what record would write, but for its generation. Writes no file.
 
@@ -132,6 +146,7 @@ Example: confstamp fixdep x.d x.o 'cc -c x.c'",
         name: "record",
         about: "Write the command file of an object that was just built",
         words: &[DEPFILE, TARGET, COMMAND],
+        choice: None,
         notes: "\
 Is run directly behind the compiler. Prints the generation, and how many names were found.
 
@@ -140,9 +155,10 @@ Example: confstamp record x.d x.o 'cc -c x.c'",
     Usage {
         name: "stale",
         about: "Say which objects have to be built again because the configuration changed",
-        words: &[TARGETS],
+        words: &[TARGETS, FROM],
+        choice: Some("confstamp stale [--from FILE] [TARGET]..."),
         notes: "\
-Prints a line for each object: fresh, stale and why, or refused and why.
+Prints a line for each object: fresh, stale and why, or refused and why. One of the words is needed.
 
 Example: confstamp stale x.o y.o",
     },
@@ -150,6 +166,7 @@ Example: confstamp stale x.o y.o",
         name: "batch",
         about: "Run the commands of a script, one after the other",
         words: &[SCRIPT],
+        choice: None,
         notes: "\
 Prints a line for each command of the script. A refused one does not end it.
 
@@ -159,6 +176,7 @@ Example: confstamp batch steps",
         name: "outdated",
         about: "Say whether an object was built by another command, or is stale",
         words: &[TARGET, COMMAND],
+        choice: None,
         notes: "\
 Prints command-differs behind the object, or what stale prints.
 

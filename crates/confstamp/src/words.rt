@@ -5,12 +5,12 @@ ghost use Rattle.clap.specs.Walk.{texts};
 ghost use Rattle.ks_commands.specs.Requests.{IsBatchOf, IsPreviewOf};
 ghost use Rattle.confstamp.specs.CommandLine.{command_line_app};
 ghost use Rattle.confstamp.specs.Performing.{AsksForHelp, Makes};
-ghost use Rattle.confstamp.specs.Words.{IsPlainWord, IsRequestOf, IsTold, IsWantOfMemory, TellsHelp, word_at, words_at};
+ghost use Rattle.confstamp.specs.Words.{AreTargets, IsPlainWord, IsRequestOf, IsTold, IsWantOfMemory, TellsHelp, word_at, words_at};
 
 use crate::command_line::command_line;
 use clap::ArgMatches;
 use clap::error::ErrorKind;
-use ks_commands::Request;
+use ks_commands::{Request, Targets};
 use std::alloc::{AllocError, Global};
 use thiserror::Error;
 
@@ -80,6 +80,15 @@ fn all_words(alloc: Global, matches: &ArgMatches<'_>, id: &str) -> Result<Vec<St
     Ok(words)
 }
 
+/// The objects of a question.
+fn targets(alloc: Global, matches: &ArgMatches<'_>) -> Result<Targets, AllocError>
+    ensures { IfOk result (AreTargets (rows_of (found_of matches.now))) }
+{
+    let words = all_words(alloc, matches, "TARGET")?;
+    let from = optional_word(alloc, matches, "FILE")?;
+    Ok(Targets { words, from })
+}
+
 fn preview_request(alloc: Global, matches: &ArgMatches<'_>) -> Result<Request, AllocError>
     ensures { IfOk result (IsRequestOf (codes "preview") (rows_of (found_of matches.now))) }
 {
@@ -125,7 +134,7 @@ fn request_named(alloc: Global, name: &str, matches: &ArgMatches<'_>) -> Result<
             command: word(alloc, matches, "COMMAND")?,
         }),
         _ => Ok(Request::Stale {
-            targets: all_words(alloc, matches, "TARGET")?,
+            targets: targets(alloc, matches)?,
         }),
     }
 }

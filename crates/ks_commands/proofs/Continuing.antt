@@ -71,10 +71,12 @@ script_stopped files mid path text r same there (inl up) = inl up
 script_stopped files mid path text r same there (inr bad) = inr (script_there files mid path text (Err r) same there bad)
 
 -- an answer by the files is one by each history that they show
-pub stale_follows : (old new : Files) (m n : ℕ) (h : History) (objects : List (List ℕ)) (ended : Ending) → new ≡ old → Shows old h
-    → EndsStale (by_files old new) objects ended → EndsStale (by_histories (at old m h) (at new n h)) objects ended
-stale_follows old new m n h objects ended same shows (inl memory) = inl memory
-stale_follows old new m n h objects ended same shows (inr (text, status, are, tells)) = inr (
+pub stale_follows : (old new : Files) (m n : ℕ) (h : History) (targets : Result (List (List ℕ)) EngineError) (ended : Ending) → new ≡ old → Shows old h
+    → EndsStale (by_files old new) targets ended → EndsStale (by_histories (at old m h) (at new n h)) targets ended
+stale_follows old new m n h targets ended same shows (inl stopped) = inl stopped
+stale_follows old new m n h targets ended same shows (inr (objects, there, text, status, are, tells)) = inr (
+  objects,
+  there,
   text,
   status,
   record {

@@ -1,5 +1,5 @@
 -- What scripts and runs of the program tell: no synchronisation was broken off before one of them where none was at the end.
-use Rattle.std.proofs.Common.{◌∙◌, ◌<◌, ℕ, List, [], ◌∷◌, Result, Ok, Err, inl, inr, ⊎_elim, sym, ap, subst, map, fold, max, arith, string_bytes}
+use Rattle.std.proofs.Common.{◌∙◌, ◌<◌, ℕ, List, [], ◌∷◌, Result, Ok, Err, inl, inr, ⊎_elim, sym, ap, subst, map, fold, max, arith}
 use Rattle.std.specs.List.{All}
 use Rattle.std.proofs.lemmas.List.Elements.{All-nil, All-cons, All-weaker}
 use Rattle.ks_engine.specs.declared.commands.Reply.{Reply}
@@ -19,6 +19,7 @@ use Rattle.ks_commands.specs.Laws.{BatchTellsChanges, ProgramsTellChanges}
 use Rattle.ks_commands.specs.Performed.{Continues, EndsStale, by_histories}
 use Rattle.ks_commands.specs.Programs.{Chain, ProgramRun, ProgramTellsChanges, TellsChange, changes_told}
 use Rattle.ks_commands.specs.Statuses.{reply_status, worst}
+use Rattle.ks_commands.specs.Targets.{targets_at}
 
 -- ---- none was broken off before a step where none is behind it
 
@@ -80,10 +81,12 @@ none_at_first first (run ∷ runs) last chain none =
 
 -- ---- what is told then
 
-stale_tells : (old new : State) (objects : List (List ℕ)) (ended : Ending) → NoneBroken old.history → EndsStale (by_histories old new) objects ended
-    → EndsStale (changes_told old) objects ended
-stale_tells old new objects ended none (inl memory) = inl memory
-stale_tells old new objects ended none (inr (text, status, are, tells)) = inr (
+stale_tells : (old new : State) (targets : Result (List (List ℕ)) EngineError) (ended : Ending) → NoneBroken old.history
+    → EndsStale (by_histories old new) targets ended → EndsStale (changes_told old) targets ended
+stale_tells old new targets ended none (inl stopped) = inl stopped
+stale_tells old new targets ended none (inr (objects, there, text, status, are, tells)) = inr (
+  objects,
+  there,
   text,
   status,
   record {
@@ -106,7 +109,7 @@ program_tells (request.Diff k d) ended old new is none = (tt, is.1)
 program_tells (request.Fixdep d t c) ended old new is none = (tt, is.1)
 program_tells (request.Record d t c) ended old new is none = (is.0, tt, is.2)
 program_tells (request.Stale ts) ended old new is none =
-    (tt, stale_tells old new (map (λ t. string_bytes t) ts.items) ended (none_before_program (request.Stale ts) ended old new is none) is.1)
+    (tt, stale_tells old new (targets_at old.files ts) ended (none_before_program (request.Stale ts) ended old new is none) is.1)
 program_tells (request.Outdated t c) ended old new is none = (tt, (is.1.0, tt, is.1.2))
 program_tells (request.Batch p) ended old new (inl stopped) none = inl (tt, stopped.1)
 program_tells (request.Batch p) ended old new (inr (actions, at, inl memory)) none = inr (actions, at, inl (tt, memory.1))

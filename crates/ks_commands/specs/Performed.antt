@@ -37,6 +37,7 @@ use Rattle.ks_commands.specs.Replies.{answer_line, build_line, recorded_line, re
 use Rattle.ks_commands.specs.Requests.{IsNoQuestion}
 use Rattle.ks_commands.specs.Scripts.{StoppedScript, script_at}
 use Rattle.ks_commands.specs.Statuses.{build_status, reply_status, status_unless_refused, verdict_status, worst}
+use Rattle.ks_commands.specs.Targets.{targets_at}
 
 -- What the engine's calls answer and leave: the one way of saying it by files, the other by histories.
 pub record Effects : Type 1 where
@@ -86,9 +87,12 @@ pub record AreAnswers (stale : List ℕ → Result Verdict EngineError → Type 
   pub lines : text ≡ flat_map (λ p. answer_line verdict_line p.0 p.1) answers
   pub worst_of : status ≡ worst (map (λ p. status_unless_refused verdict_status p.1) answers)
 
-abbrev pub EndsStale : Effects → List (List ℕ) → Ending → Type 0
-EndsStale effects objects ended =
-    (ended ≡ Err (Engine OutOfMemory)) ⊎ ((text : List ℕ) × (status : ℕ) × AreAnswers effects.stale objects text status × Tells text status ended)
+-- It is refused where the file of its targets is, or memory or the device fails there.
+abbrev pub EndsStale : Effects → Result (List (List ℕ)) EngineError → Ending → Type 0
+EndsStale effects targets ended =
+    Stopped targets ended
+    ⊎ ((objects : List (List ℕ)) × (targets ≡ Ok objects)
+    × (text : List ℕ) × (status : ℕ) × AreAnswers effects.stale objects text status × Tells text status ended)
 
 abbrev pub EndsOutdated : Effects → List ℕ → List ℕ → Ending → Type 0
 EndsOutdated effects o c ended =
@@ -113,7 +117,7 @@ Ends files effects (Preview k d o) ended = effects.same × EndsPreview files (st
 Ends files effects (Diff k d) ended = effects.same × EndsDiff files (string_bytes k) (string_bytes d) ended
 Ends files effects (Fixdep d t c) ended = effects.same × EndsFixdep files (string_bytes d) (string_bytes t) (string_bytes c) ended
 Ends files effects (Record d t c) ended = EndsRecord effects (string_bytes d) (string_bytes t) (string_bytes c) ended
-Ends files effects (Stale targets) ended = effects.same × EndsStale effects (map (λ target. string_bytes target) targets.items) ended
+Ends files effects (Stale targets) ended = effects.same × EndsStale effects (targets_at files targets) ended
 Ends files effects (Outdated t c) ended = effects.same × EndsOutdated effects (string_bytes t) (string_bytes c) ended
 Ends files effects (Batch script) ended = EndsBatch files effects (string_bytes script) ended
 

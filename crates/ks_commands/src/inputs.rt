@@ -2,7 +2,7 @@
 //!
 //! All paths are looked at before the first file is read, so that a misspelt word costs nothing; and all files
 //! are read before anything is parsed.
-ghost use Rattle.std.specs.Prelude.{◌≡◌, IsErrOf, option_map};
+ghost use Rattle.std.specs.Prelude.{◌≡◌, IsErrOf, option_map, string_bytes};
 ghost use Rattle.ks_tree.specs.Frames.{Reads};
 ghost use Rattle.ks_engine.specs.Refusals.{Answers};
 ghost use Rattle.ks_commands.specs.Inputs.{given, given_if_named, inputs_at, legal, legal_if_named, texts_at};
@@ -66,7 +66,7 @@ pub(crate) fn read_given<T: Tree>(
 }
 
 /// The bytes of the file that may be named, where one is named.
-fn read_named<T: Tree>(
+pub(crate) fn read_named<T: Tree>(
     alloc: Global,
     tree: &mut T,
     path: Option<&str>,
@@ -152,6 +152,16 @@ pub(crate) fn lent(bytes: &Option<Vec<u8>>) -> Option<&[u8]>
 {
     match bytes {
         Some(bytes) => Some(bytes),
+        None => None,
+    }
+}
+
+/// The path that may be named, lent.
+pub(crate) fn lent_path(path: &Option<String>) -> Option<&str>
+    ensures { option_map (λ p. p.now) result ≡ option_map (λ p. string_bytes p) path.now }
+{
+    match path {
+        Some(path) => Some(path.as_str()),
         None => None,
     }
 }

@@ -17,6 +17,7 @@ mod replies;
 mod request;
 mod sites;
 mod status;
+mod targets;
 
 pub use laws::{
     batch_tells_changes, previews_are_performed, programs_tell_changes, refusals_change_nothing,
@@ -26,7 +27,7 @@ pub use output::refuse;
 pub use performing::perform;
 pub use preview::{PreviewError, preview_to};
 pub use refusal::Refusal;
-pub use request::Request;
+pub use request::{Request, Targets};
 
 #[cfg(test)]
 mod tests;

@@ -2,7 +2,7 @@
 //!
 //! The whole text of a command is made before its first byte is written, so that a command that is refused as a whole
 //! writes nothing to the output, and a line to standard error, with a second one where there is a file to point at.
-ghost use Rattle.std.specs.Prelude.{◌≡◌, ℕ, List, Err, IfOk, option_map, string_bytes};
+ghost use Rattle.std.specs.Prelude.{◌≡◌, ℕ, List, Err, IfOk, option_map};
 ghost use Rattle.ks_tree.specs.Files.{HasRisen};
 ghost use Rattle.ks_tree.specs.Frames.{Reads};
 ghost use Rattle.ks_engine.specs.Follows.{GoesOn};
@@ -18,7 +18,7 @@ use crate::batch::run_script;
 use crate::changes::{record_target, synchronise};
 use crate::differences::tell_differences;
 use crate::fixdep::command_file_text;
-use crate::inputs::{inputs_at, lent};
+use crate::inputs::{inputs_at, lent, lent_path};
 use crate::output::{print, refuse, refuse_at};
 use crate::preview::preview_of;
 use crate::questions::{outdated_target, stale_targets};
@@ -65,16 +65,6 @@ fn fixdep<T: Tree>(
     let text = command_file_text(alloc, tree, depfile, target, command)?;
     let status = Status::Done;
     Ok(Outcome { text, status })
-}
-
-/// The path that may be named, lent.
-fn lent_path(path: &Option<String>) -> Option<&str>
-    ensures { option_map (λ p. p.now) result ≡ option_map (λ p. string_bytes p) path.now }
-{
-    match path {
-        Some(path) => Some(path.as_str()),
-        None => None,
-    }
 }
 
 /// Does what was asked for, unless it is refused as a whole.

@@ -1,5 +1,12 @@
 //! What the program can be asked to do.
 
+/// The objects that a question is about: those among the words, and behind them those of a file, one a line.
+#[derive(Debug, Drop)]
+pub struct Targets {
+    pub words: Vec<String>,
+    pub from: Option<String>,
+}
+
 /// One command of the program, with its words in order.
 #[derive(Debug, Drop)]
 pub enum Request {
@@ -33,7 +40,7 @@ pub enum Request {
     },
     /// Which of these objects are stale.
     Stale {
-        targets: Vec<String>,
+        targets: Targets,
     },
     /// Whether an object was built by another command, or is stale.
     Outdated {

@@ -32,6 +32,12 @@ const PREVIEW: &str =
 const PREVIEW_OVER: &str =
     "0 touch A\n#\n# Automatically generated file; DO NOT EDIT.\n# Demo\n#\n#typed\nCONFIG_B=m\n#generation 2\n";
 
+const FROM_OBJECTS: &str =
+    "2 x.o fresh\na$b refused 21 BadPath token 0\n@z.o stale no-command-file\n z.o refused 21 BadPath token 0\n";
+
+const BEHIND_A_WORD: &str =
+    "2 y.o stale no-command-file\nx.o fresh\na$b refused 21 BadPath token 0\n@z.o stale no-command-file\n z.o refused 21 BadPath token 0\n";
+
 /// Kconfig files, `.config` files, an object's sources and its dependency file.
 #[rattlefmt::skip]
 pub const INPUTS: &[(Step<'_>, &str)] = &[
@@ -77,6 +83,14 @@ pub const QUESTIONS: &[(Step<'_>, &str)] = &[
     (Step::Words(&["stale", "x.o", "z.o"]), "1 x.o fresh\nz.o stale no-command-file\n"),
     (Step::Words(&["stale", "x.o", "a$b"]), "2 x.o fresh\na$b refused 21 BadPath token 0\n"),
     (Step::Words(&["stale", "a$b", "z.o", "x.o"]), "2 a$b refused 21 BadPath token 0\nz.o stale no-command-file\nx.o fresh\n"),
+    (Step::Put("objects", "x.o\n\na$b\r\n\r\n@z.o\n z.o"), "done"),
+    (Step::Words(&["stale", "--from", "objects"]), FROM_OBJECTS),
+    (Step::Words(&["stale", "y.o", "--from", "objects"]), BEHIND_A_WORD),
+    (Step::Put("objects", "\n"), "done"),
+    (Step::Words(&["stale", "--from", "objects"]), "0 "),
+    (Step::Words(&["stale", "--from", "objects", "x.o"]), "0 x.o fresh\n"),
+    (Step::Words(&["stale", "x.o", "--from", "none"]), "2 confstamp: 40 MissingFile none\n"),
+    (Step::Words(&["stale", "x.o", "--from", "a$b"]), "2 confstamp: 21 BadPath token 0\n"),
     (Step::Words(&["outdated", "x.o", "cc -O2 -c x.c"]), "1 x.o command-differs\n"),
     (Step::Words(&["outdated", "z.o", ""]), "1 z.o stale no-command-file\n"),
     (Step::Words(&["outdated", "x.o", "--", "-c"]), "1 x.o command-differs\n"),

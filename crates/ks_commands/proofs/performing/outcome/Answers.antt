@@ -10,13 +10,13 @@ returns-in-Sync-clause-goes_on g c = λ honest h shows.
 
 pub returns-in-Stale-clause-files : goal.returns-in-Stale-clause-files
 returns-in-Stale-clause-files g c = λ honest.
-    rw (c.in-Stale.is, ← c.deref.ensures.value) (c.stale_targets.ensures.reads.unchanged honest, c.stale_targets.ensures.told honest)
+    rw c.in-Stale.is (c.stale_targets.ensures.reads.unchanged honest, c.stale_targets.ensures.told honest)
 
 pub returns-in-Stale-clause-goes_on : goal.returns-in-Stale-clause-goes_on
 returns-in-Stale-clause-goes_on g c = λ honest h shows.
     let same = c.stale_targets.ensures.reads.unchanged honest in (
       h,
-      rw (c.in-Stale.is, ← c.deref.ensures.value) ((same, refl), stale_follows _ _ _ _ h _ _ same shows (c.stale_targets.ensures.told honest)),
+      rw c.in-Stale.is ((same, refl), stale_follows _ _ _ _ h _ _ same shows (c.stale_targets.ensures.told honest)),
       subst (λ f. Shows f h) (sym same) shows,
     )
 

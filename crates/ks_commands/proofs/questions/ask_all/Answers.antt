@@ -1,8 +1,8 @@
-use Rattle.std.proofs.Common.{◌∙◌, ◌++◌, ◌∷◌, [], inr, sym, ap, subst, subst₂, string_bytes, map, take, take_all, refl, rules}
+use Rattle.std.proofs.Common.{◌∙◌, ℕ, List, [], Bor, get_or, sym, subst, subst₂, map, take, take_all, refl, rules}
 use Rattle.ks_commands.specs.Performed.{AreAnswers, IsAnswerOn}
 use Rattle.ks_commands.specs.Statuses.{code_of}
 use Rattle.ks_commands.proofs.Verdicts.{answers_more, no_answers, map-take_more}
-use Rattle.ks_commands.proofs.questions.stale_targets.Goals as goal
+use Rattle.ks_commands.proofs.questions.ask_all.Goals as goal
 
 pub loop-target-init : goal.loop-target-init
 loop-target-init g c = record {
@@ -20,25 +20,18 @@ loop-target-preserved g c = record {
   told = λ honest.
       let targets = c.args.targets.now in
       let i = c.loop-target.target-index in
-      let item = c.target-item.result in
+      let nothing : Bor (List ℕ) = record { ref_ptr = (0, 0); now = [] } in
       let files = g.T.Tree.files c.args.tree.now in
       let said = c.in_ok-answered.ensures.told honest in
-      let o = c.as_bytes.result.now in
-      let more = answers_more (IsAnswerOn files) (map (λ t. string_bytes t) (take i targets)) o said.0 c.loop-target.text.items c.ask.new.text.items
+      let o = (get_or targets i nothing).now in
+      let more = answers_more (IsAnswerOn files) (map (λ t. t.now) (take i targets)) o said.0 c.loop-target.text.items c.ask.new.text.items
       (code_of c.loop-target.status) _
       (c.loop-target.invariant.told honest) (subst (λ f. IsAnswerOn f o said.0) (c.loop-target.invariant.unchanged honest) said.1) said.2 said.3 in
-      let taken = ap (λ b. map (λ t. string_bytes t) (take i targets) ++ b ∷ []) (c.as_bytes.ensures.value ∙ ap (λ t. string_bytes t) c.target-item.is) ∙
-      map-take_more (λ t. string_bytes t) targets i item c.loop-target-test.true in
+      let taken = map-take_more (λ t. t.now) targets i nothing c.loop-target-test.true in
       subst₂ (λ objects status. AreAnswers (IsAnswerOn files) objects c.ask.new.text.items status) taken (sym c.worse-status.ensures) more;
 }
 
 pub returns-clause-told : goal.returns-clause-told
 returns-clause-told g c = λ honest.
-    inr (
-      c.loop-target.text.items,
-      code_of c.loop-target.status,
-      subst (λ ts. AreAnswers (IsAnswerOn (g.T.Tree.files c.args.tree.now)) (map (λ t. string_bytes t) ts) c.loop-target.text.items
-          (code_of c.loop-target.status))
-          (take_all c.loop-target.target-index c.args.targets.now c.loop-target-test.false) (c.loop-target.invariant.told honest),
-      (refl, refl),
-    )
+    subst (λ ts. AreAnswers (IsAnswerOn (g.T.Tree.files c.args.tree.now)) (map (λ t. t.now) ts) c.loop-target.text.items (code_of c.loop-target.status))
+    (take_all c.loop-target.target-index c.args.targets.now c.loop-target-test.false) (c.loop-target.invariant.told honest)

@@ -10,6 +10,7 @@ pub mod Steps
 pub mod Following
 pub mod Asking
 pub mod Explanations
+pub mod Foreseeing
 pub mod Pieces
 pub mod Scanning
 pub mod Drafting

@@ -77,7 +77,7 @@ pub record PlanFacts (old : Texts) (generation : ℕ) (plan : Plan) : Type 0 whe
   pub room : plan.generation ≡ 18446744073709551615 → ⊥
   pub small : length (auto_text plan.title plan.config (plan.generation + 1)) ≤ max_bytes
 
-plan_over_facts : (s : Sources) (auto : OldAuto) (plan : Plan) → IsSource s.title s.config → plan_over s auto ≡ Ok plan
+pub plan_over_facts : (s : Sources) (auto : OldAuto) (plan : Plan) → IsSource s.title s.config → plan_over s auto ≡ Ok plan
     → PlanFacts auto.texts auto.generation plan
 plan_over_facts s auto plan legal e =
     let made : Plan = record { title = s.title; config = s.config; unknown = s.unknown; old = auto.texts; generation = auto.generation } in
@@ -117,7 +117,7 @@ number_cond true file n g small has = inr (refl, small)
 number_cond false file n g small has = has
 
 -- A command file is neither a stamp nor another file of a synchronisation.
-command_kept : (old new : Files) (plan : Plan) (changed renewed : List (List ℕ)) → AreChanged plan.old plan.config changed
+pub command_kept : (old new : Files) (plan : Plan) (changed renewed : List (List ℕ)) → AreChanged plan.old plan.config changed
     → SyncLeaves old new plan changed renewed → (o : List ℕ) → content new (command_path o) ≡ content old (command_path o)
 command_kept old new plan changed renewed are leaves o = leaves.others (command_path o)
     (λ x among. apart (CommandFile o) (Stamp x) tt (are.legal x among) (λ e. cc))

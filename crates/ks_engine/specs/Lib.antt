@@ -16,6 +16,7 @@ pub mod Shows
 pub mod Views
 pub mod Drafts
 pub mod Follows
+pub mod Impact
 pub mod Actions
 pub mod Verdicts
 pub mod Runs

@@ -4,6 +4,7 @@
 mod commands;
 mod error;
 mod explaining;
+mod impact;
 mod last_sync;
 mod laws;
 mod memos;
@@ -18,6 +19,7 @@ mod tests;
 pub use commands::{Command, Reply, run};
 pub use error::EngineError;
 pub use explaining::{Cause, Explanation, explain, explain_by};
+pub use impact::Impact;
 pub use laws::{
     beginnings_are_shown, other_records_do_not_matter, places_are_first, plans_are_one,
     suspicions_have_causes,

@@ -35,8 +35,8 @@ pub struct Report {
 
 /// What is to be written.
 #[derive(Drop)]
-struct Work {
-    report: Report,
+pub(crate) struct Work {
+    pub(crate) report: Report,
     header: Vec<u8>,
     auto: Vec<u8>,
 }
@@ -70,7 +70,7 @@ fn work_over(alloc: Global, sources: &Sources, old: OldConfig) -> Result<Work, E
 }
 
 /// All steps before the first write.
-fn prepare<T: Tree>(
+pub(crate) fn prepare<T: Tree>(
     alloc: Global,
     tree: &mut T,
     kconfig: &[u8],

@@ -8,6 +8,7 @@ use std::test::Fail;
 
 mod broken_off;
 mod explained;
+mod foreseen;
 mod golden;
 mod texts;
 

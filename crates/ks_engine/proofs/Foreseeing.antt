@@ -1,0 +1,258 @@
+-- The tree that a synchronisation would leave, what is answered over it, and a name among rising ones.
+use Rattle.std.proofs.Common.{◌≡◌, ◌⊎◌, inl, inr, ℕ, zero, suc, ◌+◌, ◌<◌, ◌≤◌, ◌^◌, List, [], ◌∷◌, Option, Some, None, Result, Ok, Err, true, false, ◌||◌, cond, sym, ◌∙◌, ap, refl, subst, arith, length, get_or, true≢false, IsTrue, bytes_eq, nat_cmp}
+use Rattle.std.proofs.lemmas.Bool.{cond-true, cond-false, or_left, or_right, false_from_ne_true}
+use Rattle.std.proofs.lemmas.List.Sorted.{searchable_from_sorted}
+use Rattle.std.proofs.lemmas.Slice.Eq.{bytes_eq-Decides}
+use Rattle.std.specs.Cmp.{tied_itself}
+use Rattle.std.specs.Cmp.Lexicographic.{slice_cmp, nat_list_cmp_total}
+use Rattle.std.specs.FinMap.{insert, get-insert, slice_cmp-IsAntisymmetric, nat_cmp-IsAntisymmetric}
+use Rattle.std.specs.List.{HoldsAt}
+use Rattle.std.specs.List.Sorted.{IsStrictlySortedBy, IsSortedByKey, IsNonDecreasingBy, IsPartitionPoint, IsSearchInRange, IsBinarySearchResult}
+use Rattle.std.specs.Result.{is_ok}
+use Rattle.std.specs.Ordering.{is_lt, is_eq, ordering_reverse, ordering_index}
+use Rattle.std.specs.declared.cmp.Ordering.{Ordering}
+use Rattle.std.specs.declared.cmp.Ordering.TheVariants.{Less, Equal, Greater}
+use Rattle.ks_symbols.specs.Names.{is_name, is_in}
+use Rattle.ks_output.specs.declared.auto_conf.AutoError.{AutoError}
+use Rattle.ks_output.specs.AutoText.{auto_text}
+use Rattle.ks_output.specs.AutoConf.{auto_refusal}
+use Rattle.ks_output.specs.Header.{header_text}
+use Rattle.ks_tree.specs.Files.{Files, content, SameBut, SameButBoth}
+use Rattle.ks_tree.specs.Paths.{auto_path, auto_temporary, header_path, stamp_path, Stamp}
+use Rattle.ks_tree.specs.Stamps.{HasNumber, stamp_text, Touches}
+use Rattle.ks_engine.specs.declared.error.EngineError.{EngineError}
+use Rattle.ks_engine.specs.declared.impact.Impact.{Impact}
+use Rattle.ks_engine.specs.declared.staleness.Verdict.{Verdict}
+use Rattle.ks_engine.specs.declared.synchronise.Report.{Report}
+use Rattle.ks_engine.specs.declared.synchronise.Work.{Work}
+use Rattle.ks_engine.specs.Refusals.{GaveUp, and_then}
+use Rattle.ks_engine.specs.History.{Synced}
+use Rattle.ks_engine.specs.LastSync.{OldAuto, read_unless, old_auto}
+use Rattle.ks_engine.specs.SyncPlan.{Plan, plan_over, IsSyncPlan}
+use Rattle.ks_engine.specs.Synchronised.{AreChanged, SyncDone, IsSynced}
+use Rattle.ks_engine.specs.Asked.{asked, IsAnswer}
+use Rattle.ks_engine.specs.Views.{IsPlanned}
+use Rattle.ks_engine.specs.Impact.{IsImpactOf, AnswersBehind, JudgesBehind, IsBehind}
+use Rattle.ks_engine.proofs.LowerLaws.{generation_back, accepted, small_generation, apart}
+use Rattle.ks_engine.proofs.Reading.{last_some}
+use Rattle.ks_engine.proofs.Writes.{finished, header_stays}
+use Rattle.ks_engine.proofs.Steps.{PlanFacts, plan_over_facts, plan_facts, command_kept, synced_shows}
+use Rattle.ks_engine.proofs.Asking.{stale_judged}
+use Rattle.ks_engine.proofs.Beginnings.{one_plan}
+
+-- ---- a name among rising ones
+
+abbrev pub order : List ℕ → List ℕ → Ordering
+order = slice_cmp nat_cmp
+
+is_equal : (o : Ordering) → is_eq o ≡ true → o ≡ Equal
+is_equal Less e = absurd cc
+is_equal Equal e = refl
+is_equal Greater e = absurd cc
+
+one_text : (x y : List ℕ) → order x y ≡ Equal → x ≡ y
+one_text x y e = slice_cmp-IsAntisymmetric nat_cmp-IsAntisymmetric x y e
+
+found_among : (q : List ℕ) (names : List (List ℕ)) (i : ℕ) → i < length names → HoldsAt (λ n. order n q ≡ Equal) names i → is_in names q ≡ true
+found_among q [] i lt at = absurd (omega arith)
+found_among q (n ∷ names) zero lt at = or_left (bytes_eq q n) _ ((bytes_eq-Decides q n).1 (sym (one_text n q (at n))))
+found_among q (n ∷ names) (suc i) lt at = or_right (bytes_eq q n) _ (found_among q names i (omega arith) at)
+
+nowhere : (q : List ℕ) (names : List (List ℕ)) → ((k : ℕ) (d : List ℕ) → k < length names → order (get_or names k d) q ≡ Equal → ⊥) → is_in names q ≡ false
+nowhere q [] other = refl
+nowhere q (n ∷ names) other =
+    ap (λ b. b || is_in names q) (false_from_ne_true (bytes_eq q n) (λ e. other 0 n (omega arith)
+    (subst (λ (m : List ℕ). order m q ≡ Equal) ((bytes_eq-Decides q n).0 e) (tied_itself nat_list_cmp_total q))))
+    ∙ nowhere q names (λ k d lt. other (suc k) d (omega arith))
+
+rising_at : (names : List (List ℕ)) (k : ℕ) (d : List ℕ) → IsStrictlySortedBy order names → suc k < length names
+    → order (get_or names k d) (get_or names (suc k) d) ≡ Less
+unfolding IsStrictlySortedBy
+rising_at [] k d rising lt = absurd (omega arith)
+rising_at (x ∷ []) k d rising lt = absurd (omega arith)
+rising_at (x ∷ y ∷ names) zero d rising lt = rising.0.0
+rising_at (x ∷ y ∷ names) (suc k) d rising lt = rising_at (y ∷ names) k d rising.1 (omega arith)
+
+sorted_by : (names : List (List ℕ)) → IsStrictlySortedBy order names → IsSortedByKey (λ n. n) order names
+sorted_by names rising k d le lt =
+    let on : suc k ≡ k + 1 = omega arith in
+    subst (λ (n : ℕ). is_lt (order (get_or names n d) (get_or names k d)) ≡ false) on
+    (ap is_lt (nat_list_cmp_total.antisymm (get_or names (suc k) d) (get_or names k d) ∙ ap ordering_reverse (rising_at names k d rising (omega arith))))
+
+searchable : (q : List ℕ) (names : List (List ℕ)) → IsStrictlySortedBy order names → IsNonDecreasingBy (λ n. ordering_index (order n q)) names
+searchable q names rising = searchable_from_sorted nat_list_cmp_total (λ n. n) names q (sorted_by names rising)
+
+split : (k i : ℕ) → (k < i) ⊎ (i ≤ k)
+split zero zero = inr (omega arith)
+split zero (suc i) = inl (omega arith)
+split (suc k) zero = inr (omega arith)
+split (suc k) (suc i) = elim (split k i) [ inl lt ↦ inl (omega arith) | inr ge ↦ inr (omega arith) ]
+
+not_among : (q : List ℕ) (names : List (List ℕ)) (i : ℕ) → IsPartitionPoint (λ n. order n q ≡ Less) (λ n. order n q ≡ Greater) names i
+    → is_in names q ≡ false
+not_among q names i parted = nowhere q names (λ k d lt equal. elim (split k i) [
+  | inl less ↦ less_not_equal (sym (parted.0 k d (omega arith) less) ∙ equal)
+  | inr more ↦ greater_not_equal (sym (parted.1 k d more lt) ∙ equal)
+])
+  where
+    less_not_equal : Less ≡ Equal → ⊥
+    less_not_equal e = cc
+
+    greater_not_equal : Greater ≡ Equal → ⊥
+    greater_not_equal e = cc
+
+-- a search of rising names finds those that are among them
+pub search_tells : (q : List ℕ) (names : List (List ℕ)) (r : Result ℕ ℕ) → IsSearchInRange r (length names)
+    → IsBinarySearchResult (λ n. order n q) names r → IsStrictlySortedBy order names → is_ok r ≡ is_in names q
+search_tells q names (Ok i) range at rising = sym (found_among q names i range at)
+search_tells q names (Err i) range parted rising = sym (not_among q names i (parted (searchable q names rising)))
+
+-- ---- a tree that it leaves
+
+put_here : (files : Files) (p b : List ℕ) → content (insert files p b) p ≡ Some b
+put_here files p b = get-insert nat_list_cmp_total files p b p ∙ cond-true _ _ _ (ap is_eq (tied_itself nat_list_cmp_total p))
+
+put_elsewhere : (files : Files) (p b : List ℕ) → SameBut p files (insert files p b)
+put_elsewhere files p b q other = get-insert nat_list_cmp_total files p b q ∙ cond-false _ _ _
+    (false_from_ne_true (is_eq (order q p)) (λ e. other (one_text q p (is_equal _ e))))
+
+stamped : List (List ℕ) → ℕ → Files → Files
+stamped [] g files = files
+stamped (x ∷ xs) g files = insert (stamped xs g files) (stamp_path x) (stamp_text g)
+
+touched : (files : Files) (g : ℕ) (xs : List (List ℕ)) → ((x : List ℕ) → is_in xs x ≡ true → IsTrue (is_name x)) → Touches xs g files (stamped xs g files)
+unfolding stamped
+touched files g [] legal = record { stamps = λ x name. refl; others = λ q temporary other. refl }
+touched files g (x ∷ xs) legal =
+    let before = touched files g xs (λ y among. legal y (or_right (bytes_eq y x) _ among)) in
+    let is_x = or_left (bytes_eq x x) (is_in xs x) ((bytes_eq-Decides x x).1 refl) in
+    record {
+      stamps = λ y name. (elim (bytes_eq y x) as (λ b. bytes_eq y x ≡ b → content (stamped (x ∷ xs) g files) (stamp_path y)
+          ≡ cond (b || is_in xs y) (Some (stamp_text g)) (content files (stamp_path y))) [
+            | true ↦ λ same. ap (λ z. content (stamped (x ∷ xs) g files) (stamp_path z)) ((bytes_eq-Decides y x).0 same)
+                ∙ put_here (stamped xs g files) (stamp_path x) (stamp_text g)
+            | false ↦ λ other. put_elsewhere (stamped xs g files) (stamp_path x) (stamp_text g) (stamp_path y)
+                (apart (Stamp y) (Stamp x) name (legal x is_x) (not_same y x other)) ∙ before.stamps y name
+          ]) refl;
+      others = λ q temporary other. put_elsewhere (stamped xs g files) (stamp_path x) (stamp_text g) q (other x is_x)
+          ∙ before.others q temporary (λ y among. other y (or_right (bytes_eq y x) _ among));
+    }
+  where
+    not_same : (y x : List ℕ) → bytes_eq y x ≡ false → Stamp y ≡ Stamp x → ⊥
+    not_same y x other e = let same : y ≡ x = cc in true≢false (sym ((bytes_eq-Decides y x).1 same) ∙ other)
+
+leave : Files → Plan → List (List ℕ) → Files
+leave files plan names =
+    insert (insert (stamped names (plan.generation + 1) files) header_path (header_text plan.title plan.config))
+    auto_path (auto_text plan.title plan.config (plan.generation + 1))
+
+done_by : (files : Files) (plan : Plan) (names : List (List ℕ)) → AreChanged plan.old plan.config names → SyncDone files (leave files plan names) plan names
+unfolding leave
+done_by files plan names are =
+    let g = plan.generation + 1 in
+    let one = stamped names g files in
+    let two = insert one header_path (header_text plan.title plan.config) in
+    let three = insert two auto_path (auto_text plan.title plan.config g) in
+    let made = put_here one header_path (header_text plan.title plan.config) in
+    let here = put_here two auto_path (auto_text plan.title plan.config g) in
+    let others_then : SameButBoth auto_temporary auto_path two three = λ q temporary other. put_elsewhere two auto_path _ q other in
+    record {
+      leaves = finished files plan names are g one two three refl (touched files g names are.legal)
+          (λ q temporary other. put_elsewhere one header_path _ q other) made others_then (inr here);
+      header = header_stays files plan names are two three others_then ∙ made;
+      auto = here;
+    }
+
+pub impact_told : (files : Files) (k d : List ℕ) (work : Work) → IsPlanned files k d work → IsImpactOf files k d (record { report = work.report })
+impact_told files k d work planned =
+    let plan = planned.0 in (
+      leave files plan work.report.touched.items,
+      record {
+        plan = plan;
+        planned = planned.1;
+        generation = planned.2.generation;
+        unknown = planned.2.unknown;
+        changed = planned.2.changed;
+        done = done_by files plan work.report.touched.items planned.2.changed;
+      },
+    )
+
+-- ---- what stands in each such tree
+
+old_fits : (file : Option (List ℕ)) (auto : OldAuto) → old_auto file ≡ Ok auto → auto.generation < 2 ^ 64
+unfolding old_auto
+old_fits None auto is = subst (λ (a : OldAuto). a.generation < 2 ^ 64) (ok_ok _ auto is) (omega arith)
+  where
+    ok_ok : (a b : OldAuto) → ◌≡◌ {A = Result OldAuto EngineError} (Ok a) (Ok b) → a ≡ b
+    ok_ok a b e = cc
+old_fits (Some b) auto is = fits (auto_refusal b) is
+  where
+    ok_ok : (a b : OldAuto) → ◌≡◌ {A = Result OldAuto EngineError} (Ok a) (Ok b) → a ≡ b
+    ok_ok a b e = cc
+
+    fits : (r : Option AutoError) → read_unless r b ≡ Ok auto → auto.generation < 2 ^ 64
+    fits None is = subst (λ (a : OldAuto). a.generation < 2 ^ 64) (ok_ok _ auto is) (small_generation b)
+    fits (Some e) is = absurd cc
+
+-- what stands where a plan was made, also over files that show no history
+plan_stands : (files : Files) (k d : List ℕ) (plan : Plan) → IsSyncPlan files k d (Ok plan) → (auto : OldAuto) × (old_auto (content files auto_path) ≡ Ok auto)
+    × PlanFacts auto.texts auto.generation plan
+plan_stands files k d plan (inl refused) = absurd (ok_err plan _ refused.2)
+  where
+    ok_err : (p : Plan) (e : EngineError) → Ok p ≡ Err e → ⊥
+    ok_err p e q = cc
+plan_stands files k d plan (inr made) = over (old_auto (content files auto_path)) made.2
+  where
+    over : (r : Result OldAuto EngineError) → Ok plan ≡ and_then r (plan_over made.0) → (auto : OldAuto) × (r ≡ Ok auto) × PlanFacts auto.texts auto.generation plan
+    over (Ok auto) is = (auto, refl, plan_over_facts made.0 auto plan made.1.legal (sym is))
+    over (Err e) is = absurd cc
+
+behind : (files after : Files) (k d : List ℕ) (impact : Impact) (report : Report) → IsImpactOf files k d impact → IsSynced files after k d report
+    → IsBehind files after impact
+behind files after k d impact report told synced =
+    let plan = synced.plan in
+    let same : told.1.plan ≡ plan = ok_ok _ _ (one_plan files k d (Ok told.1.plan) (Ok plan) told.1.planned synced.planned) in
+    let stands = plan_stands files k d plan synced.planned in
+    let facts = stands.2 in
+    let fits = old_fits (content files auto_path) stands.0 stands.1 in
+    let was = facts.same_generation in
+    let room = facts.room in
+    let small : plan.generation + 1 < 2 ^ 64 = omega arith in
+    let g : impact.report.generation ≡ plan.generation + 1 = told.1.generation ∙ ap (λ (p : Plan). p.generation + 1) same in
+    let changed = subst (λ (p : Plan). AreChanged p.old p.config impact.report.touched.items) same told.1.changed in
+    let agree : (x : List ℕ) → is_in report.touched.items x ≡ is_in impact.report.touched.items x = λ x. synced.changed.are.each x ∙ sym (changed.are.each x) in
+    record {
+      rising = told.1.changed.are.rising;
+      generation = last_some (content after auto_path) (auto_text plan.title plan.config (plan.generation + 1)) (plan.generation + 1) synced.done.auto
+          (accepted plan.title plan.config (plan.generation + 1) facts.source.title facts.source.config small facts.small)
+          (sym (generation_back plan.title plan.config (plan.generation + 1) facts.source.title facts.source.config small)) (λ e. omega arith)
+          ∙ ap (λ n. Ok n) (sym g);
+      touched = λ x name among. subst (HasNumber (content after (stamp_path x))) (sym g)
+          (subst (λ file. HasNumber file (plan.generation + 1))
+          (sym (synced.done.leaves.stamps x name ∙ cond-true _ _ _ (agree x ∙ among))) (inr (refl, small)));
+      others = λ x name none. synced.done.leaves.stamps x name ∙ cond-false _ _ _ (agree x ∙ none);
+      commands = command_kept files after plan report.touched.items report.touched.items synced.changed synced.done.leaves;
+    }
+  where
+    ok_ok : (p q : Plan) → ◌≡◌ {A = Result Plan EngineError} (Ok p) (Ok q) → p ≡ q
+    ok_ok p q e = cc
+
+-- what is answered over all that stands so is answered, and judged, over each tree that it leaves
+abbrev pub AnswersOver : Files → Impact → List ℕ → Result Verdict EngineError → Type 0
+AnswersOver files impact o answer = (after : Files) → IsBehind files after impact → GaveUp answer ⊎ IsAnswer after (asked after o) answer
+
+pub answers_behind : (files : Files) (k d o : List ℕ) (impact : Impact) (answer : Result Verdict EngineError) → AnswersOver files impact o answer
+    → IsImpactOf files k d impact → AnswersBehind files k d o answer
+answers_behind files k d o impact answer said told = λ after report synced. said after (behind files after k d impact report told synced)
+
+pub judges_behind : (files : Files) (k d o : List ℕ) (impact : Impact) (answer : Result Verdict EngineError) → AnswersOver files impact o answer
+    → IsImpactOf files k d impact → JudgesBehind files k d o answer
+judges_behind files k d o impact answer said told = λ after report synced h r shows last.
+    let plan = synced.plan in
+    stale_judged after (Synced plan.title plan.config h) o r answer (said after (behind files after k d impact report told synced))
+    (synced_shows files after h plan report.touched.items report.touched.items shows (plan_facts files h k d plan shows synced.planned) synced.changed
+    synced.done.leaves refl synced.done.header synced.done.auto) last
+
+-- files that were only read stand so as well
+pub still_behind : (files mid after : Files) (impact : Impact) → mid ≡ files → IsBehind files after impact → IsBehind mid after impact
+still_behind files mid after impact same is = subst (λ f. IsBehind f after impact) (sym same) is

@@ -1,8 +1,8 @@
 //! The tokens of a dependency file. Compilers put a backslash at the end of a line that goes on; here it
 //! stands between tokens as a space does, so no line has to be put together.
-ghost use Rattle.std.specs.Prelude.{◌≡◌, ◌≤◌, ◌-◌, length, option_map, slice_get};
+ghost use Rattle.std.specs.Prelude.{◌≡◌, ◌≤◌, ◌-◌, IsTrue, length, option_map, slice_get};
 ghost use Rattle.std.specs.Iterator.{YieldsFirstRef, item_count};
-ghost use Rattle.std.specs.List.{prefix_len};
+ghost use Rattle.std.specs.List.{list_all, prefix_len};
 ghost use Rattle.ks_fixdep.specs.Tokens.{is_separator, is_other, tokens};
 
 /// Whether a byte stands between tokens: a space, a tab, a backslash, a CR or an LF.
@@ -28,12 +28,36 @@ fn leading_separators(text: &[u8]) -> usize
     end
 }
 
+/// How many bytes are looked at side by side.
+const GROUP: usize = 16;
+
+/// Whether a byte comes behind the space and is no backslash. Such a byte doesn't stand between tokens.
+fn is_plain(byte: u8) -> bool
+    ensures { IsTrue result → IsTrue (is_other byte) }
+{
+    (byte > b' ') & (byte != b'\\')
+}
+
+/// Whether all bytes are plain.
+fn are_plain(bytes: &[u8]) -> bool
+    ensures { IsTrue result → IsTrue (list_all is_other bytes.now) }
+{
+    let mut all = true;
+    for byte in bytes {
+        all &= is_plain(*byte);
+    }
+    all
+}
+
 /// How many other bytes the text begins with.
 fn leading_others(text: &[u8]) -> usize
     ensures count { result ≡ prefix_len is_other text.now }
     ensures fits { result ≤ length text.now }
 {
     let mut end = 0;
+    while text.len() - end >= GROUP && are_plain(&text[end..end + GROUP]) {
+        end += GROUP;
+    }
     while end < text.len() && !separates(text[end]) {
         end += 1;
     }

@@ -16,7 +16,8 @@ use Rattle.ks_fixdep.specs.declared.dependency_file.Role.TheVariants as role
 use Rattle.ks_fixdep.specs.declared.command_file.lent.LentDep.{LentDep}
 use Rattle.ks_fixdep.specs.Lent.{seen_dep}
 use Rattle.ks_fixdep.specs.CommandFile.{Record as CommandRecord, is_dep, IsLegal}
-use Rattle.ks_fixdep.specs.FoundNames.{noted, all_noted}
+use Rattle.ks_symbols.specs.Interner.{noted}
+use Rattle.ks_fixdep.specs.FoundNames.{all_noted}
 use Rattle.ks_fixdep.specs.Record.{config_names, new_names, deps_after, source_of, record_of}
 use Rattle.ks_tree.specs.Files.{Files, content, IsTooLarge}
 use Rattle.ks_tree.specs.Paths.{auto_path, stamp_path, command_path}

@@ -12,13 +12,13 @@ use Rattle.std.specs.Result.{is_ok}
 use Rattle.std.specs.Ordering.{is_lt, is_eq, ordering_reverse, ordering_index}
 use Rattle.std.specs.declared.cmp.Ordering.{Ordering}
 use Rattle.std.specs.declared.cmp.Ordering.TheVariants.{Less, Equal, Greater}
-use Rattle.ks_symbols.specs.Names.{is_name, is_in}
+use Rattle.ks_symbols.specs.Names.{is_name, is_in, header_path}
 use Rattle.ks_output.specs.declared.auto_conf.AutoError.{AutoError}
 use Rattle.ks_output.specs.AutoText.{auto_text}
 use Rattle.ks_output.specs.AutoConf.{auto_refusal}
 use Rattle.ks_output.specs.Header.{header_text}
 use Rattle.ks_tree.specs.Files.{Files, content, SameBut, SameButBoth}
-use Rattle.ks_tree.specs.Paths.{auto_path, auto_temporary, header_path, stamp_path, Stamp}
+use Rattle.ks_tree.specs.Paths.{auto_path, auto_temporary, stamp_path, Stamp}
 use Rattle.ks_tree.specs.Stamps.{HasNumber, stamp_text, Touches}
 use Rattle.ks_engine.specs.declared.error.EngineError.{EngineError}
 use Rattle.ks_engine.specs.declared.impact.Impact.{Impact}

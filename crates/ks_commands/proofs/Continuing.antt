@@ -6,7 +6,7 @@ use Rattle.ks_engine.specs.declared.commands.Reply.{Reply}
 use Rattle.ks_engine.specs.declared.error.EngineError.{EngineError}
 use Rattle.ks_engine.specs.declared.synchronise.Report.{Report}
 use Rattle.ks_engine.specs.Actions.{Action}
-use Rattle.ks_engine.specs.Follows.{State, at, FollowsSync}
+use Rattle.ks_engine.specs.Follows.{TreeState, at, FollowsSync}
 use Rattle.ks_engine.specs.History.{History}
 use Rattle.ks_engine.specs.Refusals.{IsGivenUp}
 use Rattle.ks_engine.specs.Runs.{FollowsStale, Run}
@@ -25,12 +25,12 @@ sync_leaves old mid new k k' d d' answer same same_k same_d leaves =
     (subst (λ (x : List ℕ). LeavesSync mid new x d' answer) same_k (subst (λ (x : List ℕ). LeavesSync mid new k x answer) same_d leaves))
 
 -- what was counted before does not matter to a synchronisation
-counted_aside : (old : Files) (m n : ℕ) (h : History) (k d : List ℕ) (answer : Result Report EngineError) (new : State)
+counted_aside : (old : Files) (m n : ℕ) (h : History) (k d : List ℕ) (answer : Result Report EngineError) (new : TreeState)
     → FollowsSync k d answer (at old m h) new → FollowsSync k d answer (at old n h) new
 counted_aside old m n h k d (Ok report) new f = record { files = f.files; history = f.history; generation = f.generation; changed = f.changed }
 counted_aside old m n h k d (Err e) new f = f
 
-pub sync_follows : (old mid : Files) (m n : ℕ) (h : History) (k k' d d' : List ℕ) (answer : Result Report EngineError) (new : State) → mid ≡ old → k ≡ k' → d
+pub sync_follows : (old mid : Files) (m n : ℕ) (h : History) (k k' d d' : List ℕ) (answer : Result Report EngineError) (new : TreeState) → mid ≡ old → k ≡ k' → d
     ≡ d'
     → FollowsSync k d answer (at mid n h) new → FollowsSync k' d' answer (at old m h) new
 sync_follows old mid m n h k k' d d' answer new same same_k same_d follows =
@@ -57,7 +57,7 @@ runs_all A B P Q asked actions ended f g are (inl stopped) = inl (f stopped.0, s
 runs_all A B P Q asked actions ended f g are (inr ran) = subst (λ (acts : List Action). RunsAll B Q acts ended) are (inr (ran.0, g ran.0 ran.1, ran.2))
 
 -- a run behind the reads of its script
-pub run_follows : (old mid : Files) (m n : ℕ) (h : History) (asked actions : List Action) (replies : List Reply) (new : State) → mid ≡ old → m ≤ n → asked
+pub run_follows : (old mid : Files) (m n : ℕ) (h : History) (asked actions : List Action) (replies : List Reply) (new : TreeState) → mid ≡ old → m ≤ n → asked
     ≡ actions
     → Run (at mid n h) asked replies new → Runs (at old m h) new actions replies
 run_follows old mid m n h asked actions replies new same later are run =

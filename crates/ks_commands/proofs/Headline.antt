@@ -8,7 +8,7 @@ use Rattle.ks_engine.specs.declared.error.EngineError.{EngineError}
 use Rattle.ks_engine.specs.declared.recording.Recorded.{Recorded as RecordAnswer}
 use Rattle.ks_engine.specs.declared.synchronise.Report.{Report}
 use Rattle.ks_engine.specs.Actions.{Action, Sync, Record, Stale}
-use Rattle.ks_engine.specs.Follows.{State, FollowsSync, FollowsRecord}
+use Rattle.ks_engine.specs.Follows.{TreeState, FollowsSync, FollowsRecord}
 use Rattle.ks_engine.specs.History.{NoneBroken}
 use Rattle.ks_engine.specs.Runs.{FollowsStale, Leads, Leaves, Step}
 use Rattle.ks_engine.specs.Verdicts.{IsGivenUpSync}
@@ -23,7 +23,7 @@ use Rattle.ks_commands.specs.Targets.{targets_at}
 
 -- ---- none was broken off before a step where none is behind it
 
-none_before_sync : (k d : List ℕ) (answer : Result Report EngineError) (old new : State) → FollowsSync k d answer old new → NoneBroken new.history
+none_before_sync : (k d : List ℕ) (answer : Result Report EngineError) (old new : TreeState) → FollowsSync k d answer old new → NoneBroken new.history
     → NoneBroken old.history
 none_before_sync k d (Ok report) old new is none = subst NoneBroken is.history none
 none_before_sync k d (Err e) old new (inl plain) none = subst NoneBroken plain.1.1 none
@@ -31,7 +31,7 @@ none_before_sync k d (Err e) old new (inr (given, inl same)) none = subst NoneBr
 none_before_sync k d (Err e) old new (inr (given, inr (broken, inl event))) none = absurd (subst NoneBroken event none)
 none_before_sync k d (Err e) old new (inr (given, inr (broken, inr event))) none = subst NoneBroken event none
 
-none_before_record : (d t c : List ℕ) (answer : Result RecordAnswer EngineError) (old new : State) → FollowsRecord d t c answer old new
+none_before_record : (d t c : List ℕ) (answer : Result RecordAnswer EngineError) (old new : TreeState) → FollowsRecord d t c answer old new
     → NoneBroken new.history → NoneBroken old.history
 none_before_record d t c (Ok answer) old new is none =
     ⊎_elim (λ claimed. subst NoneBroken claimed.1.2 none) (λ unclaimed. subst NoneBroken unclaimed.1 none) is.history
@@ -40,7 +40,7 @@ none_before_record d t c (Err e) old new (inr (given, inl same)) none = subst No
 none_before_record d t c (Err e) old new (inr (given, inr (tried, inl kept))) none = subst NoneBroken kept none
 none_before_record d t c (Err e) old new (inr (given, inr (tried, inr event))) none = subst NoneBroken event.2 none
 
-none_before_step : (a : Action) (r : Reply) (old new : State) → Leaves old a r new → NoneBroken new.history → NoneBroken old.history
+none_before_step : (a : Action) (r : Reply) (old new : TreeState) → Leaves old a r new → NoneBroken new.history → NoneBroken old.history
 none_before_step (Sync k d) (Synced report) old new is none = none_before_sync k d (Ok report) old new is none
 none_before_step (Sync k d) (Refused e) old new is none = none_before_sync k d (Err e) old new is none
 none_before_step (Sync k d) (Recorded answer) old new is none = absurd is
@@ -54,13 +54,13 @@ none_before_step (Stale o) (Refused e) old new is none = subst NoneBroken is.sam
 none_before_step (Stale o) (Synced report) old new is none = absurd is
 none_before_step (Stale o) (Recorded answer) old new is none = absurd is
 
-none_before_steps : (first : State) (steps : List Step) (last : State) → Leads first steps last → NoneBroken last.history → NoneBroken first.history
-none_before_steps first [] last leads none = subst (λ (s : State). NoneBroken s.history) leads none
+none_before_steps : (first : TreeState) (steps : List Step) (last : TreeState) → Leads first steps last → NoneBroken last.history → NoneBroken first.history
+none_before_steps first [] last leads none = subst (λ (s : TreeState). NoneBroken s.history) leads none
 none_before_steps first (s ∷ ss) last leads none =
-    subst (λ (t : State). NoneBroken t.history) leads.0 (none_before_step s.action s.reply s.before s.after leads.1.leaves
+    subst (λ (t : TreeState). NoneBroken t.history) leads.0 (none_before_step s.action s.reply s.before s.after leads.1.leaves
     (none_before_steps s.after ss last leads.3 none))
 
-none_before_program : (r : Request) (ended : Ending) (old new : State) → Continues r ended old new → NoneBroken new.history → NoneBroken old.history
+none_before_program : (r : Request) (ended : Ending) (old new : TreeState) → Continues r ended old new → NoneBroken new.history → NoneBroken old.history
 none_before_program (request.Sync k d) ended old new (inl stopped) none = subst NoneBroken stopped.0.1 none
 none_before_program (request.Sync k d) ended old new (inr synced) none = none_before_sync _ _ synced.2 old new synced.3 none
 none_before_program (request.Preview k d o) ended old new is none = subst NoneBroken is.0.1 none
@@ -74,14 +74,14 @@ none_before_program (request.Batch p) ended old new (inr (actions, at, inl memor
 none_before_program (request.Batch p) ended old new (inr (actions, at, inr ran)) none =
     none_before_steps _ ran.1.2.steps new ran.1.2.leads none
 
-none_at_first : (first : State) (runs : List ProgramRun) (last : State) → Chain first runs last → NoneBroken last.history → NoneBroken first.history
+none_at_first : (first : TreeState) (runs : List ProgramRun) (last : TreeState) → Chain first runs last → NoneBroken last.history → NoneBroken first.history
 none_at_first first [] last same none = subst NoneBroken same.1 none
 none_at_first first (run ∷ runs) last chain none =
     subst NoneBroken chain.0.1 (none_before_program run.request run.ended run.before run.after chain.1 (none_at_first run.after runs last chain.3 none))
 
 -- ---- what is told then
 
-stale_tells : (old new : State) (targets : Result (List (List ℕ)) EngineError) (ended : Ending) → NoneBroken old.history
+stale_tells : (old new : TreeState) (targets : Result (List (List ℕ)) EngineError) (ended : Ending) → NoneBroken old.history
     → EndsStale (by_histories old new) targets ended → EndsStale (changes_told old) targets ended
 stale_tells old new targets ended none (inl stopped) = inl stopped
 stale_tells old new targets ended none (inr (objects, there, text, status, are, tells)) = inr (
@@ -100,7 +100,7 @@ stale_tells old new targets ended none (inr (objects, there, text, status, are, 
   tells,
 )
 
-program_tells : (r : Request) (ended : Ending) (old new : State) → Continues r ended old new → NoneBroken new.history
+program_tells : (r : Request) (ended : Ending) (old new : TreeState) → Continues r ended old new → NoneBroken new.history
     → ProgramTellsChanges (record { before = old; request = r; ended = ended; after = new })
 program_tells (request.Sync k d) ended old new (inl stopped) none = inl (tt, stopped.1)
 program_tells (request.Sync k d) ended old new (inr synced) none = inr (synced.0, synced.1, synced.2, tt, synced.4)

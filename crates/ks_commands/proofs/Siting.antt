@@ -4,7 +4,7 @@ use Rattle.ks_tree.specs.declared.tree.Tree.{Ghosts}
 use Rattle.ks_tree.specs.Files.{Files}
 use Rattle.ks_tree.specs.Frames.{Reads}
 use Rattle.ks_engine.specs.declared.error.EngineError.TheVariants.{OutOfMemory}
-use Rattle.ks_engine.specs.Follows.{State, at}
+use Rattle.ks_engine.specs.Follows.{TreeState, at}
 use Rattle.ks_engine.specs.History.{History}
 use Rattle.ks_engine.specs.Shows.{Shows}
 use Rattle.ks_commands.specs.declared.refusal.Refusal.{Refusal}
@@ -68,7 +68,7 @@ no_memory : {C : Type 0} (r : Refusal) → r ≢ Engine OutOfMemory → ◌≡�
 no_memory r plain is = absurd (plain cc)
 
 -- What is counted behind a refusal does not matter to it.
-counted_behind : (asked : Request) (r : Refusal) (old : State) (files : Files) (m n : ℕ) (h : History) → r ≢ Engine OutOfMemory
+counted_behind : (asked : Request) (r : Refusal) (old : TreeState) (files : Files) (m n : ℕ) (h : History) → r ≢ Engine OutOfMemory
     → Continues asked (Err r) old (at files m h) → Continues asked (Err r) old (at files n h)
 counted_behind (request.Sync k d) r old files m n h plain (inl stopped) = inl stopped
 counted_behind (request.Sync k d) r old files m n h plain (inr (t, there, Ok report, synced, told)) = absurd (plain told)

@@ -2,7 +2,7 @@
 use Rattle.std.specs.Prelude.{◌≡◌, ◌⊎◌, ◌<◌, ◌≤◌, ℕ, List, Option, Err, IfOk, Ok}
 use Rattle.std.specs.List.{All}
 use Rattle.ks_tree.specs.Files.{Files}
-use Rattle.ks_engine.specs.Follows.{State}
+use Rattle.ks_engine.specs.Follows.{TreeState}
 use Rattle.ks_engine.specs.History.{NoneBroken}
 use Rattle.ks_commands.specs.declared.refusal.Refusal.{Refusal}
 use Rattle.ks_commands.specs.declared.request.Request.{Request}
@@ -45,9 +45,9 @@ StatusesAreAtMostTwo = (ended : Ending) (behind : List ℕ) (before after err_be
 
 -- A script that runs without a refusal, after a history without a broken synchronisation, tells what changed.
 abbrev pub BatchTellsChanges : Type 0
-BatchTellsChanges = (path : List ℕ) (o : Outcome) (old new : State) → code_of o.status < 2 → NoneBroken old.history
+BatchTellsChanges = (path : List ℕ) (o : Outcome) (old new : TreeState) → code_of o.status < 2 → NoneBroken old.history
     → EndsBatch old.files (by_histories old new) path (Ok o) → EndsBatch old.files (changes_told old) path (Ok o)
 
 -- So does each of any list of runs of the program, of which no synchronisation was broken off.
 abbrev pub ProgramsTellChanges : Type 0
-ProgramsTellChanges = (first last : State) (runs : List ProgramRun) → Chain first runs last → NoneBroken last.history → All ProgramTellsChanges runs
+ProgramsTellChanges = (first last : TreeState) (runs : List ProgramRun) → Chain first runs last → NoneBroken last.history → All ProgramTellsChanges runs

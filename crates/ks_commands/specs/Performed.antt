@@ -13,9 +13,9 @@ use Rattle.ks_engine.specs.declared.staleness.BuildState.{BuildState}
 use Rattle.ks_engine.specs.declared.staleness.Verdict.{Verdict}
 use Rattle.ks_engine.specs.Actions.{Action}
 use Rattle.ks_engine.specs.Asked.{asked, IsAnswer}
-use Rattle.ks_engine.specs.Built.{built, IsBuilt}
-use Rattle.ks_engine.specs.Follows.{State, at, IsSame, GoesOn, FollowsSync, FollowsRecord}
-use Rattle.ks_engine.specs.History.{History, Record as LastRecord, last_record}
+use Rattle.ks_engine.specs.BuildStates.{build_asked, IsBuildState}
+use Rattle.ks_engine.specs.Follows.{TreeState, at, IsSame, GoesOn, FollowsSync, FollowsRecord}
+use Rattle.ks_engine.specs.History.{History, LastRecord, last_record}
 use Rattle.ks_engine.specs.Judged.{IsJudged, IsBuildJudged}
 use Rattle.ks_engine.specs.Recorded.{IsRecorded, IsRecordRefused}
 use Rattle.ks_engine.specs.Refusals.{Answers, GaveUp, IsGivenUp}
@@ -137,7 +137,7 @@ pub record IsAnswerOn (files : Files) (o : List ℕ) (answer : Result Verdict En
   pub recorded : (h : History) (r : LastRecord) → Shows files h → last_record h o ≡ Some r → IsJudged files h o r answer
 
 pub record IsStateOf (files : Files) (o command : List ℕ) (answer : Result BuildState EngineError) : Type 0 where
-  pub by_files : GaveUp answer ⊎ IsBuilt files (built files o command) answer
+  pub by_files : GaveUp answer ⊎ IsBuildState files (build_asked files o command) answer
   pub recorded : IsTrue (is_command command) → (h : History) (r : LastRecord)
       → Shows files h → last_record h o ≡ Some r → IsBuildJudged files h o command r answer
 
@@ -155,16 +155,16 @@ by_files old new = record {
 -- ---- by histories
 
 -- of an object and a command
-pub record FollowsOutdated (old : State) (o command : List ℕ) (answer : Result BuildState EngineError) (new : State) : Type 0 where
+pub record FollowsOutdated (old : TreeState) (o command : List ℕ) (answer : Result BuildState EngineError) (new : TreeState) : Type 0 where
   pub same : IsSame old new
-  pub by_files : GaveUp answer ⊎ IsBuilt old.files (built old.files o command) answer
+  pub by_files : GaveUp answer ⊎ IsBuildState old.files (build_asked old.files o command) answer
   pub recorded : IsTrue (is_command command) → (r : LastRecord) → last_record old.history o ≡ Some r → IsBuildJudged old.files old.history o command r answer
 
 -- The files of a script are read before its run begins.
-abbrev pub Runs : State → State → List Action → List Reply → Type 0
+abbrev pub Runs : TreeState → TreeState → List Action → List Reply → Type 0
 Runs old new actions replies = (failures : ℕ) × (old.failures ≤ failures) × Run (at old.files failures old.history) actions replies new
 
-abbrev pub by_histories : State → State → Effects
+abbrev pub by_histories : TreeState → TreeState → Effects
 by_histories old new = record {
   same = IsSame old new;
   sync = λ k d answer. FollowsSync k d answer old new;
@@ -175,7 +175,7 @@ by_histories old new = record {
 }
 
 -- The next state of a tree, by this request that ended so.
-abbrev pub Continues : Request → Ending → State → State → Type 0
+abbrev pub Continues : Request → Ending → TreeState → TreeState → Type 0
 Continues request ended old new = Ends old.files (by_histories old new) request ended
 
 -- ---- both

@@ -6,8 +6,8 @@ use Rattle.ks_engine.specs.declared.error.EngineError.{EngineError}
 use Rattle.ks_engine.specs.declared.staleness.Verdict.{Verdict}
 use Rattle.ks_engine.specs.declared.staleness.Verdict.TheVariants.{Fresh}
 use Rattle.ks_engine.specs.Actions.{Action}
-use Rattle.ks_engine.specs.Follows.{State, IsSame}
-use Rattle.ks_engine.specs.History.{Record as LastRecord, last_record}
+use Rattle.ks_engine.specs.Follows.{TreeState, IsSame}
+use Rattle.ks_engine.specs.History.{LastRecord, last_record}
 use Rattle.ks_engine.specs.Judged.{HasSameDefinitions}
 use Rattle.ks_engine.specs.Refusals.{GaveUp}
 use Rattle.ks_engine.specs.Runs.{IsShown, Step}
@@ -18,19 +18,19 @@ use Rattle.ks_commands.specs.Endings.{Ending}
 use Rattle.ks_commands.specs.Performed.{Continues, Effects, Ends}
 
 pub record ProgramRun : Type 0 where
-  pub before : State
+  pub before : TreeState
   pub request : Request
   pub ended : Ending
-  pub after : State
+  pub after : TreeState
 
 -- Each begins with the files and the history that the one before it left, and goes on as `perform` promises.
-abbrev pub Chain : State → List ProgramRun → State → Type 0
+abbrev pub Chain : TreeState → List ProgramRun → TreeState → Type 0
 Chain first [] last = IsSame first last
 Chain first (run ∷ runs) last =
     IsSame first run.before × Continues run.request run.ended run.before run.after × IsShown run.after × Chain run.after runs last
 
 -- What is answered of a recorded object is the first of its names that changed since the record. Fresh, the header defines its names as then.
-pub record TellsChange (s : State) (o : List ℕ) (answer : Result Verdict EngineError) : Type 0 where
+pub record TellsChange (s : TreeState) (o : List ℕ) (answer : Result Verdict EngineError) : Type 0 where
   pub changed : (r : LastRecord) → last_record s.history o ≡ Some r → GaveUp answer ⊎ (answer ≡ Ok (verdict (first_changed s.history o)))
   pub safe : (r : LastRecord) → last_record s.history o ≡ Some r → answer ≡ Ok Fresh → HasSameDefinitions s.files r
 
@@ -39,7 +39,7 @@ abbrev pub StepsTellChanges : List Action → List Reply → Type 0
 StepsTellChanges actions replies = (steps : List Step) × (map (λ step. step.action) steps ≡ actions) × (map (λ step. step.reply) steps ≡ replies)
     × All (λ step. IsChangedVerdict step.before.history step.action step.reply) steps
 
-abbrev pub changes_told : State → Effects
+abbrev pub changes_told : TreeState → Effects
 changes_told s = record {
   same = ⊤;
   sync = λ k d answer. ⊤;

@@ -5,15 +5,11 @@
 ghost use Rattle.std.specs.Prelude.{◌≡◌, ◌⊎◌, ◌≤◌, ◌<◌, ◌++◌, Err, IfErr, IfOk, IsErrOf, Ok, OnOk, flat_map, length, option_map};
 ghost use Rattle.std.specs.FinMap as map;
 ghost use Rattle.ks_symbols.specs.Configuration.{IsConfiguration};
-ghost use Rattle.ks_symbols.specs.Values.{quoted};
 ghost use Rattle.ks_output.specs.AutoText.{auto_text};
 ghost use Rattle.ks_output.specs.OldConfig.{HasNames};
 ghost use Rattle.ks_compare.specs.Changes.{compared};
-ghost use Rattle.ks_tree.specs.Files.{content};
 ghost use Rattle.ks_tree.specs.Frames.{Reads};
-ghost use Rattle.ks_tree.specs.Paths.{auto_path};
-ghost use Rattle.ks_engine.specs.LastSync.{old_auto};
-ghost use Rattle.ks_engine.specs.Refusals.{Answers, IsGivenUp};
+ghost use Rattle.ks_engine.specs.Refusals.{IsGivenUp};
 ghost use Rattle.ks_engine.specs.SyncPlan.{IsSyncPlan, Plan, plan_over};
 ghost use Rattle.ks_engine.specs.Views.{old_of, sources_of};
 ghost use Rattle.ks_engine.specs.declared.error.EngineError.TheVariants.{Device};
@@ -26,10 +22,10 @@ ghost use Rattle.ks_commands.specs.declared.status.Status.TheVariants.{Done};
 use crate::inputs::texts_at;
 use crate::refusal::Refusal;
 use crate::status::{Outcome, Status};
-use ks_engine::{EngineError, Sources, plan, read_sources};
-use ks_output::{OldConfig, read_auto, write_auto};
+use ks_engine::{EngineError, Sources, plan, read_old, read_sources};
+use ks_output::{OldConfig, write_auto, write_quoted};
 use ks_symbols::{Class, MAX_BYTES, Name, Settings};
-use ks_tree::{Tree, auto_path};
+use ks_tree::Tree;
 use std::alloc::{AllocError, Global};
 
 /// The class and the text of a name. An entry of the untyped form has no class.
@@ -68,21 +64,6 @@ fn class_word(class: Option<Class>) -> &'static [u8]
         Some(Class::Int) => b"int",
         Some(Class::Hex) => b"hex",
     }
-}
-
-/// Appends a string as a `.config` has it.
-fn write_quoted(value: &[u8], text: &mut Vec<u8>) -> Result<(), AllocError>
-    ensures { OnOk result (text.new.items ≡ text.old.items ++ quoted value.now) }
-{
-    text.push(b'"')?;
-    for byte in value {
-        if *byte == b'"' || *byte == b'\\' {
-            text.push(b'\\')?;
-        }
-        text.push(*byte)?;
-    }
-    text.push(b'"')?;
-    Ok(())
 }
 
 /// Appends what a name has.
@@ -155,18 +136,6 @@ fn write_changes(
     Ok(())
 }
 
-/// What the last synchronisation left in auto.conf, or nothing where that is missing.
-fn last_config<T: Tree>(alloc: Global, tree: &mut T) -> Result<OldConfig, EngineError>
-    ensures reads { Reads T.Tree tree.old tree.new (IsErrOf result EngineError.Device) }
-    ensures read { T.is_honest → Answers (old_auto (content (T.files tree.old) auto_path)) old_of result }
-    ensures names { IfOk result (λ old. HasNames old.texts) }
-{
-    match tree.read(alloc, auto_path())? {
-        Some(text) => Ok(read_auto(alloc, &text)?),
-        None => Ok(OldConfig::empty(alloc)),
-    }
-}
-
 /// Refuses an auto.conf that would be too long to be read again, as a synchronisation does.
 fn check_length(alloc: Global, sources: &Sources, generation: u64) -> Result<(), EngineError>
     ensures fits { OnOk result (length (auto_text sources.now.title.items sources.now.settings.entries generation) ≤ 67108864) }
@@ -211,7 +180,7 @@ fn differences<T: Tree>(
     ensures refused { T.is_honest → IfErr result (λ e. IsGivenUp e ⊎ IsSyncPlan (T.files tree.old) kconfig.now dotconfig.now (Err e)) }
 {
     let sources = read_sources(alloc, kconfig, dotconfig)?;
-    let old = last_config(alloc, tree)?;
+    let old = read_old(alloc, tree)?;
     changes_over(alloc, &sources, &old)
 }
 

@@ -10,7 +10,7 @@ use Rattle.ks_fixdep.specs.declared.command_file.Dep.TheVariants.{File, Config}
 use Rattle.std.proofs.lemmas.List.{get_or-map, length-map}
 use Rattle.ks_fixdep.specs.declared.command_file.lent.LentDep.{LentDep}
 use Rattle.ks_fixdep.specs.Lent.{seen_dep}
-use Rattle.ks_fixdep.specs.CommandFile.{Record as CommandRecord, is_command, is_dep}
+use Rattle.ks_fixdep.specs.CommandFile.{CommandRecord, is_command, is_dep}
 use Rattle.ks_fixdep.specs.Record.{config_names}
 use Rattle.ks_tree.specs.Files.{Files, content, IsTooLarge}
 use Rattle.ks_tree.specs.Paths.{auto_path, stamp_path, command_path}
@@ -23,12 +23,12 @@ use Rattle.ks_engine.specs.declared.staleness.Verdict.{Verdict}
 use Rattle.ks_engine.specs.declared.staleness.Verdict.TheVariants.{Fresh, Changed}
 use Rattle.ks_engine.specs.declared.staleness.BuildState.{BuildState}
 use Rattle.ks_engine.specs.Refusals.{of_stamp, IsGivenUp, GaveUp, and_then}
-use Rattle.ks_engine.specs.History.{History, Record, done, last_record}
+use Rattle.ks_engine.specs.History.{History, LastRecord, done, last_record}
 use Rattle.ks_engine.specs.Staleness.{found, names_of, suspect_since, first_suspect, verdict}
 use Rattle.ks_engine.specs.Shows.{Shows, stamp}
 use Rattle.ks_engine.specs.LastSync.{synced_at, last_generation}
 use Rattle.ks_engine.specs.Asked.{Asked, Answered, ByStamps, asked, asked_at, asked_since, asked_of, of_target, command_file, IsBadStamp, IsByStamps, IsAnswer}
-use Rattle.ks_engine.specs.Built.{Built, Differs, Asks, built, built_by, judged, IsBuilt}
+use Rattle.ks_engine.specs.BuildStates.{BuildAsked, Differs, Asks, build_asked, build_asked_of, judged, IsBuildState}
 use Rattle.ks_engine.specs.Judged.{HasSameDefinitions, IsJudged, IsBuildJudged}
 use Rattle.ks_engine.proofs.Heart.{suspect_since-lt, suspect_since-changed_since, generation-le, synced-lt, recorded_synced}
 use Rattle.ks_engine.proofs.Headers.{same_definitions}
@@ -72,37 +72,37 @@ refused_at o file given e at (inr bad) = inr (ap (command_file o) at ∙ bad)
 
 -- ---- the steps of a question about a command
 
-pub built_illegal : (files : Files) (o command : List ℕ) → false ≡ is_target o → built files o command ≡ Asks (Answered (Err (BadPath 0)))
-unfolding built
-built_illegal files o command bad = cond-false _ _ _ (sym bad)
+pub build_illegal : (files : Files) (o command : List ℕ) → false ≡ is_target o → build_asked files o command ≡ Asks (Answered (Err (BadPath 0)))
+unfolding build_asked
+build_illegal files o command bad = cond-false _ _ _ (sym bad)
 
-pub built_bad_command : (files : Files) (o command : List ℕ) → true ≡ is_target o → false ≡ is_command command → built files o command
+pub build_bad_command : (files : Files) (o command : List ℕ) → true ≡ is_target o → false ≡ is_command command → build_asked files o command
     ≡ Asks (Answered (Err BadCommand))
-unfolding built
-built_bad_command files o command legal bad = cond-true _ _ _ (sym legal) ∙ cond-false _ _ _ (sym bad)
+unfolding build_asked
+build_bad_command files o command legal bad = cond-true _ _ _ (sym legal) ∙ cond-false _ _ _ (sym bad)
 
-pub built_read : (files : Files) (o command : List ℕ) (r : Result (Option CommandRecord) EngineError) → true ≡ is_target o → true ≡ is_command command
-    → command_file o (content files (command_path o)) ≡ r → built files o command ≡ built_by files command r
-unfolding built
-built_read files o command r legal word read = cond-true _ _ _ (sym legal) ∙ cond-true _ _ _ (sym word) ∙ ap (built_by files command) read
+pub build_read : (files : Files) (o command : List ℕ) (r : Result (Option CommandRecord) EngineError) → true ≡ is_target o → true ≡ is_command command
+    → command_file o (content files (command_path o)) ≡ r → build_asked files o command ≡ build_asked_of files command r
+unfolding build_asked
+build_read files o command r legal word read = cond-true _ _ _ (sym legal) ∙ cond-true _ _ _ (sym word) ∙ ap (build_asked_of files command) read
 
-pub built_as : (files : Files) (a b : Built) (answer : Result BuildState EngineError) → a ≡ b → IsBuilt files b answer → IsBuilt files a answer
-built_as files a b answer same is = subst (λ q. IsBuilt files q answer) (sym same) is
+pub build_as : (files : Files) (a b : BuildAsked) (answer : Result BuildState EngineError) → a ≡ b → IsBuildState files b answer → IsBuildState files a answer
+build_as files a b answer same is = subst (λ q. IsBuildState files q answer) (sym same) is
 
-pub built_refused : (files : Files) (o command : List ℕ) (e : EngineError) → true ≡ is_target o → true ≡ is_command command → IsGivenUp e
+pub build_refused : (files : Files) (o command : List ℕ) (e : EngineError) → true ≡ is_target o → true ≡ is_command command → IsGivenUp e
     ⊎ (command_file o (content files (command_path o)) ≡ Err e)
-    → IsGivenUp e ⊎ IsBuilt files (built files o command) (Err e)
-built_refused files o command e legal word (inl given) = inl given
-built_refused files o command e legal word (inr bad) = inr (built_as files _ _ _ (built_read files o command _ legal word bad) (Err e, refl, refl))
+    → IsGivenUp e ⊎ IsBuildState files (build_asked files o command) (Err e)
+build_refused files o command e legal word (inl given) = inl given
+build_refused files o command e legal word (inr bad) = inr (build_as files _ _ _ (build_read files o command _ legal word bad) (Err e, refl, refl))
 
-pub built_same : (files : Files) (o command : List ℕ) (file : CommandRecord) → true ≡ is_target o → true ≡ is_command command
+pub build_same : (files : Files) (o command : List ℕ) (file : CommandRecord) → true ≡ is_target o → true ≡ is_command command
     → command_file o (content files (command_path o)) ≡ Ok (Some file) → bytes_eq file.command command ≡ true
-    → built files o command ≡ Asks (asked_since files (config_names file.deps) file.generation)
-built_same files o command file legal word read same = built_read files o command _ legal word read ∙ cond-true _ _ _ same
+    → build_asked files o command ≡ Asks (asked_since files (config_names file.deps) file.generation)
+build_same files o command file legal word read same = build_read files o command _ legal word read ∙ cond-true _ _ _ same
 
-pub built_other : (files : Files) (o command : List ℕ) (file : CommandRecord) → true ≡ is_target o → true ≡ is_command command
-    → command_file o (content files (command_path o)) ≡ Ok (Some file) → bytes_eq file.command command ≡ false → built files o command ≡ Differs
-built_other files o command file legal word read other = built_read files o command _ legal word read ∙ cond-false _ _ _ other
+pub build_other : (files : Files) (o command : List ℕ) (file : CommandRecord) → true ≡ is_target o → true ≡ is_command command
+    → command_file o (content files (command_path o)) ≡ Ok (Some file) → bytes_eq file.command command ≡ false → build_asked files o command ≡ Differs
+build_other files o command file legal word read other = build_read files o command _ legal word read ∙ cond-false _ _ _ other
 
 -- ---- the stamps of the names that are left
 
@@ -226,7 +226,7 @@ last_shown files h shows some =
     ap (λ o. and_then o synced_at) read.reads ∙ cond-false _ _ _ (ne_eqb read.auto.generation 0 (λ e. omega arith)) ∙ ap (λ n. Ok n) same
 
 -- what a shown command file is read as
-pub file_shown : (files : Files) (h : History) (o : List ℕ) (r : Record) (shows : Shows files h) (last : last_record h o ≡ Some r)
+pub file_shown : (files : Files) (h : History) (o : List ℕ) (r : LastRecord) (shows : Shows files h) (last : last_record h o ≡ Some r)
     → command_file o (content files (command_path o)) ≡ Ok (Some (shows.commands o r last).2.file)
 file_shown files h o r shows last =
     let at = shows.commands o r last in
@@ -235,11 +235,11 @@ file_shown files h o r shows last =
     ∙ (cond-false _ _ _ (le-ltb max_bytes (length at.0) is.small) ∙ ap (of_target o) is.reads ∙ cond-true _ _ _
     ((bytes_eq-Decides is.file.target o).1 is.target))
 
-pub target_shown : (files : Files) (h : History) (o : List ℕ) (r : Record) → Shows files h → last_record h o ≡ Some r → true ≡ is_target o
+pub target_shown : (files : Files) (h : History) (o : List ℕ) (r : LastRecord) → Shows files h → last_record h o ≡ Some r → true ≡ is_target o
 target_shown files h o r shows last = let at = shows.commands o r last
     in sym (ap is_target (sym at.2.target) ∙ (read_fits at.0 at.2.file at.2.reads).legal.target)
 
-pub since_shown : (files : Files) (h : History) (o : List ℕ) (r : Record) (shows : Shows files h) (last : last_record h o ≡ Some r)
+pub since_shown : (files : Files) (h : History) (o : List ℕ) (r : LastRecord) (shows : Shows files h) (last : last_record h o ≡ Some r)
     → asked_since files (config_names (shows.commands o r last).2.file.deps) (shows.commands o r last).2.file.generation ≡ ByStamps (done r.past) r.names
 since_shown files h o r shows last =
     let is = (shows.commands o r last).2 in
@@ -250,7 +250,7 @@ since_shown files h o r shows last =
     ∙ cond-false (nat_lt (done h) (done r.past)) _ _ (le-ltb (done h) (done r.past) le)
 
 -- THE ANSWER: of a recorded object, the first of its names that is suspect.
-by_stamps : (files : Files) (h : History) (o : List ℕ) (r : Record) (answer : Result Verdict EngineError) → Shows files h → last_record h o ≡ Some r →
+by_stamps : (files : Files) (h : History) (o : List ℕ) (r : LastRecord) (answer : Result Verdict EngineError) → Shows files h → last_record h o ≡ Some r →
     IsByStamps files (done r.past) r.names answer → answer ≡ Ok (verdict (first_suspect h o))
 by_stamps files h o r answer shows last is =
     let at = shows.commands o r last in
@@ -277,7 +277,7 @@ fresh_none None e = refl
 fresh_none (Some x) e = absurd cc
 
 -- Fresh means the same definitions.
-safe : (files : Files) (h : History) (o : List ℕ) (r : Record) (answer : Result Verdict EngineError) → Shows files h → last_record h o ≡ Some r
+safe : (files : Files) (h : History) (o : List ℕ) (r : LastRecord) (answer : Result Verdict EngineError) → Shows files h → last_record h o ≡ Some r
     → answer ≡ Ok (verdict (first_suspect h o)) → answer ≡ Ok Fresh → HasSameDefinitions files r
 safe files h o r answer shows last suspect fresh = λ x among.
     let none = fresh_none _ (sym fresh ∙ suspect) in
@@ -289,7 +289,7 @@ safe files h o r answer shows last suspect fresh = λ x among.
     )
 
 -- what is answered by the stamps is judged by the history
-pub judges : (files : Files) (h : History) (o : List ℕ) (r : Record) (answer : Result Verdict EngineError) → Shows files h → last_record h o ≡ Some r
+pub judges : (files : Files) (h : History) (o : List ℕ) (r : LastRecord) (answer : Result Verdict EngineError) → Shows files h → last_record h o ≡ Some r
     → GaveUp answer ⊎ IsByStamps files (done r.past) r.names answer → IsJudged files h o r answer
 judges files h o r answer shows last (inl given) = record {
   suspect = inl given;
@@ -304,21 +304,21 @@ judges files h o r answer shows last (inr is) =
       safe = safe files h o r answer shows last suspect;
     }
 
-pub stale_judged : (files : Files) (h : History) (o : List ℕ) (r : Record) (answer : Result Verdict EngineError) → GaveUp answer
+pub stale_judged : (files : Files) (h : History) (o : List ℕ) (r : LastRecord) (answer : Result Verdict EngineError) → GaveUp answer
     ⊎ IsAnswer files (asked files o) answer → Shows files h → last_record h o ≡ Some r
     → IsJudged files h o r answer
 stale_judged files h o r answer said shows last =
     let whole = asked_read files o _ (target_shown files h o r shows last) (file_shown files h o r shows last) ∙ since_shown files h o r shows last in
     judges files h o r answer shows last (subst (λ q. GaveUp answer ⊎ IsAnswer files q answer) whole said)
 
--- ---- and of the command that built it
+-- ---- and of the command that build_asked it
 
 gave_up : (answer : Result BuildState EngineError) → GaveUp answer → (v : Result Verdict EngineError) × (answer ≡ judged v) × GaveUp v
 gave_up (Ok x) given = absurd given
 gave_up (Err e) given = (Err e, refl, given)
 
-pub build_judged : (files : Files) (h : History) (o command : List ℕ) (r : Record) (answer : Result BuildState EngineError) → GaveUp answer
-    ⊎ IsBuilt files (built files o command) answer
+pub build_judged : (files : Files) (h : History) (o command : List ℕ) (r : LastRecord) (answer : Result BuildState EngineError) → GaveUp answer
+    ⊎ IsBuildState files (build_asked files o command) answer
     → IsTrue (is_command command) → Shows files h → last_record h o ≡ Some r → IsBuildJudged files h o command r answer
 build_judged files h o command r answer (inl given) word shows last = record {
   differs = λ other. inl given;
@@ -329,10 +329,10 @@ build_judged files h o command r answer (inr is) word shows last =
     let target = target_shown files h o r shows last in
     let read = file_shown files h o r shows last in
     record {
-      differs = λ other. inr (subst (λ q. IsBuilt files q answer)
-          (built_other files o command file.file target (sym word) read (ap (λ c. bytes_eq c command) file.command ∙ other)) is);
+      differs = λ other. inr (subst (λ q. IsBuildState files q answer)
+          (build_other files o command file.file target (sym word) read (ap (λ c. bytes_eq c command) file.command ∙ other)) is);
       same = λ same.
-          let asks = subst (λ q. IsBuilt files q answer) (built_same files o command file.file target (sym word) read
+          let asks = subst (λ q. IsBuildState files q answer) (build_same files o command file.file target (sym word) read
           (ap (λ c. bytes_eq c command) file.command ∙ same)) is in
           (asks.0, asks.2, judges files h o r asks.0 shows last (inr (subst (λ q. IsAnswer files q asks.0) (since_shown files h o r shows last) asks.1)));
     }

@@ -11,7 +11,7 @@ use Rattle.ks_symbols.specs.Refusals.{IsRefusal}
 use Rattle.ks_fixdep.specs.DependencyFile.{prerequisites, dependency_refusal}
 use Rattle.ks_fixdep.specs.declared.command_file.Dep.{Dep}
 use Rattle.ks_fixdep.specs.declared.command_file.Dep.TheVariants.{File, Config}
-use Rattle.ks_fixdep.specs.CommandFile.{Record as CommandRecord, is_command, is_dep, command_text}
+use Rattle.ks_fixdep.specs.CommandFile.{CommandRecord, is_command, is_dep, command_text}
 use Rattle.ks_fixdep.specs.FoundNames.{names_of}
 use Rattle.ks_fixdep.specs.Record.{config_names, record_of, record_refusal}
 use Rattle.ks_tree.specs.Files.{Files, content}

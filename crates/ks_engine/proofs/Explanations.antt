@@ -15,7 +15,7 @@ use Rattle.ks_fixdep.specs.declared.dependency_file.Role.{Role}
 use Rattle.ks_fixdep.specs.declared.dependency_file.Role.TheVariants as role
 use Rattle.ks_fixdep.specs.declared.command_file.lent.LentDep.{LentDep}
 use Rattle.ks_fixdep.specs.Lent.{seen_dep}
-use Rattle.ks_fixdep.specs.CommandFile.{Record as CommandRecord, is_dep, IsLegal}
+use Rattle.ks_fixdep.specs.CommandFile.{CommandRecord, is_dep, IsLegal}
 use Rattle.ks_symbols.specs.Interner.{noted}
 use Rattle.ks_fixdep.specs.FoundNames.{all_noted}
 use Rattle.ks_fixdep.specs.Record.{config_names, new_names, deps_after, source_of, record_of}
@@ -30,7 +30,7 @@ use Rattle.ks_engine.specs.declared.explaining.Cause.{Cause}
 use Rattle.ks_engine.specs.declared.explaining.Explanation.{Explanation}
 use Rattle.ks_engine.specs.declared.staleness.Verdict.TheVariants.{Ahead}
 use Rattle.ks_engine.specs.Refusals.{of_stamp, IsGivenUp, GaveUp}
-use Rattle.ks_engine.specs.History.{History, Record, done, last_record}
+use Rattle.ks_engine.specs.History.{History, LastRecord, done, last_record}
 use Rattle.ks_engine.specs.Staleness.{found, names_of, suspect_since}
 use Rattle.ks_engine.specs.Shows.{Shows, stamp}
 use Rattle.ks_engine.specs.LastSync.{last_generation}
@@ -359,7 +359,7 @@ no_fault files f names e stamps legal bad =
     no_bad (content files (stamp_path bad.name)) bad.name (Err e) (f bad.name) (stamps bad.name name) bad.fault
 
 -- by the stamps that a history has
-by_stamps : (files : Files) (h : History) (o : List ℕ) (r : Record) (file : CommandRecord) (e : Explanation) → Shows files h → last_record h o ≡ Some r
+by_stamps : (files : Files) (h : History) (o : List ℕ) (r : LastRecord) (file : CommandRecord) (e : Explanation) → Shows files h → last_record h o ≡ Some r
     → list_all is_dep file.deps ≡ true → config_names file.deps ≡ r.names → AreCauses files (done r.past) (names_placed file) e.causes.items
     → (map (λ c. c.name) e.causes.items ≡ filter (suspect_since h o) (found h o)) × All (λ c. c.generation ≡ stamp h c.name) e.causes.items
 by_stamps files h o r file e shows last legal names are =
@@ -376,7 +376,7 @@ by_stamps files h o r file e shows last legal names are =
           (All-map (λ c. c.generation ≡ stamp h c.name) (cause (stamp h)) (filter (λ p. nat_lt g (stamp h p.0)) places) (λ k d within. refl)),
     )
 
-pub explanation_judged : (files : Files) (h : History) (o : List ℕ) (r : Record) (answer : Result Explanation EngineError)
+pub explanation_judged : (files : Files) (h : History) (o : List ℕ) (r : LastRecord) (answer : Result Explanation EngineError)
     → GaveUp answer ⊎ IsExplained files o answer → Shows files h → last_record h o ≡ Some r → IsExplanationJudged files h o r answer
 explanation_judged files h o r (Err e) (inl given) shows last =
     record { judged = stale_judged files h o r (Err e) (inl given) shows last; suspects = tt; numbers = tt }

@@ -8,7 +8,7 @@ use Rattle.ks_output.specs.OldConfig.{texts_of, Texts}
 use Rattle.ks_symbols.specs.Names.{is_in}
 use Rattle.ks_compare.specs.Changes.{differs}
 use Rattle.ks_symbols.specs.Configuration.{Configuration}
-use Rattle.ks_engine.specs.History.{History, Begun, Synced, Broken, Recorded, Record, before, last_record}
+use Rattle.ks_engine.specs.History.{History, Begun, Synced, Broken, Recorded, LastRecord, before, last_record}
 use Rattle.ks_engine.specs.Staleness.{names_of, found, renewed_since_sync, suspect_since}
 use Rattle.ks_engine.specs.Legal.{AreAllRenewed, MayBeHeader, IsSource, IsHistory}
 use Rattle.ks_engine.proofs.Heart.{record_cases}
@@ -49,7 +49,7 @@ and_in : (i b : Bool) → i ≡ true → (i && b) ≡ false → b ≡ false
 and_in true b p e = e
 and_in false b p e = absurd cc
 
-module _ (o : List ℕ) (x : List ℕ) (r : Record) (named : is_in r.names x ≡ true) where
+module _ (o : List ℕ) (x : List ℕ) (r : LastRecord) (named : is_in r.names x ≡ true) where
   -- the parts of a step's test, at an object whose names have x
   step_parts : (past : History) (b s : Bool) → last_record past o ≡ Some r → ((is_in (found past o) x && b) || s) ≡ false → (b ≡ false) × (s ≡ false)
   step_parts past b s last out =
@@ -63,7 +63,7 @@ module _ (o : List ℕ) (x : List ℕ) (r : Record) (named : is_in r.names x ≡
       sym (same_where (before past) config x parts.0) ∙ before_kept past last parts.1
   before_kept (Broken t config renewed past) last out = before_kept past last (step_parts past (is_in renewed x) _ last out).1
   before_kept (Recorded p command names header past) last out = ⊎_elim
-      (λ here. ap (λ (w : Record). get (before w.past) x) here.1)
+      (λ here. ap (λ (w : LastRecord). get (before w.past) x) here.1)
       (λ there. before_kept past there.1 (sym (cond-false _ _ _ there.0) ∙ out))
       (record_cases p o _ _ r last)
 
@@ -72,7 +72,7 @@ module _ (o : List ℕ) (x : List ℕ) (r : Record) (named : is_in r.names x ≡
   untouched_then (Synced t config past) last out = untouched_then past last (step_parts past (differs (before past) config x) _ last out).1
   untouched_then (Broken t config renewed past) last out = untouched_then past last (step_parts past (is_in renewed x) _ last out).1
   untouched_then (Recorded p command names header past) last out = ⊎_elim
-      (λ here. ap (λ (w : Record). renewed_since_sync w.past x) (sym here.1) ∙ and_in (is_in names x) _ (ap (λ (w : Record). is_in w.names x) here.1 ∙ named)
+      (λ here. ap (λ (w : LastRecord). renewed_since_sync w.past x) (sym here.1) ∙ and_in (is_in names x) _ (ap (λ (w : LastRecord). is_in w.names x) here.1 ∙ named)
       (sym (cond-true _ _ _ here.0) ∙ out))
       (λ there. untouched_then past there.1 (sym (cond-false _ _ _ there.0) ∙ out))
       (record_cases p o _ _ r last)
@@ -88,7 +88,7 @@ module _ (o : List ℕ) (x : List ℕ) (r : Record) (named : is_in r.names x ≡
       may
   header_fresh (Recorded p command names header past) b is last out may = ⊎_elim
       (λ here.
-      let w = header_untouched past x b is.0 may (and_in (is_in names x) _ (ap (λ (w : Record). is_in w.names x) here.1 ∙ named)
+      let w = header_untouched past x b is.0 may (and_in (is_in names x) _ (ap (λ (w : LastRecord). is_in w.names x) here.1 ∙ named)
       (sym (cond-true _ _ _ here.0) ∙ out)) in
       record { title = w.title; config = w.config; written = w.written; source = w.source; text = w.text })
       (λ there.
@@ -97,17 +97,17 @@ module _ (o : List ℕ) (x : List ℕ) (r : Record) (named : is_in r.names x ≡
       (record_cases p o _ _ r last)
 
 -- the past of a record is a history, and the header at the record one of its headers
-pub record_legal : (h : History) (o : List ℕ) (r : Record) → IsHistory h → last_record h o ≡ Some r → IsHistory r.past × MayBeHeader r.past r.header
+pub record_legal : (h : History) (o : List ℕ) (r : LastRecord) → IsHistory h → last_record h o ≡ Some r → IsHistory r.past × MayBeHeader r.past r.header
 record_legal (Begun texts generation stamps) o r is last = absurd cc
 record_legal (Synced t config past) o r is last = record_legal past o r is.0 last
 record_legal (Broken t config renewed past) o r is last = record_legal past o r is.0 last
 record_legal (Recorded p command names header past) o r is last = ⊎_elim
-    (λ here. subst (λ (w : Record). IsHistory w.past × MayBeHeader w.past w.header) here.1 (is.0, is.2))
+    (λ here. subst (λ (w : LastRecord). IsHistory w.past × MayBeHeader w.past w.header) here.1 (is.0, is.2))
     (λ there. record_legal past o r is.0 there.1)
     (record_cases p o _ _ r last)
 
 -- Of an object that is fresh at one of its names, the header defines the name in the same lines as at the record.
-pub same_definitions : (h : History) (o : List ℕ) (r : Record) (x : List ℕ) (b : List ℕ) → IsHistory h → last_record h o ≡ Some r → is_in r.names x ≡ true →
+pub same_definitions : (h : History) (o : List ℕ) (r : LastRecord) (x : List ℕ) (b : List ℕ) → IsHistory h → last_record h o ≡ Some r → is_in r.names x ≡ true →
     suspect_since h o x ≡ false → MayBeHeader h b → definitions x b ≡ definitions x r.header
 same_definitions h o r x b is last named out may =
     let legal = record_legal h o r is last in

@@ -3,7 +3,7 @@ use Rattle.std.proofs.Common.{◌≡◌, ◌⊎◌, inl, inr, ⊎_elim, ℕ, ◌
 use Rattle.std.proofs.lemmas.Bool.{lt-ltb, le-ltb, cond-true, cond-false}
 use Rattle.ks_symbols.specs.Names.{is_in}
 use Rattle.ks_compare.specs.Changes.{differs}
-use Rattle.ks_engine.specs.History.{History, Begun, Synced, Broken, Recorded, Record, before, done, WasSynced, last_record, NoneBroken}
+use Rattle.ks_engine.specs.History.{History, Begun, Synced, Broken, Recorded, LastRecord, before, done, WasSynced, last_record, NoneBroken}
 use Rattle.ks_engine.specs.Staleness.{names_of, found, renewed_since_sync, changed_since, suspect_since}
 use Rattle.ks_engine.specs.Legal.{IsHistory}
 use Rattle.ks_engine.specs.Shows.{stamp}
@@ -45,17 +45,17 @@ record_cases p o a b r = elim (bytes_eq p o) as (λ v. cond v (Some a) b ≡ Som
   | false ↦ λ e. inr (refl, e)
 ]
 
-pub generation-le : (h : History) (o : List ℕ) (r : Record) → last_record h o ≡ Some r → done r.past ≤ done h
+pub generation-le : (h : History) (o : List ℕ) (r : LastRecord) → last_record h o ≡ Some r → done r.past ≤ done h
 generation-le (Begun texts generation stamps) o r e = absurd cc
 generation-le (Synced t config past) o r e = let le = generation-le past o r e in omega arith
 generation-le (Broken t config renewed past) o r e = generation-le past o r e
 generation-le (Recorded p command names header past) o r e = ⊎_elim
-    (λ here. let same = ap (λ (w : Record). done w.past) here.1 in omega arith)
+    (λ here. let same = ap (λ (w : LastRecord). done w.past) here.1 in omega arith)
     (λ there. generation-le past o r there.1)
     (record_cases p o _ _ r e)
 
 -- THE HEART: an object's name is suspect exactly if its stamp is above the generation of the object's record.
-pub suspect_since-lt : (h : History) (o : List ℕ) (r : Record) (x : List ℕ) → IsHistory h → last_record h o ≡ Some r →
+pub suspect_since-lt : (h : History) (o : List ℕ) (r : LastRecord) (x : List ℕ) → IsHistory h → last_record h o ≡ Some r →
     suspect_since h o x ≡ (is_in r.names x && nat_lt (done r.past) (stamp h x))
 suspect_since-lt (Begun texts generation stamps) o r x is e = absurd cc
 suspect_since-lt (Synced t config past) o r x is e =
@@ -68,7 +68,7 @@ suspect_since-lt (Broken t config renewed past) o r x is e =
     (suspect_since-lt past o r x is.0 e)
 suspect_since-lt (Recorded p command names header past) o r x is e = ⊎_elim
     (λ here. cond-true _ _ _ here.0 ∙ ap (λ b. is_in names x && b) (renewed_since_sync-lt past x is.0 is.1) ∙ ap
-    (λ (w : Record). is_in w.names x && nat_lt (done w.past) (stamp past x)) here.1)
+    (λ (w : LastRecord). is_in w.names x && nat_lt (done w.past) (stamp past x)) here.1)
     (λ there. cond-false _ _ _ there.0 ∙ suspect_since-lt past o r x is.0 there.1)
     (record_cases p o _ _ r e)
 
@@ -108,11 +108,11 @@ synced_or_not (Broken t config renewed past) = synced_or_not past
 synced_or_not (Recorded o command names header past) = synced_or_not past
 
 -- a record stands behind a completed synchronisation
-pub recorded_synced : (h : History) (o : List ℕ) (r : Record) → IsHistory h → last_record h o ≡ Some r → WasSynced r.past × WasSynced h
+pub recorded_synced : (h : History) (o : List ℕ) (r : LastRecord) → IsHistory h → last_record h o ≡ Some r → WasSynced r.past × WasSynced h
 recorded_synced (Begun texts generation stamps) o r is last = absurd cc
 recorded_synced (Synced t config past) o r is last = ((recorded_synced past o r is.0 last).0, tt)
 recorded_synced (Broken t config renewed past) o r is last = recorded_synced past o r is.0 last
 recorded_synced (Recorded p command names header past) o r is last = ⊎_elim
-    (λ here. (subst (λ (w : Record). WasSynced w.past) here.1 is.1, is.1))
+    (λ here. (subst (λ (w : LastRecord). WasSynced w.past) here.1 is.1, is.1))
     (λ there. recorded_synced past o r is.0 there.1)
     (record_cases p o _ _ r last)

@@ -5,7 +5,7 @@ use Rattle.std.proofs.lemmas.Bool.{cond-true}
 use Rattle.ks_symbols.specs.Names.{is_in}
 use Rattle.ks_compare.specs.Changes.{differs}
 use Rattle.ks_output.specs.OldConfig.{Texts}
-use Rattle.ks_engine.specs.History.{History, Begun, Synced, Broken, Recorded, Record, before, done, WasSynced, last_record}
+use Rattle.ks_engine.specs.History.{History, Begun, Synced, Broken, Recorded, LastRecord, before, done, WasSynced, last_record}
 use Rattle.ks_engine.specs.Staleness.{names_of, found, changed_since, renewed_since_sync, suspect_since}
 use Rattle.ks_engine.specs.Legal.{IsHistory, MayBeHeader, AreAllRenewed}
 use Rattle.ks_engine.specs.OtherRecords.{own_history, OtherRecordsDoNotMatter}
@@ -70,7 +70,7 @@ same_found (Recorded object command names header past) o =
     behind_record (λ h. found h o) (bytes_eq object o) _ _ names (found past o) (λ own. ap names_of (cond-true _ _ _ own)) (λ other. same_found past o)
     ∙ by_names (bytes_eq object o) _ (last_record past o)
   where
-    by_names : (b : Bool) (r : Record) (last : Option Record) → cond b r.names (names_of last) ≡ names_of (cond b (Some r) last)
+    by_names : (b : Bool) (r : LastRecord) (last : Option LastRecord) → cond b r.names (names_of last) ≡ names_of (cond b (Some r) last)
     by_names true r last = refl
     by_names false r last = refl
 

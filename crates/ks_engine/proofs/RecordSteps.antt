@@ -3,7 +3,7 @@ use Rattle.std.proofs.Common.{◌≡◌, ◌⊎◌, inl, inr, ⊎_elim, ℕ, suc
 use Rattle.std.proofs.lemmas.Bool.{ltb-false, eqb-false}
 use Rattle.ks_symbols.specs.Lines.{max_bytes}
 use Rattle.ks_fixdep.specs.declared.dependency_file.Role.{Role}
-use Rattle.ks_fixdep.specs.CommandFile.{Record as CommandRecord, command_text}
+use Rattle.ks_fixdep.specs.CommandFile.{CommandRecord, command_text}
 use Rattle.ks_fixdep.specs.FoundNames.{names_in, names_of}
 use Rattle.ks_fixdep.specs.Record.{config_names, deps_after, record_of}
 use Rattle.ks_tree.specs.Files.{Files, content, SameButBoth}

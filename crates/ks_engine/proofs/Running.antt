@@ -12,27 +12,27 @@ use Rattle.ks_engine.specs.declared.staleness.Verdict.{Verdict as VerdictValue}
 use Rattle.ks_engine.specs.Refusals.{GaveUp}
 use Rattle.ks_symbols.specs.Configuration.{Configuration}
 use Rattle.ks_engine.specs.History.{History, Synced as SyncedEvent, Broken as BrokenEvent, Recorded as RecordedEvent, NoneBroken}
-use Rattle.ks_engine.specs.Follows.{State}
+use Rattle.ks_engine.specs.Follows.{TreeState}
 use Rattle.ks_engine.specs.Runs.{IsShown, Step, Follows, Leaves, Leads, Run}
 use Rattle.ks_engine.specs.Verdicts.{IsSuspectVerdict, IsChangedVerdict, IsSafeVerdict, IsGivenUpSync}
 
 -- a run, before anything is said of its verdicts
-pub record Trace (first : State) (asked : List Action) (answered : List Reply) (last : State) : Type 0 where
+pub record Trace (first : TreeState) (asked : List Action) (answered : List Reply) (last : TreeState) : Type 0 where
   pub steps : List Step
   pub actions : map (λ step. step.action) steps ≡ asked
   pub replies : map (λ step. step.reply) steps ≡ answered
   pub leads : Leads first steps last
   pub shown : IsShown last
 
-pub no_steps : (first : State) → IsShown first → Trace first [] [] first
+pub no_steps : (first : TreeState) → IsShown first → Trace first [] [] first
 no_steps first shown = record { steps = []; actions = refl; replies = refl; leads = refl; shown = shown }
 
-leads_more : (first : State) (steps : List Step) (mid : State) (step : Step) → Leads first steps mid → step.before ≡ mid
+leads_more : (first : TreeState) (steps : List Step) (mid : TreeState) (step : Step) → Leads first steps mid → step.before ≡ mid
     → Follows step.action step.reply step.before step.after → IsShown step.after → Leads first (steps ++ step ∷ []) step.after
 leads_more first [] mid step leads begins follows shown = (begins ∙ leads, follows, shown, refl)
 leads_more first (s ∷ ss) mid step leads begins follows shown = (leads.0, leads.1, leads.2, leads_more s.after ss mid step leads.3 begins follows shown)
 
-trace_more : (first : State) (acts : List Action) (rs : List Reply) (mid : State) (a : Action) (r : Reply) (last : State)
+trace_more : (first : TreeState) (acts : List Action) (rs : List Reply) (mid : TreeState) (a : Action) (r : Reply) (last : TreeState)
     → Trace first acts rs mid → Follows a r mid last → IsShown last → Trace first (acts ++ a ∷ []) (rs ++ r ∷ []) last
 trace_more first acts rs mid a r last trace follows shown =
     let step : Step = record { before = mid; action = a; reply = r; after = last } in
@@ -45,7 +45,7 @@ trace_more first acts rs mid a r last trace follows shown =
     }
 
 -- the same, of the commands up to a place
-pub more : (first : State) (cs : List Command) (i : ℕ) (d : Command) (rs new : List Reply) (mid : State) (r : Reply) (last : State)
+pub more : (first : TreeState) (cs : List Command) (i : ℕ) (d : Command) (rs new : List Reply) (mid : TreeState) (r : Reply) (last : TreeState)
     → i < length cs → Trace first (map action (take i cs)) rs mid → Follows (action (get_or cs i d)) r mid last → IsShown last → new ≡ rs ++ r ∷ []
     → Trace first (map action (take (i + 1) cs)) new last
 more first cs i d rs new mid r last test trace follows shown items =
@@ -63,7 +63,7 @@ GoesOn h a r next =
     ⊎ (((o : List ℕ) × (w : List ℕ) × (names : List (List ℕ)) × (header : List ℕ) × (next ≡ RecordedEvent o w names header h))
     ⊎ (IsGivenUpSync a r × ((t : List ℕ) × (c : Configuration) × (renewed : List (List ℕ)) × (next ≡ BrokenEvent t c renewed h)))))
 
-goes_on : (old : State) (a : Action) (r : Reply) (new : State) → Leaves old a r new → GoesOn old.history a r new.history
+goes_on : (old : TreeState) (a : Action) (r : Reply) (new : TreeState) → Leaves old a r new → GoesOn old.history a r new.history
 unfolding GoesOn
 goes_on old (Sync k d) (Synced report) new is = inr (inl (is.files.plan.title, is.files.plan.config, is.history))
 goes_on old (Sync k d) (Refused e) new (inl plain) = inl plain.1.1
@@ -104,21 +104,21 @@ none_after h a r next (inr (inr (inr (given, is)))) kept none = absurd (kept giv
 
 -- ---- the same along the steps
 
-none_first : (first : State) (steps : List Step) (last : State) → Leads first steps last → NoneBroken last.history → NoneBroken first.history
-none_first first [] last leads none = subst (λ (s : State). NoneBroken s.history) leads none
+none_first : (first : TreeState) (steps : List Step) (last : TreeState) → Leads first steps last → NoneBroken last.history → NoneBroken first.history
+none_first first [] last leads none = subst (λ (s : TreeState). NoneBroken s.history) leads none
 none_first first (s ∷ ss) last leads none =
-    subst (λ (t : State). NoneBroken t.history) leads.0
+    subst (λ (t : TreeState). NoneBroken t.history) leads.0
     (none_before s.before.history s.action s.reply s.after.history (goes_on s.before s.action s.reply s.after leads.1.leaves)
     (none_first s.after ss last leads.3 none))
 
-none_last : (first : State) (steps : List Step) (last : State) → Leads first steps last → NoneBroken first.history
+none_last : (first : TreeState) (steps : List Step) (last : TreeState) → Leads first steps last → NoneBroken first.history
     → All (λ step. IsGivenUpSync step.action step.reply → ⊥) steps → NoneBroken last.history
-none_last first [] last leads none kept = subst (λ (s : State). NoneBroken s.history) (sym leads) none
+none_last first [] last leads none kept = subst (λ (s : TreeState). NoneBroken s.history) (sym leads) none
 none_last first (s ∷ ss) last leads none kept =
     none_last s.after ss last leads.3
     (none_after s.before.history s.action s.reply s.after.history (goes_on s.before s.action s.reply s.after leads.1.leaves)
     (All-head (λ step. IsGivenUpSync step.action step.reply → ⊥) s ss kept)
-    (subst (λ (t : State). NoneBroken t.history) (sym leads.0) none))
+    (subst (λ (t : TreeState). NoneBroken t.history) (sym leads.0) none))
     (All-tail (λ step. IsGivenUpSync step.action step.reply → ⊥) s ss kept)
 
 -- ---- the verdict of a step
@@ -130,7 +130,7 @@ told : (v w : VerdictValue) → GaveUp {A = VerdictValue} (Ok v) ⊎ (◌≡◌ 
 told v w (inl given) = absurd given
 told v w (inr is) = same_verdict v w is
 
-suspect_verdict : (old : State) (a : Action) (r : Reply) (new : State) → Leaves old a r new → IsSuspectVerdict old.history a r
+suspect_verdict : (old : TreeState) (a : Action) (r : Reply) (new : TreeState) → Leaves old a r new → IsSuspectVerdict old.history a r
 suspect_verdict old (Stale o) (Verdict v) new is = λ w last. told v _ (is.recorded w last).suspect
 suspect_verdict old (Stale o) (Refused e) new is = tt
 suspect_verdict old (Stale o) (Synced e) new is = tt
@@ -138,7 +138,7 @@ suspect_verdict old (Stale o) (Recorded e) new is = tt
 suspect_verdict old (Sync k d) r new is = tt
 suspect_verdict old (Record d o c) r new is = tt
 
-changed_verdict : (old : State) (a : Action) (r : Reply) (new : State) → NoneBroken old.history → Leaves old a r new → IsChangedVerdict old.history a r
+changed_verdict : (old : TreeState) (a : Action) (r : Reply) (new : TreeState) → NoneBroken old.history → Leaves old a r new → IsChangedVerdict old.history a r
 changed_verdict old (Stale o) (Verdict v) new none is = λ w last. told v _ ((is.recorded w last).changed none)
 changed_verdict old (Stale o) (Refused e) new none is = tt
 changed_verdict old (Stale o) (Synced e) new none is = tt
@@ -146,7 +146,7 @@ changed_verdict old (Stale o) (Recorded e) new none is = tt
 changed_verdict old (Sync k d) r new none is = tt
 changed_verdict old (Record d o c) r new none is = tt
 
-safe_verdict : (old : State) (a : Action) (r : Reply) (new : State) → Leaves old a r new → IsSafeVerdict old a r
+safe_verdict : (old : TreeState) (a : Action) (r : Reply) (new : TreeState) → Leaves old a r new → IsSafeVerdict old a r
 safe_verdict old (Stale o) (Verdict v) new is = λ w last fresh. (is.recorded w last).safe (ap (λ x. Ok x) fresh)
 safe_verdict old (Stale o) (Refused e) new is = tt
 safe_verdict old (Stale o) (Synced e) new is = tt
@@ -154,14 +154,14 @@ safe_verdict old (Stale o) (Recorded e) new is = tt
 safe_verdict old (Sync k d) r new is = tt
 safe_verdict old (Record d o c) r new is = tt
 
-suspect_all : (first : State) (steps : List Step) (last : State) → Leads first steps last
+suspect_all : (first : TreeState) (steps : List Step) (last : TreeState) → Leads first steps last
     → All (λ step. IsSuspectVerdict step.before.history step.action step.reply) steps
 suspect_all first [] last leads = All-nil _
 suspect_all first (s ∷ ss) last leads =
     All-cons (λ step. IsSuspectVerdict step.before.history step.action step.reply) s ss (suspect_verdict s.before s.action s.reply s.after leads.1.leaves)
     (suspect_all s.after ss last leads.3)
 
-changed_all : (first : State) (steps : List Step) (last : State) → Leads first steps last → NoneBroken last.history
+changed_all : (first : TreeState) (steps : List Step) (last : TreeState) → Leads first steps last → NoneBroken last.history
     → All (λ step. IsChangedVerdict step.before.history step.action step.reply) steps
 changed_all first [] last leads none = All-nil _
 changed_all first (s ∷ ss) last leads none =
@@ -171,14 +171,14 @@ changed_all first (s ∷ ss) last leads none =
     (none_first s.after ss last leads.3 none)) leads.1.leaves)
     (changed_all s.after ss last leads.3 none)
 
-safe_all : (first : State) (steps : List Step) (last : State) → Leads first steps last → All (λ step. IsSafeVerdict step.before step.action step.reply) steps
+safe_all : (first : TreeState) (steps : List Step) (last : TreeState) → Leads first steps last → All (λ step. IsSafeVerdict step.before step.action step.reply) steps
 safe_all first [] last leads = All-nil _
 safe_all first (s ∷ ss) last leads =
     All-cons (λ step. IsSafeVerdict step.before step.action step.reply) s ss (safe_verdict s.before s.action s.reply s.after leads.1.leaves)
     (safe_all s.after ss last leads.3)
 
 -- From the steps alone all is told of the verdicts.
-pub run_of : (first : State) (acts : List Action) (rs : List Reply) (last : State) → Trace first acts rs last → Run first acts rs last
+pub run_of : (first : TreeState) (acts : List Action) (rs : List Reply) (last : TreeState) → Trace first acts rs last → Run first acts rs last
 run_of first acts rs last trace = record {
   steps = trace.steps;
   actions = trace.actions;

@@ -16,7 +16,7 @@ use Rattle.ks_engine.specs.declared.error.EngineError.{EngineError}
 use Rattle.ks_engine.specs.declared.error.EngineError.TheVariants.{TooLarge, GenerationFull}
 use Rattle.ks_engine.specs.Refusals.{and_then}
 use Rattle.ks_output.specs.OldConfig.{Texts}
-use Rattle.ks_engine.specs.History.{History, Begun, Synced, Broken, Recorded, Record, before, done, WasSynced, last_record}
+use Rattle.ks_engine.specs.History.{History, Begun, Synced, Broken, Recorded, LastRecord, before, done, WasSynced, last_record}
 use Rattle.ks_engine.specs.Legal.{IsSource, IsHistory, MayBeHeader}
 use Rattle.ks_engine.specs.Shows.{Shows, IsAuto, IsCommandFile, stamp}
 use Rattle.ks_engine.specs.Synchronised.{AreChanged, SyncLeaves}
@@ -142,7 +142,7 @@ module _ (old new : Files) (h : History) (plan : Plan) (changed renewed : List (
       (sym (leaves.stamps x name ∙ ap (λ g. cond (is_in renewed x) (Some (stamp_text (g + 1))) (content old (stamp_path x))) facts.same_generation))
       (number_cond (is_in renewed x) _ (stamp h x) (done h + 1) small (shows.stamps x name))
 
-  next_commands : (o : List ℕ) (r : Record) → last_record h o ≡ Some r → (b : List ℕ) × (content new (command_path o) ≡ Some b) × IsCommandFile o r b
+  next_commands : (o : List ℕ) (r : LastRecord) → last_record h o ≡ Some r → (b : List ℕ) × (content new (command_path o) ≡ Some b) × IsCommandFile o r b
   next_commands o r last = let was = shows.commands o r last in (was.0, command_kept old new plan changed renewed are leaves o ∙ was.1, was.2)
 
   pub broken_shows : content new auto_path ≡ content old auto_path → Shows new (Broken plan.title plan.config renewed h)

@@ -2,7 +2,7 @@
 use Rattle.std.specs.Prelude.{◌≡◌, ◌⊎◌, ℕ, ◌<◌, ◌≤◌, List, [], ◌∷◌, Option, Some, None, Result, Ok, Err, nat_lt, if◌then◌else◌, length, bytes_eq}
 use Rattle.ks_symbols.specs.Lines.{max_bytes}
 use Rattle.ks_symbols.specs.Names.{is_target}
-use Rattle.ks_fixdep.specs.CommandFile.{Record}
+use Rattle.ks_fixdep.specs.CommandFile.{CommandRecord}
 use Rattle.ks_fixdep.specs.CommandReading.{reading}
 use Rattle.ks_fixdep.specs.Record.{config_names}
 use Rattle.ks_tree.specs.Files.{Files, content, IsTooLarge}
@@ -28,16 +28,16 @@ abbrev pub asked_since : Files → List (List ℕ) → Option ℕ → Asked
 asked_since files names None = Answered (Ok Unnumbered)
 asked_since files names (Some g) = asked_at g names (last_generation (content files auto_path))
 
-abbrev pub of_target : List ℕ → Result Record ℕ → Result (Option Record) EngineError
+abbrev pub of_target : List ℕ → Result CommandRecord ℕ → Result (Option CommandRecord) EngineError
 of_target o (Err line) = Err (BadCommandFile line)
 of_target o (Ok file) = if bytes_eq file.target o then Ok (Some file) else Err (BadCommandFile 1)
 
 -- the command file of an object, which must be that of its target
-abbrev pub command_file : List ℕ → Option (List ℕ) → Result (Option Record) EngineError
+abbrev pub command_file : List ℕ → Option (List ℕ) → Result (Option CommandRecord) EngineError
 command_file o None = Ok None
 command_file o (Some b) = if nat_lt max_bytes (length b) then Err TooLarge else of_target o (reading b)
 
-abbrev pub asked_of : Files → Result (Option Record) EngineError → Asked
+abbrev pub asked_of : Files → Result (Option CommandRecord) EngineError → Asked
 asked_of files (Err e) = Answered (Err e)
 asked_of files (Ok None) = Answered (Ok NoCommandFile)
 asked_of files (Ok (Some file)) = asked_since files (config_names file.deps) file.generation

@@ -6,7 +6,7 @@ use Rattle.ks_fixdep.specs.declared.command_file.Dep.{Dep}
 use Rattle.ks_fixdep.specs.declared.command_file.Dep.TheVariants.{File, Config}
 use Rattle.ks_fixdep.specs.declared.dependency_file.Role.{Role}
 use Rattle.ks_fixdep.specs.declared.dependency_file.Role.TheVariants as role
-use Rattle.ks_fixdep.specs.CommandFile.{Record as CommandRecord}
+use Rattle.ks_fixdep.specs.CommandFile.{CommandRecord}
 use Rattle.ks_fixdep.specs.Record.{record_of, source_of}
 use Rattle.ks_tree.specs.Files.{Files, content}
 use Rattle.ks_tree.specs.Paths.{stamp_path, command_path}
@@ -16,7 +16,7 @@ use Rattle.ks_engine.specs.declared.explaining.Cause.{Cause}
 use Rattle.ks_engine.specs.declared.explaining.Explanation.{Explanation}
 use Rattle.ks_engine.specs.declared.staleness.Verdict.{Verdict}
 use Rattle.ks_engine.specs.declared.staleness.Verdict.TheVariants.{Fresh, Changed}
-use Rattle.ks_engine.specs.History.{History, Record, last_record}
+use Rattle.ks_engine.specs.History.{History, LastRecord, last_record}
 use Rattle.ks_engine.specs.Staleness.{found, suspect_since}
 use Rattle.ks_engine.specs.Shows.{Shows, stamp}
 use Rattle.ks_engine.specs.Asked.{Asked, Answered, ByStamps, asked, command_file, IsBadStamp}
@@ -87,7 +87,7 @@ IsExplained files o answer = IsExplainedBy files (places_of (command_file o (con
 -- ---- by histories
 
 -- of a recorded object
-pub record IsExplanationJudged (files : Files) (h : History) (o : List ℕ) (r : Record) (answer : Result Explanation EngineError) : Type 0 where
+pub record IsExplanationJudged (files : Files) (h : History) (o : List ℕ) (r : LastRecord) (answer : Result Explanation EngineError) : Type 0 where
   -- The verdict is as any other one.
   pub judged : IsJudged files h o r (told answer)
   -- The causes are the names that are suspect, in the order in which they were found, ..
@@ -97,7 +97,7 @@ pub record IsExplanationJudged (files : Files) (h : History) (o : List ℕ) (r :
 
 -- of each object that is recorded in a history that the files show
 abbrev pub ExplainsRecorded : Files → List ℕ → Result Explanation EngineError → Type 0
-ExplainsRecorded files o answer = (h : History) (r : Record) → Shows files h → last_record h o ≡ Some r → IsExplanationJudged files h o r answer
+ExplainsRecorded files o answer = (h : History) (r : LastRecord) → Shows files h → last_record h o ≡ Some r → IsExplanationJudged files h o r answer
 
 -- ---- a law: places are first
 

@@ -14,28 +14,28 @@ use Rattle.ks_engine.specs.Synchronised.{AreChanged, IsSynced, IsBrokenOff}
 use Rattle.ks_engine.specs.SyncPlan.{Plan, IsSyncPlan}
 
 -- the files of a tree, how often its device has failed, and what was done to it
-pub record State : Type 0 where
+pub record TreeState : Type 0 where
   pub files : Files
   pub failures : ℕ
   pub history : History
 
-abbrev pub at : Files → ℕ → History → State
+abbrev pub at : Files → ℕ → History → TreeState
 at files failures history = record { files = files; failures = failures; history = history }
 
 -- From each history that the files of an honest tree show there is a next one by this relation, and the files then show it.
-abbrev pub GoesOn : {T : Type 0} → Ghosts T → T → T → (State → State → Type 0) → Type 0
+abbrev pub GoesOn : {T : Type 0} → Ghosts T → T → T → (TreeState → TreeState → Type 0) → Type 0
 GoesOn tree old new follows =
     tree.is_honest → (h : History) → Shows (tree.files old) h → (next : History)
     × follows (at (tree.files old) (tree.failures old) h) (at (tree.files new) (tree.failures new) next) × Shows (tree.files new) next
 
 -- neither the files nor the history have changed
-abbrev pub IsSame : State → State → Type 0
+abbrev pub IsSame : TreeState → TreeState → Type 0
 IsSame old new = (new.files ≡ old.files) × (new.history ≡ old.history)
 
 -- ---- synchronising
 
 -- A completed synchronisation is the newest event, and reports what changed since the one before it.
-pub record FollowsSynced (old : State) (kconfig dotconfig : List ℕ) (report : Report) (new : State) : Type 0 where
+pub record FollowsSynced (old : TreeState) (kconfig dotconfig : List ℕ) (report : Report) (new : TreeState) : Type 0 where
   pub files : IsSynced old.files new.files kconfig dotconfig report
   pub history : new.history ≡ Synced files.plan.title files.plan.config old.history
   pub generation : report.generation ≡ done new.history
@@ -45,7 +45,7 @@ pub record FollowsSynced (old : State) (kconfig dotconfig : List ℕ) (report : 
 abbrev pub IsBrokenEvent : History → Plan → List (List ℕ) → History → Type 0
 IsBrokenEvent past plan renewed next = (next ≡ Broken plan.title plan.config renewed past) ⊎ (next ≡ Synced plan.title plan.config past)
 
-abbrev pub FollowsSync : List ℕ → List ℕ → Result Report EngineError → State → State → Type 0
+abbrev pub FollowsSync : List ℕ → List ℕ → Result Report EngineError → TreeState → TreeState → Type 0
 FollowsSync kconfig dotconfig (Ok report) old new = FollowsSynced old kconfig dotconfig report new
 FollowsSync kconfig dotconfig (Err e) old new =
     (IsSyncPlan old.files kconfig dotconfig (Err e) × IsSame old new)
@@ -55,12 +55,12 @@ FollowsSync kconfig dotconfig (Err e) old new =
 -- ---- recording
 
 -- The object, its command and its names are the newest event, with the header as it stood.
-abbrev pub IsRecordEvent : State → List ℕ → List ℕ → List (List ℕ) → History → Type 0
+abbrev pub IsRecordEvent : TreeState → List ℕ → List ℕ → List (List ℕ) → History → Type 0
 IsRecordEvent old target command names next =
     (header : List ℕ) × (content old.files header_path ≡ Some header) × (next ≡ Recorded target command names header old.history)
 
 -- It is recorded under the last generation. Before the first synchronisation of its history it is not claimed: no event is added.
-pub record FollowsRecorded (old : State) (depfile target command : List ℕ) (answer : RecordAnswer) (new : State) : Type 0 where
+pub record FollowsRecorded (old : TreeState) (depfile target command : List ℕ) (answer : RecordAnswer) (new : TreeState) : Type 0 where
   pub files : IsRecorded old.files new.files depfile target command answer
   pub generation : answer.generation ≡ done old.history
   pub some : 0 < done old.history
@@ -68,7 +68,7 @@ pub record FollowsRecorded (old : State) (depfile target command : List ℕ) (an
       ⊎ ((WasSynced old.history → ⊥) × (new.history ≡ old.history))
 
 -- One that was given up at the write has left the old command file, or is recorded.
-abbrev pub FollowsRecord : List ℕ → List ℕ → List ℕ → Result RecordAnswer EngineError → State → State → Type 0
+abbrev pub FollowsRecord : List ℕ → List ℕ → List ℕ → Result RecordAnswer EngineError → TreeState → TreeState → Type 0
 FollowsRecord depfile target command (Ok answer) old new = FollowsRecorded old depfile target command answer new
 FollowsRecord depfile target command (Err e) old new =
     ((record_plan old.files depfile target command ≡ Err e) × IsSame old new)

@@ -35,13 +35,13 @@ WasSynced (Broken title config renewed past) = WasSynced past
 WasSynced (Recorded object command names header past) = WasSynced past
 
 -- the last record of an object, and what was before it
-pub record Record : Type 0 where
+pub record LastRecord : Type 0 where
   pub command : List ℕ
   pub names : List (List ℕ)
   pub header : List ℕ
   pub past : History
 
-abbrev pub last_record : History → List ℕ → Option Record
+abbrev pub last_record : History → List ℕ → Option LastRecord
 last_record (Begun texts generation stamps) o = None
 last_record (Synced title config past) o = last_record past o
 last_record (Broken title config renewed past) o = last_record past o

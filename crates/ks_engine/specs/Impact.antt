@@ -12,7 +12,7 @@ use Rattle.ks_engine.specs.declared.impact.Impact.{Impact}
 use Rattle.ks_engine.specs.declared.staleness.Verdict.{Verdict}
 use Rattle.ks_engine.specs.declared.synchronise.Report.{Report}
 use Rattle.ks_engine.specs.Refusals.{GaveUp}
-use Rattle.ks_engine.specs.History.{History, Synced, Record, last_record}
+use Rattle.ks_engine.specs.History.{History, Synced, LastRecord, last_record}
 use Rattle.ks_engine.specs.Shows.{Shows}
 use Rattle.ks_engine.specs.LastSync.{last_generation}
 use Rattle.ks_engine.specs.Synchronised.{IsSynced}
@@ -31,7 +31,7 @@ AnswersBehind files kconfig dotconfig o answer =
 -- Of each object that is recorded in a history that the files show, it is judged by that history with the synchronisation added.
 abbrev pub JudgesBehind : Files → List ℕ → List ℕ → List ℕ → Result Verdict EngineError → Type 0
 JudgesBehind files kconfig dotconfig o answer =
-    (after : Files) (report : Report) (synced : IsSynced files after kconfig dotconfig report) (h : History) (r : Record) → Shows files h
+    (after : Files) (report : Report) (synced : IsSynced files after kconfig dotconfig report) (h : History) (r : LastRecord) → Shows files h
     → last_record h o ≡ Some r → IsJudged after (Synced synced.plan.title synced.plan.config h) o r answer
 
 -- What a question asks of such a tree: its generation and the touched stamps are of the report, all else is as before.

@@ -9,17 +9,17 @@ use Rattle.ks_engine.specs.declared.staleness.Verdict.TheVariants.{Fresh}
 use Rattle.ks_engine.specs.declared.staleness.BuildState.{BuildState}
 use Rattle.ks_engine.specs.declared.staleness.BuildState.TheVariants.{CommandDiffers}
 use Rattle.ks_engine.specs.Refusals.{GaveUp}
-use Rattle.ks_engine.specs.History.{History, Record, last_record, NoneBroken}
+use Rattle.ks_engine.specs.History.{History, LastRecord, last_record, NoneBroken}
 use Rattle.ks_engine.specs.Staleness.{first_changed, first_suspect, verdict}
 use Rattle.ks_engine.specs.Shows.{Shows}
-use Rattle.ks_engine.specs.Built.{judged}
+use Rattle.ks_engine.specs.BuildStates.{judged}
 
 -- The header in the tree defines each of the names in the same lines as the header at the record.
-abbrev pub HasSameDefinitions : Files → Record → Type 0
+abbrev pub HasSameDefinitions : Files → LastRecord → Type 0
 HasSameDefinitions files r = (x : List ℕ) → is_in r.names x ≡ true → (b : List ℕ) × (content files header_path ≡ Some b)
     × (definitions x b ≡ definitions x r.header)
 
-pub record IsJudged (files : Files) (h : History) (o : List ℕ) (r : Record) (answer : Result Verdict EngineError) : Type 0 where
+pub record IsJudged (files : Files) (h : History) (o : List ℕ) (r : LastRecord) (answer : Result Verdict EngineError) : Type 0 where
   -- It is stale by the first of its names that is suspect, and else fresh.
   pub suspect : GaveUp answer ⊎ (answer ≡ Ok (verdict (first_suspect h o)))
   -- Where no synchronisation was broken off, that is the first that one of them changed since the record.
@@ -29,9 +29,9 @@ pub record IsJudged (files : Files) (h : History) (o : List ℕ) (r : Record) (a
 
 -- of each object that is recorded in a history that the files show
 abbrev pub JudgesRecorded : Files → List ℕ → Result Verdict EngineError → Type 0
-JudgesRecorded files o answer = (h : History) (r : Record) → Shows files h → last_record h o ≡ Some r → IsJudged files h o r answer
+JudgesRecorded files o answer = (h : History) (r : LastRecord) → Shows files h → last_record h o ≡ Some r → IsJudged files h o r answer
 
 -- Its command is told apart first: where it is another one than that of the record, nothing else is said.
-pub record IsBuildJudged (files : Files) (h : History) (o command : List ℕ) (r : Record) (answer : Result BuildState EngineError) : Type 0 where
+pub record IsBuildJudged (files : Files) (h : History) (o command : List ℕ) (r : LastRecord) (answer : Result BuildState EngineError) : Type 0 where
   pub differs : bytes_eq r.command command ≡ false → GaveUp answer ⊎ (answer ≡ Ok CommandDiffers)
   pub same : bytes_eq r.command command ≡ true → (verdict : Result Verdict EngineError) × (answer ≡ judged verdict) × IsJudged files h o r verdict

@@ -8,7 +8,7 @@ use Rattle.ks_tree.specs.Stamps.{HasNumber}
 use Rattle.ks_engine.specs.declared.error.EngineError.{EngineError}
 use Rattle.ks_compare.specs.Changes.{differs}
 use Rattle.ks_output.specs.OldConfig.{Texts}
-use Rattle.ks_engine.specs.History.{History, Begun, Synced, Broken, Recorded, Record, before, done, last_record}
+use Rattle.ks_engine.specs.History.{History, Begun, Synced, Broken, Recorded, LastRecord, before, done, last_record}
 use Rattle.ks_engine.specs.Staleness.{suspect_since}
 use Rattle.ks_engine.specs.Legal.{IsHistory}
 use Rattle.ks_engine.specs.Shows.{Shows, IsFirstAuto}
@@ -47,4 +47,4 @@ HasChangeBehind g x (Recorded object command names header past) = HasChangeBehin
 -- Where a name of an object is suspect, such a synchronisation began behind the last one that was completed before its record.
 abbrev pub SuspicionsHaveCauses : Type 0
 SuspicionsHaveCauses =
-    (h : History) (o x : List ℕ) (r : Record) → IsHistory h → last_record h o ≡ Some r → suspect_since h o x ≡ true → HasChangeBehind (done r.past) x h
+    (h : History) (o x : List ℕ) (r : LastRecord) → IsHistory h → last_record h o ≡ Some r → suspect_since h o x ≡ true → HasChangeBehind (done r.past) x h

@@ -6,7 +6,7 @@ pub mod LastSync
 pub mod SyncPlan
 pub mod Synchronised
 pub mod Asked
-pub mod Built
+pub mod BuildStates
 pub mod Judged
 pub mod Explained
 pub mod Recording

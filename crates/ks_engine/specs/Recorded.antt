@@ -2,7 +2,7 @@
 use Rattle.std.specs.Prelude.{◌≡◌, ◌⊎◌, ℕ, List, Some, Result, Ok, Err, nat_lt, length, if◌then◌else◌}
 use Rattle.ks_symbols.specs.Lines.{max_bytes}
 use Rattle.ks_fixdep.specs.declared.dependency_file.Role.{Role}
-use Rattle.ks_fixdep.specs.CommandFile.{Record as CommandRecord, IsLegal, command_text}
+use Rattle.ks_fixdep.specs.CommandFile.{CommandRecord, IsLegal, command_text}
 use Rattle.ks_fixdep.specs.FoundNames.{names_of}
 use Rattle.ks_fixdep.specs.Record.{record_of}
 use Rattle.ks_tree.specs.Files.{Files, content, SameButBoth}

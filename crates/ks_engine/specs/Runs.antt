@@ -8,25 +8,25 @@ use Rattle.ks_engine.specs.declared.staleness.Verdict.{Verdict as VerdictValue}
 use Rattle.ks_engine.specs.declared.commands.Reply.{Reply}
 use Rattle.ks_engine.specs.declared.commands.Reply.TheVariants.{Synced, Recorded, Verdict, Refused}
 use Rattle.ks_engine.specs.Refusals.{GaveUp}
-use Rattle.ks_engine.specs.History.{Record as LastRecord, last_record, NoneBroken}
+use Rattle.ks_engine.specs.History.{LastRecord, last_record, NoneBroken}
 use Rattle.ks_engine.specs.Shows.{Shows}
 use Rattle.ks_engine.specs.Asked.{asked, IsAnswer}
 use Rattle.ks_engine.specs.Judged.{IsJudged}
-use Rattle.ks_engine.specs.Follows.{State, IsSame, FollowsSync, FollowsRecord}
+use Rattle.ks_engine.specs.Follows.{TreeState, IsSame, FollowsSync, FollowsRecord}
 use Rattle.ks_engine.specs.Actions.{Action, Sync, Record, Stale}
 use Rattle.ks_engine.specs.Verdicts.{IsSuspectVerdict, IsChangedVerdict, IsSafeVerdict, IsGivenUpSync}
 
-abbrev pub IsShown : State → Type 0
+abbrev pub IsShown : TreeState → Type 0
 IsShown s = Shows s.files s.history
 
 -- A question changes nothing, and is answered by the files; of a recorded object, as its history says.
-pub record FollowsStale (old : State) (o : List ℕ) (answer : Result VerdictValue EngineError) (new : State) : Type 0 where
+pub record FollowsStale (old : TreeState) (o : List ℕ) (answer : Result VerdictValue EngineError) (new : TreeState) : Type 0 where
   pub same : IsSame old new
   pub by_files : GaveUp answer ⊎ IsAnswer old.files (asked old.files o) answer
   pub recorded : (r : LastRecord) → last_record old.history o ≡ Some r → IsJudged old.files old.history o r answer
 
 -- the state after an action, by its reply
-abbrev pub Leaves : State → Action → Reply → State → Type 0
+abbrev pub Leaves : TreeState → Action → Reply → TreeState → Type 0
 Leaves old (Sync kconfig dotconfig) (Synced report) new = FollowsSync kconfig dotconfig (Ok report) old new
 Leaves old (Sync kconfig dotconfig) (Refused e) new = FollowsSync kconfig dotconfig (Err e) old new
 Leaves old (Record depfile target command) (Recorded answer) new = FollowsRecord depfile target command (Ok answer) old new
@@ -36,26 +36,26 @@ Leaves old (Stale target) (Refused e) new = FollowsStale old target (Err e) new
 Leaves old _ _ new = ⊥
 
 -- .. where the count of failures never fell, and the device is to blame only where it rose
-pub record Follows (action : Action) (reply : Reply) (old new : State) : Type 0 where
+pub record Follows (action : Action) (reply : Reply) (old new : TreeState) : Type 0 where
   pub leaves : Leaves old action reply new
   pub later : old.failures ≤ new.failures
   pub cause : reply ≡ Refused Device → HasRisen old.failures new.failures
 
 -- one action, with the states around it
 pub record Step : Type 0 where
-  pub before : State
+  pub before : TreeState
   pub action : Action
   pub reply : Reply
-  pub after : State
+  pub after : TreeState
 
 -- Each step begins where the one before it ended, and each state is shown.
-abbrev pub Leads : State → List Step → State → Type 0
+abbrev pub Leads : TreeState → List Step → TreeState → Type 0
 Leads first [] last = last ≡ first
 Leads first (step ∷ steps) last =
     (step.before ≡ first) × Follows step.action step.reply step.before step.after × IsShown step.after × Leads step.after steps last
 
 -- A run of actions with these replies: the steps, and what holds of the verdicts among them.
-pub record Run (first : State) (asked : List Action) (answered : List Reply) (last : State) : Type 0 where
+pub record Run (first : TreeState) (asked : List Action) (answered : List Reply) (last : TreeState) : Type 0 where
   pub steps : List Step
   pub actions : map (λ step. step.action) steps ≡ asked
   pub replies : map (λ step. step.reply) steps ≡ answered

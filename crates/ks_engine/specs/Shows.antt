@@ -6,13 +6,13 @@ use Rattle.ks_symbols.specs.Names.{is_name, is_in, header_path}
 use Rattle.ks_output.specs.AutoText.{auto_text}
 use Rattle.ks_output.specs.AutoConf.{auto_map, auto_generation, auto_refusal}
 use Rattle.ks_compare.specs.Changes.{differs}
-use Rattle.ks_fixdep.specs.CommandFile.{Record as CommandRecord}
+use Rattle.ks_fixdep.specs.CommandFile.{CommandRecord}
 use Rattle.ks_fixdep.specs.CommandReading.{reading}
 use Rattle.ks_tree.specs.Files.{Files, content}
 use Rattle.ks_tree.specs.Paths.{auto_path, stamp_path, command_path}
 use Rattle.ks_tree.specs.Stamps.{HasNumber}
 use Rattle.ks_output.specs.OldConfig.{Texts}
-use Rattle.ks_engine.specs.History.{History, Begun, Synced, Broken, Recorded, Record, before, done, WasSynced, last_record}
+use Rattle.ks_engine.specs.History.{History, Begun, Synced, Broken, Recorded, LastRecord, before, done, WasSynced, last_record}
 use Rattle.ks_engine.specs.Legal.{IsHistory, MayBeHeader}
 use Rattle.ks_fixdep.specs.Record.{config_names}
 
@@ -36,7 +36,7 @@ stamp (Broken title config renewed past) x = if is_in renewed x then done past +
 stamp (Recorded object command names header past) x = stamp past x
 
 -- a command file of an object that says what was recorded
-pub record IsCommandFile (o : List ℕ) (r : Record) (b : List ℕ) : Type 0 where
+pub record IsCommandFile (o : List ℕ) (r : LastRecord) (b : List ℕ) : Type 0 where
   pub small : length b ≤ max_bytes
   pub file : CommandRecord
   pub reads : reading b ≡ Ok file
@@ -50,4 +50,4 @@ pub record Shows (files : Files) (h : History) : Type 0 where
   pub auto : IsAuto h (content files auto_path)
   pub header : WasSynced h → (b : List ℕ) × (content files header_path ≡ Some b) × MayBeHeader h b
   pub stamps : (x : List ℕ) → IsTrue (is_name x) → HasNumber (content files (stamp_path x)) (stamp h x)
-  pub commands : (o : List ℕ) (r : Record) → last_record h o ≡ Some r → (b : List ℕ) × (content files (command_path o) ≡ Some b) × IsCommandFile o r b
+  pub commands : (o : List ℕ) (r : LastRecord) → last_record h o ≡ Some r → (b : List ℕ) × (content files (command_path o) ≡ Some b) × IsCommandFile o r b

@@ -4,10 +4,10 @@ use Rattle.ks_symbols.specs.Names.{is_in}
 use Rattle.ks_compare.specs.Changes.{differs}
 use Rattle.ks_engine.specs.declared.staleness.Verdict.{Verdict}
 use Rattle.ks_engine.specs.declared.staleness.Verdict.TheVariants.{Fresh, Changed}
-use Rattle.ks_engine.specs.History.{History, Begun, Synced, Broken, Recorded, Record, before, last_record}
+use Rattle.ks_engine.specs.History.{History, Begun, Synced, Broken, Recorded, LastRecord, before, last_record}
 
 -- the names found at an object's last record
-abbrev pub names_of : Option Record → List (List ℕ)
+abbrev pub names_of : Option LastRecord → List (List ℕ)
 names_of None = []
 names_of (Some r) = r.names
 

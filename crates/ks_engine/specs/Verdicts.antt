@@ -4,10 +4,10 @@ use Rattle.ks_engine.specs.declared.staleness.Verdict.TheVariants.{Fresh}
 use Rattle.ks_engine.specs.declared.commands.Reply.{Reply}
 use Rattle.ks_engine.specs.declared.commands.Reply.TheVariants.{Verdict, Refused}
 use Rattle.ks_engine.specs.Refusals.{IsGivenUp}
-use Rattle.ks_engine.specs.History.{History, Record as LastRecord, last_record}
+use Rattle.ks_engine.specs.History.{History, LastRecord, last_record}
 use Rattle.ks_engine.specs.Staleness.{first_changed, first_suspect, verdict}
 use Rattle.ks_engine.specs.Judged.{HasSameDefinitions}
-use Rattle.ks_engine.specs.Follows.{State}
+use Rattle.ks_engine.specs.Follows.{TreeState}
 use Rattle.ks_engine.specs.Actions.{Action, Sync, Stale}
 
 -- A verdict on a recorded object is the first of its names that is suspect, ..
@@ -21,7 +21,7 @@ IsChangedVerdict h (Stale o) (Verdict v) = (r : LastRecord) → last_record h o 
 IsChangedVerdict h _ _ = Unit {0}
 
 -- Where a recorded object is called fresh, the header defines each of its names in the same lines as at its record.
-abbrev pub IsSafeVerdict : State → Action → Reply → Type 0
+abbrev pub IsSafeVerdict : TreeState → Action → Reply → Type 0
 IsSafeVerdict s (Stale o) (Verdict v) = (r : LastRecord) → last_record s.history o ≡ Some r → v ≡ Fresh → HasSameDefinitions s.files r
 IsSafeVerdict s _ _ = Unit {0}
 

@@ -15,7 +15,7 @@ use ks_tree::{Tree, auto_path};
 use std::alloc::Global;
 
 /// The texts and the generation of auto.conf, which are none and 0 where it is missing.
-pub(crate) fn read_old<T: Tree>(alloc: Global, tree: &mut T) -> Result<OldConfig, EngineError>
+pub fn read_old<T: Tree>(alloc: Global, tree: &mut T) -> Result<OldConfig, EngineError>
     ensures reads { Reads T.Tree tree.old tree.new (IsErrOf result EngineError.Device) }
     ensures read { T.is_honest → Answers (old_auto (content (T.files tree.old) auto_path)) old_of result }
     ensures names { IfOk result (λ old. HasNames old.texts) }

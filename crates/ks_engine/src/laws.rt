@@ -28,8 +28,8 @@ pub fn other_records_do_not_matter()
 {}
 
 /// A name of a record stands behind the first prerequisite in which it was found. A scanned prerequisite, as another rule of a
-/// dependency file has one, has no line of its own: its names stand behind the last one that has. So `theirs` is said of lists
-/// without one, which are all lists of a single rule.
+/// dependency file has one, has no line of its own: its names stand behind the last one that has. `theirs` is said of lists
+/// that have none of these, as a dependency file of a single rule makes them.
 pub fn places_are_first()
     ensures first { PlacesAreFirst }
     ensures theirs { PlacesAreTheirs }

@@ -20,6 +20,7 @@ pub use commands::{Command, Reply, run};
 pub use error::EngineError;
 pub use explaining::{Cause, Explanation, explain, explain_by};
 pub use impact::Impact;
+pub use last_sync::read_old;
 pub use laws::{
     beginnings_are_shown, other_records_do_not_matter, places_are_first, plans_are_one,
     suspicions_have_causes,

@@ -8,11 +8,11 @@ ghost use Rattle.ks_tree.specs.Frames.{Reads};
 ghost use Rattle.ks_tree.specs.Files.{content};
 ghost use Rattle.ks_tree.specs.Paths.{command_path};
 ghost use Rattle.ks_engine.specs.Refusals.{Answers, GaveUp, IsGivenUp};
-ghost use Rattle.ks_engine.specs.History.{History, Record, last_record};
+ghost use Rattle.ks_engine.specs.History.{History, LastRecord, last_record};
 ghost use Rattle.ks_engine.specs.Shows.{Shows};
 ghost use Rattle.ks_engine.specs.Asked.{command_file, asked, asked_since, IsByStamps, IsAnswer};
 ghost use Rattle.ks_engine.specs.Memos.{IsMemoOf};
-ghost use Rattle.ks_engine.specs.Built.{built, IsBuilt};
+ghost use Rattle.ks_engine.specs.BuildStates.{build_asked, IsBuildState};
 ghost use Rattle.ks_engine.specs.Judged.{JudgesRecorded, IsBuildJudged};
 
 use crate::EngineError;
@@ -165,7 +165,7 @@ fn ask_built<T: Tree>(
     requires memo { T.is_honest → IsMemoOf (T.files tree.old) memo.old }
     ensures reads { Reads T.Tree tree.old tree.new (IsErrOf result EngineError.Device) }
     ensures memo { T.is_honest → IsMemoOf (T.files tree.new) memo.new }
-    ensures answer { T.is_honest → GaveUp result ⊎ IsBuilt (T.files tree.old) (built (T.files tree.old) target.now command.now) result }
+    ensures answer { T.is_honest → GaveUp result ⊎ IsBuildState (T.files tree.old) (build_asked (T.files tree.old) target.now command.now) result }
 {
     if !target_is_legal(target) {
         return Err(EngineError::BadPath(0));
@@ -221,9 +221,9 @@ pub fn outdated<T: Tree>(
 ) -> Result<BuildState, EngineError>
     ensures reads { Reads T.Tree tree.old tree.new (IsErrOf result EngineError.Device) }
     // By the files: memory and the device aside, what its steps answer.
-    ensures answer { T.is_honest → GaveUp result ⊎ IsBuilt (T.files tree.old) (built (T.files tree.old) target.now command.now) result }
+    ensures answer { T.is_honest → GaveUp result ⊎ IsBuildState (T.files tree.old) (build_asked (T.files tree.old) target.now command.now) result }
     // By histories: the command is compared with that of the record, and then as `stale`.
-    ensures recorded { T.is_honest → IsTrue (is_command command.now) → (h : History) (r : Record) → Shows (T.files tree.old) h
+    ensures recorded { T.is_honest → IsTrue (is_command command.now) → (h : History) (r : LastRecord) → Shows (T.files tree.old) h
         → last_record h target.now ≡ Some r → IsBuildJudged (T.files tree.old) h target.now command.now r result }
 {
     let mut memo = Memo::new(alloc);

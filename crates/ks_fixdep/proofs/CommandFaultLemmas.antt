@@ -8,7 +8,7 @@ use Rattle.ks_symbols.specs.Decimal.{decimal_value}
 use Rattle.ks_symbols.specs.Names.{is_target, is_path}
 use Rattle.ks_fixdep.specs.declared.command_file.Dep.{Dep}
 use Rattle.ks_fixdep.specs.CommandLines.{line_feed, content, behind, before}
-use Rattle.ks_fixdep.specs.CommandFile.{Record, is_command, deps_begin, target_line, deps_end, generation_mark, ended}
+use Rattle.ks_fixdep.specs.CommandFile.{CommandRecord, is_command, deps_begin, target_line, deps_end, generation_mark, ended}
 use Rattle.ks_fixdep.specs.CommandReads.{IsFirstMisfit}
 use Rattle.ks_fixdep.specs.CommandForms.{dep_in, saved_command, source_in}
 use Rattle.ks_fixdep.specs.CommandReading.{◌>>=◌, or_fault, fixed_at, form_at, deps_in, onto_deps, said, said_behind, generation_from, end_from, record_in}
@@ -317,7 +317,7 @@ end-stops n t ls g e =
     let b = fixed-begins n [] ls s.value s.first in
     ap deps_in b.is ∙ deps-line b.line s.value None (ap dep_in b.fits ∙ dep_in-none)
 
-abbrev recorded : List ℕ → List ℕ → List ℕ → List Dep → List (List ℕ) → Result Record ℕ
+abbrev recorded : List ℕ → List ℕ → List ℕ → List Dep → List (List ℕ) → Result CommandRecord ℕ
 recorded t c s ds ls = end_from (6 + length ds) t ls >>= λ g. Ok (record { target = t; command = c; source = s; deps = ds; generation = g })
 
 tail-reader : (t c s : List ℕ) → IsReader 6 (behind-deps (recorded t c s))

@@ -12,7 +12,7 @@ use Rattle.ks_symbols.specs.Decimal.{decimal_value, is_canonical}
 use Rattle.std.specs.Str.Parse.{digits_value}
 use Rattle.ks_fixdep.specs.declared.command_file.Dep.{Dep}
 use Rattle.ks_fixdep.specs.CommandLines.{line_feed, content, behind, before, between}
-use Rattle.ks_fixdep.specs.CommandFile.{Record, is_command, is_dep, IsLegal, dep_line, deps_begin, target_line, deps_end, layout, generation_mark}
+use Rattle.ks_fixdep.specs.CommandFile.{CommandRecord, is_command, is_dep, IsLegal, dep_line, deps_begin, target_line, deps_end, layout, generation_mark}
 use Rattle.ks_fixdep.specs.CommandReads.{generation_in, is_sound, LinesRead}
 use Rattle.ks_fixdep.specs.CommandForms.{dep_in, saved_command, source_in}
 use Rattle.ks_fixdep.specs.CommandReading.{◌>>=◌, or_fault, fixed_at, form_at, deps_in, onto_deps, said, said_behind, generation_from, end_from, record_in}
@@ -127,7 +127,7 @@ end-fits n t ls more e =
     none-left [] e = refl
     none-left (x ∷ xs) e = absurd cc
 
-record-fits : (f : Record) (ls more : List (List ℕ)) → IsLegal f → map content ls ≡ layout f → generation_from (6 + length f.deps + 4) more ≡ Ok f.generation
+record-fits : (f : CommandRecord) (ls more : List (List ℕ)) → IsLegal f → map content ls ≡ layout f → generation_from (6 + length f.deps + 4) more ≡ Ok f.generation
     → record_in (ls ++ more) ≡ Ok f
 unfolding record_in
 record-fits f ls more legal e generation =
@@ -160,7 +160,7 @@ record-fits f ls more legal e generation =
     ) refl
 
 -- what fits is read
-pub lines-read : (f : Record) (ls : List (List ℕ)) → LinesRead ls f → record_in ls ≡ Ok f
+pub lines-read : (f : CommandRecord) (ls : List (List ℕ)) → LinesRead ls f → record_in ls ≡ Ok f
 lines-read f ls is =
     ap record_in is.parts
     ∙ record-fits f is.laid_out is.appended is.legal is.fits
@@ -345,7 +345,7 @@ last-below (l ∷ ls) =
     (either-below (last_of (filter_map generation_in ls)) (generation_in l) (last-below ls) (decimal-below (between generation_mark line_feed l)))
 
 -- what is read fits
-pub lines-fit : (f : Record) (ls : List (List ℕ)) → record_in ls ≡ Ok f → LinesRead ls f
+pub lines-fit : (f : CommandRecord) (ls : List (List ℕ)) → record_in ls ≡ Ok f → LinesRead ls f
 unfolding record_in
 lines-fit f ls e =
     let s1 = steps (form_at 1 saved_command ls) _ f e in
@@ -362,7 +362,7 @@ lines-fit f ls e =
     let source = source-begins s2.value s3.value.1 t s3.value.0 s3.first in
     let deps = deps-begin ls' in
     let end = end-ends (6 + length ds) t (drop (length ds) ls') s6.value s6.first in
-    let r : Record = record { target = t; command = c; source = s3.value.0; deps = ds; generation = s6.value } in
+    let r : CommandRecord = record { target = t; command = c; source = s3.value.0; deps = ds; generation = s6.value } in
     let P : Option ℕ → Type 0 = λ o. IfSome o (λ g. g < 2 ^ 64) in
     let legal : IsLegal r = record {
       target = saved.0;

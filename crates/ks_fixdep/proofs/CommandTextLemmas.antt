@@ -13,7 +13,7 @@ use Rattle.ks_symbols.specs.Decimal.{decimal_value, is_canonical, starts_well}
 use Rattle.ks_fixdep.specs.declared.command_file.Dep.{Dep}
 use Rattle.ks_fixdep.specs.declared.command_file.Dep.TheVariants.{File, Config}
 use Rattle.ks_fixdep.specs.CommandLines.{line_feed, lines, content, behind, before}
-use Rattle.ks_fixdep.specs.CommandFile.{Record, is_command, is_command_byte, is_dep, IsLegal, dep_line, target_line, deps_end, layout, generation_mark, generation_line, ended, command_text}
+use Rattle.ks_fixdep.specs.CommandFile.{CommandRecord, is_command, is_command_byte, is_dep, IsLegal, dep_line, target_line, deps_end, layout, generation_mark, generation_line, ended, command_text}
 use Rattle.ks_fixdep.specs.CommandReads.{generation_in, is_sound, CommandReads}
 use Rattle.ks_fixdep.proofs.CommandFormLemmas.{and-parts, other-byte, all-imp, path-bytes, target-path, before-end, behind-front}
 
@@ -101,7 +101,7 @@ plain-last t plain =
     let deps = plain-append (codes "$(deps_" ++ t) (codes "):") plain refl in
     both-true (is_plain (target_line t)) (is_plain (deps_end t) && true) target (both-true (is_plain (deps_end t)) true deps refl)
 
-plain-layout : (f : Record) → IsLegal f → list_all is_plain (layout f) ≡ true
+plain-layout : (f : CommandRecord) → IsLegal f → list_all is_plain (layout f) ≡ true
 plain-layout f legal =
     let t = f.target in
     let target = plain-path t (target-path t legal.target) in
@@ -144,7 +144,7 @@ appended-last None back = refl
 appended-last (Some g) back = sym (ap (λ o. last_of (cons_option o [])) (generation_in-line g back))
 
 -- what is written of a command file reads as it
-pub written-reads : ((n : ℕ) → n < 2 ^ 64 → decimal_value (decimal n) ≡ Some n) → (f : Record) → IsLegal f → CommandReads (command_text f) f
+pub written-reads : ((n : ℕ) → n < 2 ^ 64 → decimal_value (decimal n) ≡ Some n) → (f : CommandRecord) → IsLegal f → CommandReads (command_text f) f
 written-reads back f legal =
     let g = for-some f.generation legal.generation in
     let plain = list_all-append is_plain (layout f) (generation_line f.generation)

@@ -7,7 +7,7 @@ use Rattle.std.proofs.Common.{◌∷◌, Option, map}
 use Rattle.std.specs.Prelude.{codes, flat_map}
 use Rattle.std.proofs.lemmas.Grind.{flat_map-append}
 use Rattle.ks_fixdep.specs.declared.command_file.Dep.{Dep}
-use Rattle.ks_fixdep.specs.CommandFile.{Record, layout, deps_begin, target_line, deps_end, ended, dep_line, generation_line, command_text}
+use Rattle.ks_fixdep.specs.CommandFile.{CommandRecord, layout, deps_begin, target_line, deps_end, ended, dep_line, generation_line, command_text}
 
 pub extends-same : (a b : List ℕ) → b ≡ a → Extends a b
 extends-same a b e = record { more = []; is = e ∙ sym (append-nil a) }
@@ -45,7 +45,7 @@ two-parts t sep x = append_assoc t sep x ∙ ap (λ k. t ++ (sep ++ k)) (sym (ap
 around : (t m r : List ℕ) → ((t ++ m) ++ t) ++ r ≡ t ++ (m ++ (t ++ r))
 around t m r = append_assoc (t ++ m) t r ∙ append_assoc t m (t ++ r)
 
-pub text-parts : (f : Record) → command_text f ≡ front f.target f.command f.source ++ (deps f.deps ++ (back f.target ++ last f.generation))
+pub text-parts : (f : CommandRecord) → command_text f ≡ front f.target f.command f.source ++ (deps f.deps ++ (back f.target ++ last f.generation))
 text-parts f =
     let t = f.target in
     let n = ended [] in

@@ -1,9 +1,9 @@
 -- A worked command file: two names of the source, and a listed file with a name of its own before another.
 use Rattle.std.specs.Prelude.{List, ℕ, codes, ◌++◌, [], ◌∷◌, Some}
 use Rattle.ks_fixdep.specs.declared.command_file.Dep.TheVariants.{File, Config}
-use Rattle.ks_fixdep.specs.CommandFile.{Record}
+use Rattle.ks_fixdep.specs.CommandFile.{CommandRecord}
 
-unfoldable pub example : Record
+unfoldable pub example : CommandRecord
 example = record {
   target = codes "x.o";
   command = codes "cc -c x.c";

@@ -8,14 +8,14 @@ use Rattle.ks_fixdep.specs.declared.command_file.CommandFile as code
 use Rattle.ks_fixdep.specs.CommandLines.{line_feed}
 
 -- a command file without where it lies in memory
-pub record Record : Type 0 where
+pub record CommandRecord : Type 0 where
   pub target : List ℕ
   pub command : List ℕ
   pub source : List ℕ
   pub deps : List Dep
   pub generation : Option ℕ
 
-abbrev pub view : code.CommandFile → Record
+abbrev pub view : code.CommandFile → CommandRecord
 view f = record { target = f.target; command = f.command.items; source = f.source; deps = f.deps.items; generation = f.generation }
 
 -- no line feed, carriage return or NUL
@@ -31,7 +31,7 @@ is_dep (File path) = is_path path
 is_dep (Config name) = is_name name
 
 -- each part is legal
-pub record IsLegal (f : Record) : Type 0 where
+pub record IsLegal (f : CommandRecord) : Type 0 where
   pub target : IsTrue (is_target f.target)
   pub command : IsTrue (is_command f.command)
   pub source : IsTrue (is_path f.source)
@@ -53,7 +53,7 @@ abbrev pub deps_end : List ℕ → List ℕ
 deps_end target = codes "$(deps_" ++ target ++ codes "):"
 
 -- the lines but for that of the generation
-abbrev pub layout : Record → List (List ℕ)
+abbrev pub layout : CommandRecord → List (List ℕ)
 layout f =
     (codes "savedcmd_" ++ f.target ++ codes " := " ++ f.command)
     ∷ []
@@ -75,5 +75,5 @@ abbrev pub ended : List ℕ → List ℕ
 ended line = line ++ line_feed
 
 -- the text
-abbrev pub command_text : Record → List ℕ
+abbrev pub command_text : CommandRecord → List ℕ
 command_text f = flat_map ended (layout f ++ generation_line f.generation)

@@ -5,7 +5,7 @@ use Rattle.std.specs.Str.{bytes_eq}
 use Rattle.ks_symbols.specs.Decimal.{decimal_value}
 use Rattle.ks_fixdep.specs.declared.command_file.Dep.{Dep}
 use Rattle.ks_fixdep.specs.CommandLines.{line_feed, lines, content, behind, before}
-use Rattle.ks_fixdep.specs.CommandFile.{Record, deps_begin, target_line, deps_end, generation_mark}
+use Rattle.ks_fixdep.specs.CommandFile.{CommandRecord, deps_begin, target_line, deps_end, generation_mark}
 use Rattle.ks_fixdep.specs.CommandForms.{saved_command, source_in, dep_in}
 
 infixl 10 ◌>>=◌
@@ -69,7 +69,7 @@ end_from n target ls = do
   ls ← fixed_at (n + 3) (deps_end target) ls
   generation_from (n + 4) ls
 
-unfoldable pub record_in : List (List ℕ) → Result Record ℕ
+unfoldable pub record_in : List (List ℕ) → Result CommandRecord ℕ
 record_in ls = do
   saved ← form_at 1 saved_command ls
   ls ← fixed_at 2 [] saved.1
@@ -80,5 +80,5 @@ record_in ls = do
   Ok (record { target = saved.0.0; command = saved.0.1; source = source.0; deps = deps_in ls; generation = generation })
 
 -- what a text reads as, or the number of its first line that does not fit
-abbrev pub reading : List ℕ → Result Record ℕ
+abbrev pub reading : List ℕ → Result CommandRecord ℕ
 reading text = record_in (lines text)

@@ -5,7 +5,7 @@ use Rattle.std.specs.List.{list_all, filter_map}
 use Rattle.memchr.specs.Find.{last_of}
 use Rattle.ks_symbols.specs.Decimal.{decimal_value}
 use Rattle.ks_fixdep.specs.CommandLines.{line_feed, lines, content, behind, between}
-use Rattle.ks_fixdep.specs.CommandFile.{Record, IsLegal, layout, generation_mark}
+use Rattle.ks_fixdep.specs.CommandFile.{CommandRecord, IsLegal, layout, generation_mark}
 
 -- the generation that a line says: a decimal stands between the mark and the line feed
 abbrev pub generation_in : List ℕ → Option ℕ
@@ -16,7 +16,7 @@ abbrev pub is_sound : List ℕ → Bool
 is_sound line = not (is_some (behind generation_mark line)) || is_some (generation_in line)
 
 -- The lines of a text, each with its end, are those of a command file. Of the layout's lines the contents count, so the last one may lack its line feed.
-pub record LinesRead (ls : List (List ℕ)) (f : Record) : Type 0 where
+pub record LinesRead (ls : List (List ℕ)) (f : CommandRecord) : Type 0 where
   pub laid_out : List (List ℕ)
   pub appended : List (List ℕ)
   pub legal : IsLegal f
@@ -25,13 +25,13 @@ pub record LinesRead (ls : List (List ℕ)) (f : Record) : Type 0 where
   pub sound : IsTrue (list_all is_sound appended)
   pub generation : f.generation ≡ last_of (filter_map generation_in appended)
 
-abbrev pub CommandReads : List ℕ → Record → Type 0
+abbrev pub CommandReads : List ℕ → CommandRecord → Type 0
 CommandReads text f = LinesRead (lines text) f
 
 -- lines that a command file begins with
 pub record IsBeginning (ls : List (List ℕ)) : Type 0 where
   pub more : List (List ℕ)
-  pub file : Record
+  pub file : CommandRecord
   pub reads : LinesRead (ls ++ more) file
 
 -- line n is the first that does not fit: a command file begins with the lines before it, and none with line n behind them, where it is there

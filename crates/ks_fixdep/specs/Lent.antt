@@ -5,12 +5,12 @@ use Rattle.ks_fixdep.specs.declared.command_file.Dep.TheVariants as dep
 use Rattle.ks_fixdep.specs.declared.command_file.lent.LentDep.{LentDep}
 use Rattle.ks_fixdep.specs.declared.command_file.lent.LentDep.TheVariants.{File, Config}
 use Rattle.ks_fixdep.specs.declared.command_file.lent.LentCommand.{LentCommand}
-use Rattle.ks_fixdep.specs.CommandFile.{Record}
+use Rattle.ks_fixdep.specs.CommandFile.{CommandRecord}
 
 -- a prerequisite or a name, without where its bytes lie
 abbrev pub seen_dep : LentDep → Dep
 seen_dep (File path) = dep.File path.now
 seen_dep (Config name) = dep.Config name.bytes.now
 
-abbrev pub lent_view : LentCommand → Record
+abbrev pub lent_view : LentCommand → CommandRecord
 lent_view f = record { target = f.target.now; command = f.command.now; source = f.source.now; deps = map seen_dep f.deps.items; generation = f.generation }

@@ -36,7 +36,7 @@ source_of [] = []
 source_of (p ∷ ps) = p.0
 
 -- the command file of a target, from its prerequisites and the names found in each; it has no generation yet
-abbrev pub record_of : List ℕ → List ℕ → List (List ℕ × Role) → List (List (List ℕ)) → command_file.Record
+abbrev pub record_of : List ℕ → List ℕ → List (List ℕ × Role) → List (List (List ℕ)) → command_file.CommandRecord
 record_of target command ps found =
     record { target = target; command = command; source = source_of ps; deps = deps_after [] ps found; generation = None }
 

@@ -27,8 +27,9 @@ fn append_heading(title: &[u8], out: &mut Vec<u8>) -> Result<(), AllocError>
     )
 }
 
-/// Appends a text between quotes.
-fn append_quoted(text: &[u8], out: &mut Vec<u8>) -> Result<(), AllocError>
+/// Appends a text between quotes, with a backslash before each quote and backslash in it: as the header and a `.config` have a
+/// string.
+pub fn write_quoted(text: &[u8], out: &mut Vec<u8>) -> Result<(), AllocError>
     ensures written { OnOk result (out.new.items ≡ out.old.items ++ quoted text.now) }
     ensures kept { Keeps out.old.items out.new.items }
 {
@@ -55,7 +56,7 @@ fn append_value(kind: Kind, text: &[u8], out: &mut Vec<u8>) -> Result<(), AllocE
         }
         Kind::Text => {
             out.extend_from_slice(b" ")?;
-            append_quoted(text, out)
+            write_quoted(text, out)
         }
         Kind::Int => append_all(&[b" ", text], out),
         Kind::Hex => {

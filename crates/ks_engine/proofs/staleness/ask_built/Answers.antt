@@ -4,42 +4,42 @@ use Rattle.ks_fixdep.specs.Lent.{lent_view}
 use Rattle.ks_engine.specs.Asked.{command_file}
 use Rattle.ks_engine.specs.declared.error.EngineError.TheVariants.{BadPath, BadCommand}
 use Rattle.ks_engine.specs.declared.staleness.Verdict.TheVariants.{NoCommandFile}
-use Rattle.ks_engine.proofs.Asking.{built_illegal, built_bad_command, built_read, built_as, built_refused, built_same, built_other, judged_here, refused_at}
+use Rattle.ks_engine.proofs.Asking.{build_illegal, build_bad_command, build_read, build_as, build_refused, build_same, build_other, judged_here, refused_at}
 use Rattle.ks_engine.proofs.staleness.ask_built.Goals as goal
 
 pub returns-then-not-target_is_legal-clause-answer : goal.returns-then-not-target_is_legal-clause-answer
 returns-then-not-target_is_legal-clause-answer g c = λ honest.
-    inr (built_as (g.T.Tree.files c.args.tree.now) _ _ _ (built_illegal (g.T.Tree.files c.args.tree.now) c.args.target.now c.args.command.now
+    inr (build_as (g.T.Tree.files c.args.tree.now) _ _ _ (build_illegal (g.T.Tree.files c.args.tree.now) c.args.target.now c.args.command.now
     c.if-not-target_is_legal.ensures) (Err (BadPath 0), refl, refl))
 
 pub returns-then-not-command_is_legal-clause-answer : goal.returns-then-not-command_is_legal-clause-answer
 returns-then-not-command_is_legal-clause-answer g c = λ honest.
-    inr (built_as (g.T.Tree.files c.args.tree.now) _ _ _ (built_bad_command (g.T.Tree.files c.args.tree.now) c.args.target.now c.args.command.now
+    inr (build_as (g.T.Tree.files c.args.tree.now) _ _ _ (build_bad_command (g.T.Tree.files c.args.tree.now) c.args.target.now c.args.command.now
     c.if-not-target_is_legal.ensures c.if-not-command_is_legal.ensures) (Err BadCommand, refl, refl))
 
 pub returns-in_err-text-clause-answer : goal.returns-in_err-text-clause-answer
 returns-in_err-text-clause-answer g c = λ honest.
     let p = err_from_is_err_and c.from_residual.result c.from_residual.ensures.1 in
-    rw (p.1, p.2) (built_refused (g.T.Tree.files c.args.tree.now) c.args.target.now c.args.command.now _ c.if-not-target_is_legal.ensures
+    rw (p.1, p.2) (build_refused (g.T.Tree.files c.args.tree.now) c.args.target.now c.args.command.now _ c.if-not-target_is_legal.ensures
     c.if-not-command_is_legal.ensures (c.in_err-text.ensures.refused honest))
 
 pub returns-in_err-file-clause-answer : goal.returns-in_err-file-clause-answer
 returns-in_err-file-clause-answer g c = λ honest.
     let p = err_from_is_err_and c.from_residual-in_err-file.result c.from_residual-in_err-file.ensures.1 in
     let at = sym (c.in_ok-text.ensures.read honest) ∙ ap (option_map (λ v. v.items)) c.in-Some.is ∙ ap (λ b. Some b) (sym c.deref.ensures.value) in
-    rw (p.1, p.2) (built_refused (g.T.Tree.files c.args.tree.now) c.args.target.now c.args.command.now _ c.if-not-target_is_legal.ensures
+    rw (p.1, p.2) (build_refused (g.T.Tree.files c.args.tree.now) c.args.target.now c.args.command.now _ c.if-not-target_is_legal.ensures
     c.if-not-command_is_legal.ensures (refused_at c.args.target.now _ _ _ at c.in_err-file.ensures.read))
 
 pub returns-in_default-clause-answer : goal.returns-in_default-clause-answer
 returns-in_default-clause-answer g c = λ honest.
-    inr (built_as (g.T.Tree.files c.args.tree.now) _ _ _ (built_read (g.T.Tree.files c.args.tree.now) c.args.target.now c.args.command.now _
+    inr (build_as (g.T.Tree.files c.args.tree.now) _ _ _ (build_read (g.T.Tree.files c.args.tree.now) c.args.target.now c.args.command.now _
     c.if-not-target_is_legal.ensures c.if-not-command_is_legal.ensures
     (ap (command_file c.args.target.now) (sym (c.in_ok-text.ensures.read honest) ∙ ap (option_map (λ v. v.items)) c.in_default.is)))
     (Ok NoCommandFile, refl, refl))
 
 pub returns-then-not-has_command-clause-answer : goal.returns-then-not-has_command-clause-answer
 returns-then-not-has_command-clause-answer g c = λ honest.
-    inr (built_as (g.T.Tree.files c.args.tree.now) _ _ _ (built_other (g.T.Tree.files c.args.tree.now) c.args.target.now c.args.command.now
+    inr (build_as (g.T.Tree.files c.args.tree.now) _ _ _ (build_other (g.T.Tree.files c.args.tree.now) c.args.target.now c.args.command.now
     (lent_view c.in_ok-file.file) c.if-not-target_is_legal.ensures c.if-not-command_is_legal.ensures
     (ap (command_file c.args.target.now) (sym (c.in_ok-text.ensures.read honest) ∙ ap (option_map (λ v. v.items)) c.in-Some.is ∙ ap (λ b. Some b)
     (sym c.deref.ensures.value)) ∙ c.in_ok-file.ensures.read) (sym c.if-not-has_command.ensures)) refl)
@@ -49,8 +49,8 @@ returns-in_err-verdict-clause-answer g c = λ honest.
     let p = err_from_is_err_and c.from_residual-in_err-verdict.result c.from_residual-in_err-verdict.ensures.1 in
     let said = judged_here (g.T.Tree.files c.args.tree.now) _ _ _ (Err c.in_err-verdict.field-0.0) (c.in_ok-text.ensures.reads.unchanged honest)
     (c.in_err-verdict.ensures.answer honest) in
-    rw (p.1, p.2) (⊎_elim (λ given. inl given) (λ is. inr (built_as (g.T.Tree.files c.args.tree.now) _ _ _
-    (built_same (g.T.Tree.files c.args.tree.now) c.args.target.now c.args.command.now (lent_view c.in_ok-file.file) c.if-not-target_is_legal.ensures
+    rw (p.1, p.2) (⊎_elim (λ given. inl given) (λ is. inr (build_as (g.T.Tree.files c.args.tree.now) _ _ _
+    (build_same (g.T.Tree.files c.args.tree.now) c.args.target.now c.args.command.now (lent_view c.in_ok-file.file) c.if-not-target_is_legal.ensures
     c.if-not-command_is_legal.ensures
     (ap (command_file c.args.target.now) (sym (c.in_ok-text.ensures.read honest) ∙ ap (option_map (λ v. v.items)) c.in-Some.is ∙ ap (λ b. Some b)
     (sym c.deref.ensures.value)) ∙ c.in_ok-file.ensures.read) (sym c.if-not-has_command.ensures)) (Err c.in_err-verdict.field-0.0, is, refl))) said)
@@ -59,8 +59,8 @@ pub returns-clause-answer : goal.returns-clause-answer
 returns-clause-answer g c = λ honest.
     let said = judged_here (g.T.Tree.files c.args.tree.now) _ _ _ (Ok c.in_ok-verdict.verdict) (c.in_ok-text.ensures.reads.unchanged honest)
     (c.in_ok-verdict.ensures.answer honest) in
-    ⊎_elim (λ given. absurd given) (λ is. inr (built_as (g.T.Tree.files c.args.tree.now) _ _ _
-    (built_same (g.T.Tree.files c.args.tree.now) c.args.target.now c.args.command.now (lent_view c.in_ok-file.file) c.if-not-target_is_legal.ensures
+    ⊎_elim (λ given. absurd given) (λ is. inr (build_as (g.T.Tree.files c.args.tree.now) _ _ _
+    (build_same (g.T.Tree.files c.args.tree.now) c.args.target.now c.args.command.now (lent_view c.in_ok-file.file) c.if-not-target_is_legal.ensures
     c.if-not-command_is_legal.ensures
     (ap (command_file c.args.target.now) (sym (c.in_ok-text.ensures.read honest) ∙ ap (option_map (λ v. v.items)) c.in-Some.is ∙ ap (λ b. Some b)
     (sym c.deref.ensures.value)) ∙ c.in_ok-file.ensures.read) (sym c.if-not-has_command.ensures)) (Ok c.in_ok-verdict.verdict, is, refl))) said

@@ -1,8 +1,8 @@
 use Rattle.std.proofs.Common.{◌≡◌, ◌++◌, ◌∷◌, take}
 use Rattle.std.specs.List.{flat_map}
 use Rattle.ks_symbols.specs.Values.{escape}
-use Rattle.ks_commands.proofs.differences.write_quoted.Given as goal
+use Rattle.ks_output.proofs.header.write_quoted.Given as goal
 
 -- the quote and the bytes so far
 abbrev pub invariant-loop-byte : goal.invariant-loop-byte
-invariant-loop-byte l = l.text.items ≡ l.fn.text.items ++ 34 ∷ flat_map escape (take l.byte-index l.value)
+invariant-loop-byte l = l.out.items ≡ l.fn.out.items ++ 34 ∷ flat_map escape (take l.byte-index l.text)

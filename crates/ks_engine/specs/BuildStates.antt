@@ -1,7 +1,7 @@
--- Whether an object was built by a command, by the files.
+-- Whether an object was build_asked by a command, by the files.
 use Rattle.std.specs.Prelude.{◌≡◌, ℕ, List, Option, Some, Result, Ok, Err, if◌then◌else◌, bytes_eq}
 use Rattle.ks_symbols.specs.Names.{is_target}
-use Rattle.ks_fixdep.specs.CommandFile.{Record, is_command}
+use Rattle.ks_fixdep.specs.CommandFile.{CommandRecord, is_command}
 use Rattle.ks_tree.specs.Files.{Files, content}
 use Rattle.ks_tree.specs.Paths.{command_path}
 use Rattle.ks_engine.specs.declared.error.EngineError.{EngineError}
@@ -12,18 +12,18 @@ use Rattle.ks_engine.specs.declared.staleness.BuildState.TheVariants.{CommandDif
 use Rattle.ks_engine.specs.Asked.{Asked, Answered, asked_of, command_file, IsAnswer}
 
 -- the saved command is another one, or the rest is as asked
-pub data Built : Type 0 where
-  Differs : Built
-  Asks : Asked → Built
+pub data BuildAsked : Type 0 where
+  Differs : BuildAsked
+  Asks : Asked → BuildAsked
 
-abbrev pub built_by : Files → List ℕ → Result (Option Record) EngineError → Built
-built_by files command (Ok (Some file)) = if bytes_eq file.command command then Asks (asked_of files (Ok (Some file))) else Differs
-built_by files command read = Asks (asked_of files read)
+abbrev pub build_asked_of : Files → List ℕ → Result (Option CommandRecord) EngineError → BuildAsked
+build_asked_of files command (Ok (Some file)) = if bytes_eq file.command command then Asks (asked_of files (Ok (Some file))) else Differs
+build_asked_of files command read = Asks (asked_of files read)
 
 -- The two words come first; the command is compared before a generation or auto.conf is looked at.
-unfoldable pub built : Files → List ℕ → List ℕ → Built
-built files o command =
-    if is_target o then (if is_command command then built_by files command (command_file o (content files (command_path o)))
+unfoldable pub build_asked : Files → List ℕ → List ℕ → BuildAsked
+build_asked files o command =
+    if is_target o then (if is_command command then build_asked_of files command (command_file o (content files (command_path o)))
     else Asks (Answered (Err BadCommand)))
     else Asks (Answered (Err (BadPath 0)))
 
@@ -31,6 +31,6 @@ abbrev pub judged : Result Verdict EngineError → Result BuildState EngineError
 judged (Ok verdict) = Ok (Judged verdict)
 judged (Err e) = Err e
 
-abbrev pub IsBuilt : Files → Built → Result BuildState EngineError → Type 0
-IsBuilt files Differs answer = answer ≡ Ok CommandDiffers
-IsBuilt files (Asks question) answer = (verdict : Result Verdict EngineError) × IsAnswer files question verdict × (answer ≡ judged verdict)
+abbrev pub IsBuildState : Files → BuildAsked → Result BuildState EngineError → Type 0
+IsBuildState files Differs answer = answer ≡ Ok CommandDiffers
+IsBuildState files (Asks question) answer = (verdict : Result Verdict EngineError) × IsAnswer files question verdict × (answer ≡ judged verdict)

@@ -13,10 +13,10 @@ use crate::folder_fault::FolderFault;
 use crate::new_file::write_new;
 use crate::{Claim, Tree, TreeFault};
 use ks_symbols::MAX_BYTES;
-use std::alloc::Global;
+use std::alloc::{AllocError, Global};
 use std::borrow::CowStr;
 use std::fs::Metadata;
-use std::io::{BufRead, BufReader, ErrorKind, Read, Seek, SeekFrom};
+use std::io::{ErrorKind, Read, Seek, SeekFrom};
 use std::os::unix::fs::{FileTypeExt, MetadataExt};
 use std::rt::Files;
 use std::{fs, io};
@@ -34,15 +34,12 @@ pub struct FolderTree<R: Files> {
     written: Option<R::File>,
 }
 
-/// How much of a file is read from the system at once, for the pieces that follow.
-const READ_AHEAD: usize = 32768;
-
-/// The file of the last `read_at`, kept open so that a prerequisite costs one open however many pieces it has. Its next piece
-/// stands at the position.
+/// The file of the last `read_at`, kept open so that a prerequisite costs one open however many pieces it has. It stands at the
+/// position, where the next piece begins.
 #[derive(Drop)]
 struct Kept<F> {
     path: Vec<u8>,
-    reader: BufReader<F>,
+    file: F,
     position: u64,
 }
 
@@ -90,26 +87,23 @@ fn read_bytes<R: Files>(files: &R, alloc: Global, place: &str) -> io::Result<Opt
     Ok(Some(bytes))
 }
 
-/// A newly opened file, in the memory of the file that was kept before, if there was one. What was read ahead of that one is
-/// dropped.
-fn keep<F: Read + Drop>(
+/// A newly opened file. Its path lies in the memory of the one that was kept before, if there was one.
+fn keep<F: Drop>(
     alloc: Global,
     earlier: Option<Kept<F>>,
     path: &[u8],
     file: F,
-) -> io::Result<Kept<F>> {
+) -> Result<Kept<F>, AllocError> {
     let Some(mut kept) = earlier else {
         return Ok(Kept {
             path: path.to_vec(alloc)?,
-            reader: BufReader::with_capacity(alloc, READ_AHEAD, file)?,
+            file,
             position: 0,
         });
     };
     kept.path.clear();
     kept.path.extend_from_slice(path)?;
-    let left = kept.reader.buffer().len();
-    kept.reader.consume(left);
-    *kept.reader.get_mut() = file;
+    kept.file = file;
     kept.position = 0;
     Ok(kept)
 }
@@ -134,15 +128,15 @@ fn fill<F: Read>(file: &mut F, into: &mut [u8]) -> io::Result<usize>
 }
 
 impl<F: Read + Seek> Kept<F> {
-    /// The bytes from an offset on, as many as there is room for. Only a piece behind the last one is taken from what was
-    /// read ahead. Fewer bytes than there is room for are given only where the file itself had no more at this call.
+    /// The bytes from an offset on, as many as there is room for, read into that room itself. Fewer bytes than there is room
+    /// for are given only where the file itself had no more at this call.
     fn read(&mut self, offset: u64, into: &mut [u8]) -> io::Result<usize>
         ensures { IfOk result (λ n. n ≤ length into.new) }
     {
         if self.position != offset {
-            self.position = self.reader.seek(SeekFrom::Start(offset))?;
+            self.position = self.file.seek(SeekFrom::Start(offset))?;
         }
-        let len = fill(&mut self.reader, into)?;
+        let len = fill(&mut self.file, into)?;
         self.position = self.position.saturating_add(len as u64);
         Ok(len)
     }
@@ -239,7 +233,7 @@ where
     }
 
     /// The kept file, where it is that of the path, or else the path's own, newly opened. It is opened anew for its first
-    /// bytes too, so that nothing is given that was read ahead for an earlier reading.
+    /// bytes too, so that each reading is one of the file that stands at the path as it begins.
     fn take_kept(
         &mut self,
         alloc: Global,
@@ -262,10 +256,7 @@ where
         let Some(file) = self.open(alloc, path)? else {
             return Ok(None);
         };
-        match keep(alloc, earlier, path, file) {
-            Ok(kept) => Ok(Some(kept)),
-            Err(error) => Err(self.fault(alloc, path, &error)),
-        }
+        Ok(Some(keep(alloc, earlier, path, file)?))
     }
 }
 

@@ -1,19 +1,15 @@
 -- The command file that is written: its names are counted, its parts are legal, and it reads back.
-use Rattle.std.proofs.Common.{◌≡◌, ◌⊎◌, inl, inr, ℕ, suc, ◌+◌, ◌<◌, ◌≤◌, List, ◌∷◌, None, Result, Ok, Err, true, sym, ◌∙◌, ap, subst, arith, length, get_or, drop, IsTrue}
-use Rattle.std.specs.List.{list_all}
-use Rattle.std.proofs.lemmas.Bool.{and_from, lt-ltb, le-ltb, cond-true, cond-false}
+use Rattle.std.proofs.Common.{◌≡◌, ◌⊎◌, inl, inr, ℕ, ◌<◌, ◌≤◌, List, None, Result, Ok, Err, sym, ◌∙◌, ap, subst, length}
+use Rattle.std.proofs.lemmas.Bool.{lt-ltb, le-ltb, cond-true, cond-false}
 use Rattle.ks_symbols.specs.Lines.{max_bytes}
-use Rattle.ks_symbols.specs.Names.{is_target}
 use Rattle.ks_fixdep.specs.declared.dep_error.DepError.{DepError}
 use Rattle.ks_fixdep.specs.declared.dep_error.DepError.TheVariants as dep
 use Rattle.ks_fixdep.specs.declared.dependency_file.Role.{Role}
 use Rattle.ks_symbols.specs.Refusals.{IsRefusal}
 use Rattle.ks_fixdep.specs.DependencyFile.{prerequisites, dependency_refusal}
-use Rattle.ks_fixdep.specs.declared.command_file.Dep.{Dep}
-use Rattle.ks_fixdep.specs.declared.command_file.Dep.TheVariants.{File, Config}
-use Rattle.ks_fixdep.specs.CommandFile.{CommandRecord, is_command, is_dep, command_text}
+use Rattle.ks_fixdep.specs.CommandFile.{CommandRecord, command_text}
 use Rattle.ks_fixdep.specs.FoundNames.{names_of}
-use Rattle.ks_fixdep.specs.Record.{config_names, record_of, record_refusal}
+use Rattle.ks_fixdep.specs.Record.{record_of}
 use Rattle.ks_tree.specs.Files.{Files, content}
 use Rattle.ks_tree.specs.Paths.{auto_path}
 use Rattle.ks_engine.specs.declared.error.EngineError.{EngineError}
@@ -22,40 +18,8 @@ use Rattle.ks_engine.specs.Refusals.{of_dep, IsGivenUp, and_then}
 use Rattle.ks_engine.specs.LastSync.{last_generation}
 use Rattle.ks_engine.specs.Recording.{words, there, listed, listed_unless, scanned_all}
 use Rattle.ks_engine.specs.Recorded.{RecordPlan, numbered, drafted, record_plan}
-use Rattle.ks_engine.proofs.Asking.{deps_next, names_next}
-
-plus_one : (i : ℕ) → suc i ≡ i + 1
-plus_one i = omega arith
-
--- a listed file adds no name
-pub count_file : (deps : List Dep) (i : ℕ) (d : Dep) (p : List ℕ) (n m : ℕ) → i < length deps → d ≡ get_or deps i d → d ≡ File p
-    → n + length (config_names (drop i deps)) ≡ m → n + length (config_names (drop (i + 1) deps)) ≡ m
-count_file deps i d p n m h is file before =
-    let names = ap config_names (deps_next deps i d h is) ∙ ap (λ z. config_names (z ∷ drop (suc i) deps)) file ∙ ap (λ j. config_names (drop j deps))
-    (plus_one i) in
-    ap (λ ys. n + length ys) (sym names) ∙ before
-
--- and a name adds one
-pub count_name : (deps : List Dep) (i : ℕ) (d : Dep) (x : List ℕ) (n m : ℕ) → i < length deps → d ≡ get_or deps i d → d ≡ Config x
-    → n + length (config_names (drop i deps)) ≡ m → n + 1 + length (config_names (drop (i + 1) deps)) ≡ m
-count_name deps i d x n m h is config before =
-    let names = ap length (names_next deps i d x h is config ∙ ap (λ j. x ∷ config_names (drop j deps)) (plus_one i)) in
-    omega arith
-
-pub legal_next : (deps : List Dep) (i : ℕ) (d : Dep) → i < length deps → d ≡ get_or deps i d → is_dep d ≡ true
-    → (list_all is_dep (drop i deps) ≡ true → list_all is_dep deps ≡ true) → list_all is_dep (drop (i + 1) deps) ≡ true → list_all is_dep deps ≡ true
-legal_next deps i d h is legal before rest =
-    before (ap (list_all is_dep) (deps_next deps i d h is) ∙ and_from (is_dep d) _ legal (ap (λ j. list_all is_dep (drop j deps)) (plus_one i) ∙ rest))
 
 -- ---- the draft of a command file
-
-pub build_refused : (t c : List ℕ) (e : DepError) → IsTrue (is_target t) → IsTrue (is_command c) → IsRefusal dep.OutOfMemory e (record_refusal t c)
-    → IsGivenUp (of_dep e)
-build_refused t c e legal word is = by_error (subst (IsRefusal dep.OutOfMemory e) (cond-true _ _ _ legal ∙ cond-true _ _ _ word) is)
-  where
-    by_error : IsRefusal dep.OutOfMemory e None → IsGivenUp (of_dep e)
-    by_error (inl memory) = subst (λ x. IsGivenUp (of_dep x)) (sym memory) tt
-    by_error (inr is) = absurd cc
 
 pub draft_large : (t c : List ℕ) (ps : List (List ℕ × Role)) (g : ℕ) (found : List (List (List ℕ))) (file : CommandRecord) → file
     ≡ numbered (record_of t c ps found) g

@@ -3,9 +3,8 @@
 ghost use Rattle.std.specs.Prelude.{◌≡◌, ◌⊎◌, ◌↔◌, ◌≤◌, List, ℕ, Ok, Err, IfOk, IfErr, OnOk, IsTrue, IsErrOf, length, map};
 ghost use Rattle.std.specs.List.{list_all};
 ghost use Rattle.ks_symbols.specs.Names.{is_path, is_target};
-ghost use Rattle.ks_fixdep.specs.CommandFile.{is_command, is_dep, command_text, IsLegal};
+ghost use Rattle.ks_fixdep.specs.CommandFile.{is_command, IsLegal};
 ghost use Rattle.ks_fixdep.specs.FoundNames.{names_in};
-ghost use Rattle.ks_fixdep.specs.Record.{config_names};
 ghost use Rattle.ks_fixdep.specs.SourceScan.{AreNamesOf};
 ghost use Rattle.ks_tree.specs.Frames.{Counted, Reads};
 ghost use Rattle.ks_tree.specs.Files.{content};
@@ -19,16 +18,10 @@ ghost use Rattle.ks_engine.specs.Drafts.{IsDraft};
 use crate::EngineError;
 use crate::memos::Memo;
 use crate::sources::scan_all_by;
-use ks_fixdep::{
-    CommandFile, Dep, NamesBySource, Prerequisites, build_from, command_is_legal, read_depfile,
-    write_command,
-};
+use ks_fixdep::{NamesBySource, Prerequisites, command_is_legal, read_depfile, record_text};
 use ks_symbols::{MAX_BYTES, Path, path_is_legal, target_is_legal};
 use ks_tree::{Tree, command_path, command_temporary, replace};
 use std::alloc::Global;
-
-/// About how many bytes a line of a command file takes, with the line feed.
-const USUAL_LINE: usize = 48;
 
 /// What was recorded.
 #[derive(Clone, Copy, Debug)]
@@ -73,53 +66,30 @@ fn read_there<T: Tree>(alloc: Global, tree: &mut T, path: &[u8]) -> Result<Vec<u
     }
 }
 
-/// How many names there are among dependencies. All of these are legal, as their types say.
-fn count_names(deps: &[Dep]) -> usize
-    ensures count { result ≡ length (config_names deps.now) }
-    ensures legal { IsTrue (list_all is_dep deps.now) }
-{
-    let mut count = 0;
-    for dep in deps {
-        match dep {
-            Dep::File(path) => {
-                path.as_bytes();
-            }
-            Dep::Config(name) => {
-                name.as_bytes();
-                count += 1;
-            }
-        }
-    }
-    count
-}
-
 /// The command file that is to be written, before it is.
 fn make_draft(
     alloc: Global,
     target: &[u8],
     command: &[u8],
-    prerequisites: Prerequisites,
+    prerequisites: &Prerequisites,
     generation: u64,
-    found: NamesBySource,
+    found: &NamesBySource,
 ) -> Result<Draft, EngineError>
     requires target { IsTrue (is_target target.now) }
     requires command { IsTrue (is_command command.now) }
-    requires each { length found.counts.items ≡ length prerequisites }
+    requires each { length found.now.counts.items ≡ length prerequisites.now }
     ensures no_device { IsErrOf result EngineError.Device → ⊥ }
-    ensures drafted { IfOk result (λ d. (ts : List (List ℕ)) → AreNamesOf found ts → (plan : RecordPlan)
-        × (drafted target.now command.now prerequisites generation (map names_in ts) ≡ Ok plan) × IsLegal plan.file × IsDraft plan d) }
-    ensures refused { IfErr result (λ e. (ts : List (List ℕ)) → AreNamesOf found ts
-        → IsGivenUp e ⊎ (drafted target.now command.now prerequisites generation (map names_in ts) ≡ Err e)) }
+    ensures drafted { IfOk result (λ d. (ts : List (List ℕ)) → AreNamesOf found.now ts → (plan : RecordPlan)
+        × (drafted target.now command.now prerequisites.now generation (map names_in ts) ≡ Ok plan) × IsLegal plan.file × IsDraft plan d) }
+    ensures refused { IfErr result (λ e. (ts : List (List ℕ)) → AreNamesOf found.now ts
+        → IsGivenUp e ⊎ (drafted target.now command.now prerequisites.now generation (map names_in ts) ≡ Err e)) }
 {
-    let mut file: CommandFile = build_from(alloc, target, command, prerequisites, found)?;
-    file.source.as_bytes();
-    file.generation = Some(generation);
-    let names = count_names(&file.deps);
-    let mut text = Vec::with_capacity(alloc, file.deps.len().saturating_mul(USUAL_LINE))?;
-    write_command(&file, &mut text)?;
+    let numbered = Some(generation);
+    let text = record_text(alloc, target, command, prerequisites, found, numbered)?;
     if text.len() > MAX_BYTES {
         return Err(EngineError::TooLarge);
     }
+    let names = found.names().len();
     let answer = Recorded { generation, names };
     Ok(Draft { answer, text })
 }
@@ -145,7 +115,7 @@ fn prepare<T: Tree>(
     let prerequisites = read_depfile(alloc, &text)?;
     let generation = memo.generation(alloc, tree)?;
     let found = scan_all_by(alloc, tree, memo, &prerequisites)?;
-    make_draft(alloc, target, command, prerequisites, generation, found)
+    make_draft(alloc, target, command, &prerequisites, generation, &found)
 }
 
 /// A record, by the files.

@@ -1,13 +1,12 @@
 -- Texts that grow at their end.
 use Rattle.std.proofs.Common.{◌≡◌, ℕ, List, [], ◌++◌, length, take, refl, sym, ap, ◌∙◌, Result, Ok, Err, append_assoc, append-nil}
 use Rattle.std.proofs.Math.Seq.{take-append_seam}
-use Rattle.ks_fixdep.specs.CommandWriting.{Extends}
+use Rattle.ks_fixdep.specs.CommandWriting.{Extends, back_lines, deps_text, front_lines}
 use Rattle.std.specs.Result.{OnOk}
-use Rattle.std.proofs.Common.{◌∷◌, Option, map}
+use Rattle.std.proofs.Common.{map}
 use Rattle.std.specs.Prelude.{codes, flat_map}
 use Rattle.std.proofs.lemmas.Grind.{flat_map-append}
-use Rattle.ks_fixdep.specs.declared.command_file.Dep.{Dep}
-use Rattle.ks_fixdep.specs.CommandFile.{CommandRecord, layout, deps_begin, target_line, deps_end, ended, dep_line, generation_line, command_text}
+use Rattle.ks_fixdep.specs.CommandFile.{CommandRecord, deps_begin, deps_end, ended, dep_line, generation_line, command_text}
 
 pub extends-same : (a b : List ℕ) → b ≡ a → Extends a b
 extends-same a b e = record { more = []; is = e ∙ sym (append-nil a) }
@@ -21,51 +20,46 @@ extends-then a b c x y = record { more = x.more ++ y.more; is = y.is ∙ ap (λ 
 pub extends-cut : (a b : List ℕ) → Extends a b → take (length a) b ≡ a
 extends-cut a b x = ap (take (length a)) x.is ∙ take-append_seam a x.more
 
-abbrev pub front : List ℕ → List ℕ → List ℕ → List ℕ
-front t c s =
+two-parts : (t sep x : List ℕ) → t ++ (sep ++ (x ++ [])) ≡ (t ++ sep) ++ x
+two-parts t sep x = ap (λ k. t ++ (sep ++ k)) (append-nil x) ∙ sym (append_assoc t sep x)
+
+-- the lines as they are written part by part
+pub front-is : (t c s : List ℕ) →
     ended (codes "savedcmd_" ++ (t ++ (codes " := " ++ (c ++ []))))
     ++ (ended [] ++ (ended (codes "source_" ++ (t ++ (codes " := " ++ (s ++ []))))
     ++ (ended [] ++ (ended (codes "deps_" ++ (t ++ codes " := \\")) ++ []))))
-
-abbrev pub back : List ℕ → List ℕ
-back t = ended [] ++ (ended (t ++ (codes ": $(deps_" ++ (t ++ codes ")"))) ++ (ended [] ++ (ended (codes "$(deps_" ++ (t ++ codes "):")) ++ [])))
-
-abbrev pub deps : List Dep → List ℕ
-deps ds = flat_map ended (map dep_line ds)
-
-abbrev pub last : Option ℕ → List ℕ
-last g = flat_map ended (generation_line g)
-
-regroup : (a b c n ds es g : List ℕ) → (a ++ (n ++ (b ++ (n ++ (c ++ (ds ++ es)))))) ++ g ≡ (a ++ (n ++ (b ++ (n ++ (c ++ []))))) ++ (ds ++ (es ++ g))
-regroup a b c n ds es g = simp (append_assoc, append-nil) refl
-
-two-parts : (t sep x : List ℕ) → (t ++ sep) ++ x ≡ t ++ (sep ++ (x ++ []))
-two-parts t sep x = append_assoc t sep x ∙ ap (λ k. t ++ (sep ++ k)) (sym (append-nil x))
-
-around : (t m r : List ℕ) → ((t ++ m) ++ t) ++ r ≡ t ++ (m ++ (t ++ r))
-around t m r = append_assoc (t ++ m) t r ∙ append_assoc t m (t ++ r)
-
-pub text-parts : (f : CommandRecord) → command_text f ≡ front f.target f.command f.source ++ (deps f.deps ++ (back f.target ++ last f.generation))
-text-parts f =
-    let t = f.target in
+    ≡ flat_map ended (front_lines t c s)
+front-is t c s =
     let n = ended [] in
-    let l1 = ended (codes "savedcmd_" ++ t ++ codes " := " ++ f.command) in
-    let l3 = ended (codes "source_" ++ t ++ codes " := " ++ f.source) in
-    let l5 = ended (deps_begin t) in
-    let ends = [] ∷ target_line t ∷ [] ∷ deps_end t ∷ [] in
-    let tail = deps f.deps ++ (flat_map ended ends ++ last f.generation) in
-    let a1 = ended (codes "savedcmd_" ++ (t ++ (codes " := " ++ (f.command ++ [])))) in
-    let a3 = ended (codes "source_" ++ (t ++ (codes " := " ++ (f.source ++ [])))) in
-    flat_map-append ended (layout f) (generation_line f.generation)
-    ∙ ap (λ x. (l1 ++ (n ++ (l3 ++ (n ++ (l5 ++ x))))) ++ last f.generation) (flat_map-append ended (map dep_line f.deps) ends)
-    ∙ regroup l1 l3 l5 n (deps f.deps) (flat_map ended ends) (last f.generation)
-    ∙ ap (λ x. (ended (codes "savedcmd_" ++ x) ++ (n ++ (l3 ++ (n ++ (l5 ++ []))))) ++ tail) (two-parts t (codes " := ") f.command)
-    ∙ ap (λ x. (a1 ++ (n ++ (ended (codes "source_" ++ x) ++ (n ++ (l5 ++ []))))) ++ tail) (two-parts t (codes " := ") f.source)
-    ∙ ap (λ x. front t f.command f.source ++ (deps f.deps ++ ((n ++ (ended x ++ (n ++ (ended (deps_end t) ++ [])))) ++ last f.generation)))
-    (around t (codes ": $(deps_") (codes ")"))
+    let l5 = ended (deps_begin t) ++ [] in
+    let l3 = ended (codes "source_" ++ (t ++ (codes " := " ++ (s ++ [])))) in
+    ap (λ x. ended (codes "savedcmd_" ++ x) ++ (n ++ (l3 ++ (n ++ l5)))) (two-parts t (codes " := ") c)
+    ∙ ap (λ x. ended (codes "savedcmd_" ++ t ++ codes " := " ++ c) ++ (n ++ (ended (codes "source_" ++ x) ++ (n ++ l5)))) (two-parts t (codes " := ") s)
 
-pub four-parts : (o a b c d p q r s t : List ℕ) → a ≡ o ++ p → b ≡ a ++ q → c ≡ b ++ r → d ≡ c ++ s → t ≡ p ++ (q ++ (r ++ s)) → d ≡ o ++ t
-four-parts o a b c d p q r s t ea eb ec ed et = rw (et, ed, ec, eb, ea) (simp append_assoc refl)
+pub back-is : (t : List ℕ) →
+    ended [] ++ (ended (t ++ (codes ": $(deps_" ++ (t ++ codes ")"))) ++ (ended [] ++ (ended (codes "$(deps_" ++ (t ++ codes "):")) ++ [])))
+    ≡ flat_map ended (back_lines t)
+back-is t =
+    ap (λ x. ended [] ++ (ended x ++ (ended [] ++ (ended (deps_end t) ++ []))))
+    (sym (append_assoc (t ++ codes ": $(deps_") t (codes ")") ∙ append_assoc t (codes ": $(deps_") (t ++ codes ")")))
+
+-- a text of its three parts
+pub text-parts : (f : CommandRecord) → command_text f
+    ≡ flat_map ended (front_lines f.target f.command f.source) ++ (deps_text f.deps ++ flat_map ended (back_lines f.target ++ generation_line f.generation))
+text-parts f =
+    let front = front_lines f.target f.command f.source in
+    let deps = map dep_line f.deps in
+    let back = back_lines f.target in
+    let last = generation_line f.generation in
+    ap (flat_map ended) (append_assoc front (deps ++ back) last ∙ ap (λ l. front ++ l) (append_assoc deps back last))
+    ∙ flat_map-append ended front (deps ++ (back ++ last))
+    ∙ ap (λ l. flat_map ended front ++ l) (flat_map-append ended deps (back ++ last))
+
+pub three-parts : (o a b d p q r t : List ℕ) → a ≡ o ++ p → b ≡ a ++ q → d ≡ b ++ r → t ≡ p ++ (q ++ r) → d ≡ o ++ t
+three-parts o a b d p q r t ea eb ed et = rw (et, ed, eb, ea) (simp append_assoc refl)
+
+pub then-part : (o a d p q : List ℕ) → a ≡ o ++ p → d ≡ a ++ q → d ≡ o ++ (p ++ q)
+then-part o a d p q ea ed = ed ∙ ap (λ l. l ++ q) ea ∙ append_assoc o p q
 
 pub on-ok : {T E : Type 0} (r : Result T E) (P Q : Type 0) → (P → Q) → OnOk r P → OnOk r Q
 on-ok (Ok x) P Q imp h = imp h

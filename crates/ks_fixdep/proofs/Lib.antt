@@ -19,3 +19,4 @@ pub mod CommandFitLemmas
 pub mod CommandTextLemmas
 pub mod CommandFaultLemmas
 pub mod CommandWriteLemmas
+pub mod TextLemmas

@@ -40,6 +40,10 @@ abbrev pub record_of : List ℕ → List ℕ → List (List ℕ × Role) → Lis
 record_of target command ps found =
     record { target = target; command = command; source = source_of ps; deps = deps_after [] ps found; generation = None }
 
+-- its text, with the line of a generation where it has one
+abbrev pub record_text : List ℕ → List ℕ → List (List ℕ × Role) → List (List (List ℕ)) → Option ℕ → List ℕ
+record_text target command ps found generation = command_file.command_text (record (record_of target command ps found) { generation = generation })
+
 -- why a record is refused: first its target, then its command
 abbrev pub record_refusal : List ℕ → List ℕ → Option DepError
 record_refusal target command =

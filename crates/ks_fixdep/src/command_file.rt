@@ -20,6 +20,7 @@ pub use reading::{lend_command, read_command};
 use std::alloc::{AllocError, AllocFailed};
 use thiserror::Error;
 pub use writing::write_command;
+pub(crate) use writing::{push_back, push_file, push_front, push_name};
 
 /// A prerequisite that stands on a line of its own, or a name that was found in one.
 #[derive(Drop)]

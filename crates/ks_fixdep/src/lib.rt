@@ -7,6 +7,7 @@ mod dep_error;
 mod dependency_file;
 mod found_names;
 mod laws;
+mod listing;
 mod name_iter;
 mod prefix_finder;
 mod runs;
@@ -30,6 +31,7 @@ pub use laws::{
     ended_names_are_followed, names_by_places, names_of_a_record, names_of_all_sources,
     pieces_give_the_whole, recording_examples,
 };
+pub use listing::record_text;
 pub use name_iter::NameIter;
 pub use scan::{Found, names};
 pub use scanner::{Fed, Scanner};

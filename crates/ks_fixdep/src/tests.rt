@@ -5,7 +5,7 @@ mod golden;
 
 use crate::{
     DepError, FoundNames, Role, Scanner, SourceScan, build, build_from, names, read_depfile,
-    token_at, write_command,
+    record_text, token_at, write_command,
 };
 use ks_symbols::{MAX_BYTES, write_decimal};
 use std::alloc::{AllocError, Global};
@@ -327,8 +327,12 @@ fn command_text(
         return Ok(out);
     }
     let (target, command) = words;
+    let straight = record_text(alloc, target, command, &read, &found, None)?;
     let built = build_from(alloc, target, command, read, found)?;
     write_command(&built, &mut out)?;
+    if straight != out {
+        out.extend_from_slice(b"another straight from the names")?;
+    }
     let whole = build(alloc, target, command, read_depfile(alloc, depfile)?, texts)?;
     let mut again = Vec::new(alloc);
     write_command(&whole, &mut again)?;

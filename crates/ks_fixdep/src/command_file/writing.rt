@@ -1,7 +1,8 @@
 //! Writing a command file. The text grows where it will stand, and a refusal takes back what was written: there is no second copy.
-ghost use Rattle.std.specs.Prelude.{◌≡◌, ◌∷◌, [], ◌++◌, List, ℕ, OnOk, OnErr, flat_map, map};
+ghost use Rattle.std.specs.Prelude.{◌≡◌, ◌++◌, OnOk, OnErr, flat_map};
 ghost use Rattle.ks_fixdep.specs.CommandFile.{command_text, dep_line, ended, generation_line, view};
-ghost use Rattle.ks_fixdep.specs.CommandWriting.{Extends, joined};
+ghost use Rattle.ks_fixdep.specs.CommandWriting.{Extends, back_lines, deps_text, front_lines, joined};
+ghost use Rattle.ks_fixdep.specs.declared.command_file.Dep.TheVariants.{File, Config};
 
 use super::{CommandFile, Dep};
 use ks_symbols::write_decimal;
@@ -30,25 +31,36 @@ fn push_lines(out: &mut Vec<u8>, lines: &[&[&[u8]]]) -> Result<(), AllocError>
     Ok(())
 }
 
+/// Writes the line of a listed file.
+pub(crate) fn push_file(out: &mut Vec<u8>, path: &[u8]) -> Result<(), AllocError>
+    ensures ok { OnOk result (out.new.items ≡ out.old.items ++ ended (dep_line (File path.now))) }
+    ensures extends { Extends out.old.items out.new.items }
+{
+    push_line(out, &[b"  ", path, b" \\"])
+}
+
+/// Writes the line of a name.
+pub(crate) fn push_name(out: &mut Vec<u8>, name: &[u8]) -> Result<(), AllocError>
+    ensures ok { OnOk result (out.new.items ≡ out.old.items ++ ended (dep_line (Config name.now))) }
+    ensures extends { Extends out.old.items out.new.items }
+{
+    push_line(out, &[b"    $(wildcard include/config/", name, b") \\"])
+}
+
 /// Writes a dependency line.
 fn push_dep(out: &mut Vec<u8>, dep: &Dep) -> Result<(), AllocError>
     ensures ok { OnOk result (out.new.items ≡ out.old.items ++ ended (dep_line dep.now)) }
     ensures extends { Extends out.old.items out.new.items }
 {
     match dep {
-        Dep::File(path) => push_line(out, &[b"  ", path.as_bytes(), b" \\"]),
-        Dep::Config(name) => {
-            push_line(
-                out,
-                &[b"    $(wildcard include/config/", name.as_bytes(), b") \\"],
-            )
-        }
+        Dep::File(path) => push_file(out, path.as_bytes()),
+        Dep::Config(name) => push_name(out, name.as_bytes()),
     }
 }
 
 /// Writes the dependency lines.
 fn push_deps(out: &mut Vec<u8>, deps: &[Dep]) -> Result<(), AllocError>
-    ensures ok { OnOk result (out.new.items ≡ out.old.items ++ flat_map ended (map dep_line deps.now)) }
+    ensures ok { OnOk result (out.new.items ≡ out.old.items ++ deps_text deps.now) }
     ensures extends { Extends out.old.items out.new.items }
 {
     for dep in deps {
@@ -70,23 +82,37 @@ fn push_generation(out: &mut Vec<u8>, generation: Option<u64>) -> Result<(), All
     Ok(())
 }
 
-fn push_command(file: &CommandFile, out: &mut Vec<u8>) -> Result<(), AllocError>
-    ensures ok { OnOk result (out.new.items ≡ out.old.items ++ command_text (view file.now)) }
+/// Writes the lines before those of the dependencies.
+pub(crate) fn push_front<'a>(
+    out: &mut Vec<u8>,
+    target: &'a [u8],
+    command: &'a [u8],
+    source: &'a [u8],
+) -> Result<(), AllocError>
+    ensures ok { OnOk result (out.new.items ≡ out.old.items ++ flat_map ended (front_lines target.now command.now source.now)) }
     ensures extends { Extends out.old.items out.new.items }
 {
-    let target = file.target.as_bytes();
-    let source = file.source.as_bytes();
     push_lines(
         out,
         &[
-            &[b"savedcmd_", target, b" := ", &file.command],
+            &[b"savedcmd_", target, b" := ", command],
             &[],
             &[b"source_", target, b" := ", source],
             &[],
             &[b"deps_", target, b" := \\"],
         ],
-    )?;
-    push_deps(out, &file.deps)?;
+    )
+}
+
+/// Writes the lines behind those of the dependencies.
+pub(crate) fn push_back(
+    out: &mut Vec<u8>,
+    target: &[u8],
+    generation: Option<u64>,
+) -> Result<(), AllocError>
+    ensures ok { OnOk result (out.new.items ≡ out.old.items ++ flat_map ended (back_lines target.now ++ generation_line generation)) }
+    ensures extends { Extends out.old.items out.new.items }
+{
     push_lines(
         out,
         &[
@@ -96,7 +122,17 @@ fn push_command(file: &CommandFile, out: &mut Vec<u8>) -> Result<(), AllocError>
             &[b"$(deps_", target, b"):"],
         ],
     )?;
-    push_generation(out, file.generation)
+    push_generation(out, generation)
+}
+
+fn push_command(file: &CommandFile, out: &mut Vec<u8>) -> Result<(), AllocError>
+    ensures ok { OnOk result (out.new.items ≡ out.old.items ++ command_text (view file.now)) }
+    ensures extends { Extends out.old.items out.new.items }
+{
+    let target = file.target.as_bytes();
+    push_front(out, target, &file.command, file.source.as_bytes())?;
+    push_deps(out, &file.deps)?;
+    push_back(out, target, file.generation)
 }
 
 /// Writes the text of a command file at the end. An `Err` leaves what was there before.

@@ -1,0 +1,18 @@
+use Rattle.std.proofs.Common.{◌≡◌, ◌++◌, ap, sym, ◌∙◌}
+use Rattle.std.specs.Prelude.{flat_map}
+use Rattle.std.proofs.lemmas.Grind.{flat_map-append}
+use Rattle.ks_fixdep.specs.CommandFile.{ended, generation_line}
+use Rattle.ks_fixdep.specs.CommandWriting.{back_lines}
+use Rattle.ks_fixdep.proofs.CommandWriteLemmas.{back-is, then-part, on-ok}
+use Rattle.ks_fixdep.proofs.command_file.writing.push_back.Goals as goal
+
+pub returns-clause-ok : goal.returns-clause-ok
+returns-clause-ok c =
+    let o = c.args.out.now.items in
+    let back = back_lines c.args.target.now in
+    let last = generation_line c.args.generation in
+    let d = c.push_generation.new.out.items in
+    on-ok c.push_generation.result _ (d ≡ o ++ flat_map ended (back ++ last))
+    (λ is. then-part o _ d (flat_map ended back) (flat_map ended last)
+    (c.in_ok-push_lines.ensures.ok ∙ ap (λ l. o ++ l) (back-is c.args.target.now)) is ∙ ap (λ l. o ++ l) (sym (flat_map-append ended back last)))
+    c.push_generation.ensures.ok

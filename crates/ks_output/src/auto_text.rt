@@ -58,7 +58,24 @@ fn append_generation(generation: u64, out: &mut Vec<u8>) -> Result<(), AllocErro
     append_all(&[b"#generation ", digits.as_bytes(), b"\n"], out)
 }
 
-/// Appends auto.conf, or a beginning of it.
+/// How many bytes the lines of the entries and of the generation take at most.
+fn lines_room(settings: &Settings) -> usize {
+    let mut room = b"#generation 18446744073709551615\n".len();
+    for (name, kind, text) in settings.entries() {
+        let class = match kind.class() {
+            Class::Switch => 0,
+            Class::Text | Class::Int | Class::Hex => b"#type  string\n".len() + name.len(),
+        };
+        let entry = b"CONFIG_=\n".len() + name.len();
+        room = room
+            .saturating_add(class)
+            .saturating_add(entry)
+            .saturating_add(text.len());
+    }
+    room
+}
+
+/// Appends auto.conf, or a beginning of it. The room is made at once: a vector that grows leaves its smaller selves behind.
 #[tactic(auto, unfolding(crate::specs::AutoText::auto_text))]
 fn append_auto(
     settings: &Settings,
@@ -70,6 +87,7 @@ fn append_auto(
     ensures kept { Keeps out.old.items out.new.items }
 {
     append_heading(title, out)?;
+    out.reserve_exact(lines_room(settings))?;
     for (name, kind, text) in settings.entries() {
         append_class(name, kind.class(), out)?;
         append_entry(name, text, out)?;

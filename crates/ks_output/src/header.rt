@@ -9,7 +9,7 @@ ghost use Rattle.ks_output.specs.Appending.{Keeps};
 ghost use Rattle.ks_output.specs.Header.{header_text, header_heading, definition_line, defined_as};
 
 use crate::appending::append_all;
-use ks_symbols::{Kind, Settings};
+use ks_symbols::{Class, Kind, Settings};
 use std::alloc::AllocError;
 
 /// Appends the heading with a title.
@@ -84,13 +84,27 @@ fn append_definition(
     Ok(())
 }
 
-/// Appends the header, or a beginning of it.
+/// How many bytes the definitions of the entries take at most, but for what has to be escaped in them.
+fn definitions_room(settings: &Settings) -> usize {
+    let mut room: usize = 0;
+    for (name, kind, text) in settings.entries() {
+        let rest = match kind.class() {
+            Class::Switch => b"#define CONFIG__MODULE 1\n".len(),
+            Class::Text | Class::Int | Class::Hex => b"#define CONFIG_ \"\"\n".len() + text.len(),
+        };
+        room = room.saturating_add(name.len()).saturating_add(rest);
+    }
+    room
+}
+
+/// Appends the header, or a beginning of it. The room is made at once: a vector that grows leaves its smaller selves behind.
 #[tactic(auto, unfolding(crate::specs::Header::header_text))]
 fn append_header(settings: &Settings, title: &[u8], out: &mut Vec<u8>) -> Result<(), AllocError>
     ensures written { OnOk result (out.new.items ≡ out.old.items ++ header_text title.now settings.now.entries) }
     ensures kept { Keeps out.old.items out.new.items }
 {
     append_heading(title, out)?;
+    out.reserve_exact(definitions_room(settings))?;
     for (name, kind, text) in settings.entries() {
         append_definition(name, kind, text, out)?;
     }

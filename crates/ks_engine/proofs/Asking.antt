@@ -12,9 +12,9 @@ use Rattle.ks_fixdep.specs.declared.command_file.lent.LentDep.{LentDep}
 use Rattle.ks_fixdep.specs.Lent.{seen_dep}
 use Rattle.ks_fixdep.specs.CommandFile.{CommandRecord, is_command, is_dep}
 use Rattle.ks_fixdep.specs.Record.{config_names}
-use Rattle.ks_tree.specs.Files.{Files, content, IsTooLarge}
+use Rattle.ks_tree.specs.Files.{Files, content}
 use Rattle.ks_tree.specs.Paths.{auto_path, stamp_path, command_path}
-use Rattle.ks_tree.specs.Stamps.{HasNumber, IsNoStamp, IsStampRefusal}
+use Rattle.ks_tree.specs.Stamps.{HasNumber, IsStampRefusal}
 use Rattle.ks_tree.specs.declared.fault.TreeError.{TreeError}
 use Rattle.ks_tree.specs.declared.fault.TreeError.TheVariants as stamp_error
 use Rattle.ks_engine.specs.declared.error.EngineError.{EngineError}
@@ -28,6 +28,9 @@ use Rattle.ks_engine.specs.Staleness.{found, names_of, suspect_since, first_susp
 use Rattle.ks_engine.specs.Shows.{Shows, stamp}
 use Rattle.ks_engine.specs.LastSync.{synced_at, last_generation}
 use Rattle.ks_engine.specs.Asked.{Asked, Answered, ByStamps, asked, asked_at, asked_since, asked_of, of_target, command_file, IsBadStamp, IsByStamps, IsAnswer}
+use Rattle.ks_engine.specs.declared.stamps.Stamps.{Stamps}
+use Rattle.ks_engine.specs.declared.stamps.Stamps.TheVariants.{Now, Behind}
+use Rattle.ks_engine.specs.Impact.{IsSeen}
 use Rattle.ks_engine.specs.BuildStates.{BuildAsked, Differs, Asks, build_asked, build_asked_of, judged, IsBuildState}
 use Rattle.ks_engine.specs.Judged.{HasSameDefinitions, IsJudged, IsBuildJudged}
 use Rattle.ks_engine.proofs.Heart.{suspect_since-lt, suspect_since-changed_since, generation-le, synced-lt, recorded_synced}
@@ -54,11 +57,6 @@ pub ask_refused : (files : Files) (o : List ℕ) (e : EngineError) → true ≡ 
 ask_refused files o e legal (inl given) = inl given
 ask_refused files o e legal (inr bad) = inr (answer_by files _ _ _ (asked_read files o _ legal bad) refl)
 
--- a verdict of the same files
-pub judged_here : {P : Type 0} (files mid : Files) (names : List (List ℕ)) (g : Option ℕ) (answer : Result Verdict EngineError) → mid ≡ files
-    → P ⊎ IsAnswer mid (asked_since mid names g) answer → P ⊎ IsAnswer files (asked_since files names g) answer
-judged_here {P} files mid names g answer same said = subst (λ f. P ⊎ IsAnswer f (asked_since f names g) answer) same said
-
 pub ask_judged : {P : Type 0} (files : Files) (o : List ℕ) (file : CommandRecord) (answer : Result Verdict EngineError) → true ≡ is_target o
     → command_file o (content files (command_path o)) ≡ Ok (Some file)
     → P ⊎ IsAnswer files (asked_since files (config_names file.deps) file.generation) answer → P ⊎ IsAnswer files (asked files o) answer
@@ -69,6 +67,15 @@ pub refused_at : (o : List ℕ) (file given : Option (List ℕ)) (e : EngineErro
     ⊎ (command_file o file ≡ Err e)
 refused_at o file given e at (inl gave) = inl gave
 refused_at o file given e at (inr bad) = inr (ap (command_file o) at ∙ bad)
+
+-- files that were only read are seen the same, and command files are as they are
+pub still_seen : (stamps : Stamps) (files mid after : Files) → mid ≡ files → IsSeen stamps files after → IsSeen stamps mid after
+still_seen stamps files mid after same seen = subst (λ f. IsSeen stamps f after) (sym same) seen
+
+pub command_seen : (stamps : Stamps) (files after : Files) (o : List ℕ) → IsSeen stamps files after → content after (command_path o)
+    ≡ content files (command_path o)
+command_seen Now files after o seen = ap (λ f. content f (command_path o)) seen
+command_seen (Behind report) files after o seen = seen.commands o
 
 -- ---- the steps of a question about a command
 
@@ -106,67 +113,53 @@ build_other files o command file legal word read other = build_read files o comm
 
 -- ---- the stamps of the names that are left
 
-pub deps_next : (deps : List Dep) (i : ℕ) (d : Dep) → i < length deps → d ≡ get_or deps i d → drop i deps ≡ d ∷ drop (suc i) deps
-deps_next deps i d h is = drop-cons deps i d h ∙ ap (λ z. z ∷ drop (suc i) deps) (sym is)
+-- the next dependency, and those behind it
+pub dep_next : (deps : List Dep) (i : ℕ) (d e : Dep) → i < length deps → d ≡ get_or deps i d → d ≡ e → drop i deps ≡ e ∷ drop (i + 1) deps
+dep_next deps i d e h is here = let one : suc i ≡ i + 1 = omega arith in drop-cons deps i d h ∙ ap₂ (λ z k. z ∷ drop k deps) (sym is ∙ here) one
 
-pub names_next : (deps : List Dep) (i : ℕ) (d : Dep) (x : List ℕ) → i < length deps → d ≡ get_or deps i d → d ≡ Config x → config_names (drop i deps) ≡ x
-    ∷ config_names (drop (suc i) deps)
-names_next deps i d x h is config = ap config_names (deps_next deps i d h is) ∙ ap (λ z. config_names (z ∷ drop (suc i) deps)) config
+-- the same of those that are lent
+pub lent_next : (deps : List LentDep) (i : ℕ) (d : LentDep) (e : Dep) → i < length deps → d ≡ get_or deps i d → seen_dep d ≡ e
+    → drop i (map seen_dep deps) ≡ e ∷ drop (i + 1) (map seen_dep deps)
+lent_next deps i d e h is here = dep_next (map seen_dep deps) i (seen_dep d) e (subst (λ n. i < n) (sym (length-map deps seen_dep)) h)
+    (ap seen_dep is ∙ sym (get_or-map seen_dep deps i d (seen_dep d) h)) here
 
-bad_next : (files : Files) (g : ℕ) (deps : List Dep) (i : ℕ) (d : Dep) (x : List ℕ) (answer : Result Verdict EngineError) → i < length deps → d
-    ≡ get_or deps i d → d ≡ Config x
-    → IsBadStamp (content files (stamp_path x)) x answer → IsByStamps files g (config_names (drop i deps)) answer
-bad_next files g deps i d x answer h is config bad = subst (λ ys. IsByStamps files g ys answer) (sym (names_next deps i d x h is config)) (inr (inr bad))
+-- a stamp that is refused is a bad one, memory and device aside
+pub bad_stamp : (x : List ℕ) (file : Option (List ℕ)) (e : TreeError) → IsStampRefusal x file e
+    → IsGivenUp (of_stamp e) ⊎ IsBadStamp file x (Err (of_stamp e))
+bad_stamp x file stamp_error.OutOfMemory why = inl tt
+bad_stamp x file stamp_error.Device why = inl tt
+bad_stamp x file stamp_error.TooLarge why = inr (inr (why, refl))
+bad_stamp x file (stamp_error.BadStamp y) why = inr (inl (why.1, why.2, ap (λ z. Err (of_stamp (stamp_error.BadStamp z))) why.0))
 
-pub stamp_refused : (files mid : Files) (g : ℕ) (deps : List Dep) (i : ℕ) (d : Dep) (x : List ℕ) (e : TreeError) → mid ≡ files → i < length deps → d
-    ≡ get_or deps i d → d ≡ Config x
-    → IsStampRefusal x (content mid (stamp_path x)) e
-    → ((answer : Result Verdict EngineError) → IsByStamps files g (config_names (drop i deps)) answer → IsByStamps files g (config_names deps) answer)
+-- what answers the names that are left answers all
+abbrev pub Rest : Files → ℕ → List Dep → ℕ → Type 0
+Rest files g deps i = (answer : Result Verdict EngineError) → IsByStamps files g (config_names (drop i deps)) answer
+    → IsByStamps files g (config_names deps) answer
+
+by_next : (files : Files) (g : ℕ) (deps : List Dep) (i : ℕ) (e : Dep) (answer : Result Verdict EngineError) → drop i deps ≡ e ∷ drop (i + 1) deps
+    → Rest files g deps i → IsByStamps files g (config_names (e ∷ drop (i + 1) deps)) answer → IsByStamps files g (config_names deps) answer
+by_next files g deps i e answer next rest by = rest answer (subst (λ ds. IsByStamps files g (config_names ds) answer) (sym next) by)
+
+pub file_passed : (files : Files) (g : ℕ) (deps : List Dep) (i : ℕ) (p : List ℕ) → drop i deps ≡ File p ∷ drop (i + 1) deps → Rest files g deps i
+    → Rest files g deps (i + 1)
+file_passed files g deps i p next rest answer said = by_next files g deps i (File p) answer next rest said
+
+pub stamp_below : (files : Files) (g : ℕ) (deps : List Dep) (i : ℕ) (x : List ℕ) (n : ℕ) → drop i deps ≡ Config x ∷ drop (i + 1) deps
+    → HasNumber (content files (stamp_path x)) n → n ≤ g → Rest files g deps i → Rest files g deps (i + 1)
+stamp_below files g deps i x n next has below rest answer said = by_next files g deps i (Config x) answer next rest (inr (inl (n, has, (below, said))))
+
+pub stamp_above : (files : Files) (g : ℕ) (deps : List Dep) (i : ℕ) (x : List ℕ) (n : ℕ) (y : List ℕ) → drop i deps ≡ Config x ∷ drop (i + 1) deps
+    → HasNumber (content files (stamp_path x)) n → g < n → y ≡ x → Rest files g deps i → IsByStamps files g (config_names deps) (Ok (Changed y))
+stamp_above files g deps i x n y next has above named rest =
+    by_next files g deps i (Config x) _ next rest (inl (n, has, (above, ap (λ z. Ok (Changed z)) named)))
+
+pub stamp_refused : (files : Files) (g : ℕ) (deps : List Dep) (i : ℕ) (x : List ℕ) (e : TreeError) → drop i deps ≡ Config x ∷ drop (i + 1) deps
+    → IsStampRefusal x (content files (stamp_path x)) e → Rest files g deps i
     → IsGivenUp (of_stamp e) ⊎ IsByStamps files g (config_names deps) (Err (of_stamp e))
-stamp_refused files mid g deps i d x stamp_error.OutOfMemory same h is config why rest = inl tt
-stamp_refused files mid g deps i d x stamp_error.Device same h is config why rest = inl tt
-stamp_refused files mid g deps i d x stamp_error.TooLarge same h is config why rest =
-    inr (rest _ (bad_next files g deps i d x _ h is config (inr (subst (λ f. IsTooLarge (content f (stamp_path x))) same why, refl))))
-stamp_refused files mid g deps i d x (stamp_error.BadStamp y) same h is config why rest =
-    let none = subst (λ f. IsNoStamp (content f (stamp_path x)) × (IsTooLarge (content f (stamp_path x)) → ⊥)) same (why.1, why.2) in
-    inr (rest _ (bad_next files g deps i d x _ h is config (inl (none.0, none.1, ap (λ z. Err (of_stamp (stamp_error.BadStamp z))) why.0))))
-
--- a dependency that is lent, among those that are seen
-pub seen_at : (deps : List LentDep) (i : ℕ) (d : LentDep) → i < length deps → d ≡ get_or deps i d → seen_dep d ≡ get_or (map seen_dep deps) i (seen_dep d)
-seen_at deps i d h is = ap seen_dep is ∙ sym (get_or-map seen_dep deps i d (seen_dep d) h)
-
-pub seen_within : (deps : List LentDep) (i : ℕ) → i < length deps → i < length (map seen_dep deps)
-seen_within deps i h = subst (λ n. i < n) (sym (length-map deps seen_dep)) h
-
--- a stamp that is not above the generation, or a file, leaves the answer to the others
-next_place : (files : Files) (g : ℕ) (deps : List Dep) (i : ℕ) (answer : Result Verdict EngineError)
-    → IsByStamps files g (config_names (drop (i + 1) deps)) answer → IsByStamps files g (config_names (drop (suc i) deps)) answer
-next_place files g deps i answer said = let same : i + 1 ≡ suc i = omega arith in subst (λ k. IsByStamps files g (config_names (drop k deps)) answer) same said
-
-pub stamp_below : (files mid : Files) (g : ℕ) (deps : List Dep) (i : ℕ) (d : Dep) (x : List ℕ) (n : ℕ) → mid ≡ files → i < length deps → d ≡ get_or deps i d
-    → d ≡ Config x
-    → HasNumber (content mid (stamp_path x)) n → n ≤ g
-    → ((answer : Result Verdict EngineError) → IsByStamps files g (config_names (drop i deps)) answer → IsByStamps files g (config_names deps) answer)
-    → (answer : Result Verdict EngineError) → IsByStamps files g (config_names (drop (i + 1) deps)) answer → IsByStamps files g (config_names deps) answer
-stamp_below files mid g deps i d x n same h is config has below rest answer said =
-    rest answer (subst (λ ys. IsByStamps files g ys answer) (sym (names_next deps i d x h is config))
-    (inr (inl (n, subst (λ f. HasNumber (content f (stamp_path x)) n) same has, (below, next_place files g deps i answer said)))))
-
-pub stamp_above : (files mid : Files) (g : ℕ) (deps : List Dep) (i : ℕ) (d : Dep) (x : List ℕ) (n : ℕ) (y : List ℕ) → mid ≡ files → i < length deps → d
-    ≡ get_or deps i d → d ≡ Config x
-    → HasNumber (content mid (stamp_path x)) n → g < n → y ≡ x
-    → ((answer : Result Verdict EngineError) → IsByStamps files g (config_names (drop i deps)) answer → IsByStamps files g (config_names deps) answer)
-    → IsByStamps files g (config_names deps) (Ok (Changed y))
-stamp_above files mid g deps i d x n y same h is config has above named rest =
-    rest (Ok (Changed y)) (subst (λ ys. IsByStamps files g ys (Ok (Changed y))) (sym (names_next deps i d x h is config))
-    (inl (n, subst (λ f. HasNumber (content f (stamp_path x)) n) same has, (above, ap (λ z. Ok (Changed z)) named))))
-
-pub file_passed : (files : Files) (g : ℕ) (deps : List Dep) (i : ℕ) (d : Dep) (p : List ℕ) → i < length deps → d ≡ get_or deps i d → d ≡ File p
-    → ((answer : Result Verdict EngineError) → IsByStamps files g (config_names (drop i deps)) answer → IsByStamps files g (config_names deps) answer)
-    → (answer : Result Verdict EngineError) → IsByStamps files g (config_names (drop (i + 1) deps)) answer → IsByStamps files g (config_names deps) answer
-file_passed files g deps i d p h is file rest answer said =
-    rest answer (subst (λ ys. IsByStamps files g ys answer) (sym
-    (ap config_names (deps_next deps i d h is) ∙ ap (λ z. config_names (z ∷ drop (suc i) deps)) file)) (next_place files g deps i answer said))
+stamp_refused files g deps i x e next why rest = ⊎_elim
+    (λ given. inl given)
+    (λ bad. inr (by_next files g deps i (Config x) _ next rest (inr (inr bad))))
+    (bad_stamp x (content files (stamp_path x)) e why)
 
 -- ---- what a shown tree answers of a recorded object
 

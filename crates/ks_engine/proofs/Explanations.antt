@@ -1,29 +1,25 @@
 -- Why an object is stale: the causes that stamps give, what a shown tree gives of a recorded object, and that places are first.
-use Rattle.std.proofs.Common.{map, ◌≡◌, ◌⊎◌, inl, inr, ⊎_elim, ℕ, suc, ◌+◌, ◌<◌, ◌≤◌, List, [], ◌∷◌, ◌++◌, Option, Some, None, Result, Ok, Err, Bool, true, false, cond, nat_lt, sym, ◌∙◌, ap, ap₂, refl, subst, arith, length, get_or, drop, append_assoc, append-nil, bytes_eq, IsTrue}
+use Rattle.std.proofs.Common.{map, ◌≡◌, ◌⊎◌, inl, inr, ⊎_elim, ℕ, ◌+◌, ◌<◌, ◌≤◌, List, [], ◌∷◌, ◌++◌, Option, Some, None, Result, Ok, Err, Bool, true, false, cond, nat_lt, sym, ◌∙◌, ap, ap₂, refl, subst, length, get_or, drop, append_assoc, append-nil, bytes_eq, IsTrue}
 use Rattle.std.specs.Prelude.{filter, not, IfOk}
 use Rattle.std.specs.List.{All, list_all, list_any}
 use Rattle.std.proofs.lemmas.Bool.{lt-ltb, le-ltb, cond-false, cond-true, cond_both, cases_lt, and_parts, or_left, or_right, or_from, or_parts, not-true, both_ways, false_from_ne_true}
-use Rattle.std.proofs.lemmas.List.{drop_all, length-map}
-use Rattle.std.proofs.lemmas.List.Sums.{AllPass-from_list_all}
+use Rattle.std.proofs.lemmas.List.{drop_all}
 use Rattle.std.proofs.lemmas.List.Elements.{All-nil, All-cons, All-head, All-tail, All-append, All-map, All-same, All-filter, All-weaker, filter_passes}
 use Rattle.std.proofs.lemmas.List.Folds.{list_all-append, list_any-append, list_any_at}
 use Rattle.std.proofs.lemmas.Slice.Eq.{bytes_eq-Decides}
-use Rattle.ks_symbols.specs.Names.{is_name, is_path, is_target, is_in}
+use Rattle.ks_symbols.specs.Names.{is_name, is_target, is_in}
 use Rattle.ks_fixdep.specs.declared.command_file.Dep.{Dep}
 use Rattle.ks_fixdep.specs.declared.command_file.Dep.TheVariants.{File, Config}
 use Rattle.ks_fixdep.specs.declared.dependency_file.Role.{Role}
 use Rattle.ks_fixdep.specs.declared.dependency_file.Role.TheVariants as role
-use Rattle.ks_fixdep.specs.declared.command_file.lent.LentDep.{LentDep}
-use Rattle.ks_fixdep.specs.Lent.{seen_dep}
 use Rattle.ks_fixdep.specs.CommandFile.{CommandRecord, is_dep, IsLegal}
 use Rattle.ks_symbols.specs.Interner.{noted}
 use Rattle.ks_fixdep.specs.FoundNames.{all_noted}
 use Rattle.ks_fixdep.specs.Record.{config_names, new_names, deps_after, source_of, record_of}
-use Rattle.ks_tree.specs.Files.{Files, content, IsTooLarge}
+use Rattle.ks_tree.specs.Files.{Files, content}
 use Rattle.ks_tree.specs.Paths.{auto_path, stamp_path, command_path}
-use Rattle.ks_tree.specs.Stamps.{HasNumber, IsNoStamp, IsStampRefusal}
+use Rattle.ks_tree.specs.Stamps.{HasNumber, IsStampRefusal}
 use Rattle.ks_tree.specs.declared.fault.TreeError.{TreeError}
-use Rattle.ks_tree.specs.declared.fault.TreeError.TheVariants as stamp_error
 use Rattle.ks_engine.specs.declared.error.EngineError.{EngineError}
 use Rattle.ks_engine.specs.declared.error.EngineError.TheVariants.{BadPath, BadCommandFile}
 use Rattle.ks_engine.specs.declared.explaining.Cause.{Cause}
@@ -34,11 +30,11 @@ use Rattle.ks_engine.specs.History.{History, LastRecord, done, last_record}
 use Rattle.ks_engine.specs.Staleness.{found, names_of, suspect_since}
 use Rattle.ks_engine.specs.Shows.{Shows, stamp}
 use Rattle.ks_engine.specs.LastSync.{last_generation}
-use Rattle.ks_engine.specs.Asked.{Asked, Answered, ByStamps, asked, asked_at, asked_since, asked_of, command_file, of_target, IsBadStamp, IsByStamps, IsAnswer}
+use Rattle.ks_engine.specs.Asked.{Asked, Answered, ByStamps, asked, asked_at, asked_since, asked_of, command_file, of_target, IsByStamps, IsAnswer}
 use Rattle.ks_engine.specs.Explained.{placed, names_placed, cause, AreCauses, IsStampFault, verdict_of, places_of, IsByAllStamps, IsExplainedBy, IsExplained, IsExplanationJudged, first_with, listed_last, is_listed, PlacesAreFirst, PlacesAreTheirs}
 use Rattle.ks_engine.proofs.Heart.{suspect_since-lt}
 use Rattle.ks_engine.proofs.LowerLaws.{one_number, read_fits}
-use Rattle.ks_engine.proofs.Asking.{asked_illegal, asked_read, deps_next, names_next, no_bad, legal_names, and_true, target_shown, file_shown, since_shown, stale_judged}
+use Rattle.ks_engine.proofs.Asking.{asked_illegal, asked_read, bad_stamp, no_bad, legal_names, and_true, target_shown, file_shown, since_shown, stale_judged}
 
 -- ---- the numbers of stamps
 
@@ -112,18 +108,12 @@ pub record Settles (files : Files) (g : ℕ) (source : List ℕ) (deps : List De
 pub settles_first : (files : Files) (g : ℕ) (source : List ℕ) (deps : List Dep) → Settles files g source deps 0 source []
 settles_first files g source deps = record { rest = λ more are. are; fault = λ e is. is }
 
-next_deps : (deps : List Dep) (i : ℕ) (d : Dep) → i < length deps → d ≡ get_or deps i d → drop i deps ≡ d ∷ drop (i + 1) deps
-next_deps deps i d h is = let one : suc i ≡ i + 1 = omega arith in deps_next deps i d h is ∙ ap (λ k. d ∷ drop k deps) one
-
-pub settles_file : (files : Files) (g : ℕ) (source : List ℕ) (deps : List Dep) (i : ℕ) (d : Dep) (path place : List ℕ) (causes : List Cause)
-    → i < length deps → d ≡ get_or deps i d → d ≡ File path
-    → Settles files g source deps i place causes → Settles files g source deps (i + 1) path causes
-settles_file files g source deps i d path place causes h is file s =
-    let next : drop i deps ≡ File path ∷ drop (i + 1) deps = next_deps deps i d h is ∙ ap (λ z. z ∷ drop (i + 1) deps) file in
-    record {
-      rest = λ more are. s.rest more (subst (λ ds. AreCauses files g (placed place ds) more) (sym next) are);
-      fault = λ e bad. s.fault e (subst (λ ds. IsStampFault files (config_names ds) e) (sym next) bad);
-    }
+pub settles_file : (files : Files) (g : ℕ) (source : List ℕ) (deps : List Dep) (i : ℕ) (path place : List ℕ) (causes : List Cause)
+    → drop i deps ≡ File path ∷ drop (i + 1) deps → Settles files g source deps i place causes → Settles files g source deps (i + 1) path causes
+settles_file files g source deps i path place causes next s = record {
+  rest = λ more are. s.rest more (subst (λ ds. AreCauses files g (placed place ds) more) (sym next) are);
+  fault = λ e bad. s.fault e (subst (λ ds. IsStampFault files (config_names ds) e) (sym next) bad);
+}
 
 fault_behind : (files : Files) (x : List ℕ) (n : ℕ) (names : List (List ℕ)) (e : EngineError) → HasNumber (content files (stamp_path x)) n
     → IsStampFault files names e → IsStampFault files (x ∷ names) e
@@ -137,36 +127,32 @@ fault_behind files x n names e has bad = record {
 }
 
 -- a name whose stamp holds a number
-settles_name : (files mid : Files) (g : ℕ) (source : List ℕ) (deps : List Dep) (i : ℕ) (d : Dep) (x place : List ℕ) (n : ℕ) (causes all : List Cause)
-    → mid ≡ files → i < length deps → d ≡ get_or deps i d → d ≡ Config x → HasNumber (content mid (stamp_path x)) n
+settles_name : (files : Files) (g : ℕ) (source : List ℕ) (deps : List Dep) (i : ℕ) (x place : List ℕ) (n : ℕ) (causes all : List Cause)
+    → drop i deps ≡ Config x ∷ drop (i + 1) deps → HasNumber (content files (stamp_path x)) n
     → ((more : List Cause) → all ++ more ≡ causes ++ onto g n (x, place) more)
     → Settles files g source deps i place causes → Settles files g source deps (i + 1) place all
-settles_name files mid g source deps i d x place n causes all same h is config has grows s =
-    let next : drop i deps ≡ Config x ∷ drop (i + 1) deps = next_deps deps i d h is ∙ ap (λ z. z ∷ drop (i + 1) deps) config in
-    let here : HasNumber (content files (stamp_path x)) n = subst (λ f. HasNumber (content f (stamp_path x)) n) same has in
-    record {
-      rest = λ more are. subst (AreCauses files g (placed source deps)) (sym (grows more)) (s.rest (onto g n (x, place) more)
-          (subst (λ ds. AreCauses files g (placed place ds) (onto g n (x, place) more)) (sym next)
-          (causes_next files g (x, place) (placed place (drop (i + 1) deps)) more n here are)));
-      fault = λ e bad. s.fault e (subst (λ ds. IsStampFault files (config_names ds) e) (sym next)
-          (fault_behind files x n (config_names (drop (i + 1) deps)) e here bad));
-    }
+settles_name files g source deps i x place n causes all next has grows s = record {
+  rest = λ more are. subst (AreCauses files g (placed source deps)) (sym (grows more)) (s.rest (onto g n (x, place) more)
+      (subst (λ ds. AreCauses files g (placed place ds) (onto g n (x, place) more)) (sym next)
+      (causes_next files g (x, place) (placed place (drop (i + 1) deps)) more n has are)));
+  fault = λ e bad. s.fault e (subst (λ ds. IsStampFault files (config_names ds) e) (sym next)
+      (fault_behind files x n (config_names (drop (i + 1) deps)) e has bad));
+}
 
-pub settles_below : (files mid : Files) (g : ℕ) (source : List ℕ) (deps : List Dep) (i : ℕ) (d : Dep) (x place : List ℕ) (n : ℕ) (causes : List Cause)
-    → mid ≡ files → i < length deps → d ≡ get_or deps i d → d ≡ Config x → HasNumber (content mid (stamp_path x)) n → n ≤ g
+pub settles_below : (files : Files) (g : ℕ) (source : List ℕ) (deps : List Dep) (i : ℕ) (x place : List ℕ) (n : ℕ) (causes : List Cause)
+    → drop i deps ≡ Config x ∷ drop (i + 1) deps → HasNumber (content files (stamp_path x)) n → n ≤ g
     → Settles files g source deps i place causes → Settles files g source deps (i + 1) place causes
-settles_below files mid g source deps i d x place n causes same h is config has below s =
-    settles_name files mid g source deps i d x place n causes causes same h is config has
-    (λ more. ap (λ l. causes ++ l) (sym (cond-false _ _ _ (le-ltb g n below)))) s
+settles_below files g source deps i x place n causes next has below s =
+    settles_name files g source deps i x place n causes causes next has (λ more. ap (λ l. causes ++ l) (sym (cond-false _ _ _ (le-ltb g n below)))) s
 
-pub settles_above : (files mid : Files) (g : ℕ) (source : List ℕ) (deps : List Dep) (i : ℕ) (d : Dep) (x place : List ℕ) (n : ℕ) (causes all : List Cause)
-    (c : Cause) → mid ≡ files → i < length deps → d ≡ get_or deps i d → d ≡ Config x → HasNumber (content mid (stamp_path x)) n → g < n
+pub settles_above : (files : Files) (g : ℕ) (source : List ℕ) (deps : List Dep) (i : ℕ) (x place : List ℕ) (n : ℕ) (causes all : List Cause)
+    (c : Cause) → drop i deps ≡ Config x ∷ drop (i + 1) deps → HasNumber (content files (stamp_path x)) n → g < n
     → c.name ≡ x → c.generation ≡ n → c.place ≡ place → all ≡ causes ++ c ∷ []
     → Settles files g source deps i place causes → Settles files g source deps (i + 1) place all
-settles_above files mid g source deps i d x place n causes all c same h is config has above name generation at grown s =
+settles_above files g source deps i x place n causes all c next has above name generation at grown s =
     let is_cause : ◌≡◌ {A = Cause} c (record { name = x; generation = n; place = place }) =
     λ i. record { name = name i; generation = generation i; place = at i } in
-    settles_name files mid g source deps i d x place n causes all same h is config has
+    settles_name files g source deps i x place n causes all next has
     (λ more. ap (λ l. l ++ more) grown ∙ append_assoc causes (c ∷ []) more
     ∙ ap (λ l. causes ++ l) (ap (λ z. z ∷ more) is_cause ∙ sym (cond-true _ _ _ (lt-ltb g n above)))) s
 
@@ -178,31 +164,14 @@ settles_last files g source deps i place causes past s =
     (s.rest [] (subst (λ ds. AreCauses files g (placed place ds) []) (sym (drop_all i deps past)) none))
 
 -- a stamp without a number refuses the whole
-pub settles_refused : (files mid : Files) (g : ℕ) (source : List ℕ) (deps : List Dep) (i : ℕ) (d : Dep) (x place : List ℕ) (causes : List Cause)
-    (e : TreeError) → mid ≡ files → i < length deps → d ≡ get_or deps i d → d ≡ Config x → IsStampRefusal x (content mid (stamp_path x)) e
+pub settles_refused : (files : Files) (g : ℕ) (source : List ℕ) (deps : List Dep) (i : ℕ) (x place : List ℕ) (causes : List Cause) (e : TreeError)
+    → drop i deps ≡ Config x ∷ drop (i + 1) deps → IsStampRefusal x (content files (stamp_path x)) e
     → Settles files g source deps i place causes → IsGivenUp (of_stamp e) ⊎ IsStampFault files (config_names deps) (of_stamp e)
-settles_refused files mid g source deps i d x place causes e same h is config why s = refused e why
-  where
-    at : (f : EngineError) → IsBadStamp (content files (stamp_path x)) x (Err f) → IsStampFault files (config_names deps) f
-    at f bad = s.fault f (subst (λ ns. IsStampFault files ns f) (sym (names_next deps i d x h is config))
-        (record { before = []; name = x; behind = config_names (drop (suc i) deps); stands = refl; held = All-nil _; fault = bad }))
-
-    refused : (e : TreeError) → IsStampRefusal x (content mid (stamp_path x)) e → IsGivenUp (of_stamp e) ⊎ IsStampFault files (config_names deps) (of_stamp e)
-    refused stamp_error.OutOfMemory why = inl tt
-    refused stamp_error.Device why = inl tt
-    refused stamp_error.TooLarge why = inr (at _ (inr (subst (λ f. IsTooLarge (content f (stamp_path x))) same why, refl)))
-    refused (stamp_error.BadStamp y) why =
-        let none = subst (λ f. IsNoStamp (content f (stamp_path x)) × (IsTooLarge (content f (stamp_path x)) → ⊥)) same (why.1, why.2) in
-        inr (at _ (inl (none.0, none.1, ap (λ z. Err (of_stamp (stamp_error.BadStamp z))) why.0)))
-
--- a listed file among legal dependencies has a legal path
-pub file_is_path : (deps : List Dep) (i : ℕ) (d : Dep) (path : List ℕ) → IsTrue (list_all is_dep deps) → i < length deps → d ≡ get_or deps i d → d ≡ File path
-    → IsTrue (is_path path)
-file_is_path deps i d path legal h is file = ap is_dep (sym file ∙ is) ∙ AllPass-from_list_all is_dep deps legal i d h
-
--- behind the last of those that are lent
-pub seen_past : (deps : List LentDep) (i : ℕ) → length deps ≤ i → length (map seen_dep deps) ≤ i
-seen_past deps i h = subst (λ n. n ≤ i) (sym (length-map deps seen_dep)) h
+settles_refused files g source deps i x place causes e next why s = ⊎_elim
+    (λ given. inl given)
+    (λ bad. inr (s.fault _ (subst (λ ds. IsStampFault files (config_names ds) (of_stamp e)) (sym next)
+    (record { before = []; name = x; behind = config_names (drop (i + 1) deps); stands = refl; held = All-nil _; fault = bad }))))
+    (bad_stamp x (content files (stamp_path x)) e why)
 
 -- ---- the verdict of the causes
 

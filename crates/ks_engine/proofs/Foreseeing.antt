@@ -208,7 +208,7 @@ plan_stands files k d plan (inr made) = over (old_auto (content files auto_path)
     over (Err e) is = absurd cc
 
 behind : (files after : Files) (k d : List ℕ) (impact : Impact) (report : Report) → IsImpactOf files k d impact → IsSynced files after k d report
-    → IsBehind files after impact
+    → IsBehind files after impact.report
 behind files after k d impact report told synced =
     let plan = synced.plan in
     let same : told.1.plan ≡ plan = ok_ok _ _ (one_plan files k d (Ok told.1.plan) (Ok plan) told.1.planned synced.planned) in
@@ -239,7 +239,7 @@ behind files after k d impact report told synced =
 
 -- what is answered over all that stands so is answered, and judged, over each tree that it leaves
 abbrev pub AnswersOver : Files → Impact → List ℕ → Result Verdict EngineError → Type 0
-AnswersOver files impact o answer = (after : Files) → IsBehind files after impact → GaveUp answer ⊎ IsAnswer after (asked after o) answer
+AnswersOver files impact o answer = (after : Files) → IsBehind files after impact.report → GaveUp answer ⊎ IsAnswer after (asked after o) answer
 
 pub answers_behind : (files : Files) (k d o : List ℕ) (impact : Impact) (answer : Result Verdict EngineError) → AnswersOver files impact o answer
     → IsImpactOf files k d impact → AnswersBehind files k d o answer
@@ -252,7 +252,3 @@ judges_behind files k d o impact answer said told = λ after report synced h r s
     stale_judged after (Synced plan.title plan.config h) o r answer (said after (behind files after k d impact report told synced))
     (synced_shows files after h plan report.touched.items report.touched.items shows (plan_facts files h k d plan shows synced.planned) synced.changed
     synced.done.leaves refl synced.done.header synced.done.auto) last
-
--- files that were only read stand so as well
-pub still_behind : (files mid after : Files) (impact : Impact) → mid ≡ files → IsBehind files after impact → IsBehind mid after impact
-still_behind files mid after impact same is = subst (λ f. IsBehind f after impact) (sym same) is

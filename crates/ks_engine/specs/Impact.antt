@@ -10,6 +10,8 @@ use Rattle.ks_tree.specs.Stamps.{HasNumber}
 use Rattle.ks_engine.specs.declared.error.EngineError.{EngineError}
 use Rattle.ks_engine.specs.declared.impact.Impact.{Impact}
 use Rattle.ks_engine.specs.declared.staleness.Verdict.{Verdict}
+use Rattle.ks_engine.specs.declared.stamps.Stamps.{Stamps}
+use Rattle.ks_engine.specs.declared.stamps.Stamps.TheVariants.{Now, Behind}
 use Rattle.ks_engine.specs.declared.synchronise.Report.{Report}
 use Rattle.ks_engine.specs.Refusals.{GaveUp}
 use Rattle.ks_engine.specs.History.{History, Synced, LastRecord, last_record}
@@ -35,11 +37,16 @@ JudgesBehind files kconfig dotconfig o answer =
     → last_record h o ≡ Some r → IsJudged after (Synced synced.plan.title synced.plan.config h) o r answer
 
 -- What a question asks of such a tree: its generation and the touched stamps are of the report, all else is as before.
-pub record IsBehind (files after : Files) (impact : Impact) : Type 0 where
-  pub rising : IsStrictlySortedBy (slice_cmp nat_cmp) impact.report.touched.items
-  pub generation : last_generation (content after auto_path) ≡ Ok impact.report.generation
-  pub touched : (x : List ℕ) → IsTrue (is_name x) → is_in impact.report.touched.items x ≡ true → HasNumber (content after (stamp_path x))
-      impact.report.generation
-  pub others : (x : List ℕ) → IsTrue (is_name x) → is_in impact.report.touched.items x ≡ false → content after (stamp_path x)
+pub record IsBehind (files after : Files) (report : Report) : Type 0 where
+  pub rising : IsStrictlySortedBy (slice_cmp nat_cmp) report.touched.items
+  pub generation : last_generation (content after auto_path) ≡ Ok report.generation
+  pub touched : (x : List ℕ) → IsTrue (is_name x) → is_in report.touched.items x ≡ true → HasNumber (content after (stamp_path x))
+      report.generation
+  pub others : (x : List ℕ) → IsTrue (is_name x) → is_in report.touched.items x ≡ false → content after (stamp_path x)
       ≡ content files (stamp_path x)
   pub commands : (o : List ℕ) → content after (command_path o) ≡ content files (command_path o)
+
+-- The files that a question is asked of: these, or those behind the synchronisation.
+abbrev pub IsSeen : Stamps → Files → Files → Type 0
+IsSeen Now files after = after ≡ files
+IsSeen (Behind report) files after = IsBehind files after report.now

@@ -12,6 +12,7 @@ mod planning;
 mod recording;
 mod sources;
 mod staleness;
+mod stamps;
 mod synchronise;
 #[cfg(test)]
 mod tests;

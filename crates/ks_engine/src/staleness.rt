@@ -5,18 +5,20 @@ ghost use Rattle.ks_fixdep.specs.CommandFile.{is_command};
 ghost use Rattle.ks_fixdep.specs.Lent.{seen_dep, lent_view};
 ghost use Rattle.ks_fixdep.specs.Record.{config_names};
 ghost use Rattle.ks_tree.specs.Frames.{Reads};
-ghost use Rattle.ks_tree.specs.Files.{content};
+ghost use Rattle.ks_tree.specs.Files.{Files, content};
 ghost use Rattle.ks_tree.specs.Paths.{command_path};
 ghost use Rattle.ks_engine.specs.Refusals.{Answers, GaveUp, IsGivenUp};
 ghost use Rattle.ks_engine.specs.History.{History, LastRecord, last_record};
 ghost use Rattle.ks_engine.specs.Shows.{Shows};
 ghost use Rattle.ks_engine.specs.Asked.{command_file, asked, asked_since, IsByStamps, IsAnswer};
 ghost use Rattle.ks_engine.specs.Memos.{IsMemoOf};
+ghost use Rattle.ks_engine.specs.Impact.{IsSeen};
 ghost use Rattle.ks_engine.specs.BuildStates.{build_asked, IsBuildState};
 ghost use Rattle.ks_engine.specs.Judged.{JudgesRecorded, IsBuildJudged};
 
 use crate::EngineError;
 use crate::memos::Memo;
+use crate::stamps::Stamps;
 use ks_fixdep::{LentCommand, LentDep, command_is_legal, lend_command};
 use ks_symbols::{Name, target_is_legal};
 use ks_tree::{Tree, command_path};
@@ -86,19 +88,21 @@ fn first_above<T: Tree>(
     alloc: Global,
     tree: &mut T,
     memo: &mut Memo,
+    stamps: Stamps<'_>,
     deps: &[LentDep<'_>],
     generation: u64,
 ) -> Result<Verdict, EngineError>
     requires memo { T.is_honest → IsMemoOf (T.files tree.old) memo.old }
     ensures reads { Reads T.Tree tree.old tree.new (IsErrOf result EngineError.Device) }
     ensures memo { T.is_honest → IsMemoOf (T.files tree.new) memo.new }
-    ensures answer { T.is_honest → GaveUp result ⊎ IsByStamps (T.files tree.old) generation (config_names (map seen_dep deps.now)) result }
+    ensures answer { T.is_honest → (after : Files) → IsSeen stamps.entry (T.files tree.old) after
+        → GaveUp result ⊎ IsByStamps after generation (config_names (map seen_dep deps.now)) result }
 {
     for dep in deps {
         match dep {
             LentDep::File(_path) => {}
             LentDep::Config(name) => {
-                let number = memo.stamp(alloc, tree, name.as_bytes())?;
+                let number = stamps.number(alloc, tree, memo, name.as_bytes())?;
                 if generation < number {
                     let changed = Name::new(alloc, name.as_bytes())?;
                     return Ok(Verdict::Changed(changed));
@@ -114,35 +118,38 @@ fn judge<T: Tree>(
     alloc: Global,
     tree: &mut T,
     memo: &mut Memo,
+    stamps: Stamps<'_>,
     file: &LentCommand<'_>,
 ) -> Result<Verdict, EngineError>
     requires memo { T.is_honest → IsMemoOf (T.files tree.old) memo.old }
     ensures reads { Reads T.Tree tree.old tree.new (IsErrOf result EngineError.Device) }
     ensures memo { T.is_honest → IsMemoOf (T.files tree.new) memo.new }
-    ensures answer { T.is_honest → GaveUp result ⊎ IsAnswer (T.files tree.old)
-        (asked_since (T.files tree.old) (config_names (map seen_dep file.now.deps.items)) file.now.generation) result }
+    ensures answer { T.is_honest → (after : Files) → IsSeen stamps.entry (T.files tree.old) after → GaveUp result ⊎ IsAnswer after
+        (asked_since after (config_names (map seen_dep file.now.deps.items)) file.now.generation) result }
 {
     let Some(generation) = file.generation else {
         return Ok(Verdict::Unnumbered);
     };
-    let last = memo.generation(alloc, tree)?;
+    let last = stamps.generation(alloc, tree, memo)?;
     if last < generation {
         return Ok(Verdict::Ahead);
     }
-    first_above(alloc, tree, memo, &file.deps, generation)
+    first_above(alloc, tree, memo, stamps, &file.deps, generation)
 }
 
 /// The verdict on an object, by the files.
-fn ask<T: Tree>(
+pub(crate) fn ask<T: Tree>(
     alloc: Global,
     tree: &mut T,
     memo: &mut Memo,
+    stamps: Stamps<'_>,
     target: &[u8],
 ) -> Result<Verdict, EngineError>
     requires memo { T.is_honest → IsMemoOf (T.files tree.old) memo.old }
     ensures reads { Reads T.Tree tree.old tree.new (IsErrOf result EngineError.Device) }
     ensures memo { T.is_honest → IsMemoOf (T.files tree.new) memo.new }
-    ensures answer { T.is_honest → GaveUp result ⊎ IsAnswer (T.files tree.old) (asked (T.files tree.old) target.now) result }
+    ensures answer { T.is_honest → (after : Files) → IsSeen stamps.entry (T.files tree.old) after
+        → GaveUp result ⊎ IsAnswer after (asked after target.now) result }
 {
     if !target_is_legal(target) {
         return Err(EngineError::BadPath(0));
@@ -151,7 +158,7 @@ fn ask<T: Tree>(
         return Ok(Verdict::NoCommandFile);
     };
     let file = lend_for(alloc, target, &text)?;
-    judge(alloc, tree, memo, &file)
+    judge(alloc, tree, memo, stamps, &file)
 }
 
 /// Whether an object was built by a command, by the files.
@@ -180,7 +187,7 @@ fn ask_built<T: Tree>(
     if !has_command(&file, command) {
         return Ok(BuildState::CommandDiffers);
     }
-    let verdict = judge(alloc, tree, memo, &file)?;
+    let verdict = judge(alloc, tree, memo, Stamps::Now, &file)?;
     Ok(BuildState::Verdict(verdict))
 }
 
@@ -209,7 +216,7 @@ pub fn stale_by<T: Tree>(
     ensures answer { T.is_honest → GaveUp result ⊎ IsAnswer (T.files tree.old) (asked (T.files tree.old) target.now) result }
     ensures recorded { T.is_honest → JudgesRecorded (T.files tree.old) target.now result }
 {
-    ask(alloc, tree, memo, target)
+    ask(alloc, tree, memo, Stamps::Now, target)
 }
 
 /// Whether an object was built by this command, and whether it is stale. It writes nothing.

@@ -4,7 +4,7 @@ use Rattle.ks_fixdep.specs.Lent.{lent_view}
 use Rattle.ks_engine.specs.Asked.{command_file}
 use Rattle.ks_engine.specs.declared.error.EngineError.TheVariants.{BadPath, BadCommand}
 use Rattle.ks_engine.specs.declared.staleness.Verdict.TheVariants.{NoCommandFile}
-use Rattle.ks_engine.proofs.Asking.{build_illegal, build_bad_command, build_read, build_as, build_refused, build_same, build_other, judged_here, refused_at}
+use Rattle.ks_engine.proofs.Asking.{build_illegal, build_bad_command, build_read, build_as, build_refused, build_same, build_other, refused_at}
 use Rattle.ks_engine.proofs.staleness.ask_built.Goals as goal
 
 pub returns-then-not-target_is_legal-clause-answer : goal.returns-then-not-target_is_legal-clause-answer
@@ -47,8 +47,7 @@ returns-then-not-has_command-clause-answer g c = λ honest.
 pub returns-in_err-verdict-clause-answer : goal.returns-in_err-verdict-clause-answer
 returns-in_err-verdict-clause-answer g c = λ honest.
     let p = err_from_is_err_and c.from_residual-in_err-verdict.result c.from_residual-in_err-verdict.ensures.1 in
-    let said = judged_here (g.T.Tree.files c.args.tree.now) _ _ _ (Err c.in_err-verdict.field-0.0) (c.in_ok-text.ensures.reads.unchanged honest)
-    (c.in_err-verdict.ensures.answer honest) in
+    let said = c.in_err-verdict.ensures.answer honest (g.T.Tree.files c.args.tree.now) (sym (c.in_ok-text.ensures.reads.unchanged honest)) in
     rw (p.1, p.2) (⊎_elim (λ given. inl given) (λ is. inr (build_as (g.T.Tree.files c.args.tree.now) _ _ _
     (build_same (g.T.Tree.files c.args.tree.now) c.args.target.now c.args.command.now (lent_view c.in_ok-file.file) c.if-not-target_is_legal.ensures
     c.if-not-command_is_legal.ensures
@@ -57,8 +56,7 @@ returns-in_err-verdict-clause-answer g c = λ honest.
 
 pub returns-clause-answer : goal.returns-clause-answer
 returns-clause-answer g c = λ honest.
-    let said = judged_here (g.T.Tree.files c.args.tree.now) _ _ _ (Ok c.in_ok-verdict.verdict) (c.in_ok-text.ensures.reads.unchanged honest)
-    (c.in_ok-verdict.ensures.answer honest) in
+    let said = c.in_ok-verdict.ensures.answer honest (g.T.Tree.files c.args.tree.now) (sym (c.in_ok-text.ensures.reads.unchanged honest)) in
     ⊎_elim (λ given. absurd given) (λ is. inr (build_as (g.T.Tree.files c.args.tree.now) _ _ _
     (build_same (g.T.Tree.files c.args.tree.now) c.args.target.now c.args.command.now (lent_view c.in_ok-file.file) c.if-not-target_is_legal.ensures
     c.if-not-command_is_legal.ensures

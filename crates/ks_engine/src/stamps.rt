@@ -1,0 +1,81 @@
+//! Which stamps a verdict goes by: those of the tree, or those that a synchronisation would leave. Nothing else of a question differs
+//! between the two, so a foreseen verdict can't part from the one that is answered once the synchronisation is done.
+ghost use Rattle.std.specs.Prelude.{◌≡◌, IfOk, IfErr, IsErrOf, IsTrue};
+ghost use Rattle.std.specs.Ordering.{nat_cmp};
+ghost use Rattle.std.specs.Cmp.Lexicographic.{slice_cmp};
+ghost use Rattle.std.specs.List.Sorted.{IsStrictlySortedBy};
+ghost use Rattle.ks_symbols.specs.Names.{is_name, is_in};
+ghost use Rattle.ks_tree.specs.Files.{Files, content};
+ghost use Rattle.ks_tree.specs.Frames.{Reads};
+ghost use Rattle.ks_tree.specs.Paths.{auto_path, stamp_path};
+ghost use Rattle.ks_tree.specs.Stamps.{HasNumber, IsStampRefusal};
+ghost use Rattle.ks_engine.specs.Refusals.{Answers};
+ghost use Rattle.ks_engine.specs.LastSync.{last_generation};
+ghost use Rattle.ks_engine.specs.Memos.{IsMemoOf};
+ghost use Rattle.ks_engine.specs.Impact.{IsSeen};
+
+use crate::memos::Memo;
+use crate::{EngineError, Report};
+use ks_symbols::Name;
+use ks_tree::{Tree, TreeError};
+use std::alloc::Global;
+
+/// The stamps that a verdict goes by.
+#[derive(Clone, Copy)]
+pub(crate) enum Stamps<'a> {
+    /// As they are.
+    Now,
+    /// As a synchronisation with this report would leave them.
+    Behind(&'a Report),
+}
+
+/// Whether a name is among rising ones.
+fn is_among(names: &[Name], name: &[u8]) -> bool
+    ensures { IsStrictlySortedBy (slice_cmp nat_cmp) names.now → result ≡ is_in names.now name.now }
+{
+    names.binary_search_by(|at| at.as_bytes().cmp(name)).is_ok()
+}
+
+impl Stamps<'_> {
+    /// The generation that a record would get.
+    pub(crate) fn generation<T: Tree>(
+        self,
+        alloc: Global,
+        tree: &mut T,
+        memo: &mut Memo,
+    ) -> Result<u64, EngineError>
+        requires memo { T.is_honest → IsMemoOf (T.files tree.old) memo.old }
+        ensures reads { Reads T.Tree tree.old tree.new (IsErrOf result EngineError.Device) }
+        ensures memo { T.is_honest → IsMemoOf (T.files tree.new) memo.new }
+        ensures read { T.is_honest → (after : Files) → IsSeen self.entry (T.files tree.old) after
+            → Answers (last_generation (content after auto_path)) (λ g. g) result }
+    {
+        match self {
+            Stamps::Now => memo.generation(alloc, tree),
+            Stamps::Behind(report) => Ok(report.generation),
+        }
+    }
+
+    /// The number of a name's stamp.
+    pub(crate) fn number<T: Tree>(
+        self,
+        alloc: Global,
+        tree: &mut T,
+        memo: &mut Memo,
+        name: &[u8],
+    ) -> Result<u64, TreeError>
+        requires memo { T.is_honest → IsMemoOf (T.files tree.old) memo.old }
+        requires name { IsTrue (is_name name.now) }
+        ensures reads { Reads T.Tree tree.old tree.new (IsErrOf result TreeError.Device) }
+        ensures memo { T.is_honest → IsMemoOf (T.files tree.new) memo.new }
+        ensures number { T.is_honest → (after : Files) → IsSeen self.entry (T.files tree.old) after
+            → IfOk result (λ n. HasNumber (content after (stamp_path name.now)) n) }
+        ensures refused { T.is_honest → (after : Files) → IsSeen self.entry (T.files tree.old) after
+            → IfErr result (IsStampRefusal name.now (content after (stamp_path name.now))) }
+    {
+        match self {
+            Stamps::Behind(report) if is_among(&report.touched, name) => Ok(report.generation),
+            _ => memo.stamp(alloc, tree, name),
+        }
+    }
+}

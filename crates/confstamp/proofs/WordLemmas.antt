@@ -100,6 +100,7 @@ preview_of k d (request.Diff k' d') h = absurd (true≢false (ap (λ t. slice_in
 preview_of k d (request.Fixdep d' t c) h = absurd (true≢false (ap (λ t. slice_index t 0 == 112) h.0))
 preview_of k d (request.Record d' t c) h = absurd (true≢false (ap (λ t. slice_index t 0 == 112) h.0))
 preview_of k d (request.Stale ts) h = absurd (h.0 1 [] (omega arith) refl)
+preview_of k d (request.Why ts) h = absurd (true≢false (ap (λ t. slice_index t 0 == 112) h.0))
 preview_of k d (request.Batch s) h = absurd (true≢false (ap (λ t. slice_index t 0 == 112) h.0))
 preview_of k d (request.Outdated t c) h = absurd (true≢false (ap (λ t. slice_index t 0 == 112) h.0))
 
@@ -111,6 +112,7 @@ batch_of p (request.Diff k d) h = absurd (true≢false (ap (λ t. slice_index t 
 batch_of p (request.Fixdep d t c) h = absurd (true≢false (ap (λ t. slice_index t 0 == 98) h.0))
 batch_of p (request.Record d t c) h = absurd (true≢false (ap (λ t. slice_index t 0 == 98) h.0))
 batch_of p (request.Stale ts) h = absurd (h.0 5 [] (omega arith) refl)
+batch_of p (request.Why ts) h = absurd (true≢false (ap (λ t. slice_index t 0 == 98) h.0))
 batch_of p (request.Outdated t c) h = absurd (true≢false (ap (λ t. slice_index t 0 == 98) h.0))
 
 -- what holds of the error holds where there is an error

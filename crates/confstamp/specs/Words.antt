@@ -45,7 +45,8 @@ words_at name rows = unwrap_or (all_of name rows) []
 -- the name is that of no command but `stale`
 abbrev pub IsNoOther : Text → Type 0
 IsNoOther name = All (λ other. name ≢ other)
-    (codes "sync" ∷ codes "preview" ∷ codes "diff" ∷ codes "fixdep" ∷ codes "record" ∷ codes "batch" ∷ codes "outdated" ∷ [])
+    (codes "sync" ∷ codes "preview" ∷ codes "diff" ∷ codes "fixdep" ∷ codes "record" ∷ codes "batch" ∷ codes "outdated"
+    ∷ codes "why" ∷ [])
 
 -- the objects of a question
 abbrev pub AreTargets : List Row → Targets → Type 0
@@ -68,6 +69,7 @@ IsRequestOf command rows (request.Record d t c) = (command ≡ codes "record")
     × (string_bytes c ≡ word_at (codes "COMMAND") rows)
 IsRequestOf command rows (request.Stale ts) =
     IsNoOther command × AreTargets rows ts
+IsRequestOf command rows (request.Why ts) = (command ≡ codes "why") × AreTargets rows ts
 IsRequestOf command rows (request.Batch s) =
     (command ≡ codes "batch") × (string_bytes s ≡ word_at (codes "SCRIPT") rows)
 IsRequestOf command rows (request.Outdated t c) = (command ≡ codes "outdated")

@@ -100,7 +100,7 @@ const SCRIPT: Word = Word {
     help: "A file with a command sync, record or stale on each line; empty lines and those that begin with # are skipped",
 };
 
-pub(crate) const USAGES: [Usage; 8] = [
+pub(crate) const USAGES: [Usage; 9] = [
     Usage {
         name: "sync",
         about: "Write auto.conf, the header and the stamps of all symbols that changed",
@@ -161,6 +161,17 @@ Example: confstamp record x.d x.o 'cc -c x.c'",
 Prints a line for each object: fresh, stale and why, or refused and why. One of the words is needed.
 
 Example: confstamp stale x.o y.o",
+    },
+    Usage {
+        name: "why",
+        about: "Say which objects are stale, and list every symbol that changed since each was built",
+        words: &[TARGETS, FROM],
+        choice: Some("confstamp why [--from FILE] [TARGET]..."),
+        notes: "\
+Prints the lines of stale, and below an object NAME generation N PLACE for each symbol: when it changed, and where
+it was found. One of the words is needed.
+
+Example: confstamp why x.o y.o",
     },
     Usage {
         name: "batch",

@@ -133,6 +133,9 @@ fn request_named(alloc: Global, name: &str, matches: &ArgMatches<'_>) -> Result<
             target: word(alloc, matches, "TARGET")?,
             command: word(alloc, matches, "COMMAND")?,
         }),
+        "why" => Ok(Request::Why {
+            targets: targets(alloc, matches)?,
+        }),
         _ => Ok(Request::Stale {
             targets: targets(alloc, matches)?,
         }),

@@ -1,6 +1,5 @@
 -- What a call of the engine leaves, behind reads that changed no file.
 use Rattle.std.proofs.Common.{◌≡◌, ◌⊎◌, ◌≤◌, ℕ, inl, inr, List, Result, Ok, Err, refl, sym, ap, ◌∙◌, subst}
-use Rattle.std.proofs.lemmas.List.Elements.{All-weaker}
 use Rattle.ks_tree.specs.Files.{Files}
 use Rattle.ks_engine.specs.declared.commands.Reply.{Reply}
 use Rattle.ks_engine.specs.declared.error.EngineError.{EngineError}
@@ -15,8 +14,11 @@ use Rattle.ks_commands.specs.declared.refusal.Refusal.{Refusal}
 use Rattle.ks_commands.specs.declared.refusal.Refusal.TheVariants.{Engine}
 use Rattle.ks_commands.specs.Endings.{Ending}
 use Rattle.ks_commands.specs.Inputs.{given}
-use Rattle.ks_commands.specs.Performed.{EndsStale, IsAnswerOn, LeavesSync, Runs, RunsAll, by_files, by_histories}
+use Rattle.ks_commands.specs.Performed.{EndsStale, EndsWhy, FollowsWhy, IsAnswerOn, IsExplanationOn, LeavesSync, Runs, RunsAll, by_files, by_histories}
+use Rattle.ks_commands.specs.Replies.{explanation_lines, verdict_line}
 use Rattle.ks_commands.specs.Scripts.{HasGivenUp, actions_of, script_actions, script_at}
+use Rattle.ks_commands.specs.Statuses.{explanation_status, verdict_status}
+use Rattle.ks_commands.proofs.Verdicts.{answers_weaker}
 
 pub sync_leaves : (old mid new : Files) (k k' d d' : List ℕ) (answer : Result Report EngineError) → mid ≡ old → k ≡ k' → d ≡ d'
     → LeavesSync mid new k d answer → LeavesSync old new k' d' answer
@@ -73,19 +75,12 @@ script_stopped files mid path text r same there (inr bad) = inr (script_there fi
 -- an answer by the files is one by each history that they show
 pub stale_follows : (old new : Files) (m n : ℕ) (h : History) (targets : Result (List (List ℕ)) EngineError) (ended : Ending) → new ≡ old → Shows old h
     → EndsStale (by_files old new) targets ended → EndsStale (by_histories (at old m h) (at new n h)) targets ended
-stale_follows old new m n h targets ended same shows (inl stopped) = inl stopped
-stale_follows old new m n h targets ended same shows (inr (objects, there, text, status, are, tells)) = inr (
-  objects,
-  there,
-  text,
-  status,
-  record {
-    answers = are.answers;
-    of_objects = are.of_objects;
-    each = All-weaker (λ p. IsAnswerOn old p.0 p.1) (λ p. FollowsStale (at old m h) p.0 p.1 (at new n h))
-        (λ p is. record { same = (same, refl); by_files = is.by_files; recorded = λ r was. is.recorded h r shows was }) are.answers are.each;
-    lines = are.lines;
-    worst_of = are.worst_of;
-  },
-  tells,
-)
+stale_follows old new m n h targets ended same shows ends =
+    answers_weaker verdict_line verdict_status (IsAnswerOn old) (λ o answer. FollowsStale (at old m h) o answer (at new n h)) targets ended
+    (λ o answer is. record { same = (same, refl); by_files = is.by_files; recorded = λ r was. is.recorded h r shows was }) ends
+
+pub why_follows : (old new : Files) (m n : ℕ) (h : History) (targets : Result (List (List ℕ)) EngineError) (ended : Ending) → new ≡ old → Shows old h
+    → EndsWhy (by_files old new) targets ended → EndsWhy (by_histories (at old m h) (at new n h)) targets ended
+why_follows old new m n h targets ended same shows ends =
+    answers_weaker explanation_lines explanation_status (IsExplanationOn old) (λ o answer. FollowsWhy (at old m h) o answer (at new n h)) targets ended
+    (λ o answer is. record { same = (same, refl); by_files = is.by_files; verdict = is.verdict; recorded = λ r was. is.recorded h r shows was }) ends

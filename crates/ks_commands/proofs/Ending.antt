@@ -45,6 +45,7 @@ refusals_change_nothing (request.Record d t c) r old new plain (Ok answer, recor
 refusals_change_nothing (request.Record d t c) r old new plain (Err e, inl refused, told) = refused.1
 refusals_change_nothing (request.Record d t c) r old new plain (Err e, inr up, told) = given_up r e plain told up.0
 refusals_change_nothing (request.Stale ts) r old new plain ends = ends.0
+refusals_change_nothing (request.Why ts) r old new plain ends = ends.0
 refusals_change_nothing (request.Outdated t c) r old new plain ends = ends.0
 refusals_change_nothing (request.Batch p) r old new plain (inl stopped) = stopped.0
 refusals_change_nothing (request.Batch p) r old new plain (inr (actions, at, inl memory)) = memory.0
@@ -92,5 +93,6 @@ previews_are_performed k d o (request.Diff k' d') ended behind old new b a eb ea
 previews_are_performed k d o (request.Fixdep d' t c) ended behind old new b a eb ea s is ends printed = absurd is
 previews_are_performed k d o (request.Record d' t c) ended behind old new b a eb ea s is ends printed = absurd is
 previews_are_performed k d o (request.Stale ts) ended behind old new b a eb ea s is ends printed = absurd is
+previews_are_performed k d o (request.Why ts) ended behind old new b a eb ea s is ends printed = absurd is
 previews_are_performed k d o (request.Outdated t c) ended behind old new b a eb ea s is ends printed = absurd is
 previews_are_performed k d o (request.Batch p) ended behind old new b a eb ea s is ends printed = absurd is

@@ -1,25 +1,30 @@
 -- What scripts and runs of the program tell: no synchronisation was broken off before one of them where none was at the end.
-use Rattle.std.proofs.Common.{◌∙◌, ◌<◌, ℕ, List, [], ◌∷◌, Result, Ok, Err, inl, inr, ⊎_elim, sym, ap, subst, map, fold, max, arith}
+use Rattle.std.proofs.Common.{◌≡◌, ◌∙◌, ◌<◌, ℕ, Bool, cond, refl, List, [], ◌∷◌, Result, Ok, Err, IfOk, inl, inr, ⊎_elim, sym, ap, ap₂, subst, filter, map, fold, max, arith}
 use Rattle.std.specs.List.{All}
-use Rattle.std.proofs.lemmas.List.Elements.{All-nil, All-cons, All-weaker}
+use Rattle.std.proofs.lemmas.List.Elements.{All-nil, All-cons}
 use Rattle.ks_engine.specs.declared.commands.Reply.{Reply}
 use Rattle.ks_engine.specs.declared.commands.Reply.TheVariants.{Synced, Recorded, Verdict, Refused}
 use Rattle.ks_engine.specs.declared.error.EngineError.{EngineError}
+use Rattle.ks_engine.specs.declared.explaining.Explanation.{Explanation}
 use Rattle.ks_engine.specs.declared.recording.Recorded.{Recorded as RecordAnswer}
 use Rattle.ks_engine.specs.declared.synchronise.Report.{Report}
 use Rattle.ks_engine.specs.Actions.{Action, Sync, Record, Stale}
 use Rattle.ks_engine.specs.Follows.{TreeState, FollowsSync, FollowsRecord}
 use Rattle.ks_engine.specs.History.{NoneBroken}
 use Rattle.ks_engine.specs.Runs.{FollowsStale, Leads, Leaves, Step}
+use Rattle.ks_engine.specs.Staleness.{changed_since, found, suspect_since}
 use Rattle.ks_engine.specs.Verdicts.{IsGivenUpSync}
+use Rattle.ks_engine.proofs.Heart.{suspect_since-changed_since}
 use Rattle.ks_commands.specs.declared.request.Request.{Request}
 use Rattle.ks_commands.specs.declared.request.Request.TheVariants as request
 use Rattle.ks_commands.specs.Endings.{Ending}
 use Rattle.ks_commands.specs.Laws.{BatchTellsChanges, ProgramsTellChanges}
-use Rattle.ks_commands.specs.Performed.{Continues, EndsStale, by_histories}
-use Rattle.ks_commands.specs.Programs.{Chain, ProgramRun, ProgramTellsChanges, TellsChange, changes_told}
-use Rattle.ks_commands.specs.Statuses.{reply_status, worst}
+use Rattle.ks_commands.specs.Performed.{Continues, EndsStale, EndsWhy, FollowsWhy, by_histories}
+use Rattle.ks_commands.specs.Programs.{Chain, ProgramRun, ProgramTellsChanges, TellsCauses, TellsChange, changes_told}
+use Rattle.ks_commands.specs.Replies.{explanation_lines, verdict_line}
+use Rattle.ks_commands.specs.Statuses.{explanation_status, reply_status, verdict_status, worst}
 use Rattle.ks_commands.specs.Targets.{targets_at}
+use Rattle.ks_commands.proofs.Verdicts.{answers_weaker}
 
 -- ---- none was broken off before a step where none is behind it
 
@@ -68,6 +73,7 @@ none_before_program (request.Diff k d) ended old new is none = subst NoneBroken 
 none_before_program (request.Fixdep d t c) ended old new is none = subst NoneBroken is.0.1 none
 none_before_program (request.Record d t c) ended old new is none = none_before_record _ _ _ is.0 old new is.1 none
 none_before_program (request.Stale ts) ended old new is none = subst NoneBroken is.0.1 none
+none_before_program (request.Why ts) ended old new is none = subst NoneBroken is.0.1 none
 none_before_program (request.Outdated t c) ended old new is none = subst NoneBroken is.0.1 none
 none_before_program (request.Batch p) ended old new (inl stopped) none = subst NoneBroken stopped.0.1 none
 none_before_program (request.Batch p) ended old new (inr (actions, at, inl memory)) none = subst NoneBroken memory.0.1 none
@@ -83,22 +89,30 @@ none_at_first first (run ∷ runs) last chain none =
 
 stale_tells : (old new : TreeState) (targets : Result (List (List ℕ)) EngineError) (ended : Ending) → NoneBroken old.history
     → EndsStale (by_histories old new) targets ended → EndsStale (changes_told old) targets ended
-stale_tells old new targets ended none (inl stopped) = inl stopped
-stale_tells old new targets ended none (inr (objects, there, text, status, are, tells)) = inr (
-  objects,
-  there,
-  text,
-  status,
-  record {
-    answers = are.answers;
-    of_objects = are.of_objects;
-    each = All-weaker (λ p. FollowsStale old p.0 p.1 new) (λ p. TellsChange old p.0 p.1)
-        (λ p is. record { changed = λ r was. (is.recorded r was).changed none; safe = λ r was fresh. (is.recorded r was).safe fresh }) are.answers are.each;
-    lines = are.lines;
-    worst_of = are.worst_of;
-  },
-  tells,
-)
+stale_tells old new targets ended none ends =
+    answers_weaker verdict_line verdict_status (λ o answer. FollowsStale old o answer new) (TellsChange old) targets ended
+    (λ o answer is. record { changed = λ r was. (is.recorded r was).changed none; safe = λ r was fresh. (is.recorded r was).safe fresh }) ends
+
+filter_alike : (p q : List ℕ → Bool) (xs : List (List ℕ)) → ((x : List ℕ) → p x ≡ q x) → filter p xs ≡ filter q xs
+filter_alike p q [] same = refl
+filter_alike p q (x ∷ xs) same = ap₂ (λ b rest. cond b (x ∷ rest) rest) (same x) (filter_alike p q xs same)
+
+-- the suspect names are the changed ones
+causes_changed : (s : TreeState) (o : List ℕ) (answer : Result Explanation EngineError) → NoneBroken s.history
+    → IfOk answer (λ e. map (λ c. c.name) e.causes.items ≡ filter (suspect_since s.history o) (found s.history o))
+    → IfOk answer (λ e. map (λ c. c.name) e.causes.items ≡ filter (changed_since s.history o) (found s.history o))
+causes_changed s o (Ok e) none is = is ∙ filter_alike (suspect_since s.history o) (changed_since s.history o) (found s.history o)
+    (λ x. suspect_since-changed_since s.history o x none)
+causes_changed s o (Err e) none is = is
+
+why_tells : (old new : TreeState) (targets : Result (List (List ℕ)) EngineError) (ended : Ending) → NoneBroken old.history
+    → EndsWhy (by_histories old new) targets ended → EndsWhy (changes_told old) targets ended
+why_tells old new targets ended none ends =
+    answers_weaker explanation_lines explanation_status (λ o answer. FollowsWhy old o answer new) (TellsCauses old) targets ended
+    (λ o answer is. record {
+      tells = record { changed = λ r was. (is.recorded r was).judged.changed none; safe = λ r was fresh. (is.recorded r was).judged.safe fresh };
+      causes = λ r was. causes_changed old o answer none (is.recorded r was).suspects;
+    }) ends
 
 program_tells : (r : Request) (ended : Ending) (old new : TreeState) → Continues r ended old new → NoneBroken new.history
     → ProgramTellsChanges (record { before = old; request = r; ended = ended; after = new })
@@ -110,6 +124,8 @@ program_tells (request.Fixdep d t c) ended old new is none = (tt, is.1)
 program_tells (request.Record d t c) ended old new is none = (is.0, tt, is.2)
 program_tells (request.Stale ts) ended old new is none =
     (tt, stale_tells old new (targets_at old.files ts) ended (none_before_program (request.Stale ts) ended old new is none) is.1)
+program_tells (request.Why ts) ended old new is none =
+    (tt, why_tells old new (targets_at old.files ts) ended (none_before_program (request.Why ts) ended old new is none) is.1)
 program_tells (request.Outdated t c) ended old new is none = (tt, (is.1.0, tt, is.1.2))
 program_tells (request.Batch p) ended old new (inl stopped) none = inl (tt, stopped.1)
 program_tells (request.Batch p) ended old new (inr (actions, at, inl memory)) none = inr (actions, at, inl (tt, memory.1))

@@ -61,6 +61,7 @@ no_site (request.Diff k d) = refl
 no_site (request.Fixdep d t c) = refl
 no_site (request.Record d t c) = refl
 no_site (request.Stale ts) = refl
+no_site (request.Why ts) = refl
 no_site (request.Outdated t c) = refl
 no_site (request.Batch p) = refl
 
@@ -80,6 +81,8 @@ counted_behind (request.Record d t c) r old files m n h plain (Ok answer, record
 counted_behind (request.Record d t c) r old files m n h plain (Err e, refused, told) = (Err e, refused, told)
 counted_behind (request.Stale ts) r old files m n h plain (same, inl stopped) = (same, inl stopped)
 counted_behind (request.Stale ts) r old files m n h plain (same, inr (objects, there, text, status, are, told)) = absurd (plain told)
+counted_behind (request.Why ts) r old files m n h plain (same, inl stopped) = (same, inl stopped)
+counted_behind (request.Why ts) r old files m n h plain (same, inr (objects, there, text, status, are, told)) = absurd (plain told)
 counted_behind (request.Outdated t c) r old files m n h plain (same, (answer, outdated, told)) = absurd (plain told)
 counted_behind (request.Batch p) r old files m n h plain (inl stopped) = inl stopped
 counted_behind (request.Batch p) r old files m n h plain (inr (actions, there, inl memory)) = no_memory r plain memory.1

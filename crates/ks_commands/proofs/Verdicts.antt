@@ -1,47 +1,73 @@
--- The answers to questions, one after the other.
-use Rattle.std.proofs.Common.{◌≡◌, ◌∙◌, ◌<◌, ◌+◌, ◌++◌, ℕ, List, [], ◌∷◌, Result, refl, sym, ap, ap₂, map, max, take, length, get_or, flat_map, append-nil}
+-- What is told of objects, one after the other.
+use Rattle.std.proofs.Common.{◌≡◌, ◌∙◌, ◌<◌, ◌+◌, ◌++◌, ℕ, List, [], ◌∷◌, Result, Ok, inl, inr, refl, sym, ap, ap₂, map, max, take, length, get_or, flat_map, append-nil}
+use Rattle.std.specs.List.{All}
 use Rattle.std.proofs.lemmas.List.{map-append, take_more}
-use Rattle.std.proofs.lemmas.List.Elements.{All-append, All-nil, All-cons}
+use Rattle.std.proofs.lemmas.List.Elements.{All-append, All-nil, All-cons, All-weaker}
 use Rattle.std.proofs.lemmas.List.Sums.{fold-append}
 use Rattle.std.proofs.lemmas.Grind.{flat_map-append}
 use Rattle.ks_engine.specs.declared.error.EngineError.{EngineError}
-use Rattle.ks_engine.specs.declared.staleness.Verdict.{Verdict}
-use Rattle.ks_commands.specs.Performed.{AreAnswers}
-use Rattle.ks_commands.specs.Replies.{answer_line, verdict_line}
-use Rattle.ks_commands.specs.Statuses.{status_unless_refused, verdict_status, worst}
+use Rattle.ks_commands.specs.Endings.{Ending}
+use Rattle.ks_commands.specs.Performed.{EndsAll, TellsAll, TellsAnswer}
+use Rattle.ks_commands.specs.Statuses.{worst}
 
-abbrev Asked : Type 0
-Asked = List ℕ × Result Verdict EngineError
+abbrev Part : Type 0
+Part = List ℕ × List ℕ × ℕ
 
-abbrev line : Asked → List ℕ
-line p = answer_line verdict_line p.0 p.1
+abbrev lines_of : Part → List ℕ
+lines_of p = p.1
 
-abbrev status_of : Asked → ℕ
-status_of p = status_unless_refused verdict_status p.1
+abbrev status_of : Part → ℕ
+status_of p = p.2
 
-module _ (is : List ℕ → Result Verdict EngineError → Type 0) where
-  pub no_answers : AreAnswers is [] [] 0
-  no_answers = record { answers = []; of_objects = refl; each = All-nil (λ p. is p.0 p.1); lines = refl; worst_of = refl }
+module _ (tells : List ℕ → List ℕ → ℕ → Type 0) where
+  pub nothing_told : TellsAll tells [] [] 0
+  nothing_told = record { parts = []; of_objects = refl; each = All-nil (λ p. tells p.0 p.1 p.2); lines = refl; worst_of = refl }
 
-  pub answers_more : (objects : List (List ℕ)) (o : List ℕ) (answer : Result Verdict EngineError) (before after : List ℕ) (status one : ℕ)
-      → AreAnswers is objects before status → is o answer → after ≡ before ++ answer_line verdict_line o answer → one
-      ≡ status_unless_refused verdict_status answer
-      → AreAnswers is (objects ++ o ∷ []) after (max status one)
-  answers_more objects o answer before after status one so_far holds more this =
-      let last : List Asked = (o, answer) ∷ [] in
+  pub told_more : (objects : List (List ℕ)) (o lines before after : List ℕ) (status one : ℕ) → TellsAll tells objects before status → tells o lines one
+      → after ≡ before ++ lines → TellsAll tells (objects ++ o ∷ []) after (max status one)
+  told_more objects o lines before after status one so_far holds more =
+      let last : List Part = (o, lines, one) ∷ [] in
       record {
-        answers = so_far.answers ++ last;
-        of_objects = map-append (λ p. p.0) so_far.answers last ∙ ap (λ xs. xs ++ o ∷ []) so_far.of_objects;
-        each = All-append (λ p. is p.0 p.1) so_far.answers last so_far.each (All-cons (λ p. is p.0 p.1) (o, answer) [] holds (All-nil (λ p. is p.0 p.1)));
+        parts = so_far.parts ++ last;
+        of_objects = map-append (λ p. p.0) so_far.parts last ∙ ap (λ xs. xs ++ o ∷ []) so_far.of_objects;
+        each = All-append (λ p. tells p.0 p.1 p.2) so_far.parts last so_far.each
+            (All-cons (λ p. tells p.0 p.1 p.2) (o, lines, one) [] holds (All-nil (λ p. tells p.0 p.1 p.2)));
         lines =
             more
-            ∙ ap (λ xs. xs ++ line (o, answer)) so_far.lines
-            ∙ ap (λ xs. flat_map line so_far.answers ++ xs) (sym (append-nil (line (o, answer))))
-            ∙ sym (flat_map-append line so_far.answers last);
+            ∙ ap (λ xs. xs ++ lines) so_far.lines
+            ∙ ap (λ xs. flat_map lines_of so_far.parts ++ xs) (sym (append-nil lines))
+            ∙ sym (flat_map-append lines_of so_far.parts last);
         worst_of =
-            ap₂ max so_far.worst_of this
-            ∙ sym (ap worst (map-append status_of so_far.answers last) ∙ fold-append max 0 (map status_of so_far.answers) (status_of (o, answer) ∷ []));
+            ap (λ n. max n one) so_far.worst_of
+            ∙ sym (ap worst (map-append status_of so_far.parts last) ∙ fold-append max 0 (map status_of so_far.parts) (one ∷ []));
       }
+
+-- what is told by more is told by less
+pub ends_weaker : (P Q : List ℕ → List ℕ → ℕ → Type 0) (targets : Result (List (List ℕ)) EngineError) (ended : Ending)
+    → ((o lines : List ℕ) (status : ℕ) → P o lines status → Q o lines status) → EndsAll P targets ended → EndsAll Q targets ended
+ends_weaker P Q targets ended f (inl stopped) = inl stopped
+ends_weaker P Q targets ended f (inr (objects, there, text, status, all, tells)) = inr (
+  objects,
+  there,
+  text,
+  status,
+  record {
+    parts = all.parts;
+    of_objects = all.of_objects;
+    each = All-weaker (λ p. P p.0 p.1 p.2) (λ p. Q p.0 p.1 p.2) (λ p is. f p.0 p.1 p.2 is) all.parts all.each;
+    lines = all.lines;
+    worst_of = all.worst_of;
+  },
+  tells,
+)
+
+-- .. where that is so of each answer
+pub answers_weaker : {A : Type 0} (line : List ℕ → A → List ℕ) (status_of : A → ℕ) (P Q : List ℕ → Result A EngineError → Type 0)
+    (targets : Result (List (List ℕ)) EngineError) (ended : Ending) → ((o : List ℕ) (answer : Result A EngineError) → P o answer → Q o answer)
+    → EndsAll (TellsAnswer line status_of P) targets ended → EndsAll (TellsAnswer line status_of Q) targets ended
+answers_weaker line status_of P Q targets ended f ends =
+    ends_weaker (TellsAnswer line status_of P) (TellsAnswer line status_of Q) targets ended
+    (λ o lines status is. (is.0, f o is.0 is.1, is.2, is.3)) ends
 
 -- the views of one element more
 pub map-take_more : {X Y : Type 0} (f : X → Y) (xs : List X) (i : ℕ) (d : X) → i < length xs → map f (take i xs) ++ f (get_or xs i d) ∷ []

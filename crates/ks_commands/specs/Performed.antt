@@ -7,6 +7,7 @@ use Rattle.ks_tree.specs.Files.{Files, HasRisen}
 use Rattle.ks_engine.specs.declared.error.EngineError.{EngineError}
 use Rattle.ks_engine.specs.declared.error.EngineError.TheVariants.{OutOfMemory, Device}
 use Rattle.ks_engine.specs.declared.commands.Reply.{Reply}
+use Rattle.ks_engine.specs.declared.explaining.Explanation.{Explanation}
 use Rattle.ks_engine.specs.declared.recording.Recorded.{Recorded as RecordAnswer}
 use Rattle.ks_engine.specs.declared.synchronise.Report.{Report}
 use Rattle.ks_engine.specs.declared.staleness.BuildState.{BuildState}
@@ -14,6 +15,7 @@ use Rattle.ks_engine.specs.declared.staleness.Verdict.{Verdict}
 use Rattle.ks_engine.specs.Actions.{Action}
 use Rattle.ks_engine.specs.Asked.{asked, IsAnswer}
 use Rattle.ks_engine.specs.BuildStates.{build_asked, IsBuildState}
+use Rattle.ks_engine.specs.Explained.{ExplainsRecorded, IsExplained, IsExplanationJudged}
 use Rattle.ks_engine.specs.Follows.{TreeState, at, IsSame, GoesOn, FollowsSync, FollowsRecord}
 use Rattle.ks_engine.specs.History.{History, LastRecord, last_record}
 use Rattle.ks_engine.specs.Judged.{IsJudged, IsBuildJudged}
@@ -27,16 +29,16 @@ use Rattle.ks_commands.specs.declared.preview.PreviewError.{PreviewError}
 use Rattle.ks_commands.specs.declared.preview.PreviewError.TheVariants.{Output as PreviewOutput}
 use Rattle.ks_commands.specs.declared.refusal.Refusal.TheVariants.{Engine}
 use Rattle.ks_commands.specs.declared.request.Request.{Request}
-use Rattle.ks_commands.specs.declared.request.Request.TheVariants.{Batch, Diff, Fixdep, Outdated, Preview, Record, Stale, Sync}
+use Rattle.ks_commands.specs.declared.request.Request.TheVariants.{Batch, Diff, Fixdep, Outdated, Preview, Record, Stale, Sync, Why}
 use Rattle.ks_commands.specs.declared.status.Status.TheVariants.{Done}
 use Rattle.ks_commands.specs.Differences.{IsDiff}
 use Rattle.ks_commands.specs.Endings.{Answered, Ending, Stopped, Tells}
 use Rattle.ks_commands.specs.Inputs.{Inputs, Texts, command_file_at, inputs_at, texts_at}
 use Rattle.ks_commands.specs.Preview.{IsPreview, IsPreviewRefusal, of_preview, preview_refusal}
-use Rattle.ks_commands.specs.Replies.{answer_line, build_line, recorded_line, reply_lines, report_lines, verdict_line}
+use Rattle.ks_commands.specs.Replies.{answer_line, build_line, explanation_lines, recorded_line, reply_lines, report_lines, verdict_line}
 use Rattle.ks_commands.specs.Requests.{IsNoQuestion}
 use Rattle.ks_commands.specs.Scripts.{StoppedScript, script_at}
-use Rattle.ks_commands.specs.Statuses.{build_status, reply_status, status_unless_refused, verdict_status, worst}
+use Rattle.ks_commands.specs.Statuses.{build_status, explanation_status, reply_status, status_unless_refused, verdict_status, worst}
 use Rattle.ks_commands.specs.Targets.{targets_at}
 
 -- What the engine's calls answer and leave: the one way of saying it by files, the other by histories.
@@ -46,6 +48,7 @@ pub record Effects : Type 1 where
   pub sync : (kconfig dotconfig : List ℕ) → Result Report EngineError → Type 0
   pub recording : (depfile target command : List ℕ) → Result RecordAnswer EngineError → Type 0
   pub stale : (target : List ℕ) → Result Verdict EngineError → Type 0
+  pub why : (target : List ℕ) → Result Explanation EngineError → Type 0
   pub outdated : (target command : List ℕ) → Result BuildState EngineError → Type 0
   pub run : List Action → List Reply → Type 0
 
@@ -79,20 +82,31 @@ abbrev pub EndsFixdep : Files → List ℕ → List ℕ → List ℕ → Ending 
 EndsFixdep files d t c ended =
     (answer : Result (List ℕ) EngineError) × Answers (command_file_at files d t c) (λ text. text) answer × Answered (λ text. text) answer ended
 
--- Each object has its answer, in order: a line for each, and the worst status.
-pub record AreAnswers (stale : List ℕ → Result Verdict EngineError → Type 0) (objects : List (List ℕ)) (text : List ℕ) (status : ℕ) : Type 0 where
-  pub answers : List (List ℕ × Result Verdict EngineError)
-  pub of_objects : map (λ p. p.0) answers ≡ objects
-  pub each : All (λ p. stale p.0 p.1) answers
-  pub lines : text ≡ flat_map (λ p. answer_line verdict_line p.0 p.1) answers
-  pub worst_of : status ≡ worst (map (λ p. status_unless_refused verdict_status p.1) answers)
+-- what is told of an object: the lines and the status of its answer
+abbrev pub TellsAnswer : {A : Type 0} → (List ℕ → A → List ℕ) → (A → ℕ) → (List ℕ → Result A EngineError → Type 0) → List ℕ → List ℕ → ℕ → Type 0
+TellsAnswer {A} line status_of answers o lines status = (answer : Result A EngineError)
+    × answers o answer × (lines ≡ answer_line line o answer) × (status ≡ status_unless_refused status_of answer)
+
+-- All objects are told of, in order, and the status is the worst.
+pub record TellsAll (tells : List ℕ → List ℕ → ℕ → Type 0) (objects : List (List ℕ)) (text : List ℕ) (status : ℕ) : Type 0 where
+  pub parts : List (List ℕ × List ℕ × ℕ)
+  pub of_objects : map (λ p. p.0) parts ≡ objects
+  pub each : All (λ p. tells p.0 p.1 p.2) parts
+  pub lines : text ≡ flat_map (λ p. p.1) parts
+  pub worst_of : status ≡ worst (map (λ p. p.2) parts)
 
 -- It is refused where the file of its targets is, or memory or the device fails there.
-abbrev pub EndsStale : Effects → Result (List (List ℕ)) EngineError → Ending → Type 0
-EndsStale effects targets ended =
+abbrev pub EndsAll : (List ℕ → List ℕ → ℕ → Type 0) → Result (List (List ℕ)) EngineError → Ending → Type 0
+EndsAll tells targets ended =
     Stopped targets ended
     ⊎ ((objects : List (List ℕ)) × (targets ≡ Ok objects)
-    × (text : List ℕ) × (status : ℕ) × AreAnswers effects.stale objects text status × Tells text status ended)
+    × (text : List ℕ) × (status : ℕ) × TellsAll tells objects text status × Tells text status ended)
+
+abbrev pub EndsStale : Effects → Result (List (List ℕ)) EngineError → Ending → Type 0
+EndsStale effects targets ended = EndsAll (TellsAnswer verdict_line verdict_status effects.stale) targets ended
+
+abbrev pub EndsWhy : Effects → Result (List (List ℕ)) EngineError → Ending → Type 0
+EndsWhy effects targets ended = EndsAll (TellsAnswer explanation_lines explanation_status effects.why) targets ended
 
 abbrev pub EndsOutdated : Effects → List ℕ → List ℕ → Ending → Type 0
 EndsOutdated effects o c ended =
@@ -118,6 +132,7 @@ Ends files effects (Diff k d) ended = effects.same × EndsDiff files (string_byt
 Ends files effects (Fixdep d t c) ended = effects.same × EndsFixdep files (string_bytes d) (string_bytes t) (string_bytes c) ended
 Ends files effects (Record d t c) ended = EndsRecord effects (string_bytes d) (string_bytes t) (string_bytes c) ended
 Ends files effects (Stale targets) ended = effects.same × EndsStale effects (targets_at files targets) ended
+Ends files effects (Why targets) ended = effects.same × EndsWhy effects (targets_at files targets) ended
 Ends files effects (Outdated t c) ended = effects.same × EndsOutdated effects (string_bytes t) (string_bytes c) ended
 Ends files effects (Batch script) ended = EndsBatch files effects (string_bytes script) ended
 
@@ -136,6 +151,12 @@ pub record IsAnswerOn (files : Files) (o : List ℕ) (answer : Result Verdict En
   pub by_files : GaveUp answer ⊎ IsAnswer files (asked files o) answer
   pub recorded : (h : History) (r : LastRecord) → Shows files h → last_record h o ≡ Some r → IsJudged files h o r answer
 
+-- .. with all that speaks for it
+pub record IsExplanationOn (files : Files) (o : List ℕ) (answer : Result Explanation EngineError) : Type 0 where
+  pub by_files : GaveUp answer ⊎ IsExplained files o answer
+  pub verdict : IfOk answer (λ e. IsAnswer files (asked files o) (Ok e.verdict))
+  pub recorded : ExplainsRecorded files o answer
+
 pub record IsStateOf (files : Files) (o command : List ℕ) (answer : Result BuildState EngineError) : Type 0 where
   pub by_files : GaveUp answer ⊎ IsBuildState files (build_asked files o command) answer
   pub recorded : IsTrue (is_command command) → (h : History) (r : LastRecord)
@@ -148,11 +169,19 @@ by_files old new = record {
   sync = LeavesSync old new;
   recording = LeavesRecord old new;
   stale = IsAnswerOn old;
+  why = IsExplanationOn old;
   outdated = IsStateOf old;
   run = λ actions replies. length replies ≡ length actions;
 }
 
 -- ---- by histories
+
+-- of an object
+pub record FollowsWhy (old : TreeState) (o : List ℕ) (answer : Result Explanation EngineError) (new : TreeState) : Type 0 where
+  pub same : IsSame old new
+  pub by_files : GaveUp answer ⊎ IsExplained old.files o answer
+  pub verdict : IfOk answer (λ e. IsAnswer old.files (asked old.files o) (Ok e.verdict))
+  pub recorded : (r : LastRecord) → last_record old.history o ≡ Some r → IsExplanationJudged old.files old.history o r answer
 
 -- of an object and a command
 pub record FollowsOutdated (old : TreeState) (o command : List ℕ) (answer : Result BuildState EngineError) (new : TreeState) : Type 0 where
@@ -170,6 +199,7 @@ by_histories old new = record {
   sync = λ k d answer. FollowsSync k d answer old new;
   recording = λ d t c answer. FollowsRecord d t c answer old new;
   stale = λ o answer. FollowsStale old o answer new;
+  why = λ o answer. FollowsWhy old o answer new;
   outdated = λ o command answer. FollowsOutdated old o command answer new;
   run = Runs old new;
 }

@@ -1,17 +1,19 @@
 -- Runs of the program, one after the other over the files of one tree.
-use Rattle.std.specs.Prelude.{◌≡◌, ◌⊎◌, ℕ, List, [], ◌∷◌, Some, Result, Ok, map, ⊤}
+use Rattle.std.specs.Prelude.{◌≡◌, ◌⊎◌, ℕ, List, [], ◌∷◌, Some, Result, Ok, IfOk, filter, map, ⊤}
 use Rattle.std.specs.List.{All}
 use Rattle.ks_engine.specs.declared.commands.Reply.{Reply}
 use Rattle.ks_engine.specs.declared.error.EngineError.{EngineError}
+use Rattle.ks_engine.specs.declared.explaining.Explanation.{Explanation}
 use Rattle.ks_engine.specs.declared.staleness.Verdict.{Verdict}
 use Rattle.ks_engine.specs.declared.staleness.Verdict.TheVariants.{Fresh}
 use Rattle.ks_engine.specs.Actions.{Action}
+use Rattle.ks_engine.specs.Explained.{told}
 use Rattle.ks_engine.specs.Follows.{TreeState, IsSame}
 use Rattle.ks_engine.specs.History.{LastRecord, last_record}
 use Rattle.ks_engine.specs.Judged.{HasSameDefinitions}
 use Rattle.ks_engine.specs.Refusals.{GaveUp}
 use Rattle.ks_engine.specs.Runs.{IsShown, Step}
-use Rattle.ks_engine.specs.Staleness.{first_changed, verdict}
+use Rattle.ks_engine.specs.Staleness.{changed_since, first_changed, found, verdict}
 use Rattle.ks_engine.specs.Verdicts.{IsChangedVerdict}
 use Rattle.ks_commands.specs.declared.request.Request.{Request}
 use Rattle.ks_commands.specs.Endings.{Ending}
@@ -34,6 +36,12 @@ pub record TellsChange (s : TreeState) (o : List ℕ) (answer : Result Verdict E
   pub changed : (r : LastRecord) → last_record s.history o ≡ Some r → GaveUp answer ⊎ (answer ≡ Ok (verdict (first_changed s.history o)))
   pub safe : (r : LastRecord) → last_record s.history o ≡ Some r → answer ≡ Ok Fresh → HasSameDefinitions s.files r
 
+-- So does an explanation, and its causes are all names that changed.
+pub record TellsCauses (s : TreeState) (o : List ℕ) (answer : Result Explanation EngineError) : Type 0 where
+  pub tells : TellsChange s o (told answer)
+  pub causes : (r : LastRecord) → last_record s.history o ≡ Some r
+      → IfOk answer (λ e. map (λ c. c.name) e.causes.items ≡ filter (changed_since s.history o) (found s.history o))
+
 -- the steps of a script's run, whose verdicts do the same
 abbrev pub StepsTellChanges : List Action → List Reply → Type 0
 StepsTellChanges actions replies = (steps : List Step) × (map (λ step. step.action) steps ≡ actions) × (map (λ step. step.reply) steps ≡ replies)
@@ -45,6 +53,7 @@ changes_told s = record {
   sync = λ k d answer. ⊤;
   recording = λ d t c answer. ⊤;
   stale = TellsChange s;
+  why = TellsCauses s;
   outdated = λ o command answer. ⊤;
   run = StepsTellChanges;
 }

@@ -1,6 +1,8 @@
 -- The lines that are printed of what the engine answers. Their form is this project's.
-use Rattle.std.specs.Prelude.{ℕ, List, [], ◌∷◌, ◌++◌, length, codes, Result, Ok, Err}
+use Rattle.std.specs.Prelude.{ℕ, List, [], ◌∷◌, ◌++◌, flat_map, length, codes, Result, Ok, Err}
 use Rattle.ks_engine.specs.declared.error.EngineError.{EngineError}
+use Rattle.ks_engine.specs.declared.explaining.Cause.{Cause}
+use Rattle.ks_engine.specs.declared.explaining.Explanation.{Explanation}
 use Rattle.ks_engine.specs.declared.recording.Recorded.{Recorded as RecordAnswer}
 use Rattle.ks_engine.specs.declared.synchronise.Report.{Report}
 use Rattle.ks_engine.specs.declared.staleness.BuildState.{BuildState}
@@ -24,6 +26,14 @@ verdict_text verdict.Ahead = codes " stale generation-ahead"
 -- one line each: an object with its verdict, what was recorded, and what was synchronised
 unfoldable pub verdict_line : List ℕ → VerdictValue → List ℕ
 verdict_line target v = target ++ verdict_text v ++ codes "\n"
+
+-- a name that was touched, with the number of its stamp and the file behind which it stands
+unfoldable pub cause_line : Cause → List ℕ
+cause_line c = codes "  " ++ c.name ++ counted (codes " generation ") c.generation ++ codes " " ++ c.place ++ codes "\n"
+
+-- an object with its verdict, and a line for all that speaks for it
+unfoldable pub explanation_lines : List ℕ → Explanation → List ℕ
+explanation_lines target e = verdict_line target e.verdict ++ flat_map cause_line e.causes.items
 
 unfoldable pub recorded_line : List ℕ → RecordAnswer → List ℕ
 recorded_line target r = codes "record " ++ target ++ counted (codes " generation ") r.generation ++ counted (codes " names ") r.names ++ codes "\n"

@@ -11,7 +11,7 @@ use Rattle.ks_engine.specs.declared.error.EngineError.TheVariants.{BadAuto, BadP
 use Rattle.ks_commands.specs.declared.refusal.Refusal.{Refusal}
 use Rattle.ks_commands.specs.declared.refusal.Refusal.TheVariants.{Engine, BadScript}
 use Rattle.ks_commands.specs.declared.request.Request.{Request}
-use Rattle.ks_commands.specs.declared.request.Request.TheVariants.{Batch, Diff, Fixdep, Outdated, Preview, Record, Stale, Sync}
+use Rattle.ks_commands.specs.declared.request.Request.TheVariants.{Batch, Diff, Fixdep, Outdated, Preview, Record, Stale, Sync, Why}
 use Rattle.ks_commands.specs.declared.sites.Part.{Part}
 use Rattle.ks_commands.specs.declared.sites.Part.TheVariants.{Whole, Line, Token}
 use Rattle.ks_commands.specs.Endings.{Ending}
@@ -63,6 +63,7 @@ site_of (Fixdep d t c) refusal = depfile_site (string_bytes d) refusal
 site_of (Record d t c) refusal = record_site (string_bytes d) refusal
 site_of (Batch script) refusal = script_site (string_bytes script) refusal
 site_of (Stale targets) refusal = None
+site_of (Why targets) refusal = None
 site_of (Outdated t c) refusal = None
 
 -- ---- what stands there

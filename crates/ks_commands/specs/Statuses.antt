@@ -1,6 +1,7 @@
 -- The status that answers come to: 2 where one is refused, else 1 where something is stale, else 0.
 use Rattle.std.specs.Prelude.{ℕ, List, Result, Ok, Err, fold, max}
 use Rattle.ks_engine.specs.declared.error.EngineError.{EngineError}
+use Rattle.ks_engine.specs.declared.explaining.Explanation.{Explanation}
 use Rattle.ks_engine.specs.declared.staleness.BuildState.{BuildState}
 use Rattle.ks_engine.specs.declared.staleness.BuildState.TheVariants.{CommandDiffers, Verdict as Judged}
 use Rattle.ks_engine.specs.declared.staleness.Verdict.{Verdict as VerdictValue}
@@ -14,6 +15,9 @@ use Rattle.ks_commands.specs.declared.status.Status.TheVariants as status
 abbrev pub verdict_status : VerdictValue → ℕ
 verdict_status verdict.Fresh = 0
 verdict_status _ = 1
+
+abbrev pub explanation_status : Explanation → ℕ
+explanation_status e = verdict_status e.verdict
 
 abbrev pub build_status : BuildState → ℕ
 build_status CommandDiffers = 1

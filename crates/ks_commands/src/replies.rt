@@ -1,17 +1,19 @@
 //! The lines that are printed of what the engine answers, and the status that answers come to.
 //!
 //! A line of a verdict or of a refusal is the same for one object and in a script.
-ghost use Rattle.std.specs.Prelude.{◌≡◌, ◌++◌, List, ℕ, OnOk, IfOk, map, length};
+ghost use Rattle.std.specs.Prelude.{◌≡◌, ◌++◌, List, ℕ, OnOk, IfOk, flat_map, map, length};
 ghost use Rattle.ks_engine.specs.Actions.{action};
 ghost use Rattle.ks_commands.specs.Faults.{counted};
-ghost use Rattle.ks_commands.specs.Replies.{build_line, recorded_line, refused_line, refused_target_line, reply_line, reply_lines, report_lines, synced_line, verdict_line, verdict_text};
+ghost use Rattle.ks_commands.specs.Replies.{build_line, cause_line, explanation_lines, recorded_line, refused_line, refused_target_line, reply_line, reply_lines, report_lines, synced_line, verdict_line, verdict_text};
 ghost use Rattle.ks_commands.specs.Statuses.{build_status, code_of, reply_status, verdict_status, worst};
 
 use crate::faults::write_fault;
 use crate::preview::write_touches;
 use crate::status::{Outcome, Status, worse};
 use itoa::Buffer;
-use ks_engine::{BuildState, Command, EngineError, Recorded, Reply, Report, Verdict};
+use ks_engine::{
+    BuildState, Cause, Command, EngineError, Explanation, Recorded, Reply, Report, Verdict,
+};
 use std::alloc::{AllocError, Global};
 
 /// Room for a usual line of a reply. Where there is enough of it no text is copied to a larger place.
@@ -54,6 +56,42 @@ pub(crate) fn write_verdict_line(
     text.extend_from_slice(target)?;
     write_verdict(verdict, text)?;
     text.extend_from_slice(b"\n")
+}
+
+/// `  NAME generation G PLACE`.
+#[tactic(auto, unfolding(crate::specs::Replies::cause_line))]
+fn write_cause(cause: &Cause, text: &mut Vec<u8>) -> Result<(), AllocError>
+    ensures { OnOk result (text.new.items ≡ text.old.items ++ cause_line cause.now) }
+{
+    text.extend_from_slice(b"  ")?;
+    text.extend_from_slice(cause.name.as_bytes())?;
+    write_count(b" generation ", cause.generation, text)?;
+    text.extend_from_slice(b" ")?;
+    text.extend_from_slice(cause.place.as_bytes())?;
+    text.extend_from_slice(b"\n")
+}
+
+/// A line for each cause.
+fn write_causes(causes: &[Cause], text: &mut Vec<u8>) -> Result<(), AllocError>
+    ensures { OnOk result (text.new.items ≡ text.old.items ++ flat_map cause_line causes.now) }
+{
+    for cause in causes {
+        write_cause(cause, text)?;
+    }
+    Ok(())
+}
+
+/// The line of a verdict, and behind it those of its causes.
+#[tactic(auto, unfolding(crate::specs::Replies::explanation_lines))]
+pub(crate) fn write_explanation(
+    target: &[u8],
+    explanation: &Explanation,
+    text: &mut Vec<u8>,
+) -> Result<(), AllocError>
+    ensures { OnOk result (text.new.items ≡ text.old.items ++ explanation_lines target.now explanation.now) }
+{
+    write_verdict_line(target, &explanation.verdict, text)?;
+    write_causes(&explanation.causes, text)
 }
 
 /// `record TARGET generation N names M`.

@@ -42,6 +42,10 @@ pub enum Request {
     Stale {
         targets: Targets,
     },
+    /// Why these objects are stale.
+    Why {
+        targets: Targets,
+    },
     /// Whether an object was built by another command, or is stale.
     Outdated {
         target: String,

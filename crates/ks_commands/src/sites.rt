@@ -152,7 +152,7 @@ pub(crate) fn site_of<'a>(request: &'a Request, refusal: &Refusal) -> Option<Sit
         Request::Fixdep { depfile, .. } => depfile_site(depfile.as_bytes(), refusal),
         Request::Record { depfile, .. } => record_site(depfile.as_bytes(), refusal),
         Request::Batch { script } => script_site(script.as_bytes(), refusal),
-        Request::Stale { .. } | Request::Outdated { .. } => None,
+        Request::Stale { .. } | Request::Why { .. } | Request::Outdated { .. } => None,
     }
 }
 

@@ -38,6 +38,9 @@ const FROM_OBJECTS: &str =
 const BEHIND_A_WORD: &str =
     "2 y.o stale no-command-file\nx.o fresh\na$b refused 21 BadPath token 0\n@z.o stale no-command-file\n z.o refused 21 BadPath token 0\n";
 
+const CAUSES: &str =
+    "1 x.o stale A\n  A generation 2 x.c\n  C generation 9 a.h\nx.o stale A\n  A generation 2 x.c\n  C generation 9 a.h\nz.o stale no-command-file\n";
+
 /// Kconfig files, `.config` files, an object's sources and its dependency file.
 #[rattlefmt::skip]
 pub const INPUTS: &[(Step<'_>, &str)] = &[
@@ -68,6 +71,7 @@ pub const EACH_COMMAND: &[(Step<'_>, &str)] = &[
     (Step::Read(".x.o.cmd"), COMMAND_FILE),
     (Step::Words(&["stale", "x.o"]), "0 x.o fresh\n"),
     (Step::Words(&["outdated", "x.o", "cc -c x.c"]), "0 x.o fresh\n"),
+    (Step::Words(&["why", "x.o"]), "0 x.o fresh\n"),
     (Step::Put("script", "stale x.o\n"), "done"),
     (Step::Words(&["batch", "script"]), "0 x.o fresh\n"),
     (Step::Words(&["preview", "K1", "only_b", "include/config/auto.conf"]), PREVIEW_OVER),
@@ -91,6 +95,9 @@ pub const QUESTIONS: &[(Step<'_>, &str)] = &[
     (Step::Words(&["stale", "--from", "objects", "x.o"]), "0 x.o fresh\n"),
     (Step::Words(&["stale", "x.o", "--from", "none"]), "2 confstamp: 40 MissingFile none\n"),
     (Step::Words(&["stale", "x.o", "--from", "a$b"]), "2 confstamp: 21 BadPath token 0\n"),
+    (Step::Words(&["why", "x.o", "z.o", "a$b"]), "2 x.o fresh\nz.o stale no-command-file\na$b refused 21 BadPath token 0\n"),
+    (Step::Words(&["why", "x.o", "--from", "none"]), "2 confstamp: 40 MissingFile none\n"),
+    (Step::Words(&["why", "--from", "a$b"]), "2 confstamp: 21 BadPath token 0\n"),
     (Step::Words(&["outdated", "x.o", "cc -O2 -c x.c"]), "1 x.o command-differs\n"),
     (Step::Words(&["outdated", "z.o", ""]), "1 z.o stale no-command-file\n"),
     (Step::Words(&["outdated", "x.o", "--", "-c"]), "1 x.o command-differs\n"),
@@ -99,6 +106,14 @@ pub const QUESTIONS: &[(Step<'_>, &str)] = &[
     (Step::Words(&["outdated", "x.o", "a\nb"]), "2 x.o refused 22 BadCommand\n"),
     (Step::Words(&["sync", "K1", "only_b"]), "0 generation 2\ntouch A\nunknown 0\n"),
     (Step::Words(&["outdated", "x.o", "cc -c x.c"]), "1 x.o stale A\n"),
+    (Step::Words(&["stale", "x.o"]), "1 x.o stale A\n"),
+    (Step::Words(&["why", "x.o"]), "1 x.o stale A\n  A generation 2 x.c\n"),
+    (Step::Put("include/config/C", "9\n"), "done"),
+    (Step::Put("objects", "x.o\nz.o\n"), "done"),
+    (Step::Words(&["why", "x.o", "--from", "objects"]), CAUSES),
+    (Step::Words(&["stale", "x.o"]), "1 x.o stale A\n"),
+    (Step::Put("include/config/C", "C\n"), "done"),
+    (Step::Words(&["why", "x.o"]), "2 x.o refused 31 BadStamp C\n"),
     (Step::Words(&["stale", "x.o"]), "1 x.o stale A\n"),
     (Step::Put("include/config/A", "01\n"), "done"),
     (Step::Words(&["stale", "x.o"]), "2 x.o refused 31 BadStamp A\n"),
@@ -109,6 +124,7 @@ pub const QUESTIONS: &[(Step<'_>, &str)] = &[
     (Step::Words(&["outdated", "x.o", "cc -c x.c"]), "2 x.o refused 23 BadCommandFile line 9\n"),
     (Step::Put(".x.o.cmd", "savedcmd_x.o := cc\n\nsource_x.o := x.c\n\ndeps_x.o := \\\n\nx.o: $(deps_x.o)\n\n$(deps_x.o):\n"), "done"),
     (Step::Words(&["stale", "x.o"]), "1 x.o stale not-numbered\n"),
+    (Step::Words(&["why", "x.o"]), "1 x.o stale not-numbered\n"),
     (Step::Words(&["outdated", "x.o", "cc"]), "1 x.o stale not-numbered\n"),
     (Step::Put(".x.o.cmd", "savedcmd_x.o := cc\n\nsource_x.o := x.c\n\ndeps_x.o := \\\n\nx.o: $(deps_x.o)\n\n$(deps_x.o):\n#generation 5\n"), "done"),
     (Step::Words(&["stale", "x.o"]), "1 x.o stale generation-ahead\n"),

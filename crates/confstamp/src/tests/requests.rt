@@ -5,7 +5,7 @@ use super::*;
 #[rattlefmt::skip]
 fn words_are_taken_as_meant(rt: HostRuntime) -> Result<(), Fail> {
     let alloc = rt.alloc();
-    let rows: [(&str, &[&str], &str); 22] = [
+    let rows: [(&str, &[&str], &str); 24] = [
         ("sync", &["sync", "K", "c"], r#"Sync { kconfig: "K", dotconfig: "c" }"#),
         ("a first preview", &["preview", "K", "c"], r#"Preview { kconfig: "K", dotconfig: "c", old: None }"#),
         ("a preview", &["preview", "K", "c", "a"], r#"Preview { kconfig: "K", dotconfig: "c", old: Some("a") }"#),
@@ -18,6 +18,8 @@ fn words_are_taken_as_meant(rt: HostRuntime) -> Result<(), Fail> {
         ("stale of a word and a file", &["stale", "x.o", "--from", "f"], r#"Stale { targets: Targets { words: ["x.o"], from: Some("f") } }"#),
         ("a file between two words", &["stale", "x.o", "--from=-f", "y.o"], r#"Stale { targets: Targets { words: ["x.o", "y.o"], from: Some("-f") } }"#),
         ("a word that looks like one", &["stale", "--", "--from", "f"], r#"Stale { targets: Targets { words: ["--from", "f"], from: None } }"#),
+        ("why of several", &["why", "x.o", "z.o"], r#"Why { targets: Targets { words: ["x.o", "z.o"], from: None } }"#),
+        ("why of a word and a file", &["why", "--from", "f", "x.o"], r#"Why { targets: Targets { words: ["x.o"], from: Some("f") } }"#),
         ("batch", &["batch", "steps"], r#"Batch { script: "steps" }"#),
         ("outdated", &["outdated", "x.o", "cc"], r#"Outdated { target: "x.o", command: "cc" }"#),
         ("an empty command", &["outdated", "x.o", ""], r#"Outdated { target: "x.o", command: "" }"#),

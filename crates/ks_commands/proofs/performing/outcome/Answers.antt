@@ -1,6 +1,6 @@
 use Rattle.std.proofs.Common.{refl, sym, subst}
 use Rattle.ks_engine.specs.Shows.{Shows}
-use Rattle.ks_commands.proofs.Continuing.{stale_follows}
+use Rattle.ks_commands.proofs.Continuing.{stale_follows, why_follows}
 use Rattle.ks_commands.proofs.performing.outcome.Goals as goal
 
 pub returns-in-Sync-clause-goes_on : goal.returns-in-Sync-clause-goes_on
@@ -10,13 +10,25 @@ returns-in-Sync-clause-goes_on g c = λ honest h shows.
 
 pub returns-in-Stale-clause-files : goal.returns-in-Stale-clause-files
 returns-in-Stale-clause-files g c = λ honest.
-    rw c.in-Stale.is (c.stale_targets.ensures.reads.unchanged honest, c.stale_targets.ensures.told honest)
+    rw c.in-Stale.is (c.ask_targets.ensures.reads.unchanged honest, c.ask_targets.ensures.told honest)
 
 pub returns-in-Stale-clause-goes_on : goal.returns-in-Stale-clause-goes_on
 returns-in-Stale-clause-goes_on g c = λ honest h shows.
-    let same = c.stale_targets.ensures.reads.unchanged honest in (
+    let same = c.ask_targets.ensures.reads.unchanged honest in (
       h,
-      rw c.in-Stale.is ((same, refl), stale_follows _ _ _ _ h _ _ same shows (c.stale_targets.ensures.told honest)),
+      rw c.in-Stale.is ((same, refl), stale_follows _ _ _ _ h _ _ same shows (c.ask_targets.ensures.told honest)),
+      subst (λ f. Shows f h) (sym same) shows,
+    )
+
+pub returns-in-Why-clause-files : goal.returns-in-Why-clause-files
+returns-in-Why-clause-files g c = λ honest.
+    rw c.in-Why.is (c.ask_targets-in-Why.ensures.reads.unchanged honest, c.ask_targets-in-Why.ensures.told honest)
+
+pub returns-in-Why-clause-goes_on : goal.returns-in-Why-clause-goes_on
+returns-in-Why-clause-goes_on g c = λ honest h shows.
+    let same = c.ask_targets-in-Why.ensures.reads.unchanged honest in (
+      h,
+      rw c.in-Why.is ((same, refl), why_follows _ _ _ _ h _ _ same shows (c.ask_targets-in-Why.ensures.told honest)),
       subst (λ f. Shows f h) (sym same) shows,
     )
 

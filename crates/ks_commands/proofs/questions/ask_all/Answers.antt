@@ -1,7 +1,8 @@
 use Rattle.std.proofs.Common.{◌∙◌, ℕ, List, [], Bor, get_or, sym, subst, subst₂, map, take, take_all, refl, rules}
-use Rattle.ks_commands.specs.Performed.{AreAnswers, IsAnswerOn}
+use Rattle.ks_commands.specs.Performed.{TellsAll}
+use Rattle.ks_commands.specs.Questions.{tells_of}
 use Rattle.ks_commands.specs.Statuses.{code_of}
-use Rattle.ks_commands.proofs.Verdicts.{answers_more, no_answers, map-take_more}
+use Rattle.ks_commands.proofs.Verdicts.{map-take_more, nothing_told, told_more}
 use Rattle.ks_commands.proofs.questions.ask_all.Goals as goal
 
 pub loop-target-init : goal.loop-target-init
@@ -9,7 +10,8 @@ loop-target-init g c = record {
   unchanged = λ honest. refl;
   later = search rules;
   memo = λ honest. c.new-memo.ensures (g.T.Tree.files c.args.tree.now);
-  told = λ honest. subst (λ l. AreAnswers (IsAnswerOn (g.T.Tree.files c.args.tree.now)) [] l 0) (sym c.new-text.ensures.items) (no_answers _);
+  told = λ honest.
+      subst (λ l. TellsAll (tells_of (g.T.Tree.files c.args.tree.now) c.args.question.now) [] l 0) (sym c.new-text.ensures.items) (nothing_told _);
 }
 
 pub loop-target-preserved : goal.loop-target-preserved
@@ -21,17 +23,19 @@ loop-target-preserved g c = record {
       let targets = c.args.targets.now in
       let i = c.loop-target.target-index in
       let nothing : Bor (List ℕ) = record { ref_ptr = (0, 0); now = [] } in
+      let question = c.args.question.now in
       let files = g.T.Tree.files c.args.tree.now in
       let said = c.in_ok-answered.ensures.told honest in
       let o = (get_or targets i nothing).now in
-      let more = answers_more (IsAnswerOn files) (map (λ t. t.now) (take i targets)) o said.0 c.loop-target.text.items c.ask.new.text.items
-      (code_of c.loop-target.status) _
-      (c.loop-target.invariant.told honest) (subst (λ f. IsAnswerOn f o said.0) (c.loop-target.invariant.unchanged honest) said.1) said.2 said.3 in
+      let more = told_more (tells_of files question) (map (λ t. t.now) (take i targets)) o said.0 c.loop-target.text.items c.ask.new.text.items
+      (code_of c.loop-target.status) (code_of c.in_ok-answered.answered) (c.loop-target.invariant.told honest)
+      (subst (λ f. tells_of f question o said.0 (code_of c.in_ok-answered.answered)) (c.loop-target.invariant.unchanged honest) said.2) said.1 in
       let taken = map-take_more (λ t. t.now) targets i nothing c.loop-target-test.true in
-      subst₂ (λ objects status. AreAnswers (IsAnswerOn files) objects c.ask.new.text.items status) taken (sym c.worse-status.ensures) more;
+      subst₂ (λ objects status. TellsAll (tells_of files question) objects c.ask.new.text.items status) taken (sym c.worse-status.ensures) more;
 }
 
 pub returns-clause-told : goal.returns-clause-told
 returns-clause-told g c = λ honest.
-    subst (λ ts. AreAnswers (IsAnswerOn (g.T.Tree.files c.args.tree.now)) (map (λ t. t.now) ts) c.loop-target.text.items (code_of c.loop-target.status))
+    subst (λ ts. TellsAll (tells_of (g.T.Tree.files c.args.tree.now) c.args.question.now) (map (λ t. t.now) ts) c.loop-target.text.items
+    (code_of c.loop-target.status))
     (take_all c.loop-target.target-index c.args.targets.now c.loop-target-test.false) (c.loop-target.invariant.told honest)

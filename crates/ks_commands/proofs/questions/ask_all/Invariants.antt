@@ -1,6 +1,7 @@
 use Rattle.std.proofs.Common.{◌≡◌, ◌≤◌, map, take}
 use Rattle.ks_engine.specs.Memos.{IsMemoOf}
-use Rattle.ks_commands.specs.Performed.{AreAnswers, IsAnswerOn}
+use Rattle.ks_commands.specs.Performed.{TellsAll}
+use Rattle.ks_commands.specs.Questions.{tells_of}
 use Rattle.ks_commands.specs.Statuses.{code_of}
 use Rattle.ks_commands.proofs.questions.ask_all.Given as goal
 
@@ -10,5 +11,5 @@ invariant-loop-target g l = record {
   later : g.T.Tree.failures l.fn.tree ≤ g.T.Tree.failures l.tree;
   memo : g.T.Tree.is_honest → IsMemoOf (g.T.Tree.files l.tree) l.memo;
   told : g.T.Tree.is_honest
-      → AreAnswers (IsAnswerOn (g.T.Tree.files l.fn.tree)) (map (λ t. t.now) (take l.target-index l.targets)) l.text.items (code_of l.status);
+      → TellsAll (tells_of (g.T.Tree.files l.fn.tree) l.question) (map (λ t. t.now) (take l.target-index l.targets)) l.text.items (code_of l.status);
 }

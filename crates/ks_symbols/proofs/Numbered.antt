@@ -8,7 +8,8 @@ use Rattle.std.proofs.lemmas.List.{map-append, get_or-set_same, get_or-set_other
 use Rattle.std.specs.Cmp.Lexicographic.{bytes_decides}
 use Rattle.ks_symbols.specs.declared.texts.Span.{Span}
 use Rattle.ks_symbols.specs.declared.interner.Index.{Index}
-use Rattle.ks_symbols.specs.Interner.{place_of, noted, AreOnce, text_at, EndWithin, IsMissed, Finds, FindsAll}
+use Rattle.ks_symbols.specs.declared.interner.Slot.{Slot}
+use Rattle.ks_symbols.specs.Interner.{place_of, noted, free, AreOnce, text_at, EndWithin, IsMissed, Finds, FindsAll}
 use Rattle.ks_symbols.proofs.Records.{range_more, range_end}
 
 -- spans lie in more bytes too, and what they hold is the same there
@@ -83,53 +84,54 @@ place_any x (t ∷ ts) =
     mapped None = refl
     mapped (Some k) = refl
 
--- a search that misses a number once a free place is taken misses it before
-module _ (slots : List (Option ℕ)) (p m : ℕ) (within : p < length slots) (free : get_or slots p None ≡ None) where
-  pub missed_before : (first stop n : ℕ) → IsMissed (set slots p (Some m)) first stop n → (s : ℕ) × IsMissed slots first s n
-  missed_before first stop n h = elim (cases_lt p first) [
+-- a search that misses a slot once a free place is taken misses it before
+module _ (slots : List Slot) (p : ℕ) (new : Slot) (within : p < length slots) (vacant : (get_or slots p free).tag ≡ 0) where
+  pub missed_before : (first stop : ℕ) (slot : Slot) → IsMissed (set slots p new) first stop slot → (s : ℕ) × IsMissed slots first s slot
+  missed_before first stop slot h = elim (cases_lt p first) [
     | inl before ↦ same (λ q le lt. let ne : q ≢ p = omega arith in ne)
     | inr from ↦ elim (cases_lt p stop) [
       | inl inside ↦ (
         p,
         record {
           later = from;
-          ended = inr free;
-          none = λ q le lt is. let ne : q ≢ p = omega arith in h.none q le (omega arith) (get_or-set_other slots p q (Some m) None ne ∙ is);
+          ended = inr vacant;
+          none = λ q le lt is. let ne : q ≢ p = omega arith in h.none q le (omega arith) (get_or-set_other slots p q new free ne ∙ is);
         },
       )
       | inr behind ↦ same (λ q le lt. let ne : q ≢ p = omega arith in ne)
     ]
   ]
     where
-      ended : (stop ≡ first + 8) ⊎ (get_or (set slots p (Some m)) stop None ≡ None) → (stop ≡ first + 8) ⊎ (get_or slots stop None ≡ None)
+      ended : (stop ≡ first + 8) ⊎ ((get_or (set slots p new) stop free).tag ≡ 0) → (stop ≡ first + 8) ⊎ ((get_or slots stop free).tag ≡ 0)
       ended (inl end) = inl end
       ended (inr none) = elim (cases_eq stop p) [
-        | inl is ↦ inr (subst (λ (k : ℕ). get_or slots k None ≡ None) (sym is) free)
-        | inr ne ↦ inr (sym (get_or-set_other slots p stop (Some m) None ne) ∙ none)
+        | inl is ↦ inr (subst (λ (k : ℕ). (get_or slots k free).tag ≡ 0) (sym is) vacant)
+        | inr ne ↦ inr (ap (λ (x : Slot). x.tag) (sym (get_or-set_other slots p stop new free ne)) ∙ none)
       ]
 
-      same : ((q : ℕ) → first ≤ q → q < stop → q ≢ p) → (s : ℕ) × IsMissed slots first s n
+      same : ((q : ℕ) → first ≤ q → q < stop → q ≢ p) → (s : ℕ) × IsMissed slots first s slot
       same apart = (
         stop,
         record {
           later = h.later;
           ended = ended h.ended;
-          none = λ q le lt is. h.none q le lt (get_or-set_other slots p q (Some m) None (apart q le lt) ∙ is);
+          none = λ q le lt is. h.none q le lt (get_or-set_other slots p q new free (apart q le lt) ∙ is);
         },
       )
 
-  -- and where the first free place of a text takes its number, no search misses it
-  pub met : (first stop : ℕ) → first ≤ p → p < first + 8 → ((q : ℕ) → first ≤ q → q < p → get_or slots q None ≢ None)
-      → IsMissed (set slots p (Some m)) first stop m → ⊥
-  met first stop le lt taken h = elim (cases_lt p stop) [
-    | inl inside ↦ h.none p le inside (get_or-set_same slots p (Some m) None within)
+  -- and where the first free place of a text takes its slot, no search misses it
+  pub met : (first stop : ℕ) → 0 < new.tag → first ≤ p → p < first + 8 → ((q : ℕ) → first ≤ q → q < p → (get_or slots q free).tag ≢ 0)
+      → IsMissed (set slots p new) first stop new → ⊥
+  met first stop some le lt taken h = elim (cases_lt p stop) [
+    | inl inside ↦ h.none p le inside (get_or-set_same slots p new free within)
     | inr behind ↦ elim h.ended [
       | inl end ↦ omega arith
       | inr none ↦ elim (cases_eq stop p) [
         | inl is ↦
-            let here : get_or (set slots p (Some m)) p None ≡ None = subst (λ (k : ℕ). get_or (set slots p (Some m)) k None ≡ None) is none in
-            absurd (let e : Some m ≡ None = sym (get_or-set_same slots p (Some m) None within) ∙ here in cc)
-        | inr ne ↦ taken stop h.later (omega arith) (sym (get_or-set_other slots p stop (Some m) None ne) ∙ none)
+            let here : (get_or (set slots p new) p free).tag ≡ 0 = subst (λ (k : ℕ). (get_or (set slots p new) k free).tag ≡ 0) is none in
+            let tag : new.tag ≡ 0 = ap (λ (x : Slot). x.tag) (sym (get_or-set_same slots p new free within)) ∙ here in
+            omega arith
+        | inr ne ↦ taken stop h.later (omega arith) (ap (λ (x : Slot). x.tag) (sym (get_or-set_other slots p stop new free ne)) ∙ none)
       ]
     ]
   ]

@@ -2,8 +2,12 @@
 //! that are read, so no choice of them may make a look-up slow. A text is sought at eight places of a hash table, and where
 //! these are taken by others in an ordered map. So a look-up compares at most eight texts more than the ordered map does,
 //! and texts that were made to collide cost what an ordered map costs.
+//!
+//! A slot of the table keeps a part of the hash beside the number of its text. So the text itself, which lies anywhere in
+//! memory, is compared only where that part is the same, and a slot has eight bytes: the places of a text are two lines of
+//! the processor's cache at most.
 ghost use Rattle.std.specs.Prelude.{◌≡◌, ◌≢◌, ◌+◌, ◌≤◌, ◌<◌, [], ℕ, List, Some, None, IfOk, IfSome, IfNone, OnOk, OnErr, length, option_map, slice_get, slice_index_or};
-ghost use Rattle.ks_symbols.specs.Interner.{place_of, noted, first_place, AreOnce, IsMissed, Finds, FindsAll};
+ghost use Rattle.ks_symbols.specs.Interner.{place_of, noted, hash_of, tag_of, first_place, free, slot_of, AreOnce, IsMissed, Finds, FindsAll};
 
 #[cfg(test)]
 mod tests;
@@ -20,55 +24,89 @@ const PLACES: usize = 8;
 /// The smallest table: 64 first places.
 const LEAST: usize = 71;
 
-/// The slot at a place of a table. Behind its end all are free.
-fn slot_at(slots: &[Option<usize>], place: usize) -> Option<usize>
-    ensures { result ≡ slice_index_or slots.now place None }
-{
-    match slots.get(place) {
-        Some(slot) => *slot,
-        None => None,
-    }
-}
+/// The largest number that a slot has room for.
+const MOST: usize = 0xffff_ffff;
 
-/// The first of the places of a text in a table of so many slots.
-#[tactic(auto, unfolding(crate::specs::Interner::first_place))]
-fn first_place(text: &[u8], slots: usize) -> usize
-    ensures value { result ≡ first_place text.now slots }
-    ensures bound { result ≤ slots }
+/// The largest table that the next one is four times as large as, and not only twice.
+const SMALL: usize = 65543;
+
+/// The hash of a text.
+#[tactic(auto, unfolding(crate::specs::Interner::hash_of))]
+fn hash_of(text: &[u8]) -> u64
+    ensures { result ≡ hash_of text.now }
 {
     let mut hasher = FoldHasher::default();
     hasher.write(text);
-    hasher.finish() as usize & slots.saturating_sub(PLACES)
+    hasher.finish()
 }
 
-/// The number of a text, where it lies at one of its places with no free one before it.
-fn probe(slots: &[Option<usize>], texts: &Texts, text: &[u8]) -> Option<usize>
+/// The part of a hash that a slot keeps. The low bits say its place already. It is never 0, which marks a free slot.
+#[tactic(auto, unfolding(crate::specs::Interner::tag_of))]
+fn tag_of(hash: u64) -> u32
+    ensures value { result ≡ tag_of hash }
+    ensures some { 0 < result }
+{
+    ((hash >> 32) as u32).max(1)
+}
+
+/// The first of the places of a text with a hash, in a table of so many slots.
+#[tactic(auto, unfolding(crate::specs::Interner::first_place))]
+fn first_place(hash: u64, slots: usize) -> usize
+    ensures value { result ≡ first_place hash slots }
+    ensures bound { result ≤ slots }
+{
+    hash as usize & slots.saturating_sub(PLACES)
+}
+
+/// A place of the table: the number of a text and the tag of its hash, or free, where the tag is 0.
+#[derive(Clone, Copy)]
+struct Slot {
+    number: u32,
+    tag: u32,
+}
+
+const FREE: Slot = Slot { number: 0, tag: 0 };
+
+/// The slot at a place of a table. Behind its end all are free.
+fn slot_at(slots: &[Slot], place: usize) -> Slot
+    ensures { result ≡ slice_index_or slots.now place free }
+{
+    match slots.get(place) {
+        Some(slot) => *slot,
+        None => FREE,
+    }
+}
+
+/// The number of a text with a hash, where it lies at one of its places with no free one before it.
+fn probe(slots: &[Slot], texts: &Texts, text: &[u8], hash: u64) -> Option<usize>
     ensures found { IfSome result (λ n. slice_get texts.now n ≡ Some text.now) }
     ensures missed { IfNone result ((n : ℕ) → slice_get texts.now n ≡ Some text.now → (stop : ℕ)
-        × IsMissed slots.now (first_place text.now (length slots.now)) stop n) }
+        × IsMissed slots.now (first_place hash (length slots.now)) stop (slot_of hash n)) }
 {
-    let first = first_place(text, slots.len());
+    let tag = tag_of(hash);
+    let first = first_place(hash, slots.len());
     for place in first..first + PLACES {
-        let Some(number) = slot_at(slots, place) else {
+        let slot = slot_at(slots, place);
+        if slot.tag == 0 {
             return None;
-        };
-        if texts.is_at(number, text) {
-            return Some(number);
+        }
+        if slot.tag == tag && texts.is_at(slot.number as usize, text) {
+            return Some(slot.number as usize);
         }
     }
     None
 }
 
-/// The first free one of the places of a text.
-fn free_place(slots: &[Option<usize>], text: &[u8]) -> Option<usize>
-    ensures within { IfSome result (λ p. p < first_place text.now (length slots.now) + 8) }
-    ensures free { IfSome result (λ p. slice_index_or slots.now p None ≡ None) }
-    ensures first { IfSome result (λ p. (q : ℕ) → first_place text.now (length slots.now) ≤ q → q < p → slice_index_or slots.now q None ≢ None) }
-    ensures later { IfSome result (λ p. first_place text.now (length slots.now) ≤ p) }
+/// The first free one of the places of a text with a hash.
+fn free_place(slots: &[Slot], hash: u64) -> Option<usize>
+    ensures within { IfSome result (λ p. p < first_place hash (length slots.now) + 8) }
+    ensures free { IfSome result (λ p. (slice_index_or slots.now p free).tag ≡ 0) }
+    ensures first { IfSome result (λ p. (q : ℕ) → first_place hash (length slots.now) ≤ q → q < p → (slice_index_or slots.now q free).tag ≢ 0) }
+    ensures later { IfSome result (λ p. first_place hash (length slots.now) ≤ p) }
 {
-    let first = first_place(text, slots.len());
+    let first = first_place(hash, slots.len());
     for place in first..first + PLACES {
-        if slot_at(slots, place).is_none() {
+        if slot_at(slots, place).tag == 0 {
             return Some(place);
         }
     }
@@ -79,7 +117,7 @@ fn free_place(slots: &[Option<usize>], text: &[u8]) -> Option<usize>
 #[derive(Drop)]
 struct Index {
     /// The hash table.
-    slots: Vec<Option<usize>>,
+    slots: Vec<Slot>,
     /// What found no free place in it.
     others: BTreeMap<Vec<u8>, usize>,
 }
@@ -93,13 +131,23 @@ impl Index {
     }
 
     /// Files the number of a text that wasn't filed before.
-    fn file(&mut self, alloc: Global, text: &[u8], number: usize) -> Result<(), AllocError>
+    fn file(
+        &mut self,
+        alloc: Global,
+        text: &[u8],
+        hash: u64,
+        number: usize,
+    ) -> Result<(), AllocError>
+        requires { hash ≡ hash_of text.now }
         ensures filed { OnOk result (Finds self.new text.now number) }
         ensures others { (t : List ℕ) → (n : ℕ) → t ≢ text.now → Finds self.old t n → Finds self.new t n }
     {
-        if let Some(place) = free_place(&self.slots, text) {
-            if place < self.slots.len() {
-                self.slots[place] = Some(number);
+        if let Some(place) = free_place(&self.slots, hash) {
+            if place < self.slots.len() && number <= MOST {
+                self.slots[place] = Slot {
+                    number: number as u32,
+                    tag: tag_of(hash),
+                };
                 return Ok(());
             }
         }
@@ -114,14 +162,14 @@ impl Index {
         ensures { IfOk result (λ index. FindsAll texts.now index) }
     {
         let mut index = Index {
-            slots: vec![in alloc; None; slots]?,
+            slots: vec![in alloc; FREE; slots]?,
             others: BTreeMap::new(alloc),
         };
         for number in 0..texts.len() {
             let Some(text) = texts.get(number) else {
                 unreachable!();
             };
-            index.file(alloc, text, number)?;
+            index.file(alloc, text, hash_of(text), number)?;
         }
         Ok(index)
     }
@@ -184,7 +232,15 @@ impl Interner {
     pub fn number(&self, text: &[u8]) -> Option<usize>
         ensures { result ≡ place_of text.now self.now }
     {
-        if let Some(number) = probe(&self.index.slots, &self.texts, text) {
+        self.number_under(text, hash_of(text))
+    }
+
+    /// The number of a text with a hash.
+    fn number_under(&self, text: &[u8], hash: u64) -> Option<usize>
+        requires { hash ≡ hash_of text.now }
+        ensures { result ≡ place_of text.now self.now }
+    {
+        if let Some(number) = probe(&self.index.slots, &self.texts, text, hash) {
             return Some(number);
         }
         let Some(number) = self.index.others.get(text) else {
@@ -202,21 +258,24 @@ impl Interner {
         ensures number { IfOk result (λ n. place_of text.now self.new ≡ Some n) }
         ensures kept { OnErr result (self.new ≡ self.old) }
     {
-        match self.number(text) {
+        let hash = hash_of(text);
+        match self.number_under(text, hash) {
             Some(number) => Ok(number),
-            None => self.add(text),
+            None => self.add_under(text, hash),
         }
     }
 
-    /// Makes the table larger where there would be less than two slots a text.
+    /// Makes the table larger where there would be less than two slots a text: while it is small, four times, since all texts
+    /// are filed anew.
     fn make_room(&mut self) -> Result<(), AllocError>
         ensures { self.new ≡ self.old }
     {
         let slots = self.index.slots.len();
         if slots / 2 <= self.texts.len() {
+            let times = if slots <= SMALL { 4 } else { 2 };
             let more = slots
-                .saturating_mul(2)
-                .saturating_sub(PLACES - 1)
+                .saturating_mul(times)
+                .saturating_sub((times - 1) * (PLACES - 1))
                 .max(LEAST);
             self.index = Index::of(self.alloc, &self.texts, more)?;
         }
@@ -230,9 +289,20 @@ impl Interner {
         ensures number { IfOk result (λ n. place_of text.now self.new ≡ Some n) }
         ensures kept { OnErr result (self.new ≡ self.old) }
     {
+        self.add_under(text, hash_of(text))
+    }
+
+    /// Notes a text with a hash that wasn't noted before.
+    fn add_under(&mut self, text: &[u8], hash: u64) -> Result<usize, AllocError>
+        requires hash { hash ≡ hash_of text.now }
+        requires absent { place_of text.now self.old ≡ None }
+        ensures noted { OnOk result (self.new ≡ noted self.old text.now) }
+        ensures number { IfOk result (λ n. place_of text.now self.new ≡ Some n) }
+        ensures kept { OnErr result (self.new ≡ self.old) }
+    {
         self.make_room()?;
         let number = self.texts.len();
-        self.index.file(self.alloc, text, number)?;
+        self.index.file(self.alloc, text, hash, number)?;
         self.texts.push(text)?;
         Ok(number)
     }

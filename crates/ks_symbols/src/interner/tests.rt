@@ -1,12 +1,12 @@
 //! Texts that were made to collide, and many that weren't.
-use super::{Interner, first_place};
+use super::{Interner, first_place, hash_of};
 use crate::text_map::TextMap;
 use std::alloc::{AllocError, Global};
 
-/// How many texts collide, and the slots of the table that they end in: 2048 first places.
+/// How many texts collide, and the slots of the table that they end in: 4096 first places.
 const COLLIDING: usize = 1000;
 
-const SLOTS: usize = 2055;
+const SLOTS: usize = 4103;
 
 /// Texts that begin at the first place of each table so far, whatever its size.
 fn colliding(alloc: Global) -> Result<Vec<[u8; 8]>, AllocError> {
@@ -16,7 +16,7 @@ fn colliding(alloc: Global) -> Result<Vec<[u8; 8]>, AllocError> {
             break;
         }
         let text = number.to_le_bytes();
-        if first_place(&text, SLOTS) == 0 {
+        if first_place(hash_of(&text), SLOTS) == 0 {
             made.push(text)?;
         }
     }

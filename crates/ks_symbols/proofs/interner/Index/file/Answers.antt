@@ -1,40 +1,49 @@
-use Rattle.std.proofs.Common.{◌≡◌, ℕ, List, Some, Option, false, set, length, bytes_eq, sym, ap, subst, arith, ◌∙◌, ◌<◌}
+use Rattle.std.proofs.Common.{◌≡◌, ℕ, List, Some, false, set, length, bytes_eq, sym, ap, subst, arith, ◌∙◌, ◌<◌}
 use Rattle.std.proofs.Math.ListN.{length-set}
 use Rattle.std.proofs.lemmas.Bool.{cond-false}
 use Rattle.std.specs.Map.{lookup}
-use Rattle.ks_symbols.specs.Interner.{first_place, IsMissed}
+use Rattle.ks_symbols.specs.declared.interner.Slot.{Slot}
+use Rattle.ks_symbols.specs.Interner.{hash_of, tag_of, first_place, slot_of, IsMissed}
 use Rattle.ks_symbols.proofs.Numbered.{missed_before, met, apart}
 use Rattle.ks_symbols.proofs.OwnedKeys.{is_key, lookup-updates}
 use Rattle.ks_symbols.proofs.interner.Index.file.Goals as goal
 
--- a search of a table with one more number, of the slots as they were lent
-abbrev lent : List (Option ℕ) → ℕ → ℕ → List ℕ → ℕ → ℕ → Type 0
-lent slots p m text stop n = IsMissed (set slots p (Some m)) (first_place text (length slots)) stop n
+-- a search of a table with one more slot, of the slots as they were lent
+abbrev lent : List Slot → ℕ → Slot → List ℕ → ℕ → Slot → Type 0
+lent slots p new text stop slot = IsMissed (set slots p new) (first_place (hash_of text) (length slots)) stop slot
 
-shown : (slots seen : List (Option ℕ)) (p m stop n : ℕ) (text : List ℕ) → seen ≡ slots
-    → IsMissed (set slots p (Some m)) (first_place text (length (set slots p (Some m)))) stop n → lent seen p m text stop n
-shown slots seen p m stop n text same missed =
-    subst (λ (l : List (Option ℕ)). lent l p m text stop n) (sym same)
-    (subst (λ (k : ℕ). IsMissed (set slots p (Some m)) (first_place text k) stop n) (length-set slots p (Some m)) missed)
+shown : (slots seen : List Slot) (p stop : ℕ) (new slot : Slot) (text : List ℕ) → seen ≡ slots
+    → IsMissed (set slots p new) (first_place (hash_of text) (length (set slots p new))) stop slot → lent seen p new text stop slot
+shown slots seen p stop new slot text same missed =
+    subst (λ (l : List Slot). lent l p new text stop slot) (sym same)
+    (subst (λ (k : ℕ). IsMissed (set slots p new) (first_place (hash_of text) k) stop slot) (length-set slots p new) missed)
 
-pub returns-then-place-len-clause-filed : goal.returns-then-place-len-clause-filed
-returns-then-place-len-clause-filed c = λ stop missed.
+pub returns-then-number-le-MOST-clause-filed : goal.returns-then-number-le-MOST-clause-filed
+returns-then-number-le-MOST-clause-filed c = λ stop missed.
     let seen = c.deref.result.now in
     let text = c.args.text.now in
     let p = c.in-Some.place in
+    let n = c.args.number in
+    let new : Slot = record { number = n; tag = c.tag_of.result } in
     let within : p < length seen = omega (arith, c.if-place-len.true, c.len.ensures, c.args.self.now.slots.ok.0, ap length c.deref.ensures.value) in
-    absurd (met seen p c.args.number within c.in-Some.ensures.free (first_place text (length seen)) stop c.in-Some.ensures.later c.in-Some.ensures.within
-    c.in-Some.ensures.first
-    (shown c.args.self.now.slots.items seen p c.args.number stop c.args.number text c.deref.ensures.value missed))
+    let tagged : tag_of (hash_of text) ≡ c.tag_of.result = ap tag_of (sym c.requires) ∙ sym c.tag_of.ensures.value in
+    let sought : IsMissed (set seen p new) (first_place c.args.hash (length seen)) stop (slot_of (hash_of text) n) =
+    subst (λ (h : ℕ). IsMissed (set seen p new) (first_place h (length seen)) stop (slot_of (hash_of text) n)) (sym c.requires)
+    (shown c.args.self.now.slots.items seen p stop new (slot_of (hash_of text) n) text c.deref.ensures.value missed) in
+    absurd (met seen p new within c.in-Some.ensures.free (first_place c.args.hash (length seen)) stop c.tag_of.ensures.some c.in-Some.ensures.later
+    c.in-Some.ensures.within c.in-Some.ensures.first
+    (subst (λ (t : ℕ). IsMissed (set seen p new) (first_place c.args.hash (length seen)) stop (record { number = n; tag = t })) tagged sought))
 
-pub returns-then-place-len-clause-others : goal.returns-then-place-len-clause-others
-returns-then-place-len-clause-others c = λ t n ne finds stop missed.
+pub returns-then-number-le-MOST-clause-others : goal.returns-then-number-le-MOST-clause-others
+returns-then-number-le-MOST-clause-others c = λ t n ne finds stop missed.
     let seen = c.deref.result.now in
     let p = c.in-Some.place in
+    let new : Slot = record { number = c.args.number; tag = c.tag_of.result } in
+    let slot : Slot = slot_of (hash_of t) n in
     let within : p < length seen = omega (arith, c.if-place-len.true, c.len.ensures, c.args.self.now.slots.ok.0, ap length c.deref.ensures.value) in
-    let before = missed_before seen p c.args.number within c.in-Some.ensures.free (first_place t (length seen)) stop n
-    (shown c.args.self.now.slots.items seen p c.args.number stop n t c.deref.ensures.value missed) in
-    finds before.0 (subst (λ (l : List (Option ℕ)). IsMissed l (first_place t (length l)) before.0 n) c.deref.ensures.value before.1)
+    let before = missed_before seen p new within c.in-Some.ensures.free (first_place (hash_of t) (length seen)) stop slot
+    (shown c.args.self.now.slots.items seen p stop new slot t c.deref.ensures.value missed) in
+    finds before.0 (subst (λ (l : List Slot). IsMissed l (first_place (hash_of t) (length l)) before.0 slot) c.deref.ensures.value before.1)
 
 pub returns-in_err-insert-clause-others : goal.returns-in_err-insert-clause-others
 returns-in_err-insert-clause-others c = λ t n ne finds stop missed.

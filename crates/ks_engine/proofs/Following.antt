@@ -1,5 +1,5 @@
 -- A synchronisation goes on with each history that the files show.
-use Rattle.std.proofs.Common.{inl, inr, ⊎_elim, ℕ, ◌+◌, List, Result, Ok, Err, IfOk, IfErr, sym, ◌∙◌, ap, refl, subst}
+use Rattle.std.proofs.Common.{◌≡◌, inl, inr, ⊎_elim, ℕ, ◌+◌, List, Result, Ok, Err, IfOk, IfErr, sym, ◌∙◌, ap, refl, subst}
 use Rattle.ks_tree.specs.Files.{Files}
 use Rattle.ks_engine.specs.declared.error.EngineError.{EngineError}
 use Rattle.ks_engine.specs.declared.synchronise.Report.{Report}
@@ -48,3 +48,9 @@ sync_follows old new m n h k d (Err e) shows ok (inr (given, inl same)) = (h, in
 sync_follows old new m n h k d (Err e) shows ok (inr (given, inr broken)) =
     let next = after_broken old new h k d broken shows in
     (next.0, inr (given, inr (broken, next.1)), next.2)
+
+-- the same where it is known to be refused
+pub refused_follows : (old new : Files) (m n : ℕ) (h : History) (k d : List ℕ) (r : Result Report EngineError) (e : EngineError) → r ≡ Err e → Shows old h
+    → IfErr r (IsSyncRefused old new k d) → (next : History) × FollowsSync k d r (at old m h) (at new n next) × Shows new next
+refused_follows old new m n h k d r e is shows err =
+    sync_follows old new m n h k d r shows (subst (λ (q : Result Report EngineError). IfOk q (IsSynced old new k d)) (sym is) tt) err

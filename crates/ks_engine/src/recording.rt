@@ -118,8 +118,8 @@ fn prepare<T: Tree>(
     make_draft(alloc, target, command, &prerequisites, generation, &found)
 }
 
-/// A record, by the files.
-fn write_record<T: Tree>(
+/// Records an object, by what was read before and what is still to be read.
+pub(crate) fn record_by<T: Tree>(
     alloc: Global,
     tree: &mut T,
     memo: &mut Memo,
@@ -161,23 +161,4 @@ pub fn record_object<T: Tree>(
 {
     let mut memo = Memo::of_one_object(alloc);
     record_by(alloc, tree, &mut memo, depfile, target, command)
-}
-
-/// Records an object, by what was read before and what is still to be read.
-pub(crate) fn record_by<T: Tree>(
-    alloc: Global,
-    tree: &mut T,
-    memo: &mut Memo,
-    depfile: &[u8],
-    target: &[u8],
-    command: &[u8],
-) -> Result<Recorded, EngineError>
-    requires memo { T.is_honest → IsMemoOf (T.files tree.old) memo.old }
-    ensures memo { T.is_honest → IsMemoOf (T.files tree.new) memo.new }
-    ensures recorded { T.is_honest → IfOk result (IsRecorded (T.files tree.old) (T.files tree.new) depfile.now target.now command.now) }
-    ensures refused { T.is_honest → IfErr result (IsRecordRefused (T.files tree.old) (T.files tree.new) depfile.now target.now command.now) }
-    ensures follows { GoesOn T.Tree tree.old tree.new (FollowsRecord depfile.now target.now command.now result) }
-    ensures counted { Counted T.Tree tree.old tree.new (IsErrOf result EngineError.Device) }
-{
-    write_record(alloc, tree, memo, depfile, target, command)
 }

@@ -99,22 +99,6 @@ fn write_all<T: Tree>(alloc: Global, tree: &mut T, work: &Work) -> Result<(), Tr
     replace(alloc, tree, auto_temporary(), auto_path(), &work.auto)
 }
 
-/// A synchronisation, by the files.
-fn synchronise<T: Tree>(
-    alloc: Global,
-    tree: &mut T,
-    kconfig: &[u8],
-    dotconfig: &[u8],
-) -> Result<Report, EngineError>
-    ensures synced { T.is_honest → IfOk result (IsSynced (T.files tree.old) (T.files tree.new) kconfig.now dotconfig.now) }
-    ensures refused { T.is_honest → IfErr result (IsSyncRefused (T.files tree.old) (T.files tree.new) kconfig.now dotconfig.now) }
-    ensures counted { Counted T.Tree tree.old tree.new (IsErrOf result EngineError.Device) }
-{
-    let work = prepare(alloc, tree, kconfig, dotconfig)?;
-    write_all(alloc, tree, &work)?;
-    Ok(work.report)
-}
-
 /// Brings the stamps, the header and auto.conf up to a configuration. Each completed synchronisation raises the generation, also
 /// where nothing changed. After `OutOfMemory` or `Device` some of it may be done, and the next `sync` completes it.
 pub fn sync<T: Tree>(
@@ -131,5 +115,7 @@ pub fn sync<T: Tree>(
     // The device is to blame only where the tree counted a failure.
     ensures counted { Counted T.Tree tree.old tree.new (IsErrOf result EngineError.Device) }
 {
-    synchronise(alloc, tree, kconfig, dotconfig)
+    let work = prepare(alloc, tree, kconfig, dotconfig)?;
+    write_all(alloc, tree, &work)?;
+    Ok(work.report)
 }

@@ -1,10 +1,11 @@
-use Rattle.std.proofs.Common.{◌≡◌, Err, sym, ap, subst}
+use Rattle.std.proofs.Common.{◌≡◌, Ok, Err, sym, ap, subst}
 use Rattle.ks_engine.specs.declared.error.EngineError.{EngineError}
 use Rattle.ks_engine.specs.declared.error.EngineError.TheVariants.{Device}
-use Rattle.ks_engine.specs.declared.commands.Reply.TheVariants.{Synced, Refused}
+use Rattle.ks_engine.specs.declared.commands.Reply.TheVariants.{Synced, Recorded, Refused}
 use Rattle.ks_engine.specs.Actions.{action}
 use Rattle.ks_engine.specs.Follows.{at}
 use Rattle.ks_engine.specs.Runs.{Follows}
+use Rattle.ks_engine.proofs.RecordSteps.{record_follows}
 use Rattle.ks_engine.proofs.commands.answer.Goals as goal
 
 refused_is : (e : EngineError) → Refused e ≡ Refused Device → e ≡ Device
@@ -35,9 +36,24 @@ returns-in-Err-clause-follows g c = λ honest h shows.
       n.2,
     )
 
+pub returns-in-Ok-record_by-clause-follows : goal.returns-in-Ok-record_by-clause-follows
+returns-in-Ok-record_by-clause-follows g c = λ honest h shows.
+    let n = record_follows (g.T.Tree.files c.args.tree.now) (g.T.Tree.files c.record_by.new.tree) (g.T.Tree.failures c.args.tree.now)
+    (g.T.Tree.failures c.record_by.new.tree) h c.in-Record.depfile.now c.in-Record.target.now c.in-Record.command.now (Ok c.in-Ok-record_by.recorded) shows
+    (c.in-Ok-record_by.ensures.recorded honest) tt in (
+      n.0,
+      subst (λ command. Follows (action command) (Recorded c.in-Ok-record_by.recorded)
+          (at (g.T.Tree.files c.args.tree.now) (g.T.Tree.failures c.args.tree.now) h)
+          (at (g.T.Tree.files c.record_by.new.tree) (g.T.Tree.failures c.record_by.new.tree) n.0))
+          (sym c.in-Record.is) (record { leaves = n.1; later = c.in-Ok-record_by.ensures.counted.later; cause = λ e. absurd cc }),
+      n.2,
+    )
+
 pub returns-in-Err-record_by-clause-follows : goal.returns-in-Err-record_by-clause-follows
 returns-in-Err-record_by-clause-follows g c = λ honest h shows.
-    let n = c.in-Err-record_by.ensures.follows honest h shows in (
+    let n = record_follows (g.T.Tree.files c.args.tree.now) (g.T.Tree.files c.record_by.new.tree) (g.T.Tree.failures c.args.tree.now)
+    (g.T.Tree.failures c.record_by.new.tree) h c.in-Record.depfile.now c.in-Record.target.now c.in-Record.command.now (Err c.in-Err-record_by.error) shows
+    tt (c.in-Err-record_by.ensures.refused honest) in (
       n.0,
       subst (λ command. Follows (action command) (Refused c.in-Err-record_by.error)
           (at (g.T.Tree.files c.args.tree.now) (g.T.Tree.failures c.args.tree.now) h)

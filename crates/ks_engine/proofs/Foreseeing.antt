@@ -1,11 +1,13 @@
 -- The tree that a synchronisation would leave, what is answered over it, and a name among rising ones.
-use Rattle.std.proofs.Common.{◌≡◌, ◌⊎◌, inl, inr, ℕ, zero, suc, ◌+◌, ◌<◌, ◌≤◌, ◌^◌, List, [], ◌∷◌, Option, Some, None, Result, Ok, Err, true, false, ◌||◌, cond, sym, ◌∙◌, ap, refl, subst, arith, length, get_or, true≢false, IsTrue, bytes_eq, nat_cmp}
-use Rattle.std.proofs.lemmas.Bool.{cond-true, cond-false, or_left, or_right, false_from_ne_true}
+use Rattle.std.proofs.Common.{◌≡◌, ◌⊎◌, inl, inr, ℕ, zero, suc, ◌+◌, ◌<◌, ◌^◌, List, [], ◌∷◌, Option, Some, None, Result, Ok, Err, true, false, ◌||◌, cond, sym, ◌∙◌, ap, refl, subst, arith, length, get_or, true≢false, IsTrue, bytes_eq, nat_cmp}
+use Rattle.std.proofs.lemmas.Map.Keys.{Less-from_sorted}
+use Rattle.std.proofs.lemmas.Map.Text.{is_eq-slice_cmp}
+use Rattle.std.proofs.lemmas.Bool.{cases_lt, cond-true, cond-false, or_left, or_right, false_from_ne_true}
 use Rattle.std.proofs.lemmas.List.Sorted.{searchable_from_sorted}
 use Rattle.std.proofs.lemmas.Slice.Eq.{bytes_eq-Decides}
 use Rattle.std.specs.Cmp.{tied_itself}
 use Rattle.std.specs.Cmp.Lexicographic.{slice_cmp, nat_list_cmp_total}
-use Rattle.std.specs.FinMap.{insert, get-insert, slice_cmp-IsAntisymmetric, nat_cmp-IsAntisymmetric}
+use Rattle.std.specs.FinMap.{insert, get-insert}
 use Rattle.std.specs.List.{HoldsAt}
 use Rattle.std.specs.List.Sorted.{IsStrictlySortedBy, IsSortedByKey, IsNonDecreasingBy, IsPartitionPoint, IsSearchInRange, IsBinarySearchResult}
 use Rattle.std.specs.Result.{is_ok}
@@ -25,18 +27,18 @@ use Rattle.ks_engine.specs.declared.impact.Impact.{Impact}
 use Rattle.ks_engine.specs.declared.staleness.Verdict.{Verdict}
 use Rattle.ks_engine.specs.declared.synchronise.Report.{Report}
 use Rattle.ks_engine.specs.declared.synchronise.Work.{Work}
-use Rattle.ks_engine.specs.Refusals.{GaveUp, and_then}
+use Rattle.ks_engine.specs.Refusals.{GaveUp}
 use Rattle.ks_engine.specs.History.{Synced}
 use Rattle.ks_engine.specs.LastSync.{OldAuto, read_unless, old_auto}
-use Rattle.ks_engine.specs.SyncPlan.{Plan, plan_over, IsSyncPlan}
+use Rattle.ks_engine.specs.SyncPlan.{Plan}
 use Rattle.ks_engine.specs.Synchronised.{AreChanged, SyncDone, IsSynced}
 use Rattle.ks_engine.specs.Asked.{asked, IsAnswer}
 use Rattle.ks_engine.specs.Views.{IsPlanned}
 use Rattle.ks_engine.specs.Impact.{IsImpactOf, AnswersBehind, JudgesBehind, IsBehind}
 use Rattle.ks_engine.proofs.LowerLaws.{generation_back, accepted, small_generation, apart}
-use Rattle.ks_engine.proofs.Reading.{last_some}
+use Rattle.ks_engine.proofs.Reading.{last_some, ok_ok}
 use Rattle.ks_engine.proofs.Writes.{finished, header_stays}
-use Rattle.ks_engine.proofs.Steps.{PlanFacts, plan_over_facts, plan_facts, command_kept, synced_shows}
+use Rattle.ks_engine.proofs.Steps.{plan_stands, plan_facts, command_kept, synced_shows}
 use Rattle.ks_engine.proofs.Asking.{stale_judged}
 use Rattle.ks_engine.proofs.Beginnings.{one_plan}
 
@@ -45,13 +47,8 @@ use Rattle.ks_engine.proofs.Beginnings.{one_plan}
 abbrev pub order : List ℕ → List ℕ → Ordering
 order = slice_cmp nat_cmp
 
-is_equal : (o : Ordering) → is_eq o ≡ true → o ≡ Equal
-is_equal Less e = absurd cc
-is_equal Equal e = refl
-is_equal Greater e = absurd cc
-
 one_text : (x y : List ℕ) → order x y ≡ Equal → x ≡ y
-one_text x y e = slice_cmp-IsAntisymmetric nat_cmp-IsAntisymmetric x y e
+one_text x y e = (bytes_eq-Decides x y).0 (sym (is_eq-slice_cmp x y) ∙ ap is_eq e)
 
 found_among : (q : List ℕ) (names : List (List ℕ)) (i : ℕ) → i < length names → HoldsAt (λ n. order n q ≡ Equal) names i → is_in names q ≡ true
 found_among q [] i lt at = absurd (omega arith)
@@ -65,32 +62,18 @@ nowhere q (n ∷ names) other =
     (subst (λ (m : List ℕ). order m q ≡ Equal) ((bytes_eq-Decides q n).0 e) (tied_itself nat_list_cmp_total q))))
     ∙ nowhere q names (λ k d lt. other (suc k) d (omega arith))
 
-rising_at : (names : List (List ℕ)) (k : ℕ) (d : List ℕ) → IsStrictlySortedBy order names → suc k < length names
-    → order (get_or names k d) (get_or names (suc k) d) ≡ Less
-unfolding IsStrictlySortedBy
-rising_at [] k d rising lt = absurd (omega arith)
-rising_at (x ∷ []) k d rising lt = absurd (omega arith)
-rising_at (x ∷ y ∷ names) zero d rising lt = rising.0.0
-rising_at (x ∷ y ∷ names) (suc k) d rising lt = rising_at (y ∷ names) k d rising.1 (omega arith)
-
 sorted_by : (names : List (List ℕ)) → IsStrictlySortedBy order names → IsSortedByKey (λ n. n) order names
 sorted_by names rising k d le lt =
     let on : suc k ≡ k + 1 = omega arith in
     subst (λ (n : ℕ). is_lt (order (get_or names n d) (get_or names k d)) ≡ false) on
-    (ap is_lt (nat_list_cmp_total.antisymm (get_or names (suc k) d) (get_or names k d) ∙ ap ordering_reverse (rising_at names k d rising (omega arith))))
+    (ap is_lt (nat_list_cmp_total.antisymm (get_or names (suc k) d) (get_or names k d) ∙ ap ordering_reverse (Less-from_sorted order names k (suc k) d rising (omega arith) (omega arith))))
 
 searchable : (q : List ℕ) (names : List (List ℕ)) → IsStrictlySortedBy order names → IsNonDecreasingBy (λ n. ordering_index (order n q)) names
 searchable q names rising = searchable_from_sorted nat_list_cmp_total (λ n. n) names q (sorted_by names rising)
 
-split : (k i : ℕ) → (k < i) ⊎ (i ≤ k)
-split zero zero = inr (omega arith)
-split zero (suc i) = inl (omega arith)
-split (suc k) zero = inr (omega arith)
-split (suc k) (suc i) = elim (split k i) [ inl lt ↦ inl (omega arith) | inr ge ↦ inr (omega arith) ]
-
 not_among : (q : List ℕ) (names : List (List ℕ)) (i : ℕ) → IsPartitionPoint (λ n. order n q ≡ Less) (λ n. order n q ≡ Greater) names i
     → is_in names q ≡ false
-not_among q names i parted = nowhere q names (λ k d lt equal. elim (split k i) [
+not_among q names i parted = nowhere q names (λ k d lt equal. elim (cases_lt k i) [
   | inl less ↦ less_not_equal (sym (parted.0 k d (omega arith) less) ∙ equal)
   | inr more ↦ greater_not_equal (sym (parted.1 k d more lt) ∙ equal)
 ])
@@ -114,7 +97,7 @@ put_here files p b = get-insert nat_list_cmp_total files p b p ∙ cond-true _ _
 
 put_elsewhere : (files : Files) (p b : List ℕ) → SameBut p files (insert files p b)
 put_elsewhere files p b q other = get-insert nat_list_cmp_total files p b q ∙ cond-false _ _ _
-    (false_from_ne_true (is_eq (order q p)) (λ e. other (one_text q p (is_equal _ e))))
+    (false_from_ne_true (is_eq (order q p)) (λ e. other ((bytes_eq-Decides q p).0 (sym (is_eq-slice_cmp q p) ∙ e))))
 
 stamped : List (List ℕ) → ℕ → Files → Files
 stamped [] g files = files
@@ -182,30 +165,11 @@ impact_told files k d work planned =
 old_fits : (file : Option (List ℕ)) (auto : OldAuto) → old_auto file ≡ Ok auto → auto.generation < 2 ^ 64
 unfolding old_auto
 old_fits None auto is = subst (λ (a : OldAuto). a.generation < 2 ^ 64) (ok_ok _ auto is) (omega arith)
-  where
-    ok_ok : (a b : OldAuto) → ◌≡◌ {A = Result OldAuto EngineError} (Ok a) (Ok b) → a ≡ b
-    ok_ok a b e = cc
 old_fits (Some b) auto is = fits (auto_refusal b) is
   where
-    ok_ok : (a b : OldAuto) → ◌≡◌ {A = Result OldAuto EngineError} (Ok a) (Ok b) → a ≡ b
-    ok_ok a b e = cc
-
     fits : (r : Option AutoError) → read_unless r b ≡ Ok auto → auto.generation < 2 ^ 64
     fits None is = subst (λ (a : OldAuto). a.generation < 2 ^ 64) (ok_ok _ auto is) (small_generation b)
     fits (Some e) is = absurd cc
-
--- what stands where a plan was made, also over files that show no history
-plan_stands : (files : Files) (k d : List ℕ) (plan : Plan) → IsSyncPlan files k d (Ok plan) → (auto : OldAuto) × (old_auto (content files auto_path) ≡ Ok auto)
-    × PlanFacts auto.texts auto.generation plan
-plan_stands files k d plan (inl refused) = absurd (ok_err plan _ refused.2)
-  where
-    ok_err : (p : Plan) (e : EngineError) → Ok p ≡ Err e → ⊥
-    ok_err p e q = cc
-plan_stands files k d plan (inr made) = over (old_auto (content files auto_path)) made.2
-  where
-    over : (r : Result OldAuto EngineError) → Ok plan ≡ and_then r (plan_over made.0) → (auto : OldAuto) × (r ≡ Ok auto) × PlanFacts auto.texts auto.generation plan
-    over (Ok auto) is = (auto, refl, plan_over_facts made.0 auto plan made.1.legal (sym is))
-    over (Err e) is = absurd cc
 
 behind : (files after : Files) (k d : List ℕ) (impact : Impact) (report : Report) → IsImpactOf files k d impact → IsSynced files after k d report
     → IsBehind files after impact.report
@@ -233,9 +197,6 @@ behind files after k d impact report told synced =
       others = λ x name none. synced.done.leaves.stamps x name ∙ cond-false _ _ _ (agree x ∙ none);
       commands = command_kept files after plan report.touched.items report.touched.items synced.changed synced.done.leaves;
     }
-  where
-    ok_ok : (p q : Plan) → ◌≡◌ {A = Result Plan EngineError} (Ok p) (Ok q) → p ≡ q
-    ok_ok p q e = cc
 
 -- what is answered over all that stands so is answered, and judged, over each tree that it leaves
 abbrev pub AnswersOver : Files → Impact → List ℕ → Result Verdict EngineError → Type 0

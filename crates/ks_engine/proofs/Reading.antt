@@ -31,6 +31,14 @@ use Rattle.ks_engine.specs.SyncPlan.{Sources, AreSources, Plan, plan_over, IsSyn
 use Rattle.ks_engine.specs.Views.{old_of}
 use Rattle.ks_engine.proofs.LowerLaws.{legal_changes}
 
+-- ---- steps that may refuse
+
+pub ok_ok : {A : Type 0} (a b : A) → ◌≡◌ {A = Result A EngineError} (Ok a) (Ok b) → a ≡ b
+ok_ok a b e = cc
+
+pub err_ok : {A : Type 0} (e : EngineError) (a : A) → ◌≡◌ {A = Result A EngineError} (Err e) (Ok a) → ⊥
+err_ok e a q = cc
+
 -- ---- the two texts
 
 pub are_sources : (kconfig dotconfig : List ℕ) (s : Sources) (kinds : List ℕ → Option Kind) → ((x : List ℕ) → kinds x ≡ declared kconfig x)

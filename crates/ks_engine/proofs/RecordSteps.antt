@@ -20,6 +20,7 @@ use Rattle.ks_engine.specs.Recording.{words, there, listed, scanned, scanned_all
 use Rattle.ks_engine.specs.Recorded.{RecordPlan, numbered, drafted, record_plan, IsRecordPlan, IsRecorded, IsRecordTried, IsRecordRefused}
 use Rattle.ks_engine.proofs.Heart.{synced_or_not}
 use Rattle.ks_engine.proofs.LowerLaws.{names_of_record, written_reads}
+use Rattle.ks_engine.proofs.Reading.{ok_ok, err_ok}
 use Rattle.ks_engine.proofs.Steps.{auto_read, recorded_shows, unclaimed_shows, untouched_shows}
 
 -- ---- the parts of a plan
@@ -66,12 +67,6 @@ drafted_of t c ps g found plan e =
       | false ↦ λ small e. subst (λ (p : RecordPlan). Drafted t c ps g found p) (ok_ok made plan e)
           (record { file = refl; generation = refl; names = refl; small = ltb-false _ _ small })
     ] refl e
-  where
-    err_ok : (e : EngineError) (p : RecordPlan) → Err e ≡ Ok p → ⊥
-    err_ok e p q = cc
-
-    ok_ok : (p q : RecordPlan) → ◌≡◌ {A = Result RecordPlan EngineError} (Ok p) (Ok q) → p ≡ q
-    ok_ok p q e = cc
 
 -- ---- the names of a plan are those of its command file
 
@@ -132,12 +127,6 @@ synced_at_shown auto h g same e =
           let other : auto.generation ≡ 0 → ⊥ = eqb-false _ _ some in
           record { same = omega arith; some = omega arith }
     ] refl e
-  where
-    err_ok : (e : EngineError) (n : ℕ) → Err e ≡ Ok n → ⊥
-    err_ok e n q = cc
-
-    ok_ok : (m n : ℕ) → ◌≡◌ {A = Result ℕ EngineError} (Ok m) (Ok n) → m ≡ n
-    ok_ok m n e = cc
 
 plan_synced : (files : Files) (h : History) (g : ℕ) → Shows files h → last_generation (content files auto_path) ≡ Ok g → SyncedAt h g
 plan_synced files h g shows is =

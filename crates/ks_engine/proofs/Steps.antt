@@ -24,7 +24,7 @@ use Rattle.ks_engine.specs.LastSync.{OldAuto, old_auto}
 use Rattle.ks_engine.specs.SyncPlan.{Sources, Plan, plan_over, IsSyncPlan}
 use Rattle.ks_engine.proofs.Heart.{record_cases, recorded_synced}
 use Rattle.ks_engine.proofs.LowerLaws.{texts_back, generation_back, accepted, apart, command-injective}
-use Rattle.ks_engine.proofs.Reading.{old_some}
+use Rattle.ks_engine.proofs.Reading.{old_some, ok_ok, err_ok}
 
 pub done_le : (h : History) → IsHistory h → done h ≤ 18446744073709551615
 done_le (Begun texts generation stamps) is = is.0
@@ -92,23 +92,25 @@ plan_over_facts s auto plan legal e =
                 (record { source = legal; same_old = refl; same_generation = refl; room = eqb-false _ _ room; small = ltb-false _ _ small })
           ] refl
     ] refl e
-  where
-    err_ok : (e : EngineError) (p : Plan) → Err e ≡ Ok p → ⊥
-    err_ok e p q = cc
 
-    ok_ok : (p q : Plan) → ◌≡◌ {A = Result Plan EngineError} (Ok p) (Ok q) → p ≡ q
-    ok_ok p q e = cc
+-- what stands where a plan was made, also over files that show no history
+pub plan_stands : (files : Files) (k d : List ℕ) (plan : Plan) → IsSyncPlan files k d (Ok plan) → (auto : OldAuto)
+    × (old_auto (content files auto_path) ≡ Ok auto) × PlanFacts auto.texts auto.generation plan
+plan_stands files k d plan (inl refused) = absurd (err_ok _ plan (sym refused.2))
+plan_stands files k d plan (inr made) = over (old_auto (content files auto_path)) made.2
+  where
+    over : (r : Result OldAuto EngineError) → Ok plan ≡ and_then r (plan_over made.0) → (auto : OldAuto) × (r ≡ Ok auto) × PlanFacts auto.texts auto.generation plan
+    over (Ok auto) is = (auto, refl, plan_over_facts made.0 auto plan made.1.legal (sym is))
+    over (Err e) is = absurd cc
 
 pub plan_facts : (files : Files) (h : History) (kconfig dotconfig : List ℕ) (plan : Plan) → Shows files h → IsSyncPlan files kconfig dotconfig (Ok plan)
     → PlanFacts (before h) (done h) plan
-plan_facts files h kconfig dotconfig plan shows (inl refused) = absurd (ok_err plan _ refused.2)
-  where
-    ok_err : (p : Plan) (e : EngineError) → Ok p ≡ Err e → ⊥
-    ok_err p e q = cc
-plan_facts files h kconfig dotconfig plan shows (inr made) =
+plan_facts files h kconfig dotconfig plan shows planned =
     let read = auto_read h (content files auto_path) shows.history shows.auto in
-    subst₂ (λ (t : Texts) g. PlanFacts t g plan) read.texts read.generation
-    (plan_over_facts made.0 read.auto plan made.1.legal (sym (made.2 ∙ ap (λ o. and_then o (plan_over made.0)) read.reads)))
+    let stands = plan_stands files kconfig dotconfig plan planned in
+    let same : stands.0 ≡ read.auto = ok_ok _ _ (sym stands.1 ∙ read.reads) in
+    subst₂ (λ (t : Texts) g. PlanFacts t g plan) (ap (λ (a : OldAuto). a.texts) same ∙ read.texts) (ap (λ (a : OldAuto). a.generation) same ∙ read.generation)
+    stands.2
 
 -- ---- the stamps, the header and the command files of the next history
 

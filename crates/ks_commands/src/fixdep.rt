@@ -12,7 +12,7 @@ ghost use Rattle.ks_commands.specs.Inputs.{command_file_at};
 
 use crate::inputs::read_given;
 use ks_engine::{EngineError, scan_all};
-use ks_fixdep::{build_from, command_is_legal, read_depfile, write_command};
+use ks_fixdep::{command_is_legal, read_depfile, record_text};
 use ks_symbols::{path_is_legal, target_is_legal};
 use ks_tree::Tree;
 use std::alloc::Global;
@@ -48,8 +48,6 @@ pub(crate) fn command_file_text<T: Tree>(
     let text = read_given(alloc, tree, depfile)?;
     let prerequisites = read_depfile(alloc, &text)?;
     let found = scan_all(alloc, tree, &prerequisites)?;
-    let file = build_from(alloc, target, command, prerequisites, found)?;
-    let mut text = Vec::new(alloc);
-    write_command(&file, &mut text)?;
-    Ok(text)
+    let lines = record_text(alloc, target, command, &prerequisites, &found, None)?;
+    Ok(lines)
 }

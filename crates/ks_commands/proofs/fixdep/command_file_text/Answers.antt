@@ -1,5 +1,4 @@
-use Rattle.std.proofs.Common.{◌≡◌, ◌++◌, Ok, map, sym, ap, subst, ◌∙◌}
-use Rattle.ks_fixdep.specs.CommandFile.{command_text, view}
+use Rattle.std.proofs.Common.{◌≡◌, Ok, map, sym, ap, subst}
 use Rattle.ks_fixdep.specs.FoundNames.{names_in}
 use Rattle.ks_engine.specs.Recording.{scanned_all}
 use Rattle.ks_engine.proofs.Drafting.{depfile_listed}
@@ -14,6 +13,5 @@ returns-clause-text g c = λ honest.
     let ps = c.in_ok-prerequisites.prerequisites in
     let listed = depfile_listed c.deref.result.now ps c.in_ok-prerequisites.ensures.refusal c.in_ok-prerequisites.ensures.value in
     let scanned = subst (λ f. scanned_all f ps ≡ Ok (map names_in found.0)) (c.in_ok-text.ensures.reads.unchanged honest) found.2 in
-    let whole = c.in_ok-write_command.ensures.ok ∙ ap (λ l. l ++ command_text (view c.in_ok-file.file)) c.new-text.ensures.items
-    ∙ ap command_text (c.in_ok-file.ensures.value found.0 found.1) in
+    let whole = c.in_ok-lines.ensures.text found.0 found.1 in
     rw (sym c.in_ok-check_words.ensures.words, c.in_ok-text.ensures.bytes honest, sym c.deref.ensures.value, listed, scanned) (ap (λ t. Ok t) (sym whole))

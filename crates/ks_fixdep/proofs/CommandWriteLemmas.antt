@@ -6,6 +6,7 @@ use Rattle.std.specs.Result.{OnOk}
 use Rattle.std.proofs.Common.{map}
 use Rattle.std.specs.Prelude.{codes, flat_map}
 use Rattle.std.proofs.lemmas.Grind.{flat_map-append}
+use Rattle.ks_fixdep.specs.CommandLines.{line_feed}
 use Rattle.ks_fixdep.specs.CommandFile.{CommandRecord, deps_begin, deps_end, ended, dep_line, generation_line, command_text}
 
 pub extends-same : (a b : List ℕ) → b ≡ a → Extends a b
@@ -57,6 +58,10 @@ text-parts f =
 
 pub three-parts : (o a b d p q r t : List ℕ) → a ≡ o ++ p → b ≡ a ++ q → d ≡ b ++ r → t ≡ p ++ (q ++ r) → d ≡ o ++ t
 three-parts o a b d p q r t ea eb ed et = rw (et, ed, eb, ea) (simp append_assoc refl)
+
+-- a line that is put behind a text in three parts
+pub line-put : (out front middle end : List ℕ) → ((out ++ front) ++ middle) ++ (end ++ line_feed) ≡ out ++ ended (front ++ middle ++ end)
+line-put out front middle end = simp append_assoc refl
 
 pub then-part : (o a d p q : List ℕ) → a ≡ o ++ p → d ≡ a ++ q → d ≡ o ++ (p ++ q)
 then-part o a d p q ea ed = ed ∙ ap (λ l. l ++ q) ea ∙ append_assoc o p q

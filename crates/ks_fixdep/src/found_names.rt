@@ -65,6 +65,15 @@ impl FoundNames {
         if self.ends_with(name) {
             return Ok(());
         }
+        self.note_by_hash(name)
+    }
+
+    /// Notes a name that is not likely to be the last one.
+    fn note_by_hash(&mut self, name: &[u8]) -> Result<(), AllocError>
+        requires { IsTrue (is_name name.now) }
+        ensures ok { OnOk result (self.new ≡ noted self.old name.now) }
+        ensures err { OnErr result (self.new ≡ self.old) }
+    {
         self.names.note(name)?;
         Ok(())
     }
@@ -117,12 +126,12 @@ pub(crate) fn note_carried(found: &mut FoundNames, carried: Option<&[u8]>) -> Re
     }
 }
 
-/// Notes names that were found before, in their order.
+/// Notes names that were found before, in their order. Each stands once among them, so few are the last one that was noted.
 pub(crate) fn note_known(found: &mut FoundNames, known: &FoundNames) -> Result<(), AllocError>
     ensures { OnOk result (found.new ≡ all_noted found.old known.now) }
 {
     for name in known.names() {
-        found.note(name)?;
+        found.note_by_hash(name)?;
     }
     Ok(())
 }

@@ -36,7 +36,10 @@ pub(crate) fn push_file(out: &mut Vec<u8>, path: &[u8]) -> Result<(), AllocError
     ensures ok { OnOk result (out.new.items ≡ out.old.items ++ ended (dep_line (File path.now))) }
     ensures extends { Extends out.old.items out.new.items }
 {
-    push_line(out, &[b"  ", path, b" \\"])
+    out.extend_from_slice(b"  ")?;
+    out.extend_from_slice(path)?;
+    out.extend_from_slice(b" \\\n")?;
+    Ok(())
 }
 
 /// Writes the line of a name.
@@ -44,7 +47,10 @@ pub(crate) fn push_name(out: &mut Vec<u8>, name: &[u8]) -> Result<(), AllocError
     ensures ok { OnOk result (out.new.items ≡ out.old.items ++ ended (dep_line (Config name.now))) }
     ensures extends { Extends out.old.items out.new.items }
 {
-    push_line(out, &[b"    $(wildcard include/config/", name, b") \\"])
+    out.extend_from_slice(b"    $(wildcard include/config/")?;
+    out.extend_from_slice(name)?;
+    out.extend_from_slice(b") \\\n")?;
+    Ok(())
 }
 
 /// Writes a dependency line.

@@ -1,0 +1,12 @@
+use Rattle.std.proofs.Common.{◌++◌, ap, ◌∙◌}
+use Rattle.std.specs.Prelude.{codes}
+use Rattle.ks_fixdep.specs.CommandLines.{line_feed}
+use Rattle.ks_fixdep.proofs.CommandWriteLemmas.{line-put}
+use Rattle.ks_fixdep.proofs.command_file.writing.push_file.Goals as goal
+
+pub returns-clause-ok : goal.returns-clause-ok
+returns-clause-ok c =
+    c.in_ok-extend_from_slice-3.ensures.items
+    ∙ ap (λ l. l ++ (codes " \\" ++ line_feed)) (c.in_ok-extend_from_slice-2.ensures.items
+    ∙ ap (λ l. l ++ c.args.path.now) c.in_ok-extend_from_slice.ensures.items)
+    ∙ line-put c.args.out.now.items (codes "  ") c.args.path.now (codes " \\")

@@ -101,6 +101,7 @@ preview_of k d (request.Fixdep d' t c) h = absurd (true≢false (ap (λ t. slice
 preview_of k d (request.Record d' t c) h = absurd (true≢false (ap (λ t. slice_index t 0 == 112) h.0))
 preview_of k d (request.Stale ts) h = absurd (h.0 1 [] (omega arith) refl)
 preview_of k d (request.Why ts) h = absurd (true≢false (ap (λ t. slice_index t 0 == 112) h.0))
+preview_of k d (request.Impact k' d' ts) h = absurd (true≢false (ap (λ t. slice_index t 0 == 112) h.0))
 preview_of k d (request.Batch s) h = absurd (true≢false (ap (λ t. slice_index t 0 == 112) h.0))
 preview_of k d (request.Outdated t c) h = absurd (true≢false (ap (λ t. slice_index t 0 == 112) h.0))
 
@@ -113,6 +114,7 @@ batch_of p (request.Fixdep d t c) h = absurd (true≢false (ap (λ t. slice_inde
 batch_of p (request.Record d t c) h = absurd (true≢false (ap (λ t. slice_index t 0 == 98) h.0))
 batch_of p (request.Stale ts) h = absurd (h.0 5 [] (omega arith) refl)
 batch_of p (request.Why ts) h = absurd (true≢false (ap (λ t. slice_index t 0 == 98) h.0))
+batch_of p (request.Impact k d ts) h = absurd (true≢false (ap (λ t. slice_index t 0 == 98) h.0))
 batch_of p (request.Outdated t c) h = absurd (true≢false (ap (λ t. slice_index t 0 == 98) h.0))
 
 -- what holds of the error holds where there is an error

@@ -67,6 +67,8 @@ command_line_app = with_all bare_app
     ∷ taking (codes "record") (once (codes "DEPFILE") ∷ once (codes "TARGET") ∷ once (codes "COMMAND") ∷ [])
     ∷ needing_one (taking (codes "stale") (any_number (codes "TARGET") ∷ behind (codes "from") (codes "FILE") ∷ []))
     ∷ needing_one (taking (codes "why") (any_number (codes "TARGET") ∷ behind (codes "from") (codes "FILE") ∷ []))
+    ∷ needing_one (taking (codes "impact") (once (codes "KCONFIG") ∷ once (codes "DOTCONFIG") ∷ any_number (codes "TARGET")
+    ∷ behind (codes "from") (codes "FILE") ∷ []))
     ∷ taking (codes "batch") (once (codes "SCRIPT") ∷ [])
     ∷ taking (codes "outdated") (once (codes "TARGET") ∷ once (codes "COMMAND") ∷ [])
     ∷ [])

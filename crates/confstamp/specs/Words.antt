@@ -46,7 +46,7 @@ words_at name rows = unwrap_or (all_of name rows) []
 abbrev pub IsNoOther : Text → Type 0
 IsNoOther name = All (λ other. name ≢ other)
     (codes "sync" ∷ codes "preview" ∷ codes "diff" ∷ codes "fixdep" ∷ codes "record" ∷ codes "batch" ∷ codes "outdated"
-    ∷ codes "why" ∷ [])
+    ∷ codes "why" ∷ codes "impact" ∷ [])
 
 -- the objects of a question
 abbrev pub AreTargets : List Row → Targets → Type 0
@@ -70,6 +70,8 @@ IsRequestOf command rows (request.Record d t c) = (command ≡ codes "record")
 IsRequestOf command rows (request.Stale ts) =
     IsNoOther command × AreTargets rows ts
 IsRequestOf command rows (request.Why ts) = (command ≡ codes "why") × AreTargets rows ts
+IsRequestOf command rows (request.Impact k d ts) = (command ≡ codes "impact")
+    × (string_bytes k ≡ word_at (codes "KCONFIG") rows) × (string_bytes d ≡ word_at (codes "DOTCONFIG") rows) × AreTargets rows ts
 IsRequestOf command rows (request.Batch s) =
     (command ≡ codes "batch") × (string_bytes s ≡ word_at (codes "SCRIPT") rows)
 IsRequestOf command rows (request.Outdated t c) = (command ≡ codes "outdated")

@@ -41,7 +41,7 @@ pub(crate) struct Usage {
     pub(crate) name: &'static str,
     pub(crate) about: &'static str,
     pub(crate) words: &'static [Word],
-    /// How it is called, where it needs one of its words though each of them may be left out.
+    /// How it is called, where `clap` would not say so. Without any word it is told how.
     pub(crate) choice: Option<&'static str>,
     pub(crate) notes: &'static str,
 }
@@ -100,7 +100,7 @@ const SCRIPT: Word = Word {
     help: "A file with a command sync, record or stale on each line; empty lines and those that begin with # are skipped",
 };
 
-pub(crate) const USAGES: [Usage; 9] = [
+pub(crate) const USAGES: [Usage; 10] = [
     Usage {
         name: "sync",
         about: "Write auto.conf, the header and the stamps of all symbols that changed",
@@ -172,6 +172,16 @@ Prints the lines of stale, and below an object NAME generation N PLACE for each 
 it was found. One of the words is needed.
 
 Example: confstamp why x.o y.o",
+    },
+    Usage {
+        name: "impact",
+        about: "Say which objects would have to be built again behind a sync",
+        words: &[KCONFIG, DOTCONFIG, TARGETS, FROM],
+        choice: Some("confstamp impact [--from FILE] <KCONFIG> <DOTCONFIG> [TARGET]..."),
+        notes: "\
+Prints what stale would print behind sync KCONFIG DOTCONFIG. Writes no file.
+
+Example: confstamp impact Kconfig .config x.o y.o",
     },
     Usage {
         name: "batch",

@@ -102,6 +102,16 @@ fn preview_request(alloc: Global, matches: &ArgMatches<'_>) -> Result<Request, A
     })
 }
 
+fn impact_request(alloc: Global, matches: &ArgMatches<'_>) -> Result<Request, AllocError>
+    ensures { IfOk result (IsRequestOf (codes "impact") (rows_of (found_of matches.now))) }
+{
+    Ok(Request::Impact {
+        kconfig: word(alloc, matches, "KCONFIG")?,
+        dotconfig: word(alloc, matches, "DOTCONFIG")?,
+        targets: targets(alloc, matches)?,
+    })
+}
+
 /// The request of the command `name` with these matches, where `clap` let that name through.
 fn request_named(alloc: Global, name: &str, matches: &ArgMatches<'_>) -> Result<Request, AllocError>
     ensures { IfOk result (IsRequestOf name.now (rows_of (found_of matches.now))) }
@@ -136,6 +146,7 @@ fn request_named(alloc: Global, name: &str, matches: &ArgMatches<'_>) -> Result<
         "why" => Ok(Request::Why {
             targets: targets(alloc, matches)?,
         }),
+        "impact" => impact_request(alloc, matches),
         _ => Ok(Request::Stale {
             targets: targets(alloc, matches)?,
         }),

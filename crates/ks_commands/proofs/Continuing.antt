@@ -14,7 +14,7 @@ use Rattle.ks_commands.specs.declared.refusal.Refusal.{Refusal}
 use Rattle.ks_commands.specs.declared.refusal.Refusal.TheVariants.{Engine}
 use Rattle.ks_commands.specs.Endings.{Ending}
 use Rattle.ks_commands.specs.Inputs.{given}
-use Rattle.ks_commands.specs.Performed.{EndsStale, EndsWhy, FollowsWhy, IsAnswerOn, IsExplanationOn, LeavesSync, Runs, RunsAll, by_files, by_histories}
+use Rattle.ks_commands.specs.Performed.{EndsImpact, EndsStale, EndsWhy, FollowsImpact, FollowsWhy, IsAnswerBehind, IsAnswerOn, IsExplanationOn, LeavesSync, Runs, RunsAll, by_files, by_histories}
 use Rattle.ks_commands.specs.Replies.{explanation_lines, verdict_line}
 use Rattle.ks_commands.specs.Scripts.{HasGivenUp, actions_of, script_actions, script_at}
 use Rattle.ks_commands.specs.Statuses.{explanation_status, verdict_status}
@@ -84,3 +84,22 @@ pub why_follows : (old new : Files) (m n : ℕ) (h : History) (targets : Result 
 why_follows old new m n h targets ended same shows ends =
     answers_weaker explanation_lines explanation_status (IsExplanationOn old) (λ o answer. FollowsWhy (at old m h) o answer (at new n h)) targets ended
     (λ o answer is. record { same = (same, refl); by_files = is.by_files; verdict = is.verdict; recorded = λ r was. is.recorded h r shows was }) ends
+
+pub impact_follows : (old new : Files) (m n : ℕ) (h : History) (k d : List ℕ) (targets : Result (List (List ℕ)) EngineError) (ended : Ending) → new ≡ old
+    → Shows old h → EndsImpact old (by_files old new) k d targets ended → EndsImpact old (by_histories (at old m h) (at new n h)) k d targets ended
+impact_follows old new m n h k d targets ended same shows (inl stopped) = inl stopped
+impact_follows old new m n h k d targets ended same shows (inr (t, there, inl refused)) = inr (t, there, inl refused)
+impact_follows old new m n h k d targets ended same shows (inr (t, there, inr (can, ends))) = inr (
+  t,
+  there,
+  inr (
+    can,
+    answers_weaker verdict_line verdict_status (IsAnswerBehind old t.kconfig t.dotconfig)
+        (λ o answer. FollowsImpact (at old m h) t.kconfig t.dotconfig o answer (at new n h)) targets ended
+        (λ o answer is. record {
+          same = (same, refl);
+          by_files = is.by_files;
+          recorded = λ after report synced r was. is.recorded after report synced h r shows was;
+        }) ends,
+  ),
+)

@@ -46,6 +46,7 @@ refusals_change_nothing (request.Record d t c) r old new plain (Err e, inl refus
 refusals_change_nothing (request.Record d t c) r old new plain (Err e, inr up, told) = given_up r e plain told up.0
 refusals_change_nothing (request.Stale ts) r old new plain ends = ends.0
 refusals_change_nothing (request.Why ts) r old new plain ends = ends.0
+refusals_change_nothing (request.Impact k d ts) r old new plain ends = ends.0
 refusals_change_nothing (request.Outdated t c) r old new plain ends = ends.0
 refusals_change_nothing (request.Batch p) r old new plain (inl stopped) = stopped.0
 refusals_change_nothing (request.Batch p) r old new plain (inr (actions, at, inl memory)) = memory.0
@@ -94,5 +95,6 @@ previews_are_performed k d o (request.Fixdep d' t c) ended behind old new b a eb
 previews_are_performed k d o (request.Record d' t c) ended behind old new b a eb ea s is ends printed = absurd is
 previews_are_performed k d o (request.Stale ts) ended behind old new b a eb ea s is ends printed = absurd is
 previews_are_performed k d o (request.Why ts) ended behind old new b a eb ea s is ends printed = absurd is
+previews_are_performed k d o (request.Impact k' d' ts) ended behind old new b a eb ea s is ends printed = absurd is
 previews_are_performed k d o (request.Outdated t c) ended behind old new b a eb ea s is ends printed = absurd is
 previews_are_performed k d o (request.Batch p) ended behind old new b a eb ea s is ends printed = absurd is

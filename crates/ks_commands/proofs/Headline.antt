@@ -19,8 +19,8 @@ use Rattle.ks_commands.specs.declared.request.Request.{Request}
 use Rattle.ks_commands.specs.declared.request.Request.TheVariants as request
 use Rattle.ks_commands.specs.Endings.{Ending}
 use Rattle.ks_commands.specs.Laws.{BatchTellsChanges, ProgramsTellChanges}
-use Rattle.ks_commands.specs.Performed.{Continues, EndsStale, EndsWhy, FollowsWhy, by_histories}
-use Rattle.ks_commands.specs.Programs.{Chain, ProgramRun, ProgramTellsChanges, TellsCauses, TellsChange, changes_told}
+use Rattle.ks_commands.specs.Performed.{Continues, EndsImpact, EndsStale, EndsWhy, FollowsImpact, FollowsWhy, by_histories}
+use Rattle.ks_commands.specs.Programs.{Chain, ProgramRun, ProgramTellsChanges, TellsBehind, TellsCauses, TellsChange, changes_told}
 use Rattle.ks_commands.specs.Replies.{explanation_lines, verdict_line}
 use Rattle.ks_commands.specs.Statuses.{explanation_status, reply_status, verdict_status, worst}
 use Rattle.ks_commands.specs.Targets.{targets_at}
@@ -74,6 +74,7 @@ none_before_program (request.Fixdep d t c) ended old new is none = subst NoneBro
 none_before_program (request.Record d t c) ended old new is none = none_before_record _ _ _ is.0 old new is.1 none
 none_before_program (request.Stale ts) ended old new is none = subst NoneBroken is.0.1 none
 none_before_program (request.Why ts) ended old new is none = subst NoneBroken is.0.1 none
+none_before_program (request.Impact k d ts) ended old new is none = subst NoneBroken is.0.1 none
 none_before_program (request.Outdated t c) ended old new is none = subst NoneBroken is.0.1 none
 none_before_program (request.Batch p) ended old new (inl stopped) none = subst NoneBroken stopped.0.1 none
 none_before_program (request.Batch p) ended old new (inr (actions, at, inl memory)) none = subst NoneBroken memory.0.1 none
@@ -114,6 +115,23 @@ why_tells old new targets ended none ends =
       causes = λ r was. causes_changed old o answer none (is.recorded r was).suspects;
     }) ends
 
+impact_tells : (old new : TreeState) (k d : List ℕ) (targets : Result (List (List ℕ)) EngineError) (ended : Ending) → NoneBroken old.history
+    → EndsImpact old.files (by_histories old new) k d targets ended → EndsImpact old.files (changes_told old) k d targets ended
+impact_tells old new k d targets ended none (inl stopped) = inl stopped
+impact_tells old new k d targets ended none (inr (t, there, inl refused)) = inr (t, there, inl refused)
+impact_tells old new k d targets ended none (inr (t, there, inr (can, ends))) = inr (
+  t,
+  there,
+  inr (
+    can,
+    answers_weaker verdict_line verdict_status (λ o answer. FollowsImpact old t.kconfig t.dotconfig o answer new) (TellsBehind old t.kconfig t.dotconfig) targets
+        ended (λ o answer is after report synced. record {
+          changed = λ r was. (is.recorded after report synced r was).changed none;
+          safe = λ r was fresh. (is.recorded after report synced r was).safe fresh;
+        }) ends,
+  ),
+)
+
 program_tells : (r : Request) (ended : Ending) (old new : TreeState) → Continues r ended old new → NoneBroken new.history
     → ProgramTellsChanges (record { before = old; request = r; ended = ended; after = new })
 program_tells (request.Sync k d) ended old new (inl stopped) none = inl (tt, stopped.1)
@@ -126,6 +144,8 @@ program_tells (request.Stale ts) ended old new is none =
     (tt, stale_tells old new (targets_at old.files ts) ended (none_before_program (request.Stale ts) ended old new is none) is.1)
 program_tells (request.Why ts) ended old new is none =
     (tt, why_tells old new (targets_at old.files ts) ended (none_before_program (request.Why ts) ended old new is none) is.1)
+program_tells (request.Impact k d ts) ended old new is none =
+    (tt, impact_tells old new _ _ (targets_at old.files ts) ended (none_before_program (request.Impact k d ts) ended old new is none) is.1)
 program_tells (request.Outdated t c) ended old new is none = (tt, (is.1.0, tt, is.1.2))
 program_tells (request.Batch p) ended old new (inl stopped) none = inl (tt, stopped.1)
 program_tells (request.Batch p) ended old new (inr (actions, at, inl memory)) none = inr (actions, at, inl (tt, memory.1))

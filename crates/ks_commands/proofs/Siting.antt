@@ -62,6 +62,7 @@ no_site (request.Fixdep d t c) = refl
 no_site (request.Record d t c) = refl
 no_site (request.Stale ts) = refl
 no_site (request.Why ts) = refl
+no_site (request.Impact k d ts) = refl
 no_site (request.Outdated t c) = refl
 no_site (request.Batch p) = refl
 
@@ -83,6 +84,12 @@ counted_behind (request.Stale ts) r old files m n h plain (same, inl stopped) = 
 counted_behind (request.Stale ts) r old files m n h plain (same, inr (objects, there, text, status, are, told)) = absurd (plain told)
 counted_behind (request.Why ts) r old files m n h plain (same, inl stopped) = (same, inl stopped)
 counted_behind (request.Why ts) r old files m n h plain (same, inr (objects, there, text, status, are, told)) = absurd (plain told)
+counted_behind (request.Impact k d ts) r old files m n h plain (same, inl stopped) = (same, inl stopped)
+counted_behind (request.Impact k d ts) r old files m n h plain (same, inr (t, there, inl refused)) = (same, inr (t, there, inl refused))
+counted_behind (request.Impact k d ts) r old files m n h plain (same, inr (t, there, inr (can, inl stopped))) =
+    (same, inr (t, there, inr (can, inl stopped)))
+counted_behind (request.Impact k d ts) r old files m n h plain (same, inr (t, there, inr (can, inr (objects, at, text, status, are, told)))) =
+    absurd (plain told)
 counted_behind (request.Outdated t c) r old files m n h plain (same, (answer, outdated, told)) = absurd (plain told)
 counted_behind (request.Batch p) r old files m n h plain (inl stopped) = inl stopped
 counted_behind (request.Batch p) r old files m n h plain (inr (actions, there, inl memory)) = no_memory r plain memory.1

@@ -1,14 +1,19 @@
 -- What is told of objects, one after the other.
-use Rattle.std.proofs.Common.{◌≡◌, ◌∙◌, ◌<◌, ◌+◌, ◌++◌, ℕ, List, [], ◌∷◌, Result, Ok, inl, inr, refl, sym, ap, ap₂, map, max, take, length, get_or, flat_map, append-nil}
+use Rattle.std.proofs.Common.{◌≡◌, ◌∙◌, ◌<◌, ◌+◌, ◌++◌, ℕ, List, [], ◌∷◌, Result, Ok, Err, IfOk, OnOk, inl, inr, refl, sym, ap, ap₂, map, max, take, length, get_or, flat_map, append-nil}
 use Rattle.std.specs.List.{All}
 use Rattle.std.proofs.lemmas.List.{map-append, take_more}
 use Rattle.std.proofs.lemmas.List.Elements.{All-append, All-nil, All-cons, All-weaker}
 use Rattle.std.proofs.lemmas.List.Sums.{fold-append}
 use Rattle.std.proofs.lemmas.Grind.{flat_map-append}
+use Rattle.ks_tree.specs.Files.{Files}
 use Rattle.ks_engine.specs.declared.error.EngineError.{EngineError}
+use Rattle.ks_engine.specs.declared.impact.Impact.{Impact}
+use Rattle.ks_engine.specs.Impact.{IsImpactOf}
+use Rattle.ks_commands.specs.declared.status.Status.{Status}
 use Rattle.ks_commands.specs.Endings.{Ending}
-use Rattle.ks_commands.specs.Performed.{EndsAll, TellsAll, TellsAnswer}
-use Rattle.ks_commands.specs.Statuses.{worst}
+use Rattle.ks_commands.specs.Performed.{EndsAll, IsAnswerBehind, TellsAll, TellsAnswer}
+use Rattle.ks_commands.specs.Replies.{answer_line, verdict_line}
+use Rattle.ks_commands.specs.Statuses.{code_of, status_unless_refused, verdict_status, worst}
 
 abbrev Part : Type 0
 Part = List ℕ × List ℕ × ℕ
@@ -68,6 +73,24 @@ pub answers_weaker : {A : Type 0} (line : List ℕ → A → List ℕ) (status_o
 answers_weaker line status_of P Q targets ended f ends =
     ends_weaker (TellsAnswer line status_of P) (TellsAnswer line status_of Q) targets ended
     (λ o lines status is. (is.0, f o is.0 is.1, is.2, is.3)) ends
+
+-- .. and what is answered behind the synchronisation of two texts
+pub impact_known : (files : Files) (impact : Impact) (kconfig dotconfig : List ℕ) (targets : Result (List (List ℕ)) EngineError) (ended : Ending)
+    → IsImpactOf files kconfig dotconfig impact
+    → EndsAll (TellsAnswer verdict_line verdict_status (λ o answer. (k d : List ℕ) → IsImpactOf files k d impact → IsAnswerBehind files k d o answer)) targets
+    ended
+    → EndsAll (TellsAnswer verdict_line verdict_status (IsAnswerBehind files kconfig dotconfig)) targets ended
+impact_known files impact kconfig dotconfig targets ended told ends =
+    answers_weaker verdict_line verdict_status (λ o answer. (k d : List ℕ) → IsImpactOf files k d impact → IsAnswerBehind files k d o answer)
+    (IsAnswerBehind files kconfig dotconfig) targets ended (λ o answer is. is kconfig dotconfig told) ends
+
+-- an answer that is written
+pub answer_told : {A E : Type 0} (line : List ℕ → A → List ℕ) (status_of : A → ℕ) (answers : List ℕ → Result A EngineError → Type 0) (o : List ℕ)
+    (answer : Result A EngineError) (before after : List ℕ) (r : Result Status E) → answers o answer → OnOk r (after ≡ before ++ answer_line line o answer)
+    → IfOk r (λ s. code_of s ≡ status_unless_refused status_of answer)
+    → IfOk r (λ s. (lines : List ℕ) × (after ≡ before ++ lines) × TellsAnswer line status_of answers o lines (code_of s))
+answer_told line status_of answers o answer before after (Ok s) is more this = (answer_line line o answer, more, (answer, is, refl, this))
+answer_told line status_of answers o answer before after (Err e) is more this = this
 
 -- the views of one element more
 pub map-take_more : {X Y : Type 0} (f : X → Y) (xs : List X) (i : ℕ) (d : X) → i < length xs → map f (take i xs) ++ f (get_or xs i d) ∷ []

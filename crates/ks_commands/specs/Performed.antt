@@ -17,7 +17,8 @@ use Rattle.ks_engine.specs.Asked.{asked, IsAnswer}
 use Rattle.ks_engine.specs.BuildStates.{build_asked, IsBuildState}
 use Rattle.ks_engine.specs.Explained.{ExplainsRecorded, IsExplained, IsExplanationJudged}
 use Rattle.ks_engine.specs.Follows.{TreeState, at, IsSame, GoesOn, FollowsSync, FollowsRecord}
-use Rattle.ks_engine.specs.History.{History, LastRecord, last_record}
+use Rattle.ks_engine.specs.History.{History, LastRecord, Synced, last_record}
+use Rattle.ks_engine.specs.Impact.{AnswersBehind, JudgesBehind}
 use Rattle.ks_engine.specs.Judged.{IsJudged, IsBuildJudged}
 use Rattle.ks_engine.specs.Recorded.{IsRecorded, IsRecordRefused}
 use Rattle.ks_engine.specs.Refusals.{Answers, GaveUp, IsGivenUp}
@@ -29,7 +30,7 @@ use Rattle.ks_commands.specs.declared.preview.PreviewError.{PreviewError}
 use Rattle.ks_commands.specs.declared.preview.PreviewError.TheVariants.{Output as PreviewOutput}
 use Rattle.ks_commands.specs.declared.refusal.Refusal.TheVariants.{Engine}
 use Rattle.ks_commands.specs.declared.request.Request.{Request}
-use Rattle.ks_commands.specs.declared.request.Request.TheVariants.{Batch, Diff, Fixdep, Outdated, Preview, Record, Stale, Sync, Why}
+use Rattle.ks_commands.specs.declared.request.Request.TheVariants.{Batch, Diff, Fixdep, Impact, Outdated, Preview, Record, Stale, Sync, Why}
 use Rattle.ks_commands.specs.declared.status.Status.TheVariants.{Done}
 use Rattle.ks_commands.specs.Differences.{IsDiff}
 use Rattle.ks_commands.specs.Endings.{Answered, Ending, Stopped, Tells}
@@ -49,6 +50,7 @@ pub record Effects : Type 1 where
   pub recording : (depfile target command : List ℕ) → Result RecordAnswer EngineError → Type 0
   pub stale : (target : List ℕ) → Result Verdict EngineError → Type 0
   pub why : (target : List ℕ) → Result Explanation EngineError → Type 0
+  pub impact : (kconfig dotconfig target : List ℕ) → Result Verdict EngineError → Type 0
   pub outdated : (target command : List ℕ) → Result BuildState EngineError → Type 0
   pub run : List Action → List Reply → Type 0
 
@@ -70,13 +72,17 @@ EndsPreview files k d o ended =
     ⊎ ((i : Inputs) × (inputs_at files k d o ≡ Ok i) × (((text : List ℕ) × IsPreview i.kconfig i.dotconfig i.old text × Tells text 0 ended)
     ⊎ ((e : PreviewError) × (e ≢ PreviewOutput) × IsPreviewRefusal e (preview_refusal i.kconfig i.dotconfig i.old) × (ended ≡ Err (of_preview e)))))
 
+-- A synchronisation of these texts is refused before its first write, or memory or the device fails before that.
+abbrev pub StoppedSync : Files → Texts → Ending → Type 0
+StoppedSync files t ended = (e : EngineError) × (IsGivenUp e ⊎ IsSyncPlan files t.kconfig t.dotconfig (Err e)) × (ended ≡ Err (Engine e))
+
 -- What a synchronisation would touch, told; or the refusal that it would have before its first write.
 abbrev pub EndsDiff : Files → List ℕ → List ℕ → Ending → Type 0
 EndsDiff files k d ended =
     Stopped (texts_at files k d) ended
     ⊎ ((t : Texts) × (texts_at files k d ≡ Ok t)
     × (((text : List ℕ) × IsDiff files t.kconfig t.dotconfig text × Tells text 0 ended)
-    ⊎ ((e : EngineError) × (IsGivenUp e ⊎ IsSyncPlan files t.kconfig t.dotconfig (Err e)) × (ended ≡ Err (Engine e)))))
+    ⊎ StoppedSync files t ended))
 
 abbrev pub EndsFixdep : Files → List ℕ → List ℕ → List ℕ → Ending → Type 0
 EndsFixdep files d t c ended =
@@ -108,6 +114,18 @@ EndsStale effects targets ended = EndsAll (TellsAnswer verdict_line verdict_stat
 abbrev pub EndsWhy : Effects → Result (List (List ℕ)) EngineError → Ending → Type 0
 EndsWhy effects targets ended = EndsAll (TellsAnswer explanation_lines explanation_status effects.why) targets ended
 
+-- There is a tree that a completed synchronisation of these texts leaves.
+abbrev pub CanBeSynced : Files → Texts → Type 0
+CanBeSynced files t = (after : Files) × (report : Report) × IsSynced files after t.kconfig t.dotconfig report
+
+-- What would be stale behind a synchronisation, told; or the refusal that it would have before its first write.
+abbrev pub EndsImpact : Files → Effects → List ℕ → List ℕ → Result (List (List ℕ)) EngineError → Ending → Type 0
+EndsImpact files effects k d targets ended =
+    Stopped (texts_at files k d) ended
+    ⊎ ((t : Texts) × (texts_at files k d ≡ Ok t)
+    × (StoppedSync files t ended
+    ⊎ (CanBeSynced files t × EndsAll (TellsAnswer verdict_line verdict_status (effects.impact t.kconfig t.dotconfig)) targets ended)))
+
 abbrev pub EndsOutdated : Effects → List ℕ → List ℕ → Ending → Type 0
 EndsOutdated effects o c ended =
     (answer : Result BuildState EngineError) × effects.outdated o c answer
@@ -133,6 +151,8 @@ Ends files effects (Fixdep d t c) ended = effects.same × EndsFixdep files (stri
 Ends files effects (Record d t c) ended = EndsRecord effects (string_bytes d) (string_bytes t) (string_bytes c) ended
 Ends files effects (Stale targets) ended = effects.same × EndsStale effects (targets_at files targets) ended
 Ends files effects (Why targets) ended = effects.same × EndsWhy effects (targets_at files targets) ended
+Ends files effects (Impact k d targets) ended =
+    effects.same × EndsImpact files effects (string_bytes k) (string_bytes d) (targets_at files targets) ended
 Ends files effects (Outdated t c) ended = effects.same × EndsOutdated effects (string_bytes t) (string_bytes c) ended
 Ends files effects (Batch script) ended = EndsBatch files effects (string_bytes script) ended
 
@@ -157,6 +177,11 @@ pub record IsExplanationOn (files : Files) (o : List ℕ) (answer : Result Expla
   pub verdict : IfOk answer (λ e. IsAnswer files (asked files o) (Ok e.verdict))
   pub recorded : ExplainsRecorded files o answer
 
+-- what is answered over each tree that a completed synchronisation of these texts leaves
+pub record IsAnswerBehind (files : Files) (k d o : List ℕ) (answer : Result Verdict EngineError) : Type 0 where
+  pub by_files : AnswersBehind files k d o answer
+  pub recorded : JudgesBehind files k d o answer
+
 pub record IsStateOf (files : Files) (o command : List ℕ) (answer : Result BuildState EngineError) : Type 0 where
   pub by_files : GaveUp answer ⊎ IsBuildState files (build_asked files o command) answer
   pub recorded : IsTrue (is_command command) → (h : History) (r : LastRecord)
@@ -170,6 +195,7 @@ by_files old new = record {
   recording = LeavesRecord old new;
   stale = IsAnswerOn old;
   why = IsExplanationOn old;
+  impact = IsAnswerBehind old;
   outdated = IsStateOf old;
   run = λ actions replies. length replies ≡ length actions;
 }
@@ -182,6 +208,13 @@ pub record FollowsWhy (old : TreeState) (o : List ℕ) (answer : Result Explanat
   pub by_files : GaveUp answer ⊎ IsExplained old.files o answer
   pub verdict : IfOk answer (λ e. IsAnswer old.files (asked old.files o) (Ok e.verdict))
   pub recorded : (r : LastRecord) → last_record old.history o ≡ Some r → IsExplanationJudged old.files old.history o r answer
+
+-- of two texts and an object: judged by the history with their synchronisation added
+pub record FollowsImpact (old : TreeState) (k d o : List ℕ) (answer : Result Verdict EngineError) (new : TreeState) : Type 0 where
+  pub same : IsSame old new
+  pub by_files : AnswersBehind old.files k d o answer
+  pub recorded : (after : Files) (report : Report) (synced : IsSynced old.files after k d report) (r : LastRecord) → last_record old.history o ≡ Some r
+      → IsJudged after (Synced synced.plan.title synced.plan.config old.history) o r answer
 
 -- of an object and a command
 pub record FollowsOutdated (old : TreeState) (o command : List ℕ) (answer : Result BuildState EngineError) (new : TreeState) : Type 0 where
@@ -200,6 +233,7 @@ by_histories old new = record {
   recording = λ d t c answer. FollowsRecord d t c answer old new;
   stale = λ o answer. FollowsStale old o answer new;
   why = λ o answer. FollowsWhy old o answer new;
+  impact = λ k d o answer. FollowsImpact old k d o answer new;
   outdated = λ o command answer. FollowsOutdated old o command answer new;
   run = Runs old new;
 }

@@ -3,17 +3,20 @@ use Rattle.std.specs.Prelude.{◌≡◌, ◌⊎◌, ℕ, List, [], ◌∷◌, So
 use Rattle.std.specs.List.{All}
 use Rattle.ks_engine.specs.declared.commands.Reply.{Reply}
 use Rattle.ks_engine.specs.declared.error.EngineError.{EngineError}
+use Rattle.ks_tree.specs.Files.{Files}
 use Rattle.ks_engine.specs.declared.explaining.Explanation.{Explanation}
 use Rattle.ks_engine.specs.declared.staleness.Verdict.{Verdict}
+use Rattle.ks_engine.specs.declared.synchronise.Report.{Report}
 use Rattle.ks_engine.specs.declared.staleness.Verdict.TheVariants.{Fresh}
 use Rattle.ks_engine.specs.Actions.{Action}
 use Rattle.ks_engine.specs.Explained.{told}
-use Rattle.ks_engine.specs.Follows.{TreeState, IsSame}
-use Rattle.ks_engine.specs.History.{LastRecord, last_record}
+use Rattle.ks_engine.specs.Follows.{TreeState, IsSame, at}
+use Rattle.ks_engine.specs.History.{LastRecord, Synced, last_record}
 use Rattle.ks_engine.specs.Judged.{HasSameDefinitions}
 use Rattle.ks_engine.specs.Refusals.{GaveUp}
 use Rattle.ks_engine.specs.Runs.{IsShown, Step}
 use Rattle.ks_engine.specs.Staleness.{changed_since, first_changed, found, verdict}
+use Rattle.ks_engine.specs.Synchronised.{IsSynced}
 use Rattle.ks_engine.specs.Verdicts.{IsChangedVerdict}
 use Rattle.ks_commands.specs.declared.request.Request.{Request}
 use Rattle.ks_commands.specs.Endings.{Ending}
@@ -42,6 +45,11 @@ pub record TellsCauses (s : TreeState) (o : List ℕ) (answer : Result Explanati
   pub causes : (r : LastRecord) → last_record s.history o ≡ Some r
       → IfOk answer (λ e. map (λ c. c.name) e.causes.items ≡ filter (changed_since s.history o) (found s.history o))
 
+-- So does an answer behind a synchronisation of two texts, of each state that this would leave.
+abbrev pub TellsBehind : TreeState → List ℕ → List ℕ → List ℕ → Result Verdict EngineError → Type 0
+TellsBehind s k d o answer = (after : Files) (report : Report) (synced : IsSynced s.files after k d report)
+    → TellsChange (at after s.failures (Synced synced.plan.title synced.plan.config s.history)) o answer
+
 -- the steps of a script's run, whose verdicts do the same
 abbrev pub StepsTellChanges : List Action → List Reply → Type 0
 StepsTellChanges actions replies = (steps : List Step) × (map (λ step. step.action) steps ≡ actions) × (map (λ step. step.reply) steps ≡ replies)
@@ -54,6 +62,7 @@ changes_told s = record {
   recording = λ d t c answer. ⊤;
   stale = TellsChange s;
   why = TellsCauses s;
+  impact = TellsBehind s;
   outdated = λ o command answer. ⊤;
   run = StepsTellChanges;
 }

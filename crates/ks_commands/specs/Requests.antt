@@ -1,7 +1,7 @@
 -- What is asked of the program, without where its words lie.
 use Rattle.std.specs.Prelude.{◌≡◌, ℕ, List, Option, option_map, string_bytes, ⊤}
 use Rattle.ks_commands.specs.declared.request.Request.{Request}
-use Rattle.ks_commands.specs.declared.request.Request.TheVariants.{Batch, Outdated, Preview, Stale, Why}
+use Rattle.ks_commands.specs.declared.request.Request.TheVariants.{Batch, Impact, Outdated, Preview, Stale, Why}
 
 -- the request is a preview of these two files, over this old auto.conf if there is one
 abbrev pub IsPreviewOf : List ℕ → List ℕ → Option (List ℕ) → Request → Type 0
@@ -18,6 +18,7 @@ IsBatchOf path _ = ⊥
 abbrev pub IsNoQuestion : Request → Type 0
 IsNoQuestion (Stale targets) = ⊥
 IsNoQuestion (Why targets) = ⊥
+IsNoQuestion (Impact kconfig dotconfig targets) = ⊥
 IsNoQuestion (Outdated target command) = ⊥
 IsNoQuestion (Batch script) = ⊥
 IsNoQuestion _ = ⊤

@@ -11,7 +11,7 @@ use Rattle.ks_engine.specs.declared.error.EngineError.TheVariants.{BadAuto, BadP
 use Rattle.ks_commands.specs.declared.refusal.Refusal.{Refusal}
 use Rattle.ks_commands.specs.declared.refusal.Refusal.TheVariants.{Engine, BadScript}
 use Rattle.ks_commands.specs.declared.request.Request.{Request}
-use Rattle.ks_commands.specs.declared.request.Request.TheVariants.{Batch, Diff, Fixdep, Outdated, Preview, Record, Stale, Sync, Why}
+use Rattle.ks_commands.specs.declared.request.Request.TheVariants.{Batch, Diff, Fixdep, Impact, Outdated, Preview, Record, Stale, Sync, Why}
 use Rattle.ks_commands.specs.declared.sites.Part.{Part}
 use Rattle.ks_commands.specs.declared.sites.Part.TheVariants.{Whole, Line, Token}
 use Rattle.ks_commands.specs.Endings.{Ending}
@@ -59,6 +59,7 @@ abbrev pub site_of : Request → Refusal → Option Site
 site_of (Sync k d) refusal = config_site (string_bytes k) (string_bytes d) (Some auto_path) refusal
 site_of (Preview k d o) refusal = config_site (string_bytes k) (string_bytes d) (option_map (λ path. string_bytes path) o) refusal
 site_of (Diff k d) refusal = config_site (string_bytes k) (string_bytes d) (Some auto_path) refusal
+site_of (Impact k d targets) refusal = config_site (string_bytes k) (string_bytes d) (Some auto_path) refusal
 site_of (Fixdep d t c) refusal = depfile_site (string_bytes d) refusal
 site_of (Record d t c) refusal = record_site (string_bytes d) refusal
 site_of (Batch script) refusal = script_site (string_bytes script) refusal

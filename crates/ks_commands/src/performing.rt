@@ -21,7 +21,7 @@ use crate::fixdep::command_file_text;
 use crate::inputs::{inputs_at, lent, lent_path};
 use crate::output::{print, refuse, refuse_at};
 use crate::preview::preview_of;
-use crate::questions::{Question, ask_targets, outdated_target};
+use crate::questions::{Question, ask_behind, ask_targets, outdated_target};
 use crate::refusal::Refusal;
 use crate::request::Request;
 use crate::sites::site_of;
@@ -107,6 +107,17 @@ fn outcome<T: Tree>(alloc: Global, tree: &mut T, request: &Request) -> Result<Ou
         }
         Request::Stale { targets } => ask_targets(alloc, tree, &Question::Stale, targets),
         Request::Why { targets } => ask_targets(alloc, tree, &Question::Why, targets),
+        Request::Impact {
+            kconfig,
+            dotconfig,
+            targets,
+        } => ask_behind(
+            alloc,
+            tree,
+            kconfig.as_bytes(),
+            dotconfig.as_bytes(),
+            targets,
+        ),
         Request::Outdated { target, command } => {
             outdated_target(alloc, tree, target.as_bytes(), command.as_bytes())
         }

@@ -1,4 +1,5 @@
-//! The questions about objects: which of them are stale, and why; and whether one was built by a command.
+//! The questions about objects: which of them are stale, why, and which would be behind a synchronisation; and whether one was
+//! built by a command.
 //!
 //! A refused question is a line of the output, and the questions after it are still answered.
 ghost use Rattle.std.specs.Prelude.{◌≡◌, ◌++◌, ℕ, List, Err, IfOk, OnOk, map};
@@ -6,13 +7,13 @@ ghost use Rattle.ks_tree.specs.Frames.{Reads};
 ghost use Rattle.ks_engine.specs.Memos.{IsMemoOf};
 ghost use Rattle.ks_engine.specs.declared.error.EngineError.TheVariants.{Device};
 ghost use Rattle.ks_commands.specs.declared.refusal.Refusal.TheVariants.{Engine};
-ghost use Rattle.ks_commands.specs.Performed.{EndsAll, EndsOutdated, TellsAll, by_files};
+ghost use Rattle.ks_commands.specs.Performed.{EndsAll, EndsImpact, EndsOutdated, TellsAll, by_files};
 ghost use Rattle.ks_commands.specs.Questions.{tells_of};
 ghost use Rattle.ks_commands.specs.Replies.{answer_line, explanation_lines, verdict_line};
 ghost use Rattle.ks_commands.specs.Statuses.{code_of, explanation_status, status_unless_refused, verdict_status};
 ghost use Rattle.ks_commands.specs.Targets.{targets_at};
 
-use crate::inputs::lent;
+use crate::inputs::{lent, texts_at};
 use crate::refusal::Refusal;
 use crate::replies::{
     build_status, verdict_status, write_build_line, write_explanation, write_refused_target,
@@ -21,16 +22,19 @@ use crate::replies::{
 use crate::request::Targets;
 use crate::status::{Outcome, Status, worse};
 use crate::targets::{all_targets, read_targets};
-use ks_engine::{EngineError, Explanation, Memo, Verdict, explain_by, outdated, stale_by};
+use ks_engine::{EngineError, Explanation, Impact, Memo, Verdict, explain_by, outdated, stale_by};
 use ks_tree::Tree;
 use std::alloc::{AllocError, Global};
 
 /// What is asked of each object.
-pub(crate) enum Question {
+#[derive(Clone, Copy)]
+pub(crate) enum Question<'a> {
     /// Whether it is stale.
     Stale,
     /// Whether it is, and all that speaks for it.
     Why,
+    /// Whether it would be stale behind this synchronisation.
+    Behind(&'a Impact),
 }
 
 /// Writes the line of an answer.
@@ -80,7 +84,7 @@ fn ask<T: Tree>(
     alloc: Global,
     tree: &mut T,
     memo: &mut Memo,
-    question: &Question,
+    question: &Question<'_>,
     target: &[u8],
     text: &mut Vec<u8>,
 ) -> Result<Status, AllocError>
@@ -99,6 +103,10 @@ fn ask<T: Tree>(
             let answer = explain_by(alloc, tree, memo, target);
             tell_explanation(target, &answer, text)
         }
+        Question::Behind(impact) => {
+            let answer = impact.stale_by(alloc, tree, memo, target);
+            tell_verdict(target, &answer, text)
+        }
     }
 }
 
@@ -106,7 +114,7 @@ fn ask<T: Tree>(
 fn ask_all<T: Tree>(
     alloc: Global,
     tree: &mut T,
-    question: &Question,
+    question: &Question<'_>,
     targets: &[&[u8]],
 ) -> Result<Outcome, AllocError>
     ensures reads { Reads T.Tree tree.old tree.new ⊥ }
@@ -127,7 +135,7 @@ fn ask_all<T: Tree>(
 pub(crate) fn ask_targets<T: Tree>(
     alloc: Global,
     tree: &mut T,
-    question: &Question,
+    question: &Question<'_>,
     targets: &Targets,
 ) -> Result<Outcome, Refusal>
     ensures reads { Reads T.Tree tree.old tree.new (result ≡ Err (Engine Device)) }
@@ -136,6 +144,23 @@ pub(crate) fn ask_targets<T: Tree>(
     let text = read_targets(alloc, tree, targets)?;
     let targets = all_targets(alloc, targets, lent(&text))?;
     Ok(ask_all(alloc, tree, question, &targets)?)
+}
+
+/// Asks of each object whether it would be stale behind a synchronisation with the files that two words name.
+pub(crate) fn ask_behind<T: Tree>(
+    alloc: Global,
+    tree: &mut T,
+    kconfig: &[u8],
+    dotconfig: &[u8],
+    targets: &Targets,
+) -> Result<Outcome, Refusal>
+    ensures reads { Reads T.Tree tree.old tree.new (result ≡ Err (Engine Device)) }
+    ensures told { T.is_honest → EndsImpact (T.files tree.old) (by_files (T.files tree.old) (T.files tree.new)) kconfig.now dotconfig.now
+        (targets_at (T.files tree.old) targets.now) result }
+{
+    let texts = texts_at(alloc, tree, kconfig, dotconfig)?;
+    let impact = Impact::of(alloc, tree, &texts.kconfig, &texts.dotconfig)?;
+    ask_targets(alloc, tree, &Question::Behind(&impact), targets)
 }
 
 /// Asks whether an object was built by another command, or else whether it is stale.

@@ -46,6 +46,12 @@ pub enum Request {
     Why {
         targets: Targets,
     },
+    /// Which of these objects would be stale behind a synchronisation.
+    Impact {
+        kconfig: String,
+        dotconfig: String,
+        targets: Targets,
+    },
     /// Whether an object was built by another command, or is stale.
     Outdated {
         target: String,

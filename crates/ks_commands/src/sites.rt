@@ -133,7 +133,13 @@ pub(crate) fn site_of<'a>(request: &'a Request, refusal: &Refusal) -> Option<Sit
     ensures { option_map seen_site result ≡ site_of request.now refusal.now }
 {
     match request {
-        Request::Sync { kconfig, dotconfig } | Request::Diff { kconfig, dotconfig } => config_site(
+        Request::Sync { kconfig, dotconfig }
+        | Request::Diff { kconfig, dotconfig }
+        | Request::Impact {
+            kconfig,
+            dotconfig,
+            ..
+        } => config_site(
             kconfig.as_bytes(),
             dotconfig.as_bytes(),
             Some(auto_path()),

@@ -5,7 +5,7 @@ use super::*;
 #[rattlefmt::skip]
 fn words_are_taken_as_meant(rt: HostRuntime) -> Result<(), Fail> {
     let alloc = rt.alloc();
-    let rows: [(&str, &[&str], &str); 24] = [
+    let rows: [(&str, &[&str], &str); 26] = [
         ("sync", &["sync", "K", "c"], r#"Sync { kconfig: "K", dotconfig: "c" }"#),
         ("a first preview", &["preview", "K", "c"], r#"Preview { kconfig: "K", dotconfig: "c", old: None }"#),
         ("a preview", &["preview", "K", "c", "a"], r#"Preview { kconfig: "K", dotconfig: "c", old: Some("a") }"#),
@@ -20,6 +20,8 @@ fn words_are_taken_as_meant(rt: HostRuntime) -> Result<(), Fail> {
         ("a word that looks like one", &["stale", "--", "--from", "f"], r#"Stale { targets: Targets { words: ["--from", "f"], from: None } }"#),
         ("why of several", &["why", "x.o", "z.o"], r#"Why { targets: Targets { words: ["x.o", "z.o"], from: None } }"#),
         ("why of a word and a file", &["why", "--from", "f", "x.o"], r#"Why { targets: Targets { words: ["x.o"], from: Some("f") } }"#),
+        ("impact of several", &["impact", "K", "c", "x.o", "z.o"], r#"Impact { kconfig: "K", dotconfig: "c", targets: Targets { words: ["x.o", "z.o"], from: None } }"#),
+        ("impact of a file", &["impact", "--from", "f", "K", "c"], r#"Impact { kconfig: "K", dotconfig: "c", targets: Targets { words: [], from: Some("f") } }"#),
         ("batch", &["batch", "steps"], r#"Batch { script: "steps" }"#),
         ("outdated", &["outdated", "x.o", "cc"], r#"Outdated { target: "x.o", command: "cc" }"#),
         ("an empty command", &["outdated", "x.o", ""], r#"Outdated { target: "x.o", command: "" }"#),
@@ -45,7 +47,7 @@ fn words_are_taken_as_meant(rt: HostRuntime) -> Result<(), Fail> {
 #[rattlefmt::skip]
 fn words_that_are_no_command(rt: HostRuntime) -> Result<(), Fail> {
     let alloc = rt.alloc();
-    let rows: [(&str, &[&str]); 25] = [
+    let rows: [(&str, &[&str]); 26] = [
         ("no words", &[]),
         ("another command", &["bogus"]),
         ("a command with an empty name", &["", "K", "c"]),
@@ -60,6 +62,7 @@ fn words_that_are_no_command(rt: HostRuntime) -> Result<(), Fail> {
         ("preview of four", &["preview", "K", "c", "a", "b"]),
         ("diff of one word", &["diff", "K"]),
         ("diff of three", &["diff", "K", "c", "a"]),
+        ("impact of one word", &["impact", "K"]),
         ("fixdep of two words", &["fixdep", "x.d", "x.o"]),
         ("fixdep of four", &["fixdep", "x.d", "x.o", "cc", "-c"]),
         ("record of two words", &["record", "x.d", "x.o"]),

@@ -21,5 +21,5 @@ loop-usage-preserved c =
 
 pub returns : goal.returns
 returns c =
-    let all : c.loop-usage.usage-index ≡ 9 = omega arith in
+    let all : c.loop-usage.usage-index ≡ 10 = omega arith in
     c.loop-usage.invariant ∙ rw all refl

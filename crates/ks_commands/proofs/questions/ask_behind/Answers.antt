@@ -1,0 +1,45 @@
+use Rattle.std.proofs.Common.{inl, inr, List, ℕ, Err, ap, subst, ◌∙◌}
+use Rattle.std.proofs.lemmas.Result.{err_from_is_err_and}
+use Rattle.ks_engine.specs.Impact.{IsImpactOf}
+use Rattle.ks_commands.specs.Performed.{EndsAll, IsAnswerBehind, TellsAnswer}
+use Rattle.ks_commands.specs.Replies.{verdict_line}
+use Rattle.ks_commands.specs.Statuses.{verdict_status}
+use Rattle.ks_commands.specs.Targets.{targets_at}
+use Rattle.ks_commands.specs.Views.{seen_texts}
+use Rattle.ks_commands.proofs.Verdicts.{impact_known}
+use Rattle.ks_commands.proofs.questions.ask_behind.Goals as goal
+
+pub returns-in_err-impact-clause-told : goal.returns-in_err-impact-clause-told
+returns-in_err-impact-clause-told g c = λ honest.
+    let p = err_from_is_err_and c.from_residual-in_err-impact.result c.from_residual-in_err-impact.ensures.1 in
+    let same = c.in_ok-texts.ensures.reads.unchanged honest in
+    inr (
+      seen_texts c.in_ok-texts.texts,
+      c.in_ok-texts.ensures.texts honest,
+      inl (
+        c.in_err-impact.field-0.0,
+        rw (← c.deref.ensures.value, ← c.deref-2.ensures.value, ← same) (c.in_err-impact.ensures.refused honest),
+        p.1 ∙ ap (λ r. Err r) p.2,
+      ),
+    )
+
+pub returns-clause-told : goal.returns-clause-told
+returns-clause-told g c = λ honest.
+    let files = g.T.Tree.files c.args.tree.now in
+    let texts = seen_texts c.in_ok-texts.texts in
+    let impact = c.in_ok-impact.impact in
+    let same = c.in_ok-texts.ensures.reads.unchanged honest in
+    let told : IsImpactOf files texts.kconfig texts.dotconfig impact
+    = rw (← c.deref.ensures.value, ← c.deref-2.ensures.value, ← same) (c.in_ok-impact.ensures.told honest) in
+    inr (
+      texts,
+      c.in_ok-texts.ensures.texts honest,
+      inr (
+        (told.0, impact.report, told.1),
+        impact_known files impact texts.kconfig texts.dotconfig (targets_at files c.args.targets.now) c.ask_targets.result told
+            (subst
+            (λ f. EndsAll (TellsAnswer verdict_line verdict_status (λ o answer. (k d : List ℕ) → IsImpactOf f k d impact → IsAnswerBehind f k d o answer))
+            (targets_at f c.args.targets.now) c.ask_targets.result)
+            (c.in_ok-impact.ensures.reads.unchanged honest ∙ same) (c.ask_targets.ensures.told honest)),
+      ),
+    )

@@ -1,5 +1,9 @@
 -- Tables: the records of names, the map that lines make of each other, and the entries of a map.
-use Rattle.std.specs.Prelude.{ℕ, Bool, false, List, [], ◌∷◌, Option, Some, None, cond, option_map, slice_range, bytes_eq, ◌≤◌}
+use Rattle.std.specs.Prelude.{ℕ, Bool, false, List, [], ◌∷◌, Option, Some, None, cond, option_map, slice_index, slice_range, bytes_eq, ◌≤◌, ◌≡◌, ◌+◌, ◌*◌}
+use Rattle.std.specs.List.{All}
+use Rattle.std.specs.Ordering.{nat_cmp, ordering_then}
+use Rattle.std.specs.Cmp.Lexicographic.{slice_cmp}
+use Rattle.std.specs.declared.cmp.Ordering.{Ordering}
 use Rattle.std.specs.Borrow.{Bor}
 use Rattle.std.specs.FinMap as map
 use Rattle.ks_symbols.specs.Configuration.{NameMap}
@@ -23,6 +27,18 @@ said_in bytes r = (name_in bytes r, option_map (λ v. (v, text_in bytes r)) r.va
 abbrev pub LieIn : {V : Type 0} → ℕ → List (Record V) → Type 0
 LieIn n [] = Unit {0}
 LieIn n (r ∷ rs) = (r.middle ≤ n) × (r.end ≤ n) × LieIn n rs
+
+-- the first four bytes of a name as one number, 0 where there is none
+abbrev pub head_of : List ℕ → ℕ
+head_of name = (slice_index name 0 * 256 + slice_index name 1) * 65536 + (slice_index name 2 * 256 + slice_index name 3)
+
+-- Each record has the head of its name.
+abbrev pub AreHeaded : {V : Type 0} → List ℕ → List (Record V) → Type 0
+AreHeaded bytes rs = All (λ r. r.head ≡ head_of (name_in bytes r)) rs
+
+-- how records stand to each other by their heads, and then by their names
+abbrev pub by_heads : {V : Type 0} → List ℕ → Record V → Record V → Ordering
+by_heads bytes a b = ordering_then (nat_cmp a.head b.head) (slice_cmp nat_cmp (name_in bytes a) (name_in bytes b))
 
 -- the map after a line, which gives a name something or takes away what it had
 abbrev pub after_line : {X : Type 0} → NameMap X → List ℕ → Option X → NameMap X

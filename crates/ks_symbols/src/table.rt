@@ -2,8 +2,9 @@
 //! records of them in another one, in rising order of the names and none twice.
 //!
 //! A configuration is read line by line, compared and written, and never changed in between. So lines are kept as they
-//! come, in a `Draft`, and put in order once, when it is closed. Of several lines about a name the last counts.
-ghost use Rattle.std.specs.Prelude.{◌≡◌, OnOk, IfOk, List, ℕ, T, map as map_list, option_map, slice_range};
+//! come, in a `Draft`, and put in order once, when it is closed. Of several lines about a name the last counts. A record has
+//! the first bytes of its name besides, so that most names are told apart without a look at where they lie.
+ghost use Rattle.std.specs.Prelude.{◌≡◌, OnOk, IfOk, List, ℕ, T, map as map_list, option_map, slice_index, slice_range, ◌<◌};
 ghost use Rattle.std.specs.FinMap as map;
 ghost use Rattle.std.specs.FinMap.{find, is_sorted};
 ghost use Rattle.std.specs.Iterator.{item_count};
@@ -11,9 +12,10 @@ ghost use Rattle.std.specs.Map.Iter.{TakesFirst};
 ghost use Rattle.std.specs.Ordering.{nat_cmp};
 ghost use Rattle.std.specs.Cmp.Lexicographic.{slice_cmp};
 ghost use Rattle.std.specs.List.Sorted.{IsSortedByKey, IsStableByKey};
-ghost use Rattle.ks_symbols.specs.Table.{name_in, text_in, entry_in, said_in, after_line, begins_with, last_ones, lent_row};
+ghost use Rattle.ks_symbols.specs.Table.{name_in, text_in, entry_in, said_in, after_line, begins_with, last_ones, lent_row, head_of, by_heads, AreHeaded};
 
 use std::alloc::{AllocError, Global};
+use std::cmp::Ordering;
 use std::marker::Model;
 use std::slice::Iter;
 
@@ -23,7 +25,28 @@ pub(crate) struct Record<V> {
     start: usize,
     middle: usize,
     end: usize,
+    head: u32,
     value: V,
+}
+
+/// The byte at a place of a name, or 0 where it has none.
+fn byte_at(name: &[u8], place: usize) -> u32
+    ensures value { result ≡ slice_index name.now place }
+    ensures bound { result < 256 }
+{
+    match name.get(place) {
+        Some(byte) => u32::from(*byte),
+        None => 0,
+    }
+}
+
+/// The first four bytes of a name as one number: of two names with unequal numbers the lesser has the lesser one.
+fn head_of(name: &[u8]) -> u32
+    ensures { result ≡ head_of name.now }
+{
+    let first = byte_at(name, 0) * 256 + byte_at(name, 1);
+    let second = byte_at(name, 2) * 256 + byte_at(name, 3);
+    first * 65536 + second
 }
 
 /// The bytes from one place up to another, as far as there are any.
@@ -46,12 +69,23 @@ fn text_of<'a, V>(bytes: &'a [u8], at: &Record<V>) -> &'a [u8]
     piece(bytes, at.middle, at.end)
 }
 
+/// How two records stand to each other by their heads, and where these are equal by their names.
+fn compare<V>(bytes: &[u8], a: &Record<V>, b: &Record<V>) -> Ordering
+    ensures { result ≡ by_heads bytes.now a.now b.now }
+{
+    match a.head.cmp(&b.head) {
+        Ordering::Equal => name_of(bytes, a).cmp(name_of(bytes, b)),
+        unequal => unequal,
+    }
+}
+
 /// Puts records in rising order of their names, those of one name in the order in which they stand.
 fn sort_records<V>(bytes: &[u8], records: &mut Vec<Record<V>>) -> Result<(), AllocError>
+    requires { AreHeaded bytes.now records.old.items }
     ensures sorted { OnOk result (IsSortedByKey (name_in bytes.now) (slice_cmp nat_cmp) records.new.items) }
     ensures stable { IsStableByKey (name_in bytes.now) (slice_cmp nat_cmp) records.old.items records.new.items }
 {
-    records.sort_by(|a, b| name_of(bytes, a).cmp(name_of(bytes, b)))
+    records.sort_by(|a, b| compare(bytes, a, b))
 }
 
 /// Whether the first of the records has the name.
@@ -81,6 +115,7 @@ fn last_ones<V: Copy>(
                     start: first.start,
                     middle: first.middle,
                     end: first.end,
+                    head: first.head,
                     value,
                 })?;
             }
@@ -121,11 +156,11 @@ impl<V> Model for Draft<V> {
 
     ghost coded = { code (coded_list coded_ℕ) (coded× V.code (coded_list coded_ℕ)) };
 
-    ghost use Rattle.ks_symbols.specs.Table.{said_in, after_lines, LieIn};
+    ghost use Rattle.ks_symbols.specs.Table.{said_in, after_lines, LieIn, AreHeaded};
 
     ghost view = { λ d. after_lines empty (map (said_in d.bytes.items) d.records.items) };
 
-    ghost invariant = { λ d. LieIn (length d.bytes.items) d.records.items };
+    ghost invariant = { λ d. LieIn (length d.bytes.items) d.records.items × AreHeaded d.bytes.items d.records.items };
 }
 
 impl<V: Copy> Draft<V> {
@@ -150,6 +185,7 @@ impl<V: Copy> Draft<V> {
             start,
             middle,
             end,
+            head: head_of(name),
             value,
         })?;
         Ok(())

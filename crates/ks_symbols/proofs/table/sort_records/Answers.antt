@@ -1,22 +1,28 @@
-use Rattle.std.proofs.Common.{rules}
-use Rattle.std.specs.Ordering.{nat_cmp, is_lt}
-use Rattle.std.specs.Cmp.Lexicographic.{slice_cmp, nat_list_cmp_total}
+use Rattle.std.proofs.Common.{◌≡◌, arith, rules}
+use Rattle.std.specs.Ordering.{is_lt}
 use Rattle.std.proofs.lemmas.Fn.{always_returns_same}
-use Rattle.std.proofs.lemmas.List.Sorted.{ranks_by}
+use Rattle.std.proofs.lemmas.List.Sorted.{ranks_by, All-permutation}
 use Rattle.std.proofs.lemmas.Result.{on_ok_weaker}
-use Rattle.ks_symbols.specs.Table.{name_in}
+use Rattle.ks_symbols.specs.Table.{name_in, head_of, by_heads}
+use Rattle.ks_symbols.proofs.Heads.{AreBytes, heads_total, headed_sorted, headed_stable}
 use Rattle.ks_symbols.proofs.table.sort_records.Goals as goal
 
 pub returns-clause-sorted : goal.returns-clause-sorted
 returns-clause-sorted g c =
     let bytes = c.args.bytes.now in
+    let small : AreBytes bytes = λ k. omega (arith, c.type_inv.bytes k) in
+    let heads = All-permutation (λ r. r.head ≡ head_of (name_in bytes r)) _ _ c.sort_by.ensures.permutation c.requires in
     on_ok_weaker c.sort_by.result
-    (λ sorted. sorted (λ x y. is_lt (slice_cmp nat_cmp (name_in bytes x) (name_in bytes y))) (ranks_by nat_list_cmp_total (name_in bytes))
-    (always_returns_same _ _ _ (λ a r f' k. search rules)))
+    (λ sorted. headed_sorted bytes small c.sort_by.new.self.items heads
+    (sorted (λ x y. is_lt (by_heads bytes x y)) (ranks_by (heads_total bytes) (λ r. r))
+    (always_returns_same _ _ _ (λ a r f' k. search rules))))
     c.sort_by.ensures.sorted
 
 pub returns-clause-stable : goal.returns-clause-stable
 returns-clause-stable g c =
     let bytes = c.args.bytes.now in
-    c.sort_by.ensures.stable (λ x y. is_lt (slice_cmp nat_cmp (name_in bytes x) (name_in bytes y))) (ranks_by nat_list_cmp_total (name_in bytes))
-    (always_returns_same _ _ _ (λ a r f' k. search rules))
+    let small : AreBytes bytes = λ k. omega (arith, c.type_inv.bytes k) in
+    let heads = All-permutation (λ r. r.head ≡ head_of (name_in bytes r)) _ _ c.sort_by.ensures.permutation c.requires in
+    headed_stable bytes small c.args.records.now.items c.sort_by.new.self.items c.requires heads
+    (c.sort_by.ensures.stable (λ x y. is_lt (by_heads bytes x y)) (ranks_by (heads_total bytes) (λ r. r))
+    (always_returns_same _ _ _ (λ a r f' k. search rules)))

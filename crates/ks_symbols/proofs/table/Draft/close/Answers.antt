@@ -2,9 +2,12 @@ use Rattle.std.proofs.Common.{◌≡◌, T, List, ℕ, sym, ap, subst, ◌∙◌
 use Rattle.std.specs.FinMap as map
 use Rattle.std.specs.FinMap.{is_sorted}
 use Rattle.std.specs.List.Sorted.{IsSortedByKey, IsStableByKey}
-use Rattle.ks_symbols.specs.Table.{name_in, said_in, entry_in, last_ones}
+use Rattle.ks_symbols.specs.Table.{AreHeaded, name_in, said_in, entry_in, last_ones}
 use Rattle.ks_symbols.proofs.LastOnes.{order, closed, closed_rise}
 use Rattle.ks_symbols.proofs.table.Draft.close.Goals as goal
+
+pub sort_records-requires : goal.sort_records-requires
+sort_records-requires g c = subst (λ (b : List ℕ). AreHeaded b c.self.inside.records.items) (sym c.deref.ensures.value) c.self.invariant.1
 
 pub invariant_of-result : goal.invariant_of-result
 invariant_of-result g c =

@@ -1,5 +1,5 @@
 -- What is kept of a tree: what a look-up finds holds of the files, and what is added does.
-use Rattle.std.proofs.Common.{◌≡◌, ◌≢◌, true≢false, is_some, ℕ, true, false, List, [], ◌∷◌, ◌++◌, Some, refl, ap, sym, ◌∙◌, subst, if◌then◌else◌, bytes_eq}
+use Rattle.std.proofs.Common.{◌≡◌, ◌≢◌, ◌⊎◌, inl, inr, true≢false, is_some, ℕ, zero, suc, slice_get, true, false, List, [], ◌∷◌, ◌++◌, Some, refl, ap, sym, ◌∙◌, subst, if◌then◌else◌, bytes_eq}
 use Rattle.std.specs.Prelude.{IfSome}
 use Rattle.std.specs.List.{All}
 use Rattle.std.proofs.lemmas.List.Elements.{All-nil, All-cons, All-head, All-tail}
@@ -8,6 +8,7 @@ use Rattle.ks_symbols.specs.TextMap.{value_of}
 use Rattle.ks_tree.specs.Files.{Files, content, SameButBoth}
 use Rattle.ks_tree.specs.Paths.{auto_path, stamp_path, command_path, command_temporary, AutoConf, Stamp, CommandFile, CommandTemporary}
 use Rattle.ks_tree.specs.Stamps.{HasNumber}
+use Rattle.ks_engine.specs.declared.memos.KeptSource.{KeptSource}
 use Rattle.ks_engine.specs.declared.memos.Memo.{Memo}
 use Rattle.ks_engine.specs.LastSync.{last_generation}
 use Rattle.ks_engine.specs.Memos.{IsStamp, AreStamps, IsSource, AreSources, IsNoSource, IsMemoOf}
@@ -24,6 +25,16 @@ module _ {V : Type 0} (P : List ℕ → V → Type 0) where
     | true ↦ λ t s. subst (λ o. IfSome o (P x)) s (subst (λ y. P y e.1) (sym ((bytes_eq-Decides x e.0).0 t)) (All-head at e es all))
     | false ↦ λ f s. kept_found x v es (All-tail at e es all) s
   ]) refl is
+
+  pub kept_at : (x : List ℕ) (v : V) (i : ℕ) (es : List (List ℕ × V)) → All (λ e. P e.0 e.1) es → slice_get es i ≡ Some (x, v) → P x v
+  kept_at x v i [] all is = absurd cc
+  kept_at x v zero (e ∷ es) all is = subst (λ o. IfSome o (λ e. P e.0 e.1)) is (All-head at e es all)
+  kept_at x v (suc i) (e ∷ es) all is = kept_at x v i es (All-tail at e es all) is
+
+  pub kept_found_or_at : (x : List ℕ) (v : V) (es : List (List ℕ × V)) → All (λ e. P e.0 e.1) es
+      → (value_of x es ≡ Some v) ⊎ ((i : ℕ) × (slice_get es i ≡ Some (x, v))) → P x v
+  kept_found_or_at x v es all (inl is) = kept_found x v es all is
+  kept_found_or_at x v es all (inr is) = kept_at x v is.0 es all is.1
 
   pub kept_added : (k : List ℕ) (v : V) (es : List (List ℕ × V)) → All (λ e. P e.0 e.1) es → P k v → All (λ e. P e.0 e.1) (es ++ (k, v) ∷ [])
   kept_added k v [] all new = All-cons at (k, v) [] new (All-nil at)
@@ -42,17 +53,17 @@ stamps_kept old new o (e ∷ es) others are =
     All-cons (λ s. IsStamp new (s.0) s.1) e es (here.0, subst (λ b. HasNumber b e.1) (sym same) here.1)
     (stamps_kept old new o es others (All-tail (λ s. IsStamp old (s.0) s.1) e es are))
 
-sources_kept : (old new : Files) (o : List ℕ) (es : List (List ℕ × List (List ℕ))) → SameButBoth (command_temporary o) (command_path o) old new
+sources_kept : (old new : Files) (o : List ℕ) (es : List (List ℕ × KeptSource)) → SameButBoth (command_temporary o) (command_path o) old new
     → All (λ s. s.0 ≢ command_temporary o) es → All (λ s. s.0 ≢ command_path o) es → AreSources old es → AreSources new es
 sources_kept old new o [] others no_temporary no_path are = All-nil _
 sources_kept old new o (e ∷ es) others no_temporary no_path are =
     let path = e.0 in
     let same : content new path ≡ content old path = others path (All-head (λ s. s.0 ≢ command_temporary o) e es no_temporary)
     (All-head (λ s. s.0 ≢ command_path o) e es no_path) in
-    let here = All-head (λ s. IsSource old (s.0) s.1) e es are in
-    All-cons (λ s. IsSource new (s.0) s.1) e es (here.0, here.1, ap (scanned path) same ∙ here.2)
+    let here = All-head (λ s. IsSource old (s.0) s.1.names) e es are in
+    All-cons (λ s. IsSource new (s.0) s.1.names) e es (here.0, here.1, ap (scanned path) same ∙ here.2)
     (sources_kept old new o es others (All-tail (λ s. s.0 ≢ command_temporary o) e es no_temporary) (All-tail (λ s. s.0 ≢ command_path o) e es no_path)
-    (All-tail (λ s. IsSource old (s.0) s.1) e es are))
+    (All-tail (λ s. IsSource old (s.0) s.1.names) e es are))
 
 pub memo_kept : (old new : Files) (o : List ℕ) (memo : Memo) → SameButBoth (command_temporary o) (command_path o) old new
     → IsNoSource (command_temporary o) memo → IsNoSource (command_path o) memo

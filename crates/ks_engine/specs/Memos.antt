@@ -5,6 +5,7 @@ use Rattle.ks_symbols.specs.Names.{is_name}
 use Rattle.ks_tree.specs.Files.{Files, content}
 use Rattle.ks_tree.specs.Paths.{auto_path, stamp_path}
 use Rattle.ks_tree.specs.Stamps.{HasNumber}
+use Rattle.ks_engine.specs.declared.memos.KeptSource.{KeptSource}
 use Rattle.ks_engine.specs.declared.memos.Memo.{Memo}
 use Rattle.ks_fixdep.specs.FoundNames.{names_in}
 use Rattle.ks_engine.specs.LastSync.{last_generation}
@@ -21,8 +22,8 @@ AreStamps files kept = All (λ s. IsStamp files s.0 s.1) kept
 abbrev pub IsSource : Files → List ℕ → List (List ℕ) → Type 0
 IsSource files path names = (t : List ℕ) × (names ≡ names_in t) × (scanned path (content files path) ≡ Ok (names_in t))
 
-abbrev pub AreSources : Files → List (List ℕ × List (List ℕ)) → Type 0
-AreSources files kept = All (λ s. IsSource files s.0 s.1) kept
+abbrev pub AreSources : Files → List (List ℕ × KeptSource) → Type 0
+AreSources files kept = All (λ s. IsSource files s.0 s.1.names) kept
 
 -- Each thing kept is what the files say.
 pub record IsMemoOf (files : Files) (memo : Memo) : Type 0 where

@@ -1,8 +1,9 @@
 //! What one command has read of a tree so far, so that it reads no file twice: hundreds of objects have one auto.conf, and share
 //! most of their stamps. A synchronisation drops all of it; a record changes nothing that is kept. Between commands nothing is kept,
 //! since others may write then.
-ghost use Rattle.std.specs.Prelude.{◌≡◌, ◌+◌, ◌⊎◌, ◌++◌, ◌∷◌, [], List, ℕ, length, Ok, Err, OnOk, IfOk, IfErr, IsErrOf, IsTrue};
+ghost use Rattle.std.specs.Prelude.{◌≡◌, ◌+◌, ◌⊎◌, ◌++◌, ◌∷◌, [], List, ℕ, length, slice_get, Ok, Err, Some, None, OnOk, IfOk, IfErr, IfSome, IfNone, IsErrOf, IsTrue};
 ghost use Rattle.ks_symbols.specs.Names.{is_name, is_path};
+ghost use Rattle.ks_symbols.specs.TextMap.{value_of};
 ghost use Rattle.ks_fixdep.specs.FoundNames.{names_in};
 ghost use Rattle.ks_fixdep.specs.SourceScan.{StandsAfter};
 ghost use Rattle.ks_tree.specs.Frames.{Reads};
@@ -22,12 +23,21 @@ use ks_symbols::{Name, TextMap};
 use ks_tree::{Tree, TreeError, read_stamp};
 use std::alloc::Global;
 
+/// The names of a source, and its place among those that are kept.
+#[derive(Drop)]
+struct KeptSource {
+    names: FoundNames,
+    place: usize,
+}
+
 /// The generation of the last completed synchronisation, and the numbers of stamps, as far as they were read.
 #[derive(Drop)]
 pub struct Memo {
     generation: Option<u64>,
     stamps: TextMap<u64>,
-    sources: TextMap<FoundNames>,
+    sources: TextMap<KeptSource>,
+    /// The place behind the source that was asked for last. No answer depends on it.
+    next: usize,
     keeps_sources: bool,
 }
 
@@ -51,6 +61,7 @@ impl Memo {
             generation: None,
             stamps: TextMap::new(alloc),
             sources: TextMap::new(alloc),
+            next: 0,
             keeps_sources: true,
         }
     }
@@ -63,6 +74,7 @@ impl Memo {
             generation: None,
             stamps: TextMap::new(alloc),
             sources: TextMap::new(alloc),
+            next: 0,
             keeps_sources: false,
         }
     }
@@ -117,6 +129,21 @@ impl Memo {
         Ok(number)
     }
 
+    /// The source at a path, if it is kept. The one behind the last is looked at first: objects name most headers in one order,
+    /// so that most paths are compared once and not sought.
+    fn source(&self, path: &[u8]) -> Option<&KeptSource>
+        ensures kept { IfSome result (λ s. (value_of path.now self.now.sources ≡ Some s.now)
+            ⊎ ((i : ℕ) × (slice_get self.now.sources i ≡ Some (path.now, s.now)))) }
+        ensures missed { IfNone result (value_of path.now self.now.sources ≡ None) }
+    {
+        if let Some((next, source)) = self.sources.get_at(self.next) {
+            if next == path {
+                return Some(source);
+            }
+        }
+        self.sources.get(path)
+    }
+
     /// Takes the file at a path as the next source of a scan. It is scanned once.
     pub(crate) fn add_source<T: Tree>(
         &mut self,
@@ -139,13 +166,16 @@ impl Memo {
         if !self.keeps_sources {
             return scan_file(alloc, tree, path, room, scan);
         }
-        if let Some(names) = self.sources.get(path) {
-            scan.add_known(names)?;
+        if let Some(source) = self.source(path) {
+            scan.add_known(&source.names)?;
+            self.next = source.place.saturating_add(1);
             return Ok(());
         }
         let names = scan_alone(alloc, tree, path, room)?;
         scan.add_known(&names)?;
-        self.sources.push(path, names)?;
+        let place = self.sources.len();
+        self.sources.push(path, KeptSource { names, place })?;
+        self.next = place.saturating_add(1);
         Ok(())
     }
 

@@ -2,14 +2,16 @@ use Rattle.std.proofs.Common.{sym, ◌∙◌, ap, subst}
 use Rattle.ks_tree.specs.Files.{content}
 use Rattle.ks_tree.specs.Paths.{auto_path}
 use Rattle.ks_engine.specs.LastSync.{last_generation}
+use Rattle.ks_engine.specs.declared.memos.KeptSource.{KeptSource}
 use Rattle.ks_engine.specs.Memos.{IsSource, AreStamps, AreSources}
-use Rattle.ks_engine.proofs.Keeping.{kept_found, kept_added}
+use Rattle.ks_engine.proofs.Keeping.{kept_found_or_at, kept_added}
 use Rattle.ks_engine.proofs.memos.Memo.add_source.Goals as goal
 
 pub returns-in-Some-clause-scanned : goal.returns-in-Some-clause-scanned
 returns-in-Some-clause-scanned g c = λ honest ts stands.
-    let kept = kept_found (IsSource (g.T.Tree.files c.args.tree.now)) c.args.path.now c.in-Some.names.now c.args.self.now.sources
-    (c.requires.memo honest).sources (sym c.in-Some.ensures) in
+    let files = g.T.Tree.files c.args.tree.now in
+    let kept = kept_found_or_at (λ path (s : KeptSource). IsSource files path s.names) c.args.path.now c.in-Some.source.now c.args.self.now.sources
+    (c.requires.memo honest).sources c.in-Some.ensures.kept in
     (kept.0, c.in_ok-add_known.ensures.stands ts kept.0 stands kept.1, kept.2)
 
 pub returns-in_err-push-clause-memo : goal.returns-in_err-push-clause-memo
@@ -34,7 +36,7 @@ returns-clause-memo g c = λ honest.
       generation = λ k is. ap (λ f. last_generation (content f auto_path)) same ∙ old.generation k is;
       stamps = subst (λ f. AreStamps f c.args.self.now.stamps) (sym same) old.stamps;
       sources = subst (AreSources new) (sym c.in_ok-push.ensures.pushed)
-          (kept_added (IsSource new) c.args.path.now c.in_ok-names.names pairs (subst (λ f. AreSources f pairs) (sym same) old.sources) found);
+          (kept_added (λ path (s : KeptSource). IsSource new path s.names) c.args.path.now _ pairs (subst (λ f. AreSources f pairs) (sym same) old.sources) found);
     }
 
 pub returns-clause-scanned : goal.returns-clause-scanned

@@ -179,7 +179,7 @@ Example: confstamp why x.o y.o",
         words: &[KCONFIG, DOTCONFIG, TARGETS, FROM],
         choice: Some("confstamp impact [--from FILE] <KCONFIG> <DOTCONFIG> [TARGET]..."),
         notes: "\
-Prints what stale would print behind sync KCONFIG DOTCONFIG. Writes no file.
+Prints what stale would print behind sync KCONFIG DOTCONFIG, and N of M stale to standard error. Writes no file.
 
 Example: confstamp impact Kconfig .config x.o y.o",
     },

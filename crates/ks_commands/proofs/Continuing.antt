@@ -14,7 +14,7 @@ use Rattle.ks_commands.specs.declared.refusal.Refusal.{Refusal}
 use Rattle.ks_commands.specs.declared.refusal.Refusal.TheVariants.{Engine}
 use Rattle.ks_commands.specs.Endings.{Ending}
 use Rattle.ks_commands.specs.Inputs.{given}
-use Rattle.ks_commands.specs.Performed.{EndsImpact, EndsStale, EndsWhy, FollowsImpact, FollowsWhy, IsAnswerBehind, IsAnswerOn, IsExplanationOn, LeavesSync, Runs, RunsAll, by_files, by_histories}
+use Rattle.ks_commands.specs.Performed.{EndsImpact, EndsStale, EndsWhy, FollowsImpact, FollowsWhy, IsAnswerBehind, IsAnswerOn, IsExplanationOn, LeavesSync, Runs, RunsAll, by_files, by_histories, count_of, not_counted}
 use Rattle.ks_commands.specs.Replies.{explanation_lines, verdict_line}
 use Rattle.ks_commands.specs.Scripts.{HasGivenUp, actions_of, script_actions, script_at}
 use Rattle.ks_commands.specs.Statuses.{explanation_status, verdict_status}
@@ -76,13 +76,13 @@ script_stopped files mid path text r same there (inr bad) = inr (script_there fi
 pub stale_follows : (old new : Files) (m n : ℕ) (h : History) (targets : Result (List (List ℕ)) EngineError) (ended : Ending) → new ≡ old → Shows old h
     → EndsStale (by_files old new) targets ended → EndsStale (by_histories (at old m h) (at new n h)) targets ended
 stale_follows old new m n h targets ended same shows ends =
-    answers_weaker verdict_line verdict_status (IsAnswerOn old) (λ o answer. FollowsStale (at old m h) o answer (at new n h)) targets ended
+    answers_weaker verdict_line verdict_status (IsAnswerOn old) (λ o answer. FollowsStale (at old m h) o answer (at new n h)) not_counted targets ended
     (λ o answer is. record { same = (same, refl); by_files = is.by_files; recorded = λ r was. is.recorded h r shows was }) ends
 
 pub why_follows : (old new : Files) (m n : ℕ) (h : History) (targets : Result (List (List ℕ)) EngineError) (ended : Ending) → new ≡ old → Shows old h
     → EndsWhy (by_files old new) targets ended → EndsWhy (by_histories (at old m h) (at new n h)) targets ended
 why_follows old new m n h targets ended same shows ends =
-    answers_weaker explanation_lines explanation_status (IsExplanationOn old) (λ o answer. FollowsWhy (at old m h) o answer (at new n h)) targets ended
+    answers_weaker explanation_lines explanation_status (IsExplanationOn old) (λ o answer. FollowsWhy (at old m h) o answer (at new n h)) not_counted targets ended
     (λ o answer is. record { same = (same, refl); by_files = is.by_files; verdict = is.verdict; recorded = λ r was. is.recorded h r shows was }) ends
 
 pub impact_follows : (old new : Files) (m n : ℕ) (h : History) (k d : List ℕ) (targets : Result (List (List ℕ)) EngineError) (ended : Ending) → new ≡ old
@@ -95,7 +95,7 @@ impact_follows old new m n h k d targets ended same shows (inr (t, there, inr (c
   inr (
     can,
     answers_weaker verdict_line verdict_status (IsAnswerBehind old t.kconfig t.dotconfig)
-        (λ o answer. FollowsImpact (at old m h) t.kconfig t.dotconfig o answer (at new n h)) targets ended
+        (λ o answer. FollowsImpact (at old m h) t.kconfig t.dotconfig o answer (at new n h)) count_of targets ended
         (λ o answer is. record {
           same = (same, refl);
           by_files = is.by_files;

@@ -19,7 +19,7 @@ use Rattle.ks_commands.specs.declared.request.Request.{Request}
 use Rattle.ks_commands.specs.declared.request.Request.TheVariants as request
 use Rattle.ks_commands.specs.Endings.{Ending}
 use Rattle.ks_commands.specs.Laws.{BatchTellsChanges, ProgramsTellChanges}
-use Rattle.ks_commands.specs.Performed.{Continues, EndsImpact, EndsStale, EndsWhy, FollowsImpact, FollowsWhy, by_histories}
+use Rattle.ks_commands.specs.Performed.{Continues, EndsImpact, EndsStale, EndsWhy, FollowsImpact, FollowsWhy, by_histories, count_of, not_counted}
 use Rattle.ks_commands.specs.Programs.{Chain, ProgramRun, ProgramTellsChanges, TellsBehind, TellsCauses, TellsChange, changes_told}
 use Rattle.ks_commands.specs.Replies.{explanation_lines, verdict_line}
 use Rattle.ks_commands.specs.Statuses.{explanation_status, reply_status, verdict_status, worst}
@@ -91,7 +91,7 @@ none_at_first first (run ∷ runs) last chain none =
 stale_tells : (old new : TreeState) (targets : Result (List (List ℕ)) EngineError) (ended : Ending) → NoneBroken old.history
     → EndsStale (by_histories old new) targets ended → EndsStale (changes_told old) targets ended
 stale_tells old new targets ended none ends =
-    answers_weaker verdict_line verdict_status (λ o answer. FollowsStale old o answer new) (TellsChange old) targets ended
+    answers_weaker verdict_line verdict_status (λ o answer. FollowsStale old o answer new) (TellsChange old) not_counted targets ended
     (λ o answer is. record { changed = λ r was. (is.recorded r was).changed none; safe = λ r was fresh. (is.recorded r was).safe fresh }) ends
 
 filter_alike : (p q : List ℕ → Bool) (xs : List (List ℕ)) → ((x : List ℕ) → p x ≡ q x) → filter p xs ≡ filter q xs
@@ -109,7 +109,7 @@ causes_changed s o (Err e) none is = is
 why_tells : (old new : TreeState) (targets : Result (List (List ℕ)) EngineError) (ended : Ending) → NoneBroken old.history
     → EndsWhy (by_histories old new) targets ended → EndsWhy (changes_told old) targets ended
 why_tells old new targets ended none ends =
-    answers_weaker explanation_lines explanation_status (λ o answer. FollowsWhy old o answer new) (TellsCauses old) targets ended
+    answers_weaker explanation_lines explanation_status (λ o answer. FollowsWhy old o answer new) (TellsCauses old) not_counted targets ended
     (λ o answer is. record {
       tells = record { changed = λ r was. (is.recorded r was).judged.changed none; safe = λ r was fresh. (is.recorded r was).judged.safe fresh };
       causes = λ r was. causes_changed old o answer none (is.recorded r was).suspects;
@@ -124,8 +124,8 @@ impact_tells old new k d targets ended none (inr (t, there, inr (can, ends))) = 
   there,
   inr (
     can,
-    answers_weaker verdict_line verdict_status (λ o answer. FollowsImpact old t.kconfig t.dotconfig o answer new) (TellsBehind old t.kconfig t.dotconfig) targets
-        ended (λ o answer is after report synced. record {
+    answers_weaker verdict_line verdict_status (λ o answer. FollowsImpact old t.kconfig t.dotconfig o answer new) (TellsBehind old t.kconfig t.dotconfig)
+        count_of targets ended (λ o answer is after report synced. record {
           changed = λ r was. (is.recorded after report synced r was).changed none;
           safe = λ r was fresh. (is.recorded after report synced r was).safe fresh;
         }) ends,

@@ -81,14 +81,14 @@ counted_behind (request.Fixdep d t c) r old files m n h plain ends = ends
 counted_behind (request.Record d t c) r old files m n h plain (Ok answer, recorded, told) = absurd (plain told)
 counted_behind (request.Record d t c) r old files m n h plain (Err e, refused, told) = (Err e, refused, told)
 counted_behind (request.Stale ts) r old files m n h plain (same, inl stopped) = (same, inl stopped)
-counted_behind (request.Stale ts) r old files m n h plain (same, inr (objects, there, text, status, are, told)) = absurd (plain told)
+counted_behind (request.Stale ts) r old files m n h plain (same, inr (objects, there, text, status, stale, are, told)) = absurd (plain told)
 counted_behind (request.Why ts) r old files m n h plain (same, inl stopped) = (same, inl stopped)
-counted_behind (request.Why ts) r old files m n h plain (same, inr (objects, there, text, status, are, told)) = absurd (plain told)
+counted_behind (request.Why ts) r old files m n h plain (same, inr (objects, there, text, status, stale, are, told)) = absurd (plain told)
 counted_behind (request.Impact k d ts) r old files m n h plain (same, inl stopped) = (same, inl stopped)
 counted_behind (request.Impact k d ts) r old files m n h plain (same, inr (t, there, inl refused)) = (same, inr (t, there, inl refused))
 counted_behind (request.Impact k d ts) r old files m n h plain (same, inr (t, there, inr (can, inl stopped))) =
     (same, inr (t, there, inr (can, inl stopped)))
-counted_behind (request.Impact k d ts) r old files m n h plain (same, inr (t, there, inr (can, inr (objects, at, text, status, are, told)))) =
+counted_behind (request.Impact k d ts) r old files m n h plain (same, inr (t, there, inr (can, inr (objects, at, text, status, stale, are, told)))) =
     absurd (plain told)
 counted_behind (request.Outdated t c) r old files m n h plain (same, (answer, outdated, told)) = absurd (plain told)
 counted_behind (request.Batch p) r old files m n h plain (inl stopped) = inl stopped

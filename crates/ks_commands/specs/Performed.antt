@@ -1,5 +1,5 @@
 -- What each request comes to, by the files of a tree and by its history alike.
-use Rattle.std.specs.Prelude.{◌≡◌, ◌≢◌, ◌⊎◌, ◌≤◌, ℕ, List, Option, Result, Ok, Err, map, flat_map, option_map, string_bytes, length, Some, IfOk, IsTrue}
+use Rattle.std.specs.Prelude.{◌≡◌, ◌≢◌, ◌⊎◌, ◌≤◌, ℕ, List, Option, Result, Ok, Err, map, flat_map, option_map, string_bytes, length, Some, None, IfOk, IsTrue}
 use Rattle.std.specs.List.{All}
 use Rattle.ks_fixdep.specs.CommandFile.{is_command}
 use Rattle.ks_tree.specs.declared.tree.Tree.{Ghosts}
@@ -31,15 +31,16 @@ use Rattle.ks_commands.specs.declared.preview.PreviewError.TheVariants.{Output a
 use Rattle.ks_commands.specs.declared.refusal.Refusal.TheVariants.{Engine}
 use Rattle.ks_commands.specs.declared.request.Request.{Request}
 use Rattle.ks_commands.specs.declared.request.Request.TheVariants.{Batch, Diff, Fixdep, Impact, Outdated, Preview, Record, Stale, Sync, Why}
+use Rattle.ks_commands.specs.declared.status.Count.{Count}
 use Rattle.ks_commands.specs.declared.status.Status.TheVariants.{Done}
 use Rattle.ks_commands.specs.Differences.{IsDiff}
-use Rattle.ks_commands.specs.Endings.{Answered, Ending, Stopped, Tells}
+use Rattle.ks_commands.specs.Endings.{Answered, Ending, Stopped, Tells, TellsCount}
 use Rattle.ks_commands.specs.Inputs.{Inputs, Texts, command_file_at, inputs_at, texts_at}
 use Rattle.ks_commands.specs.Preview.{IsPreview, IsPreviewRefusal, of_preview, preview_refusal}
 use Rattle.ks_commands.specs.Replies.{answer_line, build_line, explanation_lines, recorded_line, reply_lines, report_lines, verdict_line}
 use Rattle.ks_commands.specs.Requests.{IsNoQuestion}
 use Rattle.ks_commands.specs.Scripts.{StoppedScript, script_at}
-use Rattle.ks_commands.specs.Statuses.{build_status, explanation_status, reply_status, status_unless_refused, verdict_status, worst}
+use Rattle.ks_commands.specs.Statuses.{build_status, explanation_status, reply_status, stale_among, status_unless_refused, verdict_status, worst}
 use Rattle.ks_commands.specs.Targets.{targets_at}
 
 -- What the engine's calls answer and leave: the one way of saying it by files, the other by histories.
@@ -93,26 +94,35 @@ abbrev pub TellsAnswer : {A : Type 0} → (List ℕ → A → List ℕ) → (A �
 TellsAnswer {A} line status_of answers o lines status = (answer : Result A EngineError)
     × answers o answer × (lines ≡ answer_line line o answer) × (status ≡ status_unless_refused status_of answer)
 
--- All objects are told of, in order, and the status is the worst.
-pub record TellsAll (tells : List ℕ → List ℕ → ℕ → Type 0) (objects : List (List ℕ)) (text : List ℕ) (status : ℕ) : Type 0 where
+-- All objects are told of, in order, the status is the worst, and so many of them are stale.
+pub record TellsAll (tells : List ℕ → List ℕ → ℕ → Type 0) (objects : List (List ℕ)) (text : List ℕ) (status stale : ℕ) : Type 0 where
   pub parts : List (List ℕ × List ℕ × ℕ)
   pub of_objects : map (λ p. p.0) parts ≡ objects
   pub each : All (λ p. tells p.0 p.1 p.2) parts
   pub lines : text ≡ flat_map (λ p. p.1) parts
   pub worst_of : status ≡ worst (map (λ p. p.2) parts)
+  pub stale_of : stale ≡ stale_among (map (λ p. p.2) parts)
+
+-- the count of stale objects among all
+abbrev pub count_of : ℕ → ℕ → Option Count
+count_of stale all = Some (record { stale = stale; all = all })
+
+abbrev pub not_counted : ℕ → ℕ → Option Count
+not_counted stale all = None
 
 -- It is refused where the file of its targets is, or memory or the device fails there.
-abbrev pub EndsAll : (List ℕ → List ℕ → ℕ → Type 0) → Result (List (List ℕ)) EngineError → Ending → Type 0
-EndsAll tells targets ended =
+abbrev pub EndsAll : (List ℕ → List ℕ → ℕ → Type 0) → (ℕ → ℕ → Option Count) → Result (List (List ℕ)) EngineError → Ending → Type 0
+EndsAll tells counted targets ended =
     Stopped targets ended
     ⊎ ((objects : List (List ℕ)) × (targets ≡ Ok objects)
-    × (text : List ℕ) × (status : ℕ) × TellsAll tells objects text status × Tells text status ended)
+    × (text : List ℕ) × (status : ℕ) × (stale : ℕ) × TellsAll tells objects text status stale
+    × TellsCount text status (counted stale (length objects)) ended)
 
 abbrev pub EndsStale : Effects → Result (List (List ℕ)) EngineError → Ending → Type 0
-EndsStale effects targets ended = EndsAll (TellsAnswer verdict_line verdict_status effects.stale) targets ended
+EndsStale effects targets ended = EndsAll (TellsAnswer verdict_line verdict_status effects.stale) not_counted targets ended
 
 abbrev pub EndsWhy : Effects → Result (List (List ℕ)) EngineError → Ending → Type 0
-EndsWhy effects targets ended = EndsAll (TellsAnswer explanation_lines explanation_status effects.why) targets ended
+EndsWhy effects targets ended = EndsAll (TellsAnswer explanation_lines explanation_status effects.why) not_counted targets ended
 
 -- There is a tree that a completed synchronisation of these texts leaves.
 abbrev pub CanBeSynced : Files → Texts → Type 0
@@ -124,7 +134,7 @@ EndsImpact files effects k d targets ended =
     Stopped (texts_at files k d) ended
     ⊎ ((t : Texts) × (texts_at files k d ≡ Ok t)
     × (StoppedSync files t ended
-    ⊎ (CanBeSynced files t × EndsAll (TellsAnswer verdict_line verdict_status (effects.impact t.kconfig t.dotconfig)) targets ended)))
+    ⊎ (CanBeSynced files t × EndsAll (TellsAnswer verdict_line verdict_status (effects.impact t.kconfig t.dotconfig)) count_of targets ended)))
 
 abbrev pub EndsOutdated : Effects → List ℕ → List ℕ → Ending → Type 0
 EndsOutdated effects o c ended =

@@ -1,5 +1,5 @@
 -- The lines that are printed of what the engine answers. Their form is this project's.
-use Rattle.std.specs.Prelude.{ℕ, List, [], ◌∷◌, ◌++◌, flat_map, length, codes, Result, Ok, Err}
+use Rattle.std.specs.Prelude.{ℕ, List, [], ◌∷◌, ◌++◌, decimal, flat_map, length, codes, Option, Some, None, Result, Ok, Err}
 use Rattle.ks_engine.specs.declared.error.EngineError.{EngineError}
 use Rattle.ks_engine.specs.declared.explaining.Cause.{Cause}
 use Rattle.ks_engine.specs.declared.explaining.Explanation.{Explanation}
@@ -12,6 +12,7 @@ use Rattle.ks_engine.specs.declared.staleness.Verdict.TheVariants as verdict
 use Rattle.ks_engine.specs.declared.commands.Reply.{Reply}
 use Rattle.ks_engine.specs.declared.commands.Reply.TheVariants.{Synced, Recorded, Verdict, Refused}
 use Rattle.ks_engine.specs.Actions.{Action, Sync, Record, Stale}
+use Rattle.ks_commands.specs.declared.status.Count.{Count}
 use Rattle.ks_commands.specs.Faults.{counted, fault_text}
 use Rattle.ks_commands.specs.Preview.{touch_lines}
 
@@ -63,6 +64,11 @@ refused_target_line target e = target ++ codes " " ++ refused_line e
 abbrev pub answer_line : {A : Type 0} → (List ℕ → A → List ℕ) → List ℕ → Result A EngineError → List ℕ
 answer_line line target (Ok x) = line target x
 answer_line line target (Err e) = refused_target_line target e
+
+-- how many of all objects are stale, where that is told
+unfoldable pub count_line : Option Count → List ℕ
+count_line None = []
+count_line (Some c) = decimal c.stale ++ counted (codes " of ") c.all ++ codes " stale\n"
 
 -- the line of an action with its reply
 unfoldable pub reply_line : Action → Reply → List ℕ

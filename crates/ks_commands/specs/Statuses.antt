@@ -1,5 +1,5 @@
 -- The status that answers come to: 2 where one is refused, else 1 where something is stale, else 0.
-use Rattle.std.specs.Prelude.{ℕ, List, Result, Ok, Err, fold, max}
+use Rattle.std.specs.Prelude.{◌==◌, ℕ, List, Result, Ok, Err, filter, fold, length, max}
 use Rattle.ks_engine.specs.declared.error.EngineError.{EngineError}
 use Rattle.ks_engine.specs.declared.explaining.Explanation.{Explanation}
 use Rattle.ks_engine.specs.declared.staleness.BuildState.{BuildState}
@@ -35,6 +35,10 @@ reply_status _ = 0
 -- the worst of several
 abbrev pub worst : List ℕ → ℕ
 worst statuses = fold max 0 statuses
+
+-- how many of them are those of stale objects
+abbrev pub stale_among : List ℕ → ℕ
+stale_among statuses = length (filter (λ status. status == 1) statuses)
 
 -- the exit status
 abbrev pub code_of : Status → ℕ

@@ -198,5 +198,9 @@ pub(crate) fn tell_differences<T: Tree>(
     let texts = texts_at(alloc, tree, kconfig, dotconfig)?;
     let text = differences(alloc, tree, &texts.kconfig, &texts.dotconfig)?;
     let status = Status::Done;
-    Ok(Outcome { text, status })
+    Ok(Outcome {
+        text,
+        status,
+        count: None,
+    })
 }

@@ -5,6 +5,7 @@ ghost use Rattle.std.specs.Io.KnownBytes.{Appends, Keeps};
 ghost use Rattle.ks_tree.specs.Frames.{Reads};
 ghost use Rattle.ks_commands.specs.Endings.{Complains, IsPart, Printed};
 ghost use Rattle.ks_commands.specs.Faults.{complaint};
+ghost use Rattle.ks_commands.specs.Replies.{count_line};
 ghost use Rattle.ks_commands.specs.Sites.{IsSiteLine, shown, site_line};
 ghost use Rattle.ks_commands.specs.Views.{seen_site};
 
@@ -12,7 +13,7 @@ use crate::faults::{Place, refusal_fault};
 use crate::inputs::lent;
 use crate::refusal::Refusal;
 use crate::sites::{Part, Site, excerpt_at};
-use crate::status::{Outcome, exit_status};
+use crate::status::{Count, Outcome, exit_status};
 use itoa::Buffer;
 use ks_tree::Tree;
 use std::alloc::Global;
@@ -182,12 +183,37 @@ pub(crate) fn refuse_at<T: Tree, E: Write>(
     2
 }
 
-/// Prints what is to be printed of a command, and answers the exit status.
+/// Writes the two numbers of a count.
+fn write_count_line<E: Write>(err: &mut E, stale: &[u8], all: &[u8])
+    ensures { IsPart (stale.now ++ (codes " of " ++ all.now) ++ codes " stale\n") (E.contents err.old) (E.contents err.new) }
+{
+    let _ = write_parts(err, &[stale, b" of ", all, b" stale\n"]);
+}
+
+/// Writes how many objects are stale, where that is told.
+#[tactic(auto, unfolding(crate::specs::Replies::count_line, crate::specs::Faults::counted))]
+fn write_count<E: Write>(err: &mut E, count: Option<Count>)
+    ensures { IsPart (count_line count) (E.contents err.old) (E.contents err.new) }
+{
+    if let Some(count) = count {
+        write_count_line(
+            err,
+            Buffer::new().format(count.stale as u64).as_bytes(),
+            Buffer::new().format(count.all as u64).as_bytes(),
+        );
+    }
+}
+
+/// Prints what is to be printed of a command, and answers the exit status. A count is told as well as that goes.
 pub(crate) fn print<W: Write, E: Write>(outcome: &Outcome, out: &mut W, err: &mut E) -> u8
     ensures { Printed [] (Ok outcome.now) (W.contents out.old) (W.contents out.new) (E.contents err.old) (E.contents err.new) result }
 {
     match put(out, &outcome.text) {
-        Ok(()) => exit_status(outcome.status),
+        Ok(()) => {
+            write_count(err, outcome.count);
+            let _ = err.flush();
+            exit_status(outcome.status)
+        }
         Err(refusal) => refuse(err, &refusal),
     }
 }

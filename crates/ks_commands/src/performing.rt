@@ -47,7 +47,11 @@ fn preview<T: Tree>(
     let old = lent(&inputs.old);
     let text = preview_of(alloc, &texts.kconfig, &texts.dotconfig, old)?;
     let status = Status::Done;
-    Ok(Outcome { text, status })
+    Ok(Outcome {
+        text,
+        status,
+        count: None,
+    })
 }
 
 /// The command file of an object.
@@ -64,7 +68,11 @@ fn fixdep<T: Tree>(
 {
     let text = command_file_text(alloc, tree, depfile, target, command)?;
     let status = Status::Done;
-    Ok(Outcome { text, status })
+    Ok(Outcome {
+        text,
+        status,
+        count: None,
+    })
 }
 
 /// Does what was asked for, unless it is refused as a whole.

@@ -2,13 +2,13 @@
 //! built by a command.
 //!
 //! A refused question is a line of the output, and the questions after it are still answered.
-ghost use Rattle.std.specs.Prelude.{◌≡◌, ◌++◌, ℕ, List, Err, IfOk, OnOk, map};
+ghost use Rattle.std.specs.Prelude.{◌≡◌, ◌++◌, ℕ, List, Err, IfOk, OnOk, length, map};
 ghost use Rattle.ks_tree.specs.Frames.{Reads};
 ghost use Rattle.ks_engine.specs.Memos.{IsMemoOf};
 ghost use Rattle.ks_engine.specs.declared.error.EngineError.TheVariants.{Device};
 ghost use Rattle.ks_commands.specs.declared.refusal.Refusal.TheVariants.{Engine};
 ghost use Rattle.ks_commands.specs.Performed.{EndsAll, EndsImpact, EndsOutdated, TellsAll, by_files};
-ghost use Rattle.ks_commands.specs.Questions.{tells_of};
+ghost use Rattle.ks_commands.specs.Questions.{counted_of, tells_of};
 ghost use Rattle.ks_commands.specs.Replies.{answer_line, explanation_lines, verdict_line};
 ghost use Rattle.ks_commands.specs.Statuses.{code_of, explanation_status, status_unless_refused, verdict_status};
 ghost use Rattle.ks_commands.specs.Targets.{targets_at};
@@ -20,7 +20,7 @@ use crate::replies::{
     write_verdict_line,
 };
 use crate::request::Targets;
-use crate::status::{Outcome, Status, worse};
+use crate::status::{Count, Outcome, Status, stale_of, worse};
 use crate::targets::{all_targets, read_targets};
 use ks_engine::{EngineError, Explanation, Impact, Memo, Verdict, explain_by, outdated, stale_by};
 use ks_tree::Tree;
@@ -110,6 +110,16 @@ fn ask<T: Tree>(
     }
 }
 
+/// The count of stale objects, where the question is for one.
+fn count_for(question: &Question<'_>, stale: usize, all: usize) -> Option<Count>
+    ensures { result ≡ counted_of question.now stale all }
+{
+    match question {
+        Question::Behind(_) => Some(Count { stale, all }),
+        Question::Stale | Question::Why => None,
+    }
+}
+
 /// Asks of each object, one after the other.
 fn ask_all<T: Tree>(
     alloc: Global,
@@ -118,17 +128,25 @@ fn ask_all<T: Tree>(
     targets: &[&[u8]],
 ) -> Result<Outcome, AllocError>
     ensures reads { Reads T.Tree tree.old tree.new ⊥ }
-    ensures told { T.is_honest → IfOk result (λ o.
-        TellsAll (tells_of (T.files tree.old) question.now) (map (λ t. t.now) targets.now) o.text.items (code_of o.status)) }
+    ensures told { T.is_honest → IfOk result (λ o. (stale : ℕ)
+        × TellsAll (tells_of (T.files tree.old) question.now) (map (λ t. t.now) targets.now) o.text.items (code_of o.status) stale
+        × (o.count ≡ counted_of question.now stale (length (map (λ t. t.now) targets.now)))) }
 {
     let mut text = Vec::new(alloc);
     let mut memo = Memo::new(alloc);
     let mut status = Status::Done;
+    let mut stale = 0;
     for target in targets {
         let answered = ask(alloc, tree, &mut memo, question, *target, &mut text)?;
         status = worse(status, answered);
+        stale += stale_of(answered);
     }
-    Ok(Outcome { text, status })
+    let count = count_for(question, stale, targets.len());
+    Ok(Outcome {
+        text,
+        status,
+        count,
+    })
 }
 
 /// Asks of each object among the words, and then of each in the file.
@@ -139,7 +157,8 @@ pub(crate) fn ask_targets<T: Tree>(
     targets: &Targets,
 ) -> Result<Outcome, Refusal>
     ensures reads { Reads T.Tree tree.old tree.new (result ≡ Err (Engine Device)) }
-    ensures told { T.is_honest → EndsAll (tells_of (T.files tree.old) question.now) (targets_at (T.files tree.old) targets.now) result }
+    ensures told { T.is_honest → EndsAll (tells_of (T.files tree.old) question.now) (counted_of question.now)
+        (targets_at (T.files tree.old) targets.now) result }
 {
     let text = read_targets(alloc, tree, targets)?;
     let targets = all_targets(alloc, targets, lent(&text))?;
@@ -186,5 +205,9 @@ pub(crate) fn outdated_target<T: Tree>(
             Status::Refused
         }
     };
-    Ok(Outcome { text, status })
+    Ok(Outcome {
+        text,
+        status,
+        count: None,
+    })
 }

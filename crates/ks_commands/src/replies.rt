@@ -1,7 +1,7 @@
 //! The lines that are printed of what the engine answers, and the status that answers come to.
 //!
 //! A line of a verdict or of a refusal is the same for one object and in a script.
-ghost use Rattle.std.specs.Prelude.{◌≡◌, ◌++◌, List, ℕ, OnOk, IfOk, flat_map, map, length};
+ghost use Rattle.std.specs.Prelude.{◌≡◌, ◌++◌, List, ℕ, None, OnOk, IfOk, flat_map, map, length};
 ghost use Rattle.ks_engine.specs.Actions.{action};
 ghost use Rattle.ks_commands.specs.Faults.{counted};
 ghost use Rattle.ks_commands.specs.Replies.{build_line, cause_line, explanation_lines, recorded_line, refused_line, refused_target_line, reply_line, reply_lines, report_lines, synced_line, verdict_line, verdict_text};
@@ -189,6 +189,7 @@ pub(crate) fn tell_replies(
     requires { length replies.now ≡ length commands.now }
     ensures lines { IfOk result (λ o. o.text.items ≡ reply_lines (map action commands.now) replies.now) }
     ensures status { IfOk result (λ o. code_of o.status ≡ worst (map reply_status replies.now)) }
+    ensures no_count { IfOk result (λ o. o.count ≡ None) }
 {
     let mut text = Vec::with_capacity(alloc, replies.len().saturating_mul(USUAL_LINE))?;
     let mut status = Status::Done;
@@ -197,7 +198,11 @@ pub(crate) fn tell_replies(
         write_reply(command, reply, &mut text)?;
         status = worse(status, reply_status(reply));
     }
-    Ok(Outcome { text, status })
+    Ok(Outcome {
+        text,
+        status,
+        count: None,
+    })
 }
 
 /// `TARGET command-differs`, or the line of its verdict.
@@ -251,12 +256,16 @@ fn reply_status(reply: &Reply) -> Status
 
 /// A synchronisation, told name by name.
 pub(crate) fn tell_report(alloc: Global, report: &Report) -> Result<Outcome, AllocError>
-    ensures { IfOk result (λ o. (o.text.items ≡ report_lines report.now) × (code_of o.status ≡ 0)) }
+    ensures { IfOk result (λ o. (o.text.items ≡ report_lines report.now) × (code_of o.status ≡ 0) × (o.count ≡ None)) }
 {
     let mut text = Vec::new(alloc);
     write_report(report, &mut text)?;
     let status = Status::Done;
-    Ok(Outcome { text, status })
+    Ok(Outcome {
+        text,
+        status,
+        count: None,
+    })
 }
 
 /// What was recorded of an object, told.
@@ -265,10 +274,14 @@ pub(crate) fn tell_recorded(
     target: &[u8],
     recorded: &Recorded,
 ) -> Result<Outcome, AllocError>
-    ensures { IfOk result (λ o. (o.text.items ≡ recorded_line target.now recorded.now) × (code_of o.status ≡ 0)) }
+    ensures { IfOk result (λ o. (o.text.items ≡ recorded_line target.now recorded.now) × (code_of o.status ≡ 0) × (o.count ≡ None)) }
 {
     let mut text = Vec::new(alloc);
     write_recorded_line(target, recorded, &mut text)?;
     let status = Status::Done;
-    Ok(Outcome { text, status })
+    Ok(Outcome {
+        text,
+        status,
+        count: None,
+    })
 }

@@ -1,6 +1,6 @@
 //! How a command ended that was not refused as a whole.
-ghost use Rattle.std.specs.Prelude.{◌≡◌, max};
-ghost use Rattle.ks_commands.specs.Statuses.{code_of};
+ghost use Rattle.std.specs.Prelude.{◌≡◌, ◌≤◌, [], ◌∷◌, max};
+ghost use Rattle.ks_commands.specs.Statuses.{code_of, stale_among};
 
 /// How a command ended.
 #[derive(Clone, Copy, Debug, PartialEq, Eq)]
@@ -13,11 +13,19 @@ pub(crate) enum Status {
     Refused,
 }
 
-/// What is to be printed of a command, and how it ended.
+/// How many of all objects are stale.
+#[derive(Clone, Copy)]
+pub(crate) struct Count {
+    pub(crate) stale: usize,
+    pub(crate) all: usize,
+}
+
+/// What is to be printed of a command, and how it ended. A count goes to standard error.
 #[derive(Drop)]
 pub(crate) struct Outcome {
     pub(crate) text: Vec<u8>,
     pub(crate) status: Status,
+    pub(crate) count: Option<Count>,
 }
 
 /// The exit status.
@@ -28,6 +36,17 @@ pub(crate) fn exit_status(status: Status) -> u8
         Status::Done => 0,
         Status::Stale => 1,
         Status::Refused => 2,
+    }
+}
+
+/// How many are stale of one.
+pub(crate) fn stale_of(status: Status) -> usize
+    ensures stale { result ≡ stale_among (code_of status ∷ []) }
+    ensures small { result ≤ 1 }
+{
+    match status {
+        Status::Stale => 1,
+        Status::Done | Status::Refused => 0,
     }
 }
 

@@ -26,6 +26,6 @@ returns-clause-told g c = λ honest.
       inl (
         c.in_ok-text.text.items,
         rw (← c.deref.ensures.value, ← c.deref-2.ensures.value, ← same) (c.in_ok-text.ensures.told honest),
-        (refl, refl),
+        (refl, refl, refl),
       ),
     )

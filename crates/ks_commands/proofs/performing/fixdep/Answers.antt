@@ -8,4 +8,4 @@ returns-in_err-text-clause-told g c = λ honest.
     (Err c.in_err-text.field-0.0, c.in_err-text.ensures.text honest, p.1 ∙ ap (λ r. Err r) p.2)
 
 pub returns-clause-told : goal.returns-clause-told
-returns-clause-told g c = λ honest. (Ok c.in_ok-text.text.items, c.in_ok-text.ensures.text honest, (refl, refl))
+returns-clause-told g c = λ honest. (Ok c.in_ok-text.text.items, c.in_ok-text.ensures.text honest, (refl, refl, refl))

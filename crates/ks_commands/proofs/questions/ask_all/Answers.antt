@@ -1,6 +1,7 @@
-use Rattle.std.proofs.Common.{◌∙◌, ℕ, List, [], Bor, get_or, sym, subst, subst₂, map, take, take_all, refl, rules}
+use Rattle.std.proofs.Common.{◌∙◌, ◌+◌, ◌++◌, ◌∷◌, ap, arith, max, ℕ, List, [], Bor, get_or, sym, subst, subst₂, map, take, take_all, refl, rules}
+use Rattle.std.proofs.lemmas.List.{length-map}
 use Rattle.ks_commands.specs.Performed.{TellsAll}
-use Rattle.ks_commands.specs.Questions.{tells_of}
+use Rattle.ks_commands.specs.Questions.{counted_of, tells_of}
 use Rattle.ks_commands.specs.Statuses.{code_of}
 use Rattle.ks_commands.proofs.Verdicts.{map-take_more, nothing_told, told_more}
 use Rattle.ks_commands.proofs.questions.ask_all.Goals as goal
@@ -11,7 +12,8 @@ loop-target-init g c = record {
   later = search rules;
   memo = λ honest. c.new-memo.ensures (g.T.Tree.files c.args.tree.now);
   told = λ honest.
-      subst (λ l. TellsAll (tells_of (g.T.Tree.files c.args.tree.now) c.args.question.now) [] l 0) (sym c.new-text.ensures.items) (nothing_told _);
+      subst (λ l. TellsAll (tells_of (g.T.Tree.files c.args.tree.now) c.args.question.now) [] l 0 0) (sym c.new-text.ensures.items) (nothing_told _);
+  few = search rules;
 }
 
 pub loop-target-preserved : goal.loop-target-preserved
@@ -28,14 +30,22 @@ loop-target-preserved g c = record {
       let said = c.in_ok-answered.ensures.told honest in
       let o = (get_or targets i nothing).now in
       let more = told_more (tells_of files question) (map (λ t. t.now) (take i targets)) o said.0 c.loop-target.text.items c.ask.new.text.items
-      (code_of c.loop-target.status) (code_of c.in_ok-answered.answered) (c.loop-target.invariant.told honest)
+      (code_of c.loop-target.status) (code_of c.in_ok-answered.answered) c.loop-target.stale (c.loop-target.invariant.told honest)
       (subst (λ f. tells_of f question o said.0 (code_of c.in_ok-answered.answered)) (c.loop-target.invariant.unchanged honest) said.2) said.1 in
       let taken = map-take_more (λ t. t.now) targets i nothing c.loop-target-test.true in
-      subst₂ (λ objects status. TellsAll (tells_of files question) objects c.ask.new.text.items status) taken (sym c.worse-status.ensures) more;
+      let one = code_of c.in_ok-answered.answered in
+      let counted = subst (λ n. TellsAll (tells_of files question) (map (λ t. t.now) (take i targets) ++ o ∷ []) c.ask.new.text.items
+      (max (code_of c.loop-target.status) one) (c.loop-target.stale + n)) (sym c.stale_of-stale.ensures.stale) more in
+      subst₂ (λ objects status. TellsAll (tells_of files question) objects c.ask.new.text.items status (c.loop-target.stale + c.stale_of-stale.result)) taken
+      (sym c.worse-status.ensures) counted;
+  few = omega (arith, c.loop-target.invariant.few, c.stale_of-stale.ensures.small);
 }
 
 pub returns-clause-told : goal.returns-clause-told
-returns-clause-told g c = λ honest.
-    subst (λ ts. TellsAll (tells_of (g.T.Tree.files c.args.tree.now) c.args.question.now) (map (λ t. t.now) ts) c.loop-target.text.items
-    (code_of c.loop-target.status))
-    (take_all c.loop-target.target-index c.args.targets.now c.loop-target-test.false) (c.loop-target.invariant.told honest)
+returns-clause-told g c = λ honest. (
+  c.loop-target.stale,
+  subst (λ ts. TellsAll (tells_of (g.T.Tree.files c.args.tree.now) c.args.question.now) (map (λ t. t.now) ts) c.loop-target.text.items
+      (code_of c.loop-target.status) c.loop-target.stale)
+      (take_all c.loop-target.target-index c.args.targets.now c.loop-target-test.false) (c.loop-target.invariant.told honest),
+  c.count_for-count.ensures ∙ ap (counted_of c.args.question.now c.loop-target.stale) (sym (length-map c.args.targets.now (λ t. t.now))),
+)

@@ -11,5 +11,6 @@ invariant-loop-target g l = record {
   later : g.T.Tree.failures l.fn.tree ≤ g.T.Tree.failures l.tree;
   memo : g.T.Tree.is_honest → IsMemoOf (g.T.Tree.files l.tree) l.memo;
   told : g.T.Tree.is_honest
-      → TellsAll (tells_of (g.T.Tree.files l.fn.tree) l.question) (map (λ t. t.now) (take l.target-index l.targets)) l.text.items (code_of l.status);
+      → TellsAll (tells_of (g.T.Tree.files l.fn.tree) l.question) (map (λ t. t.now) (take l.target-index l.targets)) l.text.items (code_of l.status) l.stale;
+  few : l.stale ≤ l.target-index;
 }

@@ -1,7 +1,7 @@
 use Rattle.std.proofs.Common.{inl, inr, List, ℕ, Err, ap, subst, ◌∙◌}
 use Rattle.std.proofs.lemmas.Result.{err_from_is_err_and}
 use Rattle.ks_engine.specs.Impact.{IsImpactOf}
-use Rattle.ks_commands.specs.Performed.{EndsAll, IsAnswerBehind, TellsAnswer}
+use Rattle.ks_commands.specs.Performed.{EndsAll, IsAnswerBehind, TellsAnswer, count_of}
 use Rattle.ks_commands.specs.Replies.{verdict_line}
 use Rattle.ks_commands.specs.Statuses.{verdict_status}
 use Rattle.ks_commands.specs.Targets.{targets_at}
@@ -38,7 +38,7 @@ returns-clause-told g c = λ honest.
         (told.0, impact.report, told.1),
         impact_known files impact texts.kconfig texts.dotconfig (targets_at files c.args.targets.now) c.ask_targets.result told
             (subst
-            (λ f. EndsAll (TellsAnswer verdict_line verdict_status (λ o answer. (k d : List ℕ) → IsImpactOf f k d impact → IsAnswerBehind f k d o answer))
+            (λ f. EndsAll (TellsAnswer verdict_line verdict_status (λ o answer. (k d : List ℕ) → IsImpactOf f k d impact → IsAnswerBehind f k d o answer)) count_of
             (targets_at f c.args.targets.now) c.ask_targets.result)
             (c.in_ok-impact.ensures.reads.unchanged honest ∙ same) (c.ask_targets.ensures.told honest)),
       ),

@@ -1,7 +1,6 @@
 //! Recording an object: the command that builds it, the files that it is made of, and the names in them, under the generation of
 //! the last completed synchronisation. A greater number, as that of a stamp, would hide a synchronisation that was broken off.
-ghost use Rattle.std.specs.Prelude.{◌≡◌, ◌⊎◌, ◌↔◌, ◌≤◌, List, ℕ, Ok, Err, IfOk, IfErr, OnOk, IsTrue, IsErrOf, length, map};
-ghost use Rattle.std.specs.List.{list_all};
+ghost use Rattle.std.specs.Prelude.{◌≡◌, ◌⊎◌, List, ℕ, Ok, Err, IfOk, IfErr, OnOk, IsTrue, IsErrOf, length, map};
 ghost use Rattle.ks_symbols.specs.Names.{is_path, is_target};
 ghost use Rattle.ks_fixdep.specs.CommandFile.{is_command, IsLegal};
 ghost use Rattle.ks_fixdep.specs.FoundNames.{names_in};

@@ -2,7 +2,7 @@
 //! of dependency lines: a path or a name of its own for each would cost more than the text itself.
 ghost use Rattle.std.specs.Prelude.{◌≡◌, ◌++◌, [], List, ℕ, IfOk, IsTrue, OnOk, drop, length, map, take};
 ghost use Rattle.std.specs.List.{list_all};
-ghost use Rattle.ks_symbols.specs.Names.{is_name, is_path};
+ghost use Rattle.ks_symbols.specs.Names.{is_path};
 ghost use Rattle.ks_fixdep.specs.CommandFile.{is_dep};
 ghost use Rattle.ks_fixdep.specs.CommandWriting.{deps_text};
 ghost use Rattle.ks_fixdep.specs.FoundNames.{names_in};

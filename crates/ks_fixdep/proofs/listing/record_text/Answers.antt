@@ -1,4 +1,4 @@
-use Rattle.std.proofs.Common.{◌++◌, ap, map, ◌∙◌, [], None}
+use Rattle.std.proofs.Common.{◌++◌, ap, map, ◌∙◌, []}
 use Rattle.std.specs.Prelude.{flat_map}
 use Rattle.ks_fixdep.specs.CommandFile.{CommandRecord, command_text, ended, generation_line}
 use Rattle.ks_fixdep.specs.CommandWriting.{back_lines, deps_text, front_lines}

@@ -4,7 +4,6 @@ use Rattle.ks_symbols.specs.Names.{is_name, is_path}
 use Rattle.ks_fixdep.specs.FoundNames.{names_in}
 use Rattle.ks_fixdep.specs.Record.{deps_after}
 use Rattle.ks_fixdep.specs.SourceScan.{AreNamesOf}
-use Rattle.ks_fixdep.proofs.DepsLemmas.{Remaining}
 use Rattle.ks_fixdep.proofs.TextLemmas.{IsWritten}
 use Rattle.ks_fixdep.proofs.listing.write_dependencies.Given as goal
 

@@ -1,4 +1,4 @@
-use Rattle.std.proofs.Common.{◌≡◌, suc, ◌+◌, ◌-◌, ◌++◌, ◌∷◌, [], arith, append-nil, append_assoc, ap, ap₂, drop, map, sym, take, ◌∙◌}
+use Rattle.std.proofs.Common.{◌≡◌, suc, ◌+◌, ◌-◌, ◌++◌, arith, append-nil, append_assoc, ap, ap₂, drop, map, sym, take, ◌∙◌}
 use Rattle.ks_fixdep.specs.CommandFile.{dep_line, ended}
 use Rattle.ks_fixdep.specs.CommandWriting.{deps_text}
 use Rattle.ks_fixdep.specs.declared.command_file.Dep.TheVariants.{Config}

@@ -32,8 +32,8 @@ counted_aside : (old : Files) (m n : ℕ) (h : History) (k d : List ℕ) (answer
 counted_aside old m n h k d (Ok report) new f = record { files = f.files; history = f.history; generation = f.generation; changed = f.changed }
 counted_aside old m n h k d (Err e) new f = f
 
-pub sync_follows : (old mid : Files) (m n : ℕ) (h : History) (k k' d d' : List ℕ) (answer : Result Report EngineError) (new : TreeState) → mid ≡ old → k ≡ k' → d
-    ≡ d'
+pub sync_follows : (old mid : Files) (m n : ℕ) (h : History) (k k' d d' : List ℕ) (answer : Result Report EngineError) (new : TreeState)
+    → mid ≡ old → k ≡ k' → d ≡ d'
     → FollowsSync k d answer (at mid n h) new → FollowsSync k' d' answer (at old m h) new
 sync_follows old mid m n h k k' d d' answer new same same_k same_d follows =
     counted_aside old n m h k' d' answer new (subst (λ (f : Files). FollowsSync k' d' answer (at f n h) new) same
@@ -82,7 +82,8 @@ stale_follows old new m n h targets ended same shows ends =
 pub why_follows : (old new : Files) (m n : ℕ) (h : History) (targets : Result (List (List ℕ)) EngineError) (ended : Ending) → new ≡ old → Shows old h
     → EndsWhy (by_files old new) targets ended → EndsWhy (by_histories (at old m h) (at new n h)) targets ended
 why_follows old new m n h targets ended same shows ends =
-    answers_weaker explanation_lines explanation_status (IsExplanationOn old) (λ o answer. FollowsWhy (at old m h) o answer (at new n h)) not_counted targets ended
+    answers_weaker explanation_lines explanation_status (IsExplanationOn old)
+    (λ o answer. FollowsWhy (at old m h) o answer (at new n h)) not_counted targets ended
     (λ o answer is. record { same = (same, refl); by_files = is.by_files; verdict = is.verdict; recorded = λ r was. is.recorded h r shows was }) ends
 
 pub impact_follows : (old new : Files) (m n : ℕ) (h : History) (k d : List ℕ) (targets : Result (List (List ℕ)) EngineError) (ended : Ending) → new ≡ old

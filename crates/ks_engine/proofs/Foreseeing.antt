@@ -66,7 +66,8 @@ sorted_by : (names : List (List ℕ)) → IsStrictlySortedBy order names → IsS
 sorted_by names rising k d le lt =
     let on : suc k ≡ k + 1 = omega arith in
     subst (λ (n : ℕ). is_lt (order (get_or names n d) (get_or names k d)) ≡ false) on
-    (ap is_lt (nat_list_cmp_total.antisymm (get_or names (suc k) d) (get_or names k d) ∙ ap ordering_reverse (Less-from_sorted order names k (suc k) d rising (omega arith) (omega arith))))
+    (ap is_lt (nat_list_cmp_total.antisymm (get_or names (suc k) d) (get_or names k d)
+    ∙ ap ordering_reverse (Less-from_sorted order names k (suc k) d rising (omega arith) (omega arith))))
 
 searchable : (q : List ℕ) (names : List (List ℕ)) → IsStrictlySortedBy order names → IsNonDecreasingBy (λ n. ordering_index (order n q)) names
 searchable q names rising = searchable_from_sorted nat_list_cmp_total (λ n. n) names q (sorted_by names rising)

@@ -72,7 +72,8 @@ module _ (o : List ℕ) (x : List ℕ) (r : LastRecord) (named : is_in r.names x
   untouched_then (Synced t config past) last out = untouched_then past last (step_parts past (differs (before past) config x) _ last out).1
   untouched_then (Broken t config renewed past) last out = untouched_then past last (step_parts past (is_in renewed x) _ last out).1
   untouched_then (Recorded p command names header past) last out = ⊎_elim
-      (λ here. ap (λ (w : LastRecord). renewed_since_sync w.past x) (sym here.1) ∙ and_in (is_in names x) _ (ap (λ (w : LastRecord). is_in w.names x) here.1 ∙ named)
+      (λ here. ap (λ (w : LastRecord). renewed_since_sync w.past x) (sym here.1)
+      ∙ and_in (is_in names x) _ (ap (λ (w : LastRecord). is_in w.names x) here.1 ∙ named)
       (sym (cond-true _ _ _ here.0) ∙ out))
       (λ there. untouched_then past there.1 (sym (cond-false _ _ _ there.0) ∙ out))
       (record_cases p o _ _ r last)

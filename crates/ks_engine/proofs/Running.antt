@@ -171,7 +171,8 @@ changed_all first (s ∷ ss) last leads none =
     (none_first s.after ss last leads.3 none)) leads.1.leaves)
     (changed_all s.after ss last leads.3 none)
 
-safe_all : (first : TreeState) (steps : List Step) (last : TreeState) → Leads first steps last → All (λ step. IsSafeVerdict step.before step.action step.reply) steps
+safe_all : (first : TreeState) (steps : List Step) (last : TreeState) → Leads first steps last
+    → All (λ step. IsSafeVerdict step.before step.action step.reply) steps
 safe_all first [] last leads = All-nil _
 safe_all first (s ∷ ss) last leads =
     All-cons (λ step. IsSafeVerdict step.before step.action step.reply) s ss (safe_verdict s.before s.action s.reply s.after leads.1.leaves)

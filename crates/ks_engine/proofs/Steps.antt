@@ -99,7 +99,8 @@ pub plan_stands : (files : Files) (k d : List ℕ) (plan : Plan) → IsSyncPlan 
 plan_stands files k d plan (inl refused) = absurd (err_ok _ plan (sym refused.2))
 plan_stands files k d plan (inr made) = over (old_auto (content files auto_path)) made.2
   where
-    over : (r : Result OldAuto EngineError) → Ok plan ≡ and_then r (plan_over made.0) → (auto : OldAuto) × (r ≡ Ok auto) × PlanFacts auto.texts auto.generation plan
+    over : (r : Result OldAuto EngineError) → Ok plan ≡ and_then r (plan_over made.0) → (auto : OldAuto) × (r ≡ Ok auto)
+        × PlanFacts auto.texts auto.generation plan
     over (Ok auto) is = (auto, refl, plan_over_facts made.0 auto plan made.1.legal (sym is))
     over (Err e) is = absurd cc
 

@@ -127,7 +127,8 @@ end-fits n t ls more e =
     none-left [] e = refl
     none-left (x ∷ xs) e = absurd cc
 
-record-fits : (f : CommandRecord) (ls more : List (List ℕ)) → IsLegal f → map content ls ≡ layout f → generation_from (6 + length f.deps + 4) more ≡ Ok f.generation
+record-fits : (f : CommandRecord) (ls more : List (List ℕ)) → IsLegal f → map content ls ≡ layout f
+    → generation_from (6 + length f.deps + 4) more ≡ Ok f.generation
     → record_in (ls ++ more) ≡ Ok f
 unfolding record_in
 record-fits f ls more legal e generation =

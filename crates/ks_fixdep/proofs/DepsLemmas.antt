@@ -29,10 +29,11 @@ not_kept y seen [] e = refl
 not_kept y seen (z ∷ zs) e = elim (bytes_eq y z) as (λ b. bytes_eq y z ≡ b → b || list_any (bytes_eq y) zs ≡ false
     → list_any (bytes_eq y) (new_names seen (z ∷ zs)) ≡ false) [
       | true ↦ λ _ f. absurd cc
-      | false ↦ λ apart f. elim (not (list_any (bytes_eq z) seen)) as (λ k. list_any (bytes_eq y) (cond k (z ∷ new_names seen zs) (new_names seen zs)) ≡ false) [
-        | true ↦ ap (λ b. b || list_any (bytes_eq y) (new_names seen zs)) apart ∙ not_kept y seen zs f
-        | false ↦ not_kept y seen zs f
-      ]
+      | false ↦ λ apart f. elim (not (list_any (bytes_eq z) seen))
+          as (λ k. list_any (bytes_eq y) (cond k (z ∷ new_names seen zs) (new_names seen zs)) ≡ false) [
+            | true ↦ ap (λ b. b || list_any (bytes_eq y) (new_names seen zs)) apart ∙ not_kept y seen zs f
+            | false ↦ not_kept y seen zs f
+          ]
     ] refl e
 
 -- The names noted behind those seen are the ones that are new.

@@ -38,7 +38,8 @@ returns-clause-told g c = λ honest.
         (told.0, impact.report, told.1),
         impact_known files impact texts.kconfig texts.dotconfig (targets_at files c.args.targets.now) c.ask_targets.result told
             (subst
-            (λ f. EndsAll (TellsAnswer verdict_line verdict_status (λ o answer. (k d : List ℕ) → IsImpactOf f k d impact → IsAnswerBehind f k d o answer)) count_of
+            (λ f. EndsAll (TellsAnswer verdict_line verdict_status
+            (λ o answer. (k d : List ℕ) → IsImpactOf f k d impact → IsAnswerBehind f k d o answer)) count_of
             (targets_at f c.args.targets.now) c.ask_targets.result)
             (c.in_ok-impact.ensures.reads.unchanged honest ∙ same) (c.ask_targets.ensures.told honest)),
       ),

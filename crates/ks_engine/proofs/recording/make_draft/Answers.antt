@@ -10,7 +10,8 @@ pub returns-then-len-gt-MAX_BYTES-clause-refused : goal.returns-then-len-gt-MAX_
 returns-then-len-gt-MAX_BYTES-clause-refused c = λ ts are.
     let file = numbered (record_of c.args.target.now c.args.command.now c.args.prerequisites.now (map names_in ts)) c.args.generation in
     inr (draft_large c.args.target.now c.args.command.now c.args.prerequisites.now c.args.generation (map names_in ts) file refl
-    (subst (λ n. 67108864 < n) (ap length (c.in_ok-text.ensures.text ts are)) (subst (λ n. 67108864 < n) (c.len.ensures ∙ c.in_ok-text.text.ok.0) c.if-len-gt-MAX_BYTES.true)))
+    (subst (λ n. 67108864 < n) (ap length (c.in_ok-text.ensures.text ts are))
+    (subst (λ n. 67108864 < n) (c.len.ensures ∙ c.in_ok-text.text.ok.0) c.if-len-gt-MAX_BYTES.true)))
 
 pub returns-clause-drafted : goal.returns-clause-drafted
 returns-clause-drafted c = λ ts are.

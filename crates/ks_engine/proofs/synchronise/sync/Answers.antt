@@ -14,7 +14,8 @@ returns-in_err-work-clause-refused g c = λ honest.
 pub returns-in_err-work-clause-follows : goal.returns-in_err-work-clause-follows
 returns-in_err-work-clause-follows g c = λ honest h shows.
     let p = err_from_is_err_and c.from_residual.result c.from_residual.ensures.1 in
-    refused_follows (g.T.Tree.files c.args.tree.now) (g.T.Tree.files c.prepare.new.tree) (g.T.Tree.failures c.args.tree.now) (g.T.Tree.failures c.prepare.new.tree) h
+    refused_follows (g.T.Tree.files c.args.tree.now) (g.T.Tree.files c.prepare.new.tree)
+    (g.T.Tree.failures c.args.tree.now) (g.T.Tree.failures c.prepare.new.tree) h
     c.args.kconfig.now c.args.dotconfig.now c.from_residual.result _ (p.1 ∙ ap (λ e. Err e) p.2) shows (returns-in_err-work-clause-refused g c honest)
 
 pub returns-in_err-write_all-clause-refused : goal.returns-in_err-write_all-clause-refused
@@ -37,8 +38,10 @@ returns-in_err-write_all-clause-refused g c = λ honest.
 pub returns-in_err-write_all-clause-follows : goal.returns-in_err-write_all-clause-follows
 returns-in_err-write_all-clause-follows g c = λ honest h shows.
     let p = err_from_is_err_and c.from_residual-in_err-write_all.result c.from_residual-in_err-write_all.ensures.1 in
-    refused_follows (g.T.Tree.files c.args.tree.now) (g.T.Tree.files c.write_all.new.tree) (g.T.Tree.failures c.args.tree.now) (g.T.Tree.failures c.write_all.new.tree) h
-    c.args.kconfig.now c.args.dotconfig.now c.from_residual-in_err-write_all.result _ (p.1 ∙ ap (λ e. Err e) p.2) shows (returns-in_err-write_all-clause-refused g c honest)
+    refused_follows (g.T.Tree.files c.args.tree.now) (g.T.Tree.files c.write_all.new.tree)
+    (g.T.Tree.failures c.args.tree.now) (g.T.Tree.failures c.write_all.new.tree) h
+    c.args.kconfig.now c.args.dotconfig.now c.from_residual-in_err-write_all.result _ (p.1 ∙ ap (λ e. Err e) p.2)
+    shows (returns-in_err-write_all-clause-refused g c honest)
 
 pub returns-clause-synced : goal.returns-clause-synced
 returns-clause-synced g c = λ honest.

@@ -9,7 +9,8 @@ use Rattle.ks_fixdep.proofs.listing.record_text.Goals as goal
 
 pub returns-clause-text : goal.returns-clause-text
 returns-clause-text c = λ ts are.
-    let f : CommandRecord = record (record_of c.args.target.now c.args.command.now c.args.prerequisites.now (map names_in ts)) { generation = c.args.generation }
+    let f : CommandRecord =
+    record (record_of c.args.target.now c.args.command.now c.args.prerequisites.now (map names_in ts)) { generation = c.args.generation }
     in
     let front = flat_map ended (front_lines f.target f.command f.source) in
     let back = flat_map ended (back_lines f.target ++ generation_line f.generation) in

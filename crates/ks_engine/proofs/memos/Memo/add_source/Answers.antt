@@ -36,7 +36,8 @@ returns-clause-memo g c = λ honest.
       generation = λ k is. ap (λ f. last_generation (content f auto_path)) same ∙ old.generation k is;
       stamps = subst (λ f. AreStamps f c.args.self.now.stamps) (sym same) old.stamps;
       sources = subst (AreSources new) (sym c.in_ok-push.ensures.pushed)
-          (kept_added (λ path (s : KeptSource). IsSource new path s.names) c.args.path.now _ pairs (subst (λ f. AreSources f pairs) (sym same) old.sources) found);
+          (kept_added (λ path (s : KeptSource). IsSource new path s.names) c.args.path.now _ pairs
+          (subst (λ f. AreSources f pairs) (sym same) old.sources) found);
     }
 
 pub returns-clause-scanned : goal.returns-clause-scanned

@@ -11,7 +11,8 @@ returns-in_default-get c =
     let none : (n : ℕ) → slice_get c.self.inside.texts n ≡ Some x → ⊥ = λ n at.
     let missed = c.in_default.ensures.missed n at in
     let there = c.self.invariant.1 n x at missed.0 (subst (λ (l : List Slot). IsMissed l (first_place (hash_of x) (length l)) missed.0 (slot_of (hash_of x) n))
-    c.deref.ensures.value (subst (λ (h : ℕ). IsMissed c.deref.result.now (first_place h (length c.deref.result.now)) missed.0 (slot_of h n)) c.requires missed.1)) in
+    c.deref.ensures.value (subst (λ (h : ℕ). IsMissed c.deref.result.now (first_place h (length c.deref.result.now)) missed.0 (slot_of h n))
+    c.requires missed.1)) in
     let e : None ≡ Some n = c.in_default-get.ensures.value ∙ there in cc in
     place_none x c.self.inside.texts none ∙ ap (place_of x) c.self.view_is
 
@@ -21,7 +22,8 @@ returns c =
     let none : (n : ℕ) → slice_get c.self.inside.texts n ≡ Some x → ⊥ = λ n at.
     let missed = c.in_default.ensures.missed n at in
     let there = c.self.invariant.1 n x at missed.0 (subst (λ (l : List Slot). IsMissed l (first_place (hash_of x) (length l)) missed.0 (slot_of (hash_of x) n))
-    c.deref.ensures.value (subst (λ (h : ℕ). IsMissed c.deref.result.now (first_place h (length c.deref.result.now)) missed.0 (slot_of h n)) c.requires missed.1)) in
+    c.deref.ensures.value (subst (λ (h : ℕ). IsMissed c.deref.result.now (first_place h (length c.deref.result.now)) missed.0 (slot_of h n))
+    c.requires missed.1)) in
     let e : Some c.in-Some-get.number.now ≡ Some n = c.in-Some-get.ensures.value ∙ there in
     let same : c.in-Some-get.number.now ≡ n = cc in
     false≢true (sym c.if-is_at.false ∙ c.is_at.ensures.1 (subst (λ (k : ℕ). slice_get c.self.inside.texts k ≡ Some x) (sym same) at)) in

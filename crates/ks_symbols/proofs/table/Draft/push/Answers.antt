@@ -11,7 +11,12 @@ invariant_of-self-in_err-extend_from_slice-2 g c =
     let old = c.self.inside.bytes.items in
     let rs = c.self.inside.records.items in (
       lie_more (length old) _ rs
-          (omega (arith, ap length c.in_err-extend_from_slice-2.ensures.items, ap length c.in_ok-extend_from_slice.ensures.items, length-append old c.args.name.now))
+          (omega (
+            arith,
+            ap length c.in_err-extend_from_slice-2.ensures.items,
+            ap length c.in_ok-extend_from_slice.ensures.items,
+            length-append old c.args.name.now,
+          ))
           c.self.invariant.0,
       subst (λ (b : List ℕ). AreHeaded b rs) (sym (c.in_err-extend_from_slice-2.ensures.items ∙ c.in_ok-extend_from_slice.ensures.items))
           (headed_more old c.args.name.now rs c.self.invariant.0 c.self.invariant.1),

@@ -11,12 +11,13 @@ ghost use Rattle.ks_tree.specs.Folder.{place_of};
 
 use crate::folder_fault::FolderFault;
 use crate::new_file::write_new;
+use crate::read_ahead::ReadAhead;
 use crate::{Claim, Tree, TreeFault};
 use ks_symbols::MAX_BYTES;
 use std::alloc::{AllocError, Global};
 use std::borrow::CowStr;
 use std::fs::Metadata;
-use std::io::{ErrorKind, Read, Seek, SeekFrom};
+use std::io::{ErrorKind, Read};
 use std::os::unix::fs::{FileTypeExt, MetadataExt};
 use std::rt::Files;
 use std::{fs, io};
@@ -34,13 +35,11 @@ pub struct FolderTree<R: Files> {
     written: Option<R::File>,
 }
 
-/// The file of the last `read_at`, kept open so that a prerequisite costs one open however many pieces it has. It stands at the
-/// position, where the next piece begins.
+/// The file of the last `read_at`, kept open so that a prerequisite costs one open however many pieces it has.
 #[derive(Drop)]
 struct Kept<F> {
     path: Vec<u8>,
-    file: F,
-    position: u64,
+    file: ReadAhead<F>,
 }
 
 /// Whether the error says that memory was refused, and not that the system failed.
@@ -87,7 +86,7 @@ fn read_bytes<R: Files>(files: &R, alloc: Global, place: &str) -> io::Result<Opt
     Ok(Some(bytes))
 }
 
-/// A newly opened file. Its path lies in the memory of the one that was kept before, if there was one.
+/// A newly opened file, in the memory of the file that was kept before, if there was one.
 fn keep<F: Drop>(
     alloc: Global,
     earlier: Option<Kept<F>>,
@@ -97,49 +96,13 @@ fn keep<F: Drop>(
     let Some(mut kept) = earlier else {
         return Ok(Kept {
             path: path.to_vec(alloc)?,
-            file,
-            position: 0,
+            file: ReadAhead::new(alloc, file)?,
         });
     };
     kept.path.clear();
     kept.path.extend_from_slice(path)?;
-    kept.file = file;
-    kept.position = 0;
+    kept.file.begin(file);
     Ok(kept)
-}
-
-/// Reads until the room is full or the file has no more.
-fn fill<F: Read>(file: &mut F, into: &mut [u8]) -> io::Result<usize>
-    ensures { IfOk result (λ n. n ≤ length into.new) }
-{
-    let mut filled = 0;
-    for _ in 0..u64::MAX {
-        if filled == into.len() {
-            break;
-        }
-        match file.read(&mut into[filled..]) {
-            Ok(0) => break,
-            Ok(len) => filled += len,
-            Err(error) if error.kind() == ErrorKind::Interrupted => {}
-            Err(error) => return Err(error),
-        }
-    }
-    Ok(filled)
-}
-
-impl<F: Read + Seek> Kept<F> {
-    /// The bytes from an offset on, as many as there is room for, read into that room itself. Fewer bytes than there is room
-    /// for are given only where the file itself had no more at this call.
-    fn read(&mut self, offset: u64, into: &mut [u8]) -> io::Result<usize>
-        ensures { IfOk result (λ n. n ≤ length into.new) }
-    {
-        if self.position != offset {
-            self.position = self.file.seek(SeekFrom::Start(offset))?;
-        }
-        let len = fill(&mut self.file, into)?;
-        self.position = self.position.saturating_add(len as u64);
-        Ok(len)
-    }
 }
 
 impl<R: Files> FolderTree<R>
@@ -233,7 +196,7 @@ where
     }
 
     /// The kept file, where it is that of the path, or else the path's own, newly opened. It is opened anew for its first
-    /// bytes too, so that each reading is one of the file that stands at the path as it begins.
+    /// bytes too, so that nothing is given that was read ahead for an earlier reading.
     fn take_kept(
         &mut self,
         alloc: Global,
@@ -293,7 +256,7 @@ where
             return Ok(None);
         };
         // After a failure the position isn't known, so the file is not kept.
-        match kept.read(offset, into) {
+        match kept.file.read(offset, into) {
             Ok(len) => {
                 self.kept = Some(kept);
                 Ok(Some(len))

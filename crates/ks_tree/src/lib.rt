@@ -8,6 +8,7 @@ mod fuse;
 mod memory;
 mod new_file;
 mod paths;
+mod read_ahead;
 mod replacement;
 mod stamps;
 mod tree;

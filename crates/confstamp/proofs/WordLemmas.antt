@@ -7,9 +7,9 @@ use Rattle.clap.specs.declared.error.kind.ErrorKind.TheVariants.{DisplayHelp, Di
 use Rattle.clap.specs.Words.{HasKind, IsAmong, Kinds, kind_of, Row, Text, first_of, first_value, is_simple, is_simple_and_free, rows_of, subcommand_name_of, subcommand_of, subcommand_rows, subcommand_rows_of, takes}
 use Rattle.std.specs.Prelude.{Box, IfErr, IsErrAnd, IsSomeAnd, Result, Ok, Err, is_some}
 use Rattle.std.proofs.lemmas.Option.{same_Some}
-use Rattle.ks_commands.specs.Requests.{IsBatchOf, IsPreviewOf}
-use Rattle.ks_commands.specs.declared.request.Request.{Request}
-use Rattle.ks_commands.specs.declared.request.Request.TheVariants as request
+use Rattle.ks_requests.specs.Requests.{IsBatchOf, IsPreviewOf}
+use Rattle.ks_requests.specs.declared.request.Request.{Request}
+use Rattle.ks_requests.specs.declared.request.Request.TheVariants as request
 use Rattle.confstamp.specs.Words.{IsHelp, IsRequestOf}
 use Rattle.std.specs.Box.{box_value}
 use Rattle.clap.specs.declared.parser.matches.ArgMatches.{ArgMatches}

@@ -1,8 +1,8 @@
 -- Laws of the definitions: the words of a preview and of a script that begin with no hyphen.
 use Rattle.std.specs.Prelude.{◌≡◌, List, [], ◌∷◌, None, codes, true}
 use Rattle.clap.specs.Words.{Text, takes}
-use Rattle.ks_commands.specs.Requests.{IsBatchOf, IsPreviewOf}
-use Rattle.ks_commands.specs.declared.request.Request.{Request}
+use Rattle.ks_requests.specs.Requests.{IsBatchOf, IsPreviewOf}
+use Rattle.ks_requests.specs.declared.request.Request.{Request}
 use Rattle.confstamp.specs.CommandLine.{command_line_app}
 use Rattle.confstamp.specs.Performing.{Makes}
 use Rattle.confstamp.specs.Words.{IsPlainWord}

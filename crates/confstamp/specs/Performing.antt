@@ -4,11 +4,11 @@ use Rattle.clap.specs.Words.{IsAmong, Text, fault_of, subcommand_of, takes}
 use Rattle.clap.specs.declared.error.kind.ErrorKind.TheVariants.{DisplayHelp, DisplayVersion}
 use Rattle.ks_tree.specs.declared.tree.Tree.{Ghosts}
 use Rattle.ks_engine.specs.declared.error.EngineError.TheVariants.{OutOfMemory}
-use Rattle.ks_commands.specs.declared.refusal.Refusal.TheVariants.{Engine}
-use Rattle.ks_commands.specs.declared.request.Request.{Request}
-use Rattle.ks_commands.specs.Endings.{Ending, Printed}
+use Rattle.ks_requests.specs.declared.refusal.Refusal.TheVariants.{Engine}
+use Rattle.ks_requests.specs.declared.request.Request.{Request}
+use Rattle.ks_requests.specs.Endings.{Ending, Printed}
+use Rattle.ks_requests.specs.Sites.{IsSiteLine, ending_site}
 use Rattle.ks_commands.specs.Performed.{Performs}
-use Rattle.ks_commands.specs.Sites.{IsSiteLine, ending_site}
 use Rattle.confstamp.specs.CommandLine.{command_line_app}
 use Rattle.confstamp.specs.Words.{IsRequestOf}
 

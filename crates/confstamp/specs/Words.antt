@@ -2,10 +2,10 @@
 use Rattle.std.specs.Prelude.{◌≡◌, ◌≢◌, ◌⊎◌, ℕ, List, [], ◌∷◌, codes, option_map, slice_index, string_bytes, unwrap_or}
 use Rattle.std.specs.List.{All}
 use Rattle.clap.specs.Words.{Row, Text, all_of, first_of}
-use Rattle.ks_commands.specs.declared.request.Request.{Request}
-use Rattle.ks_commands.specs.declared.request.Targets.{Targets}
-use Rattle.ks_commands.specs.declared.request.Request.TheVariants as request
-use Rattle.ks_commands.specs.Targets.{file_of, words_of}
+use Rattle.ks_requests.specs.declared.request.Request.{Request}
+use Rattle.ks_requests.specs.declared.request.Targets.{Targets}
+use Rattle.ks_requests.specs.declared.request.Request.TheVariants as request
+use Rattle.ks_requests.specs.Targets.{file_of, words_of}
 use Rattle.confstamp.specs.declared.words.WordsError.{WordsError}
 use Rattle.confstamp.specs.declared.words.WordsError.TheVariants.{OutOfMemory, Refused}
 use Rattle.clap.specs.Words.{kind_of}

@@ -2,7 +2,7 @@
 //! at once could leave the header of one beside the auto.conf of the other, and objects would be called fresh wrongly. Where
 //! the file system knows no locks, or the folder can't be opened, the program goes on without.
 use crate::words::{WordsError, request_of};
-use ks_commands::Request;
+use ks_requests::Request;
 use ks_script::{ScriptError, ScriptLine, read_script};
 use ks_tree::{Tree, TreeFault};
 use std::alloc::Global;

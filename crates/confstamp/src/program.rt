@@ -6,8 +6,9 @@ ghost use Rattle.confstamp.specs.Performing.{Executes};
 ghost use Rattle.confstamp.specs.Words.{IsHelp};
 
 use crate::words::{WordsError, request_of};
-use ks_commands::{Refusal, perform, refuse};
+use ks_commands::perform;
 use ks_engine::EngineError;
+use ks_requests::{Refusal, refuse};
 use ks_tree::Tree;
 use std::alloc::Global;
 use std::io::Write;

@@ -12,6 +12,7 @@ mod help;
 mod refusals;
 mod requests;
 mod scripts;
+mod texts;
 
 /// One thing done to a tree: words that are run, a file that is put there, or one that is read.
 #[derive(Clone, Copy, Debug)]

@@ -2,7 +2,7 @@
 ghost use Rattle.std.specs.Prelude.{◌≡◌, ℕ, List, [], ◌∷◌, IfErr, IfOk, codes, true, map, None, option_map, string_bytes};
 ghost use Rattle.clap.specs.Words.{first_of, found_of, rows_of, takes};
 ghost use Rattle.clap.specs.Walk.{texts};
-ghost use Rattle.ks_commands.specs.Requests.{IsBatchOf, IsPreviewOf};
+ghost use Rattle.ks_requests.specs.Requests.{IsBatchOf, IsPreviewOf};
 ghost use Rattle.confstamp.specs.CommandLine.{command_line_app};
 ghost use Rattle.confstamp.specs.Performing.{AsksForHelp, Makes};
 ghost use Rattle.confstamp.specs.Words.{AreTargets, IsPlainWord, IsRequestOf, IsTold, IsWantOfMemory, TellsHelp, word_at, words_at};
@@ -10,7 +10,7 @@ ghost use Rattle.confstamp.specs.Words.{AreTargets, IsPlainWord, IsRequestOf, Is
 use crate::command_line::command_line;
 use clap::ArgMatches;
 use clap::error::ErrorKind;
-use ks_commands::{Request, Targets};
+use ks_requests::{Request, Targets};
 use std::alloc::{AllocError, Global};
 use thiserror::Error;
 

@@ -51,11 +51,7 @@ fn check_named(path: Option<&str>) -> Result<(), EngineError>
 
 /// The bytes of a file that has to be there, 64 MiB at most. A word that is no legal path is `BadPath(0)`, and the tree is
 /// not asked; a file that isn't there is `MissingFile`, with its path.
-pub fn read_given<T: Tree>(
-    alloc: Global,
-    tree: &mut T,
-    path: &[u8],
-) -> Result<Vec<u8>, EngineError>
+pub fn read_given<T: Tree>(alloc: Global, tree: &mut T, path: &[u8]) -> Result<Vec<u8>, EngineError>
     ensures reads { Reads T.Tree tree.old tree.new (IsErrOf result EngineError.Device) }
     ensures bytes { T.is_honest → Answers (given (T.files tree.old) path.now) (λ v. v.items) result }
 {

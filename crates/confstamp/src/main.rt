@@ -43,7 +43,7 @@ fn run(rt: &HostRuntime) -> io::Result<u8> {
     }
 }
 
-/// Runs the command over a folder, and alone in it where it has to be.
+/// Runs the command over a folder.
 fn run_at(rt: &HostRuntime, place: &Place<'_>) -> io::Result<u8> {
     let folder = place.folder.as_str();
     if !is_folder(rt, folder) {
@@ -51,12 +51,21 @@ fn run_at(rt: &HostRuntime, place: &Place<'_>) -> io::Result<u8> {
         return Ok(2);
     }
     let mut tree = FolderTree::new(rt, place.folder.clone()?);
-    let alone = is_alone(rt.alloc(), &mut tree, place.words)?;
-    let _locked = lock_folder(rt, folder, alone)?;
-    if alone == Some(true) && numbers_are_lost(rt.alloc(), &mut tree) {
+    run_locked(rt, &mut tree, place)
+}
+
+/// Runs the command over the tree of a folder, alone in it where it has to be.
+fn run_locked(
+    rt: &HostRuntime,
+    tree: &mut FolderTree<&HostRuntime>,
+    place: &Place<'_>,
+) -> io::Result<u8> {
+    let alone = is_alone(rt.alloc(), tree, place.words)?;
+    let _locked = lock_folder(rt, place.folder.as_str(), alone)?;
+    if alone == Some(true) && numbers_are_lost(rt.alloc(), tree) {
         let _ = eprintln!(rt; "{LOST_NUMBERS}");
     }
-    answer(rt, &mut tree, place.words)
+    answer(rt, tree, place.words)
 }
 
 /// Runs the command over a tree and the standard streams.

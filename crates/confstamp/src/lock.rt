@@ -1,10 +1,10 @@
 //! One writer at a time: a lock on the folder that the program works in, which makes no file. Without it two synchronisations
 //! at once could leave the header of one beside the auto.conf of the other, and objects would be called fresh wrongly. Where
 //! the file system knows no locks, or the folder can't be opened, the program goes on without.
-use crate::words::{WordsError, request_of};
-use ks_commands::Request;
+use ks_requests::Request;
 use ks_script::{ScriptError, ScriptLine, read_script};
 use ks_tree::{Tree, TreeFault};
+use ks_words::{WordsError, request_of};
 use std::alloc::Global;
 use std::fs::{File, TryLockError};
 use std::io;
@@ -28,18 +28,33 @@ fn script_syncs<T: Tree>(alloc: Global, tree: &mut T, script: &str) -> io::Resul
     }
 }
 
+/// Whether the request is a synchronisation, or a script with one.
+fn request_syncs<T: Tree>(alloc: Global, tree: &mut T, request: &Request) -> io::Result<bool> {
+    match request {
+        Request::Sync { .. } => Ok(true),
+        Request::Batch { script } => script_syncs(alloc, tree, script.as_str()),
+        _ => Ok(false),
+    }
+}
+
+/// The request of the words, or `None` where they make none, which is told later.
+fn asked<'a>(alloc: Global, words: &'a [&'a str]) -> io::Result<Option<Request>> {
+    match request_of(alloc, words) {
+        Ok(request) => Ok(Some(request)),
+        Err(WordsError::Refused(_)) => Ok(None),
+        Err(WordsError::OutOfMemory) => Err(io::Error::from(ErrorKind::OutOfMemory)),
+    }
+}
+
 /// Whether the command that the words make has to be alone in its folder, or `None` where they make none.
 pub(crate) fn is_alone<'a, T: Tree>(
     alloc: Global,
     tree: &mut T,
     words: &'a [&'a str],
 ) -> io::Result<Option<bool>> {
-    match request_of(alloc, words) {
-        Ok(Request::Sync { .. }) => Ok(Some(true)),
-        Ok(Request::Batch { script }) => Ok(Some(script_syncs(alloc, tree, script.as_str())?)),
-        Ok(_) => Ok(Some(false)),
-        Err(WordsError::Refused(_)) => Ok(None),
-        Err(WordsError::OutOfMemory) => Err(io::Error::from(ErrorKind::OutOfMemory)),
+    match asked(alloc, words)? {
+        Some(request) => Ok(Some(request_syncs(alloc, tree, &request)?)),
+        None => Ok(None),
     }
 }
 

@@ -1,60 +1,85 @@
 //! The program `confstamp`: a command line over the current folder, or that of `-C`, and the standard streams.
 #![tactic(auto)]
 
-mod command_line;
 mod folder;
-mod laws;
 mod lock;
 mod lost_numbers;
-mod program;
-mod usage;
-mod words;
 
-use folder::{is_folder, take_place};
+use folder::{Place, is_folder, take_place};
+use ks_program::execute;
 use ks_tree::FolderTree;
-pub use laws::{batch_words, preview_words};
 use lock::{is_alone, lock_folder};
 use lost_numbers::numbers_are_lost;
-pub use program::execute;
+use std::alloc::{AllocError, Global};
 use std::io::{BufWriter, ErrorKind};
 use std::process::ExitCode;
 use std::{env, io};
-pub use words::{WordsError, request_of};
 
 /// What is said before a synchronisation over an auto.conf that another tool wrote.
 const LOST_NUMBERS: &str =
     "confstamp: auto.conf has lost its generation (another tool wrote it), so numbers begin again: \
     remove include/config and build everything anew";
 
-/// Runs the command over its folder and the standard streams.
+/// The texts of the words.
+fn texts_of(alloc: Global, words: &[String]) -> Result<Vec<&str>, AllocError> {
+    let mut texts = Vec::with_capacity(alloc, words.len())?;
+    for word in words {
+        texts.push(word.as_str())?;
+    }
+    Ok(texts)
+}
+
+/// Runs the command over the folder that its words name and the standard streams.
 fn run(rt: &HostRuntime) -> io::Result<u8> {
     let alloc = rt.alloc();
     let words: Vec<String> = env::args(rt)?.skip(1).collect(alloc)?;
-    let mut texts: Vec<&str> = Vec::with_capacity(alloc, words.len())?;
-    for word in &words {
-        texts.push(word.as_str())?;
+    let texts = texts_of(alloc, &words)?;
+    match take_place(alloc, &texts)? {
+        Some(place) => run_at(rt, &place),
+        None => {
+            let _ = eprintln!(rt; "confstamp: -C: a folder is needed behind it");
+            Ok(2)
+        }
     }
-    let Some(place) = take_place(alloc, &texts)? else {
-        let _ = eprintln!(rt; "confstamp: -C: a folder is needed behind it");
-        return Ok(2);
-    };
+}
+
+/// Runs the command over a folder.
+fn run_at(rt: &HostRuntime, place: &Place<'_>) -> io::Result<u8> {
     let folder = place.folder.as_str();
     if !is_folder(rt, folder) {
         let _ = eprintln!(rt; "confstamp: -C: {folder}: No such folder");
         return Ok(2);
     }
     let mut tree = FolderTree::new(rt, place.folder.clone()?);
-    let alone = is_alone(alloc, &mut tree, place.words)?;
-    let _locked = lock_folder(rt, folder, alone)?;
-    if alone == Some(true) && numbers_are_lost(alloc, &mut tree) {
+    run_locked(rt, &mut tree, place)
+}
+
+/// Runs the command over the tree of a folder, alone in it where it has to be.
+fn run_locked(
+    rt: &HostRuntime,
+    tree: &mut FolderTree<&HostRuntime>,
+    place: &Place<'_>,
+) -> io::Result<u8> {
+    let alone = is_alone(rt.alloc(), tree, place.words)?;
+    let _locked = lock_folder(rt, place.folder.as_str(), alone)?;
+    if alone == Some(true) && numbers_are_lost(rt.alloc(), tree) {
         let _ = eprintln!(rt; "{LOST_NUMBERS}");
     }
-    let mut out = BufWriter::new(alloc, rt.stdout())?;
+    answer(rt, tree, place.words)
+}
+
+/// Runs the command over a tree and the standard streams.
+fn answer<'a>(
+    rt: &HostRuntime,
+    tree: &mut FolderTree<&HostRuntime>,
+    words: &'a [&'a str],
+) -> io::Result<u8> {
+    let mut out = BufWriter::new(rt.alloc(), rt.stdout())?;
     let mut err = rt.stderr();
     let failures = tree.failures();
-    let status = execute(alloc, &mut tree, place.words, &mut out, &mut err);
+    let status = execute(rt.alloc(), tree, words, &mut out, &mut err);
     if status == 2 && tree.failures() > failures {
-        tell_failure(rt, &tree);
+        tell_failure(rt, tree);
     }
     Ok(status)
 }
@@ -84,6 +109,3 @@ fn main(rt: HostRuntime) -> ExitCode {
         }
     }
 }
-
-#[cfg(test)]
-mod tests;

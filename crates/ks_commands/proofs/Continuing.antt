@@ -10,14 +10,14 @@ use Rattle.ks_engine.specs.History.{History}
 use Rattle.ks_engine.specs.Refusals.{IsGivenUp}
 use Rattle.ks_engine.specs.Runs.{FollowsStale, Run}
 use Rattle.ks_engine.specs.Shows.{Shows}
-use Rattle.ks_commands.specs.declared.refusal.Refusal.{Refusal}
-use Rattle.ks_commands.specs.declared.refusal.Refusal.TheVariants.{Engine}
-use Rattle.ks_commands.specs.Endings.{Ending}
-use Rattle.ks_commands.specs.Inputs.{given}
+use Rattle.ks_requests.specs.declared.refusal.Refusal.{Refusal}
+use Rattle.ks_requests.specs.declared.refusal.Refusal.TheVariants.{Engine}
+use Rattle.ks_requests.specs.Endings.{Ending}
+use Rattle.ks_requests.specs.Inputs.{given}
+use Rattle.ks_requests.specs.Replies.{explanation_lines, verdict_line}
+use Rattle.ks_requests.specs.Statuses.{explanation_status, verdict_status}
 use Rattle.ks_commands.specs.Performed.{EndsImpact, EndsStale, EndsWhy, FollowsImpact, FollowsWhy, IsAnswerBehind, IsAnswerOn, IsExplanationOn, LeavesSync, Runs, RunsAll, by_files, by_histories, count_of, not_counted}
-use Rattle.ks_commands.specs.Replies.{explanation_lines, verdict_line}
 use Rattle.ks_commands.specs.Scripts.{HasGivenUp, actions_of, script_actions, script_at}
-use Rattle.ks_commands.specs.Statuses.{explanation_status, verdict_status}
 use Rattle.ks_commands.proofs.Verdicts.{answers_weaker}
 
 pub sync_leaves : (old mid new : Files) (k k' d d' : List ℕ) (answer : Result Report EngineError) → mid ≡ old → k ≡ k' → d ≡ d'

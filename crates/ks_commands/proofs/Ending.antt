@@ -5,18 +5,18 @@ use Rattle.ks_tree.specs.Files.{Files}
 use Rattle.ks_engine.specs.declared.error.EngineError.{EngineError}
 use Rattle.ks_engine.specs.declared.error.EngineError.TheVariants.{OutOfMemory}
 use Rattle.ks_engine.specs.Refusals.{IsGivenUp}
-use Rattle.ks_commands.specs.declared.refusal.Refusal.{Refusal}
-use Rattle.ks_commands.specs.declared.refusal.Refusal.TheVariants.{Engine}
-use Rattle.ks_commands.specs.declared.request.Request.TheVariants as request
-use Rattle.ks_commands.specs.declared.status.Outcome.{Outcome}
-use Rattle.ks_commands.specs.declared.status.Status.{Status}
-use Rattle.ks_commands.specs.declared.status.Status.TheVariants as status
-use Rattle.ks_commands.specs.Endings.{Ending, Printed}
+use Rattle.ks_requests.specs.declared.refusal.Refusal.{Refusal}
+use Rattle.ks_requests.specs.declared.refusal.Refusal.TheVariants.{Engine}
+use Rattle.ks_requests.specs.declared.request.Request.TheVariants as request
+use Rattle.ks_requests.specs.declared.status.Outcome.{Outcome}
+use Rattle.ks_requests.specs.declared.status.Status.{Status}
+use Rattle.ks_requests.specs.declared.status.Status.TheVariants as status
+use Rattle.ks_requests.specs.Endings.{Ending, Printed}
+use Rattle.ks_requests.specs.Outputs.{WritesPreview}
+use Rattle.ks_requests.specs.Statuses.{code_of}
 use Rattle.ks_commands.specs.Laws.{IsPreviewed, PreviewsArePerformed, RefusalsChangeNothing, StatusesAreAtMostTwo}
-use Rattle.ks_commands.specs.Outputs.{WritesPreview}
 use Rattle.ks_commands.specs.Performed.{EndsPreview}
 use Rattle.ks_commands.specs.Scripts.{HasGivenUp}
-use Rattle.ks_commands.specs.Statuses.{code_of}
 
 same_refusal : (r s : Refusal) → ◌≡◌ {A = Ending} (Err r) (Err s) → r ≡ s
 same_refusal r s e = cc

@@ -15,15 +15,15 @@ use Rattle.ks_engine.specs.Runs.{FollowsStale, Leads, Leaves, Step}
 use Rattle.ks_engine.specs.Staleness.{changed_since, found, suspect_since}
 use Rattle.ks_engine.specs.Verdicts.{IsGivenUpSync}
 use Rattle.ks_engine.proofs.Heart.{suspect_since-changed_since}
-use Rattle.ks_commands.specs.declared.request.Request.{Request}
-use Rattle.ks_commands.specs.declared.request.Request.TheVariants as request
-use Rattle.ks_commands.specs.Endings.{Ending}
+use Rattle.ks_requests.specs.declared.request.Request.{Request}
+use Rattle.ks_requests.specs.declared.request.Request.TheVariants as request
+use Rattle.ks_requests.specs.Endings.{Ending}
+use Rattle.ks_requests.specs.Replies.{explanation_lines, verdict_line}
+use Rattle.ks_requests.specs.Statuses.{explanation_status, reply_status, verdict_status, worst}
+use Rattle.ks_requests.specs.Targets.{targets_at}
 use Rattle.ks_commands.specs.Laws.{BatchTellsChanges, ProgramsTellChanges}
 use Rattle.ks_commands.specs.Performed.{Continues, EndsImpact, EndsStale, EndsWhy, FollowsImpact, FollowsWhy, by_histories, count_of, not_counted}
 use Rattle.ks_commands.specs.Programs.{Chain, ProgramRun, ProgramTellsChanges, TellsBehind, TellsCauses, TellsChange, changes_told}
-use Rattle.ks_commands.specs.Replies.{explanation_lines, verdict_line}
-use Rattle.ks_commands.specs.Statuses.{explanation_status, reply_status, verdict_status, worst}
-use Rattle.ks_commands.specs.Targets.{targets_at}
 use Rattle.ks_commands.proofs.Verdicts.{answers_weaker}
 
 -- ---- none was broken off before a step where none is behind it

@@ -1,6 +1,3 @@
-pub mod Refusing
-pub mod Writing
-pub mod Printing
 pub mod Loading
 pub mod Continuing
 pub mod Siting

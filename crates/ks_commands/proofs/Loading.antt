@@ -12,7 +12,7 @@ use Rattle.ks_engine.specs.Actions as asked
 use Rattle.ks_engine.specs.Recording.{followed}
 use Rattle.ks_engine.specs.Refusals.{and_then}
 use Rattle.ks_script.specs.Script.{Line, Sync, Record, Stale}
-use Rattle.ks_commands.specs.Inputs.{Texts, given}
+use Rattle.ks_requests.specs.Inputs.{Texts, given}
 use Rattle.ks_commands.specs.Kept.{AreGiven, AreKept, IsKept}
 use Rattle.ks_commands.specs.Scripts.{action_at, actions_at}
 

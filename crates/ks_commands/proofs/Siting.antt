@@ -1,5 +1,5 @@
--- What stands at a site, and what a read behind a refusal leaves.
-use Rattle.std.proofs.Common.{◌≡◌, ◌≢◌, ◌∙◌, ℕ, List, Option, Some, None, Ok, Err, IfSome, inl, inr, refl, sym, ap, subst, arith, option_map}
+-- What a read behind a refusal leaves.
+use Rattle.std.proofs.Common.{◌≡◌, ◌≢◌, ℕ, List, Option, Some, None, Ok, Err, IfSome, inl, inr, refl, sym, ap, ◌∙◌, subst, arith}
 use Rattle.ks_tree.specs.declared.tree.Tree.{Ghosts}
 use Rattle.ks_tree.specs.Files.{Files}
 use Rattle.ks_tree.specs.Frames.{Reads}
@@ -7,31 +7,13 @@ use Rattle.ks_engine.specs.declared.error.EngineError.TheVariants.{OutOfMemory}
 use Rattle.ks_engine.specs.Follows.{TreeState, at}
 use Rattle.ks_engine.specs.History.{History}
 use Rattle.ks_engine.specs.Shows.{Shows}
-use Rattle.ks_commands.specs.declared.refusal.Refusal.{Refusal}
-use Rattle.ks_commands.specs.declared.refusal.Refusal.TheVariants.{Engine}
-use Rattle.ks_commands.specs.declared.request.Request.{Request}
-use Rattle.ks_commands.specs.declared.request.Request.TheVariants as request
-use Rattle.ks_commands.specs.declared.sites.Part.{Part}
-use Rattle.ks_commands.specs.Endings.{Ending}
+use Rattle.ks_requests.specs.declared.refusal.Refusal.{Refusal}
+use Rattle.ks_requests.specs.declared.refusal.Refusal.TheVariants.{Engine}
+use Rattle.ks_requests.specs.declared.request.Request.{Request}
+use Rattle.ks_requests.specs.declared.request.Request.TheVariants as request
+use Rattle.ks_requests.specs.Endings.{Ending}
+use Rattle.ks_requests.specs.Sites.{IsSiteLine, IsThere, Site, excerpt_at, site_of}
 use Rattle.ks_commands.specs.Performed.{Continues, Ends, Performs, by_files}
-use Rattle.ks_commands.specs.Sites.{IsSiteLine, IsThere, Site, excerpt, excerpt_at, excerpt_in, part_text, site_of}
-
-excerpt_of : (found : Option (List ℕ)) (text : List ℕ) → option_map excerpt found ≡ Some text → (bytes : List ℕ) × (text ≡ excerpt bytes)
-excerpt_of None text is = absurd cc
-excerpt_of (Some bytes) text is = (bytes, cc)
-
--- what stands at a part is an excerpt
-pub excerpts : {V : Type 0} (items : V → List ℕ) (part : Part) (text : List ℕ) (found : Option V) → IfSome found (λ t. excerpt_in part text ≡ Some (items t))
-    → IfSome found (λ t. (bytes : List ℕ) × (items t ≡ excerpt bytes))
-excerpts items part text None is = is
-excerpts items part text (Some t) is = excerpt_of (part_text part text) (items t) is
-
--- .. and on an honest tree that of the file
-pub are_there : {V : Type 0} (items : V → List ℕ) (honest : Type 0) (files : Files) (site : Site) (found : Option V)
-    → (honest → IfSome found (λ t. excerpt_at files site ≡ Some (items t))) → IfSome found (λ t. (bytes : List ℕ) × (items t ≡ excerpt bytes))
-    → IfSome (option_map items found) (IsThere honest files site)
-are_there items honest files site None there visible = visible
-are_there items honest files site (Some t) there visible = record { visible = visible; there = there }
 
 pub some_none : {C : Type 0} (site : Site) → ◌≡◌ {A = Option Site} (Some site) None → C
 some_none site is = absurd cc

@@ -9,12 +9,12 @@ use Rattle.ks_tree.specs.Files.{Files}
 use Rattle.ks_engine.specs.declared.error.EngineError.{EngineError}
 use Rattle.ks_engine.specs.declared.impact.Impact.{Impact}
 use Rattle.ks_engine.specs.Impact.{IsImpactOf}
-use Rattle.ks_commands.specs.declared.status.Count.{Count}
-use Rattle.ks_commands.specs.declared.status.Status.{Status}
-use Rattle.ks_commands.specs.Endings.{Ending}
+use Rattle.ks_requests.specs.declared.status.Count.{Count}
+use Rattle.ks_requests.specs.declared.status.Status.{Status}
+use Rattle.ks_requests.specs.Endings.{Ending}
+use Rattle.ks_requests.specs.Replies.{answer_line, verdict_line}
+use Rattle.ks_requests.specs.Statuses.{code_of, stale_among, status_unless_refused, verdict_status, worst}
 use Rattle.ks_commands.specs.Performed.{EndsAll, count_of, IsAnswerBehind, TellsAll, TellsAnswer}
-use Rattle.ks_commands.specs.Replies.{answer_line, verdict_line}
-use Rattle.ks_commands.specs.Statuses.{code_of, stale_among, status_unless_refused, verdict_status, worst}
 
 abbrev Part : Type 0
 Part = List ℕ × List ℕ × ℕ

@@ -2,7 +2,7 @@
 use Rattle.std.specs.Prelude.{◌≡◌, ℕ, List, Some, Ok, IsSome, ⊤}
 use Rattle.ks_tree.specs.Files.{Files, content}
 use Rattle.ks_script.specs.Script.{Line, Sync}
-use Rattle.ks_commands.specs.Inputs.{given}
+use Rattle.ks_requests.specs.Inputs.{given}
 
 -- Each file kept is the one that its path names.
 abbrev pub AreGiven : Files → Files → Type 0

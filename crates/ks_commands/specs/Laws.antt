@@ -4,17 +4,17 @@ use Rattle.std.specs.List.{All}
 use Rattle.ks_tree.specs.Files.{Files}
 use Rattle.ks_engine.specs.Follows.{TreeState}
 use Rattle.ks_engine.specs.History.{NoneBroken}
-use Rattle.ks_commands.specs.declared.refusal.Refusal.{Refusal}
-use Rattle.ks_commands.specs.declared.request.Request.{Request}
-use Rattle.ks_commands.specs.declared.status.Outcome.{Outcome}
-use Rattle.ks_commands.specs.declared.status.Status.TheVariants.{Done}
-use Rattle.ks_commands.specs.Endings.{Ending, Printed}
-use Rattle.ks_commands.specs.Outputs.{WritesPreview}
+use Rattle.ks_requests.specs.declared.refusal.Refusal.{Refusal}
+use Rattle.ks_requests.specs.declared.request.Request.{Request}
+use Rattle.ks_requests.specs.declared.status.Outcome.{Outcome}
+use Rattle.ks_requests.specs.declared.status.Status.TheVariants.{Done}
+use Rattle.ks_requests.specs.Endings.{Ending, Printed}
+use Rattle.ks_requests.specs.Outputs.{WritesPreview}
+use Rattle.ks_requests.specs.Requests.{IsPreviewOf}
+use Rattle.ks_requests.specs.Statuses.{code_of}
 use Rattle.ks_commands.specs.Performed.{Ends, EndsBatch, by_files, by_histories}
 use Rattle.ks_commands.specs.Programs.{Chain, ProgramRun, ProgramTellsChanges, changes_told}
-use Rattle.ks_commands.specs.Requests.{IsPreviewOf}
 use Rattle.ks_commands.specs.Scripts.{HasGivenUp}
-use Rattle.ks_commands.specs.Statuses.{code_of}
 
 -- A preview is done or refused, leaves the files as they are, and once done it has printed what is said of these words.
 pub record IsPreviewed (k d : List ℕ) (o : Option (List ℕ)) (old new : Files) (before after : Option (List ℕ)) (status : ℕ) : Type 0 where

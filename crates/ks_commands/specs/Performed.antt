@@ -26,22 +26,24 @@ use Rattle.ks_engine.specs.Runs.{Run, FollowsStale}
 use Rattle.ks_engine.specs.Shows.{Shows}
 use Rattle.ks_engine.specs.SyncPlan.{IsSyncPlan}
 use Rattle.ks_engine.specs.Synchronised.{IsSynced, IsSyncRefused}
-use Rattle.ks_commands.specs.declared.preview.PreviewError.{PreviewError}
-use Rattle.ks_commands.specs.declared.preview.PreviewError.TheVariants.{Output as PreviewOutput}
-use Rattle.ks_commands.specs.declared.refusal.Refusal.TheVariants.{Engine}
-use Rattle.ks_commands.specs.declared.request.Request.{Request}
-use Rattle.ks_commands.specs.declared.request.Request.TheVariants.{Batch, Diff, Fixdep, Impact, Outdated, Preview, Record, Stale, Sync, Why}
-use Rattle.ks_commands.specs.declared.status.Count.{Count}
-use Rattle.ks_commands.specs.declared.status.Status.TheVariants.{Done}
+use Rattle.ks_requests.specs.declared.preview.PreviewError.{PreviewError}
+use Rattle.ks_requests.specs.declared.preview.PreviewError.TheVariants.{Output as PreviewOutput}
+use Rattle.ks_requests.specs.declared.refusal.Refusal.TheVariants.{Engine}
+use Rattle.ks_requests.specs.declared.request.Request.{Request}
+use Rattle.ks_requests.specs.declared.request.Request.TheVariants.{Batch, Diff, Fixdep, Impact, Outdated, Preview, Record, Stale, Sync, Why}
+use Rattle.ks_requests.specs.declared.status.Count.{Count}
+use Rattle.ks_requests.specs.declared.status.Status.TheVariants.{Done}
+use Rattle.ks_requests.specs.Endings.{Answered, Ending, Stopped, Tells, TellsCount}
+use Rattle.ks_requests.specs.Inputs.{Inputs, Texts, inputs_at, texts_at}
+use Rattle.ks_requests.specs.Preview.{IsPreview, IsPreviewRefusal, preview_refusal}
+use Rattle.ks_requests.specs.Refusals.{of_preview}
+use Rattle.ks_requests.specs.Replies.{answer_line, build_line, explanation_lines, recorded_line, reply_lines, report_lines, verdict_line}
+use Rattle.ks_requests.specs.Requests.{IsNoQuestion}
+use Rattle.ks_requests.specs.Statuses.{build_status, explanation_status, reply_status, stale_among, status_unless_refused, verdict_status, worst}
+use Rattle.ks_requests.specs.Targets.{targets_at}
 use Rattle.ks_commands.specs.Differences.{IsDiff}
-use Rattle.ks_commands.specs.Endings.{Answered, Ending, Stopped, Tells, TellsCount}
-use Rattle.ks_commands.specs.Inputs.{Inputs, Texts, command_file_at, inputs_at, texts_at}
-use Rattle.ks_commands.specs.Preview.{IsPreview, IsPreviewRefusal, of_preview, preview_refusal}
-use Rattle.ks_commands.specs.Replies.{answer_line, build_line, explanation_lines, recorded_line, reply_lines, report_lines, verdict_line}
-use Rattle.ks_commands.specs.Requests.{IsNoQuestion}
+use Rattle.ks_commands.specs.Fixdep.{command_file_at}
 use Rattle.ks_commands.specs.Scripts.{StoppedScript, script_at}
-use Rattle.ks_commands.specs.Statuses.{build_status, explanation_status, reply_status, stale_among, status_unless_refused, verdict_status, worst}
-use Rattle.ks_commands.specs.Targets.{targets_at}
 
 -- What the engine's calls answer and leave: the one way of saying it by files, the other by histories.
 pub record Effects : Type 1 where

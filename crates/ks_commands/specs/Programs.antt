@@ -18,8 +18,8 @@ use Rattle.ks_engine.specs.Runs.{IsShown, Step}
 use Rattle.ks_engine.specs.Staleness.{changed_since, first_changed, found, verdict}
 use Rattle.ks_engine.specs.Synchronised.{IsSynced}
 use Rattle.ks_engine.specs.Verdicts.{IsChangedVerdict}
-use Rattle.ks_commands.specs.declared.request.Request.{Request}
-use Rattle.ks_commands.specs.Endings.{Ending}
+use Rattle.ks_requests.specs.declared.request.Request.{Request}
+use Rattle.ks_requests.specs.Endings.{Ending}
 use Rattle.ks_commands.specs.Performed.{Continues, Effects, Ends}
 
 pub record ProgramRun : Type 0 where

@@ -2,12 +2,12 @@
 use Rattle.std.specs.Prelude.{ℕ, List, Option}
 use Rattle.ks_tree.specs.Files.{Files}
 use Rattle.ks_engine.specs.Impact.{IsImpactOf}
+use Rattle.ks_requests.specs.declared.status.Count.{Count}
+use Rattle.ks_requests.specs.Replies.{explanation_lines, verdict_line}
+use Rattle.ks_requests.specs.Statuses.{explanation_status, verdict_status}
 use Rattle.ks_commands.specs.declared.questions.Question.{Question}
 use Rattle.ks_commands.specs.declared.questions.Question.TheVariants.{Behind, Stale, Why}
-use Rattle.ks_commands.specs.declared.status.Count.{Count}
 use Rattle.ks_commands.specs.Performed.{count_of, not_counted, IsAnswerBehind, IsAnswerOn, IsExplanationOn, TellsAnswer}
-use Rattle.ks_commands.specs.Replies.{explanation_lines, verdict_line}
-use Rattle.ks_commands.specs.Statuses.{explanation_status, verdict_status}
 
 abbrev pub tells_of : Files → Question → List ℕ → List ℕ → ℕ → Type 0
 tells_of files Stale = TellsAnswer verdict_line verdict_status (IsAnswerOn files)

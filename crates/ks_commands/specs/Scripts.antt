@@ -2,7 +2,6 @@
 use Rattle.std.specs.Prelude.{◌≡◌, ◌⊎◌, ℕ, List, [], ◌∷◌, Option, Some, None, Result, Ok, Err}
 use Rattle.ks_tree.specs.Files.{Files}
 use Rattle.ks_engine.specs.declared.error.EngineError.{EngineError}
-use Rattle.ks_engine.specs.declared.error.EngineError.TheVariants.{TooLarge, OutOfMemory}
 use Rattle.ks_engine.specs.Actions.{Action}
 use Rattle.ks_engine.specs.Actions as asked
 use Rattle.ks_engine.specs.Recording.{followed}
@@ -10,11 +9,11 @@ use Rattle.ks_engine.specs.Refusals.{IsGivenUp, and_then}
 use Rattle.ks_script.specs.Script.{Line, Sync, Record, Stale, script_lines}
 use Rattle.ks_script.specs.ScriptRefusals.{script_refusal}
 use Rattle.ks_script.specs.declared.error.ScriptError.{ScriptError}
-use Rattle.ks_script.specs.declared.error.ScriptError.TheVariants as script
-use Rattle.ks_commands.specs.declared.refusal.Refusal.{Refusal}
-use Rattle.ks_commands.specs.declared.refusal.Refusal.TheVariants.{Engine, BadScript}
-use Rattle.ks_commands.specs.Endings.{Ending}
-use Rattle.ks_commands.specs.Inputs.{given, read_texts}
+use Rattle.ks_requests.specs.declared.refusal.Refusal.{Refusal}
+use Rattle.ks_requests.specs.declared.refusal.Refusal.TheVariants.{Engine}
+use Rattle.ks_requests.specs.Endings.{Ending}
+use Rattle.ks_requests.specs.Inputs.{given, read_texts}
+use Rattle.ks_requests.specs.Refusals.{of_script}
 
 -- what a line asks for, with the files at its paths
 abbrev pub action_at : Files → Line → Result Action EngineError
@@ -30,11 +29,6 @@ actions_at files (line ∷ lines) = followed (action_at files line) (actions_at 
 abbrev pub of_engine : {A : Type 0} → Result A EngineError → Result A Refusal
 of_engine (Ok x) = Ok x
 of_engine (Err e) = Err (Engine e)
-
-abbrev pub of_script : ScriptError → Refusal
-of_script (script.BadScript line) = BadScript line
-of_script script.TooLarge = Engine TooLarge
-of_script script.OutOfMemory = Engine OutOfMemory
 
 abbrev pub unless_refused : Option ScriptError → Result (List Action) EngineError → Result (List Action) Refusal
 unless_refused None actions = of_engine actions

@@ -5,15 +5,12 @@ ghost use Rattle.std.specs.Prelude.{◌≡◌, Err, IfOk};
 ghost use Rattle.ks_tree.specs.Files.{HasRisen};
 ghost use Rattle.ks_engine.specs.Follows.{GoesOn};
 ghost use Rattle.ks_engine.specs.declared.error.EngineError.TheVariants.{Device};
-ghost use Rattle.ks_commands.specs.declared.refusal.Refusal.TheVariants.{Engine};
-ghost use Rattle.ks_commands.specs.declared.status.Status.TheVariants.{Done};
+ghost use Rattle.ks_requests.specs.declared.refusal.Refusal.TheVariants.{Engine};
+ghost use Rattle.ks_requests.specs.declared.status.Status.TheVariants.{Done};
 ghost use Rattle.ks_commands.specs.Performed.{EndsRecord, EndsSync, by_files, by_histories};
 
-use crate::inputs::texts_at;
-use crate::refusal::Refusal;
-use crate::replies::{tell_recorded, tell_report};
-use crate::status::Outcome;
 use ks_engine::{record_object, sync};
+use ks_requests::{Outcome, Refusal, tell_recorded, tell_report, texts_at};
 use ks_tree::Tree;
 use std::alloc::Global;
 

@@ -8,11 +8,11 @@ ghost use Rattle.ks_fixdep.specs.CommandFile.{is_command};
 ghost use Rattle.ks_tree.specs.Frames.{Reads};
 ghost use Rattle.ks_engine.specs.Recording.{words};
 ghost use Rattle.ks_engine.specs.Refusals.{Answers};
-ghost use Rattle.ks_commands.specs.Inputs.{command_file_at};
+ghost use Rattle.ks_commands.specs.Fixdep.{command_file_at};
 
-use crate::inputs::read_given;
 use ks_engine::{EngineError, scan_all};
 use ks_fixdep::{command_is_legal, read_depfile, record_text};
+use ks_requests::read_given;
 use ks_symbols::{path_is_legal, target_is_legal};
 use ks_tree::Tree;
 use std::alloc::Global;
@@ -33,7 +33,7 @@ fn check_words(depfile: &[u8], target: &[u8], command: &[u8]) -> Result<(), Engi
 }
 
 /// The text of a target's command file, without a generation.
-#[tactic(auto, unfolding(crate::specs::Inputs::command_file_at))]
+#[tactic(auto, unfolding(crate::specs::Fixdep::command_file_at))]
 pub(crate) fn command_file_text<T: Tree>(
     alloc: Global,
     tree: &mut T,

@@ -7,25 +7,22 @@ ghost use Rattle.ks_tree.specs.Files.{HasRisen};
 ghost use Rattle.ks_tree.specs.Frames.{Reads};
 ghost use Rattle.ks_engine.specs.Follows.{GoesOn};
 ghost use Rattle.ks_engine.specs.declared.error.EngineError.TheVariants.{Device};
-ghost use Rattle.ks_commands.specs.declared.refusal.Refusal.TheVariants.{Engine};
-ghost use Rattle.ks_commands.specs.declared.status.Status.TheVariants.{Done};
-ghost use Rattle.ks_commands.specs.Endings.{Ending, Printed};
-ghost use Rattle.ks_commands.specs.Requests.{IsNoQuestion};
-ghost use Rattle.ks_commands.specs.Sites.{IsSiteLine, ending_site};
+ghost use Rattle.ks_requests.specs.declared.refusal.Refusal.TheVariants.{Engine};
+ghost use Rattle.ks_requests.specs.declared.status.Status.TheVariants.{Done};
+ghost use Rattle.ks_requests.specs.Endings.{Ending, Printed};
+ghost use Rattle.ks_requests.specs.Requests.{IsNoQuestion};
+ghost use Rattle.ks_requests.specs.Sites.{IsSiteLine, ending_site};
 ghost use Rattle.ks_commands.specs.Performed.{Continues, Ends, EndsFixdep, EndsPreview, Performs, by_files};
 
 use crate::batch::run_script;
 use crate::changes::{record_target, synchronise};
 use crate::differences::tell_differences;
 use crate::fixdep::command_file_text;
-use crate::inputs::{inputs_at, lent, lent_path};
-use crate::output::{print, refuse, refuse_at};
-use crate::preview::preview_of;
 use crate::questions::{Question, ask_behind, ask_targets, outdated_target};
-use crate::refusal::Refusal;
-use crate::request::Request;
-use crate::sites::site_of;
-use crate::status::{Outcome, Status};
+use ks_requests::{
+    Outcome, Refusal, Request, Status, inputs_at, lent, lent_path, preview_of, print, refuse,
+    refuse_at, site_of,
+};
 use ks_tree::Tree;
 use std::alloc::Global;
 use std::io::Write;

@@ -6,23 +6,19 @@ ghost use Rattle.std.specs.Prelude.{◌≡◌, ◌++◌, ℕ, List, Err, IfOk, O
 ghost use Rattle.ks_tree.specs.Frames.{Reads};
 ghost use Rattle.ks_engine.specs.Memos.{IsMemoOf};
 ghost use Rattle.ks_engine.specs.declared.error.EngineError.TheVariants.{Device};
-ghost use Rattle.ks_commands.specs.declared.refusal.Refusal.TheVariants.{Engine};
+ghost use Rattle.ks_requests.specs.declared.refusal.Refusal.TheVariants.{Engine};
+ghost use Rattle.ks_requests.specs.Replies.{answer_line, explanation_lines, verdict_line};
+ghost use Rattle.ks_requests.specs.Statuses.{code_of, explanation_status, status_unless_refused, verdict_status};
+ghost use Rattle.ks_requests.specs.Targets.{targets_at};
 ghost use Rattle.ks_commands.specs.Performed.{EndsAll, EndsImpact, EndsOutdated, TellsAll, by_files};
 ghost use Rattle.ks_commands.specs.Questions.{counted_of, tells_of};
-ghost use Rattle.ks_commands.specs.Replies.{answer_line, explanation_lines, verdict_line};
-ghost use Rattle.ks_commands.specs.Statuses.{code_of, explanation_status, status_unless_refused, verdict_status};
-ghost use Rattle.ks_commands.specs.Targets.{targets_at};
 
-use crate::inputs::{lent, texts_at};
-use crate::refusal::Refusal;
-use crate::replies::{
-    build_status, verdict_status, write_build_line, write_explanation, write_refused_target,
-    write_verdict_line,
-};
-use crate::request::Targets;
-use crate::status::{Count, Outcome, Status, stale_of, worse};
-use crate::targets::{all_targets, read_targets};
 use ks_engine::{EngineError, Explanation, Impact, Memo, Verdict, explain_by, outdated, stale_by};
+use ks_requests::{
+    Count, Outcome, Refusal, Status, Targets, all_targets, build_status, lent, read_targets,
+    stale_of, texts_at, verdict_status, worse, write_build_line, write_explanation,
+    write_refused_target, write_verdict_line,
+};
 use ks_tree::Tree;
 use std::alloc::{AllocError, Global};
 

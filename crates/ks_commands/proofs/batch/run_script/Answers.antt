@@ -4,7 +4,7 @@ use Rattle.std.proofs.lemmas.List.{length-map}
 use Rattle.ks_engine.specs.Actions.{action}
 use Rattle.ks_engine.specs.Follows.{at}
 use Rattle.ks_engine.specs.Shows.{Shows}
-use Rattle.ks_commands.specs.declared.refusal.Refusal.TheVariants.{Engine}
+use Rattle.ks_requests.specs.declared.refusal.Refusal.TheVariants.{Engine}
 use Rattle.ks_commands.specs.Performed.{Runs}
 use Rattle.ks_commands.specs.Scripts.{of_engine}
 use Rattle.ks_commands.proofs.Continuing.{run_follows, runs_all, script_missing, script_stopped, script_there}

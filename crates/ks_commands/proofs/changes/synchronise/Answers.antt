@@ -2,7 +2,7 @@ use Rattle.std.proofs.Common.{inr, Ok, Err, sym, ap, ◌∙◌, subst}
 use Rattle.std.proofs.lemmas.Result.{err_from_is_err_and}
 use Rattle.ks_engine.specs.Follows.{at}
 use Rattle.ks_engine.specs.Shows.{Shows}
-use Rattle.ks_commands.specs.Views.{seen_texts}
+use Rattle.ks_requests.specs.Views.{seen_texts}
 use Rattle.ks_commands.proofs.Continuing.{sync_follows, sync_leaves}
 use Rattle.ks_commands.proofs.changes.synchronise.Goals as goal
 

@@ -1,6 +1,6 @@
 use Rattle.std.proofs.Common.{inl, inr, Err, ap, refl, ◌∙◌}
 use Rattle.std.proofs.lemmas.Result.{err_from_is_err_and}
-use Rattle.ks_commands.specs.Views.{seen_texts}
+use Rattle.ks_requests.specs.Views.{seen_texts}
 use Rattle.ks_commands.proofs.differences.tell_differences.Goals as goal
 
 pub returns-in_err-text-clause-told : goal.returns-in_err-text-clause-told

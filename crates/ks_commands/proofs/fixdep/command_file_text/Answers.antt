@@ -2,7 +2,7 @@ use Rattle.std.proofs.Common.{◌≡◌, Ok, map, sym, ap, subst}
 use Rattle.ks_fixdep.specs.FoundNames.{names_in}
 use Rattle.ks_engine.specs.Recording.{scanned_all}
 use Rattle.ks_engine.proofs.Drafting.{depfile_listed}
-use Rattle.ks_commands.specs.Inputs.{command_file_at}
+use Rattle.ks_commands.specs.Fixdep.{command_file_at}
 use Rattle.ks_commands.proofs.fixdep.command_file_text.Goals as goal
 
 pub returns-clause-text : goal.returns-clause-text

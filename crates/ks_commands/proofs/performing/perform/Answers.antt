@@ -1,8 +1,8 @@
 use Rattle.std.proofs.Common.{◌≡◌, ◌∙◌, [], Some, Ok, Err, refl, ap, subst}
-use Rattle.ks_commands.specs.Sites.{IsSiteLine, site_of}
-use Rattle.ks_commands.specs.Views.{seen_site}
+use Rattle.ks_requests.specs.Sites.{IsSiteLine, site_of}
+use Rattle.ks_requests.proofs.Writing.{keeps_itself}
+use Rattle.ks_requests.specs.Views.{seen_site}
 use Rattle.ks_commands.proofs.Siting.{no_site, read_behind, site_line_kept, some_none}
-use Rattle.ks_commands.proofs.Writing.{keeps_itself}
 use Rattle.ks_commands.proofs.performing.perform.Goals as goal
 
 pub returns-in-Ok : goal.returns-in-Ok

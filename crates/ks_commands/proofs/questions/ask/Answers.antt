@@ -1,8 +1,8 @@
 use Rattle.std.proofs.Common.{List, ℕ}
 use Rattle.ks_engine.specs.Impact.{IsImpactOf}
+use Rattle.ks_requests.specs.Replies.{verdict_line}
+use Rattle.ks_requests.specs.Statuses.{verdict_status}
 use Rattle.ks_commands.specs.Performed.{IsAnswerBehind}
-use Rattle.ks_commands.specs.Replies.{verdict_line}
-use Rattle.ks_commands.specs.Statuses.{verdict_status}
 use Rattle.ks_commands.proofs.Verdicts.{answer_told}
 use Rattle.ks_commands.proofs.questions.ask.Goals as goal
 

@@ -1,8 +1,8 @@
 use Rattle.std.proofs.Common.{◌∙◌, ◌+◌, ◌++◌, ◌∷◌, ap, arith, max, ℕ, List, [], Bor, get_or, sym, subst, subst₂, map, take, take_all, refl, rules}
 use Rattle.std.proofs.lemmas.List.{length-map}
+use Rattle.ks_requests.specs.Statuses.{code_of}
 use Rattle.ks_commands.specs.Performed.{TellsAll}
 use Rattle.ks_commands.specs.Questions.{counted_of, tells_of}
-use Rattle.ks_commands.specs.Statuses.{code_of}
 use Rattle.ks_commands.proofs.Verdicts.{map-take_more, nothing_told, told_more}
 use Rattle.ks_commands.proofs.questions.ask_all.Goals as goal
 

@@ -1,8 +1,8 @@
 use Rattle.std.proofs.Common.{◌≡◌, ◌≤◌, map, take}
 use Rattle.ks_engine.specs.Memos.{IsMemoOf}
+use Rattle.ks_requests.specs.Statuses.{code_of}
 use Rattle.ks_commands.specs.Performed.{TellsAll}
 use Rattle.ks_commands.specs.Questions.{tells_of}
-use Rattle.ks_commands.specs.Statuses.{code_of}
 use Rattle.ks_commands.proofs.questions.ask_all.Given as goal
 
 abbrev pub invariant-loop-target : goal.invariant-loop-target

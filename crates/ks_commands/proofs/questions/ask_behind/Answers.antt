@@ -1,11 +1,11 @@
 use Rattle.std.proofs.Common.{inl, inr, List, ℕ, Err, ap, subst, ◌∙◌}
 use Rattle.std.proofs.lemmas.Result.{err_from_is_err_and}
 use Rattle.ks_engine.specs.Impact.{IsImpactOf}
+use Rattle.ks_requests.specs.Replies.{verdict_line}
+use Rattle.ks_requests.specs.Statuses.{verdict_status}
+use Rattle.ks_requests.specs.Targets.{targets_at}
+use Rattle.ks_requests.specs.Views.{seen_texts}
 use Rattle.ks_commands.specs.Performed.{EndsAll, IsAnswerBehind, TellsAnswer, count_of}
-use Rattle.ks_commands.specs.Replies.{verdict_line}
-use Rattle.ks_commands.specs.Statuses.{verdict_status}
-use Rattle.ks_commands.specs.Targets.{targets_at}
-use Rattle.ks_commands.specs.Views.{seen_texts}
 use Rattle.ks_commands.proofs.Verdicts.{impact_known}
 use Rattle.ks_commands.proofs.questions.ask_behind.Goals as goal
 

@@ -1,7 +1,0 @@
-use Rattle.std.proofs.Common.{◌≡◌, map, take}
-use Rattle.clap.specs.Words.{app_of}
-use Rattle.confstamp.specs.CommandLine.{bare_app, usage_app, with_all}
-use Rattle.confstamp.proofs.command_line.command_line.Given as goal
-
-abbrev pub invariant-loop-usage : goal.invariant-loop-usage
-invariant-loop-usage l = app_of l.command ≡ with_all bare_app (map usage_app (take l.usage-index l.usage-items))

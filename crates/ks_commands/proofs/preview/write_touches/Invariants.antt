@@ -1,6 +1,0 @@
-use Rattle.std.proofs.Common.{◌≡◌, ◌++◌, take}
-use Rattle.ks_commands.specs.Preview.{touch_lines}
-use Rattle.ks_commands.proofs.preview.write_touches.Given as goal
-
-abbrev pub invariant-loop-name : goal.invariant-loop-name
-invariant-loop-name l = l.out.items ≡ l.initial.out.items ++ touch_lines (take l.name-index l.names)

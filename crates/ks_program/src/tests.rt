@@ -1,0 +1,83 @@
+//! Worked examples over a tree in memory: tables of words, and of the status and all that is printed.
+use super::*;
+use ks_tree::{MemoryTree, Tree};
+use std::alloc::Global;
+use std::process::Abort;
+use std::test::Fail;
+
+mod commands;
+mod failing_output;
+mod golden;
+mod refusals;
+mod scripts;
+mod texts;
+
+/// One thing done to a tree: words that are run, a file that is put there, or one that is read.
+#[derive(Clone, Copy, Debug)]
+enum Step<'a> {
+    Words(&'a [&'a str]),
+    Put(&'a str, &'a str),
+    Read(&'a str),
+}
+
+/// What words left: the status, the output and standard error.
+#[derive(Drop)]
+struct Run {
+    status: u8,
+    out: String,
+    err: String,
+}
+
+fn run_over<'a, T: Tree>(alloc: Global, tree: &mut T, words: &'a [&'a str]) -> Result<Run, Fail> {
+    let mut out: Vec<u8> = Vec::new(alloc);
+    let mut err: Vec<u8> = Vec::new(alloc);
+    let status = execute(alloc, tree, words, &mut out, &mut err);
+    let out = String::from_utf8(out)?;
+    let err = String::from_utf8(err)?;
+    Ok(Run { status, out, err })
+}
+
+/// The bytes of a file as text.
+fn shown<T: Tree>(alloc: Global, tree: &mut T, path: &str) -> Result<String, Fail> {
+    match tree.read(alloc, path.as_bytes())? {
+        Some(bytes) => Ok(String::from_utf8(bytes)?),
+        None => Ok(String::from_str(alloc, "none")?),
+    }
+}
+
+/// What comes of a step: what was read, or the status, the output and standard error, one behind the other.
+fn told<T: Tree>(alloc: Global, tree: &mut T, step: Step<'_>) -> Result<String, Fail> {
+    match step {
+        Step::Words(words) => {
+            let run = run_over(alloc, tree, words)?;
+            let (status, out, err) = (run.status, run.out.as_str(), run.err.as_str());
+            Ok(format!(in alloc; "{status} {out}{err}")?)
+        }
+        Step::Put(path, bytes) => {
+            tree.write(alloc, path.as_bytes(), bytes.as_bytes())?;
+            Ok(String::from_str(alloc, "done")?)
+        }
+        Step::Read(path) => shown(alloc, tree, path),
+    }
+}
+
+/// Takes the steps one after another, each with what is to come of it.
+fn play<T: Tree>(
+    rt: &impl Abort,
+    alloc: Global,
+    tree: &mut T,
+    steps: &[(Step<'_>, &str)],
+) -> Result<(), Fail> {
+    for (step, want) in steps {
+        let found = told(alloc, tree, *step)?;
+        assert_eq!(rt; found.as_str(), *want, "{step:?}");
+    }
+    Ok(())
+}
+
+/// A tree with the inputs of all examples.
+fn world(rt: &impl Abort, alloc: Global) -> Result<MemoryTree, Fail> {
+    let mut tree = MemoryTree::new(alloc);
+    play(rt, alloc, &mut tree, golden::INPUTS)?;
+    Ok(tree)
+}

@@ -1,0 +1,4 @@
+pub mod Refusing
+pub mod Writing
+pub mod Printing
+pub mod Siting

@@ -1,0 +1,71 @@
+-- The refusal of a part is that of the preview, where the parts before it are not refused.
+use Rattle.std.proofs.Common.{◌≡◌, inl, inr, sym, subst, ◌≢◌, ◌-◌, ◌^◌, ℕ, List, Option, Some, None, option_map, refl, ap, ◌∙◌}
+use Rattle.std.proofs.lemmas.Bool.{cond-true, cond-false, eq-eqb, ne_eqb}
+use Rattle.ks_symbols.specs.declared.error.SourceError.{SourceError}
+use Rattle.ks_symbols.specs.declared.error.SourceError.TheVariants as source
+use Rattle.ks_symbols.specs.Refusals.{or_else, IsRefusal}
+use Rattle.ks_output.specs.declared.auto_conf.AutoError.{AutoError}
+use Rattle.ks_output.specs.declared.auto_conf.AutoError.TheVariants as auto
+use Rattle.ks_requests.specs.declared.preview.PreviewError.{PreviewError}
+use Rattle.ks_requests.specs.declared.preview.PreviewError.TheVariants as preview
+use Rattle.ks_engine.specs.SyncPlan.{source_refusal}
+use Rattle.ks_requests.specs.Preview.{IsPreviewRefusal, WritesNothing, old_refusal, old_generation, full_refusal, preview_refusal}
+
+source_refusal_is : (e : SourceError) (o : Option PreviewError) → o ≡ Some (preview.Source e) → IsPreviewRefusal (preview.Source e) o
+source_refusal_is (source.NotBare n) o h = h
+source_refusal_is (source.BadName n) o h = h
+source_refusal_is (source.ModuleName n) o h = h
+source_refusal_is (source.NoType n) o h = h
+source_refusal_is (source.TypeClash n) o h = h
+source_refusal_is (source.BadTitle n) o h = h
+source_refusal_is (source.NotAConfigLine n) o h = h
+source_refusal_is (source.BadValue n) o h = h
+source_refusal_is source.TooLarge o h = h
+source_refusal_is source.OutOfMemory o h = tt
+
+auto_refusal_is : (e : AutoError) (o : Option PreviewError) → o ≡ Some (preview.Auto e) → IsPreviewRefusal (preview.Auto e) o
+auto_refusal_is (auto.BadAuto n) o h = h
+auto_refusal_is auto.TooLarge o h = h
+auto_refusal_is auto.OutOfMemory o h = tt
+
+pub source_refused : (e : SourceError) (r : Option SourceError) (later : Option PreviewError) → IsRefusal source.OutOfMemory e r
+    → IsPreviewRefusal (preview.Source e) (or_else (option_map preview.Source r) later)
+source_refused e r later (inl memory) = subst (λ x. IsPreviewRefusal (preview.Source x) (or_else (option_map preview.Source r) later)) (sym memory) tt
+source_refused e r later (inr h) = source_refusal_is e _ (ap (λ o. or_else (option_map preview.Source o) later) h)
+
+pub auto_refused : (e : AutoError) (r : Option AutoError) (later : Option PreviewError) → IsRefusal auto.OutOfMemory e r
+    → IsPreviewRefusal (preview.Auto e) (or_else (option_map preview.Auto r) later)
+auto_refused e r later (inl memory) = subst (λ x. IsPreviewRefusal (preview.Auto x) (or_else (option_map preview.Auto r) later)) (sym memory) tt
+auto_refused e r later (inr h) = auto_refusal_is e _ (ap (λ o. or_else (option_map preview.Auto o) later) h)
+
+pub texts_refused : (kconfig dotconfig : List ℕ) (old : Option (List ℕ)) (e : SourceError) → IsRefusal source.OutOfMemory e (source_refusal kconfig dotconfig)
+    → IsPreviewRefusal (preview.Source e) (preview_refusal kconfig dotconfig old)
+unfolding preview_refusal
+texts_refused kconfig dotconfig old e h = source_refused e (source_refusal kconfig dotconfig) _ h
+
+-- where the texts are not refused
+pub preview_refusal-old : (kconfig dotconfig : List ℕ) (old : Option (List ℕ)) → source_refusal kconfig dotconfig ≡ None
+    → preview_refusal kconfig dotconfig old ≡ or_else (option_map preview.Auto (old_refusal old)) (full_refusal (old_generation old))
+unfolding preview_refusal
+preview_refusal-old kconfig dotconfig old h =
+    ap (λ o. or_else (option_map preview.Source o) (or_else (option_map preview.Auto (old_refusal old)) (full_refusal (old_generation old)))) h
+
+-- where the old auto.conf is not refused either
+pub preview_refusal-full : (kconfig dotconfig : List ℕ) (old : Option (List ℕ)) → source_refusal kconfig dotconfig ≡ None → old_refusal old ≡ None
+    → preview_refusal kconfig dotconfig old ≡ full_refusal (old_generation old)
+preview_refusal-full kconfig dotconfig old h k =
+    preview_refusal-old kconfig dotconfig old h ∙ ap (λ o. or_else (option_map preview.Auto o) (full_refusal (old_generation old))) k
+
+-- what was not written is unwritten
+pub nothing_written : (e : PreviewError) (known : Option (List ℕ)) → WritesNothing e known known
+nothing_written (preview.Source e) known = refl
+nothing_written (preview.Auto e) known = refl
+nothing_written preview.OutOfMemory known = refl
+nothing_written preview.GenerationFull known = refl
+nothing_written preview.Output known = tt
+
+pub full_refusal-full : (generation : ℕ) → generation ≡ 2 ^ 64 - 1 → full_refusal generation ≡ Some preview.GenerationFull
+full_refusal-full generation h = cond-true _ _ _ (eq-eqb generation (2 ^ 64 - 1) h)
+
+pub full_refusal-below : (generation : ℕ) → generation ≢ 2 ^ 64 - 1 → full_refusal generation ≡ None
+full_refusal-below generation h = cond-false _ _ _ (ne_eqb generation (2 ^ 64 - 1) h)

@@ -1,0 +1,21 @@
+use Rattle.std.proofs.Common.{option_map, refl, subst}
+use Rattle.ks_requests.specs.Endings.{IsPart}
+use Rattle.ks_requests.specs.Sites.{site_line}
+use Rattle.ks_requests.specs.Views.{seen_site}
+use Rattle.ks_requests.proofs.Siting.{are_there}
+use Rattle.ks_requests.proofs.output.write_found.Goals as goal
+
+pub returns-clause-line : goal.returns-clause-line
+returns-clause-line g c =
+    let site = seen_site c.args.site.now in
+    let found = c.excerpt_at-text.result in
+    let text = option_map (λ t. t.items) found in (
+      site_line site text,
+      (
+        text,
+        are_there (λ t. t.items) g.T.Tree.is_honest (g.T.Tree.files c.args.tree.now) site found c.excerpt_at-text.ensures.there
+            c.excerpt_at-text.ensures.visible,
+        refl,
+      ),
+      subst (λ t. IsPart (site_line site t) (g.E.Write.contents c.args.err.now) (g.E.Write.contents c.write_site.new.err)) c.lent.ensures c.write_site.ensures,
+    )

@@ -1,0 +1,6 @@
+use Rattle.std.proofs.Common.{◌≡◌, ◌++◌, flat_map, take}
+use Rattle.ks_requests.specs.Replies.{cause_line}
+use Rattle.ks_requests.proofs.replies.write_causes.Given as goal
+
+abbrev pub invariant-loop-cause : goal.invariant-loop-cause
+invariant-loop-cause l = l.text.items ≡ l.initial.text.items ++ flat_map cause_line (take l.cause-index l.causes)

@@ -1,0 +1,60 @@
+-- The texts of refusals, as users see them: a number, a name and the place.
+use Rattle.std.specs.Prelude.{ℕ, List, [], ◌++◌, codes, decimal}
+use Rattle.ks_symbols.specs.declared.error.SourceError.{SourceError}
+use Rattle.ks_symbols.specs.declared.error.SourceError.TheVariants as source
+use Rattle.ks_engine.specs.declared.error.EngineError.{EngineError}
+use Rattle.ks_engine.specs.declared.error.EngineError.TheVariants as engine
+use Rattle.ks_requests.specs.declared.refusal.Refusal.{Refusal}
+use Rattle.ks_requests.specs.declared.refusal.Refusal.TheVariants.{Engine, BadScript, Output}
+use Rattle.ks_requests.specs.declared.faults.FaultText.{FaultText}
+use Rattle.ks_requests.specs.declared.faults.Place.{Place}
+use Rattle.ks_requests.specs.declared.faults.Place.TheVariants.{Nowhere, Numbered, Named}
+
+-- a number behind its label
+unfoldable pub counted : List ℕ → ℕ → List ℕ
+counted label n = label ++ decimal n
+
+unfoldable pub source_text : SourceError → List ℕ
+source_text (source.NotBare line) = counted (codes "1 NotBare line ") line
+source_text (source.BadName line) = counted (codes "2 BadName line ") line
+source_text (source.ModuleName line) = counted (codes "3 ModuleName line ") line
+source_text (source.NoType line) = counted (codes "4 NoType line ") line
+source_text (source.TypeClash line) = counted (codes "5 TypeClash line ") line
+source_text (source.BadTitle line) = counted (codes "6 BadTitle line ") line
+source_text (source.NotAConfigLine line) = counted (codes "7 NotAConfigLine line ") line
+source_text (source.BadValue line) = counted (codes "8 BadValue line ") line
+source_text source.TooLarge = codes "9 TooLarge"
+source_text source.OutOfMemory = codes "10 OutOfMemory"
+
+unfoldable pub fault_text : EngineError → List ℕ
+fault_text (engine.Source e) = source_text e
+fault_text engine.TooLarge = codes "9 TooLarge"
+fault_text engine.OutOfMemory = codes "10 OutOfMemory"
+fault_text (engine.BadAuto line) = counted (codes "11 BadAuto line ") line
+fault_text engine.NoTarget = codes "20 NoTarget"
+fault_text (engine.BadPath token) = counted (codes "21 BadPath token ") token
+fault_text engine.BadCommand = codes "22 BadCommand"
+fault_text (engine.BadCommandFile line) = counted (codes "23 BadCommandFile line ") line
+fault_text engine.Device = codes "30 Device"
+fault_text (engine.BadStamp name) = codes "31 BadStamp " ++ name
+fault_text (engine.MissingFile path) = codes "40 MissingFile " ++ path
+fault_text engine.NeverSynced = codes "41 NeverSynced"
+fault_text engine.GenerationFull = codes "42 GenerationFull"
+
+unfoldable pub refusal_text : Refusal → List ℕ
+refusal_text (Engine e) = fault_text e
+refusal_text (BadScript line) = counted (codes "50 BadScript line ") line
+refusal_text Output = codes "51 Output"
+
+-- the line on standard error of a command that is refused as a whole
+unfoldable pub complaint : Refusal → List ℕ
+complaint refusal = codes "confstamp: " ++ refusal_text refusal ++ codes "\n"
+
+-- a text as the code has it before it is written
+abbrev pub place_text : Place → List ℕ
+place_text Nowhere = []
+place_text (Numbered n) = decimal n
+place_text (Named bytes) = bytes.now
+
+abbrev pub whole_text : FaultText → List ℕ
+whole_text text = text.name.now ++ place_text text.place

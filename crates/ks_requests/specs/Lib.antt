@@ -1,0 +1,12 @@
+pub mod Requests
+pub mod Faults
+pub mod Statuses
+pub mod Endings
+pub mod Sites
+pub mod Inputs
+pub mod Targets
+pub mod Preview
+pub mod Refusals
+pub mod Replies
+pub mod Outputs
+pub mod Views

@@ -1,0 +1,73 @@
+-- What a preview prints: which stamps a synchronisation would renew, and the auto.conf that it would write. The form is this project's.
+use Rattle.std.specs.Prelude.{◌≡◌, ◌+◌, ◌-◌, ◌^◌, ◌==◌, ◌++◌, ℕ, List, codes, flat_map, Option, Some, None, option_map, Result, Ok, Err, ⊤, if◌then◌else◌}
+use Rattle.std.specs.FinMap as map
+use Rattle.std.specs.Io.KnownBytes.{Appends}
+use Rattle.ks_symbols.specs.declared.error.SourceError.TheVariants as source
+use Rattle.ks_symbols.specs.Refusals.{or_else}
+use Rattle.ks_output.specs.OldConfig.{Texts}
+use Rattle.ks_output.specs.declared.auto_conf.AutoError.{AutoError}
+use Rattle.ks_output.specs.declared.auto_conf.AutoError.TheVariants as auto
+use Rattle.ks_output.specs.AutoText.{auto_text}
+use Rattle.ks_output.specs.AutoConf.{auto_map, auto_generation, auto_refusal}
+use Rattle.ks_engine.specs.SyncPlan.{Sources, AreSources, source_refusal}
+use Rattle.ks_engine.specs.Synchronised.{AreChanged}
+use Rattle.ks_requests.specs.declared.preview.PreviewError.{PreviewError}
+use Rattle.ks_requests.specs.declared.preview.PreviewError.TheVariants as preview
+
+-- what an old auto.conf holds; none is the empty one of generation 0
+abbrev pub old_texts : Option (List ℕ) → Texts
+old_texts None = map.empty
+old_texts (Some text) = auto_map text
+
+abbrev pub old_generation : Option (List ℕ) → ℕ
+old_generation None = 0
+old_generation (Some text) = auto_generation text
+
+-- a line `touch NAME` for each name
+abbrev pub touch_lines : List (List ℕ) → List ℕ
+touch_lines names = flat_map (λ name. codes "touch " ++ name ++ codes "\n") names
+
+-- Why there is none: first the two texts, then the old auto.conf, then its generation, which has none after it.
+abbrev pub old_refusal : Option (List ℕ) → Option AutoError
+old_refusal None = None
+old_refusal (Some text) = auto_refusal text
+
+abbrev pub full_refusal : ℕ → Option PreviewError
+full_refusal generation = if generation == 2 ^ 64 - 1 then Some preview.GenerationFull else None
+
+unfoldable pub preview_refusal : List ℕ → List ℕ → Option (List ℕ) → Option PreviewError
+preview_refusal kconfig dotconfig old =
+    or_else (option_map preview.Source (source_refusal kconfig dotconfig))
+    (or_else (option_map preview.Auto (old_refusal old)) (full_refusal (old_generation old)))
+
+-- a preview of texts that are accepted: the names that differ from the old auto.conf, and the auto.conf of the generation after it
+pub record IsPreview (kconfig dotconfig : List ℕ) (old : Option (List ℕ)) (text : List ℕ) : Type 0 where
+  pub accepted : preview_refusal kconfig dotconfig old ≡ None
+  pub sources : Sources
+  pub names : List (List ℕ)
+  pub are_sources : AreSources kconfig dotconfig sources
+  pub changed : AreChanged (old_texts old) sources.config names
+  pub whole : text ≡ touch_lines names ++ auto_text sources.title sources.config (old_generation old + 1)
+
+-- a writer's known bytes grow by a preview
+pub record Previews (kconfig dotconfig : List ℕ) (old before after : Option (List ℕ)) : Type 0 where
+  pub text : List ℕ
+  pub is_preview : IsPreview kconfig dotconfig old text
+  pub appended : Appends before after text
+
+-- An error is the refusal that the definitions have, or want of memory, or a failing output of what is not refused.
+abbrev pub IsPreviewRefusal : PreviewError → Option PreviewError → Type 0
+IsPreviewRefusal preview.Output refusal = refusal ≡ None
+IsPreviewRefusal preview.OutOfMemory refusal = ⊤
+IsPreviewRefusal (preview.Source source.OutOfMemory) refusal = ⊤
+IsPreviewRefusal (preview.Auto auto.OutOfMemory) refusal = ⊤
+IsPreviewRefusal e refusal = refusal ≡ Some e
+
+abbrev pub PreviewRefusedBy : {X : Type 0} → Result X PreviewError → Option PreviewError → Type 0
+PreviewRefusedBy (Ok x) refusal = refusal ≡ None
+PreviewRefusedBy (Err e) refusal = IsPreviewRefusal e refusal
+
+-- all but a failing output leaves the writer's known bytes
+abbrev pub WritesNothing : PreviewError → Option (List ℕ) → Option (List ℕ) → Type 0
+WritesNothing preview.Output before after = ⊤
+WritesNothing e before after = after ≡ before

@@ -1,0 +1,120 @@
+-- Which file a refusal is about, and the line that says so: its path, the line or the token of it, and what stands there. The form is this project's.
+use Rattle.std.specs.Prelude.{◌≡◌, ℕ, ◌-◌, ◌||◌, ◌==◌, nat_lt, List, [], ◌++◌, Option, Some, None, IfSome, Ok, Err, option_map}
+use Rattle.std.specs.Prelude.{option_and_then, codes, map, take, slice_get, string_bytes, if◌then◌else◌}
+use Rattle.ks_symbols.specs.Lines.{lines}
+use Rattle.ks_symbols.specs.declared.error.SourceError.{SourceError}
+use Rattle.ks_symbols.specs.declared.error.SourceError.TheVariants as source
+use Rattle.ks_fixdep.specs.Tokens.{tokens}
+use Rattle.ks_tree.specs.Files.{Files, content}
+use Rattle.ks_tree.specs.Paths.{auto_path}
+use Rattle.ks_engine.specs.declared.error.EngineError.TheVariants.{BadAuto, BadPath, NoTarget, Source}
+use Rattle.ks_requests.specs.declared.refusal.Refusal.{Refusal}
+use Rattle.ks_requests.specs.declared.refusal.Refusal.TheVariants.{Engine, BadScript}
+use Rattle.ks_requests.specs.declared.request.Request.{Request}
+use Rattle.ks_requests.specs.declared.request.Request.TheVariants.{Batch, Diff, Fixdep, Impact, Outdated, Preview, Record, Stale, Sync, Why}
+use Rattle.ks_requests.specs.declared.sites.Part.{Part}
+use Rattle.ks_requests.specs.declared.sites.Part.TheVariants.{Whole, Line, Token}
+use Rattle.ks_requests.specs.Endings.{Ending}
+use Rattle.ks_requests.specs.Faults.{counted}
+
+-- the path of a file, and a part of it
+abbrev pub Site : Type 0
+Site = List ℕ × Part
+
+-- ---- which file a refusal is about
+
+abbrev pub source_site : List ℕ → List ℕ → SourceError → Option Site
+source_site kconfig dotconfig (source.NotBare line) = Some (kconfig, Line line)
+source_site kconfig dotconfig (source.BadName line) = Some (kconfig, Line line)
+source_site kconfig dotconfig (source.ModuleName line) = Some (kconfig, Line line)
+source_site kconfig dotconfig (source.NoType line) = Some (kconfig, Line line)
+source_site kconfig dotconfig (source.TypeClash line) = Some (kconfig, Line line)
+source_site kconfig dotconfig (source.BadTitle line) = Some (kconfig, Line line)
+source_site kconfig dotconfig (source.NotAConfigLine line) = Some (dotconfig, Line line)
+source_site kconfig dotconfig (source.BadValue line) = Some (dotconfig, Line line)
+source_site kconfig dotconfig _ = None
+
+-- of a Kconfig, a `.config` and an auto.conf
+abbrev pub config_site : List ℕ → List ℕ → Option (List ℕ) → Refusal → Option Site
+config_site kconfig dotconfig auto (Engine (Source e)) = source_site kconfig dotconfig e
+config_site kconfig dotconfig auto (Engine (BadAuto line)) = option_map (λ path. (path, Line line)) auto
+config_site kconfig dotconfig auto _ = None
+
+-- of a dependency file; token 0 is a word of the command line
+abbrev pub depfile_site : List ℕ → Refusal → Option Site
+depfile_site depfile (Engine NoTarget) = Some (depfile, Whole)
+depfile_site depfile (Engine (BadPath token)) = if token == 0 then None else Some (depfile, Token token)
+depfile_site depfile _ = None
+
+abbrev pub record_site : List ℕ → Refusal → Option Site
+record_site depfile (Engine (BadAuto line)) = Some (auto_path, Line line)
+record_site depfile refusal = depfile_site depfile refusal
+
+abbrev pub script_site : List ℕ → Refusal → Option Site
+script_site script (BadScript line) = Some (script, Line line)
+script_site script _ = None
+
+-- A word that is refused, a missing file and a stamp are named by the refusal itself, and objects by their lines.
+abbrev pub site_of : Request → Refusal → Option Site
+site_of (Sync k d) refusal = config_site (string_bytes k) (string_bytes d) (Some auto_path) refusal
+site_of (Preview k d o) refusal = config_site (string_bytes k) (string_bytes d) (option_map (λ path. string_bytes path) o) refusal
+site_of (Diff k d) refusal = config_site (string_bytes k) (string_bytes d) (Some auto_path) refusal
+site_of (Impact k d targets) refusal = config_site (string_bytes k) (string_bytes d) (Some auto_path) refusal
+site_of (Fixdep d t c) refusal = depfile_site (string_bytes d) refusal
+site_of (Record d t c) refusal = record_site (string_bytes d) refusal
+site_of (Batch script) refusal = script_site (string_bytes script) refusal
+site_of (Stale targets) refusal = None
+site_of (Why targets) refusal = None
+site_of (Outdated t c) refusal = None
+
+-- ---- what stands there
+
+-- the line or the token of a number, where the text has so many
+abbrev pub part_text : Part → List ℕ → Option (List ℕ)
+part_text Whole text = None
+part_text (Line n) text = slice_get (lines text) (n - 1)
+part_text (Token n) text = slice_get (tokens text) (n - 1)
+
+-- a byte that no terminal takes for a command
+abbrev pub visible : ℕ → ℕ
+visible b = if nat_lt b 32 || b == 127 then 63 else b
+
+-- at most 120 bytes
+abbrev pub excerpt : List ℕ → List ℕ
+excerpt text = map visible (take 120 text)
+
+abbrev pub excerpt_in : Part → List ℕ → Option (List ℕ)
+excerpt_in part text = option_map excerpt (part_text part text)
+
+abbrev pub excerpt_at : Files → Site → Option (List ℕ)
+excerpt_at files site = option_and_then (excerpt_in site.1) (content files site.0)
+
+-- ---- the line
+
+unfoldable pub part_label : Part → List ℕ
+part_label Whole = []
+part_label (Line n) = counted (codes ":") n
+part_label (Token n) = counted (codes ": token ") n
+
+abbrev pub shown : Option (List ℕ) → List ℕ
+shown None = []
+shown (Some text) = codes ": " ++ text
+
+-- two spaces, the path, the part, and what stands there where that is known
+unfoldable pub site_line : Site → Option (List ℕ) → List ℕ
+site_line site text = codes "  " ++ site.0 ++ part_label site.1 ++ shown text ++ codes "\n"
+
+-- It is an excerpt, and on an honest tree that of the file at the site.
+pub record IsThere (honest : Type 0) (files : Files) (site : Site) (text : List ℕ) : Type 0 where
+  pub visible : (bytes : List ℕ) × (text ≡ excerpt bytes)
+  pub there : honest → excerpt_at files site ≡ Some text
+
+-- There is a line where there is a site. What stands there is left out where it can't be read.
+abbrev pub IsSiteLine : Type 0 → Files → Option Site → List ℕ → Type 0
+IsSiteLine honest files None line = line ≡ []
+IsSiteLine honest files (Some site) line = (text : Option (List ℕ)) × IfSome text (IsThere honest files site) × (line ≡ site_line site text)
+
+-- the site of what is refused as a whole
+abbrev pub ending_site : Request → Ending → Option Site
+ending_site request (Ok o) = None
+ending_site request (Err e) = site_of request e

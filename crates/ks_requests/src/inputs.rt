@@ -1,0 +1,166 @@
+//! The files that a command's words name.
+//!
+//! All paths are looked at before the first file is read, so that a misspelt word costs nothing; and all files
+//! are read before anything is parsed.
+ghost use Rattle.std.specs.Prelude.{◌≡◌, IsErrOf, option_map, string_bytes};
+ghost use Rattle.ks_tree.specs.Frames.{Reads};
+ghost use Rattle.ks_engine.specs.Refusals.{Answers};
+ghost use Rattle.ks_requests.specs.Inputs.{given, given_if_named, inputs_at, legal, legal_if_named, texts_at};
+ghost use Rattle.ks_requests.specs.Inputs as inputs;
+ghost use Rattle.ks_requests.specs.Views.{seen_inputs, seen_texts};
+
+use ks_engine::EngineError;
+use ks_symbols::{Path, path_is_legal};
+use ks_tree::Tree;
+use std::alloc::Global;
+
+/// A Kconfig and a `.config`: the bytes of each file as they were read, still to be parsed.
+#[derive(Drop)]
+pub struct Texts {
+    pub kconfig: Vec<u8>,
+    pub dotconfig: Vec<u8>,
+}
+
+/// The texts of a preview, with the old auto.conf where one is named.
+#[derive(Drop)]
+pub struct Inputs {
+    pub texts: Texts,
+    pub old: Option<Vec<u8>>,
+}
+
+/// Refuses a word that is no legal path.
+fn check_path(path: &[u8]) -> Result<(), EngineError>
+    ensures { result ≡ legal path.now }
+{
+    if path_is_legal(path) {
+        Ok(())
+    } else {
+        Err(EngineError::BadPath(0))
+    }
+}
+
+/// Refuses a word that may be left out and is no legal path.
+fn check_named(path: Option<&str>) -> Result<(), EngineError>
+    ensures { result ≡ legal_if_named (option_map (λ p. p.now) path.entry) }
+{
+    match path {
+        Some(path) => check_path(path.as_bytes()),
+        None => Ok(()),
+    }
+}
+
+/// The bytes of a file that has to be there, 64 MiB at most. A word that is no legal path is `BadPath(0)`, and the tree is
+/// not asked; a file that isn't there is `MissingFile`, with its path.
+pub fn read_given<T: Tree>(alloc: Global, tree: &mut T, path: &[u8]) -> Result<Vec<u8>, EngineError>
+    ensures reads { Reads T.Tree tree.old tree.new (IsErrOf result EngineError.Device) }
+    ensures bytes { T.is_honest → Answers (given (T.files tree.old) path.now) (λ v. v.items) result }
+{
+    check_path(path)?;
+    match tree.read(alloc, path)? {
+        Some(bytes) => Ok(bytes),
+        None => Err(EngineError::MissingFile(Path::new(alloc, path)?)),
+    }
+}
+
+/// The bytes of the file that may be named, where one is named.
+pub(crate) fn read_named<T: Tree>(
+    alloc: Global,
+    tree: &mut T,
+    path: Option<&str>,
+) -> Result<Option<Vec<u8>>, EngineError>
+    ensures reads { Reads T.Tree tree.old tree.new (IsErrOf result EngineError.Device) }
+    ensures bytes { T.is_honest → Answers (given_if_named (T.files tree.old) (option_map (λ p. p.now) path.entry)) (option_map (λ v. v.items)) result }
+{
+    match path {
+        Some(path) => Ok(Some(read_given(alloc, tree, path.as_bytes())?)),
+        None => Ok(None),
+    }
+}
+
+/// The two files of a synchronisation.
+fn read_texts<T: Tree>(
+    alloc: Global,
+    tree: &mut T,
+    kconfig: &[u8],
+    dotconfig: &[u8],
+) -> Result<Texts, EngineError>
+    ensures reads { Reads T.Tree tree.old tree.new (IsErrOf result EngineError.Device) }
+    ensures texts { T.is_honest → Answers (inputs.read_texts (T.files tree.old) kconfig.now dotconfig.now) seen_texts result }
+{
+    let kconfig = read_given(alloc, tree, kconfig)?;
+    let dotconfig = read_given(alloc, tree, dotconfig)?;
+    Ok(Texts { kconfig, dotconfig })
+}
+
+/// The files that the two words of a synchronisation name. An error is that of `read_given` for the first of the two that
+/// has one, but a word that is no path is told before any file is read.
+#[tactic(auto, unfolding(crate::specs::Inputs::texts_at))]
+pub fn texts_at<T: Tree>(
+    alloc: Global,
+    tree: &mut T,
+    kconfig: &[u8],
+    dotconfig: &[u8],
+) -> Result<Texts, EngineError>
+    ensures reads { Reads T.Tree tree.old tree.new (IsErrOf result EngineError.Device) }
+    ensures texts { T.is_honest → Answers (texts_at (T.files tree.old) kconfig.now dotconfig.now) seen_texts result }
+{
+    check_path(kconfig)?;
+    check_path(dotconfig)?;
+    read_texts(alloc, tree, kconfig, dotconfig)
+}
+
+/// The files of a preview, the old auto.conf last.
+fn read_inputs<T: Tree>(
+    alloc: Global,
+    tree: &mut T,
+    kconfig: &[u8],
+    dotconfig: &[u8],
+    old: Option<&str>,
+) -> Result<Inputs, EngineError>
+    ensures reads { Reads T.Tree tree.old tree.new (IsErrOf result EngineError.Device) }
+    ensures inputs { T.is_honest
+        → Answers (inputs.read_inputs (T.files tree.old) kconfig.now dotconfig.now (option_map (λ p. p.now) old.entry)) seen_inputs result }
+{
+    let texts = read_texts(alloc, tree, kconfig, dotconfig)?;
+    let old = read_named(alloc, tree, old)?;
+    Ok(Inputs { texts, old })
+}
+
+/// The files that the words of a preview name, in the order of the words, with the errors of `texts_at`. Without an old
+/// auto.conf no third file is looked for.
+#[tactic(auto, unfolding(crate::specs::Inputs::inputs_at))]
+pub fn inputs_at<T: Tree>(
+    alloc: Global,
+    tree: &mut T,
+    kconfig: &[u8],
+    dotconfig: &[u8],
+    old: Option<&str>,
+) -> Result<Inputs, EngineError>
+    ensures reads { Reads T.Tree tree.old tree.new (IsErrOf result EngineError.Device) }
+    ensures inputs { T.is_honest → Answers (inputs_at (T.files tree.old) kconfig.now dotconfig.now (option_map (λ p. p.now) old.entry)) seen_inputs result }
+{
+    check_path(kconfig)?;
+    check_path(dotconfig)?;
+    check_named(old)?;
+    read_inputs(alloc, tree, kconfig, dotconfig, old)
+}
+
+/// Bytes that may be missing, lent.
+pub fn lent(bytes: &Option<Vec<u8>>) -> Option<&[u8]>
+    ensures { option_map (λ b. b.now) result ≡ option_map (λ v. v.items) bytes.now }
+{
+    match bytes {
+        Some(bytes) => Some(bytes),
+        None => None,
+    }
+}
+
+/// The path that may be named, lent.
+pub fn lent_path(path: &Option<String>) -> Option<&str>
+    ensures { option_map (λ p. p.now) result ≡ option_map (λ p. string_bytes p) path.now }
+{
+    match path {
+        Some(path) => Some(path.as_str()),
+        None => None,
+    }
+}

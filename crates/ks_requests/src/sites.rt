@@ -1,0 +1,222 @@
+//! Where a refusal points: which file it is about, the line or the token of it, and what stands there.
+//!
+//! The number of a line is of no use without the name of its file. What stands there is read again once the refusal is
+//! told, and is left out where that fails, so that it never takes the place of the refusal.
+ghost use Rattle.std.specs.Prelude.{◌≡◌, ◌-◌, ℕ, List, Some, IfOk, IfSome, map, option_map, slice_get, string_bytes};
+ghost use Rattle.ks_symbols.specs.Lines.{lines};
+ghost use Rattle.ks_tree.specs.Frames.{Reads};
+ghost use Rattle.ks_requests.specs.Sites.{config_site, depfile_site, excerpt, excerpt_at, excerpt_in, record_site, script_site, site_of, source_site, visible};
+ghost use Rattle.ks_requests.specs.declared.sites.Part.TheVariants.{Line};
+ghost use Rattle.ks_requests.specs.Views.{seen_site};
+
+use crate::refusal::Refusal;
+use crate::request::Request;
+use bstr::ByteSlice;
+use ks_engine::EngineError;
+use ks_fixdep::token_at;
+use ks_symbols::SourceError;
+use ks_tree::{Tree, auto_path};
+use std::alloc::{AllocError, Global};
+
+/// How many bytes of a line or a token are shown.
+const SHOWN: usize = 120;
+
+/// A part of a file.
+#[derive(Clone, Copy)]
+pub enum Part {
+    /// The file as such: there is no place in it to point at.
+    Whole,
+    /// Counted from 1, as editors do.
+    Line(u64),
+    /// A token of a dependency file, counted from 1.
+    Token(u64),
+}
+
+/// A place in a file: its path, as the words of the request have it, or that of auto.conf, and the part.
+#[derive(Drop)]
+pub struct Site<'a> {
+    pub path: &'a [u8],
+    pub part: Part,
+}
+
+fn at_line<'a>(path: &'a [u8], line: u64) -> Option<Site<'a>>
+    ensures { option_map seen_site result ≡ Some (path.now, Line line) }
+{
+    let part = Part::Line(line);
+    Some(Site { path, part })
+}
+
+/// The line of a Kconfig or a `.config`.
+fn source_site<'a>(kconfig: &'a [u8], dotconfig: &'a [u8], error: &SourceError) -> Option<Site<'a>>
+    ensures { option_map seen_site result ≡ source_site kconfig.now dotconfig.now error.now }
+{
+    match error {
+        SourceError::NotBare(line)
+        | SourceError::BadName(line)
+        | SourceError::ModuleName(line)
+        | SourceError::NoType(line)
+        | SourceError::TypeClash(line)
+        | SourceError::BadTitle(line) => at_line(kconfig, *line),
+        SourceError::NotAConfigLine(line) | SourceError::BadValue(line) => at_line(
+            dotconfig, *line,
+        ),
+        SourceError::TooLarge | SourceError::OutOfMemory => None,
+    }
+}
+
+/// The line of a Kconfig, a `.config` or the auto.conf that may be named.
+fn config_site<'a>(
+    kconfig: &'a [u8],
+    dotconfig: &'a [u8],
+    auto: Option<&'a [u8]>,
+    refusal: &Refusal,
+) -> Option<Site<'a>>
+    ensures { option_map seen_site result ≡ config_site kconfig.now dotconfig.now (option_map (λ p. p.now) auto.entry) refusal.now }
+{
+    match refusal {
+        Refusal::Engine(EngineError::Source(error)) => source_site(kconfig, dotconfig, error),
+        Refusal::Engine(EngineError::BadAuto(line)) => at_line(auto?, *line),
+        _ => None,
+    }
+}
+
+/// The dependency file or a token of it.
+fn depfile_site<'a>(depfile: &'a [u8], refusal: &Refusal) -> Option<Site<'a>>
+    ensures { option_map seen_site result ≡ depfile_site depfile.now refusal.now }
+{
+    let path = depfile;
+    match refusal {
+        Refusal::Engine(EngineError::NoTarget) => {
+            let part = Part::Whole;
+            Some(Site { path, part })
+        }
+        Refusal::Engine(EngineError::BadPath(token)) => {
+            if *token == 0 {
+                return None;
+            }
+            let part = Part::Token(*token);
+            Some(Site { path, part })
+        }
+        _ => None,
+    }
+}
+
+/// The dependency file, or the line of auto.conf.
+fn record_site<'a>(depfile: &'a [u8], refusal: &Refusal) -> Option<Site<'a>>
+    ensures { option_map seen_site result ≡ record_site depfile.now refusal.now }
+{
+    match refusal {
+        Refusal::Engine(EngineError::BadAuto(line)) => at_line(auto_path(), *line),
+        _ => depfile_site(depfile, refusal),
+    }
+}
+
+/// The line of a script.
+fn script_site<'a>(script: &'a [u8], refusal: &Refusal) -> Option<Site<'a>>
+    ensures { option_map seen_site result ≡ script_site script.now refusal.now }
+{
+    match refusal {
+        Refusal::BadScript(line) => at_line(script, *line),
+        _ => None,
+    }
+}
+
+/// The bytes of a path that may be named.
+fn path_bytes(path: &Option<String>) -> Option<&[u8]>
+    ensures { option_map (λ p. p.now) result ≡ option_map (λ p. string_bytes p) path.now }
+{
+    match path {
+        Some(path) => Some(path.as_bytes()),
+        None => None,
+    }
+}
+
+/// Which file a refusal of a request is about, where it doesn't name that itself: `None` for a word, a missing file, memory,
+/// the device, the output, and for questions about objects, whose refusals are lines of their own.
+pub fn site_of<'a>(request: &'a Request, refusal: &Refusal) -> Option<Site<'a>>
+    ensures { option_map seen_site result ≡ site_of request.now refusal.now }
+{
+    match request {
+        Request::Sync { kconfig, dotconfig }
+        | Request::Diff { kconfig, dotconfig }
+        | Request::Impact {
+            kconfig,
+            dotconfig,
+            ..
+        } => config_site(
+            kconfig.as_bytes(),
+            dotconfig.as_bytes(),
+            Some(auto_path()),
+            refusal,
+        ),
+        Request::Preview {
+            kconfig,
+            dotconfig,
+            old,
+        } => config_site(
+            kconfig.as_bytes(),
+            dotconfig.as_bytes(),
+            path_bytes(old),
+            refusal,
+        ),
+        Request::Fixdep { depfile, .. } => depfile_site(depfile.as_bytes(), refusal),
+        Request::Record { depfile, .. } => record_site(depfile.as_bytes(), refusal),
+        Request::Batch { script } => script_site(script.as_bytes(), refusal),
+        Request::Stale { .. } | Request::Why { .. } | Request::Outdated { .. } => None,
+    }
+}
+
+/// The line of a number, counted from 1, where the text has so many.
+fn line_at(text: &[u8], number: u64) -> Option<&[u8]>
+    ensures { option_map (λ l. l.now) result ≡ slice_get (lines text.now) (number - 1) }
+{
+    text.lines().nth(number.saturating_sub(1) as usize)
+}
+
+/// A byte, unless a terminal could take it for a command.
+fn visible(byte: u8) -> u8
+    ensures { result ≡ visible byte }
+{
+    if byte < b' ' || byte == 127 {
+        b'?'
+    } else {
+        byte
+    }
+}
+
+/// The beginning of a line or a token.
+fn excerpt(alloc: Global, text: &[u8]) -> Result<Vec<u8>, AllocError>
+    ensures { IfOk result (λ t. t.items ≡ excerpt text.now) }
+{
+    text.iter()
+        .take(SHOWN)
+        .map(|byte| visible(*byte))
+        .collect(alloc)
+}
+
+/// What stands at a part of a text, where there is such a part and memory for it.
+fn excerpt_in(alloc: Global, part: Part, text: &[u8]) -> Option<Vec<u8>>
+    ensures { IfSome result (λ t. excerpt_in part text.now ≡ Some t.items) }
+{
+    let found = match part {
+        Part::Whole => None,
+        Part::Line(number) => line_at(text, number),
+        Part::Token(number) => token_at(text, number),
+    };
+    excerpt(alloc, found?).ok()
+}
+
+/// What stands at a site, where the file can be read.
+pub(crate) fn excerpt_at<T: Tree>(alloc: Global, tree: &mut T, site: &Site<'_>) -> Option<Vec<u8>>
+    ensures reads { Reads T.Tree tree.old tree.new ⊥ }
+    ensures there { T.is_honest → IfSome result (λ t. excerpt_at (T.files tree.old) (seen_site site.now) ≡ Some t.items) }
+    ensures visible { IfSome result (λ t. (bytes : List ℕ) × (t.items ≡ excerpt bytes)) }
+{
+    if matches!(site.part, Part::Whole) {
+        return None;
+    }
+    match tree.read(alloc, site.path) {
+        Ok(Some(text)) => excerpt_in(alloc, site.part, &text),
+        _ => None,
+    }
+}

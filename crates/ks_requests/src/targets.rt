@@ -1,0 +1,68 @@
+//! The objects that a question is about: those among its words, and behind them those that a file holds, one a line.
+//!
+//! A target of the file is a piece of its text and is not copied, since there can be as many as a kernel has objects. A line
+//! that is no legal target is one all the same: it is answered in its place, as the word would be.
+ghost use Rattle.std.specs.Prelude.{◌≡◌, ◌++◌, IfOk, IsErrOf, OnOk, map, option_map, string_bytes};
+ghost use Rattle.ks_tree.specs.Frames.{Reads};
+ghost use Rattle.ks_engine.specs.Refusals.{Answers};
+ghost use Rattle.ks_requests.specs.Inputs.{given_if_named};
+ghost use Rattle.ks_requests.specs.Targets.{file_of, targets_in, with_file, words_of};
+
+use crate::inputs::{lent_path, read_named};
+use crate::request::Targets;
+use bstr::ByteSlice;
+use ks_engine::EngineError;
+use ks_tree::Tree;
+use std::alloc::{AllocError, Global};
+
+/// Appends the lines of a text that are not empty.
+fn push_lines<'a>(text: &'a [u8], targets: &mut Vec<&'a [u8]>) -> Result<(), AllocError>
+    ensures { OnOk result (map (λ t. t.now) targets.new.items ≡ map (λ t. t.now) targets.old.items ++ targets_in text.now) }
+{
+    for line in text.lines() {
+        if !line.is_empty() {
+            targets.push(line)?;
+        }
+    }
+    Ok(())
+}
+
+/// Appends the words.
+fn push_words<'a>(words: &'a [String], targets: &mut Vec<&'a [u8]>) -> Result<(), AllocError>
+    ensures { OnOk result (map (λ t. t.now) targets.new.items ≡ map (λ t. t.now) targets.old.items ++ map (λ w. string_bytes w) words.now) }
+{
+    for word in words {
+        targets.push(word.as_bytes())?;
+    }
+    Ok(())
+}
+
+/// The text of the file that may be named, or `None` where none is. An error is that of `read_given`: what the file holds is
+/// not looked at, so it can hold anything.
+pub fn read_targets<T: Tree>(
+    alloc: Global,
+    tree: &mut T,
+    targets: &Targets,
+) -> Result<Option<Vec<u8>>, EngineError>
+    ensures reads { Reads T.Tree tree.old tree.new (IsErrOf result EngineError.Device) }
+    ensures text { T.is_honest → Answers (given_if_named (T.files tree.old) (file_of targets.now)) (option_map (λ v. v.items)) result }
+{
+    read_named(alloc, tree, lent_path(&targets.from))
+}
+
+/// All targets, in their order: the words, and then the lines of the text, without their LF or CR LF. They lend both. Repeats
+/// stay, and no target is looked at: one that is not legal is refused where it is asked about.
+pub fn all_targets<'a>(
+    alloc: Global,
+    targets: &'a Targets,
+    text: Option<&'a [u8]>,
+) -> Result<Vec<&'a [u8]>, AllocError>
+    ensures { IfOk result (λ all. map (λ t. t.now) all.items ≡ with_file (words_of targets.now) (option_map (λ t. t.now) text.entry)) }
+{
+    let mut all = Vec::with_capacity(alloc, targets.words.len())?;
+    push_words(&targets.words, &mut all)?;
+    if let Some(text) = text {
+        push_lines(text, &mut all)?;
+    }
+    Ok(all)
+}

@@ -1,0 +1,130 @@
+-- What the command line makes of words that begin with no hyphen.
+use Rattle.std.proofs.Common.{◌≡◌, ◌≢◌, ◌⊎◌, ◌==◌, ◌∙◌, inl, inr, ap, subst, sym, ℕ, List, [], ◌∷◌, Option, Some, None, refl, codes, true, false, slice_index, option_map, arith}
+use Rattle.std.proofs.lemmas.Bool.{true≢false}
+use Rattle.std.proofs.lemmas.Bool.Decides.{nat_tests}
+use Rattle.clap.specs.declared.error.Error.{Error}
+use Rattle.clap.specs.declared.error.kind.ErrorKind.TheVariants.{DisplayHelp, DisplayVersion}
+use Rattle.clap.specs.Words.{HasKind, IsAmong, Kinds, kind_of, Row, Text, first_of, first_value, is_simple, is_simple_and_free, rows_of, subcommand_name_of, subcommand_of, subcommand_rows, subcommand_rows_of, takes}
+use Rattle.std.specs.Prelude.{Box, IfErr, IsErrAnd, IsSomeAnd, Result, Ok, Err, is_some}
+use Rattle.std.proofs.lemmas.Option.{same_Some}
+use Rattle.ks_requests.specs.Requests.{IsBatchOf, IsPreviewOf}
+use Rattle.ks_requests.specs.declared.request.Request.{Request}
+use Rattle.ks_requests.specs.declared.request.Request.TheVariants as request
+use Rattle.ks_words.specs.Words.{IsHelp, IsRequestOf}
+use Rattle.std.specs.Box.{box_value}
+use Rattle.clap.specs.declared.parser.matches.ArgMatches.{ArgMatches}
+use Rattle.clap.specs.declared.parser.matches.SubCommand.{SubCommand}
+use Rattle.clap.specs.declared.parser.matches.ArgMatches.TheViews.{out-ArgMatches, out-SubCommand}
+use Rattle.clap.specs.declared.parser.matches.ValueSource.TheVariants.{CommandLine}
+use Rattle.clap.specs.declared.builder.value_parser.ValueParser.TheVariants as vp
+use Rattle.clap.specs.Words.{reading_of}
+use Rattle.clap.specs.Lexer.{strip_byte}
+use Rattle.std.specs.Str.{bytes_eq}
+use Rattle.clap.specs.declared.parser.matches.Found.{Found}
+use Rattle.clap.proofs.WalkLemmas.{first_value-rows}
+use Rattle.clap.proofs.OnLiterals.{clap_on_literals}
+use Rattle.ks_words.specs.CommandLine.{command_line_app}
+
+pub is_free_line : is_simple_and_free command_line_app ≡ true
+unfolding clap_on_literals
+is_free_line = refl
+
+pub is_simple_line : is_simple command_line_app ≡ true
+unfolding clap_on_literals
+is_simple_line = refl
+
+-- the row of a word that was given once
+abbrev pub given : Text → Text → Row
+given id word = record {
+  id = id;
+  values = word ∷ [];
+  count = None;
+  source = Some CommandLine;
+  reading = reading_of vp.String;
+}
+
+-- the first byte is no hyphen
+not_hyphen : (x : ℕ) → x ≢ 45 → (x == 45) ≡ false
+not_hyphen x differs = grind (arith, nat_tests)
+
+pub no_hyphen : (word : Text) → slice_index word 0 ≢ 45 → strip_byte 45 word ≡ None
+no_hyphen [] plain = refl
+no_hyphen (x ∷ xs) plain = rw (not_hyphen x plain) refl
+
+pub no_escape : (word : Text) → slice_index word 0 ≢ 45 → bytes_eq word (45 ∷ 45 ∷ []) ≡ false
+no_escape [] plain = refl
+no_escape (x ∷ xs) plain = rw (not_hyphen x plain) refl
+
+pub batch_rows : (p : Text) → slice_index p 0 ≢ 45
+    → subcommand_of command_line_app (codes "batch" ∷ p ∷ []) ≡ Some (codes "batch", given (codes "SCRIPT") p ∷ [])
+unfolding clap_on_literals
+batch_rows p f = simp (no_escape p f, no_hyphen p f) refl
+
+pub batch_takes : (p : Text) → slice_index p 0 ≢ 45 → takes command_line_app (codes "batch" ∷ p ∷ []) ≡ true
+unfolding clap_on_literals
+batch_takes p f = simp (no_escape p f, no_hyphen p f) refl
+
+pub preview_rows : (k d : Text) → slice_index k 0 ≢ 45 → slice_index d 0 ≢ 45
+    → subcommand_of command_line_app (codes "preview" ∷ k ∷ d ∷ []) ≡ Some (codes "preview", given (codes "KCONFIG") k ∷ given (codes "DOTCONFIG") d ∷ [])
+unfolding clap_on_literals
+preview_rows k d f g = simp (no_escape k f, no_hyphen k f, no_escape d g, no_hyphen d g) refl
+
+pub preview_takes : (k d : Text) → slice_index k 0 ≢ 45 → slice_index d 0 ≢ 45 → takes command_line_app (codes "preview" ∷ k ∷ d ∷ []) ≡ true
+unfolding clap_on_literals
+preview_takes k d f g = simp (no_escape k f, no_hyphen k f, no_escape d g, no_hyphen d g) refl
+
+-- what is found for a name, by its row
+pub first_at : (f : Found) (name : Text) → first_value f name ≡ first_of name (rows_of f)
+first_at f name = first_value-rows f name
+
+-- the name of the subcommand that was entered, by its rows
+pub entered_name : (m : ArgMatches) → subcommand_name_of m ≡ option_map (λ p. p.0) (subcommand_rows_of m)
+entered_name m = go (out-ArgMatches m).subcommand
+  where
+    go : {Z : Type 0} (o : Option (Box SubCommand Z)) → option_map (λ b. (out-SubCommand (box_value b)).name.now) o ≡ option_map (λ p. p.0) (subcommand_rows o)
+    go None = refl
+    go (Some b) = refl
+
+-- what holds of the name and the rows of a subcommand holds of the two together
+pub both : (o : Option (Text × List Row)) (name : Text) (rows : List Row) (P : Text → List Row → Type 0)
+    → Some name ≡ option_map (λ p. p.0) o → Some rows ≡ option_map (λ p. p.1) o → P name rows → IsSomeAnd o (λ p. P p.0 p.1)
+both None name rows P e f h = absurd (true≢false (ap is_some e))
+both (Some p) name rows P e f h = subst (λ n. P n p.1) (same_Some _ _ e) (subst (P name) (same_Some _ _ f) h)
+
+-- the request of a command is no other command's: their names begin with other letters, and `stale` is the rest
+pub preview_of : (k d : Text) (r : Request) → IsRequestOf (codes "preview") (given (codes "KCONFIG") k ∷ given (codes "DOTCONFIG") d ∷ []) r
+    → IsPreviewOf k d None r
+preview_of k d (request.Preview k' d' o) h = (h.1, h.2, h.3)
+preview_of k d (request.Sync k' d') h = absurd (true≢false (ap (λ t. slice_index t 0 == 112) h.0))
+preview_of k d (request.Diff k' d') h = absurd (true≢false (ap (λ t. slice_index t 0 == 112) h.0))
+preview_of k d (request.Fixdep d' t c) h = absurd (true≢false (ap (λ t. slice_index t 0 == 112) h.0))
+preview_of k d (request.Record d' t c) h = absurd (true≢false (ap (λ t. slice_index t 0 == 112) h.0))
+preview_of k d (request.Stale ts) h = absurd (h.0 1 [] (omega arith) refl)
+preview_of k d (request.Why ts) h = absurd (true≢false (ap (λ t. slice_index t 0 == 112) h.0))
+preview_of k d (request.Impact k' d' ts) h = absurd (true≢false (ap (λ t. slice_index t 0 == 112) h.0))
+preview_of k d (request.Batch s) h = absurd (true≢false (ap (λ t. slice_index t 0 == 112) h.0))
+preview_of k d (request.Outdated t c) h = absurd (true≢false (ap (λ t. slice_index t 0 == 112) h.0))
+
+pub batch_of : (p : Text) (r : Request) → IsRequestOf (codes "batch") (given (codes "SCRIPT") p ∷ []) r → IsBatchOf p r
+batch_of p (request.Batch s) h = h.1
+batch_of p (request.Sync k d) h = absurd (true≢false (ap (λ t. slice_index t 0 == 98) h.0))
+batch_of p (request.Preview k d o) h = absurd (true≢false (ap (λ t. slice_index t 0 == 98) h.0))
+batch_of p (request.Diff k d) h = absurd (true≢false (ap (λ t. slice_index t 0 == 98) h.0))
+batch_of p (request.Fixdep d t c) h = absurd (true≢false (ap (λ t. slice_index t 0 == 98) h.0))
+batch_of p (request.Record d t c) h = absurd (true≢false (ap (λ t. slice_index t 0 == 98) h.0))
+batch_of p (request.Stale ts) h = absurd (h.0 5 [] (omega arith) refl)
+batch_of p (request.Why ts) h = absurd (true≢false (ap (λ t. slice_index t 0 == 98) h.0))
+batch_of p (request.Impact k d ts) h = absurd (true≢false (ap (λ t. slice_index t 0 == 98) h.0))
+batch_of p (request.Outdated t c) h = absurd (true≢false (ap (λ t. slice_index t 0 == 98) h.0))
+
+-- what holds of the error holds where there is an error
+pub err_all : {T E : Type 0} (r : Result T E) (P Q : E → Type 0) → ((e : E) → P e → Q e) → IsErrAnd r P → IfErr r Q
+err_all (Ok x) P Q f h = tt
+err_all (Err e) P Q f h = f e h
+
+-- help that is told is among the kinds of the error
+pub help_among : (e : Error) (kinds : Kinds) → HasKind kinds e → IsHelp (kind_of e) → IsAmong DisplayHelp kinds ⊎ IsAmong DisplayVersion kinds
+help_among e kinds (inl memory) (inl help) = absurd cc
+help_among e kinds (inl memory) (inr version) = absurd cc
+help_among e kinds (inr among) (inl help) = inl (subst (λ k. IsAmong k kinds) help among)
+help_among e kinds (inr among) (inr version) = inr (subst (λ k. IsAmong k kinds) version among)

@@ -1,0 +1,74 @@
+-- The command line as `clap` sees it. The words are this project's.
+use Rattle.std.specs.Prelude.{List, [], ◌∷◌, codes, true, fold, map, Option, Some, None}
+use Rattle.std.specs.Borrow.{Bor}
+use Rattle.clap.specs.Words.{App, Rule, Text, new_app, new_rule, with_rule, with_subcommand}
+use Rattle.clap.specs.Simple.{on_top}
+use Rattle.clap.specs.Lexer.{usize_max}
+use Rattle.ks_words.specs.declared.usage.Times.{Times}
+use Rattle.ks_words.specs.declared.usage.Times.TheVariants.{Once, AtMostOnce, AnyNumber, Behind}
+use Rattle.ks_words.specs.declared.usage.Usage.{Usage}
+use Rattle.ks_words.specs.declared.usage.Word.{Word}
+
+-- a word that stands once, that may be left out, that may stand any number of times, or that stands behind an option
+abbrev pub once : Text → Rule
+once name = record (new_rule name) { required = true }
+
+abbrev pub at_most_once : Text → Rule
+at_most_once name = new_rule name
+
+abbrev pub any_number : Text → Rule
+any_number name = record (new_rule name) { range = Some (record { start_inclusive = 1; end_inclusive = usize_max }) }
+
+abbrev pub behind : Text → Text → Rule
+behind option name = record (new_rule name) { long = Some option }
+
+abbrev pub rule_for : Text → Times → Rule
+rule_for name Once = once name
+rule_for name AtMostOnce = at_most_once name
+rule_for name AnyNumber = any_number name
+rule_for name (Behind option) = behind option.now name
+
+-- the rule of a word of the program's table
+abbrev pub word_rule : Word → Rule
+word_rule word = rule_for word.name.now word.times
+
+-- a command that takes these words
+abbrev pub taking : Text → List Rule → App
+taking name rules = fold with_rule (new_app name) rules
+
+-- a command that needs one of its words
+abbrev pub needing_one : App → App
+needing_one app = on_top (λ s. record s { arg_required_else_help = true }) app
+
+abbrev pub needing_one_if : Option (Bor Text) → App → App
+needing_one_if None app = app
+needing_one_if (Some call) app = needing_one app
+
+-- the command of a row of the program's table
+abbrev pub usage_app : Usage → App
+usage_app usage = needing_one_if usage.choice (taking usage.name.now (map word_rule usage.words.now))
+
+-- a command line with these commands below it
+abbrev pub with_all : App → List App → App
+with_all app subs = fold (λ a sub. with_subcommand a sub.top) app subs
+
+-- the program without its commands
+abbrev pub bare_app : App
+bare_app =
+    on_top (λ s. record s { has_version = true; subcommand_required = true; no_binary_name = true }) (new_app (codes "confstamp"))
+
+-- the whole command line
+abbrev pub command_line_app : App
+command_line_app = with_all bare_app
+    (taking (codes "sync") (once (codes "KCONFIG") ∷ once (codes "DOTCONFIG") ∷ [])
+    ∷ taking (codes "preview") (once (codes "KCONFIG") ∷ once (codes "DOTCONFIG") ∷ at_most_once (codes "OLDAUTO") ∷ [])
+    ∷ taking (codes "diff") (once (codes "KCONFIG") ∷ once (codes "DOTCONFIG") ∷ [])
+    ∷ taking (codes "fixdep") (once (codes "DEPFILE") ∷ once (codes "TARGET") ∷ once (codes "COMMAND") ∷ [])
+    ∷ taking (codes "record") (once (codes "DEPFILE") ∷ once (codes "TARGET") ∷ once (codes "COMMAND") ∷ [])
+    ∷ needing_one (taking (codes "stale") (any_number (codes "TARGET") ∷ behind (codes "from") (codes "FILE") ∷ []))
+    ∷ needing_one (taking (codes "why") (any_number (codes "TARGET") ∷ behind (codes "from") (codes "FILE") ∷ []))
+    ∷ needing_one (taking (codes "impact") (once (codes "KCONFIG") ∷ once (codes "DOTCONFIG") ∷ any_number (codes "TARGET")
+    ∷ behind (codes "from") (codes "FILE") ∷ []))
+    ∷ taking (codes "batch") (once (codes "SCRIPT") ∷ [])
+    ∷ taking (codes "outdated") (once (codes "TARGET") ∷ once (codes "COMMAND") ∷ [])
+    ∷ [])

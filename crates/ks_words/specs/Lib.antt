@@ -1,0 +1,4 @@
+pub mod CommandLine
+pub mod Words
+pub mod Meaning
+pub mod Laws

@@ -1,0 +1,78 @@
+-- Words of the command line, the requests that they make, and why they make none.
+use Rattle.std.specs.Prelude.{◌≡◌, ◌≢◌, ◌⊎◌, ℕ, List, [], ◌∷◌, codes, option_map, slice_index, string_bytes, unwrap_or}
+use Rattle.std.specs.List.{All}
+use Rattle.clap.specs.Words.{Row, Text, all_of, first_of}
+use Rattle.ks_requests.specs.declared.request.Request.{Request}
+use Rattle.ks_requests.specs.declared.request.Targets.{Targets}
+use Rattle.ks_requests.specs.declared.request.Request.TheVariants as request
+use Rattle.ks_requests.specs.Targets.{file_of, words_of}
+use Rattle.ks_words.specs.declared.words.WordsError.{WordsError}
+use Rattle.ks_words.specs.declared.words.WordsError.TheVariants.{OutOfMemory, Refused}
+use Rattle.clap.specs.Words.{kind_of}
+use Rattle.clap.specs.declared.error.Error.{Error}
+use Rattle.clap.specs.declared.error.kind.ErrorKind.{ErrorKind}
+use Rattle.clap.specs.declared.error.kind.ErrorKind.TheVariants.{DisplayHelp, DisplayVersion, OutOfMemory as NoMemory}
+
+-- the word does not begin with `-`
+abbrev pub IsPlainWord : List ℕ → Type 0
+IsPlainWord word = slice_index word 0 ≢ 45
+
+-- memory was refused
+abbrev pub IsWantOfMemory : WordsError → Type 0
+IsWantOfMemory OutOfMemory = Unit {0}
+IsWantOfMemory _ = ⊥
+
+-- help, or the version
+abbrev pub IsHelp : ErrorKind → Type 0
+IsHelp kind = (kind ≡ DisplayHelp) ⊎ (kind ≡ DisplayVersion)
+
+abbrev pub TellsHelp : WordsError → Type 0
+TellsHelp (Refused e) = IsHelp (kind_of e)
+TellsHelp OutOfMemory = ⊥
+
+-- what becomes of an error of `clap`
+pub record IsTold (e : Error) (told : WordsError) : Type 0 where
+  pub memory : kind_of e ≡ NoMemory → IsWantOfMemory told
+  pub help : TellsHelp told → IsHelp (kind_of e)
+
+-- the word that stands for this name, and the words that stand for it
+abbrev pub word_at : Text → List Row → Text
+word_at name rows = unwrap_or (first_of name rows) []
+
+abbrev pub words_at : Text → List Row → List Text
+words_at name rows = unwrap_or (all_of name rows) []
+
+-- the name is that of no command but `stale`
+abbrev pub IsNoOther : Text → Type 0
+IsNoOther name = All (λ other. name ≢ other)
+    (codes "sync" ∷ codes "preview" ∷ codes "diff" ∷ codes "fixdep" ∷ codes "record" ∷ codes "batch" ∷ codes "outdated"
+    ∷ codes "why" ∷ codes "impact" ∷ [])
+
+-- the objects of a question
+abbrev pub AreTargets : List Row → Targets → Type 0
+AreTargets rows targets = (words_of targets ≡ words_at (codes "TARGET") rows) × (file_of targets ≡ first_of (codes "FILE") rows)
+
+-- the request is that of the command, and holds what `clap` found for each of its words
+abbrev pub IsRequestOf : Text → List Row → Request → Type 0
+IsRequestOf command rows (request.Sync k d) = (command ≡ codes "sync")
+    × (string_bytes k ≡ word_at (codes "KCONFIG") rows) × (string_bytes d ≡ word_at (codes "DOTCONFIG") rows)
+IsRequestOf command rows (request.Preview k d o) = (command ≡ codes "preview")
+    × (string_bytes k ≡ word_at (codes "KCONFIG") rows) × (string_bytes d ≡ word_at (codes "DOTCONFIG") rows)
+    × (option_map (λ path. string_bytes path) o ≡ first_of (codes "OLDAUTO") rows)
+IsRequestOf command rows (request.Diff k d) = (command ≡ codes "diff")
+    × (string_bytes k ≡ word_at (codes "KCONFIG") rows) × (string_bytes d ≡ word_at (codes "DOTCONFIG") rows)
+IsRequestOf command rows (request.Fixdep d t c) = (command ≡ codes "fixdep")
+    × (string_bytes d ≡ word_at (codes "DEPFILE") rows) × (string_bytes t ≡ word_at (codes "TARGET") rows)
+    × (string_bytes c ≡ word_at (codes "COMMAND") rows)
+IsRequestOf command rows (request.Record d t c) = (command ≡ codes "record")
+    × (string_bytes d ≡ word_at (codes "DEPFILE") rows) × (string_bytes t ≡ word_at (codes "TARGET") rows)
+    × (string_bytes c ≡ word_at (codes "COMMAND") rows)
+IsRequestOf command rows (request.Stale ts) =
+    IsNoOther command × AreTargets rows ts
+IsRequestOf command rows (request.Why ts) = (command ≡ codes "why") × AreTargets rows ts
+IsRequestOf command rows (request.Impact k d ts) = (command ≡ codes "impact")
+    × (string_bytes k ≡ word_at (codes "KCONFIG") rows) × (string_bytes d ≡ word_at (codes "DOTCONFIG") rows) × AreTargets rows ts
+IsRequestOf command rows (request.Batch s) =
+    (command ≡ codes "batch") × (string_bytes s ≡ word_at (codes "SCRIPT") rows)
+IsRequestOf command rows (request.Outdated t c) = (command ≡ codes "outdated")
+    × (string_bytes t ≡ word_at (codes "TARGET") rows) × (string_bytes c ≡ word_at (codes "COMMAND") rows)

@@ -1,0 +1,182 @@
+//! What the words after the program's name ask for.
+ghost use Rattle.std.specs.Prelude.{◌≡◌, ℕ, List, [], ◌∷◌, IfErr, IfOk, codes, true, map, None, option_map, string_bytes};
+ghost use Rattle.clap.specs.Words.{first_of, found_of, rows_of, takes};
+ghost use Rattle.clap.specs.Walk.{texts};
+ghost use Rattle.ks_requests.specs.Requests.{IsBatchOf, IsPreviewOf};
+ghost use Rattle.ks_words.specs.CommandLine.{command_line_app};
+ghost use Rattle.ks_words.specs.Meaning.{AsksForHelp, Makes};
+ghost use Rattle.ks_words.specs.Words.{AreTargets, IsPlainWord, IsRequestOf, IsTold, IsWantOfMemory, TellsHelp, word_at, words_at};
+
+use crate::command_line::command_line;
+use clap::ArgMatches;
+use clap::error::ErrorKind;
+use ks_requests::{Request, Targets};
+use std::alloc::{AllocError, Global};
+use thiserror::Error;
+
+/// Why the words are no request.
+#[derive(Debug, Drop, Error)]
+pub enum WordsError {
+    /// What `clap` has to say in place of a request: a mistake in the words, help, or the version.
+    #[error("{0}")]
+    Refused(clap::Error),
+    #[error("10 OutOfMemory")]
+    OutOfMemory,
+}
+
+impl From<AllocError> for WordsError {
+    ghost from_gives = { λ _ w. IsWantOfMemory w };
+
+    fn from(_error: AllocError) -> WordsError {
+        WordsError::OutOfMemory
+    }
+}
+
+impl From<clap::Error> for WordsError {
+    ghost from_gives = { IsTold };
+
+    fn from(error: clap::Error) -> WordsError {
+        match error.kind() {
+            ErrorKind::OutOfMemory => WordsError::OutOfMemory,
+            _ => WordsError::Refused(error),
+        }
+    }
+}
+
+/// The word of the required argument `id`.
+#[tactic(auto, using(crate::proofs::WordLemmas::first_at))]
+fn word(alloc: Global, matches: &ArgMatches<'_>, id: &str) -> Result<String, AllocError>
+    ensures { IfOk result (λ s. string_bytes s ≡ word_at id.now (rows_of (found_of matches.now))) }
+{
+    String::from_str(alloc, matches.get_str(id).unwrap_or(""))
+}
+
+/// The word of the argument `id`, where it is there.
+#[tactic(auto, using(crate::proofs::WordLemmas::first_at))]
+fn optional_word(
+    alloc: Global,
+    matches: &ArgMatches<'_>,
+    id: &str,
+) -> Result<Option<String>, AllocError>
+    ensures { IfOk result (λ o. option_map (λ s. string_bytes s) o ≡ first_of id.now (rows_of (found_of matches.now))) }
+{
+    match matches.get_str(id) {
+        Some(text) => Ok(Some(String::from_str(alloc, text)?)),
+        None => Ok(None),
+    }
+}
+
+/// The words of the argument `id`.
+fn all_words(alloc: Global, matches: &ArgMatches<'_>, id: &str) -> Result<Vec<String>, AllocError>
+    ensures { IfOk result (λ ws. map (λ s. string_bytes s) ws.items ≡ words_at id.now (rows_of (found_of matches.now))) }
+{
+    let mut words = Vec::new(alloc);
+    let Some(texts) = matches.get_strs(id) else {
+        return Ok(words);
+    };
+    for text in texts {
+        words.push(String::from_str(alloc, *text)?)?;
+    }
+    Ok(words)
+}
+
+/// The objects of a question.
+fn targets(alloc: Global, matches: &ArgMatches<'_>) -> Result<Targets, AllocError>
+    ensures { IfOk result (AreTargets (rows_of (found_of matches.now))) }
+{
+    let words = all_words(alloc, matches, "TARGET")?;
+    let from = optional_word(alloc, matches, "FILE")?;
+    Ok(Targets { words, from })
+}
+
+fn preview_request(alloc: Global, matches: &ArgMatches<'_>) -> Result<Request, AllocError>
+    ensures { IfOk result (IsRequestOf (codes "preview") (rows_of (found_of matches.now))) }
+{
+    let kconfig = word(alloc, matches, "KCONFIG")?;
+    let dotconfig = word(alloc, matches, "DOTCONFIG")?;
+    let old = optional_word(alloc, matches, "OLDAUTO")?;
+    Ok(Request::Preview {
+        kconfig,
+        dotconfig,
+        old,
+    })
+}
+
+fn impact_request(alloc: Global, matches: &ArgMatches<'_>) -> Result<Request, AllocError>
+    ensures { IfOk result (IsRequestOf (codes "impact") (rows_of (found_of matches.now))) }
+{
+    Ok(Request::Impact {
+        kconfig: word(alloc, matches, "KCONFIG")?,
+        dotconfig: word(alloc, matches, "DOTCONFIG")?,
+        targets: targets(alloc, matches)?,
+    })
+}
+
+/// The request of the command `name` with these matches, where `clap` let that name through.
+fn request_named(alloc: Global, name: &str, matches: &ArgMatches<'_>) -> Result<Request, AllocError>
+    ensures { IfOk result (IsRequestOf name.now (rows_of (found_of matches.now))) }
+{
+    match name {
+        "sync" => Ok(Request::Sync {
+            kconfig: word(alloc, matches, "KCONFIG")?,
+            dotconfig: word(alloc, matches, "DOTCONFIG")?,
+        }),
+        "preview" => preview_request(alloc, matches),
+        "diff" => Ok(Request::Diff {
+            kconfig: word(alloc, matches, "KCONFIG")?,
+            dotconfig: word(alloc, matches, "DOTCONFIG")?,
+        }),
+        "fixdep" => Ok(Request::Fixdep {
+            depfile: word(alloc, matches, "DEPFILE")?,
+            target: word(alloc, matches, "TARGET")?,
+            command: word(alloc, matches, "COMMAND")?,
+        }),
+        "record" => Ok(Request::Record {
+            depfile: word(alloc, matches, "DEPFILE")?,
+            target: word(alloc, matches, "TARGET")?,
+            command: word(alloc, matches, "COMMAND")?,
+        }),
+        "batch" => Ok(Request::Batch {
+            script: word(alloc, matches, "SCRIPT")?,
+        }),
+        "outdated" => Ok(Request::Outdated {
+            target: word(alloc, matches, "TARGET")?,
+            command: word(alloc, matches, "COMMAND")?,
+        }),
+        "why" => Ok(Request::Why {
+            targets: targets(alloc, matches)?,
+        }),
+        "impact" => impact_request(alloc, matches),
+        _ => Ok(Request::Stale {
+            targets: targets(alloc, matches)?,
+        }),
+    }
+}
+
+/// That a command is missing. `clap` says so itself before this can come.
+fn missing_command(alloc: Global) -> Result<WordsError, AllocError>
+    ensures { IfOk result (λ w. TellsHelp w → ⊥) }
+{
+    let mut command = command_line(alloc)?;
+    let error = command.error(ErrorKind::MissingSubcommand, "a command is needed")?;
+    Ok(WordsError::Refused(error))
+}
+
+/// The request that the words after the program's name make. A word that begins with `-` is taken behind `--`.
+pub fn request_of<'a>(alloc: Global, words: &'a [&'a str]) -> Result<Request, WordsError>
+    ensures exact { IfOk result (λ r. Makes (texts words.entry.now) r) }
+    ensures taken { IfErr result (λ e. takes command_line_app (texts words.entry.now) ≡ true → IsWantOfMemory e) }
+    ensures help { IfErr result (λ e. TellsHelp e → AsksForHelp (texts words.entry.now)) }
+    ensures batch { IfOk result (λ r. (p : List ℕ) → texts words.entry.now ≡ codes "batch" ∷ p ∷ []
+        → IsPlainWord p → IsBatchOf p r) }
+    ensures preview { IfOk result (λ r. (k d : List ℕ)
+        → texts words.entry.now ≡ codes "preview" ∷ k ∷ d ∷ []
+        → IsPlainWord k → IsPlainWord d → IsPreviewOf k d None r) }
+{
+    let command = command_line(alloc)?;
+    let matches = command.try_get_matches_from(words)?;
+    match matches.subcommand() {
+        Some((name, inner)) => Ok(request_named(alloc, name, inner)?),
+        None => Err(missing_command(alloc)?),
+    }
+}

@@ -1,14 +1,13 @@
 //! One synchronisation broken off at each of its calls, in both ways in which a call fails: what it leaves, what is then said of an
 //! object, and what comes of it where it is tried again, or where the object is recorded and the first configuration comes back.
 use crate::golden::*;
-use crate::steps::{Step, answer, play};
-use ks_tree::{FuseMode, FuseTree, MemoryTree, Tree};
+use crate::steps::{Step, answer, example, play};
+use ks_tree::{FuseMode, FuseTree, MemoryTree};
 use std::alloc::{AllocError, Global};
 use std::process::Abort;
-use std::test::Fail;
 
 /// What a broken synchronisation leaves: the stamp of A, the header and auto.conf, and what is said of the object at once.
-#[derive(Clone, Copy, Debug)]
+#[derive(Clone, Copy)]
 struct Left<'a> {
     passes: u64,
     stamp: &'a str,
@@ -69,26 +68,36 @@ fn definitions(alloc: Global, header: &str, name: &str) -> Result<String, AllocE
     Ok(found)
 }
 
-/// Asks of the object. Where it is fresh, the header defines each of its names as the header at its record did.
-fn ask<T: Tree>(
+/// Asks of the object, and holds that against what is wanted. Where it is fresh, the header defines each of its names as the
+/// header at its record did.
+fn ask(
     rt: &impl Abort,
     alloc: Global,
-    tree: &mut T,
+    tree: &mut MemoryTree,
     recorded: &str,
-) -> Result<String, AllocError> {
-    let told = answer(alloc, tree, Step::Stale("x.o"))?;
-    if told.as_str() == "fresh" {
+    want: &str,
+) -> Result<(), AllocError> {
+    play(rt, alloc, tree, &[(Step::Stale("x.o"), want)])?;
+    if want == "fresh" {
         let header = answer(alloc, tree, Step::Read("include/generated/autoconf.h"))?;
         for name in ["A", "B", "C"] {
             let now = definitions(alloc, header.as_str(), name)?;
             let then = definitions(alloc, recorded, name)?;
-            assert_eq!(rt; now.as_str(), then.as_str(), "{name}");
+            assert!(rt; now == then, "{name}");
         }
     }
-    Ok(told)
+    Ok(())
 }
 
-/// A tree with an object recorded under both settings, on which the synchronisation with B alone was broken off.
+/// A tree with an object that is recorded under both settings.
+fn recorded(rt: &impl Abort, alloc: Global) -> Result<MemoryTree, AllocError> {
+    let mut tree = MemoryTree::new(alloc);
+    play(rt, alloc, &mut tree, SOURCES)?;
+    play(rt, alloc, &mut tree, RECORDED)?;
+    Ok(tree)
+}
+
+/// Such a tree, on which the synchronisation with B alone was broken off.
 fn broken(
     rt: &impl Abort,
     alloc: Global,
@@ -96,12 +105,13 @@ fn broken(
     fails: Option<u64>,
     mode: FuseMode,
 ) -> Result<MemoryTree, AllocError> {
-    let mut tree = MemoryTree::new(alloc);
-    play(rt, alloc, &mut tree, SOURCES)?;
-    play(rt, alloc, &mut tree, RECORDED)?;
-    let mut fuse = FuseTree::new(tree, passes, fails, mode);
-    let told = answer(alloc, &mut fuse, Step::Sync(KCONFIG, ONLY_B))?;
-    assert_eq!(rt; told.as_str(), "30 Device", "{passes} {mode:?}");
+    let mut fuse = FuseTree::new(recorded(rt, alloc)?, passes, fails, mode);
+    play(
+        rt,
+        alloc,
+        &mut fuse,
+        &[(Step::Sync(KCONFIG, ONLY_B), "30 Device")],
+    )?;
     Ok(fuse.into_inner())
 }
 
@@ -119,9 +129,7 @@ fn holds(
         (Step::Read("include/config/auto.conf"), left.auto),
     ];
     play(rt, alloc, tree, &files)?;
-    let told = ask(rt, alloc, tree, HEADER)?;
-    assert_eq!(rt; told.as_str(), left.verdict, "{left:?}");
-    Ok(())
+    ask(rt, alloc, tree, HEADER, left.verdict)
 }
 
 /// The synchronisation is asked for again, and then is completed.
@@ -144,6 +152,26 @@ fn tried_again(
     play(rt, alloc, tree, &steps)
 }
 
+/// What is answered where the object is recorded on what a broken synchronisation left, where it is asked for, where the first
+/// configuration comes back, and where the object is recorded again.
+fn answers_between(left: Left<'_>) -> [&str; 4] {
+    if left.auto == AUTO {
+        [
+            "generation 1 names 3",
+            left.verdict,
+            "generation 2 touched unknown 0",
+            "generation 2 names 3",
+        ]
+    } else {
+        [
+            "generation 2 names 3",
+            "fresh",
+            "generation 3 touched A unknown 0",
+            "generation 3 names 3",
+        ]
+    }
+}
+
 /// The object is recorded between the broken synchronisation and one with the first configuration.
 fn recorded_between(
     rt: &impl Abort,
@@ -151,158 +179,127 @@ fn recorded_between(
     tree: &mut MemoryTree,
     left: Left<'_>,
 ) -> Result<(), AllocError> {
-    let (record, back, last) = if left.auto == AUTO {
-        (
-            "generation 1 names 3",
-            "generation 2 touched unknown 0",
-            "generation 2 names 3",
-        )
-    } else {
-        (
-            "generation 2 names 3",
-            "generation 3 touched A unknown 0",
-            "generation 3 names 3",
-        )
-    };
+    let [record, at_once, back, last] = answers_between(left);
     let recording = Step::Record("x.d", "x.o", "cc -c x.c");
     play(rt, alloc, tree, &[(recording, record)])?;
-    let told = ask(rt, alloc, tree, left.header)?;
-    let at_once = if left.auto == AUTO {
-        left.verdict
-    } else {
-        "fresh"
-    };
-    assert_eq!(rt; told.as_str(), at_once, "{left:?}");
+    ask(rt, alloc, tree, left.header, at_once)?;
     play(rt, alloc, tree, &[(Step::Sync(KCONFIG, BOTH), back)])?;
-    let told = ask(rt, alloc, tree, left.header)?;
-    assert_eq!(rt; told.as_str(), left.verdict, "{left:?}");
+    ask(rt, alloc, tree, left.header, left.verdict)?;
     play(rt, alloc, tree, &[(recording, last)])?;
-    let told = ask(rt, alloc, tree, HEADER)?;
-    assert_eq!(rt; told.as_str(), "fresh", "{left:?}");
-    Ok(())
+    ask(rt, alloc, tree, HEADER, "fresh")
+}
+
+/// One call fails, or all from there on.
+fn broken_off(
+    rt: &impl Abort,
+    alloc: Global,
+    left: Left<'_>,
+    fails: Option<u64>,
+    mode: FuseMode,
+) -> Result<(), AllocError> {
+    let mut tree = broken(rt, alloc, left.passes, fails, mode)?;
+    holds(rt, alloc, &mut tree, left)?;
+    tried_again(rt, alloc, &mut tree, left)?;
+    let mut tree = broken(rt, alloc, left.passes, fails, mode)?;
+    recorded_between(rt, alloc, &mut tree, left)
 }
 
 #[test]
-fn each_call_broken_off(rt: HostRuntime) -> Result<(), Fail> {
-    let alloc = rt.alloc();
-    for (mode, states) in [(FuseMode::Clean, CLEAN), (FuseMode::Half, HALF)] {
-        for left in states {
-            for fails in [None, Some(1)] {
-                let mut tree = broken(&rt, alloc, left.passes, fails, mode)?;
-                holds(&rt, alloc, &mut tree, left)?;
-                tried_again(&rt, alloc, &mut tree, left)?;
-                let mut tree = broken(&rt, alloc, left.passes, fails, mode)?;
-                recorded_between(&rt, alloc, &mut tree, left)?;
-            }
-        }
+fn each_call_broken_off(rt: HostRuntime) -> Result<(), AllocError> {
+    for left in CLEAN {
+        broken_off(&rt, rt.alloc(), left, None, FuseMode::Clean)?;
+        broken_off(&rt, rt.alloc(), left, Some(1), FuseMode::Clean)?;
+    }
+    for left in HALF {
+        broken_off(&rt, rt.alloc(), left, None, FuseMode::Half)?;
+        broken_off(&rt, rt.alloc(), left, Some(1), FuseMode::Half)?;
     }
     Ok(())
 }
 
-/// What the untyped form left of the synchronisation with B alone: the stamps of A and B, the header and auto.conf.
+/// What the untyped form left of the synchronisation with B alone: the stamps of A and B, the header and auto.conf; and what is
+/// then answered, where auto.conf is the old one and where it is that of B alone.
 #[rattlefmt::skip]
-const UNTYPED: [[&str; 4]; 5] = [
-    ["1\n", "1\n", HEADER, UNTYPED_AUTO],
-    ["2\n", "1\n", HEADER, UNTYPED_AUTO],
-    ["2\n", "2\n", HEADER, UNTYPED_AUTO],
-    ["2\n", "1\n", HEADER_B, UNTYPED_AUTO],
-    ["2\n", "1\n", HEADER_B, UNTYPED_AUTO_B],
+const UNTYPED: [([&str; 4], [&str; 4]); 5] = [
+    (["1\n", "1\n", HEADER, UNTYPED_AUTO], BEFORE_AUTO),
+    (["2\n", "1\n", HEADER, UNTYPED_AUTO], BEFORE_AUTO),
+    (["2\n", "2\n", HEADER, UNTYPED_AUTO], BEFORE_AUTO),
+    (["2\n", "1\n", HEADER_B, UNTYPED_AUTO], BEFORE_AUTO),
+    (["2\n", "1\n", HEADER_B, UNTYPED_AUTO_B], BEHIND_AUTO),
+];
+
+const BEFORE_AUTO: [&str; 4] = [
+    "generation 1 names 3",
+    "generation 2 touched A B unknown 0",
+    "generation 2 names 3",
+    "generation 3 touched A unknown 0",
+];
+
+const BEHIND_AUTO: [&str; 4] = [
+    "generation 2 names 3",
+    "generation 3 touched A B unknown 0",
+    "generation 3 names 3",
+    "generation 4 touched A unknown 0",
 ];
 
 /// Each of these trees is synchronised, which touches all names, old and new; then an object is recorded and asked for.
 #[test]
-fn the_untyped_form_broken_off(rt: HostRuntime) -> Result<(), Fail> {
-    let alloc = rt.alloc();
-    for [a, b, header, auto] in UNTYPED {
-        let mut tree = MemoryTree::new(alloc);
-        play(&rt, alloc, &mut tree, SOURCES)?;
-        let left = [
+fn the_untyped_form_broken_off(rt: HostRuntime) -> Result<(), AllocError> {
+    for ([a, b, header, auto], [at_first, first, then, again]) in UNTYPED {
+        let steps = [
             (Step::Put("include/config/A", a), "done"),
             (Step::Put("include/config/B", b), "done"),
             (Step::Put("include/generated/autoconf.h", header), "done"),
             (Step::Put("include/config/auto.conf", auto), "done"),
-        ];
-        play(&rt, alloc, &mut tree, &left)?;
-        let (first, again) = if auto == UNTYPED_AUTO {
-            (
-                "generation 2 touched A B unknown 0",
-                "generation 3 touched A unknown 0",
-            )
-        } else {
-            (
-                "generation 3 touched A B unknown 0",
-                "generation 4 touched A unknown 0",
-            )
-        };
-        let steps = [
-            (
-                Step::Record("x.d", "x.o", "cc -c x.c"),
-                if auto == UNTYPED_AUTO {
-                    "generation 1 names 3"
-                } else {
-                    "generation 2 names 3"
-                },
-            ),
+            (Step::Record("x.d", "x.o", "cc -c x.c"), at_first),
             (Step::Sync(KCONFIG, BOTH), first),
             (Step::Stale("x.o"), "stale A"),
-        ];
-        play(&rt, alloc, &mut tree, &steps)?;
-        let recorded = if auto == UNTYPED_AUTO {
-            "generation 2 names 3"
-        } else {
-            "generation 3 names 3"
-        };
-        let steps = [
-            (Step::Record("x.d", "x.o", "cc -c x.c"), recorded),
+            (Step::Record("x.d", "x.o", "cc -c x.c"), then),
             (Step::Stale("x.o"), "fresh"),
             (Step::Sync(KCONFIG, ONLY_B), again),
             (Step::Stale("x.o"), "stale A"),
         ];
-        play(&rt, alloc, &mut tree, &steps)?;
+        example(&rt, rt.alloc(), SOURCES, &steps)?;
     }
     Ok(())
 }
 
 #[test]
-fn temporary_files_that_are_half_written(rt: HostRuntime) -> Result<(), Fail> {
-    let alloc = rt.alloc();
+fn temporary_files_that_are_half_written(rt: HostRuntime) -> Result<(), AllocError> {
     for (passes, temporary, length) in HALF_WRITTEN {
         for fails in [None, Some(1)] {
-            let mut tree = broken(&rt, alloc, passes, fails, FuseMode::Half)?;
-            let half = answer(alloc, &mut tree, Step::Read(temporary))?;
+            let mut tree = broken(&rt, rt.alloc(), passes, fails, FuseMode::Half)?;
+            let half = answer(rt.alloc(), &mut tree, Step::Read(temporary))?;
             assert_eq!(rt; half.as_str().len(), length, "{temporary}");
         }
     }
     Ok(())
 }
 
+#[rattlefmt::skip]
+const AT_THE_SECOND_TRY: &[(Step<'_>, &str)] = &[
+    (Step::Sync(KCONFIG, ONLY_B), "30 Device"),
+    (Step::Sync(KCONFIG, ONLY_B), "generation 2 touched A unknown 0"),
+];
+
+const AT_ONCE: &[(Step<'_>, &str)] = &[(
+    Step::Sync(KCONFIG, ONLY_B),
+    "generation 2 touched A unknown 0",
+)];
+
+const COMPLETED: &[(Step<'_>, &str)] = &[
+    (Step::Read("include/config/A"), "2\n"),
+    (Step::Read("include/generated/autoconf.h"), HEADER_B),
+    (Step::Read("include/config/auto.conf"), AUTO_B),
+];
+
 #[test]
-fn asked_again_where_one_call_failed_or_none(rt: HostRuntime) -> Result<(), Fail> {
-    let alloc = rt.alloc();
-    for (passes, fails, first) in [
-        (5, Some(1), "30 Device"),
-        (7, None, "generation 2 touched A unknown 0"),
-    ] {
-        let mut tree = MemoryTree::new(alloc);
-        play(&rt, alloc, &mut tree, SOURCES)?;
-        play(&rt, alloc, &mut tree, RECORDED)?;
+fn asked_again_where_one_call_failed_or_none(rt: HostRuntime) -> Result<(), AllocError> {
+    for (passes, fails, steps) in [(5, Some(1), AT_THE_SECOND_TRY), (7, None, AT_ONCE)] {
+        let tree = recorded(&rt, rt.alloc())?;
         let mut fuse = FuseTree::new(tree, passes, fails, FuseMode::Clean);
-        let told = answer(alloc, &mut fuse, Step::Sync(KCONFIG, ONLY_B))?;
-        assert_eq!(rt; told.as_str(), first, "{passes}");
-        if fails == Some(1) {
-            let told = answer(alloc, &mut fuse, Step::Sync(KCONFIG, ONLY_B))?;
-            assert_eq!(rt;
-                told.as_str(),
-                "generation 2 touched A unknown 0",
-                "{passes}"
-            );
-        }
-        let files = [
-            (Step::Read("include/config/A"), "2\n"),
-            (Step::Read("include/generated/autoconf.h"), HEADER_B),
-            (Step::Read("include/config/auto.conf"), AUTO_B),
-        ];
-        play(&rt, alloc, &mut fuse.into_inner(), &files)?;
+        play(&rt, rt.alloc(), &mut fuse, steps)?;
+        play(&rt, rt.alloc(), &mut fuse.into_inner(), COMPLETED)?;
     }
     Ok(())
 }

@@ -1,43 +1,41 @@
 //! Worked examples over a tree in memory: synchronisations, records and questions one behind the other.
 use crate::golden::*;
-use crate::steps::{play, recorded_text, report_text, verdict_text};
+use crate::steps::{example, play, recorded_text, report_text, verdict_text};
 use ks_engine::{Command, Reply, run};
 use ks_tree::MemoryTree;
-use std::test::Fail;
+use std::alloc::{AllocError, Global};
 
 #[test]
-fn a_change_and_a_change_back(rt: HostRuntime) -> Result<(), Fail> {
-    let mut tree = MemoryTree::new(rt.alloc());
-    play(&rt, rt.alloc(), &mut tree, SOURCES)?;
-    play(&rt, rt.alloc(), &mut tree, CHANGE_AND_BACK)?;
-    Ok(())
+fn a_change_and_a_change_back(rt: HostRuntime) -> Result<(), AllocError> {
+    example(&rt, rt.alloc(), SOURCES, CHANGE_AND_BACK)
 }
 
 #[test]
-fn the_files_of_a_first_synchronisation(rt: HostRuntime) -> Result<(), Fail> {
-    let mut tree = MemoryTree::new(rt.alloc());
-    play(&rt, rt.alloc(), &mut tree, SOURCES)?;
-    play(&rt, rt.alloc(), &mut tree, FIRST_FILES)?;
-    Ok(())
+fn the_files_of_a_first_synchronisation(rt: HostRuntime) -> Result<(), AllocError> {
+    example(&rt, rt.alloc(), SOURCES, FIRST_FILES)
 }
 
 #[test]
-fn refusals_and_reasons(rt: HostRuntime) -> Result<(), Fail> {
-    let mut tree = MemoryTree::new(rt.alloc());
-    play(&rt, rt.alloc(), &mut tree, REFUSALS)?;
-    Ok(())
+fn refusals_and_reasons(rt: HostRuntime) -> Result<(), AllocError> {
+    example(&rt, rt.alloc(), &[], REFUSALS)
 }
 
 #[test]
-fn the_command_of_an_object(rt: HostRuntime) -> Result<(), Fail> {
-    let mut tree = MemoryTree::new(rt.alloc());
-    play(&rt, rt.alloc(), &mut tree, SOURCES)?;
-    play(&rt, rt.alloc(), &mut tree, COMMANDS)?;
-    Ok(())
+fn the_command_of_an_object(rt: HostRuntime) -> Result<(), AllocError> {
+    example(&rt, rt.alloc(), SOURCES, COMMANDS)
+}
+
+fn reply_text(alloc: Global, reply: &Reply) -> Result<String, AllocError> {
+    match reply {
+        Reply::Synced(report) => report_text(alloc, report),
+        Reply::Recorded(recorded) => recorded_text(alloc, *recorded),
+        Reply::Verdict(verdict) => verdict_text(alloc, verdict),
+        Reply::Refused(error) => error.to_string(alloc),
+    }
 }
 
 #[test]
-fn one_reply_for_each_command(rt: HostRuntime) -> Result<(), Fail> {
+fn one_reply_for_each_command(rt: HostRuntime) -> Result<(), AllocError> {
     let alloc = rt.alloc();
     let mut tree = MemoryTree::new(alloc);
     play(&rt, alloc, &mut tree, SOURCES)?;
@@ -56,13 +54,7 @@ fn one_reply_for_each_command(rt: HostRuntime) -> Result<(), Fail> {
     ];
     let mut told = String::new(alloc);
     for reply in &run(alloc, &mut tree, &commands)? {
-        let one = match reply {
-            Reply::Synced(report) => report_text(alloc, report)?,
-            Reply::Recorded(recorded) => recorded_text(alloc, *recorded)?,
-            Reply::Verdict(verdict) => verdict_text(alloc, verdict)?,
-            Reply::Refused(error) => error.to_string(alloc)?,
-        };
-        told.push_str(one.as_str())?;
+        told.push_str(reply_text(alloc, reply)?.as_str())?;
         told.push_str("; ")?;
     }
     assert_eq!(rt;

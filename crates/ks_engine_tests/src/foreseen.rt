@@ -5,7 +5,6 @@ use crate::steps::{Step, answer, play, report_text, verdict_text};
 use ks_engine::{Impact, Memo};
 use ks_tree::{MemoryTree, Tree};
 use std::alloc::{AllocError, Global};
-use std::test::Fail;
 
 const OBJECTS: [&str; 4] = ["x.o", "u.o", "a.o", "z.o"];
 
@@ -73,7 +72,7 @@ fn synced<T: Tree>(alloc: Global, tree: &mut T, dotconfig: &str) -> Result<Strin
 }
 
 #[test]
-fn what_is_foreseen_comes(rt: HostRuntime) -> Result<(), Fail> {
+fn what_is_foreseen_comes(rt: HostRuntime) -> Result<(), AllocError> {
     let alloc = rt.alloc();
     let mut tree = MemoryTree::new(alloc);
     play(&rt, alloc, &mut tree, SOURCES)?;

@@ -1,12 +1,12 @@
 //! Tables of what is asked of a tree, and of what is answered.
 use ks_engine::{BuildState, Recorded, Report, Verdict, outdated, record_object, stale, sync};
 use ks_symbols::Name;
-use ks_tree::Tree;
+use ks_tree::{MemoryTree, Tree};
 use std::alloc::{AllocError, Global};
 use std::process::Abort;
 
 /// One thing done to a tree.
-#[derive(Clone, Copy, Debug)]
+#[derive(Clone, Copy)]
 pub(crate) enum Step<'a> {
     Sync(&'a str, &'a str),
     Record(&'a str, &'a str, &'a str),
@@ -62,7 +62,11 @@ fn state_text(alloc: Global, state: &BuildState) -> Result<String, AllocError> {
 }
 
 /// What comes of a step: what was answered or read, or the refusal.
-pub(crate) fn answer<T: Tree>(alloc: Global, tree: &mut T, step: Step<'_>) -> Result<String, AllocError> {
+pub(crate) fn answer<T: Tree>(
+    alloc: Global,
+    tree: &mut T,
+    step: Step<'_>,
+) -> Result<String, AllocError> {
     let refusal = match step {
         Step::Sync(kconfig, dotconfig) => {
             match sync(alloc, tree, kconfig.as_bytes(), dotconfig.as_bytes()) {
@@ -111,9 +115,21 @@ pub(crate) fn play<T: Tree>(
     tree: &mut T,
     steps: &[(Step<'_>, &str)],
 ) -> Result<(), AllocError> {
-    for (step, want) in steps {
+    for (place, (step, want)) in steps.iter().enumerate() {
         let got = answer(alloc, tree, *step)?;
-        assert_eq!(rt; got.as_str(), *want, "{step:?}");
+        assert_eq!(rt; got.as_str(), *want, "step {place}");
     }
     Ok(())
+}
+
+/// Takes the steps in a tree in memory that holds what the first ones put there.
+pub(crate) fn example(
+    rt: &impl Abort,
+    alloc: Global,
+    before: &[(Step<'_>, &str)],
+    steps: &[(Step<'_>, &str)],
+) -> Result<(), AllocError> {
+    let mut tree = MemoryTree::new(alloc);
+    play(rt, alloc, &mut tree, before)?;
+    play(rt, alloc, &mut tree, steps)
 }

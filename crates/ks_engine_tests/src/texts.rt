@@ -1,8 +1,7 @@
 //! What the files hold after synchronisations with values of each kind, and which files are refused with the tree as it was.
 use crate::golden::*;
-use crate::steps::{Step, play};
-use ks_tree::MemoryTree;
-use std::test::Fail;
+use crate::steps::{Step, example};
+use std::alloc::AllocError;
 
 const HEX: &str = "config H\n\thex\n";
 
@@ -226,7 +225,7 @@ const WITHOUT_AUTO: &[(Step<'_>, &str)] = &[
 ];
 
 #[test]
-fn what_the_files_hold(rt: HostRuntime) -> Result<(), Fail> {
+fn what_the_files_hold(rt: HostRuntime) -> Result<(), AllocError> {
     for steps in [
         NO_SETTINGS,
         UNSET_BY_ITS_LAST_LINE,
@@ -241,15 +240,13 @@ fn what_the_files_hold(rt: HostRuntime) -> Result<(), Fail> {
         VANISHED_WHILE_UNSET,
         LAST_GENERATION,
     ] {
-        let mut tree = MemoryTree::new(rt.alloc());
-        play(&rt, rt.alloc(), &mut tree, SOURCES)?;
-        play(&rt, rt.alloc(), &mut tree, steps)?;
+        example(&rt, rt.alloc(), SOURCES, steps)?;
     }
     Ok(())
 }
 
 #[test]
-fn which_files_are_refused(rt: HostRuntime) -> Result<(), Fail> {
+fn which_files_are_refused(rt: HostRuntime) -> Result<(), AllocError> {
     for steps in [
         FAULTY_AUTO,
         USUAL_TREE,
@@ -257,9 +254,7 @@ fn which_files_are_refused(rt: HostRuntime) -> Result<(), Fail> {
         FAULTY_COMMAND_FILE,
         WITHOUT_AUTO,
     ] {
-        let mut tree = MemoryTree::new(rt.alloc());
-        play(&rt, rt.alloc(), &mut tree, SOURCES)?;
-        play(&rt, rt.alloc(), &mut tree, steps)?;
+        example(&rt, rt.alloc(), SOURCES, steps)?;
     }
     Ok(())
 }

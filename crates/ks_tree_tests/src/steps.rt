@@ -5,7 +5,7 @@ use std::alloc::{AllocError, Global};
 use std::process::Abort;
 
 /// One thing done to a tree.
-#[derive(Clone, Copy, Debug)]
+#[derive(Clone, Copy)]
 pub(crate) enum Step<'a> {
     Read(&'a str),
     /// Six bytes from an offset on, over six dots.
@@ -76,7 +76,11 @@ fn replace_file<T: Tree>(
 }
 
 /// What comes of a step: what was read, `done`, or the fault.
-pub(crate) fn answer<T: Tree>(alloc: Global, tree: &mut T, step: Step<'_>) -> Result<String, AllocError> {
+pub(crate) fn answer<T: Tree>(
+    alloc: Global,
+    tree: &mut T,
+    step: Step<'_>,
+) -> Result<String, AllocError> {
     let outcome = match step {
         Step::Read(path) => read(alloc, tree, path),
         Step::Piece(path, offset) => piece(alloc, tree, path, offset),
@@ -112,9 +116,9 @@ pub(crate) fn run<T: Tree>(
     tree: &mut T,
     steps: &[(Step<'_>, &str)],
 ) -> Result<(), AllocError> {
-    for (step, want) in steps {
+    for (place, (step, want)) in steps.iter().enumerate() {
         let got = answer(alloc, tree, *step)?;
-        assert_eq!(rt; got.as_str(), *want, "{step:?}");
+        assert_eq!(rt; got.as_str(), *want, "step {place}");
     }
     Ok(())
 }

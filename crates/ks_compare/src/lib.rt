@@ -6,6 +6,3 @@ mod laws;
 
 pub use comparison::changed;
 pub use laws::{changes_are_legal, changes_are_one, first_changes_are_names, unchanged_is_kept};
-
-#[cfg(test)]
-mod tests;

@@ -14,8 +14,6 @@ mod sources;
 mod staleness;
 mod stamps;
 mod synchronise;
-#[cfg(test)]
-mod tests;
 
 pub use commands::{Command, Reply, run};
 pub use error::EngineError;

@@ -9,8 +9,6 @@ ghost use Rattle.ks_fixdep.specs.declared.command_file.CommandError.TheVariants.
 mod laws;
 mod lent;
 mod reading;
-#[cfg(test)]
-mod tests;
 mod writing;
 
 use ks_symbols::{Name, Path};

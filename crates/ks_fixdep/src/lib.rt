@@ -14,8 +14,6 @@ mod runs;
 mod scan;
 mod scanner;
 mod source_scan;
-#[cfg(test)]
-mod tests;
 mod tokens;
 
 pub use building::{build, build_from};

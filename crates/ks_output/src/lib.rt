@@ -18,6 +18,3 @@ pub use laws::{
     last_lines_count, texts_are_of_entries,
 };
 pub use old_config::{OldConfig, OldEntries};
-
-#[cfg(test)]
-mod tests;

@@ -8,6 +8,3 @@ mod script;
 pub use error::ScriptError;
 pub use laws::{examples_hold, lines_are_spelled};
 pub use script::{ScriptLine, read_script};
-
-#[cfg(test)]
-mod tests;

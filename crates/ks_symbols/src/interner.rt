@@ -9,9 +9,6 @@
 ghost use Rattle.std.specs.Prelude.{◌≡◌, ◌≢◌, ◌+◌, ◌≤◌, ◌<◌, [], ℕ, List, Some, None, IfOk, IfSome, IfNone, OnOk, OnErr, length, option_map, slice_get, slice_index_or};
 ghost use Rattle.ks_symbols.specs.Interner.{place_of, noted, hash_of, tag_of, first_place, free, slot_of, AreOnce, IsMissed, Finds, FindsAll};
 
-#[cfg(test)]
-mod tests;
-
 use crate::texts::{LentTexts, Texts};
 use std::alloc::{AllocError, Global};
 use std::collections::BTreeMap;

@@ -38,6 +38,3 @@ pub use symbols::Symbols;
 pub use table::{Draft, Rows, Table};
 pub use text_map::{LentEntries, TextMap};
 pub use texts::LentTexts;
-
-#[cfg(test)]
-mod tests;

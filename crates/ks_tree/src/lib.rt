@@ -26,6 +26,3 @@ pub use paths::{
 pub use replacement::replace;
 pub use stamps::{read_stamp, touch, touch_all};
 pub use tree::Tree;
-
-#[cfg(test)]
-mod tests;

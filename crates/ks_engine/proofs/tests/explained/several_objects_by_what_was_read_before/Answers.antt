@@ -1,4 +1,0 @@
-use Rattle.ks_engine.proofs.tests.explained.several_objects_by_what_was_read_before.Goals as goal
-
-pub explain_by-first-requires : goal.explain_by-first-requires
-explain_by-first-requires g c = record { memo = λ honest. c.new-memo.ensures c.play-2.new.tree }

@@ -1,0 +1,305 @@
+//! One synchronisation broken off at each of its calls, in both ways in which a call fails: what it leaves, what is then said of an
+//! object, and what comes of it where it is tried again, or where the object is recorded and the first configuration comes back.
+use crate::golden::*;
+use crate::steps::{Step, answer, example, play};
+use ks_tree::{FuseMode, FuseTree, MemoryTree};
+use std::alloc::{AllocError, Global};
+use std::process::Abort;
+
+/// What a broken synchronisation leaves: the stamp of A, the header and auto.conf, and what is said of the object at once.
+#[derive(Clone, Copy)]
+struct Left<'a> {
+    passes: u64,
+    stamp: &'a str,
+    header: &'a str,
+    auto: &'a str,
+    verdict: &'a str,
+}
+
+/// Where the call that fails did nothing.
+#[rattlefmt::skip]
+const CLEAN: [Left<'_>; 7] = [
+    Left { passes: 0, stamp: "1\n", header: HEADER, auto: AUTO, verdict: "fresh" },
+    Left { passes: 1, stamp: "1\n", header: HEADER, auto: AUTO, verdict: "fresh" },
+    Left { passes: 2, stamp: "1\n", header: HEADER, auto: AUTO, verdict: "fresh" },
+    Left { passes: 3, stamp: "2\n", header: HEADER, auto: AUTO, verdict: "stale A" },
+    Left { passes: 4, stamp: "2\n", header: HEADER, auto: AUTO, verdict: "stale A" },
+    Left { passes: 5, stamp: "2\n", header: HEADER_B, auto: AUTO, verdict: "stale A" },
+    Left { passes: 6, stamp: "2\n", header: HEADER_B, auto: AUTO, verdict: "stale A" },
+];
+
+/// Where a write has left half of its bytes, and a rename has happened.
+#[rattlefmt::skip]
+const HALF: [Left<'_>; 7] = [
+    Left { passes: 0, stamp: "1\n", header: HEADER, auto: AUTO, verdict: "fresh" },
+    Left { passes: 1, stamp: "1\n", header: HEADER, auto: AUTO, verdict: "fresh" },
+    Left { passes: 2, stamp: "2\n", header: HEADER, auto: AUTO, verdict: "stale A" },
+    Left { passes: 3, stamp: "2\n", header: HEADER, auto: AUTO, verdict: "stale A" },
+    Left { passes: 4, stamp: "2\n", header: HEADER_B, auto: AUTO, verdict: "stale A" },
+    Left { passes: 5, stamp: "2\n", header: HEADER_B, auto: AUTO, verdict: "stale A" },
+    Left { passes: 6, stamp: "2\n", header: HEADER_B, auto: AUTO_B, verdict: "stale A" },
+];
+
+/// The temporary file that is half written after so many calls, and its length.
+#[rattlefmt::skip]
+const HALF_WRITTEN: [(u64, &str, usize); 3] = [
+    (1, "include/config/stamp.tmp", 1),
+    (3, "include/generated/autoconf.h.tmp", 43),
+    (5, "include/config/auto.conf.tmp", 44),
+];
+
+#[rattlefmt::skip]
+const RECORDED: &[(Step<'_>, &str)] = &[
+    (Step::Sync(KCONFIG, BOTH), "generation 1 touched A B unknown 0"),
+    (Step::Record("x.d", "x.o", "cc -c x.c"), "generation 1 names 3"),
+];
+
+/// The lines of a header that define a name, or it as a module.
+fn definitions(alloc: Global, header: &str, name: &str) -> Result<String, AllocError> {
+    let built_in = format!(in alloc; "#define CONFIG_{name} ")?;
+    let module = format!(in alloc; "#define CONFIG_{name}_MODULE ")?;
+    let mut found = String::new(alloc);
+    for line in header.lines() {
+        if line.starts_with(built_in.as_str()) || line.starts_with(module.as_str()) {
+            found.push_str(line)?;
+            found.push_str("\n")?;
+        }
+    }
+    Ok(found)
+}
+
+/// Asks of the object, and holds that against what is wanted. Where it is fresh, the header defines each of its names as the
+/// header at its record did.
+fn ask(
+    rt: &impl Abort,
+    alloc: Global,
+    tree: &mut MemoryTree,
+    recorded: &str,
+    want: &str,
+) -> Result<(), AllocError> {
+    play(rt, alloc, tree, &[(Step::Stale("x.o"), want)])?;
+    if want == "fresh" {
+        let header = answer(alloc, tree, Step::Read("include/generated/autoconf.h"))?;
+        for name in ["A", "B", "C"] {
+            let now = definitions(alloc, header.as_str(), name)?;
+            let then = definitions(alloc, recorded, name)?;
+            assert!(rt; now == then, "{name}");
+        }
+    }
+    Ok(())
+}
+
+/// A tree with an object that is recorded under both settings.
+fn recorded(rt: &impl Abort, alloc: Global) -> Result<MemoryTree, AllocError> {
+    let mut tree = MemoryTree::new(alloc);
+    play(rt, alloc, &mut tree, SOURCES)?;
+    play(rt, alloc, &mut tree, RECORDED)?;
+    Ok(tree)
+}
+
+/// Such a tree, on which the synchronisation with B alone was broken off.
+fn broken(
+    rt: &impl Abort,
+    alloc: Global,
+    passes: u64,
+    fails: Option<u64>,
+    mode: FuseMode,
+) -> Result<MemoryTree, AllocError> {
+    let mut fuse = FuseTree::new(recorded(rt, alloc)?, passes, fails, mode);
+    play(
+        rt,
+        alloc,
+        &mut fuse,
+        &[(Step::Sync(KCONFIG, ONLY_B), "30 Device")],
+    )?;
+    Ok(fuse.into_inner())
+}
+
+/// The tree holds what is to be left, and the object is spoken of as it is to be.
+fn holds(
+    rt: &impl Abort,
+    alloc: Global,
+    tree: &mut MemoryTree,
+    left: Left<'_>,
+) -> Result<(), AllocError> {
+    let files = [
+        (Step::Read("include/config/A"), left.stamp),
+        (Step::Read("include/config/B"), "1\n"),
+        (Step::Read("include/generated/autoconf.h"), left.header),
+        (Step::Read("include/config/auto.conf"), left.auto),
+    ];
+    play(rt, alloc, tree, &files)?;
+    ask(rt, alloc, tree, HEADER, left.verdict)
+}
+
+/// The synchronisation is asked for again, and then is completed.
+fn tried_again(
+    rt: &impl Abort,
+    alloc: Global,
+    tree: &mut MemoryTree,
+    left: Left<'_>,
+) -> Result<(), AllocError> {
+    let again = if left.auto == AUTO {
+        "generation 2 touched A unknown 0"
+    } else {
+        "generation 3 touched unknown 0"
+    };
+    let steps = [
+        (Step::Sync(KCONFIG, ONLY_B), again),
+        (Step::Read("include/generated/autoconf.h"), HEADER_B),
+        (Step::Stale("x.o"), "stale A"),
+    ];
+    play(rt, alloc, tree, &steps)
+}
+
+/// What is answered where the object is recorded on what a broken synchronisation left, where it is asked for, where the first
+/// configuration comes back, and where the object is recorded again.
+fn answers_between(left: Left<'_>) -> [&str; 4] {
+    if left.auto == AUTO {
+        [
+            "generation 1 names 3",
+            left.verdict,
+            "generation 2 touched unknown 0",
+            "generation 2 names 3",
+        ]
+    } else {
+        [
+            "generation 2 names 3",
+            "fresh",
+            "generation 3 touched A unknown 0",
+            "generation 3 names 3",
+        ]
+    }
+}
+
+/// The object is recorded between the broken synchronisation and one with the first configuration.
+fn recorded_between(
+    rt: &impl Abort,
+    alloc: Global,
+    tree: &mut MemoryTree,
+    left: Left<'_>,
+) -> Result<(), AllocError> {
+    let [record, at_once, back, last] = answers_between(left);
+    let recording = Step::Record("x.d", "x.o", "cc -c x.c");
+    play(rt, alloc, tree, &[(recording, record)])?;
+    ask(rt, alloc, tree, left.header, at_once)?;
+    play(rt, alloc, tree, &[(Step::Sync(KCONFIG, BOTH), back)])?;
+    ask(rt, alloc, tree, left.header, left.verdict)?;
+    play(rt, alloc, tree, &[(recording, last)])?;
+    ask(rt, alloc, tree, HEADER, "fresh")
+}
+
+/// One call fails, or all from there on.
+fn broken_off(
+    rt: &impl Abort,
+    alloc: Global,
+    left: Left<'_>,
+    fails: Option<u64>,
+    mode: FuseMode,
+) -> Result<(), AllocError> {
+    let mut tree = broken(rt, alloc, left.passes, fails, mode)?;
+    holds(rt, alloc, &mut tree, left)?;
+    tried_again(rt, alloc, &mut tree, left)?;
+    let mut tree = broken(rt, alloc, left.passes, fails, mode)?;
+    recorded_between(rt, alloc, &mut tree, left)
+}
+
+#[test]
+fn each_call_broken_off(rt: HostRuntime) -> Result<(), AllocError> {
+    for left in CLEAN {
+        broken_off(&rt, rt.alloc(), left, None, FuseMode::Clean)?;
+        broken_off(&rt, rt.alloc(), left, Some(1), FuseMode::Clean)?;
+    }
+    for left in HALF {
+        broken_off(&rt, rt.alloc(), left, None, FuseMode::Half)?;
+        broken_off(&rt, rt.alloc(), left, Some(1), FuseMode::Half)?;
+    }
+    Ok(())
+}
+
+/// What the untyped form left of the synchronisation with B alone: the stamps of A and B, the header and auto.conf; and what is
+/// then answered, where auto.conf is the old one and where it is that of B alone.
+#[rattlefmt::skip]
+const UNTYPED: [([&str; 4], [&str; 4]); 5] = [
+    (["1\n", "1\n", HEADER, UNTYPED_AUTO], BEFORE_AUTO),
+    (["2\n", "1\n", HEADER, UNTYPED_AUTO], BEFORE_AUTO),
+    (["2\n", "2\n", HEADER, UNTYPED_AUTO], BEFORE_AUTO),
+    (["2\n", "1\n", HEADER_B, UNTYPED_AUTO], BEFORE_AUTO),
+    (["2\n", "1\n", HEADER_B, UNTYPED_AUTO_B], BEHIND_AUTO),
+];
+
+const BEFORE_AUTO: [&str; 4] = [
+    "generation 1 names 3",
+    "generation 2 touched A B unknown 0",
+    "generation 2 names 3",
+    "generation 3 touched A unknown 0",
+];
+
+const BEHIND_AUTO: [&str; 4] = [
+    "generation 2 names 3",
+    "generation 3 touched A B unknown 0",
+    "generation 3 names 3",
+    "generation 4 touched A unknown 0",
+];
+
+/// Each of these trees is synchronised, which touches all names, old and new; then an object is recorded and asked for.
+#[test]
+fn the_untyped_form_broken_off(rt: HostRuntime) -> Result<(), AllocError> {
+    for ([a, b, header, auto], [at_first, first, then, again]) in UNTYPED {
+        let steps = [
+            (Step::Put("include/config/A", a), "done"),
+            (Step::Put("include/config/B", b), "done"),
+            (Step::Put("include/generated/autoconf.h", header), "done"),
+            (Step::Put("include/config/auto.conf", auto), "done"),
+            (Step::Record("x.d", "x.o", "cc -c x.c"), at_first),
+            (Step::Sync(KCONFIG, BOTH), first),
+            (Step::Stale("x.o"), "stale A"),
+            (Step::Record("x.d", "x.o", "cc -c x.c"), then),
+            (Step::Stale("x.o"), "fresh"),
+            (Step::Sync(KCONFIG, ONLY_B), again),
+            (Step::Stale("x.o"), "stale A"),
+        ];
+        example(&rt, rt.alloc(), SOURCES, &steps)?;
+    }
+    Ok(())
+}
+
+#[test]
+fn temporary_files_that_are_half_written(rt: HostRuntime) -> Result<(), AllocError> {
+    for (passes, temporary, length) in HALF_WRITTEN {
+        for fails in [None, Some(1)] {
+            let mut tree = broken(&rt, rt.alloc(), passes, fails, FuseMode::Half)?;
+            let half = answer(rt.alloc(), &mut tree, Step::Read(temporary))?;
+            assert_eq!(rt; half.as_str().len(), length, "{temporary}");
+        }
+    }
+    Ok(())
+}
+
+#[rattlefmt::skip]
+const AT_THE_SECOND_TRY: &[(Step<'_>, &str)] = &[
+    (Step::Sync(KCONFIG, ONLY_B), "30 Device"),
+    (Step::Sync(KCONFIG, ONLY_B), "generation 2 touched A unknown 0"),
+];
+
+const AT_ONCE: &[(Step<'_>, &str)] = &[(
+    Step::Sync(KCONFIG, ONLY_B),
+    "generation 2 touched A unknown 0",
+)];
+
+const COMPLETED: &[(Step<'_>, &str)] = &[
+    (Step::Read("include/config/A"), "2\n"),
+    (Step::Read("include/generated/autoconf.h"), HEADER_B),
+    (Step::Read("include/config/auto.conf"), AUTO_B),
+];
+
+#[test]
+fn asked_again_where_one_call_failed_or_none(rt: HostRuntime) -> Result<(), AllocError> {
+    for (passes, fails, steps) in [(5, Some(1), AT_THE_SECOND_TRY), (7, None, AT_ONCE)] {
+        let tree = recorded(&rt, rt.alloc())?;
+        let mut fuse = FuseTree::new(tree, passes, fails, FuseMode::Clean);
+        play(&rt, rt.alloc(), &mut fuse, steps)?;
+        play(&rt, rt.alloc(), &mut fuse.into_inner(), COMPLETED)?;
+    }
+    Ok(())
+}

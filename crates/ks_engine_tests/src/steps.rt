@@ -1,0 +1,135 @@
+//! Tables of what is asked of a tree, and of what is answered.
+use ks_engine::{BuildState, Recorded, Report, Verdict, outdated, record_object, stale, sync};
+use ks_symbols::Name;
+use ks_tree::{MemoryTree, Tree};
+use std::alloc::{AllocError, Global};
+use std::process::Abort;
+
+/// One thing done to a tree.
+#[derive(Clone, Copy)]
+pub(crate) enum Step<'a> {
+    Sync(&'a str, &'a str),
+    Record(&'a str, &'a str, &'a str),
+    Stale(&'a str),
+    Outdated(&'a str, &'a str),
+    Put(&'a str, &'a str),
+    Read(&'a str),
+}
+
+pub(crate) fn text(bytes: &[u8]) -> &str {
+    str::from_utf8(bytes).unwrap_or("not text")
+}
+
+fn names(alloc: Global, touched: &[Name]) -> Result<String, AllocError> {
+    let mut all = String::new(alloc);
+    for name in touched {
+        all.push_str(" ")?;
+        all.push_str(text(name.as_bytes()))?;
+    }
+    Ok(all)
+}
+
+pub(crate) fn verdict_text(alloc: Global, verdict: &Verdict) -> Result<String, AllocError> {
+    match verdict {
+        Verdict::Fresh => String::from_str(alloc, "fresh"),
+        Verdict::Changed(name) => {
+            let name = text(name.as_bytes());
+            format!(in alloc; "stale {name}")
+        }
+        Verdict::NoCommandFile => String::from_str(alloc, "no-command-file"),
+        Verdict::Unnumbered => String::from_str(alloc, "not-numbered"),
+        Verdict::Ahead => String::from_str(alloc, "generation-ahead"),
+    }
+}
+
+pub(crate) fn report_text(alloc: Global, report: &Report) -> Result<String, AllocError> {
+    let (generation, unknown) = (report.generation, report.unknown);
+    let touched = names(alloc, &report.touched)?;
+    let touched = touched.as_str();
+    format!(in alloc; "generation {generation} touched{touched} unknown {unknown}")
+}
+
+pub(crate) fn recorded_text(alloc: Global, recorded: Recorded) -> Result<String, AllocError> {
+    let (generation, names) = (recorded.generation, recorded.names);
+    format!(in alloc; "generation {generation} names {names}")
+}
+
+fn state_text(alloc: Global, state: &BuildState) -> Result<String, AllocError> {
+    match state {
+        BuildState::CommandDiffers => String::from_str(alloc, "command-differs"),
+        BuildState::Verdict(verdict) => verdict_text(alloc, verdict),
+    }
+}
+
+/// What comes of a step: what was answered or read, or the refusal.
+pub(crate) fn answer<T: Tree>(
+    alloc: Global,
+    tree: &mut T,
+    step: Step<'_>,
+) -> Result<String, AllocError> {
+    let refusal = match step {
+        Step::Sync(kconfig, dotconfig) => {
+            match sync(alloc, tree, kconfig.as_bytes(), dotconfig.as_bytes()) {
+                Ok(report) => return report_text(alloc, &report),
+                Err(error) => error,
+            }
+        }
+        Step::Record(depfile, target, command) => {
+            let (depfile, target) = (depfile.as_bytes(), target.as_bytes());
+            match record_object(alloc, tree, depfile, target, command.as_bytes()) {
+                Ok(recorded) => return recorded_text(alloc, recorded),
+                Err(error) => error,
+            }
+        }
+        Step::Stale(target) => match stale(alloc, tree, target.as_bytes()) {
+            Ok(verdict) => return verdict_text(alloc, &verdict),
+            Err(error) => error,
+        },
+        Step::Outdated(target, command) => {
+            match outdated(alloc, tree, target.as_bytes(), command.as_bytes()) {
+                Ok(state) => return state_text(alloc, &state),
+                Err(error) => error,
+            }
+        }
+        Step::Put(path, bytes) => {
+            return match tree.write(alloc, path.as_bytes(), bytes.as_bytes()) {
+                Ok(()) => String::from_str(alloc, "done"),
+                Err(fault) => fault.to_string(alloc),
+            };
+        }
+        Step::Read(path) => {
+            return match tree.read(alloc, path.as_bytes()) {
+                Ok(Some(bytes)) => String::from_str(alloc, text(&bytes)),
+                Ok(None) => String::from_str(alloc, "none"),
+                Err(fault) => fault.to_string(alloc),
+            };
+        }
+    };
+    refusal.to_string(alloc)
+}
+
+/// Takes the steps one after another, each with what is to come of it.
+pub(crate) fn play<T: Tree>(
+    rt: &impl Abort,
+    alloc: Global,
+    tree: &mut T,
+    steps: &[(Step<'_>, &str)],
+) -> Result<(), AllocError> {
+    for (place, (step, want)) in steps.iter().enumerate() {
+        let got = answer(alloc, tree, *step)?;
+        assert_eq!(rt; got.as_str(), *want, "step {place}");
+    }
+    Ok(())
+}
+
+/// Takes the steps in a tree in memory that holds what the first ones put there.
+pub(crate) fn example(
+    rt: &impl Abort,
+    alloc: Global,
+    before: &[(Step<'_>, &str)],
+    steps: &[(Step<'_>, &str)],
+) -> Result<(), AllocError> {
+    let mut tree = MemoryTree::new(alloc);
+    play(rt, alloc, &mut tree, before)?;
+    play(rt, alloc, &mut tree, steps)
+}

@@ -1,0 +1,196 @@
+//! Command files as they stand on disk: read, written, cut and damaged.
+use bstr::ByteSlice;
+use ks_fixdep::{CommandError, Dep, command_is_legal, read_command, write_command};
+use ks_symbols::MAX_BYTES;
+use memchr::memrchr;
+use std::alloc::Global;
+use std::test::Fail;
+
+/// A worked command file.
+const WORKED: &[u8] = br#"savedcmd_x.o := cc -c x.c
+
+source_x.o := x.c
+
+deps_x.o := \
+    $(wildcard include/config/A) \
+    $(wildcard include/config/B) \
+  a.h \
+    $(wildcard include/config/C) \
+  b.h \
+
+x.o: $(deps_x.o)
+
+$(deps_x.o):
+#generation 1
+"#;
+
+/// Its lines in front of that of the generation.
+const LINES: usize = 14;
+
+/// From how many bytes on a beginning of each of these lines fits as that line. A command may be empty, and a source may
+/// be shorter; the other lines fit whole. Before the line feed of an empty line there is no line.
+const FITS_FROM: [usize; LINES] = [16, 0, 15, 0, 13, 34, 34, 7, 34, 7, 0, 16, 0, 12];
+
+/// The bytes of a generation line's mark.
+const MARK: usize = 12;
+
+/// The generation that a text is read with.
+fn generation_of(alloc: Global, text: &[u8]) -> Result<Option<u64>, CommandError> {
+    let file = read_command(alloc, text)?;
+    Ok(file.generation)
+}
+
+/// What a line of a dependency names.
+fn named(dep: &Dep) -> &[u8] {
+    match dep {
+        Dep::File(path) => path.as_bytes(),
+        Dep::Config(name) => name.as_bytes(),
+    }
+}
+
+#[test]
+fn a_command_file_is_read_and_written_again(rt: HostRuntime) -> Result<(), Fail> {
+    let unnumbered = WORKED.replace(rt.alloc(), b"#generation 1\n", b"")?;
+    for (text, generation) in [(WORKED, Some(1)), (unnumbered.as_slice(), None)] {
+        let file = read_command(rt.alloc(), text)?;
+        assert_eq!(rt; file.target.as_bytes(), b"x.o".as_slice());
+        assert_eq!(rt; file.command.as_slice(), b"cc -c x.c".as_slice());
+        assert_eq!(rt; file.source.as_bytes(), b"x.c".as_slice());
+        assert_eq!(rt; file.generation, generation);
+        let wanted: [&[u8]; 5] = [b"A", b"B", b"a.h", b"C", b"b.h"];
+        assert_eq!(rt; file.deps.len(), wanted.len());
+        for (dep, want) in file.deps.iter().zip(wanted.iter()) {
+            assert_eq!(rt; named(dep), *want);
+        }
+        let mut out = Vec::new(rt.alloc());
+        out.extend_from_slice(b"before ")?;
+        write_command(&file, &mut out)?;
+        assert_eq!(rt; out.strip_prefix(b"before "), Some(text));
+    }
+    Ok(())
+}
+
+#[test]
+#[rattlefmt::skip]
+fn a_damaged_command_file_is_refused_with_its_line(rt: HostRuntime) -> Result<(), Fail> {
+    let at = |line: u64| -> Result<Option<u64>, CommandError> { Err(CommandError::BadCommandFile(line)) };
+    let rows: [(&str, &[u8], &[u8], Result<Option<u64>, CommandError>); 16] = [
+        ("as it is",                  b"",                b"",                               Ok(Some(1))),
+        ("a line of Kbuild behind",   b"#generation 1\n", b"#generation 1\n#SYMVER f 0x1\n", Ok(Some(1))),
+        ("the last generation",       b"#generation 1\n", b"#generation 1\n#generation 5\n", Ok(Some(5))),
+        ("the greatest generation",   b"generation 1",    b"generation 18446744073709551615", Ok(Some(u64::MAX))),
+        ("a greater one",             b"generation 1",    b"generation 18446744073709551616", at(15)),
+        ("a leading zero",            b"generation 1",    b"generation 01",                  at(15)),
+        ("no line feed behind it",    b"generation 1\n",  b"generation 1",                   at(15)),
+        ("another comment",           b"#generation 1\n", b"#generations 1",                 Ok(None)),
+        ("a folder above",            b"config/A)",       b"config/../A)",                   at(6)),
+        ("three spaces",              b"    $(wildcard include/config/B", b"   $(wildcard include/config/B", at(7)),
+        ("a folder as target",        b"x.o",             b"x/",                             at(1)),
+        ("a carriage return",         b"cc -c",           b"cc\r-c",                         at(1)),
+        ("another target's source",   b"source_x.o",      b"source_y.o",                     at(3)),
+        ("a source with a space",     b":= x.c",          b":= x .c",                        at(3)),
+        ("two empty lines",           b"b.h \\\n\n",      b"b.h \\\n\n\n",                   at(12)),
+        ("CR LF",                     b"\n",              b"\r\n",                           at(1)),
+    ];
+    for (row, old, new, want) in rows {
+        let text = WORKED.replace(rt.alloc(), old, new)?;
+        assert_eq!(rt; generation_of(rt.alloc(), &text), want, "{row}");
+    }
+    Ok(())
+}
+
+/// What a beginning of the worked command file comes to. The lines that have their line feed fit. A beginning of the next line
+/// fits or not, and is the fault if not; where it fits, the line after it is missing. Behind the last line of the layout
+/// nothing has to stand, but what begins as a generation line has to end.
+fn answer_of_cut(text: &[u8]) -> Result<Option<u64>, CommandError> {
+    let whole = text.iter().filter(|byte| **byte == b'\n').count();
+    let open = match memrchr(b'\n', text) {
+        Some(end) => text.len() - end - 1,
+        None => text.len(),
+    };
+    if whole > LINES {
+        return Ok(Some(1));
+    }
+    let fitting = if whole < LINES && 0 < open && FITS_FROM[whole] <= open {
+        whole + 1
+    } else {
+        whole
+    };
+    if fitting < LINES || (whole == LINES && MARK <= open) {
+        return Err(CommandError::BadCommandFile(fitting as u64 + 1));
+    }
+    Ok(None)
+}
+
+#[test]
+fn each_cut_is_read_or_refused_at_its_first_missing_line(rt: HostRuntime) -> Result<(), Fail> {
+    for end in 0..=WORKED.len() {
+        let text = &WORKED[..end];
+        assert_eq!(rt;
+            generation_of(rt.alloc(), text),
+            answer_of_cut(text),
+            "cut at {end}"
+        );
+    }
+    Ok(())
+}
+
+#[test]
+fn a_text_ends_too_early(rt: HostRuntime) -> Result<(), Fail> {
+    for (end, line) in [
+        ("  a.h \\\n", 9),
+        ("  a.h \\", 9),
+        ("  a.h", 8),
+        ("cc -c x.c\n", 2),
+        ("cc -c x.c", 2),
+    ] {
+        let (_, rest) = WORKED.split_once_str(end.as_bytes()).ok_or("no such line")?;
+        let text = WORKED.strip_suffix(rest).unwrap_or(WORKED);
+        assert_eq!(rt;
+            generation_of(rt.alloc(), text),
+            Err(CommandError::BadCommandFile(line)),
+            "{end}"
+        );
+    }
+    Ok(())
+}
+
+#[test]
+fn a_longer_text_is_too_large(rt: HostRuntime) -> Result<(), Fail> {
+    let mut text = vec![in rt.alloc(); b'\n'; MAX_BYTES]?;
+    assert_eq!(rt;
+        generation_of(rt.alloc(), &text),
+        Err(CommandError::BadCommandFile(1))
+    );
+    text.push(b'\n')?;
+    assert_eq!(rt;
+        generation_of(rt.alloc(), &text),
+        Err(CommandError::TooLarge)
+    );
+    Ok(())
+}
+
+#[test]
+fn refusals_tell_their_number_and_line(rt: HostRuntime) -> Result<(), Fail> {
+    for (error, text) in [
+        (CommandError::BadCommandFile(9), "23 BadCommandFile line 9"),
+        (CommandError::TooLarge, "9 TooLarge"),
+        (CommandError::OutOfMemory, "10 OutOfMemory"),
+    ] {
+        assert_eq!(rt; format!(in rt.alloc(); "{error}")?.as_str(), text);
+    }
+    Ok(())
+}
+
+#[test]
+fn a_command_is_one_line(rt: HostRuntime) {
+    for (command, legal) in [
+        ("", true),
+        ("cc -c x.c", true),
+        ("a\nb", false),
+        ("a\rb", false),
+        ("a\0b", false),
+    ] {
+        assert_eq!(rt; command_is_legal(command.as_bytes()), legal, "{command}");
+    }
+}

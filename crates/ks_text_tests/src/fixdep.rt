@@ -1,0 +1,409 @@
+//! Texts with known names, whole and in pieces; dependency files; and objects with their command files.
+ghost use Rattle.std.specs.Prelude.{◌<◌};
+
+use crate::golden;
+use ks_fixdep::{
+    DepError, FoundNames, Role, Scanner, SourceScan, build, build_from, names, read_depfile,
+    record_text, token_at, write_command,
+};
+use ks_symbols::{MAX_BYTES, write_decimal};
+use std::alloc::{AllocError, Global};
+use std::test::Fail;
+
+/// Each name of a text behind its place.
+fn with_places(alloc: Global, text: &[u8]) -> Result<Vec<u8>, AllocError> {
+    let mut all = Vec::new(alloc);
+    for found in names(text) {
+        write_decimal(found.place as u64, &mut all)?;
+        all.push(b' ')?;
+        all.extend_from_slice(found.name)?;
+        all.push(b' ')?;
+    }
+    Ok(all)
+}
+
+fn push_name(all: &mut Vec<u8>, name: &[u8]) -> Result<(), AllocError> {
+    all.extend_from_slice(name)?;
+    all.push(b' ')?;
+    Ok(())
+}
+
+/// The names that a scanner lends for these pieces, and at the end.
+fn lent(alloc: Global, pieces: &[&[u8]]) -> Result<Vec<u8>, AllocError> {
+    let mut all = Vec::new(alloc);
+    let mut scanner = Scanner::new();
+    for piece in pieces {
+        let fed = scanner.feed(piece);
+        if let Some(name) = fed.carried {
+            push_name(&mut all, name)?;
+        }
+        for found in fed.names {
+            push_name(&mut all, found.name)?;
+        }
+    }
+    if let Some(name) = scanner.finish() {
+        push_name(&mut all, name)?;
+    }
+    Ok(all)
+}
+
+/// The names of a source in these pieces, each once.
+fn found_in(alloc: Global, pieces: &[&[u8]]) -> Result<Vec<u8>, AllocError> {
+    let mut scan = SourceScan::new(alloc);
+    for piece in pieces {
+        scan.feed(piece)?;
+    }
+    scan.end_source()?;
+    spelled(alloc, scan.finish().names())
+}
+
+fn spelled(alloc: Global, found: &FoundNames) -> Result<Vec<u8>, AllocError> {
+    let mut all = Vec::new(alloc);
+    for name in found.names() {
+        push_name(&mut all, name)?;
+    }
+    Ok(all)
+}
+
+fn in_pieces(alloc: Global, text: &[u8], size: usize) -> Result<Vec<&[u8]>, AllocError>
+    requires { 0 < size }
+{
+    let mut pieces = Vec::new(alloc);
+    for piece in text.chunks(size) {
+        pieces.push(piece)?;
+    }
+    Ok(pieces)
+}
+
+/// `CONFIG_`, so many letters, and what stands behind them.
+fn long_name(alloc: Global, letters: usize, behind: &[u8]) -> Result<Vec<u8>, AllocError> {
+    let mut text = Vec::new(alloc);
+    text.extend_from_slice(b"CONFIG_")?;
+    for _ in 0..letters {
+        text.push(b'A')?;
+    }
+    text.extend_from_slice(behind)?;
+    Ok(text)
+}
+
+fn all_names(alloc: Global, text: &[u8]) -> Result<Vec<u8>, AllocError> {
+    let mut all = Vec::new(alloc);
+    for found in names(text) {
+        push_name(&mut all, found.name)?;
+    }
+    Ok(all)
+}
+
+#[test]
+#[rattlefmt::skip]
+fn names_stand_at_their_places(rt: HostRuntime) -> Result<(), Fail> {
+    let rows: [(&str, &[u8], &[u8]); 7] = [
+        ("inside words, and with one suffix or two", golden::SUFFIXES, b"13 B 52 MODULE 66 C_MODULE 89 D "),
+        ("inside a name",                  b"CONFIG_CONFIG_E",        b"0 CONFIG_E "),
+        ("behind bytes past ASCII",        b"\xc3\xa9CONFIG_A",       b"2 A "),
+        ("behind a NUL",                   b"a\0CONFIG_B",            b"2 B "),
+        ("twice",                          b"CONFIG_A(CONFIG_A)",     b"0 A 9 A "),
+        ("nothing behind",                 b"CONFIG_",                b""),
+        ("nothing at all",                 b"",                       b""),
+    ];
+    for (name, text, want) in rows {
+        let all = with_places(rt.alloc(), text)?;
+        assert_eq!(rt; all.as_slice(), want, "{name}");
+    }
+    Ok(())
+}
+
+#[test]
+fn the_longest_name_whole_and_byte_by_byte(rt: HostRuntime) -> Result<(), Fail> {
+    for (letters, behind, taken) in [
+        (128, b"".as_slice(), true),
+        (128, b"_MODULE".as_slice(), true),
+        (128, b"_MODULEX".as_slice(), false),
+        (129, b"".as_slice(), false),
+        (129, b"_MODULE".as_slice(), false),
+    ] {
+        let text = long_name(rt.alloc(), letters, behind)?;
+        let first = names(&text).next();
+        assert_eq!(rt;
+            first.map(|found| (found.place, found.name.len())),
+            taken.then_some((0, letters))
+        );
+        let want = if taken { letters + 1 } else { 0 };
+        for size in [1, 7, 142, 4096] {
+            let pieces = in_pieces(rt.alloc(), &text, size)?;
+            let all = lent(rt.alloc(), &pieces)?;
+            assert_eq!(rt; all.len(), want, "{letters} in pieces of {size}");
+        }
+    }
+    Ok(())
+}
+
+#[test]
+#[rattlefmt::skip]
+fn pieces_of_all_sizes_lend_the_same_names(rt: HostRuntime) -> Result<(), Fail> {
+    let rows: [(&str, &[&[u8]], &[u8]); 5] = [
+        ("a name in three pieces",       &[b"int CON", b"FIG_ALP", b"HA;"],            b"ALPHA "),
+        ("the word begins before",       &[b"HIS_", b"CONFIG_A"],                      b""),
+        ("a suffix in two, and an empty piece", &[b"CONFIG_B_MOD", b"", b"ULE CONFIG_"], b"B "),
+        ("no piece",                     &[],                                          b""),
+        ("a name at the end of each",    &[b"CONFIG_A", b" CONFIG_B", b" CONFIG_B"],   b"A B B "),
+    ];
+    for (name, pieces, want) in rows {
+        let all = lent(rt.alloc(), pieces)?;
+        assert_eq!(rt; all.as_slice(), want, "{name}");
+    }
+    for size in [1, 7, 4096] {
+        let pieces = in_pieces(rt.alloc(), b"int CONFIG_ALPHA;", size)?;
+        let all = lent(rt.alloc(), &pieces)?;
+        assert_eq!(rt; all.as_slice(), b"ALPHA ".as_slice(), "a short source in pieces of {size}");
+    }
+    for size in 1..=300usize {
+        let pieces = in_pieces(rt.alloc(), golden::BORDERS, size)?;
+        let all = lent(rt.alloc(), &pieces)?;
+        assert_eq!(rt; all.as_slice(), golden::BORDER_NAMES, "in pieces of {size}");
+        let once = found_in(rt.alloc(), &pieces)?;
+        assert_eq!(rt; once.as_slice(), golden::BORDER_NAMES_ONCE, "once, in pieces of {size}");
+    }
+    let whole = all_names(rt.alloc(), golden::BORDERS)?;
+    assert_eq!(rt; whole.as_slice(), golden::BORDER_NAMES, "in no pieces");
+    let mut text = vec![in rt.alloc(); b' '; 4093]?;
+    text.extend_from_slice(b"CONFIG_ALPHA")?;
+    let pieces = in_pieces(rt.alloc(), &text, 4096)?;
+    assert_eq!(rt; lent(rt.alloc(), &pieces)?.as_slice(), b"ALPHA ".as_slice());
+    Ok(())
+}
+
+#[test]
+fn a_name_is_noted_once(rt: HostRuntime) -> Result<(), Fail> {
+    let mut found = FoundNames::new(rt.alloc());
+    assert!(rt; found.is_empty());
+    let legal: [&[u8]; 4] = [b"B", b"A", b"B", b"C"];
+    for name in legal {
+        assert!(rt; ks_symbols::name_is_legal(name));
+        found.note(name)?;
+    }
+    assert_eq!(rt; found.len(), 3);
+    assert_eq!(rt;
+        spelled(rt.alloc(), &found)?.as_slice(),
+        b"B A C ".as_slice()
+    );
+    Ok(())
+}
+
+fn letter(role: Role) -> u8 {
+    match role {
+        Role::Source => b'S',
+        Role::Scanned => b'-',
+        Role::Listed => b'+',
+    }
+}
+
+/// The prerequisites of a dependency file, each behind the letter of its role; or the refusal.
+fn prerequisites(alloc: Global, text: &[u8]) -> Result<Vec<u8>, AllocError> {
+    let mut all = Vec::new(alloc);
+    match read_depfile(alloc, text) {
+        Ok(read) => {
+            for place in 0..read.len() {
+                if let Some((path, role)) = read.get(place) {
+                    all.push(letter(role))?;
+                    push_name(&mut all, path)?;
+                }
+            }
+            if read.get(read.len()).is_some() {
+                all.push(b'!')?;
+            }
+        }
+        Err(refusal) => {
+            all.extend_from_slice(format!(in alloc; "{refusal}")?.as_bytes())?;
+        }
+    }
+    Ok(all)
+}
+
+#[test]
+#[rattlefmt::skip]
+fn prerequisites_have_their_roles_by_place(rt: HostRuntime) -> Result<(), Fail> {
+    let rows: [(&str, &[u8], &[u8]); 18] = [
+        ("as compilers write it",         golden::DEPFILE,                                 b"Sx.c +a.h +b.h "),
+        ("a second rule",                 b"x.o: x.c a.h\ny.o: t.s b.h\n",                 b"Sx.c +a.h -t.s +b.h "),
+        ("a repeat takes the first place", b"x.o: x.c a.h\ny.o: a.h b.h\n",                b"Sx.c +a.h +b.h "),
+        ("the header does not",           b"x.o: x.c\ny.o: include/generated/autoconf.h t.s\n", b"Sx.c -t.s "),
+        ("a repeat of a scanned file",    b"x.o: x.c\ny.o: t.s\nz.o: t.s u.h",             b"Sx.c -t.s +u.h "),
+        ("the source again",              b"x.o: x.c x.c a.h x.c",                         b"Sx.c +a.h "),
+        ("targets side by side",          b"x.o: y.o:\r\n\tx.c \\\r\n a.h",                b"Sx.c +a.h "),
+        ("a target without files",        b"x.o: x.c\na.h:\nb.h: c.h",                     b"Sx.c -c.h "),
+        ("a header elsewhere",            b"x.o: x.c out/include/generated/autoconf.h a.h", b"Sx.c +a.h "),
+        ("no target",                     b"a.h b.h",                                      b"20 NoTarget"),
+        ("a file before the target",      b"x.c x.o: a.h",                                 b"20 NoTarget"),
+        ("the header before it",          b"include/generated/autoconf.h x.o: x.c",        b"20 NoTarget"),
+        ("faulty in both ways",           b"a$b x.o: x.c",                                 b"20 NoTarget"),
+        ("nothing",                       b"",                                             b"20 NoTarget"),
+        ("no file but the header",        b"x.o: include/generated/autoconf.h",            b"20 NoTarget"),
+        ("a dollar",                      b"x.o: x.c a$b.h",                               b"21 BadPath token 3"),
+        ("all tokens are counted",        b"x.o: y.o: include/generated/autoconf.h x.c a#", b"21 BadPath token 5"),
+        ("the first fault",               b"x.o: x.c \xc3\xa9.h a$b.h",                    b"21 BadPath token 3"),
+    ];
+    for (name, text, want) in rows {
+        let read = prerequisites(rt.alloc(), text)?;
+        assert_eq!(rt; read.as_slice(), want, "{name}");
+    }
+    Ok(())
+}
+
+#[test]
+fn tokens_by_their_numbers(rt: HostRuntime) {
+    let text = b"x.o: y.o:\r\n\tx.c \\\r\n a#";
+    assert!(rt; token_at(text, 1) == Some(b"x.o:".as_slice()));
+    assert!(rt; token_at(text, 4) == Some(b"a#".as_slice()));
+    assert!(rt; token_at(text, 5).is_none());
+}
+
+#[test]
+#[rattlefmt::skip]
+fn each_cut_of_a_dependency_file_is_read_or_refused(rt: HostRuntime) -> Result<(), Fail> {
+    // the last cut of each row, what is settled there, and where the path begins that is cut
+    let rows: [(usize, &[u8], usize); 11] = [
+        ( 5, b"20 NoTarget",     53), // no more than the target
+        ( 8, b"S",                5), // in the source
+        ( 9, b"Sx.c ",           53),
+        (12, b"Sx.c +",           9), // in a listed file
+        (16, b"Sx.c +a.h ",      53),
+        (43, b"Sx.c +a.h +",     16), // in the header that is passed over, which is another file until it is whole
+        (45, b"Sx.c +a.h ",      53), // it is whole
+        (47, b"Sx.c +a.h +",     45), // in a repeat, which is another file until it is whole
+        (49, b"Sx.c +a.h ",      53), // it is whole
+        (52, b"Sx.c +a.h +",     49), // in the last file
+        (53, b"Sx.c +a.h +b.h ", 53),
+    ];
+    for end in 0..=golden::DEPFILE.len() {
+        let text = &golden::DEPFILE[..end];
+        let (_, settled, open) = *rows.iter().find(|row| end <= row.0).ok_or("no row")?;
+        let mut want = settled.to_vec(rt.alloc())?;
+        if open < end {
+            push_name(&mut want, &text[open..])?;
+        }
+        assert_eq!(rt; prerequisites(rt.alloc(), text)?, want, "cut at {end}");
+    }
+    Ok(())
+}
+
+#[test]
+fn a_dependency_file_may_have_64_mebibytes(rt: HostRuntime) -> Result<(), Fail> {
+    let mut text = vec![in rt.alloc(); b' '; MAX_BYTES - 8]?;
+    text.extend_from_slice(b"x.o: x.c")?;
+    assert_eq!(rt;
+        prerequisites(rt.alloc(), &text)?.as_slice(),
+        b"Sx.c ".as_slice()
+    );
+    text.push(b'c')?;
+    assert_eq!(rt;
+        prerequisites(rt.alloc(), &text)?.as_slice(),
+        b"9 TooLarge".as_slice()
+    );
+    Ok(())
+}
+
+/// The text of the command file of an object, from the texts of its prerequisites; or the refusal.
+fn command_text(
+    alloc: Global,
+    depfile: &[u8],
+    words: (&[u8], &[u8]),
+    texts: &[&[u8]],
+) -> Result<Vec<u8>, DepError> {
+    let read = read_depfile(alloc, depfile)?;
+    let mut out = Vec::new(alloc);
+    if read.len() != texts.len() {
+        out.extend_from_slice(b"another number of prerequisites")?;
+        return Ok(out);
+    }
+    let mut scan = SourceScan::new(alloc);
+    for text in texts {
+        scan.feed(text)?;
+        scan.end_source()?;
+    }
+    let found = scan.finish();
+    if read.len() != found.sources() {
+        return Ok(out);
+    }
+    let (target, command) = words;
+    let straight = record_text(alloc, target, command, &read, &found, None)?;
+    let built = build_from(alloc, target, command, read, found)?;
+    write_command(&built, &mut out)?;
+    if straight != out {
+        out.extend_from_slice(b"another straight from the names")?;
+    }
+    let whole = build(alloc, target, command, read_depfile(alloc, depfile)?, texts)?;
+    let mut again = Vec::new(alloc);
+    write_command(&whole, &mut again)?;
+    if again != out {
+        out.extend_from_slice(b"another from whole texts")?;
+    }
+    Ok(out)
+}
+
+#[test]
+fn objects_have_their_command_files(rt: HostRuntime) -> Result<(), Fail> {
+    let words = (b"x.o".as_slice(), b"cc -c x.c".as_slice());
+    let rows: [(&str, &[u8], &[&[u8]], &[u8]); 3] = [
+        (
+            "each name with its first prerequisite",
+            golden::DEPFILE,
+            &[
+                b"#ifdef CONFIG_A\nCONFIG_B\n",
+                b"CONFIG_B CONFIG_C_MODULE\n",
+                b"CONFIG_A\n",
+            ],
+            golden::COMMAND_FILE,
+        ),
+        (
+            "a scanned file is not listed",
+            b"x.o: x.c a.h\ny.o: t.s b.h\n",
+            &[b"", b"", b"CONFIG_Z", b""],
+            golden::SCANNED_COMMAND_FILE,
+        ),
+        (
+            "no names and no other files",
+            b"x.o: x.c",
+            &[b"int x;"],
+            golden::SMALLEST_COMMAND_FILE,
+        ),
+    ];
+    for (name, depfile, texts, want) in rows {
+        let text = command_text(rt.alloc(), depfile, words, texts)?;
+        assert_eq!(rt; text.as_slice(), want, "{name}");
+    }
+    Ok(())
+}
+
+#[test]
+#[rattlefmt::skip]
+fn a_target_and_a_command_are_checked_in_this_order(rt: HostRuntime) -> Result<(), Fail> {
+    let rows: [(&str, &[u8], &[u8], DepError); 5] = [
+        ("a folder",            b"d/",  b"cc",   DepError::BadPath(0)),
+        ("no target",           b"",    b"cc",   DepError::BadPath(0)),
+        ("two lines",           b"x.o", b"a\nb", DepError::BadCommand),
+        ("a NUL",               b"x.o", b"a\0",  DepError::BadCommand),
+        ("both are at fault",   b"d/",  b"a\nb", DepError::BadPath(0)),
+    ];
+    for (name, target, command, want) in rows {
+        let built = command_text(rt.alloc(), b"x.o: x.c", (target, command), &[b""]);
+        assert_eq!(rt; built.err(), Some(want), "{name}");
+    }
+    Ok(())
+}
+
+#[test]
+#[rattlefmt::skip]
+fn refusals_have_their_texts(rt: HostRuntime) -> Result<(), Fail> {
+    for (refusal, want) in [
+        (DepError::TooLarge,    "9 TooLarge"),
+        (DepError::OutOfMemory, "10 OutOfMemory"),
+        (DepError::NoTarget,    "20 NoTarget"),
+        (DepError::BadPath(7),  "21 BadPath token 7"),
+        (DepError::BadCommand,  "22 BadCommand"),
+    ] {
+        let text = format!(in rt.alloc(); "{refusal}")?;
+        assert_eq!(rt; text.as_str(), want);
+    }
+    Ok(())
+}

@@ -1,0 +1,251 @@
+//! Worked examples: whole files as they are written, and what is read of others.
+use ks_output::{OldConfig, read_auto, read_auto_generation, write_auto, write_header};
+use ks_symbols::{Class, read_dotconfig, read_kconfig};
+use std::alloc::{AllocError, Global};
+
+const SWITCHES: &[u8] = b"mainmenu \"Demo\"\nconfig A\n\tbool\nconfig B\n\ttristate\n";
+
+const STRING: &[u8] = b"config S\n\tstring\n";
+
+const NUMBERS: &[u8] =
+    b"config G\n\thex\nconfig H\n\thex\nconfig I\n\thex\nconfig J\n\tint\nconfig K\n\tint\nconfig L\n\tint\n";
+
+const AUTO_HEAD: &[u8] =
+    b"#\n# Automatically generated file; DO NOT EDIT.\n# Main menu\n#\n#typed\n";
+
+const HEADER_HEAD: &[u8] =
+    b"/*\n * Automatically generated file; DO NOT EDIT.\n * Main menu\n */\n";
+
+const SWITCHES_AUTO: &[u8] = br#"#
+# Automatically generated file; DO NOT EDIT.
+# Demo
+#
+#typed
+CONFIG_A=y
+CONFIG_B=m
+#generation 1
+"#;
+
+const SWITCHES_HEADER: &[u8] = br#"/*
+ * Automatically generated file; DO NOT EDIT.
+ * Demo
+ */
+#define CONFIG_A 1
+#define CONFIG_B_MODULE 1
+"#;
+
+/// The auto.conf of generation 1 and the header of two source texts, each behind a word that stood there before.
+fn written(
+    alloc: Global,
+    kconfig: &[u8],
+    dotconfig: &[u8],
+) -> Result<(Vec<u8>, Vec<u8>), AllocError> {
+    let mut auto = Vec::from_slice(alloc, b"auto:".as_slice())?;
+    let mut header = Vec::from_slice(alloc, b"header:".as_slice())?;
+    if let Ok(symbols) = read_kconfig(alloc, kconfig) {
+        if let Ok(settings) = read_dotconfig(alloc, dotconfig, &symbols) {
+            write_auto(&settings, symbols.title(), 1, &mut auto)?;
+            write_header(&settings, symbols.title(), &mut header)?;
+        }
+    }
+    Ok((auto, header))
+}
+
+fn joined(alloc: Global, pieces: &[&[u8]]) -> Result<Vec<u8>, AllocError> {
+    let mut whole = Vec::new(alloc);
+    for piece in pieces {
+        whole.extend_from_slice(piece)?;
+    }
+    Ok(whole)
+}
+
+#[test]
+fn files_of_switches(rt: HostRuntime) -> Result<(), AllocError> {
+    let alloc = rt.alloc();
+    let (auto, header) = written(alloc, SWITCHES, b"CONFIG_B=m\nCONFIG_A=y\n")?;
+    assert!(rt; auto == joined(alloc, &[b"auto:", SWITCHES_AUTO])?);
+    assert!(rt; header == joined(alloc, &[b"header:", SWITCHES_HEADER])?);
+    assert!(rt; auto.len() == 5 + 99 && header.len() == 7 + 106);
+    Ok(())
+}
+
+#[test]
+fn files_of_other_kinds(rt: HostRuntime) -> Result<(), AllocError> {
+    let alloc = rt.alloc();
+    #[rattlefmt::skip]
+    let rows: [(&str, &[u8], &[u8], &[u8], &[u8]); 8] = [
+        ("nothing at all", b"", b"", b"", b""),
+        ("an undeclared name", SWITCHES, b"CONFIG_A=y\n# CONFIG_A is not set\nCONFIG_ZZ=7\n", b"", b""),
+        ("quotes and backslashes", STRING, br#"CONFIG_S="a\"b\\c""#, b"#type S string\nCONFIG_S=a\"b\\c\n", b"#define CONFIG_S \"a\\\"b\\\\c\"\n"),
+        ("an empty string", STRING, b"CONFIG_S=\"\"\n", b"#type S string\nCONFIG_S=\n", b"#define CONFIG_S \"\"\n"),
+        ("the string n", STRING, b"CONFIG_S=\"n\"\n", b"#type S string\nCONFIG_S=n\n", b"#define CONFIG_S \"n\"\n"),
+        ("the string y", STRING, b"CONFIG_S=\"y\"\n", b"#type S string\nCONFIG_S=y\n", b"#define CONFIG_S \"y\"\n"),
+        ("hexadecimal numbers", NUMBERS, b"CONFIG_G=1f\nCONFIG_H=0x1f\nCONFIG_I=0X1F\n",
+            b"#type G hex\nCONFIG_G=1f\n#type H hex\nCONFIG_H=0x1f\n#type I hex\nCONFIG_I=0X1F\n", b"#define CONFIG_G 0x1f\n#define CONFIG_H 0x1f\n#define CONFIG_I 0X1F\n"),
+        ("integers", NUMBERS, b"CONFIG_J=-0\nCONFIG_K=0\nCONFIG_L=-12\n",
+            b"#type J int\nCONFIG_J=-0\n#type K int\nCONFIG_K=0\n#type L int\nCONFIG_L=-12\n", b"#define CONFIG_J -0\n#define CONFIG_K 0\n#define CONFIG_L -12\n"),
+    ];
+    for (name, kconfig, dotconfig, entries, definitions) in rows {
+        let (auto, header) = written(alloc, kconfig, dotconfig)?;
+        assert!(rt;
+            auto.starts_with(b"auto:#\n# Automatically")
+                && auto.ends_with(&joined(
+                    alloc,
+                    &[b"\n#\n#typed\n", entries, b"#generation 1\n"]
+                )?),
+            "{name}"
+        );
+        assert!(rt;
+            header.ends_with(&joined(alloc, &[b"\n */\n", definitions])?),
+            "{name}"
+        );
+    }
+    let (auto, header) = written(alloc, b"", b"")?;
+    assert!(rt; auto == joined(alloc, &[b"auto:", AUTO_HEAD, b"#generation 1\n"])?);
+    assert!(rt; header == joined(alloc, &[b"header:", HEADER_HEAD])?);
+    Ok(())
+}
+
+/// What an auto.conf says, entry by entry and then its generation, or the refusal.
+fn said(alloc: Global, auto: &[u8]) -> Result<String, AllocError> {
+    let old = match read_auto(alloc, auto) {
+        Ok(old) => old,
+        Err(error) => return error.to_string(alloc),
+    };
+    let mut whole = String::new(alloc);
+    for (name, class, text) in old.entries() {
+        if old.get(name).is_some() && old.class(name) == class {
+            whole.push_str(&String::from_utf8_lossy(alloc, name)?)?;
+            whole.push_str(match class {
+                None => "=",
+                Some(Class::Switch) => ":switch=",
+                Some(Class::Text) => ":string=",
+                Some(Class::Int) => ":int=",
+                Some(Class::Hex) => ":hex=",
+            })?;
+            whole.push_str(&String::from_utf8_lossy(alloc, text)?)?;
+            whole.push_str(" ")?;
+        }
+    }
+    whole.push_str(&format!(in alloc; "#{}", old.generation())?)?;
+    Ok(whole)
+}
+
+#[test]
+fn readings(rt: HostRuntime) -> Result<(), AllocError> {
+    let alloc = rt.alloc();
+    let none = OldConfig::empty(alloc);
+    assert!(rt; none.generation() == 0 && none.get(b"A").is_none() && none.class(b"A").is_none());
+    #[rattlefmt::skip]
+    let rows: [(&str, &[u8], &str); 22] = [
+        ("an empty text", b"", "#0"),
+        ("a whole file", SWITCHES_AUTO, "A:switch=y B:switch=m #1"),
+        ("the last line of a name", b"CONFIG_A=y\nCONFIG_A=m\n", "A=m #0"),
+        ("the last generation", b"#generation 3\nCONFIG_S=a=b\n#generation 5\n", "S=a=b #5"),
+        ("the largest generation", b"#generation 18446744073709551615\n", "#18446744073709551615"),
+        ("one more than the largest", b"#generation 18446744073709551616\n", "11 BadAuto line 1"),
+        ("a generation with an idle zero", b"#generation 05\n", "11 BadAuto line 1"),
+        ("no generation", b"#generation \n", "11 BadAuto line 1"),
+        ("a generation without its end", b"#\n# Auto\n# Demo\n#\nCONFIG_A=y\nCONFIG_B=m\n#generation 1", "11 BadAuto line 7"),
+        ("a name that leaves its folder", b"#\n# Auto\n# Demo\n#\nCONFIG_../x=y\n", "11 BadAuto line 5"),
+        ("no name", b"CONFIG_=y\n", "11 BadAuto line 1"),
+        ("no text", b"\nCONFIG_A\n", "11 BadAuto line 2"),
+        ("a blank in front", b" CONFIG_A=y\n", "11 BadAuto line 1"),
+        ("the first faulty line", b"#generation 1\nA\n#generation 01\n", "11 BadAuto line 2"),
+        ("names out of order", b"CONFIG_B=y\nCONFIG_A=y\n", "A=y B=y #0"),
+        ("the text n", b"CONFIG_S=n\n", "S=n #0"),
+        ("an empty string", b"CONFIG_S=\n", "S= #0"),
+        ("a quoted text, as it stands", b"CONFIG_S=\"a\"\n", "S=\"a\" #0"),
+        ("lines that end in CR LF", b"CONFIG_A=y\r\n#generation 4\r\n", "A=y #4"),
+        ("a last line without its end", b"CONFIG_A=y", "A=y #0"),
+        ("a name of a module", b"CONFIG_A_MODULE=y\n", "A_MODULE=y #0"),
+        ("comments", b"# CONFIG_A is not set\n#generation\n#generation3\n", "#0"),
+    ];
+    for (name, auto, want) in rows {
+        let found = said(alloc, auto)?;
+        assert!(rt; found.as_str() == want, "{name}: {found}");
+    }
+    Ok(())
+}
+
+/// What both readers say of a text: the entries, and that both give its generation or the same refusal.
+fn said_twice(alloc: Global, auto: &[u8]) -> Result<String, AllocError> {
+    let mut found = said(alloc, auto)?;
+    let generation = match read_auto_generation(auto) {
+        Ok(generation) => format!(in alloc; "#{generation}")?,
+        Err(error) => error.to_string(alloc)?,
+    };
+    if !found.as_str().ends_with(generation.as_str()) {
+        found.push_str(" but ")?;
+        found.push_str(&generation)?;
+    }
+    Ok(found)
+}
+
+#[test]
+fn typed_readings(rt: HostRuntime) -> Result<(), AllocError> {
+    let alloc = rt.alloc();
+    #[rattlefmt::skip]
+    let rows: [(&str, &[u8], &str); 22] = [
+        ("each class", b"#typed\nCONFIG_A=m\n#type H hex\nCONFIG_H=10\n#type I int\nCONFIG_I=1\n#type S string\nCONFIG_S=y\n#generation 3\n",
+            "A:switch=m H:hex=10 I:int=1 S:string=y #3"),
+        ("no entries", b"#typed\n#generation 2\n", "#2"),
+        ("another name", b"#typed\n#type S string\nCONFIG_T=x\n", "11 BadAuto line 2"),
+        ("a longer name", b"#typed\n#type S string\nCONFIG_SS=x\n", "11 BadAuto line 2"),
+        ("a class that is not written", b"#typed\n#type S bool\nCONFIG_S=x\n", "11 BadAuto line 2"),
+        ("a blank at the end", b"#typed\n#type S string \nCONFIG_S=x\n", "11 BadAuto line 2"),
+        ("no class", b"#typed\n#type S\nCONFIG_S=x\n", "11 BadAuto line 2"),
+        ("no name", b"#typed\n#type string\nCONFIG_S=x\n", "11 BadAuto line 2"),
+        ("the last line", b"#typed\nCONFIG_T=x\n#type S string\n", "11 BadAuto line 3"),
+        ("the last line without its end", b"#typed\n#type S string", "11 BadAuto line 2"),
+        ("a comment between", b"#typed\n#type S string\n#\nCONFIG_S=x\n", "11 BadAuto line 2"),
+        ("two in a row", b"#typed\n#type S int\n#type S string\nCONFIG_S=x\n", "11 BadAuto line 2"),
+        ("the first of two faults", b"#typed\n#type S int\nA\n", "11 BadAuto line 2"),
+        ("a fault before a mark", b"A\n#typed\n#type S int\n", "11 BadAuto line 1"),
+        ("an earlier line's class", b"#typed\n#type S string\nCONFIG_S=a\nCONFIG_S=y\n", "S:switch=y #0"),
+        ("a later line's class", b"#typed\n#type S string\nCONFIG_S=a\n#type S int\nCONFIG_S=1\n", "S:int=1 #0"),
+        ("lines that end in CR LF", b"#typed\r\n#type S string\r\nCONFIG_S=a\r\n", "S:string=a #0"),
+        ("without the mark", b"#type S string\nCONFIG_T=x\n#type\n#type S bool\n", "T=x #0"),
+        ("a mark behind the first entry", b"CONFIG_T=x\n#typed\n#type S string\nCONFIG_S=y\n#type S\n", "S=y T=x #0"),
+        ("before the mark", b"#type S string\n#type\n#type S\n#typed\nCONFIG_S=y\n", "S:switch=y #0"),
+        ("two marks", b"#typed\n#typed\n#type S string\nCONFIG_S=y\n#typed\nCONFIG_T=y\n", "S:string=y T:switch=y #0"),
+        ("almost a mark", b"#typed \n#type S string\nCONFIG_T=y\n", "T=y #0"),
+    ];
+    for (name, auto, want) in rows {
+        let found = said_twice(alloc, auto)?;
+        assert!(rt; found.as_str() == want, "{name}: {found}");
+    }
+    Ok(())
+}
+
+/// Where the text ends within or right behind the line of a class, that line is refused, or what is left of it is a comment.
+#[test]
+fn cut_classes(rt: HostRuntime) -> Result<(), AllocError> {
+    let alloc = rt.alloc();
+    let whole: &[u8] = b"#typed\nCONFIG_A=y\n#type S string\nCONFIG_S=y\n";
+    let line = 18; // where the line of the class begins
+    for end in line..whole.len() + 1 {
+        let found = said_twice(alloc, &whole[..end])?;
+        let want = if end < line + 6 {
+            "A:switch=y #0"
+        } else if end < line + 15 + "CONFIG_S=".len() {
+            "11 BadAuto line 3"
+        } else if end < line + 15 + "CONFIG_S=y".len() {
+            "A:switch=y S:string= #0"
+        } else {
+            "A:switch=y S:string=y #0"
+        };
+        assert!(rt; found.as_str() == want, "{end}: {found}");
+    }
+    Ok(())
+}
+
+#[test]
+fn size_limit(rt: HostRuntime) -> Result<(), AllocError> {
+    let alloc = rt.alloc();
+    let mut auto = vec![in alloc; b'#'; 67_108_864]?;
+    assert!(rt; said(alloc, &auto)?.as_str() == "#0");
+    auto.push(b'\n')?;
+    assert!(rt; said(alloc, &auto)?.as_str() == "9 TooLarge");
+    Ok(())
+}

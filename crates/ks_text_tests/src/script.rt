@@ -1,0 +1,136 @@
+//! Scripts as they stand in files, and what is read of them.
+use ks_script::{ScriptError, ScriptLine, read_script};
+use std::alloc::{AllocError, Global};
+
+/// What a script asks for, with its words between bars, or the refusal.
+fn outcome(alloc: Global, text: &[u8]) -> Result<String, AllocError> {
+    let lines = match read_script(alloc, text) {
+        Ok(lines) => lines,
+        Err(error) => return error.to_string(alloc),
+    };
+    let mut whole = String::new(alloc);
+    for line in &lines {
+        let words: [&[u8]; 4] = match *line {
+            ScriptLine::Sync(kconfig, dotconfig) => [b"sync", kconfig, dotconfig, b""],
+            ScriptLine::Record(depfile, target, command) => [b"record", depfile, target, command],
+            ScriptLine::Stale(target) => [b"stale", target, b"", b""],
+        };
+        for word in words {
+            whole.push_str(&String::from_utf8_lossy(alloc, word)?)?;
+            whole.push_str("|")?;
+        }
+        whole.push_str("\n")?;
+    }
+    Ok(whole)
+}
+
+#[test]
+#[rattlefmt::skip]
+fn scripts(rt: HostRuntime) -> Result<(), AllocError> {
+    let alloc = rt.alloc();
+    let rows: [(&str, &[u8], &str); 27] = [
+        ("nothing", b"", ""),
+        ("comments and empty lines alone", b"# x\n\n#\n", ""),
+        ("a line of each kind", b"sync K C\nrecord x.d x.o cc -c x.c\nstale x.o\n", "sync|K|C||\nrecord|x.d|x.o|cc -c x.c|\nstale|x.o|||\n"),
+        ("CR LF", b"# x\r\n\r\nsync K C\r\nstale x.o\r\n", "sync|K|C||\nstale|x.o|||\n"),
+        ("a last line without its end", b"stale y.o\nstale x.o", "stale|y.o|||\nstale|x.o|||\n"),
+        ("an empty command", b"record x.d x.o \n", "record|x.d|x.o||\n"),
+        ("a command of spaces", b"record x.d x.o  cc  \n", "record|x.d|x.o| cc  |\n"),
+        ("a target that is no path", b"stale a$b\n", "stale|a$b|||\n"),
+        ("a dependency file that is no path", b"record a$b x.o cc\n", "record|a$b|x.o|cc|\n"),
+        ("a lone CR", b"stale x\r.o\r", "stale|x\r.o\r|||\n"),
+        ("two targets", b"stale x.o y.o", "50 BadScript line 1"),
+        ("two spaces before a target", b"stale  x.o", "50 BadScript line 1"),
+        ("no third space", b"record x.d x.o", "50 BadScript line 1"),
+        ("no target", b"stale\n", "50 BadScript line 1"),
+        ("an empty target", b"stale \n", "50 BadScript line 1"),
+        ("a space behind a target", b"stale x.o \n", "50 BadScript line 1"),
+        ("two spaces between paths", b"sync K  C\n", "50 BadScript line 1"),
+        ("a space behind paths", b"sync K C \n", "50 BadScript line 1"),
+        ("one path", b"sync K\n", "50 BadScript line 1"),
+        ("a Kconfig that is no path", b"\n\nsync K$ C\n", "50 BadScript line 3"),
+        ("a .config that is no path", b"# x\nsync K C:\n", "50 BadScript line 2"),
+        ("two spaces before a target of a record", b"record x.d  x.o cc\n", "50 BadScript line 1"),
+        ("an empty dependency file", b"record  x.o cc\n", "50 BadScript line 1"),
+        ("a space in front", b" stale x.o\n", "50 BadScript line 1"),
+        ("a comment behind a space", b" # x\n", "50 BadScript line 1"),
+        ("another command", b"stale x.o\npreview K C\n", "50 BadScript line 2"),
+        ("the first faulty line", b"stale x.o\r\nstale\r\nsync K\r\n", "50 BadScript line 2"),
+    ];
+    for (name, text, want) in rows {
+        let found = outcome(alloc, text)?;
+        assert!(rt; found.as_str() == want, "{name}: {found}");
+    }
+    Ok(())
+}
+
+#[test]
+fn cuts(rt: HostRuntime) -> Result<(), AllocError> {
+    let alloc = rt.alloc();
+    let whole = b"sync K C\nrecord x.d x.o c\nstale x.o\n".as_slice();
+    #[rattlefmt::skip]
+    let rows: [(usize, usize, &str); 7] = [
+        (0, 0, "read 0"),
+        (1, 7, "50 BadScript line 1"),
+        (8, 9, "read 1"),
+        (10, 23, "50 BadScript line 2"),
+        (24, 26, "read 2"),
+        (27, 32, "50 BadScript line 3"),
+        (33, 36, "read 3"),
+    ];
+    for end in 0..=whole.len() {
+        let found = match read_script(alloc, &whole[..end]) {
+            Ok(lines) => format!(in alloc; "read {}", lines.len())?,
+            Err(error) => error.to_string(alloc)?,
+        };
+        for (first, last, want) in rows {
+            if first <= end && end <= last {
+                assert!(rt; found.as_str() == want, "{end} bytes: {found}");
+            }
+        }
+    }
+    Ok(())
+}
+
+/// The outcome of a line whose one path or word is as long as that.
+fn long_outcome(
+    alloc: Global,
+    front: &[u8],
+    length: usize,
+    back: &[u8],
+) -> Result<String, AllocError> {
+    let mut line = Vec::from_slice(alloc, front)?;
+    line.extend_from_slice(&vec![in alloc; b'N'; length]?)?;
+    line.extend_from_slice(back)?;
+    outcome(alloc, &line)
+}
+
+#[test]
+fn long_words(rt: HostRuntime) -> Result<(), AllocError> {
+    let alloc = rt.alloc();
+    #[rattlefmt::skip]
+    let rows: [(&str, &[u8], usize, &[u8], &[u8]); 6] = [
+        ("a Kconfig of 129 bytes", b"sync ", 129, b" C", b"sync|"),
+        ("a target of 129 bytes", b"stale ", 129, b"", b"stale|"),
+        ("a longest path", b"sync K ", 1024, b"", b"sync|K|"),
+        ("a longer path", b"sync K ", 1025, b"", b"50 BadScript line 1"),
+        ("a word longer than a path", b"record ", 1025, b" x.o cc", b"record|"),
+        ("a long command", b"record x.d x.o ", 5000, b"", b"record|x.d|x.o|"),
+    ];
+    for (name, front, length, back, want) in rows {
+        let found = long_outcome(alloc, front, length, back)?;
+        assert!(rt; found.as_bytes().starts_with(want), "{name}");
+    }
+    Ok(())
+}
+
+#[test]
+fn refusals(rt: HostRuntime) -> Result<(), AllocError> {
+    let alloc = rt.alloc();
+    let mut comment = vec![in alloc; b'#'; 67_108_864]?;
+    assert!(rt; outcome(alloc, &comment)?.as_str() == "");
+    comment.push(b'\n')?;
+    assert!(rt; outcome(alloc, &comment)?.as_str() == "9 TooLarge");
+    assert!(rt; ScriptError::OutOfMemory.to_string(alloc)?.as_str() == "10 OutOfMemory");
+    Ok(())
+}

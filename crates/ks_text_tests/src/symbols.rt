@@ -1,0 +1,201 @@
+//! Kconfig and `.config` texts as they stand in files, what is read of them, and the rules of names, paths, values and lines.
+use ks_symbols::{
+    Kind, Name, Path, SourceError, Statement, is_silent, name_is_legal, parse_statement,
+    path_is_legal, read_decimal, read_dotconfig, read_kconfig, target_is_legal, value_is_valid,
+    write_decimal,
+};
+use std::alloc::{AllocError, Global};
+
+/// Two symbols, one of each kind that a switch can have, and a title.
+const DEMO: &[u8] = b"mainmenu \"Demo\"\nconfig A\n\tbool\nconfig B\n\ttristate\n";
+
+/// A symbol of each kind that holds a value.
+const VALUES: &[u8] = b"config S\n\tstring\nconfig I\n\tint\nconfig H\n\thex\n";
+
+/// Symbols whose names begin alike, and begin with each kind of byte that a name has.
+const ALIKE: &[u8] =
+    b"config a\n\tbool\nconfig _\n\tbool\nconfig A_\n\tbool\nconfig AA\n\tbool\nconfig A\n\tbool\nconfig 0\n\tbool\n";
+
+const LONGEST: &[u8; 128] = &[b'N'; 128];
+
+/// The title and, for each name, `name kind` as the Kconfig has them, or the refusal.
+fn kconfig_outcome(alloc: Global, text: &[u8], name: &[u8]) -> Result<String, AllocError> {
+    match read_kconfig(alloc, text) {
+        Err(error) => error.to_string(alloc),
+        Ok(symbols) => {
+            let title = String::from_utf8_lossy(alloc, symbols.title())?;
+            let kind = symbols.kind_of(name);
+            format!(in alloc; "{title} {kind:?}")
+        }
+    }
+}
+
+/// The entries in order, and the number of unknown lines, as the two texts give them, or the refusal.
+fn dotconfig_outcome(alloc: Global, kconfig: &[u8], text: &[u8]) -> Result<String, AllocError> {
+    let symbols = match read_kconfig(alloc, kconfig) {
+        Err(error) => return error.to_string(alloc),
+        Ok(symbols) => symbols,
+    };
+    let settings = match read_dotconfig(alloc, text, &symbols) {
+        Err(error) => return error.to_string(alloc),
+        Ok(settings) => settings,
+    };
+    let mut all = String::new(alloc);
+    for (name, _, value) in settings.entries() {
+        all.push_str(&String::from_utf8_lossy(alloc, name)?)?;
+        all.push_str("=")?;
+        all.push_str(&String::from_utf8_lossy(alloc, value)?)?;
+        all.push_str(" ")?;
+    }
+    let unknown = settings.unknown();
+    format!(in alloc; "{all}unknown {unknown}")
+}
+
+#[test]
+#[rattlefmt::skip]
+fn kconfigs(rt: HostRuntime) -> Result<(), AllocError> {
+    let alloc = rt.alloc();
+    let rows: [(&str, &[u8], &str); 24] = [
+        ("a title and two symbols", DEMO, "Demo Some(Bool)"),
+        ("nothing", b"", "Main menu None"),
+        ("comments and blank lines", b"# x\n \t\nconfig A\n\n# y\n  bool  \n", "Main menu Some(Bool)"),
+        ("a prompt", b"config A\n\tstring \"a \\\" b\" \n", "Main menu Some(Text)"),
+        ("def_tristate", b"menuconfig A\n\tdef_tristate m\n", "Main menu Some(Tristate)"),
+        ("the same kind again", b"config A\n\thex\nconfig A\n\thex\n", "Main menu Some(Hex)"),
+        ("CR LF", b"mainmenu \"Demo\"\r\nconfig A\r\n\tint\r\n", "Demo Some(Int)"),
+        ("MODULE is a name", b"config MODULE\n\tbool\n", "Main menu None"),
+        ("a help text", b"config A\n\tbool\n\thelp\n", "1 NotBare line 3"),
+        ("a kind without an entry", b"\tbool\n", "1 NotBare line 1"),
+        ("two words behind config", b"config A B\n\tbool\n", "1 NotBare line 1"),
+        ("an indented entry", b" config A\n\tbool\n", "1 NotBare line 1"),
+        ("no word bytes", b"config A-B\n\tbool\n", "2 BadName line 1"),
+        ("a module's name", b"config FOO_MODULE\n\tbool\n", "3 ModuleName line 1"),
+        ("two entries", b"config A\nconfig B\n\tbool\n", "4 NoType line 1"),
+        ("an entry at the end", b"config A\n# end\n", "4 NoType line 1"),
+        ("a title after an entry's line", b"config A\nmainmenu \"x\"\n", "4 NoType line 1"),
+        ("two kinds", b"config A\n\tbool\nconfig A\n\tstring\n", "5 TypeClash line 4"),
+        ("bool, then tristate", b"config A\n\tbool\nconfig A\n\ttristate\n", "5 TypeClash line 4"),
+        ("the end of a comment", b"mainmenu \"a*/b\"\n", "6 BadTitle line 1"),
+        ("an empty title", b"mainmenu \"\"\n", "6 BadTitle line 1"),
+        ("two titles", b"mainmenu \"a\"\nmainmenu \"b\"\n", "6 BadTitle line 2"),
+        ("a title behind an entry", b"config A\n\tbool\nmainmenu \"b\"\n", "6 BadTitle line 3"),
+        ("a title without quotes", b"mainmenu Demo\n", "6 BadTitle line 1"),
+    ];
+    for (name, text, want) in rows {
+        let found = kconfig_outcome(alloc, text, b"A")?;
+        assert!(rt; found.as_str() == want, "{name}");
+    }
+    Ok(())
+}
+
+#[test]
+#[rattlefmt::skip]
+fn dotconfigs(rt: HostRuntime) -> Result<(), AllocError> {
+    let alloc = rt.alloc();
+    let rows: [(&str, &[u8], &[u8], &str); 32] = [
+        ("two switches", DEMO, b"CONFIG_B=m\nCONFIG_A=y\n", "A=y B=m unknown 0"),
+        ("CR LF and no end", DEMO, b"CONFIG_A=y\r\nCONFIG_B=m", "A=y B=m unknown 0"),
+        ("off, and a name of none", DEMO, b"CONFIG_A=y\n# CONFIG_A is not set\nCONFIG_ZZ=7\n", "unknown 1"),
+        ("on again", DEMO, b"# CONFIG_A is not set\nCONFIG_A=y\n", "A=y unknown 0"),
+        ("n is off", DEMO, b"CONFIG_A=y\nCONFIG_A=n\n", "unknown 0"),
+        ("unset names of none", DEMO, b"# CONFIG_ZZ is not set\n# CONFIG_ZZ is not set\n", "unknown 2"),
+        ("no symbols, no lines", b"", b"", "unknown 0"),
+        ("a comment with a CR behind", DEMO, b"CONFIG_A=y\n# CONFIG_A is not set\r", "A=y unknown 0"),
+        ("blanks", DEMO, b"\nCONFIG_A = y\n", "7 NotAConfigLine line 2"),
+        ("a line of blanks", DEMO, b" \n", "7 NotAConfigLine line 1"),
+        ("m for a bool", DEMO, b"CONFIG_A=m\n", "8 BadValue line 1"),
+        ("a faulty value, then a good one", DEMO, b"CONFIG_A=x\nCONFIG_A=y\n", "8 BadValue line 1"),
+        ("one symbol", b"config A\n\tbool\n", b"CONFIG_A=y\n", "A=y unknown 0"),
+        ("three lines of a name", VALUES, b"CONFIG_I=1\nCONFIG_I=2\nCONFIG_I=3\n", "I=3 unknown 0"),
+        ("and other names between", VALUES, b"CONFIG_I=1\nCONFIG_S=\"a\"\nCONFIG_I=2\nCONFIG_H=1\nCONFIG_I=3\n", "H=1 I=3 S=a unknown 0"),
+        ("names that begin alike", ALIKE, b"CONFIG_a=y\nCONFIG__=y\nCONFIG_AA=y\nCONFIG_A_=y\nCONFIG_0=y\nCONFIG_A=y\n", "0=y A=y AA=y A_=y _=y a=y unknown 0"),
+        ("quotes and backslashes", VALUES, b"CONFIG_S=\"a\\\"b\\\\c\"\n", "S=a\"b\\c unknown 0"),
+        ("an empty string", VALUES, b"CONFIG_S=\"\"\n", "S= unknown 0"),
+        ("the string n", VALUES, b"CONFIG_S=\"n\"\n", "S=n unknown 0"),
+        ("a string that is not set", VALUES, b"CONFIG_S=\"a\"\n# CONFIG_S is not set\n", "unknown 0"),
+        ("another escape", VALUES, b"CONFIG_S=\"a\\n\"\n", "8 BadValue line 1"),
+        ("no closing quote", VALUES, b"CONFIG_S=\"a\n", "8 BadValue line 1"),
+        ("no quotes", VALUES, b"CONFIG_S=a\n", "8 BadValue line 1"),
+        ("bytes behind the quote", VALUES, b"CONFIG_S=\"a\"b\n", "8 BadValue line 1"),
+        ("minus zero", VALUES, b"CONFIG_I=-0\n", "I=-0 unknown 0"),
+        ("a negative number", VALUES, b"CONFIG_I=-12\n", "I=-12 unknown 0"),
+        ("idle zeros", VALUES, b"CONFIG_I=007\n", "8 BadValue line 1"),
+        ("a lone minus", VALUES, b"CONFIG_I=-\n", "8 BadValue line 1"),
+        ("a plus", VALUES, b"CONFIG_I=+1\n", "8 BadValue line 1"),
+        ("no number", VALUES, b"CONFIG_I=\n", "8 BadValue line 1"),
+        ("hex as it is written", VALUES, b"CONFIG_H=0x1f\nCONFIG_H=0X1F\n", "H=0X1F unknown 0"),
+        ("a bare radix", VALUES, b"CONFIG_H=0x\n", "8 BadValue line 1"),
+    ];
+    for (name, kconfig, text, want) in rows {
+        let found = dotconfig_outcome(alloc, kconfig, text)?;
+        assert!(rt; found.as_str() == want, "{name}");
+    }
+    Ok(())
+}
+
+#[test]
+fn names_and_paths(rt: HostRuntime) -> Result<(), AllocError> {
+    let alloc = rt.alloc();
+    let mut longer = Vec::from_slice(alloc, LONGEST)?;
+    longer.push(b'N')?;
+    assert!(rt;
+        name_is_legal(LONGEST) && !name_is_legal(&longer),
+        "128 bytes and 129"
+    );
+    assert!(rt; !name_is_legal(b"") && !name_is_legal(b"A-B") && name_is_legal(b"_0"));
+    assert!(rt; path_is_legal(b"/a/../b.h") && !path_is_legal(b"a b") && !path_is_legal(b"a$b"));
+    assert!(rt; !path_is_legal(b"a:") && path_is_legal(b"a/") && !target_is_legal(b"a/"));
+    assert!(rt; target_is_legal(b"d/x.o") && !path_is_legal(b""));
+    if name_is_legal(LONGEST) {
+        assert!(rt; Name::new(alloc, LONGEST)?.as_bytes() == LONGEST.as_slice());
+    }
+    let path = b"d/x.o".as_slice();
+    if path_is_legal(path) {
+        assert!(rt; Path::new(alloc, path)?.as_bytes() == path);
+    }
+    Ok(())
+}
+
+#[test]
+fn values_and_lines(rt: HostRuntime) -> Result<(), AllocError> {
+    let alloc = rt.alloc();
+    assert!(rt; value_is_valid(Kind::Tristate, b"m") && !value_is_valid(Kind::Bool, b"m"));
+    assert!(rt; value_is_valid(Kind::Text, b"") && !value_is_valid(Kind::Text, b"a\nb"));
+    assert_eq!(rt; read_decimal(b"18446744073709551615"), Some(u64::MAX));
+    for text in [b"18446744073709551616".as_slice(), b"01", b"", b"1 ", b"+1"] {
+        assert_eq!(rt; read_decimal(text), None);
+    }
+    let mut out = Vec::new(alloc);
+    write_decimal(u64::MAX, &mut out)?;
+    assert!(rt; out.as_slice() == b"18446744073709551615".as_slice());
+    assert!(rt;
+        matches!(
+            parse_statement(b"CONFIG_A=y=z"),
+            Some(Statement::Assigns(b"A", b"y=z"))
+        )
+    );
+    assert!(rt;
+        matches!(
+            parse_statement(b"# CONFIG_A is not set"),
+            Some(Statement::Unsets(b"A"))
+        )
+    );
+    assert!(rt;
+        parse_statement(b"CONFIG_=y").is_none() && parse_statement(b"# CONFIG_A is not").is_none()
+    );
+    assert!(rt; is_silent(b"") && is_silent(b"#") && !is_silent(b" "));
+    Ok(())
+}
+
+#[test]
+fn look_ups(rt: HostRuntime) -> Result<(), SourceError> {
+    let alloc = rt.alloc();
+    let symbols = read_kconfig(alloc, VALUES)?;
+    let settings = read_dotconfig(alloc, b"CONFIG_S=\"a\"\nCONFIG_H=1f\n", &symbols)?;
+    assert!(rt; matches!(settings.get(b"S"), Some((Kind::Text, b"a"))));
+    assert!(rt; settings.get(b"I").is_none() && settings.get(b"T").is_none());
+    assert!(rt;
+        symbols.kind_of(b"H") == Some(Kind::Hex) && symbols.title() == b"Main menu".as_slice()
+    );
+    Ok(())
+}

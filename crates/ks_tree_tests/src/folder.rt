@@ -1,0 +1,529 @@
+//! The tree of a folder, in a fresh one below the system's folder for temporary files: what it does, what others do beside it, and
+//! what is then seen. Most tests are a scene, a row of deeds.
+use crate::steps::{STEPS, Step, run};
+use ks_symbols::MAX_BYTES;
+use ks_tree::{FolderTree, Tree, TreeFault};
+use std::alloc::{AllocError, Global};
+use std::fs::OpenOptions;
+use std::io::Write;
+use std::os::unix::fs::{MetadataExt, PermissionsExt, symlink};
+use std::process::Abort;
+use std::test::Fail;
+use std::{env, fs, io, process};
+
+/// What others do at a place.
+#[derive(Clone, Copy)]
+enum Act<'a> {
+    Append(&'a str),
+    Put(&'a str),
+    LinkTo(&'a str),
+    HardLinkOf(&'a str),
+    MakeFolder,
+    Mode(u32),
+    SetLength(u64),
+}
+
+/// One thing done in a folder, or seen there.
+#[derive(Clone, Copy)]
+enum Deed<'a> {
+    /// Steps of the tree.
+    Steps(&'a [(Step<'a>, &'a str)]),
+    /// An act of others, at a path below the folder.
+    Others(&'a str, Act<'a>),
+    /// What the tree reads at the place of a path, named from the root of the system on.
+    Absolute(&'a str, &'a str),
+    /// Whatever is left over at a path is replaced by a file, and what it linked to stays.
+    Replaced(&'a str),
+    /// How many bytes the tree reads.
+    HasLength(&'a str, usize),
+    /// A path that is no text is read, and a file that isn't there is moved: both fail.
+    Strange,
+    /// Two files have one mode.
+    HaveOneMode(&'a str, &'a str),
+    /// What is told of the last failure.
+    Told(&'a str),
+    Failures(u64),
+}
+
+/// A new folder of this test alone. The test removes it at its end.
+fn fresh_folder(rt: &HostRuntime, test: &str) -> io::Result<String> {
+    let alloc = rt.alloc();
+    let base = env::temp_dir(rt)?;
+    let id = process::id(rt.process());
+    let place = format!(in alloc; "{}/ks_tree-{test}-{id}", base.as_path().as_str())?;
+    let _ = fs::remove_dir_all(rt, place.as_str());
+    fs::create_dir(rt, place.as_str())?;
+    Ok(place)
+}
+
+/// Adds text at the end of a file, as another program does.
+fn append(rt: &HostRuntime, place: &str, text: &str) -> io::Result<()> {
+    OpenOptions::new()
+        .append(true)
+        .open(rt, place)?
+        .write_all(text.as_bytes())
+}
+
+fn set_length(rt: &HostRuntime, place: &str, length: u64) -> io::Result<()> {
+    OpenOptions::new()
+        .write(true)
+        .open(rt, place)?
+        .set_len(length)
+}
+
+fn hard_link(rt: &HostRuntime, root: &str, from: &str, place: &str) -> io::Result<()> {
+    let from = format!(in rt.alloc(); "{root}/{from}")?;
+    fs::hard_link(rt, from.as_str(), place)
+}
+
+fn others_do(rt: &HostRuntime, root: &str, path: &str, act: Act<'_>) -> io::Result<()> {
+    let place = format!(in rt.alloc(); "{root}/{path}")?;
+    let place = place.as_str();
+    match act {
+        Act::Append(text) => append(rt, place, text),
+        Act::Put(text) => fs::write(rt, place, text),
+        Act::LinkTo(target) => symlink(rt, target, place),
+        Act::HardLinkOf(from) => hard_link(rt, root, from, place),
+        Act::MakeFolder => fs::create_dir(rt, place),
+        Act::Mode(mode) => fs::set_permissions(rt, place, fs::Permissions::from_mode(mode)),
+        Act::SetLength(length) => set_length(rt, place, length),
+    }
+}
+
+/// Whether a path is that of a file with no other name.
+fn is_alone(rt: &HostRuntime, root: &str, path: &str) -> io::Result<bool> {
+    let place = format!(in rt.alloc(); "{root}/{path}")?;
+    let found = fs::symlink_metadata(rt, place.as_str())?;
+    Ok(found.is_file() && found.nlink() == 1)
+}
+
+fn mode_of(rt: &HostRuntime, root: &str, path: &str) -> io::Result<u32> {
+    let place = format!(in rt.alloc(); "{root}/{path}")?;
+    Ok(fs::metadata(rt, place.as_str())?.permissions().mode())
+}
+
+fn replaced(
+    host: &HostRuntime,
+    rt: &impl Abort,
+    root: &str,
+    tree: &mut FolderTree<&HostRuntime>,
+    path: &str,
+) -> io::Result<()> {
+    let steps = [
+        (Step::Write(path, "new"), "done"),
+        (Step::Read(path), "new"),
+        (Step::Read("other"), "kept"),
+        (Step::Read("nowhere"), "none"),
+    ];
+    run(rt, host.alloc(), tree, &steps)?;
+    let alone = is_alone(host, root, path)?;
+    assert!(rt; alone, "{path}");
+    Ok(())
+}
+
+fn absolute(
+    host: &HostRuntime,
+    rt: &impl Abort,
+    root: &str,
+    tree: &mut FolderTree<&HostRuntime>,
+    path: &str,
+    want: &str,
+) -> Result<(), AllocError> {
+    let place = format!(in host.alloc(); "{root}/{path}")?;
+    run(
+        rt,
+        host.alloc(),
+        tree,
+        &[(Step::Read(place.as_str()), want)],
+    )
+}
+
+/// How many bytes the tree reads at a path, or none.
+fn length_of(alloc: Global, tree: &mut FolderTree<&HostRuntime>, path: &str) -> Option<usize> {
+    match tree.read(alloc, path.as_bytes()) {
+        Ok(Some(bytes)) => Some(bytes.len()),
+        _ => None,
+    }
+}
+
+fn strange(rt: &impl Abort, alloc: Global, tree: &mut FolderTree<&HostRuntime>) {
+    let read = tree.read(alloc, b"\xff");
+    assert!(rt; matches!(read, Err(TreeFault::Device)), "not text");
+    assert!(rt; tree.last_fault().is_none(), "no path to tell");
+    let moved = tree.rename(alloc, b"none", b"some");
+    assert!(rt; matches!(moved, Err(TreeFault::Device)), "no file to move");
+}
+
+/// What is told of the last failure.
+fn told(alloc: Global, tree: &FolderTree<&HostRuntime>) -> Result<String, AllocError> {
+    match tree.last_fault() {
+        Some(fault) => fault.tell(alloc),
+        None => String::from_str(alloc, "none"),
+    }
+}
+
+fn do_deed(
+    host: &HostRuntime,
+    rt: &impl Abort,
+    root: &str,
+    tree: &mut FolderTree<&HostRuntime>,
+    deed: Deed<'_>,
+) -> io::Result<()> {
+    match deed {
+        Deed::Steps(steps) => run(rt, host.alloc(), tree, steps)?,
+        Deed::Others(path, act) => others_do(host, root, path, act)?,
+        Deed::Absolute(path, want) => absolute(host, rt, root, tree, path, want)?,
+        Deed::Replaced(path) => replaced(host, rt, root, tree, path)?,
+        Deed::HasLength(path, want) => {
+            assert_eq!(rt; length_of(host.alloc(), tree, path), Some(want), "{path}");
+        }
+        Deed::Strange => strange(rt, host.alloc(), tree),
+        Deed::HaveOneMode(one, other) => {
+            assert_eq!(rt;
+                mode_of(host, root, one)?,
+                mode_of(host, root, other)?,
+                "{one}"
+            );
+        }
+        Deed::Told(want) => assert_eq!(rt; told(host.alloc(), tree)?.as_str(), want),
+        Deed::Failures(want) => assert_eq!(rt; tree.failures(), want),
+    }
+    Ok(())
+}
+
+/// Does the deeds one after another with a tree in a folder.
+fn play(host: &HostRuntime, rt: &impl Abort, root: &str, deeds: &[Deed<'_>]) -> io::Result<()> {
+    let mut tree = FolderTree::new(host, String::from_str(host.alloc(), root)?);
+    for deed in deeds {
+        do_deed(host, rt, root, &mut tree, *deed)?;
+    }
+    Ok(())
+}
+
+/// Plays a scene in a folder of its own.
+fn scene(host: &HostRuntime, rt: &impl Abort, name: &str, deeds: &[Deed<'_>]) -> Result<(), Fail> {
+    let root = fresh_folder(host, name)?;
+    play(host, rt, root.as_str(), deeds)?;
+    fs::remove_dir_all(host, root.as_str())?;
+    Ok(())
+}
+
+const KEPT_FILES: &[Deed<'_>] = &[
+    Deed::Steps(STEPS),
+    Deed::Steps(&[
+        (Step::Write("a/b/c", "missing folders are made"), "done"),
+        (Step::Read("a/b/c"), "missing folders are made"),
+        (Step::Read("no/file"), "none"),
+    ]),
+    Deed::Absolute("e", "new"),
+    Deed::Failures(0),
+];
+
+#[test]
+fn keeps_files(rt: HostRuntime) -> Result<(), Fail> {
+    scene(&rt, &rt, "keeps_files", KEPT_FILES)
+}
+
+const LET_GO: &[Deed<'_>] = &[
+    Deed::Steps(&[
+        (Step::Write("p", "one"), "done"),
+        (Step::Piece("p", 0), "3 one..."),
+        (Step::Write("p", "two"), "done"),
+        (Step::Piece("p", 0), "3 two..."),
+        (Step::Write("q", "other"), "done"),
+        (Step::Piece("p", 0), "3 two..."),
+        (Step::Move("q", "p"), "done"),
+        (Step::Piece("p", 0), "5 other."),
+        (Step::Piece("p", 5), "0 ......"),
+    ]),
+    Deed::Others("p", Act::Append(" and more")),
+    Deed::Steps(&[
+        (Step::Piece("p", 5), "6  and m"),
+        (Step::Write("q", "third"), "done"),
+        (Step::Piece("p", 11), "3 ore..."),
+        (Step::Piece("q", 1), "4 hird.."),
+    ]),
+    Deed::Failures(0),
+];
+
+#[test]
+fn the_kept_file_is_let_go(rt: HostRuntime) -> Result<(), Fail> {
+    scene(&rt, &rt, "kept", LET_GO)
+}
+
+const PIECES: &[Deed<'_>] = &[
+    Deed::Steps(&[
+        (Step::Write("p", "abcdefghij"), "done"),
+        (Step::Write("q", "0123456789"), "done"),
+        // behind the last piece, before it, at the end and past it
+        (Step::Piece("p", 0), "6 abcdef"),
+        (Step::Piece("p", 6), "4 ghij.."),
+        (Step::Piece("p", 2), "6 cdefgh"),
+        (Step::Piece("p", 8), "2 ij...."),
+        (Step::Piece("p", 10), "0 ......"),
+        (Step::Piece("p", 11), "0 ......"),
+        (Step::Piece("p", 4), "6 efghij"),
+        (Step::Piece("p", 9), "1 j....."),
+        // two files in turns
+        (Step::Piece("p", 0), "6 abcdef"),
+        (Step::Piece("q", 0), "6 012345"),
+        (Step::Piece("p", 6), "4 ghij.."),
+        (Step::Piece("q", 6), "4 6789.."),
+        (Step::Piece("none", 6), "none"),
+        (Step::Piece("q", 8), "2 89...."),
+        // written and moved over between two pieces
+        (Step::Piece("p", 0), "6 abcdef"),
+        (Step::Write("p", "ABCDEFGHIJ"), "done"),
+        (Step::Piece("p", 6), "4 GHIJ.."),
+        (Step::Piece("p", 0), "6 ABCDEF"),
+        (Step::Move("q", "p"), "done"),
+        (Step::Piece("p", 6), "4 6789.."),
+    ]),
+    Deed::Failures(0),
+];
+
+#[test]
+fn pieces_are_as_without_reading_ahead(rt: HostRuntime) -> Result<(), Fail> {
+    scene(&rt, &rt, "ahead", PIECES)
+}
+
+const OTHERS_WRITE: &[Deed<'_>] = &[
+    Deed::Steps(&[
+        (Step::Write("p", "abcdefgh"), "done"),
+        (Step::Piece("p", 0), "6 abcdef"),
+    ]),
+    Deed::Others("p", Act::Append("IJKL")),
+    Deed::Steps(&[
+        (Step::Piece("p", 6), "6 ghIJKL"),
+        (Step::Piece("p", 12), "0 ......"),
+    ]),
+    Deed::Others("p", Act::Append("mn")),
+    Deed::Steps(&[(Step::Piece("p", 12), "2 mn....")]),
+    Deed::Others("p", Act::Put("short")),
+    Deed::Steps(&[
+        (Step::Piece("p", 0), "5 short."),
+        (Step::Piece("p", 5), "0 ......"),
+    ]),
+];
+
+#[test]
+fn what_others_write_is_seen(rt: HostRuntime) -> Result<(), Fail> {
+    scene(&rt, &rt, "others", OTHERS_WRITE)
+}
+
+/// The bytes of a large file.
+fn many_bytes(alloc: Global) -> Result<Vec<u8>, AllocError> {
+    let mut bytes = Vec::new(alloc);
+    for number in 0..50_000_u32 {
+        bytes.extend_from_slice(&number.wrapping_mul(2_654_435_761).to_le_bytes())?;
+    }
+    Ok(bytes)
+}
+
+/// What the tree reads of a large file in so many pieces of a size.
+fn read_in_pieces(
+    alloc: Global,
+    tree: &mut FolderTree<&HostRuntime>,
+    size: usize,
+    pieces: usize,
+) -> Result<Vec<u8>, TreeFault> {
+    let mut room = vec![in alloc; 0; size]?;
+    let mut read = Vec::new(alloc);
+    for _ in 0..pieces {
+        let Some(count) = tree.read_at(alloc, b"large", read.len() as u64, &mut room)? else {
+            break;
+        };
+        read.extend_from_slice(&room[..count])?;
+    }
+    Ok(read)
+}
+
+#[test]
+fn a_large_file_in_pieces(rt: HostRuntime) -> Result<(), Fail> {
+    let root = fresh_folder(&rt, "large")?;
+    let mut tree = FolderTree::new(&rt, root.clone()?);
+    let bytes = many_bytes(rt.alloc())?;
+    tree.write(rt.alloc(), b"large", &bytes)?;
+    for (size, pieces) in [(4096, 49), (1000, 201), (65536, 4), (70_000, 3)] {
+        let read = read_in_pieces(rt.alloc(), &mut tree, size, pieces)?;
+        assert!(rt; read == bytes, "{size}");
+    }
+    assert_eq!(rt; tree.failures(), 0);
+    fs::remove_dir_all(&rt, root.as_str())?;
+    Ok(())
+}
+
+const FAILURES: &[Deed<'_>] = &[
+    Deed::Steps(&[
+        (Step::Write("file", "bytes"), "done"),
+        (Step::Write("folder/file", "bytes"), "done"),
+        (Step::Read("file/below"), "30 Device"),
+        (Step::Piece("file/below", 0), "30 Device"),
+        (Step::Write("file/below", ""), "30 Device"),
+        (Step::Read("folder"), "30 Device"),
+        (Step::Piece("folder", 0), "30 Device"),
+        (Step::Write("folder", ""), "30 Device"),
+        (Step::Move("file", "folder"), "30 Device"),
+        (Step::Replace("folder", "x"), "30 Device"),
+        (Step::Read("a\0b"), "30 Device"),
+        (Step::Read("file"), "bytes"),
+    ]),
+    Deed::Failures(9),
+    Deed::Strange,
+    Deed::Failures(11),
+];
+
+#[test]
+fn failures_are_counted(rt: HostRuntime) -> Result<(), Fail> {
+    scene(&rt, &rt, "failures", FAILURES)
+}
+
+const TOLD: &[Deed<'_>] = &[
+    Deed::Others("loop", Act::LinkTo("loop")),
+    Deed::Steps(&[
+        (Step::Write("file", "bytes"), "done"),
+        (Step::Write("folder/file", "bytes"), "done"),
+    ]),
+    Deed::Told("none"),
+    Deed::Steps(&[(Step::Read("folder"), "30 Device")]),
+    Deed::Told("folder: Is a directory"),
+    Deed::Steps(&[(Step::Piece("folder", 0), "30 Device")]),
+    Deed::Told("folder: Is a directory"),
+    Deed::Steps(&[(Step::Piece("file/below", 0), "30 Device")]),
+    Deed::Told("file/below: Not a directory"),
+    Deed::Steps(&[(Step::Piece("loop", 0), "30 Device")]),
+    Deed::Told("loop: Too many levels of symbolic links"),
+];
+
+#[test]
+fn the_last_failure_is_told(rt: HostRuntime) -> Result<(), Fail> {
+    scene(&rt, &rt, "told", TOLD)
+}
+
+const DEVICES: &[Deed<'_>] = &[
+    Deed::Steps(&[
+        (
+            Step::Write("/dev/null", "no device is removed"),
+            "30 Device",
+        ),
+        (Step::Read("/dev/null"), ""),
+        (Step::Read("/dev/zero"), "30 Device"),
+    ]),
+    Deed::Failures(2),
+];
+
+#[test]
+fn devices(rt: HostRuntime) -> Result<(), Fail> {
+    if fs::exists(&rt, "/dev/null")? && fs::exists(&rt, "/dev/zero")? {
+        play(&rt, &rt, "", DEVICES)?;
+    } else {
+        println!(rt; "skipped: no such devices here")?;
+    }
+    Ok(())
+}
+
+const LEFT_OVER: &[Deed<'_>] = &[
+    Deed::Steps(&[(Step::Write("other", "kept"), "done")]),
+    Deed::Others("link", Act::LinkTo("other")),
+    Deed::Others("dangling", Act::LinkTo("nowhere")),
+    Deed::Others("hard_link", Act::HardLinkOf("other")),
+    Deed::Others("empty", Act::MakeFolder),
+    Deed::Others("longer", Act::Put("longer than what is written")),
+    Deed::Others("longer", Act::Mode(0)),
+    Deed::Replaced("link"),
+    Deed::Replaced("dangling"),
+    Deed::Replaced("hard_link"),
+    Deed::Replaced("empty"),
+    Deed::Replaced("longer"),
+    Deed::Failures(0),
+];
+
+#[test]
+fn what_is_left_over_is_not_written_into(rt: HostRuntime) -> Result<(), Fail> {
+    scene(&rt, &rt, "left_over", LEFT_OVER)
+}
+
+/// What the first of two writers does, and then the second, turn by turn.
+const TURNS: [[&[(Step<'_>, &str)]; 2]; 3] = [
+    [
+        &[(Step::Write("t", "first"), "done")],
+        &[
+            (Step::Write("t", "second"), "30 Device"),
+            (Step::Read("t"), "first"),
+        ],
+    ],
+    [
+        &[(Step::Move("t", "x"), "done")],
+        &[
+            (Step::Write("t", "second"), "done"),
+            (Step::Read("x"), "first"),
+            (Step::Write("x", "no file that counts is claimed"), "done"),
+        ],
+    ],
+    [&[(Step::Write("t", "third"), "done")], &[]],
+];
+
+#[test]
+fn of_two_writers_one_is_refused(rt: HostRuntime) -> Result<(), Fail> {
+    let root = fresh_folder(&rt, "two")?;
+    let mut first = FolderTree::new(&rt, root.clone()?);
+    let mut second = FolderTree::new(&rt, root.clone()?);
+    for [one, other] in TURNS {
+        run(&rt, rt.alloc(), &mut first, one)?;
+        run(&rt, rt.alloc(), &mut second, other)?;
+    }
+    assert!(rt; first.failures() == 0 && second.failures() == 1);
+    fs::remove_dir_all(&rt, root.as_str())?;
+    Ok(())
+}
+
+/// What comes of a file written to a folder without permission: a counted failure, unless this user may write everywhere.
+fn write_without_permission(host: &HostRuntime, rt: &impl Abort, root: &str) -> io::Result<()> {
+    let mut tree = FolderTree::new(host, String::from_str(host.alloc(), root)?);
+    match tree.write(host.alloc(), b"x", b"x") {
+        Ok(()) => println!(host; "skipped: this user may write into every folder")?,
+        Err(fault) => {
+            assert!(rt; fault == TreeFault::Device && tree.failures() == 1);
+        }
+    }
+    Ok(())
+}
+
+#[test]
+fn a_folder_without_permission(rt: HostRuntime) -> Result<(), Fail> {
+    let root = fresh_folder(&rt, "permission")?;
+    others_do(&rt, root.as_str(), "", Act::Mode(0o555))?;
+    write_without_permission(&rt, &rt, root.as_str())?;
+    others_do(&rt, root.as_str(), "", Act::Mode(0o755))?;
+    fs::remove_dir_all(&rt, root.as_str())?;
+    Ok(())
+}
+
+const UP_TO_THE_LIMIT: &[Deed<'_>] = &[
+    Deed::Steps(&[(Step::Touch("A", 1), "done")]),
+    Deed::Others("include/config/A", Act::SetLength(67_108_864)),
+    Deed::HasLength("include/config/A", MAX_BYTES),
+    Deed::Others("include/config/A", Act::SetLength(67_108_865)),
+    Deed::Steps(&[
+        (Step::Read("include/config/A"), "9 TooLarge"),
+        (Step::Stamp("A"), "9 TooLarge"),
+        (Step::Piece("include/config/A", 67_108_860), "5 \0\0\0\0\0."),
+    ]),
+    Deed::Failures(0),
+];
+
+#[test]
+fn reads_up_to_the_limit(rt: HostRuntime) -> Result<(), Fail> {
+    scene(&rt, &rt, "limit", UP_TO_THE_LIMIT)
+}
+
+const USUAL: &[Deed<'_>] = &[
+    Deed::Steps(&[(Step::Touch("A", 1), "done")]),
+    Deed::Others("usual", Act::Put("x")),
+    Deed::HaveOneMode("include/config/A", "usual"),
+];
+
+#[test]
+fn a_stamp_is_a_usual_file(rt: HostRuntime) -> Result<(), Fail> {
+    scene(&rt, &rt, "usual", USUAL)
+}

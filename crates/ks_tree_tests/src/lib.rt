@@ -1,0 +1,15 @@
+//! The tests of ks_tree: what each kind of tree does by worked examples, calls that are broken off, and what no contract says of a
+//! folder, since no proof sees a disk. They are a crate of their own since a crate that has tests is proved once more for them.
+//! Nothing stands on it, and without its tests it is empty.
+#![tactic(auto)]
+
+#[cfg(test)]
+mod broken_off;
+#[cfg(test)]
+mod folder;
+#[cfg(test)]
+mod memory;
+#[cfg(test)]
+mod paths;
+#[cfg(test)]
+mod steps;

@@ -1,7 +1,7 @@
 use Rattle.std.proofs.Common.{◌++◌, ap, map, ◌∙◌, []}
 use Rattle.std.specs.Prelude.{flat_map}
-use Rattle.ks_fixdep.specs.CommandFile.{CommandRecord, command_text, ended, generation_line}
-use Rattle.ks_fixdep.specs.CommandWriting.{back_lines, deps_text, front_lines}
+use Rattle.ks_fixdep.specs.CommandFile.{CommandRecord, back_lines, command_text, ended, front_lines, generation_line}
+use Rattle.ks_fixdep.specs.CommandWriting.{deps_text}
 use Rattle.ks_fixdep.specs.FoundNames.{names_in}
 use Rattle.ks_fixdep.specs.Record.{record_of}
 use Rattle.ks_fixdep.proofs.CommandWriteLemmas.{text-parts, three-parts}

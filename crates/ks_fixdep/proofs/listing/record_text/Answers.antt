@@ -14,7 +14,7 @@ returns-clause-text c = λ ts are.
     in
     let front = flat_map ended (front_lines f.target f.command f.source) in
     let back = flat_map ended (back_lines f.target ++ generation_line f.generation) in
-    three-parts [] c.push_front.new.out.items c.write_dependencies.new.out.items c.push_back.new.out.items front (deps_text f.deps) back (command_text f)
+    three-parts [] c.push_front.new.out.items c.list_dependencies.new.listing.items c.push_back.new.out.items front (deps_text f.deps) back (command_text f)
     (c.in_ok-push_front.ensures.ok ∙ ap (λ l. l ++ flat_map ended (front_lines f.target f.command c.source_path.result.now)) c.in_ok-text.ensures.items
     ∙ ap (λ s. flat_map ended (front_lines f.target f.command s)) c.source_path.ensures.value)
-    (c.in_ok-write_dependencies.ensures.text ts are) c.in_ok-push_back.ensures.ok (text-parts f)
+    (c.in_ok-list_dependencies.ensures.lines ts are) c.in_ok-push_back.ensures.ok (text-parts f)

@@ -1,17 +1,12 @@
 //! What a synchronisation would touch, told with the texts that each name has and would have.
 //!
-//! It takes the steps of a synchronisation up to the first write, in their order, and so is refused where that is. Nothing
-//! is written.
-ghost use Rattle.std.specs.Prelude.{◌≡◌, ◌⊎◌, ◌≤◌, ◌<◌, ◌++◌, Err, IfErr, IfOk, IsErrOf, Ok, OnOk, flat_map, length, option_map};
+//! It is planned as a synchronisation is, and so is refused where that would be before its first write. Nothing is written.
+ghost use Rattle.std.specs.Prelude.{◌≡◌, ◌⊎◌, ◌++◌, Err, IfErr, IfOk, IsErrOf, OnOk, flat_map, option_map};
 ghost use Rattle.std.specs.FinMap as map;
-ghost use Rattle.ks_symbols.specs.Configuration.{IsConfiguration};
-ghost use Rattle.ks_output.specs.AutoText.{auto_text};
-ghost use Rattle.ks_output.specs.OldConfig.{HasNames};
 ghost use Rattle.ks_compare.specs.Changes.{compared};
 ghost use Rattle.ks_tree.specs.Frames.{Reads};
 ghost use Rattle.ks_engine.specs.Refusals.{IsGivenUp};
-ghost use Rattle.ks_engine.specs.SyncPlan.{IsSyncPlan, Plan, plan_over};
-ghost use Rattle.ks_engine.specs.Views.{old_of, sources_of};
+ghost use Rattle.ks_engine.specs.SyncPlan.{IsSyncPlan};
 ghost use Rattle.ks_engine.specs.declared.error.EngineError.TheVariants.{Device};
 ghost use Rattle.ks_requests.specs.declared.refusal.Refusal.TheVariants.{Engine};
 ghost use Rattle.ks_requests.specs.declared.status.Status.TheVariants.{Done};
@@ -19,10 +14,10 @@ ghost use Rattle.ks_commands.specs.Differences.{IsDiff, TellsChanges, change_lin
 ghost use Rattle.ks_commands.specs.Performed.{EndsDiff};
 ghost use Rattle.ks_commands.specs.Views.{seen_value};
 
-use ks_engine::{EngineError, Sources, plan, read_old, read_sources};
-use ks_output::{OldConfig, write_auto, write_quoted};
+use ks_engine::{EngineError, plan_sync};
+use ks_output::{OldConfig, write_quoted};
 use ks_requests::{Outcome, Refusal, Status, texts_at};
-use ks_symbols::{Class, MAX_BYTES, Name, Settings};
+use ks_symbols::{Class, Name, Settings};
 use ks_tree::Tree;
 use std::alloc::{AllocError, Global};
 
@@ -134,39 +129,7 @@ fn write_changes(
     Ok(())
 }
 
-/// Refuses an auto.conf that would be too long to be read again, as a synchronisation does.
-fn check_length(alloc: Global, sources: &Sources, generation: u64) -> Result<(), EngineError>
-    ensures fits { OnOk result (length (auto_text sources.now.title.items sources.now.settings.entries generation) ≤ 67108864) }
-    ensures refused { IfErr result (λ e. (e ≡ EngineError.OutOfMemory) ⊎ ((e ≡ EngineError.TooLarge)
-        × (67108864 < length (auto_text sources.now.title.items sources.now.settings.entries generation)))) }
-{
-    let mut auto = Vec::new(alloc);
-    write_auto(&sources.settings, &sources.title, generation, &mut auto)?;
-    if auto.len() > MAX_BYTES {
-        return Err(EngineError::TooLarge);
-    }
-    Ok(())
-}
-
-/// The lines of what a synchronisation over an old auto.conf would touch, unless it would be refused.
-fn changes_over(alloc: Global, sources: &Sources, old: &OldConfig) -> Result<Vec<u8>, EngineError>
-    requires old { HasNames old.now.texts }
-    requires new { IsConfiguration sources.now.settings.entries }
-    ensures no_device { IsErrOf result EngineError.Device → ⊥ }
-    ensures told { IfOk result (λ text. (plan : Plan) × (plan_over (sources_of sources.now) (old_of old.now) ≡ Ok plan)
-        × TellsChanges plan.old plan.config text.items) }
-    ensures refused { IfErr result (λ e. IsGivenUp e ⊎ (plan_over (sources_of sources.now) (old_of old.now) ≡ Err e)) }
-{
-    let Some(report) = plan(alloc, sources, old)? else {
-        return Err(EngineError::GenerationFull);
-    };
-    check_length(alloc, sources, report.generation)?;
-    let mut text = Vec::new(alloc);
-    write_changes(&report.touched, old, &sources.settings, &mut text)?;
-    Ok(text)
-}
-
-/// The same of a Kconfig and a `.config`, over the auto.conf of a tree.
+/// The same of what a synchronisation of a tree would touch, unless that would be refused.
 fn differences<T: Tree>(
     alloc: Global,
     tree: &mut T,
@@ -177,9 +140,15 @@ fn differences<T: Tree>(
     ensures told { T.is_honest → IfOk result (λ text. IsDiff (T.files tree.old) kconfig.now dotconfig.now text.items) }
     ensures refused { T.is_honest → IfErr result (λ e. IsGivenUp e ⊎ IsSyncPlan (T.files tree.old) kconfig.now dotconfig.now (Err e)) }
 {
-    let sources = read_sources(alloc, kconfig, dotconfig)?;
-    let old = read_old(alloc, tree)?;
-    changes_over(alloc, &sources, &old)
+    let planned = plan_sync(alloc, tree, kconfig, dotconfig)?;
+    let mut text = Vec::new(alloc);
+    write_changes(
+        &planned.report.touched,
+        &planned.old,
+        &planned.sources.settings,
+        &mut text,
+    )?;
+    Ok(text)
 }
 
 /// Tells what a synchronisation with the files that two words name would touch.

@@ -24,9 +24,9 @@ use Rattle.ks_tree.specs.Paths.{auto_path, auto_temporary, stamp_path, Stamp}
 use Rattle.ks_tree.specs.Stamps.{HasNumber, stamp_text, Touches}
 use Rattle.ks_engine.specs.declared.error.EngineError.{EngineError}
 use Rattle.ks_engine.specs.declared.impact.Impact.{Impact}
+use Rattle.ks_engine.specs.declared.planning.Planned.{Planned}
 use Rattle.ks_engine.specs.declared.staleness.Verdict.{Verdict}
 use Rattle.ks_engine.specs.declared.synchronise.Report.{Report}
-use Rattle.ks_engine.specs.declared.synchronise.Work.{Work}
 use Rattle.ks_engine.specs.Refusals.{GaveUp}
 use Rattle.ks_engine.specs.History.{Synced}
 use Rattle.ks_engine.specs.LastSync.{OldAuto, read_unless, old_auto}
@@ -147,17 +147,20 @@ done_by files plan names are =
       auto = here;
     }
 
-pub impact_told : (files : Files) (k d : List ℕ) (work : Work) → IsPlanned files k d work → IsImpactOf files k d (record { report = work.report })
-impact_told files k d work planned =
-    let plan = planned.0 in (
-      leave files plan work.report.touched.items,
+pub impact_told : (files : Files) (k d : List ℕ) (planned : Planned) → IsPlanned files k d planned
+    → IsImpactOf files k d (record { report = planned.report })
+impact_told files k d planned is =
+    let plan = is.0 in
+    let names = planned.report.touched.items in
+    let report = is.2.report in (
+      leave files plan names,
       record {
         plan = plan;
-        planned = planned.1;
-        generation = planned.2.generation;
-        unknown = planned.2.unknown;
-        changed = planned.2.changed;
-        done = done_by files plan work.report.touched.items planned.2.changed;
+        planned = is.1;
+        generation = report.generation;
+        unknown = report.unknown;
+        changed = report.changed;
+        done = done_by files plan names report.changed;
       },
     )
 

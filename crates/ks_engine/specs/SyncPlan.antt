@@ -43,11 +43,13 @@ pub record Plan : Type 0 where
   -- of the last completed one
   pub generation : ℕ
 
+abbrev pub plan_of : Sources → OldAuto → Plan
+plan_of s auto = record { title = s.title; config = s.config; unknown = s.unknown; old = auto.texts; generation = auto.generation }
+
 abbrev pub plan_over : Sources → OldAuto → Result Plan EngineError
 plan_over s auto =
     if nat_eq auto.generation 18446744073709551615 then Err GenerationFull
-    else (if nat_lt max_bytes (length (auto_text s.title s.config (auto.generation + 1))) then Err TooLarge
-    else Ok (record { title = s.title; config = s.config; unknown = s.unknown; old = auto.texts; generation = auto.generation }))
+    else (if nat_lt max_bytes (length (auto_text s.title s.config (auto.generation + 1))) then Err TooLarge else Ok (plan_of s auto))
 
 -- What is to be done, or why it is refused: first the texts, then auto.conf, then what would be written.
 abbrev pub IsSyncPlan : Files → List ℕ → List ℕ → Result Plan EngineError → Type 0

@@ -7,6 +7,7 @@ use Rattle.ks_output.specs.OldConfig.{OldTexts}
 use Rattle.ks_tree.specs.Files.{Files}
 use Rattle.ks_engine.specs.declared.error.EngineError.{EngineError}
 use Rattle.ks_engine.specs.declared.planning.Sources.{Sources as SourceValues}
+use Rattle.ks_engine.specs.declared.planning.Planned.{Planned}
 use Rattle.ks_engine.specs.declared.synchronise.Report.{Report}
 use Rattle.ks_engine.specs.declared.synchronise.Work.{Work}
 use Rattle.ks_engine.specs.Refusals.{of_source}
@@ -35,14 +36,29 @@ abbrev pub PlansOver : Sources → OldAuto → Option Report → Type 0
 PlansOver s old None = old.generation ≡ 18446744073709551615
 PlansOver s old (Some report) = Reports s old report
 
--- the work of a plan: its changes and its texts
+-- the report of a plan
+pub record IsReport (plan : Plan) (report : Report) : Type 0 where
+  pub generation : report.generation ≡ plan.generation + 1
+  pub unknown : report.unknown ≡ plan.unknown
+  pub changed : AreChanged plan.old plan.config report.touched.items
+
+-- a plan, and what was read for it
+pub record IsPlannedBy (plan : Plan) (planned : Planned) : Type 0 where
+  pub title : planned.sources.title.items ≡ plan.title
+  pub config : planned.sources.settings.entries ≡ plan.config
+  pub old : planned.old.texts ≡ plan.old
+  pub report : IsReport plan planned.report
+
+-- the plan for these files and texts
+abbrev pub IsPlanned : Files → List ℕ → List ℕ → Planned → Type 0
+IsPlanned files kconfig dotconfig planned = (plan : Plan) × IsSyncPlan files kconfig dotconfig (Ok plan) × IsPlannedBy plan planned
+
+-- the work of a plan: its report and its texts
 pub record IsWork (plan : Plan) (work : Work) : Type 0 where
-  pub generation : work.report.generation ≡ plan.generation + 1
-  pub unknown : work.report.unknown ≡ plan.unknown
-  pub changed : AreChanged plan.old plan.config work.report.touched.items
+  pub report : IsReport plan work.report
   pub header : work.header.items ≡ header_text plan.title plan.config
   pub auto : work.auto.items ≡ auto_text plan.title plan.config (plan.generation + 1)
 
--- the work of the plan for these files and texts
-abbrev pub IsPlanned : Files → List ℕ → List ℕ → Work → Type 0
-IsPlanned files kconfig dotconfig work = (plan : Plan) × IsSyncPlan files kconfig dotconfig (Ok plan) × IsWork plan work
+-- the work of that plan
+abbrev pub IsPrepared : Files → List ℕ → List ℕ → Work → Type 0
+IsPrepared files kconfig dotconfig work = (plan : Plan) × IsSyncPlan files kconfig dotconfig (Ok plan) × IsWork plan work

@@ -9,9 +9,9 @@ ghost use Rattle.ks_engine.specs.Memos.{IsMemoOf};
 ghost use Rattle.ks_engine.specs.Impact.{IsImpactOf, AnswersBehind, JudgesBehind};
 
 use crate::memos::Memo;
+use crate::planning::plan_sync;
 use crate::staleness::ask;
 use crate::stamps::Stamps;
-use crate::synchronise::prepare;
 use crate::{EngineError, Report, Verdict};
 use ks_tree::Tree;
 use std::alloc::Global;
@@ -35,9 +35,9 @@ impl Impact {
         ensures told { T.is_honest → IfOk result (IsImpactOf (T.files tree.old) kconfig.now dotconfig.now) }
         ensures refused { T.is_honest → IfErr result (λ e. IsGivenUp e ⊎ IsSyncPlan (T.files tree.old) kconfig.now dotconfig.now (Err e)) }
     {
-        let work = prepare(alloc, tree, kconfig, dotconfig)?;
+        let planned = plan_sync(alloc, tree, kconfig, dotconfig)?;
         Ok(Impact {
-            report: work.report,
+            report: planned.report,
         })
     }
 

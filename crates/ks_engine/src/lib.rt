@@ -25,7 +25,7 @@ pub use laws::{
     suspicions_have_causes,
 };
 pub use memos::Memo;
-pub use planning::{Sources, plan, read_sources};
+pub use planning::{Planned, Sources, plan, plan_sync, read_sources};
 pub use recording::{Recorded, record_object};
 pub use sources::scan_all;
 pub use staleness::{BuildState, Verdict, outdated, stale, stale_by};

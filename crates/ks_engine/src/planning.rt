@@ -1,16 +1,21 @@
 //! What a synchronisation comes to: what its two texts say, and over the old auto.conf which stamps it renews, under which
-//! generation. Nothing is written here, and no length is refused: that is the matter of who writes the texts.
-ghost use Rattle.std.specs.Prelude.{◌≡◌, IfOk};
+//! generation, or why it is refused. Nothing is written here, and no text is made: who only asks what would be touched
+//! needs none.
+ghost use Rattle.std.specs.Prelude.{◌≡◌, ◌⊎◌, Ok, Err, IfOk, IfErr, IsErrOf};
 ghost use Rattle.ks_symbols.specs.Configuration.{IsConfiguration};
 ghost use Rattle.ks_symbols.specs.Refusals.{RefusedBy};
 ghost use Rattle.ks_output.specs.OldConfig.{HasNames};
-ghost use Rattle.ks_engine.specs.SyncPlan.{AreSources, source_refusal};
-ghost use Rattle.ks_engine.specs.Views.{old_of, sources_of, PlansOver};
+ghost use Rattle.ks_tree.specs.Frames.{Reads};
+ghost use Rattle.ks_engine.specs.Refusals.{IsGivenUp};
+ghost use Rattle.ks_engine.specs.SyncPlan.{AreSources, IsSyncPlan, plan_of, plan_over, source_refusal};
+ghost use Rattle.ks_engine.specs.Views.{old_of, sources_of, IsPlanned, IsReport, PlansOver};
 
-use crate::Report;
+use crate::last_sync::read_old;
+use crate::{EngineError, Report};
 use ks_compare::changed;
-use ks_output::OldConfig;
-use ks_symbols::{Settings, SourceError, draft_settings, read_kconfig};
+use ks_output::{OldConfig, auto_len};
+use ks_symbols::{MAX_BYTES, Settings, SourceError, draft_settings, read_kconfig};
+use ks_tree::Tree;
 use std::alloc::{AllocError, Global};
 
 /// What a Kconfig and a `.config` say.
@@ -51,4 +56,51 @@ pub fn plan(alloc: Global, sources: &Sources, old: &OldConfig) -> Result<Option<
         touched,
         unknown,
     }))
+}
+
+/// What a synchronisation over an old auto.conf reports, unless its auto.conf would be too long to be read again.
+fn report_over(alloc: Global, sources: &Sources, old: &OldConfig) -> Result<Report, EngineError>
+    requires old { HasNames old.now.texts }
+    requires new { IsConfiguration sources.now.settings.entries }
+    ensures no_device { IsErrOf result EngineError.Device → ⊥ }
+    ensures planned { IfOk result (λ report. (plan_over (sources_of sources.now) (old_of old.now) ≡ Ok (plan_of (sources_of sources.now) (old_of old.now)))
+        × IsReport (plan_of (sources_of sources.now) (old_of old.now)) report) }
+    ensures refused { IfErr result (λ e. IsGivenUp e ⊎ (plan_over (sources_of sources.now) (old_of old.now) ≡ Err e)) }
+{
+    let Some(report) = plan(alloc, sources, old)? else {
+        return Err(EngineError::GenerationFull);
+    };
+    if auto_len(&sources.settings, &sources.title, report.generation) > MAX_BYTES {
+        return Err(EngineError::TooLarge);
+    }
+    Ok(report)
+}
+
+/// What was read for a synchronisation, and what it would report.
+#[derive(Drop)]
+pub struct Planned {
+    pub sources: Sources,
+    pub old: OldConfig,
+    pub report: Report,
+}
+
+/// What a synchronisation of a tree with two texts comes to. It is refused where that would be before its first write.
+pub fn plan_sync<T: Tree>(
+    alloc: Global,
+    tree: &mut T,
+    kconfig: &[u8],
+    dotconfig: &[u8],
+) -> Result<Planned, EngineError>
+    ensures reads { Reads T.Tree tree.old tree.new (IsErrOf result EngineError.Device) }
+    ensures planned { T.is_honest → IfOk result (IsPlanned (T.files tree.old) kconfig.now dotconfig.now) }
+    ensures refused { T.is_honest → IfErr result (λ e. IsGivenUp e ⊎ IsSyncPlan (T.files tree.old) kconfig.now dotconfig.now (Err e)) }
+{
+    let sources = read_sources(alloc, kconfig, dotconfig)?;
+    let old = read_old(alloc, tree)?;
+    let report = report_over(alloc, &sources, &old)?;
+    Ok(Planned {
+        sources,
+        old,
+        report,
+    })
 }

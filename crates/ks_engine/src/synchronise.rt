@@ -2,26 +2,21 @@
 //! recorded under the old auto.conf is then stale as soon as a stamp says so, wherever the synchronisation is broken off.
 //! (conf_write_autoconf of scripts/kconfig/confdata.c writes in the same order.)
 ghost use Rattle.std.specs.Prelude.{◌≡◌, ◌⊎◌, ◌↔◌, ◌≤◌, ◌+◌, Some, Ok, Err, IfOk, IfErr, OnOk, OnErr, MatchResult, IsErrOf};
-ghost use Rattle.ks_symbols.specs.Configuration.{IsConfiguration};
-ghost use Rattle.ks_output.specs.AutoText.{auto_text};
-ghost use Rattle.ks_output.specs.Header.{header_text};
-ghost use Rattle.ks_output.specs.OldConfig.{HasNames};
 ghost use Rattle.ks_tree.specs.Frames.{Counted, Reads};
 ghost use Rattle.ks_engine.specs.Synchronised.{SyncDone, SyncSome, IsSynced, IsSyncRefused};
-ghost use Rattle.ks_engine.specs.SyncPlan.{Plan, plan_over, IsSyncPlan};
+ghost use Rattle.ks_engine.specs.SyncPlan.{Plan, IsSyncPlan};
 ghost use Rattle.ks_engine.specs.Refusals.{IsGivenUp};
 ghost use Rattle.ks_engine.specs.Follows.{GoesOn, FollowsSync};
-ghost use Rattle.ks_engine.specs.Views.{sources_of, old_of, IsWork, IsPlanned};
+ghost use Rattle.ks_engine.specs.Views.{IsPlannedBy, IsPrepared, IsWork};
 
 use crate::EngineError;
-use crate::last_sync::read_old;
-use crate::planning::{Sources, plan, read_sources};
-use ks_output::{OldConfig, write_auto, write_header};
-use ks_symbols::{MAX_BYTES, Name};
+use crate::planning::{Planned, plan_sync};
+use ks_output::{write_auto, write_header};
+use ks_symbols::Name;
 use ks_tree::{
     Tree, TreeFault, auto_path, auto_temporary, header_path, header_temporary, replace, touch_all,
 };
-use std::alloc::Global;
+use std::alloc::{AllocError, Global};
 
 /// What a synchronisation did.
 #[derive(Drop)]
@@ -35,33 +30,27 @@ pub struct Report {
 
 /// What is to be written.
 #[derive(Drop)]
-pub(crate) struct Work {
-    pub(crate) report: Report,
+struct Work {
+    report: Report,
     header: Vec<u8>,
     auto: Vec<u8>,
 }
 
-/// All that is to be written, before any of it is. The old auto.conf is let go once it is compared, since the texts to come
-/// are as large.
-fn work_over(alloc: Global, sources: &Sources, old: OldConfig) -> Result<Work, EngineError>
-    requires old { HasNames old.texts }
-    requires new { IsConfiguration sources.now.settings.entries }
-    ensures no_device { IsErrOf result EngineError.Device → ⊥ }
-    ensures planned { IfOk result (λ work. (plan : Plan) × (plan_over (sources_of sources.now) (old_of old) ≡ Ok plan) × IsWork plan work) }
-    ensures refused { IfErr result (λ e. IsGivenUp e ⊎ (plan_over (sources_of sources.now) (old_of old) ≡ Err e)) }
+/// All that is to be written, before any of it is. The old auto.conf is let go first, since the texts to come are as large.
+fn work_of(alloc: Global, planned: Planned) -> Result<Work, AllocError>
+    ensures { IfOk result (λ work. (plan : Plan) → IsPlannedBy plan planned → IsWork plan work) }
 {
-    let Some(report) = plan(alloc, sources, &old)? else {
-        return Err(EngineError::GenerationFull);
-    };
+    let Planned {
+        sources,
+        old,
+        report,
+    } = planned;
     drop(old);
     let (title, settings) = (sources.title.as_slice(), &sources.settings);
     let mut header = Vec::new(alloc);
     write_header(settings, title, &mut header)?;
     let mut auto = Vec::new(alloc);
     write_auto(settings, title, report.generation, &mut auto)?;
-    if auto.len() > MAX_BYTES {
-        return Err(EngineError::TooLarge);
-    }
     Ok(Work {
         report,
         header,
@@ -70,19 +59,18 @@ fn work_over(alloc: Global, sources: &Sources, old: OldConfig) -> Result<Work, E
 }
 
 /// All steps before the first write.
-pub(crate) fn prepare<T: Tree>(
+fn prepare<T: Tree>(
     alloc: Global,
     tree: &mut T,
     kconfig: &[u8],
     dotconfig: &[u8],
 ) -> Result<Work, EngineError>
     ensures reads { Reads T.Tree tree.old tree.new (IsErrOf result EngineError.Device) }
-    ensures planned { T.is_honest → IfOk result (IsPlanned (T.files tree.old) kconfig.now dotconfig.now) }
+    ensures planned { T.is_honest → IfOk result (IsPrepared (T.files tree.old) kconfig.now dotconfig.now) }
     ensures refused { T.is_honest → IfErr result (λ e. IsGivenUp e ⊎ IsSyncPlan (T.files tree.old) kconfig.now dotconfig.now (Err e)) }
 {
-    let sources = read_sources(alloc, kconfig, dotconfig)?;
-    let old = read_old(alloc, tree)?;
-    work_over(alloc, &sources, old)
+    let planned = plan_sync(alloc, tree, kconfig, dotconfig)?;
+    Ok(work_of(alloc, planned)?)
 }
 
 /// The stamps, then the header, then auto.conf: an auto.conf before its stamps would hide the change for good.

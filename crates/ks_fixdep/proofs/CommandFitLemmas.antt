@@ -12,7 +12,7 @@ use Rattle.ks_symbols.specs.Decimal.{decimal_value, is_canonical}
 use Rattle.std.specs.Str.Parse.{digits_value}
 use Rattle.ks_fixdep.specs.declared.command_file.Dep.{Dep}
 use Rattle.ks_fixdep.specs.CommandLines.{line_feed, content, behind, before, between}
-use Rattle.ks_fixdep.specs.CommandFile.{CommandRecord, is_command, is_dep, IsLegal, dep_line, deps_begin, target_line, deps_end, layout, generation_mark}
+use Rattle.ks_fixdep.specs.CommandFile.{CommandRecord, back_lines, is_command, is_dep, IsLegal, dep_line, deps_begin, target_line, deps_end, layout, generation_mark}
 use Rattle.ks_fixdep.specs.CommandReads.{generation_in, is_sound, LinesRead}
 use Rattle.ks_fixdep.specs.CommandForms.{dep_in, saved_command, source_in}
 use Rattle.ks_fixdep.specs.CommandReading.{◌>>=◌, or_fault, fixed_at, form_at, deps_in, onto_deps, said, said_behind, generation_from, end_from, record_in}
@@ -107,7 +107,7 @@ generation-sound n (l ∷ ls) sound =
 
 -- ---- the whole
 
-end-fits : (n : ℕ) (t : List ℕ) (ls more : List (List ℕ)) → map content ls ≡ [] ∷ target_line t ∷ [] ∷ deps_end t ∷ [] → end_from n t (ls ++ more)
+end-fits : (n : ℕ) (t : List ℕ) (ls more : List (List ℕ)) → map content ls ≡ back_lines t → end_from n t (ls ++ more)
     ≡ generation_from (n + 4) more
 unfolding end_from
 end-fits n t ls more e =
@@ -135,7 +135,7 @@ record-fits f ls more legal e generation =
     let t = f.target in
     let saved = codes "savedcmd_" ++ t ++ codes " := " ++ f.command in
     let named = codes "source_" ++ t ++ codes " := " ++ f.source in
-    let end = [] ∷ target_line t ∷ [] ∷ deps_end t ∷ [] in
+    let end = back_lines t in
     let deps = map dep_line f.deps ++ end in
     let l1 = drop 1 ls in
     let l2 = drop 1 l1 in
@@ -286,7 +286,7 @@ front-deps ds xs rest ls d f =
 -- the lines behind the dependency lines
 record Ends (n : ℕ) (t : List ℕ) (ls : List (List ℕ)) (g : Option ℕ) : Type 0 where
   appended : List (List ℕ)
-  front : Front ([] ∷ target_line t ∷ [] ∷ deps_end t ∷ []) appended ls
+  front : Front (back_lines t) appended ls
   sound : list_all is_sound appended ≡ true
   generation : g ≡ last_of (filter_map generation_in appended)
 
@@ -374,7 +374,7 @@ lines-fit f ls e =
           = subst P (sym end.generation) (last-below end.appended);
     } in
     let named = codes "source_" ++ t ++ codes " := " ++ s3.value.0 in
-    let behind = map dep_line ds ++ [] ∷ target_line t ∷ [] ∷ deps_end t ∷ [] in
+    let behind = map dep_line ds ++ back_lines t in
     let more = end.appended in
     let front : Front (layout r) more ls =
     front-one (codes "savedcmd_" ++ t ++ codes " := " ++ c) ([] ∷ named ∷ [] ∷ deps_begin t ∷ behind) more s1.value.1 ls saved.2
@@ -382,7 +382,7 @@ lines-fit f ls e =
     (front-one named ([] ∷ deps_begin t ∷ behind) more s3.value.1 s2.value source.1
     (front-one [] (deps_begin t ∷ behind) more s4.value s3.value.1 (fixed-begins 4 [] s3.value.1 s4.value s4.first)
     (front-one (deps_begin t) behind more ls' s4.value (fixed-begins 5 (deps_begin t) s4.value ls' s5.first)
-    (front-deps ds ([] ∷ target_line t ∷ [] ∷ deps_end t ∷ []) more ls' deps end.front))))) in
+    (front-deps ds (back_lines t) more ls' deps end.front))))) in
     let reads : LinesRead ls r = record {
       laid_out = front.laid;
       appended = more;

@@ -13,7 +13,7 @@ use Rattle.ks_symbols.specs.Decimal.{decimal_value, is_canonical, starts_well}
 use Rattle.ks_fixdep.specs.declared.command_file.Dep.{Dep}
 use Rattle.ks_fixdep.specs.declared.command_file.Dep.TheVariants.{File, Config}
 use Rattle.ks_fixdep.specs.CommandLines.{line_feed, lines, content, behind, before}
-use Rattle.ks_fixdep.specs.CommandFile.{CommandRecord, is_command, is_command_byte, is_dep, IsLegal, dep_line, target_line, deps_end, layout, generation_mark, generation_line, ended, command_text}
+use Rattle.ks_fixdep.specs.CommandFile.{CommandRecord, back_lines, is_command, is_command_byte, is_dep, IsLegal, dep_line, target_line, deps_end, layout, generation_mark, generation_line, ended, command_text}
 use Rattle.ks_fixdep.specs.CommandReads.{generation_in, is_sound, CommandReads}
 use Rattle.ks_fixdep.proofs.CommandFormLemmas.{and-parts, other-byte, all-imp, path-bytes, target-path, before-end, behind-front}
 
@@ -45,10 +45,6 @@ lines-ended (x ∷ xs) plain =
 pub content-ended : (x : List ℕ) → content (ended x) ≡ x
 unfolding content
 content-ended x = ap ((λ o. unwrap_or o (ended x))) (before-end x (10 ∷ []))
-
--- the lines behind the dependency lines
-abbrev last_lines : List ℕ → List (List ℕ)
-last_lines t = [] ∷ target_line t ∷ [] ∷ deps_end t ∷ []
 
 plain-append : (x y : List ℕ) → is_plain x ≡ true → is_plain y ≡ true → is_plain (x ++ y) ≡ true
 plain-append x y px py = list_all-append is_plain_byte x y ∙ ap (λ v. v && is_plain y) px ∙ py
@@ -94,7 +90,7 @@ plain-generation : (g : Option ℕ) → IfSome g (λ x. decimal_value (decimal x
 plain-generation None back = refl
 plain-generation (Some g) back = both-true (is_plain (codes "#generation " ++ decimal g)) true (plain-decimal g back) refl
 
-plain-last : (t : List ℕ) → is_plain t ≡ true → list_all is_plain (last_lines t) ≡ true
+plain-last : (t : List ℕ) → is_plain t ≡ true → list_all is_plain (back_lines t) ≡ true
 plain-last t plain =
     let target = plain-append (t ++ codes ": $(deps_" ++ t) (codes ")")
     (plain-append (t ++ codes ": $(deps_") t (plain-append t (codes ": $(deps_") plain refl) plain) refl in
@@ -108,12 +104,12 @@ plain-layout f legal =
     let saved = plain-append (t ++ codes " := ") f.command (plain-append t (codes " := ") target refl) (plain-command f.command legal.command) in
     let source = plain-append (t ++ codes " := ") f.source (plain-append t (codes " := ") target refl) (plain-path f.source legal.source) in
     let begin = plain-append t (codes " := \\") target refl in
-    let rest = list_all-append is_plain (map dep_line f.deps) (last_lines t) ∙ both-true (list_all is_plain (map dep_line f.deps))
-    (list_all is_plain (last_lines t)) (plain-deps f.deps legal.deps) (plain-last t target) in
-    ap (λ v. v && (is_plain (t ++ codes " := " ++ f.source) && (is_plain (t ++ codes " := \\") && list_all is_plain (map dep_line f.deps ++ last_lines t))))
+    let rest = list_all-append is_plain (map dep_line f.deps) (back_lines t) ∙ both-true (list_all is_plain (map dep_line f.deps))
+    (list_all is_plain (back_lines t)) (plain-deps f.deps legal.deps) (plain-last t target) in
+    ap (λ v. v && (is_plain (t ++ codes " := " ++ f.source) && (is_plain (t ++ codes " := \\") && list_all is_plain (map dep_line f.deps ++ back_lines t))))
     saved
-    ∙ ap (λ v. v && (is_plain (t ++ codes " := \\") && list_all is_plain (map dep_line f.deps ++ last_lines t))) source
-    ∙ ap (λ v. v && list_all is_plain (map dep_line f.deps ++ last_lines t)) begin
+    ∙ ap (λ v. v && (is_plain (t ++ codes " := \\") && list_all is_plain (map dep_line f.deps ++ back_lines t))) source
+    ∙ ap (λ v. v && list_all is_plain (map dep_line f.deps ++ back_lines t)) begin
     ∙ rest
 
 -- ---- the text reads

@@ -1,13 +1,13 @@
 -- Texts that grow at their end.
 use Rattle.std.proofs.Common.{◌≡◌, ℕ, List, [], ◌++◌, length, take, refl, sym, ap, ◌∙◌, Result, Ok, Err, append_assoc, append-nil}
 use Rattle.std.proofs.Math.Seq.{take-append_seam}
-use Rattle.ks_fixdep.specs.CommandWriting.{Extends, back_lines, deps_text, front_lines}
+use Rattle.ks_fixdep.specs.CommandWriting.{Extends, deps_text}
 use Rattle.std.specs.Result.{OnOk}
 use Rattle.std.proofs.Common.{map}
 use Rattle.std.specs.Prelude.{codes, flat_map}
 use Rattle.std.proofs.lemmas.Grind.{flat_map-append}
 use Rattle.ks_fixdep.specs.CommandLines.{line_feed}
-use Rattle.ks_fixdep.specs.CommandFile.{CommandRecord, deps_begin, deps_end, ended, dep_line, generation_line, command_text}
+use Rattle.ks_fixdep.specs.CommandFile.{CommandRecord, back_lines, deps_begin, deps_end, ended, dep_line, front_lines, generation_line, command_text}
 
 pub extends-same : (a b : List ℕ) → b ≡ a → Extends a b
 extends-same a b e = record { more = []; is = e ∙ sym (append-nil a) }

@@ -19,4 +19,4 @@ pub mod CommandFitLemmas
 pub mod CommandTextLemmas
 pub mod CommandFaultLemmas
 pub mod CommandWriteLemmas
-pub mod TextLemmas
+pub mod ListedLemmas

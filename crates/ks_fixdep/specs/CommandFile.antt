@@ -52,15 +52,18 @@ target_line target = target ++ codes ": $(deps_" ++ target ++ codes ")"
 abbrev pub deps_end : List ℕ → List ℕ
 deps_end target = codes "$(deps_" ++ target ++ codes "):"
 
+-- the lines before those of the dependencies
+abbrev pub front_lines : List ℕ → List ℕ → List ℕ → List (List ℕ)
+front_lines target command source =
+    (codes "savedcmd_" ++ target ++ codes " := " ++ command) ∷ [] ∷ (codes "source_" ++ target ++ codes " := " ++ source) ∷ [] ∷ deps_begin target ∷ []
+
+-- the lines behind those of the dependencies
+abbrev pub back_lines : List ℕ → List (List ℕ)
+back_lines target = [] ∷ target_line target ∷ [] ∷ deps_end target ∷ []
+
 -- the lines but for that of the generation
 abbrev pub layout : CommandRecord → List (List ℕ)
-layout f =
-    (codes "savedcmd_" ++ f.target ++ codes " := " ++ f.command)
-    ∷ []
-    ∷ (codes "source_" ++ f.target ++ codes " := " ++ f.source)
-    ∷ []
-    ∷ deps_begin f.target
-    ∷ (map dep_line f.deps ++ [] ∷ target_line f.target ∷ [] ∷ deps_end f.target ∷ [])
+layout f = front_lines f.target f.command f.source ++ map dep_line f.deps ++ back_lines f.target
 
 -- what the line of a generation begins with
 abbrev pub generation_mark : List ℕ

@@ -1,56 +1,45 @@
 //! The command file of an object, from its prerequisites and the names found in them. Each name stands once,
 //! with the first prerequisite that has it, so that the file is short and the same on every machine.
-ghost use Rattle.std.specs.Prelude.{◌≡◌, ◌++◌, [], List, ℕ, IfOk, IsTrue, OnOk, drop, length, map, take};
-ghost use Rattle.std.specs.List.{list_all};
-ghost use Rattle.ks_symbols.specs.Names.{is_name, is_path};
+ghost use Rattle.std.specs.Prelude.{◌≡◌, ◌++◌, [], List, ℕ, IfOk, length, map};
 ghost use Rattle.ks_symbols.specs.Refusals.{RefusedBy};
 ghost use Rattle.ks_fixdep.specs.CommandFile.{view};
 ghost use Rattle.ks_fixdep.specs.FoundNames.{names_in};
-ghost use Rattle.ks_fixdep.specs.Record.{own_line, deps_after, source_of, record_of, record_refusal};
+ghost use Rattle.ks_fixdep.specs.Record.{deps_after, record_of, record_refusal};
 ghost use Rattle.ks_fixdep.specs.SourceScan.{AreNamesOf};
-ghost use Rattle.ks_fixdep.specs.declared.command_file.Dep.TheVariants.{Config};
 
 use crate::command_file::{CommandFile, Dep, command_is_legal};
 use crate::dep_error::DepError;
-use crate::dependency_file::{Prerequisites, Role};
+use crate::dependency_file::Prerequisites;
+use crate::listing::{Listing, list_dependencies, source_path};
 use crate::source_scan::{NamesBySource, SourceScan};
-use ks_symbols::{LentTexts, Name, Path, target_is_legal};
+use ks_symbols::{Name, Path, target_is_legal};
 use std::alloc::{AllocError, Global};
 
-/// Lists a prerequisite, where its role says so.
-fn push_own_line(
+/// Dependency lines in memory of their own.
+#[derive(Drop)]
+struct OwnLines {
     alloc: Global,
-    path: &[u8],
-    role: Role,
-    deps: &mut Vec<Dep>,
-) -> Result<(), AllocError>
-    requires { IsTrue (is_path path.now) }
-    ensures { OnOk result (deps.new.items ≡ deps.old.items ++ own_line (path.now, role)) }
-{
-    if role == Role::Listed {
-        deps.push(Dep::File(Path::new(alloc, path)?))?;
-    }
-    Ok(())
+    deps: Vec<Dep>,
 }
 
-/// Lists the next names, as many of them as this.
-fn push_names(
-    alloc: Global,
-    names: &mut LentTexts<'_>,
-    count: usize,
-    deps: &mut Vec<Dep>,
-) -> Result<(), AllocError>
-    requires { IsTrue (list_all is_name names.old) }
-    ensures deps { OnOk result (deps.new.items ≡ deps.old.items ++ map Config (take count names.old)) }
-    ensures rest { OnOk result (names.new ≡ drop count names.old) }
-{
-    for _ in 0..count {
-        let Some(name) = names.next() else {
-            return Ok(());
-        };
-        deps.push(Dep::Config(Name::new(alloc, name)?))?;
+impl Listing for OwnLines {
+    ghost use Rattle.std.proofs.Common.{◌∙◌, ap, append_assoc, append-nil, sym};
+
+    ghost grown = { λ old deps new. new.deps.items ≡ old.deps.items ++ deps };
+
+    fn list_file(&mut self, path: &[u8]) -> Result<(), AllocError> {
+        self.deps.push(Dep::File(Path::new(self.alloc, path)?))?;
+        Ok(())
     }
-    Ok(())
+
+    fn list_name(&mut self, name: &[u8]) -> Result<(), AllocError> {
+        self.deps.push(Dep::Config(Name::new(self.alloc, name)?))?;
+        Ok(())
+    }
+
+    ghost by_none = { λ a. sym (append-nil a.deps.items) };
+
+    ghost by_both = { λ a b c xs ys first then. then ∙ ap (λ l. l ++ ys) first ∙ append_assoc a.deps.items xs ys };
 }
 
 /// The dependency lines of an object.
@@ -63,31 +52,10 @@ fn dependencies(
     ensures { IfOk result (λ deps. (ts : List (List ℕ)) → AreNamesOf found.now ts → deps.items ≡ deps_after [] prerequisites.now (map names_in ts)) }
 {
     let most = prerequisites.len().saturating_add(found.names.len());
-    let mut deps = Vec::with_capacity(alloc, most)?;
-    let mut entries = prerequisites.entries();
-    let mut names = found.names.names();
-    let mut listed = 0;
-    for count in &found.counts {
-        let Some((path, role)) = entries.next() else {
-            unreachable!();
-        };
-        push_own_line(alloc, path, *role, &mut deps)?;
-        push_names(alloc, &mut names, count.saturating_sub(listed), &mut deps)?;
-        listed = *count;
-    }
-    Ok(deps)
-}
-
-/// The path of the source.
-fn source_path(alloc: Global, prerequisites: &Prerequisites) -> Result<Path, AllocError>
-    ensures { IfOk result (λ path. path ≡ source_of prerequisites.now) }
-{
-    // By this call alone the proof knows that there is one.
-    prerequisites.len();
-    match prerequisites.get(0) {
-        Some((path, _)) => Path::new(alloc, path),
-        None => unreachable!(),
-    }
+    let deps = Vec::with_capacity(alloc, most)?;
+    let mut lines = OwnLines { alloc, deps };
+    list_dependencies(&mut lines, prerequisites, found)?;
+    Ok(lines.deps)
 }
 
 /// The command file of a target, from the names found in each prerequisite, in order.
@@ -111,7 +79,7 @@ pub fn build_from(
     Ok(CommandFile {
         target: Path::new(alloc, target)?,
         command: command.to_vec(alloc)?,
-        source: source_path(alloc, &prerequisites)?,
+        source: Path::new(alloc, source_path(&prerequisites))?,
         deps: dependencies(alloc, &prerequisites, &found)?,
         generation: None,
     })

@@ -106,10 +106,8 @@ fn next_role(has_kept: bool, has_kept_since_target: bool) -> Role
 fn note(by_path: &mut TextMap<Role>, path: &[u8], role: Role) -> Result<(), AllocError>
     ensures { OnOk result (by_path.new ≡ added by_path.old (path.now, role)) }
 {
-    match by_path.get(path) {
-        Some(_) => Ok(()),
-        None => by_path.push(path, role),
-    }
+    by_path.get_or_push(path, role)?;
+    Ok(())
 }
 
 /// What is known of the tokens so far.

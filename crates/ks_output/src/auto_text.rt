@@ -3,7 +3,7 @@
 //! The heading and the entries are those of conf_write_autoconf in scripts/kconfig/confdata.c. That names rise, that
 //! a string stands without quotes, and the lines of classes and of the generation are rules of this project. A class
 //! is written as a comment, which make and the usual tool pass over.
-ghost use Rattle.std.specs.Prelude.{◌≡◌, ◌++◌, OnOk, OnErr};
+ghost use Rattle.std.specs.Prelude.{◌≡◌, ◌++◌, OnOk, OnErr, length, min};
 ghost use Rattle.ks_output.specs.Appending.{Keeps};
 ghost use Rattle.ks_output.specs.AutoText.{auto_text, heading, class_line, entry_line, generation_line};
 
@@ -58,21 +58,46 @@ fn append_generation(generation: u64, out: &mut Vec<u8>) -> Result<(), AllocErro
     append_all(&[b"#generation ", digits.as_bytes(), b"\n"], out)
 }
 
-/// How many bytes the lines of the entries and of the generation take at most.
-fn lines_room(settings: &Settings) -> usize {
-    let mut room = b"#generation 18446744073709551615\n".len();
+/// How many bytes the heading with a title takes.
+fn heading_len(title: &[u8]) -> usize
+    ensures { result ≡ length (heading title.now) }
+{
+    b"#\n# Automatically generated file; DO NOT EDIT.\n# \n#\n#typed\n".len() + title.len()
+}
+
+/// How many bytes the line of an entry's class takes.
+fn class_len(name: &[u8], class: Class) -> usize
+    ensures { result ≡ length (class_line name.now class) }
+{
+    match class {
+        Class::Switch => 0,
+        Class::Text => b"#type  string\n".len() + name.len(),
+        Class::Int => b"#type  int\n".len() + name.len(),
+        Class::Hex => b"#type  hex\n".len() + name.len(),
+    }
+}
+
+/// How many bytes the line of a generation takes.
+fn generation_len(generation: u64) -> usize
+    ensures { result ≡ length (generation_line generation) }
+{
+    let mut buffer = Buffer::new();
+    b"#generation \n".len() + buffer.format(generation).len()
+}
+
+/// How many bytes auto.conf has, or the greatest number where it has more. Who asks for nothing else needs no text.
+#[tactic(auto, unfolding(crate::specs::AutoText::auto_text))]
+pub fn auto_len(settings: &Settings, title: &[u8], generation: u64) -> usize
+    ensures { result ≡ min (length (auto_text title.now settings.now.entries generation)) 18446744073709551615 }
+{
+    let mut len = heading_len(title);
     for (name, kind, text) in settings.entries() {
-        let class = match kind.class() {
-            Class::Switch => 0,
-            Class::Text | Class::Int | Class::Hex => b"#type  string\n".len() + name.len(),
-        };
-        let entry = b"CONFIG_=\n".len() + name.len();
-        room = room
-            .saturating_add(class)
-            .saturating_add(entry)
+        len = len
+            .saturating_add(class_len(name, kind.class()))
+            .saturating_add(b"CONFIG_=\n".len() + name.len())
             .saturating_add(text.len());
     }
-    room
+    len.saturating_add(generation_len(generation))
 }
 
 /// Appends auto.conf, or a beginning of it. The room is made at once: a vector that grows leaves its smaller selves behind.
@@ -86,8 +111,8 @@ fn append_auto(
     ensures written { OnOk result (out.new.items ≡ out.old.items ++ auto_text title.now settings.now.entries generation) }
     ensures kept { Keeps out.old.items out.new.items }
 {
+    out.reserve_exact(auto_len(settings, title, generation))?;
     append_heading(title, out)?;
-    out.reserve_exact(lines_room(settings))?;
     for (name, kind, text) in settings.entries() {
         append_class(name, kind.class(), out)?;
         append_entry(name, text, out)?;

@@ -11,7 +11,7 @@ mod old_config;
 mod places;
 
 pub use auto_conf::{AutoError, read_auto, read_auto_generation};
-pub use auto_text::write_auto;
+pub use auto_text::{auto_len, write_auto};
 pub use header::{write_header, write_quoted};
 pub use laws::{
     auto_texts_read_back, definitions_are_lines, entries_are_defined, examples_are_worked,

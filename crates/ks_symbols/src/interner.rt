@@ -29,7 +29,7 @@ const SMALL: usize = 65543;
 
 /// The hash of a text.
 #[tactic(auto, unfolding(crate::specs::Interner::hash_of))]
-fn hash_of(text: &[u8]) -> u64
+pub(crate) fn hash_of(text: &[u8]) -> u64
     ensures { result ≡ hash_of text.now }
 {
     let mut hasher = FoldHasher::default();
@@ -233,7 +233,7 @@ impl Interner {
     }
 
     /// The number of a text with a hash.
-    fn number_under(&self, text: &[u8], hash: u64) -> Option<usize>
+    pub(crate) fn number_under(&self, text: &[u8], hash: u64) -> Option<usize>
         requires { hash ≡ hash_of text.now }
         ensures { result ≡ place_of text.now self.now }
     {
@@ -279,18 +279,8 @@ impl Interner {
         Ok(())
     }
 
-    /// Notes a text that wasn't noted before.
-    pub(crate) fn add(&mut self, text: &[u8]) -> Result<usize, AllocError>
-        requires { place_of text.now self.old ≡ None }
-        ensures noted { OnOk result (self.new ≡ noted self.old text.now) }
-        ensures number { IfOk result (λ n. place_of text.now self.new ≡ Some n) }
-        ensures kept { OnErr result (self.new ≡ self.old) }
-    {
-        self.add_under(text, hash_of(text))
-    }
-
     /// Notes a text with a hash that wasn't noted before.
-    fn add_under(&mut self, text: &[u8], hash: u64) -> Result<usize, AllocError>
+    pub(crate) fn add_under(&mut self, text: &[u8], hash: u64) -> Result<usize, AllocError>
         requires hash { hash ≡ hash_of text.now }
         requires absent { place_of text.now self.old ≡ None }
         ensures noted { OnOk result (self.new ≡ noted self.old text.now) }

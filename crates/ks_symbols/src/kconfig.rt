@@ -36,12 +36,9 @@ fn declare(kinds: &mut TextMap<Kind>, name: &[u8], kind: Kind) -> Result<bool, A
     ensures clash { IfOk result (λ clash. clash ≡ clashes kind (map.get (by_name kinds.old) name.now)) }
     ensures declared { IfOk result (λ clash. clash ≡ false → by_name kinds.new ≡ map.insert (by_name kinds.old) name.now kind) }
 {
-    match kinds.get(name) {
-        Some(before) => Ok(clashes(kind, *before)),
-        None => {
-            kinds.push(name, kind)?;
-            Ok(false)
-        }
+    match kinds.get_or_push(name, kind)? {
+        Some(before) => Ok(clashes(kind, before)),
+        None => Ok(false),
     }
 }
 

@@ -1,11 +1,12 @@
 //! Values by texts, in the order in which the texts were first put. It is sought as an `Interner` is, so no choice of texts
 //! makes it slow.
-ghost use Rattle.std.specs.Prelude.{◌≡◌, ◌++◌, ◌∷◌, [], None, OnOk, OnErr, length, option_map, slice_get};
+ghost use Rattle.std.specs.Prelude.{◌≡◌, ◌++◌, ◌∷◌, [], None, IfOk, IsSome, OnOk, OnErr, length, option_map, slice_get};
 ghost use Rattle.std.specs.Iterator.{item_count};
 ghost use Rattle.std.specs.Map.Iter.{TakesFirst};
+ghost use Rattle.ks_symbols.specs.Interner.{hash_of};
 ghost use Rattle.ks_symbols.specs.TextMap.{value_of, lent_pair};
 
-use crate::interner::Interner;
+use crate::interner::{Interner, hash_of};
 use crate::texts::LentTexts;
 use std::alloc::{AllocError, Global};
 use std::marker::Model;
@@ -62,7 +63,15 @@ impl<V> TextMap<V> {
     pub fn get(&self, text: &[u8]) -> Option<&V>
         ensures { option_map (λ v. v.now) result ≡ value_of text.now self.now }
     {
-        match self.texts.number(text) {
+        self.get_under(text, hash_of(text))
+    }
+
+    /// The value of a text with a hash.
+    fn get_under(&self, text: &[u8], hash: u64) -> Option<&V>
+        requires { hash ≡ hash_of text.now }
+        ensures { option_map (λ v. v.now) result ≡ value_of text.now self.now }
+    {
+        match self.texts.number_under(text, hash) {
             Some(number) => value_at(&self.values, number),
             None => None,
         }
@@ -99,8 +108,18 @@ impl<V: Drop> TextMap<V> {
         ensures pushed { OnOk result (self.new ≡ self.old ++ (text.now, value) ∷ []) }
         ensures kept { OnErr result (self.new ≡ self.old) }
     {
+        self.push_under(text, hash_of(text), value)
+    }
+
+    /// Puts a text with a hash that has no value yet, at the end.
+    fn push_under(&mut self, text: &[u8], hash: u64, value: V) -> Result<(), AllocError>
+        requires hash { hash ≡ hash_of text.now }
+        requires absent { value_of text.now self.old ≡ None }
+        ensures pushed { OnOk result (self.new ≡ self.old ++ (text.now, value) ∷ []) }
+        ensures kept { OnErr result (self.new ≡ self.old) }
+    {
         self.values.push(value)?;
-        let Ok(_) = self.texts.add(text) else {
+        let Ok(_) = self.texts.add_under(text, hash) else {
             let _ = self.values.pop();
             return Err(AllocError);
         };
@@ -113,6 +132,23 @@ impl<V: Drop> TextMap<V> {
     {
         self.texts.clear();
         self.values.clear();
+    }
+}
+
+impl<V: Copy> TextMap<V> {
+    /// The value of a text, or `None`, and then the text is put at the end with this one. It is hashed once for both.
+    pub fn get_or_push(&mut self, text: &[u8], value: V) -> Result<Option<V>, AllocError>
+        ensures found { IfOk result (λ before. before ≡ value_of text.now self.old) }
+        ensures unchanged { IfOk result (λ before. IsSome before → self.new ≡ self.old) }
+        ensures pushed { IfOk result (λ before. before ≡ None → self.new ≡ self.old ++ (text.now, value) ∷ []) }
+        ensures kept { OnErr result (self.new ≡ self.old) }
+    {
+        let hash = hash_of(text);
+        if let Some(before) = self.get_under(text, hash) {
+            return Ok(Some(*before));
+        }
+        self.push_under(text, hash, value)?;
+        Ok(None)
     }
 }
 

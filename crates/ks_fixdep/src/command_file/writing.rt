@@ -1,7 +1,7 @@
 //! Writing a command file. The text grows where it will stand, and a refusal takes back what was written: there is no second copy.
 ghost use Rattle.std.specs.Prelude.{◌≡◌, ◌++◌, OnOk, OnErr, flat_map};
-ghost use Rattle.ks_fixdep.specs.CommandFile.{command_text, dep_line, ended, generation_line, view};
-ghost use Rattle.ks_fixdep.specs.CommandWriting.{Extends, back_lines, deps_text, front_lines, joined};
+ghost use Rattle.ks_fixdep.specs.CommandFile.{back_lines, command_text, dep_line, ended, front_lines, generation_line, view};
+ghost use Rattle.ks_fixdep.specs.CommandWriting.{Extends, deps_text, joined};
 ghost use Rattle.ks_fixdep.specs.declared.command_file.Dep.TheVariants.{File, Config};
 
 use super::{CommandFile, Dep};

@@ -1,30 +1,23 @@
-use Rattle.std.proofs.Common.{◌⊎◌, inl, inr, ⊎_elim, Err}
-use Rattle.std.proofs.lemmas.Result.{err_from_is_err_and, IfOk-weaker}
-use Rattle.ks_engine.specs.Refusals.{IsGivenUp}
-use Rattle.ks_engine.specs.SyncPlan.{IsSyncPlan}
-use Rattle.ks_engine.proofs.Reading.{plan_of_old, plan_of_over}
-use Rattle.ks_engine.proofs.Writes.{if_err_map}
-use Rattle.ks_commands.specs.Differences.{IsDiff}
+use Rattle.std.proofs.Common.{ℕ, List, ◌++◌, ◌∙◌, ap, ap₂, flat_map}
+use Rattle.ks_symbols.specs.Configuration.{Configuration}
+use Rattle.ks_output.specs.OldConfig.{Texts}
+use Rattle.ks_commands.specs.Differences.{difference_line}
 use Rattle.ks_commands.proofs.differences.differences.Goals as goal
-
-pub returns-in_err-old-clause-refused : goal.returns-in_err-old-clause-refused
-returns-in_err-old-clause-refused g c = λ honest.
-    let p = err_from_is_err_and c.from_residual-in_err-old.result c.from_residual-in_err-old.ensures.1 in
-    rw (p.1, p.2) (⊎_elim (λ given. inl given) (λ bad. inr (plan_of_old (g.T.Tree.files c.args.tree.now) c.args.kconfig.now c.args.dotconfig.now _ _
-    c.in_ok-sources.ensures.read bad)) (c.in_err-old.ensures.read honest))
 
 pub returns-clause-told : goal.returns-clause-told
 returns-clause-told g c = λ honest.
-    IfOk-weaker c.changes_over.result _ (λ text. IsDiff (g.T.Tree.files c.args.tree.now) c.args.kconfig.now c.args.dotconfig.now text.items)
-    (λ text p. (
-      p.0,
-      plan_of_over (g.T.Tree.files c.args.tree.now) c.args.kconfig.now c.args.dotconfig.now _ _ _ c.in_ok-sources.ensures.read
-          (c.in_ok-old.ensures.read honest) p.1,
-      p.2,
-    )) c.changes_over.ensures.told
-
-pub returns-clause-refused : goal.returns-clause-refused
-returns-clause-refused g c = λ honest.
-    if_err_map c.changes_over.result _ (λ e. IsGivenUp e ⊎ IsSyncPlan (g.T.Tree.files c.args.tree.now) c.args.kconfig.now c.args.dotconfig.now (Err e))
-    (λ e p. ⊎_elim (λ given. inl given) (λ bad. inr (plan_of_over (g.T.Tree.files c.args.tree.now) c.args.kconfig.now c.args.dotconfig.now _ _ _
-    c.in_ok-sources.ensures.read (c.in_ok-old.ensures.read honest) bad)) p) c.changes_over.ensures.refused
+    let planned = c.in_ok-planned.ensures.planned honest in
+    let read = c.in_ok-planned.planned in
+    let names = read.report.touched.items in
+    let lines : Texts → Configuration → List (List ℕ) → List ℕ = λ old new. flat_map (difference_line old new) in (
+      planned.0,
+      planned.1,
+      record {
+        names = names;
+        changed = planned.2.report.changed.are;
+        lines = c.in_ok-write_changes.ensures
+            ∙ ap (λ t. t ++ lines read.old.texts read.sources.settings.entries c.deref.result.now) c.new-text.ensures.items
+            ∙ ap (lines read.old.texts read.sources.settings.entries) c.deref.ensures.value
+            ∙ ap₂ (λ old new. lines old new names) planned.2.old planned.2.config;
+      },
+    )

@@ -1,30 +1,7 @@
-use Rattle.std.proofs.Common.{◌⊎◌, inl, inr, ⊎_elim, Err}
-use Rattle.std.proofs.lemmas.Result.{err_from_is_err_and, IfOk-weaker}
-use Rattle.ks_engine.specs.Refusals.{IsGivenUp}
-use Rattle.ks_engine.specs.SyncPlan.{IsSyncPlan}
-use Rattle.ks_engine.specs.Views.{IsPlanned}
-use Rattle.ks_engine.proofs.Reading.{plan_of_old, plan_of_over}
-use Rattle.ks_engine.proofs.Writes.{if_err_map}
+use Rattle.std.proofs.Common.{IfOk}
 use Rattle.ks_engine.proofs.synchronise.prepare.Goals as goal
-
-pub returns-in_err-old-clause-refused : goal.returns-in_err-old-clause-refused
-returns-in_err-old-clause-refused g c = λ honest.
-    let p = err_from_is_err_and c.from_residual-in_err-old.result c.from_residual-in_err-old.ensures.1 in
-    rw (p.1, p.2) (⊎_elim (λ given. inl given) (λ bad. inr (plan_of_old (g.T.Tree.files c.args.tree.now) c.args.kconfig.now c.args.dotconfig.now _ _
-    c.in_ok-sources.ensures.read bad)) (c.in_err-old.ensures.read honest))
 
 pub returns-clause-planned : goal.returns-clause-planned
 returns-clause-planned g c = λ honest.
-    IfOk-weaker c.work_over.result _ (IsPlanned (g.T.Tree.files c.args.tree.now) c.args.kconfig.now c.args.dotconfig.now)
-    (λ work p. (
-      p.0,
-      plan_of_over (g.T.Tree.files c.args.tree.now) c.args.kconfig.now c.args.dotconfig.now _ _ _ c.in_ok-sources.ensures.read
-          (c.in_ok-old.ensures.read honest) p.1,
-      p.2,
-    )) c.work_over.ensures.planned
-
-pub returns-clause-refused : goal.returns-clause-refused
-returns-clause-refused g c = λ honest.
-    if_err_map c.work_over.result _ (λ e. IsGivenUp e ⊎ IsSyncPlan (g.T.Tree.files c.args.tree.now) c.args.kconfig.now c.args.dotconfig.now (Err e))
-    (λ e p. ⊎_elim (λ given. inl given) (λ bad. inr (plan_of_over (g.T.Tree.files c.args.tree.now) c.args.kconfig.now c.args.dotconfig.now _ _ _
-    c.in_ok-sources.ensures.read (c.in_ok-old.ensures.read honest) bad)) p) c.work_over.ensures.refused
+    let planned = c.in_ok-planned.ensures.planned honest in
+    (planned.0, planned.1, c.in_ok-work_of.ensures planned.0 planned.2)

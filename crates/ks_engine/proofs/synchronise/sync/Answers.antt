@@ -29,7 +29,7 @@ returns-in_err-write_all-clause-refused g c = λ honest.
         plan = planned.0;
         planned = planned.1;
         names = names;
-        changed = planned.2.changed;
+        changed = planned.2.report.changed;
         some = subst (λ f. SyncSome f (g.T.Tree.files c.write_all.new.tree) planned.0 names) (c.prepare.ensures.reads.unchanged honest)
             (c.in_err-write_all.ensures.some honest planned.0 planned.2);
       }),
@@ -49,9 +49,9 @@ returns-clause-synced g c = λ honest.
     record {
       plan = planned.0;
       planned = planned.1;
-      generation = planned.2.generation;
-      unknown = planned.2.unknown;
-      changed = planned.2.changed;
+      generation = planned.2.report.generation;
+      unknown = planned.2.report.unknown;
+      changed = planned.2.report.changed;
       done = subst (λ f. SyncDone f (g.T.Tree.files c.write_all.new.tree) planned.0 c.in_ok-work.work.report.touched.items)
           (c.prepare.ensures.reads.unchanged honest) (c.in_ok-write_all.ensures.all honest planned.0 planned.2);
     }

@@ -17,10 +17,10 @@ returns-in_err-touch_all-clause-some g c = λ honest plan work.
     let touched = c.in_err-touch_all.ensures.some honest in
     on_err c.from_residual.result _ (
       take touched.0 c.args.work.now.report.touched.items,
-      after_stamps (g.T.Tree.files c.args.tree.now) plan c.args.work.now.report.touched.items work.changed _ _
+      after_stamps (g.T.Tree.files c.args.tree.now) plan c.args.work.now.report.touched.items work.report.changed _ _
           (is_in_take touched.0 c.args.work.now.report.touched.items)
           (subst₂ (λ xs n. Touches (take touched.0 xs) n (g.T.Tree.files c.args.tree.now) (g.T.Tree.files c.touch_all.new.tree)) c.deref.ensures.value
-          work.generation touched.1),
+          work.report.generation touched.1),
     )
 
 pub returns-in_err-replace-clause-some : goal.returns-in_err-replace-clause-some
@@ -31,7 +31,7 @@ returns-in_err-replace-clause-some g c = λ honest plan work.
     let two = g.T.Tree.files c.replace.new.tree in
     on_err c.from_residual-in_err-replace.result _ (
       c.args.work.now.report.touched.items,
-      headed (g.T.Tree.files c.args.tree.now) plan c.args.work.now.report.touched.items work.changed c.args.work.now.report.generation one two work.generation
+      headed (g.T.Tree.files c.args.tree.now) plan c.args.work.now.report.touched.items work.report.changed c.args.work.now.report.generation one two work.report.generation
           touched
           (subst₂ (λ t p. SameButBoth t p one two) c.header_temporary.ensures c.header_path.ensures (c.replace.ensures.others honest))
           (⊎_elim (λ kept. inl (subst (λ p. content two p ≡ content one p) c.header_path.ensures kept))
@@ -54,9 +54,9 @@ returns-clause-all g c = λ honest plan work.
     on_ok_map c.replace-2.result _ _ (λ made.
     let here = ap (content three) (sym c.auto_path.ensures) ∙ made ∙ text in
     record {
-      leaves = finished (g.T.Tree.files c.args.tree.now) plan c.args.work.now.report.touched.items work.changed c.args.work.now.report.generation one two
-          three work.generation touched others headed_by others_then (inr here);
-      header = header_stays (g.T.Tree.files c.args.tree.now) plan c.args.work.now.report.touched.items work.changed _ _ others_then ∙ headed_by;
+      leaves = finished (g.T.Tree.files c.args.tree.now) plan c.args.work.now.report.touched.items work.report.changed c.args.work.now.report.generation one two
+          three work.report.generation touched others headed_by others_then (inr here);
+      header = header_stays (g.T.Tree.files c.args.tree.now) plan c.args.work.now.report.touched.items work.report.changed _ _ others_then ∙ headed_by;
       auto = here;
     }) (c.replace-2.ensures.written honest)
 
@@ -74,8 +74,8 @@ returns-clause-some g c = λ honest plan work.
     let text = ap (λ b. Some b) (c.deref-3.ensures.value ∙ work.auto) in
     on_err_map c.replace-2.result _ _ (λ auto. (
       c.args.work.now.report.touched.items,
-      finished (g.T.Tree.files c.args.tree.now) plan c.args.work.now.report.touched.items work.changed c.args.work.now.report.generation one two three
-          work.generation touched others headed_by others_then
+      finished (g.T.Tree.files c.args.tree.now) plan c.args.work.now.report.touched.items work.report.changed c.args.work.now.report.generation one two three
+          work.report.generation touched others headed_by others_then
           (⊎_elim (λ kept. inl (subst (λ p. content three p ≡ content two p) c.auto_path.ensures kept))
           (λ made. inr (ap (content three) (sym c.auto_path.ensures) ∙ made ∙ text)) auto),
     )) (c.replace-2.ensures.old_or_new honest)

@@ -1,8 +1,7 @@
 use Rattle.std.proofs.Common.{◌≡◌, ◌++◌, ap, sym, ◌∙◌}
 use Rattle.std.specs.Prelude.{flat_map}
 use Rattle.std.proofs.lemmas.Grind.{flat_map-append}
-use Rattle.ks_fixdep.specs.CommandFile.{ended, generation_line}
-use Rattle.ks_fixdep.specs.CommandWriting.{back_lines}
+use Rattle.ks_fixdep.specs.CommandFile.{back_lines, ended, generation_line}
 use Rattle.ks_fixdep.proofs.CommandWriteLemmas.{back-is, then-part, on-ok}
 use Rattle.ks_fixdep.proofs.command_file.writing.push_back.Goals as goal
 

@@ -1,7 +1,7 @@
 use Rattle.std.proofs.Common.{◌≡◌, ◌++◌, ap, ◌∙◌}
 use Rattle.std.specs.Prelude.{flat_map}
-use Rattle.ks_fixdep.specs.CommandFile.{command_text, ended, generation_line, view}
-use Rattle.ks_fixdep.specs.CommandWriting.{back_lines, deps_text, front_lines}
+use Rattle.ks_fixdep.specs.CommandFile.{back_lines, command_text, ended, front_lines, generation_line, view}
+use Rattle.ks_fixdep.specs.CommandWriting.{deps_text}
 use Rattle.ks_fixdep.proofs.CommandWriteLemmas.{on-ok, text-parts, three-parts}
 use Rattle.ks_fixdep.proofs.command_file.writing.push_command.Goals as goal
 

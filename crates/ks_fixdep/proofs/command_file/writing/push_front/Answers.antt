@@ -1,7 +1,6 @@
 use Rattle.std.proofs.Common.{◌≡◌, ◌++◌, ap, ◌∙◌}
 use Rattle.std.specs.Prelude.{flat_map}
-use Rattle.ks_fixdep.specs.CommandFile.{ended}
-use Rattle.ks_fixdep.specs.CommandWriting.{front_lines}
+use Rattle.ks_fixdep.specs.CommandFile.{ended, front_lines}
 use Rattle.ks_fixdep.proofs.CommandWriteLemmas.{front-is, on-ok}
 use Rattle.ks_fixdep.proofs.command_file.writing.push_front.Goals as goal
 

@@ -1,7 +1,7 @@
 use Rattle.std.proofs.Common.{sym, ap, slice_get, ◌∙◌}
 use Rattle.ks_symbols.specs.TextMap.{value_of}
 use Rattle.ks_symbols.proofs.Paired.{value_at, value_paired}
-use Rattle.ks_symbols.proofs.text_map.TextMap.get.Goals as goal
+use Rattle.ks_symbols.proofs.text_map.TextMap.get_under.Goals as goal
 
 pub returns-in-Some : goal.returns-in-Some
 returns-in-Some g c =

@@ -3,14 +3,16 @@ use Rattle.std.proofs.Common.{◌≡◌, ◌≢◌, ℕ, zero, suc, ◌+◌, ◌
 use Rattle.std.specs.Option.{is_some}
 use Rattle.std.specs.Prelude.{Result, Ok, Err, OnErr}
 use Rattle.std.specs.List.{list_any}
-use Rattle.std.proofs.lemmas.Bool.{cases_Bool, cases_lt, cases_eq, cond-true, cond-false}
+use Rattle.std.specs.Map.{lookup}
+use Rattle.std.proofs.lemmas.Bool.{cases_Bool, cases_eq, cond-true, cond-false}
 use Rattle.std.proofs.lemmas.List.{map-append, get_or-set_same, get_or-set_other}
 use Rattle.std.specs.Cmp.Lexicographic.{bytes_decides}
 use Rattle.ks_symbols.specs.declared.texts.Span.{Span}
 use Rattle.ks_symbols.specs.declared.interner.Index.{Index}
 use Rattle.ks_symbols.specs.declared.interner.Slot.{Slot}
-use Rattle.ks_symbols.specs.Interner.{place_of, noted, free, AreOnce, text_at, EndWithin, IsMissed, Finds, FindsAll}
+use Rattle.ks_symbols.specs.Interner.{place_of, noted, hash_of, first_place, behind, slot_of, AreOnce, AreTaken, text_at, EndWithin, IsMet, Finds, FindsAll}
 use Rattle.ks_symbols.proofs.Records.{range_more, range_end}
+use Rattle.ks_symbols.proofs.OwnedKeys.{is_key}
 
 -- spans lie in more bytes too, and what they hold is the same there
 pub end_more : (n m : ℕ) (ss : List Span) → n ≤ m → EndWithin n ss → EndWithin m ss
@@ -84,57 +86,26 @@ place_any x (t ∷ ts) =
     mapped None = refl
     mapped (Some k) = refl
 
--- a search that misses a slot once a free place is taken misses it before
-module _ (slots : List Slot) (p : ℕ) (new : Slot) (within : p < length slots) (vacant : (get_or slots p free).tag ≡ 0) where
-  pub missed_before : (first stop : ℕ) (slot : Slot) → IsMissed (set slots p new) first stop slot → (s : ℕ) × IsMissed slots first s slot
-  missed_before first stop slot h = elim (cases_lt p first) [
-    | inl before ↦ same (λ q le lt. let ne : q ≢ p = omega arith in ne)
-    | inr from ↦ elim (cases_lt p stop) [
-      | inl inside ↦ (
-        p,
-        record {
-          later = from;
-          ended = inr vacant;
-          none = λ q le lt is. let ne : q ≢ p = omega arith in h.none q le (omega arith) (get_or-set_other slots p q new free ne ∙ is);
-        },
-      )
-      | inr behind ↦ same (λ q le lt. let ne : q ≢ p = omega arith in ne)
-    ]
+-- a free place that is taken: what was taken stays taken, and each slot that was met is met still
+module _ (slots : List Slot) (p : ℕ) (new : Slot) (within : p < length slots) (some : 0 < new.tag) where
+  pub taken_still : (from to : ℕ) → AreTaken slots from to → AreTaken (set slots p new) from to
+  taken_still from to taken q le lt = elim (cases_eq q p) [
+    | inl is ↦ λ none.
+        let here : (get_or (set slots p new) p behind).tag ≡ 0 = subst (λ (k : ℕ). (get_or (set slots p new) k behind).tag ≡ 0) is none in
+        let tag : new.tag ≡ 0 = ap (λ (x : Slot). x.tag) (sym (get_or-set_same slots p new behind within)) ∙ here in
+        omega arith
+    | inr ne ↦ λ none. taken q le lt (ap (λ (x : Slot). x.tag) (sym (get_or-set_other slots p q new behind ne)) ∙ none)
   ]
-    where
-      ended : (stop ≡ first + 8) ⊎ ((get_or (set slots p new) stop free).tag ≡ 0) → (stop ≡ first + 8) ⊎ ((get_or slots stop free).tag ≡ 0)
-      ended (inl end) = inl end
-      ended (inr none) = elim (cases_eq stop p) [
-        | inl is ↦ inr (subst (λ (k : ℕ). (get_or slots k free).tag ≡ 0) (sym is) vacant)
-        | inr ne ↦ inr (ap (λ (x : Slot). x.tag) (sym (get_or-set_other slots p stop new free ne)) ∙ none)
-      ]
 
-      same : ((q : ℕ) → first ≤ q → q < stop → q ≢ p) → (s : ℕ) × IsMissed slots first s slot
-      same apart = (
-        stop,
-        record {
-          later = h.later;
-          ended = ended h.ended;
-          none = λ q le lt is. h.none q le lt (get_or-set_other slots p q new free (apart q le lt) ∙ is);
-        },
-      )
-
-  -- and where the first free place of a text takes its slot, no search misses it
-  pub met : (first stop : ℕ) → 0 < new.tag → first ≤ p → p < first + 8 → ((q : ℕ) → first ≤ q → q < p → (get_or slots q free).tag ≢ 0)
-      → IsMissed (set slots p new) first stop new → ⊥
-  met first stop some le lt taken h = elim (cases_lt p stop) [
-    | inl inside ↦ h.none p le inside (get_or-set_same slots p new free within)
-    | inr behind ↦ elim h.ended [
-      | inl end ↦ omega arith
-      | inr none ↦ elim (cases_eq stop p) [
-        | inl is ↦
-            let here : (get_or (set slots p new) p free).tag ≡ 0 = subst (λ (k : ℕ). (get_or (set slots p new) k free).tag ≡ 0) is none in
-            let tag : new.tag ≡ 0 = ap (λ (x : Slot). x.tag) (sym (get_or-set_same slots p new free within)) ∙ here in
-            omega arith
-        | inr ne ↦ taken stop h.later (omega arith) (ap (λ (x : Slot). x.tag) (sym (get_or-set_other slots p stop new free ne)) ∙ none)
-      ]
-    ]
-  ]
+  pub met_still : (get_or slots p behind).tag ≡ 0 → (first : ℕ) (slot : Slot) (q : ℕ) → IsMet slots first slot q → IsMet (set slots p new) first slot q
+  met_still vacant first slot q met =
+      let ne : q ≢ p = λ is. met.taken q met.later (omega arith) (subst (λ (k : ℕ). (get_or slots k behind).tag ≡ 0) (sym is) vacant) in
+      record {
+        later = met.later;
+        near = met.near;
+        taken = taken_still first (q + 1) met.taken;
+        here = get_or-set_other slots p q new behind ne ∙ met.here;
+      }
 
 -- texts that differ
 pub apart : (x y : List ℕ) → x ≢ y → bytes_eq x y ≡ false
@@ -196,3 +167,14 @@ all_pushed ts x j all new n t h = elim (got_pushed ts x t n h) [
 -- a text that has a number is noted already
 pub noted_again : (ts : List (List ℕ)) (x : List ℕ) (n : ℕ) → place_of x ts ≡ Some n → ts ≡ noted ts x
 noted_again ts x n at = sym (cond-true (list_any (bytes_eq x) ts) ts (ts ++ x ∷ []) (sym (place_any x ts) ∙ ap is_some at))
+
+-- what holds of a table where it is lent holds of it where it stands, and for an equal hash
+pub as_seen : (P : List Slot → ℕ → Type 0) (seen slots : List Slot) (h k : ℕ) → seen ≡ slots → h ≡ k → P seen h → P slots k
+as_seen P seen slots h k same equal p = subst (P slots) equal (subst (λ (l : List Slot). P l h) same p)
+
+-- a number whose slot isn't met: the ordered map has it
+pub in_map : (index : Index) (x : List ℕ) (n : ℕ) → Finds index x n
+    → ((p : ℕ) → IsMet index.slots.items (first_place (hash_of x) (length index.slots.items)) (slot_of (hash_of x) n) p → ⊥)
+    → lookup (is_key x) index.others.entries ≡ Some n
+in_map index x n (inl met) missed = absurd (missed met.0 met.1)
+in_map index x n (inr there) missed = there.1

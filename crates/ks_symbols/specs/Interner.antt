@@ -9,6 +9,8 @@ use Rattle.std.specs.Hash.FoldHasher.{initial, write, finish}
 use Rattle.ks_symbols.specs.declared.texts.Span.{Span}
 use Rattle.ks_symbols.specs.declared.interner.Index.{Index}
 use Rattle.ks_symbols.specs.declared.interner.Slot.{Slot}
+use Rattle.ks_symbols.specs.declared.interner.Search.{Search}
+use Rattle.ks_symbols.specs.declared.interner.Search.TheVariants.{Found, Free, Full}
 
 -- the number of a text: its place in the list
 abbrev pub place_of : List ℕ → List (List ℕ) → Option ℕ
@@ -47,23 +49,49 @@ unfoldable pub first_place : ℕ → ℕ → ℕ
 first_place hash slots = bit_and hash (slots - 8)
 
 -- what stands behind the end of a table, and the slot of a number
-abbrev pub free : Slot
-free = record { number = 0; tag = 0 }
+abbrev pub behind : Slot
+behind = record { number = 0; tag = 1 }
 
 abbrev pub slot_of : ℕ → ℕ → Slot
 slot_of hash n = record { number = n; tag = tag_of hash }
 
--- A search from a first place up to a free place, or over all eight, meets no such slot.
-pub record IsMissed (slots : List Slot) (first stop : ℕ) (slot : Slot) : Type 0 where
-  pub later : first ≤ stop
-  pub ended : (stop ≡ first + 8) ⊎ ((get_or slots stop free).tag ≡ 0)
-  pub none : (p : ℕ) → first ≤ p → p < stop → get_or slots p free ≢ slot
+-- All places from one up to another, which is left out, are taken.
+abbrev pub AreTaken : List Slot → ℕ → ℕ → Type 0
+AreTaken slots from to = (p : ℕ) → from ≤ p → p < to → (get_or slots p behind).tag ≢ 0
 
--- The number n of a text is found: where the search misses it, the ordered map has it.
+-- All eight places of a hash are taken.
+abbrev pub IsFull : List Slot → ℕ → Type 0
+IsFull slots hash = AreTaken slots (first_place hash (length slots)) (first_place hash (length slots) + 8)
+
+-- A search of eight places meets a slot at one of them: that place is taken, and so are those before it.
+pub record IsMet (slots : List Slot) (first : ℕ) (slot : Slot) (place : ℕ) : Type 0 where
+  pub later : first ≤ place
+  pub near : place < first + 8
+  pub taken : AreTaken slots first (place + 1)
+  pub here : get_or slots place behind ≡ slot
+
+-- A search of the places of a hash misses a text: it meets the slot of no number that the text has.
+abbrev pub Misses : List (List ℕ) → List ℕ → List Slot → ℕ → Type 0
+Misses texts x slots hash = (n p : ℕ) → slice_get texts n ≡ Some x → IsMet slots (first_place hash (length slots)) (slot_of hash n) p → ⊥
+
+-- a fact of the number that a search has found, and one where it has found none
+abbrev pub IfFound : Search → (ℕ → Type 0) → Type 0
+IfFound (Found n) P = P n
+IfFound Free P = Unit {0}
+IfFound Full P = Unit {0}
+
+abbrev pub IfMissed : Search → Type 0 → Type 0
+IfMissed (Found n) P = Unit {0}
+IfMissed Free P = P
+IfMissed Full P = P
+
+-- The number n of a text is found: the search meets its slot; or the ordered map has it, and a slot has no room for n, or no place is free.
 abbrev pub Finds : Index → List ℕ → ℕ → Type 0
 Finds index text n =
-    (stop : ℕ) → IsMissed index.slots.items (first_place (hash_of text) (length index.slots.items)) stop (slot_of (hash_of text) n)
-    → lookup (λ k. is_eq (slice_cmp nat_cmp text k.items)) index.others.entries ≡ Some n
+    let slots = index.slots.items in
+    let hash = hash_of text in
+    ((p : ℕ) × IsMet slots (first_place hash (length slots)) (slot_of hash n) p)
+    ⊎ ((n ≤ 4294967295 → IsFull slots hash) × (lookup (λ k. is_eq (slice_cmp nat_cmp text k.items)) index.others.entries ≡ Some n))
 
 abbrev pub FindsAll : List (List ℕ) → Index → Type 0
 FindsAll texts index = (n : ℕ) → (t : List ℕ) → slice_get texts n ≡ Some t → Finds index t n

@@ -1,13 +1,14 @@
 //! Texts with numbers: each text once, in the order in which they were first noted. Names and paths come from the files
 //! that are read, so no choice of them may make a look-up slow. A text is sought at eight places of a hash table, and where
 //! these are taken by others in an ordered map. So a look-up compares at most eight texts more than the ordered map does,
-//! and texts that were made to collide cost what an ordered map costs.
+//! and texts that were made to collide cost what an ordered map costs. A look-up that meets a free place doesn't ask the map:
+//! a place once taken stays so until all are cleared, so the text would lie there.
 //!
 //! A slot of the table keeps a part of the hash beside the number of its text. So the text itself, which lies anywhere in
 //! memory, is compared only where that part is the same, and a slot has eight bytes: the places of a text are two lines of
 //! the processor's cache at most.
 ghost use Rattle.std.specs.Prelude.{◌≡◌, ◌≢◌, ◌+◌, ◌≤◌, ◌<◌, [], ℕ, List, Some, None, IfOk, IfSome, IfNone, OnOk, OnErr, length, option_map, slice_get, slice_index_or};
-ghost use Rattle.ks_symbols.specs.Interner.{place_of, noted, hash_of, tag_of, first_place, free, slot_of, AreOnce, IsMissed, Finds, FindsAll};
+ghost use Rattle.ks_symbols.specs.Interner.{place_of, noted, hash_of, tag_of, first_place, behind, slot_of, AreOnce, AreTaken, IsFull, Misses, IfFound, IfMissed, Finds, FindsAll};
 
 use crate::texts::{LentTexts, Texts};
 use std::alloc::{AllocError, Global};
@@ -64,42 +65,59 @@ struct Slot {
 
 const FREE: Slot = Slot { number: 0, tag: 0 };
 
-/// The slot at a place of a table. Behind its end all are free.
+/// What stands behind the end of a table: taken, so that no text is filed there.
+const BEHIND: Slot = Slot { number: 0, tag: 1 };
+
+/// The slot at a place of a table.
 fn slot_at(slots: &[Slot], place: usize) -> Slot
-    ensures { result ≡ slice_index_or slots.now place free }
+    ensures value { result ≡ slice_index_or slots.now place behind }
+    ensures within { result.tag ≡ 0 → place < length slots.now }
 {
     match slots.get(place) {
         Some(slot) => *slot,
-        None => FREE,
+        None => BEHIND,
     }
 }
 
-/// The number of a text with a hash, where it lies at one of its places with no free one before it.
-fn probe(slots: &[Slot], texts: &Texts, text: &[u8], hash: u64) -> Option<usize>
-    ensures found { IfSome result (λ n. slice_get texts.now n ≡ Some text.now) }
-    ensures missed { IfNone result ((n : ℕ) → slice_get texts.now n ≡ Some text.now → (stop : ℕ)
-        × IsMissed slots.now (first_place hash (length slots.now)) stop (slot_of hash n)) }
+/// What a search of the places of a text meets.
+#[derive(Clone, Copy)]
+enum Search {
+    /// The text, which has this number.
+    Found(usize),
+    /// A free place, and the text not before it.
+    Free,
+    /// Other texts at all of them.
+    Full,
+}
+
+/// Seeks a text with a hash at its places, up to a free one.
+fn probe(slots: &[Slot], texts: &Texts, text: &[u8], hash: u64) -> Search
+    ensures found { IfFound result (λ n. slice_get texts.now n ≡ Some text.now) }
+    ensures missed { IfMissed result (Misses texts.now text.now slots.now hash) }
+    ensures free { result ≡ Search.Free → IsFull slots.now hash → ⊥ }
 {
     let tag = tag_of(hash);
     let first = first_place(hash, slots.len());
     for place in first..first + PLACES {
         let slot = slot_at(slots, place);
         if slot.tag == 0 {
-            return None;
+            return Search::Free;
         }
         if slot.tag == tag && texts.is_at(slot.number as usize, text) {
-            return Some(slot.number as usize);
+            return Search::Found(slot.number as usize);
         }
     }
-    None
+    Search::Full
 }
 
 /// The first free one of the places of a text with a hash.
 fn free_place(slots: &[Slot], hash: u64) -> Option<usize>
-    ensures within { IfSome result (λ p. p < first_place hash (length slots.now) + 8) }
-    ensures free { IfSome result (λ p. (slice_index_or slots.now p free).tag ≡ 0) }
-    ensures first { IfSome result (λ p. (q : ℕ) → first_place hash (length slots.now) ≤ q → q < p → (slice_index_or slots.now q free).tag ≢ 0) }
+    ensures free { IfSome result (λ p. (slice_index_or slots.now p behind).tag ≡ 0) }
+    ensures within { IfSome result (λ p. p < length slots.now) }
     ensures later { IfSome result (λ p. first_place hash (length slots.now) ≤ p) }
+    ensures near { IfSome result (λ p. p < first_place hash (length slots.now) + 8) }
+    ensures first { IfSome result (λ p. AreTaken slots.now (first_place hash (length slots.now)) p) }
+    ensures full { IfNone result (IsFull slots.now hash) }
 {
     let first = first_place(hash, slots.len());
     for place in first..first + PLACES {
@@ -139,8 +157,8 @@ impl Index {
         ensures filed { OnOk result (Finds self.new text.now number) }
         ensures others { (t : List ℕ) → (n : ℕ) → t ≢ text.now → Finds self.old t n → Finds self.new t n }
     {
-        if let Some(place) = free_place(&self.slots, hash) {
-            if place < self.slots.len() && number <= MOST {
+        if number <= MOST {
+            if let Some(place) = free_place(&self.slots, hash) {
                 self.slots[place] = Slot {
                     number: number as u32,
                     tag: tag_of(hash),
@@ -237,8 +255,15 @@ impl Interner {
         requires { hash ≡ hash_of text.now }
         ensures { result ≡ place_of text.now self.now }
     {
-        if let Some(number) = probe(&self.index.slots, &self.texts, text, hash) {
-            return Some(number);
+        match probe(&self.index.slots, &self.texts, text, hash) {
+            Search::Found(number) => return Some(number),
+            // A text whose number no slot has room for lies in the map, whatever is free.
+            Search::Free => {
+                if self.texts.len() <= MOST {
+                    return None;
+                }
+            }
+            Search::Full => {}
         }
         let Some(number) = self.index.others.get(text) else {
             return None;

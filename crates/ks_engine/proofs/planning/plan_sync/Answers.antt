@@ -1,4 +1,4 @@
-use Rattle.std.proofs.Common.{◌⊎◌, inl, inr, refl, ⊎_elim, Err}
+use Rattle.std.proofs.Common.{inl, inr, refl, ⊎_elim}
 use Rattle.std.proofs.lemmas.Result.{err_from_is_err_and}
 use Rattle.ks_engine.specs.SyncPlan.{plan_of}
 use Rattle.ks_engine.specs.Views.{sources_of, old_of}

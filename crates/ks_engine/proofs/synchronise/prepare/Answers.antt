@@ -1,4 +1,3 @@
-use Rattle.std.proofs.Common.{IfOk}
 use Rattle.ks_engine.proofs.synchronise.prepare.Goals as goal
 
 pub returns-clause-planned : goal.returns-clause-planned

@@ -31,8 +31,8 @@ returns-in_err-replace-clause-some g c = λ honest plan work.
     let two = g.T.Tree.files c.replace.new.tree in
     on_err c.from_residual-in_err-replace.result _ (
       c.args.work.now.report.touched.items,
-      headed (g.T.Tree.files c.args.tree.now) plan c.args.work.now.report.touched.items work.report.changed c.args.work.now.report.generation one two work.report.generation
-          touched
+      headed (g.T.Tree.files c.args.tree.now) plan c.args.work.now.report.touched.items work.report.changed c.args.work.now.report.generation one two
+          work.report.generation touched
           (subst₂ (λ t p. SameButBoth t p one two) c.header_temporary.ensures c.header_path.ensures (c.replace.ensures.others honest))
           (⊎_elim (λ kept. inl (subst (λ p. content two p ≡ content one p) c.header_path.ensures kept))
           (λ made. inr (ap (content two) (sym c.header_path.ensures) ∙ made ∙ ap (λ b. Some b) (c.deref-2.ensures.value ∙ work.header)))

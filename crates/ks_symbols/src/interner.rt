@@ -25,9 +25,6 @@ const LEAST: usize = 71;
 /// The largest number that a slot has room for.
 const MOST: usize = 0xffff_ffff;
 
-/// The largest table that the next one is four times as large as, and not only twice.
-const SMALL: usize = 65543;
-
 /// The hash of a text.
 #[tactic(auto, unfolding(crate::specs::Interner::hash_of))]
 pub(crate) fn hash_of(text: &[u8]) -> u64
@@ -287,17 +284,16 @@ impl Interner {
         }
     }
 
-    /// Makes the table larger where there would be less than two slots a text: while it is small, four times, since all texts
-    /// are filed anew.
+    /// Makes the table four times as large where there would be less than two slots a text. It is not done often, since all
+    /// texts are filed anew.
     fn make_room(&mut self) -> Result<(), AllocError>
         ensures { self.new ≡ self.old }
     {
         let slots = self.index.slots.len();
         if slots / 2 <= self.texts.len() {
-            let times = if slots <= SMALL { 4 } else { 2 };
             let more = slots
-                .saturating_mul(times)
-                .saturating_sub((times - 1) * (PLACES - 1))
+                .saturating_mul(4)
+                .saturating_sub(3 * (PLACES - 1))
                 .max(LEAST);
             self.index = Index::of(self.alloc, &self.texts, more)?;
         }

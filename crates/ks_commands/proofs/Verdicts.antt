@@ -1,6 +1,5 @@
 -- What is told of objects, one after the other.
-use Rattle.std.proofs.Common.{◌≡◌, ◌∙◌, ◌<◌, ◌+◌, ◌++◌, ℕ, List, [], ◌∷◌, Result, Ok, Err, IfOk, OnOk, inl, inr, refl, sym, ap, ap₂, map, max, take, length, get_or, flat_map, append-nil, length-append, filter, ◌==◌, Option}
-use Rattle.std.specs.List.{All}
+use Rattle.std.proofs.Common.{◌≡◌, ◌∙◌, ◌<◌, ◌+◌, ◌++◌, ℕ, List, [], ◌∷◌, Result, Ok, Err, IfOk, OnOk, inl, inr, refl, sym, ap, map, max, take, length, get_or, flat_map, append-nil, length-append, filter, ◌==◌, Option}
 use Rattle.std.proofs.lemmas.List.{map-append, take_more}
 use Rattle.std.proofs.lemmas.List.Elements.{All-append, All-nil, All-cons, All-weaker, filter-append}
 use Rattle.std.proofs.lemmas.List.Sums.{fold-append}

@@ -1,5 +1,5 @@
 -- A generation that is read fits 64 bits.
-use Rattle.std.proofs.Common.{◌≡◌, ℕ, ◌<◌, ◌^◌, Bool, true, false, ◌&&◌, cond, List, [], ◌∷◌, nat_eq, nat_lt, drop, codes, reverse, slice_index, map as map_list, Option, Some, None, bytes_eq, take_while, length, sym, ap, subst, refl, ◌∙◌, arith}
+use Rattle.std.proofs.Common.{◌≡◌, ℕ, ◌<◌, ◌^◌, Bool, true, false, ◌&&◌, cond, List, [], ◌∷◌, nat_eq, nat_lt, drop, codes, reverse, slice_index, map as map_list, Option, Some, None, bytes_eq, take_while, length, sym, subst, refl, arith}
 use Rattle.std.specs.List.{starts_with, ends_with, filter_map}
 use Rattle.std.specs.Str.Parse.{digits_value}
 use Rattle.std.proofs.lemmas.Bool.{ltb-true}
@@ -12,7 +12,6 @@ use Rattle.ks_output.specs.AutoLines.{generation_mark, class_mark, spelled_class
 use Rattle.ks_output.specs.AutoConf.{number, auto_generation}
 use Rattle.ks_output.specs.Laws.{GenerationFits}
 use Rattle.ks_output.proofs.PlainTexts.{map-reverse}
-use Rattle.ks_output.proofs.WrittenLines.{and_parts}
 
 Fits : Remark → Type 0
 Fits (Numbers g) = g < 2 ^ 64

@@ -2,7 +2,6 @@
 use Rattle.std.specs.Prelude.{◌≡◌, ◌≤◌, ◌<◌, ◌^◌, ℕ, nat_eq, List, ◌++◌, codes, length, drop, find, reverse, None, IsTrue, option_map, false}
 use Rattle.std.specs.List.{starts_with}
 use Rattle.std.specs.FinMap as map
-use Rattle.ks_symbols.specs.declared.kinds.Kind.{Kind}
 use Rattle.ks_symbols.specs.Names.{is_name}
 use Rattle.ks_symbols.specs.Lines.{lines, max_bytes}
 use Rattle.ks_symbols.specs.Titles.{is_title}

@@ -1,5 +1,5 @@
 -- What the program does with its words.
-use Rattle.std.specs.Prelude.{◌≡◌, ◌⊎◌, ℕ, List, [], Option, Result, Err}
+use Rattle.std.specs.Prelude.{◌≡◌, ◌⊎◌, ℕ, List, [], Option, Err}
 use Rattle.clap.specs.Words.{Text}
 use Rattle.ks_tree.specs.declared.tree.Tree.{Ghosts}
 use Rattle.ks_engine.specs.declared.error.EngineError.TheVariants.{OutOfMemory}

@@ -1,5 +1,5 @@
 -- The number that a stamp holds, and what touching leaves. A format of this project: the usual tool's stamps are empty, and their time counts.
-use Rattle.std.specs.Prelude.{◌≡◌, ◌≢◌, ℕ, ◌<◌, ◌^◌, List, [], ◌∷◌, ◌++◌, ◌⊎◌, Option, Some, None, decimal, Bool, true, if◌then◌else◌, IsTrue, ⊤}
+use Rattle.std.specs.Prelude.{◌≡◌, ◌≢◌, ℕ, ◌<◌, ◌^◌, List, [], ◌∷◌, ◌++◌, ◌⊎◌, Option, Some, None, decimal, true, if◌then◌else◌, IsTrue, ⊤}
 use Rattle.ks_symbols.specs.Names.{is_name, is_in}
 use Rattle.ks_tree.specs.declared.fault.TreeError.{TreeError}
 use Rattle.ks_tree.specs.declared.fault.TreeError.TheVariants as error

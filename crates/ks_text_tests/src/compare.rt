@@ -3,7 +3,7 @@ ghost use Rattle.ks_output.specs.OldConfig.{HasNames};
 
 use ks_compare::changed;
 use ks_output::{OldConfig, read_auto};
-use ks_symbols::{read_dotconfig, read_kconfig};
+use ks_symbols::{Name, read_dotconfig, read_kconfig};
 use std::alloc::{AllocError, Global};
 
 const KCONFIG: &[u8] =
@@ -31,12 +31,25 @@ fn changes_by(
     let Ok(settings) = read_dotconfig(alloc, dotconfig, &symbols) else {
         return String::from_str(alloc, ".config");
     };
+    spelled(alloc, &changed(alloc, old, &settings)?)
+}
+
+/// The names, each with a space behind it.
+fn spelled(alloc: Global, changes: &[Name]) -> Result<String, AllocError> {
     let mut names = String::new(alloc);
-    for name in &changed(alloc, old, &settings)? {
+    for name in changes {
         names.push_str(&String::from_utf8_lossy(alloc, name.as_bytes())?)?;
         names.push_str(" ")?;
     }
     Ok(names)
+}
+
+/// The names that change between an auto.conf and a `.config`, or the refusal.
+fn compared(alloc: Global, auto: &[u8], dotconfig: &[u8]) -> Result<String, AllocError> {
+    match read_auto(alloc, auto) {
+        Ok(old) => changes(alloc, &old, dotconfig),
+        Err(error) => error.to_string(alloc),
+    }
 }
 
 #[test]
@@ -80,10 +93,7 @@ fn comparisons(rt: HostRuntime) -> Result<(), AllocError> {
         ("the untyped form, and nothing now", b"CONFIG_A=y\n", b"", "A "),
     ];
     for (name, auto, dotconfig, want) in rows {
-        let found = match read_auto(alloc, auto) {
-            Ok(old) => changes(alloc, &old, dotconfig)?,
-            Err(error) => error.to_string(alloc)?,
-        };
+        let found = compared(alloc, auto, dotconfig)?;
         assert!(rt; found.as_str() == want, "{name}: {found}");
     }
     Ok(())

@@ -3,8 +3,8 @@ ghost use Rattle.std.specs.Prelude.{◌<◌};
 
 use crate::golden;
 use ks_fixdep::{
-    DepError, FoundNames, Role, Scanner, SourceScan, build, build_from, names, read_depfile,
-    record_text, token_at, write_command,
+    CommandFile, DepError, FoundNames, NamesBySource, Prerequisites, Role, Scanner, SourceScan,
+    build, build_from, names, read_depfile, record_text, token_at, write_command,
 };
 use ks_symbols::{MAX_BYTES, write_decimal};
 use std::alloc::{AllocError, Global};
@@ -152,24 +152,79 @@ fn pieces_of_all_sizes_lend_the_same_names(rt: HostRuntime) -> Result<(), Fail> 
         let all = lent(rt.alloc(), pieces)?;
         assert_eq!(rt; all.as_slice(), want, "{name}");
     }
+    Ok(())
+}
+
+/// The names that a scanner lends for a text in pieces of a size.
+fn lent_in(alloc: Global, text: &[u8], size: usize) -> Result<Vec<u8>, AllocError>
+    requires { 0 < size }
+{
+    let pieces = in_pieces(alloc, text, size)?;
+    lent(alloc, &pieces)
+}
+
+/// The names of a source in pieces of a size, each once.
+fn found_in_pieces(alloc: Global, text: &[u8], size: usize) -> Result<Vec<u8>, AllocError>
+    requires { 0 < size }
+{
+    let pieces = in_pieces(alloc, text, size)?;
+    found_in(alloc, &pieces)
+}
+
+#[test]
+fn a_short_source_in_pieces(rt: HostRuntime) -> Result<(), Fail> {
     for size in [1, 7, 4096] {
-        let pieces = in_pieces(rt.alloc(), b"int CONFIG_ALPHA;", size)?;
-        let all = lent(rt.alloc(), &pieces)?;
-        assert_eq!(rt; all.as_slice(), b"ALPHA ".as_slice(), "a short source in pieces of {size}");
+        let all = lent_in(rt.alloc(), b"int CONFIG_ALPHA;", size)?;
+        assert!(rt;
+            all.as_slice() == b"ALPHA ".as_slice(),
+            "in pieces of {size}"
+        );
     }
+    Ok(())
+}
+
+#[test]
+fn names_cut_at_each_byte(rt: HostRuntime) -> Result<(), Fail> {
     for size in 1..=300usize {
-        let pieces = in_pieces(rt.alloc(), golden::BORDERS, size)?;
-        let all = lent(rt.alloc(), &pieces)?;
-        assert_eq!(rt; all.as_slice(), golden::BORDER_NAMES, "in pieces of {size}");
-        let once = found_in(rt.alloc(), &pieces)?;
-        assert_eq!(rt; once.as_slice(), golden::BORDER_NAMES_ONCE, "once, in pieces of {size}");
+        let all = lent_in(rt.alloc(), golden::BORDERS, size)?;
+        assert!(rt;
+            all.as_slice() == golden::BORDER_NAMES,
+            "in pieces of {size}"
+        );
     }
+    Ok(())
+}
+
+#[test]
+fn names_cut_at_each_byte_are_found_once(rt: HostRuntime) -> Result<(), Fail> {
+    for size in 1..=300usize {
+        let once = found_in_pieces(rt.alloc(), golden::BORDERS, size)?;
+        assert!(rt;
+            once.as_slice() == golden::BORDER_NAMES_ONCE,
+            "in pieces of {size}"
+        );
+    }
+    Ok(())
+}
+
+#[test]
+fn names_in_no_pieces(rt: HostRuntime) -> Result<(), Fail> {
     let whole = all_names(rt.alloc(), golden::BORDERS)?;
-    assert_eq!(rt; whole.as_slice(), golden::BORDER_NAMES, "in no pieces");
-    let mut text = vec![in rt.alloc(); b' '; 4093]?;
+    assert!(rt; whole.as_slice() == golden::BORDER_NAMES);
+    Ok(())
+}
+
+/// The names lent in pieces of 4096 bytes where a name begins three bytes before the end of the first.
+fn lent_over_a_border(alloc: Global) -> Result<Vec<u8>, AllocError> {
+    let mut text = vec![in alloc; b' '; 4093]?;
     text.extend_from_slice(b"CONFIG_ALPHA")?;
-    let pieces = in_pieces(rt.alloc(), &text, 4096)?;
-    assert_eq!(rt; lent(rt.alloc(), &pieces)?.as_slice(), b"ALPHA ".as_slice());
+    lent_in(alloc, &text, 4096)
+}
+
+#[test]
+fn a_name_over_a_border(rt: HostRuntime) -> Result<(), Fail> {
+    let all = lent_over_a_border(rt.alloc())?;
+    assert!(rt; all.as_slice() == b"ALPHA ".as_slice());
     Ok(())
 }
 
@@ -303,40 +358,91 @@ fn a_dependency_file_may_have_64_mebibytes(rt: HostRuntime) -> Result<(), Fail> 
     Ok(())
 }
 
-/// The text of the command file of an object, from the texts of its prerequisites; or the refusal.
-fn command_text(
+/// The names in each of these texts.
+fn scanned(alloc: Global, texts: &[&[u8]]) -> Result<NamesBySource, AllocError> {
+    let mut scan = SourceScan::new(alloc);
+    for text in texts {
+        scan.feed(text)?;
+        scan.end_source()?;
+    }
+    Ok(scan.finish())
+}
+
+fn written(alloc: Global, file: &CommandFile) -> Result<Vec<u8>, AllocError> {
+    let mut out = Vec::new(alloc);
+    write_command(file, &mut out)?;
+    Ok(out)
+}
+
+/// What stands in place of a text where there are not as many texts as prerequisites.
+const ANOTHER_NUMBER: &[u8] = b"another number of prerequisites";
+
+/// The text of a command file straight from the names.
+fn text_of_record(
+    alloc: Global,
+    read: &Prerequisites,
+    words: (&[u8], &[u8]),
+    texts: &[&[u8]],
+) -> Result<Vec<u8>, AllocError> {
+    let found = scanned(alloc, texts)?;
+    if read.len() != found.sources() {
+        return Vec::from_slice(alloc, ANOTHER_NUMBER);
+    }
+    record_text(alloc, words.0, words.1, read, &found, None)
+}
+
+/// The same by a command file that is made of the names.
+fn text_from_names(
+    alloc: Global,
+    read: Prerequisites,
+    words: (&[u8], &[u8]),
+    texts: &[&[u8]],
+) -> Result<Vec<u8>, DepError> {
+    let found = scanned(alloc, texts)?;
+    if read.len() != found.sources() {
+        return Ok(Vec::from_slice(alloc, ANOTHER_NUMBER)?);
+    }
+    let built = build_from(alloc, words.0, words.1, read, found)?;
+    Ok(written(alloc, &built)?)
+}
+
+/// The same by a command file that is made of whole texts.
+fn text_from_texts(
+    alloc: Global,
+    read: Prerequisites,
+    words: (&[u8], &[u8]),
+    texts: &[&[u8]],
+) -> Result<Vec<u8>, DepError> {
+    if read.len() != texts.len() {
+        return Ok(Vec::from_slice(alloc, ANOTHER_NUMBER)?);
+    }
+    let built = build(alloc, words.0, words.1, read, texts)?;
+    Ok(written(alloc, &built)?)
+}
+
+/// The text straight from the names of the prerequisites that a dependency file has.
+fn straight_text(
     alloc: Global,
     depfile: &[u8],
     words: (&[u8], &[u8]),
     texts: &[&[u8]],
 ) -> Result<Vec<u8>, DepError> {
     let read = read_depfile(alloc, depfile)?;
-    let mut out = Vec::new(alloc);
-    if read.len() != texts.len() {
-        out.extend_from_slice(b"another number of prerequisites")?;
-        return Ok(out);
-    }
-    let mut scan = SourceScan::new(alloc);
-    for text in texts {
-        scan.feed(text)?;
-        scan.end_source()?;
-    }
-    let found = scan.finish();
-    if read.len() != found.sources() {
-        return Ok(out);
-    }
-    let (target, command) = words;
-    let straight = record_text(alloc, target, command, &read, &found, None)?;
-    let built = build_from(alloc, target, command, read, found)?;
-    write_command(&built, &mut out)?;
-    if straight != out {
-        out.extend_from_slice(b"another straight from the names")?;
-    }
-    let whole = build(alloc, target, command, read_depfile(alloc, depfile)?, texts)?;
-    let mut again = Vec::new(alloc);
-    write_command(&whole, &mut again)?;
-    if again != out {
-        out.extend_from_slice(b"another from whole texts")?;
+    Ok(text_of_record(alloc, &read, words, texts)?)
+}
+
+/// The text of the command file of an object, from the texts of its prerequisites; or the refusal. All three ways to it agree.
+fn command_text(
+    alloc: Global,
+    depfile: &[u8],
+    words: (&[u8], &[u8]),
+    texts: &[&[u8]],
+) -> Result<Vec<u8>, DepError> {
+    let straight = straight_text(alloc, depfile, words, texts)?;
+    let out = text_from_names(alloc, read_depfile(alloc, depfile)?, words, texts)?;
+    let again = text_from_texts(alloc, read_depfile(alloc, depfile)?, words, texts)?;
+    if straight != out || again != out {
+        return Ok(Vec::from_slice(alloc, b"three ways to different texts".as_slice())?);
     }
     Ok(out)
 }

@@ -30,48 +30,101 @@ fn colliding(alloc: Global) -> Result<Vec<[u8; 8]>, AllocError> {
     Ok(made)
 }
 
+/// Notes each text twice, and says whether it had no number before, and its place as number both times.
+fn note_twice(interner: &mut Interner, made: &[[u8; 8]]) -> Result<bool, AllocError> {
+    let mut right = true;
+    for (number, text) in made.iter().enumerate() {
+        let fresh = interner.number(text).is_none();
+        if interner.note(text)? != number || interner.note(text)? != number || !fresh {
+            right = false;
+        }
+    }
+    Ok(right)
+}
+
+/// Whether an interner has these texts at their places, and lends them there.
+fn has_at_places(interner: &Interner, made: &[[u8; 8]]) -> bool {
+    let mut right = true;
+    for (number, text) in made.iter().enumerate() {
+        if interner.number(text) != Some(number) || interner.text(number) != Some(text.as_slice()) {
+            right = false;
+        }
+    }
+    right
+}
+
 #[test]
 fn texts_that_collide(rt: HostRuntime) -> Result<(), AllocError> {
-    let alloc = rt.alloc();
-    let made = colliding(alloc)?;
-    let mut interner = Interner::new(alloc);
-    for (number, text) in made.iter().enumerate() {
-        assert_eq!(rt; interner.number(text), None);
-        assert_eq!(rt; interner.note(text)?, number);
-        assert_eq!(rt; interner.note(text)?, number, "again");
-    }
-    assert_eq!(rt; interner.len(), COLLIDING);
-    for (number, text) in made.iter().enumerate() {
-        assert_eq!(rt; interner.number(text), Some(number));
-        assert!(rt; interner.text(number) == Some(text.as_slice()));
-    }
+    let made = colliding(rt.alloc())?;
+    let mut interner = Interner::new(rt.alloc());
+    assert!(rt; note_twice(&mut interner, &made)?, "noted, and again");
+    assert!(rt; interner.len() == COLLIDING && has_at_places(&interner, &made));
     Ok(())
+}
+
+const MANY: usize = 5000;
+
+/// Notes many names, and says whether each has the next number.
+fn note_many(alloc: Global, interner: &mut Interner) -> Result<bool, AllocError> {
+    let mut right = true;
+    for number in 0..MANY {
+        let name = format!(in alloc; "NAME_{number}")?;
+        if interner.note(name.as_bytes())? != number {
+            right = false;
+        }
+    }
+    Ok(right)
+}
+
+/// Whether each text that an interner lends has its place as number.
+fn order_is_kept(interner: &Interner) -> bool {
+    let mut right = true;
+    for (number, text) in interner.texts().enumerate() {
+        if interner.number(text) != Some(number) {
+            right = false;
+        }
+    }
+    right
 }
 
 #[test]
 fn many_texts(rt: HostRuntime) -> Result<(), AllocError> {
-    let alloc = rt.alloc();
-    let mut interner = Interner::new(alloc);
-    let mut map = TextMap::new(alloc);
-    for number in 0..5000usize {
+    let mut interner = Interner::new(rt.alloc());
+    assert!(rt; note_many(rt.alloc(), &mut interner)?, "growth");
+    assert!(rt; interner.note(b"NAME_77")? == 77 && order_is_kept(&interner));
+    interner.clear();
+    assert!(rt; interner.len() == 0 && interner.number(b"NAME_77").is_none());
+    assert_eq!(rt; interner.note(b"NAME_9")?, 0, "anew");
+    Ok(())
+}
+
+/// Puts many names into a map, each with its number.
+fn push_many(alloc: Global, map: &mut TextMap<usize>) -> Result<(), AllocError> {
+    for number in 0..MANY {
         let name = format!(in alloc; "NAME_{number}")?;
-        assert_eq!(rt; interner.note(name.as_bytes())?, number, "growth");
         if map.get(name.as_bytes()).is_none() {
             map.push(name.as_bytes(), number)?;
         }
     }
-    assert_eq!(rt; interner.note(b"NAME_77")?, 77);
-    assert!(rt; map.get(b"NAME_78") == Some(&78) && map.get(b"NAME_").is_none());
-    assert_eq!(rt; map.len(), 5000);
-    assert!(rt; map.get_at(79).is_some() && map.get_at(5000).is_none());
-    for (number, text) in interner.texts().enumerate() {
-        assert_eq!(rt; interner.number(text), Some(number), "order kept");
-    }
-    assert_eq!(rt; map.entries().count(), 5000);
-    interner.clear();
+    Ok(())
+}
+
+/// Whether a map has the many names, and no others.
+fn has_many(map: &TextMap<usize>) -> bool {
+    map.get(b"NAME_78") == Some(&78)
+        && map.get(b"NAME_").is_none()
+        && map.len() == MANY
+        && map.get_at(79).is_some()
+        && map.get_at(MANY).is_none()
+        && map.entries().count() == MANY
+}
+
+#[test]
+fn many_texts_with_values(rt: HostRuntime) -> Result<(), AllocError> {
+    let mut map = TextMap::new(rt.alloc());
+    push_many(rt.alloc(), &mut map)?;
+    assert!(rt; has_many(&map));
     map.clear();
-    assert_eq!(rt; interner.len() + map.len(), 0);
-    assert!(rt; interner.number(b"NAME_77").is_none() && map.get(b"NAME_77").is_none());
-    assert_eq!(rt; interner.note(b"NAME_9")?, 0, "anew");
+    assert!(rt; map.len() == 0 && map.get(b"NAME_77").is_none());
     Ok(())
 }

@@ -106,36 +106,71 @@ fn files_of_other_kinds(rt: HostRuntime) -> Result<(), AllocError> {
     Ok(())
 }
 
-/// What an auto.conf says, entry by entry and then its generation, or the refusal.
-fn said(alloc: Global, auto: &[u8]) -> Result<String, AllocError> {
-    let old = match read_auto(alloc, auto) {
-        Ok(old) => old,
-        Err(error) => return error.to_string(alloc),
-    };
+/// What stands between a name and its text.
+fn mark_of(class: Option<Class>) -> &'static str {
+    match class {
+        None => "=",
+        Some(Class::Switch) => ":switch=",
+        Some(Class::Text) => ":string=",
+        Some(Class::Int) => ":int=",
+        Some(Class::Hex) => ":hex=",
+    }
+}
+
+fn push_bytes(alloc: Global, whole: &mut String, bytes: &[u8]) -> Result<(), AllocError> {
+    whole.push_str(&String::from_utf8_lossy(alloc, bytes)?)
+}
+
+fn push_entry(
+    alloc: Global,
+    whole: &mut String,
+    name: &[u8],
+    mark: &str,
+    text: &[u8],
+) -> Result<(), AllocError> {
+    push_bytes(alloc, whole, name)?;
+    whole.push_str(mark)?;
+    push_bytes(alloc, whole, text)?;
+    whole.push_str(" ")
+}
+
+/// The entries of an old configuration that its look-ups confirm.
+fn entries_said(alloc: Global, old: &OldConfig) -> Result<String, AllocError> {
     let mut whole = String::new(alloc);
     for (name, class, text) in old.entries() {
         if old.get(name).is_some() && old.class(name) == class {
-            whole.push_str(&String::from_utf8_lossy(alloc, name)?)?;
-            whole.push_str(match class {
-                None => "=",
-                Some(Class::Switch) => ":switch=",
-                Some(Class::Text) => ":string=",
-                Some(Class::Int) => ":int=",
-                Some(Class::Hex) => ":hex=",
-            })?;
-            whole.push_str(&String::from_utf8_lossy(alloc, text)?)?;
-            whole.push_str(" ")?;
+            push_entry(alloc, &mut whole, name, mark_of(class), text)?;
         }
     }
-    whole.push_str(&format!(in alloc; "#{}", old.generation())?)?;
     Ok(whole)
+}
+
+fn config_said(alloc: Global, old: &OldConfig) -> Result<String, AllocError> {
+    let entries = entries_said(alloc, old)?;
+    format!(in alloc; "{entries}#{}", old.generation())
+}
+
+/// What an auto.conf says, entry by entry and then its generation, or the refusal.
+fn said(alloc: Global, auto: &[u8]) -> Result<String, AllocError> {
+    match read_auto(alloc, auto) {
+        Ok(old) => config_said(alloc, &old),
+        Err(error) => error.to_string(alloc),
+    }
+}
+
+fn is_empty(old: &OldConfig) -> bool {
+    old.generation() == 0 && old.get(b"A").is_none() && old.class(b"A").is_none()
+}
+
+#[test]
+fn no_auto_conf_yet(rt: HostRuntime) {
+    let none = OldConfig::empty(rt.alloc());
+    assert!(rt; is_empty(&none));
 }
 
 #[test]
 fn readings(rt: HostRuntime) -> Result<(), AllocError> {
     let alloc = rt.alloc();
-    let none = OldConfig::empty(alloc);
-    assert!(rt; none.generation() == 0 && none.get(b"A").is_none() && none.class(b"A").is_none());
     #[rattlefmt::skip]
     let rows: [(&str, &[u8], &str); 22] = [
         ("an empty text", b"", "#0"),

@@ -1,8 +1,8 @@
 //! Kconfig and `.config` texts as they stand in files, what is read of them, and the rules of names, paths, values and lines.
 use ks_symbols::{
-    Kind, Name, Path, SourceError, Statement, is_silent, name_is_legal, parse_statement,
-    path_is_legal, read_decimal, read_dotconfig, read_kconfig, target_is_legal, value_is_valid,
-    write_decimal,
+    Kind, Name, Path, Settings, SourceError, Statement, Symbols, is_silent, name_is_legal,
+    parse_statement, path_is_legal, read_decimal, read_dotconfig, read_kconfig, target_is_legal,
+    value_is_valid, write_decimal,
 };
 use std::alloc::{AllocError, Global};
 
@@ -30,25 +30,46 @@ fn kconfig_outcome(alloc: Global, text: &[u8], name: &[u8]) -> Result<String, Al
     }
 }
 
-/// The entries in order, and the number of unknown lines, as the two texts give them, or the refusal.
-fn dotconfig_outcome(alloc: Global, kconfig: &[u8], text: &[u8]) -> Result<String, AllocError> {
-    let symbols = match read_kconfig(alloc, kconfig) {
-        Err(error) => return error.to_string(alloc),
-        Ok(symbols) => symbols,
-    };
-    let settings = match read_dotconfig(alloc, text, &symbols) {
-        Err(error) => return error.to_string(alloc),
-        Ok(settings) => settings,
-    };
+fn push_bytes(alloc: Global, all: &mut String, bytes: &[u8]) -> Result<(), AllocError> {
+    all.push_str(&String::from_utf8_lossy(alloc, bytes)?)
+}
+
+fn push_entry(
+    alloc: Global,
+    all: &mut String,
+    name: &[u8],
+    value: &[u8],
+) -> Result<(), AllocError> {
+    push_bytes(alloc, all, name)?;
+    all.push_str("=")?;
+    push_bytes(alloc, all, value)?;
+    all.push_str(" ")
+}
+
+/// The entries in order, and the number of unknown lines.
+fn spelled(alloc: Global, settings: &Settings) -> Result<String, AllocError> {
     let mut all = String::new(alloc);
     for (name, _, value) in settings.entries() {
-        all.push_str(&String::from_utf8_lossy(alloc, name)?)?;
-        all.push_str("=")?;
-        all.push_str(&String::from_utf8_lossy(alloc, value)?)?;
-        all.push_str(" ")?;
+        push_entry(alloc, &mut all, name, value)?;
     }
-    let unknown = settings.unknown();
-    format!(in alloc; "{all}unknown {unknown}")
+    all.push_str(&format!(in alloc; "unknown {}", settings.unknown())?)?;
+    Ok(all)
+}
+
+/// What a `.config` says of these symbols, or the refusal.
+fn settings_outcome(alloc: Global, symbols: &Symbols, text: &[u8]) -> Result<String, AllocError> {
+    match read_dotconfig(alloc, text, symbols) {
+        Err(error) => error.to_string(alloc),
+        Ok(settings) => spelled(alloc, &settings),
+    }
+}
+
+/// What the two texts say, or the refusal.
+fn dotconfig_outcome(alloc: Global, kconfig: &[u8], text: &[u8]) -> Result<String, AllocError> {
+    match read_kconfig(alloc, kconfig) {
+        Err(error) => error.to_string(alloc),
+        Ok(symbols) => settings_outcome(alloc, &symbols, text),
+    }
 }
 
 #[test]

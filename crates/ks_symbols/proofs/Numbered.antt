@@ -9,8 +9,8 @@ use Rattle.std.proofs.lemmas.List.{map-append, get_or-set_same, get_or-set_other
 use Rattle.std.specs.Cmp.Lexicographic.{bytes_decides}
 use Rattle.ks_symbols.specs.declared.texts.Span.{Span}
 use Rattle.ks_symbols.specs.declared.interner.Index.{Index}
-use Rattle.ks_symbols.specs.declared.interner.Slot.{Slot}
-use Rattle.ks_symbols.specs.Interner.{place_of, noted, hash_of, first_place, behind, slot_of, AreOnce, AreTaken, text_at, EndWithin, IsMet, Finds, FindsAll}
+use Rattle.ks_symbols.specs.declared.slots.Slot.{Slot}
+use Rattle.ks_symbols.specs.Interner.{place_of, noted, hash_of, first_place, behind, slot_of, slots_of, AreOnce, AreTaken, text_at, EndWithin, IsMet, Finds, FindsAll}
 use Rattle.ks_symbols.proofs.Records.{range_more, range_end}
 use Rattle.ks_symbols.proofs.OwnedKeys.{is_key}
 
@@ -85,6 +85,26 @@ place_any x (t ∷ ts) =
     mapped : (o : Option ℕ) → is_some (option_map suc o) ≡ is_some o
     mapped None = refl
     mapped (Some k) = refl
+
+-- slots whose tags and numbers stand side by side
+pub slots_length : (ts ns : List ℕ) → length ts ≡ length ns → length (slots_of ts ns) ≡ length ts
+slots_length [] ns same = refl
+slots_length (t ∷ ts) [] same = absurd (cc)
+slots_length (t ∷ ts) (n ∷ ns) same = ap suc (slots_length ts ns (omega (arith, same)))
+
+pub slots_get : (ts ns : List ℕ) (p : ℕ) → length ts ≡ length ns → get_or (slots_of ts ns) p behind ≡ record { number = get_or ns p 0; tag = get_or ts p 1 }
+slots_get [] [] p same = refl
+slots_get [] (n ∷ ns) p same = absurd (cc)
+slots_get (t ∷ ts) [] p same = absurd (cc)
+slots_get (t ∷ ts) (n ∷ ns) zero same = refl
+slots_get (t ∷ ts) (n ∷ ns) (suc p) same = slots_get ts ns p (omega (arith, same))
+
+pub slots_set : (ts ns : List ℕ) (p : ℕ) (s : Slot) → slots_of (set ts p s.tag) (set ns p s.number) ≡ set (slots_of ts ns) p s
+slots_set [] ns p s = refl
+slots_set (t ∷ ts) [] zero s = refl
+slots_set (t ∷ ts) [] (suc p) s = refl
+slots_set (t ∷ ts) (n ∷ ns) zero s = refl
+slots_set (t ∷ ts) (n ∷ ns) (suc p) s = ap (λ (l : List Slot). record { number = n; tag = t } ∷ l) (slots_set ts ns p s)
 
 -- a free place that is taken: what was taken stays taken, and each slot that was met is met still
 module _ (slots : List Slot) (p : ℕ) (new : Slot) (within : p < length slots) (some : 0 < new.tag) where
@@ -168,13 +188,9 @@ all_pushed ts x j all new n t h = elim (got_pushed ts x t n h) [
 pub noted_again : (ts : List (List ℕ)) (x : List ℕ) (n : ℕ) → place_of x ts ≡ Some n → ts ≡ noted ts x
 noted_again ts x n at = sym (cond-true (list_any (bytes_eq x) ts) ts (ts ++ x ∷ []) (sym (place_any x ts) ∙ ap is_some at))
 
--- what holds of a table where it is lent holds of it where it stands, and for an equal hash
-pub as_seen : (P : List Slot → ℕ → Type 0) (seen slots : List Slot) (h k : ℕ) → seen ≡ slots → h ≡ k → P seen h → P slots k
-as_seen P seen slots h k same equal p = subst (P slots) equal (subst (λ (l : List Slot). P l h) same p)
-
 -- a number whose slot isn't met: the ordered map has it
 pub in_map : (index : Index) (x : List ℕ) (n : ℕ) → Finds index x n
-    → ((p : ℕ) → IsMet index.slots.items (first_place (hash_of x) (length index.slots.items)) (slot_of (hash_of x) n) p → ⊥)
+    → ((p : ℕ) → IsMet index.slots (first_place (hash_of x) (length index.slots)) (slot_of (hash_of x) n) p → ⊥)
     → lookup (is_key x) index.others.entries ≡ Some n
 in_map index x n (inl met) missed = absurd (missed met.0 met.1)
 in_map index x n (inr there) missed = there.1

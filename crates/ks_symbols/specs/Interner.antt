@@ -8,7 +8,7 @@ use Rattle.std.specs.Cmp.Lexicographic.{slice_cmp}
 use Rattle.std.specs.Hash.FoldHasher.{initial, write, finish}
 use Rattle.ks_symbols.specs.declared.texts.Span.{Span}
 use Rattle.ks_symbols.specs.declared.interner.Index.{Index}
-use Rattle.ks_symbols.specs.declared.interner.Slot.{Slot}
+use Rattle.ks_symbols.specs.declared.slots.Slot.{Slot}
 use Rattle.ks_symbols.specs.declared.interner.Search.{Search}
 use Rattle.ks_symbols.specs.declared.interner.Search.TheVariants.{Found, Free, Full}
 
@@ -43,10 +43,15 @@ unfoldable pub hash_of : List ℕ → ℕ
 hash_of text = finish (write initial text)
 
 unfoldable pub tag_of : ℕ → ℕ
-tag_of hash = max (hash / 2 ^ 32) 1
+tag_of hash = max (hash / 2 ^ 56) 1
 
 unfoldable pub first_place : ℕ → ℕ → ℕ
 first_place hash slots = bit_and hash (slots - 8)
+
+-- the slots whose tags and numbers stand side by side
+abbrev pub slots_of : List ℕ → List ℕ → List Slot
+slots_of (t ∷ ts) (n ∷ ns) = record { number = n; tag = t } ∷ slots_of ts ns
+slots_of ts ns = []
 
 -- what stands behind the end of a table, and the slot of a number
 abbrev pub behind : Slot
@@ -88,7 +93,7 @@ IfMissed Full P = P
 -- The number n of a text is found: the search meets its slot; or the ordered map has it, and a slot has no room for n, or no place is free.
 abbrev pub Finds : Index → List ℕ → ℕ → Type 0
 Finds index text n =
-    let slots = index.slots.items in
+    let slots = index.slots in
     let hash = hash_of text in
     ((p : ℕ) × IsMet slots (first_place hash (length slots)) (slot_of hash n) p)
     ⊎ ((n ≤ 4294967295 → IsFull slots hash) × (lookup (λ k. is_eq (slice_cmp nat_cmp text k.items)) index.others.entries ≡ Some n))

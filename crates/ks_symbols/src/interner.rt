@@ -5,11 +5,11 @@
 //! a place once taken stays so until all are cleared, so the text would lie there.
 //!
 //! A slot of the table keeps a part of the hash beside the number of its text. So the text itself, which lies anywhere in
-//! memory, is compared only where that part is the same, and a slot has eight bytes: the places of a text are two lines of
-//! the processor's cache at most.
+//! memory, is compared only where that part is the same.
 ghost use Rattle.std.specs.Prelude.{◌≡◌, ◌≢◌, ◌+◌, ◌≤◌, ◌<◌, [], ℕ, List, Some, None, IfOk, IfSome, IfNone, OnOk, OnErr, length, option_map, slice_get, slice_index_or};
 ghost use Rattle.ks_symbols.specs.Interner.{place_of, noted, hash_of, tag_of, first_place, behind, slot_of, AreOnce, AreTaken, IsFull, Misses, IfFound, IfMissed, Finds, FindsAll};
 
+use crate::slots::{Slot, Slots};
 use crate::texts::{LentTexts, Texts};
 use std::alloc::{AllocError, Global};
 use std::collections::BTreeMap;
@@ -37,11 +37,11 @@ pub(crate) fn hash_of(text: &[u8]) -> u64
 
 /// The part of a hash that a slot keeps. The low bits say its place already. It is never 0, which marks a free slot.
 #[tactic(auto, unfolding(crate::specs::Interner::tag_of))]
-fn tag_of(hash: u64) -> u32
+fn tag_of(hash: u64) -> u8
     ensures value { result ≡ tag_of hash }
     ensures some { 0 < result }
 {
-    ((hash >> 32) as u32).max(1)
+    ((hash >> 56) as u8).max(1)
 }
 
 /// The first of the places of a text with a hash, in a table of so many slots.
@@ -51,29 +51,6 @@ fn first_place(hash: u64, slots: usize) -> usize
     ensures bound { result ≤ slots }
 {
     hash as usize & slots.saturating_sub(PLACES)
-}
-
-/// A place of the table: the number of a text and the tag of its hash, or free, where the tag is 0.
-#[derive(Clone, Copy)]
-struct Slot {
-    number: u32,
-    tag: u32,
-}
-
-const FREE: Slot = Slot { number: 0, tag: 0 };
-
-/// What stands behind the end of a table: taken, so that no text is filed there.
-const BEHIND: Slot = Slot { number: 0, tag: 1 };
-
-/// The slot at a place of a table.
-fn slot_at(slots: &[Slot], place: usize) -> Slot
-    ensures value { result ≡ slice_index_or slots.now place behind }
-    ensures within { result.tag ≡ 0 → place < length slots.now }
-{
-    match slots.get(place) {
-        Some(slot) => *slot,
-        None => BEHIND,
-    }
 }
 
 /// What a search of the places of a text meets.
@@ -88,7 +65,7 @@ enum Search {
 }
 
 /// Seeks a text with a hash at its places, up to a free one.
-fn probe(slots: &[Slot], texts: &Texts, text: &[u8], hash: u64) -> Search
+fn probe(slots: &Slots, texts: &Texts, text: &[u8], hash: u64) -> Search
     ensures found { IfFound result (λ n. slice_get texts.now n ≡ Some text.now) }
     ensures missed { IfMissed result (Misses texts.now text.now slots.now hash) }
     ensures free { result ≡ Search.Free → IsFull slots.now hash → ⊥ }
@@ -96,19 +73,22 @@ fn probe(slots: &[Slot], texts: &Texts, text: &[u8], hash: u64) -> Search
     let tag = tag_of(hash);
     let first = first_place(hash, slots.len());
     for place in first..first + PLACES {
-        let slot = slot_at(slots, place);
-        if slot.tag == 0 {
+        let there = slots.tag(place);
+        if there == 0 {
             return Search::Free;
         }
-        if slot.tag == tag && texts.is_at(slot.number as usize, text) {
-            return Search::Found(slot.number as usize);
+        if there == tag {
+            let number = slots.number(place) as usize;
+            if texts.is_at(number, text) {
+                return Search::Found(number);
+            }
         }
     }
     Search::Full
 }
 
 /// The first free one of the places of a text with a hash.
-fn free_place(slots: &[Slot], hash: u64) -> Option<usize>
+fn free_place(slots: &Slots, hash: u64) -> Option<usize>
     ensures free { IfSome result (λ p. (slice_index_or slots.now p behind).tag ≡ 0) }
     ensures within { IfSome result (λ p. p < length slots.now) }
     ensures later { IfSome result (λ p. first_place hash (length slots.now) ≤ p) }
@@ -118,7 +98,7 @@ fn free_place(slots: &[Slot], hash: u64) -> Option<usize>
 {
     let first = first_place(hash, slots.len());
     for place in first..first + PLACES {
-        if slot_at(slots, place).tag == 0 {
+        if slots.tag(place) == 0 {
             return Some(place);
         }
     }
@@ -129,7 +109,7 @@ fn free_place(slots: &[Slot], hash: u64) -> Option<usize>
 #[derive(Drop)]
 struct Index {
     /// The hash table.
-    slots: Vec<Slot>,
+    slots: Slots,
     /// What found no free place in it.
     others: BTreeMap<Vec<u8>, usize>,
 }
@@ -137,7 +117,7 @@ struct Index {
 impl Index {
     fn new(alloc: Global) -> Index {
         Index {
-            slots: Vec::new(alloc),
+            slots: Slots::new(alloc),
             others: BTreeMap::new(alloc),
         }
     }
@@ -156,10 +136,9 @@ impl Index {
     {
         if number <= MOST {
             if let Some(place) = free_place(&self.slots, hash) {
-                self.slots[place] = Slot {
-                    number: number as u32,
-                    tag: tag_of(hash),
-                };
+                let tag = tag_of(hash);
+                let number = number as u32;
+                self.slots.put(place, Slot { number, tag });
                 return Ok(());
             }
         }
@@ -174,7 +153,7 @@ impl Index {
         ensures { IfOk result (λ index. FindsAll texts.now index) }
     {
         let mut index = Index {
-            slots: vec![in alloc; FREE; slots]?,
+            slots: Slots::free(alloc, slots)?,
             others: BTreeMap::new(alloc),
         };
         for number in 0..texts.len() {

@@ -12,6 +12,7 @@ mod laws;
 mod limits;
 mod names;
 mod settings;
+mod slots;
 mod statements;
 mod symbols;
 mod table;

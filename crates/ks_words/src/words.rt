@@ -89,6 +89,15 @@ fn targets(alloc: Global, matches: &ArgMatches<'_>) -> Result<Targets, AllocErro
     Ok(Targets { words, from })
 }
 
+fn sync_request(alloc: Global, matches: &ArgMatches<'_>) -> Result<Request, AllocError>
+    ensures { IfOk result (IsRequestOf (codes "sync") (rows_of (found_of matches.now))) }
+{
+    Ok(Request::Sync {
+        kconfig: word(alloc, matches, "KCONFIG")?,
+        dotconfig: word(alloc, matches, "DOTCONFIG")?,
+    })
+}
+
 fn preview_request(alloc: Global, matches: &ArgMatches<'_>) -> Result<Request, AllocError>
     ensures { IfOk result (IsRequestOf (codes "preview") (rows_of (found_of matches.now))) }
 {
@@ -99,6 +108,44 @@ fn preview_request(alloc: Global, matches: &ArgMatches<'_>) -> Result<Request, A
         kconfig,
         dotconfig,
         old,
+    })
+}
+
+fn diff_request(alloc: Global, matches: &ArgMatches<'_>) -> Result<Request, AllocError>
+    ensures { IfOk result (IsRequestOf (codes "diff") (rows_of (found_of matches.now))) }
+{
+    Ok(Request::Diff {
+        kconfig: word(alloc, matches, "KCONFIG")?,
+        dotconfig: word(alloc, matches, "DOTCONFIG")?,
+    })
+}
+
+fn fixdep_request(alloc: Global, matches: &ArgMatches<'_>) -> Result<Request, AllocError>
+    ensures { IfOk result (IsRequestOf (codes "fixdep") (rows_of (found_of matches.now))) }
+{
+    Ok(Request::Fixdep {
+        depfile: word(alloc, matches, "DEPFILE")?,
+        target: word(alloc, matches, "TARGET")?,
+        command: word(alloc, matches, "COMMAND")?,
+    })
+}
+
+fn record_request(alloc: Global, matches: &ArgMatches<'_>) -> Result<Request, AllocError>
+    ensures { IfOk result (IsRequestOf (codes "record") (rows_of (found_of matches.now))) }
+{
+    Ok(Request::Record {
+        depfile: word(alloc, matches, "DEPFILE")?,
+        target: word(alloc, matches, "TARGET")?,
+        command: word(alloc, matches, "COMMAND")?,
+    })
+}
+
+fn outdated_request(alloc: Global, matches: &ArgMatches<'_>) -> Result<Request, AllocError>
+    ensures { IfOk result (IsRequestOf (codes "outdated") (rows_of (found_of matches.now))) }
+{
+    Ok(Request::Outdated {
+        target: word(alloc, matches, "TARGET")?,
+        command: word(alloc, matches, "COMMAND")?,
     })
 }
 
@@ -117,31 +164,14 @@ fn request_named(alloc: Global, name: &str, matches: &ArgMatches<'_>) -> Result<
     ensures { IfOk result (IsRequestOf name.now (rows_of (found_of matches.now))) }
 {
     match name {
-        "sync" => Ok(Request::Sync {
-            kconfig: word(alloc, matches, "KCONFIG")?,
-            dotconfig: word(alloc, matches, "DOTCONFIG")?,
-        }),
+        "sync" => sync_request(alloc, matches),
         "preview" => preview_request(alloc, matches),
-        "diff" => Ok(Request::Diff {
-            kconfig: word(alloc, matches, "KCONFIG")?,
-            dotconfig: word(alloc, matches, "DOTCONFIG")?,
-        }),
-        "fixdep" => Ok(Request::Fixdep {
-            depfile: word(alloc, matches, "DEPFILE")?,
-            target: word(alloc, matches, "TARGET")?,
-            command: word(alloc, matches, "COMMAND")?,
-        }),
-        "record" => Ok(Request::Record {
-            depfile: word(alloc, matches, "DEPFILE")?,
-            target: word(alloc, matches, "TARGET")?,
-            command: word(alloc, matches, "COMMAND")?,
-        }),
+        "diff" => diff_request(alloc, matches),
+        "fixdep" => fixdep_request(alloc, matches),
+        "record" => record_request(alloc, matches),
+        "outdated" => outdated_request(alloc, matches),
         "batch" => Ok(Request::Batch {
             script: word(alloc, matches, "SCRIPT")?,
-        }),
-        "outdated" => Ok(Request::Outdated {
-            target: word(alloc, matches, "TARGET")?,
-            command: word(alloc, matches, "COMMAND")?,
         }),
         "why" => Ok(Request::Why {
             targets: targets(alloc, matches)?,

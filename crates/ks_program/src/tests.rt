@@ -11,6 +11,7 @@ mod golden;
 mod refusals;
 mod scripts;
 mod texts;
+mod words;
 
 /// One thing done to a tree: words that are run, a file that is put there, or one that is read.
 #[derive(Clone, Copy, Debug)]
@@ -80,4 +81,13 @@ fn world(rt: &impl Abort, alloc: Global) -> Result<MemoryTree, Fail> {
     let mut tree = MemoryTree::new(alloc);
     play(rt, alloc, &mut tree, golden::INPUTS)?;
     Ok(tree)
+}
+
+/// Plays each list of steps over a tree of its own.
+fn play_each(rt: &impl Abort, alloc: Global, lists: &[&[(Step<'_>, &str)]]) -> Result<(), Fail> {
+    for steps in lists {
+        let mut tree = world(rt, alloc)?;
+        play(rt, alloc, &mut tree, steps)?;
+    }
+    Ok(())
 }

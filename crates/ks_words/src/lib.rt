@@ -11,6 +11,3 @@ mod words;
 pub use explanation::explain;
 pub use laws::{batch_words, preview_words};
 pub use words::{WordsError, request_of};
-
-#[cfg(test)]
-mod tests;

@@ -1,7 +1,7 @@
 //! The refusals of a whole command: nothing on the output, a line on standard error, behind it one that says where, and
 //! nothing changed.
 use super::golden::AUTO;
-use super::{Step, play, told, world};
+use super::{Step, play, play_each, told, world};
 use ks_tree::{FuseMode, FuseTree, Tree};
 use std::test::Fail;
 
@@ -107,11 +107,11 @@ const FAILING_TREE: &[(Step<'_>, &str)] = &[
 
 #[test]
 fn whole_commands_refused(rt: HostRuntime) -> Result<(), Fail> {
-    for steps in [SYNC_AND_PREVIEW, FIXDEP_AND_RECORD, SCRIPTS] {
-        let mut tree = world(&rt, rt.alloc())?;
-        play(&rt, rt.alloc(), &mut tree, steps)?;
-    }
-    Ok(())
+    play_each(
+        &rt,
+        rt.alloc(),
+        &[SYNC_AND_PREVIEW, FIXDEP_AND_RECORD, SCRIPTS],
+    )
 }
 
 #[test]

@@ -1,5 +1,5 @@
 //! Scripts: a change and a change back, refused lines, and lines that ask for nothing.
-use super::{Step, play, world};
+use super::{Step, play_each};
 use std::test::Fail;
 
 const CHANGE_AND_BACK: &str = "sync K2 c1
@@ -41,33 +41,43 @@ x.o stale no-command-file
 sync generation 1 touched 2 unknown 0
 ";
 
-#[test]
 #[rattlefmt::skip]
-fn scripts(rt: HostRuntime) -> Result<(), Fail> {
-    let rows: [(&str, &str); 5] = [
-        (CHANGE_AND_BACK, CHANGE_AND_BACK_TOLD),
-        (REFUSED_LINES, REFUSED_LINES_TOLD),
-        ("# nothing\n\n#\n", "0 "),
-        ("", "0 "),
-        ("sync K1 c1\r\nrecord x.d x.o cc  -c x.c\nstale x.o", "0 sync generation 1 touched 2 unknown 0\nrecord x.o generation 1 names 3\nx.o fresh\n"),
-    ];
-    for (script, want) in rows {
-        let mut tree = world(&rt, rt.alloc())?;
-        play(&rt, rt.alloc(), &mut tree, &[(Step::Put("script", script), "done"), (Step::Words(&["batch", "script"]), want)])?;
-    }
-    Ok(())
-}
+const CHANGES: &[(Step<'_>, &str)] = &[
+    (Step::Put("script", CHANGE_AND_BACK), "done"),
+    (Step::Words(&["batch", "script"]), CHANGE_AND_BACK_TOLD),
+];
+
+#[rattlefmt::skip]
+const REFUSALS: &[(Step<'_>, &str)] = &[
+    (Step::Put("script", REFUSED_LINES), "done"),
+    (Step::Words(&["batch", "script"]), REFUSED_LINES_TOLD),
+];
+
+#[rattlefmt::skip]
+const QUIET_LINES: &[(Step<'_>, &str)] = &[
+    (Step::Put("script", "# nothing\n\n#\n"), "done"),
+    (Step::Words(&["batch", "script"]), "0 "),
+    (Step::Put("script", ""), "done"),
+    (Step::Words(&["batch", "script"]), "0 "),
+    (Step::Put("script", "sync K1 c1\r\nrecord x.d x.o cc  -c x.c\nstale x.o"), "done"),
+    (Step::Words(&["batch", "script"]), "0 sync generation 1 touched 2 unknown 0\nrecord x.o generation 1 names 3\nx.o fresh\n"),
+];
 
 /// The command of a record is the rest of its line, and may be empty.
-#[test]
 #[rattlefmt::skip]
-fn an_empty_command(rt: HostRuntime) -> Result<(), Fail> {
-    let mut tree = world(&rt, rt.alloc())?;
-    play(&rt, rt.alloc(), &mut tree, &[
-        (Step::Words(&["sync", "K1", "c1"]), "0 generation 1\ntouch A\ntouch B\nunknown 0\n"),
-        (Step::Put("y.d", "y.o: c1\n"), "done"),
-        (Step::Put("script", "record y.d y.o \n"), "done"),
-        (Step::Words(&["batch", "script"]), "0 record y.o generation 1 names 2\n"),
-        (Step::Read(".y.o.cmd"), "savedcmd_y.o := \n\nsource_y.o := c1\n\ndeps_y.o := \\\n    $(wildcard include/config/A) \\\n    $(wildcard include/config/B) \\\n\ny.o: $(deps_y.o)\n\n$(deps_y.o):\n#generation 1\n"),
-    ])
+const EMPTY_COMMAND: &[(Step<'_>, &str)] = &[
+    (Step::Words(&["sync", "K1", "c1"]), "0 generation 1\ntouch A\ntouch B\nunknown 0\n"),
+    (Step::Put("y.d", "y.o: c1\n"), "done"),
+    (Step::Put("script", "record y.d y.o \n"), "done"),
+    (Step::Words(&["batch", "script"]), "0 record y.o generation 1 names 2\n"),
+    (Step::Read(".y.o.cmd"), "savedcmd_y.o := \n\nsource_y.o := c1\n\ndeps_y.o := \\\n    $(wildcard include/config/A) \\\n    $(wildcard include/config/B) \\\n\ny.o: $(deps_y.o)\n\n$(deps_y.o):\n#generation 1\n"),
+];
+
+#[test]
+fn scripts(rt: HostRuntime) -> Result<(), Fail> {
+    play_each(
+        &rt,
+        rt.alloc(),
+        &[CHANGES, REFUSALS, QUIET_LINES, EMPTY_COMMAND],
+    )
 }

@@ -1,5 +1,9 @@
-//! Which request the words make, and which words are refused.
-use super::*;
+//! Which request the words make, and which words are refused. What help and the version print, tests/main holds against
+//! the built program.
+use super::{Step, told};
+use ks_tree::MemoryTree;
+use ks_words::request_of;
+use std::test::Fail;
 
 #[test]
 #[rattlefmt::skip]
@@ -47,6 +51,7 @@ fn words_are_taken_as_meant(rt: HostRuntime) -> Result<(), Fail> {
 #[rattlefmt::skip]
 fn words_that_are_no_command(rt: HostRuntime) -> Result<(), Fail> {
     let alloc = rt.alloc();
+    let mut tree = MemoryTree::new(alloc);
     let rows: [(&str, &[&str]); 26] = [
         ("no words", &[]),
         ("another command", &["bogus"]),
@@ -76,26 +81,8 @@ fn words_that_are_no_command(rt: HostRuntime) -> Result<(), Fail> {
         ("outdated of three", &["outdated", "x.o", "cc", "x.c"]),
     ];
     for (name, words) in rows {
-        assert!(rt; matches!(request_of(alloc, words), Err(WordsError::Refused(_))), "{name}");
-        let found = explained(alloc, words)?;
-        assert_eq!(rt; (found.status, found.out.as_str()), (2, ""), "{name}");
-        assert!(rt; found.err.starts_with("error: "), "{name}");
-    }
-    Ok(())
-}
-
-/// Its help in place of an answer, and not on the output.
-#[test]
-fn a_question_about_nothing(rt: HostRuntime) -> Result<(), Fail> {
-    let alloc = rt.alloc();
-    let help = explained(alloc, &["help", "stale"])?;
-    let rows: [&[&str]; 2] = [&["stale"], &["stale", "--"]];
-    for words in rows {
-        let found = explained(alloc, words)?;
-        assert_eq!(rt;
-            (found.status, found.out.as_str(), found.err.as_str()),
-            (2, "", help.out.as_str())
-        );
+        let found = told(alloc, &mut tree, Step::Words(words))?;
+        assert!(rt; found.starts_with("2 error: "), "{name}: {found}");
     }
     Ok(())
 }

@@ -3,8 +3,9 @@
 
        fuzz PROGRAM SEED CASES [SECONDS]
 
-   A case is a tree and up to four commands over it. The same seed makes the same cases. The folder is the current one, and
-   is emptied. At the first difference the case is left there and told, status 1. */
+   A case is a tree and some commands over it: up to four at random, or the story of a build, so that objects are recorded
+   and symbols change behind their records. The same seed makes the same cases. The folder is the current one, and is emptied.
+   At the first difference the case is left there and told, status 1. */
 #define _GNU_SOURCE
 #include "model.h"
 
@@ -51,6 +52,14 @@ static bool one_in(size_t count)
     return below(count) == 0;
 }
 
+/* Whether the case is the story of a build, where faults are rarer. */
+static bool is_build;
+
+static bool is_fault(size_t one_of)
+{
+    return one_in(is_build ? 8 * one_of : one_of);
+}
+
 #define PICK(table) (table)[below(sizeof(table) / sizeof *(table))]
 
 /* Texts made at random: mostly what a reader takes, with some faults. */
@@ -86,9 +95,9 @@ static const char *value(void)
 static const char *value_of_kind(size_t kind)
 {
     static const char *const fitting[][4] = {
-        {"y", "n", "y", "y"}, {"y", "m", "n", "m"}, {"\"\"", "\"s\"", "\"n\"", "\"a\\\"b\\\\\""}, {"0", "-1", "77", "10"}, {"0x1f", "1F", "0", "10"},
+        {"y", "n", "y", "y"}, {"y", "m", "n", "m"}, {"\"\"", "\"y\"", "\"n\"", "\"a\\\"b\\\\\""}, {"0", "-1", "77", "10"}, {"0x1f", "1F", "0", "10"},
     };
-    return one_in(30) ? value() : fitting[kind][below(4)];
+    return is_fault(30) ? value() : fitting[kind][below(4)];
 }
 
 /* Changes a byte, cuts off the end, or doubles a part. */
@@ -119,7 +128,7 @@ static Bytes damaged(Bytes text)
 static Bytes perhaps_damaged(Text *text, size_t one_of)
 {
     Bytes made = of_text(text);
-    while (one_in(one_of))
+    while (is_fault(one_of))
         made = damaged(made);
     return made;
 }
@@ -142,7 +151,7 @@ static Bytes made_kconfig(void)
         if (one_in(3))
             kind_of_name[i] = below(5);
         size_t kind = kind_of_name[i];
-        add_text(&text, "%s%s%s%s", one_in(5) ? "menuconfig" : "config", one_in(9) ? "\t" : " ", one_in(200) ? name() : names[i], line_end());
+        add_text(&text, "%s%s%s%s", one_in(5) ? "menuconfig" : "config", one_in(9) ? "\t" : " ", is_fault(200) ? name() : names[i], line_end());
         if (kind < 2 && one_in(6))
             add_text(&text, "\tdef_%s %c", kinds[kind], "ymn"[below(3)]);
         else
@@ -161,7 +170,7 @@ static Bytes made_dotconfig(void)
             add_text(&text, "# CONFIG_%s is not set%s", names[which], line_end());
         else if (one_in(15))
             add_text(&text, "%s%s", one_in(3) ? "# a comment" : "", line_end());
-        else if (one_in(15))
+        else if (is_fault(15))
             add_text(&text, "CONFIG_%s=%s%s", name(), value(), line_end());
         else
             add_text(&text, "CONFIG_%s=%s%s", names[which], value_of_kind(kind_of_name[which]), line_end());
@@ -209,10 +218,10 @@ static const char *const odd_paths[] = {"none.h", "d", "x.c/y", "a$b.h", "includ
 static Bytes made_depfile(void)
 {
     Text text = {0};
-    if (!one_in(30))
+    if (!is_fault(30))
         add_text(&text, "x.o:");
-    for (size_t count = below(8) + !one_in(20); count > 0; count--)
-        add_text(&text, "%s%s", one_in(5) ? " \\\n " : " ", one_in(12) ? PICK(odd_paths) : PICK(sources));
+    for (size_t count = below(8) + !is_fault(20); count > 0; count--)
+        add_text(&text, "%s%s", one_in(5) ? " \\\n " : " ", is_fault(12) ? PICK(odd_paths) : PICK(sources));
     if (one_in(4))
         add_text(&text, "\ny.o: %s %s", PICK(sources), PICK(sources));
     add_text(&text, "%s", line_end());
@@ -271,6 +280,14 @@ static Bytes made_script(void)
     return perhaps_damaged(&text, 10);
 }
 
+static Bytes made_list(void)
+{
+    Text text = {0};
+    for (size_t count = below(5); count > 0; count--)
+        add_text(&text, "%s%s", one_in(8) ? "" : target(), line_end());
+    return perhaps_damaged(&text, 10);
+}
+
 static void put_text(Tree *tree, const char *path, Bytes bytes)
 {
     put(tree, bytes_of(path), bytes);
@@ -297,10 +314,11 @@ static Tree made_tree(void)
     put_text(&tree, "c2", made_dotconfig());
     put_text(&tree, "x.d", made_depfile());
     put_text(&tree, "script", made_script());
+    put_text(&tree, "list", made_list());
     for (size_t i = 0; i < 5; i++)
-        if (!one_in(40))
+        if (!is_fault(40))
             put_text(&tree, sources[i], made_source());
-    if (one_in(3))
+    if (is_fault(3))
         put_text(&tree, "include/config/auto.conf", made_auto());
     if (one_in(2)) {
         const char *of = PICK(targets);
@@ -311,7 +329,7 @@ static Tree made_tree(void)
         add_text(&path, "include/config/%s", PICK(names));
         put(&tree, of_text(&path), bytes_of(stamps[one_in(8) ? below(10) : below(5)]));
     }
-    if (one_in(40))
+    if (is_fault(40))
         take_away(&tree, tree.files[below(tree.count)].path);
     return tree;
 }
@@ -335,46 +353,109 @@ static const char *file_word(const char *usual)
     return one_in(40) ? PICK(odd_paths) : usual;
 }
 
+static void words_of_record(Command *made, const char *command_word)
+{
+    word(made, command_word);
+    word(made, file_word("x.d"));
+    word(made, target());
+    word(made, command());
+}
+
+/* `sync`, or what tells of one before it: its two files. */
+static void words_of_sync(Command *made, const char *command_word)
+{
+    word(made, command_word);
+    word(made, file_word(one_in(4) ? "K2" : "Kconfig"));
+    word(made, file_word(one_in(3) ? "c2" : ".config"));
+}
+
+static void words_of_preview(Command *made)
+{
+    word(made, "preview");
+    word(made, file_word("Kconfig"));
+    word(made, file_word(".config"));
+    if (one_in(2))
+        word(made, file_word("include/config/auto.conf"));
+}
+
+static void word_from(Command *made)
+{
+    word(made, "--from");
+    word(made, file_word("list"));
+}
+
+/* Up to three targets, and perhaps a file of targets in front of them or behind them. */
+static void objects(Command *made)
+{
+    bool has_file = one_in(3), is_in_front = one_in(2);
+    if (has_file && is_in_front)
+        word_from(made);
+    for (size_t count = below(3) + !has_file; count > 0; count--)
+        word(made, target());
+    if (has_file && !is_in_front)
+        word_from(made);
+}
+
+/* `stale` or `why`, `impact` or `diff`. */
+static Command made_question(void)
+{
+    Command made = {.count = 0};
+    switch (below(6)) {
+    case 0:
+        words_of_sync(&made, "diff");
+        break;
+    case 1:
+        words_of_sync(&made, "impact");
+        objects(&made);
+        break;
+    default:
+        word(&made, one_in(2) ? "stale" : "why");
+        objects(&made);
+    }
+    return made;
+}
+
 static Command made_command(void)
 {
     Command made = {.count = 0};
-    switch (below(10)) {
+    switch (below(13)) {
     case 0:
     case 1:
-        word(&made, "sync");
-        word(&made, file_word(one_in(4) ? "K2" : "Kconfig"));
-        word(&made, file_word(one_in(3) ? "c2" : ".config"));
+        words_of_sync(&made, "sync");
         break;
     case 2:
-        word(&made, "preview");
-        word(&made, file_word("Kconfig"));
-        word(&made, file_word(".config"));
-        if (one_in(2))
-            word(&made, file_word("include/config/auto.conf"));
+        words_of_preview(&made);
         break;
     case 3:
     case 4:
     case 5:
-        word(&made, one_in(3) ? "fixdep" : "record");
-        word(&made, file_word("x.d"));
-        word(&made, target());
-        word(&made, command());
+        words_of_record(&made, one_in(3) ? "fixdep" : "record");
         break;
     case 6:
-    case 7:
-        word(&made, "stale");
-        for (size_t count = 1 + below(3); count > 0; count--)
-            word(&made, target());
-        break;
-    case 8:
         word(&made, "outdated");
         word(&made, target());
         word(&made, command());
         break;
-    default:
+    case 7:
         word(&made, "batch");
         word(&made, file_word("script"));
+        break;
+    default:
+        return made_question();
     }
+    return made;
+}
+
+/* A step of a build: it is configured, objects are recorded, it is configured anew, and then asked about. */
+static Command made_step(size_t step)
+{
+    Command made = {.count = 0};
+    if (step == 0 || step == 3)
+        words_of_sync(&made, "sync");
+    else if (step < 3)
+        words_of_record(&made, "record");
+    else
+        return made_question();
     return made;
 }
 
@@ -575,11 +656,13 @@ static bool run_case(uint64_t seed, uint64_t number, uint64_t *runs)
     state = seed ^ (number * 0xd1342543de82ef95);
     forget_all();
     empty_folder();
+    is_build = one_in(3);
     Tree tree = made_tree();
     for (size_t i = 0; i < tree.count; i++)
         write_file(tree.files[i].path, tree.files[i].bytes);
-    for (size_t count = 1 + below(4); count > 0; count--) {
-        Command command = made_command();
+    size_t count = is_build ? 5 + below(3) : 1 + below(4);
+    for (size_t step = 0; step < count; step++) {
+        Command command = is_build ? made_step(step) : made_command();
         ++*runs;
         if (!agrees(&tree, &command)) {
             fprintf(stderr, "fuzz: seed %llu, case %llu\n", (unsigned long long)seed, (unsigned long long)number);

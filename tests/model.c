@@ -826,8 +826,8 @@ static Fault read_depfile(Bytes text, Prerequisites *list)
 }
 
 typedef struct {
-    Bytes target, command;
-    Names names;
+    Bytes target, command, place; /* the last listed file so far, or the source */
+    Names names, places;          /* each name, and the place that it stands behind */
     bool has_generation;
     uint64_t generation;
 } CommandFile;
@@ -876,7 +876,8 @@ static bool fits(Bytes line, int *step, CommandFile *file)
         add_text(&source, "source_");
         add(&source, file->target);
         add_text(&source, " := ");
-        return line.length > source.length && memcmp(line.at, source.at, source.length) == 0 && is_path(from(line, source.length));
+        file->place = line.length > source.length ? from(line, source.length) : (Bytes){NULL, 0};
+        return is_path(file->place) && memcmp(line.at, source.at, source.length) == 0;
     case 4:
         ++*step;
         return is_line(line, "deps_", file->target, " := \\");
@@ -887,9 +888,10 @@ static bool fits(Bytes line, int *step, CommandFile *file)
         }
         if (between(line, "    $(wildcard include/config/", ") \\", &middle) && is_name(middle)) {
             note(&file->names, middle);
+            note(&file->places, file->place);
             return true;
         }
-        return between(line, "  ", " \\", &middle) && is_path(middle);
+        return between(line, "  ", " \\", &file->place) && is_path(file->place);
     case 6:
         ++*step;
         add(&source, file->target);
@@ -1214,9 +1216,39 @@ static Fault record(Tree *tree, Bytes depfile, Bytes target, Bytes command, uint
     return none;
 }
 
-/* What is said behind the target: `fresh`, or `stale` and why, or `command-differs`. `command` is NULL for `stale`. */
-static Fault verdict_of(const Tree *tree, Bytes target, const Bytes *command, Bytes *verdict)
+/* What is asked of an object: `stale`, `why`, or `outdated` with a command. */
+typedef struct {
+    bool asks_why;
+    const Bytes *command; /* or NULL */
+} Question;
+
+/* The first name that changed since the record, and the lines of all that did. Where nobody asks why, no stamp is read behind
+   the first. */
+static Fault changes_since(const Tree *tree, const CommandFile *file, bool asks_why, Bytes *first, Text *causes)
 {
+    uint64_t stamp;
+    for (size_t i = 0; i < file->names.count; i++) {
+        Bytes name = file->names.names[i];
+        Fault found = read_stamp(tree, name, &stamp);
+        if (refused(found))
+            return found;
+        if (stamp <= file->generation)
+            continue;
+        if (first->length == 0)
+            *first = name;
+        if (!asks_why)
+            return none;
+        add(causes, joined("  ", name, ""));
+        add_text(causes, " generation %" PRIu64, stamp);
+        add(causes, joined(" ", file->places.names[i], "\n"));
+    }
+    return none;
+}
+
+/* What is said behind the target: `fresh`, or `stale` and why, or `command-differs`; and the lines below it. */
+static Fault verdict_of(const Tree *tree, Bytes target, Question question, Bytes *verdict, Text *causes)
+{
+    const Bytes *command = question.command;
     if (!is_target(target))
         return fault("21 BadPath token 0");
     if (command && !is_command(*command))
@@ -1224,7 +1256,7 @@ static Fault verdict_of(const Tree *tree, Bytes target, const Bytes *command, By
     Bytes text;
     bool is_there;
     CommandFile file;
-    uint64_t generation, stamp;
+    uint64_t generation;
     Fault found = read_file(tree, command_path(target), &text, &is_there);
     *verdict = bytes_of("stale no-command-file");
     if (refused(found) || !is_there)
@@ -1242,14 +1274,10 @@ static Fault verdict_of(const Tree *tree, Bytes target, const Bytes *command, By
     *verdict = bytes_of("stale generation-ahead");
     if (refused(found) || file.generation > generation)
         return found;
-    for (size_t i = 0; i < file.names.count; i++) {
-        found = read_stamp(tree, file.names.names[i], &stamp);
-        *verdict = joined("stale ", file.names.names[i], "");
-        if (refused(found) || stamp > file.generation)
-            return found;
-    }
-    *verdict = bytes_of("fresh");
-    return none;
+    Bytes first = {NULL, 0};
+    found = changes_since(tree, &file, question.asks_why, &first, causes);
+    *verdict = first.length ? joined("stale ", first, "") : bytes_of("fresh");
+    return found;
 }
 
 static Answer refusal(Fault found)
@@ -1257,17 +1285,23 @@ static Answer refusal(Fault found)
     return (Answer){2, {NULL, 0}, joined("confstamp: ", found.text, "\n")};
 }
 
-/* A line for a target, and the status that the answers so far come to. */
-static void answer_target(const Tree *tree, Bytes target, const Bytes *command, Text *output, int *status)
+/* The lines for a target, and the status that the answers so far come to. Returns whether it is stale. */
+static bool answer_target(const Tree *tree, Bytes target, Question question, Text *output, int *status)
 {
     Bytes verdict;
-    Fault found = verdict_of(tree, target, command, &verdict);
+    Text causes = {0};
+    Fault found = verdict_of(tree, target, question, &verdict, &causes);
+    bool is_stale = !refused(found) && !is_text(verdict, "fresh");
     add(output, target);
     add(output, refused(found) ? joined(" refused ", found.text, "\n") : joined(" ", verdict, "\n"));
-    if (refused(found))
+    if (refused(found)) {
         *status = 2;
-    else if (!is_text(verdict, "fresh") && *status == 0)
+        return false;
+    }
+    add(output, of_text(&causes));
+    if (is_stale && *status == 0)
         *status = 1;
+    return is_stale;
 }
 
 static Fault load_all(const Tree *tree, const Bytes *paths, size_t count, Bytes *texts)
@@ -1351,13 +1385,136 @@ static Answer run_record(Tree *tree, const Bytes *words)
     return (Answer){0, of_text(&output), {NULL, 0}};
 }
 
-static Answer run_questions(const Tree *tree, const Bytes *targets, size_t count, const Bytes *command)
+/* Takes `--from FILE` out of the words. Returns whether it was there. */
+static bool take_from(Bytes *words, size_t *count, Bytes *path)
+{
+    for (size_t i = 0; i + 1 < *count; i++)
+        if (is_text(words[i], "--from")) {
+            *path = words[i + 1];
+            *count -= 2;
+            memmove(words + i, words + i + 2, (*count - i) * sizeof *words);
+            return true;
+        }
+    return false;
+}
+
+/* The targets among the words, and behind them the lines of the file that aren't empty. */
+static Fault targets_of(const Tree *tree, const Bytes *words, size_t count, const Bytes *path, Names *targets)
+{
+    Bytes text;
+    for (size_t i = 0; i < count; i++)
+        note(targets, words[i]);
+    if (!path)
+        return none;
+    Fault found = load_all(tree, path, 1, &text);
+    if (refused(found))
+        return found;
+    Lines lines = lines_of(text);
+    while (next_line(&lines))
+        if (lines.line.length)
+            note(targets, lines.line);
+    return none;
+}
+
+/* The answers over a tree, each on its lines; and how many objects are stale. */
+static Answer answer_all(const Tree *tree, const Names *targets, Question question, size_t *stale)
 {
     Text output = {0};
     int status = 0;
-    for (size_t i = 0; i < count; i++)
-        answer_target(tree, targets[i], command, &output, &status);
+    *stale = 0;
+    for (size_t i = 0; i < targets->count; i++)
+        *stale += answer_target(tree, targets->names[i], question, &output, &status);
     return (Answer){status, of_text(&output), {NULL, 0}};
+}
+
+static Answer run_questions(const Tree *tree, Bytes *words, size_t count, bool asks_why)
+{
+    Bytes path;
+    Names targets = {0};
+    size_t stale;
+    bool has_file = take_from(words, &count, &path);
+    Fault found = targets_of(tree, words, count, has_file ? &path : NULL, &targets);
+    return refused(found) ? refusal(found) : answer_all(tree, &targets, (Question){asks_why, NULL}, &stale);
+}
+
+static Answer run_outdated(const Tree *tree, const Bytes *words)
+{
+    Names targets = {0};
+    size_t stale;
+    note(&targets, words[0]);
+    return answer_all(tree, &targets, (Question){false, &words[1]}, &stale);
+}
+
+/* What `stale` says of a copy of the tree, behind a `sync` in it. */
+static Answer run_impact(const Tree *tree, Bytes *words, size_t count)
+{
+    Bytes path, texts[2];
+    Plan plan;
+    Names targets = {0};
+    size_t stale;
+    bool has_file = take_from(words, &count, &path);
+    Tree behind = copy_of_tree(tree);
+    Fault found = load_all(tree, words, 2, texts);
+    if (!refused(found))
+        found = synchronise(&behind, texts[0], texts[1], &plan);
+    if (!refused(found))
+        found = targets_of(tree, words + 2, count - 2, has_file ? &path : NULL, &targets);
+    if (refused(found))
+        return refusal(found);
+    Answer answer = answer_all(&behind, &targets, (Question){false, NULL}, &stale);
+    Text error = {0};
+    add_text(&error, "%zu of %zu stale\n", stale, targets.count);
+    answer.error = of_text(&error);
+    return answer;
+}
+
+/* What a name has in an auto.conf: `n` where it has nothing. */
+static Bytes shown_value(const Symbol *entry)
+{
+    Text text = {0};
+    if (!entry)
+        return bytes_of("n");
+    if (entry->kind != STRING)
+        return entry->text;
+    add_quoted(&text, entry->text);
+    return of_text(&text);
+}
+
+static const char *class_word(Kind kind)
+{
+    Kind class = class_of(kind);
+    return class == NO_KIND ? "untyped" : class == TRISTATE ? "bool/tristate" : kind_words[class];
+}
+
+static void add_difference(Text *output, Bytes name, const Symbol *old, const Symbol *new)
+{
+    add(output, joined("", name, " "));
+    add(output, joined("", shown_value(old), " -> "));
+    add(output, shown_value(new));
+    if (old && new && same(old->text, new->text))
+        add_text(output, " (%s -> %s)", class_word(old->kind), class_word(new->kind));
+    add_text(output, "\n");
+}
+
+static Answer run_diff(const Tree *tree, const Bytes *words)
+{
+    Bytes texts[2];
+    Plan plan;
+    Old old;
+    Text output = {0};
+    Tree behind = copy_of_tree(tree);
+    Fault found = load_all(tree, words, 2, texts);
+    if (!refused(found))
+        found = synchronise(&behind, texts[0], texts[1], &plan);
+    if (!refused(found))
+        found = read_old(tree, &old);
+    if (refused(found))
+        return refusal(found);
+    for (size_t i = 0; i < plan.count; i++) {
+        Bytes name = plan.touched[i];
+        add_difference(&output, name, symbol_named(&old.entries, name), symbol_named(&plan.settings, name));
+    }
+    return (Answer){0, of_text(&output), {NULL, 0}};
 }
 
 /* A line of a script: its command and its words. */
@@ -1467,13 +1624,13 @@ static Answer run_batch(Tree *tree, Bytes script)
     int status = 0;
     for (size_t i = 0; i < count; i++)
         if (steps[i].command == STALE)
-            answer_target(tree, steps[i].words[0], NULL, &output, &status);
+            answer_target(tree, steps[i].words[0], (Question){false, NULL}, &output, &status);
         else
             run_step(tree, &steps[i], texts[i], &output, &status);
     return (Answer){status, of_text(&output), {NULL, 0}};
 }
 
-static Answer run_command(Tree *tree, const Bytes *words, size_t count)
+static Answer run_command(Tree *tree, Bytes *words, size_t count)
 {
     if (is_text(words[0], "sync") && count == 3)
         return run_sync(tree, words + 1);
@@ -1483,10 +1640,14 @@ static Answer run_command(Tree *tree, const Bytes *words, size_t count)
         return run_fixdep(tree, words + 1);
     if (is_text(words[0], "record") && count == 4)
         return run_record(tree, words + 1);
-    if (is_text(words[0], "stale") && count >= 2)
-        return run_questions(tree, words + 1, count - 1, NULL);
+    if (is_text(words[0], "diff") && count == 3)
+        return run_diff(tree, words + 1);
+    if ((is_text(words[0], "stale") || is_text(words[0], "why")) && count >= 2)
+        return run_questions(tree, words + 1, count - 1, is_text(words[0], "why"));
+    if (is_text(words[0], "impact") && count >= 3)
+        return run_impact(tree, words + 1, count - 1);
     if (is_text(words[0], "outdated") && count == 3)
-        return run_questions(tree, words + 1, 1, words + 2);
+        return run_outdated(tree, words + 1);
     if (is_text(words[0], "batch") && count == 2)
         return run_batch(tree, words[1]);
     fputs("model: words that it doesn't know\n", stderr);
@@ -1536,7 +1697,9 @@ static const char lost_numbers[] = "confstamp: auto.conf has lost its generation
 Answer run_words(Tree *tree, const Bytes *words, size_t count)
 {
     bool is_lost = synchronises(tree, words, count) && numbers_are_lost(tree);
-    Answer answer = run_command(tree, words, count);
+    Bytes *own = keep((count + 1) * sizeof *own);
+    memcpy(own, words, count * sizeof *own);
+    Answer answer = run_command(tree, own, count);
     if (is_lost)
         answer.error = joined(lost_numbers, answer.error, "");
     return answer;

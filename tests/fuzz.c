@@ -52,10 +52,11 @@ static bool one_in(size_t count)
     return below(count) == 0;
 }
 
-/* Whether the case is the story of a build, where faults are rarer. */
+/* Whether the case is the story of a build. */
 static bool is_build;
 
-static bool is_fault(size_t one_of)
+/* One in so many; in the story of a build in eight times as many, so that most of it goes well. */
+static bool rarely(size_t one_of)
 {
     return one_in(is_build ? 8 * one_of : one_of);
 }
@@ -97,7 +98,7 @@ static const char *value_of_kind(size_t kind)
     static const char *const fitting[][4] = {
         {"y", "n", "y", "y"}, {"y", "m", "n", "m"}, {"\"\"", "\"y\"", "\"n\"", "\"a\\\"b\\\\\""}, {"0", "-1", "77", "10"}, {"0x1f", "1F", "0", "10"},
     };
-    return is_fault(30) ? value() : fitting[kind][below(4)];
+    return rarely(30) ? value() : fitting[kind][below(4)];
 }
 
 /* Changes a byte, cuts off the end, or doubles a part. */
@@ -128,7 +129,7 @@ static Bytes damaged(Bytes text)
 static Bytes perhaps_damaged(Text *text, size_t one_of)
 {
     Bytes made = of_text(text);
-    while (is_fault(one_of))
+    while (rarely(one_of))
         made = damaged(made);
     return made;
 }
@@ -151,7 +152,7 @@ static Bytes made_kconfig(void)
         if (one_in(3))
             kind_of_name[i] = below(5);
         size_t kind = kind_of_name[i];
-        add_text(&text, "%s%s%s%s", one_in(5) ? "menuconfig" : "config", one_in(9) ? "\t" : " ", is_fault(200) ? name() : names[i], line_end());
+        add_text(&text, "%s%s%s%s", one_in(5) ? "menuconfig" : "config", one_in(9) ? "\t" : " ", rarely(200) ? name() : names[i], line_end());
         if (kind < 2 && one_in(6))
             add_text(&text, "\tdef_%s %c", kinds[kind], "ymn"[below(3)]);
         else
@@ -170,7 +171,7 @@ static Bytes made_dotconfig(void)
             add_text(&text, "# CONFIG_%s is not set%s", names[which], line_end());
         else if (one_in(15))
             add_text(&text, "%s%s", one_in(3) ? "# a comment" : "", line_end());
-        else if (is_fault(15))
+        else if (rarely(15))
             add_text(&text, "CONFIG_%s=%s%s", name(), value(), line_end());
         else
             add_text(&text, "CONFIG_%s=%s%s", names[which], value_of_kind(kind_of_name[which]), line_end());
@@ -218,10 +219,10 @@ static const char *const odd_paths[] = {"none.h", "d", "x.c/y", "a$b.h", "includ
 static Bytes made_depfile(void)
 {
     Text text = {0};
-    if (!is_fault(30))
+    if (!rarely(30))
         add_text(&text, "x.o:");
-    for (size_t count = below(8) + !is_fault(20); count > 0; count--)
-        add_text(&text, "%s%s", one_in(5) ? " \\\n " : " ", is_fault(12) ? PICK(odd_paths) : PICK(sources));
+    for (size_t count = below(8) + !rarely(20); count > 0; count--)
+        add_text(&text, "%s%s", one_in(5) ? " \\\n " : " ", rarely(12) ? PICK(odd_paths) : PICK(sources));
     if (one_in(4))
         add_text(&text, "\ny.o: %s %s", PICK(sources), PICK(sources));
     add_text(&text, "%s", line_end());
@@ -316,9 +317,9 @@ static Tree made_tree(void)
     put_text(&tree, "script", made_script());
     put_text(&tree, "list", made_list());
     for (size_t i = 0; i < 5; i++)
-        if (!is_fault(40))
+        if (!rarely(40))
             put_text(&tree, sources[i], made_source());
-    if (is_fault(3))
+    if (rarely(3))
         put_text(&tree, "include/config/auto.conf", made_auto());
     if (one_in(2)) {
         const char *of = PICK(targets);
@@ -329,7 +330,7 @@ static Tree made_tree(void)
         add_text(&path, "include/config/%s", PICK(names));
         put(&tree, of_text(&path), bytes_of(stamps[one_in(8) ? below(10) : below(5)]));
     }
-    if (is_fault(40))
+    if (rarely(40))
         take_away(&tree, tree.files[below(tree.count)].path);
     return tree;
 }
@@ -396,7 +397,7 @@ static void objects(Command *made)
         word_from(made);
 }
 
-/* `stale` or `why`, `impact` or `diff`. */
+/* What writes nothing: `stale` or `why`, `impact` or `diff`. */
 static Command made_question(void)
 {
     Command made = {.count = 0};

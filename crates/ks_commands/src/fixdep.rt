@@ -11,7 +11,7 @@ ghost use Rattle.ks_engine.specs.Refusals.{Answers};
 ghost use Rattle.ks_commands.specs.Fixdep.{command_file_at};
 
 use ks_engine::{EngineError, scan_all};
-use ks_fixdep::{command_is_legal, read_depfile, record_text};
+use ks_fixdep::{Seed, command_is_legal, read_depfile_by, record_text};
 use ks_requests::read_given;
 use ks_symbols::{path_is_legal, target_is_legal};
 use ks_tree::Tree;
@@ -46,7 +46,7 @@ pub(crate) fn command_file_text<T: Tree>(
 {
     check_words(depfile, target, command)?;
     let text = read_given(alloc, tree, depfile)?;
-    let prerequisites = read_depfile(alloc, &text)?;
+    let prerequisites = read_depfile_by(alloc, Seed::new(tree.seed()), &text)?;
     let found = scan_all(alloc, tree, &prerequisites)?;
     let lines = record_text(alloc, target, command, &prerequisites, &found, None)?;
     Ok(lines)

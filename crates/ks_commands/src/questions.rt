@@ -14,6 +14,7 @@ ghost use Rattle.ks_commands.specs.Performed.{EndsAll, EndsImpact, EndsOutdated,
 ghost use Rattle.ks_commands.specs.Questions.{counted_of, tells_of};
 
 use ks_engine::{EngineError, Explanation, Impact, Memo, Verdict, explain_by, outdated, stale_by};
+use ks_fixdep::Seed;
 use ks_requests::{
     Count, Outcome, Refusal, Status, Targets, all_targets, build_status, lent, read_targets,
     stale_of, texts_at, verdict_status, worse, write_build_line, write_explanation,
@@ -129,7 +130,7 @@ fn ask_all<T: Tree>(
         × (o.count ≡ counted_of question.now stale (length (map (λ t. t.now) targets.now)))) }
 {
     let mut text = Vec::new(alloc);
-    let mut memo = Memo::new(alloc);
+    let mut memo = Memo::with_seed(alloc, Seed::new(tree.seed()));
     let mut status = Status::Done;
     let mut stale = 0;
     for target in targets {

@@ -13,7 +13,7 @@ use Rattle.ks_fixdep.specs.declared.command_file.Dep.TheVariants.{File, Config}
 use Rattle.ks_fixdep.specs.declared.dependency_file.Role.{Role}
 use Rattle.ks_fixdep.specs.declared.dependency_file.Role.TheVariants as role
 use Rattle.ks_fixdep.specs.CommandFile.{CommandRecord, is_dep, IsLegal}
-use Rattle.ks_symbols.specs.Interner.{noted}
+use Rattle.ks_fixdep.specs.FoundNames.{noted}
 use Rattle.ks_fixdep.specs.FoundNames.{all_noted}
 use Rattle.ks_fixdep.specs.Record.{config_names, new_names, deps_after, source_of, record_of}
 use Rattle.ks_tree.specs.Files.{Files, content}

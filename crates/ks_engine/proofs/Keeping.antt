@@ -1,17 +1,21 @@
 -- What is kept of a tree: what a look-up finds holds of the files, and what is added does.
-use Rattle.std.proofs.Common.{◌≡◌, ◌≢◌, ◌⊎◌, inl, inr, true≢false, is_some, ℕ, zero, suc, slice_get, true, false, List, [], ◌∷◌, ◌++◌, Some, refl, ap, sym, ◌∙◌, subst, if◌then◌else◌, bytes_eq}
+use Rattle.std.proofs.Common.{◌≡◌, ◌≢◌, ◌⊎◌, inl, inr, true≢false, is_some, cond, Option, None, ℕ, zero, suc, slice_get, true, false, List, [], ◌∷◌, ◌++◌, Some, refl, ap, sym, ◌∙◌, subst, if◌then◌else◌, bytes_eq}
 use Rattle.std.specs.Prelude.{IfSome}
 use Rattle.std.specs.List.{All}
 use Rattle.std.proofs.lemmas.List.Elements.{All-nil, All-cons, All-head, All-tail}
 use Rattle.std.proofs.lemmas.Slice.Eq.{bytes_eq-Decides}
-use Rattle.ks_symbols.specs.TextMap.{value_of}
+use Rattle.std.specs.Prelude.{Vec}
+use Rattle.std.specs.Borrow.{Bor}
+use Rattle.std.specs.Map.{lookup}
+use Rattle.std.specs.Option.{option_map, option_copied}
+use Rattle.indexmap.specs.IndexMap.{insert_entry}
 use Rattle.ks_tree.specs.Files.{Files, content, SameButBoth}
 use Rattle.ks_tree.specs.Paths.{auto_path, stamp_path, command_path, command_temporary, AutoConf, Stamp, CommandFile, CommandTemporary}
 use Rattle.ks_tree.specs.Stamps.{HasNumber}
 use Rattle.ks_engine.specs.declared.memos.KeptSource.{KeptSource}
 use Rattle.ks_engine.specs.declared.memos.Memo.{Memo}
 use Rattle.ks_engine.specs.LastSync.{last_generation}
-use Rattle.ks_engine.specs.Memos.{IsStamp, AreStamps, IsSource, AreSources, IsNoSource, IsMemoOf}
+use Rattle.ks_engine.specs.Memos.{pairs_of, value_of, with_pair, IsStamp, AreStamps, IsSource, AreSources, IsNoSource, IsMemoOf}
 use Rattle.ks_engine.specs.Recording.{scanned}
 use Rattle.ks_engine.proofs.LowerLaws.{apart}
 
@@ -36,9 +40,39 @@ module _ {V : Type 0} (P : List ℕ → V → Type 0) where
   kept_found_or_at x v es all (inl is) = kept_found x v es all is
   kept_found_or_at x v es all (inr is) = kept_at x v is.0 es all is.1
 
-  pub kept_added : (k : List ℕ) (v : V) (es : List (List ℕ × V)) → All (λ e. P e.0 e.1) es → P k v → All (λ e. P e.0 e.1) (es ++ (k, v) ∷ [])
+  pub kept_added : (k : List ℕ) (v : V) (es : List (List ℕ × V)) → All (λ e. P e.0 e.1) es → P k v → All (λ e. P e.0 e.1) (with_pair k v es)
   kept_added k v [] all new = All-cons at (k, v) [] new (All-nil at)
-  kept_added k v (e ∷ es) all new = All-cons at e (es ++ (k, v) ∷ []) (All-head at e es all) (kept_added k v es (All-tail at e es all) new)
+  kept_added k v (e ∷ es) all new = (elim (bytes_eq k e.0) as (λ b. bytes_eq k e.0 ≡ b
+      → All (λ e. P e.0 e.1) (if b then (e.0, v) ∷ es else e ∷ with_pair k v es)) [
+        | true ↦ λ t. All-cons at (e.0, v) es (subst (λ y. P y v) ((bytes_eq-Decides k e.0).0 t) new) (All-tail at e es all)
+        | false ↦ λ f. All-cons at e (with_pair k v es) (All-head at e es all) (kept_added k v es (All-tail at e es all) new)
+      ]) refl
+
+-- ---- a map by the bytes of its keys
+
+module _ {Y V : Type 0} where
+  pub value-pairs : (x : List ℕ) (es : List (Vec ℕ Y × V)) → value_of x (pairs_of es) ≡ lookup (λ k. bytes_eq x k.items) es
+  value-pairs x [] = refl
+  value-pairs x (e ∷ es) = ap (cond (bytes_eq x e.0.items) (Some e.1)) (value-pairs x es)
+
+  pub pair-at : (i : ℕ) (es : List (Vec ℕ Y × V)) → slice_get (pairs_of es) i ≡ option_map (λ e. (e.0.items, e.1)) (slice_get es i)
+  pair-at i [] = refl
+  pair-at zero (e ∷ es) = refl
+  pair-at (suc i) (e ∷ es) = pair-at i es
+
+  pub pairs-insert : (es : List (Vec ℕ Y × V)) (k : Vec ℕ Y) (v : V) → pairs_of (insert_entry (λ a b. bytes_eq a.items b.items) es k v) ≡ with_pair k.items v (pairs_of es)
+  pairs-insert [] k v = refl
+  pairs-insert (e ∷ es) k v =
+      elim (bytes_eq k.items e.0.items) as (λ b. pairs_of (if b then (e.0, v) ∷ es else e ∷ insert_entry (λ a b. bytes_eq a.items b.items) es k v)
+      ≡ (if b then (e.0.items, v) ∷ pairs_of es else (e.0.items, e.1) ∷ with_pair k.items v (pairs_of es))) [
+        | true ↦ refl
+        | false ↦ ap (λ l. (e.0.items, e.1) ∷ l) (pairs-insert es k v)
+      ]
+
+-- what is lent of a value is kept
+pub lent_kept : {V : Type 0} (o : Option (Bor V)) (m : Option V) (Q : Bor V → Type 0) → option_copied o ≡ m → ((s : Bor V) → m ≡ Some s.now → Q s) → IfSome o Q
+lent_kept None m Q is h = tt
+lent_kept (Some s) m Q is h = h s (sym is)
 
 -- ---- what a record writes is nothing that is kept
 
@@ -71,8 +105,8 @@ pub memo_kept : (old new : Files) (o : List ℕ) (memo : Memo) → SameButBoth (
 memo_kept old new o memo others no_temporary no_path is = record {
   generation = λ g kept. ap last_generation (others auto_path (apart AutoConf (CommandTemporary o) tt tt (λ e. cc))
       (apart AutoConf (CommandFile o) tt tt (λ e. cc))) ∙ is.generation g kept;
-  stamps = stamps_kept old new o memo.stamps others is.stamps;
-  sources = sources_kept old new o memo.sources others no_temporary no_path is.sources;
+  stamps = stamps_kept old new o (pairs_of memo.stamps.entries) others is.stamps;
+  sources = sources_kept old new o (pairs_of memo.sources.entries) others no_temporary no_path is.sources;
 }
 
 -- ---- a path that a map has not
@@ -85,5 +119,5 @@ not_kept x (e ∷ es) none = (elim (bytes_eq x e.0) as (λ b. bytes_eq x e.0 ≡
       | false ↦ λ f s. All-cons (λ s. s.0 ≢ x) e es (λ same. true≢false (sym ((bytes_eq-Decides x e.0).1 (sym same)) ∙ f)) (not_kept x es s)
     ]) refl none
 
-pub no_source : (x : List ℕ) (memo : Memo) → is_some (value_of x memo.sources) ≡ false → IsNoSource x memo
-no_source x memo none = not_kept x memo.sources none
+pub no_source : (x : List ℕ) (memo : Memo) → is_some (value_of x (pairs_of memo.sources.entries)) ≡ false → IsNoSource x memo
+no_source x memo none = not_kept x (pairs_of memo.sources.entries) none

@@ -1,6 +1,7 @@
 -- What a command has read of a tree, and keeps: each thing kept is what the files say.
-use Rattle.std.specs.Prelude.{◌≡◌, ◌≢◌, ℕ, List, Some, Ok, IsTrue}
+use Rattle.std.specs.Prelude.{◌≡◌, ◌≢◌, ℕ, List, [], ◌∷◌, Option, Some, Ok, IsTrue, Vec, map, bytes_eq, if◌then◌else◌}
 use Rattle.std.specs.List.{All}
+use Rattle.std.specs.Map.{lookup}
 use Rattle.ks_symbols.specs.Names.{is_name}
 use Rattle.ks_tree.specs.Files.{Files, content}
 use Rattle.ks_tree.specs.Paths.{auto_path, stamp_path}
@@ -10,6 +11,17 @@ use Rattle.ks_engine.specs.declared.memos.Memo.{Memo}
 use Rattle.ks_fixdep.specs.FoundNames.{names_in}
 use Rattle.ks_engine.specs.LastSync.{last_generation}
 use Rattle.ks_engine.specs.Recording.{scanned}
+
+-- what a map has by the bytes of its keys, in order; the value of a text; and the pairs once one more is put
+abbrev pub pairs_of : {Y V : Type 0} → List (Vec ℕ Y × V) → List (List ℕ × V)
+pairs_of entries = map (λ e. (e.0.items, e.1)) entries
+
+abbrev pub value_of : {V : Type 0} → List ℕ → List (List ℕ × V) → Option V
+value_of text pairs = lookup (bytes_eq text) pairs
+
+abbrev pub with_pair : {V : Type 0} → List ℕ → V → List (List ℕ × V) → List (List ℕ × V)
+with_pair text v [] = (text, v) ∷ []
+with_pair text v (p ∷ ps) = if bytes_eq text p.0 then (p.0, v) ∷ ps else p ∷ with_pair text v ps
 
 -- the stamp of a name holds this number
 abbrev pub IsStamp : Files → List ℕ → ℕ → Type 0
@@ -28,9 +40,9 @@ AreSources files kept = All (λ s. IsSource files s.0 s.1.names) kept
 -- Each thing kept is what the files say.
 pub record IsMemoOf (files : Files) (memo : Memo) : Type 0 where
   pub generation : (g : ℕ) → memo.generation ≡ Some g → last_generation (content files auto_path) ≡ Ok g
-  pub stamps : AreStamps files memo.stamps
-  pub sources : AreSources files memo.sources
+  pub stamps : AreStamps files (pairs_of memo.stamps.entries)
+  pub sources : AreSources files (pairs_of memo.sources.entries)
 
 -- The names of the file at this path are not kept.
 abbrev pub IsNoSource : List ℕ → Memo → Type 0
-IsNoSource path memo = All (λ s. s.0 ≢ path) memo.sources
+IsNoSource path memo = All (λ s. s.0 ≢ path) (pairs_of memo.sources.entries)

@@ -10,6 +10,7 @@ ghost use Rattle.ks_engine.specs.Runs.{Follows, Run};
 use crate::memos::Memo;
 use crate::recording::record_by;
 use crate::{EngineError, Recorded, Report, Verdict, stale_by, sync};
+use ks_fixdep::Seed;
 use ks_tree::Tree;
 use std::alloc::{AllocError, Global};
 
@@ -83,7 +84,7 @@ pub fn run<T: Tree>(
     ensures later { T.failures tree.old ≤ T.failures tree.new }
 {
     let mut replies = Vec::with_capacity(alloc, commands.len())?;
-    let mut memo = Memo::new(alloc);
+    let mut memo = Memo::with_seed(alloc, Seed::new(tree.seed()));
     for command in commands {
         let reply = answer(alloc, tree, &mut memo, command);
         replies.push(reply).unwrap();

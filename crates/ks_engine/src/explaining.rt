@@ -16,7 +16,7 @@ ghost use Rattle.ks_engine.specs.Explained.{placed, names_placed, verdict_of, Ar
 use crate::EngineError;
 use crate::memos::Memo;
 use crate::staleness::{Verdict, lend_for, read_command_text};
-use ks_fixdep::{LentCommand, LentDep, LentName};
+use ks_fixdep::{LentCommand, LentDep, LentName, Seed};
 use ks_symbols::{Name, Path, target_is_legal};
 use ks_tree::Tree;
 use std::alloc::{AllocError, Global};
@@ -177,7 +177,7 @@ pub fn explain<T: Tree>(
     // By histories: all that was touched since a recorded object's record.
     ensures recorded { T.is_honest → ExplainsRecorded (T.files tree.old) target.now result }
 {
-    let mut memo = Memo::new(alloc);
+    let mut memo = Memo::with_seed(alloc, Seed::new(tree.seed()));
     explain_by(alloc, tree, &mut memo, target)
 }
 

@@ -1,9 +1,8 @@
 //! What one command has read of a tree so far, so that it reads no file twice: hundreds of objects have one auto.conf, and share
 //! most of their stamps. A synchronisation drops all of it; a record changes nothing that is kept. Between commands nothing is kept,
 //! since others may write then.
-ghost use Rattle.std.specs.Prelude.{◌≡◌, ◌+◌, ◌⊎◌, ◌++◌, ◌∷◌, [], List, ℕ, length, slice_get, Ok, Err, Some, None, OnOk, IfOk, IfErr, IfSome, IfNone, IsErrOf, IsTrue};
+ghost use Rattle.std.specs.Prelude.{◌≡◌, ◌+◌, ◌⊎◌, ◌++◌, ◌∷◌, [], List, ℕ, length, slice_get, Ok, Err, Some, None, OnOk, IfOk, IfErr, IfSome, IfNone, OnErr, IsErrOf, IsTrue};
 ghost use Rattle.ks_symbols.specs.Names.{is_name, is_path};
-ghost use Rattle.ks_symbols.specs.TextMap.{value_of};
 ghost use Rattle.ks_fixdep.specs.FoundNames.{names_in};
 ghost use Rattle.ks_fixdep.specs.SourceScan.{StandsAfter};
 ghost use Rattle.ks_tree.specs.Frames.{Reads};
@@ -13,15 +12,16 @@ ghost use Rattle.ks_tree.specs.Stamps.{HasNumber, IsStampRefusal};
 ghost use Rattle.ks_engine.specs.Refusals.{Answers, IsGivenUp};
 ghost use Rattle.ks_engine.specs.Recording.{scanned};
 ghost use Rattle.ks_engine.specs.LastSync.{last_generation};
-ghost use Rattle.ks_engine.specs.Memos.{IsMemoOf, IsNoSource};
+ghost use Rattle.ks_engine.specs.Memos.{pairs_of, value_of, with_pair, IsMemoOf, IsNoSource};
 
 use crate::EngineError;
 use crate::last_sync::read_generation;
 use crate::sources::{scan_alone, scan_file};
-use ks_fixdep::{FoundNames, SourceScan};
-use ks_symbols::{Name, TextMap};
+use indexmap::IndexMap;
+use ks_fixdep::{FoundNames, Seed, SourceScan};
+use ks_symbols::Name;
 use ks_tree::{Tree, TreeError, read_stamp};
-use std::alloc::Global;
+use std::alloc::{AllocError, Global};
 
 /// The names of a source, and its place among those that are kept.
 #[derive(Drop)]
@@ -34,11 +34,26 @@ struct KeptSource {
 #[derive(Drop)]
 pub struct Memo {
     generation: Option<u64>,
-    stamps: TextMap<u64>,
-    sources: TextMap<KeptSource>,
+    stamps: IndexMap<Vec<u8>, u64, Seed>,
+    sources: IndexMap<Vec<u8>, KeptSource, Seed>,
     /// The place behind the source that was asked for last. No answer depends on it.
     next: usize,
     keeps_sources: bool,
+}
+
+/// Keeps a value of a name or a path.
+fn keep<V: Drop>(
+    alloc: Global,
+    kept: &mut IndexMap<Vec<u8>, V, Seed>,
+    text: &[u8],
+    value: V,
+) -> Result<(), AllocError>
+    ensures added { OnOk result (pairs_of kept.new.entries ≡ with_pair text.now value (pairs_of kept.old.entries)) }
+    ensures kept { OnErr result (kept.new.entries ≡ kept.old.entries) }
+{
+    let key = Vec::from_slice(alloc, text)?;
+    kept.insert(key, value)?;
+    Ok(())
 }
 
 /// The number of a name's stamp.
@@ -57,23 +72,30 @@ impl Memo {
     pub fn new(alloc: Global) -> Memo
         ensures { (files : Files) → IsMemoOf files result }
     {
+        Memo::with_seed(alloc, Seed::new(0))
+    }
+
+    /// The same, with names and paths that are sought by a seed.
+    pub fn with_seed(alloc: Global, seed: Seed) -> Memo
+        ensures { (files : Files) → IsMemoOf files result }
+    {
         Memo {
             generation: None,
-            stamps: TextMap::new(alloc),
-            sources: TextMap::new(alloc),
+            stamps: IndexMap::with_hasher(alloc, seed),
+            sources: IndexMap::with_hasher(alloc, seed),
             next: 0,
             keeps_sources: true,
         }
     }
 
     /// Nothing was read yet, and no source will be kept: of a single object each is read once anyway.
-    pub(crate) fn of_one_object(alloc: Global) -> Memo
+    pub(crate) fn of_one_object(alloc: Global, seed: Seed) -> Memo
         ensures { (files : Files) → IsMemoOf files result }
     {
         Memo {
             generation: None,
-            stamps: TextMap::new(alloc),
-            sources: TextMap::new(alloc),
+            stamps: IndexMap::with_hasher(alloc, seed),
+            sources: IndexMap::with_hasher(alloc, seed),
             next: 0,
             keeps_sources: false,
         }
@@ -125,19 +147,18 @@ impl Memo {
             return Ok(*number);
         }
         let number = read_stamp_of(alloc, tree, name)?;
-        self.stamps.push(name, number)?;
+        keep(alloc, &mut self.stamps, name, number)?;
         Ok(number)
     }
 
     /// The source at a path, if it is kept. The one behind the last is looked at first: objects name most headers in one order,
     /// so that most paths are compared once and not sought.
     fn source(&self, path: &[u8]) -> Option<&KeptSource>
-        ensures kept { IfSome result (λ s. (value_of path.now self.now.sources ≡ Some s.now)
-            ⊎ ((i : ℕ) × (slice_get self.now.sources i ≡ Some (path.now, s.now)))) }
-        ensures missed { IfNone result (value_of path.now self.now.sources ≡ None) }
+        ensures kept { IfSome result (λ s. (value_of path.now (pairs_of self.now.sources.entries) ≡ Some s.now)
+            ⊎ ((i : ℕ) × (slice_get (pairs_of self.now.sources.entries) i ≡ Some (path.now, s.now)))) }
     {
-        if let Some((next, source)) = self.sources.get_at(self.next) {
-            if next == path {
+        if let Some((next, source)) = self.sources.get_index(self.next) {
+            if next.as_slice() == path {
                 return Some(source);
             }
         }
@@ -174,7 +195,7 @@ impl Memo {
         let names = scan_alone(alloc, tree, path, room)?;
         scan.add_known(&names)?;
         let place = self.sources.len();
-        self.sources.push(path, KeptSource { names, place })?;
+        keep(alloc, &mut self.sources, path, KeptSource { names, place })?;
         self.next = place.saturating_add(1);
         Ok(())
     }
@@ -185,7 +206,7 @@ impl Memo {
         ensures gone { IsNoSource path.now self.new }
         ensures others { (q : List ℕ) → IsNoSource q self.old → IsNoSource q self.new }
     {
-        if self.sources.get(path).is_some() {
+        if self.sources.contains_key(path) {
             self.sources.clear();
         }
     }

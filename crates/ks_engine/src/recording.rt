@@ -17,7 +17,9 @@ ghost use Rattle.ks_engine.specs.Drafts.{IsDraft};
 use crate::EngineError;
 use crate::memos::Memo;
 use crate::sources::scan_all_by;
-use ks_fixdep::{NamesBySource, Prerequisites, command_is_legal, read_depfile, record_text};
+use ks_fixdep::{
+    NamesBySource, Prerequisites, Seed, command_is_legal, read_depfile_by, record_text,
+};
 use ks_symbols::{MAX_BYTES, Path, path_is_legal, target_is_legal};
 use ks_tree::{Tree, command_path, command_temporary, replace};
 use std::alloc::Global;
@@ -111,7 +113,7 @@ fn prepare<T: Tree>(
 {
     check_words(depfile, target, command)?;
     let text = read_there(alloc, tree, depfile)?;
-    let prerequisites = read_depfile(alloc, &text)?;
+    let prerequisites = read_depfile_by(alloc, Seed::new(tree.seed()), &text)?;
     let generation = memo.generation(alloc, tree)?;
     let found = scan_all_by(alloc, tree, memo, &prerequisites)?;
     make_draft(alloc, target, command, &prerequisites, generation, &found)
@@ -158,6 +160,6 @@ pub fn record_object<T: Tree>(
     // The device is to blame only where the tree counted a failure.
     ensures counted { Counted T.Tree tree.old tree.new (IsErrOf result EngineError.Device) }
 {
-    let mut memo = Memo::of_one_object(alloc);
+    let mut memo = Memo::of_one_object(alloc, Seed::new(tree.seed()));
     record_by(alloc, tree, &mut memo, depfile, target, command)
 }

@@ -13,7 +13,7 @@ ghost use Rattle.ks_engine.specs.Recording.{scanned, scanned_all};
 
 use crate::EngineError;
 use crate::memos::Memo;
-use ks_fixdep::{FoundNames, NamesBySource, Prerequisites, SourceScan};
+use ks_fixdep::{FoundNames, NamesBySource, Prerequisites, Seed, SourceScan};
 use ks_symbols::{MAX_BYTES, Path};
 use ks_tree::Tree;
 use std::alloc::Global;
@@ -68,7 +68,7 @@ pub(crate) fn scan_alone<T: Tree>(
     ensures found { T.is_honest → IfOk result (IsSource (T.files tree.old) path.now) }
     ensures refused { T.is_honest → IfErr result (λ e. IsGivenUp e ⊎ (scanned path.now (content (T.files tree.old) path.now) ≡ Err e)) }
 {
-    let mut scan = SourceScan::new(alloc);
+    let mut scan = SourceScan::with_seed(alloc, Seed::new(tree.seed()));
     scan_file(alloc, tree, path, room, &mut scan)?;
     Ok(scan.into_found())
 }
@@ -116,7 +116,7 @@ pub(crate) fn scan_all_by<T: Tree>(
     ensures each { IfOk result (λ found. length found.counts.items ≡ length prerequisites.now) }
 {
     let mut room = [0; PIECE];
-    let mut scan = SourceScan::new(alloc);
+    let mut scan = SourceScan::with_seed(alloc, Seed::new(tree.seed()));
     for place in 0..prerequisites.len() {
         scan_at(
             alloc,
@@ -143,6 +143,6 @@ pub fn scan_all<T: Tree>(
     ensures refused { T.is_honest → IfErr result (λ e. IsGivenUp e ⊎ (scanned_all (T.files tree.old) prerequisites.now ≡ Err e)) }
     ensures each { IfOk result (λ found. length found.counts.items ≡ length prerequisites.now) }
 {
-    let mut memo = Memo::of_one_object(alloc);
+    let mut memo = Memo::of_one_object(alloc, Seed::new(tree.seed()));
     scan_all_by(alloc, tree, &mut memo, prerequisites)
 }

@@ -19,7 +19,7 @@ ghost use Rattle.ks_engine.specs.Judged.{JudgesRecorded, IsBuildJudged};
 use crate::EngineError;
 use crate::memos::Memo;
 use crate::stamps::Stamps;
-use ks_fixdep::{LentCommand, LentDep, command_is_legal, lend_command};
+use ks_fixdep::{LentCommand, LentDep, Seed, command_is_legal, lend_command};
 use ks_symbols::{Name, target_is_legal};
 use ks_tree::{Tree, command_path};
 use std::alloc::Global;
@@ -199,7 +199,7 @@ pub fn stale<T: Tree>(alloc: Global, tree: &mut T, target: &[u8]) -> Result<Verd
     // By histories: what was touched since a recorded object's record.
     ensures recorded { T.is_honest → JudgesRecorded (T.files tree.old) target.now result }
 {
-    let mut memo = Memo::new(alloc);
+    let mut memo = Memo::with_seed(alloc, Seed::new(tree.seed()));
     stale_by(alloc, tree, &mut memo, target)
 }
 
@@ -233,6 +233,6 @@ pub fn outdated<T: Tree>(
     ensures recorded { T.is_honest → IsTrue (is_command command.now) → (h : History) (r : LastRecord) → Shows (T.files tree.old) h
         → last_record h target.now ≡ Some r → IsBuildJudged (T.files tree.old) h target.now command.now r result }
 {
-    let mut memo = Memo::new(alloc);
+    let mut memo = Memo::with_seed(alloc, Seed::new(tree.seed()));
     ask_built(alloc, tree, &mut memo, target, command)
 }

@@ -10,7 +10,7 @@ use Rattle.std.proofs.lemmas.List.Folds.{list_any-append}
 use Rattle.std.proofs.lemmas.List.Elements.{filter-append}
 use Rattle.std.specs.List.{list_any}
 use Rattle.std.specs.Str.{bytes_eq}
-use Rattle.ks_symbols.specs.Interner.{noted}
+use Rattle.ks_fixdep.specs.FoundNames.{noted}
 use Rattle.ks_fixdep.specs.FoundNames.{all_noted, names_in, names_of}
 use Rattle.ks_fixdep.specs.Record.{new_names, own_line, deps_after, config_names}
 use Rattle.ks_fixdep.specs.declared.command_file.Dep.{Dep}

@@ -8,7 +8,7 @@ use Rattle.std.proofs.lemmas.Slice.Eq.{bytes_eq-Decides}
 use Rattle.std.specs.Prelude.{flat_map}
 use Rattle.std.specs.List.{list_all, list_any}
 use Rattle.std.specs.Str.{bytes_eq}
-use Rattle.ks_symbols.specs.Interner.{noted}
+use Rattle.ks_fixdep.specs.FoundNames.{noted}
 use Rattle.ks_fixdep.specs.FoundNames.{all_noted, names_in, AreFoundNames, names_of}
 use Rattle.ks_fixdep.specs.Scan.{taken}
 use Rattle.ks_fixdep.specs.Scan.{bare_name}

@@ -2,7 +2,7 @@
 use Rattle.std.proofs.Common.{◌≡◌, ℕ, suc, List, [], ◌∷◌, ◌++◌, refl, ap, sym, ◌∙◌, map, append-nil, length}
 use Rattle.std.specs.Prelude.{flat_map}
 use Rattle.std.proofs.lemmas.Grind.{fold-append}
-use Rattle.ks_symbols.specs.Interner.{noted}
+use Rattle.ks_fixdep.specs.FoundNames.{noted}
 use Rattle.ks_fixdep.specs.FoundNames.{all_noted, names_in, names_of}
 use Rattle.ks_fixdep.specs.SourceScan.{counts_after}
 

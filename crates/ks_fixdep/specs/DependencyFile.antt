@@ -1,6 +1,7 @@
 -- Dependency files, as compilers write them with -MD: their prerequisites and the roles of these. The cut into tokens, the roles and the
 -- refusals are rules of this project.
-use Rattle.std.specs.Prelude.{◌+◌, ◌<◌, Option, Some, None, ℕ, Bool, ◌&&◌, not, nat_eq, nat_le, IsTrue, List, [], ◌∷◌, ◌++◌, if◌then◌else◌, codes, length, fold}
+use Rattle.std.specs.Prelude.{◌+◌, ◌<◌, Option, Some, None, ℕ, Bool, ◌&&◌, not, nat_eq, nat_le, IsTrue, map, Vec, List, [], ◌∷◌, ◌++◌, if◌then◌else◌, codes, length, fold}
+use Rattle.std.specs.Borrow.{Bor}
 use Rattle.std.specs.List.{list_all, list_any, ends_with, after_last}
 use Rattle.std.specs.Str.{bytes_eq}
 use Rattle.ks_symbols.specs.Lines.{max_bytes}
@@ -34,6 +35,13 @@ with_roles before [] = []
 with_roles before (x ∷ xs) =
     let later = with_roles (before ++ x ∷ []) xs in
     if is_kept x then (x, role_after before) ∷ later else later
+
+-- the paths of a map with their roles, in order; and one as it is lent
+abbrev pub paths_of : {Y : Type 0} → List (Vec ℕ Y × Role) → List (List ℕ × Role)
+paths_of entries = map (λ e. (e.0.items, e.1)) entries
+
+abbrev pub lent_pair : Bor (List ℕ) × Bor Role → List ℕ × Role
+lent_pair e = (e.0.now, e.1.now)
 
 -- a prerequisite goes to the end, unless its path is there
 abbrev pub added : List (List ℕ × Role) → List ℕ × Role → List (List ℕ × Role)

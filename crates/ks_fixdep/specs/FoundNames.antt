@@ -1,9 +1,17 @@
 -- The names found in a text, each once, in the order in which they were first noted. (fixdep.c keeps a table of hashes for this.)
-use Rattle.std.specs.Prelude.{◌≡◌, ℕ, List, [], flat_map, map, IsTrue}
-use Rattle.std.specs.List.{fold, list_all}
+use Rattle.std.specs.Prelude.{◌≡◌, ℕ, List, [], ◌∷◌, ◌++◌, flat_map, map, IsTrue, bytes_eq, if◌then◌else◌}
+use Rattle.std.specs.Borrow.{Bor}
+use Rattle.std.specs.List.{fold, list_all, list_any}
 use Rattle.ks_symbols.specs.Names.{is_name}
-use Rattle.ks_symbols.specs.Interner.{noted}
 use Rattle.ks_fixdep.specs.Scan.{taken, bare_name}
+
+-- the names, and x at their end unless x is among them
+abbrev pub noted : List (List ℕ) → List ℕ → List (List ℕ)
+noted names x = if list_any (bytes_eq x) names then names else names ++ x ∷ []
+
+-- a name as it is lent
+abbrev pub lent_text : Bor (List ℕ) → List ℕ
+lent_text t = t.now
 
 -- the names, and each of those behind in turn
 abbrev pub all_noted : List (List ℕ) → List (List ℕ) → List (List ℕ)

@@ -3,7 +3,7 @@ use Rattle.std.specs.Prelude.{◌≡◌, ◌<◌, ℕ, List, [], length, IsTrue,
 use Rattle.std.specs.List.{list_any, list_all, after_last}
 use Rattle.ks_symbols.specs.Names.{is_path}
 use Rattle.ks_fixdep.specs.declared.dependency_file.Progress.{Progress}
-use Rattle.ks_fixdep.specs.DependencyFile.{is_target_token, is_kept, with_roles, once}
+use Rattle.ks_fixdep.specs.DependencyFile.{is_target_token, is_kept, with_roles, once, paths_of}
 
 -- It stands behind the tokens seen.
 pub record Stands (p : Progress) (seen : List (List ℕ)) : Type 0 where
@@ -11,6 +11,6 @@ pub record Stands (p : Progress) (seen : List (List ℕ)) : Type 0 where
   pub kept : p.has_kept ≡ list_any is_kept seen
   pub since : p.has_kept_since_target ≡ list_any is_kept (after_last is_target_token seen)
   pub number : p.number ≡ length seen
-  pub found : p.by_path ≡ once (with_roles [] seen)
-  pub some : p.has_kept ≡ true → 0 < length p.by_path
-  pub legal : IsTrue (list_all (λ e. is_path e.0) p.by_path)
+  pub found : paths_of p.by_path.entries ≡ once (with_roles [] seen)
+  pub some : p.has_kept ≡ true → 0 < length (paths_of p.by_path.entries)
+  pub legal : IsTrue (list_all (λ e. is_path e.0) (paths_of p.by_path.entries))

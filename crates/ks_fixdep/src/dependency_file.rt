@@ -2,18 +2,23 @@
 //! several. Which file is scanned for names and which is listed for make follows from its place alone. Paths
 //! that a makefile would read as something else are refused, so that no command file says what was not meant.
 ghost use Rattle.std.specs.Prelude.{◌≡◌, ◌≤◌, ◌<◌, ◌+◌, ◌^◌, ◌++◌, ◌∷◌, [], List, ℕ, IfOk, IfErr, IfSome, OnOk, IsTrue, None, nat_eq, length, slice_get, if◌then◌else◌};
+ghost use Rattle.std.specs.Iterator.{item_count};
 ghost use Rattle.std.specs.List.{ends_with, list_all};
+ghost use Rattle.std.specs.Map.Iter.{TakesFirst};
 ghost use Rattle.std.specs.Option.{option_map};
 ghost use Rattle.ks_symbols.specs.Lines.{max_bytes};
 ghost use Rattle.ks_symbols.specs.Names.{is_path, header_path};
 ghost use Rattle.ks_symbols.specs.Refusals.{IsRefusal, RefusedBy};
 ghost use Rattle.ks_fixdep.specs.Tokens.{tokens};
-ghost use Rattle.ks_fixdep.specs.DependencyFile.{is_target_token, added, prerequisites, token_refusal, dependency_refusal};
+ghost use Rattle.ks_fixdep.specs.DependencyFile.{is_target_token, added, paths_of, lent_pair, prerequisites, token_refusal, dependency_refusal};
 ghost use Rattle.ks_fixdep.specs.declared.dependency_file.Role.TheVariants as role;
 
 use crate::dep_error::DepError;
+use crate::seed::Seed;
 use crate::tokens::Tokens;
-use ks_symbols::{LentEntries, MAX_BYTES, TextMap, path_is_legal};
+use indexmap::IndexMap;
+use indexmap::map::Iter;
+use ks_symbols::{MAX_BYTES, path_is_legal};
 use std::alloc::{AllocError, Global};
 use std::marker::Model;
 
@@ -31,7 +36,7 @@ pub enum Role {
 /// The prerequisites of an object with their roles, in the order of their first places. There is one at least.
 #[derive(Drop)]
 pub struct Prerequisites {
-    by_path: TextMap<Role>,
+    by_path: IndexMap<Vec<u8>, Role, Seed>,
 }
 
 impl Model for Prerequisites {
@@ -40,11 +45,11 @@ impl Model for Prerequisites {
 
     ghost Value = { List (List ℕ × Role) };
 
-    ghost use Rattle.ks_fixdep.specs.DependencyFile.{ArePrerequisites};
+    ghost use Rattle.ks_fixdep.specs.DependencyFile.{ArePrerequisites, paths_of};
 
-    ghost view = { λ p. p.by_path };
+    ghost view = { λ p. paths_of p.by_path.entries };
 
-    ghost invariant = { λ p. ArePrerequisites p.by_path };
+    ghost invariant = { λ p. ArePrerequisites (paths_of p.by_path.entries) };
 }
 
 impl Prerequisites {
@@ -61,18 +66,52 @@ impl Prerequisites {
         ensures value { option_map (λ p. (p.0.now, p.1)) result ≡ slice_get self.now place }
         ensures legal { IfSome result (λ p. IsTrue (is_path p.0.now)) }
     {
-        match self.by_path.get_at(place) {
-            Some((path, role)) => Some((path, *role)),
+        match self.by_path.get_index(place) {
+            Some((path, role)) => Some((path.as_slice(), *role)),
             None => None,
         }
     }
 
     /// Their paths and roles, in their order.
-    pub(crate) fn entries(&self) -> LentEntries<'_, Role>
+    pub(crate) fn entries(&self) -> LentPrerequisites<'_>
         ensures value { result ≡ self.now }
         ensures legal { IsTrue (list_all (λ p. is_path p.0) result) }
     {
-        self.by_path.entries()
+        LentPrerequisites {
+            inner: self.by_path.iter(),
+        }
+    }
+}
+
+/// Paths and their roles, lent one by one.
+#[derive(Drop)]
+pub struct LentPrerequisites<'a> {
+    inner: Iter<'a, Vec<u8>, Role>,
+}
+
+impl<'a> Model for LentPrerequisites<'a> {
+    ghost use Rattle.std.specs.Prelude.{List, ℕ};
+    ghost use Rattle.ks_fixdep.specs.declared.dependency_file.Role.{Role};
+
+    ghost Value = { List (List ℕ × Role) };
+
+    ghost use Rattle.ks_fixdep.specs.DependencyFile.{paths_of};
+
+    ghost view = { λ p. paths_of p.inner };
+}
+
+impl<'a> Iterator for LentPrerequisites<'a> {
+    type Item = (&'a [u8], &'a Role);
+
+    ghost next_gives = { TakesFirst lent_pair };
+
+    ghost remaining = { item_count (λ rest. rest) };
+
+    fn next(&mut self) -> Option<(&'a [u8], &'a Role)> {
+        match self.inner.next() {
+            Some((path, role)) => Some((path.as_slice(), role)),
+            None => None,
+        }
     }
 }
 
@@ -103,21 +142,31 @@ fn next_role(has_kept: bool, has_kept_since_target: bool) -> Role
 }
 
 /// Notes a prerequisite, unless its path was noted before.
-fn note(by_path: &mut TextMap<Role>, path: &[u8], role: Role) -> Result<(), AllocError>
-    ensures { OnOk result (by_path.new ≡ added by_path.old (path.now, role)) }
+fn note(
+    alloc: Global,
+    by_path: &mut IndexMap<Vec<u8>, Role, Seed>,
+    path: &[u8],
+    role: Role,
+) -> Result<(), AllocError>
+    ensures { OnOk result (paths_of by_path.new.entries ≡ added (paths_of by_path.old.entries) (path.now, role)) }
 {
-    by_path.get_or_push(path, role)?;
+    if by_path.contains_key(path) {
+        return Ok(());
+    }
+    let owned = Vec::from_slice(alloc, path)?;
+    by_path.insert(owned, role)?;
     Ok(())
 }
 
 /// What is known of the tokens so far.
 #[derive(Drop)]
 struct Progress {
+    alloc: Global,
     number: u64,
     has_target: bool,
     has_kept: bool,
     has_kept_since_target: bool,
-    by_path: TextMap<Role>,
+    by_path: IndexMap<Vec<u8>, Role, Seed>,
 }
 
 impl Progress {
@@ -125,15 +174,16 @@ impl Progress {
     ghost use Rattle.ks_fixdep.specs.DependencyFile.{fault_after};
 
     /// No token was read yet.
-    fn new(alloc: Global) -> Progress
+    fn new(alloc: Global, seed: Seed) -> Progress
         ensures { Stands result [] }
     {
         Progress {
+            alloc,
             number: 0,
             has_target: false,
             has_kept: false,
             has_kept_since_target: false,
-            by_path: TextMap::new(alloc),
+            by_path: IndexMap::with_hasher(alloc, seed),
         }
     }
 
@@ -160,7 +210,7 @@ impl Progress {
             return Err(DepError::BadPath(self.number));
         }
         let role = next_role(self.has_kept, self.has_kept_since_target);
-        note(&mut self.by_path, token, role)?;
+        note(self.alloc, &mut self.by_path, token, role)?;
         self.has_kept = true;
         self.has_kept_since_target = true;
         Ok(())
@@ -168,12 +218,12 @@ impl Progress {
 }
 
 /// The prerequisites of a dependency file of bounded length.
-fn prerequisites_of(alloc: Global, text: &[u8]) -> Result<Prerequisites, DepError>
+fn prerequisites_of(alloc: Global, seed: Seed, text: &[u8]) -> Result<Prerequisites, DepError>
     requires { length text.now ≤ max_bytes }
     ensures value { IfOk result (λ p. p ≡ prerequisites text.now) }
     ensures refusal { RefusedBy DepError.OutOfMemory result (token_refusal (tokens text.now)) }
 {
-    let mut progress = Progress::new(alloc);
+    let mut progress = Progress::new(alloc, seed);
     for token in Tokens::new(text) {
         progress.take(token)?;
     }
@@ -187,13 +237,21 @@ fn prerequisites_of(alloc: Global, text: &[u8]) -> Result<Prerequisites, DepErro
 
 /// The prerequisites of a dependency file. Of several faults the first token that is at fault counts; that there
 /// is no prerequisite is told at the end.
-#[tactic(auto, unfolding(crate::specs::DependencyFile::dependency_refusal))]
 pub fn read_depfile(alloc: Global, text: &[u8]) -> Result<Prerequisites, DepError>
+    ensures value { IfOk result (λ p. p ≡ prerequisites text.now) }
+    ensures refusal { RefusedBy DepError.OutOfMemory result (dependency_refusal text.now) }
+{
+    read_depfile_by(alloc, Seed::new(0), text)
+}
+
+/// The same, with paths that are sought by a seed.
+#[tactic(auto, unfolding(crate::specs::DependencyFile::dependency_refusal))]
+pub fn read_depfile_by(alloc: Global, seed: Seed, text: &[u8]) -> Result<Prerequisites, DepError>
     ensures value { IfOk result (λ p. p ≡ prerequisites text.now) }
     ensures refusal { RefusedBy DepError.OutOfMemory result (dependency_refusal text.now) }
 {
     if text.len() > MAX_BYTES {
         return Err(DepError::TooLarge);
     }
-    prerequisites_of(alloc, text)
+    prerequisites_of(alloc, seed, text)
 }

@@ -13,6 +13,7 @@ mod prefix_finder;
 mod runs;
 mod scan;
 mod scanner;
+mod seed;
 mod source_scan;
 mod tokens;
 
@@ -23,8 +24,8 @@ pub use command_file::{
     write_command,
 };
 pub use dep_error::DepError;
-pub use dependency_file::{Prerequisites, Role, read_depfile};
-pub use found_names::FoundNames;
+pub use dependency_file::{LentPrerequisites, Prerequisites, Role, read_depfile, read_depfile_by};
+pub use found_names::{FoundNames, LentNames};
 pub use laws::{
     ended_names_are_followed, names_by_places, names_of_a_record, names_of_all_sources,
     pieces_give_the_whole, recording_examples,
@@ -33,5 +34,6 @@ pub use listing::record_text;
 pub use name_iter::NameIter;
 pub use scan::{Found, names};
 pub use scanner::{Fed, Scanner};
+pub use seed::Seed;
 pub use source_scan::{NamesBySource, SourceScan};
 pub use tokens::token_at;

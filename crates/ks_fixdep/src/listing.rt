@@ -14,8 +14,8 @@ ghost use Rattle.ks_fixdep.specs.declared.command_file.Dep.TheVariants.{File, Co
 
 use crate::command_file::{push_back, push_file, push_front, push_name};
 use crate::dependency_file::{Prerequisites, Role};
+use crate::found_names::LentNames;
 use crate::source_scan::NamesBySource;
-use ks_symbols::LentTexts;
 use std::alloc::{AllocError, Global};
 
 /// About how many bytes a line of a command file takes, with the line feed.
@@ -78,7 +78,7 @@ fn list_own_line<L: Listing>(listing: &mut L, path: &[u8], role: Role) -> Result
 /// Lists the next names, as many of them as this.
 fn list_names<L: Listing>(
     listing: &mut L,
-    names: &mut LentTexts<'_>,
+    names: &mut LentNames<'_>,
     count: usize,
 ) -> Result<(), AllocError>
     requires { IsTrue (list_all is_name names.old) }

@@ -7,6 +7,7 @@ ghost use Rattle.ks_fixdep.specs.FoundNames.{names_in};
 use crate::found_names::{FoundNames, note_all, note_carried, note_known};
 use crate::prefix_finder::PrefixFinder;
 use crate::scanner::Scanner;
+use crate::seed::Seed;
 use std::alloc::{AllocError, Global};
 
 /// The names of the sources that have ended, and of the one that is being read.
@@ -34,10 +35,18 @@ impl SourceScan {
         ensures stands { StandsAfter result [] [] }
         ensures counts { result.counts.items ≡ [] }
     {
+        SourceScan::with_seed(alloc, Seed::new(0))
+    }
+
+    /// The same, with names that are sought by a seed.
+    pub fn with_seed(alloc: Global, seed: Seed) -> Self
+        ensures stands { StandsAfter result [] [] }
+        ensures counts { result.counts.items ≡ [] }
+    {
         SourceScan {
             finder: PrefixFinder::new(),
             scanner: Scanner::new(),
-            names: FoundNames::new(alloc),
+            names: FoundNames::with_seed(alloc, seed),
             counts: Vec::new(alloc),
         }
     }

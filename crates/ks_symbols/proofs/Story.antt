@@ -3,15 +3,11 @@ use Rattle.std.proofs.Common.{◌≡◌, ℕ, ◌+◌, ◌<◌, ◌≤◌, nat_l
 use Rattle.std.proofs.lemmas.List.{append-nil}
 use Rattle.std.specs.List.{find, filter, list_any, ends_with}
 use Rattle.std.specs.Map.{lookup}
-use Rattle.std.specs.FinMap as map
-use Rattle.std.specs.Cmp.Lexicographic.{nat_list_cmp_total}
-use Rattle.std.proofs.lemmas.Map.Text.{is_eq-slice_cmp}
 use Rattle.std.proofs.lemmas.Grind.{reverse_onto}
 use Rattle.ks_symbols.specs.declared.kinds.Kind.{Kind}
 use Rattle.ks_symbols.specs.declared.error.SourceError.{SourceError}
 use Rattle.ks_symbols.specs.declared.error.SourceError.TheVariants as fault
 use Rattle.ks_symbols.specs.Names.{is_name, module_end}
-use Rattle.ks_symbols.specs.Configuration.{NameMap}
 use Rattle.ks_symbols.specs.Lines.{lines, max_bytes}
 use Rattle.ks_symbols.specs.Refusals.{or_else}
 use Rattle.std.proofs.lemmas.Bool.{cond-true, cond-false}
@@ -19,26 +15,38 @@ use Rattle.std.proofs.lemmas.Bool.Decides.{nat_tests}
 use Rattle.ks_symbols.specs.Forms.{Form, Silent, Title, Untitled, Entry, HasKind, Unknown, form}
 use Rattle.ks_symbols.specs.Kconfig.{says, opens, entry_of, declares, declarations, kind_in, title_in, lacks_kind, clashes, kind_fault, form_fault, goes_on, first_form_fault, story, kconfig_refusal}
 use Rattle.ks_symbols.specs.Titles.{is_title}
-use Rattle.ks_symbols.specs.Progress.{Progress, no_progress, progress_after, waiting_fault, step_fault}
+use Rattle.ks_symbols.specs.Progress.{Declared, Progress, no_progress, progress_after, waiting_fault, step_fault, last_kind}
+
+-- one more declaration counts
+last_pushed : (o : Option Kind) (b c : Bool) (k l : Kind) → or_else (cond b (Some k) o) (cond c (Some l) None) ≡ cond b (Some k) (or_else o (cond c (Some l) None))
+last_pushed o true c k l = refl
+last_pushed o false c k l = refl
+
+pub last_kind-push : (ds : List Declared) (d : Declared) (x : List ℕ) → last_kind (ds ++ d ∷ []) x ≡ cond (bytes_eq x d.0) (Some d.1.0) (last_kind ds x)
+unfolding last_kind
+last_kind-push [] d x = refl
+last_kind-push (e ∷ ds) d x =
+    ap (λ o. or_else o (cond (bytes_eq x e.0) (Some e.1.0) None)) (last_kind-push ds d x)
+    ∙ last_pushed (last_kind ds x) (bytes_eq x d.0) (bytes_eq x e.0) d.1.0 e.1.0
 
 -- the reader stands where the story so far leads
 pub record Matches (s : Progress) (said : List Form) : Type 0 where
-  pub kinds : (x : List ℕ) → map.get s.kinds x ≡ kind_in said x
+  pub kinds : (x : List ℕ) → last_kind s.declared x ≡ kind_in said x
   pub started : s.started ≡ list_any opens said
   pub title : unwrap_or s.title (codes "Main menu") ≡ title_in said
   pub waiting : option_map (λ w. w.1) s.waiting ≡ entry_of said
 
 pub matches_start : Matches no_progress []
-unfolding declarations title_in
-matches_start = record { kinds = λ x. map.get-empty _ x; started = refl; title = refl; waiting = refl }
+unfolding declarations title_in last_kind
+matches_start = record { kinds = λ x. refl; started = refl; title = refl; waiting = refl }
 
 -- what is wrong with an entry that waits, by the form that comes next
 abbrev pub lacking : Option (ℕ × List ℕ) → Option Form → Option SourceError
 lacking None next = None
 lacking (Some w) next = cond (lacks_kind next) (Some (fault.NoType w.0)) None
 
-abbrev made : NameMap Kind → Option (List ℕ) → Bool → Option (ℕ × List ℕ) → Progress
-made kinds title started waiting = record { kinds = kinds; title = title; started = started; waiting = waiting }
+abbrev made : List Declared → Option (List ℕ) → Bool → Option (ℕ × List ℕ) → Progress
+made kinds title started waiting = record { declared = kinds; title = title; started = started; waiting = waiting }
 
 entry_split : (a b l : Bool) (n : ℕ) (R : Option SourceError)
     → or_else (cond (not a) (Some (fault.BadName n)) (cond b (Some (fault.ModuleName n)) (cond l (Some (fault.NoType n)) None))) R
@@ -48,10 +56,10 @@ entry_split true true l n R = refl
 entry_split true false l n R = refl
 
 -- a step finds the faults of its line, and those of an entry for which the line comes next
-step_agrees : (kinds : NameMap Kind) (title : Option (List ℕ)) (started : Bool) (waiting : Option (ℕ × List ℕ)) (said : List Form)
+step_agrees : (kinds : List Declared) (title : Option (List ℕ)) (started : Bool) (waiting : Option (ℕ × List ℕ)) (said : List Form)
     → Matches (made kinds title started waiting) said → (n : ℕ) (f : Form) (later : List Form) (R : Option SourceError)
     → or_else (lacking waiting (find says (f ∷ later))) (or_else (form_fault n said f later) R)
-    ≡ or_else (step_fault (made kinds title started waiting) n f)
+    ≡ or_else (step_fault (last_kind kinds) (made kinds title started waiting) n f)
     (or_else (lacking (progress_after (made kinds title started waiting) n f).waiting (find says later)) R)
 step_agrees kinds title started waiting said m n Silent later R = refl
 step_agrees kinds title started None said m n Unknown later R = refl
@@ -70,8 +78,8 @@ step_agrees kinds title started (Some w) said m n (HasKind k) later R =
     ∙ ap (λ o. or_else (cond (clashes k o) (Some (fault.TypeClash n)) None) R) (sym (m.kinds w.1))
 
 -- and after a step with no fault the reader stands where the longer story leads
-step_matches : (kinds : NameMap Kind) (title : Option (List ℕ)) (started : Bool) (waiting : Option (ℕ × List ℕ)) (said : List Form)
-    → Matches (made kinds title started waiting) said → (n : ℕ) (f : Form) → step_fault (made kinds title started waiting) n f ≡ None
+step_matches : (kinds : List Declared) (title : Option (List ℕ)) (started : Bool) (waiting : Option (ℕ × List ℕ)) (said : List Form)
+    → Matches (made kinds title started waiting) said → (n : ℕ) (f : Form) → step_fault (last_kind kinds) (made kinds title started waiting) n f ≡ None
     → Matches (progress_after (made kinds title started waiting) n f) (goes_on f said)
 unfolding declarations title_in
 step_matches kinds title started waiting said m n Silent e = m
@@ -85,8 +93,7 @@ step_matches kinds title started (Some w) said m n (Entry x) e = absurd (cc e)
 step_matches kinds title started None said m n (HasKind k) e = absurd (cc e)
 step_matches kinds title started (Some w) said m n (HasKind k) e = record {
   kinds = λ x.
-      map.get-insert nat_list_cmp_total kinds w.1 k x
-      ∙ ap (λ b. cond b (Some k) (map.get kinds x)) (is_eq-slice_cmp x w.1)
+      last_kind-push kinds (w.1, (k, n)) x
       ∙ ap (cond (bytes_eq x w.1) (Some k)) (m.kinds x)
       ∙ ap (λ o. lookup (bytes_eq x) (declares k o ++ declarations said)) m.waiting;
   started = m.started;
@@ -97,14 +104,14 @@ step_matches kinds title started (Some w) said m n (HasKind k) e = record {
 -- the reader over all lines
 pub run_fault : Progress → ℕ → List Form → Option SourceError
 run_fault s n [] = waiting_fault s.waiting
-run_fault s n (f ∷ later) = or_else (step_fault s n f) (run_fault (progress_after s n f) (n + 1) later)
+run_fault s n (f ∷ later) = or_else (step_fault (last_kind s.declared) s n f) (run_fault (progress_after s n f) (n + 1) later)
 
 pub run_end : Progress → ℕ → List Form → Progress
 run_end s n [] = s
 run_end s n (f ∷ later) = run_end (progress_after s n f) (n + 1) later
 
 pub run_fault-cons : (s : Progress) (n : ℕ) (f : Form) (later : List Form) → run_fault s n (f ∷ later)
-    ≡ or_else (step_fault s n f) (run_fault (progress_after s n f) (n + 1) later)
+    ≡ or_else (step_fault (last_kind s.declared) s n f) (run_fault (progress_after s n f) (n + 1) later)
 unfolding run_fault
 run_fault-cons s n f later = refl
 
@@ -132,12 +139,12 @@ run_agrees s said m n [] = at_end s.waiting
 run_agrees s said m n (f ∷ later) =
     let R = first_form_fault (n + 1) (goes_on f said) later in
     let after = progress_after s n f in
-    elim (step_fault s n f) as (λ o. step_fault s n f ≡ o → or_else o (run_fault after (n + 1) later)
+    elim (step_fault (last_kind s.declared) s n f) as (λ o. step_fault (last_kind s.declared) s n f ≡ o → or_else o (run_fault after (n + 1) later)
     ≡ or_else o (or_else (lacking after.waiting (find says later)) R)) [
-      | None ↦ λ e. run_agrees after (goes_on f said) (step_matches s.kinds s.title s.started s.waiting said m n f e) (n + 1) later
+      | None ↦ λ e. run_agrees after (goes_on f said) (step_matches s.declared s.title s.started s.waiting said m n f e) (n + 1) later
       | Some x ↦ λ e. refl
     ] refl
-    ∙ sym (step_agrees s.kinds s.title s.started s.waiting said m n f later R)
+    ∙ sym (step_agrees s.declared s.title s.started s.waiting said m n f later R)
 
 -- a story that goes on over forms
 unfoldable pub story_after : List Form → List Form → List Form
@@ -151,9 +158,9 @@ unfolding run_fault run_end story_after
 run_matches s said m n [] e = m
 run_matches s said m n (f ∷ later) e =
     let after = progress_after s n f in
-    elim (step_fault s n f) as (λ o. step_fault s n f ≡ o → or_else o (run_fault after (n + 1) later) ≡ None
+    elim (step_fault (last_kind s.declared) s n f) as (λ o. step_fault (last_kind s.declared) s n f ≡ o → or_else o (run_fault after (n + 1) later) ≡ None
     → Matches (run_end after (n + 1) later) (story_after (goes_on f said) later)) [
-      | None ↦ λ is h. run_matches after (goes_on f said) (step_matches s.kinds s.title s.started s.waiting said m n f is) (n + 1) later h
+      | None ↦ λ is h. run_matches after (goes_on f said) (step_matches s.declared s.title s.started s.waiting said m n f is) (n + 1) later h
       | Some x ↦ λ is h. absurd (cc h)
     ] refl e
 

@@ -1,5 +1,5 @@
 -- What contracts see of symbols and settings, and what a configuration is.
-use Rattle.std.specs.Prelude.{ℕ, List, ◌≡◌, IsTrue, Option, Some, refl, false}
+use Rattle.std.specs.Prelude.{ℕ, List, ◌≡◌, IsTrue, Option, Some, refl, false, map as map_list}
 use Rattle.std.specs.Coded.{Coded, code_by, coded_ℕ, coded_list, coded×}
 use Rattle.ks_symbols.specs.declared.kinds.Kind.{Kind}
 use Rattle.std.specs.Ordering.{nat_cmp}
@@ -37,9 +37,9 @@ coded_settings_view =
     code_by (Configuration × ℕ) (coded× (map.code (coded_list coded_ℕ) (coded× coded_kind (coded_list coded_ℕ))) coded_ℕ)
     (λ d. (d.entries, d.unknown)) (λ p. record { entries = p.0; unknown = p.1 }) (λ _. refl)
 
--- the map of entries in any order
-abbrev pub by_name : {X : Type 0} → List (List ℕ × X) → NameMap X
-by_name entries = map.from_entries entries
+-- the kinds of a table of names with kinds
+unfoldable pub kinds_in : NameMap (Kind × List ℕ) → NameMap Kind
+kinds_in table = map.from_entries (map_list (λ e. (e.0, e.1.0)) (map.entries table))
 
 -- an entry as it is lent
 abbrev pub lent_entry : Bor (List ℕ) × Kind × Bor (List ℕ) → List ℕ × (Kind × List ℕ)

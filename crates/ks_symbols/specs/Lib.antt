@@ -15,5 +15,3 @@ pub mod Settling
 pub mod Laws
 pub mod Examples
 pub mod Table
-pub mod Interner
-pub mod TextMap

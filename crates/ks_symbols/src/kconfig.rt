@@ -3,11 +3,12 @@
 //! One missed declaration would leave a symbol out of the header, so whatever is not of the selection of
 //! forms is refused with its line, and nothing is guessed. Dependencies, defaults, choices, menus and
 //! `source` are left out: the values of a `.config` come resolved.
-ghost use Rattle.std.specs.Prelude.{◌≡◌, ◌+◌, ◌≤◌, ◌<◌, ◌^◌, ℕ, List, option_map, unwrap_or, codes, vec_items, false, Some, IfOk, OnOk, IsTrue};
+ghost use Rattle.std.specs.Prelude.{◌≡◌, ◌+◌, ◌≤◌, ◌<◌, ◌^◌, [], ℕ, List, Option, option_map, unwrap_or, codes, vec_items, length, None, Some, IfOk, IfNone, OnOk, OnErr, IsTrue, map as map_list};
 ghost use Rattle.std.specs.FinMap as map;
-ghost use Rattle.ks_symbols.specs.Refusals.{RefusedBy};
-ghost use Rattle.ks_symbols.specs.Configuration.{by_name, HasSymbolNames};
-ghost use Rattle.ks_symbols.specs.Progress.{no_progress, waiting_fault, progress_after, step_fault};
+ghost use Rattle.ks_symbols.specs.declared.error.SourceError.{SourceError};
+ghost use Rattle.ks_symbols.specs.Refusals.{RefusedBy, or_else};
+ghost use Rattle.ks_symbols.specs.Configuration.{HasSymbolNames};
+ghost use Rattle.ks_symbols.specs.Progress.{no_progress, waiting_fault, progress_after, step_fault, no_kinds, seen, first_kind, last_kind, first_clash, without_text};
 ghost use Rattle.ks_symbols.specs.Forms.{form, Title, Entry, HasKind};
 ghost use Rattle.ks_symbols.specs.Titles.{is_title};
 ghost use Rattle.ks_symbols.specs.Kconfig.{clashes, declared, title_of, kconfig_refusal};
@@ -18,11 +19,19 @@ use crate::kinds::Kind;
 use crate::limits::MAX_BYTES;
 use crate::names::name_is_legal;
 use crate::symbols::Symbols;
-use crate::text_map::TextMap;
+use crate::table::{Draft, Table};
 use crate::titles::is_title;
 use bstr::ByteSlice;
 use std::alloc::{AllocError, Global};
 use std::marker::Model;
+
+/// A declaration, which lies in the text.
+#[derive(Clone, Copy)]
+pub(crate) struct Declaration<'a> {
+    name: &'a [u8],
+    kind: Kind,
+    number: u64,
+}
 
 /// Whether a symbol of a kind was declared with another one before.
 fn clashes(kind: Kind, before: Kind) -> bool
@@ -31,15 +40,43 @@ fn clashes(kind: Kind, before: Kind) -> bool
     kind != before
 }
 
-/// Declares a symbol, and tells whether it was declared with another kind before.
-fn declare(kinds: &mut TextMap<Kind>, name: &[u8], kind: Kind) -> Result<bool, AllocError>
-    ensures clash { IfOk result (λ clash. clash ≡ clashes kind (map.get (by_name kinds.old) name.now)) }
-    ensures declared { IfOk result (λ clash. clash ≡ false → by_name kinds.new ≡ map.insert (by_name kinds.old) name.now kind) }
+/// The kinds with which names are declared first. Of several lines about a name a draft keeps the last one, so it gets them in
+/// turned order.
+fn first_kinds(alloc: Global, declared: &[Declaration<'_>]) -> Result<Table<Kind>, AllocError>
+    ensures { IfOk result (λ t. (x : List ℕ) → map.get t x ≡ option_map without_text (first_kind (map_list seen declared.now) x)) }
 {
-    match kinds.get_or_push(name, kind)? {
-        Some(before) => Ok(clashes(kind, before)),
-        None => Ok(false),
+    let mut kinds = Draft::new(alloc);
+    let mut place = declared.len();
+    while place > 0 {
+        place -= 1;
+        let declaration = &declared[place];
+        kinds.put(declaration.name, declaration.kind, b"")?;
     }
+    kinds.close(alloc)
+}
+
+/// Whether a declaration has another kind than its name has here.
+fn has_other_kind(kinds: &Table<Kind>, declaration: &Declaration<'_>) -> bool
+    ensures { result ≡ clashes declaration.now.kind (option_map (λ s. s.0) (map.get kinds.now declaration.now.name.now)) }
+{
+    match kinds.get(declaration.name) {
+        Some((first, _)) => clashes(declaration.kind, first),
+        None => false,
+    }
+}
+
+/// The line of the first declaration with another kind than the first one of its name.
+fn first_clash(kinds: &Table<Kind>, declared: &[Declaration<'_>]) -> Option<u64>
+    requires { (x : List ℕ) → map.get kinds.now x ≡ option_map without_text (first_kind (map_list seen declared.now) x) }
+    ensures clash { option_map (λ n. SourceError.TypeClash n) result ≡ first_clash [] (map_list seen declared.now) }
+    ensures kinds { IfNone result ((x : List ℕ) → first_kind (map_list seen declared.now) x ≡ last_kind (map_list seen declared.now) x) }
+{
+    for declaration in declared {
+        if has_other_kind(kinds, declaration) {
+            return Some(declaration.number);
+        }
+    }
+    None
 }
 
 /// A copy of the title, or of the one that a text without a title line has.
@@ -55,23 +92,22 @@ fn title_or_default(alloc: Global, title: Option<&[u8]>) -> Result<Vec<u8>, Allo
 /// What was read of a Kconfig text so far.
 #[derive(Drop)]
 struct Reader<'a> {
-    kinds: TextMap<Kind>,
+    declared: Vec<Declaration<'a>>,
     title: Option<&'a [u8]>,
     started: bool,
     waiting: Option<(u64, &'a [u8])>,
 }
 
 impl<'a> Model for Reader<'a> {
-    ghost use Rattle.std.specs.Prelude.{option_map};
-    ghost use Rattle.ks_symbols.specs.Configuration.{by_name};
-    ghost use Rattle.ks_symbols.specs.Progress.{Progress, coded_progress};
+    ghost use Rattle.std.specs.Prelude.{option_map, map};
+    ghost use Rattle.ks_symbols.specs.Progress.{Progress, coded_progress, seen};
 
     ghost Value = { Progress };
 
     ghost coded = { coded_progress };
 
     ghost view = { λ s. record {
-      kinds = by_name s.kinds;
+      declared = map seen s.declared.items;
       title = option_map (λ t. t.now) s.title;
       started = s.started;
       waiting
@@ -84,7 +120,7 @@ impl<'a> Reader<'a> {
         ensures { result ≡ no_progress }
     {
         Reader {
-            kinds: TextMap::new(alloc),
+            declared: Vec::new(alloc),
             title: None,
             started: false,
             waiting: None,
@@ -104,7 +140,8 @@ impl<'a> Reader<'a> {
 
     fn take_title(&mut self, number: u64, title: &'a [u8]) -> Result<(), SourceError>
         ensures progress { OnOk result (self.new ≡ progress_after self.old number (Title title.now)) }
-        ensures refusal { RefusedBy SourceError.OutOfMemory result (step_fault self.old number (Title title.now)) }
+        ensures refusal { RefusedBy SourceError.OutOfMemory result (step_fault no_kinds self.old number (Title title.now)) }
+        ensures kept { OnErr result (self.new.declared ≡ self.old.declared) }
     {
         self.check_waiting()?;
         if !is_title(title) || self.started {
@@ -117,7 +154,8 @@ impl<'a> Reader<'a> {
 
     fn take_entry(&mut self, number: u64, name: &'a [u8]) -> Result<(), SourceError>
         ensures progress { OnOk result (self.new ≡ progress_after self.old number (Entry name.now)) }
-        ensures refusal { RefusedBy SourceError.OutOfMemory result (step_fault self.old number (Entry name.now)) }
+        ensures refusal { RefusedBy SourceError.OutOfMemory result (step_fault no_kinds self.old number (Entry name.now)) }
+        ensures kept { OnErr result (self.new.declared ≡ self.old.declared) }
     {
         self.check_waiting()?;
         if !name_is_legal(name) {
@@ -133,20 +171,20 @@ impl<'a> Reader<'a> {
 
     fn take_kind(&mut self, number: u64, kind: Kind) -> Result<(), SourceError>
         ensures progress { OnOk result (self.new ≡ progress_after self.old number (HasKind kind)) }
-        ensures refusal { RefusedBy SourceError.OutOfMemory result (step_fault self.old number (HasKind kind)) }
+        ensures refusal { RefusedBy SourceError.OutOfMemory result (step_fault no_kinds self.old number (HasKind kind)) }
+        ensures kept { OnErr result (self.new.declared ≡ self.old.declared) }
     {
         let Some((_, name)) = self.waiting.take() else {
             return Err(SourceError::NotBare(number));
         };
-        if declare(&mut self.kinds, name, kind)? {
-            return Err(SourceError::TypeClash(number));
-        }
+        self.declared.push(Declaration { name, kind, number })?;
         Ok(())
     }
 
     fn take_line(&mut self, number: u64, line: &'a [u8]) -> Result<(), SourceError>
         ensures progress { OnOk result (self.new ≡ progress_after self.old number (form line.now)) }
-        ensures refusal { RefusedBy SourceError.OutOfMemory result (step_fault self.old number (form line.now)) }
+        ensures refusal { RefusedBy SourceError.OutOfMemory result (step_fault no_kinds self.old number (form line.now)) }
+        ensures kept { OnErr result (self.new.declared ≡ self.old.declared) }
     {
         match form_of(line) {
             Form::Silent => Ok(()),
@@ -161,19 +199,49 @@ impl<'a> Reader<'a> {
         }
     }
 
-    /// The symbols, where no entry waits for its kind.
-    fn finish(self, alloc: Global) -> Result<Symbols, SourceError>
-        ensures kinds { IfOk result (λ s. s.kinds ≡ self.entry.kinds) }
-        ensures title { IfOk result (λ s. s.title ≡ unwrap_or self.entry.title (codes "Main menu")) }
-        ensures refusal { RefusedBy SourceError.OutOfMemory result (waiting_fault self.entry.waiting) }
+    /// Takes the lines of a text, up to the first that is refused by itself, and not for the kind of its name.
+    fn take_lines(&mut self, text: &'a [u8]) -> Result<(), SourceError>
+        requires start { self.old ≡ no_progress }
+        requires small { length text.now ≤ 67108864 }
+        ensures refusal { (other : Option SourceError) × RefusedBy SourceError.OutOfMemory result other
+            × (or_else (first_clash [] self.new.declared) other ≡ kconfig_refusal text.now) }
+        ensures kinds { OnOk result (first_clash [] self.new.declared ≡ None → (x : List ℕ) → last_kind self.new.declared x ≡ declared text.now x) }
+        ensures title { OnOk result (first_clash [] self.new.declared ≡ None → unwrap_or self.new.title (codes "Main menu") ≡ title_of text.now) }
     {
-        self.check_waiting()?;
-        let title = title_or_default(alloc, self.title)?;
-        Ok(Symbols::new(self.kinds, title))
+        let mut number: u64 = 1;
+        for line in text.lines() {
+            self.take_line(number, line)?;
+            number += 1;
+        }
+        self.check_waiting()
+    }
+
+    /// The kinds with which names are declared first.
+    fn kinds(&self, alloc: Global) -> Result<Table<Kind>, AllocError>
+        ensures { IfOk result (λ t. (x : List ℕ) → map.get t x ≡ option_map without_text (first_kind self.now.declared x)) }
+    {
+        first_kinds(alloc, &self.declared)
+    }
+
+    /// The line of the first declaration with another kind than the first one of its name.
+    fn clash(&self, kinds: &Table<Kind>) -> Option<u64>
+        requires { (x : List ℕ) → map.get kinds.now x ≡ option_map without_text (first_kind self.now.declared x) }
+        ensures clash { option_map (λ n. SourceError.TypeClash n) result ≡ first_clash [] self.now.declared }
+        ensures kinds { IfNone result ((x : List ℕ) → first_kind self.now.declared x ≡ last_kind self.now.declared x) }
+    {
+        first_clash(kinds, &self.declared)
+    }
+
+    /// The title of the text.
+    fn title(&self, alloc: Global) -> Result<Vec<u8>, AllocError>
+        ensures { IfOk result (λ t. t.items ≡ unwrap_or self.now.title (codes "Main menu")) }
+    {
+        title_or_default(alloc, self.title)
     }
 }
 
-/// The symbols that a Kconfig text declares.
+/// The symbols that a Kconfig text declares. Which line is the first with another kind than a name has is known only when all
+/// lines are read, and then told before the fault of any line behind it.
 pub fn read_kconfig(alloc: Global, text: &[u8]) -> Result<Symbols, SourceError>
     ensures kinds { IfOk result (λ s. (x : List ℕ) → map.get s.kinds x ≡ declared text.now x) }
     ensures title { IfOk result (λ s. s.title ≡ title_of text.now) }
@@ -185,10 +253,12 @@ pub fn read_kconfig(alloc: Global, text: &[u8]) -> Result<Symbols, SourceError>
         return Err(SourceError::TooLarge);
     }
     let mut reader = Reader::new(alloc);
-    let mut number: u64 = 1;
-    for line in text.lines() {
-        reader.take_line(number, line)?;
-        number += 1;
+    let read = reader.take_lines(text);
+    let kinds = reader.kinds(alloc)?;
+    if let Some(number) = reader.clash(&kinds) {
+        return Err(SourceError::TypeClash(number));
     }
-    reader.finish(alloc)
+    read?;
+    let title = reader.title(alloc)?;
+    Ok(Symbols::new(kinds, title))
 }

@@ -1,32 +1,32 @@
-//! The declared symbols. They are only looked up, so they are kept in the order of their entries.
+//! The declared symbols.
 ghost use Rattle.std.specs.Prelude.{◌≡◌};
 ghost use Rattle.std.specs.FinMap as map;
-ghost use Rattle.ks_symbols.specs.Configuration.{by_name};
+ghost use Rattle.ks_symbols.specs.Configuration.{kinds_in};
 
 use crate::kinds::Kind;
-use crate::text_map::TextMap;
+use crate::table::Table;
 use std::marker::Model;
 
 /// The symbols that a Kconfig text declares, with their kinds, and its title.
 #[derive(Drop)]
 pub struct Symbols {
-    kinds: TextMap<Kind>,
+    kinds: Table<Kind>,
     title: Vec<u8>,
 }
 
 impl Model for Symbols {
-    ghost use Rattle.ks_symbols.specs.Configuration.{Declarations, coded_declarations, by_name};
+    ghost use Rattle.ks_symbols.specs.Configuration.{Declarations, coded_declarations, kinds_in};
 
     ghost Value = { Declarations };
 
     ghost coded = { coded_declarations };
 
-    ghost view = { λ s. record { kinds = by_name s.kinds; title = s.title.items } };
+    ghost view = { λ s. record { kinds = kinds_in s.kinds; title = s.title.items } };
 }
 
 impl Symbols {
-    pub(crate) fn new(kinds: TextMap<Kind>, title: Vec<u8>) -> Symbols
-        ensures kinds { result.kinds ≡ by_name kinds }
+    pub(crate) fn new(kinds: Table<Kind>, title: Vec<u8>) -> Symbols
+        ensures kinds { result.kinds ≡ kinds_in kinds }
         ensures title { result.title ≡ title.items }
     {
         Symbols { kinds, title }
@@ -43,7 +43,7 @@ impl Symbols {
         ensures { result ≡ map.get self.now.kinds name.now }
     {
         match self.kinds.get(name) {
-            Some(kind) => Some(*kind),
+            Some((kind, _)) => Some(kind),
             None => None,
         }
     }

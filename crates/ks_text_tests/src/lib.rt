@@ -13,8 +13,6 @@ mod fixdep;
 #[cfg(test)]
 mod golden;
 #[cfg(test)]
-mod interner;
-#[cfg(test)]
 mod output;
 #[cfg(test)]
 mod script;

@@ -27,6 +27,7 @@ use std::{fs, io};
 pub struct FolderTree<R: Files> {
     files: R,
     root: String,
+    seed: u64,
     failures: u64,
     /// What failed last, where something can be said of it.
     last_fault: Option<FolderFault>,
@@ -116,6 +117,7 @@ where
         FolderTree {
             files,
             root,
+            seed: 0,
             failures: 0,
             last_fault: None,
             kept: None,
@@ -128,6 +130,14 @@ where
         ensures { result ≡ ⟦<FolderTree<R> as Tree>⟧.failures self.now }
     {
         self.failures
+    }
+
+    /// The same tree, with a seed that nobody knows who writes its files.
+    pub fn with_seed(mut self, seed: u64) -> FolderTree<R>
+        ensures { ⟦<FolderTree<R> as Tree>⟧.failures result ≡ ⟦<FolderTree<R> as Tree>⟧.failures self }
+    {
+        self.seed = seed;
+        self
     }
 
     /// What failed last, or `None` where nothing has failed, or nothing can be said of it for want of memory.
@@ -291,5 +301,9 @@ where
             Ok(()) => Ok(()),
             Err(error) => Err(self.fault(alloc, to, &error)),
         }
+    }
+
+    fn seed(&self) -> u64 {
+        self.seed
     }
 }

@@ -196,4 +196,8 @@ impl<T: Tree + Drop> Tree for FuseTree<T> {
             }
         }
     }
+
+    fn seed(&self) -> u64 {
+        self.inner.seed()
+    }
 }

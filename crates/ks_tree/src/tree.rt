@@ -66,4 +66,10 @@ pub trait Tree {
         ensures later { failures self.old ≤ failures self.new }
         ensures uncounted { IsErrOf result TreeFault.OutOfMemory → failures self.new ≡ failures self.old }
         ensures cause { IsErrOf result TreeFault.Device → HasRisen (failures self.old) (failures self.new) };
+
+    /// A number that goes into the hash of the names and paths that its files hold. No answer depends on it. Where whoever writes
+    /// the files can't know it, they can't choose names that collide.
+    fn seed(&self) -> u64 {
+        0
+    }
 }

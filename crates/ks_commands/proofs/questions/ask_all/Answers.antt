@@ -10,7 +10,7 @@ pub loop-target-init : goal.loop-target-init
 loop-target-init g c = record {
   unchanged = λ honest. refl;
   later = search rules;
-  memo = λ honest. c.new-memo.ensures (g.T.Tree.files c.args.tree.now);
+  memo = λ honest. c.with_seed-memo.ensures (g.T.Tree.files c.args.tree.now);
   told = λ honest.
       subst (λ l. TellsAll (tells_of (g.T.Tree.files c.args.tree.now) c.args.question.now) [] l 0 0) (sym c.new-text.ensures.items) (nothing_told _);
   few = search rules;

@@ -35,7 +35,7 @@ loop-command-init g c = record {
       let first = at (g.T.Tree.files c.args.tree.now) (g.T.Tree.failures c.args.tree.now) h in
       (h, subst (λ rs. Trace first [] rs first) (sym c.in_ok-replies.ensures.items) (no_steps first shows));
   later = omega arith;
-  memo = λ honest. c.new-memo.ensures (g.T.Tree.files c.args.tree.now);
+  memo = λ honest. c.with_seed-memo.ensures (g.T.Tree.files c.args.tree.now);
   told = grind (arith, common_steps);
   room = grind (arith, common_steps);
 }

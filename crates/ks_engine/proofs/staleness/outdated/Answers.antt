@@ -7,4 +7,4 @@ returns-clause-recorded g c = λ honest word h r shows last.
     last
 
 pub ask_built-requires : goal.ask_built-requires
-ask_built-requires g c = record { memo = λ honest. c.new-memo.ensures (g.T.Tree.files c.args.tree.now) }
+ask_built-requires g c = record { memo = λ honest. c.with_seed-memo.ensures (g.T.Tree.files c.args.tree.now) }

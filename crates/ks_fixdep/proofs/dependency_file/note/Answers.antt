@@ -1,20 +1,23 @@
-use Rattle.std.proofs.Common.{◌≡◌, ℕ, List, [], ◌∷◌, ◌++◌, Option, Some, None, refl, sym, ap, ◌∙◌}
-use Rattle.std.specs.Prelude.{IsSome}
-use Rattle.std.specs.Option.{is_some}
+use Rattle.std.proofs.Common.{◌≡◌, ◌++◌, ◌∷◌, [], List, ℕ, false, None, is_some, bytes_eq, sym, ap, ◌∙◌}
 use Rattle.std.proofs.lemmas.Bool.{cond-true, cond-false}
-use Rattle.ks_symbols.specs.TextMap.{value_of}
-use Rattle.ks_fixdep.specs.DependencyFile.{added}
-use Rattle.ks_fixdep.specs.declared.dependency_file.Role.{Role}
-use Rattle.ks_fixdep.proofs.NotedLemmas.{some-any}
+use Rattle.std.specs.Map.{lookup}
+use Rattle.indexmap.proofs.CallerLemmas.{insert_entry-new}
+use Rattle.ks_fixdep.specs.DependencyFile.{paths_of}
+use Rattle.ks_fixdep.proofs.NotedLemmas.{key-any, key-none, paths-push}
 use Rattle.ks_fixdep.proofs.dependency_file.note.Goals as goal
 
--- a path that has a role keeps it, and one that has none is put at the end
-is_added : (before : Option Role) (ps new : List (List ℕ × Role)) (p : List ℕ × Role) → before ≡ value_of p.0 ps → (IsSome before → new ≡ ps)
-    → (before ≡ None → new ≡ ps ++ p ∷ []) → new ≡ added ps p
-is_added None ps new p found same put = put refl ∙ sym (cond-false _ _ _ (sym (some-any p.0 ps) ∙ ap is_some (sym found)))
-is_added (Some role) ps new p found same put = same refl ∙ sym (cond-true _ _ _ (sym (some-any p.0 ps) ∙ ap is_some (sym found)))
+pub returns-then-contains_key : goal.returns-then-contains_key
+returns-then-contains_key c = sym (cond-true _ _ _ (sym (key-any c.args.path.now c.args.by_path.now.entries) ∙ sym c.contains_key.ensures ∙ c.if-contains_key.true))
 
 pub returns : goal.returns
 returns c =
-    let said = c.in_ok-get_or_push.ensures in
-    is_added c.in_ok-get_or_push.field-0 c.args.by_path.now c.get_or_push.new.self (c.args.path.now, c.args.role) said.found said.unchanged said.pushed
+    let es = c.args.by_path.now.entries in
+    let x = c.args.path.now in
+    let key = c.in_ok-owned.owned in
+    let missed : is_some (lookup (λ k. bytes_eq x k.items) es) ≡ false = sym c.contains_key.ensures ∙ c.if-contains_key.false in
+    let none : lookup (λ k. bytes_eq key.items k.items) es ≡ None =
+    ap (λ (l : List ℕ). lookup (λ k. bytes_eq l k.items) es) c.in_ok-owned.ensures.items ∙ key-none x es missed in
+    ap paths_of (c.in_ok-insert.ensures.entries ∙ insert_entry-new (λ a b. bytes_eq a.items b.items) c.args.by_path.now key c.args.role none)
+    ∙ paths-push es key c.args.role
+    ∙ ap (λ (l : List ℕ). paths_of es ++ (l, c.args.role) ∷ []) c.in_ok-owned.ensures.items
+    ∙ sym (cond-false _ _ _ (sym (key-any x es) ∙ missed))

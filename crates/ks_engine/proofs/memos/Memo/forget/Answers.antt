@@ -1,12 +1,8 @@
-use Rattle.std.proofs.Common.{◌≡◌, Option, Some, None, refl, sym, ap, ◌∙◌}
-use Rattle.std.specs.Option.{is_some, option_map}
-use Rattle.ks_engine.proofs.Keeping.{no_source}
+use Rattle.std.proofs.Common.{sym, ap, ◌∙◌, is_some}
+use Rattle.ks_engine.proofs.Keeping.{no_source, value-pairs}
 use Rattle.ks_engine.proofs.memos.Memo.forget.Goals as goal
 
-mapped : {A B : Type 0} (f : A → B) (o : Option A) → is_some (option_map f o) ≡ is_some o
-mapped f None = refl
-mapped f (Some x) = refl
-
-pub returns-else-is_some-clause-gone : goal.returns-else-is_some-clause-gone
-returns-else-is_some-clause-gone c =
-    no_source c.args.path.now c.args.self.now (sym (ap is_some c.get.ensures) ∙ mapped (λ v. v.now) c.get.result ∙ sym c.is_some.ensures ∙ c.if-is_some.false)
+pub returns-else-contains_key-clause-gone : goal.returns-else-contains_key-clause-gone
+returns-else-contains_key-clause-gone c =
+    no_source c.args.path.now c.args.self.now
+    (ap is_some (value-pairs c.args.path.now c.args.self.now.sources.entries) ∙ sym c.contains_key.ensures ∙ c.if-contains_key.false)

@@ -1,8 +1,18 @@
-use Rattle.std.proofs.Common.{inr, Some, sym, ap, ◌∙◌}
+use Rattle.std.proofs.Common.{List, ℕ, bytes_eq, inl, inr, Some, sym, ap, ◌∙◌}
+use Rattle.std.specs.Option.{option_map}
 use Rattle.std.proofs.lemmas.Slice.Eq.{bytes_eq-Decides}
+use Rattle.ks_engine.proofs.Keeping.{lent_kept, value-pairs, pair-at}
 use Rattle.ks_engine.proofs.memos.Memo.source.Goals as goal
 
-pub returns-then-eq-clause-kept : goal.returns-then-eq-clause-kept
-returns-then-eq-clause-kept c =
-    let same = (bytes_eq-Decides c.in-Some.next.now c.args.path.now).0 (sym c.eq.ensures ∙ c.if-eq.true) in
-    inr (c.args.self.now.next, sym c.in-Some.ensures ∙ ap (λ p. Some (p, c.in-Some.source.now)) same)
+pub returns-then-eq : goal.returns-then-eq
+returns-then-eq c =
+    let same = (bytes_eq-Decides c.in-Some.next.now.items c.args.path.now).0 (ap (λ (l : List ℕ). bytes_eq l c.args.path.now) (sym c.as_slice.ensures.value) ∙ sym c.eq.ensures ∙ c.if-eq.true) in
+    record {
+      kept = inr (c.args.self.now.next, pair-at c.args.self.now.next c.args.self.now.sources.entries
+          ∙ ap (option_map (λ e. (e.0.items, e.1))) (sym c.in-Some.ensures.entry) ∙ ap (λ p. Some (p, c.in-Some.source.now)) same);
+    }
+
+pub returns : goal.returns
+returns c = record {
+  kept = lent_kept c.get.result _ _ c.get.ensures.value (λ s is. inl (value-pairs c.args.path.now c.args.self.now.sources.entries ∙ is));
+}

@@ -5,7 +5,7 @@ use Rattle.ks_fixdep.specs.declared.dependency_file.Role.{Role}
 use Rattle.std.specs.Prelude.{if◌then◌else◌}
 use Rattle.std.proofs.lemmas.List.Sums.{fold-append}
 use Rattle.ks_fixdep.specs.declared.dependency_file.Role.TheVariants as role
-use Rattle.ks_fixdep.specs.DependencyFile.{is_kept, is_target_token, with_roles, role_after, once, added}
+use Rattle.ks_fixdep.specs.DependencyFile.{is_kept, is_target_token, with_roles, role_after, once, added, paths_of}
 use Rattle.ks_fixdep.proofs.RoleLemmas.{target-yes, target-no, kept-no, kept-yes, since-target, since-no, since-yes, roles-no, roles-yes, role-same, not-kept-target, kept-when, some-added, legal-added}
 use Rattle.ks_fixdep.proofs.dependency_file.Progress.take.Goals as goal
 
@@ -59,7 +59,7 @@ returns-clause-stands c seen s =
       since = sym (since-yes seen x other kept);
       number = ap (λ n. n + 1) s.number ∙ sym (length-append seen (x ∷ []));
       found = c.in_ok-note.ensures ∙ ap (λ es. added es (x, made)) s.found ∙ ap (λ r. added (once (with_roles [] seen)) (x, r)) rule ∙ sym step;
-      some = λ _. subst (λ (es : List (List ℕ × Role)). 0 < length es) (sym c.in_ok-note.ensures) (some-added before.by_path (x, made));
-      legal = ap (list_all (λ e. is_path e.0)) c.in_ok-note.ensures ∙ legal-added before.by_path x made s.legal
+      some = λ _. subst (λ (es : List (List ℕ × Role)). 0 < length es) (sym c.in_ok-note.ensures) (some-added (paths_of before.by_path.entries) (x, made));
+      legal = ap (list_all (λ e. is_path e.0)) c.in_ok-note.ensures ∙ legal-added (paths_of before.by_path.entries) x made s.legal
           (sym c.path_is_legal.ensures.legal ∙ c.if-not-path_is_legal.false);
     }

@@ -1,0 +1,12 @@
+use Rattle.std.proofs.Common.{[], sym, ap, ◌∙◌, map}
+use Rattle.ks_fixdep.specs.FoundNames.{all_noted}
+use Rattle.ks_fixdep.specs.Scan.{bare_name}
+use Rattle.ks_fixdep.proofs.NameLemmas.{ended-nil}
+use Rattle.ks_fixdep.proofs.source_scan.SourceScan.with_seed.Goals as goal
+
+pub returns-clause-stands : goal.returns-clause-stands
+returns-clause-stands c = record {
+  word = c.new-2.ensures;
+  names = c.with_seed.ensures ∙ ap (λ xs. all_noted [] (map bare_name xs)) (sym ended-nil);
+  counts = c.new-3.ensures.items;
+}

@@ -1,0 +1,16 @@
+use Rattle.std.proofs.Common.{◌≡◌, ◌≤◌, ℕ, List, length, take, option_map, map as map_list}
+use Rattle.std.specs.FinMap as map
+use Rattle.ks_symbols.specs.Refusals.{or_else}
+use Rattle.ks_symbols.specs.Progress.{seen, first_kind, without_text}
+use Rattle.ks_symbols.proofs.kconfig.first_kinds.Given as goal
+
+-- what the declarations before this place say first, and else those behind it
+abbrev pub invariant-loop-place : goal.invariant-loop-place
+invariant-loop-place l = record {
+  within : l.place ≤ length l.declared;
+  kinds : (x : List ℕ) → or_else (option_map without_text (first_kind (map_list seen (take l.place l.declared)) x)) (map.get l.kinds x)
+      ≡ option_map without_text (first_kind (map_list seen l.declared) x);
+}
+
+abbrev pub decreases-loop-place : goal.decreases-loop-place
+decreases-loop-place l = l.place

@@ -1,7 +1,9 @@
 -- Which calls of a tree pass, and what becomes of the others.
-use Rattle.std.specs.Prelude.{◌≡◌, ◌⊎◌, ◌/◌, List, take, length, ℕ, ◌+◌, ◌-◌, min, Bool, true, false, ◌&&◌, ◌||◌, ◌==◌, not, nat_lt, Option, Some, None, if◌then◌else◌}
+use Rattle.std.specs.Prelude.{◌≡◌, ◌/◌, List, take, length, ℕ, ◌+◌, ◌-◌, min, Bool, true, false, ◌&&◌, ◌||◌, ◌==◌, not, nat_lt, Option, Some, None, Result, OnOk, IsErrOf, if◌then◌else◌}
 use Rattle.ks_tree.specs.declared.tree.Tree.{Ghosts}
 use Rattle.ks_tree.specs.Files.{content, IsMoved, HasRisen}
+use Rattle.ks_tree.specs.declared.fault.TreeFault.{TreeFault}
+use Rattle.ks_tree.specs.declared.fault.TreeFault.TheVariants.{OutOfMemory, Device}
 use Rattle.ks_tree.specs.declared.fuse.Fuse.{Fuse}
 use Rattle.ks_tree.specs.declared.fuse.FuseTree.{FuseTree}
 use Rattle.ks_tree.specs.declared.fuse.FuseMode.{FuseMode}
@@ -40,7 +42,7 @@ passes_next f = nat_lt 0 f.passes || not (some_fail f.fails)
 abbrev pub turn_of : Fuse → Turn
 turn_of f = if passes_next f then Pass else if is_half f.mode && f.failed == 0 then HalfDone else Fail
 
--- the fuse behind the call
+-- the fuse after the call
 abbrev pub after_call : Fuse → Fuse
 after_call f =
     if passes_next f then record f { passes = f.passes - 1 }
@@ -57,12 +59,32 @@ pub record IsFuseCall {T : Type 0} (tree : Ghosts T) (old new : FuseTree T) (dev
   pub failed : (turn_of (fuse_of old) ≡ Pass → ⊥) → device
   pub clean : turn_of (fuse_of old) ≡ Fail → inner_of new ≡ inner_of old
 
--- A half write left the first half of its bytes, unless the tree behind the fuse did not take it.
-abbrev pub IsHalfWritten : {T : Type 0} → Ghosts T → List ℕ → List ℕ → T → T → Type 0
-IsHalfWritten tree path bytes old new =
-    (content (tree.files new) path ≡ Some (take (length bytes / 2) bytes)) ⊎ (tree.files new ≡ tree.files old)
-    ⊎ HasRisen (tree.failures old) (tree.failures new)
+-- the first half of the bytes, rounded down
+abbrev pub half_of : List ℕ → List ℕ
+half_of bytes = take (length bytes / 2) bytes
 
--- A half rename has happened, unless the tree behind the fuse did not do it.
-abbrev pub IsHalfMoved : {T : Type 0} → Ghosts T → List ℕ → List ℕ → T → T → Type 0
-IsHalfMoved tree from to old new = IsMoved from to (tree.files old) (tree.files new) ⊎ (tree.files new ≡ tree.files old)
+-- A half write: the tree behind the fuse was asked to write the first half of the bytes, and this was its answer.
+pub record IsHalfWrite {T : Type 0} (tree : Ghosts T) (path bytes : List ℕ) (old new : T) (answer : Result Unit TreeFault) : Type 0 where
+  pub asked : tree.writes old path (half_of bytes) new answer
+  pub written : tree.is_honest → OnOk answer (content (tree.files new) path ≡ Some (half_of bytes))
+  pub refused : tree.is_honest → IsErrOf answer OutOfMemory → tree.files new ≡ tree.files old
+  pub failed : IsErrOf answer Device → HasRisen (tree.failures old) (tree.failures new)
+
+-- A half rename: the tree behind the fuse was asked to do it, and this was its answer.
+pub record IsHalfRename {T : Type 0} (tree : Ghosts T) (from to : List ℕ) (old new : T) (answer : Result Unit TreeFault) : Type 0 where
+  pub asked : tree.renames old from to new answer
+  pub moved : tree.is_honest → OnOk answer (IsMoved from to (tree.files old) (tree.files new))
+  pub refused : tree.is_honest → IsErrOf answer OutOfMemory → tree.files new ≡ tree.files old
+  pub failed : IsErrOf answer Device → HasRisen (tree.failures old) (tree.failures new)
+
+-- What a write does at a turn of the fuse: one that passes is that of the tree behind it, and a failed one did nothing.
+abbrev pub WritesAt : {T : Type 0} → Turn → Ghosts T → T → List ℕ → List ℕ → T → Result Unit TreeFault → Type 0
+WritesAt Pass tree old path bytes new answer = tree.writes old path bytes new answer
+WritesAt Fail tree old path bytes new answer = new ≡ old
+WritesAt HalfDone tree old path bytes new answer = (inner : Result Unit TreeFault) × IsHalfWrite tree path bytes old new inner
+
+-- What a rename does at a turn of the fuse.
+abbrev pub RenamesAt : {T : Type 0} → Turn → Ghosts T → T → List ℕ → List ℕ → T → Result Unit TreeFault → Type 0
+RenamesAt Pass tree old from to new answer = tree.renames old from to new answer
+RenamesAt Fail tree old from to new answer = new ≡ old
+RenamesAt HalfDone tree old from to new answer = (inner : Result Unit TreeFault) × IsHalfRename tree from to old new inner

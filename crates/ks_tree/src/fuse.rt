@@ -98,7 +98,7 @@ impl<T: Drop> FuseTree<T> {
 }
 
 impl<T: Tree + Drop> Tree for FuseTree<T> {
-    ghost use Rattle.ks_tree.specs.Fuse.{IsFuseCall, IsHalfMoved, IsHalfWritten, failed_in, fuse_of, inner_of, turn_of};
+    ghost use Rattle.ks_tree.specs.Fuse.{IsFuseCall, RenamesAt, WritesAt, failed_in, fuse_of, inner_of, turn_of};
 
     ghost files = { λ t. T.files t.inner };
 
@@ -106,13 +106,19 @@ impl<T: Tree + Drop> Tree for FuseTree<T> {
 
     ghost failures = { λ t. T.failures t.inner + t.fuse.failed };
 
+    ghost writes = { λ old path bytes new answer. WritesAt (turn_of (fuse_of old)) T.Tree (inner_of old) path bytes (inner_of new) answer };
+
+    ghost renames = { λ old from to new answer. RenamesAt (turn_of (fuse_of old)) T.Tree (inner_of old) from to (inner_of new) answer };
+
     fn read(&mut self, alloc: Global, path: &[u8]) -> Result<Option<Vec<u8>>, TreeFault>
         ensures found { T.is_honest → IfOk result (λ found. option_map (λ v. v.items) found ≡ content (T.files (inner_of self.old)) path.now) }
         ensures small { T.is_honest → IfOk result (λ found. (b : List ℕ) → content (T.files (inner_of self.old)) path.now ≡ Some b → length b ≤ max_bytes) }
         ensures too_large { T.is_honest → IsErrOf result TreeFault.TooLarge → IsTooLarge (content (T.files (inner_of self.old)) path.now) }
         ensures unchanged { T.is_honest → T.files (inner_of self.new) ≡ T.files (inner_of self.old) }
         ensures later { failed_in T.Tree self.old ≤ failed_in T.Tree self.new }
+        ensures passed { OnOk result (failed_in T.Tree self.new ≡ failed_in T.Tree self.old) }
         ensures uncounted { IsErrOf result TreeFault.OutOfMemory → failed_in T.Tree self.new ≡ failed_in T.Tree self.old }
+        ensures too_large_uncounted { IsErrOf result TreeFault.TooLarge → failed_in T.Tree self.new ≡ failed_in T.Tree self.old }
         ensures cause { IsErrOf result TreeFault.Device → HasRisen (failed_in T.Tree self.old) (failed_in T.Tree self.new) }
         // Of the fuse: which calls pass, and what the others leave.
         ensures fuse { IsFuseCall T.Tree self.old self.new (IsErrOf result TreeFault.Device) }
@@ -136,6 +142,7 @@ impl<T: Tree + Drop> Tree for FuseTree<T> {
         ensures unchanged { T.is_honest → T.files (inner_of self.new) ≡ T.files (inner_of self.old) }
         ensures never { IsErrOf result TreeFault.TooLarge → ⊥ }
         ensures later { failed_in T.Tree self.old ≤ failed_in T.Tree self.new }
+        ensures passed { OnOk result (failed_in T.Tree self.new ≡ failed_in T.Tree self.old) }
         ensures uncounted { IsErrOf result TreeFault.OutOfMemory → failed_in T.Tree self.new ≡ failed_in T.Tree self.old }
         ensures cause { IsErrOf result TreeFault.Device → HasRisen (failed_in T.Tree self.old) (failed_in T.Tree self.new) }
         // Of the fuse: which calls pass, and what the others leave.
@@ -154,12 +161,12 @@ impl<T: Tree + Drop> Tree for FuseTree<T> {
         ensures refused { T.is_honest → IsErrOf result TreeFault.OutOfMemory → T.files (inner_of self.new) ≡ T.files (inner_of self.old) }
         ensures never { IsErrOf result TreeFault.TooLarge → ⊥ }
         ensures later { failed_in T.Tree self.old ≤ failed_in T.Tree self.new }
+        ensures passed { OnOk result (failed_in T.Tree self.new ≡ failed_in T.Tree self.old) }
         ensures uncounted { IsErrOf result TreeFault.OutOfMemory → failed_in T.Tree self.new ≡ failed_in T.Tree self.old }
         ensures cause { IsErrOf result TreeFault.Device → HasRisen (failed_in T.Tree self.old) (failed_in T.Tree self.new) }
         // Of the fuse: which calls pass, and what the others leave.
         ensures fuse { IsFuseCall T.Tree self.old self.new (IsErrOf result TreeFault.Device) }
-        ensures half { turn_of (fuse_of self.old) ≡ Turn.HalfDone → T.is_honest
-            → IsHalfWritten T.Tree path.now bytes.now (inner_of self.old) (inner_of self.new) }
+        ensures called { WritesAt (turn_of (fuse_of self.old)) T.Tree (inner_of self.old) path.now bytes.now (inner_of self.new) result }
     {
         match self.fuse.turn() {
             Turn::Pass => self.inner.write(alloc, path, bytes),
@@ -180,12 +187,12 @@ impl<T: Tree + Drop> Tree for FuseTree<T> {
         ensures refused { T.is_honest → IsErrOf result TreeFault.OutOfMemory → T.files (inner_of self.new) ≡ T.files (inner_of self.old) }
         ensures never { IsErrOf result TreeFault.TooLarge → ⊥ }
         ensures later { failed_in T.Tree self.old ≤ failed_in T.Tree self.new }
+        ensures passed { OnOk result (failed_in T.Tree self.new ≡ failed_in T.Tree self.old) }
         ensures uncounted { IsErrOf result TreeFault.OutOfMemory → failed_in T.Tree self.new ≡ failed_in T.Tree self.old }
         ensures cause { IsErrOf result TreeFault.Device → HasRisen (failed_in T.Tree self.old) (failed_in T.Tree self.new) }
         // Of the fuse: which calls pass, and what the others leave.
         ensures fuse { IsFuseCall T.Tree self.old self.new (IsErrOf result TreeFault.Device) }
-        ensures half { turn_of (fuse_of self.old) ≡ Turn.HalfDone → T.is_honest
-            → IsHalfMoved T.Tree from.now to.now (inner_of self.old) (inner_of self.new) }
+        ensures called { RenamesAt (turn_of (fuse_of self.old)) T.Tree (inner_of self.old) from.now to.now (inner_of self.new) result }
     {
         match self.fuse.turn() {
             Turn::Pass => self.inner.rename(alloc, from, to),

@@ -4,7 +4,7 @@ ghost use Rattle.std.specs.Prelude.{◌≡◌, ◌≤◌, length, option_map, On
 ghost use Rattle.std.specs.FinMap as map;
 ghost use Rattle.std.specs.Iterator.{item_count};
 ghost use Rattle.std.specs.Map.Iter.{TakesFirst};
-ghost use Rattle.ks_tree.specs.Files.{IsPieceRead, SameBut, content};
+ghost use Rattle.ks_tree.specs.Files.{IsMoved, IsPieceRead, SameBut, content};
 ghost use Rattle.ks_tree.specs.Memory.{lent_file};
 
 use crate::{Tree, TreeFault};
@@ -124,6 +124,10 @@ impl Tree for MemoryTree {
     ghost is_honest = { ⊤ };
 
     ghost failures = { λ t. 0 };
+
+    ghost writes = { λ old path bytes new answer. OnOk answer (content new path ≡ Some bytes) × OnErr answer (new ≡ old) };
+
+    ghost renames = { λ old from to new answer. OnOk answer (IsMoved from to old new) × OnErr answer (new ≡ old) };
 
     fn read(&mut self, alloc: Global, path: &[u8]) -> Result<Option<Vec<u8>>, TreeFault> {
         let Some(bytes) = self.files.get(path) else {

@@ -23,6 +23,8 @@ pub fn replace<T: Tree>(
     ensures others { T.is_honest → SameButBoth temporary.now path.now (T.files tree.old) (T.files tree.new) }
     ensures never { IsErrOf result TreeFault.TooLarge → ⊥ }
     ensures counted { Counted T.Tree tree.old tree.new (IsErrOf result TreeFault.Device) }
+    ensures passed { OnOk result (T.failures tree.new ≡ T.failures tree.old) }
+    ensures uncounted { IsErrOf result TreeFault.OutOfMemory → T.failures tree.new ≡ T.failures tree.old }
 {
     tree.write(alloc, temporary, bytes)?;
     tree.rename(alloc, temporary, path)

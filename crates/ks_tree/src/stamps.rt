@@ -1,6 +1,6 @@
 //! The stamps of names: `include/config/NAME` holds the generation of the last synchronisation that changed the name. Writing a
 //! stamp renews the file's time as well, so a plain make that looks at times still works.
-ghost use Rattle.std.specs.Prelude.{◌≡◌, ◌↔◌, ◌⊎◌, ◌≤◌, ℕ, Some, None, Option, take, IfOk, IfErr, IfSome, IfNone, OnOk, OnErr, IsErrOf};
+ghost use Rattle.std.specs.Prelude.{◌≡◌, ◌↔◌, ◌⊎◌, ◌≤◌, ℕ, [], Some, None, Option, take, IfOk, IfErr, IfSome, IfNone, OnOk, OnErr, IsErrOf};
 ghost use Rattle.ks_tree.specs.Frames.{Counted, Reads};
 ghost use Rattle.ks_tree.specs.Files.{content, SameButBoth};
 ghost use Rattle.ks_tree.specs.Paths.{stamp_path, stamp_temporary};
@@ -38,6 +38,7 @@ pub fn read_stamp<T: Tree>(alloc: Global, tree: &mut T, name: &Name) -> Result<u
     ensures number { T.is_honest → IfOk result (λ n. HasNumber (content (T.files tree.old) (stamp_path name.now)) n) }
     ensures refused { T.is_honest → IfErr result (IsStampRefusal name.now (content (T.files tree.old) (stamp_path name.now))) }
     ensures reads { Reads T.Tree tree.old tree.new (IsErrOf result TreeError.Device) }
+    ensures passed { OnOk result (T.failures tree.new ≡ T.failures tree.old) }
 {
     let path = stamp_path(alloc, name)?;
     let Some(stamp) = tree.read(alloc, &path)? else {
@@ -64,6 +65,8 @@ pub fn touch<T: Tree>(
     ensures others { T.is_honest → SameButBoth stamp_temporary (stamp_path name.now) (T.files tree.old) (T.files tree.new) }
     ensures never { IsErrOf result TreeFault.TooLarge → ⊥ }
     ensures counted { Counted T.Tree tree.old tree.new (IsErrOf result TreeFault.Device) }
+    ensures passed { OnOk result (T.failures tree.new ≡ T.failures tree.old) }
+    ensures uncounted { IsErrOf result TreeFault.OutOfMemory → T.failures tree.new ≡ T.failures tree.old }
 {
     let path = stamp_path(alloc, name)?;
     let text = stamp_text(alloc, generation)?;
@@ -78,10 +81,13 @@ pub fn touch_all<T: Tree>(
     generation: u64,
 ) -> Result<(), TreeFault>
     ensures all { T.is_honest → OnOk result (Touches names.now generation (T.files tree.old) (T.files tree.new)) }
+    ensures none { names.now ≡ [] → tree.new ≡ tree.old }
     // After a fault the stamps of a beginning of the names are set.
     ensures some { T.is_honest → OnErr result ((n : ℕ) × Touches (take n names.now) generation (T.files tree.old) (T.files tree.new)) }
     ensures never { IsErrOf result TreeFault.TooLarge → ⊥ }
     ensures counted { Counted T.Tree tree.old tree.new (IsErrOf result TreeFault.Device) }
+    ensures passed { OnOk result (T.failures tree.new ≡ T.failures tree.old) }
+    ensures uncounted { IsErrOf result TreeFault.OutOfMemory → T.failures tree.new ≡ T.failures tree.old }
 {
     for name in names {
         touch(alloc, tree, name, generation)?;

@@ -1,7 +1,8 @@
 //! A tree of files, by what each of its calls may do. Everything above this crate stands on this contract alone, so that it
 //! holds of a tree in memory, of one whose calls fail, and of a folder that acts as it says.
-ghost use Rattle.std.specs.Prelude.{◌≡◌, ◌≢◌, ◌⊎◌, ◌<◌, ◌≤◌, ℕ, List, length, Some, None, IsSome, IfSome, IfOk, OnOk, OnErr, IsErrOf, option_map};
+ghost use Rattle.std.specs.Prelude.{◌≡◌, ◌≢◌, ◌⊎◌, ◌<◌, ◌≤◌, ℕ, List, Result, length, Some, None, IsSome, IfSome, IfOk, OnOk, OnErr, IsErrOf, option_map, ⊤};
 ghost use Rattle.ks_symbols.specs.Lines.{max_bytes};
+ghost use Rattle.ks_tree.specs.declared.fault.TreeFault.{TreeFault};
 ghost use Rattle.ks_tree.specs.Files.{Files, content, SameBut, IsMoved, IsTooLarge, IsReadAt, HasRisen};
 
 use crate::TreeFault;
@@ -18,6 +19,13 @@ pub trait Tree {
     /// How often the device has failed.
     ghost failures: { Self → ℕ };
 
+    /// What a write is known to do: of the tree, the path, the bytes, the tree after the call and its answer. In a contract over
+    /// any tree it says that the call was made, since nothing else gives it.
+    ghost writes: { Self → List ℕ → List ℕ → Self → Result Unit TreeFault → Type 0 } = { λ old path bytes new answer. ⊤ };
+
+    /// What a rename is known to do, as `writes`: of the tree, both paths, the tree after the call and its answer.
+    ghost renames: { Self → List ℕ → List ℕ → Self → Result Unit TreeFault → Type 0 } = { λ old from to new answer. ⊤ };
+
     /// The bytes of a file, or `None` where there is no file.
     fn read(&mut self, alloc: Global, path: &[u8]) -> Result<Option<Vec<u8>>, TreeFault>
         ensures found { is_honest → IfOk result (λ found. option_map (λ v. v.items) found ≡ content (files self.old) path.now) }
@@ -25,7 +33,9 @@ pub trait Tree {
         ensures too_large { is_honest → IsErrOf result TreeFault.TooLarge → IsTooLarge (content (files self.old) path.now) }
         ensures unchanged { is_honest → files self.new ≡ files self.old }
         ensures later { failures self.old ≤ failures self.new }
+        ensures passed { OnOk result (failures self.new ≡ failures self.old) }
         ensures uncounted { IsErrOf result TreeFault.OutOfMemory → failures self.new ≡ failures self.old }
+        ensures too_large_uncounted { IsErrOf result TreeFault.TooLarge → failures self.new ≡ failures self.old }
         ensures cause { IsErrOf result TreeFault.Device → HasRisen (failures self.old) (failures self.new) };
 
     /// Fills `into` with the bytes of a file from an offset on, and tells how many there were, or `None` where there is no file.
@@ -42,16 +52,19 @@ pub trait Tree {
         ensures unchanged { is_honest → files self.new ≡ files self.old }
         ensures never { IsErrOf result TreeFault.TooLarge → ⊥ }
         ensures later { failures self.old ≤ failures self.new }
+        ensures passed { OnOk result (failures self.new ≡ failures self.old) }
         ensures uncounted { IsErrOf result TreeFault.OutOfMemory → failures self.new ≡ failures self.old }
         ensures cause { IsErrOf result TreeFault.Device → HasRisen (failures self.old) (failures self.new) };
 
     /// Writes a whole file, in the place of what was there. After `Device` the path may hold anything, or nothing.
     fn write(&mut self, alloc: Global, path: &[u8], bytes: &[u8]) -> Result<(), TreeFault>
         ensures written { is_honest → OnOk result (content (files self.new) path.now ≡ Some bytes.now) }
+        ensures called { writes self.old path.now bytes.now self.new result }
         ensures others { is_honest → SameBut path.now (files self.old) (files self.new) }
         ensures refused { is_honest → IsErrOf result TreeFault.OutOfMemory → files self.new ≡ files self.old }
         ensures never { IsErrOf result TreeFault.TooLarge → ⊥ }
         ensures later { failures self.old ≤ failures self.new }
+        ensures passed { OnOk result (failures self.new ≡ failures self.old) }
         ensures uncounted { IsErrOf result TreeFault.OutOfMemory → failures self.new ≡ failures self.old }
         ensures cause { IsErrOf result TreeFault.Device → HasRisen (failures self.old) (failures self.new) };
 
@@ -60,10 +73,12 @@ pub trait Tree {
         requires differ { from.now ≢ to.now }
         requires there { is_honest → IsSome (content (files self.old) from.now) }
         ensures moved { is_honest → OnOk result (IsMoved from.now to.now (files self.old) (files self.new)) }
+        ensures called { renames self.old from.now to.now self.new result }
         ensures failed { is_honest → OnErr result ((files self.new ≡ files self.old) ⊎ IsMoved from.now to.now (files self.old) (files self.new)) }
         ensures refused { is_honest → IsErrOf result TreeFault.OutOfMemory → files self.new ≡ files self.old }
         ensures never { IsErrOf result TreeFault.TooLarge → ⊥ }
         ensures later { failures self.old ≤ failures self.new }
+        ensures passed { OnOk result (failures self.new ≡ failures self.old) }
         ensures uncounted { IsErrOf result TreeFault.OutOfMemory → failures self.new ≡ failures self.old }
         ensures cause { IsErrOf result TreeFault.Device → HasRisen (failures self.old) (failures self.new) };
 

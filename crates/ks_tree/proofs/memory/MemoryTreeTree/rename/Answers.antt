@@ -16,3 +16,9 @@ returns-clause-moved c = λ honest.
     (inserted c.self.inside.files c.insert.new.self c.args.self.now c.self.view_is c.in_ok-to.to c.in_ok-bytes.bytes _ _ c.in_ok-insert.ensures.updates
     (search rules) same)
     (removed c.insert.new.self c.remove.new.self (files_of c.insert.new.self.entries) refl c.args.from.now c.remove.ensures.updates)
+
+pub returns-in_default-clause-called : goal.returns-in_default-clause-called
+returns-in_default-clause-called c = (returns-in_default-clause-moved c tt, tt)
+
+pub returns-clause-called : goal.returns-clause-called
+returns-clause-called c = (returns-clause-moved c tt, tt)

@@ -4,3 +4,4 @@ pub mod StampLemmas
 pub mod Touching
 pub mod Stored
 pub mod Tables
+pub mod Reading

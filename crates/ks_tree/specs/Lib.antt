@@ -6,3 +6,5 @@ pub mod Stamps
 pub mod Memory
 pub mod Fuse
 pub mod Folder
+pub mod ReadAhead
+pub mod SystemErrors

@@ -3,18 +3,21 @@
 //!
 //! Only the system's "no such file" counts as a missing file. A folder, a file in the place of a folder, and every other
 //! failure are `Device`, since a build that takes an unreadable file for a missing one would call objects fresh.
-ghost use Rattle.std.specs.Prelude.{◌≡◌, ◌≤◌, ◌+◌, min, length, IfErr, IfOk, OnOk, MatchOption, IsUtf8, string_bytes, IsErrOf};
+ghost use Rattle.std.specs.Prelude.{◌≡◌, ◌≢◌, ◌⊎◌, ◌≤◌, ◌+◌, min, length, Some, None, IfErr, IfOk, IfSome, OnOk, MatchOption, IsUtf8, string_bytes, IsErrOf};
 ghost use Rattle.std.specs.Cow.{cow_str_bytes};
 ghost use Rattle.std.specs.FinMap as map;
 ghost use Rattle.ks_tree.specs.Files.{HasRisen};
 ghost use Rattle.ks_tree.specs.Folder.{place_of};
+ghost use Rattle.ks_tree.specs.ReadAhead.{nothing_of};
+ghost use Rattle.ks_tree.specs.SystemErrors.{fault_of, found_of, meaning_of};
 
 use crate::folder_fault::FolderFault;
 use crate::new_file::write_new;
-use crate::read_ahead::ReadAhead;
+use crate::read_ahead::KeptFile;
+use crate::system_error::{Meaning, meaning_of};
 use crate::{Claim, Tree, TreeFault};
 use ks_symbols::MAX_BYTES;
-use std::alloc::{AllocError, Global};
+use std::alloc::Global;
 use std::borrow::CowStr;
 use std::fs::Metadata;
 use std::io::{ErrorKind, Read};
@@ -31,21 +34,10 @@ pub struct FolderTree<R: Files> {
     failures: u64,
     /// What failed last, where something can be said of it.
     last_fault: Option<FolderFault>,
-    kept: Option<Kept<R::File>>,
+    /// The file of the last `read_at`, kept open so that a prerequisite costs one open however many pieces it has.
+    kept: Option<KeptFile<R::File>>,
     /// The file that was written last, claimed until it is moved or another one is written.
     written: Option<R::File>,
-}
-
-/// The file of the last `read_at`, kept open so that a prerequisite costs one open however many pieces it has.
-#[derive(Drop)]
-struct Kept<F> {
-    path: Vec<u8>,
-    file: ReadAhead<F>,
-}
-
-/// Whether the error says that memory was refused, and not that the system failed.
-fn is_refused_memory(error: &io::Error) -> bool {
-    error.kind() == ErrorKind::OutOfMemory && error.raw_os_error().is_none()
 }
 
 /// Whether a file can be read to its end without waiting for anybody: a regular file, a disk, and `/dev/null`.
@@ -85,25 +77,6 @@ fn read_bytes<R: Files>(files: &R, alloc: Global, place: &str) -> io::Result<Opt
         return Ok(None);
     }
     Ok(Some(bytes))
-}
-
-/// A newly opened file, in the memory of the file that was kept before, if there was one.
-fn keep<F: Drop>(
-    alloc: Global,
-    earlier: Option<Kept<F>>,
-    path: &[u8],
-    file: F,
-) -> Result<Kept<F>, AllocError> {
-    let Some(mut kept) = earlier else {
-        return Ok(Kept {
-            path: path.to_vec(alloc)?,
-            file: ReadAhead::new(alloc, file)?,
-        });
-    };
-    kept.path.clear();
-    kept.path.extend_from_slice(path)?;
-    kept.file.begin(file);
-    Ok(kept)
 }
 
 impl<R: Files> FolderTree<R>
@@ -148,6 +121,7 @@ where
     /// Counts a failure of the system.
     fn device(&mut self) -> TreeFault
         ensures device { result ≡ TreeFault.Device }
+        ensures untold { self.new.last_fault ≡ None }
         ensures later { self.old.failures ≤ self.new.failures }
         ensures counted { self.new.failures ≡ min (self.old.failures + 1) 18446744073709551615 }
     {
@@ -161,14 +135,36 @@ where
         ensures later { self.old.failures ≤ self.new.failures }
         ensures cause { result ≡ TreeFault.Device → HasRisen self.old.failures self.new.failures }
         ensures uncounted { result ≡ TreeFault.OutOfMemory → self.new.failures ≡ self.old.failures }
-        ensures never { result ≡ TreeFault.TooLarge → ⊥ }
+        ensures fault { result ≡ fault_of (meaning_of error.now) }
+        ensures told { result ≡ TreeFault.Device → IfSome self.new.last_fault (λ fault. string_bytes fault.path ≡ path.now) }
     {
-        if is_refused_memory(error) {
+        if meaning_of(error) == Meaning::RefusedMemory {
             return TreeFault::OutOfMemory;
         }
         let fault = self.device();
         self.last_fault = FolderFault::new(alloc, path, error);
         fault
+    }
+
+    /// What a look-up at a path found: `None` where the system says that there is no such file, and for no other error.
+    fn found<V: Drop>(
+        &mut self,
+        alloc: Global,
+        path: &[u8],
+        outcome: io::Result<V>,
+    ) -> Result<Option<V>, TreeFault>
+        ensures found { result ≡ found_of outcome }
+        ensures later { self.old.failures ≤ self.new.failures }
+        ensures cause { IsErrOf result TreeFault.Device → HasRisen self.old.failures self.new.failures }
+        ensures passed { OnOk result (self.new.failures ≡ self.old.failures) }
+        ensures uncounted { IsErrOf result TreeFault.OutOfMemory → self.new.failures ≡ self.old.failures }
+        ensures never { IsErrOf result TreeFault.TooLarge → ⊥ }
+    {
+        match outcome {
+            Ok(value) => Ok(Some(value)),
+            Err(error) if meaning_of(&error) == Meaning::Missing => Ok(None),
+            Err(error) => Err(self.fault(alloc, path, &error)),
+        }
     }
 
     /// Where the path stands in the system, or `None` where it isn't text.
@@ -198,10 +194,29 @@ where
         let Some(place) = self.place(alloc, path)? else {
             return Err(self.device());
         };
-        match fs::open(&self.files, place.as_str()) {
-            Ok(file) => Ok(Some(file)),
-            Err(error) if error.kind() == ErrorKind::NotFound => Ok(None),
-            Err(error) => Err(self.fault(alloc, path, &error)),
+        let outcome = fs::open(&self.files, place.as_str());
+        self.found(alloc, path, outcome)
+    }
+
+    /// Moves a file. A failure is told at the path that it was to have, since the temporary one says nothing to a user.
+    fn move_file(&mut self, alloc: Global, from: &[u8], to: &[u8]) -> Result<(), TreeFault>
+        ensures told { IsErrOf result TreeFault.Device → IfSome self.new.last_fault (λ fault. string_bytes fault.path ≡ to.now) }
+        ensures later { self.old.failures ≤ self.new.failures }
+        ensures cause { IsErrOf result TreeFault.Device → HasRisen self.old.failures self.new.failures }
+        ensures passed { OnOk result (self.new.failures ≡ self.old.failures) }
+        ensures uncounted { IsErrOf result TreeFault.OutOfMemory → self.new.failures ≡ self.old.failures }
+        ensures never { IsErrOf result TreeFault.TooLarge → ⊥ }
+    {
+        self.kept = None;
+        let (Some(old), Some(new)) = (self.place(alloc, from)?, self.place(alloc, to)?) else {
+            return Err(self.device());
+        };
+        let outcome = fs::rename(&self.files, old.as_str(), new.as_str());
+        // The claim is given up only now, so that no other program removes the file before it is moved.
+        self.written = None;
+        match outcome {
+            Ok(()) => Ok(()),
+            Err(error) => Err(self.fault(alloc, to, &error)),
         }
     }
 
@@ -212,7 +227,10 @@ where
         alloc: Global,
         path: &[u8],
         offset: u64,
-    ) -> Result<Option<Kept<R::File>>, TreeFault>
+    ) -> Result<Option<KeptFile<R::File>>, TreeFault>
+        ensures of_path { IfOk result (λ found. IfSome found (λ kept. kept.ahead.path ≡ path.now)) }
+        ensures kept_or_new { IfOk result (λ found. IfSome found (λ kept.
+            ((self.old.kept ≡ Some kept) × (offset ≢ 0)) ⊎ (kept.ahead ≡ nothing_of path.now 0))) }
         ensures later { self.old.failures ≤ self.new.failures }
         ensures cause { IsErrOf result TreeFault.Device → HasRisen self.old.failures self.new.failures }
         ensures passed { OnOk result (self.new.failures ≡ self.old.failures) }
@@ -221,7 +239,7 @@ where
     {
         let mut earlier = None;
         if let Some(kept) = self.kept.take() {
-            if offset > 0 && kept.path.as_slice() == path {
+            if offset > 0 && kept.is_at(path) {
                 return Ok(Some(kept));
             }
             earlier = Some(kept);
@@ -229,7 +247,7 @@ where
         let Some(file) = self.open(alloc, path)? else {
             return Ok(None);
         };
-        Ok(Some(keep(alloc, earlier, path, file)?))
+        Ok(Some(KeptFile::open(alloc, earlier, path, file)?))
     }
 }
 
@@ -247,11 +265,11 @@ where
         let Some(place) = self.place(alloc, path)? else {
             return Err(self.device());
         };
-        match read_bytes(&self.files, alloc, place.as_str()) {
-            Ok(Some(bytes)) => Ok(Some(bytes)),
-            Ok(None) => Err(TreeFault::TooLarge),
-            Err(error) if error.kind() == ErrorKind::NotFound => Ok(None),
-            Err(error) => Err(self.fault(alloc, path, &error)),
+        let outcome = read_bytes(&self.files, alloc, place.as_str());
+        match self.found(alloc, path, outcome)? {
+            Some(Some(bytes)) => Ok(Some(bytes)),
+            Some(None) => Err(TreeFault::TooLarge),
+            None => Ok(None),
         }
     }
 
@@ -266,7 +284,7 @@ where
             return Ok(None);
         };
         // After a failure the position isn't known, so the file is not kept.
-        match kept.file.read(offset, into) {
+        match kept.read(offset, into) {
             Ok(len) => {
                 self.kept = Some(kept);
                 Ok(Some(len))
@@ -291,16 +309,7 @@ where
     }
 
     fn rename(&mut self, alloc: Global, from: &[u8], to: &[u8]) -> Result<(), TreeFault> {
-        self.kept = None;
-        let (Some(old), Some(new)) = (self.place(alloc, from)?, self.place(alloc, to)?) else {
-            return Err(self.device());
-        };
-        let outcome = fs::rename(&self.files, old.as_str(), new.as_str());
-        self.written = None;
-        match outcome {
-            Ok(()) => Ok(()),
-            Err(error) => Err(self.fault(alloc, to, &error)),
-        }
+        self.move_file(alloc, from, to)
     }
 
     fn seed(&self) -> u64 {

@@ -1,5 +1,7 @@
 //! What the system said of a failure, for the user: no clause speaks of it. Without it `30 Device` would leave the user to
 //! guess which file it was, and why.
+ghost use Rattle.std.specs.Prelude.{◌≡◌, IfSome, string_bytes};
+
 use std::alloc::{AllocError, Global};
 use std::io;
 
@@ -15,7 +17,9 @@ const NUMBER: &str = " (os error ";
 
 impl FolderFault {
     /// The failure at a path, or `None` where memory is refused for it or the path isn't text.
-    pub(crate) fn new(alloc: Global, path: &[u8], error: &io::Error) -> Option<FolderFault> {
+    pub(crate) fn new(alloc: Global, path: &[u8], error: &io::Error) -> Option<FolderFault>
+        ensures { IfSome result (λ fault. string_bytes fault.path ≡ path.now) }
+    {
         let path = str::from_utf8(path).ok()?;
         Some(FolderFault {
             path: String::from_str(alloc, path).ok()?,

@@ -11,6 +11,7 @@ mod paths;
 mod read_ahead;
 mod replacement;
 mod stamps;
+mod system_error;
 mod tree;
 
 pub use fault::{TreeError, TreeFault};

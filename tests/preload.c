@@ -2,7 +2,8 @@
 
    REFUSE=N     the Nth call of malloc or realloc gives nothing
    WRITE=N      the Nth write to standard output fails, as on a full disk
-   PIECE=N      a write to standard output takes N bytes at most */
+   PIECE=N      a write to standard output takes N bytes at most
+   SHORT=N      a read gives N bytes at most */
 #define _GNU_SOURCE
 #include <dlfcn.h>
 #include <errno.h>
@@ -71,6 +72,15 @@ ssize_t write(int file, const void *bytes, size_t length)
     }
     size_t piece = (size_t)number("PIECE");
     return next(file, bytes, piece && piece < length ? piece : length);
+}
+
+ssize_t read(int file, void *bytes, size_t length)
+{
+    static ssize_t (*next)(int, void *, size_t);
+    if (!next)
+        next = (ssize_t(*)(int, void *, size_t))dlsym(RTLD_NEXT, "read");
+    size_t most = (size_t)number("SHORT");
+    return next(file, bytes, most && most < length ? most : length);
 }
 
 /* So that no write goes another way. */

@@ -11,8 +11,8 @@ use ks_tree::FolderTree;
 use lock::{is_alone, lock_folder};
 use lost_numbers::numbers_are_lost;
 use std::alloc::{AllocError, Global};
-use std::io::{BufWriter, ErrorKind};
 use std::hash::{BuildHasher, Hasher, RandomState};
+use std::io::{BufWriter, ErrorKind};
 use std::process::ExitCode;
 use std::{env, io};
 
@@ -51,16 +51,19 @@ fn run_at(rt: &HostRuntime, place: &Place<'_>) -> io::Result<u8> {
         let _ = eprintln!(rt; "confstamp: -C: {folder}: No such folder");
         return Ok(2);
     }
-    let mut tree = FolderTree::new(rt, place.folder.clone()?).with_seed(draw_seed(rt));
+    let Some(seed) = draw_seed(rt) else {
+        let _ = eprintln!(rt; "confstamp: 30 Device\n  the system gives no random number");
+        return Ok(2);
+    };
+    let mut tree = FolderTree::new(rt, place.folder.clone()?).with_seed(seed);
     run_locked(rt, &mut tree, place)
 }
 
-/// A number that nobody can know before. Where the system gives none, names are hashed as anyone can.
-fn draw_seed(rt: &HostRuntime) -> u64 {
-    match RandomState::new(rt) {
-        Ok(state) => state.build_hasher().finish(),
-        Err(_) => 0,
-    }
+/// A number that nobody can know before, or `None` where the system gives none. Without it whoever writes the files could
+/// choose names that collide.
+fn draw_seed(rt: &HostRuntime) -> Option<u64> {
+    let random = RandomState::new(rt).ok()?;
+    Some(random.build_hasher().finish())
 }
 
 /// Runs the command over the tree of a folder, alone in it where it has to be.

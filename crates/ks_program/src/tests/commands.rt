@@ -10,6 +10,7 @@ fn commands_over_trees(rt: HostRuntime) -> Result<(), Fail> {
         &[
             EACH_COMMAND,
             QUESTIONS,
+            SECOND_RULE,
             WITHOUT_AUTO_CONF,
             USUAL_TREE,
             UNTYPED_TREE,

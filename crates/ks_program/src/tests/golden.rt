@@ -141,6 +141,19 @@ pub const QUESTIONS: &[(Step<'_>, &str)] = &[
     (Step::Words(&["stale", "x.o"]), "1 x.o stale generation-ahead\n"),
 ];
 
+/// The first file of a later rule is scanned, and not listed: `Z` stands behind the file before it.
+#[rattlefmt::skip]
+pub const SECOND_RULE: &[(Step<'_>, &str)] = &[
+    (Step::Words(&["sync", "K1", "c1"]), "0 generation 1\ntouch A\ntouch B\nunknown 0\n"),
+    (Step::Put("x.d", "x.o: x.c a.h\ny.o: t.s b.h\n"), "done"),
+    (Step::Put("x.c", ""), "done"),
+    (Step::Put("a.h", ""), "done"),
+    (Step::Put("t.s", "CONFIG_Z\n"), "done"),
+    (Step::Put("b.h", ""), "done"),
+    (Step::Words(&["record", "x.d", "x.o", "cc -c x.c"]), "0 record x.o generation 1 names 1\n"),
+    (Step::Read(".x.o.cmd"), "savedcmd_x.o := cc -c x.c\n\nsource_x.o := x.c\n\ndeps_x.o := \\\n  a.h \\\n    $(wildcard include/config/Z) \\\n  b.h \\\n\nx.o: $(deps_x.o)\n\n$(deps_x.o):\n#generation 1\n"),
+];
+
 /// The command is compared before auto.conf is looked for.
 #[rattlefmt::skip]
 pub const WITHOUT_AUTO_CONF: &[(Step<'_>, &str)] = &[

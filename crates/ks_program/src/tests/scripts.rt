@@ -67,10 +67,9 @@ const QUIET_LINES: &[(Step<'_>, &str)] = &[
 #[rattlefmt::skip]
 const EMPTY_COMMAND: &[(Step<'_>, &str)] = &[
     (Step::Words(&["sync", "K1", "c1"]), "0 generation 1\ntouch A\ntouch B\nunknown 0\n"),
-    (Step::Put("y.d", "y.o: c1\n"), "done"),
-    (Step::Put("script", "record y.d y.o \n"), "done"),
-    (Step::Words(&["batch", "script"]), "0 record y.o generation 1 names 2\n"),
-    (Step::Read(".y.o.cmd"), "savedcmd_y.o := \n\nsource_y.o := c1\n\ndeps_y.o := \\\n    $(wildcard include/config/A) \\\n    $(wildcard include/config/B) \\\n\ny.o: $(deps_y.o)\n\n$(deps_y.o):\n#generation 1\n"),
+    (Step::Put("script", "record x.d x.o \n"), "done"),
+    (Step::Words(&["batch", "script"]), "0 record x.o generation 1 names 3\n"),
+    (Step::Read(".x.o.cmd"), "savedcmd_x.o := \n\nsource_x.o := x.c\n\ndeps_x.o := \\\n    $(wildcard include/config/A) \\\n    $(wildcard include/config/B) \\\n  a.h \\\n    $(wildcard include/config/C) \\\n  b.h \\\n\nx.o: $(deps_x.o)\n\n$(deps_x.o):\n#generation 1\n"),
 ];
 
 #[test]

@@ -1,24 +1,17 @@
-/* Prints a dependency file of N paths that all have one hash in a table whose hash has a fixed key: the kit's FoldHasher,
-   which multiplies the two halves of each 16 bytes and so gives the same where they change places. A table that uses it
-   compares each of these paths with all the others.
+/* Prints a source of N names, or a dependency file of N paths, that all begin at one place of a table by the kit's FoldHasher
+   under the seed 0. A table under that seed compares each of them with most of the others; one under a seed that nobody
+   knows has them all over it, as any names. With `others` they are as many of the same length that nobody chose.
 
-       collide N */
+       collide names|paths N [others] */
 #include <stdint.h>
 #include <stdio.h>
 #include <stdlib.h>
 #include <string.h>
 
-enum { BLOCKS = 24 };
+/* A table of 80,000 keys has 131,072 lanes in groups of some eight, so these bits of the hash choose the group. */
+enum { CHOSEN = (1 << 14) - 1, LETTERS = 37, FIXED = 13, LENGTH = 20 };
 
-static const uint64_t multiplier = 0x9e3779b97f4a7c15;
-static uint64_t chance = 1;
-
-static uint64_t next_number(void)
-{
-    chance ^= chance << 13;
-    chance ^= chance >> 7;
-    return chance ^= chance << 17;
-}
+static const uint64_t start = 0x243f6a8885a308d3, multiplier = 0x9e3779b97f4a7c15;
 
 static uint64_t folded(uint64_t a, uint64_t b)
 {
@@ -26,67 +19,50 @@ static uint64_t folded(uint64_t a, uint64_t b)
     return (uint64_t)product ^ (uint64_t)(product >> 64);
 }
 
-static int is_usable(unsigned byte)
+static uint64_t with_number(uint64_t state, uint64_t number)
 {
-    return (byte >= 'a' && byte <= 'z') || (byte >= 'A' && byte <= 'Z') || (byte >= '0' && byte <= '9') || byte == '_';
+    return folded(state ^ number, multiplier ^ 16);
 }
 
-/* Eight bytes that are usable, and still are behind an exclusive or with the mask; 0 where there are none. */
-static uint64_t half(uint64_t mask)
+static uint64_t with_byte(uint64_t state, unsigned char byte)
 {
-    uint64_t made = 0;
-    for (int i = 0; i < 8; i++) {
-        unsigned bit = mask >> 8 * i & 0xff, byte = 0;
-        int tries = 0;
-        do {
-            byte = next_number() & 0x7f;
-            if (++tries > 4000)
-                return 0;
-        } while (!is_usable(byte) || !is_usable(byte ^ bit));
-        made |= (uint64_t)byte << 8 * i;
-    }
-    return made;
+    uint64_t thrice = byte | (uint64_t)byte << 8 | (uint64_t)byte << 16;
+    return folded(state ^ thrice, multiplier ^ 2);
 }
 
-static uint64_t blocks[BLOCKS][2][2];
-
-/* Chooses the blocks one after another; each has to leave a state in which the next one's halves can change places. */
-static int choose(void)
+/* What a table looks at, of a vector of bytes: its length and then each byte, behind the seed. */
+static uint32_t place_of(uint64_t state)
 {
-    uint64_t state = 0x243f6a8885a308d3 + 16 * BLOCKS, mask = 0;
-    for (int i = 0; i < BLOCKS; i++) {
-        uint64_t first, second, next;
-        int tries = 0;
-        do {
-            if (++tries > 1000000)
-                return 0;
-            first = half(i ? mask : 0);
-            second = half(i ? mask : 0);
-            next = folded(first ^ state, second ^ multiplier);
-        } while (!first || !second || !half(next ^ multiplier));
-        blocks[i][0][0] = first;
-        blocks[i][0][1] = second;
-        blocks[i][1][0] = i ? second ^ mask : first;
-        blocks[i][1][1] = i ? first ^ mask : second;
-        state = next;
-        mask = state ^ multiplier;
-    }
-    return 1;
+    return (uint32_t)(state ^ state >> 32) & CHOSEN;
 }
 
 int main(int count, char **words)
 {
-    long paths = count > 1 ? atol(words[1]) : 0;
-    if (paths < 1 || paths >= 1L << (BLOCKS - 1) || !choose())
+    int are_names = count > 2 && strcmp(words[1], "names") == 0;
+    long wanted = count > 2 ? atol(words[2]) : 0;
+    int are_others = count > 3 && strcmp(words[3], "others") == 0;
+    if (wanted < 1 || (!are_names && (count < 3 || strcmp(words[1], "paths") != 0)))
         return 2;
-    fputs("x.o: x.c", stdout);
-    for (long number = 0; number < paths; number++) {
-        char path[16 * BLOCKS];
-        for (int i = 0; i < BLOCKS; i++)
-            memcpy(path + 16 * i, blocks[i][i ? number >> (i - 1) & 1 : 0], 16);
-        putchar(' ');
-        fwrite(path, 1, sizeof path, stdout);
+    const char *letters = "ABCDEFGHIJKLMNOPQRSTUVWXYZ0123456789_";
+    char name[LENGTH + 1] = "HOSTILE_NAME_";
+    uint64_t fixed = with_number(with_number(start, 0), LENGTH);
+    for (int i = 0; i < FIXED; i++)
+        fixed = with_byte(fixed, name[i]);
+    if (!are_names)
+        fputs("x.o: x.c", stdout);
+    for (uint64_t number = 0; wanted > 0; number++) {
+        uint64_t rest = number, state = fixed;
+        for (int i = FIXED; i < LENGTH; i++) {
+            name[i] = letters[rest % LETTERS];
+            rest /= LETTERS;
+            state = with_byte(state, name[i]);
+        }
+        if (are_others || place_of(state) == 0) {
+            printf(are_names ? "CONFIG_%s\n" : " %s", name);
+            wanted--;
+        }
     }
-    putchar('\n');
+    if (!are_names)
+        putchar('\n');
     return 0;
 }

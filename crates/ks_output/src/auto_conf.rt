@@ -3,7 +3,7 @@
 //! The next synchronisation finds in it what this one knew. A name without its text would be a change that is never
 //! seen, so a line that says nothing known is refused with its number, and a generation cut off by a full disk too.
 //! The untyped form, the usual tool's, is read as well; none of its names has a class.
-ghost use Rattle.std.specs.Prelude.{◌≡◌, IfOk};
+ghost use Rattle.std.specs.Prelude.{◌≡◌, IfOk, IsErrOf};
 ghost use Rattle.ks_symbols.specs.Refusals.{RefusedBy};
 ghost use Rattle.ks_output.specs.declared.auto_conf.AutoError.TheVariants.{OutOfMemory};
 ghost use Rattle.ks_output.specs.AutoConf.{auto_map, auto_generation, auto_refusal};
@@ -72,6 +72,7 @@ pub fn read_auto(alloc: Global, text: &[u8]) -> Result<OldConfig, AutoError>
 pub fn read_auto_generation(text: &[u8]) -> Result<u64, AutoError>
     ensures generation { IfOk result (λ g. g ≡ auto_generation text.now) }
     ensures refusal { RefusedBy AutoError.OutOfMemory result (auto_refusal text.now) }
+    ensures memory { IsErrOf result AutoError.OutOfMemory → ⊥ }
 {
     if text.len() > MAX_BYTES {
         return Err(AutoError::TooLarge);

@@ -3,9 +3,10 @@
 //! It is what an object is compiled with, so the staleness of objects rests on it: the definitions of a name depend
 //! on that name's entry alone. The forms are those of print_symbol_for_c in scripts/kconfig/confdata.c. That the
 //! names rise is a rule of this project.
-ghost use Rattle.std.specs.Prelude.{◌≡◌, ◌++◌, OnOk, OnErr};
+ghost use Rattle.std.specs.Prelude.{◌≡◌, ◌≤◌, ◌++◌, OnOk, OnErr};
 ghost use Rattle.ks_symbols.specs.Values.{quoted};
-ghost use Rattle.ks_output.specs.Appending.{Keeps};
+ghost use Rattle.ks_output.specs.Appending.{Keeps, definitions_room};
+ghost use Rattle.std.specs.FinMap as map;
 ghost use Rattle.ks_output.specs.Header.{header_text, header_heading, definition_line, defined_as};
 
 use crate::appending::append_all;
@@ -85,7 +86,9 @@ fn append_definition(
 }
 
 /// How many bytes the definitions of the entries take at most, but for what has to be escaped in them.
-fn definitions_room(settings: &Settings) -> usize {
+fn definitions_room(settings: &Settings) -> usize
+    ensures { result ≤ definitions_room (map.entries settings.now.entries) }
+{
     let mut room: usize = 0;
     for (name, kind, text) in settings.entries() {
         let rest = match kind.class() {

@@ -1,5 +1,5 @@
 -- The first fault of lines, and refusals.
-use Rattle.std.proofs.Common.{◌≡◌, inl, inr, ℕ, ◌+◌, ◌<◌, ◌≤◌, Bool, true, false, cond, nat_lt, List, [], ◌∷◌, ◌++◌, length, Option, Some, None, option_map, refl, ap, ◌∙◌, arith}
+use Rattle.std.proofs.Common.{◌≡◌, inl, inr, ℕ, ◌+◌, ◌<◌, ◌≤◌, Bool, true, false, cond, nat_lt, List, [], ◌∷◌, ◌++◌, length, Option, Some, None, is_some, option_map, refl, ap, ◌∙◌, arith}
 use Rattle.std.specs.List.{cons_option, position_from}
 use Rattle.std.proofs.lemmas.Bool.{cond-true, cond-false}
 use Rattle.std.proofs.lemmas.Bool.Decides.{nat_tests}
@@ -46,3 +46,7 @@ pub option_append : {X : Type 0} (xs : List X) (o : Option X) (rest : List X) �
 option_append [] None rest = refl
 option_append [] (Some x) rest = refl
 option_append (y ∷ ys) o rest = ap (λ l. y ∷ l) (option_append ys o rest)
+
+pub is_some_map : {X Y : Type 0} (f : X → Y) (found : Option X) → is_some (option_map f found) ≡ is_some found
+is_some_map f None = refl
+is_some_map f (Some x) = refl

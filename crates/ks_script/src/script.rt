@@ -3,10 +3,11 @@
 //! A script that is read wrongly asks the wrong question of a build, so its lines have one spelling each: words stand
 //! apart by one space and are not empty, and any other line is refused with its number. Nothing is opened or run here.
 //! The form is a rule of this project.
-ghost use Rattle.std.specs.Prelude.{◌≡◌, ◌++◌, [], length, map, option_map, take_while, drop, OnOk, IfOk};
+ghost use Rattle.std.specs.Prelude.{◌≡◌, ◌++◌, [], None, count_by, is_some, length, map, option_map, take_while, drop, OnOk, IfOk, IsErrOf};
 ghost use Rattle.std.specs.List.{cons_option, list_all};
 ghost use Rattle.ks_script.specs.Script.{is_word_byte, is_word, first_word, seen_line, sync_line, record_line, stale_line, script_line, script_lines};
 ghost use Rattle.ks_script.specs.ScriptRefusals.{line_fault, script_refusal};
+ghost use Rattle.ks_symbols.specs.Lines.{lines};
 ghost use Rattle.ks_symbols.specs.Refusals.{RefusedBy};
 
 use crate::error::ScriptError;
@@ -117,6 +118,7 @@ fn take_line<'a>(
 ) -> Result<(), ScriptError>
     ensures lines { OnOk result (map seen_line lines.new.items ≡ map seen_line lines.old.items ++ cons_option (script_line line.now) []) }
     ensures refusal { RefusedBy ScriptError.OutOfMemory result (line_fault number line.now) }
+    ensures memory { IsErrOf result ScriptError.OutOfMemory → line_fault number line.now ≡ None }
 {
     match parse_line(line) {
         Some(said) => lines.push(said)?,
@@ -129,11 +131,20 @@ fn take_line<'a>(
     Ok(())
 }
 
+/// Whether a line asks for a command.
+#[tactic(auto, using(crate::proofs::Faults::is_some_map))]
+fn asks(line: &[u8]) -> bool
+    ensures { result ≡ is_some (script_line line.now) }
+{
+    parse_line(line).is_some()
+}
+
 /// How many lines ask for a command, so that they are given their place once.
-fn count_lines(text: &[u8]) -> usize {
-    text.lines()
-        .filter(|line| parse_line(line).is_some())
-        .count()
+#[tactic(auto, unfolding(ks_symbols::specs::Lines::lines))]
+fn count_lines(text: &[u8]) -> usize
+    ensures { result ≡ count_by (λ line. is_some (script_line line)) (lines text.now) }
+{
+    text.lines().filter(|line| asks(line)).count()
 }
 
 /// The lines of a script that ask for a command, in their order. Comments and empty lines ask for none.

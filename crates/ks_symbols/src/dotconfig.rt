@@ -3,7 +3,7 @@
 //! The last line about a symbol counts, as in scripts/kconfig/confdata.c. A line that means nothing is refused
 //! with its number, where the kernel's tool warns: a misspelt line would otherwise be a symbol that is off.
 //! Lines about names that are not declared are skipped and counted.
-ghost use Rattle.std.specs.Prelude.{◌≡◌, ◌+◌, ◌^◌, ◌<◌, ◌≤◌, ℕ, List, cond, bytes_eq, OnOk, IfOk, if◌then◌else◌};
+ghost use Rattle.std.specs.Prelude.{◌≡◌, ◌≢◌, ◌+◌, ◌^◌, ◌<◌, ◌≤◌, ℕ, List, None, Some, cond, bytes_eq, OnOk, IfOk, IsErrOf, if◌then◌else◌};
 ghost use Rattle.std.specs.FinMap as map;
 ghost use Rattle.ks_symbols.specs.Lines.{lines};
 ghost use Rattle.ks_symbols.specs.Values.{text_of};
@@ -36,6 +36,7 @@ fn assign(
         (map.get settings.old.entries x)) }
     ensures unknown { OnOk result (settings.new.unknown ≡ settings.old.unknown) }
     ensures refusal { RefusedBy SourceError.OutOfMemory result (value_fault number written.now (Some kind)) }
+    ensures memory { IsErrOf result SourceError.OutOfMemory → kind ≢ Kind.Text → value_fault number written.now (Some kind) ≡ None }
 {
     let Some(text) = text_of(alloc, kind, written).map_err(|_| SourceError::OutOfMemory)? else {
         return Err(SourceError::BadValue(number));

@@ -3,7 +3,7 @@
 //! One missed declaration would leave a symbol out of the header, so whatever is not of the selection of
 //! forms is refused with its line, and nothing is guessed. Dependencies, defaults, choices, menus and
 //! `source` are left out: the values of a `.config` come resolved.
-ghost use Rattle.std.specs.Prelude.{◌≡◌, ◌+◌, ◌≤◌, ◌<◌, ◌^◌, [], ℕ, List, Option, option_map, unwrap_or, codes, vec_items, length, None, Some, IfOk, IfNone, OnOk, OnErr, IsTrue, map as map_list};
+ghost use Rattle.std.specs.Prelude.{◌≡◌, ◌+◌, ◌≤◌, ◌<◌, ◌^◌, [], ℕ, List, Option, option_map, unwrap_or, codes, vec_items, length, None, Some, IfOk, IfNone, OnOk, OnErr, IsErrOf, IsTrue, map as map_list};
 ghost use Rattle.std.specs.FinMap as map;
 ghost use Rattle.ks_symbols.specs.declared.error.SourceError.{SourceError};
 ghost use Rattle.ks_symbols.specs.Refusals.{RefusedBy, or_else};
@@ -130,6 +130,7 @@ impl<'a> Reader<'a> {
     /// Whether no entry waits for its kind.
     fn check_waiting(&self) -> Result<(), SourceError>
         ensures refusal { RefusedBy SourceError.OutOfMemory result (waiting_fault self.now.waiting) }
+        ensures memory { IsErrOf result SourceError.OutOfMemory → ⊥ }
         ensures none { OnOk result (self.now.waiting ≡ None) }
     {
         match &self.waiting {
@@ -141,6 +142,7 @@ impl<'a> Reader<'a> {
     fn take_title(&mut self, number: u64, title: &'a [u8]) -> Result<(), SourceError>
         ensures progress { OnOk result (self.new ≡ progress_after self.old number (Title title.now)) }
         ensures refusal { RefusedBy SourceError.OutOfMemory result (step_fault no_kinds self.old number (Title title.now)) }
+        ensures memory { IsErrOf result SourceError.OutOfMemory → ⊥ }
         ensures kept { OnErr result (self.new.declared ≡ self.old.declared) }
     {
         self.check_waiting()?;
@@ -155,6 +157,7 @@ impl<'a> Reader<'a> {
     fn take_entry(&mut self, number: u64, name: &'a [u8]) -> Result<(), SourceError>
         ensures progress { OnOk result (self.new ≡ progress_after self.old number (Entry name.now)) }
         ensures refusal { RefusedBy SourceError.OutOfMemory result (step_fault no_kinds self.old number (Entry name.now)) }
+        ensures memory { IsErrOf result SourceError.OutOfMemory → ⊥ }
         ensures kept { OnErr result (self.new.declared ≡ self.old.declared) }
     {
         self.check_waiting()?;
@@ -172,6 +175,7 @@ impl<'a> Reader<'a> {
     fn take_kind(&mut self, number: u64, kind: Kind) -> Result<(), SourceError>
         ensures progress { OnOk result (self.new ≡ progress_after self.old number (HasKind kind)) }
         ensures refusal { RefusedBy SourceError.OutOfMemory result (step_fault no_kinds self.old number (HasKind kind)) }
+        ensures memory { IsErrOf result SourceError.OutOfMemory → step_fault no_kinds self.old number (HasKind kind) ≡ None }
         ensures kept { OnErr result (self.new.declared ≡ self.old.declared) }
     {
         let Some((_, name)) = self.waiting.take() else {
@@ -184,6 +188,7 @@ impl<'a> Reader<'a> {
     fn take_line(&mut self, number: u64, line: &'a [u8]) -> Result<(), SourceError>
         ensures progress { OnOk result (self.new ≡ progress_after self.old number (form line.now)) }
         ensures refusal { RefusedBy SourceError.OutOfMemory result (step_fault no_kinds self.old number (form line.now)) }
+        ensures memory { IsErrOf result SourceError.OutOfMemory → step_fault no_kinds self.old number (form line.now) ≡ None }
         ensures kept { OnErr result (self.new.declared ≡ self.old.declared) }
     {
         match form_of(line) {

@@ -2,7 +2,7 @@
 //!
 //! scripts/kconfig/confdata.c drops a backslash before any byte and whatever follows the closing quote. Here
 //! only `\"` and `\\` are escapes and nothing may follow, so that each text has one spelling.
-ghost use Rattle.std.specs.Prelude.{◌≡◌, IfOk, option_map, vec_items};
+ghost use Rattle.std.specs.Prelude.{◌≡◌, ◌≢◌, IfOk, OnErr, Some, option_map, vec_items};
 ghost use Rattle.ks_symbols.specs.Values.{text_of, is_escaped, unquoted};
 
 use crate::kinds::{Kind, is_string_byte, value_is_valid};
@@ -52,7 +52,8 @@ pub(crate) fn text_of(
     kind: Kind,
     written: &[u8],
 ) -> Result<Option<Vec<u8>>, AllocError>
-    ensures { IfOk result (λ o. option_map vec_items o ≡ text_of kind written.now) }
+    ensures text { IfOk result (λ o. option_map vec_items o ≡ text_of kind written.now) }
+    ensures memory { OnErr result (kind ≢ Kind.Text → text_of kind written.now ≡ Some written.now) }
 {
     if kind == Kind::Text {
         return unquoted(alloc, written);

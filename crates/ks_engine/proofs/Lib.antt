@@ -16,4 +16,5 @@ pub mod Scanning
 pub mod Drafting
 pub mod RecordSteps
 pub mod Running
+pub mod FileRunning
 pub mod Beginnings

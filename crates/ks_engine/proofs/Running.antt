@@ -1,10 +1,8 @@
--- A run goes on by one action; and what its last history says of each of its steps.
-use Rattle.std.proofs.Common.{◌≡◌, ◌⊎◌, ℕ, ◌+◌, ◌<◌, List, [], ◌∷◌, ◌++◌, ◌∙◌, ap, sym, refl, subst, subst₂, inl, inr, ⊎_elim, Result, Ok, map, take, length, get_or}
+-- What the last history of a run says of each of its steps.
+use Rattle.std.proofs.Common.{◌≡◌, ◌⊎◌, ℕ, List, [], ◌∷◌, ap, sym, refl, subst, inl, inr, ⊎_elim, Result, Ok, map}
 use Rattle.std.specs.List.{All}
-use Rattle.std.proofs.lemmas.List.{take_more, map-append}
 use Rattle.std.proofs.lemmas.List.Elements.{All-nil, All-cons, All-head, All-tail}
-use Rattle.ks_engine.specs.Actions.{Action, Sync, Record, Stale, action}
-use Rattle.ks_engine.specs.declared.commands.Command.{Command}
+use Rattle.ks_engine.specs.Actions.{Action, Sync, Record, Stale}
 use Rattle.ks_engine.specs.declared.commands.Reply.{Reply}
 use Rattle.ks_engine.specs.declared.commands.Reply.TheVariants.{Synced, Recorded, Verdict, Refused}
 use Rattle.ks_engine.specs.declared.error.EngineError.{EngineError}
@@ -27,32 +25,18 @@ pub record Trace (first : TreeState) (asked : List Action) (answered : List Repl
 pub no_steps : (first : TreeState) → IsShown first → Trace first [] [] first
 no_steps first shown = record { steps = []; actions = refl; replies = refl; leads = refl; shown = shown }
 
-leads_more : (first : TreeState) (steps : List Step) (mid : TreeState) (step : Step) → Leads first steps mid → step.before ≡ mid
-    → Follows step.action step.reply step.before step.after → IsShown step.after → Leads first (steps ++ step ∷ []) step.after
-leads_more first [] mid step leads begins follows shown = (begins ∙ leads, follows, shown, refl)
-leads_more first (s ∷ ss) mid step leads begins follows shown = (leads.0, leads.1, leads.2, leads_more s.after ss mid step leads.3 begins follows shown)
-
-trace_more : (first : TreeState) (acts : List Action) (rs : List Reply) (mid : TreeState) (a : Action) (r : Reply) (last : TreeState)
-    → Trace first acts rs mid → Follows a r mid last → IsShown last → Trace first (acts ++ a ∷ []) (rs ++ r ∷ []) last
-trace_more first acts rs mid a r last trace follows shown =
-    let step : Step = record { before = mid; action = a; reply = r; after = last } in
+-- a step in front of a run
+pub step_first : (first : TreeState) (a : Action) (r : Reply) (mid : TreeState) (acts : List Action) (rs : List Reply) (last : TreeState)
+    → Follows a r first mid → IsShown mid → Trace mid acts rs last → Trace first (a ∷ acts) (r ∷ rs) last
+step_first first a r mid acts rs last follows shown trace =
+    let step : Step = record { before = first; action = a; reply = r; after = mid } in
     record {
-      steps = trace.steps ++ step ∷ [];
-      actions = map-append (λ s. s.action) trace.steps (step ∷ []) ∙ ap (λ xs. xs ++ a ∷ []) trace.actions;
-      replies = map-append (λ s. s.reply) trace.steps (step ∷ []) ∙ ap (λ xs. xs ++ r ∷ []) trace.replies;
-      leads = leads_more first trace.steps mid step trace.leads refl follows shown;
-      shown = shown;
+      steps = step ∷ trace.steps;
+      actions = ap (λ xs. a ∷ xs) trace.actions;
+      replies = ap (λ xs. r ∷ xs) trace.replies;
+      leads = (refl, follows, shown, trace.leads);
+      shown = trace.shown;
     }
-
--- the same, of the commands up to a place
-pub more : (first : TreeState) (cs : List Command) (i : ℕ) (d : Command) (rs new : List Reply) (mid : TreeState) (r : Reply) (last : TreeState)
-    → i < length cs → Trace first (map action (take i cs)) rs mid → Follows (action (get_or cs i d)) r mid last → IsShown last → new ≡ rs ++ r ∷ []
-    → Trace first (map action (take (i + 1) cs)) new last
-more first cs i d rs new mid r last test trace follows shown items =
-    subst₂ (λ acts qs. Trace first acts qs last)
-    (sym (map-append action (take i cs) (get_or cs i d ∷ [])) ∙ ap (map action) (sym (take_more cs i d test)))
-    (sym items)
-    (trace_more first (map action (take i cs)) rs mid (action (get_or cs i d)) r last trace follows shown)
 
 -- ---- what an action adds to a history: nothing, a completed synchronisation, a record, or a broken synchronisation where it was given up
 

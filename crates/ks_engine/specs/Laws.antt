@@ -1,5 +1,6 @@
--- Laws of the definitions: which trees show a history without events, that a synchronisation has one plan, and that a suspicion has a cause.
-use Rattle.std.specs.Prelude.{◌≡◌, ◌⊎◌, ℕ, ◌+◌, ◌≤◌, List, Some, Result, true, IsTrue}
+-- Laws of the definitions: which trees show a history without events, that a synchronisation has one plan, that a suspicion has a cause,
+-- and that a run by the files is one of each history that the first of them show.
+use Rattle.std.specs.Prelude.{◌≡◌, ◌⊎◌, ℕ, ◌+◌, ◌≤◌, List, Some, Result, true, IsTrue, ⊤}
 use Rattle.std.specs.FinMap.{empty}
 use Rattle.ks_symbols.specs.Names.{is_name}
 use Rattle.ks_tree.specs.Files.{Files, content}
@@ -13,6 +14,11 @@ use Rattle.ks_engine.specs.Staleness.{suspect_since}
 use Rattle.ks_engine.specs.Legal.{IsHistory}
 use Rattle.ks_engine.specs.Shows.{Shows, IsFirstAuto}
 use Rattle.ks_engine.specs.SyncPlan.{Plan, IsSyncPlan}
+use Rattle.ks_engine.specs.declared.commands.Reply.{Reply}
+use Rattle.ks_engine.specs.Actions.{Action}
+use Rattle.ks_engine.specs.FileRuns.{FileState, FileRun}
+use Rattle.ks_engine.specs.Follows.{at}
+use Rattle.ks_engine.specs.Runs.{Run}
 
 -- An empty tree shows a history that begins with no texts, ..
 abbrev pub EmptyTreeShows : Type 0
@@ -48,3 +54,10 @@ HasChangeBehind g x (Recorded object command names header past) = HasChangeBehin
 abbrev pub SuspicionsHaveCauses : Type 0
 SuspicionsHaveCauses =
     (h : History) (o x : List ℕ) (r : LastRecord) → IsHistory h → last_record h o ≡ Some r → suspect_since h o x ≡ true → HasChangeBehind (done r.past) x h
+
+-- A run of an honest tree by its files is a run from each history that the first of these files show.
+abbrev pub FileRunsGoOn : Type 0
+FileRunsGoOn =
+    (first : FileState) (actions : List Action) (replies : List Reply) (last : FileState) (h : History) → Shows first.files h
+    → FileRun ⊤ first actions replies last
+    → (next : History) × Run (at first.files first.failures h) actions replies (at last.files last.failures next)

@@ -18,6 +18,7 @@ pub mod Drafts
 pub mod Follows
 pub mod Impact
 pub mod Actions
+pub mod FileRuns
 pub mod Verdicts
 pub mod Runs
 pub mod OtherRecords

@@ -2,10 +2,11 @@
 ghost use Rattle.std.specs.Prelude.{◌≡◌, ◌≤◌, IfOk, OnErr, map, length};
 ghost use Rattle.ks_engine.specs.History.{History};
 ghost use Rattle.ks_engine.specs.Shows.{Shows};
-ghost use Rattle.ks_engine.specs.Follows.{GoesOn, at};
+ghost use Rattle.ks_engine.specs.Follows.{at};
 ghost use Rattle.ks_engine.specs.Actions.{action};
+ghost use Rattle.ks_engine.specs.FileRuns.{FileRun, StepsTo, state};
 ghost use Rattle.ks_engine.specs.Memos.{IsMemoOf};
-ghost use Rattle.ks_engine.specs.Runs.{Follows, Run};
+ghost use Rattle.ks_engine.specs.Runs.{Run};
 
 use crate::memos::Memo;
 use crate::recording::record_by;
@@ -44,8 +45,7 @@ pub enum Reply {
 fn answer<T: Tree>(alloc: Global, tree: &mut T, memo: &mut Memo, command: &Command<'_>) -> Reply
     requires memo { T.is_honest → IsMemoOf (T.files tree.old) memo.old }
     ensures memo { T.is_honest → IsMemoOf (T.files tree.new) memo.new }
-    ensures follows { GoesOn T.Tree tree.old tree.new (Follows (action command.now) result) }
-    ensures later { T.failures tree.old ≤ T.failures tree.new }
+    ensures step { StepsTo T.is_honest (state T.Tree tree.old) (action command.now) result (state T.Tree tree.new) }
 {
     match command {
         Command::Sync { kconfig, dotconfig } => {
@@ -76,11 +76,14 @@ pub fn run<T: Tree>(
     tree: &mut T,
     commands: &[Command<'_>],
 ) -> Result<Vec<Reply>, AllocError>
+    // By the files, and by what the tree has counted: a step for each command, with its reply, from the tree before to the tree after.
+    ensures steps { IfOk result (λ replies. FileRun T.is_honest (state T.Tree tree.old) (map action commands.now) replies.items (state T.Tree tree.new)) }
     // From each history that the files show there is a run with these replies, and the files show its last history.
     ensures runs { T.is_honest → (h : History) → Shows (T.files tree.old) h → IfOk result (λ replies. (last : History)
         × Run (at (T.files tree.old) (T.failures tree.old) h) (map action commands.now) replies.items (at (T.files tree.new) (T.failures tree.new) last)) }
     ensures each { IfOk result (λ replies. length replies.items ≡ length commands.now) }
-    ensures unchanged { T.is_honest → OnErr result (T.files tree.new ≡ T.files tree.old) }
+    // Where memory is refused for the replies, nothing was asked of the tree.
+    ensures untouched { OnErr result (tree.new ≡ tree.old) }
     ensures later { T.failures tree.old ≤ T.failures tree.new }
 {
     let mut replies = Vec::with_capacity(alloc, commands.len())?;

@@ -1,7 +1,7 @@
 //! Laws of the definitions, each the contract of a function that does nothing.
 ghost use Rattle.ks_engine.specs.OtherRecords.{OtherRecordsDoNotMatter};
 ghost use Rattle.ks_engine.specs.Explained.{PlacesAreFirst, PlacesAreTheirs};
-ghost use Rattle.ks_engine.specs.Laws.{EmptyTreeShows, UsualTreeShows, UntypedTreeShows, PlansAreOne, SuspicionsHaveCauses};
+ghost use Rattle.ks_engine.specs.Laws.{EmptyTreeShows, FileRunsGoOn, UsualTreeShows, UntypedTreeShows, PlansAreOne, SuspicionsHaveCauses};
 
 /// There are trees to begin with: an empty one, each of the usual tool, and each that the untyped form left, whose stamps may
 /// be one above the generation where a synchronisation was broken off.
@@ -33,4 +33,9 @@ pub fn other_records_do_not_matter()
 pub fn places_are_first()
     ensures first { PlacesAreFirst }
     ensures theirs { PlacesAreTheirs }
+{}
+
+/// What is said of a run by its files says what its history is: there is a run from each history that the first files show.
+pub fn file_runs_go_on()
+    ensures { FileRunsGoOn }
 {}

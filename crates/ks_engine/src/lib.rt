@@ -21,8 +21,8 @@ pub use explaining::{Cause, Explanation, explain, explain_by};
 pub use impact::Impact;
 pub use last_sync::read_old;
 pub use laws::{
-    beginnings_are_shown, other_records_do_not_matter, places_are_first, plans_are_one,
-    suspicions_have_causes,
+    beginnings_are_shown, file_runs_go_on, other_records_do_not_matter, places_are_first,
+    plans_are_one, suspicions_have_causes,
 };
 pub use memos::Memo;
 pub use planning::{Planned, Sources, plan, plan_sync, read_sources};

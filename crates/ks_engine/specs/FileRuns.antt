@@ -1,0 +1,65 @@
+-- Runs by the files of a tree: what each command leaves, and what the tree has counted, one command after the other.
+use Rattle.std.specs.Prelude.{◌≡◌, ◌⊎◌, ◌≤◌, ℕ, List, [], ◌∷◌, Result, Ok, Err}
+use Rattle.ks_tree.specs.declared.tree.Tree.{Ghosts}
+use Rattle.ks_tree.specs.Files.{Files, HasRisen}
+use Rattle.ks_engine.specs.declared.error.EngineError.{EngineError}
+use Rattle.ks_engine.specs.declared.error.EngineError.TheVariants.{Device}
+use Rattle.ks_engine.specs.declared.commands.Reply.{Reply}
+use Rattle.ks_engine.specs.declared.commands.Reply.TheVariants.{Synced, Recorded, Verdict, Refused}
+use Rattle.ks_engine.specs.declared.recording.Recorded.{Recorded as RecordAnswer}
+use Rattle.ks_engine.specs.declared.staleness.Verdict.{Verdict as VerdictValue}
+use Rattle.ks_engine.specs.declared.synchronise.Report.{Report}
+use Rattle.ks_engine.specs.Refusals.{GaveUp}
+use Rattle.ks_engine.specs.Asked.{asked, IsAnswer}
+use Rattle.ks_engine.specs.Judged.{JudgesRecorded}
+use Rattle.ks_engine.specs.Recorded.{IsRecorded, IsRecordRefused}
+use Rattle.ks_engine.specs.Synchronised.{IsSynced, IsSyncRefused}
+use Rattle.ks_engine.specs.Actions.{Action, Sync, Record, Stale}
+
+-- ---- what a call leaves and answers
+
+abbrev pub LeavesSync : Files → Files → List ℕ → List ℕ → Result Report EngineError → Type 0
+LeavesSync old new k d (Ok report) = IsSynced old new k d report
+LeavesSync old new k d (Err e) = IsSyncRefused old new k d e
+
+abbrev pub LeavesRecord : Files → Files → List ℕ → List ℕ → List ℕ → Result RecordAnswer EngineError → Type 0
+LeavesRecord old new d t c (Ok answer) = IsRecorded old new d t c answer
+LeavesRecord old new d t c (Err e) = IsRecordRefused old new d t c e
+
+-- what a question is answered, whichever history is shown
+pub record IsAnswerOn (files : Files) (o : List ℕ) (answer : Result VerdictValue EngineError) : Type 0 where
+  pub by_files : GaveUp answer ⊎ IsAnswer files (asked files o) answer
+  pub recorded : JudgesRecorded files o answer
+
+-- the files after an action, by its reply; no action is answered as another one
+abbrev pub LeavesFiles : Files → Action → Reply → Files → Type 0
+LeavesFiles old (Sync k d) (Synced report) new = LeavesSync old new k d (Ok report)
+LeavesFiles old (Sync k d) (Refused e) new = LeavesSync old new k d (Err e)
+LeavesFiles old (Record d t c) (Recorded answer) new = LeavesRecord old new d t c (Ok answer)
+LeavesFiles old (Record d t c) (Refused e) new = LeavesRecord old new d t c (Err e)
+LeavesFiles old (Stale o) (Verdict v) new = (new ≡ old) × IsAnswerOn old o (Ok v)
+LeavesFiles old (Stale o) (Refused e) new = (new ≡ old) × IsAnswerOn old o (Err e)
+LeavesFiles old _ _ new = ⊥
+
+-- ---- one call after the other
+
+-- the files of a tree, and how often its device has failed
+pub record FileState : Type 0 where
+  pub files : Files
+  pub failures : ℕ
+
+abbrev pub state : {T : Type 0} → Ghosts T → T → FileState
+state tree t = record { files = tree.files t; failures = tree.failures t }
+
+-- A step of an honest tree leaves these files. Of any tree the count of failures never falls, and the device is to blame only where it rose.
+pub record StepsTo (honest : Type 0) (old : FileState) (action : Action) (reply : Reply) (new : FileState) : Type 0 where
+  pub leaves : honest → LeavesFiles old.files action reply new.files
+  pub later : old.failures ≤ new.failures
+  pub cause : reply ≡ Refused Device → HasRisen old.failures new.failures
+
+-- Each action has its reply and its step, which begins where the one before it ended.
+abbrev pub FileRun : Type 0 → FileState → List Action → List Reply → FileState → Type 0
+FileRun honest first [] [] last = last ≡ first
+FileRun honest first (action ∷ actions) (reply ∷ replies) last =
+    (next : FileState) × StepsTo honest first action reply next × FileRun honest next actions replies last
+FileRun honest first _ _ last = ⊥

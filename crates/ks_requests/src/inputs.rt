@@ -2,7 +2,7 @@
 //!
 //! All paths are looked at before the first file is read, so that a misspelt word costs nothing; and all files
 //! are read before anything is parsed.
-ghost use Rattle.std.specs.Prelude.{◌≡◌, IsErrOf, option_map, string_bytes};
+ghost use Rattle.std.specs.Prelude.{◌≡◌, IfOk, IsErrOf, None, option_map, string_bytes};
 ghost use Rattle.ks_tree.specs.Frames.{Reads};
 ghost use Rattle.ks_engine.specs.Refusals.{Answers};
 ghost use Rattle.ks_requests.specs.Inputs.{given, given_if_named, inputs_at, legal, legal_if_named, texts_at};
@@ -70,6 +70,7 @@ pub(crate) fn read_named<T: Tree>(
 ) -> Result<Option<Vec<u8>>, EngineError>
     ensures reads { Reads T.Tree tree.old tree.new (IsErrOf result EngineError.Device) }
     ensures bytes { T.is_honest → Answers (given_if_named (T.files tree.old) (option_map (λ p. p.now) path.entry)) (option_map (λ v. v.items)) result }
+    ensures none { option_map (λ p. p.now) path.entry ≡ None → IfOk result (λ found. found ≡ None) }
 {
     match path {
         Some(path) => Ok(Some(read_given(alloc, tree, path.as_bytes())?)),

@@ -2,7 +2,7 @@
 //!
 //! A target of the file is a piece of its text and is not copied, since there can be as many as a kernel has objects. A line
 //! that is no legal target is one all the same: it is answered in its place, as the word would be.
-ghost use Rattle.std.specs.Prelude.{◌≡◌, ◌++◌, IfOk, IsErrOf, OnOk, map, option_map, string_bytes};
+ghost use Rattle.std.specs.Prelude.{◌≡◌, ◌++◌, IfOk, IsErrOf, None, OnOk, map, option_map, string_bytes};
 ghost use Rattle.ks_tree.specs.Frames.{Reads};
 ghost use Rattle.ks_engine.specs.Refusals.{Answers};
 ghost use Rattle.ks_requests.specs.Inputs.{given_if_named};
@@ -46,6 +46,7 @@ pub fn read_targets<T: Tree>(
 ) -> Result<Option<Vec<u8>>, EngineError>
     ensures reads { Reads T.Tree tree.old tree.new (IsErrOf result EngineError.Device) }
     ensures text { T.is_honest → Answers (given_if_named (T.files tree.old) (file_of targets.now)) (option_map (λ v. v.items)) result }
+    ensures none { file_of targets.now ≡ None → IfOk result (λ found. found ≡ None) }
 {
     read_named(alloc, tree, lent_path(&targets.from))
 }

@@ -40,9 +40,10 @@ folders_only() {
     done
 }
 
-# kconfigs COMMANDS: the Kconfig files that the kernel's tool has read, where they stand, by its auto.conf.cmd.
+# kconfigs COMMANDS: the Kconfig files that the kernel's tool has read, where they stand, by its auto.conf.cmd. Kbuild takes
+# no path with a blank.
 kconfigs() {
-    sed -n '/^deps_config := /,/^$/s/^[[:blank:]]\([^ ]*\)\( \\\)\{0,1\}$/\1/p' "$1" | while read -r file; do
+    for file in $(awk '/^deps_config := / { inside = 1; next } inside && NF == 0 { exit } inside { print $1 }' "$1"); do
         if [ -e "$file" ]; then
             echo "$file"
         else

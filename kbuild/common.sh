@@ -41,13 +41,15 @@ folders_only() {
 }
 
 # kconfigs COMMANDS: the Kconfig files that the kernel's tool has read, where they stand, by its auto.conf.cmd. Kbuild takes
-# no path with a blank.
+# no path with a blank. A build folder of its own has a link `source`, for whoever isn't called by make.
 kconfigs() {
+    sources=${srctree:-.}
+    [ -e "$sources/Kconfig" ] || [ ! -e source/Kconfig ] || sources=source
     for file in $(awk '/^deps_config := / { inside = 1; next } inside && NF == 0 { exit } inside { print $1 }' "$1"); do
         if [ -e "$file" ]; then
             echo "$file"
         else
-            echo "${srctree:-.}/$file"
+            echo "$sources/$file"
         fi
     done
 }

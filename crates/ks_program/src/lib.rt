@@ -6,6 +6,3 @@
 mod program;
 
 pub use program::execute;
-
-#[cfg(test)]
-mod tests;

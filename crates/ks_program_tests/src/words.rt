@@ -1,6 +1,6 @@
 //! Which request the words make, and which words are refused. What help and the version print, tests/main holds against
 //! the built program.
-use super::{Step, told};
+use crate::steps::{Step, told};
 use ks_tree::MemoryTree;
 use ks_words::request_of;
 use std::test::Fail;

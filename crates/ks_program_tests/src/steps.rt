@@ -1,21 +1,14 @@
 //! Worked examples over a tree in memory: tables of words, and of the status and all that is printed.
-use super::*;
+use crate::golden;
+use ks_program::execute;
 use ks_tree::{MemoryTree, Tree};
 use std::alloc::Global;
 use std::process::Abort;
 use std::test::Fail;
 
-mod commands;
-mod failing_output;
-mod golden;
-mod refusals;
-mod scripts;
-mod texts;
-mod words;
-
 /// One thing done to a tree: words that are run, a file that is put there, or one that is read.
 #[derive(Clone, Copy, Debug)]
-enum Step<'a> {
+pub(crate) enum Step<'a> {
     Words(&'a [&'a str]),
     Put(&'a str, &'a str),
     Read(&'a str),
@@ -23,13 +16,17 @@ enum Step<'a> {
 
 /// What words left: the status, the output and standard error.
 #[derive(Drop)]
-struct Run {
-    status: u8,
-    out: String,
-    err: String,
+pub(crate) struct Run {
+    pub(crate) status: u8,
+    pub(crate) out: String,
+    pub(crate) err: String,
 }
 
-fn run_over<'a, T: Tree>(alloc: Global, tree: &mut T, words: &'a [&'a str]) -> Result<Run, Fail> {
+pub(crate) fn run_over<'a, T: Tree>(
+    alloc: Global,
+    tree: &mut T,
+    words: &'a [&'a str],
+) -> Result<Run, Fail> {
     let mut out: Vec<u8> = Vec::new(alloc);
     let mut err: Vec<u8> = Vec::new(alloc);
     let status = execute(alloc, tree, words, &mut out, &mut err);
@@ -39,7 +36,7 @@ fn run_over<'a, T: Tree>(alloc: Global, tree: &mut T, words: &'a [&'a str]) -> R
 }
 
 /// The bytes of a file as text.
-fn shown<T: Tree>(alloc: Global, tree: &mut T, path: &str) -> Result<String, Fail> {
+pub(crate) fn shown<T: Tree>(alloc: Global, tree: &mut T, path: &str) -> Result<String, Fail> {
     match tree.read(alloc, path.as_bytes())? {
         Some(bytes) => Ok(String::from_utf8(bytes)?),
         None => Ok(String::from_str(alloc, "none")?),
@@ -47,7 +44,7 @@ fn shown<T: Tree>(alloc: Global, tree: &mut T, path: &str) -> Result<String, Fai
 }
 
 /// What comes of a step: what was read, or the status, the output and standard error, one behind the other.
-fn told<T: Tree>(alloc: Global, tree: &mut T, step: Step<'_>) -> Result<String, Fail> {
+pub(crate) fn told<T: Tree>(alloc: Global, tree: &mut T, step: Step<'_>) -> Result<String, Fail> {
     match step {
         Step::Words(words) => {
             let run = run_over(alloc, tree, words)?;
@@ -63,7 +60,7 @@ fn told<T: Tree>(alloc: Global, tree: &mut T, step: Step<'_>) -> Result<String, 
 }
 
 /// Takes the steps one after another, each with what is to come of it.
-fn play<T: Tree>(
+pub(crate) fn play<T: Tree>(
     rt: &impl Abort,
     alloc: Global,
     tree: &mut T,
@@ -77,14 +74,18 @@ fn play<T: Tree>(
 }
 
 /// A tree with the inputs of all examples.
-fn world(rt: &impl Abort, alloc: Global) -> Result<MemoryTree, Fail> {
+pub(crate) fn world(rt: &impl Abort, alloc: Global) -> Result<MemoryTree, Fail> {
     let mut tree = MemoryTree::new(alloc);
     play(rt, alloc, &mut tree, golden::INPUTS)?;
     Ok(tree)
 }
 
 /// Plays each list of steps over a tree of its own.
-fn play_each(rt: &impl Abort, alloc: Global, lists: &[&[(Step<'_>, &str)]]) -> Result<(), Fail> {
+pub(crate) fn play_each(
+    rt: &impl Abort,
+    alloc: Global,
+    lists: &[&[(Step<'_>, &str)]],
+) -> Result<(), Fail> {
     for steps in lists {
         let mut tree = world(rt, alloc)?;
         play(rt, alloc, &mut tree, steps)?;

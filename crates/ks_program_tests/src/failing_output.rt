@@ -1,7 +1,8 @@
 //! An output that fails: the command's work on the tree stays done, the refusal is told where that goes, and the
 //! status is 2 also where it doesn't.
-use super::golden::{AUTO, COMMAND_FILE};
-use super::{Step, execute, play, run_over, shown, world};
+use crate::golden::{AUTO, COMMAND_FILE};
+use crate::steps::{Step, play, run_over, shown, world};
+use ks_program::execute;
 use std::alloc::Global;
 use std::io;
 use std::io::{ErrorKind, Write};

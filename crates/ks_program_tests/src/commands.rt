@@ -1,6 +1,7 @@
 //! Each command as it is meant to be used, and the questions about objects.
-use super::golden::*;
-use super::*;
+use crate::golden::*;
+use crate::steps::play_each;
+use std::test::Fail;
 
 #[test]
 fn commands_over_trees(rt: HostRuntime) -> Result<(), Fail> {

@@ -1,5 +1,5 @@
 //! The inputs of the examples, whole files, and what is asked and told.
-use super::Step;
+use crate::steps::Step;
 
 const KCONFIG: &str = "mainmenu \"Demo\"\nconfig A\n\tbool\nconfig B\n\ttristate\n";
 

@@ -1,5 +1,5 @@
 //! Scripts: a change and a change back, refused lines, and lines that ask for nothing.
-use super::{Step, play_each};
+use crate::steps::{Step, play_each};
 use std::test::Fail;
 
 const CHANGE_AND_BACK: &str = "sync K2 c1

@@ -1,7 +1,7 @@
 //! The refusals of a whole command: nothing on the output, a line on standard error, behind it one that says where, and
 //! nothing changed.
-use super::golden::AUTO;
-use super::{Step, play, play_each, told, world};
+use crate::golden::AUTO;
+use crate::steps::{Step, play, play_each, told, world};
 use ks_tree::{FuseMode, FuseTree, Tree};
 use std::test::Fail;
 

@@ -4,7 +4,7 @@
 # A line SOURCE PLACE for each file: SOURCE below the top of the repository, PLACE below PREFIX.
 installed_files() {
     cat << END
-crates/confstamp/out/confstamp bin/confstamp
+out/install/confstamp bin/confstamp
 tools/bare-kconfig bin/bare-kconfig
 tools/bare-kconfig lib/confstamp/tools/bare-kconfig
 docs/confstamp.1 share/man/man1/confstamp.1

@@ -95,13 +95,17 @@ run_gate() {
     [ ! -e "$copy/.git/status" ] || return "$(cat "$copy/.git/status")"
 }
 
-# prove_program COPY: the copy in that folder, which is new, and the program in it, crates/confstamp/out/confstamp. A check
-# that is killed is tried once more by `rt ci` itself; if that is in vain, all that is left is proved one at a time.
-prove_program() {
+# copy_program COPY: what a proof of the program reads, in that folder, which is new.
+copy_program() {
     mkdir -p "$1/.git"
     program_crates > "$1/crates.txt"
-    sed 's,:.*,,; s,[ =].*,,; s,^,crates/,' "$1/crates.txt" |
+    sed 's,:.*,,; s,^,crates/,' "$1/crates.txt" |
         tar -C "$top" --exclude=out --exclude=must-fail -cf - -T - HANDLES | tar -C "$1" -xf -
+}
+
+# prove_copy COPY: the program is there then, crates/confstamp/out/confstamp. A check that is killed is tried once more by
+# `rt ci` itself; if that is in vain, all that is left is proved one at a time.
+prove_copy() {
     : > "$log"
     ! run_gate "$1" || return 0
     grep -q 'the check was killed' "$log" || return 1

@@ -5,6 +5,7 @@ use Rattle.ks_engine.specs.declared.commands.Reply.{Reply}
 use Rattle.ks_engine.specs.declared.error.EngineError.{EngineError}
 use Rattle.ks_engine.specs.declared.synchronise.Report.{Report}
 use Rattle.ks_engine.specs.Actions.{Action}
+use Rattle.ks_engine.specs.FileRuns.{FileRun, FileState, IsAnswerOn, LeavesSync}
 use Rattle.ks_engine.specs.Follows.{TreeState, at, FollowsSync}
 use Rattle.ks_engine.specs.History.{History}
 use Rattle.ks_engine.specs.Refusals.{IsGivenUp}
@@ -16,7 +17,7 @@ use Rattle.ks_requests.specs.Endings.{Ending}
 use Rattle.ks_requests.specs.Inputs.{given}
 use Rattle.ks_requests.specs.Replies.{explanation_lines, verdict_line}
 use Rattle.ks_requests.specs.Statuses.{explanation_status, verdict_status}
-use Rattle.ks_commands.specs.Performed.{EndsImpact, EndsStale, EndsWhy, FollowsImpact, FollowsWhy, IsAnswerBehind, IsAnswerOn, IsExplanationOn, LeavesSync, Runs, RunsAll, by_files, by_histories, count_of, not_counted}
+use Rattle.ks_commands.specs.Performed.{EndsImpact, EndsStale, EndsWhy, FollowsImpact, FollowsWhy, IsAnswerBehind, IsExplanationOn, Runs, RunsAll, RunsOn, by_files, by_histories, count_of, not_counted}
 use Rattle.ks_commands.specs.Scripts.{HasGivenUp, actions_of, script_actions, script_at}
 use Rattle.ks_commands.proofs.Verdicts.{answers_weaker}
 
@@ -65,6 +66,12 @@ pub run_follows : (old mid : Files) (m n : ℕ) (h : History) (asked actions : L
 run_follows old mid m n h asked actions replies new same later are run =
     (n, later, subst (λ (f : Files). Run (at f n h) actions replies new) same (subst (λ (acts : List Action). Run (at mid n h) acts replies new) are run))
 
+pub file_run_follows : (honest : Type 0) (old mid : FileState) (asked actions : List Action) (replies : List Reply) (new : FileState)
+    → (honest → mid.files ≡ old.files) → old.failures ≤ mid.failures → asked ≡ actions
+    → FileRun honest mid asked replies new → RunsOn honest old new actions replies
+file_run_follows honest old mid asked actions replies new same later are run =
+    record { first = mid; read = same; later = later; run = subst (λ (acts : List Action). FileRun honest mid acts replies new) are run }
+
 -- a script whose text or files are refused
 pub script_stopped : (files mid : Files) (path text : List ℕ) (r : Refusal) → mid ≡ files → given files path ≡ Ok text → HasGivenUp r
     ⊎ (script_actions mid text ≡ Err r)
@@ -73,30 +80,36 @@ script_stopped files mid path text r same there (inl up) = inl up
 script_stopped files mid path text r same there (inr bad) = inr (script_there files mid path text (Err r) same there bad)
 
 -- an answer by the files is one by each history that they show
-pub stale_follows : (old new : Files) (m n : ℕ) (h : History) (targets : Result (List (List ℕ)) EngineError) (ended : Ending) → new ≡ old → Shows old h
-    → EndsStale (by_files old new) targets ended → EndsStale (by_histories (at old m h) (at new n h)) targets ended
-stale_follows old new m n h targets ended same shows ends =
-    answers_weaker verdict_line verdict_status (IsAnswerOn old) (λ o answer. FollowsStale (at old m h) o answer (at new n h)) not_counted targets ended
+pub stale_follows : (old new : FileState) (h : History) (targets : Result (List (List ℕ)) EngineError) (ended : Ending) → new.files ≡ old.files
+    → Shows old.files h
+    → EndsStale (by_files old new) targets ended
+    → EndsStale (by_histories (at old.files old.failures h) (at new.files new.failures h)) targets ended
+stale_follows old new h targets ended same shows ends =
+    answers_weaker verdict_line verdict_status (IsAnswerOn old.files)
+    (λ o answer. FollowsStale (at old.files old.failures h) o answer (at new.files new.failures h)) not_counted targets ended
     (λ o answer is. record { same = (same, refl); by_files = is.by_files; recorded = λ r was. is.recorded h r shows was }) ends
 
-pub why_follows : (old new : Files) (m n : ℕ) (h : History) (targets : Result (List (List ℕ)) EngineError) (ended : Ending) → new ≡ old → Shows old h
-    → EndsWhy (by_files old new) targets ended → EndsWhy (by_histories (at old m h) (at new n h)) targets ended
-why_follows old new m n h targets ended same shows ends =
-    answers_weaker explanation_lines explanation_status (IsExplanationOn old)
-    (λ o answer. FollowsWhy (at old m h) o answer (at new n h)) not_counted targets ended
+pub why_follows : (old new : FileState) (h : History) (targets : Result (List (List ℕ)) EngineError) (ended : Ending) → new.files ≡ old.files
+    → Shows old.files h
+    → EndsWhy (by_files old new) targets ended
+    → EndsWhy (by_histories (at old.files old.failures h) (at new.files new.failures h)) targets ended
+why_follows old new h targets ended same shows ends =
+    answers_weaker explanation_lines explanation_status (IsExplanationOn old.files)
+    (λ o answer. FollowsWhy (at old.files old.failures h) o answer (at new.files new.failures h)) not_counted targets ended
     (λ o answer is. record { same = (same, refl); by_files = is.by_files; verdict = is.verdict; recorded = λ r was. is.recorded h r shows was }) ends
 
-pub impact_follows : (old new : Files) (m n : ℕ) (h : History) (k d : List ℕ) (targets : Result (List (List ℕ)) EngineError) (ended : Ending) → new ≡ old
-    → Shows old h → EndsImpact old (by_files old new) k d targets ended → EndsImpact old (by_histories (at old m h) (at new n h)) k d targets ended
-impact_follows old new m n h k d targets ended same shows (inl stopped) = inl stopped
-impact_follows old new m n h k d targets ended same shows (inr (t, there, inl refused)) = inr (t, there, inl refused)
-impact_follows old new m n h k d targets ended same shows (inr (t, there, inr (can, ends))) = inr (
+pub impact_follows : (old new : FileState) (h : History) (k d : List ℕ) (targets : Result (List (List ℕ)) EngineError) (ended : Ending)
+    → new.files ≡ old.files → Shows old.files h → EndsImpact old.files (by_files old new) k d targets ended
+    → EndsImpact old.files (by_histories (at old.files old.failures h) (at new.files new.failures h)) k d targets ended
+impact_follows old new h k d targets ended same shows (inl stopped) = inl stopped
+impact_follows old new h k d targets ended same shows (inr (t, there, inl refused)) = inr (t, there, inl refused)
+impact_follows old new h k d targets ended same shows (inr (t, there, inr (can, ends))) = inr (
   t,
   there,
   inr (
     can,
-    answers_weaker verdict_line verdict_status (IsAnswerBehind old t.kconfig t.dotconfig)
-        (λ o answer. FollowsImpact (at old m h) t.kconfig t.dotconfig o answer (at new n h)) count_of targets ended
+    answers_weaker verdict_line verdict_status (IsAnswerBehind old.files t.kconfig t.dotconfig)
+        (λ o answer. FollowsImpact (at old.files old.failures h) t.kconfig t.dotconfig o answer (at new.files new.failures h)) count_of targets ended
         (λ o answer is. record {
           same = (same, refl);
           by_files = is.by_files;

@@ -88,7 +88,7 @@ done_or_refused k d o (Err r) behind old new b a eb ea s same ends refused =
 
 pub previews_are_performed : PreviewsArePerformed
 previews_are_performed k d o (request.Preview k' d' o') ended behind old new b a eb ea s is ends printed =
-    rw (← is.0, ← is.1, ← is.2) (done_or_refused _ _ _ ended behind old new b a eb ea s ends.0 ends.1 printed)
+    rw (← is.0, ← is.1, ← is.2) (done_or_refused _ _ _ ended behind old.files new.files b a eb ea s ends.0 ends.1 printed)
 previews_are_performed k d o (request.Sync k' d') ended behind old new b a eb ea s is ends printed = absurd is
 previews_are_performed k d o (request.Diff k' d') ended behind old new b a eb ea s is ends printed = absurd is
 previews_are_performed k d o (request.Fixdep d' t c) ended behind old new b a eb ea s is ends printed = absurd is

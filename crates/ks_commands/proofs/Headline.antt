@@ -1,19 +1,22 @@
 -- What scripts and runs of the program tell: no synchronisation was broken off before one of them where none was at the end.
-use Rattle.std.proofs.Common.{◌≡◌, ◌∙◌, ◌<◌, ℕ, Bool, cond, refl, List, [], ◌∷◌, Result, Ok, Err, IfOk, inl, inr, ⊎_elim, sym, ap, ap₂, subst, filter, map, fold, max, arith}
+use Rattle.std.proofs.Common.{◌≡◌, ◌∙◌, ◌<◌, ℕ, Bool, cond, refl, List, [], ◌∷◌, Some, Result, Ok, Err, IfOk, IsTrue, inl, inr, ⊎_elim, sym, ap, ap₂, string_bytes, subst, filter, map, fold, max, arith}
 use Rattle.std.specs.List.{All}
+use Rattle.ks_fixdep.specs.CommandFile.{is_command}
 use Rattle.std.proofs.lemmas.List.Elements.{All-nil, All-cons}
 use Rattle.ks_engine.specs.declared.commands.Reply.{Reply}
 use Rattle.ks_engine.specs.declared.commands.Reply.TheVariants.{Synced, Recorded, Verdict, Refused}
 use Rattle.ks_engine.specs.declared.error.EngineError.{EngineError}
 use Rattle.ks_engine.specs.declared.explaining.Explanation.{Explanation}
 use Rattle.ks_engine.specs.declared.recording.Recorded.{Recorded as RecordAnswer}
+use Rattle.ks_engine.specs.declared.staleness.BuildState.{BuildState}
 use Rattle.ks_engine.specs.declared.synchronise.Report.{Report}
 use Rattle.ks_engine.specs.Actions.{Action, Sync, Record, Stale}
 use Rattle.ks_engine.specs.Follows.{TreeState, FollowsSync, FollowsRecord}
-use Rattle.ks_engine.specs.History.{NoneBroken}
+use Rattle.ks_engine.specs.History.{History, LastRecord, NoneBroken, last_record}
+use Rattle.ks_engine.specs.Judged.{HasSameDefinitions}
 use Rattle.ks_engine.specs.Runs.{FollowsStale, Leads, Leaves, Step}
 use Rattle.ks_engine.specs.Staleness.{changed_since, found, suspect_since}
-use Rattle.ks_engine.specs.Verdicts.{IsGivenUpSync}
+use Rattle.ks_engine.specs.Verdicts.{IsChangedVerdict, IsGivenUpSync}
 use Rattle.ks_engine.proofs.Heart.{suspect_since-changed_since}
 use Rattle.ks_requests.specs.declared.request.Request.{Request}
 use Rattle.ks_requests.specs.declared.request.Request.TheVariants as request
@@ -22,8 +25,8 @@ use Rattle.ks_requests.specs.Replies.{explanation_lines, verdict_line}
 use Rattle.ks_requests.specs.Statuses.{explanation_status, reply_status, verdict_status, worst}
 use Rattle.ks_requests.specs.Targets.{targets_at}
 use Rattle.ks_commands.specs.Laws.{BatchTellsChanges, ProgramsTellChanges}
-use Rattle.ks_commands.specs.Performed.{Continues, EndsImpact, EndsStale, EndsWhy, FollowsImpact, FollowsWhy, by_histories, count_of, not_counted}
-use Rattle.ks_commands.specs.Programs.{Chain, ProgramRun, ProgramTellsChanges, TellsBehind, TellsCauses, TellsChange, changes_told}
+use Rattle.ks_commands.specs.Performed.{Continues, EndsImpact, EndsStale, EndsWhy, FollowsImpact, FollowsOutdated, FollowsWhy, Runs, by_histories, count_of, not_counted}
+use Rattle.ks_commands.specs.Programs.{Chain, ProgramRun, ProgramTellsChanges, StepsTellChanges, TellsBehind, TellsBuild, TellsCauses, TellsChange, changes_told}
 use Rattle.ks_commands.proofs.Verdicts.{answers_weaker}
 
 -- ---- none was broken off before a step where none is behind it
@@ -89,7 +92,7 @@ none_at_first first (run ∷ runs) last chain none =
 -- ---- what is told then
 
 stale_tells : (old new : TreeState) (targets : Result (List (List ℕ)) EngineError) (ended : Ending) → NoneBroken old.history
-    → EndsStale (by_histories old new) targets ended → EndsStale (changes_told old) targets ended
+    → EndsStale (by_histories old new) targets ended → EndsStale (changes_told old new) targets ended
 stale_tells old new targets ended none ends =
     answers_weaker verdict_line verdict_status (λ o answer. FollowsStale old o answer new) (TellsChange old) not_counted targets ended
     (λ o answer is. record { changed = λ r was. (is.recorded r was).changed none; safe = λ r was fresh. (is.recorded r was).safe fresh }) ends
@@ -107,7 +110,7 @@ causes_changed s o (Ok e) none is = is ∙ filter_alike (suspect_since s.history
 causes_changed s o (Err e) none is = is
 
 why_tells : (old new : TreeState) (targets : Result (List (List ℕ)) EngineError) (ended : Ending) → NoneBroken old.history
-    → EndsWhy (by_histories old new) targets ended → EndsWhy (changes_told old) targets ended
+    → EndsWhy (by_histories old new) targets ended → EndsWhy (changes_told old new) targets ended
 why_tells old new targets ended none ends =
     answers_weaker explanation_lines explanation_status (λ o answer. FollowsWhy old o answer new) (TellsCauses old) not_counted targets ended
     (λ o answer is. record {
@@ -116,7 +119,7 @@ why_tells old new targets ended none ends =
     }) ends
 
 impact_tells : (old new : TreeState) (k d : List ℕ) (targets : Result (List (List ℕ)) EngineError) (ended : Ending) → NoneBroken old.history
-    → EndsImpact old.files (by_histories old new) k d targets ended → EndsImpact old.files (changes_told old) k d targets ended
+    → EndsImpact old.files (by_histories old new) k d targets ended → EndsImpact old.files (changes_told old new) k d targets ended
 impact_tells old new k d targets ended none (inl stopped) = inl stopped
 impact_tells old new k d targets ended none (inr (t, there, inl refused)) = inr (t, there, inl refused)
 impact_tells old new k d targets ended none (inr (t, there, inr (can, ends))) = inr (
@@ -132,26 +135,58 @@ impact_tells old new k d targets ended none (inr (t, there, inr (can, ends))) = 
   ),
 )
 
+one_record : (h : History) (o : List ℕ) (r w : LastRecord) → last_record h o ≡ Some r → last_record h o ≡ Some w → r ≡ w
+one_record h o r w a b = let e : Some r ≡ Some w = sym a ∙ b in cc
+
+build_tells : (old new : TreeState) (o command : List ℕ) (answer : Result BuildState EngineError) → NoneBroken old.history
+    → FollowsOutdated old o command answer new → IsTrue (is_command command) → TellsBuild old o command answer
+build_tells old new o command answer none is legal = record {
+  differs = λ r was other. (is.recorded legal r was).differs other;
+  same = λ r was alike.
+      let found = (is.recorded legal r was).same alike in (
+        found.0,
+        found.1,
+        record {
+          changed = λ w last. found.2.changed none;
+          safe = λ w last fresh. subst (λ v. HasSameDefinitions old.files v) (one_record old.history o r w was last) (found.2.safe fresh);
+        },
+      );
+}
+
+steps_tell : (old new : TreeState) (actions : List Action) (replies : List Reply) (runs : Runs old new actions replies)
+    → All (λ step. IsChangedVerdict step.before.history step.action step.reply) runs.2.steps → StepsTellChanges old new actions replies
+steps_tell old new actions replies (failures, later, run) changed = record {
+  failures = failures;
+  later = later;
+  steps = run.steps;
+  asked = run.actions;
+  answered = run.replies;
+  leads = run.leads;
+  changed = changed;
+  safe = run.safe;
+}
+
 program_tells : (r : Request) (ended : Ending) (old new : TreeState) → Continues r ended old new → NoneBroken new.history
     → ProgramTellsChanges (record { before = old; request = r; ended = ended; after = new })
-program_tells (request.Sync k d) ended old new (inl stopped) none = inl (tt, stopped.1)
-program_tells (request.Sync k d) ended old new (inr synced) none = inr (synced.0, synced.1, synced.2, tt, synced.4)
-program_tells (request.Preview k d o) ended old new is none = (tt, is.1)
-program_tells (request.Diff k d) ended old new is none = (tt, is.1)
-program_tells (request.Fixdep d t c) ended old new is none = (tt, is.1)
-program_tells (request.Record d t c) ended old new is none = (is.0, tt, is.2)
+program_tells (request.Sync k d) ended old new is none = is
+program_tells (request.Preview k d o) ended old new is none = is
+program_tells (request.Diff k d) ended old new is none = is
+program_tells (request.Fixdep d t c) ended old new is none = is
+program_tells (request.Record d t c) ended old new is none = is
 program_tells (request.Stale ts) ended old new is none =
-    (tt, stale_tells old new (targets_at old.files ts) ended (none_before_program (request.Stale ts) ended old new is none) is.1)
+    (is.0, stale_tells old new (targets_at old.files ts) ended (none_before_program (request.Stale ts) ended old new is none) is.1)
 program_tells (request.Why ts) ended old new is none =
-    (tt, why_tells old new (targets_at old.files ts) ended (none_before_program (request.Why ts) ended old new is none) is.1)
+    (is.0, why_tells old new (targets_at old.files ts) ended (none_before_program (request.Why ts) ended old new is none) is.1)
 program_tells (request.Impact k d ts) ended old new is none =
-    (tt, impact_tells old new _ _ (targets_at old.files ts) ended (none_before_program (request.Impact k d ts) ended old new is none) is.1)
-program_tells (request.Outdated t c) ended old new is none = (tt, (is.1.0, tt, is.1.2))
-program_tells (request.Batch p) ended old new (inl stopped) none = inl (tt, stopped.1)
-program_tells (request.Batch p) ended old new (inr (actions, at, inl memory)) none = inr (actions, at, inl (tt, memory.1))
+    (is.0, impact_tells old new _ _ (targets_at old.files ts) ended (none_before_program (request.Impact k d ts) ended old new is none) is.1)
+program_tells (request.Outdated t c) ended old new is none =
+    let before = none_before_program (request.Outdated t c) ended old new is none in
+    (is.0, (is.1.0, build_tells old new (string_bytes t) (string_bytes c) is.1.0 before is.1.1, is.1.2))
+program_tells (request.Batch p) ended old new (inl stopped) none = inl stopped
+program_tells (request.Batch p) ended old new (inr (actions, at, inl memory)) none = inr (actions, at, inl memory)
 program_tells (request.Batch p) ended old new (inr (actions, at, inr ran)) none =
     let run = ran.1.2 in
-    inr (actions, at, inr (ran.0, (run.steps, run.actions, run.replies, run.changed none), ran.2))
+    inr (actions, at, inr (ran.0, steps_tell old new actions ran.0 ran.1 (run.changed none), ran.2))
 
 pub programs_tell_changes : ProgramsTellChanges
 programs_tell_changes first last [] chain none = All-nil ProgramTellsChanges
@@ -183,10 +218,10 @@ none_given_up a (s ∷ ss) small =
     All-cons (λ step. IsGivenUpSync step.action step.reply → ⊥) s ss (not_given_up s.action s.reply (omega (arith, both))) (none_given_up (max a one) ss small)
 
 pub batch_tells_changes : BatchTellsChanges
-batch_tells_changes path o old new small none (inl stopped) = inl (tt, stopped.1)
-batch_tells_changes path o old new small none (inr (actions, at, inl memory)) = inr (actions, at, inl (tt, memory.1))
+batch_tells_changes path o old new small none (inl stopped) = inl stopped
+batch_tells_changes path o old new small none (inr (actions, at, inl memory)) = inr (actions, at, inl memory)
 batch_tells_changes path o old new small none (inr (actions, at, inr ran)) =
     let run = ran.1.2 in
     let below : worst (map reply_status (map (λ step. step.reply) run.steps)) < 2
     = subst (λ n. n < 2) (ran.2.1 ∙ ap (λ rs. worst (map reply_status rs)) (sym run.replies)) small in
-    inr (actions, at, inr (ran.0, (run.steps, run.actions, run.replies, run.changed (run.unbroken none (none_given_up 0 run.steps below))), ran.2))
+    inr (actions, at, inr (ran.0, steps_tell old new actions ran.0 ran.1 (run.changed (run.unbroken none (none_given_up 0 run.steps below))), ran.2))

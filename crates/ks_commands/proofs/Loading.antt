@@ -1,7 +1,7 @@
 -- The actions of lines, from a place on.
-use Rattle.std.proofs.Common.{◌≡◌, ◌∙◌, ◌<◌, ◌≤◌, ◌+◌, ℕ, true, false, suc, List, [], ◌∷◌, ◌++◌, Option, Some, None, IsSome, take, Result, Ok, Err, map, drop, length, get_or, refl, ap, subst, sym, arith, drop-cons, append_assoc, bytes_eq, true≢false}
+use Rattle.std.proofs.Common.{◌≡◌, ◌∙◌, ◌<◌, ◌≤◌, ◌+◌, ℕ, true, false, suc, List, [], ◌∷◌, ◌++◌, Option, Some, None, IsSome, take, Result, Ok, Err, map, drop, length, get_or, refl, ap, ap₂, subst, sym, arith, drop-cons, append_assoc, bytes_eq, true≢false}
 use Rattle.std.specs.List.{All}
-use Rattle.std.proofs.lemmas.List.{append-nil, drop_all, take_more}
+use Rattle.std.proofs.lemmas.List.{append-nil, drop_all, map-append, take_more}
 use Rattle.std.proofs.lemmas.List.Elements.{All-append, All-cons, All-nil, All-weaker}
 use Rattle.std.specs.FinMap as map_of
 use Rattle.std.specs.Cmp.Lexicographic.{bytes_decides}
@@ -14,7 +14,7 @@ use Rattle.ks_engine.specs.Refusals.{and_then}
 use Rattle.ks_script.specs.Script.{Line, Sync, Record, Stale}
 use Rattle.ks_requests.specs.Inputs.{Texts, given}
 use Rattle.ks_commands.specs.Kept.{AreGiven, AreKept, IsKept}
-use Rattle.ks_commands.specs.Scripts.{action_at, actions_at}
+use Rattle.ks_commands.specs.Scripts.{action_at, actions_at, line_of, without_files}
 
 -- actions in front of an answer
 abbrev pub behind : List Action → Result (List Action) EngineError → Result (List Action) EngineError
@@ -39,6 +39,16 @@ pub actions_next : {X : Type 0} (files : Files) (f : X → Line) (xs : List X) (
 actions_next files f xs i d front a all within is before =
     let rest = actions_at files (map f (drop (i + 1) xs)) in
     sym (behind_next front a rest) ∙ sym (ap (behind front) (lines_from files f xs i d within ∙ ap (λ r. followed r rest) is)) ∙ before
+
+-- the same of what the lines say without files
+pub spelled_next : {X : Type 0} (f : X → Line) (xs : List X) (i : ℕ) (d : X) (front : List Action) (a : Action) → i < length xs
+    → line_of a ≡ without_files (f (get_or xs i d)) → map line_of front ≡ map without_files (map f (take i xs))
+    → map line_of (front ++ a ∷ []) ≡ map without_files (map f (take (i + 1) xs))
+spelled_next f xs i d front a within is before =
+    map-append line_of front (a ∷ [])
+    ∙ ap₂ (λ l x. l ++ x ∷ []) before is
+    ∙ sym (map-append without_files (map f (take i xs)) (f (get_or xs i d) ∷ []))
+    ∙ ap (map without_files) (sym (map-append f (take i xs) (get_or xs i d ∷ [])) ∙ ap (map f) (sym (take_more xs i d within)))
 
 pub actions_refused : {X : Type 0} (files : Files) (f : X → Line) (xs : List X) (i : ℕ) (d : X) (front : List Action) (e : EngineError)
     (all : Result (List Action) EngineError)

@@ -4,6 +4,7 @@ use Rattle.ks_tree.specs.declared.tree.Tree.{Ghosts}
 use Rattle.ks_tree.specs.Files.{Files}
 use Rattle.ks_tree.specs.Frames.{Reads}
 use Rattle.ks_engine.specs.declared.error.EngineError.TheVariants.{OutOfMemory}
+use Rattle.ks_engine.specs.FileRuns.{FileState, state}
 use Rattle.ks_engine.specs.Follows.{TreeState, at}
 use Rattle.ks_engine.specs.History.{History}
 use Rattle.ks_engine.specs.Shows.{Shows}
@@ -77,13 +78,29 @@ counted_behind (request.Batch p) r old files m n h plain (inl stopped) = inl sto
 counted_behind (request.Batch p) r old files m n h plain (inr (actions, there, inl memory)) = no_memory r plain memory.1
 counted_behind (request.Batch p) r old files m n h plain (inr (actions, there, inr ran)) = absurd (plain ran.2)
 
+files_behind : (asked : Request) (r : Refusal) (old mid new : FileState) → r ≢ Engine OutOfMemory → mid.files ≡ new.files
+    → Ends old.files (by_files old mid) asked (Err r) → Ends old.files (by_files old new) asked (Err r)
+files_behind (request.Sync k d) r old mid new plain same ends =
+    subst (λ (f : Files). Ends old.files (by_files old (record { files = f; failures = 0 })) (request.Sync k d) (Err r)) same ends
+files_behind (request.Preview k d o) r old mid new plain same ends = (sym same ∙ ends.0, ends.1)
+files_behind (request.Diff k d) r old mid new plain same ends = (sym same ∙ ends.0, ends.1)
+files_behind (request.Fixdep d t c) r old mid new plain same ends = (sym same ∙ ends.0, ends.1)
+files_behind (request.Record d t c) r old mid new plain same ends =
+    subst (λ (f : Files). Ends old.files (by_files old (record { files = f; failures = 0 })) (request.Record d t c) (Err r)) same ends
+files_behind (request.Stale ts) r old mid new plain same ends = (sym same ∙ ends.0, ends.1)
+files_behind (request.Why ts) r old mid new plain same ends = (sym same ∙ ends.0, ends.1)
+files_behind (request.Impact k d ts) r old mid new plain same ends = (sym same ∙ ends.0, ends.1)
+files_behind (request.Outdated t c) r old mid new plain same ends = (sym same ∙ ends.0, ends.1)
+files_behind (request.Batch p) r old mid new plain same (inl stopped) = inl (sym same ∙ stopped.0, stopped.1)
+files_behind (request.Batch p) r old mid new plain same (inr (actions, there, inl memory)) = no_memory r plain memory.1
+files_behind (request.Batch p) r old mid new plain same (inr (actions, there, inr ran)) = absurd (plain ran.2)
+
 -- A refusal behind which a file was read again is that refusal.
 pub read_behind : {T : Type 0} (tree : Ghosts T) (old mid new : T) (asked : Request) (r : Refusal) → r ≢ Engine OutOfMemory
     → Performs tree old mid asked (Err r) → Reads tree mid new ⊥ → Performs tree old new asked (Err r)
 read_behind tree old mid new asked r plain performs reads = record {
   done = performs.done;
-  files = λ honest. subst (λ (f : Files). Ends (tree.files old) (by_files (tree.files old) f) asked (Err r)) (sym (reads.unchanged honest))
-      (performs.files honest);
+  files = λ honest. files_behind asked r (state tree old) (state tree mid) (state tree new) plain (sym (reads.unchanged honest)) (performs.files honest);
   goes_on = λ honest h shows.
       let next = performs.goes_on honest h shows in
       let from = at (tree.files old) (tree.failures old) h in (
@@ -93,4 +110,5 @@ read_behind tree old mid new asked r plain performs reads = record {
         subst (λ (f : Files). Shows f next.0) (sym (reads.unchanged honest)) next.2,
       );
   cause = λ is. omega (arith, performs.cause is, reads.counted.later);
+  counts = tt;
 }

@@ -2,6 +2,7 @@
 use Rattle.std.specs.Prelude.{◌≡◌, ◌⊎◌, ◌<◌, ◌≤◌, ℕ, List, Option, Err, IfOk, Ok}
 use Rattle.std.specs.List.{All}
 use Rattle.ks_tree.specs.Files.{Files}
+use Rattle.ks_engine.specs.FileRuns.{FileState}
 use Rattle.ks_engine.specs.Follows.{TreeState}
 use Rattle.ks_engine.specs.History.{NoneBroken}
 use Rattle.ks_requests.specs.declared.refusal.Refusal.{Refusal}
@@ -24,15 +25,15 @@ pub record IsPreviewed (k d : List ℕ) (o : Option (List ℕ)) (old new : Files
 
 abbrev pub PreviewsArePerformed : Type 0
 PreviewsArePerformed =
-    (k d : List ℕ) (o : Option (List ℕ)) (request : Request) (ended : Ending) (behind : List ℕ) (old new : Files)
+    (k d : List ℕ) (o : Option (List ℕ)) (request : Request) (ended : Ending) (behind : List ℕ) (old new : FileState)
     (before after err_before err_after : Option (List ℕ)) (status : ℕ)
-    → IsPreviewOf k d o request → Ends old (by_files old new) request ended → Printed behind ended before after err_before err_after status
-    → IsPreviewed k d o old new before after status
+    → IsPreviewOf k d o request → Ends old.files (by_files old new) request ended → Printed behind ended before after err_before err_after status
+    → IsPreviewed k d o old.files new.files before after status
 
 -- A refusal of the whole command leaves the files as before, but for want of memory and a failure of the device.
 abbrev pub RefusalsChangeNothing : Type 0
-RefusalsChangeNothing = (request : Request) (refusal : Refusal) (old new : Files)
-    → (HasGivenUp refusal → ⊥) → Ends old (by_files old new) request (Err refusal) → new ≡ old
+RefusalsChangeNothing = (request : Request) (refusal : Refusal) (old new : FileState)
+    → (HasGivenUp refusal → ⊥) → Ends old.files (by_files old new) request (Err refusal) → new.files ≡ old.files
 
 -- The status is at most 2, and 0 or 2 of what is done or refused.
 pub record IsStatusOf (ended : Ending) (status : ℕ) : Type 0 where
@@ -46,7 +47,7 @@ StatusesAreAtMostTwo = (ended : Ending) (behind : List ℕ) (before after err_be
 -- A script that runs without a refusal, after a history without a broken synchronisation, tells what changed.
 abbrev pub BatchTellsChanges : Type 0
 BatchTellsChanges = (path : List ℕ) (o : Outcome) (old new : TreeState) → code_of o.status < 2 → NoneBroken old.history
-    → EndsBatch old.files (by_histories old new) path (Ok o) → EndsBatch old.files (changes_told old) path (Ok o)
+    → EndsBatch old.files (by_histories old new) path (Ok o) → EndsBatch old.files (changes_told old new) path (Ok o)
 
 -- So does each of any list of runs of the program, of which no synchronisation was broken off.
 abbrev pub ProgramsTellChanges : Type 0

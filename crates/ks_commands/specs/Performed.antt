@@ -1,5 +1,5 @@
 -- What each request comes to, by the files of a tree and by its history alike.
-use Rattle.std.specs.Prelude.{◌≡◌, ◌≢◌, ◌⊎◌, ◌≤◌, ℕ, List, Option, Result, Ok, Err, map, flat_map, option_map, string_bytes, length, Some, None, IfOk, IsTrue}
+use Rattle.std.specs.Prelude.{◌≡◌, ◌≢◌, ◌⊎◌, ◌≤◌, ◌++◌, ℕ, List, [], ◌∷◌, Option, Result, Ok, Err, map, flat_map, option_map, string_bytes, length, Some, None, IfOk, IsTrue, ⊤}
 use Rattle.std.specs.List.{All}
 use Rattle.ks_fixdep.specs.CommandFile.{is_command}
 use Rattle.ks_tree.specs.declared.tree.Tree.{Ghosts}
@@ -20,30 +20,31 @@ use Rattle.ks_engine.specs.Follows.{TreeState, at, IsSame, GoesOn, FollowsSync, 
 use Rattle.ks_engine.specs.History.{History, LastRecord, Synced, last_record}
 use Rattle.ks_engine.specs.Impact.{AnswersBehind, JudgesBehind}
 use Rattle.ks_engine.specs.Judged.{IsJudged, IsBuildJudged}
-use Rattle.ks_engine.specs.Recorded.{IsRecorded, IsRecordRefused}
 use Rattle.ks_engine.specs.Refusals.{Answers, GaveUp, IsGivenUp}
+use Rattle.ks_engine.specs.FileRuns.{FileState, FileRun, IsAnswerOn, LeavesRecord, LeavesSync, state}
 use Rattle.ks_engine.specs.Runs.{Run, FollowsStale}
 use Rattle.ks_engine.specs.Shows.{Shows}
 use Rattle.ks_engine.specs.SyncPlan.{IsSyncPlan}
-use Rattle.ks_engine.specs.Synchronised.{IsSynced, IsSyncRefused}
+use Rattle.ks_engine.specs.Synchronised.{IsSynced}
 use Rattle.ks_requests.specs.declared.preview.PreviewError.{PreviewError}
 use Rattle.ks_requests.specs.declared.preview.PreviewError.TheVariants.{Output as PreviewOutput}
 use Rattle.ks_requests.specs.declared.refusal.Refusal.TheVariants.{Engine}
 use Rattle.ks_requests.specs.declared.request.Request.{Request}
+use Rattle.ks_requests.specs.declared.request.Targets.{Targets}
 use Rattle.ks_requests.specs.declared.request.Request.TheVariants.{Batch, Diff, Fixdep, Impact, Outdated, Preview, Record, Stale, Sync, Why}
 use Rattle.ks_requests.specs.declared.status.Count.{Count}
 use Rattle.ks_requests.specs.declared.status.Status.TheVariants.{Done}
 use Rattle.ks_requests.specs.Endings.{Answered, Ending, Stopped, Tells, TellsCount}
-use Rattle.ks_requests.specs.Inputs.{Inputs, Texts, inputs_at, texts_at}
+use Rattle.ks_requests.specs.Inputs.{Inputs, Texts, given_if_named, inputs_at, texts_at}
 use Rattle.ks_requests.specs.Preview.{IsPreview, IsPreviewRefusal, preview_refusal}
 use Rattle.ks_requests.specs.Refusals.{of_preview}
 use Rattle.ks_requests.specs.Replies.{answer_line, build_line, explanation_lines, recorded_line, reply_lines, report_lines, verdict_line}
 use Rattle.ks_requests.specs.Requests.{IsNoQuestion}
 use Rattle.ks_requests.specs.Statuses.{build_status, explanation_status, reply_status, stale_among, status_unless_refused, verdict_status, worst}
-use Rattle.ks_requests.specs.Targets.{targets_at}
+use Rattle.ks_requests.specs.Targets.{file_of, targets_at, with_file, words_of}
 use Rattle.ks_commands.specs.Differences.{IsDiff}
 use Rattle.ks_commands.specs.Fixdep.{command_file_at}
-use Rattle.ks_commands.specs.Scripts.{StoppedScript, script_at}
+use Rattle.ks_commands.specs.Scripts.{AreSpelled, StoppedScript, script_at}
 
 -- What the engine's calls answer and leave: the one way of saying it by files, the other by histories.
 pub record Effects : Type 1 where
@@ -170,20 +171,7 @@ Ends files effects (Batch script) ended = EndsBatch files effects (string_bytes 
 
 -- ---- by files
 
-abbrev pub LeavesSync : Files → Files → List ℕ → List ℕ → Result Report EngineError → Type 0
-LeavesSync old new k d (Ok report) = IsSynced old new k d report
-LeavesSync old new k d (Err e) = IsSyncRefused old new k d e
-
-abbrev pub LeavesRecord : Files → Files → List ℕ → List ℕ → List ℕ → Result RecordAnswer EngineError → Type 0
-LeavesRecord old new d t c (Ok answer) = IsRecorded old new d t c answer
-LeavesRecord old new d t c (Err e) = IsRecordRefused old new d t c e
-
--- what a question is answered, whichever history is shown
-pub record IsAnswerOn (files : Files) (o : List ℕ) (answer : Result Verdict EngineError) : Type 0 where
-  pub by_files : GaveUp answer ⊎ IsAnswer files (asked files o) answer
-  pub recorded : (h : History) (r : LastRecord) → Shows files h → last_record h o ≡ Some r → IsJudged files h o r answer
-
--- .. with all that speaks for it
+-- what a question is answered with all that speaks for it, whichever history is shown
 pub record IsExplanationOn (files : Files) (o : List ℕ) (answer : Result Explanation EngineError) : Type 0 where
   pub by_files : GaveUp answer ⊎ IsExplained files o answer
   pub verdict : IfOk answer (λ e. IsAnswer files (asked files o) (Ok e.verdict))
@@ -199,17 +187,23 @@ pub record IsStateOf (files : Files) (o command : List ℕ) (answer : Result Bui
   pub recorded : IsTrue (is_command command) → (h : History) (r : LastRecord)
       → Shows files h → last_record h o ≡ Some r → IsBuildJudged files h o command r answer
 
--- A run is said by its history alone.
-abbrev pub by_files : Files → Files → Effects
+-- The files of a script are read before its run begins.
+pub record RunsOn (honest : Type 0) (old new : FileState) (actions : List Action) (replies : List Reply) : Type 0 where
+  pub first : FileState
+  pub read : honest → first.files ≡ old.files
+  pub later : old.failures ≤ first.failures
+  pub run : FileRun honest first actions replies new
+
+abbrev pub by_files : FileState → FileState → Effects
 by_files old new = record {
-  same = new ≡ old;
-  sync = LeavesSync old new;
-  recording = LeavesRecord old new;
-  stale = IsAnswerOn old;
-  why = IsExplanationOn old;
-  impact = IsAnswerBehind old;
-  outdated = IsStateOf old;
-  run = λ actions replies. length replies ≡ length actions;
+  same = new.files ≡ old.files;
+  sync = LeavesSync old.files new.files;
+  recording = LeavesRecord old.files new.files;
+  stale = IsAnswerOn old.files;
+  why = IsExplanationOn old.files;
+  impact = IsAnswerBehind old.files;
+  outdated = IsStateOf old.files;
+  run = RunsOn ⊤ old new;
 }
 
 -- ---- by histories
@@ -234,7 +228,7 @@ pub record FollowsOutdated (old : TreeState) (o command : List ℕ) (answer : Re
   pub by_files : GaveUp answer ⊎ IsBuildState old.files (build_asked old.files o command) answer
   pub recorded : IsTrue (is_command command) → (r : LastRecord) → last_record old.history o ≡ Some r → IsBuildJudged old.files old.history o command r answer
 
--- The files of a script are read before its run begins.
+-- as above
 abbrev pub Runs : TreeState → TreeState → List Action → List Reply → Type 0
 Runs old new actions replies = (failures : ℕ) × (old.failures ≤ failures) × Run (at old.files failures old.history) actions replies new
 
@@ -254,11 +248,55 @@ by_histories old new = record {
 abbrev pub Continues : Request → Ending → TreeState → TreeState → Type 0
 Continues request ended old new = Ends old.files (by_histories old new) request ended
 
--- ---- both
+-- ---- on every tree, honest or not
+
+-- An answer blames the device only where the count of failures rose on the way to it, and the count never falls.
+pub record IsCounted {A : Type 0} (before : ℕ) (answer : Result A EngineError) (after : ℕ) : Type 0 where
+  pub later : before ≤ after
+  pub cause : answer ≡ Err Device → HasRisen before after
+
+-- The text has the lines of each of these objects, one object after the other, each with an answer that is so counted.
+abbrev pub TellsCounted : {A : Type 0} → (List ℕ → A → List ℕ) → ℕ → List (List ℕ) → List ℕ → ℕ → Type 0
+TellsCounted line first [] text last = (text ≡ []) × (last ≡ first)
+TellsCounted {A} line first (o ∷ objects) text last =
+    (answer : Result A EngineError) × (next : ℕ) × (rest : List ℕ) × IsCounted first answer next × (text ≡ answer_line line o answer ++ rest)
+    × TellsCounted line next objects rest last
+
+-- What a question about several objects prints: they are its words, and the lines of a text where a file is named, which on an honest tree it holds.
+pub record AsksCounted {A : Type 0} (line : List ℕ → A → List ℕ) (honest : Type 0) (old : FileState) (targets : Targets) (text : List ℕ)
+    (new : FileState) : Type 0 where
+  pub from : Option (List ℕ)
+  pub named : file_of targets ≡ None → from ≡ None
+  pub there : honest → given_if_named old.files (file_of targets) ≡ Ok from
+  pub failures : ℕ
+  pub later : old.failures ≤ failures
+  pub each : TellsCounted line failures (with_file (words_of targets) from) text new.failures
+
+-- What a script prints: a line for each reply of a run of its lines; of an honest tree they are those of the file at its path.
+pub record RunsCounted (honest : Type 0) (old : FileState) (path text : List ℕ) (new : FileState) : Type 0 where
+  pub actions : List Action
+  pub script : List ℕ
+  pub spelled : AreSpelled script actions
+  pub there : honest → script_at old.files path ≡ Ok actions
+  pub replies : List Reply
+  pub run : RunsOn honest old new actions replies
+  pub lines : text ≡ reply_lines actions replies
+
+-- What is printed where not all is refused blames the device for an object or a command only where its failure was counted.
+abbrev pub Counts : Type 0 → FileState → Request → List ℕ → FileState → Type 0
+Counts honest old (Stale targets) text new = AsksCounted verdict_line honest old targets text new
+Counts honest old (Why targets) text new = AsksCounted explanation_lines honest old targets text new
+Counts honest old (Impact k d targets) text new = AsksCounted verdict_line honest old targets text new
+Counts honest old (Outdated t c) text new = TellsCounted build_line old.failures (string_bytes t ∷ []) text new.failures
+Counts honest old (Batch script) text new = RunsCounted honest old (string_bytes script) text new
+Counts honest old _ text new = ⊤
+
+-- ---- all of it
 
 -- It ended so: by the files, by each history that they show, and by what the tree has counted.
 pub record Performs {T : Type 0} (tree : Ghosts T) (old new : T) (request : Request) (ended : Ending) : Type 0 where
   pub done : IsNoQuestion request → IfOk ended (λ o. o.status ≡ Done)
-  pub files : tree.is_honest → Ends (tree.files old) (by_files (tree.files old) (tree.files new)) request ended
+  pub files : tree.is_honest → Ends (tree.files old) (by_files (state tree old) (state tree new)) request ended
   pub goes_on : GoesOn tree old new (Continues request ended)
   pub cause : ended ≡ Err (Engine Device) → HasRisen (tree.failures old) (tree.failures new)
+  pub counts : IfOk ended (λ o. Counts tree.is_honest (state tree old) request o.text.items (state tree new))

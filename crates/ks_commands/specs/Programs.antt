@@ -1,26 +1,30 @@
 -- Runs of the program, one after the other over the files of one tree.
-use Rattle.std.specs.Prelude.{◌≡◌, ◌⊎◌, ℕ, List, [], ◌∷◌, Some, Result, Ok, IfOk, filter, map, ⊤}
+use Rattle.std.specs.Prelude.{◌≡◌, ◌⊎◌, ◌≤◌, ℕ, List, [], ◌∷◌, Some, Result, Ok, IfOk, IsTrue, bytes_eq, filter, false, map, true}
 use Rattle.std.specs.List.{All}
+use Rattle.ks_fixdep.specs.CommandFile.{is_command}
 use Rattle.ks_engine.specs.declared.commands.Reply.{Reply}
 use Rattle.ks_engine.specs.declared.error.EngineError.{EngineError}
 use Rattle.ks_tree.specs.Files.{Files}
 use Rattle.ks_engine.specs.declared.explaining.Explanation.{Explanation}
+use Rattle.ks_engine.specs.declared.staleness.BuildState.{BuildState}
+use Rattle.ks_engine.specs.declared.staleness.BuildState.TheVariants.{CommandDiffers}
 use Rattle.ks_engine.specs.declared.staleness.Verdict.{Verdict}
 use Rattle.ks_engine.specs.declared.synchronise.Report.{Report}
 use Rattle.ks_engine.specs.declared.staleness.Verdict.TheVariants.{Fresh}
 use Rattle.ks_engine.specs.Actions.{Action}
+use Rattle.ks_engine.specs.BuildStates.{judged}
 use Rattle.ks_engine.specs.Explained.{told}
 use Rattle.ks_engine.specs.Follows.{TreeState, IsSame, at}
 use Rattle.ks_engine.specs.History.{LastRecord, Synced, last_record}
 use Rattle.ks_engine.specs.Judged.{HasSameDefinitions}
 use Rattle.ks_engine.specs.Refusals.{GaveUp}
-use Rattle.ks_engine.specs.Runs.{IsShown, Step}
+use Rattle.ks_engine.specs.Runs.{IsShown, Leads, Step}
 use Rattle.ks_engine.specs.Staleness.{changed_since, first_changed, found, verdict}
 use Rattle.ks_engine.specs.Synchronised.{IsSynced}
-use Rattle.ks_engine.specs.Verdicts.{IsChangedVerdict}
+use Rattle.ks_engine.specs.Verdicts.{IsChangedVerdict, IsSafeVerdict}
 use Rattle.ks_requests.specs.declared.request.Request.{Request}
 use Rattle.ks_requests.specs.Endings.{Ending}
-use Rattle.ks_commands.specs.Performed.{Continues, Effects, Ends}
+use Rattle.ks_commands.specs.Performed.{Continues, Effects, Ends, by_histories}
 
 pub record ProgramRun : Type 0 where
   pub before : TreeState
@@ -50,23 +54,33 @@ abbrev pub TellsBehind : TreeState → List ℕ → List ℕ → List ℕ → Re
 TellsBehind s k d o answer = (after : Files) (report : Report) (synced : IsSynced s.files after k d report)
     → TellsChange (at after s.failures (Synced synced.plan.title synced.plan.config s.history)) o answer
 
--- the steps of a script's run, whose verdicts do the same
-abbrev pub StepsTellChanges : List Action → List Reply → Type 0
-StepsTellChanges actions replies = (steps : List Step) × (map (λ step. step.action) steps ≡ actions) × (map (λ step. step.reply) steps ≡ replies)
-    × All (λ step. IsChangedVerdict step.before.history step.action step.reply) steps
+-- So does an answer about a command that builds it: another one is told exactly where that of the record is another one.
+pub record TellsBuild (s : TreeState) (o command : List ℕ) (answer : Result BuildState EngineError) : Type 0 where
+  pub differs : (r : LastRecord) → last_record s.history o ≡ Some r → bytes_eq r.command command ≡ false → GaveUp answer ⊎ (answer ≡ Ok CommandDiffers)
+  pub same : (r : LastRecord) → last_record s.history o ≡ Some r → bytes_eq r.command command ≡ true
+      → (verdict : Result Verdict EngineError) × (answer ≡ judged verdict) × TellsChange s o verdict
 
-abbrev pub changes_told : TreeState → Effects
-changes_told s = record {
-  same = ⊤;
-  sync = λ k d answer. ⊤;
-  recording = λ d t c answer. ⊤;
-  stale = TellsChange s;
-  why = TellsCauses s;
-  impact = TellsBehind s;
-  outdated = λ o command answer. ⊤;
-  run = StepsTellChanges;
+-- The steps of a script's run, which lead from the state before it to the state after it; their verdicts do the same.
+pub record StepsTellChanges (old new : TreeState) (actions : List Action) (replies : List Reply) : Type 0 where
+  pub failures : ℕ
+  pub later : old.failures ≤ failures
+  pub steps : List Step
+  pub asked : map (λ step. step.action) steps ≡ actions
+  pub answered : map (λ step. step.reply) steps ≡ replies
+  pub leads : Leads (at old.files failures old.history) steps new
+  pub changed : All (λ step. IsChangedVerdict step.before.history step.action step.reply) steps
+  pub safe : All (λ step. IsSafeVerdict step.before step.action step.reply) steps
+
+-- What changes a tree does so as by its history; what is told of recorded objects tells what changed.
+abbrev pub changes_told : TreeState → TreeState → Effects
+changes_told old new = record (by_histories old new) {
+  stale = TellsChange old;
+  why = TellsCauses old;
+  impact = TellsBehind old;
+  outdated = λ o command answer. IsTrue (is_command command) → TellsBuild old o command answer;
+  run = StepsTellChanges old new;
 }
 
 -- All that a run of the program prints of recorded objects tells what changed.
 abbrev pub ProgramTellsChanges : ProgramRun → Type 0
-ProgramTellsChanges run = Ends run.before.files (changes_told run.before) run.request run.ended
+ProgramTellsChanges run = Ends run.before.files (changes_told run.before run.after) run.request run.ended

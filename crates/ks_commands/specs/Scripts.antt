@@ -1,5 +1,5 @@
 -- What a script asks for, by the files that it names.
-use Rattle.std.specs.Prelude.{◌≡◌, ◌⊎◌, ℕ, List, [], ◌∷◌, Option, Some, None, Result, Ok, Err}
+use Rattle.std.specs.Prelude.{◌≡◌, ◌⊎◌, ℕ, List, [], ◌∷◌, Option, Some, None, Result, Ok, Err, map}
 use Rattle.ks_tree.specs.Files.{Files}
 use Rattle.ks_engine.specs.declared.error.EngineError.{EngineError}
 use Rattle.ks_engine.specs.Actions.{Action}
@@ -14,6 +14,21 @@ use Rattle.ks_requests.specs.declared.refusal.Refusal.TheVariants.{Engine}
 use Rattle.ks_requests.specs.Endings.{Ending}
 use Rattle.ks_requests.specs.Inputs.{given, read_texts}
 use Rattle.ks_requests.specs.Refusals.{of_script}
+
+-- what a line and an action say without the files of a synchronisation
+abbrev pub without_files : Line → Line
+without_files (Sync kconfig dotconfig) = Sync [] []
+without_files line = line
+
+abbrev pub line_of : Action → Line
+line_of (asked.Sync kconfig dotconfig) = Sync [] []
+line_of (asked.Record depfile target command) = Record depfile target command
+line_of (asked.Stale target) = Stale target
+
+-- The actions are those of the lines of a script, whatever its files hold.
+pub record AreSpelled (text : List ℕ) (actions : List Action) : Type 0 where
+  pub faultless : script_refusal text ≡ None
+  pub lines : map line_of actions ≡ map without_files (script_lines text)
 
 -- what a line asks for, with the files at its paths
 abbrev pub action_at : Files → Line → Result Action EngineError

@@ -2,22 +2,25 @@
 //!
 //! So a script that is misspelt, or that names a missing file, changes nothing. A file that several lines name is read and
 //! kept once, and their commands lend it.
-ghost use Rattle.std.specs.Prelude.{◌≡◌, ◌⊎◌, ℕ, List, IfErr, IfOk, OnOk, Ok, Err, Some, IsErrOf, length, map};
+ghost use Rattle.std.specs.Prelude.{◌≡◌, ◌⊎◌, ◌≤◌, ℕ, List, IfErr, IfOk, OnOk, Ok, Err, Some, None, IsErrOf, map, ⊤};
 ghost use Rattle.std.specs.List.{All};
 ghost use Rattle.ks_tree.specs.Frames.{Reads};
 ghost use Rattle.ks_engine.specs.Actions.{action};
+ghost use Rattle.ks_engine.specs.FileRuns.{FileRun, state};
 ghost use Rattle.ks_engine.specs.Follows.{GoesOn, IsSame};
 ghost use Rattle.ks_engine.specs.Refusals.{IsGivenUp};
 ghost use Rattle.ks_engine.specs.Runs.{Run};
 ghost use Rattle.ks_engine.specs.declared.commands.Reply.{Reply};
 ghost use Rattle.ks_engine.specs.declared.error.EngineError.TheVariants.{Device};
 ghost use Rattle.ks_tree.specs.Files.{Files, HasRisen, content};
-ghost use Rattle.ks_script.specs.Script.{seen_line};
+ghost use Rattle.ks_script.specs.Script.{script_lines, seen_line};
+ghost use Rattle.ks_script.specs.ScriptRefusals.{script_refusal};
 ghost use Rattle.ks_requests.specs.declared.refusal.Refusal.TheVariants.{Engine};
 ghost use Rattle.ks_requests.specs.Inputs.{given};
-ghost use Rattle.ks_commands.specs.Performed.{EndsBatch, RunsAll, by_files, by_histories};
+ghost use Rattle.ks_requests.specs.Replies.{reply_lines};
+ghost use Rattle.ks_commands.specs.Performed.{EndsBatch, RunsAll, RunsCounted, by_files, by_histories};
 ghost use Rattle.ks_commands.specs.Kept.{AreGiven, AreKept, IsKept};
-ghost use Rattle.ks_commands.specs.Scripts.{HasGivenUp, action_at, actions_at, of_engine, script_actions};
+ghost use Rattle.ks_commands.specs.Scripts.{HasGivenUp, action_at, actions_at, line_of, of_engine, script_actions, without_files};
 
 use ks_engine::{Command, EngineError, run};
 use ks_requests::{Outcome, Refusal, read_given, tell_replies};
@@ -105,6 +108,7 @@ fn load_script<'a, T: Tree>(
     ensures reads { Reads T.Tree tree.old tree.new (result ≡ Err (Engine Device)) }
     ensures given { T.is_honest → IfOk result (λ all. AreGiven (T.files tree.old) all.kept) }
     ensures here { IfOk result (λ all. All (λ line. AreKept all.kept (seen_line line)) all.lines.items) }
+    ensures spelled { IfOk result (λ all. (script_refusal script.now ≡ None) × (map seen_line all.lines.items ≡ script_lines script.now)) }
     ensures lines { T.is_honest → IfOk result (λ all.
         script_actions (T.files tree.old) script.now ≡ of_engine (actions_at (T.files tree.old) (map seen_line all.lines.items))) }
     ensures refused { T.is_honest → IfErr result (λ r. HasGivenUp r ⊎ (script_actions (T.files tree.old) script.now ≡ Err r)) }
@@ -125,7 +129,8 @@ fn kept_file<'a>(kept: &'a MemoryTree, path: &[u8]) -> &'a [u8]
 /// The command of a line, which lends its words and the files that it names.
 fn command<'a>(line: &ScriptLine<'a>, kept: &'a MemoryTree) -> Command<'a>
     requires { AreKept kept.now (seen_line line.now) }
-    ensures { (files : Files) → AreGiven files kept.now → action_at files (seen_line line.now) ≡ Ok (action result) }
+    ensures spelled { line_of (action result) ≡ without_files (seen_line line.now) }
+    ensures given { (files : Files) → AreGiven files kept.now → action_at files (seen_line line.now) ≡ Ok (action result) }
 {
     match line {
         ScriptLine::Sync(kconfig, dotconfig) => Command::Sync {
@@ -148,7 +153,8 @@ fn commands<'a>(
     kept: &'a MemoryTree,
 ) -> Result<Vec<Command<'a>>, AllocError>
     requires { All (λ line. AreKept kept.now (seen_line line)) lines.items }
-    ensures { (files : Files) → AreGiven files kept.now
+    ensures spelled { IfOk result (λ commands. map line_of (map action commands.items) ≡ map without_files (map seen_line lines.entry.items)) }
+    ensures given { (files : Files) → AreGiven files kept.now
         → IfOk result (λ commands. actions_at files (map seen_line lines.entry.items) ≡ Ok (map action commands.items)) }
 {
     let mut commands = Vec::with_capacity(alloc, lines.len())?;
@@ -165,9 +171,13 @@ fn run_commands<T: Tree>(
     commands: &[Command<'_>],
 ) -> Result<Outcome, Refusal>
     ensures files { T.is_honest → RunsAll (T.files tree.new ≡ T.files tree.old)
-        (λ replies. length replies ≡ length commands.now) (map action commands.now) result }
+        (λ replies. FileRun ⊤ (state T.Tree tree.old) (map action commands.now) replies (state T.Tree tree.new)) (map action commands.now) result }
     ensures goes_on { GoesOn T.Tree tree.old tree.new (λ old new. RunsAll (IsSame old new)
         (λ replies. Run old (map action commands.now) replies new) (map action commands.now) result) }
+    ensures counts { IfOk result (λ o. (replies : List Reply)
+        × FileRun T.is_honest (state T.Tree tree.old) (map action commands.now) replies (state T.Tree tree.new)
+        × (o.text.items ≡ reply_lines (map action commands.now) replies)) }
+    ensures later { T.failures tree.old ≤ T.failures tree.new }
     ensures no_device { result ≡ Err (Engine Device) → ⊥ }
 {
     let replies = run(alloc, tree, commands)?;
@@ -180,9 +190,10 @@ pub(crate) fn run_script<T: Tree>(
     tree: &mut T,
     path: &[u8],
 ) -> Result<Outcome, Refusal>
-    ensures files { T.is_honest → EndsBatch (T.files tree.old) (by_files (T.files tree.old) (T.files tree.new)) path.now result }
+    ensures files { T.is_honest → EndsBatch (T.files tree.old) (by_files (state T.Tree tree.old) (state T.Tree tree.new)) path.now result }
     ensures goes_on { GoesOn T.Tree tree.old tree.new (λ old new. EndsBatch old.files (by_histories old new) path.now result) }
     ensures cause { result ≡ Err (Engine Device) → HasRisen (T.failures tree.old) (T.failures tree.new) }
+    ensures counts { IfOk result (λ o. RunsCounted T.is_honest (state T.Tree tree.old) path.now o.text.items (state T.Tree tree.new)) }
 {
     let script = read_given(alloc, tree, path)?;
     let Loaded { lines, kept } = load_script(alloc, tree, &script)?;

@@ -3,6 +3,7 @@
 //! A refusal of the engine is one of the whole command, and prints nothing to the output.
 ghost use Rattle.std.specs.Prelude.{◌≡◌, Err, IfOk};
 ghost use Rattle.ks_tree.specs.Files.{HasRisen};
+ghost use Rattle.ks_engine.specs.FileRuns.{state};
 ghost use Rattle.ks_engine.specs.Follows.{GoesOn};
 ghost use Rattle.ks_engine.specs.declared.error.EngineError.TheVariants.{Device};
 ghost use Rattle.ks_requests.specs.declared.refusal.Refusal.TheVariants.{Engine};
@@ -22,7 +23,7 @@ pub(crate) fn synchronise<T: Tree>(
     dotconfig: &[u8],
 ) -> Result<Outcome, Refusal>
     ensures done { IfOk result (λ o. o.status ≡ Done) }
-    ensures files { T.is_honest → EndsSync (T.files tree.old) (by_files (T.files tree.old) (T.files tree.new)) kconfig.now dotconfig.now result }
+    ensures files { T.is_honest → EndsSync (T.files tree.old) (by_files (state T.Tree tree.old) (state T.Tree tree.new)) kconfig.now dotconfig.now result }
     ensures goes_on { GoesOn T.Tree tree.old tree.new (λ old new. EndsSync old.files (by_histories old new) kconfig.now dotconfig.now result) }
     ensures cause { result ≡ Err (Engine Device) → HasRisen (T.failures tree.old) (T.failures tree.new) }
 {
@@ -40,7 +41,7 @@ pub(crate) fn record_target<T: Tree>(
     command: &[u8],
 ) -> Result<Outcome, Refusal>
     ensures done { IfOk result (λ o. o.status ≡ Done) }
-    ensures files { T.is_honest → EndsRecord (by_files (T.files tree.old) (T.files tree.new)) depfile.now target.now command.now result }
+    ensures files { T.is_honest → EndsRecord (by_files (state T.Tree tree.old) (state T.Tree tree.new)) depfile.now target.now command.now result }
     ensures goes_on { GoesOn T.Tree tree.old tree.new (λ old new. EndsRecord (by_histories old new) depfile.now target.now command.now result) }
     ensures cause { result ≡ Err (Engine Device) → HasRisen (T.failures tree.old) (T.failures tree.new) }
 {

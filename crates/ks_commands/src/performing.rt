@@ -5,6 +5,7 @@
 ghost use Rattle.std.specs.Prelude.{◌≡◌, ℕ, List, Err, IfOk, option_map};
 ghost use Rattle.ks_tree.specs.Files.{HasRisen};
 ghost use Rattle.ks_tree.specs.Frames.{Reads};
+ghost use Rattle.ks_engine.specs.FileRuns.{state};
 ghost use Rattle.ks_engine.specs.Follows.{GoesOn};
 ghost use Rattle.ks_engine.specs.declared.error.EngineError.TheVariants.{Device};
 ghost use Rattle.ks_requests.specs.declared.refusal.Refusal.TheVariants.{Engine};
@@ -12,7 +13,7 @@ ghost use Rattle.ks_requests.specs.declared.status.Status.TheVariants.{Done};
 ghost use Rattle.ks_requests.specs.Endings.{Ending, Printed};
 ghost use Rattle.ks_requests.specs.Requests.{IsNoQuestion};
 ghost use Rattle.ks_requests.specs.Sites.{IsSiteLine, ending_site};
-ghost use Rattle.ks_commands.specs.Performed.{Continues, Ends, EndsFixdep, EndsPreview, Performs, by_files};
+ghost use Rattle.ks_commands.specs.Performed.{Continues, Counts, Ends, EndsFixdep, EndsPreview, Performs, by_files};
 
 use crate::batch::run_script;
 use crate::changes::{record_target, synchronise};
@@ -75,9 +76,10 @@ fn fixdep<T: Tree>(
 /// Does what was asked for, unless it is refused as a whole.
 fn outcome<T: Tree>(alloc: Global, tree: &mut T, request: &Request) -> Result<Outcome, Refusal>
     ensures done { IsNoQuestion request.now → IfOk result (λ o. o.status ≡ Done) }
-    ensures files { T.is_honest → Ends (T.files tree.old) (by_files (T.files tree.old) (T.files tree.new)) request.now result }
+    ensures files { T.is_honest → Ends (T.files tree.old) (by_files (state T.Tree tree.old) (state T.Tree tree.new)) request.now result }
     ensures goes_on { GoesOn T.Tree tree.old tree.new (Continues request.now result) }
     ensures cause { result ≡ Err (Engine Device) → HasRisen (T.failures tree.old) (T.failures tree.new) }
+    ensures counts { IfOk result (λ o. Counts T.is_honest (state T.Tree tree.old) request.now o.text.items (state T.Tree tree.new)) }
 {
     match request {
         Request::Sync { kconfig, dotconfig } => {

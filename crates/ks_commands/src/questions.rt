@@ -2,16 +2,17 @@
 //! built by a command.
 //!
 //! A refused question is a line of the output, and the questions after it are still answered.
-ghost use Rattle.std.specs.Prelude.{◌≡◌, ◌++◌, ℕ, List, Err, IfOk, OnOk, length, map};
+ghost use Rattle.std.specs.Prelude.{◌≡◌, ◌++◌, ℕ, List, [], ◌∷◌, Err, IfOk, OnOk, length, map};
 ghost use Rattle.ks_tree.specs.Frames.{Reads};
+ghost use Rattle.ks_engine.specs.FileRuns.{state};
 ghost use Rattle.ks_engine.specs.Memos.{IsMemoOf};
 ghost use Rattle.ks_engine.specs.declared.error.EngineError.TheVariants.{Device};
 ghost use Rattle.ks_requests.specs.declared.refusal.Refusal.TheVariants.{Engine};
-ghost use Rattle.ks_requests.specs.Replies.{answer_line, explanation_lines, verdict_line};
+ghost use Rattle.ks_requests.specs.Replies.{answer_line, build_line, explanation_lines, verdict_line};
 ghost use Rattle.ks_requests.specs.Statuses.{code_of, explanation_status, status_unless_refused, verdict_status};
 ghost use Rattle.ks_requests.specs.Targets.{targets_at};
-ghost use Rattle.ks_commands.specs.Performed.{EndsAll, EndsImpact, EndsOutdated, TellsAll, by_files};
-ghost use Rattle.ks_commands.specs.Questions.{counted_of, tells_of};
+ghost use Rattle.ks_commands.specs.Performed.{AsksCounted, EndsAll, EndsImpact, EndsOutdated, TellsAll, TellsCounted, by_files};
+ghost use Rattle.ks_commands.specs.Questions.{all_counted, counted_of, counts_of, line_counted, tells_of};
 
 use ks_engine::{EngineError, Explanation, Impact, Memo, Verdict, explain_by, outdated, stale_by};
 use ks_fixdep::Seed;
@@ -90,6 +91,8 @@ fn ask<T: Tree>(
     ensures reads { Reads T.Tree tree.old tree.new ⊥ }
     ensures told { T.is_honest → IfOk result (λ status. (lines : List ℕ) × (text.new.items ≡ text.old.items ++ lines)
         × tells_of (T.files tree.old) question.now target.now lines (code_of status)) }
+    ensures counted { OnOk result ((lines : List ℕ) × (text.new.items ≡ text.old.items ++ lines)
+        × line_counted question.now (T.failures tree.old) target.now lines (T.failures tree.new)) }
 {
     match question {
         Question::Stale => {
@@ -128,6 +131,8 @@ fn ask_all<T: Tree>(
     ensures told { T.is_honest → IfOk result (λ o. (stale : ℕ)
         × TellsAll (tells_of (T.files tree.old) question.now) (map (λ t. t.now) targets.now) o.text.items (code_of o.status) stale
         × (o.count ≡ counted_of question.now stale (length (map (λ t. t.now) targets.now)))) }
+    ensures counted { IfOk result (λ o.
+        all_counted question.now (T.failures tree.old) (map (λ t. t.now) targets.now) o.text.items (T.failures tree.new)) }
 {
     let mut text = Vec::new(alloc);
     let mut memo = Memo::with_seed(alloc, Seed::new(tree.seed()));
@@ -156,6 +161,7 @@ pub(crate) fn ask_targets<T: Tree>(
     ensures reads { Reads T.Tree tree.old tree.new (result ≡ Err (Engine Device)) }
     ensures told { T.is_honest → EndsAll (tells_of (T.files tree.old) question.now) (counted_of question.now)
         (targets_at (T.files tree.old) targets.now) result }
+    ensures counts { IfOk result (λ o. counts_of question.now T.is_honest (state T.Tree tree.old) targets.now o.text.items (state T.Tree tree.new)) }
 {
     let text = read_targets(alloc, tree, targets)?;
     let targets = all_targets(alloc, targets, lent(&text))?;
@@ -171,8 +177,10 @@ pub(crate) fn ask_behind<T: Tree>(
     targets: &Targets,
 ) -> Result<Outcome, Refusal>
     ensures reads { Reads T.Tree tree.old tree.new (result ≡ Err (Engine Device)) }
-    ensures told { T.is_honest → EndsImpact (T.files tree.old) (by_files (T.files tree.old) (T.files tree.new)) kconfig.now dotconfig.now
-        (targets_at (T.files tree.old) targets.now) result }
+    ensures told { T.is_honest → EndsImpact (T.files tree.old) (by_files (state T.Tree tree.old) (state T.Tree tree.new))
+        kconfig.now dotconfig.now (targets_at (T.files tree.old) targets.now) result }
+    ensures counts { IfOk result (λ o.
+        AsksCounted verdict_line T.is_honest (state T.Tree tree.old) targets.now o.text.items (state T.Tree tree.new)) }
 {
     let texts = texts_at(alloc, tree, kconfig, dotconfig)?;
     let impact = Impact::of(alloc, tree, &texts.kconfig, &texts.dotconfig)?;
@@ -187,7 +195,9 @@ pub(crate) fn outdated_target<T: Tree>(
     command: &[u8],
 ) -> Result<Outcome, Refusal>
     ensures reads { Reads T.Tree tree.old tree.new ⊥ }
-    ensures told { T.is_honest → EndsOutdated (by_files (T.files tree.old) (T.files tree.new)) target.now command.now result }
+    ensures told { T.is_honest → EndsOutdated (by_files (state T.Tree tree.old) (state T.Tree tree.new)) target.now command.now result }
+    ensures counted { IfOk result (λ o.
+        TellsCounted build_line (T.failures tree.old) (target.now ∷ []) o.text.items (T.failures tree.new)) }
     ensures no_device { result ≡ Err (Engine Device) → ⊥ }
 {
     let answer = outdated(alloc, tree, target, command);

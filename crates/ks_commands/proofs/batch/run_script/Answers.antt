@@ -1,13 +1,15 @@
-use Rattle.std.proofs.Common.{◌≡◌, inl, inr, Ok, Err, sym, ap, ◌∙◌, ◌≤◌, subst, map, length, refl, arith}
+use Rattle.std.proofs.Common.{◌≡◌, inl, inr, Ok, Err, sym, ap, ◌∙◌, ◌≤◌, subst, map, refl, arith}
+use Rattle.std.specs.Bool.{⊤}
 use Rattle.std.proofs.lemmas.Result.{err_from_is_err_and}
-use Rattle.std.proofs.lemmas.List.{length-map}
 use Rattle.ks_engine.specs.Actions.{action}
+use Rattle.ks_engine.specs.FileRuns.{state}
 use Rattle.ks_engine.specs.Follows.{at}
 use Rattle.ks_engine.specs.Shows.{Shows}
 use Rattle.ks_requests.specs.declared.refusal.Refusal.TheVariants.{Engine}
-use Rattle.ks_commands.specs.Performed.{Runs}
-use Rattle.ks_commands.specs.Scripts.{of_engine}
-use Rattle.ks_commands.proofs.Continuing.{run_follows, runs_all, script_missing, script_stopped, script_there}
+use Rattle.ks_commands.specs.Performed.{Runs, RunsOn}
+use Rattle.ks_commands.specs.Scripts.{of_engine, without_files}
+use Rattle.ks_commands.proofs.Continuing.{file_run_follows, run_follows, runs_all, script_missing, script_stopped, script_there}
+use Rattle.ks_commands.proofs.Counting.{script_counted}
 use Rattle.ks_commands.proofs.batch.run_script.Goals as goal
 
 pub returns-in_err-script-clause-files : goal.returns-in_err-script-clause-files
@@ -70,13 +72,18 @@ returns-clause-files g c = λ honest.
     let same_later = c.in_ok-lines.ensures.reads.unchanged honest ∙ same in
     let there = c.in_ok-script.ensures.bytes honest ∙ ap (λ b. Ok b) (sym c.deref.ensures.value) in
     let actions = map action c.in_ok-commands.commands.items in
-    let asked = c.in_ok-lines.ensures.lines honest ∙ ap of_engine (c.in_ok-commands.ensures mid (c.in_ok-lines.ensures.given honest)) in
+    let asked = c.in_ok-lines.ensures.lines honest ∙ ap of_engine (c.in_ok-commands.ensures.given mid (c.in_ok-lines.ensures.given honest)) in
     let are = ap (map action) c.deref-2.ensures.value in
+    let later : g.T.Tree.failures c.args.tree.now ≤ g.T.Tree.failures c.load_script.new.tree
+    = omega (arith, c.in_ok-script.ensures.reads.counted.later, c.in_ok-lines.ensures.reads.counted.later) in
+    let old = state g.T.Tree c.args.tree.now in
+    let new = state g.T.Tree c.run_commands.new.tree in
     inr (
       actions,
       script_there _ _ c.args.path.now _ (Ok actions) same there asked,
-      runs_all _ _ _ (λ replies. length replies ≡ length actions) _ _ _ (λ unchanged. unchanged ∙ same_later)
-          (λ replies each. each ∙ sym (length-map c.deref-2.result.now action) ∙ ap length are) are (c.run_commands.ensures.files honest),
+      runs_all _ _ _ (RunsOn ⊤ old new actions) _ _ _ (λ unchanged. unchanged ∙ same_later)
+          (λ replies run. file_run_follows ⊤ old (state g.T.Tree c.load_script.new.tree) _ actions replies new (λ t. same_later) later are run) are
+          (c.run_commands.ensures.files honest),
     )
 
 pub returns-clause-goes_on : goal.returns-clause-goes_on
@@ -87,7 +94,7 @@ returns-clause-goes_on g c = λ honest h shows.
     let same_later = c.in_ok-lines.ensures.reads.unchanged honest ∙ same in
     let there = c.in_ok-script.ensures.bytes honest ∙ ap (λ b. Ok b) (sym c.deref.ensures.value) in
     let actions = map action c.in_ok-commands.commands.items in
-    let asked = c.in_ok-lines.ensures.lines honest ∙ ap of_engine (c.in_ok-commands.ensures mid (c.in_ok-lines.ensures.given honest)) in
+    let asked = c.in_ok-lines.ensures.lines honest ∙ ap of_engine (c.in_ok-commands.ensures.given mid (c.in_ok-lines.ensures.given honest)) in
     let are = ap (map action) c.deref-2.ensures.value in
     let later : failures c.args.tree.now ≤ failures c.load_script.new.tree
     = omega (arith, c.in_ok-script.ensures.reads.counted.later, c.in_ok-lines.ensures.reads.counted.later) in
@@ -102,3 +109,18 @@ returns-clause-goes_on g c = λ honest h shows.
       ),
       next.2,
     )
+
+pub returns-clause-counts : goal.returns-clause-counts
+returns-clause-counts g c =
+    let mid = g.T.Tree.files c.read_given.new.tree in
+    let actions = map action c.in_ok-commands.commands.items in
+    let later : g.T.Tree.failures c.args.tree.now ≤ g.T.Tree.failures c.load_script.new.tree
+    = omega (arith, c.in_ok-script.ensures.reads.counted.later, c.in_ok-lines.ensures.reads.counted.later) in
+    script_counted c.run_commands.result g.T.Tree.is_honest (state g.T.Tree c.args.tree.now) (state g.T.Tree c.load_script.new.tree) _
+    (map action c.deref-2.result.now) actions c.args.path.now c.deref.result.now
+    (λ honest. c.in_ok-lines.ensures.reads.unchanged honest ∙ c.in_ok-script.ensures.reads.unchanged honest) later (ap (map action) c.deref-2.ensures.value)
+    (record { faultless = c.in_ok-lines.ensures.spelled.0; lines = c.in_ok-commands.ensures.spelled ∙ ap (map without_files) c.in_ok-lines.ensures.spelled.1 })
+    (λ honest. script_there _ _ c.args.path.now _ (Ok actions) (c.in_ok-script.ensures.reads.unchanged honest)
+    (c.in_ok-script.ensures.bytes honest ∙ ap (λ b. Ok b) (sym c.deref.ensures.value))
+    (c.in_ok-lines.ensures.lines honest ∙ ap of_engine (c.in_ok-commands.ensures.given mid (c.in_ok-lines.ensures.given honest))))
+    c.run_commands.ensures.counts

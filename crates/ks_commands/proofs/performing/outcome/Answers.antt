@@ -1,5 +1,7 @@
 use Rattle.std.proofs.Common.{refl, sym, subst}
+use Rattle.ks_engine.specs.FileRuns.{state}
 use Rattle.ks_engine.specs.Shows.{Shows}
+use Rattle.ks_commands.proofs.Counting.{if_ok}
 use Rattle.ks_commands.proofs.Continuing.{impact_follows, stale_follows, why_follows}
 use Rattle.ks_commands.proofs.performing.outcome.Goals as goal
 
@@ -16,7 +18,7 @@ pub returns-in-Stale-clause-goes_on : goal.returns-in-Stale-clause-goes_on
 returns-in-Stale-clause-goes_on g c = λ honest h shows.
     let same = c.ask_targets.ensures.reads.unchanged honest in (
       h,
-      rw c.in-Stale.is ((same, refl), stale_follows _ _ _ _ h _ _ same shows (c.ask_targets.ensures.told honest)),
+      rw c.in-Stale.is ((same, refl), stale_follows (state g.T.Tree c.args.tree.now) (state g.T.Tree c.ask_targets.new.tree) h _ _ same shows (c.ask_targets.ensures.told honest)),
       subst (λ f. Shows f h) (sym same) shows,
     )
 
@@ -28,7 +30,7 @@ pub returns-in-Why-clause-goes_on : goal.returns-in-Why-clause-goes_on
 returns-in-Why-clause-goes_on g c = λ honest h shows.
     let same = c.ask_targets-in-Why.ensures.reads.unchanged honest in (
       h,
-      rw c.in-Why.is ((same, refl), why_follows _ _ _ _ h _ _ same shows (c.ask_targets-in-Why.ensures.told honest)),
+      rw c.in-Why.is ((same, refl), why_follows (state g.T.Tree c.args.tree.now) (state g.T.Tree c.ask_targets-in-Why.new.tree) h _ _ same shows (c.ask_targets-in-Why.ensures.told honest)),
       subst (λ f. Shows f h) (sym same) shows,
     )
 
@@ -42,7 +44,7 @@ returns-in-Impact-clause-goes_on g c = λ honest h shows.
     let same = c.ask_behind.ensures.reads.unchanged honest in (
       h,
       rw (c.in-Impact.is, ← c.as_bytes-in-Impact.ensures.value, ← c.as_bytes-in-Impact-2.ensures.value)
-          ((same, refl), impact_follows _ _ _ _ h _ _ _ _ same shows (c.ask_behind.ensures.told honest)),
+          ((same, refl), impact_follows (state g.T.Tree c.args.tree.now) (state g.T.Tree c.ask_behind.new.tree) h _ _ _ _ same shows (c.ask_behind.ensures.told honest)),
       subst (λ f. Shows f h) (sym same) shows,
     )
 
@@ -50,3 +52,33 @@ pub returns-in-Batch-clause-goes_on : goal.returns-in-Batch-clause-goes_on
 returns-in-Batch-clause-goes_on g c = λ honest h shows.
     let next = c.run_script.ensures.goes_on honest h shows in
     (next.0, rw (c.in-Batch.is, ← c.as_bytes-in-Batch.ensures.value) next.1, next.2)
+
+pub returns-in-Sync-clause-counts : goal.returns-in-Sync-clause-counts
+returns-in-Sync-clause-counts g c = rw c.in-Sync.is (if_ok c.synchronise.result _ (λ o. tt))
+
+pub returns-in-Preview-clause-counts : goal.returns-in-Preview-clause-counts
+returns-in-Preview-clause-counts g c = rw c.in-Preview.is (if_ok c.preview.result _ (λ o. tt))
+
+pub returns-in-Diff-clause-counts : goal.returns-in-Diff-clause-counts
+returns-in-Diff-clause-counts g c = rw c.in-Diff.is (if_ok c.tell_differences.result _ (λ o. tt))
+
+pub returns-in-Fixdep-clause-counts : goal.returns-in-Fixdep-clause-counts
+returns-in-Fixdep-clause-counts g c = rw c.in-Fixdep.is (if_ok c.fixdep.result _ (λ o. tt))
+
+pub returns-in-Record-clause-counts : goal.returns-in-Record-clause-counts
+returns-in-Record-clause-counts g c = rw c.in-Record.is (if_ok c.record_target.result _ (λ o. tt))
+
+pub returns-in-Stale-clause-counts : goal.returns-in-Stale-clause-counts
+returns-in-Stale-clause-counts g c = rw c.in-Stale.is c.ask_targets.ensures.counts
+
+pub returns-in-Why-clause-counts : goal.returns-in-Why-clause-counts
+returns-in-Why-clause-counts g c = rw c.in-Why.is c.ask_targets-in-Why.ensures.counts
+
+pub returns-in-Impact-clause-counts : goal.returns-in-Impact-clause-counts
+returns-in-Impact-clause-counts g c = rw c.in-Impact.is c.ask_behind.ensures.counts
+
+pub returns-in-Outdated-clause-counts : goal.returns-in-Outdated-clause-counts
+returns-in-Outdated-clause-counts g c = rw (c.in-Outdated.is, ← c.as_bytes-in-Outdated.ensures.value) c.outdated_target.ensures.counted
+
+pub returns-in-Batch-clause-counts : goal.returns-in-Batch-clause-counts
+returns-in-Batch-clause-counts g c = rw (c.in-Batch.is, ← c.as_bytes-in-Batch.ensures.value) c.run_script.ensures.counts

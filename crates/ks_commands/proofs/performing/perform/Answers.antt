@@ -8,7 +8,7 @@ use Rattle.ks_commands.proofs.performing.perform.Goals as goal
 pub returns-in-Ok : goal.returns-in-Ok
 returns-in-Ok g c = (
   Ok c.in-Ok.outcome,
-  record { done = c.in-Ok.ensures.done; files = c.in-Ok.ensures.files; goes_on = c.in-Ok.ensures.goes_on; cause = c.in-Ok.ensures.cause },
+  record { done = c.in-Ok.ensures.done; files = c.in-Ok.ensures.files; goes_on = c.in-Ok.ensures.goes_on; cause = c.in-Ok.ensures.cause; counts = c.in-Ok.ensures.counts },
   [],
   refl,
   c.print.ensures,
@@ -17,7 +17,7 @@ returns-in-Ok g c = (
 pub returns : goal.returns
 returns g c = (
   Err c.in-Err.refusal,
-  record { done = c.in-Err.ensures.done; files = c.in-Err.ensures.files; goes_on = c.in-Err.ensures.goes_on; cause = c.in-Err.ensures.cause },
+  record { done = c.in-Err.ensures.done; files = c.in-Err.ensures.files; goes_on = c.in-Err.ensures.goes_on; cause = c.in-Err.ensures.cause; counts = tt },
   [],
   subst (λ site. IsSiteLine g.T.Tree.is_honest (g.T.Tree.files c.outcome.new.tree) site []) c.in-None.ensures refl,
   (keeps_itself (g.W.Write.contents c.args.out.now), c.refuse.ensures.told, c.refuse.ensures.status),
@@ -32,7 +32,7 @@ returns-in-Some g c =
       Err c.in-Err.refusal,
       read_behind g.T.Tree c.args.tree.now c.outcome.new.tree c.refuse_at.new.tree c.args.request.now c.in-Err.refusal
           (λ memory. absurd (some_none site (found ∙ ap (site_of c.args.request.now) memory ∙ no_site c.args.request.now)))
-          (record { done = c.in-Err.ensures.done; files = c.in-Err.ensures.files; goes_on = c.in-Err.ensures.goes_on; cause = c.in-Err.ensures.cause })
+          (record { done = c.in-Err.ensures.done; files = c.in-Err.ensures.files; goes_on = c.in-Err.ensures.goes_on; cause = c.in-Err.ensures.cause; counts = tt })
           reads,
       told.0,
       subst (λ s. IsSiteLine g.T.Tree.is_honest (g.T.Tree.files c.refuse_at.new.tree) s told.0) found

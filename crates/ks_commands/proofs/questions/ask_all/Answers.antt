@@ -2,7 +2,8 @@ use Rattle.std.proofs.Common.{◌∙◌, ◌+◌, ◌++◌, ◌∷◌, ap, arith
 use Rattle.std.proofs.lemmas.List.{length-map}
 use Rattle.ks_requests.specs.Statuses.{code_of}
 use Rattle.ks_commands.specs.Performed.{TellsAll}
-use Rattle.ks_commands.specs.Questions.{counted_of, tells_of}
+use Rattle.ks_commands.specs.Questions.{all_counted, counted_of, tells_of}
+use Rattle.ks_commands.proofs.Counting.{none_asked, question_more}
 use Rattle.ks_commands.proofs.Verdicts.{map-take_more, nothing_told, told_more}
 use Rattle.ks_commands.proofs.questions.ask_all.Goals as goal
 
@@ -13,6 +14,7 @@ loop-target-init g c = record {
   memo = λ honest. c.with_seed-memo.ensures (g.T.Tree.files c.args.tree.now);
   told = λ honest.
       subst (λ l. TellsAll (tells_of (g.T.Tree.files c.args.tree.now) c.args.question.now) [] l 0 0) (sym c.new-text.ensures.items) (nothing_told _);
+  counted = none_asked c.args.question.now (g.T.Tree.failures c.args.tree.now) c.new-text.result.items c.new-text.ensures.items;
   few = search rules;
 }
 
@@ -38,8 +40,25 @@ loop-target-preserved g c = record {
       (max (code_of c.loop-target.status) one) (c.loop-target.stale + n)) (sym c.stale_of-stale.ensures.stale) more in
       subst₂ (λ objects status. TellsAll (tells_of files question) objects c.ask.new.text.items status (c.loop-target.stale + c.stale_of-stale.result)) taken
       (sym c.worse-status.ensures) counted;
+  counted =
+      let targets = c.args.targets.now in
+      let i = c.loop-target.target-index in
+      let nothing : Bor (List ℕ) = record { ref_ptr = (0, 0); now = [] } in
+      let question = c.args.question.now in
+      let said = c.in_ok-answered.ensures.counted in
+      subst (λ objects. all_counted question (g.T.Tree.failures c.args.tree.now) objects c.ask.new.text.items (g.T.Tree.failures c.ask.new.tree))
+      (map-take_more (λ t. t.now) targets i nothing c.loop-target-test.true)
+      (question_more question (g.T.Tree.failures c.args.tree.now) (map (λ t. t.now) (take i targets)) c.loop-target.text.items
+      (g.T.Tree.failures c.loop-target.tree) (get_or targets i nothing).now said.0 c.ask.new.text.items (g.T.Tree.failures c.ask.new.tree)
+      c.loop-target.invariant.counted said.2 said.1);
   few = omega (arith, c.loop-target.invariant.few, c.stale_of-stale.ensures.small);
 }
+
+pub returns-clause-counted : goal.returns-clause-counted
+returns-clause-counted g c =
+    subst (λ ts. all_counted c.args.question.now (g.T.Tree.failures c.args.tree.now) (map (λ t. t.now) ts) c.loop-target.text.items
+    (g.T.Tree.failures c.loop-target.tree))
+    (take_all c.loop-target.target-index c.args.targets.now c.loop-target-test.false) c.loop-target.invariant.counted
 
 pub returns-clause-told : goal.returns-clause-told
 returns-clause-told g c = λ honest. (

@@ -1,11 +1,13 @@
-use Rattle.std.proofs.Common.{inl, inr, List, ℕ, Err, ap, subst, ◌∙◌}
+use Rattle.std.proofs.Common.{inl, inr, List, ℕ, Err, ap, arith, subst, ◌∙◌}
 use Rattle.std.proofs.lemmas.Result.{err_from_is_err_and}
+use Rattle.ks_engine.specs.FileRuns.{state}
 use Rattle.ks_engine.specs.Impact.{IsImpactOf}
 use Rattle.ks_requests.specs.Replies.{verdict_line}
 use Rattle.ks_requests.specs.Statuses.{verdict_status}
 use Rattle.ks_requests.specs.Targets.{targets_at}
 use Rattle.ks_requests.specs.Views.{seen_texts}
 use Rattle.ks_commands.specs.Performed.{EndsAll, IsAnswerBehind, TellsAnswer, count_of}
+use Rattle.ks_commands.proofs.Counting.{asked_after}
 use Rattle.ks_commands.proofs.Verdicts.{impact_known}
 use Rattle.ks_commands.proofs.questions.ask_behind.Goals as goal
 
@@ -44,3 +46,11 @@ returns-clause-told g c = λ honest.
             (c.in_ok-impact.ensures.reads.unchanged honest ∙ same) (c.ask_targets.ensures.told honest)),
       ),
     )
+
+pub returns-clause-counts : goal.returns-clause-counts
+returns-clause-counts g c =
+    let first = c.in_ok-texts.ensures.reads in
+    let then = c.in_ok-impact.ensures.reads in
+    asked_after verdict_line c.ask_targets.result g.T.Tree.is_honest (state g.T.Tree c.args.tree.now) (state g.T.Tree c.of.new.tree)
+    c.args.targets.now _ (λ honest. then.unchanged honest ∙ first.unchanged honest) (omega (arith, first.counted.later, then.counted.later))
+    c.ask_targets.ensures.counts

@@ -5,6 +5,7 @@ config=${KCONFIG_CONFIG:-.config}
 auto=include/config/auto.conf
 bare=include/config/Kconfig.bare
 kept=include/config/confstamp.config
+last=include/config/confstamp.generation
 
 # The program: the one of CONFSTAMP, or that was installed with the hooks, or the one in PATH.
 confstamp=${CONFSTAMP:-$here/../../../bin/confstamp}
@@ -65,13 +66,13 @@ undeclared() {
 }
 
 # What the first difference is between .config and the configuration that was synchronised last; nothing where they say the
-# same. Of equal texts that is known at once.
+# same. That is known at once where the last synchronisation was one by the hook, and the text is the same.
 difference_of_config() {
     if ! grep -qs '^#generation ' "$auto"; then
         echo 'nothing was synchronised yet'
     elif [ ! -f "$config" ]; then
         echo 'there is none'
-    elif ! cmp -s "$config" "$kept"; then
+    elif ! grep -qsxFf "$last" "$auto" || ! cmp -s "$config" "$kept"; then
         { "$confstamp" diff "$bare" "$config" 2>&1 || :; [ ! -e "$bare" ] || undeclared "$bare" | sed 's/$/ is new/'; } | awk '
             { if (!count++) first = substr($0, 1, 120) }
             END { if (count) print first (count > 1 ? ", and " count - 1 " more" : "") }

@@ -22,9 +22,9 @@ confstamp-directly = { $(CONFSTAMP) record -- $(depfile) $@ '$(make-cmd)' > /dev
 # In front of the command of the kernel's conf.
 confstamp-syncconfig = $(if $(filter syncconfig,$@),$(CONFSTAMP_KBUILD)/syncconfig)
 
-# Is auto.conf without a generation, or .config not the text that was synchronised last? File times don't say it: a .config
-# that was copied back may have an old one.
-confstamp-unsynchronised = $(shell grep -q '^.generation ' include/config/auto.conf 2> /dev/null && \
+# Has auto.conf another generation than the hook's last one, or none, or is .config not the text that was synchronised then?
+# File times don't say it: a .config that was copied back may have an old one.
+confstamp-unsynchronised = $(shell grep -qsxFf include/config/confstamp.generation include/config/auto.conf && \
 	cmp -s $(KCONFIG_CONFIG) include/config/confstamp.config || echo yes)
 
 # Where a recipe fails make removes what it has changed, and with auto.conf the generation would be lost.

@@ -100,7 +100,12 @@ fn comparisons(rt: HostRuntime) -> Result<(), AllocError> {
 }
 
 /// A text of a line for each of the symbols S0999 down to S0000, but for one.
-fn lines_falling(alloc: Global, but: u32, before: &str, after: &str) -> Result<String, AllocError> {
+pub(crate) fn lines_falling(
+    alloc: Global,
+    but: u32,
+    before: &str,
+    after: &str,
+) -> Result<String, AllocError> {
     let mut text = String::new(alloc);
     for number in (0..1000).rev() {
         if number != but {

@@ -245,6 +245,38 @@ fn a_name_is_noted_once(rt: HostRuntime) -> Result<(), Fail> {
     Ok(())
 }
 
+/// How many names, and how many paths, tables are filled with.
+const MANY: usize = 5000;
+
+/// Notes many names, and then each of them once more.
+fn note_many(alloc: Global, found: &mut FoundNames) -> Result<(), AllocError> {
+    for number in 0..2 * MANY {
+        let name = format!(in alloc; "NAME_{}", number % MANY)?;
+        if ks_symbols::name_is_legal(name.as_bytes()) {
+            found.note(name.as_bytes())?;
+        }
+    }
+    Ok(())
+}
+
+/// The many names, each once.
+fn many_names(alloc: Global) -> Result<Vec<u8>, AllocError> {
+    let mut all = Vec::new(alloc);
+    for number in 0..MANY {
+        push_name(&mut all, format!(in alloc; "NAME_{number}")?.as_bytes())?;
+    }
+    Ok(all)
+}
+
+#[test]
+fn many_names_are_noted_once(rt: HostRuntime) -> Result<(), AllocError> {
+    let mut found = FoundNames::new(rt.alloc());
+    note_many(rt.alloc(), &mut found)?;
+    assert_eq!(rt; found.len(), MANY);
+    assert!(rt; spelled(rt.alloc(), &found)? == many_names(rt.alloc())?);
+    Ok(())
+}
+
 fn letter(role: Role) -> u8 {
     match role {
         Role::Source => b'S',
@@ -302,6 +334,27 @@ fn prerequisites_have_their_roles_by_place(rt: HostRuntime) -> Result<(), Fail> 
         let read = prerequisites(rt.alloc(), text)?;
         assert_eq!(rt; read.as_slice(), want, "{name}");
     }
+    Ok(())
+}
+
+/// A target, a source, and so often each of many files.
+fn many_files(alloc: Global, rounds: usize) -> Result<String, AllocError> {
+    let mut text = String::from_str(alloc, "x.o: x.c")?;
+    for _ in 0..rounds {
+        for number in 0..MANY {
+            text.push_str(&format!(in alloc; " d/{number}.h")?)?;
+        }
+    }
+    Ok(text)
+}
+
+#[test]
+fn many_files_are_listed_once(rt: HostRuntime) -> Result<(), AllocError> {
+    let once = many_files(rt.alloc(), 1)?;
+    let thrice = many_files(rt.alloc(), 3)?;
+    let read = prerequisites(rt.alloc(), once.as_bytes())?;
+    assert!(rt; read.starts_with(b"Sx.c +d/0.h +d/1.h ") && read.ends_with(b" +d/4999.h "));
+    assert!(rt; prerequisites(rt.alloc(), thrice.as_bytes())? == read);
     Ok(())
 }
 

@@ -1,4 +1,5 @@
 //! Worked examples: whole files as they are written, and what is read of others.
+use crate::compare::lines_falling;
 use ks_output::{OldConfig, read_auto, read_auto_generation, write_auto, write_header};
 use ks_symbols::{Class, read_dotconfig, read_kconfig};
 use std::alloc::{AllocError, Global};
@@ -103,6 +104,27 @@ fn files_of_other_kinds(rt: HostRuntime) -> Result<(), AllocError> {
     let (auto, header) = written(alloc, b"", b"")?;
     assert!(rt; auto == joined(alloc, &[b"auto:", AUTO_HEAD, b"#generation 1\n"])?);
     assert!(rt; header == joined(alloc, &[b"header:", HEADER_HEAD])?);
+    Ok(())
+}
+
+/// The lines of the symbols S0000 to S0999 in an auto.conf.
+fn lines_rising(alloc: Global) -> Result<String, AllocError> {
+    let mut text = String::new(alloc);
+    for number in 0..1000 {
+        text.push_str(&format!(in alloc; "CONFIG_S{number:04}=y\n")?)?;
+    }
+    Ok(text)
+}
+
+#[test]
+fn a_thousand_falling_symbols_are_written_rising(rt: HostRuntime) -> Result<(), AllocError> {
+    let alloc = rt.alloc();
+    let kconfig = lines_falling(alloc, 1000, "config ", "\n\tbool\n")?;
+    let dotconfig = lines_falling(alloc, 1000, "CONFIG_", "=y\n")?;
+    let (auto, _) = written(alloc, kconfig.as_bytes(), dotconfig.as_bytes())?;
+    let rising = lines_rising(alloc)?;
+    let want = [b"auto:", AUTO_HEAD, rising.as_bytes(), b"#generation 1\n"];
+    assert!(rt; auto == joined(alloc, &want)?);
     Ok(())
 }
 

@@ -76,7 +76,7 @@ fn dotconfig_outcome(alloc: Global, kconfig: &[u8], text: &[u8]) -> Result<Strin
 #[rattlefmt::skip]
 fn kconfigs(rt: HostRuntime) -> Result<(), AllocError> {
     let alloc = rt.alloc();
-    let rows: [(&str, &[u8], &str); 24] = [
+    let rows: [(&str, &[u8], &str); 31] = [
         ("a title and two symbols", DEMO, "Demo Some(Bool)"),
         ("nothing", b"", "Main menu None"),
         ("comments and blank lines", b"# x\n \t\nconfig A\n\n# y\n  bool  \n", "Main menu Some(Bool)"),
@@ -96,6 +96,13 @@ fn kconfigs(rt: HostRuntime) -> Result<(), AllocError> {
         ("a title after an entry's line", b"config A\nmainmenu \"x\"\n", "4 NoType line 1"),
         ("two kinds", b"config A\n\tbool\nconfig A\n\tstring\n", "5 TypeClash line 4"),
         ("bool, then tristate", b"config A\n\tbool\nconfig A\n\ttristate\n", "5 TypeClash line 4"),
+        ("thrice the same kind", b"config A\n\tint\nconfig A\n\tint\nconfig A\n\tint\n", "Main menu Some(Int)"),
+        ("thrice, then another kind", b"config A\n\tint\nconfig A\n\tint\nconfig A\n\thex\n", "5 TypeClash line 6"),
+        ("another kind, then the first", b"config A\n\tint\nconfig A\n\thex\nconfig A\n\tint\n", "5 TypeClash line 4"),
+        ("three kinds of a name", b"config A\n\tint\nconfig A\n\thex\nconfig A\n\tbool\n", "5 TypeClash line 4"),
+        ("two names, each twice", b"config B\n\tint\nconfig A\n\tint\nconfig B\n\thex\nconfig A\n\thex\n", "5 TypeClash line 6"),
+        ("two kinds before a bad name", b"config A\n\tint\nconfig A\n\thex\nconfig A-B\n", "5 TypeClash line 4"),
+        ("two kinds after a bad name", b"config A\n\tint\nconfig A-B\n\tint\nconfig A\n\thex\n", "2 BadName line 3"),
         ("the end of a comment", b"mainmenu \"a*/b\"\n", "6 BadTitle line 1"),
         ("an empty title", b"mainmenu \"\"\n", "6 BadTitle line 1"),
         ("two titles", b"mainmenu \"a\"\nmainmenu \"b\"\n", "6 BadTitle line 2"),

@@ -47,7 +47,7 @@ pub(crate) fn command_file_text<T: Tree>(
     check_words(depfile, target, command)?;
     let text = read_given(alloc, tree, depfile)?;
     let prerequisites = read_depfile_by(alloc, Seed::new(tree.seed()), &text)?;
-    let found = scan_all(alloc, tree, &prerequisites)?;
-    let lines = record_text(alloc, target, command, &prerequisites, &found, None)?;
-    Ok(lines)
+    let mut found = scan_all(alloc, tree, &prerequisites)?;
+    let lines = record_text(alloc, target, command, &prerequisites, &mut found, None)?;
+    Ok(lines.text)
 }

@@ -405,6 +405,15 @@ of_configs : (place : List ℕ) (xs : List (List ℕ)) (deps : List Dep) → pla
 of_configs place [] deps = refl
 of_configs place (x ∷ xs) deps = ap (λ l. (x, place) ∷ l) (of_configs place xs deps)
 
+-- what holds of names and of those before them holds of all that are noted
+all_noted_among : (P : List ℕ → Type 0) (before names : List (List ℕ)) → All P before → All P names → All P (all_noted before names)
+all_noted_among P before [] first second = first
+all_noted_among P before (x ∷ names) first second = all_noted_among P (noted before x) names
+    (elim (list_any (bytes_eq x) before) as (λ b. All P (cond b before (before ++ x ∷ []))) [
+      | true ↦ first
+      | false ↦ All-append P before (x ∷ []) first (All-cons P x [] (All-head P x names second) (All-nil P))
+    ]) (All-tail P x names second)
+
 -- the names of one prerequisite, and those of the prerequisites behind it
 first_next : (place : List ℕ) (paths before names : List (List ℕ)) (lists : List (List (List ℕ))) (deps : List Dep)
     → All (IsFirst paths lists (all_noted before names)) (placed place deps)
@@ -420,10 +429,13 @@ first_next place paths before names lists deps rest =
     among = λ k d within. list_any_at (bytes_eq (get_or names k d)) names k d within ((bytes_eq-Decides (get_or names k d) (get_or names k d)).1 refl)
 
     own : All (λ x. IsFirst (place ∷ paths) (names ∷ lists) before (x, place)) (new_names before names)
-    own = λ k d within. (
-      cond-true _ _ _ (All-filter (λ x. not (list_any (bytes_eq x) before)) (λ x. is_in names x ≡ true) names among k d within),
-      not-true _ (filter_passes (λ x. not (list_any (bytes_eq x) before)) names k d within),
-    )
+    own =
+        let P = λ (x : List ℕ). is_in names x ≡ true in
+        let once = all_noted_among P [] names (All-nil P) among in
+        λ k d within. (
+          cond-true _ _ _ (All-filter (λ x. not (list_any (bytes_eq x) before)) P (all_noted [] names) once k d within),
+          not-true _ (filter_passes (λ x. not (list_any (bytes_eq x) before)) (all_noted [] names) k d within),
+        )
 
     later : (p : List ℕ × List ℕ) → IsFirst paths lists (all_noted before names) p → IsFirst (place ∷ paths) (names ∷ lists) before p
     later p is = let out = not_noted p.0 before names is.1 in (cond-false _ _ _ out.1 ∙ is.0, out.0)

@@ -1,5 +1,5 @@
 -- What is kept of a tree: what a look-up finds holds of the files, and what is added does.
-use Rattle.std.proofs.Common.{◌≡◌, ◌≢◌, ◌⊎◌, inl, inr, true≢false, is_some, cond, Option, None, ℕ, zero, suc, slice_get, true, false, List, [], ◌∷◌, ◌++◌, Some, refl, ap, sym, ◌∙◌, subst, if◌then◌else◌, bytes_eq}
+use Rattle.std.proofs.Common.{◌≡◌, ◌<◌, ◌+◌, Ok, arith, get_or, length, length-append, append-nil, ap₂, subst₂, ◌≢◌, ◌⊎◌, inl, inr, true≢false, is_some, cond, Option, None, ℕ, zero, suc, slice_get, true, false, List, [], ◌∷◌, ◌++◌, Some, refl, ap, sym, ◌∙◌, subst, if◌then◌else◌, bytes_eq}
 use Rattle.std.specs.Prelude.{IfSome}
 use Rattle.std.specs.List.{All}
 use Rattle.std.proofs.lemmas.List.Elements.{All-nil, All-cons, All-head, All-tail}
@@ -9,13 +9,15 @@ use Rattle.std.specs.Borrow.{Bor}
 use Rattle.std.specs.Map.{lookup}
 use Rattle.std.specs.Option.{option_map, option_copied}
 use Rattle.indexmap.specs.IndexMap.{insert_entry}
+use Rattle.std.proofs.lemmas.List.{get_or_append_left}
+use Rattle.std.proofs.Math.Seq.{get_or-append_seam}
+use Rattle.ks_fixdep.specs.SourceScan.{found_of}
 use Rattle.ks_tree.specs.Files.{Files, content, SameButBoth}
 use Rattle.ks_tree.specs.Paths.{auto_path, stamp_path, command_path, command_temporary, AutoConf, Stamp, CommandFile, CommandTemporary}
 use Rattle.ks_tree.specs.Stamps.{HasNumber}
-use Rattle.ks_engine.specs.declared.memos.KeptSource.{KeptSource}
 use Rattle.ks_engine.specs.declared.memos.Memo.{Memo}
 use Rattle.ks_engine.specs.LastSync.{last_generation}
-use Rattle.ks_engine.specs.Memos.{pairs_of, value_of, with_pair, IsStamp, AreStamps, IsSource, AreSources, IsNoSource, IsMemoOf}
+use Rattle.ks_engine.specs.Memos.{pairs_of, value_of, with_pair, Grows, IsStamp, AreStamps, IsKept, AreSources, IsNoSource, IsMemoOf}
 use Rattle.ks_engine.specs.Recording.{scanned}
 use Rattle.ks_engine.proofs.LowerLaws.{apart}
 
@@ -87,17 +89,17 @@ stamps_kept old new o (e ∷ es) others are =
     All-cons (λ s. IsStamp new (s.0) s.1) e es (here.0, subst (λ b. HasNumber b e.1) (sym same) here.1)
     (stamps_kept old new o es others (All-tail (λ s. IsStamp old (s.0) s.1) e es are))
 
-sources_kept : (old new : Files) (o : List ℕ) (es : List (List ℕ × KeptSource)) → SameButBoth (command_temporary o) (command_path o) old new
-    → All (λ s. s.0 ≢ command_temporary o) es → All (λ s. s.0 ≢ command_path o) es → AreSources old es → AreSources new es
-sources_kept old new o [] others no_temporary no_path are = All-nil _
-sources_kept old new o (e ∷ es) others no_temporary no_path are =
+sources_kept : (old new : Files) (found : List (List (List ℕ))) (o : List ℕ) (es : List (List ℕ × ℕ)) → SameButBoth (command_temporary o) (command_path o) old new
+    → All (λ s. s.0 ≢ command_temporary o) es → All (λ s. s.0 ≢ command_path o) es → AreSources old found es → AreSources new found es
+sources_kept old new found o [] others no_temporary no_path are = All-nil _
+sources_kept old new found o (e ∷ es) others no_temporary no_path are =
     let path = e.0 in
     let same : content new path ≡ content old path = others path (All-head (λ s. s.0 ≢ command_temporary o) e es no_temporary)
     (All-head (λ s. s.0 ≢ command_path o) e es no_path) in
-    let here = All-head (λ s. IsSource old (s.0) s.1.names) e es are in
-    All-cons (λ s. IsSource new (s.0) s.1.names) e es (here.0, here.1, ap (scanned path) same ∙ here.2)
-    (sources_kept old new o es others (All-tail (λ s. s.0 ≢ command_temporary o) e es no_temporary) (All-tail (λ s. s.0 ≢ command_path o) e es no_path)
-    (All-tail (λ s. IsSource old (s.0) s.1.names) e es are))
+    let here = All-head (λ s. IsKept old found (s.0) s.1) e es are in
+    All-cons (λ s. IsKept new found (s.0) s.1) e es (here.0, ap (scanned path) same ∙ here.1)
+    (sources_kept old new found o es others (All-tail (λ s. s.0 ≢ command_temporary o) e es no_temporary) (All-tail (λ s. s.0 ≢ command_path o) e es no_path)
+    (All-tail (λ s. IsKept old found (s.0) s.1) e es are))
 
 pub memo_kept : (old new : Files) (o : List ℕ) (memo : Memo) → SameButBoth (command_temporary o) (command_path o) old new
     → IsNoSource (command_temporary o) memo → IsNoSource (command_path o) memo
@@ -106,7 +108,7 @@ memo_kept old new o memo others no_temporary no_path is = record {
   generation = λ g kept. ap last_generation (others auto_path (apart AutoConf (CommandTemporary o) tt tt (λ e. cc))
       (apart AutoConf (CommandFile o) tt tt (λ e. cc))) ∙ is.generation g kept;
   stamps = stamps_kept old new o (pairs_of memo.stamps.entries) others is.stamps;
-  sources = sources_kept old new o (pairs_of memo.sources.entries) others no_temporary no_path is.sources;
+  sources = sources_kept old new (found_of memo.found.scan) o (pairs_of memo.sources.entries) others no_temporary no_path is.sources;
 }
 
 -- ---- a path that a map has not
@@ -121,3 +123,39 @@ not_kept x (e ∷ es) none = (elim (bytes_eq x e.0) as (λ b. bytes_eq x e.0 ≡
 
 pub no_source : (x : List ℕ) (memo : Memo) → is_some (value_of x (pairs_of memo.sources.entries)) ≡ false → IsNoSource x memo
 no_source x memo none = not_kept x (pairs_of memo.sources.entries) none
+
+-- ---- more sources
+
+kept_longer : (files : Files) (found more : List (List (List ℕ))) (path : List ℕ) (place : ℕ) → IsKept files found path place
+    → IsKept files (found ++ more) path place
+kept_longer files found more path place is = (
+  omega (arith, is.0, length-append found more),
+  is.1 ∙ ap (λ l. Ok l) (sym (get_or_append_left found more [] place is.0)),
+)
+
+sources_longer : (files : Files) (found more : List (List (List ℕ))) (es : List (List ℕ × ℕ)) → AreSources files found es → AreSources files (found ++ more) es
+sources_longer files found more [] are = All-nil _
+sources_longer files found more (e ∷ es) are =
+    All-cons (λ s. IsKept files (found ++ more) s.0 s.1) e es (kept_longer files found more e.0 e.1 (All-head (λ s. IsKept files found s.0 s.1) e es are))
+    (sources_longer files found more es (All-tail (λ s. IsKept files found s.0 s.1) e es are))
+
+-- the names of one more file are kept at the end
+pub last_kept : (files : Files) (found : List (List (List ℕ))) (path : List ℕ) (names : List (List ℕ)) (all : List (List (List ℕ))) (place : ℕ)
+    → place ≡ length found → all ≡ found ++ names ∷ [] → scanned path (content files path) ≡ Ok names → IsKept files all path place
+last_kept files found path names all place at is said = (
+  omega (arith, at, ap length is, length-append found (names ∷ [])),
+  said ∙ ap (λ l. Ok l) (sym (ap₂ (λ a i. get_or a i []) is at ∙ get_or-append_seam found names [] [])),
+)
+
+-- what is kept is as before, and there may be more sources
+pub memo_grown : (files : Files) (old new : Memo) → new.generation ≡ old.generation → pairs_of new.stamps.entries ≡ pairs_of old.stamps.entries
+    → pairs_of new.sources.entries ≡ pairs_of old.sources.entries → Grows (found_of old.found.scan) (found_of new.found.scan) → IsMemoOf files old
+    → IsMemoOf files new
+memo_grown files old new generation stamps sources grows is = record {
+  generation = λ g kept. is.generation g (sym generation ∙ kept);
+  stamps = subst (AreStamps files) (sym stamps) is.stamps;
+  sources = subst₂ (AreSources files) (sym grows.1) (sym sources) (sources_longer files (found_of old.found.scan) grows.0 (pairs_of old.sources.entries) is.sources);
+}
+
+pub grows_none : (old new : List (List (List ℕ))) → new ≡ old → Grows old new
+grows_none old new same = ([], same ∙ sym (append-nil old))

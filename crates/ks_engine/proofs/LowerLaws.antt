@@ -1,5 +1,5 @@
 -- The laws of the layers below: all that the proofs here use of them beside the contracts of their calls.
-use Rattle.std.proofs.Common.{◌≡◌, ◌≢◌, ℕ, ◌≤◌, List, [], Option, Some, length, map}
+use Rattle.std.proofs.Common.{◌≡◌, ◌≢◌, ℕ, ◌≤◌, List, [], Option, Some, length}
 use Rattle.ks_output.specs.Laws.{TextsReadBack, GenerationReadsBack, GenerationFits, IsAccepted}
 use Rattle.ks_output.specs.HeaderLaws.{AlikeIsDefinedAlike}
 use Rattle.ks_output.proofs.ReadBack.{texts_read_back, generation_reads_back, is_accepted}
@@ -11,13 +11,11 @@ use Rattle.ks_fixdep.specs.CommandLines.{lines}
 use Rattle.ks_fixdep.specs.declared.dependency_file.Role.{Role}
 use Rattle.ks_fixdep.specs.CommandFile.{command_text}
 use Rattle.ks_fixdep.specs.CommandLaws.{ReadFits, ReadsBack}
-use Rattle.ks_fixdep.specs.FoundNames.{names_in, names_of}
+use Rattle.ks_fixdep.specs.FoundNames.{names_of}
 use Rattle.ks_fixdep.specs.Record.{deps_after, config_names}
 use Rattle.ks_fixdep.proofs.CommandFitLemmas.{lines-fit, lines-read}
 use Rattle.ks_fixdep.proofs.CommandTextLemmas.{written-reads}
-use Rattle.ks_fixdep.specs.SourceScan.{counts_after}
 use Rattle.ks_fixdep.proofs.DepsLemmas.{record_names}
-use Rattle.ks_fixdep.proofs.SourceLemmas.{counts-length}
 use Rattle.ks_symbols.proofs.Digits.{reads_back}
 use Rattle.ks_tree.specs.Paths.{Place, CommandFile, path_of, IsLegalPlace, PathsNeverMeet, command_path}
 use Rattle.ks_tree.specs.Stamps.{HasNumber}
@@ -75,11 +73,7 @@ read_fits text f reads = lines-fit f (lines text) reads
 pub written_reads : ReadsBack
 written_reads f legal = lines-read f (lines (command_text f)) (written-reads reads_back f legal)
 
--- the names of a record are those of its sources
-pub names_of_record : (ps : List (List ℕ × Role)) (ts : List (List ℕ)) → length ps ≡ length ts → config_names (deps_after [] ps (map names_in ts))
-    ≡ names_of (map names_in ts)
+-- the names of a record are those found in its prerequisites
+pub names_of_record : (ps : List (List ℕ × Role)) (found : List (List (List ℕ))) → length ps ≡ length found → config_names (deps_after [] ps found)
+    ≡ names_of found
 names_of_record = record_names
-
--- there is a count for each text
-pub counts_of_texts : (ts : List (List ℕ)) → length (counts_after [] ts) ≡ length ts
-counts_of_texts = counts-length []

@@ -70,46 +70,26 @@ drafted_of t c ps g found plan e =
 
 -- ---- the names of a plan are those of its command file
 
--- what was found are the names of texts, one for each prerequisite
-FoundIn : List (List ℕ × Role) → List (List (List ℕ)) → Type 0
-FoundIn ps found = (ts : List (List ℕ)) × (found ≡ map names_in ts) × (length ps ≡ length ts)
+-- there is one list for each prerequisite
+found_first : (p : List ℕ × Role) (ps : List (List ℕ × Role)) (found : List (List (List ℕ))) (one : Result (List (List ℕ)) EngineError)
+    (rest : Result (List (List (List ℕ))) EngineError)
+    → ((xs : List (List (List ℕ))) → rest ≡ Ok xs → length ps ≡ length xs) → followed one rest ≡ Ok found → length (p ∷ ps) ≡ length found
+found_first p ps found (Err bad) rest later e = absurd cc
+found_first p ps found (Ok x) (Err bad) later e = absurd cc
+found_first p ps found (Ok x) (Ok xs) later e = let whole : x ∷ xs ≡ found = cc in ap suc (later xs refl) ∙ ap length whole
 
-scanned_text : (path : List ℕ) (file : Option (List ℕ)) (x : List (List ℕ)) → scanned path file ≡ Ok x → (b : List ℕ) × (x ≡ names_in b)
-scanned_text path None x e = absurd cc
-scanned_text path (Some b) x e = (b, by_test (nat_lt max_bytes (length b)) e)
-  where
-    by_test : (large : Bool) → cond large (Err TooLarge) (Ok (names_in b)) ≡ Ok x → x ≡ names_in b
-    by_test true e = absurd cc
-    by_test false e = cc
-
-found_first : (ps : List (List ℕ × Role)) (p : List ℕ × Role) (file : Option (List ℕ)) (found : List (List (List ℕ)))
-    (one : Result (List (List ℕ)) EngineError) (rest : Result (List (List (List ℕ))) EngineError)
-    → scanned p.0 file ≡ one → ((xs : List (List (List ℕ))) → rest ≡ Ok xs → FoundIn ps xs) → followed one rest ≡ Ok found → FoundIn (p ∷ ps) found
-unfolding FoundIn
-found_first ps p file found (Err bad) rest is later e = absurd cc
-found_first ps p file found (Ok x) (Err bad) is later e = absurd cc
-found_first ps p file found (Ok x) (Ok xs) is later e =
-    let text = scanned_text p.0 file x is in
-    let more = later xs refl in
-    let whole : found ≡ x ∷ xs = cc in
-    (text.0 ∷ more.0, whole ∙ ap₂ (λ y ys. y ∷ ys) text.1 more.1, ap suc more.2)
-
-found_in : (files : Files) (ps : List (List ℕ × Role)) (found : List (List (List ℕ))) → scanned_all files ps ≡ Ok found → FoundIn ps found
-unfolding scanned_all FoundIn
-found_in files [] found e = let none : found ≡ [] = cc in ([], none, refl)
-found_in files (p ∷ ps) found e = found_first ps p (content files p.0) found (scanned p.0 (content files p.0)) (scanned_all files ps) refl
-    (λ xs is. found_in files ps xs is) e
+found_each : (files : Files) (ps : List (List ℕ × Role)) (found : List (List (List ℕ))) → scanned_all files ps ≡ Ok found → length ps ≡ length found
+unfolding scanned_all
+found_each files [] found e = let none : [] ≡ found = cc in ap length none
+found_each files (p ∷ ps) found e = found_first p ps found (scanned p.0 (content files p.0)) (scanned_all files ps) (found_each files ps) e
 
 pub count_names : (files : Files) (d t c : List ℕ) (plan : RecordPlan) → IsRecordPlan files d t c plan → config_names plan.file.deps ≡ plan.names
-unfolding FoundIn
 count_names files d t c plan is =
     let made = made_of files d t c plan is.planned in
     let parts = drafted_of t c made.ps made.g made.found plan made.draft in
-    let texts = found_in files made.ps made.found made.all in
     ap (λ (f : CommandRecord). config_names f.deps) parts.file
-    ∙ ap (λ l. config_names (deps_after [] made.ps l)) texts.1
-    ∙ names_of_record made.ps texts.0 texts.2
-    ∙ ap names_of (sym texts.1) ∙ sym parts.names
+    ∙ names_of_record made.ps made.found (found_each files made.ps made.found made.all)
+    ∙ sym parts.names
 
 -- ---- the history goes on
 

@@ -1,6 +1,11 @@
 -- Prerequisites scanned one after the other.
-use Rattle.std.proofs.Common.{◌≡◌, ℕ, suc, ◌+◌, ◌≤◌, List, [], ◌∷◌, ◌++◌, Some, Result, Ok, Err, refl, sym, ap, ◌∙◌, length, drop, append_assoc, append-nil, arith, slice_get, drop-cons}
-use Rattle.std.proofs.lemmas.List.{drop_all}
+use Rattle.std.proofs.Common.{◌≡◌, ◌<◌, Bool, true, nat_lt, get_or, length-append, subst, ap₂, ℕ, suc, ◌+◌, ◌≤◌, List, [], ◌∷◌, ◌++◌, Some, Result, Ok, Err, refl, sym, ap, ◌∙◌, length, drop, append_assoc, append-nil, arith, slice_get, drop-cons}
+use Rattle.std.specs.List.{list_all}
+use Rattle.std.proofs.lemmas.Bool.{and_from, and_parts, lt-ltb, ltb-true}
+use Rattle.std.proofs.lemmas.List.{drop_all, get_or_append_left, map-append}
+use Rattle.std.proofs.lemmas.List.Folds.{list_all-append}
+use Rattle.ks_fixdep.specs.SourceScan.{picked}
+use Rattle.ks_engine.specs.Memos.{Grows}
 use Rattle.std.proofs.lemmas.Option.{slice_get_within, get_or_from_slice_get}
 use Rattle.ks_fixdep.specs.declared.dependency_file.Role.{Role}
 use Rattle.ks_tree.specs.Files.{Files, content}
@@ -49,3 +54,32 @@ pub scanned_end : (files : Files) (ps : List (List ℕ × Role)) (i : ℕ) (foun
 unfolding scanned_all
 scanned_end files ps i found whole past before =
     before ∙ ap (λ l. behind found (scanned_all files l)) (drop_all i ps past) ∙ ap (λ l. Ok l) (append-nil found)
+
+-- ---- the places of sources
+
+abbrev pub are_placed : List (List (List ℕ)) → List ℕ → Bool
+are_placed found places = list_all (λ i. nat_lt i (length found)) places
+
+picked_longer : (found more : List (List (List ℕ))) (places : List ℕ) → are_placed found places ≡ true
+    → (are_placed (found ++ more) places ≡ true) × (picked (found ++ more) places ≡ picked found places)
+picked_longer found more [] placed = (refl, refl)
+picked_longer found more (i ∷ places) placed =
+    let parts = and_parts _ _ placed in
+    let here : i < length found = ltb-true i (length found) parts.0 in
+    let rest = picked_longer found more places parts.1 in (
+      and_from _ _ (lt-ltb i (length (found ++ more)) (omega (arith, here, length-append found more))) rest.0,
+      ap₂ (λ a b. a ∷ b) (get_or_append_left found more [] i here) rest.1,
+    )
+
+-- one more place, perhaps of one more source
+pub picked_next : (found later : List (List (List ℕ))) (places all : List ℕ) (i : ℕ) → Grows found later → are_placed found places ≡ true → i < length later
+    → all ≡ places ++ i ∷ []
+    → (are_placed later all ≡ true) × (picked later all ≡ picked found places ++ get_or later i [] ∷ [])
+picked_next found later places all i grows placed here is =
+    let old = picked_longer found grows.0 places placed in
+    let placed_later : are_placed later places ≡ true = subst (λ l. are_placed l places ≡ true) (sym grows.1) old.0 in (
+      ap (are_placed later) is ∙ list_all-append (λ k. nat_lt k (length later)) places (i ∷ []) ∙ and_from _ _ placed_later
+          (and_from _ _ (lt-ltb i (length later) here) refl),
+      ap (picked later) is ∙ map-append (λ k. get_or later k []) places (i ∷ [])
+          ∙ ap (λ l. l ++ get_or later i [] ∷ []) (ap (λ f. picked f places) grows.1 ∙ old.1),
+    )

@@ -1,14 +1,13 @@
 -- What a command has read of a tree, and keeps: each thing kept is what the files say.
-use Rattle.std.specs.Prelude.{◌≡◌, ◌≢◌, ℕ, List, [], ◌∷◌, Option, Some, Ok, IsTrue, Vec, map, bytes_eq, if◌then◌else◌}
+use Rattle.std.specs.Prelude.{◌≡◌, ◌≢◌, ◌<◌, ◌++◌, ℕ, List, [], ◌∷◌, Option, Some, Ok, IsTrue, Vec, get_or, length, map, bytes_eq, if◌then◌else◌}
 use Rattle.std.specs.List.{All}
 use Rattle.std.specs.Map.{lookup}
 use Rattle.ks_symbols.specs.Names.{is_name}
 use Rattle.ks_tree.specs.Files.{Files, content}
 use Rattle.ks_tree.specs.Paths.{auto_path, stamp_path}
 use Rattle.ks_tree.specs.Stamps.{HasNumber}
-use Rattle.ks_engine.specs.declared.memos.KeptSource.{KeptSource}
 use Rattle.ks_engine.specs.declared.memos.Memo.{Memo}
-use Rattle.ks_fixdep.specs.FoundNames.{names_in}
+use Rattle.ks_fixdep.specs.SourceScan.{found_of}
 use Rattle.ks_engine.specs.LastSync.{last_generation}
 use Rattle.ks_engine.specs.Recording.{scanned}
 
@@ -30,18 +29,22 @@ IsStamp files x n = IsTrue (is_name x) × HasNumber (content files (stamp_path x
 abbrev pub AreStamps : Files → List (List ℕ × ℕ) → Type 0
 AreStamps files kept = All (λ s. IsStamp files s.0 s.1) kept
 
--- These are the names of the file at a path.
-abbrev pub IsSource : Files → List ℕ → List (List ℕ) → Type 0
-IsSource files path names = (t : List ℕ) × (names ≡ names_in t) × (scanned path (content files path) ≡ Ok (names_in t))
+-- The source at a place has the names of the file at a path.
+abbrev pub IsKept : Files → List (List (List ℕ)) → List ℕ → ℕ → Type 0
+IsKept files found path place = (place < length found) × (scanned path (content files path) ≡ Ok (get_or found place []))
 
-abbrev pub AreSources : Files → List (List ℕ × KeptSource) → Type 0
-AreSources files kept = All (λ s. IsSource files s.0 s.1.names) kept
+abbrev pub AreSources : Files → List (List (List ℕ)) → List (List ℕ × ℕ) → Type 0
+AreSources files found kept = All (λ s. IsKept files found s.0 s.1) kept
+
+-- new begins with old
+abbrev pub Grows : List (List (List ℕ)) → List (List (List ℕ)) → Type 0
+Grows old new = (more : List (List (List ℕ))) × (new ≡ old ++ more)
 
 -- Each thing kept is what the files say.
 pub record IsMemoOf (files : Files) (memo : Memo) : Type 0 where
   pub generation : (g : ℕ) → memo.generation ≡ Some g → last_generation (content files auto_path) ≡ Ok g
   pub stamps : AreStamps files (pairs_of memo.stamps.entries)
-  pub sources : AreSources files (pairs_of memo.sources.entries)
+  pub sources : AreSources files (found_of memo.found.scan) (pairs_of memo.sources.entries)
 
 -- The names of the file at this path are not kept.
 abbrev pub IsNoSource : List ℕ → Memo → Type 0

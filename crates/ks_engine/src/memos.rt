@@ -1,10 +1,9 @@
 //! What one command has read of a tree so far, so that it reads no file twice: hundreds of objects have one auto.conf, and share
 //! most of their stamps. A synchronisation drops all of it; a record changes nothing that is kept. Between commands nothing is kept,
 //! since others may write then.
-ghost use Rattle.std.specs.Prelude.{◌≡◌, ◌+◌, ◌⊎◌, ◌++◌, ◌∷◌, [], List, ℕ, length, slice_get, Ok, Err, Some, None, OnOk, IfOk, IfErr, IfSome, IfNone, OnErr, IsErrOf, IsTrue};
+ghost use Rattle.std.specs.Prelude.{◌≡◌, ◌⊎◌, List, ℕ, length, slice_get, Ok, Err, Some, OnOk, IfOk, IfErr, IfSome, OnErr, IsErrOf, IsTrue};
 ghost use Rattle.ks_symbols.specs.Names.{is_name, is_path};
-ghost use Rattle.ks_fixdep.specs.FoundNames.{names_in};
-ghost use Rattle.ks_fixdep.specs.SourceScan.{StandsAfter};
+ghost use Rattle.ks_fixdep.specs.SourceScan.{found_of};
 ghost use Rattle.ks_tree.specs.Frames.{Reads};
 ghost use Rattle.ks_tree.specs.Files.{Files, content};
 ghost use Rattle.ks_tree.specs.Paths.{auto_path, stamp_path};
@@ -12,31 +11,27 @@ ghost use Rattle.ks_tree.specs.Stamps.{HasNumber, IsStampRefusal};
 ghost use Rattle.ks_engine.specs.Refusals.{Answers, IsGivenUp};
 ghost use Rattle.ks_engine.specs.Recording.{scanned};
 ghost use Rattle.ks_engine.specs.LastSync.{last_generation};
-ghost use Rattle.ks_engine.specs.Memos.{pairs_of, value_of, with_pair, IsMemoOf, IsNoSource};
+ghost use Rattle.ks_engine.specs.Memos.{pairs_of, value_of, with_pair, Grows, IsKept, IsMemoOf, IsNoSource};
 
 use crate::EngineError;
 use crate::last_sync::read_generation;
-use crate::sources::{scan_alone, scan_file};
+use crate::sources::scan_file;
 use indexmap::IndexMap;
-use ks_fixdep::{FoundNames, Seed, SourceScan};
+use ks_fixdep::{NamesBySource, Seed};
 use ks_symbols::Name;
 use ks_tree::{Tree, TreeError, read_stamp};
 use std::alloc::{AllocError, Global};
 
-/// The names of a source, and its place among those that are kept.
-#[derive(Drop)]
-struct KeptSource {
-    names: FoundNames,
-    place: usize,
-}
-
-/// The generation of the last completed synchronisation, and the numbers of stamps, as far as they were read.
+/// The generation of the last completed synchronisation, the numbers of stamps, and the names of sources, as far as they were read.
 #[derive(Drop)]
 pub struct Memo {
     generation: Option<u64>,
     stamps: IndexMap<Vec<u8>, u64, Seed>,
-    sources: IndexMap<Vec<u8>, KeptSource, Seed>,
-    /// The place behind the source that was asked for last. No answer depends on it.
+    /// For each path of a source its place among those that were scanned.
+    sources: IndexMap<Vec<u8>, usize, Seed>,
+    /// What was found in the sources, and which of them the last object has.
+    pub(crate) found: NamesBySource,
+    /// The place after the source that was asked for last. No answer depends on it.
     next: usize,
     keeps_sources: bool,
 }
@@ -83,6 +78,7 @@ impl Memo {
             generation: None,
             stamps: IndexMap::with_hasher(alloc, seed),
             sources: IndexMap::with_hasher(alloc, seed),
+            found: NamesBySource::with_seed(alloc, seed),
             next: 0,
             keeps_sources: true,
         }
@@ -96,6 +92,7 @@ impl Memo {
             generation: None,
             stamps: IndexMap::with_hasher(alloc, seed),
             sources: IndexMap::with_hasher(alloc, seed),
+            found: NamesBySource::with_seed(alloc, seed),
             next: 0,
             keeps_sources: false,
         }
@@ -108,6 +105,7 @@ impl Memo {
         self.generation = None;
         self.stamps.clear();
         self.sources.clear();
+        self.found.scan.clear();
     }
 
     /// The generation of auto.conf, which is read once.
@@ -151,53 +149,60 @@ impl Memo {
         Ok(number)
     }
 
-    /// The source at a path, if it is kept. The one behind the last is looked at first: objects name most headers in one order,
-    /// so that most paths are compared once and not sought.
-    fn source(&self, path: &[u8]) -> Option<&KeptSource>
-        ensures kept { IfSome result (λ s. (value_of path.now (pairs_of self.now.sources.entries) ≡ Some s.now)
-            ⊎ ((i : ℕ) × (slice_get (pairs_of self.now.sources.entries) i ≡ Some (path.now, s.now)))) }
+    /// The place of the source at a path, if it is kept. The one after the last is looked at first: objects name most headers in
+    /// one order, so that most paths are compared once and not sought.
+    fn kept_source(&self, path: &[u8]) -> Option<usize>
+        ensures { IfSome result (λ place. (value_of path.now (pairs_of self.now.sources.entries) ≡ Some place)
+            ⊎ ((i : ℕ) × (slice_get (pairs_of self.now.sources.entries) i ≡ Some (path.now, place)))) }
     {
-        if let Some((next, source)) = self.sources.get_index(self.next) {
+        if let Some((next, place)) = self.sources.get_index(self.next) {
             if next.as_slice() == path {
-                return Some(source);
+                return Some(*place);
             }
         }
-        self.sources.get(path)
+        match self.sources.get(path) {
+            Some(place) => Some(*place),
+            None => None,
+        }
     }
 
-    /// Takes the file at a path as the next source of a scan. It is scanned once.
-    pub(crate) fn add_source<T: Tree>(
+    /// Keeps the place of a source.
+    fn keep_source(&mut self, alloc: Global, path: &[u8], place: usize) -> Result<(), AllocError>
+        ensures memo { (files : Files) → IsMemoOf files self.old → IsKept files (found_of self.old.found.scan) path.now place → IsMemoOf files self.new }
+        ensures found { self.new.found ≡ self.old.found }
+    {
+        if !self.keeps_sources {
+            return Ok(());
+        }
+        self.next = place.saturating_add(1);
+        keep(alloc, &mut self.sources, path, place)
+    }
+
+    /// The place of the file at a path among the sources. It is scanned once.
+    pub(crate) fn source_at<T: Tree>(
         &mut self,
         alloc: Global,
         tree: &mut T,
         path: &[u8],
         room: &mut [u8],
-        scan: &mut SourceScan,
-    ) -> Result<(), EngineError>
+    ) -> Result<usize, EngineError>
         requires memo { T.is_honest → IsMemoOf (T.files tree.old) self.old }
         requires path { IsTrue (is_path path.now) }
         requires room { length room.old ≡ 4096 }
         ensures memo { T.is_honest → IsMemoOf (T.files tree.new) self.new }
         ensures reads { Reads T.Tree tree.old tree.new (IsErrOf result EngineError.Device) }
-        ensures scanned { T.is_honest → (ts : List (List ℕ)) → StandsAfter scan.old ts [] → OnOk result ((t : List ℕ) × StandsAfter scan.new (ts ++ t ∷ []) []
-            × (scanned path.now (content (T.files tree.old) path.now) ≡ Ok (names_in t))) }
-        ensures counts { OnOk result (length scan.new.counts.items ≡ length scan.old.counts.items + 1) }
+        ensures grows { OnOk result (Grows (found_of self.old.found.scan) (found_of self.new.found.scan)) }
+        ensures scanned { T.is_honest → IfOk result (IsKept (T.files tree.old) (found_of self.new.found.scan) path.now) }
         ensures refused { T.is_honest → IfErr result (λ e. IsGivenUp e ⊎ (scanned path.now (content (T.files tree.old) path.now) ≡ Err e)) }
     {
-        if !self.keeps_sources {
-            return scan_file(alloc, tree, path, room, scan);
+        if let Some(place) = self.kept_source(path) {
+            self.next = place.saturating_add(1);
+            return Ok(place);
         }
-        if let Some(source) = self.source(path) {
-            scan.add_known(&source.names)?;
-            self.next = source.place.saturating_add(1);
-            return Ok(());
-        }
-        let names = scan_alone(alloc, tree, path, room)?;
-        scan.add_known(&names)?;
-        let place = self.sources.len();
-        keep(alloc, &mut self.sources, path, KeptSource { names, place })?;
-        self.next = place.saturating_add(1);
-        Ok(())
+        let place = self.found.scan.len();
+        scan_file(alloc, tree, path, room, &mut self.found.scan)?;
+        self.keep_source(alloc, path, place)?;
+        Ok(place)
     }
 
     /// Forgets the sources if the file at a path is among them, since it is to be written.
@@ -208,6 +213,7 @@ impl Memo {
     {
         if self.sources.contains_key(path) {
             self.sources.clear();
+            self.found.scan.clear();
         }
     }
 }

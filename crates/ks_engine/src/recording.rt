@@ -1,10 +1,9 @@
 //! Recording an object: the command that builds it, the files that it is made of, and the names in them, under the generation of
 //! the last completed synchronisation. A greater number, as that of a stamp, would hide a synchronisation that was broken off.
-ghost use Rattle.std.specs.Prelude.{◌≡◌, ◌⊎◌, List, ℕ, Ok, Err, IfOk, IfErr, OnOk, IsTrue, IsErrOf, length, map};
+ghost use Rattle.std.specs.Prelude.{◌≡◌, ◌⊎◌, Ok, Err, IfOk, IfErr, OnOk, IsTrue, IsErrOf, length};
 ghost use Rattle.ks_symbols.specs.Names.{is_path, is_target};
 ghost use Rattle.ks_fixdep.specs.CommandFile.{is_command, IsLegal};
-ghost use Rattle.ks_fixdep.specs.FoundNames.{names_in};
-ghost use Rattle.ks_fixdep.specs.SourceScan.{AreNamesOf};
+ghost use Rattle.ks_fixdep.specs.SourceScan.{names_by};
 ghost use Rattle.ks_tree.specs.Frames.{Counted, Reads};
 ghost use Rattle.ks_tree.specs.Files.{content};
 ghost use Rattle.ks_engine.specs.Refusals.{Answers, IsGivenUp};
@@ -74,25 +73,30 @@ fn make_draft(
     command: &[u8],
     prerequisites: &Prerequisites,
     generation: u64,
-    found: &NamesBySource,
+    found: &mut NamesBySource,
 ) -> Result<Draft, EngineError>
     requires target { IsTrue (is_target target.now) }
     requires command { IsTrue (is_command command.now) }
-    requires each { length found.now.counts.items ≡ length prerequisites.now }
+    requires each { length found.old.sources.items ≡ length prerequisites.now }
     ensures no_device { IsErrOf result EngineError.Device → ⊥ }
-    ensures drafted { IfOk result (λ d. (ts : List (List ℕ)) → AreNamesOf found.now ts → (plan : RecordPlan)
-        × (drafted target.now command.now prerequisites.now generation (map names_in ts) ≡ Ok plan) × IsLegal plan.file × IsDraft plan d) }
-    ensures refused { IfErr result (λ e. (ts : List (List ℕ)) → AreNamesOf found.now ts
-        → IsGivenUp e ⊎ (drafted target.now command.now prerequisites.now generation (map names_in ts) ≡ Err e)) }
+    ensures drafted { IfOk result (λ d. (plan : RecordPlan)
+        × (drafted target.now command.now prerequisites.now generation (names_by found.old) ≡ Ok plan) × IsLegal plan.file × IsDraft plan d) }
+    ensures refused { IfErr result (λ e. IsGivenUp e ⊎ (drafted target.now command.now prerequisites.now generation (names_by found.old) ≡ Err e)) }
+    ensures scan { found.new.scan ≡ found.old.scan }
 {
     let numbered = Some(generation);
-    let text = record_text(alloc, target, command, prerequisites, found, numbered)?;
-    if text.len() > MAX_BYTES {
+    let written = record_text(alloc, target, command, prerequisites, found, numbered)?;
+    if written.text.len() > MAX_BYTES {
         return Err(EngineError::TooLarge);
     }
-    let names = found.names().len();
-    let answer = Recorded { generation, names };
-    Ok(Draft { answer, text })
+    let answer = Recorded {
+        generation,
+        names: written.names,
+    };
+    Ok(Draft {
+        answer,
+        text: written.text,
+    })
 }
 
 /// All steps before the write.
@@ -115,8 +119,15 @@ fn prepare<T: Tree>(
     let text = read_there(alloc, tree, depfile)?;
     let prerequisites = read_depfile_by(alloc, Seed::new(tree.seed()), &text)?;
     let generation = memo.generation(alloc, tree)?;
-    let found = scan_all_by(alloc, tree, memo, &prerequisites)?;
-    make_draft(alloc, target, command, &prerequisites, generation, &found)
+    scan_all_by(alloc, tree, memo, &prerequisites)?;
+    make_draft(
+        alloc,
+        target,
+        command,
+        &prerequisites,
+        generation,
+        &mut memo.found,
+    )
 }
 
 /// Records an object, by what was read before and what is still to be read.

@@ -1,19 +1,18 @@
 //! The names in the prerequisites of an object. Each file is read in pieces, and none of them whole: a prerequisite can be
 //! generated and large, and the scan needs no more of it than the word that a piece ends in.
-ghost use Rattle.std.specs.Prelude.{◌≡◌, ◌+◌, ◌⊎◌, ◌↔◌, ◌≤◌, ◌<◌, ◌++◌, ◌∷◌, [], List, ℕ, Err, IfErr, IfOk, IsErrOf, IsTrue, Ok, OnOk, Some, length, map, slice_get};
+ghost use Rattle.std.specs.Prelude.{◌≡◌, ◌⊎◌, ◌<◌, ◌++◌, ◌∷◌, [], List, ℕ, Err, IfErr, IfOk, IsErrOf, IsTrue, Ok, OnErr, OnOk, Some, length, slice_get};
 ghost use Rattle.ks_symbols.specs.Names.{is_path};
 ghost use Rattle.ks_fixdep.specs.declared.dependency_file.Role.{Role};
-ghost use Rattle.ks_fixdep.specs.FoundNames.{names_in};
-ghost use Rattle.ks_fixdep.specs.SourceScan.{AreNamesOf, StandsAfter};
+ghost use Rattle.ks_fixdep.specs.SourceScan.{found_of, names_by};
 ghost use Rattle.ks_tree.specs.Frames.{Reads};
 ghost use Rattle.ks_tree.specs.Files.{content};
 ghost use Rattle.ks_engine.specs.Refusals.{IsGivenUp};
-ghost use Rattle.ks_engine.specs.Memos.{IsMemoOf, IsSource};
+ghost use Rattle.ks_engine.specs.Memos.{IsMemoOf, IsKept, Grows};
 ghost use Rattle.ks_engine.specs.Recording.{scanned, scanned_all};
 
 use crate::EngineError;
 use crate::memos::Memo;
-use ks_fixdep::{FoundNames, NamesBySource, Prerequisites, Seed, SourceScan};
+use ks_fixdep::{NamesBySource, Prerequisites, Seed, SourceScan};
 use ks_symbols::{MAX_BYTES, Path};
 use ks_tree::Tree;
 use std::alloc::Global;
@@ -33,11 +32,12 @@ pub(crate) fn scan_file<T: Tree>(
     requires path { IsTrue (is_path path.now) }
     requires room { length room.old ≡ 4096 }
     ensures reads { Reads T.Tree tree.old tree.new (IsErrOf result EngineError.Device) }
-    ensures scanned { (ts : List (List ℕ)) → StandsAfter scan.old ts [] → OnOk result ((t : List ℕ) × StandsAfter scan.new (ts ++ t ∷ []) []
-        × (T.is_honest → scanned path.now (content (T.files tree.old) path.now) ≡ Ok (names_in t))) }
-    ensures counts { OnOk result (length scan.new.counts.items ≡ length scan.old.counts.items + 1) }
+    ensures scanned { OnOk result ((names : List (List ℕ)) × (found_of scan.new ≡ found_of scan.old ++ names ∷ [])
+        × (T.is_honest → scanned path.now (content (T.files tree.old) path.now) ≡ Ok names)) }
+    ensures kept { OnErr result (found_of scan.new ≡ found_of scan.old) }
     ensures refused { T.is_honest → IfErr result (λ e. IsGivenUp e ⊎ (scanned path.now (content (T.files tree.old) path.now) ≡ Err e)) }
 {
+    scan.begin_source();
     let mut offset: u64 = 0;
     loop {
         let Some(count) = tree.read_at(alloc, path, offset, room)? else {
@@ -55,25 +55,7 @@ pub(crate) fn scan_file<T: Tree>(
     }
 }
 
-/// The names of the file at a path, scanned by itself.
-pub(crate) fn scan_alone<T: Tree>(
-    alloc: Global,
-    tree: &mut T,
-    path: &[u8],
-    room: &mut [u8],
-) -> Result<FoundNames, EngineError>
-    requires path { IsTrue (is_path path.now) }
-    requires room { length room.old ≡ 4096 }
-    ensures reads { Reads T.Tree tree.old tree.new (IsErrOf result EngineError.Device) }
-    ensures found { T.is_honest → IfOk result (IsSource (T.files tree.old) path.now) }
-    ensures refused { T.is_honest → IfErr result (λ e. IsGivenUp e ⊎ (scanned path.now (content (T.files tree.old) path.now) ≡ Err e)) }
-{
-    let mut scan = SourceScan::with_seed(alloc, Seed::new(tree.seed()));
-    scan_file(alloc, tree, path, room, &mut scan)?;
-    Ok(scan.into_found())
-}
-
-/// Takes the prerequisite at a place as the next source.
+/// The place of the prerequisite at a place, among the sources of a command.
 fn scan_at<T: Tree>(
     alloc: Global,
     tree: &mut T,
@@ -81,54 +63,46 @@ fn scan_at<T: Tree>(
     prerequisites: &Prerequisites,
     place: usize,
     room: &mut [u8],
-    scan: &mut SourceScan,
-) -> Result<(), EngineError>
+) -> Result<usize, EngineError>
     requires memo { T.is_honest → IsMemoOf (T.files tree.old) memo.old }
     requires place { place < length prerequisites.now }
     requires room { length room.old ≡ 4096 }
     ensures memo { T.is_honest → IsMemoOf (T.files tree.new) memo.new }
     ensures reads { Reads T.Tree tree.old tree.new (IsErrOf result EngineError.Device) }
-    ensures scanned { T.is_honest → (ts : List (List ℕ)) → StandsAfter scan.old ts [] → OnOk result ((t : List ℕ) × StandsAfter scan.new (ts ++ t ∷ []) []
-        × ((p : List ℕ × Role) → slice_get prerequisites.now place ≡ Some p → scanned p.0 (content (T.files tree.old) p.0) ≡ Ok (names_in t))) }
-    ensures counts { OnOk result (length scan.new.counts.items ≡ length scan.old.counts.items + 1) }
+    ensures grows { OnOk result (Grows (found_of memo.old.found.scan) (found_of memo.new.found.scan)) }
+    ensures scanned { T.is_honest → (p : List ℕ × Role) → slice_get prerequisites.now place ≡ Some p
+        → IfOk result (IsKept (T.files tree.old) (found_of memo.new.found.scan) p.0) }
     ensures refused { T.is_honest → (p : List ℕ × Role) → slice_get prerequisites.now place ≡ Some p
         → IfErr result (λ e. IsGivenUp e ⊎ (scanned p.0 (content (T.files tree.old) p.0) ≡ Err e)) }
 {
     match prerequisites.get(place) {
-        Some((path, _)) => memo.add_source(alloc, tree, path, room, scan),
+        Some((path, _)) => memo.source_at(alloc, tree, path, room),
         None => unreachable!(),
     }
 }
 
-/// The names of the prerequisites, in their order, by what was read before and what is still to be read.
+/// Finds the names of the prerequisites, in their order, by what was read before and what is still to be read.
 pub(crate) fn scan_all_by<T: Tree>(
     alloc: Global,
     tree: &mut T,
     memo: &mut Memo,
     prerequisites: &Prerequisites,
-) -> Result<NamesBySource, EngineError>
+) -> Result<(), EngineError>
     requires memo { T.is_honest → IsMemoOf (T.files tree.old) memo.old }
     ensures memo { T.is_honest → IsMemoOf (T.files tree.new) memo.new }
     ensures reads { Reads T.Tree tree.old tree.new (IsErrOf result EngineError.Device) }
-    ensures names { T.is_honest → IfOk result (λ found. (ts : List (List ℕ)) × AreNamesOf found ts
-        × (scanned_all (T.files tree.old) prerequisites.now ≡ Ok (map names_in ts))) }
+    ensures names { T.is_honest → OnOk result (scanned_all (T.files tree.old) prerequisites.now ≡ Ok (names_by memo.new.found)) }
     ensures refused { T.is_honest → IfErr result (λ e. IsGivenUp e ⊎ (scanned_all (T.files tree.old) prerequisites.now ≡ Err e)) }
-    ensures each { IfOk result (λ found. length found.counts.items ≡ length prerequisites.now) }
+    ensures each { OnOk result (length memo.new.found.sources.items ≡ length prerequisites.now) }
 {
     let mut room = [0; PIECE];
-    let mut scan = SourceScan::with_seed(alloc, Seed::new(tree.seed()));
+    let mut sources = Vec::with_capacity(alloc, prerequisites.len())?;
     for place in 0..prerequisites.len() {
-        scan_at(
-            alloc,
-            tree,
-            memo,
-            prerequisites,
-            place,
-            &mut room,
-            &mut scan,
-        )?;
+        let source = scan_at(alloc, tree, memo, prerequisites, place, &mut room)?;
+        sources.push(source)?;
     }
-    Ok(scan.finish())
+    memo.found.sources = sources;
+    Ok(())
 }
 
 /// The names of the prerequisites, in their order. A file that is missing, or longer than 64 MiB, is refused.
@@ -138,11 +112,11 @@ pub fn scan_all<T: Tree>(
     prerequisites: &Prerequisites,
 ) -> Result<NamesBySource, EngineError>
     ensures reads { Reads T.Tree tree.old tree.new (IsErrOf result EngineError.Device) }
-    ensures names { T.is_honest → IfOk result (λ found. (ts : List (List ℕ)) × AreNamesOf found ts
-        × (scanned_all (T.files tree.old) prerequisites.now ≡ Ok (map names_in ts))) }
+    ensures names { T.is_honest → IfOk result (λ found. scanned_all (T.files tree.old) prerequisites.now ≡ Ok (names_by found)) }
     ensures refused { T.is_honest → IfErr result (λ e. IsGivenUp e ⊎ (scanned_all (T.files tree.old) prerequisites.now ≡ Err e)) }
-    ensures each { IfOk result (λ found. length found.counts.items ≡ length prerequisites.now) }
+    ensures each { IfOk result (λ found. length found.sources.items ≡ length prerequisites.now) }
 {
     let mut memo = Memo::of_one_object(alloc, Seed::new(tree.seed()));
-    scan_all_by(alloc, tree, &mut memo, prerequisites)
+    scan_all_by(alloc, tree, &mut memo, prerequisites)?;
+    Ok(memo.found)
 }

@@ -1,6 +1,5 @@
 pub mod RunLemmas
 pub mod ScanLemmas
-pub mod SourceLemmas
 pub mod PlaceLemmas
 pub mod StreamLemmas
 pub mod CutLemmas
@@ -11,6 +10,8 @@ pub mod RoleLemmas
 pub mod NameLemmas
 pub mod JoinLemmas
 pub mod OnceLemmas
+pub mod PlaceSetLemmas
+pub mod TableLemmas
 pub mod DepsLemmas
 pub mod CommandLineLemmas
 pub mod CommandStepLemmas
@@ -19,4 +20,3 @@ pub mod CommandFitLemmas
 pub mod CommandTextLemmas
 pub mod CommandFaultLemmas
 pub mod CommandWriteLemmas
-pub mod ListedLemmas

@@ -13,7 +13,7 @@ use Rattle.ks_fixdep.specs.FoundNames.{all_noted, names_in, AreFoundNames, names
 use Rattle.ks_fixdep.specs.Scan.{taken}
 use Rattle.ks_fixdep.specs.Scan.{bare_name}
 
-is_in : List ℕ → List (List ℕ) → Bool
+unfoldable pub is_in : List ℕ → List (List ℕ) → Bool
 is_in x xs = list_any (bytes_eq x) xs
 
 in_longer : (x : List ℕ) (xs ys : List (List ℕ)) → is_in x xs ≡ true → is_in x (xs ++ ys) ≡ true
@@ -26,11 +26,11 @@ unfolding is_in
 in_last x [] = or_left _ _ ((bytes_eq-Decides x x).1 refl)
 in_last x (y ∷ xs) = or_right _ _ (in_last x xs)
 
-in_noted : (x y : List ℕ) (xs : List (List ℕ)) → is_in x xs ≡ true → is_in x (noted xs y) ≡ true
+pub in_noted : (x y : List ℕ) (xs : List (List ℕ)) → is_in x xs ≡ true → is_in x (noted xs y) ≡ true
 unfolding is_in
 in_noted x y xs e = elim (list_any (bytes_eq y) xs) as (λ b. is_in x (cond b xs (xs ++ y ∷ [])) ≡ true) [ true ↦ e | false ↦ in_longer x xs (y ∷ []) e ]
 
-noted_in : (y : List ℕ) (xs : List (List ℕ)) → is_in y (noted xs y) ≡ true
+pub noted_in : (y : List ℕ) (xs : List (List ℕ)) → is_in y (noted xs y) ≡ true
 unfolding is_in
 noted_in y xs = elim (list_any (bytes_eq y) xs) as (λ b. list_any (bytes_eq y) xs ≡ b → is_in y (cond b xs (xs ++ y ∷ [])) ≡ true)
     [ true ↦ λ e. e | false ↦ λ _. in_last y xs ] refl

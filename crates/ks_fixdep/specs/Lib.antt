@@ -6,6 +6,8 @@ pub mod Stream
 pub mod Pieces
 pub mod Scanner
 pub mod FoundNames
+pub mod PlaceSet
+pub mod SourceTable
 pub mod SourceScan
 pub mod Tokens
 pub mod DependencyFile

@@ -14,9 +14,9 @@ use Rattle.ks_fixdep.specs.declared.dep_error.DepError.TheVariants as errors
 use Rattle.ks_fixdep.specs.declared.dependency_file.Role.{Role}
 use Rattle.ks_fixdep.specs.declared.dependency_file.Role.TheVariants as role
 
--- the names that no prerequisite before has
+-- the names, each once, that no prerequisite before has
 abbrev pub new_names : List (List ℕ) → List (List ℕ) → List (List ℕ)
-new_names before names = filter (λ x. not (list_any (bytes_eq x) before)) names
+new_names before names = filter (λ x. not (list_any (bytes_eq x) before)) (all_noted [] names)
 
 -- a line of its own where it is listed
 abbrev pub own_line : List ℕ × Role → List Dep

@@ -1,19 +1,14 @@
 //! The names found in one source, each once. A header names the same symbol many times, and one line of the
 //! command file is enough. The order of first places is kept, so that the same sources give the same file.
-ghost use Rattle.std.specs.Prelude.{◌≡◌, ◌↔◌, [], IfSome, IsTrue, OnOk, OnErr, length, map};
+ghost use Rattle.std.specs.Prelude.{◌≡◌, ◌↔◌, [], ℕ, IfOk, IfSome, IsTrue, OnOk, OnErr, length, map, slice_get};
 ghost use Rattle.std.specs.Iterator.{item_count};
-ghost use Rattle.std.specs.List.{list_any};
 ghost use Rattle.std.specs.Map.Iter.{TakesFirst};
 ghost use Rattle.std.specs.Option.{option_copied};
-ghost use Rattle.std.specs.Str.{bytes_eq};
 ghost use Rattle.ks_symbols.specs.Names.{is_name};
-ghost use Rattle.ks_fixdep.specs.NameIter.{names_left};
-ghost use Rattle.ks_fixdep.specs.FoundNames.{all_noted, lent_text};
-ghost use Rattle.ks_fixdep.specs.Scan.{bare_name};
-ghost use Rattle.ks_fixdep.specs.Stream.{list_of};
+ghost use Rattle.ks_fixdep.specs.FoundNames.{lent_text, names_in};
 
-use crate::name_iter::NameIter;
 use crate::prefix_finder::PrefixFinder;
+use crate::scan::names;
 use crate::seed::Seed;
 use indexmap::IndexSet;
 use std::alloc::{AllocError, Global};
@@ -58,40 +53,42 @@ impl FoundNames {
         }
     }
 
-    /// Whether a name was noted last. A source often names a symbol twice in a row, and this needs no hash.
-    fn ends_with(&self, name: &[u8]) -> bool
-        ensures { IsTrue result → IsTrue (list_any (bytes_eq name.now) self.now) }
-    {
-        match self.names.as_slice().last() {
-            Some(last) => name == last.as_slice(),
-            None => false,
-        }
-    }
-
     /// Notes a name, unless it was noted before.
     pub fn note(&mut self, name: &[u8]) -> Result<(), AllocError>
         requires { IsTrue (is_name name.now) }
         ensures ok { OnOk result (self.new ≡ noted self.old name.now) }
         ensures err { OnErr result (self.new ≡ self.old) }
     {
-        if self.ends_with(name) {
-            return Ok(());
-        }
-        self.note_by_hash(name)
+        self.place_of(name)?;
+        Ok(())
     }
 
-    /// Notes a name that is not likely to be the last one.
-    fn note_by_hash(&mut self, name: &[u8]) -> Result<(), AllocError>
+    /// Notes a name, unless it was noted before, and gives its place among the names.
+    pub(crate) fn place_of(&mut self, name: &[u8]) -> Result<usize, AllocError>
         requires { IsTrue (is_name name.now) }
         ensures ok { OnOk result (self.new ≡ noted self.old name.now) }
+        ensures place { IfOk result (λ i. slice_get self.new i ≡ Some name.now) }
+        ensures only { IfOk result (λ i. (j : ℕ) → slice_get self.new j ≡ Some name.now → j ≡ i) }
         ensures err { OnErr result (self.new ≡ self.old) }
     {
-        if self.names.contains(name) {
-            return Ok(());
+        if let Some((place, _)) = self.names.get_full(name) {
+            return Ok(place);
         }
         let owned = Vec::from_slice(self.alloc, name)?;
-        self.names.insert(owned)?;
-        Ok(())
+        let (place, _) = self.names.insert_full(owned)?;
+        Ok(place)
+    }
+
+    /// The name at a place, which stands at no other.
+    pub(crate) fn name_at(&self, place: usize) -> Option<&[u8]>
+        ensures value { option_copied result ≡ slice_get self.now place }
+        ensures legal { IfSome result (λ x. IsTrue (is_name x.now)) }
+        ensures only { IfSome result (λ x. (i : ℕ) → slice_get self.now i ≡ Some x.now → i ≡ place) }
+    {
+        match self.names.get_index(place) {
+            Some(name) => Some(name.as_slice()),
+            None => None,
+        }
     }
 
     /// How many names there are.
@@ -152,37 +149,15 @@ impl<'a> Iterator for LentNames<'a> {
     }
 }
 
-/// Notes the names that are left, in their order.
-pub(crate) fn note_all(
-    found: &mut FoundNames,
-    mut names: NameIter<'_>,
-    finder: &PrefixFinder,
-) -> Result<(), AllocError>
-    ensures { OnOk result (found.new ≡ all_noted found.old (map bare_name (names_left names.entry))) }
+/// The names of a text, each once.
+pub(crate) fn names_of_text(alloc: Global, text: &[u8]) -> Result<FoundNames, AllocError>
+    ensures { IfOk result (λ found. found ≡ names_in text.now) }
 {
-    while let Some(next) = names.next_by(finder) {
+    let finder = PrefixFinder::new();
+    let mut found = FoundNames::new(alloc);
+    let mut left = names(text);
+    while let Some(next) = left.next_by(&finder) {
         found.note(next.name)?;
     }
-    Ok(())
-}
-
-/// Notes a name, if there is one.
-pub(crate) fn note_carried(found: &mut FoundNames, carried: Option<&[u8]>) -> Result<(), AllocError>
-    requires { IfSome carried (λ name. IsTrue (is_name name.now)) }
-    ensures { OnOk result (found.new ≡ all_noted found.old (list_of (option_copied carried.entry))) }
-{
-    match carried {
-        Some(name) => found.note(name),
-        None => Ok(()),
-    }
-}
-
-/// Notes names that were found before, in their order. Each stands once among them, so few are the last one that was noted.
-pub(crate) fn note_known(found: &mut FoundNames, known: &FoundNames) -> Result<(), AllocError>
-    ensures { OnOk result (found.new ≡ all_noted found.old known.now) }
-{
-    for name in known.names() {
-        found.note_by_hash(name)?;
-    }
-    Ok(())
+    Ok(found)
 }

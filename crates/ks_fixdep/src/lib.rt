@@ -9,12 +9,14 @@ mod found_names;
 mod laws;
 mod listing;
 mod name_iter;
+mod place_set;
 mod prefix_finder;
 mod runs;
 mod scan;
 mod scanner;
 mod seed;
 mod source_scan;
+mod source_table;
 mod tokens;
 
 pub use building::{build, build_from};
@@ -30,7 +32,7 @@ pub use laws::{
     ended_names_are_followed, names_by_places, names_of_a_record, names_of_all_sources,
     pieces_give_the_whole, recording_examples,
 };
-pub use listing::record_text;
+pub use listing::{RecordText, record_text};
 pub use name_iter::NameIter;
 pub use scan::{Found, names};
 pub use scanner::{Fed, Scanner};

@@ -1,13 +1,20 @@
-//! The names of the sources of an object. Each source comes in pieces, and one source after the other: the scanner, what was
-//! found, and where each source ended are one value, which stands after the text so far. Whoever reads sources needs to know
-//! no more of the scan than that. A name is kept once for all sources, since headers name the same symbols again and again.
-ghost use Rattle.std.specs.Prelude.{◌≡◌, ◌+◌, ◌++◌, ◌∷◌, [], List, ℕ, OnOk, length};
-ghost use Rattle.ks_fixdep.specs.FoundNames.{names_in};
+//! The names of sources. Each source comes in pieces, and one source after the other: the scanner and what was found are one
+//! value, which stands after the text so far. Whoever reads sources needs to know no more of the scan than that.
+ghost use Rattle.std.specs.Prelude.{◌≡◌, ◌++◌, ◌∷◌, [], List, ℕ, IfSome, IsTrue, OnErr, OnOk, length, map};
+ghost use Rattle.std.specs.Option.{option_copied};
+ghost use Rattle.ks_symbols.specs.Names.{is_name};
+ghost use Rattle.ks_fixdep.specs.FoundNames.{all_noted, names_in};
+ghost use Rattle.ks_fixdep.specs.NameIter.{names_left};
+ghost use Rattle.ks_fixdep.specs.Scan.{bare_name};
+ghost use Rattle.ks_fixdep.specs.SourceScan.{found_of};
+ghost use Rattle.ks_fixdep.specs.Stream.{list_of};
 
-use crate::found_names::{FoundNames, note_all, note_carried, note_known};
+use crate::name_iter::NameIter;
+use crate::place_set::PlaceSet;
 use crate::prefix_finder::PrefixFinder;
 use crate::scanner::Scanner;
 use crate::seed::Seed;
+use crate::source_table::SourceTable;
 use std::alloc::{AllocError, Global};
 
 /// The names of the sources that have ended, and of the one that is being read.
@@ -15,104 +22,123 @@ use std::alloc::{AllocError, Global};
 pub struct SourceScan {
     finder: PrefixFinder,
     scanner: Scanner,
-    names: FoundNames,
-    counts: Vec<usize>,
+    pub(crate) table: SourceTable,
 }
 
-/// The names of several sources, each once, in the order of their first sources and of their first places there.
+/// The names of the prerequisites of an object, which are among the sources of a scan.
 #[derive(Drop)]
 pub struct NamesBySource {
-    pub(crate) names: FoundNames,
-    /// How many of the names there are up to the end of each source.
-    pub(crate) counts: Vec<usize>,
+    pub scan: SourceScan,
+    /// For each prerequisite, in their order, which of the sources it is, counted from 0.
+    pub sources: Vec<usize>,
+    /// The names that stand in the text of a record already.
+    pub(crate) listed: PlaceSet,
+}
+
+/// Notes the names that are left, in their order.
+fn note_all(
+    table: &mut SourceTable,
+    mut names: NameIter<'_>,
+    finder: &PrefixFinder,
+) -> Result<(), AllocError>
+    ensures found { table.new.found ≡ table.old.found }
+    ensures current { OnOk result (table.new.current ≡ all_noted table.old.current (map bare_name (names_left names.entry))) }
+{
+    while let Some(next) = names.next_by(finder) {
+        table.note(next.name)?;
+    }
+    Ok(())
+}
+
+/// Notes a name, if there is one.
+fn note_carried(table: &mut SourceTable, carried: Option<&[u8]>) -> Result<(), AllocError>
+    requires { IfSome carried (λ name. IsTrue (is_name name.now)) }
+    ensures found { table.new.found ≡ table.old.found }
+    ensures current { OnOk result (table.new.current ≡ all_noted table.old.current (list_of (option_copied carried.entry))) }
+{
+    match carried {
+        Some(name) => table.note(name),
+        None => Ok(()),
+    }
 }
 
 impl SourceScan {
-    ghost use Rattle.ks_fixdep.specs.SourceScan.{AreNamesOf, StandsAfter};
+    ghost use Rattle.ks_fixdep.specs.SourceScan.{StandsAfter};
 
     /// A scan that stands before the first source. It takes no memory.
     pub fn new(alloc: Global) -> Self
-        ensures stands { StandsAfter result [] [] }
-        ensures counts { result.counts.items ≡ [] }
+        ensures stands { StandsAfter result [] }
+        ensures found { found_of result ≡ [] }
     {
         SourceScan::with_seed(alloc, Seed::new(0))
     }
 
     /// The same, with names that are sought by a seed.
     pub fn with_seed(alloc: Global, seed: Seed) -> Self
-        ensures stands { StandsAfter result [] [] }
-        ensures counts { result.counts.items ≡ [] }
+        ensures stands { StandsAfter result [] }
+        ensures found { found_of result ≡ [] }
     {
         SourceScan {
             finder: PrefixFinder::new(),
             scanner: Scanner::new(),
-            names: FoundNames::with_seed(alloc, seed),
-            counts: Vec::new(alloc),
+            table: SourceTable::new(alloc, seed),
         }
     }
 
-    /// Takes the next piece of the source. After an `Err` the scan stands after no text that is known: start anew.
+    /// Begins the next source, and forgets what was read of one that was broken off.
+    pub fn begin_source(&mut self)
+        ensures stands { StandsAfter self.new [] }
+        ensures found { found_of self.new ≡ found_of self.old }
+    {
+        self.scanner = Scanner::new();
+        self.table.restart();
+    }
+
+    /// Forgets the sources that have ended.
+    pub fn clear(&mut self)
+        ensures { found_of self.new ≡ [] }
+    {
+        self.table.clear();
+    }
+
+    /// Takes the next piece of the source. After an `Err` begin the source anew; those that have ended stay.
     pub fn feed(&mut self, piece: &[u8]) -> Result<(), AllocError>
-        ensures stands { (ts : List (List ℕ)) → (t : List ℕ) → StandsAfter self.old ts t → OnOk result (StandsAfter self.new ts (t ++ piece.now)) }
-        ensures counts { OnOk result (self.new.counts.items ≡ self.old.counts.items) }
+        ensures stands { (t : List ℕ) → StandsAfter self.old t → OnOk result (StandsAfter self.new (t ++ piece.now)) }
+        ensures found { found_of self.new ≡ found_of self.old }
     {
         let fed = self.scanner.feed(piece);
-        note_carried(&mut self.names, fed.carried)?;
-        note_all(&mut self.names, fed.names, &self.finder)
+        note_carried(&mut self.table, fed.carried)?;
+        note_all(&mut self.table, fed.names, &self.finder)
     }
 
     /// Ends the source: the next piece is the first one of another.
     pub fn end_source(&mut self) -> Result<(), AllocError>
-        ensures stands { (ts : List (List ℕ)) → (t : List ℕ) → StandsAfter self.old ts t → OnOk result (StandsAfter self.new (ts ++ t ∷ []) []) }
-        ensures counts { OnOk result (length self.new.counts.items ≡ length self.old.counts.items + 1) }
+        ensures stands { (t : List ℕ) → StandsAfter self.old t → OnOk result (StandsAfter self.new []) }
+        ensures found { (t : List ℕ) → StandsAfter self.old t → OnOk result (found_of self.new ≡ found_of self.old ++ names_in t ∷ []) }
+        ensures err { OnErr result (found_of self.new ≡ found_of self.old) }
     {
-        note_carried(&mut self.names, self.scanner.finish())?;
-        self.counts.push(self.names.len())?;
-        Ok(())
+        note_carried(&mut self.table, self.scanner.finish())?;
+        self.table.end_source()
     }
 
-    /// Takes a whole source as the next one, of which the names are known.
-    pub fn add_known(&mut self, known: &FoundNames) -> Result<(), AllocError>
-        ensures stands { (ts : List (List ℕ)) → (t : List ℕ) → StandsAfter self.old ts [] → known.now ≡ names_in t
-            → OnOk result (StandsAfter self.new (ts ++ t ∷ []) []) }
-        ensures counts { OnOk result (length self.new.counts.items ≡ length self.old.counts.items + 1) }
+    /// How many sources have ended.
+    pub fn len(&self) -> usize
+        ensures { result ≡ length (found_of self.now) }
     {
-        note_known(&mut self.names, known)?;
-        self.counts.push(self.names.len())?;
-        Ok(())
-    }
-
-    /// The names of the one source that has ended.
-    pub fn into_found(self) -> FoundNames
-        ensures { (t : List ℕ) → StandsAfter self (t ∷ []) [] → result ≡ names_in t }
-    {
-        self.names
-    }
-
-    /// The names of the sources that have ended.
-    pub fn finish(self) -> NamesBySource
-        ensures names { (ts : List (List ℕ)) → StandsAfter self ts [] → AreNamesOf result ts }
-        ensures counts { result.counts.items ≡ self.counts.items }
-    {
-        NamesBySource {
-            names: self.names,
-            counts: self.counts,
-        }
+        self.table.len()
     }
 }
 
 impl NamesBySource {
-    /// How many sources there were.
-    pub fn sources(&self) -> usize
-        ensures { result ≡ length self.now.counts.items }
+    /// An object of no prerequisites, and a scan of no sources. It takes no memory.
+    pub fn with_seed(alloc: Global, seed: Seed) -> Self
+        ensures found { found_of result.scan ≡ [] }
+        ensures sources { result.sources.items ≡ [] }
     {
-        self.counts.len()
-    }
-
-    /// The names.
-    pub fn names(&self) -> &FoundNames
-        ensures { result.now ≡ self.now.names }
-    {
-        &self.names
+        NamesBySource {
+            scan: SourceScan::with_seed(alloc, seed),
+            sources: Vec::new(alloc),
+            listed: PlaceSet::new(alloc),
+        }
     }
 }

@@ -1,6 +1,7 @@
-use Rattle.std.proofs.Common.{◌≡◌, ◌⊎◌, sym, ◌∙◌, ap, map, Ok, Err}
+use Rattle.std.proofs.Common.{◌≡◌, ◌⊎◌, sym, subst, ◌∙◌, ap, Ok, Err}
 use Rattle.std.proofs.lemmas.Result.{err_from_is_err_and, IfOk-weaker}
-use Rattle.ks_fixdep.specs.FoundNames.{names_in}
+use Rattle.ks_fixdep.specs.SourceScan.{found_of, names_by}
+use Rattle.ks_engine.specs.Memos.{pairs_of, AreSources}
 use Rattle.ks_engine.specs.Refusals.{IsGivenUp}
 use Rattle.ks_engine.specs.Recorded.{RecordPlan, IsRecordPlan, record_plan}
 use Rattle.ks_engine.specs.Drafts.{IsDraft}
@@ -38,9 +39,9 @@ returns-in_err-generation-clause-refused g c = λ honest.
     (depfile_listed c.deref.result.now c.in_ok-prerequisites.prerequisites c.in_ok-prerequisites.ensures.refusal c.in_ok-prerequisites.ensures.value)
     (synced_there files _ _ (c.in_ok-text.ensures.reads.unchanged honest) said)) (c.in_err-generation.ensures.read honest))
 
-pub returns-in_err-found-clause-refused : goal.returns-in_err-found-clause-refused
-returns-in_err-found-clause-refused g c = λ honest.
-    let p = err_from_is_err_and c.from_residual-in_err-found.result c.from_residual-in_err-found.ensures.1 in
+pub returns-in_err-scan_all_by-clause-refused : goal.returns-in_err-scan_all_by-clause-refused
+returns-in_err-scan_all_by-clause-refused g c = λ honest.
+    let p = err_from_is_err_and c.from_residual-in_err-scan_all_by.result c.from_residual-in_err-scan_all_by.ensures.1 in
     let files = g.T.Tree.files c.args.tree.now in
     let same = c.in_ok-text.ensures.reads.unchanged honest in
     let same_later = c.in_ok-generation.ensures.reads.unchanged honest ∙ same in
@@ -49,41 +50,51 @@ returns-in_err-found-clause-refused g c = λ honest.
     (c.in_ok-text.ensures.bytes honest ∙ ap (λ b. Ok b) (sym c.deref.ensures.value))
     (depfile_listed c.deref.result.now c.in_ok-prerequisites.prerequisites c.in_ok-prerequisites.ensures.refusal c.in_ok-prerequisites.ensures.value)
     (synced_there files _ _ same (c.in_ok-generation.ensures.read honest)) (scanned_there files _ c.in_ok-prerequisites.prerequisites _ same_later said))
-    (c.in_err-found.ensures.refused honest))
+    (c.in_err-scan_all_by.ensures.refused honest))
 
 pub returns-clause-planned : goal.returns-clause-planned
 returns-clause-planned g c = λ honest.
     let files = g.T.Tree.files c.args.tree.now in
     let same = c.in_ok-text.ensures.reads.unchanged honest in
     let same_later = c.in_ok-generation.ensures.reads.unchanged honest ∙ same in
-    let found = c.in_ok-found.ensures.names honest in
+    let names = names_by c.scan_all_by.new.memo.found in
     IfOk-weaker c.make_draft.result _ (λ d. (plan : RecordPlan) × IsRecordPlan files c.args.depfile.now c.args.target.now c.args.command.now plan
     × IsDraft plan d)
-    (λ d drafted. (let made = drafted found.0 found.1 in (
+    (λ d made. (
       made.0,
       record {
         planned = at_drafted files c.args.depfile.now c.args.target.now c.args.command.now c.deref.result.now c.in_ok-prerequisites.prerequisites
-            c.in_ok-generation.generation (map names_in found.0) _ c.in_ok-check_words.ensures.words
+            c.in_ok-generation.generation names _ c.in_ok-check_words.ensures.words
             (c.in_ok-text.ensures.bytes honest ∙ ap (λ b. Ok b) (sym c.deref.ensures.value))
             (depfile_listed c.deref.result.now c.in_ok-prerequisites.prerequisites c.in_ok-prerequisites.ensures.refusal
             c.in_ok-prerequisites.ensures.value)
             (synced_there files _ _ same (c.in_ok-generation.ensures.read honest))
-            (scanned_there files _ c.in_ok-prerequisites.prerequisites _ same_later found.2) made.1;
+            (scanned_there files _ c.in_ok-prerequisites.prerequisites _ same_later (c.in_ok-scan_all_by.ensures.names honest)) made.1;
         legal = made.2;
       },
       made.3,
-    ))) c.make_draft.ensures.drafted
+    )) c.make_draft.ensures.drafted
 
 pub returns-clause-refused : goal.returns-clause-refused
 returns-clause-refused g c = λ honest.
     let files = g.T.Tree.files c.args.tree.now in
     let same = c.in_ok-text.ensures.reads.unchanged honest in
     let same_later = c.in_ok-generation.ensures.reads.unchanged honest ∙ same in
-    let found = c.in_ok-found.ensures.names honest in
+    let names = names_by c.scan_all_by.new.memo.found in
     if_err_map c.make_draft.result _ (λ e. IsGivenUp e ⊎ (record_plan files c.args.depfile.now c.args.target.now c.args.command.now ≡ Err e))
     (λ e said. or_given (λ bad. at_drafted files c.args.depfile.now c.args.target.now c.args.command.now c.deref.result.now
-    c.in_ok-prerequisites.prerequisites c.in_ok-generation.generation (map names_in found.0) _ c.in_ok-check_words.ensures.words
+    c.in_ok-prerequisites.prerequisites c.in_ok-generation.generation names _ c.in_ok-check_words.ensures.words
     (c.in_ok-text.ensures.bytes honest ∙ ap (λ b. Ok b) (sym c.deref.ensures.value))
     (depfile_listed c.deref.result.now c.in_ok-prerequisites.prerequisites c.in_ok-prerequisites.ensures.refusal c.in_ok-prerequisites.ensures.value)
     (synced_there files _ _ same (c.in_ok-generation.ensures.read honest))
-    (scanned_there files _ c.in_ok-prerequisites.prerequisites _ same_later found.2) bad) (said found.0 found.1)) c.make_draft.ensures.refused
+    (scanned_there files _ c.in_ok-prerequisites.prerequisites _ same_later (c.in_ok-scan_all_by.ensures.names honest)) bad) said) c.make_draft.ensures.refused
+
+pub returns-clause-memo : goal.returns-clause-memo
+returns-clause-memo g c = λ honest.
+    let m = c.scan_all_by.ensures.memo honest in
+    record {
+      generation = m.generation;
+      stamps = m.stamps;
+      sources = subst (λ s. AreSources (g.T.Tree.files c.scan_all_by.new.tree) (found_of s) (pairs_of c.scan_all_by.new.memo.sources.entries))
+          (sym c.make_draft.ensures.scan) m.sources;
+    }

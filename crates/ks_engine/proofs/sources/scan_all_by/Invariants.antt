@@ -1,12 +1,11 @@
-use Rattle.std.proofs.Common.{◌≡◌, ◌≤◌, List, ℕ, [], drop, length, map}
-use Rattle.ks_fixdep.specs.FoundNames.{names_in}
-use Rattle.ks_fixdep.specs.SourceScan.{StandsAfter}
+use Rattle.std.proofs.Common.{◌≡◌, ◌≤◌, true, drop, length}
+use Rattle.ks_fixdep.specs.SourceScan.{found_of, picked}
 use Rattle.ks_engine.specs.Memos.{IsMemoOf}
 use Rattle.ks_engine.specs.Recording.{scanned_all}
-use Rattle.ks_engine.proofs.Scanning.{behind}
+use Rattle.ks_engine.proofs.Scanning.{are_placed, behind}
 use Rattle.ks_engine.proofs.sources.scan_all_by.Given as goal
 
--- the scan stands after as many texts as there were prerequisites; on an honest tree all there is to find is what they have and what the
+-- there are as many places as there were prerequisites; on an honest tree all there is to find is what the sources there have and what the
 -- prerequisites left have
 abbrev pub invariant-loop-place : goal.invariant-loop-place
 invariant-loop-place g l = record {
@@ -15,8 +14,8 @@ invariant-loop-place g l = record {
   within : l.place ≤ length l.prerequisites;
   room : length l.room ≡ 4096;
   memo : g.T.Tree.is_honest → IsMemoOf (g.T.Tree.files l.tree) l.memo;
-  counts : length l.scan.counts.items ≡ l.place;
-  scanned : g.T.Tree.is_honest → (ts : List (List ℕ)) × StandsAfter l.scan ts []
+  counts : length l.sources.items ≡ l.place;
+  scanned : g.T.Tree.is_honest → (are_placed (found_of l.memo.found.scan) l.sources.items ≡ true)
       × (scanned_all (g.T.Tree.files l.fn.tree) l.prerequisites
-      ≡ behind (map names_in ts) (scanned_all (g.T.Tree.files l.fn.tree) (drop l.place l.prerequisites)));
+      ≡ behind (picked (found_of l.memo.found.scan) l.sources.items) (scanned_all (g.T.Tree.files l.fn.tree) (drop l.place l.prerequisites)));
 }

@@ -1,4 +1,4 @@
-use Rattle.std.proofs.Common.{rules, ◌++◌, [], arith, subst, sym, ap, ◌∙◌, inr, refl, take, length}
+use Rattle.std.proofs.Common.{rules, ◌++◌, ◌∷◌, [], arith, subst, sym, ap, ◌∙◌, inr, refl, take, length}
 use Rattle.ks_tree.specs.Files.{content, IsReadAt, IsPieceRead}
 use Rattle.ks_fixdep.specs.FoundNames.{names_in}
 use Rattle.ks_engine.specs.Recording.{scanned}
@@ -6,12 +6,13 @@ use Rattle.ks_engine.proofs.Pieces.{scanned_whole, scanned_large, piece_behind, 
 use Rattle.ks_engine.proofs.sources.scan_file.Goals as goal
 
 pub returns-then-count-lt-PIECE-clause-scanned : goal.returns-then-count-lt-PIECE-clause-scanned
-returns-then-count-lt-PIECE-clause-scanned g c = λ ts before.
-    let stood = c.loop-count.invariant.stands ts before in
-    let fed = c.in_ok-feed.ensures.stands ts stood.0 stood.1 in
+returns-then-count-lt-PIECE-clause-scanned g c =
+    let stood = c.loop-count.invariant.stands in
+    let fed = c.in_ok-feed.ensures.stands stood.0 stood.1 in
     let piece = take c.in-Some.count c.read_at.new.into in (
-      stood.0 ++ piece,
-      c.in_ok-end_source.ensures.stands ts (stood.0 ++ piece) fed,
+      names_in (stood.0 ++ piece),
+      c.in_ok-end_source.ensures.found (stood.0 ++ piece) fed
+          ∙ ap (λ l. l ++ names_in (stood.0 ++ piece) ∷ []) (c.feed.ensures.found ∙ c.loop-count.invariant.found),
       λ honest.
           (let read = subst (IsReadAt (content (g.T.Tree.files c.loop-count.tree) c.args.path.now) c.loop-count.offset c.loop-count.room c.read_at.new.into)
           c.in-Some.is (c.in_ok-count.ensures.found honest) in
@@ -36,9 +37,9 @@ loop-count-init g c = record {
   unchanged = λ _. refl;
   later = search rules;
   full = c.requires.room;
-  counts = refl;
+  found = c.begin_source.ensures.found;
   small = omega arith;
-  stands = λ ts before. ([], before, λ _ b _. refl);
+  stands = ([], c.begin_source.ensures.stands, λ _ b _. refl);
 }
 
 pub loop-count-preserved : goal.loop-count-preserved
@@ -46,13 +47,13 @@ loop-count-preserved g c = record {
   unchanged = search rules;
   later = search rules;
   full = c.read_at.auto.into ∙ c.loop-count.invariant.full;
-  counts = ap length c.in_ok-feed.ensures.counts ∙ c.loop-count.invariant.counts;
+  found = c.feed.ensures.found ∙ c.loop-count.invariant.found;
   small = c.if-offset.false;
-  stands = λ ts before.
-      let stood = c.loop-count.invariant.stands ts before in
+  stands =
+      let stood = c.loop-count.invariant.stands in
       let piece = take c.in-Some.count c.read_at.new.into in (
         stood.0 ++ piece,
-        c.in_ok-feed.ensures.stands ts stood.0 stood.1,
+        c.in_ok-feed.ensures.stands stood.0 stood.1,
         λ honest b at.
             (let read = subst (IsReadAt (content (g.T.Tree.files c.loop-count.tree) c.args.path.now) c.loop-count.offset c.loop-count.room c.read_at.new.into)
             c.in-Some.is (c.in_ok-count.ensures.found honest) in

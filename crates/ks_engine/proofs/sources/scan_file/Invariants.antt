@@ -1,6 +1,6 @@
-use Rattle.std.proofs.Common.{◌≡◌, ◌-◌, ◌≤◌, List, ℕ, Some, [], take, length}
+use Rattle.std.proofs.Common.{◌≡◌, ◌-◌, ◌≤◌, List, ℕ, Some, take, length}
 use Rattle.ks_tree.specs.Files.{content}
-use Rattle.ks_fixdep.specs.SourceScan.{StandsAfter}
+use Rattle.ks_fixdep.specs.SourceScan.{StandsAfter, found_of}
 use Rattle.ks_engine.proofs.sources.scan_file.Given as goal
 
 -- it stands after what was read, which on an honest tree are the bytes before the offset
@@ -9,9 +9,9 @@ invariant-loop-count g l = record {
   unchanged : g.T.Tree.is_honest → g.T.Tree.files l.tree ≡ g.T.Tree.files l.fn.tree;
   later : g.T.Tree.failures l.fn.tree ≤ g.T.Tree.failures l.tree;
   full : length l.room ≡ 4096;
-  counts : length l.scan.counts.items ≡ length l.fn.scan.counts.items;
+  found : found_of l.scan ≡ found_of l.fn.scan;
   small : l.offset ≤ 67108864;
-  stands : (ts : List (List ℕ)) → StandsAfter l.fn.scan ts [] → (t : List ℕ) × StandsAfter l.scan ts t
+  stands : (t : List ℕ) × StandsAfter l.scan t
       × (g.T.Tree.is_honest → (b : List ℕ) → content (g.T.Tree.files l.fn.tree) l.path ≡ Some b → t ≡ take l.offset b);
 }
 

@@ -1,5 +1,6 @@
 use Rattle.std.proofs.Common.{◌≡◌, sym, ◌∙◌, ap, subst, Ok}
 use Rattle.std.specs.Prelude.{IfSome}
+use Rattle.ks_fixdep.specs.SourceScan.{found_of}
 use Rattle.ks_tree.specs.Files.{content}
 use Rattle.ks_tree.specs.Paths.{auto_path}
 use Rattle.ks_engine.specs.LastSync.{last_generation}
@@ -15,5 +16,5 @@ returns-clause-memo g c = λ honest.
       generation = λ k is. subst (λ o. IfSome o (λ n. last_generation (content new auto_path) ≡ Ok n)) is
           (ap (λ f. last_generation (content f auto_path)) same ∙ c.in_ok-generation.ensures.read honest);
       stamps = subst (λ f. AreStamps f (pairs_of c.args.self.now.stamps.entries)) (sym same) old.stamps;
-      sources = subst (λ f. AreSources f (pairs_of c.args.self.now.sources.entries)) (sym same) old.sources;
+      sources = subst (λ f. AreSources f (found_of c.args.self.now.found.scan) (pairs_of c.args.self.now.sources.entries)) (sym same) old.sources;
     }

@@ -1,4 +1,5 @@
 use Rattle.std.proofs.Common.{sym, ◌∙◌, ap, subst}
+use Rattle.ks_fixdep.specs.SourceScan.{found_of}
 use Rattle.ks_tree.specs.Files.{content}
 use Rattle.ks_tree.specs.Paths.{auto_path}
 use Rattle.ks_engine.specs.LastSync.{last_generation}
@@ -22,7 +23,7 @@ returns-clause-memo g c = λ honest.
       generation = λ k is. ap (λ f. last_generation (content f auto_path)) same ∙ old.generation k is;
       stamps = subst (AreStamps new) (sym c.in_ok-keep.ensures.added)
           (kept_added (IsStamp new) c.args.name.now c.in_ok-number.number pairs (subst (λ f. AreStamps f pairs) (sym same) old.stamps) has);
-      sources = subst (λ f. AreSources f (pairs_of c.args.self.now.sources.entries)) (sym same) old.sources;
+      sources = subst (λ f. AreSources f (found_of c.args.self.now.found.scan) (pairs_of c.args.self.now.sources.entries)) (sym same) old.sources;
     }
 
 pub returns-in_err-keep-clause-memo : goal.returns-in_err-keep-clause-memo
@@ -33,5 +34,5 @@ returns-in_err-keep-clause-memo g c = λ honest.
     record {
       generation = λ k is. ap (λ f. last_generation (content f auto_path)) same ∙ old.generation k is;
       stamps = subst (AreStamps new) (sym (ap pairs_of c.in_err-keep.ensures.kept)) (subst (λ f. AreStamps f (pairs_of c.args.self.now.stamps.entries)) (sym same) old.stamps);
-      sources = subst (λ f. AreSources f (pairs_of c.args.self.now.sources.entries)) (sym same) old.sources;
+      sources = subst (λ f. AreSources f (found_of c.args.self.now.found.scan) (pairs_of c.args.self.now.sources.entries)) (sym same) old.sources;
     }

@@ -7,6 +7,5 @@ use Rattle.ks_fixdep.proofs.source_scan.SourceScan.with_seed.Goals as goal
 pub returns-clause-stands : goal.returns-clause-stands
 returns-clause-stands c = record {
   word = c.new-2.ensures;
-  names = c.with_seed.ensures ∙ ap (λ xs. all_noted [] (map bare_name xs)) (sym ended-nil);
-  counts = c.new-3.ensures.items;
+  names = c.new-3.ensures.current ∙ ap (λ xs. all_noted [] (map bare_name xs)) (sym ended-nil);
 }

@@ -107,7 +107,8 @@ where
 
     /// The same tree, with a seed that nobody knows who writes its files.
     pub fn with_seed(mut self, seed: u64) -> FolderTree<R>
-        ensures { ⟦<FolderTree<R> as Tree>⟧.failures result ≡ ⟦<FolderTree<R> as Tree>⟧.failures self }
+        ensures seed { result.seed ≡ seed }
+        ensures failures { ⟦<FolderTree<R> as Tree>⟧.failures result ≡ ⟦<FolderTree<R> as Tree>⟧.failures self }
     {
         self.seed = seed;
         self
@@ -312,7 +313,9 @@ where
         self.move_file(alloc, from, to)
     }
 
-    fn seed(&self) -> u64 {
+    fn seed(&self) -> u64
+        ensures { result ≡ self.now.seed }
+    {
         self.seed
     }
 }

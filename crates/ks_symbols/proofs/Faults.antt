@@ -46,9 +46,3 @@ unknown-cons kinds line rest = sum_by-cons (λ l. cond (is_of_unknown kinds (sta
 pub at_most_one : (b : Bool) → cond b 1 0 ≤ 1
 at_most_one true = omega arith
 at_most_one false = omega arith
-
--- what an answer promises, where it is known that nothing was refused
-pub if_accepted : {X : Type 0} (r : Result X SourceError) (f : Option SourceError) (P Q : X → Type 0) → RefusedBy fault.OutOfMemory r f → IfOk r P
-    → (f ≡ None → (x : X) → P x → Q x) → IfOk r Q
-if_accepted (Ok x) f P Q none p h = h none x p
-if_accepted (Err e) f P Q none p h = tt

@@ -123,10 +123,6 @@ pub run_end-cons : (s : Progress) (n : ℕ) (f : Form) (later : List Form) → r
 unfolding run_end
 run_end-cons s n f later = refl
 
-pub run_end-nil : (s : Progress) (n : ℕ) → run_end s n [] ≡ s
-unfolding run_end
-run_end-nil s n = refl
-
 at_end : (w : Option (ℕ × List ℕ)) → waiting_fault w ≡ or_else (lacking w None) None
 at_end None = refl
 at_end (Some w) = refl

@@ -1,4 +1,4 @@
-use Rattle.std.proofs.Common.{◌≡◌, inl, inr, Ok, Err, sym, ap, ◌∙◌, ◌≤◌, subst, map, refl, arith}
+use Rattle.std.proofs.Common.{inl, inr, Ok, Err, sym, ap, ◌∙◌, ◌≤◌, subst, map, refl, arith}
 use Rattle.std.specs.Bool.{⊤}
 use Rattle.std.proofs.lemmas.Result.{err_from_is_err_and}
 use Rattle.ks_engine.specs.Actions.{action}

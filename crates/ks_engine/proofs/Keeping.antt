@@ -1,5 +1,5 @@
 -- What is kept of a tree: what a look-up finds holds of the files, and what is added does.
-use Rattle.std.proofs.Common.{◌≡◌, ◌<◌, ◌+◌, Ok, arith, get_or, length, length-append, append-nil, ap₂, subst₂, ◌≢◌, ◌⊎◌, inl, inr, true≢false, is_some, cond, Option, None, ℕ, zero, suc, slice_get, true, false, List, [], ◌∷◌, ◌++◌, Some, refl, ap, sym, ◌∙◌, subst, if◌then◌else◌, bytes_eq}
+use Rattle.std.proofs.Common.{◌≡◌, Ok, arith, get_or, length, length-append, append-nil, ap₂, subst₂, ◌≢◌, ◌⊎◌, inl, inr, true≢false, is_some, cond, Option, None, ℕ, zero, suc, slice_get, true, false, List, [], ◌∷◌, ◌++◌, Some, refl, ap, sym, ◌∙◌, subst, if◌then◌else◌, bytes_eq}
 use Rattle.std.specs.Prelude.{IfSome}
 use Rattle.std.specs.List.{All}
 use Rattle.std.proofs.lemmas.List.Elements.{All-nil, All-cons, All-head, All-tail}

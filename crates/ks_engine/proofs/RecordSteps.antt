@@ -1,11 +1,11 @@
 -- A record goes on with each history that the files show.
-use Rattle.std.proofs.Common.{◌≡◌, ◌⊎◌, inl, inr, ⊎_elim, ℕ, suc, ◌<◌, ◌≤◌, List, [], ◌∷◌, Option, Some, None, Result, Ok, Err, Bool, true, false, cond, nat_lt, nat_eq, IfOk, IfErr, sym, ◌∙◌, ap, ap₂, refl, subst, arith, length, map}
+use Rattle.std.proofs.Common.{◌≡◌, ◌⊎◌, inl, inr, ⊎_elim, ℕ, suc, ◌<◌, ◌≤◌, List, [], ◌∷◌, Some, Result, Ok, Err, true, false, cond, nat_lt, nat_eq, IfOk, IfErr, sym, ◌∙◌, ap, refl, subst, arith, length}
 use Rattle.std.proofs.lemmas.Bool.{ltb-false, eqb-false}
 use Rattle.ks_symbols.specs.Lines.{max_bytes}
 use Rattle.ks_fixdep.specs.declared.dependency_file.Role.{Role}
 use Rattle.ks_fixdep.specs.CommandFile.{CommandRecord, command_text}
-use Rattle.ks_fixdep.specs.FoundNames.{names_in, names_of}
-use Rattle.ks_fixdep.specs.Record.{config_names, deps_after, record_of}
+use Rattle.ks_fixdep.specs.FoundNames.{names_of}
+use Rattle.ks_fixdep.specs.Record.{config_names, record_of}
 use Rattle.ks_tree.specs.Files.{Files, content, SameButBoth}
 use Rattle.ks_tree.specs.Paths.{auto_path, command_path, command_temporary}
 use Rattle.ks_engine.specs.declared.error.EngineError.{EngineError}

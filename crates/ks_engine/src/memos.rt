@@ -175,7 +175,8 @@ impl Memo {
             return Ok(());
         }
         self.next = place.saturating_add(1);
-        keep(alloc, &mut self.sources, path, place)
+        keep(alloc, &mut self.sources, path, place)?;
+        Ok(())
     }
 
     /// The place of the file at a path among the sources. It is scanned once.

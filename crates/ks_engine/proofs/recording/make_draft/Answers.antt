@@ -13,14 +13,14 @@ returns-then-len-gt-MAX_BYTES-clause-refused c =
     let found = names_by c.args.found.now in
     let file = numbered (record_of c.args.target.now c.args.command.now c.args.prerequisites.now found) c.args.generation in
     inr (draft_large c.args.target.now c.args.command.now c.args.prerequisites.now c.args.generation found file refl
-    (subst (λ n. 67108864 < n) (c.len.ensures ∙ ap length c.in_ok-written.ensures.text) c.if-len-gt-MAX_BYTES.true))
+    (subst (λ n. 67108864 < n) (c.len.ensures ∙ c.in_ok-written.written.text.ok.0 ∙ ap length c.in_ok-written.ensures.text) c.if-len-gt-MAX_BYTES.true))
 
 pub returns-clause-drafted : goal.returns-clause-drafted
 returns-clause-drafted c =
     let ps = c.args.prerequisites.now in
     let found = names_by c.args.found.now in
     let file = numbered (record_of c.args.target.now c.args.command.now ps found) c.args.generation in
-    let small = subst (λ n. n ≤ 67108864) (c.len.ensures ∙ ap length c.in_ok-written.ensures.text) c.if-len-gt-MAX_BYTES.false in
+    let small = subst (λ n. n ≤ 67108864) (c.len.ensures ∙ c.in_ok-written.written.text.ok.0 ∙ ap length c.in_ok-written.ensures.text) c.if-len-gt-MAX_BYTES.false in
     let each : length ps ≡ length found = sym c.requires.each ∙ sym (length-map c.args.found.now.sources.items _) in (
       record { file = file; generation = c.args.generation; names = names_of found },
       draft_made c.args.target.now c.args.command.now ps c.args.generation found file refl small,

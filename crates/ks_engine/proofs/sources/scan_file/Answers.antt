@@ -1,4 +1,4 @@
-use Rattle.std.proofs.Common.{rules, ◌++◌, ◌∷◌, [], arith, subst, sym, ap, ◌∙◌, inr, refl, take, length}
+use Rattle.std.proofs.Common.{rules, ◌++◌, ◌∷◌, [], arith, subst, sym, ap, ◌∙◌, inr, refl, take}
 use Rattle.ks_tree.specs.Files.{content, IsReadAt, IsPieceRead}
 use Rattle.ks_fixdep.specs.FoundNames.{names_in}
 use Rattle.ks_engine.specs.Recording.{scanned}

@@ -13,5 +13,5 @@ returns-then-eq c =
           ∙ ap (option_map (λ e. (e.0.items, e.1))) (sym c.in-Some.ensures.entry) ∙ ap (λ p. Some (p, c.in-Some.place.now)) same,
     )
 
-pub returns-in-Some : goal.returns-in-Some
-returns-in-Some c = inl (value-pairs c.args.path.now c.args.self.now.sources.entries ∙ ?)
+pub returns-in-Some-get : goal.returns-in-Some-get
+returns-in-Some-get c = inl (value-pairs c.args.path.now c.args.self.now.sources.entries ∙ sym c.in-Some-get.ensures.value)

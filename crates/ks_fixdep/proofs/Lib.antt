@@ -2,13 +2,10 @@ pub mod RunLemmas
 pub mod ScanLemmas
 pub mod PlaceLemmas
 pub mod StreamLemmas
-pub mod CutLemmas
-pub mod PieceLemmas
 pub mod NotedLemmas
 pub mod TokenLemmas
 pub mod RoleLemmas
 pub mod NameLemmas
-pub mod JoinLemmas
 pub mod OnceLemmas
 pub mod PlaceSetLemmas
 pub mod TableLemmas

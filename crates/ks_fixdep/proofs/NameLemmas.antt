@@ -1,14 +1,13 @@
 -- Names without their places.
-use Rattle.std.proofs.Common.{◌≡◌, ℕ, zero, suc, ◌-◌, List, [], ◌∷◌, ◌++◌, Option, Some, None, Bool, true, length, drop, take, refl, ap, ◌∙◌, map, arith, append_assoc, sym}
+use Rattle.std.proofs.Common.{◌≡◌, ℕ, zero, suc, List, [], ◌∷◌, ◌++◌, Option, Some, None, Bool, true, length, drop, take, refl, ap, ◌∙◌, map, append_assoc, sym}
 use Rattle.std.specs.List.{list_all}
 use Rattle.std.proofs.lemmas.Bool.{and_parts}
 use Rattle.std.proofs.lemmas.List.{map-append}
-use Rattle.ks_fixdep.specs.Scan.{NameAt, taken, taken_from}
-use Rattle.ks_fixdep.proofs.ScanLemmas.{taken_from-zero}
+use Rattle.ks_fixdep.specs.Scan.{NameAt, names_after, placed, taken}
 use Rattle.ks_fixdep.specs.declared.scan.Found.{Found}
 use Rattle.ks_fixdep.specs.NameIter.{seen_found}
 use Rattle.ks_fixdep.specs.Scan.{bare_name}
-use Rattle.ks_fixdep.specs.Stream.{list_of, carried_at, lent_behind, further, ended, last_word, before_last_word}
+use Rattle.ks_fixdep.specs.Stream.{list_of, lent_behind, further, ended, before_last_word}
 
 pub take_none : {A : Type 0} (n : ℕ) → take {A = A} n [] ≡ []
 take_none zero = refl
@@ -27,7 +26,7 @@ pub map-name : (fs : List Found) → map (λ f. f.name.now) fs ≡ map bare_name
 map-name [] = refl
 map-name (f ∷ fs) = ap (λ l. f.name.now ∷ l) (map-name fs)
 
-pub map-carried : (i : ℕ) (x : Option (List ℕ)) → map bare_name (carried_at i x) ≡ list_of x
+pub map-carried : (i : ℕ) (x : Option (List ℕ)) → map bare_name (placed i x) ≡ list_of x
 map-carried i None = refl
 map-carried i (Some x) = refl
 
@@ -36,9 +35,8 @@ map-name-further n [] = refl
 map-name-further n (x ∷ xs) = ap (λ l. x.name ∷ l) (map-name-further n xs)
 
 pub ended-nil : ended [] ≡ []
-ended-nil =
-    let none : length {A = ℕ} [] - 0 ≡ 0 = omega arith in
-    ap taken (take_none (length {A = ℕ} [] - length (last_word []))) ∙ ap (taken_from [] 0) none ∙ taken_from-zero [] 0
+unfolding before_last_word names_after
+ended-nil = refl
 
 -- the names of a longer text, without their places
 pub names-longer : (t p : List ℕ) (carried : Option (List ℕ)) (xs : List NameAt) → ended (t ++ p) ≡ ended t ++ lent_behind t carried xs
@@ -48,14 +46,14 @@ names-longer t p carried xs e =
     let behind = map (further (length t)) xs in
     ap (map bare_name) e
     ∙ map-append bare_name (ended t) (lent_behind t carried xs)
-    ∙ ap (λ l. map bare_name (ended t) ++ l) (map-append bare_name (carried_at place carried) behind)
+    ∙ ap (λ l. map bare_name (ended t) ++ l) (map-append bare_name (placed place carried) behind)
     ∙ ap (λ l. map bare_name (ended t) ++ (l ++ map bare_name behind)) (map-carried place carried)
     ∙ ap (λ l. map bare_name (ended t) ++ (list_of carried ++ l)) (map-name-further (length t) xs)
     ∙ sym (append_assoc (map bare_name (ended t)) (list_of carried) (map bare_name xs))
 
-pub names-whole : (t : List ℕ) (i : ℕ) (carried : Option (List ℕ)) → taken t ≡ ended t ++ carried_at i carried → map bare_name (taken t)
+pub names-whole : (t : List ℕ) (i : ℕ) (carried : Option (List ℕ)) → taken t ≡ ended t ++ placed i carried → map bare_name (taken t)
     ≡ map bare_name (ended t) ++ list_of carried
 names-whole t i carried e =
     ap (map bare_name) e
-    ∙ map-append bare_name (ended t) (carried_at i carried)
+    ∙ map-append bare_name (ended t) (placed i carried)
     ∙ ap (λ l. map bare_name (ended t) ++ l) (map-carried i carried)

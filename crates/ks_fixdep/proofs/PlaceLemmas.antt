@@ -1,35 +1,111 @@
--- What is listed of a text is what is taken of it.
-use Rattle.std.proofs.Common.{◌≡◌, ℕ, zero, suc, ◌+◌, ◌-◌, ◌≤◌, ◌<◌, Bool, true, false, List, [], ◌∷◌, length, take, drop, get_or, Option, Some, None, refl, sym, ap, subst, ◌∙◌, arith, inl, inr, ⊎_elim, map, length-drop, length-take-le, get_or-drop, get_or-take}
-use Rattle.std.proofs.lemmas.Bool.{cond-true, cases_lt, cases_eq, and_parts, or_cases, or_left, or_right, eqb-true, eq-eqb}
+-- What is listed of a text is what is taken at its places.
+use Rattle.std.proofs.Common.{◌≡◌, ℕ, zero, suc, ◌+◌, ◌-◌, ◌≤◌, ◌<◌, Bool, true, false, List, [], ◌∷◌, ◌++◌, length, take, drop, get_or, map, Option, Some, None, refl, sym, ap, ap₂, subst, ◌∙◌, arith, inl, inr, ⊎_elim, append-nil, length-append, length-drop, get_or-drop}
+use Rattle.std.proofs.Math.Seq.{drop-append_seam, drop-nil, take-append_seam}
+use Rattle.std.proofs.lemmas.Bool.{cond-true, cond-false, cases_Bool, and_from, le-leb, le-ltb, lt-ltb}
+use Rattle.std.proofs.lemmas.List.{drop-drop}
+use Rattle.std.proofs.lemmas.List.Elements.{Contains-append_cases, Contains-append_left, Contains-append_right, filter-append}
+use Rattle.std.proofs.lemmas.List.Sums.{take_while-cons}
 use Rattle.std.proofs.lemmas.Slice.Eq.{bytes_eq-Decides}
-use Rattle.std.specs.Prelude.{◌⊎◌, not, ◌==◌, Contains, if◌then◌else◌}
-use Rattle.std.specs.List.{prefix_len, cons_option}
+use Rattle.std.specs.Prelude.{◌⊎◌, Contains, filter, if◌then◌else◌}
+use Rattle.std.specs.List.{take_while}
 use Rattle.std.specs.List.Sorted.{IsStrictlyIncreasing}
-use Rattle.std.proofs.lemmas.List.Sums.{AllPass-from_list_all, prefix_len-le-length, prefix_len_stops}
-use Rattle.memchr.specs.Find.{occurs_at}
-use Rattle.memchr.proofs.lemmas.MatchLemmas.{occurs_at-true, OccursAt-true}
+use Rattle.std.specs.Str.{bytes_eq}
+use Rattle.memchr.specs.Find.{OccursAt}
+use Rattle.memchr.proofs.lemmas.MatchLemmas.{OccursAt-true}
 use Rattle.ks_symbols.specs.Names.{is_word_byte, is_name, less}
-use Rattle.ks_fixdep.specs.Scan.{NameAt, prefix, run_at, begins_word, is_place, name_of, placed, taken_at, taken_from}
+use Rattle.ks_fixdep.specs.Scan.{NameAt, prefix, begun, name_of, name_of_word, names_after, placed, taken}
 use Rattle.ks_fixdep.specs.Places.{IsRun, IsTaken, ListsTaken}
-use Rattle.ks_fixdep.proofs.RunLemmas.{word-is, name_of-legal}
-use Rattle.ks_fixdep.proofs.ScanLemmas.{taken_at-place, word-passes, run_at-ends}
+use Rattle.ks_fixdep.specs.Pieces.{is_followed}
+use Rattle.ks_fixdep.specs.Stream.{before_last_word, ended, kept, kept_name, last_word}
+use Rattle.ks_fixdep.proofs.RunLemmas.{name_of-legal}
+use Rattle.ks_fixdep.proofs.ScanLemmas.{Ends, begun-some, byte-before, name_of_prefixed, nameless, occurrence, starts-at, unnamed, word-append, word-is, word-left, word-none, word-passes, word-split, word-stops}
+use Rattle.ks_fixdep.proofs.StreamLemmas.{before-ends, last_word-passes, split, taken-finish}
 
--- ---- one place
+-- ---- the items of the list, by what stands k places further on
 
--- what is taken at a place stands there
-pub placed-is : (i : ℕ) (o : Option (List ℕ)) (x : NameAt) → placed i o ≡ Some x → (x.place ≡ i) × (o ≡ Some x.name)
-placed-is i None x e = absurd cc
-placed-is i (Some name) x e =
-    let made : NameAt = record { place = i; name = name } in
-    let same : made ≡ x = cc in (ap (λ y. y.place) (sym same), ap (λ y. Some y.name) same)
+-- a word with this name begins there
+abbrev HasName : ℕ → List ℕ → ℕ → List ℕ → Type 0
+HasName before t k name = (is_word_byte (get_or (before ∷ t) k 0) ≡ false) × (name_of_word (take_while is_word_byte (drop k t)) ≡ Some name)
 
-pub taken_at-is : (t : List ℕ) (i : ℕ) (x : NameAt) → taken_at t i ≡ Some x → (is_place t i ≡ true) × (x.place ≡ i) × (name_of (run_at t (i + 7)) ≡ Some x.name)
-unfolding taken_at
-taken_at-is t i x e = (elim (is_place t i) as (λ b. is_place t i ≡ b → (if b then placed i (name_of (run_at t (i + 7))) else None) ≡ Some x
-    → (is_place t i ≡ true) × (x.place ≡ i) × (name_of (run_at t (i + 7)) ≡ Some x.name)) [
-      | true ↦ λ is same. let parts = placed-is i (name_of (run_at t (i + 7))) x same in (is, parts.0, parts.1)
-      | false ↦ λ is same. absurd cc
-    ]) refl e
+placed-is : (i : ℕ) (name : Option (List ℕ)) (x : NameAt) → Contains (placed i name) x → (x.place ≡ i) × (name ≡ Some x.name)
+placed-is i None x (k, below, at) = absurd (omega (arith, below))
+placed-is i (Some y) x (zero, below, at) = (ap (λ z. z.place) (sym at), ap (λ z. Some z.name) at)
+placed-is i (Some y) x (suc k, below, at) = absurd (omega (arith, below))
+
+listed-only : (t : List ℕ) (before i : ℕ) (x : NameAt) → Contains (names_after before i t) x → (k : ℕ) × (x.place ≡ i + k) × HasName before t k x.name
+unfolding names_after
+listed-only [] before i x (k, below, at) = absurd (omega (arith, below))
+listed-only (b ∷ t) before i x is =
+    let name = name_of_word (take_while is_word_byte (b ∷ t)) in
+    ⊎_elim
+    (λ here. let at = placed-is i (begun before name) x here in (0, omega (arith, at.0), begun-some before name x.name at.1))
+    (λ later. let rest = listed-only t b (i + 1) x later in (suc rest.0, omega (arith, rest.1), rest.2))
+    (Contains-append_cases (placed i (begun before name)) (names_after b (i + 1) t) x is)
+
+listed-all : (t : List ℕ) (before i k : ℕ) (x : NameAt) → x.place ≡ i + k → HasName before t k x.name → Contains (names_after before i t) x
+unfolding names_after
+listed-all [] before i k x at has =
+    let none : None ≡ Some x.name = sym (ap (λ l. name_of_word (take_while is_word_byte l)) (drop-nil k) ∙ nameless) ∙ has.1 in
+    absurd cc
+listed-all (b ∷ t) before i zero x at has =
+    let place : i ≡ x.place = omega (arith, at) in
+    let made : ℕ → NameAt = λ p. record { place = p; name = x.name } in
+    Contains-append_left _ (names_after b (i + 1) t) x
+    (subst (λ name. Contains (placed i name) x) (sym (cond-false _ _ _ has.0 ∙ has.1)) (zero, omega arith, ap made place))
+listed-all (b ∷ t) before i (suc k) x at has = Contains-append_right _ (names_after b (i + 1) t) x (listed-all t b (i + 1) k x (omega (arith, at)) has)
+
+-- ---- the order
+
+places : List NameAt → List ℕ
+places xs = map (λ x. x.place) xs
+
+rising-cons : (a : ℕ) (xs : List NameAt) → ((x : NameAt) → Contains xs x → a < x.place) → IsStrictlyIncreasing (places xs)
+    → IsStrictlyIncreasing (a ∷ places xs)
+unfolding places
+rising-cons a [] low rising k below = absurd (omega (arith, below))
+rising-cons a (x ∷ xs) low rising zero below = low x (zero, omega arith, refl)
+rising-cons a (x ∷ xs) low rising (suc k) below =
+    let next : suc k + 1 ≡ suc (k + 1) = omega arith in
+    subst (λ (j : ℕ). get_or (places (x ∷ xs)) k 0 < get_or (a ∷ places (x ∷ xs)) j 0) (sym next) (rising k (omega (arith, below)))
+
+rising-from : (t : List ℕ) (before i : ℕ) → IsStrictlyIncreasing (places (names_after before i t))
+unfolding names_after places
+rising-from [] before i = λ k below. absurd (omega (arith, below))
+rising-from (b ∷ t) before i =
+    let rest = names_after b (i + 1) t in
+    elim (begun before (name_of_word (take_while is_word_byte (b ∷ t)))) as (λ name. IsStrictlyIncreasing (places (placed i name ++ rest))) [
+      | None ↦ rising-from t b (i + 1)
+      | (Some y) ↦ rising-cons i rest (λ x later. let at = (listed-only t b (i + 1) x later).1 in omega (arith, at)) (rising-from t b (i + 1))
+    ]
+
+-- ---- a place by itself
+
+-- the run at a place is the longest there, and there is no other
+run-at : (t : List ℕ) (i : ℕ) → i ≤ length t → IsRun t i (take_while is_word_byte (drop i t))
+run-at t i le =
+    let rest = drop i t in
+    let run = take_while is_word_byte rest in
+    let size = sym (length-append run (drop (length run) rest)) ∙ ap length (word-split rest) in
+    let same : take (length run) rest ≡ run = ap (take (length run)) (sym (word-split rest)) ∙ take-append_seam run (drop (length run) rest) in
+    record {
+      stands = OccursAt-true t run i
+          (and_from _ _ (le-leb _ _ (omega (arith, le, size, length-drop i t))) ((bytes_eq-Decides (take (length run) rest) run).1 same));
+      words = word-passes rest;
+      ends = ap is_word_byte (sym (get_or-drop i t (length run) 0)) ∙ word-stops rest;
+    }
+
+run-only : (t : List ℕ) (i : ℕ) (run : List ℕ) → IsRun t i run → take_while is_word_byte (drop i t) ≡ run
+run-only t i run is =
+    let end = i + length run in
+    let here : end + 0 ≡ end = omega arith in
+    ap (take_while is_word_byte) (sym (occurrence t run i is.stands))
+    ∙ word-is run (drop end t) is.words (ap is_word_byte (get_or-drop end t 0 0 ∙ ap (λ k. get_or t k 0) here) ∙ is.ends)
+
+-- the name of the word at a place is that of the run there
+name-at : (t : List ℕ) (i : ℕ) → OccursAt t prefix i → name_of_word (take_while is_word_byte (drop i t)) ≡ name_of (take_while is_word_byte (drop (i + 7) t))
+name-at t i stands =
+    let run = take_while is_word_byte (drop (i + 7) t) in
+    ap name_of_word (ap (take_while is_word_byte) (sym (occurrence t prefix i stands)) ∙ word-append prefix (drop (i + 7) t) refl) ∙ name_of_prefixed run
 
 name_of-is : (run x : List ℕ) → name_of run ≡ Some x → x ≡ less run
 unfolding name_of
@@ -38,152 +114,99 @@ name_of-is run x e = (elim (is_name (less run)) as (λ b. (if b then Some (less 
   | false ↦ λ same. absurd cc
 ]) e
 
-not-true : (b : Bool) → not b ≡ true → b ≡ false
-not-true false e = refl
-not-true true e = absurd cc
-
-begins-is : (t : List ℕ) (i : ℕ) → begins_word t i ≡ true → (i ≡ 0) ⊎ (is_word_byte (get_or t (i - 1) 0) ≡ false)
-begins-is t i e = ⊎_elim (λ first. inl (eqb-true i 0 first)) (λ other. inr (not-true (is_word_byte (get_or t (i - 1) 0)) other))
-    (or_cases (i == 0) (not (is_word_byte (get_or t (i - 1) 0))) e)
-
-begins-from : (t : List ℕ) (i : ℕ) → (i ≡ 0) ⊎ (is_word_byte (get_or t (i - 1) 0) ≡ false) → begins_word t i ≡ true
-begins-from t i e = ⊎_elim (λ first. or_left (i == 0) (not (is_word_byte (get_or t (i - 1) 0))) (eq-eqb i 0 first))
-    (λ other. or_right (i == 0) (not (is_word_byte (get_or t (i - 1) 0))) (ap not other)) e
-
-past-end : (t : List ℕ) (k : ℕ) → length t ≤ k → get_or t k 0 ≡ 0
-past-end [] k le = refl
-past-end (b ∷ t) zero le = absurd (omega arith)
-past-end (b ∷ t) (suc k) le = past-end t k (omega arith)
-
--- the run at a place is the longest there
-run-is : (t : List ℕ) (i : ℕ) → i ≤ length t → IsRun t i (run_at t i)
-run-is t i le =
-    let rest = drop i t in
-    let n = prefix_len is_word_byte rest in
-    let inside = prefix_len-le-length is_word_byte rest in
-    let size : length (run_at t i) ≡ n = length-take-le n rest inside in
-    let all = length-drop i t in
-    record {
-      stands = record {
-        fits = run_at-ends t i le;
-        reads = λ j below.
-            (let early : j < n = omega (arith, below, size) in
-            sym (get_or-drop i t j 0) ∙ sym (get_or-take n rest j 0 early));
-      };
-      words = word-passes rest;
-      ends = ap (λ k. is_word_byte (get_or t (i + k) 0)) size ∙ ap is_word_byte (sym (get_or-drop i t n 0)) ∙ ⊎_elim
-          (λ more. prefix_len_stops is_word_byte rest 0 more)
-          (λ end. ap is_word_byte (past-end rest n end))
-          (cases_lt n (length rest));
-    }
-
--- and there is no other
-run-only : (t : List ℕ) (i : ℕ) (run : List ℕ) → IsRun t i run → run_at t i ≡ run
-run-only t i run is =
-    let rest = drop i t in
-    let n = length run in
-    let same : take n rest ≡ run = (bytes_eq-Decides (take n rest) run).0 (and_parts _ _ (occurs_at-true t run i is.stands)).1 in
-    let fits = is.stands.fits in
-    let size = length-drop i t in
-    sym (word-is rest n (omega (arith, fits, size))
-    (λ k below. ap is_word_byte (get_or-drop i t k 0 ∙ is.stands.reads k below) ∙ AllPass-from_list_all is_word_byte run is.words k 0 below)
-    (λ _. ap is_word_byte (get_or-drop i t n 0) ∙ is.ends)) ∙ same
-
-taken-down : (t : List ℕ) (x : NameAt) → taken_at t x.place ≡ Some x → IsTaken t x
-taken-down t x e =
-    let is = taken_at-is t x.place x e in
-    let parts = and_parts (occurs_at t prefix x.place) (begins_word t x.place) is.0 in
-    let stands = OccursAt-true t prefix x.place parts.0 in
-    record {
-      place = record { stands = stands; begins = begins-is t x.place parts.1 };
-      run = run_at t (x.place + 7);
-      is_run = run-is t (x.place + 7) stands.fits;
-      name = name_of-is (run_at t (x.place + 7)) x.name is.2;
-      legal = name_of-legal (run_at t (x.place + 7)) x.name is.2;
-    }
-
 named : (run x : List ℕ) → x ≡ less run → is_name x ≡ true → name_of run ≡ Some x
 unfolding name_of
 named run x is legal = cond-true _ _ _ (ap is_name (sym is) ∙ legal) ∙ ap Some (sym is)
 
-taken-up : (t : List ℕ) (x : NameAt) → IsTaken t x → taken_at t x.place ≡ Some x
-taken-up t x is =
-    taken_at-place t x.place is.place.stands (begins-from t x.place is.place.begins)
-    ∙ ap (λ r. placed x.place (name_of r)) (run-only t (x.place + 7) is.run is.is_run)
-    ∙ ap (placed x.place) (named is.run x.name is.name is.legal)
+begins-is : (t : List ℕ) (i : ℕ) → is_word_byte (get_or (0 ∷ t) i 0) ≡ false → (i ≡ 0) ⊎ (is_word_byte (get_or t (i - 1) 0) ≡ false)
+begins-is t zero e = inl refl
+begins-is t (suc i) e = inr (ap is_word_byte (sym (byte-before 0 t (suc i) (omega arith))) ∙ e)
 
--- ---- the list
+begins-from : (t : List ℕ) (i : ℕ) → (i ≡ 0) ⊎ (is_word_byte (get_or t (i - 1) 0) ≡ false) → is_word_byte (get_or (0 ∷ t) i 0) ≡ false
+begins-from t zero e = refl
+begins-from t (suc i) e = ⊎_elim (λ first. absurd (omega (arith, first))) (λ stops. ap is_word_byte (byte-before 0 t (suc i) (omega arith)) ∙ stops) e
 
-cons-cases : (y : NameAt) (xs : List NameAt) (x : NameAt) → Contains (y ∷ xs) x → (y ≡ x) ⊎ Contains xs x
-cons-cases y xs x (zero, below, at) = inl at
-cons-cases y xs x (suc k, below, at) = inr (k, omega (arith, below), at)
+taken-down : (t : List ℕ) (x : NameAt) → HasName 0 t x.place x.name → IsTaken t x
+taken-down t x has =
+    let run = take_while is_word_byte (drop (x.place + 7) t) in
+    let stands : OccursAt t prefix x.place = starts-at t x.place (⊎_elim (λ same. same) (λ differs.
+    let none : None ≡ Some x.name = sym (unnamed (drop x.place t) differs) ∙ has.1 in
+    absurd cc) (cases_Bool (bytes_eq (take 7 (drop x.place t)) prefix))) in
+    let is = sym (name-at t x.place stands) ∙ has.1 in
+    record {
+      place = record { stands = stands; begins = begins-is t x.place has.0 };
+      run = run;
+      is_run = run-at t (x.place + 7) stands.fits;
+      name = name_of-is run x.name is;
+      legal = name_of-legal run x.name is;
+    }
 
-pub cons-in : (o : Option NameAt) (xs : List NameAt) (x : NameAt) → Contains xs x → Contains (cons_option o xs) x
-cons-in None xs x is = is
-cons-in (Some y) xs x (k, below, at) = (suc k, omega (arith, below), at)
-
-cons_option-cases : (o : Option NameAt) (xs : List NameAt) (x : NameAt) → Contains (cons_option o xs) x → (o ≡ Some x) ⊎ Contains xs x
-cons_option-cases None xs x is = inr is
-cons_option-cases (Some y) xs x is = ⊎_elim (λ same. inl (ap Some same)) (λ later. inr later) (cons-cases y xs x is)
-
--- each item is taken at its place, which isn't before the first
-pub listed-only : (t : List ℕ) (n i : ℕ) (x : NameAt) → Contains (taken_from t i n) x → (i ≤ x.place) × (taken_at t x.place ≡ Some x)
-unfolding taken_from
-listed-only t zero i x (k, below, at) = absurd (omega (arith, below))
-listed-only t (suc n) i x is = ⊎_elim
-    (λ here. let place = (taken_at-is t i x here).1 in (omega (arith, place), ap (taken_at t) place ∙ here))
-    (λ later. let rest = listed-only t n (i + 1) x later in (omega (arith, rest.0), rest.1))
-    (cons_option-cases (taken_at t i) (taken_from t (i + 1) n) x is)
-
--- and what is taken at one of the places is an item
-listed-all : (t : List ℕ) (n i : ℕ) (x : NameAt) → i ≤ x.place → x.place < i + n → taken_at t x.place ≡ Some x → Contains (taken_from t i n) x
-unfolding taken_from
-listed-all t zero i x low high is = absurd (omega (arith, low, high))
-listed-all t (suc n) i x low high is = ⊎_elim
-    (λ here.
-    let first : taken_at t i ≡ Some x = ap (taken_at t) (sym here) ∙ is in
-    first-in (taken_at t i) (taken_from t (i + 1) n) x first)
-    (λ other. cons-in (taken_at t i) (taken_from t (i + 1) n) x (listed-all t n (i + 1) x (omega (arith, low, other)) (omega (arith, high)) is))
-    (cases_eq x.place i)
-  where
-    first-in : (o : Option NameAt) (xs : List NameAt) (x : NameAt) → o ≡ Some x → Contains (cons_option o xs) x
-    first-in None xs x e = absurd cc
-    first-in (Some y) xs x e = let same : y ≡ x = cc in (zero, omega arith, same)
-
--- ---- the order
-
-rising-cons : (a : ℕ) (xs : List ℕ) → (0 < length xs → a < get_or xs 0 0) → IsStrictlyIncreasing xs → IsStrictlyIncreasing (a ∷ xs)
-rising-cons a xs first rising zero below = first (omega (arith, below))
-rising-cons a xs first rising (suc k) below =
-    let next : suc k + 1 ≡ suc (k + 1) = omega arith in
-    subst (λ (j : ℕ). get_or xs k 0 < get_or (a ∷ xs) j 0) (sym next) (rising k (omega (arith, below)))
-
-places : List NameAt → List ℕ
-places xs = map (λ x. x.place) xs
-
-first-place : (t : List ℕ) (n i : ℕ) → 0 < length (places (taken_from t i n)) → i ≤ get_or (places (taken_from t i n)) 0 0
-unfolding taken_from places
-first-place t zero i some = absurd (omega (arith, some))
-first-place t (suc n) i some = (elim (taken_at t i) as (λ o. taken_at t i ≡ o → 0 < length (places (cons_option o (taken_from t (i + 1) n)))
-    → i ≤ get_or (places (cons_option o (taken_from t (i + 1) n))) 0 0) [
-      | None ↦ λ _ more. let later = first-place t n (i + 1) more in omega (arith, later)
-      | (Some y) ↦ λ is _. let place = (taken_at-is t i y is).1 in omega (arith, place)
-    ]) refl some
-
-rising-from : (t : List ℕ) (n i : ℕ) → IsStrictlyIncreasing (places (taken_from t i n))
-unfolding taken_from places
-rising-from t zero i = λ k below. absurd (omega (arith, below))
-rising-from t (suc n) i = (elim (taken_at t i) as (λ o. taken_at t i ≡ o → IsStrictlyIncreasing (places (cons_option o (taken_from t (i + 1) n)))) [
-  | None ↦ λ _. rising-from t n (i + 1)
-  | (Some y) ↦ λ is. rising-cons y.place (places (taken_from t (i + 1) n)) (λ more. let later = first-place t n (i + 1) more in let place
-      = (taken_at-is t i y is).1 in omega (arith, later, place)) (rising-from t n (i + 1))
-]) refl
+taken-up : (t : List ℕ) (x : NameAt) → IsTaken t x → HasName 0 t x.place x.name
+taken-up t x is = (
+  begins-from t x.place is.place.begins,
+  name-at t x.place is.place.stands ∙ ap name_of (run-only t (x.place + 7) is.run is.is_run) ∙ named is.run x.name is.name is.legal,
+)
 
 -- What is listed of a text is what is taken of it, by rising place.
 pub lists-taken : (t : List ℕ) → ListsTaken t
 unfolding places
 lists-taken t = record {
-  only = λ x is. taken-down t x (listed-only t (length t - 0) 0 x is).1;
-  all = λ x is. (let fits = is.place.stands.fits in listed-all t (length t - 0) 0 x (omega arith) (omega (arith, fits)) (taken-up t x is));
-  rising = rising-from t (length t - 0) 0;
+  only = λ x is.
+      (let listed = listed-only t 0 0 x is in
+      let same : listed.0 ≡ x.place = omega (arith, listed.1) in
+      taken-down t x (subst (λ k. HasName 0 t k x.name) same listed.2));
+  all = λ x is. listed-all t 0 0 x.place x (omega arith) (taken-up t x is);
+  rising = rising-from t 0 0;
 }
+
+-- ---- which names are ended
+
+word-short : (b : ℕ) (u : List ℕ) → Ends b u → length (take_while is_word_byte (b ∷ u)) ≤ length u
+word-short b [] ends = omega (arith, ap length (word-none (b ∷ []) ends))
+word-short b (c ∷ u) ends = ⊎_elim
+    (λ yes. omega (arith, ap length (take_while-cons is_word_byte b (c ∷ u) ∙ cond-true _ _ _ yes), word-short c u ends))
+    (λ no. omega (arith, ap length (word-none (b ∷ c ∷ u) no)))
+    (cases_Bool (is_word_byte b))
+
+filter-placed : (p : NameAt → Bool) (i : ℕ) (name : Option (List ℕ)) → ((x : List ℕ) → p (record { place = i; name = x }) ≡ true)
+    → filter p (placed i name) ≡ placed i name
+filter-placed p i None passes = refl
+filter-placed p i (Some x) passes = cond-true _ _ _ (passes x)
+
+-- a byte comes after the words of a text before its last
+followed-left : (t u w : List ℕ) (before i : ℕ) → drop i t ≡ u ++ w → Ends before u → filter (is_followed t) (names_after before i u) ≡ names_after before i u
+unfolding names_after
+followed-left t [] w before i is ends = refl
+followed-left t (b ∷ u) w before i is ends =
+    let size = sym (length-drop i t) ∙ ap length is ∙ length-append (b ∷ u) w in
+    let word = ap (take_while is_word_byte) is ∙ word-left b u w ends in
+    let name = begun before (name_of_word (take_while is_word_byte (b ∷ u))) in
+    filter-append (is_followed t) (placed i name) (names_after b (i + 1) u)
+    ∙ ap₂ (λ l r. l ++ r)
+    (filter-placed (is_followed t) i name
+    (λ x. lt-ltb (i + length (take_while is_word_byte (drop i t))) (length t) (omega (arith, size, ap length word, word-short b u ends))))
+    (followed-left t u w b (i + 1) (sym (drop-drop 1 i t) ∙ ap (drop 1) is) ends)
+
+-- and the last word has none
+followed-right : (t : List ℕ) (name : Option (List ℕ)) → filter (is_followed t) (placed (length (before_last_word t)) name) ≡ []
+followed-right t None = refl
+followed-right t (Some name) =
+    let u = before_last_word t in
+    let w = last_word t in
+    let rest : drop (length u) t ≡ w = ap (drop (length u)) (sym (split t)) ∙ drop-append_seam u w in
+    let word : take_while is_word_byte (drop (length u) t) ≡ w =
+    ap (take_while is_word_byte) (rest ∙ sym (append-nil w)) ∙ word-is w [] (last_word-passes t) refl in
+    cond-false _ _ _ (le-ltb (length u + length (take_while is_word_byte (drop (length u) t))) (length t)
+    (omega (arith, ap length word, sym (length-append u w) ∙ ap length (split t))))
+
+-- What is ended in a text are the names of it whose word is followed by a byte.
+pub ended-followed : (t : List ℕ) → ended t ≡ filter (is_followed t) (taken t)
+ended-followed t =
+    let name = kept_name (kept t) in
+    let last = placed (length (before_last_word t)) name in
+    sym (
+    ap (filter (is_followed t)) (taken-finish t)
+    ∙ filter-append (is_followed t) (ended t) last
+    ∙ ap (λ l. l ++ filter (is_followed t) last) (followed-left t (before_last_word t) (last_word t) 0 0 (sym (split t)) (before-ends t))
+    ∙ ap (λ l. ended t ++ l) (followed-right t name)
+    ∙ append-nil (ended t))

@@ -9,9 +9,9 @@ use Rattle.ks_symbols.specs.Names.{is_word_byte, is_name, less, module_end}
 use Rattle.ks_fixdep.specs.Scan.{name_of}
 
 -- word bytes up to a byte that is none, or to the end, are the longest run
-pub word-is : (t : List ℕ) (n : ℕ) → n ≤ length t → ((k : ℕ) → k < n → is_word_byte (get_or t k 0) ≡ true)
+pub run-is : (t : List ℕ) (n : ℕ) → n ≤ length t → ((k : ℕ) → k < n → is_word_byte (get_or t k 0) ≡ true)
     → (n < length t → is_word_byte (get_or t n 0) ≡ false) → take n t ≡ take_while is_word_byte t
-word-is t n le pass stop = ap (λ m. take m t) (sym (prefix_len_is is_word_byte t n 0 le pass stop))
+run-is t n le pass stop = ap (λ m. take m t) (sym (prefix_len_is is_word_byte t n 0 le pass stop))
 
 pub list_all-take : (p : ℕ → Bool) (n : ℕ) (xs : List ℕ) → list_all p xs ≡ true → list_all p (take n xs) ≡ true
 list_all-take p n xs all = list_all-from_AllPass p (take n xs) (All-take (λ x. p x ≡ true) n xs (AllPass-from_list_all p xs all))

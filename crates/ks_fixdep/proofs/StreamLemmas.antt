@@ -1,50 +1,49 @@
--- The word that ends a text, and what is kept of it.
-use Rattle.std.proofs.Common.{◌≡◌, ℕ, zero, suc, ◌+◌, ◌-◌, ◌≤◌, ◌<◌, Bool, true, false, List, [], ◌∷◌, ◌++◌, length, take, drop, get_or, Option, Some, None, Bor, refl, sym, ap, subst, ◌∙◌, arith, inl, inr, ⊎_elim, length-drop, length-take-le, get_or-take, length-append, take-append-drop}
-use Rattle.std.proofs.lemmas.Bool.{cond_both, cond-true, cond-false, cases_Bool, cases_lt, cases_eq, and_from, le-leb, lt-leb}
-use Rattle.std.specs.Prelude.{◌⊎◌, nat_eq, ◌&&◌, if◌then◌else◌, IfSome, IsTrue}
-use Rattle.std.specs.Option.{option_copied}
-use Rattle.std.specs.List.{ends_with, list_all}
-use Rattle.std.specs.Str.{bytes_eq}
+-- The word that ends a text, and the names of a text that comes in pieces.
+use Rattle.std.proofs.Common.{◌≡◌, ℕ, zero, suc, ◌+◌, ◌-◌, ◌≤◌, ◌<◌, Bool, true, false, List, [], ◌∷◌, ◌++◌, length, take, drop, get_or, map, Option, Some, None, Bor, refl, sym, ap, ap₂, ◌∙◌, arith, ⊎_elim, append_assoc, append-nil, length-append, length-drop, length-take-le, get_or-drop, get_or-take, take-append-drop}
+use Rattle.std.proofs.Math.Seq.{take-append_seam}
+use Rattle.std.proofs.lemmas.Bool.{cond_both, cond-true, cond-false, cases_Bool, cases_lt, and_from, false≢true, le-leb, lt-leb}
+use Rattle.std.proofs.lemmas.List.{drop_all}
 use Rattle.std.proofs.lemmas.List.Folds.{list_all-append, list_all_at}
+use Rattle.std.specs.Prelude.{nat_eq, ◌&&◌, flat_map, if◌then◌else◌, IfSome, IsTrue}
+use Rattle.std.specs.Option.{option_copied}
+use Rattle.std.specs.List.{ends_with, list_all, take_while}
+use Rattle.std.specs.Str.{bytes_eq}
 use Rattle.ks_symbols.specs.Names.{is_word_byte, is_name, less, module_end}
-use Rattle.ks_fixdep.specs.Scan.{prefix, name_of}
-use Rattle.ks_fixdep.proofs.RunLemmas.{name_of-none, name_of-legal}
-use Rattle.ks_fixdep.specs.Stream.{last_word, before_last_word, name_of_word, within, lengthened, kept_name}
+use Rattle.ks_fixdep.specs.Scan.{NameAt, prefix, name_of, name_of_word, names_after, placed, taken}
+use Rattle.ks_fixdep.specs.Pieces.{LentInTurn, joined}
+use Rattle.ks_fixdep.specs.Stream.{last_word, before_last_word, within, kept, lengthened, kept_name, further, ended, lent_behind}
+use Rattle.ks_fixdep.proofs.NameLemmas.{ended-nil}
+use Rattle.ks_fixdep.proofs.RunLemmas.{name_of-none}
+use Rattle.ks_fixdep.proofs.ScanLemmas.{Ends, word-passes, word-split, word-stops, nameless, names_after-none, names_after-word, names_after-cut, names_after-further, name_of_word-legal}
+
+-- ---- a text is what stands before its last word, and that word
 
 and-false : (x : Bool) → (x && false) ≡ false
 and-false true = refl
 and-false false = refl
 
-drop_nil : (n : ℕ) → drop {A = ℕ} n [] ≡ []
-drop_nil zero = refl
-drop_nil (suc n) = refl
+ends-other : (b : ℕ) (u w : List ℕ) → Ends b u → list_all is_word_byte (b ∷ (u ++ w)) ≡ false
+ends-other b [] w ends = ap (λ x. x && list_all is_word_byte w) ends
+ends-other b (c ∷ u) w ends = ap (λ x. is_word_byte b && x) (ends-other c u w ends) ∙ and-false (is_word_byte b)
 
-pub last_word-nil : last_word [] ≡ []
-unfolding last_word
-last_word-nil = refl
+-- word bytes at the end, after a byte that is none, are its last word
+pub last_word-is : (u w : List ℕ) (c : ℕ) → list_all is_word_byte w ≡ true → Ends c u → (last_word (u ++ w) ≡ w) × (before_last_word (u ++ w) ≡ u)
+unfolding last_word before_last_word
+last_word-is [] [] c all ends = (refl, refl)
+last_word-is [] (b ∷ w) c all ends = (cond-true _ _ _ all, cond-true _ _ _ all)
+last_word-is (b ∷ u) w c all ends =
+    let rest = last_word-is u w b all ends in
+    let other = ends-other b u w ends in
+    (cond-false _ _ _ other ∙ rest.0, cond-false _ _ _ other ∙ ap (λ l. b ∷ l) rest.1)
 
-pub last_word-all : (t : List ℕ) → list_all is_word_byte t ≡ true → last_word t ≡ t
-unfolding last_word
-last_word-all [] all = refl
-last_word-all (b ∷ t) all = cond-true _ _ _ all
-
-last_word-more : (b : ℕ) (t : List ℕ) → list_all is_word_byte (b ∷ t) ≡ false → last_word (b ∷ t) ≡ last_word t
-unfolding last_word
-last_word-more b t not_all = cond-false _ _ _ not_all
-
--- word bytes at the end, behind a byte that is none
-pub last_word-is : (t : List ℕ) (n : ℕ) → n ≤ length t → list_all is_word_byte (drop n t) ≡ true → (0 < n → is_word_byte (get_or t (n - 1) 0) ≡ false)
-    → last_word t ≡ drop n t
-last_word-is t zero le all stop = last_word-all t all
-last_word-is [] (suc n) le all stop = absurd (omega arith)
-last_word-is (b ∷ t) (suc n) le all stop =
-    let at : suc n - 1 ≡ n = omega arith in
-    let stops : is_word_byte (get_or (b ∷ t) n 0) ≡ false = ap (λ k. is_word_byte (get_or (b ∷ t) k 0)) (sym at) ∙ stop (omega arith) in
-    let inside : n < length (b ∷ t) = omega arith in
-    last_word-more b t (list_all_at is_word_byte (b ∷ t) n 0 inside stops)
-    ∙ last_word-is t n (omega arith) all (λ some.
-    let back : suc (n - 1) ≡ n = omega arith in
-    ap (λ k. is_word_byte (get_or (b ∷ t) k 0)) back ∙ stops)
+pub split : (t : List ℕ) → before_last_word t ++ last_word t ≡ t
+unfolding last_word before_last_word
+split [] = refl
+split (b ∷ t) = elim (list_all is_word_byte (b ∷ t))
+    as (λ x. (if x then [] else b ∷ before_last_word t) ++ (if x then b ∷ t else last_word t) ≡ b ∷ t) [
+      | true ↦ refl
+      | false ↦ ap (λ l. b ∷ l) (split t)
+    ]
 
 pub last_word-passes : (t : List ℕ) → list_all is_word_byte (last_word t) ≡ true
 unfolding last_word
@@ -52,101 +51,70 @@ last_word-passes [] = refl
 last_word-passes (b ∷ t) =
     cond_both (list_all is_word_byte (b ∷ t)) (b ∷ t) (last_word t) (λ w. list_all is_word_byte w ≡ true) (λ all. all) (λ _. last_word-passes t)
 
--- more word bytes lengthen the word
-pub last_word-append : (t p : List ℕ) → list_all is_word_byte p ≡ true → last_word (t ++ p) ≡ last_word t ++ p
-last_word-append [] p all = last_word-all p all ∙ ap (λ w. w ++ p) (sym last_word-nil)
-last_word-append (b ∷ t) p all =
-    ⊎_elim
-    (λ yes.
-    let whole : list_all is_word_byte ((b ∷ t) ++ p) ≡ true = list_all-append is_word_byte (b ∷ t) p ∙ and_from _ _ yes all in
-    last_word-all ((b ∷ t) ++ p) whole ∙ ap (λ w. w ++ p) (sym (last_word-all (b ∷ t) yes)))
-    (λ no.
-    let part : list_all is_word_byte ((b ∷ t) ++ p) ≡ false = list_all-append is_word_byte (b ∷ t) p ∙ ap (λ x. x && list_all is_word_byte p) no in
-    last_word-more b (t ++ p) part ∙ last_word-append t p all ∙ ap (λ w. w ++ p) (sym (last_word-more b t no)))
-    (cases_Bool (list_all is_word_byte (b ∷ t)))
-
--- where another byte comes, the word begins behind it
-pub last_word-fresh : (t p : List ℕ) → list_all is_word_byte p ≡ false → last_word (t ++ p) ≡ last_word p
-last_word-fresh [] p not_all = refl
-last_word-fresh (b ∷ t) p not_all =
-    let part : list_all is_word_byte ((b ∷ t) ++ p) ≡ false = list_all-append is_word_byte (b ∷ t) p ∙ ap (λ x. list_all is_word_byte (b ∷ t) && x) not_all ∙
-    and-false (list_all is_word_byte (b ∷ t)) in
-    last_word-more b (t ++ p) part ∙ last_word-fresh t p not_all
-
--- the text is what stands before its last word, and that word
-pub length-last_word : (t : List ℕ) → length (last_word t) ≤ length t
-length-last_word [] = subst (λ (w : List ℕ). length w ≤ 0) (sym last_word-nil) (omega arith)
-length-last_word (b ∷ t) = ⊎_elim
-    (λ yes. omega (arith, ap length (last_word-all (b ∷ t) yes)))
-    (λ no. omega (arith, ap length (last_word-more b t no), length-last_word t))
-    (cases_Bool (list_all is_word_byte (b ∷ t)))
-
-pub drop-last_word : (t : List ℕ) → drop (length t - length (last_word t)) t ≡ last_word t
-unfolding last_word
-drop-last_word [] = drop_nil (length {A = ℕ} [] - length (last_word []))
-drop-last_word (b ∷ t) = ⊎_elim
-    (λ yes.
-    let whole = last_word-all (b ∷ t) yes in
-    let none : length (b ∷ t) - length (last_word (b ∷ t)) ≡ 0 = omega (arith, ap length whole) in
-    ap (λ n. drop n (b ∷ t)) none ∙ sym whole)
-    (λ no.
-    let later = last_word-more b t no in
-    let count : length (b ∷ t) - length (last_word (b ∷ t)) ≡ suc (length t - length (last_word t)) = omega (arith, ap length later, length-last_word t) in
-    ap (λ n. drop n (b ∷ t)) count ∙ drop-last_word t ∙ sym later)
-    (cases_Bool (list_all is_word_byte (b ∷ t)))
-
-pub split-last_word : (t : List ℕ) → before_last_word t ++ last_word t ≡ t
-split-last_word t =
-    let n = length t - length (last_word t) in
-    ap (λ w. take n t ++ w) (sym (drop-last_word t)) ∙ take-append-drop n t
-
-pub length-before_last_word : (t : List ℕ) → length (before_last_word t) + length (last_word t) ≡ length t
-length-before_last_word t = sym (length-append (before_last_word t) (last_word t)) ∙ ap length (split-last_word t)
-
 only-first : (x y : Bool) → (x && y) ≡ false → y ≡ true → x ≡ false
 only-first false y e f = refl
 only-first true y e f = sym (cc)
 
--- a byte that is no word byte ends what stands before the last word, or nothing stands there
-stops-at : (t : List ℕ) → is_word_byte (get_or t (length t - length (last_word t) - 1) 0) ≡ false ⊎ (length t ≡ length (last_word t))
-stops-at [] = inr (sym (ap length last_word-nil))
-stops-at (b ∷ t) = ⊎_elim
-    (λ yes. inr (sym (ap length (last_word-all (b ∷ t) yes))))
-    (λ no.
-    let later = ap length (last_word-more b t no) in
-    ⊎_elim
-    (λ same.
-    let none : length t - length (last_word t) ≡ 0 = omega (arith, same) in
-    let whole : t ≡ last_word t = ap (λ n. drop n t) (sym none) ∙ drop-last_word t in
-    let all : list_all is_word_byte t ≡ true = ap (list_all is_word_byte) whole ∙ last_word-passes t in
-    let first : suc (length t) - length (last_word (b ∷ t)) - 1 ≡ 0 = omega (arith, same, later) in
-    inl (ap (λ n. is_word_byte (get_or (b ∷ t) n 0)) first ∙ only-first (is_word_byte b) (list_all is_word_byte t) no all))
-    (λ differ.
-    let shorter : length (last_word t) < length t = omega (arith, differ, length-last_word t) in
-    let next : suc (length t) - length (last_word (b ∷ t)) - 1 ≡ suc (length t - length (last_word t) - 1) = omega (arith, later, shorter) in
-    ⊎_elim
-    (λ stops. inl (ap (λ n. is_word_byte (get_or (b ∷ t) n 0)) next ∙ stops))
-    (λ same. absurd (omega arith))
-    (stops-at t))
-    (cases_eq (length t) (length (last_word t))))
-    (cases_Bool (list_all is_word_byte (b ∷ t)))
+before-all : (t : List ℕ) → list_all is_word_byte t ≡ true → before_last_word t ≡ []
+before-all t all = (last_word-is [] t 0 all refl).1
 
-pub before_last_word-stops : (t : List ℕ) → is_word_byte (get_or (before_last_word t) (length (before_last_word t) - 1) 0) ≡ false
-before_last_word-stops t =
-    let n = length t - length (last_word t) in
-    let size : length (take n t) ≡ n = length-take-le n t (omega arith) in
-    ⊎_elim
-    (λ none.
-    let empty : n ≡ 0 = none in
-    ap (λ k. is_word_byte (get_or (take k t) (length (take k t) - 1) 0)) empty ∙ refl)
-    (λ some.
-    let inside : n - 1 < n = omega (arith, some) in
-    ap (λ k. is_word_byte (get_or (take n t) (k - 1) 0)) size
-    ∙ ap is_word_byte (get_or-take n t (n - 1) 0 inside)
-    ∙ ⊎_elim (λ stops. stops) (λ same. absurd (omega (arith, some, same))) (stops-at t))
-    (cases_eq n 0)
+before-other : (t : List ℕ) (c : ℕ) → list_all is_word_byte t ≡ false → Ends c (before_last_word t)
+unfolding before_last_word
+before-other [] c other = absurd (false≢true (sym other))
+before-other (b ∷ t) c other =
+    ap (λ u. is_word_byte (get_or (c ∷ u) (length u) 0)) (cond-false _ _ _ other)
+    ∙ ⊎_elim
+    (λ all. ap (λ u. is_word_byte (get_or (b ∷ u) (length u) 0)) (before-all t all) ∙ only-first (is_word_byte b) (list_all is_word_byte t) other all)
+    (λ more. before-other t b more)
+    (cases_Bool (list_all is_word_byte t))
 
--- ---- what is kept
+pub before-ends : (t : List ℕ) → Ends 0 (before_last_word t)
+before-ends t = ⊎_elim (λ all. ap (λ u. is_word_byte (get_or (0 ∷ u) (length u) 0)) (before-all t all)) (λ other. before-other t 0 other)
+    (cases_Bool (list_all is_word_byte t))
+
+-- as slices of the text
+pub last_word-at : (t : List ℕ) (n : ℕ) → n ≤ length t → list_all is_word_byte (drop n t) ≡ true → (0 < n → is_word_byte (get_or t (n - 1) 0) ≡ false)
+    → last_word t ≡ drop n t
+last_word-at t n le all stop =
+    ap last_word (sym (take-append-drop n t))
+    ∙ (last_word-is (take n t) (drop n t) 0 all (ap (λ k. is_word_byte (get_or (0 ∷ take n t) k 0)) (length-take-le n t le) ∙ at n (omega arith) stop)).0
+  where
+    at : (m : ℕ) → m ≤ n → (0 < m → is_word_byte (get_or t (m - 1) 0) ≡ false) → is_word_byte (get_or (0 ∷ take n t) m 0) ≡ false
+    at zero le stop = refl
+    at (suc m) le stop =
+        let back : m ≡ suc m - 1 = omega arith in
+        ap is_word_byte (get_or-take n t m 0 (omega arith) ∙ ap (λ k. get_or t k 0) back) ∙ stop (omega arith)
+
+pub before-take : (t : List ℕ) → take (length t - length (last_word t)) t ≡ before_last_word t
+before-take t =
+    let sizes = sym (length-append (before_last_word t) (last_word t)) ∙ ap length (split t) in
+    let count : length t - length (last_word t) ≡ length (before_last_word t) = omega (arith, sizes) in
+    ap (λ n. take n t) count ∙ ap (take (length (before_last_word t))) (sym (split t)) ∙ take-append_seam (before_last_word t) (last_word t)
+
+-- more word bytes lengthen the word
+longer : (t p : List ℕ) → list_all is_word_byte p ≡ true → (last_word (t ++ p) ≡ last_word t ++ p) × (before_last_word (t ++ p) ≡ before_last_word t)
+longer t p all =
+    let whole = sym (append_assoc (before_last_word t) (last_word t) p) ∙ ap (λ l. l ++ p) (split t) in
+    let passes = list_all-append is_word_byte (last_word t) p ∙ and_from _ _ (last_word-passes t) all in
+    let is = last_word-is (before_last_word t) (last_word t ++ p) 0 passes (before-ends t) in
+    (ap last_word (sym whole) ∙ is.0, ap before_last_word (sym whole) ∙ is.1)
+
+-- and where another byte comes, the word begins after it
+ends-append : (t u : List ℕ) (c : ℕ) → ((b : ℕ) → Ends b u) → Ends c (t ++ u)
+ends-append [] u c ends = ends c
+ends-append (b ∷ t) u c ends = ends-append t u b ends
+
+fresh : (t p : List ℕ) → list_all is_word_byte p ≡ false → (last_word (t ++ p) ≡ last_word p) × (before_last_word (t ++ p) ≡ t ++ before_last_word p)
+fresh t p other =
+    let whole = append_assoc t (before_last_word p) (last_word p) ∙ ap (λ l. t ++ l) (split p) in
+    let is = last_word-is (t ++ before_last_word p) (last_word p) 0 (last_word-passes p) (ends-append t (before_last_word p) 0 (λ b. before-other p b other)) in
+    (ap last_word (sym whole) ∙ is.0, ap before_last_word (sym whole) ∙ is.1)
+
+-- ---- what is kept of a text
+
+pub kept-nil : kept [] ≡ Some []
+unfolding last_word
+kept-nil = refl
 
 length-less : (r : List ℕ) → length r ≤ length (less r) + 7
 length-less r =
@@ -154,7 +122,7 @@ length-less r =
     cond_both (ends_with nat_eq r module_end) (take (length r - 7) r) r (λ x. length r ≤ length x + 7) (λ _. omega arith) (λ _. omega arith)
 
 -- a word over 142 bytes has no name
-pub name_of_word-long : (w : List ℕ) → 142 < length w → name_of_word w ≡ None
+name_of_word-long : (w : List ℕ) → 142 < length w → name_of_word w ≡ None
 unfolding name_of_word
 name_of_word-long w long =
     let run = drop 7 w in
@@ -163,7 +131,7 @@ name_of_word-long w long =
     (λ _. name_of-none run (λ low high. omega (arith, length-less run)))
     (λ _. refl)
 
-pub within-lengthened : (w p : List ℕ) → lengthened (within w) p ≡ within (w ++ p)
+within-lengthened : (w p : List ℕ) → lengthened (within w) p ≡ within (w ++ p)
 within-lengthened w p =
     ⊎_elim
     (λ long.
@@ -174,21 +142,131 @@ within-lengthened w p =
     (λ short. ap (λ k. lengthened k p) (cond-true _ _ _ (le-leb _ _ short)))
     (cases_lt 142 (length w))
 
-pub kept_name-within : (w : List ℕ) → kept_name (within w) ≡ name_of_word w
+kept_name-within : (w : List ℕ) → kept_name (within w) ≡ name_of_word w
 kept_name-within w =
     ⊎_elim
     (λ long. ap kept_name (cond-false _ _ _ (lt-leb _ _ long)) ∙ sym (name_of_word-long w long))
     (λ short. ap kept_name (cond-true _ _ _ (le-leb _ _ short)))
     (cases_lt 142 (length w))
 
--- the name of a word is legal
-name_of_word-legal : (w x : List ℕ) → name_of_word w ≡ Some x → is_name x ≡ true
-unfolding name_of_word
-name_of_word-legal w x e = elim (bytes_eq (take 7 w) prefix) as (λ b. (if b then name_of (drop 7 w) else None) ≡ Some x → is_name x ≡ true) [
-  | true ↦ λ same. name_of-legal (drop 7 w) x same
-  | false ↦ λ same. absurd cc
-] e
-
 pub lent-legal : (w : List ℕ) (lent : Option (Bor (List ℕ))) → option_copied lent ≡ name_of_word w → IfSome lent (λ name. IsTrue (is_name name.now))
 lent-legal w None is = tt
 lent-legal w (Some name) is = name_of_word-legal w name.now (sym is)
+
+-- ---- what is lent
+
+-- a word, and a text after it
+names-word : (w v : List ℕ) (i : ℕ) → list_all is_word_byte w ≡ true → is_word_byte (get_or v 0 0) ≡ false
+    → names_after 0 i (w ++ v) ≡ placed i (name_of_word w) ++ names_after 0 (i + length w) v
+names-word [] v i all stops =
+    let place : i ≡ i + 0 = omega arith in
+    ap (λ k. names_after 0 k v) place ∙ ap (λ name. placed i name ++ names_after 0 (i + 0) v) (sym nameless)
+names-word (b ∷ w) v i all stops = names_after-word b w v 0 i all stops
+
+-- a text, word bytes after it, and a byte that is none, or the end
+taken-longer : (t h v : List ℕ) → list_all is_word_byte h ≡ true → is_word_byte (get_or v 0 0) ≡ false
+    → taken (t ++ (h ++ v)) ≡ ended t ++ lent_behind t (kept_name (lengthened (kept t) h)) (names_after 0 (length h) v)
+taken-longer t h v all stops =
+    let u = before_last_word t in
+    let w = last_word t ++ h in
+    let place : 0 + length u ≡ length u = omega arith in
+    let sizes = sym (length-append u (last_word t)) ∙ ap length (split t) in
+    let end : length u + length w ≡ length t + length h = omega (arith, sizes, length-append (last_word t) h) in
+    let whole : t ++ (h ++ v) ≡ u ++ (w ++ v) = ap (λ l. l ++ (h ++ v)) (sym (split t)) ∙ simp append_assoc in
+    let passes : list_all is_word_byte w ≡ true = list_all-append is_word_byte (last_word t) h ∙ and_from _ _ (last_word-passes t) all in
+    let name : kept_name (lengthened (kept t) h) ≡ name_of_word w = ap kept_name (within-lengthened (last_word t) h) ∙ kept_name-within w in
+    ap taken whole
+    ∙ names_after-cut u (w ++ v) 0 0 (before-ends t)
+    ∙ ap (λ l. taken u ++ l) (
+    ap (λ k. names_after 0 k (w ++ v)) place
+    ∙ names-word w v (length u) passes stops
+    ∙ ap₂ (λ n k. placed (length u) n ++ names_after 0 k v) (sym name) end
+    ∙ ap (λ l. placed (length u) (kept_name (lengthened (kept t) h)) ++ l) (names_after-further (length t) 0 (length h) v))
+
+-- at the end of a text
+pub taken-finish : (t : List ℕ) → taken t ≡ ended t ++ placed (length (before_last_word t)) (kept_name (kept t))
+taken-finish t =
+    let place = length (before_last_word t) in
+    let same : lengthened (kept t) [] ≡ kept t = within-lengthened (last_word t) [] ∙ ap within (append-nil (last_word t)) in
+    ap taken (sym (append-nil t))
+    ∙ taken-longer t [] [] refl refl
+    ∙ ap₂ (λ k l. ended t ++ (placed place (kept_name k) ++ map (further (length t)) l)) same (names_after-none 0 0)
+    ∙ ap (λ l. ended t ++ l) (append-nil (placed place (kept_name (kept t))))
+
+-- What `feed` does with a piece: the word bytes at its beginning, and what comes after them.
+head-split : (p head : List ℕ) → head ≡ take_while is_word_byte p → head ++ drop (length head) p ≡ p
+head-split p head is = ap (λ h. h ++ drop (length h) p) is ∙ word-split p
+
+pub head-whole : (p head : List ℕ) → head ≡ take_while is_word_byte p → length head ≡ length p → head ≡ p
+head-whole p head is whole =
+    let none : drop (length head) p ≡ [] = drop_all (length head) p (omega (arith, whole)) in
+    sym (append-nil head) ∙ ap (λ l. head ++ l) (sym none) ∙ head-split p head is
+
+-- where they are all of it, nothing is lent
+pub word-kept : (t p : List ℕ) → list_all is_word_byte p ≡ true → lengthened (kept t) p ≡ kept (t ++ p)
+word-kept t p all = within-lengthened (last_word t) p ∙ ap within (sym (longer t p all).0)
+
+pub word-lends : (t p : List ℕ) → list_all is_word_byte p ≡ true → ended (t ++ p) ≡ ended t ++ lent_behind t None (names_after 0 (length p) (drop (length p) p))
+word-lends t p all =
+    ap taken (longer t p all).1
+    ∙ sym (append-nil (ended t))
+    ∙ ap (λ l. ended t ++ map (further (length t)) l)
+    (sym (ap (names_after 0 (length p)) (drop_all (length p) p (omega arith)) ∙ names_after-none 0 (length p)))
+
+before-stops : (r : List ℕ) → is_word_byte (get_or r 0 0) ≡ false → is_word_byte (get_or (before_last_word r) 0 0) ≡ false
+unfolding before_last_word
+before-stops [] stops = refl
+before-stops (b ∷ r) stops =
+    cond_both (list_all is_word_byte (b ∷ r)) [] (b ∷ before_last_word r) (λ l. is_word_byte (get_or l 0 0) ≡ false) (λ _. refl) (λ _. stops)
+
+module _ (p head : List ℕ) (is : head ≡ take_while is_word_byte p) (short : length head < length p) where
+  abbrev rest : List ℕ
+  rest = drop (length head) p
+
+  stops : is_word_byte (get_or p (length head) 0) ≡ false
+  stops = ap (λ h. is_word_byte (get_or p (length h) 0)) is ∙ word-stops p
+
+  rest-stops : is_word_byte (get_or rest 0 0) ≡ false
+  rest-stops =
+      let here : length head + 0 ≡ length head = omega arith in
+      ap is_word_byte (get_or-drop (length head) p 0 0 ∙ ap (λ n. get_or p n 0) here) ∙ stops
+
+  other : list_all is_word_byte p ≡ false
+  other = list_all_at is_word_byte p (length head) 0 short stops
+
+  before-piece : before_last_word p ≡ head ++ before_last_word rest
+  before-piece =
+      ap before_last_word (sym (head-split p head is))
+      ∙ (fresh head rest (list_all_at is_word_byte rest 0 0 (omega (arith, short, length-drop (length head) p)) rest-stops)).1
+
+  pub piece-front : (tail : List ℕ) → tail ≡ last_word p → take (length p - length tail) p ≡ head ++ before_last_word rest
+  piece-front tail last = ap (λ w. take (length p - length w) p) last ∙ before-take p ∙ before-piece
+
+  pub piece-kept : (t tail : List ℕ) → tail ≡ last_word p → lengthened (Some []) tail ≡ kept (t ++ p)
+  piece-kept t tail last = ap within (last ∙ sym (fresh t p other).0)
+
+  pub piece-lends : (t : List ℕ) → ended (t ++ p) ≡ ended t ++ lent_behind t (kept_name (lengthened (kept t) head))
+      (names_after 0 (length head) (before_last_word rest))
+  piece-lends t =
+      ap taken ((fresh t p other).1 ∙ ap (λ l. t ++ l) before-piece)
+      ∙ taken-longer t head (before_last_word rest) (ap (list_all is_word_byte) is ∙ word-passes p) (before-stops rest rest-stops)
+
+-- ---- pieces in turn
+
+lent-whole : (before : List ℕ) (pieces : List (List ℕ)) (lent : List (List NameAt)) → LentInTurn before pieces lent → ended before ++ flat_map (λ xs. xs) lent
+    ≡ ended (before ++ joined pieces)
+lent-whole before [] [] turns = append-nil (ended before) ∙ ap ended (sym (append-nil before))
+lent-whole before [] (xs ∷ lent) turns = absurd turns
+lent-whole before (p ∷ ps) [] turns = absurd turns
+lent-whole before (p ∷ ps) (xs ∷ lent) turns =
+    sym (append_assoc (ended before) xs (flat_map (λ xs. xs) lent))
+    ∙ ap (λ l. l ++ flat_map (λ xs. xs) lent) (sym turns.0)
+    ∙ lent-whole (before ++ p) ps lent turns.1
+    ∙ ap ended (append_assoc before p (joined ps))
+
+-- What is lent for the pieces in turn, and last at the end, is what the joined text has.
+pub pieces-whole : (pieces : List (List ℕ)) (lent : List (List NameAt)) (last : List NameAt) → LentInTurn [] pieces lent → taken (joined pieces)
+    ≡ ended (joined pieces) ++ last
+    → flat_map (λ xs. xs) lent ++ last ≡ taken (joined pieces)
+pieces-whole pieces lent last turns end =
+    ap (λ l. (l ++ flat_map (λ xs. xs) lent) ++ last) (sym ended-nil) ∙ ap (λ l. l ++ last) (lent-whole [] pieces lent turns) ∙ sym end

@@ -1,17 +1,19 @@
 -- A text that is fed in pieces, against the scan of the whole.
-use Rattle.std.specs.Prelude.{◌≡◌, ◌++◌, ℕ, List, [], ◌∷◌, Bool, nat_lt, ◌+◌, filter, length, flat_map}
-use Rattle.ks_fixdep.specs.Scan.{NameAt, run_at, taken}
+use Rattle.std.specs.Prelude.{◌≡◌, ◌++◌, ℕ, List, [], ◌∷◌, Bool, nat_lt, ◌+◌, drop, filter, length, flat_map}
+use Rattle.std.specs.List.{take_while}
+use Rattle.ks_symbols.specs.Names.{is_word_byte}
+use Rattle.ks_fixdep.specs.Scan.{NameAt, taken}
 use Rattle.ks_fixdep.specs.Stream.{ended}
 
--- a byte of the text follows the run of x
+-- a byte of the text follows the word of x
 abbrev pub is_followed : List ℕ → NameAt → Bool
-is_followed t x = nat_lt (x.place + 7 + length (run_at t (x.place + 7))) (length t)
+is_followed t x = nat_lt (x.place + length (take_while is_word_byte (drop x.place t))) (length t)
 
--- what is ended in a text are the names of it whose run is followed by a byte
+-- what is ended in a text are the names of it whose word is followed by a byte
 abbrev pub EndedAreFollowed : Type 0
 EndedAreFollowed = (t : List ℕ) → ended t ≡ filter (is_followed t) (taken t)
 
--- each list was lent for its piece: behind what was ended before, it is what is ended now
+-- each list was lent for its piece: after what was ended before, it is what is ended now
 abbrev pub LentInTurn : List ℕ → List (List ℕ) → List (List NameAt) → Type 0
 LentInTurn before [] [] = Unit {0}
 LentInTurn before [] (xs ∷ lent) = ⊥

@@ -11,13 +11,13 @@ pub record IsPlace (t : List ℕ) (i : ℕ) : Type 0 where
   pub stands : OccursAt t prefix i
   pub begins : (i ≡ 0) ⊎ (is_word_byte (slice_index t (i - 1)) ≡ false)
 
--- the longest run of word bytes from place i on; what is behind the end of the text is no word byte
+-- the longest run of word bytes from place i on; what is after the end of the text is no word byte
 pub record IsRun (t : List ℕ) (i : ℕ) (run : List ℕ) : Type 0 where
   pub stands : OccursAt t run i
   pub words : IsTrue (list_all is_word_byte run)
   pub ends : is_word_byte (slice_index t (i + length run)) ≡ false
 
--- x is taken: at its place, with the run behind `CONFIG_` less one final `_MODULE` as its legal name
+-- x is taken: at its place, with the run after `CONFIG_` less one final `_MODULE` as its legal name
 pub record IsTaken (t : List ℕ) (x : NameAt) : Type 0 where
   pub place : IsPlace t x.place
   pub run : List ℕ

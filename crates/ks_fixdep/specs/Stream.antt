@@ -1,9 +1,8 @@
 -- A text that comes in pieces: which names are complete so far, and what has to be kept of it.
-use Rattle.std.specs.Prelude.{ℕ, ◌+◌, ◌-◌, nat_le, List, [], ◌∷◌, ◌++◌, Option, Some, None, length, map, take, drop, if◌then◌else◌}
+use Rattle.std.specs.Prelude.{ℕ, ◌+◌, nat_le, List, [], ◌∷◌, ◌++◌, Option, Some, None, length, map, if◌then◌else◌}
 use Rattle.std.specs.List.{list_all}
-use Rattle.std.specs.Str.{bytes_eq}
 use Rattle.ks_symbols.specs.Names.{is_word_byte}
-use Rattle.ks_fixdep.specs.Scan.{prefix, name_of, NameAt, taken}
+use Rattle.ks_fixdep.specs.Scan.{NameAt, name_of_word, placed, taken}
 
 -- the run of word bytes that ends t
 unfoldable pub last_word : List ℕ → List ℕ
@@ -11,12 +10,9 @@ last_word [] = []
 last_word (b ∷ t) = if list_all is_word_byte (b ∷ t) then b ∷ t else last_word t
 
 -- what stands before it
-abbrev pub before_last_word : List ℕ → List ℕ
-before_last_word t = take (length t - length (last_word t)) t
-
--- the name of a whole word, if it has one
-unfoldable pub name_of_word : List ℕ → Option (List ℕ)
-name_of_word w = if bytes_eq (take 7 w) prefix then name_of (drop 7 w) else None
+unfoldable pub before_last_word : List ℕ → List ℕ
+before_last_word [] = []
+before_last_word (b ∷ t) = if list_all is_word_byte (b ∷ t) then [] else b ∷ before_last_word t
 
 -- a word as far as a name can come of it: `CONFIG_`, a name and `_MODULE` are at most 142 bytes
 abbrev pub within : List ℕ → Option (List ℕ)
@@ -26,7 +22,7 @@ within w = if nat_le (length w) 142 then Some w else None
 abbrev pub kept : List ℕ → Option (List ℕ)
 kept t = within (last_word t)
 
--- a kept word, and bytes behind it
+-- a kept word, and bytes after it
 abbrev pub lengthened : Option (List ℕ) → List ℕ → Option (List ℕ)
 lengthened None bytes = None
 lengthened (Some w) bytes = within (w ++ bytes)
@@ -44,14 +40,9 @@ further n x = record { place = n + x.place; name = x.name }
 abbrev pub ended : List ℕ → List NameAt
 ended t = taken (before_last_word t)
 
--- a name at place i, or nothing
-abbrev pub carried_at : ℕ → Option (List ℕ) → List NameAt
-carried_at i None = []
-carried_at i (Some x) = record { place = i; name = x } ∷ []
-
--- what is lent behind a text: the name that began in its last word, and those that begin later, counted from its end
+-- what is lent after a text: the name that began in its last word, and those that begin later, counted from its end
 abbrev pub lent_behind : List ℕ → Option (List ℕ) → List NameAt → List NameAt
-lent_behind t carried names = carried_at (length (before_last_word t)) carried ++ map (further (length t)) names
+lent_behind t carried names = placed (length (before_last_word t)) carried ++ map (further (length t)) names
 
 -- a name as a list of at most one
 abbrev pub list_of : Option (List ℕ) → List (List ℕ)

@@ -1,12 +1,12 @@
 //! Runs of word bytes, and the names that they have. The source of these rules is scripts/basic/fixdep.c:
-//! the name is the run behind `CONFIG_`, and `FOO_MODULE` is the macro of FOO built as a module. A name
+//! the name is the run after `CONFIG_`, and `FOO_MODULE` is the macro of FOO built as a module. A name
 //! longer than any that can be declared is passed over, so that no file name comes of it.
 ghost use Rattle.std.specs.Prelude.{◌≡◌, ◌≤◌, length, IsTrue, IfSome};
 ghost use Rattle.std.specs.List.{list_all, take_while};
 ghost use Rattle.std.specs.Option.{option_copied};
 ghost use Rattle.ks_symbols.specs.Names.{is_word_byte, is_name, less};
-ghost use Rattle.ks_fixdep.specs.Scan.{name_of};
-ghost use Rattle.ks_fixdep.specs.Stream.{last_word, name_of_word};
+ghost use Rattle.ks_fixdep.specs.Scan.{name_of, name_of_word};
+ghost use Rattle.ks_fixdep.specs.Stream.{last_word};
 
 pub(crate) const PREFIX: &[u8] = b"CONFIG_";
 
@@ -72,7 +72,7 @@ pub(crate) fn name_of_run(run: &[u8]) -> Option<&[u8]>
 }
 
 /// The name of a whole word, if it has one.
-#[tactic(auto, unfolding(crate::specs::Stream::name_of_word))]
+#[tactic(auto, unfolding(crate::specs::Scan::name_of_word))]
 pub(crate) fn name_of_whole(word: &[u8]) -> Option<&[u8]>
     requires { IsTrue (list_all is_word_byte word.now) }
     ensures { option_copied result ≡ name_of_word word.now }

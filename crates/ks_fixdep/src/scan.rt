@@ -1,11 +1,12 @@
 //! The scan of a whole text for names of symbols, as scripts/basic/fixdep.c makes it: the text is not parsed,
 //! so a name in a comment is found too. That can only give too many dependencies, and no rebuild is missed.
 //! A name inside a longer word, as in `HIS_CONFIG_A`, is no name of that symbol.
-ghost use Rattle.std.specs.Prelude.{◌≡◌, ◌+◌, ◌≤◌, length};
-ghost use Rattle.std.specs.Option.{option_map};
-ghost use Rattle.memchr.specs.Find.{OccursAt};
-ghost use Rattle.ks_fixdep.specs.Scan.{prefix, begins_word, run_at, taken, taken_at};
-ghost use Rattle.ks_fixdep.specs.NameIter.{seen_found, names_left};
+ghost use Rattle.std.specs.Prelude.{◌≡◌, ◌≤◌, IsTrue, length, not};
+ghost use Rattle.std.specs.List.{list_all};
+ghost use Rattle.std.specs.Option.{option_copied};
+ghost use Rattle.ks_symbols.specs.Names.{is_word_byte};
+ghost use Rattle.ks_fixdep.specs.Scan.{begun, byte_before, name_of, taken};
+ghost use Rattle.ks_fixdep.specs.NameIter.{names_left};
 
 use crate::name_iter::NameIter;
 use crate::runs::{is_word, name_of_run};
@@ -27,22 +28,19 @@ pub fn names(text: &[u8]) -> NameIter<'_>
 /// Whether no word byte stands before a place.
 fn is_word_start(text: &[u8], place: usize) -> bool
     requires { place ≤ length text.now }
-    ensures { result ≡ begins_word text.now place }
+    ensures { result ≡ not (is_word_byte (byte_before text.now place)) }
 {
     place == 0 || !is_word(text[place - 1])
 }
 
-/// What stands at a place where `CONFIG_` stands before this run of word bytes.
-pub(crate) fn found_at<'a>(text: &[u8], place: usize, run: &'a [u8]) -> Option<Found<'a>>
-    requires stands { OccursAt text.now prefix place }
-    requires whole { run.now ≡ run_at text.now (place + 7) }
-    ensures { option_map seen_found result ≡ taken_at text.now place }
+/// The name of this run of word bytes, which stands after `CONFIG_` at a place of the text, if a word begins there.
+pub(crate) fn name_at<'a>(text: &[u8], place: usize, run: &'a [u8]) -> Option<&'a [u8]>
+    requires place { place ≤ length text.now }
+    requires run { IsTrue (list_all is_word_byte run.now) }
+    ensures { option_copied result ≡ begun (byte_before text.now place) (name_of run.now) }
 {
     if !is_word_start(text, place) {
         return None;
     }
-    match name_of_run(run) {
-        Some(name) => Some(Found { place, name }),
-        None => None,
-    }
+    name_of_run(run)
 }

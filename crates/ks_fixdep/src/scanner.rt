@@ -7,8 +7,8 @@ ghost use Rattle.std.specs.List.{list_all};
 ghost use Rattle.std.specs.Option.{option_copied};
 ghost use Rattle.std.specs.Borrow.{sem};
 ghost use Rattle.ks_symbols.specs.Names.{is_word_byte, is_name};
-ghost use Rattle.ks_fixdep.specs.Scan.{taken};
-ghost use Rattle.ks_fixdep.specs.Stream.{kept, kept_name, lengthened, ended, lent_behind, carried_at, before_last_word};
+ghost use Rattle.ks_fixdep.specs.Scan.{placed, taken};
+ghost use Rattle.ks_fixdep.specs.Stream.{kept, kept_name, lengthened, ended, lent_behind, before_last_word};
 
 use crate::name_iter::NameIter;
 use crate::runs::{leading_word, name_of_whole, trailing_word};
@@ -147,7 +147,7 @@ impl Scanner {
 
     /// Ends the text. It gives the name whose run ends it, and stands after the empty text again.
     pub fn finish(&mut self) -> Option<&[u8]>
-        ensures name { (t : List ℕ) → self.old ≡ kept t → taken t ≡ ended t ++ carried_at (length (before_last_word t)) (option_copied result) }
+        ensures name { (t : List ℕ) → self.old ≡ kept t → taken t ≡ ended t ++ placed (length (before_last_word t)) (option_copied result) }
         ensures legal { IfSome result (λ name. IsTrue (is_name name.now)) }
         ensures* after { sem 𝓛 (Keeps self.entry (λ new. new ≡ kept [])) }
     {

@@ -1,18 +1,18 @@
-use Rattle.std.proofs.Common.{◌-◌, length, map, sym, ap, ◌∙◌}
+use Rattle.std.proofs.Common.{drop, map, sym, ap, ◌∙◌}
 use Rattle.std.proofs.lemmas.Bool.{and_parts}
 use Rattle.std.specs.List.{list_all}
 use Rattle.ks_symbols.specs.Names.{is_name}
 use Rattle.ks_fixdep.specs.FoundNames.{all_noted}
 use Rattle.ks_fixdep.specs.NameIter.{names_left}
 use Rattle.ks_fixdep.specs.Scan.{bare_name}
-use Rattle.ks_fixdep.proofs.ScanLemmas.{taken_from-legal}
+use Rattle.ks_fixdep.proofs.ScanLemmas.{names_after-legal}
 use Rattle.ks_fixdep.proofs.found_names.names_of_text.Goals as goal
 
 pub note-requires : goal.note-requires
 note-requires c =
     let it = c.loop-next.left in
-    (and_parts _ _ (sym (ap (list_all (λ x. is_name x.name)) c.in-Some.ensures) ∙ taken_from-legal it.text.now it.next_place
-    (length it.text.now - it.next_place))).0
+    (and_parts _ _ (sym (ap (list_all (λ x. is_name x.name)) c.in-Some.ensures) ∙ names_after-legal 0 it.next_place
+    (drop it.next_place it.text.now))).0
 
 pub loop-next-preserved : goal.loop-next-preserved
 loop-next-preserved c =

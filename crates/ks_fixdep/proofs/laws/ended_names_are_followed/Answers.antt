@@ -1,4 +1,4 @@
-use Rattle.ks_fixdep.proofs.JoinLemmas.{ended-followed}
+use Rattle.ks_fixdep.proofs.PlaceLemmas.{ended-followed}
 use Rattle.ks_fixdep.proofs.laws.ended_names_are_followed.Goals as goal
 
 pub returns : goal.returns

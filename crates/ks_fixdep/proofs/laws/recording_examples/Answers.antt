@@ -1,12 +1,12 @@
 use Rattle.std.proofs.Common.{refl}
 use Rattle.ks_symbols.specs.Names.{is_name, is_path, header_path}
-use Rattle.ks_fixdep.specs.Scan.{taken_from, taken_at, name_of}
+use Rattle.ks_fixdep.specs.Scan.{name_of, name_of_word, names_after}
 use Rattle.ks_fixdep.specs.Tokens.{tokens}
 use Rattle.ks_fixdep.specs.DependencyFile.{prerequisites, dependency_refusal, token_refusal}
 use Rattle.ks_fixdep.proofs.laws.recording_examples.Goals as goal
 
 pub returns-clause-names : goal.returns-clause-names
-unfolding taken_from taken_at name_of is_name
+unfolding names_after name_of_word name_of is_name
 returns-clause-names c = refl
 
 pub returns-clause-roles : goal.returns-clause-roles

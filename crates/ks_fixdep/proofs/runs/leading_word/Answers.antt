@@ -2,7 +2,7 @@ use Rattle.std.proofs.Common.{◌≡◌, ◌<◌, length, get_or, false, sym, �
 use Rattle.ks_symbols.specs.Names.{is_word_byte}
 use Rattle.std.proofs.Common.{subst, List, ℕ, true}
 use Rattle.std.specs.List.{list_all}
-use Rattle.ks_fixdep.proofs.RunLemmas.{word-is}
+use Rattle.ks_fixdep.proofs.RunLemmas.{run-is}
 use Rattle.ks_fixdep.proofs.ScanLemmas.{word-passes}
 use Rattle.ks_fixdep.proofs.runs.leading_word.Goals as goal
 use Rattle.ks_fixdep.proofs.runs.leading_word.Goals.{then-loop-end-test+else-is_word, else-loop-end-test}
@@ -14,7 +14,7 @@ returns-clause-word c =
       | then-loop-end-test+else-is_word w ↦ λ _. sym w.is_word.ensures ∙ w.if-is_word.false
       | else-loop-end-test w ↦ λ below. absurd (omega arith)
     ] in
-    word-is c.args.text.now c.loop-end.end c.loop-end.invariant.0 c.loop-end.invariant.1 stop
+    run-is c.args.text.now c.loop-end.end c.loop-end.invariant.0 c.loop-end.invariant.1 stop
 
 pub returns-clause-passes : goal.returns-clause-passes
 returns-clause-passes c = subst (λ (w : List ℕ). list_all is_word_byte w ≡ true) (sym (returns-clause-word c)) (word-passes c.args.text.now)

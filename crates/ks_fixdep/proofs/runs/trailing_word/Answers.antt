@@ -1,7 +1,7 @@
 use Rattle.std.proofs.Common.{◌≡◌, ◌<◌, ◌-◌, get_or, false, sym, ◌∙◌, arith}
 use Rattle.ks_symbols.specs.Names.{is_word_byte}
 use Rattle.ks_fixdep.proofs.ScanLemmas.{rest-is}
-use Rattle.ks_fixdep.proofs.StreamLemmas.{last_word-is}
+use Rattle.ks_fixdep.proofs.StreamLemmas.{last_word-at}
 use Rattle.ks_fixdep.proofs.runs.trailing_word.Goals as goal
 use Rattle.ks_fixdep.proofs.runs.trailing_word.Goals.{then-loop-start-test+else-is_word, else-loop-start-test}
 
@@ -13,4 +13,4 @@ returns-clause-word c =
       | then-loop-start-test+else-is_word w ↦ λ _. sym w.is_word.ensures ∙ w.if-is_word.false
       | else-loop-start-test w ↦ λ some. absurd (omega arith)
     ] in
-    rest-is t n ∙ sym (last_word-is t n c.loop-start.invariant.0 c.loop-start.invariant.1 stop)
+    rest-is t n ∙ sym (last_word-at t n c.loop-start.invariant.0 c.loop-start.invariant.1 stop)

@@ -1,14 +1,14 @@
 use Rattle.std.proofs.Common.{◌++◌, refl, sym, ap, ◌∙◌, length}
-use Rattle.ks_fixdep.specs.Stream.{kept_name, within, carried_at, ended, before_last_word}
-use Rattle.ks_fixdep.proofs.PieceLemmas.{taken-finish}
-use Rattle.ks_fixdep.proofs.StreamLemmas.{last_word-nil}
+use Rattle.ks_fixdep.specs.Scan.{placed}
+use Rattle.ks_fixdep.specs.Stream.{kept_name, ended, before_last_word}
+use Rattle.ks_fixdep.proofs.StreamLemmas.{kept-nil, taken-finish}
 use Rattle.ks_fixdep.proofs.scanner.Scanner.finish.Goals as goal
 
 pub returns : goal.returns
 returns c = (
-  (refl, (λ _. tt), c.clear.ensures ∙ ap within (sym last_word-nil)),
+  (refl, (λ _. tt), c.clear.ensures ∙ sym kept-nil),
   record {
-    name = λ t stands. taken-finish t ∙ ap (λ x. ended t ++ carried_at (length (before_last_word t)) x)
+    name = λ t stands. taken-finish t ∙ ap (λ x. ended t ++ placed (length (before_last_word t)) x)
         (sym (c.name.ensures.value ∙ ap kept_name (c.set.ensures ∙ c.self.view_is ∙ stands)));
     legal = c.name.ensures.legal;
     after = tt;

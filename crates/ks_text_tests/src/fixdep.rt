@@ -3,12 +3,15 @@ ghost use Rattle.std.specs.Prelude.{◌<◌};
 
 use crate::golden;
 use ks_fixdep::{
-    CommandFile, DepError, FoundNames, NamesBySource, Prerequisites, Role, Scanner, SourceScan,
-    build, build_from, names, read_depfile, record_text, token_at, write_command,
+    CommandFile, DepError, FoundNames, NamesBySource, Prerequisites, Role, Scanner, Seed, build,
+    build_from, names, read_depfile, record_text, token_at, write_command,
 };
-use ks_symbols::{MAX_BYTES, write_decimal};
+use ks_symbols::{MAX_BYTES, name_is_legal, write_decimal};
 use std::alloc::{AllocError, Global};
 use std::test::Fail;
+
+/// What stands in place of a text where there are not as many texts as prerequisites.
+const ANOTHER_NUMBER: &[u8] = b"another number of prerequisites";
 
 /// Each name of a text behind its place.
 fn with_places(alloc: Global, text: &[u8]) -> Result<Vec<u8>, AllocError> {
@@ -45,16 +48,6 @@ fn lent(alloc: Global, pieces: &[&[u8]]) -> Result<Vec<u8>, AllocError> {
         push_name(&mut all, name)?;
     }
     Ok(all)
-}
-
-/// The names of a source in these pieces, each once.
-fn found_in(alloc: Global, pieces: &[&[u8]]) -> Result<Vec<u8>, AllocError> {
-    let mut scan = SourceScan::new(alloc);
-    for piece in pieces {
-        scan.feed(piece)?;
-    }
-    scan.end_source()?;
-    spelled(alloc, scan.finish().names())
 }
 
 fn spelled(alloc: Global, found: &FoundNames) -> Result<Vec<u8>, AllocError> {
@@ -163,12 +156,42 @@ fn lent_in(alloc: Global, text: &[u8], size: usize) -> Result<Vec<u8>, AllocErro
     lent(alloc, &pieces)
 }
 
-/// The names of a source in pieces of a size, each once.
-fn found_in_pieces(alloc: Global, text: &[u8], size: usize) -> Result<Vec<u8>, AllocError>
+/// The only source of an object, in these pieces.
+fn scanned_in(alloc: Global, pieces: &[&[u8]]) -> Result<NamesBySource, AllocError> {
+    let mut found = NamesBySource::with_seed(alloc, Seed::new(0));
+    for piece in pieces {
+        found.scan.feed(piece)?;
+    }
+    found.scan.end_source()?;
+    found.sources.push(0)?;
+    Ok(found)
+}
+
+/// The text of the command file of an object whose only source is in pieces of a size.
+fn record_in_pieces(alloc: Global, text: &[u8], size: usize) -> Result<Vec<u8>, DepError>
     requires { 0 < size }
 {
+    let read = read_depfile(alloc, b"x.o: x.c")?;
     let pieces = in_pieces(alloc, text, size)?;
-    found_in(alloc, &pieces)
+    let mut found = scanned_in(alloc, &pieces)?;
+    if read.len() != found.sources.len() {
+        return Ok(Vec::from_slice(alloc, ANOTHER_NUMBER)?);
+    }
+    Ok(record_text(alloc, b"x.o", b"cc", &read, &mut found, None)?.text)
+}
+
+/// The same text for a source with these names.
+fn record_of_names(alloc: Global, names: &[u8]) -> Result<Vec<u8>, AllocError> {
+    let mut text = Vec::from_slice(alloc, golden::SMALLEST_RECORD.0)?;
+    for name in names.split(|byte| *byte == b' ') {
+        if !name.is_empty() {
+            text.extend_from_slice(b"    $(wildcard include/config/")?;
+            text.extend_from_slice(name)?;
+            text.extend_from_slice(b") \\\n")?;
+        }
+    }
+    text.extend_from_slice(golden::SMALLEST_RECORD.1)?;
+    Ok(text)
 }
 
 #[test]
@@ -196,13 +219,11 @@ fn names_cut_at_each_byte(rt: HostRuntime) -> Result<(), Fail> {
 }
 
 #[test]
-fn names_cut_at_each_byte_are_found_once(rt: HostRuntime) -> Result<(), Fail> {
+fn names_cut_at_each_byte_are_listed_once(rt: HostRuntime) -> Result<(), Fail> {
+    let want = record_of_names(rt.alloc(), golden::BORDER_NAMES_ONCE)?;
     for size in 1..=300usize {
-        let once = found_in_pieces(rt.alloc(), golden::BORDERS, size)?;
-        assert!(rt;
-            once.as_slice() == golden::BORDER_NAMES_ONCE,
-            "in pieces of {size}"
-        );
+        let text = record_in_pieces(rt.alloc(), golden::BORDERS, size)?;
+        assert!(rt; text == want, "in pieces of {size}");
     }
     Ok(())
 }
@@ -234,7 +255,7 @@ fn a_name_is_noted_once(rt: HostRuntime) -> Result<(), Fail> {
     assert!(rt; found.is_empty());
     let legal: [&[u8]; 4] = [b"B", b"A", b"B", b"C"];
     for name in legal {
-        assert!(rt; ks_symbols::name_is_legal(name));
+        assert!(rt; name_is_legal(name));
         found.note(name)?;
     }
     assert_eq!(rt; found.len(), 3);
@@ -252,7 +273,7 @@ const MANY: usize = 5000;
 fn note_many(alloc: Global, found: &mut FoundNames) -> Result<(), AllocError> {
     for number in 0..2 * MANY {
         let name = format!(in alloc; "NAME_{}", number % MANY)?;
-        if ks_symbols::name_is_legal(name.as_bytes()) {
+        if name_is_legal(name.as_bytes()) {
             found.note(name.as_bytes())?;
         }
     }
@@ -413,12 +434,28 @@ fn a_dependency_file_may_have_64_mebibytes(rt: HostRuntime) -> Result<(), Fail> 
 
 /// The names in each of these texts.
 fn scanned(alloc: Global, texts: &[&[u8]]) -> Result<NamesBySource, AllocError> {
-    let mut scan = SourceScan::new(alloc);
-    for text in texts {
-        scan.feed(text)?;
-        scan.end_source()?;
+    let mut found = NamesBySource::with_seed(alloc, Seed::new(0));
+    for (place, text) in texts.iter().enumerate() {
+        found.scan.feed(text)?;
+        found.scan.end_source()?;
+        found.sources.push(place)?;
     }
-    Ok(scan.finish())
+    Ok(found)
+}
+
+/// The names of each of these texts.
+fn noted(alloc: Global, texts: &[&[u8]]) -> Result<Vec<FoundNames>, AllocError> {
+    let mut all = Vec::new(alloc);
+    for text in texts {
+        let mut found = FoundNames::new(alloc);
+        for next in names(text) {
+            if name_is_legal(next.name) {
+                found.note(next.name)?;
+            }
+        }
+        all.push(found)?;
+    }
+    Ok(all)
 }
 
 fn written(alloc: Global, file: &CommandFile) -> Result<Vec<u8>, AllocError> {
@@ -427,9 +464,6 @@ fn written(alloc: Global, file: &CommandFile) -> Result<Vec<u8>, AllocError> {
     Ok(out)
 }
 
-/// What stands in place of a text where there are not as many texts as prerequisites.
-const ANOTHER_NUMBER: &[u8] = b"another number of prerequisites";
-
 /// The text of a command file straight from the names.
 fn text_of_record(
     alloc: Global,
@@ -437,32 +471,32 @@ fn text_of_record(
     words: (&[u8], &[u8]),
     texts: &[&[u8]],
 ) -> Result<Vec<u8>, AllocError> {
-    let found = scanned(alloc, texts)?;
-    if read.len() != found.sources() {
+    let mut found = scanned(alloc, texts)?;
+    if read.len() != found.sources.len() {
         return Vec::from_slice(alloc, ANOTHER_NUMBER);
     }
-    record_text(alloc, words.0, words.1, read, &found, None)
+    Ok(record_text(alloc, words.0, words.1, read, &mut found, None)?.text)
 }
 
 /// The same by a command file that is made of the names.
 fn text_from_names(
     alloc: Global,
-    read: Prerequisites,
+    read: &Prerequisites,
     words: (&[u8], &[u8]),
     texts: &[&[u8]],
 ) -> Result<Vec<u8>, DepError> {
-    let found = scanned(alloc, texts)?;
-    if read.len() != found.sources() {
+    let found = noted(alloc, texts)?;
+    if read.len() != found.len() {
         return Ok(Vec::from_slice(alloc, ANOTHER_NUMBER)?);
     }
-    let built = build_from(alloc, words.0, words.1, read, found)?;
+    let built = build_from(alloc, words.0, words.1, read, &found)?;
     Ok(written(alloc, &built)?)
 }
 
 /// The same by a command file that is made of whole texts.
 fn text_from_texts(
     alloc: Global,
-    read: Prerequisites,
+    read: &Prerequisites,
     words: (&[u8], &[u8]),
     texts: &[&[u8]],
 ) -> Result<Vec<u8>, DepError> {
@@ -473,17 +507,6 @@ fn text_from_texts(
     Ok(written(alloc, &built)?)
 }
 
-/// The text straight from the names of the prerequisites that a dependency file has.
-fn straight_text(
-    alloc: Global,
-    depfile: &[u8],
-    words: (&[u8], &[u8]),
-    texts: &[&[u8]],
-) -> Result<Vec<u8>, DepError> {
-    let read = read_depfile(alloc, depfile)?;
-    Ok(text_of_record(alloc, &read, words, texts)?)
-}
-
 /// The text of the command file of an object, from the texts of its prerequisites; or the refusal. All three ways to it agree.
 fn command_text(
     alloc: Global,
@@ -491,9 +514,10 @@ fn command_text(
     words: (&[u8], &[u8]),
     texts: &[&[u8]],
 ) -> Result<Vec<u8>, DepError> {
-    let straight = straight_text(alloc, depfile, words, texts)?;
-    let out = text_from_names(alloc, read_depfile(alloc, depfile)?, words, texts)?;
-    let again = text_from_texts(alloc, read_depfile(alloc, depfile)?, words, texts)?;
+    let read = read_depfile(alloc, depfile)?;
+    let straight = text_of_record(alloc, &read, words, texts)?;
+    let out = text_from_names(alloc, &read, words, texts)?;
+    let again = text_from_texts(alloc, &read, words, texts)?;
     if straight != out || again != out {
         return Ok(Vec::from_slice(alloc, b"three ways to different texts".as_slice())?);
     }

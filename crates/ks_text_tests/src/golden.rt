@@ -63,3 +63,9 @@ x.o: $(deps_x.o)
 
 $(deps_x.o):
 "#;
+
+/// What stands before and after the names of a source without any other files.
+pub(crate) const SMALLEST_RECORD: (&[u8], &[u8]) = (
+    b"savedcmd_x.o := cc\n\nsource_x.o := x.c\n\ndeps_x.o := \\\n",
+    b"\nx.o: $(deps_x.o)\n\n$(deps_x.o):\n",
+);

@@ -15,6 +15,7 @@ ks_compare 15
 ks_fixdep 190
 ks_tree 110
 ks_script 20
+ks_streams 20
 ks_engine 160
 ks_requests 90
 ks_words 80

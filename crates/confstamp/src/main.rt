@@ -7,6 +7,7 @@ mod lost_numbers;
 
 use folder::{Place, is_folder, take_place};
 use ks_program::execute;
+use ks_streams::Stream;
 use ks_tree::FolderTree;
 use lock::{is_alone, lock_folder};
 use lost_numbers::numbers_are_lost;
@@ -86,8 +87,8 @@ fn answer<'a>(
     tree: &mut FolderTree<&HostRuntime>,
     words: &'a [&'a str],
 ) -> io::Result<u8> {
-    let mut out = BufWriter::new(rt.alloc(), rt.stdout())?;
-    let mut err = rt.stderr();
+    let mut out = Stream::new(BufWriter::new(rt.alloc(), rt.stdout())?);
+    let mut err = Stream::new(rt.stderr());
     let failures = tree.failures();
     let status = execute(rt.alloc(), tree, words, &mut out, &mut err);
     if status == 2 && tree.failures() > failures {

@@ -11,6 +11,7 @@ use Rattle.ks_requests.specs.declared.request.Request.TheVariants as request
 use Rattle.ks_requests.specs.declared.status.Outcome.{Outcome}
 use Rattle.ks_requests.specs.declared.status.Status.{Status}
 use Rattle.ks_requests.specs.declared.status.Status.TheVariants as status
+use Rattle.ks_streams.specs.Streams.{State}
 use Rattle.ks_requests.specs.Endings.{Ending, Printed}
 use Rattle.ks_requests.specs.Outputs.{WritesPreview}
 use Rattle.ks_requests.specs.Statuses.{code_of}
@@ -62,7 +63,7 @@ code_at_most status.Refused = lit≤ tt
 pub statuses_are_at_most_two : StatusesAreAtMostTwo
 statuses_are_at_most_two (Ok o) behind b a eb ea s (inl prints)
     = record { at_most = rw prints.answers (code_at_most o.status); done = λ is. inl (prints.answers ∙ ap code_of is) }
-statuses_are_at_most_two (Ok o) behind b a eb ea s (inr failed) = record { at_most = omega (arith, failed.1); done = λ is. inr failed.1 }
+statuses_are_at_most_two (Ok o) behind b a eb ea s (inr cut) = record { at_most = omega (arith, cut.refused); done = λ is. inr cut.refused }
 statuses_are_at_most_two (Err r) behind b a eb ea s refused = record { at_most = omega (arith, refused.2); done = λ is. inr refused.2 }
 
 -- ---- previews
@@ -75,14 +76,14 @@ preview_written files k d o outcome before after (inr (i, at, inl (text, is, tol
     (told.1, record { inputs = i; there = at; previews = record { text = text; is_preview = is; appended = subst (Appends before after) told.0 appended } })
 preview_written files k d o outcome before after (inr (i, at, inr (e, other, refusal, ended))) appended = no_outcome outcome _ ended
 
-done_or_refused : (k d : List ℕ) (o : Option (List ℕ)) (ended : Ending) (behind : List ℕ) (old new : Files) (b a eb ea : Option (List ℕ)) (s : ℕ) → new ≡ old
+done_or_refused : (k d : List ℕ) (o : Option (List ℕ)) (ended : Ending) (behind : List ℕ) (old new : Files) (b a eb ea : State) (s : ℕ) → new ≡ old
     → EndsPreview old k d o ended
     → Printed behind ended b a eb ea s → IsPreviewed k d o old new b a s
 done_or_refused k d o (Ok outcome) behind old new b a eb ea s same ends (inl prints) =
-    let both = preview_written old k d o outcome b a ends prints.output in
+    let both = preview_written old k d o outcome b.bytes a.bytes ends prints.output.takes.bytes in
     record { answered = inl (prints.answers ∙ both.0); written = λ zero. both.1; unchanged = same }
-done_or_refused k d o (Ok outcome) behind old new b a eb ea s same ends (inr failed) =
-    record { answered = inr failed.1; written = λ zero. absurd (omega (arith, zero, failed.1)); unchanged = same }
+done_or_refused k d o (Ok outcome) behind old new b a eb ea s same ends (inr cut) =
+    record { answered = inr cut.refused; written = λ zero. absurd (omega (arith, zero, cut.refused)); unchanged = same }
 done_or_refused k d o (Err r) behind old new b a eb ea s same ends refused =
     record { answered = inr refused.2; written = λ zero. absurd (omega (arith, zero, refused.2)); unchanged = same }
 

@@ -1,6 +1,7 @@
 -- Laws of the definitions: what a preview has written, what a refusal leaves, the statuses, and what runs of the program tell.
 use Rattle.std.specs.Prelude.{◌≡◌, ◌⊎◌, ◌<◌, ◌≤◌, ℕ, List, Option, Err, IfOk, Ok}
 use Rattle.std.specs.List.{All}
+use Rattle.ks_streams.specs.Streams.{State}
 use Rattle.ks_tree.specs.Files.{Files}
 use Rattle.ks_engine.specs.FileRuns.{FileState}
 use Rattle.ks_engine.specs.Follows.{TreeState}
@@ -18,15 +19,15 @@ use Rattle.ks_commands.specs.Programs.{Chain, ProgramRun, ProgramTellsChanges, c
 use Rattle.ks_commands.specs.Scripts.{HasGivenUp}
 
 -- A preview is done or refused, leaves the files as they are, and once done it has printed what is said of these words.
-pub record IsPreviewed (k d : List ℕ) (o : Option (List ℕ)) (old new : Files) (before after : Option (List ℕ)) (status : ℕ) : Type 0 where
+pub record IsPreviewed (k d : List ℕ) (o : Option (List ℕ)) (old new : Files) (before after : State) (status : ℕ) : Type 0 where
   pub answered : (status ≡ 0) ⊎ (status ≡ 2)
-  pub written : status ≡ 0 → WritesPreview old k d o before after
+  pub written : status ≡ 0 → WritesPreview old k d o before.bytes after.bytes
   pub unchanged : new ≡ old
 
 abbrev pub PreviewsArePerformed : Type 0
 PreviewsArePerformed =
     (k d : List ℕ) (o : Option (List ℕ)) (request : Request) (ended : Ending) (behind : List ℕ) (old new : FileState)
-    (before after err_before err_after : Option (List ℕ)) (status : ℕ)
+    (before after err_before err_after : State) (status : ℕ)
     → IsPreviewOf k d o request → Ends old.files (by_files old new) request ended → Printed behind ended before after err_before err_after status
     → IsPreviewed k d o old.files new.files before after status
 
@@ -41,7 +42,7 @@ pub record IsStatusOf (ended : Ending) (status : ℕ) : Type 0 where
   pub done : IfOk ended (λ o. o.status ≡ Done) → (status ≡ 0) ⊎ (status ≡ 2)
 
 abbrev pub StatusesAreAtMostTwo : Type 0
-StatusesAreAtMostTwo = (ended : Ending) (behind : List ℕ) (before after err_before err_after : Option (List ℕ)) (status : ℕ)
+StatusesAreAtMostTwo = (ended : Ending) (behind : List ℕ) (before after err_before err_after : State) (status : ℕ)
     → Printed behind ended before after err_before err_after status → IsStatusOf ended status
 
 -- A script that runs without a refusal, after a history without a broken synchronisation, tells what changed.

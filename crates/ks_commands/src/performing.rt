@@ -10,6 +10,7 @@ ghost use Rattle.ks_engine.specs.Follows.{GoesOn};
 ghost use Rattle.ks_engine.specs.declared.error.EngineError.TheVariants.{Device};
 ghost use Rattle.ks_requests.specs.declared.refusal.Refusal.TheVariants.{Engine};
 ghost use Rattle.ks_requests.specs.declared.status.Status.TheVariants.{Done};
+ghost use Rattle.ks_streams.specs.Streams.{state_of};
 ghost use Rattle.ks_requests.specs.Endings.{Ending, Printed};
 ghost use Rattle.ks_requests.specs.Requests.{IsNoQuestion};
 ghost use Rattle.ks_requests.specs.Sites.{IsSiteLine, ending_site};
@@ -24,6 +25,7 @@ use ks_requests::{
     Outcome, Refusal, Request, Status, inputs_at, lent, lent_path, preview_of, print, refuse,
     refuse_at, site_of,
 };
+use ks_streams::Stream;
 use ks_tree::Tree;
 use std::alloc::Global;
 use std::io::Write;
@@ -138,14 +140,14 @@ pub fn perform<T: Tree, W: Write, E: Write>(
     alloc: Global,
     tree: &mut T,
     request: &Request,
-    out: &mut W,
-    err: &mut E,
+    out: &mut Stream<W>,
+    err: &mut Stream<E>,
 ) -> u8
     // It ends with a text or a refusal: this is what it leaves, by the files and by histories, and what it prints; which
     // file a refusal is about stands on a line of its own.
     ensures { (ended : Ending) × Performs T.Tree tree.old tree.new request.now ended
         × (behind : List ℕ) × IsSiteLine T.is_honest (T.files tree.new) (ending_site request.now ended) behind
-        × Printed behind ended (W.contents out.old) (W.contents out.new) (E.contents err.old) (E.contents err.new) result }
+        × Printed behind ended (state_of W.Write out.old) (state_of W.Write out.new) (state_of E.Write err.old) (state_of E.Write err.new) result }
 {
     match outcome(alloc, tree, request) {
         Ok(outcome) => print(&outcome, out, err),

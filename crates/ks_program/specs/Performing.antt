@@ -1,6 +1,7 @@
 -- What the program does with its words.
-use Rattle.std.specs.Prelude.{◌≡◌, ◌⊎◌, ℕ, List, [], Option, Err}
+use Rattle.std.specs.Prelude.{◌≡◌, ◌⊎◌, ℕ, List, [], Err}
 use Rattle.clap.specs.Words.{Text}
+use Rattle.ks_streams.specs.Streams.{State}
 use Rattle.ks_tree.specs.declared.tree.Tree.{Ghosts}
 use Rattle.ks_engine.specs.declared.error.EngineError.TheVariants.{OutOfMemory}
 use Rattle.ks_requests.specs.declared.refusal.Refusal.TheVariants.{Engine}
@@ -12,10 +13,11 @@ use Rattle.ks_words.specs.Meaning.{Explains, Makes}
 
 -- The request of the words was performed, and a refusal told with where it points; or memory was refused for it, or the words were
 -- explained, and the tree is as before.
-abbrev pub Executes : {T : Type 0} → Ghosts T → List Text → T → T → Option (List ℕ) → Option (List ℕ) → Option (List ℕ) → Option (List ℕ) → ℕ → Type 0
+abbrev pub Executes : {T : Type 0} → Ghosts T → List Text → T → T → State → State → State → State → ℕ → Type 0
 Executes tree words old new before after err_before err_after status =
     ((request : Request) × Makes words request
     × (ended : Ending) × Performs tree old new request ended
     × (behind : List ℕ) × IsSiteLine tree.is_honest (tree.files new) (ending_site request ended) behind
     × Printed behind ended before after err_before err_after status)
-    ⊎ ((new ≡ old) × (Printed [] (Err (Engine OutOfMemory)) before after err_before err_after status ⊎ Explains words status))
+    ⊎ ((new ≡ old) × (Printed [] (Err (Engine OutOfMemory)) before after err_before err_after status 
+    ⊎ Explains words before after err_before err_after status))

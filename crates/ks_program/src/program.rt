@@ -1,10 +1,12 @@
 //! The program over any tree and any two writers: its words in, its status out.
 ghost use Rattle.clap.specs.Walk.{texts};
+ghost use Rattle.ks_streams.specs.Streams.{state_of};
 ghost use Rattle.ks_program.specs.Performing.{Executes};
 
 use ks_commands::perform;
 use ks_engine::EngineError;
 use ks_requests::{Refusal, refuse};
+use ks_streams::Stream;
 use ks_tree::Tree;
 use ks_words::{WordsError, explain, request_of};
 use std::alloc::Global;
@@ -16,16 +18,16 @@ pub fn execute<'a, T: Tree, W: Write, E: Write>(
     alloc: Global,
     tree: &mut T,
     words: &'a [&'a str],
-    out: &mut W,
-    err: &mut E,
+    out: &mut Stream<W>,
+    err: &mut Stream<E>,
 ) -> u8
     // The request of the words was performed; or they make none, and the tree is as before.
     ensures { Executes T.Tree (texts words.entry.now) tree.old tree.new
-        (W.contents out.old) (W.contents out.new) (E.contents err.old) (E.contents err.new) result }
+        (state_of W.Write out.old) (state_of W.Write out.new) (state_of E.Write err.old) (state_of E.Write err.new) result }
 {
     match request_of(alloc, words) {
         Ok(request) => perform(alloc, tree, &request, out, err),
-        Err(WordsError::Refused(error)) => explain(&error, out, err),
+        Err(WordsError::Refused(error)) => explain(alloc, &error, out, err),
         Err(WordsError::OutOfMemory) => { refuse(err, &Refusal::Engine(EngineError::OutOfMemory)) }
     }
 }

@@ -3,6 +3,7 @@
 use crate::golden::{AUTO, COMMAND_FILE};
 use crate::steps::{Step, play, run_over, shown, world};
 use ks_program::execute;
+use ks_streams::Stream;
 use std::alloc::Global;
 use std::io;
 use std::io::{ErrorKind, Write};
@@ -61,15 +62,15 @@ fn break_off(rt: &impl Abort, alloc: Global, case: &Case<'_>, passes: usize) -> 
     let mut tree = world(rt, alloc)?;
     play(rt, alloc, &mut tree, case.before)?;
     let taken = Vec::new(alloc);
-    let mut out = Failing { taken, passes };
-    let mut err: Vec<u8> = Vec::new(alloc);
+    let mut out = Stream::new(Failing { taken, passes });
+    let mut err: Stream<Vec<u8>> = Stream::new(Vec::new(alloc));
     let status = execute(alloc, &mut tree, case.words, &mut out, &mut err);
     let words = case.words;
     let place = format!(in alloc; "{passes} {words:?}")?;
     assert_eq!(rt; status, 2, "{place}");
-    assert_eq!(rt; out.taken.len(), passes, "{place}");
+    assert_eq!(rt; out.into_writer().taken.len(), passes, "{place}");
     assert_eq!(rt;
-        err.as_slice(),
+        err.into_writer().as_slice(),
         b"confstamp: 51 Output\n".as_slice(),
         "{place}"
     );
@@ -112,14 +113,14 @@ fn both_outputs_that_fail(rt: HostRuntime) -> Result<(), Fail> {
     let alloc = rt.alloc();
     for passes in 0..40 {
         let mut tree = world(&rt, alloc)?;
-        let mut out = Failing {
+        let mut out = Stream::new(Failing {
             taken: Vec::new(alloc),
             passes,
-        };
-        let mut err = Failing {
+        });
+        let mut err = Stream::new(Failing {
             taken: Vec::new(alloc),
             passes: passes / 2,
-        };
+        });
         let status = execute(alloc, &mut tree, &["sync", "K1", "c1"], &mut out, &mut err);
         assert_eq!(rt; status, 2, "{passes}");
     }

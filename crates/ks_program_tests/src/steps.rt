@@ -1,6 +1,7 @@
 //! Worked examples over a tree in memory: tables of words, and of the status and all that is printed.
 use crate::golden;
 use ks_program::execute;
+use ks_streams::Stream;
 use ks_tree::{MemoryTree, Tree};
 use std::alloc::Global;
 use std::process::Abort;
@@ -27,11 +28,11 @@ pub(crate) fn run_over<'a, T: Tree>(
     tree: &mut T,
     words: &'a [&'a str],
 ) -> Result<Run, Fail> {
-    let mut out: Vec<u8> = Vec::new(alloc);
-    let mut err: Vec<u8> = Vec::new(alloc);
+    let mut out: Stream<Vec<u8>> = Stream::new(Vec::new(alloc));
+    let mut err: Stream<Vec<u8>> = Stream::new(Vec::new(alloc));
     let status = execute(alloc, tree, words, &mut out, &mut err);
-    let out = String::from_utf8(out)?;
-    let err = String::from_utf8(err)?;
+    let out = String::from_utf8(out.into_writer())?;
+    let err = String::from_utf8(err.into_writer())?;
     Ok(Run { status, out, err })
 }
 

@@ -2,6 +2,7 @@
 //! auto.conf; and scripts whose lines name files more than once.
 use ks_commands::perform;
 use ks_requests::{PreviewError, Request, preview_to};
+use ks_streams::Stream;
 use ks_symbols::SourceError;
 use ks_tree::MemoryTree;
 use std::alloc::{AllocError, Global};
@@ -125,13 +126,14 @@ fn batch(alloc: Global, script: &[u8]) -> Result<String, AllocError> {
             Vec::from_slice(alloc, bytes)?,
         )?;
     }
-    let mut out: Vec<u8> = Vec::new(alloc);
-    let mut err: Vec<u8> = Vec::new(alloc);
+    let mut out: Stream<Vec<u8>> = Stream::new(Vec::new(alloc));
+    let mut err: Stream<Vec<u8>> = Stream::new(Vec::new(alloc));
     let request = Request::Batch {
         script: "S".to_string(alloc)?,
     };
     let status = perform(alloc, &mut tree, &request, &mut out, &mut err);
-    out.extend_from_slice(&err)?;
+    let mut out = out.into_writer();
+    out.extend_from_slice(&err.into_writer())?;
     format!(in alloc; "{status}\n{}", String::from_utf8_lossy(alloc, &out)?)
 }
 
@@ -178,14 +180,15 @@ fn diff(
             )?;
         }
     }
-    let mut out: Vec<u8> = Vec::new(alloc);
-    let mut err: Vec<u8> = Vec::new(alloc);
+    let mut out: Stream<Vec<u8>> = Stream::new(Vec::new(alloc));
+    let mut err: Stream<Vec<u8>> = Stream::new(Vec::new(alloc));
     let request = Request::Diff {
         kconfig: "K".to_string(alloc)?,
         dotconfig: "c".to_string(alloc)?,
     };
     let status = perform(alloc, &mut tree, &request, &mut out, &mut err);
-    out.extend_from_slice(&err)?;
+    let mut out = out.into_writer();
+    out.extend_from_slice(&err.into_writer())?;
     format!(in alloc; "{status}\n{}", String::from_utf8_lossy(alloc, &out)?)
 }
 

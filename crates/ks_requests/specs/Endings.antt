@@ -1,6 +1,6 @@
 -- How a request ends: with a text and a status, or refused as a whole.
-use Rattle.std.specs.Prelude.{◌≡◌, ◌⊎◌, ◌++◌, ℕ, List, [], Option, None, Result, Ok, Err}
-use Rattle.std.specs.Io.KnownBytes.{Appends, Keeps}
+use Rattle.std.specs.Prelude.{◌≡◌, ◌⊎◌, ◌++◌, ℕ, List, [], Option, Some, None, Result, Ok, Err}
+use Rattle.ks_streams.specs.Streams.{Breaks, Prints, PrintsOrBreaks, State}
 use Rattle.ks_engine.specs.declared.error.EngineError.{EngineError}
 use Rattle.ks_engine.specs.declared.error.EngineError.TheVariants.{OutOfMemory}
 use Rattle.ks_engine.specs.Refusals.{IsGivenUp}
@@ -35,22 +35,29 @@ Stopped step ended = (e : EngineError) × (IsGivenUp e ⊎ (step ≡ Err e)) × 
 
 -- ---- what is printed of it
 
--- Known bytes grow by a beginning of some bytes.
-abbrev pub IsPart : List ℕ → Option (List ℕ) → Option (List ℕ) → Type 0
-IsPart bytes before after = (part : List ℕ) × (rest : List ℕ) × (bytes ≡ part ++ rest) × Appends before after part
+-- The line of the refusal goes to standard error, and after it what stands behind it.
+abbrev pub Complains : Refusal → List ℕ → State → State → Type 0
+Complains refusal behind before after = PrintsOrBreaks (complaint refusal ++ behind) before after
 
--- Standard error grows by a beginning of the line of the refusal and of what stands behind that line.
-abbrev pub Complains : Refusal → List ℕ → Option (List ℕ) → Option (List ℕ) → Type 0
-Complains refusal behind before after = IsPart (complaint refusal ++ behind) before after
+-- The line of a count goes to standard error; without one that is left alone.
+abbrev pub CountGoes : Option Count → State → State → Type 0
+CountGoes None before after = after ≡ before
+CountGoes (Some c) before after = PrintsOrBreaks (count_line (Some c)) before after
 
--- The output grows by the text, standard error by a beginning of the count's line, where there is one, and the status is that of the answers.
-pub record Prints (o : Outcome) (before after err_before err_after : Option (List ℕ)) (status : ℕ) : Type 0 where
-  pub output : Appends before after o.text.items
-  pub error : IsPart (count_line o.count) err_before err_after
+-- The text was printed to the output, its count goes to standard error, and the status is that of the answers.
+pub record PrintsAnswers (o : Outcome) (before after err_before err_after : State) (status : ℕ) : Type 0 where
+  pub output : Prints o.text.items before after
+  pub count : CountGoes o.count err_before err_after
   pub answers : status ≡ code_of o.status
 
--- An output that fails is refused as well; a refusal leaves the output, and is told with what stands behind its line.
-abbrev pub Printed : List ℕ → Ending → Option (List ℕ) → Option (List ℕ) → Option (List ℕ) → Option (List ℕ) → ℕ → Type 0
+-- A write to the output failed, with a beginning of the text out, and that is refused.
+pub record IsCutOff (o : Outcome) (before after err_before err_after : State) (status : ℕ) : Type 0 where
+  pub output : Breaks o.text.items before after
+  pub told : Complains Output [] err_before err_after
+  pub refused : status ≡ 2
+
+-- A refusal leaves the output alone, and is told with what stands behind its line.
+abbrev pub Printed : List ℕ → Ending → State → State → State → State → ℕ → Type 0
 Printed behind (Ok o) before after err_before err_after status =
-    Prints o before after err_before err_after status ⊎ (Complains Output [] err_before err_after × (status ≡ 2))
-Printed behind (Err e) before after err_before err_after status = Keeps before after × Complains e behind err_before err_after × (status ≡ 2)
+    PrintsAnswers o before after err_before err_after status ⊎ IsCutOff o before after err_before err_after status
+Printed behind (Err e) before after err_before err_after status = (after ≡ before) × Complains e behind err_before err_after × (status ≡ 2)

@@ -1,7 +1,7 @@
 -- Words of the command line, the requests that they make, and why they make none.
-use Rattle.std.specs.Prelude.{◌≡◌, ◌≢◌, ◌⊎◌, ℕ, List, [], ◌∷◌, codes, option_map, slice_index, string_bytes, unwrap_or}
+use Rattle.std.specs.Prelude.{◌≡◌, ◌≢◌, ◌⊎◌, ℕ, List, [], ◌∷◌, codes, option_map, slice_index, string_bytes, unwrap_or, ⊤}
 use Rattle.std.specs.List.{All}
-use Rattle.clap.specs.Words.{Row, Text, all_of, first_of}
+use Rattle.clap.specs.Words.{IsAmong, Kinds, Row, Text, all_of, first_of}
 use Rattle.ks_requests.specs.declared.request.Request.{Request}
 use Rattle.ks_requests.specs.declared.request.Targets.{Targets}
 use Rattle.ks_requests.specs.declared.request.Request.TheVariants as request
@@ -26,14 +26,15 @@ IsWantOfMemory _ = ⊥
 abbrev pub IsHelp : ErrorKind → Type 0
 IsHelp kind = (kind ≡ DisplayHelp) ⊎ (kind ≡ DisplayVersion)
 
-abbrev pub TellsHelp : WordsError → Type 0
-TellsHelp (Refused e) = IsHelp (kind_of e)
-TellsHelp OutOfMemory = ⊥
+-- An error of `clap` is told as it is, and want of memory as such.
+abbrev pub IsTold : Error → WordsError → Type 0
+IsTold e (Refused told) = (told ≡ e) × (kind_of e ≢ NoMemory)
+IsTold e OutOfMemory = kind_of e ≡ NoMemory
 
--- what becomes of an error of `clap`
-pub record IsTold (e : Error) (told : WordsError) : Type 0 where
-  pub memory : kind_of e ≡ NoMemory → IsWantOfMemory told
-  pub help : TellsHelp told → IsHelp (kind_of e)
+-- the error is of one of these kinds, or memory was refused
+abbrev pub IsFaultOf : Kinds → WordsError → Type 0
+IsFaultOf kinds (Refused e) = IsAmong (kind_of e) kinds
+IsFaultOf kinds OutOfMemory = ⊤
 
 -- the word that stands for this name, and the words that stand for it
 abbrev pub word_at : Text → List Row → Text

@@ -1,11 +1,11 @@
 //! What the words after the program's name ask for.
 ghost use Rattle.std.specs.Prelude.{◌≡◌, ℕ, List, [], ◌∷◌, IfErr, IfOk, codes, true, map, None, option_map, string_bytes};
-ghost use Rattle.clap.specs.Words.{first_of, found_of, rows_of, takes};
+ghost use Rattle.clap.specs.Words.{fault_of, first_of, found_of, rows_of, takes};
 ghost use Rattle.clap.specs.Walk.{texts};
 ghost use Rattle.ks_requests.specs.Requests.{IsBatchOf, IsPreviewOf};
 ghost use Rattle.ks_words.specs.CommandLine.{command_line_app};
-ghost use Rattle.ks_words.specs.Meaning.{AsksForHelp, Makes};
-ghost use Rattle.ks_words.specs.Words.{AreTargets, IsPlainWord, IsRequestOf, IsTold, IsWantOfMemory, TellsHelp, word_at, words_at};
+ghost use Rattle.ks_words.specs.Meaning.{Makes};
+ghost use Rattle.ks_words.specs.Words.{AreTargets, IsFaultOf, IsPlainWord, IsRequestOf, IsTold, IsWantOfMemory, word_at, words_at};
 
 use crate::command_line::command_line;
 use clap::ArgMatches;
@@ -183,20 +183,11 @@ fn request_named(alloc: Global, name: &str, matches: &ArgMatches<'_>) -> Result<
     }
 }
 
-/// That a command is missing. `clap` says so itself before this can come.
-fn missing_command(alloc: Global) -> Result<WordsError, AllocError>
-    ensures { IfOk result (λ w. TellsHelp w → ⊥) }
-{
-    let mut command = command_line(alloc)?;
-    let error = command.error(ErrorKind::MissingSubcommand, "a command is needed")?;
-    Ok(WordsError::Refused(error))
-}
-
 /// The request that the words after the program's name make. A word that begins with `-` is taken behind `--`.
 pub fn request_of<'a>(alloc: Global, words: &'a [&'a str]) -> Result<Request, WordsError>
     ensures exact { IfOk result (λ r. Makes (texts words.entry.now) r) }
     ensures taken { IfErr result (λ e. takes command_line_app (texts words.entry.now) ≡ true → IsWantOfMemory e) }
-    ensures help { IfErr result (λ e. TellsHelp e → AsksForHelp (texts words.entry.now)) }
+    ensures fault { IfErr result (IsFaultOf (fault_of command_line_app (texts words.entry.now))) }
     ensures batch { IfOk result (λ r. (p : List ℕ) → texts words.entry.now ≡ codes "batch" ∷ p ∷ []
         → IsPlainWord p → IsBatchOf p r) }
     ensures preview { IfOk result (λ r. (k d : List ℕ)
@@ -207,6 +198,7 @@ pub fn request_of<'a>(alloc: Global, words: &'a [&'a str]) -> Result<Request, Wo
     let matches = command.try_get_matches_from(words)?;
     match matches.subcommand() {
         Some((name, inner)) => Ok(request_named(alloc, name, inner)?),
-        None => Err(missing_command(alloc)?),
+        // `clap` refuses words without a command itself.
+        None => unreachable!(),
     }
 }

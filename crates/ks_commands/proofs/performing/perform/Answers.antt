@@ -1,6 +1,5 @@
 use Rattle.std.proofs.Common.{◌≡◌, ◌∙◌, [], Some, Ok, Err, refl, ap, subst}
 use Rattle.ks_requests.specs.Sites.{IsSiteLine, site_of}
-use Rattle.ks_requests.proofs.Writing.{keeps_itself}
 use Rattle.ks_requests.specs.Views.{seen_site}
 use Rattle.ks_commands.proofs.Siting.{no_site, read_behind, site_line_kept, some_none}
 use Rattle.ks_commands.proofs.performing.perform.Goals as goal
@@ -20,7 +19,7 @@ returns g c = (
   record { done = c.in-Err.ensures.done; files = c.in-Err.ensures.files; goes_on = c.in-Err.ensures.goes_on; cause = c.in-Err.ensures.cause; counts = tt },
   [],
   subst (λ site. IsSiteLine g.T.Tree.is_honest (g.T.Tree.files c.outcome.new.tree) site []) c.in-None.ensures refl,
-  (keeps_itself (g.W.Write.contents c.args.out.now), c.refuse.ensures.told, c.refuse.ensures.status),
+  (refl, c.refuse.ensures.told, c.refuse.ensures.status),
 )
 
 pub returns-in-Some : goal.returns-in-Some
@@ -38,5 +37,5 @@ returns-in-Some g c =
       subst (λ s. IsSiteLine g.T.Tree.is_honest (g.T.Tree.files c.refuse_at.new.tree) s told.0) found
           (site_line_kept g.T.Tree.is_honest (g.T.Tree.files c.outcome.new.tree) (g.T.Tree.files c.refuse_at.new.tree) (Some site) told.0 reads.unchanged
           told.1),
-      (keeps_itself (g.W.Write.contents c.args.out.now), told.2, c.refuse_at.ensures.status),
+      (refl, told.2, c.refuse_at.ensures.status),
     )

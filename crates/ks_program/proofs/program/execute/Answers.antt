@@ -1,9 +1,8 @@
 use Rattle.std.proofs.Common.{◌≡◌, true, inl, inr, ⊎_elim, refl, subst}
 use Rattle.clap.specs.Walk.{texts}
-use Rattle.clap.specs.Words.{kind_of, takes}
+use Rattle.clap.specs.Words.{fault_of, kind_of, takes}
 use Rattle.ks_words.specs.CommandLine.{command_line_app}
-use Rattle.ks_words.specs.Meaning.{AsksForHelp}
-use Rattle.ks_words.specs.Words.{IsHelp, IsWantOfMemory, TellsHelp}
+use Rattle.ks_words.specs.Words.{IsFaultOf, IsWantOfMemory}
 use Rattle.ks_program.proofs.program.execute.Goals as goal
 
 pub returns-in-Ok : goal.returns-in-Ok
@@ -21,12 +20,9 @@ pub returns-in-Err-Refused : goal.returns-in-Err-Refused
 returns-in-Err-Refused g c =
     let words = texts c.args.words.now in
     let taken = subst (λ w. takes command_line_app words ≡ true → IsWantOfMemory w) c.in-Err-Refused.field-0-is c.in-Err-Refused.ensures.taken in
-    let help = subst (λ w. TellsHelp w → AsksForHelp words) c.in-Err-Refused.field-0-is c.in-Err-Refused.ensures.help in
+    let fault = subst (IsFaultOf (fault_of command_line_app words)) c.in-Err-Refused.field-0-is c.in-Err-Refused.ensures.fault in
     inr (
       refl,
-      inr (
-        taken,
-        ⊎_elim (λ two. inl two) (λ zero. inr (zero.0, help (subst (λ e. IsHelp (kind_of e)) c.in-Err-Refused.error-is zero.1)))
-            c.explain.ensures,
-      ),
+      ⊎_elim (λ said. inr (record { refused = taken; kind = kind_of c.in-Err-Refused.error; reason = fault; said = said })) (λ memory. inl memory)
+          c.explain.ensures,
     )

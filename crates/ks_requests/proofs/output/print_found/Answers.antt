@@ -1,9 +1,10 @@
 use Rattle.std.proofs.Common.{option_map, refl, subst}
-use Rattle.ks_requests.specs.Endings.{IsPart}
+use Rattle.ks_streams.proofs.Writing.{told}
+use Rattle.ks_streams.specs.Streams.{PrintsOrBreaks, state_of}
 use Rattle.ks_requests.specs.Sites.{site_line}
 use Rattle.ks_requests.specs.Views.{seen_site}
 use Rattle.ks_requests.proofs.Siting.{are_there}
-use Rattle.ks_requests.proofs.output.write_found.Goals as goal
+use Rattle.ks_requests.proofs.output.print_found.Goals as goal
 
 pub returns-clause-line : goal.returns-clause-line
 returns-clause-line g c =
@@ -17,5 +18,6 @@ returns-clause-line g c =
             c.excerpt_at-text.ensures.visible,
         refl,
       ),
-      subst (λ t. IsPart (site_line site t) (g.E.Write.contents c.args.err.now) (g.E.Write.contents c.write_site.new.err)) c.lent.ensures c.write_site.ensures,
+      subst (λ t. PrintsOrBreaks (site_line site t) (state_of g.E.Write c.args.err.now) (state_of g.E.Write c.print_site.new.err)) c.lent.ensures
+          (told _ _ _ _ c.print_site.ensures.whole c.print_site.ensures.broken),
     )

@@ -1,0 +1,16 @@
+use Rattle.std.proofs.Common.{[], ◌∷◌, codes, subst}
+use Rattle.ks_streams.specs.Streams.{Breaks, Prints, state_of}
+use Rattle.ks_requests.proofs.Writing.{fault_pieces}
+use Rattle.ks_requests.proofs.output.print_fault_line.Goals as goal
+
+pub returns-clause-whole : goal.returns-clause-whole
+returns-clause-whole g c = λ all.
+    subst (λ text. Prints text (state_of g.E.Write c.args.err.now) (state_of g.E.Write c.print.new.self))
+    (fault_pieces (codes "confstamp: ") c.args.name.now c.args.place.now (10 ∷ []))
+    (c.print.ensures.whole all)
+
+pub returns-clause-broken : goal.returns-clause-broken
+returns-clause-broken g c = λ no.
+    subst (λ text. Breaks text (state_of g.E.Write c.args.err.now) (state_of g.E.Write c.print.new.self))
+    (fault_pieces (codes "confstamp: ") c.args.name.now c.args.place.now (10 ∷ []))
+    (c.print.ensures.broken no)

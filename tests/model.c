@@ -1670,18 +1670,19 @@ static bool synchronises(const Tree *tree, const Bytes *words, size_t count)
     return false;
 }
 
+/* Whether there is an auto.conf that can be read. */
+static bool auto_conf_is_there(const Tree *tree, Old *old)
+{
+    Bytes text;
+    bool is_there;
+    return !refused(read_file(tree, bytes_of(auto_path), &text, &is_there)) && is_there && !refused(read_auto(text, old));
+}
+
 /* Whether auto.conf has no generation, while the stamp of one of its names has a number. */
 static bool numbers_are_lost(const Tree *tree)
 {
-    Bytes text;
-    bool is_there, is_generation = false;
     Old old;
-    if (refused(read_file(tree, bytes_of(auto_path), &text, &is_there)) || !is_there || refused(read_auto(text, &old)))
-        return false;
-    Lines lines = lines_of(text);
-    while (next_line(&lines))
-        is_generation = starts(lines.line, "#generation ");
-    if (is_generation || old.generation)
+    if (!auto_conf_is_there(tree, &old) || old.generation)
         return false;
     for (size_t i = 0; i < old.entries.count; i++) {
         uint64_t number;
@@ -1700,7 +1701,8 @@ Answer run_words(Tree *tree, const Bytes *words, size_t count)
     Bytes *own = keep((count + 1) * sizeof *own);
     memcpy(own, words, count * sizeof *own);
     Answer answer = run_command(tree, own, count);
-    if (is_lost)
-        answer.error = joined(lost_numbers, answer.error, "");
+    Old old;
+    if (is_lost && auto_conf_is_there(tree, &old) && old.generation)
+        answer.error = joined("", answer.error, lost_numbers);
     return answer;
 }

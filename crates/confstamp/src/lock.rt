@@ -1,6 +1,8 @@
 //! One writer at a time: a lock on the folder that the program works in, which makes no file. Without it two synchronisations
 //! at once could leave the header of one beside the auto.conf of the other, and objects would be called fresh wrongly. Where
 //! the file system knows no locks, or the folder can't be opened, the program goes on without.
+ghost use Rattle.ks_tree.specs.Frames.{Reads};
+
 use ks_requests::Request;
 use ks_script::{ScriptError, ScriptLine, read_script};
 use ks_tree::{Tree, TreeFault};
@@ -11,7 +13,9 @@ use std::io;
 use std::io::ErrorKind;
 
 /// Whether a line of the script is a `sync`. A script that can't be read is refused later, and runs nothing.
-fn script_syncs<T: Tree>(alloc: Global, tree: &mut T, script: &str) -> io::Result<bool> {
+fn script_syncs<T: Tree>(alloc: Global, tree: &mut T, script: &str) -> io::Result<bool>
+    ensures { Reads T.Tree tree.old tree.new ⊥ }
+{
     let text = match tree.read(alloc, script.as_bytes()) {
         Ok(Some(text)) => text,
         Err(TreeFault::OutOfMemory) => return Err(io::Error::from(ErrorKind::OutOfMemory)),
@@ -29,7 +33,9 @@ fn script_syncs<T: Tree>(alloc: Global, tree: &mut T, script: &str) -> io::Resul
 }
 
 /// Whether the request is a synchronisation, or a script with one.
-fn request_syncs<T: Tree>(alloc: Global, tree: &mut T, request: &Request) -> io::Result<bool> {
+fn request_syncs<T: Tree>(alloc: Global, tree: &mut T, request: &Request) -> io::Result<bool>
+    ensures { Reads T.Tree tree.old tree.new ⊥ }
+{
     match request {
         Request::Sync { .. } => Ok(true),
         Request::Batch { script } => script_syncs(alloc, tree, script.as_str()),
@@ -51,7 +57,9 @@ pub(crate) fn is_alone<'a, T: Tree>(
     alloc: Global,
     tree: &mut T,
     words: &'a [&'a str],
-) -> io::Result<Option<bool>> {
+) -> io::Result<Option<bool>>
+    ensures { Reads T.Tree tree.old tree.new ⊥ }
+{
     match asked(alloc, words)? {
         Some(request) => Ok(Some(request_syncs(alloc, tree, &request)?)),
         None => Ok(None),

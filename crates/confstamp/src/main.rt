@@ -10,14 +10,14 @@ use ks_program::execute;
 use ks_streams::Stream;
 use ks_tree::FolderTree;
 use lock::{is_alone, lock_folder};
-use lost_numbers::numbers_are_lost;
+use lost_numbers::{last_generation, numbers_are_lost};
 use std::alloc::{AllocError, Global};
 use std::hash::{BuildHasher, Hasher, RandomState};
 use std::io::{BufWriter, ErrorKind};
 use std::process::ExitCode;
 use std::{env, io};
 
-/// What is said before a synchronisation over an auto.conf that another tool wrote.
+/// What is said after a synchronisation over an auto.conf that another tool wrote.
 const LOST_NUMBERS: &str =
     "confstamp: auto.conf has lost its generation (another tool wrote it), so numbers begin again: \
     remove include/config and build everything anew";
@@ -75,10 +75,13 @@ fn run_locked(
 ) -> io::Result<u8> {
     let alone = is_alone(rt.alloc(), tree, place.words)?;
     let _locked = lock_folder(rt, place.folder.as_str(), alone)?;
-    if alone == Some(true) && numbers_are_lost(rt.alloc(), tree) {
+    let lost = alone == Some(true) && numbers_are_lost(rt.alloc(), tree);
+    let status = answer(rt, tree, place.words)?;
+    // Only a synchronisation that was completed has begun the numbers again.
+    if lost && last_generation(rt.alloc(), tree).is_some_and(|generation| generation > 0) {
         let _ = eprintln!(rt; "{LOST_NUMBERS}");
     }
-    answer(rt, tree, place.words)
+    Ok(status)
 }
 
 /// Runs the command over a tree and the standard streams.

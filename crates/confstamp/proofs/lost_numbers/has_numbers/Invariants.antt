@@ -1,8 +1,5 @@
-use Rattle.std.proofs.Common.{◌≡◌, ◌≤◌}
+use Rattle.ks_tree.specs.Frames.{Reads}
 use Rattle.confstamp.proofs.lost_numbers.has_numbers.Given as goal
 
 abbrev pub invariant-loop-name : goal.invariant-loop-name
-invariant-loop-name g l = record {
-  only_reads : g.T.Tree.is_honest → g.T.Tree.files l.tree ≡ g.T.Tree.files l.fn.tree;
-  later : g.T.Tree.failures l.fn.tree ≤ g.T.Tree.failures l.tree;
-}
+invariant-loop-name g l = Reads g.T.Tree l.fn.tree l.tree ⊥

@@ -19,5 +19,5 @@ Executes tree words old new before after err_before err_after status =
     × (ended : Ending) × Performs tree old new request ended
     × (behind : List ℕ) × IsSiteLine tree.is_honest (tree.files new) (ending_site request ended) behind
     × Printed behind ended before after err_before err_after status)
-    ⊎ ((new ≡ old) × (Printed [] (Err (Engine OutOfMemory)) before after err_before err_after status 
+    ⊎ ((new ≡ old) × (Printed [] (Err (Engine OutOfMemory)) before after err_before err_after status
     ⊎ Explains words before after err_before err_after status))

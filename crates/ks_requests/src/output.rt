@@ -155,11 +155,7 @@ fn print_count<E: Write>(err: &mut Stream<E>, count: Option<Count>)
 
 /// Prints what is to be printed of a command, and answers the exit status. The text goes to `out`, which is seen out, and a
 /// count to `err` as well as that goes. Where the output fails that is told as 51 Output, with the status 2.
-pub fn print<W: Write, E: Write>(
-    outcome: &Outcome,
-    out: &mut Stream<W>,
-    err: &mut Stream<E>,
-) -> u8
+pub fn print<W: Write, E: Write>(outcome: &Outcome, out: &mut Stream<W>, err: &mut Stream<E>) -> u8
     ensures { Printed [] (Ok outcome.now) (state_of W.Write out.old) (state_of W.Write out.new) (state_of E.Write err.old) (state_of E.Write err.new) result }
 {
     if out.print(&[&outcome.text]) {

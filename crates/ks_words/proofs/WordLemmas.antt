@@ -1,17 +1,10 @@
 -- What the command line makes of words that begin with no hyphen.
-use Rattle.std.proofs.Common.{◌≡◌, ◌≢◌, ◌⊎◌, ◌==◌, ◌&&◌, Bool, not, inl, inr, ap, sym, subst, ◌∙◌, ℕ, List, [], ◌∷◌, Option, Some, None, refl, codes, true, false, slice_index, option_map, arith}
+use Rattle.std.proofs.Common.{◌≡◌, ◌≢◌, ◌==◌, inl, inr, ap, sym, subst, ℕ, List, [], ◌∷◌, Option, Some, None, refl, codes, true, false, slice_index, option_map, arith}
 use Rattle.std.proofs.lemmas.Bool.{true≢false}
 use Rattle.std.proofs.lemmas.Bool.Decides.{nat_tests}
 use Rattle.clap.specs.declared.error.Error.{Error}
 use Rattle.clap.specs.declared.error.kind.ErrorKind.TheVariants.{OutOfMemory as NoMemory}
-use Rattle.clap.specs.Kinds.{check_kinds, or_else}
-use Rattle.clap.specs.Simple.{Shape, argument_words, built, names_of}
-use Rattle.clap.specs.Faults.{check_fault, defaults_fault, entered_fault, level_fault, settle_fault, walk_fault}
-use Rattle.clap.specs.Walk.{Held, Names, finished, nothing_held, settled, stop_after, walk, walk_from}
-use Rattle.clap.specs.Facts.{explicit_source}
-use Rattle.clap.specs.Takes.{is_given}
-use Rattle.std.specs.List.{list_any}
-use Rattle.clap.specs.Words.{App, HasKind, IsAmong, fault_of, Kinds, kind_of, Row, Text, first_of, first_value, is_simple, is_simple_and_free, rows_of, subcommand_name_of, subcommand_of, subcommand_rows, subcommand_rows_of, takes}
+use Rattle.clap.specs.Words.{HasKind, IsAmong, Kinds, kind_of, Row, Text, first_of, first_value, is_simple, is_simple_and_free, rows_of, subcommand_name_of, subcommand_of, subcommand_rows, subcommand_rows_of, takes}
 use Rattle.std.specs.Prelude.{Box, IfErr, IsErrAnd, IsSomeAnd, Result, Ok, Err, is_some}
 use Rattle.std.proofs.lemmas.Option.{same_Some}
 use Rattle.ks_requests.specs.Requests.{IsBatchOf, IsPreviewOf}
@@ -140,43 +133,3 @@ fault_told e kinds words.OutOfMemory has h = tt
 pub memory_told : (e : Error) (told : WordsError) → kind_of e ≡ NoMemory → IsTold e told → IsWantOfMemory told
 memory_told e (words.Refused told) memory h = absurd (h.1 memory)
 memory_told e words.OutOfMemory memory h = tt
-
--- words without a command are refused
-later_nil : (first later : Kinds) → or_else first later ≡ [] → later ≡ []
-later_nil [] later e = e
-later_nil (k ∷ ks) later e = absurd cc
-
-command_wanted : (help wanted argument : Bool) → wanted ≡ true → check_kinds help wanted argument ≡ [] → ⊥
-command_wanted true wanted argument is e = absurd cc
-command_wanted false true argument is e = absurd cc
-command_wanted false false argument is e = absurd cc
-
-check_needs : (s : Shape) (rows : List Row) (has : Bool) → s.subcommand_required ≡ true → check_fault s rows has ≡ [] → has ≡ true
-check_needs s rows true required none_refused = refl
-check_needs s rows false required none_refused = absurd (command_wanted (s.arg_required_else_help && not (list_any (λ r. explicit_source r.source) rows))
-    s.subcommand_required
-    (not (s.subcommand_negates_reqs && false) && list_any (λ a. a.required && not (is_given a.id rows)) s.rules) required none_refused)
-
-level_needs : (s : Shape) (names : Names) (h : Held) (words : List Text) (has : Bool) (below : Kinds) → s.subcommand_required ≡ true
-    → level_fault s names h words has below ≡ [] → has ≡ true
-level_needs s names h words has below required none_refused =
-    let end : Held = (walk s.rules names h words).held in
-    let checks : Kinds = check_fault s (finished s.rules end) has in
-    let defaults : Kinds = defaults_fault (settled s.rules end).rows s.rules in
-    let settles : Kinds = settle_fault s.rules s.args_override_self end in
-    check_needs s (finished s.rules end) has required
-    (later_nil defaults checks (later_nil settles (or_else defaults checks) (later_nil below (or_else settles (or_else defaults checks))
-    (later_nil (walk_fault s names (walk_from h) words) (or_else below (or_else settles (or_else defaults checks))) none_refused))))
-
-command_needed : (a : App) (words : List Text) → (built a).top.subcommand_required ≡ true → fault_of a words ≡ [] → is_some (subcommand_of a words) ≡ true
-command_needed a words required none_refused =
-    level_needs (built a).top (names_of (built a)) nothing_held (argument_words a words) (is_some (subcommand_of a words))
-    (entered_fault (built a) (stop_after (built a).top.rules (names_of (built a)) (argument_words a words))) required none_refused
-
-is_required : (built command_line_app).top.subcommand_required ≡ true
-unfolding clap_on_literals
-is_required = refl
-
-pub command_given : (words : List Text) → fault_of command_line_app words ≡ [] → subcommand_of command_line_app words ≡ None → ⊥
-command_given words none_refused no_command =
-    absurd (true≢false (sym (command_needed command_line_app words is_required none_refused) ∙ ap is_some no_command))

@@ -3,7 +3,7 @@ use Rattle.clap.specs.Walk.{texts}
 use Rattle.clap.specs.Words.{HasKind, fault_of, is_simple, is_simple_and_free, subcommand_of, subcommand_rows_of, takes}
 use Rattle.ks_words.specs.CommandLine.{command_line_app}
 use Rattle.ks_words.specs.Words.{IsRequestOf}
-use Rattle.ks_words.proofs.WordLemmas.{batch_of, batch_rows, both, entered_name, command_given, err_all, fault_told, is_free_line, is_simple_line, memory_told, preview_of, preview_rows}
+use Rattle.ks_words.proofs.WordLemmas.{batch_of, batch_rows, both, entered_name, err_all, fault_told, is_free_line, is_simple_line, memory_told, preview_of, preview_rows}
 use Rattle.ks_words.proofs.words.request_of.Goals as goal
 
 pub returns-clause-exact : goal.returns-clause-exact

@@ -30,7 +30,7 @@ static uint64_t with_byte(uint64_t state, unsigned char byte)
     return folded(state ^ thrice, multiplier ^ 2);
 }
 
-/* What a table looks at, of a vector of bytes: its length and then each byte, behind the seed. */
+/* What a table looks at, of a vector of bytes: its length and then each byte, after the seed. */
 static uint32_t place_of(uint64_t state)
 {
     return (uint32_t)(state ^ state >> 32) & CHOSEN;

@@ -1,5 +1,5 @@
 -- Names noted in turn, and paths looked up.
-use Rattle.std.proofs.Common.{◌≡◌, ℕ, Bool, true, false, List, [], ◌∷◌, ◌++◌, refl, ap, sym, ◌∙◌, Some, None, cond, map, zero, suc, Option, option_map}
+use Rattle.std.proofs.Common.{◌≡◌, ℕ, Bool, true, false, List, [], ◌∷◌, ◌++◌, refl, ap, sym, ◌∙◌, Some, None, cond, map, zero, suc, option_map}
 use Rattle.std.specs.Option.{is_some}
 use Rattle.std.specs.Str.{bytes_eq}
 use Rattle.std.specs.Map.{lookup}
@@ -11,7 +11,7 @@ use Rattle.ks_fixdep.specs.declared.dependency_file.Role.{Role}
 use Rattle.std.proofs.lemmas.Grind.{fold-append}
 use Rattle.ks_fixdep.specs.FoundNames.{noted}
 use Rattle.ks_fixdep.specs.FoundNames.{all_noted}
-use Rattle.std.specs.Prelude.{◌||◌, Result, Ok, Err, OnOk, slice_get, if◌then◌else◌}
+use Rattle.std.specs.Prelude.{◌||◌, Result, Ok, Err, OnOk, slice_get}
 use Rattle.std.specs.List.{list_all, list_any}
 use Rattle.std.proofs.lemmas.Option.{get_or_from_slice_get, slice_get_within}
 use Rattle.std.proofs.lemmas.List.Sums.{AllPass-from_list_all}

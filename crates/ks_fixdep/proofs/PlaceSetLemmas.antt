@@ -1,5 +1,5 @@
 -- Places that are pointed to where they stand.
-use Rattle.std.proofs.Common.{◌≡◌, ◌<◌, ◌≤◌, ◌+◌, inl, inr, ℕ, Bool, true, false, zero, suc, List, [], ◌∷◌, ◌++◌, refl, ap, sym, subst, ◌∙◌, get_or, length, length-append, arith, true≢false}
+use Rattle.std.proofs.Common.{◌≡◌, ◌<◌, ◌≤◌, inl, inr, ℕ, Bool, true, false, suc, List, [], ◌∷◌, ◌++◌, refl, ap, sym, subst, ◌∙◌, get_or, length, length-append, arith, true≢false}
 use Rattle.std.specs.Prelude.{nat_eq, nat_lt, slice_set}
 use Rattle.std.specs.List.{list_any}
 use Rattle.std.proofs.lemmas.Bool.{eq-eqb, eqb-true, or_cases, ltb-true, ltb-false}

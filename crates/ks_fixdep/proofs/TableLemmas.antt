@@ -1,11 +1,9 @@
 -- Names by their places in a table.
-use Rattle.std.proofs.Common.{◌≡◌, ◌<◌, ◌≤◌, ◌+◌, inl, inr, ℕ, Bool, true, false, zero, suc, List, [], ◌∷◌, ◌++◌, Option, Some, None, Vec, refl, ap, ap₂, sym, subst, ◌∙◌, cond, append-nil, get_or, length, length-append, map, arith, slice_get, true≢false}
+use Rattle.std.proofs.Common.{◌≡◌, ◌<◌, ◌≤◌, ◌+◌, ℕ, Bool, true, false, zero, suc, List, [], ◌∷◌, ◌++◌, Some, None, Vec, refl, ap, ap₂, sym, subst, ◌∙◌, cond, append-nil, length, length-append, arith, slice_get, true≢false}
 use Rattle.std.specs.Prelude.{◌||◌, bytes_eq, nat_eq, nat_lt}
-use Rattle.std.specs.List.{cons_option, filter_map, find, list_all, list_any}
-use Rattle.std.proofs.lemmas.Bool.{and_parts, and_from, cond-false, cond-true, eq-eqb, eqb-true, lt-ltb, ltb-false, ltb-true}
-use Rattle.std.proofs.lemmas.List.{get_or_append_left, map-append}
+use Rattle.std.specs.List.{cons_option, find, list_all, list_any}
+use Rattle.std.proofs.lemmas.Bool.{and_parts, and_from, cond-true, eq-eqb, eqb-true, lt-ltb, ltb-false, ltb-true}
 use Rattle.std.proofs.lemmas.List.Elements.{filter_map-append}
-use Rattle.std.proofs.lemmas.Option.{get_or_from_slice_get, slice_get-get_or, slice_get_within}
 use Rattle.std.proofs.lemmas.Slice.Eq.{bytes_eq-Decides}
 use Rattle.ks_fixdep.specs.FoundNames.{AreFoundNames, all_noted, noted}
 use Rattle.ks_fixdep.specs.PlaceSet.{with_place}

@@ -1,7 +1,7 @@
 //! A set of places in a table, in the order in which they were put in. A name of a table is known by its place, so a set of names
 //! is a set of small numbers: to look one up needs no hash, and to clear the set costs nothing, however large the table is. Each
 //! place that is in the set points to where it stands among them, and what a place that is not in it points to does not matter.
-ghost use Rattle.std.specs.Prelude.{◌≡◌, ◌≤◌, ◌<◌, [], ℕ, IfOk, OnOk, OnErr, get_or, length, nat_eq, not};
+ghost use Rattle.std.specs.Prelude.{◌≡◌, ◌≤◌, ◌<◌, [], ℕ, IfOk, IfSome, IsTrue, OnOk, OnErr, get_or, length, nat_eq, not};
 ghost use Rattle.std.specs.List.{list_any};
 ghost use Rattle.ks_fixdep.specs.PlaceSet.{with_place};
 
@@ -72,6 +72,13 @@ impl PlaceSet {
         self.places.push(place)?;
         self.points[place] = at;
         Ok(true)
+    }
+
+    /// The place that was put in last.
+    pub(crate) fn last(&self) -> Option<usize>
+        ensures { IfSome result (λ place. IsTrue (list_any (nat_eq place) self.now)) }
+    {
+        self.places.last().copied()
     }
 
     /// The places, in the order in which they were put in.

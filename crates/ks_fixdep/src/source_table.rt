@@ -1,7 +1,8 @@
 //! The names of many sources, each once for all of them. Headers name the same symbols again and again, and hundreds of objects
 //! have the same headers: so the names of a source are kept as their places in one table, and are hashed when the source is read
 //! and never again.
-ghost use Rattle.std.specs.Prelude.{◌≡◌, ◌++◌, ◌∷◌, [], ℕ, IfSome, IsTrue, OnErr, OnOk, get_or, length, slice_get};
+ghost use Rattle.std.specs.Prelude.{◌≡◌, ◌++◌, ◌∷◌, [], ℕ, IfSome, IsTrue, OnErr, OnOk, bytes_eq, get_or, length, slice_get};
+ghost use Rattle.std.specs.List.{list_any};
 ghost use Rattle.std.specs.Option.{option_copied, option_map};
 ghost use Rattle.ks_symbols.specs.Names.{is_name};
 ghost use Rattle.ks_fixdep.specs.FoundNames.{noted};
@@ -64,8 +65,34 @@ impl SourceTable {
         self.sources.clear();
     }
 
+    /// Whether a name is the last one of the source that is being read. A source often names a symbol twice in a row, and this
+    /// needs no hash.
+    fn ends_with(&self, name: &[u8]) -> bool
+        ensures { IsTrue result → IsTrue (list_any (bytes_eq name.now) self.now.current) }
+    {
+        let Some(place) = self.current.last() else {
+            return false;
+        };
+        match self.names.name_at(place) {
+            Some(last) => name == last,
+            None => false,
+        }
+    }
+
     /// Notes a name of the source that is being read.
     pub(crate) fn note(&mut self, name: &[u8]) -> Result<(), AllocError>
+        requires { IsTrue (is_name name.now) }
+        ensures found { self.new.found ≡ self.old.found }
+        ensures current { OnOk result (self.new.current ≡ noted self.old.current name.now) }
+    {
+        if self.ends_with(name) {
+            return Ok(());
+        }
+        self.note_by_hash(name)
+    }
+
+    /// Notes a name that is not likely to be the last one.
+    fn note_by_hash(&mut self, name: &[u8]) -> Result<(), AllocError>
         requires { IsTrue (is_name name.now) }
         ensures found { self.new.found ≡ self.old.found }
         ensures current { OnOk result (self.new.current ≡ noted self.old.current name.now) }

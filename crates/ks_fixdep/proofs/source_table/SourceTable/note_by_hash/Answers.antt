@@ -4,7 +4,7 @@ use Rattle.std.proofs.lemmas.Option.{slice_get_within}
 use Rattle.ks_fixdep.specs.FoundNames.{noted}
 use Rattle.ks_fixdep.specs.SourceTable.{are_within, lists_at, names_at}
 use Rattle.ks_fixdep.proofs.TableLemmas.{all_within_noted, at_noted, at_put, lists_noted, within_noted, within_put}
-use Rattle.ks_fixdep.proofs.source_table.SourceTable.note.Goals as goal
+use Rattle.ks_fixdep.proofs.source_table.SourceTable.note_by_hash.Goals as goal
 
 pub invariant_of-self-in_err-insert : goal.invariant_of-self-in_err-insert
 invariant_of-self-in_err-insert c =

@@ -3,7 +3,7 @@
 //!
 //! Only the system's "no such file" counts as a missing file. A folder, a file in the place of a folder, and every other
 //! failure are `Device`, since a build that takes an unreadable file for a missing one would call objects fresh.
-ghost use Rattle.std.specs.Prelude.{◌≡◌, ◌≢◌, ◌⊎◌, ◌≤◌, ◌+◌, min, length, Some, None, IfErr, IfOk, IfSome, OnOk, MatchOption, IsUtf8, string_bytes, IsErrOf};
+ghost use Rattle.std.specs.Prelude.{◌≡◌, ◌≢◌, ◌⊎◌, ◌≤◌, ◌+◌, min, length, Some, None, IfErr, IfOk, IfSome, OnOk, MatchOption, option_map, IsUtf8, string_bytes, IsErrOf};
 ghost use Rattle.std.specs.Cow.{cow_str_bytes};
 ghost use Rattle.std.specs.FinMap as map;
 ghost use Rattle.ks_tree.specs.Files.{HasRisen};
@@ -12,6 +12,7 @@ ghost use Rattle.ks_tree.specs.ReadAhead.{nothing_of};
 ghost use Rattle.ks_tree.specs.SystemErrors.{fault_of, found_of, meaning_of};
 
 use crate::folder_fault::FolderFault;
+use crate::held::HeldReading;
 use crate::new_file::write_new;
 use crate::read_ahead::KeptFile;
 use crate::system_error::{Meaning, meaning_of};
@@ -38,6 +39,8 @@ pub struct FolderTree<R: Files> {
     kept: Option<KeptFile<R::File>>,
     /// The file that was written last, claimed until it is moved or another one is written.
     written: Option<R::File>,
+    /// What was read ahead of the command, until it is read or a file is written or moved.
+    held: Option<HeldReading>,
 }
 
 /// Whether a file can be read to its end without waiting for anybody: a regular file, a disk, and `/dev/null`.
@@ -95,6 +98,7 @@ where
             last_fault: None,
             kept: None,
             written: None,
+            held: None,
         }
     }
 
@@ -114,6 +118,17 @@ where
         self
     }
 
+    /// Holds what was found at a path, so that the next `read` of that path gives it and doesn't ask the system again. A file
+    /// that is written or moved before then ends that.
+    pub fn hold(&mut self, path: Vec<u8>, found: Option<Vec<u8>>)
+        ensures held { self.new.held ≡ Some (record { path = path.items; found = option_map (λ v. v.items) found }) }
+        ensures failures { self.new.failures ≡ self.old.failures }
+        ensures seed { self.new.seed ≡ self.old.seed }
+        ensures root { self.new.root ≡ self.old.root }
+    {
+        self.held = Some(HeldReading::new(path, found));
+    }
+
     /// What failed last, or `None` where nothing has failed, or nothing can be said of it for want of memory.
     pub fn last_fault(&self) -> Option<&FolderFault> {
         self.last_fault.as_ref()
@@ -123,6 +138,7 @@ where
     fn device(&mut self) -> TreeFault
         ensures device { result ≡ TreeFault.Device }
         ensures untold { self.new.last_fault ≡ None }
+        ensures held { self.new.held ≡ self.old.held }
         ensures later { self.old.failures ≤ self.new.failures }
         ensures counted { self.new.failures ≡ min (self.old.failures + 1) 18446744073709551615 }
     {
@@ -138,6 +154,7 @@ where
         ensures uncounted { result ≡ TreeFault.OutOfMemory → self.new.failures ≡ self.old.failures }
         ensures fault { result ≡ fault_of (meaning_of error.now) }
         ensures told { result ≡ TreeFault.Device → IfSome self.new.last_fault (λ fault. string_bytes fault.path ≡ path.now) }
+        ensures held { self.new.held ≡ self.old.held }
     {
         if meaning_of(error) == Meaning::RefusedMemory {
             return TreeFault::OutOfMemory;
@@ -199,16 +216,75 @@ where
         self.found(alloc, path, outcome)
     }
 
-    /// Moves a file. A failure is told at the path that it was to have, since the temporary one says nothing to a user.
-    fn move_file(&mut self, alloc: Global, from: &[u8], to: &[u8]) -> Result<(), TreeFault>
-        ensures told { IsErrOf result TreeFault.Device → IfSome self.new.last_fault (λ fault. string_bytes fault.path ≡ to.now) }
+    /// Reads a file, or gives what is held for it.
+    fn read_file(&mut self, alloc: Global, path: &[u8]) -> Result<Option<Vec<u8>>, TreeFault>
+        ensures held { IfSome self.old.held (λ held. held.path ≡ path.now →
+            IfOk result (λ found. option_map (λ v. v.items) found ≡ held.found) × IfErr result (λ _. ⊥)) }
+        ensures once { IfSome self.old.held (λ held. held.path ≡ path.now → self.new.held ≡ None) }
+        ensures later { self.old.failures ≤ self.new.failures }
+        ensures passed { OnOk result (self.new.failures ≡ self.old.failures) }
+        ensures uncounted { IsErrOf result TreeFault.OutOfMemory → self.new.failures ≡ self.old.failures }
+        ensures too_large_uncounted { IsErrOf result TreeFault.TooLarge → self.new.failures ≡ self.old.failures }
+        ensures cause { IsErrOf result TreeFault.Device → HasRisen self.old.failures self.new.failures }
+    {
+        if let Some(found) = HeldReading::take(&mut self.held, path) {
+            return Ok(found);
+        }
+        let Some(place) = self.place(alloc, path)? else {
+            return Err(self.device());
+        };
+        let outcome = read_bytes(&self.files, alloc, place.as_str());
+        match self.found(alloc, path, outcome)? {
+            Some(Some(bytes)) => Ok(Some(bytes)),
+            Some(None) => Err(TreeFault::TooLarge),
+            None => Ok(None),
+        }
+    }
+
+    /// Forgets what was read before a file changes.
+    fn forget_readings(&mut self)
+        ensures kept { self.new.kept ≡ None }
+        ensures held { self.new.held ≡ None }
+        ensures failures { self.new.failures ≡ self.old.failures }
+    {
+        self.kept = None;
+        self.held = None;
+    }
+
+    /// Writes a file, which is claimed until it is moved or another one is written.
+    fn write_file(&mut self, alloc: Global, path: &[u8], bytes: &[u8]) -> Result<(), TreeFault>
+        ensures forgotten { self.new.held ≡ None }
         ensures later { self.old.failures ≤ self.new.failures }
         ensures cause { IsErrOf result TreeFault.Device → HasRisen self.old.failures self.new.failures }
         ensures passed { OnOk result (self.new.failures ≡ self.old.failures) }
         ensures uncounted { IsErrOf result TreeFault.OutOfMemory → self.new.failures ≡ self.old.failures }
         ensures never { IsErrOf result TreeFault.TooLarge → ⊥ }
     {
-        self.kept = None;
+        self.forget_readings();
+        self.written = None;
+        let Some(place) = self.place(alloc, path)? else {
+            return Err(self.device());
+        };
+        match write_new(&self.files, place.as_str(), bytes) {
+            Ok(file) => {
+                self.written = Some(file);
+                Ok(())
+            }
+            Err(error) => Err(self.fault(alloc, path, &error)),
+        }
+    }
+
+    /// Moves a file. A failure is told at the path that it was to have, since the temporary one says nothing to a user.
+    fn move_file(&mut self, alloc: Global, from: &[u8], to: &[u8]) -> Result<(), TreeFault>
+        ensures told { IsErrOf result TreeFault.Device → IfSome self.new.last_fault (λ fault. string_bytes fault.path ≡ to.now) }
+        ensures forgotten { self.new.held ≡ None }
+        ensures later { self.old.failures ≤ self.new.failures }
+        ensures cause { IsErrOf result TreeFault.Device → HasRisen self.old.failures self.new.failures }
+        ensures passed { OnOk result (self.new.failures ≡ self.old.failures) }
+        ensures uncounted { IsErrOf result TreeFault.OutOfMemory → self.new.failures ≡ self.old.failures }
+        ensures never { IsErrOf result TreeFault.TooLarge → ⊥ }
+    {
+        self.forget_readings();
         let (Some(old), Some(new)) = (self.place(alloc, from)?, self.place(alloc, to)?) else {
             return Err(self.device());
         };
@@ -263,15 +339,7 @@ where
     ghost failures = { λ t. t.failures };
 
     fn read(&mut self, alloc: Global, path: &[u8]) -> Result<Option<Vec<u8>>, TreeFault> {
-        let Some(place) = self.place(alloc, path)? else {
-            return Err(self.device());
-        };
-        let outcome = read_bytes(&self.files, alloc, place.as_str());
-        match self.found(alloc, path, outcome)? {
-            Some(Some(bytes)) => Ok(Some(bytes)),
-            Some(None) => Err(TreeFault::TooLarge),
-            None => Ok(None),
-        }
+        self.read_file(alloc, path)
     }
 
     fn read_at(
@@ -295,18 +363,7 @@ where
     }
 
     fn write(&mut self, alloc: Global, path: &[u8], bytes: &[u8]) -> Result<(), TreeFault> {
-        self.kept = None;
-        self.written = None;
-        let Some(place) = self.place(alloc, path)? else {
-            return Err(self.device());
-        };
-        match write_new(&self.files, place.as_str(), bytes) {
-            Ok(file) => {
-                self.written = Some(file);
-                Ok(())
-            }
-            Err(error) => Err(self.fault(alloc, path, &error)),
-        }
+        self.write_file(alloc, path, bytes)
     }
 
     fn rename(&mut self, alloc: Global, from: &[u8], to: &[u8]) -> Result<(), TreeFault> {

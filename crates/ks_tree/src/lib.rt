@@ -5,6 +5,7 @@ mod fault;
 mod folder;
 mod folder_fault;
 mod fuse;
+mod held;
 mod memory;
 mod new_file;
 mod paths;

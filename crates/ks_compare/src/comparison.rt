@@ -4,8 +4,8 @@
 //! is work that make does for nothing. So the list is exact: one pass over two lists that rise by the same order.
 //! What of an entry counts for a difference is said once, by `compared` of the definitions: its class and its text.
 ghost use Rattle.std.specs.Prelude.{◌≡◌, IfOk, option_map};
-ghost use Rattle.ks_symbols.specs.Configuration.{IsConfiguration, lent_entry};
-ghost use Rattle.ks_output.specs.OldConfig.{HasNames, lent_old_entry};
+ghost use Rattle.ks_symbols.specs.Configuration.{lent_entry};
+ghost use Rattle.ks_output.specs.OldConfig.{lent_old_entry};
 ghost use Rattle.ks_compare.specs.Changes.{AreChanges};
 ghost use Rattle.ks_compare.specs.Pass.{seen_step, step, with_first};
 
@@ -59,10 +59,10 @@ fn next_new<'a>(rest: &mut Entries<'a>) -> Option<(&'a [u8], Kind, &'a [u8])>
 /// The names that have a text in one of the two alone, or in both another text or another class: rising, each once. A
 /// name that has no class yet, as in an auto.conf of the untyped form, has another one now.
 pub fn changed(alloc: Global, old: &OldConfig, new: &Settings) -> Result<Vec<Name>, AllocError>
-    requires old { HasNames old.now.texts }
-    requires new { IsConfiguration new.now.entries }
     ensures { IfOk result (λ names. AreChanges old.now.texts new.now.entries names.items) }
 {
+    old.keeps_names();
+    new.keeps_configuration();
     let mut names = Vec::new(alloc);
     let mut old_rest = old.entries();
     let mut new_rest = new.entries();

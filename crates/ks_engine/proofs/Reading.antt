@@ -1,9 +1,7 @@
 -- What the calls of the layers below give for the definitions of auto.conf and of the two texts.
 use Rattle.std.proofs.Common.{◌≡◌, ◌⊎◌, inl, inr, ℕ, ◌+◌, ◌<◌, ◌≤◌, List, Option, Some, None, Result, Ok, Err, sym, ◌∙◌, ap, ap₂, refl, subst, length, nat_eq, if◌then◌else◌}
 use Rattle.std.proofs.lemmas.Bool.{lt-ltb, le-ltb, ne_eqb, cond-true, cond-false}
-use Rattle.std.specs.Ordering.{nat_cmp}
-use Rattle.std.specs.Cmp.Lexicographic.{slice_cmp}
-use Rattle.std.specs.FinMap.{get, empty, get-empty}
+use Rattle.std.specs.FinMap.{get, empty}
 use Rattle.ks_symbols.specs.declared.kinds.Kind.{Kind}
 use Rattle.ks_symbols.specs.Configuration.{IsConfiguration, Configuration}
 use Rattle.ks_symbols.specs.Lines.{max_bytes, lines}
@@ -14,8 +12,7 @@ use Rattle.ks_output.specs.declared.auto_conf.AutoError.{AutoError}
 use Rattle.ks_output.specs.declared.auto_conf.AutoError.TheVariants as auto
 use Rattle.ks_output.specs.AutoText.{auto_text}
 use Rattle.ks_output.specs.AutoConf.{auto_map, auto_generation, auto_refusal}
-use Rattle.ks_symbols.specs.declared.kinds.Class.{Class}
-use Rattle.ks_output.specs.OldConfig.{Texts, OldTexts, HasNames}
+use Rattle.ks_output.specs.OldConfig.{OldTexts, HasNames}
 use Rattle.ks_tree.specs.Files.{Files, content, IsTooLarge}
 use Rattle.ks_tree.specs.Paths.{auto_path}
 use Rattle.ks_tree.specs.declared.fault.TreeFault.{TreeFault}
@@ -98,15 +95,6 @@ pub old_none : (old : OldTexts) (file : Option (List ℕ)) → file ≡ None →
 unfolding old_auto
 old_none old file at none zero =
     ap old_auto at ∙ ap (λ a. Ok a) (same_old _ (old_of old) (sym none) (sym zero))
-
-pub names_none : (old : OldTexts) → old.texts ≡ empty → HasNames old.texts
-names_none old none = subst HasNames (sym none) (λ x t is. absurd (not_there x t is))
-  where
-    no_texts : Texts
-    no_texts = empty
-
-    not_there : (x : List ℕ) (t : Option Class × List ℕ) → get no_texts x ≡ Some t → ⊥
-    not_there x t is = let none : Some t ≡ None = sym is ∙ get-empty (slice_cmp nat_cmp) x in cc
 
 -- the generation of what was read
 pub generation_of : (file : Option (List ℕ)) (a : OldAuto) (r : Result ℕ EngineError) → old_auto file ≡ Ok a → synced_at a ≡ r → last_generation file ≡ r

@@ -1,7 +1,6 @@
 //! What the last completed synchronisation left in auto.conf. It is replaced last, so its generation is that of header and stamps
 //! as well, unless a synchronisation was broken off behind it.
-ghost use Rattle.std.specs.Prelude.{◌≡◌, ◌⊎◌, ◌↔◌, ◌≤◌, IfOk, IsErrOf};
-ghost use Rattle.ks_output.specs.OldConfig.{HasNames};
+ghost use Rattle.std.specs.Prelude.{◌≡◌, ◌⊎◌, ◌↔◌, ◌≤◌, IsErrOf};
 ghost use Rattle.ks_tree.specs.Frames.{Reads};
 ghost use Rattle.ks_tree.specs.Files.{content};
 ghost use Rattle.ks_tree.specs.Paths.{auto_path};
@@ -18,7 +17,6 @@ use std::alloc::Global;
 pub fn read_old<T: Tree>(alloc: Global, tree: &mut T) -> Result<OldConfig, EngineError>
     ensures reads { Reads T.Tree tree.old tree.new (IsErrOf result EngineError.Device) }
     ensures read { T.is_honest → Answers (old_auto (content (T.files tree.old) auto_path)) old_of result }
-    ensures names { IfOk result (λ old. HasNames old.texts) }
 {
     match tree.read(alloc, auto_path())? {
         Some(text) => Ok(read_auto(alloc, &text)?),

@@ -2,9 +2,7 @@
 //! generation, or why it is refused. Nothing is written here, and no text is made: who only asks what would be touched
 //! needs none.
 ghost use Rattle.std.specs.Prelude.{◌≡◌, ◌⊎◌, Ok, Err, IfOk, IfErr, IsErrOf};
-ghost use Rattle.ks_symbols.specs.Configuration.{IsConfiguration};
 ghost use Rattle.ks_symbols.specs.Refusals.{RefusedBy};
-ghost use Rattle.ks_output.specs.OldConfig.{HasNames};
 ghost use Rattle.ks_tree.specs.Frames.{Reads};
 ghost use Rattle.ks_engine.specs.Refusals.{IsGivenUp};
 ghost use Rattle.ks_engine.specs.SyncPlan.{AreSources, IsSyncPlan, plan_of, plan_over, source_refusal};
@@ -41,10 +39,10 @@ pub fn read_sources(alloc: Global, kconfig: &[u8], dotconfig: &[u8]) -> Result<S
 
 /// What a synchronisation over an old auto.conf reports, or `None` where no generation comes after that one.
 pub fn plan(alloc: Global, sources: &Sources, old: &OldConfig) -> Result<Option<Report>, AllocError>
-    requires old { HasNames old.now.texts }
-    requires new { IsConfiguration sources.now.settings.entries }
     ensures { IfOk result (PlansOver (sources_of sources.now) (old_of old.now)) }
 {
+    old.keeps_names();
+    sources.settings.keeps_configuration();
     if old.generation() == u64::MAX {
         return Ok(None);
     }
@@ -60,8 +58,6 @@ pub fn plan(alloc: Global, sources: &Sources, old: &OldConfig) -> Result<Option<
 
 /// What a synchronisation over an old auto.conf reports, unless its auto.conf would be too long to be read again.
 fn report_over(alloc: Global, sources: &Sources, old: &OldConfig) -> Result<Report, EngineError>
-    requires old { HasNames old.now.texts }
-    requires new { IsConfiguration sources.now.settings.entries }
     ensures no_device { IsErrOf result EngineError.Device → ⊥ }
     ensures planned { IfOk result (λ report. (plan_over (sources_of sources.now) (old_of old.now) ≡ Ok (plan_of (sources_of sources.now) (old_of old.now)))
         × IsReport (plan_of (sources_of sources.now) (old_of old.now)) report) }

@@ -20,13 +20,15 @@ pub struct OldConfig {
 }
 
 impl Model for OldConfig {
-    ghost use Rattle.ks_output.specs.OldConfig.{OldTexts, coded_old_texts};
+    ghost use Rattle.ks_output.specs.OldConfig.{HasNames, OldTexts, coded_old_texts};
 
     ghost Value = { OldTexts };
 
     ghost coded = { coded_old_texts };
 
     ghost view = { λ s. record { texts = s.texts; generation = s.generation } };
+
+    ghost invariant = { λ s. HasNames s.texts };
 }
 
 /// The entries of an auto.conf, by rising names: name, class and text.
@@ -108,6 +110,13 @@ impl OldConfig {
             inner: self.texts.rows(),
         }
     }
+
+    /// Does nothing. Its contract says what an old configuration always has: legal names.
+    pub fn keeps_names(&self)
+        ensures { HasNames self.now.texts }
+    {
+        let _ = &self.texts;
+    }
 }
 
 /// An old configuration while its lines are read.
@@ -159,6 +168,7 @@ impl OldDraft {
     }
 
     pub(crate) fn close(self, alloc: Global) -> Result<OldConfig, AllocError>
+        requires { HasNames self.texts }
         ensures { IfOk result (λ c. c ≡ self) }
     {
         Ok(OldConfig {

@@ -5,7 +5,6 @@
 ghost use Rattle.std.specs.Prelude.{◌≡◌, ◌+◌, ◌++◌, None, IfOk, OnOk, IfErr, IsErrOf, option_map};
 ghost use Rattle.ks_symbols.specs.Refusals.{RefusedBy};
 ghost use Rattle.ks_output.specs.AutoText.{auto_text};
-ghost use Rattle.ks_output.specs.OldConfig.{HasNames};
 ghost use Rattle.ks_requests.specs.declared.preview.PreviewError.TheVariants.{Auto, OutOfMemory, Source};
 ghost use Rattle.ks_requests.specs.Preview.{IsPreview, PreviewRefusedBy, Previews, WritesNothing, old_generation, old_refusal, old_texts, preview_refusal, touch_lines};
 
@@ -63,7 +62,6 @@ impl From<AllocError> for PreviewError {
 fn read_old(alloc: Global, old: Option<&[u8]>) -> Result<OldConfig, AutoError>
     ensures texts { IfOk result (λ c. c.texts ≡ old_texts (option_map (λ t. t.now) old.entry)) }
     ensures generation { IfOk result (λ c. c.generation ≡ old_generation (option_map (λ t. t.now) old.entry)) }
-    ensures names { IfOk result (λ c. HasNames c.texts) }
     ensures refusal { RefusedBy AutoError.OutOfMemory result (old_refusal (option_map (λ t. t.now) old.entry)) }
 {
     match old {

@@ -7,7 +7,7 @@ ghost use Rattle.std.specs.Prelude.{◌≡◌, ◌≢◌, ◌+◌, ◌^◌, ◌<
 ghost use Rattle.std.specs.FinMap as map;
 ghost use Rattle.ks_symbols.specs.Lines.{lines};
 ghost use Rattle.ks_symbols.specs.Values.{text_of};
-ghost use Rattle.ks_symbols.specs.Configuration.{HasSymbolNames, IsConfiguration};
+ghost use Rattle.ks_symbols.specs.Configuration.{IsConfiguration};
 ghost use Rattle.ks_symbols.specs.Statements.{statement};
 ghost use Rattle.ks_symbols.specs.DotConfig.{entry_with, value_fault, is_of_unknown, fault_of_statement, setting, unknown_count, dotconfig_refusal};
 ghost use Rattle.ks_symbols.specs.Refusals.{RefusedBy};
@@ -99,11 +99,12 @@ pub fn draft_settings(
     ensures entries { IfOk result (λ s. (x : List ℕ) → map.get s.entries x ≡ setting (map.get symbols.now.kinds) (lines text.now) x) }
     ensures unknown { IfOk result (λ s. s.unknown ≡ unknown_count (map.get symbols.now.kinds) (lines text.now)) }
     ensures refusal { RefusedBy SourceError.OutOfMemory result (dotconfig_refusal (map.get symbols.now.kinds) text.now) }
-    ensures configured { HasSymbolNames (map.get symbols.now.kinds) → IfOk result (λ s. IsConfiguration s.entries) }
+    ensures configured { IfOk result (λ s. IsConfiguration s.entries) }
 {
     if text.len() > MAX_BYTES {
         return Err(SourceError::TooLarge);
     }
+    symbols.keeps_names();
     let mut settings = SettingsDraft::new(alloc);
     let mut number: u64 = 1;
     for line in text.lines() {
@@ -122,7 +123,7 @@ pub fn read_dotconfig(
     ensures entries { IfOk result (λ s. (x : List ℕ) → map.get s.entries x ≡ setting (map.get symbols.now.kinds) (lines text.now) x) }
     ensures unknown { IfOk result (λ s. s.unknown ≡ unknown_count (map.get symbols.now.kinds) (lines text.now)) }
     ensures refusal { RefusedBy SourceError.OutOfMemory result (dotconfig_refusal (map.get symbols.now.kinds) text.now) }
-    ensures configured { HasSymbolNames (map.get symbols.now.kinds) → IfOk result (λ s. IsConfiguration s.entries) }
+    ensures configured { IfOk result (λ s. IsConfiguration s.entries) }
 {
     let draft = draft_settings(alloc, text, symbols)?;
     Ok(draft.close(alloc)?)

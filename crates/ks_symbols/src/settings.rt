@@ -3,7 +3,7 @@ ghost use Rattle.std.specs.Prelude.{◌≡◌, ◌+◌, ◌^◌, ◌<◌, OnOk, 
 ghost use Rattle.std.specs.FinMap as map;
 ghost use Rattle.std.specs.Iterator.{item_count};
 ghost use Rattle.std.specs.Map.Iter.{TakesFirst};
-ghost use Rattle.ks_symbols.specs.Configuration.{lent_entry};
+ghost use Rattle.ks_symbols.specs.Configuration.{IsConfiguration, lent_entry};
 
 use crate::kinds::Kind;
 use crate::table::{Draft, Rows, Table};
@@ -18,13 +18,15 @@ pub struct Settings {
 }
 
 impl Model for Settings {
-    ghost use Rattle.ks_symbols.specs.Configuration.{SettingsView, coded_settings_view};
+    ghost use Rattle.ks_symbols.specs.Configuration.{SettingsView, coded_settings_view, IsConfiguration};
 
     ghost Value = { SettingsView };
 
     ghost coded = { coded_settings_view };
 
     ghost view = { λ s. record { entries = s.entries; unknown = s.unknown } };
+
+    ghost invariant = { λ s. IsConfiguration s.entries };
 }
 
 /// The entries of settings, by rising names: name, kind and text.
@@ -80,6 +82,13 @@ impl Settings {
         ensures { result ≡ self.now.unknown }
     {
         self.unknown
+    }
+
+    /// Does nothing. Its contract says what settings always are: a configuration.
+    pub fn keeps_configuration(&self)
+        ensures { IsConfiguration self.now.entries }
+    {
+        let _ = &self.entries;
     }
 }
 
@@ -139,6 +148,7 @@ impl SettingsDraft {
 
     /// The settings, put in order.
     pub fn close(self, alloc: Global) -> Result<Settings, AllocError>
+        requires { IsConfiguration self.entries }
         ensures { IfOk result (λ s. s ≡ self) }
     {
         Ok(Settings {

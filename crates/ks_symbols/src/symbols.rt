@@ -1,7 +1,7 @@
 //! The declared symbols.
 ghost use Rattle.std.specs.Prelude.{◌≡◌};
 ghost use Rattle.std.specs.FinMap as map;
-ghost use Rattle.ks_symbols.specs.Configuration.{kinds_in};
+ghost use Rattle.ks_symbols.specs.Configuration.{HasSymbolNames, kinds_in};
 
 use crate::kinds::Kind;
 use crate::table::Table;
@@ -15,17 +15,21 @@ pub struct Symbols {
 }
 
 impl Model for Symbols {
-    ghost use Rattle.ks_symbols.specs.Configuration.{Declarations, coded_declarations, kinds_in};
+    ghost use Rattle.std.specs.FinMap.{get};
+    ghost use Rattle.ks_symbols.specs.Configuration.{Declarations, HasSymbolNames, coded_declarations, kinds_in};
 
     ghost Value = { Declarations };
 
     ghost coded = { coded_declarations };
 
     ghost view = { λ s. record { kinds = kinds_in s.kinds; title = s.title.items } };
+
+    ghost invariant = { λ s. HasSymbolNames (get (kinds_in s.kinds)) };
 }
 
 impl Symbols {
     pub(crate) fn new(kinds: Table<Kind>, title: Vec<u8>) -> Symbols
+        requires { HasSymbolNames (map.get (kinds_in kinds)) }
         ensures kinds { result.kinds ≡ kinds_in kinds }
         ensures title { result.title ≡ title.items }
     {
@@ -46,5 +50,12 @@ impl Symbols {
             Some((kind, _)) => Some(kind),
             None => None,
         }
+    }
+
+    /// Does nothing. Its contract says what symbols always have: legal names.
+    pub(crate) fn keeps_names(&self)
+        ensures { HasSymbolNames (map.get self.now.kinds) }
+    {
+        let _ = &self.kinds;
     }
 }

@@ -1,6 +1,4 @@
 //! Worked comparisons: an old auto.conf, new settings, and the names that changed.
-ghost use Rattle.ks_output.specs.OldConfig.{HasNames};
-
 use ks_compare::changed;
 use ks_output::{OldConfig, read_auto};
 use ks_symbols::{Name, read_dotconfig, read_kconfig};
@@ -10,9 +8,7 @@ const KCONFIG: &[u8] =
     b"config A\n\tbool\nconfig B\n\ttristate\nconfig S\n\tstring\nconfig H\n\thex\nconfig I\n\tint\n";
 
 /// The names that change between an old configuration and a `.config`.
-fn changes(alloc: Global, old: &OldConfig, dotconfig: &[u8]) -> Result<String, AllocError>
-    requires { HasNames old.now.texts }
-{
+fn changes(alloc: Global, old: &OldConfig, dotconfig: &[u8]) -> Result<String, AllocError> {
     changes_by(alloc, KCONFIG, old, dotconfig)
 }
 
@@ -22,9 +18,7 @@ fn changes_by(
     kconfig: &[u8],
     old: &OldConfig,
     dotconfig: &[u8],
-) -> Result<String, AllocError>
-    requires { HasNames old.now.texts }
-{
+) -> Result<String, AllocError> {
     let Ok(symbols) = read_kconfig(alloc, kconfig) else {
         return String::from_str(alloc, "Kconfig");
     };

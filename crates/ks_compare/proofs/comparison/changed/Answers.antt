@@ -36,7 +36,7 @@ loop-names-init c =
     record {
       all = ap (λ (l : List (List ℕ)). l ++ merged (with_first (option_map lent_old_entry c.next_old-before.result) c.next_old-before.new.rest)
           (with_first (option_map lent_entry c.next_new-after.result) c.next_new-after.new.rest)) c.new-names.ensures.items ∙ start;
-      legal = subst AreLegal (sym start) (legal_changes old new c.requires.old c.requires.new);
+      legal = subst AreLegal (sym start) (legal_changes old new c.keeps_names.ensures c.keeps_configuration.ensures);
     }
 
 pub returns-in-Ends : goal.returns-in-Ends

@@ -2,7 +2,7 @@ use Rattle.std.proofs.Common.{sym, ◌∙◌, ap, Some, Err, option_map}
 use Rattle.std.proofs.lemmas.Result.{err_from_is_err_and}
 use Rattle.ks_tree.specs.Files.{content}
 use Rattle.ks_tree.specs.Paths.{auto_path}
-use Rattle.ks_engine.proofs.Reading.{old_fault, old_refused, old_read, old_none, names_none}
+use Rattle.ks_engine.proofs.Reading.{old_fault, old_refused, old_read, old_none}
 use Rattle.ks_engine.proofs.last_sync.read_old.Goals as goal
 
 pub returns-in_err-text-clause-read : goal.returns-in_err-text-clause-read
@@ -31,6 +31,3 @@ returns-in-None-clause-read g c = λ honest.
     let at = ap (content (g.T.Tree.files c.args.tree.now)) (sym c.auto_path.ensures) ∙ sym (c.in_ok-text.ensures.found honest) ∙ ap
     (option_map (λ v. v.items)) c.in-None.is in
     old_none c.empty.result (content (g.T.Tree.files c.args.tree.now) auto_path) at c.empty.ensures.texts c.empty.ensures.generation
-
-pub returns-in-None-clause-names : goal.returns-in-None-clause-names
-returns-in-None-clause-names g c = names_none c.empty.result c.empty.ensures.texts

@@ -17,5 +17,5 @@ returns-clause-read c =
     c.in_ok-draft.ensures.entries c.in_ok-draft.ensures.unknown
     (record {
       title = subst (λ t. IsTrue (is_title t)) (sym copied) c.in_ok-symbols.ensures.titled;
-      config = c.in_ok-draft.ensures.configured c.in_ok-symbols.ensures.names;
+      config = c.in_ok-draft.ensures.configured;
     }))

@@ -95,5 +95,5 @@ returns-clause-refusal c =
     ∙ no_fault_left (line_fault kinds) n
 
 pub returns-clause-configured : goal.returns-clause-configured
-returns-clause-configured c = λ names.
-    configured (map.get c.args.symbols.now.kinds) (lines c.args.text.now) c.loop-line.settings.entries names (returns-clause-entries c)
+returns-clause-configured c =
+    configured (map.get c.args.symbols.now.kinds) (lines c.args.text.now) c.loop-line.settings.entries c.keeps_names.ensures (returns-clause-entries c)

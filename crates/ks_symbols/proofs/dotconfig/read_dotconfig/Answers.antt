@@ -3,5 +3,4 @@ use Rattle.ks_symbols.specs.Configuration.{IsConfiguration, SettingsView}
 use Rattle.ks_symbols.proofs.dotconfig.read_dotconfig.Goals as goal
 
 pub returns-clause-configured : goal.returns-clause-configured
-returns-clause-configured c = λ names. subst (λ (s : SettingsView). IsConfiguration s.entries)
-    (sym c.in_ok-close.ensures) (c.in_ok-draft.ensures.configured names)
+returns-clause-configured c = subst (λ (s : SettingsView). IsConfiguration s.entries) (sym c.in_ok-close.ensures) c.in_ok-draft.ensures.configured

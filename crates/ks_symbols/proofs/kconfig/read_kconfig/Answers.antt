@@ -13,6 +13,16 @@ use Rattle.ks_symbols.proofs.kconfig.read_kconfig.Goals as goal
 pub returns-then-text-gt-MAX_BYTES-clause-refusal : goal.returns-then-text-gt-MAX_BYTES-clause-refusal
 returns-then-text-gt-MAX_BYTES-clause-refusal c = inr (too_long c.args.text.now c.if-text-gt-MAX_BYTES.true)
 
+pub new-requires : goal.new-requires
+new-requires c =
+    let r = c.in_ok-read.ensures.refusal in
+    let none : kconfig_refusal c.args.text.now ≡ None = sym r.2 ∙ ap (λ o. or_else o r.0) (sym c.in_default.ensures.clash) ∙ r.1 in
+    λ x k e. declares_names c.args.text.now none x k (sym (get-kinds_in c.in_ok-kinds.kinds x
+    ∙ ap (option_map (λ s. s.0)) (c.in_ok-kinds.ensures x)
+    ∙ kind_of_first (first_kind c.take_lines-read.new.self.declared x)
+    ∙ c.in_default.ensures.kinds x
+    ∙ c.in_ok-read.ensures.kinds (sym c.in_default.ensures.clash) x) ∙ e)
+
 pub returns-clause-kinds : goal.returns-clause-kinds
 returns-clause-kinds c = λ x.
     ap (λ m. map.get m x) c.new.ensures.kinds

@@ -1,0 +1,6 @@
+use Rattle.std.proofs.Common.{sym, ap, subst, ◌∙◌}
+use Rattle.ks_symbols.specs.Configuration.{IsConfiguration}
+use Rattle.ks_symbols.proofs.settings.SettingsDraft.close.Goals as goal
+
+pub invariant_of-result : goal.invariant_of-result
+invariant_of-result c = subst IsConfiguration (sym (c.in_ok-close.ensures ∙ ap (λ s. s.entries) c.self.view_is)) c.requires

@@ -1,0 +1,7 @@
+use Rattle.std.proofs.Common.{subst}
+use Rattle.std.specs.FinMap as map
+use Rattle.ks_symbols.specs.Configuration.{Declarations, HasSymbolNames}
+use Rattle.ks_symbols.proofs.symbols.Symbols.keeps_names.Goals as goal
+
+pub returns : goal.returns
+returns c = subst (λ (d : Declarations). HasSymbolNames (map.get d.kinds)) c.self.view_is c.self.invariant

@@ -9,7 +9,7 @@ use folder::{Place, is_folder, take_place};
 use ks_program::execute;
 use ks_streams::Stream;
 use ks_tree::FolderTree;
-use lock::{is_alone, lock_folder};
+use lock::{Script, access_of, lock_folder};
 use lost_numbers::{last_generation, numbers_are_lost};
 use std::alloc::{AllocError, Global};
 use std::hash::{BuildHasher, Hasher, RandomState};
@@ -73,9 +73,13 @@ fn run_locked(
     tree: &mut FolderTree<&HostRuntime>,
     place: &Place<'_>,
 ) -> io::Result<u8> {
-    let alone = is_alone(rt.alloc(), tree, place.words)?;
+    let access = access_of(rt.alloc(), tree, place.words)?;
+    let alone = access.as_ref().map(|access| access.is_alone);
     let _locked = lock_folder(rt, place.folder.as_str(), alone)?;
     let lost = alone == Some(true) && numbers_are_lost(rt.alloc(), tree);
+    if let Some(Script { path, found }) = access.and_then(|access| access.script) {
+        tree.hold(path, found);
+    }
     let status = answer(rt, tree, place.words)?;
     // Only a synchronisation that was completed has begun the numbers again.
     if lost && last_generation(rt.alloc(), tree).is_some_and(|generation| generation > 0) {

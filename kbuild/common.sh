@@ -1,11 +1,15 @@
 # What the hooks share; sourced by them.
 
-here=$(cd "$(dirname "$0")" && pwd)
+case $0 in
+/*) here=${0%/*} ;;
+*) here=$(cd "$(dirname "$0")" && pwd) ;;
+esac
 config=${KCONFIG_CONFIG:-.config}
 auto=include/config/auto.conf
 bare=include/config/Kconfig.bare
 kept=include/config/confstamp.config
 last=include/config/confstamp.generation
+records=include/config/confstamp.records
 
 # The program: the one of CONFSTAMP, or that was installed with the hooks, or the one in PATH.
 confstamp=${CONFSTAMP:-$here/../../../bin/confstamp}
@@ -41,18 +45,36 @@ folders_only() {
     done
 }
 
+# $work: a folder that goes when the hook ends.
+make_work_folder() {
+    work=$(mktemp -d)
+    trap 'rm -rf "$work"' EXIT
+    trap 'exit 2' HUP INT TERM
+}
+
+# list_targets DIR..: $work/targets has what was recorded there. Where that is nothing the hook ends.
+list_targets() {
+    "$here/objects" "$@" > "$work/targets"
+    if [ ! -s "$work/targets" ]; then
+        tell 'nothing was asked'
+        exit 2
+    fi
+}
+
 # kconfigs COMMANDS: the Kconfig files that the kernel's tool has read, where they stand, by its auto.conf.cmd. Kbuild takes
-# no path with a blank. A build folder of its own has a link `source`, for whoever isn't called by make.
+# no path with a blank. A build folder of its own has a link `source`, for whoever isn't called by make; a file there comes
+# before the one of the sources.
 kconfigs() {
     sources=${srctree:-.}
     [ -e "$sources/Kconfig" ] || [ ! -e source/Kconfig ] || sources=source
-    for file in $(awk '/^deps_config := / { inside = 1; next } inside && NF == 0 { exit } inside { print $1 }' "$1"); do
-        if [ -e "$file" ]; then
-            echo "$file"
-        else
-            echo "$sources/$file"
-        fi
-    done
+    awk -v sources="$sources" '
+        /^deps_config := / { inside = 1; next }
+        !inside { next }
+        NF == 0 { exit }
+        sources == "." { print $1; next }
+        (getline line < $1) < 0 { print sources "/" $1; next }
+        { close($1); print $1 }
+    ' "$1"
 }
 
 # undeclared KCONFIG: the names of .config that it doesn't declare.
@@ -73,9 +95,36 @@ difference_of_config() {
     elif [ ! -f "$config" ]; then
         echo 'there is none'
     elif ! grep -qsxFf "$last" "$auto" || ! cmp -s "$config" "$kept"; then
-        { "$confstamp" diff "$bare" "$config" 2>&1 || :; [ ! -e "$bare" ] || undeclared "$bare" | sed 's/$/ is new/'; } | awk '
+        { "$confstamp" diff "$bare" "$config" 2>&1 || :; } | awk '
+            / warning: / { next }
+            $1 == "unknown" { $0 = $2 " is new" }
             { if (!count++) first = substr($0, 1, 120) }
             END { if (count) print first (count > 1 ? ", and " count - 1 " more" : "") }
         '
     fi
+}
+
+# by_folder ANSWERS: a table of the folders in which something is stale: how many of how many objects, and of the symbols that
+# they are stale by the three most frequent ones. The folder with the most comes first.
+by_folder() {
+    awk '
+        /^ / { next }
+        {
+            folder = $1
+            if (!sub(/\/[^\/]*$/, "", folder)) folder = "."
+            all[folder]++
+        }
+        $2 == "stale" { stale[folder]++; by[folder " " $3]++ }
+        END {
+            for (pair in by) {
+                split(pair, part, " ")
+                print stale[part[1]], all[part[1]], part[1], by[pair], part[2]
+            }
+        }
+    ' "$1" | sort -k1,1nr -k3,3 -k4,4nr -k5,5 | awk '
+        $3 != folder { if (folder != "") print line; folder = $3; shown = 0; line = sprintf("%7d of %5d %s:", $1, $2, $3) }
+        shown++ < 3 { line = line (shown > 1 ? ", " : " ") $5 }
+        shown == 4 { line = line ", .." }
+        END { if (folder != "") print line }
+    '
 }

@@ -16,19 +16,50 @@ confstamp-prefix = $(if $(findstring savedcmd_,$(value cmd-check)),,cmd_)
 # the dependency file before the record, where it is in use; the hook does that.
 confstamp-record = $(if $(and $(confstamp-prefix),$(CONFIG_TRIM_UNUSED_KSYMS)),,$(confstamp-directly)) \
 	$(CONFSTAMP_KBUILD)/fixdep $(depfile) $@ '$(make-cmd)' $(confstamp-prefix) ||
-confstamp-directly = { $(CONFSTAMP) record -- $(depfile) $@ '$(make-cmd)' > /dev/null 2>&1 \
+confstamp-directly = { $(CONFSTAMP) record -- $(depfile) $@ '$(make-cmd)' 2> /dev/null >> $(confstamp-records) \
 	$(if $(confstamp-prefix),&& echo 'cmd_$@ := $$(savedcmd_$@)' >> $(dot-target).cmd); } ||
+
+# What record says goes to the list of what was recorded here. An external module may stand in nobody's own tree.
+confstamp-records = $(if $(KBUILD_EXTMOD),/dev/null,include/config/confstamp.records)
 
 # In front of the command of the kernel's conf.
 confstamp-syncconfig = $(if $(filter syncconfig,$@),$(CONFSTAMP_KBUILD)/syncconfig)
 
 # Has auto.conf another generation than the hook's last one, or none, or is .config not the text that was synchronised then?
-# File times don't say it: a .config that was copied back may have an old one.
-confstamp-unsynchronised = $(shell grep -qsxFf include/config/confstamp.generation include/config/auto.conf && \
-	cmp -s $(KCONFIG_CONFIG) include/config/confstamp.config || echo yes)
+# File times don't say it: a .config that was copied back may have an old one. make reads the files itself where it can
+# (from GNU make 4.2 on), since each process would cost more than that.
+ifeq ($(filter 3.% 4.0% 4.1%,$(MAKE_VERSION)),)
+define confstamp-line-feed
 
-# Where a recipe fails make removes what it has changed, and with auto.conf the generation would be lost.
-define confstamp-rules
-.PRECIOUS: include/config/auto.conf
-$(if $(confstamp-unsynchronised),include/config/auto.conf: FORCE)
+
 endef
+confstamp-last = $(file < include/config/confstamp.generation)
+confstamp-number = $(and $(confstamp-last),$(findstring $(confstamp-line-feed)$(confstamp-last)$(confstamp-line-feed),$(file \
+	< include/config/auto.conf)$(confstamp-line-feed)))
+confstamp-same = $(and $(findstring $(1),$(2)),$(findstring $(2),$(1)))
+confstamp-synchronised = $(and $(confstamp-number),$(call confstamp-same,$(file < $(KCONFIG_CONFIG)),$(file \
+	< include/config/confstamp.config)))
+else
+confstamp-synchronised = $(shell grep -qsxFf include/config/confstamp.generation include/config/auto.conf && \
+	cmp -s $(KCONFIG_CONFIG) include/config/confstamp.config && echo yes)
+endif
+
+# Where a recipe fails make removes its targets, and with auto.conf the generation would be lost; a synchronisation that fails
+# leaves its files as they may be. One that is part of a build counts no objects, since make is about to compile them.
+define confstamp-rules
+.PRECIOUS: $(addprefix include/,config/auto.conf config/auto.conf.cmd generated/autoconf.h generated/rustc_cfg)
+export CONFSTAMP_BUILDS := yes
+$(if $(confstamp-synchronised),,include/config/auto.conf: FORCE)
+endef
+
+# kbuild/stale --make asks what make would record, by make -n. Recipes that begin with `+` run even then, and the link of
+# vmlinux and of modules does, and rustc. So no recipe is left; each object that isn't up to date is told on a line of its
+# own, with its command as a word of the shell, and the files that make takes for newer.
+ifdef CONFSTAMP_ASKS
+confstamp-told = $(if $(newer-prereqs)$(cmd-check),$(info confstamp-told $@ '$(make-cmd)' $(newer-prereqs)))@:
+override if_changed_dep = $(confstamp-told)
+override if_changed_rule = $(confstamp-told)
+override if_changed = @:
+override if_changed_except = @:
+override cmd = @:
+endif

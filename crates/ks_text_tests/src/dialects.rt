@@ -1,0 +1,91 @@
+//! Texts with known names in U-Boot and in BusyBox, in pieces of several sizes.
+ghost use Rattle.std.specs.Prelude.{◌<◌};
+
+use ks_fixdep::{Dialect, NamesBySource, Rules, Seed, names_of_object};
+use std::alloc::{AllocError, Global};
+use std::test::Fail;
+
+/// The names of a text that comes in pieces of a size, each after a space.
+fn names_by(alloc: Global, rules: Rules, text: &[u8], size: usize) -> Result<Vec<u8>, AllocError>
+    requires { 0 < size }
+{
+    let mut found = NamesBySource::with_seed(alloc, Seed::new(0));
+    for piece in text.chunks(size) {
+        found.scan.feed_as(rules, piece)?;
+    }
+    found.scan.end_source_as(rules)?;
+    found.sources.push(0)?;
+    let names = names_of_object(alloc, Seed::new(0), &found)?;
+    let mut all = Vec::new(alloc);
+    for name in &names {
+        all.push(b' ')?;
+        all.extend_from_slice(name.as_bytes())?;
+    }
+    Ok(all)
+}
+
+#[test]
+#[rattlefmt::skip]
+fn words_of_busybox(rt: HostRuntime) -> Result<(), Fail> {
+    let rows: [(&[u8], &[u8]); 12] = [
+        (b"CONFIG_A",               b" A"),
+        (b"ENABLE_A",               b" A"),
+        (b"IF_A(x)",                b" A"),
+        (b"IF_NOT_A(x)",            b" A NOT_A"),
+        (b"IF_NOTE(x)",             b" NOTE"),
+        (b"xCONFIG_A _IF_A USE_A",  b""),
+        (b"CONFIG_A_MODULE",        b" A_MODULE"),
+        (b"CONFIG_A.CONFIG_B",      b" A B"),
+        (b"ENABLE_IF_A",            b" IF_A"),
+        (b"CONFIG_XIF_B",           b" XIF_B"),
+        (b"CONFIG_",                b""),
+        (b"IF_NOT_",                b" NOT_"),
+    ];
+    for (text, want) in rows {
+        for size in [1usize, 7, 4096] {
+            let all = names_by(rt.alloc(), Dialect::BusyBox.rules_for(b"x.o"), text, size)?;
+            assert_eq!(rt; all.as_slice(), want, "in pieces of {size}");
+        }
+    }
+    Ok(())
+}
+
+#[test]
+#[rattlefmt::skip]
+fn macros_of_u_boot(rt: HostRuntime) -> Result<(), Fail> {
+    let rows: [(&[u8], &[u8], &[u8]); 16] = [
+        (b"spl/x.o",   b"CONFIG_A CONFIG_B_MODULE",             b" A B"),
+        (b"x.o",       b"CONFIG_IS_ENABLED(A)",                 b" A"),
+        (b"spl/x.o",   b"CONFIG_IS_ENABLED(A)",                 b" SPL_A"),
+        (b"vpl/x.o",   b"CONFIG_IS_ENABLED(A)",                 b" VPL_A"),
+        (b"tools/x.o", b"CONFIG_IS_ENABLED(A)",                 b" TOOLS_A"),
+        (b"splat/x.o", b"CONFIG_IS_ENABLED(A)",                 b" A"),
+        (b"spl/x.o",   b"CONFIG_IS_ENABLED( A)",                b" SPL_A"),
+        (b"spl/x.o",   b"CONFIG_IS_ENABLED (A)",                b" SPL_A"),
+        (b"x.o",       b"CONFIG_IS_ENABLED \\\n\t(\r\n A)",     b" A"),
+        (b"tpl/x.o",   b"CONFIG_VAL(A)",                        b" TPL_A"),
+        (b"x.o",       b"CONFIG_IF_ENABLED_INT(A, B)",          b" A B"),
+        (b"spl/x.o",   b"CONFIG_IF_ENABLED_INT(A , B), C",      b" SPL_A SPL_B"),
+        (b"spl/x.o",   b"IS_ENABLED(CONFIG_A)",                 b" A"),
+        (b"spl/x.o",   b"CONFIG_IS_ENABLED(CONFIG_A)",          b" SPL_CONFIG_A A"),
+        (b"spl/x.o",   b"CONFIG_VAL(CONFIG_VAL(A))",            b" SPL_CONFIG_VAL SPL_A"),
+        (b"x.o",       b"xCONFIG_IS_ENABLED(A) CONFIG_$(SPL_)A", b""),
+    ];
+    for (target, text, want) in rows {
+        for size in [1usize, 7, 4096] {
+            let all = names_by(rt.alloc(), Dialect::UBoot.rules_for(target), text, size)?;
+            assert_eq!(rt; all.as_slice(), want, "in pieces of {size}");
+        }
+    }
+    Ok(())
+}
+
+#[test]
+fn linux_by_its_dialect(rt: HostRuntime) -> Result<(), Fail> {
+    let text = b"CONFIG_A ENABLE_B CONFIG_C_MODULE CONFIG_IS_ENABLED(D)";
+    for size in [1usize, 7, 4096] {
+        let all = names_by(rt.alloc(), Dialect::Linux.rules_for(b"spl/x.o"), text, size)?;
+        assert_eq!(rt; all.as_slice(), b" A C IS_ENABLED".as_slice());
+    }
+    Ok(())
+}

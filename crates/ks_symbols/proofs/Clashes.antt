@@ -1,31 +1,15 @@
 -- Declarations of one name with two kinds.
-use Rattle.std.proofs.Common.{◌≡◌, ℕ, suc, arith, ◌+◌, inl, inr, Bool, true, false, cond, List, [], ◌∷◌, ◌++◌, Option, Some, None, option_map, bytes_eq, length, take, drop, drop-cons, get_or, ◌<◌, not, map as map_list, refl, sym, ap, ◌∙◌, append_assoc}
-use Rattle.std.proofs.lemmas.Bool.{cases_Bool, cond-true, cond-false, not-false, eqb-true, eq-eqb}
-use Rattle.std.specs.Ordering.{is_eq}
-use Rattle.std.specs.Cmp.Lexicographic.{nat_list_cmp_total, nat_list_eq_equiv, bytes_decides}
+use Rattle.ks_symbols.proofs.Prelude.{◌≡◌, ℕ, suc, arith, ◌+◌, inl, inr, Bool, true, false, cond, List, [], ◌∷◌, ◌++◌, Option, Some, None, option_map, bytes_eq, length, take, drop, drop-cons, get_or, ◌<◌, not, refl, sym, ap, ◌∙◌, append_assoc, cases_Bool, cond-true, cond-false, not-false, eqb-true, is_eq, nat_list_cmp_total, nat_list_eq_equiv, bytes_decides, find, Kind, SourceError, kind_number, numbered_kind, numbered_again, NameMap, kinds_in, or_else, clashes, Form, Silent, Title, Untitled, Entry, HasKind, Unknown, Declaration, take_more, map-append, Declared, seen, Progress, progress_after, clash_fault, step_fault, no_kinds, first_kind, last_kind, first_clash, without_text}
+use Rattle.std.proofs.Common.{map as map_list}
+use Rattle.std.proofs.lemmas.Bool.{eq-eqb}
 use Rattle.std.specs.FinMap as map
-use Rattle.std.specs.FinMap.{find}
-use Rattle.ks_symbols.specs.declared.kinds.Kind.{Kind}
-use Rattle.ks_symbols.specs.declared.error.SourceError.{SourceError}
 use Rattle.ks_symbols.specs.declared.error.SourceError.TheVariants as fault
-use Rattle.ks_symbols.specs.Kinds.{kind_number, numbered_kind, numbered_again}
-use Rattle.ks_symbols.specs.Configuration.{NameMap, kinds_in}
-use Rattle.ks_symbols.specs.Refusals.{or_else}
-use Rattle.ks_symbols.specs.Kconfig.{clashes}
-use Rattle.ks_symbols.specs.Forms.{Form, Silent, Title, Untitled, Entry, HasKind, Unknown}
-use Rattle.ks_symbols.specs.declared.kconfig.Declaration.{Declaration}
-use Rattle.std.proofs.lemmas.List.{take_more, map-append}
-use Rattle.ks_symbols.specs.Progress.{Declared, seen, Progress, progress_after, clash_fault, step_fault, no_kinds, first_kind, last_kind, first_clash, without_text}
-use Rattle.ks_symbols.proofs.LastOnes.{order, given_line}
+use Rattle.ks_symbols.proofs.LastOnes.{order, given_line, or_none}
 use Rattle.ks_symbols.proofs.Story.{last_kind-push}
 
 pub or_assoc : {E : Type 0} (a b c : Option E) → or_else (or_else a b) c ≡ or_else a (or_else b c)
 or_assoc None b c = refl
 or_assoc (Some e) b c = refl
-
-pub or_none : {E : Type 0} (o : Option E) → or_else o None ≡ o
-or_none None = refl
-or_none (Some e) = refl
 
 -- kinds that don't clash are one, and a kind doesn't clash with itself
 pub same_kind : (k before : Kind) → clashes k (Some before) ≡ false → before ≡ k
@@ -157,7 +141,7 @@ get-kinds_in m x =
     ∙ find_kind (map.entries m) x
     ∙ ap (option_map (λ s. s.0)) (sym (map.get-entries m x))
 
--- a kind behind a text that is none
+-- a kind after a text that is none
 pub kind_of_first : (o : Option Kind) → option_map (λ (s : Kind × List ℕ). s.0) (option_map without_text o) ≡ o
 kind_of_first None = refl
 kind_of_first (Some k) = refl

@@ -1,33 +1,16 @@
 -- Settings have names of symbols and texts of their kinds.
-use Rattle.std.proofs.Common.{◌≡◌, ℕ, ◌+◌, Bool, true, false, cond, not, ◌&&◌, nat_eq, nat_lt, length, List, [], ◌∷◌, ◌++◌, map as map_list, find, Option, Some, None, option_and_then, IsTrue, bytes_eq, refl, sym, subst, ◌∙◌}
-use Rattle.std.specs.List.{ends_with}
-use Rattle.std.specs.Map.{lookup}
-use Rattle.std.specs.Cmp.Lexicographic.{bytes_decides}
-use Rattle.std.proofs.lemmas.Bool.{cond-false, cases_Bool}
-use Rattle.std.proofs.lemmas.List.{append-nil}
-use mathlib.Core.Logic.{⊎_elim}
-use Rattle.ks_symbols.specs.declared.kinds.Kind.{Kind}
+use Rattle.ks_symbols.proofs.Prelude.{is_title, ◌≡◌, ℕ, ◌+◌, Bool, true, false, cond, not, ◌&&◌, nat_eq, nat_lt, length, List, [], ◌∷◌, ◌++◌, codes, Option, Some, None, option_and_then, IsTrue, bytes_eq, refl, sym, subst, ◌∙◌, ends_with, list_any, lookup, bytes_decides, cond-false, cases_Bool, append-nil, ⊎_elim, Kind, SourceError, is_name, is_symbol_name, module_end, is_text, is_off, text_of, lines, max_bytes, Statement, Assigns, Unsets, statement, or_else, setting, gives, entry_with, last_about, Form, Silent, Title, Untitled, Entry, HasKind, Unknown, form, opens, title_in, title_of, says, entry_of, declares, declarations, declared, story, lacks_kind, form_fault, goes_on, first_form_fault, kconfig_refusal, IsConfiguration, HasSymbolNames, Configuration, SettingsAreConfigurations}
+use Rattle.std.proofs.Common.{map as map_list, find}
 use Rattle.ks_symbols.specs.declared.kinds.Kind.TheVariants as kind
-use Rattle.ks_symbols.specs.declared.error.SourceError.{SourceError}
 use Rattle.ks_symbols.specs.declared.error.SourceError.TheVariants as fault
-use Rattle.ks_symbols.specs.Names.{is_name, is_symbol_name, module_end}
-use Rattle.ks_symbols.specs.Kinds.{is_text, is_off}
-use Rattle.ks_symbols.specs.Values.{text_of}
-use Rattle.ks_symbols.specs.Lines.{lines, max_bytes}
-use Rattle.ks_symbols.specs.Statements.{Statement, Assigns, Unsets, statement}
-use Rattle.ks_symbols.specs.Refusals.{or_else}
-use Rattle.ks_symbols.specs.DotConfig.{setting, gives, entry_with, last_about}
-use Rattle.ks_symbols.specs.Forms.{Form, Silent, Title, Untitled, Entry, HasKind, Unknown, form}
-use Rattle.ks_symbols.specs.Kconfig.{says, entry_of, declares, declarations, declared, story, lacks_kind, form_fault, goes_on, first_form_fault, kconfig_refusal}
 use Rattle.std.specs.FinMap as map
-use Rattle.ks_symbols.specs.Configuration.{IsConfiguration, HasSymbolNames, Configuration}
-use Rattle.ks_symbols.specs.Laws.{SettingsAreConfigurations}
 use Rattle.ks_symbols.proofs.Readings.{reads_are_texts}
 use Rattle.ks_symbols.proofs.Story.{story_after, story_is}
 
--- each entry of a story has the name of a symbol
+-- each entry of a story has the name of a symbol, and each title is one
 Legal : List Form → Type 0
 Legal [] = Unit {0}
+Legal (Title t ∷ earlier) = IsTrue (is_title t) × Legal earlier
 Legal (Entry x ∷ earlier) = IsTrue (is_symbol_name x) × Legal earlier
 Legal (f ∷ earlier) = Legal earlier
 
@@ -41,10 +24,14 @@ entry_ok false b l n e = absurd (cc e)
 entry_ok true true l n e = absurd (cc e)
 entry_ok true false l n e = refl
 
+title_ok : (a b : Bool) (n : ℕ) → cond (a && not b) None (Some (fault.BadTitle n)) ≡ None → a ≡ true
+title_ok true b n e = refl
+title_ok false b n e = absurd (cc e)
+
 one_more : (n : ℕ) (said : List Form) (f : Form) (later : List Form) → Legal said → form_fault n said f later ≡ None → Legal (goes_on f said)
 unfolding Legal is_symbol_name
 one_more n said Silent later h e = h
-one_more n said (Title t) later h e = h
+one_more n said (Title t) later h e = (title_ok (is_title t) (list_any opens said) n e, h)
 one_more n said Untitled later h e = h
 one_more n said (Entry x) later h e = (entry_ok (is_name x) (ends_with nat_eq x module_end) (lacks_kind (find says later)) n e, h)
 one_more n said (HasKind k) later h e = h
@@ -86,7 +73,7 @@ declared_legal : (said : List Form) (x : List ℕ) (k : Kind) → Legal said →
 unfolding declarations Legal
 declared_legal [] x k h e = absurd (cc e)
 declared_legal (Silent ∷ said) x k h e = declared_legal said x k h e
-declared_legal (Title t ∷ said) x k h e = declared_legal said x k h e
+declared_legal (Title t ∷ said) x k h e = declared_legal said x k h.1 e
 declared_legal (Untitled ∷ said) x k h e = declared_legal said x k h e
 declared_legal (Entry y ∷ said) x k h e = declared_legal said x k h.1 e
 declared_legal (HasKind d ∷ said) x k h e = declares_legal x k d (entry_of said) (declarations said) (entry_legal said h) e (λ r. declared_legal said x k h r)
@@ -96,15 +83,38 @@ pub accepted : (b : Bool) (r : Option SourceError) → cond b (Some fault.TooLar
 accepted true r e = absurd (cc e)
 accepted false r e = e
 
-name_legal : (text x : List ℕ) (k : Kind) → kconfig_refusal text ≡ None → declared text x ≡ Some k → IsTrue (is_symbol_name x)
-unfolding kconfig_refusal declared Legal
-name_legal text x k e d =
+story_legal : (text : List ℕ) → kconfig_refusal text ≡ None → Legal (story text)
+unfolding kconfig_refusal Legal
+story_legal text e =
     let forms = map_list form (lines text) in
     let none = accepted (nat_lt max_bytes (length text)) (first_form_fault 1 [] forms) e in
     let told : story_after [] forms ≡ story text = story_is [] forms ∙ append-nil (story text) in
-    declared_legal (story text) x k (subst Legal told (all_legal 1 [] forms tt none)) d
+    subst Legal told (all_legal 1 [] forms tt none)
 
-chain : {X Y : Type 0} (f : X → Option Y) (o : Option X) (y : Y) → option_and_then f o ≡ Some y → (x : X) × (o ≡ Some x) × (f x ≡ Some y)
+name_legal : (text x : List ℕ) (k : Kind) → kconfig_refusal text ≡ None → declared text x ≡ Some k → IsTrue (is_symbol_name x)
+unfolding declared
+name_legal text x k e d = declared_legal (story text) x k (story_legal text e) d
+
+main_menu : is_title (codes "Main menu") ≡ true
+unfolding is_title
+main_menu = refl
+
+latest : (said : List Form) → Legal said → IsTrue (is_title (title_in said))
+unfolding title_in Legal
+latest [] h = main_menu
+latest (Silent ∷ said) h = latest said h
+latest (Title t ∷ said) h = h.0
+latest (Untitled ∷ said) h = latest said h
+latest (Entry x ∷ said) h = latest said h.1
+latest (HasKind k ∷ said) h = latest said h
+latest (Unknown ∷ said) h = latest said h
+
+-- the title of an accepted text is a title
+pub title_is_title : (text : List ℕ) → kconfig_refusal text ≡ None → IsTrue (is_title (title_of text))
+unfolding title_of
+title_is_title text e = latest (story text) (story_legal text e)
+
+pub chain : {X Y : Type 0} (f : X → Option Y) (o : Option X) (y : Y) → option_and_then f o ≡ Some y → (x : X) × (o ≡ Some x) × (f x ≡ Some y)
 chain f None y e = absurd (cc e)
 chain f (Some x) y e = (x, refl, e)
 

@@ -1,15 +1,6 @@
 -- The first fault of lines, and refusals.
-use Rattle.std.proofs.Common.{◌≡◌, inl, inr, ℕ, ◌+◌, ◌<◌, ◌≤◌, Bool, true, false, cond, nat_lt, List, [], ◌∷◌, length, Option, Some, None, refl, ap, arith}
-use Rattle.std.proofs.lemmas.Bool.{cond-true, cond-false}
-use Rattle.std.proofs.lemmas.Bool.Decides.{nat_tests}
-use Rattle.std.proofs.lemmas.List.Sums.{sum_by-cons}
-use Rattle.ks_symbols.specs.declared.kinds.Kind.{Kind}
-use Rattle.ks_symbols.specs.declared.error.SourceError.{SourceError}
+use Rattle.ks_symbols.proofs.Prelude.{◌≡◌, inl, inr, ℕ, ◌+◌, ◌<◌, ◌≤◌, Bool, true, false, cond, nat_lt, List, [], ◌∷◌, length, Option, Some, None, refl, ap, arith, cond-true, cond-false, nat_tests, sum_by-cons, Kind, SourceError, lines, max_bytes, first_fault, dotconfig_refusal, line_fault, is_of_unknown, unknown_count, or_else, IsRefusal, statement}
 use Rattle.ks_symbols.specs.declared.error.SourceError.TheVariants as fault
-use Rattle.ks_symbols.specs.Lines.{lines, max_bytes}
-use Rattle.ks_symbols.specs.DotConfig.{first_fault, dotconfig_refusal, line_fault, is_of_unknown, unknown_count}
-use Rattle.ks_symbols.specs.Refusals.{or_else, IsRefusal}
-use Rattle.ks_symbols.specs.Statements.{statement}
 
 pub no_fault : (faults : ℕ → List ℕ → Option SourceError) (n : ℕ) (line : List ℕ) (rest : List (List ℕ)) → faults n line ≡ None
     → first_fault faults n (line ∷ rest) ≡ first_fault faults (n + 1) rest

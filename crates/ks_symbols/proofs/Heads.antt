@@ -1,17 +1,5 @@
 -- The heads of names: of two names with unequal heads the lesser one has the lesser head. So records are in order by their names.
-use Rattle.std.proofs.Common.{◌≡◌, ℕ, zero, suc, ◌+◌, ◌-◌, ◌<◌, ◌≤◌, Bool, not, ◌&&◌, cond, length, List, [], ◌∷◌, ◌++◌, take, drop, get_or, slice_range, refl, sym, ap, subst, ◌∙◌, arith, inl, inr, length-append}
-use Rattle.std.proofs.lemmas.Bool.{cases_lt, cases_eq}
-use Rattle.std.proofs.lemmas.List.{get_or-take, get_or-drop, get_or_past, length-take}
-use Rattle.std.proofs.lemmas.List.Elements.{All-nil, All-cons, All-head, All-tail, All-push}
-use Rattle.std.specs.List.{filter}
-use Rattle.std.specs.List.Sorted.{IsSortedBy, IsSortedByKey, IsStableBy, IsStableByKey, ties}
-use Rattle.std.specs.Ordering.{nat_cmp, is_lt, ordering_then, ordering_reverse}
-use Rattle.std.specs.Cmp.{nat_cmp_is, nat_cmp_total, IsTotalOrder, then_total, on_total}
-use Rattle.std.specs.Cmp.Lexicographic.{nat_list_cmp_total}
-use Rattle.std.specs.declared.cmp.Ordering.TheVariants.{Less, Equal, Greater}
-use borrow.Author.Count.{below_none, below_more}
-use Rattle.ks_symbols.specs.declared.table.Record.{Record}
-use Rattle.ks_symbols.specs.Table.{name_in, head_of, by_heads, LieIn, AreHeaded}
+use Rattle.ks_symbols.proofs.Prelude.{◌≡◌, ℕ, zero, suc, ◌+◌, ◌-◌, ◌<◌, ◌≤◌, Bool, not, ◌&&◌, cond, length, List, [], ◌∷◌, ◌++◌, take, drop, get_or, slice_range, refl, sym, ap, subst, ◌∙◌, arith, inl, inr, length-append, cases_lt, cases_eq, get_or-take, get_or-drop, get_or_past, length-take, All-nil, All-cons, All-head, All-tail, All-push, filter, IsSortedBy, IsSortedByKey, IsStableBy, IsStableByKey, ties, nat_cmp, is_lt, ordering_then, ordering_reverse, nat_cmp_is, nat_cmp_total, IsTotalOrder, then_total, on_total, nat_list_cmp_total, Less, Equal, Greater, below_none, below_more, Record, name_in, head_of, by_heads, LieIn, AreHeaded}
 use Rattle.ks_symbols.proofs.LastOnes.{order, turned}
 use Rattle.ks_symbols.proofs.Records.{range_more, range_end, lie_more}
 
@@ -117,7 +105,7 @@ module _ {V : Type 0} (bs : List ℕ) (small : AreBytes bs) where
 pub heads_total : {V : Type 0} (bs : List ℕ) → IsTotalOrder (by_heads {V = V} bs)
 heads_total {V} bs = then_total (on_total (λ (r : Record V). r.head) nat_cmp_total) (on_total (name_in bs) nat_list_cmp_total)
 
--- heads stay when bytes are appended, and a record may be pushed behind its name
+-- heads stay when bytes are appended, and a record may be pushed after its name
 pub headed_more : {V : Type 0} (bs more : List ℕ) (rs : List (Record V)) → LieIn (length bs) rs → AreHeaded bs rs → AreHeaded (bs ++ more) rs
 headed_more bs more [] lie all = All-nil (headed (bs ++ more))
 headed_more bs more (r ∷ rs) lie all =

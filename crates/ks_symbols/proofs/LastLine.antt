@@ -1,14 +1,6 @@
 -- What a line does to what was read before it, and what the last line about a name leaves.
-use Rattle.std.proofs.Common.{◌≡◌, ℕ, Bool, true, false, cond, List, [], ◌∷◌, ◌++◌, reverse, Option, Some, None, option_and_then, bytes_eq, refl, sym, ap, ◌∙◌}
+use Rattle.ks_symbols.proofs.Prelude.{◌≡◌, ℕ, Bool, true, false, cond, List, [], ◌∷◌, ◌++◌, reverse, Option, Some, None, option_and_then, bytes_eq, refl, sym, ap, ◌∙◌, bytes_decides, cases_Bool, cond-false, reverse_onto, ⊎_elim, Kind, Statement, name_of, statement, is_about, gives, setting, after_statement}
 use Rattle.std.specs.List.{find}
-use Rattle.std.specs.Cmp.Lexicographic.{bytes_decides}
-use Rattle.std.proofs.lemmas.Bool.{cases_Bool, cond-false}
-use Rattle.std.proofs.lemmas.Grind.{reverse_onto}
-use mathlib.Core.Logic.{⊎_elim}
-use Rattle.ks_symbols.specs.declared.kinds.Kind.{Kind}
-use Rattle.ks_symbols.specs.Statements.{Statement, name_of, statement}
-use Rattle.ks_symbols.specs.DotConfig.{is_about, gives, setting}
-use Rattle.ks_symbols.specs.Settling.{after_statement}
 
 kept : (k : Option Kind) (x : List ℕ) (said : Statement) (before : Option (Kind × List ℕ)) → bytes_eq (name_of said) x ≡ false
     → before ≡ after_statement k x (Some said) before

@@ -1,19 +1,7 @@
 -- What is left of lines that are put in the order of their names, where of each name the last one is kept.
-use Rattle.std.proofs.Common.{◌≡◌, ◌⊎◌, ℕ, suc, Bool, true, false, cond, not, ◌&&◌, T, ◌+◌, List, [], ◌∷◌, ◌++◌, map as map_list, Option, Some, None, unwrap_or, bytes_eq, get_or, refl, sym, ap, subst, ◌∙◌, arith, inl, inr}
-use Rattle.std.proofs.lemmas.Bool.{cases_Bool, cond-true, cond-false, false≢true}
-use Rattle.std.specs.Ordering.{nat_cmp, is_lt, is_eq, ordering_reverse}
-use Rattle.std.specs.Cmp.Lexicographic.{slice_cmp, nat_list_cmp_total, nat_list_eq_equiv, bytes_decides}
-use Rattle.std.proofs.lemmas.Map.Text.{is_eq-slice_cmp}
-use Rattle.std.specs.declared.cmp.Ordering.{Ordering}
-use Rattle.std.specs.declared.cmp.Ordering.TheVariants.{Less, Equal, Greater}
+use Rattle.ks_symbols.proofs.Prelude.{filter_agree, ◌≡◌, ◌⊎◌, ℕ, suc, Bool, true, false, cond, not, ◌&&◌, T, ◌+◌, List, [], ◌∷◌, ◌++◌, Option, Some, None, unwrap_or, bytes_eq, get_or, refl, sym, ap, subst, ◌∙◌, arith, inl, inr, cases_Bool, cond-true, cond-false, false≢true, nat_cmp, is_lt, is_eq, ordering_reverse, slice_cmp, nat_list_cmp_total, nat_list_eq_equiv, bytes_decides, is_eq-slice_cmp, Ordering, Less, Equal, Greater, find, is_sorted, slice_cmp-IsAntisymmetric, nat_cmp-IsAntisymmetric, below_all, filter, AllByRecursion, IsSortedByKey, IsStableByKey, ties, or_else, NameMap, after_line, after_lines, begins_with, with_entry, last_ones}
+use Rattle.std.proofs.Common.{map as map_list}
 use Rattle.std.specs.FinMap as map
-use Rattle.std.specs.FinMap.{find, is_sorted, slice_cmp-IsAntisymmetric, nat_cmp-IsAntisymmetric}
-use Rattle.std.specs.FinMap.Entries.{below_all}
-use Rattle.std.specs.List.{filter, AllByRecursion}
-use Rattle.std.specs.List.Sorted.{IsSortedByKey, IsStableByKey, ties}
-use Rattle.ks_symbols.specs.Refusals.{or_else}
-use Rattle.ks_symbols.specs.Configuration.{NameMap}
-use Rattle.ks_symbols.specs.Table.{after_line, after_lines, begins_with, with_entry, last_ones}
 
 abbrev pub order : List ℕ → List ℕ → Ordering
 order = slice_cmp nat_cmp
@@ -33,7 +21,7 @@ pub second : (a b : Bool) → T (a && b) → T b
 second true b p = p
 second false b p = absurd p
 
-is_less : (o : Ordering) → o ≡ Less → T (is_lt o)
+pub is_less : (o : Ordering) → o ≡ Less → T (is_lt o)
 is_less o e = subst (λ r. T (is_lt r)) (sym e) tt
 
 pub turned : (x y : List ℕ) → order y x ≡ ordering_reverse (order x y)
@@ -74,7 +62,7 @@ after_push m [] e = refl
 after_push m (f ∷ es) e = after_push (after_line m f.0 f.1) es e
 
 -- A stable sort keeps what is said of each name, in its order.
-or_none : {Y : Type 0} (o : Option Y) → or_else o None ≡ o
+pub or_none : {Y : Type 0} (o : Option Y) → or_else o None ≡ o
 or_none None = refl
 or_none (Some y) = refl
 
@@ -102,11 +90,6 @@ filter_shown p f (x ∷ xs) =
       | false ↦ rest
     ]
 
-filter_alike : {X : Type 0} (p q : X → Bool) → ((x : X) → p x ≡ q x) → (xs : List X) → filter p xs ≡ filter q xs
-filter_alike p q h [] = refl
-filter_alike p q h (x ∷ xs) =
-    ap (λ b. cond b (x ∷ filter p xs) (filter p xs)) (h x) ∙ ap (λ (l : List _). cond (q x) (x ∷ l) l) (filter_alike p q h xs)
-
 some_kept : {X : Type 0} (p : X → Bool) (xs : List X) → (filter p xs ≡ []) ⊎ ((x : X) × (p x ≡ true))
 some_kept p [] = inl refl
 some_kept p (x ∷ xs) = elim (cases_Bool (p x)) [
@@ -133,7 +116,7 @@ module _ {X : Type 0} (key : X → List ℕ) (xs ys : List X) (stable : IsStable
   alike_at q r is =
       let test : (x : X) → is_named q x ≡ ties (λ a b. is_lt (order (key a) (key b))) r x =
       λ x. ap (λ (n : List ℕ). bytes_eq n (key x)) ((bytes_decides q (key r)).0 is) ∙ sym (tie_test (key r) (key x)) in
-      filter_alike (is_named q) _ test ys ∙ stable r ∙ sym (filter_alike (is_named q) _ test xs)
+      filter_agree (is_named q) _ test ys ∙ stable r ∙ sym (filter_agree (is_named q) _ test xs)
 
   named_kept : (q : List ℕ) → filter (is_named q) ys ≡ filter (is_named q) xs
   named_kept q = elim (some_kept (is_named q) ys) [

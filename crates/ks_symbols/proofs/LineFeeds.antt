@@ -1,19 +1,11 @@
 -- A line without its end holds no line feed.
-use Rattle.std.proofs.Common.{◌≡◌, ℕ, zero, suc, ◌-◌, ◌==◌, ◌&&◌, not, Bool, true, false, cond, nat_lt, ◌<◌, List, [], ◌∷◌, ◌++◌, length, take, drop, slice_index, map, ◌⊎◌, inl, inr, ⊎_elim, refl, sym, ap, subst, ◌∙◌, arith, length-append, lt-ltb}
-use Rattle.std.specs.List.{list_all}
-use Rattle.std.proofs.lemmas.Bool.{cond-true, cond-false, cases_Bool, false≢true, eqb-true, eq-eqb}
-use Rattle.bstr.specs.Text.{line_len, lines_from, no_cr, without_terminator}
-use Rattle.bstr.proofs.lemmas.RestLemmas.{concat-lines_of}
-use Rattle.ks_symbols.specs.Lines.{lines, is_no_line_feed}
-use Rattle.ks_symbols.specs.Laws.{LinesJoinToTheText, NoLineHoldsALineFeed}
+use Rattle.ks_symbols.proofs.Prelude.{◌≡◌, ℕ, zero, suc, ◌-◌, ◌==◌, ◌&&◌, not, Bool, true, false, cond, nat_lt, ◌<◌, List, [], ◌∷◌, ◌++◌, length, take, drop, slice_index, map, ◌⊎◌, inl, inr, refl, sym, ap, subst, ◌∙◌, arith, length-append, lt-ltb, list_all, cond-true, cond-false, cases_Bool, eqb-true, and_parts, line_len, lines_from, no_cr, without_terminator, concat-lines_of, lines, is_no_line_feed, LinesJoinToTheText, NoLineHoldsALineFeed}
+use Rattle.std.proofs.Common.{⊎_elim}
+use Rattle.std.proofs.lemmas.Bool.{eq-eqb}
 
 -- bytes without a line feed
 abbrev is_free : List ℕ → Bool
 is_free l = list_all is_no_line_feed l
-
-and_parts : (a b : Bool) → (a && b) ≡ true → (a ≡ true) × (b ≡ true)
-and_parts true b e = (refl, e)
-and_parts false b e = absurd (false≢true e)
 
 free-take : (k : ℕ) (l : List ℕ) → is_free l ≡ true → is_free (take k l) ≡ true
 free-take zero l h = refl
@@ -51,7 +43,7 @@ free-no_cr : (l : List ℕ) → is_free l ≡ true → is_free (no_cr l) ≡ tru
 free-no_cr l h =
     free_either (nat_lt 0 (length l) && slice_index l (length l - 1) == 13) (take (length l - 1) l) l (free-take (length l - 1) l h) h
 
-byte_at_end : (l : List ℕ) → slice_index (l ++ 10 ∷ []) (length l) ≡ 10
+pub byte_at_end : (l : List ℕ) → slice_index (l ++ 10 ∷ []) (length l) ≡ 10
 byte_at_end [] = refl
 byte_at_end (b ∷ l) = byte_at_end l
 

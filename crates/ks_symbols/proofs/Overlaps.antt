@@ -1,13 +1,12 @@
 -- A test of all elements, by two parts that overlap.
-use Rattle.std.proofs.Common.{◌≡◌, ℕ, zero, suc, ◌≤◌, List, [], ◌∷◌, Bool, true, false, refl, take, drop, arith}
+use Rattle.ks_symbols.proofs.Prelude.{◌≡◌, ℕ, zero, suc, ◌≤◌, List, [], ◌∷◌, Bool, true, false, refl, take, drop, arith, list_all}
 use Rattle.std.specs.Prelude.{◌&&◌}
-use Rattle.std.specs.List.{list_all}
 
 twice : (b r s t : Bool) → r ≡ (s && t) → (b && r) ≡ ((b && s) && (b && t))
 twice true r s t e = e
 twice false r s t e = refl
 
-once : (b r s t : Bool) → r ≡ (s && t) → (b && r) ≡ ((b && s) && t)
+pub once : (b r s t : Bool) → r ≡ (s && t) → (b && r) ≡ ((b && s) && t)
 once true r s t e = e
 once false r s t e = refl
 

@@ -1,10 +1,6 @@
 -- Reading a prompt from its front.
-use Rattle.std.proofs.Common.{◌≡◌, ℕ, ◌<◌, ◌≤◌, ◌==◌, ◌&&◌, ◌⊎◌, Bool, true, false, cond, nat_eq, List, [], ◌∷◌, length, get_or, drop, Option, Some, None, refl, sym, ap, ◌∙◌, eq-eqb, arith}
-use Rattle.std.specs.List.{starts_with}
-use Rattle.std.specs.Cmp.{nat_eq_equiv}
-use Rattle.std.proofs.lemmas.Bool.{cond-true, cond-false}
+use Rattle.ks_symbols.proofs.Prelude.{◌≡◌, ℕ, ◌<◌, ◌≤◌, ◌==◌, ◌&&◌, ◌⊎◌, Bool, true, false, cond, nat_eq, List, [], ◌∷◌, length, get_or, drop, Option, Some, None, refl, sym, ap, ◌∙◌, eq-eqb, arith, starts_with, nat_eq_equiv, cond-true, cond-false, after_quote}
 use mathlib.Core.Logic.{inl, inr}
-use Rattle.ks_symbols.specs.Forms.{after_quote}
 use Rattle.ks_symbols.proofs.Quotes.{differs}
 
 pub escape_passed : (xs : List ℕ) → 1 < length xs → (get_or xs 0 0 ≡ 34 → ⊥) → get_or xs 0 0 ≡ 92 → after_quote xs ≡ after_quote (drop 2 xs)

@@ -1,10 +1,6 @@
 -- Reading a quoted text from its front.
-use Rattle.std.proofs.Common.{◌≡◌, ℕ, ◌<◌, ◌≤◌, ◌==◌, ◌||◌, ◌&&◌, not, Bool, true, false, cond, List, [], ◌∷◌, ◌++◌, length, get_or, drop, Option, Some, None, option_map, bytes_eq, refl, ap, append_assoc, eq-eqb, arith}
-use Rattle.std.proofs.lemmas.Bool.{cond-true, cond-false}
-use Rattle.std.proofs.lemmas.Bool.Decides.{eqb_tells}
+use Rattle.ks_symbols.proofs.Prelude.{◌≡◌, ℕ, ◌<◌, ◌≤◌, ◌==◌, ◌||◌, ◌&&◌, not, Bool, true, false, cond, List, [], ◌∷◌, ◌++◌, length, get_or, drop, Option, Some, None, option_map, bytes_eq, refl, ap, append_assoc, eq-eqb, arith, cond-true, cond-false, eqb_tells, is_escaped, unquoted_rest, is_string_byte}
 use mathlib.Core.Logic.{inl, inr}
-use Rattle.ks_symbols.specs.Values.{is_escaped, unquoted_rest}
-use Rattle.ks_symbols.specs.Kinds.{is_string_byte}
 
 pub escape_read : (xs : List ℕ) → 1 < length xs → get_or xs 0 0 ≡ 92
     → unquoted_rest xs ≡ cond (is_escaped (get_or xs 1 0)) (option_map (λ t. get_or xs 1 0 ∷ t) (unquoted_rest (drop 2 xs))) None

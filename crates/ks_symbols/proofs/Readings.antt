@@ -1,29 +1,16 @@
 -- A quoted text reads as itself, and what reads as a text is that text quoted.
-use Rattle.std.proofs.Common.{◌≡◌, ◌↔◌, ℕ, ◌==◌, ◌&&◌, ◌||◌, not, Bool, true, false, cond, nat_eq, List, [], ◌∷◌, ◌++◌, Option, Some, None, option_map, flat_map, IsTrue, refl, sym, ap, subst, ◌∙◌, arith}
-use Rattle.std.specs.List.{list_all}
-use Rattle.std.proofs.lemmas.Bool.{cond-true, cond-false, cases_Bool, false≢true}
-use Rattle.std.proofs.lemmas.Bool.Decides.{nat_tests, eqb_tells}
-use mathlib.Core.Logic.{inl, inr, ⊎_elim}
+use Rattle.ks_symbols.proofs.Prelude.{same_Some, ◌≡◌, ◌↔◌, ℕ, ◌==◌, ◌&&◌, ◌||◌, not, Bool, true, false, cond, nat_eq, List, [], ◌∷◌, ◌++◌, Option, Some, None, option_map, flat_map, IsTrue, refl, sym, ap, subst, ◌∙◌, arith, list_all, cond-true, cond-false, cases_Bool, false≢true, and_parts, nat_tests, eqb_tells, ⊎_elim, is_escaped, escape, quoted, unquoted, unquoted_rest, text_of, is_string_byte, is_text, ReadsAreTexts}
+use mathlib.Core.Logic.{inl, inr}
 use Rattle.ks_symbols.specs.declared.kinds.Kind.TheVariants as kind
-use Rattle.ks_symbols.specs.Values.{is_escaped, escape, quoted, unquoted, unquoted_rest, text_of}
-use Rattle.ks_symbols.specs.Kinds.{is_string_byte, is_text}
-use Rattle.ks_symbols.specs.Laws.{ReadsAreTexts}
-
-some_is : {X : Type 0} (x y : X) → Some x ≡ Some y → x ≡ y
-some_is x y e = cc
 
 -- a text that is tested has no other text
 plain : (b : Bool) (w t : List ℕ) → (cond b (Some w) None ≡ Some t) ↔ (IsTrue b × (t ≡ w))
-plain true w t = (λ e. (refl, sym (some_is w t e)), λ h. ap (λ (l : List ℕ). Some l) (sym h.1))
+plain true w t = (λ e. (refl, sym (same_Some w t e)), λ h. ap (λ (l : List ℕ). Some l) (sym h.1))
 plain false w t = (λ e. absurd (cc e), λ h. absurd (false≢true h.0))
 
 -- an escaped byte is a byte of a string
 escaped_ok : (c : ℕ) → is_escaped c ≡ true → is_string_byte c ≡ true
 escaped_ok c e = grind (arith, nat_tests)
-
-and_parts : (a b : Bool) → (a && b) ≡ true → (a ≡ true) × (b ≡ true)
-and_parts true b e = (refl, e)
-and_parts false b e = absurd (false≢true e)
 
 or_parts : (a s : Bool) → (a || not s) ≡ false → (a ≡ false) × (s ≡ true)
 or_parts true s e = absurd (false≢true (sym e))
@@ -32,7 +19,7 @@ or_parts false false e = absurd (false≢true (sym e))
 
 mapped : (c : ℕ) (o : Option (List ℕ)) (t : List ℕ) → option_map (λ l. c ∷ l) o ≡ Some t → (r : List ℕ) × (o ≡ Some r) × (c ∷ r ≡ t)
 mapped c None t e = absurd (cc e)
-mapped c (Some r) t e = (r, refl, some_is (c ∷ r) t e)
+mapped c (Some r) t e = (r, refl, same_Some (c ∷ r) t e)
 
 not_escaped : (b : ℕ) → (b == 34) ≡ false → (b == 92) ≡ false → is_escaped b ≡ false
 not_escaped b e f = ap (λ x. x || b == 92) e ∙ f
@@ -59,7 +46,7 @@ spelled [] t e = absurd (cc e)
 spelled (b ∷ []) t e =
     elim (eqb_tells b 34) [
       | inl w ↦ subst (λ (l : List ℕ). IsTrue (list_all is_string_byte l) × (b ∷ [] ≡ flat_map escape l ++ 34 ∷ []))
-          (some_is [] t (sym (cond-true (b == 34) (Some []) None w.0) ∙ e)) (refl, ap (λ (x : ℕ). x ∷ []) w.1)
+          (same_Some [] t (sym (cond-true (b == 34) (Some []) None w.0) ∙ e)) (refl, ap (λ (x : ℕ). x ∷ []) w.1)
       | inr w ↦ let bad : None ≡ Some t = sym (cond-false (b == 34) (Some []) None w.0) ∙ e in absurd (cc bad)
     ]
 spelled (b ∷ c ∷ rest) t e =

@@ -1,20 +1,7 @@
 -- Records over bytes: they stay what they are when bytes are appended, and are found where their names rise.
-use Rattle.std.proofs.Common.{◌≡◌, ℕ, zero, suc, ◌+◌, ◌-◌, ◌<◌, ◌≤◌, false, T, length, List, [], ◌∷◌, ◌++◌, map as map_list, Option, Some, None, option_map, ◌⊎◌, inl, inr, nat_lt, take, drop, get_or, slice_range, refl, sym, ap, subst, ◌∙◌, arith, length-append}
-use Rattle.std.proofs.Math.Seq.{take-length, drop-append_seam}
-use Rattle.std.proofs.lemmas.List.{take-append-le, map-append}
-use Rattle.std.proofs.lemmas.Bool.{cases_Bool, cond-true, cond-false}
-use borrow.Author.Tests.{ltb-true, ltb-false}
-use Rattle.std.specs.Ordering.{is_lt, is_eq, ordering_reverse, ordering_index}
-use Rattle.std.specs.Cmp.Lexicographic.{nat_list_cmp_total}
-use Rattle.std.specs.declared.cmp.Ordering.{Ordering}
-use Rattle.std.specs.declared.cmp.Ordering.TheVariants.{Less, Equal, Greater}
+use Rattle.ks_symbols.proofs.Prelude.{◌≡◌, ℕ, zero, suc, ◌+◌, ◌-◌, ◌<◌, ◌≤◌, false, T, length, List, [], ◌∷◌, ◌++◌, Option, Some, None, option_map, inl, inr, take, drop, get_or, slice_range, refl, sym, ap, subst, ◌∙◌, arith, length-append, take-length, drop-append_seam, take-append-le, map-append, cond-true, cond-false, cases_lt, is_lt, is_eq, ordering_reverse, ordering_index, nat_list_cmp_total, Ordering, Less, Equal, Greater, find, is_sorted, below_all, IsSortedByKey, IsNonDecreasingBy, IsPartitionPoint, searchable_from_sorted, Record, name_in, text_in, entry_in, said_in, LieIn}
+use Rattle.std.proofs.Common.{map as map_list}
 use Rattle.std.specs.FinMap as map
-use Rattle.std.specs.FinMap.{find, is_sorted}
-use Rattle.std.specs.FinMap.Entries.{below_all}
-use Rattle.std.specs.List.Sorted.{IsSortedByKey, IsNonDecreasingBy, IsPartitionPoint}
-use Rattle.std.proofs.lemmas.List.Sorted.{searchable_from_sorted}
-use Rattle.ks_symbols.specs.declared.table.Record.{Record}
-use Rattle.ks_symbols.specs.Table.{name_in, text_in, entry_in, said_in, LieIn}
 use Rattle.ks_symbols.proofs.LastOnes.{order, bytes_exact, first, second, turned, tied}
 
 -- what lies in the bytes lies there still when bytes are appended
@@ -53,7 +40,7 @@ said_more bs more (r ∷ rs) h =
     ∙ ap (λ (t : List ℕ). said_as r (name_in bs r) t ∷ map_list (said_in (bs ++ more)) rs) (range_more bs more r.middle r.end h.1)
     ∙ ap (λ (l : List _). said_in bs r ∷ l) (said_more bs more rs h.2)
 
--- a record that is pushed behind its name and its text
+-- a record that is pushed after its name and its text
 pub said_pushed : {V : Type 0} (bs name text : List ℕ) (rs : List (Record (Option V))) (r : Record (Option V)) → LieIn (length bs) rs
     → r.start ≡ length bs → r.middle ≡ length bs + length name → r.end ≡ length bs + length name + length text
     → map_list (said_in ((bs ++ name) ++ text)) (rs ++ r ∷ []) ≡ map_list (said_in bs) rs ++ (name, option_map (λ v. (v, text)) r.value) ∷ []
@@ -83,16 +70,13 @@ back Greater h = absurd h
 not_back : (x y : List ℕ) → T (is_lt (order x y)) → is_lt (order y x) ≡ false
 not_back x y h = ap is_lt (turned x y) ∙ back (order x y) h
 
-split : (k i : ℕ) → (k < i) ⊎ (i ≤ k)
-split k i = elim (cases_Bool (nat_lt k i)) [ inl lt ↦ inl (ltb-true k i lt) | inr ge ↦ inr (ltb-false k i ge) ]
-
 pub find_first : {X : Type 0} (q : List ℕ) (e : List ℕ × X) (es : List (List ℕ × X)) → order e.0 q ≡ Equal → find order q (e ∷ es) ≡ Some e.1
 find_first q e es is = cond-true (is_eq (order q e.0)) (Some e.1) (find order q es) (ap is_eq (turned e.0 q ∙ ap ordering_reverse is))
 
-pub find_behind : {X : Type 0} (q : List ℕ) (e : List ℕ × X) (es : List (List ℕ × X)) → is_eq (order e.0 q) ≡ false → find order q (e ∷ es) ≡ find order q es
-find_behind q e es ne = cond-false (is_eq (order q e.0)) (Some e.1) (find order q es) (ap is_eq (turned e.0 q) ∙ reversed (order e.0 q) ∙ ne)
+pub find_after : {X : Type 0} (q : List ℕ) (e : List ℕ × X) (es : List (List ℕ × X)) → is_eq (order e.0 q) ≡ false → find order q (e ∷ es) ≡ find order q es
+find_after q e es ne = cond-false (is_eq (order q e.0)) (Some e.1) (find order q es) (ap is_eq (turned e.0 q) ∙ reversed (order e.0 q) ∙ ne)
 
-not_equal : (o : Ordering) → T (is_lt o) → is_eq o ≡ false
+pub not_equal : (o : Ordering) → T (is_lt o) → is_eq o ≡ false
 not_equal Less h = refl
 not_equal Equal h = absurd h
 not_equal Greater h = absurd h
@@ -113,12 +97,12 @@ module _ {V : Type 0} (bs q : List ℕ) where
   found_at (r ∷ rs) (suc i) d lt h is =
       let above = below_at (name_in bs r) rs i d (omega arith) (first _ _ h) in
       let other : is_eq (order (name_in bs r) q) ≡ false = subst (λ (n : List ℕ). is_eq (order (name_in bs r) n) ≡ false) (tied _ q is) (not_equal _ above) in
-      find_behind q (entry_in bs r) (map_list (entry_in bs) rs) other ∙ found_at rs i d (omega arith) (second _ _ h) is
+      find_after q (entry_in bs r) (map_list (entry_in bs) rs) other ∙ found_at rs i d (omega arith) (second _ _ h) is
 
   pub found_none : (rs : List (Record V)) → ((k : ℕ) (d : Record V) → k < length rs → is_eq (order (name_in bs (get_or rs k d)) q) ≡ false)
       → find order q (map_list (entry_in bs) rs) ≡ None
   found_none [] h = refl
-  found_none (r ∷ rs) h = find_behind q (entry_in bs r) (map_list (entry_in bs) rs) (h 0 r (omega arith)) ∙ found_none rs (λ k d lt. h (suc k) d (omega arith))
+  found_none (r ∷ rs) h = find_after q (entry_in bs r) (map_list (entry_in bs) rs) (h 0 r (omega arith)) ∙ found_none rs (λ k d lt. h (suc k) d (omega arith))
 
   rising : (rs : List (Record V)) → T (is_sorted order (map_list (entry_in bs) rs)) → (k : ℕ) (d : Record V) → suc k < length rs
       → is_lt (order (name_in bs (get_or rs (suc k) d)) (name_in bs (get_or rs k d))) ≡ false
@@ -138,7 +122,7 @@ module _ {V : Type 0} (bs q : List ℕ) where
 
   pub parted_none : (rs : List (Record V)) (i : ℕ) → IsPartitionPoint (λ r. order (name_in bs r) q ≡ Less) (λ r. order (name_in bs r) q ≡ Greater) rs i
       → find order q (map_list (entry_in bs) rs) ≡ None
-  parted_none rs i h = found_none rs (λ k d lt. elim (split k i) [
+  parted_none rs i h = found_none rs (λ k d lt. elim (cases_lt k i) [
     | inl less ↦ ap is_eq (h.0 k d (omega arith) less)
     | inr more ↦ ap is_eq (h.1 k d more lt)
   ])

@@ -1,21 +1,8 @@
 -- A line of a `.config` says what it spells.
-use Rattle.std.proofs.Common.{◌≡◌, ℕ, ◌&&◌, Bool, true, false, cond, nat_eq, List, [], ◌∷◌, ◌++◌, length, take, drop, take_while, codes, bytes_eq, Some, None, refl, sym, ap, subst, ◌∙◌, append_assoc}
-use Rattle.std.specs.List.{list_all, starts_with}
-use Rattle.std.specs.Cmp.Lexicographic.{bytes_decides}
-use Rattle.std.proofs.lemmas.Bool.{cond-true, cond-false, cases_Bool, false≢true}
-use Rattle.std.proofs.lemmas.List.{take-append-drop}
-use Rattle.std.proofs.lemmas.List.Sums.{take_while-cons}
-use mathlib.Core.Logic.{⊎_elim}
-use Rattle.ks_symbols.specs.Names.{is_word_byte, is_name}
-use Rattle.ks_symbols.specs.Statements.{Statement, Assigns, Unsets, Says, statement, assignment, unsetting}
-use Rattle.ks_symbols.specs.Laws.{StatementsAreSpelled}
-
-and_parts : (a b : Bool) → (a && b) ≡ true → (a ≡ true) × (b ≡ true)
-and_parts true b e = (refl, e)
-and_parts false b e = absurd (false≢true e)
+use Rattle.ks_symbols.proofs.Prelude.{drop-append_seam, cond_some, ◌≡◌, ℕ, ◌&&◌, Bool, true, false, cond, nat_eq, List, [], ◌∷◌, ◌++◌, length, take, drop, take_while, codes, bytes_eq, Some, None, refl, sym, ap, subst, ◌∙◌, append_assoc, list_all, starts_with, bytes_decides, cond-true, cond-false, cases_Bool, and_parts, take-append-drop, take_while-cons, ⊎_elim, is_word_byte, is_name, Statement, Assigns, Unsets, Says, statement, assignment, unsetting, StatementsAreSpelled}
 
 -- a text is its run and what follows
-run_split : (p : ℕ → Bool) (xs : List ℕ) → xs ≡ take_while p xs ++ drop (length (take_while p xs)) xs
+pub run_split : (p : ℕ → Bool) (xs : List ℕ) → xs ≡ take_while p xs ++ drop (length (take_while p xs)) xs
 run_split p [] = refl
 run_split p (x ∷ xs) =
     ⊎_elim
@@ -30,12 +17,8 @@ run_is p (x ∷ xs) c rest h e =
     let parts = and_parts (p x) (list_all p xs) h in
     take_while-cons p x (xs ++ c ∷ rest) ∙ cond-true (p x) _ _ parts.0 ∙ ap (λ (l : List ℕ). x ∷ l) (run_is p xs c rest parts.1 e)
 
-behind_is : (xs rest : List ℕ) → drop (length xs) (xs ++ rest) ≡ rest
-behind_is [] rest = refl
-behind_is (x ∷ xs) rest = behind_is xs rest
-
 -- a text that starts with a needle
-opened : (xs needle : List ℕ) → starts_with nat_eq xs needle ≡ true → xs ≡ needle ++ drop (length needle) xs
+pub opened : (xs needle : List ℕ) → starts_with nat_eq xs needle ≡ true → xs ≡ needle ++ drop (length needle) xs
 opened xs needle e =
     sym (take-append-drop (length needle) xs) ∙ ap (λ (l : List ℕ). l ++ drop (length needle) xs) (sym ((bytes_decides needle (take (length needle) xs)).0 e))
 
@@ -43,17 +26,13 @@ pub word_bytes : (name : List ℕ) → is_name name ≡ true → list_all is_wor
 unfolding is_name
 word_bytes name e = (and_parts _ _ e).1
 
-chosen : (b : Bool) (said told : Statement) → cond b (Some said) None ≡ Some told → (b ≡ true) × (said ≡ told)
-chosen true said told e = (refl, cc e)
-chosen false said told e = absurd (cc e)
-
 assigned : (name written : List ℕ) → is_name name ≡ true → assignment (name ++ 61 ∷ written) ≡ Some (Assigns name written)
 unfolding assignment
 assigned name written e =
     let text = name ++ 61 ∷ written in
     ap (λ (n : List ℕ). cond (is_name n && starts_with nat_eq (drop (length n) text) (61 ∷ [])) (Some (Assigns n (drop 1 (drop (length n) text)))) None)
     (run_is is_word_byte name 61 written (word_bytes name e) refl)
-    ∙ ap (λ (b : List ℕ). cond (is_name name && starts_with nat_eq b (61 ∷ [])) (Some (Assigns name (drop 1 b))) None) (behind_is name (61 ∷ written))
+    ∙ ap (λ (b : List ℕ). cond (is_name name && starts_with nat_eq b (61 ∷ [])) (Some (Assigns name (drop 1 b))) None) (drop-append_seam name (61 ∷ written))
     ∙ ap (λ b. cond (b && true) (Some (Assigns name written)) None) e
 
 unset : (name : List ℕ) → is_name name ≡ true → unsetting (name ++ codes " is not set") ≡ Some (Unsets name)
@@ -62,33 +41,33 @@ unset name e =
     let text = name ++ codes " is not set" in
     ap (λ (n : List ℕ). cond (is_name n && bytes_eq (drop (length n) text) (codes " is not set")) (Some (Unsets n)) None)
     (run_is is_word_byte name 32 (drop 1 (codes " is not set")) (word_bytes name e) refl)
-    ∙ ap (λ (b : List ℕ). cond (is_name name && bytes_eq b (codes " is not set")) (Some (Unsets name)) None) (behind_is name (codes " is not set"))
+    ∙ ap (λ (b : List ℕ). cond (is_name name && bytes_eq b (codes " is not set")) (Some (Unsets name)) None) (drop-append_seam name (codes " is not set"))
     ∙ ap (λ b. cond (b && true) (Some (Unsets name)) None) e
 
 says_assignment : (line text : List ℕ) (said : Statement) → line ≡ codes "CONFIG_" ++ text → assignment text ≡ Some said → Says line said
 unfolding assignment
 says_assignment line text said is e =
     let name = take_while is_word_byte text in
-    let behind = drop (length name) text in
-    let told = chosen (is_name name && starts_with nat_eq behind (61 ∷ [])) (Assigns name (drop 1 behind)) said e in
-    let parts = and_parts (is_name name) (starts_with nat_eq behind (61 ∷ [])) told.0 in
+    let following = drop (length name) text in
+    let told = cond_some (is_name name && starts_with nat_eq following (61 ∷ [])) (Assigns name (drop 1 following)) said e in
+    let parts = and_parts (is_name name) (starts_with nat_eq following (61 ∷ [])) told.0 in
     subst (Says line) told.1 (
       parts.0,
-      is ∙ ap (λ (l : List ℕ). codes "CONFIG_" ++ l) (run_split is_word_byte text ∙ ap (λ (l : List ℕ). name ++ l) (opened behind (61 ∷ []) parts.1) ∙ sym
-          (append_assoc name (61 ∷ []) (drop 1 behind))),
+      is ∙ ap (λ (l : List ℕ). codes "CONFIG_" ++ l) (run_split is_word_byte text ∙ ap (λ (l : List ℕ). name ++ l) (opened following (61 ∷ []) parts.1) ∙ sym
+          (append_assoc name (61 ∷ []) (drop 1 following))),
     )
 
 says_unsetting : (line text : List ℕ) (said : Statement) → line ≡ codes "# CONFIG_" ++ text → unsetting text ≡ Some said → Says line said
 unfolding unsetting
 says_unsetting line text said is e =
     let name = take_while is_word_byte text in
-    let behind = drop (length name) text in
-    let told = chosen (is_name name && bytes_eq behind (codes " is not set")) (Unsets name) said e in
-    let parts = and_parts (is_name name) (bytes_eq behind (codes " is not set")) told.0 in
+    let following = drop (length name) text in
+    let told = cond_some (is_name name && bytes_eq following (codes " is not set")) (Unsets name) said e in
+    let parts = and_parts (is_name name) (bytes_eq following (codes " is not set")) told.0 in
     subst (Says line) told.1 (
       parts.0,
       is ∙ ap (λ (l : List ℕ). codes "# CONFIG_" ++ l) (run_split is_word_byte text ∙ ap (λ (l : List ℕ). name ++ l)
-          ((bytes_decides behind (codes " is not set")).0 parts.1)),
+          ((bytes_decides following (codes " is not set")).0 parts.1)),
     )
 
 spelled : (line : List ℕ) (said : Statement) → statement line ≡ Some said → Says line said

@@ -1,21 +1,8 @@
 -- Line by line, a reader of Kconfig finds what the whole text means.
-use Rattle.std.proofs.Common.{◌≡◌, ℕ, ◌+◌, ◌<◌, ◌≤◌, nat_lt, length, subst, map as map_list, arith, Bool, true, false, cond, not, ◌&&◌, nat_eq, List, [], ◌∷◌, ◌++◌, reverse, Option, Some, None, option_map, unwrap_or, codes, bytes_eq, refl, sym, ap, ◌∙◌, append_assoc}
-use Rattle.std.proofs.lemmas.List.{append-nil}
-use Rattle.std.specs.List.{find, filter, list_any, ends_with}
-use Rattle.std.specs.Map.{lookup}
-use Rattle.std.proofs.lemmas.Grind.{reverse_onto}
-use Rattle.ks_symbols.specs.declared.kinds.Kind.{Kind}
-use Rattle.ks_symbols.specs.declared.error.SourceError.{SourceError}
+use Rattle.ks_symbols.proofs.Prelude.{◌≡◌, ℕ, ◌+◌, ◌<◌, ◌≤◌, nat_lt, length, subst, arith, Bool, true, false, cond, not, ◌&&◌, nat_eq, List, [], ◌∷◌, ◌++◌, reverse, Option, Some, None, option_map, unwrap_or, codes, bytes_eq, refl, sym, ap, ◌∙◌, append_assoc, append-nil, filter, list_any, ends_with, lookup, reverse_onto, Kind, SourceError, is_name, module_end, lines, max_bytes, or_else, cond-true, cond-false, nat_tests, Form, Silent, Title, Untitled, Entry, HasKind, Unknown, form, says, opens, entry_of, declares, declarations, kind_in, title_in, lacks_kind, clashes, kind_fault, form_fault, goes_on, first_form_fault, story, kconfig_refusal, is_title, Declared, Progress, no_progress, progress_after, waiting_fault, step_fault, last_kind}
+use Rattle.std.proofs.Common.{map as map_list}
+use Rattle.std.specs.List.{find}
 use Rattle.ks_symbols.specs.declared.error.SourceError.TheVariants as fault
-use Rattle.ks_symbols.specs.Names.{is_name, module_end}
-use Rattle.ks_symbols.specs.Lines.{lines, max_bytes}
-use Rattle.ks_symbols.specs.Refusals.{or_else}
-use Rattle.std.proofs.lemmas.Bool.{cond-true, cond-false}
-use Rattle.std.proofs.lemmas.Bool.Decides.{nat_tests}
-use Rattle.ks_symbols.specs.Forms.{Form, Silent, Title, Untitled, Entry, HasKind, Unknown, form}
-use Rattle.ks_symbols.specs.Kconfig.{says, opens, entry_of, declares, declarations, kind_in, title_in, lacks_kind, clashes, kind_fault, form_fault, goes_on, first_form_fault, story, kconfig_refusal}
-use Rattle.ks_symbols.specs.Titles.{is_title}
-use Rattle.ks_symbols.specs.Progress.{Declared, Progress, no_progress, progress_after, waiting_fault, step_fault, last_kind}
 
 -- one more declaration counts
 last_pushed : (o : Option Kind) (b c : Bool) (k l : Kind) → or_else (cond b (Some k) o) (cond c (Some l) None) ≡ cond b (Some k) (or_else o (cond c (Some l) None))

@@ -41,9 +41,9 @@ coded_settings_view =
 unfoldable pub kinds_in : NameMap (Kind × List ℕ) → NameMap Kind
 kinds_in table = map.from_entries (map_list (λ e. (e.0, e.1.0)) (map.entries table))
 
--- an entry as it is lent
-abbrev pub lent_entry : Bor (List ℕ) × Kind × Bor (List ℕ) → List ℕ × (Kind × List ℕ)
-lent_entry e = (e.0.now, (e.1, e.2.now))
+-- an entry as it is borrowed
+abbrev pub borrowed_entry : Bor (List ℕ) × Kind × Bor (List ℕ) → List ℕ × (Kind × List ℕ)
+borrowed_entry e = (e.0.now, (e.1, e.2.now))
 
 -- Each name is that of a symbol.
 abbrev pub HasSymbolNames : (List ℕ → Option Kind) → Type 0

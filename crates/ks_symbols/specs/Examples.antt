@@ -2,7 +2,7 @@
 use Rattle.std.specs.Prelude.{◌≡◌, ℕ, List, [], codes, Some, None}
 use Rattle.ks_symbols.specs.declared.kinds.Kind.TheVariants as kind
 use Rattle.ks_symbols.specs.declared.error.SourceError.TheVariants as fault
-use Rattle.ks_symbols.specs.Names.{less}
+use Rattle.ks_symbols.specs.Names.{without_module}
 use Rattle.ks_symbols.specs.Lines.{lines}
 use Rattle.ks_symbols.specs.Values.{text_of}
 use Rattle.ks_symbols.specs.DotConfig.{setting, unknown_count, dotconfig_refusal}
@@ -13,10 +13,10 @@ abbrev pub demo : List ℕ
 demo = codes "mainmenu \"Demo\"\nconfig A\n\tbool\nconfig B\n\ttristate\n"
 
 pub record Examples : Type 0 where
-  pub one_module_end_off : less (codes "C_MODULE_MODULE") ≡ codes "C_MODULE"
+  pub one_module_end_off : without_module (codes "C_MODULE_MODULE") ≡ codes "C_MODULE"
   pub quotes_and_escapes_off : text_of kind.Text (codes "\"a\\\"b\\\\c\"") ≡ Some (codes "a\"b\\c")
   pub no_other_escape : text_of kind.Text (codes "\"a\\n\"") ≡ None
-  pub nothing_behind_the_quote : text_of kind.Text (codes "\"a\"b") ≡ None
+  pub nothing_after_the_quote : text_of kind.Text (codes "\"a\"b") ≡ None
   pub empty_text : text_of kind.Text (codes "\"\"") ≡ Some []
   pub hex_as_written : text_of kind.Hex (codes "0X1F") ≡ Some (codes "0X1F")
   pub no_bare_radix : text_of kind.Hex (codes "0x") ≡ None

@@ -19,7 +19,7 @@ skip_blanks text = drop (prefix_len is_blank text) text
 abbrev pub first_word : List ℕ → List ℕ
 first_word text = take_while is_no_blank text
 
--- what follows the first word and the blanks behind it
+-- what follows the first word and the blanks after it
 abbrev pub after_word : List ℕ → List ℕ
 after_word text = skip_blanks (drop (length (first_word text)) text)
 
@@ -68,7 +68,7 @@ is_one_word text = not (length text == 0) && length (after_word text) == 0
 abbrev pub is_state : List ℕ → Bool
 is_state word = bytes_eq word (codes "y") || bytes_eq word (codes "m") || bytes_eq word (codes "n")
 
--- the kind that a word names, with a prompt or nothing behind it
+-- the kind that a word names, with a prompt or nothing after it
 abbrev pub named_kind : List ℕ → Option Kind
 named_kind word =
     if bytes_eq word (codes "bool") then Some kind.Bool
@@ -77,7 +77,7 @@ named_kind word =
     else (if bytes_eq word (codes "int") then Some kind.Int
     else (if bytes_eq word (codes "hex") then Some kind.Hex else None))))
 
--- the kind that a word names, with a value behind it
+-- the kind that a word names, with a value after it
 abbrev pub valued_kind : List ℕ → Option Kind
 valued_kind word =
     if bytes_eq word (codes "def_bool") then Some kind.Bool
@@ -95,14 +95,14 @@ kind_form word rest =
 abbrev pub is_no_quote : ℕ → Bool
 is_no_quote b = not (b == 34)
 
--- the title that goes up to the next quote, behind which stand blanks
+-- the title that goes up to the next quote, after which stand blanks
 unfoldable pub title_form : List ℕ → Form
 title_form rest =
     let title = take_while is_no_quote (drop 1 rest) in
-    let behind = drop (length title) (drop 1 rest) in
-    if starts_with nat_eq rest (34 ∷ []) && starts_with nat_eq behind (34 ∷ []) && list_all is_blank (drop 1 behind) then Title title else Untitled
+    let following = drop (length title) (drop 1 rest) in
+    if starts_with nat_eq rest (34 ∷ []) && starts_with nat_eq following (34 ∷ []) && list_all is_blank (drop 1 following) then Title title else Untitled
 
--- the form of a line whose first word stands behind no blanks, or behind some
+-- the form of a line whose first word stands after no blanks, or after some
 unfoldable pub word_form : Bool → List ℕ → List ℕ → Form
 word_form at_front word rest =
     if bytes_eq word (codes "mainmenu") then (if at_front then title_form rest else Untitled)

@@ -21,8 +21,8 @@ abbrev pub module_end : List ℕ
 module_end = codes "_MODULE"
 
 -- a run of word bytes without one _MODULE at its end
-abbrev pub less : List ℕ → List ℕ
-less run = if ends_with nat_eq run module_end then take (length run - 7) run else run
+abbrev pub without_module : List ℕ → List ℕ
+without_module run = if ends_with nat_eq run module_end then take (length run - 7) run else run
 
 -- a name whose macro is no other symbol's
 unfoldable pub is_symbol_name : List ℕ → Bool

@@ -69,7 +69,7 @@ waiting_fault (Some w) = Some (fault.NoType w.0)
 abbrev pub clash_fault : ℕ → Kind → Option Kind → Option SourceError
 clash_fault number k before = if clashes k before then Some (fault.TypeClash number) else None
 
--- the first one among declarations, behind others
+-- the first one among declarations, after others
 unfoldable pub first_clash : List Declared → List Declared → Option SourceError
 first_clash before [] = None
 first_clash before (d ∷ ds) = or_else (clash_fault d.1.1 d.1.0 (last_kind before d.0)) (first_clash (before ++ d ∷ []) ds)

@@ -19,8 +19,8 @@ Says line (Unsets name) = IsTrue (is_name name) × (line ≡ codes "# CONFIG_" +
 unfoldable pub assignment : List ℕ → Option Statement
 assignment rest =
     let name = take_while is_word_byte rest in
-    let behind = drop (length name) rest in
-    if is_name name && starts_with nat_eq behind (codes "=") then Some (Assigns name (drop 1 behind)) else None
+    let following = drop (length name) rest in
+    if is_name name && starts_with nat_eq following (codes "=") then Some (Assigns name (drop 1 following)) else None
 
 unfoldable pub unsetting : List ℕ → Option Statement
 unsetting rest =

@@ -63,6 +63,6 @@ unfoldable pub last_ones : {X : Type 0} → List (List ℕ × Option X) → List
 last_ones [] = []
 last_ones (e ∷ es) = cond (begins_with e.0 es) (last_ones es) (with_entry e.0 e.1 (last_ones es))
 
--- a row as it is lent
-abbrev pub lent_row : {V : Type 0} → Bor (List ℕ) × V × Bor (List ℕ) → List ℕ × (V × List ℕ)
-lent_row e = (e.0.now, (e.1, e.2.now))
+-- a row as it is borrowed
+abbrev pub borrowed_row : {V : Type 0} → Bor (List ℕ) × V × Bor (List ℕ) → List ℕ × (V × List ℕ)
+borrowed_row e = (e.0.now, (e.1, e.2.now))

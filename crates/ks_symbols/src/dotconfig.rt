@@ -89,7 +89,7 @@ fn apply(
     }
 }
 
-/// What the lines of a `.config` give to the declared symbols, not yet in order. The symbols are asked for no more behind it,
+/// What the lines of a `.config` give to the declared symbols, not yet in order. The symbols are asked for no more after it,
 /// so they can be let go before the settings are put in order, which takes as much memory as they have.
 pub fn draft_settings(
     alloc: Global,

@@ -56,7 +56,7 @@ fn split_blank(text: &[u8]) -> (&[u8], &[u8])
     text.split_at(end)
 }
 
-/// The first word, and what follows it and the blanks behind it.
+/// The first word, and what follows it and the blanks after it.
 fn next_word(text: &[u8]) -> (&[u8], &[u8])
     ensures word { result.0.now ≡ first_word text.now }
     ensures rest { result.1.now ≡ after_word text.now }
@@ -172,8 +172,8 @@ fn title_form(rest: &[u8]) -> Form<'_>
     if !rest.starts_with(b"\"") {
         return Form::Untitled;
     }
-    let (title, behind) = split_quote(&rest[1..]);
-    if behind.starts_with(b"\"") && all_blank(&behind[1..]) {
+    let (title, following) = split_quote(&rest[1..]);
+    if following.starts_with(b"\"") && all_blank(&following[1..]) {
         Form::Title(title)
     } else {
         Form::Untitled

@@ -246,7 +246,7 @@ impl<'a> Reader<'a> {
 }
 
 /// The symbols that a Kconfig text declares. Which line is the first with another kind than a name has is known only when all
-/// lines are read, and then told before the fault of any line behind it.
+/// lines are read, and then told before the fault of any line after it.
 pub fn read_kconfig(alloc: Global, text: &[u8]) -> Result<Symbols, SourceError>
     ensures kinds { IfOk result (λ s. (x : List ℕ) → map.get s.kinds x ≡ declared text.now x) }
     ensures title { IfOk result (λ s. s.title ≡ title_of text.now) }

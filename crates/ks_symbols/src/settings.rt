@@ -3,7 +3,7 @@ ghost use Rattle.std.specs.Prelude.{◌≡◌, ◌+◌, ◌^◌, ◌<◌, OnOk, 
 ghost use Rattle.std.specs.FinMap as map;
 ghost use Rattle.std.specs.Iterator.{item_count};
 ghost use Rattle.std.specs.Map.Iter.{TakesFirst};
-ghost use Rattle.ks_symbols.specs.Configuration.{IsConfiguration, lent_entry};
+ghost use Rattle.ks_symbols.specs.Configuration.{IsConfiguration, borrowed_entry};
 
 use crate::kinds::Kind;
 use crate::table::{Draft, Rows, Table};
@@ -51,7 +51,7 @@ impl<'a> Model for Entries<'a> {
 impl<'a> Iterator for Entries<'a> {
     type Item = (&'a [u8], Kind, &'a [u8]);
 
-    ghost next_gives = { TakesFirst lent_entry };
+    ghost next_gives = { TakesFirst borrowed_entry };
 
     ghost remaining = { item_count (λ rest. rest) };
 

@@ -1,10 +1,13 @@
 //! The declared symbols.
-ghost use Rattle.std.specs.Prelude.{◌≡◌};
+ghost use Rattle.std.specs.Prelude.{◌≡◌, ℕ, List, IfOk, IsTrue, is_some, true};
 ghost use Rattle.std.specs.FinMap as map;
 ghost use Rattle.ks_symbols.specs.Configuration.{HasSymbolNames, kinds_in};
+ghost use Rattle.ks_symbols.specs.Names.{is_in, is_name};
 
 use crate::kinds::Kind;
+use crate::names::Name;
 use crate::table::Table;
+use std::alloc::{AllocError, Global};
 use std::marker::Model;
 
 /// The symbols that a Kconfig text declares, with their kinds, and its title.
@@ -50,6 +53,18 @@ impl Symbols {
             Some((kind, _)) => Some(kind),
             None => None,
         }
+    }
+
+    /// The names of all symbols, by rising names.
+    pub fn names(&self, alloc: Global) -> Result<Vec<Name>, AllocError>
+        ensures all { IfOk result (λ names. (x : List ℕ) → is_in names.items x ≡ is_some (map.get self.now.kinds x)) }
+        ensures legal { IfOk result (λ names. (x : List ℕ) → is_in names.items x ≡ true → IsTrue (is_name x)) }
+    {
+        let mut names = Vec::new(alloc);
+        for (name, _, _) in self.kinds.rows() {
+            names.push(Name::new(alloc, name)?)?;
+        }
+        Ok(names)
     }
 
     /// Does nothing. Its contract says what symbols always have: legal names.

@@ -12,14 +12,14 @@ ghost use Rattle.std.specs.Map.Iter.{TakesFirst};
 ghost use Rattle.std.specs.Ordering.{nat_cmp};
 ghost use Rattle.std.specs.Cmp.Lexicographic.{slice_cmp};
 ghost use Rattle.std.specs.List.Sorted.{IsSortedByKey, IsStableByKey};
-ghost use Rattle.ks_symbols.specs.Table.{name_in, text_in, entry_in, said_in, after_line, begins_with, last_ones, lent_row, head_of, by_heads, AreHeaded};
+ghost use Rattle.ks_symbols.specs.Table.{name_in, text_in, entry_in, said_in, after_line, begins_with, last_ones, borrowed_row, head_of, by_heads, AreHeaded};
 
 use std::alloc::{AllocError, Global};
 use std::cmp::Ordering;
 use std::marker::Model;
 use std::slice::Iter;
 
-/// Where a name and the text behind it lie in the bytes, and what the name has besides.
+/// Where a name and the text after it lie in the bytes, and what the name has besides.
 #[derive(Clone, Copy)]
 pub(crate) struct Record<V> {
     start: usize,
@@ -295,7 +295,7 @@ impl<'a, V> Model for Rows<'a, V> {
 impl<'a, V: Copy> Iterator for Rows<'a, V> {
     type Item = (&'a [u8], V, &'a [u8]);
 
-    ghost next_gives = { TakesFirst lent_row };
+    ghost next_gives = { TakesFirst borrowed_row };
 
     ghost remaining = { item_count (λ rest. rest) };
 

@@ -1,10 +1,6 @@
-use Rattle.std.proofs.Common.{Some, sym, ap, ◌∙◌}
+use Rattle.ks_symbols.proofs.Prelude.{Some, sym, ap, ◌∙◌, Assigns, Unsets, seen_statement, gives, after_statement, on_ok_weaker}
 use Rattle.std.specs.FinMap as map
-use Rattle.ks_symbols.specs.Statements.{Assigns, Unsets, seen_statement}
-use Rattle.ks_symbols.specs.DotConfig.{gives}
-use Rattle.ks_symbols.specs.Settling.{after_statement}
 use Rattle.ks_symbols.proofs.LastLine.{declared_after}
-use Rattle.std.proofs.lemmas.Result.{on_ok_weaker}
 use Rattle.ks_symbols.proofs.dotconfig.apply.Goals as goal
 
 pub returns-in_ok-clear-in-Some-clause-entries : goal.returns-in_ok-clear-in-Some-clause-entries

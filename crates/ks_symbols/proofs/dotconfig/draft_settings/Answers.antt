@@ -1,11 +1,5 @@
-use Rattle.std.proofs.Common.{◌≡◌, inr, ◌+◌, ◌≤◌, ℕ, ◌∷◌, None, length, sym, ap, ◌∙◌, cond, zero-add, arith}
-use Rattle.std.specs.Ordering.{nat_cmp}
-use Rattle.std.specs.Cmp.Lexicographic.{slice_cmp}
+use Rattle.ks_symbols.proofs.Prelude.{◌≡◌, inr, ◌+◌, ◌≤◌, ℕ, ◌∷◌, None, length, sym, ap, ◌∙◌, cond, zero-add, arith, nat_cmp, slice_cmp, err_from_is_err_and, lines, statement, line_fault, first_fault, unknown_count, is_of_unknown, fault_of_statement, dotconfig_refusal}
 use Rattle.std.specs.FinMap as map
-use Rattle.std.proofs.lemmas.Result.{err_from_is_err_and}
-use Rattle.ks_symbols.specs.Lines.{lines}
-use Rattle.ks_symbols.specs.Statements.{statement}
-use Rattle.ks_symbols.specs.DotConfig.{line_fault, first_fault, unknown_count, is_of_unknown, fault_of_statement, dotconfig_refusal}
 use Rattle.ks_symbols.proofs.Faults.{no_fault, fault_here, no_fault_left, refused, too_large, not_large, unknown-cons, at_most_one}
 use Rattle.ks_symbols.proofs.LastLine.{settled, settled-cons, settled-nil, settled-setting}
 use Rattle.ks_symbols.proofs.Configured.{configured}

@@ -1,5 +1,4 @@
-use Rattle.std.proofs.Common.{subst, sym}
-use Rattle.ks_symbols.specs.Configuration.{IsConfiguration, SettingsView}
+use Rattle.ks_symbols.proofs.Prelude.{subst, sym, IsConfiguration, SettingsView}
 use Rattle.ks_symbols.proofs.dotconfig.read_dotconfig.Goals as goal
 
 pub returns-clause-configured : goal.returns-clause-configured

@@ -1,9 +1,5 @@
-use Rattle.std.proofs.Common.{◌≡◌, ◌≤◌, ◌⊎◌, List, ℕ, [], ◌∷◌, nat_eq, length, get_or, Some, sym, ap, ◌∙◌}
-use Rattle.std.specs.List.{starts_with}
-use Rattle.std.proofs.lemmas.Bool.{cond-true, cond-false}
-use Rattle.std.proofs.lemmas.List.{take_rest}
+use Rattle.ks_symbols.proofs.Prelude.{◌≡◌, ◌≤◌, ◌⊎◌, List, ℕ, [], ◌∷◌, nat_eq, length, get_or, Some, sym, ap, ◌∙◌, starts_with, cond-true, cond-false, take_rest, after_quote}
 use mathlib.Core.Logic.{inl, inr}
-use Rattle.ks_symbols.specs.Forms.{after_quote}
 use Rattle.ks_symbols.proofs.Prompts.{escape_passed, byte_passed, at_quote}
 use Rattle.ks_symbols.proofs.forms.after_quote.Goals as goal
 use Rattle.ks_symbols.proofs.forms.after_quote.Goals.{then-loop-rest-test+else-rest-ne34, else-loop-rest-test}

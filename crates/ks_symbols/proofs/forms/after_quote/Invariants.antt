@@ -1,5 +1,4 @@
-use Rattle.std.proofs.Common.{◌≡◌, length}
-use Rattle.ks_symbols.specs.Forms.{after_quote}
+use Rattle.ks_symbols.proofs.Prelude.{◌≡◌, length, after_quote}
 use Rattle.ks_symbols.proofs.forms.after_quote.Given as goal
 
 abbrev pub invariant-loop-rest : goal.invariant-loop-rest

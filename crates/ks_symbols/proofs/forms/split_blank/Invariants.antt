@@ -1,6 +1,4 @@
-use Rattle.std.proofs.Common.{◌≡◌, ◌+◌, ◌-◌, ◌≤◌, length, drop}
-use Rattle.std.specs.List.{prefix_len}
-use Rattle.ks_symbols.specs.Forms.{is_no_blank}
+use Rattle.ks_symbols.proofs.Prelude.{◌≡◌, ◌+◌, ◌-◌, ◌≤◌, length, drop, prefix_len, is_no_blank}
 use Rattle.ks_symbols.proofs.forms.split_blank.Given as goal
 
 abbrev pub invariant-loop-end : goal.invariant-loop-end

@@ -1,8 +1,6 @@
-use Rattle.std.proofs.Common.{◌≤◌, ℕ, [], List, Option, option_map, length, take, drop, map as map_list, refl, ◌+◌, sym, ap, subst, ◌∙◌, arith}
-use Rattle.std.proofs.lemmas.List.{drop_all, take_all}
+use Rattle.ks_symbols.proofs.Prelude.{◌≤◌, ℕ, [], List, Option, option_map, length, take, drop, refl, ◌+◌, sym, ap, subst, ◌∙◌, arith, drop_all, take_all, Kind, seen, first_kind, first_clash}
+use Rattle.std.proofs.Common.{map as map_list}
 use Rattle.std.specs.FinMap as map
-use Rattle.ks_symbols.specs.declared.kinds.Kind.{Kind}
-use Rattle.ks_symbols.specs.Progress.{seen, first_kind, first_clash}
 use Rattle.ks_symbols.proofs.Clashes.{AreFirst, clash_here, clash_later, clash-nil, are_first_next, first_at_start, first_at_end, kind_of_first, one_more, one_less}
 use Rattle.ks_symbols.proofs.kconfig.first_clash.Goals as goal
 

@@ -1,6 +1,6 @@
-use Rattle.std.proofs.Common.{◌≡◌, [], take, drop, option_map, map as map_list}
+use Rattle.ks_symbols.proofs.Prelude.{◌≡◌, [], take, drop, option_map, seen, first_clash}
+use Rattle.std.proofs.Common.{map as map_list}
 use Rattle.std.specs.FinMap as map
-use Rattle.ks_symbols.specs.Progress.{seen, first_clash}
 use Rattle.ks_symbols.proofs.Clashes.{AreFirst}
 use Rattle.ks_symbols.proofs.kconfig.first_clash.Given as goal
 

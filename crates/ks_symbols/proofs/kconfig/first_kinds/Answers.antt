@@ -1,12 +1,8 @@
-use Rattle.std.proofs.Common.{◌≡◌, ◌+◌, ◌-◌, ◌<◌, option_map, length, take, map as map_list, sym, ap, ◌∙◌, arith}
-use Rattle.std.proofs.Math.Seq.{take-length}
-use Rattle.std.proofs.lemmas.Result.{IfOk-weaker}
-use Rattle.std.specs.Ordering.{nat_cmp}
-use Rattle.std.specs.Cmp.Lexicographic.{slice_cmp}
+use Rattle.ks_symbols.proofs.LastOnes.{or_none}
+use Rattle.ks_symbols.proofs.Prelude.{◌≡◌, ◌+◌, ◌-◌, ◌<◌, option_map, length, take, sym, ap, ◌∙◌, arith, take-length, IfOk-weaker, nat_cmp, slice_cmp, or_else, seen, first_kind, without_text}
+use Rattle.std.proofs.Common.{map as map_list}
 use Rattle.std.specs.FinMap as map
-use Rattle.ks_symbols.specs.Refusals.{or_else}
-use Rattle.ks_symbols.specs.Progress.{seen, first_kind, without_text}
-use Rattle.ks_symbols.proofs.Clashes.{or_none, put_next, nothing_first, one_more}
+use Rattle.ks_symbols.proofs.Clashes.{put_next, nothing_first, one_more}
 use Rattle.ks_symbols.proofs.kconfig.first_kinds.Goals as goal
 
 pub loop-place-init : goal.loop-place-init

@@ -1,10 +1,9 @@
-use Rattle.std.proofs.Common.{◌≡◌, ◌≤◌, ℕ, List, length, take, option_map, map as map_list}
+use Rattle.ks_symbols.proofs.Prelude.{◌≡◌, ◌≤◌, ℕ, List, length, take, option_map, or_else, seen, first_kind, without_text}
+use Rattle.std.proofs.Common.{map as map_list}
 use Rattle.std.specs.FinMap as map
-use Rattle.ks_symbols.specs.Refusals.{or_else}
-use Rattle.ks_symbols.specs.Progress.{seen, first_kind, without_text}
 use Rattle.ks_symbols.proofs.kconfig.first_kinds.Given as goal
 
--- what the declarations before this place say first, and else those behind it
+-- what the declarations before this place say first, and else those after it
 abbrev pub invariant-loop-place : goal.invariant-loop-place
 invariant-loop-place l = record {
   within : l.place ≤ length l.declared;

@@ -1,13 +1,8 @@
-use Rattle.std.proofs.Common.{◌≡◌, inr, None, List, ℕ, IsTrue, option_map, sym, ap, subst, ◌∙◌}
+use Rattle.ks_symbols.proofs.Prelude.{◌≡◌, inr, None, List, ℕ, IsTrue, option_map, sym, ap, subst, ◌∙◌, or_else, is_title, kconfig_refusal, first_kind}
 use Rattle.std.specs.FinMap as map
-use Rattle.ks_symbols.specs.Refusals.{or_else}
-use Rattle.ks_symbols.specs.Titles.{is_title}
-use Rattle.ks_symbols.specs.Kconfig.{kconfig_refusal}
-use Rattle.ks_symbols.specs.Progress.{first_kind}
 use Rattle.ks_symbols.proofs.Clashes.{get-kinds_in, kind_of_first}
-use Rattle.ks_symbols.proofs.Configured.{declares_names}
+use Rattle.ks_symbols.proofs.Configured.{declares_names, title_is_title}
 use Rattle.ks_symbols.proofs.Story.{too_long}
-use Rattle.ks_symbols.proofs.Titled.{title_is_title}
 use Rattle.ks_symbols.proofs.kconfig.read_kconfig.Goals as goal
 
 pub returns-then-text-gt-MAX_BYTES-clause-refusal : goal.returns-then-text-gt-MAX_BYTES-clause-refusal

@@ -1,14 +1,4 @@
-use Rattle.std.proofs.Common.{refl}
-use Rattle.ks_symbols.specs.Names.{is_name}
-use Rattle.ks_symbols.specs.Lines.{lines}
-use Rattle.ks_symbols.specs.Kinds.{is_text}
-use Rattle.ks_symbols.specs.Values.{unquoted_rest, unquoted, text_of}
-use Rattle.ks_symbols.specs.Statements.{assignment, unsetting, statement}
-use Rattle.ks_symbols.specs.DotConfig.{gives, setting, line_fault, first_fault, dotconfig_refusal}
-use Rattle.ks_symbols.specs.Titles.{is_title}
-use Rattle.ks_symbols.specs.Forms.{after_quote, kind_form, title_form, word_form, form}
-use Rattle.ks_symbols.specs.Kconfig.{declarations, title_in, declared, title_of, first_form_fault, kconfig_refusal}
-use Rattle.bstr.specs.Text.{line_len, lines_from}
+use Rattle.ks_symbols.proofs.Prelude.{refl, is_name, lines, is_text, unquoted_rest, unquoted, text_of, assignment, unsetting, statement, gives, setting, line_fault, first_fault, dotconfig_refusal, is_title, after_quote, kind_form, title_form, word_form, form, declarations, title_in, declared, title_of, first_form_fault, kconfig_refusal, line_len, lines_from}
 use Rattle.ks_symbols.proofs.laws.examples_hold.Goals as goal
 
 pub returns : goal.returns
@@ -18,7 +8,7 @@ returns c = record {
   one_module_end_off = refl;
   quotes_and_escapes_off = refl;
   no_other_escape = refl;
-  nothing_behind_the_quote = refl;
+  nothing_after_the_quote = refl;
   empty_text = refl;
   hex_as_written = refl;
   no_bare_radix = refl;

@@ -1,10 +1,5 @@
-use Rattle.std.proofs.Common.{◌≡◌, ◌+◌, ◌-◌, ◌≤◌, length, take, drop, sym, ap, ap₂, ◌∙◌, arith, length-drop}
+use Rattle.ks_symbols.proofs.Prelude.{◌≡◌, ◌+◌, ◌-◌, ◌≤◌, length, take, drop, sym, ap, ap₂, ◌∙◌, arith, length-drop, list_all, take-add, take_all, list_all-append, is_path_byte}
 use Rattle.std.specs.Prelude.{◌&&◌}
-use Rattle.std.specs.List.{list_all}
-use Rattle.std.proofs.Math.Seq.{take-add}
-use Rattle.std.proofs.lemmas.List.{take_all}
-use Rattle.std.proofs.lemmas.List.Folds.{list_all-append}
-use Rattle.ks_symbols.specs.Names.{is_path_byte}
 use Rattle.ks_symbols.proofs.Overlaps.{all-overlap}
 use Rattle.ks_symbols.proofs.names.all_path_bytes.Goals as goal
 

@@ -1,6 +1,4 @@
-use Rattle.std.proofs.Common.{◌≡◌, take}
-use Rattle.std.specs.List.{list_all}
-use Rattle.ks_symbols.specs.Names.{is_word_byte}
+use Rattle.ks_symbols.proofs.Prelude.{◌≡◌, take, list_all, is_word_byte}
 use Rattle.ks_symbols.proofs.names.all_word_bytes.Given as goal
 
 -- whether the bytes so far pass

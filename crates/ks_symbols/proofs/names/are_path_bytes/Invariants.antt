@@ -1,6 +1,4 @@
-use Rattle.std.proofs.Common.{◌≡◌, take}
-use Rattle.std.specs.List.{list_all}
-use Rattle.ks_symbols.specs.Names.{is_path_byte}
+use Rattle.ks_symbols.proofs.Prelude.{◌≡◌, take, list_all, is_path_byte}
 use Rattle.ks_symbols.proofs.names.are_path_bytes.Given as goal
 
 -- whether the bytes so far pass

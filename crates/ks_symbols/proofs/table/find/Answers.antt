@@ -1,6 +1,4 @@
-use Rattle.std.proofs.Common.{Some, List, ℕ, sym, ap, ◌∙◌, rules}
-use Rattle.std.proofs.lemmas.Fn.{always_returns_same}
-use Rattle.ks_symbols.specs.Table.{name_in, entry_in}
+use Rattle.ks_symbols.proofs.Prelude.{Some, List, ℕ, sym, ap, ◌∙◌, rules, always_returns_same, name_in, entry_in}
 use Rattle.ks_symbols.proofs.LastOnes.{order}
 use Rattle.ks_symbols.proofs.Records.{found_at, searchable, parted_none}
 use Rattle.ks_symbols.proofs.table.find.Goals as goal

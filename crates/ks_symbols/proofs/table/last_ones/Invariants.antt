@@ -1,5 +1,5 @@
-use Rattle.std.proofs.Common.{◌≡◌, ◌++◌, length, map as map_list}
-use Rattle.ks_symbols.specs.Table.{entry_in, said_in, last_ones}
+use Rattle.ks_symbols.proofs.Prelude.{◌≡◌, ◌++◌, length, entry_in, said_in, last_ones}
+use Rattle.std.proofs.Common.{map as map_list}
 use Rattle.ks_symbols.proofs.table.last_ones.Given as goal
 
 -- what is kept so far and what the rest leaves are what the whole leaves

@@ -1,9 +1,4 @@
-use Rattle.std.proofs.Common.{◌≡◌, arith, rules}
-use Rattle.std.specs.Ordering.{is_lt}
-use Rattle.std.proofs.lemmas.Fn.{always_returns_same}
-use Rattle.std.proofs.lemmas.List.Sorted.{ranks_by, All-permutation}
-use Rattle.std.proofs.lemmas.Result.{on_ok_weaker}
-use Rattle.ks_symbols.specs.Table.{name_in, head_of, by_heads}
+use Rattle.ks_symbols.proofs.Prelude.{◌≡◌, arith, rules, is_lt, always_returns_same, ranks_by, All-permutation, on_ok_weaker, name_in, head_of, by_heads}
 use Rattle.ks_symbols.proofs.Heads.{AreBytes, heads_total, headed_sorted, headed_stable}
 use Rattle.ks_symbols.proofs.table.sort_records.Goals as goal
 

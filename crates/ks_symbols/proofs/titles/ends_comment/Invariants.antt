@@ -1,5 +1,4 @@
-use Rattle.std.proofs.Common.{◌≡◌, length}
-use Rattle.ks_symbols.specs.Titles.{ends_comment}
+use Rattle.ks_symbols.proofs.Prelude.{◌≡◌, length, ends_comment}
 use Rattle.ks_symbols.proofs.titles.ends_comment.Given as goal
 
 abbrev pub invariant-loop-rest : goal.invariant-loop-rest

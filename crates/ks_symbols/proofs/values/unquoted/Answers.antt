@@ -1,9 +1,4 @@
-use Rattle.std.proofs.Common.{◌≡◌, option_map, ℕ, ◌-◌, ◌==◌, ◌||◌, not, length, true, false, nat_eq, List, [], ◌∷◌, ◌++◌, Option, Some, None, cond, get_or, drop, take, refl, sym, ap, ◌∙◌, eq-eqb, bytes_eq}
-use Rattle.std.specs.List.{starts_with}
-use Rattle.std.proofs.lemmas.Bool.{cond-true, cond-false}
-use Rattle.std.proofs.lemmas.List.{take_rest, append-nil}
-use Rattle.ks_symbols.specs.Values.{is_escaped, unquoted, unquoted_rest}
-use Rattle.ks_symbols.specs.Kinds.{is_string_byte}
+use Rattle.ks_symbols.proofs.Prelude.{◌≡◌, option_map, ℕ, ◌-◌, ◌==◌, ◌||◌, not, length, true, false, nat_eq, List, [], ◌∷◌, ◌++◌, Option, Some, None, cond, get_or, drop, take, refl, sym, ap, ◌∙◌, eq-eqb, bytes_eq, starts_with, cond-true, cond-false, take_rest, append-nil, is_escaped, unquoted, unquoted_rest, is_string_byte}
 use Rattle.ks_symbols.proofs.Quotes.{escape_read, byte_read, last_read, pushed, differs, or_not_false}
 use Rattle.ks_symbols.proofs.values.unquoted.Goals as goal
 use Rattle.ks_symbols.proofs.values.unquoted.Goals.{then-rest-eq34-via-then-rest-eq34, then-rest-eq34-via-else-rest-eq34+then-not-is_string_byte}

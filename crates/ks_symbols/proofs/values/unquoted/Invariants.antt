@@ -1,5 +1,4 @@
-use Rattle.std.proofs.Common.{◌≡◌, ◌++◌, length, option_map}
-use Rattle.ks_symbols.specs.Values.{unquoted, unquoted_rest}
+use Rattle.ks_symbols.proofs.Prelude.{◌≡◌, ◌++◌, length, option_map, unquoted, unquoted_rest}
 use Rattle.ks_symbols.proofs.values.unquoted.Given as goal
 
 -- the text so far and what is left to read are the text of the whole

@@ -1,11 +1,6 @@
-use Rattle.std.proofs.Common.{◌≡◌, ◌+◌, ℕ, List, [], map as map_list, length, sym, ap, ◌∙◌, arith}
-use Rattle.std.proofs.lemmas.Result.{err_from_is_err_and, on_ok_weaker}
-use Rattle.ks_symbols.specs.Lines.{lines}
+use Rattle.ks_symbols.proofs.Prelude.{◌≡◌, ◌+◌, ℕ, List, [], length, sym, ap, ◌∙◌, arith, err_from_is_err_and, on_ok_weaker, lines, or_else, RefusedBy, form, declared, title_of, no_progress, progress_after, step_fault, waiting_fault, no_kinds, first_clash}
+use Rattle.std.proofs.Common.{map as map_list}
 use Rattle.ks_symbols.specs.declared.error.SourceError.TheVariants as fault
-use Rattle.ks_symbols.specs.Refusals.{or_else, RefusedBy}
-use Rattle.ks_symbols.specs.Forms.{form}
-use Rattle.ks_symbols.specs.Kconfig.{declared, title_of}
-use Rattle.ks_symbols.specs.Progress.{no_progress, progress_after, step_fault, waiting_fault, no_kinds, first_clash}
 use Rattle.ks_symbols.proofs.Faults.{refused}
 use Rattle.ks_symbols.proofs.Clashes.{none_yet, gathered, refused_anyway}
 use Rattle.ks_symbols.proofs.Story.{run_fault, run_fault-cons, run_fault-nil, run_end, run_end-cons, found, read_all}

@@ -1,8 +1,4 @@
-use Rattle.std.proofs.Common.{◌≡◌, ◌+◌, ◌≤◌, [], length, map}
-use Rattle.ks_symbols.specs.Lines.{lines}
-use Rattle.ks_symbols.specs.Forms.{form}
-use Rattle.ks_symbols.specs.Refusals.{or_else}
-use Rattle.ks_symbols.specs.Progress.{no_progress, first_clash}
+use Rattle.ks_symbols.proofs.Prelude.{◌≡◌, ◌+◌, ◌≤◌, [], length, map, lines, form, or_else, no_progress, first_clash}
 use Rattle.ks_symbols.proofs.Story.{run_fault, run_end}
 use Rattle.ks_symbols.proofs.kconfig.Reader.take_lines.Given as goal
 

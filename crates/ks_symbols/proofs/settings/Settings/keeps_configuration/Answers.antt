@@ -1,5 +1,4 @@
-use Rattle.std.proofs.Common.{subst}
-use Rattle.ks_symbols.specs.Configuration.{IsConfiguration, SettingsView}
+use Rattle.ks_symbols.proofs.Prelude.{subst, IsConfiguration, SettingsView}
 use Rattle.ks_symbols.proofs.settings.Settings.keeps_configuration.Goals as goal
 
 pub returns : goal.returns

@@ -1,6 +1,5 @@
-use Rattle.std.proofs.Common.{None, cond, bytes_eq, ap, ◌∙◌}
+use Rattle.ks_symbols.proofs.Prelude.{None, cond, bytes_eq, ap, ◌∙◌, on_ok_weaker}
 use Rattle.std.specs.FinMap as map
-use Rattle.std.proofs.lemmas.Result.{on_ok_weaker}
 use Rattle.ks_symbols.proofs.LastOnes.{given_line}
 use Rattle.ks_symbols.proofs.settings.SettingsDraft.clear.Goals as goal
 

@@ -1,5 +1,4 @@
-use Rattle.std.proofs.Common.{sym, ap, subst, ◌∙◌}
-use Rattle.ks_symbols.specs.Configuration.{IsConfiguration}
+use Rattle.ks_symbols.proofs.Prelude.{sym, ap, subst, ◌∙◌, IsConfiguration}
 use Rattle.ks_symbols.proofs.settings.SettingsDraft.close.Goals as goal
 
 pub invariant_of-result : goal.invariant_of-result

@@ -1,6 +1,5 @@
-use Rattle.std.proofs.Common.{Some, cond, bytes_eq, ap, ◌∙◌}
+use Rattle.ks_symbols.proofs.Prelude.{Some, cond, bytes_eq, ap, ◌∙◌, on_ok_weaker}
 use Rattle.std.specs.FinMap as map
-use Rattle.std.proofs.lemmas.Result.{on_ok_weaker}
 use Rattle.ks_symbols.proofs.LastOnes.{given_line}
 use Rattle.ks_symbols.proofs.settings.SettingsDraft.put.Goals as goal
 

@@ -1,6 +1,5 @@
-use Rattle.std.proofs.Common.{subst}
+use Rattle.ks_symbols.proofs.Prelude.{subst, Declarations, HasSymbolNames}
 use Rattle.std.specs.FinMap as map
-use Rattle.ks_symbols.specs.Configuration.{Declarations, HasSymbolNames}
 use Rattle.ks_symbols.proofs.symbols.Symbols.keeps_names.Goals as goal
 
 pub returns : goal.returns

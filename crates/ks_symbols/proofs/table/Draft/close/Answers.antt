@@ -1,8 +1,6 @@
-use Rattle.std.proofs.Common.{◌≡◌, T, List, ℕ, sym, ap, subst, ◌∙◌, map as map_list}
+use Rattle.ks_symbols.proofs.Prelude.{◌≡◌, T, List, ℕ, sym, ap, subst, ◌∙◌, is_sorted, IsSortedByKey, IsStableByKey, AreHeaded, name_in, said_in, entry_in, last_ones}
+use Rattle.std.proofs.Common.{map as map_list}
 use Rattle.std.specs.FinMap as map
-use Rattle.std.specs.FinMap.{is_sorted}
-use Rattle.std.specs.List.Sorted.{IsSortedByKey, IsStableByKey}
-use Rattle.ks_symbols.specs.Table.{AreHeaded, name_in, said_in, entry_in, last_ones}
 use Rattle.ks_symbols.proofs.LastOnes.{order, closed, closed_rise}
 use Rattle.ks_symbols.proofs.table.Draft.close.Goals as goal
 

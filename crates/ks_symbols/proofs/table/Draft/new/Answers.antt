@@ -1,5 +1,4 @@
-use Rattle.std.proofs.Common.{refl}
-use Rattle.ks_symbols.specs.Table.{after_lines}
+use Rattle.ks_symbols.proofs.Prelude.{refl, after_lines}
 use Rattle.ks_symbols.proofs.table.Draft.new.Goals as goal
 
 pub returns : goal.returns

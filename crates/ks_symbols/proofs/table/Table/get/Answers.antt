@@ -1,7 +1,6 @@
-use Rattle.std.proofs.Common.{List, ℕ, map as map_list, sym, ap, ◌∙◌}
+use Rattle.ks_symbols.proofs.Prelude.{List, ℕ, sym, ap, ◌∙◌, nat_list_cmp_total, entry_in}
+use Rattle.std.proofs.Common.{map as map_list}
 use Rattle.std.specs.FinMap as map
-use Rattle.std.specs.Cmp.Lexicographic.{nat_list_cmp_total}
-use Rattle.ks_symbols.specs.Table.{entry_in}
 use Rattle.ks_symbols.proofs.LastOnes.{order}
 use Rattle.ks_symbols.proofs.table.Table.get.Goals as goal
 

@@ -1,6 +1,6 @@
-use Rattle.std.proofs.Common.{List, ℕ, map as map_list, sym, ap, ◌∙◌}
+use Rattle.ks_symbols.proofs.Prelude.{List, ℕ, sym, ap, ◌∙◌, entry_in}
+use Rattle.std.proofs.Common.{map as map_list}
 use Rattle.std.specs.FinMap as map
-use Rattle.ks_symbols.specs.Table.{entry_in}
 use Rattle.ks_symbols.proofs.Records.{entries_of}
 use Rattle.ks_symbols.proofs.table.Table.rows.Goals as goal
 

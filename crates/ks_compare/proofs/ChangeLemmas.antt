@@ -1,24 +1,7 @@
 -- Laws of the changes.
-use Rattle.std.proofs.Common.{◌≡◌, ◌↔◌, ℕ, Bool, true, false, not, ◌||◌, ◌&&◌, List, [], ◌∷◌, bytes_eq, Option, Some, None, option_map, IsTrue, refl, sym, ap, subst, ◌∙◌}
-use mathlib.Core.Logic.{inl, inr}
-use Rattle.std.proofs.lemmas.Bool.{cases_Bool, false≢true, eq-eqb, eqb-true}
-use Rattle.std.specs.Ordering.{is_eq}
-use Rattle.std.specs.Cmp.{tied_itself}
-use Rattle.std.specs.Cmp.Lexicographic.{nat_list_cmp_total, bytes_decides}
-use Rattle.std.specs.declared.cmp.Ordering.TheVariants.{Less, Equal, Greater}
+use Rattle.ks_compare.proofs.Prelude.{order, ◌≡◌, ◌↔◌, ℕ, true, false, not, ◌||◌, ◌&&◌, List, [], ◌∷◌, bytes_eq, Option, Some, None, option_map, IsTrue, refl, sym, ap, subst, ◌∙◌, inl, inr, cases_Bool, false≢true, eq-eqb, eqb-true, and_parts, not-false, is_eq, tied_itself, nat_list_cmp_total, bytes_decides, Less, Equal, Greater, IsStrictlySortedBy, Class, class_number, numbered_class, class_again, is_name, is_in, name_of_symbol, texts_of, tied, texts_are_of_entries, alike_is_defined_alike, compared, same_class, unlike, differ, ChangesExist, ChangesAreOne, ChangesAreLegal, FirstChangesAreNames, NothingChanges, UnchangedIsKept, UnchangedIsDefinedAlike}
 use Rattle.std.specs.FinMap as map
-use Rattle.std.specs.List.Sorted.{IsStrictlySortedBy}
-use Rattle.ks_symbols.specs.declared.kinds.Class.{Class}
-use Rattle.ks_symbols.specs.Kinds.{class_number, numbered_class, class_again}
-use Rattle.ks_symbols.specs.Names.{is_name, is_in}
-use Rattle.ks_output.specs.OldConfig.{texts_of}
-use Rattle.ks_output.proofs.Entries.{order, tied}
-use Rattle.ks_output.proofs.WrittenLines.{and_parts}
-use Rattle.ks_output.proofs.Texts.{texts_are_of_entries}
-use Rattle.ks_output.proofs.Definitions.{alike_is_defined_alike}
-use Rattle.ks_compare.specs.Changes.{compared, same_class, unlike, differ}
-use Rattle.ks_compare.specs.Laws.{ChangesExist, ChangesAreOne, ChangesAreLegal, FirstChangesAreNames, NothingChanges, UnchangedIsKept, UnchangedIsDefinedAlike}
-use Rattle.ks_compare.proofs.Merge.{Above, merged, merged_changes, first_names, here_test, turned, legal_differ, name_of_symbol}
+use Rattle.ks_compare.proofs.Merge.{Above, merged, merged_changes, first_names, here_test, turned, legal_differ}
 
 pub changes_exist : ChangesExist
 changes_exist old new = (merged (map.entries old) (map.entries new), merged_changes old new)
@@ -39,7 +22,7 @@ first_in x names = ap (λ b. b || is_in names x) (sym (here_test x x) ∙ ap is_
 missing : (x y : List ℕ) (a b : List (List ℕ)) → order x y ≡ Less → Above y b → is_in (x ∷ a) x ≡ is_in (y ∷ b) x → false ≡ true
 missing x y a b p h e = sym (not_in x (y ∷ b) (p, below_too x y b p h)) ∙ sym e ∙ first_in x a
 
--- what is in the lists behind equal first names
+-- what is in the lists after equal first names
 tails : (x : List ℕ) (a b : List (List ℕ)) → Above x a → Above x b → ((z : List ℕ) → is_in (x ∷ a) z ≡ is_in (x ∷ b) z) → (z : List ℕ) → is_in a z ≡ is_in b z
 tails x a b h g same z = elim (cases_Bool (is_eq (order z x))) [
   | inl here ↦
@@ -61,10 +44,10 @@ rising_one (x ∷ a) (y ∷ b) h g same =
       | Less ↦ λ is. absurd (false≢true (missing x y a b is g.0 (same x)))
       | Equal ↦ λ is.
           let here : x ≡ y = tied x y (ap is_eq is) in
-          let behind : a ≡ b =
+          let following : a ≡ b =
           rising_one a b h.1 g.1 (tails x a b h.0 (subst (λ (n : List ℕ). Above n b) (sym here) g.0)
           (λ z. same z ∙ ap (λ (n : List ℕ). is_in (n ∷ b) z) (sym here))) in
-          ap (λ (n : List ℕ). n ∷ a) here ∙ ap (λ (l : List (List ℕ)). y ∷ l) behind
+          ap (λ (n : List ℕ). n ∷ a) here ∙ ap (λ (l : List (List ℕ)). y ∷ l) following
       | Greater ↦ λ is. absurd (false≢true (missing y x b a (turned x y is) h.0 (sym (same y))))
     ] refl
 
@@ -77,10 +60,6 @@ changes_are_legal old new names h g are x e =
 
 pub first_changes_are_names : FirstChangesAreNames
 first_changes_are_names settings = first_names settings
-
-not_false : (b : Bool) → not b ≡ false → b ≡ true
-not_false true e = refl
-not_false false e = absurd (false≢true (sym e))
 
 -- what does not differ is the same
 class_tells : (k l : Class) → class_number k ≡ class_number l → k ≡ l
@@ -97,7 +76,7 @@ same_class_tells (Some k) (Some l) = (
 
 like : (t u : Option Class × List ℕ) → (unlike t u ≡ false) ↔ (t ≡ u)
 like t u = (
-  λ e. let both = and_parts (same_class t.0 u.0) (bytes_eq t.1 u.1) (not_false _ e) in
+  λ e. let both = and_parts (same_class t.0 u.0) (bytes_eq t.1 u.1) (not-false _ e) in
       ap (λ k. (k, t.1)) ((same_class_tells t.0 u.0).0 both.0) ∙ ap (λ (l : List ℕ). (u.0, l)) ((bytes_decides t.1 u.1).0 both.1),
   λ e. ap not (ap (λ b. b && bytes_eq t.1 u.1) ((same_class_tells t.0 u.0).1 (ap (λ p. p.0) e)) ∙ (bytes_decides t.1 u.1).1 (ap (λ p. p.1) e)),
 )

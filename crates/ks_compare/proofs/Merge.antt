@@ -1,82 +1,54 @@
 -- The names that differ between two lists of entries, each in rising order, by one pass over both.
-use Rattle.std.proofs.Common.{◌≡◌, ℕ, Bool, true, false, cond, ◌&&◌, ◌||◌, T, suc, length, IsTrue, List, [], ◌∷◌, bytes_eq, Option, Some, None, option_map, map as map_list, refl, sym, ap, subst, ◌∙◌}
-use Rattle.std.proofs.lemmas.Bool.{cases_Bool, cond-true, cond-false, false≢true}
-use mathlib.Core.Logic.{inl, inr}
-use Rattle.std.specs.Ordering.{is_lt, is_eq, ordering_reverse}
-use Rattle.std.specs.Cmp.{tied_itself}
-use Rattle.std.specs.Cmp.Lexicographic.{nat_list_cmp_total}
-use Rattle.std.specs.declared.cmp.Ordering.{Ordering}
-use Rattle.std.specs.declared.cmp.Ordering.TheVariants.{Less, Equal, Greater}
+use Rattle.ks_compare.proofs.Prelude.{order, first, second, is_less, two, name_of_symbol, ◌≡◌, ℕ, Bool, true, false, cond, ◌||◌, T, IsTrue, List, [], ◌∷◌, bytes_eq, Option, Some, None, option_map, refl, sym, ap, subst, ◌∙◌, cases_Bool, cond-true, cond-false, false≢true, or_right, inl, inr, is_lt, is_eq, ordering_reverse, tied_itself, nat_list_cmp_total, Ordering, Less, Equal, Greater, find, is_sorted, below_all, AllByRecursion, IsStrictlySortedBy, is_eq-slice_cmp, Kind, Class, IsConfiguration, Configuration, find_below, tied, is_name, is_in, Texts, HasNames, NewList, OldList, by_order, names_from, names_of_both, with_first, TakesFirst, compared, unlike, differ, AreChanges}
+use Rattle.std.proofs.Common.{map as map_list}
 use Rattle.std.specs.FinMap as map
-use Rattle.std.specs.FinMap.{find, is_sorted}
-use Rattle.std.specs.FinMap.Entries.{below_all}
-use Rattle.std.specs.List.{AllByRecursion}
-use Rattle.std.specs.List.Sorted.{IsStrictlySortedBy}
-use Rattle.std.proofs.lemmas.Map.Text.{is_eq-slice_cmp}
-use Rattle.ks_symbols.specs.declared.kinds.Kind.{Kind}
-use Rattle.ks_symbols.specs.declared.kinds.Class.{Class}
-use Rattle.ks_symbols.specs.Configuration.{IsConfiguration, Configuration}
-use Rattle.ks_output.proofs.Entries.{order, first, second, find_below, tied}
-use Rattle.ks_symbols.specs.Names.{is_name, is_symbol_name, is_in}
-use Rattle.ks_output.specs.OldConfig.{Texts, HasNames}
-use Rattle.ks_output.proofs.WrittenLines.{and_parts}
-use Rattle.ks_compare.specs.Pass.{Step, Ends, Old, New, Both, step, by_order, with_first}
-use Rattle.ks_compare.specs.Changes.{compared, unlike, differ, AreChanges}
 
-abbrev pub OldList : Type 0
-OldList = List (List ℕ × (Option Class × List ℕ))
+-- the names that differ
+pub differing : List (List ℕ × Bool) → List (List ℕ)
+differing [] = []
+differing (n ∷ ns) = cond n.1 (n.0 ∷ differing ns) (differing ns)
 
-abbrev pub NewList : Type 0
-NewList = List (List ℕ × (Kind × List ℕ))
+pub differing-none : differing [] ≡ []
+unfolding differing
+differing-none = refl
 
-pub turn : Ordering → List ℕ × (Option Class × List ℕ) → List ℕ × (Kind × List ℕ) → List (List ℕ) → List (List ℕ) → List (List ℕ) → List (List ℕ)
-turn Less e y old both new = e.0 ∷ old
-turn Equal e y old both new = cond (unlike e.1 (compared y.1)) (e.0 ∷ both) both
-turn Greater e y old both new = y.0 ∷ new
+pub differing-step : (l rest : List (List ℕ × Bool)) (n : List ℕ × Bool) (d : Bool) → l ≡ n ∷ rest → n.1 ≡ d
+    → differing l ≡ cond d (n.0 ∷ differing rest) (differing rest)
+unfolding differing
+differing-step l rest n d is e = ap differing is ∙ ap (λ b. cond b (n.0 ∷ differing rest) (differing rest)) e
 
-merged_first : List ℕ × (Option Class × List ℕ) → (NewList → List (List ℕ)) → NewList → List (List ℕ)
-merged_first e rest [] = e.0 ∷ rest []
-merged_first e rest (y ∷ ys) = turn (order e.0 y.0) e y (rest (y ∷ ys)) (rest ys) (merged_first e rest ys)
-
-abbrev keys : NewList → List (List ℕ)
-keys ys = map_list (λ y. y.0) ys
-
-pub merged : OldList → NewList → List (List ℕ)
-merged [] ys = keys ys
-merged (e ∷ xs) ys = merged_first e (merged xs) ys
+abbrev pub merged : OldList → NewList → List (List ℕ)
+merged xs ys = differing (names_of_both xs ys)
 
 -- what each step of the pass does
-pub merged-old : (e : List ℕ × (Option Class × List ℕ)) (xs : OldList) → merged (e ∷ xs) [] ≡ e.0 ∷ merged xs []
-unfolding merged merged_first
-merged-old e xs = refl
+module _ (e : List ℕ × (Option Class × List ℕ)) (y : List ℕ × (Kind × List ℕ)) (xs : OldList) (ys : NewList) where
+  abbrev stepped : Ordering → List (List ℕ × Bool)
+  stepped o = by_order o ((e.0, true) ∷ names_of_both xs (y ∷ ys)) ((e.0, unlike e.1 (compared y.1)) ∷ names_of_both xs ys)
+      ((y.0, true) ∷ names_of_both (e ∷ xs) ys)
 
-pub merged-new : (y : List ℕ × (Kind × List ℕ)) (ys : NewList) → merged [] (y ∷ ys) ≡ y.0 ∷ merged [] ys
-unfolding merged
-merged-new y ys = refl
+  pub names-stepped : (o : Ordering) → order e.0 y.0 ≡ o → names_of_both (e ∷ xs) (y ∷ ys) ≡ stepped o
+  unfolding names_of_both names_from
+  names-stepped o is = ap stepped is
 
-pub merged-none : merged [] [] ≡ []
-unfolding merged
-merged-none = refl
+  merged-stepped : (o : Ordering) → order e.0 y.0 ≡ o → merged (e ∷ xs) (y ∷ ys) ≡ differing (stepped o)
+  merged-stepped o is = ap differing (names-stepped o is)
 
-pub merged-both : (e : List ℕ × (Option Class × List ℕ)) (y : List ℕ × (Kind × List ℕ)) (xs : OldList) (ys : NewList)
-    → merged (e ∷ xs) (y ∷ ys) ≡ turn (order e.0 y.0) e y (merged xs (y ∷ ys)) (merged xs ys) (merged (e ∷ xs) ys)
-unfolding merged merged_first
-merged-both e y xs ys = refl
+pub names-old : (e : List ℕ × (Option Class × List ℕ)) (xs : OldList) → names_of_both (e ∷ xs) [] ≡ (e.0, true) ∷ names_of_both xs []
+unfolding names_of_both names_from
+names-old e xs = refl
 
-pub merged-less : (e : List ℕ × (Option Class × List ℕ)) (y : List ℕ × (Kind × List ℕ)) (xs : OldList) (ys : NewList) → order e.0 y.0 ≡ Less
-    → merged (e ∷ xs) (y ∷ ys) ≡ e.0 ∷ merged xs (y ∷ ys)
-unfolding turn
-merged-less e y xs ys is = merged-both e y xs ys ∙ ap (λ o. turn o e y (merged xs (y ∷ ys)) (merged xs ys) (merged (e ∷ xs) ys)) is
+pub names-new : (y : List ℕ × (Kind × List ℕ)) (ys : NewList) → names_of_both [] (y ∷ ys) ≡ (y.0, true) ∷ names_of_both [] ys
+unfolding names_of_both
+names-new y ys = refl
 
-pub merged-greater : (e : List ℕ × (Option Class × List ℕ)) (y : List ℕ × (Kind × List ℕ)) (xs : OldList) (ys : NewList) → order e.0 y.0 ≡ Greater
-    → merged (e ∷ xs) (y ∷ ys) ≡ y.0 ∷ merged (e ∷ xs) ys
-unfolding turn
-merged-greater e y xs ys is = merged-both e y xs ys ∙ ap (λ o. turn o e y (merged xs (y ∷ ys)) (merged xs ys) (merged (e ∷ xs) ys)) is
+pub names-none : names_of_both [] [] ≡ []
+unfolding names_of_both
+names-none = refl
 
-pub merged-equal : (e : List ℕ × (Option Class × List ℕ)) (y : List ℕ × (Kind × List ℕ)) (xs : OldList) (ys : NewList) → order e.0 y.0 ≡ Equal
-    → merged (e ∷ xs) (y ∷ ys) ≡ cond (unlike e.1 (compared y.1)) (e.0 ∷ merged xs ys) (merged xs ys)
-unfolding turn
-merged-equal e y xs ys is = merged-both e y xs ys ∙ ap (λ o. turn o e y (merged xs (y ∷ ys)) (merged xs ys) (merged (e ∷ xs) ys)) is
+-- what was left of a list is what is in hand of it and what is left now
+pub first-is : {A X : Type 0} (shows : A → X) (s : List X) (r : Option A) (t : List X) → TakesFirst shows s r t → s ≡ with_first (option_map shows r) t
+first-is shows s None t takes = takes.0
+first-is shows s (Some x) t takes = takes
 
 -- what the names are
 abbrev pub Above : List ℕ → List (List ℕ) → Type 0
@@ -91,13 +63,6 @@ less : (o : Ordering) → T (is_lt o) → o ≡ Less
 less Less p = refl
 less Equal p = absurd p
 less Greater p = absurd p
-
-is_less : (o : Ordering) → o ≡ Less → T (is_lt o)
-is_less o e = subst (λ r. T (is_lt r)) (sym e) tt
-
-two : (a b : Bool) → T a → T b → T (a && b)
-two true b p q = q
-two false b p q = absurd p
 
 -- a name below the first of a rising list is below all
 below_more : {X : Type 0} (z k : List ℕ) (es : List (List ℕ × X)) → order z k ≡ Less → T (below_all order k es) → T (below_all order z es)
@@ -190,13 +155,10 @@ cons_both k t s xs ys names h g good =
       ];
     }
 
-nothing : Good [] [] []
-unfolding IsStrictlySortedBy
-nothing = record { low = λ z a b. tt; rising = tt; each = λ x. refl }
-
 good_new : (ys : NewList) → T (is_sorted order ys) → Good [] ys (merged [] ys)
-good_new [] h = subst (Good [] []) (sym merged-none) nothing
-good_new (y ∷ ys) h = subst (Good [] (y ∷ ys)) (sym (merged-new y ys)) (cons_new y [] ys (merged [] ys) tt (first _ _ h) (good_new ys (second _ _ h)))
+unfolding IsStrictlySortedBy names_of_both differing
+good_new [] h = record { low = λ z a b. tt; rising = tt; each = λ x. refl }
+good_new (y ∷ ys) h = cons_new y [] ys (merged [] ys) tt (first _ _ h) (good_new ys (second _ _ h))
 
 pub turned : (x y : List ℕ) → order x y ≡ Greater → order y x ≡ Less
 turned x y e = nat_list_cmp_total.antisymm y x ∙ ap ordering_reverse e
@@ -205,23 +167,25 @@ good_step : (e : List ℕ × (Option Class × List ℕ)) (y : List ℕ × (Kind 
     → T (is_sorted order (e ∷ xs)) → T (is_sorted order (y ∷ ys))
     → Good xs (y ∷ ys) (merged xs (y ∷ ys)) → Good xs ys (merged xs ys) → Good (e ∷ xs) ys (merged (e ∷ xs) ys)
     → Good (e ∷ xs) (y ∷ ys) (merged (e ∷ xs) (y ∷ ys))
+unfolding differing
 good_step e y xs ys Less is h g old both new =
-    subst (Good (e ∷ xs) (y ∷ ys)) (sym (merged-less e y xs ys is))
+    subst (Good (e ∷ xs) (y ∷ ys)) (sym (merged-stepped e y xs ys Less is))
     (cons_old e xs (y ∷ ys) (merged xs (y ∷ ys)) (first _ _ h) (two _ _ (is_less _ is) (below_more e.0 y.0 ys is (first _ _ g))) old)
 good_step e y xs ys Greater is h g old both new =
     let back = turned e.0 y.0 is in
-    subst (Good (e ∷ xs) (y ∷ ys)) (sym (merged-greater e y xs ys is))
+    subst (Good (e ∷ xs) (y ∷ ys)) (sym (merged-stepped e y xs ys Greater is))
     (cons_new y (e ∷ xs) ys (merged (e ∷ xs) ys) (two _ _ (is_less _ back) (below_more y.0 e.0 xs back (first _ _ h))) (first _ _ g) new)
 good_step e y xs ys Equal is h g old both new =
     let same : e.0 ≡ y.0 = tied e.0 y.0 (ap is_eq is) in
-    subst (Good (e ∷ xs) (y ∷ ys)) (sym (merged-equal e y xs ys is))
+    subst (Good (e ∷ xs) (y ∷ ys)) (sym (merged-stepped e y xs ys Equal is))
     (subst (λ (k : List ℕ). Good (e ∷ xs) ((k, y.1) ∷ ys) (cond (unlike e.1 (compared y.1)) (e.0 ∷ merged xs ys) (merged xs ys))) same
     (cons_both e.0 e.1 y.1 xs ys (merged xs ys) (first _ _ h) (subst (λ (k : List ℕ). T (below_all order k ys)) (sym same) (first _ _ g)) both))
 
 good_first : (e : List ℕ × (Option Class × List ℕ)) (xs : OldList) → T (is_sorted order (e ∷ xs))
     → ((ys : NewList) → T (is_sorted order ys) → Good xs ys (merged xs ys))
     → (ys : NewList) → T (is_sorted order ys) → Good (e ∷ xs) ys (merged (e ∷ xs) ys)
-good_first e xs h rest [] g = subst (Good (e ∷ xs) []) (sym (merged-old e xs)) (cons_old e xs [] (merged xs []) (first _ _ h) tt (rest [] tt))
+unfolding differing
+good_first e xs h rest [] g = subst (Good (e ∷ xs) []) (sym (ap differing (names-old e xs))) (cons_old e xs [] (merged xs []) (first _ _ h) tt (rest [] tt))
 good_first e xs h rest (y ∷ ys) g =
     good_step e y xs ys (order e.0 y.0) refl h g (rest (y ∷ ys) g) (rest ys (second _ _ g)) (good_first e xs h rest ys (second _ _ g))
 
@@ -239,11 +203,15 @@ merged_changes old new =
           (λ o. differ (map.get old x) (option_map compared o)) (sym (map.get-entries new x));
     }
 
+keys : (ys : NewList) → merged [] ys ≡ map_list (λ y. y.0) ys
+unfolding names_of_both differing
+keys [] = refl
+keys (y ∷ ys) = ap (λ l. y.0 ∷ l) (keys ys)
+
 -- against no texts each name changes
 pub first_names : (new : Configuration) → AreChanges map.empty new (map_list (λ e. e.0) (map.entries new))
-unfolding merged
 first_names new =
-    let all = good_new (map.entries new) (map.entries_sorted new) in
+    let all = subst (Good [] (map.entries new)) (keys (map.entries new)) (good_new (map.entries new) (map.entries_sorted new)) in
     let none : Texts = map.empty in
     record {
       rising = all.rising;
@@ -251,76 +219,12 @@ first_names new =
           (λ o. differ (map.get none x) (option_map compared o)) (sym (map.get-entries new x));
     }
 
--- what the pass does at a step
-pub record TakesOld (name : List ℕ) (b : Option (List ℕ × (Option Class × List ℕ))) (xs : OldList) (right : NewList) : Type 0 where
-  pub left : merged (with_first b xs) right ≡ name ∷ merged xs right
-  pub more : length (with_first b xs) ≡ suc (length xs)
-
-pub record TakesNew (name : List ℕ) (a : Option (List ℕ × (Kind × List ℕ))) (xs : OldList) (ys : NewList) : Type 0 where
-  pub left : merged xs (with_first a ys) ≡ name ∷ merged xs ys
-  pub more : length (with_first a ys) ≡ suc (length ys)
-
-pub record TakesBoth (name : List ℕ) (d : Bool) (b : Option (List ℕ × (Option Class × List ℕ))) (a : Option (List ℕ × (Kind × List ℕ))) (xs : OldList)
-    (ys : NewList) : Type 0 where
-  pub left : merged (with_first b xs) (with_first a ys) ≡ cond d (name ∷ merged xs ys) (merged xs ys)
-  pub more : length (with_first b xs) ≡ suc (length xs)
-  pub fewer : length (with_first a ys) ≡ suc (length ys)
-
--- by the step that is told
-pub Takes : Step → Option (List ℕ × (Option Class × List ℕ)) → Option (List ℕ × (Kind × List ℕ)) → OldList → NewList → Type 0
-Takes Ends b a xs ys = merged (with_first b xs) (with_first a ys) ≡ []
-Takes (Old name) b a xs ys = TakesOld name b xs (with_first a ys)
-Takes (New name) b a xs ys = TakesNew name a (with_first b xs) ys
-Takes (Both name d) b a xs ys = TakesBoth name d b a xs ys
-
-takes_by_order : (o : Ordering) (e : List ℕ × (Option Class × List ℕ)) (y : List ℕ × (Kind × List ℕ)) (xs : OldList) (ys : NewList) → order e.0 y.0 ≡ o
-    → Takes (by_order o e y) (Some e) (Some y) xs ys
-unfolding Takes
-takes_by_order Less e y xs ys is = record { left = merged-less e y xs ys is; more = refl }
-takes_by_order Equal e y xs ys is = record { left = merged-equal e y xs ys is; more = refl; fewer = refl }
-takes_by_order Greater e y xs ys is = record { left = merged-greater e y xs ys is; more = refl }
-
-new_alone : (xs : OldList) (ys : NewList) (y : List ℕ × (Kind × List ℕ)) → Takes (New y.0) None (Some y) xs ys
-unfolding Takes
-new_alone xs ys y = record { left = merged-new y ys; more = refl }
-
-takes : (b : Option (List ℕ × (Option Class × List ℕ))) (a : Option (List ℕ × (Kind × List ℕ))) (xs : OldList) (ys : NewList) → Takes (step b a) b a xs ys
-unfolding Takes
-takes None None xs ys = merged-none
-takes (Some e) None xs ys = record { left = merged-old e xs; more = refl }
-takes None (Some y) xs ys = new_alone xs ys y
-takes (Some e) (Some y) xs ys = takes_by_order (order e.0 y.0) e y xs ys refl
-
-pub takes_end : (b : Option (List ℕ × (Option Class × List ℕ))) (a : Option (List ℕ × (Kind × List ℕ))) (xs : OldList) (ys : NewList) → Ends ≡ step b a
-    → merged (with_first b xs) (with_first a ys) ≡ []
-unfolding Takes
-takes_end b a xs ys is = subst (λ s. Takes s b a xs ys) (sym is) (takes b a xs ys)
-
-pub takes_old : (name : List ℕ) (b : Option (List ℕ × (Option Class × List ℕ))) (a : Option (List ℕ × (Kind × List ℕ))) (xs : OldList) (ys : NewList)
-    → Old name ≡ step b a → TakesOld name b xs (with_first a ys)
-unfolding Takes
-takes_old name b a xs ys is = subst (λ s. Takes s b a xs ys) (sym is) (takes b a xs ys)
-
-pub takes_new : (name : List ℕ) (b : Option (List ℕ × (Option Class × List ℕ))) (a : Option (List ℕ × (Kind × List ℕ))) (xs : OldList) (ys : NewList)
-    → New name ≡ step b a → TakesNew name a (with_first b xs) ys
-unfolding Takes
-takes_new name b a xs ys is = subst (λ s. Takes s b a xs ys) (sym is) (takes b a xs ys)
-
-pub takes_both : (name : List ℕ) (d : Bool) (b : Option (List ℕ × (Option Class × List ℕ))) (a : Option (List ℕ × (Kind × List ℕ))) (xs : OldList)
-    (ys : NewList) → Both name d ≡ step b a → TakesBoth name d b a xs ys
-unfolding Takes
-takes_both name d b a xs ys is = subst (λ s. Takes s b a xs ys) (sym is) (takes b a xs ys)
-
 -- legal names
-or_true : (b : Bool) → (b || true) ≡ true
-or_true true = refl
-or_true false = refl
-
 each_in : (P : List ℕ → Type 0) (names : List (List ℕ)) → ((x : List ℕ) → is_in names x ≡ true → P x) → AllByRecursion P names
 each_in P [] f = tt
 each_in P (n ∷ names) f = (
   f n (ap (λ b. b || is_in names n) (sym (here_test n n) ∙ ap is_eq (tied_itself nat_list_cmp_total n))),
-  each_in P names (λ x e. f x (ap (λ b. bytes_eq x n || b) e ∙ or_true (bytes_eq x n))),
+  each_in P names (λ x e. f x (ap (λ b. bytes_eq x n || b) e ∙ or_right (bytes_eq x n) true refl)),
 )
 
 pub legal_differ : (o : Option (Option Class × List ℕ)) (s : Option (Kind × List ℕ)) (P : Type 0) → ((t : Option Class × List ℕ) → o ≡ Some t → P)
@@ -328,10 +232,6 @@ pub legal_differ : (o : Option (Option Class × List ℕ)) (s : Option (Kind × 
 legal_differ None None P f g e = absurd (false≢true e)
 legal_differ (Some t) s P f g e = f t refl
 legal_differ None (Some t) P f g e = g t refl
-
-pub name_of_symbol : (x : List ℕ) → IsTrue (is_symbol_name x) → IsTrue (is_name x)
-unfolding is_symbol_name
-name_of_symbol x h = (and_parts _ _ h).0
 
 pub legal_changes : (old : Texts) (new : Configuration) → HasNames old → IsConfiguration new
     → AllByRecursion (λ n. IsTrue (is_name n)) (merged (map.entries old) (map.entries new))

@@ -1,40 +1,18 @@
 -- The lines of the header that define a name.
-use Rattle.std.proofs.Common.{◌≡◌, ℕ, ◌-◌, ◌⊎◌, Bool, true, false, cond, not, ◌&&◌, T, nat_eq, List, [], ◌∷◌, ◌++◌, length, length-append, take, drop, codes, bytes_eq, flat_map, map as map_list, take_while, option_map, Option, Some, None, refl, sym, ap, subst, ◌∙◌, append_assoc, arith, inl, inr}
-use Rattle.std.specs.List.{list_all, starts_with, ends_with, filter}
-use Rattle.std.specs.Ordering.{is_eq}
-use Rattle.std.specs.Cmp.Lexicographic.{nat_list_eq_equiv, bytes_decides}
-use Rattle.std.proofs.lemmas.List.Sums.{take_while-cons}
+use Rattle.ks_output.proofs.Prelude.{drop-append_seam, take-append_seam, order, first, second, ◌≡◌, ℕ, ◌-◌, ◌⊎◌, Bool, true, false, cond, ◌&&◌, T, nat_eq, List, [], ◌∷◌, ◌++◌, length, length-append, take, drop, codes, bytes_eq, take_while, option_map, Option, Some, None, refl, sym, ap, subst, ◌∙◌, append_assoc, arith, list_all, starts_with, ends_with, filter, is_eq, nat_list_eq_equiv, bytes_decides, take_while-cons, find, is_sorted, cases_Bool, cond-true, cond-false, and_parts, not-true, list_all-append, is_eq-slice_cmp, lines_of, lines-nil, Kind, is_word_byte, is_symbol_name, module_end, without_module, is_string_byte, class_of, is_escaped, escape, quoted, is_title, IsEntry, run_is, word_bytes, opened, header_heading, has_radix, switch_value, defined_as, definition_lines, header_text, without_lf, lf_lines, Defines, defines, definitions, option_and_then, Class, kept, definition_of, DefinitionsAreLines, DefinitionsAreOfEntries, AlikeIsDefinedAlike}
+use Rattle.std.proofs.Common.{flat_map, map as map_list, inl, inr}
 use Rattle.std.specs.FinMap as map
-use Rattle.std.specs.FinMap.{find, is_sorted}
-use Rattle.std.proofs.lemmas.Bool.{cases_Bool, cond-true, cond-false, false≢true}
-use Rattle.std.proofs.lemmas.List.Folds.{list_all-append}
-use Rattle.std.proofs.lemmas.Map.Text.{is_eq-slice_cmp}
-use Rattle.bstr.specs.Text.{lines_of}
-use Rattle.bstr.proofs.lemmas.LineLemmas.{lines-nil}
-use Rattle.ks_symbols.specs.declared.kinds.Kind.{Kind}
 use Rattle.ks_symbols.specs.declared.kinds.Kind.TheVariants as kind
-use Rattle.ks_symbols.specs.Names.{is_word_byte, is_symbol_name, module_end, less}
-use Rattle.ks_symbols.specs.Kinds.{is_string_byte, class_of}
-use Rattle.ks_symbols.specs.Values.{is_escaped, escape, quoted}
-use Rattle.ks_symbols.specs.Titles.{is_title}
-use Rattle.ks_symbols.specs.Configuration.{IsEntry}
-use Rattle.ks_symbols.proofs.Spellings.{run_is, word_bytes}
-use Rattle.ks_output.specs.Header.{header_heading, has_radix, switch_value, defined_as, definition_lines, header_text}
-use Rattle.ks_output.specs.Definitions.{without_lf, lf_lines, Defines, defines, definitions}
-use Rattle.std.specs.Option.{option_and_then}
-use Rattle.ks_symbols.specs.declared.kinds.Class.{Class}
-use Rattle.ks_output.specs.OldConfig.{kept}
-use Rattle.ks_output.specs.HeaderLaws.{definition_of, DefinitionsAreLines, DefinitionsAreOfEntries, AlikeIsDefinedAlike}
-use Rattle.ks_output.proofs.Entries.{order, find_below, tied, AllEntries, all_entries, first, second}
+use Rattle.ks_output.proofs.Entries.{find_below, tied, AllEntries, all_entries}
 use Rattle.ks_output.proofs.Texts.{texts_are_of_entries}
-use Rattle.ks_output.proofs.WrittenLines.{is_plain, and_parts, plain-append, plain_name, plain_title, plain_text, lines-plain, ends_with-plain, take_front, drop_front, opened}
+use Rattle.ks_output.proofs.WrittenLines.{is_plain, plain-append, plain_name, plain_title, plain_text, lines-plain, ends_with-plain}
 
 -- lines
 without_lf-plain : (l : List ℕ) → without_lf (l ++ 10 ∷ []) ≡ l
 without_lf-plain l =
     let bs = l ++ 10 ∷ [] in
     let place : length bs - 1 ≡ length l = omega (arith, length-append l (10 ∷ [])) in
-    cond-true (ends_with nat_eq bs (10 ∷ [])) (take (length bs - 1) bs) bs (ends_with-plain l) ∙ ap (λ (k : ℕ). take k bs) place ∙ take_front l (10 ∷ [])
+    cond-true (ends_with nat_eq bs (10 ∷ [])) (take (length bs - 1) bs) bs (ends_with-plain l) ∙ ap (λ (k : ℕ). take k bs) place ∙ take-append_seam l (10 ∷ [])
 
 next : (l rest : List ℕ) → is_plain l ≡ true → lf_lines (l ++ 10 ∷ rest) ≡ l ∷ lf_lines rest
 unfolding lf_lines
@@ -44,7 +22,7 @@ none_left : lf_lines [] ≡ []
 unfolding lf_lines
 none_left = ap (map_list without_lf) lines-nil
 
--- what stands behind a name: a space first, or the end of a module's macro and a space
+-- what stands after a name: a space first, or the end of a module's macro and a space
 Shape : List ℕ → Type 0
 Shape d = (rest : List ℕ) × ((d ≡ 32 ∷ rest) ⊎ (d ≡ module_end ++ 32 ∷ rest))
 
@@ -85,29 +63,25 @@ plain_value kind.Int text h = h
 plain_value kind.Hex text h = plain-append (cond (has_radix text) [] (codes "0x")) text (plain_choice (has_radix text) [] (codes "0x") refl refl) h
 
 -- which name a line defines
-not_true : (b : Bool) → not b ≡ true → b ≡ false
-not_true true e = absurd (false≢true e)
-not_true false e = refl
-
-run_defines : (x run rest : List ℕ) → list_all is_word_byte run ≡ true → defines x (codes "#define CONFIG_" ++ (run ++ 32 ∷ rest)) ≡ bytes_eq (less run) x
+run_defines : (x run rest : List ℕ) → list_all is_word_byte run ≡ true → defines x (codes "#define CONFIG_" ++ (run ++ 32 ∷ rest)) ≡ bytes_eq (without_module run) x
 run_defines x run rest h =
     let text = run ++ 32 ∷ rest in
-    ap (λ (r : List ℕ). starts_with nat_eq (drop (length r) text) (codes " ") && bytes_eq (less r) x) (run_is is_word_byte run 32 rest h refl)
-    ∙ ap (λ (l : List ℕ). starts_with nat_eq l (codes " ") && bytes_eq (less run) x) (drop_front run (32 ∷ rest))
+    ap (λ (r : List ℕ). starts_with nat_eq (drop (length r) text) (codes " ") && bytes_eq (without_module r) x) (run_is is_word_byte run 32 rest h refl)
+    ∙ ap (λ (l : List ℕ). starts_with nat_eq l (codes " ") && bytes_eq (without_module run) x) (drop-append_seam run (32 ∷ rest))
 
-less-symbol : (name : List ℕ) → is_symbol_name name ≡ true → less name ≡ name
+less-symbol : (name : List ℕ) → is_symbol_name name ≡ true → without_module name ≡ name
 unfolding is_symbol_name
 less-symbol name h =
-    let other : ends_with nat_eq name module_end ≡ false = not_true (ends_with nat_eq name module_end) (and_parts _ _ h).1 in
+    let other : ends_with nat_eq name module_end ≡ false = not-true (ends_with nat_eq name module_end) (and_parts _ _ h).1 in
     cond-false (ends_with nat_eq name module_end) _ _ other
 
-less-module : (name : List ℕ) → less (name ++ module_end) ≡ name
+less-module : (name : List ℕ) → without_module (name ++ module_end) ≡ name
 less-module name =
     let run = name ++ module_end in
     let place : length run - 7 ≡ length name = omega (arith, length-append name module_end) in
     let ends : ends_with nat_eq run module_end ≡ true = ap (λ (k : ℕ). bytes_eq module_end (drop k run)) place ∙ ap (bytes_eq module_end)
-    (drop_front name module_end) in
-    cond-true (ends_with nat_eq run module_end) _ _ ends ∙ ap (λ (k : ℕ). take k run) place ∙ take_front name module_end
+    (drop-append_seam name module_end) in
+    cond-true (ends_with nat_eq run module_end) _ _ ends ∙ ap (λ (k : ℕ). take k run) place ∙ take-append_seam name module_end
 
 words : (name : List ℕ) → is_symbol_name name ≡ true → list_all is_word_byte name ≡ true
 unfolding is_symbol_name
@@ -255,22 +229,22 @@ found_line : (name line : List ℕ) → defines name line ≡ true → Defines n
 found_line name line e =
     let rest = drop 15 line in
     let run = take_while is_word_byte rest in
-    let behind = drop (length run) rest in
-    let parts = and_parts (starts_with nat_eq line (codes "#define CONFIG_") && starts_with nat_eq behind (codes " ")) (bytes_eq (less run) name) e in
-    let begins = and_parts (starts_with nat_eq line (codes "#define CONFIG_")) (starts_with nat_eq behind (codes " ")) parts.0 in
+    let following = drop (length run) rest in
+    let parts = and_parts (starts_with nat_eq line (codes "#define CONFIG_") && starts_with nat_eq following (codes " ")) (bytes_eq (without_module run) name) e in
+    let begins = and_parts (starts_with nat_eq line (codes "#define CONFIG_")) (starts_with nat_eq following (codes " ")) parts.0 in
     let split = run_split rest in
     record {
       run = run;
-      value = drop 1 behind;
+      value = drop 1 following;
       word = split.0;
       spelled = opened line (codes "#define CONFIG_") begins.0 ∙ ap (λ (l : List ℕ). codes "#define CONFIG_" ++ l)
-          (split.1 ∙ ap (λ (l : List ℕ). run ++ l) (opened behind (codes " ") begins.1) ∙ sym (append_assoc run (codes " ") (drop 1 behind)));
-      named = (bytes_decides (less run) name).0 parts.1;
+          (split.1 ∙ ap (λ (l : List ℕ). run ++ l) (opened following (codes " ") begins.1) ∙ sym (append_assoc run (codes " ") (drop 1 following)));
+      named = (bytes_decides (without_module run) name).0 parts.1;
     }
 
 pub definitions_are_lines : DefinitionsAreLines
 definitions_are_lines name line = (
   found_line name line,
   λ w. ap (defines name) w.spelled ∙ ap (λ (l : List ℕ). defines name (codes "#define CONFIG_" ++ l)) (append_assoc w.run (codes " ") w.value) ∙ run_defines
-      name w.run w.value w.word ∙ eq-bytes_eq (less w.run) name w.named,
+      name w.run w.value w.word ∙ eq-bytes_eq (without_module w.run) name w.named,
 )

@@ -1,32 +1,6 @@
 -- Entries of a finite map from bytes.
-use Rattle.std.proofs.Common.{◌≡◌, ℕ, Bool, true, false, cond, ◌&&◌, T, List, [], ◌∷◌, Some, None, refl, sym, ap, ◌∙◌}
-use Rattle.std.proofs.lemmas.Bool.{cases_Bool, cond-false, false≢true}
-use mathlib.Core.Logic.{inl, inr}
-use Rattle.std.specs.Ordering.{nat_cmp, is_lt, is_eq}
-use Rattle.std.specs.Cmp.{tied_itself}
-use Rattle.std.specs.Cmp.Lexicographic.{slice_cmp, nat_list_cmp_total}
-use Rattle.std.specs.declared.cmp.Ordering.{Ordering}
-use Rattle.std.specs.declared.cmp.Ordering.TheVariants.{Less, Equal, Greater}
+use Rattle.ks_output.proofs.Prelude.{not_equal, order, first, second, ◌≡◌, ℕ, true, cond, T, List, [], ◌∷◌, Some, None, refl, sym, ap, ◌∙◌, cases_Bool, cond-false, false≢true, inl, inr, is_eq, tied_itself, nat_list_cmp_total, Ordering, Less, Equal, Greater, find, is_sorted, slice_cmp-IsAntisymmetric, nat_cmp-IsAntisymmetric, below_all, NameMap}
 use Rattle.std.specs.FinMap as map
-use Rattle.std.specs.FinMap.{find, is_sorted, slice_cmp-IsAntisymmetric, nat_cmp-IsAntisymmetric}
-use Rattle.std.specs.FinMap.Entries.{below_all}
-use Rattle.ks_symbols.specs.Configuration.{NameMap}
-
-abbrev pub order : List ℕ → List ℕ → Ordering
-order = slice_cmp nat_cmp
-
-pub first : (a b : Bool) → T (a && b) → T a
-first true b p = tt
-first false b p = p
-
-pub second : (a b : Bool) → T (a && b) → T b
-second true b p = p
-second false b p = absurd p
-
-less : (o : Ordering) → T (is_lt o) → is_eq o ≡ false
-less Less p = refl
-less Equal p = absurd p
-less Greater p = absurd p
 
 equal : (o : Ordering) → is_eq o ≡ true → o ≡ Equal
 equal Less p = absurd (false≢true p)
@@ -37,7 +11,7 @@ equal Greater p = absurd (false≢true p)
 pub find_below : {X : Type 0} (x : List ℕ) (es : List (List ℕ × X)) → T (below_all order x es) → find order x es ≡ None
 find_below x [] h = refl
 find_below x (e ∷ es) h =
-    cond-false (is_eq (order x e.0)) (Some e.1) (find order x es) (less (order x e.0) (first _ _ h)) ∙ find_below x es (second _ _ h)
+    cond-false (is_eq (order x e.0)) (Some e.1) (find order x es) (not_equal (order x e.0) (first _ _ h)) ∙ find_below x es (second _ _ h)
 
 pub find_first : {X : Type 0} (e : List ℕ × X) (es : List (List ℕ × X)) → find order e.0 (e ∷ es) ≡ Some e.1
 find_first e es = ap (λ r. cond (is_eq r) (Some e.1) (find order e.0 es)) (tied_itself nat_list_cmp_total e.0)
@@ -46,7 +20,7 @@ find_first e es = ap (λ r. cond (is_eq r) (Some e.1) (find order e.0 es)) (tied
 pub tied : (x y : List ℕ) → is_eq (order x y) ≡ true → x ≡ y
 tied x y e = slice_cmp-IsAntisymmetric nat_cmp-IsAntisymmetric x y (equal (order x y) e)
 
--- an entry behind the first is one of the whole
+-- an entry after the first is one of the whole
 pub find_later : {X : Type 0} (e : List ℕ × X) (es : List (List ℕ × X)) (x : List ℕ) (s : X) → T (below_all order e.0 es) → find order x es ≡ Some s
     → find order x (e ∷ es) ≡ Some s
 find_later e es x s h is = elim (cases_Bool (is_eq (order x e.0))) [

@@ -1,24 +1,12 @@
 -- The text of a name is what its last line gives, and in an untyped file it has no class.
-use Rattle.std.proofs.Common.{◌≡◌, ℕ, Bool, true, false, cond, nat_eq, List, [], ◌∷◌, ◌++◌, length, take, drop, reverse, map as map_list, Option, Some, None, option_map, codes, refl, sym, ap, ◌∙◌}
-use Rattle.std.specs.Option.{option_and_then}
-use Rattle.std.specs.List.{starts_with, ends_with, filter_map, find}
-use mathlib.Core.Logic.{inl, inr}
-use Rattle.std.proofs.lemmas.Bool.{cases_Bool, cond-true, cond-false, false≢true, false_from_ne_true}
-use Rattle.std.specs.Ordering.{is_eq}
-use Rattle.std.specs.Cmp.Lexicographic.{nat_list_cmp_total, bytes_decides}
+use Rattle.ks_output.proofs.Prelude.{take-append_seam, opened, order, ◌≡◌, ℕ, Bool, true, false, cond, nat_eq, List, [], ◌∷◌, ◌++◌, length, take, drop, reverse, Option, Some, None, option_map, codes, refl, sym, ap, ◌∙◌, option_and_then, starts_with, ends_with, filter_map, inl, inr, cases_Bool, cond-true, cond-false, false≢true, false_from_ne_true, is_eq, nat_list_cmp_total, bytes_decides, lines_of, without_terminator, Class, is_name, lines, Remark, Gives, Silent, said_by, remark, remarks, is_typed, neighbours, given, texts_given, auto_map, beginning, LastLineCounts, UntypedHasNoClass}
+use Rattle.std.proofs.Common.{map as map_list}
+use Rattle.std.specs.List.{find}
 use Rattle.std.specs.FinMap as map
-use Rattle.bstr.specs.Text.{lines_of, without_terminator}
-use Rattle.ks_symbols.specs.declared.kinds.Class.{Class}
-use Rattle.ks_symbols.specs.Names.{is_name}
-use Rattle.ks_symbols.specs.Lines.{lines}
-use Rattle.ks_output.specs.AutoLines.{Remark, Gives, Silent, said_by, remark, remarks}
-use Rattle.ks_output.specs.AutoConf.{is_typed, neighbours, given, texts_given, auto_map}
-use Rattle.ks_output.specs.Laws.{beginning, LastLineCounts, UntypedHasNoClass}
-use Rattle.ks_output.proofs.Entries.{order, tied, find_first}
+use Rattle.ks_output.proofs.Entries.{tied, find_first}
 use Rattle.ks_output.proofs.LegalNames.{told_text}
 use Rattle.ks_output.proofs.PlainTexts.{plain, map-reverse, text_at}
 use Rattle.ks_output.proofs.ReadBack.{said_by_entry}
-use Rattle.ks_output.proofs.WrittenLines.{opened, take_front}
 
 gives_here : (line name : List ℕ) → is_name name ≡ true → starts_with nat_eq (without_terminator line) (beginning name) ≡ true → remark line
     ≡ Gives name (drop (length (beginning name)) (without_terminator line))
@@ -28,7 +16,7 @@ gives_here line name h e =
     ap (said_by ended) (opened bare (beginning name) e) ∙ said_by_entry ended name (drop (length (beginning name)) bare) h
 
 begins : (needle rest : List ℕ) → starts_with nat_eq (needle ++ rest) needle ≡ true
-begins needle rest = (bytes_decides needle (take (length needle) (needle ++ rest))).1 (sym (take_front needle rest))
+begins needle rest = (bytes_decides needle (take (length needle) (needle ++ rest))).1 (sym (take-append_seam needle rest))
 
 -- another line gives another name a text, or nothing
 gives_other : (line name other text : List ℕ) → starts_with nat_eq (without_terminator line) (beginning name) ≡ false → remark line ≡ Gives other text

@@ -1,19 +1,9 @@
 -- What remarks leave, read one after the other from the first on.
-use Rattle.std.proofs.Common.{◌≡◌, ℕ, Bool, nat_lt, ◌<◌, ◌≤◌, List, [], ◌∷◌, ◌++◌, length, reverse, get_or, Option, Some, option_map, refl, sym, ap, ◌∙◌, arith}
-use Rattle.std.specs.List.{filter_map}
+use Rattle.ks_output.proofs.Prelude.{◌≡◌, ℕ, Bool, nat_lt, ◌<◌, ◌≤◌, List, [], ◌∷◌, ◌++◌, length, reverse, get_or, Option, Some, option_map, refl, sym, ap, ◌∙◌, arith, filter_map, reverse_onto, cond-true, cond-false, nat_tests, filter_map-append, Class, max_bytes, Texts, Remark, Gives, Numbers, Silent, seen_remark, remarks, is_typed, neighbours, class_by, given, number, texts_given, auto_generation, auto_fault, auto_refusal}
 use Rattle.std.specs.FinMap as map
-use Rattle.std.proofs.lemmas.Grind.{reverse_onto}
-use Rattle.std.proofs.lemmas.Bool.{cond-true, cond-false}
-use Rattle.std.proofs.lemmas.Bool.Decides.{nat_tests}
-use Rattle.std.proofs.lemmas.List.Elements.{filter_map-append}
-use Rattle.ks_symbols.specs.declared.kinds.Class.{Class}
-use Rattle.ks_symbols.specs.Lines.{max_bytes}
 use Rattle.ks_output.specs.declared.auto_conf.AutoError.TheVariants as fault
-use Rattle.ks_output.specs.OldConfig.{Texts}
 use Rattle.ks_output.specs.declared.auto_lines.Remark as auto_lines
 use Rattle.ks_output.specs.declared.auto_lines.Remark.TheVariants as seen
-use Rattle.ks_output.specs.AutoLines.{Remark, Gives, Numbers, Silent, seen_remark, remarks}
-use Rattle.ks_output.specs.AutoConf.{is_typed, neighbours, class_by, given, number, texts_given, auto_generation, auto_fault, auto_refusal}
 
 -- entries that are put over a map, the first last
 pub put_all : Texts → List (List ℕ × (Option Class × List ℕ)) → Texts
@@ -37,7 +27,7 @@ latest_last f x xs = ap (filter_map f) (reverse_onto xs x []) ∙ filter_map-app
 pub texts_after : Bool → Texts → Remark → List Remark → Texts
 texts_after typed m before said = put_all m (filter_map (given typed) (reverse (neighbours before said)))
 
--- the map with what a remark gives behind another one
+-- the map with what a remark gives after another one
 unfoldable pub with_given : Bool → Texts → Remark → Remark → Texts
 with_given typed m before (Gives x t) = map.insert m x (class_by typed before, t)
 with_given typed m before r = m
@@ -110,14 +100,6 @@ number_after-step g r said =
     ap (λ (l : List ℕ). get_or l 0 g) (latest_last number r said)
     ∙ first_of_two (filter_map number (reverse said)) (filter_map number (r ∷ [])) g
     ∙ ap (λ (n : ℕ). get_or (filter_map number (reverse said)) 0 n) (number_one g r)
-
-pub with_number-numbers : (g n : ℕ) → with_number g (Numbers n) ≡ n
-unfolding with_number
-with_number-numbers g n = refl
-
-pub with_number-gives : (g : ℕ) (x t : List ℕ) → with_number g (Gives x t) ≡ g
-unfolding with_number
-with_number-gives g x t = refl
 
 pub with_number-others : (g : ℕ) (r : auto_lines.Remark) → ((n : ℕ) → r ≡ seen.Numbers n → ⊥) → with_number g (seen_remark r) ≡ g
 unfolding with_number

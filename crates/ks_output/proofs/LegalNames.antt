@@ -1,20 +1,8 @@
 -- The names that an auto.conf gives texts are legal.
-use Rattle.std.proofs.Common.{◌≡◌, ℕ, Bool, true, false, cond, List, [], ◌∷◌, nat_eq, length, drop, take_while, bytes_eq, codes, map as map_list, reverse, Option, Some, None, option_map, IsTrue, sym, ap, subst, ◌∙◌, refl}
-use Rattle.std.specs.List.{starts_with, ends_with, filter_map}
-use mathlib.Core.Logic.{inl, inr}
-use Rattle.std.proofs.lemmas.Bool.{cases_Bool, cond-false}
-use Rattle.std.specs.Ordering.{is_eq}
+use Rattle.ks_output.proofs.Prelude.{order, ◌≡◌, ℕ, Bool, true, false, cond, List, [], ◌∷◌, nat_eq, length, drop, take_while, bytes_eq, codes, reverse, Option, Some, None, option_map, IsTrue, sym, ap, subst, ◌∙◌, refl, starts_with, ends_with, filter_map, inl, inr, cases_Bool, cond-false, is_eq, lines_of, without_terminator, Class, is_word_byte, is_name, decimal_value, Statement, Assigns, Unsets, Says, statement, is_silent, statements_are_spelled, generation_mark, class_mark, spelled_class, classed, class_remark, Remark, Gives, Marks, Mistypes, Silent, numbered, assigned, said_by, remark, auto_map, HasNames}
+use Rattle.std.proofs.Common.{map as map_list}
 use Rattle.std.specs.FinMap as map
-use Rattle.bstr.specs.Text.{lines_of, without_terminator}
-use Rattle.ks_symbols.specs.declared.kinds.Class.{Class}
-use Rattle.ks_symbols.specs.Names.{is_word_byte, is_name}
-use Rattle.ks_symbols.specs.Decimal.{decimal_value}
-use Rattle.ks_symbols.specs.Statements.{Statement, Assigns, Unsets, Says, statement, is_silent}
-use Rattle.ks_symbols.proofs.Spellings.{statements_are_spelled}
-use Rattle.ks_output.specs.AutoLines.{generation_mark, class_mark, spelled_class, classed, class_remark, Remark, Gives, Marks, Mistypes, Silent, numbered, assigned, said_by, remark}
-use Rattle.ks_output.specs.AutoConf.{auto_map}
-use Rattle.ks_output.specs.OldConfig.{HasNames}
-use Rattle.ks_output.proofs.Entries.{order, tied}
+use Rattle.ks_output.proofs.Entries.{tied}
 use Rattle.ks_output.proofs.PlainTexts.{plain, text_at}
 
 -- A remark that gives a name a text is that of a line which says so.

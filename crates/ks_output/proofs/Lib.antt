@@ -1,3 +1,4 @@
+pub mod Prelude
 pub mod Definitions
 pub mod Entries
 pub mod LastLine

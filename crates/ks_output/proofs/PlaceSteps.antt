@@ -1,23 +1,10 @@
 -- What the lines that are left come to, by the place where they stand, and how each line leads to the next place.
-use Rattle.std.proofs.Common.{◌≡◌, ℕ, Bool, true, false, not, cond, ◌+◌, ◌-◌, ◌<◌, ◌≤◌, List, [], ◌∷◌, bytes_eq, length, Option, Some, None, option_map, refl, sym, ap, subst, ◌∙◌, arith}
-use Rattle.std.specs.Borrow.{Bor}
+use Rattle.ks_output.proofs.Prelude.{◌≡◌, ℕ, Bool, true, false, not, cond, ◌+◌, ◌-◌, ◌<◌, List, [], ◌∷◌, bytes_eq, Option, Some, None, Ok, option_map, refl, sym, ap, subst, ◌∙◌, arith, Bor, Class, Texts, Remark, Gives, Marks, Types, Mistypes, Silent, Faulty, seen_remark, remarks, is_typed, heard, first_faulty, auto_map, auto_generation, auto_fault, auto_refusal, Place, Front, Untyped, Typed, Entry, class_at, following, wants_entry, blamed, fault_left, seen_place, said_left, AreLeftOf, BeginsAs, Judged, Lines}
 use Rattle.std.specs.FinMap as map
-use Rattle.ks_symbols.specs.declared.kinds.Class.{Class}
 use Rattle.ks_output.specs.declared.auto_conf.AutoError.TheVariants as fault
-use Rattle.ks_output.specs.OldConfig.{Texts}
 use Rattle.ks_output.specs.declared.auto_lines.Remark as auto_lines
 use Rattle.ks_output.specs.declared.auto_lines.Remark.TheVariants as seen
-use Rattle.ks_output.specs.AutoLines.{Remark, Gives, Marks, Types, Mistypes, Numbers, Silent, Faulty, seen_remark, remarks}
-use Rattle.ks_output.specs.AutoConf.{is_typed, heard, first_faulty, auto_map, auto_fault, auto_refusal}
-use Rattle.ks_output.specs.Places.{Place, Front, Untyped, Typed, Entry, class_at, behind, wants_entry, blamed}
-use Rattle.ks_output.proofs.LastRemark.{with_given, texts_after, texts_after-step, texts_after-nil, texts_after-empty, texts_after-class, texts_after-front, not_large}
-
--- the first faulty line, where the lines that are left are counted from n on
-pub fault_left : Place → ℕ → List Remark → Option ℕ
-fault_left Front n said = first_faulty n (heard (is_typed said) said)
-fault_left Untyped n said = first_faulty n (heard false said)
-fault_left Typed n said = first_faulty n said
-fault_left (Entry x k) n said = first_faulty (n - 1) (Types x k ∷ said)
+use Rattle.ks_output.proofs.LastRemark.{with_given, texts_after, texts_after-step, texts_after-nil, texts_after-empty, texts_after-class, texts_after-front, not_large, with_number, number_after, number_after-step, number_after-nil, number_after-zero}
 
 pub fault_left-start : (text : List ℕ) → fault_left Front 1 (remarks text) ≡ auto_fault text
 unfolding fault_left auto_fault
@@ -36,7 +23,7 @@ wanted x y t k n said true e h =
     ∙ ap (λ (i : ℕ). first_faulty i said) (omega (arith, h))
 wanted x y t k n said false e h = ap (λ c. cond (not c) (Some (n - 1)) (first_faulty (n - 1 + 1 + 1) said)) e
 
-pub leads : (p : Place) (n : ℕ) (r : Remark) (said : List Remark) → 0 < n → Leads p n r said (behind p r)
+pub leads : (p : Place) (n : ℕ) (r : Remark) (said : List Remark) → 0 < n → Leads p n r said (following p r)
 unfolding Leads fault_left first_faulty heard is_typed
 leads (Entry x k) n (Gives y t) said h = wanted x y t k n said (bytes_eq x y) refl h
 leads Typed n (Types x k) said h = ap (λ (i : ℕ). first_faulty i (Types x k ∷ said)) (omega arith)
@@ -55,30 +42,38 @@ unfolding Ends fault_left first_faulty heard is_typed
 ends (Entry x k) n = refl
 ends p n = refl
 
--- the same by the place behind a line
-pub stops : (p : Place) (n : ℕ) (r : Remark) (said : List Remark) → 0 < n → None ≡ behind p r → fault_left p n (r ∷ said) ≡ Some (blamed p n)
+-- A line that can't stand there is refused, and so is the end; after any other the lines that are left are one less.
+pub refused : (text : List ℕ) (l : Lines) (r : Remark) (said : List Remark) → AreLeftOf text l → said_left l ≡ r ∷ said → None ≡ following (seen_place l.place) r
+    → auto_refusal text ≡ Some (fault.BadAuto (blamed (seen_place l.place) l.number))
 unfolding Leads
-stops p n r said h is = subst (Leads p n r said) (sym is) (leads p n r said h)
+refused text l r said is split goes =
+    let p = seen_place l.place in
+    not_large text is.small ∙ ap (option_map fault.BadAuto)
+    (sym is.fault ∙ ap (fault_left p l.number) split ∙ subst (Leads p l.number r said) (sym goes) (leads p l.number r said l.counted.0))
 
-pub goes_on : (p q : Place) (n : ℕ) (r : Remark) (said : List Remark) → 0 < n → Some q ≡ behind p r → fault_left q (n + 1) said ≡ fault_left p n (r ∷ said)
+pub refused_at_end : (text : List ℕ) (l : Lines) → AreLeftOf text l → said_left l ≡ [] → wants_entry (seen_place l.place) ≡ true
+    → auto_refusal text ≡ Some (fault.BadAuto (blamed (seen_place l.place) l.number))
+unfolding Ends
+refused_at_end text l is none wants =
+    let p = seen_place l.place in
+    not_large text is.small ∙ ap (option_map fault.BadAuto) (sym is.fault ∙ ap (fault_left p l.number) none ∙ subst (Ends p l.number) wants (ends p l.number))
+
+pub accepted : (text : List ℕ) (l : Lines) → AreLeftOf text l → said_left l ≡ [] → wants_entry (seen_place l.place) ≡ false → auto_refusal text ≡ None
+unfolding Ends
+accepted text l is none wants =
+    let p = seen_place l.place in
+    not_large text is.small ∙ ap (option_map fault.BadAuto) (sym is.fault ∙ ap (fault_left p l.number) none ∙ subst (Ends p l.number) wants (ends p l.number))
+
+pub goes_on : (text : List ℕ) (l m : Lines) (r : Remark) → AreLeftOf text l → said_left l ≡ r ∷ said_left m → Some (seen_place m.place) ≡ following (seen_place l.place) r
+    → m.number ≡ l.number + 1 → AreLeftOf text m
 unfolding Leads
-goes_on p q n r said h is = sym (subst (Leads p n r said) (sym is) (leads p n r said h))
-
--- and of a text's lines
-pub refused : (text : List ℕ) (p : Place) (n : ℕ) (r : Remark) (said : List Remark) → length text ≤ 67108864 → 0 < n → fault_left p n (r ∷ said)
-    ≡ auto_fault text → None ≡ behind p r
-    → auto_refusal text ≡ Some (fault.BadAuto (blamed p n))
-refused text p n r said small h left is = not_large text small ∙ ap (option_map fault.BadAuto) (sym left ∙ stops p n r said h is)
-
-pub refused_at_end : (text : List ℕ) (p : Place) (n : ℕ) → length text ≤ 67108864 → fault_left p n [] ≡ auto_fault text → wants_entry p ≡ true
-    → auto_refusal text ≡ Some (fault.BadAuto (blamed p n))
-unfolding Ends
-refused_at_end text p n small left is = not_large text small ∙ ap (option_map fault.BadAuto) (sym left ∙ subst (Ends p n) is (ends p n))
-
-pub accepted : (text : List ℕ) (p : Place) (n : ℕ) → length text ≤ 67108864 → fault_left p n [] ≡ auto_fault text → wants_entry p ≡ false → auto_refusal text
-    ≡ None
-unfolding Ends
-accepted text p n small left is = not_large text small ∙ ap (option_map fault.BadAuto) (sym left ∙ subst (Ends p n) is (ends p n))
+goes_on text l m r is split goes next =
+    let p = seen_place l.place in
+    record {
+      small = is.small;
+      fault = ap (λ n. fault_left (seen_place m.place) n (said_left m)) next
+          ∙ sym (subst (Leads p l.number r (said_left m)) (sym goes) (leads p l.number r (said_left m) l.counted.0)) ∙ ap (fault_left p l.number) (sym split) ∙ is.fault;
+    }
 
 -- the map, where there was one before
 pub texts_left : Texts → Place → List Remark → Texts
@@ -91,7 +86,7 @@ pub texts_left-start : (text : List ℕ) → texts_left map.empty Front (remarks
 unfolding texts_left auto_map
 texts_left-start text = texts_after-empty (remarks text)
 
-pub texts_left-nil : (m : Texts) (p : Place) → texts_left m p [] ≡ m
+texts_left-nil : (m : Texts) (p : Place) → texts_left m p [] ≡ m
 unfolding texts_left
 texts_left-nil m (Entry x k) = texts_after-nil true m (Types x k)
 texts_left-nil m Front = texts_after-nil (is_typed []) m Silent
@@ -99,7 +94,7 @@ texts_left-nil m Typed = texts_after-nil true m Silent
 texts_left-nil m Untyped = texts_after-nil false m Silent
 
 -- the map with the entry, if it is one, of a line at a place
-pub with_line : Texts → Place → Remark → Texts
+unfoldable pub with_line : Texts → Place → Remark → Texts
 with_line m p (Gives x t) = map.insert m x (class_at p, t)
 with_line m p r = m
 
@@ -118,7 +113,7 @@ adds_front : (m : Texts) (r : Remark) (said : List Remark) → with_given (is_ty
 adds_front m r said e =
     texts_after-step (is_typed said) m Silent r said ∙ ap (λ n. texts_after (is_typed said) n r said) e ∙ texts_after-front m r Silent said
 
-pub adds : (m : Texts) (p : Place) (r : Remark) (said : List Remark) → Adds m p r said (behind p r)
+pub adds : (m : Texts) (p : Place) (r : Remark) (said : List Remark) → Adds m p r said (following p r)
 unfolding Adds texts_left with_line with_given is_typed
 adds m (Entry x k) (Gives y t) said = adds_wanted m x y t k said (bytes_eq x y)
 adds m (Entry x k) r said = tt
@@ -133,20 +128,51 @@ adds m Front Marks said = texts_after-step true m Silent Marks said ∙ texts_af
 adds m Front (Gives x t) said = texts_after-step false m Silent (Gives x t) said ∙ texts_after-class false _ (Gives x t) Silent said refl
 adds m Front r said = adds_front m r said refl
 
-pub adds_on : (m : Texts) (p q : Place) (r : Remark) (said : List Remark) → Some q ≡ behind p r → texts_left (with_line m p r) q said
-    ≡ texts_left m p (r ∷ said)
-unfolding Adds
-adds_on m p q r said is = sym (subst (Adds m p r said) (sym is) (adds m p r said))
-
-pub with_line-gives : (m : Texts) (p : Place) (x t : List ℕ) → with_line m p (Gives x t) ≡ map.insert m x (class_at p, t)
-unfolding with_line
-with_line-gives m p x t = refl
-
-pub with_line-numbers : (m : Texts) (p : Place) (g : ℕ) → with_line m p (Numbers g) ≡ m
-unfolding with_line
-with_line-numbers m p g = refl
-
 pub with_line-others : (m : Texts) (p : Place) (r : auto_lines.Remark) → ((x t : Bor (List ℕ)) → r ≡ seen.Gives x t → ⊥) → with_line m p (seen_remark r) ≡ m
 unfolding with_line
 with_line-others m p (seen.Gives x t) ne = absurd (ne x t refl)
 with_line-others m p r ne = refl
+
+-- What was read so far and what the lines that are left do to it is what all lines do: the generation, and the texts.
+pub record Counts (text : List ℕ) (l : Lines) (g : ℕ) : Type 0 where
+  pub lines : AreLeftOf text l
+  pub number : number_after g (said_left l) ≡ auto_generation text
+
+pub Fills : List ℕ → Lines → Texts → Type 0
+Fills text l m = texts_left m (seen_place l.place) (said_left l) ≡ auto_map text
+
+pub counts_all : (text : List ℕ) (l : Lines) → BeginsAs text (Ok l) → Counts text l 0
+counts_all text l begins = record { lines = begins.0; number = ap (number_after 0) begins.2 ∙ number_after-zero text }
+
+pub fills_all : (text : List ℕ) (l : Lines) (m : Texts) → BeginsAs text (Ok l) → m ≡ map.empty → Fills text l m
+unfolding Fills
+fills_all text l m begins none = ap (λ n. texts_left n (seen_place l.place) (said_left l)) none ∙ ap (λ p. texts_left map.empty p (said_left l)) begins.1
+    ∙ ap (texts_left map.empty Front) begins.2 ∙ texts_left-start text
+
+module _ (text : List ℕ) (l next : Lines) (o : Option (auto_lines.Remark × Option Class)) (judged : AreLeftOf text l → Judged text l (Ok o) next) where
+  pub counts_on : (g h : ℕ) (x : auto_lines.Remark × Option Class) → Counts text l g → o ≡ Some x → h ≡ with_number g (seen_remark x.0) → Counts text next h
+  counts_on g h x counts is with =
+      let step = subst (λ r. Judged text l (Ok r) next) is (judged counts.lines) in
+      record {
+        lines = step.0;
+        number = ap (λ n. number_after n (said_left next)) with ∙ sym (number_after-step g (seen_remark x.0) (said_left next))
+            ∙ ap (number_after g) (sym step.1) ∙ counts.number;
+      }
+
+  pub fills_on : (g : ℕ) (m n : Texts) (x : auto_lines.Remark × Option Class) → Counts text l g → Fills text l m → o ≡ Some x
+      → (x.1 ≡ class_at (seen_place l.place) → n ≡ with_line m (seen_place l.place) (seen_remark x.0)) → Fills text next n
+  unfolding Adds Fills
+  fills_on g m n x counts fills is with =
+      let step = subst (λ r. Judged text l (Ok r) next) is (judged counts.lines) in
+      let p = seen_place l.place in
+      let said = said_left next in
+      ap (λ k. texts_left k (seen_place next.place) said) (with step.3)
+      ∙ sym (subst (Adds m p (seen_remark x.0) said) (sym step.2) (adds m p (seen_remark x.0) said)) ∙ ap (texts_left m p) (sym step.1) ∙ fills
+
+  pub counted : (g : ℕ) → Counts text l g → o ≡ None → g ≡ auto_generation text
+  counted g counts none = sym (number_after-nil g) ∙ ap (number_after g) (sym (subst (λ r. Judged text l (Ok r) next) none (judged counts.lines)).0) ∙ counts.number
+
+  pub filled : (g : ℕ) (m : Texts) → Counts text l g → Fills text l m → o ≡ None → m ≡ auto_map text
+  unfolding Fills
+  filled g m counts fills none = sym (texts_left-nil m (seen_place l.place))
+      ∙ ap (texts_left m (seen_place l.place)) (sym (subst (λ r. Judged text l (Ok r) next) none (judged counts.lines)).0) ∙ fills

@@ -1,15 +1,7 @@
 -- The texts of an auto.conf without their classes: of each name the last line counts.
-use Rattle.std.proofs.Common.{◌≡◌, ℕ, Bool, true, false, cond, List, [], ◌∷◌, ◌++◌, reverse, map as map_list, Option, Some, None, option_map, refl, sym, ap, ◌∙◌}
-use Rattle.std.specs.List.{filter_map}
-use Rattle.std.proofs.lemmas.Grind.{reverse_onto}
-use Rattle.std.specs.Ordering.{is_eq}
-use Rattle.std.specs.Cmp.Lexicographic.{nat_list_cmp_total}
+use Rattle.ks_output.proofs.Prelude.{order, ◌≡◌, ℕ, Bool, true, false, cond, List, [], ◌∷◌, ◌++◌, reverse, Option, Some, None, option_map, refl, sym, ap, ◌∙◌, filter_map, reverse_onto, is_eq, nat_list_cmp_total, lines_of, Class, Remark, Gives, Silent, remark, remarks, is_typed, neighbours, class_by, given, texts_given, auto_map}
+use Rattle.std.proofs.Common.{map as map_list}
 use Rattle.std.specs.FinMap as map
-use Rattle.bstr.specs.Text.{lines_of}
-use Rattle.ks_symbols.specs.declared.kinds.Class.{Class}
-use Rattle.ks_output.specs.AutoLines.{Remark, Gives, Silent, remark, remarks}
-use Rattle.ks_output.specs.AutoConf.{is_typed, neighbours, class_by, given, texts_given, auto_map}
-use Rattle.ks_output.proofs.Entries.{order}
 
 abbrev pub plain : Remark → Option (List ℕ × List ℕ)
 plain (Gives name text) = Some (name, text)

@@ -1,34 +1,13 @@
 -- What is written of a configuration reads back.
-use Rattle.std.proofs.Common.{◌≡◌, ℕ, ◌+◌, ◌<◌, ◌^◌, ◌==◌, Bool, true, false, not, ◌||◌, length, arith, T, nat_eq, List, [], ◌∷◌, ◌++◌, drop, codes, bytes_eq, decimal, map as map_list, Option, Some, None, option_map, refl, sym, ap, ◌∙◌, append_assoc, if◌then◌else◌}
-use Rattle.std.specs.List.{ends_with}
-use mathlib.Core.Logic.{inl, inr}
-use Rattle.std.specs.Ordering.{is_eq}
-use Rattle.std.specs.Cmp.Lexicographic.{nat_list_cmp_total, bytes_decides}
+use Rattle.ks_output.proofs.Prelude.{drop-append_seam, order, first, second, ◌≡◌, ℕ, ◌+◌, ◌<◌, ◌^◌, ◌==◌, Bool, true, false, not, ◌||◌, length, arith, T, nat_eq, List, [], ◌∷◌, ◌++◌, drop, codes, bytes_eq, decimal, Option, Some, None, option_map, refl, sym, ap, ◌∙◌, append_assoc, if◌then◌else◌, ends_with, inl, inr, is_eq, nat_list_cmp_total, bytes_decides, find, is_sorted, slice_cmp-IsAntisymmetric, nat_cmp-IsAntisymmetric, cases_Bool, cond-true, cond-false, ne_eqb, and_parts, or_right, digits_decimal, lines-nil, Kind, Class, class_of, is_word_byte, is_name, is_symbol_name, Assigns, statement, is_title, IsConfiguration, IsEntry, Configuration, own, reads_back, statements_are_spelled, run_is, word_bytes, heading, class_line, entry_line, entry_lines, generation_line, auto_text, Remark, Gives, Marks, Types, Mistypes, Numbers, Silent, numbered, spelled_class, classed, class_remark, assigned, said_by, remark, remarks, is_typed, class_by, auto_map, texts_given, heard, is_faulty, first_faulty, auto_fault, Texts, kept, texts_of, TextsReadBack, GenerationReadsBack, HasNoFault, IsAccepted}
+use Rattle.std.proofs.Common.{map as map_list}
 use Rattle.std.specs.FinMap as map
-use Rattle.std.specs.FinMap.{find, is_sorted, slice_cmp-IsAntisymmetric, nat_cmp-IsAntisymmetric}
-use Rattle.std.proofs.lemmas.Bool.{cases_Bool, cond-true, cond-false, ne_eqb}
-use Rattle.std.proofs.lemmas.Fmt.{digits_decimal}
-use Rattle.bstr.proofs.lemmas.LineLemmas.{lines-nil}
-use Rattle.ks_symbols.specs.declared.kinds.Kind.{Kind}
-use Rattle.ks_symbols.specs.declared.kinds.Class.{Class}
 use Rattle.ks_symbols.specs.declared.kinds.Class.TheVariants as class
-use Rattle.ks_symbols.specs.Kinds.{class_of}
-use Rattle.ks_symbols.specs.Names.{is_word_byte, is_name, is_symbol_name}
-use Rattle.ks_symbols.specs.Statements.{Assigns, statement}
-use Rattle.ks_symbols.specs.Titles.{is_title}
-use Rattle.ks_symbols.specs.Configuration.{IsConfiguration, IsEntry, Configuration}
-use Rattle.ks_symbols.proofs.Digits.{own, reads_back}
-use Rattle.ks_symbols.proofs.Spellings.{statements_are_spelled, run_is, word_bytes}
-use Rattle.ks_output.specs.AutoText.{heading, class_line, entry_line, entry_lines, generation_line, auto_text}
-use Rattle.ks_output.specs.AutoLines.{Remark, Gives, Marks, Types, Mistypes, Numbers, Silent, numbered, spelled_class, classed, class_remark, assigned, said_by, remark, remarks}
-use Rattle.ks_output.specs.AutoConf.{is_typed, class_by, auto_map, texts_given, heard, is_faulty, first_faulty, auto_fault}
 use Rattle.ks_output.specs.declared.auto_conf.AutoError.TheVariants as fault
-use Rattle.ks_output.specs.OldConfig.{Texts, kept, texts_of}
-use Rattle.ks_output.specs.Laws.{TextsReadBack, GenerationReadsBack, HasNoFault, IsAccepted}
-use Rattle.ks_output.proofs.Entries.{order, find_below, tied, AllEntries, all_entries, first, second}
+use Rattle.ks_output.proofs.Entries.{find_below, tied, AllEntries, all_entries}
 use Rattle.ks_output.proofs.LastRemark.{with_given, texts_after, texts_after-step, texts_after-nil, texts_after-empty, with_number, number_after, number_after-step, number_after-nil, number_after-zero, not_large}
 use Rattle.ks_output.proofs.Texts.{texts_are_of_entries}
-use Rattle.ks_output.proofs.WrittenLines.{is_plain, and_parts, plain-append, plain_name, plain_digits, plain_title, plain_text, lines-plain, without_terminator-plain, ends_with-plain, drop_front}
+use Rattle.ks_output.proofs.WrittenLines.{is_plain, plain-append, plain_name, plain_digits, plain_title, plain_text, lines-plain, without_terminator-plain, ends_with-plain}
 
 -- the remarks of a text by its first line
 next : (l rest : List ℕ) (r : Remark) → is_plain l ≡ true → said_by true l ≡ r → remarks (l ++ 10 ∷ rest) ≡ r ∷ remarks rest
@@ -38,16 +17,12 @@ next l rest r h is =
     (ap (said_by (ends_with nat_eq (l ++ 10 ∷ []) (10 ∷ []))) (without_terminator-plain l h) ∙ ap (λ b. said_by b l) (ends_with-plain l) ∙ is)
 
 -- the heading
-or_true : (b : Bool) → (b || true) ≡ true
-or_true true = refl
-or_true false = refl
-
 some_bytes : (b : ℕ) (l : List ℕ) → (length (b ∷ l) == 0) ≡ false
 some_bytes b l = ne_eqb (length (b ∷ l)) 0 (λ e. absurd (omega arith))
 
 said_by_comment : (l : List ℕ) → said_by true (35 ∷ 32 ∷ l) ≡ Silent
 unfolding said_by
-said_by_comment l = ap (λ b. if b then Silent else assigned (statement (35 ∷ 32 ∷ l))) (or_true (length (35 ∷ 32 ∷ l) == 0))
+said_by_comment l = ap (λ b. if b then Silent else assigned (statement (35 ∷ 32 ∷ l))) (or_right (length (35 ∷ 32 ∷ l) == 0) true refl)
 
 said_by_mark : said_by true (35 ∷ []) ≡ Silent
 unfolding said_by
@@ -107,7 +82,7 @@ class_is name end h =
     ap (λ (n : List ℕ). if is_name n then classed n (spelled_class (drop (length n) rest)) else Mistypes)
     (run_is is_word_byte name 32 end (word_bytes name h) refl)
     ∙ ap (λ b. if b then classed name (spelled_class (drop (length name) rest)) else Mistypes) h
-    ∙ ap (λ (l : List ℕ). classed name (spelled_class l)) (drop_front name (32 ∷ end))
+    ∙ ap (λ (l : List ℕ). classed name (spelled_class l)) (drop-append_seam name (32 ∷ end))
 
 -- the remark, if there is one, that says the class of an entry
 types : List ℕ → Class → List Remark

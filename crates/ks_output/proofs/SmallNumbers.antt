@@ -1,16 +1,6 @@
 -- A generation that is read fits 64 bits.
-use Rattle.std.proofs.Common.{◌≡◌, ℕ, ◌<◌, ◌^◌, Bool, true, false, ◌&&◌, cond, List, [], ◌∷◌, nat_eq, nat_lt, drop, codes, reverse, slice_index, map as map_list, Option, Some, None, bytes_eq, take_while, length, sym, subst, refl, arith}
-use Rattle.std.specs.List.{starts_with, ends_with, filter_map}
-use Rattle.std.specs.Str.Parse.{digits_value}
-use Rattle.std.proofs.lemmas.Bool.{ltb-true}
-use Rattle.bstr.specs.Text.{lines_of, without_terminator}
-use Rattle.ks_symbols.specs.declared.kinds.Class.{Class}
-use Rattle.ks_symbols.specs.Names.{is_word_byte, is_name}
-use Rattle.ks_symbols.specs.Decimal.{is_canonical, decimal_value}
-use Rattle.ks_symbols.specs.Statements.{Statement, Assigns, Unsets, statement, is_silent}
-use Rattle.ks_output.specs.AutoLines.{generation_mark, class_mark, spelled_class, classed, class_remark, Remark, Marks, Mistypes, Numbers, Silent, numbered, assigned, said_by, remark}
-use Rattle.ks_output.specs.AutoConf.{number, auto_generation}
-use Rattle.ks_output.specs.Laws.{GenerationFits}
+use Rattle.ks_output.proofs.Prelude.{◌≡◌, ℕ, ◌<◌, ◌^◌, Bool, true, false, ◌&&◌, cond, List, [], ◌∷◌, nat_eq, nat_lt, drop, codes, reverse, slice_index, Option, Some, None, bytes_eq, take_while, length, sym, subst, refl, arith, starts_with, ends_with, filter_map, digits_value, ltb-true, lines_of, without_terminator, Class, is_word_byte, is_name, is_canonical, decimal_value, Statement, Assigns, Unsets, statement, is_silent, generation_mark, class_mark, spelled_class, classed, class_remark, Remark, Marks, Mistypes, Numbers, Silent, numbered, assigned, said_by, remark, number, auto_generation, GenerationFits}
+use Rattle.std.proofs.Common.{map as map_list}
 use Rattle.ks_output.proofs.PlainTexts.{map-reverse}
 
 Fits : Remark → Type 0

@@ -1,16 +1,7 @@
 -- What an auto.conf keeps of a configuration.
-use Rattle.std.proofs.Common.{◌≡◌, ℕ, Bool, true, false, cond, List, [], ◌∷◌, map as map_list, Option, Some, None, option_map, IsTrue, refl, sym, ap, ◌∙◌}
-use Rattle.std.specs.Ordering.{is_eq}
-use Rattle.std.specs.Cmp.Lexicographic.{nat_list_cmp_total}
+use Rattle.ks_output.proofs.Prelude.{order, and_parts, ◌≡◌, ℕ, Bool, true, false, cond, List, [], ◌∷◌, Option, Some, None, option_map, IsTrue, refl, sym, ap, ◌∙◌, is_eq, nat_list_cmp_total, find, Kind, Class, is_name, is_symbol_name, kept, texts_of, TextsAreOfEntries, TextsHaveNames}
+use Rattle.std.proofs.Common.{map as map_list}
 use Rattle.std.specs.FinMap as map
-use Rattle.std.specs.FinMap.{find}
-use Rattle.ks_symbols.specs.declared.kinds.Kind.{Kind}
-use Rattle.ks_symbols.specs.declared.kinds.Class.{Class}
-use Rattle.ks_symbols.specs.Names.{is_name, is_symbol_name}
-use Rattle.ks_output.specs.OldConfig.{kept, texts_of}
-use Rattle.ks_output.specs.Laws.{TextsAreOfEntries, TextsHaveNames}
-use Rattle.ks_output.proofs.Entries.{order}
-use Rattle.ks_output.proofs.WrittenLines.{and_parts}
 
 chosen : (b : Bool) (s : Kind × List ℕ) (o : Option (Kind × List ℕ)) → cond b (Some (kept s)) (option_map kept o) ≡ option_map kept (cond b (Some s) o)
 chosen true s o = refl
@@ -28,15 +19,15 @@ texts_are_of_entries settings x =
     ∙ ap (option_map kept) (sym (map.get-entries settings x))
 
 -- the entry whose text it is
-pub entry_behind : (o : Option (Kind × List ℕ)) (t : Option Class × List ℕ) → option_map kept o ≡ Some t → (s : Kind × List ℕ) × (o ≡ Some s)
-entry_behind None t e = absurd (cc e)
-entry_behind (Some s) t e = (s, refl)
+pub entry_after : (o : Option (Kind × List ℕ)) (t : Option Class × List ℕ) → option_map kept o ≡ Some t → (s : Kind × List ℕ) × (o ≡ Some s)
+entry_after None t e = absurd (cc e)
+entry_after (Some s) t e = (s, refl)
 
-name_of_symbol : (x : List ℕ) → IsTrue (is_symbol_name x) → IsTrue (is_name x)
+pub name_of_symbol : (x : List ℕ) → IsTrue (is_symbol_name x) → IsTrue (is_name x)
 unfolding is_symbol_name
 name_of_symbol x h = (and_parts _ _ h).0
 
 pub texts_have_names : TextsHaveNames
 texts_have_names settings h x t e =
-    let entry = entry_behind (map.get settings x) t (sym (texts_are_of_entries settings x) ∙ e) in
+    let entry = entry_after (map.get settings x) t (sym (texts_are_of_entries settings x) ∙ e) in
     name_of_symbol x (h x entry.0 entry.1).named

@@ -1,13 +1,5 @@
 -- The worked examples, by computation.
-use Rattle.std.proofs.Common.{◌≡◌, ℕ, List, ◌++◌, codes, decimal, refl, sym, ap, ◌∙◌}
-use Rattle.ks_symbols.specs.Names.{is_name}
-use Rattle.ks_symbols.proofs.Digits.{reads_only_written}
-use Rattle.ks_symbols.specs.Statements.{statement, assignment, unsetting}
-use Rattle.ks_output.specs.AutoText.{heading, entry_lines, generation_line, auto_text}
-use Rattle.ks_output.specs.AutoLines.{said_by, class_remark}
-use Rattle.ks_output.specs.AutoConf.{is_typed, heard, first_faulty}
-use Rattle.ks_output.specs.Header.{header_heading, definition_lines, header_text}
-use Rattle.ks_output.specs.Examples.{FilesOfSwitches, EntryLines, DefinitionLines, LinesRead, FaultsFound, MacrosRead}
+use Rattle.ks_output.proofs.Prelude.{◌≡◌, ℕ, List, ◌++◌, codes, decimal, refl, sym, ap, ◌∙◌, is_name, reads_only_written, statement, assignment, unsetting, heading, entry_lines, generation_line, auto_text, said_by, class_remark, is_typed, heard, first_faulty, header_heading, definition_lines, header_text, FilesOfSwitches, EntryLines, DefinitionLines, LinesRead, FaultsFound, MacrosRead}
 
 first_generation : decimal 1 ≡ codes "1"
 first_generation = sym (reads_only_written (codes "1") 1 refl)

@@ -1,32 +1,11 @@
 -- Lines that hold no end of a line, each followed by a line feed.
-use Rattle.std.proofs.Common.{◌≡◌, ℕ, suc, ◌-◌, ◌<◌, ◌==◌, ◌&&◌, ◌||◌, not, Bool, true, false, cond, nat_eq, nat_lt, List, [], ◌∷◌, ◌++◌, length, length-append, take, drop, slice_index, codes, bytes_eq, ◌⊎◌, inl, inr, refl, sym, ap, ◌∙◌, arith, lt-ltb}
-use Rattle.std.specs.List.{list_all, starts_with, ends_with}
-use Rattle.std.specs.Char.{is_ascii_digit, is_ascii_hexdigit}
-use Rattle.std.specs.Cmp.Lexicographic.{bytes_decides}
-use Rattle.std.proofs.lemmas.Bool.{cond-true, cond-false, cases_Bool, false≢true, eq-eqb}
-use Rattle.std.proofs.lemmas.Bool.Decides.{eqb_tells}
-use Rattle.std.proofs.lemmas.List.{take-append-drop}
-use Rattle.std.proofs.lemmas.List.Folds.{list_all-append}
-use mathlib.Core.Logic.{⊎_elim}
-use Rattle.bstr.specs.Text.{line_len, lines_of, no_cr, without_terminator}
-use Rattle.bstr.proofs.lemmas.LineLemmas.{lines-step}
-use Rattle.ks_symbols.specs.declared.kinds.Kind.{Kind}
+use Rattle.ks_output.proofs.Prelude.{drop-append_seam, take-append_seam, byte_at_end, opened, ◌≡◌, ℕ, suc, ◌-◌, ◌<◌, ◌==◌, ◌&&◌, ◌||◌, not, Bool, true, false, cond, nat_eq, nat_lt, List, [], ◌∷◌, ◌++◌, length, length-append, take, drop, slice_index, codes, bytes_eq, refl, sym, ap, ◌∙◌, arith, lt-ltb, list_all, starts_with, ends_with, is_ascii_digit, is_ascii_hexdigit, bytes_decides, cond-true, cond-false, cases_Bool, false≢true, eq-eqb, and_parts, or_cases, eqb_tells, list_all-append, ⊎_elim, line_len, lines_of, no_cr, without_terminator, lines-step, Kind, is_word_byte, is_name, is_string_byte, is_text, is_numeral, is_hexadecimal, is_title, is_title_byte}
+use Rattle.std.proofs.Common.{inl, inr}
 use Rattle.ks_symbols.specs.declared.kinds.Kind.TheVariants as kind
-use Rattle.ks_symbols.specs.Names.{is_word_byte, is_name}
-use Rattle.ks_symbols.specs.Kinds.{is_string_byte, is_text, is_numeral, is_hexadecimal}
-use Rattle.ks_symbols.specs.Titles.{is_title, is_title_byte}
 
 -- no LF, CR or NUL
 abbrev pub is_plain : List ℕ → Bool
 is_plain l = list_all is_string_byte l
-
-pub and_parts : (a b : Bool) → (a && b) ≡ true → (a ≡ true) × (b ≡ true)
-and_parts true b e = (refl, e)
-and_parts false b e = absurd (false≢true e)
-
-or_parts : (a b : Bool) → (a || b) ≡ true → (a ≡ true) ⊎ (b ≡ true)
-or_parts true b e = inl refl
-or_parts false b e = inr e
 
 no_ends : (a b c : Bool) → not (a || b || c) ≡ true → (a ≡ false) × (b ≡ false)
 no_ends true b c e = absurd (false≢true e)
@@ -65,18 +44,6 @@ lines-plain l rest h =
     ∙ ap (λ (x : List ℕ). (l ++ 10 ∷ []) ∷ lines_of x) (drop_line l rest)
 
 -- the line without its end
-byte_at_end : (l : List ℕ) → slice_index (l ++ 10 ∷ []) (length l) ≡ 10
-byte_at_end [] = refl
-byte_at_end (b ∷ l) = byte_at_end l
-
-pub take_front : (l rest : List ℕ) → take (length l) (l ++ rest) ≡ l
-take_front [] rest = refl
-take_front (b ∷ l) rest = ap (λ (x : List ℕ). b ∷ x) (take_front l rest)
-
-pub drop_front : (l rest : List ℕ) → drop (length l) (l ++ rest) ≡ rest
-drop_front [] rest = refl
-drop_front (b ∷ l) rest = drop_front l rest
-
 last_plain : (b : ℕ) (l : List ℕ) → is_plain (b ∷ l) ≡ true → is_string_byte (slice_index (b ∷ l) (length l)) ≡ true
 last_plain b [] h = (and_parts (is_string_byte b) true h).0
 last_plain b (c ∷ l) h = last_plain c l (and_parts (is_string_byte b) (is_plain (c ∷ l)) h).1
@@ -102,11 +69,11 @@ without_terminator-plain l h =
     let some : nat_lt 0 (length bs) ≡ true = lt-ltb 0 (length bs) (some_bytes l []) in
     let feed : slice_index bs (length bs - 1) ≡ 10 = ap (slice_index bs) place ∙ byte_at_end l in
     cond-true (nat_lt 0 (length bs) && slice_index bs (length bs - 1) == 10) _ _ (ap (λ x. x && slice_index bs (length bs - 1) == 10) some ∙ eq-eqb _ 10 feed)
-    ∙ ap no_cr (ap (λ (k : ℕ). take k bs) place ∙ take_front l (10 ∷ []))
+    ∙ ap no_cr (ap (λ (k : ℕ). take k bs) place ∙ take-append_seam l (10 ∷ []))
     ∙ no_cr-plain l h
 
 pub ends_with-plain : (l : List ℕ) → ends_with nat_eq (l ++ 10 ∷ []) (10 ∷ []) ≡ true
-ends_with-plain l = ap (λ (k : ℕ). bytes_eq (10 ∷ []) (drop k (l ++ 10 ∷ []))) (last_place l) ∙ ap (bytes_eq (10 ∷ [])) (drop_front l (10 ∷ []))
+ends_with-plain l = ap (λ (k : ℕ). bytes_eq (10 ∷ []) (drop k (l ++ 10 ∷ []))) (last_place l) ∙ ap (bytes_eq (10 ∷ [])) (drop-append_seam l (10 ∷ []))
 
 -- what bytes of names, titles and texts are
 string_byte : (p : ℕ → Bool) → p 10 ≡ false → p 13 ≡ false → p 0 ≡ false → (b : ℕ) → p b ≡ true → is_string_byte b ≡ true
@@ -141,13 +108,9 @@ plain_title title e = plain_from is_title_byte refl refl refl title (and_parts _
 literal : (text said : List ℕ) → is_plain said ≡ true → bytes_eq text said ≡ true → is_plain text ≡ true
 literal text said h e = ap is_plain ((bytes_decides text said).0 e) ∙ h
 
-pub opened : (xs needle : List ℕ) → starts_with nat_eq xs needle ≡ true → xs ≡ needle ++ drop (length needle) xs
-opened xs needle e =
-    sym (take-append-drop (length needle) xs) ∙ ap (λ (l : List ℕ). l ++ drop (length needle) xs) (sym ((bytes_decides needle (take (length needle) xs)).0 e))
-
 plain_numeral : (digits : List ℕ) → is_numeral digits ≡ true → is_plain digits ≡ true
 plain_numeral digits e =
-    ⊎_elim (literal digits (codes "0") refl) (λ more. plain_digits digits (and_parts _ _ more).1) (or_parts _ _ e)
+    ⊎_elim (literal digits (codes "0") refl) (λ more. plain_digits digits (and_parts _ _ more).1) (or_cases _ _ e)
 
 -- a text that may have a plain sign in front
 signed : (b : Bool) (sign text : List ℕ) → is_plain sign ≡ true → text ≡ sign ++ drop (length sign) text → is_plain (drop (length sign) text) ≡ true
@@ -177,15 +140,15 @@ plain_hexadecimal text e =
     ⊎_elim
     (λ is. signed true (codes "0x") text refl (opened text (codes "0x") is) rest)
     (λ is. signed true (codes "0X") text refl (opened text (codes "0X") is) rest)
-    (or_parts small large yes))
+    (or_cases small large yes))
     (λ ne. hexdigits text (ap is_hex (sym (cond-false (small || large) (drop 2 text) text ne)) ∙ e))
     (cases_Bool (small || large))
 
 pub plain_text : (k : Kind) (text : List ℕ) → is_text k text ≡ true → is_plain text ≡ true
 unfolding is_text
-plain_text kind.Bool text e = ⊎_elim (literal text (codes "y") refl) (literal text (codes "n") refl) (or_parts _ _ e)
+plain_text kind.Bool text e = ⊎_elim (literal text (codes "y") refl) (literal text (codes "n") refl) (or_cases _ _ e)
 plain_text kind.Tristate text e =
-    ⊎_elim (λ two. ⊎_elim (literal text (codes "y") refl) (literal text (codes "m") refl) (or_parts _ _ two)) (literal text (codes "n") refl) (or_parts _ _ e)
+    ⊎_elim (λ two. ⊎_elim (literal text (codes "y") refl) (literal text (codes "m") refl) (or_cases _ _ two)) (literal text (codes "n") refl) (or_cases _ _ e)
 plain_text kind.Text text e = e
 plain_text kind.Int text e = plain_integer text e
 plain_text kind.Hex text e = plain_hexadecimal text e

@@ -18,7 +18,7 @@ is_typed (Marks ∷ said) = true
 is_typed (Gives name text ∷ said) = false
 is_typed (r ∷ said) = is_typed said
 
--- each remark behind the one of the line before it
+-- each remark after the one of the line before it
 unfoldable pub neighbours : Remark → List Remark → List (Remark × Remark)
 neighbours before [] = []
 neighbours before (r ∷ said) = (before, r) ∷ neighbours r said
@@ -67,7 +67,7 @@ abbrev pub is_followed : List ℕ → List Remark → Bool
 is_followed name (Gives other text ∷ later) = bytes_eq name other
 is_followed name later = false
 
--- whether a line is faulty, by the lines behind it
+-- whether a line is faulty, by the lines after it
 abbrev pub is_faulty : Remark → List Remark → Bool
 is_faulty Faulty later = true
 is_faulty Mistypes later = true

@@ -1,4 +1,4 @@
--- What one line of an auto.conf says. The usual tool's lines are among those that are read; the lines of a generation, of the typed form
+-- What one line of an auto.conf says. Kbuild's lines are among those that are read; the lines of a generation, of the typed form
 -- and of a class are rules of this project.
 use Rattle.std.specs.Prelude.{ℕ, Bool, true, nat_eq, List, length, drop, take_while, codes, bytes_eq, map as map_list, Option, Some, None, if◌then◌else◌}
 use Rattle.std.specs.List.{starts_with, ends_with}
@@ -49,12 +49,12 @@ numbered ended value = Faulty
 abbrev pub class_mark : List ℕ
 class_mark = codes "#type "
 
--- the class that what stands behind the name spells
+-- the class that what stands after the name spells
 abbrev pub spelled_class : List ℕ → Option Class
-spelled_class behind =
-    if bytes_eq behind (class_end class.Text) then Some class.Text
-    else (if bytes_eq behind (class_end class.Int) then Some class.Int
-    else (if bytes_eq behind (class_end class.Hex) then Some class.Hex else None))
+spelled_class following =
+    if bytes_eq following (class_end class.Text) then Some class.Text
+    else (if bytes_eq following (class_end class.Int) then Some class.Int
+    else (if bytes_eq following (class_end class.Hex) then Some class.Hex else None))
 
 abbrev pub classed : List ℕ → Option Class → Remark
 classed name (Some k) = Types name k

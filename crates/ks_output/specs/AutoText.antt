@@ -19,7 +19,7 @@ class_end class.Text = codes " string"
 class_end class.Int = codes " int"
 class_end class.Hex = codes " hex"
 
--- the class of the entry behind it; a bool or tristate goes without such a line
+-- the class of the entry after it; a bool or tristate goes without such a line
 abbrev pub class_line : List ℕ → Class → List ℕ
 class_line name class.Switch = []
 class_line name k = codes "#type " ++ name ++ class_end k ++ codes "\n"

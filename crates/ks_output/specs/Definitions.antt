@@ -2,7 +2,7 @@
 use Rattle.std.specs.Prelude.{◌≡◌, ℕ, ◌-◌, Bool, ◌&&◌, nat_eq, List, ◌++◌, length, take, drop, codes, bytes_eq, take_while, map as map_list, filter, IsTrue, if◌then◌else◌}
 use Rattle.std.specs.List.{starts_with, ends_with, list_all}
 use Rattle.bstr.specs.Text.{lines_of}
-use Rattle.ks_symbols.specs.Names.{is_word_byte, less}
+use Rattle.ks_symbols.specs.Names.{is_word_byte, without_module}
 
 -- a line as it stands in a text, without the LF at its end
 abbrev pub without_lf : List ℕ → List ℕ
@@ -18,14 +18,14 @@ pub record Defines (name line : List ℕ) : Type 0 where
   pub value : List ℕ
   pub word : IsTrue (list_all is_word_byte run)
   pub spelled : line ≡ codes "#define CONFIG_" ++ run ++ codes " " ++ value
-  pub named : less run ≡ name
+  pub named : without_module run ≡ name
 
 -- The same as a test
 abbrev pub defines : List ℕ → List ℕ → Bool
 defines name line =
     let rest = drop 15 line in
     let run = take_while is_word_byte rest in
-    starts_with nat_eq line (codes "#define CONFIG_") && starts_with nat_eq (drop (length run) rest) (codes " ") && bytes_eq (less run) name
+    starts_with nat_eq line (codes "#define CONFIG_") && starts_with nat_eq (drop (length run) rest) (codes " ") && bytes_eq (without_module run) name
 
 -- The definitions of a name in a text, in their order
 unfoldable pub definitions : List ℕ → List ℕ → List (List ℕ)

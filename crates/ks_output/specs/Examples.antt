@@ -57,7 +57,7 @@ LinesRead =
     × (remark (codes "#type  string\n") ≡ Mistypes)
     × (remark (codes "#type\n") ≡ Silent)
 
--- Lines on classes count behind the mark alone, which counts before the first entry alone.
+-- Lines on classes count after the mark alone, which counts before the first entry alone.
 abbrev pub FaultsFound : Type 0
 FaultsFound =
     (fault_in (Marks ∷ Types (codes "S") class.Text ∷ Gives (codes "S") (codes "y") ∷ []) ≡ None)

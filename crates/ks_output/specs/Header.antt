@@ -19,7 +19,7 @@ has_radix text = starts_with nat_eq text (codes "0x") || starts_with nat_eq text
 abbrev pub switch_value : List ℕ → List ℕ
 switch_value text = if bytes_eq text (codes "m") then module_end ++ codes " 1" else codes " 1"
 
--- what stands behind `#define CONFIG_` and the name: the end of the macro's name, a space and its value
+-- what stands after `#define CONFIG_` and the name: the end of the macro's name, a space and its value
 abbrev pub defined_as : Kind → List ℕ → List ℕ
 defined_as kind.Bool text = switch_value text
 defined_as kind.Tristate text = switch_value text

@@ -27,9 +27,9 @@ coded_old_texts =
     code_by (Texts × ℕ) (coded× (map.code (coded_list coded_ℕ) coded_text) coded_ℕ)
     (λ d. (d.texts, d.generation)) (λ p. record { texts = p.0; generation = p.1 }) (λ _. refl)
 
--- an entry as it is lent
-abbrev pub lent_old_entry : Bor (List ℕ) × Option Class × Bor (List ℕ) → List ℕ × (Option Class × List ℕ)
-lent_old_entry e = (e.0.now, (e.1, e.2.now))
+-- an entry as it is borrowed
+abbrev pub borrowed_old_entry : Bor (List ℕ) × Option Class × Bor (List ℕ) → List ℕ × (Option Class × List ℕ)
+borrowed_old_entry e = (e.0.now, (e.1, e.2.now))
 
 -- the class of a name, if it has a text and that a class
 abbrev pub class_in : Texts → List ℕ → Option Class

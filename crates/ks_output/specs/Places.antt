@@ -1,19 +1,23 @@
 -- Where a line of an auto.conf stands, by what the lines before it said. `AutoConf` says what a whole text comes to.
-use Rattle.std.specs.Prelude.{ℕ, ◌-◌, Bool, true, false, List, bytes_eq, Option, Some, None, if◌then◌else◌}
+use Rattle.std.specs.Prelude.{◌≡◌, ℕ, ◌-◌, ◌≤◌, Bool, true, false, List, [], ◌∷◌, bytes_eq, length, map as map_list, Option, Some, None, Result, Ok, Err, if◌then◌else◌}
 use Rattle.ks_symbols.specs.declared.kinds.Class.{Class}
 use Rattle.ks_symbols.specs.declared.kinds.Class.TheVariants as class
-use Rattle.ks_output.specs.AutoLines.{Remark, Gives, Marks, Types, Mistypes, Faulty}
+use Rattle.ks_output.specs.AutoLines.{Remark, Gives, Marks, Types, Mistypes, Faulty, seen_remark, remark, remarks}
+use Rattle.ks_output.specs.AutoConf.{is_typed, heard, first_faulty, auto_fault, auto_refusal}
+use Rattle.ks_output.specs.declared.auto_conf.AutoError.{AutoError}
+use Rattle.ks_output.specs.declared.auto_conf.Lines.{Lines}
+use Rattle.ks_output.specs.declared.auto_lines.Remark as auto_lines
 use Rattle.ks_output.specs.declared.places.Place as places
 use Rattle.ks_output.specs.declared.places.Place.TheVariants as seen
 
 pub data Place : Type 0 where
   -- before the mark and the first entry
   Front : Place
-  -- behind the first entry of an untyped file
+  -- after the first entry of an untyped file
   Untyped : Place
-  -- behind the mark of a typed file
+  -- after the mark of a typed file
   Typed : Place
-  -- right behind the line of a name's class
+  -- right after the line of a name's class
   Entry : List ℕ → Class → Place
 
 -- a place of the code, without where its bytes lie
@@ -30,16 +34,16 @@ class_at Untyped = None
 class_at Typed = Some class.Switch
 class_at (Entry name k) = Some k
 
--- the place behind a line, if the line may stand there
-abbrev pub behind : Place → Remark → Option Place
-behind (Entry name k) (Gives other text) = if bytes_eq name other then Some Typed else None
-behind (Entry name k) r = None
-behind place Faulty = None
-behind Typed Mistypes = None
-behind Typed (Types name k) = Some (Entry name k)
-behind Front Marks = Some Typed
-behind Front (Gives name text) = Some Untyped
-behind place r = Some place
+-- the place after a line, if the line may stand there
+abbrev pub following : Place → Remark → Option Place
+following (Entry name k) (Gives other text) = if bytes_eq name other then Some Typed else None
+following (Entry name k) r = None
+following place Faulty = None
+following Typed Mistypes = None
+following Typed (Types name k) = Some (Entry name k)
+following Front Marks = Some Typed
+following Front (Gives name text) = Some Untyped
+following place r = Some place
 
 -- whether an entry has to stand there
 abbrev pub wants_entry : Place → Bool
@@ -50,3 +54,31 @@ wants_entry place = false
 abbrev pub blamed : Place → ℕ → ℕ
 blamed (Entry name k) n = n - 1
 blamed place n = n
+
+-- the first faulty line, where the lines that are left are counted from n on
+unfoldable pub fault_left : Place → ℕ → List Remark → Option ℕ
+fault_left Front n said = first_faulty n (heard (is_typed said) said)
+fault_left Untyped n said = first_faulty n (heard false said)
+fault_left Typed n said = first_faulty n said
+fault_left (Entry x k) n said = first_faulty (n - 1) (Types x k ∷ said)
+
+-- what the lines say that are left
+abbrev pub said_left : Lines → List Remark
+said_left l = map_list remark l.left
+
+-- The lines are those of a text that are left: their first fault is the text's.
+pub record AreLeftOf (text : List ℕ) (l : Lines) : Type 0 where
+  pub small : length text ≤ 67108864
+  pub fault : fault_left (seen_place l.place) l.number (said_left l) ≡ auto_fault text
+
+-- all lines of a text, or that it is too large
+abbrev pub BeginsAs : List ℕ → Result Lines AutoError → Type 0
+BeginsAs text (Ok l) = AreLeftOf text l × (seen_place l.place ≡ Front) × (said_left l ≡ remarks text)
+BeginsAs text (Err e) = auto_refusal text ≡ Some e
+
+-- one line further on; at the end the text has no fault
+abbrev pub Judged : List ℕ → Lines → Result (Option (auto_lines.Remark × Option Class)) AutoError → Lines → Type 0
+Judged text old (Ok None) new = (said_left old ≡ []) × (auto_refusal text ≡ None)
+Judged text old (Ok (Some x)) new = AreLeftOf text new × (said_left old ≡ seen_remark x.0 ∷ said_left new)
+    × (Some (seen_place new.place) ≡ following (seen_place old.place) (seen_remark x.0)) × (x.1 ≡ class_at (seen_place old.place))
+Judged text old (Err e) new = auto_refusal text ≡ Some e

@@ -1,6 +1,6 @@
 //! Texts that are appended piece by piece.
 //!
-//! A writer fills the vector that it is lent, so a long text is never held twice. What stood there before stays in
+//! A writer fills the vector that it is borrowed, so a long text is never held twice. What stood there before stays in
 //! front whatever happens, so that a writer that is refused memory can cut the vector back to it.
 ghost use Rattle.std.specs.Prelude.{◌≡◌, ◌++◌, OnOk, flat_map};
 ghost use Rattle.ks_output.specs.Appending.{Keeps};

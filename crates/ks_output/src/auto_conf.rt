@@ -2,18 +2,18 @@
 //!
 //! The next synchronisation finds in it what this one knew. A name without its text would be a change that is never
 //! seen, so a line that says nothing known is refused with its number, and a generation cut off by a full disk too.
-//! The untyped form, the usual tool's, is read as well; none of its names has a class.
-ghost use Rattle.std.specs.Prelude.{◌≡◌, IfOk, IsErrOf};
+//! The untyped form, Kbuild's, is read as well; none of its names has a class.
+ghost use Rattle.std.specs.Prelude.{◌≡◌, ◌<◌, ◌≤◌, ◌+◌, IfOk, IsErrOf, List, ℕ, Some, length};
 ghost use Rattle.ks_symbols.specs.Refusals.{RefusedBy};
 ghost use Rattle.ks_output.specs.declared.auto_conf.AutoError.TheVariants.{OutOfMemory};
 ghost use Rattle.ks_output.specs.AutoConf.{auto_map, auto_generation, auto_refusal};
 ghost use Rattle.ks_output.specs.OldConfig.{HasNames};
 
 use crate::auto_lines::{Remark, parse_remark};
-use crate::old_config::{OldConfig, OldDraft};
+use crate::old_config::OldConfig;
 use crate::places::Place;
-use bstr::ByteSlice;
-use ks_symbols::MAX_BYTES;
+use bstr::{ByteSlice, LinesWithTerminator};
+use ks_symbols::{Class, Draft, MAX_BYTES};
 use std::alloc::{AllocError, Global};
 use thiserror::Error;
 
@@ -36,36 +36,75 @@ impl From<AllocError> for AutoError {
     }
 }
 
-/// The texts and the generation that an auto.conf has, also one of the usual tool. Its lines may stand in any order.
+/// The lines of an auto.conf that are left, and where the first of them stands.
+#[derive(Drop)]
+pub(crate) struct Lines<'a> {
+    left: LinesWithTerminator<'a>,
+    place: Place<'a>,
+    number: u64,
+    ghost counted: { (0 < number) × (number + length left ≤ 67108865) },
+}
+
+impl<'a> Lines<'a> {
+    ghost use Rattle.ks_output.specs.Places.{AreLeftOf, Judged, BeginsAs};
+
+    /// All lines of a text, unless it is too large.
+    fn of(text: &'a [u8]) -> Result<Lines<'a>, AutoError>
+        ensures begins { BeginsAs text.now result }
+        ensures memory { IsErrOf result AutoError.OutOfMemory → ⊥ }
+    {
+        if text.len() > MAX_BYTES {
+            return Err(AutoError::TooLarge);
+        }
+        Ok(Lines {
+            left: text.lines_with_terminator(),
+            place: Place::Front,
+            number: 1,
+        })
+    }
+
+    /// What the next line says, and the class of an entry there. A line that can't stand there is refused, and so is the end.
+    fn next_line(&mut self) -> Result<Option<(Remark<'a>, Option<Class>)>, AutoError>
+        ensures judged { (text : List ℕ) → AreLeftOf text self.old → Judged text self.old result self.new }
+        ensures memory { IsErrOf result AutoError.OutOfMemory → ⊥ }
+    {
+        let place = self.place;
+        let refusal = AutoError::BadAuto(place.blamed(self.number));
+        let Some(line) = self.left.next() else {
+            return if place.wants_entry() {
+                Err(refusal)
+            } else {
+                Ok(None)
+            };
+        };
+        let remark = parse_remark(line);
+        let Some(next) = place.following(remark) else {
+            return Err(refusal);
+        };
+        self.place = next;
+        self.number += 1;
+        Ok(Some((remark, place.class())))
+    }
+}
+
+/// The texts and the generation that an auto.conf has, also one of Kbuild. Its lines may stand in any order.
 pub fn read_auto(alloc: Global, text: &[u8]) -> Result<OldConfig, AutoError>
     ensures texts { IfOk result (λ c. c.texts ≡ auto_map text.now) }
     ensures generation { IfOk result (λ c. c.generation ≡ auto_generation text.now) }
     ensures refusal { RefusedBy AutoError.OutOfMemory result (auto_refusal text.now) }
     ensures names { IfOk result (λ c. HasNames c.texts) }
 {
-    if text.len() > MAX_BYTES {
-        return Err(AutoError::TooLarge);
-    }
-    let mut old = OldDraft::new(alloc);
-    let mut place = Place::Front;
-    let mut number: u64 = 1;
-    for line in text.lines_with_terminator() {
-        let remark = parse_remark(line);
-        let Some(next) = place.behind(remark) else {
-            return Err(AutoError::BadAuto(place.blamed(number)));
-        };
+    let mut lines = Lines::of(text)?;
+    let mut texts = Draft::new(alloc);
+    let mut generation = 0;
+    while let Some((remark, class)) = lines.next_line()? {
         match remark {
-            Remark::Gives(name, text) => old.put(name, place.class(), text)?,
-            Remark::Numbers(generation) => old.set_generation(generation),
+            Remark::Gives(name, text) => texts.put(name, class, text)?,
+            Remark::Numbers(last) => generation = last,
             _ => {}
         }
-        place = next;
-        number += 1;
     }
-    if place.wants_entry() {
-        return Err(AutoError::BadAuto(place.blamed(number)));
-    }
-    Ok(old.close(alloc)?)
+    Ok(OldConfig::new(texts.close(alloc)?, generation))
 }
 
 /// The generation that an auto.conf has. Its lines are looked at as `read_auto` does, and no text is kept.
@@ -74,25 +113,12 @@ pub fn read_auto_generation(text: &[u8]) -> Result<u64, AutoError>
     ensures refusal { RefusedBy AutoError.OutOfMemory result (auto_refusal text.now) }
     ensures memory { IsErrOf result AutoError.OutOfMemory → ⊥ }
 {
-    if text.len() > MAX_BYTES {
-        return Err(AutoError::TooLarge);
-    }
-    let mut generation: u64 = 0;
-    let mut place = Place::Front;
-    let mut number: u64 = 1;
-    for line in text.lines_with_terminator() {
-        let remark = parse_remark(line);
-        let Some(next) = place.behind(remark) else {
-            return Err(AutoError::BadAuto(place.blamed(number)));
-        };
+    let mut lines = Lines::of(text)?;
+    let mut generation = 0;
+    while let Some((remark, _)) = lines.next_line()? {
         if let Remark::Numbers(last) = remark {
             generation = last;
         }
-        place = next;
-        number += 1;
-    }
-    if place.wants_entry() {
-        return Err(AutoError::BadAuto(place.blamed(number)));
     }
     Ok(generation)
 }

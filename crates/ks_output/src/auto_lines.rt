@@ -1,6 +1,6 @@
 //! What one line of an auto.conf says.
 //!
-//! The lines of the usual tool are among those that are read. A line that begins as one of this project's own, on the
+//! The lines of Kbuild are among those that are read. A line that begins as one of this project's own, on the
 //! generation or a class, and is none, is told from a comment: what it meant to say would be lost.
 ghost use Rattle.std.specs.Prelude.{◌≡◌};
 ghost use Rattle.bstr.specs.Text.{without_terminator};
@@ -43,31 +43,31 @@ fn without_end(line: &[u8]) -> &[u8]
     &line[..n - 2]
 }
 
-/// The class that what stands behind the name spells.
-fn spelled_class(behind: &[u8]) -> Option<Class>
-    ensures { result ≡ spelled_class behind.now }
+/// The class that what stands after the name spells.
+fn spelled_class(following: &[u8]) -> Option<Class>
+    ensures { result ≡ spelled_class following.now }
 {
-    if behind == b" string".as_slice() {
+    if following == b" string".as_slice() {
         Some(Class::Text)
-    } else if behind == b" int".as_slice() {
+    } else if following == b" int".as_slice() {
         Some(Class::Int)
-    } else if behind == b" hex".as_slice() {
+    } else if following == b" hex".as_slice() {
         Some(Class::Hex)
     } else {
         None
     }
 }
 
-/// What the line of a class says, behind `#type `.
+/// What the line of a class says, after `#type `.
 #[tactic(auto, unfolding(crate::specs::AutoLines::class_remark))]
 fn parse_class(text: &[u8]) -> Remark<'_>
     ensures { seen_remark result ≡ class_remark text.now }
 {
-    let (name, behind) = split_word(text);
+    let (name, following) = split_word(text);
     if !name_is_legal(name) {
         return Remark::Mistypes;
     }
-    match spelled_class(behind) {
+    match spelled_class(following) {
         Some(class) => Remark::Types(name, class),
         None => Remark::Mistypes,
     }

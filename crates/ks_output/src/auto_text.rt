@@ -2,7 +2,7 @@
 //!
 //! The heading and the entries are those of conf_write_autoconf in scripts/kconfig/confdata.c. That names rise, that
 //! a string stands without quotes, and the lines of classes and of the generation are rules of this project. A class
-//! is written as a comment, which make and the usual tool pass over.
+//! is written as a comment, which make and Kbuild pass over.
 ghost use Rattle.std.specs.Prelude.{◌≡◌, ◌++◌, OnOk, OnErr, length, min};
 ghost use Rattle.ks_output.specs.Appending.{Keeps};
 ghost use Rattle.ks_output.specs.AutoText.{auto_text, heading, class_line, entry_line, generation_line};

@@ -45,7 +45,7 @@ pub fn write_quoted(text: &[u8], out: &mut Vec<u8>) -> Result<(), AllocError>
     Ok(())
 }
 
-/// Appends what stands behind the name in a definition.
+/// Appends what stands after the name in a definition.
 fn append_value(kind: Kind, text: &[u8], out: &mut Vec<u8>) -> Result<(), AllocError>
     ensures written { OnOk result (out.new.items ≡ out.old.items ++ defined_as kind text.now) }
     ensures kept { Keeps out.old.items out.new.items }

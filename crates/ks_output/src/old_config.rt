@@ -2,14 +2,14 @@
 //!
 //! It knows nothing of the lines that it was read from. Whoever compares it with new settings walks over its entries
 //! in rising order of the names.
-ghost use Rattle.std.specs.Prelude.{◌≡◌, OnOk, IfOk, option_map};
+ghost use Rattle.std.specs.Prelude.{◌≡◌, option_map};
 ghost use Rattle.std.specs.FinMap as map;
 ghost use Rattle.std.specs.Iterator.{item_count};
 ghost use Rattle.std.specs.Map.Iter.{TakesFirst};
-ghost use Rattle.ks_output.specs.OldConfig.{HasNames, lent_old_entry, class_in};
+ghost use Rattle.ks_output.specs.OldConfig.{HasNames, borrowed_old_entry, class_in};
 
-use ks_symbols::{Class, Draft, Rows, Table};
-use std::alloc::{AllocError, Global};
+use ks_symbols::{Class, Rows, Table};
+use std::alloc::Global;
 use std::marker::Model;
 
 /// The texts and the generation of an auto.conf.
@@ -53,7 +53,7 @@ impl<'a> Model for OldEntries<'a> {
 impl<'a> Iterator for OldEntries<'a> {
     type Item = (&'a [u8], Option<Class>, &'a [u8]);
 
-    ghost next_gives = { TakesFirst lent_old_entry };
+    ghost next_gives = { TakesFirst borrowed_old_entry };
 
     ghost remaining = { item_count (λ rest. rest) };
 
@@ -73,6 +73,15 @@ impl OldConfig {
             texts: Table::empty(alloc),
             generation: 0,
         }
+    }
+
+    /// These texts, whose names are legal, and this generation.
+    pub(crate) fn new(texts: Table<Option<Class>>, generation: u64) -> OldConfig
+        requires { HasNames texts }
+        ensures texts { result.texts ≡ texts }
+        ensures generation { result.generation ≡ generation }
+    {
+        OldConfig { texts, generation }
     }
 
     /// The number of the synchronisation that wrote it, or 0.
@@ -116,64 +125,5 @@ impl OldConfig {
         ensures { HasNames self.now.texts }
     {
         let _ = &self.texts;
-    }
-}
-
-/// An old configuration while its lines are read.
-#[derive(Drop)]
-pub(crate) struct OldDraft {
-    texts: Draft<Option<Class>>,
-    generation: u64,
-}
-
-impl Model for OldDraft {
-    ghost use Rattle.ks_output.specs.OldConfig.{OldTexts, coded_old_texts};
-
-    ghost Value = { OldTexts };
-
-    ghost coded = { coded_old_texts };
-
-    ghost view = { λ s. record { texts = s.texts; generation = s.generation } };
-}
-
-impl OldDraft {
-    pub(crate) fn new(alloc: Global) -> OldDraft
-        ensures texts { result.texts ≡ map.empty }
-        ensures generation { result.generation ≡ 0 }
-    {
-        OldDraft {
-            texts: Draft::new(alloc),
-            generation: 0,
-        }
-    }
-
-    /// Gives a name a class, where it is known, and a text, in place of those before.
-    pub(crate) fn put(
-        &mut self,
-        name: &[u8],
-        class: Option<Class>,
-        text: &[u8],
-    ) -> Result<(), AllocError>
-        ensures texts { OnOk result (self.new.texts ≡ map.insert self.old.texts name.now (class, text.now)) }
-        ensures generation { OnOk result (self.new.generation ≡ self.old.generation) }
-    {
-        self.texts.put(name, class, text)
-    }
-
-    pub(crate) fn set_generation(&mut self, generation: u64)
-        ensures texts { self.new.texts ≡ self.old.texts }
-        ensures generation { self.new.generation ≡ generation }
-    {
-        self.generation = generation;
-    }
-
-    pub(crate) fn close(self, alloc: Global) -> Result<OldConfig, AllocError>
-        requires { HasNames self.texts }
-        ensures { IfOk result (λ c. c ≡ self) }
-    {
-        Ok(OldConfig {
-            texts: self.texts.close(alloc)?,
-            generation: self.generation,
-        })
     }
 }

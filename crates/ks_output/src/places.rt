@@ -4,7 +4,7 @@
 //! once its mark or its first entry is read, and stays so.
 ghost use Rattle.std.specs.Prelude.{◌≡◌, ◌<◌, option_map};
 ghost use Rattle.ks_output.specs.AutoLines.{seen_remark};
-ghost use Rattle.ks_output.specs.Places.{seen_place, class_at, behind, wants_entry, blamed};
+ghost use Rattle.ks_output.specs.Places.{seen_place, class_at, following, wants_entry, blamed};
 
 use crate::auto_lines::Remark;
 use ks_symbols::Class;
@@ -14,11 +14,11 @@ use ks_symbols::Class;
 pub(crate) enum Place<'a> {
     /// Before the mark of the typed form and before the first entry.
     Front,
-    /// Behind the first entry of a file of the untyped form.
+    /// After the first entry of a file of the untyped form.
     Untyped,
-    /// Behind the mark of a file of the typed form.
+    /// After the mark of a file of the typed form.
     Typed,
-    /// The same, right behind the line that says the class of a name.
+    /// The same, right after the line that says the class of a name.
     Entry(&'a [u8], Class),
 }
 
@@ -34,9 +34,9 @@ impl<'a> Place<'a> {
         }
     }
 
-    /// The place behind a line that stands here, or None where it is faulty or an entry has to stand here.
-    pub(crate) fn behind(self, remark: Remark<'a>) -> Option<Place<'a>>
-        ensures { option_map seen_place result ≡ behind (seen_place self.entry) (seen_remark remark.entry) }
+    /// The place after a line that stands here, or None where it is faulty or an entry has to stand here.
+    pub(crate) fn following(self, remark: Remark<'a>) -> Option<Place<'a>>
+        ensures { option_map seen_place result ≡ following (seen_place self.entry) (seen_remark remark.entry) }
     {
         match (self, remark) {
             (Place::Entry(wanted, _), Remark::Gives(name, _)) if wanted == name => {

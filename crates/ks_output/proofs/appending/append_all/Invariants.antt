@@ -1,5 +1,4 @@
-use Rattle.std.proofs.Common.{◌≡◌, ◌++◌, take}
-use Rattle.std.specs.List.{flat_map}
+use Rattle.ks_output.proofs.Prelude.{◌≡◌, ◌++◌, take, flat_map}
 use Rattle.ks_output.proofs.appending.append_all.Given as goal
 
 -- the pieces so far

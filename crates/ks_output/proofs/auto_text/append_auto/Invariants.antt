@@ -1,7 +1,5 @@
-use Rattle.std.proofs.Common.{◌≡◌, ◌++◌}
+use Rattle.ks_output.proofs.Prelude.{◌≡◌, ◌++◌, Keeps, heading, entry_lines}
 use Rattle.std.specs.FinMap as map
-use Rattle.ks_output.specs.Appending.{Keeps}
-use Rattle.ks_output.specs.AutoText.{heading, entry_lines}
 use Rattle.ks_output.proofs.auto_text.append_auto.Given as goal
 
 -- the text so far and the lines of the entries that are left

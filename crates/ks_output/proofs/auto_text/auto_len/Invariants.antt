@@ -1,6 +1,5 @@
-use Rattle.std.proofs.Common.{◌≡◌, ◌+◌, length, min}
+use Rattle.ks_output.proofs.Prelude.{◌≡◌, ◌+◌, length, min, heading, entry_lines}
 use Rattle.std.specs.FinMap as map
-use Rattle.ks_output.specs.AutoText.{heading, entry_lines}
 use Rattle.ks_output.proofs.auto_text.auto_len.Given as goal
 
 -- the bytes so far and those of the entries that are left

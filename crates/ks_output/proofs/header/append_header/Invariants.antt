@@ -1,7 +1,5 @@
-use Rattle.std.proofs.Common.{◌≡◌, ◌++◌}
+use Rattle.ks_output.proofs.Prelude.{◌≡◌, ◌++◌, Keeps, header_heading, definition_lines}
 use Rattle.std.specs.FinMap as map
-use Rattle.ks_output.specs.Appending.{Keeps}
-use Rattle.ks_output.specs.Header.{header_heading, definition_lines}
 use Rattle.ks_output.proofs.header.append_header.Given as goal
 
 -- the text so far and the lines of the entries that are left

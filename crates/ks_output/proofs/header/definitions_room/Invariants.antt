@@ -1,6 +1,5 @@
-use Rattle.std.proofs.Common.{◌+◌, ◌≤◌}
+use Rattle.ks_output.proofs.Prelude.{◌+◌, ◌≤◌, definitions_room}
 use Rattle.std.specs.FinMap as map
-use Rattle.ks_output.specs.Appending.{definitions_room}
 use Rattle.ks_output.proofs.header.definitions_room.Given as goal
 
 -- the room so far, with that of the entries that are left, is no more than that of all

@@ -1,6 +1,4 @@
-use Rattle.std.proofs.Common.{◌≡◌, ◌++◌, ◌∷◌, take}
-use Rattle.std.specs.List.{flat_map}
-use Rattle.ks_symbols.specs.Values.{escape}
+use Rattle.ks_output.proofs.Prelude.{◌≡◌, ◌++◌, ◌∷◌, take, flat_map, escape}
 use Rattle.ks_output.proofs.header.write_quoted.Given as goal
 
 -- the quote and the bytes so far

@@ -1,5 +1,4 @@
-use Rattle.std.proofs.Common.{sym, subst}
-use Rattle.ks_output.specs.OldConfig.{HasNames}
+use Rattle.ks_output.proofs.Prelude.{sym, subst, HasNames}
 use Rattle.ks_output.proofs.LegalNames.{no_names}
 use Rattle.ks_output.proofs.old_config.OldConfig.empty.Goals as goal
 

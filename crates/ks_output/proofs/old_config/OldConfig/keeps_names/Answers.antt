@@ -1,5 +1,4 @@
-use Rattle.std.proofs.Common.{subst}
-use Rattle.ks_output.specs.OldConfig.{HasNames, OldTexts}
+use Rattle.ks_output.proofs.Prelude.{subst, HasNames, OldTexts}
 use Rattle.ks_output.proofs.old_config.OldConfig.keeps_names.Goals as goal
 
 pub returns : goal.returns

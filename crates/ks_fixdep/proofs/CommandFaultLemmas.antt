@@ -1,17 +1,6 @@
--- A refusal names the first line that does not fit: whatever stands behind that line it is refused again, and with other lines in its place
+-- A refusal names the first line that does not fit: whatever stands after that line it is refused again, and with other lines in its place
 -- the lines before it are read.
-use Rattle.std.proofs.Common.{◌≡◌, ℕ, suc, ◌+◌, ◌-◌, ◌<◌, ◌≤◌, Bool, true, false, List, [], ◌∷◌, ◌++◌, length, take, drop, refl, sym, ap, ◌∙◌, arith, Option, Some, None, Result, Ok, Err, subst}
-use Rattle.std.specs.Prelude.{codes, option_and_then, if◌then◌else◌}
-use Rattle.std.specs.Option.{option_or}
-use Rattle.std.specs.Str.{bytes_eq}
-use Rattle.ks_symbols.specs.Decimal.{decimal_value}
-use Rattle.ks_symbols.specs.Names.{is_target, is_path}
-use Rattle.ks_fixdep.specs.declared.command_file.Dep.{Dep}
-use Rattle.ks_fixdep.specs.CommandLines.{line_feed, content, behind, before}
-use Rattle.ks_fixdep.specs.CommandFile.{CommandRecord, is_command, deps_begin, target_line, deps_end, generation_mark, ended}
-use Rattle.ks_fixdep.specs.CommandReads.{IsFirstMisfit}
-use Rattle.ks_fixdep.specs.CommandForms.{dep_in, saved_command, source_in}
-use Rattle.ks_fixdep.specs.CommandReading.{◌>>=◌, or_fault, fixed_at, form_at, deps_in, onto_deps, said, said_behind, generation_from, end_from, record_in}
+use Rattle.ks_fixdep.proofs.Prelude.{◌≡◌, ℕ, suc, ◌+◌, ◌-◌, ◌<◌, ◌≤◌, true, false, List, [], ◌∷◌, ◌++◌, length, take, drop, refl, sym, ap, ◌∙◌, arith, Option, Some, None, Result, Ok, Err, subst, codes, option_and_then, if◌then◌else◌, option_or, bytes_eq, decimal_value, is_target, is_path, Dep, line_feed, content, following, before, CommandRecord, is_command, deps_begin, target_line, deps_end, generation_mark, ended, IsFirstMisfit, checked, dep_in, saved_command, source_in, ◌>>=◌, or_fault, fixed_at, form_at, deps_in, onto_deps, said, said_after, generation_from, end_from, record_in}
 use Rattle.ks_fixdep.proofs.CommandFormLemmas.{bytes-refl, saved_command-line, source_in-line, dep_in-none}
 use Rattle.ks_fixdep.proofs.CommandFitLemmas.{steps, fixed-begins, lines-fit, lines-read}
 use Rattle.ks_fixdep.proofs.CommandTextLemmas.{content-ended}
@@ -47,7 +36,7 @@ at-first n reader ls m more value reads same again =
       reads = reads;
     }
 
--- a refusal behind a first line that the reader takes
+-- a refusal after a first line that the reader takes
 later : {Y : Type 0} (n : ℕ) (reader next : List (List ℕ) → Result Y ℕ) (l : List ℕ) (ls : List (List ℕ)) (m : ℕ)
     → ((xs : List (List ℕ)) → reader (l ∷ xs) ≡ next xs) → Refuses (n + 1) next ls m → Refuses n reader (l ∷ ls) m
 later n reader next l ls m step r =
@@ -61,51 +50,10 @@ later n reader next l ls m step r =
       reads = step (take r.place ls ++ r.more) ∙ r.reads;
     }
 
--- ---- one line
-
-fixed-line : (n : ℕ) (x l : List ℕ) (ls : List (List ℕ)) (b : Bool) → bytes_eq (content l) x ≡ b → fixed_at n x (l ∷ ls) ≡ (if b then Ok ls else Err n)
-unfolding fixed_at
-fixed-line n x l ls b is = ap (λ (t : Bool). if t then Ok ls else Err n) is
-
-fixed-none : (n : ℕ) (x : List ℕ) → fixed_at n x [] ≡ Err n
-unfolding fixed_at
-fixed-none n x = refl
+-- ---- one line of a form
 
 err-same : {A : Type 0} (r : Result A ℕ) (n m : ℕ) → r ≡ Err n → r ≡ Err m → n ≡ m
 err-same r n m e f = cc
-
-fixed-reader : {Y : Type 0} (n : ℕ) (x : List ℕ) (next : List (List ℕ) → Result Y ℕ) → IsReader (n + 1) next → IsReader n (λ ls. fixed_at n x ls >>= next)
-fixed-reader {Y = Y} n x next r =
-    record {
-      lines = ended x ∷ r.lines;
-      value = r.value;
-      reads = first-reads;
-      refuses = refuses;
-    }
-  where
-    reader : List (List ℕ) → Result Y ℕ
-    reader ls = fixed_at n x ls >>= next
-
-    first-reads : (fixed_at n x (ended x ∷ r.lines) >>= next) ≡ Ok r.value
-    first-reads = ap (λ q. q >>= next) (fixed-line n x (ended x) r.lines true (ap (λ c. bytes_eq c x) (content-ended x) ∙ bytes-refl x)) ∙ r.reads
-
-    tested : (l : List ℕ) (ls : List (List ℕ)) (m : ℕ) (b : Bool) → bytes_eq (content l) x ≡ b → (fixed_at n x (l ∷ ls) >>= next) ≡ Err m
-        → Refuses n (λ xs. fixed_at n x xs >>= next) (l ∷ ls) m
-    tested l ls m true is e =
-        let step : (xs : List (List ℕ)) → (fixed_at n x (l ∷ xs) >>= next) ≡ next xs = λ xs. ap (λ q. q >>= next) (fixed-line n x l xs true is) in
-        later n (λ xs. fixed_at n x xs >>= next) next l ls m step (r.refuses ls m (sym (step ls) ∙ e))
-    tested l ls m false is e =
-        let step : (xs : List (List ℕ)) → (fixed_at n x (l ∷ xs) >>= next) ≡ Err n = λ xs. ap (λ q. q >>= next) (fixed-line n x l xs false is) in
-        at-first n (λ xs. fixed_at n x xs >>= next) (l ∷ ls) m (ended x ∷ r.lines) r.value first-reads
-        (err-same (fixed_at n x (l ∷ ls) >>= next) n m (step ls) e) (λ xs lt. step xs)
-
-    refuses : (ls : List (List ℕ)) (m : ℕ) → (fixed_at n x ls >>= next) ≡ Err m → Refuses n (λ xs. fixed_at n x xs >>= next) ls m
-    refuses [] m e =
-        at-first n (λ xs. fixed_at n x xs >>= next) [] m (ended x ∷ r.lines) r.value first-reads
-        (err-same (fixed_at n x [] >>= next) n m (ap (λ q. q >>= next) (fixed-none n x)) e) (λ xs lt. absurd (omega arith))
-    refuses (l ∷ ls) m e = tested l ls m (bytes_eq (content l) x) refl e
-
--- ---- one line of a form
 
 form-line : {A : Type 0} (n : ℕ) (form : List ℕ → Option A) (l : List ℕ) (ls : List (List ℕ)) (o : Option A) → form (content l) ≡ o → form_at n form (l ∷ ls)
     ≡ (or_fault n o >>= λ x. Ok (x, ls))
@@ -154,6 +102,42 @@ form-reader {A = A} {Y = Y} n form x a next says readers =
         (err-same (form_at n form [] >>= λ p. next p.0 p.1) n m (ap (λ q. q >>= λ p. next p.0 p.1) (form-none n form)) e) (λ xs lt. absurd (omega arith))
     refuses (l ∷ ls) m e = tested l ls m (form (content l)) refl e
 
+-- ---- one line of given bytes
+
+-- a reader that answers as another one does
+alike-reader : {Y : Type 0} (n : ℕ) (f g : List (List ℕ) → Result Y ℕ) → ((ls : List (List ℕ)) → g ls ≡ f ls) → IsReader n f → IsReader n g
+alike-reader n f g same r =
+    record {
+      lines = r.lines;
+      value = r.value;
+      reads = same r.lines ∙ r.reads;
+      refuses = λ ls m e.
+          let x = r.refuses ls m (sym (same ls) ∙ e) in
+          record {
+            place = x.place;
+            number = x.number;
+            within = x.within;
+            again = λ more lt. same (take (suc x.place) ls ++ more) ∙ x.again more lt;
+            more = x.more;
+            value = x.value;
+            reads = same (take x.place ls ++ x.more) ∙ x.reads;
+          };
+    }
+
+-- these bytes are a form
+fixed-form : {Y : Type 0} (n : ℕ) (x : List ℕ) (next : List (List ℕ) → Result Y ℕ) (ls : List (List ℕ))
+    → (fixed_at n x ls >>= next) ≡ (form_at n (checked (λ l. bytes_eq l x)) ls >>= λ p. next p.1)
+unfolding fixed_at form_at
+fixed-form n x next [] = refl
+fixed-form n x next (l ∷ ls) = elim (bytes_eq (content l) x) as (λ b. ((if b then Ok ls else Err n) >>= next)
+    ≡ ◌>>=◌ {A = List ℕ × List (List ℕ)} (or_fault n (if b then Some (content l) else None) >>= λ y. Ok (y, ls)) (λ p. next p.1))
+    [ true ↦ refl | false ↦ refl ]
+
+fixed-reader : {Y : Type 0} (n : ℕ) (x : List ℕ) (next : List (List ℕ) → Result Y ℕ) → IsReader (n + 1) next → IsReader n (λ ls. fixed_at n x ls >>= next)
+fixed-reader n x next r =
+    alike-reader n _ _ (fixed-form n x next) (form-reader n (checked (λ l. bytes_eq l x)) x x (λ _. next)
+    (ap (λ b. if b then Some x else None) (bytes-refl x)) (λ _ _ _. r))
+
 -- ---- a reader whose answer is made into another
 
 map-err : {Y Z : Type 0} (r : Result Y ℕ) (h : Y → Z) (m : ℕ) → (r >>= λ y. Ok (h y)) ≡ Err m → r ≡ Err m
@@ -182,9 +166,9 @@ mapped-reader n reader h r =
       refuses = λ ls m e. mapped n reader h ls m (r.refuses ls m (map-err (reader ls) h m e));
     }
 
--- ---- the lines behind the layout
+-- ---- the lines after the layout
 
-said-fault : (n : ℕ) (o : Option (List ℕ)) (m : ℕ) → said_behind n o ≡ Err m → n ≡ m
+said-fault : (n : ℕ) (o : Option (List ℕ)) (m : ℕ) → said_after n o ≡ Err m → n ≡ m
 said-fault n None m e = absurd cc
 said-fault n (Some x) m e = number-fault (option_and_then decimal_value (before line_feed x)) e
   where
@@ -194,7 +178,7 @@ said-fault n (Some x) m e = number-fault (option_and_then decimal_value (before 
 
 said-number : (n : ℕ) (line : List ℕ) (m : ℕ) → said n line ≡ Err m → n ≡ m
 unfolding said
-said-number n line m e = said-fault n (behind generation_mark line) m e
+said-number n line m e = said-fault n (following generation_mark line) m e
 
 generation-line : (n : ℕ) (l : List ℕ) (ls : List (List ℕ)) (r : Result (Option ℕ) ℕ) → said n l ≡ r
     → generation_from n (l ∷ ls) ≡ (r >>= λ own. generation_from (n + 1) ls >>= λ g. Ok (option_or g own))
@@ -235,16 +219,16 @@ unfolding deps_in
 deps-none = refl
 
 -- the reader of what follows the dependency lines
-abbrev behind-deps : {Y : Type 0} → (List Dep → List (List ℕ) → Result Y ℕ) → List (List ℕ) → Result Y ℕ
-behind-deps next ls = next (deps_in ls) (drop (length (deps_in ls)) ls)
+abbrev after-deps : {Y : Type 0} → (List Dep → List (List ℕ) → Result Y ℕ) → List (List ℕ) → Result Y ℕ
+after-deps next ls = next (deps_in ls) (drop (length (deps_in ls)) ls)
 
 -- no dependency line stands in front
-stopped : {Y : Type 0} (next : List Dep → List (List ℕ) → Result Y ℕ) (ls : List (List ℕ)) → deps_in ls ≡ [] → behind-deps next ls ≡ next [] ls
+stopped : {Y : Type 0} (next : List Dep → List (List ℕ) → Result Y ℕ) (ls : List (List ℕ)) → deps_in ls ≡ [] → after-deps next ls ≡ next [] ls
 stopped next ls none = ap (λ ds. next ds (drop (length ds) ls)) none
 
 refuses-stopped : {Y : Type 0} (n : ℕ) (next : List Dep → List (List ℕ) → Result Y ℕ) → ((ls : List (List ℕ)) (y : Y) → next [] ls ≡ Ok y → deps_in ls ≡ [])
     → (ls : List (List ℕ)) (m : ℕ) → ((xs : List (List ℕ)) → 0 < length ls → deps_in (take 1 ls ++ xs) ≡ []) → Refuses (n + 0) (next []) ls m
-    → Refuses n (behind-deps next) ls m
+    → Refuses n (after-deps next) ls m
 refuses-stopped n next stops ls m front r =
     record {
       place = r.place;
@@ -265,8 +249,8 @@ reader-at : {Y : Type 0} (n k : ℕ) (reader : List (List ℕ) → Result Y ℕ)
 reader-at n k reader same r = let P : ℕ → Type 0 = λ j. IsReader j reader in subst P same r
 
 deps-refuses : {Y : Type 0} (ls : List (List ℕ)) (n : ℕ) (next : List Dep → List (List ℕ) → Result Y ℕ) → ((ds : List Dep) → IsReader (n + length ds) (next ds))
-    → ((ds : List Dep) (xs : List (List ℕ)) (y : Y) → next ds xs ≡ Ok y → deps_in xs ≡ []) → (m : ℕ) → behind-deps next ls ≡ Err m
-    → Refuses n (behind-deps next) ls m
+    → ((ds : List Dep) (xs : List (List ℕ)) (y : Y) → next ds xs ≡ Ok y → deps_in xs ≡ []) → (m : ℕ) → after-deps next ls ≡ Err m
+    → Refuses n (after-deps next) ls m
 deps-refuses [] n next readers stops m e =
     let none = readers [] in
     refuses-stopped n next (stops []) [] m (λ xs lt. absurd (omega arith)) (none.refuses [] m (sym (stopped next [] deps-none) ∙ e))
@@ -276,19 +260,19 @@ deps-refuses {Y = Y} (l ∷ ls) n next readers stops m e =
     (readers (d ∷ ds))) (λ ds. stops (d ∷ ds)) m f)
   where
     tested : (o : Option Dep) → dep_in (content l) ≡ o
-        → ((d : Dep) → behind-deps (λ ds. next (d ∷ ds)) ls ≡ Err m → Refuses (n + 1) (behind-deps (λ ds. next (d ∷ ds))) ls m)
-        → Refuses n (behind-deps next) (l ∷ ls) m
+        → ((d : Dep) → after-deps (λ ds. next (d ∷ ds)) ls ≡ Err m → Refuses (n + 1) (after-deps (λ ds. next (d ∷ ds))) ls m)
+        → Refuses n (after-deps next) (l ∷ ls) m
     tested None is rest =
         let none = readers [] in
         refuses-stopped n next (stops []) (l ∷ ls) m (λ xs lt. deps-line l xs None is)
         (none.refuses (l ∷ ls) m (sym (stopped next (l ∷ ls) (deps-line l ls None is)) ∙ e))
     tested (Some d) is rest =
-        let step : (xs : List (List ℕ)) → behind-deps next (l ∷ xs) ≡ behind-deps (λ ds. next (d ∷ ds)) xs =
+        let step : (xs : List (List ℕ)) → after-deps next (l ∷ xs) ≡ after-deps (λ ds. next (d ∷ ds)) xs =
         λ xs. ap (λ ds. next ds (drop (length ds) (l ∷ xs))) (deps-line l xs (Some d) is) in
-        later n (behind-deps next) (behind-deps (λ ds. next (d ∷ ds))) l ls m step (rest d (sym (step ls) ∙ e))
+        later n (after-deps next) (after-deps (λ ds. next (d ∷ ds))) l ls m step (rest d (sym (step ls) ∙ e))
 
 deps-reader : {Y : Type 0} (n : ℕ) (next : List Dep → List (List ℕ) → Result Y ℕ) → ((ds : List Dep) → IsReader (n + length ds) (next ds))
-    → ((ds : List Dep) (xs : List (List ℕ)) (y : Y) → next ds xs ≡ Ok y → deps_in xs ≡ []) → IsReader n (behind-deps next)
+    → ((ds : List Dep) (xs : List (List ℕ)) (y : Y) → next ds xs ≡ Ok y → deps_in xs ≡ []) → IsReader n (after-deps next)
 deps-reader n next readers stops =
     let r = readers [] in
     record {
@@ -309,7 +293,7 @@ end-reader n t =
     (reader-at (n + 3) (n + 2 + 1) _ (omega arith) (fixed-reader (n + 3) (deps_end t) (generation_from (n + 4))
     (reader-at (n + 4) (n + 3 + 1) (generation_from (n + 4)) (omega arith) (generation-reader (n + 4))))))))
 
--- what is read behind the dependency lines begins with an empty line
+-- what is read after the dependency lines begins with an empty line
 end-stops : (n : ℕ) (t : List ℕ) (ls : List (List ℕ)) (g : Option ℕ) → end_from n t ls ≡ Ok g → deps_in ls ≡ []
 unfolding end_from
 end-stops n t ls g e =
@@ -320,7 +304,7 @@ end-stops n t ls g e =
 abbrev recorded : List ℕ → List ℕ → List ℕ → List Dep → List (List ℕ) → Result CommandRecord ℕ
 recorded t c s ds ls = end_from (6 + length ds) t ls >>= λ g. Ok (record { target = t; command = c; source = s; deps = ds; generation = g })
 
-tail-reader : (t c s : List ℕ) → IsReader 6 (behind-deps (recorded t c s))
+tail-reader : (t c s : List ℕ) → IsReader 6 (after-deps (recorded t c s))
 tail-reader t c s =
     deps-reader 6 (recorded t c s)
     (λ ds. mapped-reader (6 + length ds) (end_from (6 + length ds) t) (λ g. record { target = t; command = c; source = s; deps = ds; generation = g })

@@ -1,22 +1,7 @@
 -- Lines that fit the layout are read, and lines that are read fit it.
-use Rattle.std.proofs.Common.{◌≡◌, ℕ, ◌+◌, Bool, true, false, List, [], ◌∷◌, ◌++◌, length, take, drop, refl, sym, ap, ◌∙◌, Option, Some, None, Result, Ok, Err, map, append_assoc, subst, ◌<◌, ◌^◌}
-use Rattle.std.specs.Prelude.{◌&&◌, ◌||◌, not, codes, is_some, option_and_then, if◌then◌else◌, IfSome, nat_lt}
-use Rattle.std.specs.Option.{option_or}
-use Rattle.std.specs.List.{list_all, filter_map, cons_option}
-use Rattle.std.specs.Str.{bytes_eq}
-use Rattle.std.proofs.lemmas.List.{take-append-drop, map-append}
-use Rattle.std.proofs.lemmas.Bool.{cond-true, ltb-true}
-use Rattle.memchr.specs.Find.{last_of}
-use Rattle.ks_symbols.specs.Names.{is_path, is_target}
-use Rattle.ks_symbols.specs.Decimal.{decimal_value, is_canonical}
-use Rattle.std.specs.Str.Parse.{digits_value}
-use Rattle.ks_fixdep.specs.declared.command_file.Dep.{Dep}
-use Rattle.ks_fixdep.specs.CommandLines.{line_feed, content, behind, before, between}
-use Rattle.ks_fixdep.specs.CommandFile.{CommandRecord, back_lines, is_command, is_dep, IsLegal, dep_line, deps_begin, target_line, deps_end, layout, generation_mark}
-use Rattle.ks_fixdep.specs.CommandReads.{generation_in, is_sound, LinesRead}
-use Rattle.ks_fixdep.specs.CommandForms.{dep_in, saved_command, source_in}
-use Rattle.ks_fixdep.specs.CommandReading.{◌>>=◌, or_fault, fixed_at, form_at, deps_in, onto_deps, said, said_behind, generation_from, end_from, record_in}
-use Rattle.ks_fixdep.proofs.CommandFormLemmas.{and-parts, bytes-refl, bytes-same, saved_command-line, source_in-line, dep-line, dep_in-none, saved_command-is, source_in-is, dep_in-is}
+use Rattle.ks_fixdep.proofs.Prelude.{◌≡◌, ℕ, ◌+◌, Bool, true, false, List, [], ◌∷◌, ◌++◌, length, take, drop, refl, sym, ap, ◌∙◌, Option, Some, None, Result, Ok, Err, map, append_assoc, subst, ◌<◌, ◌^◌, ◌&&◌, ◌||◌, not, codes, is_some, option_and_then, if◌then◌else◌, IfSome, nat_lt, option_or, list_all, filter_map, cons_option, bytes_eq, map-append, cond-true, ltb-true, and_parts, last_of, is_path, is_target, decimal_value, is_canonical, digits_value, Dep, line_feed, content, following, before, between, CommandRecord, back_lines, is_command, is_dep, IsLegal, dep_line, deps_begin, target_line, deps_end, layout, generation_mark, generation_in, is_sound, LinesRead, dep_in, saved_command, source_in, ◌>>=◌, or_fault, fixed_at, form_at, deps_in, onto_deps, said, said_after, generation_from, end_from, record_in}
+use Rattle.std.proofs.lemmas.List.{take-append-drop}
+use Rattle.ks_fixdep.proofs.CommandFormLemmas.{bytes-refl, bytes-same, saved_command-line, source_in-line, dep-line, dep_in-none, saved_command-is, source_in-is, dep_in-is}
 
 -- ---- one line
 
@@ -52,19 +37,19 @@ deps-fit (d ∷ ds) [] xs more e legal = absurd cc
 deps-fit (d ∷ ds) (l ∷ ls) xs more e legal =
     let first : content l ≡ dep_line d = cc in
     let rest : map content ls ≡ map dep_line ds ++ [] ∷ xs = cc in
-    let parts = and-parts (is_dep d) (list_all is_dep ds) legal in
+    let parts = and_parts (is_dep d) (list_all is_dep ds) legal in
     ap (λ o. onto_deps o (deps_in (ls ++ more))) (ap dep_in first ∙ dep-line d parts.0) ∙ ap (λ l. d ∷ l) (deps-fit ds ls xs more rest parts.1)
 
-behind-deps : (ds : List Dep) (ls xs more : List (List ℕ)) → map content ls ≡ map dep_line ds ++ xs → drop (length ds) (ls ++ more) ≡ drop (length ds) ls
+after-deps : (ds : List Dep) (ls xs more : List (List ℕ)) → map content ls ≡ map dep_line ds ++ xs → drop (length ds) (ls ++ more) ≡ drop (length ds) ls
     ++ more
-behind-deps [] ls xs more e = refl
-behind-deps (d ∷ ds) [] xs more e = absurd cc
-behind-deps (d ∷ ds) (l ∷ ls) xs more e = let rest : map content ls ≡ map dep_line ds ++ xs = cc in behind-deps ds ls xs more rest
+after-deps [] ls xs more e = refl
+after-deps (d ∷ ds) [] xs more e = absurd cc
+after-deps (d ∷ ds) (l ∷ ls) xs more e = let rest : map content ls ≡ map dep_line ds ++ xs = cc in after-deps ds ls xs more rest
 
-behind-deps-fits : (ds : List Dep) (ls xs : List (List ℕ)) → map content ls ≡ map dep_line ds ++ xs → map content (drop (length ds) ls) ≡ xs
-behind-deps-fits [] ls xs e = e
-behind-deps-fits (d ∷ ds) [] xs e = absurd cc
-behind-deps-fits (d ∷ ds) (l ∷ ls) xs e = let rest : map content ls ≡ map dep_line ds ++ xs = cc in behind-deps-fits ds ls xs rest
+after-deps-fits : (ds : List Dep) (ls xs : List (List ℕ)) → map content ls ≡ map dep_line ds ++ xs → map content (drop (length ds) ls) ≡ xs
+after-deps-fits [] ls xs e = e
+after-deps-fits (d ∷ ds) [] xs e = absurd cc
+after-deps-fits (d ∷ ds) (l ∷ ls) xs e = let rest : map content ls ≡ map dep_line ds ++ xs = cc in after-deps-fits ds ls xs rest
 
 -- ---- the generation
 
@@ -72,14 +57,14 @@ some-said : (n : ℕ) (o : Option ℕ) → is_some o ≡ true → (or_fault n o 
 some-said n None e = absurd cc
 some-said n (Some g) e = refl
 
-behind-said : (n : ℕ) (o : Option (List ℕ)) → (not (is_some o) || is_some (option_and_then decimal_value (option_and_then (before line_feed) o))) ≡ true
-    → said_behind n o ≡ Ok (option_and_then decimal_value (option_and_then (before line_feed) o))
-behind-said n None e = refl
-behind-said n (Some x) e = some-said n (option_and_then decimal_value (before line_feed x)) e
+after-said : (n : ℕ) (o : Option (List ℕ)) → (not (is_some o) || is_some (option_and_then decimal_value (option_and_then (before line_feed) o))) ≡ true
+    → said_after n o ≡ Ok (option_and_then decimal_value (option_and_then (before line_feed) o))
+after-said n None e = refl
+after-said n (Some x) e = some-said n (option_and_then decimal_value (before line_feed x)) e
 
 said-sound : (n : ℕ) (line : List ℕ) → is_sound line ≡ true → said n line ≡ Ok (generation_in line)
 unfolding said
-said-sound n line sound = behind-said n (behind generation_mark line) sound
+said-sound n line sound = after-said n (following generation_mark line) sound
 
 last-cons : (o : Option ℕ) (xs : List ℕ) → option_or (last_of xs) o ≡ last_of (cons_option o xs)
 unfolding last_of
@@ -100,7 +85,7 @@ pub generation-sound : (n : ℕ) (ls : List (List ℕ)) → list_all is_sound ls
 unfolding generation_from last_of
 generation-sound n [] sound = refl
 generation-sound n (l ∷ ls) sound =
-    let parts = and-parts (is_sound l) (list_all is_sound ls) sound in
+    let parts = and_parts (is_sound l) (list_all is_sound ls) sound in
     ap (λ r. r >>= λ own. generation_from (n + 1) ls >>= λ later. Ok (option_or later own)) (said-sound n l parts.0)
     ∙ ap (λ r. r >>= λ later. Ok (option_or later (generation_in l))) (generation-sound (n + 1) ls parts.1)
     ∙ ap (λ g. Ok g) (last-cons (generation_in l) (filter_map generation_in ls))
@@ -155,8 +140,8 @@ record-fits f ls more legal e generation =
       fixed-fits 4 [] l3 (deps_begin t ∷ deps) more e3,
       fixed-fits 5 (deps_begin t) l4 deps more e4,
       deps-fit f.deps l5 (target_line t ∷ [] ∷ deps_end t ∷ []) more e5 legal.deps,
-      behind-deps f.deps l5 end more e5,
-      end-fits (6 + length f.deps) t (drop (length f.deps) l5) more (behind-deps-fits f.deps l5 end e5),
+      after-deps f.deps l5 end more e5,
+      end-fits (6 + length f.deps) t (drop (length f.deps) l5) more (after-deps-fits f.deps l5 end e5),
       generation,
     ) refl
 
@@ -238,16 +223,16 @@ deps-begin (l ∷ ls) = one-more l ls (dep_in (content l)) (deps_in ls) refl (de
 
 said-is : (n : ℕ) (line : List ℕ) (o : Option ℕ) → said n line ≡ Ok o → is_sound line ≡ true
 unfolding said
-said-is n line o e = behind-is-sound (behind generation_mark line) e
+said-is n line o e = after-is-sound (following generation_mark line) e
   where
     number-is : (x : Option ℕ) → (or_fault n x >>= λ g. Ok (Some g)) ≡ Ok o → is_some x ≡ true
     number-is None e = absurd cc
     number-is (Some g) e = refl
 
-    behind-is-sound : (x : Option (List ℕ)) → said_behind n x ≡ Ok o
+    after-is-sound : (x : Option (List ℕ)) → said_after n x ≡ Ok o
         → (not (is_some x) || is_some (option_and_then decimal_value (option_and_then (before line_feed) x))) ≡ true
-    behind-is-sound None e = refl
-    behind-is-sound (Some x) e = number-is (option_and_then decimal_value (before line_feed x)) e
+    after-is-sound None e = refl
+    after-is-sound (Some x) e = number-is (option_and_then decimal_value (before line_feed x)) e
 
 generation-is : (n : ℕ) (ls : List (List ℕ)) (g : Option ℕ) → generation_from n ls ≡ Ok g → list_all is_sound ls ≡ true
 unfolding generation_from
@@ -283,7 +268,7 @@ front-deps ds xs rest ls d f =
       fits = map-append content (take n ls) f.laid ∙ ap (λ l. l ++ map content f.laid) d.fits ∙ ap (λ l. map dep_line ds ++ l) f.fits;
     }
 
--- the lines behind the dependency lines
+-- the lines after the dependency lines
 record Ends (n : ℕ) (t : List ℕ) (ls : List (List ℕ)) (g : Option ℕ) : Type 0 where
   appended : List (List ℕ)
   front : Front (back_lines t) appended ls
@@ -374,14 +359,14 @@ lines-fit f ls e =
           = subst P (sym end.generation) (last-below end.appended);
     } in
     let named = codes "source_" ++ t ++ codes " := " ++ s3.value.0 in
-    let behind = map dep_line ds ++ back_lines t in
+    let following = map dep_line ds ++ back_lines t in
     let more = end.appended in
     let front : Front (layout r) more ls =
-    front-one (codes "savedcmd_" ++ t ++ codes " := " ++ c) ([] ∷ named ∷ [] ∷ deps_begin t ∷ behind) more s1.value.1 ls saved.2
-    (front-one [] (named ∷ [] ∷ deps_begin t ∷ behind) more s2.value s1.value.1 (fixed-begins 2 [] s1.value.1 s2.value s2.first)
-    (front-one named ([] ∷ deps_begin t ∷ behind) more s3.value.1 s2.value source.1
-    (front-one [] (deps_begin t ∷ behind) more s4.value s3.value.1 (fixed-begins 4 [] s3.value.1 s4.value s4.first)
-    (front-one (deps_begin t) behind more ls' s4.value (fixed-begins 5 (deps_begin t) s4.value ls' s5.first)
+    front-one (codes "savedcmd_" ++ t ++ codes " := " ++ c) ([] ∷ named ∷ [] ∷ deps_begin t ∷ following) more s1.value.1 ls saved.2
+    (front-one [] (named ∷ [] ∷ deps_begin t ∷ following) more s2.value s1.value.1 (fixed-begins 2 [] s1.value.1 s2.value s2.first)
+    (front-one named ([] ∷ deps_begin t ∷ following) more s3.value.1 s2.value source.1
+    (front-one [] (deps_begin t ∷ following) more s4.value s3.value.1 (fixed-begins 4 [] s3.value.1 s4.value s4.first)
+    (front-one (deps_begin t) following more ls' s4.value (fixed-begins 5 (deps_begin t) s4.value ls' s5.first)
     (front-deps ds (back_lines t) more ls' deps end.front))))) in
     let reads : LinesRead ls r = record {
       laid_out = front.laid;

@@ -1,24 +1,6 @@
 -- A line of the layout says what it was made of, and no other line does.
-use Rattle.std.proofs.Common.{◌≡◌, ℕ, zero, suc, ◌+◌, ◌-◌, ◌<◌, ◌≤◌, Bool, true, false, List, [], ◌∷◌, ◌++◌, length, take, drop, refl, sym, ap, ◌∙◌, arith, ⊎_elim, Option, Some, None, subst, length-append, append_assoc, inl, inr}
-use Rattle.std.proofs.Math.Seq.{take-append_seam, drop-append_seam, drop-append-add}
-use Rattle.std.proofs.lemmas.List.{take-append-drop, drop-drop}
-use Rattle.std.proofs.lemmas.Slice.Eq.{bytes_eq-Decides}
-use Rattle.ks_fixdep.specs.declared.command_file.Dep.{Dep}
-use Rattle.ks_fixdep.specs.declared.command_file.Dep.TheVariants.{File, Config}
-use Rattle.ks_fixdep.specs.CommandFile.{is_dep, dep_line}
-use Rattle.std.proofs.lemmas.Bool.{cond-true, cond-false, cases_Bool, eqb-true, eq-eqb, le-leb, cases_lt}
-use Rattle.std.specs.Prelude.{◌==◌, ◌&&◌, not, nat_eq, nat_le, codes, slice_index, option_and_then, if◌then◌else◌}
-use Rattle.std.specs.List.{list_all}
-use Rattle.std.specs.Str.{bytes_eq}
-use Rattle.memchr.specs.Find.{first_of, matches, matches_from, match_len, occurs_at}
-use Rattle.ks_symbols.specs.Names.{is_name, is_path, is_target, is_path_byte}
-use Rattle.ks_fixdep.specs.CommandLines.{behind, before, between}
-use Rattle.ks_fixdep.specs.CommandFile.{is_command}
-use Rattle.ks_fixdep.specs.CommandForms.{checked, split_once, cut, saved_command, source_in, path_in, name_in, dep_in, either_dep}
-
-pub and-parts : (a b : Bool) → (a && b) ≡ true → (a ≡ true) × (b ≡ true)
-and-parts true b e = (refl, e)
-and-parts false b e = absurd cc
+use Rattle.ks_fixdep.proofs.Prelude.{same_Some, ◌≡◌, ℕ, zero, suc, ◌+◌, ◌-◌, ◌<◌, ◌≤◌, Bool, true, false, List, [], ◌∷◌, ◌++◌, length, take, drop, refl, sym, ap, ◌∙◌, arith, ⊎_elim, Option, Some, None, subst, length-append, append_assoc, inl, inr, take-append_seam, drop-append_seam, drop-append-add, drop-drop, bytes_eq-Decides, Dep, File, Config, is_dep, dep_line, cond-true, cond-false, cases_Bool, eqb-true, eq-eqb, le-leb, cases_lt, and_parts, and_right, ◌==◌, ◌&&◌, not, nat_eq, nat_le, codes, slice_index, option_and_then, if◌then◌else◌, list_all, bytes_eq, first_of, matches, matches_from, match_len, occurs_at, is_name, is_path, is_target, is_path_byte, following, before, between, is_command, checked, split_once, cut, saved_command, source_in, path_in, name_in, dep_in, either_dep}
+use Rattle.std.proofs.lemmas.List.{take-append-drop}
 
 -- a byte that passes is none that fails
 pub other-byte : (p : ℕ → Bool) (d b : ℕ) → p d ≡ false → p b ≡ true → (b == d) ≡ false
@@ -27,25 +9,25 @@ other-byte p d b fails passes = ⊎_elim (λ same. let e = sym fails ∙ ap p (s
 pub all-imp : (p q : ℕ → Bool) → ((b : ℕ) → p b ≡ true → q b ≡ true) → (xs : List ℕ) → list_all p xs ≡ true → list_all q xs ≡ true
 all-imp p q imp [] e = refl
 all-imp p q imp (b ∷ xs) e =
-    let parts = and-parts (p b) (list_all p xs) e in
+    let parts = and_parts (p b) (list_all p xs) e in
     ap (λ v. v && list_all q xs) (imp b parts.0) ∙ all-imp p q imp xs parts.1
 
 pub path-bytes : (p : List ℕ) → is_path p ≡ true → list_all is_path_byte p ≡ true
 unfolding is_path
 path-bytes p e =
     let size = not (length p == 0) && nat_le (length p) 1024 in
-    (and-parts size (list_all is_path_byte p) (and-parts (size && list_all is_path_byte p) (not (slice_index p (length p - 1) == 58)) e).0).1
+    (and_parts size (list_all is_path_byte p) (and_parts (size && list_all is_path_byte p) (not (slice_index p (length p - 1) == 58)) e).0).1
 
 pub target-path : (p : List ℕ) → is_target p ≡ true → is_path p ≡ true
 unfolding is_target
-target-path p e = (and-parts (is_path p) (not (slice_index p (length p - 1) == 47)) e).0
+target-path p e = (and_parts (is_path p) (not (slice_index p (length p - 1) == 47)) e).0
 
 pub bytes-refl : (xs : List ℕ) → bytes_eq xs xs ≡ true
 bytes-refl [] = refl
 bytes-refl (b ∷ xs) = ap (λ v. v && bytes_eq xs xs) (eq-eqb b b refl) ∙ bytes-refl xs
 
-pub behind-front : (front x : List ℕ) → behind front (front ++ x) ≡ Some x
-behind-front front x = cond-true _ _ _ (ap (λ t. bytes_eq t front) (take-append_seam front x) ∙ bytes-refl front) ∙ ap (λ r. Some r) (drop-append_seam front x)
+pub after-front : (front x : List ℕ) → following front (front ++ x) ≡ Some x
+after-front front x = cond-true _ _ _ (ap (λ t. bytes_eq t front) (take-append_seam front x) ∙ bytes-refl front) ∙ ap (λ r. Some r) (drop-append_seam front x)
 
 pub before-end : (x end : List ℕ) → before end (x ++ end) ≡ Some x
 before-end x end =
@@ -54,7 +36,7 @@ before-end x end =
     ∙ ap (λ k. Some (take k (x ++ end))) n ∙ ap (λ r. Some r) (take-append_seam x end)
 
 pub between-both : (front x end : List ℕ) → between front end (front ++ (x ++ end)) ≡ Some x
-between-both front x end = ap (option_and_then (before end)) (behind-front front (x ++ end)) ∙ before-end x end
+between-both front x end = ap (option_and_then (before end)) (after-front front (x ++ end)) ∙ before-end x end
 
 pub path_in-line : (p : List ℕ) → is_path p ≡ true → path_in (codes "  " ++ p ++ codes " \\") ≡ Some p
 unfolding path_in
@@ -67,25 +49,25 @@ name_in-line x legal = ap (option_and_then (checked is_name)) (between-both (cod
 third-differs : (b : ℕ) (rest : List ℕ) → nat_eq b 32 ≡ false → bytes_eq (32 ∷ 32 ∷ b ∷ rest) (codes "    $(wildcard include/config/") ≡ false
 third-differs b rest e = ap (λ v. v && bytes_eq rest (drop 3 (codes "    $(wildcard include/config/"))) e
 
-behind-path : (b : ℕ) (p : List ℕ) → nat_eq b 32 ≡ false → behind (codes "    $(wildcard include/config/") (32 ∷ 32 ∷ b ∷ p) ≡ None
-behind-path b p e = cond-false _ _ _ (third-differs b (take 27 p) e)
+after-path : (b : ℕ) (p : List ℕ) → nat_eq b 32 ≡ false → following (codes "    $(wildcard include/config/") (32 ∷ 32 ∷ b ∷ p) ≡ None
+after-path b p e = cond-false _ _ _ (third-differs b (take 27 p) e)
 
 pub name_in-path : (p : List ℕ) → is_path p ≡ true → name_in (codes "  " ++ p ++ codes " \\") ≡ None
 unfolding name_in is_path
 name_in-path [] legal = absurd cc
 name_in-path (b ∷ p) legal =
-    let bytes = and-parts (is_path_byte b) (list_all is_path_byte p) (path-bytes (b ∷ p) legal) in
+    let bytes = and_parts (is_path_byte b) (list_all is_path_byte p) (path-bytes (b ∷ p) legal) in
     ap (λ o. option_and_then (checked is_name) (option_and_then (before (codes ") \\")) o))
-    (behind-path b (p ++ codes " \\") (other-byte is_path_byte 32 b refl bytes.0))
+    (after-path b (p ++ codes " \\") (other-byte is_path_byte 32 b refl bytes.0))
 
 pub source_in-line : (t s : List ℕ) → is_path s ≡ true → source_in t (codes "source_" ++ t ++ codes " := " ++ s) ≡ Some s
 unfolding source_in
 source_in-line t s legal =
     ap (λ l. source_in t (codes "source_" ++ l)) (append_assoc t (codes " := ") s) ∙
-    ap (λ o. option_and_then (checked is_path) (option_and_then (behind (codes " := ")) (option_and_then (behind t) o)))
-    (behind-front (codes "source_") (t ++ (codes " := " ++ s)))
-    ∙ ap (λ o. option_and_then (checked is_path) (option_and_then (behind (codes " := ")) o)) (behind-front t (codes " := " ++ s))
-    ∙ ap (option_and_then (checked is_path)) (behind-front (codes " := ") s)
+    ap (λ o. option_and_then (checked is_path) (option_and_then (following (codes " := ")) (option_and_then (following t) o)))
+    (after-front (codes "source_") (t ++ (codes " := " ++ s)))
+    ∙ ap (λ o. option_and_then (checked is_path) (option_and_then (following (codes " := ")) o)) (after-front t (codes " := " ++ s))
+    ∙ ap (option_and_then (checked is_path)) (after-front (codes " := ") s)
     ∙ cond-true _ _ _ legal
 
 -- the first match is the first place where the needle occurs
@@ -107,14 +89,10 @@ first-match hay needle (suc n) i k low high none here =
 no-separator : (t more : List ℕ) (j : ℕ) → list_all is_path_byte t ≡ true → j < length t → bytes_eq (take 4 (drop j (t ++ more))) (codes " := ") ≡ false
 no-separator [] more j legal lt = absurd (omega arith)
 no-separator (b ∷ t) more zero legal lt =
-    let bytes = and-parts (is_path_byte b) (list_all is_path_byte t) legal in
+    let bytes = and_parts (is_path_byte b) (list_all is_path_byte t) legal in
     ap (λ v. v && bytes_eq (take 3 (t ++ more)) (drop 1 (codes " := "))) (other-byte is_path_byte 32 b refl bytes.0)
 no-separator (b ∷ t) more (suc j) legal lt =
-    no-separator t more j (and-parts (is_path_byte b) (list_all is_path_byte t) legal).1 (omega arith)
-
-and-false : (a b : Bool) → b ≡ false → (a && b) ≡ false
-and-false true b e = e
-and-false false b e = refl
+    no-separator t more j (and_parts (is_path_byte b) (list_all is_path_byte t) legal).1 (omega arith)
 
 split-target : (t c : List ℕ) → list_all is_path_byte t ≡ true → split_once (codes " := ") (t ++ (codes " := " ++ c)) ≡ Some (t, c)
 split-target t c legal =
@@ -126,18 +104,18 @@ split-target t c legal =
     ∙ ap (λ d. bytes_eq (take 4 d) (codes " := ")) (drop-append_seam t (codes " := " ++ c)) in
     let found : first_of (matches hay (codes " := ") 0) ≡ Some (length t) =
     first-match hay (codes " := ") (length hay + 1 - 0) 0 (length t) (omega arith) (omega (arith, size))
-    (λ j l lt. and-false (nat_le (j + 4) (length hay)) _ (no-separator t (codes " := " ++ c) j legal lt)) here in
-    let behind-it : drop (length t + 4) hay ≡ c = drop-append-add t (codes " := " ++ c) 4 in
+    (λ j l lt. and_right (nat_le (j + 4) (length hay)) _ (no-separator t (codes " := " ++ c) j legal lt)) here in
+    let after-it : drop (length t + 4) hay ≡ c = drop-append-add t (codes " := " ++ c) 4 in
     ap (cut (codes " := ") hay) found
     ∙ ap (λ x. Some (x, drop (length t + 4) hay)) (take-append_seam t (codes " := " ++ c))
-    ∙ ap (λ y. Some (t, y)) behind-it
+    ∙ ap (λ y. Some (t, y)) after-it
 
 pub saved_command-line : (t c : List ℕ) → is_target t ≡ true → is_command c ≡ true → saved_command (codes "savedcmd_" ++ t ++ codes " := " ++ c) ≡ Some (t, c)
 unfolding saved_command
 saved_command-line t c target command =
     let test = λ (p : List ℕ × List ℕ). is_target p.0 && is_command p.1 in
     ap (λ l. saved_command (codes "savedcmd_" ++ l)) (append_assoc t (codes " := ") c) ∙
-    ap (λ o. option_and_then (checked test) (option_and_then (split_once (codes " := ")) o)) (behind-front (codes "savedcmd_") (t ++ (codes " := " ++ c)))
+    ap (λ o. option_and_then (checked test) (option_and_then (split_once (codes " := ")) o)) (after-front (codes "savedcmd_") (t ++ (codes " := " ++ c)))
     ∙ ap (option_and_then (checked test)) (split-target t c (path-bytes t (target-path t target)))
     ∙ cond-true _ _ _ (ap (λ v. v && is_command c) target ∙ command)
 
@@ -174,8 +152,8 @@ checked-parts test x y e =
     let parts = if-some (test x) x y e in
     (ap test (sym parts.1) ∙ parts.0, parts.1)
 
-pub behind-is : (front xs x : List ℕ) → behind front xs ≡ Some x → xs ≡ front ++ x
-behind-is front xs x e =
+pub after-is : (front xs x : List ℕ) → following front xs ≡ Some x → xs ≡ front ++ x
+after-is front xs x e =
     let parts = if-some (bytes_eq (take (length front) xs) front) (drop (length front) xs) x e in
     sym (take-append-drop (length front) xs) ∙ ap (λ l. l ++ drop (length front) xs) (bytes-same (take (length front) xs) front parts.0) ∙ ap
     (λ l. front ++ l) parts.1
@@ -188,8 +166,8 @@ before-is end xs x e =
 
 pub between-is : (front end xs x : List ℕ) → between front end xs ≡ Some x → xs ≡ front ++ (x ++ end)
 between-is front end xs x e =
-    let s = and_then-steps (before end) (behind front xs) x e in
-    behind-is front xs s.value s.first ∙ ap (λ l. front ++ l) (before-is end s.value x s.next)
+    let s = and_then-steps (before end) (following front xs) x e in
+    after-is front xs s.value s.first ∙ ap (λ l. front ++ l) (before-is end s.value x s.next)
 
 first-occurs : (hay needle : List ℕ) (n i k : ℕ) → first_of (matches_from hay needle 0 i n) ≡ Some k → occurs_at hay needle k ≡ true
 unfolding first_of matches_from
@@ -202,18 +180,15 @@ first-occurs hay needle (suc n) i k e = either (occurs_at hay needle i) refl (λ
     either true here later found = let same : i ≡ k = cc in ap (occurs_at hay needle) (sym same) ∙ here
     either false here later found = later found
 
-some-same : {A : Type 0} (x y : A) → Some x ≡ Some y → x ≡ y
-some-same x y e = cc
-
 pub split-is : (sep xs a b : List ℕ) → split_once sep xs ≡ Some (a, b) → xs ≡ a ++ (sep ++ b)
 split-is sep xs a b e = at (first_of (matches xs sep 0)) refl e
   where
     at : (found : Option ℕ) → first_of (matches xs sep 0) ≡ found → cut sep xs found ≡ Some (a, b) → xs ≡ a ++ (sep ++ b)
     at None is e = absurd cc
     at (Some k) is e =
-        let here = and-parts (nat_le (k + length sep) (length xs)) (bytes_eq (take (length sep) (drop k xs)) sep)
+        let here = and_parts (nat_le (k + length sep) (length xs)) (bytes_eq (take (length sep) (drop k xs)) sep)
         (first-occurs xs sep (length xs + 1 - 0) 0 k is) in
-        let both = some-same (take k xs, drop (k + length sep) xs) (a, b) e in
+        let both = same_Some (take k xs, drop (k + length sep) xs) (a, b) e in
         let front = ap (λ p. p.0) both in
         let back = ap (λ p. p.1) both in
         sym (take-append-drop k xs)
@@ -231,29 +206,29 @@ pub saved_command-is : (line t c : List ℕ) → saved_command line ≡ Some (t,
 unfolding saved_command
 saved_command-is line t c e =
     let test = λ (p : List ℕ × List ℕ). is_target p.0 && is_command p.1 in
-    let legal = and_then-steps (checked test) (option_and_then (split_once (codes " := ")) (behind (codes "savedcmd_") line)) (t, c) e in
+    let legal = and_then-steps (checked test) (option_and_then (split_once (codes " := ")) (following (codes "savedcmd_") line)) (t, c) e in
     let checks = checked-parts test legal.value (t, c) legal.next in
-    let tests = and-parts (is_target t) (is_command c) checks.0 in
-    let split = and_then-steps (split_once (codes " := ")) (behind (codes "savedcmd_") line) (t, c) (legal.first ∙ ap (λ p. Some p) checks.1) in
+    let tests = and_parts (is_target t) (is_command c) checks.0 in
+    let split = and_then-steps (split_once (codes " := ")) (following (codes "savedcmd_") line) (t, c) (legal.first ∙ ap (λ p. Some p) checks.1) in
     record {
       target_legal = tests.0;
       command_legal = tests.1;
-      is = behind-is (codes "savedcmd_") line split.value split.first
+      is = after-is (codes "savedcmd_") line split.value split.first
           ∙ ap (λ l. codes "savedcmd_" ++ l) (split-is (codes " := ") split.value t c split.next ∙ sym (append_assoc t (codes " := ") c));
     }
 
 pub source_in-is : (t line s : List ℕ) → source_in t line ≡ Some s → (is_path s ≡ true) × (line ≡ codes "source_" ++ t ++ codes " := " ++ s)
 unfolding source_in
 source_in-is t line s e =
-    let named = option_and_then (behind t) (behind (codes "source_") line) in
-    let legal = and_then-steps (checked is_path) (option_and_then (behind (codes " := ")) named) s e in
+    let named = option_and_then (following t) (following (codes "source_") line) in
+    let legal = and_then-steps (checked is_path) (option_and_then (following (codes " := ")) named) s e in
     let checks = checked-parts is_path legal.value s legal.next in
-    let value = and_then-steps (behind (codes " := ")) named s (legal.first ∙ ap (λ p. Some p) checks.1) in
-    let name = and_then-steps (behind t) (behind (codes "source_") line) value.value value.first in (
+    let value = and_then-steps (following (codes " := ")) named s (legal.first ∙ ap (λ p. Some p) checks.1) in
+    let name = and_then-steps (following t) (following (codes "source_") line) value.value value.first in (
       checks.0,
-      behind-is (codes "source_") line name.value name.first
-          ∙ ap (λ l. codes "source_" ++ l) (behind-is t name.value value.value name.next ∙ ap (λ l. t ++ l)
-          (behind-is (codes " := ") value.value s value.next) ∙ sym (append_assoc t (codes " := ") s)),
+      after-is (codes "source_") line name.value name.first
+          ∙ ap (λ l. codes "source_" ++ l) (after-is t name.value value.value name.next ∙ ap (λ l. t ++ l)
+          (after-is (codes " := ") value.value s value.next) ∙ sym (append_assoc t (codes " := ") s)),
     )
 
 -- a value between a front and an end, which passes

@@ -1,10 +1,6 @@
 -- Lines of a text.
-use Rattle.std.proofs.Common.{◌≡◌, ℕ, zero, suc, ◌<◌, Bool, true, false, List, [], ◌∷◌, ◌++◌, length, take, drop, refl, sym, ap, ◌∙◌, arith, ⊎_elim}
-use Rattle.std.proofs.lemmas.Bool.{cond-true, cond-false, cases_Bool, eqb-true}
-use Rattle.std.specs.Str.{bytes_eq}
-use Rattle.std.specs.Prelude.{◌==◌, ◌&&◌, nat_eq, slice_index}
-use Rattle.std.specs.List.{onto_first}
-use Rattle.ks_fixdep.specs.CommandLines.{lines}
+use Rattle.ks_fixdep.proofs.Prelude.{◌≡◌, ℕ, zero, suc, ◌<◌, true, List, [], ◌∷◌, ◌++◌, length, take, drop, refl, sym, ap, ◌∙◌, arith, ⊎_elim, cond-true, cond-false, cases_Bool, eqb-true, bytes_eq, ◌==◌, ◌&&◌, nat_eq, slice_index, onto_first, lines}
+use Rattle.ks_symbols.proofs.Overlaps.{once}
 
 -- the first LF stands at place k
 pub lines-at : (xs : List ℕ) (k : ℕ) → k < length xs → ((j : ℕ) → j < k → (slice_index xs j == 10) ≡ true → ⊥) → (slice_index xs k == 10) ≡ true
@@ -34,13 +30,9 @@ unfolding lines
 lines-none [] e = refl
 lines-none (b ∷ t) e = absurd (omega arith)
 
-and-under : (a p q r : Bool) → p ≡ (q && r) → (a && p) ≡ ((a && q) && r)
-and-under true p q r e = e
-and-under false p q r e = refl
-
 -- equality, part by part
 pub front-eq : (part rest more : List ℕ) → bytes_eq rest (part ++ more) ≡ (bytes_eq (take (length part) rest) part && bytes_eq (drop (length part) rest) more)
 front-eq [] rest more = refl
 front-eq (b ∷ part) [] more = refl
-front-eq (b ∷ part) (d ∷ rest) more = and-under (nat_eq d b) (bytes_eq rest (part ++ more)) (bytes_eq (take (length part) rest) part)
+front-eq (b ∷ part) (d ∷ rest) more = once (nat_eq d b) (bytes_eq rest (part ++ more)) (bytes_eq (take (length part) rest) part)
     (bytes_eq (drop (length part) rest) more) (front-eq part rest more)

@@ -1,14 +1,6 @@
 -- One more line.
-use Rattle.std.proofs.Common.{◌≡◌, ℕ, zero, suc, ◌+◌, List, [], ◌∷◌, drop, refl, sym, ap, ◌∙◌, arith, Option, Some, None, Result, Ok, Err, subst}
-use Rattle.std.specs.Result.{IsErr, IsErrAnd}
-use Rattle.std.specs.Option.{option_or}
-use Rattle.ks_fixdep.specs.declared.command_file.Dep.{Dep}
-use Rattle.ks_fixdep.specs.declared.command_file.CommandError.{CommandError}
+use Rattle.ks_fixdep.proofs.Prelude.{◌≡◌, ℕ, zero, suc, ◌+◌, List, [], ◌∷◌, drop, refl, sym, ap, ◌∙◌, arith, Option, Some, None, Result, Ok, Err, subst, IsErr, IsErrAnd, option_or, Dep, CommandError, content, dep_in, Fails, Gives, ◌>>=◌, said, generation_from, deps_in, onto_deps}
 use Rattle.ks_fixdep.specs.declared.command_file.CommandError.TheVariants as errors
-use Rattle.ks_fixdep.specs.CommandLines.{content}
-use Rattle.ks_fixdep.specs.CommandForms.{dep_in}
-use Rattle.ks_fixdep.specs.CommandAnswers.{Fails, Gives}
-use Rattle.ks_fixdep.specs.CommandReading.{◌>>=◌, said, generation_from, deps_in, onto_deps}
 
 -- a fault goes through
 pub fails-through : {A B : Type 0} (e : CommandError) (r : Result A ℕ) (s : Result B ℕ) → ((m : ℕ) → r ≡ Err m → s ≡ Err m) → Fails e r → Fails e s
@@ -21,7 +13,7 @@ pub gives-err : {X Y : Type 0} (view : X → Y) (r : Result X CommandError) (e :
 gives-err view (Ok x) e read err same fails = absurd cc
 gives-err view (Err y) e read err same fails = subst (λ z. Fails z read) (sym same) fails
 
--- what is read behind what was found
+-- what is read after what was found
 abbrev pub with_found : Option ℕ → Result (Option ℕ) ℕ → Result (Option ℕ) ℕ
 with_found found read = read >>= λ later. Ok (option_or later found)
 
@@ -49,11 +41,6 @@ generation-fault n m line ls after found is said_is =
 pub generation-end : (n : ℕ) (found : Option ℕ) (ls : List (List ℕ)) → ls ≡ [] → with_found found (generation_from n ls) ≡ Ok found
 unfolding generation_from
 generation-end n found ls is = ap (λ l. with_found found (generation_from n l)) is
-
-pub found-none : (read : Result (Option ℕ) ℕ) → with_found None read ≡ read
-found-none (Err n) = refl
-found-none (Ok None) = refl
-found-none (Ok (Some g)) = refl
 
 -- ---- dependency lines
 

@@ -1,21 +1,5 @@
 -- The names of a record's dependency lines.
-use Rattle.std.proofs.Common.{◌≡◌, ℕ, true, false, List, [], ◌∷◌, ◌++◌, refl, ap, ap₂, sym, ◌∙◌, map, cond, append_assoc, append-nil, length}
-use Rattle.std.specs.Prelude.{not, ◌||◌, filter, flat_map}
-use Rattle.std.specs.List.{list_all, list_any}
-use Rattle.std.specs.Str.{bytes_eq}
-use Rattle.std.proofs.lemmas.Bool.{and_from, and_parts, cond-true, cond-false}
-use Rattle.std.proofs.lemmas.Grind.{flat_map-append, fold-append}
-use Rattle.std.proofs.lemmas.List.{append_cancel_left, map-append}
-use Rattle.std.proofs.lemmas.List.Folds.{list_all-append, list_any-append}
-use Rattle.std.proofs.lemmas.List.Elements.{filter-append}
-use Rattle.ks_symbols.specs.Names.{is_name, is_path}
-use Rattle.ks_fixdep.specs.CommandFile.{dep_line, ended, is_dep}
-use Rattle.ks_fixdep.specs.CommandWriting.{deps_text}
-use Rattle.ks_fixdep.specs.FoundNames.{all_noted, names_of, noted}
-use Rattle.ks_fixdep.specs.Record.{new_names, own_line, deps_after, config_names}
-use Rattle.ks_fixdep.specs.declared.command_file.Dep.{Dep}
-use Rattle.ks_fixdep.specs.declared.command_file.Dep.TheVariants.{Config}
-use Rattle.ks_fixdep.specs.declared.dependency_file.Role.{Role}
+use Rattle.ks_fixdep.proofs.Prelude.{◌≡◌, ℕ, true, false, List, [], ◌∷◌, ◌++◌, refl, ap, ap₂, sym, ◌∙◌, map, cond, append_assoc, append-nil, length, not, ◌||◌, filter, flat_map, list_all, list_any, bytes_eq, and_from, and_parts, cond-true, cond-false, flat_map-append, fold-append, append_cancel_left, map-append, list_all-append, list_any-append, filter-append, is_name, is_path, dep_line, ended, is_dep, deps_text, all_noted, names_of, noted, new_names, own_line, deps_after, config_names, Dep, Config, Role}
 use Rattle.ks_fixdep.specs.declared.dependency_file.Role.TheVariants as role
 use Rattle.ks_fixdep.proofs.OnceLemmas.{all_noted_again}
 
@@ -36,7 +20,7 @@ not_kept y seen (z ∷ zs) e = elim (bytes_eq y z) as (λ b. bytes_eq y z ≡ b 
           ]
     ] refl e
 
--- The names noted behind those seen are the ones that are new.
+-- The names noted after those seen are the ones that are new.
 abbrev IsNew : List (List ℕ) → List (List ℕ) → Type 0
 IsNew seen names = all_noted seen names ≡ seen ++ kept seen names
 
@@ -60,9 +44,9 @@ new_all : (seen zs ys : List (List ℕ)) → IsNew seen zs → IsNew seen (all_n
 new_all seen zs [] e = e
 new_all seen zs (y ∷ ys) e = new_all seen (noted zs y) ys (new_noted y seen zs e)
 
--- Names that are noted behind others add those that are new.
-pub new_behind : (seen names : List (List ℕ)) → all_noted seen names ≡ seen ++ new_names seen names
-new_behind seen names = sym (all_noted_again seen [] names) ∙ new_all seen [] names (sym (append-nil seen))
+-- Names that are noted after others add those that are new.
+pub new_after : (seen names : List (List ℕ)) → all_noted seen names ≡ seen ++ new_names seen names
+new_after seen names = sym (all_noted_again seen [] names) ∙ new_all seen [] names (sym (append-nil seen))
 
 of_own_line : (path : List ℕ) (r : Role) (deps : List Dep) → config_names (own_line (path, r) ++ deps) ≡ config_names deps
 of_own_line path role.Source deps = refl
@@ -74,28 +58,28 @@ of_configs [] deps = refl
 of_configs (x ∷ xs) deps = ap (λ l. x ∷ l) (of_configs xs deps)
 
 -- The dependency lines name what was found in all prerequisites, each once and in that order.
-names_behind : (seen : List (List ℕ)) (ps : List (List ℕ × Role)) (found : List (List (List ℕ))) → length ps ≡ length found
+names_following : (seen : List (List ℕ)) (ps : List (List ℕ × Role)) (found : List (List (List ℕ))) → length ps ≡ length found
     → seen ++ config_names (deps_after seen ps found) ≡ all_noted seen (flat_map (λ names. names) found)
-names_behind seen [] [] len = append-nil seen
-names_behind seen [] (t ∷ ts) len = absurd cc
-names_behind seen (p ∷ ps) [] len = absurd cc
-names_behind seen (p ∷ ps) (names ∷ found) len =
+names_following seen [] [] len = append-nil seen
+names_following seen [] (t ∷ ts) len = absurd cc
+names_following seen (p ∷ ps) [] len = absurd cc
+names_following seen (p ∷ ps) (names ∷ found) len =
     let rest = deps_after (all_noted seen names) ps found in
     let later : length ps ≡ length found = cc in
     ap (λ l. seen ++ l) (of_own_line p.0 p.1 (map Config (new_names seen names) ++ rest) ∙ of_configs (new_names seen names) rest)
     ∙ sym (append_assoc seen (new_names seen names) (config_names rest))
-    ∙ ap (λ l. l ++ config_names rest) (sym (new_behind seen names))
-    ∙ names_behind (all_noted seen names) ps found later
+    ∙ ap (λ l. l ++ config_names rest) (sym (new_after seen names))
+    ∙ names_following (all_noted seen names) ps found later
     ∙ sym (fold-append noted seen names (flat_map (λ l. l) found))
 
 pub record_names : (ps : List (List ℕ × Role)) (found : List (List (List ℕ))) → length ps ≡ length found → config_names (deps_after [] ps found) ≡ names_of found
-record_names ps found len = names_behind [] ps found len
+record_names ps found len = names_following [] ps found len
 
 -- ---- one prerequisite after the other
 
--- what was added behind others is what is new
+-- what was added after others is what is new
 pub new_is : (before new all names : List (List ℕ)) → all ≡ before ++ new → all ≡ all_noted before names → new ≡ new_names before names
-new_is before new all names added noted = append_cancel_left before new (new_names before names) (sym added ∙ noted ∙ new_behind before names)
+new_is before new all names added noted = append_cancel_left before new (new_names before names) (sym added ∙ noted ∙ new_after before names)
 
 -- what the whole is, with the lines of one more prerequisite
 pub whole_next : (whole deps : List Dep) (seen later : List (List ℕ)) (p : List ℕ × Role) (entries ps : List (List ℕ × Role)) (names : List (List ℕ))

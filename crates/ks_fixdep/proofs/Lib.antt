@@ -1,3 +1,4 @@
+pub mod Prelude
 pub mod RunLemmas
 pub mod ScanLemmas
 pub mod PlaceLemmas
@@ -17,3 +18,6 @@ pub mod CommandFitLemmas
 pub mod CommandTextLemmas
 pub mod CommandFaultLemmas
 pub mod CommandWriteLemmas
+pub mod SeedLemmas
+pub mod RuleLemmas
+pub mod WordLemmas

@@ -1,22 +1,9 @@
 -- Names noted in turn, and paths looked up.
-use Rattle.std.proofs.Common.{◌≡◌, ℕ, Bool, true, false, List, [], ◌∷◌, ◌++◌, refl, ap, sym, ◌∙◌, Some, None, cond, map, zero, suc, option_map}
-use Rattle.std.specs.Option.{is_some}
-use Rattle.std.specs.Str.{bytes_eq}
-use Rattle.std.specs.Map.{lookup}
-use Rattle.std.specs.Prelude.{Vec, vec_items}
-use Rattle.std.proofs.lemmas.List.{map-append}
-use Rattle.indexmap.specs.IndexSet.{insert_key}
-use Rattle.ks_fixdep.specs.DependencyFile.{paths_of}
-use Rattle.ks_fixdep.specs.declared.dependency_file.Role.{Role}
-use Rattle.std.proofs.lemmas.Grind.{fold-append}
-use Rattle.ks_fixdep.specs.FoundNames.{noted}
-use Rattle.ks_fixdep.specs.FoundNames.{all_noted}
-use Rattle.std.specs.Prelude.{◌||◌, Result, Ok, Err, OnOk, slice_get}
-use Rattle.std.specs.List.{list_all, list_any}
-use Rattle.std.proofs.lemmas.Option.{get_or_from_slice_get, slice_get_within}
-use Rattle.std.proofs.lemmas.List.Sums.{AllPass-from_list_all}
+use Rattle.ks_fixdep.proofs.Prelude.{◌≡◌, ℕ, Bool, true, false, List, [], ◌∷◌, ◌++◌, refl, ap, sym, ◌∙◌, Some, cond, map, zero, suc, option_map, bytes_eq, lookup, String, map-append, unwrap_or, if◌then◌else◌, insert_entry, insert_key, added, paths_of, Role, fold-append, noted, all_noted, ◌||◌, list_all, list_any, get_or_from_slice_get, slice_get_within, AllPass-from_list_all}
+use Rattle.std.specs.Prelude.{string_bytes}
+use Rattle.std.specs.Prelude.{slice_get}
 
--- names noted behind others in two parts, and in three
+-- names noted after others in two parts, and in three
 pub noted_in_two : (base a l whole n0 n1 : List (List ℕ)) → n0 ≡ all_noted base a → n1 ≡ all_noted n0 l → whole ≡ a ++ l → n1 ≡ all_noted base whole
 noted_in_two base a l whole n0 n1 e0 e1 e = e1 ∙ ap (λ n. all_noted n l) e0 ∙ sym (fold-append noted base a l) ∙ ap (all_noted base) (sym e)
 
@@ -25,44 +12,46 @@ pub noted_in_parts : (base a l m whole n0 n1 n2 : List (List ℕ)) → n0 ≡ al
 noted_in_parts base a l m whole n0 n1 n2 e0 e1 e2 e =
     e2 ∙ ap (λ n. all_noted n m) (noted_in_two base a l (a ++ l) n0 n1 e0 e1 refl) ∙ sym (fold-append noted base (a ++ l) m) ∙ ap (all_noted base) (sym e)
 
-pub on_ok : {T E P Q : Type 0} (r : Result T E) → (P → Q) → OnOk r P → OnOk r Q
-on_ok (Ok x) f p = f p
-on_ok (Err e) f p = tt
-
--- a path is looked up among the keys of a map
+-- a map that gets an entry, unless its path is there
 module _ {Y : Type 0} where
-  pub key-any : (x : List ℕ) (es : List (Vec ℕ Y × Role)) → is_some (lookup (λ k. bytes_eq x k.items) es) ≡ list_any (λ p. bytes_eq x p.0) (paths_of es)
-  key-any x [] = refl
-  key-any x (e ∷ es) = elim (bytes_eq x e.0.items) as (λ b. is_some (cond b (Some e.1) (lookup (λ k. bytes_eq x k.items) es))
-      ≡ (b || list_any (λ p. bytes_eq x p.0) (paths_of es))) [
-        | true ↦ refl
-        | false ↦ key-any x es
-      ]
+  entry-noted : (es : List (String Y × Role)) (k : String Y) (r v : Role)
+      → v ≡ unwrap_or (lookup (λ x. bytes_eq (string_bytes k) (string_bytes x)) es) r
+      → paths_of (insert_entry (λ a b. bytes_eq (string_bytes a) (string_bytes b)) es k v) ≡ added (paths_of es) (string_bytes k, r)
+  entry-noted [] k r v is = ap (λ x. (string_bytes k, x) ∷ []) is
+  entry-noted (e ∷ es) k r v is = (elim (bytes_eq (string_bytes k) (string_bytes e.0)) as (λ b.
+      v ≡ unwrap_or (cond b (Some e.1) (lookup (λ x. bytes_eq (string_bytes k) (string_bytes x)) es)) r
+      → paths_of (if b then (e.0, v) ∷ es else e ∷ insert_entry (λ a b. bytes_eq (string_bytes a) (string_bytes b)) es k v)
+      ≡ (if b || list_any (λ x. bytes_eq (string_bytes k) x.0) (paths_of es) then paths_of (e ∷ es) else paths_of (e ∷ es) ++ (string_bytes k, r) ∷ [])) [
+        | true ↦ λ s. ap (λ x. (string_bytes e.0, x) ∷ paths_of es) s
+        | false ↦ λ s. ap (λ l. (string_bytes e.0, e.1) ∷ l) (entry-noted es k r v s)
+            ∙ (elim (list_any (λ x. bytes_eq (string_bytes k) x.0) (paths_of es)) as (λ b.
+            (string_bytes e.0, e.1) ∷ (if b then paths_of es else paths_of es ++ (string_bytes k, r) ∷ [])
+            ≡ (if b then paths_of (e ∷ es) else paths_of (e ∷ es) ++ (string_bytes k, r) ∷ [])) [ true ↦ refl | false ↦ refl ])
+      ]) is
 
-  pub key-none : (x : List ℕ) (es : List (Vec ℕ Y × Role)) → is_some (lookup (λ k. bytes_eq x k.items) es) ≡ false → lookup (λ k. bytes_eq x k.items) es ≡ None
-  key-none x es none = (elim (lookup (λ k. bytes_eq x k.items) es) as (λ o. is_some o ≡ false → o ≡ None) [ None ↦ λ h. refl | Some r ↦ λ h. absurd (cc h) ]) none
+  pub noted_by : (new es : List (String Y × Role)) (k : String Y) (x : List ℕ) (r v : Role)
+      → new ≡ insert_entry (λ a b. bytes_eq (string_bytes a) (string_bytes b)) es k v
+      → v ≡ unwrap_or (lookup (λ x. bytes_eq (string_bytes k) (string_bytes x)) es) r → string_bytes k ≡ x → paths_of new ≡ added (paths_of es) (x, r)
+  noted_by new es k x r v is old key = ap paths_of is ∙ entry-noted es k r v old ∙ ap (λ l. added (paths_of es) (l, r)) key
 
-  pub paths-push : (es : List (Vec ℕ Y × Role)) (k : Vec ℕ Y) (r : Role) → paths_of (es ++ (k, r) ∷ []) ≡ paths_of es ++ (k.items, r) ∷ []
-  paths-push es k r = map-append (λ (e : Vec ℕ Y × Role). (e.0.items, e.1)) es ((k, r) ∷ [])
-
-  pub path-at : (i : ℕ) (es : List (Vec ℕ Y × Role)) → slice_get (paths_of es) i ≡ option_map (λ e. (e.0.items, e.1)) (slice_get es i)
+  pub path-at : (i : ℕ) (es : List (String Y × Role)) → slice_get (paths_of es) i ≡ option_map (λ e. (string_bytes e.0, e.1)) (slice_get es i)
   path-at i [] = refl
   path-at zero (e ∷ es) = refl
   path-at (suc i) (e ∷ es) = path-at i es
 
   -- a name is looked up among the keys of a set
-  pub names-any : (x : List ℕ) (ks : List (Vec ℕ Y)) → list_any (λ k. bytes_eq x k.items) ks ≡ list_any (bytes_eq x) (map vec_items ks)
+  pub names-any : (x : List ℕ) (ks : List (String Y)) → list_any (λ k. bytes_eq x (string_bytes k)) ks ≡ list_any (bytes_eq x) (map string_bytes ks)
   names-any x [] = refl
-  names-any x (k ∷ ks) = ap (λ b. bytes_eq x k.items || b) (names-any x ks)
+  names-any x (k ∷ ks) = ap (λ b. bytes_eq x (string_bytes k) || b) (names-any x ks)
 
-  pub names-insert : (ks : List (Vec ℕ Y)) (k : Vec ℕ Y) → map vec_items (insert_key (λ a b. bytes_eq a.items b.items) ks k) ≡ noted (map vec_items ks) k.items
+  pub names-insert : (ks : List (String Y)) (k : String Y) → map string_bytes (insert_key (λ a b. bytes_eq (string_bytes a) (string_bytes b)) ks k) ≡ noted (map string_bytes ks) (string_bytes k)
   names-insert ks k =
-      elim (list_any (λ b. bytes_eq k.items b.items) ks) as (λ b. map vec_items (cond b ks (ks ++ k ∷ []))
-      ≡ cond b (map vec_items ks) (map vec_items ks ++ k.items ∷ [])) [
+      elim (list_any (λ b. bytes_eq (string_bytes k) (string_bytes b)) ks) as (λ b. map string_bytes (cond b ks (ks ++ k ∷ []))
+      ≡ cond b (map string_bytes ks) (map string_bytes ks ++ string_bytes k ∷ [])) [
         | true ↦ refl
-        | false ↦ map-append vec_items ks (k ∷ [])
+        | false ↦ map-append string_bytes ks (k ∷ [])
       ]
-      ∙ ap (λ b. cond b (map vec_items ks) (map vec_items ks ++ k.items ∷ [])) (names-any k.items ks)
+      ∙ ap (λ b. cond b (map string_bytes ks) (map string_bytes ks ++ string_bytes k ∷ [])) (names-any (string_bytes k) ks)
 
 -- what a test says of all items holds of the one at a place
 pub passes_at : {X : Type 0} (test : X → Bool) (xs : List X) (k : ℕ) (x : X) → list_all test xs ≡ true → slice_get xs k ≡ Some x → test x ≡ true

@@ -1,17 +1,5 @@
 -- Names noted twice.
-use Rattle.std.proofs.Common.{◌≡◌, inl, inr, ℕ, Bool, true, false, List, [], ◌∷◌, ◌++◌, refl, ap, sym, ◌∙◌, map, cond}
-use Rattle.std.proofs.lemmas.Bool.{cond-true, or_cases, or_left, or_right, and_from}
-use Rattle.std.proofs.lemmas.List.Folds.{list_all-append}
-use Rattle.ks_symbols.specs.Names.{is_name}
-use Rattle.std.proofs.lemmas.Grind.{fold-append}
-use Rattle.std.proofs.lemmas.Slice.Eq.{bytes_eq-Decides}
-use Rattle.std.specs.Prelude.{flat_map}
-use Rattle.std.specs.List.{list_all, list_any}
-use Rattle.std.specs.Str.{bytes_eq}
-use Rattle.ks_fixdep.specs.FoundNames.{noted}
-use Rattle.ks_fixdep.specs.FoundNames.{all_noted, names_in, AreFoundNames, names_of}
-use Rattle.ks_fixdep.specs.Scan.{taken}
-use Rattle.ks_fixdep.specs.Scan.{bare_name}
+use Rattle.ks_fixdep.proofs.Prelude.{◌≡◌, inl, inr, ℕ, Bool, true, false, List, [], ◌∷◌, ◌++◌, refl, ap, sym, ◌∙◌, map, cond, cond-true, or_cases, or_left, or_right, and_from, list_all-append, is_name, fold-append, bytes_eq-Decides, flat_map, list_all, list_any, bytes_eq, noted, all_noted, names_in, AreFoundNames, names_of, taken, bare_name}
 
 unfoldable pub is_in : List ℕ → List (List ℕ) → Bool
 is_in x xs = list_any (bytes_eq x) xs

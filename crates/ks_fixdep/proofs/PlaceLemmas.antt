@@ -1,22 +1,6 @@
 -- What is listed of a text is what is taken at its places.
-use Rattle.std.proofs.Common.{◌≡◌, ℕ, zero, suc, ◌+◌, ◌-◌, ◌≤◌, ◌<◌, Bool, true, false, List, [], ◌∷◌, ◌++◌, length, take, drop, get_or, map, Option, Some, None, refl, sym, ap, ap₂, subst, ◌∙◌, arith, inl, inr, ⊎_elim, append-nil, length-append, length-drop, get_or-drop}
-use Rattle.std.proofs.Math.Seq.{drop-append_seam, drop-nil, take-append_seam}
-use Rattle.std.proofs.lemmas.Bool.{cond-true, cond-false, cases_Bool, and_from, le-leb, le-ltb, lt-ltb}
-use Rattle.std.proofs.lemmas.List.{drop-drop}
-use Rattle.std.proofs.lemmas.List.Elements.{Contains-append_cases, Contains-append_left, Contains-append_right, filter-append}
-use Rattle.std.proofs.lemmas.List.Sums.{take_while-cons}
-use Rattle.std.proofs.lemmas.Slice.Eq.{bytes_eq-Decides}
-use Rattle.std.specs.Prelude.{◌⊎◌, Contains, filter, if◌then◌else◌}
-use Rattle.std.specs.List.{take_while}
-use Rattle.std.specs.List.Sorted.{IsStrictlyIncreasing}
-use Rattle.std.specs.Str.{bytes_eq}
-use Rattle.memchr.specs.Find.{OccursAt}
-use Rattle.memchr.proofs.lemmas.MatchLemmas.{OccursAt-true}
-use Rattle.ks_symbols.specs.Names.{is_word_byte, is_name, less}
-use Rattle.ks_fixdep.specs.Scan.{NameAt, prefix, begun, name_of, name_of_word, names_after, placed, taken}
-use Rattle.ks_fixdep.specs.Places.{IsRun, IsTaken, ListsTaken}
-use Rattle.ks_fixdep.specs.Pieces.{is_followed}
-use Rattle.ks_fixdep.specs.Stream.{before_last_word, ended, kept, kept_name, last_word}
+use Rattle.ks_fixdep.proofs.Prelude.{◌≡◌, ℕ, zero, suc, ◌+◌, ◌-◌, ◌≤◌, ◌<◌, Bool, true, false, List, [], ◌∷◌, ◌++◌, length, take, drop, get_or, map, Option, Some, None, refl, sym, ap, ap₂, subst, ◌∙◌, arith, inl, inr, ⊎_elim, append-nil, length-append, length-drop, get_or-drop, drop-append_seam, drop-nil, take-append_seam, cond-true, cond-false, cases_Bool, and_from, le-leb, le-ltb, lt-ltb, drop-drop, Contains-append_cases, Contains-append_left, Contains-append_right, filter-append, take_while-cons, bytes_eq-Decides, ◌⊎◌, Contains, filter, if◌then◌else◌, take_while, IsStrictlyIncreasing, bytes_eq, OccursAt, OccursAt-true, is_word_byte, is_name, without_module, NameAt, prefix, begun, name_of, name_of_word, names_after, placed, taken, IsRun, IsTaken, ListsTaken, is_followed, before_last_word, kept, kept_name, last_word}
+use Rattle.ks_fixdep.specs.Stream.{ended}
 use Rattle.ks_fixdep.proofs.RunLemmas.{name_of-legal}
 use Rattle.ks_fixdep.proofs.ScanLemmas.{Ends, begun-some, byte-before, name_of_prefixed, nameless, occurrence, starts-at, unnamed, word-append, word-is, word-left, word-none, word-passes, word-split, word-stops}
 use Rattle.ks_fixdep.proofs.StreamLemmas.{before-ends, last_word-passes, split, taken-finish}
@@ -107,14 +91,14 @@ name-at t i stands =
     let run = take_while is_word_byte (drop (i + 7) t) in
     ap name_of_word (ap (take_while is_word_byte) (sym (occurrence t prefix i stands)) ∙ word-append prefix (drop (i + 7) t) refl) ∙ name_of_prefixed run
 
-name_of-is : (run x : List ℕ) → name_of run ≡ Some x → x ≡ less run
+name_of-is : (run x : List ℕ) → name_of run ≡ Some x → x ≡ without_module run
 unfolding name_of
-name_of-is run x e = (elim (is_name (less run)) as (λ b. (if b then Some (less run) else None) ≡ Some x → x ≡ less run) [
-  | true ↦ λ same. let is : less run ≡ x = cc in sym is
+name_of-is run x e = (elim (is_name (without_module run)) as (λ b. (if b then Some (without_module run) else None) ≡ Some x → x ≡ without_module run) [
+  | true ↦ λ same. let is : without_module run ≡ x = cc in sym is
   | false ↦ λ same. absurd cc
 ]) e
 
-named : (run x : List ℕ) → x ≡ less run → is_name x ≡ true → name_of run ≡ Some x
+named : (run x : List ℕ) → x ≡ without_module run → is_name x ≡ true → name_of run ≡ Some x
 unfolding name_of
 named run x is legal = cond-true _ _ _ (ap is_name (sym is) ∙ legal) ∙ ap Some (sym is)
 

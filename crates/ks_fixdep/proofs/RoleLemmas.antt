@@ -1,36 +1,18 @@
 -- One more token.
-use Rattle.std.proofs.Common.{◌≡◌, inl, inr, ℕ, suc, ◌+◌, ◌-◌, Bool, true, false, List, [], ◌∷◌, ◌++◌, length, drop, refl, sym, ap, ◌∙◌, arith, append_assoc, append-nil, reverse, ⊎_elim, length-append, map, Bor, Option, Some, None, Result, Ok, Err, subst, get_or, take, ◌<◌, ◌≤◌, drop-cons, take-append-drop}
-use Rattle.std.proofs.lemmas.List.{reverse-append, drop_all, drop-append-le, map-append}
-use Rattle.std.proofs.lemmas.Bool.{cond-true, cond-false, cases_Bool, and_from}
-use Rattle.std.specs.List.{list_all}
-use Rattle.std.specs.Str.{bytes_eq}
-use Rattle.std.specs.Prelude.{if◌then◌else◌, not, nat_eq, ◌||◌, ◌&&◌}
-use Rattle.std.proofs.lemmas.List.Folds.{list_any-append, list_all-append}
-use Rattle.std.specs.List.{after_last, list_any, suffix_len, prefix_len, ends_with}
-use Rattle.ks_fixdep.specs.declared.dependency_file.Role.{Role}
-use Rattle.ks_symbols.specs.Names.{is_path, header_path}
-use Rattle.ks_symbols.specs.Refusals.{or_else}
-use Rattle.ks_symbols.specs.Refusals.{IsRefusal, RefusedBy}
-use Rattle.ks_fixdep.specs.DependencyFile.{is_kept, is_target_token, role_after, with_roles, fault_after, first_fault, token_refusal, added}
-use Rattle.ks_fixdep.specs.Tokens.{tokens, is_separator, is_some_token}
-use Rattle.ks_fixdep.specs.declared.dep_error.DepError.{DepError}
+use Rattle.ks_fixdep.proofs.Prelude.{◌≡◌, inl, inr, ℕ, suc, ◌+◌, ◌-◌, Bool, true, false, List, [], ◌∷◌, ◌++◌, length, drop, refl, sym, ap, ◌∙◌, arith, append_assoc, append-nil, reverse, ⊎_elim, length-append, map, Bor, Option, Some, None, Result, Ok, Err, subst, get_or, take, ◌<◌, ◌≤◌, drop-cons, take-append-drop, reverse-append, drop_all, drop-append-le, map-append, cond-true, cond-false, cases_Bool, and_from, list_all, bytes_eq, if◌then◌else◌, not, ◌||◌, ◌&&◌, list_any-append, list_all-append, after_last, list_any, suffix_len, prefix_len, Header, Role, is_path, or_else, IsRefusal, RefusedBy, is_header, is_kept, is_target_token, role_after, with_roles, fault_after, first_fault, token_refusal, added, tokens, is_separator, is_some_token, DepError, IsErr, IsErrAnd, slice_split, length-filter, count_by-le-length, length-slice_split}
 use Rattle.ks_fixdep.specs.declared.dep_error.DepError.TheVariants as errors
-use Rattle.std.specs.Result.{IsErr, IsErrAnd}
-use Rattle.std.specs.List.{slice_split}
-use Rattle.std.proofs.lemmas.List.Sums.{length-filter, count_by-le-length}
-use Rattle.std.proofs.lemmas.List.Splits.{length-slice_split}
 
 -- the entry of one more token, if it is kept
-abbrev pub entry_of : List (List ℕ) → List ℕ → List (List ℕ × Role)
-entry_of before x = if is_kept x then (x, role_after before) ∷ [] else []
+abbrev pub entry_of : Header → List (List ℕ) → List ℕ → List (List ℕ × Role)
+entry_of header before x = if is_kept header x then (x, role_after header before) ∷ [] else []
 
-pub with_roles-push : (before xs : List (List ℕ)) (x : List ℕ) → with_roles before (xs ++ x ∷ []) ≡ with_roles before xs ++ entry_of (before ++ xs) x
-with_roles-push before [] x = ap (λ b. entry_of b x) (sym (append-nil before))
-with_roles-push before (y ∷ xs) x =
-    let later = with_roles-push (before ++ y ∷ []) xs x ∙ ap (λ b. with_roles (before ++ y ∷ []) xs ++ entry_of b x) (append_assoc before (y ∷ []) xs) in
-    let r = role_after before in
-    elim (is_kept y) as (λ v. (if v then (y, r) ∷ with_roles (before ++ y ∷ []) (xs ++ x ∷ []) else with_roles (before ++ y ∷ []) (xs ++ x ∷ []))
-    ≡ (if v then (y, r) ∷ with_roles (before ++ y ∷ []) xs else with_roles (before ++ y ∷ []) xs) ++ entry_of (before ++ y ∷ xs) x) [
+pub with_roles-push : (header : Header) → (before xs : List (List ℕ)) (x : List ℕ) → with_roles header before (xs ++ x ∷ []) ≡ with_roles header before xs ++ entry_of header (before ++ xs) x
+with_roles-push header before [] x = ap (λ b. entry_of header b x) (sym (append-nil before))
+with_roles-push header before (y ∷ xs) x =
+    let later = with_roles-push header (before ++ y ∷ []) xs x ∙ ap (λ b. with_roles header (before ++ y ∷ []) xs ++ entry_of header b x) (append_assoc before (y ∷ []) xs) in
+    let r = role_after header before in
+    elim (is_kept header y) as (λ v. (if v then (y, r) ∷ with_roles header (before ++ y ∷ []) (xs ++ x ∷ []) else with_roles header (before ++ y ∷ []) (xs ++ x ∷ []))
+    ≡ (if v then (y, r) ∷ with_roles header (before ++ y ∷ []) xs else with_roles header (before ++ y ∷ []) xs) ++ entry_of header (before ++ y ∷ xs) x) [
       | true ↦ ap (λ l. (y, r) ∷ l) later
       | false ↦ later
     ]
@@ -65,93 +47,93 @@ or-true true b e = refl
 or-true false true e = refl
 or-true false false e = e
 
-module _ (seen : List (List ℕ)) (x : List ℕ) where
+module _ (header : Header) (seen : List (List ℕ)) (x : List ℕ) where
   pub target-no : is_target_token x ≡ false → list_any is_target_token (seen ++ x ∷ []) ≡ list_any is_target_token seen
   target-no other = list_any-append is_target_token seen (x ∷ []) ∙ or-false (list_any is_target_token seen) (is_target_token x) other
 
   pub target-yes : is_target_token x ≡ true → list_any is_target_token (seen ++ x ∷ []) ≡ true
   target-yes stands = list_any-append is_target_token seen (x ∷ []) ∙ or-true (list_any is_target_token seen) (is_target_token x) stands
 
-  pub kept-no : is_kept x ≡ false → list_any is_kept (seen ++ x ∷ []) ≡ list_any is_kept seen
-  kept-no not_kept = list_any-append is_kept seen (x ∷ []) ∙ or-false (list_any is_kept seen) (is_kept x) not_kept
+  pub kept-no : is_kept header x ≡ false → list_any (is_kept header) (seen ++ x ∷ []) ≡ list_any (is_kept header) seen
+  kept-no not_kept = list_any-append (is_kept header) seen (x ∷ []) ∙ or-false (list_any (is_kept header) seen) (is_kept header x) not_kept
 
-  pub kept-yes : is_kept x ≡ true → list_any is_kept (seen ++ x ∷ []) ≡ true
-  kept-yes kept = list_any-append is_kept seen (x ∷ []) ∙ or-true (list_any is_kept seen) (is_kept x) kept
+  pub kept-yes : is_kept header x ≡ true → list_any (is_kept header) (seen ++ x ∷ []) ≡ true
+  kept-yes kept = list_any-append (is_kept header) seen (x ∷ []) ∙ or-true (list_any (is_kept header) seen) (is_kept header x) kept
 
-  pub since-target : is_target_token x ≡ true → list_any is_kept (after_last is_target_token (seen ++ x ∷ [])) ≡ false
-  since-target target = ap (list_any is_kept) (after_last-push seen x ∙ cond-true _ _ _ target)
+  pub since-target : is_target_token x ≡ true → list_any (is_kept header) (after_last is_target_token (seen ++ x ∷ [])) ≡ false
+  since-target target = ap (list_any (is_kept header)) (after_last-push seen x ∙ cond-true _ _ _ target)
 
-  since-other : is_target_token x ≡ false → list_any is_kept (after_last is_target_token (seen ++ x ∷ []))
-      ≡ (list_any is_kept (after_last is_target_token seen) || (is_kept x || false))
-  since-other other = ap (list_any is_kept) (after_last-push seen x ∙ cond-false _ _ _ other) ∙ list_any-append is_kept (after_last is_target_token seen)
+  since-other : is_target_token x ≡ false → list_any (is_kept header) (after_last is_target_token (seen ++ x ∷ []))
+      ≡ (list_any (is_kept header) (after_last is_target_token seen) || (is_kept header x || false))
+  since-other other = ap (list_any (is_kept header)) (after_last-push seen x ∙ cond-false _ _ _ other) ∙ list_any-append (is_kept header) (after_last is_target_token seen)
       (x ∷ [])
 
-  pub since-no : is_target_token x ≡ false → is_kept x ≡ false → list_any is_kept (after_last is_target_token (seen ++ x ∷ []))
-      ≡ list_any is_kept (after_last is_target_token seen)
-  since-no other not_kept = since-other other ∙ or-false (list_any is_kept (after_last is_target_token seen)) (is_kept x) not_kept
+  pub since-no : is_target_token x ≡ false → is_kept header x ≡ false → list_any (is_kept header) (after_last is_target_token (seen ++ x ∷ []))
+      ≡ list_any (is_kept header) (after_last is_target_token seen)
+  since-no other not_kept = since-other other ∙ or-false (list_any (is_kept header) (after_last is_target_token seen)) (is_kept header x) not_kept
 
-  pub since-yes : is_target_token x ≡ false → is_kept x ≡ true → list_any is_kept (after_last is_target_token (seen ++ x ∷ [])) ≡ true
-  since-yes other kept = since-other other ∙ or-true (list_any is_kept (after_last is_target_token seen)) (is_kept x) kept
+  pub since-yes : is_target_token x ≡ false → is_kept header x ≡ true → list_any (is_kept header) (after_last is_target_token (seen ++ x ∷ [])) ≡ true
+  since-yes other kept = since-other other ∙ or-true (list_any (is_kept header) (after_last is_target_token seen)) (is_kept header x) kept
 
-  pub roles-no : is_kept x ≡ false → with_roles [] (seen ++ x ∷ []) ≡ with_roles [] seen
-  roles-no not_kept = with_roles-push [] seen x ∙ ap (λ l. with_roles [] seen ++ l) (cond-false _ _ _ not_kept) ∙ append-nil (with_roles [] seen)
+  pub roles-no : is_kept header x ≡ false → with_roles header [] (seen ++ x ∷ []) ≡ with_roles header [] seen
+  roles-no not_kept = with_roles-push header [] seen x ∙ ap (λ l. with_roles header [] seen ++ l) (cond-false _ _ _ not_kept) ∙ append-nil (with_roles header [] seen)
 
-  pub roles-yes : is_kept x ≡ true → with_roles [] (seen ++ x ∷ []) ≡ with_roles [] seen ++ (x, role_after seen) ∷ []
-  roles-yes kept = with_roles-push [] seen x ∙ ap (λ l. with_roles [] seen ++ l) (cond-true _ _ _ kept)
+  pub roles-yes : is_kept header x ≡ true → with_roles header [] (seen ++ x ∷ []) ≡ with_roles header [] seen ++ (x, role_after header seen) ∷ []
+  roles-yes kept = with_roles-push header [] seen x ∙ ap (λ l. with_roles header [] seen ++ l) (cond-true _ _ _ kept)
 
 pub role-same : (a b : Bool) (s l c : Role) → (if a then (if b then l else c) else s) ≡ (if not a then s else if b then l else c)
 role-same true b s l c = refl
 role-same false b s l c = refl
 
-pub not-kept-target : (x : List ℕ) → is_target_token x ≡ true → is_kept x ≡ false
-not-kept-target x target = ap (λ t. not t && not (ends_with nat_eq x header_path)) target
+pub not-kept-target : (header : Header) → (x : List ℕ) → is_target_token x ≡ true → is_kept header x ≡ false
+not-kept-target header x target = ap (λ t. not t && not (is_header header x)) target
 
-pub kept-when : (x : List ℕ) (h : Bool) → is_target_token x ≡ false → ends_with nat_eq x header_path ≡ h → is_kept x ≡ not h
-kept-when x h other is = ap (λ t. not t && not (ends_with nat_eq x header_path)) other ∙ ap not is
+pub kept-when : (header : Header) → (x : List ℕ) (h : Bool) → is_target_token x ≡ false → is_header header x ≡ h → is_kept header x ≡ not h
+kept-when header x h other is = ap (λ t. not t && not (is_header header x)) other ∙ ap not is
 
 -- ---- refusals
 
 -- the faults of the tokens seen, of one more, and of the rest
-pub faults-split : (before xs : List (List ℕ)) (x : List ℕ) (ys : List (List ℕ)) → first_fault before (xs ++ x ∷ ys)
-    ≡ or_else (first_fault before xs) (or_else (fault_after (before ++ xs) x) (first_fault ((before ++ xs) ++ x ∷ []) ys))
-faults-split before [] x ys = ap (λ b. or_else (fault_after b x) (first_fault (b ++ x ∷ []) ys)) (sym (append-nil before))
-faults-split before (z ∷ xs) x ys =
-    ap (or_else (fault_after before z)) (faults-split (before ++ z ∷ []) xs x ys)
-    ∙ or-assoc (fault_after before z) (first_fault (before ++ z ∷ []) xs)
-    (or_else (fault_after ((before ++ z ∷ []) ++ xs) x) (first_fault (((before ++ z ∷ []) ++ xs) ++ x ∷ []) ys))
-    ∙ ap (λ b. or_else (or_else (fault_after before z) (first_fault (before ++ z ∷ []) xs)) (or_else (fault_after b x) (first_fault (b ++ x ∷ []) ys)))
+pub faults-split : (header : Header) → (before xs : List (List ℕ)) (x : List ℕ) (ys : List (List ℕ)) → first_fault header before (xs ++ x ∷ ys)
+    ≡ or_else (first_fault header before xs) (or_else (fault_after header (before ++ xs) x) (first_fault header ((before ++ xs) ++ x ∷ []) ys))
+faults-split header before [] x ys = ap (λ b. or_else (fault_after header b x) (first_fault header (b ++ x ∷ []) ys)) (sym (append-nil before))
+faults-split header before (z ∷ xs) x ys =
+    ap (or_else (fault_after header before z)) (faults-split header (before ++ z ∷ []) xs x ys)
+    ∙ or-assoc (fault_after header before z) (first_fault header (before ++ z ∷ []) xs)
+    (or_else (fault_after header ((before ++ z ∷ []) ++ xs) x) (first_fault header (((before ++ z ∷ []) ++ xs) ++ x ∷ []) ys))
+    ∙ ap (λ b. or_else (or_else (fault_after header before z) (first_fault header (before ++ z ∷ []) xs)) (or_else (fault_after header b x) (first_fault header (b ++ x ∷ []) ys)))
     (append_assoc before (z ∷ []) xs)
   where
     or-assoc : (a b c : Option DepError) → or_else a (or_else b c) ≡ or_else (or_else a b) c
     or-assoc None b c = refl
     or-assoc (Some f) b c = refl
 
-pub faults-fit : (seen : List (List ℕ)) (x : List ℕ) → first_fault [] seen ≡ None → fault_after seen x ≡ None → first_fault [] (seen ++ x ∷ []) ≡ None
-faults-fit seen x none fits = faults-split [] seen x [] ∙ ap (λ a. or_else a (or_else (fault_after seen x) None)) none ∙ ap (λ b. or_else b None) fits
+pub faults-fit : (header : Header) → (seen : List (List ℕ)) (x : List ℕ) → first_fault header [] seen ≡ None → fault_after header seen x ≡ None → first_fault header [] (seen ++ x ∷ []) ≡ None
+faults-fit header seen x none fits = faults-split header [] seen x [] ∙ ap (λ a. or_else a (or_else (fault_after header seen x) None)) none ∙ ap (λ b. or_else b None) fits
 
-faults-first : (seen : List (List ℕ)) (x : List ℕ) (ys : List (List ℕ)) (e : DepError) → first_fault [] seen ≡ None → fault_after seen x ≡ Some e
-    → first_fault [] (seen ++ x ∷ ys) ≡ Some e
-faults-first seen x ys e none fault = faults-split [] seen x ys ∙ ap (λ a. or_else a (or_else (fault_after seen x) (first_fault (seen ++ x ∷ []) ys))) none ∙
-    ap (λ b. or_else b (first_fault (seen ++ x ∷ []) ys)) fault
+faults-first : (header : Header) → (seen : List (List ℕ)) (x : List ℕ) (ys : List (List ℕ)) (e : DepError) → first_fault header [] seen ≡ None → fault_after header seen x ≡ Some e
+    → first_fault header [] (seen ++ x ∷ ys) ≡ Some e
+faults-first header seen x ys e none fault = faults-split header [] seen x ys ∙ ap (λ a. or_else a (or_else (fault_after header seen x) (first_fault header (seen ++ x ∷ []) ys))) none ∙
+    ap (λ b. or_else b (first_fault header (seen ++ x ∷ []) ys)) fault
 
-first-is : (ts : List (List ℕ)) (e : DepError) → first_fault [] ts ≡ Some e → token_refusal ts ≡ Some e
+first-is : (header : Header) → (ts : List (List ℕ)) (e : DepError) → first_fault header [] ts ≡ Some e → token_refusal header ts ≡ Some e
 unfolding token_refusal
-first-is ts e is = ap (λ o. or_else o (if list_any is_kept ts then None else Some errors.NoTarget)) is
+first-is header ts e is = ap (λ o. or_else o (if list_any (is_kept header) ts then None else Some errors.NoTarget)) is
 
 -- the refusal of one token is that of the text, where all tokens before it fit
-pub refused-through : (e : DepError) (ts seen : List (List ℕ)) (x : List ℕ) (ys : List (List ℕ)) → ts ≡ seen ++ x ∷ ys → first_fault [] seen ≡ None
-    → IsRefusal errors.OutOfMemory e (fault_after seen x) → IsRefusal errors.OutOfMemory e (token_refusal ts)
-refused-through e ts seen x ys is none (inl memory) = inl memory
-refused-through e ts seen x ys is none (inr says) = inr (first-is ts e (ap (first_fault []) is ∙ faults-first seen x ys e none says))
+pub refused-through : (header : Header) → (e : DepError) (ts seen : List (List ℕ)) (x : List ℕ) (ys : List (List ℕ)) → ts ≡ seen ++ x ∷ ys → first_fault header [] seen ≡ None
+    → IsRefusal errors.OutOfMemory e (fault_after header seen x) → IsRefusal errors.OutOfMemory e (token_refusal header ts)
+refused-through header e ts seen x ys is none (inl memory) = inl memory
+refused-through header e ts seen x ys is none (inr says) = inr (first-is header ts e (ap (first_fault header []) is ∙ faults-first header seen x ys e none says))
 
-pub none-kept : (ts : List (List ℕ)) → first_fault [] ts ≡ None → list_any is_kept ts ≡ false → token_refusal ts ≡ Some errors.NoTarget
+pub none-kept : (header : Header) → (ts : List (List ℕ)) → first_fault header [] ts ≡ None → list_any (is_kept header) ts ≡ false → token_refusal header ts ≡ Some errors.NoTarget
 unfolding token_refusal
-none-kept ts none kept = ap (λ o. or_else o (if list_any is_kept ts then None else Some errors.NoTarget)) none ∙ ap
+none-kept header ts none kept = ap (λ o. or_else o (if list_any (is_kept header) ts then None else Some errors.NoTarget)) none ∙ ap
     (λ b. if b then None else Some errors.NoTarget) kept
 
-pub some-kept : (ts : List (List ℕ)) → first_fault [] ts ≡ None → list_any is_kept ts ≡ true → token_refusal ts ≡ None
+pub some-kept : (header : Header) → (ts : List (List ℕ)) → first_fault header [] ts ≡ None → list_any (is_kept header) ts ≡ true → token_refusal header ts ≡ None
 unfolding token_refusal
-some-kept ts none kept = ap (λ o. or_else o (if list_any is_kept ts then None else Some errors.NoTarget)) none ∙ ap
+some-kept header ts none kept = ap (λ o. or_else o (if list_any (is_kept header) ts then None else Some errors.NoTarget)) none ∙ ap
     (λ b. if b then None else Some errors.NoTarget) kept
 
 -- ---- a call that answers another call's refusal

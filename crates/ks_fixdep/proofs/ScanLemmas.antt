@@ -1,22 +1,6 @@
 -- The names of a text by its words.
-use Rattle.std.proofs.Common.{◌≡◌, ℕ, zero, suc, ◌+◌, ◌-◌, ◌≤◌, ◌<◌, true, false, cond, List, [], ◌∷◌, ◌++◌, length, take, drop, get_or, map, Option, Some, None, refl, sym, ap, ap₂, ◌∙◌, arith, ⊎_elim, append_assoc, append-nil, length-drop, get_or-drop, get_or-take, take_all, take-append-drop, take-take}
-use Rattle.std.proofs.lemmas.Bool.{cond_both, cond-true, cond-false, cases_Bool, cases_lt, and_from, and_parts, le-leb}
-use Rattle.std.proofs.lemmas.List.{drop_all, drop-drop, get_or_past, length-take, map-append}
-use Rattle.std.proofs.lemmas.List.Folds.{length-prefix_len, list_all-append}
-use Rattle.std.proofs.lemmas.List.Sums.{list_all-from_AllPass, prefix_len_passes, prefix_len_stops, take_while-cons}
-use Rattle.std.proofs.lemmas.Slice.Eq.{bytes_eq-Decides}
-use Rattle.std.specs.Prelude.{if◌then◌else◌}
-use Rattle.std.specs.List.{list_all, prefix_len, take_while}
-use Rattle.std.specs.Str.{bytes_eq}
-use Rattle.memchr.specs.Find.{OccursAt, FindsNeedle}
-use Rattle.memchr.proofs.lemmas.MatchLemmas.{occurs_at-true, OccursAt-true}
-use Rattle.ks_symbols.specs.Names.{is_word_byte, is_name}
-use Rattle.ks_fixdep.specs.Scan.{prefix, begun, byte_before, name_of, name_of_word, names_after, placed}
-use Rattle.ks_fixdep.specs.Stream.{further}
+use Rattle.ks_fixdep.proofs.Prelude.{◌≡◌, ℕ, zero, suc, ◌+◌, ◌-◌, ◌≤◌, ◌<◌, true, false, cond, List, [], ◌∷◌, ◌++◌, length, take, drop, get_or, map, Option, Some, None, refl, sym, ap, ap₂, ◌∙◌, arith, ⊎_elim, append_assoc, append-nil, length-drop, get_or-drop, get_or-take, take-append-drop, take-take, cond_both, cond-true, cond-false, cases_Bool, cases_lt, and_from, and_parts, le-leb, drop_all, drop-drop, get_or_past, length-take, map-append, length-prefix_len, list_all-append, list_all-from_AllPass, prefix_len_passes, prefix_len_stops, take_while-cons, bytes_eq-Decides, if◌then◌else◌, list_all, prefix_len, take_while, bytes_eq, OccursAt, FindsNeedle, occurs_at-true, OccursAt-true, is_word_byte, is_name, prefix, begun, byte_before, name_of, name_of_word, names_after, placed, further}
 use Rattle.ks_fixdep.proofs.RunLemmas.{name_of-legal}
-
-pub rest-is : (t : List ℕ) (i : ℕ) → take (length t - i) (drop i t) ≡ drop i t
-rest-is t i = take_all _ _ (omega (arith, length-drop i t))
 
 -- ---- a word
 

@@ -1,30 +1,16 @@
 -- The word that ends a text, and the names of a text that comes in pieces.
-use Rattle.std.proofs.Common.{◌≡◌, ℕ, zero, suc, ◌+◌, ◌-◌, ◌≤◌, ◌<◌, Bool, true, false, List, [], ◌∷◌, ◌++◌, length, take, drop, get_or, map, Option, Some, None, Bor, refl, sym, ap, ap₂, ◌∙◌, arith, ⊎_elim, append_assoc, append-nil, length-append, length-drop, length-take-le, get_or-drop, get_or-take, take-append-drop}
-use Rattle.std.proofs.Math.Seq.{take-append_seam}
-use Rattle.std.proofs.lemmas.Bool.{cond_both, cond-true, cond-false, cases_Bool, cases_lt, and_from, false≢true, le-leb, lt-leb}
-use Rattle.std.proofs.lemmas.List.{drop_all}
-use Rattle.std.proofs.lemmas.List.Folds.{list_all-append, list_all_at}
-use Rattle.std.specs.Prelude.{nat_eq, ◌&&◌, flat_map, if◌then◌else◌, IfSome, IsTrue}
-use Rattle.std.specs.Option.{option_copied}
-use Rattle.std.specs.List.{ends_with, list_all, take_while}
-use Rattle.std.specs.Str.{bytes_eq}
-use Rattle.ks_symbols.specs.Names.{is_word_byte, is_name, less, module_end}
-use Rattle.ks_fixdep.specs.Scan.{NameAt, prefix, name_of, name_of_word, names_after, placed, taken}
-use Rattle.ks_fixdep.specs.Pieces.{LentInTurn, joined}
-use Rattle.ks_fixdep.specs.Stream.{last_word, before_last_word, within, kept, lengthened, kept_name, further, ended, lent_behind}
+use Rattle.ks_fixdep.proofs.Prelude.{◌≡◌, ℕ, zero, suc, ◌+◌, ◌-◌, ◌≤◌, ◌<◌, Bool, true, false, List, [], ◌∷◌, ◌++◌, length, take, drop, get_or, map, Option, Some, None, Bor, refl, sym, ap, ap₂, ◌∙◌, arith, ⊎_elim, append_assoc, append-nil, length-append, length-drop, length-take-le, get_or-drop, get_or-take, take-append-drop, take-append_seam, cond_both, cond-true, cond-false, cases_Bool, cases_lt, and_from, false≢true, le-leb, lt-leb, and_right, drop_all, list_all-append, list_all_at, nat_eq, ◌&&◌, flat_map, if◌then◌else◌, IfSome, option_copied, ends_with, list_all, take_while, bytes_eq, is_word_byte, is_name, without_module, module_end, NameAt, prefix, name_of, name_of_word, names_after, placed, taken, BorrowedInTurn, joined, last_word, before_last_word, within, kept, lengthened, kept_name, further, borrowed_after}
+use Rattle.std.specs.Prelude.{IsTrue}
+use Rattle.ks_fixdep.specs.Stream.{ended}
 use Rattle.ks_fixdep.proofs.NameLemmas.{ended-nil}
 use Rattle.ks_fixdep.proofs.RunLemmas.{name_of-none}
 use Rattle.ks_fixdep.proofs.ScanLemmas.{Ends, word-passes, word-split, word-stops, nameless, names_after-none, names_after-word, names_after-cut, names_after-further, name_of_word-legal}
 
 -- ---- a text is what stands before its last word, and that word
 
-and-false : (x : Bool) → (x && false) ≡ false
-and-false true = refl
-and-false false = refl
-
 ends-other : (b : ℕ) (u w : List ℕ) → Ends b u → list_all is_word_byte (b ∷ (u ++ w)) ≡ false
 ends-other b [] w ends = ap (λ x. x && list_all is_word_byte w) ends
-ends-other b (c ∷ u) w ends = ap (λ x. is_word_byte b && x) (ends-other c u w ends) ∙ and-false (is_word_byte b)
+ends-other b (c ∷ u) w ends = ap (λ x. is_word_byte b && x) (ends-other c u w ends) ∙ and_right (is_word_byte b) false refl
 
 -- word bytes at the end, after a byte that is none, are its last word
 pub last_word-is : (u w : List ℕ) (c : ℕ) → list_all is_word_byte w ≡ true → Ends c u → (last_word (u ++ w) ≡ w) × (before_last_word (u ++ w) ≡ u)
@@ -116,13 +102,13 @@ pub kept-nil : kept [] ≡ Some []
 unfolding last_word
 kept-nil = refl
 
-length-less : (r : List ℕ) → length r ≤ length (less r) + 7
+length-less : (r : List ℕ) → length r ≤ length (without_module r) + 7
 length-less r =
     let cut = length-take-le (length r - 7) r (omega arith) in
     cond_both (ends_with nat_eq r module_end) (take (length r - 7) r) r (λ x. length r ≤ length x + 7) (λ _. omega arith) (λ _. omega arith)
 
 -- a word over 142 bytes has no name
-name_of_word-long : (w : List ℕ) → 142 < length w → name_of_word w ≡ None
+pub name_of_word-long : (w : List ℕ) → 142 < length w → name_of_word w ≡ None
 unfolding name_of_word
 name_of_word-long w long =
     let run = drop 7 w in
@@ -131,7 +117,7 @@ name_of_word-long w long =
     (λ _. name_of-none run (λ low high. omega (arith, length-less run)))
     (λ _. refl)
 
-within-lengthened : (w p : List ℕ) → lengthened (within w) p ≡ within (w ++ p)
+pub within-lengthened : (w p : List ℕ) → lengthened (within w) p ≡ within (w ++ p)
 within-lengthened w p =
     ⊎_elim
     (λ long.
@@ -149,11 +135,11 @@ kept_name-within w =
     (λ short. ap kept_name (cond-true _ _ _ (le-leb _ _ short)))
     (cases_lt 142 (length w))
 
-pub lent-legal : (w : List ℕ) (lent : Option (Bor (List ℕ))) → option_copied lent ≡ name_of_word w → IfSome lent (λ name. IsTrue (is_name name.now))
-lent-legal w None is = tt
-lent-legal w (Some name) is = name_of_word-legal w name.now (sym is)
+pub borrowed-legal : (w : List ℕ) (borrowed : Option (Bor (List ℕ))) → option_copied borrowed ≡ name_of_word w → IfSome borrowed (λ name. IsTrue (is_name name.now))
+borrowed-legal w None is = tt
+borrowed-legal w (Some name) is = name_of_word-legal w name.now (sym is)
 
--- ---- what is lent
+-- ---- what is borrowed
 
 -- a word, and a text after it
 names-word : (w v : List ℕ) (i : ℕ) → list_all is_word_byte w ≡ true → is_word_byte (get_or v 0 0) ≡ false
@@ -165,7 +151,7 @@ names-word (b ∷ w) v i all stops = names_after-word b w v 0 i all stops
 
 -- a text, word bytes after it, and a byte that is none, or the end
 taken-longer : (t h v : List ℕ) → list_all is_word_byte h ≡ true → is_word_byte (get_or v 0 0) ≡ false
-    → taken (t ++ (h ++ v)) ≡ ended t ++ lent_behind t (kept_name (lengthened (kept t) h)) (names_after 0 (length h) v)
+    → taken (t ++ (h ++ v)) ≡ ended t ++ borrowed_after t (kept_name (lengthened (kept t) h)) (names_after 0 (length h) v)
 taken-longer t h v all stops =
     let u = before_last_word t in
     let w = last_word t ++ h in
@@ -202,12 +188,12 @@ head-whole p head is whole =
     let none : drop (length head) p ≡ [] = drop_all (length head) p (omega (arith, whole)) in
     sym (append-nil head) ∙ ap (λ l. head ++ l) (sym none) ∙ head-split p head is
 
--- where they are all of it, nothing is lent
+-- where they are all of it, nothing is borrowed
 pub word-kept : (t p : List ℕ) → list_all is_word_byte p ≡ true → lengthened (kept t) p ≡ kept (t ++ p)
 word-kept t p all = within-lengthened (last_word t) p ∙ ap within (sym (longer t p all).0)
 
-pub word-lends : (t p : List ℕ) → list_all is_word_byte p ≡ true → ended (t ++ p) ≡ ended t ++ lent_behind t None (names_after 0 (length p) (drop (length p) p))
-word-lends t p all =
+pub word-borrows : (t p : List ℕ) → list_all is_word_byte p ≡ true → ended (t ++ p) ≡ ended t ++ borrowed_after t None (names_after 0 (length p) (drop (length p) p))
+word-borrows t p all =
     ap taken (longer t p all).1
     ∙ sym (append-nil (ended t))
     ∙ ap (λ l. ended t ++ map (further (length t)) l)
@@ -245,28 +231,28 @@ module _ (p head : List ℕ) (is : head ≡ take_while is_word_byte p) (short : 
   pub piece-kept : (t tail : List ℕ) → tail ≡ last_word p → lengthened (Some []) tail ≡ kept (t ++ p)
   piece-kept t tail last = ap within (last ∙ sym (fresh t p other).0)
 
-  pub piece-lends : (t : List ℕ) → ended (t ++ p) ≡ ended t ++ lent_behind t (kept_name (lengthened (kept t) head))
+  pub piece-borrows : (t : List ℕ) → ended (t ++ p) ≡ ended t ++ borrowed_after t (kept_name (lengthened (kept t) head))
       (names_after 0 (length head) (before_last_word rest))
-  piece-lends t =
+  piece-borrows t =
       ap taken ((fresh t p other).1 ∙ ap (λ l. t ++ l) before-piece)
       ∙ taken-longer t head (before_last_word rest) (ap (list_all is_word_byte) is ∙ word-passes p) (before-stops rest rest-stops)
 
 -- ---- pieces in turn
 
-lent-whole : (before : List ℕ) (pieces : List (List ℕ)) (lent : List (List NameAt)) → LentInTurn before pieces lent → ended before ++ flat_map (λ xs. xs) lent
+borrowed-whole : (before : List ℕ) (pieces : List (List ℕ)) (borrowed : List (List NameAt)) → BorrowedInTurn before pieces borrowed → ended before ++ flat_map (λ xs. xs) borrowed
     ≡ ended (before ++ joined pieces)
-lent-whole before [] [] turns = append-nil (ended before) ∙ ap ended (sym (append-nil before))
-lent-whole before [] (xs ∷ lent) turns = absurd turns
-lent-whole before (p ∷ ps) [] turns = absurd turns
-lent-whole before (p ∷ ps) (xs ∷ lent) turns =
-    sym (append_assoc (ended before) xs (flat_map (λ xs. xs) lent))
-    ∙ ap (λ l. l ++ flat_map (λ xs. xs) lent) (sym turns.0)
-    ∙ lent-whole (before ++ p) ps lent turns.1
+borrowed-whole before [] [] turns = append-nil (ended before) ∙ ap ended (sym (append-nil before))
+borrowed-whole before [] (xs ∷ borrowed) turns = absurd turns
+borrowed-whole before (p ∷ ps) [] turns = absurd turns
+borrowed-whole before (p ∷ ps) (xs ∷ borrowed) turns =
+    sym (append_assoc (ended before) xs (flat_map (λ xs. xs) borrowed))
+    ∙ ap (λ l. l ++ flat_map (λ xs. xs) borrowed) (sym turns.0)
+    ∙ borrowed-whole (before ++ p) ps borrowed turns.1
     ∙ ap ended (append_assoc before p (joined ps))
 
--- What is lent for the pieces in turn, and last at the end, is what the joined text has.
-pub pieces-whole : (pieces : List (List ℕ)) (lent : List (List NameAt)) (last : List NameAt) → LentInTurn [] pieces lent → taken (joined pieces)
+-- What is borrowed for the pieces in turn, and last at the end, is what the joined text has.
+pub pieces-whole : (pieces : List (List ℕ)) (borrowed : List (List NameAt)) (last : List NameAt) → BorrowedInTurn [] pieces borrowed → taken (joined pieces)
     ≡ ended (joined pieces) ++ last
-    → flat_map (λ xs. xs) lent ++ last ≡ taken (joined pieces)
-pieces-whole pieces lent last turns end =
-    ap (λ l. (l ++ flat_map (λ xs. xs) lent) ++ last) (sym ended-nil) ∙ ap (λ l. l ++ last) (lent-whole [] pieces lent turns) ∙ sym end
+    → flat_map (λ xs. xs) borrowed ++ last ≡ taken (joined pieces)
+pieces-whole pieces borrowed last turns end =
+    ap (λ l. (l ++ flat_map (λ xs. xs) borrowed) ++ last) (sym ended-nil) ∙ ap (λ l. l ++ last) (borrowed-whole [] pieces borrowed turns) ∙ sym end

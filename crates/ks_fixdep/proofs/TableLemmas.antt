@@ -1,15 +1,7 @@
 -- Names by their places in a table.
-use Rattle.std.proofs.Common.{◌≡◌, ◌<◌, ◌≤◌, ◌+◌, ℕ, Bool, true, false, zero, suc, List, [], ◌∷◌, ◌++◌, Some, None, Vec, refl, ap, ap₂, sym, subst, ◌∙◌, cond, append-nil, length, length-append, arith, slice_get, true≢false}
-use Rattle.std.specs.Prelude.{◌||◌, bytes_eq, nat_eq, nat_lt}
-use Rattle.std.specs.List.{cons_option, find, list_all, list_any}
-use Rattle.std.proofs.lemmas.Bool.{and_parts, and_from, cond-true, eq-eqb, eqb-true, lt-ltb, ltb-false, ltb-true}
-use Rattle.std.proofs.lemmas.List.Elements.{filter_map-append}
-use Rattle.std.proofs.lemmas.Slice.Eq.{bytes_eq-Decides}
-use Rattle.ks_fixdep.specs.FoundNames.{AreFoundNames, all_noted, noted}
-use Rattle.ks_fixdep.specs.PlaceSet.{with_place}
-use Rattle.ks_fixdep.specs.SourceTable.{are_within, lists_at, names_at}
+use Rattle.ks_fixdep.proofs.Prelude.{◌≡◌, ◌<◌, ◌≤◌, ◌+◌, ℕ, Bool, true, false, zero, suc, List, [], ◌∷◌, ◌++◌, Some, None, Vec, refl, ap, ap₂, sym, subst, ◌∙◌, cond, append-nil, length, length-append, arith, slice_get, true≢false, ◌||◌, nat_eq, nat_lt, cons_option, find, list_all, list_any, and_parts, and_from, cond-true, eq-eqb, eqb-true, lt-ltb, ltb-false, ltb-true, false_from_ne_true, filter_map-append, bytes_eq-Decides, AreFoundNames, all_noted, noted, with_place, are_within, lists_at, names_at}
+use Rattle.std.specs.Prelude.{bytes_eq}
 use Rattle.ks_fixdep.proofs.OnceLemmas.{in_noted, is_in, noted_in}
-use Rattle.ks_fixdep.proofs.PlaceSetLemmas.{is_false}
 
 -- ---- a name that stands once has one place
 
@@ -47,8 +39,8 @@ pub only_place : (names : List (List ℕ)) (i j : ℕ) (x : List ℕ) → AreFou
 only_place names i j x found first second =
     let never : (a b : ℕ) → a < b → slice_get names a ≡ Some x → slice_get names b ≡ Some x → ⊥ =
     λ a b before one two. absurd (omega (arith, fewer_twice [] names a b x before one two, ap length found.once)) in
-    let not_less : nat_lt i j ≡ false = is_false _ (λ t. never i j (ltb-true i j t) first second) in
-    let not_more : nat_lt j i ≡ false = is_false _ (λ t. never j i (ltb-true j i t) second first) in
+    let not_less : nat_lt i j ≡ false = false_from_ne_true _ (λ t. never i j (ltb-true i j t) first second) in
+    let not_more : nat_lt j i ≡ false = false_from_ne_true _ (λ t. never j i (ltb-true j i t) second first) in
     omega (arith, ltb-false i j not_less, ltb-false j i not_more)
 
 -- what is found passes the test
@@ -107,7 +99,7 @@ module _ (names : List (List ℕ)) (p : ℕ) (x : List ℕ) (is : slice_get name
   same_test : (q : ℕ) (y : List ℕ) → slice_get names q ≡ Some y → nat_eq p q ≡ bytes_eq x y
   same_test q y at = (elim (bytes_eq x y) as (λ b. bytes_eq x y ≡ b → nat_eq p q ≡ b) [
     | true ↦ λ t. eq-eqb p q (sym (only q (at ∙ ap (λ z. Some z) (sym ((bytes_eq-Decides x y).0 t)))))
-    | false ↦ λ f. is_false _ (λ same. let both : Some x ≡ Some y = sym is ∙ ap (slice_get names) (eqb-true p q same) ∙ at in
+    | false ↦ λ f. false_from_ne_true _ (λ same. let both : Some x ≡ Some y = sym is ∙ ap (slice_get names) (eqb-true p q same) ∙ at in
         let one : x ≡ y = cc in true≢false (sym ((bytes_eq-Decides x y).1 one) ∙ f))
   ]) refl
 
@@ -116,7 +108,7 @@ module _ (names : List (List ℕ)) (p : ℕ) (x : List ℕ) (is : slice_get name
   any_at (q ∷ places) = (elim (slice_get names q) as (λ o. slice_get names q ≡ o
       → (nat_eq p q || list_any (nat_eq p) places) ≡ list_any (bytes_eq x) (cons_option o (names_at names places))) [
         | None ↦ λ none. ap₂ (λ a b. a || b)
-            (is_false _ (λ same. let bad : Some x ≡ None = sym is ∙ ap (slice_get names) (eqb-true p q same) ∙ none in cc)) (any_at places)
+            (false_from_ne_true _ (λ same. let bad : Some x ≡ None = sym is ∙ ap (slice_get names) (eqb-true p q same) ∙ none in cc)) (any_at places)
         | Some y ↦ λ at. ap₂ (λ a b. a || b) (same_test q y at) (any_at places)
       ]) refl
 

@@ -57,7 +57,7 @@ abbrev pub front_lines : List ℕ → List ℕ → List ℕ → List (List ℕ)
 front_lines target command source =
     (codes "savedcmd_" ++ target ++ codes " := " ++ command) ∷ [] ∷ (codes "source_" ++ target ++ codes " := " ++ source) ∷ [] ∷ deps_begin target ∷ []
 
--- the lines behind those of the dependencies
+-- the lines after those of the dependencies
 abbrev pub back_lines : List ℕ → List (List ℕ)
 back_lines target = [] ∷ target_line target ∷ [] ∷ deps_end target ∷ []
 

@@ -4,19 +4,19 @@ use Rattle.memchr.specs.Find.{first_of, matches}
 use Rattle.ks_symbols.specs.Names.{is_name, is_path, is_target}
 use Rattle.ks_fixdep.specs.declared.command_file.Dep.{Dep}
 use Rattle.ks_fixdep.specs.declared.command_file.Dep.TheVariants.{File, Config}
-use Rattle.ks_fixdep.specs.CommandLines.{behind, between}
+use Rattle.ks_fixdep.specs.CommandLines.{following, between}
 use Rattle.ks_fixdep.specs.CommandFile.{is_command}
 
 -- the value, if it passes
 abbrev pub checked : {A : Type 0} → (A → Bool) → A → Option A
 checked test x = if test x then Some x else None
 
--- what stands before and behind a separator at a place
+-- what stands before and after a separator at a place
 abbrev pub cut : List ℕ → List ℕ → Option ℕ → Option (List ℕ × List ℕ)
 cut separator xs None = None
 cut separator xs (Some k) = Some (take k xs, drop (k + length separator) xs)
 
--- what stands before and behind the first separator
+-- what stands before and after the first separator
 abbrev pub split_once : List ℕ → List ℕ → Option (List ℕ × List ℕ)
 split_once separator xs = cut separator xs (first_of (matches xs separator 0))
 
@@ -24,13 +24,13 @@ split_once separator xs = cut separator xs (first_of (matches xs separator 0))
 unfoldable pub saved_command : List ℕ → Option (List ℕ × List ℕ)
 saved_command line =
     option_and_then (checked (λ p. is_target p.0 && is_command p.1))
-    (option_and_then (split_once (codes " := ")) (behind (codes "savedcmd_") line))
+    (option_and_then (split_once (codes " := ")) (following (codes "savedcmd_") line))
 
 -- the source
 unfoldable pub source_in : List ℕ → List ℕ → Option (List ℕ)
 source_in target line =
-    let named = option_and_then (behind target) (behind (codes "source_") line) in
-    option_and_then (checked is_path) (option_and_then (behind (codes " := ")) named)
+    let named = option_and_then (following target) (following (codes "source_") line) in
+    option_and_then (checked is_path) (option_and_then (following (codes " := ")) named)
 
 -- the path of a listed file
 unfoldable pub path_in : List ℕ → Option (List ℕ)

@@ -4,7 +4,7 @@ use Rattle.std.specs.Option.{option_or}
 use Rattle.std.specs.Str.{bytes_eq}
 use Rattle.ks_symbols.specs.Decimal.{decimal_value}
 use Rattle.ks_fixdep.specs.declared.command_file.Dep.{Dep}
-use Rattle.ks_fixdep.specs.CommandLines.{line_feed, lines, content, behind, before}
+use Rattle.ks_fixdep.specs.CommandLines.{line_feed, lines, content, following, before}
 use Rattle.ks_fixdep.specs.CommandFile.{CommandRecord, deps_begin, target_line, deps_end, generation_mark}
 use Rattle.ks_fixdep.specs.CommandForms.{saved_command, source_in, dep_in}
 
@@ -44,13 +44,13 @@ unfoldable pub deps_in : List (List ℕ) → List Dep
 deps_in [] = []
 deps_in (l ∷ ls) = onto_deps (dep_in (content l)) (deps_in ls)
 
--- what a line behind the layout says of the generation: a generation line has a decimal and its end
-abbrev pub said_behind : ℕ → Option (List ℕ) → Result (Option ℕ) ℕ
-said_behind n None = Ok None
-said_behind n (Some x) = or_fault n (option_and_then decimal_value (before line_feed x)) >>= λ g. Ok (Some g)
+-- what a line after the layout says of the generation: a generation line has a decimal and its end
+abbrev pub said_after : ℕ → Option (List ℕ) → Result (Option ℕ) ℕ
+said_after n None = Ok None
+said_after n (Some x) = or_fault n (option_and_then decimal_value (before line_feed x)) >>= λ g. Ok (Some g)
 
 unfoldable pub said : ℕ → List ℕ → Result (Option ℕ) ℕ
-said n line = said_behind n (behind generation_mark line)
+said n line = said_after n (following generation_mark line)
 
 -- the last one counts
 unfoldable pub generation_from : ℕ → List (List ℕ) → Result (Option ℕ) ℕ
@@ -60,7 +60,7 @@ generation_from n (l ∷ ls) = do
   later ← generation_from (n + 1) ls
   Ok (option_or later own)
 
--- the generation of the lines behind the dependency lines, the first of which has number n
+-- the generation of the lines after the dependency lines, the first of which has number n
 unfoldable pub end_from : ℕ → List ℕ → List (List ℕ) → Result (Option ℕ) ℕ
 end_from n target ls = do
   ls ← fixed_at n [] ls

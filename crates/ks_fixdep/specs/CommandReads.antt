@@ -1,10 +1,10 @@
--- Which texts read as a command file: those with the lines of its layout, and behind them any that Kbuild appends. Among these the last
+-- Which texts read as a command file: those with the lines of its layout, and after them any that Kbuild appends. Among these the last
 -- generation counts. Rules of this project.
 use Rattle.std.specs.Prelude.{◌≡◌, ◌<◌, ◌≤◌, ◌+◌, ◌-◌, ℕ, Bool, not, ◌||◌, IsTrue, List, ◌++◌, length, take, Option, map, is_some, option_and_then}
 use Rattle.std.specs.List.{list_all, filter_map}
 use Rattle.memchr.specs.Find.{last_of}
 use Rattle.ks_symbols.specs.Decimal.{decimal_value}
-use Rattle.ks_fixdep.specs.CommandLines.{line_feed, lines, content, behind, between}
+use Rattle.ks_fixdep.specs.CommandLines.{line_feed, lines, content, following, between}
 use Rattle.ks_fixdep.specs.CommandFile.{CommandRecord, IsLegal, layout, generation_mark}
 
 -- the generation that a line says: a decimal stands between the mark and the line feed
@@ -13,7 +13,7 @@ generation_in line = option_and_then decimal_value (between generation_mark line
 
 -- a line that begins as a generation line is one
 abbrev pub is_sound : List ℕ → Bool
-is_sound line = not (is_some (behind generation_mark line)) || is_some (generation_in line)
+is_sound line = not (is_some (following generation_mark line)) || is_some (generation_in line)
 
 -- The lines of a text, each with its end, are those of a command file. Of the layout's lines the contents count, so the last one may lack its line feed.
 pub record LinesRead (ls : List (List ℕ)) (f : CommandRecord) : Type 0 where
@@ -34,7 +34,7 @@ pub record IsBeginning (ls : List (List ℕ)) : Type 0 where
   pub file : CommandRecord
   pub reads : LinesRead (ls ++ more) file
 
--- line n is the first that does not fit: a command file begins with the lines before it, and none with line n behind them, where it is there
+-- line n is the first that does not fit: a command file begins with the lines before it, and none with line n after them, where it is there
 pub record IsFirstMisfit (ls : List (List ℕ)) (n : ℕ) : Type 0 where
   pub counted : 0 < n
   pub within : n ≤ length ls + 1

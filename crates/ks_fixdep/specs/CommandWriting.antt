@@ -4,7 +4,7 @@ use Rattle.std.specs.Borrow.{Bor}
 use Rattle.ks_fixdep.specs.declared.command_file.Dep.{Dep}
 use Rattle.ks_fixdep.specs.CommandFile.{dep_line, ended}
 
--- the parts, one behind the other
+-- the parts, one after the other
 abbrev pub joined : List (Bor (List ℕ)) → List ℕ
 joined parts = flat_map (λ p. p.now) parts
 

@@ -9,13 +9,13 @@ use Rattle.ks_fixdep.specs.Scan.{taken, bare_name}
 abbrev pub noted : List (List ℕ) → List ℕ → List (List ℕ)
 noted names x = if list_any (bytes_eq x) names then names else names ++ x ∷ []
 
--- a name as it is lent
-abbrev pub lent_text : Bor (List ℕ) → List ℕ
-lent_text t = t.now
+-- a name as it is borrowed
+abbrev pub borrowed_text : Bor (List ℕ) → List ℕ
+borrowed_text t = t.now
 
--- the names, and each of those behind in turn
+-- the names, and each of those after in turn
 abbrev pub all_noted : List (List ℕ) → List (List ℕ) → List (List ℕ)
-all_noted names behind = fold noted names behind
+all_noted names following = fold noted names following
 
 -- Legal names, each of them once: to note them all in turn gives them back.
 pub record AreFoundNames (names : List (List ℕ)) : Type 0 where

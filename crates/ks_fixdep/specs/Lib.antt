@@ -9,12 +9,15 @@ pub mod FoundNames
 pub mod PlaceSet
 pub mod SourceTable
 pub mod SourceScan
+pub mod Dialects
+pub mod DialectExamples
+pub mod WordScan
 pub mod Tokens
 pub mod DependencyFile
 pub mod Progress
 pub mod CommandLines
 pub mod CommandFile
-pub mod Lent
+pub mod Borrowed
 pub mod CommandReads
 pub mod CommandForms
 pub mod CommandReading
@@ -23,3 +26,4 @@ pub mod CommandLaws
 pub mod CommandExamples
 pub mod CommandWriting
 pub mod Record
+pub mod Rule

@@ -1,4 +1,4 @@
--- What a lent name says, and what an iterator over names has left.
+-- What a borrowed name says, and what an iterator over names has left.
 use Rattle.std.specs.Prelude.{List, drop}
 use Rattle.ks_fixdep.specs.declared.scan.Found.{Found}
 use Rattle.ks_fixdep.specs.declared.name_iter.NameIter.{NameIter}

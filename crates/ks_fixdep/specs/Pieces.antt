@@ -13,19 +13,19 @@ is_followed t x = nat_lt (x.place + length (take_while is_word_byte (drop x.plac
 abbrev pub EndedAreFollowed : Type 0
 EndedAreFollowed = (t : List ℕ) → ended t ≡ filter (is_followed t) (taken t)
 
--- each list was lent for its piece: after what was ended before, it is what is ended now
-abbrev pub LentInTurn : List ℕ → List (List ℕ) → List (List NameAt) → Type 0
-LentInTurn before [] [] = Unit {0}
-LentInTurn before [] (xs ∷ lent) = ⊥
-LentInTurn before (p ∷ ps) [] = ⊥
-LentInTurn before (p ∷ ps) (xs ∷ lent) = (ended (before ++ p) ≡ ended before ++ xs) × LentInTurn (before ++ p) ps lent
+-- each list was borrowed for its piece: after what was ended before, it is what is ended now
+abbrev pub BorrowedInTurn : List ℕ → List (List ℕ) → List (List NameAt) → Type 0
+BorrowedInTurn before [] [] = Unit {0}
+BorrowedInTurn before [] (xs ∷ borrowed) = ⊥
+BorrowedInTurn before (p ∷ ps) [] = ⊥
+BorrowedInTurn before (p ∷ ps) (xs ∷ borrowed) = (ended (before ++ p) ≡ ended before ++ xs) × BorrowedInTurn (before ++ p) ps borrowed
 
 -- all pieces together
 abbrev pub joined : List (List ℕ) → List ℕ
 joined pieces = flat_map (λ p. p) pieces
 
--- What is lent for the pieces in turn, and last at the end of the text, is what the joined text has.
+-- What is borrowed for the pieces in turn, and last at the end of the text, is what the joined text has.
 abbrev pub PiecesGiveTheWhole : Type 0
-PiecesGiveTheWhole = (pieces : List (List ℕ)) (lent : List (List NameAt)) (last : List NameAt) → LentInTurn [] pieces lent → taken (joined pieces)
+PiecesGiveTheWhole = (pieces : List (List ℕ)) (borrowed : List (List NameAt)) (last : List NameAt) → BorrowedInTurn [] pieces borrowed → taken (joined pieces)
     ≡ ended (joined pieces) ++ last
-    → flat_map (λ xs. xs) lent ++ last ≡ taken (joined pieces)
+    → flat_map (λ xs. xs) borrowed ++ last ≡ taken (joined pieces)

@@ -3,7 +3,7 @@ use Rattle.std.specs.Prelude.{◌≡◌, ℕ, ◌+◌, ◌-◌, ◌⊎◌, false
 use Rattle.std.specs.List.{list_all}
 use Rattle.std.specs.List.Sorted.{IsStrictlyIncreasing}
 use Rattle.memchr.specs.Find.{OccursAt}
-use Rattle.ks_symbols.specs.Names.{is_word_byte, is_name, less}
+use Rattle.ks_symbols.specs.Names.{is_word_byte, is_name, without_module}
 use Rattle.ks_fixdep.specs.Scan.{NameAt, prefix, taken}
 
 -- `CONFIG_` stands in the text at place i, and no word byte before it
@@ -22,7 +22,7 @@ pub record IsTaken (t : List ℕ) (x : NameAt) : Type 0 where
   pub place : IsPlace t x.place
   pub run : List ℕ
   pub is_run : IsRun t (x.place + 7) run
-  pub name : x.name ≡ less run
+  pub name : x.name ≡ without_module run
   pub legal : IsTrue (is_name x.name)
 
 -- what is listed of a text is what is taken of it, by rising place

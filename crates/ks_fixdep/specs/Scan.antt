@@ -2,7 +2,7 @@
 use Rattle.std.specs.Prelude.{codes, ℕ, ◌+◌, List, [], ◌∷◌, ◌++◌, Option, Some, None, drop, take, slice_index, if◌then◌else◌}
 use Rattle.std.specs.List.{take_while}
 use Rattle.std.specs.Str.{bytes_eq}
-use Rattle.ks_symbols.specs.Names.{is_word_byte, is_name, less}
+use Rattle.ks_symbols.specs.Names.{is_word_byte, is_name, without_module}
 
 -- `CONFIG_`
 abbrev pub prefix : List ℕ
@@ -14,7 +14,7 @@ byte_before t i = slice_index (0 ∷ t) i
 
 -- the name of a run: the run without one final `_MODULE`, where that is a legal name
 unfoldable pub name_of : List ℕ → Option (List ℕ)
-name_of run = if is_name (less run) then Some (less run) else None
+name_of run = if is_name (without_module run) then Some (without_module run) else None
 
 -- the name of a whole word: that of the run after `CONFIG_`, where it begins so
 unfoldable pub name_of_word : List ℕ → Option (List ℕ)

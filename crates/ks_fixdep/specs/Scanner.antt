@@ -1,4 +1,4 @@
--- What a scanner keeps once the names that it lent are given back.
+-- What a scanner keeps once the names that it borrowed are given back.
 use Rattle.std.specs.Prelude.{ℕ, List, Option}
 use Rattle.std.specs.Borrow.{MutBor, Fml}
 use Rattle.std.specs.Io.BufRead.{Rests}

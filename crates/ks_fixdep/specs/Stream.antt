@@ -40,9 +40,9 @@ further n x = record { place = n + x.place; name = x.name }
 abbrev pub ended : List ℕ → List NameAt
 ended t = taken (before_last_word t)
 
--- what is lent after a text: the name that began in its last word, and those that begin later, counted from its end
-abbrev pub lent_behind : List ℕ → Option (List ℕ) → List NameAt → List NameAt
-lent_behind t carried names = placed (length (before_last_word t)) carried ++ map (further (length t)) names
+-- what is borrowed after a text: the name that began in its last word, and those that begin later, counted from its end
+abbrev pub borrowed_after : List ℕ → Option (List ℕ) → List NameAt → List NameAt
+borrowed_after t carried names = placed (length (before_last_word t)) carried ++ map (further (length t)) names
 
 -- a name as a list of at most one
 abbrev pub list_of : Option (List ℕ) → List (List ℕ)

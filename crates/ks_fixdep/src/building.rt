@@ -1,77 +1,33 @@
-//! The command file of an object, from its prerequisites and the names found in them. Each name stands once,
-//! with the first prerequisite that has it, so that the file is short and the same on every machine.
-ghost use Rattle.std.specs.Prelude.{◌≡◌, ◌++◌, [], IfOk, IsTrue, OnOk, length, map};
-ghost use Rattle.ks_symbols.specs.Names.{is_path};
+//! The command file of an object as a value. It is what its text says, and the text is written as that of every record.
+ghost use Rattle.std.specs.Prelude.{◌≡◌, IfOk, length, map};
 ghost use Rattle.ks_symbols.specs.Refusals.{RefusedBy};
 ghost use Rattle.ks_fixdep.specs.CommandFile.{view};
-ghost use Rattle.ks_fixdep.specs.FoundNames.{all_noted, names_in};
-ghost use Rattle.ks_fixdep.specs.Record.{own_line, new_names, deps_after, record_of, record_refusal};
-ghost use Rattle.ks_fixdep.specs.declared.command_file.Dep.TheVariants.{Config};
+ghost use Rattle.ks_fixdep.specs.FoundNames.{names_in};
+ghost use Rattle.ks_fixdep.specs.Record.{record_of, record_refusal};
+ghost use Rattle.ks_fixdep.specs.SourceScan.{names_by};
 
-use crate::command_file::{CommandFile, Dep, command_is_legal};
+use crate::command_file::{
+    CommandError, CommandFile, command_is_legal, command_texts_read_back, own_record_in,
+};
 use crate::dep_error::DepError;
-use crate::dependency_file::{Prerequisites, Role};
+use crate::dependency_file::Prerequisites;
 use crate::found_names::{FoundNames, names_of_text};
-use crate::listing::source_path;
-use ks_symbols::{Name, Path, target_is_legal};
+use crate::listing::record_text;
+use crate::seed::Seed;
+use crate::source_scan::NamesBySource;
+use ks_symbols::target_is_legal;
 use std::alloc::{AllocError, Global};
 
-/// Adds a prerequisite, where its role says so.
-fn add_own_line(
-    alloc: Global,
-    deps: &mut Vec<Dep>,
-    path: &[u8],
-    role: Role,
-) -> Result<(), AllocError>
-    requires { IsTrue (is_path path.now) }
-    ensures { OnOk result (deps.new.items ≡ deps.old.items ++ own_line (path.now, role)) }
+/// The lists as the names of sources, one for each prerequisite.
+fn by_source(alloc: Global, found: &[FoundNames]) -> Result<NamesBySource, AllocError>
+    ensures { IfOk result (λ n. names_by n ≡ found.now) }
 {
-    if role == Role::Listed {
-        deps.push(Dep::File(Path::new(alloc, path)?))?;
-    }
-    Ok(())
-}
-
-/// Adds the names of a prerequisite that none before has.
-fn add_new_names(
-    alloc: Global,
-    deps: &mut Vec<Dep>,
-    before: &mut FoundNames,
-    names: &FoundNames,
-) -> Result<(), AllocError>
-    ensures deps { OnOk result (deps.new.items ≡ deps.old.items ++ map Config (new_names before.old names.now)) }
-    ensures before { OnOk result (before.new ≡ all_noted before.old names.now) }
-{
-    for name in names.names() {
-        let len = before.len();
-        before.note(name)?;
-        if before.len() > len {
-            deps.push(Dep::Config(Name::new(alloc, name)?))?;
-        }
-    }
-    Ok(())
-}
-
-/// The dependency lines of an object.
-fn dependencies(
-    alloc: Global,
-    prerequisites: &Prerequisites,
-    found: &[FoundNames],
-) -> Result<Vec<Dep>, AllocError>
-    requires { length found.now ≡ length prerequisites.now }
-    ensures { IfOk result (λ deps. deps.items ≡ deps_after [] prerequisites.now found.now) }
-{
-    let mut deps = Vec::new(alloc);
-    let mut before = FoundNames::new(alloc);
-    let mut entries = prerequisites.entries();
+    let mut all = NamesBySource::with_seed(alloc, Seed::new(0));
     for names in found {
-        let Some((path, role)) = entries.next() else {
-            unreachable!();
-        };
-        add_own_line(alloc, &mut deps, path, *role)?;
-        add_new_names(alloc, &mut deps, &mut before, names)?;
+        all.scan.add_source(names)?;
     }
-    Ok(deps)
+    all.sources = (0..found.len()).collect(alloc)?;
+    Ok(all)
 }
 
 /// The command file of a target, from the names found in each prerequisite, in order.
@@ -92,13 +48,17 @@ pub fn build_from(
     if !command_is_legal(command) {
         return Err(DepError::BadCommand);
     }
-    Ok(CommandFile {
-        target: Path::new(alloc, target)?,
-        command: command.to_vec(alloc)?,
-        source: Path::new(alloc, source_path(prerequisites))?,
-        deps: dependencies(alloc, prerequisites, found)?,
-        generation: None,
-    })
+    let mut names = by_source(alloc, found)?;
+    let written = record_text(alloc, target, command, prerequisites, &mut names, None)?;
+    command_texts_read_back();
+    match own_record_in(alloc, &written.text) {
+        Ok(file) => Ok(file),
+        Err(fault) => match fault {
+            // What was just written fits.
+            CommandError::BadCommandFile(_) | CommandError::TooLarge => unreachable!(),
+            CommandError::OutOfMemory => Err(DepError::OutOfMemory),
+        },
+    }
 }
 
 /// The names of each text.

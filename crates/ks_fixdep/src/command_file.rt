@@ -6,15 +6,17 @@ ghost use Rattle.std.specs.Prelude.{◌≡◌};
 ghost use Rattle.ks_fixdep.specs.CommandFile.{is_command, is_command_byte};
 ghost use Rattle.ks_fixdep.specs.declared.command_file.CommandError.TheVariants.{OutOfMemory};
 
+mod borrowed;
 mod laws;
-mod lent;
+mod owning;
 mod reading;
 mod writing;
 
+pub use borrowed::{BorrowedCommand, BorrowedDep, BorrowedName};
 use ks_symbols::{Name, Path};
 pub use laws::{command_examples, command_files_fit, command_texts_read_back};
-pub use lent::{LentCommand, LentDep, LentName};
-pub use reading::{lend_command, read_command};
+pub(crate) use reading::own_record_in;
+pub use reading::{borrow_command, read_command};
 use std::alloc::{AllocError, AllocFailed};
 use thiserror::Error;
 pub use writing::write_command;

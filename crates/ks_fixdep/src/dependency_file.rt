@@ -1,7 +1,7 @@
 //! Dependency files, which a compiler writes with -MD: the files that an object was made from, in one rule or
 //! several. Which file is scanned for names and which is listed for make follows from its place alone. Paths
 //! that a makefile would read as something else are refused, so that no command file says what was not meant.
-ghost use Rattle.std.specs.Prelude.{◌≡◌, ◌≤◌, ◌<◌, ◌+◌, ◌^◌, ◌++◌, ◌∷◌, [], List, ℕ, IfOk, IfErr, IfSome, OnOk, IsTrue, None, nat_eq, length, slice_get, if◌then◌else◌};
+ghost use Rattle.std.specs.Prelude.{◌≡◌, ◌≤◌, ◌<◌, ◌+◌, ◌-◌, ◌^◌, ◌&&◌, ◌++◌, take, ◌∷◌, [], List, ℕ, IfOk, IfErr, IfSome, OnOk, IsTrue, None, nat_eq, length, slice_get, if◌then◌else◌};
 ghost use Rattle.std.specs.Iterator.{item_count};
 ghost use Rattle.std.specs.List.{ends_with, list_all};
 ghost use Rattle.std.specs.Map.Iter.{TakesFirst};
@@ -10,11 +10,11 @@ ghost use Rattle.ks_symbols.specs.Lines.{max_bytes};
 ghost use Rattle.ks_symbols.specs.Names.{is_path, header_path};
 ghost use Rattle.ks_symbols.specs.Refusals.{IsRefusal, RefusedBy};
 ghost use Rattle.ks_fixdep.specs.Tokens.{tokens};
-ghost use Rattle.ks_fixdep.specs.DependencyFile.{is_target_token, added, paths_of, lent_pair, prerequisites, token_refusal, dependency_refusal};
+ghost use Rattle.ks_fixdep.specs.DependencyFile.{is_target_token, is_folder, is_header, added, paths_of, borrowed_pair, prerequisites, prerequisites_without, token_refusal, dependency_refusal, refusal_without};
 ghost use Rattle.ks_fixdep.specs.declared.dependency_file.Role.TheVariants as role;
 
 use crate::dep_error::DepError;
-use crate::seed::Seed;
+use crate::seed::{Seed, path_text};
 use crate::tokens::Tokens;
 use indexmap::IndexMap;
 use indexmap::map::Iter;
@@ -23,6 +23,15 @@ use std::alloc::{AllocError, Global};
 use std::marker::Model;
 
 const HEADER: &[u8] = b"include/generated/autoconf.h";
+
+/// The header of all symbols, which no object is said to be made of: what it defines is found by the names alone.
+#[derive(Clone, Copy, Debug)]
+pub enum Header<'a> {
+    /// Whatever ends in `include/generated/autoconf.h`.
+    Usual,
+    /// The path that is, or whose end after a slash is, this one.
+    At(&'a [u8]),
+}
 
 /// What becomes of a prerequisite: the source is scanned and named as such, a scanned one is only scanned, a
 /// listed one is also listed.
@@ -36,7 +45,7 @@ pub enum Role {
 /// The prerequisites of an object with their roles, in the order of their first places. There is one at least.
 #[derive(Drop)]
 pub struct Prerequisites {
-    by_path: IndexMap<Vec<u8>, Role, Seed>,
+    by_path: IndexMap<String, Role, Seed>,
 }
 
 impl Model for Prerequisites {
@@ -67,29 +76,29 @@ impl Prerequisites {
         ensures legal { IfSome result (λ p. IsTrue (is_path p.0.now)) }
     {
         match self.by_path.get_index(place) {
-            Some((path, role)) => Some((path.as_slice(), *role)),
+            Some((path, role)) => Some((path.as_bytes(), *role)),
             None => None,
         }
     }
 
     /// Their paths and roles, in their order.
-    pub(crate) fn entries(&self) -> LentPrerequisites<'_>
+    pub(crate) fn entries(&self) -> BorrowedPrerequisites<'_>
         ensures value { result ≡ self.now }
         ensures legal { IsTrue (list_all (λ p. is_path p.0) result) }
     {
-        LentPrerequisites {
+        BorrowedPrerequisites {
             inner: self.by_path.iter(),
         }
     }
 }
 
-/// Paths and their roles, lent one by one.
+/// Paths and their roles, borrowed one by one.
 #[derive(Drop)]
-pub struct LentPrerequisites<'a> {
-    inner: Iter<'a, Vec<u8>, Role>,
+pub struct BorrowedPrerequisites<'a> {
+    inner: Iter<'a, String, Role>,
 }
 
-impl<'a> Model for LentPrerequisites<'a> {
+impl<'a> Model for BorrowedPrerequisites<'a> {
     ghost use Rattle.std.specs.Prelude.{List, ℕ};
     ghost use Rattle.ks_fixdep.specs.declared.dependency_file.Role.{Role};
 
@@ -100,16 +109,16 @@ impl<'a> Model for LentPrerequisites<'a> {
     ghost view = { λ p. paths_of p.inner };
 }
 
-impl<'a> Iterator for LentPrerequisites<'a> {
+impl<'a> Iterator for BorrowedPrerequisites<'a> {
     type Item = (&'a [u8], &'a Role);
 
-    ghost next_gives = { TakesFirst lent_pair };
+    ghost next_gives = { TakesFirst borrowed_pair };
 
     ghost remaining = { item_count (λ rest. rest) };
 
     fn next(&mut self) -> Option<(&'a [u8], &'a Role)> {
         match self.inner.next() {
-            Some((path, role)) => Some((path.as_slice(), role)),
+            Some((path, role)) => Some((path.as_bytes(), role)),
             None => None,
         }
     }
@@ -122,12 +131,39 @@ fn names_target(token: &[u8]) -> bool
     token.ends_with(b":")
 }
 
-/// Whether a token is the header's.
+/// Whether a token ends in the usual path of the header.
 #[tactic(auto, unfolding(ks_symbols::specs::Names::header_path))]
-fn names_header(token: &[u8]) -> bool
+fn ends_as_usual(token: &[u8]) -> bool
     ensures { result ≡ ends_with nat_eq token.now header_path }
 {
     token.ends_with(HEADER)
+}
+
+/// Whether what stands before a path leaves it a path of its own.
+fn names_folder(front: &[u8]) -> bool
+    ensures { result ≡ is_folder front.now }
+{
+    front.is_empty() || front.ends_with(b"/")
+}
+
+/// Whether a token is a path, or ends in it after a slash.
+fn ends_in_path(token: &[u8], path: &[u8]) -> bool
+    ensures { result ≡ (ends_with nat_eq token.now path.now && is_folder (take (length token.now - length path.now) token.now)) }
+{
+    match token.strip_suffix(path) {
+        Some(front) => names_folder(front),
+        None => false,
+    }
+}
+
+/// Whether a token is the header's.
+fn names_header(header: Header<'_>, token: &[u8]) -> bool
+    ensures { result ≡ is_header header.entry token.now }
+{
+    match header {
+        Header::Usual => ends_as_usual(token),
+        Header::At(path) => ends_in_path(token, path),
+    }
 }
 
 /// The role of the next kept token.
@@ -141,20 +177,17 @@ fn next_role(has_kept: bool, has_kept_since_target: bool) -> Role
     }
 }
 
-/// Notes a prerequisite, unless its path was noted before.
+/// Notes a prerequisite, unless its path was noted before. Few were, so the path is copied and then hashed once.
 fn note(
     alloc: Global,
-    by_path: &mut IndexMap<Vec<u8>, Role, Seed>,
-    path: &[u8],
+    by_path: &mut IndexMap<String, Role, Seed>,
+    path: &str,
     role: Role,
 ) -> Result<(), AllocError>
     ensures { OnOk result (paths_of by_path.new.entries ≡ added (paths_of by_path.old.entries) (path.now, role)) }
 {
-    if by_path.contains_key(path) {
-        return Ok(());
-    }
-    let owned = Vec::from_slice(alloc, path)?;
-    by_path.insert(owned, role)?;
+    let owned = String::from_str(alloc, path)?;
+    by_path.entry(owned)?.or_insert(role);
     Ok(())
 }
 
@@ -166,16 +199,17 @@ struct Progress {
     has_target: bool,
     has_kept: bool,
     has_kept_since_target: bool,
-    by_path: IndexMap<Vec<u8>, Role, Seed>,
+    by_path: IndexMap<String, Role, Seed>,
 }
 
 impl Progress {
     ghost use Rattle.ks_fixdep.specs.Progress.{Stands};
     ghost use Rattle.ks_fixdep.specs.DependencyFile.{fault_after};
+    ghost use Rattle.ks_fixdep.specs.declared.dependency_file.Header.{Header};
 
     /// No token was read yet.
     fn new(alloc: Global, seed: Seed) -> Progress
-        ensures { Stands result [] }
+        ensures { (header : Header) → Stands header result [] }
     {
         Progress {
             alloc,
@@ -188,11 +222,12 @@ impl Progress {
     }
 
     /// Takes one more token.
-    fn take(&mut self, token: &[u8]) -> Result<(), DepError>
+    fn take(&mut self, header: Header<'_>, token: &[u8]) -> Result<(), DepError>
         requires { self.old.number < 2 ^ 63 }
-        ensures stands { OnOk result ((seen : List (List ℕ)) → Stands self.old seen → Stands self.new (seen ++ token.now ∷ [])) }
-        ensures fits { OnOk result ((seen : List (List ℕ)) → Stands self.old seen → fault_after seen token.now ≡ None) }
-        ensures refusal { IfErr result (λ e. (seen : List (List ℕ)) → Stands self.old seen → IsRefusal DepError.OutOfMemory e (fault_after seen token.now)) }
+        ensures stands { OnOk result ((seen : List (List ℕ)) → Stands header.entry self.old seen → Stands header.entry self.new (seen ++ token.now ∷ [])) }
+        ensures fits { OnOk result ((seen : List (List ℕ)) → Stands header.entry self.old seen → fault_after header.entry seen token.now ≡ None) }
+        ensures refusal { IfErr result (λ e. (seen : List (List ℕ)) → Stands header.entry self.old seen
+            → IsRefusal DepError.OutOfMemory e (fault_after header.entry seen token.now)) }
     {
         self.number += 1;
         if names_target(token) {
@@ -203,14 +238,15 @@ impl Progress {
         if !self.has_target {
             return Err(DepError::NoTarget);
         }
-        if names_header(token) {
+        if names_header(header, token) {
             return Ok(());
         }
         if !path_is_legal(token) {
             return Err(DepError::BadPath(self.number));
         }
+        let path = path_text(token);
         let role = next_role(self.has_kept, self.has_kept_since_target);
-        note(self.alloc, &mut self.by_path, token, role)?;
+        note(self.alloc, &mut self.by_path, path, role)?;
         self.has_kept = true;
         self.has_kept_since_target = true;
         Ok(())
@@ -218,14 +254,19 @@ impl Progress {
 }
 
 /// The prerequisites of a dependency file of bounded length.
-fn prerequisites_of(alloc: Global, seed: Seed, text: &[u8]) -> Result<Prerequisites, DepError>
+fn prerequisites_of(
+    alloc: Global,
+    seed: Seed,
+    header: Header<'_>,
+    text: &[u8],
+) -> Result<Prerequisites, DepError>
     requires { length text.now ≤ max_bytes }
-    ensures value { IfOk result (λ p. p ≡ prerequisites text.now) }
-    ensures refusal { RefusedBy DepError.OutOfMemory result (token_refusal (tokens text.now)) }
+    ensures value { IfOk result (λ p. p ≡ prerequisites_without header.entry text.now) }
+    ensures refusal { RefusedBy DepError.OutOfMemory result (token_refusal header.entry (tokens text.now)) }
 {
     let mut progress = Progress::new(alloc, seed);
     for token in Tokens::new(text) {
-        progress.take(token)?;
+        progress.take(header, token)?;
     }
     if !progress.has_kept {
         return Err(DepError::NoTarget);
@@ -245,13 +286,26 @@ pub fn read_depfile(alloc: Global, text: &[u8]) -> Result<Prerequisites, DepErro
 }
 
 /// The same, with paths that are sought by a seed.
-#[tactic(auto, unfolding(crate::specs::DependencyFile::dependency_refusal))]
 pub fn read_depfile_by(alloc: Global, seed: Seed, text: &[u8]) -> Result<Prerequisites, DepError>
     ensures value { IfOk result (λ p. p ≡ prerequisites text.now) }
     ensures refusal { RefusedBy DepError.OutOfMemory result (dependency_refusal text.now) }
 {
+    read_depfile_without(alloc, seed, Header::Usual, text)
+}
+
+/// The same, where another header is that of all symbols.
+#[tactic(auto, unfolding(crate::specs::DependencyFile::refusal_without))]
+pub fn read_depfile_without(
+    alloc: Global,
+    seed: Seed,
+    header: Header<'_>,
+    text: &[u8],
+) -> Result<Prerequisites, DepError>
+    ensures value { IfOk result (λ p. p ≡ prerequisites_without header.entry text.now) }
+    ensures refusal { RefusedBy DepError.OutOfMemory result (refusal_without header.entry text.now) }
+{
     if text.len() > MAX_BYTES {
         return Err(DepError::TooLarge);
     }
-    prerequisites_of(alloc, seed, text)
+    prerequisites_of(alloc, seed, header, text)
 }

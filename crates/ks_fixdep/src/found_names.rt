@@ -5,11 +5,11 @@ ghost use Rattle.std.specs.Iterator.{item_count};
 ghost use Rattle.std.specs.Map.Iter.{TakesFirst};
 ghost use Rattle.std.specs.Option.{option_copied};
 ghost use Rattle.ks_symbols.specs.Names.{is_name};
-ghost use Rattle.ks_fixdep.specs.FoundNames.{lent_text, names_in};
+ghost use Rattle.ks_fixdep.specs.FoundNames.{borrowed_text, names_in};
 
 use crate::prefix_finder::PrefixFinder;
 use crate::scan::names;
-use crate::seed::Seed;
+use crate::seed::{Seed, name_text};
 use indexmap::IndexSet;
 use std::alloc::{AllocError, Global};
 use std::marker::Model;
@@ -19,18 +19,18 @@ use std::slice::Iter;
 #[derive(Drop)]
 pub struct FoundNames {
     alloc: Global,
-    names: IndexSet<Vec<u8>, Seed>,
+    names: IndexSet<String, Seed>,
 }
 
 impl Model for FoundNames {
-    ghost use Rattle.std.specs.Prelude.{List, ℕ, map, vec_items};
+    ghost use Rattle.std.specs.Prelude.{List, ℕ, map, string_bytes};
     ghost use Rattle.ks_fixdep.specs.FoundNames.{AreFoundNames};
 
     ghost Value = { List (List ℕ) };
 
-    ghost view = { λ f. map vec_items f.names.keys };
+    ghost view = { λ f. map string_bytes f.names.keys };
 
-    ghost invariant = { λ f. AreFoundNames (map vec_items f.names.keys) };
+    ghost invariant = { λ f. AreFoundNames (map string_bytes f.names.keys) };
 }
 
 impl FoundNames {
@@ -71,10 +71,11 @@ impl FoundNames {
         ensures only { IfOk result (λ i. (j : ℕ) → slice_get self.new j ≡ Some name.now → j ≡ i) }
         ensures err { OnErr result (self.new ≡ self.old) }
     {
-        if let Some((place, _)) = self.names.get_full(name) {
+        let text = name_text(name);
+        if let Some((place, _)) = self.names.get_full(text) {
             return Ok(place);
         }
-        let owned = Vec::from_slice(self.alloc, name)?;
+        let owned = String::from_str(self.alloc, text)?;
         let (place, _) = self.names.insert_full(owned)?;
         Ok(place)
     }
@@ -86,7 +87,7 @@ impl FoundNames {
         ensures only { IfSome result (λ x. (i : ℕ) → slice_get self.now i ≡ Some x.now → i ≡ place) }
     {
         match self.names.get_index(place) {
-            Some(name) => Some(name.as_slice()),
+            Some(name) => Some(name.as_bytes()),
             None => None,
         }
     }
@@ -106,24 +107,24 @@ impl FoundNames {
     }
 
     /// The names, in the order in which they were first noted.
-    pub fn names(&self) -> LentNames<'_>
+    pub fn names(&self) -> BorrowedNames<'_>
         ensures value { result ≡ self.now }
         ensures found { AreFoundNames result }
     {
-        LentNames {
+        BorrowedNames {
             inner: self.names.as_slice().iter(),
         }
     }
 }
 
-/// Names that are lent one by one.
+/// Names that are borrowed one by one.
 #[derive(Drop)]
-pub struct LentNames<'a> {
-    inner: Iter<'a, Vec<u8>>,
+pub struct BorrowedNames<'a> {
+    inner: Iter<'a, String>,
 }
 
-impl<'a> Model for LentNames<'a> {
-    ghost use Rattle.std.specs.Prelude.{List, ℕ, map, vec_items};
+impl<'a> Model for BorrowedNames<'a> {
+    ghost use Rattle.std.specs.Prelude.{List, ℕ, map, string_bytes};
     ghost use Rattle.std.specs.Coded.{coded_list, coded_ℕ};
     ghost use Rattle.std.specs.Slice.Iter.{iter_rest};
 
@@ -131,19 +132,19 @@ impl<'a> Model for LentNames<'a> {
 
     ghost coded = { coded_list (coded_list coded_ℕ) };
 
-    ghost view = { λ n. map vec_items (iter_rest n.inner) };
+    ghost view = { λ n. map string_bytes (iter_rest n.inner) };
 }
 
-impl<'a> Iterator for LentNames<'a> {
+impl<'a> Iterator for BorrowedNames<'a> {
     type Item = &'a [u8];
 
-    ghost next_gives = { TakesFirst lent_text };
+    ghost next_gives = { TakesFirst borrowed_text };
 
     ghost remaining = { item_count (λ rest. rest) };
 
     fn next(&mut self) -> Option<&'a [u8]> {
         match self.inner.next() {
-            Some(name) => Some(name.as_slice()),
+            Some(name) => Some(name.as_bytes()),
             None => None,
         }
     }

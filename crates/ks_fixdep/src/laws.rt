@@ -4,10 +4,14 @@ ghost use Rattle.ks_fixdep.specs.Scan.{taken, bare_name};
 ghost use Rattle.ks_fixdep.specs.Places.{ListsTaken};
 ghost use Rattle.ks_fixdep.specs.Pieces.{EndedAreFollowed, PiecesGiveTheWhole};
 ghost use Rattle.ks_fixdep.specs.FoundNames.{all_noted, names_in, names_of};
+ghost use Rattle.ks_fixdep.specs.DialectExamples.{busybox_rows, uboot_rows};
+ghost use Rattle.ks_fixdep.specs.Dialects.{names_as, rules_for};
 ghost use Rattle.ks_fixdep.specs.Record.{deps_after, config_names};
 ghost use Rattle.ks_fixdep.specs.DependencyFile.{prerequisites, dependency_refusal};
 ghost use Rattle.ks_fixdep.specs.declared.command_file.Dep.TheVariants.{File, Config};
 ghost use Rattle.ks_fixdep.specs.declared.dep_error.DepError.TheVariants as errors;
+ghost use Rattle.ks_fixdep.specs.declared.dialect.Dialect.TheVariants as dialect;
+ghost use Rattle.ks_fixdep.specs.declared.dialect.Rules.TheVariants as rules;
 ghost use Rattle.ks_fixdep.specs.declared.dependency_file.Role.{Role};
 ghost use Rattle.ks_fixdep.specs.declared.dependency_file.Role.TheVariants as role;
 
@@ -21,7 +25,7 @@ pub fn ended_names_are_followed()
     ensures { EndedAreFollowed }
 {}
 
-/// What a scanner lends for the pieces of a text in turn, and at its end, is what the scan of the joined text lists.
+/// What a scanner borrows for the pieces of a text in turn, and at its end, is what the scan of the joined text lists.
 pub fn pieces_give_the_whole()
     ensures { PiecesGiveTheWhole }
 {}
@@ -46,4 +50,10 @@ pub fn recording_examples()
     ensures lines { deps_after [] ((codes "x.c", role.Source) ∷ (codes "a.h", role.Listed) ∷ (codes "b.h", role.Listed) ∷ [])
         ((codes "A" ∷ codes "B" ∷ []) ∷ (codes "B" ∷ codes "C" ∷ []) ∷ (codes "A" ∷ []) ∷ [])
         ≡ Config (codes "A") ∷ Config (codes "B") ∷ File (codes "a.h") ∷ Config (codes "C") ∷ File (codes "b.h") ∷ [] }
+{}
+
+/// Texts with their names in BusyBox, and in U-Boot by the target.
+pub fn dialect_examples()
+    ensures busybox { map (λ row. names_as rules.BusyBox row.0) busybox_rows ≡ map (λ row. row.1) busybox_rows }
+    ensures uboot { map (λ row. names_as (rules_for dialect.UBoot row.0) row.1) uboot_rows ≡ map (λ row. row.2) uboot_rows }
 {}

@@ -1,16 +1,21 @@
 //! What an object was built from: the names in its sources, its dependency file, and the command file that records both.
 #![tactic(auto)]
 
+mod awaited;
 mod building;
 mod command_file;
 mod dep_error;
 mod dependency_file;
+mod dialect;
 mod found_names;
 mod laws;
 mod listing;
 mod name_iter;
+mod object_names;
+mod open_word;
 mod place_set;
 mod prefix_finder;
+mod rule;
 mod runs;
 mod scan;
 mod scanner;
@@ -18,24 +23,31 @@ mod seed;
 mod source_scan;
 mod source_table;
 mod tokens;
+mod word_scan;
 
 pub use building::{build, build_from};
 pub use command_file::{
-    CommandError, CommandFile, Dep, LentCommand, LentDep, LentName, command_examples,
-    command_files_fit, command_is_legal, command_texts_read_back, lend_command, read_command,
+    BorrowedCommand, BorrowedDep, BorrowedName, CommandError, CommandFile, Dep, borrow_command,
+    command_examples, command_files_fit, command_is_legal, command_texts_read_back, read_command,
     write_command,
 };
 pub use dep_error::DepError;
-pub use dependency_file::{LentPrerequisites, Prerequisites, Role, read_depfile, read_depfile_by};
-pub use found_names::{FoundNames, LentNames};
+pub use dependency_file::{
+    BorrowedPrerequisites, Header, Prerequisites, Role, read_depfile, read_depfile_by,
+    read_depfile_without,
+};
+pub use dialect::{Dialect, Phase, Rules};
+pub use found_names::{BorrowedNames, FoundNames};
 pub use laws::{
-    ended_names_are_followed, names_by_places, names_of_a_record, names_of_all_sources,
-    pieces_give_the_whole, recording_examples,
+    dialect_examples, ended_names_are_followed, names_by_places, names_of_a_record,
+    names_of_all_sources, pieces_give_the_whole, recording_examples,
 };
 pub use listing::{RecordText, record_text};
 pub use name_iter::NameIter;
+pub use object_names::names_of_object;
+pub use rule::{rule_text, rules_read_back};
 pub use scan::{Found, names};
 pub use scanner::{Fed, Scanner};
-pub use seed::Seed;
+pub use seed::{Seed, name_text};
 pub use source_scan::{NamesBySource, SourceScan};
 pub use tokens::token_at;

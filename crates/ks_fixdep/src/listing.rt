@@ -119,6 +119,7 @@ pub fn record_text(
     ensures source { OnOk result (IsTrue (is_path (source_of prerequisites.now))) }
     ensures deps { OnOk result (IsTrue (list_all is_dep (deps_after [] prerequisites.now (names_by found.old)))) }
     ensures scan { found.new.scan ≡ found.old.scan }
+    ensures sources { found.new.sources ≡ found.old.sources }
 {
     let lines = prerequisites.len().saturating_mul(2);
     let mut text = Vec::with_capacity(alloc, lines.saturating_mul(USUAL_LINE))?;

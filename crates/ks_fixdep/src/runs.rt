@@ -4,7 +4,7 @@
 ghost use Rattle.std.specs.Prelude.{◌≡◌, ◌≤◌, length, IsTrue, IfSome};
 ghost use Rattle.std.specs.List.{list_all, take_while};
 ghost use Rattle.std.specs.Option.{option_copied};
-ghost use Rattle.ks_symbols.specs.Names.{is_word_byte, is_name, less};
+ghost use Rattle.ks_symbols.specs.Names.{is_word_byte, is_name, without_module};
 ghost use Rattle.ks_fixdep.specs.Scan.{name_of, name_of_word};
 ghost use Rattle.ks_fixdep.specs.Stream.{last_word};
 
@@ -51,7 +51,7 @@ pub(crate) fn trailing_word(text: &[u8]) -> &[u8]
 
 /// The run without one final `_MODULE`.
 fn without_module(run: &[u8]) -> &[u8]
-    ensures { result.now ≡ less run.now }
+    ensures { result.now ≡ without_module run.now }
 {
     match run.strip_suffix(MODULE_SUFFIX) {
         Some(name) => name,

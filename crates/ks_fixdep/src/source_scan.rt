@@ -3,18 +3,22 @@
 ghost use Rattle.std.specs.Prelude.{◌≡◌, ◌++◌, ◌∷◌, [], List, ℕ, IfSome, IsTrue, OnErr, OnOk, length, map};
 ghost use Rattle.std.specs.Option.{option_copied};
 ghost use Rattle.ks_symbols.specs.Names.{is_name};
+ghost use Rattle.ks_fixdep.specs.Dialects.{names_in_as};
 ghost use Rattle.ks_fixdep.specs.FoundNames.{all_noted, names_in};
 ghost use Rattle.ks_fixdep.specs.NameIter.{names_left};
 ghost use Rattle.ks_fixdep.specs.Scan.{bare_name};
 ghost use Rattle.ks_fixdep.specs.SourceScan.{found_of};
 ghost use Rattle.ks_fixdep.specs.Stream.{list_of};
 
+use crate::dialect::Rules;
+use crate::found_names::FoundNames;
 use crate::name_iter::NameIter;
 use crate::place_set::PlaceSet;
 use crate::prefix_finder::PrefixFinder;
 use crate::scanner::Scanner;
 use crate::seed::Seed;
 use crate::source_table::SourceTable;
+use crate::word_scan::WordScan;
 use std::alloc::{AllocError, Global};
 
 /// The names of the sources that have ended, and of the one that is being read.
@@ -22,6 +26,7 @@ use std::alloc::{AllocError, Global};
 pub struct SourceScan {
     finder: PrefixFinder,
     scanner: Scanner,
+    words: WordScan,
     pub(crate) table: SourceTable,
 }
 
@@ -63,11 +68,14 @@ fn note_carried(table: &mut SourceTable, carried: Option<&[u8]>) -> Result<(), A
 }
 
 impl SourceScan {
-    ghost use Rattle.ks_fixdep.specs.SourceScan.{StandsAfter};
+    ghost use Rattle.ks_fixdep.specs.SourceScan.{StandsAfter, StandsAfterAs};
+    ghost use Rattle.ks_fixdep.specs.WordScan.{Known, Knows, at_start, known_after, word_ended};
+    ghost use Rattle.ks_fixdep.specs.declared.dialect.Rules.{Rules};
 
     /// A scan that stands before the first source. It takes no memory.
     pub fn new(alloc: Global) -> Self
         ensures stands { StandsAfter result [] }
+        ensures under_rules { (rules : Rules) → StandsAfterAs rules result [] }
         ensures found { found_of result ≡ [] }
     {
         SourceScan::with_seed(alloc, Seed::new(0))
@@ -76,11 +84,13 @@ impl SourceScan {
     /// The same, with names that are sought by a seed.
     pub fn with_seed(alloc: Global, seed: Seed) -> Self
         ensures stands { StandsAfter result [] }
+        ensures under_rules { (rules : Rules) → StandsAfterAs rules result [] }
         ensures found { found_of result ≡ [] }
     {
         SourceScan {
             finder: PrefixFinder::new(),
             scanner: Scanner::new(),
+            words: WordScan::new(),
             table: SourceTable::new(alloc, seed),
         }
     }
@@ -88,9 +98,11 @@ impl SourceScan {
     /// Begins the next source, and forgets what was read of one that was broken off.
     pub fn begin_source(&mut self)
         ensures stands { StandsAfter self.new [] }
+        ensures under_rules { (rules : Rules) → StandsAfterAs rules self.new [] }
         ensures found { found_of self.new ≡ found_of self.old }
     {
         self.scanner = Scanner::new();
+        self.words = WordScan::new();
         self.table.restart();
     }
 
@@ -118,6 +130,60 @@ impl SourceScan {
         ensures err { OnErr result (found_of self.new ≡ found_of self.old) }
     {
         note_carried(&mut self.table, self.scanner.finish())?;
+        self.table.end_source()
+    }
+
+    /// Takes the next piece of a source that is scanned by its words.
+    fn feed_words(&mut self, rules: Rules, piece: &[u8]) -> Result<(), AllocError>
+        ensures knows { (k : Known) → Knows self.old.words self.old.table k → OnOk result (Knows self.new.words self.new.table (known_after rules k piece.now)) }
+        ensures found { found_of self.new ≡ found_of self.old }
+    {
+        self.words.feed(rules, piece, &mut self.table)
+    }
+
+    /// Ends a source that is scanned by its words.
+    fn end_words(&mut self, rules: Rules) -> Result<(), AllocError>
+        ensures knows { OnOk result (Knows self.new.words self.new.table at_start) }
+        ensures found { (k : Known) → Knows self.old.words self.old.table k → OnOk result (found_of self.new ≡ found_of self.old ++ all_noted [] (word_ended rules k).names ∷ []) }
+        ensures err { OnErr result (found_of self.new ≡ found_of self.old) }
+    {
+        self.words.finish(rules, &mut self.table)?;
+        self.table.end_source()
+    }
+
+    /// `feed` under the rules of an object. The pieces of one source are all fed under the same.
+    pub fn feed_as(&mut self, rules: Rules, piece: &[u8]) -> Result<(), AllocError>
+        ensures stands { (t : List ℕ) → StandsAfterAs rules self.old t → OnOk result (StandsAfterAs rules self.new (t ++ piece.now)) }
+        ensures found { found_of self.new ≡ found_of self.old }
+    {
+        match rules {
+            Rules::Linux => self.feed(piece),
+            Rules::UBoot(_) => self.feed_words(rules, piece),
+            Rules::BusyBox => self.feed_words(rules, piece),
+        }
+    }
+
+    /// `end_source` under the rules by which the source was fed.
+    pub fn end_source_as(&mut self, rules: Rules) -> Result<(), AllocError>
+        ensures stands { (t : List ℕ) → StandsAfterAs rules self.old t → OnOk result (StandsAfterAs rules self.new []) }
+        ensures found { (t : List ℕ) → StandsAfterAs rules self.old t → OnOk result (found_of self.new ≡ found_of self.old ++ names_in_as rules t ∷ []) }
+        ensures err { OnErr result (found_of self.new ≡ found_of self.old) }
+    {
+        match rules {
+            Rules::Linux => self.end_source(),
+            Rules::UBoot(_) => self.end_words(rules),
+            Rules::BusyBox => self.end_words(rules),
+        }
+    }
+
+    /// A source of which the names are known already.
+    pub(crate) fn add_source(&mut self, names: &FoundNames) -> Result<(), AllocError>
+        ensures { OnOk result (found_of self.new ≡ found_of self.old ++ names.now ∷ []) }
+    {
+        self.table.restart();
+        for name in names.names() {
+            self.table.note(name)?;
+        }
         self.table.end_source()
     }
 

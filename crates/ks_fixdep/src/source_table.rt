@@ -5,12 +5,14 @@ ghost use Rattle.std.specs.Prelude.{◌≡◌, ◌++◌, ◌∷◌, [], ℕ, IfS
 ghost use Rattle.std.specs.List.{list_any};
 ghost use Rattle.std.specs.Option.{option_copied, option_map};
 ghost use Rattle.ks_symbols.specs.Names.{is_name};
-ghost use Rattle.ks_fixdep.specs.FoundNames.{noted};
+ghost use Rattle.ks_fixdep.specs.Dialects.{legal};
+ghost use Rattle.ks_fixdep.specs.FoundNames.{all_noted, noted};
 ghost use Rattle.ks_fixdep.specs.SourceTable.{names_at};
 
 use crate::found_names::FoundNames;
 use crate::place_set::PlaceSet;
 use crate::seed::Seed;
+use ks_symbols::name_is_legal;
 use std::alloc::{AllocError, Global};
 use std::marker::Model;
 
@@ -100,6 +102,27 @@ impl SourceTable {
         let place = self.names.place_of(name)?;
         self.current.insert(place)?;
         Ok(())
+    }
+
+    /// Notes these bytes, where they are a name.
+    pub(crate) fn note_legal(&mut self, name: &[u8]) -> Result<(), AllocError>
+        ensures found { self.new.found ≡ self.old.found }
+        ensures current { OnOk result (self.new.current ≡ all_noted self.old.current (legal name.now)) }
+    {
+        if name_is_legal(name) {
+            return self.note(name);
+        }
+        Ok(())
+    }
+
+    /// Notes what two parts are together, where it is a name.
+    pub(crate) fn note_joined(&mut self, front: &[u8], rest: &[u8]) -> Result<(), AllocError>
+        ensures found { self.new.found ≡ self.old.found }
+        ensures current { OnOk result (self.new.current ≡ all_noted self.old.current (legal (front.now ++ rest.now))) }
+    {
+        let mut name = Vec::from_slice(self.alloc, front)?;
+        name.extend_from_slice(rest)?;
+        self.note_legal(&name)
     }
 
     /// Ends the source that is being read.

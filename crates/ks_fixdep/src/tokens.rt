@@ -31,7 +31,7 @@ fn leading_separators(text: &[u8]) -> usize
 /// How many bytes are looked at side by side.
 const GROUP: usize = 16;
 
-/// Whether a byte comes behind the space and is no backslash. Such a byte doesn't stand between tokens.
+/// Whether a byte comes after the space and is no backslash. Such a byte doesn't stand between tokens.
 fn is_plain(byte: u8) -> bool
     ensures { IsTrue result → IsTrue (is_other byte) }
 {

@@ -20,7 +20,7 @@ pub fn command_files_fit()
     ensures refused { RefusedAtFirst }
 {}
 
-/// The worked command file: its text; a line of Kbuild's behind it; a faulty generation line; a text that ends too early, one that
+/// The worked command file: its text; a line of Kbuild's after it; a faulty generation line; a text that ends too early, one that
 /// is cut just before the line feed of a fitting line, within a line and before an empty line; the empty text; a name that
 /// would lead out of its folder.
 pub fn command_examples()

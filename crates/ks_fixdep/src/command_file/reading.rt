@@ -7,18 +7,20 @@ ghost use Rattle.ks_symbols.specs.Names.{is_name, is_path, is_target};
 ghost use Rattle.ks_symbols.specs.Lines.{max_bytes};
 ghost use Rattle.ks_fixdep.specs.CommandLines.{lines, content};
 ghost use Rattle.ks_fixdep.specs.CommandFile.{view};
-ghost use Rattle.ks_fixdep.specs.Lent.{seen_dep, lent_view};
+ghost use Rattle.ks_fixdep.specs.Borrowed.{seen_dep, borrowed_view};
 ghost use Rattle.ks_fixdep.specs.CommandForms as Forms;
 ghost use Rattle.ks_fixdep.specs.CommandReading as Reading;
 ghost use Rattle.ks_fixdep.specs.CommandReading.{reading};
 ghost use Rattle.ks_fixdep.specs.CommandAnswers.{Gives, copied_pair};
 ghost use Rattle.ks_fixdep.specs.declared.command_file.CommandError.TheVariants.{TooLarge};
 
-use super::{CommandError, CommandFile, Dep, LentCommand, LentDep, LentName, command_is_legal};
-use bstr::ByteSlice;
-use ks_symbols::{
-    MAX_BYTES, Name, Path, name_is_legal, path_is_legal, read_decimal, target_is_legal,
+use super::owning::own_command;
+use super::{
+    BorrowedCommand, BorrowedDep, BorrowedName, CommandError, CommandFile, command_files_fit,
+    command_is_legal,
 };
+use bstr::ByteSlice;
+use ks_symbols::{MAX_BYTES, name_is_legal, path_is_legal, read_decimal, target_is_legal};
 use memchr::memchr;
 use std::alloc::{AllocError, Global};
 
@@ -53,7 +55,7 @@ fn line_at(number: u64, text: &[u8]) -> Result<(&[u8], &[u8]), CommandError>
     Ok((content_of(line), rest))
 }
 
-/// Whether a line is these parts, one behind the other.
+/// Whether a line is these parts, one after the other.
 fn is_joined(line: &[u8], parts: &[&[u8]]) -> bool
     ensures { result ≡ bytes_eq line.now (flat_map (λ p. p.now) parts.now) }
 {
@@ -159,39 +161,6 @@ fn said(number: u64, line: &[u8]) -> Result<Option<u64>, CommandError>
     }
 }
 
-/// The file or the name of a dependency line.
-#[tactic(auto, unfolding(crate::specs::CommandForms::dep_in))]
-fn dep_in(alloc: Global, line: &[u8]) -> Result<Option<Dep>, AllocError>
-    ensures { IfOk result (λ d. d ≡ Forms.dep_in line.now) }
-{
-    if let Some(name) = name_in(line) {
-        return Ok(Some(Dep::Config(Name::new(alloc, name)?)));
-    }
-    match path_in(line) {
-        Some(path) => Ok(Some(Dep::File(Path::new(alloc, path)?))),
-        None => Ok(None),
-    }
-}
-
-/// The dependency lines in front, and what follows them.
-fn dependencies(alloc: Global, text: &[u8]) -> Result<(Vec<Dep>, &[u8]), AllocError>
-    ensures deps { IfOk result (λ r. r.0.items ≡ Reading.deps_in (lines text.now)) }
-    ensures rest { IfOk result (λ r. lines r.1.now ≡ drop (length r.0.items) (lines text.now)) }
-    ensures fits { IfOk result (λ r. length r.0.items + length r.1.now ≤ length text.now) }
-{
-    let mut deps = Vec::new(alloc);
-    let mut rest = text;
-    while !rest.is_empty() {
-        let (line, after) = split_line(rest);
-        let Some(dep) = dep_in(alloc, content_of(line))? else {
-            return Ok((deps, rest));
-        };
-        deps.push(dep)?;
-        rest = after;
-    }
-    Ok((deps, rest))
-}
-
 /// The generation of the lines, of which the first has this number.
 fn generation_from(first: u64, text: &[u8]) -> Result<Option<u64>, CommandError>
     requires { first + length text.now < 2 ^ 64 }
@@ -250,26 +219,81 @@ fn source_at<'a>(target: &[u8], text: &'a [u8]) -> Result<(&'a [u8], &'a [u8]), 
     }
 }
 
-/// What a text of bounded length reads as.
+/// The file or the name of a dependency line, in its memory.
+#[tactic(auto, unfolding(crate::specs::CommandForms::dep_in))]
+fn borrowed_dep_in(line: &[u8]) -> Option<BorrowedDep<'_>>
+    ensures { option_map seen_dep result ≡ Forms.dep_in line.now }
+{
+    if let Some(name) = name_in(line) {
+        return Some(BorrowedDep::Config(BorrowedName::new(name)));
+    }
+    match path_in(line) {
+        Some(path) => Some(BorrowedDep::File(path)),
+        None => None,
+    }
+}
+
+/// The dependency lines in front, in their memory, and what follows them.
+fn borrowed_dependencies(
+    alloc: Global,
+    text: &[u8],
+) -> Result<(Vec<BorrowedDep<'_>>, &[u8]), AllocError>
+    ensures deps { IfOk result (λ r. map seen_dep r.0.items ≡ Reading.deps_in (lines text.now)) }
+    ensures rest { IfOk result (λ r. lines r.1.now ≡ drop (length r.0.items) (lines text.now)) }
+    ensures fits { IfOk result (λ r. length r.0.items + length r.1.now ≤ length text.now) }
+{
+    let mut deps = Vec::new(alloc);
+    let mut rest = text;
+    while !rest.is_empty() {
+        let (line, after) = split_line(rest);
+        let Some(dep) = borrowed_dep_in(content_of(line)) else {
+            return Ok((deps, rest));
+        };
+        deps.push(dep)?;
+        rest = after;
+    }
+    Ok((deps, rest))
+}
+
+/// What a text reads as, in its memory.
 #[tactic(auto, unfolding(crate::specs::CommandReading::record_in))]
-fn record_in(alloc: Global, text: &[u8]) -> Result<CommandFile, CommandError>
-    requires { length text.now ≤ max_bytes }
-    ensures { Gives view result (Reading.record_in (lines text.now)) }
+fn borrowed_record_in(alloc: Global, text: &[u8]) -> Result<BorrowedCommand<'_>, CommandError>
+    ensures { Gives borrowed_view result (Reading.record_in (lines text.now)) }
 {
     let ((target, command), rest) = saved_at(text)?;
     let rest = fixed_at(2, &[], rest)?;
     let (source, rest) = source_at(target, rest)?;
     let rest = fixed_at(4, &[], rest)?;
     let rest = fixed_at(5, &[b"deps_", target, b" := \\"], rest)?;
-    let (deps, rest) = dependencies(alloc, rest)?;
+    let (deps, rest) = borrowed_dependencies(alloc, rest)?;
     let generation = end_from(6 + deps.len() as u64, target, rest)?;
-    Ok(CommandFile {
-        target: Path::new(alloc, target)?,
-        command: command.to_vec(alloc)?,
-        source: Path::new(alloc, source)?,
+    Ok(BorrowedCommand {
+        target,
+        command,
+        source,
         deps,
         generation,
     })
+}
+
+/// What a text reads as, in memory of its own.
+pub(crate) fn own_record_in(alloc: Global, text: &[u8]) -> Result<CommandFile, CommandError>
+    ensures { Gives view result (reading text.now) }
+{
+    let file = borrowed_record_in(alloc, text)?;
+    command_files_fit();
+    Ok(own_command(alloc, &file)?)
+}
+
+/// Reads a command file in the memory of its text.
+pub fn borrow_command(alloc: Global, text: &[u8]) -> Result<BorrowedCommand<'_>, CommandError>
+    ensures large { max_bytes < length text.now → IsErrOf result TooLarge }
+    ensures exact { length text.now ≤ max_bytes → Gives borrowed_view result (reading text.now) }
+{
+    if text.len() > MAX_BYTES {
+        return Err(CommandError::TooLarge);
+    }
+    borrowed_record_in(alloc, text)
 }
 
 /// Reads a command file.
@@ -280,71 +304,5 @@ pub fn read_command(alloc: Global, text: &[u8]) -> Result<CommandFile, CommandEr
     if text.len() > MAX_BYTES {
         return Err(CommandError::TooLarge);
     }
-    record_in(alloc, text)
-}
-
-/// The file or the name of a dependency line, in its memory.
-#[tactic(auto, unfolding(crate::specs::CommandForms::dep_in))]
-fn lent_dep_in(line: &[u8]) -> Option<LentDep<'_>>
-    ensures { option_map seen_dep result ≡ Forms.dep_in line.now }
-{
-    if let Some(name) = name_in(line) {
-        return Some(LentDep::Config(LentName::new(name)));
-    }
-    match path_in(line) {
-        Some(path) => Some(LentDep::File(path)),
-        None => None,
-    }
-}
-
-/// The dependency lines in front, in their memory, and what follows them.
-fn lent_dependencies(alloc: Global, text: &[u8]) -> Result<(Vec<LentDep<'_>>, &[u8]), AllocError>
-    ensures deps { IfOk result (λ r. map seen_dep r.0.items ≡ Reading.deps_in (lines text.now)) }
-    ensures rest { IfOk result (λ r. lines r.1.now ≡ drop (length r.0.items) (lines text.now)) }
-    ensures fits { IfOk result (λ r. length r.0.items + length r.1.now ≤ length text.now) }
-{
-    let mut deps = Vec::new(alloc);
-    let mut rest = text;
-    while !rest.is_empty() {
-        let (line, after) = split_line(rest);
-        let Some(dep) = lent_dep_in(content_of(line)) else {
-            return Ok((deps, rest));
-        };
-        deps.push(dep)?;
-        rest = after;
-    }
-    Ok((deps, rest))
-}
-
-/// What a text of bounded length reads as, in its memory.
-#[tactic(auto, unfolding(crate::specs::CommandReading::record_in))]
-fn lent_record_in(alloc: Global, text: &[u8]) -> Result<LentCommand<'_>, CommandError>
-    requires { length text.now ≤ max_bytes }
-    ensures { Gives lent_view result (Reading.record_in (lines text.now)) }
-{
-    let ((target, command), rest) = saved_at(text)?;
-    let rest = fixed_at(2, &[], rest)?;
-    let (source, rest) = source_at(target, rest)?;
-    let rest = fixed_at(4, &[], rest)?;
-    let rest = fixed_at(5, &[b"deps_", target, b" := \\"], rest)?;
-    let (deps, rest) = lent_dependencies(alloc, rest)?;
-    let generation = end_from(6 + deps.len() as u64, target, rest)?;
-    Ok(LentCommand {
-        target,
-        command,
-        source,
-        deps,
-        generation,
-    })
-}
-
-/// Reads a command file in the memory of its text.
-pub fn lend_command(alloc: Global, text: &[u8]) -> Result<LentCommand<'_>, CommandError>
-    ensures large { max_bytes < length text.now → IsErrOf result TooLarge }
-    ensures exact { length text.now ≤ max_bytes → Gives lent_view result (reading text.now) }
-{
-    if text.len() > MAX_BYTES {
-        return Err(CommandError::TooLarge);
-    }
-    lent_record_in(alloc, text)
+    own_record_in(alloc, text)
 }

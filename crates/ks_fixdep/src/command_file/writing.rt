@@ -110,7 +110,7 @@ pub(crate) fn push_front<'a>(
     )
 }
 
-/// Writes the lines behind those of the dependencies.
+/// Writes the lines after those of the dependencies.
 pub(crate) fn push_back(
     out: &mut Vec<u8>,
     target: &[u8],

@@ -1,5 +1,4 @@
-use Rattle.std.proofs.Common.{◌≡◌, map, take}
-use Rattle.ks_fixdep.specs.FoundNames.{names_in}
+use Rattle.ks_fixdep.proofs.Prelude.{◌≡◌, map, take, names_in}
 use Rattle.ks_fixdep.proofs.building.names_of_texts.Given as goal
 
 abbrev pub invariant-loop-text : goal.invariant-loop-text

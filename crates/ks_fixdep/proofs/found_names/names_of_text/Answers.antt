@@ -1,10 +1,4 @@
-use Rattle.std.proofs.Common.{drop, map, sym, ap, ◌∙◌}
-use Rattle.std.proofs.lemmas.Bool.{and_parts}
-use Rattle.std.specs.List.{list_all}
-use Rattle.ks_symbols.specs.Names.{is_name}
-use Rattle.ks_fixdep.specs.FoundNames.{all_noted}
-use Rattle.ks_fixdep.specs.NameIter.{names_left}
-use Rattle.ks_fixdep.specs.Scan.{bare_name}
+use Rattle.ks_fixdep.proofs.Prelude.{drop, map, sym, ap, ◌∙◌, and_parts, list_all, is_name, all_noted, names_left, bare_name}
 use Rattle.ks_fixdep.proofs.ScanLemmas.{names_after-legal}
 use Rattle.ks_fixdep.proofs.found_names.names_of_text.Goals as goal
 

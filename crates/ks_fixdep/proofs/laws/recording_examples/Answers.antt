@@ -1,8 +1,4 @@
-use Rattle.std.proofs.Common.{refl}
-use Rattle.ks_symbols.specs.Names.{is_name, is_path, header_path}
-use Rattle.ks_fixdep.specs.Scan.{name_of, name_of_word, names_after}
-use Rattle.ks_fixdep.specs.Tokens.{tokens}
-use Rattle.ks_fixdep.specs.DependencyFile.{prerequisites, dependency_refusal, token_refusal}
+use Rattle.ks_fixdep.proofs.Prelude.{refl, is_name, is_path, header_path, name_of, name_of_word, names_after, tokens, prerequisites_without, refusal_without, token_refusal}
 use Rattle.ks_fixdep.proofs.laws.recording_examples.Goals as goal
 
 pub returns-clause-names : goal.returns-clause-names
@@ -10,11 +6,11 @@ unfolding names_after name_of_word name_of is_name
 returns-clause-names c = refl
 
 pub returns-clause-roles : goal.returns-clause-roles
-unfolding prerequisites tokens header_path
+unfolding prerequisites_without tokens header_path
 returns-clause-roles c = refl
 
 pub returns-clause-fault : goal.returns-clause-fault
-unfolding dependency_refusal token_refusal tokens is_path header_path
+unfolding refusal_without token_refusal tokens is_path header_path
 returns-clause-fault c = refl
 
 pub returns-clause-lines : goal.returns-clause-lines

@@ -1,19 +1,5 @@
-use Rattle.std.proofs.Common.{◌≡◌, ◌+◌, ◌++◌, ◌∷◌, [], List, ℕ, suc, ap, append_assoc, arith, drop, drop-cons, get_or, length, length-append, map, sym, ◌∙◌}
-use Rattle.std.specs.Prelude.{flat_map}
-use Rattle.std.proofs.lemmas.Bool.{and_parts}
-use Rattle.std.proofs.lemmas.Grind.{fold-append}
-use Rattle.std.proofs.lemmas.List.{drop_all, nil_from_length}
-use Rattle.std.specs.List.{list_all}
-use Rattle.ks_symbols.specs.Names.{is_path}
-use Rattle.ks_fixdep.specs.CommandFile.{is_dep}
-use Rattle.ks_fixdep.specs.CommandWriting.{deps_text}
-use Rattle.ks_fixdep.specs.FoundNames.{all_noted, noted}
-use Rattle.ks_fixdep.specs.Record.{deps_after, new_names, own_line}
-use Rattle.ks_fixdep.specs.SourceScan.{picked}
-use Rattle.ks_fixdep.specs.SourceTable.{names_at}
-use Rattle.ks_fixdep.specs.declared.command_file.Dep.TheVariants.{Config}
-use Rattle.ks_fixdep.specs.declared.dependency_file.Role.{Role}
-use Rattle.ks_fixdep.proofs.DepsLemmas.{deps_text-append, legal-both, legal-names, legal-own, new_behind, whole_last, whole_next}
+use Rattle.ks_fixdep.proofs.Prelude.{◌≡◌, ◌+◌, ◌++◌, ◌∷◌, [], List, ℕ, suc, ap, append_assoc, arith, drop, drop-cons, get_or, length, length-append, map, sym, ◌∙◌, flat_map, and_parts, fold-append, drop_all, nil_from_length, list_all, is_path, is_dep, deps_text, all_noted, noted, deps_after, new_names, own_line, picked, names_at, Config, Role}
+use Rattle.ks_fixdep.proofs.DepsLemmas.{deps_text-append, legal-both, legal-names, legal-own, new_after, whole_last, whole_next}
 use Rattle.ks_fixdep.proofs.listing.push_dependencies.Goals as goal
 
 pub loop-source-preserved : goal.loop-source-preserved
@@ -50,7 +36,7 @@ loop-source-preserved c =
           ∙ fold-append noted seen here (flat_map (λ names. names) (picked found (drop (at + 1) sources)))
           ∙ ap (λ l. all_noted l (flat_map (λ names. names) (picked found (drop (at + 1) sources)))) (sym c.in_ok-push_new_names.ensures.listed);
       many = c.in_ok-push_new_names.ensures.many ∙ ap (λ n. n + length news) i.many ∙ sym (length-append seen news)
-          ∙ sym (ap length (c.in_ok-push_new_names.ensures.listed ∙ new_behind seen here));
+          ∙ sym (ap length (c.in_ok-push_new_names.ensures.listed ∙ new_after seen here));
       each = omega (arith, size);
       paths = paths.1;
     }

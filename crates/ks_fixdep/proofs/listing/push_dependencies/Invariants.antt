@@ -1,14 +1,4 @@
-use Rattle.std.proofs.Common.{◌≡◌, ◌++◌, IsTrue, List, [], drop, length}
-use Rattle.std.specs.Prelude.{flat_map}
-use Rattle.std.specs.List.{list_all}
-use Rattle.ks_symbols.specs.Names.{is_path}
-use Rattle.ks_fixdep.specs.CommandFile.{is_dep}
-use Rattle.ks_fixdep.specs.CommandWriting.{deps_text}
-use Rattle.ks_fixdep.specs.FoundNames.{all_noted, names_of}
-use Rattle.ks_fixdep.specs.Record.{deps_after}
-use Rattle.ks_fixdep.specs.SourceScan.{picked}
-use Rattle.ks_fixdep.specs.SourceTable.{names_at}
-use Rattle.ks_fixdep.specs.declared.command_file.Dep.{Dep}
+use Rattle.ks_fixdep.proofs.Prelude.{◌≡◌, ◌++◌, IsTrue, List, [], drop, length, flat_map, list_all, is_path, is_dep, deps_text, all_noted, names_of, deps_after, picked, names_at, Dep}
 use Rattle.ks_fixdep.proofs.listing.push_dependencies.Given as goal
 
 -- These legal lines are written; with those of the prerequisites that are left they are the whole.

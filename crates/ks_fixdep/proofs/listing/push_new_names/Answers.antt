@@ -1,16 +1,5 @@
-use Rattle.std.proofs.Common.{◌≡◌, ◌+◌, ◌++◌, ◌∷◌, [], append_assoc, ap, length, length-append, map, not, sym, take, ◌∙◌, arith, true, false, get_or, nat_eq, Bool, List, ℕ, refl}
-use Rattle.std.specs.List.{list_all, list_any}
-use Rattle.std.proofs.lemmas.Bool.{and_from, cond-false, cond-true}
-use Rattle.std.proofs.lemmas.Grind.{fold-append}
-use Rattle.std.proofs.lemmas.List.{take_all, take_more}
-use Rattle.std.proofs.lemmas.List.Folds.{list_all-append}
-use Rattle.ks_symbols.specs.Names.{is_name}
-use Rattle.ks_fixdep.specs.CommandFile.{dep_line, ended}
-use Rattle.ks_fixdep.specs.CommandWriting.{deps_text}
-use Rattle.ks_fixdep.specs.FoundNames.{all_noted, noted}
-use Rattle.ks_fixdep.specs.Record.{new_names}
-use Rattle.ks_fixdep.specs.SourceTable.{names_at}
-use Rattle.ks_fixdep.specs.declared.command_file.Dep.TheVariants.{Config}
+use Rattle.ks_fixdep.proofs.Prelude.{◌≡◌, ◌+◌, ◌++◌, ◌∷◌, [], append_assoc, ap, length, length-append, map, sym, take, ◌∙◌, arith, true, false, get_or, List, ℕ, refl, list_all, list_any, and_from, cond-false, cond-true, not-true, not-false, fold-append, take_all, take_more, list_all-append, is_name, dep_line, ended, deps_text, all_noted, noted, new_names, names_at, Config}
+use Rattle.std.proofs.Common.{nat_eq}
 use Rattle.ks_fixdep.proofs.DepsLemmas.{name_line-last, new_is}
 use Rattle.ks_fixdep.proofs.TableLemmas.{at_none, at_pushed, at_put}
 use Rattle.ks_fixdep.proofs.listing.push_new_names.Goals.{then-branch+in_ok-push_name, else-branch}
@@ -48,7 +37,7 @@ loop-place-preserved c =
     ∙ ap (all_noted before) (sym next) in
     elim c.if-branch.branch [
       | then-branch+in_ok-push_name w ↦ (
-          let absent : list_any (nat_eq p) c.loop-place.listed ≡ false = not_true _ (sym c.in_ok-insert.ensures.was_new ∙ w.if-branch.true) in
+          let absent : list_any (nat_eq p) c.loop-place.listed ≡ false = not-true _ (sym c.in_ok-insert.ensures.was_new ∙ w.if-branch.true) in
           let pushed = c.in_ok-insert.ensures.added ∙ cond-false _ _ _ absent in
           record {
             new = i.new ++ x ∷ [];
@@ -62,7 +51,7 @@ loop-place-preserved c =
             legal = list_all-append is_name i.new (x ∷ []) ∙ and_from _ _ i.legal (and_from _ _ c.in-Some.ensures.legal refl);
           })
       | else-branch w ↦ (
-          let there : list_any (nat_eq p) c.loop-place.listed ≡ true = not_false _ (sym c.in_ok-insert.ensures.was_new ∙ w.if-branch.false) in
+          let there : list_any (nat_eq p) c.loop-place.listed ≡ true = not-false _ (sym c.in_ok-insert.ensures.was_new ∙ w.if-branch.false) in
           let same = c.in_ok-insert.ensures.added ∙ cond-true _ _ _ there in
           record {
             new = i.new;
@@ -74,14 +63,6 @@ loop-place-preserved c =
           })
     ]
   where
-    not_true : (b : Bool) → not b ≡ true → b ≡ false
-    not_true true e = sym e
-    not_true false e = refl
-
-    not_false : (b : Bool) → not b ≡ false → b ≡ true
-    not_false true e = refl
-    not_false false e = sym e
-
     one_more : (places all old : List ℕ) (names : List (List ℕ)) (q : ℕ) (y : List ℕ) → all ≡ places ++ q ∷ [] → length places ≡ length old + length names
         → length all ≡ length old + length (names ++ y ∷ [])
     one_more places all old names q y is before =

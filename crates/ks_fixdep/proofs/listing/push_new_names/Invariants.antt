@@ -1,10 +1,4 @@
-use Rattle.std.proofs.Common.{◌≡◌, ◌+◌, ◌++◌, IsTrue, List, ℕ, length, map, take}
-use Rattle.std.specs.List.{list_all}
-use Rattle.ks_symbols.specs.Names.{is_name}
-use Rattle.ks_fixdep.specs.CommandWriting.{deps_text}
-use Rattle.ks_fixdep.specs.FoundNames.{all_noted}
-use Rattle.ks_fixdep.specs.SourceTable.{names_at}
-use Rattle.ks_fixdep.specs.declared.command_file.Dep.TheVariants.{Config}
+use Rattle.ks_fixdep.proofs.Prelude.{◌≡◌, ◌+◌, ◌++◌, IsTrue, List, ℕ, length, map, take, list_all, is_name, deps_text, all_noted, names_at, Config}
 use Rattle.ks_fixdep.proofs.listing.push_new_names.Given as goal
 
 -- the names at the places so far are listed, and those of them that are new are written

@@ -1,11 +1,4 @@
-use Rattle.std.proofs.Common.{◌≡◌, ◌++◌, ap, ◌∙◌, [], length, subst, true}
-use Rattle.std.specs.Prelude.{flat_map}
-use Rattle.std.specs.List.{list_all}
-use Rattle.ks_fixdep.specs.FoundNames.{names_of}
-use Rattle.ks_fixdep.specs.CommandFile.{is_dep, CommandRecord, back_lines, command_text, ended, front_lines, generation_line}
-use Rattle.ks_fixdep.specs.CommandWriting.{deps_text}
-use Rattle.ks_fixdep.specs.SourceScan.{names_by, picked}
-use Rattle.ks_fixdep.specs.Record.{deps_after, record_of}
+use Rattle.ks_fixdep.proofs.Prelude.{◌≡◌, ◌++◌, ap, ◌∙◌, [], length, subst, true, flat_map, list_all, names_of, is_dep, CommandRecord, back_lines, command_text, ended, front_lines, generation_line, deps_text, names_by, picked, deps_after, record_of}
 use Rattle.ks_fixdep.proofs.CommandWriteLemmas.{text-parts, three-parts}
 use Rattle.ks_fixdep.proofs.listing.record_text.Goals as goal
 

@@ -1,7 +1,4 @@
-use Rattle.std.proofs.Common.{◌≡◌, ◌<◌, length, get_or, false, sym, ◌∙◌, arith}
-use Rattle.ks_symbols.specs.Names.{is_word_byte}
-use Rattle.std.proofs.Common.{subst, List, ℕ, true}
-use Rattle.std.specs.List.{list_all}
+use Rattle.ks_fixdep.proofs.Prelude.{◌≡◌, ◌<◌, length, get_or, false, sym, ◌∙◌, arith, is_word_byte, subst, List, ℕ, true, list_all}
 use Rattle.ks_fixdep.proofs.RunLemmas.{run-is}
 use Rattle.ks_fixdep.proofs.ScanLemmas.{word-passes}
 use Rattle.ks_fixdep.proofs.runs.leading_word.Goals as goal

@@ -1,5 +1,4 @@
-use Rattle.std.proofs.Common.{◌≡◌, ℕ, ◌≤◌, ◌<◌, ◌-◌, length, true, get_or}
-use Rattle.ks_symbols.specs.Names.{is_word_byte}
+use Rattle.ks_fixdep.proofs.Prelude.{◌≡◌, ℕ, ◌≤◌, ◌<◌, ◌-◌, length, true, get_or, is_word_byte}
 use Rattle.ks_fixdep.proofs.runs.leading_word.Given as goal
 
 -- the bytes so far are word bytes

@@ -1,6 +1,4 @@
-use Rattle.std.proofs.Common.{sym, ap, arith, ◌∙◌, Some, None, ◌≡◌, length}
-use Rattle.std.proofs.lemmas.Bool.Decides.{nat_tests}
-use Rattle.ks_fixdep.specs.Scan.{name_of}
+use Rattle.ks_fixdep.proofs.Prelude.{sym, ap, arith, ◌∙◌, Some, None, ◌≡◌, length, nat_tests, name_of}
 use Rattle.ks_fixdep.proofs.RunLemmas.{name_of-some, name_of-none}
 use Rattle.ks_fixdep.proofs.runs.name_of_run.Goals as goal
 use Rattle.ks_fixdep.proofs.runs.name_of_run.Goals.{then-is_empty-via-then-is_empty, then-is_empty-via-else-is_empty+then-name-gt-LONGEST_NAME}

@@ -1,6 +1,4 @@
-use Rattle.std.proofs.Common.{◌≡◌, ◌<◌, ◌-◌, get_or, false, sym, ◌∙◌, arith}
-use Rattle.ks_symbols.specs.Names.{is_word_byte}
-use Rattle.ks_fixdep.proofs.ScanLemmas.{rest-is}
+use Rattle.ks_fixdep.proofs.Prelude.{take_rest, ◌≡◌, ◌<◌, ◌-◌, get_or, false, sym, ◌∙◌, arith, is_word_byte}
 use Rattle.ks_fixdep.proofs.StreamLemmas.{last_word-at}
 use Rattle.ks_fixdep.proofs.runs.trailing_word.Goals as goal
 use Rattle.ks_fixdep.proofs.runs.trailing_word.Goals.{then-loop-start-test+else-is_word, else-loop-start-test}
@@ -13,4 +11,4 @@ returns-clause-word c =
       | then-loop-start-test+else-is_word w ↦ λ _. sym w.is_word.ensures ∙ w.if-is_word.false
       | else-loop-start-test w ↦ λ some. absurd (omega arith)
     ] in
-    rest-is t n ∙ sym (last_word-at t n c.loop-start.invariant.0 c.loop-start.invariant.1 stop)
+    take_rest t n ∙ sym (last_word-at t n c.loop-start.invariant.0 c.loop-start.invariant.1 stop)

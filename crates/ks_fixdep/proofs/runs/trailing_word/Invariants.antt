@@ -1,6 +1,4 @@
-use Rattle.std.proofs.Common.{◌≡◌, ◌≤◌, length, drop, true}
-use Rattle.std.specs.List.{list_all}
-use Rattle.ks_symbols.specs.Names.{is_word_byte}
+use Rattle.ks_fixdep.proofs.Prelude.{◌≡◌, ◌≤◌, length, drop, true, list_all, is_word_byte}
 use Rattle.ks_fixdep.proofs.runs.trailing_word.Given as goal
 
 -- the bytes from `start` on are word bytes

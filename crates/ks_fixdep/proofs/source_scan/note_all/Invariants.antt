@@ -1,7 +1,4 @@
-use Rattle.std.proofs.Common.{◌≡◌, length, map}
-use Rattle.ks_fixdep.specs.FoundNames.{all_noted}
-use Rattle.ks_fixdep.specs.NameIter.{names_left}
-use Rattle.ks_fixdep.specs.Scan.{bare_name}
+use Rattle.ks_fixdep.proofs.Prelude.{◌≡◌, length, map, all_noted, names_left, bare_name}
 use Rattle.ks_fixdep.proofs.source_scan.note_all.Given as goal
 
 -- those so far are noted, and those that are left are still to be

@@ -1,6 +1,4 @@
-use Rattle.std.proofs.Common.{◌≡◌, true, take}
-use Rattle.std.specs.List.{list_all}
-use Rattle.ks_fixdep.specs.Tokens.{is_other}
+use Rattle.ks_fixdep.proofs.Prelude.{◌≡◌, true, take, list_all, is_other}
 use Rattle.ks_fixdep.proofs.tokens.are_plain.Given as goal
 
 -- where those so far are plain, they are others

@@ -1,9 +1,5 @@
-use Rattle.std.proofs.Common.{◌≡◌, ◌+◌, ◌-◌, get_or, take, drop, length, length-drop, length-take-le, inl, inr, sym, ap, ◌∙◌, arith}
-use Rattle.std.specs.Prelude.{not}
-use Rattle.std.proofs.lemmas.Bool.{cases_lt}
+use Rattle.ks_fixdep.proofs.Prelude.{◌≡◌, ◌+◌, ◌-◌, get_or, take, drop, length, length-drop, length-take-le, inl, inr, sym, ap, ◌∙◌, arith, not, cases_lt, AllPass-from_list_all, prefix_len_is, is_other}
 use Rattle.std.proofs.lemmas.List.{get_or-take, get_or-drop}
-use Rattle.std.proofs.lemmas.List.Sums.{AllPass-from_list_all, prefix_len_is}
-use Rattle.ks_fixdep.specs.Tokens.{is_other}
 use Rattle.ks_fixdep.proofs.tokens.leading_others.Goals as goal
 
 pub loop-end-preserved : goal.loop-end-preserved

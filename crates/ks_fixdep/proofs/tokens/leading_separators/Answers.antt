@@ -1,6 +1,4 @@
-use Rattle.std.proofs.Common.{sym, ◌∙◌, arith}
-use Rattle.std.proofs.lemmas.List.Sums.{prefix_len_is}
-use Rattle.ks_fixdep.specs.Tokens.{is_separator}
+use Rattle.ks_fixdep.proofs.Prelude.{sym, ◌∙◌, arith, prefix_len_is, is_separator}
 use Rattle.ks_fixdep.proofs.tokens.leading_separators.Goals as goal
 
 pub returns-else-separates-clause-count : goal.returns-else-separates-clause-count

@@ -1,5 +1,4 @@
-use Rattle.std.proofs.Common.{◌≡◌, ℕ, ◌≤◌, ◌<◌, ◌-◌, length, true, get_or}
-use Rattle.ks_fixdep.specs.Tokens.{is_separator}
+use Rattle.ks_fixdep.proofs.Prelude.{◌≡◌, ℕ, ◌≤◌, ◌<◌, ◌-◌, length, true, get_or, is_separator}
 use Rattle.ks_fixdep.proofs.tokens.leading_separators.Given as goal
 
 abbrev pub invariant-loop-end : goal.invariant-loop-end

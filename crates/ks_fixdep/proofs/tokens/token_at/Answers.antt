@@ -1,7 +1,5 @@
-use Rattle.std.proofs.Common.{◌≡◌, ℕ, option_map, subst}
+use Rattle.ks_fixdep.proofs.Prelude.{◌≡◌, ℕ, option_map, subst, YieldsList-from_first, nth_from_yields_List, tokens}
 use Rattle.std.specs.Prelude.{slice_get}
-use Rattle.std.proofs.lemmas.Iterator.Consumers.{YieldsList-from_first, nth_from_yields_List}
-use Rattle.ks_fixdep.specs.Tokens.{tokens}
 use Rattle.ks_fixdep.proofs.tokens.token_at.Goals as goal
 
 pub returns : goal.returns

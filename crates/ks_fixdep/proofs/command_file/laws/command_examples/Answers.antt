@@ -1,11 +1,4 @@
-use Rattle.std.proofs.Common.{refl}
-use Rattle.memchr.specs.Find.{first_of, matches_from}
-use Rattle.ks_symbols.specs.Names.{is_name, is_path, is_target}
-use Rattle.ks_fixdep.specs.CommandLines.{lines, content}
-use Rattle.ks_fixdep.specs.CommandFile.{is_command}
-use Rattle.ks_fixdep.specs.CommandForms.{saved_command, source_in, path_in, name_in, dep_in}
-use Rattle.ks_fixdep.specs.CommandReading.{fixed_at, form_at, deps_in, said, generation_from, end_from, record_in}
-use Rattle.ks_fixdep.specs.CommandExamples.{example, example_front, example_lines}
+use Rattle.ks_fixdep.proofs.Prelude.{refl, first_of, matches_from, is_name, is_path, is_target, lines, content, is_command, saved_command, source_in, path_in, name_in, dep_in, fixed_at, form_at, deps_in, said, generation_from, end_from, record_in, example, example_front, example_lines}
 use Rattle.ks_fixdep.proofs.command_file.laws.command_examples.Goals as goal
 
 -- each by computation

@@ -1,4 +1,4 @@
-use Rattle.ks_fixdep.specs.CommandLines.{lines}
+use Rattle.ks_fixdep.proofs.Prelude.{lines}
 use Rattle.ks_fixdep.proofs.CommandFitLemmas.{lines-fit, lines-read}
 use Rattle.ks_fixdep.proofs.CommandFaultLemmas.{first-misfit}
 use Rattle.ks_fixdep.proofs.command_file.laws.command_files_fit.Goals as goal

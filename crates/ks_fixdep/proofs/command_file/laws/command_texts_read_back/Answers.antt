@@ -1,5 +1,4 @@
-use Rattle.ks_fixdep.specs.CommandLines.{lines}
-use Rattle.ks_fixdep.specs.CommandFile.{command_text}
+use Rattle.ks_fixdep.proofs.Prelude.{lines, command_text}
 use Rattle.ks_fixdep.proofs.CommandFitLemmas.{lines-read}
 use Rattle.ks_fixdep.proofs.CommandTextLemmas.{written-reads}
 use Rattle.ks_fixdep.proofs.command_file.laws.command_texts_read_back.Goals as goal

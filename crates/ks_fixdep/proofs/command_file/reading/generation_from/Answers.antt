@@ -1,7 +1,4 @@
-use Rattle.std.proofs.Common.{◌+◌, ◌<◌, length, sym, ap, ◌∙◌, arith}
-use Rattle.std.proofs.lemmas.Bool.Decides.{nat_tests}
-use Rattle.ks_fixdep.specs.CommandLines.{lines}
-use Rattle.ks_fixdep.specs.CommandReading.{said, generation_from}
+use Rattle.ks_fixdep.proofs.Prelude.{◌+◌, ◌<◌, length, sym, ap, ◌∙◌, arith, nat_tests, lines, said, generation_from}
 use Rattle.ks_fixdep.proofs.CommandLineLemmas.{lines-none}
 use Rattle.ks_fixdep.proofs.CommandStepLemmas.{gives-err, with_found, fails-through, generation-step, generation-fault, generation-end}
 use Rattle.ks_fixdep.proofs.command_file.reading.generation_from.Goals as goal

@@ -1,5 +1,4 @@
-use Rattle.std.proofs.Common.{◌≡◌, ◌+◌, ◌<◌, ◌^◌, length}
-use Rattle.ks_fixdep.specs.CommandLines.{lines}
+use Rattle.ks_fixdep.proofs.Prelude.{◌≡◌, ◌+◌, ◌<◌, ◌^◌, length, lines}
 use Rattle.ks_fixdep.specs.CommandReading as Reading
 use Rattle.ks_fixdep.proofs.CommandStepLemmas.{with_found}
 use Rattle.ks_fixdep.proofs.command_file.reading.generation_from.Given as goal

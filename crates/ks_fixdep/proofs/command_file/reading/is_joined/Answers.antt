@@ -1,6 +1,4 @@
-use Rattle.std.proofs.Common.{◌≡◌, ◌<◌, ◌+◌, [], suc, drop, take, length, sym, ap, ◌∙◌, drop-cons, get_or, Bor, List, ℕ, arith}
-use Rattle.std.specs.Prelude.{flat_map, ◌&&◌}
-use Rattle.std.specs.Str.{bytes_eq}
+use Rattle.ks_fixdep.proofs.Prelude.{◌≡◌, ◌<◌, ◌+◌, [], suc, drop, take, length, sym, ap, ◌∙◌, drop-cons, get_or, Bor, List, ℕ, arith, flat_map, ◌&&◌, bytes_eq}
 use Rattle.ks_fixdep.proofs.CommandLineLemmas.{front-eq}
 use Rattle.ks_fixdep.proofs.command_file.reading.is_joined.Goals as goal
 

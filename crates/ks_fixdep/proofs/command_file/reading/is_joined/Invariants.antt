@@ -1,6 +1,4 @@
-use Rattle.std.proofs.Common.{◌≡◌, drop}
-use Rattle.std.specs.Prelude.{flat_map}
-use Rattle.std.specs.Str.{bytes_eq}
+use Rattle.ks_fixdep.proofs.Prelude.{◌≡◌, drop, flat_map, bytes_eq}
 use Rattle.ks_fixdep.proofs.command_file.reading.is_joined.Given as goal
 
 -- what is left of the line is what is left of the parts if the whole is the whole

@@ -1,6 +1,4 @@
-use Rattle.std.proofs.Common.{ap, arith}
-use Rattle.std.proofs.lemmas.Bool.Decides.{nat_tests}
-use Rattle.ks_fixdep.specs.CommandReading.{line_at}
+use Rattle.ks_fixdep.proofs.Prelude.{ap, arith, nat_tests, line_at}
 use Rattle.ks_fixdep.proofs.CommandLineLemmas.{lines-none}
 use Rattle.ks_fixdep.proofs.command_file.reading.line_at.Goals as goal
 

@@ -1,5 +1,4 @@
-use Rattle.std.proofs.Common.{◌≡◌, suc, ◌+◌, ◌∷◌, take, drop, sym, ap, ◌∙◌, arith}
-use Rattle.ks_fixdep.specs.CommandLines.{lines}
+use Rattle.ks_fixdep.proofs.Prelude.{◌≡◌, suc, ◌+◌, ◌∷◌, take, drop, sym, ap, ◌∙◌, arith, lines}
 use Rattle.ks_fixdep.proofs.CommandLineLemmas.{lines-at, lines-whole}
 use Rattle.ks_fixdep.proofs.command_file.reading.split_line.Goals as goal
 

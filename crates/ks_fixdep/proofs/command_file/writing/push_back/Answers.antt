@@ -1,8 +1,5 @@
-use Rattle.std.proofs.Common.{◌≡◌, ◌++◌, ap, sym, ◌∙◌}
-use Rattle.std.specs.Prelude.{flat_map}
-use Rattle.std.proofs.lemmas.Grind.{flat_map-append}
-use Rattle.ks_fixdep.specs.CommandFile.{back_lines, ended, generation_line}
-use Rattle.ks_fixdep.proofs.CommandWriteLemmas.{back-is, then-part, on-ok}
+use Rattle.ks_fixdep.proofs.Prelude.{on_ok_weaker, ◌++◌, ap, sym, ◌∙◌, flat_map, flat_map-append, back_lines, ended, generation_line}
+use Rattle.ks_fixdep.proofs.CommandWriteLemmas.{back-is, then-part}
 use Rattle.ks_fixdep.proofs.command_file.writing.push_back.Goals as goal
 
 pub returns-clause-ok : goal.returns-clause-ok
@@ -11,7 +8,7 @@ returns-clause-ok c =
     let back = back_lines c.args.target.now in
     let last = generation_line c.args.generation in
     let d = c.push_generation.new.out.items in
-    on-ok c.push_generation.result _ (d ≡ o ++ flat_map ended (back ++ last))
+    on_ok_weaker c.push_generation.result
     (λ is. then-part o _ d (flat_map ended back) (flat_map ended last)
     (c.in_ok-push_lines.ensures.ok ∙ ap (λ l. o ++ l) (back-is c.args.target.now)) is ∙ ap (λ l. o ++ l) (sym (flat_map-append ended back last)))
     c.push_generation.ensures.ok

@@ -1,8 +1,5 @@
-use Rattle.std.proofs.Common.{◌≡◌, ◌++◌, ap, ◌∙◌}
-use Rattle.std.specs.Prelude.{flat_map}
-use Rattle.ks_fixdep.specs.CommandFile.{back_lines, command_text, ended, front_lines, generation_line, view}
-use Rattle.ks_fixdep.specs.CommandWriting.{deps_text}
-use Rattle.ks_fixdep.proofs.CommandWriteLemmas.{on-ok, text-parts, three-parts}
+use Rattle.ks_fixdep.proofs.Prelude.{on_ok_weaker, ◌++◌, ap, ◌∙◌, flat_map, back_lines, command_text, ended, front_lines, generation_line, view, deps_text}
+use Rattle.ks_fixdep.proofs.CommandWriteLemmas.{text-parts, three-parts}
 use Rattle.ks_fixdep.proofs.command_file.writing.push_command.Goals as goal
 
 pub returns-clause-ok : goal.returns-clause-ok
@@ -20,7 +17,7 @@ returns-clause-ok c =
     ∙ ap (λ k. o ++ flat_map ended (front_lines f.target k c.as_bytes.result.now)) cv
     ∙ ap (λ s. o ++ flat_map ended (front_lines f.target f.command s)) sv in
     let eb = c.in_ok-push_deps.ensures.ok ∙ ap (λ l. a ++ deps_text l) c.deref-2.ensures.value in
-    on-ok c.push_back.result _ (d ≡ o ++ command_text f)
+    on_ok_weaker c.push_back.result
     (λ ed. three-parts o a b d (flat_map ended (front_lines f.target f.command f.source)) (deps_text f.deps)
     (flat_map ended (back_lines f.target ++ generation_line f.generation)) (command_text f) ea eb
     (ed ∙ ap (λ t. b ++ flat_map ended (back_lines t ++ generation_line f.generation)) tv) (text-parts f))

@@ -1,6 +1,4 @@
-use Rattle.std.proofs.Common.{◌≡◌, ◌++◌, take, map}
-use Rattle.std.specs.Prelude.{flat_map}
-use Rattle.ks_fixdep.specs.CommandFile.{ended, dep_line}
+use Rattle.ks_fixdep.proofs.Prelude.{◌≡◌, ◌++◌, take, map, flat_map, ended, dep_line}
 use Rattle.ks_fixdep.proofs.command_file.writing.push_deps.Given as goal
 
 -- what was written so far

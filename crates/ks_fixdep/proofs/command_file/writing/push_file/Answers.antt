@@ -1,6 +1,4 @@
-use Rattle.std.proofs.Common.{◌++◌, ap, ◌∙◌}
-use Rattle.std.specs.Prelude.{codes}
-use Rattle.ks_fixdep.specs.CommandLines.{line_feed}
+use Rattle.ks_fixdep.proofs.Prelude.{◌++◌, ap, ◌∙◌, codes, line_feed}
 use Rattle.ks_fixdep.proofs.CommandWriteLemmas.{line-put}
 use Rattle.ks_fixdep.proofs.command_file.writing.push_file.Goals as goal
 

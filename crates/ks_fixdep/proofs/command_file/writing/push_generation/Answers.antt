@@ -1,6 +1,5 @@
-use Rattle.std.proofs.Common.{◌++◌, ◌∷◌, [], sym, ap, ◌∙◌, append_assoc, append-nil, decimal}
-use Rattle.std.specs.Prelude.{codes, flat_map}
-use Rattle.ks_fixdep.specs.CommandFile.{ended, generation_line}
+use Rattle.ks_fixdep.proofs.Prelude.{◌++◌, ◌∷◌, [], sym, ap, ◌∙◌, append_assoc, append-nil, codes, flat_map, ended, generation_line}
+use Rattle.std.proofs.Common.{decimal}
 use Rattle.ks_fixdep.proofs.command_file.writing.push_generation.Goals as goal
 
 pub returns-in_ok-push-clause-ok : goal.returns-in_ok-push-clause-ok

@@ -1,5 +1,4 @@
-use Rattle.std.proofs.Common.{◌≡◌, ◌++◌, take}
-use Rattle.std.specs.Prelude.{flat_map}
+use Rattle.ks_fixdep.proofs.Prelude.{◌≡◌, ◌++◌, take, flat_map}
 use Rattle.ks_fixdep.proofs.command_file.writing.push_line.Given as goal
 
 -- what was written so far

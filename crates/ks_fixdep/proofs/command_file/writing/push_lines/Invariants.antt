@@ -1,6 +1,4 @@
-use Rattle.std.proofs.Common.{◌≡◌, ◌++◌, take}
-use Rattle.std.specs.Prelude.{flat_map}
-use Rattle.ks_fixdep.specs.CommandFile.{ended}
+use Rattle.ks_fixdep.proofs.Prelude.{◌≡◌, ◌++◌, take, flat_map, ended}
 use Rattle.ks_fixdep.specs.CommandWriting.{joined}
 use Rattle.ks_fixdep.proofs.command_file.writing.push_lines.Given as goal
 

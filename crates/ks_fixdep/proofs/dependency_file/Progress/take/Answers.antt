@@ -1,11 +1,6 @@
-use Rattle.std.proofs.Common.{◌≡◌, ◌+◌, ◌++◌, ◌∷◌, [], length, length-append, sym, ap, subst, ◌∙◌, true, false, List, ℕ, ◌<◌}
-use Rattle.std.specs.List.{list_all, list_any, after_last}
-use Rattle.ks_symbols.specs.Names.{is_path}
-use Rattle.ks_fixdep.specs.declared.dependency_file.Role.{Role}
-use Rattle.std.specs.Prelude.{if◌then◌else◌}
+use Rattle.ks_fixdep.proofs.Prelude.{◌≡◌, ◌+◌, ◌++◌, ◌∷◌, [], length, length-append, sym, ap, subst, ◌∙◌, true, false, List, ℕ, ◌<◌, list_all, list_any, after_last, is_path, Role, if◌then◌else◌, is_kept, is_target_token, with_roles, role_after, once, added, paths_of}
 use Rattle.std.proofs.lemmas.List.Sums.{fold-append}
 use Rattle.ks_fixdep.specs.declared.dependency_file.Role.TheVariants as role
-use Rattle.ks_fixdep.specs.DependencyFile.{is_kept, is_target_token, with_roles, role_after, once, added, paths_of}
 use Rattle.ks_fixdep.proofs.RoleLemmas.{target-yes, target-no, kept-no, kept-yes, since-target, since-no, since-yes, roles-no, roles-yes, role-same, not-kept-target, kept-when, some-added, legal-added}
 use Rattle.ks_fixdep.proofs.dependency_file.Progress.take.Goals as goal
 
@@ -13,13 +8,13 @@ pub returns-then-names_target-clause-stands : goal.returns-then-names_target-cla
 returns-then-names_target-clause-stands c seen s =
     let x = c.args.token.now in
     let is = sym c.names_target.ensures ∙ c.if-names_target.true in
-    let not_kept = not-kept-target x is in
+    let not_kept = not-kept-target c.args.header x is in
     record {
-      target = sym (target-yes seen x is);
-      kept = s.kept ∙ sym (kept-no seen x not_kept);
-      since = sym (since-target seen x is);
+      target = sym (target-yes c.args.header seen x is);
+      kept = s.kept ∙ sym (kept-no c.args.header seen x not_kept);
+      since = sym (since-target c.args.header seen x is);
       number = ap (λ n. n + 1) s.number ∙ sym (length-append seen (x ∷ []));
-      found = s.found ∙ ap once (sym (roles-no seen x not_kept));
+      found = s.found ∙ ap once (sym (roles-no c.args.header seen x not_kept));
       some = s.some;
       legal = s.legal;
     }
@@ -28,13 +23,13 @@ pub returns-then-names_header-clause-stands : goal.returns-then-names_header-cla
 returns-then-names_header-clause-stands c seen s =
     let x = c.args.token.now in
     let other = sym c.names_target.ensures ∙ c.if-names_target.false in
-    let not_kept = kept-when x true other (sym c.names_header.ensures ∙ c.if-names_header.true) in
+    let not_kept = kept-when c.args.header x true other (sym c.names_header.ensures ∙ c.if-names_header.true) in
     record {
-      target = s.target ∙ sym (target-no seen x other);
-      kept = s.kept ∙ sym (kept-no seen x not_kept);
-      since = s.since ∙ sym (since-no seen x other not_kept);
+      target = s.target ∙ sym (target-no c.args.header seen x other);
+      kept = s.kept ∙ sym (kept-no c.args.header seen x not_kept);
+      since = s.since ∙ sym (since-no c.args.header seen x other not_kept);
       number = ap (λ n. n + 1) s.number ∙ sym (length-append seen (x ∷ []));
-      found = s.found ∙ ap once (sym (roles-no seen x not_kept));
+      found = s.found ∙ ap once (sym (roles-no c.args.header seen x not_kept));
       some = s.some;
       legal = s.legal;
     }
@@ -44,22 +39,24 @@ returns-clause-stands c seen s =
     let x = c.args.token.now in
     let before = c.args.self.now in
     let other = sym c.names_target.ensures ∙ c.if-names_target.false in
-    let kept = kept-when x false other (sym c.names_header.ensures ∙ c.if-names_header.false) in
+    let kept = kept-when c.args.header x false other (sym c.names_header.ensures ∙ c.if-names_header.false) in
     let made = c.next_role-role.result in
-    let rule : made ≡ role_after seen =
+    let rule : made ≡ role_after c.args.header seen =
     c.next_role-role.ensures
     ∙ ap (λ a. if a then (if before.has_kept_since_target then role.Listed else role.Scanned) else role.Source) s.kept
-    ∙ ap (λ b. if list_any is_kept seen then (if b then role.Listed else role.Scanned) else role.Source) s.since
-    ∙ role-same (list_any is_kept seen) (list_any is_kept (after_last is_target_token seen)) role.Source role.Listed role.Scanned in
-    let step : once (with_roles [] (seen ++ x ∷ [])) ≡ added (once (with_roles [] seen)) (x, role_after seen) =
-    ap once (roles-yes seen x kept) ∙ fold-append added [] (with_roles [] seen) ((x, role_after seen) ∷ []) in
+    ∙ ap (λ b. if list_any (is_kept c.args.header) seen then (if b then role.Listed else role.Scanned) else role.Source) s.since
+    ∙ role-same (list_any (is_kept c.args.header) seen) (list_any (is_kept c.args.header) (after_last is_target_token seen)) role.Source role.Listed role.Scanned in
+    let step : once (with_roles c.args.header [] (seen ++ x ∷ [])) ≡ added (once (with_roles c.args.header [] seen)) (x, role_after c.args.header seen) =
+    ap once (roles-yes c.args.header seen x kept) ∙ fold-append added [] (with_roles c.args.header [] seen) ((x, role_after c.args.header seen) ∷ []) in
+    let noted : paths_of c.note.new.by_path.entries ≡ added (paths_of before.by_path.entries) (x, made) =
+    c.in_ok-note.ensures ∙ ap (λ l. added (paths_of before.by_path.entries) (l, made)) c.path_text-path.ensures in
     record {
-      target = s.target ∙ sym (target-no seen x other);
-      kept = sym (kept-yes seen x kept);
-      since = sym (since-yes seen x other kept);
+      target = s.target ∙ sym (target-no c.args.header seen x other);
+      kept = sym (kept-yes c.args.header seen x kept);
+      since = sym (since-yes c.args.header seen x other kept);
       number = ap (λ n. n + 1) s.number ∙ sym (length-append seen (x ∷ []));
-      found = c.in_ok-note.ensures ∙ ap (λ es. added es (x, made)) s.found ∙ ap (λ r. added (once (with_roles [] seen)) (x, r)) rule ∙ sym step;
-      some = λ _. subst (λ (es : List (List ℕ × Role)). 0 < length es) (sym c.in_ok-note.ensures) (some-added (paths_of before.by_path.entries) (x, made));
-      legal = ap (list_all (λ e. is_path e.0)) c.in_ok-note.ensures ∙ legal-added (paths_of before.by_path.entries) x made s.legal
+      found = noted ∙ ap (λ es. added es (x, made)) s.found ∙ ap (λ r. added (once (with_roles c.args.header [] seen)) (x, r)) rule ∙ sym step;
+      some = λ _. subst (λ (es : List (List ℕ × Role)). 0 < length es) (sym noted) (some-added (paths_of before.by_path.entries) (x, made));
+      legal = ap (list_all (λ e. is_path e.0)) noted ∙ legal-added (paths_of before.by_path.entries) x made s.legal
           (sym c.path_is_legal.ensures.legal ∙ c.if-not-path_is_legal.false);
     }

@@ -1,5 +1,4 @@
-use Rattle.std.proofs.Common.{◌≡◌, ◌-◌, length}
-use Rattle.ks_fixdep.specs.NameIter.{names_left}
+use Rattle.ks_fixdep.proofs.Prelude.{◌≡◌, ◌-◌, length, names_left}
 use Rattle.ks_fixdep.proofs.name_iter.NameIter.next_by.Given as goal
 
 -- what is left to take is what was left at the start

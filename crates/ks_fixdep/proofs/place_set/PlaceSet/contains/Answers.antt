@@ -1,5 +1,5 @@
-use Rattle.std.proofs.Common.{◌<◌, ◌≤◌, arith, ap, length, get_or, nat_eq, sym, ◌∙◌}
-use Rattle.std.specs.List.{list_any}
+use Rattle.ks_fixdep.proofs.Prelude.{◌<◌, ◌≤◌, arith, ap, length, get_or, sym, ◌∙◌, list_any}
+use Rattle.std.proofs.Common.{nat_eq}
 use Rattle.ks_fixdep.proofs.PlaceSetLemmas.{points_at, points_nowhere, points_past}
 use Rattle.ks_fixdep.proofs.place_set.PlaceSet.contains.Goals as goal
 

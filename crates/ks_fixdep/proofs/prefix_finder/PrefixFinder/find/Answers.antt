@@ -1,5 +1,4 @@
-use Rattle.std.proofs.Common.{subst}
-use Rattle.memchr.specs.Find.{FindsNeedle}
+use Rattle.ks_fixdep.proofs.Prelude.{subst, FindsNeedle}
 use Rattle.ks_fixdep.proofs.prefix_finder.PrefixFinder.find.Goals as goal
 
 pub returns : goal.returns

@@ -1,10 +1,6 @@
-use Rattle.std.proofs.Common.{◌≡◌, ◌++◌, ◌<◌, ◌-◌, None, refl, sym, ap, ap₂, ◌∙◌, length, take, drop, arith, length-append}
-use Rattle.std.proofs.Math.Seq.{drop-append_seam}
-use Rattle.std.specs.List.{list_all}
-use Rattle.ks_symbols.specs.Names.{is_word_byte}
-use Rattle.ks_fixdep.specs.Scan.{names_after}
-use Rattle.ks_fixdep.specs.Stream.{before_last_word, ended, kept_name, lengthened, lent_behind}
-use Rattle.ks_fixdep.proofs.StreamLemmas.{head-whole, piece-front, piece-kept, piece-lends, word-kept, word-lends}
+use Rattle.ks_fixdep.proofs.Prelude.{◌≡◌, ◌++◌, ◌<◌, ◌-◌, None, refl, sym, ap, ap₂, ◌∙◌, length, take, drop, arith, length-append, drop-append_seam, list_all, is_word_byte, names_after, before_last_word, kept_name, lengthened, borrowed_after}
+use Rattle.ks_fixdep.specs.Stream.{ended}
+use Rattle.ks_fixdep.proofs.StreamLemmas.{head-whole, piece-front, piece-kept, piece-borrows, word-kept, word-borrows}
 use Rattle.ks_fixdep.proofs.scanner.Scanner.feed.Goals as goal
 
 pub returns-then-head-piece : goal.returns-then-head-piece
@@ -15,7 +11,7 @@ returns-then-head-piece c =
     let all = ap (list_all is_word_byte) (sym is) ∙ c.leading_word-head.ensures.passes in (
       (refl, (λ _. tt), λ t stands. c.push.ensures ∙ ap₂ lengthened (c.self.view_is ∙ stands) is ∙ word-kept t p all),
       record {
-        lends = λ t stands. word-lends t p all ∙ ap (λ l. ended t ++ lent_behind t None l) (sym c.starting_at.ensures);
+        borrows = λ t stands. word-borrows t p all ∙ ap (λ l. ended t ++ borrowed_after t None l) (sym c.starting_at.ensures);
         legal = tt;
         after = tt;
       },
@@ -41,10 +37,10 @@ returns c =
     ap (drop (length head)) (piece-front p head is short tail last) ∙ drop-append_seam head (before_last_word (drop (length head) p)) in (
       (refl, (λ _. tt), λ t stands. c.push-2.ensures ∙ ap (λ k. lengthened k tail) c.clear.ensures ∙ piece-kept p head is short t tail last),
       record {
-        lends = λ t stands.
+        borrows = λ t stands.
             (let name = c.name.ensures.value ∙ ap kept_name (c.set.ensures ∙ c.push.ensures ∙ ap (λ k. lengthened k head) (c.self.view_is ∙ stands)) in
-            piece-lends p head is short t
-            ∙ ap₂ (λ n l. ended t ++ lent_behind t n l) (sym name) (ap (names_after 0 (length head)) (sym mid) ∙ sym c.starting_at-2.ensures));
+            piece-borrows p head is short t
+            ∙ ap₂ (λ n l. ended t ++ borrowed_after t n l) (sym name) (ap (names_after 0 (length head)) (sym mid) ∙ sym c.starting_at-2.ensures));
         legal = c.name.ensures.legal;
         after = tt;
       },

@@ -1,6 +1,5 @@
-use Rattle.std.proofs.Common.{◌++◌, refl, sym, ap, ◌∙◌, length}
-use Rattle.ks_fixdep.specs.Scan.{placed}
-use Rattle.ks_fixdep.specs.Stream.{kept_name, ended, before_last_word}
+use Rattle.ks_fixdep.proofs.Prelude.{◌++◌, refl, sym, ap, ◌∙◌, length, placed, kept_name, before_last_word}
+use Rattle.ks_fixdep.specs.Stream.{ended}
 use Rattle.ks_fixdep.proofs.StreamLemmas.{kept-nil, taken-finish}
 use Rattle.ks_fixdep.proofs.scanner.Scanner.finish.Goals as goal
 

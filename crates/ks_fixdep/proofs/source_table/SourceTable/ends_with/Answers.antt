@@ -1,8 +1,5 @@
-use Rattle.std.proofs.Common.{◌≡◌, ◌∙◌, ap, subst, sym}
+use Rattle.ks_fixdep.proofs.Prelude.{◌≡◌, ◌∙◌, ap, subst, sym, list_any, bytes_eq-Decides, names_at}
 use Rattle.std.specs.Prelude.{IsTrue, bytes_eq}
-use Rattle.std.specs.List.{list_any}
-use Rattle.std.proofs.lemmas.Slice.Eq.{bytes_eq-Decides}
-use Rattle.ks_fixdep.specs.SourceTable.{names_at}
 use Rattle.ks_fixdep.proofs.TableLemmas.{any_at}
 use Rattle.ks_fixdep.proofs.source_table.SourceTable.ends_with.Goals as goal
 

@@ -1,8 +1,4 @@
-use Rattle.std.proofs.Common.{◌≡◌, true, sym, ap, subst, ◌∙◌}
-use Rattle.std.specs.List.{list_all}
-use Rattle.std.proofs.lemmas.Option.{slice_get_within}
-use Rattle.ks_fixdep.specs.FoundNames.{noted}
-use Rattle.ks_fixdep.specs.SourceTable.{are_within, lists_at, names_at}
+use Rattle.ks_fixdep.proofs.Prelude.{◌≡◌, true, sym, ap, subst, ◌∙◌, list_all, slice_get_within, noted, are_within, lists_at, names_at}
 use Rattle.ks_fixdep.proofs.TableLemmas.{all_within_noted, at_noted, at_put, lists_noted, within_noted, within_put}
 use Rattle.ks_fixdep.proofs.source_table.SourceTable.note_by_hash.Goals as goal
 

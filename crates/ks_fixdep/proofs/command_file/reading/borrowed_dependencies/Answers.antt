@@ -1,19 +1,13 @@
-use Rattle.std.proofs.Common.{◌≡◌, ◌+◌, ◌<◌, ◌∷◌, ◌++◌, [], length, length-append, drop, sym, ap, ◌∙◌, arith, append-nil, append_assoc, map, option_map}
-use Rattle.std.proofs.lemmas.Bool.Decides.{nat_tests}
-use Rattle.std.proofs.lemmas.List.{map-append}
-use Rattle.ks_fixdep.specs.Lent.{seen_dep}
-use Rattle.ks_fixdep.specs.CommandLines.{lines}
-use Rattle.ks_fixdep.specs.CommandForms.{dep_in}
-use Rattle.ks_fixdep.specs.CommandReading.{deps_in}
+use Rattle.ks_fixdep.proofs.Prelude.{◌≡◌, ◌+◌, ◌<◌, ◌∷◌, ◌++◌, [], length, length-append, drop, sym, ap, ◌∙◌, arith, append-nil, append_assoc, map, option_map, nat_tests, map-append, seen_dep, lines, dep_in, deps_in}
 use Rattle.ks_fixdep.proofs.CommandLineLemmas.{lines-none}
 use Rattle.ks_fixdep.proofs.CommandStepLemmas.{deps-step, deps-stop, deps-nil, drop-one}
-use Rattle.ks_fixdep.proofs.command_file.reading.lent_dependencies.Goals as goal
+use Rattle.ks_fixdep.proofs.command_file.reading.borrowed_dependencies.Goals as goal
 
 pub returns-in_default-clause-deps : goal.returns-in_default-clause-deps
 returns-in_default-clause-deps c =
     let items = map seen_dep c.loop-line.deps.items in
     let is = c.split_line.ensures.first (grind (arith, nat_tests)) in
-    let none = ap dep_in (sym c.content_of.ensures) ∙ sym c.lent_dep_in.ensures ∙ ap (option_map seen_dep) c.in_default.is in
+    let none = ap dep_in (sym c.content_of.ensures) ∙ sym c.borrowed_dep_in.ensures ∙ ap (option_map seen_dep) c.in_default.is in
     sym (append-nil items)
     ∙ ap (λ l. items ++ l) (sym (deps-stop (lines c.loop-line.rest.now) (lines c.split_line.result.1.now) c.split_line.result.0.now is none))
     ∙ c.loop-line.invariant.same
@@ -26,7 +20,7 @@ loop-line-preserved c =
     let after = lines c.split_line.result.1.now in
     let some : 0 < length c.loop-line.rest.now = grind (arith, nat_tests) in
     let is = c.split_line.ensures.first some in
-    let found = ap dep_in (sym c.content_of.ensures) ∙ sym c.lent_dep_in.ensures ∙ ap (option_map seen_dep) c.in-Some.is in
+    let found = ap dep_in (sym c.content_of.ensures) ∙ sym c.borrowed_dep_in.ensures ∙ ap (option_map seen_dep) c.in-Some.is in
     let pushed : map seen_dep c.push.new.self.items ≡ items ++ dep ∷ [] = ap (map seen_dep) c.in_ok-push.ensures.items ∙ map-append seen_dep old
     (c.in-Some.dep ∷ []) in
     let more : length c.push.new.self.items ≡ length old + 1 = ap length c.in_ok-push.ensures.items ∙ length-append old (c.in-Some.dep ∷ []) in

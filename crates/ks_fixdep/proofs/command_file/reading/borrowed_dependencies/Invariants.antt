@@ -1,8 +1,6 @@
-use Rattle.std.proofs.Common.{◌≡◌, ◌+◌, ◌≤◌, ◌++◌, drop, length, map}
-use Rattle.ks_fixdep.specs.Lent.{seen_dep}
-use Rattle.ks_fixdep.specs.CommandLines.{lines}
+use Rattle.ks_fixdep.proofs.Prelude.{◌≡◌, ◌+◌, ◌≤◌, ◌++◌, drop, length, map, seen_dep, lines}
 use Rattle.ks_fixdep.specs.CommandReading as Reading
-use Rattle.ks_fixdep.proofs.command_file.reading.lent_dependencies.Given as goal
+use Rattle.ks_fixdep.proofs.command_file.reading.borrowed_dependencies.Given as goal
 
 -- the dependency lines so far and those of the rest are all
 abbrev pub invariant-loop-line : goal.invariant-loop-line

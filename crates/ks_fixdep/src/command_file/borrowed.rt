@@ -4,18 +4,18 @@ ghost use Rattle.ks_symbols.specs.Names.{is_name};
 
 /// A name that was found in a prerequisite, which is legal.
 #[derive(Drop)]
-pub struct LentName<'a> {
+pub struct BorrowedName<'a> {
     pub(crate) bytes: &'a [u8],
     ghost legal: { IsTrue (is_name bytes.now) },
 }
 
-impl<'a> LentName<'a> {
+impl<'a> BorrowedName<'a> {
     /// These legal bytes.
-    pub(crate) fn new(bytes: &'a [u8]) -> LentName<'a>
+    pub(crate) fn new(bytes: &'a [u8]) -> BorrowedName<'a>
         requires { IsTrue (is_name bytes.now) }
         ensures { result.bytes.now ≡ bytes.now }
     {
-        LentName { bytes }
+        BorrowedName { bytes }
     }
 
     pub fn as_bytes(&self) -> &'a [u8]
@@ -28,17 +28,17 @@ impl<'a> LentName<'a> {
 
 /// A prerequisite that stands on a line of its own, or a name that was found in one.
 #[derive(Drop)]
-pub enum LentDep<'a> {
+pub enum BorrowedDep<'a> {
     File(&'a [u8]),
-    Config(LentName<'a>),
+    Config(BorrowedName<'a>),
 }
 
 /// What a command file says.
 #[derive(Drop)]
-pub struct LentCommand<'a> {
+pub struct BorrowedCommand<'a> {
     pub target: &'a [u8],
     pub command: &'a [u8],
     pub source: &'a [u8],
-    pub deps: Vec<LentDep<'a>>,
+    pub deps: Vec<BorrowedDep<'a>>,
     pub generation: Option<u64>,
 }

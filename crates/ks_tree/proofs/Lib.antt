@@ -1,7 +1,9 @@
+pub mod Prelude
 pub mod PathLemmas
 pub mod Places
 pub mod StampLemmas
 pub mod Touching
+pub mod Making
 pub mod Stored
 pub mod Tables
 pub mod Reading

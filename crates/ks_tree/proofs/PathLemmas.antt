@@ -1,10 +1,5 @@
 -- No two files of different kinds stand at one path.
-use Rattle.std.proofs.Common.{◌+◌, ◌≤◌, ◌<◌, inl, inr, length, take, drop, get_or, append_assoc, arith, length-take, ◌≡◌, ◌≢◌, ℕ, List, [], ◌∷◌, ◌++◌, Bool, true, false, ◌||◌, cond, sym, ◌∙◌, ap, refl, subst, codes, nat_eq, IsTrue, true≢false}
-use Rattle.std.specs.List.{list_any, list_all}
-use Rattle.std.proofs.lemmas.Bool.{or_right, cases_eq, ne_eqb, and_parts, cond-true, cond-false}
-use Rattle.std.proofs.lemmas.List.{take_more, drop-append-le, drop_all, append_cancel_left, append_cancel_right}
-use Rattle.ks_symbols.specs.Names.{is_word_byte, is_name, header_path}
-use Rattle.ks_tree.specs.Paths.{auto_path, auto_temporary, header_temporary, stamp_temporary, stamp_path, has_slash, dotted, command_path, command_temporary}
+use Rattle.ks_tree.proofs.Prelude.{◌+◌, ◌≤◌, ◌<◌, inl, inr, length, take, drop, get_or, append_assoc, arith, length-take, ◌≡◌, ◌≢◌, ℕ, List, [], ◌∷◌, ◌++◌, Bool, true, false, ◌||◌, cond, sym, ◌∙◌, ap, refl, subst, codes, nat_eq, IsTrue, true≢false, list_any, list_all, or_right, cases_eq, ne_eqb, and_parts, cond-true, cond-false, take_more, drop-append-le, drop_all, append_cancel_left, append_cancel_right, is_word_byte, is_name, header_path, temporary, auto_path, auto_temporary, header_temporary, stamp_temporary, stamp_path, has_slash, dotted, command_path, command_temporary}
 
 -- ---- which paths have a dot
 
@@ -79,6 +74,18 @@ unfolding ending command_temporary
 ending-command_temporary o = cond-true (has_dot (dotted o ++ codes ".cmd.tmp")) _ _ (dotted_dot o (codes ".cmd.tmp")) ∙ last-append (dotted o) 46
     (codes "cmd.tmp") ∙ last_command_temporary
 
+last_temporary : last (46 ∷ codes "tmp") ≡ 112
+unfolding last
+last_temporary = refl
+
+some_dot : (p : List ℕ) → has_dot (p ++ codes ".tmp") ≡ true
+unfolding has_dot
+some_dot p = any-append (nat_eq 46) p (codes ".tmp") ∙ or_right (list_any (nat_eq 46) p) true refl
+
+pub ending-temporary : (p : List ℕ) → ending (temporary p) ≡ 112
+unfolding ending
+ending-temporary p = cond-true (has_dot (p ++ codes ".tmp")) _ _ (some_dot p) ∙ last-append p 46 (codes "tmp") ∙ last_temporary
+
 pub ending-auto : ending auto_path ≡ 102
 unfolding ending auto_path has_dot last
 ending-auto = refl
@@ -136,7 +143,7 @@ any-push f xs c = any-append f xs (c ∷ []) ∙ ap (λ b. list_any f xs || b) (
     or_false true = refl
     or_false false = refl
 
--- behind a slash the last part begins again
+-- after a slash the last part begins again
 pub dotted-slash : (xs : List ℕ) → dotted (xs ++ 47 ∷ []) ≡ xs ++ 47 ∷ 46 ∷ []
 dotted-slash [] = refl
 dotted-slash (x ∷ xs) =
@@ -158,7 +165,7 @@ dotted-push (x ∷ xs) c other =
     or_nothing true c e = refl
     or_nothing false c e = e
 
--- Where the path up to i has its dot behind n bytes, so has the path up to i + 1, unless it ends in a slash.
+-- Where the path up to i has its dot after n bytes, so has the path up to i + 1, unless it ends in a slash.
 pub border_slash : (p : List ℕ) (i n : ℕ) → i < length p → get_or p i 0 ≡ 47 → n ≡ i + 1 → dotted (take (i + 1) p) ≡ take n p ++ 46 ∷ drop n (take (i + 1) p)
 border_slash p i n h slash is =
     let more : take (i + 1) p ≡ take i p ++ 47 ∷ [] = take_more p i 0 h ∙ ap (λ c. take i p ++ c ∷ []) slash in

@@ -1,7 +1,5 @@
 -- A path tells which of the files that the commands write stands at it.
-use Rattle.std.proofs.Common.{◌≡◌, ◌-◌, ℕ, List, ◌++◌, codes, nat_eq, cond, length, take, drop, ap, sym, ◌∙◌, refl, length-append, append_assoc, arith}
-use Rattle.std.proofs.lemmas.List.{take-append-le, take_all}
-use Rattle.ks_tree.specs.Paths.{auto_temporary, header_temporary, stamp_path, stamp_temporary, command_path, command_temporary, dotted, Place, AutoConf, Header, Stamp, CommandFile, AutoTemporary, HeaderTemporary, StampTemporary, CommandTemporary, path_of, IsLegalPlace, PathsNeverMeet}
+use Rattle.ks_tree.proofs.Prelude.{◌≡◌, ◌-◌, ℕ, List, ◌++◌, codes, nat_eq, cond, length, take, drop, ap, sym, ◌∙◌, refl, length-append, append_assoc, arith, take-append-le, take_all, auto_temporary, header_temporary, stamp_path, stamp_temporary, command_path, command_temporary, dotted, Place, AutoConf, Header, Stamp, CommandFile, AutoTemporary, HeaderTemporary, StampTemporary, CommandTemporary, path_of, IsLegalPlace, PathsNeverMeet}
 use Rattle.ks_tree.proofs.PathLemmas.{ending, has_dot, last, undotted, undotted-dotted, ending-stamp, ending-auto, ending-header, ending-command, ending-command_temporary, ending-auto_temporary, ending-header_temporary, ending-stamp_temporary}
 
 -- without its last n bytes
@@ -23,9 +21,9 @@ place_at : List ℕ → Place
 place_at p = cond (nat_eq (ending p) 0) (Stamp (drop 15 p)) (cond (nat_eq (ending p) 102) AutoConf (cond (nat_eq (ending p) 104) Header
     (cond (nat_eq (ending p) 100) (CommandFile (undotted (front 4 p))) (temporary_at (front 4 p)))))
 
-behind_command : (o : List ℕ) → front 4 (command_temporary o) ≡ command_path o
+after_command : (o : List ℕ) → front 4 (command_temporary o) ≡ command_path o
 unfolding command_temporary command_path
-behind_command o = ap (front 4) (sym (append_assoc (dotted o) (codes ".cmd") (codes ".tmp"))) ∙ front-append (dotted o ++ codes ".cmd") (codes ".tmp") 4 refl
+after_command o = ap (front 4) (sym (append_assoc (dotted o) (codes ".cmd") (codes ".tmp"))) ∙ front-append (dotted o ++ codes ".cmd") (codes ".tmp") 4 refl
 
 command_of : (o : List ℕ) → undotted (front 4 (command_path o)) ≡ o
 unfolding command_path
@@ -35,21 +33,21 @@ dropped : (x : List ℕ) → Stamp (drop 15 (stamp_path x)) ≡ Stamp x
 unfolding stamp_path
 dropped x = refl
 
-behind_auto : temporary_at (front 4 auto_temporary) ≡ AutoTemporary
+following_auto : temporary_at (front 4 auto_temporary) ≡ AutoTemporary
 unfolding temporary_at front auto_temporary ending has_dot last
-behind_auto = refl
+following_auto = refl
 
-behind_header : temporary_at (front 4 header_temporary) ≡ HeaderTemporary
+following_header : temporary_at (front 4 header_temporary) ≡ HeaderTemporary
 unfolding temporary_at front header_temporary ending has_dot last
-behind_header = refl
+following_header = refl
 
-behind_stamp : temporary_at (front 4 stamp_temporary) ≡ StampTemporary
+after_stamp : temporary_at (front 4 stamp_temporary) ≡ StampTemporary
 unfolding temporary_at front stamp_temporary ending has_dot last
-behind_stamp = refl
+after_stamp = refl
 
-behind_any_command : (o : List ℕ) → temporary_at (front 4 (command_temporary o)) ≡ CommandTemporary o
+after_any_command : (o : List ℕ) → temporary_at (front 4 (command_temporary o)) ≡ CommandTemporary o
 unfolding temporary_at
-behind_any_command o = ap temporary_at (behind_command o) ∙ rw (ending-command o) (ap (λ p. CommandTemporary p) (command_of o))
+after_any_command o = ap temporary_at (after_command o) ∙ rw (ending-command o) (ap (λ p. CommandTemporary p) (command_of o))
 
 found : (a : Place) → IsLegalPlace a → place_at (path_of a) ≡ a
 unfolding place_at
@@ -57,10 +55,10 @@ found AutoConf h = rw ending-auto refl
 found Header h = rw ending-header refl
 found (Stamp x) h = rw (ending-stamp x h) (dropped x)
 found (CommandFile o) h = rw (ending-command o) (ap (λ p. CommandFile p) (command_of o))
-found AutoTemporary h = rw ending-auto_temporary behind_auto
-found HeaderTemporary h = rw ending-header_temporary behind_header
-found StampTemporary h = rw ending-stamp_temporary behind_stamp
-found (CommandTemporary o) h = rw (ending-command_temporary o) (behind_any_command o)
+found AutoTemporary h = rw ending-auto_temporary following_auto
+found HeaderTemporary h = rw ending-header_temporary following_header
+found StampTemporary h = rw ending-stamp_temporary after_stamp
+found (CommandTemporary o) h = rw (ending-command_temporary o) (after_any_command o)
 
 -- so two of them at one path are the same file
 pub paths_never_meet : PathsNeverMeet

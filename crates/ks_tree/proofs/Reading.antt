@@ -1,9 +1,6 @@
 -- Bytes that were read ahead are given in turn, and none is left out.
-use Rattle.std.proofs.Common.{◌≡◌, ◌≤◌, ◌<◌, ◌+◌, ◌++◌, [], ℕ, List, Option, Some, None, length, take, drop, min, sym, ◌∙◌, ap, refl, arith}
-use Rattle.std.proofs.lemmas.List.{take-append-drop, take_at, take-take, drop_all, length-take-le, length-append, append_assoc}
-use Rattle.std.proofs.lemmas.Slice.{take-put_mid}
-use borrow.Rule.Slice.PartMut.{put_mid}
-use Rattle.std.specs.Io.KnownBytes.{Consumes, prepend_known}
+use Rattle.ks_tree.proofs.Prelude.{◌≡◌, ◌≤◌, ◌<◌, ◌+◌, ◌++◌, [], ℕ, List, Option, Some, None, length, take, drop, min, sym, ◌∙◌, ap, refl, arith, take-append-drop, take_at, take-take, drop_all, length-take-le, take-put_mid, put_mid, Consumes, prepend_known}
+use Rattle.std.proofs.lemmas.List.{length-append, append_assoc}
 
 -- a piece stands after what was given before
 pub given_more : (g k n : ℕ) (xs ys b w : List ℕ) → ys ≡ take n b ++ w → n ≤ length b → g ≤ length xs → take (g + n) (put_mid g k xs ys) ≡ take g xs ++ take n b

@@ -1,12 +1,5 @@
 -- A stamp has one number at most.
-use Rattle.std.proofs.Common.{◌++◌, Bool, true, false, ◌&&◌, cond, nat_lt, refl, subst, ⊎_elim, IfSome, IfNone, ◌≡◌, ℕ, ◌+◌, ◌<◌, ◌≤◌, ◌^◌, List, [], ◌∷◌, inl, inr, Option, Some, None, sym, ◌∙◌, ap, decimal, arith, length, length-append}
-use Rattle.std.proofs.lemmas.Fmt.{decimal_injective, length-decimal-le}
-use Rattle.std.proofs.lemmas.List.{append_cancel_right}
-use Rattle.std.proofs.lemmas.Bool.{ltb-true}
-use Rattle.std.specs.Str.Parse.{digits_value}
-use Rattle.ks_symbols.specs.Decimal.{decimal_value, is_canonical}
-use Rattle.ks_symbols.proofs.Digits.{reads_back, reads_only_written}
-use Rattle.ks_tree.specs.Stamps.{HasNumber, stamp_text}
+use Rattle.ks_tree.proofs.Prelude.{◌++◌, Bool, true, false, ◌&&◌, cond, nat_lt, refl, subst, ⊎_elim, IfSome, IfNone, ◌≡◌, ℕ, ◌+◌, ◌<◌, ◌≤◌, ◌^◌, List, [], ◌∷◌, inl, inr, Option, Some, None, sym, ◌∙◌, ap, decimal, arith, length, length-append, decimal_injective, length-decimal-le, append_cancel_right, ltb-true, digits_value, decimal_value, is_canonical, reads_back, reads_only_written, HasNumber, stamp_text}
 
 length-stamp_text : (n : ℕ) → length (stamp_text n) ≡ length (decimal n) + 1
 length-stamp_text n = length-append (decimal n) (10 ∷ [])
@@ -22,10 +15,6 @@ number_unique (Some s) m n (inl a) (inl b) = cc
 number_unique (Some s) m n (inl a) (inr b) = absurd (not_empty s n a.0 b.0)
 number_unique (Some s) m n (inr a) (inl b) = absurd (not_empty s m b.0 a.0)
 number_unique (Some s) m n (inr a) (inr b) = decimal_injective m n a.1 b.1 (append_cancel_right (decimal m) (decimal n) (10 ∷ []) (sym a.0 ∙ b.0))
-
-pub number_written : (stamp : Option (List ℕ)) (n : ℕ) → n < 2 ^ 64 → stamp ≡ Some (stamp_text n) → HasNumber stamp n
-number_written None n small e = cc
-number_written (Some s) n small e = let same : s ≡ stamp_text n = cc in inr (same, small)
 
 -- so a file that is too large to be read is no stamp
 pub number_short : (s : List ℕ) (n : ℕ) → HasNumber (Some s) n → length s ≤ 21

@@ -1,12 +1,6 @@
 -- What a tree in memory has at a path, and what an insertion and a removal change.
-use Rattle.std.proofs.Common.{◌≡◌, ◌≢◌, ℕ, List, Option, Some, None, cond, IsSome, sym, ◌∙◌, ap, refl, Vec, option_map, bytes_eq, nat_cmp}
-use Rattle.std.proofs.lemmas.Bool.{cond-true, cond-false, false_from_ne_true}
-use Rattle.std.specs.BTreeMap.{BTreeMap, UpdatesBy}
-use Rattle.std.specs.Cmp.Lexicographic.{slice_cmp, bytes_decides}
-use Rattle.std.specs.Map.{lookup}
+use Rattle.ks_tree.proofs.Prelude.{◌≡◌, ◌≢◌, ℕ, List, Option, Some, None, cond, IsSome, sym, ◌∙◌, ap, refl, Vec, option_map, bytes_eq, nat_cmp, cond-true, cond-false, false_from_ne_true, BTreeMap, UpdatesBy, slice_cmp, bytes_decides, lookup, Files, content, SameBut, IsMoved, files_of}
 use Rattle.ks_tree.proofs.Tables.{is_key, get-named, get-updates}
-use Rattle.ks_tree.specs.Files.{Files, content, SameBut, IsMoved}
-use Rattle.ks_tree.specs.Memory.{files_of}
 
 pub found : {Y Z : Type 0} (es : List (Vec ℕ Y × Vec ℕ Z)) (files : Files) (q : List ℕ) (o : Option (Vec ℕ Z)) → files_of es ≡ files → o
     ≡ lookup (is_key q) es → content files q ≡ option_map (λ v. v.items) o

@@ -1,20 +1,7 @@
 -- A tree whose keys are owned bytes, seen as a finite map from bytes.
-use Rattle.std.proofs.Common.{◌≡◌, ℕ, Bool, true, false, ◌&&◌, T, cond, List, [], ◌∷◌, map, Option, Some, option_map, Vec, bytes_eq, refl, sym, ap, subst, ◌∙◌}
-use Rattle.std.proofs.lemmas.Bool.{cases_Bool, cond-true, cond-false}
-use Rattle.std.proofs.lemmas.Map.Text.{is_eq-slice_cmp}
-use Rattle.std.specs.BTreeMap.{BTreeMap, UpdatesBy}
-use Rattle.std.specs.Cmp.{eq_by_cmp_equiv}
+use Rattle.ks_tree.proofs.Prelude.{◌≡◌, ℕ, Bool, true, false, ◌&&◌, T, cond, List, [], ◌∷◌, map, Option, Some, option_map, Vec, bytes_eq, refl, sym, ap, subst, ◌∙◌, cases_Bool, cond-true, cond-false, is_eq-slice_cmp, BTreeMap, UpdatesBy, eq_by_cmp_equiv, is_eq, is_lt, slice_cmp, nat_list_cmp_total, nat_list_eq_equiv, bytes_decides, entries, from_sorted, get-from_sorted, entries-from_sorted, is_sorted, get, find, get-from_entries, same_map, IsAntisymmetric, slice_cmp-IsAntisymmetric, nat_cmp-IsAntisymmetric, below_all, AllByRecursion, IsStrictlySortedBy, Ordering, Less, lookup, KeepsOthers, keys_of, named}
 use mathlib.Core.Logic.{⊎_elim}
-use Rattle.std.specs.Ordering.{nat_cmp, is_eq, is_lt}
-use Rattle.std.specs.Cmp.Lexicographic.{slice_cmp, nat_list_cmp_total, nat_list_eq_equiv, bytes_decides}
-use Rattle.std.specs.FinMap.{entries, from_sorted, get-from_sorted, entries-from_sorted, is_sorted, get, find, get-from_entries, same_map, IsAntisymmetric, slice_cmp-IsAntisymmetric, nat_cmp-IsAntisymmetric}
-use Rattle.std.specs.FinMap.Entries.{below_all}
-use Rattle.std.specs.List.{AllByRecursion}
-use Rattle.std.specs.List.Sorted.{IsStrictlySortedBy}
-use Rattle.std.specs.declared.cmp.Ordering.{Ordering}
-use Rattle.std.specs.declared.cmp.Ordering.TheVariants.{Less}
-use Rattle.std.specs.Map.{lookup, KeepsOthers, keys_of}
-use Rattle.ks_tree.specs.Memory.{named}
+use Rattle.std.specs.Ordering.{nat_cmp}
 
 -- whether a stored key has the bytes q
 abbrev pub is_key : {Y : Type 0} → List ℕ → Vec ℕ Y → Bool

@@ -1,22 +1,13 @@
 -- One more stamp is set.
-use Rattle.std.proofs.Common.{IsTrue, ◌≡◌, ◌≢◌, ⊎_elim, ℕ, List, [], ◌∷◌, ◌++◌, Some, Bool, true, false, ◌||◌, cond, sym, ◌∙◌, ap, refl, arith, bytes_eq, true≢false}
-use Rattle.std.proofs.lemmas.Bool.{or_left, or_right, cases_Bool, cond-true}
-use Rattle.std.proofs.lemmas.Slice.Eq.{bytes_eq-Decides}
-use Rattle.ks_tree.specs.Files.{Files, content, SameButBoth}
-use Rattle.ks_symbols.specs.Names.{is_name, is_in}
-use Rattle.ks_tree.specs.Paths.{stamp_path, stamp_temporary}
-use Rattle.ks_tree.specs.Stamps.{stamp_text, Touches}
+use Rattle.ks_tree.proofs.Prelude.{IsTrue, ◌≡◌, ◌≢◌, ⊎_elim, ℕ, List, [], ◌∷◌, ◌++◌, Some, Bool, true, false, ◌||◌, cond, sym, ◌∙◌, ap, refl, arith, bytes_eq, true≢false, or_left, or_right, cases_Bool, cond-true, bytes_eq-Decides, Files, content, SameButBoth, is_name, is_in, stamp_path, stamp_temporary, stamp_text, Touches}
 use Rattle.ks_tree.proofs.PathLemmas.{apart, ending-stamp, ending-stamp_temporary, stamp-injective}
 
-pub touches_none : (g : ℕ) (files : Files) → Touches [] g files files
-touches_none g files = record { stamps = λ x name. refl; others = λ q a b. refl }
-
-is_in_more : (xs : List (List ℕ)) (y x : List ℕ) → is_in (xs ++ y ∷ []) x ≡ (is_in xs x || bytes_eq x y)
+pub is_in_more : (xs : List (List ℕ)) (y x : List ℕ) → is_in (xs ++ y ∷ []) x ≡ (is_in xs x || bytes_eq x y)
 is_in_more [] y x = elim (bytes_eq x y) as (λ b. (b || false) ≡ b) [ true ↦ refl | false ↦ refl ]
 is_in_more (z ∷ xs) y x = elim (bytes_eq x z) as (λ b. (b || is_in (xs ++ y ∷ []) x) ≡ ((b || is_in xs x) || bytes_eq x y))
     [ true ↦ refl | false ↦ is_in_more xs y x ]
 
-or_false : (b c : Bool) → c ≡ false → (b || c) ≡ b
+pub or_false : (b c : Bool) → c ≡ false → (b || c) ≡ b
 or_false true c e = refl
 or_false false c e = e
 

@@ -1,5 +1,5 @@
 -- The files of a tree, and what one call of it reads or changes.
-use Rattle.std.specs.Prelude.{◌≡◌, ◌≢◌, ℕ, ◌+◌, ◌≤◌, ◌<◌, min, List, Option, Some, None, length, take, drop, ◌++◌}
+use Rattle.std.specs.Prelude.{◌≡◌, ◌≢◌, ◌⊎◌, ℕ, ◌+◌, ◌≤◌, ◌<◌, min, List, Option, Some, None, length, take, drop, ◌++◌}
 use Rattle.std.specs.FinMap.{get}
 use Rattle.ks_symbols.specs.Configuration.{NameMap}
 use Rattle.ks_symbols.specs.Lines.{max_bytes}
@@ -26,6 +26,15 @@ pub record IsMoved (from to : List ℕ) (old new : Files) : Type 0 where
   pub gone : content new from ≡ None
   pub others : SameButBoth from to old new
 
+-- the file that was there, or else these bytes
+abbrev pub kept_or : Option (List ℕ) → List ℕ → List ℕ
+kept_or None bytes = bytes
+kept_or (Some b) bytes = b
+
+-- What a creation that failed leaves: what was there, or a beginning of the bytes where nothing was.
+abbrev pub IsHalfCreated : Option (List ℕ) → List ℕ → Option (List ℕ) → Type 0
+IsHalfCreated old bytes new = (new ≡ old) ⊎ ((old ≡ None) × ((n : ℕ) × (new ≡ Some (take n bytes))))
+
 -- The file is larger than what is read.
 abbrev pub IsTooLarge : Option (List ℕ) → Type 0
 IsTooLarge file = (b : List ℕ) × (file ≡ Some b) × (max_bytes < length b)
@@ -34,7 +43,7 @@ IsTooLarge file = (b : List ℕ) × (file ≡ Some b) × (max_bytes < length b)
 abbrev pub piece : List ℕ → ℕ → ℕ → List ℕ
 piece b offset room = take room (drop offset b)
 
--- The room holds the piece of b, and behind it what it held before.
+-- The room holds the piece of b, and after it what it held before.
 pub record IsPieceRead (b : List ℕ) (offset : ℕ) (old new : List ℕ) (count : ℕ) : Type 0 where
   pub is : count ≡ length (piece b offset (length old))
   pub bytes : new ≡ piece b offset (length old) ++ drop count old

@@ -1,7 +1,7 @@
 -- Which calls of a tree pass, and what becomes of the others.
 use Rattle.std.specs.Prelude.{◌≡◌, ◌/◌, List, take, length, ℕ, ◌+◌, ◌-◌, min, Bool, true, false, ◌&&◌, ◌||◌, ◌==◌, not, nat_lt, Option, Some, None, Result, OnOk, IsErrOf, if◌then◌else◌}
 use Rattle.ks_tree.specs.declared.tree.Tree.{Ghosts}
-use Rattle.ks_tree.specs.Files.{content, IsMoved, HasRisen}
+use Rattle.ks_tree.specs.Files.{content, IsMoved, HasRisen, kept_or}
 use Rattle.ks_tree.specs.declared.fault.TreeFault.{TreeFault}
 use Rattle.ks_tree.specs.declared.fault.TreeFault.TheVariants.{OutOfMemory, Device}
 use Rattle.ks_tree.specs.declared.fuse.Fuse.{Fuse}
@@ -77,11 +77,24 @@ pub record IsHalfRename {T : Type 0} (tree : Ghosts T) (from to : List ℕ) (old
   pub refused : tree.is_honest → IsErrOf answer OutOfMemory → tree.files new ≡ tree.files old
   pub failed : IsErrOf answer Device → HasRisen (tree.failures old) (tree.failures new)
 
--- What a write does at a turn of the fuse: one that passes is that of the tree behind it, and a failed one did nothing.
+-- A half creation: the tree behind the fuse was asked to make a file of the first half of the bytes, and this was its answer.
+pub record IsHalfCreation {T : Type 0} (tree : Ghosts T) (path bytes : List ℕ) (old new : T) (answer : Result Unit TreeFault) : Type 0 where
+  pub asked : tree.creates old path (half_of bytes) new answer
+  pub made : tree.is_honest → OnOk answer (content (tree.files new) path ≡ Some (kept_or (content (tree.files old) path) (half_of bytes)))
+  pub refused : tree.is_honest → IsErrOf answer OutOfMemory → tree.files new ≡ tree.files old
+  pub failed : IsErrOf answer Device → HasRisen (tree.failures old) (tree.failures new)
+
+-- What a write does at a turn of the fuse: one that passes is that of the tree after it, and a failed one did nothing.
 abbrev pub WritesAt : {T : Type 0} → Turn → Ghosts T → T → List ℕ → List ℕ → T → Result Unit TreeFault → Type 0
 WritesAt Pass tree old path bytes new answer = tree.writes old path bytes new answer
 WritesAt Fail tree old path bytes new answer = new ≡ old
 WritesAt HalfDone tree old path bytes new answer = (inner : Result Unit TreeFault) × IsHalfWrite tree path bytes old new inner
+
+-- What a creation does at a turn of the fuse.
+abbrev pub CreatesAt : {T : Type 0} → Turn → Ghosts T → T → List ℕ → List ℕ → T → Result Unit TreeFault → Type 0
+CreatesAt Pass tree old path bytes new answer = tree.creates old path bytes new answer
+CreatesAt Fail tree old path bytes new answer = new ≡ old
+CreatesAt HalfDone tree old path bytes new answer = (inner : Result Unit TreeFault) × IsHalfCreation tree path bytes old new inner
 
 -- What a rename does at a turn of the fuse.
 abbrev pub RenamesAt : {T : Type 0} → Turn → Ghosts T → T → List ℕ → List ℕ → T → Result Unit TreeFault → Type 0

@@ -1,4 +1,4 @@
--- The files of a tree in memory, and how they are lent.
+-- The files of a tree in memory, and how they are borrowed.
 use Rattle.std.specs.Prelude.{ℕ, List, Vec, map as map_list}
 use Rattle.std.specs.Coded.{Coded, coded_ℕ, coded_list}
 use Rattle.std.specs.Borrow.{Bor}
@@ -21,6 +21,6 @@ files_of entries = named (λ bytes. bytes.items) entries
 abbrev pub seen_file : {Y Z : Type 0} → Vec ℕ Y × Vec ℕ Z → List ℕ × List ℕ
 seen_file e = (e.0.items, e.1.items)
 
--- a file as it is lent
-abbrev pub lent_file : Bor (List ℕ) × Bor (List ℕ) → List ℕ × List ℕ
-lent_file e = (e.0.now, e.1.now)
+-- a file as it is borrowed
+abbrev pub borrowed_file : Bor (List ℕ) × Bor (List ℕ) → List ℕ × List ℕ
+borrowed_file e = (e.0.now, e.1.now)

@@ -28,7 +28,7 @@ stamp_temporary = codes "include/config/stamp.tmp"
 abbrev pub has_slash : List ℕ → Bool
 has_slash path = list_any (nat_eq 47) path
 
--- with a dot before what stands behind the last slash
+-- with a dot before what stands after the last slash
 abbrev pub dotted : List ℕ → List ℕ
 dotted [] = 46 ∷ []
 dotted (c ∷ cs) = if has_slash (c ∷ cs) then c ∷ dotted cs else (46 ∷ c ∷ cs)

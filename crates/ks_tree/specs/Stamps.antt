@@ -1,9 +1,9 @@
--- The number that a stamp holds, and what touching leaves. A format of this project: the usual tool's stamps are empty, and their time counts.
+-- The number that a stamp holds, and what touching leaves. A format of this project: Kbuild's stamps are empty, and their time counts.
 use Rattle.std.specs.Prelude.{◌≡◌, ◌≢◌, ℕ, ◌<◌, ◌^◌, List, [], ◌∷◌, ◌++◌, ◌⊎◌, Option, Some, None, decimal, true, if◌then◌else◌, IsTrue, ⊤}
 use Rattle.ks_symbols.specs.Names.{is_name, is_in}
 use Rattle.ks_tree.specs.declared.fault.TreeError.{TreeError}
 use Rattle.ks_tree.specs.declared.fault.TreeError.TheVariants as error
-use Rattle.ks_tree.specs.Files.{Files, content, IsTooLarge}
+use Rattle.ks_tree.specs.Files.{Files, content, kept_or, IsTooLarge}
 use Rattle.ks_tree.specs.Paths.{stamp_path, stamp_temporary}
 
 -- the bytes of the stamp of generation g
@@ -24,6 +24,11 @@ abbrev pub IsStampRefusal : List ℕ → Option (List ℕ) → TreeError → Typ
 IsStampRefusal x file (error.BadStamp y) = (y ≡ x) × IsNoStamp file × (IsTooLarge file → ⊥)
 IsStampRefusal x file error.TooLarge = IsTooLarge file
 IsStampRefusal x file e = ⊤
+
+-- Each of these names has the stamp that it had, or an empty one, whose number is 0, where it had none. Nothing else has changed.
+pub record MakesStamps (xs : List (List ℕ)) (old new : Files) : Type 0 where
+  pub made : (x : List ℕ) → is_in xs x ≡ true → content new (stamp_path x) ≡ Some (kept_or (content old (stamp_path x)) [])
+  pub others : (q : List ℕ) → ((x : List ℕ) → is_in xs x ≡ true → q ≢ stamp_path x) → content new q ≡ content old q
 
 -- These names' stamps are set, and nothing else has changed but the temporary file.
 pub record Touches (xs : List (List ℕ)) (g : ℕ) (old new : Files) : Type 0 where

@@ -13,7 +13,7 @@ ghost use Rattle.ks_tree.specs.SystemErrors.{fault_of, found_of, meaning_of};
 
 use crate::folder_fault::FolderFault;
 use crate::held::HeldReading;
-use crate::new_file::write_new;
+use crate::new_file::{create_new, write_new};
 use crate::read_ahead::KeptFile;
 use crate::system_error::{Meaning, meaning_of};
 use crate::{Claim, Tree, TreeFault};
@@ -216,31 +216,6 @@ where
         self.found(alloc, path, outcome)
     }
 
-    /// Reads a file, or gives what is held for it.
-    fn read_file(&mut self, alloc: Global, path: &[u8]) -> Result<Option<Vec<u8>>, TreeFault>
-        ensures held { IfSome self.old.held (λ held. held.path ≡ path.now →
-            IfOk result (λ found. option_map (λ v. v.items) found ≡ held.found) × IfErr result (λ _. ⊥)) }
-        ensures once { IfSome self.old.held (λ held. held.path ≡ path.now → self.new.held ≡ None) }
-        ensures later { self.old.failures ≤ self.new.failures }
-        ensures passed { OnOk result (self.new.failures ≡ self.old.failures) }
-        ensures uncounted { IsErrOf result TreeFault.OutOfMemory → self.new.failures ≡ self.old.failures }
-        ensures too_large_uncounted { IsErrOf result TreeFault.TooLarge → self.new.failures ≡ self.old.failures }
-        ensures cause { IsErrOf result TreeFault.Device → HasRisen self.old.failures self.new.failures }
-    {
-        if let Some(found) = HeldReading::take(&mut self.held, path) {
-            return Ok(found);
-        }
-        let Some(place) = self.place(alloc, path)? else {
-            return Err(self.device());
-        };
-        let outcome = read_bytes(&self.files, alloc, place.as_str());
-        match self.found(alloc, path, outcome)? {
-            Some(Some(bytes)) => Ok(Some(bytes)),
-            Some(None) => Err(TreeFault::TooLarge),
-            None => Ok(None),
-        }
-    }
-
     /// Forgets what was read before a file changes.
     fn forget_readings(&mut self)
         ensures kept { self.new.kept ≡ None }
@@ -249,52 +224,6 @@ where
     {
         self.kept = None;
         self.held = None;
-    }
-
-    /// Writes a file, which is claimed until it is moved or another one is written.
-    fn write_file(&mut self, alloc: Global, path: &[u8], bytes: &[u8]) -> Result<(), TreeFault>
-        ensures forgotten { self.new.held ≡ None }
-        ensures later { self.old.failures ≤ self.new.failures }
-        ensures cause { IsErrOf result TreeFault.Device → HasRisen self.old.failures self.new.failures }
-        ensures passed { OnOk result (self.new.failures ≡ self.old.failures) }
-        ensures uncounted { IsErrOf result TreeFault.OutOfMemory → self.new.failures ≡ self.old.failures }
-        ensures never { IsErrOf result TreeFault.TooLarge → ⊥ }
-    {
-        self.forget_readings();
-        self.written = None;
-        let Some(place) = self.place(alloc, path)? else {
-            return Err(self.device());
-        };
-        match write_new(&self.files, place.as_str(), bytes) {
-            Ok(file) => {
-                self.written = Some(file);
-                Ok(())
-            }
-            Err(error) => Err(self.fault(alloc, path, &error)),
-        }
-    }
-
-    /// Moves a file. A failure is told at the path that it was to have, since the temporary one says nothing to a user.
-    fn move_file(&mut self, alloc: Global, from: &[u8], to: &[u8]) -> Result<(), TreeFault>
-        ensures told { IsErrOf result TreeFault.Device → IfSome self.new.last_fault (λ fault. string_bytes fault.path ≡ to.now) }
-        ensures forgotten { self.new.held ≡ None }
-        ensures later { self.old.failures ≤ self.new.failures }
-        ensures cause { IsErrOf result TreeFault.Device → HasRisen self.old.failures self.new.failures }
-        ensures passed { OnOk result (self.new.failures ≡ self.old.failures) }
-        ensures uncounted { IsErrOf result TreeFault.OutOfMemory → self.new.failures ≡ self.old.failures }
-        ensures never { IsErrOf result TreeFault.TooLarge → ⊥ }
-    {
-        self.forget_readings();
-        let (Some(old), Some(new)) = (self.place(alloc, from)?, self.place(alloc, to)?) else {
-            return Err(self.device());
-        };
-        let outcome = fs::rename(&self.files, old.as_str(), new.as_str());
-        // The claim is given up only now, so that no other program removes the file before it is moved.
-        self.written = None;
-        match outcome {
-            Ok(()) => Ok(()),
-            Err(error) => Err(self.fault(alloc, to, &error)),
-        }
     }
 
     /// The kept file, where it is that of the path, or else the path's own, newly opened. It is opened anew for its first
@@ -338,8 +267,29 @@ where
 
     ghost failures = { λ t. t.failures };
 
-    fn read(&mut self, alloc: Global, path: &[u8]) -> Result<Option<Vec<u8>>, TreeFault> {
-        self.read_file(alloc, path)
+    /// Reads a file, or gives what is held for it.
+    fn read(&mut self, alloc: Global, path: &[u8]) -> Result<Option<Vec<u8>>, TreeFault>
+        ensures held { IfSome self.old.held (λ held. held.path ≡ path.now →
+            IfOk result (λ found. option_map (λ v. v.items) found ≡ held.found) × IfErr result (λ _. ⊥)) }
+        ensures once { IfSome self.old.held (λ held. held.path ≡ path.now → self.new.held ≡ None) }
+        ensures later { self.old.failures ≤ self.new.failures }
+        ensures passed { OnOk result (self.new.failures ≡ self.old.failures) }
+        ensures uncounted { IsErrOf result TreeFault.OutOfMemory → self.new.failures ≡ self.old.failures }
+        ensures too_large_uncounted { IsErrOf result TreeFault.TooLarge → self.new.failures ≡ self.old.failures }
+        ensures cause { IsErrOf result TreeFault.Device → HasRisen self.old.failures self.new.failures }
+    {
+        if let Some(found) = HeldReading::take(&mut self.held, path) {
+            return Ok(found);
+        }
+        let Some(place) = self.place(alloc, path)? else {
+            return Err(self.device());
+        };
+        let outcome = read_bytes(&self.files, alloc, place.as_str());
+        match self.found(alloc, path, outcome)? {
+            Some(Some(bytes)) => Ok(Some(bytes)),
+            Some(None) => Err(TreeFault::TooLarge),
+            None => Ok(None),
+        }
     }
 
     fn read_at(
@@ -362,12 +312,70 @@ where
         }
     }
 
-    fn write(&mut self, alloc: Global, path: &[u8], bytes: &[u8]) -> Result<(), TreeFault> {
-        self.write_file(alloc, path, bytes)
+    /// The file is claimed until it is moved or another one is written.
+    fn write(&mut self, alloc: Global, path: &[u8], bytes: &[u8]) -> Result<(), TreeFault>
+        ensures forgotten { self.new.held ≡ None }
+        ensures later { self.old.failures ≤ self.new.failures }
+        ensures cause { IsErrOf result TreeFault.Device → HasRisen self.old.failures self.new.failures }
+        ensures passed { OnOk result (self.new.failures ≡ self.old.failures) }
+        ensures uncounted { IsErrOf result TreeFault.OutOfMemory → self.new.failures ≡ self.old.failures }
+        ensures never { IsErrOf result TreeFault.TooLarge → ⊥ }
+    {
+        self.forget_readings();
+        self.written = None;
+        let Some(place) = self.place(alloc, path)? else {
+            return Err(self.device());
+        };
+        match write_new(&self.files, place.as_str(), bytes) {
+            Ok(file) => {
+                self.written = Some(file);
+                Ok(())
+            }
+            Err(error) => Err(self.fault(alloc, path, &error)),
+        }
     }
 
-    fn rename(&mut self, alloc: Global, from: &[u8], to: &[u8]) -> Result<(), TreeFault> {
-        self.move_file(alloc, from, to)
+    /// A new file has the first second of 1970 as its time: what was built before it counts as newer.
+    fn create(&mut self, alloc: Global, path: &[u8], bytes: &[u8]) -> Result<(), TreeFault>
+        ensures told { IsErrOf result TreeFault.Device → IfSome self.new.last_fault (λ fault. string_bytes fault.path ≡ path.now) }
+        ensures forgotten { self.new.held ≡ None }
+        ensures later { self.old.failures ≤ self.new.failures }
+        ensures cause { IsErrOf result TreeFault.Device → HasRisen self.old.failures self.new.failures }
+        ensures passed { OnOk result (self.new.failures ≡ self.old.failures) }
+        ensures uncounted { IsErrOf result TreeFault.OutOfMemory → self.new.failures ≡ self.old.failures }
+        ensures never { IsErrOf result TreeFault.TooLarge → ⊥ }
+    {
+        self.forget_readings();
+        let Some(place) = self.place(alloc, path)? else {
+            return Err(self.device());
+        };
+        match create_new(&self.files, place.as_str(), bytes) {
+            Ok(()) => Ok(()),
+            Err(error) => Err(self.fault(alloc, path, &error)),
+        }
+    }
+
+    /// A failure is told at the path that the file was to have, since the temporary one says nothing to a user.
+    fn rename(&mut self, alloc: Global, from: &[u8], to: &[u8]) -> Result<(), TreeFault>
+        ensures told { IsErrOf result TreeFault.Device → IfSome self.new.last_fault (λ fault. string_bytes fault.path ≡ to.now) }
+        ensures forgotten { self.new.held ≡ None }
+        ensures later { self.old.failures ≤ self.new.failures }
+        ensures cause { IsErrOf result TreeFault.Device → HasRisen self.old.failures self.new.failures }
+        ensures passed { OnOk result (self.new.failures ≡ self.old.failures) }
+        ensures uncounted { IsErrOf result TreeFault.OutOfMemory → self.new.failures ≡ self.old.failures }
+        ensures never { IsErrOf result TreeFault.TooLarge → ⊥ }
+    {
+        self.forget_readings();
+        let (Some(old), Some(new)) = (self.place(alloc, from)?, self.place(alloc, to)?) else {
+            return Err(self.device());
+        };
+        let outcome = fs::rename(&self.files, old.as_str(), new.as_str());
+        // The claim is given up only now, so that no other program removes the file before it is moved.
+        self.written = None;
+        match outcome {
+            Ok(()) => Ok(()),
+            Err(error) => Err(self.fault(alloc, to, &error)),
+        }
     }
 
     fn seed(&self) -> u64

@@ -12,7 +12,7 @@ pub struct FolderFault {
     error: io::Error,
 }
 
-/// What stands behind the system's words in the text of an error.
+/// What stands after the system's words in the text of an error.
 const NUMBER: &str = " (os error ";
 
 impl FolderFault {

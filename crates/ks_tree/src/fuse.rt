@@ -2,7 +2,7 @@
 //! contract of the tree that it passes the calls on to.
 ghost use Rattle.std.specs.Prelude.{◌≡◌, ◌≢◌, ◌⊎◌, ◌+◌, ◌≤◌, ℕ, List, length, Some, IsSome, IfSome, IfOk, OnOk, OnErr, IsErrOf, option_map};
 ghost use Rattle.ks_symbols.specs.Lines.{max_bytes};
-ghost use Rattle.ks_tree.specs.Files.{content, SameBut, IsMoved, IsTooLarge, IsReadAt, HasRisen};
+ghost use Rattle.ks_tree.specs.Files.{content, kept_or, SameBut, IsHalfCreated, IsMoved, IsTooLarge, IsReadAt, HasRisen};
 
 use crate::{Tree, TreeFault};
 use std::alloc::Global;
@@ -12,7 +12,7 @@ use std::alloc::Global;
 pub enum FuseMode {
     /// It did nothing.
     Clean,
-    /// A write has left the first half of its bytes, and a rename has happened.
+    /// A write or a creation has left the first half of its bytes, and a rename has happened.
     Half,
 }
 
@@ -98,7 +98,7 @@ impl<T: Drop> FuseTree<T> {
 }
 
 impl<T: Tree + Drop> Tree for FuseTree<T> {
-    ghost use Rattle.ks_tree.specs.Fuse.{IsFuseCall, RenamesAt, WritesAt, failed_in, fuse_of, inner_of, turn_of};
+    ghost use Rattle.ks_tree.specs.Fuse.{IsFuseCall, CreatesAt, RenamesAt, WritesAt, failed_in, fuse_of, inner_of, turn_of};
 
     ghost files = { λ t. T.files t.inner };
 
@@ -107,6 +107,8 @@ impl<T: Tree + Drop> Tree for FuseTree<T> {
     ghost failures = { λ t. T.failures t.inner + t.fuse.failed };
 
     ghost writes = { λ old path bytes new answer. WritesAt (turn_of (fuse_of old)) T.Tree (inner_of old) path bytes (inner_of new) answer };
+
+    ghost creates = { λ old path bytes new answer. CreatesAt (turn_of (fuse_of old)) T.Tree (inner_of old) path bytes (inner_of new) answer };
 
     ghost renames = { λ old from to new answer. RenamesAt (turn_of (fuse_of old)) T.Tree (inner_of old) from to (inner_of new) answer };
 
@@ -173,6 +175,30 @@ impl<T: Tree + Drop> Tree for FuseTree<T> {
             Turn::Fail => Err(TreeFault::Device),
             Turn::HalfDone => {
                 let _ = self.inner.write(alloc, path, &bytes[..bytes.len() / 2]);
+                Err(TreeFault::Device)
+            }
+        }
+    }
+
+    fn create(&mut self, alloc: Global, path: &[u8], bytes: &[u8]) -> Result<(), TreeFault>
+        ensures made { T.is_honest → OnOk result (content (T.files (inner_of self.new)) path.now ≡ Some (kept_or (content (T.files (inner_of self.old)) path.now) bytes.now)) }
+        ensures failed { T.is_honest → OnErr result (IsHalfCreated (content (T.files (inner_of self.old)) path.now) bytes.now (content (T.files (inner_of self.new)) path.now)) }
+        ensures others { T.is_honest → SameBut path.now (T.files (inner_of self.old)) (T.files (inner_of self.new)) }
+        ensures refused { T.is_honest → IsErrOf result TreeFault.OutOfMemory → T.files (inner_of self.new) ≡ T.files (inner_of self.old) }
+        ensures never { IsErrOf result TreeFault.TooLarge → ⊥ }
+        ensures later { failed_in T.Tree self.old ≤ failed_in T.Tree self.new }
+        ensures passed { OnOk result (failed_in T.Tree self.new ≡ failed_in T.Tree self.old) }
+        ensures uncounted { IsErrOf result TreeFault.OutOfMemory → failed_in T.Tree self.new ≡ failed_in T.Tree self.old }
+        ensures cause { IsErrOf result TreeFault.Device → HasRisen (failed_in T.Tree self.old) (failed_in T.Tree self.new) }
+        // Of the fuse: which calls pass, and what the others leave.
+        ensures fuse { IsFuseCall T.Tree self.old self.new (IsErrOf result TreeFault.Device) }
+        ensures called { CreatesAt (turn_of (fuse_of self.old)) T.Tree (inner_of self.old) path.now bytes.now (inner_of self.new) result }
+    {
+        match self.fuse.turn() {
+            Turn::Pass => self.inner.create(alloc, path, bytes),
+            Turn::Fail => Err(TreeFault::Device),
+            Turn::HalfDone => {
+                let _ = self.inner.create(alloc, path, &bytes[..bytes.len() / 2]);
                 Err(TreeFault::Device)
             }
         }

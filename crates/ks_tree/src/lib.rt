@@ -7,6 +7,7 @@ mod folder_fault;
 mod fuse;
 mod held;
 mod memory;
+mod missing_stamps;
 mod new_file;
 mod paths;
 mod read_ahead;
@@ -20,6 +21,7 @@ pub use folder::FolderTree;
 pub use folder_fault::FolderFault;
 pub use fuse::{FuseMode, FuseTree};
 pub use memory::{FilesIter, MemoryTree};
+pub use missing_stamps::make_stamps;
 pub use new_file::Claim;
 pub use paths::{
     auto_path, auto_temporary, command_path, command_temporary, header_path, header_temporary,

@@ -4,8 +4,8 @@ ghost use Rattle.std.specs.Prelude.{◌≡◌, ◌≤◌, length, option_map, On
 ghost use Rattle.std.specs.FinMap as map;
 ghost use Rattle.std.specs.Iterator.{item_count};
 ghost use Rattle.std.specs.Map.Iter.{TakesFirst};
-ghost use Rattle.ks_tree.specs.Files.{IsMoved, IsPieceRead, SameBut, content};
-ghost use Rattle.ks_tree.specs.Memory.{lent_file};
+ghost use Rattle.ks_tree.specs.Files.{IsMoved, IsPieceRead, SameBut, content, kept_or};
+ghost use Rattle.ks_tree.specs.Memory.{borrowed_file};
 
 use crate::{Tree, TreeFault};
 use ks_symbols::MAX_BYTES;
@@ -52,7 +52,7 @@ impl<'a> Model for FilesIter<'a> {
 impl<'a> Iterator for FilesIter<'a> {
     type Item = (&'a [u8], &'a [u8]);
 
-    ghost next_gives = { TakesFirst lent_file };
+    ghost next_gives = { TakesFirst borrowed_file };
 
     ghost remaining = { item_count (λ rest. rest) };
 
@@ -83,7 +83,7 @@ impl MemoryTree {
         }
     }
 
-    /// The bytes of a file, lent, or `None` where there is no file.
+    /// The bytes of a file, borrowed, or `None` where there is no file.
     pub fn get(&self, path: &[u8]) -> Option<&[u8]>
         ensures { option_map (λ b. b.now) result ≡ content self.now path.now }
     {
@@ -127,6 +127,8 @@ impl Tree for MemoryTree {
 
     ghost writes = { λ old path bytes new answer. OnOk answer (content new path ≡ Some bytes) × OnErr answer (new ≡ old) };
 
+    ghost creates = { λ old path bytes new answer. OnOk answer (content new path ≡ Some (kept_or (content old path) bytes)) × OnErr answer (new ≡ old) };
+
     ghost renames = { λ old from to new answer. OnOk answer (IsMoved from to old new) × OnErr answer (new ≡ old) };
 
     fn read(&mut self, alloc: Global, path: &[u8]) -> Result<Option<Vec<u8>>, TreeFault> {
@@ -157,6 +159,13 @@ impl Tree for MemoryTree {
         let bytes = bytes.to_vec(alloc)?;
         self.put(path, bytes)?;
         Ok(())
+    }
+
+    fn create(&mut self, alloc: Global, path: &[u8], bytes: &[u8]) -> Result<(), TreeFault> {
+        match self.get(path) {
+            Some(_) => Ok(()),
+            None => self.write(alloc, path, bytes),
+        }
     }
 
     fn rename(&mut self, alloc: Global, from: &[u8], to: &[u8]) -> Result<(), TreeFault> {

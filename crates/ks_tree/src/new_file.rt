@@ -1,13 +1,14 @@
-//! A new file at a place, whatever is left over there. What stands there is never written into: it may be a link, and its
+//! A new file at a place, whatever is left over there, or only where nothing is. What stands there is never written into: it may be a link, and its
 //! bytes those of another tree. A new file is claimed until it is moved, so that of two programs that write at one place
 //! neither moves what the other has only begun.
 ghost use Rattle.std.specs.Prelude.{◌≡◌, true};
 ghost use Rattle.std.specs.Fs.{asks_create_new};
 
-use std::fs::{File, OpenFile, OpenOptions, TryLockError};
+use std::fs::{File, FileTimes, OpenFile, OpenOptions, TryLockError};
 use std::io::{ErrorKind, Write};
 use std::os::unix::fs::{FileTypeExt, MetadataExt};
 use std::rt::Files;
+use std::time::{Duration, SystemTime};
 use std::{fs, io};
 
 /// A file that a program can claim.
@@ -31,30 +32,12 @@ pub(crate) fn write_new<R: Files>(files: &R, place: &str, bytes: &[u8]) -> io::R
 where
     R::File: Claim,
 {
-    let mut file = make_new(files, place)?;
-    file.write_all(bytes)?;
-    Ok(file)
-}
-
-/// How a new file is opened: to be written, and only where nothing stands, not even a link.
-fn for_a_new_file() -> OpenOptions
-    ensures { asks_create_new result ≡ true }
-{
-    let mut options = OpenOptions::new();
-    options.write(true).create_new(true);
-    options
-}
-
-/// A new file at a place, claimed.
-fn make_new<R: Files>(files: &R, place: &str) -> io::Result<R::File>
-where
-    R::File: Claim,
-{
     for _ in 0..TRIES {
         match for_a_new_file().open(files, place) {
-            Ok(file) => {
+            Ok(mut file) => {
                 // Before it was claimed, another program may have taken it for left over and removed it.
                 if file.claim() && file.metadata()?.nlink() > 0 {
+                    file.write_all(bytes)?;
                     return Ok(file);
                 }
             }
@@ -64,6 +47,38 @@ where
         }
     }
     Err(claimed())
+}
+
+/// Makes a file of these bytes, unless something stands at the place. Folders that are missing are made. The file's time is long
+/// past: one of now would be newer than what was built just before, and a build that goes by times would build it once more.
+pub(crate) fn create_new<R: Files>(files: &R, place: &str, bytes: &[u8]) -> io::Result<()> {
+    let mut opened = for_a_new_file().open(files, place);
+    if matches!(&opened, Err(error) if error.kind() == ErrorKind::NotFound) {
+        make_folders(files, place)?;
+        opened = for_a_new_file().open(files, place);
+    }
+    match opened {
+        Ok(mut file) => {
+            file.write_all(bytes)?;
+            file.set_times(FileTimes::new().set_modified(long_past()))
+        }
+        Err(error) if error.kind() == ErrorKind::AlreadyExists => Ok(()),
+        Err(error) => Err(error),
+    }
+}
+
+/// The first second of 1970. Some programs take the second before it for no time at all.
+fn long_past() -> SystemTime {
+    SystemTime::UNIX_EPOCH + Duration::from_secs(1)
+}
+
+/// How a new file is opened: to be written, and only where nothing stands, not even a link.
+fn for_a_new_file() -> OpenOptions
+    ensures { asks_create_new result ≡ true }
+{
+    let mut options = OpenOptions::new();
+    options.write(true).create_new(true);
+    options
 }
 
 /// That another program has claimed what stands at a place.

@@ -89,8 +89,10 @@ pub fn touch_all<T: Tree>(
     ensures passed { OnOk result (T.failures tree.new ≡ T.failures tree.old) }
     ensures uncounted { IsErrOf result TreeFault.OutOfMemory → T.failures tree.new ≡ T.failures tree.old }
 {
+    let text = stamp_text(alloc, generation)?;
     for name in names {
-        touch(alloc, tree, name, generation)?;
+        let path = stamp_path(alloc, name)?;
+        replace(alloc, tree, stamp_temporary(), &path, &text)?;
     }
     Ok(())
 }

@@ -3,7 +3,7 @@
 ghost use Rattle.std.specs.Prelude.{◌≡◌, ◌≢◌, ◌⊎◌, ◌<◌, ◌≤◌, ℕ, List, Result, length, Some, None, IsSome, IfSome, IfOk, OnOk, OnErr, IsErrOf, option_map, ⊤};
 ghost use Rattle.ks_symbols.specs.Lines.{max_bytes};
 ghost use Rattle.ks_tree.specs.declared.fault.TreeFault.{TreeFault};
-ghost use Rattle.ks_tree.specs.Files.{Files, content, SameBut, IsMoved, IsTooLarge, IsReadAt, HasRisen};
+ghost use Rattle.ks_tree.specs.Files.{Files, content, kept_or, SameBut, IsHalfCreated, IsMoved, IsTooLarge, IsReadAt, HasRisen};
 
 use crate::TreeFault;
 use std::alloc::Global;
@@ -22,6 +22,9 @@ pub trait Tree {
     /// What a write is known to do: of the tree, the path, the bytes, the tree after the call and its answer. In a contract over
     /// any tree it says that the call was made, since nothing else gives it.
     ghost writes: { Self → List ℕ → List ℕ → Self → Result Unit TreeFault → Type 0 } = { λ old path bytes new answer. ⊤ };
+
+    /// What a creation is known to do, as `writes`.
+    ghost creates: { Self → List ℕ → List ℕ → Self → Result Unit TreeFault → Type 0 } = { λ old path bytes new answer. ⊤ };
 
     /// What a rename is known to do, as `writes`: of the tree, both paths, the tree after the call and its answer.
     ghost renames: { Self → List ℕ → List ℕ → Self → Result Unit TreeFault → Type 0 } = { λ old from to new answer. ⊤ };
@@ -60,6 +63,20 @@ pub trait Tree {
     fn write(&mut self, alloc: Global, path: &[u8], bytes: &[u8]) -> Result<(), TreeFault>
         ensures written { is_honest → OnOk result (content (files self.new) path.now ≡ Some bytes.now) }
         ensures called { writes self.old path.now bytes.now self.new result }
+        ensures others { is_honest → SameBut path.now (files self.old) (files self.new) }
+        ensures refused { is_honest → IsErrOf result TreeFault.OutOfMemory → files self.new ≡ files self.old }
+        ensures never { IsErrOf result TreeFault.TooLarge → ⊥ }
+        ensures later { failures self.old ≤ failures self.new }
+        ensures passed { OnOk result (failures self.new ≡ failures self.old) }
+        ensures uncounted { IsErrOf result TreeFault.OutOfMemory → failures self.new ≡ failures self.old }
+        ensures cause { IsErrOf result TreeFault.Device → HasRisen (failures self.old) (failures self.new) };
+
+    /// Makes a file where there is none. One that is there stays as it is, and all is well then too. After `Device` a file that was
+    /// made may hold a beginning of the bytes.
+    fn create(&mut self, alloc: Global, path: &[u8], bytes: &[u8]) -> Result<(), TreeFault>
+        ensures made { is_honest → OnOk result (content (files self.new) path.now ≡ Some (kept_or (content (files self.old) path.now) bytes.now)) }
+        ensures called { creates self.old path.now bytes.now self.new result }
+        ensures failed { is_honest → OnErr result (IsHalfCreated (content (files self.old) path.now) bytes.now (content (files self.new) path.now)) }
         ensures others { is_honest → SameBut path.now (files self.old) (files self.new) }
         ensures refused { is_honest → IsErrOf result TreeFault.OutOfMemory → files self.new ≡ files self.old }
         ensures never { IsErrOf result TreeFault.TooLarge → ⊥ }

@@ -38,6 +38,8 @@ enum Deed<'a> {
     HasLength(&'a str, usize),
     /// A path that is no text is read, and a file that isn't there is moved: both fail.
     Strange,
+    /// The time of a file is the first second of 1970.
+    IsLongPast(&'a str),
     /// Two files have one mode.
     HaveOneMode(&'a str, &'a str),
     /// What is told of the last failure.
@@ -95,6 +97,11 @@ fn is_alone(rt: &HostRuntime, root: &str, path: &str) -> io::Result<bool> {
     let place = format!(in rt.alloc(); "{root}/{path}")?;
     let found = fs::symlink_metadata(rt, place.as_str())?;
     Ok(found.is_file() && found.nlink() == 1)
+}
+
+fn is_long_past(rt: &HostRuntime, root: &str, path: &str) -> io::Result<bool> {
+    let place = format!(in rt.alloc(); "{root}/{path}")?;
+    Ok(fs::metadata(rt, place.as_str())?.mtime() == 1)
 }
 
 fn mode_of(rt: &HostRuntime, root: &str, path: &str) -> io::Result<u32> {
@@ -178,6 +185,9 @@ fn do_deed(
             assert_eq!(rt; length_of(host.alloc(), tree, path), Some(want), "{path}");
         }
         Deed::Strange => strange(rt, host.alloc(), tree),
+        Deed::IsLongPast(path) => {
+            assert!(rt; is_long_past(host, root, path)?, "{path}");
+        }
         Deed::HaveOneMode(one, other) => {
             assert_eq!(rt;
                 mode_of(host, root, one)?,
@@ -216,6 +226,8 @@ const KEPT_FILES: &[Deed<'_>] = &[
         (Step::Read("no/file"), "none"),
     ]),
     Deed::Absolute("e", "new"),
+    // a stamp that was made is older than all that was built before
+    Deed::IsLongPast("include/config/B"),
     Deed::Failures(0),
 ];
 
@@ -255,7 +267,7 @@ const PIECES: &[Deed<'_>] = &[
     Deed::Steps(&[
         (Step::Write("p", "abcdefghij"), "done"),
         (Step::Write("q", "0123456789"), "done"),
-        // behind the last piece, before it, at the end and past it
+        // after the last piece, before it, at the end and past it
         (Step::Piece("p", 0), "6 abcdef"),
         (Step::Piece("p", 6), "4 ghij.."),
         (Step::Piece("p", 2), "6 cdefgh"),

@@ -37,19 +37,19 @@ fn stamps_are_read(rt: HostRuntime) -> Result<(), Fail> {
 }
 
 #[test]
-fn lends_its_files_in_order(rt: HostRuntime) -> Result<(), Fail> {
+fn borrows_its_files_in_order(rt: HostRuntime) -> Result<(), Fail> {
     let alloc = rt.alloc();
     let mut tree = MemoryTree::new(alloc);
     for path in ["b", "a/c", "", "a", "B", "a"] {
         tree.write(alloc, path.as_bytes(), b"x")?;
     }
-    let mut lent = String::new(alloc);
+    let mut borrowed = String::new(alloc);
     for (path, bytes) in tree.files() {
-        lent.push_str(str::from_utf8(path)?)?;
-        lent.push_str("=")?;
-        lent.push_str(str::from_utf8(bytes)?)?;
-        lent.push_str(" ")?;
+        borrowed.push_str(str::from_utf8(path)?)?;
+        borrowed.push_str("=")?;
+        borrowed.push_str(str::from_utf8(bytes)?)?;
+        borrowed.push_str(" ")?;
     }
-    assert_eq!(rt; lent.as_str(), "=x B=x a=x a/c=x b=x ");
+    assert_eq!(rt; borrowed.as_str(), "=x B=x a=x a/c=x b=x ");
     Ok(())
 }

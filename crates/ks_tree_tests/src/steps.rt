@@ -1,6 +1,6 @@
 //! Tables of what is done to a tree, and of what comes of it.
 use ks_symbols::{Name, name_is_legal};
-use ks_tree::{Tree, TreeFault, read_stamp, replace, touch};
+use ks_tree::{Tree, TreeFault, make_stamps, read_stamp, replace, touch};
 use std::alloc::{AllocError, Global};
 use std::process::Abort;
 
@@ -11,9 +11,11 @@ pub(crate) enum Step<'a> {
     /// Six bytes from an offset on, over six dots.
     Piece(&'a str, u64),
     Write(&'a str, &'a str),
+    Create(&'a str, &'a str),
     Move(&'a str, &'a str),
     Replace(&'a str, &'a str),
     Touch(&'a str, u64),
+    MakeStamp(&'a str),
     Stamp(&'a str),
 }
 
@@ -75,6 +77,12 @@ fn replace_file<T: Tree>(
     Ok(String::from_str(alloc, "done")?)
 }
 
+/// `done`, or the fault.
+fn done(alloc: Global, outcome: Result<(), TreeFault>) -> Result<String, TreeFault> {
+    outcome?;
+    Ok(String::from_str(alloc, "done")?)
+}
+
 /// What comes of a step: what was read, `done`, or the fault.
 pub(crate) fn answer<T: Tree>(
     alloc: Global,
@@ -86,15 +94,17 @@ pub(crate) fn answer<T: Tree>(
         Step::Piece(path, offset) => piece(alloc, tree, path, offset),
         Step::Move(from, to) => move_file(alloc, tree, from, to),
         Step::Replace(path, bytes) => replace_file(alloc, tree, path, bytes),
-        Step::Write(path, bytes) => match tree.write(alloc, path.as_bytes(), bytes.as_bytes()) {
-            Ok(()) => Ok(String::from_str(alloc, "done")?),
-            Err(fault) => Err(fault),
-        },
+        Step::Write(path, bytes) => {
+            done(alloc, tree.write(alloc, path.as_bytes(), bytes.as_bytes()))
+        }
+        Step::Create(path, bytes) => {
+            done(alloc, tree.create(alloc, path.as_bytes(), bytes.as_bytes()))
+        }
         Step::Touch(symbol, generation) => {
-            match touch(alloc, tree, &name(alloc, symbol)?, generation) {
-                Ok(()) => Ok(String::from_str(alloc, "done")?),
-                Err(fault) => Err(fault),
-            }
+            done(alloc, touch(alloc, tree, &name(alloc, symbol)?, generation))
+        }
+        Step::MakeStamp(symbol) => {
+            done(alloc, make_stamps(alloc, tree, &[name(alloc, symbol)?]))
         }
         Step::Stamp(symbol) => {
             return match read_stamp(alloc, tree, &name(alloc, symbol)?) {
@@ -132,6 +142,14 @@ pub(crate) const STEPS: &[(Step<'_>, &str)] = &[
     (Step::Read("include/config/stamp.tmp"), "none"),
     (Step::Touch("A", 18446744073709551615), "done"),
     (Step::Stamp("A"), "18446744073709551615"),
+    (Step::MakeStamp("A"), "done"),
+    (Step::Stamp("A"), "18446744073709551615"),
+    (Step::MakeStamp("B"), "done"),
+    (Step::Read("include/config/B"), ""),
+    (Step::Stamp("B"), "0"),
+    (Step::Create("c/new", "bytes"), "done"),
+    (Step::Create("c/new", "others"), "done"),
+    (Step::Read("c/new"), "bytes"),
     (Step::Write("d/eight", "abcdefgh"), "done"),
     (Step::Piece("d/eight", 0), "6 abcdef"),
     (Step::Piece("d/eight", 6), "2 gh...."),

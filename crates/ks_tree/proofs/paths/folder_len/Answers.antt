@@ -1,5 +1,4 @@
-use Rattle.std.proofs.Common.{◌≡◌, ◌+◌, ◌++◌, ◌∷◌, take, drop, subst, sym, arith}
-use Rattle.ks_tree.specs.Paths.{dotted}
+use Rattle.ks_tree.proofs.Prelude.{◌≡◌, ◌+◌, ◌++◌, ◌∷◌, take, drop, subst, sym, arith, dotted}
 use Rattle.ks_tree.proofs.PathLemmas.{border_slash, border_other}
 use Rattle.ks_tree.proofs.paths.folder_len.Goals as goal
 use Rattle.ks_tree.proofs.paths.folder_len.Goals.{then-byte-eq47, else-byte-eq47}

@@ -1,5 +1,4 @@
-use Rattle.std.proofs.Common.{◌≡◌, ◌≤◌, ◌++◌, ◌∷◌, take, drop}
-use Rattle.ks_tree.specs.Paths.{dotted}
+use Rattle.ks_tree.proofs.Prelude.{◌≡◌, ◌≤◌, ◌++◌, ◌∷◌, take, drop, dotted}
 use Rattle.ks_tree.proofs.paths.folder_len.Given as goal
 
 abbrev pub invariant-loop-i : goal.invariant-loop-i

@@ -1,4 +1,4 @@
-use Rattle.std.proofs.Common.{◌++◌, ◌∷◌, [], ◌∙◌, ap}
+use Rattle.ks_tree.proofs.Prelude.{◌++◌, ◌∷◌, [], ◌∙◌, ap}
 use Rattle.ks_tree.proofs.StampLemmas.{read_number, read_none}
 use Rattle.ks_tree.proofs.stamps.number.Goals as goal
 

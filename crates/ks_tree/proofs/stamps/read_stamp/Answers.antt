@@ -1,8 +1,4 @@
-use Rattle.std.proofs.Common.{◌≡◌, ◌≤◌, ◌<◌, ◌∙◌, Some, sym, ap, subst, option_map, length, arith}
-use Rattle.ks_symbols.specs.Lines.{max_bytes}
-use Rattle.ks_tree.specs.Files.{content}
-use Rattle.ks_tree.specs.Paths.{stamp_path}
-use Rattle.ks_tree.specs.Stamps.{HasNumber}
+use Rattle.ks_tree.proofs.Prelude.{◌≡◌, ◌≤◌, ◌<◌, ◌∙◌, Some, sym, ap, subst, option_map, length, arith, max_bytes, content, stamp_path, HasNumber}
 use Rattle.ks_tree.proofs.stamps.read_stamp.Goals as goal
 
 pub returns-clause-refused : goal.returns-clause-refused

@@ -1,4 +1,4 @@
-use Rattle.std.proofs.Common.{sym, ◌∙◌, arith}
+use Rattle.ks_tree.proofs.Prelude.{sym, ◌∙◌, arith}
 use Rattle.ks_tree.proofs.PathLemmas.{apart, ending-stamp, ending-stamp_temporary}
 use Rattle.ks_tree.proofs.stamps.touch.Goals as goal
 

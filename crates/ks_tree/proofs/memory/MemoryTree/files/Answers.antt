@@ -1,7 +1,7 @@
-use Rattle.std.proofs.Common.{map as map_list, sym, ap, ◌∙◌}
+use Rattle.ks_tree.proofs.Prelude.{sym, ap, ◌∙◌, seen_file}
+use Rattle.std.proofs.Common.{map as map_list}
 use Rattle.std.specs.FinMap as map
 use Rattle.ks_tree.proofs.Tables.{entries-named}
-use Rattle.ks_tree.specs.Memory.{seen_file}
 use Rattle.ks_tree.proofs.memory.MemoryTree.files.Goals as goal
 
 pub returns : goal.returns

@@ -1,4 +1,4 @@
-use Rattle.std.proofs.Common.{Some, None, ap, sym, ◌∙◌}
+use Rattle.ks_tree.proofs.Prelude.{Some, None, ap, sym, ◌∙◌}
 use Rattle.ks_tree.proofs.Stored.{found}
 use Rattle.ks_tree.proofs.memory.MemoryTree.get.Goals as goal
 

@@ -1,4 +1,4 @@
-use Rattle.std.proofs.Common.{Some, refl}
+use Rattle.ks_tree.proofs.Prelude.{Some, refl}
 use Rattle.ks_tree.proofs.Stored.{inserted, here, elsewhere}
 use Rattle.ks_tree.proofs.memory.MemoryTree.put.Goals as goal
 

@@ -1,5 +1,4 @@
-use Rattle.std.proofs.Common.{◌≡◌, ◌≤◌, ◌<◌, Some, None, sym, ◌∙◌, ap, subst, length, rules}
-use Rattle.ks_symbols.specs.Lines.{max_bytes}
+use Rattle.ks_tree.proofs.Prelude.{◌≡◌, ◌≤◌, ◌<◌, Some, None, sym, ◌∙◌, ap, subst, length, rules, max_bytes}
 use Rattle.ks_tree.proofs.Stored.{found, none_some, some_same}
 use Rattle.ks_tree.proofs.memory.MemoryTreeTree.read.Goals as goal
 

@@ -1,5 +1,4 @@
-use Rattle.std.proofs.Common.{Some, None, subst}
-use Rattle.ks_tree.specs.Files.{IsPieceRead}
+use Rattle.ks_tree.proofs.Prelude.{Some, None, subst, IsPieceRead}
 use Rattle.ks_tree.proofs.Stored.{found}
 use Rattle.ks_tree.proofs.memory.MemoryTreeTree.read_at.Goals as goal
 

@@ -1,6 +1,5 @@
-use Rattle.std.proofs.Common.{◌≡◌, Some, None, refl, rules}
+use Rattle.ks_tree.proofs.Prelude.{◌≡◌, Some, None, refl, rules, files_of}
 use Rattle.ks_tree.proofs.Stored.{found, inserted, removed, moved, none_is_some}
-use Rattle.ks_tree.specs.Memory.{files_of}
 use Rattle.ks_tree.proofs.memory.MemoryTreeTree.rename.Goals as goal
 
 pub returns-in_default-clause-moved : goal.returns-in_default-clause-moved

@@ -1,4 +1,4 @@
-use Rattle.std.proofs.Common.{arith, rules}
+use Rattle.ks_tree.proofs.Prelude.{arith, rules}
 use Rattle.ks_tree.proofs.Reading.{given_more, first_consumed, more_consumed, all_given}
 use Rattle.ks_tree.proofs.read_ahead.KeptFile.give.Goals as goal
 

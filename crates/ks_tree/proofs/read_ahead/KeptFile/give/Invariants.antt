@@ -1,6 +1,4 @@
-use Rattle.std.proofs.Common.{◌≡◌, ◌≤◌, ◌<◌, ◌+◌, ◌-◌, [], length, min, take}
-use Rattle.std.specs.Io.KnownBytes.{Consumes}
-use Rattle.ks_tree.specs.ReadAhead.{rest_of}
+use Rattle.ks_tree.proofs.Prelude.{◌≡◌, ◌≤◌, ◌<◌, ◌+◌, ◌-◌, [], length, min, take, Consumes, rest_of}
 use Rattle.ks_tree.proofs.read_ahead.KeptFile.give.Given as goal
 
 abbrev pub invariant-loop-given : goal.invariant-loop-given

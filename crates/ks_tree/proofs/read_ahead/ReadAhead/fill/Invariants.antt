@@ -1,5 +1,4 @@
-use Rattle.std.proofs.Common.{◌≡◌, ◌<◌, length}
-use Rattle.std.specs.Io.KnownBytes.{Keeps}
+use Rattle.ks_tree.proofs.Prelude.{◌≡◌, ◌<◌, length, Keeps}
 use Rattle.ks_tree.proofs.read_ahead.ReadAhead.fill.Given as goal
 
 abbrev pub invariant-loop : goal.invariant-loop

@@ -1,21 +1,10 @@
 -- The first fault of lines, and refusals.
-use Rattle.std.proofs.Common.{◌≡◌, inl, inr, ℕ, ◌+◌, ◌<◌, ◌≤◌, Bool, true, false, cond, nat_lt, List, [], ◌∷◌, ◌++◌, length, Option, Some, None, is_some, option_map, refl, ap, ◌∙◌, arith}
-use Rattle.std.specs.List.{cons_option, position_from}
-use Rattle.std.proofs.lemmas.Bool.{cond-true, cond-false}
-use Rattle.std.proofs.lemmas.Bool.Decides.{nat_tests}
-use Rattle.ks_symbols.specs.Lines.{lines, max_bytes}
-use Rattle.ks_script.specs.declared.error.ScriptError.{ScriptError}
+use Rattle.ks_script.proofs.Prelude.{cond_some, ◌≡◌, inl, inr, ℕ, ◌+◌, ◌<◌, ◌≤◌, Bool, true, false, cond, nat_lt, List, [], ◌∷◌, ◌++◌, length, Option, Some, None, is_some, option_map, refl, ap, ◌∙◌, arith, cons_option, position_from, cond-true, cond-false, nat_tests, lines, max_bytes, ScriptError, is_faulty, line_fault, script_refusal, IsRefusal}
 use Rattle.ks_script.specs.declared.error.ScriptError.TheVariants as fault
-use Rattle.ks_script.specs.ScriptRefusals.{is_faulty, line_fault, script_refusal}
-use Rattle.ks_symbols.specs.Refusals.{IsRefusal}
 
 passed : (b : Bool) (e : ScriptError) → cond b (Some e) None ≡ None → b ≡ false
 passed true e h = absurd (cc h)
 passed false e h = refl
-
-told : (b : Bool) (e said : ScriptError) → cond b (Some e) None ≡ Some said → (b ≡ true) × (e ≡ said)
-told true e said h = (refl, cc h)
-told false e said h = absurd (cc h)
 
 pub no_fault : (n : ℕ) (line : List ℕ) (rest : List (List ℕ)) → line_fault n line ≡ None → position_from is_faulty n (line ∷ rest)
     ≡ position_from is_faulty (n + 1) rest
@@ -26,7 +15,7 @@ pub fault_here : (n : ℕ) (line : List ℕ) (rest : List (List ℕ)) (e : Scrip
     → option_map fault.BadScript (position_from is_faulty n (line ∷ rest)) ≡ Some e
 unfolding line_fault
 fault_here n line rest e is =
-    let said = told (is_faulty line) (fault.BadScript n) e is in
+    let said = cond_some (is_faulty line) (fault.BadScript n) e is in
     ap (option_map fault.BadScript) (cond-true (is_faulty line) _ _ said.0) ∙ ap Some said.1
 
 -- an error that is the refusal f is also the refusal g, where g follows from f

@@ -1,3 +1,4 @@
+pub mod Prelude
 mod Faults
 mod Spellings
 mod Words

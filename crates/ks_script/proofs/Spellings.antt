@@ -1,55 +1,22 @@
 -- A line of a script asks for what it spells.
-use Rattle.std.proofs.Common.{◌≡◌, ℕ, ◌&&◌, ◌==◌, Bool, true, false, not, cond, nat_eq, IsTrue, List, [], ◌∷◌, ◌++◌, length, take, drop, take_while, codes, Option, Some, None, option_map, option_and_then, refl, sym, ap, subst, ◌∙◌, append_assoc, nat_le, arith}
-use Rattle.std.specs.List.{list_all, starts_with, prefix_len}
-use Rattle.std.specs.Cmp.Lexicographic.{bytes_decides}
-use Rattle.std.proofs.Math.Seq.{drop-append_seam}
-use Rattle.std.proofs.lemmas.Bool.{cond-true, cond-false, cases_Bool, and_parts}
-use Rattle.std.proofs.lemmas.Bool.Decides.{nat_tests}
-use Rattle.std.proofs.lemmas.List.{take-append-drop}
-use Rattle.std.proofs.lemmas.List.Folds.{length-prefix_len}
-use Rattle.std.proofs.lemmas.List.Sums.{take_while-cons}
-use mathlib.Core.Logic.{⊎_elim}
-use Rattle.ks_symbols.specs.Names.{is_path, is_path_byte}
-use Rattle.ks_symbols.proofs.Spellings.{run_is}
-use Rattle.ks_script.specs.Script.{is_word_byte, is_word, Line, Sync, Record, Stale, Says, first_word, script_line, sync_line, record_line, stale_line}
-use Rattle.ks_script.specs.Laws.{LinesAreSpelled}
+use Rattle.ks_script.proofs.Prelude.{chain, cond_some, ◌≡◌, ℕ, ◌&&◌, ◌==◌, Bool, true, false, not, cond, nat_eq, IsTrue, List, [], ◌∷◌, ◌++◌, length, drop, take_while, codes, Option, Some, None, option_map, option_and_then, refl, sym, ap, subst, ◌∙◌, append_assoc, nat_le, arith, list_all, starts_with, drop-append_seam, cond-true, cond-false, cases_Bool, and_parts, and_from, nat_tests, take_while-cons, ⊎_elim, is_path, is_path_byte, run_is, opened, run_split, is_word_byte, is_word, Line, Sync, Record, Stale, Says, first_word, script_line, sync_line, record_line, stale_line, LinesAreSpelled}
 
-both : (a b : Bool) → a ≡ true → b ≡ true → (a && b) ≡ true
-both true b p q = q
-both false b p q = absurd (cc p)
-
-chosen : {X : Type 0} (b : Bool) (said told : X) → cond b (Some said) None ≡ Some told → (b ≡ true) × (said ≡ told)
-chosen true said told e = (refl, cc e)
-chosen false said told e = absurd (cc e)
-
--- what was found behind something that was found
-found : {X Y : Type 0} (f : X → Option Y) (o : Option X) (y : Y) → option_and_then f o ≡ Some y → (x : X) × (o ≡ Some x) × (f x ≡ Some y)
-found f None y e = absurd (cc e)
-found f (Some x) y e = (x, refl, e)
-
+-- what was chain after something that was chain
 mapped : {X Y : Type 0} (f : X → Y) (o : Option X) (y : Y) → option_map f o ≡ Some y → (x : X) × (o ≡ Some x) × (f x ≡ y)
 mapped f None y e = absurd (cc e)
 mapped f (Some x) y e = (x, refl, cc e)
 
 -- a text that starts with a needle
-opened : (xs needle : List ℕ) → starts_with nat_eq xs needle ≡ true → xs ≡ needle ++ drop (length needle) xs
-opened xs needle e =
-    sym (take-append-drop (length needle) xs) ∙ ap (λ (l : List ℕ). l ++ drop (length needle) xs) (sym ((bytes_decides needle (take (length needle) xs)).0 e))
-
 -- a text is its run and what follows, and the run passes
-run_split : (p : ℕ → Bool) (xs : List ℕ) → xs ≡ take_while p xs ++ drop (length (take_while p xs)) xs
-run_split p xs =
-    sym (take-append-drop (prefix_len p xs) xs) ∙ ap (λ (n : ℕ). take_while p xs ++ drop n xs) (sym (length-prefix_len p xs))
-
 run_passes : (p : ℕ → Bool) (xs : List ℕ) → list_all p (take_while p xs) ≡ true
 run_passes p [] = refl
 run_passes p (x ∷ xs) =
     ⊎_elim
-    (λ yes. ap (list_all p) (take_while-cons p x xs ∙ cond-true (p x) _ _ yes) ∙ both (p x) _ yes (run_passes p xs))
+    (λ yes. ap (list_all p) (take_while-cons p x xs ∙ cond-true (p x) _ _ yes) ∙ and_from (p x) _ yes (run_passes p xs))
     (λ ne. ap (list_all p) (take_while-cons p x xs ∙ cond-false (p x) _ _ ne))
     (cases_Bool (p x))
 
--- a first word is a word and a space, whatever stands behind them
+-- a first word is a word and a space, whatever stands after them
 abbrev Cut : List ℕ → List ℕ × List ℕ → Type 0
 Cut text cut = IsTrue (is_word cut.0) × (text ≡ cut.0 ++ codes " " ++ cut.1)
 
@@ -58,10 +25,10 @@ unfolding first_word
 cut_of text cut e =
     let word = take_while is_word_byte text in
     let rest = drop (length word) text in
-    let told = chosen (not (length word == 0) && starts_with nat_eq rest (codes " ")) (word, drop 1 rest) cut e in
+    let told = cond_some (not (length word == 0) && starts_with nat_eq rest (codes " ")) (word, drop 1 rest) cut e in
     let parts = and_parts (not (length word == 0)) (starts_with nat_eq rest (codes " ")) told.0 in
     subst (Cut text) told.1 (
-      both (not (length word == 0)) (list_all is_word_byte word) parts.0 (run_passes is_word_byte text),
+      and_from (not (length word == 0)) (list_all is_word_byte word) parts.0 (run_passes is_word_byte text),
       run_split is_word_byte text ∙ ap (λ (l : List ℕ). word ++ l) (opened rest (codes " ") parts.1) ∙ sym (append_assoc word (codes " ") (drop 1 rest)),
     )
 
@@ -72,10 +39,10 @@ first_word_is word rest h =
     ap first_word (append_assoc word (codes " ") rest)
     ∙ ap (λ (w : List ℕ). told w (drop (length w) (word ++ 32 ∷ rest))) (run_is is_word_byte word 32 rest parts.1 refl)
     ∙ ap (told word) (drop-append_seam word (32 ∷ rest))
-    ∙ cond-true (not (length word == 0) && true) _ _ (both _ true parts.0 refl)
+    ∙ cond-true (not (length word == 0) && true) _ _ (and_from _ true parts.0 refl)
   where
     told : List ℕ → List ℕ → Option (List ℕ × List ℕ)
-    told w behind = cond (not (length w == 0) && starts_with nat_eq behind (codes " ")) (Some (w, drop 1 behind)) None
+    told w following = cond (not (length w == 0) && starts_with nat_eq following (codes " ")) (Some (w, drop 1 following)) None
 
 -- a path has no space
 first_of_five : (a b c d e : Bool) → (a && b && c && d && e) ≡ true → a ≡ true
@@ -86,7 +53,7 @@ path_words : (xs : List ℕ) → list_all is_path_byte xs ≡ true → list_all 
 path_words [] h = refl
 path_words (x ∷ xs) h =
     let parts = and_parts (is_path_byte x) (list_all is_path_byte xs) h in
-    both (is_word_byte x) (list_all is_word_byte xs) (no_space x parts.0) (path_words xs parts.1)
+    and_from (is_word_byte x) (list_all is_word_byte xs) (no_space x parts.0) (path_words xs parts.1)
   where
     no_space : (x : ℕ) → is_path_byte x ≡ true → is_word_byte x ≡ true
     no_space x e = let h = first_of_five (nat_le 33 x) (nat_le x 126) (not (x == 36)) (not (x == 35)) (not (x == 92)) e in grind (arith, nat_tests)
@@ -95,13 +62,13 @@ path_is_word : (path : List ℕ) → is_path path ≡ true → is_word path ≡ 
 unfolding is_path
 path_is_word path e =
     let bytes = and_parts _ _ (and_parts _ _ e).0 in
-    both (not (length path == 0)) _ (and_parts _ _ bytes.0).0 (path_words path bytes.1)
+    and_from (not (length path == 0)) _ (and_parts _ _ bytes.0).0 (path_words path bytes.1)
 
 says_sync : (line words : List ℕ) (said : Line) → line ≡ codes "sync " ++ words → sync_line words ≡ Some said → Says line said
 unfolding sync_line
 says_sync line words said is e =
-    let cut = found (λ (c : List ℕ × List ℕ). cond (is_path c.0 && is_path c.1) (Some (Sync c.0 c.1)) None) (first_word words) said e in
-    let told = chosen (is_path cut.0.0 && is_path cut.0.1) (Sync cut.0.0 cut.0.1) said cut.2 in
+    let cut = chain (λ (c : List ℕ × List ℕ). cond (is_path c.0 && is_path c.1) (Some (Sync c.0 c.1)) None) (first_word words) said e in
+    let told = cond_some (is_path cut.0.0 && is_path cut.0.1) (Sync cut.0.0 cut.0.1) said cut.2 in
     let paths = and_parts (is_path cut.0.0) (is_path cut.0.1) told.0 in
     subst (Says line) told.1 (paths.0, paths.1, is ∙ ap (λ (l : List ℕ). codes "sync " ++ l) (cut_of words cut.0 cut.1).1)
 
@@ -111,21 +78,21 @@ four_pieces a b c d e = sym (append_assoc (a ++ b) (c ++ d) e) ∙ ap (λ (l : L
 says_record : (line words : List ℕ) (said : Line) → line ≡ codes "record " ++ words → record_line words ≡ Some said → Says line said
 unfolding record_line
 says_record line words said is e =
-    let cut = found (λ (c : List ℕ × List ℕ). option_map (λ (b : List ℕ × List ℕ). Record c.0 b.0 b.1) (first_word c.1)) (first_word words) said e in
-    let behind = mapped (λ (b : List ℕ × List ℕ). Record cut.0.0 b.0 b.1) (first_word cut.0.1) said cut.2 in
+    let cut = chain (λ (c : List ℕ × List ℕ). option_map (λ (b : List ℕ × List ℕ). Record c.0 b.0 b.1) (first_word c.1)) (first_word words) said e in
+    let following = mapped (λ (b : List ℕ × List ℕ). Record cut.0.0 b.0 b.1) (first_word cut.0.1) said cut.2 in
     let first = cut_of words cut.0 cut.1 in
-    let second = cut_of cut.0.1 behind.0 behind.1 in
-    subst (Says line) behind.2 (
+    let second = cut_of cut.0.1 following.0 following.1 in
+    subst (Says line) following.2 (
       first.0,
       second.0,
       is ∙ ap (λ (l : List ℕ). codes "record " ++ l)
-          (first.1 ∙ ap (λ (l : List ℕ). cut.0.0 ++ codes " " ++ l) second.1 ∙ four_pieces cut.0.0 (codes " ") behind.0.0 (codes " ") behind.0.1),
+          (first.1 ∙ ap (λ (l : List ℕ). cut.0.0 ++ codes " " ++ l) second.1 ∙ four_pieces cut.0.0 (codes " ") following.0.0 (codes " ") following.0.1),
     )
 
 says_stale : (line words : List ℕ) (said : Line) → line ≡ codes "stale " ++ words → stale_line words ≡ Some said → Says line said
 unfolding stale_line
 says_stale line words said is e =
-    let told = chosen (is_word words) (Stale words) said e in
+    let told = cond_some (is_word words) (Stale words) said e in
     subst (Says line) told.1 (told.0, is)
 
 spelled : (line : List ℕ) (said : Line) → script_line line ≡ Some said → Says line said
@@ -157,7 +124,7 @@ spells line (Sync kconfig dotconfig) h =
     ap script_line h.2
     ∙ ap (option_and_then (λ (c : List ℕ × List ℕ). cond (is_path c.0 && is_path c.1) (Some (Sync c.0 c.1)) None))
     (first_word_is kconfig dotconfig (path_is_word kconfig h.0))
-    ∙ cond-true (is_path kconfig && is_path dotconfig) _ _ (both (is_path kconfig) (is_path dotconfig) h.0 h.1)
+    ∙ cond-true (is_path kconfig && is_path dotconfig) _ _ (and_from (is_path kconfig) (is_path dotconfig) h.0 h.1)
 spells line (Record depfile target command) h =
     ap script_line h.2
     ∙ ap record_line (sym (four_pieces depfile (codes " ") target (codes " ") command))

@@ -19,4 +19,4 @@ pub record Examples : Type 0 where
   pub lines_in_order : script_lines (codes "# x\r\n\r\nstale y.o\r\nstale x.o") ≡ Stale (codes "y.o") ∷ Stale (codes "x.o") ∷ []
   pub comments_alone : script_refusal (codes "# x\n\n#\n") ≡ None
   pub first_faulty_line : script_refusal (codes "# x\n\nstale\nsync K\n") ≡ Some (fault.BadScript 3)
-  pub comment_behind_a_space : script_refusal (codes " # x\n") ≡ Some (fault.BadScript 1)
+  pub comment_after_a_space : script_refusal (codes " # x\n") ≡ Some (fault.BadScript 1)

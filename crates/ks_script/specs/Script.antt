@@ -26,7 +26,7 @@ Says line (Record depfile target command) = IsTrue (is_word depfile) × IsTrue (
     × (line ≡ codes "record " ++ depfile ++ codes " " ++ target ++ codes " " ++ command)
 Says line (Stale target) = IsTrue (is_word target) × (line ≡ codes "stale " ++ target)
 
--- the first word, and what stands behind the space that ends it
+-- the first word, and what stands after the space that ends it
 unfoldable pub first_word : List ℕ → Option (List ℕ × List ℕ)
 first_word text =
     let word = take_while is_word_byte text in
@@ -38,7 +38,7 @@ unfoldable pub sync_line : List ℕ → Option Line
 sync_line words = option_and_then (λ cut. if is_path cut.0 && is_path cut.1 then Some (Sync cut.0 cut.1) else None) (first_word words)
 
 unfoldable pub record_line : List ℕ → Option Line
-record_line words = option_and_then (λ cut. option_map (λ behind. Record cut.0 behind.0 behind.1) (first_word cut.1)) (first_word words)
+record_line words = option_and_then (λ cut. option_map (λ following. Record cut.0 following.0 following.1) (first_word cut.1)) (first_word words)
 
 unfoldable pub stale_line : List ℕ → Option Line
 stale_line words = if is_word words then Some (Stale words) else None

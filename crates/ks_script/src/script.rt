@@ -48,7 +48,7 @@ fn split_word(text: &[u8]) -> (&[u8], &[u8])
     text.split_at(end)
 }
 
-/// The first word, and what stands behind the space that ends it.
+/// The first word, and what stands after the space that ends it.
 #[tactic(auto, unfolding(crate::specs::Script::first_word))]
 fn first_word(text: &[u8]) -> Option<(&[u8], &[u8])>
     ensures { option_map (λ cut. (cut.0.now, cut.1.now)) result ≡ first_word text.now }

@@ -1,10 +1,5 @@
 -- What a stream has taken, over several writes.
-use Rattle.std.proofs.Common.{◌≡◌, inl, inr, ◌+◌, ◌-◌, ◌<◌, ℕ, suc, refl, Bool, true, false, IsTrue, List, [], ◌∷◌, ◌++◌, Option, Some, None, Bor, subst, sym, ap, ◌∙◌, append_assoc, append-nil, take, drop, length, get_or, flat_map, drop-cons}
-use Rattle.std.proofs.lemmas.List.{take_rest, take-append-drop}
-use Rattle.std.proofs.lemmas.List.Concat.{flat_map-append}
-use Rattle.std.proofs.Math.Seq.{take-add}
-use Rattle.std.specs.Io.KnownBytes.{Appends, Keeps}
-use Rattle.ks_streams.specs.Streams.{Breaks, IsPart, Prints, PrintsOrBreaks, State}
+use Rattle.ks_streams.proofs.Prelude.{◌≡◌, inl, inr, ◌+◌, ◌-◌, ◌<◌, ℕ, suc, refl, Bool, true, false, IsTrue, List, [], ◌∷◌, ◌++◌, Option, Some, None, Bor, subst, sym, ap, ◌∙◌, append_assoc, append-nil, take, drop, length, get_or, flat_map, drop-cons, take_rest, take-append-drop, flat_map-append, take-add, Appends, Keeps, Breaks, IsPart, Prints, PrintsOrBreaks, State}
 
 -- what was appended stays
 appended_kept : (first second third : Option (List ℕ)) (text : List ℕ) → Appends first second text → Keeps second third → Appends first third text
@@ -34,14 +29,14 @@ written_more first second third xs i n p q =
 pub part_written : (first second third : Option (List ℕ)) (xs : List ℕ) (i : ℕ) → Appends first second (take i xs) → Keeps second third → IsPart xs first third
 part_written first second third xs i p k = (take i xs, drop i xs, sym (take-append-drop i xs), appended_kept first second third (take i xs) p k)
 
--- a part of what stands behind that which is written
-part_behind : (first second third : Option (List ℕ)) (front xs behind whole : List ℕ) → whole ≡ front ++ (xs ++ behind) → Appends first second front
+-- a part of what stands after that which is written
+part_after : (first second third : Option (List ℕ)) (front xs following whole : List ℕ) → whole ≡ front ++ (xs ++ following) → Appends first second front
     → IsPart xs second third
     → IsPart whole first third
-part_behind first second third front xs behind whole is p part = (
+part_after first second third front xs following whole is p part = (
   front ++ part.0,
-  part.1 ++ behind,
-  is ∙ ap (λ l. front ++ l) (ap (λ l. l ++ behind) part.2 ∙ append_assoc part.0 part.1 behind) ∙ sym (append_assoc front part.0 (part.1 ++ behind)),
+  part.1 ++ following,
+  is ∙ ap (λ l. front ++ l) (ap (λ l. l ++ following) part.2 ∙ append_assoc part.0 part.1 following) ∙ sym (append_assoc front part.0 (part.1 ++ following)),
   appended_more first second third front part.0 p part.3,
 )
 
@@ -54,7 +49,7 @@ parts_at parts i p within =
 pub parts_broken : (first second third : Option (List ℕ)) (parts : List (Bor (List ℕ))) (i : ℕ) (p : Bor (List ℕ)) → i < length parts
     → Appends first second (flat_map (λ q. q.now) (take i parts)) → IsPart (get_or parts i p).now second third
     → IsPart (flat_map (λ q. q.now) parts) first third
-parts_broken first second third parts i p within a b = part_behind first second third _ _ _ _ (parts_at parts i p within) a b
+parts_broken first second third parts i p within a b = part_after first second third _ _ _ _ (parts_at parts i p within) a b
 
 -- ---- what is printed, by its answer and one text after the other
 
@@ -75,6 +70,6 @@ told_more a b first second third p (inl q) = inl (record {
   seen_out = q.seen_out;
 })
 told_more a b first second third p (inr q) = inr (record {
-  bytes = part_behind _ _ _ a b [] (a ++ b) (ap (λ l. a ++ l) (sym (append-nil b))) p.takes.bytes q.bytes;
+  bytes = part_after _ _ _ a b [] (a ++ b) (ap (λ l. a ++ l) (sym (append-nil b))) p.takes.bytes q.bytes;
   failed = q.failed;
 })

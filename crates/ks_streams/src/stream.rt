@@ -41,13 +41,6 @@ impl<W: Write> Stream<W> {
         writer
     }
 
-    /// Whether a write has failed.
-    pub fn has_failed(&self) -> bool
-        ensures { result ≡ (state_of W.Write self.now).failed }
-    {
-        self.failed
-    }
-
     /// Notes that a write has failed.
     fn fail(&mut self) -> bool
         ensures answer { result ≡ false }

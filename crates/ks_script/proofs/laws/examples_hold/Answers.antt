@@ -1,9 +1,4 @@
-use Rattle.std.proofs.Common.{refl}
-use Rattle.bstr.specs.Text.{line_len, lines_from}
-use Rattle.ks_symbols.specs.Names.{is_path}
-use Rattle.ks_symbols.specs.Lines.{lines}
-use Rattle.ks_script.specs.Script.{first_word, sync_line, record_line, stale_line, script_line, script_lines}
-use Rattle.ks_script.specs.ScriptRefusals.{script_refusal}
+use Rattle.ks_script.proofs.Prelude.{refl, line_len, lines_from, is_path, lines, first_word, sync_line, record_line, stale_line, script_line, script_lines, script_refusal}
 use Rattle.ks_script.proofs.laws.examples_hold.Goals as goal
 
 pub returns : goal.returns
@@ -23,5 +18,5 @@ returns c = record {
   lines_in_order = refl;
   comments_alone = refl;
   first_faulty_line = refl;
-  comment_behind_a_space = refl;
+  comment_after_a_space = refl;
 }

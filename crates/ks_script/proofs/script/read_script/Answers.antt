@@ -1,10 +1,5 @@
-use Rattle.std.proofs.Common.{◌≡◌, inr, ◌∷◌, ◌++◌, option_map, length, map, sym, ap, ◌∙◌, arith, append-nil}
-use Rattle.std.specs.List.{filter_map, position_from}
-use Rattle.std.proofs.lemmas.Result.{err_from_is_err_and}
-use Rattle.ks_symbols.specs.Lines.{lines}
+use Rattle.ks_script.proofs.Prelude.{◌≡◌, inr, ◌∷◌, ◌++◌, option_map, length, map, sym, ap, ◌∙◌, arith, append-nil, filter_map, position_from, err_from_is_err_and, lines, script_lines, seen_line, script_line, is_faulty, line_fault, script_refusal}
 use Rattle.ks_script.specs.declared.error.ScriptError.TheVariants as fault
-use Rattle.ks_script.specs.Script.{script_lines, seen_line, script_line}
-use Rattle.ks_script.specs.ScriptRefusals.{is_faulty, line_fault, script_refusal}
 use Rattle.ks_script.proofs.Faults.{no_fault, fault_here, refused, too_large, not_large, option_append}
 use Rattle.ks_script.proofs.script.read_script.Goals as goal
 

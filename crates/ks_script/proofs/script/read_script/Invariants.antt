@@ -1,8 +1,4 @@
-use Rattle.std.proofs.Common.{◌≡◌, ◌+◌, ◌≤◌, ◌++◌, length, map}
-use Rattle.std.specs.List.{filter_map, position_from}
-use Rattle.ks_symbols.specs.Lines.{lines}
-use Rattle.ks_script.specs.Script.{seen_line, script_line}
-use Rattle.ks_script.specs.ScriptRefusals.{is_faulty}
+use Rattle.ks_script.proofs.Prelude.{◌≡◌, ◌+◌, ◌≤◌, ◌++◌, length, map, filter_map, position_from, lines, seen_line, script_line, is_faulty}
 use Rattle.ks_script.proofs.script.read_script.Given as goal
 
 -- what was read so far, and what the lines that are left ask for, is what all lines ask for

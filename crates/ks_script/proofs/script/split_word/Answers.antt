@@ -1,4 +1,4 @@
-use Rattle.std.proofs.Common.{ℕ, take, sym, ap, ◌∙◌}
+use Rattle.ks_script.proofs.Prelude.{ℕ, take, sym, ap, ◌∙◌}
 use Rattle.ks_script.proofs.Words.{first_space}
 use Rattle.ks_script.proofs.script.split_word.Goals as goal
 

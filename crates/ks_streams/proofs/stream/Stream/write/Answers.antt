@@ -1,4 +1,4 @@
-use Rattle.std.proofs.Common.{[]}
+use Rattle.ks_streams.proofs.Prelude.{[]}
 use Rattle.ks_streams.proofs.Writing.{parts_broken}
 use Rattle.ks_streams.proofs.stream.Stream.write.Goals as goal
 

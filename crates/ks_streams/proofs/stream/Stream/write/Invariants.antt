@@ -1,5 +1,4 @@
-use Rattle.std.proofs.Common.{flat_map, take}
-use Rattle.ks_streams.specs.Streams.{Takes, state_of}
+use Rattle.ks_streams.proofs.Prelude.{flat_map, take, Takes, state_of}
 use Rattle.ks_streams.proofs.stream.Stream.write.Given as goal
 
 abbrev pub invariant-loop-part : goal.invariant-loop-part

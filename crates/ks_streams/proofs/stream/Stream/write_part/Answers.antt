@@ -1,7 +1,4 @@
-use Rattle.std.proofs.Common.{◌+◌, ◌-◌, ◌≤◌, ℕ, List, length, take, drop, subst, sym, arith, length-drop}
-use Rattle.std.proofs.lemmas.List.{take_rest}
-use Rattle.std.specs.Io.KnownBytes.{Appends}
-use Rattle.ks_streams.specs.Streams.{IsPart}
+use Rattle.ks_streams.proofs.Prelude.{◌+◌, ◌-◌, ◌≤◌, ℕ, List, length, take, drop, subst, sym, arith, length-drop, take_rest, Appends, IsPart}
 use Rattle.ks_streams.proofs.Writing.{written_more, part_written, kept_of_nothing}
 use Rattle.ks_streams.proofs.stream.Stream.write_part.Goals as goal
 

@@ -1,5 +1,4 @@
-use Rattle.std.proofs.Common.{◌≡◌, ◌+◌, ◌-◌, ◌≤◌, length, take}
-use Rattle.std.specs.Io.KnownBytes.{Appends}
+use Rattle.ks_streams.proofs.Prelude.{◌≡◌, ◌+◌, ◌-◌, ◌≤◌, length, take, Appends}
 use Rattle.ks_streams.proofs.stream.Stream.write_part.Given as goal
 
 abbrev pub invariant-loop-done : goal.invariant-loop-done

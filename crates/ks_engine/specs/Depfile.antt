@@ -1,0 +1,106 @@
+-- What recording an object leaves of its dependency file, for a build that goes by that file.
+use Rattle.std.specs.Prelude.{◌≡◌, ◌≢◌, ◌⊎◌, ◌||◌, ℕ, Bool, true, false, List, [], Option, Some, Result, Ok, Err, codes, bytes_eq, nat_eq}
+use Rattle.std.specs.List.{starts_with, ends_with}
+use Rattle.ks_symbols.specs.Names.{is_in, header_path}
+use Rattle.ks_fixdep.specs.declared.dependency_file.Header.{Header}
+use Rattle.ks_fixdep.specs.Rule.{rule_text}
+use Rattle.ks_tree.specs.Files.{Files, content, kept_or}
+use Rattle.ks_tree.specs.Paths.{stamp_path, temporary}
+use Rattle.ks_engine.specs.declared.error.EngineError.{EngineError}
+use Rattle.ks_engine.specs.declared.error.EngineError.TheVariants.{BadPath}
+use Rattle.ks_engine.specs.declared.recording.Recorded.{Recorded as RecordAnswer}
+use Rattle.ks_engine.specs.declared.depfile.Ruled.{Ruled}
+use Rattle.ks_engine.specs.Refusals.{IsGivenUp}
+use Rattle.ks_engine.specs.Recorded.{RecordPlan, IsRecordedWithout, IsRecordRefusedWithout}
+use Rattle.ks_engine.specs.Drafts.{IsDraft}
+use Rattle.ks_engine.specs.Follows.{TreeState, IsSame, FollowsRecordedWithout, FollowsRecordWithout}
+
+-- A file that the commands write for themselves, by its path: a rule in its place would end what the tree says.
+unfoldable pub is_own_file : List ℕ → Bool
+is_own_file path =
+    starts_with nat_eq path (codes "include/config/") || bytes_eq path header_path || ends_with nat_eq path (codes ".cmd")
+    || ends_with nat_eq path (codes ".tmp")
+
+-- ---- after the record
+
+-- Some of the missing stamps are made. Where all are, the dependency file may hold the text. All else but its temporary file is as before.
+pub record RuleLeaves (old new : Files) (depfile : List ℕ) (names : List (List ℕ)) (text : List ℕ) (made : List (List ℕ)) : Type 0 where
+  pub within : (x : List ℕ) → is_in made x ≡ true → is_in names x ≡ true
+  pub stamps : (x : List ℕ) → is_in made x ≡ true → content new (stamp_path x) ≡ Some (kept_or (content old (stamp_path x)) [])
+  pub depfile_is : (content new depfile ≡ content old depfile) ⊎ ((made ≡ names) × (content new depfile ≡ Some text))
+  pub others : (q : List ℕ) → ((x : List ℕ) → is_in made x ≡ true → q ≢ stamp_path x) → q ≢ depfile → q ≢ temporary depfile → content new q ≡ content old q
+
+-- All of it is done.
+pub record RuleDone (old new : Files) (depfile : List ℕ) (names : List (List ℕ)) (text : List ℕ) : Type 0 where
+  pub leaves : RuleLeaves old new depfile names text names
+  pub text_is : content new depfile ≡ Some text
+
+-- It was given up on the way.
+abbrev pub RuleTried : Files → Files → List ℕ → List (List ℕ) → List ℕ → Type 0
+RuleTried old new depfile names text = (made : List (List ℕ)) × RuleLeaves old new depfile names text made
+
+-- the names of a plan, and the rule that is made of the dependency file, before either is used
+pub record IsRuled (header : Header) (files : Files) (depfile : List ℕ) (plan : RecordPlan) (r : Ruled) : Type 0 where
+  pub draft : IsDraft plan r.draft
+  pub names : r.names.items ≡ plan.names
+  pub was : List ℕ
+  pub was_there : content files depfile ≡ Some was
+  pub rule : r.rule.items ≡ rule_text header was plan.names
+
+-- ---- the whole, by the files
+
+-- The object was recorded, then its missing stamps were made, and then the dependency file was replaced by one rule.
+pub record IsDepfileRecorded (header : Header) (old new : Files) (depfile target command : List ℕ) (answer : RecordAnswer) : Type 0 where
+  pub free : is_own_file depfile ≡ false
+  pub between : Files
+  pub recorded : IsRecordedWithout header old between depfile target command answer
+  pub was : List ℕ
+  pub was_there : content old depfile ≡ Some was
+  pub rule : RuleDone between new depfile recorded.plan.names (rule_text header was recorded.plan.names)
+
+-- It was recorded, and given up after that.
+pub record IsDepfileBroken (header : Header) (old new : Files) (depfile target command : List ℕ) : Type 0 where
+  pub free : is_own_file depfile ≡ false
+  pub answer : RecordAnswer
+  pub between : Files
+  pub recorded : IsRecordedWithout header old between depfile target command answer
+  pub was : List ℕ
+  pub was_there : content old depfile ≡ Some was
+  pub rule : RuleTried between new depfile recorded.plan.names (rule_text header was recorded.plan.names)
+
+-- It was refused for the path, or as a record is, or given up after the record.
+abbrev pub IsDepfileRefused : Header → Files → Files → List ℕ → List ℕ → List ℕ → EngineError → Type 0
+IsDepfileRefused header old new depfile target command e =
+    ((is_own_file depfile ≡ true) × (e ≡ BadPath 0) × (new ≡ old))
+    ⊎ (((is_own_file depfile ≡ false) × IsRecordRefusedWithout header old new depfile target command e)
+    ⊎ (IsGivenUp e × IsDepfileBroken header old new depfile target command))
+
+-- The dependency file is the old one, or whole by its rule.
+abbrev pub IsOldOrRule : Header → Option (List ℕ) → Option (List ℕ) → Type 0
+IsOldOrRule header old new = (new ≡ old) ⊎ ((was : List ℕ) × (names : List (List ℕ)) × (old ≡ Some was) × (new ≡ Some (rule_text header was names)))
+
+-- ---- the whole, by histories
+
+-- The record is the event, and nothing after it is one.
+pub record FollowsRuleDone (header : Header) (old : TreeState) (depfile target command : List ℕ) (answer : RecordAnswer) (new : TreeState) : Type 0 where
+  pub between : TreeState
+  pub recorded : FollowsRecordedWithout header old depfile target command answer between
+  pub history : new.history ≡ between.history
+  pub was : List ℕ
+  pub was_there : content old.files depfile ≡ Some was
+  pub rule : RuleDone between.files new.files depfile recorded.files.plan.names (rule_text header was recorded.files.plan.names)
+
+pub record FollowsRuleTried (header : Header) (old : TreeState) (depfile target command : List ℕ) (new : TreeState) : Type 0 where
+  pub answer : RecordAnswer
+  pub between : TreeState
+  pub recorded : FollowsRecordedWithout header old depfile target command answer between
+  pub history : new.history ≡ between.history
+  pub was : List ℕ
+  pub was_there : content old.files depfile ≡ Some was
+  pub rule : RuleTried between.files new.files depfile recorded.files.plan.names (rule_text header was recorded.files.plan.names)
+
+abbrev pub FollowsDepfile : Header → List ℕ → List ℕ → List ℕ → Result RecordAnswer EngineError → TreeState → TreeState → Type 0
+FollowsDepfile header depfile target command (Ok answer) old new = FollowsRuleDone header old depfile target command answer new
+FollowsDepfile header depfile target command (Err e) old new =
+    ((is_own_file depfile ≡ true) × (e ≡ BadPath 0) × IsSame old new)
+    ⊎ (FollowsRecordWithout header depfile target command (Err e) old new ⊎ (IsGivenUp e × FollowsRuleTried header old depfile target command new))

@@ -1,0 +1,148 @@
+//! Recording an object for a build that goes by dependency files, as ninja does: in such a file the header of all symbols would
+//! make each change of the configuration a change of every object. So the stamps of the names that the object mentions stand in
+//! its place. The record comes first: until it is made the compiler's own file stays, and the object is rebuilt too often and
+//! never too rarely.
+ghost use Rattle.std.specs.Prelude.{◌≡◌, ◌⊎◌, ◌||◌, List, ℕ, false, true, IfErr, IfOk, IsErrOf, IsTrue, OnErr, OnOk, Ok, Err, Some};
+ghost use Rattle.ks_symbols.specs.Names.{is_in, is_name};
+ghost use Rattle.ks_tree.specs.Files.{content, SameButBoth};
+ghost use Rattle.ks_tree.specs.Frames.{Counted, Reads};
+ghost use Rattle.ks_tree.specs.Paths.{command_path, command_temporary, temporary};
+ghost use Rattle.ks_engine.specs.Refusals.{IsGivenUp};
+ghost use Rattle.ks_engine.specs.Recorded.{RecordPlan, IsRecordPlanWithout, record_plan_without};
+ghost use Rattle.ks_engine.specs.Follows.{GoesOn};
+ghost use Rattle.ks_engine.specs.Depfile.{FollowsDepfile, IsDepfileRecorded, IsDepfileRefused, IsOldOrRule, IsRuled, RuleDone, RuleTried, is_own_file};
+
+use crate::EngineError;
+use crate::memos::Memo;
+use crate::recording::{Draft, Recorded, prepare};
+use ks_fixdep::{Header, Seed, names_of_object, rule_text};
+use ks_symbols::Name;
+use ks_tree::{Tree, command_path, command_temporary, header_path, make_stamps, replace};
+use std::alloc::{AllocError, Global};
+
+/// What stands ready before the first write: the command file, the names whose stamps are to be there, and the rule.
+#[derive(Drop)]
+struct Ruled {
+    draft: Draft,
+    names: Vec<Name>,
+    rule: Vec<u8>,
+}
+
+/// Whether a path is that of a file that the commands write for themselves.
+#[tactic(auto, unfolding(crate::specs::Depfile::is_own_file))]
+fn is_own_file(path: &[u8]) -> bool
+    ensures { result ≡ is_own_file path.now }
+{
+    path.starts_with(b"include/config/")
+        || path == header_path()
+        || path.ends_with(b".cmd")
+        || path.ends_with(b".tmp")
+}
+
+/// Where a dependency file is written before it is moved to its path.
+fn temporary(alloc: Global, depfile: &[u8]) -> Result<Vec<u8>, AllocError>
+    ensures { IfOk result (λ path. path.items ≡ temporary depfile.now) }
+{
+    let mut path = Vec::from_slice(alloc, depfile)?;
+    path.extend_from_slice(b".tmp")?;
+    Ok(path)
+}
+
+/// All steps before the first write.
+fn prepare_rule<T: Tree>(
+    alloc: Global,
+    tree: &mut T,
+    header: Header<'_>,
+    depfile: &[u8],
+    target: &[u8],
+    command: &[u8],
+) -> Result<Ruled, EngineError>
+    ensures reads { Reads T.Tree tree.old tree.new (IsErrOf result EngineError.Device) }
+    ensures planned { T.is_honest → IfOk result (λ r. (plan : RecordPlan)
+        × IsRecordPlanWithout header.entry (T.files tree.old) depfile.now target.now command.now plan
+        × IsRuled header.entry (T.files tree.old) depfile.now plan r) }
+    ensures refused { T.is_honest → IfErr result (λ e. IsGivenUp e
+        ⊎ (record_plan_without header.entry (T.files tree.old) depfile.now target.now command.now ≡ Err e)) }
+{
+    let seed = Seed::new(tree.seed());
+    let mut memo = Memo::of_one_object(alloc, seed);
+    let prepared = prepare(alloc, tree, &mut memo, header, depfile, target, command)?;
+    let names = names_of_object(alloc, seed, &memo.found)?;
+    let rule = rule_text(alloc, &prepared.depfile, &prepared.prerequisites, &names)?;
+    Ok(Ruled {
+        draft: prepared.draft,
+        names,
+        rule,
+    })
+}
+
+/// Writes a command file.
+fn write_record<T: Tree>(
+    alloc: Global,
+    tree: &mut T,
+    target: &[u8],
+    text: &[u8],
+) -> Result<(), EngineError>
+    ensures written { T.is_honest → OnOk result (content (T.files tree.new) (command_path target.now) ≡ Some text.now) }
+    ensures either { T.is_honest → OnErr result
+        ((content (T.files tree.new) (command_path target.now) ≡ content (T.files tree.old) (command_path target.now))
+        ⊎ (content (T.files tree.new) (command_path target.now) ≡ Some text.now)) }
+    ensures others { T.is_honest → SameButBoth (command_temporary target.now) (command_path target.now) (T.files tree.old) (T.files tree.new) }
+    ensures given { IfErr result IsGivenUp }
+    ensures counted { Counted T.Tree tree.old tree.new (IsErrOf result EngineError.Device) }
+{
+    let path = command_path(alloc, target)?;
+    let temporary = command_temporary(alloc, target)?;
+    replace(alloc, tree, &temporary, &path, text)?;
+    Ok(())
+}
+
+/// Makes the missing stamps of the names, and then puts the rule into the place of the dependency file.
+fn leave_rule<T: Tree>(
+    alloc: Global,
+    tree: &mut T,
+    depfile: &[u8],
+    names: &[Name],
+    rule: &[u8],
+) -> Result<(), EngineError>
+    requires free { is_own_file depfile.now ≡ false }
+    requires legal { T.is_honest → (x : List ℕ) → is_in names.now x ≡ true → IsTrue (is_name x) }
+    ensures done { T.is_honest → OnOk result (RuleDone (T.files tree.old) (T.files tree.new) depfile.now names.now rule.now) }
+    ensures tried { T.is_honest → OnErr result (RuleTried (T.files tree.old) (T.files tree.new) depfile.now names.now rule.now) }
+    ensures given { IfErr result IsGivenUp }
+    ensures counted { Counted T.Tree tree.old tree.new (IsErrOf result EngineError.Device) }
+{
+    let temporary = temporary(alloc, depfile)?;
+    make_stamps(alloc, tree, names)?;
+    replace(alloc, tree, &temporary, depfile, rule)?;
+    Ok(())
+}
+
+/// Records an object as `record_object` does, but for the header, and then leaves one rule in its dependency file: its
+/// prerequisites without the header, and the stamps of the names that were found.
+pub fn record_depfile<T: Tree>(
+    alloc: Global,
+    tree: &mut T,
+    header: Header<'_>,
+    depfile: &[u8],
+    target: &[u8],
+    command: &[u8],
+) -> Result<Recorded, EngineError>
+    // By the files: the record, the stamps and the rule are done in this order, or it was refused, or given up on the way.
+    ensures recorded { T.is_honest → IfOk result (IsDepfileRecorded header.entry (T.files tree.old) (T.files tree.new) depfile.now target.now command.now) }
+    ensures refused { T.is_honest → IfErr result (IsDepfileRefused header.entry (T.files tree.old) (T.files tree.new) depfile.now target.now command.now) }
+    ensures old_or_rule { T.is_honest → OnErr result
+        (IsOldOrRule header.entry (content (T.files tree.old) depfile.now) (content (T.files tree.new) depfile.now)) }
+    // By histories: each one that the files show goes on with this answer, and the files show the next one.
+    ensures follows { GoesOn T.Tree tree.old tree.new (FollowsDepfile header.entry depfile.now target.now command.now result) }
+    // The device is to blame only where the tree counted a failure.
+    ensures counted { Counted T.Tree tree.old tree.new (IsErrOf result EngineError.Device) }
+{
+    if is_own_file(depfile) {
+        return Err(EngineError::BadPath(0));
+    }
+    let ruled = prepare_rule(alloc, tree, header, depfile, target, command)?;
+    write_record(alloc, tree, target, &ruled.draft.text)?;
+    leave_rule(alloc, tree, depfile, &ruled.names, &ruled.rule)?;
+    Ok(ruled.draft.answer)
+}

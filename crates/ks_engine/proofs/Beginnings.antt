@@ -1,18 +1,6 @@
 -- Trees to begin with, and the one plan of a synchronisation.
-use Rattle.std.proofs.Common.{◌≡◌, inl, inr, ℕ, ◌<◌, ◌^◌, List, Option, Some, None, Err, refl, sym, ◌∙◌, ap, subst, nat_cmp, arith}
-use Rattle.std.specs.Cmp.Lexicographic.{slice_cmp, nat_list_cmp_total}
-use Rattle.std.specs.FinMap.{empty, get, get-empty, same_map, slice_cmp-IsAntisymmetric, nat_cmp-IsAntisymmetric}
-use Rattle.ks_symbols.specs.declared.error.SourceError.{SourceError}
-use Rattle.ks_tree.specs.Files.{content}
-use Rattle.ks_tree.specs.Paths.{auto_path, stamp_path}
-use Rattle.ks_tree.specs.Stamps.{HasNumber}
-use Rattle.ks_engine.specs.Refusals.{of_source, and_then}
-use Rattle.ks_symbols.specs.Configuration.{Configuration}
-use Rattle.ks_output.specs.OldConfig.{Texts}
-use Rattle.ks_engine.specs.Shows.{IsFirstAuto}
-use Rattle.ks_engine.specs.SyncPlan.{Sources, AreSources, plan_over}
-use Rattle.ks_engine.specs.LastSync.{old_auto}
-use Rattle.ks_engine.specs.Laws.{EmptyTreeShows, UsualTreeShows, UntypedTreeShows, PlansAreOne}
+use Rattle.ks_engine.proofs.Prelude.{◌≡◌, inl, inr, ℕ, ◌<◌, ◌^◌, List, Option, Some, None, Err, refl, sym, ◌∙◌, ap, subst, nat_cmp, arith, slice_cmp, nat_list_cmp_total, empty, get, get-empty, same_map, slice_cmp-IsAntisymmetric, nat_cmp-IsAntisymmetric, SourceError, content, auto_path, stamp_path, HasNumber, of_source, and_then, Configuration, Texts, IsFirstAuto, Sources, plan_over, old_auto, EmptyTreeShows, UsualTreeShows, UntypedTreeShows, PlansAreOne}
+use Rattle.ks_engine.specs.SyncPlan.{AreSources}
 use Rattle.ks_engine.proofs.LowerLaws.{small_generation}
 
 -- the generation of a first auto.conf fits 64 bits

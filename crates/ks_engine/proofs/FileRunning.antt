@@ -1,17 +1,7 @@
 -- A run by the files goes on by one command; and each history that its first files show goes on with it.
-use Rattle.std.proofs.Common.{◌≡◌, ℕ, ◌+◌, ◌<◌, List, [], ◌∷◌, ◌++◌, ◌∙◌, ap, sym, refl, subst, subst₂, Ok, Err, map, take, length, get_or}
-use Rattle.std.specs.Bool.{⊤}
-use Rattle.std.proofs.lemmas.List.{take_more, map-append}
-use Rattle.ks_engine.specs.Actions.{Action, Sync, Record, Stale, action}
-use Rattle.ks_engine.specs.declared.commands.Command.{Command}
-use Rattle.ks_engine.specs.declared.commands.Reply.{Reply}
-use Rattle.ks_engine.specs.declared.commands.Reply.TheVariants.{Synced, Recorded, Verdict, Refused}
-use Rattle.ks_engine.specs.FileRuns.{FileState, LeavesFiles, StepsTo, FileRun}
-use Rattle.ks_engine.specs.Follows.{TreeState, at}
-use Rattle.ks_engine.specs.History.{History}
-use Rattle.ks_engine.specs.Laws.{FileRunsGoOn}
-use Rattle.ks_engine.specs.Runs.{Leaves, Run}
-use Rattle.ks_engine.specs.Shows.{Shows}
+use Rattle.ks_engine.proofs.Prelude.{◌≡◌, ℕ, ◌+◌, ◌<◌, List, [], ◌∷◌, ◌++◌, ◌∙◌, ap, sym, refl, subst, subst₂, Ok, Err, map, take, length, get_or, ⊤, take_more, map-append, Action, Sync, Record, action, Command, Reply, Refused, FileState, LeavesFiles, StepsTo, FileRun, TreeState, at, History, FileRunsGoOn, Leaves, Run, Shows}
+use Rattle.ks_engine.specs.Actions.{Stale}
+use Rattle.ks_engine.specs.declared.commands.Reply.TheVariants.{Synced, Recorded, Verdict}
 use Rattle.ks_engine.proofs.Following.{sync_follows}
 use Rattle.ks_engine.proofs.RecordSteps.{record_follows}
 use Rattle.ks_engine.proofs.Running.{Trace, no_steps, step_first, run_of}

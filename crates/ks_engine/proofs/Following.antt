@@ -1,13 +1,5 @@
 -- A synchronisation goes on with each history that the files show.
-use Rattle.std.proofs.Common.{◌≡◌, inl, inr, ⊎_elim, ℕ, ◌+◌, List, Result, Ok, Err, IfOk, IfErr, sym, ◌∙◌, ap, refl, subst}
-use Rattle.ks_tree.specs.Files.{Files}
-use Rattle.ks_engine.specs.declared.error.EngineError.{EngineError}
-use Rattle.ks_engine.specs.declared.synchronise.Report.{Report}
-use Rattle.ks_output.specs.OldConfig.{Texts}
-use Rattle.ks_engine.specs.History.{History, Synced, Broken}
-use Rattle.ks_engine.specs.Shows.{Shows}
-use Rattle.ks_engine.specs.Synchronised.{AreChanged, IsSynced, IsBrokenOff, IsSyncRefused}
-use Rattle.ks_engine.specs.Follows.{at, FollowsSync, IsBrokenEvent}
+use Rattle.ks_engine.proofs.Prelude.{◌≡◌, inl, inr, ⊎_elim, ℕ, ◌+◌, List, Result, Ok, Err, IfOk, IfErr, sym, ◌∙◌, ap, refl, subst, Files, EngineError, Report, Texts, History, Synced, Broken, Shows, AreChanged, IsSynced, IsBrokenOff, IsSyncRefused, at, FollowsSync, IsBrokenEvent}
 use Rattle.ks_engine.proofs.Steps.{plan_facts, broken_shows, synced_shows}
 
 after_broken : (old new : Files) (h : History) (k d : List ℕ) (broken : IsBrokenOff old new k d) → Shows old h

@@ -1,45 +1,11 @@
 -- The tree that a synchronisation would leave, what is answered over it, and a name among rising ones.
-use Rattle.std.proofs.Common.{◌≡◌, ◌⊎◌, inl, inr, ℕ, zero, suc, ◌+◌, ◌<◌, ◌^◌, List, [], ◌∷◌, Option, Some, None, Result, Ok, Err, true, false, ◌||◌, cond, sym, ◌∙◌, ap, refl, subst, arith, length, get_or, true≢false, IsTrue, bytes_eq, nat_cmp}
-use Rattle.std.proofs.lemmas.Map.Keys.{Less-from_sorted}
-use Rattle.std.proofs.lemmas.Map.Text.{is_eq-slice_cmp}
-use Rattle.std.proofs.lemmas.Bool.{cases_lt, cond-true, cond-false, or_left, or_right, false_from_ne_true}
-use Rattle.std.proofs.lemmas.List.Sorted.{searchable_from_sorted}
-use Rattle.std.proofs.lemmas.Slice.Eq.{bytes_eq-Decides}
-use Rattle.std.specs.Cmp.{tied_itself}
-use Rattle.std.specs.Cmp.Lexicographic.{slice_cmp, nat_list_cmp_total}
-use Rattle.std.specs.FinMap.{insert, get-insert}
-use Rattle.std.specs.List.{HoldsAt}
-use Rattle.std.specs.List.Sorted.{IsStrictlySortedBy, IsSortedByKey, IsNonDecreasingBy, IsPartitionPoint, IsSearchInRange, IsBinarySearchResult}
-use Rattle.std.specs.Result.{is_ok}
-use Rattle.std.specs.Ordering.{is_lt, is_eq, ordering_reverse, ordering_index}
-use Rattle.std.specs.declared.cmp.Ordering.{Ordering}
-use Rattle.std.specs.declared.cmp.Ordering.TheVariants.{Less, Equal, Greater}
-use Rattle.ks_symbols.specs.Names.{is_name, is_in, header_path}
-use Rattle.ks_output.specs.declared.auto_conf.AutoError.{AutoError}
-use Rattle.ks_output.specs.AutoText.{auto_text}
-use Rattle.ks_output.specs.AutoConf.{auto_refusal}
-use Rattle.ks_output.specs.Header.{header_text}
-use Rattle.ks_tree.specs.Files.{Files, content, SameBut, SameButBoth}
-use Rattle.ks_tree.specs.Paths.{auto_path, auto_temporary, stamp_path, Stamp}
-use Rattle.ks_tree.specs.Stamps.{HasNumber, stamp_text, Touches}
-use Rattle.ks_engine.specs.declared.error.EngineError.{EngineError}
-use Rattle.ks_engine.specs.declared.impact.Impact.{Impact}
-use Rattle.ks_engine.specs.declared.planning.Planned.{Planned}
-use Rattle.ks_engine.specs.declared.staleness.Verdict.{Verdict}
-use Rattle.ks_engine.specs.declared.synchronise.Report.{Report}
-use Rattle.ks_engine.specs.Refusals.{GaveUp}
-use Rattle.ks_engine.specs.History.{Synced}
-use Rattle.ks_engine.specs.LastSync.{OldAuto, read_unless, old_auto}
-use Rattle.ks_engine.specs.SyncPlan.{Plan}
-use Rattle.ks_engine.specs.Synchronised.{AreChanged, SyncDone, IsSynced}
-use Rattle.ks_engine.specs.Asked.{asked, IsAnswer}
-use Rattle.ks_engine.specs.Views.{IsPlanned}
-use Rattle.ks_engine.specs.Impact.{IsImpactOf, AnswersBehind, JudgesBehind, IsBehind}
+use Rattle.ks_engine.proofs.Prelude.{◌≡◌, ◌⊎◌, inl, inr, ℕ, zero, suc, ◌+◌, ◌<◌, ◌^◌, List, [], ◌∷◌, Option, Some, None, Result, Ok, Err, true, false, ◌||◌, cond, sym, ◌∙◌, ap, refl, subst, arith, length, get_or, true≢false, IsTrue, bytes_eq, nat_cmp, Less-from_sorted, is_eq-slice_cmp, cases_lt, cond-true, cond-false, or_left, or_right, false_from_ne_true, searchable_from_sorted, bytes_eq-Decides, tied_itself, slice_cmp, nat_list_cmp_total, insert, get-insert, HoldsAt, IsStrictlySortedBy, IsSortedByKey, IsNonDecreasingBy, IsPartitionPoint, IsSearchInRange, IsBinarySearchResult, is_ok, is_lt, is_eq, ordering_reverse, ordering_index, Ordering, Less, Equal, Greater, is_name, is_in, header_path, AutoError, auto_text, auto_refusal, header_text, Files, content, SameBut, SameButBoth, auto_path, auto_temporary, stamp_path, Stamp, HasNumber, stamp_text, Touches, EngineError, Impact, Explanation, Planned, Question, Stale, Why, After, Verdict, Report, GaveUp, Synced, OldAuto, read_unless, old_auto, Plan, AreChanged, SyncDone, IsSynced, asked, IsAnswer, IsExplained, IsPlanned, IsImpactOf, IsAfter, IsAnswerAfter, IsAnswerTo, IsSeen, limit_of}
 use Rattle.ks_engine.proofs.LowerLaws.{generation_back, accepted, small_generation, apart}
 use Rattle.ks_engine.proofs.Reading.{last_some, ok_ok}
 use Rattle.ks_engine.proofs.Writes.{finished, header_stays}
 use Rattle.ks_engine.proofs.Steps.{plan_stands, plan_facts, command_kept, synced_shows}
-use Rattle.ks_engine.proofs.Asking.{stale_judged}
+use Rattle.ks_engine.proofs.Asking.{stale_judged, told_answered, verdict_answered}
+use Rattle.ks_engine.proofs.Explanations.{explanation_judged}
 use Rattle.ks_engine.proofs.Beginnings.{one_plan}
 
 -- ---- a name among rising ones
@@ -175,9 +141,9 @@ old_fits (Some b) auto is = fits (auto_refusal b) is
     fits None is = subst (λ (a : OldAuto). a.generation < 2 ^ 64) (ok_ok _ auto is) (small_generation b)
     fits (Some e) is = absurd cc
 
-behind : (files after : Files) (k d : List ℕ) (impact : Impact) (report : Report) → IsImpactOf files k d impact → IsSynced files after k d report
-    → IsBehind files after impact.report
-behind files after k d impact report told synced =
+is_after : (files after : Files) (k d : List ℕ) (impact : Impact) (report : Report) → IsImpactOf files k d impact → IsSynced files after k d report
+    → IsAfter files after impact.report
+is_after files after k d impact report told synced =
     let plan = synced.plan in
     let same : told.1.plan ≡ plan = ok_ok _ _ (one_plan files k d (Ok told.1.plan) (Ok plan) told.1.planned synced.planned) in
     let stands = plan_stands files k d plan synced.planned in
@@ -202,18 +168,30 @@ behind files after k d impact report told synced =
       commands = command_kept files after plan report.touched.items report.touched.items synced.changed synced.done.leaves;
     }
 
--- what is answered over all that stands so is answered, and judged, over each tree that it leaves
-abbrev pub AnswersOver : Files → Impact → List ℕ → Result Verdict EngineError → Type 0
-AnswersOver files impact o answer = (after : Files) → IsBehind files after impact.report → GaveUp answer ⊎ IsAnswer after (asked after o) answer
+-- ---- what a question is answered
 
-pub answers_behind : (files : Files) (k d o : List ℕ) (impact : Impact) (answer : Result Verdict EngineError) → AnswersOver files impact o answer
-    → IsImpactOf files k d impact → AnswersBehind files k d o answer
-answers_behind files k d o impact answer said told = λ after report synced. said after (behind files after k d impact report told synced)
+-- What is answered over all that stands so is answered, and judged, over each tree that it leaves.
+after_sync : (files : Files) (k d o : List ℕ) (impact : Impact) (answer : Result Verdict EngineError)
+    → ((after : Files) → IsAfter files after impact.report → GaveUp answer ⊎ IsAnswer after (asked after o) answer) → IsImpactOf files k d impact
+    → IsAnswerAfter files k d o answer
+after_sync files k d o impact answer said told = record {
+  by_files = λ after report synced. said after (is_after files after k d impact report told synced);
+  recorded = λ after report synced h r shows last.
+      let plan = synced.plan in
+      stale_judged after (Synced plan.title plan.config h) o r answer (said after (is_after files after k d impact report told synced))
+      (synced_shows files after h plan report.touched.items report.touched.items shows (plan_facts files h k d plan shows synced.planned) synced.changed
+      synced.done.leaves refl synced.done.header synced.done.auto) last;
+}
 
-pub judges_behind : (files : Files) (k d o : List ℕ) (impact : Impact) (answer : Result Verdict EngineError) → AnswersOver files impact o answer
-    → IsImpactOf files k d impact → JudgesBehind files k d o answer
-judges_behind files k d o impact answer said told = λ after report synced h r shows last.
-    let plan = synced.plan in
-    stale_judged after (Synced plan.title plan.config h) o r answer (said after (behind files after k d impact report told synced))
-    (synced_shows files after h plan report.touched.items report.touched.items shows (plan_facts files h k d plan shows synced.planned) synced.changed
-    synced.done.leaves refl synced.done.header synced.done.auto) last
+pub answers_to : (q : Question) (files : Files) (o : List ℕ) (answer : Result Explanation EngineError)
+    → ((after : Files) → IsSeen q files after → GaveUp answer ⊎ IsExplained (limit_of q) after o answer) → IsAnswerTo q files o answer
+answers_to Stale files o answer said =
+    let told = told_answered files o answer (said files refl) in
+    record { by_files = told; recorded = λ h r shows last. stale_judged files h o r _ told shows last }
+answers_to Why files o answer said = record {
+  by_files = said files refl;
+  verdict = verdict_answered files o answer (said files refl);
+  recorded = λ h r shows last. explanation_judged files h o r answer (said files refl) shows last;
+}
+answers_to (After impact) files o answer said = λ k d told.
+    after_sync files k d o impact.now _ (λ after seen. told_answered after o answer (said after seen)) told

@@ -1,16 +1,5 @@
 -- Which headers a fresh object may meet.
-use Rattle.std.proofs.Common.{◌≡◌, ⊎_elim, ℕ, List, Some, Bool, true, false, ◌&&◌, ◌||◌, sym, ◌∙◌, ap, refl, true≢false, subst}
-use Rattle.std.specs.FinMap.{get}
-use Rattle.std.proofs.lemmas.Bool.{or_parts, cond-true, cond-false, false_from_ne_true}
-use Rattle.ks_output.specs.Header.{header_text}
-use Rattle.ks_output.specs.Definitions.{definitions}
-use Rattle.ks_output.specs.OldConfig.{texts_of, Texts}
-use Rattle.ks_symbols.specs.Names.{is_in}
-use Rattle.ks_compare.specs.Changes.{differs}
-use Rattle.ks_symbols.specs.Configuration.{Configuration}
-use Rattle.ks_engine.specs.History.{History, Begun, Synced, Broken, Recorded, LastRecord, before, last_record}
-use Rattle.ks_engine.specs.Staleness.{names_of, found, renewed_since_sync, suspect_since}
-use Rattle.ks_engine.specs.Legal.{AreAllRenewed, MayBeHeader, IsSource, IsHistory}
+use Rattle.ks_engine.proofs.Prelude.{◌≡◌, ⊎_elim, ℕ, List, Some, Bool, true, false, ◌&&◌, ◌||◌, sym, ◌∙◌, ap, refl, true≢false, subst, get, or_parts, cond-true, cond-false, false_from_ne_true, header_text, definitions, texts_of, Texts, is_in, differs, Configuration, History, Begun, Synced, Broken, Recorded, LastRecord, before, last_record, names_of, found, renewed_since_sync, suspect_since, AreAllRenewed, MayBeHeader, IsSource, IsHistory}
 use Rattle.ks_engine.proofs.Heart.{record_cases}
 use Rattle.ks_engine.proofs.LowerLaws.{alike, unchanged}
 

@@ -1,12 +1,5 @@
 -- What stamps and generations say of a history.
-use Rattle.std.proofs.Common.{◌≡◌, ◌⊎◌, inl, inr, ⊎_elim, ℕ, ◌+◌, ◌<◌, ◌≤◌, List, Option, Some, Bool, true, false, ◌&&◌, ◌||◌, cond, nat_lt, sym, ◌∙◌, ap, refl, subst, arith, bytes_eq}
-use Rattle.std.proofs.lemmas.Bool.{lt-ltb, le-ltb, cond-true, cond-false}
-use Rattle.ks_symbols.specs.Names.{is_in}
-use Rattle.ks_compare.specs.Changes.{differs}
-use Rattle.ks_engine.specs.History.{History, Begun, Synced, Broken, Recorded, LastRecord, before, done, WasSynced, last_record, NoneBroken}
-use Rattle.ks_engine.specs.Staleness.{names_of, found, renewed_since_sync, changed_since, suspect_since}
-use Rattle.ks_engine.specs.Legal.{IsHistory}
-use Rattle.ks_engine.specs.Shows.{stamp}
+use Rattle.ks_engine.proofs.Prelude.{◌≡◌, ◌⊎◌, inl, inr, ⊎_elim, ℕ, ◌+◌, ◌<◌, ◌≤◌, List, Option, Some, Bool, true, false, ◌&&◌, ◌||◌, cond, nat_lt, sym, ◌∙◌, ap, refl, subst, arith, bytes_eq, lt-ltb, le-ltb, cond-true, cond-false, is_in, differs, History, Begun, Synced, Broken, Recorded, LastRecord, before, done, WasSynced, last_record, NoneBroken, names_of, found, renewed_since_sync, changed_since, suspect_since, IsHistory, stamp}
 
 cond_le : (b : Bool) (m n k : ℕ) → m ≤ k → n ≤ k → cond b m n ≤ k
 cond_le true m n k p q = p
@@ -22,7 +15,7 @@ or_raised : (b t : Bool) (d s : ℕ) → t ≡ nat_lt d s → (b || t) ≡ nat_l
 or_raised true t d s e = sym (lt-ltb d (d + 1) (omega arith))
 or_raised false t d s e = e
 
--- Behind a completed synchronisation a stamp is above the generation if an event since touched it.
+-- After a completed synchronisation a stamp is above the generation if an event since touched it.
 pub renewed_since_sync-lt : (h : History) (x : List ℕ) → IsHistory h → WasSynced h → renewed_since_sync h x ≡ nat_lt (done h) (stamp h x)
 renewed_since_sync-lt (Begun texts generation stamps) x is some = absurd some
 renewed_since_sync-lt (Synced t config past) x is some =
@@ -107,7 +100,7 @@ synced_or_not (Synced t config past) = inl tt
 synced_or_not (Broken t config renewed past) = synced_or_not past
 synced_or_not (Recorded o command names header past) = synced_or_not past
 
--- a record stands behind a completed synchronisation
+-- a record stands after a completed synchronisation
 pub recorded_synced : (h : History) (o : List ℕ) (r : LastRecord) → IsHistory h → last_record h o ≡ Some r → WasSynced r.past × WasSynced h
 recorded_synced (Begun texts generation stamps) o r is last = absurd cc
 recorded_synced (Synced t config past) o r is last = ((recorded_synced past o r is.0 last).0, tt)

@@ -1,24 +1,7 @@
 -- What is kept of a tree: what a look-up finds holds of the files, and what is added does.
-use Rattle.std.proofs.Common.{◌≡◌, Ok, arith, get_or, length, length-append, append-nil, ap₂, subst₂, ◌≢◌, ◌⊎◌, inl, inr, true≢false, is_some, cond, Option, None, ℕ, zero, suc, slice_get, true, false, List, [], ◌∷◌, ◌++◌, Some, refl, ap, sym, ◌∙◌, subst, if◌then◌else◌, bytes_eq}
-use Rattle.std.specs.Prelude.{IfSome}
-use Rattle.std.specs.List.{All}
-use Rattle.std.proofs.lemmas.List.Elements.{All-nil, All-cons, All-head, All-tail}
-use Rattle.std.proofs.lemmas.Slice.Eq.{bytes_eq-Decides}
-use Rattle.std.specs.Prelude.{Vec}
-use Rattle.std.specs.Borrow.{Bor}
-use Rattle.std.specs.Map.{lookup}
-use Rattle.std.specs.Option.{option_map, option_copied}
-use Rattle.indexmap.specs.IndexMap.{insert_entry}
-use Rattle.std.proofs.lemmas.List.{get_or_append_left}
-use Rattle.std.proofs.Math.Seq.{get_or-append_seam}
-use Rattle.ks_fixdep.specs.SourceScan.{found_of}
-use Rattle.ks_tree.specs.Files.{Files, content, SameButBoth}
-use Rattle.ks_tree.specs.Paths.{auto_path, stamp_path, command_path, command_temporary, AutoConf, Stamp, CommandFile, CommandTemporary}
-use Rattle.ks_tree.specs.Stamps.{HasNumber}
-use Rattle.ks_engine.specs.declared.memos.Memo.{Memo}
-use Rattle.ks_engine.specs.LastSync.{last_generation}
-use Rattle.ks_engine.specs.Memos.{pairs_of, value_of, with_pair, Grows, IsStamp, AreStamps, IsKept, AreSources, IsNoSource, IsMemoOf}
-use Rattle.ks_engine.specs.Recording.{scanned}
+use Rattle.ks_engine.proofs.Prelude.{◌≡◌, Ok, arith, get_or, length, length-append, append-nil, ap₂, subst₂, ◌≢◌, ◌⊎◌, inl, inr, true≢false, is_some, cond, ℕ, zero, suc, slice_get, true, false, List, [], ◌∷◌, ◌++◌, Some, refl, ap, sym, ◌∙◌, subst, if◌then◌else◌, bytes_eq, IfSome, All, All-nil, All-cons, All-head, All-tail, bytes_eq-Decides, lookup, insert_entry, get_or_append_left, get_or-append_seam, found_of, Files, content, SameButBoth, auto_path, stamp_path, command_path, command_temporary, AutoConf, Stamp, CommandFile, CommandTemporary, HasNumber, Memo, last_generation, pairs_of, value_of, with_pair, Grows, IsStamp, AreStamps, IsKept, AreSources, IsNoSource, IsMemoOf, scanned}
+use Rattle.std.specs.Prelude.{string_bytes, vec_items}
+use Rattle.std.specs.Option.{option_map}
 use Rattle.ks_engine.proofs.LowerLaws.{apart}
 
 module _ {V : Type 0} (P : List ℕ → V → Type 0) where
@@ -52,29 +35,25 @@ module _ {V : Type 0} (P : List ℕ → V → Type 0) where
 
 -- ---- a map by the bytes of its keys
 
-module _ {Y V : Type 0} where
-  pub value-pairs : (x : List ℕ) (es : List (Vec ℕ Y × V)) → value_of x (pairs_of es) ≡ lookup (λ k. bytes_eq x k.items) es
+module _ {K V : Type 0} (bytes : K → List ℕ) where
+  pub value-pairs : (x : List ℕ) (es : List (K × V)) → value_of x (pairs_of bytes es) ≡ lookup (λ k. bytes_eq x (bytes k)) es
   value-pairs x [] = refl
-  value-pairs x (e ∷ es) = ap (cond (bytes_eq x e.0.items) (Some e.1)) (value-pairs x es)
+  value-pairs x (e ∷ es) = ap (cond (bytes_eq x (bytes e.0)) (Some e.1)) (value-pairs x es)
 
-  pub pair-at : (i : ℕ) (es : List (Vec ℕ Y × V)) → slice_get (pairs_of es) i ≡ option_map (λ e. (e.0.items, e.1)) (slice_get es i)
+  pub pair-at : (i : ℕ) (es : List (K × V)) → slice_get (pairs_of bytes es) i ≡ option_map (λ e. (bytes e.0, e.1)) (slice_get es i)
   pair-at i [] = refl
   pair-at zero (e ∷ es) = refl
   pair-at (suc i) (e ∷ es) = pair-at i es
 
-  pub pairs-insert : (es : List (Vec ℕ Y × V)) (k : Vec ℕ Y) (v : V) → pairs_of (insert_entry (λ a b. bytes_eq a.items b.items) es k v) ≡ with_pair k.items v (pairs_of es)
+  pub pairs-insert : (es : List (K × V)) (k : K) (v : V)
+      → pairs_of bytes (insert_entry (λ a b. bytes_eq (bytes a) (bytes b)) es k v) ≡ with_pair (bytes k) v (pairs_of bytes es)
   pairs-insert [] k v = refl
   pairs-insert (e ∷ es) k v =
-      elim (bytes_eq k.items e.0.items) as (λ b. pairs_of (if b then (e.0, v) ∷ es else e ∷ insert_entry (λ a b. bytes_eq a.items b.items) es k v)
-      ≡ (if b then (e.0.items, v) ∷ pairs_of es else (e.0.items, e.1) ∷ with_pair k.items v (pairs_of es))) [
+      elim (bytes_eq (bytes k) (bytes e.0)) as (λ b. pairs_of bytes (if b then (e.0, v) ∷ es else e ∷ insert_entry (λ a b. bytes_eq (bytes a) (bytes b)) es k v)
+      ≡ (if b then (bytes e.0, v) ∷ pairs_of bytes es else (bytes e.0, e.1) ∷ with_pair (bytes k) v (pairs_of bytes es))) [
         | true ↦ refl
-        | false ↦ ap (λ l. (e.0.items, e.1) ∷ l) (pairs-insert es k v)
+        | false ↦ ap (λ l. (bytes e.0, e.1) ∷ l) (pairs-insert es k v)
       ]
-
--- what is lent of a value is kept
-pub lent_kept : {V : Type 0} (o : Option (Bor V)) (m : Option V) (Q : Bor V → Type 0) → option_copied o ≡ m → ((s : Bor V) → m ≡ Some s.now → Q s) → IfSome o Q
-lent_kept None m Q is h = tt
-lent_kept (Some s) m Q is h = h s (sym is)
 
 -- ---- what a record writes is nothing that is kept
 
@@ -107,8 +86,8 @@ pub memo_kept : (old new : Files) (o : List ℕ) (memo : Memo) → SameButBoth (
 memo_kept old new o memo others no_temporary no_path is = record {
   generation = λ g kept. ap last_generation (others auto_path (apart AutoConf (CommandTemporary o) tt tt (λ e. cc))
       (apart AutoConf (CommandFile o) tt tt (λ e. cc))) ∙ is.generation g kept;
-  stamps = stamps_kept old new o (pairs_of memo.stamps.entries) others is.stamps;
-  sources = sources_kept old new (found_of memo.found.scan) o (pairs_of memo.sources.entries) others no_temporary no_path is.sources;
+  stamps = stamps_kept old new o (pairs_of string_bytes memo.stamps.entries) others is.stamps;
+  sources = sources_kept old new (found_of memo.found.scan) o (pairs_of vec_items memo.sources.entries) others no_temporary no_path is.sources;
 }
 
 -- ---- a path that a map has not
@@ -121,8 +100,8 @@ not_kept x (e ∷ es) none = (elim (bytes_eq x e.0) as (λ b. bytes_eq x e.0 ≡
       | false ↦ λ f s. All-cons (λ s. s.0 ≢ x) e es (λ same. true≢false (sym ((bytes_eq-Decides x e.0).1 (sym same)) ∙ f)) (not_kept x es s)
     ]) refl none
 
-pub no_source : (x : List ℕ) (memo : Memo) → is_some (value_of x (pairs_of memo.sources.entries)) ≡ false → IsNoSource x memo
-no_source x memo none = not_kept x (pairs_of memo.sources.entries) none
+pub no_source : (x : List ℕ) (memo : Memo) → is_some (value_of x (pairs_of vec_items memo.sources.entries)) ≡ false → IsNoSource x memo
+no_source x memo none = not_kept x (pairs_of vec_items memo.sources.entries) none
 
 -- ---- more sources
 
@@ -148,13 +127,13 @@ last_kept files found path names all place at is said = (
 )
 
 -- what is kept is as before, and there may be more sources
-pub memo_grown : (files : Files) (old new : Memo) → new.generation ≡ old.generation → pairs_of new.stamps.entries ≡ pairs_of old.stamps.entries
-    → pairs_of new.sources.entries ≡ pairs_of old.sources.entries → Grows (found_of old.found.scan) (found_of new.found.scan) → IsMemoOf files old
+pub memo_grown : (files : Files) (old new : Memo) → new.generation ≡ old.generation → pairs_of string_bytes new.stamps.entries ≡ pairs_of string_bytes old.stamps.entries
+    → pairs_of vec_items new.sources.entries ≡ pairs_of vec_items old.sources.entries → Grows (found_of old.found.scan) (found_of new.found.scan) → IsMemoOf files old
     → IsMemoOf files new
 memo_grown files old new generation stamps sources grows is = record {
   generation = λ g kept. is.generation g (sym generation ∙ kept);
   stamps = subst (AreStamps files) (sym stamps) is.stamps;
-  sources = subst₂ (AreSources files) (sym grows.1) (sym sources) (sources_longer files (found_of old.found.scan) grows.0 (pairs_of old.sources.entries) is.sources);
+  sources = subst₂ (AreSources files) (sym grows.1) (sym sources) (sources_longer files (found_of old.found.scan) grows.0 (pairs_of vec_items old.sources.entries) is.sources);
 }
 
 pub grows_none : (old new : List (List (List ℕ))) → new ≡ old → Grows old new

@@ -1,3 +1,4 @@
+pub mod Prelude
 pub mod LowerLaws
 pub mod Heart
 pub mod Causes
@@ -8,13 +9,18 @@ pub mod Keeping
 pub mod Writes
 pub mod Steps
 pub mod Following
+pub mod Listing
 pub mod Asking
 pub mod Explanations
 pub mod Foreseeing
+pub mod Tallying
 pub mod Pieces
 pub mod Scanning
 pub mod Drafting
 pub mod RecordSteps
+pub mod DepfileLemmas
+pub mod Stamping
 pub mod Running
 pub mod FileRunning
 pub mod Beginnings
+pub mod NotNumbered

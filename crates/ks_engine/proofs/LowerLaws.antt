@@ -1,26 +1,6 @@
 -- The laws of the layers below: all that the proofs here use of them beside the contracts of their calls.
-use Rattle.std.proofs.Common.{◌≡◌, ◌≢◌, ℕ, ◌≤◌, List, [], Option, Some, length}
-use Rattle.ks_output.specs.Laws.{TextsReadBack, GenerationReadsBack, GenerationFits, IsAccepted}
-use Rattle.ks_output.specs.HeaderLaws.{AlikeIsDefinedAlike}
-use Rattle.ks_output.proofs.ReadBack.{texts_read_back, generation_reads_back, is_accepted}
-use Rattle.ks_output.proofs.SmallNumbers.{generation_fits}
-use Rattle.ks_compare.specs.Laws.{ChangesAreLegal, UnchangedIsKept}
-use Rattle.ks_compare.proofs.ChangeLemmas.{changes_are_legal, unchanged_is_kept}
-use Rattle.ks_output.proofs.Definitions.{alike_is_defined_alike}
-use Rattle.ks_fixdep.specs.CommandLines.{lines}
-use Rattle.ks_fixdep.specs.declared.dependency_file.Role.{Role}
-use Rattle.ks_fixdep.specs.CommandFile.{command_text}
-use Rattle.ks_fixdep.specs.CommandLaws.{ReadFits, ReadsBack}
+use Rattle.ks_engine.proofs.Prelude.{◌≡◌, ◌≢◌, ℕ, ◌≤◌, List, [], Option, Some, length, TextsReadBack, GenerationReadsBack, GenerationFits, IsAccepted, AlikeIsDefinedAlike, texts_read_back, generation_reads_back, is_accepted, generation_fits, ChangesAreLegal, UnchangedIsKept, changes_are_legal, unchanged_is_kept, alike_is_defined_alike, lines, Role, command_text, ReadFits, ReadsBack, deps_after, config_names, lines-fit, lines-read, written-reads, record_names, reads_back, Place, CommandFile, path_of, IsLegalPlace, PathsNeverMeet, command_path, HasNumber, paths_never_meet, number_unique, number_short}
 use Rattle.ks_fixdep.specs.FoundNames.{names_of}
-use Rattle.ks_fixdep.specs.Record.{deps_after, config_names}
-use Rattle.ks_fixdep.proofs.CommandFitLemmas.{lines-fit, lines-read}
-use Rattle.ks_fixdep.proofs.CommandTextLemmas.{written-reads}
-use Rattle.ks_fixdep.proofs.DepsLemmas.{record_names}
-use Rattle.ks_symbols.proofs.Digits.{reads_back}
-use Rattle.ks_tree.specs.Paths.{Place, CommandFile, path_of, IsLegalPlace, PathsNeverMeet, command_path}
-use Rattle.ks_tree.specs.Stamps.{HasNumber}
-use Rattle.ks_tree.proofs.Places.{paths_never_meet}
-use Rattle.ks_tree.proofs.StampLemmas.{number_unique, number_short}
 
 -- an auto.conf reads back: it is accepted, with its texts and its generation
 pub texts_back : TextsReadBack

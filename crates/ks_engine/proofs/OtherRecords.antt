@@ -1,14 +1,6 @@
 -- A history without the records of other objects says the same of an object.
-use Rattle.std.proofs.Common.{◌≡◌, inl, inr, List, ℕ, ◌+◌, ◌<◌, Option, Some, Bool, true, false, ◌&&◌, ◌||◌, cond, sym, ◌∙◌, ap, ap₂, refl, subst}
+use Rattle.ks_engine.proofs.Prelude.{◌≡◌, inl, inr, List, ℕ, ◌+◌, ◌<◌, Option, Some, Bool, true, false, ◌&&◌, ◌||◌, cond, sym, ◌∙◌, ap, ap₂, refl, subst, cond-true, is_in, differs, Texts, History, Begun, Synced, Broken, Recorded, LastRecord, before, done, WasSynced, last_record, names_of, found, changed_since, renewed_since_sync, suspect_since, IsHistory, MayBeHeader, AreAllRenewed, own_history, OtherRecordsDoNotMatter}
 use Rattle.std.specs.Prelude.{bytes_eq, find}
-use Rattle.std.proofs.lemmas.Bool.{cond-true}
-use Rattle.ks_symbols.specs.Names.{is_in}
-use Rattle.ks_compare.specs.Changes.{differs}
-use Rattle.ks_output.specs.OldConfig.{Texts}
-use Rattle.ks_engine.specs.History.{History, Begun, Synced, Broken, Recorded, LastRecord, before, done, WasSynced, last_record}
-use Rattle.ks_engine.specs.Staleness.{names_of, found, changed_since, renewed_since_sync, suspect_since}
-use Rattle.ks_engine.specs.Legal.{IsHistory, MayBeHeader, AreAllRenewed}
-use Rattle.ks_engine.specs.OtherRecords.{own_history, OtherRecordsDoNotMatter}
 
 -- what is the same of two histories is the same whichever of them is chosen
 of_either : {A : Type 0} (f : History → A) (b : Bool) (g h : History) (a : A) → f g ≡ a → f h ≡ a → f (cond b g h) ≡ a
@@ -56,18 +48,18 @@ own_legal (Recorded object command names header past) o is =
     (own_legal past o is.0, was_synced past o is.1, may_be_header past o header is.2)
     (own_legal past o is.0)
 
--- What is said of the object behind a record: by the record where it is its own, and else by the history before.
-behind_record : {A : Type 0} (f : History → A) (b : Bool) (g h : History) (own earlier : A)
+-- What is said of the object after a record: by the record where it is its own, and else by the history before.
+after_record : {A : Type 0} (f : History → A) (b : Bool) (g h : History) (own earlier : A)
     → (b ≡ true → f g ≡ own) → (b ≡ false → f h ≡ earlier) → f (cond b g h) ≡ cond b own earlier
-behind_record f true g h own earlier first second = first refl
-behind_record f false g h own earlier first second = second refl
+after_record f true g h own earlier first second = first refl
+after_record f false g h own earlier first second = second refl
 
 same_found : (h : History) (o : List ℕ) → found (own_history h o) o ≡ found h o
 same_found (Begun texts generation stamps) o = refl
 same_found (Synced title config past) o = same_found past o
 same_found (Broken title config renewed past) o = same_found past o
 same_found (Recorded object command names header past) o =
-    behind_record (λ h. found h o) (bytes_eq object o) _ _ names (found past o) (λ own. ap names_of (cond-true _ _ _ own)) (λ other. same_found past o)
+    after_record (λ h. found h o) (bytes_eq object o) _ _ names (found past o) (λ own. ap names_of (cond-true _ _ _ own)) (λ other. same_found past o)
     ∙ by_names (bytes_eq object o) _ (last_record past o)
   where
     by_names : (b : Bool) (r : LastRecord) (last : Option LastRecord) → cond b r.names (names_of last) ≡ names_of (cond b (Some r) last)
@@ -87,7 +79,7 @@ same_changed (Synced title config past) o x =
     ap₂ (λ a b. a || b) (ap₂ (λ names (t : Texts). is_in names x && differs t config x) (same_found past o) (same_before past o)) (same_changed past o x)
 same_changed (Broken title config renewed past) o x = same_changed past o x
 same_changed (Recorded object command names header past) o x =
-    behind_record (λ h. changed_since h o x) (bytes_eq object o) _ _ false (changed_since past o x) (λ own. cond-true _ _ _ own)
+    after_record (λ h. changed_since h o x) (bytes_eq object o) _ _ false (changed_since past o x) (λ own. cond-true _ _ _ own)
     (λ other. same_changed past o x)
 
 same_suspect : (h : History) (o x : List ℕ) → suspect_since (own_history h o) o x ≡ suspect_since h o x
@@ -97,7 +89,7 @@ same_suspect (Synced title config past) o x =
 same_suspect (Broken title config renewed past) o x =
     ap₂ (λ a b. a || b) (ap (λ names. is_in names x && is_in renewed x) (same_found past o)) (same_suspect past o x)
 same_suspect (Recorded object command names header past) o x =
-    behind_record (λ h. suspect_since h o x) (bytes_eq object o) _ _ (is_in names x && renewed_since_sync past x) (suspect_since past o x)
+    after_record (λ h. suspect_since h o x) (bytes_eq object o) _ _ (is_in names x && renewed_since_sync past x) (suspect_since past o x)
     (λ own. cond-true _ _ _ own ∙ ap (λ b. is_in names x && b) (same_renewed past o x)) (λ other. same_suspect past o x)
 
 pub others_do_not_matter : OtherRecordsDoNotMatter

@@ -1,12 +1,6 @@
 -- A source read in pieces.
-use Rattle.std.proofs.Common.{◌≡◌, ℕ, ◌+◌, ◌-◌, ◌≤◌, ◌<◌, List, ◌++◌, Option, Some, Ok, Err, sym, ap, ◌∙◌, length, take, drop, min, arith}
-use Rattle.std.proofs.lemmas.Bool.{lt-ltb, le-ltb, cond-true, cond-false}
-use Rattle.std.proofs.lemmas.List.{length-take, length-drop, take_all, take-append-drop, take-take, drop-take}
-use Rattle.std.proofs.Math.Seq.{take-append_seam}
-use Rattle.ks_tree.specs.Files.{IsPieceRead, piece}
-use Rattle.ks_fixdep.specs.FoundNames.{names_in}
-use Rattle.ks_engine.specs.Recording.{scanned}
-use Rattle.ks_engine.specs.declared.error.EngineError.TheVariants.{TooLarge}
+use Rattle.ks_engine.proofs.Prelude.{◌≡◌, ℕ, ◌+◌, ◌-◌, ◌≤◌, ◌<◌, List, ◌++◌, Option, Some, Ok, Err, sym, ap, ◌∙◌, length, take, drop, min, arith, lt-ltb, le-ltb, cond-true, cond-false, length-take, length-drop, take-append-drop, take-take, drop-take, take-append_seam, IsPieceRead, piece, names_in, scanned, TooLarge}
+use Rattle.std.proofs.lemmas.List.{take_all}
 
 take_further : (n m : ℕ) (xs : List ℕ) → take (n + m) xs ≡ take n xs ++ take m (drop n xs)
 take_further n m xs =
@@ -33,9 +27,9 @@ scanned_large path b old new offset n read large small =
     let count = count_is b old new offset n read in
     cond-true _ _ _ (lt-ltb 67108864 (length b) (omega arith))
 
--- The next piece stands behind what has been read.
-pub piece_behind : (b old new : List ℕ) (offset n : ℕ) → IsPieceRead b offset old new n → take offset b ++ take n new ≡ take (offset + n) b
-piece_behind b old new offset n read =
+-- The next piece stands after what has been read.
+pub piece_after : (b old new : List ℕ) (offset n : ℕ) → IsPieceRead b offset old new n → take offset b ++ take n new ≡ take (offset + n) b
+piece_after b old new offset n read =
     let p = piece b offset (length old) in
     let count = read.is ∙ length-take (length old) (drop offset b) in
     let lead : take n new ≡ p = ap (take n) read.bytes ∙ ap (λ m. take m (p ++ drop n old)) read.is ∙ take-append_seam p (drop n old) in

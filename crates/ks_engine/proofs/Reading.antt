@@ -1,31 +1,9 @@
 -- What the calls of the layers below give for the definitions of auto.conf and of the two texts.
-use Rattle.std.proofs.Common.{◌≡◌, ◌⊎◌, inl, inr, ℕ, ◌+◌, ◌<◌, ◌≤◌, List, Option, Some, None, Result, Ok, Err, sym, ◌∙◌, ap, ap₂, refl, subst, length, nat_eq, if◌then◌else◌}
-use Rattle.std.proofs.lemmas.Bool.{lt-ltb, le-ltb, ne_eqb, cond-true, cond-false}
-use Rattle.std.specs.FinMap.{get, empty}
-use Rattle.ks_symbols.specs.declared.kinds.Kind.{Kind}
-use Rattle.ks_symbols.specs.Configuration.{IsConfiguration, Configuration}
-use Rattle.ks_symbols.specs.Lines.{max_bytes, lines}
-use Rattle.ks_symbols.specs.Kconfig.{declared, title_of, kconfig_refusal}
-use Rattle.ks_symbols.specs.DotConfig.{setting, unknown_count, dotconfig_refusal}
-use Rattle.ks_symbols.specs.Refusals.{or_else, IsRefusal}
-use Rattle.ks_output.specs.declared.auto_conf.AutoError.{AutoError}
+use Rattle.ks_engine.proofs.Prelude.{◌≡◌, ◌⊎◌, inl, inr, ℕ, ◌+◌, ◌<◌, ◌≤◌, List, Option, Some, None, Result, Ok, Err, sym, ◌∙◌, ap, ap₂, refl, subst, length, nat_eq, if◌then◌else◌, lt-ltb, le-ltb, ne_eqb, cond-true, cond-false, get, empty, Kind, IsConfiguration, Configuration, max_bytes, declared, title_of, kconfig_refusal, setting, unknown_count, dotconfig_refusal, or_else, IsRefusal, AutoError, auto_text, auto_map, auto_generation, auto_refusal, OldTexts, HasNames, Files, content, IsTooLarge, auto_path, TreeFault, EngineError, NeverSynced, of_tree, of_auto, IsGivenUp, and_then, AreChanges, IsSource, AreChanged, OldAuto, read_unless, old_auto, synced_at, last_generation, Sources, Plan, plan_over, IsSyncPlan, old_of}
+use Rattle.ks_symbols.specs.Lines.{lines}
 use Rattle.ks_output.specs.declared.auto_conf.AutoError.TheVariants as auto
-use Rattle.ks_output.specs.AutoText.{auto_text}
-use Rattle.ks_output.specs.AutoConf.{auto_map, auto_generation, auto_refusal}
-use Rattle.ks_output.specs.OldConfig.{OldTexts, HasNames}
-use Rattle.ks_tree.specs.Files.{Files, content, IsTooLarge}
-use Rattle.ks_tree.specs.Paths.{auto_path}
-use Rattle.ks_tree.specs.declared.fault.TreeFault.{TreeFault}
 use Rattle.ks_tree.specs.declared.fault.TreeFault.TheVariants as fault
-use Rattle.ks_engine.specs.declared.error.EngineError.{EngineError}
-use Rattle.ks_engine.specs.declared.error.EngineError.TheVariants.{NeverSynced}
-use Rattle.ks_engine.specs.Refusals.{of_tree, of_auto, IsGivenUp, and_then}
-use Rattle.ks_compare.specs.Changes.{AreChanges}
-use Rattle.ks_engine.specs.Legal.{IsSource}
-use Rattle.ks_engine.specs.Synchronised.{AreChanged}
-use Rattle.ks_engine.specs.LastSync.{OldAuto, read_unless, old_auto, synced_at, last_generation}
-use Rattle.ks_engine.specs.SyncPlan.{Sources, AreSources, Plan, plan_over, IsSyncPlan}
-use Rattle.ks_engine.specs.Views.{old_of}
+use Rattle.ks_engine.specs.SyncPlan.{AreSources}
 use Rattle.ks_engine.proofs.LowerLaws.{legal_changes}
 
 -- ---- steps that may refuse

@@ -1,18 +1,9 @@
 -- What the last history of a run says of each of its steps.
-use Rattle.std.proofs.Common.{◌≡◌, ◌⊎◌, ℕ, List, [], ◌∷◌, ap, sym, refl, subst, inl, inr, ⊎_elim, Result, Ok, map}
-use Rattle.std.specs.List.{All}
-use Rattle.std.proofs.lemmas.List.Elements.{All-nil, All-cons, All-head, All-tail}
-use Rattle.ks_engine.specs.Actions.{Action, Sync, Record, Stale}
-use Rattle.ks_engine.specs.declared.commands.Reply.{Reply}
-use Rattle.ks_engine.specs.declared.commands.Reply.TheVariants.{Synced, Recorded, Verdict, Refused}
-use Rattle.ks_engine.specs.declared.error.EngineError.{EngineError}
+use Rattle.ks_engine.proofs.Prelude.{◌≡◌, ◌⊎◌, ℕ, List, [], ◌∷◌, ap, sym, refl, subst, inl, inr, ⊎_elim, Result, Ok, map, All, All-nil, All-cons, All-head, All-tail, Action, Sync, Record, Reply, Refused, EngineError, GaveUp, Configuration, History, NoneBroken, TreeState, IsShown, Step, Follows, Leaves, Leads, Run, IsSuspectVerdict, IsChangedVerdict, IsSafeVerdict, IsGivenUpSync}
+use Rattle.ks_engine.specs.Actions.{Stale}
+use Rattle.ks_engine.specs.declared.commands.Reply.TheVariants.{Synced, Recorded, Verdict}
 use Rattle.ks_engine.specs.declared.staleness.Verdict.{Verdict as VerdictValue}
-use Rattle.ks_engine.specs.Refusals.{GaveUp}
-use Rattle.ks_symbols.specs.Configuration.{Configuration}
-use Rattle.ks_engine.specs.History.{History, Synced as SyncedEvent, Broken as BrokenEvent, Recorded as RecordedEvent, NoneBroken}
-use Rattle.ks_engine.specs.Follows.{TreeState}
-use Rattle.ks_engine.specs.Runs.{IsShown, Step, Follows, Leaves, Leads, Run}
-use Rattle.ks_engine.specs.Verdicts.{IsSuspectVerdict, IsChangedVerdict, IsSafeVerdict, IsGivenUpSync}
+use Rattle.ks_engine.specs.History.{Synced as SyncedEvent, Broken as BrokenEvent, Recorded as RecordedEvent}
 
 -- a run, before anything is said of its verdicts
 pub record Trace (first : TreeState) (asked : List Action) (answered : List Reply) (last : TreeState) : Type 0 where

@@ -1,26 +1,15 @@
 -- Prerequisites scanned one after the other.
-use Rattle.std.proofs.Common.{◌≡◌, ◌<◌, Bool, true, nat_lt, get_or, length-append, subst, ap₂, ℕ, suc, ◌+◌, ◌≤◌, List, [], ◌∷◌, ◌++◌, Some, Result, Ok, Err, refl, sym, ap, ◌∙◌, length, drop, append_assoc, append-nil, arith, slice_get, drop-cons}
-use Rattle.std.specs.List.{list_all}
-use Rattle.std.proofs.lemmas.Bool.{and_from, and_parts, lt-ltb, ltb-true}
-use Rattle.std.proofs.lemmas.List.{drop_all, get_or_append_left, map-append}
-use Rattle.std.proofs.lemmas.List.Folds.{list_all-append}
-use Rattle.ks_fixdep.specs.SourceScan.{picked}
-use Rattle.ks_engine.specs.Memos.{Grows}
-use Rattle.std.proofs.lemmas.Option.{slice_get_within, get_or_from_slice_get}
-use Rattle.ks_fixdep.specs.declared.dependency_file.Role.{Role}
-use Rattle.ks_tree.specs.Files.{Files, content}
-use Rattle.ks_engine.specs.Recording.{scanned, scanned_all, followed}
-use Rattle.ks_engine.specs.declared.error.EngineError.{EngineError}
+use Rattle.ks_engine.proofs.Prelude.{◌≡◌, ◌<◌, Bool, true, nat_lt, get_or, length-append, subst, ap₂, ℕ, suc, ◌+◌, ◌≤◌, List, [], ◌∷◌, ◌++◌, Some, Result, Ok, Err, refl, sym, ap, ◌∙◌, length, drop, append_assoc, append-nil, arith, slice_get, drop-cons, list_all, and_from, and_parts, lt-ltb, ltb-true, drop_all, get_or_append_left, map-append, list_all-append, picked, Grows, slice_get_within, get_or_from_slice_get, Role, Files, content, scanned, scanned_all, followed, EngineError}
 
 -- the names found so far, and then those
-abbrev pub behind : List (List (List ℕ)) → Result (List (List (List ℕ))) EngineError → Result (List (List (List ℕ))) EngineError
-behind found (Ok more) = Ok (found ++ more)
-behind found (Err e) = Err e
+abbrev pub following : List (List (List ℕ)) → Result (List (List (List ℕ))) EngineError → Result (List (List (List ℕ))) EngineError
+following found (Ok more) = Ok (found ++ more)
+following found (Err e) = Err e
 
-behind_next : (found : List (List (List ℕ))) (x : List (List ℕ)) (rest : Result (List (List (List ℕ))) EngineError) → behind found (followed (Ok x) rest)
-    ≡ behind (found ++ x ∷ []) rest
-behind_next found x (Err e) = refl
-behind_next found x (Ok more) = ap (λ l. Ok l) (sym (append_assoc found (x ∷ []) more))
+after_next : (found : List (List (List ℕ))) (x : List (List ℕ)) (rest : Result (List (List (List ℕ))) EngineError) → following found (followed (Ok x) rest)
+    ≡ following (found ++ x ∷ []) rest
+after_next found x (Err e) = refl
+after_next found x (Ok more) = ap (λ l. Ok l) (sym (append_assoc found (x ∷ []) more))
 
 plus_one : (i : ℕ) → suc i ≡ i + 1
 plus_one i = omega arith
@@ -37,23 +26,23 @@ at_next files ps i p is = ap (scanned_all files) (drop_get ps i p is)
 pub scanned_next : (files : Files) (ps : List (List ℕ × Role)) (i : ℕ) (p : List ℕ × Role) (found : List (List (List ℕ))) (x : List (List ℕ))
     (whole : Result (List (List (List ℕ))) EngineError)
     → slice_get ps i ≡ Some p → scanned p.0 (content files p.0) ≡ Ok x
-    → whole ≡ behind found (scanned_all files (drop i ps)) → whole ≡ behind (found ++ x ∷ []) (scanned_all files (drop (i + 1) ps))
+    → whole ≡ following found (scanned_all files (drop i ps)) → whole ≡ following (found ++ x ∷ []) (scanned_all files (drop (i + 1) ps))
 scanned_next files ps i p found x whole is ok before =
-    before ∙ ap (behind found) (at_next files ps i p is ∙ ap (λ r. followed r (scanned_all files (drop (i + 1) ps))) ok)
-    ∙ behind_next found x (scanned_all files (drop (i + 1) ps))
+    before ∙ ap (following found) (at_next files ps i p is ∙ ap (λ r. followed r (scanned_all files (drop (i + 1) ps))) ok)
+    ∙ after_next found x (scanned_all files (drop (i + 1) ps))
 
 pub scanned_refused : (files : Files) (ps : List (List ℕ × Role)) (i : ℕ) (p : List ℕ × Role) (found : List (List (List ℕ))) (error : EngineError)
     (whole : Result (List (List (List ℕ))) EngineError)
     → slice_get ps i ≡ Some p → scanned p.0 (content files p.0) ≡ Err error
-    → whole ≡ behind found (scanned_all files (drop i ps)) → whole ≡ Err error
+    → whole ≡ following found (scanned_all files (drop i ps)) → whole ≡ Err error
 scanned_refused files ps i p found error whole is bad before =
-    before ∙ ap (behind found) (at_next files ps i p is ∙ ap (λ r. followed r (scanned_all files (drop (i + 1) ps))) bad)
+    before ∙ ap (following found) (at_next files ps i p is ∙ ap (λ r. followed r (scanned_all files (drop (i + 1) ps))) bad)
 
 pub scanned_end : (files : Files) (ps : List (List ℕ × Role)) (i : ℕ) (found : List (List (List ℕ))) (whole : Result (List (List (List ℕ))) EngineError)
-    → length ps ≤ i → whole ≡ behind found (scanned_all files (drop i ps)) → whole ≡ Ok found
+    → length ps ≤ i → whole ≡ following found (scanned_all files (drop i ps)) → whole ≡ Ok found
 unfolding scanned_all
 scanned_end files ps i found whole past before =
-    before ∙ ap (λ l. behind found (scanned_all files l)) (drop_all i ps past) ∙ ap (λ l. Ok l) (append-nil found)
+    before ∙ ap (λ l. following found (scanned_all files l)) (drop_all i ps past) ∙ ap (λ l. Ok l) (append-nil found)
 
 -- ---- the places of sources
 

@@ -1,27 +1,7 @@
 -- The files after each call show the history after it.
-use Rattle.std.proofs.Common.{◌≡◌, inl, inr, ⊎_elim, ℕ, ◌+◌, ◌<◌, ◌≤◌, ◌^◌, List, Option, Some, None, Result, Ok, Err, Bool, true, false, cond, nat_eq, nat_lt, sym, ◌∙◌, ap, refl, subst, subst₂, arith, length, true≢false, IsTrue, bytes_eq}
-use Rattle.std.proofs.lemmas.Bool.{ltb-false, eqb-false}
-use Rattle.std.proofs.lemmas.Slice.Eq.{bytes_eq-Decides}
+use Rattle.ks_engine.proofs.Prelude.{◌≡◌, inl, inr, ⊎_elim, ℕ, ◌+◌, ◌<◌, ◌≤◌, ◌^◌, List, Option, Some, None, Result, Ok, Err, Bool, true, false, cond, nat_eq, nat_lt, sym, ◌∙◌, ap, refl, subst, subst₂, arith, length, true≢false, IsTrue, bytes_eq, ltb-false, eqb-false, bytes_eq-Decides, max_bytes, is_name, is_in, header_path, auto_text, auto_map, auto_generation, header_text, differs, Files, content, SameButBoth, auto_path, stamp_path, command_path, command_temporary, Place, AutoConf, Stamp, CommandFile, AutoTemporary, HeaderTemporary, StampTemporary, CommandTemporary, path_of, IsLegalPlace, HasNumber, stamp_text, EngineError, TooLarge, GenerationFull, and_then, Texts, History, Begun, Synced, Broken, Recorded, LastRecord, before, done, WasSynced, last_record, IsSource, IsHistory, MayBeHeader, Shows, IsAuto, IsCommandFile, stamp, AreChanged, SyncLeaves, OldAuto, old_auto, Sources, Plan, plan_over, IsSyncPlan}
 use Rattle.std.specs.FinMap as map
-use Rattle.ks_symbols.specs.Lines.{max_bytes}
-use Rattle.ks_symbols.specs.Names.{is_name, is_in, header_path}
-use Rattle.ks_output.specs.AutoText.{auto_text}
-use Rattle.ks_output.specs.AutoConf.{auto_map, auto_generation}
-use Rattle.ks_output.specs.Header.{header_text}
-use Rattle.ks_compare.specs.Changes.{differs}
-use Rattle.ks_tree.specs.Files.{Files, content, SameButBoth}
-use Rattle.ks_tree.specs.Paths.{auto_path, stamp_path, command_path, command_temporary, Place, Header, AutoConf, Stamp, CommandFile, AutoTemporary, HeaderTemporary, StampTemporary, CommandTemporary, path_of, IsLegalPlace}
-use Rattle.ks_tree.specs.Stamps.{HasNumber, stamp_text}
-use Rattle.ks_engine.specs.declared.error.EngineError.{EngineError}
-use Rattle.ks_engine.specs.declared.error.EngineError.TheVariants.{TooLarge, GenerationFull}
-use Rattle.ks_engine.specs.Refusals.{and_then}
-use Rattle.ks_output.specs.OldConfig.{Texts}
-use Rattle.ks_engine.specs.History.{History, Begun, Synced, Broken, Recorded, LastRecord, before, done, WasSynced, last_record}
-use Rattle.ks_engine.specs.Legal.{IsSource, IsHistory, MayBeHeader}
-use Rattle.ks_engine.specs.Shows.{Shows, IsAuto, IsCommandFile, stamp}
-use Rattle.ks_engine.specs.Synchronised.{AreChanged, SyncLeaves}
-use Rattle.ks_engine.specs.LastSync.{OldAuto, old_auto}
-use Rattle.ks_engine.specs.SyncPlan.{Sources, Plan, plan_over, IsSyncPlan}
+use Rattle.ks_tree.specs.Paths.{Header}
 use Rattle.ks_engine.proofs.Heart.{record_cases, recorded_synced}
 use Rattle.ks_engine.proofs.LowerLaws.{texts_back, generation_back, accepted, apart, command-injective}
 use Rattle.ks_engine.proofs.Reading.{old_some, ok_ok, err_ok}

@@ -1,13 +1,6 @@
 -- What the writes of a synchronisation leave, one after another.
-use Rattle.std.proofs.Common.{◌≡◌, ◌⊎◌, inl, inr, ⊎_elim, ℕ, ◌+◌, List, Some, true, false, ◌∙◌, refl, subst, zero, suc, [], ◌∷◌, take, bytes_eq, ◌||◌, Result, Ok, Err, OnOk, OnErr, IfErr}
-use Rattle.ks_output.specs.AutoText.{auto_text}
-use Rattle.ks_output.specs.Header.{header_text}
-use Rattle.ks_symbols.specs.Names.{is_in, header_path}
-use Rattle.ks_tree.specs.Files.{Files, content, SameButBoth}
-use Rattle.ks_tree.specs.Paths.{auto_path, auto_temporary, header_temporary, stamp_path, Place, Header, AutoConf, Stamp, AutoTemporary, HeaderTemporary, StampTemporary, path_of, IsLegalPlace}
-use Rattle.ks_tree.specs.Stamps.{Touches}
-use Rattle.ks_engine.specs.Synchronised.{AreChanged, SyncLeaves}
-use Rattle.ks_engine.specs.SyncPlan.{Plan}
+use Rattle.ks_engine.proofs.Prelude.{◌≡◌, ◌⊎◌, inl, inr, ⊎_elim, ℕ, ◌+◌, List, Some, true, false, ◌∙◌, refl, subst, zero, suc, [], ◌∷◌, take, bytes_eq, ◌||◌, Result, Ok, Err, OnOk, OnErr, IfErr, auto_text, header_text, is_in, header_path, Files, content, SameButBoth, auto_path, auto_temporary, header_temporary, stamp_path, Place, AutoConf, Stamp, AutoTemporary, HeaderTemporary, StampTemporary, path_of, IsLegalPlace, Touches, AreChanged, SyncLeaves, Plan}
+use Rattle.ks_tree.specs.Paths.{Header}
 use Rattle.ks_engine.proofs.LowerLaws.{apart}
 
 module _ (old : Files) (plan : Plan) (changed : List (List ℕ)) (are : AreChanged plan.old plan.config changed) where

@@ -1,30 +1,33 @@
 -- What is answered of an object, by the files: first its target, then its command file, then auto.conf, then its stamps.
-use Rattle.std.specs.Prelude.{◌≡◌, ◌⊎◌, ℕ, ◌<◌, ◌≤◌, List, [], ◌∷◌, Option, Some, None, Result, Ok, Err, nat_lt, if◌then◌else◌, length, bytes_eq}
+use Rattle.std.specs.Prelude.{◌≡◌, ℕ, List, [], Option, Some, None, Result, Ok, Err, IfOk, nat_lt, if◌then◌else◌, length, bytes_eq}
 use Rattle.ks_symbols.specs.Lines.{max_bytes}
 use Rattle.ks_symbols.specs.Names.{is_target}
 use Rattle.ks_fixdep.specs.CommandFile.{CommandRecord}
 use Rattle.ks_fixdep.specs.CommandReading.{reading}
-use Rattle.ks_fixdep.specs.Record.{config_names}
-use Rattle.ks_tree.specs.Files.{Files, content, IsTooLarge}
-use Rattle.ks_tree.specs.Paths.{auto_path, stamp_path, command_path}
-use Rattle.ks_tree.specs.Stamps.{HasNumber, IsNoStamp}
+use Rattle.ks_tree.specs.Files.{Files, content}
+use Rattle.ks_tree.specs.Paths.{auto_path, command_path}
 use Rattle.ks_engine.specs.declared.error.EngineError.{EngineError}
-use Rattle.ks_engine.specs.declared.error.EngineError.TheVariants.{TooLarge, BadPath, BadCommandFile, BadStamp}
+use Rattle.ks_engine.specs.declared.error.EngineError.TheVariants.{TooLarge, BadPath, BadCommandFile}
+use Rattle.ks_engine.specs.declared.explaining.Cause.{Cause}
+use Rattle.ks_engine.specs.declared.explaining.Explanation.{Explanation}
+use Rattle.ks_engine.specs.declared.question.Limit.{Limit}
+use Rattle.ks_engine.specs.declared.question.Limit.TheVariants.{First}
 use Rattle.ks_engine.specs.declared.staleness.Verdict.{Verdict}
-use Rattle.ks_engine.specs.declared.staleness.Verdict.TheVariants.{Fresh, Changed, NoCommandFile, Unnumbered, Ahead}
+use Rattle.ks_engine.specs.declared.staleness.Verdict.TheVariants.{NoCommandFile, Unnumbered, Ahead}
+use Rattle.ks_engine.specs.Causes.{IsByStamps, names_placed, verdict_of}
 use Rattle.ks_engine.specs.LastSync.{last_generation}
 
--- an answer at once, or by the stamps of these names against a generation
+-- an answer at once, or by the stamps of these names, each with its place, against a generation
 pub data Asked : Type 0 where
   Answered : (answer : Result Verdict EngineError) → Asked
-  ByStamps : (generation : ℕ) (names : List (List ℕ)) → Asked
+  ByStamps : (generation : ℕ) (names : List (List ℕ × List ℕ)) → Asked
 
-abbrev pub asked_at : ℕ → List (List ℕ) → Result ℕ EngineError → Asked
+abbrev pub asked_at : ℕ → List (List ℕ × List ℕ) → Result ℕ EngineError → Asked
 asked_at g names (Err e) = Answered (Err e)
 asked_at g names (Ok last) = if nat_lt last g then Answered (Ok Ahead) else ByStamps g names
 
 -- an object whose command file has a generation, or none
-abbrev pub asked_since : Files → List (List ℕ) → Option ℕ → Asked
+abbrev pub asked_since : Files → List (List ℕ × List ℕ) → Option ℕ → Asked
 asked_since files names None = Answered (Ok Unnumbered)
 asked_since files names (Some g) = asked_at g names (last_generation (content files auto_path))
 
@@ -40,24 +43,39 @@ command_file o (Some b) = if nat_lt max_bytes (length b) then Err TooLarge else 
 abbrev pub asked_of : Files → Result (Option CommandRecord) EngineError → Asked
 asked_of files (Err e) = Answered (Err e)
 asked_of files (Ok None) = Answered (Ok NoCommandFile)
-asked_of files (Ok (Some file)) = asked_since files (config_names file.deps) file.generation
+asked_of files (Ok (Some file)) = asked_since files (names_placed file) file.generation
 
 -- what an object's files say before its stamps
 unfoldable pub asked : Files → List ℕ → Asked
 asked files o = if is_target o then asked_of files (command_file o (content files (command_path o))) else Answered (Err (BadPath 0))
 
--- a stamp that is too large to be read, or else holds no number
-abbrev pub IsBadStamp : Option (List ℕ) → List ℕ → Result Verdict EngineError → Type 0
-IsBadStamp file x answer = (IsNoStamp file × (IsTooLarge file → ⊥) × (answer ≡ Err (BadStamp x))) ⊎ (IsTooLarge file × (answer ≡ Err TooLarge))
+-- ---- a verdict
 
--- The first name whose stamp is above the generation; the stamps up to it hold numbers.
-abbrev pub IsByStamps : Files → ℕ → List (List ℕ) → Result Verdict EngineError → Type 0
-IsByStamps files g [] answer = answer ≡ Ok Fresh
-IsByStamps files g (x ∷ xs) answer =
-    ((n : ℕ) × HasNumber (content files (stamp_path x)) n × ((g < n) × (answer ≡ Ok (Changed x))))
-    ⊎ (((n : ℕ) × HasNumber (content files (stamp_path x)) n × ((n ≤ g) × IsByStamps files g xs answer))
-    ⊎ IsBadStamp (content files (stamp_path x)) x answer)
+-- that of the causes that were found
+abbrev pub verdict_by : Result (List Cause) EngineError → Result Verdict EngineError
+verdict_by (Ok causes) = Ok (verdict_of causes)
+verdict_by (Err e) = Err e
 
+-- It is that of the first cause. No stamp is looked at after it.
 abbrev pub IsAnswer : Files → Asked → Result Verdict EngineError → Type 0
 IsAnswer files (Answered known) answer = answer ≡ known
-IsAnswer files (ByStamps g names) answer = IsByStamps files g names answer
+IsAnswer files (ByStamps g names) answer = (found : Result (List Cause) EngineError) × IsByStamps First files g names found × (answer ≡ verdict_by found)
+
+-- ---- an explanation
+
+-- its verdict, and its causes
+abbrev pub told : Result Explanation EngineError → Result Verdict EngineError
+told (Ok e) = Ok e.verdict
+told (Err e) = Err e
+
+abbrev pub listed : Result Explanation EngineError → Result (List Cause) EngineError
+listed (Ok e) = Ok e.causes.items
+listed (Err e) = Err e
+
+-- An answer at once has no causes.
+abbrev pub IsExplainedBy : Limit → Files → Asked → Result Explanation EngineError → Type 0
+IsExplainedBy limit files (Answered known) answer = (told answer ≡ known) × IfOk answer (λ e. e.causes.items ≡ [])
+IsExplainedBy limit files (ByStamps g names) answer = IsByStamps limit files g names (listed answer) × (told answer ≡ verdict_by (listed answer))
+
+abbrev pub IsExplained : Limit → Files → List ℕ → Result Explanation EngineError → Type 0
+IsExplained limit files o answer = IsExplainedBy limit files (asked files o) answer

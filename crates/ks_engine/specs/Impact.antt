@@ -10,8 +10,6 @@ use Rattle.ks_tree.specs.Stamps.{HasNumber}
 use Rattle.ks_engine.specs.declared.error.EngineError.{EngineError}
 use Rattle.ks_engine.specs.declared.impact.Impact.{Impact}
 use Rattle.ks_engine.specs.declared.staleness.Verdict.{Verdict}
-use Rattle.ks_engine.specs.declared.stamps.Stamps.{Stamps}
-use Rattle.ks_engine.specs.declared.stamps.Stamps.TheVariants.{Now, Behind}
 use Rattle.ks_engine.specs.declared.synchronise.Report.{Report}
 use Rattle.ks_engine.specs.Refusals.{GaveUp}
 use Rattle.ks_engine.specs.History.{History, Synced, LastRecord, last_record}
@@ -26,18 +24,23 @@ abbrev pub IsImpactOf : Files → List ℕ → List ℕ → Impact → Type 0
 IsImpactOf files kconfig dotconfig impact = (after : Files) × IsSynced files after kconfig dotconfig impact.report
 
 -- It is an answer of `stale` over each tree that a completed synchronisation of these texts leaves.
-abbrev pub AnswersBehind : Files → List ℕ → List ℕ → List ℕ → Result Verdict EngineError → Type 0
-AnswersBehind files kconfig dotconfig o answer =
+abbrev pub AnswersAfter : Files → List ℕ → List ℕ → List ℕ → Result Verdict EngineError → Type 0
+AnswersAfter files kconfig dotconfig o answer =
     (after : Files) (report : Report) → IsSynced files after kconfig dotconfig report → GaveUp answer ⊎ IsAnswer after (asked after o) answer
 
 -- Of each object that is recorded in a history that the files show, it is judged by that history with the synchronisation added.
-abbrev pub JudgesBehind : Files → List ℕ → List ℕ → List ℕ → Result Verdict EngineError → Type 0
-JudgesBehind files kconfig dotconfig o answer =
+abbrev pub JudgesAfter : Files → List ℕ → List ℕ → List ℕ → Result Verdict EngineError → Type 0
+JudgesAfter files kconfig dotconfig o answer =
     (after : Files) (report : Report) (synced : IsSynced files after kconfig dotconfig report) (h : History) (r : LastRecord) → Shows files h
     → last_record h o ≡ Some r → IsJudged after (Synced synced.plan.title synced.plan.config h) o r answer
 
+-- what is answered over each tree that a completed synchronisation of these texts leaves
+pub record IsAnswerAfter (files : Files) (kconfig dotconfig o : List ℕ) (answer : Result Verdict EngineError) : Type 0 where
+  pub by_files : AnswersAfter files kconfig dotconfig o answer
+  pub recorded : JudgesAfter files kconfig dotconfig o answer
+
 -- What a question asks of such a tree: its generation and the touched stamps are of the report, all else is as before.
-pub record IsBehind (files after : Files) (report : Report) : Type 0 where
+pub record IsAfter (files after : Files) (report : Report) : Type 0 where
   pub rising : IsStrictlySortedBy (slice_cmp nat_cmp) report.touched.items
   pub generation : last_generation (content after auto_path) ≡ Ok report.generation
   pub touched : (x : List ℕ) → IsTrue (is_name x) → is_in report.touched.items x ≡ true → HasNumber (content after (stamp_path x))
@@ -45,8 +48,3 @@ pub record IsBehind (files after : Files) (report : Report) : Type 0 where
   pub others : (x : List ℕ) → IsTrue (is_name x) → is_in report.touched.items x ≡ false → content after (stamp_path x)
       ≡ content files (stamp_path x)
   pub commands : (o : List ℕ) → content after (command_path o) ≡ content files (command_path o)
-
--- The files that a question is asked of: these, or those behind the synchronisation.
-abbrev pub IsSeen : Stamps → Files → Files → Type 0
-IsSeen Now files after = after ≡ files
-IsSeen (Behind report) files after = IsBehind files after report.now

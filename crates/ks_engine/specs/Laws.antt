@@ -1,14 +1,18 @@
 -- Laws of the definitions: which trees show a history without events, that a synchronisation has one plan, that a suspicion has a cause,
 -- and that a run by the files is one of each history that the first of them show.
-use Rattle.std.specs.Prelude.{◌≡◌, ◌⊎◌, ℕ, ◌+◌, ◌≤◌, List, Some, Result, true, IsTrue, ⊤}
+use Rattle.std.specs.Prelude.{◌≡◌, ◌⊎◌, ℕ, ◌+◌, ◌≤◌, List, Some, None, Result, Ok, true, IsTrue, ⊤}
 use Rattle.std.specs.FinMap.{empty}
-use Rattle.ks_symbols.specs.Names.{is_name}
+use Rattle.ks_symbols.specs.Names.{is_name, is_in}
 use Rattle.ks_tree.specs.Files.{Files, content}
-use Rattle.ks_tree.specs.Paths.{auto_path, stamp_path}
-use Rattle.ks_tree.specs.Stamps.{HasNumber}
+use Rattle.ks_tree.specs.Paths.{auto_path, command_path, stamp_path}
+use Rattle.ks_tree.specs.Stamps.{HasNumber, MakesStamps}
 use Rattle.ks_engine.specs.declared.error.EngineError.{EngineError}
 use Rattle.ks_compare.specs.Changes.{differs}
 use Rattle.ks_output.specs.OldConfig.{Texts}
+use Rattle.ks_fixdep.specs.CommandFile.{CommandRecord}
+use Rattle.ks_fixdep.specs.CommandReading.{reading}
+use Rattle.ks_engine.specs.declared.staleness.Verdict.TheVariants.{Fresh}
+use Rattle.ks_engine.specs.Asked.{asked, IsAnswer}
 use Rattle.ks_engine.specs.History.{History, Begun, Synced, Broken, Recorded, LastRecord, before, done, last_record}
 use Rattle.ks_engine.specs.Staleness.{suspect_since}
 use Rattle.ks_engine.specs.Legal.{IsHistory}
@@ -24,18 +28,35 @@ use Rattle.ks_engine.specs.Runs.{Run}
 abbrev pub EmptyTreeShows : Type 0
 EmptyTreeShows = Shows empty (Begun empty 0 (λ x. 0))
 
--- .. a tree of the usual tool one that begins with the texts of its auto.conf: its stamps are empty; ..
+-- .. a tree of Kbuild one that begins with the texts of its auto.conf: its stamps are empty; ..
 abbrev pub UsualTreeShows : Type 0
 UsualTreeShows =
     (files : Files) (texts : Texts) → IsFirstAuto texts 0 (content files auto_path)
     → ((x : List ℕ) → IsTrue (is_name x) → HasNumber (content files (stamp_path x)) 0) → Shows files (Begun texts 0 (λ x. 0))
 
--- .. and a tree that synchronisations of the untyped form left, completed or broken off anywhere, one that begins with the generation of its auto.conf.
+-- .. a tree that synchronisations of the untyped form left, completed or broken off anywhere, one that begins with the generation of its auto.conf.
 abbrev pub UntypedTreeShows : Type 0
 UntypedTreeShows =
     (files : Files) (texts : Texts) (generation : ℕ) (stamps : List ℕ → ℕ) → IsFirstAuto texts generation (content files auto_path)
     → ((x : List ℕ) → stamps x ≤ generation + 1) → ((x : List ℕ) → IsTrue (is_name x) → HasNumber (content files (stamp_path x)) (stamps x))
     → Shows files (Begun texts generation stamps)
+
+-- no command file has a generation
+abbrev pub AreNotNumbered : Files → Type 0
+AreNotNumbered files = (o b : List ℕ) (file : CommandRecord) → content files (command_path o) ≡ Some b → reading b ≡ Ok file → file.generation ≡ None
+
+-- the tree shows a history without events, and no object of it is called fresh
+pub record IsBeginning (files : Files) (texts : Texts) (generation : ℕ) (stamps : List ℕ → ℕ) : Type 0 where
+  pub shown : Shows files (Begun texts generation stamps)
+  pub none_fresh : (o : List ℕ) → IsAnswer files (asked files o) (Ok Fresh) → ⊥
+
+-- .. and so does a tree whose command files have no generation, as a repair of lost numbers leaves it: there no object is fresh.
+abbrev pub NotNumberedTreeShows : Type 0
+NotNumberedTreeShows =
+    (files : Files) (texts : Texts) (generation : ℕ) (stamps : List ℕ → ℕ) → IsFirstAuto texts generation (content files auto_path)
+    → AreNotNumbered files → ((x : List ℕ) → stamps x ≤ generation + 1)
+    → ((x : List ℕ) → IsTrue (is_name x) → HasNumber (content files (stamp_path x)) (stamps x))
+    → IsBeginning files texts generation stamps
 
 -- The files and the two texts determine what a synchronisation comes to: it has a plan or is refused, and for one reason.
 abbrev pub PlansAreOne : Type 0
@@ -44,16 +65,16 @@ PlansAreOne =
     → r ≡ s
 
 -- A synchronisation, completed or broken off, that began when g or more were completed, and whose configuration differs at x from the last of these.
-abbrev pub HasChangeBehind : ℕ → List ℕ → History → Type 0
-HasChangeBehind g x (Begun texts generation stamps) = ⊥
-HasChangeBehind g x (Synced title config past) = ((g ≤ done past) × (differs (before past) config x ≡ true)) ⊎ HasChangeBehind g x past
-HasChangeBehind g x (Broken title config renewed past) = ((g ≤ done past) × (differs (before past) config x ≡ true)) ⊎ HasChangeBehind g x past
-HasChangeBehind g x (Recorded object command names header past) = HasChangeBehind g x past
+abbrev pub HasChangeAfter : ℕ → List ℕ → History → Type 0
+HasChangeAfter g x (Begun texts generation stamps) = ⊥
+HasChangeAfter g x (Synced title config past) = ((g ≤ done past) × (differs (before past) config x ≡ true)) ⊎ HasChangeAfter g x past
+HasChangeAfter g x (Broken title config renewed past) = ((g ≤ done past) × (differs (before past) config x ≡ true)) ⊎ HasChangeAfter g x past
+HasChangeAfter g x (Recorded object command names header past) = HasChangeAfter g x past
 
--- Where a name of an object is suspect, such a synchronisation began behind the last one that was completed before its record.
+-- Where a name of an object is suspect, such a synchronisation began after the last one that was completed before its record.
 abbrev pub SuspicionsHaveCauses : Type 0
 SuspicionsHaveCauses =
-    (h : History) (o x : List ℕ) (r : LastRecord) → IsHistory h → last_record h o ≡ Some r → suspect_since h o x ≡ true → HasChangeBehind (done r.past) x h
+    (h : History) (o x : List ℕ) (r : LastRecord) → IsHistory h → last_record h o ≡ Some r → suspect_since h o x ≡ true → HasChangeAfter (done r.past) x h
 
 -- A run of an honest tree by its files is a run from each history that the first of these files show.
 abbrev pub FileRunsGoOn : Type 0
@@ -61,3 +82,9 @@ FileRunsGoOn =
     (first : FileState) (actions : List Action) (replies : List Reply) (last : FileState) (h : History) → Shows first.files h
     → FileRun ⊤ first actions replies last
     → (next : History) × Run (at first.files first.failures h) actions replies (at last.files last.failures next)
+
+-- To make the missing stamps of names says nothing: the files show each history then that they showed before.
+abbrev pub MadeStampsShow : Type 0
+MadeStampsShow =
+    (old new : Files) (names : List (List ℕ)) (h : History) → ((x : List ℕ) → is_in names x ≡ true → IsTrue (is_name x)) → MakesStamps names old new
+    → Shows old h → Shows new h

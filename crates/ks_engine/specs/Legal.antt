@@ -12,7 +12,7 @@ use Rattle.ks_engine.specs.History.{History, Begun, Synced, Broken, Recorded, be
 abbrev pub AreAllRenewed : List (List ℕ) → Texts → Configuration → Type 0
 AreAllRenewed renewed old new = (x : List ℕ) → differs old new x ≡ true → is_in renewed x ≡ true
 
--- The header is that of the last completed synchronisation, or of one that was broken off behind it with all stamps renewed.
+-- The header is that of the last completed synchronisation, or of one that was broken off after it with all stamps renewed.
 abbrev pub MayBeHeader : History → List ℕ → Type 0
 MayBeHeader (Begun texts generation stamps) b = ⊥
 MayBeHeader (Synced title config past) b = b ≡ header_text title config
@@ -25,7 +25,7 @@ pub record IsSource (t : List ℕ) (c : Configuration) : Type 0 where
   pub config : IsConfiguration c
 
 -- At first a synchronisation may have been broken off, so no stamp is above the next generation. One in the history renewed only names that
--- it changes. A record stands behind a completed one, and its header is one of that time.
+-- it changes. A record stands after a completed one, and its header is one of that time.
 abbrev pub IsHistory : History → Type 0
 IsHistory (Begun texts generation stamps) = (generation ≤ 18446744073709551615) × ((x : List ℕ) → stamps x ≤ generation + 1)
 IsHistory (Synced title config past) = IsHistory past × IsSource title config × (done past < 18446744073709551615)

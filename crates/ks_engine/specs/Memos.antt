@@ -1,5 +1,5 @@
 -- What a command has read of a tree, and keeps: each thing kept is what the files say.
-use Rattle.std.specs.Prelude.{◌≡◌, ◌≢◌, ◌<◌, ◌++◌, ℕ, List, [], ◌∷◌, Option, Some, Ok, IsTrue, Vec, get_or, length, map, bytes_eq, if◌then◌else◌}
+use Rattle.std.specs.Prelude.{◌≡◌, ◌≢◌, ◌<◌, ◌++◌, ℕ, List, [], ◌∷◌, Option, Some, Ok, IsTrue, string_bytes, vec_items, get_or, length, map, bytes_eq, if◌then◌else◌}
 use Rattle.std.specs.List.{All}
 use Rattle.std.specs.Map.{lookup}
 use Rattle.ks_symbols.specs.Names.{is_name}
@@ -12,8 +12,8 @@ use Rattle.ks_engine.specs.LastSync.{last_generation}
 use Rattle.ks_engine.specs.Recording.{scanned}
 
 -- what a map has by the bytes of its keys, in order; the value of a text; and the pairs once one more is put
-abbrev pub pairs_of : {Y V : Type 0} → List (Vec ℕ Y × V) → List (List ℕ × V)
-pairs_of entries = map (λ e. (e.0.items, e.1)) entries
+abbrev pub pairs_of : {K V : Type 0} → (K → List ℕ) → List (K × V) → List (List ℕ × V)
+pairs_of bytes entries = map (λ e. (bytes e.0, e.1)) entries
 
 abbrev pub value_of : {V : Type 0} → List ℕ → List (List ℕ × V) → Option V
 value_of text pairs = lookup (bytes_eq text) pairs
@@ -43,9 +43,9 @@ Grows old new = (more : List (List (List ℕ))) × (new ≡ old ++ more)
 -- Each thing kept is what the files say.
 pub record IsMemoOf (files : Files) (memo : Memo) : Type 0 where
   pub generation : (g : ℕ) → memo.generation ≡ Some g → last_generation (content files auto_path) ≡ Ok g
-  pub stamps : AreStamps files (pairs_of memo.stamps.entries)
-  pub sources : AreSources files (found_of memo.found.scan) (pairs_of memo.sources.entries)
+  pub stamps : AreStamps files (pairs_of string_bytes memo.stamps.entries)
+  pub sources : AreSources files (found_of memo.found.scan) (pairs_of vec_items memo.sources.entries)
 
 -- The names of the file at this path are not kept.
 abbrev pub IsNoSource : List ℕ → Memo → Type 0
-IsNoSource path memo = All (λ s. s.0 ≢ path) (pairs_of memo.sources.entries)
+IsNoSource path memo = All (λ s. s.0 ≢ path) (pairs_of vec_items memo.sources.entries)

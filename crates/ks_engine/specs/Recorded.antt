@@ -1,6 +1,8 @@
 -- What recording an object comes to, and what it leaves.
 use Rattle.std.specs.Prelude.{◌≡◌, ◌⊎◌, ℕ, List, Some, Result, Ok, Err, nat_lt, length, if◌then◌else◌}
 use Rattle.ks_symbols.specs.Lines.{max_bytes}
+use Rattle.ks_fixdep.specs.declared.dependency_file.Header.{Header}
+use Rattle.ks_fixdep.specs.declared.dependency_file.Header.TheVariants.{Usual}
 use Rattle.ks_fixdep.specs.declared.dependency_file.Role.{Role}
 use Rattle.ks_fixdep.specs.CommandFile.{CommandRecord, IsLegal, command_text}
 use Rattle.ks_fixdep.specs.FoundNames.{names_of}
@@ -12,7 +14,7 @@ use Rattle.ks_engine.specs.declared.error.EngineError.TheVariants.{TooLarge}
 use Rattle.ks_engine.specs.declared.recording.Recorded.{Recorded}
 use Rattle.ks_engine.specs.Refusals.{IsGivenUp, and_then}
 use Rattle.ks_engine.specs.LastSync.{last_generation}
-use Rattle.ks_engine.specs.Recording.{words, there, listed, scanned_all}
+use Rattle.ks_engine.specs.Recording.{words, there, listed_without, scanned_all}
 
 -- a record against which no refusal stands
 pub record RecordPlan : Type 0 where
@@ -30,38 +32,56 @@ drafted target command ps g found =
     let file = numbered (record_of target command ps found) g in
     if nat_lt max_bytes (length (command_text file)) then Err TooLarge else Ok (record { file = file; generation = g; names = names_of found })
 
--- What is to be done, or why it is refused: the words, the dependency file, auto.conf, each prerequisite, and then what would be written.
-unfoldable pub record_plan : Files → List ℕ → List ℕ → List ℕ → Result RecordPlan EngineError
-record_plan files depfile target command =
+-- What is to be done, or why it is refused: the words, the dependency file, auto.conf, each prerequisite but the header, and then what would be written.
+unfoldable pub record_plan_without : Header → Files → List ℕ → List ℕ → List ℕ → Result RecordPlan EngineError
+record_plan_without header files depfile target command =
     and_then (words depfile target command) (λ _.
     and_then (there depfile (content files depfile)) (λ d.
-    and_then (listed d) (λ ps.
+    and_then (listed_without header d) (λ ps.
     and_then (last_generation (content files auto_path)) (λ g.
     and_then (scanned_all files ps) (λ found.
     drafted target command ps g found)))))
 
 -- The plan for these files and words; its parts are legal.
-pub record IsRecordPlan (files : Files) (depfile target command : List ℕ) (plan : RecordPlan) : Type 0 where
-  pub planned : record_plan files depfile target command ≡ Ok plan
+pub record IsRecordPlanWithout (header : Header) (files : Files) (depfile target command : List ℕ) (plan : RecordPlan) : Type 0 where
+  pub planned : record_plan_without header files depfile target command ≡ Ok plan
   pub legal : IsLegal plan.file
 
 -- It was done, and this is its answer. All but the command file and its temporary file is as before.
-pub record IsRecorded (old new : Files) (depfile target command : List ℕ) (answer : Recorded) : Type 0 where
+pub record IsRecordedWithout (header : Header) (old new : Files) (depfile target command : List ℕ) (answer : Recorded) : Type 0 where
   pub plan : RecordPlan
-  pub planned : IsRecordPlan old depfile target command plan
+  pub planned : IsRecordPlanWithout header old depfile target command plan
   pub generation : answer.generation ≡ plan.generation
   pub names : answer.names ≡ length plan.names
   pub written : content new (command_path target) ≡ Some (command_text plan.file)
   pub others : SameButBoth (command_temporary target) (command_path target) old new
 
 -- It was given up at the write: the command file is the old one or the new one.
-pub record IsRecordTried (old new : Files) (depfile target command : List ℕ) : Type 0 where
+pub record IsRecordTriedWithout (header : Header) (old new : Files) (depfile target command : List ℕ) : Type 0 where
   pub plan : RecordPlan
-  pub planned : IsRecordPlan old depfile target command plan
+  pub planned : IsRecordPlanWithout header old depfile target command plan
   pub either : (content new (command_path target) ≡ content old (command_path target)) ⊎ (content new (command_path target) ≡ Some (command_text plan.file))
   pub others : SameButBoth (command_temporary target) (command_path target) old new
 
 -- It was refused with nothing changed, or given up before the write or at it.
+abbrev pub IsRecordRefusedWithout : Header → Files → Files → List ℕ → List ℕ → List ℕ → EngineError → Type 0
+IsRecordRefusedWithout header old new depfile target command e =
+    ((record_plan_without header old depfile target command ≡ Err e) × (new ≡ old))
+    ⊎ (IsGivenUp e × ((new ≡ old) ⊎ IsRecordTriedWithout header old new depfile target command))
+
+-- ---- the same without the usual header
+
+abbrev pub record_plan : Files → List ℕ → List ℕ → List ℕ → Result RecordPlan EngineError
+record_plan files depfile target command = record_plan_without Usual files depfile target command
+
+abbrev pub IsRecordPlan : Files → List ℕ → List ℕ → List ℕ → RecordPlan → Type 0
+IsRecordPlan files depfile target command plan = IsRecordPlanWithout Usual files depfile target command plan
+
+abbrev pub IsRecorded : Files → Files → List ℕ → List ℕ → List ℕ → Recorded → Type 0
+IsRecorded old new depfile target command answer = IsRecordedWithout Usual old new depfile target command answer
+
+abbrev pub IsRecordTried : Files → Files → List ℕ → List ℕ → List ℕ → Type 0
+IsRecordTried old new depfile target command = IsRecordTriedWithout Usual old new depfile target command
+
 abbrev pub IsRecordRefused : Files → Files → List ℕ → List ℕ → List ℕ → EngineError → Type 0
-IsRecordRefused old new depfile target command e =
-    ((record_plan old depfile target command ≡ Err e) × (new ≡ old)) ⊎ (IsGivenUp e × ((new ≡ old) ⊎ IsRecordTried old new depfile target command))
+IsRecordRefused old new depfile target command e = IsRecordRefusedWithout Usual old new depfile target command e

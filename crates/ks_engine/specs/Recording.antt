@@ -3,9 +3,11 @@ use Rattle.std.specs.Prelude.{ℕ, List, [], ◌∷◌, Option, Some, None, Resu
 use Rattle.ks_symbols.specs.Lines.{max_bytes}
 use Rattle.ks_symbols.specs.Names.{is_path, is_target}
 use Rattle.ks_fixdep.specs.declared.dep_error.DepError.{DepError}
+use Rattle.ks_fixdep.specs.declared.dependency_file.Header.{Header}
+use Rattle.ks_fixdep.specs.declared.dependency_file.Header.TheVariants.{Usual}
 use Rattle.ks_fixdep.specs.declared.dependency_file.Role.{Role}
 use Rattle.ks_fixdep.specs.CommandFile.{is_command}
-use Rattle.ks_fixdep.specs.DependencyFile.{prerequisites, dependency_refusal}
+use Rattle.ks_fixdep.specs.DependencyFile.{prerequisites_without, refusal_without}
 use Rattle.ks_fixdep.specs.FoundNames.{names_in}
 use Rattle.ks_tree.specs.Files.{Files, content}
 use Rattle.ks_engine.specs.declared.error.EngineError.{EngineError}
@@ -23,13 +25,17 @@ abbrev pub there : List ℕ → Option (List ℕ) → Result (List ℕ) EngineEr
 there path None = Err (MissingFile path)
 there path (Some b) = if nat_lt max_bytes (length b) then Err TooLarge else Ok b
 
-abbrev pub listed_unless : Option DepError → List ℕ → Result (List (List ℕ × Role)) EngineError
-listed_unless None d = Ok (prerequisites d)
-listed_unless (Some e) d = Err (of_dep e)
+abbrev pub listed_unless : Option DepError → List (List ℕ × Role) → Result (List (List ℕ × Role)) EngineError
+listed_unless None ps = Ok ps
+listed_unless (Some e) ps = Err (of_dep e)
 
--- the prerequisites of a dependency file
+-- the prerequisites of a dependency file but for a header
+abbrev pub listed_without : Header → List ℕ → Result (List (List ℕ × Role)) EngineError
+listed_without header d = listed_unless (refusal_without header d) (prerequisites_without header d)
+
+-- but for the usual one
 abbrev pub listed : List ℕ → Result (List (List ℕ × Role)) EngineError
-listed d = listed_unless (dependency_refusal d) d
+listed d = listed_without Usual d
 
 -- the names of the file at a path, each once
 abbrev pub scanned : List ℕ → Option (List ℕ) → Result (List (List ℕ)) EngineError

@@ -59,7 +59,7 @@ pub record IsBrokenOff (old new : Files) (kconfig dotconfig : List ℕ) : Type 0
   pub changed : AreChanged plan.old plan.config names
   pub some : SyncSome old new plan names
 
--- It was refused with nothing changed, or given up before its first write or behind it.
+-- It was refused with nothing changed, or given up before its first write or after it.
 abbrev pub IsSyncRefused : Files → Files → List ℕ → List ℕ → EngineError → Type 0
 IsSyncRefused old new kconfig dotconfig e =
     (IsSyncPlan old kconfig dotconfig (Err e) × (new ≡ old)) ⊎ (IsGivenUp e × ((new ≡ old) ⊎ IsBrokenOff old new kconfig dotconfig))

@@ -1,18 +1,15 @@
 -- Values of the code as the definitions have them.
 use Rattle.std.specs.Prelude.{◌≡◌, ◌≢◌, ℕ, ◌+◌, List, Option, Some, None, Ok}
-use Rattle.ks_symbols.specs.declared.error.SourceError.{SourceError}
 use Rattle.ks_output.specs.AutoText.{auto_text}
 use Rattle.ks_output.specs.Header.{header_text}
 use Rattle.ks_output.specs.OldConfig.{OldTexts}
 use Rattle.ks_tree.specs.Files.{Files}
-use Rattle.ks_engine.specs.declared.error.EngineError.{EngineError}
 use Rattle.ks_engine.specs.declared.planning.Sources.{Sources as SourceValues}
 use Rattle.ks_engine.specs.declared.planning.Planned.{Planned}
 use Rattle.ks_engine.specs.declared.synchronise.Report.{Report}
 use Rattle.ks_engine.specs.declared.synchronise.Work.{Work}
-use Rattle.ks_engine.specs.Refusals.{of_source}
 use Rattle.ks_engine.specs.Synchronised.{AreChanged}
-use Rattle.ks_engine.specs.SyncPlan.{Sources, source_refusal, Plan, IsSyncPlan}
+use Rattle.ks_engine.specs.SyncPlan.{Sources, Plan, IsSyncPlan}
 use Rattle.ks_engine.specs.LastSync.{OldAuto}
 
 abbrev pub old_of : OldTexts → OldAuto
@@ -20,10 +17,6 @@ old_of old = record { texts = old.texts; generation = old.generation }
 
 abbrev pub sources_of : SourceValues → Sources
 sources_of s = record { title = s.title.items; config = s.settings.entries; unknown = s.settings.unknown }
-
--- the refusal of the two texts
-abbrev pub IsSourceRefusal : List ℕ → List ℕ → EngineError → Type 0
-IsSourceRefusal kconfig dotconfig e = (refusal : SourceError) × (source_refusal kconfig dotconfig ≡ Some refusal) × (e ≡ of_source refusal)
 
 -- what is reported over an old auto.conf
 pub record Reports (s : Sources) (old : OldAuto) (report : Report) : Type 0 where

@@ -10,7 +10,7 @@ ghost use Rattle.ks_engine.specs.Runs.{Run};
 
 use crate::memos::Memo;
 use crate::recording::record_by;
-use crate::{EngineError, Recorded, Report, Verdict, stale_by, sync};
+use crate::{EngineError, Question, Recorded, Report, Verdict, ask, sync};
 use ks_fixdep::Seed;
 use ks_tree::Tree;
 use std::alloc::{AllocError, Global};
@@ -63,8 +63,8 @@ fn answer<T: Tree>(alloc: Global, tree: &mut T, memo: &mut Memo, command: &Comma
             Ok(recorded) => Reply::Recorded(recorded),
             Err(error) => Reply::Refused(error),
         },
-        Command::Stale { target } => match stale_by(alloc, tree, memo, target) {
-            Ok(verdict) => Reply::Verdict(verdict),
+        Command::Stale { target } => match ask(alloc, tree, memo, Question::Stale, target) {
+            Ok(answer) => Reply::Verdict(answer.verdict),
             Err(error) => Reply::Refused(error),
         },
     }

@@ -1,5 +1,5 @@
 //! What the last completed synchronisation left in auto.conf. It is replaced last, so its generation is that of header and stamps
-//! as well, unless a synchronisation was broken off behind it.
+//! as well, unless a synchronisation was broken off after it.
 ghost use Rattle.std.specs.Prelude.{◌≡◌, ◌⊎◌, ◌↔◌, ◌≤◌, IsErrOf};
 ghost use Rattle.ks_tree.specs.Frames.{Reads};
 ghost use Rattle.ks_tree.specs.Files.{content};

@@ -1,14 +1,16 @@
 //! Laws of the definitions, each the contract of a function that does nothing.
 ghost use Rattle.ks_engine.specs.OtherRecords.{OtherRecordsDoNotMatter};
 ghost use Rattle.ks_engine.specs.Explained.{PlacesAreFirst, PlacesAreTheirs};
-ghost use Rattle.ks_engine.specs.Laws.{EmptyTreeShows, FileRunsGoOn, UsualTreeShows, UntypedTreeShows, PlansAreOne, SuspicionsHaveCauses};
+ghost use Rattle.ks_engine.specs.Laws.{EmptyTreeShows, FileRunsGoOn, MadeStampsShow, NotNumberedTreeShows, UsualTreeShows, UntypedTreeShows, PlansAreOne, SuspicionsHaveCauses};
 
-/// There are trees to begin with: an empty one, each of the usual tool, and each that the untyped form left, whose stamps may
-/// be one above the generation where a synchronisation was broken off.
+/// There are trees to begin with: an empty one, each of Kbuild, and each that the untyped form left, whose stamps may
+/// be one above the generation where a synchronisation was broken off. And each whose command files have lost their numbers: as
+/// long as none is recorded anew, none is called fresh there.
 pub fn beginnings_are_shown()
     ensures empty { EmptyTreeShows }
     ensures usual { UsualTreeShows }
     ensures untyped { UntypedTreeShows }
+    ensures not_numbered { NotNumberedTreeShows }
 {}
 
 /// A synchronisation comes to one thing: no tree and no texts have both a plan and a refusal, or two of either.
@@ -16,7 +18,7 @@ pub fn plans_are_one()
     ensures { PlansAreOne }
 {}
 
-/// A name of an object is suspect only where a synchronisation that began behind the last one before its record would change it.
+/// A name of an object is suspect only where a synchronisation that began after the last one before its record would change it.
 pub fn suspicions_have_causes()
     ensures { SuspicionsHaveCauses }
 {}
@@ -27,8 +29,8 @@ pub fn other_records_do_not_matter()
     ensures { OtherRecordsDoNotMatter }
 {}
 
-/// A name of a record stands behind the first prerequisite in which it was found. A scanned prerequisite, as another rule of a
-/// dependency file has one, has no line of its own: its names stand behind the last one that has. `theirs` is said of lists
+/// A name of a record stands after the first prerequisite in which it was found. A scanned prerequisite, as another rule of a
+/// dependency file has one, has no line of its own: its names stand after the last one that has. `theirs` is said of lists
 /// that have none of these, as a dependency file of a single rule makes them.
 pub fn places_are_first()
     ensures first { PlacesAreFirst }
@@ -38,4 +40,9 @@ pub fn places_are_first()
 /// What is said of a run by its files says what its history is: there is a run from each history that the first files show.
 pub fn file_runs_go_on()
     ensures { FileRunsGoOn }
+{}
+
+/// A missing stamp counts as 0, and one that is made holds 0. So a tree shows what it showed where missing ones are made.
+pub fn made_stamps_show()
+    ensures { MadeStampsShow }
 {}

@@ -1,7 +1,7 @@
 //! What one command has read of a tree so far, so that it reads no file twice: hundreds of objects have one auto.conf, and share
 //! most of their stamps. A synchronisation drops all of it; a record changes nothing that is kept. Between commands nothing is kept,
 //! since others may write then.
-ghost use Rattle.std.specs.Prelude.{◌≡◌, ◌⊎◌, List, ℕ, length, slice_get, Ok, Err, Some, OnOk, IfOk, IfErr, IfSome, OnErr, IsErrOf, IsTrue};
+ghost use Rattle.std.specs.Prelude.{◌≡◌, ◌⊎◌, List, ℕ, length, slice_get, string_bytes, vec_items, Ok, Err, Some, OnOk, IfOk, IfErr, IfSome, OnErr, IsErrOf, IsTrue};
 ghost use Rattle.ks_symbols.specs.Names.{is_name, is_path};
 ghost use Rattle.ks_fixdep.specs.SourceScan.{found_of};
 ghost use Rattle.ks_tree.specs.Frames.{Reads};
@@ -17,7 +17,7 @@ use crate::EngineError;
 use crate::last_sync::read_generation;
 use crate::sources::scan_file;
 use indexmap::IndexMap;
-use ks_fixdep::{NamesBySource, Seed};
+use ks_fixdep::{NamesBySource, Seed, name_text};
 use ks_symbols::Name;
 use ks_tree::{Tree, TreeError, read_stamp};
 use std::alloc::{AllocError, Global};
@@ -26,7 +26,7 @@ use std::alloc::{AllocError, Global};
 #[derive(Drop)]
 pub struct Memo {
     generation: Option<u64>,
-    stamps: IndexMap<Vec<u8>, u64, Seed>,
+    stamps: IndexMap<String, u64, Seed>,
     /// For each path of a source its place among those that were scanned.
     sources: IndexMap<Vec<u8>, usize, Seed>,
     /// What was found in the sources, and which of them the last object has.
@@ -36,30 +36,19 @@ pub struct Memo {
     keeps_sources: bool,
 }
 
-/// Keeps a value of a name or a path.
-fn keep<V: Drop>(
+/// Keeps the number of a name's stamp.
+fn keep_stamp(
     alloc: Global,
-    kept: &mut IndexMap<Vec<u8>, V, Seed>,
-    text: &[u8],
-    value: V,
+    stamps: &mut IndexMap<String, u64, Seed>,
+    name: &str,
+    number: u64,
 ) -> Result<(), AllocError>
-    ensures added { OnOk result (pairs_of kept.new.entries ≡ with_pair text.now value (pairs_of kept.old.entries)) }
-    ensures kept { OnErr result (kept.new.entries ≡ kept.old.entries) }
+    ensures added { OnOk result (pairs_of string_bytes stamps.new.entries ≡ with_pair name.now number (pairs_of string_bytes stamps.old.entries)) }
+    ensures kept { OnErr result (stamps.new.entries ≡ stamps.old.entries) }
 {
-    let key = Vec::from_slice(alloc, text)?;
-    kept.insert(key, value)?;
+    let key = String::from_str(alloc, name)?;
+    stamps.insert(key, number)?;
     Ok(())
-}
-
-/// The number of a name's stamp.
-fn read_stamp_of<T: Tree>(alloc: Global, tree: &mut T, name: &[u8]) -> Result<u64, TreeError>
-    requires { IsTrue (is_name name.now) }
-    ensures reads { Reads T.Tree tree.old tree.new (IsErrOf result TreeError.Device) }
-    ensures number { T.is_honest → IfOk result (λ n. HasNumber (content (T.files tree.old) (stamp_path name.now)) n) }
-    ensures refused { T.is_honest → IfErr result (IsStampRefusal name.now (content (T.files tree.old) (stamp_path name.now))) }
-{
-    let name = Name::new(alloc, name)?;
-    read_stamp(alloc, tree, &name)
 }
 
 impl Memo {
@@ -141,19 +130,21 @@ impl Memo {
         ensures number { T.is_honest → IfOk result (λ n. HasNumber (content (T.files tree.old) (stamp_path name.now)) n) }
         ensures refused { T.is_honest → IfErr result (IsStampRefusal name.now (content (T.files tree.old) (stamp_path name.now))) }
     {
-        if let Some(number) = self.stamps.get(name) {
+        let text = name_text(name);
+        if let Some(number) = self.stamps.get(text) {
             return Ok(*number);
         }
-        let number = read_stamp_of(alloc, tree, name)?;
-        keep(alloc, &mut self.stamps, name, number)?;
+        let named = Name::new(alloc, name)?;
+        let number = read_stamp(alloc, tree, &named)?;
+        keep_stamp(alloc, &mut self.stamps, text, number)?;
         Ok(number)
     }
 
     /// The place of the source at a path, if it is kept. The one after the last is looked at first: objects name most headers in
     /// one order, so that most paths are compared once and not sought.
     fn kept_source(&self, path: &[u8]) -> Option<usize>
-        ensures { IfSome result (λ place. (value_of path.now (pairs_of self.now.sources.entries) ≡ Some place)
-            ⊎ ((i : ℕ) × (slice_get (pairs_of self.now.sources.entries) i ≡ Some (path.now, place)))) }
+        ensures { IfSome result (λ place. (value_of path.now (pairs_of vec_items self.now.sources.entries) ≡ Some place)
+            ⊎ ((i : ℕ) × (slice_get (pairs_of vec_items self.now.sources.entries) i ≡ Some (path.now, place)))) }
     {
         if let Some((next, place)) = self.sources.get_index(self.next) {
             if next.as_slice() == path {
@@ -175,7 +166,8 @@ impl Memo {
             return Ok(());
         }
         self.next = place.saturating_add(1);
-        keep(alloc, &mut self.sources, path, place)?;
+        let key = Vec::from_slice(alloc, path)?;
+        self.sources.insert(key, place)?;
         Ok(())
     }
 

@@ -8,16 +8,16 @@ ghost use Rattle.ks_tree.specs.Frames.{Counted, Reads};
 ghost use Rattle.ks_tree.specs.Files.{content};
 ghost use Rattle.ks_engine.specs.Refusals.{Answers, IsGivenUp};
 ghost use Rattle.ks_engine.specs.Recording.{words, there};
-ghost use Rattle.ks_engine.specs.Recorded.{RecordPlan, drafted, record_plan, IsRecordPlan, IsRecorded, IsRecordRefused};
+ghost use Rattle.ks_engine.specs.Recorded.{RecordPlan, drafted, record_plan_without, IsRecordPlanWithout, IsRecorded, IsRecordRefused};
 ghost use Rattle.ks_engine.specs.Follows.{GoesOn, FollowsRecord};
 ghost use Rattle.ks_engine.specs.Memos.{IsMemoOf};
-ghost use Rattle.ks_engine.specs.Drafts.{IsDraft};
+ghost use Rattle.ks_engine.specs.Drafts.{IsDraft, IsPrepared};
 
 use crate::EngineError;
 use crate::memos::Memo;
 use crate::sources::scan_all_by;
 use ks_fixdep::{
-    NamesBySource, Prerequisites, Seed, command_is_legal, read_depfile_by, record_text,
+    Header, NamesBySource, Prerequisites, Seed, command_is_legal, read_depfile_without, record_text,
 };
 use ks_symbols::{MAX_BYTES, Path, path_is_legal, target_is_legal};
 use ks_tree::{Tree, command_path, command_temporary, replace};
@@ -33,9 +33,17 @@ pub struct Recorded {
 
 /// What is to be written.
 #[derive(Drop)]
-struct Draft {
-    answer: Recorded,
-    text: Vec<u8>,
+pub(crate) struct Draft {
+    pub(crate) answer: Recorded,
+    pub(crate) text: Vec<u8>,
+}
+
+/// What stands ready before the first write, and the dependency file that it was made of.
+#[derive(Drop)]
+pub(crate) struct Prepared {
+    pub(crate) draft: Draft,
+    pub(crate) depfile: Vec<u8>,
+    pub(crate) prerequisites: Prerequisites,
 }
 
 fn check_words(depfile: &[u8], target: &[u8], command: &[u8]) -> Result<(), EngineError>
@@ -83,6 +91,7 @@ fn make_draft(
         × (drafted target.now command.now prerequisites.now generation (names_by found.old) ≡ Ok plan) × IsLegal plan.file × IsDraft plan d) }
     ensures refused { IfErr result (λ e. IsGivenUp e ⊎ (drafted target.now command.now prerequisites.now generation (names_by found.old) ≡ Err e)) }
     ensures scan { found.new.scan ≡ found.old.scan }
+    ensures sources { found.new.sources ≡ found.old.sources }
 {
     let numbered = Some(generation);
     let written = record_text(alloc, target, command, prerequisites, found, numbered)?;
@@ -100,34 +109,42 @@ fn make_draft(
 }
 
 /// All steps before the write.
-fn prepare<T: Tree>(
+pub(crate) fn prepare<T: Tree>(
     alloc: Global,
     tree: &mut T,
     memo: &mut Memo,
+    header: Header<'_>,
     depfile: &[u8],
     target: &[u8],
     command: &[u8],
-) -> Result<Draft, EngineError>
+) -> Result<Prepared, EngineError>
     requires memo { T.is_honest → IsMemoOf (T.files tree.old) memo.old }
     ensures memo { T.is_honest → IsMemoOf (T.files tree.new) memo.new }
     ensures reads { Reads T.Tree tree.old tree.new (IsErrOf result EngineError.Device) }
-    ensures planned { T.is_honest → IfOk result (λ d. (plan : RecordPlan) × IsRecordPlan (T.files tree.old) depfile.now target.now command.now plan
-        × IsDraft plan d) }
-    ensures refused { T.is_honest → IfErr result (λ e. IsGivenUp e ⊎ (record_plan (T.files tree.old) depfile.now target.now command.now ≡ Err e)) }
+    ensures planned { T.is_honest → IfOk result (λ p. (plan : RecordPlan)
+        × IsRecordPlanWithout header.entry (T.files tree.old) depfile.now target.now command.now plan
+        × IsPrepared header.entry (T.files tree.old) depfile.now plan (names_by memo.new.found) p) }
+    ensures refused { T.is_honest → IfErr result (λ e. IsGivenUp e
+        ⊎ (record_plan_without header.entry (T.files tree.old) depfile.now target.now command.now ≡ Err e)) }
 {
     check_words(depfile, target, command)?;
     let text = read_there(alloc, tree, depfile)?;
-    let prerequisites = read_depfile_by(alloc, Seed::new(tree.seed()), &text)?;
+    let prerequisites = read_depfile_without(alloc, Seed::new(tree.seed()), header, &text)?;
     let generation = memo.generation(alloc, tree)?;
     scan_all_by(alloc, tree, memo, &prerequisites)?;
-    make_draft(
+    let draft = make_draft(
         alloc,
         target,
         command,
         &prerequisites,
         generation,
         &mut memo.found,
-    )
+    )?;
+    Ok(Prepared {
+        draft,
+        depfile: text,
+        prerequisites,
+    })
 }
 
 /// Records an object, by what was read before and what is still to be read.
@@ -145,13 +162,13 @@ pub(crate) fn record_by<T: Tree>(
     ensures refused { T.is_honest → IfErr result (IsRecordRefused (T.files tree.old) (T.files tree.new) depfile.now target.now command.now) }
     ensures counted { Counted T.Tree tree.old tree.new (IsErrOf result EngineError.Device) }
 {
-    let draft = prepare(alloc, tree, memo, depfile, target, command)?;
+    let prepared = prepare(alloc, tree, memo, Header::Usual, depfile, target, command)?;
     let path = command_path(alloc, target)?;
     let temporary = command_temporary(alloc, target)?;
     memo.forget(&temporary);
     memo.forget(&path);
-    replace(alloc, tree, &temporary, &path, &draft.text)?;
-    Ok(draft.answer)
+    replace(alloc, tree, &temporary, &path, &prepared.draft.text)?;
+    Ok(prepared.draft.answer)
 }
 
 /// Records an object: by which command it is built, and what the files of its dependency file name. The header at this time is

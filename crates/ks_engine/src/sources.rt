@@ -55,32 +55,6 @@ pub(crate) fn scan_file<T: Tree>(
     }
 }
 
-/// The place of the prerequisite at a place, among the sources of a command.
-fn scan_at<T: Tree>(
-    alloc: Global,
-    tree: &mut T,
-    memo: &mut Memo,
-    prerequisites: &Prerequisites,
-    place: usize,
-    room: &mut [u8],
-) -> Result<usize, EngineError>
-    requires memo { T.is_honest → IsMemoOf (T.files tree.old) memo.old }
-    requires place { place < length prerequisites.now }
-    requires room { length room.old ≡ 4096 }
-    ensures memo { T.is_honest → IsMemoOf (T.files tree.new) memo.new }
-    ensures reads { Reads T.Tree tree.old tree.new (IsErrOf result EngineError.Device) }
-    ensures grows { OnOk result (Grows (found_of memo.old.found.scan) (found_of memo.new.found.scan)) }
-    ensures scanned { T.is_honest → (p : List ℕ × Role) → slice_get prerequisites.now place ≡ Some p
-        → IfOk result (IsKept (T.files tree.old) (found_of memo.new.found.scan) p.0) }
-    ensures refused { T.is_honest → (p : List ℕ × Role) → slice_get prerequisites.now place ≡ Some p
-        → IfErr result (λ e. IsGivenUp e ⊎ (scanned p.0 (content (T.files tree.old) p.0) ≡ Err e)) }
-{
-    match prerequisites.get(place) {
-        Some((path, _)) => memo.source_at(alloc, tree, path, room),
-        None => unreachable!(),
-    }
-}
-
 /// Finds the names of the prerequisites, in their order, by what was read before and what is still to be read.
 pub(crate) fn scan_all_by<T: Tree>(
     alloc: Global,
@@ -98,7 +72,10 @@ pub(crate) fn scan_all_by<T: Tree>(
     let mut room = [0; PIECE];
     let mut sources = Vec::with_capacity(alloc, prerequisites.len())?;
     for place in 0..prerequisites.len() {
-        let source = scan_at(alloc, tree, memo, prerequisites, place, &mut room)?;
+        let Some((path, _)) = prerequisites.get(place) else {
+            unreachable!();
+        };
+        let source = memo.source_at(alloc, tree, path, &mut room)?;
         sources.push(source)?;
     }
     memo.found.sources = sources;

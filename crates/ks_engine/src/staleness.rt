@@ -1,25 +1,24 @@
 //! Which objects are stale: those of which a name has a stamp above the generation of their record. A command file that can't be
 //! trusted is refused or said to be so, and never read as fresh; whether a source file itself changed is make's matter.
-ghost use Rattle.std.specs.Prelude.{◌≡◌, ◌⊎◌, ◌↔◌, ◌≤◌, Err, IfOk, IfErr, IsErrOf, IsTrue, map, option_map, bytes_eq, Some};
+ghost use Rattle.std.specs.Prelude.{◌≡◌, ◌⊎◌, Err, IfOk, IfErr, IsErrOf, IsTrue, option_map, bytes_eq, Some};
 ghost use Rattle.ks_fixdep.specs.CommandFile.{is_command};
-ghost use Rattle.ks_fixdep.specs.Lent.{seen_dep, lent_view};
-ghost use Rattle.ks_fixdep.specs.Record.{config_names};
+ghost use Rattle.ks_fixdep.specs.Borrowed.{borrowed_view};
 ghost use Rattle.ks_tree.specs.Frames.{Reads};
 ghost use Rattle.ks_tree.specs.Files.{Files, content};
 ghost use Rattle.ks_tree.specs.Paths.{command_path};
 ghost use Rattle.ks_engine.specs.Refusals.{Answers, GaveUp, IsGivenUp};
 ghost use Rattle.ks_engine.specs.History.{History, LastRecord, last_record};
 ghost use Rattle.ks_engine.specs.Shows.{Shows};
-ghost use Rattle.ks_engine.specs.Asked.{command_file, asked, asked_since, IsByStamps, IsAnswer};
+ghost use Rattle.ks_engine.specs.Asked.{command_file, asked, IsAnswer};
 ghost use Rattle.ks_engine.specs.Memos.{IsMemoOf};
-ghost use Rattle.ks_engine.specs.Impact.{IsSeen};
 ghost use Rattle.ks_engine.specs.BuildStates.{build_asked, IsBuildState};
 ghost use Rattle.ks_engine.specs.Judged.{JudgesRecorded, IsBuildJudged};
 
 use crate::EngineError;
+use crate::explaining::{ask, judge};
 use crate::memos::Memo;
-use crate::stamps::Stamps;
-use ks_fixdep::{LentCommand, LentDep, Seed, command_is_legal, lend_command};
+use crate::question::Question;
+use ks_fixdep::{BorrowedCommand, Seed, borrow_command, command_is_legal};
 use ks_symbols::{Name, target_is_legal};
 use ks_tree::{Tree, command_path};
 use std::alloc::Global;
@@ -32,7 +31,7 @@ pub enum Verdict {
     /// The first of its names that changed since.
     Changed(Name),
     NoCommandFile,
-    /// Its command file has no generation, as the usual tool writes it.
+    /// Its command file has no generation, as Kbuild writes it.
     Unnumbered,
     /// Its command file has a generation above that of auto.conf.
     Ahead,
@@ -60,15 +59,15 @@ pub(crate) fn read_command_text<T: Tree>(
 }
 
 /// What the text of a target's command file says.
-pub(crate) fn lend_for<'a>(
+pub(crate) fn borrow_for<'a>(
     alloc: Global,
     target: &[u8],
     text: &'a [u8],
-) -> Result<LentCommand<'a>, EngineError>
-    ensures read { Answers (command_file target.now (Some text.now)) (λ f. Some (lent_view f)) result }
+) -> Result<BorrowedCommand<'a>, EngineError>
+    ensures read { Answers (command_file target.now (Some text.now)) (λ f. Some (borrowed_view f)) result }
     ensures no_device { IsErrOf result EngineError.Device → ⊥ }
 {
-    let file = lend_command(alloc, text)?;
+    let file = borrow_command(alloc, text)?;
     if file.target == target {
         Ok(file)
     } else {
@@ -77,88 +76,10 @@ pub(crate) fn lend_for<'a>(
 }
 
 /// Whether a command file has saved this command.
-fn has_command(file: &LentCommand<'_>, command: &[u8]) -> bool
+fn has_command(file: &BorrowedCommand<'_>, command: &[u8]) -> bool
     ensures { result ≡ bytes_eq file.now.command.now command.now }
 {
     file.command == command
-}
-
-/// The first name with a stamp above the generation.
-fn first_above<T: Tree>(
-    alloc: Global,
-    tree: &mut T,
-    memo: &mut Memo,
-    stamps: Stamps<'_>,
-    deps: &[LentDep<'_>],
-    generation: u64,
-) -> Result<Verdict, EngineError>
-    requires memo { T.is_honest → IsMemoOf (T.files tree.old) memo.old }
-    ensures reads { Reads T.Tree tree.old tree.new (IsErrOf result EngineError.Device) }
-    ensures memo { T.is_honest → IsMemoOf (T.files tree.new) memo.new }
-    ensures answer { T.is_honest → (after : Files) → IsSeen stamps.entry (T.files tree.old) after
-        → GaveUp result ⊎ IsByStamps after generation (config_names (map seen_dep deps.now)) result }
-{
-    for dep in deps {
-        match dep {
-            LentDep::File(_path) => {}
-            LentDep::Config(name) => {
-                let number = stamps.number(alloc, tree, memo, name.as_bytes())?;
-                if generation < number {
-                    let changed = Name::new(alloc, name.as_bytes())?;
-                    return Ok(Verdict::Changed(changed));
-                }
-            }
-        }
-    }
-    Ok(Verdict::Fresh)
-}
-
-/// The verdict on an object that has a command file.
-fn judge<T: Tree>(
-    alloc: Global,
-    tree: &mut T,
-    memo: &mut Memo,
-    stamps: Stamps<'_>,
-    file: &LentCommand<'_>,
-) -> Result<Verdict, EngineError>
-    requires memo { T.is_honest → IsMemoOf (T.files tree.old) memo.old }
-    ensures reads { Reads T.Tree tree.old tree.new (IsErrOf result EngineError.Device) }
-    ensures memo { T.is_honest → IsMemoOf (T.files tree.new) memo.new }
-    ensures answer { T.is_honest → (after : Files) → IsSeen stamps.entry (T.files tree.old) after → GaveUp result ⊎ IsAnswer after
-        (asked_since after (config_names (map seen_dep file.now.deps.items)) file.now.generation) result }
-{
-    let Some(generation) = file.generation else {
-        return Ok(Verdict::Unnumbered);
-    };
-    let last = stamps.generation(alloc, tree, memo)?;
-    if last < generation {
-        return Ok(Verdict::Ahead);
-    }
-    first_above(alloc, tree, memo, stamps, &file.deps, generation)
-}
-
-/// The verdict on an object, by the files.
-pub(crate) fn ask<T: Tree>(
-    alloc: Global,
-    tree: &mut T,
-    memo: &mut Memo,
-    stamps: Stamps<'_>,
-    target: &[u8],
-) -> Result<Verdict, EngineError>
-    requires memo { T.is_honest → IsMemoOf (T.files tree.old) memo.old }
-    ensures reads { Reads T.Tree tree.old tree.new (IsErrOf result EngineError.Device) }
-    ensures memo { T.is_honest → IsMemoOf (T.files tree.new) memo.new }
-    ensures answer { T.is_honest → (after : Files) → IsSeen stamps.entry (T.files tree.old) after
-        → GaveUp result ⊎ IsAnswer after (asked after target.now) result }
-{
-    if !target_is_legal(target) {
-        return Err(EngineError::BadPath(0));
-    }
-    let Some(text) = read_command_text(alloc, tree, target)? else {
-        return Ok(Verdict::NoCommandFile);
-    };
-    let file = lend_for(alloc, target, &text)?;
-    judge(alloc, tree, memo, stamps, &file)
 }
 
 /// Whether an object was built by a command, by the files.
@@ -183,12 +104,12 @@ fn ask_built<T: Tree>(
     let Some(text) = read_command_text(alloc, tree, target)? else {
         return Ok(BuildState::Verdict(Verdict::NoCommandFile));
     };
-    let file = lend_for(alloc, target, &text)?;
+    let file = borrow_for(alloc, target, &text)?;
     if !has_command(&file, command) {
         return Ok(BuildState::CommandDiffers);
     }
-    let verdict = judge(alloc, tree, memo, Stamps::Now, &file)?;
-    Ok(BuildState::Verdict(verdict))
+    let judged = judge(alloc, tree, memo, Question::Stale, &file)?;
+    Ok(BuildState::Verdict(judged.verdict))
 }
 
 /// Whether an object is stale. It writes nothing.
@@ -200,23 +121,8 @@ pub fn stale<T: Tree>(alloc: Global, tree: &mut T, target: &[u8]) -> Result<Verd
     ensures recorded { T.is_honest → JudgesRecorded (T.files tree.old) target.now result }
 {
     let mut memo = Memo::with_seed(alloc, Seed::new(tree.seed()));
-    stale_by(alloc, tree, &mut memo, target)
-}
-
-/// Whether an object is stale, by what was read before and what is still to be read.
-pub fn stale_by<T: Tree>(
-    alloc: Global,
-    tree: &mut T,
-    memo: &mut Memo,
-    target: &[u8],
-) -> Result<Verdict, EngineError>
-    requires memo { T.is_honest → IsMemoOf (T.files tree.old) memo.old }
-    ensures reads { Reads T.Tree tree.old tree.new (IsErrOf result EngineError.Device) }
-    ensures memo { T.is_honest → IsMemoOf (T.files tree.new) memo.new }
-    ensures answer { T.is_honest → GaveUp result ⊎ IsAnswer (T.files tree.old) (asked (T.files tree.old) target.now) result }
-    ensures recorded { T.is_honest → JudgesRecorded (T.files tree.old) target.now result }
-{
-    ask(alloc, tree, memo, Stamps::Now, target)
+    let answer = ask(alloc, tree, &mut memo, Question::Stale, target)?;
+    Ok(answer.verdict)
 }
 
 /// Whether an object was built by this command, and whether it is stale. It writes nothing.

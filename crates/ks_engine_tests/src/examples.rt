@@ -1,4 +1,4 @@
-//! Worked examples over a tree in memory: synchronisations, records and questions one behind the other.
+//! Worked examples over a tree in memory: synchronisations, records and questions one after the other.
 use crate::golden::*;
 use crate::steps::{example, play, recorded_text, report_text, verdict_text};
 use ks_engine::{Command, Reply, run};
@@ -23,6 +23,11 @@ fn refusals_and_reasons(rt: HostRuntime) -> Result<(), AllocError> {
 #[test]
 fn the_command_of_an_object(rt: HostRuntime) -> Result<(), AllocError> {
     example(&rt, rt.alloc(), SOURCES, COMMANDS)
+}
+
+#[test]
+fn the_rule_of_an_object(rt: HostRuntime) -> Result<(), AllocError> {
+    example(&rt, rt.alloc(), SOURCES, RULES)
 }
 
 fn reply_text(alloc: Global, reply: &Reply) -> Result<String, AllocError> {

@@ -1,7 +1,7 @@
-//! Why an object is stale: a history, and what is explained behind each step of it.
+//! Why an object is stale: a history, and what is explained after each step of it.
 use crate::golden::*;
 use crate::steps::{Step, play, text, verdict_text};
-use ks_engine::{EngineError, Explanation, Memo, explain, explain_by};
+use ks_engine::{EngineError, Explanation, Memo, Question, ask, explain};
 use ks_tree::MemoryTree;
 use std::alloc::{AllocError, Global};
 
@@ -12,7 +12,7 @@ const ALL: &str = "CONFIG_A=y\nCONFIG_B=m\nCONFIG_C=y\n";
 
 const ALL_BUT_A: &str = "CONFIG_B=m\nCONFIG_C=y\n";
 
-/// A verdict, and behind it each cause with its number and its place.
+/// A verdict, and after it each cause with its number and its place.
 fn told(alloc: Global, answer: &Result<Explanation, EngineError>) -> Result<String, AllocError> {
     let explanation = match answer {
         Ok(explanation) => explanation,
@@ -37,7 +37,7 @@ const STEPS: &[(Step<'_>, &str, &str)] = &[
     (Step::Sync(KCONFIG_C, ALL_BUT_A), "generation 3 touched A unknown 0", "stale A; A 3 x.c; C 2 a.h"),
     // A name that changed back was touched all the same.
     (Step::Sync(KCONFIG_C, ALL), "generation 4 touched A unknown 0", "stale A; A 4 x.c; C 2 a.h"),
-    // A verdict stops at the first cause, and looks at no stamp behind it.
+    // A verdict stops at the first cause, and looks at no stamp after it.
     (Step::Put("include/config/C", "x"), "done", "31 BadStamp C"),
     (Step::Stale("x.o"), "stale A", "31 BadStamp C"),
     (Step::Record("x.d", "x.o", "cc -c x.c"), "generation 4 names 3", "31 BadStamp C"),
@@ -55,7 +55,7 @@ fn all_that_speaks_for_a_verdict(rt: HostRuntime) -> Result<(), AllocError> {
     for (step, want, explained) in STEPS {
         play(&rt, alloc, &mut tree, &[(*step, *want)])?;
         let why = told(alloc, &explain(alloc, &mut tree, b"x.o"))?;
-        assert_eq!(rt; why.as_str(), *explained, "behind {want}");
+        assert_eq!(rt; why.as_str(), *explained, "after {want}");
     }
     Ok(())
 }
@@ -68,9 +68,9 @@ fn several_objects_by_what_was_read_before(rt: HostRuntime) -> Result<(), AllocE
     play(&rt, alloc, &mut tree, SOURCES)?;
     play(&rt, alloc, &mut tree, TWO_OBJECTS)?;
     let mut memo = Memo::new(alloc);
-    let first = explain_by(alloc, &mut tree, &mut memo, b"x.o");
-    let second = explain_by(alloc, &mut tree, &mut memo, b"y.o");
-    let last = explain_by(alloc, &mut tree, &mut memo, b"a$b");
+    let first = ask(alloc, &mut tree, &mut memo, Question::Why, b"x.o");
+    let second = ask(alloc, &mut tree, &mut memo, Question::Why, b"y.o");
+    let last = ask(alloc, &mut tree, &mut memo, Question::Why, b"a$b");
     assert_eq!(rt; told(alloc, &first)?.as_str(), "stale A; A 2 x.c; B 2 x.c");
     assert_eq!(rt; told(alloc, &second)?.as_str(), "stale A; A 2 b.h; B 2 a.h");
     assert_eq!(rt; told(alloc, &last)?.as_str(), "21 BadPath token 0");

@@ -1,8 +1,8 @@
-//! What is foreseen of a synchronisation and of objects behind it, and what then comes of them: each row is asked twice, before the
+//! What is foreseen of a synchronisation and of objects after it, and what then comes of them: each row is asked twice, before the
 //! synchronisation and of the tree that it leaves.
 use crate::golden::*;
 use crate::steps::{Step, answer, play, report_text, verdict_text};
-use ks_engine::{Impact, Memo};
+use ks_engine::{Impact, Memo, Question, ask};
 use ks_tree::{MemoryTree, Tree};
 use std::alloc::{AllocError, Global};
 
@@ -36,8 +36,14 @@ fn foreseen_of<T: Tree>(
     object: &str,
 ) -> Result<String, AllocError> {
     let mut memo = Memo::new(alloc);
-    match impact.stale_by(alloc, tree, &mut memo, object.as_bytes()) {
-        Ok(verdict) => verdict_text(alloc, &verdict),
+    match ask(
+        alloc,
+        tree,
+        &mut memo,
+        Question::After(impact),
+        object.as_bytes(),
+    ) {
+        Ok(answer) => verdict_text(alloc, &answer.verdict),
         Err(error) => error.to_string(alloc),
     }
 }
@@ -81,7 +87,7 @@ fn what_is_foreseen_comes(rt: HostRuntime) -> Result<(), AllocError> {
         let told = foreseen(alloc, &mut tree, dotconfig)?;
         assert_eq!(rt; told.as_str(), want, "before {dotconfig:?}");
         let came = synced(alloc, &mut tree, dotconfig)?;
-        assert_eq!(rt; came.as_str(), want, "behind {dotconfig:?}");
+        assert_eq!(rt; came.as_str(), want, "after {dotconfig:?}");
     }
     Ok(())
 }

@@ -27,7 +27,7 @@ pub(crate) const HEADER: &str =
 pub(crate) const COMMAND_FILE: &str =
     "savedcmd_x.o := cc -c x.c\n\nsource_x.o := x.c\n\ndeps_x.o := \\\n    $(wildcard include/config/A) \\\n    $(wildcard include/config/B) \\\n  a.h \\\n    $(wildcard include/config/C) \\\n  b.h \\\n\nx.o: $(deps_x.o)\n\n$(deps_x.o):\n#generation 1\n";
 
-/// What it is without a number, with a number above that of auto.conf, and cut behind its eighth line.
+/// What it is without a number, with a number above that of auto.conf, and cut after its eighth line.
 pub(crate) const UNNUMBERED: &str =
     "savedcmd_x.o := cc -c x.c\n\nsource_x.o := x.c\n\ndeps_x.o := \\\n    $(wildcard include/config/A) \\\n    $(wildcard include/config/B) \\\n  a.h \\\n    $(wildcard include/config/C) \\\n  b.h \\\n\nx.o: $(deps_x.o)\n\n$(deps_x.o):\n";
 
@@ -149,4 +149,28 @@ pub(crate) const COMMANDS: &[(Step<'_>, &str)] = &[
     (Step::Put("include/config/auto.conf", "CONFIG_A=y\n"), "done"),
     (Step::Outdated("x.o", "cc -O2 -c x.c"), "command-differs"),
     (Step::Outdated("x.o", "cc -c x.c"), "41 NeverSynced"),
+];
+
+/// A dependency file becomes one rule, after a record.
+#[rattlefmt::skip]
+pub(crate) const RULES: &[(Step<'_>, &str)] = &[
+    (Step::Put("x.d", "x.o: x.c a.h \\\n config.h my_config.h a.h b.h\n\na.h:\n"), "done"),
+    (Step::Put("my_config.h", ""), "done"),
+    (Step::Sync(KCONFIG, BOTH), "generation 1 touched A B unknown 0"),
+    (Step::Depfile("config.h", "x.d", "x.o"), "generation 1 names 3"),
+    (Step::Read("x.d"), "x.o: \\\n  x.c \\\n  a.h \\\n  my_config.h \\\n  b.h \\\n  include/config/A \\\n  include/config/B \\\n  include/config/C\n"),
+    (Step::Read("x.d.tmp"), "none"),
+    // a stamp that is there is kept, and one that is made says what a missing one does
+    (Step::Read("include/config/A"), "1\n"),
+    (Step::Read("include/config/C"), ""),
+    (Step::Stale("x.o"), "fresh"),
+    (Step::Sync(KCONFIG, ONLY_B), "generation 2 touched A unknown 0"),
+    (Step::Stale("x.o"), "stale A"),
+    // refused, and the dependency file stays
+    (Step::Put("x.d", "x.o: x.c none.h\n"), "done"),
+    (Step::Depfile("config.h", "x.d", "x.o"), "40 MissingFile none.h"),
+    (Step::Read("x.d"), "x.o: x.c none.h\n"),
+    (Step::Depfile("config.h", ".y.o.cmd", "x.o"), "21 BadPath token 0"),
+    (Step::Depfile("config.h", "include/config/A", "x.o"), "21 BadPath token 0"),
+    (Step::Read("include/config/A"), "2\n"),
 ];

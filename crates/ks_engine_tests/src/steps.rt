@@ -1,5 +1,8 @@
 //! Tables of what is asked of a tree, and of what is answered.
-use ks_engine::{BuildState, Recorded, Report, Verdict, outdated, record_object, stale, sync};
+use ks_engine::{
+    BuildState, Recorded, Report, Verdict, outdated, record_depfile, record_object, stale, sync,
+};
+use ks_fixdep::Header;
 use ks_symbols::Name;
 use ks_tree::{MemoryTree, Tree};
 use std::alloc::{AllocError, Global};
@@ -10,6 +13,8 @@ use std::process::Abort;
 pub(crate) enum Step<'a> {
     Sync(&'a str, &'a str),
     Record(&'a str, &'a str, &'a str),
+    /// Of a header, a dependency file and a target.
+    Depfile(&'a str, &'a str, &'a str),
     Stale(&'a str),
     Outdated(&'a str, &'a str),
     Put(&'a str, &'a str),
@@ -77,6 +82,14 @@ pub(crate) fn answer<T: Tree>(
         Step::Record(depfile, target, command) => {
             let (depfile, target) = (depfile.as_bytes(), target.as_bytes());
             match record_object(alloc, tree, depfile, target, command.as_bytes()) {
+                Ok(recorded) => return recorded_text(alloc, recorded),
+                Err(error) => error,
+            }
+        }
+        Step::Depfile(header, depfile, target) => {
+            let header = Header::At(header.as_bytes());
+            let (depfile, target) = (depfile.as_bytes(), target.as_bytes());
+            match record_depfile(alloc, tree, header, depfile, target, b"cc") {
                 Ok(recorded) => return recorded_text(alloc, recorded),
                 Err(error) => error,
             }

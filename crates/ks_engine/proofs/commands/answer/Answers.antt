@@ -1,12 +1,5 @@
-use Rattle.std.proofs.Common.{◌≡◌, ◌≤◌, Err, sym, ap, subst}
-use Rattle.ks_tree.specs.Files.{HasRisen}
-use Rattle.ks_engine.specs.declared.error.EngineError.{EngineError}
-use Rattle.ks_engine.specs.declared.error.EngineError.TheVariants.{Device}
-use Rattle.ks_engine.specs.declared.commands.Command.{Command}
-use Rattle.ks_engine.specs.declared.commands.Reply.{Reply}
-use Rattle.ks_engine.specs.declared.commands.Reply.TheVariants.{Synced, Recorded, Refused}
-use Rattle.ks_engine.specs.Actions.{action}
-use Rattle.ks_engine.specs.FileRuns.{FileState, LeavesFiles, StepsTo, state}
+use Rattle.ks_engine.proofs.Prelude.{◌≡◌, ◌≤◌, Err, sym, ap, subst, HasRisen, EngineError, Device, Command, Reply, Refused, action, FileState, LeavesFiles, StepsTo, state}
+use Rattle.ks_engine.specs.declared.commands.Reply.TheVariants.{Synced, Recorded}
 use Rattle.ks_engine.proofs.commands.answer.Goals as goal
 
 refused_is : (e : EngineError) → Refused e ≡ Refused Device → e ≡ Device

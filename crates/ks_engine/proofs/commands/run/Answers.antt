@@ -1,7 +1,5 @@
-use Rattle.std.proofs.Common.{◌≡◌, ◌∷◌, ◌++◌, [], ◌∙◌, ap, sym, arith, cond, is_ok, map, refl, subst, take_all}
-use Rattle.std.proofs.lemmas.Grind.{common_steps}
-use Rattle.ks_engine.specs.Actions.{action}
-use Rattle.ks_engine.specs.FileRuns.{FileRun, state}
+use Rattle.ks_engine.proofs.Prelude.{◌≡◌, ◌∷◌, ◌++◌, [], ◌∙◌, ap, sym, arith, cond, map, refl, subst, take_all, common_steps, action, FileRun, state}
+use Rattle.std.proofs.Common.{is_ok}
 use Rattle.ks_engine.proofs.FileRunning.{more, goes_on}
 use Rattle.ks_engine.proofs.commands.run.Goals as goal
 

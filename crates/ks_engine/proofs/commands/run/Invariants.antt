@@ -1,7 +1,4 @@
-use Rattle.std.proofs.Common.{◌≡◌, ◌≤◌, length, take, map, vec_len, vec_capacity}
-use Rattle.ks_engine.specs.Actions.{action}
-use Rattle.ks_engine.specs.FileRuns.{FileRun, state}
-use Rattle.ks_engine.specs.Memos.{IsMemoOf}
+use Rattle.ks_engine.proofs.Prelude.{◌≡◌, ◌≤◌, length, take, map, vec_len, vec_capacity, action, FileRun, state, IsMemoOf}
 use Rattle.ks_engine.proofs.commands.run.Given as goal
 
 -- the commands so far have a run with the replies so far, and there is room for the other replies

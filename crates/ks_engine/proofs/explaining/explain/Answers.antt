@@ -1,4 +1,7 @@
 use Rattle.ks_engine.proofs.explaining.explain.Goals as goal
 
-pub explain_by-requires : goal.explain_by-requires
-explain_by-requires g c = record { memo = λ honest. c.with_seed-memo.ensures (g.T.Tree.files c.args.tree.now) }
+pub ask-requires : goal.ask-requires
+ask-requires g c = record { memo = λ honest. c.with_seed-memo.ensures (g.T.Tree.files c.args.tree.now) }
+
+pub returns-clause-recorded : goal.returns-clause-recorded
+returns-clause-recorded g c = λ honest. (c.ask.ensures.answer honest).recorded

@@ -1,7 +1,4 @@
-use Rattle.std.proofs.Common.{inr, sym, ◌∙◌, ap, Some, Err, option_map}
-use Rattle.std.proofs.lemmas.Result.{err_from_is_err_and}
-use Rattle.ks_tree.specs.Files.{content}
-use Rattle.ks_tree.specs.Paths.{auto_path}
+use Rattle.ks_engine.proofs.Prelude.{inr, sym, ◌∙◌, ap, Some, Err, option_map, err_from_is_err_and, content, auto_path}
 use Rattle.ks_engine.proofs.Reading.{old_fault, old_refused, last_refused, last_none, last_zero, last_some}
 use Rattle.ks_engine.proofs.last_sync.read_generation.Goals as goal
 

@@ -1,4 +1,4 @@
-use Rattle.std.proofs.Common.{◌+◌, ◌∙◌, ap}
+use Rattle.ks_engine.proofs.Prelude.{◌+◌, ◌∙◌, ap}
 use Rattle.ks_engine.proofs.Reading.{are_changed}
 use Rattle.ks_engine.proofs.planning.plan.Goals as goal
 

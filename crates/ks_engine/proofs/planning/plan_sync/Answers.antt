@@ -1,7 +1,4 @@
-use Rattle.std.proofs.Common.{inl, inr, refl, ⊎_elim}
-use Rattle.std.proofs.lemmas.Result.{err_from_is_err_and}
-use Rattle.ks_engine.specs.SyncPlan.{plan_of}
-use Rattle.ks_engine.specs.Views.{sources_of, old_of}
+use Rattle.ks_engine.proofs.Prelude.{inl, inr, refl, ⊎_elim, err_from_is_err_and, plan_of, sources_of, old_of}
 use Rattle.ks_engine.proofs.Reading.{plan_of_old, plan_of_over}
 use Rattle.ks_engine.proofs.planning.plan_sync.Goals as goal
 

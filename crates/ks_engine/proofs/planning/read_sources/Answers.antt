@@ -1,9 +1,6 @@
-use Rattle.std.proofs.Common.{◌∙◌, sym, subst}
+use Rattle.ks_engine.proofs.Prelude.{◌∙◌, sym, subst, get, SettingsView, is_title, Sources}
 use Rattle.std.specs.Prelude.{IsTrue}
-use Rattle.std.specs.FinMap.{get}
-use Rattle.ks_symbols.specs.Configuration.{SettingsView}
-use Rattle.ks_symbols.specs.Titles.{is_title}
-use Rattle.ks_engine.specs.SyncPlan.{AreSources, Sources}
+use Rattle.ks_engine.specs.SyncPlan.{AreSources}
 use Rattle.ks_engine.proofs.Reading.{are_sources}
 use Rattle.ks_engine.proofs.planning.read_sources.Goals as goal
 

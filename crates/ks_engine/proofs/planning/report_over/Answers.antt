@@ -1,6 +1,4 @@
-use Rattle.std.proofs.Common.{◌≡◌, ◌≤◌, ◌+◌, ◌∙◌, ap, length, min, subst, arith}
-use Rattle.ks_output.specs.AutoText.{auto_text}
-use Rattle.ks_engine.specs.Views.{sources_of, old_of, PlansOver, Reports}
+use Rattle.ks_engine.proofs.Prelude.{◌≡◌, ◌≤◌, ◌+◌, ◌∙◌, ap, length, min, subst, arith, auto_text, sources_of, old_of, PlansOver, Reports}
 use Rattle.ks_engine.proofs.Reading.{plan_made}
 use Rattle.ks_engine.proofs.planning.report_over.Goals as goal
 

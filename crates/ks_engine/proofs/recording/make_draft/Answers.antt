@@ -1,9 +1,5 @@
-use Rattle.std.proofs.Common.{◌≡◌, ◌≤◌, ◌<◌, inr, sym, ◌∙◌, ap, refl, subst, arith, length}
-use Rattle.std.proofs.lemmas.List.{length-map}
+use Rattle.ks_engine.proofs.Prelude.{◌≡◌, ◌≤◌, ◌<◌, inr, sym, ◌∙◌, ap, refl, subst, arith, length, length-map, record_of, names_by, numbered}
 use Rattle.ks_fixdep.specs.FoundNames.{names_of}
-use Rattle.ks_fixdep.specs.Record.{record_of}
-use Rattle.ks_fixdep.specs.SourceScan.{names_by}
-use Rattle.ks_engine.specs.Recorded.{numbered}
 use Rattle.ks_engine.proofs.Drafting.{draft_large, draft_made}
 use Rattle.ks_engine.proofs.LowerLaws.{names_of_record}
 use Rattle.ks_engine.proofs.recording.make_draft.Goals as goal

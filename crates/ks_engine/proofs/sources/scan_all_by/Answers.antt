@@ -1,13 +1,5 @@
-use Rattle.std.proofs.Common.{rules, ◌≡◌, ◌<◌, ◌⊎◌, inl, inr, ⊎_elim, ◌+◌, ◌∷◌, [], Err, sym, ap, ◌∙◌, subst, arith, get_or, drop, length, length-append}
-use Rattle.std.proofs.lemmas.Option.{slice_get-get_or}
-use Rattle.std.proofs.lemmas.Result.{err_from_is_err_and}
-use Rattle.ks_fixdep.specs.declared.dependency_file.Role.TheVariants.{Source}
-use Rattle.ks_fixdep.specs.SourceScan.{found_of, picked}
-use Rattle.ks_tree.specs.Files.{content}
-use Rattle.ks_engine.specs.Memos.{IsKept}
-use Rattle.ks_engine.specs.Refusals.{IsGivenUp}
-use Rattle.ks_engine.specs.Recording.{scanned, scanned_all}
-use Rattle.ks_engine.proofs.Scanning.{behind, picked_next, scanned_next, scanned_refused, scanned_end}
+use Rattle.ks_engine.proofs.Prelude.{rules, ◌≡◌, ◌<◌, ◌⊎◌, inl, inr, ⊎_elim, ◌+◌, ◌∷◌, [], Err, sym, ap, ◌∙◌, subst, arith, get_or, drop, length, length-append, err_from_is_err_and, found_of, picked, content, IsKept, IsGivenUp, scanned, scanned_all}
+use Rattle.ks_engine.proofs.Scanning.{following, picked_next, scanned_next, scanned_refused, scanned_end}
 use Rattle.ks_engine.proofs.sources.scan_all_by.Goals as goal
 
 pub returns-in_err-source-clause-refused : goal.returns-in_err-source-clause-refused
@@ -17,11 +9,10 @@ returns-in_err-source-clause-refused g c = λ honest.
     let same = c.loop-place.invariant.unchanged honest in
     let i = c.loop-place.place in
     let here : i < length ps = omega arith in
-    let one = get_or ps i ([], Source) in
-    let at = slice_get-get_or ps i ([], Source) here in
+    let at = sym c.in-Some.ensures.value in
     let error = c.in_err-source.field-0.0 in
     let so_far = c.loop-place.invariant.scanned honest in
-    let said = subst (λ f. IsGivenUp error ⊎ (scanned one.0 (content f one.0) ≡ Err error)) same (c.in_err-source.ensures.refused honest one at) in
+    let said = subst (λ f. IsGivenUp error ⊎ (scanned c.in-Some.path.now (content f c.in-Some.path.now) ≡ Err error)) same (c.in_err-source.ensures.refused honest) in
     rw (p.1, p.2) (⊎_elim (λ given. inl given)
     (λ bad. inr (scanned_refused (g.T.Tree.files c.args.tree.now) ps i _ (picked (found_of c.loop-place.memo.found.scan) c.loop-place.sources.items) error _
     at bad so_far.1)) said)
@@ -35,25 +26,24 @@ loop-place-preserved g c =
       later = search rules;
       memo = c.in_ok-source.ensures.memo;
       within = omega arith;
-      room = c.scan_at.auto.room ∙ c.loop-place.invariant.room;
+      room = c.source_at.auto.room ∙ c.loop-place.invariant.room;
       counts = ap length c.in_ok-push.ensures.items ∙ length-append c.loop-place.sources.items (c.in_ok-source.source ∷ [])
           ∙ ap (λ n. n + 1) c.loop-place.invariant.counts;
       scanned = λ honest.
           let so_far = c.loop-place.invariant.scanned honest in
           let files = g.T.Tree.files c.args.tree.now in
           let found = found_of c.loop-place.memo.found.scan in
-          let later = found_of c.scan_at.new.memo.found.scan in
+          let later = found_of c.source_at.new.self.found.scan in
           let places = c.loop-place.sources.items in
           let here : i < length ps = omega arith in
-          let one = get_or ps i ([], Source) in
-          let at = slice_get-get_or ps i ([], Source) here in
-          let kept = subst (λ f. IsKept f later one.0 c.in_ok-source.source) (c.loop-place.invariant.unchanged honest)
-          (c.in_ok-source.ensures.scanned honest one at) in
+          let at = sym c.in-Some.ensures.value in
+          let kept = subst (λ f. IsKept f later c.in-Some.path.now c.in_ok-source.source) (c.loop-place.invariant.unchanged honest)
+          (c.in_ok-source.ensures.scanned honest) in
           let next = picked_next found later places c.push.new.self.items c.in_ok-source.source c.in_ok-source.ensures.grows so_far.0 kept.0
           c.in_ok-push.ensures.items in (
             next.0,
             scanned_next files ps i _ (picked found places) (get_or later c.in_ok-source.source []) _ at kept.1 so_far.1
-                ∙ ap (λ l. behind l (scanned_all files (drop (i + 1) ps))) (sym next.1),
+                ∙ ap (λ l. following l (scanned_all files (drop (i + 1) ps))) (sym next.1),
           );
     }
 

@@ -1,8 +1,5 @@
-use Rattle.std.proofs.Common.{◌≡◌, ◌≤◌, true, drop, length}
-use Rattle.ks_fixdep.specs.SourceScan.{found_of, picked}
-use Rattle.ks_engine.specs.Memos.{IsMemoOf}
-use Rattle.ks_engine.specs.Recording.{scanned_all}
-use Rattle.ks_engine.proofs.Scanning.{are_placed, behind}
+use Rattle.ks_engine.proofs.Prelude.{◌≡◌, ◌≤◌, true, drop, length, found_of, picked, IsMemoOf, scanned_all}
+use Rattle.ks_engine.proofs.Scanning.{are_placed, following}
 use Rattle.ks_engine.proofs.sources.scan_all_by.Given as goal
 
 -- there are as many places as there were prerequisites; on an honest tree all there is to find is what the sources there have and what the
@@ -17,5 +14,5 @@ invariant-loop-place g l = record {
   counts : length l.sources.items ≡ l.place;
   scanned : g.T.Tree.is_honest → (are_placed (found_of l.memo.found.scan) l.sources.items ≡ true)
       × (scanned_all (g.T.Tree.files l.fn.tree) l.prerequisites
-      ≡ behind (picked (found_of l.memo.found.scan) l.sources.items) (scanned_all (g.T.Tree.files l.fn.tree) (drop l.place l.prerequisites)));
+      ≡ following (picked (found_of l.memo.found.scan) l.sources.items) (scanned_all (g.T.Tree.files l.fn.tree) (drop l.place l.prerequisites)));
 }

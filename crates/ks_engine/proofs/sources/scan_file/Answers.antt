@@ -1,8 +1,5 @@
-use Rattle.std.proofs.Common.{rules, ◌++◌, ◌∷◌, [], arith, subst, sym, ap, ◌∙◌, inr, refl, take}
-use Rattle.ks_tree.specs.Files.{content, IsReadAt, IsPieceRead}
-use Rattle.ks_fixdep.specs.FoundNames.{names_in}
-use Rattle.ks_engine.specs.Recording.{scanned}
-use Rattle.ks_engine.proofs.Pieces.{scanned_whole, scanned_large, piece_behind, same_source}
+use Rattle.ks_engine.proofs.Prelude.{rules, ◌++◌, ◌∷◌, [], arith, subst, sym, ap, ◌∙◌, inr, refl, take, content, IsReadAt, IsPieceRead, names_in, scanned}
+use Rattle.ks_engine.proofs.Pieces.{scanned_whole, scanned_large, piece_after, same_source}
 use Rattle.ks_engine.proofs.sources.scan_file.Goals as goal
 
 pub returns-then-count-lt-PIECE-clause-scanned : goal.returns-then-count-lt-PIECE-clause-scanned
@@ -17,7 +14,7 @@ returns-then-count-lt-PIECE-clause-scanned g c =
           (let read = subst (IsReadAt (content (g.T.Tree.files c.loop-count.tree) c.args.path.now) c.loop-count.offset c.loop-count.room c.read_at.new.into)
           c.in-Some.is (c.in_ok-count.ensures.found honest) in
           let at = ap (λ f. content f c.args.path.now) (sym (c.loop-count.invariant.unchanged honest)) ∙ read.1 in
-          let text = ap (λ t. t ++ piece) (stood.2 honest read.0 at) ∙ piece_behind read.0 c.loop-count.room c.read_at.new.into c.loop-count.offset
+          let text = ap (λ t. t ++ piece) (stood.2 honest read.0 at) ∙ piece_after read.0 c.loop-count.room c.read_at.new.into c.loop-count.offset
           c.in-Some.count read.2 in
           ap (scanned c.args.path.now) at
           ∙ scanned_whole c.args.path.now read.0 c.loop-count.room c.read_at.new.into _ c.loop-count.offset c.in-Some.count read.2 c.loop-count.invariant.full
@@ -60,6 +57,6 @@ loop-count-preserved g c = record {
             let there = ap (λ f. content f c.args.path.now) (c.loop-count.invariant.unchanged honest) ∙ at in
             let same = same_source _ read.0 b read.1 there in
             let part = subst (λ text. IsPieceRead text c.loop-count.offset c.loop-count.room c.read_at.new.into c.in-Some.count) same read.2 in
-            ap (λ t. t ++ piece) (stood.2 honest b at) ∙ piece_behind b c.loop-count.room c.read_at.new.into c.loop-count.offset c.in-Some.count part),
+            ap (λ t. t ++ piece) (stood.2 honest b at) ∙ piece_after b c.loop-count.room c.read_at.new.into c.loop-count.offset c.in-Some.count part),
       );
 }

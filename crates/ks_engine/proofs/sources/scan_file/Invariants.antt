@@ -1,6 +1,4 @@
-use Rattle.std.proofs.Common.{◌≡◌, ◌-◌, ◌≤◌, List, ℕ, Some, take, length}
-use Rattle.ks_tree.specs.Files.{content}
-use Rattle.ks_fixdep.specs.SourceScan.{StandsAfter, found_of}
+use Rattle.ks_engine.proofs.Prelude.{◌≡◌, ◌-◌, ◌≤◌, List, ℕ, Some, take, length, content, StandsAfter, found_of}
 use Rattle.ks_engine.proofs.sources.scan_file.Given as goal
 
 -- it stands after what was read, which on an honest tree are the bytes before the offset

@@ -1,6 +1,4 @@
-use Rattle.std.proofs.Common.{inl, inr, ⊎_elim, ◌∙◌, ap, Ok, Err, subst}
-use Rattle.std.proofs.lemmas.Result.{err_from_is_err_and}
-use Rattle.ks_engine.specs.Synchronised.{SyncDone, SyncSome}
+use Rattle.ks_engine.proofs.Prelude.{inl, inr, ⊎_elim, ◌∙◌, ap, Ok, Err, subst, err_from_is_err_and, SyncDone, SyncSome}
 use Rattle.ks_engine.proofs.Reading.{given_fault}
 use Rattle.ks_engine.proofs.Following.{sync_follows, refused_follows}
 use Rattle.ks_engine.proofs.synchronise.sync.Goals as goal

@@ -1,6 +1,4 @@
-use Rattle.std.proofs.Common.{◌++◌, ◌∙◌, ap}
-use Rattle.ks_output.specs.AutoText.{auto_text}
-use Rattle.ks_output.specs.Header.{header_text}
+use Rattle.ks_engine.proofs.Prelude.{◌++◌, ◌∙◌, ap, auto_text, header_text}
 use Rattle.ks_engine.proofs.synchronise.work_of.Goals as goal
 
 pub returns : goal.returns

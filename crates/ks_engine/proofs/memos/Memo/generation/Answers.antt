@@ -1,10 +1,4 @@
-use Rattle.std.proofs.Common.{◌≡◌, sym, ◌∙◌, ap, subst, Ok}
-use Rattle.std.specs.Prelude.{IfSome}
-use Rattle.ks_fixdep.specs.SourceScan.{found_of}
-use Rattle.ks_tree.specs.Files.{content}
-use Rattle.ks_tree.specs.Paths.{auto_path}
-use Rattle.ks_engine.specs.LastSync.{last_generation}
-use Rattle.ks_engine.specs.Memos.{pairs_of, AreStamps, AreSources}
+use Rattle.ks_engine.proofs.Prelude.{string_bytes, vec_items, ◌≡◌, sym, ◌∙◌, ap, subst, Ok, IfSome, found_of, content, auto_path, last_generation, pairs_of, AreStamps, AreSources}
 use Rattle.ks_engine.proofs.memos.Memo.generation.Goals as goal
 
 pub returns-clause-memo : goal.returns-clause-memo
@@ -15,6 +9,6 @@ returns-clause-memo g c = λ honest.
     record {
       generation = λ k is. subst (λ o. IfSome o (λ n. last_generation (content new auto_path) ≡ Ok n)) is
           (ap (λ f. last_generation (content f auto_path)) same ∙ c.in_ok-generation.ensures.read honest);
-      stamps = subst (λ f. AreStamps f (pairs_of c.args.self.now.stamps.entries)) (sym same) old.stamps;
-      sources = subst (λ f. AreSources f (found_of c.args.self.now.found.scan) (pairs_of c.args.self.now.sources.entries)) (sym same) old.sources;
+      stamps = subst (λ f. AreStamps f (pairs_of string_bytes c.args.self.now.stamps.entries)) (sym same) old.stamps;
+      sources = subst (λ f. AreSources f (found_of c.args.self.now.found.scan) (pairs_of vec_items c.args.self.now.sources.entries)) (sym same) old.sources;
     }

@@ -1,7 +1,6 @@
-use Rattle.std.proofs.Common.{rules, ◌∙◌}
-use Rattle.std.proofs.lemmas.Fn.{always_returns_same}
+use Rattle.ks_engine.proofs.Prelude.{rules, ◌∙◌, always_returns_same}
 use Rattle.ks_engine.proofs.Foreseeing.{order, search_tells}
-use Rattle.ks_engine.proofs.stamps.is_among.Goals as goal
+use Rattle.ks_engine.proofs.question.is_among.Goals as goal
 
 pub returns : goal.returns
 returns c = λ rising.

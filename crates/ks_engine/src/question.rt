@@ -1,5 +1,5 @@
-//! Which stamps a verdict goes by: those of the tree, or those that a synchronisation would leave. Nothing else of a question differs
-//! between the two, so a foreseen verdict can't part from the one that is answered once the synchronisation is done.
+//! What is asked of an object, and which stamps the answer goes by: those of the tree, or those that a synchronisation would leave.
+//! Nothing else differs between the questions, so the answer to one can't part from the answer to another.
 ghost use Rattle.std.specs.Prelude.{◌≡◌, IfOk, IfErr, IsErrOf, IsTrue};
 ghost use Rattle.std.specs.Ordering.{nat_cmp};
 ghost use Rattle.std.specs.Cmp.Lexicographic.{slice_cmp};
@@ -12,21 +12,31 @@ ghost use Rattle.ks_tree.specs.Stamps.{HasNumber, IsStampRefusal};
 ghost use Rattle.ks_engine.specs.Refusals.{Answers};
 ghost use Rattle.ks_engine.specs.LastSync.{last_generation};
 ghost use Rattle.ks_engine.specs.Memos.{IsMemoOf};
-ghost use Rattle.ks_engine.specs.Impact.{IsSeen};
+ghost use Rattle.ks_engine.specs.Questions.{IsSeen, limit_of};
 
 use crate::memos::Memo;
-use crate::{EngineError, Report};
+use crate::{EngineError, Impact};
 use ks_symbols::Name;
 use ks_tree::{Tree, TreeError};
 use std::alloc::Global;
 
-/// The stamps that a verdict goes by.
+/// What is asked of an object.
 #[derive(Clone, Copy)]
-pub(crate) enum Stamps<'a> {
-    /// As they are.
-    Now,
-    /// As a synchronisation with this report would leave them.
-    Behind(&'a Report),
+pub enum Question<'a> {
+    /// Whether it is stale, and by which of its names first.
+    Stale,
+    /// Whether it is stale, and by which of its names.
+    Why,
+    /// Whether it would be stale after this synchronisation, and by which of its names first.
+    After(&'a Impact),
+}
+
+/// How many of an object's causes are listed.
+#[derive(Clone, Copy)]
+pub enum Limit {
+    /// The first alone, after which no stamp is looked at.
+    First,
+    All,
 }
 
 /// Whether a name is among rising ones.
@@ -36,7 +46,17 @@ fn is_among(names: &[Name], name: &[u8]) -> bool
     names.binary_search_by(|at| at.as_bytes().cmp(name)).is_ok()
 }
 
-impl Stamps<'_> {
+impl Question<'_> {
+    /// How many causes answer it.
+    pub fn limit(self) -> Limit
+        ensures { result ≡ limit_of self.entry }
+    {
+        match self {
+            Question::Why => Limit::All,
+            Question::Stale | Question::After(_) => Limit::First,
+        }
+    }
+
     /// The generation that a record would get.
     pub(crate) fn generation<T: Tree>(
         self,
@@ -51,8 +71,8 @@ impl Stamps<'_> {
             → Answers (last_generation (content after auto_path)) (λ g. g) result }
     {
         match self {
-            Stamps::Now => memo.generation(alloc, tree),
-            Stamps::Behind(report) => Ok(report.generation),
+            Question::After(impact) => Ok(impact.report.generation),
+            Question::Stale | Question::Why => memo.generation(alloc, tree),
         }
     }
 
@@ -74,7 +94,9 @@ impl Stamps<'_> {
             → IfErr result (IsStampRefusal name.now (content after (stamp_path name.now))) }
     {
         match self {
-            Stamps::Behind(report) if is_among(&report.touched, name) => Ok(report.generation),
+            Question::After(impact) if is_among(&impact.report.touched, name) => {
+                Ok(impact.report.generation)
+            }
             _ => memo.stamp(alloc, tree, name),
         }
     }

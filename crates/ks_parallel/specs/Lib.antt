@@ -1,0 +1,11 @@
+pub mod Calls
+pub mod Orders
+pub mod Frames
+pub mod Views
+pub mod Shuffles
+pub mod Jobs
+pub mod Known
+pub mod Drafted
+pub mod Recorders
+pub mod Played
+pub mod Outcomes

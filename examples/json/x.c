@@ -1,0 +1,5 @@
+#include "a.h"
+
+#ifdef CONFIG_A
+int answer(void) { return SMALL; }
+#endif

@@ -1,4 +1,8 @@
+pub mod Prelude
+pub mod Viewed
 pub mod Refusing
 pub mod Writing
 pub mod Printing
 pub mod Siting
+pub mod JsonReading
+pub mod JsonObjects

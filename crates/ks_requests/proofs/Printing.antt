@@ -1,12 +1,5 @@
 -- The lines of replies, from a place on.
-use Rattle.std.proofs.Common.{◌≡◌, ◌∙◌, ◌<◌, ◌+◌, ℕ, suc, List, [], ◌∷◌, ◌++◌, length, drop, take, map, get_or, max, refl, sym, ap, ap₂, subst, arith, drop-cons, append_assoc}
-use Rattle.std.proofs.lemmas.List.{map-append, take_more}
-use Rattle.std.proofs.lemmas.List.Sums.{fold-append}
-use Rattle.ks_engine.specs.declared.commands.Command.{Command}
-use Rattle.ks_engine.specs.declared.commands.Reply.{Reply}
-use Rattle.ks_engine.specs.Actions.{action}
-use Rattle.ks_requests.specs.Replies.{reply_line, reply_lines}
-use Rattle.ks_requests.specs.Statuses.{worst}
+use Rattle.ks_requests.proofs.Prelude.{◌≡◌, ◌∙◌, ◌<◌, ◌+◌, ℕ, suc, List, [], ◌∷◌, ◌++◌, length, drop, take, map, get_or, max, refl, sym, ap, ap₂, subst, arith, drop-cons, append_assoc, map_more, fold-append, Command, Reply, action, reply_line, reply_lines, worst}
 
 pub lines_from : (cs : List Command) (rs : List Reply) (i : ℕ) (c : Command) (r : Reply) → i < length cs → i < length rs
     → reply_lines (map action (drop i cs)) (drop i rs) ≡ reply_line (action (get_or cs i c)) (get_or rs i r)
@@ -30,7 +23,7 @@ lines_more cs rs i c r old new all in_cs in_rs so_far at more =
     ∙ ap (λ xs. old ++ xs) (sym (lines_from cs rs i c r in_cs in_rs))
     ∙ so_far)
 
--- a piece behind what was appended already
+-- a piece after what was appended already
 pub then_appended : (old one new a b : List ℕ) → one ≡ old ++ a → new ≡ one ++ b → new ≡ old ++ (a ++ b)
 then_appended old one new a b first second = second ∙ ap (λ xs. xs ++ b) first ∙ append_assoc old a b
 
@@ -39,5 +32,4 @@ pub worst_more : {X : Type 0} (f : X → ℕ) (xs : List X) (i : ℕ) (x : X) (s
     → status ≡ worst (map f (take i xs)) → one ≡ f x → all ≡ max status one → all ≡ worst (map f (take (i + 1) xs))
 worst_more f xs i x status one all within at so_far this now =
     now ∙ ap₂ max so_far (this ∙ ap f at)
-    ∙ sym (ap (λ ys. worst (map f ys)) (take_more xs i x within) ∙ ap worst (map-append f (take i xs) (get_or xs i x ∷ [])) ∙ fold-append max 0
-    (map f (take i xs)) (f (get_or xs i x) ∷ []))
+    ∙ sym (ap worst (map_more f xs i x within) ∙ fold-append max 0 (map f (take i xs)) (f (get_or xs i x) ∷ []))

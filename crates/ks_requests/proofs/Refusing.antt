@@ -1,15 +1,8 @@
 -- The refusal of a part is that of the preview, where the parts before it are not refused.
-use Rattle.std.proofs.Common.{◌≡◌, inl, inr, sym, subst, ◌≢◌, ◌-◌, ◌^◌, ℕ, List, Option, Some, None, option_map, refl, ap, ◌∙◌}
-use Rattle.std.proofs.lemmas.Bool.{cond-true, cond-false, eq-eqb, ne_eqb}
-use Rattle.ks_symbols.specs.declared.error.SourceError.{SourceError}
+use Rattle.ks_requests.proofs.Prelude.{◌≡◌, inl, inr, sym, subst, ◌≢◌, ◌-◌, ◌^◌, ℕ, List, Option, Some, None, option_map, ap, ◌∙◌, cond-true, cond-false, eq-eqb, ne_eqb, SourceError, or_else, IsRefusal, AutoError, PreviewError, source_refusal, IsPreviewRefusal, old_refusal, old_generation, full_refusal, preview_refusal}
 use Rattle.ks_symbols.specs.declared.error.SourceError.TheVariants as source
-use Rattle.ks_symbols.specs.Refusals.{or_else, IsRefusal}
-use Rattle.ks_output.specs.declared.auto_conf.AutoError.{AutoError}
 use Rattle.ks_output.specs.declared.auto_conf.AutoError.TheVariants as auto
-use Rattle.ks_requests.specs.declared.preview.PreviewError.{PreviewError}
 use Rattle.ks_requests.specs.declared.preview.PreviewError.TheVariants as preview
-use Rattle.ks_engine.specs.SyncPlan.{source_refusal}
-use Rattle.ks_requests.specs.Preview.{IsPreviewRefusal, WritesNothing, old_refusal, old_generation, full_refusal, preview_refusal}
 
 source_refusal_is : (e : SourceError) (o : Option PreviewError) → o ≡ Some (preview.Source e) → IsPreviewRefusal (preview.Source e) o
 source_refusal_is (source.NotBare n) o h = h
@@ -55,14 +48,6 @@ pub preview_refusal-full : (kconfig dotconfig : List ℕ) (old : Option (List �
     → preview_refusal kconfig dotconfig old ≡ full_refusal (old_generation old)
 preview_refusal-full kconfig dotconfig old h k =
     preview_refusal-old kconfig dotconfig old h ∙ ap (λ o. or_else (option_map preview.Auto o) (full_refusal (old_generation old))) k
-
--- what was not written is unwritten
-pub nothing_written : (e : PreviewError) (known : Option (List ℕ)) → WritesNothing e known known
-nothing_written (preview.Source e) known = refl
-nothing_written (preview.Auto e) known = refl
-nothing_written preview.OutOfMemory known = refl
-nothing_written preview.GenerationFull known = refl
-nothing_written preview.Output known = tt
 
 pub full_refusal-full : (generation : ℕ) → generation ≡ 2 ^ 64 - 1 → full_refusal generation ≡ Some preview.GenerationFull
 full_refusal-full generation h = cond-true _ _ _ (eq-eqb generation (2 ^ 64 - 1) h)

@@ -1,8 +1,5 @@
 -- What stands at a site.
-use Rattle.std.proofs.Common.{◌≡◌, List, ℕ, Option, Some, None, IfSome, option_map}
-use Rattle.ks_tree.specs.Files.{Files}
-use Rattle.ks_requests.specs.declared.sites.Part.{Part}
-use Rattle.ks_requests.specs.Sites.{IsThere, Site, excerpt, excerpt_at, excerpt_in, part_text}
+use Rattle.ks_requests.proofs.Prelude.{◌≡◌, List, ℕ, Option, Some, None, IfSome, option_map, Files, Part, IsThere, Site, excerpt, excerpt_at, excerpt_in, part_text}
 
 excerpt_of : (found : Option (List ℕ)) (text : List ℕ) → option_map excerpt found ≡ Some text → (bytes : List ℕ) × (text ≡ excerpt bytes)
 excerpt_of None text is = absurd cc

@@ -1,5 +1,5 @@
 -- How the pieces of lines stand one after the other.
-use Rattle.std.proofs.Common.{◌≡◌, ℕ, List, [], ◌++◌, sym, ap, ◌∙◌, append_assoc, append-nil}
+use Rattle.ks_requests.proofs.Prelude.{◌≡◌, ℕ, List, [], ◌++◌, sym, ap, ◌∙◌, append_assoc, append-nil}
 
 pub fault_pieces : (a b c d : List ℕ) → a ++ (b ++ (c ++ (d ++ []))) ≡ a ++ (b ++ c) ++ d
 fault_pieces a b c d = ap (λ l. a ++ (b ++ (c ++ l))) (append-nil d) ∙ ap (λ l. a ++ l) (sym (append_assoc b c d)) ∙ sym (append_assoc a (b ++ c) d)

@@ -7,6 +7,7 @@ use Rattle.ks_engine.specs.Refusals.{IsGivenUp}
 use Rattle.ks_requests.specs.declared.refusal.Refusal.{Refusal}
 use Rattle.ks_requests.specs.declared.refusal.Refusal.TheVariants.{Engine, Output}
 use Rattle.ks_requests.specs.declared.status.Count.{Count}
+use Rattle.ks_requests.specs.declared.status.Count.TheVariants as count
 use Rattle.ks_requests.specs.declared.status.Outcome.{Outcome}
 use Rattle.ks_requests.specs.Faults.{complaint}
 use Rattle.ks_requests.specs.Replies.{count_line}
@@ -24,6 +25,17 @@ TellsCount text status count (Err e) = e ≡ Engine OutOfMemory
 abbrev pub Tells : List ℕ → ℕ → Ending → Type 0
 Tells text status ended = TellsCount text status None ended
 
+-- .. and these lines about unknown names
+abbrev pub IsUnknown : List ℕ → Option Count → Type 0
+IsUnknown lines None = lines ≡ []
+IsUnknown lines (Some (count.Unknown text)) = text.items ≡ lines
+IsUnknown lines (Some (count.Stale stale all)) = ⊥
+IsUnknown lines (Some (count.Users users all)) = ⊥
+
+abbrev pub TellsUnknown : List ℕ → ℕ → List ℕ → Ending → Type 0
+TellsUnknown text status unknown (Ok o) = (o.text.items ≡ text) × (code_of o.status ≡ status) × IsUnknown unknown o.count
+TellsUnknown text status unknown (Err e) = e ≡ Engine OutOfMemory
+
 -- an answer of the engine with the status 0, or its refusal
 abbrev pub Answered : {A : Type 0} → (A → List ℕ) → Result A EngineError → Ending → Type 0
 Answered text (Ok x) ended = Tells (text x) 0 ended
@@ -35,9 +47,9 @@ Stopped step ended = (e : EngineError) × (IsGivenUp e ⊎ (step ≡ Err e)) × 
 
 -- ---- what is printed of it
 
--- The line of the refusal goes to standard error, and after it what stands behind it.
+-- The line of the refusal goes to standard error, and after it what stands after it.
 abbrev pub Complains : Refusal → List ℕ → State → State → Type 0
-Complains refusal behind before after = PrintsOrBreaks (complaint refusal ++ behind) before after
+Complains refusal following before after = PrintsOrBreaks (complaint refusal ++ following) before after
 
 -- The line of a count goes to standard error; without one that is left alone.
 abbrev pub CountGoes : Option Count → State → State → Type 0
@@ -56,8 +68,8 @@ pub record IsCutOff (o : Outcome) (before after err_before err_after : State) (s
   pub told : Complains Output [] err_before err_after
   pub refused : status ≡ 2
 
--- A refusal leaves the output alone, and is told with what stands behind its line.
+-- A refusal leaves the output alone, and is told with what stands after its line.
 abbrev pub Printed : List ℕ → Ending → State → State → State → State → ℕ → Type 0
-Printed behind (Ok o) before after err_before err_after status =
+Printed following (Ok o) before after err_before err_after status =
     PrintsAnswers o before after err_before err_after status ⊎ IsCutOff o before after err_before err_after status
-Printed behind (Err e) before after err_before err_after status = (after ≡ before) × Complains e behind err_before err_after × (status ≡ 2)
+Printed following (Err e) before after err_before err_after status = (after ≡ before) × Complains e following err_before err_after × (status ≡ 2)

@@ -10,7 +10,7 @@ use Rattle.ks_requests.specs.declared.faults.FaultText.{FaultText}
 use Rattle.ks_requests.specs.declared.faults.Place.{Place}
 use Rattle.ks_requests.specs.declared.faults.Place.TheVariants.{Nowhere, Numbered, Named}
 
--- a number behind its label
+-- a number after its label
 unfoldable pub counted : List ℕ → ℕ → List ℕ
 counted label n = label ++ decimal n
 

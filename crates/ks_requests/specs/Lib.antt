@@ -5,8 +5,12 @@ pub mod Endings
 pub mod Sites
 pub mod Inputs
 pub mod Targets
+pub mod Unknown
 pub mod Preview
 pub mod Refusals
 pub mod Replies
+pub mod JsonLines
+pub mod Laws
+pub mod Symbols
 pub mod Outputs
 pub mod Views

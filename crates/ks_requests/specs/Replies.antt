@@ -3,6 +3,8 @@ use Rattle.std.specs.Prelude.{ℕ, List, [], ◌∷◌, ◌++◌, decimal, flat_
 use Rattle.ks_engine.specs.declared.error.EngineError.{EngineError}
 use Rattle.ks_engine.specs.declared.explaining.Cause.{Cause}
 use Rattle.ks_engine.specs.declared.explaining.Explanation.{Explanation}
+use Rattle.ks_engine.specs.declared.question.Limit.{Limit}
+use Rattle.ks_engine.specs.declared.question.Limit.TheVariants.{First, All}
 use Rattle.ks_engine.specs.declared.recording.Recorded.{Recorded as RecordAnswer}
 use Rattle.ks_engine.specs.declared.synchronise.Report.{Report}
 use Rattle.ks_engine.specs.declared.staleness.BuildState.{BuildState}
@@ -13,6 +15,7 @@ use Rattle.ks_engine.specs.declared.commands.Reply.{Reply}
 use Rattle.ks_engine.specs.declared.commands.Reply.TheVariants.{Synced, Recorded, Verdict, Refused}
 use Rattle.ks_engine.specs.Actions.{Action, Sync, Record, Stale}
 use Rattle.ks_requests.specs.declared.status.Count.{Count}
+use Rattle.ks_requests.specs.declared.status.Count.TheVariants as count
 use Rattle.ks_requests.specs.Faults.{counted, fault_text}
 use Rattle.ks_requests.specs.Preview.{touch_lines}
 
@@ -28,16 +31,24 @@ verdict_text verdict.Ahead = codes " stale generation-ahead"
 unfoldable pub verdict_line : List ℕ → VerdictValue → List ℕ
 verdict_line target v = target ++ verdict_text v ++ codes "\n"
 
--- a name that was touched, with the number of its stamp and the file behind which it stands
+-- a name that was touched, with the number of its stamp and the file after which it stands
 unfoldable pub cause_line : Cause → List ℕ
 cause_line c = codes "  " ++ c.name ++ counted (codes " generation ") c.generation ++ codes " " ++ c.place ++ codes "\n"
 
--- an object with its verdict, and a line for all that speaks for it
-unfoldable pub explanation_lines : List ℕ → Explanation → List ℕ
-explanation_lines target e = verdict_line target e.verdict ++ flat_map cause_line e.causes.items
+-- an object with its verdict, and where all of its causes were asked for a line for each
+unfoldable pub explanation_lines : Limit → List ℕ → Explanation → List ℕ
+explanation_lines First target e = verdict_line target e.verdict
+explanation_lines All target e = verdict_line target e.verdict ++ flat_map cause_line e.causes.items
+
+-- what was recorded of an object, after the name of the command
+abbrev pub recorded_as : List ℕ → List ℕ → RecordAnswer → List ℕ
+recorded_as command target r = command ++ target ++ counted (codes " generation ") r.generation ++ counted (codes " names ") r.names ++ codes "\n"
 
 unfoldable pub recorded_line : List ℕ → RecordAnswer → List ℕ
-recorded_line target r = codes "record " ++ target ++ counted (codes " generation ") r.generation ++ counted (codes " names ") r.names ++ codes "\n"
+recorded_line target r = recorded_as (codes "record ") target r
+
+unfoldable pub depfile_line : List ℕ → RecordAnswer → List ℕ
+depfile_line target r = recorded_as (codes "depfile ") target r
 
 unfoldable pub synced_line : Report → List ℕ
 synced_line r =
@@ -65,10 +76,12 @@ abbrev pub answer_line : {A : Type 0} → (List ℕ → A → List ℕ) → List
 answer_line line target (Ok x) = line target x
 answer_line line target (Err e) = refused_target_line target e
 
--- how many of all objects are stale, where that is told
+-- how many of all objects are stale, which names are unknown, or how many objects name a symbol, where that is told
 unfoldable pub count_line : Option Count → List ℕ
 count_line None = []
-count_line (Some c) = decimal c.stale ++ counted (codes " of ") c.all ++ codes " stale\n"
+count_line (Some (count.Stale stale all)) = decimal stale ++ counted (codes " of ") all ++ codes " stale\n"
+count_line (Some (count.Unknown lines)) = lines.items
+count_line (Some (count.Users users all)) = decimal users ++ counted (codes " of ") all ++ codes " objects\n"
 
 -- the line of an action with its reply
 unfoldable pub reply_line : Action → Reply → List ℕ

@@ -1,7 +1,8 @@
 -- What is asked of the program, without where its words lie.
 use Rattle.std.specs.Prelude.{◌≡◌, ℕ, List, Option, option_map, string_bytes, ⊤}
 use Rattle.ks_requests.specs.declared.request.Request.{Request}
-use Rattle.ks_requests.specs.declared.request.Request.TheVariants.{Batch, Impact, Outdated, Preview, Stale, Why}
+use Rattle.ks_requests.specs.declared.request.Request.TheVariants.{Batch, Cost, Diff, Impact, Outdated, Preview, Stale, Users, Why}
+use Rattle.ks_requests.specs.declared.telling.Telling.TheVariants.{LinesAndStatus, Status}
 
 -- the request is a preview of these two files, over this old auto.conf if there is one
 abbrev pub IsPreviewOf : List ℕ → List ℕ → Option (List ℕ) → Request → Type 0
@@ -14,11 +15,15 @@ abbrev pub IsBatchOf : List ℕ → Request → Type 0
 IsBatchOf path (Batch p) = string_bytes p ≡ path
 IsBatchOf path _ = ⊥
 
--- a request that is done or refused, and tells of no object that it is stale
+-- a request that is done or refused as a whole: its status is not to say that an object is stale, nor that a name differs
 abbrev pub IsNoQuestion : Request → Type 0
-IsNoQuestion (Stale targets) = ⊥
-IsNoQuestion (Why targets) = ⊥
-IsNoQuestion (Impact kconfig dotconfig targets) = ⊥
+IsNoQuestion (Stale targets form) = ⊥
+IsNoQuestion (Why targets form) = ⊥
+IsNoQuestion (Impact kconfig dotconfig targets form) = ⊥
 IsNoQuestion (Outdated target command) = ⊥
 IsNoQuestion (Batch script) = ⊥
+IsNoQuestion (Diff kconfig dotconfig LinesAndStatus) = ⊥
+IsNoQuestion (Diff kconfig dotconfig Status) = ⊥
+IsNoQuestion (Users symbols targets) = ⊥
+IsNoQuestion (Cost top targets) = ⊥
 IsNoQuestion _ = ⊤

@@ -1,4 +1,4 @@
--- The objects that a question is about: those among its words, and behind them those that a file holds, one a line.
+-- The objects that a question is about: those among its words, and after them those that a file holds, one a line.
 use Rattle.std.specs.Prelude.{◌++◌, ◌==◌, not, ℕ, List, [], length, map, option_map, string_bytes, Option, Some, None, Result, Ok}
 use Rattle.std.specs.List.{filter}
 use Rattle.ks_symbols.specs.Lines.{lines}

@@ -10,7 +10,7 @@ use ks_engine::EngineError;
 use ks_symbols::SourceError;
 use std::alloc::AllocError;
 
-/// What stands behind a name.
+/// What stands after a name.
 #[derive(Drop)]
 pub(crate) enum Place<'a> {
     Nowhere,
@@ -69,7 +69,7 @@ fn source_fault<'a>(error: &SourceError) -> FaultText<'a>
 
 /// The text of a refusal of the engine, of its parts, or of a word or a file.
 #[tactic(auto, unfolding(crate::specs::Faults::fault_text))]
-fn engine_fault(error: &EngineError) -> FaultText<'_>
+pub(crate) fn engine_fault(error: &EngineError) -> FaultText<'_>
     ensures { whole_text result ≡ fault_text error.now }
 {
     match error {

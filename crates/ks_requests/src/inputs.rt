@@ -146,8 +146,8 @@ pub fn inputs_at<T: Tree>(
     read_inputs(alloc, tree, kconfig, dotconfig, old)
 }
 
-/// Bytes that may be missing, lent.
-pub fn lent(bytes: &Option<Vec<u8>>) -> Option<&[u8]>
+/// Bytes that may be missing, borrowed.
+pub fn borrowed(bytes: &Option<Vec<u8>>) -> Option<&[u8]>
     ensures { option_map (λ b. b.now) result ≡ option_map (λ v. v.items) bytes.now }
 {
     match bytes {
@@ -156,8 +156,8 @@ pub fn lent(bytes: &Option<Vec<u8>>) -> Option<&[u8]>
     }
 }
 
-/// The path that may be named, lent.
-pub fn lent_path(path: &Option<String>) -> Option<&str>
+/// The path that may be named, borrowed.
+pub fn borrowed_path(path: &Option<String>) -> Option<&str>
     ensures { option_map (λ p. p.now) result ≡ option_map (λ p. string_bytes p) path.now }
 {
     match path {

@@ -4,6 +4,8 @@
 
 mod faults;
 mod inputs;
+mod json_lines;
+mod laws;
 mod output;
 mod preview;
 mod refusal;
@@ -11,17 +13,25 @@ mod replies;
 mod request;
 mod sites;
 mod status;
+mod symbols;
 mod targets;
+mod telling;
+mod unknown;
 
-pub use inputs::{Inputs, Texts, inputs_at, lent, lent_path, read_given, texts_at};
+pub use inputs::{Inputs, Texts, borrowed, borrowed_path, inputs_at, read_given, texts_at};
+pub use json_lines::write_json_answer;
+pub use laws::json_lines_are_objects;
 pub use output::{print, refuse, refuse_at};
 pub use preview::{PreviewError, preview_of, preview_to};
 pub use refusal::Refusal;
 pub use replies::{
-    build_status, tell_recorded, tell_replies, tell_report, verdict_status, write_build_line,
-    write_explanation, write_refused_target, write_verdict_line,
+    build_status, tell_depfile, tell_recorded, tell_replies, tell_report, write_answer,
+    write_build_line, write_refused_target,
 };
-pub use request::{Request, Targets};
+pub use request::{Form, Request, Stamps, Targets};
 pub use sites::{Part, Site, site_of};
 pub use status::{Count, Outcome, Status, stale_of, worse};
-pub use targets::{all_targets, read_targets};
+pub use symbols::{symbols_of, write_cost, write_unrecorded, write_use};
+pub use targets::{all_targets, each_once, read_targets};
+pub use telling::Telling;
+pub use unknown::unknown_lines;

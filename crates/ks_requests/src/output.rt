@@ -10,7 +10,7 @@ ghost use Rattle.ks_requests.specs.Replies.{count_line};
 ghost use Rattle.ks_requests.specs.Views.{seen_site};
 
 use crate::faults::{Place, refusal_fault};
-use crate::inputs::lent;
+use crate::inputs::borrowed;
 use crate::refusal::Refusal;
 use crate::sites::{Part, Site, excerpt_at};
 use crate::status::{Count, Outcome, exit_status};
@@ -109,7 +109,7 @@ fn print_found<T: Tree, E: Write>(alloc: Global, tree: &mut T, site: &Site<'_>, 
         × PrintsOrBreaks line (state_of E.Write err.old) (state_of E.Write err.new) }
 {
     let text = excerpt_at(alloc, tree, site);
-    let _ = print_site(err, site, lent(&text));
+    let _ = print_site(err, site, borrowed(&text));
 }
 
 /// Prints why a command was refused, and after it which file that is about and what stands there. The file is read
@@ -132,24 +132,35 @@ pub fn refuse_at<T: Tree, E: Write>(
     2
 }
 
-/// Prints the two numbers of a count.
-fn print_count_line<E: Write>(err: &mut Stream<E>, stale: &[u8], all: &[u8])
-    ensures { PrintsOrBreaks (stale.now ++ (codes " of " ++ all.now) ++ codes " stale\n") (state_of E.Write err.old) (state_of E.Write err.new) }
+/// Prints the two numbers of a count, and what is counted.
+fn print_count_line<E: Write>(err: &mut Stream<E>, some: &[u8], all: &[u8], kind: &[u8])
+    ensures { PrintsOrBreaks (some.now ++ (codes " of " ++ all.now) ++ kind.now) (state_of E.Write err.old) (state_of E.Write err.new) }
 {
-    let _ = err.print(&[stale, b" of ", all, b" stale\n"]);
+    let _ = err.print(&[some, b" of ", all, kind]);
 }
 
-/// Prints how many objects are stale, where that is told.
+/// Prints how many of all objects are of a kind, or which names are unknown, where that is told.
 #[tactic(auto, unfolding(crate::specs::Replies::count_line, crate::specs::Faults::counted))]
-fn print_count<E: Write>(err: &mut Stream<E>, count: Option<Count>)
-    ensures { CountGoes count (state_of E.Write err.old) (state_of E.Write err.new) }
+fn print_count<E: Write>(err: &mut Stream<E>, count: &Option<Count>)
+    ensures { CountGoes count.now (state_of E.Write err.old) (state_of E.Write err.new) }
 {
-    if let Some(count) = count {
-        print_count_line(
+    match count {
+        Some(Count::Stale { stale, all }) => print_count_line(
             err,
-            Buffer::new().format(count.stale as u64).as_bytes(),
-            Buffer::new().format(count.all as u64).as_bytes(),
-        );
+            Buffer::new().format(*stale as u64).as_bytes(),
+            Buffer::new().format(*all as u64).as_bytes(),
+            b" stale\n",
+        ),
+        Some(Count::Unknown(lines)) => {
+            let _ = err.print(&[lines]);
+        }
+        Some(Count::Users { users, all }) => print_count_line(
+            err,
+            Buffer::new().format(*users as u64).as_bytes(),
+            Buffer::new().format(*all as u64).as_bytes(),
+            b" objects\n",
+        ),
+        None => {}
     }
 }
 
@@ -159,7 +170,7 @@ pub fn print<W: Write, E: Write>(outcome: &Outcome, out: &mut Stream<W>, err: &m
     ensures { Printed [] (Ok outcome.now) (state_of W.Write out.old) (state_of W.Write out.new) (state_of E.Write err.old) (state_of E.Write err.new) result }
 {
     if out.print(&[&outcome.text]) {
-        print_count(err, outcome.count);
+        print_count(err, &outcome.count);
         exit_status(outcome.status)
     } else {
         refuse(err, &Refusal::Output)

@@ -3,16 +3,18 @@
 //! A line of a verdict or of a refusal is the same for one object and in a script.
 ghost use Rattle.std.specs.Prelude.{◌≡◌, ◌++◌, List, ℕ, None, OnOk, IfOk, flat_map, map, length};
 ghost use Rattle.ks_engine.specs.Actions.{action};
+ghost use Rattle.ks_engine.specs.Questions.{limit_of};
 ghost use Rattle.ks_requests.specs.Faults.{counted};
-ghost use Rattle.ks_requests.specs.Replies.{build_line, cause_line, explanation_lines, recorded_line, refused_line, refused_target_line, reply_line, reply_lines, report_lines, synced_line, verdict_line, verdict_text};
-ghost use Rattle.ks_requests.specs.Statuses.{build_status, code_of, reply_status, verdict_status, worst};
+ghost use Rattle.ks_requests.specs.Replies.{answer_line, build_line, cause_line, depfile_line, explanation_lines, recorded_as, recorded_line, refused_line, refused_target_line, reply_line, reply_lines, report_lines, synced_line, verdict_line, verdict_text};
+ghost use Rattle.ks_requests.specs.Statuses.{build_status, code_of, explanation_status, reply_status, status_unless_refused, verdict_status, worst};
 
 use crate::faults::write_fault;
 use crate::preview::write_touches;
 use crate::status::{Outcome, Status, worse};
 use itoa::Buffer;
 use ks_engine::{
-    BuildState, Cause, Command, EngineError, Explanation, Recorded, Reply, Report, Verdict,
+    BuildState, Cause, Command, EngineError, Explanation, Limit, Question, Recorded, Reply, Report,
+    Verdict,
 };
 use std::alloc::{AllocError, Global};
 
@@ -35,7 +37,7 @@ fn write_verdict(verdict: &Verdict, text: &mut Vec<u8>) -> Result<(), AllocError
     }
 }
 
-/// A number behind its label.
+/// A number after its label.
 #[tactic(auto, unfolding(crate::specs::Faults::counted))]
 fn write_count(label: &[u8], count: u64, text: &mut Vec<u8>) -> Result<(), AllocError>
     ensures { OnOk result (text.new.items ≡ text.old.items ++ counted label.now count) }
@@ -82,17 +84,37 @@ fn write_causes(causes: &[Cause], text: &mut Vec<u8>) -> Result<(), AllocError>
     Ok(())
 }
 
-/// Appends the line of a verdict, and behind it a line `  NAME generation G PLACE` for each of its causes.
+/// The line of a verdict, and where all causes were asked for a line for each.
 #[tactic(auto, unfolding(crate::specs::Replies::explanation_lines))]
-pub fn write_explanation(
+fn write_explanation(
+    question: Question<'_>,
     target: &[u8],
     explanation: &Explanation,
     text: &mut Vec<u8>,
 ) -> Result<(), AllocError>
-    ensures { OnOk result (text.new.items ≡ text.old.items ++ explanation_lines target.now explanation.now) }
+    ensures { OnOk result (text.new.items ≡ text.old.items ++ explanation_lines (limit_of question.entry) target.now explanation.now) }
 {
     write_verdict_line(target, &explanation.verdict, text)?;
-    write_causes(&explanation.causes, text)
+    match question.limit() {
+        Limit::First => Ok(()),
+        Limit::All => write_causes(&explanation.causes, text),
+    }
+}
+
+/// `TARGET generation N names M`, after a command.
+fn write_recorded_as(
+    command: &[u8],
+    target: &[u8],
+    recorded: &Recorded,
+    text: &mut Vec<u8>,
+) -> Result<(), AllocError>
+    ensures { OnOk result (text.new.items ≡ text.old.items ++ recorded_as command.now target.now recorded.now) }
+{
+    text.extend_from_slice(command)?;
+    text.extend_from_slice(target)?;
+    write_count(b" generation ", recorded.generation, text)?;
+    write_count(b" names ", recorded.names as u64, text)?;
+    text.extend_from_slice(b"\n")
 }
 
 /// `record TARGET generation N names M`.
@@ -104,11 +126,19 @@ fn write_recorded_line(
 ) -> Result<(), AllocError>
     ensures { OnOk result (text.new.items ≡ text.old.items ++ recorded_line target.now recorded.now) }
 {
-    text.extend_from_slice(b"record ")?;
-    text.extend_from_slice(target)?;
-    write_count(b" generation ", recorded.generation, text)?;
-    write_count(b" names ", recorded.names as u64, text)?;
-    text.extend_from_slice(b"\n")
+    write_recorded_as(b"record ", target, recorded, text)
+}
+
+/// `depfile TARGET generation N names M`.
+#[tactic(auto, unfolding(crate::specs::Replies::depfile_line))]
+fn write_depfile_line(
+    target: &[u8],
+    recorded: &Recorded,
+    text: &mut Vec<u8>,
+) -> Result<(), AllocError>
+    ensures { OnOk result (text.new.items ≡ text.old.items ++ depfile_line target.now recorded.now) }
+{
+    write_recorded_as(b"depfile ", target, recorded, text)
 }
 
 /// `sync generation N touched M unknown U`.
@@ -160,6 +190,29 @@ pub fn write_refused_target(
     write_refusal(error, text)
 }
 
+/// Appends the lines of an answer: `TARGET refused FAULT`, or its verdict, and after `why` a line `  NAME generation G PLACE` for
+/// each of its causes.
+pub fn write_answer(
+    question: Question<'_>,
+    target: &[u8],
+    answer: &Result<Explanation, EngineError>,
+    text: &mut Vec<u8>,
+) -> Result<Status, AllocError>
+    ensures lines { OnOk result (text.new.items ≡ text.old.items ++ answer_line (explanation_lines (limit_of question.entry)) target.now answer.now) }
+    ensures status { IfOk result (λ s. code_of s ≡ status_unless_refused explanation_status answer.now) }
+{
+    match answer {
+        Ok(explanation) => {
+            write_explanation(question, target, explanation, text)?;
+            Ok(verdict_status(&explanation.verdict))
+        }
+        Err(error) => {
+            write_refused_target(target, error, text)?;
+            Ok(Status::Refused)
+        }
+    }
+}
+
 /// The line of a command with its reply.
 #[tactic(auto, unfolding(crate::specs::Replies::reply_line))]
 fn write_reply(command: &Command<'_>, reply: &Reply, text: &mut Vec<u8>) -> Result<(), AllocError>
@@ -200,11 +253,7 @@ pub fn tell_replies(
         write_reply(command, reply, &mut text)?;
         status = worse(status, reply_status(reply));
     }
-    Ok(Outcome {
-        text,
-        status,
-        count: None,
-    })
+    Ok(Outcome::of(text, status))
 }
 
 /// Appends `TARGET command-differs`, or the line of its verdict.
@@ -226,7 +275,7 @@ pub fn write_build_line(
 }
 
 /// What a verdict comes to: all but fresh is stale.
-pub fn verdict_status(verdict: &Verdict) -> Status
+pub(crate) fn verdict_status(verdict: &Verdict) -> Status
     ensures { code_of result ≡ verdict_status verdict.now }
 {
     match verdict {
@@ -262,12 +311,7 @@ pub fn tell_report(alloc: Global, report: &Report) -> Result<Outcome, AllocError
 {
     let mut text = Vec::new(alloc);
     write_report(report, &mut text)?;
-    let status = Status::Done;
-    Ok(Outcome {
-        text,
-        status,
-        count: None,
-    })
+    Ok(Outcome::done(text))
 }
 
 /// What was recorded of an object, told in one line: `record TARGET generation N names M`.
@@ -280,10 +324,19 @@ pub fn tell_recorded(
 {
     let mut text = Vec::new(alloc);
     write_recorded_line(target, recorded, &mut text)?;
-    let status = Status::Done;
-    Ok(Outcome {
-        text,
-        status,
-        count: None,
-    })
+    Ok(Outcome::done(text))
+}
+
+/// What was recorded of an object whose dependency file is by its rule now, told in one line: `depfile TARGET generation N
+/// names M`.
+pub fn tell_depfile(
+    alloc: Global,
+    target: &[u8],
+    recorded: &Recorded,
+) -> Result<Outcome, AllocError>
+    ensures { IfOk result (λ o. (o.text.items ≡ depfile_line target.now recorded.now) × (code_of o.status ≡ 0) × (o.count ≡ None)) }
+{
+    let mut text = Vec::new(alloc);
+    write_depfile_line(target, recorded, &mut text)?;
+    Ok(Outcome::done(text))
 }

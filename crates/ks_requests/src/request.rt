@@ -1,10 +1,29 @@
 //! What the program can be asked to do.
+use crate::telling::Telling;
 
-/// The objects that a question is about: those among the words, and behind them those of a file, one a line.
+/// The objects that a question is about: those among the words, and after them those of a file, one a line.
 #[derive(Debug, Drop)]
 pub struct Targets {
     pub words: Vec<String>,
     pub from: Option<String>,
+}
+
+/// How the answers about objects are printed.
+#[derive(Clone, Copy, Debug, PartialEq, Eq)]
+pub enum Form {
+    /// Lines for people.
+    Text,
+    /// A line of JSON for each object, for scripts.
+    Json,
+}
+
+/// Which stamps a synchronisation leaves.
+#[derive(Clone, Copy, Debug, PartialEq, Eq)]
+pub enum Stamps {
+    /// Those of the symbols that were ever touched.
+    Touched,
+    /// One of each declared symbol: an empty one where there would be none.
+    Declared,
 }
 
 /// One command of the program, with its words in order.
@@ -14,6 +33,7 @@ pub enum Request {
     Sync {
         kconfig: String,
         dotconfig: String,
+        stamps: Stamps,
     },
     /// What a synchronisation would do, over an old auto.conf or as the first one.
     Preview {
@@ -25,6 +45,7 @@ pub enum Request {
     Diff {
         kconfig: String,
         dotconfig: String,
+        telling: Telling,
     },
     /// The command file of an object, without a generation.
     Fixdep {
@@ -38,19 +59,30 @@ pub enum Request {
         target: String,
         command: String,
     },
+    /// Record an object for a build that goes by its dependency file, which gets the stamps of the names that were found in the
+    /// place of the header. The header is named by the end of its path, or it is the usual one.
+    Depfile {
+        header: Option<String>,
+        depfile: String,
+        target: String,
+        command: String,
+    },
     /// Which of these objects are stale.
     Stale {
         targets: Targets,
+        form: Form,
     },
     /// Why these objects are stale.
     Why {
         targets: Targets,
+        form: Form,
     },
-    /// Which of these objects would be stale behind a synchronisation.
+    /// Which of these objects would be stale after a synchronisation.
     Impact {
         kconfig: String,
         dotconfig: String,
         targets: Targets,
+        form: Form,
     },
     /// Whether an object was built by another command, or is stale.
     Outdated {
@@ -60,5 +92,15 @@ pub enum Request {
     /// The commands of a script, in one run.
     Batch {
         script: String,
+    },
+    /// Which of these objects name one of these symbols.
+    Users {
+        symbols: Vec<String>,
+        targets: Targets,
+    },
+    /// What each symbol costs: how many of these objects name it. Of the dearest so many, or all.
+    Cost {
+        top: Option<u64>,
+        targets: Targets,
     },
 }

@@ -137,8 +137,16 @@ pub fn site_of<'a>(request: &'a Request, refusal: &Refusal) -> Option<Site<'a>>
     ensures { option_map seen_site result ≡ site_of request.now refusal.now }
 {
     match request {
-        Request::Sync { kconfig, dotconfig }
-        | Request::Diff { kconfig, dotconfig }
+        Request::Sync {
+            kconfig,
+            dotconfig,
+            ..
+        }
+        | Request::Diff {
+            kconfig,
+            dotconfig,
+            ..
+        }
         | Request::Impact {
             kconfig,
             dotconfig,
@@ -160,9 +168,15 @@ pub fn site_of<'a>(request: &'a Request, refusal: &Refusal) -> Option<Site<'a>>
             refusal,
         ),
         Request::Fixdep { depfile, .. } => depfile_site(depfile.as_bytes(), refusal),
-        Request::Record { depfile, .. } => record_site(depfile.as_bytes(), refusal),
+        Request::Record { depfile, .. } | Request::Depfile { depfile, .. } => {
+            record_site(depfile.as_bytes(), refusal)
+        }
         Request::Batch { script } => script_site(script.as_bytes(), refusal),
-        Request::Stale { .. } | Request::Why { .. } | Request::Outdated { .. } => None,
+        Request::Stale { .. }
+        | Request::Why { .. }
+        | Request::Outdated { .. }
+        | Request::Users { .. }
+        | Request::Cost { .. } => None,
     }
 }
 

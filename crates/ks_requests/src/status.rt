@@ -1,25 +1,37 @@
 //! How a command ended that was not refused as a whole.
-ghost use Rattle.std.specs.Prelude.{◌≡◌, ◌≤◌, [], ◌∷◌, max};
+ghost use Rattle.std.specs.Prelude.{◌≡◌, ◌≤◌, [], ◌∷◌, None, max};
 ghost use Rattle.ks_requests.specs.Statuses.{code_of, stale_among};
+ghost use Rattle.ks_requests.specs.declared.status.Status.TheVariants as status;
 
 /// How a command ended.
 #[derive(Clone, Copy, Debug, PartialEq, Eq)]
 pub enum Status {
     /// It is done, and nothing is stale.
     Done,
-    /// Nothing was refused, and some object is stale or was built by another command.
+    /// Nothing was refused, and some object is stale or was built by another command; or names differ, where that was asked.
     Stale,
     /// Something was refused.
     Refused,
 }
 
-/// How many of all objects are stale.
-#[derive(Clone, Copy)]
-pub struct Count {
-    /// Those whose answer is a verdict other than fresh. A refused object is none of them.
-    pub stale: usize,
-    /// All that were asked about, each as often as it was named.
-    pub all: usize,
+/// What is told on standard error of what was counted.
+#[derive(Drop)]
+pub enum Count {
+    /// How many of all objects are stale.
+    Stale {
+        /// Those whose answer is a verdict other than fresh. A refused object is none of them.
+        stale: usize,
+        /// All that were asked about, each as often as it was named.
+        all: usize,
+    },
+    /// The lines about names that no Kconfig declares, a line for each.
+    Unknown(Vec<u8>),
+    Users {
+        /// Those whose record names a symbol that was asked for.
+        users: usize,
+        /// All that were asked about, each once.
+        all: usize,
+    },
 }
 
 /// What is to be printed of a command, and how it ended.
@@ -30,6 +42,30 @@ pub struct Outcome {
     pub status: Status,
     /// What is told on standard error, of a command that counts.
     pub count: Option<Count>,
+}
+
+impl Outcome {
+    /// A text and how the command ended, with nothing that was counted.
+    pub fn of(text: Vec<u8>, status: Status) -> Outcome
+        ensures text { result.text ≡ text }
+        ensures status { result.status ≡ status }
+        ensures count { result.count ≡ None }
+    {
+        Outcome {
+            text,
+            status,
+            count: None,
+        }
+    }
+
+    /// The text of a command that is done.
+    pub fn done(text: Vec<u8>) -> Outcome
+        ensures text { result.text ≡ text }
+        ensures status { result.status ≡ status.Done }
+        ensures count { result.count ≡ None }
+    {
+        Outcome::of(text, Status::Done)
+    }
 }
 
 /// The exit status.

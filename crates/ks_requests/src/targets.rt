@@ -1,17 +1,20 @@
-//! The objects that a question is about: those among its words, and behind them those that a file holds, one a line.
+//! The objects that a question is about: those among its words, and after them those that a file holds, one a line.
 //!
 //! A target of the file is a piece of its text and is not copied, since there can be as many as a kernel has objects. A line
 //! that is no legal target is one all the same: it is answered in its place, as the word would be.
-ghost use Rattle.std.specs.Prelude.{◌≡◌, ◌++◌, IfOk, IsErrOf, None, OnOk, map, option_map, string_bytes};
+ghost use Rattle.std.specs.Prelude.{◌≡◌, ◌++◌, [], IfOk, IsErrOf, None, OnOk, map, option_map, string_bytes};
 ghost use Rattle.ks_tree.specs.Frames.{Reads};
 ghost use Rattle.ks_engine.specs.Refusals.{Answers};
+ghost use Rattle.ks_fixdep.specs.FoundNames.{all_noted};
 ghost use Rattle.ks_requests.specs.Inputs.{given_if_named};
 ghost use Rattle.ks_requests.specs.Targets.{file_of, targets_in, with_file, words_of};
 
-use crate::inputs::{lent_path, read_named};
+use crate::inputs::{borrowed_path, read_named};
 use crate::request::Targets;
 use bstr::ByteSlice;
+use indexmap::IndexSet;
 use ks_engine::EngineError;
+use ks_fixdep::Seed;
 use ks_tree::Tree;
 use std::alloc::{AllocError, Global};
 
@@ -48,10 +51,10 @@ pub fn read_targets<T: Tree>(
     ensures text { T.is_honest → Answers (given_if_named (T.files tree.old) (file_of targets.now)) (option_map (λ v. v.items)) result }
     ensures none { file_of targets.now ≡ None → IfOk result (λ found. found ≡ None) }
 {
-    read_named(alloc, tree, lent_path(&targets.from))
+    read_named(alloc, tree, borrowed_path(&targets.from))
 }
 
-/// All targets, in their order: the words, and then the lines of the text, without their LF or CR LF. They lend both. Repeats
+/// All targets, in their order: the words, and then the lines of the text, without their LF or CR LF. They borrow both. Repeats
 /// stay, and no target is looked at: one that is not legal is refused where it is asked about.
 pub fn all_targets<'a>(
     alloc: Global,
@@ -66,4 +69,19 @@ pub fn all_targets<'a>(
         push_lines(text, &mut all)?;
     }
     Ok(all)
+}
+
+/// The targets in their order, each where it is given first.
+pub fn each_once<'a>(
+    alloc: Global,
+    seed: Seed,
+    targets: &[&'a [u8]],
+) -> Result<IndexSet<&'a [u8], Seed>, AllocError>
+    ensures { IfOk result (λ once. map (λ t. t.now) once.keys ≡ all_noted [] (map (λ t. t.now) targets.now)) }
+{
+    let mut once = IndexSet::with_hasher(alloc, seed);
+    for target in targets {
+        once.insert_full(*target)?;
+    }
+    Ok(once)
 }

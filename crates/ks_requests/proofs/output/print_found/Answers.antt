@@ -1,8 +1,4 @@
-use Rattle.std.proofs.Common.{option_map, refl, subst}
-use Rattle.ks_streams.proofs.Writing.{told}
-use Rattle.ks_streams.specs.Streams.{PrintsOrBreaks, state_of}
-use Rattle.ks_requests.specs.Sites.{site_line}
-use Rattle.ks_requests.specs.Views.{seen_site}
+use Rattle.ks_requests.proofs.Prelude.{option_map, refl, subst, told, PrintsOrBreaks, state_of, site_line, seen_site}
 use Rattle.ks_requests.proofs.Siting.{are_there}
 use Rattle.ks_requests.proofs.output.print_found.Goals as goal
 
@@ -18,6 +14,6 @@ returns-clause-line g c =
             c.excerpt_at-text.ensures.visible,
         refl,
       ),
-      subst (λ t. PrintsOrBreaks (site_line site t) (state_of g.E.Write c.args.err.now) (state_of g.E.Write c.print_site.new.err)) c.lent.ensures
+      subst (λ t. PrintsOrBreaks (site_line site t) (state_of g.E.Write c.args.err.now) (state_of g.E.Write c.print_site.new.err)) c.borrowed.ensures
           (told _ _ _ _ c.print_site.ensures.whole c.print_site.ensures.broken),
     )

@@ -1,5 +1,4 @@
-use Rattle.std.proofs.Common.{[], ◌∷◌, codes, subst}
-use Rattle.ks_streams.specs.Streams.{Breaks, Prints, state_of}
+use Rattle.ks_requests.proofs.Prelude.{[], ◌∷◌, codes, subst, Breaks, Prints, state_of}
 use Rattle.ks_requests.proofs.Writing.{site_pieces}
 use Rattle.ks_requests.proofs.output.print_site_line.Goals as goal
 

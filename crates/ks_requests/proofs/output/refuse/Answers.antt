@@ -1,7 +1,4 @@
-use Rattle.std.proofs.Common.{subst, sym, append-nil}
-use Rattle.ks_streams.proofs.Writing.{told}
-use Rattle.ks_streams.specs.Streams.{PrintsOrBreaks, state_of}
-use Rattle.ks_requests.specs.Faults.{complaint}
+use Rattle.ks_requests.proofs.Prelude.{subst, sym, append-nil, told, PrintsOrBreaks, state_of, complaint}
 use Rattle.ks_requests.proofs.output.refuse.Goals as goal
 
 pub returns-clause-told : goal.returns-clause-told

@@ -1,8 +1,4 @@
-use Rattle.std.proofs.Common.{None, refl}
-use Rattle.ks_streams.proofs.Writing.{told_first, told_more}
-use Rattle.ks_requests.specs.Faults.{complaint}
-use Rattle.ks_requests.specs.Sites.{site_line}
-use Rattle.ks_requests.specs.Views.{seen_site}
+use Rattle.ks_requests.proofs.Prelude.{None, refl, told_first, told_more, complaint, site_line, seen_site}
 use Rattle.ks_requests.proofs.output.refuse_at.Goals as goal
 
 pub returns-then-print_complaint-clause-told : goal.returns-then-print_complaint-clause-told

@@ -1,11 +1,5 @@
-use Rattle.std.proofs.Common.{◌≡◌, ◌+◌, ◌++◌, ℕ, List, option_map, ap, sym, subst, ◌∙◌}
-use Rattle.std.proofs.lemmas.Result.{err_from_is_err_and}
+use Rattle.ks_requests.proofs.Prelude.{◌≡◌, ◌+◌, ◌++◌, ℕ, List, option_map, ap, sym, subst, ◌∙◌, err_from_is_err_and, Texts, auto_text, AreChanged, PlansOver, Reports, old_of, sources_of, old_generation, touch_lines}
 use Rattle.std.specs.Borrow.{Bor}
-use Rattle.ks_output.specs.OldConfig.{Texts}
-use Rattle.ks_output.specs.AutoText.{auto_text}
-use Rattle.ks_engine.specs.Synchronised.{AreChanged}
-use Rattle.ks_engine.specs.Views.{PlansOver, Reports, old_of, sources_of}
-use Rattle.ks_requests.specs.Preview.{old_generation, touch_lines}
 use Rattle.ks_requests.proofs.Refusing.{texts_refused, auto_refused, preview_refusal-old, preview_refusal-full, full_refusal-full, full_refusal-below}
 use Rattle.ks_requests.proofs.preview.preview_of.Goals as goal
 

@@ -1,5 +1,4 @@
-use Rattle.std.proofs.Common.{subst}
-use Rattle.std.specs.Io.KnownBytes.{Appends}
+use Rattle.ks_requests.proofs.Prelude.{subst, Appends}
 use Rattle.ks_requests.proofs.preview.preview_to.Goals as goal
 
 pub returns-in-Ok-clause-written : goal.returns-in-Ok-clause-written

@@ -1,5 +1,4 @@
-use Rattle.std.proofs.Common.{◌≡◌, ◌++◌, take}
-use Rattle.ks_requests.specs.Preview.{touch_lines}
+use Rattle.ks_requests.proofs.Prelude.{◌≡◌, ◌++◌, take, touch_lines}
 use Rattle.ks_requests.proofs.preview.write_touches.Given as goal
 
 abbrev pub invariant-loop-name : goal.invariant-loop-name

@@ -1,8 +1,4 @@
-use Rattle.std.proofs.Common.{◌<◌, ◌++◌, ◌∙◌, sym, ap, arith, length, map, drop, append-nil}
-use Rattle.std.proofs.lemmas.List.{drop_all}
-use Rattle.ks_engine.specs.Actions.{action}
-use Rattle.ks_requests.specs.Replies.{reply_lines}
-use Rattle.ks_requests.specs.Statuses.{code_of, reply_status}
+use Rattle.ks_requests.proofs.Prelude.{◌<◌, ◌++◌, ◌∙◌, sym, ap, arith, length, map, drop, append-nil, drop_all, action, reply_lines, code_of, reply_status}
 use Rattle.ks_requests.proofs.Printing.{lines_more, no_lines, worst_more}
 use Rattle.ks_requests.proofs.replies.tell_replies.Goals as goal
 
@@ -19,7 +15,8 @@ loop-index-preserved c =
 
 pub returns-clause-lines : goal.returns-clause-lines
 returns-clause-lines c =
-    sym (append-nil c.loop-index.text.items)
+    ap (λ v. v.items) c.of.ensures.text
+    ∙ sym (append-nil c.loop-index.text.items)
     ∙ ap (λ xs. c.loop-index.text.items ++ xs) (sym (ap (λ cs. reply_lines (map action cs) (drop c.loop-index.index c.args.replies.now))
     (drop_all c.loop-index.index c.args.commands.now c.loop-index-test.false) ∙ no_lines _))
     ∙ c.loop-index.invariant.lines

@@ -1,7 +1,4 @@
-use Rattle.std.proofs.Common.{◌≡◌, ◌++◌, map, drop, take}
-use Rattle.ks_engine.specs.Actions.{action}
-use Rattle.ks_requests.specs.Replies.{reply_lines}
-use Rattle.ks_requests.specs.Statuses.{code_of, reply_status, worst}
+use Rattle.ks_requests.proofs.Prelude.{◌≡◌, ◌++◌, map, drop, take, action, reply_lines, code_of, reply_status, worst}
 use Rattle.ks_requests.proofs.replies.tell_replies.Given as goal
 
 -- what is written, and the lines from here on, are all lines

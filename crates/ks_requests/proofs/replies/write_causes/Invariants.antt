@@ -1,5 +1,4 @@
-use Rattle.std.proofs.Common.{◌≡◌, ◌++◌, flat_map, take}
-use Rattle.ks_requests.specs.Replies.{cause_line}
+use Rattle.ks_requests.proofs.Prelude.{◌≡◌, ◌++◌, flat_map, take, cause_line}
 use Rattle.ks_requests.proofs.replies.write_causes.Given as goal
 
 abbrev pub invariant-loop-cause : goal.invariant-loop-cause

@@ -1,6 +1,4 @@
-use Rattle.std.proofs.Common.{◌∙◌, ◌++◌, ap}
-use Rattle.ks_requests.specs.Preview.{touch_lines}
-use Rattle.ks_requests.specs.Replies.{report_lines}
+use Rattle.ks_requests.proofs.Prelude.{◌∙◌, ◌++◌, ap, touch_lines, report_lines}
 use Rattle.ks_requests.proofs.Printing.{then_appended}
 use Rattle.ks_requests.proofs.replies.write_report.Goals as goal
 

@@ -1,6 +1,4 @@
-use Rattle.std.proofs.Common.{◌∙◌, ◌++◌, ap, codes}
-use Rattle.ks_requests.specs.Faults.{counted}
-use Rattle.ks_requests.specs.Replies.{synced_line}
+use Rattle.ks_requests.proofs.Prelude.{◌∙◌, ◌++◌, ap, codes, counted, synced_line}
 use Rattle.ks_requests.proofs.Printing.{then_appended}
 use Rattle.ks_requests.proofs.replies.write_synced_line.Goals as goal
 

@@ -1,6 +1,4 @@
-use Rattle.std.proofs.Common.{◌≡◌, ℕ, option_map, slice_get, subst}
-use Rattle.std.proofs.lemmas.Iterator.Consumers.{YieldsList-from_rest, nth_from_yields_List}
-use Rattle.ks_symbols.specs.Lines.{lines}
+use Rattle.ks_requests.proofs.Prelude.{◌≡◌, ℕ, option_map, slice_get, subst, YieldsList-from_rest, nth_from_yields_List, lines}
 use Rattle.ks_requests.proofs.sites.line_at.Goals as goal
 
 pub returns : goal.returns

@@ -1,7 +1,4 @@
-use Rattle.std.proofs.Common.{◌≡◌, ◌∙◌, ◌++◌, ◌==◌, append-nil, ap, length, map, not, sym}
-use Rattle.std.specs.List.{filter}
-use Rattle.ks_symbols.specs.Lines.{lines}
-use Rattle.ks_requests.specs.Targets.{targets_in}
+use Rattle.ks_requests.proofs.Prelude.{◌≡◌, ◌∙◌, ◌++◌, ◌==◌, append-nil, ap, length, map, not, sym, filter, lines, targets_in}
 use Rattle.ks_requests.proofs.targets.push_lines.Goals as goal
 
 pub loop-line-init : goal.loop-line-init

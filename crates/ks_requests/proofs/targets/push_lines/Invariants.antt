@@ -1,6 +1,4 @@
-use Rattle.std.proofs.Common.{◌≡◌, ◌++◌, ◌==◌, length, map, not}
-use Rattle.std.specs.List.{filter}
-use Rattle.ks_symbols.specs.Lines.{lines}
+use Rattle.ks_requests.proofs.Prelude.{◌≡◌, ◌++◌, ◌==◌, length, map, not, filter, lines}
 use Rattle.ks_requests.proofs.targets.push_lines.Given as goal
 
 -- what was appended so far, and the lines that are left, are all of them

@@ -1,4 +1,4 @@
-use Rattle.std.proofs.Common.{◌≡◌, ◌++◌, map, string_bytes, take}
+use Rattle.ks_requests.proofs.Prelude.{◌≡◌, ◌++◌, map, string_bytes, take}
 use Rattle.ks_requests.proofs.targets.push_words.Given as goal
 
 abbrev pub invariant-loop-word : goal.invariant-loop-word

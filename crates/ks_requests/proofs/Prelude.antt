@@ -1,0 +1,68 @@
+-- What the proofs of this crate import: one name for each thing.
+pub use Rattle.std.proofs.Common.{Bool, Bor, Err, IfSome, List, None, Ok, Option, Some, [], ap, append-nil, append_assoc, ap₂, arith, bytes_eq, codes, cond, decimal, drop, drop-cons, false, flat_map, get_or, inl, inr, length, map, max, not, option_and_then, option_map, refl, slice_get, string_bytes, subst, suc, sym, take, true, ℕ, ◌%◌, ◌++◌, ◌+◌, ◌-◌, ◌/◌, ◌<◌, ◌==◌, ◌^◌, ◌||◌, ◌∙◌, ◌∷◌, ◌≡◌, ◌≢◌, ◌≤◌, ◌⊎◌}
+pub use Rattle.std.proofs.lemmas.Bool.{cases_eq, cases_lt, cond-false, cond-true, eq-eqb, le-ltb, lt-leb, lt-ltb, ne_eqb}
+pub use Rattle.std.proofs.lemmas.Grind.{flat_map-append}
+pub use Rattle.std.proofs.lemmas.Iterator.Consumers.{YieldsList-from_rest, nth_from_yields_List}
+pub use Rattle.std.proofs.lemmas.List.{drop_all, map-append, map_more}
+pub use Rattle.std.proofs.lemmas.List.Elements.{All-head, All-tail}
+pub use Rattle.std.proofs.lemmas.List.Sums.{fold-append}
+pub use Rattle.std.proofs.lemmas.Result.{err_from_is_err_and}
+pub use Rattle.std.proofs.lemmas.Str.{digit_value-digit_char, encode_ascii, encodes_same}
+pub use Rattle.std.specs.Char.{digit_char, encode_utf8}
+pub use Rattle.std.specs.Io.KnownBytes.{Appends}
+pub use Rattle.std.specs.List.{All, filter, list_any}
+pub use Rattle.indexmap.specs.IndexSet.{insert_key}
+pub use Rattle.json.proofs.Printed.Decimals.{IsNumber-decimal}
+pub use Rattle.json.proofs.Printed.Numbers.{lex-number}
+pub use Rattle.json.proofs.Printed.Trees.{value-json_tokens}
+pub use Rattle.json.specs.Json.{Json, document, if_last, max_depth, member, no_items, no_members, string, value}
+pub use Rattle.json.specs.Lex.{Lexeme, Mode, after_value, between, colon, comma, fresh, in_string, lex_byte, operator, other, space, string_token, token, tokens}
+unfoldable pub use Rattle.json.specs.Lex.{lex, punctuate}
+pub use Rattle.json.specs.Text.{plain, prepend}
+unfoldable pub use Rattle.json.specs.Text.{code_unit, content, short_escape}
+pub use Rattle.json.specs.Token.{Token}
+pub use Rattle.json.specs.Tree.{depth, items_depth, items_tokens, json_tokens}
+pub use Rattle.json.specs.Word.{is_operator, is_space}
+unfoldable pub use lib.Utf8.{encode}
+pub use Rattle.ks_engine.specs.Actions.{action}
+pub use Rattle.ks_engine.specs.SyncPlan.{source_refusal}
+pub use Rattle.ks_engine.specs.Synchronised.{AreChanged}
+pub use Rattle.ks_engine.specs.Views.{PlansOver, Reports, old_of, sources_of}
+pub use Rattle.ks_engine.specs.declared.commands.Command.{Command}
+pub use Rattle.ks_engine.specs.declared.commands.Reply.{Reply}
+pub use Rattle.ks_engine.specs.declared.error.EngineError.{EngineError}
+pub use Rattle.ks_engine.specs.declared.explaining.Cause.{Cause}
+pub use Rattle.ks_engine.specs.declared.explaining.Explanation.{Explanation}
+pub use Rattle.ks_engine.specs.declared.question.Limit.{Limit}
+pub use Rattle.ks_engine.specs.declared.staleness.Verdict.{Verdict}
+pub use Rattle.ks_fixdep.specs.FoundNames.{all_noted, noted}
+pub use Rattle.ks_output.specs.Appending.{Keeps}
+pub use Rattle.ks_output.specs.AutoText.{auto_text}
+pub use Rattle.ks_output.specs.OldConfig.{Texts}
+pub use Rattle.ks_output.specs.declared.auto_conf.AutoError.{AutoError}
+pub use Rattle.ks_streams.proofs.Writing.{told, told_first, told_more}
+pub use Rattle.ks_streams.specs.Streams.{Breaks, Prints, PrintsOrBreaks, state_of}
+pub use Rattle.ks_symbols.specs.Kconfig.{declared}
+unfoldable pub use Rattle.ks_symbols.specs.Lines.{lines}
+pub use Rattle.ks_symbols.specs.Refusals.{IsRefusal, or_else}
+pub use Rattle.ks_symbols.specs.Statements.{statement}
+pub use Rattle.ks_symbols.specs.declared.error.SourceError.{SourceError}
+pub use Rattle.ks_symbols.specs.declared.kinds.Kind.{Kind}
+pub use Rattle.ks_tree.specs.Files.{Files}
+pub use Rattle.ks_requests.specs.Faults.{complaint, fault_text}
+unfoldable pub use Rattle.ks_requests.specs.Faults.{counted}
+unfoldable pub use Rattle.ks_requests.specs.JsonLines.{json_beginning, json_byte, json_cause, json_causes, json_explanation, json_first, json_items, json_name, json_refused, json_string, verdict_word}
+pub use Rattle.ks_requests.specs.Laws.{AreBytes, CharactersTellApart, HasBytes, IsOfBytes, LinesAreObjects, asked_values, cause_value, cause_values, characters, first_values, value_of}
+pub use Rattle.ks_requests.specs.Preview.{IsPreviewRefusal, full_refusal, old_generation, old_refusal, touch_lines}
+unfoldable pub use Rattle.ks_requests.specs.Preview.{preview_refusal}
+pub use Rattle.ks_requests.specs.Replies.{cause_line, reply_line}
+unfoldable pub use Rattle.ks_requests.specs.Replies.{reply_lines, report_lines, synced_line}
+pub use Rattle.ks_requests.specs.Sites.{IsThere, Site, excerpt, excerpt_at, excerpt_in, part_text, site_line}
+pub use Rattle.ks_requests.specs.Statuses.{code_of, reply_status, worst}
+pub use Rattle.ks_requests.specs.Symbols.{symbol_of}
+unfoldable pub use Rattle.ks_requests.specs.Targets.{targets_in}
+pub use Rattle.ks_requests.specs.Unknown.{unknown_in, unknown_line, unknown_names}
+unfoldable pub use Rattle.ks_requests.specs.Unknown.{unknown_lines}
+pub use Rattle.ks_requests.specs.Views.{seen_site}
+pub use Rattle.ks_requests.specs.declared.preview.PreviewError.{PreviewError}
+pub use Rattle.ks_requests.specs.declared.sites.Part.{Part}

@@ -1,3 +1,4 @@
+pub mod Prelude
 pub mod RuleLemmas
 pub mod WordLemmas
 pub mod Told

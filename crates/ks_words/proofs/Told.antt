@@ -1,7 +1,5 @@
 -- The words of a preview and of a script.
-use Rattle.std.proofs.Common.{subst, IsSomeAnd}
-use Rattle.ks_words.specs.Laws.{PreviewWords, BatchWords}
-use Rattle.ks_words.specs.Words.{IsRequestOf}
+use Rattle.ks_words.proofs.Prelude.{subst, IsSomeAnd, PreviewWords, BatchWords, IsRequestOf}
 use Rattle.ks_words.proofs.WordLemmas.{batch_of, batch_rows, batch_takes, preview_of, preview_rows, preview_takes}
 
 pub preview_words : PreviewWords

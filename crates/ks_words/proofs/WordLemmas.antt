@@ -1,31 +1,10 @@
 -- What the command line makes of words that begin with no hyphen.
-use Rattle.std.proofs.Common.{◌≡◌, ◌≢◌, ◌==◌, inl, inr, ap, sym, subst, ℕ, List, [], ◌∷◌, Option, Some, None, refl, codes, true, false, slice_index, option_map, arith}
-use Rattle.std.proofs.lemmas.Bool.{true≢false}
-use Rattle.std.proofs.lemmas.Bool.Decides.{nat_tests}
-use Rattle.clap.specs.declared.error.Error.{Error}
+use Rattle.ks_words.proofs.Prelude.{◌≡◌, ◌≢◌, ◌==◌, inl, inr, ap, sym, subst, ℕ, List, [], ◌∷◌, Option, Some, None, refl, codes, true, false, slice_index, option_map, arith, true≢false, nat_tests, Error, HasKind, IsAmong, Kinds, kind_of, Row, Text, first_of, first_value, is_simple, is_simple_and_free, rows_of, subcommand_name_of, subcommand_of, subcommand_rows, subcommand_rows_of, takes, Box, IfErr, IsErrAnd, Result, Ok, Err, is_some, same_Some, IsBatchOf, IsPreviewOf, Request, WordsError, IsFaultOf, IsRequestOf, IsTold, IsWantOfMemory, box_value, ArgMatches, SubCommand, out-ArgMatches, out-SubCommand, CommandLine, reading_of, strip_byte, bytes_eq, Found, first_value-rows, clap_on_literals, command_line_app}
 use Rattle.clap.specs.declared.error.kind.ErrorKind.TheVariants.{OutOfMemory as NoMemory}
-use Rattle.clap.specs.Words.{HasKind, IsAmong, Kinds, kind_of, Row, Text, first_of, first_value, is_simple, is_simple_and_free, rows_of, subcommand_name_of, subcommand_of, subcommand_rows, subcommand_rows_of, takes}
-use Rattle.std.specs.Prelude.{Box, IfErr, IsErrAnd, IsSomeAnd, Result, Ok, Err, is_some}
-use Rattle.std.proofs.lemmas.Option.{same_Some}
-use Rattle.ks_requests.specs.Requests.{IsBatchOf, IsPreviewOf}
-use Rattle.ks_requests.specs.declared.request.Request.{Request}
+use Rattle.std.specs.Prelude.{IsSomeAnd}
 use Rattle.ks_requests.specs.declared.request.Request.TheVariants as request
-use Rattle.ks_words.specs.declared.words.WordsError.{WordsError}
 use Rattle.ks_words.specs.declared.words.WordsError.TheVariants as words
-use Rattle.ks_words.specs.Words.{IsFaultOf, IsRequestOf, IsTold, IsWantOfMemory}
-use Rattle.std.specs.Box.{box_value}
-use Rattle.clap.specs.declared.parser.matches.ArgMatches.{ArgMatches}
-use Rattle.clap.specs.declared.parser.matches.SubCommand.{SubCommand}
-use Rattle.clap.specs.declared.parser.matches.ArgMatches.TheViews.{out-ArgMatches, out-SubCommand}
-use Rattle.clap.specs.declared.parser.matches.ValueSource.TheVariants.{CommandLine}
 use Rattle.clap.specs.declared.builder.value_parser.ValueParser.TheVariants as vp
-use Rattle.clap.specs.Words.{reading_of}
-use Rattle.clap.specs.Lexer.{strip_byte}
-use Rattle.std.specs.Str.{bytes_eq}
-use Rattle.clap.specs.declared.parser.matches.Found.{Found}
-use Rattle.clap.proofs.WalkLemmas.{first_value-rows}
-use Rattle.clap.proofs.OnLiterals.{clap_on_literals}
-use Rattle.ks_words.specs.CommandLine.{command_line_app}
 
 pub is_free_line : is_simple_and_free command_line_app ≡ true
 unfolding clap_on_literals
@@ -97,27 +76,33 @@ both (Some p) name rows P e f h = subst (λ n. P n p.1) (same_Some _ _ e) (subst
 pub preview_of : (k d : Text) (r : Request) → IsRequestOf (codes "preview") (given (codes "KCONFIG") k ∷ given (codes "DOTCONFIG") d ∷ []) r
     → IsPreviewOf k d None r
 preview_of k d (request.Preview k' d' o) h = (h.1, h.2, h.3)
-preview_of k d (request.Sync k' d') h = absurd (true≢false (ap (λ t. slice_index t 0 == 112) h.0))
-preview_of k d (request.Diff k' d') h = absurd (true≢false (ap (λ t. slice_index t 0 == 112) h.0))
+preview_of k d (request.Sync k' d' stamps) h = absurd (true≢false (ap (λ t. slice_index t 0 == 112) h.0))
+preview_of k d (request.Diff k' d' telling) h = absurd (true≢false (ap (λ t. slice_index t 0 == 112) h.0))
 preview_of k d (request.Fixdep d' t c) h = absurd (true≢false (ap (λ t. slice_index t 0 == 112) h.0))
 preview_of k d (request.Record d' t c) h = absurd (true≢false (ap (λ t. slice_index t 0 == 112) h.0))
-preview_of k d (request.Stale ts) h = absurd (h.0 1 [] (omega arith) refl)
-preview_of k d (request.Why ts) h = absurd (true≢false (ap (λ t. slice_index t 0 == 112) h.0))
-preview_of k d (request.Impact k' d' ts) h = absurd (true≢false (ap (λ t. slice_index t 0 == 112) h.0))
+preview_of k d (request.Depfile end d' t c) h = absurd (true≢false (ap (λ t. slice_index t 0 == 112) h.0))
+preview_of k d (request.Stale ts f) h = absurd (h.0 1 [] (omega arith) refl)
+preview_of k d (request.Why ts f) h = absurd (true≢false (ap (λ t. slice_index t 0 == 112) h.0))
+preview_of k d (request.Impact k' d' ts f) h = absurd (true≢false (ap (λ t. slice_index t 0 == 112) h.0))
 preview_of k d (request.Batch s) h = absurd (true≢false (ap (λ t. slice_index t 0 == 112) h.0))
 preview_of k d (request.Outdated t c) h = absurd (true≢false (ap (λ t. slice_index t 0 == 112) h.0))
+preview_of k d (request.Users symbols ts) h = absurd (true≢false (ap (λ t. slice_index t 0 == 112) h.0))
+preview_of k d (request.Cost top ts) h = absurd (true≢false (ap (λ t. slice_index t 0 == 112) h.0))
 
 pub batch_of : (p : Text) (r : Request) → IsRequestOf (codes "batch") (given (codes "SCRIPT") p ∷ []) r → IsBatchOf p r
 batch_of p (request.Batch s) h = h.1
-batch_of p (request.Sync k d) h = absurd (true≢false (ap (λ t. slice_index t 0 == 98) h.0))
+batch_of p (request.Sync k d stamps) h = absurd (true≢false (ap (λ t. slice_index t 0 == 98) h.0))
 batch_of p (request.Preview k d o) h = absurd (true≢false (ap (λ t. slice_index t 0 == 98) h.0))
-batch_of p (request.Diff k d) h = absurd (true≢false (ap (λ t. slice_index t 0 == 98) h.0))
+batch_of p (request.Diff k d telling) h = absurd (true≢false (ap (λ t. slice_index t 0 == 98) h.0))
 batch_of p (request.Fixdep d t c) h = absurd (true≢false (ap (λ t. slice_index t 0 == 98) h.0))
 batch_of p (request.Record d t c) h = absurd (true≢false (ap (λ t. slice_index t 0 == 98) h.0))
-batch_of p (request.Stale ts) h = absurd (h.0 5 [] (omega arith) refl)
-batch_of p (request.Why ts) h = absurd (true≢false (ap (λ t. slice_index t 0 == 98) h.0))
-batch_of p (request.Impact k d ts) h = absurd (true≢false (ap (λ t. slice_index t 0 == 98) h.0))
+batch_of p (request.Depfile end d t c) h = absurd (true≢false (ap (λ t. slice_index t 0 == 98) h.0))
+batch_of p (request.Stale ts f) h = absurd (h.0 6 [] (omega arith) refl)
+batch_of p (request.Why ts f) h = absurd (true≢false (ap (λ t. slice_index t 0 == 98) h.0))
+batch_of p (request.Impact k d ts f) h = absurd (true≢false (ap (λ t. slice_index t 0 == 98) h.0))
 batch_of p (request.Outdated t c) h = absurd (true≢false (ap (λ t. slice_index t 0 == 98) h.0))
+batch_of p (request.Users symbols ts) h = absurd (true≢false (ap (λ t. slice_index t 0 == 98) h.0))
+batch_of p (request.Cost top ts) h = absurd (true≢false (ap (λ t. slice_index t 0 == 98) h.0))
 
 -- what holds of the error holds where there is an error
 pub err_all : {T E : Type 0} (r : Result T E) (P Q : E → Type 0) → ((e : E) → P e → Q e) → IsErrAnd r P → IfErr r Q

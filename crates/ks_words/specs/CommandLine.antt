@@ -4,12 +4,14 @@ use Rattle.std.specs.Borrow.{Bor}
 use Rattle.clap.specs.Words.{App, Rule, Text, new_app, new_rule, with_rule, with_subcommand}
 use Rattle.clap.specs.Simple.{on_top}
 use Rattle.clap.specs.Lexer.{usize_max}
+use Rattle.clap.specs.declared.builder.action.ArgAction.TheVariants.{SetTrue}
 use Rattle.ks_words.specs.declared.usage.Times.{Times}
-use Rattle.ks_words.specs.declared.usage.Times.TheVariants.{Once, AtMostOnce, AnyNumber, Behind}
+use Rattle.ks_words.specs.declared.usage.Times.TheVariants.{Once, AtMostOnce, AnyNumber, Following, Flag, AtLeastOnce, OnceAfter, NumberAfter}
+use Rattle.clap.specs.declared.builder.value_parser.ValueParser.TheVariants as vp
 use Rattle.ks_words.specs.declared.usage.Usage.{Usage}
 use Rattle.ks_words.specs.declared.usage.Word.{Word}
 
--- a word that stands once, that may be left out, that may stand any number of times, or that stands behind an option
+-- a word that stands once, that may be left out, that may stand any number of times, that stands after an option, or that is an option
 abbrev pub once : Text → Rule
 once name = record (new_rule name) { required = true }
 
@@ -19,14 +21,31 @@ at_most_once name = new_rule name
 abbrev pub any_number : Text → Rule
 any_number name = record (new_rule name) { range = Some (record { start_inclusive = 1; end_inclusive = usize_max }) }
 
-abbrev pub behind : Text → Text → Rule
-behind option name = record (new_rule name) { long = Some option }
+abbrev pub following : Text → Text → Rule
+following option name = record (new_rule name) { long = Some option }
+
+abbrev pub flag : Text → Rule
+flag name = record (new_rule name) { long = Some name; action = Some SetTrue }
+
+-- .. at least once, once after an option, or as a number after one
+abbrev pub at_least_once : Text → Rule
+at_least_once name = record (any_number name) { required = true }
+
+abbrev pub once_after : Text → Text → Rule
+once_after option name = record (following option name) { required = true }
+
+abbrev pub number_following : Text → Text → Rule
+number_following option name = record (following option name) { parser = Some (vp.Unsigned 0 18446744073709551615) }
 
 abbrev pub rule_for : Text → Times → Rule
 rule_for name Once = once name
 rule_for name AtMostOnce = at_most_once name
 rule_for name AnyNumber = any_number name
-rule_for name (Behind option) = behind option.now name
+rule_for name (Following option) = following option.now name
+rule_for name Flag = flag name
+rule_for name AtLeastOnce = at_least_once name
+rule_for name (OnceAfter option) = once_after option.now name
+rule_for name (NumberAfter option) = number_following option.now name
 
 -- the rule of a word of the program's table
 abbrev pub word_rule : Word → Rule
@@ -60,15 +79,20 @@ bare_app =
 -- the whole command line
 abbrev pub command_line_app : App
 command_line_app = with_all bare_app
-    (taking (codes "sync") (once (codes "KCONFIG") ∷ once (codes "DOTCONFIG") ∷ [])
+    (needing_one (taking (codes "sync") (flag (codes "stamps") ∷ once (codes "KCONFIG") ∷ once (codes "DOTCONFIG") ∷ []))
     ∷ taking (codes "preview") (once (codes "KCONFIG") ∷ once (codes "DOTCONFIG") ∷ at_most_once (codes "OLDAUTO") ∷ [])
-    ∷ taking (codes "diff") (once (codes "KCONFIG") ∷ once (codes "DOTCONFIG") ∷ [])
+    ∷ needing_one (taking (codes "diff") (flag (codes "exit-code") ∷ flag (codes "quiet") ∷ once (codes "KCONFIG") ∷ once (codes "DOTCONFIG") ∷ []))
     ∷ taking (codes "fixdep") (once (codes "DEPFILE") ∷ once (codes "TARGET") ∷ once (codes "COMMAND") ∷ [])
     ∷ taking (codes "record") (once (codes "DEPFILE") ∷ once (codes "TARGET") ∷ once (codes "COMMAND") ∷ [])
-    ∷ needing_one (taking (codes "stale") (any_number (codes "TARGET") ∷ behind (codes "from") (codes "FILE") ∷ []))
-    ∷ needing_one (taking (codes "why") (any_number (codes "TARGET") ∷ behind (codes "from") (codes "FILE") ∷ []))
+    ∷ needing_one (taking (codes "depfile") (following (codes "header") (codes "END") ∷ once (codes "DEPFILE") ∷ once (codes "TARGET")
+    ∷ once (codes "COMMAND") ∷ []))
+    ∷ needing_one (taking (codes "stale") (any_number (codes "TARGET") ∷ following (codes "from") (codes "FILE") ∷ flag (codes "json") ∷ []))
+    ∷ needing_one (taking (codes "why") (any_number (codes "TARGET") ∷ following (codes "from") (codes "FILE") ∷ flag (codes "json") ∷ []))
     ∷ needing_one (taking (codes "impact") (once (codes "KCONFIG") ∷ once (codes "DOTCONFIG") ∷ any_number (codes "TARGET")
-    ∷ behind (codes "from") (codes "FILE") ∷ []))
+    ∷ following (codes "from") (codes "FILE") ∷ flag (codes "json") ∷ []))
     ∷ taking (codes "batch") (once (codes "SCRIPT") ∷ [])
     ∷ taking (codes "outdated") (once (codes "TARGET") ∷ once (codes "COMMAND") ∷ [])
+    ∷ needing_one (taking (codes "users") (once_after (codes "from") (codes "FILE") ∷ at_least_once (codes "SYMBOL") ∷ []))
+    ∷ needing_one (taking (codes "cost") (any_number (codes "TARGET") ∷ following (codes "from") (codes "FILE")
+    ∷ number_following (codes "top") (codes "N") ∷ []))
     ∷ [])

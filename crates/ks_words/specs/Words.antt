@@ -1,11 +1,19 @@
 -- Words of the command line, the requests that they make, and why they make none.
-use Rattle.std.specs.Prelude.{◌≡◌, ◌≢◌, ◌⊎◌, ℕ, List, [], ◌∷◌, codes, option_map, slice_index, string_bytes, unwrap_or, ⊤}
+use Rattle.std.specs.Prelude.{◌≡◌, ◌≢◌, ◌⊎◌, ℕ, Bool, false, List, [], ◌∷◌, bytes_eq, codes, option_map, slice_index, string_bytes, unwrap_or, ⊤, if◌then◌else◌, ◌<◌, ◌^◌, Option, Some, None, map}
 use Rattle.std.specs.List.{All}
-use Rattle.clap.specs.Words.{IsAmong, Kinds, Row, Text, all_of, first_of}
+use Rattle.std.specs.Option.{option_map_or}
+use Rattle.clap.specs.Words.{IsAmong, Kinds, Row, Text, all_of, first_of, one_of}
+use Rattle.ks_requests.specs.declared.request.Form.{Form}
+use Rattle.ks_requests.specs.declared.request.Form.TheVariants as form
+use Rattle.std.specs.Str.Parse.{IsNumeral, digits_value, without_leading_plus}
 use Rattle.ks_requests.specs.declared.request.Request.{Request}
+use Rattle.ks_requests.specs.declared.request.Stamps.{Stamps}
+use Rattle.ks_requests.specs.declared.request.Stamps.TheVariants as stamps
 use Rattle.ks_requests.specs.declared.request.Targets.{Targets}
 use Rattle.ks_requests.specs.declared.request.Request.TheVariants as request
 use Rattle.ks_requests.specs.Targets.{file_of, words_of}
+use Rattle.ks_requests.specs.declared.telling.Telling.{Telling}
+use Rattle.ks_requests.specs.declared.telling.Telling.TheVariants.{Lines, LinesAndStatus, Status}
 use Rattle.ks_words.specs.declared.words.WordsError.{WordsError}
 use Rattle.ks_words.specs.declared.words.WordsError.TheVariants.{OutOfMemory, Refused}
 use Rattle.clap.specs.Words.{kind_of}
@@ -43,37 +51,68 @@ word_at name rows = unwrap_or (first_of name rows) []
 abbrev pub words_at : Text → List Row → List Text
 words_at name rows = unwrap_or (all_of name rows) []
 
+-- whether this option stands there
+abbrev pub is_set : Text → List Row → Bool
+is_set name rows = option_map_or (λ text. bytes_eq text (codes "true")) (first_of name rows) false
+
+-- what `diff` is to tell; `--quiet` says more than `--exit-code`
+abbrev pub telling_of : List Row → Telling
+telling_of rows = if is_set (codes "quiet") rows then Status else (if is_set (codes "exit-code") rows then LinesAndStatus else Lines)
+
+-- which stamps `sync` is to leave
+abbrev pub stamps_of : List Row → Stamps
+stamps_of rows = if is_set (codes "stamps") rows then stamps.Declared else stamps.Touched
+
 -- the name is that of no command but `stale`
 abbrev pub IsNoOther : Text → Type 0
 IsNoOther name = All (λ other. name ≢ other)
-    (codes "sync" ∷ codes "preview" ∷ codes "diff" ∷ codes "fixdep" ∷ codes "record" ∷ codes "batch" ∷ codes "outdated"
-    ∷ codes "why" ∷ codes "impact" ∷ [])
+    (codes "sync" ∷ codes "preview" ∷ codes "diff" ∷ codes "fixdep" ∷ codes "record" ∷ codes "depfile" ∷ codes "batch" ∷ codes "outdated"
+    ∷ codes "why" ∷ codes "impact" ∷ codes "users" ∷ codes "cost" ∷ [])
 
 -- the objects of a question
 abbrev pub AreTargets : List Row → Targets → Type 0
 AreTargets rows targets = (words_of targets ≡ words_at (codes "TARGET") rows) × (file_of targets ≡ first_of (codes "FILE") rows)
 
+-- the form of its answers
+abbrev pub form_of : List Row → Form
+form_of rows = if is_set (codes "json") rows then form.Json else form.Text
+
+-- the number that a word spells, with a + in front or without; `clap` takes no word that spells none
+abbrev pub IsNumberOf : Option Text → Option ℕ → Type 0
+IsNumberOf None number = number ≡ None
+IsNumberOf (Some word) (Some n) = IsNumeral 10 (without_leading_plus word) × (n ≡ digits_value 10 (without_leading_plus word))
+IsNumberOf (Some word) None = (IsNumeral 10 (without_leading_plus word) × (digits_value 10 (without_leading_plus word) < 2 ^ 64)) → ⊥
+
 -- the request is that of the command, and holds what `clap` found for each of its words
 abbrev pub IsRequestOf : Text → List Row → Request → Type 0
-IsRequestOf command rows (request.Sync k d) = (command ≡ codes "sync")
+IsRequestOf command rows (request.Sync k d stamps) = (command ≡ codes "sync")
     × (string_bytes k ≡ word_at (codes "KCONFIG") rows) × (string_bytes d ≡ word_at (codes "DOTCONFIG") rows)
+    × (stamps ≡ stamps_of rows)
 IsRequestOf command rows (request.Preview k d o) = (command ≡ codes "preview")
     × (string_bytes k ≡ word_at (codes "KCONFIG") rows) × (string_bytes d ≡ word_at (codes "DOTCONFIG") rows)
     × (option_map (λ path. string_bytes path) o ≡ first_of (codes "OLDAUTO") rows)
-IsRequestOf command rows (request.Diff k d) = (command ≡ codes "diff")
+IsRequestOf command rows (request.Diff k d telling) = (command ≡ codes "diff")
     × (string_bytes k ≡ word_at (codes "KCONFIG") rows) × (string_bytes d ≡ word_at (codes "DOTCONFIG") rows)
+    × (telling ≡ telling_of rows)
 IsRequestOf command rows (request.Fixdep d t c) = (command ≡ codes "fixdep")
     × (string_bytes d ≡ word_at (codes "DEPFILE") rows) × (string_bytes t ≡ word_at (codes "TARGET") rows)
     × (string_bytes c ≡ word_at (codes "COMMAND") rows)
 IsRequestOf command rows (request.Record d t c) = (command ≡ codes "record")
     × (string_bytes d ≡ word_at (codes "DEPFILE") rows) × (string_bytes t ≡ word_at (codes "TARGET") rows)
     × (string_bytes c ≡ word_at (codes "COMMAND") rows)
-IsRequestOf command rows (request.Stale ts) =
-    IsNoOther command × AreTargets rows ts
-IsRequestOf command rows (request.Why ts) = (command ≡ codes "why") × AreTargets rows ts
-IsRequestOf command rows (request.Impact k d ts) = (command ≡ codes "impact")
+IsRequestOf command rows (request.Depfile end d t c) = (command ≡ codes "depfile")
+    × (option_map (λ path. string_bytes path) end ≡ first_of (codes "END") rows) × (string_bytes d ≡ word_at (codes "DEPFILE") rows)
+    × (string_bytes t ≡ word_at (codes "TARGET") rows) × (string_bytes c ≡ word_at (codes "COMMAND") rows)
+IsRequestOf command rows (request.Stale ts f) =
+    IsNoOther command × AreTargets rows ts × (f ≡ form_of rows)
+IsRequestOf command rows (request.Why ts f) = (command ≡ codes "why") × AreTargets rows ts × (f ≡ form_of rows)
+IsRequestOf command rows (request.Impact k d ts f) = (command ≡ codes "impact")
     × (string_bytes k ≡ word_at (codes "KCONFIG") rows) × (string_bytes d ≡ word_at (codes "DOTCONFIG") rows) × AreTargets rows ts
+    × (f ≡ form_of rows)
 IsRequestOf command rows (request.Batch s) =
     (command ≡ codes "batch") × (string_bytes s ≡ word_at (codes "SCRIPT") rows)
 IsRequestOf command rows (request.Outdated t c) = (command ≡ codes "outdated")
     × (string_bytes t ≡ word_at (codes "TARGET") rows) × (string_bytes c ≡ word_at (codes "COMMAND") rows)
+IsRequestOf command rows (request.Users symbols ts) = (command ≡ codes "users")
+    × (map (λ s. string_bytes s) symbols.items ≡ words_at (codes "SYMBOL") rows) × AreTargets rows ts
+IsRequestOf command rows (request.Cost top ts) = (command ≡ codes "cost") × IsNumberOf (one_of (codes "N") rows) top × AreTargets rows ts

@@ -5,7 +5,7 @@ ghost use Rattle.clap.specs.declared.builder.command.Command.TheViews.{out-Comma
 ghost use Rattle.ks_words.specs.CommandLine.{command_line_app, usage_app, word_rule};
 
 use crate::usage::{ABOUT, CALL, NOTES, Times, USAGES, Usage, Word};
-use clap::{Arg, Command};
+use clap::{Arg, ArgAction, Command, value_parser};
 use std::alloc::{AllocError, Global};
 
 fn argument<'a>(alloc: Global, word: &Word) -> Arg<'a>
@@ -17,7 +17,11 @@ fn argument<'a>(alloc: Global, word: &Word) -> Arg<'a>
         Times::Once => argument.required(true),
         Times::AtMostOnce => argument,
         Times::AnyNumber => argument.num_args(1..),
-        Times::Behind(option) => argument.long(option),
+        Times::Following(option) => argument.long(option),
+        Times::Flag => argument.long(word.name).action(ArgAction::SetTrue),
+        Times::AtLeastOnce => argument.num_args(1..).required(true),
+        Times::OnceAfter(option) => argument.long(option).required(true),
+        Times::NumberAfter(option) => argument.long(option).value_parser(value_parser!(u64)),
     }
 }
 

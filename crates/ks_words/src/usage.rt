@@ -5,17 +5,31 @@ pub(crate) const ABOUT: &str =
     "Which objects of a kernel build are stale after a change of .config";
 
 /// How the program is called.
-pub(crate) const CALL: &str = "confstamp [-C DIR]... <COMMAND>";
+pub(crate) const CALL: &str = "confstamp [-C DIR]... [--begin] <COMMAND>";
 
 /// What holds for all commands.
 pub(crate) const NOTES: &str = "\
 Files are looked up in the current folder, or below DIR of -C DIR in front of the command.
-A word that begins with - is taken behind --.
+--begin lets a sync begin its numbers again, where files hold some and auto.conf has no generation.
+A word that begins with - is taken after --.
 
 Exit status:
-  0  done, and nothing is stale
-  1  some object is stale, or was built by another command
-  2  something was refused";
+  0    done, and nothing is stale
+  1    some object is stale, or was built by another command; of diff --exit-code and --quiet, a symbol differs
+  2    something was refused, or the words are no command
+  141  nobody reads the output any more; all else is done
+
+A refusal is told by its number and its name, and by its place where it has one:
+  Kconfig       1 NotBare, 2 BadName, 3 ModuleName, 4 NoType, 5 TypeClash, 6 BadTitle
+  .config       7 NotAConfigLine, 8 BadValue
+  any file      9 TooLarge, 40 MissingFile
+  auto.conf     11 BadAuto, 41 NeverSynced, 42 GenerationFull
+  DEPFILE       20 NoTarget, 21 BadPath; token 0 is a word of the command line
+  COMMAND       22 BadCommand
+  command file  23 BadCommandFile
+  stamp         31 BadStamp
+  SCRIPT        50 BadScript
+  the system    10 OutOfMemory, 30 Device, 51 Output";
 
 /// How a word may stand.
 #[derive(Clone, Copy)]
@@ -23,11 +37,18 @@ pub(crate) enum Times {
     Once,
     AtMostOnce,
     AnyNumber,
-    /// Behind the option of this name, at most once.
-    Behind(&'static str),
+    /// After the option of this name, at most once.
+    Following(&'static str),
+    /// It is an option itself, of its own name, and no word stands after it.
+    Flag,
+    AtLeastOnce,
+    /// After the option of this name, once.
+    OnceAfter(&'static str),
+    /// A number after the option of this name, at most once.
+    NumberAfter(&'static str),
 }
 
-/// A word behind a command.
+/// A word after a command.
 #[derive(Clone, Copy)]
 pub(crate) struct Word {
     pub(crate) name: &'static str,
@@ -70,6 +91,12 @@ const DEPFILE: Word = Word {
     help: "The dependency file that the compiler wrote with -MD",
 };
 
+const HEADER: Word = Word {
+    name: "END",
+    times: Times::Following("header"),
+    help: "The header of all symbols, by the end of its path; without it, include/generated/autoconf.h",
+};
+
 const TARGET: Word = Word {
     name: "TARGET",
     times: Times::Once,
@@ -84,8 +111,26 @@ const TARGETS: Word = Word {
 
 const FROM: Word = Word {
     name: "FILE",
-    times: Times::Behind("from"),
-    help: "A file with further objects, one a line; they come behind the others, and empty lines are skipped",
+    times: Times::Following("from"),
+    help: "A file with further objects, one a line; they come after the others, and empty lines are skipped",
+};
+
+const EXIT_CODE: Word = Word {
+    name: "exit-code",
+    times: Times::Flag,
+    help: "End with status 1 where a symbol differs",
+};
+
+const QUIET: Word = Word {
+    name: "quiet",
+    times: Times::Flag,
+    help: "Print nothing, and end with status 1 where a symbol differs",
+};
+
+const JSON: Word = Word {
+    name: "json",
+    times: Times::Flag,
+    help: "Print a line of JSON for each object: its target, its verdict and the causes",
 };
 
 const COMMAND: Word = Word {
@@ -94,18 +139,42 @@ const COMMAND: Word = Word {
     help: "The command line that builds the object, as one word",
 };
 
+const STAMPS: Word = Word {
+    name: "stamps",
+    times: Times::Flag,
+    help: "Make the missing stamp of each symbol of KCONFIG too, empty, so that a build can list them all",
+};
+
 const SCRIPT: Word = Word {
     name: "SCRIPT",
     times: Times::Once,
     help: "A file with a command sync, record or stale on each line; empty lines and those that begin with # are skipped",
 };
 
-pub(crate) const USAGES: [Usage; 10] = [
+const OBJECTS: Word = Word {
+    name: "FILE",
+    times: Times::OnceAfter("from"),
+    help: "A file with the objects, one a line; empty lines are skipped",
+};
+
+const SYMBOLS: Word = Word {
+    name: "SYMBOL",
+    times: Times::AtLeastOnce,
+    help: "The symbols, with or without CONFIG_ in front",
+};
+
+const TOP: Word = Word {
+    name: "N",
+    times: Times::NumberAfter("top"),
+    help: "Print the N dearest symbols alone",
+};
+
+pub(crate) const USAGES: [Usage; 13] = [
     Usage {
         name: "sync",
         about: "Write auto.conf, the header and the stamps of all symbols that changed",
-        words: &[KCONFIG, DOTCONFIG],
-        choice: None,
+        words: &[STAMPS, KCONFIG, DOTCONFIG],
+        choice: Some("confstamp sync [--stamps] <KCONFIG> <DOTCONFIG>"),
         notes: "\
 Prints the generation, touch NAME for each stamp, and how many lines name an unknown symbol.
 
@@ -124,13 +193,13 @@ Example: confstamp preview Kconfig .config include/config/auto.conf",
     Usage {
         name: "diff",
         about: "Show what sync would touch, with the old and the new value of each symbol",
-        words: &[KCONFIG, DOTCONFIG],
-        choice: None,
+        words: &[EXIT_CODE, QUIET, KCONFIG, DOTCONFIG],
+        choice: Some("confstamp diff [--exit-code] [--quiet] <KCONFIG> <DOTCONFIG>"),
         notes: "\
 Prints NAME OLD -> NEW for each, n where a symbol has no value, and both kinds where the values are alike.
-Writes no file.
+To standard error goes unknown NAME for each line of DOTCONFIG that names no symbol of KCONFIG. Writes no file.
 
-Example: confstamp diff Kconfig .config",
+Example: confstamp diff --exit-code Kconfig .config",
     },
     Usage {
         name: "fixdep",
@@ -148,15 +217,26 @@ Example: confstamp fixdep x.d x.o 'cc -c x.c'",
         words: &[DEPFILE, TARGET, COMMAND],
         choice: None,
         notes: "\
-Is run directly behind the compiler. Prints the generation, and how many names were found.
+Is run directly after the compiler. Prints the generation, and how many names were found.
 
 Example: confstamp record x.d x.o 'cc -c x.c'",
     },
     Usage {
+        name: "depfile",
+        about: "Record an object, and put the stamps of its names into its dependency file, for ninja",
+        words: &[HEADER, DEPFILE, TARGET, COMMAND],
+        choice: Some("confstamp depfile [--header END] <DEPFILE> <TARGET> <COMMAND>"),
+        notes: "\
+Does what record does. Then it makes the missing stamps, empty, and leaves one rule in DEPFILE: without the header,
+and with the stamp of each name. Refused, it leaves DEPFILE as it was. Prints what record prints.
+
+Example: confstamp depfile x.d x.o 'cc -c x.c'",
+    },
+    Usage {
         name: "stale",
         about: "Say which objects have to be built again because the configuration changed",
-        words: &[TARGETS, FROM],
-        choice: Some("confstamp stale [--from FILE] [TARGET]..."),
+        words: &[TARGETS, FROM, JSON],
+        choice: Some("confstamp stale [--json] [--from FILE] [TARGET]..."),
         notes: "\
 Prints a line for each object: fresh, stale and why, or refused and why. One of the words is needed.
 
@@ -165,21 +245,21 @@ Example: confstamp stale x.o y.o",
     Usage {
         name: "why",
         about: "Say which objects are stale, and list every symbol that changed since each was built",
-        words: &[TARGETS, FROM],
-        choice: Some("confstamp why [--from FILE] [TARGET]..."),
+        words: &[TARGETS, FROM, JSON],
+        choice: Some("confstamp why [--json] [--from FILE] [TARGET]..."),
         notes: "\
 Prints the lines of stale, and below an object NAME generation N PLACE for each symbol: when it changed, and where
-it was found. One of the words is needed.
+it was found; or recorded as PATH, where that is another spelling of its path. One of the words is needed.
 
 Example: confstamp why x.o y.o",
     },
     Usage {
         name: "impact",
-        about: "Say which objects would have to be built again behind a sync",
-        words: &[KCONFIG, DOTCONFIG, TARGETS, FROM],
-        choice: Some("confstamp impact [--from FILE] <KCONFIG> <DOTCONFIG> [TARGET]..."),
+        about: "Say which objects would have to be built again after a sync",
+        words: &[KCONFIG, DOTCONFIG, TARGETS, FROM, JSON],
+        choice: Some("confstamp impact [--json] [--from FILE] <KCONFIG> <DOTCONFIG> [TARGET]..."),
         notes: "\
-Prints what stale would print behind sync KCONFIG DOTCONFIG, and N of M stale to standard error. Writes no file.
+Prints what stale would print after sync KCONFIG DOTCONFIG, and N of M stale to standard error. Writes no file.
 
 Example: confstamp impact Kconfig .config x.o y.o",
     },
@@ -199,8 +279,30 @@ Example: confstamp batch steps",
         words: &[TARGET, COMMAND],
         choice: None,
         notes: "\
-Prints command-differs behind the object, or what stale prints.
+Prints command-differs after the object, or what stale prints.
 
 Example: confstamp outdated x.o 'cc -c x.c'",
+    },
+    Usage {
+        name: "users",
+        about: "Say which objects name a symbol, so that a change of it makes them stale",
+        words: &[OBJECTS, SYMBOLS],
+        choice: Some("confstamp users --from FILE <SYMBOL>..."),
+        notes: "\
+Prints OBJECT SYMBOL PLACE for each, with the first file that mentions the symbol, and N of M objects to standard
+error. Looks at each object once, and at command files alone.
+
+Example: confstamp users --from objects PRINTK",
+    },
+    Usage {
+        name: "cost",
+        about: "Say how many objects name each symbol, so that a change of it makes them stale",
+        words: &[TARGETS, FROM, TOP],
+        choice: Some("confstamp cost [--from FILE] [--top N] [TARGET]..."),
+        notes: "\
+Prints SYMBOL N for each, the dearest first. Looks at each object once, and at command files alone. One of the words
+is needed.
+
+Example: confstamp cost --from objects --top 20",
     },
 ];

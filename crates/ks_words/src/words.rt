@@ -1,16 +1,16 @@
 //! What the words after the program's name ask for.
 ghost use Rattle.std.specs.Prelude.{◌≡◌, ℕ, List, [], ◌∷◌, IfErr, IfOk, codes, true, map, None, option_map, string_bytes};
-ghost use Rattle.clap.specs.Words.{fault_of, first_of, found_of, rows_of, takes};
+ghost use Rattle.clap.specs.Words.{fault_of, first_of, found_of, one_of, rows_of, takes};
 ghost use Rattle.clap.specs.Walk.{texts};
 ghost use Rattle.ks_requests.specs.Requests.{IsBatchOf, IsPreviewOf};
 ghost use Rattle.ks_words.specs.CommandLine.{command_line_app};
 ghost use Rattle.ks_words.specs.Meaning.{Makes};
-ghost use Rattle.ks_words.specs.Words.{AreTargets, IsFaultOf, IsPlainWord, IsRequestOf, IsTold, IsWantOfMemory, word_at, words_at};
+ghost use Rattle.ks_words.specs.Words.{AreTargets, IsFaultOf, IsPlainWord, IsRequestOf, IsTold, IsWantOfMemory, is_set, stamps_of, telling_of, word_at, words_at, form_of, IsNumberOf};
 
 use crate::command_line::command_line;
 use clap::ArgMatches;
 use clap::error::ErrorKind;
-use ks_requests::{Request, Targets};
+use ks_requests::{Form, Request, Stamps, Targets, Telling};
 use std::alloc::{AllocError, Global};
 use thiserror::Error;
 
@@ -66,6 +66,17 @@ fn optional_word(
     }
 }
 
+/// Whether the option `id` stands there, which takes no word.
+#[tactic(auto, using(crate::proofs::WordLemmas::first_at))]
+fn is_set(matches: &ArgMatches<'_>, id: &str) -> bool
+    ensures { result ≡ is_set id.now (rows_of (found_of matches.now)) }
+{
+    match matches.get_str(id) {
+        Some(text) => text == "true",
+        None => false,
+    }
+}
+
 /// The words of the argument `id`.
 fn all_words(alloc: Global, matches: &ArgMatches<'_>, id: &str) -> Result<Vec<String>, AllocError>
     ensures { IfOk result (λ ws. map (λ s. string_bytes s) ws.items ≡ words_at id.now (rows_of (found_of matches.now))) }
@@ -89,12 +100,35 @@ fn targets(alloc: Global, matches: &ArgMatches<'_>) -> Result<Targets, AllocErro
     Ok(Targets { words, from })
 }
 
+/// The form of the answers.
+fn form(matches: &ArgMatches<'_>) -> Form
+    ensures { result ≡ form_of (rows_of (found_of matches.now)) }
+{
+    if is_set(matches, "json") {
+        Form::Json
+    } else {
+        Form::Text
+    }
+}
+
+/// Which stamps `sync` is to leave.
+fn stamps(matches: &ArgMatches<'_>) -> Stamps
+    ensures { result ≡ stamps_of (rows_of (found_of matches.now)) }
+{
+    if is_set(matches, "stamps") {
+        Stamps::Declared
+    } else {
+        Stamps::Touched
+    }
+}
+
 fn sync_request(alloc: Global, matches: &ArgMatches<'_>) -> Result<Request, AllocError>
     ensures { IfOk result (IsRequestOf (codes "sync") (rows_of (found_of matches.now))) }
 {
     Ok(Request::Sync {
         kconfig: word(alloc, matches, "KCONFIG")?,
         dotconfig: word(alloc, matches, "DOTCONFIG")?,
+        stamps: stamps(matches),
     })
 }
 
@@ -111,12 +145,26 @@ fn preview_request(alloc: Global, matches: &ArgMatches<'_>) -> Result<Request, A
     })
 }
 
+/// What `diff` is to tell.
+fn telling(matches: &ArgMatches<'_>) -> Telling
+    ensures { result ≡ telling_of (rows_of (found_of matches.now)) }
+{
+    if is_set(matches, "quiet") {
+        Telling::Status
+    } else if is_set(matches, "exit-code") {
+        Telling::LinesAndStatus
+    } else {
+        Telling::Lines
+    }
+}
+
 fn diff_request(alloc: Global, matches: &ArgMatches<'_>) -> Result<Request, AllocError>
     ensures { IfOk result (IsRequestOf (codes "diff") (rows_of (found_of matches.now))) }
 {
     Ok(Request::Diff {
         kconfig: word(alloc, matches, "KCONFIG")?,
         dotconfig: word(alloc, matches, "DOTCONFIG")?,
+        telling: telling(matches),
     })
 }
 
@@ -140,6 +188,17 @@ fn record_request(alloc: Global, matches: &ArgMatches<'_>) -> Result<Request, Al
     })
 }
 
+fn depfile_request(alloc: Global, matches: &ArgMatches<'_>) -> Result<Request, AllocError>
+    ensures { IfOk result (IsRequestOf (codes "depfile") (rows_of (found_of matches.now))) }
+{
+    Ok(Request::Depfile {
+        header: optional_word(alloc, matches, "END")?,
+        depfile: word(alloc, matches, "DEPFILE")?,
+        target: word(alloc, matches, "TARGET")?,
+        command: word(alloc, matches, "COMMAND")?,
+    })
+}
+
 fn outdated_request(alloc: Global, matches: &ArgMatches<'_>) -> Result<Request, AllocError>
     ensures { IfOk result (IsRequestOf (codes "outdated") (rows_of (found_of matches.now))) }
 {
@@ -156,6 +215,32 @@ fn impact_request(alloc: Global, matches: &ArgMatches<'_>) -> Result<Request, Al
         kconfig: word(alloc, matches, "KCONFIG")?,
         dotconfig: word(alloc, matches, "DOTCONFIG")?,
         targets: targets(alloc, matches)?,
+        form: form(matches),
+    })
+}
+
+/// The number of the argument `id`, where it is there. `clap` takes no other word for it.
+fn number(matches: &ArgMatches<'_>, id: &str) -> Option<u64>
+    ensures { IsNumberOf (one_of id.now (rows_of (found_of matches.now))) result }
+{
+    matches.get_one(id)
+}
+
+fn users_request(alloc: Global, matches: &ArgMatches<'_>) -> Result<Request, AllocError>
+    ensures { IfOk result (IsRequestOf (codes "users") (rows_of (found_of matches.now))) }
+{
+    Ok(Request::Users {
+        symbols: all_words(alloc, matches, "SYMBOL")?,
+        targets: targets(alloc, matches)?,
+    })
+}
+
+fn cost_request(alloc: Global, matches: &ArgMatches<'_>) -> Result<Request, AllocError>
+    ensures { IfOk result (IsRequestOf (codes "cost") (rows_of (found_of matches.now))) }
+{
+    Ok(Request::Cost {
+        top: number(matches, "N"),
+        targets: targets(alloc, matches)?,
     })
 }
 
@@ -169,21 +254,26 @@ fn request_named(alloc: Global, name: &str, matches: &ArgMatches<'_>) -> Result<
         "diff" => diff_request(alloc, matches),
         "fixdep" => fixdep_request(alloc, matches),
         "record" => record_request(alloc, matches),
+        "depfile" => depfile_request(alloc, matches),
         "outdated" => outdated_request(alloc, matches),
         "batch" => Ok(Request::Batch {
             script: word(alloc, matches, "SCRIPT")?,
         }),
         "why" => Ok(Request::Why {
             targets: targets(alloc, matches)?,
+            form: form(matches),
         }),
         "impact" => impact_request(alloc, matches),
+        "users" => users_request(alloc, matches),
+        "cost" => cost_request(alloc, matches),
         _ => Ok(Request::Stale {
             targets: targets(alloc, matches)?,
+            form: form(matches),
         }),
     }
 }
 
-/// The request that the words after the program's name make. A word that begins with `-` is taken behind `--`.
+/// The request that the words after the program's name make. A word that begins with `-` is taken after `--`.
 pub fn request_of<'a>(alloc: Global, words: &'a [&'a str]) -> Result<Request, WordsError>
     ensures exact { IfOk result (λ r. Makes (texts words.entry.now) r) }
     ensures taken { IfErr result (λ e. takes command_line_app (texts words.entry.now) ≡ true → IsWantOfMemory e) }

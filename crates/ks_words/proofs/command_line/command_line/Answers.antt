@@ -1,7 +1,4 @@
-use Rattle.std.proofs.Common.{◌≡◌, ◌∙◌, ap, codes, sym, true, arith, refl}
-use Rattle.clap.specs.Simple.{app_of_fields, on_top}
-use Rattle.clap.specs.Words.{app_of, new_app, with_subcommand}
-use Rattle.ks_words.specs.CommandLine.{bare_app, usage_app}
+use Rattle.ks_words.proofs.Prelude.{◌≡◌, ◌∙◌, ap, codes, sym, true, arith, refl, app_of_fields, on_top, app_of, new_app, with_subcommand, bare_app, usage_app}
 use Rattle.ks_words.proofs.RuleLemmas.{added, fold_more}
 use Rattle.ks_words.proofs.command_line.command_line.Goals as goal
 
@@ -21,5 +18,5 @@ loop-usage-preserved c =
 
 pub returns : goal.returns
 returns c =
-    let all : c.loop-usage.usage-index ≡ 10 = omega arith in
+    let all : c.loop-usage.usage-index ≡ 13 = omega arith in
     c.loop-usage.invariant ∙ rw all refl

@@ -1,6 +1,4 @@
-use Rattle.std.proofs.Common.{◌≡◌, map, take}
-use Rattle.clap.specs.Words.{app_of}
-use Rattle.ks_words.specs.CommandLine.{bare_app, usage_app, with_all}
+use Rattle.ks_words.proofs.Prelude.{◌≡◌, map, take, app_of, bare_app, usage_app, with_all}
 use Rattle.ks_words.proofs.command_line.command_line.Given as goal
 
 abbrev pub invariant-loop-usage : goal.invariant-loop-usage

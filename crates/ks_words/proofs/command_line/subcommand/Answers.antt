@@ -1,6 +1,4 @@
-use Rattle.std.proofs.Common.{◌∙◌, ap₂, sym, rules}
-use Rattle.clap.specs.Words.{new_app, with_rule}
-use Rattle.ks_words.specs.CommandLine.{word_rule}
+use Rattle.ks_words.proofs.Prelude.{◌∙◌, ap₂, sym, rules, new_app, with_rule, word_rule}
 use Rattle.ks_words.proofs.RuleLemmas.{fold_more}
 use Rattle.ks_words.proofs.command_line.subcommand.Goals as goal
 

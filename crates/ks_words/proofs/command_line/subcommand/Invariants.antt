@@ -1,7 +1,4 @@
-use Rattle.std.proofs.Common.{◌≡◌, map, false, take}
-use Rattle.clap.specs.Words.{app_of}
-use Rattle.clap.specs.declared.builder.command.Command.TheViews.{out-Command}
-use Rattle.ks_words.specs.CommandLine.{taking, word_rule}
+use Rattle.ks_words.proofs.Prelude.{◌≡◌, map, false, take, app_of, out-Command, taking, word_rule}
 use Rattle.ks_words.proofs.command_line.subcommand.Given as goal
 
 abbrev pub invariant-loop-word : goal.invariant-loop-word

@@ -1,6 +1,4 @@
-use Rattle.std.proofs.Common.{[], inr, refl, subst}
-use Rattle.ks_streams.specs.Streams.{state_of}
-use Rattle.ks_requests.specs.Endings.{Complains}
+use Rattle.ks_words.proofs.Prelude.{[], inr, refl, subst, state_of, Complains}
 use Rattle.ks_words.proofs.explanation.explain.Goals as goal
 
 pub returns-in-Err : goal.returns-in-Err

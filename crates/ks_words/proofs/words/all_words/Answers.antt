@@ -1,7 +1,4 @@
-use Rattle.std.proofs.Common.{◌∙◌, ap, [], map, string_bytes, unwrap_or}
-use Rattle.std.proofs.lemmas.List.{take_all}
-use Rattle.clap.specs.Words.{found_of}
-use Rattle.clap.proofs.WalkLemmas.{raw_values-rows}
+use Rattle.ks_words.proofs.Prelude.{◌∙◌, ap, [], map, string_bytes, unwrap_or, take_all, found_of, raw_values-rows}
 use Rattle.ks_words.proofs.words.all_words.Goals as goal
 
 pub returns : goal.returns

@@ -1,4 +1,4 @@
-use Rattle.std.proofs.Common.{◌≡◌, map, take, string_bytes}
+use Rattle.ks_words.proofs.Prelude.{◌≡◌, map, take, string_bytes}
 use Rattle.ks_words.proofs.words.all_words.Given as goal
 
 abbrev pub invariant-loop-text : goal.invariant-loop-text

@@ -1,8 +1,4 @@
-use Rattle.std.proofs.Common.{◌∙◌, ap, subst, IsSomeAnd}
-use Rattle.clap.specs.Walk.{texts}
-use Rattle.clap.specs.Words.{HasKind, fault_of, is_simple, is_simple_and_free, subcommand_of, subcommand_rows_of, takes}
-use Rattle.ks_words.specs.CommandLine.{command_line_app}
-use Rattle.ks_words.specs.Words.{IsRequestOf}
+use Rattle.ks_words.proofs.Prelude.{◌∙◌, ap, subst, IsSomeAnd, texts, HasKind, fault_of, is_simple, is_simple_and_free, subcommand_of, subcommand_rows_of, takes, command_line_app, IsRequestOf}
 use Rattle.ks_words.proofs.WordLemmas.{batch_of, batch_rows, both, entered_name, err_all, fault_told, is_free_line, is_simple_line, memory_told, preview_of, preview_rows}
 use Rattle.ks_words.proofs.words.request_of.Goals as goal
 

@@ -1,0 +1,16 @@
+use Rattle.ks_words.proofs.Prelude.{◌≡◌, ℕ, Option, Some, None, refl, subst, ExplainsUnsignedError, HasUnsignedDigitsIfOk, ParsesUnsigned, ReadsOne, Text, found_of, one_text, one_text-rows, IsNumberOf}
+use Rattle.std.proofs.Common.{Result}
+use Rattle.ks_words.proofs.words.number.Goals as goal
+
+number_read : {E : Type 0} (Explains Spells : Text → Result ℕ E → Type 0) (o : Option Text) (n : Option ℕ) → (o ≡ None → n ≡ None)
+    → ((t : Text) → o ≡ Some t → ReadsOne (λ bs r. ParsesUnsigned 64 10 bs r × Explains bs r × Spells bs r) t n) → IsNumberOf o n
+number_read Explains Spells None n none some = none refl
+number_read Explains Spells (Some t) (Some n) none some = let read = some t refl in (read.0.0.0, read.0.1)
+number_read Explains Spells (Some t) None none some = λ numeral. (some t refl).1.0 numeral
+
+pub returns : goal.returns
+returns c =
+    let f = found_of c.args.matches.now in
+    subst (λ o. IsNumberOf o c.get_one.result) (one_text-rows f c.args.id.now)
+    (number_read (λ t r. ExplainsUnsignedError 10 t r) (λ t r. HasUnsignedDigitsIfOk t r) (one_text f c.args.id.now) c.get_one.result
+    c.get_one.ensures.none c.get_one.ensures.value)

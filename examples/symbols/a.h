@@ -1,0 +1,3 @@
+#if IS_ENABLED(CONFIG_B)
+extern int b;
+#endif

@@ -1,0 +1,4 @@
+#include "a.h"
+#ifdef CONFIG_A
+int x;
+#endif

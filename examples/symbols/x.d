@@ -1,0 +1,1 @@
+x.o: x.c a.h include/generated/autoconf.h

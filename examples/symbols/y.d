@@ -1,0 +1,1 @@
+y.o: y.c a.h include/generated/autoconf.h

@@ -1,35 +1,12 @@
 -- What scripts and runs of the program tell: no synchronisation was broken off before one of them where none was at the end.
-use Rattle.std.proofs.Common.{◌≡◌, ◌∙◌, ◌<◌, ℕ, Bool, cond, refl, List, [], ◌∷◌, Some, Result, Ok, Err, IfOk, IsTrue, inl, inr, ⊎_elim, sym, ap, ap₂, string_bytes, subst, filter, map, fold, max, arith}
-use Rattle.std.specs.List.{All}
-use Rattle.ks_fixdep.specs.CommandFile.{is_command}
-use Rattle.std.proofs.lemmas.List.Elements.{All-nil, All-cons}
-use Rattle.ks_engine.specs.declared.commands.Reply.{Reply}
-use Rattle.ks_engine.specs.declared.commands.Reply.TheVariants.{Synced, Recorded, Verdict, Refused}
-use Rattle.ks_engine.specs.declared.error.EngineError.{EngineError}
-use Rattle.ks_engine.specs.declared.explaining.Explanation.{Explanation}
+use Rattle.ks_commands.proofs.Prelude.{◌≡◌, ◌∙◌, ◌<◌, ℕ, Bool, cond, refl, List, [], ◌∷◌, Some, Result, Ok, Err, IfOk, IsTrue, inl, inr, ⊎_elim, sym, ap, ap₂, string_bytes, subst, filter, map, fold, max, arith, All, is_command, All-nil, All-cons, Reply, Synced, Recorded, Verdict, Refused, EngineError, Explanation, BuildState, Report, Action, Sync, Record, Stale, TreeState, FollowsSync, FollowsRecord, FollowsRecordWithout, FollowsDepfile, FollowsStamps, Stamps, Header, Usual, History, LastRecord, NoneBroken, last_record, HasSameDefinitions, FollowsStale, Leads, Leaves, Step, changed_since, found, suspect_since, IsChangedVerdict, IsGivenUpSync, suspect_since-changed_since, Form, Request, Ending, reply_status, worst, targets_at, BatchTellsChanges, ProgramsTellChanges, Continues, EndsImpact, EndsStale, EndsWhy, FollowsImpact, FollowsOutdated, FollowsWhy, Runs, by_histories, count_of, not_counted, Chain, ProgramRun, ProgramTellsChanges, StepsTellChanges, TellsAfter, TellsBuild, TellsCauses, TellsChange, changes_told, spelling_of}
+use Rattle.ks_engine.specs.declared.question.Limit.TheVariants.{All as Every}
 use Rattle.ks_engine.specs.declared.recording.Recorded.{Recorded as RecordAnswer}
-use Rattle.ks_engine.specs.declared.staleness.BuildState.{BuildState}
-use Rattle.ks_engine.specs.declared.synchronise.Report.{Report}
-use Rattle.ks_engine.specs.Actions.{Action, Sync, Record, Stale}
-use Rattle.ks_engine.specs.Follows.{TreeState, FollowsSync, FollowsRecord}
-use Rattle.ks_engine.specs.History.{History, LastRecord, NoneBroken, last_record}
-use Rattle.ks_engine.specs.Judged.{HasSameDefinitions}
-use Rattle.ks_engine.specs.Runs.{FollowsStale, Leads, Leaves, Step}
-use Rattle.ks_engine.specs.Staleness.{changed_since, found, suspect_since}
-use Rattle.ks_engine.specs.Verdicts.{IsChangedVerdict, IsGivenUpSync}
-use Rattle.ks_engine.proofs.Heart.{suspect_since-changed_since}
-use Rattle.ks_requests.specs.declared.request.Request.{Request}
 use Rattle.ks_requests.specs.declared.request.Request.TheVariants as request
-use Rattle.ks_requests.specs.Endings.{Ending}
-use Rattle.ks_requests.specs.Replies.{explanation_lines, verdict_line}
-use Rattle.ks_requests.specs.Statuses.{explanation_status, reply_status, verdict_status, worst}
-use Rattle.ks_requests.specs.Targets.{targets_at}
-use Rattle.ks_commands.specs.Laws.{BatchTellsChanges, ProgramsTellChanges}
-use Rattle.ks_commands.specs.Performed.{Continues, EndsImpact, EndsStale, EndsWhy, FollowsImpact, FollowsOutdated, FollowsWhy, Runs, by_histories, count_of, not_counted}
-use Rattle.ks_commands.specs.Programs.{Chain, ProgramRun, ProgramTellsChanges, StepsTellChanges, TellsBehind, TellsBuild, TellsCauses, TellsChange, changes_told}
-use Rattle.ks_commands.proofs.Verdicts.{answers_weaker}
+use Rattle.ks_requests.specs.declared.request.Stamps.TheVariants as stamps
+use Rattle.ks_commands.proofs.Verdicts.{answers_weaker, verdicts_weaker}
 
--- ---- none was broken off before a step where none is behind it
+-- ---- none was broken off before a step where none is after it
 
 none_before_sync : (k d : List ℕ) (answer : Result Report EngineError) (old new : TreeState) → FollowsSync k d answer old new → NoneBroken new.history
     → NoneBroken old.history
@@ -39,14 +16,35 @@ none_before_sync k d (Err e) old new (inr (given, inl same)) none = subst NoneBr
 none_before_sync k d (Err e) old new (inr (given, inr (broken, inl event))) none = absurd (subst NoneBroken event none)
 none_before_sync k d (Err e) old new (inr (given, inr (broken, inr event))) none = subst NoneBroken event none
 
+none_before_stamps : (which : Stamps) (k d : List ℕ) (answer : Result Report EngineError) (old new : TreeState)
+    → FollowsStamps which k d answer old new → NoneBroken new.history → NoneBroken old.history
+none_before_stamps stamps.Touched k d answer old new is none = none_before_sync k d answer old new is none
+none_before_stamps stamps.Declared k d (Ok report) old new is none =
+    none_before_sync k d (Ok report) old is.between is.synced (subst NoneBroken is.history none)
+none_before_stamps stamps.Declared k d (Err e) old new (inl refused) none = none_before_sync k d (Err e) old new refused none
+none_before_stamps stamps.Declared k d (Err e) old new (inr (given, partly)) none =
+    none_before_sync k d (Ok partly.report) old partly.between partly.synced (subst NoneBroken partly.history none)
+
+none_before_recorded : (header : Header) (d t c : List ℕ) (answer : Result RecordAnswer EngineError) (old new : TreeState)
+    → FollowsRecordWithout header d t c answer old new → NoneBroken new.history → NoneBroken old.history
+none_before_recorded header d t c (Ok answer) old new is none =
+    ⊎_elim (λ claimed. subst NoneBroken claimed.1.2 none) (λ unclaimed. subst NoneBroken unclaimed.1 none) is.history
+none_before_recorded header d t c (Err e) old new (inl plain) none = subst NoneBroken plain.1.1 none
+none_before_recorded header d t c (Err e) old new (inr (given, inl same)) none = subst NoneBroken same.1 none
+none_before_recorded header d t c (Err e) old new (inr (given, inr (tried, inl kept))) none = subst NoneBroken kept none
+none_before_recorded header d t c (Err e) old new (inr (given, inr (tried, inr event))) none = subst NoneBroken event.2 none
+
 none_before_record : (d t c : List ℕ) (answer : Result RecordAnswer EngineError) (old new : TreeState) → FollowsRecord d t c answer old new
     → NoneBroken new.history → NoneBroken old.history
-none_before_record d t c (Ok answer) old new is none =
-    ⊎_elim (λ claimed. subst NoneBroken claimed.1.2 none) (λ unclaimed. subst NoneBroken unclaimed.1 none) is.history
-none_before_record d t c (Err e) old new (inl plain) none = subst NoneBroken plain.1.1 none
-none_before_record d t c (Err e) old new (inr (given, inl same)) none = subst NoneBroken same.1 none
-none_before_record d t c (Err e) old new (inr (given, inr (tried, inl kept))) none = subst NoneBroken kept none
-none_before_record d t c (Err e) old new (inr (given, inr (tried, inr event))) none = subst NoneBroken event.2 none
+none_before_record d t c answer old new is none = none_before_recorded Usual d t c answer old new is none
+
+none_before_depfile : (header : Header) (d t c : List ℕ) (answer : Result RecordAnswer EngineError) (old new : TreeState)
+    → FollowsDepfile header d t c answer old new → NoneBroken new.history → NoneBroken old.history
+none_before_depfile header d t c (Ok answer) old new is none = none_before_recorded header d t c (Ok answer) old is.between is.recorded (subst NoneBroken is.history none)
+none_before_depfile header d t c (Err e) old new (inl own) none = subst NoneBroken own.2.1 none
+none_before_depfile header d t c (Err e) old new (inr (inl refused)) none = none_before_recorded header d t c (Err e) old new refused none
+none_before_depfile header d t c (Err e) old new (inr (inr (given, tried))) none =
+    none_before_recorded header d t c (Ok tried.answer) old tried.between tried.recorded (subst NoneBroken tried.history none)
 
 none_before_step : (a : Action) (r : Reply) (old new : TreeState) → Leaves old a r new → NoneBroken new.history → NoneBroken old.history
 none_before_step (Sync k d) (Synced report) old new is none = none_before_sync k d (Ok report) old new is none
@@ -69,20 +67,24 @@ none_before_steps first (s ∷ ss) last leads none =
     (none_before_steps s.after ss last leads.3 none))
 
 none_before_program : (r : Request) (ended : Ending) (old new : TreeState) → Continues r ended old new → NoneBroken new.history → NoneBroken old.history
-none_before_program (request.Sync k d) ended old new (inl stopped) none = subst NoneBroken stopped.0.1 none
-none_before_program (request.Sync k d) ended old new (inr synced) none = none_before_sync _ _ synced.2 old new synced.3 none
+none_before_program (request.Sync k d which) ended old new (inl stopped) none = subst NoneBroken stopped.0.1 none
+none_before_program (request.Sync k d which) ended old new (inr synced) none = none_before_stamps which _ _ synced.2 old new synced.3 none
 none_before_program (request.Preview k d o) ended old new is none = subst NoneBroken is.0.1 none
-none_before_program (request.Diff k d) ended old new is none = subst NoneBroken is.0.1 none
+none_before_program (request.Diff k d telling) ended old new is none = subst NoneBroken is.0.1 none
 none_before_program (request.Fixdep d t c) ended old new is none = subst NoneBroken is.0.1 none
 none_before_program (request.Record d t c) ended old new is none = none_before_record _ _ _ is.0 old new is.1 none
-none_before_program (request.Stale ts) ended old new is none = subst NoneBroken is.0.1 none
-none_before_program (request.Why ts) ended old new is none = subst NoneBroken is.0.1 none
-none_before_program (request.Impact k d ts) ended old new is none = subst NoneBroken is.0.1 none
+none_before_program (request.Depfile end d t c) ended old new (inl stopped) none = subst NoneBroken stopped.0.1 none
+none_before_program (request.Depfile end d t c) ended old new (inr ruled) none = none_before_depfile ruled.0 _ _ _ ruled.2 old new ruled.3 none
+none_before_program (request.Stale ts f) ended old new is none = subst NoneBroken is.0.1 none
+none_before_program (request.Why ts f) ended old new is none = subst NoneBroken is.0.1 none
+none_before_program (request.Impact k d ts f) ended old new is none = subst NoneBroken is.0.1 none
 none_before_program (request.Outdated t c) ended old new is none = subst NoneBroken is.0.1 none
 none_before_program (request.Batch p) ended old new (inl stopped) none = subst NoneBroken stopped.0.1 none
 none_before_program (request.Batch p) ended old new (inr (actions, at, inl memory)) none = subst NoneBroken memory.0.1 none
 none_before_program (request.Batch p) ended old new (inr (actions, at, inr ran)) none =
     none_before_steps _ ran.1.2.steps new ran.1.2.leads none
+none_before_program (request.Users symbols ts) ended old new is none = subst NoneBroken is.0.1 none
+none_before_program (request.Cost top ts) ended old new is none = subst NoneBroken is.0.1 none
 
 none_at_first : (first : TreeState) (runs : List ProgramRun) (last : TreeState) → Chain first runs last → NoneBroken last.history → NoneBroken first.history
 none_at_first first [] last same none = subst NoneBroken same.1 none
@@ -91,10 +93,10 @@ none_at_first first (run ∷ runs) last chain none =
 
 -- ---- what is told then
 
-stale_tells : (old new : TreeState) (targets : Result (List (List ℕ)) EngineError) (ended : Ending) → NoneBroken old.history
-    → EndsStale (by_histories old new) targets ended → EndsStale (changes_told old new) targets ended
-stale_tells old new targets ended none ends =
-    answers_weaker verdict_line verdict_status (λ o answer. FollowsStale old o answer new) (TellsChange old) not_counted targets ended
+stale_tells : (old new : TreeState) (form : Form) (targets : Result (List (List ℕ)) EngineError) (ended : Ending) → NoneBroken old.history
+    → EndsStale (by_histories old new) form targets ended → EndsStale (changes_told old new) form targets ended
+stale_tells old new form targets ended none ends =
+    verdicts_weaker form (λ o answer. FollowsStale old o answer new) (TellsChange old) not_counted targets ended
     (λ o answer is. record { changed = λ r was. (is.recorded r was).changed none; safe = λ r was fresh. (is.recorded r was).safe fresh }) ends
 
 filter_alike : (p q : List ℕ → Bool) (xs : List (List ℕ)) → ((x : List ℕ) → p x ≡ q x) → filter p xs ≡ filter q xs
@@ -109,25 +111,25 @@ causes_changed s o (Ok e) none is = is ∙ filter_alike (suspect_since s.history
     (λ x. suspect_since-changed_since s.history o x none)
 causes_changed s o (Err e) none is = is
 
-why_tells : (old new : TreeState) (targets : Result (List (List ℕ)) EngineError) (ended : Ending) → NoneBroken old.history
-    → EndsWhy (by_histories old new) targets ended → EndsWhy (changes_told old new) targets ended
-why_tells old new targets ended none ends =
-    answers_weaker explanation_lines explanation_status (λ o answer. FollowsWhy old o answer new) (TellsCauses old) not_counted targets ended
+why_tells : (old new : TreeState) (form : Form) (targets : Result (List (List ℕ)) EngineError) (ended : Ending) → NoneBroken old.history
+    → EndsWhy old.files (by_histories old new) form targets ended → EndsWhy old.files (changes_told old new) form targets ended
+why_tells old new form targets ended none ends =
+    answers_weaker form Every (spelling_of old.files) (λ o answer. FollowsWhy old o answer new) (TellsCauses old) not_counted targets ended
     (λ o answer is. record {
       tells = record { changed = λ r was. (is.recorded r was).judged.changed none; safe = λ r was fresh. (is.recorded r was).judged.safe fresh };
       causes = λ r was. causes_changed old o answer none (is.recorded r was).suspects;
     }) ends
 
-impact_tells : (old new : TreeState) (k d : List ℕ) (targets : Result (List (List ℕ)) EngineError) (ended : Ending) → NoneBroken old.history
-    → EndsImpact old.files (by_histories old new) k d targets ended → EndsImpact old.files (changes_told old new) k d targets ended
-impact_tells old new k d targets ended none (inl stopped) = inl stopped
-impact_tells old new k d targets ended none (inr (t, there, inl refused)) = inr (t, there, inl refused)
-impact_tells old new k d targets ended none (inr (t, there, inr (can, ends))) = inr (
+impact_tells : (old new : TreeState) (k d : List ℕ) (form : Form) (targets : Result (List (List ℕ)) EngineError) (ended : Ending) → NoneBroken old.history
+    → EndsImpact old.files (by_histories old new) k d form targets ended → EndsImpact old.files (changes_told old new) k d form targets ended
+impact_tells old new k d form targets ended none (inl stopped) = inl stopped
+impact_tells old new k d form targets ended none (inr (t, there, inl refused)) = inr (t, there, inl refused)
+impact_tells old new k d form targets ended none (inr (t, there, inr (can, ends))) = inr (
   t,
   there,
   inr (
     can,
-    answers_weaker verdict_line verdict_status (λ o answer. FollowsImpact old t.kconfig t.dotconfig o answer new) (TellsBehind old t.kconfig t.dotconfig)
+    verdicts_weaker form (λ o answer. FollowsImpact old t.kconfig t.dotconfig o answer new) (TellsAfter old t.kconfig t.dotconfig)
         count_of targets ended (λ o answer is after report synced. record {
           changed = λ r was. (is.recorded after report synced r was).changed none;
           safe = λ r was fresh. (is.recorded after report synced r was).safe fresh;
@@ -168,17 +170,18 @@ steps_tell old new actions replies (failures, later, run) changed = record {
 
 program_tells : (r : Request) (ended : Ending) (old new : TreeState) → Continues r ended old new → NoneBroken new.history
     → ProgramTellsChanges (record { before = old; request = r; ended = ended; after = new })
-program_tells (request.Sync k d) ended old new is none = is
+program_tells (request.Sync k d which) ended old new is none = is
 program_tells (request.Preview k d o) ended old new is none = is
-program_tells (request.Diff k d) ended old new is none = is
+program_tells (request.Diff k d telling) ended old new is none = is
 program_tells (request.Fixdep d t c) ended old new is none = is
 program_tells (request.Record d t c) ended old new is none = is
-program_tells (request.Stale ts) ended old new is none =
-    (is.0, stale_tells old new (targets_at old.files ts) ended (none_before_program (request.Stale ts) ended old new is none) is.1)
-program_tells (request.Why ts) ended old new is none =
-    (is.0, why_tells old new (targets_at old.files ts) ended (none_before_program (request.Why ts) ended old new is none) is.1)
-program_tells (request.Impact k d ts) ended old new is none =
-    (is.0, impact_tells old new _ _ (targets_at old.files ts) ended (none_before_program (request.Impact k d ts) ended old new is none) is.1)
+program_tells (request.Depfile end d t c) ended old new is none = is
+program_tells (request.Stale ts f) ended old new is none =
+    (is.0, stale_tells old new f (targets_at old.files ts) ended (none_before_program (request.Stale ts f) ended old new is none) is.1)
+program_tells (request.Why ts f) ended old new is none =
+    (is.0, why_tells old new f (targets_at old.files ts) ended (none_before_program (request.Why ts f) ended old new is none) is.1)
+program_tells (request.Impact k d ts f) ended old new is none =
+    (is.0, impact_tells old new _ _ f (targets_at old.files ts) ended (none_before_program (request.Impact k d ts f) ended old new is none) is.1)
 program_tells (request.Outdated t c) ended old new is none =
     let before = none_before_program (request.Outdated t c) ended old new is none in
     (is.0, (is.1.0, build_tells old new (string_bytes t) (string_bytes c) is.1.0 before is.1.1, is.1.2))
@@ -187,6 +190,8 @@ program_tells (request.Batch p) ended old new (inr (actions, at, inl memory)) no
 program_tells (request.Batch p) ended old new (inr (actions, at, inr ran)) none =
     let run = ran.1.2 in
     inr (actions, at, inr (ran.0, steps_tell old new actions ran.0 ran.1 (run.changed none), ran.2))
+program_tells (request.Users symbols ts) ended old new is none = is
+program_tells (request.Cost top ts) ended old new is none = is
 
 pub programs_tell_changes : ProgramsTellChanges
 programs_tell_changes first last [] chain none = All-nil ProgramTellsChanges

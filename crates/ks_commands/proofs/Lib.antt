@@ -1,3 +1,4 @@
+pub mod Prelude
 pub mod Loading
 pub mod Continuing
 pub mod Siting
@@ -5,3 +6,8 @@ pub mod Verdicts
 pub mod Counting
 pub mod Ending
 pub mod Headline
+pub mod Differing
+pub mod Unknowns
+pub mod Spelled
+pub mod Readings
+pub mod Searching

@@ -1,29 +1,18 @@
 -- The actions of lines, from a place on.
-use Rattle.std.proofs.Common.{◌≡◌, ◌∙◌, ◌<◌, ◌≤◌, ◌+◌, ℕ, true, false, suc, List, [], ◌∷◌, ◌++◌, Option, Some, None, IsSome, take, Result, Ok, Err, map, drop, length, get_or, refl, ap, ap₂, subst, sym, arith, drop-cons, append_assoc, bytes_eq, true≢false}
-use Rattle.std.specs.List.{All}
-use Rattle.std.proofs.lemmas.List.{append-nil, drop_all, map-append, take_more}
-use Rattle.std.proofs.lemmas.List.Elements.{All-append, All-cons, All-nil, All-weaker}
+use Rattle.ks_commands.proofs.Prelude.{◌≡◌, ◌∙◌, ◌<◌, ◌+◌, ℕ, true, false, suc, List, [], ◌∷◌, ◌++◌, Option, Some, None, IsSome, take, Result, Ok, Err, map, drop, length, get_or, refl, ap, ap₂, subst, sym, arith, drop-cons, append_assoc, bytes_eq, true≢false, All, map-append, map_more, take_more, All-append, All-cons, All-nil, All-weaker, bytes_decides, Files, SameBut, content, none_some, some_same, EngineError, Action, followed, and_then, Line, given, AreGiven, AreKept, IsKept, action_at, actions_at, line_of, without_files}
 use Rattle.std.specs.FinMap as map_of
-use Rattle.std.specs.Cmp.Lexicographic.{bytes_decides}
-use Rattle.ks_tree.specs.Files.{Files, SameBut, content}
-use Rattle.ks_engine.specs.declared.error.EngineError.{EngineError}
-use Rattle.ks_engine.specs.Actions.{Action}
 use Rattle.ks_engine.specs.Actions as asked
-use Rattle.ks_engine.specs.Recording.{followed}
-use Rattle.ks_engine.specs.Refusals.{and_then}
-use Rattle.ks_script.specs.Script.{Line, Sync, Record, Stale}
-use Rattle.ks_requests.specs.Inputs.{Texts, given}
-use Rattle.ks_commands.specs.Kept.{AreGiven, AreKept, IsKept}
-use Rattle.ks_commands.specs.Scripts.{action_at, actions_at, line_of, without_files}
+use Rattle.ks_script.specs.Script.{Sync, Record, Stale}
+use Rattle.ks_requests.specs.Inputs.{Texts}
 
 -- actions in front of an answer
-abbrev pub behind : List Action → Result (List Action) EngineError → Result (List Action) EngineError
-behind front (Ok actions) = Ok (front ++ actions)
-behind front (Err e) = Err e
+abbrev pub following : List Action → Result (List Action) EngineError → Result (List Action) EngineError
+following front (Ok actions) = Ok (front ++ actions)
+following front (Err e) = Err e
 
-behind_next : (front : List Action) (a : Action) (rest : Result (List Action) EngineError) → behind front (followed (Ok a) rest) ≡ behind (front ++ a ∷ []) rest
-behind_next front a (Ok actions) = ap (λ l. Ok l) (sym (append_assoc front (a ∷ []) actions))
-behind_next front a (Err e) = refl
+after_next : (front : List Action) (a : Action) (rest : Result (List Action) EngineError) → following front (followed (Ok a) rest) ≡ following (front ++ a ∷ []) rest
+after_next front a (Ok actions) = ap (λ l. Ok l) (sym (append_assoc front (a ∷ []) actions))
+after_next front a (Err e) = refl
 
 lines_from : {X : Type 0} (files : Files) (f : X → Line) (xs : List X) (i : ℕ) (d : X) → i < length xs
     → actions_at files (map f (drop i xs)) ≡ followed (action_at files (f (get_or xs i d))) (actions_at files (map f (drop (i + 1) xs)))
@@ -34,11 +23,11 @@ lines_from files f xs i d within =
 
 pub actions_next : {X : Type 0} (files : Files) (f : X → Line) (xs : List X) (i : ℕ) (d : X) (front : List Action) (a : Action)
     (all : Result (List Action) EngineError)
-    → i < length xs → action_at files (f (get_or xs i d)) ≡ Ok a → behind front (actions_at files (map f (drop i xs))) ≡ all
-    → behind (front ++ a ∷ []) (actions_at files (map f (drop (i + 1) xs))) ≡ all
+    → i < length xs → action_at files (f (get_or xs i d)) ≡ Ok a → following front (actions_at files (map f (drop i xs))) ≡ all
+    → following (front ++ a ∷ []) (actions_at files (map f (drop (i + 1) xs))) ≡ all
 actions_next files f xs i d front a all within is before =
     let rest = actions_at files (map f (drop (i + 1) xs)) in
-    sym (behind_next front a rest) ∙ sym (ap (behind front) (lines_from files f xs i d within ∙ ap (λ r. followed r rest) is)) ∙ before
+    sym (after_next front a rest) ∙ sym (ap (following front) (lines_from files f xs i d within ∙ ap (λ r. followed r rest) is)) ∙ before
 
 -- the same of what the lines say without files
 pub spelled_next : {X : Type 0} (f : X → Line) (xs : List X) (i : ℕ) (d : X) (front : List Action) (a : Action) → i < length xs
@@ -48,21 +37,9 @@ spelled_next f xs i d front a within is before =
     map-append line_of front (a ∷ [])
     ∙ ap₂ (λ l x. l ++ x ∷ []) before is
     ∙ sym (map-append without_files (map f (take i xs)) (f (get_or xs i d) ∷ []))
-    ∙ ap (map without_files) (sym (map-append f (take i xs) (get_or xs i d ∷ [])) ∙ ap (map f) (sym (take_more xs i d within)))
+    ∙ ap (map without_files) (sym (map_more f xs i d within))
 
-pub actions_refused : {X : Type 0} (files : Files) (f : X → Line) (xs : List X) (i : ℕ) (d : X) (front : List Action) (e : EngineError)
-    (all : Result (List Action) EngineError)
-    → i < length xs → action_at files (f (get_or xs i d)) ≡ Err e → behind front (actions_at files (map f (drop i xs))) ≡ all → all ≡ Err e
-actions_refused files f xs i d front e all within is before =
-    sym before ∙ ap (behind front) (lines_from files f xs i d within ∙ ap (λ r. followed r (actions_at files (map f (drop (i + 1) xs)))) is)
-
-pub actions_end : {X : Type 0} (files : Files) (f : X → Line) (xs : List X) (i : ℕ) (front : List Action) (all : Result (List Action) EngineError)
-    → length xs ≤ i
-    → behind front (actions_at files (map f (drop i xs))) ≡ all → all ≡ Ok front
-actions_end files f xs i front all past before =
-    sym before ∙ ap (λ ys. behind front (actions_at files (map f ys))) (drop_all i xs past) ∙ ap (λ l. Ok l) (append-nil front)
-
-pub actions_begin : (all : Result (List Action) EngineError) → behind [] all ≡ all
+pub actions_begin : (all : Result (List Action) EngineError) → following [] all ≡ all
 actions_begin (Ok actions) = refl
 actions_begin (Err e) = refl
 
@@ -71,17 +48,6 @@ actions_begin (Err e) = refl
 some_of : (o : Option (List ℕ)) → IsSome o → (b : List ℕ) × (o ≡ Some b)
 some_of None is = absurd cc
 some_of (Some b) is = (b, refl)
-
-some_is : (o : Option (List ℕ)) (b : List ℕ) → o ≡ Some b → IsSome o
-some_is None b is = cc
-some_is (Some c) b is = refl
-
-some_same : (o : Option (List ℕ)) (a b : List ℕ) → o ≡ Some a → o ≡ Some b → a ≡ b
-some_same o a b p q = let e : Some a ≡ Some b = sym p ∙ q in cc
-
-none_some : (o : Option (List ℕ)) (b : List ℕ) → o ≡ None → o ≡ Some b → ⊥
-none_some None b p q = cc
-none_some (Some c) b p q = cc
 
 -- where it stands, or elsewhere
 beside : (p q : List ℕ) (old new : Files) (P : Option (List ℕ) → Type 0) → SameBut p old new → (q ≡ p → P (content new q)) → (P (content old q))
@@ -97,9 +63,6 @@ given_more files old new p b is at others are = λ q bytes.
     beside p q old new (λ o. o ≡ Some bytes → given files q ≡ Ok bytes) others
     (λ same found. ap (given files) same ∙ is ∙ ap (λ x. Ok x) (some_same (content new p) b bytes at (ap (content new) (sym same) ∙ found)))
     (are q bytes)
-
-pub kept_more : (old new : Files) (p b q : List ℕ) → content new p ≡ Some b → SameBut p old new → IsKept old q → IsKept new q
-kept_more old new p b q at others is = beside p q old new IsSome others (λ same. some_is _ b (ap (content new) same ∙ at)) is
 
 abbrev two : List ℕ → List ℕ → Texts
 two kconfig dotconfig = record { kconfig = kconfig; dotconfig = dotconfig }

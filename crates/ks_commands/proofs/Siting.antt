@@ -1,20 +1,7 @@
--- What a read behind a refusal leaves.
-use Rattle.std.proofs.Common.{◌≡◌, ◌≢◌, ℕ, List, Option, Some, None, Ok, Err, IfSome, inl, inr, refl, sym, ap, ◌∙◌, subst, arith}
-use Rattle.ks_tree.specs.declared.tree.Tree.{Ghosts}
-use Rattle.ks_tree.specs.Files.{Files}
-use Rattle.ks_tree.specs.Frames.{Reads}
-use Rattle.ks_engine.specs.declared.error.EngineError.TheVariants.{OutOfMemory}
-use Rattle.ks_engine.specs.FileRuns.{FileState, state}
-use Rattle.ks_engine.specs.Follows.{TreeState, at}
-use Rattle.ks_engine.specs.History.{History}
-use Rattle.ks_engine.specs.Shows.{Shows}
-use Rattle.ks_requests.specs.declared.refusal.Refusal.{Refusal}
-use Rattle.ks_requests.specs.declared.refusal.Refusal.TheVariants.{Engine}
-use Rattle.ks_requests.specs.declared.request.Request.{Request}
+-- What a read after a refusal leaves.
+use Rattle.ks_commands.proofs.Prelude.{◌≡◌, ◌≢◌, ℕ, List, Option, Some, None, Ok, Err, IfSome, inl, inr, refl, sym, ap, ◌∙◌, subst, arith, Ghosts, Files, Reads, EngineError, OutOfMemory, Header, FollowsDepfile, FollowsStamps, Stamps, FileState, state, TreeState, at, History, Shows, Refusal, Engine, Request, Ending, IsSiteLine, IsThere, Site, excerpt_at, site_of, Continues, Ends, Performs, by_files}
 use Rattle.ks_requests.specs.declared.request.Request.TheVariants as request
-use Rattle.ks_requests.specs.Endings.{Ending}
-use Rattle.ks_requests.specs.Sites.{IsSiteLine, IsThere, Site, excerpt_at, site_of}
-use Rattle.ks_commands.specs.Performed.{Continues, Ends, Performs, by_files}
+use Rattle.ks_requests.specs.declared.request.Stamps.TheVariants as stamps
 
 pub some_none : {C : Type 0} (site : Site) → ◌≡◌ {A = Option Site} (Some site) None → C
 some_none site is = absurd cc
@@ -34,79 +21,127 @@ pub site_line_kept : (honest : Type 0) (old new : Files) (site : Option Site) (l
 site_line_kept honest old new None line same is = is
 site_line_kept honest old new (Some site) line same (text, there, whole) = (text, if_there_kept honest old new site text same there, whole)
 
--- ---- a read behind a refusal
+-- ---- a read after a refusal
 
 -- want of memory has no site
 pub no_site : (request : Request) → site_of request (Engine OutOfMemory) ≡ None
-no_site (request.Sync k d) = refl
+no_site (request.Sync k d which) = refl
 no_site (request.Preview k d o) = refl
-no_site (request.Diff k d) = refl
+no_site (request.Diff k d telling) = refl
 no_site (request.Fixdep d t c) = refl
 no_site (request.Record d t c) = refl
-no_site (request.Stale ts) = refl
-no_site (request.Why ts) = refl
-no_site (request.Impact k d ts) = refl
+no_site (request.Depfile end d t c) = refl
+no_site (request.Stale ts f) = refl
+no_site (request.Why ts f) = refl
+no_site (request.Impact k d ts f) = refl
 no_site (request.Outdated t c) = refl
 no_site (request.Batch p) = refl
+no_site (request.Users symbols ts) = refl
+no_site (request.Cost top ts) = refl
 
 no_memory : {C : Type 0} (r : Refusal) → r ≢ Engine OutOfMemory → ◌≡◌ {A = Ending} (Err r) (Err (Engine OutOfMemory)) → C
 no_memory r plain is = absurd (plain cc)
 
--- What is counted behind a refusal does not matter to it.
-counted_behind : (asked : Request) (r : Refusal) (old : TreeState) (files : Files) (m n : ℕ) (h : History) → r ≢ Engine OutOfMemory
+stamps_aside : (which : Stamps) (k d : List ℕ) (e : EngineError) (old : TreeState) (files : Files) (m n : ℕ) (h : History)
+    → FollowsStamps which k d (Err e) old (at files m h) → FollowsStamps which k d (Err e) old (at files n h)
+stamps_aside stamps.Touched k d e old files m n h refused = refused
+stamps_aside stamps.Declared k d e old files m n h (inl refused) = inl refused
+stamps_aside stamps.Declared k d e old files m n h (inr (given, partly)) = inr (
+  given,
+  record {
+    report = partly.report;
+    between = partly.between;
+    synced = partly.synced;
+    history = partly.history;
+    names = partly.names;
+    declared = partly.declared;
+    stamps = partly.stamps;
+  },
+)
+
+depfile_aside : (header : Header) (d t c : List ℕ) (e : EngineError) (old : TreeState) (files : Files) (m n : ℕ) (h : History)
+    → FollowsDepfile header d t c (Err e) old (at files m h) → FollowsDepfile header d t c (Err e) old (at files n h)
+depfile_aside header d t c e old files m n h (inl own) = inl own
+depfile_aside header d t c e old files m n h (inr (inl refused)) = inr (inl refused)
+depfile_aside header d t c e old files m n h (inr (inr (given, tried))) = inr (inr (
+  given,
+  record {
+    answer = tried.answer;
+    between = tried.between;
+    recorded = tried.recorded;
+    history = tried.history;
+    was = tried.was;
+    was_there = tried.was_there;
+    rule = tried.rule;
+  },
+))
+
+-- What is counted after a refusal does not matter to it.
+counted_after : (asked : Request) (r : Refusal) (old : TreeState) (files : Files) (m n : ℕ) (h : History) → r ≢ Engine OutOfMemory
     → Continues asked (Err r) old (at files m h) → Continues asked (Err r) old (at files n h)
-counted_behind (request.Sync k d) r old files m n h plain (inl stopped) = inl stopped
-counted_behind (request.Sync k d) r old files m n h plain (inr (t, there, Ok report, synced, told)) = absurd (plain told)
-counted_behind (request.Sync k d) r old files m n h plain (inr (t, there, Err e, refused, told)) = inr (t, there, Err e, refused, told)
-counted_behind (request.Preview k d o) r old files m n h plain ends = ends
-counted_behind (request.Diff k d) r old files m n h plain ends = ends
-counted_behind (request.Fixdep d t c) r old files m n h plain ends = ends
-counted_behind (request.Record d t c) r old files m n h plain (Ok answer, recorded, told) = absurd (plain told)
-counted_behind (request.Record d t c) r old files m n h plain (Err e, refused, told) = (Err e, refused, told)
-counted_behind (request.Stale ts) r old files m n h plain (same, inl stopped) = (same, inl stopped)
-counted_behind (request.Stale ts) r old files m n h plain (same, inr (objects, there, text, status, stale, are, told)) = absurd (plain told)
-counted_behind (request.Why ts) r old files m n h plain (same, inl stopped) = (same, inl stopped)
-counted_behind (request.Why ts) r old files m n h plain (same, inr (objects, there, text, status, stale, are, told)) = absurd (plain told)
-counted_behind (request.Impact k d ts) r old files m n h plain (same, inl stopped) = (same, inl stopped)
-counted_behind (request.Impact k d ts) r old files m n h plain (same, inr (t, there, inl refused)) = (same, inr (t, there, inl refused))
-counted_behind (request.Impact k d ts) r old files m n h plain (same, inr (t, there, inr (can, inl stopped))) =
+counted_after (request.Sync k d which) r old files m n h plain (inl stopped) = inl stopped
+counted_after (request.Sync k d which) r old files m n h plain (inr (t, there, Ok report, synced, told)) = absurd (plain told)
+counted_after (request.Sync k d which) r old files m n h plain (inr (t, there, Err e, refused, told)) =
+    inr (t, there, Err e, stamps_aside which _ _ e old files m n h refused, told)
+counted_after (request.Preview k d o) r old files m n h plain ends = ends
+counted_after (request.Diff k d telling) r old files m n h plain ends = ends
+counted_after (request.Fixdep d t c) r old files m n h plain ends = ends
+counted_after (request.Record d t c) r old files m n h plain (Ok answer, recorded, told) = absurd (plain told)
+counted_after (request.Record d t c) r old files m n h plain (Err e, refused, told) = (Err e, refused, told)
+counted_after (request.Depfile end d t c) r old files m n h plain (inl stopped) = inl stopped
+counted_after (request.Depfile end d t c) r old files m n h plain (inr (header, is, Ok answer, recorded, told)) = absurd (plain told)
+counted_after (request.Depfile end d t c) r old files m n h plain (inr (header, is, Err e, refused, told)) =
+    inr (header, is, Err e, depfile_aside header _ _ _ e old files m n h refused, told)
+counted_after (request.Stale ts f) r old files m n h plain (same, inl stopped) = (same, inl stopped)
+counted_after (request.Stale ts f) r old files m n h plain (same, inr (objects, there, text, status, stale, are, told)) = absurd (plain told)
+counted_after (request.Why ts f) r old files m n h plain (same, inl stopped) = (same, inl stopped)
+counted_after (request.Why ts f) r old files m n h plain (same, inr (objects, there, text, status, stale, are, told)) = absurd (plain told)
+counted_after (request.Impact k d ts f) r old files m n h plain (same, inl stopped) = (same, inl stopped)
+counted_after (request.Impact k d ts f) r old files m n h plain (same, inr (t, there, inl refused)) = (same, inr (t, there, inl refused))
+counted_after (request.Impact k d ts f) r old files m n h plain (same, inr (t, there, inr (can, inl stopped))) =
     (same, inr (t, there, inr (can, inl stopped)))
-counted_behind (request.Impact k d ts) r old files m n h plain (same, inr (t, there, inr (can, inr (objects, at, text, status, stale, are, told)))) =
+counted_after (request.Impact k d ts f) r old files m n h plain (same, inr (t, there, inr (can, inr (objects, at, text, status, stale, are, told)))) =
     absurd (plain told)
-counted_behind (request.Outdated t c) r old files m n h plain (same, (answer, outdated, told)) = absurd (plain told)
-counted_behind (request.Batch p) r old files m n h plain (inl stopped) = inl stopped
-counted_behind (request.Batch p) r old files m n h plain (inr (actions, there, inl memory)) = no_memory r plain memory.1
-counted_behind (request.Batch p) r old files m n h plain (inr (actions, there, inr ran)) = absurd (plain ran.2)
+counted_after (request.Outdated t c) r old files m n h plain (same, (answer, outdated, told)) = absurd (plain told)
+counted_after (request.Batch p) r old files m n h plain (inl stopped) = inl stopped
+counted_after (request.Batch p) r old files m n h plain (inr (actions, there, inl memory)) = no_memory r plain memory.1
+counted_after (request.Batch p) r old files m n h plain (inr (actions, there, inr ran)) = absurd (plain ran.2)
+counted_after (request.Users symbols ts) r old files m n h plain ends = ends
+counted_after (request.Cost top ts) r old files m n h plain ends = ends
 
-files_behind : (asked : Request) (r : Refusal) (old mid new : FileState) → r ≢ Engine OutOfMemory → mid.files ≡ new.files
+files_after : (asked : Request) (r : Refusal) (old mid new : FileState) → r ≢ Engine OutOfMemory → mid.files ≡ new.files
     → Ends old.files (by_files old mid) asked (Err r) → Ends old.files (by_files old new) asked (Err r)
-files_behind (request.Sync k d) r old mid new plain same ends =
-    subst (λ (f : Files). Ends old.files (by_files old (record { files = f; failures = 0 })) (request.Sync k d) (Err r)) same ends
-files_behind (request.Preview k d o) r old mid new plain same ends = (sym same ∙ ends.0, ends.1)
-files_behind (request.Diff k d) r old mid new plain same ends = (sym same ∙ ends.0, ends.1)
-files_behind (request.Fixdep d t c) r old mid new plain same ends = (sym same ∙ ends.0, ends.1)
-files_behind (request.Record d t c) r old mid new plain same ends =
+files_after (request.Sync k d which) r old mid new plain same ends =
+    subst (λ (f : Files). Ends old.files (by_files old (record { files = f; failures = 0 })) (request.Sync k d which) (Err r)) same ends
+files_after (request.Preview k d o) r old mid new plain same ends = (sym same ∙ ends.0, ends.1)
+files_after (request.Diff k d telling) r old mid new plain same ends = (sym same ∙ ends.0, ends.1)
+files_after (request.Fixdep d t c) r old mid new plain same ends = (sym same ∙ ends.0, ends.1)
+files_after (request.Record d t c) r old mid new plain same ends =
     subst (λ (f : Files). Ends old.files (by_files old (record { files = f; failures = 0 })) (request.Record d t c) (Err r)) same ends
-files_behind (request.Stale ts) r old mid new plain same ends = (sym same ∙ ends.0, ends.1)
-files_behind (request.Why ts) r old mid new plain same ends = (sym same ∙ ends.0, ends.1)
-files_behind (request.Impact k d ts) r old mid new plain same ends = (sym same ∙ ends.0, ends.1)
-files_behind (request.Outdated t c) r old mid new plain same ends = (sym same ∙ ends.0, ends.1)
-files_behind (request.Batch p) r old mid new plain same (inl stopped) = inl (sym same ∙ stopped.0, stopped.1)
-files_behind (request.Batch p) r old mid new plain same (inr (actions, there, inl memory)) = no_memory r plain memory.1
-files_behind (request.Batch p) r old mid new plain same (inr (actions, there, inr ran)) = absurd (plain ran.2)
+files_after (request.Depfile end d t c) r old mid new plain same ends =
+    subst (λ (f : Files). Ends old.files (by_files old (record { files = f; failures = 0 })) (request.Depfile end d t c) (Err r)) same ends
+files_after (request.Stale ts f) r old mid new plain same ends = (sym same ∙ ends.0, ends.1)
+files_after (request.Why ts f) r old mid new plain same ends = (sym same ∙ ends.0, ends.1)
+files_after (request.Impact k d ts f) r old mid new plain same ends = (sym same ∙ ends.0, ends.1)
+files_after (request.Outdated t c) r old mid new plain same ends = (sym same ∙ ends.0, ends.1)
+files_after (request.Batch p) r old mid new plain same (inl stopped) = inl (sym same ∙ stopped.0, stopped.1)
+files_after (request.Batch p) r old mid new plain same (inr (actions, there, inl memory)) = no_memory r plain memory.1
+files_after (request.Batch p) r old mid new plain same (inr (actions, there, inr ran)) = absurd (plain ran.2)
+files_after (request.Users symbols ts) r old mid new plain same ends = (sym same ∙ ends.0, ends.1)
+files_after (request.Cost top ts) r old mid new plain same ends = (sym same ∙ ends.0, ends.1)
 
--- A refusal behind which a file was read again is that refusal.
-pub read_behind : {T : Type 0} (tree : Ghosts T) (old mid new : T) (asked : Request) (r : Refusal) → r ≢ Engine OutOfMemory
+-- A refusal after which a file was read again is that refusal.
+pub read_after : {T : Type 0} (tree : Ghosts T) (old mid new : T) (asked : Request) (r : Refusal) → r ≢ Engine OutOfMemory
     → Performs tree old mid asked (Err r) → Reads tree mid new ⊥ → Performs tree old new asked (Err r)
-read_behind tree old mid new asked r plain performs reads = record {
+read_after tree old mid new asked r plain performs reads = record {
   done = performs.done;
-  files = λ honest. files_behind asked r (state tree old) (state tree mid) (state tree new) plain (sym (reads.unchanged honest)) (performs.files honest);
+  files = λ honest. files_after asked r (state tree old) (state tree mid) (state tree new) plain (sym (reads.unchanged honest)) (performs.files honest);
   goes_on = λ honest h shows.
       let next = performs.goes_on honest h shows in
       let from = at (tree.files old) (tree.failures old) h in (
         next.0,
         subst (λ (f : Files). Continues asked (Err r) from (at f (tree.failures new) next.0)) (sym (reads.unchanged honest))
-            (counted_behind asked r from (tree.files mid) (tree.failures mid) (tree.failures new) next.0 plain next.1),
+            (counted_after asked r from (tree.files mid) (tree.failures mid) (tree.failures new) next.0 plain next.1),
         subst (λ (f : Files). Shows f next.0) (sym (reads.unchanged honest)) next.2,
       );
   cause = λ is. omega (arith, performs.cause is, reads.counted.later);

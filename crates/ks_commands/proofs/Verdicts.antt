@@ -1,19 +1,6 @@
 -- What is told of objects, one after the other.
-use Rattle.std.proofs.Common.{◌≡◌, ◌∙◌, ◌<◌, ◌+◌, ◌++◌, ℕ, List, [], ◌∷◌, Result, Ok, Err, IfOk, OnOk, inl, inr, refl, sym, ap, map, max, take, length, get_or, flat_map, append-nil, length-append, filter, ◌==◌, Option}
-use Rattle.std.proofs.lemmas.List.{map-append, take_more}
-use Rattle.std.proofs.lemmas.List.Elements.{All-append, All-nil, All-cons, All-weaker, filter-append}
-use Rattle.std.proofs.lemmas.List.Sums.{fold-append}
-use Rattle.std.proofs.lemmas.Grind.{flat_map-append}
-use Rattle.ks_tree.specs.Files.{Files}
-use Rattle.ks_engine.specs.declared.error.EngineError.{EngineError}
-use Rattle.ks_engine.specs.declared.impact.Impact.{Impact}
-use Rattle.ks_engine.specs.Impact.{IsImpactOf}
-use Rattle.ks_requests.specs.declared.status.Count.{Count}
-use Rattle.ks_requests.specs.declared.status.Status.{Status}
-use Rattle.ks_requests.specs.Endings.{Ending}
-use Rattle.ks_requests.specs.Replies.{answer_line, verdict_line}
-use Rattle.ks_requests.specs.Statuses.{code_of, stale_among, status_unless_refused, verdict_status, worst}
-use Rattle.ks_commands.specs.Performed.{EndsAll, count_of, IsAnswerBehind, TellsAll, TellsAnswer}
+use Rattle.ks_commands.proofs.Prelude.{◌≡◌, ◌∙◌, ◌+◌, ◌++◌, ℕ, List, [], ◌∷◌, Result, inl, inr, refl, sym, ap, map, max, length, flat_map, append-nil, length-append, filter, ◌==◌, Option, None, map-append, All-append, All-nil, All-cons, All-weaker, filter-append, fold-append, flat_map-append, EngineError, Explanation, Limit, First, told, Form, Count, Ending, stale_among, worst, EndsAll, TellsAll, TellsAnswer, TellsVerdict}
+use Rattle.ks_engine.specs.declared.staleness.Verdict.{Verdict}
 
 abbrev Part : Type 0
 Part = List ℕ × List ℕ × ℕ
@@ -74,34 +61,19 @@ ends_weaker P Q counted targets ended f (inr (objects, there, text, status, stal
   tells,
 )
 
--- .. where that is so of each answer
-pub answers_weaker : {A : Type 0} (line : List ℕ → A → List ℕ) (status_of : A → ℕ) (P Q : List ℕ → Result A EngineError → Type 0)
+-- .. where that is so of each answer, or of each verdict
+pub answers_weaker : (form : Form) (limit : Limit) (spelled : List ℕ → Result Explanation EngineError → Option (List ℕ))
+    (P Q : List ℕ → Result Explanation EngineError → Type 0)
     (counted : ℕ → ℕ → Option Count) (targets : Result (List (List ℕ)) EngineError) (ended : Ending)
-    → ((o : List ℕ) (answer : Result A EngineError) → P o answer → Q o answer)
-    → EndsAll (TellsAnswer line status_of P) counted targets ended → EndsAll (TellsAnswer line status_of Q) counted targets ended
-answers_weaker line status_of P Q counted targets ended f ends =
-    ends_weaker (TellsAnswer line status_of P) (TellsAnswer line status_of Q) counted targets ended
+    → ((o : List ℕ) (answer : Result Explanation EngineError) → P o answer → Q o answer)
+    → EndsAll (TellsAnswer form limit spelled P) counted targets ended → EndsAll (TellsAnswer form limit spelled Q) counted targets ended
+answers_weaker form limit spelled P Q counted targets ended f ends =
+    ends_weaker (TellsAnswer form limit spelled P) (TellsAnswer form limit spelled Q) counted targets ended
     (λ o lines status is. (is.0, f o is.0 is.1, is.2, is.3)) ends
 
--- .. and what is answered behind the synchronisation of two texts
-pub impact_known : (files : Files) (impact : Impact) (kconfig dotconfig : List ℕ) (targets : Result (List (List ℕ)) EngineError) (ended : Ending)
-    → IsImpactOf files kconfig dotconfig impact
-    → EndsAll (TellsAnswer verdict_line verdict_status (λ o answer. (k d : List ℕ) → IsImpactOf files k d impact → IsAnswerBehind files k d o answer))
-    count_of targets ended
-    → EndsAll (TellsAnswer verdict_line verdict_status (IsAnswerBehind files kconfig dotconfig)) count_of targets ended
-impact_known files impact kconfig dotconfig targets ended told ends =
-    answers_weaker verdict_line verdict_status (λ o answer. (k d : List ℕ) → IsImpactOf files k d impact → IsAnswerBehind files k d o answer)
-    (IsAnswerBehind files kconfig dotconfig) count_of targets ended (λ o answer is. is kconfig dotconfig told) ends
-
--- an answer that is written
-pub answer_told : {A E : Type 0} (line : List ℕ → A → List ℕ) (status_of : A → ℕ) (answers : List ℕ → Result A EngineError → Type 0) (o : List ℕ)
-    (answer : Result A EngineError) (before after : List ℕ) (r : Result Status E) → answers o answer → OnOk r (after ≡ before ++ answer_line line o answer)
-    → IfOk r (λ s. code_of s ≡ status_unless_refused status_of answer)
-    → IfOk r (λ s. (lines : List ℕ) × (after ≡ before ++ lines) × TellsAnswer line status_of answers o lines (code_of s))
-answer_told line status_of answers o answer before after (Ok s) is more this = (answer_line line o answer, more, (answer, is, refl, this))
-answer_told line status_of answers o answer before after (Err e) is more this = this
-
--- the views of one element more
-pub map-take_more : {X Y : Type 0} (f : X → Y) (xs : List X) (i : ℕ) (d : X) → i < length xs → map f (take i xs) ++ f (get_or xs i d) ∷ []
-    ≡ map f (take (i + 1) xs)
-map-take_more f xs i d within = sym (map-append f (take i xs) (get_or xs i d ∷ [])) ∙ ap (map f) (sym (take_more xs i d within))
+pub verdicts_weaker : (form : Form) (P Q : List ℕ → Result Verdict EngineError → Type 0) (counted : ℕ → ℕ → Option Count) (targets : Result (List (List ℕ)) EngineError)
+    (ended : Ending) → ((o : List ℕ) (answer : Result Verdict EngineError) → P o answer → Q o answer)
+    → EndsAll (TellsVerdict form P) counted targets ended → EndsAll (TellsVerdict form Q) counted targets ended
+verdicts_weaker form P Q counted targets ended f ends =
+    answers_weaker form First (λ o answer. None) (λ o answer. P o (told answer)) (λ o answer. Q o (told answer)) counted targets ended
+    (λ o answer is. f o (told answer) is) ends

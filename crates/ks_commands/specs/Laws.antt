@@ -1,5 +1,5 @@
--- Laws of the definitions: what a preview has written, what a refusal leaves, the statuses, and what runs of the program tell.
-use Rattle.std.specs.Prelude.{◌≡◌, ◌⊎◌, ◌<◌, ◌≤◌, ℕ, List, Option, Err, IfOk, Ok}
+-- Laws of the definitions: what a preview has written, what a refusal leaves, the statuses, when names differ, and what runs of the program tell.
+use Rattle.std.specs.Prelude.{◌≡◌, ◌⊎◌, ◌<◌, ◌≤◌, ◌↔◌, ℕ, List, Option, Err, IfOk, Ok, true}
 use Rattle.std.specs.List.{All}
 use Rattle.ks_streams.specs.Streams.{State}
 use Rattle.ks_tree.specs.Files.{Files}
@@ -15,6 +15,11 @@ use Rattle.ks_requests.specs.Outputs.{WritesPreview}
 use Rattle.ks_requests.specs.Requests.{IsPreviewOf}
 use Rattle.ks_requests.specs.Statuses.{code_of}
 use Rattle.ks_commands.specs.Performed.{Ends, EndsBatch, by_files, by_histories}
+use Rattle.ks_symbols.specs.Configuration.{Configuration}
+use Rattle.ks_output.specs.OldConfig.{Texts}
+use Rattle.ks_compare.specs.Changes.{differs}
+use Rattle.ks_requests.specs.declared.telling.Telling.{Telling}
+use Rattle.ks_commands.specs.Differences.{TellsChanges, asks_status}
 use Rattle.ks_commands.specs.Programs.{Chain, ProgramRun, ProgramTellsChanges, changes_told}
 use Rattle.ks_commands.specs.Scripts.{HasGivenUp}
 
@@ -26,9 +31,9 @@ pub record IsPreviewed (k d : List ℕ) (o : Option (List ℕ)) (old new : Files
 
 abbrev pub PreviewsArePerformed : Type 0
 PreviewsArePerformed =
-    (k d : List ℕ) (o : Option (List ℕ)) (request : Request) (ended : Ending) (behind : List ℕ) (old new : FileState)
+    (k d : List ℕ) (o : Option (List ℕ)) (request : Request) (ended : Ending) (following : List ℕ) (old new : FileState)
     (before after err_before err_after : State) (status : ℕ)
-    → IsPreviewOf k d o request → Ends old.files (by_files old new) request ended → Printed behind ended before after err_before err_after status
+    → IsPreviewOf k d o request → Ends old.files (by_files old new) request ended → Printed following ended before after err_before err_after status
     → IsPreviewed k d o old.files new.files before after status
 
 -- A refusal of the whole command leaves the files as before, but for want of memory and a failure of the device.
@@ -42,8 +47,13 @@ pub record IsStatusOf (ended : Ending) (status : ℕ) : Type 0 where
   pub done : IfOk ended (λ o. o.status ≡ Done) → (status ≡ 0) ⊎ (status ≡ 2)
 
 abbrev pub StatusesAreAtMostTwo : Type 0
-StatusesAreAtMostTwo = (ended : Ending) (behind : List ℕ) (before after err_before err_after : State) (status : ℕ)
-    → Printed behind ended before after err_before err_after status → IsStatusOf ended status
+StatusesAreAtMostTwo = (ended : Ending) (following : List ℕ) (before after err_before err_after : State) (status : ℕ)
+    → Printed following ended before after err_before err_after status → IsStatusOf ended status
+
+-- Where `diff` is asked for its status, that is 1 exactly if some name differs.
+abbrev pub StatusesTellDifferences : Type 0
+StatusesTellDifferences = (telling : Telling) (old : Texts) (new : Configuration) (text : List ℕ) (status : ℕ)
+    → asks_status telling ≡ true → TellsChanges telling old new text status → (status ≡ 1) ↔ ((x : List ℕ) × (differs old new x ≡ true))
 
 -- A script that runs without a refusal, after a history without a broken synchronisation, tells what changed.
 abbrev pub BatchTellsChanges : Type 0

@@ -1,27 +1,32 @@
 -- What each request comes to, by the files of a tree and by its history alike.
 use Rattle.std.specs.Prelude.{◌≡◌, ◌≢◌, ◌⊎◌, ◌≤◌, ◌++◌, ℕ, List, [], ◌∷◌, Option, Result, Ok, Err, map, flat_map, option_map, string_bytes, length, Some, None, IfOk, IsTrue, ⊤}
 use Rattle.std.specs.List.{All}
-use Rattle.ks_fixdep.specs.CommandFile.{is_command}
+use Rattle.ks_fixdep.specs.CommandFile.{CommandRecord, is_command}
+use Rattle.ks_fixdep.specs.FoundNames.{all_noted}
+use Rattle.ks_fixdep.specs.declared.dependency_file.Header.{Header}
 use Rattle.ks_tree.specs.declared.tree.Tree.{Ghosts}
 use Rattle.ks_tree.specs.Files.{Files, HasRisen}
 use Rattle.ks_engine.specs.declared.error.EngineError.{EngineError}
-use Rattle.ks_engine.specs.declared.error.EngineError.TheVariants.{OutOfMemory, Device}
+use Rattle.ks_engine.specs.declared.error.EngineError.TheVariants.{BadPath, OutOfMemory, Device}
 use Rattle.ks_engine.specs.declared.commands.Reply.{Reply}
 use Rattle.ks_engine.specs.declared.explaining.Explanation.{Explanation}
+use Rattle.ks_engine.specs.declared.question.Limit.{Limit}
+use Rattle.ks_engine.specs.declared.question.Limit.TheVariants.{First, All as Every}
 use Rattle.ks_engine.specs.declared.recording.Recorded.{Recorded as RecordAnswer}
 use Rattle.ks_engine.specs.declared.synchronise.Report.{Report}
 use Rattle.ks_engine.specs.declared.staleness.BuildState.{BuildState}
 use Rattle.ks_engine.specs.declared.staleness.Verdict.{Verdict}
 use Rattle.ks_engine.specs.Actions.{Action}
-use Rattle.ks_engine.specs.Asked.{asked, IsAnswer}
+use Rattle.ks_engine.specs.Asked.{asked, told, IsAnswer, IsExplained}
 use Rattle.ks_engine.specs.BuildStates.{build_asked, IsBuildState}
-use Rattle.ks_engine.specs.Explained.{ExplainsRecorded, IsExplained, IsExplanationJudged}
-use Rattle.ks_engine.specs.Follows.{TreeState, at, IsSame, GoesOn, FollowsSync, FollowsRecord}
+use Rattle.ks_engine.specs.Depfile.{FollowsDepfile}
+use Rattle.ks_engine.specs.Explained.{IsExplanationJudged, IsExplanationOn}
+use Rattle.ks_engine.specs.Follows.{TreeState, at, IsSame, GoesOn, FollowsRecord}
 use Rattle.ks_engine.specs.History.{History, LastRecord, Synced, last_record}
-use Rattle.ks_engine.specs.Impact.{AnswersBehind, JudgesBehind}
+use Rattle.ks_engine.specs.Impact.{AnswersAfter, IsAnswerAfter}
 use Rattle.ks_engine.specs.Judged.{IsJudged, IsBuildJudged}
 use Rattle.ks_engine.specs.Refusals.{Answers, GaveUp, IsGivenUp}
-use Rattle.ks_engine.specs.FileRuns.{FileState, FileRun, IsAnswerOn, LeavesRecord, LeavesSync, state}
+use Rattle.ks_engine.specs.FileRuns.{FileState, FileRun, IsAnswerOn, LeavesRecord, state}
 use Rattle.ks_engine.specs.Runs.{Run, FollowsStale}
 use Rattle.ks_engine.specs.Shows.{Shows}
 use Rattle.ks_engine.specs.SyncPlan.{IsSyncPlan}
@@ -29,29 +34,40 @@ use Rattle.ks_engine.specs.Synchronised.{IsSynced}
 use Rattle.ks_requests.specs.declared.preview.PreviewError.{PreviewError}
 use Rattle.ks_requests.specs.declared.preview.PreviewError.TheVariants.{Output as PreviewOutput}
 use Rattle.ks_requests.specs.declared.refusal.Refusal.TheVariants.{Engine}
+use Rattle.ks_requests.specs.declared.request.Form.{Form}
 use Rattle.ks_requests.specs.declared.request.Request.{Request}
+use Rattle.ks_requests.specs.declared.request.Stamps.{Stamps}
 use Rattle.ks_requests.specs.declared.request.Targets.{Targets}
-use Rattle.ks_requests.specs.declared.request.Request.TheVariants.{Batch, Diff, Fixdep, Impact, Outdated, Preview, Record, Stale, Sync, Why}
+use Rattle.ks_requests.specs.declared.request.Request.TheVariants.{Batch, Cost, Depfile, Diff, Fixdep, Impact, Outdated, Preview, Record, Stale, Sync, Users, Why}
 use Rattle.ks_requests.specs.declared.status.Count.{Count}
+use Rattle.ks_requests.specs.declared.status.Count.TheVariants as count
+use Rattle.ks_requests.specs.declared.telling.Telling.{Telling}
 use Rattle.ks_requests.specs.declared.status.Status.TheVariants.{Done}
-use Rattle.ks_requests.specs.Endings.{Answered, Ending, Stopped, Tells, TellsCount}
+use Rattle.ks_requests.specs.Endings.{Answered, Ending, Stopped, Tells, TellsCount, TellsUnknown}
+use Rattle.ks_requests.specs.Unknown.{unknown_lines}
 use Rattle.ks_requests.specs.Inputs.{Inputs, Texts, given_if_named, inputs_at, texts_at}
 use Rattle.ks_requests.specs.Preview.{IsPreview, IsPreviewRefusal, preview_refusal}
 use Rattle.ks_requests.specs.Refusals.{of_preview}
-use Rattle.ks_requests.specs.Replies.{answer_line, build_line, explanation_lines, recorded_line, reply_lines, report_lines, verdict_line}
+use Rattle.ks_requests.specs.Replies.{answer_line, build_line, depfile_line, recorded_line, reply_lines, report_lines}
 use Rattle.ks_requests.specs.Requests.{IsNoQuestion}
-use Rattle.ks_requests.specs.Statuses.{build_status, explanation_status, reply_status, stale_among, status_unless_refused, verdict_status, worst}
+use Rattle.ks_requests.specs.Statuses.{build_status, explanation_status, reply_status, stale_among, status_unless_refused, worst}
+use Rattle.ks_requests.specs.Symbols.{symbols_of}
 use Rattle.ks_requests.specs.Targets.{file_of, targets_at, with_file, words_of}
-use Rattle.ks_commands.specs.Differences.{IsDiff}
+use Rattle.ks_commands.specs.Depfiles.{IsHeaderOf, IsNoHeader, LeavesDepfile}
+use Rattle.ks_commands.specs.Differences.{IsDiff, lines_asked}
 use Rattle.ks_commands.specs.Fixdep.{command_file_at}
+use Rattle.ks_commands.specs.Stamps.{FollowsStamps, LeavesStamps}
+use Rattle.ks_commands.specs.Spelling.{spelled_in, spelling_of}
+use Rattle.ks_commands.specs.Records.{EndsCost, EndsUsers, unread_lines, uses_lines}
 use Rattle.ks_commands.specs.Scripts.{AreSpelled, StoppedScript, script_at}
 
 -- What the engine's calls answer and leave: the one way of saying it by files, the other by histories.
 pub record Effects : Type 1 where
   -- all is as before
   pub same : Type 0
-  pub sync : (kconfig dotconfig : List ℕ) → Result Report EngineError → Type 0
+  pub sync : Stamps → (kconfig dotconfig : List ℕ) → Result Report EngineError → Type 0
   pub recording : (depfile target command : List ℕ) → Result RecordAnswer EngineError → Type 0
+  pub ruling : (header : Header) (depfile target command : List ℕ) → Result RecordAnswer EngineError → Type 0
   pub stale : (target : List ℕ) → Result Verdict EngineError → Type 0
   pub why : (target : List ℕ) → Result Explanation EngineError → Type 0
   pub impact : (kconfig dotconfig target : List ℕ) → Result Verdict EngineError → Type 0
@@ -59,15 +75,22 @@ pub record Effects : Type 1 where
   pub run : List Action → List Reply → Type 0
 
 -- Nothing has changed where the two files can't be read. Else it ends as the engine answers.
-abbrev pub EndsSync : Files → Effects → List ℕ → List ℕ → Ending → Type 0
-EndsSync files effects k d ended =
+abbrev pub EndsSync : Files → Effects → Stamps → List ℕ → List ℕ → Ending → Type 0
+EndsSync files effects stamps k d ended =
     (effects.same × Stopped (texts_at files k d) ended)
     ⊎ ((t : Texts) × (texts_at files k d ≡ Ok t)
-    × (answer : Result Report EngineError) × effects.sync t.kconfig t.dotconfig answer × Answered report_lines answer ended)
+    × (answer : Result Report EngineError) × effects.sync stamps t.kconfig t.dotconfig answer × Answered report_lines answer ended)
 
 -- The engine looks at the words of a record itself.
 abbrev pub EndsRecord : Effects → List ℕ → List ℕ → List ℕ → Ending → Type 0
 EndsRecord effects d t c ended = (answer : Result RecordAnswer EngineError) × effects.recording d t c answer × Answered (recorded_line t) answer ended
+
+-- It is refused for the word that names the header, or ends as the engine answers for this header.
+abbrev pub EndsDepfile : Effects → Option (List ℕ) → List ℕ → List ℕ → List ℕ → Ending → Type 0
+EndsDepfile effects end d t c ended =
+    (effects.same × IsNoHeader end × (ended ≡ Err (Engine (BadPath 0))))
+    ⊎ ((header : Header) × IsHeaderOf end header
+    × (answer : Result RecordAnswer EngineError) × effects.ruling header d t c answer × Answered (depfile_line t) answer ended)
 
 -- A preview of what the files hold, or the refusal that their texts have.
 abbrev pub EndsPreview : Files → List ℕ → List ℕ → Option (List ℕ) → Ending → Type 0
@@ -81,21 +104,27 @@ abbrev pub StoppedSync : Files → Texts → Ending → Type 0
 StoppedSync files t ended = (e : EngineError) × (IsGivenUp e ⊎ IsSyncPlan files t.kconfig t.dotconfig (Err e)) × (ended ≡ Err (Engine e))
 
 -- What a synchronisation would touch, told; or the refusal that it would have before its first write.
-abbrev pub EndsDiff : Files → List ℕ → List ℕ → Ending → Type 0
-EndsDiff files k d ended =
+abbrev pub EndsDiff : Telling → Files → List ℕ → List ℕ → Ending → Type 0
+EndsDiff telling files k d ended =
     Stopped (texts_at files k d) ended
     ⊎ ((t : Texts) × (texts_at files k d ≡ Ok t)
-    × (((text : List ℕ) × IsDiff files t.kconfig t.dotconfig text × Tells text 0 ended)
+    × (((text : List ℕ) × (status : ℕ) × IsDiff telling files t.kconfig t.dotconfig text status
+    × TellsUnknown text status (lines_asked telling (unknown_lines t.kconfig t.dotconfig)) ended)
     ⊎ StoppedSync files t ended))
 
 abbrev pub EndsFixdep : Files → List ℕ → List ℕ → List ℕ → Ending → Type 0
 EndsFixdep files d t c ended =
     (answer : Result (List ℕ) EngineError) × Answers (command_file_at files d t c) (λ text. text) answer × Answered (λ text. text) answer ended
 
--- what is told of an object: the lines and the status of its answer
-abbrev pub TellsAnswer : {A : Type 0} → (List ℕ → A → List ℕ) → (A → ℕ) → (List ℕ → Result A EngineError → Type 0) → List ℕ → List ℕ → ℕ → Type 0
-TellsAnswer {A} line status_of answers o lines status = (answer : Result A EngineError)
-    × answers o answer × (lines ≡ answer_line line o answer) × (status ≡ status_unless_refused status_of answer)
+-- what is told of an object: the lines and the status of its answer, which may list all of its causes, and under which other spelling it stands
+abbrev pub TellsAnswer : Form → Limit → (List ℕ → Result Explanation EngineError → Option (List ℕ)) → (List ℕ → Result Explanation EngineError → Type 0)
+    → List ℕ → List ℕ → ℕ → Type 0
+TellsAnswer form limit spelled answers o lines status = (answer : Result Explanation EngineError)
+    × answers o answer × (lines ≡ spelled_in form limit o answer (spelled o answer)) × (status ≡ status_unless_refused explanation_status answer)
+
+-- .. or its verdict alone
+abbrev pub TellsVerdict : Form → (List ℕ → Result Verdict EngineError → Type 0) → List ℕ → List ℕ → ℕ → Type 0
+TellsVerdict form answers = TellsAnswer form First (λ o answer. None) (λ o answer. answers o (told answer))
 
 -- All objects are told of, in order, the status is the worst, and so many of them are stale.
 pub record TellsAll (tells : List ℕ → List ℕ → ℕ → Type 0) (objects : List (List ℕ)) (text : List ℕ) (status stale : ℕ) : Type 0 where
@@ -108,7 +137,7 @@ pub record TellsAll (tells : List ℕ → List ℕ → ℕ → Type 0) (objects 
 
 -- the count of stale objects among all
 abbrev pub count_of : ℕ → ℕ → Option Count
-count_of stale all = Some (record { stale = stale; all = all })
+count_of stale all = Some (count.Stale stale all)
 
 abbrev pub not_counted : ℕ → ℕ → Option Count
 not_counted stale all = None
@@ -121,23 +150,23 @@ EndsAll tells counted targets ended =
     × (text : List ℕ) × (status : ℕ) × (stale : ℕ) × TellsAll tells objects text status stale
     × TellsCount text status (counted stale (length objects)) ended)
 
-abbrev pub EndsStale : Effects → Result (List (List ℕ)) EngineError → Ending → Type 0
-EndsStale effects targets ended = EndsAll (TellsAnswer verdict_line verdict_status effects.stale) not_counted targets ended
+abbrev pub EndsStale : Effects → Form → Result (List (List ℕ)) EngineError → Ending → Type 0
+EndsStale effects form targets ended = EndsAll (TellsVerdict form effects.stale) not_counted targets ended
 
-abbrev pub EndsWhy : Effects → Result (List (List ℕ)) EngineError → Ending → Type 0
-EndsWhy effects targets ended = EndsAll (TellsAnswer explanation_lines explanation_status effects.why) not_counted targets ended
+abbrev pub EndsWhy : Files → Effects → Form → Result (List (List ℕ)) EngineError → Ending → Type 0
+EndsWhy files effects form targets ended = EndsAll (TellsAnswer form Every (spelling_of files) effects.why) not_counted targets ended
 
 -- There is a tree that a completed synchronisation of these texts leaves.
 abbrev pub CanBeSynced : Files → Texts → Type 0
 CanBeSynced files t = (after : Files) × (report : Report) × IsSynced files after t.kconfig t.dotconfig report
 
--- What would be stale behind a synchronisation, told; or the refusal that it would have before its first write.
-abbrev pub EndsImpact : Files → Effects → List ℕ → List ℕ → Result (List (List ℕ)) EngineError → Ending → Type 0
-EndsImpact files effects k d targets ended =
+-- What would be stale after a synchronisation, told; or the refusal that it would have before its first write.
+abbrev pub EndsImpact : Files → Effects → List ℕ → List ℕ → Form → Result (List (List ℕ)) EngineError → Ending → Type 0
+EndsImpact files effects k d form targets ended =
     Stopped (texts_at files k d) ended
     ⊎ ((t : Texts) × (texts_at files k d ≡ Ok t)
     × (StoppedSync files t ended
-    ⊎ (CanBeSynced files t × EndsAll (TellsAnswer verdict_line verdict_status (effects.impact t.kconfig t.dotconfig)) count_of targets ended)))
+    ⊎ (CanBeSynced files t × EndsAll (TellsVerdict form (effects.impact t.kconfig t.dotconfig)) count_of targets ended)))
 
 abbrev pub EndsOutdated : Effects → List ℕ → List ℕ → Ending → Type 0
 EndsOutdated effects o c ended =
@@ -157,30 +186,23 @@ EndsBatch files effects path ended =
     ⊎ ((actions : List Action) × (script_at files path ≡ Ok actions) × RunsAll effects.same (effects.run actions) actions ended)
 
 abbrev pub Ends : Files → Effects → Request → Ending → Type 0
-Ends files effects (Sync k d) ended = EndsSync files effects (string_bytes k) (string_bytes d) ended
+Ends files effects (Sync k d stamps) ended = EndsSync files effects stamps (string_bytes k) (string_bytes d) ended
 Ends files effects (Preview k d o) ended = effects.same × EndsPreview files (string_bytes k) (string_bytes d) (option_map (λ path. string_bytes path) o) ended
-Ends files effects (Diff k d) ended = effects.same × EndsDiff files (string_bytes k) (string_bytes d) ended
+Ends files effects (Diff k d telling) ended = effects.same × EndsDiff telling files (string_bytes k) (string_bytes d) ended
 Ends files effects (Fixdep d t c) ended = effects.same × EndsFixdep files (string_bytes d) (string_bytes t) (string_bytes c) ended
 Ends files effects (Record d t c) ended = EndsRecord effects (string_bytes d) (string_bytes t) (string_bytes c) ended
-Ends files effects (Stale targets) ended = effects.same × EndsStale effects (targets_at files targets) ended
-Ends files effects (Why targets) ended = effects.same × EndsWhy effects (targets_at files targets) ended
-Ends files effects (Impact k d targets) ended =
-    effects.same × EndsImpact files effects (string_bytes k) (string_bytes d) (targets_at files targets) ended
+Ends files effects (Depfile end d t c) ended =
+    EndsDepfile effects (option_map (λ path. string_bytes path) end) (string_bytes d) (string_bytes t) (string_bytes c) ended
+Ends files effects (Stale targets form) ended = effects.same × EndsStale effects form (targets_at files targets) ended
+Ends files effects (Why targets form) ended = effects.same × EndsWhy files effects form (targets_at files targets) ended
+Ends files effects (Impact k d targets form) ended =
+    effects.same × EndsImpact files effects (string_bytes k) (string_bytes d) form (targets_at files targets) ended
 Ends files effects (Outdated t c) ended = effects.same × EndsOutdated effects (string_bytes t) (string_bytes c) ended
 Ends files effects (Batch script) ended = EndsBatch files effects (string_bytes script) ended
+Ends files effects (Users symbols targets) ended = effects.same × EndsUsers files (symbols_of symbols.items) (targets_at files targets) ended
+Ends files effects (Cost top targets) ended = effects.same × EndsCost files top (targets_at files targets) ended
 
 -- ---- by files
-
--- what a question is answered with all that speaks for it, whichever history is shown
-pub record IsExplanationOn (files : Files) (o : List ℕ) (answer : Result Explanation EngineError) : Type 0 where
-  pub by_files : GaveUp answer ⊎ IsExplained files o answer
-  pub verdict : IfOk answer (λ e. IsAnswer files (asked files o) (Ok e.verdict))
-  pub recorded : ExplainsRecorded files o answer
-
--- what is answered over each tree that a completed synchronisation of these texts leaves
-pub record IsAnswerBehind (files : Files) (k d o : List ℕ) (answer : Result Verdict EngineError) : Type 0 where
-  pub by_files : AnswersBehind files k d o answer
-  pub recorded : JudgesBehind files k d o answer
 
 pub record IsStateOf (files : Files) (o command : List ℕ) (answer : Result BuildState EngineError) : Type 0 where
   pub by_files : GaveUp answer ⊎ IsBuildState files (build_asked files o command) answer
@@ -197,11 +219,12 @@ pub record RunsOn (honest : Type 0) (old new : FileState) (actions : List Action
 abbrev pub by_files : FileState → FileState → Effects
 by_files old new = record {
   same = new.files ≡ old.files;
-  sync = LeavesSync old.files new.files;
+  sync = LeavesStamps old.files new.files;
   recording = LeavesRecord old.files new.files;
+  ruling = LeavesDepfile old.files new.files;
   stale = IsAnswerOn old.files;
   why = IsExplanationOn old.files;
-  impact = IsAnswerBehind old.files;
+  impact = IsAnswerAfter old.files;
   outdated = IsStateOf old.files;
   run = RunsOn ⊤ old new;
 }
@@ -211,14 +234,14 @@ by_files old new = record {
 -- of an object
 pub record FollowsWhy (old : TreeState) (o : List ℕ) (answer : Result Explanation EngineError) (new : TreeState) : Type 0 where
   pub same : IsSame old new
-  pub by_files : GaveUp answer ⊎ IsExplained old.files o answer
+  pub by_files : GaveUp answer ⊎ IsExplained Every old.files o answer
   pub verdict : IfOk answer (λ e. IsAnswer old.files (asked old.files o) (Ok e.verdict))
   pub recorded : (r : LastRecord) → last_record old.history o ≡ Some r → IsExplanationJudged old.files old.history o r answer
 
 -- of two texts and an object: judged by the history with their synchronisation added
 pub record FollowsImpact (old : TreeState) (k d o : List ℕ) (answer : Result Verdict EngineError) (new : TreeState) : Type 0 where
   pub same : IsSame old new
-  pub by_files : AnswersBehind old.files k d o answer
+  pub by_files : AnswersAfter old.files k d o answer
   pub recorded : (after : Files) (report : Report) (synced : IsSynced old.files after k d report) (r : LastRecord) → last_record old.history o ≡ Some r
       → IsJudged after (Synced synced.plan.title synced.plan.config old.history) o r answer
 
@@ -235,8 +258,9 @@ Runs old new actions replies = (failures : ℕ) × (old.failures ≤ failures) �
 abbrev pub by_histories : TreeState → TreeState → Effects
 by_histories old new = record {
   same = IsSame old new;
-  sync = λ k d answer. FollowsSync k d answer old new;
+  sync = λ stamps k d answer. FollowsStamps stamps k d answer old new;
   recording = λ d t c answer. FollowsRecord d t c answer old new;
+  ruling = λ header d t c answer. FollowsDepfile header d t c answer old new;
   stale = λ o answer. FollowsStale old o answer new;
   why = λ o answer. FollowsWhy old o answer new;
   impact = λ k d o answer. FollowsImpact old k d o answer new;
@@ -256,21 +280,42 @@ pub record IsCounted {A : Type 0} (before : ℕ) (answer : Result A EngineError)
   pub cause : answer ≡ Err Device → HasRisen before after
 
 -- The text has the lines of each of these objects, one object after the other, each with an answer that is so counted.
-abbrev pub TellsCounted : {A : Type 0} → (List ℕ → A → List ℕ) → ℕ → List (List ℕ) → List ℕ → ℕ → Type 0
-TellsCounted line first [] text last = (text ≡ []) × (last ≡ first)
-TellsCounted {A} line first (o ∷ objects) text last =
-    (answer : Result A EngineError) × (next : ℕ) × (rest : List ℕ) × IsCounted first answer next × (text ≡ answer_line line o answer ++ rest)
-    × TellsCounted line next objects rest last
+abbrev pub TellsCounted : {A : Type 0} → (List ℕ → Result A EngineError → List ℕ → Type 0) → ℕ → List (List ℕ) → List ℕ → ℕ → Type 0
+TellsCounted says first [] text last = (text ≡ []) × (last ≡ first)
+TellsCounted {A} says first (o ∷ objects) text last =
+    (answer : Result A EngineError) × (lines : List ℕ) × (next : ℕ) × (rest : List ℕ) × IsCounted first answer next × says o answer lines
+    × (text ≡ lines ++ rest) × TellsCounted says next objects rest last
+
+-- the lines of an answer, with any spelling
+abbrev pub Says : Form → Limit → List ℕ → Result Explanation EngineError → List ℕ → Type 0
+Says form limit o answer lines = (spelling : Option (List ℕ)) × (lines ≡ spelled_in form limit o answer spelling)
+
+-- .. or those that these are for an answer
+abbrev pub SaysLines : {A : Type 0} → (List ℕ → A → List ℕ) → List ℕ → Result A EngineError → List ℕ → Type 0
+SaysLines line o answer lines = lines ≡ answer_line line o answer
 
 -- What a question about several objects prints: they are its words, and the lines of a text where a file is named, which on an honest tree it holds.
-pub record AsksCounted {A : Type 0} (line : List ℕ → A → List ℕ) (honest : Type 0) (old : FileState) (targets : Targets) (text : List ℕ)
-    (new : FileState) : Type 0 where
+pub record AsksCounted (form : Form) (limit : Limit) (honest : Type 0) (old : FileState) (targets : Targets) (text : List ℕ) (new : FileState) : Type 0 where
   pub from : Option (List ℕ)
   pub named : file_of targets ≡ None → from ≡ None
   pub there : honest → given_if_named old.files (file_of targets) ≡ Ok from
   pub failures : ℕ
   pub later : old.failures ≤ failures
-  pub each : TellsCounted line failures (with_file (words_of targets) from) text new.failures
+  pub each : TellsCounted (Says form limit) failures (with_file (words_of targets) from) text new.failures
+
+-- What a question about command files prints of its objects, each of which it asks of once; they are as above.
+pub record ReadsCounted (line : List ℕ → Option CommandRecord → List ℕ) (honest : Type 0) (old : FileState) (targets : Targets) (text : List ℕ) (new : FileState) : Type 0 where
+  pub from : Option (List ℕ)
+  pub named : file_of targets ≡ None → from ≡ None
+  pub there : honest → given_if_named old.files (file_of targets) ≡ Ok from
+  pub failures : ℕ
+  pub later : old.failures ≤ failures
+  pub each : TellsCounted (SaysLines line) failures (all_noted [] (with_file (words_of targets) from)) text new.failures
+
+-- .. before what it prints of the symbols
+abbrev pub ReadsCosts : Type 0 → FileState → Targets → List ℕ → FileState → Type 0
+ReadsCosts honest old targets text new =
+    (unread costs : List ℕ) × (text ≡ unread ++ costs) × ReadsCounted unread_lines honest old targets unread new
 
 -- What a script prints: a line for each reply of a run of its lines; of an honest tree they are those of the file at its path.
 pub record RunsCounted (honest : Type 0) (old : FileState) (path text : List ℕ) (new : FileState) : Type 0 where
@@ -284,11 +329,13 @@ pub record RunsCounted (honest : Type 0) (old : FileState) (path text : List ℕ
 
 -- What is printed where not all is refused blames the device for an object or a command only where its failure was counted.
 abbrev pub Counts : Type 0 → FileState → Request → List ℕ → FileState → Type 0
-Counts honest old (Stale targets) text new = AsksCounted verdict_line honest old targets text new
-Counts honest old (Why targets) text new = AsksCounted explanation_lines honest old targets text new
-Counts honest old (Impact k d targets) text new = AsksCounted verdict_line honest old targets text new
-Counts honest old (Outdated t c) text new = TellsCounted build_line old.failures (string_bytes t ∷ []) text new.failures
+Counts honest old (Stale targets form) text new = AsksCounted form First honest old targets text new
+Counts honest old (Why targets form) text new = AsksCounted form Every honest old targets text new
+Counts honest old (Impact k d targets form) text new = AsksCounted form First honest old targets text new
+Counts honest old (Outdated t c) text new = TellsCounted (SaysLines build_line) old.failures (string_bytes t ∷ []) text new.failures
 Counts honest old (Batch script) text new = RunsCounted honest old (string_bytes script) text new
+Counts honest old (Users symbols targets) text new = ReadsCounted (uses_lines (symbols_of symbols.items)) honest old targets text new
+Counts honest old (Cost top targets) text new = ReadsCosts honest old targets text new
 Counts honest old _ text new = ⊤
 
 -- ---- all of it

@@ -13,7 +13,7 @@ use Rattle.ks_engine.specs.declared.synchronise.Report.{Report}
 use Rattle.ks_engine.specs.declared.staleness.Verdict.TheVariants.{Fresh}
 use Rattle.ks_engine.specs.Actions.{Action}
 use Rattle.ks_engine.specs.BuildStates.{judged}
-use Rattle.ks_engine.specs.Explained.{told}
+use Rattle.ks_engine.specs.Asked.{told}
 use Rattle.ks_engine.specs.Follows.{TreeState, IsSame, at}
 use Rattle.ks_engine.specs.History.{LastRecord, Synced, last_record}
 use Rattle.ks_engine.specs.Judged.{HasSameDefinitions}
@@ -49,9 +49,9 @@ pub record TellsCauses (s : TreeState) (o : List ℕ) (answer : Result Explanati
   pub causes : (r : LastRecord) → last_record s.history o ≡ Some r
       → IfOk answer (λ e. map (λ c. c.name) e.causes.items ≡ filter (changed_since s.history o) (found s.history o))
 
--- So does an answer behind a synchronisation of two texts, of each state that this would leave.
-abbrev pub TellsBehind : TreeState → List ℕ → List ℕ → List ℕ → Result Verdict EngineError → Type 0
-TellsBehind s k d o answer = (after : Files) (report : Report) (synced : IsSynced s.files after k d report)
+-- So does an answer after a synchronisation of two texts, of each state that this would leave.
+abbrev pub TellsAfter : TreeState → List ℕ → List ℕ → List ℕ → Result Verdict EngineError → Type 0
+TellsAfter s k d o answer = (after : Files) (report : Report) (synced : IsSynced s.files after k d report)
     → TellsChange (at after s.failures (Synced synced.plan.title synced.plan.config s.history)) o answer
 
 -- So does an answer about a command that builds it: another one is told exactly where that of the record is another one.
@@ -76,7 +76,7 @@ abbrev pub changes_told : TreeState → TreeState → Effects
 changes_told old new = record (by_histories old new) {
   stale = TellsChange old;
   why = TellsCauses old;
-  impact = TellsBehind old;
+  impact = TellsAfter old;
   outdated = λ o command answer. IsTrue (is_command command) → TellsBuild old o command answer;
   run = StepsTellChanges old new;
 }

@@ -66,11 +66,6 @@ abbrev pub HasGivenUp : Refusal → Type 0
 HasGivenUp (Engine e) = IsGivenUp e
 HasGivenUp r = ⊥
 
--- A call answers what a step comes to, or gives up.
-abbrev pub AnswersScript : {A V : Type 0} → Result V Refusal → (A → V) → Result A Refusal → Type 0
-AnswersScript step view (Ok x) = step ≡ Ok (view x)
-AnswersScript step view (Err r) = HasGivenUp r ⊎ (step ≡ Err r)
-
 -- It is refused as the script is, or gives up before its first command.
 abbrev pub StoppedScript : Result (List Action) Refusal → Ending → Type 0
 StoppedScript step ended = (r : Refusal) × (HasGivenUp r ⊎ (step ≡ Err r)) × (ended ≡ Err r)

@@ -1,7 +1,7 @@
 //! Running a script: all that it names is read before its first command runs.
 //!
 //! So a script that is misspelt, or that names a missing file, changes nothing. A file that several lines name is read and
-//! kept once, and their commands lend it.
+//! kept once, and their commands borrow it.
 ghost use Rattle.std.specs.Prelude.{◌≡◌, ◌⊎◌, ◌≤◌, ℕ, List, IfErr, IfOk, OnOk, Ok, Err, Some, None, IsErrOf, map, ⊤};
 ghost use Rattle.std.specs.List.{All};
 ghost use Rattle.ks_tree.specs.Frames.{Reads};
@@ -126,7 +126,7 @@ fn kept_file<'a>(kept: &'a MemoryTree, path: &[u8]) -> &'a [u8]
     kept.get(path).unwrap()
 }
 
-/// The command of a line, which lends its words and the files that it names.
+/// The command of a line, which borrows its words and the files that it names.
 fn command<'a>(line: &ScriptLine<'a>, kept: &'a MemoryTree) -> Command<'a>
     requires { AreKept kept.now (seen_line line.now) }
     ensures spelled { line_of (action result) ≡ without_files (seen_line line.now) }

@@ -1,34 +1,58 @@
-//! The two commands that change a tree: a synchronisation, and the record of an object.
+//! The commands that change a tree: a synchronisation, and the record of an object, in one of its two forms.
 //!
 //! A refusal of the engine is one of the whole command, and prints nothing to the output.
-ghost use Rattle.std.specs.Prelude.{◌≡◌, Err, IfOk};
+ghost use Rattle.std.specs.Prelude.{◌≡◌, Err, IfErr, IfOk, IsErrOf, option_map};
 ghost use Rattle.ks_tree.specs.Files.{HasRisen};
+ghost use Rattle.ks_tree.specs.Frames.{Counted};
 ghost use Rattle.ks_engine.specs.FileRuns.{state};
 ghost use Rattle.ks_engine.specs.Follows.{GoesOn};
-ghost use Rattle.ks_engine.specs.declared.error.EngineError.TheVariants.{Device};
+ghost use Rattle.ks_engine.specs.declared.error.EngineError.TheVariants.{BadPath, Device};
 ghost use Rattle.ks_requests.specs.declared.refusal.Refusal.TheVariants.{Engine};
 ghost use Rattle.ks_requests.specs.declared.status.Status.TheVariants.{Done};
-ghost use Rattle.ks_commands.specs.Performed.{EndsRecord, EndsSync, by_files, by_histories};
+ghost use Rattle.ks_commands.specs.Depfiles.{IsHeaderOf, IsNoHeader};
+ghost use Rattle.ks_commands.specs.Stamps.{FollowsStamps, LeavesStamps};
+ghost use Rattle.ks_commands.specs.Performed.{EndsDepfile, EndsRecord, EndsSync, by_files, by_histories};
 
-use ks_engine::{record_object, sync};
-use ks_requests::{Outcome, Refusal, tell_recorded, tell_report, texts_at};
+use ks_engine::{EngineError, Report, record_depfile, record_object, sync, sync_stamped};
+use ks_fixdep::Header;
+use ks_requests::{Outcome, Refusal, Stamps, tell_depfile, tell_recorded, tell_report, texts_at};
+use ks_symbols::path_is_legal;
 use ks_tree::Tree;
 use std::alloc::Global;
+
+/// Synchronises a tree with two texts, and leaves these stamps.
+fn sync_with<T: Tree>(
+    alloc: Global,
+    tree: &mut T,
+    stamps: Stamps,
+    kconfig: &[u8],
+    dotconfig: &[u8],
+) -> Result<Report, EngineError>
+    ensures files { T.is_honest → LeavesStamps (T.files tree.old) (T.files tree.new) stamps kconfig.now dotconfig.now result }
+    ensures follows { GoesOn T.Tree tree.old tree.new (FollowsStamps stamps kconfig.now dotconfig.now result) }
+    ensures counted { Counted T.Tree tree.old tree.new (IsErrOf result EngineError.Device) }
+{
+    match stamps {
+        Stamps::Touched => sync(alloc, tree, kconfig, dotconfig),
+        Stamps::Declared => sync_stamped(alloc, tree, kconfig, dotconfig),
+    }
+}
 
 /// Brings a tree to the configuration of the files that two words name, and tells what that touched.
 pub(crate) fn synchronise<T: Tree>(
     alloc: Global,
     tree: &mut T,
+    stamps: Stamps,
     kconfig: &[u8],
     dotconfig: &[u8],
 ) -> Result<Outcome, Refusal>
     ensures done { IfOk result (λ o. o.status ≡ Done) }
-    ensures files { T.is_honest → EndsSync (T.files tree.old) (by_files (state T.Tree tree.old) (state T.Tree tree.new)) kconfig.now dotconfig.now result }
-    ensures goes_on { GoesOn T.Tree tree.old tree.new (λ old new. EndsSync old.files (by_histories old new) kconfig.now dotconfig.now result) }
+    ensures files { T.is_honest → EndsSync (T.files tree.old) (by_files (state T.Tree tree.old) (state T.Tree tree.new)) stamps kconfig.now dotconfig.now result }
+    ensures goes_on { GoesOn T.Tree tree.old tree.new (λ old new. EndsSync old.files (by_histories old new) stamps kconfig.now dotconfig.now result) }
     ensures cause { result ≡ Err (Engine Device) → HasRisen (T.failures tree.old) (T.failures tree.new) }
 {
     let texts = texts_at(alloc, tree, kconfig, dotconfig)?;
-    let report = sync(alloc, tree, &texts.kconfig, &texts.dotconfig)?;
+    let report = sync_with(alloc, tree, stamps, &texts.kconfig, &texts.dotconfig)?;
     Ok(tell_report(alloc, &report)?)
 }
 
@@ -47,4 +71,39 @@ pub(crate) fn record_target<T: Tree>(
 {
     let recorded = record_object(alloc, tree, depfile, target, command)?;
     Ok(tell_recorded(alloc, target, &recorded)?)
+}
+
+/// The header that a word names by the end of its path, or else the usual one.
+fn header_of(end: Option<&str>) -> Result<Header<'_>, EngineError>
+    ensures named { IfOk result (IsHeaderOf (option_map (λ p. p.now) end.entry)) }
+    ensures refused { IfErr result (λ e. IsNoHeader (option_map (λ p. p.now) end.entry) × (e ≡ BadPath 0)) }
+{
+    let Some(end) = end else {
+        return Ok(Header::Usual);
+    };
+    if !path_is_legal(end.as_bytes()) {
+        return Err(EngineError::BadPath(0));
+    }
+    Ok(Header::At(end.as_bytes()))
+}
+
+/// Writes the command file of an object, and then its dependency file anew, by its rule.
+pub(crate) fn record_rule<T: Tree>(
+    alloc: Global,
+    tree: &mut T,
+    header: Option<&str>,
+    depfile: &[u8],
+    target: &[u8],
+    command: &[u8],
+) -> Result<Outcome, Refusal>
+    ensures done { IfOk result (λ o. o.status ≡ Done) }
+    ensures files { T.is_honest → EndsDepfile (by_files (state T.Tree tree.old) (state T.Tree tree.new))
+        (option_map (λ p. p.now) header.entry) depfile.now target.now command.now result }
+    ensures goes_on { GoesOn T.Tree tree.old tree.new (λ old new. EndsDepfile (by_histories old new)
+        (option_map (λ p. p.now) header.entry) depfile.now target.now command.now result) }
+    ensures cause { result ≡ Err (Engine Device) → HasRisen (T.failures tree.old) (T.failures tree.new) }
+{
+    let header = header_of(header)?;
+    let recorded = record_depfile(alloc, tree, header, depfile, target, command)?;
+    Ok(tell_depfile(alloc, target, &recorded)?)
 }

@@ -10,14 +10,21 @@ ghost use Rattle.ks_engine.specs.SyncPlan.{IsSyncPlan};
 ghost use Rattle.ks_engine.specs.declared.error.EngineError.TheVariants.{Device};
 ghost use Rattle.ks_requests.specs.declared.refusal.Refusal.TheVariants.{Engine};
 ghost use Rattle.ks_requests.specs.declared.status.Status.TheVariants.{Done};
-ghost use Rattle.ks_commands.specs.Differences.{IsDiff, TellsChanges, change_line, class_word, difference_line, shown_classes, shown_value};
+ghost use Rattle.ks_requests.specs.Statuses.{code_of};
+ghost use Rattle.ks_requests.specs.Endings.{IsUnknown};
+ghost use Rattle.ks_requests.specs.Unknown.{unknown_lines};
+ghost use Rattle.ks_symbols.specs.DotConfig.{unknown_count};
+ghost use Rattle.ks_symbols.specs.Kconfig.{declared, kconfig_refusal};
+ghost use Rattle.ks_symbols.specs.Lines.{lines};
+ghost use Rattle.ks_symbols.specs.Refusals.{IsRefusal};
+ghost use Rattle.ks_commands.specs.Differences.{IsDiff, change_line, class_word, difference_line, difference_status, lines_asked, shown_classes, shown_value};
 ghost use Rattle.ks_commands.specs.Performed.{EndsDiff};
 ghost use Rattle.ks_commands.specs.Views.{seen_value};
 
 use ks_engine::{EngineError, plan_sync};
 use ks_output::{OldConfig, write_quoted};
-use ks_requests::{Outcome, Refusal, Status, texts_at};
-use ks_symbols::{Class, Name, Settings};
+use ks_requests::{Count, Outcome, Refusal, Status, Telling, texts_at, unknown_lines};
+use ks_symbols::{Class, Name, Settings, SourceError};
 use ks_tree::Tree;
 use std::alloc::{AllocError, Global};
 
@@ -129,26 +136,86 @@ fn write_changes(
     Ok(())
 }
 
-/// The same of what a synchronisation of a tree would touch, unless that would be refused.
+/// The lines of these names, unless the status alone is asked for.
+fn lines_asked(
+    alloc: Global,
+    telling: Telling,
+    names: &[Name],
+    old: &OldConfig,
+    new: &Settings,
+) -> Result<Vec<u8>, AllocError>
+    ensures { IfOk result (λ text. text.items ≡ lines_asked telling (flat_map (difference_line old.now.texts new.now.entries) names.now)) }
+{
+    let mut text = Vec::new(alloc);
+    match telling {
+        Telling::Status => Ok(text),
+        Telling::Lines | Telling::LinesAndStatus => {
+            write_changes(names, old, new, &mut text)?;
+            Ok(text)
+        }
+    }
+}
+
+/// What these names come to: whether there is one, where that is asked for.
+fn difference_status(telling: Telling, names: &[Name]) -> Status
+    ensures status { code_of result ≡ difference_status telling names.now }
+    ensures done { telling ≡ Telling.Lines → result ≡ Done }
+{
+    match telling {
+        Telling::LinesAndStatus | Telling::Status if !names.is_empty() => Status::Stale,
+        _ => Status::Done,
+    }
+}
+
+/// The lines of unknown names, where so many are counted, unless the status alone is asked for.
+fn unknown_asked(
+    alloc: Global,
+    telling: Telling,
+    kconfig: &[u8],
+    dotconfig: &[u8],
+    unknown: u64,
+) -> Result<Option<Count>, SourceError>
+    ensures lines { unknown ≡ unknown_count (declared kconfig.now) (lines dotconfig.now)
+        → IfOk result (IsUnknown (lines_asked telling (unknown_lines kconfig.now dotconfig.now))) }
+    ensures refusal { IfErr result (λ e. IsRefusal SourceError.OutOfMemory e (kconfig_refusal kconfig.now)) }
+{
+    if unknown == 0 {
+        return Ok(None);
+    }
+    match telling {
+        Telling::Status => Ok(None),
+        Telling::Lines | Telling::LinesAndStatus => {
+            let lines = unknown_lines(alloc, kconfig, dotconfig)?;
+            Ok(Some(Count::Unknown(lines)))
+        }
+    }
+}
+
+/// What a synchronisation of a tree would touch, told, unless that would be refused.
 fn differences<T: Tree>(
     alloc: Global,
     tree: &mut T,
     kconfig: &[u8],
     dotconfig: &[u8],
-) -> Result<Vec<u8>, EngineError>
+    telling: Telling,
+) -> Result<Outcome, EngineError>
+    ensures done { telling ≡ Telling.Lines → IfOk result (λ o. o.status ≡ Done) }
     ensures reads { Reads T.Tree tree.old tree.new (IsErrOf result EngineError.Device) }
-    ensures told { T.is_honest → IfOk result (λ text. IsDiff (T.files tree.old) kconfig.now dotconfig.now text.items) }
+    ensures told { T.is_honest → IfOk result (λ o. IsDiff telling (T.files tree.old) kconfig.now dotconfig.now o.text.items (code_of o.status)
+        × IsUnknown (lines_asked telling (unknown_lines kconfig.now dotconfig.now)) o.count) }
     ensures refused { T.is_honest → IfErr result (λ e. IsGivenUp e ⊎ IsSyncPlan (T.files tree.old) kconfig.now dotconfig.now (Err e)) }
 {
     let planned = plan_sync(alloc, tree, kconfig, dotconfig)?;
-    let mut text = Vec::new(alloc);
-    write_changes(
-        &planned.report.touched,
-        &planned.old,
-        &planned.sources.settings,
-        &mut text,
-    )?;
-    Ok(text)
+    let names = &planned.report.touched;
+    let settings = &planned.sources.settings;
+    let text = lines_asked(alloc, telling, names, &planned.old, settings)?;
+    let status = difference_status(telling, names);
+    let count = unknown_asked(alloc, telling, kconfig, dotconfig, planned.report.unknown)?;
+    Ok(Outcome {
+        text,
+        status,
+        count,
+    })
 }
 
 /// Tells what a synchronisation with the files that two words name would touch.
@@ -157,17 +224,12 @@ pub(crate) fn tell_differences<T: Tree>(
     tree: &mut T,
     kconfig: &[u8],
     dotconfig: &[u8],
+    telling: Telling,
 ) -> Result<Outcome, Refusal>
-    ensures done { IfOk result (λ o. o.status ≡ Done) }
+    ensures done { telling ≡ Telling.Lines → IfOk result (λ o. o.status ≡ Done) }
     ensures reads { Reads T.Tree tree.old tree.new (result ≡ Err (Engine Device)) }
-    ensures told { T.is_honest → EndsDiff (T.files tree.old) kconfig.now dotconfig.now result }
+    ensures told { T.is_honest → EndsDiff telling (T.files tree.old) kconfig.now dotconfig.now result }
 {
     let texts = texts_at(alloc, tree, kconfig, dotconfig)?;
-    let text = differences(alloc, tree, &texts.kconfig, &texts.dotconfig)?;
-    let status = Status::Done;
-    Ok(Outcome {
-        text,
-        status,
-        count: None,
-    })
+    Ok(differences(alloc, tree, &texts.kconfig, &texts.dotconfig, telling)?)
 }

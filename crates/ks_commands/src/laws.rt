@@ -1,5 +1,5 @@
 //! Laws of the definitions, each the contract of a function that does nothing.
-ghost use Rattle.ks_commands.specs.Laws.{BatchTellsChanges, PreviewsArePerformed, ProgramsTellChanges, RefusalsChangeNothing, StatusesAreAtMostTwo};
+ghost use Rattle.ks_commands.specs.Laws.{BatchTellsChanges, PreviewsArePerformed, ProgramsTellChanges, RefusalsChangeNothing, StatusesAreAtMostTwo, StatusesTellDifferences};
 
 /// What is said of a preview as a caller has its words.
 pub fn previews_are_performed()
@@ -14,6 +14,11 @@ pub fn refusals_change_nothing()
 /// What the status can be, also on a tree that is not honest.
 pub fn statuses_are_at_most_two()
     ensures { StatusesAreAtMostTwo }
+{}
+
+/// What the status of `diff --exit-code` and `diff --quiet` says.
+pub fn statuses_tell_differences()
+    ensures { StatusesTellDifferences }
 {}
 
 /// A script that runs without a refusal tells what changed, where nothing was broken off before it.

@@ -17,12 +17,15 @@ ghost use Rattle.ks_requests.specs.Sites.{IsSiteLine, ending_site};
 ghost use Rattle.ks_commands.specs.Performed.{Continues, Counts, Ends, EndsFixdep, EndsPreview, Performs, by_files};
 
 use crate::batch::run_script;
-use crate::changes::{record_target, synchronise};
+use crate::changes::{record_rule, record_target, synchronise};
+use crate::cost::tell_cost;
 use crate::differences::tell_differences;
 use crate::fixdep::command_file_text;
-use crate::questions::{Question, ask_behind, ask_targets, outdated_target};
+use crate::questions::{ask_after, ask_targets, outdated_target};
+use crate::users::tell_users;
+use ks_engine::Question;
 use ks_requests::{
-    Outcome, Refusal, Request, Status, inputs_at, lent, lent_path, preview_of, print, refuse,
+    Outcome, Refusal, Request, borrowed, borrowed_path, inputs_at, preview_of, print, refuse,
     refuse_at, site_of,
 };
 use ks_streams::Stream;
@@ -44,14 +47,9 @@ fn preview<T: Tree>(
 {
     let inputs = inputs_at(alloc, tree, kconfig, dotconfig, old)?;
     let texts = &inputs.texts;
-    let old = lent(&inputs.old);
+    let old = borrowed(&inputs.old);
     let text = preview_of(alloc, &texts.kconfig, &texts.dotconfig, old)?;
-    let status = Status::Done;
-    Ok(Outcome {
-        text,
-        status,
-        count: None,
-    })
+    Ok(Outcome::done(text))
 }
 
 /// The command file of an object.
@@ -67,12 +65,7 @@ fn fixdep<T: Tree>(
     ensures told { T.is_honest → EndsFixdep (T.files tree.old) depfile.now target.now command.now result }
 {
     let text = command_file_text(alloc, tree, depfile, target, command)?;
-    let status = Status::Done;
-    Ok(Outcome {
-        text,
-        status,
-        count: None,
-    })
+    Ok(Outcome::done(text))
 }
 
 /// Does what was asked for, unless it is refused as a whole.
@@ -84,19 +77,29 @@ fn outcome<T: Tree>(alloc: Global, tree: &mut T, request: &Request) -> Result<Ou
     ensures counts { IfOk result (λ o. Counts T.is_honest (state T.Tree tree.old) request.now o.text.items (state T.Tree tree.new)) }
 {
     match request {
-        Request::Sync { kconfig, dotconfig } => {
-            synchronise(alloc, tree, kconfig.as_bytes(), dotconfig.as_bytes())
+        Request::Sync {
+            kconfig,
+            dotconfig,
+            stamps,
+        } => {
+            let (kconfig, dotconfig) = (kconfig.as_bytes(), dotconfig.as_bytes());
+            synchronise(alloc, tree, *stamps, kconfig, dotconfig)
         }
         Request::Preview {
             kconfig,
             dotconfig,
             old,
         } => {
-            let old = lent_path(old);
+            let old = borrowed_path(old);
             preview(alloc, tree, kconfig.as_bytes(), dotconfig.as_bytes(), old)
         }
-        Request::Diff { kconfig, dotconfig } => {
-            tell_differences(alloc, tree, kconfig.as_bytes(), dotconfig.as_bytes())
+        Request::Diff {
+            kconfig,
+            dotconfig,
+            telling,
+        } => {
+            let (kconfig, dotconfig) = (kconfig.as_bytes(), dotconfig.as_bytes());
+            tell_differences(alloc, tree, kconfig, dotconfig, *telling)
         }
         Request::Fixdep {
             depfile,
@@ -114,23 +117,39 @@ fn outcome<T: Tree>(alloc: Global, tree: &mut T, request: &Request) -> Result<Ou
             let (depfile, command) = (depfile.as_bytes(), command.as_bytes());
             record_target(alloc, tree, depfile, target.as_bytes(), command)
         }
-        Request::Stale { targets } => ask_targets(alloc, tree, &Question::Stale, targets),
-        Request::Why { targets } => ask_targets(alloc, tree, &Question::Why, targets),
+        Request::Depfile {
+            header,
+            depfile,
+            target,
+            command,
+        } => {
+            let (depfile, command) = (depfile.as_bytes(), command.as_bytes());
+            let header = borrowed_path(header);
+            record_rule(alloc, tree, header, depfile, target.as_bytes(), command)
+        }
+        Request::Stale { targets, form } => {
+            ask_targets(alloc, tree, Question::Stale, *form, targets)
+        }
+        Request::Why { targets, form } => ask_targets(alloc, tree, Question::Why, *form, targets),
         Request::Impact {
             kconfig,
             dotconfig,
             targets,
-        } => ask_behind(
+            form,
+        } => ask_after(
             alloc,
             tree,
             kconfig.as_bytes(),
             dotconfig.as_bytes(),
+            *form,
             targets,
         ),
         Request::Outdated { target, command } => {
             outdated_target(alloc, tree, target.as_bytes(), command.as_bytes())
         }
         Request::Batch { script } => run_script(alloc, tree, script.as_bytes()),
+        Request::Users { symbols, targets } => tell_users(alloc, tree, symbols, targets),
+        Request::Cost { top, targets } => tell_cost(alloc, tree, *top, targets),
     }
 }
 
@@ -146,8 +165,8 @@ pub fn perform<T: Tree, W: Write, E: Write>(
     // It ends with a text or a refusal: this is what it leaves, by the files and by histories, and what it prints; which
     // file a refusal is about stands on a line of its own.
     ensures { (ended : Ending) × Performs T.Tree tree.old tree.new request.now ended
-        × (behind : List ℕ) × IsSiteLine T.is_honest (T.files tree.new) (ending_site request.now ended) behind
-        × Printed behind ended (state_of W.Write out.old) (state_of W.Write out.new) (state_of E.Write err.old) (state_of E.Write err.new) result }
+        × (following : List ℕ) × IsSiteLine T.is_honest (T.files tree.new) (ending_site request.now ended) following
+        × Printed following ended (state_of W.Write out.old) (state_of W.Write out.new) (state_of E.Write err.old) (state_of E.Write err.new) result }
 {
     match outcome(alloc, tree, request) {
         Ok(outcome) => print(&outcome, out, err),

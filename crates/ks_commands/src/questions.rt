@@ -1,88 +1,115 @@
-//! The questions about objects: which of them are stale, why, and which would be behind a synchronisation; and whether one was
+//! The questions about objects: which of them are stale, why, and which would be after a synchronisation; and whether one was
 //! built by a command.
 //!
 //! A refused question is a line of the output, and the questions after it are still answered.
-ghost use Rattle.std.specs.Prelude.{◌≡◌, ◌++◌, ℕ, List, [], ◌∷◌, Err, IfOk, OnOk, length, map};
+ghost use Rattle.std.specs.Prelude.{◌≡◌, ◌⊎◌, ◌++◌, ℕ, List, [], ◌∷◌, Err, IfErr, IfOk, IsErrOf, OnOk, length, map, option_map};
+ghost use Rattle.ks_tree.specs.Files.{HasRisen};
 ghost use Rattle.ks_tree.specs.Frames.{Reads};
 ghost use Rattle.ks_engine.specs.FileRuns.{state};
 ghost use Rattle.ks_engine.specs.Memos.{IsMemoOf};
+ghost use Rattle.ks_engine.specs.Questions.{limit_of};
+ghost use Rattle.ks_engine.specs.Refusals.{IsGivenUp};
 ghost use Rattle.ks_engine.specs.declared.error.EngineError.TheVariants.{Device};
+ghost use Rattle.ks_engine.specs.declared.question.Limit.TheVariants.{First};
 ghost use Rattle.ks_requests.specs.declared.refusal.Refusal.TheVariants.{Engine};
-ghost use Rattle.ks_requests.specs.Replies.{answer_line, build_line, explanation_lines, verdict_line};
-ghost use Rattle.ks_requests.specs.Statuses.{code_of, explanation_status, status_unless_refused, verdict_status};
+ghost use Rattle.ks_requests.specs.JsonLines.{answer_in};
+ghost use Rattle.ks_requests.specs.Replies.{build_line};
+ghost use Rattle.ks_requests.specs.Statuses.{code_of, explanation_status, status_unless_refused};
 ghost use Rattle.ks_requests.specs.Targets.{targets_at};
-ghost use Rattle.ks_commands.specs.Performed.{AsksCounted, EndsAll, EndsImpact, EndsOutdated, TellsAll, TellsCounted, by_files};
-ghost use Rattle.ks_commands.specs.Questions.{all_counted, counted_of, counts_of, line_counted, tells_of};
+ghost use Rattle.ks_commands.specs.Performed.{AsksCounted, EndsAll, EndsImpact, EndsOutdated, Says, SaysLines, TellsAll, TellsCounted, by_files};
+ghost use Rattle.ks_commands.specs.Questions.{IsSpelled, LineCounted, counted_of, tells_of};
+ghost use Rattle.ks_commands.specs.Spelling.{IsLine, spelling_of, spelling_told};
 
-use ks_engine::{EngineError, Explanation, Impact, Memo, Verdict, explain_by, outdated, stale_by};
+use crate::spelling::{spelling_of, write_spelling};
+use ks_engine::{EngineError, Explanation, Impact, Memo, Question, ask, outdated};
 use ks_fixdep::Seed;
 use ks_requests::{
-    Count, Outcome, Refusal, Status, Targets, all_targets, build_status, lent, read_targets,
-    stale_of, texts_at, verdict_status, worse, write_build_line, write_explanation,
-    write_refused_target, write_verdict_line,
+    Count, Form, Outcome, Refusal, Status, Targets, all_targets, borrowed, build_status,
+    read_targets, stale_of, texts_at, worse, write_answer, write_build_line, write_json_answer,
+    write_refused_target,
 };
 use ks_tree::Tree;
 use std::alloc::{AllocError, Global};
 
-/// What is asked of each object.
-#[derive(Clone, Copy)]
-pub(crate) enum Question<'a> {
-    /// Whether it is stale.
-    Stale,
-    /// Whether it is, and all that speaks for it.
-    Why,
-    /// Whether it would be stale behind this synchronisation.
-    Behind(&'a Impact),
+/// An answer, and the other spelling under which the object stands, where that is told.
+#[derive(Drop)]
+pub(crate) struct Spelled {
+    answer: Result<Explanation, EngineError>,
+    spelling: Option<Vec<u8>>,
 }
 
-/// Writes the line of an answer.
-fn tell_verdict(
+/// Looks for another spelling, where lines are to tell one.
+fn told_spelling<T: Tree>(
+    alloc: Global,
+    tree: &mut T,
+    question: Question<'_>,
+    form: Form,
     target: &[u8],
-    answer: &Result<Verdict, EngineError>,
-    text: &mut Vec<u8>,
-) -> Result<Status, AllocError>
-    ensures line { OnOk result (text.new.items ≡ text.old.items ++ answer_line verdict_line target.now answer.now) }
-    ensures status { IfOk result (λ s. code_of s ≡ status_unless_refused verdict_status answer.now) }
+    answer: &Result<Explanation, EngineError>,
+) -> Result<Option<Vec<u8>>, EngineError>
+    ensures reads { Reads T.Tree tree.old tree.new (IsErrOf result EngineError.Device) }
+    ensures told { T.is_honest → IfOk result (λ s. let limit = limit_of question.entry in
+        spelling_told limit form (option_map (λ v. v.items) s) ≡ spelling_told limit form (spelling_of (T.files tree.old) target.now answer.now)) }
+    ensures line { IfOk result (λ s. IsLine (limit_of question.entry) form (option_map (λ v. v.items) s)) }
+    ensures given_up { T.is_honest → IfErr result (λ e. (question.entry ≡ Question.Why) × IsGivenUp e) }
 {
-    match answer {
-        Ok(verdict) => {
-            write_verdict_line(target, verdict, text)?;
-            Ok(verdict_status(verdict))
-        }
-        Err(error) => {
-            write_refused_target(target, error, text)?;
-            Ok(Status::Refused)
-        }
+    match question {
+        Question::Why => match form {
+            Form::Text => spelling_of(alloc, tree, target, answer),
+            Form::Json => Ok(None),
+        },
+        Question::Stale | Question::After(_) => Ok(None),
     }
 }
 
-/// Writes the lines of an answer with its causes.
-fn tell_explanation(
+/// An answer with another spelling, where lines are to tell one.
+fn with_spelling<T: Tree>(
+    alloc: Global,
+    tree: &mut T,
+    question: Question<'_>,
+    form: Form,
+    target: &[u8],
+    answer: Result<Explanation, EngineError>,
+) -> Spelled
+    ensures reads { Reads T.Tree tree.old tree.new ⊥ }
+    ensures told { T.is_honest → IsSpelled (T.files tree.old) question.entry form target.now answer result.answer (option_map (λ v. v.items) result.spelling) }
+    ensures line { IsLine (limit_of question.entry) form (option_map (λ v. v.items) result.spelling) }
+    ensures cause { result.answer ≡ Err EngineError.Device
+        → (answer ≡ Err EngineError.Device) ⊎ HasRisen (T.failures tree.old) (T.failures tree.new) }
+{
+    match told_spelling(alloc, tree, question, form, target, &answer) {
+        Ok(spelling) => Spelled { answer, spelling },
+        Err(error) => Spelled {
+            answer: Err(error),
+            spelling: None,
+        },
+    }
+}
+
+/// Writes an answer in a form.
+fn write_in(
+    form: Form,
+    question: Question<'_>,
     target: &[u8],
     answer: &Result<Explanation, EngineError>,
     text: &mut Vec<u8>,
 ) -> Result<Status, AllocError>
-    ensures lines { OnOk result (text.new.items ≡ text.old.items ++ answer_line explanation_lines target.now answer.now) }
+    ensures lines { OnOk result (text.new.items ≡ text.old.items ++ answer_in form (limit_of question.entry) target.now answer.now) }
     ensures status { IfOk result (λ s. code_of s ≡ status_unless_refused explanation_status answer.now) }
 {
-    match answer {
-        Ok(explanation) => {
-            write_explanation(target, explanation, text)?;
-            Ok(verdict_status(&explanation.verdict))
-        }
-        Err(error) => {
-            write_refused_target(target, error, text)?;
-            Ok(Status::Refused)
-        }
+    match form {
+        Form::Text => write_answer(question, target, answer, text),
+        Form::Json => write_json_answer(question, target, answer, text),
     }
 }
 
-/// Asks of an object, and writes its lines.
-fn ask<T: Tree>(
+/// Asks of an object, and writes what is told of it.
+fn ask_one<T: Tree>(
     alloc: Global,
     tree: &mut T,
     memo: &mut Memo,
-    question: &Question<'_>,
+    question: Question<'_>,
+    form: Form,
     target: &[u8],
     text: &mut Vec<u8>,
 ) -> Result<Status, AllocError>
@@ -90,32 +117,23 @@ fn ask<T: Tree>(
     ensures memo { T.is_honest → IsMemoOf (T.files tree.new) memo.new }
     ensures reads { Reads T.Tree tree.old tree.new ⊥ }
     ensures told { T.is_honest → IfOk result (λ status. (lines : List ℕ) × (text.new.items ≡ text.old.items ++ lines)
-        × tells_of (T.files tree.old) question.now target.now lines (code_of status)) }
+        × tells_of (T.files tree.old) form question.entry target.now lines (code_of status)) }
     ensures counted { OnOk result ((lines : List ℕ) × (text.new.items ≡ text.old.items ++ lines)
-        × line_counted question.now (T.failures tree.old) target.now lines (T.failures tree.new)) }
+        × LineCounted form question.entry (T.failures tree.old) target.now lines (T.failures tree.new)) }
 {
-    match question {
-        Question::Stale => {
-            let answer = stale_by(alloc, tree, memo, target);
-            tell_verdict(target, &answer, text)
-        }
-        Question::Why => {
-            let answer = explain_by(alloc, tree, memo, target);
-            tell_explanation(target, &answer, text)
-        }
-        Question::Behind(impact) => {
-            let answer = impact.stale_by(alloc, tree, memo, target);
-            tell_verdict(target, &answer, text)
-        }
-    }
+    let answer = ask(alloc, tree, memo, question, target);
+    let told = with_spelling(alloc, tree, question, form, target, answer);
+    let status = write_in(form, question, target, &told.answer, text)?;
+    write_spelling(&told.spelling, text)?;
+    Ok(status)
 }
 
 /// The count of stale objects, where the question is for one.
-fn count_for(question: &Question<'_>, stale: usize, all: usize) -> Option<Count>
-    ensures { result ≡ counted_of question.now stale all }
+fn count_for(question: Question<'_>, stale: usize, all: usize) -> Option<Count>
+    ensures { result ≡ counted_of question.entry stale all }
 {
     match question {
-        Question::Behind(_) => Some(Count { stale, all }),
+        Question::After(_) => Some(Count::Stale { stale, all }),
         Question::Stale | Question::Why => None,
     }
 }
@@ -124,22 +142,23 @@ fn count_for(question: &Question<'_>, stale: usize, all: usize) -> Option<Count>
 fn ask_all<T: Tree>(
     alloc: Global,
     tree: &mut T,
-    question: &Question<'_>,
+    question: Question<'_>,
+    form: Form,
     targets: &[&[u8]],
 ) -> Result<Outcome, AllocError>
     ensures reads { Reads T.Tree tree.old tree.new ⊥ }
     ensures told { T.is_honest → IfOk result (λ o. (stale : ℕ)
-        × TellsAll (tells_of (T.files tree.old) question.now) (map (λ t. t.now) targets.now) o.text.items (code_of o.status) stale
-        × (o.count ≡ counted_of question.now stale (length (map (λ t. t.now) targets.now)))) }
+        × TellsAll (tells_of (T.files tree.old) form question.entry) (map (λ t. t.now) targets.now) o.text.items (code_of o.status) stale
+        × (o.count ≡ counted_of question.entry stale (length (map (λ t. t.now) targets.now)))) }
     ensures counted { IfOk result (λ o.
-        all_counted question.now (T.failures tree.old) (map (λ t. t.now) targets.now) o.text.items (T.failures tree.new)) }
+        TellsCounted (Says form (limit_of question.entry)) (T.failures tree.old) (map (λ t. t.now) targets.now) o.text.items (T.failures tree.new)) }
 {
     let mut text = Vec::new(alloc);
     let mut memo = Memo::with_seed(alloc, Seed::new(tree.seed()));
     let mut status = Status::Done;
     let mut stale = 0;
     for target in targets {
-        let answered = ask(alloc, tree, &mut memo, question, *target, &mut text)?;
+        let answered = ask_one(alloc, tree, &mut memo, question, form, *target, &mut text)?;
         status = worse(status, answered);
         stale += stale_of(answered);
     }
@@ -155,36 +174,39 @@ fn ask_all<T: Tree>(
 pub(crate) fn ask_targets<T: Tree>(
     alloc: Global,
     tree: &mut T,
-    question: &Question<'_>,
+    question: Question<'_>,
+    form: Form,
     targets: &Targets,
 ) -> Result<Outcome, Refusal>
     ensures reads { Reads T.Tree tree.old tree.new (result ≡ Err (Engine Device)) }
-    ensures told { T.is_honest → EndsAll (tells_of (T.files tree.old) question.now) (counted_of question.now)
+    ensures told { T.is_honest → EndsAll (tells_of (T.files tree.old) form question.entry) (counted_of question.entry)
         (targets_at (T.files tree.old) targets.now) result }
-    ensures counts { IfOk result (λ o. counts_of question.now T.is_honest (state T.Tree tree.old) targets.now o.text.items (state T.Tree tree.new)) }
+    ensures counts { IfOk result (λ o.
+        AsksCounted form (limit_of question.entry) T.is_honest (state T.Tree tree.old) targets.now o.text.items (state T.Tree tree.new)) }
 {
     let text = read_targets(alloc, tree, targets)?;
-    let targets = all_targets(alloc, targets, lent(&text))?;
-    Ok(ask_all(alloc, tree, question, &targets)?)
+    let targets = all_targets(alloc, targets, borrowed(&text))?;
+    Ok(ask_all(alloc, tree, question, form, &targets)?)
 }
 
-/// Asks of each object whether it would be stale behind a synchronisation with the files that two words name.
-pub(crate) fn ask_behind<T: Tree>(
+/// Asks of each object whether it would be stale after a synchronisation with the files that two words name.
+pub(crate) fn ask_after<T: Tree>(
     alloc: Global,
     tree: &mut T,
     kconfig: &[u8],
     dotconfig: &[u8],
+    form: Form,
     targets: &Targets,
 ) -> Result<Outcome, Refusal>
     ensures reads { Reads T.Tree tree.old tree.new (result ≡ Err (Engine Device)) }
     ensures told { T.is_honest → EndsImpact (T.files tree.old) (by_files (state T.Tree tree.old) (state T.Tree tree.new))
-        kconfig.now dotconfig.now (targets_at (T.files tree.old) targets.now) result }
+        kconfig.now dotconfig.now form (targets_at (T.files tree.old) targets.now) result }
     ensures counts { IfOk result (λ o.
-        AsksCounted verdict_line T.is_honest (state T.Tree tree.old) targets.now o.text.items (state T.Tree tree.new)) }
+        AsksCounted form First T.is_honest (state T.Tree tree.old) targets.now o.text.items (state T.Tree tree.new)) }
 {
     let texts = texts_at(alloc, tree, kconfig, dotconfig)?;
     let impact = Impact::of(alloc, tree, &texts.kconfig, &texts.dotconfig)?;
-    ask_targets(alloc, tree, &Question::Behind(&impact), targets)
+    ask_targets(alloc, tree, Question::After(&impact), form, targets)
 }
 
 /// Asks whether an object was built by another command, or else whether it is stale.
@@ -197,7 +219,7 @@ pub(crate) fn outdated_target<T: Tree>(
     ensures reads { Reads T.Tree tree.old tree.new ⊥ }
     ensures told { T.is_honest → EndsOutdated (by_files (state T.Tree tree.old) (state T.Tree tree.new)) target.now command.now result }
     ensures counted { IfOk result (λ o.
-        TellsCounted build_line (T.failures tree.old) (target.now ∷ []) o.text.items (T.failures tree.new)) }
+        TellsCounted (SaysLines build_line) (T.failures tree.old) (target.now ∷ []) o.text.items (T.failures tree.new)) }
     ensures no_device { result ≡ Err (Engine Device) → ⊥ }
 {
     let answer = outdated(alloc, tree, target, command);
@@ -212,9 +234,5 @@ pub(crate) fn outdated_target<T: Tree>(
             Status::Refused
         }
     };
-    Ok(Outcome {
-        text,
-        status,
-        count: None,
-    })
+    Ok(Outcome::of(text, status))
 }

@@ -1,9 +1,5 @@
-use Rattle.std.proofs.Common.{◌≡◌, [], ◌∷◌, sym, ◌∙◌, ◌+◌, ap, subst, map, drop, take}
-use Rattle.std.proofs.lemmas.List.{map-append}
-use Rattle.ks_engine.specs.Actions.{action}
-use Rattle.ks_script.specs.Script.{seen_line}
-use Rattle.ks_commands.specs.Scripts.{actions_at, line_of, without_files}
-use Rattle.ks_commands.proofs.Loading.{actions_next, behind, spelled_next}
+use Rattle.ks_commands.proofs.Prelude.{◌≡◌, [], ◌∷◌, sym, ◌∙◌, ◌+◌, ap, subst, map, drop, take, map-append, action, seen_line, actions_at, line_of, without_files}
+use Rattle.ks_commands.proofs.Loading.{actions_next, following, spelled_next}
 use Rattle.ks_commands.proofs.batch.commands.Goals as goal
 
 pub loop-line-preserved : goal.loop-line-preserved
@@ -19,7 +15,7 @@ loop-line-preserved c =
           c.loop-line.invariant.spelled);
       given = λ files given.
           let all = actions_at files (map seen_line xs) in
-          subst (λ l. behind l (actions_at files (map seen_line (drop (i + 1) xs))) ≡ all) (sym more)
+          subst (λ l. following l (actions_at files (map seen_line (drop (i + 1) xs))) ≡ all) (sym more)
           (actions_next files seen_line xs i _ (map action before) (action c.command.result) all c.loop-line-test.true
           (c.command.ensures.given files given) (c.loop-line.invariant.given files given));
     }

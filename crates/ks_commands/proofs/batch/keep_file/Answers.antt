@@ -1,5 +1,4 @@
-use Rattle.std.proofs.Common.{◌∙◌, ap, rules, ◌≡◌}
-use Rattle.ks_requests.specs.Inputs.{given}
+use Rattle.ks_commands.proofs.Prelude.{◌∙◌, ap, rules, ◌≡◌, given}
 use Rattle.ks_commands.proofs.Loading.{given_more}
 use Rattle.ks_commands.proofs.batch.keep_file.Goals as goal
 

@@ -1,8 +1,5 @@
-use Rattle.std.proofs.Common.{[], ◌∷◌, ◌++◌, refl, ◌∙◌, subst, arith}
-use Rattle.std.specs.List.{All}
+use Rattle.ks_commands.proofs.Prelude.{[], ◌∷◌, ◌++◌, refl, ◌∙◌, subst, arith, All, seen_line, AreGiven, AreKept}
 use Rattle.std.proofs.lemmas.List.{take_all}
-use Rattle.ks_script.specs.Script.{seen_line}
-use Rattle.ks_commands.specs.Kept.{AreGiven, AreKept}
 use Rattle.ks_commands.proofs.Loading.{actions_begin, actions_next, kept_action, kept_next, none_kept}
 use Rattle.ks_commands.proofs.batch.named_files.Goals as goal
 

@@ -1,10 +1,4 @@
-use Rattle.std.proofs.Common.{◌∙◌, inr, ap, map}
-use Rattle.std.proofs.lemmas.Result.{err_from_is_err_and}
-use Rattle.ks_engine.specs.Actions.{action}
-use Rattle.ks_engine.specs.FileRuns.{state}
-use Rattle.ks_engine.proofs.FileRunning.{on_honest}
-use Rattle.ks_requests.specs.Replies.{reply_lines}
-use Rattle.ks_requests.specs.Statuses.{reply_status, worst}
+use Rattle.ks_commands.proofs.Prelude.{◌∙◌, inr, ap, map, err_from_is_err_and, action, state, on_honest, reply_lines, reply_status, worst}
 use Rattle.ks_commands.proofs.batch.run_commands.Goals as goal
 
 pub returns-in_err-tell_replies-clause-files : goal.returns-in_err-tell_replies-clause-files

@@ -1,13 +1,4 @@
-use Rattle.std.proofs.Common.{inl, inr, Ok, Err, sym, ap, ◌∙◌, ◌≤◌, subst, map, refl, arith}
-use Rattle.std.specs.Bool.{⊤}
-use Rattle.std.proofs.lemmas.Result.{err_from_is_err_and}
-use Rattle.ks_engine.specs.Actions.{action}
-use Rattle.ks_engine.specs.FileRuns.{state}
-use Rattle.ks_engine.specs.Follows.{at}
-use Rattle.ks_engine.specs.Shows.{Shows}
-use Rattle.ks_requests.specs.declared.refusal.Refusal.TheVariants.{Engine}
-use Rattle.ks_commands.specs.Performed.{Runs, RunsOn}
-use Rattle.ks_commands.specs.Scripts.{of_engine, without_files}
+use Rattle.ks_commands.proofs.Prelude.{inl, inr, Ok, Err, sym, ap, ◌∙◌, ◌≤◌, subst, map, refl, arith, ⊤, err_from_is_err_and, action, state, at, Shows, Engine, Runs, RunsOn, of_engine, without_files}
 use Rattle.ks_commands.proofs.Continuing.{file_run_follows, run_follows, runs_all, script_missing, script_stopped, script_there}
 use Rattle.ks_commands.proofs.Counting.{script_counted}
 use Rattle.ks_commands.proofs.batch.run_script.Goals as goal

@@ -1,5 +1,4 @@
-use Rattle.std.proofs.Common.{Err, ap, ◌∙◌}
-use Rattle.std.proofs.lemmas.Result.{err_from_is_err_and}
+use Rattle.ks_commands.proofs.Prelude.{Err, ap, ◌∙◌, err_from_is_err_and}
 use Rattle.ks_commands.proofs.changes.record_target.Goals as goal
 
 pub returns-in_err-recorded-clause-goes_on : goal.returns-in_err-recorded-clause-goes_on

@@ -1,8 +1,4 @@
-use Rattle.std.proofs.Common.{inr, Ok, Err, sym, ap, ◌∙◌, subst}
-use Rattle.std.proofs.lemmas.Result.{err_from_is_err_and}
-use Rattle.ks_engine.specs.Follows.{at}
-use Rattle.ks_engine.specs.Shows.{Shows}
-use Rattle.ks_requests.specs.Views.{seen_texts}
+use Rattle.ks_commands.proofs.Prelude.{inr, Ok, Err, sym, ap, ◌∙◌, subst, err_from_is_err_and, at, Shows, seen_texts}
 use Rattle.ks_commands.proofs.Continuing.{sync_follows, sync_leaves}
 use Rattle.ks_commands.proofs.changes.synchronise.Goals as goal
 
@@ -14,8 +10,8 @@ returns-in_err-report-clause-files g c = λ honest.
       seen_texts c.in_ok-texts.texts,
       c.in_ok-texts.ensures.texts honest,
       Err e,
-      sync_leaves _ _ _ _ _ _ _ (Err e) (c.in_ok-texts.ensures.reads.unchanged honest) c.deref.ensures.value c.deref-2.ensures.value
-          (c.in_err-report.ensures.refused honest),
+      sync_leaves _ _ _ c.args.stamps _ _ _ _ (Err e) (c.in_ok-texts.ensures.reads.unchanged honest) c.deref.ensures.value c.deref-2.ensures.value
+          (c.in_err-report.ensures.files honest),
       p.1 ∙ ap (λ r. Err r) p.2,
     )
 
@@ -31,7 +27,7 @@ returns-in_err-report-clause-goes_on g c = λ honest h shows.
         seen_texts c.in_ok-texts.texts,
         c.in_ok-texts.ensures.texts honest,
         Err e,
-        sync_follows _ _ (failures c.args.tree.now) (failures c.texts_at.new.tree) h _ _ _ _ (Err e) (at _ (failures c.sync.new.tree) next.0) same
+        sync_follows _ _ (failures c.args.tree.now) (failures c.texts_at.new.tree) h c.args.stamps _ _ _ _ (Err e) (at _ (failures c.sync_with.new.tree) next.0) same
             c.deref.ensures.value c.deref-2.ensures.value next.1,
         p.1 ∙ ap (λ r. Err r) p.2,
       ),
@@ -48,7 +44,7 @@ returns-in_err-tell_report-clause-goes_on g c = λ honest h shows.
         seen_texts c.in_ok-texts.texts,
         c.in_ok-texts.ensures.texts honest,
         Ok c.in_ok-report.report,
-        sync_follows _ _ _ _ h _ _ _ _ (Ok c.in_ok-report.report) _ same c.deref.ensures.value c.deref-2.ensures.value next.1,
+        sync_follows _ _ _ _ h c.args.stamps _ _ _ _ (Ok c.in_ok-report.report) _ same c.deref.ensures.value c.deref-2.ensures.value next.1,
         rw p.1 p.2,
       ),
       next.2,
@@ -63,7 +59,7 @@ returns-clause-goes_on g c = λ honest h shows.
         seen_texts c.in_ok-texts.texts,
         c.in_ok-texts.ensures.texts honest,
         Ok c.in_ok-report.report,
-        sync_follows _ _ _ _ h _ _ _ _ (Ok c.in_ok-report.report) _ same c.deref.ensures.value c.deref-2.ensures.value next.1,
+        sync_follows _ _ _ _ h c.args.stamps _ _ _ _ (Ok c.in_ok-report.report) _ same c.deref.ensures.value c.deref-2.ensures.value next.1,
         c.in_ok-tell_report.ensures,
       ),
       next.2,

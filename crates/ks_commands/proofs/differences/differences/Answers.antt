@@ -1,7 +1,5 @@
-use Rattle.std.proofs.Common.{ℕ, List, ◌++◌, ◌∙◌, ap, ap₂, flat_map}
-use Rattle.ks_symbols.specs.Configuration.{Configuration}
-use Rattle.ks_output.specs.OldConfig.{Texts}
-use Rattle.ks_commands.specs.Differences.{difference_line}
+use Rattle.ks_commands.proofs.Prelude.{ℕ, List, ◌∙◌, inl, ap, ap₂, flat_map, err_from_is_err_and, Configuration, Texts, difference_line, difference_status, lines_asked}
+use Rattle.ks_commands.proofs.Unknowns.{for_memory, plan_counts}
 use Rattle.ks_commands.proofs.differences.differences.Goals as goal
 
 pub returns-clause-told : goal.returns-clause-told
@@ -9,15 +7,26 @@ returns-clause-told g c = λ honest.
     let planned = c.in_ok-planned.ensures.planned honest in
     let read = c.in_ok-planned.planned in
     let names = read.report.touched.items in
-    let lines : Texts → Configuration → List (List ℕ) → List ℕ = λ old new. flat_map (difference_line old new) in (
-      planned.0,
-      planned.1,
-      record {
-        names = names;
-        changed = planned.2.report.changed.are;
-        lines = c.in_ok-write_changes.ensures
-            ∙ ap (λ t. t ++ lines read.old.texts read.sources.settings.entries c.deref.result.now) c.new-text.ensures.items
-            ∙ ap (lines read.old.texts read.sources.settings.entries) c.deref.ensures.value
-            ∙ ap₂ (λ old new. lines old new names) planned.2.old planned.2.config;
-      },
+    let lines : Texts → Configuration → List (List ℕ) → List ℕ = λ old new names. lines_asked c.args.telling (flat_map (difference_line old new) names) in (
+      (
+        planned.0,
+        planned.1,
+        record {
+          names = names;
+          changed = planned.2.report.changed.are;
+          lines = c.in_ok-text.ensures
+              ∙ ap (lines read.old.texts read.sources.settings.entries) c.deref.ensures.value
+              ∙ ap₂ (λ old new. lines old new names) planned.2.old planned.2.config;
+          status_of = c.difference_status-status.ensures.status ∙ ap (difference_status c.args.telling) c.deref-2.ensures.value;
+        },
+      ),
+      c.in_ok-count.ensures.lines (planned.2.report.unknown
+          ∙ plan_counts (g.T.Tree.files c.args.tree.now) c.args.kconfig.now c.args.dotconfig.now planned.0 planned.1),
     )
+
+pub returns-in_err-count-clause-refused : goal.returns-in_err-count-clause-refused
+returns-in_err-count-clause-refused g c = λ honest.
+    let planned = c.in_ok-planned.ensures.planned honest in
+    let p = err_from_is_err_and c.from_residual-in_err-count.result c.from_residual-in_err-count.ensures.1 in
+    rw (p.1, p.2) (inl (for_memory (g.T.Tree.files c.args.tree.now) c.args.kconfig.now c.args.dotconfig.now planned.0 c.in_err-count.field-0.0 planned.1
+    c.in_err-count.ensures.refusal))

@@ -1,18 +1,17 @@
-use Rattle.std.proofs.Common.{inl, inr, Err, ap, refl, ◌∙◌}
-use Rattle.std.proofs.lemmas.Result.{err_from_is_err_and}
-use Rattle.ks_requests.specs.Views.{seen_texts}
+use Rattle.ks_commands.proofs.Prelude.{inl, inr, Err, ap, ◌∙◌, err_from_is_err_and, seen_texts}
+use Rattle.ks_commands.proofs.Differing.{told_of}
 use Rattle.ks_commands.proofs.differences.tell_differences.Goals as goal
 
-pub returns-in_err-text-clause-told : goal.returns-in_err-text-clause-told
-returns-in_err-text-clause-told g c = λ honest.
-    let p = err_from_is_err_and c.from_residual-in_err-text.result c.from_residual-in_err-text.ensures.1 in
+pub returns-in_err-differences-clause-told : goal.returns-in_err-differences-clause-told
+returns-in_err-differences-clause-told g c = λ honest.
+    let p = err_from_is_err_and c.from_residual-in_err-differences.result c.from_residual-in_err-differences.ensures.1 in
     let same = c.in_ok-texts.ensures.reads.unchanged honest in
     inr (
       seen_texts c.in_ok-texts.texts,
       c.in_ok-texts.ensures.texts honest,
       inr (
-        c.in_err-text.field-0.0,
-        rw (← c.deref.ensures.value, ← c.deref-2.ensures.value, ← same) (c.in_err-text.ensures.refused honest),
+        c.in_err-differences.field-0.0,
+        rw (← c.deref.ensures.value, ← c.deref-2.ensures.value, ← same) (c.in_err-differences.ensures.refused honest),
         p.1 ∙ ap (λ r. Err r) p.2,
       ),
     )
@@ -20,12 +19,10 @@ returns-in_err-text-clause-told g c = λ honest.
 pub returns-clause-told : goal.returns-clause-told
 returns-clause-told g c = λ honest.
     let same = c.in_ok-texts.ensures.reads.unchanged honest in
+    let texts = seen_texts c.in_ok-texts.texts in
     inr (
-      seen_texts c.in_ok-texts.texts,
+      texts,
       c.in_ok-texts.ensures.texts honest,
-      inl (
-        c.in_ok-text.text.items,
-        rw (← c.deref.ensures.value, ← c.deref-2.ensures.value, ← same) (c.in_ok-text.ensures.told honest),
-        (refl, refl, refl),
-      ),
+      inl (told_of c.args.telling (g.T.Tree.files c.args.tree.now) texts.kconfig texts.dotconfig c.in_ok-differences.field-0
+          (rw (← c.deref.ensures.value, ← c.deref-2.ensures.value, ← same) (c.in_ok-differences.ensures.told honest))),
     )

@@ -1,5 +1,4 @@
-use Rattle.std.proofs.Common.{◌≡◌, ◌++◌, flat_map, take}
-use Rattle.ks_commands.specs.Differences.{difference_line}
+use Rattle.ks_commands.proofs.Prelude.{◌≡◌, ◌++◌, flat_map, take, difference_line}
 use Rattle.ks_commands.proofs.differences.write_changes.Given as goal
 
 abbrev pub invariant-loop-name : goal.invariant-loop-name

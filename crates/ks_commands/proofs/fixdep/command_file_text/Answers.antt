@@ -1,8 +1,4 @@
-use Rattle.std.proofs.Common.{◌≡◌, Ok, sym, ap, subst}
-use Rattle.ks_fixdep.specs.SourceScan.{names_by}
-use Rattle.ks_engine.specs.Recording.{scanned_all}
-use Rattle.ks_engine.proofs.Drafting.{depfile_listed}
-use Rattle.ks_commands.specs.Fixdep.{command_file_at}
+use Rattle.ks_commands.proofs.Prelude.{◌≡◌, Ok, inl, sym, ap, subst, err_from_is_err_and, names_by, scanned_all, depfile_listed, command_file_at}
 use Rattle.ks_commands.proofs.fixdep.command_file_text.Goals as goal
 
 pub returns-clause-text : goal.returns-clause-text
@@ -14,3 +10,9 @@ returns-clause-text g c = λ honest.
     let scanned = subst (λ f. scanned_all f ps ≡ Ok (names_by c.in_ok-found.found)) (c.in_ok-text.ensures.reads.unchanged honest)
     (c.in_ok-found.ensures.names honest) in
     rw (sym c.in_ok-check_words.ensures.words, c.in_ok-text.ensures.bytes honest, sym c.deref.ensures.value, listed, scanned) (ap (λ t. Ok t) (sym c.in_ok-lines.ensures.text))
+
+-- want of memory for the lines
+pub returns-in_err-lines-clause-text : goal.returns-in_err-lines-clause-text
+returns-in_err-lines-clause-text g c = λ honest.
+    let p = err_from_is_err_and c.from_residual-in_err-lines.result c.from_residual-in_err-lines.ensures.1 in
+    rw (p.1, p.2) (inl tt)

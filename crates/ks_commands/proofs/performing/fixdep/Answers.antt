@@ -1,5 +1,4 @@
-use Rattle.std.proofs.Common.{Err, Ok, ap, refl, ◌∙◌}
-use Rattle.std.proofs.lemmas.Result.{err_from_is_err_and}
+use Rattle.ks_commands.proofs.Prelude.{Err, Ok, ap, ◌∙◌, code_of, err_from_is_err_and}
 use Rattle.ks_commands.proofs.performing.fixdep.Goals as goal
 
 pub returns-in_err-text-clause-told : goal.returns-in_err-text-clause-told
@@ -8,4 +7,4 @@ returns-in_err-text-clause-told g c = λ honest.
     (Err c.in_err-text.field-0.0, c.in_err-text.ensures.text honest, p.1 ∙ ap (λ r. Err r) p.2)
 
 pub returns-clause-told : goal.returns-clause-told
-returns-clause-told g c = λ honest. (Ok c.in_ok-text.text.items, c.in_ok-text.ensures.text honest, (refl, refl, refl))
+returns-clause-told g c = λ honest. (Ok c.in_ok-text.text.items, c.in_ok-text.ensures.text honest, (ap (λ v. v.items) c.done.ensures.text, ap code_of c.done.ensures.status, c.done.ensures.count))

@@ -1,6 +1,4 @@
-use Rattle.std.proofs.Common.{refl, sym, subst}
-use Rattle.ks_engine.specs.FileRuns.{state}
-use Rattle.ks_engine.specs.Shows.{Shows}
+use Rattle.ks_commands.proofs.Prelude.{refl, sym, subst, state, Shows}
 use Rattle.ks_commands.proofs.Counting.{if_ok}
 use Rattle.ks_commands.proofs.Continuing.{impact_follows, stale_follows, why_follows}
 use Rattle.ks_commands.proofs.performing.outcome.Goals as goal
@@ -8,7 +6,20 @@ use Rattle.ks_commands.proofs.performing.outcome.Goals as goal
 pub returns-in-Sync-clause-goes_on : goal.returns-in-Sync-clause-goes_on
 returns-in-Sync-clause-goes_on g c = λ honest h shows.
     let next = c.synchronise.ensures.goes_on honest h shows in
-    (next.0, rw (c.in-Sync.is, ← c.as_bytes.ensures.value, ← c.as_bytes-in-Sync.ensures.value) next.1, next.2)
+    (next.0, rw (c.in-Sync.is, ← c.as_bytes-kconfig.ensures.value, ← c.as_bytes-dotconfig.ensures.value) next.1, next.2)
+
+pub returns-in-Diff-clause-files : goal.returns-in-Diff-clause-files
+returns-in-Diff-clause-files g c = λ honest.
+    rw (c.in-Diff.is, ← c.as_bytes-kconfig-in-Diff.ensures.value, ← c.as_bytes-dotconfig-in-Diff.ensures.value)
+    (c.tell_differences.ensures.reads.unchanged honest, c.tell_differences.ensures.told honest)
+
+pub returns-in-Diff-clause-goes_on : goal.returns-in-Diff-clause-goes_on
+returns-in-Diff-clause-goes_on g c = λ honest h shows.
+    let same = c.tell_differences.ensures.reads.unchanged honest in (
+      h,
+      rw (c.in-Diff.is, ← c.as_bytes-kconfig-in-Diff.ensures.value, ← c.as_bytes-dotconfig-in-Diff.ensures.value) ((same, refl), c.tell_differences.ensures.told honest),
+      subst (λ f. Shows f h) (sym same) shows,
+    )
 
 pub returns-in-Stale-clause-files : goal.returns-in-Stale-clause-files
 returns-in-Stale-clause-files g c = λ honest.
@@ -18,7 +29,7 @@ pub returns-in-Stale-clause-goes_on : goal.returns-in-Stale-clause-goes_on
 returns-in-Stale-clause-goes_on g c = λ honest h shows.
     let same = c.ask_targets.ensures.reads.unchanged honest in (
       h,
-      rw c.in-Stale.is ((same, refl), stale_follows (state g.T.Tree c.args.tree.now) (state g.T.Tree c.ask_targets.new.tree) h _ _ same shows (c.ask_targets.ensures.told honest)),
+      rw c.in-Stale.is ((same, refl), stale_follows (state g.T.Tree c.args.tree.now) (state g.T.Tree c.ask_targets.new.tree) h _ _ _ same shows (c.ask_targets.ensures.told honest)),
       subst (λ f. Shows f h) (sym same) shows,
     )
 
@@ -30,21 +41,21 @@ pub returns-in-Why-clause-goes_on : goal.returns-in-Why-clause-goes_on
 returns-in-Why-clause-goes_on g c = λ honest h shows.
     let same = c.ask_targets-in-Why.ensures.reads.unchanged honest in (
       h,
-      rw c.in-Why.is ((same, refl), why_follows (state g.T.Tree c.args.tree.now) (state g.T.Tree c.ask_targets-in-Why.new.tree) h _ _ same shows (c.ask_targets-in-Why.ensures.told honest)),
+      rw c.in-Why.is ((same, refl), why_follows (state g.T.Tree c.args.tree.now) (state g.T.Tree c.ask_targets-in-Why.new.tree) h _ _ _ same shows (c.ask_targets-in-Why.ensures.told honest)),
       subst (λ f. Shows f h) (sym same) shows,
     )
 
 pub returns-in-Impact-clause-files : goal.returns-in-Impact-clause-files
 returns-in-Impact-clause-files g c = λ honest.
     rw (c.in-Impact.is, ← c.as_bytes-in-Impact.ensures.value, ← c.as_bytes-in-Impact-2.ensures.value)
-    (c.ask_behind.ensures.reads.unchanged honest, c.ask_behind.ensures.told honest)
+    (c.ask_after.ensures.reads.unchanged honest, c.ask_after.ensures.told honest)
 
 pub returns-in-Impact-clause-goes_on : goal.returns-in-Impact-clause-goes_on
 returns-in-Impact-clause-goes_on g c = λ honest h shows.
-    let same = c.ask_behind.ensures.reads.unchanged honest in (
+    let same = c.ask_after.ensures.reads.unchanged honest in (
       h,
       rw (c.in-Impact.is, ← c.as_bytes-in-Impact.ensures.value, ← c.as_bytes-in-Impact-2.ensures.value)
-          ((same, refl), impact_follows (state g.T.Tree c.args.tree.now) (state g.T.Tree c.ask_behind.new.tree) h _ _ _ _ same shows (c.ask_behind.ensures.told honest)),
+          ((same, refl), impact_follows (state g.T.Tree c.args.tree.now) (state g.T.Tree c.ask_after.new.tree) h _ _ _ _ _ same shows (c.ask_after.ensures.told honest)),
       subst (λ f. Shows f h) (sym same) shows,
     )
 
@@ -68,6 +79,9 @@ returns-in-Fixdep-clause-counts g c = rw c.in-Fixdep.is (if_ok c.fixdep.result _
 pub returns-in-Record-clause-counts : goal.returns-in-Record-clause-counts
 returns-in-Record-clause-counts g c = rw c.in-Record.is (if_ok c.record_target.result _ (λ o. tt))
 
+pub returns-in-Depfile-clause-counts : goal.returns-in-Depfile-clause-counts
+returns-in-Depfile-clause-counts g c = rw c.in-Depfile.is (if_ok c.record_rule.result _ (λ o. tt))
+
 pub returns-in-Stale-clause-counts : goal.returns-in-Stale-clause-counts
 returns-in-Stale-clause-counts g c = rw c.in-Stale.is c.ask_targets.ensures.counts
 
@@ -75,7 +89,7 @@ pub returns-in-Why-clause-counts : goal.returns-in-Why-clause-counts
 returns-in-Why-clause-counts g c = rw c.in-Why.is c.ask_targets-in-Why.ensures.counts
 
 pub returns-in-Impact-clause-counts : goal.returns-in-Impact-clause-counts
-returns-in-Impact-clause-counts g c = rw c.in-Impact.is c.ask_behind.ensures.counts
+returns-in-Impact-clause-counts g c = rw c.in-Impact.is c.ask_after.ensures.counts
 
 pub returns-in-Outdated-clause-counts : goal.returns-in-Outdated-clause-counts
 returns-in-Outdated-clause-counts g c = rw (c.in-Outdated.is, ← c.as_bytes-in-Outdated.ensures.value) c.outdated_target.ensures.counted

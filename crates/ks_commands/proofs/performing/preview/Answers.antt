@@ -1,6 +1,4 @@
-use Rattle.std.proofs.Common.{inr, Err, ap, ◌∙◌}
-use Rattle.std.proofs.lemmas.Result.{err_from_is_err_and}
-use Rattle.ks_requests.specs.Views.{seen_inputs}
+use Rattle.ks_commands.proofs.Prelude.{inr, Err, ap, ◌∙◌, err_from_is_err_and, seen_inputs}
 use Rattle.ks_commands.proofs.performing.preview.Goals as goal
 
 pub returns-in_err-text-clause-told : goal.returns-in_err-text-clause-told
@@ -14,7 +12,7 @@ returns-in_err-text-clause-told g c = λ honest.
       inr (
         e,
         λ same. c.in_err-text.ensures.no_output (ap (λ e. Err e) same),
-        rw (← c.deref.ensures.value, ← c.deref-2.ensures.value, ← c.lent-old.ensures) c.in_err-text.ensures.refusal,
+        rw (← c.deref.ensures.value, ← c.deref-2.ensures.value, ← c.borrowed-old.ensures) c.in_err-text.ensures.refusal,
         p.1 ∙ ap (λ r. Err r) p.2,
       ),
     )

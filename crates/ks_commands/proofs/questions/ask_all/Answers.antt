@@ -1,10 +1,6 @@
-use Rattle.std.proofs.Common.{◌∙◌, ◌+◌, ◌++◌, ◌∷◌, ap, arith, max, ℕ, List, [], Bor, get_or, sym, subst, subst₂, map, take, take_all, refl, rules}
-use Rattle.std.proofs.lemmas.List.{length-map}
-use Rattle.ks_requests.specs.Statuses.{code_of}
-use Rattle.ks_commands.specs.Performed.{TellsAll}
-use Rattle.ks_commands.specs.Questions.{all_counted, counted_of, tells_of}
-use Rattle.ks_commands.proofs.Counting.{none_asked, question_more}
-use Rattle.ks_commands.proofs.Verdicts.{map-take_more, nothing_told, told_more}
+use Rattle.ks_commands.proofs.Prelude.{◌∙◌, ◌+◌, ◌++◌, ◌∷◌, ap, arith, max, ℕ, List, [], Bor, get_or, sym, subst, subst₂, map, map_more, take, take_all, refl, rules, length-map, code_of, limit_of, Says, TellsAll, TellsCounted, counted_of, tells_of}
+use Rattle.ks_commands.proofs.Counting.{counted_more}
+use Rattle.ks_commands.proofs.Verdicts.{nothing_told, told_more}
 use Rattle.ks_commands.proofs.questions.ask_all.Goals as goal
 
 pub loop-target-init : goal.loop-target-init
@@ -13,58 +9,58 @@ loop-target-init g c = record {
   later = search rules;
   memo = λ honest. c.with_seed-memo.ensures (g.T.Tree.files c.args.tree.now);
   told = λ honest.
-      subst (λ l. TellsAll (tells_of (g.T.Tree.files c.args.tree.now) c.args.question.now) [] l 0 0) (sym c.new-text.ensures.items) (nothing_told _);
-  counted = none_asked c.args.question.now (g.T.Tree.failures c.args.tree.now) c.new-text.result.items c.new-text.ensures.items;
+      subst (λ l. TellsAll (tells_of (g.T.Tree.files c.args.tree.now) c.args.form c.args.question) [] l 0 0) (sym c.new-text.ensures.items) (nothing_told _);
+  counted = (c.new-text.ensures.items, refl);
   few = search rules;
 }
 
 pub loop-target-preserved : goal.loop-target-preserved
 loop-target-preserved g c = record {
-  unchanged = λ honest. c.ask.ensures.reads.unchanged honest ∙ c.loop-target.invariant.unchanged honest;
+  unchanged = λ honest. c.ask_one.ensures.reads.unchanged honest ∙ c.loop-target.invariant.unchanged honest;
   later = search rules;
-  memo = c.ask.ensures.memo;
+  memo = c.ask_one.ensures.memo;
   told = λ honest.
       let targets = c.args.targets.now in
       let i = c.loop-target.target-index in
       let nothing : Bor (List ℕ) = record { ref_ptr = (0, 0); now = [] } in
-      let question = c.args.question.now in
+      let question = c.args.question in
       let files = g.T.Tree.files c.args.tree.now in
       let said = c.in_ok-answered.ensures.told honest in
       let o = (get_or targets i nothing).now in
-      let more = told_more (tells_of files question) (map (λ t. t.now) (take i targets)) o said.0 c.loop-target.text.items c.ask.new.text.items
+      let more = told_more (tells_of files c.args.form question) (map (λ t. t.now) (take i targets)) o said.0 c.loop-target.text.items c.ask_one.new.text.items
       (code_of c.loop-target.status) (code_of c.in_ok-answered.answered) c.loop-target.stale (c.loop-target.invariant.told honest)
-      (subst (λ f. tells_of f question o said.0 (code_of c.in_ok-answered.answered)) (c.loop-target.invariant.unchanged honest) said.2) said.1 in
-      let taken = map-take_more (λ t. t.now) targets i nothing c.loop-target-test.true in
+      (subst (λ f. tells_of f c.args.form question o said.0 (code_of c.in_ok-answered.answered)) (c.loop-target.invariant.unchanged honest) said.2) said.1 in
+      let taken = sym (map_more (λ t. t.now) targets i nothing c.loop-target-test.true) in
       let one = code_of c.in_ok-answered.answered in
-      let counted = subst (λ n. TellsAll (tells_of files question) (map (λ t. t.now) (take i targets) ++ o ∷ []) c.ask.new.text.items
+      let counted = subst (λ n. TellsAll (tells_of files c.args.form question) (map (λ t. t.now) (take i targets) ++ o ∷ []) c.ask_one.new.text.items
       (max (code_of c.loop-target.status) one) (c.loop-target.stale + n)) (sym c.stale_of-stale.ensures.stale) more in
-      subst₂ (λ objects status. TellsAll (tells_of files question) objects c.ask.new.text.items status (c.loop-target.stale + c.stale_of-stale.result)) taken
+      subst₂ (λ objects status. TellsAll (tells_of files c.args.form question) objects c.ask_one.new.text.items status (c.loop-target.stale + c.stale_of-stale.result)) taken
       (sym c.worse-status.ensures) counted;
   counted =
       let targets = c.args.targets.now in
       let i = c.loop-target.target-index in
       let nothing : Bor (List ℕ) = record { ref_ptr = (0, 0); now = [] } in
-      let question = c.args.question.now in
+      let question = c.args.question in
       let said = c.in_ok-answered.ensures.counted in
-      subst (λ objects. all_counted question (g.T.Tree.failures c.args.tree.now) objects c.ask.new.text.items (g.T.Tree.failures c.ask.new.tree))
-      (map-take_more (λ t. t.now) targets i nothing c.loop-target-test.true)
-      (question_more question (g.T.Tree.failures c.args.tree.now) (map (λ t. t.now) (take i targets)) c.loop-target.text.items
-      (g.T.Tree.failures c.loop-target.tree) (get_or targets i nothing).now said.0 c.ask.new.text.items (g.T.Tree.failures c.ask.new.tree)
-      c.loop-target.invariant.counted said.2 said.1);
+      subst (λ objects. TellsCounted (Says c.args.form (limit_of question)) (g.T.Tree.failures c.args.tree.now) objects c.ask_one.new.text.items (g.T.Tree.failures c.ask_one.new.tree))
+      (sym (map_more (λ t. t.now) targets i nothing c.loop-target-test.true))
+      (counted_more (Says c.args.form (limit_of question)) (g.T.Tree.failures c.args.tree.now) (map (λ t. t.now) (take i targets)) c.loop-target.text.items
+      (g.T.Tree.failures c.loop-target.tree) (get_or targets i nothing).now said.2.0 said.0 c.ask_one.new.text.items (g.T.Tree.failures c.ask_one.new.tree)
+      c.loop-target.invariant.counted said.2.1 said.2.2 said.1);
   few = omega (arith, c.loop-target.invariant.few, c.stale_of-stale.ensures.small);
 }
 
 pub returns-clause-counted : goal.returns-clause-counted
 returns-clause-counted g c =
-    subst (λ ts. all_counted c.args.question.now (g.T.Tree.failures c.args.tree.now) (map (λ t. t.now) ts) c.loop-target.text.items
+    subst (λ ts. TellsCounted (Says c.args.form (limit_of c.args.question)) (g.T.Tree.failures c.args.tree.now) (map (λ t. t.now) ts) c.loop-target.text.items
     (g.T.Tree.failures c.loop-target.tree))
     (take_all c.loop-target.target-index c.args.targets.now c.loop-target-test.false) c.loop-target.invariant.counted
 
 pub returns-clause-told : goal.returns-clause-told
 returns-clause-told g c = λ honest. (
   c.loop-target.stale,
-  subst (λ ts. TellsAll (tells_of (g.T.Tree.files c.args.tree.now) c.args.question.now) (map (λ t. t.now) ts) c.loop-target.text.items
+  subst (λ ts. TellsAll (tells_of (g.T.Tree.files c.args.tree.now) c.args.form c.args.question) (map (λ t. t.now) ts) c.loop-target.text.items
       (code_of c.loop-target.status) c.loop-target.stale)
       (take_all c.loop-target.target-index c.args.targets.now c.loop-target-test.false) (c.loop-target.invariant.told honest),
-  c.count_for-count.ensures ∙ ap (counted_of c.args.question.now c.loop-target.stale) (sym (length-map c.args.targets.now (λ t. t.now))),
+  c.count_for-count.ensures ∙ ap (counted_of c.args.question c.loop-target.stale) (sym (length-map c.args.targets.now (λ t. t.now))),
 )

@@ -1,15 +1,7 @@
-use Rattle.std.proofs.Common.{inl, inr, List, ℕ, Err, ap, arith, subst, ◌∙◌}
-use Rattle.std.proofs.lemmas.Result.{err_from_is_err_and}
-use Rattle.ks_engine.specs.FileRuns.{state}
-use Rattle.ks_engine.specs.Impact.{IsImpactOf}
-use Rattle.ks_requests.specs.Replies.{verdict_line}
-use Rattle.ks_requests.specs.Statuses.{verdict_status}
-use Rattle.ks_requests.specs.Targets.{targets_at}
-use Rattle.ks_requests.specs.Views.{seen_texts}
-use Rattle.ks_commands.specs.Performed.{EndsAll, IsAnswerBehind, TellsAnswer, count_of}
+use Rattle.ks_commands.proofs.Prelude.{inl, inr, List, ℕ, Err, ap, arith, subst, ◌∙◌, err_from_is_err_and, state, First, IsAnswerAfter, IsImpactOf, targets_at, seen_texts, EndsAll, TellsVerdict, count_of}
 use Rattle.ks_commands.proofs.Counting.{asked_after}
-use Rattle.ks_commands.proofs.Verdicts.{impact_known}
-use Rattle.ks_commands.proofs.questions.ask_behind.Goals as goal
+use Rattle.ks_commands.proofs.Verdicts.{verdicts_weaker}
+use Rattle.ks_commands.proofs.questions.ask_after.Goals as goal
 
 pub returns-in_err-impact-clause-told : goal.returns-in_err-impact-clause-told
 returns-in_err-impact-clause-told g c = λ honest.
@@ -38,10 +30,11 @@ returns-clause-told g c = λ honest.
       c.in_ok-texts.ensures.texts honest,
       inr (
         (told.0, impact.report, told.1),
-        impact_known files impact texts.kconfig texts.dotconfig (targets_at files c.args.targets.now) c.ask_targets.result told
+        verdicts_weaker c.args.form (λ o answer. (k d : List ℕ) → IsImpactOf files k d impact → IsAnswerAfter files k d o answer)
+            (IsAnswerAfter files texts.kconfig texts.dotconfig) count_of (targets_at files c.args.targets.now) c.ask_targets.result
+            (λ o answer is. is texts.kconfig texts.dotconfig told)
             (subst
-            (λ f. EndsAll (TellsAnswer verdict_line verdict_status
-            (λ o answer. (k d : List ℕ) → IsImpactOf f k d impact → IsAnswerBehind f k d o answer)) count_of
+            (λ f. EndsAll (TellsVerdict c.args.form (λ o answer. (k d : List ℕ) → IsImpactOf f k d impact → IsAnswerAfter f k d o answer)) count_of
             (targets_at f c.args.targets.now) c.ask_targets.result)
             (c.in_ok-impact.ensures.reads.unchanged honest ∙ same) (c.ask_targets.ensures.told honest)),
       ),
@@ -51,6 +44,6 @@ pub returns-clause-counts : goal.returns-clause-counts
 returns-clause-counts g c =
     let first = c.in_ok-texts.ensures.reads in
     let then = c.in_ok-impact.ensures.reads in
-    asked_after verdict_line c.ask_targets.result g.T.Tree.is_honest (state g.T.Tree c.args.tree.now) (state g.T.Tree c.of.new.tree)
+    asked_after c.args.form First c.ask_targets.result g.T.Tree.is_honest (state g.T.Tree c.args.tree.now) (state g.T.Tree c.of.new.tree)
     c.args.targets.now _ (λ honest. then.unchanged honest ∙ first.unchanged honest) (omega (arith, first.counted.later, then.counted.later))
     c.ask_targets.ensures.counts

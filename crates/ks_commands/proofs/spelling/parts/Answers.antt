@@ -1,0 +1,6 @@
+use Rattle.ks_commands.proofs.Prelude.{rules, tests, map_from_collect, YieldsList-from_slice_split}
+use Rattle.ks_commands.proofs.spelling.parts.Goals as goal
+
+pub returns : goal.returns
+returns c = map_from_collect _ c.collect.ensures.ran
+    (YieldsList-from_slice_split _ _ c.args.path.now c.split.ensures.rest c.split.ensures.done c.split.ensures.closure (λ x r q k. search (rules, tests)))

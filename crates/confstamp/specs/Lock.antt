@@ -1,9 +1,15 @@
--- The script that the lock looked at.
-use Rattle.std.specs.Prelude.{◌≡◌, ◌&&◌, ℕ, Bool, true, false, List, Option, Some, None, option_map, is_none}
+-- The lock that a command needs, and the script that was looked at to know it.
+use Rattle.std.specs.Prelude.{◌≡◌, ◌&&◌, ℕ, Bool, true, false, List, Option, Some, None, Result, Ok, Err, option_map, is_none, string_bytes, if◌then◌else◌}
 use Rattle.std.specs.List.{list_any}
 use Rattle.ks_script.specs.Script.{Line, Sync, Record, Stale, script_lines}
 use Rattle.ks_script.specs.ScriptRefusals.{script_refusal}
 use Rattle.ks_tree.specs.Files.{Files, content}
+use Rattle.ks_requests.specs.declared.request.Request.{Request}
+use Rattle.ks_requests.specs.declared.request.Request.TheVariants as request
+use Rattle.ks_words.specs.declared.words.WordsError.{WordsError}
+use Rattle.confstamp.specs.declared.lock.Access.{Access}
+use Rattle.confstamp.specs.declared.lock.FolderLock.{FolderLock}
+use Rattle.confstamp.specs.declared.lock.FolderLock.TheVariants.{Exclusive, Shared}
 use Rattle.confstamp.specs.declared.lock.Script.{Script}
 
 -- what was found of the script is what the files hold at its path
@@ -24,5 +30,29 @@ abbrev pub found_syncs : Option (List ℕ) → Bool
 found_syncs None = false
 found_syncs (Some text) = text_syncs text
 
-abbrev pub syncs : Script → Bool
-syncs script = found_syncs (option_map (λ v. v.items) script.found)
+-- ---- locks
+
+-- a synchronisation has its folder for itself
+abbrev pub lock_for : Bool → FolderLock
+lock_for syncs = if syncs then Exclusive else Shared
+
+-- .. and so has a script that has a line `sync`; one that the system doesn't give is taken for such a script
+abbrev pub LocksScript : List ℕ → Option Script → FolderLock → Type 0
+LocksScript path None lock = lock ≡ Exclusive
+LocksScript path (Some script) lock =
+    (script.path.items ≡ path) × (lock ≡ lock_for (found_syncs (option_map (λ v. v.items) script.found)))
+
+abbrev pub IsScriptAccess : List ℕ → Access → Type 0
+IsScriptAccess path access = LocksScript path access.script access.lock
+
+-- Every other command shares it, and looks at no script.
+abbrev pub IsAccessOf : Request → Access → Type 0
+IsAccessOf (request.Sync k d stamps) access = (access.lock ≡ Exclusive) × (access.script ≡ None)
+IsAccessOf (request.Batch script) access = IsScriptAccess (string_bytes script) access
+IsAccessOf _ access = (access.lock ≡ Shared) × (access.script ≡ None)
+
+-- Where the words make no request nothing is locked.
+abbrev pub AreLocked : Result Request WordsError → Option Access → Type 0
+AreLocked (Ok request) (Some access) = IsAccessOf request access
+AreLocked (Ok request) None = ⊥
+AreLocked (Err e) found = found ≡ None

@@ -1,5 +1,8 @@
-//! The folder that `-C DIR` in front of the command names. It is taken off before the words are looked at as a command, so
-//! that what is said of a command's words holds of those behind it.
+//! What stands in front of the command: the folder that `-C DIR` names, and whether numbers may begin again. It is taken off
+//! before the words are looked at as a command, so that what is said of a command's words holds of those after it.
+ghost use Rattle.std.specs.Prelude.{◌≡◌, IfOk, string_bytes};
+ghost use Rattle.confstamp.specs.Folders.{below};
+
 use std::alloc::{AllocError, Global};
 use std::fs;
 use std::rt::Files;
@@ -9,39 +12,46 @@ use std::rt::Files;
 pub(crate) struct Place<'a> {
     /// The folder, as a path from the current one; the current one itself if it is empty.
     pub(crate) folder: String,
+    /// Whether a synchronisation may begin its numbers at 1 though files hold some.
+    pub(crate) may_begin: bool,
     pub(crate) words: &'a [&'a str],
 }
 
 /// The place that the words after the program's name give: each DIR is taken below the one before, as make and git do.
-/// `None` is a `-C` without a folder behind it, or with an empty word.
+/// `None` is a `-C` without a folder after it, or with an empty word.
 pub(crate) fn take_place<'a>(
     alloc: Global,
     words: &'a [&'a str],
 ) -> Result<Option<Place<'a>>, AllocError> {
     let mut folder = String::new(alloc);
+    let mut may_begin = false;
     let mut rest = words;
     for _ in 0..words.len() {
-        let ["-C", behind @ ..] = rest else {
-            break;
-        };
-        let [dir, others @ ..] = behind else {
-            return Ok(None);
-        };
-        if dir.is_empty() {
-            return Ok(None);
+        match rest {
+            ["--begin", others @ ..] => {
+                may_begin = true;
+                rest = others;
+            }
+            ["-C", dir, others @ ..] if !dir.is_empty() => {
+                folder = below(alloc, folder.as_str(), dir)?;
+                rest = others;
+            }
+            ["-C", ..] => return Ok(None),
+            _ => break,
         }
-        folder = below(alloc, folder, dir)?;
-        rest = others;
     }
     Ok(Some(Place {
         folder,
+        may_begin,
         words: rest,
     }))
 }
 
-/// The path of a folder that is named from another one.
-fn below(alloc: Global, folder: String, dir: &str) -> Result<String, AllocError> {
-    if folder.is_empty() || dir.starts_with('/') {
+/// The path of a file or a folder that is named from a folder.
+pub(crate) fn below(alloc: Global, folder: &str, dir: &str) -> Result<String, AllocError>
+    ensures { IfOk result (λ path. string_bytes path ≡ below folder.now dir.now) }
+{
+    if folder.is_empty() || dir.as_bytes().starts_with(b"/") {
         return String::from_str(alloc, dir);
     }
     format!(in alloc; "{folder}/{dir}")

@@ -1,16 +1,16 @@
 //! One writer at a time: a lock on the folder that the program works in, which makes no file. Without it two synchronisations
 //! at once could leave the header of one beside the auto.conf of the other, and objects would be called fresh wrongly. Where
 //! the file system knows no locks, or the folder can't be opened, the program goes on without.
-ghost use Rattle.std.specs.Prelude.{◌≡◌, true, None, IfOk, IfSome, MatchOption, map};
+ghost use Rattle.std.specs.Prelude.{◌≡◌, None, IfOk, IfSome, map};
 ghost use Rattle.std.specs.List.{list_any};
 ghost use Rattle.ks_script.specs.Script.{seen_line};
 ghost use Rattle.ks_tree.specs.Frames.{Reads};
-ghost use Rattle.confstamp.specs.Lock.{IsLookedAt, is_sync, syncs, text_syncs};
+ghost use Rattle.confstamp.specs.Lock.{AreLocked, IsAccessOf, IsLookedAt, IsScriptAccess, is_sync, lock_for, text_syncs};
 
 use ks_requests::Request;
 use ks_script::{ScriptError, ScriptLine, read_script};
 use ks_tree::{Tree, TreeFault};
-use ks_words::{WordsError, request_of};
+use ks_words::WordsError;
 use std::alloc::Global;
 use std::fs::{File, TryLockError};
 use std::io;
@@ -23,23 +23,29 @@ pub(crate) struct Script {
     pub(crate) found: Option<Vec<u8>>,
 }
 
-/// Whether a command has to be alone in its folder, and the script that was looked at to know it.
+/// The lock on its folder that a command needs.
+#[derive(Clone, Copy)]
+pub(crate) enum FolderLock {
+    /// No other program has one meanwhile.
+    Exclusive,
+    /// Others may have one like it.
+    Shared,
+}
+
+/// The lock that a command needs, and the script that was looked at to know it.
 #[derive(Drop)]
 pub(crate) struct Access {
-    pub(crate) is_alone: bool,
+    pub(crate) lock: FolderLock,
     pub(crate) script: Option<Script>,
 }
 
 impl Access {
     /// The access of a command for which nothing was looked at.
-    fn with_nothing_held(is_alone: bool) -> Access
-        ensures alone { result.is_alone ≡ is_alone }
+    fn with_nothing_held(lock: FolderLock) -> Access
+        ensures lock { result.lock ≡ lock }
         ensures nothing { result.script ≡ None }
     {
-        Access {
-            is_alone,
-            script: None,
-        }
+        Access { lock, script: None }
     }
 }
 
@@ -52,14 +58,14 @@ fn has_sync(lines: &[ScriptLine<'_>]) -> bool
         .any(|line| matches!(line, ScriptLine::Sync(..)))
 }
 
-/// Whether a line of the script is a `sync`. A script with a faulty line is refused later, and runs nothing.
-fn script_syncs(alloc: Global, text: &[u8]) -> io::Result<bool>
-    ensures { IfOk result (λ syncs. syncs ≡ text_syncs text.now) }
+/// The lock that the lines of a script need. A script with a faulty line is refused later, and runs nothing.
+fn script_lock(alloc: Global, text: &[u8]) -> io::Result<FolderLock>
+    ensures { IfOk result (λ lock. lock ≡ lock_for (text_syncs text.now)) }
 {
     match read_script(alloc, text) {
-        Ok(lines) => Ok(has_sync(&lines)),
+        Ok(lines) if has_sync(&lines) => Ok(FolderLock::Exclusive),
         Err(ScriptError::OutOfMemory) => Err(io::Error::from(ErrorKind::OutOfMemory)),
-        Err(_) => Ok(false),
+        _ => Ok(FolderLock::Shared),
     }
 }
 
@@ -68,20 +74,20 @@ fn script_syncs(alloc: Global, text: &[u8]) -> io::Result<bool>
 fn script_access<T: Tree>(alloc: Global, tree: &mut T, script: &str) -> io::Result<Access>
     ensures reads { Reads T.Tree tree.old tree.new ⊥ }
     ensures looked_at { T.is_honest → IfOk result (λ access. IfSome access.script (IsLookedAt (T.files tree.old))) }
-    ensures alone { IfOk result (λ access. MatchOption access.script (access.is_alone ≡ true) (λ script. access.is_alone ≡ syncs script)) }
+    ensures lock { IfOk result (IsScriptAccess script.now) }
 {
     let found = match tree.read(alloc, script.as_bytes()) {
         Ok(found) => found,
         Err(TreeFault::OutOfMemory) => return Err(io::Error::from(ErrorKind::OutOfMemory)),
-        Err(_) => return Ok(Access::with_nothing_held(true)),
+        Err(_) => return Ok(Access::with_nothing_held(FolderLock::Exclusive)),
     };
-    let is_alone = match &found {
-        Some(text) => script_syncs(alloc, text)?,
-        None => false,
+    let lock = match &found {
+        Some(text) => script_lock(alloc, text)?,
+        None => FolderLock::Shared,
     };
     let path = script.as_bytes().to_vec(alloc)?;
     Ok(Access {
-        is_alone,
+        lock,
         script: Some(Script { path, found }),
     })
 }
@@ -90,59 +96,48 @@ fn script_access<T: Tree>(alloc: Global, tree: &mut T, script: &str) -> io::Resu
 fn request_access<T: Tree>(alloc: Global, tree: &mut T, request: &Request) -> io::Result<Access>
     ensures reads { Reads T.Tree tree.old tree.new ⊥ }
     ensures looked_at { T.is_honest → IfOk result (λ access. IfSome access.script (IsLookedAt (T.files tree.old))) }
-    ensures alone { IfOk result (λ access. IfSome access.script (λ script. access.is_alone ≡ syncs script)) }
+    ensures lock { IfOk result (IsAccessOf request.now) }
 {
     match request {
-        Request::Sync { .. } => Ok(Access::with_nothing_held(true)),
+        Request::Sync { .. } => Ok(Access::with_nothing_held(FolderLock::Exclusive)),
         Request::Batch { script } => script_access(alloc, tree, script.as_str()),
-        _ => Ok(Access::with_nothing_held(false)),
+        _ => Ok(Access::with_nothing_held(FolderLock::Shared)),
     }
 }
 
-/// The request of the words, or `None` where they make none, which is told later.
-fn asked<'a>(alloc: Global, words: &'a [&'a str]) -> io::Result<Option<Request>> {
-    match request_of(alloc, words) {
-        Ok(request) => Ok(Some(request)),
-        Err(WordsError::Refused(_)) => Ok(None),
-        Err(WordsError::OutOfMemory) => Err(io::Error::from(ErrorKind::OutOfMemory)),
-    }
-}
-
-/// The access that the command of the words needs, or `None` where they make no command.
-pub(crate) fn access_of<'a, T: Tree>(
+/// The access that what was asked for needs, or `None` where the words make no request, which is told later.
+pub(crate) fn access_of<T: Tree>(
     alloc: Global,
     tree: &mut T,
-    words: &'a [&'a str],
+    asked: &Result<Request, WordsError>,
 ) -> io::Result<Option<Access>>
     ensures reads { Reads T.Tree tree.old tree.new ⊥ }
     ensures looked_at { T.is_honest → IfOk result (λ found. IfSome found (λ access. IfSome access.script (IsLookedAt (T.files tree.old)))) }
-    ensures alone { IfOk result (λ found. IfSome found (λ access. IfSome access.script (λ script. access.is_alone ≡ syncs script))) }
+    ensures lock { IfOk result (AreLocked asked.now) }
 {
-    match asked(alloc, words)? {
-        Some(request) => Ok(Some(request_access(alloc, tree, &request)?)),
-        None => Ok(None),
+    match asked {
+        Ok(request) => Ok(Some(request_access(alloc, tree, request)?)),
+        Err(_) => Ok(None),
     }
 }
 
-/// The folder, or the current one for an empty path, locked as long as it is open: by this program alone for a
-/// synchronisation, and beside others for every other command, as `access_of` says. An error of the kind `WouldBlock` says
-/// that another program is in the way.
+/// The folder, or the current one for an empty path, locked as long as it is open. An error of the kind `WouldBlock` says that
+/// another program is in the way.
 pub(crate) fn lock_folder(
     rt: &HostRuntime,
     folder: &str,
-    alone: Option<bool>,
+    lock: Option<FolderLock>,
 ) -> io::Result<Option<File>> {
-    let Some(is_alone) = alone else {
+    let Some(lock) = lock else {
         return Ok(None);
     };
     let path = if folder.is_empty() { "." } else { folder };
     let Ok(folder) = File::open(rt, path) else {
         return Ok(None);
     };
-    let outcome = if is_alone {
-        folder.try_lock()
-    } else {
-        folder.try_lock_shared()
+    let outcome = match lock {
+        FolderLock::Exclusive => folder.try_lock(),
+        FolderLock::Shared => folder.try_lock_shared(),
     };
     match outcome {
         Ok(()) => Ok(Some(folder)),

@@ -1,60 +1,87 @@
-//! Whether a synchronisation begins its numbers again though there are some: another tool has written auto.conf, without a
-//! generation, and the stamps kept theirs. Objects that were recorded before could then be called fresh wrongly, and nothing
-//! that a synchronisation answers would say so. What can't be read is told by the synchronisation itself.
-ghost use Rattle.std.specs.Prelude.{IfSome, IsTrue};
-ghost use Rattle.ks_tree.specs.Frames.{Reads};
-ghost use Rattle.confstamp.specs.LostNumbers.{HasGeneration};
+//! Whether a synchronisation would begin its numbers at 1 though files hold some: another tool has written auto.conf, without a
+//! generation, or it was removed. An object that was recorded at a high number would then be called fresh until the numbers
+//! have come as far again, whatever changes. So nothing is begun before somebody says that it is meant.
+//!
+//! What can't be read is passed over: the command that needs it tells it.
+use crate::folder::below;
+use crate::numbers::{begins_anew, holds_number};
+use ks_engine::EngineError;
+use ks_tree::FolderTree;
+use std::io::ErrorKind;
+use std::{fs, io};
 
-use ks_output::{OldConfig, read_auto, read_auto_generation};
-use ks_symbols::{Name, name_is_legal};
-use ks_tree::{Tree, auto_path, read_stamp};
-use std::alloc::Global;
-
-/// The number of a name's stamp, or `None` where it can't be read.
-fn stamp_number<T: Tree>(alloc: Global, tree: &mut T, name: &[u8]) -> Option<u64>
-    ensures { Reads T.Tree tree.old tree.new ⊥ }
-{
-    if !name_is_legal(name) {
-        return None;
+/// What was answered, or nothing where it can't be read.
+fn unless_unread<V: Drop>(answer: Result<V, EngineError>) -> io::Result<Option<V>> {
+    match answer {
+        Ok(value) => Ok(Some(value)),
+        Err(EngineError::OutOfMemory) => Err(io::Error::from(ErrorKind::OutOfMemory)),
+        Err(_) => Ok(None),
     }
-    let name = Name::new(alloc, name).ok()?;
-    read_stamp(alloc, tree, &name).ok()
 }
 
-/// Whether a stamp of the names has a number above 0. Those that can't be read are passed over.
-fn has_numbers<T: Tree>(alloc: Global, tree: &mut T, old: &OldConfig) -> bool
-    ensures { Reads T.Tree tree.old tree.new ⊥ }
-{
-    for (name, _, _) in old.entries() {
-        if stamp_number(alloc, tree, name).is_some_and(|number| number > 0) {
-            return true;
+/// The path of a file in one folder of the tree that holds a number. The folders in it are noted; links are not followed.
+fn find_in(
+    rt: &HostRuntime,
+    tree: &mut FolderTree<&HostRuntime>,
+    root: &str,
+    folder: &str,
+    folders: &mut Vec<String>,
+) -> io::Result<Option<String>> {
+    let alloc = rt.alloc();
+    let place = below(alloc, root, folder)?;
+    let place = if place.is_empty() {
+        "."
+    } else {
+        place.as_str()
+    };
+    let Ok(entries) = fs::read_dir(&rt, place) else {
+        return Ok(None);
+    };
+    for entry in entries {
+        let Ok(entry) = entry else {
+            continue;
+        };
+        let name = entry.file_name();
+        if unless_unread(holds_number(alloc, tree, folder, name))? == Some(true) {
+            return Ok(Some(below(alloc, folder, name)?));
+        }
+        if entry.file_type().is_ok_and(|kind| kind.is_dir()) {
+            folders.push(below(alloc, folder, name)?)?;
         }
     }
-    false
+    Ok(None)
 }
 
-/// The generation that auto.conf has: 0 where another tool wrote it, and `None` where there is none or it can't be read.
-pub(crate) fn last_generation<T: Tree>(alloc: Global, tree: &mut T) -> Option<u64>
-    ensures reads { Reads T.Tree tree.old tree.new ⊥ }
-    ensures generation { T.is_honest → IfSome result (HasGeneration (T.files tree.old)) }
-{
-    match tree.read(alloc, auto_path()) {
-        Ok(Some(text)) => read_auto_generation(&text).ok(),
-        _ => None,
+/// The path of a file of the tree that holds a number.
+fn find_number(
+    rt: &HostRuntime,
+    tree: &mut FolderTree<&HostRuntime>,
+    root: &str,
+) -> io::Result<Option<String>> {
+    let alloc = rt.alloc();
+    let mut folders: Vec<String> = Vec::new(alloc);
+    let mut folder = String::new(alloc);
+    for _ in 0..u64::MAX {
+        let found = find_in(rt, tree, root, folder.as_str(), &mut folders)?;
+        if found.is_some() {
+            return Ok(found);
+        }
+        match folders.pop() {
+            Some(next) => folder = next,
+            None => return Ok(None),
+        }
     }
+    Ok(None)
 }
 
-/// Whether auto.conf has no generation, and a stamp of its names has a number. Where there is a generation this costs one
-/// reading of the file.
-pub(crate) fn numbers_are_lost<T: Tree>(alloc: Global, tree: &mut T) -> bool
-    ensures reads { Reads T.Tree tree.old tree.new ⊥ }
-    ensures lost { T.is_honest → IsTrue result → HasGeneration (T.files tree.old) 0 }
-{
-    let Ok(Some(text)) = tree.read(alloc, auto_path()) else {
-        return false;
-    };
-    match read_auto(alloc, &text) {
-        Ok(old) => old.generation() == 0 && has_numbers(alloc, tree, &old),
-        Err(_) => false,
+/// The path of a file that holds a number, where a synchronisation would begin them anew.
+pub(crate) fn lost_number(
+    rt: &HostRuntime,
+    tree: &mut FolderTree<&HostRuntime>,
+    root: &str,
+) -> io::Result<Option<String>> {
+    if unless_unread(begins_anew(rt.alloc(), tree))? == Some(true) {
+        return find_number(rt, tree, root);
     }
+    Ok(None)
 }

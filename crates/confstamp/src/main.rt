@@ -4,23 +4,29 @@
 mod folder;
 mod lock;
 mod lost_numbers;
+mod numbers;
+mod pipe;
 
 use folder::{Place, is_folder, take_place};
 use ks_program::execute;
+use ks_requests::Request;
 use ks_streams::Stream;
 use ks_tree::FolderTree;
-use lock::{Script, access_of, lock_folder};
-use lost_numbers::{last_generation, numbers_are_lost};
+use ks_words::{WordsError, request_of};
+use lock::{FolderLock, Script, access_of, lock_folder};
+use lost_numbers::lost_number;
+use pipe::Pipe;
 use std::alloc::{AllocError, Global};
+use std::fs::File;
 use std::hash::{BuildHasher, Hasher, RandomState};
 use std::io::{BufWriter, ErrorKind};
 use std::process::ExitCode;
 use std::{env, io};
 
-/// What is said after a synchronisation over an auto.conf that another tool wrote.
+/// What is said of a file that holds a number, where auto.conf has none, and what to do.
 const LOST_NUMBERS: &str =
-    "confstamp: auto.conf has lost its generation (another tool wrote it), so numbers begin again: \
-    remove include/config and build everything anew";
+    "has a number, and auto.conf has no generation: another tool wrote it, or it was removed. Remove include/config and all \
+    command files (make clean) and build anew, or say that numbers begin again: confstamp --begin";
 
 /// The texts of the words.
 fn texts_of(alloc: Global, words: &[String]) -> Result<Vec<&str>, AllocError> {
@@ -31,33 +37,21 @@ fn texts_of(alloc: Global, words: &[String]) -> Result<Vec<&str>, AllocError> {
     Ok(texts)
 }
 
-/// Runs the command over the folder that its words name and the standard streams.
-fn run(rt: &HostRuntime) -> io::Result<u8> {
-    let alloc = rt.alloc();
-    let words: Vec<String> = env::args(rt)?.skip(1).collect(alloc)?;
-    let texts = texts_of(alloc, &words)?;
-    match take_place(alloc, &texts)? {
-        Some(place) => run_at(rt, &place),
-        None => {
-            let _ = eprintln!(rt; "confstamp: -C: a folder is needed behind it");
-            Ok(2)
-        }
-    }
-}
-
-/// Runs the command over a folder.
-fn run_at(rt: &HostRuntime, place: &Place<'_>) -> io::Result<u8> {
-    let folder = place.folder.as_str();
+/// The tree of a folder, or `None` where there is none, which is told.
+fn tree_of<'a>(
+    rt: &'a HostRuntime,
+    folder: &str,
+) -> Result<Option<FolderTree<&'a HostRuntime>>, AllocError> {
     if !is_folder(rt, folder) {
         let _ = eprintln!(rt; "confstamp: -C: {folder}: No such folder");
-        return Ok(2);
+        return Ok(None);
     }
     let Some(seed) = draw_seed(rt) else {
         let _ = eprintln!(rt; "confstamp: 30 Device\n  the system gives no random number");
-        return Ok(2);
+        return Ok(None);
     };
-    let mut tree = FolderTree::new(rt, place.folder.clone()?).with_seed(seed);
-    run_locked(rt, &mut tree, place)
+    let root = String::from_str(rt.alloc(), folder)?;
+    Ok(Some(FolderTree::new(rt, root).with_seed(seed)))
 }
 
 /// A number that nobody can know before, or `None` where the system gives none. Without it whoever writes the files could
@@ -67,44 +61,62 @@ fn draw_seed(rt: &HostRuntime) -> Option<u64> {
     Some(random.build_hasher().finish())
 }
 
-/// Runs the command over the tree of a folder, alone in it where it has to be.
-fn run_locked(
+/// What the program has of its folder while it works there: the lock, where the file system knows any.
+#[derive(Drop)]
+struct Held {
+    _folder: Option<File>,
+}
+
+/// Locks the folder as the request needs it, and holds the script that was looked at to know that. `None` where numbers would
+/// be lost, which is told.
+fn hold_folder(
     rt: &HostRuntime,
     tree: &mut FolderTree<&HostRuntime>,
     place: &Place<'_>,
-) -> io::Result<u8> {
-    let access = access_of(rt.alloc(), tree, place.words)?;
-    let alone = access.as_ref().map(|access| access.is_alone);
-    let _locked = lock_folder(rt, place.folder.as_str(), alone)?;
-    let lost = alone == Some(true) && numbers_are_lost(rt.alloc(), tree);
+    asked: &Result<Request, WordsError>,
+) -> io::Result<Option<Held>> {
+    let access = access_of(rt.alloc(), tree, asked)?;
+    let lock = access.as_ref().map(|access| access.lock);
+    let folder = lock_folder(rt, place.folder.as_str(), lock)?;
+    if matches!(lock, Some(FolderLock::Exclusive)) && !place.may_begin {
+        if let Some(path) = lost_number(rt, tree, place.folder.as_str())? {
+            let _ = eprintln!(rt; "confstamp: {path} {LOST_NUMBERS}");
+            return Ok(None);
+        }
+    }
     if let Some(Script { path, found }) = access.and_then(|access| access.script) {
         tree.hold(path, found);
     }
-    let status = answer(rt, tree, place.words)?;
-    // Only a synchronisation that was completed has begun the numbers again.
-    if lost && last_generation(rt.alloc(), tree).is_some_and(|generation| generation > 0) {
-        let _ = eprintln!(rt; "{LOST_NUMBERS}");
-    }
-    Ok(status)
+    Ok(Some(Held { _folder: folder }))
 }
 
-/// Runs the command over a tree and the standard streams.
-fn answer<'a>(
-    rt: &HostRuntime,
-    tree: &mut FolderTree<&HostRuntime>,
-    words: &'a [&'a str],
-) -> io::Result<u8> {
-    let mut out = Stream::new(BufWriter::new(rt.alloc(), rt.stdout())?);
+/// Runs the command over the folder that its words name and the standard streams.
+fn run(rt: &HostRuntime) -> io::Result<u8> {
+    let alloc = rt.alloc();
+    let words: Vec<String> = env::args(rt)?.skip(1).collect(alloc)?;
+    let texts = texts_of(alloc, &words)?;
+    let Some(place) = take_place(alloc, &texts)? else {
+        let _ = eprintln!(rt; "confstamp: -C: a folder is needed after it");
+        return Ok(2);
+    };
+    let Some(mut tree) = tree_of(rt, place.folder.as_str())? else {
+        return Ok(2);
+    };
+    let asked = request_of(alloc, place.words);
+    let Some(_held) = hold_folder(rt, &mut tree, &place, &asked)? else {
+        return Ok(2);
+    };
+    let mut out = Stream::new(Pipe::new(BufWriter::new(alloc, rt.stdout())?));
     let mut err = Stream::new(rt.stderr());
     let failures = tree.failures();
-    let status = execute(rt.alloc(), tree, words, &mut out, &mut err);
+    let status = execute(alloc, &mut tree, &asked, &mut out, &mut err);
     if status == 2 && tree.failures() > failures {
-        tell_failure(rt, tree);
+        tell_failure(rt, &tree);
     }
-    Ok(status)
+    Ok(out.into_writer().exit_status(status))
 }
 
-/// Says where the system failed last, and why, behind all else. Where memory is refused for it the line is left out.
+/// Says where the system failed last, and why, after all else. Where memory is refused for it the line is left out.
 fn tell_failure(rt: &HostRuntime, tree: &FolderTree<&HostRuntime>) {
     let Some(fault) = tree.last_fault() else {
         return;

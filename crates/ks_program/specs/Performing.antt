@@ -1,6 +1,6 @@
 -- What the program does with its words.
-use Rattle.std.specs.Prelude.{◌≡◌, ◌⊎◌, ℕ, List, [], Err}
-use Rattle.clap.specs.Words.{Text}
+use Rattle.std.specs.Prelude.{◌≡◌, ◌⊎◌, ℕ, List, [], Result, Ok, Err, true}
+use Rattle.clap.specs.Words.{Text, fault_of, takes}
 use Rattle.ks_streams.specs.Streams.{State}
 use Rattle.ks_tree.specs.declared.tree.Tree.{Ghosts}
 use Rattle.ks_engine.specs.declared.error.EngineError.TheVariants.{OutOfMemory}
@@ -9,7 +9,20 @@ use Rattle.ks_requests.specs.declared.request.Request.{Request}
 use Rattle.ks_requests.specs.Endings.{Ending, Printed}
 use Rattle.ks_requests.specs.Sites.{IsSiteLine, ending_site}
 use Rattle.ks_commands.specs.Performed.{Performs}
+use Rattle.ks_words.specs.CommandLine.{command_line_app}
 use Rattle.ks_words.specs.Meaning.{Explains, Makes}
+use Rattle.ks_words.specs.Words.{IsFaultOf, IsWantOfMemory}
+use Rattle.ks_words.specs.declared.words.WordsError.{WordsError}
+
+-- The words make this request; or they make none for this reason, or memory was refused.
+abbrev pub IsAskedBy : List Text → Result Request WordsError → Type 0
+IsAskedBy words (Ok request) = Makes words request
+IsAskedBy words (Err e) = (takes command_line_app words ≡ true → IsWantOfMemory e) × IsFaultOf (fault_of command_line_app words) e
+
+-- Memory was refused, or the words are explained.
+abbrev pub Refuses : List Text → State → State → State → State → ℕ → Type 0
+Refuses words before after err_before err_after status =
+    Printed [] (Err (Engine OutOfMemory)) before after err_before err_after status ⊎ Explains words before after err_before err_after status
 
 -- The request of the words was performed, and a refusal told with where it points; or memory was refused for it, or the words were
 -- explained, and the tree is as before.
@@ -17,7 +30,6 @@ abbrev pub Executes : {T : Type 0} → Ghosts T → List Text → T → T → St
 Executes tree words old new before after err_before err_after status =
     ((request : Request) × Makes words request
     × (ended : Ending) × Performs tree old new request ended
-    × (behind : List ℕ) × IsSiteLine tree.is_honest (tree.files new) (ending_site request ended) behind
-    × Printed behind ended before after err_before err_after status)
-    ⊎ ((new ≡ old) × (Printed [] (Err (Engine OutOfMemory)) before after err_before err_after status
-    ⊎ Explains words before after err_before err_after status))
+    × (following : List ℕ) × IsSiteLine tree.is_honest (tree.files new) (ending_site request ended) following
+    × Printed following ended before after err_before err_after status)
+    ⊎ ((new ≡ old) × Refuses words before after err_before err_after status)

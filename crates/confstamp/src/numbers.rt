@@ -1,0 +1,76 @@
+//! The numbers that files hold: the generation of auto.conf, those under which objects were recorded, and the stamps.
+ghost use Rattle.std.specs.Prelude.{◌≡◌, IfErr, IfOk, IsErrOf};
+ghost use Rattle.ks_tree.specs.Files.{content};
+ghost use Rattle.ks_tree.specs.Frames.{Reads};
+ghost use Rattle.ks_tree.specs.Paths.{auto_path, stamp_path};
+ghost use Rattle.ks_engine.specs.Refusals.{Answers};
+ghost use Rattle.confstamp.specs.Numbers.{BeginsAnew, HoldsNumber, IsHighStamp, IsStampFault, has_record_number, is_command_name};
+
+use crate::folder::below;
+use ks_engine::{EngineError, read_old};
+use ks_fixdep::borrow_command;
+use ks_symbols::{Name, name_is_legal};
+use ks_tree::{Tree, read_stamp};
+use std::alloc::Global;
+
+/// Whether a synchronisation would begin the numbers: auto.conf is missing, or another tool wrote it.
+pub(crate) fn begins_anew<T: Tree>(alloc: Global, tree: &mut T) -> Result<bool, EngineError>
+    ensures reads { Reads T.Tree tree.old tree.new (IsErrOf result EngineError.Device) }
+    ensures read { T.is_honest → IfOk result (BeginsAnew (content (T.files tree.old) auto_path)) }
+{
+    let old = read_old(alloc, tree)?;
+    Ok(old.generation() == 0)
+}
+
+/// Whether the file at a path is a command file whose record has a number.
+fn has_record_number<T: Tree>(alloc: Global, tree: &mut T, path: &[u8]) -> Result<bool, EngineError>
+    ensures reads { Reads T.Tree tree.old tree.new (IsErrOf result EngineError.Device) }
+    ensures read { T.is_honest → Answers (has_record_number (content (T.files tree.old) path.now)) (λ has. has) result }
+{
+    let Some(text) = tree.read(alloc, path)? else {
+        return Ok(false);
+    };
+    let file = borrow_command(alloc, &text)?;
+    match file.generation {
+        Some(generation) => Ok(generation > 0),
+        None => Ok(false),
+    }
+}
+
+/// Whether the stamp of a name is above what a first synchronisation leaves that was broken off.
+fn is_high_stamp<T: Tree>(alloc: Global, tree: &mut T, name: &Name) -> Result<bool, EngineError>
+    ensures reads { Reads T.Tree tree.old tree.new (IsErrOf result EngineError.Device) }
+    ensures read { T.is_honest → IfOk result (IsHighStamp (content (T.files tree.old) (stamp_path name.now))) }
+    ensures refused { T.is_honest → IfErr result (IsStampFault name.now (content (T.files tree.old) (stamp_path name.now))) }
+{
+    let number = read_stamp(alloc, tree, name)?;
+    Ok(number > 1)
+}
+
+/// Whether the name of a file is that of a command file.
+fn is_command_name(name: &[u8]) -> bool
+    ensures { result ≡ is_command_name name.now }
+{
+    name.len() > 5 && name.starts_with(b".") && name.ends_with(b".cmd")
+}
+
+/// Whether a file of a folder holds a number that a synchronisation which begins anew would give a second time.
+pub(crate) fn holds_number<T: Tree>(
+    alloc: Global,
+    tree: &mut T,
+    folder: &str,
+    name: &str,
+) -> Result<bool, EngineError>
+    ensures reads { Reads T.Tree tree.old tree.new (IsErrOf result EngineError.Device) }
+    ensures told { T.is_honest → HoldsNumber (T.files tree.old) folder.now name.now result }
+{
+    let file = name.as_bytes();
+    if is_command_name(file) {
+        let path = below(alloc, folder, name)?;
+        has_record_number(alloc, tree, path.as_bytes())
+    } else if folder == "include/config" && name_is_legal(file) {
+        is_high_stamp(alloc, tree, &Name::new(alloc, file)?)
+    } else {
+        Ok(false)
+    }
+}

@@ -10,7 +10,9 @@ fn commands_over_trees(rt: HostRuntime) -> Result<(), Fail> {
         rt.alloc(),
         &[
             EACH_COMMAND,
+            BY_RULES,
             QUESTIONS,
+            AS_JSON,
             SECOND_RULE,
             WITHOUT_AUTO_CONF,
             USUAL_TREE,

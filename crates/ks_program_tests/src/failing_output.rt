@@ -4,6 +4,7 @@ use crate::golden::{AUTO, COMMAND_FILE};
 use crate::steps::{Step, play, run_over, shown, world};
 use ks_program::execute;
 use ks_streams::Stream;
+use ks_words::request_of;
 use std::alloc::Global;
 use std::io;
 use std::io::{ErrorKind, Write};
@@ -64,7 +65,13 @@ fn break_off(rt: &impl Abort, alloc: Global, case: &Case<'_>, passes: usize) -> 
     let taken = Vec::new(alloc);
     let mut out = Stream::new(Failing { taken, passes });
     let mut err: Stream<Vec<u8>> = Stream::new(Vec::new(alloc));
-    let status = execute(alloc, &mut tree, case.words, &mut out, &mut err);
+    let status = execute(
+        alloc,
+        &mut tree,
+        &request_of(alloc, case.words),
+        &mut out,
+        &mut err,
+    );
     let words = case.words;
     let place = format!(in alloc; "{passes} {words:?}")?;
     assert_eq!(rt; status, 2, "{place}");
@@ -111,6 +118,7 @@ fn an_output_that_fails(rt: HostRuntime) -> Result<(), Fail> {
 #[test]
 fn both_outputs_that_fail(rt: HostRuntime) -> Result<(), Fail> {
     let alloc = rt.alloc();
+    let asked = request_of(alloc, &["sync", "K1", "c1"]);
     for passes in 0..40 {
         let mut tree = world(&rt, alloc)?;
         let mut out = Stream::new(Failing {
@@ -121,7 +129,7 @@ fn both_outputs_that_fail(rt: HostRuntime) -> Result<(), Fail> {
             taken: Vec::new(alloc),
             passes: passes / 2,
         });
-        let status = execute(alloc, &mut tree, &["sync", "K1", "c1"], &mut out, &mut err);
+        let status = execute(alloc, &mut tree, &asked, &mut out, &mut err);
         assert_eq!(rt; status, 2, "{passes}");
     }
     Ok(())

@@ -41,6 +41,9 @@ const BEHIND_A_WORD: &str =
 const CAUSES: &str =
     "1 x.o stale A\n  A generation 2 x.c\n  C generation 9 a.h\nx.o stale A\n  A generation 2 x.c\n  C generation 9 a.h\nz.o stale no-command-file\n";
 
+const SPELLINGS: &str =
+    "1 .//./x.o stale no-command-file\n  recorded as x.o\nd/x.o stale no-command-file\n./z.o stale no-command-file\n";
+
 /// Kconfig files, `.config` files, an object's sources and its dependency file.
 #[rattlefmt::skip]
 pub const INPUTS: &[(Step<'_>, &str)] = &[
@@ -61,6 +64,8 @@ pub const INPUTS: &[(Step<'_>, &str)] = &[
 pub const EACH_COMMAND: &[(Step<'_>, &str)] = &[
     (Step::Words(&["preview", "K1", "c1"]), PREVIEW),
     (Step::Words(&["diff", "K1", "c1"]), "0 A n -> y\nB n -> m\n"),
+    (Step::Words(&["diff", "--exit-code", "K1", "c1"]), "1 A n -> y\nB n -> m\n"),
+    (Step::Words(&["diff", "--quiet", "K1", "c1"]), "1 "),
     (Step::Words(&["fixdep", "x.d", "x.o", "cc -c x.c"]), FIXDEP),
     (Step::Read("include/config/auto.conf"), "none"),
     (Step::Read(".x.o.cmd"), "none"),
@@ -76,8 +81,41 @@ pub const EACH_COMMAND: &[(Step<'_>, &str)] = &[
     (Step::Words(&["batch", "script"]), "0 x.o fresh\n"),
     (Step::Words(&["preview", "K1", "only_b", "include/config/auto.conf"]), PREVIEW_OVER),
     (Step::Words(&["diff", "K1", "only_b"]), "0 A y -> n\n"),
+    (Step::Words(&["diff", "--exit-code", "K1", "only_b"]), "1 A y -> n\n"),
+    (Step::Words(&["diff", "--exit-code", "K1", "c1"]), "0 "),
+    (Step::Words(&["diff", "--quiet", "K1", "c1"]), "0 "),
+    (Step::Words(&["diff", "K1", "c2"]), "0 unknown D\n"),
+    (Step::Words(&["diff", "--exit-code", "K1", "c3"]), "1 A y -> n\nunknown D\n"),
+    (Step::Words(&["diff", "--quiet", "K1", "c3"]), "1 "),
     (Step::Read("include/config/auto.conf"), AUTO),
     (Step::Words(&["sync", "K1", "c2"]), "0 generation 2\nunknown 1\n"),
+];
+
+/// What `depfile` leaves of `x.d`.
+const RULE: &str =
+    "x.o: \\\n  x.c \\\n  a.h \\\n  b.h \\\n  include/config/A \\\n  include/config/B \\\n  include/config/C\n";
+
+/// The same where the header is `b.h`.
+const RULE_WITHOUT_B: &str =
+    "x.o: \\\n  x.c \\\n  a.h \\\n  include/config/A \\\n  include/config/B \\\n  include/config/C\n";
+
+#[rattlefmt::skip]
+pub const BY_RULES: &[(Step<'_>, &str)] = &[
+    (Step::Words(&["depfile", "x.d", "x.o", "cc -c x.c"]), "2 confstamp: 41 NeverSynced\n"),
+    (Step::Words(&["sync", "--stamps", "K2", "c1"]), "0 generation 1\ntouch A\ntouch B\nunknown 0\n"),
+    (Step::Read("include/config/D"), ""),
+    (Step::Read("include/config/B"), "1\n"),
+    (Step::Words(&["depfile", "--header", "a b", "x.d", "x.o", "cc"]), "2 confstamp: 21 BadPath token 0\n"),
+    (Step::Words(&["depfile", ".x.o.cmd", "x.o", "cc"]), "2 confstamp: 21 BadPath token 0\n"),
+    (Step::Words(&["depfile", "x.d", "x.o", "cc -c x.c"]), "0 depfile x.o generation 1 names 3\n"),
+    (Step::Read(".x.o.cmd"), COMMAND_FILE),
+    (Step::Read("x.d"), RULE),
+    (Step::Read("include/config/A"), "1\n"),
+    (Step::Read("include/config/C"), ""),
+    (Step::Words(&["stale", "x.o"]), "0 x.o fresh\n"),
+    (Step::Put("x.d", "x.o: x.c a.h b.h\na.h:\nb.h:\n"), "done"),
+    (Step::Words(&["depfile", "--header", "b.h", "x.d", "x.o", "cc"]), "0 depfile x.o generation 1 names 3\n"),
+    (Step::Read("x.d"), RULE_WITHOUT_B),
 ];
 
 #[rattlefmt::skip]
@@ -96,6 +134,11 @@ pub const QUESTIONS: &[(Step<'_>, &str)] = &[
     (Step::Words(&["stale", "x.o", "--from", "none"]), "2 confstamp: 40 MissingFile none\n"),
     (Step::Words(&["stale", "x.o", "--from", "a$b"]), "2 confstamp: 21 BadPath token 0\n"),
     (Step::Words(&["why", "x.o", "z.o", "a$b"]), "2 x.o fresh\nz.o stale no-command-file\na$b refused 21 BadPath token 0\n"),
+    (Step::Words(&["why", "./x.o"]), "1 ./x.o stale no-command-file\n  recorded as x.o\n"),
+    (Step::Words(&["why", ".//./x.o", "d/x.o", "./z.o"]), SPELLINGS),
+    (Step::Words(&["stale", "./x.o"]), "1 ./x.o stale no-command-file\n"),
+    (Step::Put("./.x.o.cmd", COMMAND_FILE), "done"),
+    (Step::Words(&["why", "./x.o"]), "2 ./x.o refused 23 BadCommandFile line 1\n  recorded as x.o\n"),
     (Step::Words(&["why", "x.o", "--from", "none"]), "2 confstamp: 40 MissingFile none\n"),
     (Step::Words(&["why", "--from", "a$b"]), "2 confstamp: 21 BadPath token 0\n"),
     (Step::Words(&["outdated", "x.o", "cc -O2 -c x.c"]), "1 x.o command-differs\n"),
@@ -141,7 +184,38 @@ pub const QUESTIONS: &[(Step<'_>, &str)] = &[
     (Step::Words(&["stale", "x.o"]), "1 x.o stale generation-ahead\n"),
 ];
 
-/// The first file of a later rule is scanned, and not listed: `Z` stands behind the file before it.
+const REFUSED_AS_JSON: &str =
+    "2 {\"target\":\"a\\\"b.o\",\"verdict\":\"no-command-file\",\"causes\":[]}\n{\"target\":\"\\\\\\u0009\\u00c3\\u00a9\\u007f~ \",\"verdict\":\"refused\",\"causes\":[],\"refused\":\"21 BadPath token 0\"}\n{\"target\":\"x.o\",\"verdict\":\"fresh\",\"causes\":[]}\n";
+
+const IMPACT_AS_JSON: &str =
+    "1 {\"target\":\"x.o\",\"verdict\":\"stale\",\"causes\":[{\"name\":\"A\"}]}\n{\"target\":\"z.o\",\"verdict\":\"no-command-file\",\"causes\":[]}\n2 of 2 stale\n";
+
+const CAUSES_AS_JSON: &str =
+    "1 {\"target\":\"x.o\",\"verdict\":\"stale\",\"causes\":[{\"name\":\"A\",\"place\":\"x.c\",\"stamp\":2},{\"name\":\"C\",\"place\":\"a.h\",\"stamp\":9}]}\n";
+
+/// The answers as lines of JSON: each verdict, one cause and several, and a target that would end its string.
+#[rattlefmt::skip]
+pub const AS_JSON: &[(Step<'_>, &str)] = &[
+    (Step::Words(&["sync", "K1", "c1"]), "0 generation 1\ntouch A\ntouch B\nunknown 0\n"),
+    (Step::Words(&["record", "x.d", "x.o", "cc -c x.c"]), "0 record x.o generation 1 names 3\n"),
+    (Step::Put("objects", "a\"b.o\n\\\té\u{7f}~ \nx.o"), "done"),
+    (Step::Words(&["stale", "--json", "--from", "objects"]), REFUSED_AS_JSON),
+    (Step::Words(&["why", "--from", "objects", "--json"]), REFUSED_AS_JSON),
+    (Step::Words(&["impact", "--json", "K1", "only_b", "x.o", "z.o"]), IMPACT_AS_JSON),
+    (Step::Words(&["impact", "--json", "K1", "faulty", "x.o"]), "2 confstamp: 8 BadValue line 2\n  faulty:2: CONFIG_A=m\n"),
+    (Step::Words(&["sync", "K1", "only_b"]), "0 generation 2\ntouch A\nunknown 0\n"),
+    (Step::Put("include/config/C", "9\n"), "done"),
+    (Step::Words(&["stale", "--json", "x.o"]), "1 {\"target\":\"x.o\",\"verdict\":\"stale\",\"causes\":[{\"name\":\"A\"}]}\n"),
+    (Step::Words(&["why", "--json", "x.o"]), CAUSES_AS_JSON),
+    (Step::Put("include/config/C", "C\n"), "done"),
+    (Step::Words(&["why", "--json", "x.o"]), "2 {\"target\":\"x.o\",\"verdict\":\"refused\",\"causes\":[],\"refused\":\"31 BadStamp C\"}\n"),
+    (Step::Put(".x.o.cmd", "savedcmd_x.o := cc\n\nsource_x.o := x.c\n\ndeps_x.o := \\\n\nx.o: $(deps_x.o)\n\n$(deps_x.o):\n"), "done"),
+    (Step::Words(&["stale", "--json", "x.o"]), "1 {\"target\":\"x.o\",\"verdict\":\"not-numbered\",\"causes\":[]}\n"),
+    (Step::Put(".x.o.cmd", "savedcmd_x.o := cc\n\nsource_x.o := x.c\n\ndeps_x.o := \\\n\nx.o: $(deps_x.o)\n\n$(deps_x.o):\n#generation 5\n"), "done"),
+    (Step::Words(&["why", "--json", "x.o"]), "1 {\"target\":\"x.o\",\"verdict\":\"generation-ahead\",\"causes\":[]}\n"),
+];
+
+/// The first file of a later rule is scanned, and not listed: `Z` stands after the file before it.
 #[rattlefmt::skip]
 pub const SECOND_RULE: &[(Step<'_>, &str)] = &[
     (Step::Words(&["sync", "K1", "c1"]), "0 generation 1\ntouch A\ntouch B\nunknown 0\n"),

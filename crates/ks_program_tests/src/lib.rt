@@ -15,6 +15,7 @@ mod refusals;
 mod scripts;
 #[cfg(test)]
 mod steps;
+mod symbols;
 #[cfg(test)]
 mod texts;
 #[cfg(test)]

@@ -1,4 +1,4 @@
-//! The refusals of a whole command: nothing on the output, a line on standard error, behind it one that says where, and
+//! The refusals of a whole command: nothing on the output, a line on standard error, after it one that says where, and
 //! nothing changed.
 use crate::golden::AUTO;
 use crate::steps::{Step, play, play_each, told, world};
@@ -25,6 +25,7 @@ const SYNC_AND_PREVIEW: &[(Step<'_>, &str)] = &[
     (Step::Words(&["diff", "K1", "c1"]), "2 confstamp: 11 BadAuto line 5\n  include/config/auto.conf:5: CONFIG_../x=y\n"),
     (Step::Words(&["impact", "K1", "c1", "x.o"]), "2 confstamp: 11 BadAuto line 5\n  include/config/auto.conf:5: CONFIG_../x=y\n"),
     (Step::Words(&["diff", "K1", "faulty"]), "2 confstamp: 8 BadValue line 2\n  faulty:2: CONFIG_A=m\n"),
+    (Step::Words(&["diff", "--quiet", "K1", "faulty"]), "2 confstamp: 8 BadValue line 2\n  faulty:2: CONFIG_A=m\n"),
     (Step::Put("old", "#\nCONFIG_\u{1b}[2J\u{7f}é\n"), "done"),
     (Step::Words(&["preview", "K1", "c1", "old"]), "2 confstamp: 11 BadAuto line 2\n  old:2: CONFIG_?[2J?é\n"),
     (Step::Put("old", ""), "done"),

@@ -3,6 +3,7 @@ use crate::golden;
 use ks_program::execute;
 use ks_streams::Stream;
 use ks_tree::{MemoryTree, Tree};
+use ks_words::request_of;
 use std::alloc::Global;
 use std::process::Abort;
 use std::test::Fail;
@@ -30,7 +31,7 @@ pub(crate) fn run_over<'a, T: Tree>(
 ) -> Result<Run, Fail> {
     let mut out: Stream<Vec<u8>> = Stream::new(Vec::new(alloc));
     let mut err: Stream<Vec<u8>> = Stream::new(Vec::new(alloc));
-    let status = execute(alloc, tree, words, &mut out, &mut err);
+    let status = execute(alloc, tree, &request_of(alloc, words), &mut out, &mut err);
     let out = String::from_utf8(out.into_writer())?;
     let err = String::from_utf8(err.into_writer())?;
     Ok(Run { status, out, err })
@@ -44,7 +45,7 @@ pub(crate) fn shown<T: Tree>(alloc: Global, tree: &mut T, path: &str) -> Result<
     }
 }
 
-/// What comes of a step: what was read, or the status, the output and standard error, one behind the other.
+/// What comes of a step: what was read, or the status, the output and standard error, one after the other.
 pub(crate) fn told<T: Tree>(alloc: Global, tree: &mut T, step: Step<'_>) -> Result<String, Fail> {
     match step {
         Step::Words(words) => {

@@ -1,7 +1,7 @@
 //! From texts to texts, without the words of a command line: what previews print, and why there is none; what differs from
 //! auto.conf; and scripts whose lines name files more than once.
 use ks_commands::perform;
-use ks_requests::{PreviewError, Request, preview_to};
+use ks_requests::{PreviewError, Request, Telling, preview_to};
 use ks_streams::Stream;
 use ks_symbols::SourceError;
 use ks_tree::MemoryTree;
@@ -185,6 +185,7 @@ fn diff(
     let request = Request::Diff {
         kconfig: "K".to_string(alloc)?,
         dotconfig: "c".to_string(alloc)?,
+        telling: Telling::Lines,
     };
     let status = perform(alloc, &mut tree, &request, &mut out, &mut err);
     let mut out = out.into_writer();
@@ -196,11 +197,13 @@ fn diff(
 #[rattlefmt::skip]
 fn differences(rt: HostRuntime) -> Result<(), AllocError> {
     let alloc = rt.alloc();
-    let rows: [(&str, &[u8], &[u8], Option<&[u8]>, &str); 12] = [
+    let rows: [(&str, &[u8], &[u8], Option<&[u8]>, &str); 13] = [
         ("a first one", DEMO, b"CONFIG_A=y\nCONFIG_B=m\n", None, "0\nA n -> y\nB n -> m\n"),
         ("nothing changed", DEMO, b"CONFIG_A=y\nCONFIG_B=m\n", Some(DEMO_AUTO), "0\n"),
         ("one vanished, one changed", b"config B\n\ttristate\n", b"CONFIG_A=y\nCONFIG_B=y\n", Some(DEMO_AUTO),
-            "0\nA y -> n\nB m -> y\n"),
+            "0\nA y -> n\nB m -> y\nunknown A\n"),
+        ("lines about names that are not declared", DEMO, b"CONFIG_C=y\nCONFIG_A=y\n# CONFIG_Z is not set\n# CONFIG_Z was\nCONFIG_C=m\n", None,
+            "0\nA n -> y\nunknown C\nunknown Z\nunknown C\n"),
         ("a string and a number", b"config S\n\tstring\nconfig H\n\thex\n", b"CONFIG_S=\"a\\\"b\\\\c\"\nCONFIG_H=0X1F\n",
             Some(b"#typed\n#type H hex\nCONFIG_H=0x1f\n#type S string\nCONFIG_S=\n"),
             "0\nH 0x1f -> 0X1F\nS \"\" -> \"a\\\"b\\\\c\"\n"),
@@ -210,7 +213,7 @@ fn differences(rt: HostRuntime) -> Result<(), AllocError> {
             "0\nS \"7\" -> 7 (string -> int)\n"),
         ("over the untyped form", DEMO, b"CONFIG_A=y\n", Some(b"CONFIG_A=y\nCONFIG_B=m\n#generation 1\n"),
             "0\nA y -> y (untyped -> bool/tristate)\nB m -> n\n"),
-        ("quotes of the usual tool", b"config S\n\tstring\n", b"CONFIG_S=\"a\"\n", Some(b"CONFIG_S=\"a\"\n"),
+        ("quotes of Kbuild", b"config S\n\tstring\n", b"CONFIG_S=\"a\"\n", Some(b"CONFIG_S=\"a\"\n"),
             "0\nS \"a\" -> \"a\"\n"),
         ("a faulty .config", DEMO, b"CONFIG_A=m\n", Some(b"CONFIG_A\n"), "2\nconfstamp: 8 BadValue line 1\n  c:1: CONFIG_A=m\n"),
         ("a faulty auto.conf", DEMO, b"CONFIG_A=y\n", Some(b"CONFIG_A\n"),

@@ -69,7 +69,7 @@ fn is_worked(file: &CommandFile) -> bool {
         && are_named(&file.deps)
 }
 
-/// What is written of a worked command file that was read with this generation, behind a word that stood there before.
+/// What is written of a worked command file that was read with this generation, after a word that stood there before.
 fn written_again(
     alloc: Global,
     text: &[u8],
@@ -105,12 +105,12 @@ fn a_damaged_command_file_is_refused_with_its_line(rt: HostRuntime) -> Result<()
     let at = |line: u64| -> Result<Option<u64>, CommandError> { Err(CommandError::BadCommandFile(line)) };
     let rows: [(&str, &[u8], &[u8], Result<Option<u64>, CommandError>); 16] = [
         ("as it is",                  b"",                b"",                               Ok(Some(1))),
-        ("a line of Kbuild behind",   b"#generation 1\n", b"#generation 1\n#SYMVER f 0x1\n", Ok(Some(1))),
+        ("a line of Kbuild after",   b"#generation 1\n", b"#generation 1\n#SYMVER f 0x1\n", Ok(Some(1))),
         ("the last generation",       b"#generation 1\n", b"#generation 1\n#generation 5\n", Ok(Some(5))),
         ("the greatest generation",   b"generation 1",    b"generation 18446744073709551615", Ok(Some(u64::MAX))),
         ("a greater one",             b"generation 1",    b"generation 18446744073709551616", at(15)),
         ("a leading zero",            b"generation 1",    b"generation 01",                  at(15)),
-        ("no line feed behind it",    b"generation 1\n",  b"generation 1",                   at(15)),
+        ("no line feed after it",    b"generation 1\n",  b"generation 1",                   at(15)),
         ("another comment",           b"#generation 1\n", b"#generations 1",                 Ok(None)),
         ("a folder above",            b"config/A)",       b"config/../A)",                   at(6)),
         ("three spaces",              b"    $(wildcard include/config/B", b"   $(wildcard include/config/B", at(7)),
@@ -129,7 +129,7 @@ fn a_damaged_command_file_is_refused_with_its_line(rt: HostRuntime) -> Result<()
 }
 
 /// What a beginning of the worked command file comes to. The lines that have their line feed fit. A beginning of the next line
-/// fits or not, and is the fault if not; where it fits, the line after it is missing. Behind the last line of the layout
+/// fits or not, and is the fault if not; where it fits, the line after it is missing. After the last line of the layout
 /// nothing has to stand, but what begins as a generation line has to end.
 fn answer_of_cut(text: &[u8]) -> Result<Option<u64>, CommandError> {
     let whole = text.iter().filter(|byte| **byte == b'\n').count();

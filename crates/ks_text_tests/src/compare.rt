@@ -28,7 +28,7 @@ fn changes_by(
     spelled(alloc, &changed(alloc, old, &settings)?)
 }
 
-/// The names, each with a space behind it.
+/// The names, each with a space after it.
 fn spelled(alloc: Global, changes: &[Name]) -> Result<String, AllocError> {
     let mut names = String::new(alloc);
     for name in changes {

@@ -13,7 +13,7 @@ use std::test::Fail;
 /// What stands in place of a text where there are not as many texts as prerequisites.
 const ANOTHER_NUMBER: &[u8] = b"another number of prerequisites";
 
-/// Each name of a text behind its place.
+/// Each name of a text after its place.
 fn with_places(alloc: Global, text: &[u8]) -> Result<Vec<u8>, AllocError> {
     let mut all = Vec::new(alloc);
     for found in names(text) {
@@ -31,8 +31,8 @@ fn push_name(all: &mut Vec<u8>, name: &[u8]) -> Result<(), AllocError> {
     Ok(())
 }
 
-/// The names that a scanner lends for these pieces, and at the end.
-fn lent(alloc: Global, pieces: &[&[u8]]) -> Result<Vec<u8>, AllocError> {
+/// The names that a scanner borrows for these pieces, and at the end.
+fn borrowed(alloc: Global, pieces: &[&[u8]]) -> Result<Vec<u8>, AllocError> {
     let mut all = Vec::new(alloc);
     let mut scanner = Scanner::new();
     for piece in pieces {
@@ -68,14 +68,14 @@ fn in_pieces(alloc: Global, text: &[u8], size: usize) -> Result<Vec<&[u8]>, Allo
     Ok(pieces)
 }
 
-/// `CONFIG_`, so many letters, and what stands behind them.
-fn long_name(alloc: Global, letters: usize, behind: &[u8]) -> Result<Vec<u8>, AllocError> {
+/// `CONFIG_`, so many letters, and what stands after them.
+fn long_name(alloc: Global, letters: usize, following: &[u8]) -> Result<Vec<u8>, AllocError> {
     let mut text = Vec::new(alloc);
     text.extend_from_slice(b"CONFIG_")?;
     for _ in 0..letters {
         text.push(b'A')?;
     }
-    text.extend_from_slice(behind)?;
+    text.extend_from_slice(following)?;
     Ok(text)
 }
 
@@ -93,10 +93,10 @@ fn names_stand_at_their_places(rt: HostRuntime) -> Result<(), Fail> {
     let rows: [(&str, &[u8], &[u8]); 7] = [
         ("inside words, and with one suffix or two", golden::SUFFIXES, b"13 B 52 MODULE 66 C_MODULE 89 D "),
         ("inside a name",                  b"CONFIG_CONFIG_E",        b"0 CONFIG_E "),
-        ("behind bytes past ASCII",        b"\xc3\xa9CONFIG_A",       b"2 A "),
-        ("behind a NUL",                   b"a\0CONFIG_B",            b"2 B "),
+        ("after bytes past ASCII",        b"\xc3\xa9CONFIG_A",       b"2 A "),
+        ("after a NUL",                   b"a\0CONFIG_B",            b"2 B "),
         ("twice",                          b"CONFIG_A(CONFIG_A)",     b"0 A 9 A "),
-        ("nothing behind",                 b"CONFIG_",                b""),
+        ("nothing after",                 b"CONFIG_",                b""),
         ("nothing at all",                 b"",                       b""),
     ];
     for (name, text, want) in rows {
@@ -108,14 +108,14 @@ fn names_stand_at_their_places(rt: HostRuntime) -> Result<(), Fail> {
 
 #[test]
 fn the_longest_name_whole_and_byte_by_byte(rt: HostRuntime) -> Result<(), Fail> {
-    for (letters, behind, taken) in [
+    for (letters, following, taken) in [
         (128, b"".as_slice(), true),
         (128, b"_MODULE".as_slice(), true),
         (128, b"_MODULEX".as_slice(), false),
         (129, b"".as_slice(), false),
         (129, b"_MODULE".as_slice(), false),
     ] {
-        let text = long_name(rt.alloc(), letters, behind)?;
+        let text = long_name(rt.alloc(), letters, following)?;
         let first = names(&text).next();
         assert_eq!(rt;
             first.map(|found| (found.place, found.name.len())),
@@ -124,7 +124,7 @@ fn the_longest_name_whole_and_byte_by_byte(rt: HostRuntime) -> Result<(), Fail> 
         let want = if taken { letters + 1 } else { 0 };
         for size in [1, 7, 142, 4096] {
             let pieces = in_pieces(rt.alloc(), &text, size)?;
-            let all = lent(rt.alloc(), &pieces)?;
+            let all = borrowed(rt.alloc(), &pieces)?;
             assert_eq!(rt; all.len(), want, "{letters} in pieces of {size}");
         }
     }
@@ -133,7 +133,7 @@ fn the_longest_name_whole_and_byte_by_byte(rt: HostRuntime) -> Result<(), Fail> 
 
 #[test]
 #[rattlefmt::skip]
-fn pieces_of_all_sizes_lend_the_same_names(rt: HostRuntime) -> Result<(), Fail> {
+fn pieces_of_all_sizes_borrow_the_same_names(rt: HostRuntime) -> Result<(), Fail> {
     let rows: [(&str, &[&[u8]], &[u8]); 5] = [
         ("a name in three pieces",       &[b"int CON", b"FIG_ALP", b"HA;"],            b"ALPHA "),
         ("the word begins before",       &[b"HIS_", b"CONFIG_A"],                      b""),
@@ -142,18 +142,18 @@ fn pieces_of_all_sizes_lend_the_same_names(rt: HostRuntime) -> Result<(), Fail> 
         ("a name at the end of each",    &[b"CONFIG_A", b" CONFIG_B", b" CONFIG_B"],   b"A B B "),
     ];
     for (name, pieces, want) in rows {
-        let all = lent(rt.alloc(), pieces)?;
+        let all = borrowed(rt.alloc(), pieces)?;
         assert_eq!(rt; all.as_slice(), want, "{name}");
     }
     Ok(())
 }
 
-/// The names that a scanner lends for a text in pieces of a size.
-fn lent_in(alloc: Global, text: &[u8], size: usize) -> Result<Vec<u8>, AllocError>
+/// The names that a scanner borrows for a text in pieces of a size.
+fn borrowed_in(alloc: Global, text: &[u8], size: usize) -> Result<Vec<u8>, AllocError>
     requires { 0 < size }
 {
     let pieces = in_pieces(alloc, text, size)?;
-    lent(alloc, &pieces)
+    borrowed(alloc, &pieces)
 }
 
 /// The only source of an object, in these pieces.
@@ -197,7 +197,7 @@ fn record_of_names(alloc: Global, names: &[u8]) -> Result<Vec<u8>, AllocError> {
 #[test]
 fn a_short_source_in_pieces(rt: HostRuntime) -> Result<(), Fail> {
     for size in [1, 7, 4096] {
-        let all = lent_in(rt.alloc(), b"int CONFIG_ALPHA;", size)?;
+        let all = borrowed_in(rt.alloc(), b"int CONFIG_ALPHA;", size)?;
         assert!(rt;
             all.as_slice() == b"ALPHA ".as_slice(),
             "in pieces of {size}"
@@ -209,7 +209,7 @@ fn a_short_source_in_pieces(rt: HostRuntime) -> Result<(), Fail> {
 #[test]
 fn names_cut_at_each_byte(rt: HostRuntime) -> Result<(), Fail> {
     for size in 1..=300usize {
-        let all = lent_in(rt.alloc(), golden::BORDERS, size)?;
+        let all = borrowed_in(rt.alloc(), golden::BORDERS, size)?;
         assert!(rt;
             all.as_slice() == golden::BORDER_NAMES,
             "in pieces of {size}"
@@ -235,16 +235,16 @@ fn names_in_no_pieces(rt: HostRuntime) -> Result<(), Fail> {
     Ok(())
 }
 
-/// The names lent in pieces of 4096 bytes where a name begins three bytes before the end of the first.
-fn lent_over_a_border(alloc: Global) -> Result<Vec<u8>, AllocError> {
+/// The names borrowed in pieces of 4096 bytes where a name begins three bytes before the end of the first.
+fn borrowed_over_a_border(alloc: Global) -> Result<Vec<u8>, AllocError> {
     let mut text = vec![in alloc; b' '; 4093]?;
     text.extend_from_slice(b"CONFIG_ALPHA")?;
-    lent_in(alloc, &text, 4096)
+    borrowed_in(alloc, &text, 4096)
 }
 
 #[test]
 fn a_name_over_a_border(rt: HostRuntime) -> Result<(), Fail> {
-    let all = lent_over_a_border(rt.alloc())?;
+    let all = borrowed_over_a_border(rt.alloc())?;
     assert!(rt; all.as_slice() == b"ALPHA ".as_slice());
     Ok(())
 }
@@ -306,7 +306,7 @@ fn letter(role: Role) -> u8 {
     }
 }
 
-/// The prerequisites of a dependency file, each behind the letter of its role; or the refusal.
+/// The prerequisites of a dependency file, each after the letter of its role; or the refusal.
 fn prerequisites(alloc: Global, text: &[u8]) -> Result<Vec<u8>, AllocError> {
     let mut all = Vec::new(alloc);
     match read_depfile(alloc, text) {

@@ -9,6 +9,8 @@ mod command_file;
 #[cfg(test)]
 mod compare;
 #[cfg(test)]
+mod dialects;
+#[cfg(test)]
 mod fixdep;
 #[cfg(test)]
 mod golden;

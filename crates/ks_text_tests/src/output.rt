@@ -35,7 +35,7 @@ const SWITCHES_HEADER: &[u8] = br#"/*
 #define CONFIG_B_MODULE 1
 "#;
 
-/// The auto.conf of generation 1 and the header of two source texts, each behind a word that stood there before.
+/// The auto.conf of generation 1 and the header of two source texts, each after a word that stood there before.
 fn written(
     alloc: Global,
     kconfig: &[u8],
@@ -263,7 +263,7 @@ fn typed_readings(rt: HostRuntime) -> Result<(), AllocError> {
         ("a later line's class", b"#typed\n#type S string\nCONFIG_S=a\n#type S int\nCONFIG_S=1\n", "S:int=1 #0"),
         ("lines that end in CR LF", b"#typed\r\n#type S string\r\nCONFIG_S=a\r\n", "S:string=a #0"),
         ("without the mark", b"#type S string\nCONFIG_T=x\n#type\n#type S bool\n", "T=x #0"),
-        ("a mark behind the first entry", b"CONFIG_T=x\n#typed\n#type S string\nCONFIG_S=y\n#type S\n", "S=y T=x #0"),
+        ("a mark after the first entry", b"CONFIG_T=x\n#typed\n#type S string\nCONFIG_S=y\n#type S\n", "S=y T=x #0"),
         ("before the mark", b"#type S string\n#type\n#type S\n#typed\nCONFIG_S=y\n", "S:switch=y #0"),
         ("two marks", b"#typed\n#typed\n#type S string\nCONFIG_S=y\n#typed\nCONFIG_T=y\n", "S:string=y T:switch=y #0"),
         ("almost a mark", b"#typed \n#type S string\nCONFIG_T=y\n", "T=y #0"),
@@ -275,7 +275,7 @@ fn typed_readings(rt: HostRuntime) -> Result<(), AllocError> {
     Ok(())
 }
 
-/// Where the text ends within or right behind the line of a class, that line is refused, or what is left of it is a comment.
+/// Where the text ends within or right after the line of a class, that line is refused, or what is left of it is a comment.
 #[test]
 fn cut_classes(rt: HostRuntime) -> Result<(), AllocError> {
     let alloc = rt.alloc();

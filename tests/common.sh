@@ -1,4 +1,4 @@
-# What the sweeps beside this file share; sourced by them. Each prints one line, `NAME: COUNTS`, and ends with status 0
+# What the tests beside this file share; sourced by them. Each prints one line, `NAME: COUNTS`, and ends with status 0
 # (passed), 1 (a case failed) or 77 (skipped: something is missing here). CONFSTAMP is the program
 # (crates/confstamp/out/confstamp), CC the C compiler (cc), TMPDIR where to work (/dev/shm where it has room, since
 # thousands of small trees are made; else /tmp).

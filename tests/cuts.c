@@ -3,36 +3,22 @@
        cuts --make FILE..           prints the table for these files of the current folder
        cuts PROGRAM < TABLE         runs the program in the current folder
 
-   Each file is cut behind each of its bytes, and each byte is replaced by seven others in turn. A line of the table is
+   Each file is cut after each of its bytes, and each byte is replaced by seven others in turn. A line of the table is
 
        FILE DAMAGE FIRST LAST STATUS ANSWER WORDS..
 
    in the words of a shell without quotes: for the places FIRST to LAST the command WORDS ends with STATUS and prints ANSWER,
    to standard error where the status is 2 and ANSWER begins with `confstamp:`. DAMAGE is `cut`, or the number of a byte. In
    ANSWER and WORDS a byte other than 0x21 to 0x7E, and a backslash, is `\` and three octal digits. */
-#define _GNU_SOURCE
-#include "model.h"
+#include "program.h"
 
-#include <errno.h>
-#include <fcntl.h>
-#include <spawn.h>
 #include <stdio.h>
 #include <stdlib.h>
 #include <string.h>
-#include <sys/wait.h>
-#include <unistd.h>
 
-extern char **environ;
-
-enum { MOST_WORDS = 6, MOST_LINE = 65536 };
+enum { MOST_LINE = 65536 };
 
 static const int damages[] = {-1, 0, '\n', '\r', '"', '\\', '#', 255};
-
-static void give_up(const char *what)
-{
-    fprintf(stderr, "cuts: %s: %s\n", what, strerror(errno));
-    exit(2);
-}
 
 static Bytes load_file(const char *path)
 {
@@ -173,38 +159,10 @@ static void make_table(char **paths, size_t count)
     }
 }
 
-static int output_file, error_file;
-
-static Bytes printed(int file, bool is_first_line)
+static Bytes first_line(Bytes text)
 {
-    static char room[MOST_LINE];
-    ssize_t length = pread(file, room, sizeof room, 0);
-    if (length < 0)
-        give_up("read");
-    Bytes bytes = copy_of((Bytes){room, (size_t)length});
-    const char *end = is_first_line ? memchr(bytes.at, '\n', bytes.length) : NULL;
-    return end ? (Bytes){bytes.at, (size_t)(end - bytes.at) + 1} : bytes;
-}
-
-static Answer run_program(const char *program, const Bytes *words, size_t count)
-{
-    char *texts[MOST_WORDS + 2] = {(char *)program};
-    for (size_t i = 0; i < count; i++)
-        texts[i + 1] = (char *)copy_of(words[i]).at;
-    if (ftruncate(output_file, 0) || ftruncate(error_file, 0) || lseek(output_file, 0, SEEK_SET) || lseek(error_file, 0, SEEK_SET))
-        give_up("ftruncate");
-    posix_spawn_file_actions_t actions;
-    posix_spawn_file_actions_init(&actions);
-    posix_spawn_file_actions_adddup2(&actions, output_file, 1);
-    posix_spawn_file_actions_adddup2(&actions, error_file, 2);
-    pid_t child;
-    int status;
-    errno = posix_spawn(&child, program, &actions, NULL, texts, environ);
-    if (errno || waitpid(child, &status, 0) != child)
-        give_up(program);
-    posix_spawn_file_actions_destroy(&actions);
-    int code = WIFEXITED(status) ? WEXITSTATUS(status) : 128 + WTERMSIG(status);
-    return (Answer){code, printed(output_file, false), printed(error_file, true)};
+    const char *end = text.length ? memchr(text.at, '\n', text.length) : NULL;
+    return end ? (Bytes){text.at, (size_t)(end - text.at) + 1} : text;
 }
 
 static size_t cases, failed;
@@ -226,6 +184,7 @@ static void run_row(const char *program, char *line)
     for (size_t place = (size_t)atol(fields[2]); place <= (size_t)atol(fields[3]); place++) {
         store_file(fields[0], damaged(whole, damage, place));
         Answer answer = run_program(program, words, count - 6);
+        answer.error = first_line(answer.error);
         Bytes said = shown(answer);
         cases++;
         if (answer.status == atoi(fields[4]) && is_text(said, fields[5]))
@@ -249,10 +208,7 @@ int main(int count, char **words)
         fputs("usage: cuts --make FILE.. | cuts PROGRAM < TABLE\n", stderr);
         return 2;
     }
-    output_file = open("../output", O_RDWR | O_CREAT | O_TRUNC | O_CLOEXEC, 0666);
-    error_file = open("../error", O_RDWR | O_CREAT | O_TRUNC | O_CLOEXEC, 0666);
-    if (output_file < 0 || error_file < 0)
-        give_up("../output");
+    open_outputs();
     static char line[MOST_LINE];
     size_t rows = 0;
     for (; fgets(line, sizeof line, stdin); rows++)

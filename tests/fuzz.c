@@ -4,31 +4,20 @@
        fuzz PROGRAM SEED CASES [SECONDS]
 
    A case is a tree and some commands over it: up to four at random, or the story of a build, so that objects are recorded
-   and symbols change behind their records. The same seed makes the same cases. The folder is the current one, and is emptied.
+   and symbols change after their records. The same seed makes the same cases. The folder is the current one, and is emptied.
    At the first difference the case is left there and told, status 1. */
 #define _GNU_SOURCE
-#include "model.h"
+#include "program.h"
 
 #include <errno.h>
 #include <fcntl.h>
 #include <ftw.h>
-#include <spawn.h>
-#include <stdarg.h>
 #include <stdio.h>
 #include <stdlib.h>
 #include <string.h>
 #include <sys/stat.h>
-#include <sys/wait.h>
 #include <time.h>
 #include <unistd.h>
-
-extern char **environ;
-
-static void give_up(const char *what)
-{
-    fprintf(stderr, "fuzz: %s: %s\n", what, strerror(errno));
-    exit(2);
-}
 
 /* Chance: a generator of 64 bits (splitmix), so that a case depends on its seed alone. */
 
@@ -230,7 +219,7 @@ static Bytes made_depfile(void)
 }
 
 static const char *const targets[] = {"x.o", "d/y.o", "d/e/z.o"};
-static const char *const odd_targets[] = {"x.o/", "a$b", "", "d", "none.o", "x.c/y.o"};
+static const char *const odd_targets[] = {"x.o/", "a$b", "", "d", "none.o", "x.c/y.o", "./x.o", "d//y.o", "./d/./e/z.o"};
 static const char *const commands[] = {"cc -c x.c", "cc -O2 -c x.c", "", " := ", "$(x) #\\", "cc \303\244"};
 static const char *const odd_commands[] = {"a\nb", "a\rb", "x.o := y"};
 
@@ -284,7 +273,7 @@ static Bytes made_script(void)
 static Bytes made_list(void)
 {
     Text text = {0};
-    for (size_t count = below(5); count > 0; count--)
+    for (size_t count = below(5) + (is_build ? 3 : 0); count > 0; count--)
         add_text(&text, "%s%s", one_in(8) ? "" : target(), line_end());
     return perhaps_damaged(&text, 10);
 }
@@ -337,8 +326,6 @@ static Tree made_tree(void)
 
 /* A command: its words, as the program and the model get them. */
 
-enum { MOST_WORDS = 8 };
-
 typedef struct {
     Bytes words[MOST_WORDS];
     size_t count;
@@ -379,39 +366,89 @@ static void words_of_preview(Command *made)
         word(made, file_word("include/config/auto.conf"));
 }
 
-static void word_from(Command *made)
+/* An option, and the word after it where it has one: right after the command, or after all words so far. */
+static void put_option(Command *made, const char *option, const char *after)
 {
-    word(made, "--from");
-    word(made, file_word("list"));
+    Command told = {.count = 0};
+    word(&told, option);
+    if (after)
+        word(&told, after);
+    size_t place = one_in(2) ? 1 : made->count;
+    memmove(made->words + place + told.count, made->words + place, (made->count - place) * sizeof *made->words);
+    memcpy(made->words + place, told.words, told.count * sizeof *told.words);
+    made->count += told.count;
 }
 
-/* Up to three targets, and perhaps a file of targets in front of them or behind them. */
+/* Up to three targets, and perhaps a file of targets; at times neither, which is no command. */
 static void objects(Command *made)
 {
-    bool has_file = one_in(3), is_in_front = one_in(2);
-    if (has_file && is_in_front)
-        word_from(made);
-    for (size_t count = below(3) + !has_file; count > 0; count--)
+    bool has_file = one_in(3);
+    for (size_t count = below(3) + (!has_file && !one_in(20)); count > 0; count--)
         word(made, target());
-    if (has_file && !is_in_front)
-        word_from(made);
+    if (has_file)
+        put_option(made, "--from", file_word("list"));
 }
 
-/* What writes nothing: `stale` or `why`, `impact` or `diff`. */
+static void perhaps_json(Command *made)
+{
+    if (one_in(3))
+        put_option(made, "--json", NULL);
+}
+
+static void words_of_diff(Command *made)
+{
+    words_of_sync(made, "diff");
+    if (one_in(3))
+        put_option(made, "--exit-code", NULL);
+    if (one_in(3))
+        put_option(made, "--quiet", NULL);
+}
+
+static void words_of_users(Command *made)
+{
+    static const char *const odd_symbols[] = {"", "CONFIG_", "A-B", "CONFIG_CONFIG_A", "A_MODULE", "include/config/A"};
+    word(made, "users");
+    for (size_t count = below(4) + !one_in(20); count > 0; count--) {
+        Text symbol = {0};
+        add_text(&symbol, "%s%s", one_in(3) ? "CONFIG_" : "", one_in(12) ? PICK(odd_symbols) : name());
+        word(made, (const char *)copy_of(of_text(&symbol)).at);
+    }
+    if (!one_in(30))
+        put_option(made, "--from", file_word("list"));
+}
+
+static void words_of_cost(Command *made)
+{
+    static const char *const numbers[] = {"0", "1", "2", "3", "7", "1000000", "x"};
+    word(made, "cost");
+    objects(made);
+    if (one_in(3))
+        put_option(made, "--top", PICK(numbers));
+}
+
+/* What writes nothing: `stale` or `why`, `impact`, `diff`, `users` or `cost`. */
 static Command made_question(void)
 {
     Command made = {.count = 0};
-    switch (below(6)) {
+    switch (below(10)) {
     case 0:
-        words_of_sync(&made, "diff");
+        words_of_diff(&made);
         break;
     case 1:
         words_of_sync(&made, "impact");
         objects(&made);
+        perhaps_json(&made);
+        break;
+    case 2:
+        words_of_users(&made);
+        break;
+    case 3:
+        words_of_cost(&made);
         break;
     default:
         word(&made, one_in(2) ? "stale" : "why");
         objects(&made);
+        perhaps_json(&made);
     }
     return made;
 }
@@ -481,18 +518,6 @@ static void write_file(Bytes path, Bytes bytes)
         give_up(place);
 }
 
-static Bytes read_whole(int file)
-{
-    Text text = {0};
-    char room[8192];
-    ssize_t length;
-    while ((length = read(file, room, sizeof room)) > 0)
-        add(&text, (Bytes){room, (size_t)length});
-    if (length < 0)
-        give_up("read");
-    return of_text(&text);
-}
-
 static Tree found;
 
 static int note_file(const char *path, const struct stat *about, int kind, struct FTW *place)
@@ -522,49 +547,16 @@ static void empty_folder(void)
         give_up("emptying the folder");
 }
 
-/* Runs the program with these words. What it prints goes to two files that were opened before. */
-
 static const char *program;
-static int output_file, error_file;
-
-static Bytes printed(int file)
-{
-    if (lseek(file, 0, SEEK_SET))
-        give_up("lseek");
-    return read_whole(file);
-}
-
-static Answer run_program(const Command *command)
-{
-    char *words[MOST_WORDS + 2] = {(char *)program};
-    for (size_t i = 0; i < command->count; i++)
-        words[i + 1] = (char *)command->words[i].at;
-    if (ftruncate(output_file, 0) || ftruncate(error_file, 0) || lseek(output_file, 0, SEEK_SET) || lseek(error_file, 0, SEEK_SET))
-        give_up("ftruncate");
-    posix_spawn_file_actions_t actions;
-    posix_spawn_file_actions_init(&actions);
-    posix_spawn_file_actions_adddup2(&actions, output_file, 1);
-    posix_spawn_file_actions_adddup2(&actions, error_file, 2);
-    pid_t child;
-    errno = posix_spawn(&child, program, &actions, NULL, words, environ);
-    if (errno)
-        give_up(program);
-    posix_spawn_file_actions_destroy(&actions);
-    int status;
-    if (waitpid(child, &status, 0) != child)
-        give_up("waitpid");
-    Bytes output = printed(output_file), error = printed(error_file);
-    return (Answer){WIFEXITED(status) ? WEXITSTATUS(status) : 128 + WTERMSIG(status), output, error};
-}
 
 /* Whether the output has a line that ends in a failure of the system. */
 static bool tells_device(Bytes output)
 {
-    static const char line[] = "refused 30 Device\n";
-    return memmem(output.at, output.length, line, sizeof line - 1) != NULL;
+    static const char line[] = "refused 30 Device\n", object[] = "\"refused\":\"30 Device\"}\n";
+    return memmem(output.at, output.length, line, sizeof line - 1) || memmem(output.at, output.length, object, sizeof object - 1);
 }
 
-/* Whether standard error is the line that is expected, and behind it at most one line more, of two spaces and a place. Where
+/* Whether standard error is the line that is expected, and after it at most one line more, of two spaces and a place. Where
    nothing is expected there may be such a line if the output tells a failure of the system. */
 static bool is_told(Bytes error, Bytes expected, Bytes output)
 {
@@ -576,6 +568,13 @@ static bool is_told(Bytes error, Bytes expected, Bytes output)
     bool may_be = expected.length > 0 || tells_device(output);
     bool is_place = may_be && rest.length > 3 && memcmp(rest.at, "  ", 2) == 0;
     return is_place && memchr(rest.at, '\n', rest.length) == rest.at + rest.length - 1;
+}
+
+/* A usage text is any text but the line of a refusal. */
+static bool is_usage(Bytes error)
+{
+    static const char refusal[] = "confstamp: ";
+    return error.length > 0 && (error.length < sizeof refusal || memcmp(error.at, refusal, sizeof refusal - 1));
 }
 
 static void show(const char *what, Bytes text)
@@ -615,13 +614,14 @@ static uint64_t refusals;
 static bool agrees(Tree *tree, const Command *command)
 {
     Answer wanted = run_words(tree, command->words, command->count);
-    Answer answer = run_program(command);
+    Answer answer = run_program(program, command->words, command->count);
     found = (Tree){0};
     if (nftw(".", note_file, 16, FTW_PHYS))
         give_up("reading the folder");
     refusals += wanted.status == 2;
-    bool is_same = answer.status == wanted.status && same(answer.output, wanted.output) && is_told(answer.error, wanted.error, wanted.output);
-    if (is_same && same_trees(tree, &found, false))
+    bool is_same = answer.status == wanted.status && same(answer.output, wanted.output);
+    bool says_why = wanted.is_usage ? is_usage(answer.error) : is_told(answer.error, wanted.error, wanted.output);
+    if (is_same && says_why && same_trees(tree, &found, false))
         return true;
     fprintf(stderr, "status %d, expected %d; words:", answer.status, wanted.status);
     for (size_t i = 0; i < command->count; i++)
@@ -629,7 +629,7 @@ static bool agrees(Tree *tree, const Command *command)
     fputc('\n', stderr);
     show("expected output", wanted.output);
     show("output", answer.output);
-    show("expected error", wanted.error);
+    show("expected error", wanted.is_usage ? bytes_of("(a usage text)") : wanted.error);
     show("error", answer.error);
     same_trees(tree, &found, true);
     return false;
@@ -684,10 +684,7 @@ int main(int count, char **words)
     auto_is_typed = getenv("TYPED") != NULL;
     uint64_t seed = strtoull(words[2], NULL, 10), cases = strtoull(words[3], NULL, 10), runs = 0, number = 0;
     time_t end = count > 4 ? time(NULL) + atol(words[4]) : 0;
-    output_file = open("../output", O_RDWR | O_CREAT | O_TRUNC | O_CLOEXEC, 0666);
-    error_file = open("../error", O_RDWR | O_CREAT | O_TRUNC | O_CLOEXEC, 0666);
-    if (output_file < 0 || error_file < 0)
-        give_up("../output");
+    open_outputs();
     for (; number < cases && (end == 0 || time(NULL) < end); number++)
         if (!run_case(seed, number, &runs))
             return 1;

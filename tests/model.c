@@ -140,6 +140,18 @@ Bytes of_text(const Text *text)
     return (Bytes){text->at, text->length};
 }
 
+/* Room for one item more in a list of `count` items, which moves where it is full. */
+static void *with_room(void *items, size_t count, size_t *room, size_t size)
+{
+    if (count < *room)
+        return items;
+    *room = 2 * *room + 8;
+    void *grown = keep(*room * size);
+    if (count)
+        memcpy(grown, items, count * size);
+    return grown;
+}
+
 static const Fault none = {{NULL, 0}};
 
 static bool refused(Fault fault)
@@ -338,14 +350,7 @@ static Symbol *symbol_named(const Symbols *symbols, Bytes name)
 
 static void declare(Symbols *symbols, Bytes name, Kind kind)
 {
-    if (symbols->count == symbols->room) {
-        size_t room = 2 * symbols->room + 8;
-        Symbol *grown = keep(room * sizeof *grown);
-        if (symbols->count)
-            memcpy(grown, symbols->symbols, symbols->count * sizeof *grown);
-        symbols->symbols = grown;
-        symbols->room = room;
-    }
+    symbols->symbols = with_room(symbols->symbols, symbols->count, &symbols->room, sizeof *symbols->symbols);
     symbols->symbols[symbols->count++] = (Symbol){.name = name, .kind = kind};
 }
 
@@ -394,8 +399,8 @@ static Form form_of(Bytes line, Bytes *word, Kind *kind)
     if (said.length == 0 || said.at[0] == '#')
         return EMPTY;
     Bytes first = upto(said, word_length(said));
-    Bytes behind = from(said, first.length);
-    Bytes rest = from(behind, blanks_of(behind));
+    Bytes after = from(said, first.length);
+    Bytes rest = from(after, blanks_of(after));
     if (is_text(first, "mainmenu")) {
         while (rest.length && (ends(rest, " ") || ends(rest, "\t")))
             rest.length--;
@@ -430,7 +435,7 @@ static bool is_title(Bytes text)
     return text.length >= 1 && text.length <= 256;
 }
 
-/* Whether the line behind an entry leaves it without a kind. */
+/* Whether the line after an entry leaves it without a kind. */
 static bool leaves_untyped(Lines lines)
 {
     Bytes word;
@@ -505,9 +510,11 @@ static bool split_unset(Bytes line, Bytes *name)
     return is_name(*name);
 }
 
-static Fault read_dotconfig(Bytes text, Symbols *symbols, uint64_t *unknown)
+/* A line `unknown NAME` for each line about a name that isn't declared. */
+static Fault read_dotconfig(Bytes text, Symbols *symbols, uint64_t *unknown, Text *unknown_lines)
 {
     *unknown = 0;
+    *unknown_lines = (Text){0};
     if (text.length > MAX_BYTES)
         return fault("9 TooLarge");
     Lines lines = lines_of(text);
@@ -522,6 +529,9 @@ static Fault read_dotconfig(Bytes text, Symbols *symbols, uint64_t *unknown)
         Symbol *symbol = symbol_named(symbols, name);
         if (!symbol) {
             ++*unknown;
+            add(unknown_lines, bytes_of("unknown "));
+            add(unknown_lines, name);
+            add(unknown_lines, bytes_of("\n"));
             continue;
         }
         symbol->is_set = is_value;
@@ -731,15 +741,14 @@ static bool has_name(const Names *names, Bytes name)
 
 static void note(Names *names, Bytes name)
 {
-    if (names->count == names->room) {
-        size_t room = 2 * names->room + 8;
-        Bytes *grown = keep(room * sizeof *grown);
-        if (names->count)
-            memcpy(grown, names->names, names->count * sizeof *grown);
-        names->names = grown;
-        names->room = room;
-    }
+    names->names = with_room(names->names, names->count, &names->room, sizeof *names->names);
     names->names[names->count++] = name;
+}
+
+static void note_once(Names *names, Bytes name)
+{
+    if (!has_name(names, name))
+        note(names, name);
 }
 
 /* The names at the places of a text that weren't noted yet. */
@@ -755,8 +764,8 @@ static void scan(Bytes text, Names *names)
         run.length = length;
         if (ends(run, "_MODULE"))
             run.length -= 7;
-        if (is_name(run) && !has_name(names, run))
-            note(names, run);
+        if (is_name(run))
+            note_once(names, run);
     }
 }
 
@@ -827,7 +836,7 @@ static Fault read_depfile(Bytes text, Prerequisites *list)
 
 typedef struct {
     Bytes target, command, place; /* the last listed file so far, or the source */
-    Names names, places;          /* each name, and the place that it stands behind */
+    Names names, places;          /* each name, and the place that it stands after */
     bool has_generation;
     uint64_t generation;
 } CommandFile;
@@ -968,14 +977,7 @@ void put(Tree *tree, Bytes path, Bytes bytes)
     path = plain_path(path);
     File *file = file_at(tree, path);
     if (!file) {
-        if (tree->count == tree->room) {
-            size_t room = 2 * tree->room + 16;
-            File *grown = keep(room * sizeof *grown);
-            if (tree->count)
-                memcpy(grown, tree->files, tree->count * sizeof *grown);
-            tree->files = grown;
-            tree->room = room;
-        }
+        tree->files = with_room(tree->files, tree->count, &tree->room, sizeof *tree->files);
         file = &tree->files[tree->count++];
         file->path = copy_of(path);
     }
@@ -1099,6 +1101,7 @@ static Fault read_stamp(const Tree *tree, Bytes name, uint64_t *number)
 
 typedef struct {
     uint64_t generation, unknown;
+    Text unknown_lines;
     Bytes *touched;
     size_t count;
     Symbols settings;
@@ -1109,7 +1112,7 @@ static Fault plan_of(Bytes kconfig, Bytes dotconfig, Plan *plan)
     Symbols symbols;
     Fault found = read_kconfig(kconfig, &symbols);
     if (!refused(found))
-        found = read_dotconfig(dotconfig, &symbols, &plan->unknown);
+        found = read_dotconfig(dotconfig, &symbols, &plan->unknown, &plan->unknown_lines);
     if (!refused(found))
         plan->settings = settings_of(&symbols);
     return found;
@@ -1216,90 +1219,202 @@ static Fault record(Tree *tree, Bytes depfile, Bytes target, Bytes command, uint
     return none;
 }
 
-/* What is asked of an object: `stale`, `why`, or `outdated` with a command. */
+/* The command file of a target, where there is one. */
+static Fault record_of(const Tree *tree, Bytes target, CommandFile *file, bool *is_there)
+{
+    Bytes text;
+    *is_there = false;
+    if (!is_target(target))
+        return fault("21 BadPath token 0");
+    Fault found = read_file(tree, command_path(target), &text, is_there);
+    if (!refused(found) && *is_there)
+        found = read_command(text, file);
+    if (!refused(found) && *is_there && !same(file->target, target))
+        found = fault("23 BadCommandFile line 1");
+    return found;
+}
+
+/* What is asked of an object: `stale`, `why`, or `outdated` with a command; and whether it is answered in JSON. */
 typedef struct {
-    bool asks_why;
+    bool asks_why, is_json;
     const Bytes *command; /* or NULL */
 } Question;
 
-/* The first name that changed since the record, and the lines of all that did. Where nobody asks why, no stamp is read behind
-   the first. */
-static Fault changes_since(const Tree *tree, const CommandFile *file, bool asks_why, Bytes *first, Text *causes)
+typedef enum { FRESH, CHANGED, NO_COMMAND_FILE, NOT_NUMBERED, GENERATION_AHEAD, COMMAND_DIFFERS } Verdict;
+
+static const char *const verdict_words[] = {"fresh", "stale", "no-command-file", "not-numbered", "generation-ahead", "command-differs"};
+
+/* A name that changed since the record, with its stamp and the place that it stands after. */
+typedef struct {
+    Bytes name, place;
+    uint64_t stamp;
+} Cause;
+
+/* What is answered of an object: its verdict with the names that changed, or a refusal. */
+typedef struct {
+    Fault fault;
+    Verdict verdict;
+    Cause *causes;
+    size_t count, room;
+} Finding;
+
+/* The names that changed since the record. Where nobody asks why, no stamp is read after the first. */
+static Fault find_causes(const Tree *tree, const CommandFile *file, bool asks_why, Finding *finding)
 {
     uint64_t stamp;
-    for (size_t i = 0; i < file->names.count; i++) {
-        Bytes name = file->names.names[i];
-        Fault found = read_stamp(tree, name, &stamp);
+    for (size_t i = 0; i < file->names.count && (asks_why || finding->count == 0); i++) {
+        Fault found = read_stamp(tree, file->names.names[i], &stamp);
         if (refused(found))
             return found;
         if (stamp <= file->generation)
             continue;
-        if (first->length == 0)
-            *first = name;
-        if (!asks_why)
-            return none;
-        add(causes, joined("  ", name, ""));
-        add_text(causes, " generation %" PRIu64, stamp);
-        add(causes, joined(" ", file->places.names[i], "\n"));
+        finding->causes = with_room(finding->causes, finding->count, &finding->room, sizeof *finding->causes);
+        finding->causes[finding->count++] = (Cause){file->names.names[i], file->places.names[i], stamp};
     }
+    finding->verdict = finding->count ? CHANGED : FRESH;
     return none;
 }
 
-/* What is said behind the target: `fresh`, or `stale` and why, or `command-differs`; and the lines below it. */
-static Fault verdict_of(const Tree *tree, Bytes target, Question question, Bytes *verdict, Text *causes)
+static Fault find_verdict(const Tree *tree, Bytes target, Question question, Finding *finding)
 {
     const Bytes *command = question.command;
-    if (!is_target(target))
-        return fault("21 BadPath token 0");
-    if (command && !is_command(*command))
-        return fault("22 BadCommand");
-    Bytes text;
-    bool is_there;
     CommandFile file;
+    bool is_there;
     uint64_t generation;
-    Fault found = read_file(tree, command_path(target), &text, &is_there);
-    *verdict = bytes_of("stale no-command-file");
+    if (is_target(target) && command && !is_command(*command))
+        return fault("22 BadCommand");
+    Fault found = record_of(tree, target, &file, &is_there);
+    finding->verdict = NO_COMMAND_FILE;
     if (refused(found) || !is_there)
         return found;
-    found = read_command(text, &file);
-    if (!refused(found) && !same(file.target, target))
-        found = fault("23 BadCommandFile line 1");
-    *verdict = bytes_of("command-differs");
-    if (refused(found) || (command && !same(*command, file.command)))
-        return found;
-    *verdict = bytes_of("stale not-numbered");
+    finding->verdict = COMMAND_DIFFERS;
+    if (command && !same(*command, file.command))
+        return none;
+    finding->verdict = NOT_NUMBERED;
     if (!file.has_generation)
         return none;
     found = last_generation(tree, &generation);
-    *verdict = bytes_of("stale generation-ahead");
+    finding->verdict = GENERATION_AHEAD;
     if (refused(found) || file.generation > generation)
         return found;
-    Bytes first = {NULL, 0};
-    found = changes_since(tree, &file, question.asks_why, &first, causes);
-    *verdict = first.length ? joined("stale ", first, "") : bytes_of("fresh");
-    return found;
+    return find_causes(tree, &file, question.asks_why, finding);
 }
 
 static Answer refusal(Fault found)
 {
-    return (Answer){2, {NULL, 0}, joined("confstamp: ", found.text, "\n")};
+    return (Answer){2, {NULL, 0}, joined("confstamp: ", found.text, "\n"), false};
 }
 
-/* The lines for a target, and the status that the answers so far come to. Returns whether it is stale. */
+/* The path without the parts that lead nowhere: empty ones and `.`. A slash in front stays. */
+static Bytes usual_path(Bytes path)
+{
+    Text usual = {0};
+    bool is_rooted = starts(path, "/");
+    for (size_t length;; path = from(path, length + 1)) {
+        length = place_of(path, '/');
+        Bytes part = upto(path, length);
+        if (part.length && !is_text(part, ".")) {
+            if (usual.length || is_rooted)
+                add(&usual, bytes_of("/"));
+            add(&usual, part);
+        }
+        if (length == path.length)
+            return of_text(&usual);
+    }
+}
+
+static bool is_recorded(const Tree *tree, Bytes target)
+{
+    bool is_there;
+    CommandFile file;
+    return !refused(record_of(tree, target, &file, &is_there)) && is_there;
+}
+
+/* The line below a target that is not recorded, where it is under another spelling of its path. */
+static void add_spelling(const Tree *tree, Bytes target, Text *output)
+{
+    Bytes usual = usual_path(target);
+    if (!same(usual, target) && is_recorded(tree, usual))
+        add(output, joined("  recorded as ", usual, "\n"));
+}
+
+/* `TARGET fresh`, `TARGET stale REASON`, `TARGET command-differs` or `TARGET refused FAULT`, and below it what `why` says. */
+static void add_lines(const Tree *tree, Bytes target, Question question, const Finding *finding, Text *output)
+{
+    Verdict verdict = finding->verdict;
+    bool is_refused = refused(finding->fault);
+    add(output, target);
+    if (is_refused)
+        add(output, joined(" refused ", finding->fault.text, "\n"));
+    else if (verdict == CHANGED)
+        add(output, joined(" stale ", finding->causes[0].name, "\n"));
+    else
+        add_text(output, " %s%s\n", verdict == FRESH || verdict == COMMAND_DIFFERS ? "" : "stale ", verdict_words[verdict]);
+    if (!question.asks_why)
+        return;
+    if (is_refused ? is_text(finding->fault.text, "23 BadCommandFile line 1") : verdict == NO_COMMAND_FILE)
+        add_spelling(tree, target, output);
+    for (size_t i = 0; !is_refused && i < finding->count; i++) {
+        add(output, joined("  ", finding->causes[i].name, ""));
+        add_text(output, " generation %" PRIu64, finding->causes[i].stamp);
+        add(output, joined(" ", finding->causes[i].place, "\n"));
+    }
+}
+
+/* A text of JSON, of a character for each byte. */
+static void add_string(Text *output, Bytes bytes)
+{
+    add_text(output, "\"");
+    for (size_t i = 0; i < bytes.length; i++) {
+        unsigned char byte = (unsigned char)bytes.at[i];
+        if (byte == '"' || byte == '\\')
+            add_text(output, "\\%c", byte);
+        else if (byte < 32 || byte > 126)
+            add_text(output, "\\u%04x", byte);
+        else
+            add_text(output, "%c", byte);
+    }
+    add_text(output, "\"");
+}
+
+/* The object of JSON of an answer, in one line. */
+static void add_json(Bytes target, Question question, const Finding *finding, Text *output)
+{
+    bool is_refused = refused(finding->fault);
+    add_text(output, "{\"target\":");
+    add_string(output, target);
+    add_text(output, ",\"verdict\":\"%s\",\"causes\":[", is_refused ? "refused" : verdict_words[finding->verdict]);
+    for (size_t i = 0; !is_refused && i < finding->count; i++) {
+        add_text(output, "%s{\"name\":", i ? "," : "");
+        add_string(output, finding->causes[i].name);
+        if (question.asks_why) {
+            add_text(output, ",\"place\":");
+            add_string(output, finding->causes[i].place);
+            add_text(output, ",\"stamp\":%" PRIu64, finding->causes[i].stamp);
+        }
+        add_text(output, "}");
+    }
+    add_text(output, "]");
+    if (is_refused) {
+        add_text(output, ",\"refused\":");
+        add_string(output, finding->fault.text);
+    }
+    add_text(output, "}\n");
+}
+
+/* Tells of a target, and the status that the answers so far come to. Returns whether it is stale. */
 static bool answer_target(const Tree *tree, Bytes target, Question question, Text *output, int *status)
 {
-    Bytes verdict;
-    Text causes = {0};
-    Fault found = verdict_of(tree, target, question, &verdict, &causes);
-    bool is_stale = !refused(found) && !is_text(verdict, "fresh");
-    add(output, target);
-    add(output, refused(found) ? joined(" refused ", found.text, "\n") : joined(" ", verdict, "\n"));
-    if (refused(found)) {
+    Finding finding = {.count = 0};
+    finding.fault = find_verdict(tree, target, question, &finding);
+    if (question.is_json)
+        add_json(target, question, &finding, output);
+    else
+        add_lines(tree, target, question, &finding, output);
+    bool is_refused = refused(finding.fault), is_stale = !is_refused && finding.verdict != FRESH;
+    if (is_refused)
         *status = 2;
-        return false;
-    }
-    add(output, of_text(&causes));
-    if (is_stale && *status == 0)
+    else if (is_stale && *status == 0)
         *status = 1;
     return is_stale;
 }
@@ -1336,7 +1451,7 @@ static Answer run_sync(Tree *tree, const Bytes *words)
     add_text(&output, "generation %" PRIu64 "\n", plan.generation);
     add_touched(&output, &plan);
     add_text(&output, "unknown %" PRIu64 "\n", plan.unknown);
-    return (Answer){0, of_text(&output), {NULL, 0}};
+    return (Answer){0, of_text(&output), {NULL, 0}, false};
 }
 
 static Answer run_preview(const Tree *tree, const Bytes *words, size_t count)
@@ -1356,7 +1471,7 @@ static Answer run_preview(const Tree *tree, const Bytes *words, size_t count)
         return refusal(found);
     add_touched(&output, &plan);
     add(&output, auto_text(&plan.settings, plan.generation));
-    return (Answer){0, of_text(&output), {NULL, 0}};
+    return (Answer){0, of_text(&output), {NULL, 0}, false};
 }
 
 static Answer run_fixdep(const Tree *tree, const Bytes *words)
@@ -1369,7 +1484,7 @@ static Answer run_fixdep(const Tree *tree, const Bytes *words)
         found = read_prerequisites(tree, words[0], &list);
     if (!refused(found))
         found = command_text(tree, &list, words[1], words[2], &output, &count);
-    return refused(found) ? refusal(found) : (Answer){0, of_text(&output), {NULL, 0}};
+    return refused(found) ? refusal(found) : (Answer){0, of_text(&output), {NULL, 0}, false};
 }
 
 static Answer run_record(Tree *tree, const Bytes *words)
@@ -1382,23 +1497,31 @@ static Answer run_record(Tree *tree, const Bytes *words)
         return refusal(found);
     add(&output, joined("record ", words[1], ""));
     add_text(&output, " generation %" PRIu64 " names %zu\n", generation, count);
-    return (Answer){0, of_text(&output), {NULL, 0}};
+    return (Answer){0, of_text(&output), {NULL, 0}, false};
 }
 
-/* Takes `--from FILE` out of the words. Returns whether it was there. */
-static bool take_from(Bytes *words, size_t *count, Bytes *path)
+/* Words that are no command: a usage text goes to standard error, and the model doesn't know which. */
+static Answer no_command(void)
 {
-    for (size_t i = 0; i + 1 < *count; i++)
-        if (is_text(words[i], "--from")) {
-            *path = words[i + 1];
-            *count -= 2;
-            memmove(words + i, words + i + 2, (*count - i) * sizeof *words);
+    return (Answer){.status = 2, .is_usage = true};
+}
+
+/* Takes an option out of the words, and the word after it where it has one. Returns whether it was there. */
+static bool take_option(Bytes *words, size_t *count, const char *option, Bytes *after)
+{
+    size_t taken = after ? 2 : 1;
+    for (size_t i = 0; i + taken <= *count; i++)
+        if (is_text(words[i], option)) {
+            if (after)
+                *after = words[i + 1];
+            *count -= taken;
+            memmove(words + i, words + i + taken, (*count - i) * sizeof *words);
             return true;
         }
     return false;
 }
 
-/* The targets among the words, and behind them the lines of the file that aren't empty. */
+/* The targets among the words, and after them the lines of the file that aren't empty. */
 static Fault targets_of(const Tree *tree, const Bytes *words, size_t count, const Bytes *path, Names *targets)
 {
     Bytes text;
@@ -1424,7 +1547,7 @@ static Answer answer_all(const Tree *tree, const Names *targets, Question questi
     *stale = 0;
     for (size_t i = 0; i < targets->count; i++)
         *stale += answer_target(tree, targets->names[i], question, &output, &status);
-    return (Answer){status, of_text(&output), {NULL, 0}};
+    return (Answer){status, of_text(&output), {NULL, 0}, false};
 }
 
 static Answer run_questions(const Tree *tree, Bytes *words, size_t count, bool asks_why)
@@ -1432,9 +1555,12 @@ static Answer run_questions(const Tree *tree, Bytes *words, size_t count, bool a
     Bytes path;
     Names targets = {0};
     size_t stale;
-    bool has_file = take_from(words, &count, &path);
+    bool is_json = take_option(words, &count, "--json", NULL);
+    bool has_file = take_option(words, &count, "--from", &path);
+    if (!has_file && !is_json && count == 0)
+        return no_command();
     Fault found = targets_of(tree, words, count, has_file ? &path : NULL, &targets);
-    return refused(found) ? refusal(found) : answer_all(tree, &targets, (Question){asks_why, NULL}, &stale);
+    return refused(found) ? refusal(found) : answer_all(tree, &targets, (Question){asks_why, is_json, NULL}, &stale);
 }
 
 static Answer run_outdated(const Tree *tree, const Bytes *words)
@@ -1442,30 +1568,166 @@ static Answer run_outdated(const Tree *tree, const Bytes *words)
     Names targets = {0};
     size_t stale;
     note(&targets, words[0]);
-    return answer_all(tree, &targets, (Question){false, &words[1]}, &stale);
+    return answer_all(tree, &targets, (Question){false, false, &words[1]}, &stale);
 }
 
-/* What `stale` says of a copy of the tree, behind a `sync` in it. */
+static Bytes count_line(size_t some, size_t all, const char *what)
+{
+    Text line = {0};
+    add_text(&line, "%zu of %zu %s\n", some, all, what);
+    return of_text(&line);
+}
+
+/* What `stale` says of a copy of the tree, after a `sync` in it. */
 static Answer run_impact(const Tree *tree, Bytes *words, size_t count)
 {
     Bytes path, texts[2];
     Plan plan;
     Names targets = {0};
     size_t stale;
-    bool has_file = take_from(words, &count, &path);
-    Tree behind = copy_of_tree(tree);
+    bool is_json = take_option(words, &count, "--json", NULL);
+    bool has_file = take_option(words, &count, "--from", &path);
+    if (count < 2)
+        return no_command();
+    Tree after = copy_of_tree(tree);
     Fault found = load_all(tree, words, 2, texts);
     if (!refused(found))
-        found = synchronise(&behind, texts[0], texts[1], &plan);
+        found = synchronise(&after, texts[0], texts[1], &plan);
     if (!refused(found))
         found = targets_of(tree, words + 2, count - 2, has_file ? &path : NULL, &targets);
     if (refused(found))
         return refusal(found);
-    Answer answer = answer_all(&behind, &targets, (Question){false, NULL}, &stale);
-    Text error = {0};
-    add_text(&error, "%zu of %zu stale\n", stale, targets.count);
-    answer.error = of_text(&error);
+    Answer answer = answer_all(&after, &targets, (Question){false, is_json, NULL}, &stale);
+    answer.error = count_line(stale, targets.count, "stale");
     return answer;
+}
+
+/* Each of the targets once, in the order of their first places. */
+static Names each_once(const Names *targets)
+{
+    Names once = {0};
+    for (size_t i = 0; i < targets->count; i++)
+        note_once(&once, targets->names[i]);
+    return once;
+}
+
+/* The command file of a target that `users` or `cost` asks of; where there is none to be read, the line that says so. */
+static bool read_or_tell(const Tree *tree, Bytes target, CommandFile *file, Text *output, int *status)
+{
+    bool is_there;
+    Fault found = record_of(tree, target, file, &is_there);
+    if (refused(found)) {
+        add(output, target);
+        add(output, joined(" refused ", found.text, "\n"));
+        *status = 2;
+    } else if (!is_there) {
+        add(output, joined("", target, " no-command-file\n"));
+    }
+    return !refused(found) && is_there;
+}
+
+/* The names that the words ask for: as they are, or after one CONFIG_. */
+static Names symbols_of(const Bytes *words, size_t count)
+{
+    Names symbols = {0};
+    for (size_t i = 0; i < count; i++)
+        note(&symbols, starts(words[i], "CONFIG_") ? from(words[i], strlen("CONFIG_")) : words[i]);
+    return symbols;
+}
+
+static Answer run_users(const Tree *tree, Bytes *words, size_t count)
+{
+    Bytes path;
+    Names targets = {0};
+    Text output = {0};
+    int status = 0;
+    size_t users = 0;
+    if (!take_option(words, &count, "--from", &path) || count == 0)
+        return no_command();
+    Names symbols = symbols_of(words, count);
+    Fault found = targets_of(tree, NULL, 0, &path, &targets);
+    if (refused(found))
+        return refusal(found);
+    targets = each_once(&targets);
+    for (size_t i = 0; i < targets.count; i++) {
+        CommandFile file;
+        bool is_user = false;
+        if (!read_or_tell(tree, targets.names[i], &file, &output, &status))
+            continue;
+        for (size_t place = 0; place < file.names.count; place++) {
+            if (!has_name(&symbols, file.names.names[place]))
+                continue;
+            is_user = true;
+            add(&output, joined("", targets.names[i], " "));
+            add(&output, joined("", file.names.names[place], " "));
+            add(&output, joined("", file.places.names[place], "\n"));
+        }
+        users += is_user;
+    }
+    return (Answer){status, of_text(&output), count_line(users, targets.count, "objects"), false};
+}
+
+/* A symbol, and how many command files name it. */
+typedef struct {
+    Bytes name;
+    size_t count;
+} Cost;
+
+typedef struct {
+    Cost *all;
+    size_t count, room;
+} Costs;
+
+static void count_names(Costs *costs, const CommandFile *file)
+{
+    Names names = each_once(&file->names);
+    for (size_t i = 0; i < names.count; i++) {
+        size_t place = 0;
+        while (place < costs->count && !same(costs->all[place].name, names.names[i]))
+            place++;
+        if (place == costs->count) {
+            costs->all = with_room(costs->all, costs->count, &costs->room, sizeof *costs->all);
+            costs->all[costs->count++] = (Cost){names.names[i], 0};
+        }
+        costs->all[place].count++;
+    }
+}
+
+/* The greater number first, and of equal ones the lesser name. */
+static int by_cost(const void *a, const void *b)
+{
+    const Cost *one = a, *other = b;
+    return one->count != other->count ? (one->count < other->count ? 1 : -1) : compare(one->name, other->name);
+}
+
+static Answer run_cost(const Tree *tree, Bytes *words, size_t count)
+{
+    Bytes path, number;
+    Names targets = {0};
+    Costs costs = {0};
+    Text output = {0};
+    int status = 0;
+    uint64_t top = UINT64_MAX;
+    bool has_file = take_option(words, &count, "--from", &path);
+    bool has_top = take_option(words, &count, "--top", &number);
+    if ((has_top && !read_decimal(number, &top)) || (!has_top && !has_file && count == 0))
+        return no_command();
+    Fault found = targets_of(tree, words, count, has_file ? &path : NULL, &targets);
+    if (refused(found))
+        return refusal(found);
+    targets = each_once(&targets);
+    for (size_t i = 0; i < targets.count; i++) {
+        CommandFile file;
+        if (read_or_tell(tree, targets.names[i], &file, &output, &status))
+            count_names(&costs, &file);
+    }
+    if (costs.count)
+        qsort(costs.all, costs.count, sizeof *costs.all, by_cost);
+    for (size_t i = 0; i < costs.count && i < top; i++) {
+        add(&output, joined("", costs.all[i].name, " "));
+        add_text(&output, "%zu\n", costs.all[i].count);
+    }
+    return (Answer){status, of_text(&output), {NULL, 0}, false};
 }
 
 /* What a name has in an auto.conf: `n` where it has nothing. */
@@ -1496,25 +1758,30 @@ static void add_difference(Text *output, Bytes name, const Symbol *old, const Sy
     add_text(output, "\n");
 }
 
-static Answer run_diff(const Tree *tree, const Bytes *words)
+static Answer run_diff(const Tree *tree, Bytes *words, size_t count)
 {
     Bytes texts[2];
     Plan plan;
     Old old;
     Text output = {0};
-    Tree behind = copy_of_tree(tree);
+    bool is_quiet = take_option(words, &count, "--quiet", NULL);
+    bool has_status = take_option(words, &count, "--exit-code", NULL) || is_quiet;
+    if (count != 2)
+        return no_command();
+    Tree after = copy_of_tree(tree);
     Fault found = load_all(tree, words, 2, texts);
     if (!refused(found))
-        found = synchronise(&behind, texts[0], texts[1], &plan);
+        found = synchronise(&after, texts[0], texts[1], &plan);
     if (!refused(found))
         found = read_old(tree, &old);
     if (refused(found))
         return refusal(found);
-    for (size_t i = 0; i < plan.count; i++) {
+    for (size_t i = 0; i < plan.count && !is_quiet; i++) {
         Bytes name = plan.touched[i];
         add_difference(&output, name, symbol_named(&old.entries, name), symbol_named(&plan.settings, name));
     }
-    return (Answer){0, of_text(&output), {NULL, 0}};
+    Text no_lines = {0};
+    return (Answer){has_status && plan.count > 0, of_text(&output), of_text(is_quiet ? &no_lines : &plan.unknown_lines), false};
 }
 
 /* A line of a script: its command and its words. */
@@ -1624,10 +1891,10 @@ static Answer run_batch(Tree *tree, Bytes script)
     int status = 0;
     for (size_t i = 0; i < count; i++)
         if (steps[i].command == STALE)
-            answer_target(tree, steps[i].words[0], (Question){false, NULL}, &output, &status);
+            answer_target(tree, steps[i].words[0], (Question){false, false, NULL}, &output, &status);
         else
             run_step(tree, &steps[i], texts[i], &output, &status);
-    return (Answer){status, of_text(&output), {NULL, 0}};
+    return (Answer){status, of_text(&output), {NULL, 0}, false};
 }
 
 static Answer run_command(Tree *tree, Bytes *words, size_t count)
@@ -1640,12 +1907,16 @@ static Answer run_command(Tree *tree, Bytes *words, size_t count)
         return run_fixdep(tree, words + 1);
     if (is_text(words[0], "record") && count == 4)
         return run_record(tree, words + 1);
-    if (is_text(words[0], "diff") && count == 3)
-        return run_diff(tree, words + 1);
-    if ((is_text(words[0], "stale") || is_text(words[0], "why")) && count >= 2)
+    if (is_text(words[0], "diff"))
+        return run_diff(tree, words + 1, count - 1);
+    if (is_text(words[0], "stale") || is_text(words[0], "why"))
         return run_questions(tree, words + 1, count - 1, is_text(words[0], "why"));
-    if (is_text(words[0], "impact") && count >= 3)
+    if (is_text(words[0], "impact"))
         return run_impact(tree, words + 1, count - 1);
+    if (is_text(words[0], "users"))
+        return run_users(tree, words + 1, count - 1);
+    if (is_text(words[0], "cost"))
+        return run_cost(tree, words + 1, count - 1);
     if (is_text(words[0], "outdated") && count == 3)
         return run_outdated(tree, words + 1);
     if (is_text(words[0], "batch") && count == 2)
@@ -1654,55 +1925,9 @@ static Answer run_command(Tree *tree, Bytes *words, size_t count)
     exit(2);
 }
 
-/* Whether a command synchronises: `sync`, or the script of a `batch` has such a line. */
-static bool synchronises(const Tree *tree, const Bytes *words, size_t count)
-{
-    Bytes text;
-    Step *steps;
-    size_t steps_count;
-    if (!is_text(words[0], "batch") || count != 2)
-        return is_text(words[0], "sync");
-    if (refused(load_all(tree, words + 1, 1, &text)) || refused(read_script(text, &steps, &steps_count)))
-        return false;
-    for (size_t i = 0; i < steps_count; i++)
-        if (steps[i].command == SYNC)
-            return true;
-    return false;
-}
-
-/* Whether there is an auto.conf that can be read. */
-static bool auto_conf_is_there(const Tree *tree, Old *old)
-{
-    Bytes text;
-    bool is_there;
-    return !refused(read_file(tree, bytes_of(auto_path), &text, &is_there)) && is_there && !refused(read_auto(text, old));
-}
-
-/* Whether auto.conf has no generation, while the stamp of one of its names has a number. */
-static bool numbers_are_lost(const Tree *tree)
-{
-    Old old;
-    if (!auto_conf_is_there(tree, &old) || old.generation)
-        return false;
-    for (size_t i = 0; i < old.entries.count; i++) {
-        uint64_t number;
-        if (!refused(read_stamp(tree, old.entries.symbols[i].name, &number)) && number > 0)
-            return true;
-    }
-    return false;
-}
-
-static const char lost_numbers[] = "confstamp: auto.conf has lost its generation (another tool wrote it), so numbers begin again: "
-                                   "remove include/config and build everything anew\n";
-
 Answer run_words(Tree *tree, const Bytes *words, size_t count)
 {
-    bool is_lost = synchronises(tree, words, count) && numbers_are_lost(tree);
     Bytes *own = keep((count + 1) * sizeof *own);
     memcpy(own, words, count * sizeof *own);
-    Answer answer = run_command(tree, own, count);
-    Old old;
-    if (is_lost && auto_conf_is_there(tree, &old) && old.generation)
-        answer.error = joined("", answer.error, lost_numbers);
-    return answer;
+    return run_command(tree, own, count);
 }

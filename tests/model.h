@@ -54,14 +54,15 @@ typedef struct {
     Bytes text;
 } Fault;
 
-/* What a command did: the exit status, standard output, and what standard error begins with: the
-   first line, or the one that numbers are lost and then the one of a refusal. */
+/* What a command did: the exit status, standard output, and what standard error begins with. Where the words are no command
+   it is a usage text, which the model doesn't know. */
 typedef struct {
     int status;
     Bytes output, error;
+    bool is_usage;
 } Answer;
 
-/* The words behind the program's name, run over a tree. */
+/* The words after the program's name, run over a tree. */
 Answer run_words(Tree *tree, const Bytes *words, size_t count);
 
 #endif

@@ -3,9 +3,9 @@
        states AFTER SNAPSHOT..
 
    Each SNAPSHOT is a folder as one command after another leaves it. AFTER must lie between two that follow each other: of
-   the files in which these differ, in the order in which a synchronisation writes them (the stamps by name, the header,
-   auto.conf, then a command file), those of a beginning are the new ones and all others the old ones. Files that end in
-   .tmp may hold anything. Prints how many snapshots lie behind, and how many files are new; status 1 where there is no such
+   the files in which these differ, in the order in which a command writes them (a command file, the stamps by name, the
+   header, auto.conf, then a dependency file), those of a beginning are the new ones and all others the old ones. Files that
+   end in .tmp may hold anything. Prints how many snapshots lie after, and how many files are new; status 1 where there is no such
    pair. */
 #define _GNU_SOURCE
 #include <errno.h>
@@ -25,11 +25,14 @@ static size_t root_length;
 /* The place of a file in the order of writing. */
 static int turn(const char *path)
 {
+    size_t length = strlen(path);
+    if (length > 4 && strcmp(path + length - 4, ".cmd") == 0)
+        return 0;
     if (strcmp(path, "include/generated/autoconf.h") == 0)
-        return 1;
-    if (strcmp(path, "include/config/auto.conf") == 0)
         return 2;
-    return strncmp(path, "include/config/", 15) == 0 ? 0 : 3;
+    if (strcmp(path, "include/config/auto.conf") == 0)
+        return 3;
+    return strncmp(path, "include/config/", 15) == 0 ? 1 : 4;
 }
 
 static int by_turn(const void *a, const void *b)

@@ -8,6 +8,7 @@ installed_files() {
     cat << END
 $made/confstamp bin/confstamp
 tools/bare-kconfig bin/bare-kconfig
+ninja/confstamp-cc bin/confstamp-cc
 tools/bare-kconfig lib/confstamp/tools/bare-kconfig
 docs/confstamp.1 share/man/man1/confstamp.1
 $made/bash share/bash-completion/completions/confstamp
@@ -34,4 +35,21 @@ put_files() {
         mkdir -p "$1/${place%/*}"
         install -m "$mode" "$top/$source" "$1/$place"
     done
+}
+
+# take_prefix WORDS..: `prefix`, which is the word, or ~/.local without one.
+take_prefix() {
+    case $#:${1-} in
+    1:--help)
+        sed -n '/^#!/d; /^#/!q; s/^# \{0,1\}//; p' "$0"
+        exit
+        ;;
+    0: | 1:[!-]*)
+        prefix=${1:-$HOME/.local}
+        ;;
+    *)
+        echo "usage: tools/${0##*/} [PREFIX]" >&2
+        exit 2
+        ;;
+    esac
 }

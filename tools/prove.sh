@@ -8,42 +8,70 @@
 # The program logic that the proofs were written for: what `rt version` has to tell, whichever kit it is.
 logic=dac8208d650f15bf
 
-# Seconds that a proof of each crate takes alone on an idle machine.
-seconds='ks_symbols 95
-ks_output 70
-ks_compare 15
-ks_fixdep 190
-ks_tree 110
-ks_script 20
-ks_streams 20
-ks_engine 160
-ks_requests 90
-ks_words 80
-ks_commands 90
-ks_program 40
-confstamp 80'
+# Seconds that a proof of each crate takes on a machine of four processors, beside other work. Those of ks_commands,
+# ks_program and confstamp are reckoned, all others measured.
+seconds='ks_symbols 220
+ks_output 200
+ks_compare 30
+ks_fixdep 540
+ks_tree 430
+ks_script 90
+ks_streams 30
+ks_engine 480
+ks_parallel 120
+ks_requests 400
+ks_words 230
+ks_commands 400
+ks_program 60
+confstamp 150'
 
 # The lines of crates.txt for the program and all that it stands on; crates of tests alone are no part of it.
 program_crates() {
     grep -v -e '^#' -e '^[a-z_]*_tests:' "$top/crates.txt"
 }
 
-# seconds_without CRATE..: what a proof of all others takes side by side: the longest row of crates of which each stands on
-# the one before, or the share of one processor where that is more.
-seconds_without() {
-    (echo "$seconds" && echo && program_crates) | awk -v done=" $* " -v processors="$(getconf _NPROCESSORS_ONLN)" '
+# seconds_left NOW [CRATE=SECOND..]: how long it takes from now on, by the second at which each of these crates was proved
+# (nothing, where it was before). A crate begins once those below it are proved, and takes its own seconds as much longer
+# or shorter as those that are done did. All is proved at the end of the longest row, or of the share of one processor where
+# that is more.
+seconds_left() {
+    (echo "$seconds" && echo && program_crates) | awk -v processors="$(getconf _NPROCESSORS_ONLN)" -v now="$1" -v told="$*" '
+        BEGIN {
+            count = split(told, words, " ")
+            for (at = 2; at <= count; at++) { split(words[at], pair, "="); ended[pair[1]] = pair[2] }
+        }
         $0 == "" { listed = 1; next }
         !listed { own[$1] = $2; next }
         {
             name = substr($1, 1, length($1) - 1)
-            need = index(done, " " name " ") ? 0 : name in own ? own[name] : 60
-            sum += need
-            below = 0
-            for (at = 2; at <= NF; at++) if (row[$at] > below) below = row[$at]
-            row[name] = below + need
-            if (row[name] > longest) longest = row[name]
+            names[++crates] = name
+            below[name] = $0
+            if (!(name in own)) own[name] = 60
+            if (name in ended) {
+                ends[name] = ended[name] + 0
+                if (ended[name] != "") { took += ends[name] - begun(name); usual += own[name] }
+            }
         }
-        END { share = sum / processors; printf "%d\n", (share > longest ? share : longest) }
+        function begun(name,   count, at, last, names) {
+            count = split(below[name], names, " ")
+            for (at = 2; at <= count; at++) if (ends[names[at]] > last) last = ends[names[at]]
+            return last + 0
+        }
+        END {
+            pace = took > 0 ? took / usual : 1
+            for (at = 1; at <= crates; at++) {
+                name = names[at]
+                if (!(name in ended)) {
+                    ends[name] = begun(name) + own[name] * pace
+                    if (ends[name] < now) ends[name] = now
+                    left += own[name] * pace
+                }
+                if (ends[name] > last) last = ends[name]
+            }
+            share = left / processors
+            row = last - now
+            printf "%d\n", (row > share ? row : share)
+        }
     '
 }
 
@@ -58,16 +86,15 @@ in_words() {
 
 # report CRATE HOW: one line of progress. What is left to do goes by what the crates that were proved until now took here.
 report() {
-    ended="$ended $1"
     passed=$(($(date +%s) - started))
     printf '  %2d:%02d %s %s' "$((passed / 60))" "$((passed % 60))" "$1" "$2"
-    # shellcheck disable=SC2086 # the lists are words
     if [ "$2" = proved ]; then
-        left=$(seconds_without $ended)
-        did=$(($(seconds_without $kept) - left))
-        [ "$left" = 0 ] || [ "$did" -le 0 ] || printf ', about %s to go' "$(in_words $((passed * left / did)))"
+        ended="$ended $1=$passed"
+        # shellcheck disable=SC2086 # the list is words
+        left=$(seconds_left "$passed" $ended)
+        [ "$left" = 0 ] || printf ', about %s to go' "$(in_words "$left")"
     else
-        kept="$kept $1"
+        ended="$ended $1="
     fi
     echo
 }
@@ -76,7 +103,6 @@ report() {
 follow() {
     started=$(date +%s)
     ended=
-    kept=
     while IFS= read -r line; do
         printf '%s\n' "$line" >> "$log"
         words=${line#rt: }

@@ -19,18 +19,24 @@ static uint64_t folded(uint64_t a, uint64_t b)
     return (uint64_t)product ^ (uint64_t)(product >> 64);
 }
 
-static uint64_t with_number(uint64_t state, uint64_t number)
+static uint64_t word_at(const char *text, int at)
 {
-    return folded(state ^ number, multiplier ^ 16);
+    uint64_t word = 0;
+    for (int i = 7; i >= 0; i--)
+        word = word << 8 | (unsigned char)text[at + i];
+    return word;
 }
 
-static uint64_t with_byte(uint64_t state, unsigned char byte)
+/* A text of 17 to 32 bytes: its length, its first 16 bytes and its last 16, and then the byte 0xff. */
+static uint64_t with_text(uint64_t state, const char *text, int length)
 {
-    uint64_t thrice = byte | (uint64_t)byte << 8 | (uint64_t)byte << 16;
-    return folded(state ^ thrice, multiplier ^ 2);
+    state = folded(word_at(text, 0) ^ (state + length), word_at(text, 8) ^ multiplier);
+    state = folded(word_at(text, length - 16) ^ state, word_at(text, length - 8) ^ multiplier);
+    uint64_t end = 0xff;
+    return folded(state ^ (end | end << 8 | end << 16), multiplier ^ 2);
 }
 
-/* What a table looks at, of a vector of bytes: its length and then each byte, after the seed. */
+/* What a table looks at. */
 static uint32_t place_of(uint64_t state)
 {
     return (uint32_t)(state ^ state >> 32) & CHOSEN;
@@ -45,19 +51,16 @@ int main(int count, char **words)
         return 2;
     const char *letters = "ABCDEFGHIJKLMNOPQRSTUVWXYZ0123456789_";
     char name[LENGTH + 1] = "HOSTILE_NAME_";
-    uint64_t fixed = with_number(with_number(start, 0), LENGTH);
-    for (int i = 0; i < FIXED; i++)
-        fixed = with_byte(fixed, name[i]);
+    uint64_t seeded = folded(start ^ 0, multiplier ^ 16);
     if (!are_names)
         fputs("x.o: x.c", stdout);
     for (uint64_t number = 0; wanted > 0; number++) {
-        uint64_t rest = number, state = fixed;
+        uint64_t rest = number;
         for (int i = FIXED; i < LENGTH; i++) {
             name[i] = letters[rest % LETTERS];
             rest /= LETTERS;
-            state = with_byte(state, name[i]);
         }
-        if (are_others || place_of(state) == 0) {
+        if (are_others || place_of(with_text(seeded, name, LENGTH)) == 0) {
             printf(are_names ? "CONFIG_%s\n" : " %s", name);
             wanted--;
         }

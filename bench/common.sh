@@ -115,6 +115,17 @@ keep_run() {
     echo "$kept"
 }
 
+# end_run WORD..: what the script was called with, and what came out, by its own `describe` and `summarise`; then the run is
+# kept. Status 1 where a target is missed.
+end_run() {
+    missed=0
+    describe "$@" > "$run/README.md"
+    summarise > "$run/summary" || missed=1
+    keep_run
+    cat "$run/summary"
+    exit "$missed"
+}
+
 # What stands in the README.md of every run: the command and what it ran on.
 describe_machine() {
     echo "- command: \`bench/$bench${1:+ $1}\`, on $(date -u +%Y-%m-%dT%H:%M:%SZ)"

@@ -15,6 +15,7 @@ mod refusals;
 mod scripts;
 #[cfg(test)]
 mod steps;
+#[cfg(test)]
 mod symbols;
 #[cfg(test)]
 mod texts;

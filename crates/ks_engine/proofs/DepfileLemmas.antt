@@ -1,9 +1,9 @@
 -- What is left behind the record of an object shows what was shown before.
-use Rattle.ks_engine.proofs.Prelude.{◌≡◌, ◌≢◌, ◌⊎◌, inl, inr, ⊎_elim, ℕ, Bool, true, false, ◌||◌, List, [], ◌∷◌, ◌++◌, Option, Some, None, Result, Ok, Err, IfOk, IfErr, IsTrue, sym, ◌∙◌, ap, refl, subst, arith, codes, take, drop, nat_eq, bytes_eq, map, append_assoc, true≢false, length, starts_with, ends_with, list_all, or_left, cases_Bool, and_parts, Decides-eqb, take-append-drop, list_any-append, bytes_eq-Decides, ends_is, is_name, is_in, header_path, Dep, File, Config, Header, is_dep, config_names, Role, prerequisites_without, tokens, first_target, rule_of, rule_text, Files, content, kept_or, SameButBoth, temporary, auto_path, stamp_path, command_path, command_temporary, dotted, HasNumber, MakesStamps, apart, stamp-injective, ending-temporary, ending-auto, ending-header, ending-stamp, ending-command, EngineError, Draft, IsDraft, History, Shows, IsAuto, stamp, RecordPlan, IsRecordPlanWithout, IsRecordedWithout, IsRecordTriedWithout, at, is_own_file, RuleLeaves, RuleDone, RuleTried, IsDepfileRecorded, IsDepfileRefused, IsOldOrRule, FollowsDepfile, MadeStampsShow}
-use Rattle.ks_engine.specs.Follows.{FollowsRecordedWithout}
+use Rattle.ks_engine.proofs.Prelude.{◌≡◌, ◌≢◌, ◌⊎◌, inl, inr, ⊎_elim, ℕ, Bool, true, false, ◌||◌, List, [], ◌∷◌, ◌++◌, Option, Some, None, Result, Ok, Err, IfOk, IfErr, IsTrue, sym, ◌∙◌, ap, refl, subst, arith, codes, take, drop, nat_eq, bytes_eq, map, append_assoc, true≢false, length, starts_with, ends_with, list_all, or_left, cases_Bool, and_parts, Decides-eqb, take-append-drop, list_any-append, bytes_eq-Decides, ends_is, is_name, is_in, header_path, Dep, File, Config, Conventions, Header, is_dep, config_names, Role, prerequisites_without, tokens, first_target, rule_of, rule_text, Files, content, kept_or, SameButBoth, temporary, auto_path, stamp_path, command_path, command_temporary, dotted, HasNumber, MakesStamps, apart, stamp-injective, ending-temporary, ending-auto, ending-header, ending-stamp, ending-command, EngineError, Draft, IsDraft, History, Shows, IsAuto, stamp, RecordPlan, IsRecordPlanUnder, IsRecordedUnder, IsRecordTriedUnder, at, is_own_file, RuleLeaves, RuleDone, RuleTried, IsDepfileRecorded, IsDepfileRefused, IsOldOrRule, FollowsDepfile, MadeStampsShow}
+use Rattle.ks_engine.specs.Follows.{FollowsRecordedUnder}
 use Rattle.ks_engine.specs.declared.recording.Recorded.{Recorded as Answer}
 use Rattle.ks_engine.proofs.Reading.{ok_ok}
-use Rattle.ks_engine.proofs.RecordSteps.{count_names, record_follows_without}
+use Rattle.ks_engine.proofs.RecordSteps.{count_names, record_follows_under}
 
 -- ---- the commands' own files
 
@@ -179,17 +179,17 @@ legal_deps (Config name ∷ deps) legal x among =
     (λ other. legal_deps deps parts.1 x (sym (ap (λ b. b || is_in (config_names deps) x) other) ∙ among))
     (cases_Bool (bytes_eq x name))
 
-pub legal_names : (header : Header) (files : Files) (d t c : List ℕ) (plan : RecordPlan) → IsRecordPlanWithout header files d t c plan
+pub legal_names : (conventions : Conventions) (files : Files) (d t c : List ℕ) (plan : RecordPlan) → IsRecordPlanUnder conventions files d t c plan
     → (x : List ℕ) → is_in plan.names x ≡ true → IsTrue (is_name x)
-legal_names header files d t c plan is x among =
-    legal_deps plan.file.deps is.legal.deps x (ap (λ l. is_in l x) (count_names header files d t c plan is) ∙ among)
+legal_names conventions files d t c plan is x among =
+    legal_deps plan.file.deps is.legal.deps x (ap (λ l. is_in l x) (count_names conventions files d t c plan is) ∙ among)
 
 -- ---- what the calls leave is what is said of the whole
 
-module _ {header : Header} {old mid new : Files} {d t c : List ℕ} {plan : RecordPlan} {draft : Draft} {text : List ℕ} (planned : IsRecordPlanWithout header old d t c plan)
+module _ {conventions : Conventions} {old mid new : Files} {d t c : List ℕ} {plan : RecordPlan} {draft : Draft} {text : List ℕ} (planned : IsRecordPlanUnder conventions old d t c plan)
     (is : IsDraft plan draft) (same : mid ≡ old) (same_text : text ≡ draft.text.items) (others : SameButBoth (command_temporary t) (command_path t) mid new) where
   pub tried_from : (content new (command_path t) ≡ content mid (command_path t)) ⊎ (content new (command_path t) ≡ Some text)
-      → IsRecordTriedWithout header old new d t c
+      → IsRecordTriedUnder conventions old new d t c
   tried_from either = record {
     plan = plan;
     planned = planned;
@@ -200,12 +200,12 @@ module _ {header : Header} {old mid new : Files} {d t c : List ℕ} {plan : Reco
     others = subst (λ f. SameButBoth (command_temporary t) (command_path t) f new) same others;
   }
 
-  abbrev pub recorded_from : content new (command_path t) ≡ Some text → IsRecordedWithout header old new d t c draft.answer
+  abbrev pub recorded_from : content new (command_path t) ≡ Some text → IsRecordedUnder conventions old new d t c draft.answer
   recorded_from written = record {
     plan = plan;
     planned = planned;
     generation = is.generation;
-    names = is.names ∙ ap length (count_names header old d t c plan planned);
+    names = is.names ∙ ap length (count_names conventions old d t c plan planned);
     written = written ∙ ap (λ b. Some b) (same_text ∙ is.text);
     others = subst (λ f. SameButBoth (command_temporary t) (command_path t) f new) same others;
   }
@@ -223,28 +223,28 @@ rule_is header d was ps ns names text is a b e =
 -- ---- the history goes on
 
 -- there is one plan
-same_plan : (header : Header) (files : Files) (d t c : List ℕ) (p q : RecordPlan) → IsRecordPlanWithout header files d t c p
-    → IsRecordPlanWithout header files d t c q → p ≡ q
-same_plan header files d t c p q one other = ok_ok p q (sym one.planned ∙ other.planned)
+same_plan : (conventions : Conventions) (files : Files) (d t c : List ℕ) (p q : RecordPlan) → IsRecordPlanUnder conventions files d t c p
+    → IsRecordPlanUnder conventions files d t c q → p ≡ q
+same_plan conventions files d t c p q one other = ok_ok p q (sym one.planned ∙ other.planned)
 
 -- the record is the event: what holds of its names holds of those of the event, and the rule after it leaves what is shown
-after_record : (header : Header) (old between new : Files) (m n : ℕ) (h : History) (d t c : List ℕ) (answer : Answer) (text : List ℕ) (made : List (List ℕ))
-    (P : List (List ℕ) → Type 0) (recorded : IsRecordedWithout header old between d t c answer) → Shows old h → is_own_file d ≡ false
+after_record : (conventions : Conventions) (old between new : Files) (m n : ℕ) (h : History) (d t c : List ℕ) (answer : Answer) (text : List ℕ) (made : List (List ℕ))
+    (P : List (List ℕ) → Type 0) (recorded : IsRecordedUnder conventions old between d t c answer) → Shows old h → is_own_file d ≡ false
     → RuleLeaves between new d recorded.plan.names text made → P recorded.plan.names
-    → (next : History) × (event : FollowsRecordedWithout header (at old m h) d t c answer (at between n next)) × P event.files.plan.names × Shows new next
-after_record header old between new m n h d t c answer text made P recorded shows free leaves holds =
-    let next = record_follows_without header old between m n h d t c (Ok answer) shows recorded tt in (
+    → (next : History) × (event : FollowsRecordedUnder conventions (at old m h) d t c answer (at between n next)) × P event.files.plan.names × Shows new next
+after_record conventions old between new m n h d t c answer text made P recorded shows free leaves holds =
+    let next = record_follows_under conventions old between m n h d t c (Ok answer) shows recorded tt in (
       next.0,
       next.1,
-      subst (λ (p : RecordPlan). P p.names) (same_plan header old d t c recorded.plan next.1.files.plan recorded.planned next.1.files.planned) holds,
-      rule_shows between new next.0 d recorded.plan.names text made free (legal_names header old d t c recorded.plan recorded.planned) leaves next.2,
+      subst (λ (p : RecordPlan). P p.names) (same_plan conventions old d t c recorded.plan next.1.files.plan recorded.planned next.1.files.planned) holds,
+      rule_shows between new next.0 d recorded.plan.names text made free (legal_names conventions old d t c recorded.plan recorded.planned) leaves next.2,
     )
 
-module _ (header : Header) {old new : Files} (m n : ℕ) (h : History) (d t c : List ℕ) where
-  pub depfile_follows : (r : Result Answer EngineError) → Shows old h → IfOk r (IsDepfileRecorded header old new d t c)
-      → IfErr r (IsDepfileRefused header old new d t c) → (next : History) × FollowsDepfile header d t c r (at old m h) (at new n next) × Shows new next
+module _ (conventions : Conventions) {old new : Files} (m n : ℕ) (h : History) (d t c : List ℕ) where
+  pub depfile_follows : (r : Result Answer EngineError) → Shows old h → IfOk r (IsDepfileRecorded conventions old new d t c)
+      → IfErr r (IsDepfileRefused conventions old new d t c) → (next : History) × FollowsDepfile conventions d t c r (at old m h) (at new n next) × Shows new next
   depfile_follows (Ok answer) shows ok err =
-      let next = after_record header old ok.between new m n h d t c answer _ _ (λ names. RuleDone ok.between new d names (rule_text header ok.was names))
+      let next = after_record conventions old ok.between new m n h d t c answer _ _ (λ names. RuleDone ok.between new d names (rule_text conventions.header ok.was names))
       ok.recorded shows ok.free ok.rule.leaves ok.rule in (
         next.0,
         record { between = at ok.between n next.0; recorded = next.1; history = refl; was = ok.was; was_there = ok.was_there; rule = next.2 },
@@ -253,9 +253,9 @@ module _ (header : Header) {old new : Files} (m n : ℕ) (h : History) (d t c : 
   depfile_follows (Err e) shows ok (inl own) =
       (h, inl (own.0, own.1, (own.2, refl)), subst (λ f. Shows f h) (sym own.2) shows)
   depfile_follows (Err e) shows ok (inr (inl refused)) =
-      let next = record_follows_without header old new m n h d t c (Err e) shows tt refused.1 in (next.0, inr (inl next.1), next.2)
+      let next = record_follows_under conventions old new m n h d t c (Err e) shows tt refused.1 in (next.0, inr (inl next.1), next.2)
   depfile_follows (Err e) shows ok (inr (inr (given, broken))) =
-      let next = after_record header old broken.between new m n h d t c broken.answer _ _ (λ names. RuleTried broken.between new d names (rule_text header broken.was names))
+      let next = after_record conventions old broken.between new m n h d t c broken.answer _ _ (λ names. RuleTried broken.between new d names (rule_text conventions.header broken.was names))
       broken.recorded shows broken.free broken.rule.1 broken.rule in (
         next.0,
         inr (inr (
@@ -267,8 +267,8 @@ module _ (header : Header) {old new : Files} (m n : ℕ) (h : History) (d t c : 
 
 -- ---- the dependency file
 
-module _ {header : Header} {old new : Files} {d t c : List ℕ} {e : EngineError} where
-  pub old_or_rule : IsDepfileRefused header old new d t c e → IsOldOrRule header (content old d) (content new d)
+module _ {conventions : Conventions} {old new : Files} {d t c : List ℕ} {e : EngineError} where
+  pub old_or_rule : IsDepfileRefused conventions old new d t c e → IsOldOrRule conventions.header (content old d) (content new d)
   old_or_rule (inl own) = inl (ap (λ f. content f d) own.2)
   old_or_rule (inr (inl (free, inl plain))) = inl (ap (λ f. content f d) plain.1)
   old_or_rule (inr (inl (free, inr (given, inl same)))) = inl (ap (λ f. content f d) same)

@@ -1,5 +1,5 @@
 -- The command file that is written: its names are counted, its parts are legal, and it reads back.
-use Rattle.ks_engine.proofs.Prelude.{◌≡◌, ◌⊎◌, inl, inr, ℕ, ◌<◌, ◌≤◌, List, None, Result, Ok, Err, sym, ◌∙◌, ap, subst, length, lt-ltb, le-ltb, cond-true, cond-false, max_bytes, DepError, Header, Usual, Role, IsRefusal, prerequisites, prerequisites_without, dependency_refusal, refusal_without, CommandRecord, command_text, record_of, Files, content, auto_path, EngineError, TooLarge, of_dep, IsGivenUp, and_then, last_generation, words, there, listed_without, listed_unless, scanned_all, RecordPlan, numbered, drafted, record_plan_without}
+use Rattle.ks_engine.proofs.Prelude.{◌≡◌, ◌⊎◌, inl, inr, ℕ, ◌<◌, ◌≤◌, List, None, Result, Ok, Err, sym, ◌∙◌, ap, subst, subst₂, length, lt-ltb, le-ltb, cond-true, cond-false, max_bytes, DepError, Conventions, Dialect, Header, Usual, Role, Rules, rules_for, IsRefusal, prerequisites, prerequisites_without, dependency_refusal, refusal_without, CommandRecord, command_text, record_of, Files, content, auto_path, EngineError, TooLarge, of_dep, IsGivenUp, and_then, last_generation, words, there, listed_without, listed_unless, scanned_all, RecordPlan, numbered, drafted, record_plan_under}
 use Rattle.ks_fixdep.specs.declared.dep_error.DepError.TheVariants as dep
 use Rattle.ks_fixdep.specs.FoundNames.{names_of}
 use Rattle.ks_engine.specs.Recording.{listed}
@@ -45,34 +45,34 @@ pub or_given : {P Q R : Type 0} → (Q → R) → P ⊎ Q → P ⊎ R
 or_given f (inl p) = inl p
 or_given f (inr q) = inr (f q)
 
-module _ (header : Header) (files : Files) (d t c : List ℕ) where
-  pub at_words : (e : EngineError) → words d t c ≡ Err e → record_plan_without header files d t c ≡ Err e
-  unfolding record_plan_without
+module _ (conventions : Conventions) (files : Files) (d t c : List ℕ) where
+  pub at_words : (e : EngineError) → words d t c ≡ Err e → record_plan_under conventions files d t c ≡ Err e
+  unfolding record_plan_under
   at_words e w = then_err _ _ e w
 
-  pub at_depfile : (e : EngineError) → words d t c ≡ Ok tt → there d (content files d) ≡ Err e → record_plan_without header files d t c ≡ Err e
-  unfolding record_plan_without
+  pub at_depfile : (e : EngineError) → words d t c ≡ Ok tt → there d (content files d) ≡ Err e → record_plan_under conventions files d t c ≡ Err e
+  unfolding record_plan_under
   at_depfile e w th = then_ok _ _ tt _ w (then_err _ _ e th)
 
-  pub at_listed : (b : List ℕ) (e : EngineError) → words d t c ≡ Ok tt → there d (content files d) ≡ Ok b → listed_without header b ≡ Err e → record_plan_without header files d t c ≡ Err e
-  unfolding record_plan_without
+  pub at_listed : (b : List ℕ) (e : EngineError) → words d t c ≡ Ok tt → there d (content files d) ≡ Ok b → listed_without conventions.header b ≡ Err e → record_plan_under conventions files d t c ≡ Err e
+  unfolding record_plan_under
   at_listed b e w th ls = then_ok _ _ tt _ w (then_ok _ _ b _ th (then_err _ _ e ls))
 
-  pub at_synced : (b : List ℕ) (ps : List (List ℕ × Role)) (e : EngineError) → words d t c ≡ Ok tt → there d (content files d) ≡ Ok b → listed_without header b ≡ Ok ps
-      → last_generation (content files auto_path) ≡ Err e → record_plan_without header files d t c ≡ Err e
-  unfolding record_plan_without
+  pub at_synced : (b : List ℕ) (ps : List (List ℕ × Role)) (e : EngineError) → words d t c ≡ Ok tt → there d (content files d) ≡ Ok b → listed_without conventions.header b ≡ Ok ps
+      → last_generation (content files auto_path) ≡ Err e → record_plan_under conventions files d t c ≡ Err e
+  unfolding record_plan_under
   at_synced b ps e w th ls sy = then_ok _ _ tt _ w (then_ok _ _ b _ th (then_ok _ _ ps _ ls (then_err _ _ e sy)))
 
-  pub at_scanned : (b : List ℕ) (ps : List (List ℕ × Role)) (g : ℕ) (e : EngineError) → words d t c ≡ Ok tt → there d (content files d) ≡ Ok b → listed_without header b
+  pub at_scanned : (b : List ℕ) (ps : List (List ℕ × Role)) (g : ℕ) (e : EngineError) → words d t c ≡ Ok tt → there d (content files d) ≡ Ok b → listed_without conventions.header b
       ≡ Ok ps
-      → last_generation (content files auto_path) ≡ Ok g → scanned_all files ps ≡ Err e → record_plan_without header files d t c ≡ Err e
-  unfolding record_plan_without
+      → last_generation (content files auto_path) ≡ Ok g → scanned_all (rules_for conventions.dialect t) files ps ≡ Err e → record_plan_under conventions files d t c ≡ Err e
+  unfolding record_plan_under
   at_scanned b ps g e w th ls sy sc = then_ok _ _ tt _ w (then_ok _ _ b _ th (then_ok _ _ ps _ ls (then_ok _ _ g _ sy (then_err _ _ e sc))))
 
   pub at_drafted : (b : List ℕ) (ps : List (List ℕ × Role)) (g : ℕ) (found : List (List (List ℕ))) (r : Result RecordPlan EngineError) → words d t c ≡ Ok tt
-      → there d (content files d) ≡ Ok b → listed_without header b ≡ Ok ps
-      → last_generation (content files auto_path) ≡ Ok g → scanned_all files ps ≡ Ok found → drafted t c ps g found ≡ r → record_plan_without header files d t c ≡ r
-  unfolding record_plan_without
+      → there d (content files d) ≡ Ok b → listed_without conventions.header b ≡ Ok ps
+      → last_generation (content files auto_path) ≡ Ok g → scanned_all (rules_for conventions.dialect t) files ps ≡ Ok found → drafted t c ps g found ≡ r → record_plan_under conventions files d t c ≡ r
+  unfolding record_plan_under
   at_drafted b ps g found r w th ls sy sc dr = then_ok _ _ tt _ w (then_ok _ _ b _ th (then_ok _ _ ps _ ls (then_ok _ _ g _ sy (then_ok _ _ found _ sc dr))))
 
 -- what a call said of the files as they stood then
@@ -80,6 +80,6 @@ pub synced_there : (files mid : Files) (r : Result ℕ EngineError) → mid ≡ 
     → last_generation (content files auto_path) ≡ r
 synced_there files mid r same said = subst (λ f. last_generation (content f auto_path) ≡ r) same said
 
-pub scanned_there : (files mid : Files) (ps : List (List ℕ × Role)) (r : Result (List (List (List ℕ))) EngineError) → mid ≡ files → scanned_all mid ps ≡ r
-    → scanned_all files ps ≡ r
-scanned_there files mid ps r same said = subst (λ f. scanned_all f ps ≡ r) same said
+pub scanned_there : (by rules : Rules) (files mid : Files) (ps : List (List ℕ × Role)) (r : Result (List (List (List ℕ))) EngineError) → by ≡ rules
+    → mid ≡ files → scanned_all by mid ps ≡ r → scanned_all rules files ps ≡ r
+scanned_there by rules files mid ps r is same said = subst₂ (λ x f. scanned_all x f ps ≡ r) is same said

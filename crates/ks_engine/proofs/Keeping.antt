@@ -1,5 +1,5 @@
 -- What is kept of a tree: what a look-up finds holds of the files, and what is added does.
-use Rattle.ks_engine.proofs.Prelude.{◌≡◌, Ok, arith, get_or, length, length-append, append-nil, ap₂, subst₂, ◌≢◌, ◌⊎◌, inl, inr, true≢false, is_some, cond, ℕ, zero, suc, slice_get, true, false, List, [], ◌∷◌, ◌++◌, Some, refl, ap, sym, ◌∙◌, subst, if◌then◌else◌, bytes_eq, IfSome, All, All-nil, All-cons, All-head, All-tail, bytes_eq-Decides, lookup, insert_entry, get_or_append_left, get_or-append_seam, found_of, Files, content, SameButBoth, auto_path, stamp_path, command_path, command_temporary, AutoConf, Stamp, CommandFile, CommandTemporary, HasNumber, Memo, last_generation, pairs_of, value_of, with_pair, Grows, IsStamp, AreStamps, IsKept, AreSources, IsNoSource, IsMemoOf, scanned}
+use Rattle.ks_engine.proofs.Prelude.{◌≡◌, Ok, arith, get_or, length, length-append, append-nil, ap₂, subst₂, ◌≢◌, ◌⊎◌, inl, inr, true≢false, is_some, cond, ℕ, zero, suc, slice_get, true, false, List, [], ◌∷◌, ◌++◌, Some, refl, ap, sym, ◌∙◌, subst, if◌then◌else◌, bytes_eq, IfSome, All, All-nil, All-cons, All-head, All-tail, bytes_eq-Decides, lookup, insert_entry, get_or_append_left, get_or-append_seam, found_of, Files, content, SameButBoth, auto_path, stamp_path, command_path, command_temporary, AutoConf, Stamp, CommandFile, CommandTemporary, HasNumber, Memo, Rules, last_generation, pairs_of, value_of, with_pair, Grows, IsStamp, AreStamps, IsKept, AreSources, IsNoSource, IsMemoOf, scanned}
 use Rattle.std.specs.Prelude.{string_bytes, vec_items}
 use Rattle.std.specs.Option.{option_map}
 use Rattle.ks_engine.proofs.LowerLaws.{apart}
@@ -68,17 +68,17 @@ stamps_kept old new o (e ∷ es) others are =
     All-cons (λ s. IsStamp new (s.0) s.1) e es (here.0, subst (λ b. HasNumber b e.1) (sym same) here.1)
     (stamps_kept old new o es others (All-tail (λ s. IsStamp old (s.0) s.1) e es are))
 
-sources_kept : (old new : Files) (found : List (List (List ℕ))) (o : List ℕ) (es : List (List ℕ × ℕ)) → SameButBoth (command_temporary o) (command_path o) old new
-    → All (λ s. s.0 ≢ command_temporary o) es → All (λ s. s.0 ≢ command_path o) es → AreSources old found es → AreSources new found es
-sources_kept old new found o [] others no_temporary no_path are = All-nil _
-sources_kept old new found o (e ∷ es) others no_temporary no_path are =
+sources_kept : (r : Rules) (old new : Files) (found : List (List (List ℕ))) (o : List ℕ) (es : List (List ℕ × ℕ)) → SameButBoth (command_temporary o) (command_path o) old new
+    → All (λ s. s.0 ≢ command_temporary o) es → All (λ s. s.0 ≢ command_path o) es → AreSources r old found es → AreSources r new found es
+sources_kept r old new found o [] others no_temporary no_path are = All-nil _
+sources_kept r old new found o (e ∷ es) others no_temporary no_path are =
     let path = e.0 in
     let same : content new path ≡ content old path = others path (All-head (λ s. s.0 ≢ command_temporary o) e es no_temporary)
     (All-head (λ s. s.0 ≢ command_path o) e es no_path) in
-    let here = All-head (λ s. IsKept old found (s.0) s.1) e es are in
-    All-cons (λ s. IsKept new found (s.0) s.1) e es (here.0, ap (scanned path) same ∙ here.1)
-    (sources_kept old new found o es others (All-tail (λ s. s.0 ≢ command_temporary o) e es no_temporary) (All-tail (λ s. s.0 ≢ command_path o) e es no_path)
-    (All-tail (λ s. IsKept old found (s.0) s.1) e es are))
+    let here = All-head (λ s. IsKept r old found (s.0) s.1) e es are in
+    All-cons (λ s. IsKept r new found (s.0) s.1) e es (here.0, ap (scanned r path) same ∙ here.1)
+    (sources_kept r old new found o es others (All-tail (λ s. s.0 ≢ command_temporary o) e es no_temporary) (All-tail (λ s. s.0 ≢ command_path o) e es no_path)
+    (All-tail (λ s. IsKept r old found (s.0) s.1) e es are))
 
 pub memo_kept : (old new : Files) (o : List ℕ) (memo : Memo) → SameButBoth (command_temporary o) (command_path o) old new
     → IsNoSource (command_temporary o) memo → IsNoSource (command_path o) memo
@@ -87,7 +87,7 @@ memo_kept old new o memo others no_temporary no_path is = record {
   generation = λ g kept. ap last_generation (others auto_path (apart AutoConf (CommandTemporary o) tt tt (λ e. cc))
       (apart AutoConf (CommandFile o) tt tt (λ e. cc))) ∙ is.generation g kept;
   stamps = stamps_kept old new o (pairs_of string_bytes memo.stamps.entries) others is.stamps;
-  sources = sources_kept old new (found_of memo.found.scan) o (pairs_of vec_items memo.sources.entries) others no_temporary no_path is.sources;
+  sources = sources_kept memo.rules old new (found_of memo.found.scan) o (pairs_of vec_items memo.sources.entries) others no_temporary no_path is.sources;
 }
 
 -- ---- a path that a map has not
@@ -105,35 +105,37 @@ no_source x memo none = not_kept x (pairs_of vec_items memo.sources.entries) non
 
 -- ---- more sources
 
-kept_longer : (files : Files) (found more : List (List (List ℕ))) (path : List ℕ) (place : ℕ) → IsKept files found path place
-    → IsKept files (found ++ more) path place
-kept_longer files found more path place is = (
+kept_longer : (r : Rules) (files : Files) (found more : List (List (List ℕ))) (path : List ℕ) (place : ℕ) → IsKept r files found path place
+    → IsKept r files (found ++ more) path place
+kept_longer r files found more path place is = (
   omega (arith, is.0, length-append found more),
   is.1 ∙ ap (λ l. Ok l) (sym (get_or_append_left found more [] place is.0)),
 )
 
-sources_longer : (files : Files) (found more : List (List (List ℕ))) (es : List (List ℕ × ℕ)) → AreSources files found es → AreSources files (found ++ more) es
-sources_longer files found more [] are = All-nil _
-sources_longer files found more (e ∷ es) are =
-    All-cons (λ s. IsKept files (found ++ more) s.0 s.1) e es (kept_longer files found more e.0 e.1 (All-head (λ s. IsKept files found s.0 s.1) e es are))
-    (sources_longer files found more es (All-tail (λ s. IsKept files found s.0 s.1) e es are))
+sources_longer : (r : Rules) (files : Files) (found more : List (List (List ℕ))) (es : List (List ℕ × ℕ)) → AreSources r files found es → AreSources r files (found ++ more) es
+sources_longer r files found more [] are = All-nil _
+sources_longer r files found more (e ∷ es) are =
+    All-cons (λ s. IsKept r files (found ++ more) s.0 s.1) e es (kept_longer r files found more e.0 e.1 (All-head (λ s. IsKept r files found s.0 s.1) e es are))
+    (sources_longer r files found more es (All-tail (λ s. IsKept r files found s.0 s.1) e es are))
 
 -- the names of one more file are kept at the end
-pub last_kept : (files : Files) (found : List (List (List ℕ))) (path : List ℕ) (names : List (List ℕ)) (all : List (List (List ℕ))) (place : ℕ)
-    → place ≡ length found → all ≡ found ++ names ∷ [] → scanned path (content files path) ≡ Ok names → IsKept files all path place
-last_kept files found path names all place at is said = (
+pub last_kept : (r : Rules) (files : Files) (found : List (List (List ℕ))) (path : List ℕ) (names : List (List ℕ)) (all : List (List (List ℕ))) (place : ℕ)
+    → place ≡ length found → all ≡ found ++ names ∷ [] → scanned r path (content files path) ≡ Ok names → IsKept r files all path place
+last_kept r files found path names all place at is said = (
   omega (arith, at, ap length is, length-append found (names ∷ [])),
   said ∙ ap (λ l. Ok l) (sym (ap₂ (λ a i. get_or a i []) is at ∙ get_or-append_seam found names [] [])),
 )
 
 -- what is kept is as before, and there may be more sources
-pub memo_grown : (files : Files) (old new : Memo) → new.generation ≡ old.generation → pairs_of string_bytes new.stamps.entries ≡ pairs_of string_bytes old.stamps.entries
+pub memo_grown : (files : Files) (old new : Memo) → new.rules ≡ old.rules → new.generation ≡ old.generation → pairs_of string_bytes new.stamps.entries ≡ pairs_of string_bytes old.stamps.entries
     → pairs_of vec_items new.sources.entries ≡ pairs_of vec_items old.sources.entries → Grows (found_of old.found.scan) (found_of new.found.scan) → IsMemoOf files old
     → IsMemoOf files new
-memo_grown files old new generation stamps sources grows is = record {
+memo_grown files old new rules generation stamps sources grows is = record {
   generation = λ g kept. is.generation g (sym generation ∙ kept);
   stamps = subst (AreStamps files) (sym stamps) is.stamps;
-  sources = subst₂ (AreSources files) (sym grows.1) (sym sources) (sources_longer files (found_of old.found.scan) grows.0 (pairs_of vec_items old.sources.entries) is.sources);
+  sources = subst (λ r. AreSources r files (found_of new.found.scan) (pairs_of vec_items new.sources.entries)) (sym rules)
+      (subst₂ (AreSources old.rules files) (sym grows.1) (sym sources)
+      (sources_longer old.rules files (found_of old.found.scan) grows.0 (pairs_of vec_items old.sources.entries) is.sources));
 }
 
 pub grows_none : (old new : List (List (List ℕ))) → new ≡ old → Grows old new

@@ -42,12 +42,13 @@ pub use Rattle.ks_fixdep.specs.CommandLaws.{ReadFits, ReadsBack}
 pub use Rattle.ks_fixdep.specs.CommandLines.{lines}
 pub use Rattle.ks_fixdep.specs.CommandReading.{reading}
 pub use Rattle.ks_fixdep.specs.DependencyFile.{dependency_refusal, prerequisites, prerequisites_without, refusal_without}
-pub use Rattle.ks_fixdep.specs.FoundNames.{all_noted, names_in, noted}
+pub use Rattle.ks_fixdep.specs.Dialects.{names_in_as, rules_for}
+pub use Rattle.ks_fixdep.specs.FoundNames.{all_noted, noted}
 pub use Rattle.ks_fixdep.specs.Borrowed.{borrowed_view, seen_dep}
 pub use Rattle.ks_fixdep.specs.Record.{config_names, deps_after, new_names, record_of, source_of}
 pub use Rattle.ks_fixdep.specs.Rule.{first_target, rule_of}
 unfoldable pub use Rattle.ks_fixdep.specs.Rule.{rule_text}
-pub use Rattle.ks_fixdep.specs.SourceScan.{StandsAfter, found_of, names_by, picked}
+pub use Rattle.ks_fixdep.specs.SourceScan.{StandsAfterAs, found_of, names_by, picked}
 pub use Rattle.ks_fixdep.specs.Tokens.{tokens}
 pub use Rattle.ks_fixdep.specs.declared.command_file.Dep.{Dep}
 pub use Rattle.ks_fixdep.specs.declared.command_file.Dep.TheVariants.{Config, File}
@@ -55,6 +56,8 @@ pub use Rattle.ks_fixdep.specs.declared.command_file.borrowed.BorrowedDep.{Borro
 pub use Rattle.ks_fixdep.specs.declared.dep_error.DepError.{DepError}
 pub use Rattle.ks_fixdep.specs.declared.dependency_file.Header.{Header}
 pub use Rattle.ks_fixdep.specs.declared.dependency_file.Header.TheVariants.{Usual}
+pub use Rattle.ks_fixdep.specs.declared.dialect.Dialect.{Dialect}
+pub use Rattle.ks_fixdep.specs.declared.dialect.Rules.{Rules}
 pub use Rattle.ks_fixdep.specs.declared.dependency_file.Role.{Role}
 pub use Rattle.ks_fixdep.specs.declared.dependency_file.Role.TheVariants.{Source}
 pub use Rattle.ks_fixdep.specs.declared.seed.Seed.{Seed}
@@ -103,7 +106,7 @@ unfoldable pub use Rattle.ks_engine.specs.Depfile.{is_own_file}
 pub use Rattle.ks_engine.specs.Drafts.{IsDraft}
 pub use Rattle.ks_engine.specs.Explained.{IsExplanationJudged, PlacesAreFirst, PlacesAreTheirs, first_with, is_listed, listed_last}
 pub use Rattle.ks_engine.specs.FileRuns.{FileRun, FileState, LeavesFiles, StepsTo, state}
-pub use Rattle.ks_engine.specs.Follows.{FollowsRecord, FollowsRecordWithout, FollowsSync, IsBrokenEvent, IsRecordEvent, TreeState, at}
+pub use Rattle.ks_engine.specs.Follows.{FollowsRecord, FollowsRecordUnder, FollowsSync, IsBrokenEvent, IsRecordEvent, TreeState, at}
 pub use Rattle.ks_engine.specs.History.{Begun, Broken, History, LastRecord, NoneBroken, Recorded, Synced, WasSynced, before, done, last_record}
 pub use Rattle.ks_engine.specs.Impact.{IsAfter, IsAnswerAfter, IsImpactOf}
 pub use Rattle.ks_engine.specs.Judged.{HasSameDefinitions, IsBuildJudged, IsJudged}
@@ -114,8 +117,8 @@ pub use Rattle.ks_engine.specs.Legal.{AreAllRenewed, IsHistory, IsSource, MayBeH
 pub use Rattle.ks_engine.specs.Memos.{AreSources, AreStamps, Grows, IsKept, IsMemoOf, IsNoSource, IsStamp, pairs_of, value_of, with_pair}
 pub use Rattle.ks_engine.specs.OtherRecords.{OtherRecordsDoNotMatter, own_history}
 pub use Rattle.ks_engine.specs.Questions.{IsAnswerTo, IsSeen, limit_of}
-pub use Rattle.ks_engine.specs.Recorded.{IsRecordPlanWithout, IsRecordRefused, IsRecordRefusedWithout, IsRecordTriedWithout, IsRecorded, IsRecordedWithout, RecordPlan, drafted, numbered}
-unfoldable pub use Rattle.ks_engine.specs.Recorded.{record_plan_without}
+pub use Rattle.ks_engine.specs.Recorded.{IsRecordPlanUnder, IsRecordRefused, IsRecordRefusedUnder, IsRecordTriedUnder, IsRecorded, IsRecordedUnder, RecordPlan, drafted, numbered, usual}
+unfoldable pub use Rattle.ks_engine.specs.Recorded.{record_plan_under}
 pub use Rattle.ks_engine.specs.Recording.{followed, listed_unless, listed_without, scanned, there, words}
 unfoldable pub use Rattle.ks_engine.specs.Recording.{scanned_all}
 pub use Rattle.ks_engine.specs.Refusals.{GaveUp, IsGivenUp, and_then, of_auto, of_dep, of_source, of_stamp, of_tree}
@@ -129,6 +132,7 @@ pub use Rattle.ks_engine.specs.Views.{IsPlanned, PlansOver, Reports, old_of, sou
 pub use Rattle.ks_engine.specs.declared.commands.Command.{Command}
 pub use Rattle.ks_engine.specs.declared.commands.Reply.{Reply}
 pub use Rattle.ks_engine.specs.declared.commands.Reply.TheVariants.{Refused}
+pub use Rattle.ks_engine.specs.declared.conventions.Conventions.{Conventions}
 pub use Rattle.ks_engine.specs.declared.costs.Cost.{Cost}
 pub use Rattle.ks_engine.specs.declared.costs.Costs.{Costs}
 pub use Rattle.ks_engine.specs.declared.costs.Tally.{Tally}

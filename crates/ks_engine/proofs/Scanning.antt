@@ -1,5 +1,5 @@
 -- Prerequisites scanned one after the other.
-use Rattle.ks_engine.proofs.Prelude.{◌≡◌, ◌<◌, Bool, true, nat_lt, get_or, length-append, subst, ap₂, ℕ, suc, ◌+◌, ◌≤◌, List, [], ◌∷◌, ◌++◌, Some, Result, Ok, Err, refl, sym, ap, ◌∙◌, length, drop, append_assoc, append-nil, arith, slice_get, drop-cons, list_all, and_from, and_parts, lt-ltb, ltb-true, drop_all, get_or_append_left, map-append, list_all-append, picked, Grows, slice_get_within, get_or_from_slice_get, Role, Files, content, scanned, scanned_all, followed, EngineError}
+use Rattle.ks_engine.proofs.Prelude.{◌≡◌, ◌<◌, Bool, true, nat_lt, get_or, length-append, subst, ap₂, ℕ, suc, ◌+◌, ◌≤◌, List, [], ◌∷◌, ◌++◌, Some, Result, Ok, Err, refl, sym, ap, ◌∙◌, length, drop, append_assoc, append-nil, arith, slice_get, drop-cons, list_all, and_from, and_parts, lt-ltb, ltb-true, drop_all, get_or_append_left, map-append, list_all-append, picked, Grows, slice_get_within, get_or_from_slice_get, Role, Rules, Files, content, scanned, scanned_all, followed, EngineError}
 
 -- the names found so far, and then those
 abbrev pub following : List (List (List ℕ)) → Result (List (List (List ℕ))) EngineError → Result (List (List (List ℕ))) EngineError
@@ -18,31 +18,31 @@ drop_get : {A : Type 0} (xs : List A) (i : ℕ) (p : A) → slice_get xs i ≡ S
 drop_get xs i p is =
     drop-cons xs i p (slice_get_within xs i p is) ∙ ap (λ z. z ∷ drop (suc i) xs) (get_or_from_slice_get xs i p p is) ∙ ap (λ n. p ∷ drop n xs) (plus_one i)
 
-at_next : (files : Files) (ps : List (List ℕ × Role)) (i : ℕ) (p : List ℕ × Role) → slice_get ps i ≡ Some p
-    → scanned_all files (drop i ps) ≡ followed (scanned p.0 (content files p.0)) (scanned_all files (drop (i + 1) ps))
+at_next : (r : Rules) (files : Files) (ps : List (List ℕ × Role)) (i : ℕ) (p : List ℕ × Role) → slice_get ps i ≡ Some p
+    → scanned_all r files (drop i ps) ≡ followed (scanned r p.0 (content files p.0)) (scanned_all r files (drop (i + 1) ps))
 unfolding scanned_all
-at_next files ps i p is = ap (scanned_all files) (drop_get ps i p is)
+at_next r files ps i p is = ap (scanned_all r files) (drop_get ps i p is)
 
-pub scanned_next : (files : Files) (ps : List (List ℕ × Role)) (i : ℕ) (p : List ℕ × Role) (found : List (List (List ℕ))) (x : List (List ℕ))
+pub scanned_next : (r : Rules) (files : Files) (ps : List (List ℕ × Role)) (i : ℕ) (p : List ℕ × Role) (found : List (List (List ℕ))) (x : List (List ℕ))
     (whole : Result (List (List (List ℕ))) EngineError)
-    → slice_get ps i ≡ Some p → scanned p.0 (content files p.0) ≡ Ok x
-    → whole ≡ following found (scanned_all files (drop i ps)) → whole ≡ following (found ++ x ∷ []) (scanned_all files (drop (i + 1) ps))
-scanned_next files ps i p found x whole is ok before =
-    before ∙ ap (following found) (at_next files ps i p is ∙ ap (λ r. followed r (scanned_all files (drop (i + 1) ps))) ok)
-    ∙ after_next found x (scanned_all files (drop (i + 1) ps))
+    → slice_get ps i ≡ Some p → scanned r p.0 (content files p.0) ≡ Ok x
+    → whole ≡ following found (scanned_all r files (drop i ps)) → whole ≡ following (found ++ x ∷ []) (scanned_all r files (drop (i + 1) ps))
+scanned_next r files ps i p found x whole is ok before =
+    before ∙ ap (following found) (at_next r files ps i p is ∙ ap (λ one. followed one (scanned_all r files (drop (i + 1) ps))) ok)
+    ∙ after_next found x (scanned_all r files (drop (i + 1) ps))
 
-pub scanned_refused : (files : Files) (ps : List (List ℕ × Role)) (i : ℕ) (p : List ℕ × Role) (found : List (List (List ℕ))) (error : EngineError)
+pub scanned_refused : (r : Rules) (files : Files) (ps : List (List ℕ × Role)) (i : ℕ) (p : List ℕ × Role) (found : List (List (List ℕ))) (error : EngineError)
     (whole : Result (List (List (List ℕ))) EngineError)
-    → slice_get ps i ≡ Some p → scanned p.0 (content files p.0) ≡ Err error
-    → whole ≡ following found (scanned_all files (drop i ps)) → whole ≡ Err error
-scanned_refused files ps i p found error whole is bad before =
-    before ∙ ap (following found) (at_next files ps i p is ∙ ap (λ r. followed r (scanned_all files (drop (i + 1) ps))) bad)
+    → slice_get ps i ≡ Some p → scanned r p.0 (content files p.0) ≡ Err error
+    → whole ≡ following found (scanned_all r files (drop i ps)) → whole ≡ Err error
+scanned_refused r files ps i p found error whole is bad before =
+    before ∙ ap (following found) (at_next r files ps i p is ∙ ap (λ one. followed one (scanned_all r files (drop (i + 1) ps))) bad)
 
-pub scanned_end : (files : Files) (ps : List (List ℕ × Role)) (i : ℕ) (found : List (List (List ℕ))) (whole : Result (List (List (List ℕ))) EngineError)
-    → length ps ≤ i → whole ≡ following found (scanned_all files (drop i ps)) → whole ≡ Ok found
+pub scanned_end : (r : Rules) (files : Files) (ps : List (List ℕ × Role)) (i : ℕ) (found : List (List (List ℕ))) (whole : Result (List (List (List ℕ))) EngineError)
+    → length ps ≤ i → whole ≡ following found (scanned_all r files (drop i ps)) → whole ≡ Ok found
 unfolding scanned_all
-scanned_end files ps i found whole past before =
-    before ∙ ap (λ l. following found (scanned_all files l)) (drop_all i ps past) ∙ ap (λ l. Ok l) (append-nil found)
+scanned_end r files ps i found whole past before =
+    before ∙ ap (λ l. following found (scanned_all r files l)) (drop_all i ps past) ∙ ap (λ l. Ok l) (append-nil found)
 
 -- ---- the places of sources
 

@@ -6,14 +6,15 @@ use Rattle.ks_fixdep.specs.declared.dependency_file.Header.{Header}
 use Rattle.ks_fixdep.specs.Rule.{rule_text}
 use Rattle.ks_tree.specs.Files.{Files, content, kept_or}
 use Rattle.ks_tree.specs.Paths.{stamp_path, temporary}
+use Rattle.ks_engine.specs.declared.conventions.Conventions.{Conventions}
 use Rattle.ks_engine.specs.declared.error.EngineError.{EngineError}
 use Rattle.ks_engine.specs.declared.error.EngineError.TheVariants.{BadPath}
 use Rattle.ks_engine.specs.declared.recording.Recorded.{Recorded as RecordAnswer}
 use Rattle.ks_engine.specs.declared.depfile.Ruled.{Ruled}
 use Rattle.ks_engine.specs.Refusals.{IsGivenUp}
-use Rattle.ks_engine.specs.Recorded.{RecordPlan, IsRecordedWithout, IsRecordRefusedWithout}
+use Rattle.ks_engine.specs.Recorded.{RecordPlan, IsRecordedUnder, IsRecordRefusedUnder}
 use Rattle.ks_engine.specs.Drafts.{IsDraft}
-use Rattle.ks_engine.specs.Follows.{TreeState, IsSame, FollowsRecordedWithout, FollowsRecordWithout}
+use Rattle.ks_engine.specs.Follows.{TreeState, IsSame, FollowsRecordedUnder, FollowsRecordUnder}
 
 -- A file that the commands write for themselves, by its path: a rule in its place would end what the tree says.
 unfoldable pub is_own_file : List ℕ → Bool
@@ -40,40 +41,40 @@ abbrev pub RuleTried : Files → Files → List ℕ → List (List ℕ) → List
 RuleTried old new depfile names text = (made : List (List ℕ)) × RuleLeaves old new depfile names text made
 
 -- the names of a plan, and the rule that is made of the dependency file, before either is used
-pub record IsRuled (header : Header) (files : Files) (depfile : List ℕ) (plan : RecordPlan) (r : Ruled) : Type 0 where
+pub record IsRuled (conventions : Conventions) (files : Files) (depfile : List ℕ) (plan : RecordPlan) (r : Ruled) : Type 0 where
   pub draft : IsDraft plan r.draft
   pub names : r.names.items ≡ plan.names
   pub was : List ℕ
   pub was_there : content files depfile ≡ Some was
-  pub rule : r.rule.items ≡ rule_text header was plan.names
+  pub rule : r.rule.items ≡ rule_text conventions.header was plan.names
 
 -- ---- the whole, by the files
 
 -- The object was recorded, then its missing stamps were made, and then the dependency file was replaced by one rule.
-pub record IsDepfileRecorded (header : Header) (old new : Files) (depfile target command : List ℕ) (answer : RecordAnswer) : Type 0 where
+pub record IsDepfileRecorded (conventions : Conventions) (old new : Files) (depfile target command : List ℕ) (answer : RecordAnswer) : Type 0 where
   pub free : is_own_file depfile ≡ false
   pub between : Files
-  pub recorded : IsRecordedWithout header old between depfile target command answer
+  pub recorded : IsRecordedUnder conventions old between depfile target command answer
   pub was : List ℕ
   pub was_there : content old depfile ≡ Some was
-  pub rule : RuleDone between new depfile recorded.plan.names (rule_text header was recorded.plan.names)
+  pub rule : RuleDone between new depfile recorded.plan.names (rule_text conventions.header was recorded.plan.names)
 
 -- It was recorded, and given up after that.
-pub record IsDepfileBroken (header : Header) (old new : Files) (depfile target command : List ℕ) : Type 0 where
+pub record IsDepfileBroken (conventions : Conventions) (old new : Files) (depfile target command : List ℕ) : Type 0 where
   pub free : is_own_file depfile ≡ false
   pub answer : RecordAnswer
   pub between : Files
-  pub recorded : IsRecordedWithout header old between depfile target command answer
+  pub recorded : IsRecordedUnder conventions old between depfile target command answer
   pub was : List ℕ
   pub was_there : content old depfile ≡ Some was
-  pub rule : RuleTried between new depfile recorded.plan.names (rule_text header was recorded.plan.names)
+  pub rule : RuleTried between new depfile recorded.plan.names (rule_text conventions.header was recorded.plan.names)
 
 -- It was refused for the path, or as a record is, or given up after the record.
-abbrev pub IsDepfileRefused : Header → Files → Files → List ℕ → List ℕ → List ℕ → EngineError → Type 0
-IsDepfileRefused header old new depfile target command e =
+abbrev pub IsDepfileRefused : Conventions → Files → Files → List ℕ → List ℕ → List ℕ → EngineError → Type 0
+IsDepfileRefused conventions old new depfile target command e =
     ((is_own_file depfile ≡ true) × (e ≡ BadPath 0) × (new ≡ old))
-    ⊎ (((is_own_file depfile ≡ false) × IsRecordRefusedWithout header old new depfile target command e)
-    ⊎ (IsGivenUp e × IsDepfileBroken header old new depfile target command))
+    ⊎ (((is_own_file depfile ≡ false) × IsRecordRefusedUnder conventions old new depfile target command e)
+    ⊎ (IsGivenUp e × IsDepfileBroken conventions old new depfile target command))
 
 -- The dependency file is the old one, or whole by its rule.
 abbrev pub IsOldOrRule : Header → Option (List ℕ) → Option (List ℕ) → Type 0
@@ -82,25 +83,25 @@ IsOldOrRule header old new = (new ≡ old) ⊎ ((was : List ℕ) × (names : Lis
 -- ---- the whole, by histories
 
 -- The record is the event, and nothing after it is one.
-pub record FollowsRuleDone (header : Header) (old : TreeState) (depfile target command : List ℕ) (answer : RecordAnswer) (new : TreeState) : Type 0 where
+pub record FollowsRuleDone (conventions : Conventions) (old : TreeState) (depfile target command : List ℕ) (answer : RecordAnswer) (new : TreeState) : Type 0 where
   pub between : TreeState
-  pub recorded : FollowsRecordedWithout header old depfile target command answer between
+  pub recorded : FollowsRecordedUnder conventions old depfile target command answer between
   pub history : new.history ≡ between.history
   pub was : List ℕ
   pub was_there : content old.files depfile ≡ Some was
-  pub rule : RuleDone between.files new.files depfile recorded.files.plan.names (rule_text header was recorded.files.plan.names)
+  pub rule : RuleDone between.files new.files depfile recorded.files.plan.names (rule_text conventions.header was recorded.files.plan.names)
 
-pub record FollowsRuleTried (header : Header) (old : TreeState) (depfile target command : List ℕ) (new : TreeState) : Type 0 where
+pub record FollowsRuleTried (conventions : Conventions) (old : TreeState) (depfile target command : List ℕ) (new : TreeState) : Type 0 where
   pub answer : RecordAnswer
   pub between : TreeState
-  pub recorded : FollowsRecordedWithout header old depfile target command answer between
+  pub recorded : FollowsRecordedUnder conventions old depfile target command answer between
   pub history : new.history ≡ between.history
   pub was : List ℕ
   pub was_there : content old.files depfile ≡ Some was
-  pub rule : RuleTried between.files new.files depfile recorded.files.plan.names (rule_text header was recorded.files.plan.names)
+  pub rule : RuleTried between.files new.files depfile recorded.files.plan.names (rule_text conventions.header was recorded.files.plan.names)
 
-abbrev pub FollowsDepfile : Header → List ℕ → List ℕ → List ℕ → Result RecordAnswer EngineError → TreeState → TreeState → Type 0
-FollowsDepfile header depfile target command (Ok answer) old new = FollowsRuleDone header old depfile target command answer new
-FollowsDepfile header depfile target command (Err e) old new =
+abbrev pub FollowsDepfile : Conventions → List ℕ → List ℕ → List ℕ → Result RecordAnswer EngineError → TreeState → TreeState → Type 0
+FollowsDepfile conventions depfile target command (Ok answer) old new = FollowsRuleDone conventions old depfile target command answer new
+FollowsDepfile conventions depfile target command (Err e) old new =
     ((is_own_file depfile ≡ true) × (e ≡ BadPath 0) × IsSame old new)
-    ⊎ (FollowsRecordWithout header depfile target command (Err e) old new ⊎ (IsGivenUp e × FollowsRuleTried header old depfile target command new))
+    ⊎ (FollowsRecordUnder conventions depfile target command (Err e) old new ⊎ (IsGivenUp e × FollowsRuleTried conventions old depfile target command new))

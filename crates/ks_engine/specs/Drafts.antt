@@ -1,11 +1,11 @@
 -- A command file as the code has it before it is written.
 use Rattle.std.specs.Prelude.{◌≡◌, ℕ, List, Some, length}
-use Rattle.ks_fixdep.specs.declared.dependency_file.Header.{Header}
 use Rattle.ks_fixdep.specs.CommandFile.{command_text}
 use Rattle.ks_fixdep.specs.DependencyFile.{prerequisites_without}
 use Rattle.ks_fixdep.specs.FoundNames.{names_of}
 use Rattle.ks_fixdep.specs.Record.{config_names}
 use Rattle.ks_tree.specs.Files.{Files, content}
+use Rattle.ks_engine.specs.declared.conventions.Conventions.{Conventions}
 use Rattle.ks_engine.specs.declared.recording.Draft.{Draft}
 use Rattle.ks_engine.specs.declared.recording.Prepared.{Prepared}
 use Rattle.ks_engine.specs.Recorded.{RecordPlan}
@@ -17,8 +17,8 @@ pub record IsDraft (plan : RecordPlan) (draft : Draft) : Type 0 where
   pub names : draft.answer.names ≡ length (config_names plan.file.deps)
 
 -- what stands ready of a plan: its draft, and the dependency file that it was made of, with its prerequisites
-pub record IsPrepared (header : Header) (files : Files) (depfile : List ℕ) (plan : RecordPlan) (found : List (List (List ℕ))) (p : Prepared) : Type 0 where
+pub record IsPrepared (conventions : Conventions) (files : Files) (depfile : List ℕ) (plan : RecordPlan) (found : List (List (List ℕ))) (p : Prepared) : Type 0 where
   pub draft : IsDraft plan p.draft
   pub text : content files depfile ≡ Some p.depfile.items
-  pub prerequisites : p.prerequisites ≡ prerequisites_without header p.depfile.items
+  pub prerequisites : p.prerequisites ≡ prerequisites_without conventions.header p.depfile.items
   pub names : plan.names ≡ names_of found

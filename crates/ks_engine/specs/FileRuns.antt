@@ -1,5 +1,6 @@
 -- Runs by the files of a tree: what each command leaves, and what the tree has counted, one command after the other.
 use Rattle.std.specs.Prelude.{◌≡◌, ◌⊎◌, ◌≤◌, ℕ, List, [], ◌∷◌, Result, Ok, Err}
+use Rattle.ks_fixdep.specs.declared.dialect.Dialect.{Dialect}
 use Rattle.ks_tree.specs.declared.tree.Tree.{Ghosts}
 use Rattle.ks_tree.specs.Files.{Files, HasRisen}
 use Rattle.ks_engine.specs.declared.error.EngineError.{EngineError}
@@ -22,9 +23,9 @@ abbrev pub LeavesSync : Files → Files → List ℕ → List ℕ → Result Rep
 LeavesSync old new k d (Ok report) = IsSynced old new k d report
 LeavesSync old new k d (Err e) = IsSyncRefused old new k d e
 
-abbrev pub LeavesRecord : Files → Files → List ℕ → List ℕ → List ℕ → Result RecordAnswer EngineError → Type 0
-LeavesRecord old new d t c (Ok answer) = IsRecorded old new d t c answer
-LeavesRecord old new d t c (Err e) = IsRecordRefused old new d t c e
+abbrev pub LeavesRecord : Dialect → Files → Files → List ℕ → List ℕ → List ℕ → Result RecordAnswer EngineError → Type 0
+LeavesRecord dialect old new d t c (Ok answer) = IsRecorded dialect old new d t c answer
+LeavesRecord dialect old new d t c (Err e) = IsRecordRefused dialect old new d t c e
 
 -- what a question is answered, whichever history is shown
 pub record IsAnswerOn (files : Files) (o : List ℕ) (answer : Result VerdictValue EngineError) : Type 0 where
@@ -32,14 +33,14 @@ pub record IsAnswerOn (files : Files) (o : List ℕ) (answer : Result VerdictVal
   pub recorded : JudgesRecorded files o answer
 
 -- the files after an action, by its reply; no action is answered as another one
-abbrev pub LeavesFiles : Files → Action → Reply → Files → Type 0
-LeavesFiles old (Sync k d) (Synced report) new = LeavesSync old new k d (Ok report)
-LeavesFiles old (Sync k d) (Refused e) new = LeavesSync old new k d (Err e)
-LeavesFiles old (Record d t c) (Recorded answer) new = LeavesRecord old new d t c (Ok answer)
-LeavesFiles old (Record d t c) (Refused e) new = LeavesRecord old new d t c (Err e)
-LeavesFiles old (Stale o) (Verdict v) new = (new ≡ old) × IsAnswerOn old o (Ok v)
-LeavesFiles old (Stale o) (Refused e) new = (new ≡ old) × IsAnswerOn old o (Err e)
-LeavesFiles old _ _ new = ⊥
+abbrev pub LeavesFiles : Dialect → Files → Action → Reply → Files → Type 0
+LeavesFiles dialect old (Sync k d) (Synced report) new = LeavesSync old new k d (Ok report)
+LeavesFiles dialect old (Sync k d) (Refused e) new = LeavesSync old new k d (Err e)
+LeavesFiles dialect old (Record d t c) (Recorded answer) new = LeavesRecord dialect old new d t c (Ok answer)
+LeavesFiles dialect old (Record d t c) (Refused e) new = LeavesRecord dialect old new d t c (Err e)
+LeavesFiles dialect old (Stale o) (Verdict v) new = (new ≡ old) × IsAnswerOn old o (Ok v)
+LeavesFiles dialect old (Stale o) (Refused e) new = (new ≡ old) × IsAnswerOn old o (Err e)
+LeavesFiles dialect old _ _ new = ⊥
 
 -- ---- one call after the other
 
@@ -52,14 +53,14 @@ abbrev pub state : {T : Type 0} → Ghosts T → T → FileState
 state tree t = record { files = tree.files t; failures = tree.failures t }
 
 -- A step of an honest tree leaves these files. Of any tree the count of failures never falls, and the device is to blame only where it rose.
-pub record StepsTo (honest : Type 0) (old : FileState) (action : Action) (reply : Reply) (new : FileState) : Type 0 where
-  pub leaves : honest → LeavesFiles old.files action reply new.files
+pub record StepsTo (dialect : Dialect) (honest : Type 0) (old : FileState) (action : Action) (reply : Reply) (new : FileState) : Type 0 where
+  pub leaves : honest → LeavesFiles dialect old.files action reply new.files
   pub later : old.failures ≤ new.failures
   pub cause : reply ≡ Refused Device → HasRisen old.failures new.failures
 
 -- Each action has its reply and its step, which begins where the one before it ended.
-abbrev pub FileRun : Type 0 → FileState → List Action → List Reply → FileState → Type 0
-FileRun honest first [] [] last = last ≡ first
-FileRun honest first (action ∷ actions) (reply ∷ replies) last =
-    (next : FileState) × StepsTo honest first action reply next × FileRun honest next actions replies last
-FileRun honest first _ _ last = ⊥
+abbrev pub FileRun : Dialect → Type 0 → FileState → List Action → List Reply → FileState → Type 0
+FileRun dialect honest first [] [] last = last ≡ first
+FileRun dialect honest first (action ∷ actions) (reply ∷ replies) last =
+    (next : FileState) × StepsTo dialect honest first action reply next × FileRun dialect honest next actions replies last
+FileRun dialect honest first _ _ last = ⊥

@@ -1,17 +1,17 @@
 -- What each call does to the files of a tree and to its history.
 use Rattle.std.specs.Prelude.{◌≡◌, ◌⊎◌, ℕ, ◌<◌, List, Some, Result, Ok, Err}
 use Rattle.ks_symbols.specs.Names.{header_path}
-use Rattle.ks_fixdep.specs.declared.dependency_file.Header.{Header}
-use Rattle.ks_fixdep.specs.declared.dependency_file.Header.TheVariants.{Usual}
+use Rattle.ks_fixdep.specs.declared.dialect.Dialect.{Dialect}
 use Rattle.ks_tree.specs.declared.tree.Tree.{Ghosts}
 use Rattle.ks_tree.specs.Files.{Files, content}
+use Rattle.ks_engine.specs.declared.conventions.Conventions.{Conventions}
 use Rattle.ks_engine.specs.declared.error.EngineError.{EngineError}
 use Rattle.ks_engine.specs.declared.recording.Recorded.{Recorded as RecordAnswer}
 use Rattle.ks_engine.specs.declared.synchronise.Report.{Report}
 use Rattle.ks_engine.specs.Refusals.{IsGivenUp}
 use Rattle.ks_engine.specs.History.{History, Synced, Broken, Recorded, before, done, WasSynced}
 use Rattle.ks_engine.specs.Shows.{Shows}
-use Rattle.ks_engine.specs.Recorded.{record_plan_without, IsRecordedWithout, IsRecordTriedWithout}
+use Rattle.ks_engine.specs.Recorded.{record_plan_under, usual, IsRecordedUnder, IsRecordTriedUnder}
 use Rattle.ks_engine.specs.Synchronised.{AreChanged, IsSynced, IsBrokenOff}
 use Rattle.ks_engine.specs.SyncPlan.{Plan, IsSyncPlan}
 
@@ -62,20 +62,20 @@ IsRecordEvent old target command names next =
     (header : List ℕ) × (content old.files header_path ≡ Some header) × (next ≡ Recorded target command names header old.history)
 
 -- It is recorded under the last generation. Before the first synchronisation of its history it is not claimed: no event is added.
-pub record FollowsRecordedWithout (header : Header) (old : TreeState) (depfile target command : List ℕ) (answer : RecordAnswer) (new : TreeState) : Type 0 where
-  pub files : IsRecordedWithout header old.files new.files depfile target command answer
+pub record FollowsRecordedUnder (conventions : Conventions) (old : TreeState) (depfile target command : List ℕ) (answer : RecordAnswer) (new : TreeState) : Type 0 where
+  pub files : IsRecordedUnder conventions old.files new.files depfile target command answer
   pub generation : answer.generation ≡ done old.history
   pub some : 0 < done old.history
   pub history : (WasSynced old.history × IsRecordEvent old target command files.plan.names new.history)
       ⊎ ((WasSynced old.history → ⊥) × (new.history ≡ old.history))
 
 -- One that was given up at the write has left the old command file, or is recorded.
-abbrev pub FollowsRecordWithout : Header → List ℕ → List ℕ → List ℕ → Result RecordAnswer EngineError → TreeState → TreeState → Type 0
-FollowsRecordWithout header depfile target command (Ok answer) old new = FollowsRecordedWithout header old depfile target command answer new
-FollowsRecordWithout header depfile target command (Err e) old new =
-    ((record_plan_without header old.files depfile target command ≡ Err e) × IsSame old new)
-    ⊎ (IsGivenUp e × (IsSame old new ⊎ ((tried : IsRecordTriedWithout header old.files new.files depfile target command)
+abbrev pub FollowsRecordUnder : Conventions → List ℕ → List ℕ → List ℕ → Result RecordAnswer EngineError → TreeState → TreeState → Type 0
+FollowsRecordUnder conventions depfile target command (Ok answer) old new = FollowsRecordedUnder conventions old depfile target command answer new
+FollowsRecordUnder conventions depfile target command (Err e) old new =
+    ((record_plan_under conventions old.files depfile target command ≡ Err e) × IsSame old new)
+    ⊎ (IsGivenUp e × (IsSame old new ⊎ ((tried : IsRecordTriedUnder conventions old.files new.files depfile target command)
     × ((new.history ≡ old.history) ⊎ IsRecordEvent old target command tried.plan.names new.history))))
 
-abbrev pub FollowsRecord : List ℕ → List ℕ → List ℕ → Result RecordAnswer EngineError → TreeState → TreeState → Type 0
-FollowsRecord depfile target command result old new = FollowsRecordWithout Usual depfile target command result old new
+abbrev pub FollowsRecord : Dialect → List ℕ → List ℕ → List ℕ → Result RecordAnswer EngineError → TreeState → TreeState → Type 0
+FollowsRecord dialect depfile target command result old new = FollowsRecordUnder (usual dialect) depfile target command result old new

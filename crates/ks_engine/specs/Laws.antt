@@ -11,6 +11,7 @@ use Rattle.ks_compare.specs.Changes.{differs}
 use Rattle.ks_output.specs.OldConfig.{Texts}
 use Rattle.ks_fixdep.specs.CommandFile.{CommandRecord}
 use Rattle.ks_fixdep.specs.CommandReading.{reading}
+use Rattle.ks_fixdep.specs.declared.dialect.Dialect.{Dialect}
 use Rattle.ks_engine.specs.declared.staleness.Verdict.TheVariants.{Fresh}
 use Rattle.ks_engine.specs.Asked.{asked, IsAnswer}
 use Rattle.ks_engine.specs.History.{History, Begun, Synced, Broken, Recorded, LastRecord, before, done, last_record}
@@ -79,9 +80,9 @@ SuspicionsHaveCauses =
 -- A run of an honest tree by its files is a run from each history that the first of these files show.
 abbrev pub FileRunsGoOn : Type 0
 FileRunsGoOn =
-    (first : FileState) (actions : List Action) (replies : List Reply) (last : FileState) (h : History) → Shows first.files h
-    → FileRun ⊤ first actions replies last
-    → (next : History) × Run (at first.files first.failures h) actions replies (at last.files last.failures next)
+    (dialect : Dialect) (first : FileState) (actions : List Action) (replies : List Reply) (last : FileState) (h : History) → Shows first.files h
+    → FileRun dialect ⊤ first actions replies last
+    → (next : History) × Run dialect (at first.files first.failures h) actions replies (at last.files last.failures next)
 
 -- To make the missing stamps of names says nothing: the files show each history then that they showed before.
 abbrev pub MadeStampsShow : Type 0

@@ -8,6 +8,7 @@ use Rattle.ks_tree.specs.Paths.{auto_path, stamp_path}
 use Rattle.ks_tree.specs.Stamps.{HasNumber}
 use Rattle.ks_engine.specs.declared.memos.Memo.{Memo}
 use Rattle.ks_fixdep.specs.SourceScan.{found_of}
+use Rattle.ks_fixdep.specs.declared.dialect.Rules.{Rules}
 use Rattle.ks_engine.specs.LastSync.{last_generation}
 use Rattle.ks_engine.specs.Recording.{scanned}
 
@@ -29,12 +30,12 @@ IsStamp files x n = IsTrue (is_name x) × HasNumber (content files (stamp_path x
 abbrev pub AreStamps : Files → List (List ℕ × ℕ) → Type 0
 AreStamps files kept = All (λ s. IsStamp files s.0 s.1) kept
 
--- The source at a place has the names of the file at a path.
-abbrev pub IsKept : Files → List (List (List ℕ)) → List ℕ → ℕ → Type 0
-IsKept files found path place = (place < length found) × (scanned path (content files path) ≡ Ok (get_or found place []))
+-- The source at a place has the names of the file at a path, by such rules.
+abbrev pub IsKept : Rules → Files → List (List (List ℕ)) → List ℕ → ℕ → Type 0
+IsKept r files found path place = (place < length found) × (scanned r path (content files path) ≡ Ok (get_or found place []))
 
-abbrev pub AreSources : Files → List (List (List ℕ)) → List (List ℕ × ℕ) → Type 0
-AreSources files found kept = All (λ s. IsKept files found s.0 s.1) kept
+abbrev pub AreSources : Rules → Files → List (List (List ℕ)) → List (List ℕ × ℕ) → Type 0
+AreSources r files found kept = All (λ s. IsKept r files found s.0 s.1) kept
 
 -- new begins with old
 abbrev pub Grows : List (List (List ℕ)) → List (List (List ℕ)) → Type 0
@@ -44,7 +45,7 @@ Grows old new = (more : List (List (List ℕ))) × (new ≡ old ++ more)
 pub record IsMemoOf (files : Files) (memo : Memo) : Type 0 where
   pub generation : (g : ℕ) → memo.generation ≡ Some g → last_generation (content files auto_path) ≡ Ok g
   pub stamps : AreStamps files (pairs_of string_bytes memo.stamps.entries)
-  pub sources : AreSources files (found_of memo.found.scan) (pairs_of vec_items memo.sources.entries)
+  pub sources : AreSources memo.rules files (found_of memo.found.scan) (pairs_of vec_items memo.sources.entries)
 
 -- The names of the file at this path are not kept.
 abbrev pub IsNoSource : List ℕ → Memo → Type 0

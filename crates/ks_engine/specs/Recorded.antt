@@ -1,7 +1,8 @@
 -- What recording an object comes to, and what it leaves.
 use Rattle.std.specs.Prelude.{◌≡◌, ◌⊎◌, ℕ, List, Some, Result, Ok, Err, nat_lt, length, if◌then◌else◌}
 use Rattle.ks_symbols.specs.Lines.{max_bytes}
-use Rattle.ks_fixdep.specs.declared.dependency_file.Header.{Header}
+use Rattle.ks_fixdep.specs.Dialects.{rules_for}
+use Rattle.ks_fixdep.specs.declared.dialect.Dialect.{Dialect}
 use Rattle.ks_fixdep.specs.declared.dependency_file.Header.TheVariants.{Usual}
 use Rattle.ks_fixdep.specs.declared.dependency_file.Role.{Role}
 use Rattle.ks_fixdep.specs.CommandFile.{CommandRecord, IsLegal, command_text}
@@ -9,6 +10,7 @@ use Rattle.ks_fixdep.specs.FoundNames.{names_of}
 use Rattle.ks_fixdep.specs.Record.{record_of}
 use Rattle.ks_tree.specs.Files.{Files, content, SameButBoth}
 use Rattle.ks_tree.specs.Paths.{auto_path, command_path, command_temporary}
+use Rattle.ks_engine.specs.declared.conventions.Conventions.{Conventions}
 use Rattle.ks_engine.specs.declared.error.EngineError.{EngineError}
 use Rattle.ks_engine.specs.declared.error.EngineError.TheVariants.{TooLarge}
 use Rattle.ks_engine.specs.declared.recording.Recorded.{Recorded}
@@ -32,56 +34,60 @@ drafted target command ps g found =
     let file = numbered (record_of target command ps found) g in
     if nat_lt max_bytes (length (command_text file)) then Err TooLarge else Ok (record { file = file; generation = g; names = names_of found })
 
--- What is to be done, or why it is refused: the words, the dependency file, auto.conf, each prerequisite but the header, and then what would be written.
-unfoldable pub record_plan_without : Header → Files → List ℕ → List ℕ → List ℕ → Result RecordPlan EngineError
-record_plan_without header files depfile target command =
+-- What is to be done, or why it is refused: the words, the dependency file, auto.conf, each prerequisite but the header, by the rules for the target,
+-- and then what would be written.
+unfoldable pub record_plan_under : Conventions → Files → List ℕ → List ℕ → List ℕ → Result RecordPlan EngineError
+record_plan_under conventions files depfile target command =
     and_then (words depfile target command) (λ _.
     and_then (there depfile (content files depfile)) (λ d.
-    and_then (listed_without header d) (λ ps.
+    and_then (listed_without conventions.header d) (λ ps.
     and_then (last_generation (content files auto_path)) (λ g.
-    and_then (scanned_all files ps) (λ found.
+    and_then (scanned_all (rules_for conventions.dialect target) files ps) (λ found.
     drafted target command ps g found)))))
 
 -- The plan for these files and words; its parts are legal.
-pub record IsRecordPlanWithout (header : Header) (files : Files) (depfile target command : List ℕ) (plan : RecordPlan) : Type 0 where
-  pub planned : record_plan_without header files depfile target command ≡ Ok plan
+pub record IsRecordPlanUnder (conventions : Conventions) (files : Files) (depfile target command : List ℕ) (plan : RecordPlan) : Type 0 where
+  pub planned : record_plan_under conventions files depfile target command ≡ Ok plan
   pub legal : IsLegal plan.file
 
 -- It was done, and this is its answer. All but the command file and its temporary file is as before.
-pub record IsRecordedWithout (header : Header) (old new : Files) (depfile target command : List ℕ) (answer : Recorded) : Type 0 where
+pub record IsRecordedUnder (conventions : Conventions) (old new : Files) (depfile target command : List ℕ) (answer : Recorded) : Type 0 where
   pub plan : RecordPlan
-  pub planned : IsRecordPlanWithout header old depfile target command plan
+  pub planned : IsRecordPlanUnder conventions old depfile target command plan
   pub generation : answer.generation ≡ plan.generation
   pub names : answer.names ≡ length plan.names
   pub written : content new (command_path target) ≡ Some (command_text plan.file)
   pub others : SameButBoth (command_temporary target) (command_path target) old new
 
 -- It was given up at the write: the command file is the old one or the new one.
-pub record IsRecordTriedWithout (header : Header) (old new : Files) (depfile target command : List ℕ) : Type 0 where
+pub record IsRecordTriedUnder (conventions : Conventions) (old new : Files) (depfile target command : List ℕ) : Type 0 where
   pub plan : RecordPlan
-  pub planned : IsRecordPlanWithout header old depfile target command plan
+  pub planned : IsRecordPlanUnder conventions old depfile target command plan
   pub either : (content new (command_path target) ≡ content old (command_path target)) ⊎ (content new (command_path target) ≡ Some (command_text plan.file))
   pub others : SameButBoth (command_temporary target) (command_path target) old new
 
 -- It was refused with nothing changed, or given up before the write or at it.
-abbrev pub IsRecordRefusedWithout : Header → Files → Files → List ℕ → List ℕ → List ℕ → EngineError → Type 0
-IsRecordRefusedWithout header old new depfile target command e =
-    ((record_plan_without header old depfile target command ≡ Err e) × (new ≡ old))
-    ⊎ (IsGivenUp e × ((new ≡ old) ⊎ IsRecordTriedWithout header old new depfile target command))
+abbrev pub IsRecordRefusedUnder : Conventions → Files → Files → List ℕ → List ℕ → List ℕ → EngineError → Type 0
+IsRecordRefusedUnder conventions old new depfile target command e =
+    ((record_plan_under conventions old depfile target command ≡ Err e) × (new ≡ old))
+    ⊎ (IsGivenUp e × ((new ≡ old) ⊎ IsRecordTriedUnder conventions old new depfile target command))
 
 -- ---- the same without the usual header
 
-abbrev pub record_plan : Files → List ℕ → List ℕ → List ℕ → Result RecordPlan EngineError
-record_plan files depfile target command = record_plan_without Usual files depfile target command
+abbrev pub usual : Dialect → Conventions
+usual dialect = record { header = Usual; dialect = dialect }
 
-abbrev pub IsRecordPlan : Files → List ℕ → List ℕ → List ℕ → RecordPlan → Type 0
-IsRecordPlan files depfile target command plan = IsRecordPlanWithout Usual files depfile target command plan
+abbrev pub record_plan : Dialect → Files → List ℕ → List ℕ → List ℕ → Result RecordPlan EngineError
+record_plan dialect files depfile target command = record_plan_under (usual dialect) files depfile target command
 
-abbrev pub IsRecorded : Files → Files → List ℕ → List ℕ → List ℕ → Recorded → Type 0
-IsRecorded old new depfile target command answer = IsRecordedWithout Usual old new depfile target command answer
+abbrev pub IsRecordPlan : Dialect → Files → List ℕ → List ℕ → List ℕ → RecordPlan → Type 0
+IsRecordPlan dialect files depfile target command plan = IsRecordPlanUnder (usual dialect) files depfile target command plan
 
-abbrev pub IsRecordTried : Files → Files → List ℕ → List ℕ → List ℕ → Type 0
-IsRecordTried old new depfile target command = IsRecordTriedWithout Usual old new depfile target command
+abbrev pub IsRecorded : Dialect → Files → Files → List ℕ → List ℕ → List ℕ → Recorded → Type 0
+IsRecorded dialect old new depfile target command answer = IsRecordedUnder (usual dialect) old new depfile target command answer
 
-abbrev pub IsRecordRefused : Files → Files → List ℕ → List ℕ → List ℕ → EngineError → Type 0
-IsRecordRefused old new depfile target command e = IsRecordRefusedWithout Usual old new depfile target command e
+abbrev pub IsRecordTried : Dialect → Files → Files → List ℕ → List ℕ → List ℕ → Type 0
+IsRecordTried dialect old new depfile target command = IsRecordTriedUnder (usual dialect) old new depfile target command
+
+abbrev pub IsRecordRefused : Dialect → Files → Files → List ℕ → List ℕ → List ℕ → EngineError → Type 0
+IsRecordRefused dialect old new depfile target command e = IsRecordRefusedUnder (usual dialect) old new depfile target command e

@@ -8,7 +8,8 @@ use Rattle.ks_fixdep.specs.declared.dependency_file.Header.TheVariants.{Usual}
 use Rattle.ks_fixdep.specs.declared.dependency_file.Role.{Role}
 use Rattle.ks_fixdep.specs.CommandFile.{is_command}
 use Rattle.ks_fixdep.specs.DependencyFile.{prerequisites_without, refusal_without}
-use Rattle.ks_fixdep.specs.FoundNames.{names_in}
+use Rattle.ks_fixdep.specs.Dialects.{names_in_as}
+use Rattle.ks_fixdep.specs.declared.dialect.Rules.{Rules}
 use Rattle.ks_tree.specs.Files.{Files, content}
 use Rattle.ks_engine.specs.declared.error.EngineError.{EngineError}
 use Rattle.ks_engine.specs.declared.error.EngineError.TheVariants.{TooLarge, BadPath, BadCommand, MissingFile}
@@ -37,10 +38,10 @@ listed_without header d = listed_unless (refusal_without header d) (prerequisite
 abbrev pub listed : List ℕ → Result (List (List ℕ × Role)) EngineError
 listed d = listed_without Usual d
 
--- the names of the file at a path, each once
-abbrev pub scanned : List ℕ → Option (List ℕ) → Result (List (List ℕ)) EngineError
-scanned path None = Err (MissingFile path)
-scanned path (Some b) = if nat_lt max_bytes (length b) then Err TooLarge else Ok (names_in b)
+-- the names of the file at a path by such rules, each once
+abbrev pub scanned : Rules → List ℕ → Option (List ℕ) → Result (List (List ℕ)) EngineError
+scanned r path None = Err (MissingFile path)
+scanned r path (Some b) = if nat_lt max_bytes (length b) then Err TooLarge else Ok (names_in_as r b)
 
 -- the first answer before the others, or the first refusal
 abbrev pub followed : {A E : Type 0} → Result A E → Result (List A) E → Result (List A) E
@@ -49,6 +50,6 @@ followed (Ok x) (Err e) = Err e
 followed (Ok x) (Ok xs) = Ok (x ∷ xs)
 
 -- the names of the file of each prerequisite, in their order
-unfoldable pub scanned_all : Files → List (List ℕ × Role) → Result (List (List (List ℕ))) EngineError
-scanned_all files [] = Ok []
-scanned_all files (p ∷ ps) = followed (scanned p.0 (content files p.0)) (scanned_all files ps)
+unfoldable pub scanned_all : Rules → Files → List (List ℕ × Role) → Result (List (List (List ℕ))) EngineError
+scanned_all r files [] = Ok []
+scanned_all r files (p ∷ ps) = followed (scanned r p.0 (content files p.0)) (scanned_all r files ps)

@@ -1,6 +1,7 @@
 -- Runs: actions with their replies, and the states between them.
 use Rattle.std.specs.Prelude.{◌≡◌, ◌⊎◌, ◌≤◌, ℕ, List, [], ◌∷◌, Some, Result, Ok, Err, map}
 use Rattle.std.specs.List.{All}
+use Rattle.ks_fixdep.specs.declared.dialect.Dialect.{Dialect}
 use Rattle.ks_tree.specs.Files.{HasRisen}
 use Rattle.ks_engine.specs.declared.error.EngineError.{EngineError}
 use Rattle.ks_engine.specs.declared.error.EngineError.TheVariants.{Device}
@@ -25,19 +26,19 @@ pub record FollowsStale (old : TreeState) (o : List ℕ) (answer : Result Verdic
   pub by_files : GaveUp answer ⊎ IsAnswer old.files (asked old.files o) answer
   pub recorded : (r : LastRecord) → last_record old.history o ≡ Some r → IsJudged old.files old.history o r answer
 
--- the state after an action, by its reply
-abbrev pub Leaves : TreeState → Action → Reply → TreeState → Type 0
-Leaves old (Sync kconfig dotconfig) (Synced report) new = FollowsSync kconfig dotconfig (Ok report) old new
-Leaves old (Sync kconfig dotconfig) (Refused e) new = FollowsSync kconfig dotconfig (Err e) old new
-Leaves old (Record depfile target command) (Recorded answer) new = FollowsRecord depfile target command (Ok answer) old new
-Leaves old (Record depfile target command) (Refused e) new = FollowsRecord depfile target command (Err e) old new
-Leaves old (Stale target) (Verdict v) new = FollowsStale old target (Ok v) new
-Leaves old (Stale target) (Refused e) new = FollowsStale old target (Err e) new
-Leaves old _ _ new = ⊥
+-- the state after an action, by its reply; sources are scanned by the words of such a dialect
+abbrev pub Leaves : Dialect → TreeState → Action → Reply → TreeState → Type 0
+Leaves dialect old (Sync kconfig dotconfig) (Synced report) new = FollowsSync kconfig dotconfig (Ok report) old new
+Leaves dialect old (Sync kconfig dotconfig) (Refused e) new = FollowsSync kconfig dotconfig (Err e) old new
+Leaves dialect old (Record depfile target command) (Recorded answer) new = FollowsRecord dialect depfile target command (Ok answer) old new
+Leaves dialect old (Record depfile target command) (Refused e) new = FollowsRecord dialect depfile target command (Err e) old new
+Leaves dialect old (Stale target) (Verdict v) new = FollowsStale old target (Ok v) new
+Leaves dialect old (Stale target) (Refused e) new = FollowsStale old target (Err e) new
+Leaves dialect old _ _ new = ⊥
 
 -- .. where the count of failures never fell, and the device is to blame only where it rose
-pub record Follows (action : Action) (reply : Reply) (old new : TreeState) : Type 0 where
-  pub leaves : Leaves old action reply new
+pub record Follows (dialect : Dialect) (action : Action) (reply : Reply) (old new : TreeState) : Type 0 where
+  pub leaves : Leaves dialect old action reply new
   pub later : old.failures ≤ new.failures
   pub cause : reply ≡ Refused Device → HasRisen old.failures new.failures
 
@@ -49,17 +50,17 @@ pub record Step : Type 0 where
   pub after : TreeState
 
 -- Each step begins where the one before it ended, and each state is shown.
-abbrev pub Leads : TreeState → List Step → TreeState → Type 0
-Leads first [] last = last ≡ first
-Leads first (step ∷ steps) last =
-    (step.before ≡ first) × Follows step.action step.reply step.before step.after × IsShown step.after × Leads step.after steps last
+abbrev pub Leads : Dialect → TreeState → List Step → TreeState → Type 0
+Leads dialect first [] last = last ≡ first
+Leads dialect first (step ∷ steps) last =
+    (step.before ≡ first) × Follows dialect step.action step.reply step.before step.after × IsShown step.after × Leads dialect step.after steps last
 
 -- A run of actions with these replies: the steps, and what holds of the verdicts among them.
-pub record Run (first : TreeState) (asked : List Action) (answered : List Reply) (last : TreeState) : Type 0 where
+pub record Run (dialect : Dialect) (first : TreeState) (asked : List Action) (answered : List Reply) (last : TreeState) : Type 0 where
   pub steps : List Step
   pub actions : map (λ step. step.action) steps ≡ asked
   pub replies : map (λ step. step.reply) steps ≡ answered
-  pub leads : Leads first steps last
+  pub leads : Leads dialect first steps last
   pub shown : IsShown last
   -- whatever was broken off
   pub suspect : All (λ step. IsSuspectVerdict step.before.history step.action step.reply) steps

@@ -11,7 +11,7 @@ ghost use Rattle.ks_engine.specs.Runs.{Run};
 use crate::memos::Memo;
 use crate::recording::record_by;
 use crate::{EngineError, Question, Recorded, Report, Verdict, ask, sync};
-use ks_fixdep::Seed;
+use ks_fixdep::{Dialect, Seed};
 use ks_tree::Tree;
 use std::alloc::{AllocError, Global};
 
@@ -42,10 +42,16 @@ pub enum Reply {
 }
 
 /// Answers one command.
-fn answer<T: Tree>(alloc: Global, tree: &mut T, memo: &mut Memo, command: &Command<'_>) -> Reply
+fn answer<T: Tree>(
+    alloc: Global,
+    tree: &mut T,
+    memo: &mut Memo,
+    dialect: Dialect,
+    command: &Command<'_>,
+) -> Reply
     requires memo { T.is_honest → IsMemoOf (T.files tree.old) memo.old }
     ensures memo { T.is_honest → IsMemoOf (T.files tree.new) memo.new }
-    ensures step { StepsTo T.is_honest (state T.Tree tree.old) (action command.now) result (state T.Tree tree.new) }
+    ensures step { StepsTo dialect T.is_honest (state T.Tree tree.old) (action command.now) result (state T.Tree tree.new) }
 {
     match command {
         Command::Sync { kconfig, dotconfig } => {
@@ -59,7 +65,7 @@ fn answer<T: Tree>(alloc: Global, tree: &mut T, memo: &mut Memo, command: &Comma
             depfile,
             target,
             command,
-        } => match record_by(alloc, tree, memo, depfile, target, command) {
+        } => match record_by(alloc, tree, memo, dialect, depfile, target, command) {
             Ok(recorded) => Reply::Recorded(recorded),
             Err(error) => Reply::Refused(error),
         },
@@ -70,17 +76,18 @@ fn answer<T: Tree>(alloc: Global, tree: &mut T, memo: &mut Memo, command: &Comma
     }
 }
 
-/// Answers commands in order, one reply for each. A refusal is a reply.
+/// Answers commands in order, one reply for each. A refusal is a reply. Sources are scanned by the words of the dialect.
 pub fn run<T: Tree>(
     alloc: Global,
     tree: &mut T,
+    dialect: Dialect,
     commands: &[Command<'_>],
 ) -> Result<Vec<Reply>, AllocError>
     // By the files, and by what the tree has counted: a step for each command, with its reply, from the tree before to the tree after.
-    ensures steps { IfOk result (λ replies. FileRun T.is_honest (state T.Tree tree.old) (map action commands.now) replies.items (state T.Tree tree.new)) }
+    ensures steps { IfOk result (λ replies. FileRun dialect T.is_honest (state T.Tree tree.old) (map action commands.now) replies.items (state T.Tree tree.new)) }
     // From each history that the files show there is a run with these replies, and the files show its last history.
     ensures runs { T.is_honest → (h : History) → Shows (T.files tree.old) h → IfOk result (λ replies. (last : History)
-        × Run (at (T.files tree.old) (T.failures tree.old) h) (map action commands.now) replies.items (at (T.files tree.new) (T.failures tree.new) last)) }
+        × Run dialect (at (T.files tree.old) (T.failures tree.old) h) (map action commands.now) replies.items (at (T.files tree.new) (T.failures tree.new) last)) }
     ensures each { IfOk result (λ replies. length replies.items ≡ length commands.now) }
     // Where memory is refused for the replies, nothing was asked of the tree.
     ensures untouched { OnErr result (tree.new ≡ tree.old) }
@@ -89,7 +96,7 @@ pub fn run<T: Tree>(
     let mut replies = Vec::with_capacity(alloc, commands.len())?;
     let mut memo = Memo::with_seed(alloc, Seed::new(tree.seed()));
     for command in commands {
-        let reply = answer(alloc, tree, &mut memo, command);
+        let reply = answer(alloc, tree, &mut memo, dialect, command);
         replies.push(reply).unwrap();
     }
     Ok(replies)

@@ -8,14 +8,15 @@ ghost use Rattle.ks_tree.specs.Files.{content, SameButBoth};
 ghost use Rattle.ks_tree.specs.Frames.{Counted, Reads};
 ghost use Rattle.ks_tree.specs.Paths.{command_path, command_temporary, temporary};
 ghost use Rattle.ks_engine.specs.Refusals.{IsGivenUp};
-ghost use Rattle.ks_engine.specs.Recorded.{RecordPlan, IsRecordPlanWithout, record_plan_without};
+ghost use Rattle.ks_engine.specs.Recorded.{RecordPlan, IsRecordPlanUnder, record_plan_under};
 ghost use Rattle.ks_engine.specs.Follows.{GoesOn};
 ghost use Rattle.ks_engine.specs.Depfile.{FollowsDepfile, IsDepfileRecorded, IsDepfileRefused, IsOldOrRule, IsRuled, RuleDone, RuleTried, is_own_file};
 
 use crate::EngineError;
+use crate::conventions::Conventions;
 use crate::memos::Memo;
 use crate::recording::{Draft, Recorded, prepare};
-use ks_fixdep::{Header, Seed, names_of_object, rule_text};
+use ks_fixdep::{Seed, names_of_object, rule_text};
 use ks_symbols::Name;
 use ks_tree::{Tree, command_path, command_temporary, header_path, make_stamps, replace};
 use std::alloc::{AllocError, Global};
@@ -52,21 +53,29 @@ fn temporary(alloc: Global, depfile: &[u8]) -> Result<Vec<u8>, AllocError>
 fn prepare_rule<T: Tree>(
     alloc: Global,
     tree: &mut T,
-    header: Header<'_>,
+    conventions: Conventions<'_>,
     depfile: &[u8],
     target: &[u8],
     command: &[u8],
 ) -> Result<Ruled, EngineError>
     ensures reads { Reads T.Tree tree.old tree.new (IsErrOf result EngineError.Device) }
     ensures planned { T.is_honest → IfOk result (λ r. (plan : RecordPlan)
-        × IsRecordPlanWithout header.entry (T.files tree.old) depfile.now target.now command.now plan
-        × IsRuled header.entry (T.files tree.old) depfile.now plan r) }
+        × IsRecordPlanUnder conventions.entry (T.files tree.old) depfile.now target.now command.now plan
+        × IsRuled conventions.entry (T.files tree.old) depfile.now plan r) }
     ensures refused { T.is_honest → IfErr result (λ e. IsGivenUp e
-        ⊎ (record_plan_without header.entry (T.files tree.old) depfile.now target.now command.now ≡ Err e)) }
+        ⊎ (record_plan_under conventions.entry (T.files tree.old) depfile.now target.now command.now ≡ Err e)) }
 {
     let seed = Seed::new(tree.seed());
     let mut memo = Memo::of_one_object(alloc, seed);
-    let prepared = prepare(alloc, tree, &mut memo, header, depfile, target, command)?;
+    let prepared = prepare(
+        alloc,
+        tree,
+        &mut memo,
+        conventions,
+        depfile,
+        target,
+        command,
+    )?;
     let names = names_of_object(alloc, seed, &memo.found)?;
     let rule = rule_text(alloc, &prepared.depfile, &prepared.prerequisites, &names)?;
     Ok(Ruled {
@@ -123,25 +132,25 @@ fn leave_rule<T: Tree>(
 pub fn record_depfile<T: Tree>(
     alloc: Global,
     tree: &mut T,
-    header: Header<'_>,
+    conventions: Conventions<'_>,
     depfile: &[u8],
     target: &[u8],
     command: &[u8],
 ) -> Result<Recorded, EngineError>
     // By the files: the record, the stamps and the rule are done in this order, or it was refused, or given up on the way.
-    ensures recorded { T.is_honest → IfOk result (IsDepfileRecorded header.entry (T.files tree.old) (T.files tree.new) depfile.now target.now command.now) }
-    ensures refused { T.is_honest → IfErr result (IsDepfileRefused header.entry (T.files tree.old) (T.files tree.new) depfile.now target.now command.now) }
+    ensures recorded { T.is_honest → IfOk result (IsDepfileRecorded conventions.entry (T.files tree.old) (T.files tree.new) depfile.now target.now command.now) }
+    ensures refused { T.is_honest → IfErr result (IsDepfileRefused conventions.entry (T.files tree.old) (T.files tree.new) depfile.now target.now command.now) }
     ensures old_or_rule { T.is_honest → OnErr result
-        (IsOldOrRule header.entry (content (T.files tree.old) depfile.now) (content (T.files tree.new) depfile.now)) }
+        (IsOldOrRule conventions.entry.header (content (T.files tree.old) depfile.now) (content (T.files tree.new) depfile.now)) }
     // By histories: each one that the files show goes on with this answer, and the files show the next one.
-    ensures follows { GoesOn T.Tree tree.old tree.new (FollowsDepfile header.entry depfile.now target.now command.now result) }
+    ensures follows { GoesOn T.Tree tree.old tree.new (FollowsDepfile conventions.entry depfile.now target.now command.now result) }
     // The device is to blame only where the tree counted a failure.
     ensures counted { Counted T.Tree tree.old tree.new (IsErrOf result EngineError.Device) }
 {
     if is_own_file(depfile) {
         return Err(EngineError::BadPath(0));
     }
-    let ruled = prepare_rule(alloc, tree, header, depfile, target, command)?;
+    let ruled = prepare_rule(alloc, tree, conventions, depfile, target, command)?;
     write_record(alloc, tree, target, &ruled.draft.text)?;
     leave_rule(alloc, tree, depfile, &ruled.names, &ruled.rule)?;
     Ok(ruled.draft.answer)

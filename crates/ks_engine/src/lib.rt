@@ -2,6 +2,7 @@
 #![tactic(auto)]
 
 mod commands;
+mod conventions;
 mod costs;
 mod depfile;
 mod error;
@@ -19,6 +20,7 @@ mod stamped;
 mod synchronise;
 
 pub use commands::{Command, Reply, run};
+pub use conventions::Conventions;
 pub use costs::{Cost, Costs, borrow_record, read_record};
 pub use depfile::record_depfile;
 pub use error::EngineError;

@@ -1,7 +1,7 @@
 //! What one command has read of a tree so far, so that it reads no file twice: hundreds of objects have one auto.conf, and share
 //! most of their stamps. A synchronisation drops all of it; a record changes nothing that is kept. Between commands nothing is kept,
 //! since others may write then.
-ghost use Rattle.std.specs.Prelude.{◌≡◌, ◌⊎◌, List, ℕ, length, slice_get, string_bytes, vec_items, Ok, Err, Some, OnOk, IfOk, IfErr, IfSome, OnErr, IsErrOf, IsTrue};
+ghost use Rattle.std.specs.Prelude.{◌≡◌, ◌⊎◌, List, ℕ, true, length, slice_get, string_bytes, vec_items, Ok, Err, Some, OnOk, IfOk, IfErr, IfSome, OnErr, IsErrOf, IsTrue};
 ghost use Rattle.ks_symbols.specs.Names.{is_name, is_path};
 ghost use Rattle.ks_fixdep.specs.SourceScan.{found_of};
 ghost use Rattle.ks_tree.specs.Frames.{Reads};
@@ -17,7 +17,7 @@ use crate::EngineError;
 use crate::last_sync::read_generation;
 use crate::sources::scan_file;
 use indexmap::IndexMap;
-use ks_fixdep::{NamesBySource, Seed, name_text};
+use ks_fixdep::{NamesBySource, Rules, Seed, name_text};
 use ks_symbols::Name;
 use ks_tree::{Tree, TreeError, read_stamp};
 use std::alloc::{AllocError, Global};
@@ -29,6 +29,8 @@ pub struct Memo {
     stamps: IndexMap<String, u64, Seed>,
     /// For each path of a source its place among those that were scanned.
     sources: IndexMap<Vec<u8>, usize, Seed>,
+    /// By which rules these were scanned.
+    pub(crate) rules: Rules,
     /// What was found in the sources, and which of them the last object has.
     pub(crate) found: NamesBySource,
     /// The place after the source that was asked for last. No answer depends on it.
@@ -51,6 +53,18 @@ fn keep_stamp(
     Ok(())
 }
 
+/// Whether two rules find the same names.
+fn are_same(one: Rules, other: Rules) -> bool
+    ensures { result ≡ true → one ≡ other }
+{
+    match (one, other) {
+        (Rules::Linux, Rules::Linux) => true,
+        (Rules::UBoot(phase), Rules::UBoot(other)) => phase == other,
+        (Rules::BusyBox, Rules::BusyBox) => true,
+        _ => false,
+    }
+}
+
 impl Memo {
     /// Nothing was read yet. It takes no memory.
     pub fn new(alloc: Global) -> Memo
@@ -67,6 +81,7 @@ impl Memo {
             generation: None,
             stamps: IndexMap::with_hasher(alloc, seed),
             sources: IndexMap::with_hasher(alloc, seed),
+            rules: Rules::Linux,
             found: NamesBySource::with_seed(alloc, seed),
             next: 0,
             keeps_sources: true,
@@ -81,6 +96,7 @@ impl Memo {
             generation: None,
             stamps: IndexMap::with_hasher(alloc, seed),
             sources: IndexMap::with_hasher(alloc, seed),
+            rules: Rules::Linux,
             found: NamesBySource::with_seed(alloc, seed),
             next: 0,
             keeps_sources: false,
@@ -95,6 +111,18 @@ impl Memo {
         self.stamps.clear();
         self.sources.clear();
         self.found.scan.clear();
+    }
+
+    /// Sources are scanned by these rules from now on. What others were scanned by is forgotten.
+    pub(crate) fn scan_by(&mut self, rules: Rules)
+        ensures memo { (files : Files) → IsMemoOf files self.old → IsMemoOf files self.new }
+        ensures rules { self.new.rules ≡ rules }
+    {
+        if !are_same(self.rules, rules) {
+            self.sources.clear();
+            self.found.scan.clear();
+        }
+        self.rules = rules;
     }
 
     /// The generation of auto.conf, which is read once.
@@ -159,8 +187,9 @@ impl Memo {
 
     /// Keeps the place of a source.
     fn keep_source(&mut self, alloc: Global, path: &[u8], place: usize) -> Result<(), AllocError>
-        ensures memo { (files : Files) → IsMemoOf files self.old → IsKept files (found_of self.old.found.scan) path.now place → IsMemoOf files self.new }
+        ensures memo { (files : Files) → IsMemoOf files self.old → IsKept self.old.rules files (found_of self.old.found.scan) path.now place → IsMemoOf files self.new }
         ensures found { self.new.found ≡ self.old.found }
+        ensures rules { self.new.rules ≡ self.old.rules }
     {
         if !self.keeps_sources {
             return Ok(());
@@ -184,16 +213,17 @@ impl Memo {
         requires room { length room.old ≡ 4096 }
         ensures memo { T.is_honest → IsMemoOf (T.files tree.new) self.new }
         ensures reads { Reads T.Tree tree.old tree.new (IsErrOf result EngineError.Device) }
+        ensures rules { self.new.rules ≡ self.old.rules }
         ensures grows { OnOk result (Grows (found_of self.old.found.scan) (found_of self.new.found.scan)) }
-        ensures scanned { T.is_honest → IfOk result (IsKept (T.files tree.old) (found_of self.new.found.scan) path.now) }
-        ensures refused { T.is_honest → IfErr result (λ e. IsGivenUp e ⊎ (scanned path.now (content (T.files tree.old) path.now) ≡ Err e)) }
+        ensures scanned { T.is_honest → IfOk result (IsKept self.old.rules (T.files tree.old) (found_of self.new.found.scan) path.now) }
+        ensures refused { T.is_honest → IfErr result (λ e. IsGivenUp e ⊎ (scanned self.old.rules path.now (content (T.files tree.old) path.now) ≡ Err e)) }
     {
         if let Some(place) = self.kept_source(path) {
             self.next = place.saturating_add(1);
             return Ok(place);
         }
         let place = self.found.scan.len();
-        scan_file(alloc, tree, path, room, &mut self.found.scan)?;
+        scan_file(alloc, tree, path, room, self.rules, &mut self.found.scan)?;
         self.keep_source(alloc, path, place)?;
         Ok(place)
     }

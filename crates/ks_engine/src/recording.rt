@@ -8,16 +8,18 @@ ghost use Rattle.ks_tree.specs.Frames.{Counted, Reads};
 ghost use Rattle.ks_tree.specs.Files.{content};
 ghost use Rattle.ks_engine.specs.Refusals.{Answers, IsGivenUp};
 ghost use Rattle.ks_engine.specs.Recording.{words, there};
-ghost use Rattle.ks_engine.specs.Recorded.{RecordPlan, drafted, record_plan_without, IsRecordPlanWithout, IsRecorded, IsRecordRefused};
+ghost use Rattle.ks_engine.specs.Recorded.{RecordPlan, drafted, usual, record_plan_under, IsRecordPlanUnder, IsRecorded, IsRecordRefused};
 ghost use Rattle.ks_engine.specs.Follows.{GoesOn, FollowsRecord};
 ghost use Rattle.ks_engine.specs.Memos.{IsMemoOf};
 ghost use Rattle.ks_engine.specs.Drafts.{IsDraft, IsPrepared};
 
 use crate::EngineError;
+use crate::conventions::Conventions;
 use crate::memos::Memo;
 use crate::sources::scan_all_by;
 use ks_fixdep::{
-    Header, NamesBySource, Prerequisites, Seed, command_is_legal, read_depfile_without, record_text,
+    Dialect, Header, NamesBySource, Prerequisites, Seed, command_is_legal, read_depfile_without,
+    record_text,
 };
 use ks_symbols::{MAX_BYTES, Path, path_is_legal, target_is_legal};
 use ks_tree::{Tree, command_path, command_temporary, replace};
@@ -113,7 +115,7 @@ pub(crate) fn prepare<T: Tree>(
     alloc: Global,
     tree: &mut T,
     memo: &mut Memo,
-    header: Header<'_>,
+    conventions: Conventions<'_>,
     depfile: &[u8],
     target: &[u8],
     command: &[u8],
@@ -122,15 +124,17 @@ pub(crate) fn prepare<T: Tree>(
     ensures memo { T.is_honest → IsMemoOf (T.files tree.new) memo.new }
     ensures reads { Reads T.Tree tree.old tree.new (IsErrOf result EngineError.Device) }
     ensures planned { T.is_honest → IfOk result (λ p. (plan : RecordPlan)
-        × IsRecordPlanWithout header.entry (T.files tree.old) depfile.now target.now command.now plan
-        × IsPrepared header.entry (T.files tree.old) depfile.now plan (names_by memo.new.found) p) }
+        × IsRecordPlanUnder conventions.entry (T.files tree.old) depfile.now target.now command.now plan
+        × IsPrepared conventions.entry (T.files tree.old) depfile.now plan (names_by memo.new.found) p) }
     ensures refused { T.is_honest → IfErr result (λ e. IsGivenUp e
-        ⊎ (record_plan_without header.entry (T.files tree.old) depfile.now target.now command.now ≡ Err e)) }
+        ⊎ (record_plan_under conventions.entry (T.files tree.old) depfile.now target.now command.now ≡ Err e)) }
 {
     check_words(depfile, target, command)?;
     let text = read_there(alloc, tree, depfile)?;
+    let header = conventions.header;
     let prerequisites = read_depfile_without(alloc, Seed::new(tree.seed()), header, &text)?;
     let generation = memo.generation(alloc, tree)?;
+    memo.scan_by(conventions.dialect.rules_for(target));
     scan_all_by(alloc, tree, memo, &prerequisites)?;
     let draft = make_draft(
         alloc,
@@ -152,17 +156,22 @@ pub(crate) fn record_by<T: Tree>(
     alloc: Global,
     tree: &mut T,
     memo: &mut Memo,
+    dialect: Dialect,
     depfile: &[u8],
     target: &[u8],
     command: &[u8],
 ) -> Result<Recorded, EngineError>
     requires memo { T.is_honest → IsMemoOf (T.files tree.old) memo.old }
     ensures memo { T.is_honest → IsMemoOf (T.files tree.new) memo.new }
-    ensures recorded { T.is_honest → IfOk result (IsRecorded (T.files tree.old) (T.files tree.new) depfile.now target.now command.now) }
-    ensures refused { T.is_honest → IfErr result (IsRecordRefused (T.files tree.old) (T.files tree.new) depfile.now target.now command.now) }
+    ensures recorded { T.is_honest → IfOk result (IsRecorded dialect (T.files tree.old) (T.files tree.new) depfile.now target.now command.now) }
+    ensures refused { T.is_honest → IfErr result (IsRecordRefused dialect (T.files tree.old) (T.files tree.new) depfile.now target.now command.now) }
     ensures counted { Counted T.Tree tree.old tree.new (IsErrOf result EngineError.Device) }
 {
-    let prepared = prepare(alloc, tree, memo, Header::Usual, depfile, target, command)?;
+    let conventions = Conventions {
+        header: Header::Usual,
+        dialect,
+    };
+    let prepared = prepare(alloc, tree, memo, conventions, depfile, target, command)?;
     let path = command_path(alloc, target)?;
     let temporary = command_temporary(alloc, target)?;
     memo.forget(&temporary);
@@ -176,18 +185,19 @@ pub(crate) fn record_by<T: Tree>(
 pub fn record_object<T: Tree>(
     alloc: Global,
     tree: &mut T,
+    dialect: Dialect,
     depfile: &[u8],
     target: &[u8],
     command: &[u8],
 ) -> Result<Recorded, EngineError>
     // By the files: the command file is written and all else is as before, or it was refused, or given up at the write.
-    ensures recorded { T.is_honest → IfOk result (IsRecorded (T.files tree.old) (T.files tree.new) depfile.now target.now command.now) }
-    ensures refused { T.is_honest → IfErr result (IsRecordRefused (T.files tree.old) (T.files tree.new) depfile.now target.now command.now) }
+    ensures recorded { T.is_honest → IfOk result (IsRecorded dialect (T.files tree.old) (T.files tree.new) depfile.now target.now command.now) }
+    ensures refused { T.is_honest → IfErr result (IsRecordRefused dialect (T.files tree.old) (T.files tree.new) depfile.now target.now command.now) }
     // By histories: each one that the files show goes on with this answer, and the files show the next one.
-    ensures follows { GoesOn T.Tree tree.old tree.new (FollowsRecord depfile.now target.now command.now result) }
+    ensures follows { GoesOn T.Tree tree.old tree.new (FollowsRecord dialect depfile.now target.now command.now result) }
     // The device is to blame only where the tree counted a failure.
     ensures counted { Counted T.Tree tree.old tree.new (IsErrOf result EngineError.Device) }
 {
     let mut memo = Memo::of_one_object(alloc, Seed::new(tree.seed()));
-    record_by(alloc, tree, &mut memo, depfile, target, command)
+    record_by(alloc, tree, &mut memo, dialect, depfile, target, command)
 }

@@ -12,7 +12,7 @@ ghost use Rattle.ks_engine.specs.Recording.{scanned, scanned_all};
 
 use crate::EngineError;
 use crate::memos::Memo;
-use ks_fixdep::{NamesBySource, Prerequisites, Seed, SourceScan};
+use ks_fixdep::{NamesBySource, Prerequisites, Rules, Seed, SourceScan};
 use ks_symbols::{MAX_BYTES, Path};
 use ks_tree::Tree;
 use std::alloc::Global;
@@ -21,21 +21,22 @@ use std::alloc::Global;
 const PIECE: usize = 4096;
 
 /// Scans the file at a path as the next source. A file that is gone between two pieces is missing. Each piece is read into the
-/// same room.
+/// same room, and scanned by the rules.
 pub(crate) fn scan_file<T: Tree>(
     alloc: Global,
     tree: &mut T,
     path: &[u8],
     room: &mut [u8],
+    rules: Rules,
     scan: &mut SourceScan,
 ) -> Result<(), EngineError>
     requires path { IsTrue (is_path path.now) }
     requires room { length room.old ≡ 4096 }
     ensures reads { Reads T.Tree tree.old tree.new (IsErrOf result EngineError.Device) }
     ensures scanned { OnOk result ((names : List (List ℕ)) × (found_of scan.new ≡ found_of scan.old ++ names ∷ [])
-        × (T.is_honest → scanned path.now (content (T.files tree.old) path.now) ≡ Ok names)) }
+        × (T.is_honest → scanned rules path.now (content (T.files tree.old) path.now) ≡ Ok names)) }
     ensures kept { OnErr result (found_of scan.new ≡ found_of scan.old) }
-    ensures refused { T.is_honest → IfErr result (λ e. IsGivenUp e ⊎ (scanned path.now (content (T.files tree.old) path.now) ≡ Err e)) }
+    ensures refused { T.is_honest → IfErr result (λ e. IsGivenUp e ⊎ (scanned rules path.now (content (T.files tree.old) path.now) ≡ Err e)) }
 {
     scan.begin_source();
     let mut offset: u64 = 0;
@@ -47,15 +48,16 @@ pub(crate) fn scan_file<T: Tree>(
         if offset > MAX_BYTES as u64 {
             return Err(EngineError::TooLarge);
         }
-        scan.feed(&room[..count])?;
+        scan.feed_as(rules, &room[..count])?;
         if count < PIECE {
-            scan.end_source()?;
+            scan.end_source_as(rules)?;
             return Ok(());
         }
     }
 }
 
-/// Finds the names of the prerequisites, in their order, by what was read before and what is still to be read.
+/// Finds the names of the prerequisites, in their order, by what was read before and what is still to be read, under the rules
+/// of what is kept.
 pub(crate) fn scan_all_by<T: Tree>(
     alloc: Global,
     tree: &mut T,
@@ -65,8 +67,8 @@ pub(crate) fn scan_all_by<T: Tree>(
     requires memo { T.is_honest → IsMemoOf (T.files tree.old) memo.old }
     ensures memo { T.is_honest → IsMemoOf (T.files tree.new) memo.new }
     ensures reads { Reads T.Tree tree.old tree.new (IsErrOf result EngineError.Device) }
-    ensures names { T.is_honest → OnOk result (scanned_all (T.files tree.old) prerequisites.now ≡ Ok (names_by memo.new.found)) }
-    ensures refused { T.is_honest → IfErr result (λ e. IsGivenUp e ⊎ (scanned_all (T.files tree.old) prerequisites.now ≡ Err e)) }
+    ensures names { T.is_honest → OnOk result (scanned_all memo.old.rules (T.files tree.old) prerequisites.now ≡ Ok (names_by memo.new.found)) }
+    ensures refused { T.is_honest → IfErr result (λ e. IsGivenUp e ⊎ (scanned_all memo.old.rules (T.files tree.old) prerequisites.now ≡ Err e)) }
     ensures each { OnOk result (length memo.new.found.sources.items ≡ length prerequisites.now) }
 {
     let mut room = [0; PIECE];
@@ -86,14 +88,16 @@ pub(crate) fn scan_all_by<T: Tree>(
 pub fn scan_all<T: Tree>(
     alloc: Global,
     tree: &mut T,
+    rules: Rules,
     prerequisites: &Prerequisites,
 ) -> Result<NamesBySource, EngineError>
     ensures reads { Reads T.Tree tree.old tree.new (IsErrOf result EngineError.Device) }
-    ensures names { T.is_honest → IfOk result (λ found. scanned_all (T.files tree.old) prerequisites.now ≡ Ok (names_by found)) }
-    ensures refused { T.is_honest → IfErr result (λ e. IsGivenUp e ⊎ (scanned_all (T.files tree.old) prerequisites.now ≡ Err e)) }
+    ensures names { T.is_honest → IfOk result (λ found. scanned_all rules (T.files tree.old) prerequisites.now ≡ Ok (names_by found)) }
+    ensures refused { T.is_honest → IfErr result (λ e. IsGivenUp e ⊎ (scanned_all rules (T.files tree.old) prerequisites.now ≡ Err e)) }
     ensures each { IfOk result (λ found. length found.sources.items ≡ length prerequisites.now) }
 {
     let mut memo = Memo::of_one_object(alloc, Seed::new(tree.seed()));
+    memo.scan_by(rules);
     scan_all_by(alloc, tree, &mut memo, prerequisites)?;
     Ok(memo.found)
 }

@@ -16,6 +16,6 @@ returns-clause-planned g c = λ honest.
         names = names;
         was = c.in_ok-prepared.prepared.depfile.items;
         was_there = planned.2.text;
-        rule = rule_is c.args.header _ _ _ _ _ _ c.in_ok-rule.ensures c.deref.ensures.value planned.2.prerequisites (c.deref-2.ensures.value ∙ names);
+        rule = rule_is c.args.conventions.header _ _ _ _ _ _ c.in_ok-rule.ensures c.deref.ensures.value planned.2.prerequisites (c.deref-2.ensures.value ∙ names);
       },
     )

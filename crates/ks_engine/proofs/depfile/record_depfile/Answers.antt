@@ -7,7 +7,7 @@ use Rattle.ks_engine.proofs.depfile.record_depfile.Goals.{In_err-leave_rule, In_
 
 -- what is left where the record was given up
 refused_at_record : (g : given.Over) (c : In_err-write_record g) → g.T.Tree.is_honest
-    → IsDepfileRefused c.args.header (g.T.Tree.files c.args.tree.now) (g.T.Tree.files c.write_record.new.tree) c.args.depfile.now c.args.target.now
+    → IsDepfileRefused c.args.conventions (g.T.Tree.files c.args.tree.now) (g.T.Tree.files c.write_record.new.tree) c.args.depfile.now c.args.target.now
     c.args.command.now c.in_err-write_record.field-0.0
 refused_at_record g c honest =
     let planned = c.in_ok-ruled.ensures.planned honest in
@@ -22,7 +22,7 @@ refused_at_record g c honest =
 
 -- what is left where the rule was given up
 refused_at_rule : (g : given.Over) (c : In_err-leave_rule g) → g.T.Tree.is_honest
-    → IsDepfileRefused c.args.header (g.T.Tree.files c.args.tree.now) (g.T.Tree.files c.leave_rule.new.tree) c.args.depfile.now c.args.target.now
+    → IsDepfileRefused c.args.conventions (g.T.Tree.files c.args.tree.now) (g.T.Tree.files c.leave_rule.new.tree) c.args.depfile.now c.args.target.now
     c.args.command.now c.in_err-leave_rule.field-0.0
 refused_at_rule g c honest =
     let planned = c.in_ok-ruled.ensures.planned honest in
@@ -43,7 +43,7 @@ refused_at_rule g c honest =
 
 -- what is left where all was done
 done : (g : given.Over) (c : In_ok-leave_rule g) → g.T.Tree.is_honest
-    → IsDepfileRecorded c.args.header (g.T.Tree.files c.args.tree.now) (g.T.Tree.files c.leave_rule.new.tree) c.args.depfile.now c.args.target.now
+    → IsDepfileRecorded c.args.conventions (g.T.Tree.files c.args.tree.now) (g.T.Tree.files c.leave_rule.new.tree) c.args.depfile.now c.args.target.now
     c.args.command.now c.in_ok-ruled.ruled.draft.answer
 done g c honest =
     let planned = c.in_ok-ruled.ensures.planned honest in
@@ -62,7 +62,7 @@ pub leave_rule-requires-clause-legal : goal.leave_rule-requires-clause-legal
 leave_rule-requires-clause-legal g c = λ honest.
     let planned = c.in_ok-ruled.ensures.planned honest in
     subst (λ ns. (x : List ℕ) → is_in ns x ≡ true → IsTrue (is_name x)) (sym (c.deref-2.ensures.value ∙ planned.2.names))
-    (legal_names c.args.header (g.T.Tree.files c.args.tree.now) c.args.depfile.now c.args.target.now c.args.command.now planned.0 planned.1)
+    (legal_names c.args.conventions (g.T.Tree.files c.args.tree.now) c.args.depfile.now c.args.target.now c.args.command.now planned.0 planned.1)
 
 pub returns-in_err-write_record-clause-refused : goal.returns-in_err-write_record-clause-refused
 returns-in_err-write_record-clause-refused g c = λ honest.

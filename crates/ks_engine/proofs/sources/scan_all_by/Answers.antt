@@ -12,9 +12,11 @@ returns-in_err-source-clause-refused g c = λ honest.
     let at = sym c.in-Some.ensures.value in
     let error = c.in_err-source.field-0.0 in
     let so_far = c.loop-place.invariant.scanned honest in
-    let said = subst (λ f. IsGivenUp error ⊎ (scanned c.in-Some.path.now (content f c.in-Some.path.now) ≡ Err error)) same (c.in_err-source.ensures.refused honest) in
+    let said = subst (λ f. IsGivenUp error ⊎ (scanned c.args.memo.now.rules c.in-Some.path.now (content f c.in-Some.path.now) ≡ Err error)) same
+    (subst (λ r. IsGivenUp error ⊎ (scanned r c.in-Some.path.now (content (g.T.Tree.files c.loop-place.tree) c.in-Some.path.now) ≡ Err error))
+    c.loop-place.invariant.rules (c.in_err-source.ensures.refused honest)) in
     rw (p.1, p.2) (⊎_elim (λ given. inl given)
-    (λ bad. inr (scanned_refused (g.T.Tree.files c.args.tree.now) ps i _ (picked (found_of c.loop-place.memo.found.scan) c.loop-place.sources.items) error _
+    (λ bad. inr (scanned_refused c.args.memo.now.rules (g.T.Tree.files c.args.tree.now) ps i _ (picked (found_of c.loop-place.memo.found.scan) c.loop-place.sources.items) error _
     at bad so_far.1)) said)
 
 pub loop-place-preserved : goal.loop-place-preserved
@@ -26,6 +28,7 @@ loop-place-preserved g c =
       later = search rules;
       memo = c.in_ok-source.ensures.memo;
       within = omega arith;
+      rules = c.source_at.ensures.rules ∙ c.loop-place.invariant.rules;
       room = c.source_at.auto.room ∙ c.loop-place.invariant.room;
       counts = ap length c.in_ok-push.ensures.items ∙ length-append c.loop-place.sources.items (c.in_ok-source.source ∷ [])
           ∙ ap (λ n. n + 1) c.loop-place.invariant.counts;
@@ -37,13 +40,14 @@ loop-place-preserved g c =
           let places = c.loop-place.sources.items in
           let here : i < length ps = omega arith in
           let at = sym c.in-Some.ensures.value in
-          let kept = subst (λ f. IsKept f later c.in-Some.path.now c.in_ok-source.source) (c.loop-place.invariant.unchanged honest)
-          (c.in_ok-source.ensures.scanned honest) in
+          let kept = subst (λ f. IsKept c.args.memo.now.rules f later c.in-Some.path.now c.in_ok-source.source) (c.loop-place.invariant.unchanged honest)
+          (subst (λ r. IsKept r (g.T.Tree.files c.loop-place.tree) later c.in-Some.path.now c.in_ok-source.source) c.loop-place.invariant.rules
+          (c.in_ok-source.ensures.scanned honest)) in
           let next = picked_next found later places c.push.new.self.items c.in_ok-source.source c.in_ok-source.ensures.grows so_far.0 kept.0
           c.in_ok-push.ensures.items in (
             next.0,
-            scanned_next files ps i _ (picked found places) (get_or later c.in_ok-source.source []) _ at kept.1 so_far.1
-                ∙ ap (λ l. following l (scanned_all files (drop (i + 1) ps))) (sym next.1),
+            scanned_next c.args.memo.now.rules files ps i _ (picked found places) (get_or later c.in_ok-source.source []) _ at kept.1 so_far.1
+                ∙ ap (λ l. following l (scanned_all c.args.memo.now.rules files (drop (i + 1) ps))) (sym next.1),
           );
     }
 
@@ -55,5 +59,5 @@ returns-clause-memo g c = λ honest.
 pub returns-clause-names : goal.returns-clause-names
 returns-clause-names g c = λ honest.
     let so_far = c.loop-place.invariant.scanned honest in
-    scanned_end (g.T.Tree.files c.args.tree.now) c.args.prerequisites.now c.loop-place.place
+    scanned_end c.args.memo.now.rules (g.T.Tree.files c.args.tree.now) c.args.prerequisites.now c.loop-place.place
     (picked (found_of c.loop-place.memo.found.scan) c.loop-place.sources.items) _ (omega arith) so_far.1

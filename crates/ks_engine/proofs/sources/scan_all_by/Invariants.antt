@@ -11,8 +11,9 @@ invariant-loop-place g l = record {
   within : l.place ≤ length l.prerequisites;
   room : length l.room ≡ 4096;
   memo : g.T.Tree.is_honest → IsMemoOf (g.T.Tree.files l.tree) l.memo;
+  rules : l.memo.rules ≡ l.fn.memo.rules;
   counts : length l.sources.items ≡ l.place;
   scanned : g.T.Tree.is_honest → (are_placed (found_of l.memo.found.scan) l.sources.items ≡ true)
-      × (scanned_all (g.T.Tree.files l.fn.tree) l.prerequisites
-      ≡ following (picked (found_of l.memo.found.scan) l.sources.items) (scanned_all (g.T.Tree.files l.fn.tree) (drop l.place l.prerequisites)));
+      × (scanned_all l.fn.memo.rules (g.T.Tree.files l.fn.tree) l.prerequisites
+      ≡ following (picked (found_of l.memo.found.scan) l.sources.items) (scanned_all l.fn.memo.rules (g.T.Tree.files l.fn.tree) (drop l.place l.prerequisites)));
 }

@@ -1,4 +1,4 @@
-use Rattle.ks_engine.proofs.Prelude.{◌≡◌, ◌-◌, ◌≤◌, List, ℕ, Some, take, length, content, StandsAfter, found_of}
+use Rattle.ks_engine.proofs.Prelude.{◌≡◌, ◌-◌, ◌≤◌, List, ℕ, Some, take, length, content, StandsAfterAs, found_of}
 use Rattle.ks_engine.proofs.sources.scan_file.Given as goal
 
 -- it stands after what was read, which on an honest tree are the bytes before the offset
@@ -9,7 +9,7 @@ invariant-loop-count g l = record {
   full : length l.room ≡ 4096;
   found : found_of l.scan ≡ found_of l.fn.scan;
   small : l.offset ≤ 67108864;
-  stands : (t : List ℕ) × StandsAfter l.scan t
+  stands : (t : List ℕ) × StandsAfterAs l.rules l.scan t
       × (g.T.Tree.is_honest → (b : List ℕ) → content (g.T.Tree.files l.fn.tree) l.path ≡ Some b → t ≡ take l.offset b);
 }
 

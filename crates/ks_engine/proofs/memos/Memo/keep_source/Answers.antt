@@ -6,7 +6,7 @@ pub returns-in_err-insert-clause-memo : goal.returns-in_err-insert-clause-memo
 returns-in_err-insert-clause-memo c = λ files is kept. record {
   generation = is.generation;
   stamps = is.stamps;
-  sources = subst (AreSources files (found_of c.args.self.now.found.scan)) (sym (ap (pairs_of vec_items) c.in_err-insert.ensures.err)) is.sources;
+  sources = subst (AreSources c.args.self.now.rules files (found_of c.args.self.now.found.scan)) (sym (ap (pairs_of vec_items) c.in_err-insert.ensures.err)) is.sources;
 }
 
 pub returns-clause-memo : goal.returns-clause-memo
@@ -18,6 +18,6 @@ returns-clause-memo c = λ files is kept.
     record {
       generation = is.generation;
       stamps = is.stamps;
-      sources = subst (AreSources files found) (sym added)
-          (kept_added (IsKept files found) c.args.path.now c.args.place (pairs_of vec_items c.args.self.now.sources.entries) is.sources kept);
+      sources = subst (AreSources c.args.self.now.rules files found) (sym added)
+          (kept_added (IsKept c.args.self.now.rules files found) c.args.path.now c.args.place (pairs_of vec_items c.args.self.now.sources.entries) is.sources kept);
     }

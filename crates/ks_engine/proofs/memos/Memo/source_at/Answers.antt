@@ -11,10 +11,10 @@ memo_left g c honest =
     let path = c.args.path.now in
     let same = c.in_ok-scan_file.ensures.reads.unchanged honest in
     let s = c.in_ok-scan_file.ensures.scanned in
-    let said = subst (λ f. scanned path (content f path) ≡ Ok s.0) (sym same) (s.2 honest) in
+    let said = subst (λ f. scanned c.args.self.now.rules path (content f path) ≡ Ok s.0) (sym same) (s.2 honest) in
     c.keep_source.ensures.memo files
-    (memo_grown files c.args.self.now _ refl refl refl (s.0 ∷ [], s.1) (subst (λ f. IsMemoOf f c.args.self.now) (sym same) (c.requires.memo honest)))
-    (last_kept files (found_of c.args.self.now.found.scan) path s.0 _ c.len-place.result c.len-place.ensures s.1 said)
+    (memo_grown files c.args.self.now _ refl refl refl refl (s.0 ∷ [], s.1) (subst (λ f. IsMemoOf f c.args.self.now) (sym same) (c.requires.memo honest)))
+    (last_kept c.args.self.now.rules files (found_of c.args.self.now.found.scan) path s.0 _ c.len-place.result c.len-place.ensures s.1 said)
 
 pub returns-in-Some-clause-memo : goal.returns-in-Some-clause-memo
 returns-in-Some-clause-memo g c = λ honest.
@@ -26,13 +26,13 @@ returns-in-Some-clause-grows g c = grows_none _ _ refl
 
 pub returns-in-Some-clause-scanned : goal.returns-in-Some-clause-scanned
 returns-in-Some-clause-scanned g c = λ honest.
-    kept_found_or_at (IsKept (g.T.Tree.files c.args.tree.now) (found_of c.args.self.now.found.scan)) c.args.path.now c.in-Some.place
+    kept_found_or_at (IsKept c.args.self.now.rules (g.T.Tree.files c.args.tree.now) (found_of c.args.self.now.found.scan)) c.args.path.now c.in-Some.place
     (pairs_of vec_items c.args.self.now.sources.entries) (c.requires.memo honest).sources c.in-Some.ensures
 
 pub returns-in_err-scan_file-clause-memo : goal.returns-in_err-scan_file-clause-memo
 returns-in_err-scan_file-clause-memo g c = λ honest.
     let same = c.in_err-scan_file.ensures.reads.unchanged honest in
-    memo_grown (g.T.Tree.files c.scan_file.new.tree) c.args.self.now _ refl refl refl (grows_none _ _ c.in_err-scan_file.ensures.kept)
+    memo_grown (g.T.Tree.files c.scan_file.new.tree) c.args.self.now _ refl refl refl refl (grows_none _ _ c.in_err-scan_file.ensures.kept)
     (subst (λ f. IsMemoOf f c.args.self.now) (sym same) (c.requires.memo honest))
 
 pub returns-in_err-keep_source-clause-memo : goal.returns-in_err-keep_source-clause-memo
@@ -48,5 +48,5 @@ returns-clause-grows g c =
 pub returns-clause-scanned : goal.returns-clause-scanned
 returns-clause-scanned g c = λ honest.
     let s = c.in_ok-scan_file.ensures.scanned in
-    last_kept (g.T.Tree.files c.args.tree.now) (found_of c.args.self.now.found.scan) c.args.path.now s.0 _ c.len-place.result c.len-place.ensures
+    last_kept c.args.self.now.rules (g.T.Tree.files c.args.tree.now) (found_of c.args.self.now.found.scan) c.args.path.now s.0 _ c.len-place.result c.len-place.ensures
     (ap (λ n. found_of n.scan) c.keep_source.ensures.found ∙ s.1) (s.2 honest)

@@ -1,5 +1,5 @@
 -- What a call of the engine leaves, after reads that changed no file.
-use Rattle.ks_commands.proofs.Prelude.{◌≡◌, ◌⊎◌, ◌≤◌, ℕ, inl, inr, List, Result, Ok, Err, refl, sym, ap, ◌∙◌, subst, Files, Reply, EngineError, Report, Action, IsExplanationOn, FileRun, FileState, IsAnswerOn, Stamps, LeavesStamps, FollowsStamps, IfOk, IfErr, IsSynced, IsSyncRefused, IsStamped, IsStampedRefused, TreeState, at, FollowsSync, History, IsAnswerAfter, IsGivenUp, FollowsStale, Run, Shows, Form, Refusal, Engine, Ending, given, EndsImpact, EndsStale, EndsWhy, FollowsImpact, FollowsWhy, Runs, RunsAll, RunsOn, by_files, by_histories, count_of, not_counted, HasGivenUp, actions_of, script_actions, script_at, spelling_of}
+use Rattle.ks_commands.proofs.Prelude.{Dialect, ◌≡◌, ◌⊎◌, ◌≤◌, ℕ, inl, inr, List, Result, Ok, Err, refl, sym, ap, ◌∙◌, subst, Files, Reply, EngineError, Report, Action, IsExplanationOn, FileRun, FileState, IsAnswerOn, Stamps, LeavesStamps, FollowsStamps, IfOk, IfErr, IsSynced, IsSyncRefused, IsStamped, IsStampedRefused, TreeState, at, FollowsSync, History, IsAnswerAfter, IsGivenUp, FollowsStale, Run, Shows, Form, Refusal, Engine, Ending, given, EndsImpact, EndsStale, EndsWhy, FollowsImpact, FollowsWhy, Runs, RunsAll, RunsOn, by_files, by_histories, count_of, not_counted, HasGivenUp, actions_of, script_actions, script_at, spelling_of}
 use Rattle.ks_engine.specs.declared.question.Limit.TheVariants.{All as Every}
 use Rattle.ks_requests.specs.declared.request.Stamps.TheVariants as stamps
 use Rattle.ks_commands.proofs.Verdicts.{answers_weaker, verdicts_weaker}
@@ -80,17 +80,17 @@ runs_all A B P Q asked actions ended f g are (inl stopped) = inl (f stopped.0, s
 runs_all A B P Q asked actions ended f g are (inr ran) = subst (λ (acts : List Action). RunsAll B Q acts ended) are (inr (ran.0, g ran.0 ran.1, ran.2))
 
 -- a run after the reads of its script
-pub run_follows : (old mid : Files) (m n : ℕ) (h : History) (asked actions : List Action) (replies : List Reply) (new : TreeState) → mid ≡ old → m ≤ n → asked
+pub run_follows : (dialect : Dialect) (old mid : Files) (m n : ℕ) (h : History) (asked actions : List Action) (replies : List Reply) (new : TreeState) → mid ≡ old → m ≤ n → asked
     ≡ actions
-    → Run (at mid n h) asked replies new → Runs (at old m h) new actions replies
-run_follows old mid m n h asked actions replies new same later are run =
-    (n, later, subst (λ (f : Files). Run (at f n h) actions replies new) same (subst (λ (acts : List Action). Run (at mid n h) acts replies new) are run))
+    → Run dialect (at mid n h) asked replies new → Runs dialect (at old m h) new actions replies
+run_follows dialect old mid m n h asked actions replies new same later are run =
+    (n, later, subst (λ (f : Files). Run dialect (at f n h) actions replies new) same (subst (λ (acts : List Action). Run dialect (at mid n h) acts replies new) are run))
 
-pub file_run_follows : (honest : Type 0) (old mid : FileState) (asked actions : List Action) (replies : List Reply) (new : FileState)
+pub file_run_follows : (dialect : Dialect) (honest : Type 0) (old mid : FileState) (asked actions : List Action) (replies : List Reply) (new : FileState)
     → (honest → mid.files ≡ old.files) → old.failures ≤ mid.failures → asked ≡ actions
-    → FileRun honest mid asked replies new → RunsOn honest old new actions replies
-file_run_follows honest old mid asked actions replies new same later are run =
-    record { first = mid; read = same; later = later; run = subst (λ (acts : List Action). FileRun honest mid acts replies new) are run }
+    → FileRun dialect honest mid asked replies new → RunsOn dialect honest old new actions replies
+file_run_follows dialect honest old mid asked actions replies new same later are run =
+    record { first = mid; read = same; later = later; run = subst (λ (acts : List Action). FileRun dialect honest mid acts replies new) are run }
 
 -- a script whose text or files are refused
 pub script_stopped : (files mid : Files) (path text : List ℕ) (r : Refusal) → mid ≡ files → given files path ≡ Ok text → HasGivenUp r
@@ -100,27 +100,27 @@ script_stopped files mid path text r same there (inl up) = inl up
 script_stopped files mid path text r same there (inr bad) = inr (script_there files mid path text (Err r) same there bad)
 
 -- an answer by the files is one by each history that they show
-pub stale_follows : (old new : FileState) (h : History) (form : Form) (targets : Result (List (List ℕ)) EngineError) (ended : Ending) → new.files ≡ old.files
+pub stale_follows : (dialect : Dialect) (old new : FileState) (h : History) (form : Form) (targets : Result (List (List ℕ)) EngineError) (ended : Ending) → new.files ≡ old.files
     → Shows old.files h
-    → EndsStale (by_files old new) form targets ended
-    → EndsStale (by_histories (at old.files old.failures h) (at new.files new.failures h)) form targets ended
-stale_follows old new h form targets ended same shows ends =
+    → EndsStale (by_files dialect old new) form targets ended
+    → EndsStale (by_histories dialect (at old.files old.failures h) (at new.files new.failures h)) form targets ended
+stale_follows dialect old new h form targets ended same shows ends =
     verdicts_weaker form (IsAnswerOn old.files)
     (λ o answer. FollowsStale (at old.files old.failures h) o answer (at new.files new.failures h)) not_counted targets ended
     (λ o answer is. record { same = (same, refl); by_files = is.by_files; recorded = λ r was. is.recorded h r shows was }) ends
 
-pub why_follows : (old new : FileState) (h : History) (form : Form) (targets : Result (List (List ℕ)) EngineError) (ended : Ending) → new.files ≡ old.files
+pub why_follows : (dialect : Dialect) (old new : FileState) (h : History) (form : Form) (targets : Result (List (List ℕ)) EngineError) (ended : Ending) → new.files ≡ old.files
     → Shows old.files h
-    → EndsWhy old.files (by_files old new) form targets ended
-    → EndsWhy old.files (by_histories (at old.files old.failures h) (at new.files new.failures h)) form targets ended
-why_follows old new h form targets ended same shows ends =
+    → EndsWhy old.files (by_files dialect old new) form targets ended
+    → EndsWhy old.files (by_histories dialect (at old.files old.failures h) (at new.files new.failures h)) form targets ended
+why_follows dialect old new h form targets ended same shows ends =
     answers_weaker form Every (spelling_of old.files) (IsExplanationOn old.files)
     (λ o answer. FollowsWhy (at old.files old.failures h) o answer (at new.files new.failures h)) not_counted targets ended
     (λ o answer is. record { same = (same, refl); by_files = is.by_files; verdict = is.verdict; recorded = λ r was. is.recorded h r shows was }) ends
 
 pub impact_follows : (old new : FileState) (h : History) (k d : List ℕ) (form : Form) (targets : Result (List (List ℕ)) EngineError) (ended : Ending)
-    → new.files ≡ old.files → Shows old.files h → EndsImpact old.files (by_files old new) k d form targets ended
-    → EndsImpact old.files (by_histories (at old.files old.failures h) (at new.files new.failures h)) k d form targets ended
+    → new.files ≡ old.files → Shows old.files h → EndsImpact old.files (IsAnswerAfter old.files) k d form targets ended
+    → EndsImpact old.files (λ k d o answer. FollowsImpact (at old.files old.failures h) k d o answer (at new.files new.failures h)) k d form targets ended
 impact_follows old new h k d form targets ended same shows (inl stopped) = inl stopped
 impact_follows old new h k d form targets ended same shows (inr (t, there, inl refused)) = inr (t, there, inl refused)
 impact_follows old new h k d form targets ended same shows (inr (t, there, inr (can, ends))) = inr (

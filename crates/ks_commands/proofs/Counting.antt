@@ -1,5 +1,5 @@
 -- What is printed of objects and commands, with what the tree has counted on the way.
-use Rattle.ks_commands.proofs.Prelude.{◌≡◌, ◌≤◌, ◌++◌, ◌∙◌, ℕ, List, [], ◌∷◌, Option, None, Result, Ok, Err, IfOk, append-nil, append_assoc, arith, refl, sym, ap, subst, Files, EngineError, Reply, Limit, Action, FileRun, FileState, Form, Targets, Outcome, Ending, given_if_named, reply_lines, file_of, with_file, words_of, AsksCounted, IsCounted, RunsCounted, Says, TellsCounted, AreSpelled, script_at}
+use Rattle.ks_commands.proofs.Prelude.{Dialect, ◌≡◌, ◌≤◌, ◌++◌, ◌∙◌, ℕ, List, [], ◌∷◌, Option, None, Result, Ok, Err, IfOk, append-nil, append_assoc, arith, refl, sym, ap, subst, Files, EngineError, Reply, Limit, Action, FileRun, FileState, Form, Targets, Outcome, Ending, given_if_named, reply_lines, file_of, with_file, words_of, AsksCounted, IsCounted, RunsCounted, Says, TellsCounted, AreSpelled, script_at}
 use Rattle.ks_commands.proofs.Continuing.{file_run_follows}
 
 -- nothing is said of it
@@ -65,18 +65,18 @@ asked_after form limit (Err e) honest old mid targets new same later asked = ask
 
 -- ---- the lines of a script
 
-pub script_counted : {E : Type 0} (r : Result Outcome E) (honest : Type 0) (old mid new : FileState) (asked actions : List Action) (path script : List ℕ)
+pub script_counted : (dialect : Dialect) {E : Type 0} (r : Result Outcome E) (honest : Type 0) (old mid new : FileState) (asked actions : List Action) (path script : List ℕ)
     → (honest → mid.files ≡ old.files) → old.failures ≤ mid.failures → asked ≡ actions → AreSpelled script actions
     → (honest → script_at old.files path ≡ Ok actions)
-    → IfOk r (λ o. (replies : List Reply) × FileRun honest mid asked replies new × (o.text.items ≡ reply_lines asked replies))
-    → IfOk r (λ o. RunsCounted honest old path o.text.items new)
-script_counted (Err e) honest old mid new asked actions path script same later are spelled there ran = ran
-script_counted (Ok o) honest old mid new asked actions path script same later are spelled there (replies, run, lines) = record {
+    → IfOk r (λ o. (replies : List Reply) × FileRun dialect honest mid asked replies new × (o.text.items ≡ reply_lines asked replies))
+    → IfOk r (λ o. RunsCounted dialect honest old path o.text.items new)
+script_counted dialect (Err e) honest old mid new asked actions path script same later are spelled there ran = ran
+script_counted dialect (Ok o) honest old mid new asked actions path script same later are spelled there (replies, run, lines) = record {
   actions = actions;
   script = script;
   spelled = spelled;
   there = there;
   replies = replies;
-  run = file_run_follows honest old mid asked actions replies new same later are run;
+  run = file_run_follows dialect honest old mid asked actions replies new same later are run;
   lines = lines ∙ ap (λ (acts : List Action). reply_lines acts replies) are;
 }

@@ -28,31 +28,31 @@ refused_sync_changes_nothing stamps.Declared k d r e old new plain told (inl (in
 refused_sync_changes_nothing stamps.Declared k d r e old new plain told (inr up) = given_up r e plain told up.0
 
 pub refusals_change_nothing : RefusalsChangeNothing
-refusals_change_nothing (request.Sync k d which) r old new plain (inl stopped) = stopped.0
-refusals_change_nothing (request.Sync k d which) r old new plain (inr (t, at, Ok report, synced, told)) = no_memory r plain told
-refusals_change_nothing (request.Sync k d which) r old new plain (inr (t, at, Err e, refused, told)) =
+refusals_change_nothing dialect (request.Sync k d which) r old new plain (inl stopped) = stopped.0
+refusals_change_nothing dialect (request.Sync k d which) r old new plain (inr (t, at, Ok report, synced, told)) = no_memory r plain told
+refusals_change_nothing dialect (request.Sync k d which) r old new plain (inr (t, at, Err e, refused, told)) =
     refused_sync_changes_nothing which _ _ r e old.files new.files plain told refused
-refusals_change_nothing (request.Preview k d o) r old new plain ends = ends.0
-refusals_change_nothing (request.Diff k d telling) r old new plain ends = ends.0
-refusals_change_nothing (request.Fixdep d t c) r old new plain ends = ends.0
-refusals_change_nothing (request.Record d t c) r old new plain (Ok answer, recorded, told) = no_memory r plain told
-refusals_change_nothing (request.Record d t c) r old new plain (Err e, inl refused, told) = refused.1
-refusals_change_nothing (request.Record d t c) r old new plain (Err e, inr up, told) = given_up r e plain told up.0
-refusals_change_nothing (request.Depfile end d t c) r old new plain (inl stopped) = stopped.0
-refusals_change_nothing (request.Depfile end d t c) r old new plain (inr (header, is, Ok answer, recorded, told)) = no_memory r plain told
-refusals_change_nothing (request.Depfile end d t c) r old new plain (inr (header, is, Err e, inl own, told)) = own.2
-refusals_change_nothing (request.Depfile end d t c) r old new plain (inr (header, is, Err e, inr (inl (free, inl refused)), told)) = refused.1
-refusals_change_nothing (request.Depfile end d t c) r old new plain (inr (header, is, Err e, inr (inl (free, inr up)), told)) = given_up r e plain told up.0
-refusals_change_nothing (request.Depfile end d t c) r old new plain (inr (header, is, Err e, inr (inr up), told)) = given_up r e plain told up.0
-refusals_change_nothing (request.Stale ts f) r old new plain ends = ends.0
-refusals_change_nothing (request.Why ts f) r old new plain ends = ends.0
-refusals_change_nothing (request.Impact k d ts f) r old new plain ends = ends.0
-refusals_change_nothing (request.Outdated t c) r old new plain ends = ends.0
-refusals_change_nothing (request.Batch p) r old new plain (inl stopped) = stopped.0
-refusals_change_nothing (request.Batch p) r old new plain (inr (actions, at, inl memory)) = memory.0
-refusals_change_nothing (request.Batch p) r old new plain (inr (actions, at, inr ran)) = no_memory r plain ran.2
-refusals_change_nothing (request.Users symbols ts) r old new plain ends = ends.0
-refusals_change_nothing (request.Cost top ts) r old new plain ends = ends.0
+refusals_change_nothing dialect (request.Preview k d o) r old new plain ends = ends.0
+refusals_change_nothing dialect (request.Diff k d telling) r old new plain ends = ends.0
+refusals_change_nothing dialect (request.Fixdep d t c) r old new plain ends = ends.0
+refusals_change_nothing dialect (request.Record d t c) r old new plain (Ok answer, recorded, told) = no_memory r plain told
+refusals_change_nothing dialect (request.Record d t c) r old new plain (Err e, inl refused, told) = refused.1
+refusals_change_nothing dialect (request.Record d t c) r old new plain (Err e, inr up, told) = given_up r e plain told up.0
+refusals_change_nothing dialect (request.Depfile end d t c) r old new plain (inl stopped) = stopped.0
+refusals_change_nothing dialect (request.Depfile end d t c) r old new plain (inr (header, is, Ok answer, recorded, told)) = no_memory r plain told
+refusals_change_nothing dialect (request.Depfile end d t c) r old new plain (inr (header, is, Err e, inl own, told)) = own.2
+refusals_change_nothing dialect (request.Depfile end d t c) r old new plain (inr (header, is, Err e, inr (inl (free, inl refused)), told)) = refused.1
+refusals_change_nothing dialect (request.Depfile end d t c) r old new plain (inr (header, is, Err e, inr (inl (free, inr up)), told)) = given_up r e plain told up.0
+refusals_change_nothing dialect (request.Depfile end d t c) r old new plain (inr (header, is, Err e, inr (inr up), told)) = given_up r e plain told up.0
+refusals_change_nothing dialect (request.Stale ts f) r old new plain ends = ends.0
+refusals_change_nothing dialect (request.Why ts f) r old new plain ends = ends.0
+refusals_change_nothing dialect (request.Impact k d ts f) r old new plain ends = ends.0
+refusals_change_nothing dialect (request.Outdated t c) r old new plain ends = ends.0
+refusals_change_nothing dialect (request.Batch p) r old new plain (inl stopped) = stopped.0
+refusals_change_nothing dialect (request.Batch p) r old new plain (inr (actions, at, inl memory)) = memory.0
+refusals_change_nothing dialect (request.Batch p) r old new plain (inr (actions, at, inr ran)) = no_memory r plain ran.2
+refusals_change_nothing dialect (request.Users symbols ts) r old new plain ends = ends.0
+refusals_change_nothing dialect (request.Cost top ts) r old new plain ends = ends.0
 
 -- ---- statuses
 
@@ -89,17 +89,17 @@ done_or_refused k d o (Err r) following old new b a eb ea s same ends refused =
     record { answered = inr refused.2; written = λ zero. absurd (omega (arith, zero, refused.2)); unchanged = same }
 
 pub previews_are_performed : PreviewsArePerformed
-previews_are_performed k d o (request.Preview k' d' o') ended following old new b a eb ea s is ends printed =
+previews_are_performed dialect k d o (request.Preview k' d' o') ended following old new b a eb ea s is ends printed =
     rw (← is.0, ← is.1, ← is.2) (done_or_refused _ _ _ ended following old.files new.files b a eb ea s ends.0 ends.1 printed)
-previews_are_performed k d o (request.Sync k' d' which) ended following old new b a eb ea s is ends printed = absurd is
-previews_are_performed k d o (request.Diff k' d' telling) ended following old new b a eb ea s is ends printed = absurd is
-previews_are_performed k d o (request.Fixdep d' t c) ended following old new b a eb ea s is ends printed = absurd is
-previews_are_performed k d o (request.Record d' t c) ended following old new b a eb ea s is ends printed = absurd is
-previews_are_performed k d o (request.Depfile end d' t c) ended following old new b a eb ea s is ends printed = absurd is
-previews_are_performed k d o (request.Stale ts f) ended following old new b a eb ea s is ends printed = absurd is
-previews_are_performed k d o (request.Why ts f) ended following old new b a eb ea s is ends printed = absurd is
-previews_are_performed k d o (request.Impact k' d' ts f) ended following old new b a eb ea s is ends printed = absurd is
-previews_are_performed k d o (request.Outdated t c) ended following old new b a eb ea s is ends printed = absurd is
-previews_are_performed k d o (request.Batch p) ended following old new b a eb ea s is ends printed = absurd is
-previews_are_performed k d o (request.Users symbols ts) ended following old new b a eb ea s is ends printed = absurd is
-previews_are_performed k d o (request.Cost top ts) ended following old new b a eb ea s is ends printed = absurd is
+previews_are_performed dialect k d o (request.Sync k' d' which) ended following old new b a eb ea s is ends printed = absurd is
+previews_are_performed dialect k d o (request.Diff k' d' telling) ended following old new b a eb ea s is ends printed = absurd is
+previews_are_performed dialect k d o (request.Fixdep d' t c) ended following old new b a eb ea s is ends printed = absurd is
+previews_are_performed dialect k d o (request.Record d' t c) ended following old new b a eb ea s is ends printed = absurd is
+previews_are_performed dialect k d o (request.Depfile end d' t c) ended following old new b a eb ea s is ends printed = absurd is
+previews_are_performed dialect k d o (request.Stale ts f) ended following old new b a eb ea s is ends printed = absurd is
+previews_are_performed dialect k d o (request.Why ts f) ended following old new b a eb ea s is ends printed = absurd is
+previews_are_performed dialect k d o (request.Impact k' d' ts f) ended following old new b a eb ea s is ends printed = absurd is
+previews_are_performed dialect k d o (request.Outdated t c) ended following old new b a eb ea s is ends printed = absurd is
+previews_are_performed dialect k d o (request.Batch p) ended following old new b a eb ea s is ends printed = absurd is
+previews_are_performed dialect k d o (request.Users symbols ts) ended following old new b a eb ea s is ends printed = absurd is
+previews_are_performed dialect k d o (request.Cost top ts) ended following old new b a eb ea s is ends printed = absurd is

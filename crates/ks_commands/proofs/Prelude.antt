@@ -35,14 +35,16 @@ pub use Rattle.ks_engine.specs.Costs.{AreCosts, AreTallies, cost_of, one_if, rec
 pub use Rattle.ks_engine.specs.Explained.{IsExplanationOn}
 pub use Rattle.ks_engine.specs.FileRuns.{FileRun, FileState, IsAnswerOn, LeavesSync, state}
 pub use Rattle.ks_engine.specs.Depfile.{FollowsDepfile}
-pub use Rattle.ks_engine.specs.Follows.{FollowsRecord, FollowsRecordWithout, FollowsSync, TreeState, at}
+pub use Rattle.ks_engine.specs.Follows.{FollowsRecord, FollowsRecordUnder, FollowsSync, TreeState, at}
 pub use Rattle.ks_engine.specs.History.{History, LastRecord, NoneBroken, last_record}
 pub use Rattle.ks_engine.specs.Impact.{IsAnswerAfter, IsImpactOf}
 pub use Rattle.ks_engine.specs.Judged.{HasSameDefinitions}
 pub use Rattle.ks_engine.specs.LastSync.{OldAuto, old_auto}
 pub use Rattle.ks_engine.specs.Memos.{IsMemoOf}
 pub use Rattle.ks_engine.specs.Questions.{IsAnswerTo, limit_of}
+pub use Rattle.ks_engine.specs.Recorded.{usual}
 pub use Rattle.ks_engine.specs.Recording.{followed, scanned_all}
+pub use Rattle.ks_engine.specs.declared.conventions.Conventions.{Conventions}
 pub use Rattle.ks_engine.specs.Refusals.{GaveUp, IsGivenUp, and_then, of_source}
 pub use Rattle.ks_engine.specs.Runs.{FollowsStale, Leads, Leaves, Run, Step}
 pub use Rattle.ks_engine.specs.Shows.{Shows}
@@ -68,12 +70,12 @@ pub use Rattle.ks_fixdep.specs.CommandFile.{CommandRecord, is_command}
 pub use Rattle.ks_fixdep.specs.FoundNames.{all_noted}
 pub use Rattle.ks_fixdep.specs.Borrowed.{borrowed_view, seen_dep}
 pub use Rattle.ks_fixdep.specs.Record.{config_names}
+pub use Rattle.ks_fixdep.specs.Dialects.{rules_for}
 pub use Rattle.ks_fixdep.specs.SourceScan.{names_by}
 pub use Rattle.ks_fixdep.specs.declared.command_file.Dep.{Dep}
 pub use Rattle.ks_fixdep.specs.declared.command_file.Dep.TheVariants.{Config, File}
 pub use Rattle.ks_fixdep.specs.declared.command_file.borrowed.BorrowedDep.{BorrowedDep}
-pub use Rattle.ks_fixdep.specs.declared.dependency_file.Header.{Header}
-pub use Rattle.ks_fixdep.specs.declared.dependency_file.Header.TheVariants.{Usual}
+pub use Rattle.ks_fixdep.specs.declared.dialect.Dialect.{Dialect}
 pub use Rattle.ks_output.specs.AutoText.{auto_text}
 pub use Rattle.ks_output.specs.OldConfig.{Texts}
 pub use Rattle.ks_requests.specs.Endings.{Ending, IsUnknown, Printed, TellsUnknown}

@@ -1,5 +1,5 @@
 -- What a read after a refusal leaves.
-use Rattle.ks_commands.proofs.Prelude.{◌≡◌, ◌≢◌, ℕ, List, Option, Some, None, Ok, Err, IfSome, inl, inr, refl, sym, ap, ◌∙◌, subst, arith, Ghosts, Files, Reads, EngineError, OutOfMemory, Header, FollowsDepfile, FollowsStamps, Stamps, FileState, state, TreeState, at, History, Shows, Refusal, Engine, Request, Ending, IsSiteLine, IsThere, Site, excerpt_at, site_of, Continues, Ends, Performs, by_files}
+use Rattle.ks_commands.proofs.Prelude.{Dialect, ◌≡◌, ◌≢◌, ℕ, List, Option, Some, None, Ok, Err, IfSome, inl, inr, refl, sym, ap, ◌∙◌, subst, arith, Ghosts, Files, Reads, EngineError, OutOfMemory, Conventions, FollowsDepfile, FollowsStamps, Stamps, FileState, state, TreeState, at, History, Shows, Refusal, Engine, Request, Ending, IsSiteLine, IsThere, Site, excerpt_at, site_of, Continues, Ends, Performs, by_files}
 use Rattle.ks_requests.specs.declared.request.Request.TheVariants as request
 use Rattle.ks_requests.specs.declared.request.Stamps.TheVariants as stamps
 
@@ -59,11 +59,11 @@ stamps_aside stamps.Declared k d e old files m n h (inr (given, partly)) = inr (
   },
 )
 
-depfile_aside : (header : Header) (d t c : List ℕ) (e : EngineError) (old : TreeState) (files : Files) (m n : ℕ) (h : History)
-    → FollowsDepfile header d t c (Err e) old (at files m h) → FollowsDepfile header d t c (Err e) old (at files n h)
-depfile_aside header d t c e old files m n h (inl own) = inl own
-depfile_aside header d t c e old files m n h (inr (inl refused)) = inr (inl refused)
-depfile_aside header d t c e old files m n h (inr (inr (given, tried))) = inr (inr (
+depfile_aside : (conventions : Conventions) (d t c : List ℕ) (e : EngineError) (old : TreeState) (files : Files) (m n : ℕ) (h : History)
+    → FollowsDepfile conventions d t c (Err e) old (at files m h) → FollowsDepfile conventions d t c (Err e) old (at files n h)
+depfile_aside conventions d t c e old files m n h (inl own) = inl own
+depfile_aside conventions d t c e old files m n h (inr (inl refused)) = inr (inl refused)
+depfile_aside conventions d t c e old files m n h (inr (inr (given, tried))) = inr (inr (
   given,
   record {
     answer = tried.answer;
@@ -77,71 +77,71 @@ depfile_aside header d t c e old files m n h (inr (inr (given, tried))) = inr (i
 ))
 
 -- What is counted after a refusal does not matter to it.
-counted_after : (asked : Request) (r : Refusal) (old : TreeState) (files : Files) (m n : ℕ) (h : History) → r ≢ Engine OutOfMemory
-    → Continues asked (Err r) old (at files m h) → Continues asked (Err r) old (at files n h)
-counted_after (request.Sync k d which) r old files m n h plain (inl stopped) = inl stopped
-counted_after (request.Sync k d which) r old files m n h plain (inr (t, there, Ok report, synced, told)) = absurd (plain told)
-counted_after (request.Sync k d which) r old files m n h plain (inr (t, there, Err e, refused, told)) =
+counted_after : (dialect : Dialect) (asked : Request) (r : Refusal) (old : TreeState) (files : Files) (m n : ℕ) (h : History) → r ≢ Engine OutOfMemory
+    → Continues dialect asked (Err r) old (at files m h) → Continues dialect asked (Err r) old (at files n h)
+counted_after dialect (request.Sync k d which) r old files m n h plain (inl stopped) = inl stopped
+counted_after dialect (request.Sync k d which) r old files m n h plain (inr (t, there, Ok report, synced, told)) = absurd (plain told)
+counted_after dialect (request.Sync k d which) r old files m n h plain (inr (t, there, Err e, refused, told)) =
     inr (t, there, Err e, stamps_aside which _ _ e old files m n h refused, told)
-counted_after (request.Preview k d o) r old files m n h plain ends = ends
-counted_after (request.Diff k d telling) r old files m n h plain ends = ends
-counted_after (request.Fixdep d t c) r old files m n h plain ends = ends
-counted_after (request.Record d t c) r old files m n h plain (Ok answer, recorded, told) = absurd (plain told)
-counted_after (request.Record d t c) r old files m n h plain (Err e, refused, told) = (Err e, refused, told)
-counted_after (request.Depfile end d t c) r old files m n h plain (inl stopped) = inl stopped
-counted_after (request.Depfile end d t c) r old files m n h plain (inr (header, is, Ok answer, recorded, told)) = absurd (plain told)
-counted_after (request.Depfile end d t c) r old files m n h plain (inr (header, is, Err e, refused, told)) =
-    inr (header, is, Err e, depfile_aside header _ _ _ e old files m n h refused, told)
-counted_after (request.Stale ts f) r old files m n h plain (same, inl stopped) = (same, inl stopped)
-counted_after (request.Stale ts f) r old files m n h plain (same, inr (objects, there, text, status, stale, are, told)) = absurd (plain told)
-counted_after (request.Why ts f) r old files m n h plain (same, inl stopped) = (same, inl stopped)
-counted_after (request.Why ts f) r old files m n h plain (same, inr (objects, there, text, status, stale, are, told)) = absurd (plain told)
-counted_after (request.Impact k d ts f) r old files m n h plain (same, inl stopped) = (same, inl stopped)
-counted_after (request.Impact k d ts f) r old files m n h plain (same, inr (t, there, inl refused)) = (same, inr (t, there, inl refused))
-counted_after (request.Impact k d ts f) r old files m n h plain (same, inr (t, there, inr (can, inl stopped))) =
+counted_after dialect (request.Preview k d o) r old files m n h plain ends = ends
+counted_after dialect (request.Diff k d telling) r old files m n h plain ends = ends
+counted_after dialect (request.Fixdep d t c) r old files m n h plain ends = ends
+counted_after dialect (request.Record d t c) r old files m n h plain (Ok answer, recorded, told) = absurd (plain told)
+counted_after dialect (request.Record d t c) r old files m n h plain (Err e, refused, told) = (Err e, refused, told)
+counted_after dialect (request.Depfile end d t c) r old files m n h plain (inl stopped) = inl stopped
+counted_after dialect (request.Depfile end d t c) r old files m n h plain (inr (header, is, Ok answer, recorded, told)) = absurd (plain told)
+counted_after dialect (request.Depfile end d t c) r old files m n h plain (inr (header, is, Err e, refused, told)) =
+    inr (header, is, Err e, depfile_aside _ _ _ _ e old files m n h refused, told)
+counted_after dialect (request.Stale ts f) r old files m n h plain (same, inl stopped) = (same, inl stopped)
+counted_after dialect (request.Stale ts f) r old files m n h plain (same, inr (objects, there, text, status, stale, are, told)) = absurd (plain told)
+counted_after dialect (request.Why ts f) r old files m n h plain (same, inl stopped) = (same, inl stopped)
+counted_after dialect (request.Why ts f) r old files m n h plain (same, inr (objects, there, text, status, stale, are, told)) = absurd (plain told)
+counted_after dialect (request.Impact k d ts f) r old files m n h plain (same, inl stopped) = (same, inl stopped)
+counted_after dialect (request.Impact k d ts f) r old files m n h plain (same, inr (t, there, inl refused)) = (same, inr (t, there, inl refused))
+counted_after dialect (request.Impact k d ts f) r old files m n h plain (same, inr (t, there, inr (can, inl stopped))) =
     (same, inr (t, there, inr (can, inl stopped)))
-counted_after (request.Impact k d ts f) r old files m n h plain (same, inr (t, there, inr (can, inr (objects, at, text, status, stale, are, told)))) =
+counted_after dialect (request.Impact k d ts f) r old files m n h plain (same, inr (t, there, inr (can, inr (objects, at, text, status, stale, are, told)))) =
     absurd (plain told)
-counted_after (request.Outdated t c) r old files m n h plain (same, (answer, outdated, told)) = absurd (plain told)
-counted_after (request.Batch p) r old files m n h plain (inl stopped) = inl stopped
-counted_after (request.Batch p) r old files m n h plain (inr (actions, there, inl memory)) = no_memory r plain memory.1
-counted_after (request.Batch p) r old files m n h plain (inr (actions, there, inr ran)) = absurd (plain ran.2)
-counted_after (request.Users symbols ts) r old files m n h plain ends = ends
-counted_after (request.Cost top ts) r old files m n h plain ends = ends
+counted_after dialect (request.Outdated t c) r old files m n h plain (same, (answer, outdated, told)) = absurd (plain told)
+counted_after dialect (request.Batch p) r old files m n h plain (inl stopped) = inl stopped
+counted_after dialect (request.Batch p) r old files m n h plain (inr (actions, there, inl memory)) = no_memory r plain memory.1
+counted_after dialect (request.Batch p) r old files m n h plain (inr (actions, there, inr ran)) = absurd (plain ran.2)
+counted_after dialect (request.Users symbols ts) r old files m n h plain ends = ends
+counted_after dialect (request.Cost top ts) r old files m n h plain ends = ends
 
-files_after : (asked : Request) (r : Refusal) (old mid new : FileState) → r ≢ Engine OutOfMemory → mid.files ≡ new.files
-    → Ends old.files (by_files old mid) asked (Err r) → Ends old.files (by_files old new) asked (Err r)
-files_after (request.Sync k d which) r old mid new plain same ends =
-    subst (λ (f : Files). Ends old.files (by_files old (record { files = f; failures = 0 })) (request.Sync k d which) (Err r)) same ends
-files_after (request.Preview k d o) r old mid new plain same ends = (sym same ∙ ends.0, ends.1)
-files_after (request.Diff k d telling) r old mid new plain same ends = (sym same ∙ ends.0, ends.1)
-files_after (request.Fixdep d t c) r old mid new plain same ends = (sym same ∙ ends.0, ends.1)
-files_after (request.Record d t c) r old mid new plain same ends =
-    subst (λ (f : Files). Ends old.files (by_files old (record { files = f; failures = 0 })) (request.Record d t c) (Err r)) same ends
-files_after (request.Depfile end d t c) r old mid new plain same ends =
-    subst (λ (f : Files). Ends old.files (by_files old (record { files = f; failures = 0 })) (request.Depfile end d t c) (Err r)) same ends
-files_after (request.Stale ts f) r old mid new plain same ends = (sym same ∙ ends.0, ends.1)
-files_after (request.Why ts f) r old mid new plain same ends = (sym same ∙ ends.0, ends.1)
-files_after (request.Impact k d ts f) r old mid new plain same ends = (sym same ∙ ends.0, ends.1)
-files_after (request.Outdated t c) r old mid new plain same ends = (sym same ∙ ends.0, ends.1)
-files_after (request.Batch p) r old mid new plain same (inl stopped) = inl (sym same ∙ stopped.0, stopped.1)
-files_after (request.Batch p) r old mid new plain same (inr (actions, there, inl memory)) = no_memory r plain memory.1
-files_after (request.Batch p) r old mid new plain same (inr (actions, there, inr ran)) = absurd (plain ran.2)
-files_after (request.Users symbols ts) r old mid new plain same ends = (sym same ∙ ends.0, ends.1)
-files_after (request.Cost top ts) r old mid new plain same ends = (sym same ∙ ends.0, ends.1)
+files_after : (dialect : Dialect) (asked : Request) (r : Refusal) (old mid new : FileState) → r ≢ Engine OutOfMemory → mid.files ≡ new.files
+    → Ends old.files (by_files dialect old mid) asked (Err r) → Ends old.files (by_files dialect old new) asked (Err r)
+files_after dialect (request.Sync k d which) r old mid new plain same ends =
+    subst (λ (f : Files). Ends old.files (by_files dialect old (record { files = f; failures = 0 })) (request.Sync k d which) (Err r)) same ends
+files_after dialect (request.Preview k d o) r old mid new plain same ends = (sym same ∙ ends.0, ends.1)
+files_after dialect (request.Diff k d telling) r old mid new plain same ends = (sym same ∙ ends.0, ends.1)
+files_after dialect (request.Fixdep d t c) r old mid new plain same ends = (sym same ∙ ends.0, ends.1)
+files_after dialect (request.Record d t c) r old mid new plain same ends =
+    subst (λ (f : Files). Ends old.files (by_files dialect old (record { files = f; failures = 0 })) (request.Record d t c) (Err r)) same ends
+files_after dialect (request.Depfile end d t c) r old mid new plain same ends =
+    subst (λ (f : Files). Ends old.files (by_files dialect old (record { files = f; failures = 0 })) (request.Depfile end d t c) (Err r)) same ends
+files_after dialect (request.Stale ts f) r old mid new plain same ends = (sym same ∙ ends.0, ends.1)
+files_after dialect (request.Why ts f) r old mid new plain same ends = (sym same ∙ ends.0, ends.1)
+files_after dialect (request.Impact k d ts f) r old mid new plain same ends = (sym same ∙ ends.0, ends.1)
+files_after dialect (request.Outdated t c) r old mid new plain same ends = (sym same ∙ ends.0, ends.1)
+files_after dialect (request.Batch p) r old mid new plain same (inl stopped) = inl (sym same ∙ stopped.0, stopped.1)
+files_after dialect (request.Batch p) r old mid new plain same (inr (actions, there, inl memory)) = no_memory r plain memory.1
+files_after dialect (request.Batch p) r old mid new plain same (inr (actions, there, inr ran)) = absurd (plain ran.2)
+files_after dialect (request.Users symbols ts) r old mid new plain same ends = (sym same ∙ ends.0, ends.1)
+files_after dialect (request.Cost top ts) r old mid new plain same ends = (sym same ∙ ends.0, ends.1)
 
 -- A refusal after which a file was read again is that refusal.
-pub read_after : {T : Type 0} (tree : Ghosts T) (old mid new : T) (asked : Request) (r : Refusal) → r ≢ Engine OutOfMemory
-    → Performs tree old mid asked (Err r) → Reads tree mid new ⊥ → Performs tree old new asked (Err r)
-read_after tree old mid new asked r plain performs reads = record {
+pub read_after : {T : Type 0} (tree : Ghosts T) (dialect : Dialect) (old mid new : T) (asked : Request) (r : Refusal) → r ≢ Engine OutOfMemory
+    → Performs tree dialect old mid asked (Err r) → Reads tree mid new ⊥ → Performs tree dialect old new asked (Err r)
+read_after tree dialect old mid new asked r plain performs reads = record {
   done = performs.done;
-  files = λ honest. files_after asked r (state tree old) (state tree mid) (state tree new) plain (sym (reads.unchanged honest)) (performs.files honest);
+  files = λ honest. files_after dialect asked r (state tree old) (state tree mid) (state tree new) plain (sym (reads.unchanged honest)) (performs.files honest);
   goes_on = λ honest h shows.
       let next = performs.goes_on honest h shows in
       let from = at (tree.files old) (tree.failures old) h in (
         next.0,
-        subst (λ (f : Files). Continues asked (Err r) from (at f (tree.failures new) next.0)) (sym (reads.unchanged honest))
-            (counted_after asked r from (tree.files mid) (tree.failures mid) (tree.failures new) next.0 plain next.1),
+        subst (λ (f : Files). Continues dialect asked (Err r) from (at f (tree.failures new) next.0)) (sym (reads.unchanged honest))
+            (counted_after dialect asked r from (tree.files mid) (tree.failures mid) (tree.failures new) next.0 plain next.1),
         subst (λ (f : Files). Shows f next.0) (sym (reads.unchanged honest)) next.2,
       );
   cause = λ is. omega (arith, performs.cause is, reads.counted.later);

@@ -4,6 +4,7 @@ use Rattle.ks_symbols.specs.Names.{is_path}
 use Rattle.ks_fixdep.specs.declared.dependency_file.Header.{Header}
 use Rattle.ks_fixdep.specs.declared.dependency_file.Header.TheVariants.{Usual, At}
 use Rattle.ks_tree.specs.Files.{Files}
+use Rattle.ks_engine.specs.declared.conventions.Conventions.{Conventions}
 use Rattle.ks_engine.specs.declared.error.EngineError.{EngineError}
 use Rattle.ks_engine.specs.declared.recording.Recorded.{Recorded as RecordAnswer}
 use Rattle.ks_engine.specs.Depfile.{IsDepfileRecorded, IsDepfileRefused}
@@ -20,6 +21,6 @@ IsNoHeader None = ⊥
 IsNoHeader (Some end) = is_path end ≡ false
 
 -- by the files
-abbrev pub LeavesDepfile : Files → Files → Header → List ℕ → List ℕ → List ℕ → Result RecordAnswer EngineError → Type 0
-LeavesDepfile old new header d t c (Ok answer) = IsDepfileRecorded header old new d t c answer
-LeavesDepfile old new header d t c (Err e) = IsDepfileRefused header old new d t c e
+abbrev pub LeavesDepfile : Files → Files → Conventions → List ℕ → List ℕ → List ℕ → Result RecordAnswer EngineError → Type 0
+LeavesDepfile old new conventions d t c (Ok answer) = IsDepfileRecorded conventions old new d t c answer
+LeavesDepfile old new conventions d t c (Err e) = IsDepfileRefused conventions old new d t c e

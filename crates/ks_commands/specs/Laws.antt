@@ -2,6 +2,7 @@
 use Rattle.std.specs.Prelude.{◌≡◌, ◌⊎◌, ◌<◌, ◌≤◌, ◌↔◌, ℕ, List, Option, Err, IfOk, Ok, true}
 use Rattle.std.specs.List.{All}
 use Rattle.ks_streams.specs.Streams.{State}
+use Rattle.ks_fixdep.specs.declared.dialect.Dialect.{Dialect}
 use Rattle.ks_tree.specs.Files.{Files}
 use Rattle.ks_engine.specs.FileRuns.{FileState}
 use Rattle.ks_engine.specs.Follows.{TreeState}
@@ -31,15 +32,15 @@ pub record IsPreviewed (k d : List ℕ) (o : Option (List ℕ)) (old new : Files
 
 abbrev pub PreviewsArePerformed : Type 0
 PreviewsArePerformed =
-    (k d : List ℕ) (o : Option (List ℕ)) (request : Request) (ended : Ending) (following : List ℕ) (old new : FileState)
+    (dialect : Dialect) (k d : List ℕ) (o : Option (List ℕ)) (request : Request) (ended : Ending) (following : List ℕ) (old new : FileState)
     (before after err_before err_after : State) (status : ℕ)
-    → IsPreviewOf k d o request → Ends old.files (by_files old new) request ended → Printed following ended before after err_before err_after status
+    → IsPreviewOf k d o request → Ends old.files (by_files dialect old new) request ended → Printed following ended before after err_before err_after status
     → IsPreviewed k d o old.files new.files before after status
 
 -- A refusal of the whole command leaves the files as before, but for want of memory and a failure of the device.
 abbrev pub RefusalsChangeNothing : Type 0
-RefusalsChangeNothing = (request : Request) (refusal : Refusal) (old new : FileState)
-    → (HasGivenUp refusal → ⊥) → Ends old.files (by_files old new) request (Err refusal) → new.files ≡ old.files
+RefusalsChangeNothing = (dialect : Dialect) (request : Request) (refusal : Refusal) (old new : FileState)
+    → (HasGivenUp refusal → ⊥) → Ends old.files (by_files dialect old new) request (Err refusal) → new.files ≡ old.files
 
 -- The status is at most 2, and 0 or 2 of what is done or refused.
 pub record IsStatusOf (ended : Ending) (status : ℕ) : Type 0 where
@@ -57,8 +58,8 @@ StatusesTellDifferences = (telling : Telling) (old : Texts) (new : Configuration
 
 -- A script that runs without a refusal, after a history without a broken synchronisation, tells what changed.
 abbrev pub BatchTellsChanges : Type 0
-BatchTellsChanges = (path : List ℕ) (o : Outcome) (old new : TreeState) → code_of o.status < 2 → NoneBroken old.history
-    → EndsBatch old.files (by_histories old new) path (Ok o) → EndsBatch old.files (changes_told old new) path (Ok o)
+BatchTellsChanges = (dialect : Dialect) (path : List ℕ) (o : Outcome) (old new : TreeState) → code_of o.status < 2 → NoneBroken old.history
+    → EndsBatch old.files (by_histories dialect old new) path (Ok o) → EndsBatch old.files (changes_told dialect old new) path (Ok o)
 
 -- So does each of any list of runs of the program, of which no synchronisation was broken off.
 abbrev pub ProgramsTellChanges : Type 0

@@ -4,6 +4,7 @@ use Rattle.std.specs.List.{All}
 use Rattle.ks_fixdep.specs.CommandFile.{CommandRecord, is_command}
 use Rattle.ks_fixdep.specs.FoundNames.{all_noted}
 use Rattle.ks_fixdep.specs.declared.dependency_file.Header.{Header}
+use Rattle.ks_fixdep.specs.declared.dialect.Dialect.{Dialect}
 use Rattle.ks_tree.specs.declared.tree.Tree.{Ghosts}
 use Rattle.ks_tree.specs.Files.{Files, HasRisen}
 use Rattle.ks_engine.specs.declared.error.EngineError.{EngineError}
@@ -63,6 +64,8 @@ use Rattle.ks_commands.specs.Scripts.{AreSpelled, StoppedScript, script_at}
 
 -- What the engine's calls answer and leave: the one way of saying it by files, the other by histories.
 pub record Effects : Type 1 where
+  -- whose words name symbols
+  pub dialect : Dialect
   -- all is as before
   pub same : Type 0
   pub sync : Stamps → (kconfig dotconfig : List ℕ) → Result Report EngineError → Type 0
@@ -75,11 +78,11 @@ pub record Effects : Type 1 where
   pub run : List Action → List Reply → Type 0
 
 -- Nothing has changed where the two files can't be read. Else it ends as the engine answers.
-abbrev pub EndsSync : Files → Effects → Stamps → List ℕ → List ℕ → Ending → Type 0
-EndsSync files effects stamps k d ended =
-    (effects.same × Stopped (texts_at files k d) ended)
+abbrev pub EndsSync : Files → Type 0 → (List ℕ → List ℕ → Result Report EngineError → Type 0) → List ℕ → List ℕ → Ending → Type 0
+EndsSync files same sync k d ended =
+    (same × Stopped (texts_at files k d) ended)
     ⊎ ((t : Texts) × (texts_at files k d ≡ Ok t)
-    × (answer : Result Report EngineError) × effects.sync stamps t.kconfig t.dotconfig answer × Answered report_lines answer ended)
+    × (answer : Result Report EngineError) × sync t.kconfig t.dotconfig answer × Answered report_lines answer ended)
 
 -- The engine looks at the words of a record itself.
 abbrev pub EndsRecord : Effects → List ℕ → List ℕ → List ℕ → Ending → Type 0
@@ -112,9 +115,9 @@ EndsDiff telling files k d ended =
     × TellsUnknown text status (lines_asked telling (unknown_lines t.kconfig t.dotconfig)) ended)
     ⊎ StoppedSync files t ended))
 
-abbrev pub EndsFixdep : Files → List ℕ → List ℕ → List ℕ → Ending → Type 0
-EndsFixdep files d t c ended =
-    (answer : Result (List ℕ) EngineError) × Answers (command_file_at files d t c) (λ text. text) answer × Answered (λ text. text) answer ended
+abbrev pub EndsFixdep : Dialect → Files → List ℕ → List ℕ → List ℕ → Ending → Type 0
+EndsFixdep dialect files d t c ended =
+    (answer : Result (List ℕ) EngineError) × Answers (command_file_at dialect files d t c) (λ text. text) answer × Answered (λ text. text) answer ended
 
 -- what is told of an object: the lines and the status of its answer, which may list all of its causes, and under which other spelling it stands
 abbrev pub TellsAnswer : Form → Limit → (List ℕ → Result Explanation EngineError → Option (List ℕ)) → (List ℕ → Result Explanation EngineError → Type 0)
@@ -161,16 +164,16 @@ abbrev pub CanBeSynced : Files → Texts → Type 0
 CanBeSynced files t = (after : Files) × (report : Report) × IsSynced files after t.kconfig t.dotconfig report
 
 -- What would be stale after a synchronisation, told; or the refusal that it would have before its first write.
-abbrev pub EndsImpact : Files → Effects → List ℕ → List ℕ → Form → Result (List (List ℕ)) EngineError → Ending → Type 0
-EndsImpact files effects k d form targets ended =
+abbrev pub EndsImpact : Files → (List ℕ → List ℕ → List ℕ → Result Verdict EngineError → Type 0) → List ℕ → List ℕ → Form → Result (List (List ℕ)) EngineError → Ending → Type 0
+EndsImpact files impact k d form targets ended =
     Stopped (texts_at files k d) ended
     ⊎ ((t : Texts) × (texts_at files k d ≡ Ok t)
     × (StoppedSync files t ended
-    ⊎ (CanBeSynced files t × EndsAll (TellsVerdict form (effects.impact t.kconfig t.dotconfig)) count_of targets ended)))
+    ⊎ (CanBeSynced files t × EndsAll (TellsVerdict form (impact t.kconfig t.dotconfig)) count_of targets ended)))
 
-abbrev pub EndsOutdated : Effects → List ℕ → List ℕ → Ending → Type 0
-EndsOutdated effects o c ended =
-    (answer : Result BuildState EngineError) × effects.outdated o c answer
+abbrev pub EndsOutdated : (List ℕ → List ℕ → Result BuildState EngineError → Type 0) → List ℕ → List ℕ → Ending → Type 0
+EndsOutdated outdated o c ended =
+    (answer : Result BuildState EngineError) × outdated o c answer
     × Tells (answer_line build_line o answer) (status_unless_refused build_status answer) ended
 
 -- Memory is refused before the first command; else each command has its reply and its line.
@@ -186,18 +189,18 @@ EndsBatch files effects path ended =
     ⊎ ((actions : List Action) × (script_at files path ≡ Ok actions) × RunsAll effects.same (effects.run actions) actions ended)
 
 abbrev pub Ends : Files → Effects → Request → Ending → Type 0
-Ends files effects (Sync k d stamps) ended = EndsSync files effects stamps (string_bytes k) (string_bytes d) ended
+Ends files effects (Sync k d stamps) ended = EndsSync files effects.same (effects.sync stamps) (string_bytes k) (string_bytes d) ended
 Ends files effects (Preview k d o) ended = effects.same × EndsPreview files (string_bytes k) (string_bytes d) (option_map (λ path. string_bytes path) o) ended
 Ends files effects (Diff k d telling) ended = effects.same × EndsDiff telling files (string_bytes k) (string_bytes d) ended
-Ends files effects (Fixdep d t c) ended = effects.same × EndsFixdep files (string_bytes d) (string_bytes t) (string_bytes c) ended
+Ends files effects (Fixdep d t c) ended = effects.same × EndsFixdep effects.dialect files (string_bytes d) (string_bytes t) (string_bytes c) ended
 Ends files effects (Record d t c) ended = EndsRecord effects (string_bytes d) (string_bytes t) (string_bytes c) ended
 Ends files effects (Depfile end d t c) ended =
     EndsDepfile effects (option_map (λ path. string_bytes path) end) (string_bytes d) (string_bytes t) (string_bytes c) ended
 Ends files effects (Stale targets form) ended = effects.same × EndsStale effects form (targets_at files targets) ended
 Ends files effects (Why targets form) ended = effects.same × EndsWhy files effects form (targets_at files targets) ended
 Ends files effects (Impact k d targets form) ended =
-    effects.same × EndsImpact files effects (string_bytes k) (string_bytes d) form (targets_at files targets) ended
-Ends files effects (Outdated t c) ended = effects.same × EndsOutdated effects (string_bytes t) (string_bytes c) ended
+    effects.same × EndsImpact files effects.impact (string_bytes k) (string_bytes d) form (targets_at files targets) ended
+Ends files effects (Outdated t c) ended = effects.same × EndsOutdated effects.outdated (string_bytes t) (string_bytes c) ended
 Ends files effects (Batch script) ended = EndsBatch files effects (string_bytes script) ended
 Ends files effects (Users symbols targets) ended = effects.same × EndsUsers files (symbols_of symbols.items) (targets_at files targets) ended
 Ends files effects (Cost top targets) ended = effects.same × EndsCost files top (targets_at files targets) ended
@@ -210,23 +213,24 @@ pub record IsStateOf (files : Files) (o command : List ℕ) (answer : Result Bui
       → Shows files h → last_record h o ≡ Some r → IsBuildJudged files h o command r answer
 
 -- The files of a script are read before its run begins.
-pub record RunsOn (honest : Type 0) (old new : FileState) (actions : List Action) (replies : List Reply) : Type 0 where
+pub record RunsOn (dialect : Dialect) (honest : Type 0) (old new : FileState) (actions : List Action) (replies : List Reply) : Type 0 where
   pub first : FileState
   pub read : honest → first.files ≡ old.files
   pub later : old.failures ≤ first.failures
-  pub run : FileRun honest first actions replies new
+  pub run : FileRun dialect honest first actions replies new
 
-abbrev pub by_files : FileState → FileState → Effects
-by_files old new = record {
+abbrev pub by_files : Dialect → FileState → FileState → Effects
+by_files dialect old new = record {
+  dialect = dialect;
   same = new.files ≡ old.files;
   sync = LeavesStamps old.files new.files;
-  recording = LeavesRecord old.files new.files;
-  ruling = LeavesDepfile old.files new.files;
+  recording = LeavesRecord dialect old.files new.files;
+  ruling = λ header. LeavesDepfile old.files new.files (record { header = header; dialect = dialect });
   stale = IsAnswerOn old.files;
   why = IsExplanationOn old.files;
   impact = IsAnswerAfter old.files;
   outdated = IsStateOf old.files;
-  run = RunsOn ⊤ old new;
+  run = RunsOn dialect ⊤ old new;
 }
 
 -- ---- by histories
@@ -252,25 +256,26 @@ pub record FollowsOutdated (old : TreeState) (o command : List ℕ) (answer : Re
   pub recorded : IsTrue (is_command command) → (r : LastRecord) → last_record old.history o ≡ Some r → IsBuildJudged old.files old.history o command r answer
 
 -- as above
-abbrev pub Runs : TreeState → TreeState → List Action → List Reply → Type 0
-Runs old new actions replies = (failures : ℕ) × (old.failures ≤ failures) × Run (at old.files failures old.history) actions replies new
+abbrev pub Runs : Dialect → TreeState → TreeState → List Action → List Reply → Type 0
+Runs dialect old new actions replies = (failures : ℕ) × (old.failures ≤ failures) × Run dialect (at old.files failures old.history) actions replies new
 
-abbrev pub by_histories : TreeState → TreeState → Effects
-by_histories old new = record {
+abbrev pub by_histories : Dialect → TreeState → TreeState → Effects
+by_histories dialect old new = record {
+  dialect = dialect;
   same = IsSame old new;
   sync = λ stamps k d answer. FollowsStamps stamps k d answer old new;
-  recording = λ d t c answer. FollowsRecord d t c answer old new;
-  ruling = λ header d t c answer. FollowsDepfile header d t c answer old new;
+  recording = λ d t c answer. FollowsRecord dialect d t c answer old new;
+  ruling = λ header d t c answer. FollowsDepfile (record { header = header; dialect = dialect }) d t c answer old new;
   stale = λ o answer. FollowsStale old o answer new;
   why = λ o answer. FollowsWhy old o answer new;
   impact = λ k d o answer. FollowsImpact old k d o answer new;
   outdated = λ o command answer. FollowsOutdated old o command answer new;
-  run = Runs old new;
+  run = Runs dialect old new;
 }
 
 -- The next state of a tree, by this request that ended so.
-abbrev pub Continues : Request → Ending → TreeState → TreeState → Type 0
-Continues request ended old new = Ends old.files (by_histories old new) request ended
+abbrev pub Continues : Dialect → Request → Ending → TreeState → TreeState → Type 0
+Continues dialect request ended old new = Ends old.files (by_histories dialect old new) request ended
 
 -- ---- on every tree, honest or not
 
@@ -318,32 +323,32 @@ ReadsCosts honest old targets text new =
     (unread costs : List ℕ) × (text ≡ unread ++ costs) × ReadsCounted unread_lines honest old targets unread new
 
 -- What a script prints: a line for each reply of a run of its lines; of an honest tree they are those of the file at its path.
-pub record RunsCounted (honest : Type 0) (old : FileState) (path text : List ℕ) (new : FileState) : Type 0 where
+pub record RunsCounted (dialect : Dialect) (honest : Type 0) (old : FileState) (path text : List ℕ) (new : FileState) : Type 0 where
   pub actions : List Action
   pub script : List ℕ
   pub spelled : AreSpelled script actions
   pub there : honest → script_at old.files path ≡ Ok actions
   pub replies : List Reply
-  pub run : RunsOn honest old new actions replies
+  pub run : RunsOn dialect honest old new actions replies
   pub lines : text ≡ reply_lines actions replies
 
 -- What is printed where not all is refused blames the device for an object or a command only where its failure was counted.
-abbrev pub Counts : Type 0 → FileState → Request → List ℕ → FileState → Type 0
-Counts honest old (Stale targets form) text new = AsksCounted form First honest old targets text new
-Counts honest old (Why targets form) text new = AsksCounted form Every honest old targets text new
-Counts honest old (Impact k d targets form) text new = AsksCounted form First honest old targets text new
-Counts honest old (Outdated t c) text new = TellsCounted (SaysLines build_line) old.failures (string_bytes t ∷ []) text new.failures
-Counts honest old (Batch script) text new = RunsCounted honest old (string_bytes script) text new
-Counts honest old (Users symbols targets) text new = ReadsCounted (uses_lines (symbols_of symbols.items)) honest old targets text new
-Counts honest old (Cost top targets) text new = ReadsCosts honest old targets text new
-Counts honest old _ text new = ⊤
+abbrev pub Counts : Dialect → Type 0 → FileState → Request → List ℕ → FileState → Type 0
+Counts dialect honest old (Stale targets form) text new = AsksCounted form First honest old targets text new
+Counts dialect honest old (Why targets form) text new = AsksCounted form Every honest old targets text new
+Counts dialect honest old (Impact k d targets form) text new = AsksCounted form First honest old targets text new
+Counts dialect honest old (Outdated t c) text new = TellsCounted (SaysLines build_line) old.failures (string_bytes t ∷ []) text new.failures
+Counts dialect honest old (Batch script) text new = RunsCounted dialect honest old (string_bytes script) text new
+Counts dialect honest old (Users symbols targets) text new = ReadsCounted (uses_lines (symbols_of symbols.items)) honest old targets text new
+Counts dialect honest old (Cost top targets) text new = ReadsCosts honest old targets text new
+Counts dialect honest old _ text new = ⊤
 
 -- ---- all of it
 
 -- It ended so: by the files, by each history that they show, and by what the tree has counted.
-pub record Performs {T : Type 0} (tree : Ghosts T) (old new : T) (request : Request) (ended : Ending) : Type 0 where
+pub record Performs {T : Type 0} (tree : Ghosts T) (dialect : Dialect) (old new : T) (request : Request) (ended : Ending) : Type 0 where
   pub done : IsNoQuestion request → IfOk ended (λ o. o.status ≡ Done)
-  pub files : tree.is_honest → Ends (tree.files old) (by_files (state tree old) (state tree new)) request ended
-  pub goes_on : GoesOn tree old new (Continues request ended)
+  pub files : tree.is_honest → Ends (tree.files old) (by_files dialect (state tree old) (state tree new)) request ended
+  pub goes_on : GoesOn tree old new (Continues dialect request ended)
   pub cause : ended ≡ Err (Engine Device) → HasRisen (tree.failures old) (tree.failures new)
-  pub counts : IfOk ended (λ o. Counts tree.is_honest (state tree old) request o.text.items (state tree new))
+  pub counts : IfOk ended (λ o. Counts dialect tree.is_honest (state tree old) request o.text.items (state tree new))

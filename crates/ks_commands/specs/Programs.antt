@@ -2,6 +2,7 @@
 use Rattle.std.specs.Prelude.{◌≡◌, ◌⊎◌, ◌≤◌, ℕ, List, [], ◌∷◌, Some, Result, Ok, IfOk, IsTrue, bytes_eq, filter, false, map, true}
 use Rattle.std.specs.List.{All}
 use Rattle.ks_fixdep.specs.CommandFile.{is_command}
+use Rattle.ks_fixdep.specs.declared.dialect.Dialect.{Dialect}
 use Rattle.ks_engine.specs.declared.commands.Reply.{Reply}
 use Rattle.ks_engine.specs.declared.error.EngineError.{EngineError}
 use Rattle.ks_tree.specs.Files.{Files}
@@ -27,6 +28,7 @@ use Rattle.ks_requests.specs.Endings.{Ending}
 use Rattle.ks_commands.specs.Performed.{Continues, Effects, Ends, by_histories}
 
 pub record ProgramRun : Type 0 where
+  pub dialect : Dialect
   pub before : TreeState
   pub request : Request
   pub ended : Ending
@@ -36,7 +38,7 @@ pub record ProgramRun : Type 0 where
 abbrev pub Chain : TreeState → List ProgramRun → TreeState → Type 0
 Chain first [] last = IsSame first last
 Chain first (run ∷ runs) last =
-    IsSame first run.before × Continues run.request run.ended run.before run.after × IsShown run.after × Chain run.after runs last
+    IsSame first run.before × Continues run.dialect run.request run.ended run.before run.after × IsShown run.after × Chain run.after runs last
 
 -- What is answered of a recorded object is the first of its names that changed since the record. Fresh, the header defines its names as then.
 pub record TellsChange (s : TreeState) (o : List ℕ) (answer : Result Verdict EngineError) : Type 0 where
@@ -61,26 +63,26 @@ pub record TellsBuild (s : TreeState) (o command : List ℕ) (answer : Result Bu
       → (verdict : Result Verdict EngineError) × (answer ≡ judged verdict) × TellsChange s o verdict
 
 -- The steps of a script's run, which lead from the state before it to the state after it; their verdicts do the same.
-pub record StepsTellChanges (old new : TreeState) (actions : List Action) (replies : List Reply) : Type 0 where
+pub record StepsTellChanges (dialect : Dialect) (old new : TreeState) (actions : List Action) (replies : List Reply) : Type 0 where
   pub failures : ℕ
   pub later : old.failures ≤ failures
   pub steps : List Step
   pub asked : map (λ step. step.action) steps ≡ actions
   pub answered : map (λ step. step.reply) steps ≡ replies
-  pub leads : Leads (at old.files failures old.history) steps new
+  pub leads : Leads dialect (at old.files failures old.history) steps new
   pub changed : All (λ step. IsChangedVerdict step.before.history step.action step.reply) steps
   pub safe : All (λ step. IsSafeVerdict step.before step.action step.reply) steps
 
 -- What changes a tree does so as by its history; what is told of recorded objects tells what changed.
-abbrev pub changes_told : TreeState → TreeState → Effects
-changes_told old new = record (by_histories old new) {
+abbrev pub changes_told : Dialect → TreeState → TreeState → Effects
+changes_told dialect old new = record (by_histories dialect old new) {
   stale = TellsChange old;
   why = TellsCauses old;
   impact = TellsAfter old;
   outdated = λ o command answer. IsTrue (is_command command) → TellsBuild old o command answer;
-  run = StepsTellChanges old new;
+  run = StepsTellChanges dialect old new;
 }
 
 -- All that a run of the program prints of recorded objects tells what changed.
 abbrev pub ProgramTellsChanges : ProgramRun → Type 0
-ProgramTellsChanges run = Ends run.before.files (changes_told run.before run.after) run.request run.ended
+ProgramTellsChanges run = Ends run.before.files (changes_told run.dialect run.before run.after) run.request run.ended

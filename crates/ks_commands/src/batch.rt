@@ -23,6 +23,7 @@ ghost use Rattle.ks_commands.specs.Kept.{AreGiven, AreKept, IsKept};
 ghost use Rattle.ks_commands.specs.Scripts.{HasGivenUp, action_at, actions_at, line_of, of_engine, script_actions, without_files};
 
 use ks_engine::{Command, EngineError, run};
+use ks_fixdep::Dialect;
 use ks_requests::{Outcome, Refusal, read_given, tell_replies};
 use ks_script::{ScriptLine, read_script};
 use ks_tree::{MemoryTree, Tree};
@@ -168,19 +169,20 @@ fn commands<'a>(
 fn run_commands<T: Tree>(
     alloc: Global,
     tree: &mut T,
+    dialect: Dialect,
     commands: &[Command<'_>],
 ) -> Result<Outcome, Refusal>
     ensures files { T.is_honest → RunsAll (T.files tree.new ≡ T.files tree.old)
-        (λ replies. FileRun ⊤ (state T.Tree tree.old) (map action commands.now) replies (state T.Tree tree.new)) (map action commands.now) result }
+        (λ replies. FileRun dialect ⊤ (state T.Tree tree.old) (map action commands.now) replies (state T.Tree tree.new)) (map action commands.now) result }
     ensures goes_on { GoesOn T.Tree tree.old tree.new (λ old new. RunsAll (IsSame old new)
-        (λ replies. Run old (map action commands.now) replies new) (map action commands.now) result) }
+        (λ replies. Run dialect old (map action commands.now) replies new) (map action commands.now) result) }
     ensures counts { IfOk result (λ o. (replies : List Reply)
-        × FileRun T.is_honest (state T.Tree tree.old) (map action commands.now) replies (state T.Tree tree.new)
+        × FileRun dialect T.is_honest (state T.Tree tree.old) (map action commands.now) replies (state T.Tree tree.new)
         × (o.text.items ≡ reply_lines (map action commands.now) replies)) }
     ensures later { T.failures tree.old ≤ T.failures tree.new }
     ensures no_device { result ≡ Err (Engine Device) → ⊥ }
 {
-    let replies = run(alloc, tree, commands)?;
+    let replies = run(alloc, tree, dialect, commands)?;
     Ok(tell_replies(alloc, commands, &replies)?)
 }
 
@@ -188,15 +190,16 @@ fn run_commands<T: Tree>(
 pub(crate) fn run_script<T: Tree>(
     alloc: Global,
     tree: &mut T,
+    dialect: Dialect,
     path: &[u8],
 ) -> Result<Outcome, Refusal>
-    ensures files { T.is_honest → EndsBatch (T.files tree.old) (by_files (state T.Tree tree.old) (state T.Tree tree.new)) path.now result }
-    ensures goes_on { GoesOn T.Tree tree.old tree.new (λ old new. EndsBatch old.files (by_histories old new) path.now result) }
+    ensures files { T.is_honest → EndsBatch (T.files tree.old) (by_files dialect (state T.Tree tree.old) (state T.Tree tree.new)) path.now result }
+    ensures goes_on { GoesOn T.Tree tree.old tree.new (λ old new. EndsBatch old.files (by_histories dialect old new) path.now result) }
     ensures cause { result ≡ Err (Engine Device) → HasRisen (T.failures tree.old) (T.failures tree.new) }
-    ensures counts { IfOk result (λ o. RunsCounted T.is_honest (state T.Tree tree.old) path.now o.text.items (state T.Tree tree.new)) }
+    ensures counts { IfOk result (λ o. RunsCounted dialect T.is_honest (state T.Tree tree.old) path.now o.text.items (state T.Tree tree.new)) }
 {
     let script = read_given(alloc, tree, path)?;
     let Loaded { lines, kept } = load_script(alloc, tree, &script)?;
     let commands = commands(alloc, lines, &kept)?;
-    run_commands(alloc, tree, &commands)
+    run_commands(alloc, tree, dialect, &commands)
 }

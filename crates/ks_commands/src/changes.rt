@@ -5,7 +5,7 @@ ghost use Rattle.std.specs.Prelude.{◌≡◌, Err, IfErr, IfOk, IsErrOf, option
 ghost use Rattle.ks_tree.specs.Files.{HasRisen};
 ghost use Rattle.ks_tree.specs.Frames.{Counted};
 ghost use Rattle.ks_engine.specs.FileRuns.{state};
-ghost use Rattle.ks_engine.specs.Follows.{GoesOn};
+ghost use Rattle.ks_engine.specs.Follows.{GoesOn, IsSame};
 ghost use Rattle.ks_engine.specs.declared.error.EngineError.TheVariants.{BadPath, Device};
 ghost use Rattle.ks_requests.specs.declared.refusal.Refusal.TheVariants.{Engine};
 ghost use Rattle.ks_requests.specs.declared.status.Status.TheVariants.{Done};
@@ -13,8 +13,10 @@ ghost use Rattle.ks_commands.specs.Depfiles.{IsHeaderOf, IsNoHeader};
 ghost use Rattle.ks_commands.specs.Stamps.{FollowsStamps, LeavesStamps};
 ghost use Rattle.ks_commands.specs.Performed.{EndsDepfile, EndsRecord, EndsSync, by_files, by_histories};
 
-use ks_engine::{EngineError, Report, record_depfile, record_object, sync, sync_stamped};
-use ks_fixdep::Header;
+use ks_engine::{
+    Conventions, EngineError, Report, record_depfile, record_object, sync, sync_stamped,
+};
+use ks_fixdep::{Dialect, Header};
 use ks_requests::{Outcome, Refusal, Stamps, tell_depfile, tell_recorded, tell_report, texts_at};
 use ks_symbols::path_is_legal;
 use ks_tree::Tree;
@@ -47,8 +49,10 @@ pub(crate) fn synchronise<T: Tree>(
     dotconfig: &[u8],
 ) -> Result<Outcome, Refusal>
     ensures done { IfOk result (λ o. o.status ≡ Done) }
-    ensures files { T.is_honest → EndsSync (T.files tree.old) (by_files (state T.Tree tree.old) (state T.Tree tree.new)) stamps kconfig.now dotconfig.now result }
-    ensures goes_on { GoesOn T.Tree tree.old tree.new (λ old new. EndsSync old.files (by_histories old new) stamps kconfig.now dotconfig.now result) }
+    ensures files { T.is_honest → EndsSync (T.files tree.old) (T.files tree.new ≡ T.files tree.old)
+        (LeavesStamps (T.files tree.old) (T.files tree.new) stamps) kconfig.now dotconfig.now result }
+    ensures goes_on { GoesOn T.Tree tree.old tree.new (λ old new. EndsSync old.files (IsSame old new)
+        (λ k d answer. FollowsStamps stamps k d answer old new) kconfig.now dotconfig.now result) }
     ensures cause { result ≡ Err (Engine Device) → HasRisen (T.failures tree.old) (T.failures tree.new) }
 {
     let texts = texts_at(alloc, tree, kconfig, dotconfig)?;
@@ -60,16 +64,17 @@ pub(crate) fn synchronise<T: Tree>(
 pub(crate) fn record_target<T: Tree>(
     alloc: Global,
     tree: &mut T,
+    dialect: Dialect,
     depfile: &[u8],
     target: &[u8],
     command: &[u8],
 ) -> Result<Outcome, Refusal>
     ensures done { IfOk result (λ o. o.status ≡ Done) }
-    ensures files { T.is_honest → EndsRecord (by_files (state T.Tree tree.old) (state T.Tree tree.new)) depfile.now target.now command.now result }
-    ensures goes_on { GoesOn T.Tree tree.old tree.new (λ old new. EndsRecord (by_histories old new) depfile.now target.now command.now result) }
+    ensures files { T.is_honest → EndsRecord (by_files dialect (state T.Tree tree.old) (state T.Tree tree.new)) depfile.now target.now command.now result }
+    ensures goes_on { GoesOn T.Tree tree.old tree.new (λ old new. EndsRecord (by_histories dialect old new) depfile.now target.now command.now result) }
     ensures cause { result ≡ Err (Engine Device) → HasRisen (T.failures tree.old) (T.failures tree.new) }
 {
-    let recorded = record_object(alloc, tree, depfile, target, command)?;
+    let recorded = record_object(alloc, tree, dialect, depfile, target, command)?;
     Ok(tell_recorded(alloc, target, &recorded)?)
 }
 
@@ -91,19 +96,21 @@ fn header_of(end: Option<&str>) -> Result<Header<'_>, EngineError>
 pub(crate) fn record_rule<T: Tree>(
     alloc: Global,
     tree: &mut T,
+    dialect: Dialect,
     header: Option<&str>,
     depfile: &[u8],
     target: &[u8],
     command: &[u8],
 ) -> Result<Outcome, Refusal>
     ensures done { IfOk result (λ o. o.status ≡ Done) }
-    ensures files { T.is_honest → EndsDepfile (by_files (state T.Tree tree.old) (state T.Tree tree.new))
+    ensures files { T.is_honest → EndsDepfile (by_files dialect (state T.Tree tree.old) (state T.Tree tree.new))
         (option_map (λ p. p.now) header.entry) depfile.now target.now command.now result }
-    ensures goes_on { GoesOn T.Tree tree.old tree.new (λ old new. EndsDepfile (by_histories old new)
+    ensures goes_on { GoesOn T.Tree tree.old tree.new (λ old new. EndsDepfile (by_histories dialect old new)
         (option_map (λ p. p.now) header.entry) depfile.now target.now command.now result) }
     ensures cause { result ≡ Err (Engine Device) → HasRisen (T.failures tree.old) (T.failures tree.new) }
 {
     let header = header_of(header)?;
-    let recorded = record_depfile(alloc, tree, header, depfile, target, command)?;
+    let conventions = Conventions { header, dialect };
+    let recorded = record_depfile(alloc, tree, conventions, depfile, target, command)?;
     Ok(tell_depfile(alloc, target, &recorded)?)
 }

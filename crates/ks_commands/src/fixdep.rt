@@ -11,7 +11,7 @@ ghost use Rattle.ks_engine.specs.Refusals.{Answers};
 ghost use Rattle.ks_commands.specs.Fixdep.{command_file_at};
 
 use ks_engine::{EngineError, scan_all};
-use ks_fixdep::{Seed, command_is_legal, read_depfile_by, record_text};
+use ks_fixdep::{Dialect, Seed, command_is_legal, read_depfile_by, record_text};
 use ks_requests::read_given;
 use ks_symbols::{path_is_legal, target_is_legal};
 use ks_tree::Tree;
@@ -37,17 +37,18 @@ fn check_words(depfile: &[u8], target: &[u8], command: &[u8]) -> Result<(), Engi
 pub(crate) fn command_file_text<T: Tree>(
     alloc: Global,
     tree: &mut T,
+    dialect: Dialect,
     depfile: &[u8],
     target: &[u8],
     command: &[u8],
 ) -> Result<Vec<u8>, EngineError>
     ensures reads { Reads T.Tree tree.old tree.new (IsErrOf result EngineError.Device) }
-    ensures text { T.is_honest → Answers (command_file_at (T.files tree.old) depfile.now target.now command.now) (λ text. text.items) result }
+    ensures text { T.is_honest → Answers (command_file_at dialect (T.files tree.old) depfile.now target.now command.now) (λ text. text.items) result }
 {
     check_words(depfile, target, command)?;
     let text = read_given(alloc, tree, depfile)?;
     let prerequisites = read_depfile_by(alloc, Seed::new(tree.seed()), &text)?;
-    let mut found = scan_all(alloc, tree, &prerequisites)?;
+    let mut found = scan_all(alloc, tree, dialect.rules_for(target), &prerequisites)?;
     let lines = record_text(alloc, target, command, &prerequisites, &mut found, None)?;
     Ok(lines.text)
 }

@@ -24,6 +24,7 @@ use crate::fixdep::command_file_text;
 use crate::questions::{ask_after, ask_targets, outdated_target};
 use crate::users::tell_users;
 use ks_engine::Question;
+use ks_fixdep::Dialect;
 use ks_requests::{
     Outcome, Refusal, Request, borrowed, borrowed_path, inputs_at, preview_of, print, refuse,
     refuse_at, site_of,
@@ -56,25 +57,31 @@ fn preview<T: Tree>(
 fn fixdep<T: Tree>(
     alloc: Global,
     tree: &mut T,
+    dialect: Dialect,
     depfile: &[u8],
     target: &[u8],
     command: &[u8],
 ) -> Result<Outcome, Refusal>
     ensures done { IfOk result (λ o. o.status ≡ Done) }
     ensures reads { Reads T.Tree tree.old tree.new (result ≡ Err (Engine Device)) }
-    ensures told { T.is_honest → EndsFixdep (T.files tree.old) depfile.now target.now command.now result }
+    ensures told { T.is_honest → EndsFixdep dialect (T.files tree.old) depfile.now target.now command.now result }
 {
-    let text = command_file_text(alloc, tree, depfile, target, command)?;
+    let text = command_file_text(alloc, tree, dialect, depfile, target, command)?;
     Ok(Outcome::done(text))
 }
 
 /// Does what was asked for, unless it is refused as a whole.
-fn outcome<T: Tree>(alloc: Global, tree: &mut T, request: &Request) -> Result<Outcome, Refusal>
+fn outcome<T: Tree>(
+    alloc: Global,
+    tree: &mut T,
+    dialect: Dialect,
+    request: &Request,
+) -> Result<Outcome, Refusal>
     ensures done { IsNoQuestion request.now → IfOk result (λ o. o.status ≡ Done) }
-    ensures files { T.is_honest → Ends (T.files tree.old) (by_files (state T.Tree tree.old) (state T.Tree tree.new)) request.now result }
-    ensures goes_on { GoesOn T.Tree tree.old tree.new (Continues request.now result) }
+    ensures files { T.is_honest → Ends (T.files tree.old) (by_files dialect (state T.Tree tree.old) (state T.Tree tree.new)) request.now result }
+    ensures goes_on { GoesOn T.Tree tree.old tree.new (Continues dialect request.now result) }
     ensures cause { result ≡ Err (Engine Device) → HasRisen (T.failures tree.old) (T.failures tree.new) }
-    ensures counts { IfOk result (λ o. Counts T.is_honest (state T.Tree tree.old) request.now o.text.items (state T.Tree tree.new)) }
+    ensures counts { IfOk result (λ o. Counts dialect T.is_honest (state T.Tree tree.old) request.now o.text.items (state T.Tree tree.new)) }
 {
     match request {
         Request::Sync {
@@ -107,7 +114,7 @@ fn outcome<T: Tree>(alloc: Global, tree: &mut T, request: &Request) -> Result<Ou
             command,
         } => {
             let (depfile, command) = (depfile.as_bytes(), command.as_bytes());
-            fixdep(alloc, tree, depfile, target.as_bytes(), command)
+            fixdep(alloc, tree, dialect, depfile, target.as_bytes(), command)
         }
         Request::Record {
             depfile,
@@ -115,7 +122,7 @@ fn outcome<T: Tree>(alloc: Global, tree: &mut T, request: &Request) -> Result<Ou
             command,
         } => {
             let (depfile, command) = (depfile.as_bytes(), command.as_bytes());
-            record_target(alloc, tree, depfile, target.as_bytes(), command)
+            record_target(alloc, tree, dialect, depfile, target.as_bytes(), command)
         }
         Request::Depfile {
             header,
@@ -125,7 +132,15 @@ fn outcome<T: Tree>(alloc: Global, tree: &mut T, request: &Request) -> Result<Ou
         } => {
             let (depfile, command) = (depfile.as_bytes(), command.as_bytes());
             let header = borrowed_path(header);
-            record_rule(alloc, tree, header, depfile, target.as_bytes(), command)
+            record_rule(
+                alloc,
+                tree,
+                dialect,
+                header,
+                depfile,
+                target.as_bytes(),
+                command,
+            )
         }
         Request::Stale { targets, form } => {
             ask_targets(alloc, tree, Question::Stale, *form, targets)
@@ -147,28 +162,29 @@ fn outcome<T: Tree>(alloc: Global, tree: &mut T, request: &Request) -> Result<Ou
         Request::Outdated { target, command } => {
             outdated_target(alloc, tree, target.as_bytes(), command.as_bytes())
         }
-        Request::Batch { script } => run_script(alloc, tree, script.as_bytes()),
+        Request::Batch { script } => run_script(alloc, tree, dialect, script.as_bytes()),
         Request::Users { symbols, targets } => tell_users(alloc, tree, symbols, targets),
         Request::Cost { top, targets } => tell_cost(alloc, tree, *top, targets),
     }
 }
 
 /// Does what was asked for, and answers the exit status: 0 done and nothing stale, 1 something stale or built by
-/// another command, 2 something refused.
+/// another command, 2 something refused. Where sources are scanned, the dialect says whose words name symbols.
 pub fn perform<T: Tree, W: Write, E: Write>(
     alloc: Global,
     tree: &mut T,
+    dialect: Dialect,
     request: &Request,
     out: &mut Stream<W>,
     err: &mut Stream<E>,
 ) -> u8
     // It ends with a text or a refusal: this is what it leaves, by the files and by histories, and what it prints; which
     // file a refusal is about stands on a line of its own.
-    ensures { (ended : Ending) × Performs T.Tree tree.old tree.new request.now ended
+    ensures { (ended : Ending) × Performs T.Tree dialect tree.old tree.new request.now ended
         × (following : List ℕ) × IsSiteLine T.is_honest (T.files tree.new) (ending_site request.now ended) following
         × Printed following ended (state_of W.Write out.old) (state_of W.Write out.new) (state_of E.Write err.old) (state_of E.Write err.new) result }
 {
-    match outcome(alloc, tree, request) {
+    match outcome(alloc, tree, dialect, request) {
         Ok(outcome) => print(&outcome, out, err),
         Err(refusal) => match site_of(request, &refusal) {
             Some(site) => refuse_at(alloc, tree, &site, &refusal, err),

@@ -5,6 +5,7 @@
 ghost use Rattle.std.specs.Prelude.{◌≡◌, ◌⊎◌, ◌++◌, ℕ, List, [], ◌∷◌, Err, IfErr, IfOk, IsErrOf, OnOk, length, map, option_map};
 ghost use Rattle.ks_tree.specs.Files.{HasRisen};
 ghost use Rattle.ks_tree.specs.Frames.{Reads};
+ghost use Rattle.ks_engine.specs.Impact.{IsAnswerAfter};
 ghost use Rattle.ks_engine.specs.FileRuns.{state};
 ghost use Rattle.ks_engine.specs.Memos.{IsMemoOf};
 ghost use Rattle.ks_engine.specs.Questions.{limit_of};
@@ -16,7 +17,7 @@ ghost use Rattle.ks_requests.specs.JsonLines.{answer_in};
 ghost use Rattle.ks_requests.specs.Replies.{build_line};
 ghost use Rattle.ks_requests.specs.Statuses.{code_of, explanation_status, status_unless_refused};
 ghost use Rattle.ks_requests.specs.Targets.{targets_at};
-ghost use Rattle.ks_commands.specs.Performed.{AsksCounted, EndsAll, EndsImpact, EndsOutdated, Says, SaysLines, TellsAll, TellsCounted, by_files};
+ghost use Rattle.ks_commands.specs.Performed.{AsksCounted, EndsAll, EndsImpact, EndsOutdated, IsStateOf, Says, SaysLines, TellsAll, TellsCounted};
 ghost use Rattle.ks_commands.specs.Questions.{IsSpelled, LineCounted, counted_of, tells_of};
 ghost use Rattle.ks_commands.specs.Spelling.{IsLine, spelling_of, spelling_told};
 
@@ -199,7 +200,7 @@ pub(crate) fn ask_after<T: Tree>(
     targets: &Targets,
 ) -> Result<Outcome, Refusal>
     ensures reads { Reads T.Tree tree.old tree.new (result ≡ Err (Engine Device)) }
-    ensures told { T.is_honest → EndsImpact (T.files tree.old) (by_files (state T.Tree tree.old) (state T.Tree tree.new))
+    ensures told { T.is_honest → EndsImpact (T.files tree.old) (IsAnswerAfter (T.files tree.old))
         kconfig.now dotconfig.now form (targets_at (T.files tree.old) targets.now) result }
     ensures counts { IfOk result (λ o.
         AsksCounted form First T.is_honest (state T.Tree tree.old) targets.now o.text.items (state T.Tree tree.new)) }
@@ -217,7 +218,7 @@ pub(crate) fn outdated_target<T: Tree>(
     command: &[u8],
 ) -> Result<Outcome, Refusal>
     ensures reads { Reads T.Tree tree.old tree.new ⊥ }
-    ensures told { T.is_honest → EndsOutdated (by_files (state T.Tree tree.old) (state T.Tree tree.new)) target.now command.now result }
+    ensures told { T.is_honest → EndsOutdated (IsStateOf (T.files tree.old)) target.now command.now result }
     ensures counted { IfOk result (λ o.
         TellsCounted (SaysLines build_line) (T.failures tree.old) (target.now ∷ []) o.text.items (T.failures tree.new)) }
     ensures no_device { result ≡ Err (Engine Device) → ⊥ }

@@ -72,8 +72,8 @@ returns-clause-files g c = λ honest.
     inr (
       actions,
       script_there _ _ c.args.path.now _ (Ok actions) same there asked,
-      runs_all _ _ _ (RunsOn ⊤ old new actions) _ _ _ (λ unchanged. unchanged ∙ same_later)
-          (λ replies run. file_run_follows ⊤ old (state g.T.Tree c.load_script.new.tree) _ actions replies new (λ t. same_later) later are run) are
+      runs_all _ _ _ (RunsOn c.args.dialect ⊤ old new actions) _ _ _ (λ unchanged. unchanged ∙ same_later)
+          (λ replies run. file_run_follows c.args.dialect ⊤ old (state g.T.Tree c.load_script.new.tree) _ actions replies new (λ t. same_later) later are run) are
           (c.run_commands.ensures.files honest),
     )
 
@@ -95,8 +95,8 @@ returns-clause-goes_on g c = λ honest h shows.
       inr (
         actions,
         script_there _ _ c.args.path.now _ (Ok actions) same there asked,
-        runs_all _ _ _ (Runs (at (g.T.Tree.files c.args.tree.now) (failures c.args.tree.now) h) last actions) _ _ _ (λ s. (s.0 ∙ same_later, s.1))
-            (λ replies run. run_follows _ _ _ _ h _ _ replies last same_later later are run) are next.1,
+        runs_all _ _ _ (Runs c.args.dialect (at (g.T.Tree.files c.args.tree.now) (failures c.args.tree.now) h) last actions) _ _ _ (λ s. (s.0 ∙ same_later, s.1))
+            (λ replies run. run_follows c.args.dialect _ _ _ _ h _ _ replies last same_later later are run) are next.1,
       ),
       next.2,
     )
@@ -107,7 +107,7 @@ returns-clause-counts g c =
     let actions = map action c.in_ok-commands.commands.items in
     let later : g.T.Tree.failures c.args.tree.now ≤ g.T.Tree.failures c.load_script.new.tree
     = omega (arith, c.in_ok-script.ensures.reads.counted.later, c.in_ok-lines.ensures.reads.counted.later) in
-    script_counted c.run_commands.result g.T.Tree.is_honest (state g.T.Tree c.args.tree.now) (state g.T.Tree c.load_script.new.tree) _
+    script_counted c.args.dialect c.run_commands.result g.T.Tree.is_honest (state g.T.Tree c.args.tree.now) (state g.T.Tree c.load_script.new.tree) _
     (map action c.deref-2.result.now) actions c.args.path.now c.deref.result.now
     (λ honest. c.in_ok-lines.ensures.reads.unchanged honest ∙ c.in_ok-script.ensures.reads.unchanged honest) later (ap (map action) c.deref-2.ensures.value)
     (record { faultless = c.in_ok-lines.ensures.spelled.0; lines = c.in_ok-commands.ensures.spelled ∙ ap (map without_files) c.in_ok-lines.ensures.spelled.1 })

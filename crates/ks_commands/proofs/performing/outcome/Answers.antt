@@ -29,7 +29,7 @@ pub returns-in-Stale-clause-goes_on : goal.returns-in-Stale-clause-goes_on
 returns-in-Stale-clause-goes_on g c = λ honest h shows.
     let same = c.ask_targets.ensures.reads.unchanged honest in (
       h,
-      rw c.in-Stale.is ((same, refl), stale_follows (state g.T.Tree c.args.tree.now) (state g.T.Tree c.ask_targets.new.tree) h _ _ _ same shows (c.ask_targets.ensures.told honest)),
+      rw c.in-Stale.is ((same, refl), stale_follows c.args.dialect (state g.T.Tree c.args.tree.now) (state g.T.Tree c.ask_targets.new.tree) h _ _ _ same shows (c.ask_targets.ensures.told honest)),
       subst (λ f. Shows f h) (sym same) shows,
     )
 
@@ -41,7 +41,7 @@ pub returns-in-Why-clause-goes_on : goal.returns-in-Why-clause-goes_on
 returns-in-Why-clause-goes_on g c = λ honest h shows.
     let same = c.ask_targets-in-Why.ensures.reads.unchanged honest in (
       h,
-      rw c.in-Why.is ((same, refl), why_follows (state g.T.Tree c.args.tree.now) (state g.T.Tree c.ask_targets-in-Why.new.tree) h _ _ _ same shows (c.ask_targets-in-Why.ensures.told honest)),
+      rw c.in-Why.is ((same, refl), why_follows c.args.dialect (state g.T.Tree c.args.tree.now) (state g.T.Tree c.ask_targets-in-Why.new.tree) h _ _ _ same shows (c.ask_targets-in-Why.ensures.told honest)),
       subst (λ f. Shows f h) (sym same) shows,
     )
 

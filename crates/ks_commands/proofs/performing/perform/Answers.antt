@@ -27,7 +27,7 @@ returns-in-Some g c =
     let told = c.refuse_at.ensures.told in
     let reads = c.refuse_at.ensures.reads in (
       Err c.in-Err.refusal,
-      read_after g.T.Tree c.args.tree.now c.outcome.new.tree c.refuse_at.new.tree c.args.request.now c.in-Err.refusal
+      read_after g.T.Tree c.args.dialect c.args.tree.now c.outcome.new.tree c.refuse_at.new.tree c.args.request.now c.in-Err.refusal
           (λ memory. absurd (some_none site (found ∙ ap (site_of c.args.request.now) memory ∙ no_site c.args.request.now)))
           (record { done = c.in-Err.ensures.done; files = c.in-Err.ensures.files; goes_on = c.in-Err.ensures.goes_on; cause = c.in-Err.ensures.cause; counts = tt })
           reads,

@@ -1,11 +1,23 @@
-//! What stands in front of the command: the folder that `-C DIR` names, and whether numbers may begin again. It is taken off
-//! before the words are looked at as a command, so that what is said of a command's words holds of those after it.
+//! What stands in front of the command: the folder that `-C DIR` names, whether numbers may begin again, and whose words name
+//! symbols. It is taken off before the words are looked at as a command, so that what is said of a command's words holds of those
+//! after it.
 ghost use Rattle.std.specs.Prelude.{◌≡◌, IfOk, string_bytes};
-ghost use Rattle.confstamp.specs.Folders.{below};
+ghost use Rattle.confstamp.specs.Folders.{below, dialect_named};
 
+use ks_fixdep::Dialect;
 use std::alloc::{AllocError, Global};
 use std::fs;
 use std::rt::Files;
+
+/// What was found in front of the command.
+#[derive(Drop)]
+pub(crate) enum Front<'a> {
+    Taken(Place<'a>),
+    /// A `-C` without a folder after it, or with an empty word.
+    NoFolder,
+    /// A `--dialect` without one of the names after it.
+    NoDialect,
+}
 
 /// Where the program works, and the words of its command.
 #[derive(Drop)]
@@ -14,17 +26,27 @@ pub(crate) struct Place<'a> {
     pub(crate) folder: String,
     /// Whether a synchronisation may begin its numbers at 1 though files hold some.
     pub(crate) may_begin: bool,
+    /// Whose words name symbols in the sources.
+    pub(crate) dialect: Dialect,
     pub(crate) words: &'a [&'a str],
 }
 
+/// The dialect of a name.
+fn dialect_named(name: &str) -> Option<Dialect>
+    ensures { result ≡ dialect_named name.now }
+{
+    match name {
+        "linux" => Some(Dialect::Linux),
+        "u-boot" => Some(Dialect::UBoot),
+        _ => None,
+    }
+}
+
 /// The place that the words after the program's name give: each DIR is taken below the one before, as make and git do.
-/// `None` is a `-C` without a folder after it, or with an empty word.
-pub(crate) fn take_place<'a>(
-    alloc: Global,
-    words: &'a [&'a str],
-) -> Result<Option<Place<'a>>, AllocError> {
+pub(crate) fn take_place<'a>(alloc: Global, words: &'a [&'a str]) -> Result<Front<'a>, AllocError> {
     let mut folder = String::new(alloc);
     let mut may_begin = false;
+    let mut dialect = Dialect::Linux;
     let mut rest = words;
     for _ in 0..words.len() {
         match rest {
@@ -36,13 +58,22 @@ pub(crate) fn take_place<'a>(
                 folder = below(alloc, folder.as_str(), dir)?;
                 rest = others;
             }
-            ["-C", ..] => return Ok(None),
+            ["-C", ..] => return Ok(Front::NoFolder),
+            ["--dialect", name, others @ ..] => {
+                let Some(named) = dialect_named(name) else {
+                    return Ok(Front::NoDialect);
+                };
+                dialect = named;
+                rest = others;
+            }
+            ["--dialect"] => return Ok(Front::NoDialect),
             _ => break,
         }
     }
-    Ok(Some(Place {
+    Ok(Front::Taken(Place {
         folder,
         may_begin,
+        dialect,
         words: rest,
     }))
 }

@@ -7,7 +7,7 @@ mod lost_numbers;
 mod numbers;
 mod pipe;
 
-use folder::{Place, is_folder, take_place};
+use folder::{Front, Place, is_folder, take_place};
 use ks_program::execute;
 use ks_requests::Request;
 use ks_streams::Stream;
@@ -95,9 +95,16 @@ fn run(rt: &HostRuntime) -> io::Result<u8> {
     let alloc = rt.alloc();
     let words: Vec<String> = env::args(rt)?.skip(1).collect(alloc)?;
     let texts = texts_of(alloc, &words)?;
-    let Some(place) = take_place(alloc, &texts)? else {
-        let _ = eprintln!(rt; "confstamp: -C: a folder is needed after it");
-        return Ok(2);
+    let place = match take_place(alloc, &texts)? {
+        Front::Taken(place) => place,
+        Front::NoFolder => {
+            let _ = eprintln!(rt; "confstamp: -C: a folder is needed after it");
+            return Ok(2);
+        }
+        Front::NoDialect => {
+            let _ = eprintln!(rt; "confstamp: --dialect: linux or u-boot is needed after it");
+            return Ok(2);
+        }
     };
     let Some(mut tree) = tree_of(rt, place.folder.as_str())? else {
         return Ok(2);
@@ -109,7 +116,7 @@ fn run(rt: &HostRuntime) -> io::Result<u8> {
     let mut out = Stream::new(Pipe::new(BufWriter::new(alloc, rt.stdout())?));
     let mut err = Stream::new(rt.stderr());
     let failures = tree.failures();
-    let status = execute(alloc, &mut tree, &asked, &mut out, &mut err);
+    let status = execute(alloc, &mut tree, place.dialect, &asked, &mut out, &mut err);
     if status == 2 && tree.failures() > failures {
         tell_failure(rt, &tree);
     }

@@ -2,6 +2,7 @@
 use crate::golden::*;
 use crate::steps::{example, play, recorded_text, report_text, verdict_text};
 use ks_engine::{Command, Reply, run};
+use ks_fixdep::Dialect;
 use ks_tree::MemoryTree;
 use std::alloc::{AllocError, Global};
 
@@ -58,7 +59,7 @@ fn one_reply_for_each_command(rt: HostRuntime) -> Result<(), AllocError> {
         Command::Stale { target: b"a$b" },
     ];
     let mut told = String::new(alloc);
-    for reply in &run(alloc, &mut tree, &commands)? {
+    for reply in &run(alloc, &mut tree, Dialect::Linux, &commands)? {
         told.push_str(reply_text(alloc, reply)?.as_str())?;
         told.push_str("; ")?;
     }

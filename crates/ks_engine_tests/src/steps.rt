@@ -1,8 +1,9 @@
 //! Tables of what is asked of a tree, and of what is answered.
 use ks_engine::{
-    BuildState, Recorded, Report, Verdict, outdated, record_depfile, record_object, stale, sync,
+    BuildState, Conventions, Recorded, Report, Verdict, outdated, record_depfile, record_object,
+    stale, sync,
 };
-use ks_fixdep::Header;
+use ks_fixdep::{Dialect, Header};
 use ks_symbols::Name;
 use ks_tree::{MemoryTree, Tree};
 use std::alloc::{AllocError, Global};
@@ -81,15 +82,25 @@ pub(crate) fn answer<T: Tree>(
         }
         Step::Record(depfile, target, command) => {
             let (depfile, target) = (depfile.as_bytes(), target.as_bytes());
-            match record_object(alloc, tree, depfile, target, command.as_bytes()) {
+            match record_object(
+                alloc,
+                tree,
+                Dialect::Linux,
+                depfile,
+                target,
+                command.as_bytes(),
+            ) {
                 Ok(recorded) => return recorded_text(alloc, recorded),
                 Err(error) => error,
             }
         }
         Step::Depfile(header, depfile, target) => {
-            let header = Header::At(header.as_bytes());
+            let conventions = Conventions {
+                header: Header::At(header.as_bytes()),
+                dialect: Dialect::Linux,
+            };
             let (depfile, target) = (depfile.as_bytes(), target.as_bytes());
-            match record_depfile(alloc, tree, header, depfile, target, b"cc") {
+            match record_depfile(alloc, tree, conventions, depfile, target, b"cc") {
                 Ok(recorded) => return recorded_text(alloc, recorded),
                 Err(error) => error,
             }

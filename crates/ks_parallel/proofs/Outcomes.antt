@@ -28,9 +28,9 @@ event files m h next job names is = (
 )
 
 done_added : (files now : Files) (h : History) (job : Job) (answer : Answer) → Shows files h
-    → IsRecorded files now job.depfile.now job.target.now job.command.now answer → IsAdded files now h job (Done answer)
+    → IsRecorded job.dialect files now job.depfile.now job.target.now job.command.now answer → IsAdded files now h job (Done answer)
 done_added files now h job answer shows is =
-    let next = record_follows files now 0 0 h job.depfile.now job.target.now job.command.now (Ok answer) shows is tt in
+    let next = record_follows job.dialect files now 0 0 h job.depfile.now job.target.now job.command.now (Ok answer) shows is tt in
     ⊎_elim
     (λ some.
     let e = event files 0 h next.0 job next.1.files.plan.names some.1 in
@@ -43,9 +43,9 @@ done_added files now h job answer shows is =
     next.1.history
 
 tried_added : (files now : Files) (h : History) (job : Job) (fault : EngineError) → Shows files h
-    → IsRecordTried files now job.depfile.now job.target.now job.command.now → IsAdded files now h job (Failed fault)
+    → IsRecordTried job.dialect files now job.depfile.now job.target.now job.command.now → IsAdded files now h job (Failed fault)
 tried_added files now h job fault shows is =
-    let next = record_follows files now 0 0 h job.depfile.now job.target.now job.command.now (Err OutOfMemory) shows tt (inr (tt, inr is)) in
+    let next = record_follows job.dialect files now 0 0 h job.depfile.now job.target.now job.command.now (Err OutOfMemory) shows tt (inr (tt, inr is)) in
     let unchanged : next.0 ≡ h → IsAdded files now h job (Failed fault)
     = λ same. record { es = []; adds = inl refl; shows = subst (λ k. Shows now k) same next.2 } in
     ⊎_elim

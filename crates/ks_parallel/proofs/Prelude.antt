@@ -21,7 +21,7 @@ unfoldable pub use Rattle.ks_engine.specs.LastSync.{old_auto}
 pub use Rattle.ks_engine.specs.Legal.{AreAllRenewed, IsHistory, MayBeHeader}
 pub use Rattle.ks_engine.specs.OtherRecords.{own_history}
 pub use Rattle.ks_engine.specs.Recorded.{IsRecordTried, IsRecorded, RecordPlan, drafted, record_plan}
-unfoldable pub use Rattle.ks_engine.specs.Recorded.{record_plan_without}
+unfoldable pub use Rattle.ks_engine.specs.Recorded.{record_plan_under}
 pub use Rattle.ks_engine.specs.Recording.{followed, listed, listed_unless, scanned, there, words}
 unfoldable pub use Rattle.ks_engine.specs.Recording.{scanned_all}
 pub use Rattle.ks_engine.specs.Refusals.{and_then}
@@ -31,8 +31,11 @@ pub use Rattle.ks_engine.specs.declared.error.EngineError.{EngineError}
 pub use Rattle.ks_engine.specs.declared.error.EngineError.TheVariants.{OutOfMemory, TooLarge}
 pub use Rattle.ks_fixdep.specs.CommandFile.{command_text}
 pub use Rattle.ks_fixdep.specs.DependencyFile.{dependency_refusal, prerequisites}
+pub use Rattle.ks_fixdep.specs.Dialects.{rules_for}
 pub use Rattle.ks_fixdep.specs.declared.dep_error.DepError.{DepError}
 pub use Rattle.ks_fixdep.specs.declared.dependency_file.Role.{Role}
+pub use Rattle.ks_fixdep.specs.declared.dialect.Dialect.{Dialect}
+pub use Rattle.ks_fixdep.specs.declared.dialect.Rules.{Rules}
 pub use Rattle.ks_output.specs.AutoText.{auto_text}
 pub use Rattle.ks_output.specs.Header.{header_text}
 pub use Rattle.ks_output.specs.OldConfig.{Texts}

@@ -75,7 +75,7 @@ moves_file jobs job before next old new is further moved goes = record {
 -- the text is written, or something of it
 pub is_tried : (start now : Files) (job : Job) (text : List ℕ) (answer : Recorded) (file : Option (List ℕ)) → IsDrafted start job text answer
     → now ≡ after start (Leaves (command_temporary job.target.now) file)
-    → IsRecordTried start now job.depfile.now job.target.now job.command.now
+    → IsRecordTried job.dialect start now job.depfile.now job.target.now job.command.now
 is_tried start now job text answer file is at = record {
   plan = is.plan;
   planned = is.planned;
@@ -102,7 +102,7 @@ module _ (start now : Files) (job : Job) (text : List ℕ) (answer : Recorded) (
       ∙ ap (λ f. content f q) at
       ∙ content_beside start (command_temporary job.target.now) (Some text) q not_temporary
 
-  pub is_done : IsRecorded start (after now (Moves (command_temporary job.target.now) (command_path job.target.now))) job.depfile.now job.target.now
+  pub is_done : IsRecorded job.dialect start (after now (Moves (command_temporary job.target.now) (command_path job.target.now))) job.depfile.now job.target.now
       job.command.now answer
   is_done = record {
     plan = is.plan;
@@ -113,7 +113,7 @@ module _ (start now : Files) (job : Job) (text : List ℕ) (answer : Recorded) (
     others = moved_others;
   }
 
-  pub is_moved_still : IsRecordTried start (after now (Moves (command_temporary job.target.now) (command_path job.target.now))) job.depfile.now
+  pub is_moved_still : IsRecordTried job.dialect start (after now (Moves (command_temporary job.target.now) (command_path job.target.now))) job.depfile.now
       job.target.now job.command.now
   is_moved_still = record { plan = is.plan; planned = is.planned; either = inr moved_text; others = moved_others }
 

@@ -11,7 +11,7 @@ use Rattle.ks_parallel.specs.declared.next.Next.TheVariants.{Write}
 -- This is the text of the command file, and the answer.
 pub record IsDrafted (files : Files) (job : Job) (text : List ℕ) (answer : Recorded) : Type 0 where
   pub plan : RecordPlan
-  pub planned : IsRecordPlan files job.depfile.now job.target.now job.command.now plan
+  pub planned : IsRecordPlan job.dialect files job.depfile.now job.target.now job.command.now plan
   pub is_text : text ≡ command_text plan.file
   pub generation : answer.generation ≡ plan.generation
   pub names : answer.names ≡ length plan.names

@@ -2,6 +2,7 @@
 use Rattle.std.specs.Prelude.{◌≡◌, ℕ, List, [], ◌∷◌, Option, Some, None, Result, true, map}
 use Rattle.ks_symbols.specs.Names.{is_in}
 use Rattle.ks_fixdep.specs.DependencyFile.{prerequisites}
+use Rattle.ks_fixdep.specs.declared.dialect.Dialect.{Dialect}
 use Rattle.ks_tree.specs.Files.{Files, content, SameButBoth}
 use Rattle.ks_tree.specs.Paths.{auto_path, command_path, command_temporary}
 use Rattle.ks_engine.specs.declared.error.EngineError.{EngineError}
@@ -21,11 +22,11 @@ paths_read files depfile = depfile ∷ auto_path ∷ prerequisite_paths (content
 -- Files that are the same at these paths come to the same plan, or to the same refusal, ..
 abbrev pub RecordsGoByWhatTheyRead : Type 0
 RecordsGoByWhatTheyRead =
-    (files other : Files) (depfile target command : List ℕ) → ((q : List ℕ) → is_in (paths_read files depfile) q ≡ true → content other q ≡ content files q)
-    → record_plan other depfile target command ≡ record_plan files depfile target command
+    (dialect : Dialect) (files other : Files) (depfile target command : List ℕ) → ((q : List ℕ) → is_in (paths_read files depfile) q ≡ true → content other q ≡ content files q)
+    → record_plan dialect other depfile target command ≡ record_plan dialect files depfile target command
 
 -- .. and a record, done or refused or given up, leaves each path but its command file and that one's temporary file.
 abbrev pub RecordsWriteTwoPaths : Type 0
 RecordsWriteTwoPaths =
-    (old new : Files) (depfile target command : List ℕ) (answer : Result Recorded EngineError) → LeavesRecord old new depfile target command answer
+    (dialect : Dialect) (old new : Files) (depfile target command : List ℕ) (answer : Result Recorded EngineError) → LeavesRecord dialect old new depfile target command answer
     → SameButBoth (command_temporary target) (command_path target) old new

@@ -23,8 +23,8 @@ abbrev pub IsAtStage : Files → Files → Job → List ReadFile → Stage → T
 IsAtStage start now job reads Reading = (now ≡ start) × AreTrue start reads
 IsAtStage start now job reads (Written answer) = (text : List ℕ) × IsDrafted start job text answer
     × (now ≡ after start (Leaves (command_temporary job.target.now) (Some text)))
-IsAtStage start now job reads (Done answer) = IsRecorded start now job.depfile.now job.target.now job.command.now answer
-IsAtStage start now job reads (Failed e) = (now ≡ start) ⊎ IsRecordTried start now job.depfile.now job.target.now job.command.now
+IsAtStage start now job reads (Done answer) = IsRecorded job.dialect start now job.depfile.now job.target.now job.command.now answer
+IsAtStage start now job reads (Failed e) = (now ≡ start) ⊎ IsRecordTried job.dialect start now job.depfile.now job.target.now job.command.now
 
 abbrev pub IsAt : Files → Files → Job → Recorder → Type 0
 IsAt start now job r = IsAtStage start now job r.reads.items r.stage

@@ -3,12 +3,15 @@ ghost use Rattle.std.specs.Prelude.{◌≡◌, IfOk};
 ghost use Rattle.ks_parallel.specs.Jobs.{are_distinct, has_target, hidden_by, jobs_of};
 ghost use Rattle.ks_parallel.specs.Views.{is_written_for, sees};
 
+use ks_fixdep::Dialect;
 use ks_tree::{command_path, command_temporary};
 use std::alloc::{AllocError, Global};
 
 /// What one process records.
 #[derive(Clone, Copy)]
 pub struct Job<'a> {
+    /// Whose words name symbols in the sources.
+    pub dialect: Dialect,
     pub depfile: &'a [u8],
     pub target: &'a [u8],
     pub command: &'a [u8],

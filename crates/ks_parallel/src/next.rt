@@ -29,7 +29,14 @@ pub(crate) fn go_on(alloc: Global, job: &Job<'_>, reads: &[ReadFile]) -> Result<
         wanted: None,
         failed: 0,
     };
-    let result = record_object(alloc, &mut tree, job.depfile, job.target, job.command);
+    let result = record_object(
+        alloc,
+        &mut tree,
+        job.dialect,
+        job.depfile,
+        job.target,
+        job.command,
+    );
     let KnownTree { files, wanted, .. } = tree;
     match result {
         Ok(answer) => {

@@ -1,5 +1,6 @@
 //! Records played in many orders: each leaves the command files that they leave one after the other.
 use ks_engine::{record_object, sync};
+use ks_fixdep::Dialect;
 use ks_parallel::{Job, Recorder, Stage, are_distinct, play};
 use ks_tree::{FuseMode, FuseTree, MemoryTree, Tree};
 use std::alloc::{AllocError, Global};
@@ -21,10 +22,10 @@ const SOURCES: [(&[u8], &[u8]); 6] = [
 
 #[rattlefmt::skip]
 const JOBS: [Job<'static>; 4] = [
-    Job { depfile: b"v.d", target: b"v.o", command: b"cc v" },
-    Job { depfile: b"w.d", target: b"w.o", command: b"cc w" },
-    Job { depfile: b"x.d", target: b"x.o", command: b"cc x" },
-    Job { depfile: b"y.d", target: b"y.o", command: b"cc y" },
+    Job { dialect: Dialect::Linux, depfile: b"v.d", target: b"v.o", command: b"cc v" },
+    Job { dialect: Dialect::Linux, depfile: b"w.d", target: b"w.o", command: b"cc w" },
+    Job { dialect: Dialect::Linux, depfile: b"x.d", target: b"x.o", command: b"cc x" },
+    Job { dialect: Dialect::Linux, depfile: b"y.d", target: b"y.o", command: b"cc y" },
 ];
 
 const COMMAND_FILES: [&[u8]; 4] = [b".v.o.cmd", b".w.o.cmd", b".x.o.cmd", b".y.o.cmd"];
@@ -43,9 +44,15 @@ fn begun(rt: &impl Abort, alloc: Global) -> MemoryTree {
 fn recorded(rt: &impl Abort, alloc: Global) -> MemoryTree {
     let mut tree = begun(rt, alloc);
     for job in JOBS {
-        record_object(alloc, &mut tree, job.depfile, job.target, job.command).expect(
-            rt, "a record",
-        );
+        record_object(
+            alloc,
+            &mut tree,
+            job.dialect,
+            job.depfile,
+            job.target,
+            job.command,
+        )
+        .expect(rt, "a record");
     }
     tree
 }

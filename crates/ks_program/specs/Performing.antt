@@ -2,6 +2,7 @@
 use Rattle.std.specs.Prelude.{◌≡◌, ◌⊎◌, ℕ, List, [], Result, Ok, Err, true}
 use Rattle.clap.specs.Words.{Text, fault_of, takes}
 use Rattle.ks_streams.specs.Streams.{State}
+use Rattle.ks_fixdep.specs.declared.dialect.Dialect.{Dialect}
 use Rattle.ks_tree.specs.declared.tree.Tree.{Ghosts}
 use Rattle.ks_engine.specs.declared.error.EngineError.TheVariants.{OutOfMemory}
 use Rattle.ks_requests.specs.declared.refusal.Refusal.TheVariants.{Engine}
@@ -26,10 +27,10 @@ Refuses words before after err_before err_after status =
 
 -- The request of the words was performed, and a refusal told with where it points; or memory was refused for it, or the words were
 -- explained, and the tree is as before.
-abbrev pub Executes : {T : Type 0} → Ghosts T → List Text → T → T → State → State → State → State → ℕ → Type 0
-Executes tree words old new before after err_before err_after status =
+abbrev pub Executes : {T : Type 0} → Ghosts T → Dialect → List Text → T → T → State → State → State → State → ℕ → Type 0
+Executes tree dialect words old new before after err_before err_after status =
     ((request : Request) × Makes words request
-    × (ended : Ending) × Performs tree old new request ended
+    × (ended : Ending) × Performs tree dialect old new request ended
     × (following : List ℕ) × IsSiteLine tree.is_honest (tree.files new) (ending_site request ended) following
     × Printed following ended before after err_before err_after status)
     ⊎ ((new ≡ old) × Refuses words before after err_before err_after status)

@@ -7,6 +7,7 @@ ghost use Rattle.ks_program.specs.Performing.{Executes, IsAskedBy, Refuses};
 
 use ks_commands::perform;
 use ks_engine::EngineError;
+use ks_fixdep::Dialect;
 use ks_requests::{Refusal, Request, refuse};
 use ks_streams::Stream;
 use ks_tree::Tree;
@@ -31,20 +32,21 @@ fn tell_why<W: Write, E: Write>(
 }
 
 /// Runs the command that the words after the program's name ask for, and answers the exit status: 0 done and nothing stale,
-/// 1 something stale or built by another command, 2 something refused.
+/// 1 something stale or built by another command, 2 something refused. The dialect says whose words name symbols in sources.
 pub fn execute<T: Tree, W: Write, E: Write>(
     alloc: Global,
     tree: &mut T,
+    dialect: Dialect,
     asked: &Result<Request, WordsError>,
     out: &mut Stream<W>,
     err: &mut Stream<E>,
 ) -> u8
     // Of all words that ask for this: their request was performed; or they make none, and the tree is as before.
-    ensures { (words : List Text) → IsAskedBy words asked.now → Executes T.Tree words tree.old tree.new
+    ensures { (words : List Text) → IsAskedBy words asked.now → Executes T.Tree dialect words tree.old tree.new
         (state_of W.Write out.old) (state_of W.Write out.new) (state_of E.Write err.old) (state_of E.Write err.new) result }
 {
     match asked {
-        Ok(request) => perform(alloc, tree, request, out, err),
+        Ok(request) => perform(alloc, tree, dialect, request, out, err),
         Err(error) => tell_why(alloc, error, out, err),
     }
 }

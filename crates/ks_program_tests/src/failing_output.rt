@@ -2,6 +2,7 @@
 //! status is 2 also where it doesn't.
 use crate::golden::{AUTO, COMMAND_FILE};
 use crate::steps::{Step, play, run_over, shown, world};
+use ks_fixdep::Dialect;
 use ks_program::execute;
 use ks_streams::Stream;
 use ks_words::request_of;
@@ -54,7 +55,7 @@ struct Case<'a> {
 fn calls_made(rt: &impl Abort, alloc: Global, case: &Case<'_>) -> Result<usize, Fail> {
     let mut tree = world(rt, alloc)?;
     play(rt, alloc, &mut tree, case.before)?;
-    let run = run_over(alloc, &mut tree, case.words)?;
+    let run = run_over(alloc, &mut tree, Dialect::Linux, case.words)?;
     Ok(run.out.len().saturating_add(1))
 }
 
@@ -68,6 +69,7 @@ fn break_off(rt: &impl Abort, alloc: Global, case: &Case<'_>, passes: usize) -> 
     let status = execute(
         alloc,
         &mut tree,
+        Dialect::Linux,
         &request_of(alloc, case.words),
         &mut out,
         &mut err,
@@ -129,7 +131,7 @@ fn both_outputs_that_fail(rt: HostRuntime) -> Result<(), Fail> {
             taken: Vec::new(alloc),
             passes: passes / 2,
         });
-        let status = execute(alloc, &mut tree, &asked, &mut out, &mut err);
+        let status = execute(alloc, &mut tree, Dialect::Linux, &asked, &mut out, &mut err);
         assert_eq!(rt; status, 2, "{passes}");
     }
     Ok(())

@@ -1,5 +1,6 @@
 //! Worked examples over a tree in memory: tables of words, and of the status and all that is printed.
 use crate::golden;
+use ks_fixdep::Dialect;
 use ks_program::execute;
 use ks_streams::Stream;
 use ks_tree::{MemoryTree, Tree};
@@ -12,6 +13,8 @@ use std::test::Fail;
 #[derive(Clone, Copy, Debug)]
 pub(crate) enum Step<'a> {
     Words(&'a [&'a str]),
+    /// The words under the dialect of U-Boot.
+    InUBoot(&'a [&'a str]),
     Put(&'a str, &'a str),
     Read(&'a str),
 }
@@ -27,11 +30,13 @@ pub(crate) struct Run {
 pub(crate) fn run_over<'a, T: Tree>(
     alloc: Global,
     tree: &mut T,
+    dialect: Dialect,
     words: &'a [&'a str],
 ) -> Result<Run, Fail> {
     let mut out: Stream<Vec<u8>> = Stream::new(Vec::new(alloc));
     let mut err: Stream<Vec<u8>> = Stream::new(Vec::new(alloc));
-    let status = execute(alloc, tree, &request_of(alloc, words), &mut out, &mut err);
+    let asked = request_of(alloc, words);
+    let status = execute(alloc, tree, dialect, &asked, &mut out, &mut err);
     let out = String::from_utf8(out.into_writer())?;
     let err = String::from_utf8(err.into_writer())?;
     Ok(Run { status, out, err })
@@ -45,14 +50,17 @@ pub(crate) fn shown<T: Tree>(alloc: Global, tree: &mut T, path: &str) -> Result<
     }
 }
 
+/// The status, the output and standard error, one after the other.
+fn run_text(alloc: Global, run: &Run) -> Result<String, Fail> {
+    let (status, out, err) = (run.status, run.out.as_str(), run.err.as_str());
+    Ok(format!(in alloc; "{status} {out}{err}")?)
+}
+
 /// What comes of a step: what was read, or the status, the output and standard error, one after the other.
 pub(crate) fn told<T: Tree>(alloc: Global, tree: &mut T, step: Step<'_>) -> Result<String, Fail> {
     match step {
-        Step::Words(words) => {
-            let run = run_over(alloc, tree, words)?;
-            let (status, out, err) = (run.status, run.out.as_str(), run.err.as_str());
-            Ok(format!(in alloc; "{status} {out}{err}")?)
-        }
+        Step::Words(words) => run_text(alloc, &run_over(alloc, tree, Dialect::Linux, words)?),
+        Step::InUBoot(words) => run_text(alloc, &run_over(alloc, tree, Dialect::UBoot, words)?),
         Step::Put(path, bytes) => {
             tree.write(alloc, path.as_bytes(), bytes.as_bytes())?;
             Ok(String::from_str(alloc, "done")?)

@@ -1,6 +1,7 @@
 //! From texts to texts, without the words of a command line: what previews print, and why there is none; what differs from
 //! auto.conf; and scripts whose lines name files more than once.
 use ks_commands::perform;
+use ks_fixdep::Dialect;
 use ks_requests::{PreviewError, Request, Telling, preview_to};
 use ks_streams::Stream;
 use ks_symbols::SourceError;
@@ -131,7 +132,14 @@ fn batch(alloc: Global, script: &[u8]) -> Result<String, AllocError> {
     let request = Request::Batch {
         script: "S".to_string(alloc)?,
     };
-    let status = perform(alloc, &mut tree, &request, &mut out, &mut err);
+    let status = perform(
+        alloc,
+        &mut tree,
+        Dialect::Linux,
+        &request,
+        &mut out,
+        &mut err,
+    );
     let mut out = out.into_writer();
     out.extend_from_slice(&err.into_writer())?;
     format!(in alloc; "{status}\n{}", String::from_utf8_lossy(alloc, &out)?)
@@ -187,7 +195,14 @@ fn diff(
         dotconfig: "c".to_string(alloc)?,
         telling: Telling::Lines,
     };
-    let status = perform(alloc, &mut tree, &request, &mut out, &mut err);
+    let status = perform(
+        alloc,
+        &mut tree,
+        Dialect::Linux,
+        &request,
+        &mut out,
+        &mut err,
+    );
     let mut out = out.into_writer();
     out.extend_from_slice(&err.into_writer())?;
     format!(in alloc; "{status}\n{}", String::from_utf8_lossy(alloc, &out)?)

@@ -5,12 +5,13 @@ pub(crate) const ABOUT: &str =
     "Which objects of a kernel build are stale after a change of .config";
 
 /// How the program is called.
-pub(crate) const CALL: &str = "confstamp [-C DIR]... [--begin] <COMMAND>";
+pub(crate) const CALL: &str = "confstamp [-C DIR]... [--begin] [--dialect NAME] <COMMAND>";
 
 /// What holds for all commands.
 pub(crate) const NOTES: &str = "\
 Files are looked up in the current folder, or below DIR of -C DIR in front of the command.
 --begin lets a sync begin its numbers again, where files hold some and auto.conf has no generation.
+--dialect says whose words name symbols in sources: linux, which it is without it, or u-boot.
 A word that begins with - is taken after --.
 
 Exit status:

@@ -9,7 +9,7 @@ returns-in-Some c = λ files are.
     record {
       plan = is.plan;
       planned = record {
-        planned = plan_grows c.in_ok-known.known files c.args.job.now.depfile.now c.args.job.now.target.now c.args.job.now.command.now is.plan
+        planned = plan_grows c.args.job.now.dialect c.in_ok-known.known files c.args.job.now.depfile.now c.args.job.now.target.now c.args.job.now.command.now is.plan
             (c.in_ok-known.ensures files are) is.planned.planned;
         legal = is.planned.legal;
       };

@@ -1,0 +1,1 @@
+ofnode.o: ofnode.c

@@ -6,6 +6,8 @@
 #[cfg(test)]
 mod commands;
 #[cfg(test)]
+mod dialects;
+#[cfg(test)]
 mod failing_output;
 #[cfg(test)]
 mod golden;

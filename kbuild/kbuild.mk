@@ -54,7 +54,8 @@ endef
 
 # kbuild/stale --make asks what make would record, by make -n. Recipes that begin with `+` run even then, and the link of
 # vmlinux and of modules does, and rustc. So no recipe is left; each object that isn't up to date is told on a line of its
-# own, with its command as a word of the shell, and the files that make takes for newer.
+# own, with its command as a word of the shell, and the files that make takes for newer. A line that has $(MAKE) in it runs as
+# well, and in Linux 6.1 one of them writes autoksyms.h and include/ksym/, so it gets a shell that does nothing.
 ifdef CONFSTAMP_ASKS
 confstamp-told = $(if $(newer-prereqs)$(cmd-check),$(info confstamp-told $@ '$(make-cmd)' $(newer-prereqs)))@:
 override if_changed_dep = $(confstamp-told)
@@ -62,4 +63,5 @@ override if_changed_rule = $(confstamp-told)
 override if_changed = @:
 override if_changed_except = @:
 override cmd = @:
+autoksyms_recursive: private SHELL := true
 endif

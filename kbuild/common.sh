@@ -10,6 +10,7 @@ bare=include/config/Kconfig.bare
 kept=include/config/confstamp.config
 last=include/config/confstamp.generation
 records=include/config/confstamp.records
+dialects=include/config/confstamp.dialect
 
 # The program: the one of CONFSTAMP, or that was installed with the hooks, or the one in PATH.
 confstamp=${CONFSTAMP:-$here/../../../bin/confstamp}
@@ -17,6 +18,37 @@ confstamp=${CONFSTAMP:-$here/../../../bin/confstamp}
 
 tell() {
     echo "kbuild/${0##*/}: $*" >&2
+}
+
+# A tree of another project than Linux has the dialect of its sources here, since its first synchronisation.
+dialect=
+[ ! -e "$dialects" ] || read -r dialect < "$dialects"
+
+# settings FILE: a .config as confstamp is told it. U-Boot's strings have no escapes, so they are told with their quotes as a
+# part of the text: any text goes, and auto.conf says what U-Boot's own tool says.
+settings() {
+    case $dialect in
+    u-boot)
+        awk '
+            /^CONFIG_[A-Za-z0-9_]*="/ {
+                equals = index($0, "=")
+                value = substr($0, equals + 1)
+                gsub(/["\\]/, "\\\\&", value)
+                $0 = substr($0, 1, equals) "\"" value "\""
+            }
+            { print }
+        ' "$1"
+        ;;
+    *) cat "$1" ;;
+    esac
+}
+
+# told_config: the file of .config as confstamp is told it; where it is another one, it is made in $work.
+told_config() {
+    told_config=$config
+    [ -n "$dialect" ] || return 0
+    told_config=$work/told.config
+    settings "$config" > "$told_config"
 }
 
 # The head of a script is its help.
@@ -95,8 +127,10 @@ difference_of_config() {
     elif [ ! -f "$config" ]; then
         echo 'there is none'
     elif ! grep -qsxFf "$last" "$auto" || ! cmp -s "$config" "$kept"; then
-        { "$confstamp" diff "$bare" "$config" 2>&1 || :; } | awk '
+        told_config
+        { "$confstamp" diff "$bare" "$told_config" 2>&1 || :; } | awk -v dialect="$dialect" '
             / warning: / { next }
+            dialect == "u-boot" { gsub(/"\\"/, "\""); gsub(/\\""/, "\""); gsub(/\\\\/, "\\") }
             $1 == "unknown" { $0 = $2 " is new" }
             { if (!count++) first = substr($0, 1, 120) }
             END { if (count) print first (count > 1 ? ", and " count - 1 " more" : "") }

@@ -19,11 +19,19 @@ confstamp-record = $(if $(and $(confstamp-prefix),$(CONFIG_TRIM_UNUSED_KSYMS)),,
 confstamp-directly = { $(CONFSTAMP) record -- $(depfile) $@ '$(make-cmd)' 2> /dev/null >> $(confstamp-records) \
 	$(if $(confstamp-prefix),&& echo 'cmd_$@ := $$(savedcmd_$@)' >> $(dot-target).cmd); } ||
 
+# In U-Boot's makefiles the command file is written aside, and moved to its place behind the call of fixdep. Its sources are
+# scanned by its own words, and u-boot.sed adds what its own tools would look for.
+ifdef confstamp-dialect
+confstamp-record = $(confstamp-directly) $(CONFSTAMP_KBUILD)/fixdep $(confstamp-dialect) $(depfile) $@ '$(make-cmd)' cmd_ ||
+confstamp-directly = { $(CONFSTAMP) $(confstamp-dialect) record -- $(depfile) $@ '$(make-cmd)' 2> /dev/null \
+	>> $(confstamp-records) && sed -nf $(CONFSTAMP_KBUILD)/u-boot.sed $(dot-target).cmd > $(dot-target).tmp; } ||
+endif
+
 # What record says goes to the list of what was recorded here. An external module may stand in nobody's own tree.
 confstamp-records = $(if $(KBUILD_EXTMOD),/dev/null,include/config/confstamp.records)
 
 # In front of the command of the kernel's conf.
-confstamp-syncconfig = $(if $(filter syncconfig,$@),$(CONFSTAMP_KBUILD)/syncconfig)
+confstamp-syncconfig = $(if $(filter syncconfig,$@),$(CONFSTAMP_KBUILD)/syncconfig $(confstamp-dialect))
 
 # Has auto.conf another generation than the hook's last one, or none, or is .config not the text that was synchronised then?
 # File times don't say it: a .config that was copied back may have an old one. make reads the files itself where it can
@@ -57,7 +65,9 @@ endef
 # own, with its command as a word of the shell, and the files that make takes for newer. A line that has $(MAKE) in it runs as
 # well, and in Linux 6.1 one of them writes autoksyms.h and include/ksym/, so it gets a shell that does nothing.
 ifdef CONFSTAMP_ASKS
-confstamp-told = $(if $(newer-prereqs)$(cmd-check),$(info confstamp-told $@ '$(make-cmd)' $(newer-prereqs)))@:
+confstamp-newer = $(if $(confstamp-dialect),$(any-prereq),$(newer-prereqs))
+confstamp-other = $(if $(confstamp-dialect),$(arg-check),$(cmd-check))
+confstamp-told = $(if $(strip $(confstamp-newer) $(confstamp-other)),$(info confstamp-told $@ '$(make-cmd)' $(confstamp-newer)))@:
 override if_changed_dep = $(confstamp-told)
 override if_changed_rule = $(confstamp-told)
 override if_changed = @:

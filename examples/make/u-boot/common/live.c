@@ -1,0 +1,4 @@
+int live(void)
+{
+	return CONFIG_IS_ENABLED(OF_LIVE);
+}

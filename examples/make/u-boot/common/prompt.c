@@ -1,0 +1,4 @@
+const char *prompt(void)
+{
+	return CONFIG_SYS_PROMPT;
+}

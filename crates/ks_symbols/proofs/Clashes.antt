@@ -1,5 +1,5 @@
 -- Declarations of one name with two kinds.
-use Rattle.ks_symbols.proofs.Prelude.{◌≡◌, ℕ, suc, arith, ◌+◌, inl, inr, Bool, true, false, cond, List, [], ◌∷◌, ◌++◌, Option, Some, None, option_map, bytes_eq, length, take, drop, drop-cons, get_or, ◌<◌, not, refl, sym, ap, ◌∙◌, append_assoc, cases_Bool, cond-true, cond-false, not-false, eqb-true, is_eq, nat_list_cmp_total, nat_list_eq_equiv, bytes_decides, find, Kind, SourceError, kind_number, numbered_kind, numbered_again, NameMap, kinds_in, or_else, clashes, Form, Silent, Title, Untitled, Entry, HasKind, Unknown, Declaration, take_more, map-append, Declared, seen, Progress, progress_after, clash_fault, step_fault, no_kinds, first_kind, last_kind, first_clash, without_text}
+use Rattle.ks_symbols.proofs.Prelude.{◌≡◌, ℕ, suc, arith, ◌+◌, inl, inr, Bool, true, false, cond, List, [], ◌∷◌, ◌++◌, Option, Some, None, option_map, bytes_eq, length, take, drop, drop-cons, get_or, ◌<◌, not, refl, sym, ap, ◌∙◌, append_assoc, cases_Bool, cond-true, cond-false, not-false, eqb-true, is_eq, nat_list_cmp_total, nat_list_eq_equiv, bytes_decides, find, Kind, SourceError, kind_number, numbered_kind, numbered_again, NameMap, kinds_in, or_else, clashes, fits, Form, Silent, Title, Untitled, Entry, ModuleEntry, HasKind, Unknown, Declaration, take_more, map-append, Declared, seen, Progress, progress_after, clash_fault, step_fault, no_kinds, first_kind, last_kind, first_clash, without_text}
 use Rattle.std.proofs.Common.{map as map_list}
 use Rattle.std.proofs.lemmas.Bool.{eq-eqb}
 use Rattle.std.specs.FinMap as map
@@ -95,19 +95,33 @@ are_first_next kinds before d ds are fits x =
 
 -- ---- a line
 
--- what is gathered of a line is what it adds to the first clash
+fits_then : (b : Bool) (n : ℕ) → cond b None (Some (fault.ModuleName n)) ≡ None → b ≡ true
+fits_then true n none = refl
+fits_then false n none = absurd (cc none)
+
+-- what is gathered of a line that is not refused by itself is what it adds to the first clash
 pub gathered : (ds : List Declared) (t : Option (List ℕ)) (b : Bool) (w : Option (ℕ × List ℕ)) (n : ℕ) (f : Form) (R : Option SourceError)
+    → step_fault no_kinds (record { declared = ds; title = t; started = b; waiting = w }) n f ≡ None
     → or_else (first_clash [] ds) (or_else (step_fault (last_kind ds) (record { declared = ds; title = t; started = b; waiting = w }) n f) R)
     ≡ or_else (first_clash [] (progress_after (record { declared = ds; title = t; started = b; waiting = w }) n f).declared)
     (or_else (step_fault no_kinds (record { declared = ds; title = t; started = b; waiting = w }) n f) R)
-gathered ds t b w n Silent R = refl
-gathered ds t b w n (Title x) R = refl
-gathered ds t b w n Untitled R = refl
-gathered ds t b w n (Entry x) R = refl
-gathered ds t b None n (HasKind k) R = refl
-gathered ds t b (Some w) n (HasKind k) R =
-    sym (or_assoc (first_clash [] ds) (clash_fault n k (last_kind ds w.1)) R) ∙ ap (λ o. or_else o R) (sym (clash-push [] ds (w.1, (k, n))))
-gathered ds t b w n Unknown R = refl
+gathered ds t b w n Silent R none = refl
+gathered ds t b w n (Title x) R none = refl
+gathered ds t b w n Untitled R none = refl
+gathered ds t b w n (Entry x) R none = refl
+gathered ds t b w n ModuleEntry R none = refl
+gathered ds t b None n (HasKind k) R none = refl
+gathered ds t b (Some w) n (HasKind k) R none =
+    let yes = fits_then (fits k w.1) n none in
+    ap (λ x. or_else (first_clash [] ds) (or_else (cond x (clash_fault n k (last_kind ds w.1)) (Some (fault.ModuleName n))) R)) yes
+    ∙ sym (or_assoc (first_clash [] ds) (clash_fault n k (last_kind ds w.1)) R)
+    ∙ ap (λ o. or_else o R) (sym (clash-push [] ds (w.1, (k, n))))
+    ∙ sym (ap (λ x. or_else (first_clash [] (ds ++ (w.1, (k, n)) ∷ [])) (or_else (cond x None (Some (fault.ModuleName n))) R)) yes)
+gathered ds t b w n Unknown R none = refl
+
+misfit_stays : (b : Bool) (clash misfit : Option SourceError) (e : SourceError) → cond b None misfit ≡ Some e → cond b clash misfit ≡ Some e
+misfit_stays true clash misfit e is = absurd (cc is)
+misfit_stays false clash misfit e is = is
 
 -- a line that is refused by itself is refused
 pub refused_anyway : (s : Progress) (n : ℕ) (f : Form) (e : SourceError) → step_fault no_kinds s n f ≡ Some e → step_fault (last_kind s.declared) s n f ≡ Some e
@@ -120,8 +134,9 @@ refused_anyway s n f e = by s.declared s.title s.started s.waiting f
     by ds t b w (Title x) h = h
     by ds t b w Untitled h = h
     by ds t b w (Entry x) h = h
+    by ds t b w ModuleEntry h = h
     by ds t b None (HasKind k) h = h
-    by ds t b (Some w) (HasKind k) h = absurd (cc h)
+    by ds t b (Some w) (HasKind k) h = misfit_stays (fits k w.1) (clash_fault n k (last_kind ds w.1)) (Some (fault.ModuleName n)) e h
     by ds t b w Unknown h = h
 
 -- ---- the kinds of a table

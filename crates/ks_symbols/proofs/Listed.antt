@@ -37,9 +37,9 @@ some_legal : (o : Option Kind) (P : Type 0) → ((k : Kind) → o ≡ Some k →
 some_legal None P h is = absurd cc
 some_legal (Some k) P h is = h k refl
 
-name_of_symbol : (x : List ℕ) → IsTrue (is_symbol_name x) → IsTrue (is_name x)
+name_of_symbol : (k : Kind) (x : List ℕ) → IsTrue (is_symbol_name k x) → IsTrue (is_name x)
 unfolding is_symbol_name
-name_of_symbol x is = (and_parts (is_name x) _ is).0
+name_of_symbol k x is = (and_parts (is_name x) _ is).0
 
 later : (b c : Bool) → c ≡ true → (b || c) ≡ true
 later true c is = refl
@@ -54,9 +54,9 @@ all_legal (e ∷ es) legal =
 
 pub legal_kinds : (m : NameMap (Kind × List ℕ)) → HasSymbolNames (map.get (kinds_in m)) → All (λ e. IsTrue (is_name e.0)) (map.entries m)
 legal_kinds m legal = all_legal (map.entries m) (λ x among.
-    some_legal (map.get (kinds_in m) x) (IsTrue (is_name x)) (λ k is. name_of_symbol x (legal x k is)) (sym (listed_kinds m x) ∙ among))
+    some_legal (map.get (kinds_in m) x) (IsTrue (is_name x)) (λ k is. name_of_symbol k x (legal x k is)) (sym (listed_kinds m x) ∙ among))
 
 pub legal_names : (kinds : NameMap Kind) (names : List (List ℕ)) → HasSymbolNames (map.get kinds)
     → ((x : List ℕ) → is_in names x ≡ is_some (map.get kinds x)) → (x : List ℕ) → is_in names x ≡ true → IsTrue (is_name x)
 legal_names kinds names legal all x among =
-    some_legal (map.get kinds x) (IsTrue (is_name x)) (λ k is. name_of_symbol x (legal x k is)) (sym (all x) ∙ among)
+    some_legal (map.get kinds x) (IsTrue (is_name x)) (λ k is. name_of_symbol k x (legal x k is)) (sym (all x) ∙ among)

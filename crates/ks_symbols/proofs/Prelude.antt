@@ -40,17 +40,18 @@ unfoldable pub use Rattle.ks_symbols.specs.Configuration.{kinds_in}
 pub use Rattle.ks_symbols.specs.Decimal.{decimal_value, is_canonical, starts_well}
 pub use Rattle.ks_symbols.specs.DotConfig.{entry_with, fault_of_statement, is_about, is_of_unknown, last_about, unknown_count}
 unfoldable pub use Rattle.ks_symbols.specs.DotConfig.{dotconfig_refusal, first_fault, gives, line_fault, setting}
-pub use Rattle.ks_symbols.specs.Forms.{Entry, Form, HasKind, Silent, Title, Unknown, Untitled, is_blank, is_no_blank, is_no_quote}
+pub use Rattle.ks_symbols.specs.Forms.{Entry, Form, HasKind, ModuleEntry, Silent, Title, Unknown, Untitled, is_blank, is_no_blank, is_no_quote}
 unfoldable pub use Rattle.ks_symbols.specs.Forms.{after_quote, form, kind_form, title_form, word_form}
-pub use Rattle.ks_symbols.specs.Kconfig.{clashes, declares, entry_of, form_fault, goes_on, kind_fault, kind_in, lacks_kind, opens, says, story}
+pub use Rattle.ks_symbols.specs.Dialects.{KconfigText, read_in}
+pub use Rattle.ks_symbols.specs.Kconfig.{clashes, declares, entry_of, form_fault, forms, goes_on, kind_fault, kind_in, lacks_kind, opens, says, story}
 unfoldable pub use Rattle.ks_symbols.specs.Kconfig.{declarations, declared, first_form_fault, kconfig_refusal, title_in, title_of}
-pub use Rattle.ks_symbols.specs.Kinds.{is_off, is_string_byte, kind_number, numbered_again, numbered_kind}
-unfoldable pub use Rattle.ks_symbols.specs.Kinds.{is_text}
+pub use Rattle.ks_symbols.specs.Kinds.{fits, is_off, is_string_byte, kind_number, numbered_again, numbered_kind}
+unfoldable pub use Rattle.ks_symbols.specs.Kinds.{is_symbol_name, is_text}
 pub use Rattle.ks_symbols.specs.Laws.{LinesJoinToTheText, NoLineHoldsALineFeed, ReadsAreTexts, SettingsAreConfigurations, StatementsAreSpelled}
 pub use Rattle.ks_symbols.specs.Lines.{is_no_line_feed, max_bytes}
 unfoldable pub use Rattle.ks_symbols.specs.Lines.{lines}
 pub use Rattle.ks_symbols.specs.Names.{is_in, is_path_byte, is_word_byte, module_end}
-unfoldable pub use Rattle.ks_symbols.specs.Names.{is_name, is_symbol_name}
+unfoldable pub use Rattle.ks_symbols.specs.Names.{is_name}
 pub use Rattle.ks_symbols.specs.Progress.{Declared, Progress, clash_fault, no_kinds, no_progress, progress_after, seen, step_fault, waiting_fault, without_text}
 unfoldable pub use Rattle.ks_symbols.specs.Progress.{first_clash, first_kind, last_kind}
 pub use Rattle.ks_symbols.specs.Refusals.{IsRefusal, RefusedBy, or_else}

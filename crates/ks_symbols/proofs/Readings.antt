@@ -121,6 +121,8 @@ reads_are_texts kind.Bool w t = plain _ w t
 reads_are_texts kind.Tristate w t = plain _ w t
 reads_are_texts kind.Int w t = plain _ w t
 reads_are_texts kind.Hex w t = plain _ w t
+reads_are_texts kind.Raw w t = plain _ w t
+reads_are_texts kind.Flag w t = plain _ w t
 reads_are_texts kind.Text w t = (
   λ e. let o = opened w t e in let s = spelled o.0 t o.2 in (s.0, o.1 ∙ ap (λ (l : List ℕ). 34 ∷ l) s.1),
   λ h. ap unquoted h.1 ∙ quoted_again t h.0,

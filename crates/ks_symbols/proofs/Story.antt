@@ -1,6 +1,5 @@
 -- Line by line, a reader of Kconfig finds what the whole text means.
-use Rattle.ks_symbols.proofs.Prelude.{◌≡◌, ℕ, ◌+◌, ◌<◌, ◌≤◌, nat_lt, length, subst, arith, Bool, true, false, cond, not, ◌&&◌, nat_eq, List, [], ◌∷◌, ◌++◌, reverse, Option, Some, None, option_map, unwrap_or, codes, bytes_eq, refl, sym, ap, ◌∙◌, append_assoc, append-nil, filter, list_any, ends_with, lookup, reverse_onto, Kind, SourceError, is_name, module_end, lines, max_bytes, or_else, cond-true, cond-false, nat_tests, Form, Silent, Title, Untitled, Entry, HasKind, Unknown, form, says, opens, entry_of, declares, declarations, kind_in, title_in, lacks_kind, clashes, kind_fault, form_fault, goes_on, first_form_fault, story, kconfig_refusal, is_title, Declared, Progress, no_progress, progress_after, waiting_fault, step_fault, last_kind}
-use Rattle.std.proofs.Common.{map as map_list}
+use Rattle.ks_symbols.proofs.Prelude.{◌≡◌, ℕ, ◌+◌, ◌<◌, ◌≤◌, nat_lt, length, subst, arith, Bool, true, false, cond, not, ◌&&◌, List, [], ◌∷◌, ◌++◌, reverse, Option, Some, None, option_map, unwrap_or, codes, bytes_eq, refl, sym, ap, ◌∙◌, append_assoc, append-nil, filter, list_any, lookup, reverse_onto, Kind, SourceError, is_name, max_bytes, or_else, cond-true, cond-false, nat_tests, Form, Silent, Title, Untitled, Entry, ModuleEntry, HasKind, Unknown, fits, says, opens, entry_of, declares, declarations, kind_in, title_in, lacks_kind, clashes, kind_fault, form_fault, goes_on, first_form_fault, story, forms, kconfig_refusal, is_title, KconfigText, Declared, Progress, no_progress, progress_after, waiting_fault, step_fault, last_kind}
 use Rattle.std.specs.List.{find}
 use Rattle.ks_symbols.specs.declared.error.SourceError.TheVariants as fault
 
@@ -35,12 +34,11 @@ lacking (Some w) next = cond (lacks_kind next) (Some (fault.NoType w.0)) None
 abbrev made : List Declared → Option (List ℕ) → Bool → Option (ℕ × List ℕ) → Progress
 made kinds title started waiting = record { declared = kinds; title = title; started = started; waiting = waiting }
 
-entry_split : (a b l : Bool) (n : ℕ) (R : Option SourceError)
-    → or_else (cond (not a) (Some (fault.BadName n)) (cond b (Some (fault.ModuleName n)) (cond l (Some (fault.NoType n)) None))) R
-    ≡ or_else (cond (not a) (Some (fault.BadName n)) (cond b (Some (fault.ModuleName n)) None)) (or_else (cond l (Some (fault.NoType n)) None) R)
-entry_split false b l n R = refl
-entry_split true true l n R = refl
-entry_split true false l n R = refl
+entry_split : (a l : Bool) (n : ℕ) (R : Option SourceError)
+    → or_else (cond (not a) (Some (fault.BadName n)) (cond l (Some (fault.NoType n)) None)) R
+    ≡ or_else (cond (not a) (Some (fault.BadName n)) None) (or_else (cond l (Some (fault.NoType n)) None) R)
+entry_split false l n R = refl
+entry_split true l n R = refl
 
 -- a step finds the faults of its line, and those of an entry for which the line comes next
 step_agrees : (kinds : List Declared) (title : Option (List ℕ)) (started : Bool) (waiting : Option (ℕ × List ℕ)) (said : List Form)
@@ -53,16 +51,18 @@ step_agrees kinds title started None said m n Unknown later R = refl
 step_agrees kinds title started (Some w) said m n Unknown later R = refl
 step_agrees kinds title started None said m n Untitled later R = refl
 step_agrees kinds title started (Some w) said m n Untitled later R = refl
+step_agrees kinds title started None said m n ModuleEntry later R = refl
+step_agrees kinds title started (Some w) said m n ModuleEntry later R = refl
 step_agrees kinds title started None said m n (Title t) later R = ap (λ b. or_else (cond (is_title t && not b) None (Some (fault.BadTitle n))) R)
     (sym m.started)
 step_agrees kinds title started (Some w) said m n (Title t) later R = refl
 step_agrees kinds title started None said m n (Entry x) later R =
-    entry_split (is_name x) (ends_with nat_eq x module_end) (lacks_kind (find says later)) n R
+    entry_split (is_name x) (lacks_kind (find says later)) n R
 step_agrees kinds title started (Some w) said m n (Entry x) later R = refl
 step_agrees kinds title started None said m n (HasKind k) later R = ap (λ o. or_else (kind_fault n said k o) R) (sym m.waiting)
 step_agrees kinds title started (Some w) said m n (HasKind k) later R =
     ap (λ o. or_else (kind_fault n said k o) R) (sym m.waiting)
-    ∙ ap (λ o. or_else (cond (clashes k o) (Some (fault.TypeClash n)) None) R) (sym (m.kinds w.1))
+    ∙ ap (λ o. or_else (cond (fits k w.1) (cond (clashes k o) (Some (fault.TypeClash n)) None) (Some (fault.ModuleName n))) R) (sym (m.kinds w.1))
 
 -- and after a step with no fault the reader stands where the longer story leads
 step_matches : (kinds : List Declared) (title : Option (List ℕ)) (started : Bool) (waiting : Option (ℕ × List ℕ)) (said : List Form)
@@ -73,6 +73,8 @@ step_matches kinds title started waiting said m n Silent e = m
 step_matches kinds title started waiting said m n Unknown e = absurd (cc e)
 step_matches kinds title started None said m n Untitled e = absurd (cc e)
 step_matches kinds title started (Some w) said m n Untitled e = absurd (cc e)
+step_matches kinds title started None said m n ModuleEntry e = absurd (cc e)
+step_matches kinds title started (Some w) said m n ModuleEntry e = absurd (cc e)
 step_matches kinds title started None said m n (Title t) e = record { kinds = m.kinds; started = refl; title = refl; waiting = refl }
 step_matches kinds title started (Some w) said m n (Title t) e = absurd (cc e)
 step_matches kinds title started None said m n (Entry x) e = record { kinds = m.kinds; started = refl; title = m.title; waiting = refl }
@@ -165,20 +167,19 @@ story_is said (f ∷ later) =
     ∙ ap (λ (l : List Form). l ++ said) (sym (filtered f later (says f)))
 
 -- a reader that has read all lines of a text, and refuses nothing, stands where the story of the text leads
-pub read_all : (text : List ℕ) (s : Progress) (n : ℕ) → run_end s n [] ≡ run_end no_progress 1 (map_list form (lines text))
-    → run_fault no_progress 1 (map_list form (lines text)) ≡ None → Matches s (story text)
+pub read_all : (text : KconfigText) (s : Progress) (n : ℕ) → run_end s n [] ≡ run_end no_progress 1 (forms text)
+    → run_fault no_progress 1 (forms text) ≡ None → Matches s (story text)
 unfolding run_end
 read_all text s n ends none =
-    let forms = map_list form (lines text) in
-    let there = run_matches no_progress [] matches_start 1 forms none in
-    let told : story_after [] forms ≡ story text = story_is [] forms ∙ append-nil (story text) in
-    subst (λ t. Matches t (story text)) (sym ends) (subst (Matches (run_end no_progress 1 forms)) told there)
+    let there = run_matches no_progress [] matches_start 1 (forms text) none in
+    let told : story_after [] (forms text) ≡ story text = story_is [] (forms text) ∙ append-nil (story text) in
+    subst (λ t. Matches t (story text)) (sym ends) (subst (Matches (run_end no_progress 1 (forms text))) told there)
 
-pub found : (text : List ℕ) → length text ≤ 67108864 → kconfig_refusal text ≡ run_fault no_progress 1 (map_list form (lines text))
+pub found : (text : KconfigText) → length text.text ≤ 67108864 → kconfig_refusal text ≡ run_fault no_progress 1 (forms text)
 unfolding kconfig_refusal
 found text small =
-    cond-false (nat_lt max_bytes (length text)) _ _ (grind (arith, nat_tests)) ∙ sym (run_agrees no_progress [] matches_start 1 (map_list form (lines text)))
+    cond-false (nat_lt max_bytes (length text.text)) _ _ (grind (arith, nat_tests)) ∙ sym (run_agrees no_progress [] matches_start 1 (forms text))
 
-pub too_long : (text : List ℕ) → 67108864 < length text → kconfig_refusal text ≡ Some fault.TooLarge
+pub too_long : (text : KconfigText) → 67108864 < length text.text → kconfig_refusal text ≡ Some fault.TooLarge
 unfolding kconfig_refusal
-too_long text large = cond-true (nat_lt max_bytes (length text)) _ _ (grind (arith, nat_tests))
+too_long text large = cond-true (nat_lt max_bytes (length text.text)) _ _ (grind (arith, nat_tests))

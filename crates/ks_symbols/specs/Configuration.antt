@@ -6,8 +6,7 @@ use Rattle.std.specs.Ordering.{nat_cmp}
 use Rattle.std.specs.Cmp.Lexicographic.{slice_cmp}
 use Rattle.std.specs.Borrow.{Bor}
 use Rattle.std.specs.FinMap as map
-use Rattle.ks_symbols.specs.Names.{is_symbol_name}
-use Rattle.ks_symbols.specs.Kinds.{is_text, is_off, coded_kind}
+use Rattle.ks_symbols.specs.Kinds.{is_symbol_name, is_text, is_off, coded_kind}
 
 -- a finite map from names, in byte order
 abbrev pub NameMap : Type 0 → Type 0
@@ -45,13 +44,13 @@ kinds_in table = map.from_entries (map_list (λ e. (e.0, e.1.0)) (map.entries ta
 abbrev pub borrowed_entry : Bor (List ℕ) × Kind × Bor (List ℕ) → List ℕ × (Kind × List ℕ)
 borrowed_entry e = (e.0.now, (e.1, e.2.now))
 
--- Each name is that of a symbol.
+-- Each name is that of a symbol of its kind.
 abbrev pub HasSymbolNames : (List ℕ → Option Kind) → Type 0
-HasSymbolNames kinds = (x : List ℕ) (k : Kind) → kinds x ≡ Some k → IsTrue (is_symbol_name x)
+HasSymbolNames kinds = (x : List ℕ) (k : Kind) → kinds x ≡ Some k → IsTrue (is_symbol_name k x)
 
--- Each name is that of a symbol, and each text is one of its kind, and not the n of a bool or tristate.
+-- Each name is that of a symbol of its kind, and each text is one of it, and not the n of a bool or tristate.
 pub record IsEntry (x : List ℕ) (s : Kind × List ℕ) : Type 0 where
-  pub named : IsTrue (is_symbol_name x)
+  pub named : IsTrue (is_symbol_name s.0 x)
   pub typed : IsTrue (is_text s.0 s.1)
   pub on : is_off s.0 s.1 ≡ false
 

@@ -1,6 +1,9 @@
 -- The forms that a line of a bare Kconfig may have (a selection of Documentation/kbuild/kconfig-language.rst).
-use Rattle.std.specs.Prelude.{ℕ, Bool, ◌||◌, ◌&&◌, not, ◌==◌, nat_eq, List, length, codes, [], ◌∷◌, drop, bytes_eq, Option, Some, None, if◌then◌else◌, false, take_while, is_some}
-use Rattle.std.specs.List.{list_all, starts_with, prefix_len}
+use Rattle.std.specs.Prelude.{ℕ, Bool, ◌||◌, ◌&&◌, not, ◌==◌, nat_eq, List, length, codes, [], ◌∷◌, drop, bytes_eq, Option, Some, None, if◌then◌else◌, false, true, take_while, is_some}
+use Rattle.std.specs.List.{list_all, starts_with, ends_with, prefix_len}
+use Rattle.ks_symbols.specs.Names.{is_name, module_end}
+use Rattle.ks_symbols.specs.declared.dialect.Dialect.{Dialect}
+use Rattle.ks_symbols.specs.declared.dialect.Dialect.TheVariants as dialect
 use Rattle.ks_symbols.specs.declared.kinds.Kind.{Kind}
 use Rattle.ks_symbols.specs.declared.kinds.Kind.TheVariants as kind
 use Rattle.ks_symbols.specs.declared.forms.Form as kconfig
@@ -33,6 +36,8 @@ pub data Form : Type 0 where
   Untitled : Form
   -- config or menuconfig, and one word
   Entry : List ℕ → Form
+  -- the same with a name that ends in _MODULE, where there are modules: its macro would be that of a module
+  ModuleEntry : Form
   -- a kind
   HasKind : Kind → Form
   -- no form
@@ -44,6 +49,7 @@ seen_form shown.Silent = Silent
 seen_form (shown.Title title) = Title title.now
 seen_form shown.Untitled = Untitled
 seen_form (shown.Entry name) = Entry name.now
+seen_form shown.ModuleEntry = ModuleEntry
 seen_form (shown.HasKind k) = HasKind k
 seen_form shown.Unknown = Unknown
 
@@ -68,29 +74,47 @@ is_one_word text = not (length text == 0) && length (after_word text) == 0
 abbrev pub is_state : List ℕ → Bool
 is_state word = bytes_eq word (codes "y") || bytes_eq word (codes "m") || bytes_eq word (codes "n")
 
+-- the kind that `string` names: Linux has escapes in the value, and the others take it as it stands (scripts/kconfig/confdata.c of each)
+abbrev pub text_kind : Dialect → Kind
+text_kind dialect.Linux = kind.Text
+text_kind dialect.UBoot = kind.Raw
+text_kind dialect.BusyBox = kind.Raw
+
+-- the kind that `bool` names: BusyBox asks for a macro ENABLE_N as well (its scripts/kconfig/confdata.c)
+abbrev pub bool_kind : Dialect → Kind
+bool_kind dialect.Linux = kind.Bool
+bool_kind dialect.UBoot = kind.Bool
+bool_kind dialect.BusyBox = kind.Flag
+
+-- BusyBox has no modules
+abbrev pub has_modules : Dialect → Bool
+has_modules dialect.Linux = true
+has_modules dialect.UBoot = true
+has_modules dialect.BusyBox = false
+
 -- the kind that a word names, with a prompt or nothing after it
-abbrev pub named_kind : List ℕ → Option Kind
-named_kind word =
-    if bytes_eq word (codes "bool") then Some kind.Bool
+abbrev pub named_kind : Dialect → List ℕ → Option Kind
+named_kind d word =
+    if bytes_eq word (codes "bool") then Some (bool_kind d)
     else (if bytes_eq word (codes "tristate") then Some kind.Tristate
-    else (if bytes_eq word (codes "string") then Some kind.Text
+    else (if bytes_eq word (codes "string") then Some (text_kind d)
     else (if bytes_eq word (codes "int") then Some kind.Int
     else (if bytes_eq word (codes "hex") then Some kind.Hex else None))))
 
 -- the kind that a word names, with a value after it
-abbrev pub valued_kind : List ℕ → Option Kind
-valued_kind word =
-    if bytes_eq word (codes "def_bool") then Some kind.Bool
+abbrev pub valued_kind : Dialect → List ℕ → Option Kind
+valued_kind d word =
+    if bytes_eq word (codes "def_bool") then Some (bool_kind d)
     else (if bytes_eq word (codes "def_tristate") then Some kind.Tristate else None)
 
 abbrev pub kind_where : Bool → Option Kind → Form
 kind_where b None = Unknown
 kind_where b (Some k) = if b then HasKind k else Unknown
 
-unfoldable pub kind_form : List ℕ → List ℕ → Form
-kind_form word rest =
-    if is_some (named_kind word) then kind_where (length rest == 0 || is_prompt rest) (named_kind word)
-    else kind_where (is_one_word rest && is_state (first_word rest)) (valued_kind word)
+unfoldable pub kind_form : Dialect → List ℕ → List ℕ → Form
+kind_form d word rest =
+    if is_some (named_kind d word) then kind_where (length rest == 0 || is_prompt rest) (named_kind d word)
+    else kind_where (is_one_word rest && is_state (first_word rest)) (valued_kind d word)
 
 abbrev pub is_no_quote : ℕ → Bool
 is_no_quote b = not (b == 34)
@@ -102,16 +126,20 @@ title_form rest =
     let following = drop (length title) (drop 1 rest) in
     if starts_with nat_eq rest (34 ∷ []) && starts_with nat_eq following (34 ∷ []) && list_all is_blank (drop 1 following) then Title title else Untitled
 
+-- an entry, by its name
+abbrev pub entry_form : Dialect → List ℕ → Form
+entry_form d name = if has_modules d && is_name name && ends_with nat_eq name module_end then ModuleEntry else Entry name
+
 -- the form of a line whose first word stands after no blanks, or after some
-unfoldable pub word_form : Bool → List ℕ → List ℕ → Form
-word_form at_front word rest =
+unfoldable pub word_form : Dialect → Bool → List ℕ → List ℕ → Form
+word_form d at_front word rest =
     if bytes_eq word (codes "mainmenu") then (if at_front then title_form rest else Untitled)
     else (if bytes_eq word (codes "config") || bytes_eq word (codes "menuconfig")
-    then (if at_front && is_one_word rest then Entry (first_word rest) else Unknown)
-    else kind_form word rest)
+    then (if at_front && is_one_word rest then entry_form d (first_word rest) else Unknown)
+    else kind_form d word rest)
 
-unfoldable pub form : List ℕ → Form
-form line =
+unfoldable pub form : Dialect → List ℕ → Form
+form d line =
     let text = skip_blanks line in
     if length text == 0 || starts_with nat_eq text (codes "#") then Silent
-    else word_form (length text == length line) (first_word text) (after_word text)
+    else word_form d (length text == length line) (first_word text) (after_word text)

@@ -1,16 +1,17 @@
 -- What a Kconfig text of bare entries declares, and why one is refused. The selection of forms is this project's.
-use Rattle.std.specs.Prelude.{ℕ, Bool, ◌&&◌, not, ◌==◌, nat_eq, List, length, codes, [], ◌∷◌, ◌++◌, bytes_eq, Option, Some, None, if◌then◌else◌, map, ◌+◌, false, nat_lt, find, reverse, true, filter}
-use Rattle.std.specs.List.{ends_with, list_any}
+use Rattle.std.specs.Prelude.{ℕ, Bool, ◌&&◌, not, ◌==◌, List, length, codes, [], ◌∷◌, ◌++◌, bytes_eq, Option, Some, None, if◌then◌else◌, map, ◌+◌, false, nat_lt, find, reverse, true, filter}
+use Rattle.std.specs.List.{list_any}
 use Rattle.ks_symbols.specs.declared.kinds.Kind.{Kind}
 use Rattle.ks_symbols.specs.declared.error.SourceError.{SourceError}
 use Rattle.std.specs.Map.{lookup}
 use Rattle.ks_symbols.specs.declared.error.SourceError.TheVariants as fault
-use Rattle.ks_symbols.specs.Names.{is_name, module_end}
+use Rattle.ks_symbols.specs.Names.{is_name}
 use Rattle.ks_symbols.specs.Lines.{max_bytes, lines}
-use Rattle.ks_symbols.specs.Kinds.{kind_number}
+use Rattle.ks_symbols.specs.Kinds.{fits, kind_number}
 use Rattle.ks_symbols.specs.Refusals.{or_else}
 use Rattle.ks_symbols.specs.Titles.{is_title}
-use Rattle.ks_symbols.specs.Forms.{Form, form, Silent, Title, Untitled, Entry, HasKind, Unknown}
+use Rattle.ks_symbols.specs.Dialects.{KconfigText}
+use Rattle.ks_symbols.specs.Forms.{Form, form, Silent, Title, Untitled, Entry, ModuleEntry, HasKind, Unknown}
 
 -- The forms that say something, the latest first, are the story of a text.
 abbrev pub says : Form → Bool
@@ -45,15 +46,19 @@ title_in [] = codes "Main menu"
 title_in (Title title ∷ earlier) = title
 title_in (f ∷ earlier) = title_in earlier
 
-abbrev pub story : List ℕ → List Form
-story text = reverse (filter says (map form (lines text)))
+-- the forms of its lines
+abbrev pub forms : KconfigText → List Form
+forms kconfig = map (form kconfig.dialect) (lines kconfig.text)
+
+abbrev pub story : KconfigText → List Form
+story kconfig = reverse (filter says (forms kconfig))
 
 -- What a text declares, and its title
-unfoldable pub declared : List ℕ → List ℕ → Option Kind
-declared text name = kind_in (story text) name
+unfoldable pub declared : KconfigText → List ℕ → Option Kind
+declared kconfig name = kind_in (story kconfig) name
 
-unfoldable pub title_of : List ℕ → List ℕ
-title_of text = title_in (story text)
+unfoldable pub title_of : KconfigText → List ℕ
+title_of kconfig = title_in (story kconfig)
 
 -- an entry has no kind where nothing or one of these forms comes next
 abbrev pub lacks_kind : Option Form → Bool
@@ -61,6 +66,7 @@ lacks_kind None = true
 lacks_kind (Some (Entry name)) = true
 lacks_kind (Some (Title title)) = true
 lacks_kind (Some Untitled) = true
+lacks_kind (Some ModuleEntry) = true
 lacks_kind (Some f) = false
 
 abbrev pub clashes : Kind → Option Kind → Bool
@@ -69,7 +75,8 @@ clashes k (Some before) = not (kind_number k == kind_number before)
 
 abbrev pub kind_fault : ℕ → List Form → Kind → Option (List ℕ) → Option SourceError
 kind_fault number earlier k None = Some (fault.NotBare number)
-kind_fault number earlier k (Some name) = if clashes k (kind_in earlier name) then Some (fault.TypeClash number) else None
+kind_fault number earlier k (Some name) =
+    if fits k name then (if clashes k (kind_in earlier name) then Some (fault.TypeClash number) else None) else Some (fault.ModuleName number)
 
 -- What is wrong with the line of a number and a form, between the forms of a story and those of the lines after it.
 abbrev pub form_fault : ℕ → List Form → Form → List Form → Option SourceError
@@ -78,9 +85,8 @@ form_fault number earlier Unknown later = Some (fault.NotBare number)
 form_fault number earlier Untitled later = Some (fault.BadTitle number)
 form_fault number earlier (Title title) later = if is_title title && not (list_any opens earlier) then None else Some (fault.BadTitle number)
 form_fault number earlier (Entry name) later =
-    if not (is_name name) then Some (fault.BadName number)
-    else (if ends_with nat_eq name module_end then Some (fault.ModuleName number)
-    else (if lacks_kind (find says later) then Some (fault.NoType number) else None))
+    if not (is_name name) then Some (fault.BadName number) else (if lacks_kind (find says later) then Some (fault.NoType number) else None)
+form_fault number earlier ModuleEntry later = Some (fault.ModuleName number)
 form_fault number earlier (HasKind k) later = kind_fault number earlier k (entry_of earlier)
 
 -- a story that goes on
@@ -93,5 +99,5 @@ first_form_fault number earlier [] = None
 first_form_fault number earlier (f ∷ later) = or_else (form_fault number earlier f later) (first_form_fault (number + 1) (goes_on f earlier) later)
 
 -- why a text is refused
-unfoldable pub kconfig_refusal : List ℕ → Option SourceError
-kconfig_refusal text = if nat_lt max_bytes (length text) then Some fault.TooLarge else first_form_fault 1 [] (map form (lines text))
+unfoldable pub kconfig_refusal : KconfigText → Option SourceError
+kconfig_refusal kconfig = if nat_lt max_bytes (length kconfig.text) then Some fault.TooLarge else first_form_fault 1 [] (forms kconfig)

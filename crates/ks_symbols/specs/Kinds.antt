@@ -1,9 +1,10 @@
 -- The kinds of symbols and their texts (sym_string_valid of scripts/kconfig/symbol.c, where the kernel warns; that a text of another form
 -- is refused is a rule of this project).
-use Rattle.std.specs.Prelude.{ℕ, Bool, ◌||◌, ◌&&◌, not, ◌==◌, nat_eq, List, length, slice_index, codes, ◌≡◌, cond, drop, bytes_eq, if◌then◌else◌, refl, false}
-use Rattle.std.specs.List.{list_all, starts_with}
+use Rattle.std.specs.Prelude.{ℕ, Bool, ◌||◌, ◌&&◌, not, ◌==◌, nat_eq, nat_lt, List, length, slice_index, codes, [], ◌∷◌, ◌≡◌, cond, drop, bytes_eq, if◌then◌else◌, refl, false, true}
+use Rattle.std.specs.List.{list_all, starts_with, ends_with}
 use Rattle.std.specs.Char.{is_ascii_digit, is_ascii_hexdigit}
 use Rattle.std.specs.Coded.{Coded, code_by, coded_ℕ}
+use Rattle.ks_symbols.specs.Names.{is_name, module_end}
 use Rattle.ks_symbols.specs.declared.kinds.Kind.{Kind}
 use Rattle.ks_symbols.specs.declared.kinds.Kind.TheVariants as kind
 use Rattle.ks_symbols.specs.declared.kinds.Class.{Class}
@@ -27,6 +28,10 @@ is_hexadecimal text =
 abbrev pub is_string_byte : ℕ → Bool
 is_string_byte b = not (b == 10 || b == 13 || b == 0)
 
+-- a quote at both ends, and whatever a string can hold between them
+abbrev pub is_raw : List ℕ → Bool
+is_raw text = nat_lt 1 (length text) && starts_with nat_eq text (34 ∷ []) && ends_with nat_eq text (34 ∷ []) && list_all is_string_byte text
+
 -- whether it is a text of the kind
 unfoldable pub is_text : Kind → List ℕ → Bool
 is_text kind.Bool text = bytes_eq text (codes "y") || bytes_eq text (codes "n")
@@ -34,11 +39,23 @@ is_text kind.Tristate text = bytes_eq text (codes "y") || bytes_eq text (codes "
 is_text kind.Text text = list_all is_string_byte text
 is_text kind.Int text = is_integer text
 is_text kind.Hex text = is_hexadecimal text
+is_text kind.Raw text = is_raw text
+is_text kind.Flag text = bytes_eq text (codes "y") || bytes_eq text (codes "n")
+
+-- whether a symbol of the kind may have the name: with _MODULE at its end its macro would be that of a module, but a flag's begins otherwise
+abbrev pub fits : Kind → List ℕ → Bool
+fits kind.Flag name = true
+fits k name = not (ends_with nat_eq name module_end)
+
+-- a name whose macro is no other symbol's
+unfoldable pub is_symbol_name : Kind → List ℕ → Bool
+is_symbol_name k name = is_name name && fits k name
 
 -- a bool or tristate with the value n
 abbrev pub is_off : Kind → List ℕ → Bool
 is_off kind.Bool text = bytes_eq text (codes "n")
 is_off kind.Tristate text = bytes_eq text (codes "n")
+is_off kind.Flag text = bytes_eq text (codes "n")
 is_off k text = false
 
 -- bool and tristate count as one
@@ -48,6 +65,8 @@ class_of kind.Tristate = class.Switch
 class_of kind.Text = class.Text
 class_of kind.Int = class.Int
 class_of kind.Hex = class.Hex
+class_of kind.Raw = class.Raw
+class_of kind.Flag = class.Flag
 
 -- kinds as numbers, by which a proof tells them apart
 abbrev pub kind_number : Kind → ℕ
@@ -56,9 +75,11 @@ kind_number kind.Tristate = 1
 kind_number kind.Text = 2
 kind_number kind.Int = 3
 kind_number kind.Hex = 4
+kind_number kind.Raw = 5
+kind_number kind.Flag = 6
 
 abbrev pub numbered_kind : ℕ → Kind
-numbered_kind n = if n == 0 then kind.Bool else if n == 1 then kind.Tristate else if n == 2 then kind.Text else if n == 3 then kind.Int else kind.Hex
+numbered_kind n = if n == 0 then kind.Bool else if n == 1 then kind.Tristate else if n == 2 then kind.Text else if n == 3 then kind.Int else if n == 4 then kind.Hex else if n == 5 then kind.Raw else kind.Flag
 
 abbrev pub numbered_again : (k : Kind) → numbered_kind (kind_number k) ≡ k
 numbered_again kind.Bool = refl
@@ -66,6 +87,8 @@ numbered_again kind.Tristate = refl
 numbered_again kind.Text = refl
 numbered_again kind.Int = refl
 numbered_again kind.Hex = refl
+numbered_again kind.Raw = refl
+numbered_again kind.Flag = refl
 
 abbrev pub coded_kind : Coded Kind
 coded_kind = code_by ℕ coded_ℕ kind_number numbered_kind numbered_again
@@ -76,15 +99,19 @@ class_number class.Switch = 0
 class_number class.Text = 1
 class_number class.Int = 2
 class_number class.Hex = 3
+class_number class.Raw = 4
+class_number class.Flag = 5
 
 abbrev pub numbered_class : ℕ → Class
-numbered_class n = if n == 0 then class.Switch else if n == 1 then class.Text else if n == 2 then class.Int else class.Hex
+numbered_class n = if n == 0 then class.Switch else if n == 1 then class.Text else if n == 2 then class.Int else if n == 3 then class.Hex else if n == 4 then class.Raw else class.Flag
 
 abbrev pub class_again : (k : Class) → numbered_class (class_number k) ≡ k
 class_again class.Switch = refl
 class_again class.Text = refl
 class_again class.Int = refl
 class_again class.Hex = refl
+class_again class.Raw = refl
+class_again class.Flag = refl
 
 abbrev pub coded_class : Coded Class
 coded_class = code_by ℕ coded_ℕ class_number numbered_class class_again

@@ -9,6 +9,7 @@ use Rattle.ks_symbols.specs.Values.{Reads, text_of}
 use Rattle.ks_symbols.specs.Configuration.{IsConfiguration, Configuration}
 use Rattle.ks_symbols.specs.Statements.{Statement, Says, statement}
 use Rattle.ks_symbols.specs.DotConfig.{setting}
+use Rattle.ks_symbols.specs.Dialects.{KconfigText}
 use Rattle.ks_symbols.specs.Kconfig.{declared, kconfig_refusal}
 
 -- The lines of a text with their ends, joined, are the text, ..
@@ -34,5 +35,5 @@ AgreeingIsBeingOne = (first second : Configuration) → ((x : List ℕ) → map.
 -- What two texts without a fault set is a configuration.
 abbrev pub SettingsAreConfigurations : Type 0
 SettingsAreConfigurations =
-    (kconfig dotconfig : List ℕ) (settings : Configuration) → kconfig_refusal kconfig ≡ None
+    (kconfig : KconfigText) (dotconfig : List ℕ) (settings : Configuration) → kconfig_refusal kconfig ≡ None
     → ((x : List ℕ) → map.get settings x ≡ setting (declared kconfig) (lines dotconfig) x) → IsConfiguration settings

@@ -2,6 +2,7 @@ pub mod Names
 pub mod Lines
 pub mod Decimal
 pub mod Kinds
+pub mod Dialects
 pub mod Values
 pub mod Refusals
 pub mod Configuration

@@ -24,10 +24,6 @@ module_end = codes "_MODULE"
 abbrev pub without_module : List ℕ → List ℕ
 without_module run = if ends_with nat_eq run module_end then take (length run - 7) run else run
 
--- a name whose macro is no other symbol's
-unfoldable pub is_symbol_name : List ℕ → Bool
-is_symbol_name name = is_name name && not (ends_with nat_eq name module_end)
-
 -- printable and not a space, and none of $ # \
 abbrev pub is_path_byte : ℕ → Bool
 is_path_byte b = nat_le 33 b && nat_le b 126 && not (b == 36) && not (b == 35) && not (b == 92)

@@ -1,15 +1,14 @@
 -- How far a reader of Kconfig is, and what each line does to that. `Kconfig` says what a whole text means.
-use Rattle.std.specs.Prelude.{ℕ, Bool, ◌&&◌, not, nat_eq, List, [], ◌∷◌, ◌++◌, Option, Some, None, if◌then◌else◌, refl, false, true, bytes_eq}
-use Rattle.std.specs.List.{ends_with}
+use Rattle.std.specs.Prelude.{ℕ, Bool, ◌&&◌, not, List, [], ◌∷◌, ◌++◌, Option, Some, None, if◌then◌else◌, refl, false, true, bytes_eq}
 use Rattle.std.specs.Coded.{Coded, code_by, coded_ℕ, coded_list, coded×, coded_option, coded_bool}
 use Rattle.ks_symbols.specs.declared.kinds.Kind.{Kind}
 use Rattle.ks_symbols.specs.declared.error.SourceError.{SourceError}
 use Rattle.ks_symbols.specs.declared.error.SourceError.TheVariants as fault
-use Rattle.ks_symbols.specs.Names.{is_name, module_end}
-use Rattle.ks_symbols.specs.Kinds.{coded_kind}
+use Rattle.ks_symbols.specs.Names.{is_name}
+use Rattle.ks_symbols.specs.Kinds.{coded_kind, fits}
 use Rattle.ks_symbols.specs.Refusals.{or_else}
 use Rattle.ks_symbols.specs.Titles.{is_title}
-use Rattle.ks_symbols.specs.Forms.{Form, Silent, Title, Untitled, Entry, HasKind, Unknown}
+use Rattle.ks_symbols.specs.Forms.{Form, Silent, Title, Untitled, Entry, ModuleEntry, HasKind, Unknown}
 use Rattle.ks_symbols.specs.Kconfig.{clashes}
 use Rattle.ks_symbols.specs.declared.kconfig.Declaration.{Declaration}
 
@@ -76,11 +75,10 @@ first_clash before (d ∷ ds) = or_else (clash_fault d.1.1 d.1.0 (last_kind befo
 
 abbrev pub given_fault : (List ℕ → Option Kind) → ℕ → Kind → Option (ℕ × List ℕ) → Option SourceError
 given_fault kinds number k None = Some (fault.NotBare number)
-given_fault kinds number k (Some w) = clash_fault number k (kinds w.1)
+given_fault kinds number k (Some w) = if fits k w.1 then clash_fault number k (kinds w.1) else Some (fault.ModuleName number)
 
 abbrev pub name_fault : ℕ → List ℕ → Option SourceError
-name_fault number name = if not (is_name name) then Some (fault.BadName number)
-    else (if ends_with nat_eq name module_end then Some (fault.ModuleName number) else None)
+name_fault number name = if not (is_name name) then Some (fault.BadName number) else None
 
 abbrev pub title_fault : Bool → ℕ → List ℕ → Option SourceError
 title_fault started number title = if is_title title && not started then None else Some (fault.BadTitle number)
@@ -90,6 +88,7 @@ abbrev pub step_fault : (List ℕ → Option Kind) → Progress → ℕ → Form
 step_fault kinds s number Silent = None
 step_fault kinds s number Unknown = Some (fault.NotBare number)
 step_fault kinds s number Untitled = or_else (waiting_fault s.waiting) (Some (fault.BadTitle number))
+step_fault kinds s number ModuleEntry = or_else (waiting_fault s.waiting) (Some (fault.ModuleName number))
 step_fault kinds s number (Title title) = or_else (waiting_fault s.waiting) (title_fault s.started number title)
 step_fault kinds s number (Entry name) = or_else (waiting_fault s.waiting) (name_fault number name)
 step_fault kinds s number (HasKind k) = given_fault kinds number k s.waiting

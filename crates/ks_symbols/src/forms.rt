@@ -3,9 +3,11 @@
 //! Only how a line is spelled is looked at here; what it means beside its neighbours is `kconfig`'s.
 ghost use Rattle.std.specs.Prelude.{◌≡◌, length, drop, take_while, option_map};
 ghost use Rattle.std.specs.List.{list_all};
-ghost use Rattle.ks_symbols.specs.Forms.{is_blank, is_no_blank, is_no_quote, skip_blanks, first_word, after_word, is_one_word, is_state, after_quote, is_prompt, named_kind, valued_kind, kind_form, title_form, word_form, form, seen_form};
+ghost use Rattle.ks_symbols.specs.Forms.{is_blank, is_no_blank, is_no_quote, skip_blanks, first_word, after_word, is_one_word, is_state, after_quote, is_prompt, text_kind, bool_kind, has_modules, entry_form, named_kind, valued_kind, kind_form, title_form, word_form, form, seen_form};
 
+use crate::dialect::Dialect;
 use crate::kinds::Kind;
+use crate::names::name_is_legal;
 
 /// What a line is.
 pub(crate) enum Form<'a> {
@@ -17,6 +19,8 @@ pub(crate) enum Form<'a> {
     Untitled,
     /// The entry of a symbol.
     Entry(&'a [u8]),
+    /// The entry of a name that ends as those of modules do, where there are modules.
+    ModuleEntry,
     /// The kind of a symbol.
     HasKind(Kind),
     Unknown,
@@ -118,15 +122,45 @@ fn is_prompt(text: &[u8]) -> bool
         }
 }
 
-fn named_kind(word: &[u8]) -> Option<Kind>
-    ensures { result ≡ named_kind word.now }
+/// The kind that `string` names.
+fn text_kind(dialect: Dialect) -> Kind
+    ensures { result ≡ text_kind dialect }
+{
+    match dialect {
+        Dialect::Linux => Kind::Text,
+        Dialect::UBoot | Dialect::BusyBox => Kind::Raw,
+    }
+}
+
+/// The kind that `bool` names.
+fn bool_kind(dialect: Dialect) -> Kind
+    ensures { result ≡ bool_kind dialect }
+{
+    match dialect {
+        Dialect::Linux | Dialect::UBoot => Kind::Bool,
+        Dialect::BusyBox => Kind::Flag,
+    }
+}
+
+/// Whether a symbol may be built as a module.
+fn has_modules(dialect: Dialect) -> bool
+    ensures { result ≡ has_modules dialect }
+{
+    match dialect {
+        Dialect::Linux | Dialect::UBoot => true,
+        Dialect::BusyBox => false,
+    }
+}
+
+fn named_kind(dialect: Dialect, word: &[u8]) -> Option<Kind>
+    ensures { result ≡ named_kind dialect word.now }
 {
     if word == b"bool".as_slice() {
-        Some(Kind::Bool)
+        Some(bool_kind(dialect))
     } else if word == b"tristate".as_slice() {
         Some(Kind::Tristate)
     } else if word == b"string".as_slice() {
-        Some(Kind::Text)
+        Some(text_kind(dialect))
     } else if word == b"int".as_slice() {
         Some(Kind::Int)
     } else if word == b"hex".as_slice() {
@@ -136,11 +170,11 @@ fn named_kind(word: &[u8]) -> Option<Kind>
     }
 }
 
-fn valued_kind(word: &[u8]) -> Option<Kind>
-    ensures { result ≡ valued_kind word.now }
+fn valued_kind(dialect: Dialect, word: &[u8]) -> Option<Kind>
+    ensures { result ≡ valued_kind dialect word.now }
 {
     if word == b"def_bool".as_slice() {
-        Some(Kind::Bool)
+        Some(bool_kind(dialect))
     } else if word == b"def_tristate".as_slice() {
         Some(Kind::Tristate)
     } else {
@@ -149,17 +183,17 @@ fn valued_kind(word: &[u8]) -> Option<Kind>
 }
 
 #[tactic(auto, unfolding(crate::specs::Forms::kind_form))]
-fn kind_form<'a>(word: &[u8], rest: &[u8]) -> Form<'a>
-    ensures { seen_form result ≡ kind_form word.now rest.now }
+fn kind_form<'a>(dialect: Dialect, word: &[u8], rest: &[u8]) -> Form<'a>
+    ensures { seen_form result ≡ kind_form dialect word.now rest.now }
 {
-    if let Some(kind) = named_kind(word) {
+    if let Some(kind) = named_kind(dialect, word) {
         return if rest.is_empty() || is_prompt(rest) {
             Form::HasKind(kind)
         } else {
             Form::Unknown
         };
     }
-    match valued_kind(word) {
+    match valued_kind(dialect, word) {
         Some(kind) if is_one_word(rest) && is_state(next_word(rest).0) => Form::HasKind(kind),
         _ => Form::Unknown,
     }
@@ -180,9 +214,20 @@ fn title_form(rest: &[u8]) -> Form<'_>
     }
 }
 
+/// The entry of a name.
+fn entry_form<'a>(dialect: Dialect, name: &'a [u8]) -> Form<'a>
+    ensures { seen_form result ≡ entry_form dialect name.now }
+{
+    if has_modules(dialect) && name_is_legal(name) && name.ends_with(b"_MODULE") {
+        Form::ModuleEntry
+    } else {
+        Form::Entry(name)
+    }
+}
+
 #[tactic(auto, unfolding(crate::specs::Forms::word_form))]
-fn word_form<'a>(at_front: bool, word: &[u8], rest: &'a [u8]) -> Form<'a>
-    ensures { seen_form result ≡ word_form at_front word.now rest.now }
+fn word_form<'a>(dialect: Dialect, at_front: bool, word: &[u8], rest: &'a [u8]) -> Form<'a>
+    ensures { seen_form result ≡ word_form dialect at_front word.now rest.now }
 {
     if word == b"mainmenu".as_slice() {
         if at_front {
@@ -192,23 +237,23 @@ fn word_form<'a>(at_front: bool, word: &[u8], rest: &'a [u8]) -> Form<'a>
         }
     } else if word == b"config".as_slice() || word == b"menuconfig".as_slice() {
         if at_front && is_one_word(rest) {
-            Form::Entry(next_word(rest).0)
+            entry_form(dialect, next_word(rest).0)
         } else {
             Form::Unknown
         }
     } else {
-        kind_form(word, rest)
+        kind_form(dialect, word, rest)
     }
 }
 
 #[tactic(auto, unfolding(crate::specs::Forms::form))]
-pub(crate) fn form_of(line: &[u8]) -> Form<'_>
-    ensures { seen_form result ≡ form line.now }
+pub(crate) fn form_of<'a>(dialect: Dialect, line: &'a [u8]) -> Form<'a>
+    ensures { seen_form result ≡ form dialect line.now }
 {
     let text = skip_blanks(line);
     if text.is_empty() || text.starts_with(b"#") {
         return Form::Silent;
     }
     let (word, rest) = next_word(text);
-    word_form(text.len() == line.len(), word, rest)
+    word_form(dialect, text.len() == line.len(), word, rest)
 }

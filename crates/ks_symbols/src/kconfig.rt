@@ -9,13 +9,15 @@ ghost use Rattle.ks_symbols.specs.declared.error.SourceError.{SourceError};
 ghost use Rattle.ks_symbols.specs.Refusals.{RefusedBy, or_else};
 ghost use Rattle.ks_symbols.specs.Configuration.{HasSymbolNames};
 ghost use Rattle.ks_symbols.specs.Progress.{no_progress, waiting_fault, progress_after, step_fault, no_kinds, seen, first_kind, last_kind, first_clash, without_text};
+ghost use Rattle.ks_symbols.specs.Dialects.{read_in};
 ghost use Rattle.ks_symbols.specs.Forms.{form, Title, Entry, HasKind};
 ghost use Rattle.ks_symbols.specs.Titles.{is_title};
 ghost use Rattle.ks_symbols.specs.Kconfig.{clashes, declared, title_of, kconfig_refusal};
 
+use crate::dialect::{Dialect, Kconfig};
 use crate::error::SourceError;
 use crate::forms::{Form, form_of};
-use crate::kinds::Kind;
+use crate::kinds::{Kind, fits};
 use crate::limits::MAX_BYTES;
 use crate::names::name_is_legal;
 use crate::symbols::Symbols;
@@ -164,9 +166,6 @@ impl<'a> Reader<'a> {
         if !name_is_legal(name) {
             return Err(SourceError::BadName(number));
         }
-        if name.ends_with(b"_MODULE") {
-            return Err(SourceError::ModuleName(number));
-        }
         self.started = true;
         self.waiting = Some((number, name));
         Ok(())
@@ -181,17 +180,25 @@ impl<'a> Reader<'a> {
         let Some((_, name)) = self.waiting.take() else {
             return Err(SourceError::NotBare(number));
         };
+        if !fits(kind, name) {
+            return Err(SourceError::ModuleName(number));
+        }
         self.declared.push(Declaration { name, kind, number })?;
         Ok(())
     }
 
-    fn take_line(&mut self, number: u64, line: &'a [u8]) -> Result<(), SourceError>
-        ensures progress { OnOk result (self.new ≡ progress_after self.old number (form line.now)) }
-        ensures refusal { RefusedBy SourceError.OutOfMemory result (step_fault no_kinds self.old number (form line.now)) }
-        ensures memory { IsErrOf result SourceError.OutOfMemory → step_fault no_kinds self.old number (form line.now) ≡ None }
+    fn take_line(
+        &mut self,
+        dialect: Dialect,
+        number: u64,
+        line: &'a [u8],
+    ) -> Result<(), SourceError>
+        ensures progress { OnOk result (self.new ≡ progress_after self.old number (form dialect line.now)) }
+        ensures refusal { RefusedBy SourceError.OutOfMemory result (step_fault no_kinds self.old number (form dialect line.now)) }
+        ensures memory { IsErrOf result SourceError.OutOfMemory → step_fault no_kinds self.old number (form dialect line.now) ≡ None }
         ensures kept { OnErr result (self.new.declared ≡ self.old.declared) }
     {
-        match form_of(line) {
+        match form_of(dialect, line) {
             Form::Silent => Ok(()),
             Form::Title(title) => self.take_title(number, title),
             Form::Untitled => {
@@ -199,23 +206,27 @@ impl<'a> Reader<'a> {
                 Err(SourceError::BadTitle(number))
             }
             Form::Entry(name) => self.take_entry(number, name),
+            Form::ModuleEntry => {
+                self.check_waiting()?;
+                Err(SourceError::ModuleName(number))
+            }
             Form::HasKind(kind) => self.take_kind(number, kind),
             Form::Unknown => Err(SourceError::NotBare(number)),
         }
     }
 
     /// Takes the lines of a text, up to the first that is refused by itself, and not for the kind of its name.
-    fn take_lines(&mut self, text: &'a [u8]) -> Result<(), SourceError>
+    fn take_lines(&mut self, dialect: Dialect, text: &'a [u8]) -> Result<(), SourceError>
         requires start { self.old ≡ no_progress }
         requires small { length text.now ≤ 67108864 }
         ensures refusal { (other : Option SourceError) × RefusedBy SourceError.OutOfMemory result other
-            × (or_else (first_clash [] self.new.declared) other ≡ kconfig_refusal text.now) }
-        ensures kinds { OnOk result (first_clash [] self.new.declared ≡ None → (x : List ℕ) → last_kind self.new.declared x ≡ declared text.now x) }
-        ensures title { OnOk result (first_clash [] self.new.declared ≡ None → unwrap_or self.new.title (codes "Main menu") ≡ title_of text.now) }
+            × (or_else (first_clash [] self.new.declared) other ≡ kconfig_refusal (read_in dialect text.now)) }
+        ensures kinds { OnOk result (first_clash [] self.new.declared ≡ None → (x : List ℕ) → last_kind self.new.declared x ≡ declared (read_in dialect text.now) x) }
+        ensures title { OnOk result (first_clash [] self.new.declared ≡ None → unwrap_or self.new.title (codes "Main menu") ≡ title_of (read_in dialect text.now)) }
     {
         let mut number: u64 = 1;
         for line in text.lines() {
-            self.take_line(number, line)?;
+            self.take_line(dialect, number, line)?;
             number += 1;
         }
         self.check_waiting()
@@ -245,12 +256,12 @@ impl<'a> Reader<'a> {
     }
 }
 
-/// The symbols that a Kconfig text declares. Which line is the first with another kind than a name has is known only when all
-/// lines are read, and then told before the fault of any line after it.
-pub fn read_kconfig(alloc: Global, text: &[u8]) -> Result<Symbols, SourceError>
-    ensures kinds { IfOk result (λ s. (x : List ℕ) → map.get s.kinds x ≡ declared text.now x) }
-    ensures title { IfOk result (λ s. s.title ≡ title_of text.now) }
-    ensures refusal { RefusedBy SourceError.OutOfMemory result (kconfig_refusal text.now) }
+/// Which line is the first with another kind than a name has is known only when all lines are read, and then told before the fault of
+/// any line after it.
+fn read_text(alloc: Global, dialect: Dialect, text: &[u8]) -> Result<Symbols, SourceError>
+    ensures kinds { IfOk result (λ s. (x : List ℕ) → map.get s.kinds x ≡ declared (read_in dialect text.now) x) }
+    ensures title { IfOk result (λ s. s.title ≡ title_of (read_in dialect text.now)) }
+    ensures refusal { RefusedBy SourceError.OutOfMemory result (kconfig_refusal (read_in dialect text.now)) }
     ensures names { IfOk result (λ s. HasSymbolNames (map.get s.kinds)) }
     ensures titled { IfOk result (λ s. IsTrue (is_title s.title)) }
 {
@@ -258,7 +269,7 @@ pub fn read_kconfig(alloc: Global, text: &[u8]) -> Result<Symbols, SourceError>
         return Err(SourceError::TooLarge);
     }
     let mut reader = Reader::new(alloc);
-    let read = reader.take_lines(text);
+    let read = reader.take_lines(dialect, text);
     let kinds = reader.kinds(alloc)?;
     if let Some(number) = reader.clash(&kinds) {
         return Err(SourceError::TypeClash(number));
@@ -266,4 +277,16 @@ pub fn read_kconfig(alloc: Global, text: &[u8]) -> Result<Symbols, SourceError>
     read?;
     let title = reader.title(alloc)?;
     Ok(Symbols::new(kinds, title))
+}
+
+/// The symbols that a Kconfig declares.
+pub fn read_kconfig(alloc: Global, kconfig: &Kconfig<'_>) -> Result<Symbols, SourceError>
+    ensures kinds { IfOk result (λ s. (x : List ℕ) → map.get s.kinds x ≡ declared kconfig.now x) }
+    ensures title { IfOk result (λ s. s.title ≡ title_of kconfig.now) }
+    ensures refusal { RefusedBy SourceError.OutOfMemory result (kconfig_refusal kconfig.now) }
+    ensures names { IfOk result (λ s. HasSymbolNames (map.get s.kinds)) }
+    ensures titled { IfOk result (λ s. IsTrue (is_title s.title)) }
+{
+    let (dialect, text) = kconfig.parts();
+    read_text(alloc, dialect, text)
 }

@@ -1,11 +1,11 @@
-//! The five kinds of symbols, and which texts each may have.
+//! The kinds of symbols, and which texts each may have.
 //!
 //! As sym_string_valid of scripts/kconfig/symbol.c, but stricter on numbers: an empty one would define a
 //! macro with no value, and `007` would be another number to a C compiler.
 ghost use Rattle.std.specs.Prelude.{◌≡◌};
 ghost use Rattle.std.specs.List.{list_all};
 ghost use Rattle.std.specs.Char.{is_ascii_digit, is_ascii_hexdigit};
-ghost use Rattle.ks_symbols.specs.Kinds.{is_text, is_string_byte, is_numeral, is_integer, is_hexadecimal, is_off, class_of};
+ghost use Rattle.ks_symbols.specs.Kinds.{is_text, is_string_byte, is_numeral, is_integer, is_hexadecimal, is_raw, is_off, class_of, fits};
 
 /// The kind of a symbol.
 #[derive(Clone, Copy, Debug, PartialEq, Eq)]
@@ -20,6 +20,10 @@ pub enum Kind {
     Int,
     /// `hex`: hexadecimal digits, with or without `0x` or `0X`.
     Hex,
+    /// `string` in U-Boot and BusyBox: two quotes and any bytes but LF, CR and NUL between them, all of it as it is written.
+    Raw,
+    /// `bool` in BusyBox, whose macro begins with `ENABLE_`: y or n.
+    Flag,
 }
 
 /// What of a kind the header depends on: `bool` and `tristate` are one class.
@@ -33,6 +37,10 @@ pub enum Class {
     Int,
     /// `hex`.
     Hex,
+    /// `string` in U-Boot and BusyBox.
+    Raw,
+    /// `bool` in BusyBox.
+    Flag,
 }
 
 impl Kind {
@@ -44,6 +52,8 @@ impl Kind {
             Kind::Text => Class::Text,
             Kind::Int => Class::Int,
             Kind::Hex => Class::Hex,
+            Kind::Raw => Class::Raw,
+            Kind::Flag => Class::Flag,
         }
     }
 }
@@ -96,19 +106,37 @@ fn is_hexadecimal(text: &[u8]) -> bool
     !digits.is_empty() && all_hexdigits(digits)
 }
 
-/// Whether it is a text of the kind, without quotes and escapes.
+/// Whether the first and the last byte are quotes, and another than the first is the last.
+fn is_raw(text: &[u8]) -> bool
+    ensures { result ≡ is_raw text.now }
+{
+    text.len() > 1 && text.starts_with(b"\"") && text.ends_with(b"\"") && all_string_bytes(text)
+}
+
+/// Whether it is a text of the kind: that of a `string` has no quotes and escapes, where it isn't raw.
 #[tactic(auto, unfolding(crate::specs::Kinds::is_text))]
 pub fn value_is_valid(kind: Kind, text: &[u8]) -> bool
     ensures { result ≡ is_text kind text.now }
 {
     match kind {
-        Kind::Bool => text == b"y".as_slice() || text == b"n".as_slice(),
+        Kind::Bool | Kind::Flag => text == b"y".as_slice() || text == b"n".as_slice(),
         Kind::Tristate => text == b"y".as_slice()
             || text == b"m".as_slice()
             || text == b"n".as_slice(),
         Kind::Text => all_string_bytes(text),
         Kind::Int => is_integer(text),
         Kind::Hex => is_hexadecimal(text),
+        Kind::Raw => is_raw(text),
+    }
+}
+
+/// Whether a symbol of the kind may have a legal name: where the name ends in `_MODULE`, that of a module's macro is kept free.
+pub(crate) fn fits(kind: Kind, name: &[u8]) -> bool
+    ensures { result ≡ fits kind name.now }
+{
+    match kind {
+        Kind::Flag => true,
+        _ => !name.ends_with(b"_MODULE"),
     }
 }
 
@@ -117,7 +145,7 @@ pub(crate) fn is_off(kind: Kind, text: &[u8]) -> bool
     ensures { result ≡ is_off kind text.now }
 {
     match kind {
-        Kind::Bool | Kind::Tristate => text == b"n".as_slice(),
+        Kind::Bool | Kind::Tristate | Kind::Flag => text == b"n".as_slice(),
         _ => false,
     }
 }

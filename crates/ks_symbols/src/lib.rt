@@ -2,6 +2,7 @@
 #![tactic(auto)]
 
 mod decimal;
+mod dialect;
 mod dotconfig;
 mod error;
 mod forms;
@@ -18,6 +19,7 @@ mod titles;
 mod values;
 
 pub use decimal::{decimals_read_back, read_decimal, write_decimal};
+pub use dialect::{Dialect, Kconfig};
 pub use dotconfig::{draft_settings, read_dotconfig};
 pub use error::SourceError;
 pub use kconfig::read_kconfig;

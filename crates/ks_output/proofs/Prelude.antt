@@ -37,7 +37,8 @@ unfoldable pub use Rattle.ks_symbols.specs.Kinds.{is_text}
 pub use Rattle.ks_symbols.specs.Lines.{max_bytes}
 unfoldable pub use Rattle.ks_symbols.specs.Lines.{lines}
 pub use Rattle.ks_symbols.specs.Names.{is_word_byte, without_module, module_end}
-unfoldable pub use Rattle.ks_symbols.specs.Names.{is_name, is_symbol_name}
+unfoldable pub use Rattle.ks_symbols.specs.Kinds.{is_symbol_name}
+unfoldable pub use Rattle.ks_symbols.specs.Names.{is_name}
 pub use Rattle.ks_symbols.specs.Statements.{Assigns, Says, Statement, Unsets, is_silent}
 unfoldable pub use Rattle.ks_symbols.specs.Statements.{assignment, statement, unsetting}
 pub use Rattle.ks_symbols.specs.Titles.{is_title_byte}
@@ -52,10 +53,10 @@ pub use Rattle.ks_output.specs.AutoLines.{Faulty, Gives, Marks, Mistypes, Number
 unfoldable pub use Rattle.ks_output.specs.AutoLines.{class_remark, said_by}
 pub use Rattle.ks_output.specs.AutoText.{class_line, entry_line, entry_lines, generation_line, heading}
 unfoldable pub use Rattle.ks_output.specs.AutoText.{auto_text}
-pub use Rattle.ks_output.specs.Definitions.{Defines, defines, without_lf}
+pub use Rattle.ks_output.specs.Definitions.{Defines, DefinesMacro, defines, defines_macro, run_of, without_lf}
 unfoldable pub use Rattle.ks_output.specs.Definitions.{definitions, lf_lines}
 pub use Rattle.ks_output.specs.Examples.{DefinitionLines, EntryLines, FaultsFound, FilesOfSwitches, LinesRead, MacrosRead}
-pub use Rattle.ks_output.specs.Header.{defined_as, definition_lines, has_radix, header_heading, switch_value}
+pub use Rattle.ks_output.specs.Header.{defined_as, definition_lines, front, has_radix, header_heading, switch_value}
 unfoldable pub use Rattle.ks_output.specs.Header.{header_text}
 pub use Rattle.ks_output.specs.HeaderLaws.{AlikeIsDefinedAlike, DefinitionsAreLines, DefinitionsAreOfEntries, definition_of}
 pub use Rattle.ks_output.specs.Laws.{GenerationFits, GenerationReadsBack, HasNoFault, IsAccepted, LastLineCounts, TextsAreOfEntries, TextsHaveNames, TextsReadBack, UntypedHasNoClass, beginning}

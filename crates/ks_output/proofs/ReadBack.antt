@@ -104,6 +104,8 @@ class_remarks name rest class.Switch h = refl
 class_remarks name rest class.Text h = types_one name (codes "string") rest class.Text h refl refl
 class_remarks name rest class.Int h = types_one name (codes "int") rest class.Int h refl refl
 class_remarks name rest class.Hex h = types_one name (codes "hex") rest class.Hex h refl refl
+class_remarks name rest class.Raw h = types_one name (codes "raw") rest class.Raw h refl refl
+class_remarks name rest class.Flag h = types_one name (codes "flag") rest class.Flag h refl refl
 
 abbrev Written : List ℕ → Kind × List ℕ → Type 0
 Written name s = (is_name name ≡ true) × (is_plain s.1 ≡ true)
@@ -178,6 +180,8 @@ entry_fault x t class.Switch later n h = fault_on (Gives x t) later n refl ∙ h
 entry_fault x t class.Text later n h = class_followed x t class.Text later n ∙ h (n + 1 + 1)
 entry_fault x t class.Int later n h = class_followed x t class.Int later n ∙ h (n + 1 + 1)
 entry_fault x t class.Hex later n h = class_followed x t class.Hex later n ∙ h (n + 1 + 1)
+entry_fault x t class.Raw later n h = class_followed x t class.Raw later n ∙ h (n + 1 + 1)
+entry_fault x t class.Flag later n h = class_followed x t class.Flag later n ∙ h (n + 1 + 1)
 
 body_fault : (es : List (List ℕ × (Kind × List ℕ))) (g n : ℕ) → first_faulty n (body es g) ≡ None
 unfolding body gives_all first_faulty

@@ -23,11 +23,11 @@ pub entry_after : (o : Option (Kind × List ℕ)) (t : Option Class × List ℕ)
 entry_after None t e = absurd (cc e)
 entry_after (Some s) t e = (s, refl)
 
-pub name_of_symbol : (x : List ℕ) → IsTrue (is_symbol_name x) → IsTrue (is_name x)
+pub name_of_symbol : (k : Kind) (x : List ℕ) → IsTrue (is_symbol_name k x) → IsTrue (is_name x)
 unfolding is_symbol_name
-name_of_symbol x h = (and_parts _ _ h).0
+name_of_symbol k x h = (and_parts _ _ h).0
 
 pub texts_have_names : TextsHaveNames
 texts_have_names settings h x t e =
     let entry = entry_after (map.get settings x) t (sym (texts_are_of_entries settings x) ∙ e) in
-    name_of_symbol x (h x entry.0 entry.1).named
+    name_of_symbol _ x (h x entry.0 entry.1).named

@@ -14,18 +14,18 @@ files_of_switches settings e = (
 )
 
 pub definition_lines_are : DefinitionLines
-definition_lines_are = (refl, refl, refl, refl, refl, refl, refl)
+definition_lines_are = (refl, refl, refl, refl, refl, refl, refl, refl, refl)
 
 pub entry_lines_are : EntryLines
-entry_lines_are = (refl, refl, refl, refl)
+entry_lines_are = (refl, refl, refl, refl, refl, refl)
 
 pub lines_read : LinesRead
 unfolding said_by class_remark statement assignment unsetting is_name
-lines_read = (refl, refl, refl, refl, refl, refl, refl, refl, refl, refl, refl, refl, refl, refl, refl)
+lines_read = (refl, refl, refl, refl, refl, refl, refl, refl, refl, refl, refl, refl, refl, refl, refl, refl, refl)
 
 pub faults_found : FaultsFound
 unfolding is_typed heard first_faulty
 faults_found = (refl, refl, refl, refl, refl, refl)
 
 pub macros_read : MacrosRead
-macros_read = (refl, refl, refl, refl, refl, refl)
+macros_read = (refl, refl, refl, refl, refl, refl, refl, refl)

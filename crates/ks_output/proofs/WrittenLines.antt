@@ -152,3 +152,5 @@ plain_text kind.Tristate text e =
 plain_text kind.Text text e = e
 plain_text kind.Int text e = plain_integer text e
 plain_text kind.Hex text e = plain_hexadecimal text e
+plain_text kind.Raw text e = (and_parts _ _ e).1
+plain_text kind.Flag text e = ⊎_elim (literal text (codes "y") refl) (literal text (codes "n") refl) (or_cases _ _ e)

@@ -54,7 +54,9 @@ abbrev pub spelled_class : List ℕ → Option Class
 spelled_class following =
     if bytes_eq following (class_end class.Text) then Some class.Text
     else (if bytes_eq following (class_end class.Int) then Some class.Int
-    else (if bytes_eq following (class_end class.Hex) then Some class.Hex else None))
+    else (if bytes_eq following (class_end class.Hex) then Some class.Hex
+    else (if bytes_eq following (class_end class.Raw) then Some class.Raw
+    else (if bytes_eq following (class_end class.Flag) then Some class.Flag else None))))
 
 abbrev pub classed : List ℕ → Option Class → Remark
 classed name (Some k) = Types name k

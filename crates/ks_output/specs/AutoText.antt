@@ -18,6 +18,8 @@ class_end class.Switch = []
 class_end class.Text = codes " string"
 class_end class.Int = codes " int"
 class_end class.Hex = codes " hex"
+class_end class.Raw = codes " raw"
+class_end class.Flag = codes " flag"
 
 -- the class of the entry after it; a bool or tristate goes without such a line
 abbrev pub class_line : List ℕ → Class → List ℕ

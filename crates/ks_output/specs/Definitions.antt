@@ -1,5 +1,5 @@
--- What any text of C says of a name: the lines that define its macro, or that of its module. It knows bytes alone.
-use Rattle.std.specs.Prelude.{◌≡◌, ℕ, ◌-◌, Bool, ◌&&◌, nat_eq, List, ◌++◌, length, take, drop, codes, bytes_eq, take_while, map as map_list, filter, IsTrue, if◌then◌else◌}
+-- What any text of C says of a name: the lines that define one of its macros, or that of its module. It knows bytes alone.
+use Rattle.std.specs.Prelude.{◌≡◌, ◌⊎◌, ℕ, ◌-◌, Bool, ◌&&◌, ◌||◌, nat_eq, List, ◌++◌, length, take, drop, codes, bytes_eq, take_while, map as map_list, filter, IsTrue, if◌then◌else◌}
 use Rattle.std.specs.List.{starts_with, ends_with, list_all}
 use Rattle.bstr.specs.Text.{lines_of}
 use Rattle.ks_symbols.specs.Names.{is_word_byte, without_module}
@@ -12,20 +12,29 @@ without_lf line = if ends_with nat_eq line (codes "\n") then take (length line -
 unfoldable pub lf_lines : List ℕ → List (List ℕ)
 lf_lines text = map_list without_lf (lines_of text)
 
--- A line defines a name: its macro, less one final _MODULE, is CONFIG_ and the name.
-pub record Defines (name line : List ℕ) : Type 0 where
-  pub run : List ℕ
+-- A line defines the macro that such a beginning and a run of word bytes are.
+pub record DefinesMacro (front run line : List ℕ) : Type 0 where
   pub value : List ℕ
   pub word : IsTrue (list_all is_word_byte run)
-  pub spelled : line ≡ codes "#define CONFIG_" ++ run ++ codes " " ++ value
-  pub named : without_module run ≡ name
+  pub spelled : line ≡ front ++ run ++ codes " " ++ value
 
--- The same as a test
+-- A line defines a name: its macro, less one final _MODULE, is CONFIG_ and the name; or it is ENABLE_ and the name.
+abbrev pub Defines : List ℕ → List ℕ → Type 0
+Defines name line =
+    ((run : List ℕ) × DefinesMacro (codes "#define CONFIG_") run line × (without_module run ≡ name)) ⊎ DefinesMacro (codes "#define ENABLE_") name line
+
+-- The same as a test: of what a line gives the macros of a beginning, which takes 15 bytes, ..
+abbrev pub run_of : List ℕ → List ℕ
+run_of line = take_while is_word_byte (drop 15 line)
+
+abbrev pub defines_macro : List ℕ → List ℕ → Bool
+defines_macro front line = starts_with nat_eq line front && starts_with nat_eq (drop (length (run_of line)) (drop 15 line)) (codes " ")
+
+-- .. and of both beginnings
 abbrev pub defines : List ℕ → List ℕ → Bool
 defines name line =
-    let rest = drop 15 line in
-    let run = take_while is_word_byte rest in
-    starts_with nat_eq line (codes "#define CONFIG_") && starts_with nat_eq (drop (length run) rest) (codes " ") && bytes_eq (without_module run) name
+    (defines_macro (codes "#define ENABLE_") line && bytes_eq (run_of line) name)
+    || (defines_macro (codes "#define CONFIG_") line && bytes_eq (without_module (run_of line)) name)
 
 -- The definitions of a name in a text, in their order
 unfoldable pub definitions : List ℕ → List ℕ → List (List ℕ)

@@ -26,6 +26,8 @@ EntryLines =
     × (entry_lines ((codes "H", (kind.Hex, codes "10")) ∷ []) ≡ codes "#type H hex\nCONFIG_H=10\n")
     × (entry_lines ((codes "I", (kind.Int, codes "10")) ∷ []) ≡ codes "#type I int\nCONFIG_I=10\n")
     × (entry_lines ((codes "B", (kind.Tristate, codes "m")) ∷ []) ≡ codes "CONFIG_B=m\n")
+    × (entry_lines ((codes "F", (kind.Flag, codes "y")) ∷ []) ≡ codes "#type F flag\nCONFIG_F=y\n")
+    × (entry_lines ((codes "R", (kind.Raw, codes "\"a\\b\"")) ∷ []) ≡ codes "#type R raw\nCONFIG_R=\"a\\b\"\n")
 
 -- strings are quoted in the header, and numbers stand as they were written
 abbrev pub DefinitionLines : Type 0
@@ -37,6 +39,8 @@ DefinitionLines =
     × (definition_line (codes "H") kind.Hex (codes "0x1f") ≡ codes "#define CONFIG_H 0x1f\n")
     × (definition_line (codes "H") kind.Hex (codes "0X1F") ≡ codes "#define CONFIG_H 0X1F\n")
     × (definition_line (codes "I") kind.Int (codes "-12") ≡ codes "#define CONFIG_I -12\n")
+    × (definition_line (codes "F_MODULE") kind.Flag (codes "y") ≡ codes "#define ENABLE_F_MODULE 1\n")
+    × (definition_line (codes "R") kind.Raw (codes "\"a\\b\"") ≡ codes "#define CONFIG_R \"a\\b\"\n")
 
 -- lines of an auto.conf
 abbrev pub LinesRead : Type 0
@@ -53,6 +57,8 @@ LinesRead =
     × (remark (codes "#typed \n") ≡ Silent)
     × (remark (codes "#type S string\n") ≡ Types (codes "S") class.Text)
     × (remark (codes "#type H hex") ≡ Types (codes "H") class.Hex)
+    × (remark (codes "#type F flag\n") ≡ Types (codes "F") class.Flag)
+    × (remark (codes "#type R raw\n") ≡ Types (codes "R") class.Raw)
     × (remark (codes "#type S bool\n") ≡ Mistypes)
     × (remark (codes "#type  string\n") ≡ Mistypes)
     × (remark (codes "#type\n") ≡ Silent)
@@ -75,4 +81,6 @@ MacrosRead =
     × (defines (codes "B_MODULE") (codes "#define CONFIG_B_MODULE 1") ≡ false)
     × (defines (codes "C_MODULE") (codes "#define CONFIG_C_MODULE_MODULE 1") ≡ true)
     × (defines (codes "B") (codes "#define CONFIG_BB 1") ≡ false)
+    × (defines (codes "B_MODULE") (codes "#define ENABLE_B_MODULE 1") ≡ true)
+    × (defines (codes "B") (codes "#define ENABLE_B_MODULE 1") ≡ false)
     × (defines (codes "B") (codes "#define CONFIG_B") ≡ false)

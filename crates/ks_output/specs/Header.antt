@@ -19,16 +19,23 @@ has_radix text = starts_with nat_eq text (codes "0x") || starts_with nat_eq text
 abbrev pub switch_value : List ℕ → List ℕ
 switch_value text = if bytes_eq text (codes "m") then module_end ++ codes " 1" else codes " 1"
 
--- what stands after `#define CONFIG_` and the name: the end of the macro's name, a space and its value
+-- what stands in front of the name: BusyBox has a macro ENABLE_N for a bool that is on (its scripts/kconfig/confdata.c)
+abbrev pub front : Kind → List ℕ
+front kind.Flag = codes "#define ENABLE_"
+front k = codes "#define CONFIG_"
+
+-- what stands after the name: the end of the macro's name, a space and its value
 abbrev pub defined_as : Kind → List ℕ → List ℕ
 defined_as kind.Bool text = switch_value text
 defined_as kind.Tristate text = switch_value text
 defined_as kind.Text text = codes " " ++ quoted text
 defined_as kind.Int text = codes " " ++ text
 defined_as kind.Hex text = codes " " ++ (if has_radix text then [] else codes "0x") ++ text
+defined_as kind.Raw text = codes " " ++ text
+defined_as kind.Flag text = codes " 1"
 
 abbrev pub definition_line : List ℕ → Kind → List ℕ → List ℕ
-definition_line name k text = codes "#define CONFIG_" ++ name ++ defined_as k text ++ codes "\n"
+definition_line name k text = front k ++ name ++ defined_as k text ++ codes "\n"
 
 abbrev pub definition_lines : List (List ℕ × (Kind × List ℕ)) → List ℕ
 definition_lines entries = flat_map (λ e. definition_line e.0 e.1.0 e.1.1) entries

@@ -1,11 +1,11 @@
 -- Laws of the header: it defines each name by its entry alone.
-use Rattle.std.specs.Prelude.{◌≡◌, ◌↔◌, ℕ, true, List, [], ◌∷◌, ◌++◌, codes, Option, Some, None, IsTrue}
+use Rattle.std.specs.Prelude.{◌≡◌, ◌↔◌, ℕ, true, List, [], ◌∷◌, ◌++◌, Option, Some, None, IsTrue}
 use Rattle.std.specs.FinMap as map
 use Rattle.ks_symbols.specs.declared.kinds.Kind.{Kind}
 use Rattle.ks_symbols.specs.Titles.{is_title}
 use Rattle.ks_symbols.specs.Configuration.{IsConfiguration, Configuration}
 use Rattle.ks_output.specs.OldConfig.{texts_of}
-use Rattle.ks_output.specs.Header.{header_text, defined_as}
+use Rattle.ks_output.specs.Header.{header_text, defined_as, front}
 use Rattle.ks_output.specs.Definitions.{Defines, defines, definitions}
 
 -- The test of a line finds what the relation says.
@@ -15,7 +15,7 @@ DefinitionsAreLines = (name line : List ℕ) → (defines name line ≡ true) �
 -- the definition that an entry has, if there is one
 abbrev pub definition_of : List ℕ → Option (Kind × List ℕ) → List (List ℕ)
 definition_of name None = []
-definition_of name (Some s) = (codes "#define CONFIG_" ++ name ++ defined_as s.0 s.1) ∷ []
+definition_of name (Some s) = (front s.0 ++ name ++ defined_as s.0 s.1) ∷ []
 
 -- The header defines each name by its entry alone.
 abbrev pub DefinitionsAreOfEntries : Type 0

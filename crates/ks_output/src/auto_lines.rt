@@ -53,6 +53,10 @@ fn spelled_class(following: &[u8]) -> Option<Class>
         Some(Class::Int)
     } else if following == b" hex".as_slice() {
         Some(Class::Hex)
+    } else if following == b" raw".as_slice() {
+        Some(Class::Raw)
+    } else if following == b" flag".as_slice() {
+        Some(Class::Flag)
     } else {
         None
     }

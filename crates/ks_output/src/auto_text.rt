@@ -37,6 +37,8 @@ fn append_class(name: &[u8], class: Class, out: &mut Vec<u8>) -> Result<(), Allo
         Class::Text => append_all(&[b"#type ", name, b" string\n"], out),
         Class::Int => append_all(&[b"#type ", name, b" int\n"], out),
         Class::Hex => append_all(&[b"#type ", name, b" hex\n"], out),
+        Class::Raw => append_all(&[b"#type ", name, b" raw\n"], out),
+        Class::Flag => append_all(&[b"#type ", name, b" flag\n"], out),
     }
 }
 
@@ -74,6 +76,8 @@ fn class_len(name: &[u8], class: Class) -> usize
         Class::Text => b"#type  string\n".len() + name.len(),
         Class::Int => b"#type  int\n".len() + name.len(),
         Class::Hex => b"#type  hex\n".len() + name.len(),
+        Class::Raw => b"#type  raw\n".len() + name.len(),
+        Class::Flag => b"#type  flag\n".len() + name.len(),
     }
 }
 

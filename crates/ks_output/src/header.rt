@@ -1,13 +1,13 @@
 //! The C header `include/generated/autoconf.h`: a macro for each symbol that has a value.
 //!
 //! It is what an object is compiled with, so the staleness of objects rests on it: the definitions of a name depend
-//! on that name's entry alone. The forms are those of print_symbol_for_c in scripts/kconfig/confdata.c. That the
-//! names rise is a rule of this project.
+//! on that name's entry alone. The forms are those of print_symbol_for_c in scripts/kconfig/confdata.c, and for a bool of
+//! BusyBox one of those that its conf writes. That the names rise is a rule of this project.
 ghost use Rattle.std.specs.Prelude.{◌≡◌, ◌≤◌, ◌++◌, OnOk, OnErr};
 ghost use Rattle.ks_symbols.specs.Values.{quoted};
 ghost use Rattle.ks_output.specs.Appending.{Keeps, definitions_room};
 ghost use Rattle.std.specs.FinMap as map;
-ghost use Rattle.ks_output.specs.Header.{header_text, header_heading, definition_line, defined_as};
+ghost use Rattle.ks_output.specs.Header.{header_text, header_heading, definition_line, defined_as, front};
 
 use crate::appending::append_all;
 use ks_symbols::{Class, Kind, Settings};
@@ -45,6 +45,16 @@ pub fn write_quoted(text: &[u8], out: &mut Vec<u8>) -> Result<(), AllocError>
     Ok(())
 }
 
+/// What stands in front of the name in a definition.
+fn front(kind: Kind) -> &'static [u8]
+    ensures { result.now ≡ front kind }
+{
+    match kind {
+        Kind::Flag => b"#define ENABLE_",
+        _ => b"#define CONFIG_",
+    }
+}
+
 /// Appends what stands after the name in a definition.
 fn append_value(kind: Kind, text: &[u8], out: &mut Vec<u8>) -> Result<(), AllocError>
     ensures written { OnOk result (out.new.items ≡ out.old.items ++ defined_as kind text.now) }
@@ -59,7 +69,8 @@ fn append_value(kind: Kind, text: &[u8], out: &mut Vec<u8>) -> Result<(), AllocE
             out.extend_from_slice(b" ")?;
             write_quoted(text, out)
         }
-        Kind::Int => append_all(&[b" ", text], out),
+        Kind::Int | Kind::Raw => append_all(&[b" ", text], out),
+        Kind::Flag => out.extend_from_slice(b" 1"),
         Kind::Hex => {
             let has_radix = text.starts_with(b"0x") || text.starts_with(b"0X");
             out.extend_from_slice(if has_radix { b" " } else { b" 0x" })?;
@@ -78,7 +89,7 @@ fn append_definition(
     ensures written { OnOk result (out.new.items ≡ out.old.items ++ definition_line name.now kind text.now) }
     ensures kept { Keeps out.old.items out.new.items }
 {
-    out.extend_from_slice(b"#define CONFIG_")?;
+    out.extend_from_slice(front(kind))?;
     out.extend_from_slice(name)?;
     append_value(kind, text, out)?;
     out.extend_from_slice(b"\n")?;
@@ -92,8 +103,9 @@ fn definitions_room(settings: &Settings) -> usize
     let mut room: usize = 0;
     for (name, kind, text) in settings.entries() {
         let rest = match kind.class() {
-            Class::Switch => b"#define CONFIG__MODULE 1\n".len(),
-            Class::Text | Class::Int | Class::Hex => b"#define CONFIG_ \"\"\n".len() + text.len(),
+            Class::Switch | Class::Flag => b"#define CONFIG__MODULE 1\n".len(),
+            Class::Text | Class::Int | Class::Hex | Class::Raw => b"#define CONFIG_ \"\"\n".len()
+                + text.len(),
         };
         room = room.saturating_add(name.len()).saturating_add(rest);
     }

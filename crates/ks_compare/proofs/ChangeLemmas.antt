@@ -1,10 +1,11 @@
 -- Laws of the changes.
-use Rattle.ks_compare.proofs.Prelude.{order, ◌≡◌, ◌↔◌, ℕ, true, false, not, ◌||◌, ◌&&◌, List, [], ◌∷◌, bytes_eq, Option, Some, None, option_map, IsTrue, refl, sym, ap, subst, ◌∙◌, inl, inr, cases_Bool, false≢true, eq-eqb, eqb-true, and_parts, not-false, is_eq, tied_itself, nat_list_cmp_total, bytes_decides, Less, Equal, Greater, IsStrictlySortedBy, Class, class_number, numbered_class, class_again, is_name, is_in, name_of_symbol, texts_of, tied, texts_are_of_entries, alike_is_defined_alike, compared, same_class, unlike, differ, ChangesExist, ChangesAreOne, ChangesAreLegal, FirstChangesAreNames, NothingChanges, UnchangedIsKept, UnchangedIsDefinedAlike}
+use Rattle.ks_compare.proofs.Prelude.{order, ◌≡◌, ◌↔◌, ℕ, true, false, not, ◌||◌, ◌&&◌, List, [], ◌∷◌, bytes_eq, Option, Some, None, option_map, IsTrue, refl, sym, ap, subst, ◌∙◌, inl, inr, cases_Bool, false≢true, eq-eqb, eqb-true, and_parts, not-false, is_eq, tied_itself, nat_list_cmp_total, bytes_decides, Less, Equal, Greater, IsStrictlySortedBy, Class, class_number, numbered_class, class_again, is_name, is_in, name_of_symbol, texts_of, tied, texts_are_of_entries, alike_is_defined_alike, Kind, compared, same_class, unlike, differ, ChangesExist, ChangesAreOne, ChangesAreLegal, FirstChangesAreNames, NothingChanges, UnchangedIsKept, UnchangedIsDefinedAlike}
+use Rattle.std.proofs.Common.{map-id}
 use Rattle.std.specs.FinMap as map
-use Rattle.ks_compare.proofs.Merge.{Above, merged, merged_changes, first_names, here_test, turned, legal_differ}
+use Rattle.ks_compare.proofs.Merge.{Above, merged_changes, first_names, here_test, turned}
 
 pub changes_exist : ChangesExist
-changes_exist old new = (merged (map.entries old) (map.entries new), merged_changes old new)
+changes_exist old new = (_, merged_changes (λ e. e) (λ y. y) old new (map.entries old) (map.entries new) (map-id _) (map-id _))
 
 -- a name below all of a list is not in it
 not_in : (x : List ℕ) (names : List (List ℕ)) → Above x names → is_in names x ≡ false
@@ -54,9 +55,15 @@ rising_one (x ∷ a) (y ∷ b) h g same =
 pub changes_are_one : ChangesAreOne
 changes_are_one old new names others h g = rising_one names others h.rising g.rising (λ x. h.each x ∙ sym (g.each x))
 
+legal_differ : (o : Option (Option Class × List ℕ)) (s : Option (Kind × List ℕ)) (P : Type 0) → ((t : Option Class × List ℕ) → o ≡ Some t → P)
+    → ((t : Kind × List ℕ) → s ≡ Some t → P) → differ o (option_map compared s) ≡ true → P
+legal_differ None None P f g e = absurd (false≢true e)
+legal_differ (Some t) s P f g e = f t refl
+legal_differ None (Some t) P f g e = g t refl
+
 pub changes_are_legal : ChangesAreLegal
 changes_are_legal old new names h g are x e =
-    legal_differ (map.get old x) (map.get new x) (IsTrue (is_name x)) (λ t is. h x t is) (λ s is. name_of_symbol x (g x s is).named) (sym (are.each x) ∙ e)
+    legal_differ (map.get old x) (map.get new x) (IsTrue (is_name x)) (λ t is. h x t is) (λ s is. name_of_symbol _ x (g x s is).named) (sym (are.each x) ∙ e)
 
 pub first_changes_are_names : FirstChangesAreNames
 first_changes_are_names settings = first_names settings

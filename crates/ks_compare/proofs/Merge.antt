@@ -1,241 +1,187 @@
 -- The names that differ between two lists of entries, each in rising order, by one pass over both.
-use Rattle.ks_compare.proofs.Prelude.{order, first, second, is_less, two, name_of_symbol, ◌≡◌, ℕ, Bool, true, false, cond, ◌||◌, T, IsTrue, List, [], ◌∷◌, bytes_eq, Option, Some, None, option_map, refl, sym, ap, subst, ◌∙◌, cases_Bool, cond-true, cond-false, false≢true, or_right, inl, inr, is_lt, is_eq, ordering_reverse, tied_itself, nat_list_cmp_total, Ordering, Less, Equal, Greater, find, is_sorted, below_all, AllByRecursion, IsStrictlySortedBy, is_eq-slice_cmp, Kind, Class, IsConfiguration, Configuration, find_below, tied, is_name, is_in, Texts, HasNames, NewList, OldList, by_order, names_from, names_of_both, with_first, TakesFirst, compared, unlike, differ, AreChanges}
-use Rattle.std.proofs.Common.{map as map_list}
+use Rattle.ks_compare.proofs.Prelude.{order, first, second, is_less, two, ◌≡◌, ℕ, Bool, true, false, cond, ◌||◌, T, List, [], ◌∷◌, ◌++◌, bytes_eq, Option, Some, None, option_map, refl, sym, ap, ap₂, subst, ◌∙◌, cases_Bool, cond-true, cond-false, inl, inr, is_lt, is_eq, ordering_reverse, nat_list_cmp_total, Ordering, Less, Equal, Greater, find, is_sorted, below_all, AllByRecursion, AllEntries, IsStrictlySortedBy, is_eq-slice_cmp, Kind, Class, Configuration, find_below, tied, is_in, Texts, TakesFirst, compared, unlike, differ, AreChanges, changed_name, OldItem, NewItem, EitherOrBoth, Left, Right, Both, map_any, merge_join_by, merge_join_by-nil, by_ordering, cons_option, filter_map}
+use Rattle.std.proofs.Common.{map as map_list, map-id}
+use Rattle.std.proofs.iter.runs.Made.{took}
+use Rattle.std.proofs.lemmas.List.{nil_from_length}
+use Rattle.std.proofs.lemmas.Map.Iter.{rest_so_far}
 use Rattle.std.specs.FinMap as map
+use Rattle.std.specs.Iterator.Runs.{Run}
 
--- the names that differ
-pub differing : List (List ℕ × Bool) → List (List ℕ)
-differing [] = []
-differing (n ∷ ns) = cond n.1 (n.0 ∷ differing ns) (differing ns)
-
-pub differing-none : differing [] ≡ []
-unfolding differing
-differing-none = refl
-
-pub differing-step : (l rest : List (List ℕ × Bool)) (n : List ℕ × Bool) (d : Bool) → l ≡ n ∷ rest → n.1 ≡ d
-    → differing l ≡ cond d (n.0 ∷ differing rest) (differing rest)
-unfolding differing
-differing-step l rest n d is e = ap differing is ∙ ap (λ b. cond b (n.0 ∷ differing rest) (differing rest)) e
-
-abbrev pub merged : OldList → NewList → List (List ℕ)
-merged xs ys = differing (names_of_both xs ys)
-
--- what each step of the pass does
-module _ (e : List ℕ × (Option Class × List ℕ)) (y : List ℕ × (Kind × List ℕ)) (xs : OldList) (ys : NewList) where
-  abbrev stepped : Ordering → List (List ℕ × Bool)
-  stepped o = by_order o ((e.0, true) ∷ names_of_both xs (y ∷ ys)) ((e.0, unlike e.1 (compared y.1)) ∷ names_of_both xs ys)
-      ((y.0, true) ∷ names_of_both (e ∷ xs) ys)
-
-  pub names-stepped : (o : Ordering) → order e.0 y.0 ≡ o → names_of_both (e ∷ xs) (y ∷ ys) ≡ stepped o
-  unfolding names_of_both names_from
-  names-stepped o is = ap stepped is
-
-  merged-stepped : (o : Ordering) → order e.0 y.0 ≡ o → merged (e ∷ xs) (y ∷ ys) ≡ differing (stepped o)
-  merged-stepped o is = ap differing (names-stepped o is)
-
-pub names-old : (e : List ℕ × (Option Class × List ℕ)) (xs : OldList) → names_of_both (e ∷ xs) [] ≡ (e.0, true) ∷ names_of_both xs []
-unfolding names_of_both names_from
-names-old e xs = refl
-
-pub names-new : (y : List ℕ × (Kind × List ℕ)) (ys : NewList) → names_of_both [] (y ∷ ys) ≡ (y.0, true) ∷ names_of_both [] ys
-unfolding names_of_both
-names-new y ys = refl
-
-pub names-none : names_of_both [] [] ≡ []
-unfolding names_of_both
-names-none = refl
-
--- what was left of a list is what is in hand of it and what is left now
-pub first-is : {A X : Type 0} (shows : A → X) (s : List X) (r : Option A) (t : List X) → TakesFirst shows s r t → s ≡ with_first (option_map shows r) t
-first-is shows s None t takes = takes.0
-first-is shows s (Some x) t takes = takes
-
--- what the names are
 abbrev pub Above : List ℕ → List (List ℕ) → Type 0
 Above z names = AllByRecursion (λ n. order z n ≡ Less) names
 
-record Good (xs : OldList) (ys : NewList) (names : List (List ℕ)) : Type 0 where
-  low : (z : List ℕ) → T (below_all order z xs) → T (below_all order z ys) → Above z names
-  rising : IsStrictlySortedBy order names
-  each : (x : List ℕ) → is_in names x ≡ differ (find order x xs) (option_map compared (find order x ys))
+pub here_test : (x k : List ℕ) → is_eq (order x k) ≡ bytes_eq x k
+here_test x k = is_eq-slice_cmp x k
+
+pub turned : (x y : List ℕ) → order x y ≡ Greater → order y x ≡ Less
+turned x y e = nat_list_cmp_total.antisymm y x ∙ ap ordering_reverse e
 
 less : (o : Ordering) → T (is_lt o) → o ≡ Less
 less Less p = refl
 less Equal p = absurd p
 less Greater p = absurd p
 
--- a name below the first of a rising list is below all
 below_more : {X : Type 0} (z k : List ℕ) (es : List (List ℕ × X)) → order z k ≡ Less → T (below_all order k es) → T (below_all order z es)
 below_more z k [] p h = tt
 below_more z k (e ∷ es) p h =
     two _ _ (is_less _ (nat_list_cmp_total.trans z k e.0 p (less _ (first _ _ h)))) (below_more z k es p (second _ _ h))
 
-pub here_test : (x k : List ℕ) → is_eq (order x k) ≡ bytes_eq x k
-here_test x k = is_eq-slice_cmp x k
+-- a name below the first of a rising list is below all of it
+abbrev Ahead : {X : Type 0} → List ℕ → List (List ℕ × X) → Type 0
+Ahead k es = T (is_sorted order es) → T (below_all order k es)
 
--- one more name that the old entries have alone
-cons_old : (e : List ℕ × (Option Class × List ℕ)) (xs : OldList) (ys : NewList) (names : List (List ℕ)) → T (below_all order e.0 xs)
-    → T (below_all order e.0 ys) → Good xs ys names → Good (e ∷ xs) ys (e.0 ∷ names)
-unfolding IsStrictlySortedBy
-cons_old e xs ys names h g good = record {
-  low = λ z a b. (less _ (first _ _ a), good.low z (second _ _ a) b);
-  rising = (good.low e.0 h g, good.rising);
-  each = λ x. elim (cases_Bool (is_eq (order x e.0))) [
-    | inl same ↦
-        let none : find order x ys ≡ None = ap (λ (k : List ℕ). find order k ys) (tied x e.0 same) ∙ find_below e.0 ys g in
-        ap (λ b. b || is_in names x) (sym (here_test x e.0) ∙ same)
-        ∙ ap (λ o. differ (Some e.1) (option_map compared o)) (sym none)
-        ∙ ap (λ o. differ o (option_map compared (find order x ys))) (sym (cond-true (is_eq (order x e.0)) (Some e.1) (find order x xs) same))
-    | inr ne ↦
-        ap (λ b. b || is_in names x) (sym (here_test x e.0) ∙ ne)
-        ∙ good.each x
-        ∙ ap (λ o. differ o (option_map compared (find order x ys))) (sym (cond-false (is_eq (order x e.0)) (Some e.1) (find order x xs) ne))
-  ];
-}
+ahead : {X : Type 0} (k : List ℕ) (e : List ℕ × X) (es : List (List ℕ × X)) → order k e.0 ≡ Less → Ahead k (e ∷ es)
+ahead k e es p h = two _ _ (is_less _ p) (below_more k e.0 es p (first _ _ h))
 
--- one that the new entries have alone
-cons_new : (y : List ℕ × (Kind × List ℕ)) (xs : OldList) (ys : NewList) (names : List (List ℕ)) → T (below_all order y.0 xs) → T (below_all order y.0 ys)
-    → Good xs ys names → Good xs (y ∷ ys) (y.0 ∷ names)
-unfolding IsStrictlySortedBy
-cons_new y xs ys names h g good = record {
-  low = λ z a b. (less _ (first _ _ b), good.low z a (second _ _ b));
-  rising = (good.low y.0 h g, good.rising);
-  each = λ x. elim (cases_Bool (is_eq (order x y.0))) [
-    | inl same ↦
-        let none : find order x xs ≡ None = ap (λ (k : List ℕ). find order k xs) (tied x y.0 same) ∙ find_below y.0 xs h in
-        ap (λ b. b || is_in names x) (sym (here_test x y.0) ∙ same)
-        ∙ ap (λ o. differ o (Some (compared y.1))) (sym none)
-        ∙ ap (λ o. differ (find order x xs) (option_map compared o)) (sym (cond-true (is_eq (order x y.0)) (Some y.1) (find order x ys) same))
-    | inr ne ↦
-        ap (λ b. b || is_in names x) (sym (here_test x y.0) ∙ ne)
-        ∙ good.each x
-        ∙ ap (λ o. differ (find order x xs) (option_map compared o)) (sym (cond-false (is_eq (order x y.0)) (Some y.1) (find order x ys) ne))
-  ];
-}
+keys_above : {X : Type 0} (k : List ℕ) (es : List (List ℕ × X)) → T (below_all order k es) → AllEntries (λ n _. order k n ≡ Less) es
+keys_above k [] h = tt
+keys_above k (e ∷ es) h = (less _ (first _ _ h), keys_above k es (second _ _ h))
 
--- one that both have
-chosen_low : (d : Bool) (z k : List ℕ) (names : List (List ℕ)) → order z k ≡ Less → Above z names → Above z (cond d (k ∷ names) names)
-chosen_low true z k names p h = (p, h)
-chosen_low false z k names p h = h
+-- one more name below all, with what each of the two lists has for it
+abbrev put_first : {X : Type 0} → List ℕ → Option X → List (List ℕ × X) → List (List ℕ × X)
+put_first k None es = es
+put_first k (Some v) es = (k, v) ∷ es
 
-chosen_rising : (d : Bool) (k : List ℕ) (names : List (List ℕ)) → Above k names → IsStrictlySortedBy order names
-    → IsStrictlySortedBy order (cond d (k ∷ names) names)
-unfolding IsStrictlySortedBy
-chosen_rising true k names p h = (p, h)
-chosen_rising false k names p h = h
+find_here : {X : Type 0} (k x : List ℕ) (o : Option X) (es : List (List ℕ × X)) → is_eq (order x k) ≡ true → T (below_all order k es)
+    → find order x (put_first k o es) ≡ o
+find_here k x None es same h = ap (λ (n : List ℕ). find order n es) (tied x k same) ∙ find_below k es h
+find_here k x (Some v) es same h = cond-true (is_eq (order x k)) (Some v) (find order x es) same
 
-chosen_is : (d : Bool) (x k : List ℕ) (names : List (List ℕ)) → bytes_eq x k ≡ true → is_in names x ≡ false → is_in (cond d (k ∷ names) names) x ≡ d
+find_other : {X : Type 0} (k x : List ℕ) (o : Option X) (es : List (List ℕ × X)) → is_eq (order x k) ≡ false
+    → find order x (put_first k o es) ≡ find order x es
+find_other k x None es ne = refl
+find_other k x (Some v) es ne = cond-false (is_eq (order x k)) (Some v) (find order x es) ne
+
+record Good (xs : List OldItem) (ys : List NewItem) (names : List (List ℕ)) : Type 0 where
+  rising : IsStrictlySortedBy order names
+  each : (x : List ℕ) → is_in names x ≡ differ (find order x xs) (option_map compared (find order x ys))
+
+abbrev chosen : Bool → List ℕ → List (List ℕ) → List (List ℕ)
+chosen d k names = cons_option (cond d (Some k) None) names
+
+chosen_by : (P : List (List ℕ) → Type 0) (d : Bool) (k : List ℕ) (names : List (List ℕ)) → P (k ∷ names) → P names → P (chosen d k names)
+chosen_by P true k names p h = p
+chosen_by P false k names p h = h
+
+chosen_is : (d : Bool) (x k : List ℕ) (names : List (List ℕ)) → bytes_eq x k ≡ true → is_in names x ≡ false → is_in (chosen d k names) x ≡ d
 chosen_is true x k names e h = ap (λ b. b || is_in names x) e
 chosen_is false x k names e h = h
 
-chosen_other : (d : Bool) (x k : List ℕ) (names : List (List ℕ)) → bytes_eq x k ≡ false → is_in (cond d (k ∷ names) names) x ≡ is_in names x
-chosen_other true x k names e = ap (λ b. b || is_in names x) e
-chosen_other false x k names e = refl
+none_good : Good [] [] []
+unfolding IsStrictlySortedBy
+none_good = record { rising = tt; each = λ x. refl }
 
-cons_both : (k : List ℕ) (t : Option Class × List ℕ) (s : Kind × List ℕ) (xs : OldList) (ys : NewList) (names : List (List ℕ)) → T (below_all order k xs)
-    → T (below_all order k ys) → Good xs ys names
-    → Good ((k, t) ∷ xs) ((k, s) ∷ ys) (cond (unlike t (compared s)) (k ∷ names) names)
-cons_both k t s xs ys names h g good =
-    let d = unlike t (compared s) in
-    record {
-      low = λ z a b. chosen_low d z k names (less _ (first _ _ a)) (good.low z (second _ _ a) (second _ _ b));
-      rising = chosen_rising d k names (good.low k h g) good.rising;
-      each = λ x. elim (cases_Bool (is_eq (order x k))) [
-        | inl same ↦
-            let no_old : find order x xs ≡ None = ap (λ (n : List ℕ). find order n xs) (tied x k same) ∙ find_below k xs h in
-            let no_new : find order x ys ≡ None = ap (λ (n : List ℕ). find order n ys) (tied x k same) ∙ find_below k ys g in
-            let absent : is_in names x ≡ false = good.each x ∙ ap (λ o. differ o (option_map compared (find order x ys))) no_old ∙ ap
-            (λ o. differ None (option_map compared o)) no_new in
-            chosen_is d x k names (sym (here_test x k) ∙ same) absent
-            ∙ ap (λ b. differ (cond b (Some t) (find order x xs)) (option_map compared (cond b (Some s) (find order x ys)))) (sym same)
-        | inr ne ↦
-            chosen_other d x k names (sym (here_test x k) ∙ ne)
-            ∙ good.each x
-            ∙ ap (λ b. differ (cond b (Some t) (find order x xs)) (option_map compared (cond b (Some s) (find order x ys)))) (sym ne)
-      ];
-    }
+-- two lists whose elements are read as entries
+module _ {A B : Type 0} (f : A → OldItem) (g : B → NewItem) where
+  abbrev pub by_name : A → B → Ordering
+  by_name a b = order (f a).0 (g b).0
 
-good_new : (ys : NewList) → T (is_sorted order ys) → Good [] ys (merged [] ys)
-unfolding IsStrictlySortedBy names_of_both differing
-good_new [] h = record { low = λ z a b. tt; rising = tt; each = λ x. refl }
-good_new (y ∷ ys) h = cons_new y [] ys (merged [] ys) tt (first _ _ h) (good_new ys (second _ _ h))
+  abbrev pub name_of : EitherOrBoth A B → Option (List ℕ)
+  name_of p = changed_name (map_any f g p)
 
-pub turned : (x y : List ℕ) → order x y ≡ Greater → order y x ≡ Less
-turned x y e = nat_list_cmp_total.antisymm y x ∙ ap ordering_reverse e
+  abbrev pub names : List A → List B → List (List ℕ)
+  names xs ys = filter_map name_of (merge_join_by by_name xs ys)
 
-good_step : (e : List ℕ × (Option Class × List ℕ)) (y : List ℕ × (Kind × List ℕ)) (xs : OldList) (ys : NewList) (o : Ordering) → order e.0 y.0 ≡ o
-    → T (is_sorted order (e ∷ xs)) → T (is_sorted order (y ∷ ys))
-    → Good xs (y ∷ ys) (merged xs (y ∷ ys)) → Good xs ys (merged xs ys) → Good (e ∷ xs) ys (merged (e ∷ xs) ys)
-    → Good (e ∷ xs) (y ∷ ys) (merged (e ∷ xs) (y ∷ ys))
-unfolding differing
-good_step e y xs ys Less is h g old both new =
-    subst (Good (e ∷ xs) (y ∷ ys)) (sym (merged-stepped e y xs ys Less is))
-    (cons_old e xs (y ∷ ys) (merged xs (y ∷ ys)) (first _ _ h) (two _ _ (is_less _ is) (below_more e.0 y.0 ys is (first _ _ g))) old)
-good_step e y xs ys Greater is h g old both new =
-    let back = turned e.0 y.0 is in
-    subst (Good (e ∷ xs) (y ∷ ys)) (sym (merged-stepped e y xs ys Greater is))
-    (cons_new y (e ∷ xs) ys (merged (e ∷ xs) ys) (two _ _ (is_less _ back) (below_more y.0 e.0 xs back (first _ _ h))) (first _ _ g) new)
-good_step e y xs ys Equal is h g old both new =
-    let same : e.0 ≡ y.0 = tied e.0 y.0 (ap is_eq is) in
-    subst (Good (e ∷ xs) (y ∷ ys)) (sym (merged-stepped e y xs ys Equal is))
-    (subst (λ (k : List ℕ). Good (e ∷ xs) ((k, y.1) ∷ ys) (cond (unlike e.1 (compared y.1)) (e.0 ∷ merged xs ys) (merged xs ys))) same
-    (cons_both e.0 e.1 y.1 xs ys (merged xs ys) (first _ _ h) (subst (λ (k : List ℕ). T (below_all order k ys)) (sym same) (first _ _ g)) both))
+  -- what holds of no entries, and is kept by each step of the pass, holds of the names that it gives
+  module _ (Q : List A → List B → List (List ℕ) → Type 0) (none : Q [] [] [])
+      (old : (a : A) (xs : List A) (ys : List B) → Ahead (f a).0 (map_list g ys) → Q xs ys (names xs ys) → Q (a ∷ xs) ys ((f a).0 ∷ names xs ys))
+      (new : (b : B) (xs : List A) (ys : List B) → Ahead (g b).0 (map_list f xs) → Q xs ys (names xs ys) → Q xs (b ∷ ys) ((g b).0 ∷ names xs ys))
+      (both : (a : A) (b : B) (xs : List A) (ys : List B) → by_name a b ≡ Equal → Q xs ys (names xs ys)
+      → Q (a ∷ xs) (b ∷ ys) (cons_option (name_of (Both a b)) (names xs ys))) where
+    new_only : (ys : List B) → Q [] ys (names [] ys)
+    new_only [] = none
+    new_only (b ∷ ys) = new b [] ys (λ _. tt) (new_only ys)
 
-good_first : (e : List ℕ × (Option Class × List ℕ)) (xs : OldList) → T (is_sorted order (e ∷ xs))
-    → ((ys : NewList) → T (is_sorted order ys) → Good xs ys (merged xs ys))
-    → (ys : NewList) → T (is_sorted order ys) → Good (e ∷ xs) ys (merged (e ∷ xs) ys)
-unfolding differing
-good_first e xs h rest [] g = subst (Good (e ∷ xs) []) (sym (ap differing (names-old e xs))) (cons_old e xs [] (merged xs []) (first _ _ h) tt (rest [] tt))
-good_first e xs h rest (y ∷ ys) g =
-    good_step e y xs ys (order e.0 y.0) refl h g (rest (y ∷ ys) g) (rest ys (second _ _ g)) (good_first e xs h rest ys (second _ _ g))
+    steps_from : (a : A) (xs : List A) → ((ys : List B) → Q xs ys (names xs ys)) → (ys : List B) → Q (a ∷ xs) ys (names (a ∷ xs) ys)
+    steps_from a xs rest [] = subst (λ l. Q (a ∷ xs) [] ((f a).0 ∷ filter_map name_of l)) (merge_join_by-nil by_name xs) (old a xs [] (λ _. tt) (rest []))
+    steps_from a xs rest (b ∷ ys) =
+        elim (by_name a b) as (λ o. by_name a b ≡ o → Q (a ∷ xs) (b ∷ ys) (filter_map name_of (by_ordering o (Left a ∷ merge_join_by by_name xs (b ∷ ys))
+        (Both a b ∷ merge_join_by by_name xs ys) (Right b ∷ merge_join_by by_name (a ∷ xs) ys)))) [
+          | Less ↦ λ is. old a xs (b ∷ ys) (ahead (f a).0 (g b) (map_list g ys) is) (rest (b ∷ ys))
+          | Equal ↦ λ is. both a b xs ys is (rest ys)
+          | Greater ↦ λ is. new b (a ∷ xs) ys (ahead (g b).0 (f a) (map_list f xs) (turned (f a).0 (g b).0 is)) (steps_from a xs rest ys)
+        ] refl
 
-good : (xs : OldList) (ys : NewList) → T (is_sorted order xs) → T (is_sorted order ys) → Good xs ys (merged xs ys)
-good [] ys h g = good_new ys g
-good (e ∷ xs) ys h g = good_first e xs h (λ zs. good xs zs (second _ _ h)) ys g
+    by_steps : (xs : List A) (ys : List B) → Q xs ys (names xs ys)
+    by_steps [] ys = new_only ys
+    by_steps (a ∷ xs) ys = steps_from a xs (by_steps xs) ys
 
--- the pass gives the changes of two maps
-pub merged_changes : (old : Texts) (new : Configuration) → AreChanges old new (merged (map.entries old) (map.entries new))
-merged_changes old new =
-    let all = good (map.entries old) (map.entries new) (map.entries_sorted old) (map.entries_sorted new) in
-    record {
-      rising = all.rising;
-      each = λ x. all.each x ∙ ap (λ o. differ o (option_map compared (find order x (map.entries new)))) (sym (map.get-entries old x)) ∙ ap
-          (λ o. differ (map.get old x) (option_map compared o)) (sym (map.get-entries new x));
-    }
+  -- each name is one of an entry
+  pub every : (P : List ℕ → Type 0) (xs : List A) (ys : List B) → AllEntries (λ n _. P n) (map_list f xs) → AllEntries (λ n _. P n) (map_list g ys)
+      → AllByRecursion P (names xs ys)
+  every P xs ys =
+      by_steps (λ xs ys ns. AllEntries (λ n _. P n) (map_list f xs) → AllEntries (λ n _. P n) (map_list g ys) → AllByRecursion P ns) (λ h k. tt)
+      (λ a xs ys _ q h k. (h.0, q h.1 k)) (λ b xs ys _ q h k. (k.0, q h k.1))
+      (λ a b xs ys _ q h k. chosen_by (AllByRecursion P) (unlike (f a).1 (compared (g b).1)) (f a).0 _ (h.0, q h.1 k.1) (q h.1 k.1)) xs ys
 
-keys : (ys : NewList) → merged [] ys ≡ map_list (λ y. y.0) ys
-unfolding names_of_both differing
+  one_more : (k : List ℕ) (t : Option (Option Class × List ℕ)) (s : Option (Kind × List ℕ)) (xs : List A) (ys : List B) → T (below_all order k (map_list f xs))
+      → T (below_all order k (map_list g ys)) → Good (map_list f xs) (map_list g ys) (names xs ys)
+      → Good (put_first k t (map_list f xs)) (put_first k s (map_list g ys)) (chosen (differ t (option_map compared s)) k (names xs ys))
+  unfolding IsStrictlySortedBy
+  one_more k t s xs ys h l good =
+      let d = differ t (option_map compared s) in
+      let n = names xs ys in
+      let both : Option (Option Class × List ℕ) → Option (Kind × List ℕ) → Bool = λ o q. differ o (option_map compared q) in
+      record {
+        rising = chosen_by (IsStrictlySortedBy order) d k n (every (λ x. order k x ≡ Less) xs ys (keys_above k _ h) (keys_above k _ l), good.rising) good.rising;
+        each = λ x. elim (cases_Bool (is_eq (order x k))) [
+          | inl same ↦
+              chosen_is d x k n (sym (here_test x k) ∙ same) (good.each x ∙ ap₂ both (find_here k x None _ same h) (find_here k x None _ same l))
+              ∙ sym (ap₂ both (find_here k x t _ same h) (find_here k x s _ same l))
+          | inr ne ↦
+              chosen_by (λ ns. is_in ns x ≡ is_in n x) d k n (ap (λ b. b || is_in n x) (sym (here_test x k) ∙ ne)) refl
+              ∙ good.each x ∙ sym (ap₂ both (find_other k x t _ ne) (find_other k x s _ ne))
+        ];
+      }
+
+  good : (xs : List A) (ys : List B) → T (is_sorted order (map_list f xs)) → T (is_sorted order (map_list g ys)) → Good (map_list f xs) (map_list g ys) (names xs ys)
+  good xs ys = by_steps (λ xs ys ns. T (is_sorted order (map_list f xs)) → T (is_sorted order (map_list g ys)) → Good (map_list f xs) (map_list g ys) ns)
+      (λ h k. none_good)
+      (λ a xs ys low q h k. one_more (f a).0 (Some (f a).1) None xs ys (first _ _ h) (low k) (q (second _ _ h) k))
+      (λ b xs ys low q h k. one_more (g b).0 None (Some (g b).1) xs ys (low h) (first _ _ k) (q h (second _ _ k)))
+      (λ a b xs ys is q h k.
+      let same : (f a).0 ≡ (g b).0 = tied (f a).0 (g b).0 (ap is_eq is) in
+      subst (λ (n : List ℕ). Good (map_list f (a ∷ xs)) ((n, (g b).1) ∷ map_list g ys) (cons_option (name_of (Both a b)) (names xs ys))) same
+      (one_more (f a).0 (Some (f a).1) (Some (g b).1) xs ys (first _ _ h) (subst (λ (n : List ℕ). T (below_all order n (map_list g ys))) (sym same) (first _ _ k))
+      (q (second _ _ h) (second _ _ k)))) xs ys
+
+  -- the pass gives the changes of two maps
+  pub merged_changes : (old : Texts) (new : Configuration) (xs : List A) (ys : List B) → map_list f xs ≡ map.entries old → map_list g ys ≡ map.entries new
+      → AreChanges old new (names xs ys)
+  merged_changes old new xs ys is was =
+      let all = good xs ys (subst (λ l. T (is_sorted order l)) (sym is) (map.entries_sorted old)) (subst (λ l. T (is_sorted order l)) (sym was) (map.entries_sorted new)) in
+      record {
+        rising = all.rising;
+        each = λ x. all.each x ∙ ap₂ (λ o s. differ o (option_map compared s)) (ap (find order x) is ∙ sym (map.get-entries old x)) (ap (find order x) was ∙ sym (map.get-entries new x));
+      }
+
+keys : (ys : List NewItem) → names (λ e. e) (λ y. y) [] ys ≡ map_list (λ y. y.0) ys
 keys [] = refl
 keys (y ∷ ys) = ap (λ l. y.0 ∷ l) (keys ys)
+
+none_left : map.entries (map.empty {X = Option Class × List ℕ} {R = order}) ≡ []
+none_left = nil_from_length _ (sym (map.len-entries map.empty) ∙ map.len-empty order (Option Class × List ℕ))
 
 -- against no texts each name changes
 pub first_names : (new : Configuration) → AreChanges map.empty new (map_list (λ e. e.0) (map.entries new))
 first_names new =
-    let all = subst (Good [] (map.entries new)) (keys (map.entries new)) (good_new (map.entries new) (map.entries_sorted new)) in
-    let none : Texts = map.empty in
-    record {
-      rising = all.rising;
-      each = λ x. all.each x ∙ ap (λ o. differ o (option_map compared (find order x (map.entries new)))) (sym (map.get-empty order x)) ∙ ap
-          (λ o. differ (map.get none x) (option_map compared o)) (sym (map.get-entries new x));
-    }
+    subst (AreChanges map.empty new) (keys (map.entries new)) (merged_changes (λ e. e) (λ y. y) map.empty new [] (map.entries new) (sym none_left) (map-id (map.entries new)))
 
--- legal names
-each_in : (P : List ℕ → Type 0) (names : List (List ℕ)) → ((x : List ℕ) → is_in names x ≡ true → P x) → AllByRecursion P names
-each_in P [] f = tt
-each_in P (n ∷ names) f = (
-  f n (ap (λ b. b || is_in names n) (sym (here_test n n) ∙ ap is_eq (tied_itself nat_list_cmp_total n))),
-  each_in P names (λ x e. f x (ap (λ b. bytes_eq x n || b) e ∙ or_right (bytes_eq x n) true refl)),
-)
+-- what holds of each entry holds of those that a run has taken
+fronts : {X : Type 0} (P : List ℕ → X → Type 0) (es rest : List (List ℕ × X)) → AllEntries P (es ++ rest) → AllEntries P es
+fronts P [] rest h = tt
+fronts P (e ∷ es) rest h = (h.0, fronts P es rest h.1)
 
-pub legal_differ : (o : Option (Option Class × List ℕ)) (s : Option (Kind × List ℕ)) (P : Type 0) → ((t : Option Class × List ℕ) → o ≡ Some t → P)
-    → ((t : Kind × List ℕ) → s ≡ Some t → P) → differ o (option_map compared s) ≡ true → P
-legal_differ None None P f g e = absurd (false≢true e)
-legal_differ (Some t) s P f g e = f t refl
-legal_differ None (Some t) P f g e = g t refl
+pub taken : {A X : Type 0} (shows : A → List ℕ × X) (P : List ℕ → X → Type 0) (p : Run (TakesFirst shows)) (es : List (List ℕ × X)) → p.from ≡ es → AllEntries P es
+    → AllEntries P (map_list shows p.items)
+taken shows P p es is h = fronts P (map_list shows p.items) (took p).0 (subst (AllEntries P) (sym is ∙ rest_so_far shows p.items p.from (took p).0 (took p).1) h)
 
-pub legal_changes : (old : Texts) (new : Configuration) → HasNames old → IsConfiguration new
-    → AllByRecursion (λ n. IsTrue (is_name n)) (merged (map.entries old) (map.entries new))
-legal_changes old new h g =
-    let are = merged_changes old new in
-    each_in (λ n. IsTrue (is_name n)) (merged (map.entries old) (map.entries new)) (λ x e.
-    legal_differ (map.get old x) (map.get new x) (IsTrue (is_name x)) (λ t is. h x t is) (λ s is. name_of_symbol x (g x s is).named) (sym (are.each x) ∙ e))
+later : (P : List ℕ → Type 0) (o : Option (List ℕ)) (names : List (List ℕ)) → AllByRecursion P (cons_option o names) → AllByRecursion P names
+later P None names h = h
+later P (Some n) names h = h.1
+
+-- a name that comes among others is as legal as they are
+pub among : {A : Type 0} (P : List ℕ → Type 0) (h : A → Option (List ℕ)) (xs more : List A) (x : A) (n : List ℕ) → h x ≡ Some n
+    → AllByRecursion P (filter_map h ((xs ++ x ∷ []) ++ more)) → P n
+among P h [] more x n is all = (subst (λ o. AllByRecursion P (cons_option o (filter_map h more))) is all).0
+among P h (y ∷ xs) more x n is all = among P h xs more x n is (later P (h y) _ all)

@@ -1,38 +1,44 @@
-use Rattle.ks_compare.proofs.Prelude.{◌++◌, ◌∷◌, [], append_assoc, IsTrue, List, ℕ, sym, ap, subst, ◌∙◌, append-nil, AllByRecursion, is_name, AreChanges, names_left}
-use Rattle.ks_compare.proofs.Merge.{differing, differing-none, differing-step, merged_changes, legal_changes}
+use Rattle.std.proofs.Common.{rules, arith}
+use Rattle.std.proofs.lemmas.Grind.{common_steps}
+use Rattle.std.proofs.iter.runs.Made.{seen}
+use Rattle.std.proofs.lemmas.Iterator.Consumers.{YieldsList-from_rest}
+use Rattle.std.proofs.lemmas.List.Elements.{filter_map-append}
+use Rattle.itertools.proofs.AdaptorLemmas.{items_from_whole_run, run_to_end, run_to_item}
+use Rattle.ks_compare.proofs.Prelude.{[], refl, sym, ap, ap₂, subst, ◌∙◌, append-nil, IsTrue, filter_map, merge_join_by, AllByRecursion, AreChanges, all_entries, name_of_symbol, is_name, borrowed_entry, borrowed_old_entry}
+use Rattle.ks_compare.proofs.Merge.{by_name, name_of, every, taken, among, merged_changes}
 use Rattle.ks_compare.proofs.comparison.changed.Goals as goal
 
-abbrev AreLegal : List (List ℕ) → Type 0
-AreLegal names = AllByRecursion (λ n. IsTrue (is_name n)) names
-
-pub loop-name-init : goal.loop-name-init
-loop-name-init c = record {
-  all = ap (λ l. l ++ differing (names_left c.of-rest.result)) c.new-names.ensures.items ∙ ap differing c.of-rest.ensures;
-  legal = subst (λ l. AreLegal (differing l)) (sym c.of-rest.ensures)
-      (legal_changes c.args.old.now.texts c.args.new.now.entries c.keeps_names.ensures c.keeps_configuration.ensures);
-}
-
 pub new-requires : goal.new-requires
-new-requires c = (subst AreLegal (differing-step _ _ _ _ c.in-Some.ensures c.if-differs.true) c.loop-name.invariant.legal).0
+new-requires c =
+    let p = run_to_item _ _ c.loop-pair.yielded c.loop-pair.yielded_by c.in-Some.pair c.in-Some.ensures.steps in
+    let (inner, from, runs) = c.merge_join_by-pair-items.ensures.runs in
+    let (a, at_a, behind) = runs p (seen _) c.into_iter-pair-iterator.ensures.into_iter_gives in
+    let (b, at_b, gives) = behind in
+    let by = by_name borrowed_old_entry borrowed_entry in
+    let (more, is) = (gives.1 by (λ x y r f' k. search rules)).2 [] [] (λ _. refl) (λ _. refl) in
+    let every_legal = every borrowed_old_entry borrowed_entry (λ n. IsTrue (is_name n)) a.items b.items
+    (taken borrowed_old_entry _ a _ (at_a ∙ from ∙ c.entries.ensures) (all_entries _ _ c.keeps_names.ensures))
+    (taken borrowed_entry _ b _ (at_b ∙ c.merge_join_by-pair-items.ensures.second.0 ∙ c.entries-2.ensures) (all_entries _ _ (λ x s is. name_of_symbol _ x (c.keeps_configuration.ensures x s is).named))) in
+    among (λ n. IsTrue (is_name n)) (name_of borrowed_old_entry borrowed_entry) c.loop-pair.yielded more c.in-Some.pair _ (sym c.in-Some-changed_name.ensures)
+    (subst (λ l. AllByRecursion (λ n. IsTrue (is_name n)) (filter_map (name_of borrowed_old_entry borrowed_entry) l))
+    (ap₂ (merge_join_by by) (sym (append-nil a.items)) (sym (append-nil b.items)) ∙ is) every_legal)
 
-pub loop-name-preserved-in_ok-push : goal.loop-name-preserved-in_ok-push
-loop-name-preserved-in_ok-push c =
-    let step = differing-step _ _ _ _ c.in-Some.ensures c.if-differs.true in
-    let i = c.loop-name.invariant in
-    record {
-      all = ap (λ l. l ++ differing (names_left c.next_name.new.self)) (c.in_ok-push.ensures.items ∙ ap (λ n. c.loop-name.names.items ++ n ∷ []) c.in_ok-new.ensures)
-          ∙ append_assoc c.loop-name.names.items (c.in-Some.name.now ∷ []) (differing (names_left c.next_name.new.self))
-          ∙ ap (λ l. c.loop-name.names.items ++ l) (sym step) ∙ i.all;
-      legal = (subst AreLegal step i.legal).1;
-    }
+pub loop-pair-preserved-in_ok-push : goal.loop-pair-preserved-in_ok-push
+loop-pair-preserved-in_ok-push c = grind (arith, common_steps, filter_map-append)
 
-pub loop-name-preserved : goal.loop-name-preserved
-loop-name-preserved c =
-    let step = differing-step _ _ _ _ c.in-Some.ensures c.if-differs.false in
-    let i = c.loop-name.invariant in
-    record { all = ap (λ l. c.loop-name.names.items ++ l) (sym step) ∙ i.all; legal = subst AreLegal step i.legal }
+pub loop-pair-preserved : goal.loop-pair-preserved
+loop-pair-preserved c = grind (arith, common_steps, filter_map-append, append-nil)
 
 pub returns : goal.returns
-returns c = subst (AreChanges c.args.old.now.texts c.args.new.now.entries)
-    (sym c.loop-name.invariant.all ∙ ap (λ l. c.loop-name.names.items ++ l) (ap differing c.in_default.ensures.0 ∙ differing-none) ∙ append-nil c.loop-name.names.items)
-    (merged_changes c.args.old.now.texts c.args.new.now.entries)
+returns c =
+    let p = run_to_end _ _ c.loop-pair.yielded c.loop-pair.yielded_by c.in-None.ensures.steps in
+    let (inner, from, runs) = c.merge_join_by-pair-items.ensures.runs in
+    let (a, at_a, behind) = runs p (seen _) c.into_iter-pair-iterator.ensures.into_iter_gives in
+    let (b, at_b, gives) = behind in
+    let whole = gives.0 refl in
+    let is = (gives.1 (by_name borrowed_old_entry borrowed_entry) (λ x y r f' k. search rules)).1 refl in
+    subst (AreChanges c.args.old.now.texts c.args.new.now.entries)
+    (sym (c.loop-pair.invariant ∙ ap (filter_map (name_of borrowed_old_entry borrowed_entry)) is))
+    (merged_changes borrowed_old_entry borrowed_entry _ _ a.items b.items
+    (items_from_whole_run (YieldsList-from_rest _ (from ∙ c.entries.ensures)) a at_a whole.0)
+    (items_from_whole_run (YieldsList-from_rest _ (c.merge_join_by-pair-items.ensures.second.0 ∙ c.entries-2.ensures)) b at_b whole.1))

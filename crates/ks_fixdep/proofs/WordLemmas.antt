@@ -1,7 +1,6 @@
 -- A text that is scanned by its words.
-use Rattle.ks_fixdep.proofs.Prelude.{◌≡◌, ℕ, zero, suc, ◌+◌, ◌-◌, ◌≤◌, ◌<◌, Bool, true, false, cond, List, [], ◌∷◌, ◌++◌, length, take, drop, get_or, Option, Some, None, refl, sym, ap, ap₂, subst, ◌∙◌, and_from, list_all-append, take-append-drop, take-take, take_more, take_while, take-append_seam, arith, ⊎_elim, append_assoc, append-nil, length-append, length-drop, cond_both, cond-true, cond-false, cases_Bool, cases_lt, le-leb, lt-leb, fold-append, codes, bytes_eq, bytes_eq-Decides, if◌then◌else◌, list_all, and_parts, is_word_byte, is_name, name_of_word, all_noted, list_of, within, lengthened, ◌==◌, ◌||◌, or_cases, inl, inr}
+use Rattle.ks_fixdep.proofs.Prelude.{◌≡◌, ℕ, ◌+◌, ◌<◌, Bool, true, false, List, [], ◌∷◌, ◌++◌, length, take, drop, get_or, Option, Some, None, refl, sym, ap, ap₂, subst, ◌∙◌, and_from, list_all-append, take-append-drop, take-take, take_more, take_while, take-append_seam, arith, ⊎_elim, append_assoc, append-nil, length-append, length-drop, cond_both, cond-true, cond-false, cases_Bool, cases_lt, le-leb, lt-leb, fold-append, codes, bytes_eq, bytes_eq-Decides, if◌then◌else◌, list_all, and_parts, is_word_byte, is_name, name_of_word, all_noted, list_of, within, lengthened, ◌==◌, ◌||◌}
 use Rattle.std.proofs.lemmas.List.{drop-take}
-use Rattle.std.specs.List.{fold}
 use Rattle.ks_fixdep.specs.Dialects.{argument_names, following, after_word, legal, nothing, onto_word, own_names, passed, phase_prefix, word_names, Part, Word, Other, names_as}
 unfoldable use Rattle.ks_fixdep.specs.Dialects.{arguments_of, busybox_names, names_of_parts, parts}
 use Rattle.ks_fixdep.specs.SourceTable.{SourceNames}
@@ -10,7 +9,6 @@ use Rattle.ks_fixdep.specs.SourceScan.{StandsAfter, StandsAfterAs}
 use Rattle.ks_fixdep.specs.declared.awaited.Awaited.{Awaited}
 use Rattle.ks_fixdep.specs.declared.source_scan.SourceScan.{SourceScan}
 use Rattle.ks_fixdep.specs.declared.dialect.Phase.{Phase}
-use Rattle.ks_fixdep.specs.declared.dialect.Phase.TheVariants as phase
 use Rattle.ks_fixdep.specs.declared.dialect.Rules.{Rules}
 use Rattle.ks_fixdep.specs.declared.dialect.Rules.TheVariants as rules
 use Rattle.ks_fixdep.proofs.NotedLemmas.{noted_in_parts, noted_in_two}

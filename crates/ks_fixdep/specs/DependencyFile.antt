@@ -4,6 +4,8 @@ use Rattle.std.specs.Prelude.{◌+◌, ◌<◌, Option, Some, None, ℕ, Bool, �
 use Rattle.std.specs.Borrow.{Bor}
 use Rattle.std.specs.List.{list_all, list_any, ends_with, after_last}
 use Rattle.std.specs.Str.{bytes_eq}
+use Rattle.ks_symbols.specs.declared.dialect.Dialect.{Dialect}
+use Rattle.ks_symbols.specs.declared.dialect.Dialect.TheVariants as dialect
 use Rattle.ks_symbols.specs.Lines.{max_bytes}
 use Rattle.ks_symbols.specs.Names.{is_path, header_path}
 use Rattle.ks_fixdep.specs.Tokens.{tokens}
@@ -11,7 +13,7 @@ use Rattle.ks_symbols.specs.Refusals.{or_else}
 use Rattle.ks_fixdep.specs.declared.dep_error.DepError.{DepError}
 use Rattle.ks_fixdep.specs.declared.dep_error.DepError.TheVariants as errors
 use Rattle.ks_fixdep.specs.declared.dependency_file.Header.{Header}
-use Rattle.ks_fixdep.specs.declared.dependency_file.Header.TheVariants.{Usual, At}
+use Rattle.ks_fixdep.specs.declared.dependency_file.Header.TheVariants.{Usual, BusyBox, At}
 use Rattle.ks_fixdep.specs.declared.dependency_file.Role.{Role}
 use Rattle.ks_fixdep.specs.declared.dependency_file.Role.TheVariants as role
 
@@ -23,10 +25,21 @@ is_target_token x = ends_with nat_eq x (codes ":")
 abbrev pub is_folder : List ℕ → Bool
 is_folder front = length front == 0 || ends_with nat_eq front (codes "/")
 
--- The header of all symbols: the usual one by the end of its path alone, another one by its path or the end of it after a slash.
+-- a path, or a longer one that ends in it after a slash
+abbrev pub ends_in_path : List ℕ → List ℕ → Bool
+ends_in_path x path = ends_with nat_eq x path && is_folder (take (length x - length path) x)
+
+-- The header of all symbols: that of Linux and U-Boot by the end of its path alone, another one by its path or the end of it after a slash.
 abbrev pub is_header : Header → List ℕ → Bool
 is_header Usual x = ends_with nat_eq x header_path
-is_header (At end) x = ends_with nat_eq x end.now && is_folder (take (length x - length end.now) x)
+is_header BusyBox x = ends_in_path x (codes "include/autoconf.h")
+is_header (At end) x = ends_in_path x end.now
+
+-- the one that the sources of a dialect include
+abbrev pub usual_header : Dialect → Header
+usual_header dialect.Linux = Usual
+usual_header dialect.UBoot = Usual
+usual_header dialect.BusyBox = BusyBox
 
 -- what is neither a target nor the header, which every source includes, so that it says nothing
 abbrev pub is_kept : Header → List ℕ → Bool

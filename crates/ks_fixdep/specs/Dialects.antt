@@ -9,8 +9,8 @@ use Rattle.ks_fixdep.specs.Scan.{bare_name, name_of_word, taken}
 use Rattle.ks_fixdep.specs.Stream.{list_of}
 use Rattle.ks_fixdep.specs.FoundNames.{all_noted}
 use Rattle.ks_fixdep.specs.declared.awaited.Awaited.{Awaited}
-use Rattle.ks_fixdep.specs.declared.dialect.Dialect.{Dialect}
-use Rattle.ks_fixdep.specs.declared.dialect.Dialect.TheVariants as dialect
+use Rattle.ks_symbols.specs.declared.dialect.Dialect.{Dialect}
+use Rattle.ks_symbols.specs.declared.dialect.Dialect.TheVariants as dialect
 use Rattle.ks_fixdep.specs.declared.dialect.Phase.{Phase}
 use Rattle.ks_fixdep.specs.declared.dialect.Phase.TheVariants as phase
 use Rattle.ks_fixdep.specs.declared.dialect.Rules.{Rules}

@@ -10,7 +10,7 @@ ghost use Rattle.ks_symbols.specs.Lines.{max_bytes};
 ghost use Rattle.ks_symbols.specs.Names.{is_path, header_path};
 ghost use Rattle.ks_symbols.specs.Refusals.{IsRefusal, RefusedBy};
 ghost use Rattle.ks_fixdep.specs.Tokens.{tokens};
-ghost use Rattle.ks_fixdep.specs.DependencyFile.{is_target_token, is_folder, is_header, added, paths_of, borrowed_pair, prerequisites, prerequisites_without, token_refusal, dependency_refusal, refusal_without};
+ghost use Rattle.ks_fixdep.specs.DependencyFile.{is_target_token, is_folder, ends_in_path, is_header, usual_header, added, paths_of, borrowed_pair, prerequisites, prerequisites_without, token_refusal, dependency_refusal, refusal_without};
 ghost use Rattle.ks_fixdep.specs.declared.dependency_file.Role.TheVariants as role;
 
 use crate::dep_error::DepError;
@@ -18,7 +18,7 @@ use crate::seed::{Seed, path_text};
 use crate::tokens::Tokens;
 use indexmap::IndexMap;
 use indexmap::map::Iter;
-use ks_symbols::{MAX_BYTES, path_is_legal};
+use ks_symbols::{Dialect, MAX_BYTES, path_is_legal};
 use std::alloc::{AllocError, Global};
 use std::marker::Model;
 
@@ -29,8 +29,22 @@ const HEADER: &[u8] = b"include/generated/autoconf.h";
 pub enum Header<'a> {
     /// Whatever ends in `include/generated/autoconf.h`.
     Usual,
+    /// What is, or whose end after a slash is, `include/autoconf.h`.
+    BusyBox,
     /// The path that is, or whose end after a slash is, this one.
     At(&'a [u8]),
+}
+
+impl<'a> Header<'a> {
+    /// The one that the sources of a dialect include.
+    pub fn usual(dialect: Dialect) -> Header<'a>
+        ensures { result ≡ usual_header dialect }
+    {
+        match dialect {
+            Dialect::Linux | Dialect::UBoot => Header::Usual,
+            Dialect::BusyBox => Header::BusyBox,
+        }
+    }
 }
 
 /// What becomes of a prerequisite: the source is scanned and named as such, a scanned one is only scanned, a
@@ -148,7 +162,7 @@ fn names_folder(front: &[u8]) -> bool
 
 /// Whether a token is a path, or ends in it after a slash.
 fn ends_in_path(token: &[u8], path: &[u8]) -> bool
-    ensures { result ≡ (ends_with nat_eq token.now path.now && is_folder (take (length token.now - length path.now) token.now)) }
+    ensures { result ≡ ends_in_path token.now path.now }
 {
     match token.strip_suffix(path) {
         Some(front) => names_folder(front),
@@ -162,6 +176,7 @@ fn names_header(header: Header<'_>, token: &[u8]) -> bool
 {
     match header {
         Header::Usual => ends_as_usual(token),
+        Header::BusyBox => ends_in_path(token, b"include/autoconf.h"),
         Header::At(path) => ends_in_path(token, path),
     }
 }

@@ -1,15 +1,9 @@
-//! Which words of a text name symbols. Linux, U-Boot and BusyBox are built by the same makefiles, but their sources ask for a symbol
-//! in different words. What U-Boot's ask for depends on the object too: there one source goes into several programs.
+//! By which rules the sources of an object are scanned: the sources of Linux, U-Boot and BusyBox ask for a symbol in different words.
+//! What U-Boot's ask for depends on the object too, since there one source goes into several programs.
 ghost use Rattle.std.specs.Prelude.{◌≡◌};
 ghost use Rattle.ks_fixdep.specs.Dialects.{phase_of, phase_prefix, rules_for};
 
-/// Whose words a tree's sources have.
-#[derive(Clone, Copy, Debug, PartialEq, Eq)]
-pub enum Dialect {
-    Linux,
-    UBoot,
-    BusyBox,
-}
+use ks_symbols::Dialect;
 
 /// The program of U-Boot that an object goes into.
 #[derive(Clone, Copy, Debug, PartialEq, Eq)]
@@ -65,12 +59,12 @@ impl Phase {
     }
 }
 
-impl Dialect {
+impl Rules {
     /// The rules for the sources of a target.
-    pub fn rules_for(self, target: &[u8]) -> Rules
-        ensures { result ≡ rules_for self target.now }
+    pub fn for_target(dialect: Dialect, target: &[u8]) -> Rules
+        ensures { result ≡ rules_for dialect target.now }
     {
-        match self {
+        match dialect {
             Dialect::Linux => Rules::Linux,
             Dialect::UBoot => Rules::UBoot(Phase::of_target(target)),
             Dialect::BusyBox => Rules::BusyBox,

@@ -36,7 +36,7 @@ pub use dependency_file::{
     BorrowedPrerequisites, Header, Prerequisites, Role, read_depfile, read_depfile_by,
     read_depfile_without,
 };
-pub use dialect::{Dialect, Phase, Rules};
+pub use dialect::{Phase, Rules};
 pub use found_names::{BorrowedNames, FoundNames};
 pub use laws::{
     dialect_examples, ended_names_are_followed, names_by_places, names_of_a_record,

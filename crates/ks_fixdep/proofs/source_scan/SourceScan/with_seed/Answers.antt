@@ -1,5 +1,4 @@
 use Rattle.ks_fixdep.proofs.Prelude.{[], sym, ap, ◌∙◌, map, all_noted, bare_name}
-use Rattle.ks_fixdep.specs.Stream.{ended}
 use Rattle.ks_fixdep.proofs.NameLemmas.{ended-nil}
 use Rattle.ks_fixdep.proofs.WordLemmas.{stands-first}
 use Rattle.ks_fixdep.proofs.source_scan.SourceScan.with_seed.Goals as goal

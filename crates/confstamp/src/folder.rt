@@ -1,10 +1,10 @@
-//! What stands in front of the command: the folder that `-C DIR` names, whether numbers may begin again, and whose words name
-//! symbols. It is taken off before the words are looked at as a command, so that what is said of a command's words holds of those
+//! What stands in front of the command: the folder that `-C DIR` names, whether numbers may begin again, and which dialect the
+//! tree has. It is taken off before the words are looked at as a command, so that what is said of a command's words holds of those
 //! after it.
 ghost use Rattle.std.specs.Prelude.{◌≡◌, IfOk, string_bytes};
 ghost use Rattle.confstamp.specs.Folders.{below, dialect_named};
 
-use ks_fixdep::Dialect;
+use ks_symbols::Dialect;
 use std::alloc::{AllocError, Global};
 use std::fs;
 use std::rt::Files;
@@ -26,7 +26,7 @@ pub(crate) struct Place<'a> {
     pub(crate) folder: String,
     /// Whether a synchronisation may begin its numbers at 1 though files hold some.
     pub(crate) may_begin: bool,
-    /// Whose words name symbols in the sources.
+    /// In which sources and Kconfigs are read.
     pub(crate) dialect: Dialect,
     pub(crate) words: &'a [&'a str],
 }
@@ -38,6 +38,7 @@ fn dialect_named(name: &str) -> Option<Dialect>
     match name {
         "linux" => Some(Dialect::Linux),
         "u-boot" => Some(Dialect::UBoot),
+        "busybox" => Some(Dialect::BusyBox),
         _ => None,
     }
 }

@@ -102,7 +102,9 @@ fn run(rt: &HostRuntime) -> io::Result<u8> {
             return Ok(2);
         }
         Front::NoDialect => {
-            let _ = eprintln!(rt; "confstamp: --dialect: linux or u-boot is needed after it");
+            let _ = eprintln!(rt;
+                "confstamp: --dialect: linux, u-boot or busybox is needed after it"
+            );
             return Ok(2);
         }
     };

@@ -1,33 +1,33 @@
 -- What a call of the engine leaves, after reads that changed no file.
-use Rattle.ks_commands.proofs.Prelude.{Dialect, ◌≡◌, ◌⊎◌, ◌≤◌, ℕ, inl, inr, List, Result, Ok, Err, refl, sym, ap, ◌∙◌, subst, Files, Reply, EngineError, Report, Action, IsExplanationOn, FileRun, FileState, IsAnswerOn, Stamps, LeavesStamps, FollowsStamps, IfOk, IfErr, IsSynced, IsSyncRefused, IsStamped, IsStampedRefused, TreeState, at, FollowsSync, History, IsAnswerAfter, IsGivenUp, FollowsStale, Run, Shows, Form, Refusal, Engine, Ending, given, EndsImpact, EndsStale, EndsWhy, FollowsImpact, FollowsWhy, Runs, RunsAll, RunsOn, by_files, by_histories, count_of, not_counted, HasGivenUp, actions_of, script_actions, script_at, spelling_of}
+use Rattle.ks_commands.proofs.Prelude.{Dialect, ◌≡◌, ◌⊎◌, ◌≤◌, ℕ, inl, inr, List, Result, Ok, Err, refl, sym, ap, ◌∙◌, subst, Files, Reply, EngineError, Report, Action, IsExplanationOn, FileRun, FileState, IsAnswerOn, Stamps, LeavesStamps, FollowsStamps, IfOk, IfErr, IsSynced, IsSyncRefused, IsStamped, IsStampedRefused, TreeState, at, FollowsSync, History, IsAnswerAfter, IsGivenUp, FollowsStale, Run, Shows, Form, Refusal, Engine, Ending, given, EndsImpact, EndsStale, EndsWhy, FollowsImpact, FollowsWhy, Runs, RunsAll, RunsOn, by_files, by_histories, count_of, not_counted, HasGivenUp, actions_of, script_actions, script_at, spelling_of, KconfigText, read_in}
 use Rattle.ks_engine.specs.declared.question.Limit.TheVariants.{All as Every}
 use Rattle.ks_requests.specs.declared.request.Stamps.TheVariants as stamps
 use Rattle.ks_commands.proofs.Verdicts.{answers_weaker, verdicts_weaker}
 
 -- what a synchronisation leaves is what the one or the other call leaves
-pub sync_said : (old new : Files) (k d : List ℕ) (r : Result Report EngineError) → IfOk r (IsSynced old new k d) → IfErr r (IsSyncRefused old new k d)
+pub sync_said : (old new : Files) (k : KconfigText) (d : List ℕ) (r : Result Report EngineError) → IfOk r (IsSynced old new k d) → IfErr r (IsSyncRefused old new k d)
     → LeavesStamps old new stamps.Touched k d r
 sync_said old new k d (Ok report) ok err = ok
 sync_said old new k d (Err e) ok err = err
 
-pub stamped_said : (old new : Files) (k d : List ℕ) (r : Result Report EngineError) → IfOk r (IsStamped old new k d)
+pub stamped_said : (old new : Files) (k : KconfigText) (d : List ℕ) (r : Result Report EngineError) → IfOk r (IsStamped old new k d)
     → IfErr r (IsStampedRefused old new k d) → LeavesStamps old new stamps.Declared k d r
 stamped_said old new k d (Ok report) ok err = ok
 stamped_said old new k d (Err e) ok err = err
 
-pub sync_leaves : (old mid new : Files) (which : Stamps) (k k' d d' : List ℕ) (answer : Result Report EngineError) → mid ≡ old → k ≡ k' → d ≡ d'
+pub sync_leaves : (old mid new : Files) (which : Stamps) (k k' : KconfigText) (d d' : List ℕ) (answer : Result Report EngineError) → mid ≡ old → k ≡ k' → d ≡ d'
     → LeavesStamps mid new which k d answer → LeavesStamps old new which k' d' answer
 sync_leaves old mid new which k k' d d' answer same same_k same_d leaves =
     subst (λ (f : Files). LeavesStamps f new which k' d' answer) same
-    (subst (λ (x : List ℕ). LeavesStamps mid new which x d' answer) same_k (subst (λ (x : List ℕ). LeavesStamps mid new which k x answer) same_d leaves))
+    (subst (λ (x : KconfigText). LeavesStamps mid new which x d' answer) same_k (subst (λ (x : List ℕ). LeavesStamps mid new which k x answer) same_d leaves))
 
 -- what was counted before does not matter to a synchronisation
-counted_aside : (old : Files) (m n : ℕ) (h : History) (k d : List ℕ) (answer : Result Report EngineError) (new : TreeState)
+counted_aside : (old : Files) (m n : ℕ) (h : History) (k : KconfigText) (d : List ℕ) (answer : Result Report EngineError) (new : TreeState)
     → FollowsSync k d answer (at old m h) new → FollowsSync k d answer (at old n h) new
 counted_aside old m n h k d (Ok report) new f = record { files = f.files; history = f.history; generation = f.generation; changed = f.changed }
 counted_aside old m n h k d (Err e) new f = f
 
-stamps_aside : (old : Files) (m n : ℕ) (h : History) (which : Stamps) (k d : List ℕ) (answer : Result Report EngineError) (new : TreeState)
+stamps_aside : (old : Files) (m n : ℕ) (h : History) (which : Stamps) (k : KconfigText) (d : List ℕ) (answer : Result Report EngineError) (new : TreeState)
     → FollowsStamps which k d answer (at old m h) new → FollowsStamps which k d answer (at old n h) new
 stamps_aside old m n h stamps.Touched k d answer new f = counted_aside old m n h k d answer new f
 stamps_aside old m n h stamps.Declared k d (Ok report) new f = record {
@@ -52,12 +52,12 @@ stamps_aside old m n h stamps.Declared k d (Err e) new (inr (given, f)) = inr (
   },
 )
 
-pub sync_follows : (old mid : Files) (m n : ℕ) (h : History) (which : Stamps) (k k' d d' : List ℕ) (answer : Result Report EngineError) (new : TreeState)
+pub sync_follows : (old mid : Files) (m n : ℕ) (h : History) (which : Stamps) (k k' : KconfigText) (d d' : List ℕ) (answer : Result Report EngineError) (new : TreeState)
     → mid ≡ old → k ≡ k' → d ≡ d'
     → FollowsStamps which k d answer (at mid n h) new → FollowsStamps which k' d' answer (at old m h) new
 sync_follows old mid m n h which k k' d d' answer new same same_k same_d follows =
     stamps_aside old n m h which k' d' answer new (subst (λ (f : Files). FollowsStamps which k' d' answer (at f n h) new) same
-    (subst (λ (x : List ℕ). FollowsStamps which x d' answer (at mid n h) new) same_k
+    (subst (λ (x : KconfigText). FollowsStamps which x d' answer (at mid n h) new) same_k
     (subst (λ (x : List ℕ). FollowsStamps which k x answer (at mid n h) new) same_d follows)))
 
 -- a script that is refused where it is read
@@ -118,18 +118,18 @@ why_follows dialect old new h form targets ended same shows ends =
     (λ o answer. FollowsWhy (at old.files old.failures h) o answer (at new.files new.failures h)) not_counted targets ended
     (λ o answer is. record { same = (same, refl); by_files = is.by_files; verdict = is.verdict; recorded = λ r was. is.recorded h r shows was }) ends
 
-pub impact_follows : (old new : FileState) (h : History) (k d : List ℕ) (form : Form) (targets : Result (List (List ℕ)) EngineError) (ended : Ending)
-    → new.files ≡ old.files → Shows old.files h → EndsImpact old.files (IsAnswerAfter old.files) k d form targets ended
-    → EndsImpact old.files (λ k d o answer. FollowsImpact (at old.files old.failures h) k d o answer (at new.files new.failures h)) k d form targets ended
-impact_follows old new h k d form targets ended same shows (inl stopped) = inl stopped
-impact_follows old new h k d form targets ended same shows (inr (t, there, inl refused)) = inr (t, there, inl refused)
-impact_follows old new h k d form targets ended same shows (inr (t, there, inr (can, ends))) = inr (
+pub impact_follows : (dialect : Dialect) (old new : FileState) (h : History) (k d : List ℕ) (form : Form) (targets : Result (List (List ℕ)) EngineError) (ended : Ending)
+    → new.files ≡ old.files → Shows old.files h → EndsImpact dialect old.files (λ k. IsAnswerAfter old.files (read_in dialect k)) k d form targets ended
+    → EndsImpact dialect old.files (λ k d o answer. FollowsImpact (at old.files old.failures h) (read_in dialect k) d o answer (at new.files new.failures h)) k d form targets ended
+impact_follows dialect old new h k d form targets ended same shows (inl stopped) = inl stopped
+impact_follows dialect old new h k d form targets ended same shows (inr (t, there, inl refused)) = inr (t, there, inl refused)
+impact_follows dialect old new h k d form targets ended same shows (inr (t, there, inr (can, ends))) = inr (
   t,
   there,
   inr (
     can,
-    verdicts_weaker form (IsAnswerAfter old.files t.kconfig t.dotconfig)
-        (λ o answer. FollowsImpact (at old.files old.failures h) t.kconfig t.dotconfig o answer (at new.files new.failures h)) count_of targets ended
+    verdicts_weaker form (IsAnswerAfter old.files (read_in dialect t.kconfig) t.dotconfig)
+        (λ o answer. FollowsImpact (at old.files old.failures h) (read_in dialect t.kconfig) t.dotconfig o answer (at new.files new.failures h)) count_of targets ended
         (λ o answer is. record {
           same = (same, refl);
           by_files = is.by_files;

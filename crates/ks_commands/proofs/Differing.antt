@@ -1,8 +1,8 @@
 -- What is told of a comparison, and what its status says.
-use Rattle.ks_commands.proofs.Prelude.{◌≡◌, ◌↔◌, ◌∙◌, ℕ, List, [], ◌∷◌, true, false, ◌||◌, cond, Ok, refl, sym, ap, arith, bytes_eq-Decides, Configuration, is_in, Texts, AreChanges, differs, Telling, Outcome, IsUnknown, TellsUnknown, code_of, unknown_lines, Files, IsDiff, asks_status, difference_status, lines_asked, StatusesTellDifferences}
+use Rattle.ks_commands.proofs.Prelude.{◌≡◌, ◌↔◌, ◌∙◌, ℕ, List, [], ◌∷◌, true, false, ◌||◌, cond, Ok, refl, sym, ap, arith, bytes_eq-Decides, Configuration, is_in, Texts, AreChanges, differs, Telling, Outcome, IsUnknown, TellsUnknown, code_of, unknown_lines, Files, IsDiff, asks_status, difference_status, lines_asked, StatusesTellDifferences, KconfigText}
 
 -- an outcome tells what it holds
-pub told_of : (telling : Telling) (files : Files) (kconfig dotconfig : List ℕ) (o : Outcome)
+pub told_of : (telling : Telling) (files : Files) (kconfig : KconfigText) (dotconfig : List ℕ) (o : Outcome)
     → IsDiff telling files kconfig dotconfig o.text.items (code_of o.status) × IsUnknown (lines_asked telling (unknown_lines kconfig dotconfig)) o.count
     → (text : List ℕ) × (status : ℕ) × IsDiff telling files kconfig dotconfig text status
     × TellsUnknown text status (lines_asked telling (unknown_lines kconfig dotconfig)) (Ok o)

@@ -1,5 +1,5 @@
 -- What follows from how a request ended.
-use Rattle.ks_commands.proofs.Prelude.{◌≡◌, ◌∙◌, ◌≤◌, ℕ, List, Option, Ok, Err, inl, inr, sym, ap, subst, arith, lit≤, Appends, Files, EngineError, OutOfMemory, IsGivenUp, Stamps, LeavesStamps, Refusal, Engine, Outcome, Status, State, Ending, Printed, WritesPreview, code_of, IsPreviewed, PreviewsArePerformed, RefusalsChangeNothing, StatusesAreAtMostTwo, EndsPreview, HasGivenUp}
+use Rattle.ks_commands.proofs.Prelude.{◌≡◌, ◌∙◌, ◌≤◌, ℕ, List, Option, Ok, Err, inl, inr, sym, ap, subst, arith, lit≤, Appends, Files, EngineError, OutOfMemory, IsGivenUp, Stamps, LeavesStamps, Refusal, Engine, Outcome, Status, State, Ending, Printed, WritesPreview, code_of, IsPreviewed, PreviewsArePerformed, RefusalsChangeNothing, StatusesAreAtMostTwo, EndsPreview, HasGivenUp, KconfigText, Dialect}
 use Rattle.ks_requests.specs.declared.request.Request.TheVariants as request
 use Rattle.ks_requests.specs.declared.request.Stamps.TheVariants as stamps
 use Rattle.ks_requests.specs.declared.status.Status.TheVariants as status
@@ -19,7 +19,7 @@ given_up r e plain is up = absurd (plain (subst HasGivenUp (sym (same_refusal r 
 no_memory : {C : Type 0} (r : Refusal) → (HasGivenUp r → ⊥) → r ≡ Engine OutOfMemory → C
 no_memory r plain is = absurd (plain (subst HasGivenUp (sym is) tt))
 
-refused_sync_changes_nothing : (which : Stamps) (k d : List ℕ) (r : Refusal) (e : EngineError) (old new : Files) → (HasGivenUp r → ⊥)
+refused_sync_changes_nothing : (which : Stamps) (k : KconfigText) (d : List ℕ) (r : Refusal) (e : EngineError) (old new : Files) → (HasGivenUp r → ⊥)
     → ◌≡◌ {A = Ending} (Err r) (Err (Engine e)) → LeavesStamps old new which k d (Err e) → new ≡ old
 refused_sync_changes_nothing stamps.Touched k d r e old new plain told (inl refused) = refused.1
 refused_sync_changes_nothing stamps.Touched k d r e old new plain told (inr up) = given_up r e plain told up.0
@@ -69,28 +69,28 @@ statuses_are_at_most_two (Err r) following b a eb ea s refused = record { at_mos
 
 -- ---- previews
 
-preview_written : (files : Files) (k d : List ℕ) (o : Option (List ℕ)) (outcome : Outcome) (before after : Option (List ℕ))
-    → EndsPreview files k d o (Ok outcome)
-    → Appends before after outcome.text.items → (code_of outcome.status ≡ 0) × WritesPreview files k d o before after
-preview_written files k d o outcome before after (inl stopped) appended = no_outcome outcome (Engine stopped.0) stopped.2
-preview_written files k d o outcome before after (inr (i, at, inl (text, is, told))) appended =
+preview_written : (dialect : Dialect) (files : Files) (k d : List ℕ) (o : Option (List ℕ)) (outcome : Outcome) (before after : Option (List ℕ))
+    → EndsPreview dialect files k d o (Ok outcome)
+    → Appends before after outcome.text.items → (code_of outcome.status ≡ 0) × WritesPreview dialect files k d o before after
+preview_written dialect files k d o outcome before after (inl stopped) appended = no_outcome outcome (Engine stopped.0) stopped.2
+preview_written dialect files k d o outcome before after (inr (i, at, inl (text, is, told))) appended =
     (told.1, record { inputs = i; there = at; previews = record { text = text; is_preview = is; appended = subst (Appends before after) told.0 appended } })
-preview_written files k d o outcome before after (inr (i, at, inr (e, other, refusal, ended))) appended = no_outcome outcome _ ended
+preview_written dialect files k d o outcome before after (inr (i, at, inr (e, other, refusal, ended))) appended = no_outcome outcome _ ended
 
-done_or_refused : (k d : List ℕ) (o : Option (List ℕ)) (ended : Ending) (following : List ℕ) (old new : Files) (b a eb ea : State) (s : ℕ) → new ≡ old
-    → EndsPreview old k d o ended
-    → Printed following ended b a eb ea s → IsPreviewed k d o old new b a s
-done_or_refused k d o (Ok outcome) following old new b a eb ea s same ends (inl prints) =
-    let both = preview_written old k d o outcome b.bytes a.bytes ends prints.output.takes.bytes in
+done_or_refused : (dialect : Dialect) (k d : List ℕ) (o : Option (List ℕ)) (ended : Ending) (following : List ℕ) (old new : Files) (b a eb ea : State) (s : ℕ) → new ≡ old
+    → EndsPreview dialect old k d o ended
+    → Printed following ended b a eb ea s → IsPreviewed dialect k d o old new b a s
+done_or_refused dialect k d o (Ok outcome) following old new b a eb ea s same ends (inl prints) =
+    let both = preview_written dialect old k d o outcome b.bytes a.bytes ends prints.output.takes.bytes in
     record { answered = inl (prints.answers ∙ both.0); written = λ zero. both.1; unchanged = same }
-done_or_refused k d o (Ok outcome) following old new b a eb ea s same ends (inr cut) =
+done_or_refused dialect k d o (Ok outcome) following old new b a eb ea s same ends (inr cut) =
     record { answered = inr cut.refused; written = λ zero. absurd (omega (arith, zero, cut.refused)); unchanged = same }
-done_or_refused k d o (Err r) following old new b a eb ea s same ends refused =
+done_or_refused dialect k d o (Err r) following old new b a eb ea s same ends refused =
     record { answered = inr refused.2; written = λ zero. absurd (omega (arith, zero, refused.2)); unchanged = same }
 
 pub previews_are_performed : PreviewsArePerformed
 previews_are_performed dialect k d o (request.Preview k' d' o') ended following old new b a eb ea s is ends printed =
-    rw (← is.0, ← is.1, ← is.2) (done_or_refused _ _ _ ended following old.files new.files b a eb ea s ends.0 ends.1 printed)
+    rw (← is.0, ← is.1, ← is.2) (done_or_refused dialect _ _ _ ended following old.files new.files b a eb ea s ends.0 ends.1 printed)
 previews_are_performed dialect k d o (request.Sync k' d' which) ended following old new b a eb ea s is ends printed = absurd is
 previews_are_performed dialect k d o (request.Diff k' d' telling) ended following old new b a eb ea s is ends printed = absurd is
 previews_are_performed dialect k d o (request.Fixdep d' t c) ended following old new b a eb ea s is ends printed = absurd is

@@ -1,5 +1,5 @@
 -- What scripts and runs of the program tell: no synchronisation was broken off before one of them where none was at the end.
-use Rattle.ks_commands.proofs.Prelude.{Dialect, ◌≡◌, ◌∙◌, ◌<◌, ℕ, Bool, cond, refl, List, [], ◌∷◌, Some, Result, Ok, Err, IfOk, IsTrue, inl, inr, ⊎_elim, sym, ap, ap₂, string_bytes, subst, filter, map, fold, max, arith, All, is_command, All-nil, All-cons, Reply, Synced, Recorded, Verdict, Refused, EngineError, Explanation, BuildState, Report, Action, Sync, Record, Stale, TreeState, FollowsSync, FollowsRecord, FollowsRecordUnder, FollowsDepfile, FollowsStamps, Stamps, Conventions, usual, History, LastRecord, NoneBroken, last_record, HasSameDefinitions, FollowsStale, Leads, Leaves, Step, changed_since, found, suspect_since, IsChangedVerdict, IsGivenUpSync, suspect_since-changed_since, Form, Request, Ending, reply_status, worst, targets_at, BatchTellsChanges, ProgramsTellChanges, Continues, EndsImpact, EndsStale, EndsWhy, FollowsImpact, FollowsOutdated, FollowsWhy, Runs, by_histories, count_of, not_counted, Chain, ProgramRun, ProgramTellsChanges, StepsTellChanges, TellsAfter, TellsBuild, TellsCauses, TellsChange, changes_told, spelling_of}
+use Rattle.ks_commands.proofs.Prelude.{Dialect, ◌≡◌, ◌∙◌, ◌<◌, ℕ, Bool, cond, refl, List, [], ◌∷◌, Some, Result, Ok, Err, IfOk, IsTrue, inl, inr, ⊎_elim, sym, ap, ap₂, string_bytes, subst, filter, map, fold, max, arith, All, is_command, All-nil, All-cons, Reply, Synced, Recorded, Verdict, Refused, EngineError, Explanation, BuildState, Report, Action, Sync, Record, Stale, TreeState, FollowsSync, FollowsRecord, FollowsRecordUnder, FollowsDepfile, FollowsStamps, Stamps, Conventions, usual, History, LastRecord, NoneBroken, last_record, HasSameDefinitions, FollowsStale, Leads, Leaves, Step, changed_since, found, suspect_since, IsChangedVerdict, IsGivenUpSync, suspect_since-changed_since, Form, Request, Ending, reply_status, worst, targets_at, BatchTellsChanges, ProgramsTellChanges, Continues, EndsImpact, EndsStale, EndsWhy, FollowsImpact, FollowsOutdated, FollowsWhy, Runs, by_histories, count_of, not_counted, Chain, ProgramRun, ProgramTellsChanges, StepsTellChanges, TellsAfter, TellsBuild, TellsCauses, TellsChange, changes_told, spelling_of, KconfigText, read_in}
 use Rattle.ks_engine.specs.declared.question.Limit.TheVariants.{All as Every}
 use Rattle.ks_engine.specs.declared.recording.Recorded.{Recorded as RecordAnswer}
 use Rattle.ks_requests.specs.declared.request.Request.TheVariants as request
@@ -8,7 +8,7 @@ use Rattle.ks_commands.proofs.Verdicts.{answers_weaker, verdicts_weaker}
 
 -- ---- none was broken off before a step where none is after it
 
-none_before_sync : (k d : List ℕ) (answer : Result Report EngineError) (old new : TreeState) → FollowsSync k d answer old new → NoneBroken new.history
+none_before_sync : (k : KconfigText) (d : List ℕ) (answer : Result Report EngineError) (old new : TreeState) → FollowsSync k d answer old new → NoneBroken new.history
     → NoneBroken old.history
 none_before_sync k d (Ok report) old new is none = subst NoneBroken is.history none
 none_before_sync k d (Err e) old new (inl plain) none = subst NoneBroken plain.1.1 none
@@ -16,7 +16,7 @@ none_before_sync k d (Err e) old new (inr (given, inl same)) none = subst NoneBr
 none_before_sync k d (Err e) old new (inr (given, inr (broken, inl event))) none = absurd (subst NoneBroken event none)
 none_before_sync k d (Err e) old new (inr (given, inr (broken, inr event))) none = subst NoneBroken event none
 
-none_before_stamps : (which : Stamps) (k d : List ℕ) (answer : Result Report EngineError) (old new : TreeState)
+none_before_stamps : (which : Stamps) (k : KconfigText) (d : List ℕ) (answer : Result Report EngineError) (old new : TreeState)
     → FollowsStamps which k d answer old new → NoneBroken new.history → NoneBroken old.history
 none_before_stamps stamps.Touched k d answer old new is none = none_before_sync k d answer old new is none
 none_before_stamps stamps.Declared k d (Ok report) old new is none =
@@ -47,8 +47,8 @@ none_before_depfile conventions d t c (Err e) old new (inr (inr (given, tried)))
     none_before_recorded conventions d t c (Ok tried.answer) old tried.between tried.recorded (subst NoneBroken tried.history none)
 
 none_before_step : (dialect : Dialect) (a : Action) (r : Reply) (old new : TreeState) → Leaves dialect old a r new → NoneBroken new.history → NoneBroken old.history
-none_before_step dialect (Sync k d) (Synced report) old new is none = none_before_sync k d (Ok report) old new is none
-none_before_step dialect (Sync k d) (Refused e) old new is none = none_before_sync k d (Err e) old new is none
+none_before_step dialect (Sync k d) (Synced report) old new is none = none_before_sync (read_in dialect k) d (Ok report) old new is none
+none_before_step dialect (Sync k d) (Refused e) old new is none = none_before_sync (read_in dialect k) d (Err e) old new is none
 none_before_step dialect (Sync k d) (Recorded answer) old new is none = absurd is
 none_before_step dialect (Sync k d) (Verdict v) old new is none = absurd is
 none_before_step dialect (Record d t c) (Recorded answer) old new is none = none_before_record dialect d t c (Ok answer) old new is none
@@ -120,16 +120,16 @@ why_tells dialect old new form targets ended none ends =
       causes = λ r was. causes_changed old o answer none (is.recorded r was).suspects;
     }) ends
 
-impact_tells : (old new : TreeState) (k d : List ℕ) (form : Form) (targets : Result (List (List ℕ)) EngineError) (ended : Ending) → NoneBroken old.history
-    → EndsImpact old.files (λ k d o answer. FollowsImpact old k d o answer new) k d form targets ended → EndsImpact old.files (TellsAfter old) k d form targets ended
-impact_tells old new k d form targets ended none (inl stopped) = inl stopped
-impact_tells old new k d form targets ended none (inr (t, there, inl refused)) = inr (t, there, inl refused)
-impact_tells old new k d form targets ended none (inr (t, there, inr (can, ends))) = inr (
+impact_tells : (dialect : Dialect) (old new : TreeState) (k d : List ℕ) (form : Form) (targets : Result (List (List ℕ)) EngineError) (ended : Ending) → NoneBroken old.history
+    → EndsImpact dialect old.files (λ k d o answer. FollowsImpact old (read_in dialect k) d o answer new) k d form targets ended → EndsImpact dialect old.files (λ k. TellsAfter old (read_in dialect k)) k d form targets ended
+impact_tells dialect old new k d form targets ended none (inl stopped) = inl stopped
+impact_tells dialect old new k d form targets ended none (inr (t, there, inl refused)) = inr (t, there, inl refused)
+impact_tells dialect old new k d form targets ended none (inr (t, there, inr (can, ends))) = inr (
   t,
   there,
   inr (
     can,
-    verdicts_weaker form (λ o answer. FollowsImpact old t.kconfig t.dotconfig o answer new) (TellsAfter old t.kconfig t.dotconfig)
+    verdicts_weaker form (λ o answer. FollowsImpact old (read_in dialect t.kconfig) t.dotconfig o answer new) (TellsAfter old (read_in dialect t.kconfig) t.dotconfig)
         count_of targets ended (λ o answer is after report synced. record {
           changed = λ r was. (is.recorded after report synced r was).changed none;
           safe = λ r was fresh. (is.recorded after report synced r was).safe fresh;
@@ -181,7 +181,7 @@ program_tells dialect (request.Stale ts f) ended old new is none =
 program_tells dialect (request.Why ts f) ended old new is none =
     (is.0, why_tells dialect old new f (targets_at old.files ts) ended (none_before_program dialect (request.Why ts f) ended old new is none) is.1)
 program_tells dialect (request.Impact k d ts f) ended old new is none =
-    (is.0, impact_tells old new _ _ f (targets_at old.files ts) ended (none_before_program dialect (request.Impact k d ts f) ended old new is none) is.1)
+    (is.0, impact_tells dialect old new _ _ f (targets_at old.files ts) ended (none_before_program dialect (request.Impact k d ts f) ended old new is none) is.1)
 program_tells dialect (request.Outdated t c) ended old new is none =
     let before = none_before_program dialect (request.Outdated t c) ended old new is none in
     (is.0, (is.1.0, build_tells old new (string_bytes t) (string_bytes c) is.1.0 before is.1.1, is.1.2))

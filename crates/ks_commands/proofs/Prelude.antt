@@ -70,12 +70,13 @@ pub use Rattle.ks_fixdep.specs.CommandFile.{CommandRecord, is_command}
 pub use Rattle.ks_fixdep.specs.FoundNames.{all_noted}
 pub use Rattle.ks_fixdep.specs.Borrowed.{borrowed_view, seen_dep}
 pub use Rattle.ks_fixdep.specs.Record.{config_names}
+pub use Rattle.ks_fixdep.specs.DependencyFile.{prerequisites_without, refusal_without}
 pub use Rattle.ks_fixdep.specs.Dialects.{rules_for}
 pub use Rattle.ks_fixdep.specs.SourceScan.{names_by}
 pub use Rattle.ks_fixdep.specs.declared.command_file.Dep.{Dep}
 pub use Rattle.ks_fixdep.specs.declared.command_file.Dep.TheVariants.{Config, File}
 pub use Rattle.ks_fixdep.specs.declared.command_file.borrowed.BorrowedDep.{BorrowedDep}
-pub use Rattle.ks_fixdep.specs.declared.dialect.Dialect.{Dialect}
+pub use Rattle.ks_symbols.specs.declared.dialect.Dialect.{Dialect}
 pub use Rattle.ks_output.specs.AutoText.{auto_text}
 pub use Rattle.ks_output.specs.OldConfig.{Texts}
 pub use Rattle.ks_requests.specs.Endings.{Ending, IsUnknown, Printed, TellsUnknown}
@@ -107,6 +108,7 @@ pub use Rattle.ks_streams.specs.Streams.{State}
 pub use Rattle.ks_symbols.proofs.Faults.{unknown-cons}
 pub use Rattle.ks_symbols.specs.Configuration.{Configuration}
 pub use Rattle.ks_symbols.specs.DotConfig.{dotconfig_refusal, is_of_unknown, unknown_count}
+pub use Rattle.ks_symbols.specs.Dialects.{KconfigText, read_in}
 pub use Rattle.ks_symbols.specs.Kconfig.{declared, kconfig_refusal}
 pub use Rattle.ks_symbols.specs.Lines.{lines, max_bytes}
 pub use Rattle.ks_symbols.specs.Names.{is_in}

@@ -1,5 +1,5 @@
 -- What a read after a refusal leaves.
-use Rattle.ks_commands.proofs.Prelude.{Dialect, ◌≡◌, ◌≢◌, ℕ, List, Option, Some, None, Ok, Err, IfSome, inl, inr, refl, sym, ap, ◌∙◌, subst, arith, Ghosts, Files, Reads, EngineError, OutOfMemory, Conventions, FollowsDepfile, FollowsStamps, Stamps, FileState, state, TreeState, at, History, Shows, Refusal, Engine, Request, Ending, IsSiteLine, IsThere, Site, excerpt_at, site_of, Continues, Ends, Performs, by_files}
+use Rattle.ks_commands.proofs.Prelude.{Dialect, ◌≡◌, ◌≢◌, ℕ, List, Option, Some, None, Ok, Err, IfSome, inl, inr, refl, sym, ap, ◌∙◌, subst, arith, Ghosts, Files, Reads, EngineError, OutOfMemory, Conventions, FollowsDepfile, FollowsStamps, Stamps, FileState, state, TreeState, at, History, Shows, Refusal, Engine, Request, Ending, IsSiteLine, IsThere, Site, excerpt_at, site_of, Continues, Ends, Performs, by_files, KconfigText}
 use Rattle.ks_requests.specs.declared.request.Request.TheVariants as request
 use Rattle.ks_requests.specs.declared.request.Stamps.TheVariants as stamps
 
@@ -42,7 +42,7 @@ no_site (request.Cost top ts) = refl
 no_memory : {C : Type 0} (r : Refusal) → r ≢ Engine OutOfMemory → ◌≡◌ {A = Ending} (Err r) (Err (Engine OutOfMemory)) → C
 no_memory r plain is = absurd (plain cc)
 
-stamps_aside : (which : Stamps) (k d : List ℕ) (e : EngineError) (old : TreeState) (files : Files) (m n : ℕ) (h : History)
+stamps_aside : (which : Stamps) (k : KconfigText) (d : List ℕ) (e : EngineError) (old : TreeState) (files : Files) (m n : ℕ) (h : History)
     → FollowsStamps which k d (Err e) old (at files m h) → FollowsStamps which k d (Err e) old (at files n h)
 stamps_aside stamps.Touched k d e old files m n h refused = refused
 stamps_aside stamps.Declared k d e old files m n h (inl refused) = inl refused

@@ -1,5 +1,5 @@
 -- Names that no Kconfig declares, and what a plan counts of them.
-use Rattle.ks_commands.proofs.Prelude.{◌≡◌, ◌∙◌, ◌+◌, ◌++◌, inl, inr, ℕ, Bool, true, false, List, [], ◌∷◌, Option, Some, None, Result, Ok, Err, cond, is_none, length, nat_eq, flat_map, refl, sym, ap, ap₂, subst, arith, SourceError, Kind, dotconfig_refusal, is_of_unknown, unknown_count, declared, kconfig_refusal, lines, max_bytes, IsRefusal, or_else, Statement, name_of, statement, unknown-cons, auto_text, Files, content, auto_path, EngineError, GenerationFull, TooLarge, OldAuto, old_auto, IsGivenUp, and_then, of_source, IsSyncPlan, Plan, Sources, plan_of, plan_over, unknown_in, unknown_line, unknown_lines, unknown_names, Telling, Lines, LinesAndStatus, lines_asked}
+use Rattle.ks_commands.proofs.Prelude.{◌≡◌, ◌∙◌, ◌+◌, ◌++◌, inl, inr, ℕ, Bool, true, false, List, [], ◌∷◌, Option, Some, None, Result, Ok, Err, cond, is_none, length, nat_eq, flat_map, refl, sym, ap, ap₂, subst, arith, SourceError, Kind, dotconfig_refusal, is_of_unknown, unknown_count, declared, kconfig_refusal, lines, max_bytes, IsRefusal, or_else, Statement, name_of, statement, unknown-cons, auto_text, Files, content, auto_path, EngineError, GenerationFull, TooLarge, OldAuto, old_auto, IsGivenUp, and_then, of_source, IsSyncPlan, Plan, Sources, plan_of, plan_over, unknown_in, unknown_line, unknown_lines, unknown_names, Telling, Lines, LinesAndStatus, lines_asked, KconfigText}
 use Rattle.std.proofs.Common.{nat_lt}
 use Rattle.ks_symbols.specs.declared.error.SourceError.TheVariants as source
 use Rattle.ks_requests.specs.declared.telling.Telling.TheVariants.{Status}
@@ -19,7 +19,7 @@ none_unknown kinds (l ∷ ls) none =
     ap₂ (λ (xs ys : List (List ℕ)). xs ++ ys) (none_in kinds (statement l) (omega (arith, counted))) (none_unknown kinds ls (omega (arith, counted)))
 
 -- where none is counted there are no lines
-pub no_lines : (telling : Telling) (kconfig dotconfig : List ℕ) → unknown_count (declared kconfig) (lines dotconfig) ≡ 0
+pub no_lines : (telling : Telling) (kconfig : KconfigText) (dotconfig : List ℕ) → unknown_count (declared kconfig) (lines dotconfig) ≡ 0
     → lines_asked telling (unknown_lines kconfig dotconfig) ≡ []
 unfolding unknown_lines
 no_lines Status kconfig dotconfig none = refl
@@ -41,7 +41,7 @@ planned_over s (Ok auto) plan is =
     (nat_lt max_bytes (length (auto_text s.title s.config (auto.generation + 1)))) (plan_of s auto) plan is)
 
 -- a plan counts the lines of its texts
-pub plan_counts : (files : Files) (kconfig dotconfig : List ℕ) (plan : Plan) → IsSyncPlan files kconfig dotconfig (Ok plan)
+pub plan_counts : (files : Files) (kconfig : KconfigText) (dotconfig : List ℕ) (plan : Plan) → IsSyncPlan files kconfig dotconfig (Ok plan)
     → plan.unknown ≡ unknown_count (declared kconfig) (lines dotconfig)
 plan_counts files kconfig dotconfig plan (inl (e, refused, is)) = absurd cc
 plan_counts files kconfig dotconfig plan (inr (s, are, is)) = planned_over s (old_auto (content files auto_path)) plan is ∙ are.unknown
@@ -50,13 +50,13 @@ not_refused : (a b : Option SourceError) → or_else a b ≡ None → a ≡ None
 not_refused None b is = refl
 not_refused (Some e) b is = absurd cc
 
-accepted : (files : Files) (kconfig dotconfig : List ℕ) (plan : Plan) → IsSyncPlan files kconfig dotconfig (Ok plan) → kconfig_refusal kconfig ≡ None
+accepted : (files : Files) (kconfig : KconfigText) (dotconfig : List ℕ) (plan : Plan) → IsSyncPlan files kconfig dotconfig (Ok plan) → kconfig_refusal kconfig ≡ None
 accepted files kconfig dotconfig plan (inl (e, refused, is)) = absurd cc
 accepted files kconfig dotconfig plan (inr (s, are, is)) =
     not_refused (kconfig_refusal kconfig) (dotconfig_refusal (declared kconfig) dotconfig) are.accepted
 
 -- where there is a plan its Kconfig is refused for memory alone
-pub for_memory : (files : Files) (kconfig dotconfig : List ℕ) (plan : Plan) (e : SourceError) → IsSyncPlan files kconfig dotconfig (Ok plan)
+pub for_memory : (files : Files) (kconfig : KconfigText) (dotconfig : List ℕ) (plan : Plan) (e : SourceError) → IsSyncPlan files kconfig dotconfig (Ok plan)
     → IsRefusal source.OutOfMemory e (kconfig_refusal kconfig) → IsGivenUp (of_source e)
 for_memory files kconfig dotconfig plan e is (inl memory) = subst (λ w. IsGivenUp (of_source w)) (sym memory) tt
 for_memory files kconfig dotconfig plan e is (inr refused) =

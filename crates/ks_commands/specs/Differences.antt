@@ -4,6 +4,7 @@ use Rattle.std.specs.FinMap as map
 use Rattle.ks_symbols.specs.declared.kinds.Class.{Class}
 use Rattle.ks_symbols.specs.declared.kinds.Class.TheVariants as class
 use Rattle.ks_symbols.specs.Configuration.{Configuration}
+use Rattle.ks_symbols.specs.Dialects.{KconfigText}
 use Rattle.ks_symbols.specs.Values.{quoted}
 use Rattle.ks_output.specs.OldConfig.{Texts}
 use Rattle.ks_compare.specs.Changes.{AreChanges, compared}
@@ -19,6 +20,8 @@ class_word (Some class.Switch) = codes "bool/tristate"
 class_word (Some class.Text) = codes "string"
 class_word (Some class.Int) = codes "int"
 class_word (Some class.Hex) = codes "hex"
+class_word (Some class.Raw) = codes "raw string"
+class_word (Some class.Flag) = codes "flag"
 
 -- what a name has, with its class: a string as in a `.config`, all else as in auto.conf, and n where there is nothing
 abbrev pub shown_value : Option (Option Class × List ℕ) → List ℕ
@@ -63,6 +66,6 @@ pub record TellsChanges (telling : Telling) (old : Texts) (new : Configuration) 
   pub status_of : status ≡ difference_status telling names
 
 -- what a synchronisation of these two texts would touch, told
-abbrev pub IsDiff : Telling → Files → List ℕ → List ℕ → List ℕ → ℕ → Type 0
+abbrev pub IsDiff : Telling → Files → KconfigText → List ℕ → List ℕ → ℕ → Type 0
 IsDiff telling files kconfig dotconfig text status =
     (plan : Plan) × IsSyncPlan files kconfig dotconfig (Ok plan) × TellsChanges telling plan.old plan.config text status

@@ -2,7 +2,7 @@
 use Rattle.std.specs.Prelude.{◌≡◌, ◌⊎◌, ◌<◌, ◌≤◌, ◌↔◌, ℕ, List, Option, Err, IfOk, Ok, true}
 use Rattle.std.specs.List.{All}
 use Rattle.ks_streams.specs.Streams.{State}
-use Rattle.ks_fixdep.specs.declared.dialect.Dialect.{Dialect}
+use Rattle.ks_symbols.specs.declared.dialect.Dialect.{Dialect}
 use Rattle.ks_tree.specs.Files.{Files}
 use Rattle.ks_engine.specs.FileRuns.{FileState}
 use Rattle.ks_engine.specs.Follows.{TreeState}
@@ -25,9 +25,9 @@ use Rattle.ks_commands.specs.Programs.{Chain, ProgramRun, ProgramTellsChanges, c
 use Rattle.ks_commands.specs.Scripts.{HasGivenUp}
 
 -- A preview is done or refused, leaves the files as they are, and once done it has printed what is said of these words.
-pub record IsPreviewed (k d : List ℕ) (o : Option (List ℕ)) (old new : Files) (before after : State) (status : ℕ) : Type 0 where
+pub record IsPreviewed (dialect : Dialect) (k d : List ℕ) (o : Option (List ℕ)) (old new : Files) (before after : State) (status : ℕ) : Type 0 where
   pub answered : (status ≡ 0) ⊎ (status ≡ 2)
-  pub written : status ≡ 0 → WritesPreview old k d o before.bytes after.bytes
+  pub written : status ≡ 0 → WritesPreview dialect old k d o before.bytes after.bytes
   pub unchanged : new ≡ old
 
 abbrev pub PreviewsArePerformed : Type 0
@@ -35,7 +35,7 @@ PreviewsArePerformed =
     (dialect : Dialect) (k d : List ℕ) (o : Option (List ℕ)) (request : Request) (ended : Ending) (following : List ℕ) (old new : FileState)
     (before after err_before err_after : State) (status : ℕ)
     → IsPreviewOf k d o request → Ends old.files (by_files dialect old new) request ended → Printed following ended before after err_before err_after status
-    → IsPreviewed k d o old.files new.files before after status
+    → IsPreviewed dialect k d o old.files new.files before after status
 
 -- A refusal of the whole command leaves the files as before, but for want of memory and a failure of the device.
 abbrev pub RefusalsChangeNothing : Type 0

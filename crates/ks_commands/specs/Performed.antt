@@ -4,7 +4,8 @@ use Rattle.std.specs.List.{All}
 use Rattle.ks_fixdep.specs.CommandFile.{CommandRecord, is_command}
 use Rattle.ks_fixdep.specs.FoundNames.{all_noted}
 use Rattle.ks_fixdep.specs.declared.dependency_file.Header.{Header}
-use Rattle.ks_fixdep.specs.declared.dialect.Dialect.{Dialect}
+use Rattle.ks_symbols.specs.declared.dialect.Dialect.{Dialect}
+use Rattle.ks_symbols.specs.Dialects.{KconfigText, read_in}
 use Rattle.ks_tree.specs.declared.tree.Tree.{Ghosts}
 use Rattle.ks_tree.specs.Files.{Files, HasRisen}
 use Rattle.ks_engine.specs.declared.error.EngineError.{EngineError}
@@ -64,7 +65,7 @@ use Rattle.ks_commands.specs.Scripts.{AreSpelled, StoppedScript, script_at}
 
 -- What the engine's calls answer and leave: the one way of saying it by files, the other by histories.
 pub record Effects : Type 1 where
-  -- whose words name symbols
+  -- in which sources and Kconfigs are read
   pub dialect : Dialect
   -- all is as before
   pub same : Type 0
@@ -92,28 +93,28 @@ EndsRecord effects d t c ended = (answer : Result RecordAnswer EngineError) × e
 abbrev pub EndsDepfile : Effects → Option (List ℕ) → List ℕ → List ℕ → List ℕ → Ending → Type 0
 EndsDepfile effects end d t c ended =
     (effects.same × IsNoHeader end × (ended ≡ Err (Engine (BadPath 0))))
-    ⊎ ((header : Header) × IsHeaderOf end header
+    ⊎ ((header : Header) × IsHeaderOf effects.dialect end header
     × (answer : Result RecordAnswer EngineError) × effects.ruling header d t c answer × Answered (depfile_line t) answer ended)
 
 -- A preview of what the files hold, or the refusal that their texts have.
-abbrev pub EndsPreview : Files → List ℕ → List ℕ → Option (List ℕ) → Ending → Type 0
-EndsPreview files k d o ended =
+abbrev pub EndsPreview : Dialect → Files → List ℕ → List ℕ → Option (List ℕ) → Ending → Type 0
+EndsPreview dialect files k d o ended =
     Stopped (inputs_at files k d o) ended
-    ⊎ ((i : Inputs) × (inputs_at files k d o ≡ Ok i) × (((text : List ℕ) × IsPreview i.kconfig i.dotconfig i.old text × Tells text 0 ended)
-    ⊎ ((e : PreviewError) × (e ≢ PreviewOutput) × IsPreviewRefusal e (preview_refusal i.kconfig i.dotconfig i.old) × (ended ≡ Err (of_preview e)))))
+    ⊎ ((i : Inputs) × (inputs_at files k d o ≡ Ok i) × (((text : List ℕ) × IsPreview (read_in dialect i.kconfig) i.dotconfig i.old text × Tells text 0 ended)
+    ⊎ ((e : PreviewError) × (e ≢ PreviewOutput) × IsPreviewRefusal e (preview_refusal (read_in dialect i.kconfig) i.dotconfig i.old) × (ended ≡ Err (of_preview e)))))
 
 -- A synchronisation of these texts is refused before its first write, or memory or the device fails before that.
-abbrev pub StoppedSync : Files → Texts → Ending → Type 0
-StoppedSync files t ended = (e : EngineError) × (IsGivenUp e ⊎ IsSyncPlan files t.kconfig t.dotconfig (Err e)) × (ended ≡ Err (Engine e))
+abbrev pub StoppedSync : Dialect → Files → Texts → Ending → Type 0
+StoppedSync dialect files t ended = (e : EngineError) × (IsGivenUp e ⊎ IsSyncPlan files (read_in dialect t.kconfig) t.dotconfig (Err e)) × (ended ≡ Err (Engine e))
 
 -- What a synchronisation would touch, told; or the refusal that it would have before its first write.
-abbrev pub EndsDiff : Telling → Files → List ℕ → List ℕ → Ending → Type 0
-EndsDiff telling files k d ended =
+abbrev pub EndsDiff : Dialect → Telling → Files → List ℕ → List ℕ → Ending → Type 0
+EndsDiff dialect telling files k d ended =
     Stopped (texts_at files k d) ended
     ⊎ ((t : Texts) × (texts_at files k d ≡ Ok t)
-    × (((text : List ℕ) × (status : ℕ) × IsDiff telling files t.kconfig t.dotconfig text status
-    × TellsUnknown text status (lines_asked telling (unknown_lines t.kconfig t.dotconfig)) ended)
-    ⊎ StoppedSync files t ended))
+    × (((text : List ℕ) × (status : ℕ) × IsDiff telling files (read_in dialect t.kconfig) t.dotconfig text status
+    × TellsUnknown text status (lines_asked telling (unknown_lines (read_in dialect t.kconfig) t.dotconfig)) ended)
+    ⊎ StoppedSync dialect files t ended))
 
 abbrev pub EndsFixdep : Dialect → Files → List ℕ → List ℕ → List ℕ → Ending → Type 0
 EndsFixdep dialect files d t c ended =
@@ -160,16 +161,16 @@ abbrev pub EndsWhy : Files → Effects → Form → Result (List (List ℕ)) Eng
 EndsWhy files effects form targets ended = EndsAll (TellsAnswer form Every (spelling_of files) effects.why) not_counted targets ended
 
 -- There is a tree that a completed synchronisation of these texts leaves.
-abbrev pub CanBeSynced : Files → Texts → Type 0
-CanBeSynced files t = (after : Files) × (report : Report) × IsSynced files after t.kconfig t.dotconfig report
+abbrev pub CanBeSynced : Dialect → Files → Texts → Type 0
+CanBeSynced dialect files t = (after : Files) × (report : Report) × IsSynced files after (read_in dialect t.kconfig) t.dotconfig report
 
 -- What would be stale after a synchronisation, told; or the refusal that it would have before its first write.
-abbrev pub EndsImpact : Files → (List ℕ → List ℕ → List ℕ → Result Verdict EngineError → Type 0) → List ℕ → List ℕ → Form → Result (List (List ℕ)) EngineError → Ending → Type 0
-EndsImpact files impact k d form targets ended =
+abbrev pub EndsImpact : Dialect → Files → (List ℕ → List ℕ → List ℕ → Result Verdict EngineError → Type 0) → List ℕ → List ℕ → Form → Result (List (List ℕ)) EngineError → Ending → Type 0
+EndsImpact dialect files impact k d form targets ended =
     Stopped (texts_at files k d) ended
     ⊎ ((t : Texts) × (texts_at files k d ≡ Ok t)
-    × (StoppedSync files t ended
-    ⊎ (CanBeSynced files t × EndsAll (TellsVerdict form (impact t.kconfig t.dotconfig)) count_of targets ended)))
+    × (StoppedSync dialect files t ended
+    ⊎ (CanBeSynced dialect files t × EndsAll (TellsVerdict form (impact t.kconfig t.dotconfig)) count_of targets ended)))
 
 abbrev pub EndsOutdated : (List ℕ → List ℕ → Result BuildState EngineError → Type 0) → List ℕ → List ℕ → Ending → Type 0
 EndsOutdated outdated o c ended =
@@ -190,8 +191,8 @@ EndsBatch files effects path ended =
 
 abbrev pub Ends : Files → Effects → Request → Ending → Type 0
 Ends files effects (Sync k d stamps) ended = EndsSync files effects.same (effects.sync stamps) (string_bytes k) (string_bytes d) ended
-Ends files effects (Preview k d o) ended = effects.same × EndsPreview files (string_bytes k) (string_bytes d) (option_map (λ path. string_bytes path) o) ended
-Ends files effects (Diff k d telling) ended = effects.same × EndsDiff telling files (string_bytes k) (string_bytes d) ended
+Ends files effects (Preview k d o) ended = effects.same × EndsPreview effects.dialect files (string_bytes k) (string_bytes d) (option_map (λ path. string_bytes path) o) ended
+Ends files effects (Diff k d telling) ended = effects.same × EndsDiff effects.dialect telling files (string_bytes k) (string_bytes d) ended
 Ends files effects (Fixdep d t c) ended = effects.same × EndsFixdep effects.dialect files (string_bytes d) (string_bytes t) (string_bytes c) ended
 Ends files effects (Record d t c) ended = EndsRecord effects (string_bytes d) (string_bytes t) (string_bytes c) ended
 Ends files effects (Depfile end d t c) ended =
@@ -199,7 +200,7 @@ Ends files effects (Depfile end d t c) ended =
 Ends files effects (Stale targets form) ended = effects.same × EndsStale effects form (targets_at files targets) ended
 Ends files effects (Why targets form) ended = effects.same × EndsWhy files effects form (targets_at files targets) ended
 Ends files effects (Impact k d targets form) ended =
-    effects.same × EndsImpact files effects.impact (string_bytes k) (string_bytes d) form (targets_at files targets) ended
+    effects.same × EndsImpact effects.dialect files effects.impact (string_bytes k) (string_bytes d) form (targets_at files targets) ended
 Ends files effects (Outdated t c) ended = effects.same × EndsOutdated effects.outdated (string_bytes t) (string_bytes c) ended
 Ends files effects (Batch script) ended = EndsBatch files effects (string_bytes script) ended
 Ends files effects (Users symbols targets) ended = effects.same × EndsUsers files (symbols_of symbols.items) (targets_at files targets) ended
@@ -223,12 +224,12 @@ abbrev pub by_files : Dialect → FileState → FileState → Effects
 by_files dialect old new = record {
   dialect = dialect;
   same = new.files ≡ old.files;
-  sync = LeavesStamps old.files new.files;
+  sync = λ stamps k. LeavesStamps old.files new.files stamps (read_in dialect k);
   recording = LeavesRecord dialect old.files new.files;
   ruling = λ header. LeavesDepfile old.files new.files (record { header = header; dialect = dialect });
   stale = IsAnswerOn old.files;
   why = IsExplanationOn old.files;
-  impact = IsAnswerAfter old.files;
+  impact = λ k. IsAnswerAfter old.files (read_in dialect k);
   outdated = IsStateOf old.files;
   run = RunsOn dialect ⊤ old new;
 }
@@ -243,7 +244,7 @@ pub record FollowsWhy (old : TreeState) (o : List ℕ) (answer : Result Explanat
   pub recorded : (r : LastRecord) → last_record old.history o ≡ Some r → IsExplanationJudged old.files old.history o r answer
 
 -- of two texts and an object: judged by the history with their synchronisation added
-pub record FollowsImpact (old : TreeState) (k d o : List ℕ) (answer : Result Verdict EngineError) (new : TreeState) : Type 0 where
+pub record FollowsImpact (old : TreeState) (k : KconfigText) (d o : List ℕ) (answer : Result Verdict EngineError) (new : TreeState) : Type 0 where
   pub same : IsSame old new
   pub by_files : AnswersAfter old.files k d o answer
   pub recorded : (after : Files) (report : Report) (synced : IsSynced old.files after k d report) (r : LastRecord) → last_record old.history o ≡ Some r
@@ -263,12 +264,12 @@ abbrev pub by_histories : Dialect → TreeState → TreeState → Effects
 by_histories dialect old new = record {
   dialect = dialect;
   same = IsSame old new;
-  sync = λ stamps k d answer. FollowsStamps stamps k d answer old new;
+  sync = λ stamps k d answer. FollowsStamps stamps (read_in dialect k) d answer old new;
   recording = λ d t c answer. FollowsRecord dialect d t c answer old new;
   ruling = λ header d t c answer. FollowsDepfile (record { header = header; dialect = dialect }) d t c answer old new;
   stale = λ o answer. FollowsStale old o answer new;
   why = λ o answer. FollowsWhy old o answer new;
-  impact = λ k d o answer. FollowsImpact old k d o answer new;
+  impact = λ k d o answer. FollowsImpact old (read_in dialect k) d o answer new;
   outdated = λ o command answer. FollowsOutdated old o command answer new;
   run = Runs dialect old new;
 }

@@ -2,7 +2,8 @@
 use Rattle.std.specs.Prelude.{◌≡◌, ◌⊎◌, ◌≤◌, ℕ, List, [], ◌∷◌, Some, Result, Ok, IfOk, IsTrue, bytes_eq, filter, false, map, true}
 use Rattle.std.specs.List.{All}
 use Rattle.ks_fixdep.specs.CommandFile.{is_command}
-use Rattle.ks_fixdep.specs.declared.dialect.Dialect.{Dialect}
+use Rattle.ks_symbols.specs.declared.dialect.Dialect.{Dialect}
+use Rattle.ks_symbols.specs.Dialects.{KconfigText, read_in}
 use Rattle.ks_engine.specs.declared.commands.Reply.{Reply}
 use Rattle.ks_engine.specs.declared.error.EngineError.{EngineError}
 use Rattle.ks_tree.specs.Files.{Files}
@@ -52,7 +53,7 @@ pub record TellsCauses (s : TreeState) (o : List ℕ) (answer : Result Explanati
       → IfOk answer (λ e. map (λ c. c.name) e.causes.items ≡ filter (changed_since s.history o) (found s.history o))
 
 -- So does an answer after a synchronisation of two texts, of each state that this would leave.
-abbrev pub TellsAfter : TreeState → List ℕ → List ℕ → List ℕ → Result Verdict EngineError → Type 0
+abbrev pub TellsAfter : TreeState → KconfigText → List ℕ → List ℕ → Result Verdict EngineError → Type 0
 TellsAfter s k d o answer = (after : Files) (report : Report) (synced : IsSynced s.files after k d report)
     → TellsChange (at after s.failures (Synced synced.plan.title synced.plan.config s.history)) o answer
 
@@ -78,7 +79,7 @@ abbrev pub changes_told : Dialect → TreeState → TreeState → Effects
 changes_told dialect old new = record (by_histories dialect old new) {
   stale = TellsChange old;
   why = TellsCauses old;
-  impact = TellsAfter old;
+  impact = λ k. TellsAfter old (read_in dialect k);
   outdated = λ o command answer. IsTrue (is_command command) → TellsBuild old o command answer;
   run = StepsTellChanges dialect old new;
 }

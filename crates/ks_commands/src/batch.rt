@@ -23,9 +23,9 @@ ghost use Rattle.ks_commands.specs.Kept.{AreGiven, AreKept, IsKept};
 ghost use Rattle.ks_commands.specs.Scripts.{HasGivenUp, action_at, actions_at, line_of, of_engine, script_actions, without_files};
 
 use ks_engine::{Command, EngineError, run};
-use ks_fixdep::Dialect;
 use ks_requests::{Outcome, Refusal, read_given, tell_replies};
 use ks_script::{ScriptLine, read_script};
+use ks_symbols::Dialect;
 use ks_tree::{MemoryTree, Tree};
 use std::alloc::{AllocError, Global};
 

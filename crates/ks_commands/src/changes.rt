@@ -2,6 +2,7 @@
 //!
 //! A refusal of the engine is one of the whole command, and prints nothing to the output.
 ghost use Rattle.std.specs.Prelude.{◌≡◌, Err, IfErr, IfOk, IsErrOf, option_map};
+ghost use Rattle.ks_symbols.specs.Dialects.{read_in};
 ghost use Rattle.ks_tree.specs.Files.{HasRisen};
 ghost use Rattle.ks_tree.specs.Frames.{Counted};
 ghost use Rattle.ks_engine.specs.FileRuns.{state};
@@ -16,9 +17,9 @@ ghost use Rattle.ks_commands.specs.Performed.{EndsDepfile, EndsRecord, EndsSync,
 use ks_engine::{
     Conventions, EngineError, Report, record_depfile, record_object, sync, sync_stamped,
 };
-use ks_fixdep::{Dialect, Header};
+use ks_fixdep::Header;
 use ks_requests::{Outcome, Refusal, Stamps, tell_depfile, tell_recorded, tell_report, texts_at};
-use ks_symbols::path_is_legal;
+use ks_symbols::{Dialect, Kconfig, path_is_legal};
 use ks_tree::Tree;
 use std::alloc::Global;
 
@@ -27,7 +28,7 @@ fn sync_with<T: Tree>(
     alloc: Global,
     tree: &mut T,
     stamps: Stamps,
-    kconfig: &[u8],
+    kconfig: &Kconfig<'_>,
     dotconfig: &[u8],
 ) -> Result<Report, EngineError>
     ensures files { T.is_honest → LeavesStamps (T.files tree.old) (T.files tree.new) stamps kconfig.now dotconfig.now result }
@@ -44,19 +45,21 @@ fn sync_with<T: Tree>(
 pub(crate) fn synchronise<T: Tree>(
     alloc: Global,
     tree: &mut T,
+    dialect: Dialect,
     stamps: Stamps,
     kconfig: &[u8],
     dotconfig: &[u8],
 ) -> Result<Outcome, Refusal>
     ensures done { IfOk result (λ o. o.status ≡ Done) }
     ensures files { T.is_honest → EndsSync (T.files tree.old) (T.files tree.new ≡ T.files tree.old)
-        (LeavesStamps (T.files tree.old) (T.files tree.new) stamps) kconfig.now dotconfig.now result }
+        (λ k. LeavesStamps (T.files tree.old) (T.files tree.new) stamps (read_in dialect k)) kconfig.now dotconfig.now result }
     ensures goes_on { GoesOn T.Tree tree.old tree.new (λ old new. EndsSync old.files (IsSame old new)
-        (λ k d answer. FollowsStamps stamps k d answer old new) kconfig.now dotconfig.now result) }
+        (λ k d answer. FollowsStamps stamps (read_in dialect k) d answer old new) kconfig.now dotconfig.now result) }
     ensures cause { result ≡ Err (Engine Device) → HasRisen (T.failures tree.old) (T.failures tree.new) }
 {
     let texts = texts_at(alloc, tree, kconfig, dotconfig)?;
-    let report = sync_with(alloc, tree, stamps, &texts.kconfig, &texts.dotconfig)?;
+    let kconfig = Kconfig::new(dialect, &texts.kconfig);
+    let report = sync_with(alloc, tree, stamps, &kconfig, &texts.dotconfig)?;
     Ok(tell_report(alloc, &report)?)
 }
 
@@ -79,12 +82,12 @@ pub(crate) fn record_target<T: Tree>(
 }
 
 /// The header that a word names by the end of its path, or else the usual one.
-fn header_of(end: Option<&str>) -> Result<Header<'_>, EngineError>
-    ensures named { IfOk result (IsHeaderOf (option_map (λ p. p.now) end.entry)) }
+fn header_of<'a>(dialect: Dialect, end: Option<&'a str>) -> Result<Header<'a>, EngineError>
+    ensures named { IfOk result (IsHeaderOf dialect (option_map (λ p. p.now) end.entry)) }
     ensures refused { IfErr result (λ e. IsNoHeader (option_map (λ p. p.now) end.entry) × (e ≡ BadPath 0)) }
 {
     let Some(end) = end else {
-        return Ok(Header::Usual);
+        return Ok(Header::usual(dialect));
     };
     if !path_is_legal(end.as_bytes()) {
         return Err(EngineError::BadPath(0));
@@ -109,7 +112,7 @@ pub(crate) fn record_rule<T: Tree>(
         (option_map (λ p. p.now) header.entry) depfile.now target.now command.now result) }
     ensures cause { result ≡ Err (Engine Device) → HasRisen (T.failures tree.old) (T.failures tree.new) }
 {
-    let header = header_of(header)?;
+    let header = header_of(dialect, header)?;
     let conventions = Conventions { header, dialect };
     let recorded = record_depfile(alloc, tree, conventions, depfile, target, command)?;
     Ok(tell_depfile(alloc, target, &recorded)?)

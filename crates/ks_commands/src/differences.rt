@@ -24,7 +24,7 @@ ghost use Rattle.ks_commands.specs.Views.{seen_value};
 use ks_engine::{EngineError, plan_sync};
 use ks_output::{OldConfig, write_quoted};
 use ks_requests::{Count, Outcome, Refusal, Status, Telling, texts_at, unknown_lines};
-use ks_symbols::{Class, Name, Settings, SourceError};
+use ks_symbols::{Class, Dialect, Kconfig, Name, Settings, SourceError};
 use ks_tree::Tree;
 use std::alloc::{AllocError, Global};
 
@@ -63,6 +63,8 @@ fn class_word(class: Option<Class>) -> &'static [u8]
         Some(Class::Text) => b"string",
         Some(Class::Int) => b"int",
         Some(Class::Hex) => b"hex",
+        Some(Class::Raw) => b"raw string",
+        Some(Class::Flag) => b"flag",
     }
 }
 
@@ -171,7 +173,7 @@ fn difference_status(telling: Telling, names: &[Name]) -> Status
 fn unknown_asked(
     alloc: Global,
     telling: Telling,
-    kconfig: &[u8],
+    kconfig: &Kconfig<'_>,
     dotconfig: &[u8],
     unknown: u64,
 ) -> Result<Option<Count>, SourceError>
@@ -195,7 +197,7 @@ fn unknown_asked(
 fn differences<T: Tree>(
     alloc: Global,
     tree: &mut T,
-    kconfig: &[u8],
+    kconfig: &Kconfig<'_>,
     dotconfig: &[u8],
     telling: Telling,
 ) -> Result<Outcome, EngineError>
@@ -222,14 +224,16 @@ fn differences<T: Tree>(
 pub(crate) fn tell_differences<T: Tree>(
     alloc: Global,
     tree: &mut T,
+    dialect: Dialect,
     kconfig: &[u8],
     dotconfig: &[u8],
     telling: Telling,
 ) -> Result<Outcome, Refusal>
     ensures done { telling ≡ Telling.Lines → IfOk result (λ o. o.status ≡ Done) }
     ensures reads { Reads T.Tree tree.old tree.new (result ≡ Err (Engine Device)) }
-    ensures told { T.is_honest → EndsDiff telling (T.files tree.old) kconfig.now dotconfig.now result }
+    ensures told { T.is_honest → EndsDiff dialect telling (T.files tree.old) kconfig.now dotconfig.now result }
 {
     let texts = texts_at(alloc, tree, kconfig, dotconfig)?;
-    Ok(differences(alloc, tree, &texts.kconfig, &texts.dotconfig, telling)?)
+    let kconfig = Kconfig::new(dialect, &texts.kconfig);
+    Ok(differences(alloc, tree, &kconfig, &texts.dotconfig, telling)?)
 }

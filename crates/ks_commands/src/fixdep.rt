@@ -11,9 +11,9 @@ ghost use Rattle.ks_engine.specs.Refusals.{Answers};
 ghost use Rattle.ks_commands.specs.Fixdep.{command_file_at};
 
 use ks_engine::{EngineError, scan_all};
-use ks_fixdep::{Dialect, Seed, command_is_legal, read_depfile_by, record_text};
+use ks_fixdep::{Header, Rules, Seed, command_is_legal, read_depfile_without, record_text};
 use ks_requests::read_given;
-use ks_symbols::{path_is_legal, target_is_legal};
+use ks_symbols::{Dialect, path_is_legal, target_is_legal};
 use ks_tree::Tree;
 use std::alloc::Global;
 
@@ -47,8 +47,18 @@ pub(crate) fn command_file_text<T: Tree>(
 {
     check_words(depfile, target, command)?;
     let text = read_given(alloc, tree, depfile)?;
-    let prerequisites = read_depfile_by(alloc, Seed::new(tree.seed()), &text)?;
-    let mut found = scan_all(alloc, tree, dialect.rules_for(target), &prerequisites)?;
+    let prerequisites = read_depfile_without(
+        alloc,
+        Seed::new(tree.seed()),
+        Header::usual(dialect),
+        &text,
+    )?;
+    let mut found = scan_all(
+        alloc,
+        tree,
+        Rules::for_target(dialect, target),
+        &prerequisites,
+    )?;
     let lines = record_text(alloc, target, command, &prerequisites, &mut found, None)?;
     Ok(lines.text)
 }

@@ -24,12 +24,12 @@ use crate::fixdep::command_file_text;
 use crate::questions::{ask_after, ask_targets, outdated_target};
 use crate::users::tell_users;
 use ks_engine::Question;
-use ks_fixdep::Dialect;
 use ks_requests::{
     Outcome, Refusal, Request, borrowed, borrowed_path, inputs_at, preview_of, print, refuse,
     refuse_at, site_of,
 };
 use ks_streams::Stream;
+use ks_symbols::{Dialect, Kconfig};
 use ks_tree::Tree;
 use std::alloc::Global;
 use std::io::Write;
@@ -38,18 +38,20 @@ use std::io::Write;
 fn preview<T: Tree>(
     alloc: Global,
     tree: &mut T,
+    dialect: Dialect,
     kconfig: &[u8],
     dotconfig: &[u8],
     old: Option<&str>,
 ) -> Result<Outcome, Refusal>
     ensures done { IfOk result (λ o. o.status ≡ Done) }
     ensures reads { Reads T.Tree tree.old tree.new (result ≡ Err (Engine Device)) }
-    ensures told { T.is_honest → EndsPreview (T.files tree.old) kconfig.now dotconfig.now (option_map (λ p. p.now) old.entry) result }
+    ensures told { T.is_honest → EndsPreview dialect (T.files tree.old) kconfig.now dotconfig.now (option_map (λ p. p.now) old.entry) result }
 {
     let inputs = inputs_at(alloc, tree, kconfig, dotconfig, old)?;
     let texts = &inputs.texts;
     let old = borrowed(&inputs.old);
-    let text = preview_of(alloc, &texts.kconfig, &texts.dotconfig, old)?;
+    let kconfig = Kconfig::new(dialect, &texts.kconfig);
+    let text = preview_of(alloc, &kconfig, &texts.dotconfig, old)?;
     Ok(Outcome::done(text))
 }
 
@@ -90,15 +92,15 @@ fn outcome<T: Tree>(
             stamps,
         } => {
             let (kconfig, dotconfig) = (kconfig.as_bytes(), dotconfig.as_bytes());
-            synchronise(alloc, tree, *stamps, kconfig, dotconfig)
+            synchronise(alloc, tree, dialect, *stamps, kconfig, dotconfig)
         }
         Request::Preview {
             kconfig,
             dotconfig,
             old,
         } => {
-            let old = borrowed_path(old);
-            preview(alloc, tree, kconfig.as_bytes(), dotconfig.as_bytes(), old)
+            let (kconfig, dotconfig) = (kconfig.as_bytes(), dotconfig.as_bytes());
+            preview(alloc, tree, dialect, kconfig, dotconfig, borrowed_path(old))
         }
         Request::Diff {
             kconfig,
@@ -106,7 +108,7 @@ fn outcome<T: Tree>(
             telling,
         } => {
             let (kconfig, dotconfig) = (kconfig.as_bytes(), dotconfig.as_bytes());
-            tell_differences(alloc, tree, kconfig, dotconfig, *telling)
+            tell_differences(alloc, tree, dialect, kconfig, dotconfig, *telling)
         }
         Request::Fixdep {
             depfile,
@@ -151,14 +153,10 @@ fn outcome<T: Tree>(
             dotconfig,
             targets,
             form,
-        } => ask_after(
-            alloc,
-            tree,
-            kconfig.as_bytes(),
-            dotconfig.as_bytes(),
-            *form,
-            targets,
-        ),
+        } => {
+            let (kconfig, dotconfig) = (kconfig.as_bytes(), dotconfig.as_bytes());
+            ask_after(alloc, tree, dialect, kconfig, dotconfig, *form, targets)
+        }
         Request::Outdated { target, command } => {
             outdated_target(alloc, tree, target.as_bytes(), command.as_bytes())
         }
@@ -169,7 +167,7 @@ fn outcome<T: Tree>(
 }
 
 /// Does what was asked for, and answers the exit status: 0 done and nothing stale, 1 something stale or built by
-/// another command, 2 something refused. Where sources are scanned, the dialect says whose words name symbols.
+/// another command, 2 something refused. Sources and Kconfigs are read in the dialect.
 pub fn perform<T: Tree, W: Write, E: Write>(
     alloc: Global,
     tree: &mut T,

@@ -3,6 +3,7 @@
 //!
 //! A refused question is a line of the output, and the questions after it are still answered.
 ghost use Rattle.std.specs.Prelude.{◌≡◌, ◌⊎◌, ◌++◌, ℕ, List, [], ◌∷◌, Err, IfErr, IfOk, IsErrOf, OnOk, length, map, option_map};
+ghost use Rattle.ks_symbols.specs.Dialects.{read_in};
 ghost use Rattle.ks_tree.specs.Files.{HasRisen};
 ghost use Rattle.ks_tree.specs.Frames.{Reads};
 ghost use Rattle.ks_engine.specs.Impact.{IsAnswerAfter};
@@ -29,6 +30,7 @@ use ks_requests::{
     read_targets, stale_of, texts_at, worse, write_answer, write_build_line, write_json_answer,
     write_refused_target,
 };
+use ks_symbols::{Dialect, Kconfig};
 use ks_tree::Tree;
 use std::alloc::{AllocError, Global};
 
@@ -194,19 +196,21 @@ pub(crate) fn ask_targets<T: Tree>(
 pub(crate) fn ask_after<T: Tree>(
     alloc: Global,
     tree: &mut T,
+    dialect: Dialect,
     kconfig: &[u8],
     dotconfig: &[u8],
     form: Form,
     targets: &Targets,
 ) -> Result<Outcome, Refusal>
     ensures reads { Reads T.Tree tree.old tree.new (result ≡ Err (Engine Device)) }
-    ensures told { T.is_honest → EndsImpact (T.files tree.old) (IsAnswerAfter (T.files tree.old))
+    ensures told { T.is_honest → EndsImpact dialect (T.files tree.old) (λ k. IsAnswerAfter (T.files tree.old) (read_in dialect k))
         kconfig.now dotconfig.now form (targets_at (T.files tree.old) targets.now) result }
     ensures counts { IfOk result (λ o.
         AsksCounted form First T.is_honest (state T.Tree tree.old) targets.now o.text.items (state T.Tree tree.new)) }
 {
     let texts = texts_at(alloc, tree, kconfig, dotconfig)?;
-    let impact = Impact::of(alloc, tree, &texts.kconfig, &texts.dotconfig)?;
+    let kconfig = Kconfig::new(dialect, &texts.kconfig);
+    let impact = Impact::of(alloc, tree, &kconfig, &texts.dotconfig)?;
     ask_targets(alloc, tree, Question::After(&impact), form, targets)
 }
 

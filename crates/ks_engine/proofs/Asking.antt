@@ -1,5 +1,5 @@
 -- What the files answer of an object, and what a shown tree answers of a recorded one.
-use Rattle.ks_engine.proofs.Prelude.{map, ◌≡◌, ◌⊎◌, inl, inr, ⊎_elim, ℕ, suc, ◌+◌, ◌<◌, ◌≤◌, List, [], ◌∷◌, ◌++◌, Option, Some, None, Result, Ok, Err, Bool, true, false, ◌&&◌, cond, nat_lt, sym, ◌∙◌, ap, ap₂, refl, subst, arith, append-nil, length, get_or, drop, drop-cons, bytes_eq, find, lt_of_lt_of_le, IsTrue, All, list_all, le-ltb, cond-false, cond-true, and_parts, ne_eqb, or_left, or_right, or_cases, get_or-map, length-map, All-nil, All-cons, All-head, All-tail, bytes_eq-Decides, max_bytes, is_name, is_target, is_in, Dep, File, Config, BorrowedDep, seen_dep, CommandRecord, IsLegal, is_command, is_dep, config_names, Files, content, auto_path, stamp_path, command_path, HasNumber, EngineError, BadPath, BadCommand, BadCommandFile, Cause, Explanation, Limit, First, Question, Stale, Why, After, Verdict, Fresh, BuildState, IsGivenUp, GaveUp, and_then, History, LastRecord, done, last_record, found, names_of, suspect_since, first_suspect, verdict, Shows, stamp, synced_at, last_generation, placed, names_placed, AreEnough, EndsAt, IsBadStamp, IsByStamps, verdict_of, Asked, Answered, ByStamps, asked, asked_at, asked_since, asked_of, of_target, command_file, told, listed, verdict_by, IsAnswer, IsExplainedBy, IsExplained, BuildAsked, Differs, Asks, build_asked, build_asked_of, judged, IsBuildState, HasSameDefinitions, IsJudged, IsBuildJudged, IsSeen}
+use Rattle.ks_engine.proofs.Prelude.{map, ◌≡◌, ◌⊎◌, inl, inr, ⊎_elim, ℕ, suc, ◌+◌, ◌<◌, List, [], ◌∷◌, ◌++◌, Option, Some, None, Result, Ok, Err, Bool, true, false, ◌&&◌, cond, nat_lt, sym, ◌∙◌, ap, ap₂, refl, subst, arith, append-nil, length, get_or, drop, drop-cons, bytes_eq, find, lt_of_lt_of_le, IsTrue, All, list_all, le-ltb, cond-false, cond-true, and_parts, ne_eqb, or_left, or_right, or_cases, get_or-map, length-map, All-nil, All-cons, All-head, All-tail, bytes_eq-Decides, max_bytes, is_name, is_target, is_in, Dep, File, Config, BorrowedDep, seen_dep, CommandRecord, IsLegal, is_command, is_dep, config_names, Files, content, auto_path, stamp_path, command_path, HasNumber, EngineError, BadPath, BadCommand, BadCommandFile, Cause, Explanation, Limit, First, Question, Stale, Why, After, Verdict, Fresh, BuildState, IsGivenUp, GaveUp, and_then, History, LastRecord, done, last_record, found, names_of, suspect_since, first_suspect, verdict, Shows, stamp, synced_at, last_generation, placed, names_placed, AreEnough, EndsAt, IsBadStamp, IsByStamps, verdict_of, Asked, Answered, ByStamps, asked, asked_at, asked_since, asked_of, of_target, command_file, told, listed, verdict_by, IsAnswer, IsExplainedBy, IsExplained, BuildAsked, Differs, Asks, build_asked, build_asked_of, judged, IsBuildState, HasSameDefinitions, IsJudged, IsBuildJudged, IsSeen}
 use Rattle.std.specs.Prelude.{IfOk}
 use Rattle.ks_engine.specs.declared.question.Limit.TheVariants.{All as Every}
 use Rattle.ks_engine.proofs.Heart.{suspect_since-lt, suspect_since-changed_since, generation-le, synced-lt, recorded_synced}

@@ -1,5 +1,5 @@
 -- Trees to begin with, and the one plan of a synchronisation.
-use Rattle.ks_engine.proofs.Prelude.{◌≡◌, inl, inr, ℕ, ◌<◌, ◌^◌, List, Option, Some, None, Err, refl, sym, ◌∙◌, ap, subst, nat_cmp, arith, slice_cmp, nat_list_cmp_total, empty, get, get-empty, same_map, slice_cmp-IsAntisymmetric, nat_cmp-IsAntisymmetric, SourceError, content, auto_path, stamp_path, HasNumber, of_source, and_then, Configuration, Texts, IsFirstAuto, Sources, plan_over, old_auto, EmptyTreeShows, UsualTreeShows, UntypedTreeShows, PlansAreOne}
+use Rattle.ks_engine.proofs.Prelude.{◌≡◌, inl, inr, ℕ, ◌<◌, ◌^◌, List, Option, Some, None, Err, refl, sym, ◌∙◌, ap, subst, nat_cmp, arith, slice_cmp, nat_list_cmp_total, empty, get, get-empty, same_map, slice_cmp-IsAntisymmetric, nat_cmp-IsAntisymmetric, SourceError, content, auto_path, stamp_path, HasNumber, of_source, and_then, Configuration, Texts, IsFirstAuto, Sources, plan_over, old_auto, EmptyTreeShows, UsualTreeShows, UntypedTreeShows, PlansAreOne, KconfigText}
 use Rattle.ks_engine.specs.SyncPlan.{AreSources}
 use Rattle.ks_engine.proofs.LowerLaws.{small_generation}
 
@@ -37,7 +37,7 @@ same_sources s t p q r = λ i. record { title = p i; config = q i; unknown = r i
 same_config : (c d : Configuration) → ((x : List ℕ) → get c x ≡ get d x) → c ≡ d
 same_config c d each = same_map nat_list_cmp_total (slice_cmp-IsAntisymmetric nat_cmp-IsAntisymmetric) c d each
 
-one_source : (kconfig dotconfig : List ℕ) (s t : Sources) → AreSources kconfig dotconfig s → AreSources kconfig dotconfig t → s ≡ t
+one_source : (kconfig : KconfigText) (dotconfig : List ℕ) (s t : Sources) → AreSources kconfig dotconfig s → AreSources kconfig dotconfig t → s ≡ t
 one_source kconfig dotconfig s t a b =
     same_sources s t (a.title ∙ sym b.title) (same_config s.config t.config (λ x. a.settings x ∙ sym (b.settings x))) (a.unknown ∙ sym b.unknown)
 

@@ -1,5 +1,5 @@
 -- The command file that is written: its names are counted, its parts are legal, and it reads back.
-use Rattle.ks_engine.proofs.Prelude.{◌≡◌, ◌⊎◌, inl, inr, ℕ, ◌<◌, ◌≤◌, List, None, Result, Ok, Err, sym, ◌∙◌, ap, subst, subst₂, length, lt-ltb, le-ltb, cond-true, cond-false, max_bytes, DepError, Conventions, Dialect, Header, Usual, Role, Rules, rules_for, IsRefusal, prerequisites, prerequisites_without, dependency_refusal, refusal_without, CommandRecord, command_text, record_of, Files, content, auto_path, EngineError, TooLarge, of_dep, IsGivenUp, and_then, last_generation, words, there, listed_without, listed_unless, scanned_all, RecordPlan, numbered, drafted, record_plan_under}
+use Rattle.ks_engine.proofs.Prelude.{◌≡◌, ◌⊎◌, inl, inr, ℕ, ◌<◌, ◌≤◌, List, None, Result, Ok, Err, sym, ◌∙◌, ap, subst, subst₂, length, lt-ltb, le-ltb, cond-true, cond-false, max_bytes, DepError, Conventions, Dialect, Header, usual_header, Role, Rules, rules_for, IsRefusal, prerequisites_without, refusal_without, CommandRecord, command_text, record_of, Files, content, auto_path, EngineError, TooLarge, of_dep, IsGivenUp, and_then, last_generation, words, there, listed_without, listed_unless, scanned_all, RecordPlan, numbered, drafted, record_plan_under}
 use Rattle.ks_fixdep.specs.declared.dep_error.DepError.TheVariants as dep
 use Rattle.ks_fixdep.specs.FoundNames.{names_of}
 use Rattle.ks_engine.specs.Recording.{listed}
@@ -29,8 +29,9 @@ pub listed_but : (header : Header) (d : List ℕ) (ps : List (List ℕ × Role))
     → listed_without header d ≡ Ok ps
 listed_but header d ps none is = ap (λ r. listed_unless r (prerequisites_without header d)) none ∙ ap (λ l. Ok l) (sym is)
 
-pub depfile_listed : (d : List ℕ) (ps : List (List ℕ × Role)) → dependency_refusal d ≡ None → ps ≡ prerequisites d → listed d ≡ Ok ps
-depfile_listed d ps none is = listed_but Usual d ps none is
+pub depfile_listed : (dialect : Dialect) (d : List ℕ) (ps : List (List ℕ × Role)) → refusal_without (usual_header dialect) d ≡ None
+    → ps ≡ prerequisites_without (usual_header dialect) d → listed dialect d ≡ Ok ps
+depfile_listed dialect d ps none is = listed_but (usual_header dialect) d ps none is
 
 -- ---- the steps of a record: each refuses, or hands on to the next
 

@@ -1,5 +1,5 @@
 -- A run by the files goes on by one command; and each history that its first files show goes on with it.
-use Rattle.ks_engine.proofs.Prelude.{◌≡◌, ℕ, ◌+◌, ◌<◌, List, [], ◌∷◌, ◌++◌, ◌∙◌, ap, sym, refl, subst, subst₂, Ok, Err, map, take, length, get_or, ⊤, take_more, map-append, Action, Dialect, Sync, Record, action, Command, Reply, Refused, FileState, LeavesFiles, StepsTo, FileRun, TreeState, at, History, FileRunsGoOn, Leaves, Run, Shows}
+use Rattle.ks_engine.proofs.Prelude.{◌≡◌, ℕ, ◌+◌, ◌<◌, List, [], ◌∷◌, ◌++◌, ◌∙◌, ap, sym, refl, subst, subst₂, Ok, Err, map, take, length, get_or, ⊤, take_more, map-append, Action, Dialect, Sync, Record, action, Command, Reply, Refused, FileState, LeavesFiles, StepsTo, FileRun, TreeState, at, History, FileRunsGoOn, Leaves, Run, Shows, read_in}
 use Rattle.ks_engine.specs.Actions.{Stale}
 use Rattle.ks_engine.specs.declared.commands.Reply.TheVariants.{Synced, Recorded, Verdict}
 use Rattle.ks_engine.proofs.Following.{sync_follows}
@@ -45,8 +45,8 @@ with s h = at s.files s.failures h
 
 step_goes_on : (dialect : Dialect) (old : FileState) (a : Action) (r : Reply) (new : FileState) (h : History) → Shows old.files h → LeavesFiles dialect old.files a r new.files
     → (next : History) × Leaves dialect (with old h) a r (with new next) × Shows new.files next
-step_goes_on dialect old (Sync k d) (Synced report) new h shows is = sync_follows old.files new.files old.failures new.failures h k d (Ok report) shows is tt
-step_goes_on dialect old (Sync k d) (Refused e) new h shows is = sync_follows old.files new.files old.failures new.failures h k d (Err e) shows tt is
+step_goes_on dialect old (Sync k d) (Synced report) new h shows is = sync_follows old.files new.files old.failures new.failures h (read_in dialect k) d (Ok report) shows is tt
+step_goes_on dialect old (Sync k d) (Refused e) new h shows is = sync_follows old.files new.files old.failures new.failures h (read_in dialect k) d (Err e) shows tt is
 step_goes_on dialect old (Sync k d) (Recorded answer) new h shows is = absurd is
 step_goes_on dialect old (Sync k d) (Verdict v) new h shows is = absurd is
 step_goes_on dialect old (Record d t c) (Recorded answer) new h shows is =

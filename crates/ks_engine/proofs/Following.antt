@@ -1,8 +1,8 @@
 -- A synchronisation goes on with each history that the files show.
-use Rattle.ks_engine.proofs.Prelude.{◌≡◌, inl, inr, ⊎_elim, ℕ, ◌+◌, List, Result, Ok, Err, IfOk, IfErr, sym, ◌∙◌, ap, refl, subst, Files, EngineError, Report, Texts, History, Synced, Broken, Shows, AreChanged, IsSynced, IsBrokenOff, IsSyncRefused, at, FollowsSync, IsBrokenEvent}
+use Rattle.ks_engine.proofs.Prelude.{◌≡◌, inl, inr, ⊎_elim, ℕ, ◌+◌, List, Result, Ok, Err, IfOk, IfErr, sym, ◌∙◌, ap, refl, subst, Files, EngineError, Report, Texts, History, Synced, Broken, Shows, AreChanged, IsSynced, IsBrokenOff, IsSyncRefused, at, FollowsSync, IsBrokenEvent, KconfigText}
 use Rattle.ks_engine.proofs.Steps.{plan_facts, broken_shows, synced_shows}
 
-after_broken : (old new : Files) (h : History) (k d : List ℕ) (broken : IsBrokenOff old new k d) → Shows old h
+after_broken : (old new : Files) (h : History) (k : KconfigText) (d : List ℕ) (broken : IsBrokenOff old new k d) → Shows old h
     → (next : History) × IsBrokenEvent h broken.plan broken.some.0 next × Shows new next
 after_broken old new h k d broken shows =
     let facts = plan_facts old h k d broken.plan shows broken.planned in ⊎_elim
@@ -20,7 +20,7 @@ after_broken old new h k d broken shows =
     ))
     broken.some.1.auto
 
-pub sync_follows : (old new : Files) (m n : ℕ) (h : History) (k d : List ℕ) (r : Result Report EngineError) → Shows old h → IfOk r (IsSynced old new k d)
+pub sync_follows : (old new : Files) (m n : ℕ) (h : History) (k : KconfigText) (d : List ℕ) (r : Result Report EngineError) → Shows old h → IfOk r (IsSynced old new k d)
     → IfErr r (IsSyncRefused old new k d)
     → (next : History) × FollowsSync k d r (at old m h) (at new n next) × Shows new next
 sync_follows old new m n h k d (Ok report) shows ok err =
@@ -42,7 +42,7 @@ sync_follows old new m n h k d (Err e) shows ok (inr (given, inr broken)) =
     (next.0, inr (given, inr (broken, next.1)), next.2)
 
 -- the same where it is known to be refused
-pub refused_follows : (old new : Files) (m n : ℕ) (h : History) (k d : List ℕ) (r : Result Report EngineError) (e : EngineError) → r ≡ Err e → Shows old h
+pub refused_follows : (old new : Files) (m n : ℕ) (h : History) (k : KconfigText) (d : List ℕ) (r : Result Report EngineError) (e : EngineError) → r ≡ Err e → Shows old h
     → IfErr r (IsSyncRefused old new k d) → (next : History) × FollowsSync k d r (at old m h) (at new n next) × Shows new next
 refused_follows old new m n h k d r e is shows err =
     sync_follows old new m n h k d r shows (subst (λ (q : Result Report EngineError). IfOk q (IsSynced old new k d)) (sym is) tt) err

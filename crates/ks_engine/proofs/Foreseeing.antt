@@ -1,5 +1,5 @@
 -- The tree that a synchronisation would leave, what is answered over it, and a name among rising ones.
-use Rattle.ks_engine.proofs.Prelude.{◌≡◌, ◌⊎◌, inl, inr, ℕ, zero, suc, ◌+◌, ◌<◌, ◌^◌, List, [], ◌∷◌, Option, Some, None, Result, Ok, Err, true, false, ◌||◌, cond, sym, ◌∙◌, ap, refl, subst, arith, length, get_or, true≢false, IsTrue, bytes_eq, nat_cmp, Less-from_sorted, is_eq-slice_cmp, cases_lt, cond-true, cond-false, or_left, or_right, false_from_ne_true, searchable_from_sorted, bytes_eq-Decides, tied_itself, slice_cmp, nat_list_cmp_total, insert, get-insert, HoldsAt, IsStrictlySortedBy, IsSortedByKey, IsNonDecreasingBy, IsPartitionPoint, IsSearchInRange, IsBinarySearchResult, is_ok, is_lt, is_eq, ordering_reverse, ordering_index, Ordering, Less, Equal, Greater, is_name, is_in, header_path, AutoError, auto_text, auto_refusal, header_text, Files, content, SameBut, SameButBoth, auto_path, auto_temporary, stamp_path, Stamp, HasNumber, stamp_text, Touches, EngineError, Impact, Explanation, Planned, Question, Stale, Why, After, Verdict, Report, GaveUp, Synced, OldAuto, read_unless, old_auto, Plan, AreChanged, SyncDone, IsSynced, asked, IsAnswer, IsExplained, IsPlanned, IsImpactOf, IsAfter, IsAnswerAfter, IsAnswerTo, IsSeen, limit_of}
+use Rattle.ks_engine.proofs.Prelude.{◌≡◌, ◌⊎◌, inl, inr, ℕ, zero, suc, ◌+◌, ◌<◌, ◌^◌, List, [], ◌∷◌, Option, Some, None, Result, Ok, Err, true, false, ◌||◌, cond, sym, ◌∙◌, ap, refl, subst, arith, length, get_or, true≢false, IsTrue, bytes_eq, nat_cmp, Less-from_sorted, is_eq-slice_cmp, cases_lt, cond-true, cond-false, or_left, or_right, false_from_ne_true, searchable_from_sorted, bytes_eq-Decides, tied_itself, slice_cmp, nat_list_cmp_total, insert, get-insert, HoldsAt, IsStrictlySortedBy, IsSortedByKey, IsNonDecreasingBy, IsPartitionPoint, IsSearchInRange, IsBinarySearchResult, is_ok, is_lt, is_eq, ordering_reverse, ordering_index, Ordering, Less, Equal, Greater, is_name, is_in, header_path, AutoError, auto_text, auto_refusal, header_text, Files, content, SameBut, SameButBoth, auto_path, auto_temporary, stamp_path, Stamp, HasNumber, stamp_text, Touches, EngineError, Impact, Explanation, Planned, Question, Stale, Why, After, Verdict, Report, GaveUp, Synced, OldAuto, read_unless, old_auto, Plan, AreChanged, SyncDone, IsSynced, asked, IsAnswer, IsExplained, IsPlanned, IsImpactOf, IsAfter, IsAnswerAfter, IsAnswerTo, IsSeen, limit_of, KconfigText}
 use Rattle.ks_engine.proofs.LowerLaws.{generation_back, accepted, small_generation, apart}
 use Rattle.ks_engine.proofs.Reading.{last_some, ok_ok}
 use Rattle.ks_engine.proofs.Writes.{finished, header_stays}
@@ -113,7 +113,7 @@ done_by files plan names are =
       auto = here;
     }
 
-pub impact_told : (files : Files) (k d : List ℕ) (planned : Planned) → IsPlanned files k d planned
+pub impact_told : (files : Files) (k : KconfigText) (d : List ℕ) (planned : Planned) → IsPlanned files k d planned
     → IsImpactOf files k d (record { report = planned.report })
 impact_told files k d planned is =
     let plan = is.0 in
@@ -141,7 +141,7 @@ old_fits (Some b) auto is = fits (auto_refusal b) is
     fits None is = subst (λ (a : OldAuto). a.generation < 2 ^ 64) (ok_ok _ auto is) (small_generation b)
     fits (Some e) is = absurd cc
 
-is_after : (files after : Files) (k d : List ℕ) (impact : Impact) (report : Report) → IsImpactOf files k d impact → IsSynced files after k d report
+is_after : (files after : Files) (k : KconfigText) (d : List ℕ) (impact : Impact) (report : Report) → IsImpactOf files k d impact → IsSynced files after k d report
     → IsAfter files after impact.report
 is_after files after k d impact report told synced =
     let plan = synced.plan in
@@ -171,7 +171,7 @@ is_after files after k d impact report told synced =
 -- ---- what a question is answered
 
 -- What is answered over all that stands so is answered, and judged, over each tree that it leaves.
-after_sync : (files : Files) (k d o : List ℕ) (impact : Impact) (answer : Result Verdict EngineError)
+after_sync : (files : Files) (k : KconfigText) (d o : List ℕ) (impact : Impact) (answer : Result Verdict EngineError)
     → ((after : Files) → IsAfter files after impact.report → GaveUp answer ⊎ IsAnswer after (asked after o) answer) → IsImpactOf files k d impact
     → IsAnswerAfter files k d o answer
 after_sync files k d o impact answer said told = record {

@@ -1,5 +1,5 @@
 -- The causes that stamps give, name by name, and the verdict of them.
-use Rattle.ks_engine.proofs.Prelude.{map, ◌≡◌, ◌⊎◌, inl, inr, ⊎_elim, ℕ, ◌+◌, ◌<◌, ◌≤◌, List, [], ◌∷◌, ◌++◌, Option, Some, None, Result, Ok, Err, Bool, true, false, cond, nat_lt, sym, ◌∙◌, ap, ap₂, refl, subst, arith, length, drop, append_assoc, append-nil, bytes_eq, find, filter, All, option_or, lt-ltb, le-ltb, cond-false, cond-true, cond_both, cases_lt, drop_all, map-append, All-nil, All-cons, All-head, All-tail, All-push, filter-append, find-append, bytes_eq-Decides, Dep, File, Config, Files, content, stamp_path, HasNumber, IsStampRefusal, TreeError, BadStamp, Cause, Limit, First, placed, cause, AreCauses, AreEnough, AreTooFew, IsBadStamp, IsByStamps, verdict_of, of_stamp, IsGivenUp, verdict}
+use Rattle.ks_engine.proofs.Prelude.{map, ◌≡◌, ◌⊎◌, inl, inr, ⊎_elim, ℕ, ◌+◌, ◌<◌, ◌≤◌, List, [], ◌∷◌, ◌++◌, Option, Some, None, Ok, Err, true, false, cond, nat_lt, sym, ◌∙◌, ap, ap₂, refl, subst, arith, length, drop, append_assoc, append-nil, bytes_eq, find, filter, All, option_or, lt-ltb, le-ltb, cond-false, cond-true, cond_both, cases_lt, drop_all, map-append, All-nil, All-cons, All-head, All-tail, All-push, filter-append, find-append, bytes_eq-Decides, Dep, File, Config, Files, content, stamp_path, HasNumber, IsStampRefusal, TreeError, BadStamp, Cause, Limit, First, placed, cause, AreCauses, AreEnough, AreTooFew, IsBadStamp, IsByStamps, verdict_of, of_stamp, IsGivenUp, verdict}
 use Rattle.ks_tree.specs.declared.fault.TreeError.TheVariants as stamp_error
 use Rattle.ks_engine.specs.declared.question.Limit.TheVariants.{All as Every}
 use Rattle.ks_engine.proofs.LowerLaws.{one_number}

@@ -41,7 +41,7 @@ pub use Rattle.ks_fixdep.specs.CommandFile.{CommandRecord, IsLegal, command_text
 pub use Rattle.ks_fixdep.specs.CommandLaws.{ReadFits, ReadsBack}
 pub use Rattle.ks_fixdep.specs.CommandLines.{lines}
 pub use Rattle.ks_fixdep.specs.CommandReading.{reading}
-pub use Rattle.ks_fixdep.specs.DependencyFile.{dependency_refusal, prerequisites, prerequisites_without, refusal_without}
+pub use Rattle.ks_fixdep.specs.DependencyFile.{dependency_refusal, prerequisites, prerequisites_without, refusal_without, usual_header}
 pub use Rattle.ks_fixdep.specs.Dialects.{names_in_as, rules_for}
 pub use Rattle.ks_fixdep.specs.FoundNames.{all_noted, noted}
 pub use Rattle.ks_fixdep.specs.Borrowed.{borrowed_view, seen_dep}
@@ -55,8 +55,7 @@ pub use Rattle.ks_fixdep.specs.declared.command_file.Dep.TheVariants.{Config, Fi
 pub use Rattle.ks_fixdep.specs.declared.command_file.borrowed.BorrowedDep.{BorrowedDep}
 pub use Rattle.ks_fixdep.specs.declared.dep_error.DepError.{DepError}
 pub use Rattle.ks_fixdep.specs.declared.dependency_file.Header.{Header}
-pub use Rattle.ks_fixdep.specs.declared.dependency_file.Header.TheVariants.{Usual}
-pub use Rattle.ks_fixdep.specs.declared.dialect.Dialect.{Dialect}
+pub use Rattle.ks_symbols.specs.declared.dialect.Dialect.{Dialect}
 pub use Rattle.ks_fixdep.specs.declared.dialect.Rules.{Rules}
 pub use Rattle.ks_fixdep.specs.declared.dependency_file.Role.{Role}
 pub use Rattle.ks_fixdep.specs.declared.dependency_file.Role.TheVariants.{Source}
@@ -77,6 +76,7 @@ pub use Rattle.ks_output.specs.declared.auto_conf.AutoError.{AutoError}
 pub use Rattle.ks_symbols.proofs.Digits.{reads_back}
 pub use Rattle.ks_symbols.specs.Configuration.{Configuration, IsConfiguration, SettingsView}
 pub use Rattle.ks_symbols.specs.DotConfig.{dotconfig_refusal, setting, unknown_count}
+pub use Rattle.ks_symbols.specs.Dialects.{KconfigText, read_in}
 pub use Rattle.ks_symbols.specs.Kconfig.{declared, kconfig_refusal, title_of}
 pub use Rattle.ks_symbols.specs.Lines.{max_bytes}
 pub use Rattle.ks_symbols.specs.Names.{is_in, is_name, is_path, is_target}

@@ -1,5 +1,5 @@
 -- What the calls of the layers below give for the definitions of auto.conf and of the two texts.
-use Rattle.ks_engine.proofs.Prelude.{◌≡◌, ◌⊎◌, inl, inr, ℕ, ◌+◌, ◌<◌, ◌≤◌, List, Option, Some, None, Result, Ok, Err, sym, ◌∙◌, ap, ap₂, refl, subst, length, nat_eq, if◌then◌else◌, lt-ltb, le-ltb, ne_eqb, cond-true, cond-false, get, empty, Kind, IsConfiguration, Configuration, max_bytes, declared, title_of, kconfig_refusal, setting, unknown_count, dotconfig_refusal, or_else, IsRefusal, AutoError, auto_text, auto_map, auto_generation, auto_refusal, OldTexts, HasNames, Files, content, IsTooLarge, auto_path, TreeFault, EngineError, NeverSynced, of_tree, of_auto, IsGivenUp, and_then, AreChanges, IsSource, AreChanged, OldAuto, read_unless, old_auto, synced_at, last_generation, Sources, Plan, plan_over, IsSyncPlan, old_of}
+use Rattle.ks_engine.proofs.Prelude.{◌≡◌, ◌⊎◌, inl, inr, ℕ, ◌+◌, ◌<◌, ◌≤◌, List, Option, Some, None, Result, Ok, Err, sym, ◌∙◌, ap, ap₂, refl, subst, length, nat_eq, if◌then◌else◌, lt-ltb, le-ltb, ne_eqb, cond-true, cond-false, get, empty, Kind, IsConfiguration, Configuration, max_bytes, declared, title_of, kconfig_refusal, setting, unknown_count, dotconfig_refusal, or_else, IsRefusal, AutoError, auto_text, auto_map, auto_generation, auto_refusal, OldTexts, HasNames, Files, content, IsTooLarge, auto_path, TreeFault, EngineError, NeverSynced, of_tree, of_auto, IsGivenUp, and_then, AreChanges, IsSource, AreChanged, OldAuto, read_unless, old_auto, synced_at, last_generation, Sources, Plan, plan_over, IsSyncPlan, old_of, KconfigText}
 use Rattle.ks_symbols.specs.Lines.{lines}
 use Rattle.ks_output.specs.declared.auto_conf.AutoError.TheVariants as auto
 use Rattle.ks_tree.specs.declared.fault.TreeFault.TheVariants as fault
@@ -16,7 +16,7 @@ err_ok e a q = cc
 
 -- ---- the two texts
 
-pub are_sources : (kconfig dotconfig : List ℕ) (s : Sources) (kinds : List ℕ → Option Kind) → ((x : List ℕ) → kinds x ≡ declared kconfig x)
+pub are_sources : (kconfig : KconfigText) (dotconfig : List ℕ) (s : Sources) (kinds : List ℕ → Option Kind) → ((x : List ℕ) → kinds x ≡ declared kconfig x)
     → kconfig_refusal kconfig ≡ None → dotconfig_refusal kinds dotconfig ≡ None → s.title ≡ title_of kconfig
     → ((x : List ℕ) → get s.config x ≡ setting kinds (lines dotconfig) x) → s.unknown ≡ unknown_count kinds (lines dotconfig) → IsSource s.title s.config
     → AreSources kconfig dotconfig s
@@ -101,11 +101,11 @@ last_some file b g at fine is some = last_read file b g at fine is ∙ cond-fals
 
 -- ---- the plan of a synchronisation, by its sources and by auto.conf
 
-pub plan_of_old : (files : Files) (kconfig dotconfig : List ℕ) (s : Sources) (e : EngineError) → AreSources kconfig dotconfig s
+pub plan_of_old : (files : Files) (kconfig : KconfigText) (dotconfig : List ℕ) (s : Sources) (e : EngineError) → AreSources kconfig dotconfig s
     → old_auto (content files auto_path) ≡ Err e → IsSyncPlan files kconfig dotconfig (Err e)
 plan_of_old files kconfig dotconfig s e are bad = inr (s, are, sym (ap (λ o. and_then o (plan_over s)) bad))
 
-pub plan_of_over : (files : Files) (kconfig dotconfig : List ℕ) (s : Sources) (a : OldAuto) (r : Result Plan EngineError) → AreSources kconfig dotconfig s
+pub plan_of_over : (files : Files) (kconfig : KconfigText) (dotconfig : List ℕ) (s : Sources) (a : OldAuto) (r : Result Plan EngineError) → AreSources kconfig dotconfig s
     → old_auto (content files auto_path) ≡ Ok a → plan_over s a ≡ r
     → IsSyncPlan files kconfig dotconfig r
 plan_of_over files kconfig dotconfig s a r are read over = inr (s, are, sym (ap (λ o. and_then o (plan_over s)) read ∙ over))

@@ -1,5 +1,5 @@
 -- The files after each call show the history after it.
-use Rattle.ks_engine.proofs.Prelude.{◌≡◌, inl, inr, ⊎_elim, ℕ, ◌+◌, ◌<◌, ◌≤◌, ◌^◌, List, Option, Some, None, Result, Ok, Err, Bool, true, false, cond, nat_eq, nat_lt, sym, ◌∙◌, ap, refl, subst, subst₂, arith, length, true≢false, IsTrue, bytes_eq, ltb-false, eqb-false, bytes_eq-Decides, max_bytes, is_name, is_in, header_path, auto_text, auto_map, auto_generation, header_text, differs, Files, content, SameButBoth, auto_path, stamp_path, command_path, command_temporary, Place, AutoConf, Stamp, CommandFile, AutoTemporary, HeaderTemporary, StampTemporary, CommandTemporary, path_of, IsLegalPlace, HasNumber, stamp_text, EngineError, TooLarge, GenerationFull, and_then, Texts, History, Begun, Synced, Broken, Recorded, LastRecord, before, done, WasSynced, last_record, IsSource, IsHistory, MayBeHeader, Shows, IsAuto, IsCommandFile, stamp, AreChanged, SyncLeaves, OldAuto, old_auto, Sources, Plan, plan_over, IsSyncPlan}
+use Rattle.ks_engine.proofs.Prelude.{◌≡◌, inl, inr, ⊎_elim, ℕ, ◌+◌, ◌<◌, ◌≤◌, ◌^◌, List, Option, Some, None, Result, Ok, Err, Bool, true, false, cond, nat_eq, nat_lt, sym, ◌∙◌, ap, refl, subst, subst₂, arith, length, true≢false, IsTrue, bytes_eq, ltb-false, eqb-false, bytes_eq-Decides, max_bytes, is_name, is_in, header_path, auto_text, auto_map, auto_generation, header_text, differs, Files, content, SameButBoth, auto_path, stamp_path, command_path, command_temporary, Place, AutoConf, Stamp, CommandFile, AutoTemporary, HeaderTemporary, StampTemporary, CommandTemporary, path_of, IsLegalPlace, HasNumber, stamp_text, EngineError, TooLarge, GenerationFull, and_then, Texts, History, Begun, Synced, Broken, Recorded, LastRecord, before, done, WasSynced, last_record, IsSource, IsHistory, MayBeHeader, Shows, IsAuto, IsCommandFile, stamp, AreChanged, SyncLeaves, OldAuto, old_auto, Sources, Plan, plan_over, IsSyncPlan, KconfigText}
 use Rattle.std.specs.FinMap as map
 use Rattle.ks_tree.specs.Paths.{Header}
 use Rattle.ks_engine.proofs.Heart.{record_cases, recorded_synced}
@@ -74,7 +74,7 @@ plan_over_facts s auto plan legal e =
     ] refl e
 
 -- what stands where a plan was made, also over files that show no history
-pub plan_stands : (files : Files) (k d : List ℕ) (plan : Plan) → IsSyncPlan files k d (Ok plan) → (auto : OldAuto)
+pub plan_stands : (files : Files) (k : KconfigText) (d : List ℕ) (plan : Plan) → IsSyncPlan files k d (Ok plan) → (auto : OldAuto)
     × (old_auto (content files auto_path) ≡ Ok auto) × PlanFacts auto.texts auto.generation plan
 plan_stands files k d plan (inl refused) = absurd (err_ok _ plan (sym refused.2))
 plan_stands files k d plan (inr made) = over (old_auto (content files auto_path)) made.2
@@ -84,7 +84,7 @@ plan_stands files k d plan (inr made) = over (old_auto (content files auto_path)
     over (Ok auto) is = (auto, refl, plan_over_facts made.0 auto plan made.1.legal (sym is))
     over (Err e) is = absurd cc
 
-pub plan_facts : (files : Files) (h : History) (kconfig dotconfig : List ℕ) (plan : Plan) → Shows files h → IsSyncPlan files kconfig dotconfig (Ok plan)
+pub plan_facts : (files : Files) (h : History) (kconfig : KconfigText) (dotconfig : List ℕ) (plan : Plan) → Shows files h → IsSyncPlan files kconfig dotconfig (Ok plan)
     → PlanFacts (before h) (done h) plan
 plan_facts files h kconfig dotconfig plan shows planned =
     let read = auto_read h (content files auto_path) shows.history shows.auto in

@@ -1,6 +1,7 @@
 -- Runs by the files of a tree: what each command leaves, and what the tree has counted, one command after the other.
 use Rattle.std.specs.Prelude.{◌≡◌, ◌⊎◌, ◌≤◌, ℕ, List, [], ◌∷◌, Result, Ok, Err}
-use Rattle.ks_fixdep.specs.declared.dialect.Dialect.{Dialect}
+use Rattle.ks_symbols.specs.declared.dialect.Dialect.{Dialect}
+use Rattle.ks_symbols.specs.Dialects.{KconfigText, read_in}
 use Rattle.ks_tree.specs.declared.tree.Tree.{Ghosts}
 use Rattle.ks_tree.specs.Files.{Files, HasRisen}
 use Rattle.ks_engine.specs.declared.error.EngineError.{EngineError}
@@ -19,7 +20,7 @@ use Rattle.ks_engine.specs.Actions.{Action, Sync, Record, Stale}
 
 -- ---- what a call leaves and answers
 
-abbrev pub LeavesSync : Files → Files → List ℕ → List ℕ → Result Report EngineError → Type 0
+abbrev pub LeavesSync : Files → Files → KconfigText → List ℕ → Result Report EngineError → Type 0
 LeavesSync old new k d (Ok report) = IsSynced old new k d report
 LeavesSync old new k d (Err e) = IsSyncRefused old new k d e
 
@@ -34,8 +35,8 @@ pub record IsAnswerOn (files : Files) (o : List ℕ) (answer : Result VerdictVal
 
 -- the files after an action, by its reply; no action is answered as another one
 abbrev pub LeavesFiles : Dialect → Files → Action → Reply → Files → Type 0
-LeavesFiles dialect old (Sync k d) (Synced report) new = LeavesSync old new k d (Ok report)
-LeavesFiles dialect old (Sync k d) (Refused e) new = LeavesSync old new k d (Err e)
+LeavesFiles dialect old (Sync k d) (Synced report) new = LeavesSync old new (read_in dialect k) d (Ok report)
+LeavesFiles dialect old (Sync k d) (Refused e) new = LeavesSync old new (read_in dialect k) d (Err e)
 LeavesFiles dialect old (Record d t c) (Recorded answer) new = LeavesRecord dialect old new d t c (Ok answer)
 LeavesFiles dialect old (Record d t c) (Refused e) new = LeavesRecord dialect old new d t c (Err e)
 LeavesFiles dialect old (Stale o) (Verdict v) new = (new ≡ old) × IsAnswerOn old o (Ok v)

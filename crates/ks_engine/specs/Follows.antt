@@ -1,7 +1,8 @@
 -- What each call does to the files of a tree and to its history.
 use Rattle.std.specs.Prelude.{◌≡◌, ◌⊎◌, ℕ, ◌<◌, List, Some, Result, Ok, Err}
+use Rattle.ks_symbols.specs.Dialects.{KconfigText}
 use Rattle.ks_symbols.specs.Names.{header_path}
-use Rattle.ks_fixdep.specs.declared.dialect.Dialect.{Dialect}
+use Rattle.ks_symbols.specs.declared.dialect.Dialect.{Dialect}
 use Rattle.ks_tree.specs.declared.tree.Tree.{Ghosts}
 use Rattle.ks_tree.specs.Files.{Files, content}
 use Rattle.ks_engine.specs.declared.conventions.Conventions.{Conventions}
@@ -37,7 +38,7 @@ IsSame old new = (new.files ≡ old.files) × (new.history ≡ old.history)
 -- ---- synchronising
 
 -- A completed synchronisation is the newest event, and reports what changed since the one before it.
-pub record FollowsSynced (old : TreeState) (kconfig dotconfig : List ℕ) (report : Report) (new : TreeState) : Type 0 where
+pub record FollowsSynced (old : TreeState) (kconfig : KconfigText) (dotconfig : List ℕ) (report : Report) (new : TreeState) : Type 0 where
   pub files : IsSynced old.files new.files kconfig dotconfig report
   pub history : new.history ≡ Synced files.plan.title files.plan.config old.history
   pub generation : report.generation ≡ done new.history
@@ -47,7 +48,7 @@ pub record FollowsSynced (old : TreeState) (kconfig dotconfig : List ℕ) (repor
 abbrev pub IsBrokenEvent : History → Plan → List (List ℕ) → History → Type 0
 IsBrokenEvent past plan renewed next = (next ≡ Broken plan.title plan.config renewed past) ⊎ (next ≡ Synced plan.title plan.config past)
 
-abbrev pub FollowsSync : List ℕ → List ℕ → Result Report EngineError → TreeState → TreeState → Type 0
+abbrev pub FollowsSync : KconfigText → List ℕ → Result Report EngineError → TreeState → TreeState → Type 0
 FollowsSync kconfig dotconfig (Ok report) old new = FollowsSynced old kconfig dotconfig report new
 FollowsSync kconfig dotconfig (Err e) old new =
     (IsSyncPlan old.files kconfig dotconfig (Err e) × IsSame old new)

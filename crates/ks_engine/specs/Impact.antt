@@ -3,6 +3,7 @@ use Rattle.std.specs.Prelude.{◌≡◌, ◌⊎◌, ℕ, List, Some, Result, Ok,
 use Rattle.std.specs.Ordering.{nat_cmp}
 use Rattle.std.specs.Cmp.Lexicographic.{slice_cmp}
 use Rattle.std.specs.List.Sorted.{IsStrictlySortedBy}
+use Rattle.ks_symbols.specs.Dialects.{KconfigText}
 use Rattle.ks_symbols.specs.Names.{is_name, is_in}
 use Rattle.ks_tree.specs.Files.{Files, content}
 use Rattle.ks_tree.specs.Paths.{auto_path, stamp_path, command_path}
@@ -20,22 +21,22 @@ use Rattle.ks_engine.specs.Asked.{asked, IsAnswer}
 use Rattle.ks_engine.specs.Judged.{IsJudged}
 
 -- There is a tree that a completed synchronisation of these texts leaves, with this report.
-abbrev pub IsImpactOf : Files → List ℕ → List ℕ → Impact → Type 0
+abbrev pub IsImpactOf : Files → KconfigText → List ℕ → Impact → Type 0
 IsImpactOf files kconfig dotconfig impact = (after : Files) × IsSynced files after kconfig dotconfig impact.report
 
 -- It is an answer of `stale` over each tree that a completed synchronisation of these texts leaves.
-abbrev pub AnswersAfter : Files → List ℕ → List ℕ → List ℕ → Result Verdict EngineError → Type 0
+abbrev pub AnswersAfter : Files → KconfigText → List ℕ → List ℕ → Result Verdict EngineError → Type 0
 AnswersAfter files kconfig dotconfig o answer =
     (after : Files) (report : Report) → IsSynced files after kconfig dotconfig report → GaveUp answer ⊎ IsAnswer after (asked after o) answer
 
 -- Of each object that is recorded in a history that the files show, it is judged by that history with the synchronisation added.
-abbrev pub JudgesAfter : Files → List ℕ → List ℕ → List ℕ → Result Verdict EngineError → Type 0
+abbrev pub JudgesAfter : Files → KconfigText → List ℕ → List ℕ → Result Verdict EngineError → Type 0
 JudgesAfter files kconfig dotconfig o answer =
     (after : Files) (report : Report) (synced : IsSynced files after kconfig dotconfig report) (h : History) (r : LastRecord) → Shows files h
     → last_record h o ≡ Some r → IsJudged after (Synced synced.plan.title synced.plan.config h) o r answer
 
 -- what is answered over each tree that a completed synchronisation of these texts leaves
-pub record IsAnswerAfter (files : Files) (kconfig dotconfig o : List ℕ) (answer : Result Verdict EngineError) : Type 0 where
+pub record IsAnswerAfter (files : Files) (kconfig : KconfigText) (dotconfig o : List ℕ) (answer : Result Verdict EngineError) : Type 0 where
   pub by_files : AnswersAfter files kconfig dotconfig o answer
   pub recorded : JudgesAfter files kconfig dotconfig o answer
 

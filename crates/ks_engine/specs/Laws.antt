@@ -2,6 +2,7 @@
 -- and that a run by the files is one of each history that the first of them show.
 use Rattle.std.specs.Prelude.{◌≡◌, ◌⊎◌, ℕ, ◌+◌, ◌≤◌, List, Some, None, Result, Ok, true, IsTrue, ⊤}
 use Rattle.std.specs.FinMap.{empty}
+use Rattle.ks_symbols.specs.Dialects.{KconfigText}
 use Rattle.ks_symbols.specs.Names.{is_name, is_in}
 use Rattle.ks_tree.specs.Files.{Files, content}
 use Rattle.ks_tree.specs.Paths.{auto_path, command_path, stamp_path}
@@ -11,7 +12,7 @@ use Rattle.ks_compare.specs.Changes.{differs}
 use Rattle.ks_output.specs.OldConfig.{Texts}
 use Rattle.ks_fixdep.specs.CommandFile.{CommandRecord}
 use Rattle.ks_fixdep.specs.CommandReading.{reading}
-use Rattle.ks_fixdep.specs.declared.dialect.Dialect.{Dialect}
+use Rattle.ks_symbols.specs.declared.dialect.Dialect.{Dialect}
 use Rattle.ks_engine.specs.declared.staleness.Verdict.TheVariants.{Fresh}
 use Rattle.ks_engine.specs.Asked.{asked, IsAnswer}
 use Rattle.ks_engine.specs.History.{History, Begun, Synced, Broken, Recorded, LastRecord, before, done, last_record}
@@ -62,7 +63,7 @@ NotNumberedTreeShows =
 -- The files and the two texts determine what a synchronisation comes to: it has a plan or is refused, and for one reason.
 abbrev pub PlansAreOne : Type 0
 PlansAreOne =
-    (files : Files) (kconfig dotconfig : List ℕ) (r s : Result Plan EngineError) → IsSyncPlan files kconfig dotconfig r → IsSyncPlan files kconfig dotconfig s
+    (files : Files) (kconfig : KconfigText) (dotconfig : List ℕ) (r s : Result Plan EngineError) → IsSyncPlan files kconfig dotconfig r → IsSyncPlan files kconfig dotconfig s
     → r ≡ s
 
 -- A synchronisation, completed or broken off, that began when g or more were completed, and whose configuration differs at x from the last of these.

@@ -1,5 +1,6 @@
 -- What each question is answered: which files it is asked of, how many causes it lists, and what is said of a recorded object.
 use Rattle.std.specs.Prelude.{◌≡◌, ℕ, List, Result}
+use Rattle.ks_symbols.specs.Dialects.{KconfigText}
 use Rattle.ks_tree.specs.Files.{Files}
 use Rattle.ks_engine.specs.declared.error.EngineError.{EngineError}
 use Rattle.ks_engine.specs.declared.explaining.Explanation.{Explanation}
@@ -29,4 +30,4 @@ abbrev pub IsAnswerTo : Question → Files → List ℕ → Result Explanation E
 IsAnswerTo Stale files o answer = IsAnswerOn files o (told answer)
 IsAnswerTo Why files o answer = IsExplanationOn files o answer
 IsAnswerTo (After impact) files o answer =
-    (kconfig dotconfig : List ℕ) → IsImpactOf files kconfig dotconfig impact.now → IsAnswerAfter files kconfig dotconfig o (told answer)
+    (kconfig : KconfigText) (dotconfig : List ℕ) → IsImpactOf files kconfig dotconfig impact.now → IsAnswerAfter files kconfig dotconfig o (told answer)

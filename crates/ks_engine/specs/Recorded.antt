@@ -2,8 +2,8 @@
 use Rattle.std.specs.Prelude.{◌≡◌, ◌⊎◌, ℕ, List, Some, Result, Ok, Err, nat_lt, length, if◌then◌else◌}
 use Rattle.ks_symbols.specs.Lines.{max_bytes}
 use Rattle.ks_fixdep.specs.Dialects.{rules_for}
-use Rattle.ks_fixdep.specs.declared.dialect.Dialect.{Dialect}
-use Rattle.ks_fixdep.specs.declared.dependency_file.Header.TheVariants.{Usual}
+use Rattle.ks_symbols.specs.declared.dialect.Dialect.{Dialect}
+use Rattle.ks_fixdep.specs.DependencyFile.{usual_header}
 use Rattle.ks_fixdep.specs.declared.dependency_file.Role.{Role}
 use Rattle.ks_fixdep.specs.CommandFile.{CommandRecord, IsLegal, command_text}
 use Rattle.ks_fixdep.specs.FoundNames.{names_of}
@@ -75,7 +75,7 @@ IsRecordRefusedUnder conventions old new depfile target command e =
 -- ---- the same without the usual header
 
 abbrev pub usual : Dialect → Conventions
-usual dialect = record { header = Usual; dialect = dialect }
+usual dialect = record { header = usual_header dialect; dialect = dialect }
 
 abbrev pub record_plan : Dialect → Files → List ℕ → List ℕ → List ℕ → Result RecordPlan EngineError
 record_plan dialect files depfile target command = record_plan_under (usual dialect) files depfile target command

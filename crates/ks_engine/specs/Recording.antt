@@ -4,10 +4,10 @@ use Rattle.ks_symbols.specs.Lines.{max_bytes}
 use Rattle.ks_symbols.specs.Names.{is_path, is_target}
 use Rattle.ks_fixdep.specs.declared.dep_error.DepError.{DepError}
 use Rattle.ks_fixdep.specs.declared.dependency_file.Header.{Header}
-use Rattle.ks_fixdep.specs.declared.dependency_file.Header.TheVariants.{Usual}
+use Rattle.ks_symbols.specs.declared.dialect.Dialect.{Dialect}
 use Rattle.ks_fixdep.specs.declared.dependency_file.Role.{Role}
 use Rattle.ks_fixdep.specs.CommandFile.{is_command}
-use Rattle.ks_fixdep.specs.DependencyFile.{prerequisites_without, refusal_without}
+use Rattle.ks_fixdep.specs.DependencyFile.{prerequisites_without, refusal_without, usual_header}
 use Rattle.ks_fixdep.specs.Dialects.{names_in_as}
 use Rattle.ks_fixdep.specs.declared.dialect.Rules.{Rules}
 use Rattle.ks_tree.specs.Files.{Files, content}
@@ -35,8 +35,8 @@ abbrev pub listed_without : Header → List ℕ → Result (List (List ℕ × Ro
 listed_without header d = listed_unless (refusal_without header d) (prerequisites_without header d)
 
 -- but for the usual one
-abbrev pub listed : List ℕ → Result (List (List ℕ × Role)) EngineError
-listed d = listed_without Usual d
+abbrev pub listed : Dialect → List ℕ → Result (List (List ℕ × Role)) EngineError
+listed dialect d = listed_without (usual_header dialect) d
 
 -- the names of the file at a path by such rules, each once
 abbrev pub scanned : Rules → List ℕ → Option (List ℕ) → Result (List (List ℕ)) EngineError

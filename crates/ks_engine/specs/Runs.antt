@@ -1,7 +1,8 @@
 -- Runs: actions with their replies, and the states between them.
 use Rattle.std.specs.Prelude.{◌≡◌, ◌⊎◌, ◌≤◌, ℕ, List, [], ◌∷◌, Some, Result, Ok, Err, map}
 use Rattle.std.specs.List.{All}
-use Rattle.ks_fixdep.specs.declared.dialect.Dialect.{Dialect}
+use Rattle.ks_symbols.specs.declared.dialect.Dialect.{Dialect}
+use Rattle.ks_symbols.specs.Dialects.{read_in}
 use Rattle.ks_tree.specs.Files.{HasRisen}
 use Rattle.ks_engine.specs.declared.error.EngineError.{EngineError}
 use Rattle.ks_engine.specs.declared.error.EngineError.TheVariants.{Device}
@@ -26,10 +27,10 @@ pub record FollowsStale (old : TreeState) (o : List ℕ) (answer : Result Verdic
   pub by_files : GaveUp answer ⊎ IsAnswer old.files (asked old.files o) answer
   pub recorded : (r : LastRecord) → last_record old.history o ≡ Some r → IsJudged old.files old.history o r answer
 
--- the state after an action, by its reply; sources are scanned by the words of such a dialect
+-- the state after an action, by its reply; sources and Kconfigs are read in such a dialect
 abbrev pub Leaves : Dialect → TreeState → Action → Reply → TreeState → Type 0
-Leaves dialect old (Sync kconfig dotconfig) (Synced report) new = FollowsSync kconfig dotconfig (Ok report) old new
-Leaves dialect old (Sync kconfig dotconfig) (Refused e) new = FollowsSync kconfig dotconfig (Err e) old new
+Leaves dialect old (Sync kconfig dotconfig) (Synced report) new = FollowsSync (read_in dialect kconfig) dotconfig (Ok report) old new
+Leaves dialect old (Sync kconfig dotconfig) (Refused e) new = FollowsSync (read_in dialect kconfig) dotconfig (Err e) old new
 Leaves dialect old (Record depfile target command) (Recorded answer) new = FollowsRecord dialect depfile target command (Ok answer) old new
 Leaves dialect old (Record depfile target command) (Refused e) new = FollowsRecord dialect depfile target command (Err e) old new
 Leaves dialect old (Stale target) (Verdict v) new = FollowsStale old target (Ok v) new

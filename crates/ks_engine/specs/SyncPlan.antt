@@ -4,6 +4,7 @@ use Rattle.std.specs.FinMap as map
 use Rattle.ks_symbols.specs.declared.error.SourceError.{SourceError}
 use Rattle.ks_symbols.specs.Lines.{max_bytes, lines}
 use Rattle.ks_symbols.specs.Refusals.{or_else}
+use Rattle.ks_symbols.specs.Dialects.{KconfigText}
 use Rattle.ks_symbols.specs.Kconfig.{declared, title_of, kconfig_refusal}
 use Rattle.ks_symbols.specs.DotConfig.{setting, unknown_count, dotconfig_refusal}
 use Rattle.ks_output.specs.AutoText.{auto_text}
@@ -18,7 +19,7 @@ use Rattle.ks_engine.specs.Legal.{IsSource}
 use Rattle.ks_engine.specs.LastSync.{OldAuto, old_auto}
 
 -- why a Kconfig and a `.config` are refused
-abbrev pub source_refusal : List ℕ → List ℕ → Option SourceError
+abbrev pub source_refusal : KconfigText → List ℕ → Option SourceError
 source_refusal kconfig dotconfig = or_else (kconfig_refusal kconfig) (dotconfig_refusal (declared kconfig) dotconfig)
 
 pub record Sources : Type 0 where
@@ -27,7 +28,7 @@ pub record Sources : Type 0 where
   pub unknown : ℕ
 
 -- what the two texts set
-pub record AreSources (kconfig dotconfig : List ℕ) (s : Sources) : Type 0 where
+pub record AreSources (kconfig : KconfigText) (dotconfig : List ℕ) (s : Sources) : Type 0 where
   pub accepted : source_refusal kconfig dotconfig ≡ None
   pub title : s.title ≡ title_of kconfig
   pub settings : (x : List ℕ) → map.get s.config x ≡ setting (declared kconfig) (lines dotconfig) x
@@ -52,7 +53,7 @@ plan_over s auto =
     else (if nat_lt max_bytes (length (auto_text s.title s.config (auto.generation + 1))) then Err TooLarge else Ok (plan_of s auto))
 
 -- What is to be done, or why it is refused: first the texts, then auto.conf, then what would be written.
-abbrev pub IsSyncPlan : Files → List ℕ → List ℕ → Result Plan EngineError → Type 0
+abbrev pub IsSyncPlan : Files → KconfigText → List ℕ → Result Plan EngineError → Type 0
 IsSyncPlan files kconfig dotconfig result =
     ((e : SourceError) × (source_refusal kconfig dotconfig ≡ Some e) × (result ≡ Err (of_source e)))
     ⊎ ((s : Sources) × AreSources kconfig dotconfig s × (result ≡ and_then (old_auto (content files auto_path)) (plan_over s)))

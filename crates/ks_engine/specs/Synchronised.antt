@@ -1,5 +1,6 @@
 -- What a synchronisation leaves: all of its plan, or a part of it where it was broken off.
 use Rattle.std.specs.Prelude.{◌≡◌, ◌≢◌, ◌⊎◌, ℕ, ◌+◌, List, Some, Ok, Err, true, if◌then◌else◌, IsTrue}
+use Rattle.ks_symbols.specs.Dialects.{KconfigText}
 use Rattle.ks_symbols.specs.Names.{is_name, is_in, header_path}
 use Rattle.ks_output.specs.AutoText.{auto_text}
 use Rattle.ks_output.specs.Header.{header_text}
@@ -43,7 +44,7 @@ abbrev pub SyncSome : Files → Files → Plan → List (List ℕ) → Type 0
 SyncSome old new plan changed = (renewed : List (List ℕ)) × SyncLeaves old new plan changed renewed
 
 -- It ran to its end, and this is its report.
-pub record IsSynced (old new : Files) (kconfig dotconfig : List ℕ) (report : Report) : Type 0 where
+pub record IsSynced (old new : Files) (kconfig : KconfigText) (dotconfig : List ℕ) (report : Report) : Type 0 where
   pub plan : Plan
   pub planned : IsSyncPlan old kconfig dotconfig (Ok plan)
   pub generation : report.generation ≡ plan.generation + 1
@@ -52,7 +53,7 @@ pub record IsSynced (old new : Files) (kconfig dotconfig : List ℕ) (report : R
   pub done : SyncDone old new plan report.touched.items
 
 -- It reached its first write and was given up.
-pub record IsBrokenOff (old new : Files) (kconfig dotconfig : List ℕ) : Type 0 where
+pub record IsBrokenOff (old new : Files) (kconfig : KconfigText) (dotconfig : List ℕ) : Type 0 where
   pub plan : Plan
   pub planned : IsSyncPlan old kconfig dotconfig (Ok plan)
   pub names : List (List ℕ)
@@ -60,6 +61,6 @@ pub record IsBrokenOff (old new : Files) (kconfig dotconfig : List ℕ) : Type 0
   pub some : SyncSome old new plan names
 
 -- It was refused with nothing changed, or given up before its first write or after it.
-abbrev pub IsSyncRefused : Files → Files → List ℕ → List ℕ → EngineError → Type 0
+abbrev pub IsSyncRefused : Files → Files → KconfigText → List ℕ → EngineError → Type 0
 IsSyncRefused old new kconfig dotconfig e =
     (IsSyncPlan old kconfig dotconfig (Err e) × (new ≡ old)) ⊎ (IsGivenUp e × ((new ≡ old) ⊎ IsBrokenOff old new kconfig dotconfig))

@@ -1,5 +1,6 @@
 -- Values of the code as the definitions have them.
 use Rattle.std.specs.Prelude.{◌≡◌, ◌≢◌, ℕ, ◌+◌, List, Option, Some, None, Ok}
+use Rattle.ks_symbols.specs.Dialects.{KconfigText}
 use Rattle.ks_output.specs.AutoText.{auto_text}
 use Rattle.ks_output.specs.Header.{header_text}
 use Rattle.ks_output.specs.OldConfig.{OldTexts}
@@ -43,7 +44,7 @@ pub record IsPlannedBy (plan : Plan) (planned : Planned) : Type 0 where
   pub report : IsReport plan planned.report
 
 -- the plan for these files and texts
-abbrev pub IsPlanned : Files → List ℕ → List ℕ → Planned → Type 0
+abbrev pub IsPlanned : Files → KconfigText → List ℕ → Planned → Type 0
 IsPlanned files kconfig dotconfig planned = (plan : Plan) × IsSyncPlan files kconfig dotconfig (Ok plan) × IsPlannedBy plan planned
 
 -- the work of a plan: its report and its texts
@@ -53,5 +54,5 @@ pub record IsWork (plan : Plan) (work : Work) : Type 0 where
   pub auto : work.auto.items ≡ auto_text plan.title plan.config (plan.generation + 1)
 
 -- the work of that plan
-abbrev pub IsPrepared : Files → List ℕ → List ℕ → Work → Type 0
+abbrev pub IsPrepared : Files → KconfigText → List ℕ → Work → Type 0
 IsPrepared files kconfig dotconfig work = (plan : Plan) × IsSyncPlan files kconfig dotconfig (Ok plan) × IsWork plan work

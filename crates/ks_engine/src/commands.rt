@@ -11,7 +11,8 @@ ghost use Rattle.ks_engine.specs.Runs.{Run};
 use crate::memos::Memo;
 use crate::recording::record_by;
 use crate::{EngineError, Question, Recorded, Report, Verdict, ask, sync};
-use ks_fixdep::{Dialect, Seed};
+use ks_fixdep::Seed;
+use ks_symbols::{Dialect, Kconfig};
 use ks_tree::Tree;
 use std::alloc::{AllocError, Global};
 
@@ -56,7 +57,7 @@ fn answer<T: Tree>(
     match command {
         Command::Sync { kconfig, dotconfig } => {
             memo.clear();
-            match sync(alloc, tree, kconfig, dotconfig) {
+            match sync(alloc, tree, &Kconfig::new(dialect, kconfig), dotconfig) {
                 Ok(report) => Reply::Synced(report),
                 Err(error) => Reply::Refused(error),
             }
@@ -76,7 +77,7 @@ fn answer<T: Tree>(
     }
 }
 
-/// Answers commands in order, one reply for each. A refusal is a reply. Sources are scanned by the words of the dialect.
+/// Answers commands in order, one reply for each. A refusal is a reply. Sources and Kconfigs are read in the dialect.
 pub fn run<T: Tree>(
     alloc: Global,
     tree: &mut T,

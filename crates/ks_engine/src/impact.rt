@@ -9,6 +9,7 @@ ghost use Rattle.ks_engine.specs.Impact.{IsImpactOf};
 
 use crate::planning::plan_sync;
 use crate::{EngineError, Report};
+use ks_symbols::Kconfig;
 use ks_tree::Tree;
 use std::alloc::Global;
 
@@ -23,7 +24,7 @@ impl Impact {
     pub fn of<T: Tree>(
         alloc: Global,
         tree: &mut T,
-        kconfig: &[u8],
+        kconfig: &Kconfig<'_>,
         dotconfig: &[u8],
     ) -> Result<Impact, EngineError>
         ensures reads { Reads T.Tree tree.old tree.new (IsErrOf result EngineError.Device) }

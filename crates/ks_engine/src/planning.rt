@@ -12,7 +12,7 @@ use crate::last_sync::read_old;
 use crate::{EngineError, Report};
 use ks_compare::changed;
 use ks_output::{OldConfig, auto_len};
-use ks_symbols::{MAX_BYTES, Settings, SourceError, draft_settings, read_kconfig};
+use ks_symbols::{Kconfig, MAX_BYTES, Settings, SourceError, draft_settings, read_kconfig};
 use ks_tree::Tree;
 use std::alloc::{AllocError, Global};
 
@@ -25,7 +25,11 @@ pub struct Sources {
 
 /// Reads a Kconfig and a `.config`, in this order. The symbols are let go before the settings are put in order: nothing
 /// asks for them any more, and they are as large as these.
-pub fn read_sources(alloc: Global, kconfig: &[u8], dotconfig: &[u8]) -> Result<Sources, SourceError>
+pub fn read_sources(
+    alloc: Global,
+    kconfig: &Kconfig<'_>,
+    dotconfig: &[u8],
+) -> Result<Sources, SourceError>
     ensures read { IfOk result (λ s. AreSources kconfig.now dotconfig.now (sources_of s)) }
     ensures refusal { RefusedBy SourceError.OutOfMemory result (source_refusal kconfig.now dotconfig.now) }
 {
@@ -84,7 +88,7 @@ pub struct Planned {
 pub fn plan_sync<T: Tree>(
     alloc: Global,
     tree: &mut T,
-    kconfig: &[u8],
+    kconfig: &Kconfig<'_>,
     dotconfig: &[u8],
 ) -> Result<Planned, EngineError>
     ensures reads { Reads T.Tree tree.old tree.new (IsErrOf result EngineError.Device) }

@@ -18,10 +18,10 @@ use crate::conventions::Conventions;
 use crate::memos::Memo;
 use crate::sources::scan_all_by;
 use ks_fixdep::{
-    Dialect, Header, NamesBySource, Prerequisites, Seed, command_is_legal, read_depfile_without,
+    Header, NamesBySource, Prerequisites, Rules, Seed, command_is_legal, read_depfile_without,
     record_text,
 };
-use ks_symbols::{MAX_BYTES, Path, path_is_legal, target_is_legal};
+use ks_symbols::{Dialect, MAX_BYTES, Path, path_is_legal, target_is_legal};
 use ks_tree::{Tree, command_path, command_temporary, replace};
 use std::alloc::Global;
 
@@ -134,7 +134,7 @@ pub(crate) fn prepare<T: Tree>(
     let header = conventions.header;
     let prerequisites = read_depfile_without(alloc, Seed::new(tree.seed()), header, &text)?;
     let generation = memo.generation(alloc, tree)?;
-    memo.scan_by(conventions.dialect.rules_for(target));
+    memo.scan_by(Rules::for_target(conventions.dialect, target));
     scan_all_by(alloc, tree, memo, &prerequisites)?;
     let draft = make_draft(
         alloc,
@@ -168,7 +168,7 @@ pub(crate) fn record_by<T: Tree>(
     ensures counted { Counted T.Tree tree.old tree.new (IsErrOf result EngineError.Device) }
 {
     let conventions = Conventions {
-        header: Header::Usual,
+        header: Header::usual(dialect),
         dialect,
     };
     let prepared = prepare(alloc, tree, memo, conventions, depfile, target, command)?;

@@ -12,12 +12,12 @@ ghost use Rattle.ks_engine.specs.Stamped.{AreDeclared, FollowsSyncStamped, IsSta
 
 use crate::synchronise::sync;
 use crate::{EngineError, Report};
-use ks_symbols::{Name, read_kconfig};
+use ks_symbols::{Kconfig, Name, read_kconfig};
 use ks_tree::{Tree, make_stamps};
 use std::alloc::Global;
 
 /// The symbols that a Kconfig declares.
-fn declared_names(alloc: Global, kconfig: &[u8]) -> Result<Vec<Name>, EngineError>
+fn declared_names(alloc: Global, kconfig: &Kconfig<'_>) -> Result<Vec<Name>, EngineError>
     ensures declared { IfOk result (λ names. AreDeclared kconfig.now names.items) }
     ensures legal { IfOk result (λ names. (x : List ℕ) → is_in names.items x ≡ true → IsTrue (is_name x)) }
     ensures refused { IfErr result (λ e. IsGivenUp e ⊎ ((files : Files) (dotconfig : List ℕ) → IsSyncPlan files kconfig.now dotconfig (Err e))) }
@@ -32,7 +32,7 @@ fn declared_names(alloc: Global, kconfig: &[u8]) -> Result<Vec<Name>, EngineErro
 pub fn sync_stamped<T: Tree>(
     alloc: Global,
     tree: &mut T,
-    kconfig: &[u8],
+    kconfig: &Kconfig<'_>,
     dotconfig: &[u8],
 ) -> Result<Report, EngineError>
     // By the files: it did all of it, or it was refused or given up as `sync` is, or after what `sync` does.

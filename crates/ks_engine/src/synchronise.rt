@@ -12,7 +12,7 @@ ghost use Rattle.ks_engine.specs.Views.{IsPlannedBy, IsPrepared, IsWork};
 use crate::EngineError;
 use crate::planning::{Planned, plan_sync};
 use ks_output::{write_auto, write_header};
-use ks_symbols::Name;
+use ks_symbols::{Kconfig, Name};
 use ks_tree::{
     Tree, TreeFault, auto_path, auto_temporary, header_path, header_temporary, replace, touch_all,
 };
@@ -62,7 +62,7 @@ fn work_of(alloc: Global, planned: Planned) -> Result<Work, AllocError>
 fn prepare<T: Tree>(
     alloc: Global,
     tree: &mut T,
-    kconfig: &[u8],
+    kconfig: &Kconfig<'_>,
     dotconfig: &[u8],
 ) -> Result<Work, EngineError>
     ensures reads { Reads T.Tree tree.old tree.new (IsErrOf result EngineError.Device) }
@@ -92,7 +92,7 @@ fn write_all<T: Tree>(alloc: Global, tree: &mut T, work: &Work) -> Result<(), Tr
 pub fn sync<T: Tree>(
     alloc: Global,
     tree: &mut T,
-    kconfig: &[u8],
+    kconfig: &Kconfig<'_>,
     dotconfig: &[u8],
 ) -> Result<Report, EngineError>
     // By the files: it did all of it, or it was refused, or given up in one of the named states.

@@ -1,5 +1,5 @@
 -- A plan that is made by some of the files is the plan of all of them: each file that it goes by is there.
-use Rattle.ks_parallel.proofs.Prelude.{◌≡◌, ⊎_elim, ℕ, List, [], ◌∷◌, true, false, cond, Option, Some, None, Result, Ok, Err, sym, ◌∙◌, ap, refl, subst, bytes_eq, map, length, nat_lt, or_cases, bytes_eq-Decides, max_bytes, is_in, DepError, Dialect, Role, Rules, rules_for, prerequisites, dependency_refusal, Files, content, auto_path, EngineError, TooLarge, and_then, old_auto, last_generation, words, there, listed, listed_unless, scanned, scanned_all, followed, RecordPlan, record_plan, record_plan_under, prerequisite_paths, paths_read, IsWithin}
+use Rattle.ks_parallel.proofs.Prelude.{◌≡◌, ⊎_elim, ℕ, List, [], ◌∷◌, true, false, cond, Option, Some, None, Result, Ok, Err, sym, ◌∙◌, ap, refl, subst, bytes_eq, map, length, nat_lt, or_cases, bytes_eq-Decides, max_bytes, is_in, DepError, Dialect, Role, Rules, rules_for, Files, content, auto_path, EngineError, TooLarge, and_then, old_auto, last_generation, words, there, listed, listed_unless, scanned, scanned_all, followed, RecordPlan, record_plan, record_plan_under, prerequisite_paths, paths_read, IsWithin, prerequisites_without, refusal_without, usual_header}
 use Rattle.ks_parallel.proofs.Frames.{records_go_by_what_they_read}
 
 then_made : {A B : Type 0} (step : Result A EngineError) (next : A → Result B EngineError) (y : B) → and_then step next ≡ Ok y → (x : A) × (step ≡ Ok x)
@@ -47,17 +47,17 @@ all_scanned r files (p ∷ ps) found e q among =
     (λ more. all_scanned r files ps parts.1.0 parts.1.1 q more)
     (or_cases (bytes_eq q p.0) _ among)
 
-prerequisites_of : (refusal : Option DepError) (d : List ℕ) (ps : List (List ℕ × Role)) → listed_unless refusal (prerequisites d) ≡ Ok ps → ps ≡ prerequisites d
-prerequisites_of None d ps e = cc
-prerequisites_of (Some bad) d ps e = absurd cc
+prerequisites_of : (refusal : Option DepError) (all ps : List (List ℕ × Role)) → listed_unless refusal all ≡ Ok ps → ps ≡ all
+prerequisites_of None all ps e = cc
+prerequisites_of (Some bad) all ps e = absurd cc
 
 all_there : (dialect : Dialect) (files : Files) (d t c : List ℕ) (plan : RecordPlan) → record_plan dialect files d t c ≡ Ok plan → (q : List ℕ)
-    → is_in (paths_read files d) q ≡ true → IsThere files q
+    → is_in (paths_read dialect files d) q ≡ true → IsThere files q
 unfolding record_plan_under
 all_there dialect files d t c plan e q among =
     let one = then_made (words d t c) _ plan e in
     let two = then_made (there d (content files d)) _ plan one.2 in
-    let three = then_made (listed two.0) _ plan two.2 in
+    let three = then_made (listed dialect two.0) _ plan two.2 in
     let four = then_made (last_generation (content files auto_path)) _ plan three.2 in
     let five = then_made (scanned_all (rules_for dialect t) files three.0) _ plan four.2 in
     let depfile = there_some d (content files d) two.0 two.1 in
@@ -68,8 +68,8 @@ all_there dialect files d t c plan e q among =
     let auto = auto_some (content files auto_path) four.0 four.1 in
     (auto.0, ap (content files) ((bytes_eq-Decides q auto_path).0 same) ∙ auto.1))
     (λ listed. all_scanned (rules_for dialect t) files three.0 five.0 five.1 q
-    (subst (λ ps. is_in (map (λ p. p.0) ps) q ≡ true) (sym (prerequisites_of (dependency_refusal two.0) two.0 three.0 three.1))
-    (subst (λ file. is_in (prerequisite_paths file) q ≡ true) depfile listed)))
+    (subst (λ ps. is_in (map (λ p. p.0) ps) q ≡ true) (sym (prerequisites_of (refusal_without (usual_header dialect) two.0) (prerequisites_without (usual_header dialect) two.0) three.0 three.1))
+    (subst (λ file. is_in (prerequisite_paths dialect file) q ≡ true) depfile listed)))
     (or_cases (bytes_eq q auto_path) _ more))
     (or_cases (bytes_eq q d) _ among)
 

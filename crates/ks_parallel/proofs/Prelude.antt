@@ -30,11 +30,11 @@ pub use Rattle.ks_engine.specs.Staleness.{first_changed, first_suspect, found}
 pub use Rattle.ks_engine.specs.declared.error.EngineError.{EngineError}
 pub use Rattle.ks_engine.specs.declared.error.EngineError.TheVariants.{OutOfMemory, TooLarge}
 pub use Rattle.ks_fixdep.specs.CommandFile.{command_text}
-pub use Rattle.ks_fixdep.specs.DependencyFile.{dependency_refusal, prerequisites}
+pub use Rattle.ks_fixdep.specs.DependencyFile.{prerequisites_without, refusal_without, usual_header}
 pub use Rattle.ks_fixdep.specs.Dialects.{rules_for}
 pub use Rattle.ks_fixdep.specs.declared.dep_error.DepError.{DepError}
 pub use Rattle.ks_fixdep.specs.declared.dependency_file.Role.{Role}
-pub use Rattle.ks_fixdep.specs.declared.dialect.Dialect.{Dialect}
+pub use Rattle.ks_symbols.specs.declared.dialect.Dialect.{Dialect}
 pub use Rattle.ks_fixdep.specs.declared.dialect.Rules.{Rules}
 pub use Rattle.ks_output.specs.AutoText.{auto_text}
 pub use Rattle.ks_output.specs.Header.{header_text}

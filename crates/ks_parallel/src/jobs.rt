@@ -3,7 +3,7 @@ ghost use Rattle.std.specs.Prelude.{◌≡◌, IfOk};
 ghost use Rattle.ks_parallel.specs.Jobs.{are_distinct, has_target, hidden_by, jobs_of};
 ghost use Rattle.ks_parallel.specs.Views.{is_written_for, sees};
 
-use ks_fixdep::Dialect;
+use ks_symbols::Dialect;
 use ks_tree::{command_path, command_temporary};
 use std::alloc::{AllocError, Global};
 

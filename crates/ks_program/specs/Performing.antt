@@ -2,7 +2,7 @@
 use Rattle.std.specs.Prelude.{◌≡◌, ◌⊎◌, ℕ, List, [], Result, Ok, Err, true}
 use Rattle.clap.specs.Words.{Text, fault_of, takes}
 use Rattle.ks_streams.specs.Streams.{State}
-use Rattle.ks_fixdep.specs.declared.dialect.Dialect.{Dialect}
+use Rattle.ks_symbols.specs.declared.dialect.Dialect.{Dialect}
 use Rattle.ks_tree.specs.declared.tree.Tree.{Ghosts}
 use Rattle.ks_engine.specs.declared.error.EngineError.TheVariants.{OutOfMemory}
 use Rattle.ks_requests.specs.declared.refusal.Refusal.TheVariants.{Engine}

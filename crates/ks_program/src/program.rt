@@ -7,9 +7,9 @@ ghost use Rattle.ks_program.specs.Performing.{Executes, IsAskedBy, Refuses};
 
 use ks_commands::perform;
 use ks_engine::EngineError;
-use ks_fixdep::Dialect;
 use ks_requests::{Refusal, Request, refuse};
 use ks_streams::Stream;
+use ks_symbols::Dialect;
 use ks_tree::Tree;
 use ks_words::{WordsError, explain};
 use std::alloc::Global;
@@ -32,7 +32,7 @@ fn tell_why<W: Write, E: Write>(
 }
 
 /// Runs the command that the words after the program's name ask for, and answers the exit status: 0 done and nothing stale,
-/// 1 something stale or built by another command, 2 something refused. The dialect says whose words name symbols in sources.
+/// 1 something stale or built by another command, 2 something refused. Sources and Kconfigs are read in the dialect.
 pub fn execute<T: Tree, W: Write, E: Write>(
     alloc: Global,
     tree: &mut T,

@@ -42,6 +42,7 @@ pub use Rattle.ks_output.specs.OldConfig.{Texts}
 pub use Rattle.ks_output.specs.declared.auto_conf.AutoError.{AutoError}
 pub use Rattle.ks_streams.proofs.Writing.{told, told_first, told_more}
 pub use Rattle.ks_streams.specs.Streams.{Breaks, Prints, PrintsOrBreaks, state_of}
+pub use Rattle.ks_symbols.specs.Dialects.{KconfigText}
 pub use Rattle.ks_symbols.specs.Kconfig.{declared}
 unfoldable pub use Rattle.ks_symbols.specs.Lines.{lines}
 pub use Rattle.ks_symbols.specs.Refusals.{IsRefusal, or_else}

@@ -1,5 +1,5 @@
 -- The refusal of a part is that of the preview, where the parts before it are not refused.
-use Rattle.ks_requests.proofs.Prelude.{◌≡◌, inl, inr, sym, subst, ◌≢◌, ◌-◌, ◌^◌, ℕ, List, Option, Some, None, option_map, ap, ◌∙◌, cond-true, cond-false, eq-eqb, ne_eqb, SourceError, or_else, IsRefusal, AutoError, PreviewError, source_refusal, IsPreviewRefusal, old_refusal, old_generation, full_refusal, preview_refusal}
+use Rattle.ks_requests.proofs.Prelude.{◌≡◌, inl, inr, sym, subst, ◌≢◌, ◌-◌, ◌^◌, ℕ, List, Option, Some, None, option_map, ap, ◌∙◌, cond-true, cond-false, eq-eqb, ne_eqb, SourceError, or_else, IsRefusal, AutoError, PreviewError, source_refusal, IsPreviewRefusal, old_refusal, old_generation, full_refusal, preview_refusal, KconfigText}
 use Rattle.ks_symbols.specs.declared.error.SourceError.TheVariants as source
 use Rattle.ks_output.specs.declared.auto_conf.AutoError.TheVariants as auto
 use Rattle.ks_requests.specs.declared.preview.PreviewError.TheVariants as preview
@@ -31,20 +31,20 @@ pub auto_refused : (e : AutoError) (r : Option AutoError) (later : Option Previe
 auto_refused e r later (inl memory) = subst (λ x. IsPreviewRefusal (preview.Auto x) (or_else (option_map preview.Auto r) later)) (sym memory) tt
 auto_refused e r later (inr h) = auto_refusal_is e _ (ap (λ o. or_else (option_map preview.Auto o) later) h)
 
-pub texts_refused : (kconfig dotconfig : List ℕ) (old : Option (List ℕ)) (e : SourceError) → IsRefusal source.OutOfMemory e (source_refusal kconfig dotconfig)
+pub texts_refused : (kconfig : KconfigText) (dotconfig : List ℕ) (old : Option (List ℕ)) (e : SourceError) → IsRefusal source.OutOfMemory e (source_refusal kconfig dotconfig)
     → IsPreviewRefusal (preview.Source e) (preview_refusal kconfig dotconfig old)
 unfolding preview_refusal
 texts_refused kconfig dotconfig old e h = source_refused e (source_refusal kconfig dotconfig) _ h
 
 -- where the texts are not refused
-pub preview_refusal-old : (kconfig dotconfig : List ℕ) (old : Option (List ℕ)) → source_refusal kconfig dotconfig ≡ None
+pub preview_refusal-old : (kconfig : KconfigText) (dotconfig : List ℕ) (old : Option (List ℕ)) → source_refusal kconfig dotconfig ≡ None
     → preview_refusal kconfig dotconfig old ≡ or_else (option_map preview.Auto (old_refusal old)) (full_refusal (old_generation old))
 unfolding preview_refusal
 preview_refusal-old kconfig dotconfig old h =
     ap (λ o. or_else (option_map preview.Source o) (or_else (option_map preview.Auto (old_refusal old)) (full_refusal (old_generation old)))) h
 
 -- where the old auto.conf is not refused either
-pub preview_refusal-full : (kconfig dotconfig : List ℕ) (old : Option (List ℕ)) → source_refusal kconfig dotconfig ≡ None → old_refusal old ≡ None
+pub preview_refusal-full : (kconfig : KconfigText) (dotconfig : List ℕ) (old : Option (List ℕ)) → source_refusal kconfig dotconfig ≡ None → old_refusal old ≡ None
     → preview_refusal kconfig dotconfig old ≡ full_refusal (old_generation old)
 preview_refusal-full kconfig dotconfig old h k =
     preview_refusal-old kconfig dotconfig old h ∙ ap (λ o. or_else (option_map preview.Auto o) (full_refusal (old_generation old))) k

@@ -2,6 +2,7 @@
 use Rattle.std.specs.Prelude.{◌≡◌, ◌+◌, ◌-◌, ◌^◌, ◌==◌, ◌++◌, ℕ, List, codes, flat_map, Option, Some, None, option_map, Result, Ok, Err, ⊤, if◌then◌else◌}
 use Rattle.std.specs.FinMap as map
 use Rattle.std.specs.Io.KnownBytes.{Appends}
+use Rattle.ks_symbols.specs.Dialects.{KconfigText}
 use Rattle.ks_symbols.specs.declared.error.SourceError.TheVariants as source
 use Rattle.ks_symbols.specs.Refusals.{or_else}
 use Rattle.ks_output.specs.OldConfig.{Texts}
@@ -35,13 +36,13 @@ old_refusal (Some text) = auto_refusal text
 abbrev pub full_refusal : ℕ → Option PreviewError
 full_refusal generation = if generation == 2 ^ 64 - 1 then Some preview.GenerationFull else None
 
-unfoldable pub preview_refusal : List ℕ → List ℕ → Option (List ℕ) → Option PreviewError
+unfoldable pub preview_refusal : KconfigText → List ℕ → Option (List ℕ) → Option PreviewError
 preview_refusal kconfig dotconfig old =
     or_else (option_map preview.Source (source_refusal kconfig dotconfig))
     (or_else (option_map preview.Auto (old_refusal old)) (full_refusal (old_generation old)))
 
 -- a preview of texts that are accepted: the names that differ from the old auto.conf, and the auto.conf of the generation after it
-pub record IsPreview (kconfig dotconfig : List ℕ) (old : Option (List ℕ)) (text : List ℕ) : Type 0 where
+pub record IsPreview (kconfig : KconfigText) (dotconfig : List ℕ) (old : Option (List ℕ)) (text : List ℕ) : Type 0 where
   pub accepted : preview_refusal kconfig dotconfig old ≡ None
   pub sources : Sources
   pub names : List (List ℕ)
@@ -50,7 +51,7 @@ pub record IsPreview (kconfig dotconfig : List ℕ) (old : Option (List ℕ)) (t
   pub whole : text ≡ touch_lines names ++ auto_text sources.title sources.config (old_generation old + 1)
 
 -- a writer's known bytes grow by a preview
-pub record Previews (kconfig dotconfig : List ℕ) (old before after : Option (List ℕ)) : Type 0 where
+pub record Previews (kconfig : KconfigText) (dotconfig : List ℕ) (old before after : Option (List ℕ)) : Type 0 where
   pub text : List ℕ
   pub is_preview : IsPreview kconfig dotconfig old text
   pub appended : Appends before after text

@@ -1,5 +1,6 @@
 -- The lines of a `.config` about names that its Kconfig doesn't declare.
 use Rattle.std.specs.Prelude.{ℕ, List, [], ◌∷◌, ◌++◌, Option, Some, None, codes, flat_map, is_none, if◌then◌else◌}
+use Rattle.ks_symbols.specs.Dialects.{KconfigText}
 use Rattle.ks_symbols.specs.declared.kinds.Kind.{Kind}
 use Rattle.ks_symbols.specs.Kconfig.{declared}
 use Rattle.ks_symbols.specs.Lines.{lines}
@@ -18,5 +19,5 @@ abbrev pub unknown_line : List ℕ → List ℕ
 unknown_line name = codes "unknown " ++ name ++ codes "\n"
 
 -- a line for each
-unfoldable pub unknown_lines : (kconfig dotconfig : List ℕ) → List ℕ
+unfoldable pub unknown_lines : KconfigText → List ℕ → List ℕ
 unknown_lines kconfig dotconfig = flat_map unknown_line (unknown_names (declared kconfig) (lines dotconfig))

@@ -10,7 +10,7 @@ ghost use Rattle.ks_requests.specs.Preview.{IsPreview, PreviewRefusedBy, Preview
 
 use ks_engine::{Report, Sources, plan, read_sources};
 use ks_output::{AutoError, OldConfig, read_auto, write_auto};
-use ks_symbols::{Name, SourceError};
+use ks_symbols::{Kconfig, Name, SourceError};
 use std::alloc::{AllocError, Global};
 use std::io::Write;
 use thiserror::Error;
@@ -98,7 +98,7 @@ fn preview_text(alloc: Global, report: Report, sources: &Sources) -> Result<Vec<
 /// The text of a preview, of any length, though a synchronisation refuses an auto.conf of more than 64 MiB.
 pub fn preview_of(
     alloc: Global,
-    kconfig: &[u8],
+    kconfig: &Kconfig<'_>,
     dotconfig: &[u8],
     old: Option<&[u8]>,
 ) -> Result<Vec<u8>, PreviewError>
@@ -118,7 +118,7 @@ pub fn preview_of(
 /// auto.conf that it would write. Without an old one it is the first synchronisation.
 pub fn preview_to<W: Write>(
     alloc: Global,
-    kconfig: &[u8],
+    kconfig: &Kconfig<'_>,
     dotconfig: &[u8],
     old: Option<&[u8]>,
     out: &mut W,

@@ -9,7 +9,7 @@ ghost use Rattle.ks_symbols.specs.Statements.{statement};
 ghost use Rattle.ks_requests.specs.Unknown.{unknown_in, unknown_line, unknown_lines, unknown_names};
 
 use bstr::ByteSlice;
-use ks_symbols::{SourceError, Statement, Symbols, parse_statement, read_kconfig};
+use ks_symbols::{Kconfig, SourceError, Statement, Symbols, parse_statement, read_kconfig};
 use std::alloc::{AllocError, Global};
 
 /// Appends a line, if this line of a `.config` is about a name that is not declared.
@@ -44,7 +44,7 @@ fn write_unknown(symbols: &Symbols, dotconfig: &[u8], text: &mut Vec<u8>) -> Res
 /// is read for it, and is refused as ever; of the `.config` nothing else is looked at.
 pub fn unknown_lines(
     alloc: Global,
-    kconfig: &[u8],
+    kconfig: &Kconfig<'_>,
     dotconfig: &[u8],
 ) -> Result<Vec<u8>, SourceError>
     ensures lines { IfOk result (λ text. text.items ≡ unknown_lines kconfig.now dotconfig.now) }

@@ -11,7 +11,7 @@ pub(crate) const CALL: &str = "confstamp [-C DIR]... [--begin] [--dialect NAME] 
 pub(crate) const NOTES: &str = "\
 Files are looked up in the current folder, or below DIR of -C DIR in front of the command.
 --begin lets a sync begin its numbers again, where files hold some and auto.conf has no generation.
---dialect says whose words name symbols in sources: linux, which it is without it, or u-boot.
+--dialect says in whose words sources and Kconfigs are read: linux, as without it, u-boot or busybox.
 A word that begins with - is taken after --.
 
 Exit status:

@@ -1,4 +1,4 @@
-use Rattle.ks_commands.proofs.Prelude.{inr, Ok, Err, sym, ap, ◌∙◌, subst, err_from_is_err_and, at, Shows, seen_texts}
+use Rattle.ks_commands.proofs.Prelude.{inr, Ok, Err, sym, ap, ◌∙◌, subst, err_from_is_err_and, at, Shows, seen_texts, read_in}
 use Rattle.ks_commands.proofs.Continuing.{sync_follows, sync_leaves}
 use Rattle.ks_commands.proofs.changes.synchronise.Goals as goal
 
@@ -10,7 +10,7 @@ returns-in_err-report-clause-files g c = λ honest.
       seen_texts c.in_ok-texts.texts,
       c.in_ok-texts.ensures.texts honest,
       Err e,
-      sync_leaves _ _ _ c.args.stamps _ _ _ _ (Err e) (c.in_ok-texts.ensures.reads.unchanged honest) c.deref.ensures.value c.deref-2.ensures.value
+      sync_leaves _ _ _ c.args.stamps _ _ _ _ (Err e) (c.in_ok-texts.ensures.reads.unchanged honest) (c.new-kconfig.ensures ∙ ap (read_in c.args.dialect) c.deref.ensures.value) c.deref-2.ensures.value
           (c.in_err-report.ensures.files honest),
       p.1 ∙ ap (λ r. Err r) p.2,
     )
@@ -28,7 +28,7 @@ returns-in_err-report-clause-goes_on g c = λ honest h shows.
         c.in_ok-texts.ensures.texts honest,
         Err e,
         sync_follows _ _ (failures c.args.tree.now) (failures c.texts_at.new.tree) h c.args.stamps _ _ _ _ (Err e) (at _ (failures c.sync_with.new.tree) next.0) same
-            c.deref.ensures.value c.deref-2.ensures.value next.1,
+            (c.new-kconfig.ensures ∙ ap (read_in c.args.dialect) c.deref.ensures.value) c.deref-2.ensures.value next.1,
         p.1 ∙ ap (λ r. Err r) p.2,
       ),
       next.2,
@@ -44,7 +44,7 @@ returns-in_err-tell_report-clause-goes_on g c = λ honest h shows.
         seen_texts c.in_ok-texts.texts,
         c.in_ok-texts.ensures.texts honest,
         Ok c.in_ok-report.report,
-        sync_follows _ _ _ _ h c.args.stamps _ _ _ _ (Ok c.in_ok-report.report) _ same c.deref.ensures.value c.deref-2.ensures.value next.1,
+        sync_follows _ _ _ _ h c.args.stamps _ _ _ _ (Ok c.in_ok-report.report) _ same (c.new-kconfig.ensures ∙ ap (read_in c.args.dialect) c.deref.ensures.value) c.deref-2.ensures.value next.1,
         rw p.1 p.2,
       ),
       next.2,
@@ -59,7 +59,7 @@ returns-clause-goes_on g c = λ honest h shows.
         seen_texts c.in_ok-texts.texts,
         c.in_ok-texts.ensures.texts honest,
         Ok c.in_ok-report.report,
-        sync_follows _ _ _ _ h c.args.stamps _ _ _ _ (Ok c.in_ok-report.report) _ same c.deref.ensures.value c.deref-2.ensures.value next.1,
+        sync_follows _ _ _ _ h c.args.stamps _ _ _ _ (Ok c.in_ok-report.report) _ same (c.new-kconfig.ensures ∙ ap (read_in c.args.dialect) c.deref.ensures.value) c.deref-2.ensures.value next.1,
         c.in_ok-tell_report.ensures,
       ),
       next.2,

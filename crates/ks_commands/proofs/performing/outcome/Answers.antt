@@ -47,15 +47,15 @@ returns-in-Why-clause-goes_on g c = λ honest h shows.
 
 pub returns-in-Impact-clause-files : goal.returns-in-Impact-clause-files
 returns-in-Impact-clause-files g c = λ honest.
-    rw (c.in-Impact.is, ← c.as_bytes-in-Impact.ensures.value, ← c.as_bytes-in-Impact-2.ensures.value)
+    rw (c.in-Impact.is, ← c.as_bytes-kconfig-in-Impact.ensures.value, ← c.as_bytes-dotconfig-in-Impact.ensures.value)
     (c.ask_after.ensures.reads.unchanged honest, c.ask_after.ensures.told honest)
 
 pub returns-in-Impact-clause-goes_on : goal.returns-in-Impact-clause-goes_on
 returns-in-Impact-clause-goes_on g c = λ honest h shows.
     let same = c.ask_after.ensures.reads.unchanged honest in (
       h,
-      rw (c.in-Impact.is, ← c.as_bytes-in-Impact.ensures.value, ← c.as_bytes-in-Impact-2.ensures.value)
-          ((same, refl), impact_follows (state g.T.Tree c.args.tree.now) (state g.T.Tree c.ask_after.new.tree) h _ _ _ _ _ same shows (c.ask_after.ensures.told honest)),
+      rw (c.in-Impact.is, ← c.as_bytes-kconfig-in-Impact.ensures.value, ← c.as_bytes-dotconfig-in-Impact.ensures.value)
+          ((same, refl), impact_follows c.args.dialect (state g.T.Tree c.args.tree.now) (state g.T.Tree c.ask_after.new.tree) h _ _ _ _ _ same shows (c.ask_after.ensures.told honest)),
       subst (λ f. Shows f h) (sym same) shows,
     )
 

@@ -12,7 +12,7 @@ returns-in_err-text-clause-told g c = λ honest.
       inr (
         e,
         λ same. c.in_err-text.ensures.no_output (ap (λ e. Err e) same),
-        rw (← c.deref.ensures.value, ← c.deref-2.ensures.value, ← c.borrowed-old.ensures) c.in_err-text.ensures.refusal,
+        rw (← c.deref.ensures.value, ← c.new-kconfig.ensures, ← c.deref-2.ensures.value, ← c.borrowed-old.ensures) c.in_err-text.ensures.refusal,
         p.1 ∙ ap (λ r. Err r) p.2,
       ),
     )

@@ -15,12 +15,12 @@ stepped dialect honest command given reply old new same leaves later cause =
 pub returns-in-Ok-clause-step : goal.returns-in-Ok-clause-step
 returns-in-Ok-clause-step g c =
     stepped c.args.dialect g.T.Tree.is_honest _ _ (Synced c.in-Ok.report) (state g.T.Tree c.args.tree.now) (state g.T.Tree c.sync.new.tree) c.in-Sync.is
-    c.in-Ok.ensures.synced c.in-Ok.ensures.counted.later (λ e. absurd cc)
+    (λ honest. rw (← c.new.ensures) (c.in-Ok.ensures.synced honest)) c.in-Ok.ensures.counted.later (λ e. absurd cc)
 
 pub returns-in-Err-clause-step : goal.returns-in-Err-clause-step
 returns-in-Err-clause-step g c =
     stepped c.args.dialect g.T.Tree.is_honest _ _ (Refused c.in-Err.error) (state g.T.Tree c.args.tree.now) (state g.T.Tree c.sync.new.tree) c.in-Sync.is
-    c.in-Err.ensures.refused c.in-Err.ensures.counted.later (λ e. c.in-Err.ensures.counted.cause (ap (λ x. Err x) (refused_is c.in-Err.error e)))
+    (λ honest. rw (← c.new.ensures) (c.in-Err.ensures.refused honest)) c.in-Err.ensures.counted.later (λ e. c.in-Err.ensures.counted.cause (ap (λ x. Err x) (refused_is c.in-Err.error e)))
 
 pub returns-in-Ok-record_by-clause-step : goal.returns-in-Ok-record_by-clause-step
 returns-in-Ok-record_by-clause-step g c =

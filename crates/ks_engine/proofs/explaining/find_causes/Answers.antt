@@ -1,4 +1,4 @@
-use Rattle.ks_engine.proofs.Prelude.{◌≡◌, ◌≤◌, ◌+◌, map, refl, sym, subst, ◌∙◌, ap, arith, and_parts, length-map, err_from_is_err_and, list_all, Dep, File, is_dep, seen_dep, list_all-drop, content, stamp_path, HasNumber, IsStampRefusal, First, AreTooFew, limit_of}
+use Rattle.ks_engine.proofs.Prelude.{◌≡◌, ◌≤◌, ◌+◌, map, refl, sym, subst, ◌∙◌, ap, arith, and_parts, length-map, err_from_is_err_and, list_all, Dep, File, is_dep, seen_dep, list_all-drop, content, stamp_path, HasNumber, IsStampRefusal, First, limit_of}
 use Rattle.ks_engine.specs.declared.question.Limit.TheVariants.{All as Every}
 use Rattle.ks_engine.proofs.Asking.{borrowed_next, still_seen}
 use Rattle.ks_engine.proofs.Listing.{LookedAt, few_of_all, few_of_none, enough, enough_at_end, enough_first, looked_above, looked_below, looked_file, looked_first, looked_refused}

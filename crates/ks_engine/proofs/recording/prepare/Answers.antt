@@ -27,7 +27,7 @@ module _ (g : given.Over) (c : After-make_draft g) (honest : g.T.Tree.is_honest)
       (c.in_ok-text.ensures.bytes honest ∙ ap (λ b. Ok b) (sym c.deref.ensures.value))
       (listed_but c.args.conventions.header d ps c.in_ok-prerequisites.ensures.refusal c.in_ok-prerequisites.ensures.value)
       (synced_there files _ _ same (c.in_ok-generation.ensures.read honest))
-      (scanned_there _ _ files _ ps _ (c.scan_by.ensures.rules ∙ c.rules_for.ensures) (c.in_ok-generation.ensures.reads.unchanged honest ∙ same) (c.in_ok-scan_all_by.ensures.names honest)) made
+      (scanned_there _ _ files _ ps _ (c.scan_by.ensures.rules ∙ c.for_target.ensures) (c.in_ok-generation.ensures.reads.unchanged honest ∙ same) (c.in_ok-scan_all_by.ensures.names honest)) made
 
   -- the draft leaves the scan, and so what is kept
   memo_left : IsMemoOf (g.T.Tree.files c.scan_all_by.new.tree) (record c.scan_all_by.new.memo { found = c.make_draft.new.found })
@@ -80,7 +80,7 @@ returns-in_err-scan_all_by-clause-refused g c = λ honest.
     c.in_ok-prerequisites.prerequisites c.in_ok-generation.generation _ c.in_ok-check_words.ensures.words
     (c.in_ok-text.ensures.bytes honest ∙ ap (λ b. Ok b) (sym c.deref.ensures.value))
     (listed_but c.args.conventions.header c.deref.result.now c.in_ok-prerequisites.prerequisites c.in_ok-prerequisites.ensures.refusal c.in_ok-prerequisites.ensures.value)
-    (synced_there files _ _ same (c.in_ok-generation.ensures.read honest)) (scanned_there _ _ files _ c.in_ok-prerequisites.prerequisites _ (c.scan_by.ensures.rules ∙ c.rules_for.ensures) same_later said))
+    (synced_there files _ _ same (c.in_ok-generation.ensures.read honest)) (scanned_there _ _ files _ c.in_ok-prerequisites.prerequisites _ (c.scan_by.ensures.rules ∙ c.for_target.ensures) same_later said))
     (c.in_err-scan_all_by.ensures.refused honest))
 
 there_is : (path b : List ℕ) (file : Option (List ℕ)) → there path file ≡ Ok b → file ≡ Some b

@@ -1,4 +1,4 @@
-use Rattle.ks_engine.proofs.Prelude.{◌≡◌, ◌≢◌, ◌⊎◌, inr, Some, Err, sym, ◌∙◌, ap, subst, subst₂, err_from_is_err_and, content, SameButBoth, command_path, command_temporary, CommandFile, CommandTemporary, IsNoSource, IsMemoOf}
+use Rattle.ks_engine.proofs.Prelude.{◌≡◌, ◌≢◌, ◌⊎◌, inr, Some, Err, sym, ◌∙◌, ap, subst, subst₂, err_from_is_err_and, content, SameButBoth, command_path, command_temporary, CommandFile, CommandTemporary, IsNoSource, IsMemoOf, IsRecordedUnder, IsRecordTriedUnder}
 use Rattle.ks_engine.proofs.LowerLaws.{apart}
 use Rattle.ks_engine.proofs.Keeping.{memo_kept}
 use Rattle.ks_engine.proofs.Reading.{given_fault}
@@ -35,18 +35,22 @@ returns-in_err-replace-clause-refused g c = λ honest.
     let planned = c.in_ok-prepared.ensures.planned honest in
     rw (p.1, p.2) (inr (
       given_fault c.in_err-replace.field-0.0 (λ e. c.in_err-replace.ensures.never (ap (λ f. Err f) e)),
-      inr (tried_from planned.1 planned.2.draft (c.prepare.ensures.reads.unchanged honest) c.deref-5.ensures.value
+      inr (subst (λ h. IsRecordTriedUnder (record { header = h; dialect = c.args.dialect }) (g.T.Tree.files c.args.tree.now) new c.args.depfile.now c.args.target.now
+          c.args.command.now) c.usual.ensures
+          (tried_from planned.1 planned.2.draft (c.prepare.ensures.reads.unchanged honest) c.deref-5.ensures.value
           (others g (goal.at.returns-in_err-replace-clause-refused g c).After-replace honest)
           (subst (λ q. (content new q ≡ content mid q) ⊎ (content new q ≡ Some c.deref-5.result.now)) (c.deref-4.ensures.value ∙ c.in_ok-path.ensures)
-          (c.in_err-replace.ensures.old_or_new honest))),
+          (c.in_err-replace.ensures.old_or_new honest)))),
     ))
 
 pub returns-clause-recorded : goal.returns-clause-recorded
 returns-clause-recorded g c = λ honest.
     let planned = c.in_ok-prepared.ensures.planned honest in
-    recorded_from planned.1 planned.2.draft (c.prepare.ensures.reads.unchanged honest) c.deref-5.ensures.value
+    subst (λ h. IsRecordedUnder (record { header = h; dialect = c.args.dialect }) (g.T.Tree.files c.args.tree.now) (g.T.Tree.files c.replace.new.tree)
+    c.args.depfile.now c.args.target.now c.args.command.now c.in_ok-prepared.prepared.draft.answer) c.usual.ensures
+    (recorded_from planned.1 planned.2.draft (c.prepare.ensures.reads.unchanged honest) c.deref-5.ensures.value
     (others g (goal.at.returns-clause-recorded g c).After-replace honest)
-    (ap (content (g.T.Tree.files c.replace.new.tree)) (sym (c.deref-4.ensures.value ∙ c.in_ok-path.ensures)) ∙ c.in_ok-replace.ensures.written honest)
+    (ap (content (g.T.Tree.files c.replace.new.tree)) (sym (c.deref-4.ensures.value ∙ c.in_ok-path.ensures)) ∙ c.in_ok-replace.ensures.written honest))
 
 pub returns-in_err-replace-clause-memo : goal.returns-in_err-replace-clause-memo
 returns-in_err-replace-clause-memo g c = memo_left g (goal.at.returns-in_err-replace-clause-memo g c).After-replace

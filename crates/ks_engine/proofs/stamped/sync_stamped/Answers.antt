@@ -1,4 +1,4 @@
-use Rattle.ks_engine.proofs.Prelude.{inl, inr, ⊎_elim, ap, refl, subst, take, Ok, Err, err_from_is_err_and, at, MakesStamps}
+use Rattle.ks_engine.proofs.Prelude.{inl, inr, ⊎_elim, ap, refl, subst, take, Err, err_from_is_err_and, at, MakesStamps}
 use Rattle.ks_engine.proofs.DepfileLemmas.{made_stamps_show}
 use Rattle.ks_engine.proofs.Reading.{given_fault}
 use Rattle.ks_engine.proofs.Stamping.{some_declared, some_legal}

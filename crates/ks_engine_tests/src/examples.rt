@@ -2,7 +2,7 @@
 use crate::golden::*;
 use crate::steps::{example, play, recorded_text, report_text, verdict_text};
 use ks_engine::{Command, Reply, run};
-use ks_fixdep::Dialect;
+use ks_symbols::Dialect;
 use ks_tree::MemoryTree;
 use std::alloc::{AllocError, Global};
 

@@ -3,6 +3,7 @@
 use crate::golden::*;
 use crate::steps::{Step, answer, play, report_text, verdict_text};
 use ks_engine::{Impact, Memo, Question, ask};
+use ks_symbols::{Dialect, Kconfig};
 use ks_tree::{MemoryTree, Tree};
 use std::alloc::{AllocError, Global};
 
@@ -50,7 +51,8 @@ fn foreseen_of<T: Tree>(
 
 /// What is foreseen of a synchronisation with a `.config`.
 fn foreseen<T: Tree>(alloc: Global, tree: &mut T, dotconfig: &str) -> Result<String, AllocError> {
-    let impact = match Impact::of(alloc, tree, KCONFIG_D.as_bytes(), dotconfig.as_bytes()) {
+    let kconfig = Kconfig::new(Dialect::Linux, KCONFIG_D.as_bytes());
+    let impact = match Impact::of(alloc, tree, &kconfig, dotconfig.as_bytes()) {
         Ok(impact) => impact,
         Err(error) => return error.to_string(alloc),
     };

@@ -3,8 +3,8 @@ use ks_engine::{
     BuildState, Conventions, Recorded, Report, Verdict, outdated, record_depfile, record_object,
     stale, sync,
 };
-use ks_fixdep::{Dialect, Header};
-use ks_symbols::Name;
+use ks_fixdep::Header;
+use ks_symbols::{Dialect, Kconfig, Name};
 use ks_tree::{MemoryTree, Tree};
 use std::alloc::{AllocError, Global};
 use std::process::Abort;
@@ -75,7 +75,8 @@ pub(crate) fn answer<T: Tree>(
 ) -> Result<String, AllocError> {
     let refusal = match step {
         Step::Sync(kconfig, dotconfig) => {
-            match sync(alloc, tree, kconfig.as_bytes(), dotconfig.as_bytes()) {
+            let kconfig = Kconfig::new(Dialect::Linux, kconfig.as_bytes());
+            match sync(alloc, tree, &kconfig, dotconfig.as_bytes()) {
                 Ok(report) => return report_text(alloc, &report),
                 Err(error) => error,
             }

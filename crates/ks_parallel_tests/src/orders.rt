@@ -1,7 +1,7 @@
 //! Records played in many orders: each leaves the command files that they leave one after the other.
 use ks_engine::{record_object, sync};
-use ks_fixdep::Dialect;
 use ks_parallel::{Job, Recorder, Stage, are_distinct, play};
+use ks_symbols::{Dialect, Kconfig};
 use ks_tree::{FuseMode, FuseTree, MemoryTree, Tree};
 use std::alloc::{AllocError, Global};
 use std::process::Abort;
@@ -36,7 +36,8 @@ fn begun(rt: &impl Abort, alloc: Global) -> MemoryTree {
     for (path, bytes) in SOURCES {
         tree.write(alloc, path, bytes).expect(rt, "a source");
     }
-    sync(alloc, &mut tree, KCONFIG, DOTCONFIG).expect(rt, "a synchronisation");
+    let kconfig = Kconfig::new(Dialect::Linux, KCONFIG);
+    sync(alloc, &mut tree, &kconfig, DOTCONFIG).expect(rt, "a synchronisation");
     tree
 }
 

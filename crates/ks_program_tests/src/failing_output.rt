@@ -2,9 +2,9 @@
 //! status is 2 also where it doesn't.
 use crate::golden::{AUTO, COMMAND_FILE};
 use crate::steps::{Step, play, run_over, shown, world};
-use ks_fixdep::Dialect;
 use ks_program::execute;
 use ks_streams::Stream;
+use ks_symbols::Dialect;
 use ks_words::request_of;
 use std::alloc::Global;
 use std::io;

@@ -1,8 +1,8 @@
 //! Worked examples over a tree in memory: tables of words, and of the status and all that is printed.
 use crate::golden;
-use ks_fixdep::Dialect;
 use ks_program::execute;
 use ks_streams::Stream;
+use ks_symbols::Dialect;
 use ks_tree::{MemoryTree, Tree};
 use ks_words::request_of;
 use std::alloc::Global;
@@ -15,6 +15,8 @@ pub(crate) enum Step<'a> {
     Words(&'a [&'a str]),
     /// The words under the dialect of U-Boot.
     InUBoot(&'a [&'a str]),
+    /// The words under the dialect of BusyBox.
+    InBusyBox(&'a [&'a str]),
     Put(&'a str, &'a str),
     Read(&'a str),
 }
@@ -61,6 +63,9 @@ pub(crate) fn told<T: Tree>(alloc: Global, tree: &mut T, step: Step<'_>) -> Resu
     match step {
         Step::Words(words) => run_text(alloc, &run_over(alloc, tree, Dialect::Linux, words)?),
         Step::InUBoot(words) => run_text(alloc, &run_over(alloc, tree, Dialect::UBoot, words)?),
+        Step::InBusyBox(words) => {
+            run_text(alloc, &run_over(alloc, tree, Dialect::BusyBox, words)?)
+        }
         Step::Put(path, bytes) => {
             tree.write(alloc, path.as_bytes(), bytes.as_bytes())?;
             Ok(String::from_str(alloc, "done")?)

@@ -1,10 +1,9 @@
 //! From texts to texts, without the words of a command line: what previews print, and why there is none; what differs from
 //! auto.conf; and scripts whose lines name files more than once.
 use ks_commands::perform;
-use ks_fixdep::Dialect;
 use ks_requests::{PreviewError, Request, Telling, preview_to};
 use ks_streams::Stream;
-use ks_symbols::SourceError;
+use ks_symbols::{Dialect, Kconfig, SourceError};
 use ks_tree::MemoryTree;
 use std::alloc::{AllocError, Global};
 
@@ -30,7 +29,8 @@ fn outcome(
     old: Option<&[u8]>,
 ) -> Result<String, AllocError> {
     let mut out: Vec<u8> = Vec::new(alloc);
-    match preview_to(alloc, kconfig, dotconfig, old, &mut out) {
+    let kconfig = Kconfig::new(Dialect::Linux, kconfig);
+    match preview_to(alloc, &kconfig, dotconfig, old, &mut out) {
         Ok(()) => String::from_utf8_lossy(alloc, &out),
         Err(error) => error.to_string(alloc),
     }

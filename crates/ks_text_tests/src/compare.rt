@@ -1,7 +1,7 @@
 //! Worked comparisons: an old auto.conf, new settings, and the names that changed.
 use ks_compare::changed;
 use ks_output::{OldConfig, read_auto};
-use ks_symbols::{Name, read_dotconfig, read_kconfig};
+use ks_symbols::{Dialect, Kconfig, Name, read_dotconfig, read_kconfig};
 use std::alloc::{AllocError, Global};
 
 const KCONFIG: &[u8] =
@@ -9,13 +9,18 @@ const KCONFIG: &[u8] =
 
 /// The names that change between an old configuration and a `.config`.
 fn changes(alloc: Global, old: &OldConfig, dotconfig: &[u8]) -> Result<String, AllocError> {
-    changes_by(alloc, KCONFIG, old, dotconfig)
+    changes_by(
+        alloc,
+        &Kconfig::new(Dialect::Linux, KCONFIG),
+        old,
+        dotconfig,
+    )
 }
 
 /// The same, of the symbols of a Kconfig.
 fn changes_by(
     alloc: Global,
-    kconfig: &[u8],
+    kconfig: &Kconfig<'_>,
     old: &OldConfig,
     dotconfig: &[u8],
 ) -> Result<String, AllocError> {
@@ -116,7 +121,12 @@ fn changes_of_thousand(alloc: Global, missing: u32) -> Result<String, AllocError
     let mut auto = String::from_str(alloc, "#typed\n")?;
     auto.push_str(&lines_falling(alloc, missing, "CONFIG_", "=y\n")?)?;
     match read_auto(alloc, auto.as_bytes()) {
-        Ok(old) => changes_by(alloc, kconfig.as_bytes(), &old, dotconfig.as_bytes()),
+        Ok(old) => changes_by(
+            alloc,
+            &Kconfig::new(Dialect::Linux, kconfig.as_bytes()),
+            &old,
+            dotconfig.as_bytes(),
+        ),
         Err(error) => error.to_string(alloc),
     }
 }

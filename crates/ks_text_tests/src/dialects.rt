@@ -1,7 +1,8 @@
 //! Texts with known names in U-Boot and in BusyBox, in pieces of several sizes.
 ghost use Rattle.std.specs.Prelude.{◌<◌};
 
-use ks_fixdep::{Dialect, NamesBySource, Rules, Seed, names_of_object};
+use ks_fixdep::{Header, NamesBySource, Rules, Seed, names_of_object, read_depfile_without};
+use ks_symbols::Dialect;
 use std::alloc::{AllocError, Global};
 use std::test::Fail;
 
@@ -43,7 +44,7 @@ fn words_of_busybox(rt: HostRuntime) -> Result<(), Fail> {
     ];
     for (text, want) in rows {
         for size in [1usize, 7, 4096] {
-            let all = names_by(rt.alloc(), Dialect::BusyBox.rules_for(b"x.o"), text, size)?;
+            let all = names_by(rt.alloc(), Rules::for_target(Dialect::BusyBox, b"x.o"), text, size)?;
             assert_eq!(rt; all.as_slice(), want, "in pieces of {size}");
         }
     }
@@ -73,7 +74,7 @@ fn macros_of_u_boot(rt: HostRuntime) -> Result<(), Fail> {
     ];
     for (target, text, want) in rows {
         for size in [1usize, 7, 4096] {
-            let all = names_by(rt.alloc(), Dialect::UBoot.rules_for(target), text, size)?;
+            let all = names_by(rt.alloc(), Rules::for_target(Dialect::UBoot, target), text, size)?;
             assert_eq!(rt; all.as_slice(), want, "in pieces of {size}");
         }
     }
@@ -84,8 +85,38 @@ fn macros_of_u_boot(rt: HostRuntime) -> Result<(), Fail> {
 fn linux_by_its_dialect(rt: HostRuntime) -> Result<(), Fail> {
     let text = b"CONFIG_A ENABLE_B CONFIG_C_MODULE CONFIG_IS_ENABLED(D)";
     for size in [1usize, 7, 4096] {
-        let all = names_by(rt.alloc(), Dialect::Linux.rules_for(b"spl/x.o"), text, size)?;
+        let all = names_by(
+            rt.alloc(),
+            Rules::for_target(Dialect::Linux, b"spl/x.o"),
+            text,
+            size,
+        )?;
         assert_eq!(rt; all.as_slice(), b" A C IS_ENABLED".as_slice());
+    }
+    Ok(())
+}
+
+#[test]
+#[rattlefmt::skip]
+fn headers_left_out(rt: HostRuntime) -> Result<(), Fail> {
+    let text = b"x.o: x.c include/autoconf.h ../include/autoconf.h minclude/autoconf.h include/generated/autoconf.h";
+    let rows: [(Dialect, &[u8]); 3] = [
+        (Dialect::Linux, b" x.c include/autoconf.h ../include/autoconf.h minclude/autoconf.h"),
+        (Dialect::UBoot, b" x.c include/autoconf.h ../include/autoconf.h minclude/autoconf.h"),
+        (Dialect::BusyBox, b" x.c minclude/autoconf.h include/generated/autoconf.h"),
+    ];
+    for (dialect, want) in rows {
+        let header = Header::usual(dialect);
+        let mut all = Vec::new(rt.alloc());
+        if let Ok(read) = read_depfile_without(rt.alloc(), Seed::new(0), header, text) {
+            for place in 0..read.len() {
+                if let Some((path, _)) = read.get(place) {
+                    all.push(b' ')?;
+                    all.extend_from_slice(path)?;
+                }
+            }
+        }
+        assert_eq!(rt; all.as_slice(), want);
     }
     Ok(())
 }

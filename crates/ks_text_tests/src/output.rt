@@ -1,7 +1,7 @@
 //! Worked examples: whole files as they are written, and what is read of others.
 use crate::compare::lines_falling;
 use ks_output::{OldConfig, read_auto, read_auto_generation, write_auto, write_header};
-use ks_symbols::{Class, read_dotconfig, read_kconfig};
+use ks_symbols::{Class, Dialect, Kconfig, read_dotconfig, read_kconfig};
 use std::alloc::{AllocError, Global};
 
 const SWITCHES: &[u8] = b"mainmenu \"Demo\"\nconfig A\n\tbool\nconfig B\n\ttristate\n";
@@ -41,9 +41,19 @@ fn written(
     kconfig: &[u8],
     dotconfig: &[u8],
 ) -> Result<(Vec<u8>, Vec<u8>), AllocError> {
+    written_in(alloc, Dialect::Linux, kconfig, dotconfig)
+}
+
+/// The same in a dialect.
+fn written_in(
+    alloc: Global,
+    dialect: Dialect,
+    kconfig: &[u8],
+    dotconfig: &[u8],
+) -> Result<(Vec<u8>, Vec<u8>), AllocError> {
     let mut auto = Vec::from_slice(alloc, b"auto:".as_slice())?;
     let mut header = Vec::from_slice(alloc, b"header:".as_slice())?;
-    if let Ok(symbols) = read_kconfig(alloc, kconfig) {
+    if let Ok(symbols) = read_kconfig(alloc, &Kconfig::new(dialect, kconfig)) {
         if let Ok(settings) = read_dotconfig(alloc, dotconfig, &symbols) {
             write_auto(&settings, symbols.title(), 1, &mut auto)?;
             write_header(&settings, symbols.title(), &mut header)?;
@@ -107,6 +117,31 @@ fn files_of_other_kinds(rt: HostRuntime) -> Result<(), AllocError> {
     Ok(())
 }
 
+#[test]
+fn files_of_dialects(rt: HostRuntime) -> Result<(), AllocError> {
+    let alloc = rt.alloc();
+    #[rattlefmt::skip]
+    let rows: [(&str, Dialect, &[u8], &[u8], &[u8], &[u8]); 5] = [
+        ("a string of U-Boot", Dialect::UBoot, STRING, br#"CONFIG_S="a\"b""#, b"#type S raw\nCONFIG_S=\"a\\\"b\"\n", b"#define CONFIG_S \"a\\\"b\"\n"),
+        ("an empty one", Dialect::UBoot, STRING, b"CONFIG_S=\"\"\n", b"#type S raw\nCONFIG_S=\"\"\n", b"#define CONFIG_S \"\"\n"),
+        ("a string of BusyBox", Dialect::BusyBox, STRING, b"CONFIG_S=\"./_install\"\n", b"#type S raw\nCONFIG_S=\"./_install\"\n", b"#define CONFIG_S \"./_install\"\n"),
+        ("a bool of BusyBox", Dialect::BusyBox, b"config A\n\tbool\n", b"CONFIG_A=y\n", b"#type A flag\nCONFIG_A=y\n", b"#define ENABLE_A 1\n"),
+        ("one whose name ends in _MODULE", Dialect::BusyBox, b"config A_MODULE\n\tbool\n", b"CONFIG_A_MODULE=y\n", b"#type A_MODULE flag\nCONFIG_A_MODULE=y\n", b"#define ENABLE_A_MODULE 1\n"),
+    ];
+    for (name, dialect, kconfig, dotconfig, entries, definitions) in rows {
+        let (auto, header) = written_in(alloc, dialect, kconfig, dotconfig)?;
+        assert!(rt;
+            auto == joined(alloc, &[b"auto:", AUTO_HEAD, entries, b"#generation 1\n"])?,
+            "{name}"
+        );
+        assert!(rt;
+            header == joined(alloc, &[b"header:", HEADER_HEAD, definitions])?,
+            "{name}"
+        );
+    }
+    Ok(())
+}
+
 /// The lines of the symbols S0000 to S0999 in an auto.conf.
 fn lines_rising(alloc: Global) -> Result<String, AllocError> {
     let mut text = String::new(alloc);
@@ -136,6 +171,8 @@ fn mark_of(class: Option<Class>) -> &'static str {
         Some(Class::Text) => ":string=",
         Some(Class::Int) => ":int=",
         Some(Class::Hex) => ":hex=",
+        Some(Class::Raw) => ":raw=",
+        Some(Class::Flag) => ":flag=",
     }
 }
 

@@ -1,8 +1,8 @@
 //! Kconfig and `.config` texts as they stand in files, what is read of them, and the rules of names, paths, values and lines.
 use ks_symbols::{
-    Kind, Name, Path, Settings, SourceError, Statement, Symbols, is_silent, name_is_legal,
-    parse_statement, path_is_legal, read_decimal, read_dotconfig, read_kconfig, target_is_legal,
-    value_is_valid, write_decimal,
+    Dialect, Kconfig, Kind, Name, Path, Settings, SourceError, Statement, Symbols, is_silent,
+    name_is_legal, parse_statement, path_is_legal, read_decimal, read_dotconfig, read_kconfig,
+    target_is_legal, value_is_valid, write_decimal,
 };
 use std::alloc::{AllocError, Global};
 
@@ -19,8 +19,12 @@ const ALIKE: &[u8] =
 const LONGEST: &[u8; 128] = &[b'N'; 128];
 
 /// The title and, for each name, `name kind` as the Kconfig has them, or the refusal.
-fn kconfig_outcome(alloc: Global, text: &[u8], name: &[u8]) -> Result<String, AllocError> {
-    match read_kconfig(alloc, text) {
+fn kconfig_outcome(
+    alloc: Global,
+    kconfig: &Kconfig<'_>,
+    name: &[u8],
+) -> Result<String, AllocError> {
+    match read_kconfig(alloc, kconfig) {
         Err(error) => error.to_string(alloc),
         Ok(symbols) => {
             let title = String::from_utf8_lossy(alloc, symbols.title())?;
@@ -65,7 +69,11 @@ fn settings_outcome(alloc: Global, symbols: &Symbols, text: &[u8]) -> Result<Str
 }
 
 /// What the two texts say, or the refusal.
-fn dotconfig_outcome(alloc: Global, kconfig: &[u8], text: &[u8]) -> Result<String, AllocError> {
+fn dotconfig_outcome(
+    alloc: Global,
+    kconfig: &Kconfig<'_>,
+    text: &[u8],
+) -> Result<String, AllocError> {
     match read_kconfig(alloc, kconfig) {
         Err(error) => error.to_string(alloc),
         Ok(symbols) => settings_outcome(alloc, &symbols, text),
@@ -110,7 +118,7 @@ fn kconfigs(rt: HostRuntime) -> Result<(), AllocError> {
         ("a title without quotes", b"mainmenu Demo\n", "6 BadTitle line 1"),
     ];
     for (name, text, want) in rows {
-        let found = kconfig_outcome(alloc, text, b"A")?;
+        let found = kconfig_outcome(alloc, &Kconfig::new(Dialect::Linux, text), b"A")?;
         assert!(rt; found.as_str() == want, "{name}");
     }
     Ok(())
@@ -155,8 +163,55 @@ fn dotconfigs(rt: HostRuntime) -> Result<(), AllocError> {
         ("a bare radix", VALUES, b"CONFIG_H=0x\n", "8 BadValue line 1"),
     ];
     for (name, kconfig, text, want) in rows {
-        let found = dotconfig_outcome(alloc, kconfig, text)?;
+        let found = dotconfig_outcome(alloc, &Kconfig::new(Dialect::Linux, kconfig), text)?;
         assert!(rt; found.as_str() == want, "{name}");
+    }
+    Ok(())
+}
+
+#[test]
+#[rattlefmt::skip]
+fn kconfigs_of_dialects(rt: HostRuntime) -> Result<(), AllocError> {
+    let alloc = rt.alloc();
+    let rows: [(&str, Dialect, &[u8], &str); 10] = [
+        ("a string of U-Boot", Dialect::UBoot, b"config A\n\tstring\n", "Main menu Some(Raw)"),
+        ("a bool of U-Boot", Dialect::UBoot, b"config A\n\tdef_bool y\n", "Main menu Some(Bool)"),
+        ("a module's name in U-Boot", Dialect::UBoot, b"config A_MODULE\n\tbool\n", "3 ModuleName line 1"),
+        ("a string of BusyBox", Dialect::BusyBox, b"config A\n\tstring \"a\"\n", "Main menu Some(Raw)"),
+        ("a bool of BusyBox", Dialect::BusyBox, b"config A\n\tbool \"a\"\n", "Main menu Some(Flag)"),
+        ("a default", Dialect::BusyBox, b"config A\n\tdef_bool y\n", "Main menu Some(Flag)"),
+        ("a name that ends in _MODULE", Dialect::BusyBox, b"config A_MODULE\n\tbool\nconfig A\n\tint\n", "Main menu Some(Int)"),
+        ("a number of such a name", Dialect::BusyBox, b"config A\n\tbool\nconfig A_MODULE\n\tint\n", "3 ModuleName line 4"),
+        ("such a name without a kind", Dialect::BusyBox, b"config A_MODULE\nconfig A\n\tbool\n", "4 NoType line 1"),
+        ("a module's name after an entry without a kind", Dialect::Linux, b"config A\nconfig A_MODULE\n\tbool\n", "4 NoType line 1"),
+    ];
+    for (name, dialect, text, want) in rows {
+        let found = kconfig_outcome(alloc, &Kconfig::new(dialect, text), b"A")?;
+        assert!(rt; found.as_str() == want, "{name}: {found}");
+    }
+    Ok(())
+}
+
+#[test]
+#[rattlefmt::skip]
+fn dotconfigs_of_dialects(rt: HostRuntime) -> Result<(), AllocError> {
+    let alloc = rt.alloc();
+    let flags: &[u8] = b"config A_MODULE\n\tbool\nconfig A\n\tbool\n";
+    let rows: [(&str, Dialect, &[u8], &[u8], &str); 10] = [
+        ("a backslash is one", Dialect::UBoot, VALUES, b"CONFIG_S=\"a\\n\"\n", "S=\"a\\n\" unknown 0"),
+        ("a quote within", Dialect::UBoot, VALUES, b"CONFIG_S=\"a\"b\"\n", "S=\"a\"b\" unknown 0"),
+        ("an escape is none", Dialect::UBoot, VALUES, b"CONFIG_S=\"a\\\"\n", "S=\"a\\\" unknown 0"),
+        ("an empty string", Dialect::UBoot, VALUES, b"CONFIG_S=\"\"\n", "S=\"\" unknown 0"),
+        ("one quote", Dialect::UBoot, VALUES, b"CONFIG_S=\"\n", "8 BadValue line 1"),
+        ("no closing quote", Dialect::UBoot, VALUES, b"CONFIG_S=\"a\n", "8 BadValue line 1"),
+        ("bytes after the quote", Dialect::UBoot, VALUES, b"CONFIG_S=\"a\"b\n", "8 BadValue line 1"),
+        ("names of BusyBox", Dialect::BusyBox, flags, b"CONFIG_A_MODULE=y\n# CONFIG_A is not set\n", "A_MODULE=y unknown 0"),
+        ("n is off", Dialect::BusyBox, flags, b"CONFIG_A_MODULE=n\nCONFIG_A=y\n", "A=y unknown 0"),
+        ("m for a flag", Dialect::BusyBox, flags, b"CONFIG_A=m\n", "8 BadValue line 1"),
+    ];
+    for (name, dialect, kconfig, text, want) in rows {
+        let found = dotconfig_outcome(alloc, &Kconfig::new(dialect, kconfig), text)?;
+        assert!(rt; found.as_str() == want, "{name}: {found}");
     }
     Ok(())
 }
@@ -189,6 +244,8 @@ fn values_and_lines(rt: HostRuntime) -> Result<(), AllocError> {
     let alloc = rt.alloc();
     assert!(rt; value_is_valid(Kind::Tristate, b"m") && !value_is_valid(Kind::Bool, b"m"));
     assert!(rt; value_is_valid(Kind::Text, b"") && !value_is_valid(Kind::Text, b"a\nb"));
+    assert!(rt; value_is_valid(Kind::Raw, b"\"a\"") && !value_is_valid(Kind::Raw, b"\"a\nb\""));
+    assert!(rt; value_is_valid(Kind::Flag, b"y") && !value_is_valid(Kind::Flag, b"m"));
     assert_eq!(rt; read_decimal(b"18446744073709551615"), Some(u64::MAX));
     for text in [b"18446744073709551616".as_slice(), b"01", b"", b"1 ", b"+1"] {
         assert_eq!(rt; read_decimal(text), None);
@@ -218,7 +275,7 @@ fn values_and_lines(rt: HostRuntime) -> Result<(), AllocError> {
 #[test]
 fn look_ups(rt: HostRuntime) -> Result<(), SourceError> {
     let alloc = rt.alloc();
-    let symbols = read_kconfig(alloc, VALUES)?;
+    let symbols = read_kconfig(alloc, &Kconfig::new(Dialect::Linux, VALUES))?;
     let settings = read_dotconfig(alloc, b"CONFIG_S=\"a\"\nCONFIG_H=1f\n", &symbols)?;
     assert!(rt; matches!(settings.get(b"S"), Some((Kind::Text, b"a"))));
     assert!(rt; settings.get(b"I").is_none() && settings.get(b"T").is_none());

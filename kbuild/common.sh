@@ -4,13 +4,13 @@ case $0 in
 /*) here=${0%/*} ;;
 *) here=$(cd "$(dirname "$0")" && pwd) ;;
 esac
-config=${KCONFIG_CONFIG:-.config}
 auto=include/config/auto.conf
 bare=include/config/Kconfig.bare
 kept=include/config/confstamp.config
 last=include/config/confstamp.generation
 records=include/config/confstamp.records
 dialects=include/config/confstamp.dialect
+split=include/config/confstamp.h
 
 # The program: the one of CONFSTAMP, or that was installed with the hooks, or the one in PATH.
 confstamp=${CONFSTAMP:-$here/../../../bin/confstamp}
@@ -20,36 +20,19 @@ tell() {
     echo "kbuild/${0##*/}: $*" >&2
 }
 
-# A tree of another project than Linux has the dialect of its sources here, since its first synchronisation.
+# use_dialect DIALECT: the project of the tree. In BusyBox's the tool has fixed places for .config and for the list of the
+# Kconfig files that it has read.
+use_dialect() {
+    dialect=$1
+    config=${KCONFIG_CONFIG:-.config}
+    read_kconfigs=$auto.cmd
+    [ "$dialect" != busybox ] || { config=.config && read_kconfigs=.kconfig.d; }
+}
+
+# A tree of another project than Linux has the dialect here, since its first synchronisation.
 dialect=
 [ ! -e "$dialects" ] || read -r dialect < "$dialects"
-
-# settings FILE: a .config as confstamp is told it. U-Boot's strings have no escapes, so they are told with their quotes as a
-# part of the text: any text goes, and auto.conf says what U-Boot's own tool says.
-settings() {
-    case $dialect in
-    u-boot)
-        awk '
-            /^CONFIG_[A-Za-z0-9_]*="/ {
-                equals = index($0, "=")
-                value = substr($0, equals + 1)
-                gsub(/["\\]/, "\\\\&", value)
-                $0 = substr($0, 1, equals) "\"" value "\""
-            }
-            { print }
-        ' "$1"
-        ;;
-    *) cat "$1" ;;
-    esac
-}
-
-# told_config: the file of .config as confstamp is told it; where it is another one, it is made in $work.
-told_config() {
-    told_config=$config
-    [ -n "$dialect" ] || return 0
-    told_config=$work/told.config
-    settings "$config" > "$told_config"
-}
+use_dialect "$dialect"
 
 # The head of a script is its help.
 show_help() {
@@ -93,12 +76,16 @@ list_targets() {
     fi
 }
 
-# kconfigs COMMANDS: the Kconfig files that the kernel's tool has read, where they stand, by its auto.conf.cmd. Kbuild takes
-# no path with a blank. A build folder of its own has a link `source`, for whoever isn't called by make; a file there comes
+# kconfigs: the Kconfig files that the project's tool has read, where they stand. Kbuild takes no path with a blank. Whoever
+# isn't called by make has a link `source` in a build folder of its own, and in one of BusyBox its makefile; a file there comes
 # before the one of the sources.
 kconfigs() {
     sources=${srctree:-.}
-    [ -e "$sources/Kconfig" ] || [ ! -e source/Kconfig ] || sources=source
+    if [ "$dialect" = busybox ]; then
+        [ -e "$sources/Config.in" ] || sources=$(sed -n 's/^KERNELSRC *:= *//p' Makefile)
+    else
+        [ -e "$sources/Kconfig" ] || [ ! -e source/Kconfig ] || sources=source
+    fi
     awk -v sources="$sources" '
         /^deps_config := / { inside = 1; next }
         !inside { next }
@@ -106,7 +93,7 @@ kconfigs() {
         sources == "." { print $1; next }
         (getline line < $1) < 0 { print sources "/" $1; next }
         { close($1); print $1 }
-    ' "$1"
+    ' "$read_kconfigs"
 }
 
 # undeclared KCONFIG: the names of .config that it doesn't declare.
@@ -119,18 +106,22 @@ undeclared() {
     ' "$1" "$config"
 }
 
+# Was the last synchronisation one by the hooks? BusyBox's own tools leave auto.conf as it was, but their split-include empties
+# each header in include/config that is no symbol's. Where the hooks call it they write theirs anew.
+synchronised() {
+    grep -qs '^#generation ' "$auto" && { [ "$dialect" != busybox ] || [ -s "$split" ]; }
+}
+
 # What the first difference is between .config and the configuration that was synchronised last; nothing where they say the
 # same. That is known at once where the last synchronisation was one by the hook, and the text is the same.
 difference_of_config() {
-    if ! grep -qs '^#generation ' "$auto"; then
+    if ! synchronised; then
         echo 'nothing was synchronised yet'
     elif [ ! -f "$config" ]; then
         echo 'there is none'
     elif ! grep -qsxFf "$last" "$auto" || ! cmp -s "$config" "$kept"; then
-        told_config
-        { "$confstamp" diff "$bare" "$told_config" 2>&1 || :; } | awk -v dialect="$dialect" '
+        { "$confstamp" ${dialect:+--dialect "$dialect"} diff "$bare" "$config" 2>&1 || :; } | awk '
             / warning: / { next }
-            dialect == "u-boot" { gsub(/"\\"/, "\""); gsub(/\\""/, "\""); gsub(/\\\\/, "\\") }
             $1 == "unknown" { $0 = $2 " is new" }
             { if (!count++) first = substr($0, 1, 120) }
             END { if (count) print first (count > 1 ? ", and " count - 1 " more" : "") }

@@ -19,19 +19,35 @@ confstamp-record = $(if $(and $(confstamp-prefix),$(CONFIG_TRIM_UNUSED_KSYMS)),,
 confstamp-directly = { $(CONFSTAMP) record -- $(depfile) $@ '$(make-cmd)' 2> /dev/null >> $(confstamp-records) \
 	$(if $(confstamp-prefix),&& echo 'cmd_$@ := $$(savedcmd_$@)' >> $(dot-target).cmd); } ||
 
-# In U-Boot's makefiles the command file is written aside, and moved to its place behind the call of fixdep. Its sources are
-# scanned by its own words, and u-boot.sed adds what its own tools would look for.
+# In the makefiles of U-Boot and BusyBox the command file is written aside, and moved to its place behind the call of fixdep. The
+# sources are scanned by the project's own words, and own-stamps.sed adds what its own tools would look for.
 ifdef confstamp-dialect
 confstamp-record = $(confstamp-directly) $(CONFSTAMP_KBUILD)/fixdep $(confstamp-dialect) $(depfile) $@ '$(make-cmd)' cmd_ ||
 confstamp-directly = { $(CONFSTAMP) $(confstamp-dialect) record -- $(depfile) $@ '$(make-cmd)' 2> /dev/null \
-	>> $(confstamp-records) && sed -nf $(CONFSTAMP_KBUILD)/u-boot.sed $(dot-target).cmd > $(dot-target).tmp; } ||
+	>> $(confstamp-records) && sed -nf $(CONFSTAMP_KBUILD)/own-stamps.sed $(@D)/.$(@F).cmd > $(@D)/.$(@F).tmp; } ||
 endif
 
 # What record says goes to the list of what was recorded here. An external module may stand in nobody's own tree.
 confstamp-records = $(if $(KBUILD_EXTMOD),/dev/null,include/config/confstamp.records)
 
-# In front of the command of the kernel's conf.
-confstamp-syncconfig = $(if $(filter syncconfig,$@),$(CONFSTAMP_KBUILD)/syncconfig $(confstamp-dialect))
+# In front of the command of the kernel's conf, or of BusyBox's.
+confstamp-syncconfig = $(if $(filter syncconfig silentoldconfig,$@),$(CONFSTAMP_KBUILD)/syncconfig $(confstamp-dialect) \
+	$(if $(findstring s,$(firstword -$(MAKEFLAGS))),--quiet))
+
+# BusyBox's .config has a fixed place. What a synchronisation writes last is its header, and make then splits that into stamps. This
+# empties confstamp.h, a header of no symbol, so a synchronisation without the hooks is seen by it. `make mrproper` removes the
+# header of confstamp as well.
+ifeq ($(confstamp-dialect),--dialect busybox)
+confstamp-config = .config
+confstamp-last-file = include/autoconf.h
+confstamp-ours = include/config/confstamp.h
+override cmd_split_autoconf = scripts/basic/split-include include/autoconf.h include/config && \
+	echo '/* Split by the hooks of confstamp */' > $(confstamp-ours)
+MRPROPER_DIRS += include/generated
+else
+confstamp-config = $(KCONFIG_CONFIG)
+confstamp-last-file = include/config/auto.conf
+endif
 
 # Has auto.conf another generation than the hook's last one, or none, or is .config not the text that was synchronised then?
 # File times don't say it: a .config that was copied back may have an old one. make reads the files itself where it can
@@ -45,11 +61,12 @@ confstamp-last = $(file < include/config/confstamp.generation)
 confstamp-number = $(and $(confstamp-last),$(findstring $(confstamp-line-feed)$(confstamp-last)$(confstamp-line-feed),$(file \
 	< include/config/auto.conf)$(confstamp-line-feed)))
 confstamp-same = $(and $(findstring $(1),$(2)),$(findstring $(2),$(1)))
-confstamp-synchronised = $(and $(confstamp-number),$(call confstamp-same,$(file < $(KCONFIG_CONFIG)),$(file \
-	< include/config/confstamp.config)))
+confstamp-split = $(if $(confstamp-ours),$(file < $(confstamp-ours)),yes)
+confstamp-synchronised = $(and $(confstamp-number),$(confstamp-split),$(call confstamp-same,$(file \
+	< $(confstamp-config)),$(file < include/config/confstamp.config)))
 else
 confstamp-synchronised = $(shell grep -qsxFf include/config/confstamp.generation include/config/auto.conf && \
-	cmp -s $(KCONFIG_CONFIG) include/config/confstamp.config && echo yes)
+	cmp -s $(confstamp-config) include/config/confstamp.config $(if $(confstamp-ours),&& [ -s $(confstamp-ours) ]) && echo yes)
 endif
 
 # Where a recipe fails make removes its targets, and with auto.conf the generation would be lost; a synchronisation that fails
@@ -57,7 +74,7 @@ endif
 define confstamp-rules
 .PRECIOUS: $(addprefix include/,config/auto.conf config/auto.conf.cmd generated/autoconf.h generated/rustc_cfg)
 export CONFSTAMP_BUILDS := yes
-$(if $(confstamp-synchronised),,include/config/auto.conf: FORCE)
+$(if $(confstamp-synchronised),,$(confstamp-last-file): FORCE)
 endef
 
 # kbuild/stale --make asks what make would record, by make -n. Recipes that begin with `+` run even then, and the link of
@@ -65,8 +82,13 @@ endef
 # own, with its command as a word of the shell, and the files that make takes for newer. A line that has $(MAKE) in it runs as
 # well, and in Linux 6.1 one of them writes autoksyms.h and include/ksym/, so it gets a shell that does nothing.
 ifdef CONFSTAMP_ASKS
-confstamp-newer = $(if $(confstamp-dialect),$(any-prereq),$(newer-prereqs))
-confstamp-other = $(if $(confstamp-dialect),$(arg-check),$(cmd-check))
+ifdef confstamp-dialect
+confstamp-newer = $(filter-out $(PHONY),$?) $(filter-out $(PHONY) $(wildcard $^),$^)
+confstamp-other = $(if $(confstamp-ours),$(call arg-check, $(cmd_$(1)), $(cmd_$@)),$(arg-check))
+else
+confstamp-newer = $(newer-prereqs)
+confstamp-other = $(cmd-check)
+endif
 confstamp-told = $(if $(strip $(confstamp-newer) $(confstamp-other)),$(info confstamp-told $@ '$(make-cmd)' $(confstamp-newer)))@:
 override if_changed_dep = $(confstamp-told)
 override if_changed_rule = $(confstamp-told)

@@ -1,0 +1,1 @@
+lsmod.o: lsmod.c include/autoconf.h

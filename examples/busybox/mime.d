@@ -1,0 +1,1 @@
+mime.o: mime.c include/autoconf.h

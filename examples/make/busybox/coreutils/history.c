@@ -1,0 +1,4 @@
+int history(void)
+{
+	return CONFIG_FEATURE_EDITING_HISTORY;
+}

@@ -1,0 +1,4 @@
+const char *mime(void)
+{
+	return CONFIG_FEATURE_MIME_CHARSET;
+}

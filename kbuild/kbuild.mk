@@ -57,10 +57,13 @@ define confstamp-line-feed
 
 
 endef
-confstamp-last = $(file < include/config/confstamp.generation)
+confstamp-last = $(strip $(file < include/config/confstamp.generation))
 confstamp-number = $(and $(confstamp-last),$(findstring $(confstamp-line-feed)$(confstamp-last)$(confstamp-line-feed),$(file \
 	< include/config/auto.conf)$(confstamp-line-feed)))
-confstamp-same = $(and $(findstring $(1),$(2)),$(findstring $(2),$(1)))
+# GNU make 4.3 drops the line feed at the end of a file that it reads, or keeps it, by where its buffer came to lie. So two texts
+# are the same where one is part of the other, and no more than blanks are around it.
+confstamp-equal = $(and $(findstring $(1),$(2)),$(findstring $(2),$(1)))
+confstamp-same = $(and $(or $(findstring $(1),$(2)),$(findstring $(2),$(1))),$(call confstamp-equal,$(strip $(1)),$(strip $(2))))
 confstamp-split = $(if $(confstamp-ours),$(file < $(confstamp-ours)),yes)
 confstamp-synchronised = $(and $(confstamp-number),$(confstamp-split),$(call confstamp-same,$(file \
 	< $(confstamp-config)),$(file < include/config/confstamp.config)))
@@ -70,12 +73,14 @@ confstamp-synchronised = $(shell grep -qsxFf include/config/confstamp.generation
 endif
 
 # Where a recipe fails make removes its targets, and with auto.conf the generation would be lost; a synchronisation that fails
-# leaves its files as they may be. One that is part of a build counts no objects, since make is about to compile them.
+# leaves its files as they may be. One that is part of a build counts no objects, since make is about to compile them. After each
+# make begins again, and must find that all is synchronised: it doesn't go on for ever where it never does.
 define confstamp-rules
 .PRECIOUS: $(addprefix include/,config/auto.conf config/auto.conf.cmd generated/autoconf.h generated/rustc_cfg)
 export CONFSTAMP_BUILDS := yes
-$(if $(confstamp-synchronised),,$(confstamp-last-file): FORCE)
+$(if $(confstamp-synchronised),,$(if $(filter-out 1 2 3,$(MAKE_RESTARTS)),$(confstamp-never))$(confstamp-last-file): FORCE)
 endef
+confstamp-never = $(error confstamp has synchronised $(MAKE_RESTARTS) times, and $(confstamp-config) still isn't what was synchronised)
 
 # kbuild/stale --make asks what make would record, by make -n. Recipes that begin with `+` run even then, and the link of
 # vmlinux and of modules does, and rustc. So no recipe is left; each object that isn't up to date is told on a line of its

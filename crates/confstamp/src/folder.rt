@@ -12,7 +12,7 @@ use std::rt::Files;
 /// What was found in front of the command.
 #[derive(Drop)]
 pub(crate) enum Front<'a> {
-    Taken(Place<'a>),
+    Taken(Invocation<'a>),
     /// A `-C` without a folder after it, or with an empty word.
     NoFolder,
     /// A `--dialect` without one of the names after it.
@@ -21,7 +21,7 @@ pub(crate) enum Front<'a> {
 
 /// Where the program works, and the words of its command.
 #[derive(Drop)]
-pub(crate) struct Place<'a> {
+pub(crate) struct Invocation<'a> {
     /// The folder, as a path from the current one; the current one itself if it is empty.
     pub(crate) folder: String,
     /// Whether a synchronisation may begin its numbers at 1 though files hold some.
@@ -43,8 +43,8 @@ fn dialect_named(name: &str) -> Option<Dialect>
     }
 }
 
-/// The place that the words after the program's name give: each DIR is taken below the one before, as make and git do.
-pub(crate) fn take_place<'a>(alloc: Global, words: &'a [&'a str]) -> Result<Front<'a>, AllocError> {
+/// What the words after the program's name say in front of the command: each DIR is taken below the one before, as make and git do.
+pub(crate) fn take_front<'a>(alloc: Global, words: &'a [&'a str]) -> Result<Front<'a>, AllocError> {
     let mut folder = String::new(alloc);
     let mut may_begin = false;
     let mut dialect = Dialect::Linux;
@@ -71,7 +71,7 @@ pub(crate) fn take_place<'a>(alloc: Global, words: &'a [&'a str]) -> Result<Fron
             _ => break,
         }
     }
-    Ok(Front::Taken(Place {
+    Ok(Front::Taken(Invocation {
         folder,
         may_begin,
         dialect,

@@ -7,7 +7,7 @@ mod lost_numbers;
 mod numbers;
 mod pipe;
 
-use folder::{Front, Place, is_folder, take_place};
+use folder::{Front, Invocation, is_folder, take_front};
 use ks_program::execute;
 use ks_requests::Request;
 use ks_streams::Stream;
@@ -72,14 +72,14 @@ struct Held {
 fn hold_folder(
     rt: &HostRuntime,
     tree: &mut FolderTree<&HostRuntime>,
-    place: &Place<'_>,
+    invocation: &Invocation<'_>,
     asked: &Result<Request, WordsError>,
 ) -> io::Result<Option<Held>> {
     let access = access_of(rt.alloc(), tree, asked)?;
     let lock = access.as_ref().map(|access| access.lock);
-    let folder = lock_folder(rt, place.folder.as_str(), lock)?;
-    if matches!(lock, Some(FolderLock::Exclusive)) && !place.may_begin {
-        if let Some(path) = lost_number(rt, tree, place.folder.as_str())? {
+    let folder = lock_folder(rt, invocation.folder.as_str(), lock)?;
+    if matches!(lock, Some(FolderLock::Exclusive)) && !invocation.may_begin {
+        if let Some(path) = lost_number(rt, tree, invocation.folder.as_str())? {
             let _ = eprintln!(rt; "confstamp: {path} {LOST_NUMBERS}");
             return Ok(None);
         }
@@ -95,8 +95,8 @@ fn run(rt: &HostRuntime) -> io::Result<u8> {
     let alloc = rt.alloc();
     let words: Vec<String> = env::args(rt)?.skip(1).collect(alloc)?;
     let texts = texts_of(alloc, &words)?;
-    let place = match take_place(alloc, &texts)? {
-        Front::Taken(place) => place,
+    let invocation = match take_front(alloc, &texts)? {
+        Front::Taken(invocation) => invocation,
         Front::NoFolder => {
             let _ = eprintln!(rt; "confstamp: -C: a folder is needed after it");
             return Ok(2);
@@ -108,17 +108,17 @@ fn run(rt: &HostRuntime) -> io::Result<u8> {
             return Ok(2);
         }
     };
-    let Some(mut tree) = tree_of(rt, place.folder.as_str())? else {
+    let Some(mut tree) = tree_of(rt, invocation.folder.as_str())? else {
         return Ok(2);
     };
-    let asked = request_of(alloc, place.words);
-    let Some(_held) = hold_folder(rt, &mut tree, &place, &asked)? else {
+    let asked = request_of(alloc, invocation.words);
+    let Some(_held) = hold_folder(rt, &mut tree, &invocation, &asked)? else {
         return Ok(2);
     };
     let mut out = Stream::new(Pipe::new(BufWriter::new(alloc, rt.stdout())?));
     let mut err = Stream::new(rt.stderr());
     let failures = tree.failures();
-    let status = execute(alloc, &mut tree, place.dialect, &asked, &mut out, &mut err);
+    let status = execute(alloc, &mut tree, invocation.dialect, &asked, &mut out, &mut err);
     if status == 2 && tree.failures() > failures {
         tell_failure(rt, &tree);
     }

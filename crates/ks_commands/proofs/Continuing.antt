@@ -1,5 +1,5 @@
 -- What a call of the engine leaves, after reads that changed no file.
-use Rattle.ks_commands.proofs.Prelude.{Dialect, ◌≡◌, ◌⊎◌, ◌≤◌, ℕ, inl, inr, List, Result, Ok, Err, refl, sym, ap, ◌∙◌, subst, Files, Reply, EngineError, Report, Action, IsExplanationOn, FileRun, FileState, IsAnswerOn, Stamps, LeavesStamps, FollowsStamps, IfOk, IfErr, IsSynced, IsSyncRefused, IsStamped, IsStampedRefused, TreeState, at, FollowsSync, History, IsAnswerAfter, IsGivenUp, FollowsStale, Run, Shows, Form, Refusal, Engine, Ending, given, EndsImpact, EndsStale, EndsWhy, FollowsImpact, FollowsWhy, Runs, RunsAll, RunsOn, by_files, by_histories, count_of, not_counted, HasGivenUp, actions_of, script_actions, script_at, spelling_of, KconfigText, read_in}
+use Rattle.ks_commands.proofs.Prelude.{Dialect, ◌≡◌, ◌⊎◌, ◌≤◌, ℕ, inl, inr, List, Result, Ok, Err, refl, sym, ap, ◌∙◌, subst, Files, Reply, EngineError, Report, Action, IsExplanationOn, FileRun, FileState, IsAnswerOn, Stamps, LeavesStamps, FollowsStamps, IfOk, IfErr, IsSynced, IsSyncRefused, IsStamped, IsStampedRefused, TreeState, at, FollowsSync, History, IsAnswerAfter, IsGivenUp, FollowsStale, Run, Shows, Form, Refusal, Engine, Ending, given, EndsImpact, EndsStale, EndsWhy, FollowsImpact, FollowsWhy, Runs, RunsAll, RunsOn, by_files, by_histories, count_of, not_counted, IsGivenUpRefusal, actions_of, script_actions, script_at, spelling_of, KconfigText, read_in}
 use Rattle.ks_engine.specs.declared.question.Limit.TheVariants.{All as Every}
 use Rattle.ks_requests.specs.declared.request.Stamps.TheVariants as stamps
 use Rattle.ks_commands.proofs.Verdicts.{answers_weaker, verdicts_weaker}
@@ -61,7 +61,7 @@ sync_follows old mid m n h which k k' d d' answer new same same_k same_d follows
     (subst (λ (x : List ℕ). FollowsStamps which k x answer (at mid n h) new) same_d follows)))
 
 -- a script that is refused where it is read
-pub script_missing : (files : Files) (path : List ℕ) (e : EngineError) → IsGivenUp e ⊎ (given files path ≡ Err e) → HasGivenUp (Engine e)
+pub script_missing : (files : Files) (path : List ℕ) (e : EngineError) → IsGivenUp e ⊎ (given files path ≡ Err e) → IsGivenUpRefusal (Engine e)
     ⊎ (script_at files path ≡ Err (Engine e))
 unfolding script_at
 script_missing files path e (inl up) = inl up
@@ -93,9 +93,9 @@ file_run_follows dialect honest old mid asked actions replies new same later are
     record { first = mid; read = same; later = later; run = subst (λ (acts : List Action). FileRun dialect honest mid acts replies new) are run }
 
 -- a script whose text or files are refused
-pub script_stopped : (files mid : Files) (path text : List ℕ) (r : Refusal) → mid ≡ files → given files path ≡ Ok text → HasGivenUp r
+pub script_stopped : (files mid : Files) (path text : List ℕ) (r : Refusal) → mid ≡ files → given files path ≡ Ok text → IsGivenUpRefusal r
     ⊎ (script_actions mid text ≡ Err r)
-    → HasGivenUp r ⊎ (script_at files path ≡ Err r)
+    → IsGivenUpRefusal r ⊎ (script_at files path ≡ Err r)
 script_stopped files mid path text r same there (inl up) = inl up
 script_stopped files mid path text r same there (inr bad) = inr (script_there files mid path text (Err r) same there bad)
 

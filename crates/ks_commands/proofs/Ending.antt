@@ -1,5 +1,5 @@
 -- What follows from how a request ended.
-use Rattle.ks_commands.proofs.Prelude.{◌≡◌, ◌∙◌, ◌≤◌, ℕ, List, Option, Ok, Err, inl, inr, sym, ap, subst, arith, lit≤, Appends, Files, EngineError, OutOfMemory, IsGivenUp, Stamps, LeavesStamps, Refusal, Engine, Outcome, Status, State, Ending, Printed, WritesPreview, code_of, IsPreviewed, PreviewsArePerformed, RefusalsChangeNothing, StatusesAreAtMostTwo, EndsPreview, HasGivenUp, KconfigText, Dialect}
+use Rattle.ks_commands.proofs.Prelude.{◌≡◌, ◌∙◌, ◌≤◌, ℕ, List, Option, Ok, Err, inl, inr, sym, ap, subst, arith, lit≤, Appends, Files, EngineError, OutOfMemory, IsGivenUp, Stamps, LeavesStamps, Refusal, Engine, Outcome, Status, State, Ending, Printed, WritesPreview, code_of, IsPreviewed, PreviewsArePerformed, RefusalsChangeNothing, StatusesAreAtMostTwo, EndsPreview, IsGivenUpRefusal, KconfigText, Dialect}
 use Rattle.ks_requests.specs.declared.request.Request.TheVariants as request
 use Rattle.ks_requests.specs.declared.request.Stamps.TheVariants as stamps
 use Rattle.ks_requests.specs.declared.status.Status.TheVariants as status
@@ -13,13 +13,13 @@ no_outcome o r e = absurd cc
 -- ---- refusals
 
 -- a refusal that is none of memory and the device stands by none of these
-given_up : {C : Type 0} (r : Refusal) (e : EngineError) → (HasGivenUp r → ⊥) → ◌≡◌ {A = Ending} (Err r) (Err (Engine e)) → IsGivenUp e → C
-given_up r e plain is up = absurd (plain (subst HasGivenUp (sym (same_refusal r (Engine e) is)) up))
+given_up : {C : Type 0} (r : Refusal) (e : EngineError) → (IsGivenUpRefusal r → ⊥) → ◌≡◌ {A = Ending} (Err r) (Err (Engine e)) → IsGivenUp e → C
+given_up r e plain is up = absurd (plain (subst IsGivenUpRefusal (sym (same_refusal r (Engine e) is)) up))
 
-no_memory : {C : Type 0} (r : Refusal) → (HasGivenUp r → ⊥) → r ≡ Engine OutOfMemory → C
-no_memory r plain is = absurd (plain (subst HasGivenUp (sym is) tt))
+no_memory : {C : Type 0} (r : Refusal) → (IsGivenUpRefusal r → ⊥) → r ≡ Engine OutOfMemory → C
+no_memory r plain is = absurd (plain (subst IsGivenUpRefusal (sym is) tt))
 
-refused_sync_changes_nothing : (which : Stamps) (k : KconfigText) (d : List ℕ) (r : Refusal) (e : EngineError) (old new : Files) → (HasGivenUp r → ⊥)
+refused_sync_changes_nothing : (which : Stamps) (k : KconfigText) (d : List ℕ) (r : Refusal) (e : EngineError) (old new : Files) → (IsGivenUpRefusal r → ⊥)
     → ◌≡◌ {A = Ending} (Err r) (Err (Engine e)) → LeavesStamps old new which k d (Err e) → new ≡ old
 refused_sync_changes_nothing stamps.Touched k d r e old new plain told (inl refused) = refused.1
 refused_sync_changes_nothing stamps.Touched k d r e old new plain told (inr up) = given_up r e plain told up.0

@@ -45,7 +45,7 @@ pub use Rattle.ks_engine.specs.Questions.{IsAnswerTo, limit_of}
 pub use Rattle.ks_engine.specs.Recorded.{usual}
 pub use Rattle.ks_engine.specs.Recording.{followed, scanned_all}
 pub use Rattle.ks_engine.specs.declared.conventions.Conventions.{Conventions}
-pub use Rattle.ks_engine.specs.Refusals.{GaveUp, IsGivenUp, and_then, of_source}
+pub use Rattle.ks_engine.specs.Refusals.{IsGivenUpAnswer, IsGivenUp, and_then, of_source}
 pub use Rattle.ks_engine.specs.Runs.{FollowsStale, Leads, Leaves, Run, Step}
 pub use Rattle.ks_engine.specs.Shows.{Shows}
 pub use Rattle.ks_engine.specs.Staleness.{changed_since, found, suspect_since}
@@ -131,7 +131,7 @@ pub use Rattle.ks_commands.specs.Programs.{Chain, ProgramRun, ProgramTellsChange
 pub use Rattle.ks_commands.specs.Questions.{IsSpelled, LineCounted, counted_of, tells_of}
 pub use Rattle.ks_commands.specs.Readings.{AddsAll, ReadsUser}
 pub use Rattle.ks_commands.specs.Records.{AreRead, IsRead, Reading, TellsCosts, TellsUsers, cost_among, cost_lines, is_user, lines_of, names_it, status_of, unread_lines, user_count, uses_in, uses_lines}
-pub use Rattle.ks_commands.specs.Scripts.{AreSpelled, HasGivenUp, action_at, actions_at, actions_of, line_of, of_engine, script_actions, without_files}
+pub use Rattle.ks_commands.specs.Scripts.{AreSpelled, IsGivenUpRefusal, action_at, actions_at, actions_of, line_of, of_engine, script_actions, without_files}
 unfoldable pub use Rattle.ks_commands.specs.Scripts.{script_at}
 pub use Rattle.ks_commands.specs.Stamps.{FollowsStamps, LeavesStamps}
 pub use Rattle.ks_commands.specs.Spelling.{IsLine, spelled_in, spelling_line, spelling_of, spelling_told, step}

@@ -1,5 +1,5 @@
 -- An answer that is written with another spelling.
-use Rattle.ks_commands.proofs.Prelude.{◌≡◌, ◌⊎◌, ◌∙◌, ◌≤◌, ◌++◌, inl, inr, ℕ, List, [], Option, None, Result, Ok, Err, append_assoc, arith, refl, sym, ap, subst, Files, HasRisen, EngineError, Explanation, Limit, First, Question, IsExplanationOn, IsAnswerTo, limit_of, GaveUp, Form, Text, Json, answer_in, explanation_status, status_unless_refused, IsSpelled, LineCounted, tells_of, IsLine, spelled_in, spelling_line, spelling_of, spelling_told}
+use Rattle.ks_commands.proofs.Prelude.{◌≡◌, ◌⊎◌, ◌∙◌, ◌≤◌, ◌++◌, inl, inr, ℕ, List, [], Option, None, Result, Ok, Err, append_assoc, arith, refl, sym, ap, subst, Files, HasRisen, EngineError, Explanation, Limit, First, Question, IsExplanationOn, IsAnswerTo, limit_of, IsGivenUpAnswer, Form, Text, Json, answer_in, explanation_status, status_unless_refused, IsSpelled, LineCounted, tells_of, IsLine, spelled_in, spelling_line, spelling_of, spelling_told}
 use Rattle.ks_engine.specs.declared.error.EngineError.TheVariants as engine
 use Rattle.ks_engine.specs.declared.question.Limit.TheVariants.{All}
 
@@ -10,7 +10,7 @@ none_told All Text = refl
 none_told All Json = refl
 
 -- an answer that gave up has no spelling, and is one to `why`
-no_spelling : (files : Files) (o : List ℕ) (told : Result Explanation EngineError) → GaveUp told → spelling_of files o told ≡ None
+no_spelling : (files : Files) (o : List ℕ) (told : Result Explanation EngineError) → IsGivenUpAnswer told → spelling_of files o told ≡ None
 no_spelling files o (Ok e) up = absurd up
 no_spelling files o (Err engine.OutOfMemory) up = refl
 no_spelling files o (Err engine.Device) up = refl
@@ -26,7 +26,7 @@ no_spelling files o (Err (engine.MissingFile path)) up = absurd up
 no_spelling files o (Err engine.NeverSynced) up = absurd up
 no_spelling files o (Err engine.GenerationFull) up = absurd up
 
-gave_up_explains : (files : Files) (o : List ℕ) (told : Result Explanation EngineError) → GaveUp told → IsExplanationOn files o told
+gave_up_explains : (files : Files) (o : List ℕ) (told : Result Explanation EngineError) → IsGivenUpAnswer told → IsExplanationOn files o told
 gave_up_explains files o (Ok e) up = absurd up
 gave_up_explains files o (Err e) up = record {
   by_files = inl up;

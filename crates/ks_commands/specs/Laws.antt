@@ -22,7 +22,7 @@ use Rattle.ks_compare.specs.Changes.{differs}
 use Rattle.ks_requests.specs.declared.telling.Telling.{Telling}
 use Rattle.ks_commands.specs.Differences.{TellsChanges, asks_status}
 use Rattle.ks_commands.specs.Programs.{Chain, ProgramRun, ProgramTellsChanges, changes_told}
-use Rattle.ks_commands.specs.Scripts.{HasGivenUp}
+use Rattle.ks_commands.specs.Scripts.{IsGivenUpRefusal}
 
 -- A preview is done or refused, leaves the files as they are, and once done it has printed what is said of these words.
 pub record IsPreviewed (dialect : Dialect) (k d : List ℕ) (o : Option (List ℕ)) (old new : Files) (before after : State) (status : ℕ) : Type 0 where
@@ -40,7 +40,7 @@ PreviewsArePerformed =
 -- A refusal of the whole command leaves the files as before, but for want of memory and a failure of the device.
 abbrev pub RefusalsChangeNothing : Type 0
 RefusalsChangeNothing = (dialect : Dialect) (request : Request) (refusal : Refusal) (old new : FileState)
-    → (HasGivenUp refusal → ⊥) → Ends old.files (by_files dialect old new) request (Err refusal) → new.files ≡ old.files
+    → (IsGivenUpRefusal refusal → ⊥) → Ends old.files (by_files dialect old new) request (Err refusal) → new.files ≡ old.files
 
 -- The status is at most 2, and 0 or 2 of what is done or refused.
 pub record IsStatusOf (ended : Ending) (status : ℕ) : Type 0 where

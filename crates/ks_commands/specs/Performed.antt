@@ -27,7 +27,7 @@ use Rattle.ks_engine.specs.Follows.{TreeState, at, IsSame, GoesOn, FollowsRecord
 use Rattle.ks_engine.specs.History.{History, LastRecord, Synced, last_record}
 use Rattle.ks_engine.specs.Impact.{AnswersAfter, IsAnswerAfter}
 use Rattle.ks_engine.specs.Judged.{IsJudged, IsBuildJudged}
-use Rattle.ks_engine.specs.Refusals.{Answers, GaveUp, IsGivenUp}
+use Rattle.ks_engine.specs.Refusals.{Answers, IsGivenUpAnswer, IsGivenUp}
 use Rattle.ks_engine.specs.FileRuns.{FileState, FileRun, IsAnswerOn, LeavesRecord, state}
 use Rattle.ks_engine.specs.Runs.{Run, FollowsStale}
 use Rattle.ks_engine.specs.Shows.{Shows}
@@ -209,7 +209,7 @@ Ends files effects (Cost top targets) ended = effects.same × EndsCost files top
 -- ---- by files
 
 pub record IsStateOf (files : Files) (o command : List ℕ) (answer : Result BuildState EngineError) : Type 0 where
-  pub by_files : GaveUp answer ⊎ IsBuildState files (build_asked files o command) answer
+  pub by_files : IsGivenUpAnswer answer ⊎ IsBuildState files (build_asked files o command) answer
   pub recorded : IsTrue (is_command command) → (h : History) (r : LastRecord)
       → Shows files h → last_record h o ≡ Some r → IsBuildJudged files h o command r answer
 
@@ -239,7 +239,7 @@ by_files dialect old new = record {
 -- of an object
 pub record FollowsWhy (old : TreeState) (o : List ℕ) (answer : Result Explanation EngineError) (new : TreeState) : Type 0 where
   pub same : IsSame old new
-  pub by_files : GaveUp answer ⊎ IsExplained Every old.files o answer
+  pub by_files : IsGivenUpAnswer answer ⊎ IsExplained Every old.files o answer
   pub verdict : IfOk answer (λ e. IsAnswer old.files (asked old.files o) (Ok e.verdict))
   pub recorded : (r : LastRecord) → last_record old.history o ≡ Some r → IsExplanationJudged old.files old.history o r answer
 
@@ -253,7 +253,7 @@ pub record FollowsImpact (old : TreeState) (k : KconfigText) (d o : List ℕ) (a
 -- of an object and a command
 pub record FollowsOutdated (old : TreeState) (o command : List ℕ) (answer : Result BuildState EngineError) (new : TreeState) : Type 0 where
   pub same : IsSame old new
-  pub by_files : GaveUp answer ⊎ IsBuildState old.files (build_asked old.files o command) answer
+  pub by_files : IsGivenUpAnswer answer ⊎ IsBuildState old.files (build_asked old.files o command) answer
   pub recorded : IsTrue (is_command command) → (r : LastRecord) → last_record old.history o ≡ Some r → IsBuildJudged old.files old.history o command r answer
 
 -- as above

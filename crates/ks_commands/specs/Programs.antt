@@ -19,7 +19,7 @@ use Rattle.ks_engine.specs.Asked.{told}
 use Rattle.ks_engine.specs.Follows.{TreeState, IsSame, at}
 use Rattle.ks_engine.specs.History.{LastRecord, Synced, last_record}
 use Rattle.ks_engine.specs.Judged.{HasSameDefinitions}
-use Rattle.ks_engine.specs.Refusals.{GaveUp}
+use Rattle.ks_engine.specs.Refusals.{IsGivenUpAnswer}
 use Rattle.ks_engine.specs.Runs.{IsShown, Leads, Step}
 use Rattle.ks_engine.specs.Staleness.{changed_since, first_changed, found, verdict}
 use Rattle.ks_engine.specs.Synchronised.{IsSynced}
@@ -43,7 +43,7 @@ Chain first (run ∷ runs) last =
 
 -- What is answered of a recorded object is the first of its names that changed since the record. Fresh, the header defines its names as then.
 pub record TellsChange (s : TreeState) (o : List ℕ) (answer : Result Verdict EngineError) : Type 0 where
-  pub changed : (r : LastRecord) → last_record s.history o ≡ Some r → GaveUp answer ⊎ (answer ≡ Ok (verdict (first_changed s.history o)))
+  pub changed : (r : LastRecord) → last_record s.history o ≡ Some r → IsGivenUpAnswer answer ⊎ (answer ≡ Ok (verdict (first_changed s.history o)))
   pub safe : (r : LastRecord) → last_record s.history o ≡ Some r → answer ≡ Ok Fresh → HasSameDefinitions s.files r
 
 -- So does an explanation, and its causes are all names that changed.
@@ -59,7 +59,7 @@ TellsAfter s k d o answer = (after : Files) (report : Report) (synced : IsSynced
 
 -- So does an answer about a command that builds it: another one is told exactly where that of the record is another one.
 pub record TellsBuild (s : TreeState) (o command : List ℕ) (answer : Result BuildState EngineError) : Type 0 where
-  pub differs : (r : LastRecord) → last_record s.history o ≡ Some r → bytes_eq r.command command ≡ false → GaveUp answer ⊎ (answer ≡ Ok CommandDiffers)
+  pub differs : (r : LastRecord) → last_record s.history o ≡ Some r → bytes_eq r.command command ≡ false → IsGivenUpAnswer answer ⊎ (answer ≡ Ok CommandDiffers)
   pub same : (r : LastRecord) → last_record s.history o ≡ Some r → bytes_eq r.command command ≡ true
       → (verdict : Result Verdict EngineError) × (answer ≡ judged verdict) × TellsChange s o verdict
 

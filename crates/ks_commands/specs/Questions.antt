@@ -10,7 +10,7 @@ use Rattle.ks_requests.specs.declared.request.Form.{Form}
 use Rattle.ks_requests.specs.declared.status.Count.{Count}
 use Rattle.ks_commands.specs.Performed.{count_of, not_counted, IsCounted, Says, TellsAnswer}
 use Rattle.ks_commands.specs.Spelling.{spelling_of, spelling_told}
-use Rattle.ks_engine.specs.Refusals.{GaveUp}
+use Rattle.ks_engine.specs.Refusals.{IsGivenUpAnswer}
 
 abbrev pub tells_of : Files → Form → Question → List ℕ → List ℕ → ℕ → Type 0
 tells_of files form question = TellsAnswer form (limit_of question) (spelling_of files) (IsAnswerTo question files)
@@ -30,4 +30,4 @@ counted_of (After impact) = count_of
 abbrev pub IsSpelled : Files → Question → Form → List ℕ → Result Explanation EngineError → Result Explanation EngineError → Option (List ℕ) → Type 0
 IsSpelled files question form o answer told spelling =
     ((told ≡ answer) × (spelling_told (limit_of question) form spelling ≡ spelling_told (limit_of question) form (spelling_of files o answer)))
-    ⊎ ((question ≡ Why) × GaveUp told × (spelling ≡ None))
+    ⊎ ((question ≡ Why) × IsGivenUpAnswer told × (spelling ≡ None))

@@ -9,7 +9,7 @@ use Rattle.ks_tree.specs.Files.{Files}
 use Rattle.ks_engine.specs.declared.error.EngineError.{EngineError}
 use Rattle.ks_engine.specs.Causes.{names_placed}
 use Rattle.ks_engine.specs.Costs.{AreCosts, record_at}
-use Rattle.ks_engine.specs.Refusals.{GaveUp}
+use Rattle.ks_engine.specs.Refusals.{IsGivenUpAnswer}
 use Rattle.ks_requests.specs.declared.status.Count.{Count}
 use Rattle.ks_requests.specs.declared.status.Count.TheVariants.{Users}
 use Rattle.ks_requests.specs.Endings.{Ending, Stopped, Tells, TellsCount}
@@ -23,7 +23,7 @@ Reading = List ℕ × Result (Option CommandRecord) EngineError
 
 -- Memory and the device aside, it is the record that the object has.
 abbrev pub IsRead : Files → Reading → Type 0
-IsRead files r = GaveUp r.1 ⊎ (r.1 ≡ record_at files r.0)
+IsRead files r = IsGivenUpAnswer r.1 ⊎ (r.1 ≡ record_at files r.0)
 
 -- Each of these objects is read, in order.
 pub record AreRead (files : Files) (objects : List (List ℕ)) (readings : List Reading) : Type 0 where

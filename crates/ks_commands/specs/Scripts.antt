@@ -62,10 +62,10 @@ unfoldable pub script_at : Files → List ℕ → Result (List Action) Refusal
 script_at files path = actions_of files (given files path)
 
 -- memory is refused, or the device fails: no file decides these
-abbrev pub HasGivenUp : Refusal → Type 0
-HasGivenUp (Engine e) = IsGivenUp e
-HasGivenUp r = ⊥
+abbrev pub IsGivenUpRefusal : Refusal → Type 0
+IsGivenUpRefusal (Engine e) = IsGivenUp e
+IsGivenUpRefusal r = ⊥
 
 -- It is refused as the script is, or gives up before its first command.
 abbrev pub StoppedScript : Result (List Action) Refusal → Ending → Type 0
-StoppedScript step ended = (r : Refusal) × (HasGivenUp r ⊎ (step ≡ Err r)) × (ended ≡ Err r)
+StoppedScript step ended = (r : Refusal) × (IsGivenUpRefusal r ⊎ (step ≡ Err r)) × (ended ≡ Err r)

@@ -20,7 +20,7 @@ ghost use Rattle.ks_requests.specs.Inputs.{given};
 ghost use Rattle.ks_requests.specs.Replies.{reply_lines};
 ghost use Rattle.ks_commands.specs.Performed.{EndsBatch, RunsAll, RunsCounted, by_files, by_histories};
 ghost use Rattle.ks_commands.specs.Kept.{AreGiven, AreKept, IsKept};
-ghost use Rattle.ks_commands.specs.Scripts.{HasGivenUp, action_at, actions_at, line_of, of_engine, script_actions, without_files};
+ghost use Rattle.ks_commands.specs.Scripts.{IsGivenUpRefusal, action_at, actions_at, line_of, of_engine, script_actions, without_files};
 
 use ks_engine::{Command, EngineError, run};
 use ks_requests::{Outcome, Refusal, read_given, tell_replies};
@@ -112,7 +112,7 @@ fn load_script<'a, T: Tree>(
     ensures spelled { IfOk result (λ all. (script_refusal script.now ≡ None) × (map seen_line all.lines.items ≡ script_lines script.now)) }
     ensures lines { T.is_honest → IfOk result (λ all.
         script_actions (T.files tree.old) script.now ≡ of_engine (actions_at (T.files tree.old) (map seen_line all.lines.items))) }
-    ensures refused { T.is_honest → IfErr result (λ r. HasGivenUp r ⊎ (script_actions (T.files tree.old) script.now ≡ Err r)) }
+    ensures refused { T.is_honest → IfErr result (λ r. IsGivenUpRefusal r ⊎ (script_actions (T.files tree.old) script.now ≡ Err r)) }
 {
     let lines = read_script(alloc, script)?;
     let kept = named_files(alloc, tree, &lines)?;

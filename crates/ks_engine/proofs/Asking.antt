@@ -1,5 +1,5 @@
 -- What the files answer of an object, and what a shown tree answers of a recorded one.
-use Rattle.ks_engine.proofs.Prelude.{map, ◌≡◌, ◌⊎◌, inl, inr, ⊎_elim, ℕ, suc, ◌+◌, ◌<◌, List, [], ◌∷◌, ◌++◌, Option, Some, None, Result, Ok, Err, Bool, true, false, ◌&&◌, cond, nat_lt, sym, ◌∙◌, ap, ap₂, refl, subst, arith, append-nil, length, get_or, drop, drop-cons, bytes_eq, find, lt_of_lt_of_le, IsTrue, All, list_all, le-ltb, cond-false, cond-true, and_parts, ne_eqb, or_left, or_right, or_cases, get_or-map, length-map, All-nil, All-cons, All-head, All-tail, bytes_eq-Decides, max_bytes, is_name, is_target, is_in, Dep, File, Config, BorrowedDep, seen_dep, CommandRecord, IsLegal, is_command, is_dep, config_names, Files, content, auto_path, stamp_path, command_path, HasNumber, EngineError, BadPath, BadCommand, BadCommandFile, Cause, Explanation, Limit, First, Question, Stale, Why, After, Verdict, Fresh, BuildState, IsGivenUp, GaveUp, and_then, History, LastRecord, done, last_record, found, names_of, suspect_since, first_suspect, verdict, Shows, stamp, synced_at, last_generation, placed, names_placed, AreEnough, EndsAt, IsBadStamp, IsByStamps, verdict_of, Asked, Answered, ByStamps, asked, asked_at, asked_since, asked_of, of_target, command_file, told, listed, verdict_by, IsAnswer, IsExplainedBy, IsExplained, BuildAsked, Differs, Asks, build_asked, build_asked_of, judged, IsBuildState, HasSameDefinitions, IsJudged, IsBuildJudged, IsSeen}
+use Rattle.ks_engine.proofs.Prelude.{map, ◌≡◌, ◌⊎◌, inl, inr, ⊎_elim, ℕ, suc, ◌+◌, ◌<◌, List, [], ◌∷◌, ◌++◌, Option, Some, None, Result, Ok, Err, Bool, true, false, ◌&&◌, cond, nat_lt, sym, ◌∙◌, ap, ap₂, refl, subst, arith, append-nil, length, get_or, drop, drop-cons, bytes_eq, find, lt_of_lt_of_le, IsTrue, All, list_all, le-ltb, cond-false, cond-true, and_parts, ne_eqb, or_left, or_right, or_cases, get_or-map, length-map, All-nil, All-cons, All-head, All-tail, bytes_eq-Decides, max_bytes, is_name, is_target, is_in, Dep, File, Config, BorrowedDep, seen_dep, CommandRecord, IsLegal, is_command, is_dep, config_names, Files, content, auto_path, stamp_path, command_path, HasNumber, EngineError, BadPath, BadCommand, BadCommandFile, Cause, Explanation, Limit, First, Question, Stale, Why, After, Verdict, Fresh, BuildState, IsGivenUp, IsGivenUpAnswer, and_then, History, LastRecord, done, last_record, found, names_of, suspect_since, first_suspect, verdict, Shows, stamp, synced_at, last_generation, placed, names_placed, AreEnough, EndsAt, IsBadStamp, IsByStamps, verdict_of, Asked, AtOnce, ByStamps, asked, asked_at, asked_since, asked_of, of_target, command_file, told, listed, verdict_by, IsAnswer, IsExplainedBy, IsExplained, BuildAsked, Differs, Asks, build_asked, build_asked_of, judged, IsBuildState, HasSameDefinitions, IsJudged, IsBuildJudged, IsSeen}
 use Rattle.std.specs.Prelude.{IfOk}
 use Rattle.ks_engine.specs.declared.question.Limit.TheVariants.{All as Every}
 use Rattle.ks_engine.proofs.Heart.{suspect_since-lt, suspect_since-changed_since, generation-le, synced-lt, recorded_synced}
@@ -10,7 +10,7 @@ use Rattle.ks_engine.proofs.Steps.{auto_read}
 
 -- ---- the steps of a question
 
-pub asked_illegal : (files : Files) (o : List ℕ) → false ≡ is_target o → asked files o ≡ Answered (Err (BadPath 0))
+pub asked_illegal : (files : Files) (o : List ℕ) → false ≡ is_target o → asked files o ≡ AtOnce (Err (BadPath 0))
 unfolding asked
 asked_illegal files o bad = cond-false _ _ _ (sym bad)
 
@@ -74,12 +74,12 @@ command_seen (After impact) files after o seen = seen.commands o
 
 -- ---- the steps of a question about a command
 
-pub build_illegal : (files : Files) (o command : List ℕ) → false ≡ is_target o → build_asked files o command ≡ Asks (Answered (Err (BadPath 0)))
+pub build_illegal : (files : Files) (o command : List ℕ) → false ≡ is_target o → build_asked files o command ≡ Asks (AtOnce (Err (BadPath 0)))
 unfolding build_asked
 build_illegal files o command bad = cond-false _ _ _ (sym bad)
 
 pub build_bad_command : (files : Files) (o command : List ℕ) → true ≡ is_target o → false ≡ is_command command → build_asked files o command
-    ≡ Asks (Answered (Err BadCommand))
+    ≡ Asks (AtOnce (Err BadCommand))
 unfolding build_asked
 build_bad_command files o command legal bad = cond-true _ _ _ (sym legal) ∙ cond-false _ _ _ (sym bad)
 
@@ -122,11 +122,11 @@ borrowed_next deps i d e h is here = dep_next (map seen_dep deps) i (seen_dep d)
 
 -- where the first cause was looked for, and where all were
 pub answered : (files : Files) (q : Asked) (answer : Result Explanation EngineError) → IsExplainedBy First files q answer → IsAnswer files q (told answer)
-answered files (Answered known) answer is = is.0
+answered files (AtOnce known) answer is = is.0
 answered files (ByStamps g names) answer is = (listed answer, is.0, is.1)
 
 answered_all : (files : Files) (q : Asked) (e : Explanation) → IsExplainedBy Every files q (Ok e) → IsAnswer files q (Ok e.verdict)
-answered_all files (Answered known) e is = is.0
+answered_all files (AtOnce known) e is = is.0
 answered_all files (ByStamps g names) e is =
     let s = is.0 in
     let f = s.are.number in
@@ -144,18 +144,18 @@ answered_all files (ByStamps g names) e is =
       is.1 ∙ ap (λ cs. Ok (verdict_of cs)) (s.ends.0 ∙ s.are.above ∙ ap (listed_by f g) (sym all)) ∙ ap (λ v. Ok v) (sym r.same),
     )
 
-pub verdict_answered : (files : Files) (o : List ℕ) (answer : Result Explanation EngineError) → GaveUp answer ⊎ IsExplained Every files o answer
+pub verdict_answered : (files : Files) (o : List ℕ) (answer : Result Explanation EngineError) → IsGivenUpAnswer answer ⊎ IsExplained Every files o answer
     → IfOk answer (λ e. IsAnswer files (asked files o) (Ok e.verdict))
 verdict_answered files o (Err e) said = tt
 verdict_answered files o (Ok e) (inl given) = absurd given
 verdict_answered files o (Ok e) (inr is) = answered_all files (asked files o) e is
 
-pub gave_up_told : (answer : Result Explanation EngineError) → GaveUp answer → GaveUp (told answer)
+pub gave_up_told : (answer : Result Explanation EngineError) → IsGivenUpAnswer answer → IsGivenUpAnswer (told answer)
 gave_up_told (Ok e) given = given
 gave_up_told (Err e) given = given
 
-pub told_answered : (files : Files) (o : List ℕ) (answer : Result Explanation EngineError) → GaveUp answer ⊎ IsExplained First files o answer
-    → GaveUp (told answer) ⊎ IsAnswer files (asked files o) (told answer)
+pub told_answered : (files : Files) (o : List ℕ) (answer : Result Explanation EngineError) → IsGivenUpAnswer answer ⊎ IsExplained First files o answer
+    → IsGivenUpAnswer (told answer) ⊎ IsAnswer files (asked files o) (told answer)
 told_answered files o answer (inl given) = inl (gave_up_told answer given)
 told_answered files o answer (inr is) = inr (answered files (asked files o) answer is)
 
@@ -320,14 +320,14 @@ safe files h o r answer shows last suspect fresh = λ x among.
 -- what is answered by the stamps is judged by the history
 pub judges : (limit : Limit) (files : Files) (h : History) (o : List ℕ) (r : LastRecord) (answer : Result Verdict EngineError) (shows : Shows files h)
     (last : last_record h o ≡ Some r)
-    → GaveUp answer
+    → IsGivenUpAnswer answer
     ⊎ ((found : Result (List Cause) EngineError) × IsByStamps limit files (done r.past) (names_placed (shows.commands o r last).2.file) found
     × (answer ≡ verdict_by found))
     → IsJudged files h o r answer
 judges limit files h o r answer shows last (inl given) = record {
   suspect = inl given;
   changed = λ none. inl given;
-  safe = λ fresh. absurd (subst (λ (a : Result Verdict EngineError). GaveUp a) fresh given);
+  safe = λ fresh. absurd (subst (λ (a : Result Verdict EngineError). IsGivenUpAnswer a) fresh given);
 }
 judges limit files h o r answer shows last (inr is) =
     let suspect = is.2 ∙ answer_shown limit files h o r is.0 shows last is.1 in
@@ -343,19 +343,19 @@ pub asked_shown : (files : Files) (h : History) (o : List ℕ) (r : LastRecord) 
 asked_shown files h o r shows last =
     asked_read files o _ (target_shown files h o r shows last) (file_shown files h o r shows last) ∙ since_shown files h o r shows last
 
-pub stale_judged : (files : Files) (h : History) (o : List ℕ) (r : LastRecord) (answer : Result Verdict EngineError) → GaveUp answer
+pub stale_judged : (files : Files) (h : History) (o : List ℕ) (r : LastRecord) (answer : Result Verdict EngineError) → IsGivenUpAnswer answer
     ⊎ IsAnswer files (asked files o) answer → Shows files h → last_record h o ≡ Some r
     → IsJudged files h o r answer
 stale_judged files h o r answer said shows last =
-    judges First files h o r answer shows last (subst (λ q. GaveUp answer ⊎ IsAnswer files q answer) (asked_shown files h o r shows last) said)
+    judges First files h o r answer shows last (subst (λ q. IsGivenUpAnswer answer ⊎ IsAnswer files q answer) (asked_shown files h o r shows last) said)
 
 -- ---- and of the command that build_asked it
 
-gave_up : (answer : Result BuildState EngineError) → GaveUp answer → (v : Result Verdict EngineError) × (answer ≡ judged v) × GaveUp v
+gave_up : (answer : Result BuildState EngineError) → IsGivenUpAnswer answer → (v : Result Verdict EngineError) × (answer ≡ judged v) × IsGivenUpAnswer v
 gave_up (Ok x) given = absurd given
 gave_up (Err e) given = (Err e, refl, given)
 
-pub build_judged : (files : Files) (h : History) (o command : List ℕ) (r : LastRecord) (answer : Result BuildState EngineError) → GaveUp answer
+pub build_judged : (files : Files) (h : History) (o command : List ℕ) (r : LastRecord) (answer : Result BuildState EngineError) → IsGivenUpAnswer answer
     ⊎ IsBuildState files (build_asked files o command) answer
     → IsTrue (is_command command) → Shows files h → last_record h o ≡ Some r → IsBuildJudged files h o command r answer
 build_judged files h o command r answer (inl given) word shows last = record {

@@ -1,5 +1,5 @@
 -- Why an object is stale: what a shown tree gives of a recorded object, and that places are first.
-use Rattle.ks_engine.proofs.Prelude.{map, ◌≡◌, ◌⊎◌, inl, inr, ℕ, List, [], ◌∷◌, ◌++◌, Some, Result, Ok, Err, Bool, true, false, cond, nat_lt, sym, ◌∙◌, ap, ap₂, refl, subst, get_or, append-nil, bytes_eq, filter, not, All, list_all, list_any, cond-false, cond-true, or_left, or_right, or_from, or_parts, not-true, both_ways, false_from_ne_true, All-nil, All-cons, All-head, All-tail, All-append, All-map, All-same, All-filter, All-weaker, filter_passes, list_any-append, list_any_at, bytes_eq-Decides, is_in, Dep, Config, Role, all_noted, noted, new_names, deps_after, source_of, record_of, Files, EngineError, Cause, Explanation, GaveUp, History, LastRecord, done, last_record, found, names_of, suspect_since, Shows, stamp, placed, names_placed, cause, IsByStamps, IsExplained, IsExplainedBy, listed, told, verdict_by, IsExplanationJudged, first_with, listed_last, is_listed, PlacesAreFirst, PlacesAreTheirs}
+use Rattle.ks_engine.proofs.Prelude.{map, ◌≡◌, ◌⊎◌, inl, inr, ℕ, List, [], ◌∷◌, ◌++◌, Some, Result, Ok, Err, Bool, true, false, cond, nat_lt, sym, ◌∙◌, ap, ap₂, refl, subst, get_or, append-nil, bytes_eq, filter, not, All, list_all, list_any, cond-false, cond-true, or_left, or_right, or_from, or_parts, not-true, both_ways, false_from_ne_true, All-nil, All-cons, All-head, All-tail, All-append, All-map, All-same, All-filter, All-weaker, filter_passes, list_any-append, list_any_at, bytes_eq-Decides, is_in, Dep, Config, Role, all_noted, noted, new_names, deps_after, source_of, record_of, Files, EngineError, Cause, Explanation, IsGivenUpAnswer, History, LastRecord, done, last_record, found, names_of, suspect_since, Shows, stamp, placed, names_placed, cause, IsByStamps, IsExplained, IsExplainedBy, listed, told, verdict_by, IsExplanationJudged, first_with, listed_last, is_listed, PlacesAreFirst, PlacesAreTheirs}
 use Rattle.std.specs.Prelude.{IfOk}
 use Rattle.ks_fixdep.specs.declared.dependency_file.Role.TheVariants as role
 use Rattle.ks_engine.specs.declared.question.Limit.TheVariants.{All as Every}
@@ -49,14 +49,14 @@ listed_shown files h o r causes shows last is =
     ok_same a b e = cc
 
 pub explanation_judged : (files : Files) (h : History) (o : List ℕ) (r : LastRecord) (answer : Result Explanation EngineError)
-    → GaveUp answer ⊎ IsExplained Every files o answer → Shows files h → last_record h o ≡ Some r → IsExplanationJudged files h o r answer
+    → IsGivenUpAnswer answer ⊎ IsExplained Every files o answer → Shows files h → last_record h o ≡ Some r → IsExplanationJudged files h o r answer
 explanation_judged files h o r answer (inl given) shows last = record {
   judged = judges Every files h o r (told answer) shows last (inl (gave_up_told answer given));
   suspects = not_ok answer (λ e. map (λ c. c.name) e.causes.items ≡ filter (suspect_since h o) (found h o)) given;
   numbers = not_ok answer (λ e. All (λ c. c.generation ≡ stamp h c.name) e.causes.items) given;
 }
   where
-    not_ok : (answer : Result Explanation EngineError) (P : Explanation → Type 0) → GaveUp answer → IfOk answer P
+    not_ok : (answer : Result Explanation EngineError) (P : Explanation → Type 0) → IsGivenUpAnswer answer → IfOk answer P
     not_ok (Ok e) P given = absurd given
     not_ok (Err e) P given = tt
 explanation_judged files h o r answer (inr is) shows last = by answer (subst (λ q. IsExplainedBy Every files q answer) (asked_shown files h o r shows last) is)

@@ -1,5 +1,5 @@
 -- A synchronisation goes on with each history that the files show.
-use Rattle.ks_engine.proofs.Prelude.{◌≡◌, inl, inr, ⊎_elim, ℕ, ◌+◌, List, Result, Ok, Err, IfOk, IfErr, sym, ◌∙◌, ap, refl, subst, Files, EngineError, Report, Texts, History, Synced, Broken, Shows, AreChanged, IsSynced, IsBrokenOff, IsSyncRefused, at, FollowsSync, IsBrokenEvent, KconfigText}
+use Rattle.ks_engine.proofs.Prelude.{◌≡◌, inl, inr, ⊎_elim, ℕ, ◌+◌, List, Result, Ok, Err, IfOk, IfErr, sym, ◌∙◌, ap, refl, subst, Files, EngineError, Report, Texts, History, Synced, Broken, Shows, AreLegalChanges, IsSynced, IsBrokenOff, IsSyncRefused, at, FollowsSync, IsBrokenEvent, KconfigText}
 use Rattle.ks_engine.proofs.Steps.{plan_facts, broken_shows, synced_shows}
 
 after_broken : (old new : Files) (h : History) (k : KconfigText) (d : List ℕ) (broken : IsBrokenOff old new k d) → Shows old h
@@ -31,7 +31,7 @@ sync_follows old new m n h k d (Ok report) shows ok err =
         files = ok;
         history = refl;
         generation = ok.generation ∙ ap (λ g. g + 1) facts.same_generation;
-        changed = subst (λ (t : Texts). AreChanged t plan.config report.touched.items) facts.same_old ok.changed;
+        changed = subst (λ (t : Texts). AreLegalChanges t plan.config report.touched.items) facts.same_old ok.changed;
       },
       synced_shows old new h plan report.touched.items report.touched.items shows facts ok.changed ok.done.leaves refl ok.done.header ok.done.auto,
     )

@@ -1,5 +1,5 @@
 -- The tree that a synchronisation would leave, what is answered over it, and a name among rising ones.
-use Rattle.ks_engine.proofs.Prelude.{◌≡◌, ◌⊎◌, inl, inr, ℕ, zero, suc, ◌+◌, ◌<◌, ◌^◌, List, [], ◌∷◌, Option, Some, None, Result, Ok, Err, true, false, ◌||◌, cond, sym, ◌∙◌, ap, refl, subst, arith, length, get_or, true≢false, IsTrue, bytes_eq, nat_cmp, Less-from_sorted, is_eq-slice_cmp, cases_lt, cond-true, cond-false, or_left, or_right, false_from_ne_true, searchable_from_sorted, bytes_eq-Decides, tied_itself, slice_cmp, nat_list_cmp_total, insert, get-insert, HoldsAt, IsStrictlySortedBy, IsSortedByKey, IsNonDecreasingBy, IsPartitionPoint, IsSearchInRange, IsBinarySearchResult, is_ok, is_lt, is_eq, ordering_reverse, ordering_index, Ordering, Less, Equal, Greater, is_name, is_in, header_path, AutoError, auto_text, auto_refusal, header_text, Files, content, SameBut, SameButBoth, auto_path, auto_temporary, stamp_path, Stamp, HasNumber, stamp_text, Touches, EngineError, Impact, Explanation, Planned, Question, Stale, Why, After, Verdict, Report, GaveUp, Synced, OldAuto, read_unless, old_auto, Plan, AreChanged, SyncDone, IsSynced, asked, IsAnswer, IsExplained, IsPlanned, IsImpactOf, IsAfter, IsAnswerAfter, IsAnswerTo, IsSeen, limit_of, KconfigText}
+use Rattle.ks_engine.proofs.Prelude.{◌≡◌, ◌⊎◌, inl, inr, ℕ, zero, suc, ◌+◌, ◌<◌, ◌^◌, List, [], ◌∷◌, Option, Some, None, Result, Ok, Err, true, false, ◌||◌, cond, sym, ◌∙◌, ap, refl, subst, arith, length, get_or, true≢false, IsTrue, bytes_eq, nat_cmp, Less-from_sorted, is_eq-slice_cmp, cases_lt, cond-true, cond-false, or_left, or_right, false_from_ne_true, searchable_from_sorted, bytes_eq-Decides, tied_itself, slice_cmp, nat_list_cmp_total, insert, get-insert, HoldsAt, IsStrictlySortedBy, IsSortedByKey, IsNonDecreasingBy, IsPartitionPoint, IsSearchInRange, IsBinarySearchResult, is_ok, is_lt, is_eq, ordering_reverse, ordering_index, Ordering, Less, Equal, Greater, is_name, is_in, header_path, AutoError, auto_text, auto_refusal, header_text, Files, content, SameBut, SameButBoth, auto_path, auto_temporary, stamp_path, Stamp, HasNumber, stamp_text, Touches, EngineError, Impact, Explanation, Planned, Question, Stale, Why, After, Verdict, Report, IsGivenUpAnswer, Synced, OldAuto, read_unless, old_auto, Plan, AreLegalChanges, SyncDone, IsSynced, asked, IsAnswer, IsExplained, IsPlanned, IsImpactOf, IsAfter, IsAnswerAfter, IsAnswerTo, IsSeen, limit_of, KconfigText}
 use Rattle.ks_engine.proofs.LowerLaws.{generation_back, accepted, small_generation, apart}
 use Rattle.ks_engine.proofs.Reading.{last_some, ok_ok}
 use Rattle.ks_engine.proofs.Writes.{finished, header_stays}
@@ -96,7 +96,7 @@ leave files plan names =
     insert (insert (stamped names (plan.generation + 1) files) header_path (header_text plan.title plan.config))
     auto_path (auto_text plan.title plan.config (plan.generation + 1))
 
-done_by : (files : Files) (plan : Plan) (names : List (List ℕ)) → AreChanged plan.old plan.config names → SyncDone files (leave files plan names) plan names
+done_by : (files : Files) (plan : Plan) (names : List (List ℕ)) → AreLegalChanges plan.old plan.config names → SyncDone files (leave files plan names) plan names
 unfolding leave
 done_by files plan names are =
     let g = plan.generation + 1 in
@@ -153,7 +153,7 @@ is_after files after k d impact report told synced =
     let room = facts.room in
     let small : plan.generation + 1 < 2 ^ 64 = omega arith in
     let g : impact.report.generation ≡ plan.generation + 1 = told.1.generation ∙ ap (λ (p : Plan). p.generation + 1) same in
-    let changed = subst (λ (p : Plan). AreChanged p.old p.config impact.report.touched.items) same told.1.changed in
+    let changed = subst (λ (p : Plan). AreLegalChanges p.old p.config impact.report.touched.items) same told.1.changed in
     let agree : (x : List ℕ) → is_in report.touched.items x ≡ is_in impact.report.touched.items x = λ x. synced.changed.are.each x ∙ sym (changed.are.each x) in
     record {
       rising = told.1.changed.are.rising;
@@ -172,7 +172,7 @@ is_after files after k d impact report told synced =
 
 -- What is answered over all that stands so is answered, and judged, over each tree that it leaves.
 after_sync : (files : Files) (k : KconfigText) (d o : List ℕ) (impact : Impact) (answer : Result Verdict EngineError)
-    → ((after : Files) → IsAfter files after impact.report → GaveUp answer ⊎ IsAnswer after (asked after o) answer) → IsImpactOf files k d impact
+    → ((after : Files) → IsAfter files after impact.report → IsGivenUpAnswer answer ⊎ IsAnswer after (asked after o) answer) → IsImpactOf files k d impact
     → IsAnswerAfter files k d o answer
 after_sync files k d o impact answer said told = record {
   by_files = λ after report synced. said after (is_after files after k d impact report told synced);
@@ -184,7 +184,7 @@ after_sync files k d o impact answer said told = record {
 }
 
 pub answers_to : (q : Question) (files : Files) (o : List ℕ) (answer : Result Explanation EngineError)
-    → ((after : Files) → IsSeen q files after → GaveUp answer ⊎ IsExplained (limit_of q) after o answer) → IsAnswerTo q files o answer
+    → ((after : Files) → IsSeen q files after → IsGivenUpAnswer answer ⊎ IsExplained (limit_of q) after o answer) → IsAnswerTo q files o answer
 answers_to Stale files o answer said =
     let told = told_answered files o answer (said files refl) in
     record { by_files = told; recorded = λ h r shows last. stale_judged files h o r _ told shows last }

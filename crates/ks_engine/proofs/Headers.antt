@@ -1,5 +1,5 @@
 -- Which headers a fresh object may meet.
-use Rattle.ks_engine.proofs.Prelude.{◌≡◌, ⊎_elim, ℕ, List, Some, Bool, true, false, ◌&&◌, ◌||◌, sym, ◌∙◌, ap, refl, true≢false, subst, get, or_parts, cond-true, cond-false, false_from_ne_true, header_text, definitions, texts_of, Texts, is_in, differs, Configuration, History, Begun, Synced, Broken, Recorded, LastRecord, before, last_record, names_of, found, renewed_since_sync, suspect_since, AreAllRenewed, MayBeHeader, IsSource, IsHistory}
+use Rattle.ks_engine.proofs.Prelude.{◌≡◌, ⊎_elim, ℕ, List, Some, Bool, true, false, ◌&&◌, ◌||◌, sym, ◌∙◌, ap, refl, true≢false, subst, get, or_parts, cond-true, cond-false, false_from_ne_true, header_text, definitions, texts_of, Texts, is_in, differs, Configuration, History, Begun, Synced, Broken, Recorded, LastRecord, before, last_record, names_of, found, renewed_since_sync, suspect_since, AreAllRenewed, MayBeHeader, IsLegalSync, IsHistory}
 use Rattle.ks_engine.proofs.Heart.{record_cases}
 use Rattle.ks_engine.proofs.LowerLaws.{alike, unchanged}
 
@@ -11,7 +11,7 @@ record HeaderAt (h : History) (x : List ℕ) (b : List ℕ) : Type 0 where
   title : List ℕ
   config : Configuration
   written : b ≡ header_text title config
-  source : IsSource title config
+  source : IsLegalSync title config
   text : get (texts_of config) x ≡ get (before h) x
 
 not_both : (b : Bool) → b ≡ true → b ≡ false → ⊥

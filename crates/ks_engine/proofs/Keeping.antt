@@ -1,5 +1,5 @@
 -- What is kept of a tree: what a look-up finds holds of the files, and what is added does.
-use Rattle.ks_engine.proofs.Prelude.{◌≡◌, Ok, arith, get_or, length, length-append, append-nil, ap₂, subst₂, ◌≢◌, ◌⊎◌, inl, inr, true≢false, is_some, cond, ℕ, zero, suc, slice_get, true, false, List, [], ◌∷◌, ◌++◌, Some, refl, ap, sym, ◌∙◌, subst, if◌then◌else◌, bytes_eq, IfSome, All, All-nil, All-cons, All-head, All-tail, bytes_eq-Decides, lookup, insert_entry, get_or_append_left, get_or-append_seam, found_of, Files, content, SameButBoth, auto_path, stamp_path, command_path, command_temporary, AutoConf, Stamp, CommandFile, CommandTemporary, HasNumber, Memo, Rules, last_generation, pairs_of, value_of, with_pair, Grows, IsStamp, AreStamps, IsKept, AreSources, IsNoSource, IsMemoOf, scanned}
+use Rattle.ks_engine.proofs.Prelude.{◌≡◌, Ok, arith, get_or, length, length-append, append-nil, ap₂, subst₂, ◌≢◌, ◌⊎◌, inl, inr, true≢false, is_some, cond, ℕ, zero, suc, slice_get, true, false, List, [], ◌∷◌, ◌++◌, Some, refl, ap, sym, ◌∙◌, subst, if◌then◌else◌, bytes_eq, IfSome, All, All-nil, All-cons, All-head, All-tail, bytes_eq-Decides, lookup, insert_entry, get_or_append_left, get_or-append_seam, found_of, Files, content, SameButBoth, auto_path, stamp_path, command_path, command_temporary, AutoConf, Stamp, CommandFile, CommandTemporary, HasNumber, Memo, Rules, last_generation, pairs_of, value_of, with_pair, Grows, IsStamp, AreStamps, IsKept, AreScanned, IsNoSource, IsMemoOf, scanned}
 use Rattle.std.specs.Prelude.{string_bytes, vec_items}
 use Rattle.std.specs.Option.{option_map}
 use Rattle.ks_engine.proofs.LowerLaws.{apart}
@@ -69,7 +69,7 @@ stamps_kept old new o (e ∷ es) others are =
     (stamps_kept old new o es others (All-tail (λ s. IsStamp old (s.0) s.1) e es are))
 
 sources_kept : (r : Rules) (old new : Files) (found : List (List (List ℕ))) (o : List ℕ) (es : List (List ℕ × ℕ)) → SameButBoth (command_temporary o) (command_path o) old new
-    → All (λ s. s.0 ≢ command_temporary o) es → All (λ s. s.0 ≢ command_path o) es → AreSources r old found es → AreSources r new found es
+    → All (λ s. s.0 ≢ command_temporary o) es → All (λ s. s.0 ≢ command_path o) es → AreScanned r old found es → AreScanned r new found es
 sources_kept r old new found o [] others no_temporary no_path are = All-nil _
 sources_kept r old new found o (e ∷ es) others no_temporary no_path are =
     let path = e.0 in
@@ -112,7 +112,7 @@ kept_longer r files found more path place is = (
   is.1 ∙ ap (λ l. Ok l) (sym (get_or_append_left found more [] place is.0)),
 )
 
-sources_longer : (r : Rules) (files : Files) (found more : List (List (List ℕ))) (es : List (List ℕ × ℕ)) → AreSources r files found es → AreSources r files (found ++ more) es
+sources_longer : (r : Rules) (files : Files) (found more : List (List (List ℕ))) (es : List (List ℕ × ℕ)) → AreScanned r files found es → AreScanned r files (found ++ more) es
 sources_longer r files found more [] are = All-nil _
 sources_longer r files found more (e ∷ es) are =
     All-cons (λ s. IsKept r files (found ++ more) s.0 s.1) e es (kept_longer r files found more e.0 e.1 (All-head (λ s. IsKept r files found s.0 s.1) e es are))
@@ -133,8 +133,8 @@ pub memo_grown : (files : Files) (old new : Memo) → new.rules ≡ old.rules �
 memo_grown files old new rules generation stamps sources grows is = record {
   generation = λ g kept. is.generation g (sym generation ∙ kept);
   stamps = subst (AreStamps files) (sym stamps) is.stamps;
-  sources = subst (λ r. AreSources r files (found_of new.found.scan) (pairs_of vec_items new.sources.entries)) (sym rules)
-      (subst₂ (AreSources old.rules files) (sym grows.1) (sym sources)
+  sources = subst (λ r. AreScanned r files (found_of new.found.scan) (pairs_of vec_items new.sources.entries)) (sym rules)
+      (subst₂ (AreScanned old.rules files) (sym grows.1) (sym sources)
       (sources_longer old.rules files (found_of old.found.scan) grows.0 (pairs_of vec_items old.sources.entries) is.sources));
 }
 

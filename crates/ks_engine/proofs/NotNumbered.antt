@@ -1,5 +1,5 @@
 -- Trees to begin with whose command files have no generation.
-use Rattle.ks_engine.proofs.Prelude.{◌≡◌, ℕ, List, Option, Some, None, Result, Ok, Err, Bool, true, false, cond, nat_lt, length, bytes_eq, refl, subst, max_bytes, is_target, CommandRecord, reading, Files, content, command_path, EngineError, BadCommandFile, BadPath, TooLarge, Fresh, Unnumbered, Answered, asked, asked_of, asked_since, command_file, of_target, IsAnswer, names_placed, AreNotNumbered, NotNumberedTreeShows}
+use Rattle.ks_engine.proofs.Prelude.{◌≡◌, ℕ, List, Option, Some, None, Result, Ok, Err, Bool, true, false, cond, nat_lt, length, bytes_eq, refl, subst, max_bytes, is_target, CommandRecord, reading, Files, content, command_path, EngineError, BadCommandFile, BadPath, TooLarge, Fresh, Unnumbered, AtOnce, asked, asked_of, asked_since, command_file, of_target, IsAnswer, names_placed, AreNotNumbered, NotNumberedTreeShows}
 use Rattle.ks_engine.proofs.Beginnings.{untyped_shows}
 
 abbrev Read : Type 0
@@ -36,7 +36,7 @@ not_fresh files (Ok (Some file)) none is =
     cc
 
 legal_or_not : (files : Files) (test : Bool) (r : Read) → ((file : CommandRecord) → r ≡ Ok (Some file) → file.generation ≡ None)
-    → IsAnswer files (cond test (asked_of files r) (Answered (Err (BadPath 0)))) (Ok Fresh) → ⊥
+    → IsAnswer files (cond test (asked_of files r) (AtOnce (Err (BadPath 0)))) (Ok Fresh) → ⊥
 legal_or_not files true r none is = not_fresh files r none is
 legal_or_not files false r none is = cc
 

@@ -95,7 +95,7 @@ pub use Rattle.ks_tree.specs.Stamps.{HasNumber, IsStampRefusal, MakesStamps, Tou
 pub use Rattle.ks_tree.specs.declared.fault.TreeError.{TreeError}
 pub use Rattle.ks_tree.specs.declared.fault.TreeFault.{TreeFault}
 pub use Rattle.ks_engine.specs.Actions.{Action, Record, Sync, action}
-pub use Rattle.ks_engine.specs.Asked.{Answered, Asked, ByStamps, IsAnswer, IsExplained, IsExplainedBy, asked_at, asked_of, asked_since, command_file, listed, of_target, told, verdict_by}
+pub use Rattle.ks_engine.specs.Asked.{AtOnce, Asked, ByStamps, IsAnswer, IsExplained, IsExplainedBy, asked_at, asked_of, asked_since, command_file, listed, of_target, told, verdict_by}
 unfoldable pub use Rattle.ks_engine.specs.Asked.{asked}
 pub use Rattle.ks_engine.specs.BuildStates.{Asks, BuildAsked, Differs, IsBuildState, build_asked_of, judged}
 unfoldable pub use Rattle.ks_engine.specs.BuildStates.{build_asked}
@@ -113,20 +113,20 @@ pub use Rattle.ks_engine.specs.Judged.{HasSameDefinitions, IsBuildJudged, IsJudg
 pub use Rattle.ks_engine.specs.LastSync.{OldAuto, last_generation, read_unless, synced_at}
 unfoldable pub use Rattle.ks_engine.specs.LastSync.{old_auto}
 pub use Rattle.ks_engine.specs.Laws.{AreNotNumbered, EmptyTreeShows, FileRunsGoOn, HasChangeAfter, MadeStampsShow, NotNumberedTreeShows, PlansAreOne, SuspicionsHaveCauses, UntypedTreeShows, UsualTreeShows}
-pub use Rattle.ks_engine.specs.Legal.{AreAllRenewed, IsHistory, IsSource, MayBeHeader}
-pub use Rattle.ks_engine.specs.Memos.{AreSources, AreStamps, Grows, IsKept, IsMemoOf, IsNoSource, IsStamp, pairs_of, value_of, with_pair}
+pub use Rattle.ks_engine.specs.Legal.{AreAllRenewed, IsHistory, IsLegalSync, MayBeHeader}
+pub use Rattle.ks_engine.specs.Memos.{AreScanned, AreStamps, Grows, IsKept, IsMemoOf, IsNoSource, IsStamp, pairs_of, value_of, with_pair}
 pub use Rattle.ks_engine.specs.OtherRecords.{OtherRecordsDoNotMatter, own_history}
 pub use Rattle.ks_engine.specs.Questions.{IsAnswerTo, IsSeen, limit_of}
 pub use Rattle.ks_engine.specs.Recorded.{IsRecordPlanUnder, IsRecordRefused, IsRecordRefusedUnder, IsRecordTriedUnder, IsRecorded, IsRecordedUnder, RecordPlan, drafted, numbered, usual}
 unfoldable pub use Rattle.ks_engine.specs.Recorded.{record_plan_under}
 pub use Rattle.ks_engine.specs.Recording.{followed, listed_unless, listed_without, scanned, there, words}
 unfoldable pub use Rattle.ks_engine.specs.Recording.{scanned_all}
-pub use Rattle.ks_engine.specs.Refusals.{GaveUp, IsGivenUp, and_then, of_auto, of_dep, of_source, of_stamp, of_tree}
+pub use Rattle.ks_engine.specs.Refusals.{IsGivenUpAnswer, IsGivenUp, and_then, of_auto, of_dep, of_source, of_stamp, of_tree}
 pub use Rattle.ks_engine.specs.Runs.{Follows, IsShown, Leads, Leaves, Run, Step}
 pub use Rattle.ks_engine.specs.Shows.{IsAuto, IsCommandFile, IsFirstAuto, Shows, stamp}
 pub use Rattle.ks_engine.specs.Staleness.{changed_since, first_suspect, found, names_of, renewed_since_sync, suspect_since, verdict}
 pub use Rattle.ks_engine.specs.SyncPlan.{IsSyncPlan, Plan, Sources, plan_of, plan_over}
-pub use Rattle.ks_engine.specs.Synchronised.{AreChanged, IsBrokenOff, IsSyncRefused, IsSynced, SyncDone, SyncLeaves, SyncSome}
+pub use Rattle.ks_engine.specs.Synchronised.{AreLegalChanges, IsBrokenOff, IsSyncRefused, IsSynced, SyncDone, SyncLeaves, SyncSome}
 pub use Rattle.ks_engine.specs.Verdicts.{IsChangedVerdict, IsGivenUpSync, IsSafeVerdict, IsSuspectVerdict}
 pub use Rattle.ks_engine.specs.Views.{IsPlanned, PlansOver, Reports, old_of, sources_of}
 pub use Rattle.ks_engine.specs.declared.commands.Command.{Command}

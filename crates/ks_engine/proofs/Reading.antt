@@ -1,5 +1,5 @@
 -- What the calls of the layers below give for the definitions of auto.conf and of the two texts.
-use Rattle.ks_engine.proofs.Prelude.{◌≡◌, ◌⊎◌, inl, inr, ℕ, ◌+◌, ◌<◌, ◌≤◌, List, Option, Some, None, Result, Ok, Err, sym, ◌∙◌, ap, ap₂, refl, subst, length, nat_eq, if◌then◌else◌, lt-ltb, le-ltb, ne_eqb, cond-true, cond-false, get, empty, Kind, IsConfiguration, Configuration, max_bytes, declared, title_of, kconfig_refusal, setting, unknown_count, dotconfig_refusal, or_else, IsRefusal, AutoError, auto_text, auto_map, auto_generation, auto_refusal, OldTexts, HasNames, Files, content, IsTooLarge, auto_path, TreeFault, EngineError, NeverSynced, of_tree, of_auto, IsGivenUp, and_then, AreChanges, IsSource, AreChanged, OldAuto, read_unless, old_auto, synced_at, last_generation, Sources, Plan, plan_over, IsSyncPlan, old_of, KconfigText}
+use Rattle.ks_engine.proofs.Prelude.{◌≡◌, ◌⊎◌, inl, inr, ℕ, ◌+◌, ◌<◌, ◌≤◌, List, Option, Some, None, Result, Ok, Err, sym, ◌∙◌, ap, ap₂, refl, subst, length, nat_eq, if◌then◌else◌, lt-ltb, le-ltb, ne_eqb, cond-true, cond-false, get, empty, Kind, IsConfiguration, Configuration, max_bytes, declared, title_of, kconfig_refusal, setting, unknown_count, dotconfig_refusal, or_else, IsRefusal, AutoError, auto_text, auto_map, auto_generation, auto_refusal, OldTexts, HasNames, Files, content, IsTooLarge, auto_path, TreeFault, EngineError, NeverSynced, of_tree, of_auto, IsGivenUp, and_then, AreChanges, IsLegalSync, AreLegalChanges, OldAuto, read_unless, old_auto, synced_at, last_generation, Sources, Plan, plan_over, IsSyncPlan, old_of, KconfigText}
 use Rattle.ks_symbols.specs.Lines.{lines}
 use Rattle.ks_output.specs.declared.auto_conf.AutoError.TheVariants as auto
 use Rattle.ks_tree.specs.declared.fault.TreeFault.TheVariants as fault
@@ -18,7 +18,7 @@ err_ok e a q = cc
 
 pub are_sources : (kconfig : KconfigText) (dotconfig : List ℕ) (s : Sources) (kinds : List ℕ → Option Kind) → ((x : List ℕ) → kinds x ≡ declared kconfig x)
     → kconfig_refusal kconfig ≡ None → dotconfig_refusal kinds dotconfig ≡ None → s.title ≡ title_of kconfig
-    → ((x : List ℕ) → get s.config x ≡ setting kinds (lines dotconfig) x) → s.unknown ≡ unknown_count kinds (lines dotconfig) → IsSource s.title s.config
+    → ((x : List ℕ) → get s.config x ≡ setting kinds (lines dotconfig) x) → s.unknown ≡ unknown_count kinds (lines dotconfig) → IsLegalSync s.title s.config
     → AreSources kconfig dotconfig s
 are_sources kconfig dotconfig s kinds same first second title settings unknown legal =
     let kinds_same : kinds ≡ declared kconfig = λ i x. same x i in
@@ -33,7 +33,7 @@ are_sources kconfig dotconfig s kinds same first second title settings unknown l
 -- ---- the names that changed
 
 pub are_changed : (old : OldTexts) (new : Configuration) (names : List (List ℕ)) → HasNames old.texts → IsConfiguration new → AreChanges old.texts new names
-    → AreChanged old.texts new names
+    → AreLegalChanges old.texts new names
 are_changed old new names legal config are = record { are = are; legal = legal_changes old.texts new names legal config are }
 
 pub plan_made : (s : Sources) (a : OldAuto) → (a.generation ≡ 18446744073709551615 → ⊥) → length (auto_text s.title s.config (a.generation + 1)) ≤ max_bytes

@@ -1,5 +1,5 @@
 -- What the last history of a run says of each of its steps.
-use Rattle.ks_engine.proofs.Prelude.{◌≡◌, ◌⊎◌, ℕ, List, [], ◌∷◌, ap, sym, refl, subst, inl, inr, ⊎_elim, Result, Ok, map, All, All-nil, All-cons, All-head, All-tail, Action, Dialect, Sync, Record, Reply, Refused, EngineError, GaveUp, Configuration, History, NoneBroken, TreeState, IsShown, Step, Follows, Leaves, Leads, Run, IsSuspectVerdict, IsChangedVerdict, IsSafeVerdict, IsGivenUpSync}
+use Rattle.ks_engine.proofs.Prelude.{◌≡◌, ◌⊎◌, ℕ, List, [], ◌∷◌, ap, sym, refl, subst, inl, inr, ⊎_elim, Result, Ok, map, All, All-nil, All-cons, All-head, All-tail, Action, Dialect, Sync, Record, Reply, Refused, EngineError, IsGivenUpAnswer, Configuration, History, NoneBroken, TreeState, IsShown, Step, Follows, Leaves, Leads, Run, IsSuspectVerdict, IsChangedVerdict, IsSafeVerdict, IsGivenUpSync}
 use Rattle.ks_engine.specs.Actions.{Stale}
 use Rattle.ks_engine.specs.declared.commands.Reply.TheVariants.{Synced, Recorded, Verdict}
 use Rattle.ks_engine.specs.declared.staleness.Verdict.{Verdict as VerdictValue}
@@ -101,7 +101,7 @@ none_last dialect first (s ∷ ss) last leads none kept =
 same_verdict : (u v : VerdictValue) → ◌≡◌ {A = Result VerdictValue EngineError} (Ok u) (Ok v) → u ≡ v
 same_verdict u v e = cc
 
-told : (v w : VerdictValue) → GaveUp {A = VerdictValue} (Ok v) ⊎ (◌≡◌ {A = Result VerdictValue EngineError} (Ok v) (Ok w)) → v ≡ w
+told : (v w : VerdictValue) → IsGivenUpAnswer {A = VerdictValue} (Ok v) ⊎ (◌≡◌ {A = Result VerdictValue EngineError} (Ok v) (Ok w)) → v ≡ w
 told v w (inl given) = absurd given
 told v w (inr is) = same_verdict v w is
 

@@ -1,5 +1,5 @@
 -- The files after each call show the history after it.
-use Rattle.ks_engine.proofs.Prelude.{◌≡◌, inl, inr, ⊎_elim, ℕ, ◌+◌, ◌<◌, ◌≤◌, ◌^◌, List, Option, Some, None, Result, Ok, Err, Bool, true, false, cond, nat_eq, nat_lt, sym, ◌∙◌, ap, refl, subst, subst₂, arith, length, true≢false, IsTrue, bytes_eq, ltb-false, eqb-false, bytes_eq-Decides, max_bytes, is_name, is_in, header_path, auto_text, auto_map, auto_generation, header_text, differs, Files, content, SameButBoth, auto_path, stamp_path, command_path, command_temporary, Place, AutoConf, Stamp, CommandFile, AutoTemporary, HeaderTemporary, StampTemporary, CommandTemporary, path_of, IsLegalPlace, HasNumber, stamp_text, EngineError, TooLarge, GenerationFull, and_then, Texts, History, Begun, Synced, Broken, Recorded, LastRecord, before, done, WasSynced, last_record, IsSource, IsHistory, MayBeHeader, Shows, IsAuto, IsCommandFile, stamp, AreChanged, SyncLeaves, OldAuto, old_auto, Sources, Plan, plan_over, IsSyncPlan, KconfigText}
+use Rattle.ks_engine.proofs.Prelude.{◌≡◌, inl, inr, ⊎_elim, ℕ, ◌+◌, ◌<◌, ◌≤◌, ◌^◌, List, Option, Some, None, Result, Ok, Err, Bool, true, false, cond, nat_eq, nat_lt, sym, ◌∙◌, ap, refl, subst, subst₂, arith, length, true≢false, IsTrue, bytes_eq, ltb-false, eqb-false, bytes_eq-Decides, max_bytes, is_name, is_in, header_path, auto_text, auto_map, auto_generation, header_text, differs, Files, content, SameButBoth, auto_path, stamp_path, command_path, command_temporary, Place, AutoConf, Stamp, CommandFile, AutoTemporary, HeaderTemporary, StampTemporary, CommandTemporary, path_of, IsLegalPlace, HasNumber, stamp_text, EngineError, TooLarge, GenerationFull, and_then, Texts, History, Begun, Synced, Broken, Recorded, LastRecord, before, done, WasSynced, last_record, IsLegalSync, IsHistory, MayBeHeader, Shows, IsAuto, IsCommandFile, stamp, AreLegalChanges, SyncLeaves, OldAuto, old_auto, Sources, Plan, plan_over, IsSyncPlan, KconfigText}
 use Rattle.std.specs.FinMap as map
 use Rattle.ks_tree.specs.Paths.{Header}
 use Rattle.ks_engine.proofs.Heart.{record_cases, recorded_synced}
@@ -51,13 +51,13 @@ auto_read (Recorded o command names header past) b legal is = let r = auto_read 
 
 -- what stands where nothing was refused
 pub record PlanFacts (old : Texts) (generation : ℕ) (plan : Plan) : Type 0 where
-  pub source : IsSource plan.title plan.config
+  pub source : IsLegalSync plan.title plan.config
   pub same_old : plan.old ≡ old
   pub same_generation : plan.generation ≡ generation
   pub room : plan.generation ≡ 18446744073709551615 → ⊥
   pub small : length (auto_text plan.title plan.config (plan.generation + 1)) ≤ max_bytes
 
-pub plan_over_facts : (s : Sources) (auto : OldAuto) (plan : Plan) → IsSource s.title s.config → plan_over s auto ≡ Ok plan
+pub plan_over_facts : (s : Sources) (auto : OldAuto) (plan : Plan) → IsLegalSync s.title s.config → plan_over s auto ≡ Ok plan
     → PlanFacts auto.texts auto.generation plan
 plan_over_facts s auto plan legal e =
     let made : Plan = record { title = s.title; config = s.config; unknown = s.unknown; old = auto.texts; generation = auto.generation } in
@@ -100,7 +100,7 @@ number_cond true file n g small has = inr (refl, small)
 number_cond false file n g small has = has
 
 -- A command file is neither a stamp nor another file of a synchronisation.
-pub command_kept : (old new : Files) (plan : Plan) (changed renewed : List (List ℕ)) → AreChanged plan.old plan.config changed
+pub command_kept : (old new : Files) (plan : Plan) (changed renewed : List (List ℕ)) → AreLegalChanges plan.old plan.config changed
     → SyncLeaves old new plan changed renewed → (o : List ℕ) → content new (command_path o) ≡ content old (command_path o)
 command_kept old new plan changed renewed are leaves o = leaves.others (command_path o)
     (λ x among. apart (CommandFile o) (Stamp x) tt (are.legal x among) (λ e. cc))
@@ -111,7 +111,7 @@ command_kept old new plan changed renewed are leaves o = leaves.others (command_
     (apart (CommandFile o) AutoTemporary tt tt (λ e. cc))
 
 module _ (old new : Files) (h : History) (plan : Plan) (changed renewed : List (List ℕ)) (shows : Shows old h) (facts : PlanFacts (before h) (done h) plan)
-    (are : AreChanged plan.old plan.config changed) (leaves : SyncLeaves old new plan changed renewed) where
+    (are : AreLegalChanges plan.old plan.config changed) (leaves : SyncLeaves old new plan changed renewed) where
   differs_now : (x : List ℕ) → is_in changed x ≡ differs (before h) plan.config x
   differs_now x = are.are.each x ∙ ap (λ (t : Texts). differs t plan.config x) facts.same_old
 

@@ -1,9 +1,9 @@
 -- What the writes of a synchronisation leave, one after another.
-use Rattle.ks_engine.proofs.Prelude.{◌≡◌, ◌⊎◌, inl, inr, ⊎_elim, ℕ, ◌+◌, List, Some, true, false, ◌∙◌, refl, subst, zero, suc, [], ◌∷◌, take, bytes_eq, ◌||◌, Result, Ok, Err, OnOk, OnErr, IfErr, auto_text, header_text, is_in, header_path, Files, content, SameButBoth, auto_path, auto_temporary, header_temporary, stamp_path, Place, AutoConf, Stamp, AutoTemporary, HeaderTemporary, StampTemporary, path_of, IsLegalPlace, Touches, AreChanged, SyncLeaves, Plan}
+use Rattle.ks_engine.proofs.Prelude.{◌≡◌, ◌⊎◌, inl, inr, ⊎_elim, ℕ, ◌+◌, List, Some, true, false, ◌∙◌, refl, subst, zero, suc, [], ◌∷◌, take, bytes_eq, ◌||◌, Result, Ok, Err, OnOk, OnErr, IfErr, auto_text, header_text, is_in, header_path, Files, content, SameButBoth, auto_path, auto_temporary, header_temporary, stamp_path, Place, AutoConf, Stamp, AutoTemporary, HeaderTemporary, StampTemporary, path_of, IsLegalPlace, Touches, AreLegalChanges, SyncLeaves, Plan}
 use Rattle.ks_tree.specs.Paths.{Header}
 use Rattle.ks_engine.proofs.LowerLaws.{apart}
 
-module _ (old : Files) (plan : Plan) (changed : List (List ℕ)) (are : AreChanged plan.old plan.config changed) where
+module _ (old : Files) (plan : Plan) (changed : List (List ℕ)) (are : AreLegalChanges plan.old plan.config changed) where
   -- after the stamps of some changes
   pub after_stamps : (new : Files) (renewed : List (List ℕ)) → ((x : List ℕ) → is_in renewed x ≡ true → is_in changed x ≡ true)
       → Touches renewed (plan.generation + 1) old new → SyncLeaves old new plan changed renewed

@@ -19,16 +19,16 @@ use Rattle.ks_engine.specs.LastSync.{last_generation}
 
 -- an answer at once, or by the stamps of these names, each with its place, against a generation
 pub data Asked : Type 0 where
-  Answered : (answer : Result Verdict EngineError) → Asked
+  AtOnce : (answer : Result Verdict EngineError) → Asked
   ByStamps : (generation : ℕ) (names : List (List ℕ × List ℕ)) → Asked
 
 abbrev pub asked_at : ℕ → List (List ℕ × List ℕ) → Result ℕ EngineError → Asked
-asked_at g names (Err e) = Answered (Err e)
-asked_at g names (Ok last) = if nat_lt last g then Answered (Ok Ahead) else ByStamps g names
+asked_at g names (Err e) = AtOnce (Err e)
+asked_at g names (Ok last) = if nat_lt last g then AtOnce (Ok Ahead) else ByStamps g names
 
 -- an object whose command file has a generation, or none
 abbrev pub asked_since : Files → List (List ℕ × List ℕ) → Option ℕ → Asked
-asked_since files names None = Answered (Ok Unnumbered)
+asked_since files names None = AtOnce (Ok Unnumbered)
 asked_since files names (Some g) = asked_at g names (last_generation (content files auto_path))
 
 abbrev pub of_target : List ℕ → Result CommandRecord ℕ → Result (Option CommandRecord) EngineError
@@ -41,13 +41,13 @@ command_file o None = Ok None
 command_file o (Some b) = if nat_lt max_bytes (length b) then Err TooLarge else of_target o (reading b)
 
 abbrev pub asked_of : Files → Result (Option CommandRecord) EngineError → Asked
-asked_of files (Err e) = Answered (Err e)
-asked_of files (Ok None) = Answered (Ok NoCommandFile)
+asked_of files (Err e) = AtOnce (Err e)
+asked_of files (Ok None) = AtOnce (Ok NoCommandFile)
 asked_of files (Ok (Some file)) = asked_since files (names_placed file) file.generation
 
 -- what an object's files say before its stamps
 unfoldable pub asked : Files → List ℕ → Asked
-asked files o = if is_target o then asked_of files (command_file o (content files (command_path o))) else Answered (Err (BadPath 0))
+asked files o = if is_target o then asked_of files (command_file o (content files (command_path o))) else AtOnce (Err (BadPath 0))
 
 -- ---- a verdict
 
@@ -58,7 +58,7 @@ verdict_by (Err e) = Err e
 
 -- It is that of the first cause. No stamp is looked at after it.
 abbrev pub IsAnswer : Files → Asked → Result Verdict EngineError → Type 0
-IsAnswer files (Answered known) answer = answer ≡ known
+IsAnswer files (AtOnce known) answer = answer ≡ known
 IsAnswer files (ByStamps g names) answer = (found : Result (List Cause) EngineError) × IsByStamps First files g names found × (answer ≡ verdict_by found)
 
 -- ---- an explanation
@@ -74,7 +74,7 @@ listed (Err e) = Err e
 
 -- An answer at once has no causes.
 abbrev pub IsExplainedBy : Limit → Files → Asked → Result Explanation EngineError → Type 0
-IsExplainedBy limit files (Answered known) answer = (told answer ≡ known) × IfOk answer (λ e. e.causes.items ≡ [])
+IsExplainedBy limit files (AtOnce known) answer = (told answer ≡ known) × IfOk answer (λ e. e.causes.items ≡ [])
 IsExplainedBy limit files (ByStamps g names) answer = IsByStamps limit files g names (listed answer) × (told answer ≡ verdict_by (listed answer))
 
 abbrev pub IsExplained : Limit → Files → List ℕ → Result Explanation EngineError → Type 0

@@ -9,7 +9,7 @@ use Rattle.ks_engine.specs.declared.error.EngineError.TheVariants.{BadPath, BadC
 use Rattle.ks_engine.specs.declared.staleness.Verdict.{Verdict}
 use Rattle.ks_engine.specs.declared.staleness.BuildState.{BuildState}
 use Rattle.ks_engine.specs.declared.staleness.BuildState.TheVariants.{CommandDiffers, Verdict as Judged}
-use Rattle.ks_engine.specs.Asked.{Asked, Answered, asked_of, command_file, IsAnswer}
+use Rattle.ks_engine.specs.Asked.{Asked, AtOnce, asked_of, command_file, IsAnswer}
 
 -- the saved command is another one, or the rest is as asked
 pub data BuildAsked : Type 0 where
@@ -24,8 +24,8 @@ build_asked_of files command read = Asks (asked_of files read)
 unfoldable pub build_asked : Files → List ℕ → List ℕ → BuildAsked
 build_asked files o command =
     if is_target o then (if is_command command then build_asked_of files command (command_file o (content files (command_path o)))
-    else Asks (Answered (Err BadCommand)))
-    else Asks (Answered (Err (BadPath 0)))
+    else Asks (AtOnce (Err BadCommand)))
+    else Asks (AtOnce (Err (BadPath 0)))
 
 abbrev pub judged : Result Verdict EngineError → Result BuildState EngineError
 judged (Ok verdict) = Ok (Judged verdict)

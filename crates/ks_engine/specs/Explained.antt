@@ -15,7 +15,7 @@ use Rattle.ks_engine.specs.Shows.{Shows, stamp}
 use Rattle.ks_engine.specs.Causes.{names_placed}
 use Rattle.ks_engine.specs.Asked.{asked, told, IsAnswer, IsExplained}
 use Rattle.ks_engine.specs.Judged.{IsJudged}
-use Rattle.ks_engine.specs.Refusals.{GaveUp}
+use Rattle.ks_engine.specs.Refusals.{IsGivenUpAnswer}
 
 -- of a recorded object
 pub record IsExplanationJudged (files : Files) (h : History) (o : List ℕ) (r : LastRecord) (answer : Result Explanation EngineError) : Type 0 where
@@ -32,7 +32,7 @@ ExplainsRecorded files o answer = (h : History) (r : LastRecord) → Shows files
 
 -- what a question is answered with all of its causes, whichever history is shown
 pub record IsExplanationOn (files : Files) (o : List ℕ) (answer : Result Explanation EngineError) : Type 0 where
-  pub by_files : GaveUp answer ⊎ IsExplained Every files o answer
+  pub by_files : IsGivenUpAnswer answer ⊎ IsExplained Every files o answer
   -- The verdict is one that is answered to a question for the first of them.
   pub verdict : IfOk answer (λ e. IsAnswer files (asked files o) (Ok e.verdict))
   pub recorded : ExplainsRecorded files o answer

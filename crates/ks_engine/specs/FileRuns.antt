@@ -11,7 +11,7 @@ use Rattle.ks_engine.specs.declared.commands.Reply.TheVariants.{Synced, Recorded
 use Rattle.ks_engine.specs.declared.recording.Recorded.{Recorded as RecordAnswer}
 use Rattle.ks_engine.specs.declared.staleness.Verdict.{Verdict as VerdictValue}
 use Rattle.ks_engine.specs.declared.synchronise.Report.{Report}
-use Rattle.ks_engine.specs.Refusals.{GaveUp}
+use Rattle.ks_engine.specs.Refusals.{IsGivenUpAnswer}
 use Rattle.ks_engine.specs.Asked.{asked, IsAnswer}
 use Rattle.ks_engine.specs.Judged.{JudgesRecorded}
 use Rattle.ks_engine.specs.Recorded.{IsRecorded, IsRecordRefused}
@@ -30,7 +30,7 @@ LeavesRecord dialect old new d t c (Err e) = IsRecordRefused dialect old new d t
 
 -- what a question is answered, whichever history is shown
 pub record IsAnswerOn (files : Files) (o : List ℕ) (answer : Result VerdictValue EngineError) : Type 0 where
-  pub by_files : GaveUp answer ⊎ IsAnswer files (asked files o) answer
+  pub by_files : IsGivenUpAnswer answer ⊎ IsAnswer files (asked files o) answer
   pub recorded : JudgesRecorded files o answer
 
 -- the files after an action, by its reply; no action is answered as another one

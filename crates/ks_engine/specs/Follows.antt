@@ -13,7 +13,7 @@ use Rattle.ks_engine.specs.Refusals.{IsGivenUp}
 use Rattle.ks_engine.specs.History.{History, Synced, Broken, Recorded, before, done, WasSynced}
 use Rattle.ks_engine.specs.Shows.{Shows}
 use Rattle.ks_engine.specs.Recorded.{record_plan_under, usual, IsRecordedUnder, IsRecordTriedUnder}
-use Rattle.ks_engine.specs.Synchronised.{AreChanged, IsSynced, IsBrokenOff}
+use Rattle.ks_engine.specs.Synchronised.{AreLegalChanges, IsSynced, IsBrokenOff}
 use Rattle.ks_engine.specs.SyncPlan.{Plan, IsSyncPlan}
 
 -- the files of a tree, how often its device has failed, and what was done to it
@@ -42,7 +42,7 @@ pub record FollowsSynced (old : TreeState) (kconfig : KconfigText) (dotconfig : 
   pub files : IsSynced old.files new.files kconfig dotconfig report
   pub history : new.history ≡ Synced files.plan.title files.plan.config old.history
   pub generation : report.generation ≡ done new.history
-  pub changed : AreChanged (before old.history) files.plan.config report.touched.items
+  pub changed : AreLegalChanges (before old.history) files.plan.config report.touched.items
 
 -- One that was given up after its first write is a broken one with the stamps that it renewed, or a completed one.
 abbrev pub IsBrokenEvent : History → Plan → List (List ℕ) → History → Type 0

@@ -12,7 +12,7 @@ use Rattle.ks_engine.specs.declared.error.EngineError.{EngineError}
 use Rattle.ks_engine.specs.declared.impact.Impact.{Impact}
 use Rattle.ks_engine.specs.declared.staleness.Verdict.{Verdict}
 use Rattle.ks_engine.specs.declared.synchronise.Report.{Report}
-use Rattle.ks_engine.specs.Refusals.{GaveUp}
+use Rattle.ks_engine.specs.Refusals.{IsGivenUpAnswer}
 use Rattle.ks_engine.specs.History.{History, Synced, LastRecord, last_record}
 use Rattle.ks_engine.specs.Shows.{Shows}
 use Rattle.ks_engine.specs.LastSync.{last_generation}
@@ -27,7 +27,7 @@ IsImpactOf files kconfig dotconfig impact = (after : Files) × IsSynced files af
 -- It is an answer of `stale` over each tree that a completed synchronisation of these texts leaves.
 abbrev pub AnswersAfter : Files → KconfigText → List ℕ → List ℕ → Result Verdict EngineError → Type 0
 AnswersAfter files kconfig dotconfig o answer =
-    (after : Files) (report : Report) → IsSynced files after kconfig dotconfig report → GaveUp answer ⊎ IsAnswer after (asked after o) answer
+    (after : Files) (report : Report) → IsSynced files after kconfig dotconfig report → IsGivenUpAnswer answer ⊎ IsAnswer after (asked after o) answer
 
 -- Of each object that is recorded in a history that the files show, it is judged by that history with the synchronisation added.
 abbrev pub JudgesAfter : Files → KconfigText → List ℕ → List ℕ → Result Verdict EngineError → Type 0

@@ -8,7 +8,7 @@ use Rattle.ks_engine.specs.declared.staleness.Verdict.{Verdict}
 use Rattle.ks_engine.specs.declared.staleness.Verdict.TheVariants.{Fresh}
 use Rattle.ks_engine.specs.declared.staleness.BuildState.{BuildState}
 use Rattle.ks_engine.specs.declared.staleness.BuildState.TheVariants.{CommandDiffers}
-use Rattle.ks_engine.specs.Refusals.{GaveUp}
+use Rattle.ks_engine.specs.Refusals.{IsGivenUpAnswer}
 use Rattle.ks_engine.specs.History.{History, LastRecord, last_record, NoneBroken}
 use Rattle.ks_engine.specs.Staleness.{first_changed, first_suspect, verdict}
 use Rattle.ks_engine.specs.Shows.{Shows}
@@ -21,9 +21,9 @@ HasSameDefinitions files r = (x : List ℕ) → is_in r.names x ≡ true → (b 
 
 pub record IsJudged (files : Files) (h : History) (o : List ℕ) (r : LastRecord) (answer : Result Verdict EngineError) : Type 0 where
   -- It is stale by the first of its names that is suspect, and else fresh.
-  pub suspect : GaveUp answer ⊎ (answer ≡ Ok (verdict (first_suspect h o)))
+  pub suspect : IsGivenUpAnswer answer ⊎ (answer ≡ Ok (verdict (first_suspect h o)))
   -- Where no synchronisation was broken off, that is the first that one of them changed since the record.
-  pub changed : NoneBroken h → GaveUp answer ⊎ (answer ≡ Ok (verdict (first_changed h o)))
+  pub changed : NoneBroken h → IsGivenUpAnswer answer ⊎ (answer ≡ Ok (verdict (first_changed h o)))
   -- Where it is fresh, its names are defined as at its record.
   pub safe : answer ≡ Ok Fresh → HasSameDefinitions files r
 
@@ -33,5 +33,5 @@ JudgesRecorded files o answer = (h : History) (r : LastRecord) → Shows files h
 
 -- Its command is told apart first: where it is another one than that of the record, nothing else is said.
 pub record IsBuildJudged (files : Files) (h : History) (o command : List ℕ) (r : LastRecord) (answer : Result BuildState EngineError) : Type 0 where
-  pub differs : bytes_eq r.command command ≡ false → GaveUp answer ⊎ (answer ≡ Ok CommandDiffers)
+  pub differs : bytes_eq r.command command ≡ false → IsGivenUpAnswer answer ⊎ (answer ≡ Ok CommandDiffers)
   pub same : bytes_eq r.command command ≡ true → (verdict : Result Verdict EngineError) × (answer ≡ judged verdict) × IsJudged files h o r verdict

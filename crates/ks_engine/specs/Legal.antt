@@ -20,7 +20,7 @@ MayBeHeader (Broken title config renewed past) b = (AreAllRenewed renewed (befor
 MayBeHeader (Recorded object command names header past) b = MayBeHeader past b
 
 -- what a synchronisation writes is a title and a configuration
-pub record IsSource (t : List ℕ) (c : Configuration) : Type 0 where
+pub record IsLegalSync (t : List ℕ) (c : Configuration) : Type 0 where
   pub title : IsTrue (is_title t)
   pub config : IsConfiguration c
 
@@ -28,7 +28,7 @@ pub record IsSource (t : List ℕ) (c : Configuration) : Type 0 where
 -- it changes. A record stands after a completed one, and its header is one of that time.
 abbrev pub IsHistory : History → Type 0
 IsHistory (Begun texts generation stamps) = (generation ≤ 18446744073709551615) × ((x : List ℕ) → stamps x ≤ generation + 1)
-IsHistory (Synced title config past) = IsHistory past × IsSource title config × (done past < 18446744073709551615)
-IsHistory (Broken title config renewed past) = IsHistory past × IsSource title config
+IsHistory (Synced title config past) = IsHistory past × IsLegalSync title config × (done past < 18446744073709551615)
+IsHistory (Broken title config renewed past) = IsHistory past × IsLegalSync title config
     × ((x : List ℕ) → is_in renewed x ≡ true → differs (before past) config x ≡ true)
 IsHistory (Recorded object command names header past) = IsHistory past × WasSynced past × MayBeHeader past header

@@ -34,8 +34,8 @@ AreStamps files kept = All (λ s. IsStamp files s.0 s.1) kept
 abbrev pub IsKept : Rules → Files → List (List (List ℕ)) → List ℕ → ℕ → Type 0
 IsKept r files found path place = (place < length found) × (scanned r path (content files path) ≡ Ok (get_or found place []))
 
-abbrev pub AreSources : Rules → Files → List (List (List ℕ)) → List (List ℕ × ℕ) → Type 0
-AreSources r files found kept = All (λ s. IsKept r files found s.0 s.1) kept
+abbrev pub AreScanned : Rules → Files → List (List (List ℕ)) → List (List ℕ × ℕ) → Type 0
+AreScanned r files found kept = All (λ s. IsKept r files found s.0 s.1) kept
 
 -- new begins with old
 abbrev pub Grows : List (List (List ℕ)) → List (List (List ℕ)) → Type 0
@@ -45,7 +45,7 @@ Grows old new = (more : List (List (List ℕ))) × (new ≡ old ++ more)
 pub record IsMemoOf (files : Files) (memo : Memo) : Type 0 where
   pub generation : (g : ℕ) → memo.generation ≡ Some g → last_generation (content files auto_path) ≡ Ok g
   pub stamps : AreStamps files (pairs_of string_bytes memo.stamps.entries)
-  pub sources : AreSources memo.rules files (found_of memo.found.scan) (pairs_of vec_items memo.sources.entries)
+  pub sources : AreScanned memo.rules files (found_of memo.found.scan) (pairs_of vec_items memo.sources.entries)
 
 -- The names of the file at this path are not kept.
 abbrev pub IsNoSource : List ℕ → Memo → Type 0

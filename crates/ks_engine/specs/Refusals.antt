@@ -55,9 +55,9 @@ IsGivenUp Device = ⊤
 IsGivenUp e = ⊥
 
 -- an answer that is one of these two; no success is
-abbrev pub GaveUp : {A : Type 0} → Result A EngineError → Type 0
-GaveUp (Ok x) = ⊥
-GaveUp (Err e) = IsGivenUp e
+abbrev pub IsGivenUpAnswer : {A : Type 0} → Result A EngineError → Type 0
+IsGivenUpAnswer (Ok x) = ⊥
+IsGivenUpAnswer (Err e) = IsGivenUp e
 
 -- A call answers what a step comes to, or gives up.
 abbrev pub Answers : {A V : Type 0} → Result V EngineError → (A → V) → Result A EngineError → Type 0

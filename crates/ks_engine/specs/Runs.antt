@@ -9,7 +9,7 @@ use Rattle.ks_engine.specs.declared.error.EngineError.TheVariants.{Device}
 use Rattle.ks_engine.specs.declared.staleness.Verdict.{Verdict as VerdictValue}
 use Rattle.ks_engine.specs.declared.commands.Reply.{Reply}
 use Rattle.ks_engine.specs.declared.commands.Reply.TheVariants.{Synced, Recorded, Verdict, Refused}
-use Rattle.ks_engine.specs.Refusals.{GaveUp}
+use Rattle.ks_engine.specs.Refusals.{IsGivenUpAnswer}
 use Rattle.ks_engine.specs.History.{LastRecord, last_record, NoneBroken}
 use Rattle.ks_engine.specs.Shows.{Shows}
 use Rattle.ks_engine.specs.Asked.{asked, IsAnswer}
@@ -24,7 +24,7 @@ IsShown s = Shows s.files s.history
 -- A question changes nothing, and is answered by the files; of a recorded object, as its history says.
 pub record FollowsStale (old : TreeState) (o : List ℕ) (answer : Result VerdictValue EngineError) (new : TreeState) : Type 0 where
   pub same : IsSame old new
-  pub by_files : GaveUp answer ⊎ IsAnswer old.files (asked old.files o) answer
+  pub by_files : IsGivenUpAnswer answer ⊎ IsAnswer old.files (asked old.files o) answer
   pub recorded : (r : LastRecord) → last_record old.history o ≡ Some r → IsJudged old.files old.history o r answer
 
 -- the state after an action, by its reply; sources and Kconfigs are read in such a dialect

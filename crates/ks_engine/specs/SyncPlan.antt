@@ -15,7 +15,7 @@ use Rattle.ks_engine.specs.declared.error.EngineError.TheVariants.{TooLarge, Gen
 use Rattle.ks_engine.specs.Refusals.{of_source, and_then}
 use Rattle.ks_symbols.specs.Configuration.{Configuration}
 use Rattle.ks_output.specs.OldConfig.{Texts}
-use Rattle.ks_engine.specs.Legal.{IsSource}
+use Rattle.ks_engine.specs.Legal.{IsLegalSync}
 use Rattle.ks_engine.specs.LastSync.{OldAuto, old_auto}
 
 -- why a Kconfig and a `.config` are refused
@@ -33,7 +33,7 @@ pub record AreSources (kconfig : KconfigText) (dotconfig : List ℕ) (s : Source
   pub title : s.title ≡ title_of kconfig
   pub settings : (x : List ℕ) → map.get s.config x ≡ setting (declared kconfig) (lines dotconfig) x
   pub unknown : s.unknown ≡ unknown_count (declared kconfig) (lines dotconfig)
-  pub legal : IsSource s.title s.config
+  pub legal : IsLegalSync s.title s.config
 
 -- a synchronisation against which no refusal stands
 pub record Plan : Type 0 where

@@ -16,7 +16,7 @@ use Rattle.ks_output.specs.OldConfig.{Texts}
 use Rattle.ks_engine.specs.SyncPlan.{Plan, IsSyncPlan}
 
 -- the names that differ, which are legal
-pub record AreChanged (old : Texts) (new : Configuration) (names : List (List ℕ)) : Type 0 where
+pub record AreLegalChanges (old : Texts) (new : Configuration) (names : List (List ℕ)) : Type 0 where
   pub are : AreChanges old new names
   pub legal : (x : List ℕ) → is_in names x ≡ true → IsTrue (is_name x)
 
@@ -49,7 +49,7 @@ pub record IsSynced (old new : Files) (kconfig : KconfigText) (dotconfig : List 
   pub planned : IsSyncPlan old kconfig dotconfig (Ok plan)
   pub generation : report.generation ≡ plan.generation + 1
   pub unknown : report.unknown ≡ plan.unknown
-  pub changed : AreChanged plan.old plan.config report.touched.items
+  pub changed : AreLegalChanges plan.old plan.config report.touched.items
   pub done : SyncDone old new plan report.touched.items
 
 -- It reached its first write and was given up.
@@ -57,7 +57,7 @@ pub record IsBrokenOff (old new : Files) (kconfig : KconfigText) (dotconfig : Li
   pub plan : Plan
   pub planned : IsSyncPlan old kconfig dotconfig (Ok plan)
   pub names : List (List ℕ)
-  pub changed : AreChanged plan.old plan.config names
+  pub changed : AreLegalChanges plan.old plan.config names
   pub some : SyncSome old new plan names
 
 -- It was refused with nothing changed, or given up before its first write or after it.

@@ -9,7 +9,7 @@ use Rattle.ks_engine.specs.declared.planning.Sources.{Sources as SourceValues}
 use Rattle.ks_engine.specs.declared.planning.Planned.{Planned}
 use Rattle.ks_engine.specs.declared.synchronise.Report.{Report}
 use Rattle.ks_engine.specs.declared.synchronise.Work.{Work}
-use Rattle.ks_engine.specs.Synchronised.{AreChanged}
+use Rattle.ks_engine.specs.Synchronised.{AreLegalChanges}
 use Rattle.ks_engine.specs.SyncPlan.{Sources, Plan, IsSyncPlan}
 use Rattle.ks_engine.specs.LastSync.{OldAuto}
 
@@ -24,7 +24,7 @@ pub record Reports (s : Sources) (old : OldAuto) (report : Report) : Type 0 wher
   pub room : old.generation ≢ 18446744073709551615
   pub generation : report.generation ≡ old.generation + 1
   pub unknown : report.unknown ≡ s.unknown
-  pub changed : AreChanged old.texts s.config report.touched.items
+  pub changed : AreLegalChanges old.texts s.config report.touched.items
 
 abbrev pub PlansOver : Sources → OldAuto → Option Report → Type 0
 PlansOver s old None = old.generation ≡ 18446744073709551615
@@ -34,7 +34,7 @@ PlansOver s old (Some report) = Reports s old report
 pub record IsReport (plan : Plan) (report : Report) : Type 0 where
   pub generation : report.generation ≡ plan.generation + 1
   pub unknown : report.unknown ≡ plan.unknown
-  pub changed : AreChanged plan.old plan.config report.touched.items
+  pub changed : AreLegalChanges plan.old plan.config report.touched.items
 
 -- a plan, and what was read for it
 pub record IsPlannedBy (plan : Plan) (planned : Planned) : Type 0 where

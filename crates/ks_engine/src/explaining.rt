@@ -9,7 +9,7 @@ ghost use Rattle.ks_fixdep.specs.CommandFile.{IsLegal, is_dep};
 ghost use Rattle.ks_fixdep.specs.Borrowed.{seen_dep, borrowed_view};
 ghost use Rattle.ks_tree.specs.Files.{Files};
 ghost use Rattle.ks_tree.specs.Frames.{Reads};
-ghost use Rattle.ks_engine.specs.Refusals.{GaveUp, IsGivenUp};
+ghost use Rattle.ks_engine.specs.Refusals.{IsGivenUpAnswer, IsGivenUp};
 ghost use Rattle.ks_engine.specs.Asked.{asked, asked_since, IsAnswer, IsExplained, IsExplainedBy};
 ghost use Rattle.ks_engine.specs.Causes.{placed, names_placed, verdict_of, IsByStamps};
 ghost use Rattle.ks_engine.specs.Explained.{ExplainsRecorded};
@@ -140,7 +140,7 @@ pub(crate) fn judge<T: Tree>(
     ensures reads { Reads T.Tree tree.old tree.new (IsErrOf result EngineError.Device) }
     ensures memo { T.is_honest → IsMemoOf (T.files tree.new) memo.new }
     ensures answer { T.is_honest → (after : Files) → IsSeen question.entry (T.files tree.old) after
-        → GaveUp result ⊎ IsExplainedBy (limit_of question.entry) after (asked_since after (names_placed (borrowed_view file.now)) file.now.generation) result }
+        → IsGivenUpAnswer result ⊎ IsExplainedBy (limit_of question.entry) after (asked_since after (names_placed (borrowed_view file.now)) file.now.generation) result }
 {
     let Some(generation) = file.generation else {
         return Ok(without_causes(alloc, Verdict::Unnumbered));
@@ -196,7 +196,7 @@ pub fn explain<T: Tree>(
 ) -> Result<Explanation, EngineError>
     ensures reads { Reads T.Tree tree.old tree.new (IsErrOf result EngineError.Device) }
     // By the files: memory and the device aside, what its steps answer.
-    ensures answer { T.is_honest → GaveUp result ⊎ IsExplained All (T.files tree.old) target.now result }
+    ensures answer { T.is_honest → IsGivenUpAnswer result ⊎ IsExplained All (T.files tree.old) target.now result }
     // The verdict is the one that `stale` answers.
     ensures verdict { T.is_honest → IfOk result (λ e. IsAnswer (T.files tree.old) (asked (T.files tree.old) target.now) (Ok e.verdict)) }
     // By histories: all that was touched since a recorded object's record.

@@ -6,7 +6,7 @@ ghost use Rattle.ks_fixdep.specs.Borrowed.{borrowed_view};
 ghost use Rattle.ks_tree.specs.Frames.{Reads};
 ghost use Rattle.ks_tree.specs.Files.{Files, content};
 ghost use Rattle.ks_tree.specs.Paths.{command_path};
-ghost use Rattle.ks_engine.specs.Refusals.{Answers, GaveUp, IsGivenUp};
+ghost use Rattle.ks_engine.specs.Refusals.{Answers, IsGivenUpAnswer, IsGivenUp};
 ghost use Rattle.ks_engine.specs.History.{History, LastRecord, last_record};
 ghost use Rattle.ks_engine.specs.Shows.{Shows};
 ghost use Rattle.ks_engine.specs.Asked.{command_file, asked, IsAnswer};
@@ -93,7 +93,7 @@ fn ask_built<T: Tree>(
     requires memo { T.is_honest → IsMemoOf (T.files tree.old) memo.old }
     ensures reads { Reads T.Tree tree.old tree.new (IsErrOf result EngineError.Device) }
     ensures memo { T.is_honest → IsMemoOf (T.files tree.new) memo.new }
-    ensures answer { T.is_honest → GaveUp result ⊎ IsBuildState (T.files tree.old) (build_asked (T.files tree.old) target.now command.now) result }
+    ensures answer { T.is_honest → IsGivenUpAnswer result ⊎ IsBuildState (T.files tree.old) (build_asked (T.files tree.old) target.now command.now) result }
 {
     if !target_is_legal(target) {
         return Err(EngineError::BadPath(0));
@@ -116,7 +116,7 @@ fn ask_built<T: Tree>(
 pub fn stale<T: Tree>(alloc: Global, tree: &mut T, target: &[u8]) -> Result<Verdict, EngineError>
     ensures reads { Reads T.Tree tree.old tree.new (IsErrOf result EngineError.Device) }
     // By the files: memory and the device aside, what its steps answer.
-    ensures answer { T.is_honest → GaveUp result ⊎ IsAnswer (T.files tree.old) (asked (T.files tree.old) target.now) result }
+    ensures answer { T.is_honest → IsGivenUpAnswer result ⊎ IsAnswer (T.files tree.old) (asked (T.files tree.old) target.now) result }
     // By histories: what was touched since a recorded object's record.
     ensures recorded { T.is_honest → JudgesRecorded (T.files tree.old) target.now result }
 {
@@ -134,7 +134,7 @@ pub fn outdated<T: Tree>(
 ) -> Result<BuildState, EngineError>
     ensures reads { Reads T.Tree tree.old tree.new (IsErrOf result EngineError.Device) }
     // By the files: memory and the device aside, what its steps answer.
-    ensures answer { T.is_honest → GaveUp result ⊎ IsBuildState (T.files tree.old) (build_asked (T.files tree.old) target.now command.now) result }
+    ensures answer { T.is_honest → IsGivenUpAnswer result ⊎ IsBuildState (T.files tree.old) (build_asked (T.files tree.old) target.now command.now) result }
     // By histories: the command is compared with that of the record, and then as `stale`.
     ensures recorded { T.is_honest → IsTrue (is_command command.now) → (h : History) (r : LastRecord) → Shows (T.files tree.old) h
         → last_record h target.now ≡ Some r → IsBuildJudged (T.files tree.old) h target.now command.now r result }

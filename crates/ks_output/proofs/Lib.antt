@@ -5,7 +5,7 @@ pub mod LastLine
 pub mod LastRemark
 pub mod LegalNames
 pub mod Pieces
-pub mod PlaceSteps
+pub mod PositionSteps
 pub mod PlainTexts
 pub mod ReadBack
 pub mod SmallNumbers

@@ -62,6 +62,6 @@ pub use Rattle.ks_output.specs.HeaderLaws.{AlikeIsDefinedAlike, DefinitionsAreLi
 pub use Rattle.ks_output.specs.Laws.{GenerationFits, GenerationReadsBack, HasNoFault, IsAccepted, LastLineCounts, TextsAreOfEntries, TextsHaveNames, TextsReadBack, UntypedHasNoClass, beginning}
 pub use Rattle.ks_output.specs.OldConfig.{HasNames, OldTexts, Texts, kept}
 unfoldable pub use Rattle.ks_output.specs.OldConfig.{texts_of}
-pub use Rattle.ks_output.specs.Places.{AreLeftOf, BeginsAs, Entry, Front, Judged, Place, Typed, Untyped, following, blamed, class_at, said_left, seen_place, wants_entry}
-unfoldable pub use Rattle.ks_output.specs.Places.{fault_left}
+pub use Rattle.ks_output.specs.Positions.{AreLeftOf, BeginsAs, Entry, Front, Judged, Position, Typed, Untyped, following, blamed, class_at, said_left, seen_position, wants_entry}
+unfoldable pub use Rattle.ks_output.specs.Positions.{fault_left}
 pub use Rattle.ks_output.specs.declared.auto_conf.Lines.{Lines}

@@ -11,7 +11,7 @@ ghost use Rattle.ks_output.specs.OldConfig.{HasNames};
 
 use crate::auto_lines::{Remark, parse_remark};
 use crate::old_config::OldConfig;
-use crate::places::Place;
+use crate::positions::Position;
 use bstr::{ByteSlice, LinesWithTerminator};
 use ks_symbols::{Class, Draft, MAX_BYTES};
 use std::alloc::{AllocError, Global};
@@ -40,13 +40,13 @@ impl From<AllocError> for AutoError {
 #[derive(Drop)]
 pub(crate) struct Lines<'a> {
     left: LinesWithTerminator<'a>,
-    place: Place<'a>,
+    position: Position<'a>,
     number: u64,
     ghost counted: { (0 < number) × (number + length left ≤ 67108865) },
 }
 
 impl<'a> Lines<'a> {
-    ghost use Rattle.ks_output.specs.Places.{AreLeftOf, Judged, BeginsAs};
+    ghost use Rattle.ks_output.specs.Positions.{AreLeftOf, Judged, BeginsAs};
 
     /// All lines of a text, unless it is too large.
     fn of(text: &'a [u8]) -> Result<Lines<'a>, AutoError>
@@ -58,7 +58,7 @@ impl<'a> Lines<'a> {
         }
         Ok(Lines {
             left: text.lines_with_terminator(),
-            place: Place::Front,
+            position: Position::Front,
             number: 1,
         })
     }
@@ -68,22 +68,22 @@ impl<'a> Lines<'a> {
         ensures judged { (text : List ℕ) → AreLeftOf text self.old → Judged text self.old result self.new }
         ensures memory { IsErrOf result AutoError.OutOfMemory → ⊥ }
     {
-        let place = self.place;
-        let refusal = AutoError::BadAuto(place.blamed(self.number));
+        let position = self.position;
+        let refusal = AutoError::BadAuto(position.blamed(self.number));
         let Some(line) = self.left.next() else {
-            return if place.wants_entry() {
+            return if position.wants_entry() {
                 Err(refusal)
             } else {
                 Ok(None)
             };
         };
         let remark = parse_remark(line);
-        let Some(next) = place.following(remark) else {
+        let Some(next) = position.following(remark) else {
             return Err(refusal);
         };
-        self.place = next;
+        self.position = next;
         self.number += 1;
-        Ok(Some((remark, place.class())))
+        Ok(Some((remark, position.class())))
     }
 }
 

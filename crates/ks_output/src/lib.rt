@@ -8,7 +8,7 @@ mod auto_text;
 mod header;
 mod laws;
 mod old_config;
-mod places;
+mod positions;
 
 pub use auto_conf::{AutoError, read_auto, read_auto_generation};
 pub use auto_text::{auto_len, write_auto};

@@ -26,7 +26,7 @@ pub use Rattle.json.specs.Word.{is_operator, is_space}
 unfoldable pub use lib.Utf8.{encode}
 pub use Rattle.ks_engine.specs.Actions.{action}
 pub use Rattle.ks_engine.specs.SyncPlan.{source_refusal}
-pub use Rattle.ks_engine.specs.Synchronised.{AreChanged}
+pub use Rattle.ks_engine.specs.Synchronised.{AreLegalChanges}
 pub use Rattle.ks_engine.specs.Views.{PlansOver, Reports, old_of, sources_of}
 pub use Rattle.ks_engine.specs.declared.commands.Command.{Command}
 pub use Rattle.ks_engine.specs.declared.commands.Reply.{Reply}

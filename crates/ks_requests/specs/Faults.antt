@@ -7,8 +7,8 @@ use Rattle.ks_engine.specs.declared.error.EngineError.TheVariants as engine
 use Rattle.ks_requests.specs.declared.refusal.Refusal.{Refusal}
 use Rattle.ks_requests.specs.declared.refusal.Refusal.TheVariants.{Engine, BadScript, Output}
 use Rattle.ks_requests.specs.declared.faults.FaultText.{FaultText}
-use Rattle.ks_requests.specs.declared.faults.Place.{Place}
-use Rattle.ks_requests.specs.declared.faults.Place.TheVariants.{Nowhere, Numbered, Named}
+use Rattle.ks_requests.specs.declared.faults.FaultPlace.{FaultPlace}
+use Rattle.ks_requests.specs.declared.faults.FaultPlace.TheVariants.{Nowhere, Numbered, Named}
 
 -- a number after its label
 unfoldable pub counted : List ℕ → ℕ → List ℕ
@@ -51,7 +51,7 @@ unfoldable pub complaint : Refusal → List ℕ
 complaint refusal = codes "confstamp: " ++ refusal_text refusal ++ codes "\n"
 
 -- a text as the code has it before it is written
-abbrev pub place_text : Place → List ℕ
+abbrev pub place_text : FaultPlace → List ℕ
 place_text Nowhere = []
 place_text (Numbered n) = decimal n
 place_text (Named bytes) = bytes.now

@@ -11,7 +11,7 @@ use Rattle.ks_output.specs.declared.auto_conf.AutoError.TheVariants as auto
 use Rattle.ks_output.specs.AutoText.{auto_text}
 use Rattle.ks_output.specs.AutoConf.{auto_map, auto_generation, auto_refusal}
 use Rattle.ks_engine.specs.SyncPlan.{Sources, AreSources, source_refusal}
-use Rattle.ks_engine.specs.Synchronised.{AreChanged}
+use Rattle.ks_engine.specs.Synchronised.{AreLegalChanges}
 use Rattle.ks_requests.specs.declared.preview.PreviewError.{PreviewError}
 use Rattle.ks_requests.specs.declared.preview.PreviewError.TheVariants as preview
 
@@ -47,7 +47,7 @@ pub record IsPreview (kconfig : KconfigText) (dotconfig : List ℕ) (old : Optio
   pub sources : Sources
   pub names : List (List ℕ)
   pub are_sources : AreSources kconfig dotconfig sources
-  pub changed : AreChanged (old_texts old) sources.config names
+  pub changed : AreLegalChanges (old_texts old) sources.config names
   pub whole : text ≡ touch_lines names ++ auto_text sources.title sources.config (old_generation old + 1)
 
 -- a writer's known bytes grow by a preview

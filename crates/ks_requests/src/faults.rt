@@ -12,7 +12,7 @@ use std::alloc::AllocError;
 
 /// What stands after a name.
 #[derive(Drop)]
-pub(crate) enum Place<'a> {
+pub(crate) enum FaultPlace<'a> {
     Nowhere,
     /// A line or a token.
     Numbered(u64),
@@ -24,13 +24,13 @@ pub(crate) enum Place<'a> {
 #[derive(Drop)]
 pub(crate) struct FaultText<'a> {
     pub(crate) name: &'static [u8],
-    pub(crate) place: Place<'a>,
+    pub(crate) place: FaultPlace<'a>,
 }
 
 fn plain<'a>(name: &'static [u8]) -> FaultText<'a>
     ensures { whole_text result ≡ name.now }
 {
-    let place = Place::Nowhere;
+    let place = FaultPlace::Nowhere;
     FaultText { name, place }
 }
 
@@ -38,14 +38,14 @@ fn plain<'a>(name: &'static [u8]) -> FaultText<'a>
 fn numbered<'a>(name: &'static [u8], number: u64) -> FaultText<'a>
     ensures { whole_text result ≡ counted name.now number }
 {
-    let place = Place::Numbered(number);
+    let place = FaultPlace::Numbered(number);
     FaultText { name, place }
 }
 
 fn named<'a>(name: &'static [u8], bytes: &'a [u8]) -> FaultText<'a>
     ensures { whole_text result ≡ name.now ++ bytes.now }
 {
-    let place = Place::Named(bytes);
+    let place = FaultPlace::Named(bytes);
     FaultText { name, place }
 }
 
@@ -108,10 +108,10 @@ pub(crate) fn write_fault(error: &EngineError, text: &mut Vec<u8>) -> Result<(),
     let fault = engine_fault(error);
     text.extend_from_slice(fault.name)?;
     match fault.place {
-        Place::Nowhere => Ok(()),
-        Place::Numbered(number) => {
+        FaultPlace::Nowhere => Ok(()),
+        FaultPlace::Numbered(number) => {
             text.extend_from_slice(Buffer::new().format(number).as_bytes())
         }
-        Place::Named(bytes) => text.extend_from_slice(bytes),
+        FaultPlace::Named(bytes) => text.extend_from_slice(bytes),
     }
 }

@@ -11,7 +11,7 @@ ghost use Rattle.ks_requests.specs.Faults.{place_text, whole_text};
 ghost use Rattle.ks_requests.specs.JsonLines.{json_answer, json_cause, json_causes, json_explanation, json_first, json_byte, json_items, json_string, json_name, json_beginning, json_refused, verdict_word};
 ghost use Rattle.ks_requests.specs.Statuses.{code_of, explanation_status, status_unless_refused};
 
-use crate::faults::{FaultText, Place, engine_fault};
+use crate::faults::{FaultText, FaultPlace, engine_fault};
 use crate::replies::verdict_status;
 use crate::status::Status;
 use itoa::Buffer;
@@ -190,14 +190,14 @@ fn write_explanation(
 }
 
 /// What stands after the name of a refusal.
-fn write_place(place: &Place<'_>, text: &mut Vec<u8>) -> Result<(), AllocError>
+fn write_place(place: &FaultPlace<'_>, text: &mut Vec<u8>) -> Result<(), AllocError>
     ensures written { OnOk result (text.new.items ≡ text.old.items ++ flat_map json_byte (place_text place.now)) }
     ensures kept { Keeps text.old.items text.new.items }
 {
     match place {
-        Place::Nowhere => Ok(()),
-        Place::Numbered(number) => write_bytes(Buffer::new().format(*number).as_bytes(), text),
-        Place::Named(bytes) => write_bytes(bytes, text),
+        FaultPlace::Nowhere => Ok(()),
+        FaultPlace::Numbered(number) => write_bytes(Buffer::new().format(*number).as_bytes(), text),
+        FaultPlace::Named(bytes) => write_bytes(bytes, text),
     }
 }
 

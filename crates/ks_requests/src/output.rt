@@ -9,7 +9,7 @@ ghost use Rattle.ks_requests.specs.Sites.{IsSiteLine, shown, site_line};
 ghost use Rattle.ks_requests.specs.Replies.{count_line};
 ghost use Rattle.ks_requests.specs.Views.{seen_site};
 
-use crate::faults::{Place, refusal_fault};
+use crate::faults::{FaultPlace, refusal_fault};
 use crate::inputs::borrowed;
 use crate::refusal::Refusal;
 use crate::sites::{Part, Site, excerpt_at};
@@ -36,11 +36,11 @@ fn print_complaint<E: Write>(err: &mut Stream<E>, refusal: &Refusal) -> bool
 {
     let fault = refusal_fault(refusal);
     match fault.place {
-        Place::Nowhere => print_fault_line(err, fault.name, b""),
-        Place::Numbered(number) => {
+        FaultPlace::Nowhere => print_fault_line(err, fault.name, b""),
+        FaultPlace::Numbered(number) => {
             print_fault_line(err, fault.name, Buffer::new().format(number).as_bytes())
         }
-        Place::Named(bytes) => print_fault_line(err, fault.name, bytes),
+        FaultPlace::Named(bytes) => print_fault_line(err, fault.name, bytes),
     }
 }
 

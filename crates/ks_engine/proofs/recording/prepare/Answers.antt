@@ -1,4 +1,4 @@
-use Rattle.ks_engine.proofs.Prelude.{vec_items, ◌≡◌, ℕ, List, Option, Some, None, true, false, nat_lt, length, sym, subst, ◌∙◌, ap, Ok, Err, err_from_is_err_and, max_bytes, NamesBySource, prerequisites_without, found_of, names_by, picked, content, TooLarge, there, pairs_of, AreSources, IsMemoOf, Result, RecordPlan, EngineError, drafted, record_plan_under}
+use Rattle.ks_engine.proofs.Prelude.{vec_items, ◌≡◌, ℕ, List, Option, Some, None, true, false, nat_lt, length, sym, subst, ◌∙◌, ap, Ok, Err, err_from_is_err_and, max_bytes, NamesBySource, prerequisites_without, found_of, names_by, picked, content, TooLarge, there, pairs_of, AreScanned, IsMemoOf, Result, RecordPlan, EngineError, drafted, record_plan_under}
 use Rattle.std.specs.Prelude.{if◌then◌else◌}
 use Rattle.ks_fixdep.specs.FoundNames.{names_of}
 use Rattle.ks_engine.proofs.Reading.{ok_ok, err_ok}
@@ -36,7 +36,7 @@ module _ (g : given.Over) (c : After-make_draft g) (honest : g.T.Tree.is_honest)
       record {
         generation = m.generation;
         stamps = m.stamps;
-        sources = subst (λ s. AreSources c.scan_all_by.new.memo.rules (g.T.Tree.files c.scan_all_by.new.tree) (found_of s) (pairs_of vec_items c.scan_all_by.new.memo.sources.entries))
+        sources = subst (λ s. AreScanned c.scan_all_by.new.memo.rules (g.T.Tree.files c.scan_all_by.new.tree) (found_of s) (pairs_of vec_items c.scan_all_by.new.memo.sources.entries))
             (sym c.make_draft.ensures.scan) m.sources;
       }
 

@@ -1,6 +1,6 @@
 use Rattle.ks_output.proofs.Prelude.{sym, ap, seen_remark}
 use Rattle.ks_output.proofs.LastRemark.{with_number, with_number-others}
-use Rattle.ks_output.proofs.PlaceSteps.{counts_all, counts_on, counted}
+use Rattle.ks_output.proofs.PositionSteps.{counts_all, counts_on, counted}
 use Rattle.ks_output.proofs.auto_conf.read_auto_generation.Goals as goal
 
 pub loop-remark-init : goal.loop-remark-init

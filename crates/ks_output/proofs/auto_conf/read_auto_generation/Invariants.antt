@@ -1,5 +1,5 @@
 use Rattle.ks_output.proofs.Prelude.{length, said_left}
-use Rattle.ks_output.proofs.PlaceSteps.{Counts}
+use Rattle.ks_output.proofs.PositionSteps.{Counts}
 use Rattle.ks_output.proofs.auto_conf.read_auto_generation.Given as goal
 
 abbrev pub invariant-loop-remark : goal.invariant-loop-remark

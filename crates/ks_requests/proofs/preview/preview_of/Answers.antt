@@ -1,4 +1,4 @@
-use Rattle.ks_requests.proofs.Prelude.{◌≡◌, ◌+◌, ◌++◌, ℕ, List, option_map, ap, sym, subst, ◌∙◌, err_from_is_err_and, Texts, auto_text, AreChanged, PlansOver, Reports, old_of, sources_of, old_generation, touch_lines}
+use Rattle.ks_requests.proofs.Prelude.{◌≡◌, ◌+◌, ◌++◌, ℕ, List, option_map, ap, sym, subst, ◌∙◌, err_from_is_err_and, Texts, auto_text, AreLegalChanges, PlansOver, Reports, old_of, sources_of, old_generation, touch_lines}
 use Rattle.std.specs.Borrow.{Bor}
 use Rattle.ks_requests.proofs.Refusing.{texts_refused, auto_refused, preview_refusal-old, preview_refusal-full, full_refusal-full, full_refusal-below}
 use Rattle.ks_requests.proofs.preview.preview_of.Goals as goal
@@ -44,7 +44,7 @@ returns-clause-text c =
       sources = s;
       names = names;
       are_sources = c.in_ok-sources.ensures.read;
-      changed = subst (λ (texts : Texts). AreChanged texts s.config names) c.in_ok-before.ensures.texts planned.changed;
+      changed = subst (λ (texts : Texts). AreLegalChanges texts s.config names) c.in_ok-before.ensures.texts planned.changed;
       whole = c.in_ok-preview_text.ensures ∙ ap (λ (g : ℕ). touch_lines names ++ auto_text s.title s.config g)
           (planned.generation ∙ ap (λ n. n + 1) c.in_ok-before.ensures.generation);
     }

@@ -1,4 +1,4 @@
-use Rattle.ks_engine.proofs.Prelude.{List, ℕ, ap, sym, subst, vec_items, ◌∙◌, found_of, pairs_of, with_pair, IsKept, AreSources}
+use Rattle.ks_engine.proofs.Prelude.{List, ℕ, ap, sym, subst, vec_items, ◌∙◌, found_of, pairs_of, with_pair, IsKept, AreScanned}
 use Rattle.ks_engine.proofs.Keeping.{kept_added, pairs-insert}
 use Rattle.ks_engine.proofs.memos.Memo.keep_source.Goals as goal
 
@@ -6,7 +6,7 @@ pub returns-in_err-insert-clause-memo : goal.returns-in_err-insert-clause-memo
 returns-in_err-insert-clause-memo c = λ files is kept. record {
   generation = is.generation;
   stamps = is.stamps;
-  sources = subst (AreSources c.args.self.now.rules files (found_of c.args.self.now.found.scan)) (sym (ap (pairs_of vec_items) c.in_err-insert.ensures.err)) is.sources;
+  sources = subst (AreScanned c.args.self.now.rules files (found_of c.args.self.now.found.scan)) (sym (ap (pairs_of vec_items) c.in_err-insert.ensures.err)) is.sources;
 }
 
 pub returns-clause-memo : goal.returns-clause-memo
@@ -18,6 +18,6 @@ returns-clause-memo c = λ files is kept.
     record {
       generation = is.generation;
       stamps = is.stamps;
-      sources = subst (AreSources c.args.self.now.rules files found) (sym added)
+      sources = subst (AreScanned c.args.self.now.rules files found) (sym added)
           (kept_added (IsKept c.args.self.now.rules files found) c.args.path.now c.args.place (pairs_of vec_items c.args.self.now.sources.entries) is.sources kept);
     }

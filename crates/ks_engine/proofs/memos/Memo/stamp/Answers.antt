@@ -1,4 +1,4 @@
-use Rattle.ks_engine.proofs.Prelude.{string_bytes, vec_items, sym, ◌∙◌, ap, subst, found_of, content, auto_path, stamp_path, HasNumber, last_generation, pairs_of, IsStamp, AreStamps, AreSources}
+use Rattle.ks_engine.proofs.Prelude.{string_bytes, vec_items, sym, ◌∙◌, ap, subst, found_of, content, auto_path, stamp_path, HasNumber, last_generation, pairs_of, IsStamp, AreStamps, AreScanned}
 use Rattle.ks_engine.proofs.Keeping.{kept_found, kept_added, value-pairs}
 use Rattle.ks_engine.proofs.memos.Memo.stamp.Goals as goal
 
@@ -26,7 +26,7 @@ returns-clause-memo g c = λ honest.
       generation = λ k is. ap (λ f. last_generation (content f auto_path)) same ∙ old.generation k is;
       stamps = subst (AreStamps new) (sym c.in_ok-keep_stamp.ensures.added)
           (kept_added (IsStamp new) text c.in_ok-number.number pairs (subst (λ f. AreStamps f pairs) (sym same) old.stamps) has);
-      sources = subst (λ f. AreSources c.args.self.now.rules f (found_of c.args.self.now.found.scan) (pairs_of vec_items c.args.self.now.sources.entries)) (sym same) old.sources;
+      sources = subst (λ f. AreScanned c.args.self.now.rules f (found_of c.args.self.now.found.scan) (pairs_of vec_items c.args.self.now.sources.entries)) (sym same) old.sources;
     }
 
 pub returns-in_err-keep_stamp-clause-memo : goal.returns-in_err-keep_stamp-clause-memo
@@ -37,5 +37,5 @@ returns-in_err-keep_stamp-clause-memo g c = λ honest.
     record {
       generation = λ k is. ap (λ f. last_generation (content f auto_path)) same ∙ old.generation k is;
       stamps = subst (AreStamps new) (sym (ap (pairs_of string_bytes) c.in_err-keep_stamp.ensures.kept)) (subst (λ f. AreStamps f (pairs_of string_bytes c.args.self.now.stamps.entries)) (sym same) old.stamps);
-      sources = subst (λ f. AreSources c.args.self.now.rules f (found_of c.args.self.now.found.scan) (pairs_of vec_items c.args.self.now.sources.entries)) (sym same) old.sources;
+      sources = subst (λ f. AreScanned c.args.self.now.rules f (found_of c.args.self.now.found.scan) (pairs_of vec_items c.args.self.now.sources.entries)) (sym same) old.sources;
     }

@@ -1,7 +1,7 @@
 use Rattle.ks_output.proofs.Prelude.{◌≡◌, ap, refl, ◌∙◌, remark, remarks, Front, fault_left}
 use Rattle.std.proofs.Common.{map as map_list}
 use Rattle.ks_output.proofs.LastRemark.{too_large}
-use Rattle.ks_output.proofs.PlaceSteps.{fault_left-start}
+use Rattle.ks_output.proofs.PositionSteps.{fault_left-start}
 use Rattle.ks_output.proofs.auto_conf.Lines.of.Goals as goal
 
 pub returns-then-text-gt-MAX_BYTES-clause-begins : goal.returns-then-text-gt-MAX_BYTES-clause-begins

@@ -7,56 +7,56 @@ use Rattle.ks_output.specs.AutoConf.{is_typed, heard, first_faulty, auto_fault, 
 use Rattle.ks_output.specs.declared.auto_conf.AutoError.{AutoError}
 use Rattle.ks_output.specs.declared.auto_conf.Lines.{Lines}
 use Rattle.ks_output.specs.declared.auto_lines.Remark as auto_lines
-use Rattle.ks_output.specs.declared.places.Place as places
-use Rattle.ks_output.specs.declared.places.Place.TheVariants as seen
+use Rattle.ks_output.specs.declared.positions.Position as positions
+use Rattle.ks_output.specs.declared.positions.Position.TheVariants as seen
 
-pub data Place : Type 0 where
+pub data Position : Type 0 where
   -- before the mark and the first entry
-  Front : Place
+  Front : Position
   -- after the first entry of an untyped file
-  Untyped : Place
+  Untyped : Position
   -- after the mark of a typed file
-  Typed : Place
+  Typed : Position
   -- right after the line of a name's class
-  Entry : List ℕ → Class → Place
+  Entry : List ℕ → Class → Position
 
--- a place of the code, without where its bytes lie
-abbrev pub seen_place : places.Place → Place
-seen_place seen.Front = Front
-seen_place seen.Untyped = Untyped
-seen_place seen.Typed = Typed
-seen_place (seen.Entry name k) = Entry name.now k
+-- a position of the code, without where its bytes lie
+abbrev pub seen_position : positions.Position → Position
+seen_position seen.Front = Front
+seen_position seen.Untyped = Untyped
+seen_position seen.Typed = Typed
+seen_position (seen.Entry name k) = Entry name.now k
 
 -- the class of an entry that stands there
-abbrev pub class_at : Place → Option Class
+abbrev pub class_at : Position → Option Class
 class_at Front = None
 class_at Untyped = None
 class_at Typed = Some class.Switch
 class_at (Entry name k) = Some k
 
--- the place after a line, if the line may stand there
-abbrev pub following : Place → Remark → Option Place
+-- the position after a line, if the line may stand there
+abbrev pub following : Position → Remark → Option Position
 following (Entry name k) (Gives other text) = if bytes_eq name other then Some Typed else None
 following (Entry name k) r = None
-following place Faulty = None
+following position Faulty = None
 following Typed Mistypes = None
 following Typed (Types name k) = Some (Entry name k)
 following Front Marks = Some Typed
 following Front (Gives name text) = Some Untyped
-following place r = Some place
+following position r = Some position
 
 -- whether an entry has to stand there
-abbrev pub wants_entry : Place → Bool
+abbrev pub wants_entry : Position → Bool
 wants_entry (Entry name k) = true
-wants_entry place = false
+wants_entry position = false
 
 -- the line to blame where line n can't stand there: itself, or that of the class right before it
-abbrev pub blamed : Place → ℕ → ℕ
+abbrev pub blamed : Position → ℕ → ℕ
 blamed (Entry name k) n = n - 1
-blamed place n = n
+blamed position n = n
 
 -- the first faulty line, where the lines that are left are counted from n on
-unfoldable pub fault_left : Place → ℕ → List Remark → Option ℕ
+unfoldable pub fault_left : Position → ℕ → List Remark → Option ℕ
 fault_left Front n said = first_faulty n (heard (is_typed said) said)
 fault_left Untyped n said = first_faulty n (heard false said)
 fault_left Typed n said = first_faulty n said
@@ -69,16 +69,16 @@ said_left l = map_list remark l.left
 -- The lines are those of a text that are left: their first fault is the text's.
 pub record AreLeftOf (text : List ℕ) (l : Lines) : Type 0 where
   pub small : length text ≤ 67108864
-  pub fault : fault_left (seen_place l.place) l.number (said_left l) ≡ auto_fault text
+  pub fault : fault_left (seen_position l.position) l.number (said_left l) ≡ auto_fault text
 
 -- all lines of a text, or that it is too large
 abbrev pub BeginsAs : List ℕ → Result Lines AutoError → Type 0
-BeginsAs text (Ok l) = AreLeftOf text l × (seen_place l.place ≡ Front) × (said_left l ≡ remarks text)
+BeginsAs text (Ok l) = AreLeftOf text l × (seen_position l.position ≡ Front) × (said_left l ≡ remarks text)
 BeginsAs text (Err e) = auto_refusal text ≡ Some e
 
 -- one line further on; at the end the text has no fault
 abbrev pub Judged : List ℕ → Lines → Result (Option (auto_lines.Remark × Option Class)) AutoError → Lines → Type 0
 Judged text old (Ok None) new = (said_left old ≡ []) × (auto_refusal text ≡ None)
 Judged text old (Ok (Some x)) new = AreLeftOf text new × (said_left old ≡ seen_remark x.0 ∷ said_left new)
-    × (Some (seen_place new.place) ≡ following (seen_place old.place) (seen_remark x.0)) × (x.1 ≡ class_at (seen_place old.place))
+    × (Some (seen_position new.position) ≡ following (seen_position old.position) (seen_remark x.0)) × (x.1 ≡ class_at (seen_position old.position))
 Judged text old (Err e) new = auto_refusal text ≡ Some e

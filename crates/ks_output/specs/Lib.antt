@@ -8,4 +8,4 @@ pub mod Laws
 pub mod HeaderLaws
 pub mod Examples
 pub mod Appending
-pub mod Places
+pub mod Positions

@@ -201,21 +201,6 @@ where
         Ok(Some(CowStr::Owned(format!(in alloc; "{root}/{path}")?)))
     }
 
-    /// The open file at a path, or `None` where there is none.
-    fn open(&mut self, alloc: Global, path: &[u8]) -> Result<Option<R::File>, TreeFault>
-        ensures later { self.old.failures ≤ self.new.failures }
-        ensures cause { IsErrOf result TreeFault.Device → HasRisen self.old.failures self.new.failures }
-        ensures passed { OnOk result (self.new.failures ≡ self.old.failures) }
-        ensures uncounted { IsErrOf result TreeFault.OutOfMemory → self.new.failures ≡ self.old.failures }
-        ensures never { IsErrOf result TreeFault.TooLarge → ⊥ }
-    {
-        let Some(place) = self.place(alloc, path)? else {
-            return Err(self.device());
-        };
-        let outcome = fs::open(&self.files, place.as_str());
-        self.found(alloc, path, outcome)
-    }
-
     /// Forgets what was read before a file changes.
     fn forget_readings(&mut self)
         ensures kept { self.new.kept ≡ None }
@@ -250,7 +235,11 @@ where
             }
             earlier = Some(kept);
         }
-        let Some(file) = self.open(alloc, path)? else {
+        let Some(place) = self.place(alloc, path)? else {
+            return Err(self.device());
+        };
+        let outcome = fs::open(&self.files, place.as_str());
+        let Some(file) = self.found(alloc, path, outcome)? else {
             return Ok(None);
         };
         Ok(Some(KeptFile::open(alloc, earlier, path, file)?))

@@ -2,35 +2,17 @@
 //!
 //! The words are looked at first, then the dependency file is read, then each prerequisite in order. Sources are
 //! read in pieces, none of them whole.
-ghost use Rattle.std.specs.Prelude.{◌≡◌, IsErrOf, IsTrue, OnOk};
-ghost use Rattle.ks_symbols.specs.Names.{is_target};
-ghost use Rattle.ks_fixdep.specs.CommandFile.{is_command};
+ghost use Rattle.std.specs.Prelude.{IsErrOf};
 ghost use Rattle.ks_tree.specs.Frames.{Reads};
-ghost use Rattle.ks_engine.specs.Recording.{words};
 ghost use Rattle.ks_engine.specs.Refusals.{Answers};
 ghost use Rattle.ks_commands.specs.Fixdep.{command_file_at};
 
-use ks_engine::{EngineError, scan_all};
-use ks_fixdep::{Header, Rules, Seed, command_is_legal, read_depfile_without, record_text};
+use ks_engine::{EngineError, check_words, scan_all};
+use ks_fixdep::{Header, Rules, Seed, read_depfile_without, record_text};
 use ks_requests::read_given;
-use ks_symbols::{Dialect, path_is_legal, target_is_legal};
+use ks_symbols::Dialect;
 use ks_tree::Tree;
 use std::alloc::Global;
-
-/// Refuses words that no command file can hold.
-fn check_words(depfile: &[u8], target: &[u8], command: &[u8]) -> Result<(), EngineError>
-    ensures words { result ≡ words depfile.now target.now command.now }
-    ensures target { OnOk result (IsTrue (is_target target.now)) }
-    ensures command { OnOk result (IsTrue (is_command command.now)) }
-{
-    if !path_is_legal(depfile) || !target_is_legal(target) {
-        return Err(EngineError::BadPath(0));
-    }
-    if !command_is_legal(command) {
-        return Err(EngineError::BadCommand);
-    }
-    Ok(())
-}
 
 /// The text of a target's command file, without a generation.
 #[tactic(auto, unfolding(crate::specs::Fixdep::command_file_at))]

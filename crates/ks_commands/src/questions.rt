@@ -2,14 +2,13 @@
 //! built by a command.
 //!
 //! A refused question is a line of the output, and the questions after it are still answered.
-ghost use Rattle.std.specs.Prelude.{◌≡◌, ◌⊎◌, ◌++◌, ℕ, List, [], ◌∷◌, Err, IfErr, IfOk, IsErrOf, OnOk, length, map, option_map};
+ghost use Rattle.std.specs.Prelude.{◌≡◌, ◌⊎◌, ◌≤◌, ◌++◌, ℕ, List, [], ◌∷◌, Err, IfErr, IfOk, IsErrOf, OnOk, length, map, option_map};
 ghost use Rattle.ks_symbols.specs.Dialects.{read_in};
 ghost use Rattle.ks_tree.specs.Files.{HasRisen};
 ghost use Rattle.ks_tree.specs.Frames.{Reads};
 ghost use Rattle.ks_engine.specs.Impact.{IsAnswerAfter};
 ghost use Rattle.ks_engine.specs.FileRuns.{state};
-ghost use Rattle.ks_engine.specs.Memos.{IsMemoOf};
-ghost use Rattle.ks_engine.specs.Questions.{limit_of};
+ghost use Rattle.ks_engine.specs.Questions.{IsAnswerTo, limit_of};
 ghost use Rattle.ks_engine.specs.Refusals.{IsGivenUp};
 ghost use Rattle.ks_engine.specs.declared.error.EngineError.TheVariants.{Device};
 ghost use Rattle.ks_engine.specs.declared.question.Limit.TheVariants.{First};
@@ -106,25 +105,24 @@ fn write_in(
     }
 }
 
-/// Asks of an object, and writes what is told of it.
-fn ask_one<T: Tree>(
+/// Writes what is told of an object by its answer.
+fn tell_one<T: Tree>(
     alloc: Global,
     tree: &mut T,
-    memo: &mut Memo,
     question: Question<'_>,
     form: Form,
     target: &[u8],
+    answer: Result<Explanation, EngineError>,
     text: &mut Vec<u8>,
 ) -> Result<Status, AllocError>
-    requires memo { T.is_honest → IsMemoOf (T.files tree.old) memo.old }
-    ensures memo { T.is_honest → IsMemoOf (T.files tree.new) memo.new }
     ensures reads { Reads T.Tree tree.old tree.new ⊥ }
-    ensures told { T.is_honest → IfOk result (λ status. (lines : List ℕ) × (text.new.items ≡ text.old.items ++ lines)
+    ensures told { T.is_honest → IsAnswerTo question.entry (T.files tree.old) target.now answer
+        → IfOk result (λ status. (lines : List ℕ) × (text.new.items ≡ text.old.items ++ lines)
         × tells_of (T.files tree.old) form question.entry target.now lines (code_of status)) }
-    ensures counted { OnOk result ((lines : List ℕ) × (text.new.items ≡ text.old.items ++ lines)
-        × LineCounted form question.entry (T.failures tree.old) target.now lines (T.failures tree.new)) }
+    ensures counted { (first : ℕ) → first ≤ T.failures tree.old → (answer ≡ Err EngineError.Device → HasRisen first (T.failures tree.old))
+        → OnOk result ((lines : List ℕ) × (text.new.items ≡ text.old.items ++ lines)
+        × LineCounted form question.entry first target.now lines (T.failures tree.new)) }
 {
-    let answer = ask(alloc, tree, memo, question, target);
     let told = with_spelling(alloc, tree, question, form, target, answer);
     let status = write_in(form, question, target, &told.answer, text)?;
     write_spelling(&told.spelling, text)?;
@@ -161,7 +159,8 @@ fn ask_all<T: Tree>(
     let mut status = Status::Done;
     let mut stale = 0;
     for target in targets {
-        let answered = ask_one(alloc, tree, &mut memo, question, form, *target, &mut text)?;
+        let answer = ask(alloc, tree, &mut memo, question, *target);
+        let answered = tell_one(alloc, tree, question, form, *target, answer, &mut text)?;
         status = worse(status, answered);
         stale += stale_of(answered);
     }

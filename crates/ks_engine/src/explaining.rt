@@ -112,7 +112,7 @@ fn find_causes<T: Tree>(
         match dep {
             BorrowedDep::File(path) => place = path,
             BorrowedDep::Config(name) => {
-                let number = question.number(alloc, tree, memo, name.as_bytes())?;
+                let number = memo.stamp(alloc, tree, question, name.as_bytes())?;
                 if generation < number {
                     let cause = copy_cause(alloc, name, number, place)?;
                     causes.push(cause)?;

@@ -34,7 +34,7 @@ pub use laws::{
 pub use memos::Memo;
 pub use planning::{Planned, Sources, plan, plan_sync, read_sources};
 pub use question::{Limit, Question};
-pub use recording::{Recorded, record_object};
+pub use recording::{Recorded, check_words, record_object};
 pub use sources::scan_all;
 pub use staleness::{BuildState, Verdict, outdated, stale};
 pub use stamped::sync_stamped;

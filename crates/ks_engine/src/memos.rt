@@ -11,10 +11,12 @@ ghost use Rattle.ks_tree.specs.Stamps.{HasNumber, IsStampRefusal};
 ghost use Rattle.ks_engine.specs.Refusals.{Answers, IsGivenUp};
 ghost use Rattle.ks_engine.specs.Recording.{scanned};
 ghost use Rattle.ks_engine.specs.LastSync.{last_generation};
+ghost use Rattle.ks_engine.specs.Questions.{IsSeen};
 ghost use Rattle.ks_engine.specs.Memos.{pairs_of, value_of, with_pair, Grows, IsKept, IsMemoOf, IsNoSource};
 
 use crate::EngineError;
 use crate::last_sync::read_generation;
+use crate::question::Question;
 use crate::sources::scan_file;
 use indexmap::IndexMap;
 use ks_fixdep::{NamesBySource, Rules, Seed, name_text};
@@ -77,19 +79,17 @@ impl Memo {
     pub fn with_seed(alloc: Global, seed: Seed) -> Memo
         ensures { (files : Files) → IsMemoOf files result }
     {
-        Memo {
-            generation: None,
-            stamps: IndexMap::with_hasher(alloc, seed),
-            sources: IndexMap::with_hasher(alloc, seed),
-            rules: Rules::Linux,
-            found: NamesBySource::with_seed(alloc, seed),
-            next: 0,
-            keeps_sources: true,
-        }
+        Memo::empty(alloc, seed, true)
     }
 
     /// Nothing was read yet, and no source will be kept: of a single object each is read once anyway.
     pub(crate) fn of_one_object(alloc: Global, seed: Seed) -> Memo
+        ensures { (files : Files) → IsMemoOf files result }
+    {
+        Memo::empty(alloc, seed, false)
+    }
+
+    fn empty(alloc: Global, seed: Seed, keeps_sources: bool) -> Memo
         ensures { (files : Files) → IsMemoOf files result }
     {
         Memo {
@@ -99,7 +99,7 @@ impl Memo {
             rules: Rules::Linux,
             found: NamesBySource::with_seed(alloc, seed),
             next: 0,
-            keeps_sources: false,
+            keeps_sources,
         }
     }
 
@@ -144,20 +144,26 @@ impl Memo {
         Ok(generation)
     }
 
-    /// The number of a name's stamp, which is read once.
+    /// The number of a name's stamp, as a question sees it. What the tree has is read once.
     pub(crate) fn stamp<T: Tree>(
         &mut self,
         alloc: Global,
         tree: &mut T,
+        question: Question<'_>,
         name: &[u8],
     ) -> Result<u64, TreeError>
         requires memo { T.is_honest → IsMemoOf (T.files tree.old) self.old }
         requires name { IsTrue (is_name name.now) }
         ensures reads { Reads T.Tree tree.old tree.new (IsErrOf result TreeError.Device) }
         ensures memo { T.is_honest → IsMemoOf (T.files tree.new) self.new }
-        ensures number { T.is_honest → IfOk result (λ n. HasNumber (content (T.files tree.old) (stamp_path name.now)) n) }
-        ensures refused { T.is_honest → IfErr result (IsStampRefusal name.now (content (T.files tree.old) (stamp_path name.now))) }
+        ensures number { T.is_honest → (after : Files) → IsSeen question.entry (T.files tree.old) after
+            → IfOk result (λ n. HasNumber (content after (stamp_path name.now)) n) }
+        ensures refused { T.is_honest → (after : Files) → IsSeen question.entry (T.files tree.old) after
+            → IfErr result (IsStampRefusal name.now (content after (stamp_path name.now))) }
     {
+        if let Some(number) = question.foreseen(name) {
+            return Ok(number);
+        }
         let text = name_text(name);
         if let Some(number) = self.stamps.get(text) {
             return Ok(*number);

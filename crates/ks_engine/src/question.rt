@@ -1,6 +1,6 @@
 //! What is asked of an object, and which stamps the answer goes by: those of the tree, or those that a synchronisation would leave.
 //! Nothing else differs between the questions, so the answer to one can't part from the answer to another.
-ghost use Rattle.std.specs.Prelude.{◌≡◌, IfOk, IfErr, IsErrOf, IsTrue};
+ghost use Rattle.std.specs.Prelude.{◌≡◌, IfSome, IsErrOf, IsTrue, None};
 ghost use Rattle.std.specs.Ordering.{nat_cmp};
 ghost use Rattle.std.specs.Cmp.Lexicographic.{slice_cmp};
 ghost use Rattle.std.specs.List.Sorted.{IsStrictlySortedBy};
@@ -8,7 +8,7 @@ ghost use Rattle.ks_symbols.specs.Names.{is_name, is_in};
 ghost use Rattle.ks_tree.specs.Files.{Files, content};
 ghost use Rattle.ks_tree.specs.Frames.{Reads};
 ghost use Rattle.ks_tree.specs.Paths.{auto_path, stamp_path};
-ghost use Rattle.ks_tree.specs.Stamps.{HasNumber, IsStampRefusal};
+ghost use Rattle.ks_tree.specs.Stamps.{HasNumber};
 ghost use Rattle.ks_engine.specs.Refusals.{Answers};
 ghost use Rattle.ks_engine.specs.LastSync.{last_generation};
 ghost use Rattle.ks_engine.specs.Memos.{IsMemoOf};
@@ -17,7 +17,7 @@ ghost use Rattle.ks_engine.specs.Questions.{IsSeen, limit_of};
 use crate::memos::Memo;
 use crate::{EngineError, Impact};
 use ks_symbols::Name;
-use ks_tree::{Tree, TreeError};
+use ks_tree::Tree;
 use std::alloc::Global;
 
 /// What is asked of an object.
@@ -76,28 +76,18 @@ impl Question<'_> {
         }
     }
 
-    /// The number of a name's stamp.
-    pub(crate) fn number<T: Tree>(
-        self,
-        alloc: Global,
-        tree: &mut T,
-        memo: &mut Memo,
-        name: &[u8],
-    ) -> Result<u64, TreeError>
-        requires memo { T.is_honest → IsMemoOf (T.files tree.old) memo.old }
+    /// The number that the synchronisation gives a name's stamp, if it touches the name. All other stamps are those of the tree.
+    pub(crate) fn foreseen(self, name: &[u8]) -> Option<u64>
         requires name { IsTrue (is_name name.now) }
-        ensures reads { Reads T.Tree tree.old tree.new (IsErrOf result TreeError.Device) }
-        ensures memo { T.is_honest → IsMemoOf (T.files tree.new) memo.new }
-        ensures number { T.is_honest → (after : Files) → IsSeen self.entry (T.files tree.old) after
-            → IfOk result (λ n. HasNumber (content after (stamp_path name.now)) n) }
-        ensures refused { T.is_honest → (after : Files) → IsSeen self.entry (T.files tree.old) after
-            → IfErr result (IsStampRefusal name.now (content after (stamp_path name.now))) }
+        ensures touched { IfSome result (λ n. (files after : Files) → IsSeen self.entry files after → HasNumber (content after (stamp_path name.now)) n) }
+        ensures others { result ≡ None → (files after : Files) → IsSeen self.entry files after
+            → content after (stamp_path name.now) ≡ content files (stamp_path name.now) }
     {
         match self {
             Question::After(impact) if is_among(&impact.report.touched, name) => {
-                Ok(impact.report.generation)
+                Some(impact.report.generation)
             }
-            _ => memo.stamp(alloc, tree, name),
+            _ => None,
         }
     }
 }

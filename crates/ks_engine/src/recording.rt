@@ -48,9 +48,9 @@ pub(crate) struct Prepared {
     pub(crate) prerequisites: Prerequisites,
 }
 
-fn check_words(depfile: &[u8], target: &[u8], command: &[u8]) -> Result<(), EngineError>
-    ensures no_device { IsErrOf result EngineError.Device → ⊥ }
-    ensures words { Answers (words depfile.now target.now command.now) (λ _. tt) result }
+/// Refuses words that no command file can hold. The paths are looked at before the command.
+pub fn check_words(depfile: &[u8], target: &[u8], command: &[u8]) -> Result<(), EngineError>
+    ensures words { result ≡ words depfile.now target.now command.now }
     ensures depfile { OnOk result (IsTrue (is_path depfile.now)) }
     ensures target { OnOk result (IsTrue (is_target target.now)) }
     ensures command { OnOk result (IsTrue (is_command command.now)) }

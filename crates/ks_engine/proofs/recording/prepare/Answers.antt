@@ -23,7 +23,7 @@ module _ (g : given.Over) (c : After-make_draft g) (honest : g.T.Tree.is_honest)
       let ps = c.in_ok-prerequisites.prerequisites in
       let d = c.deref.result.now in
       at_drafted c.args.conventions files c.args.depfile.now c.args.target.now c.args.command.now d ps c.in_ok-generation.generation
-      (names_by c.scan_all_by.new.memo.found) r c.in_ok-check_words.ensures.words
+      (names_by c.scan_all_by.new.memo.found) r (sym c.in_ok-check_words.ensures.words)
       (c.in_ok-text.ensures.bytes honest ∙ ap (λ b. Ok b) (sym c.deref.ensures.value))
       (listed_but c.args.conventions.header d ps c.in_ok-prerequisites.ensures.refusal c.in_ok-prerequisites.ensures.value)
       (synced_there files _ _ same (c.in_ok-generation.ensures.read honest))
@@ -44,19 +44,19 @@ pub returns-in_err-check_words-clause-refused : goal.returns-in_err-check_words-
 returns-in_err-check_words-clause-refused g c = λ honest.
     let p = err_from_is_err_and c.from_residual.result c.from_residual.ensures.1 in
     rw (p.1, p.2) (or_given (at_words c.args.conventions (g.T.Tree.files c.args.tree.now) c.args.depfile.now c.args.target.now c.args.command.now _)
-    c.in_err-check_words.ensures.words)
+    (inr (sym c.in_err-check_words.ensures.words)))
 
 pub returns-in_err-text-clause-refused : goal.returns-in_err-text-clause-refused
 returns-in_err-text-clause-refused g c = λ honest.
     let p = err_from_is_err_and c.from_residual-in_err-text.result c.from_residual-in_err-text.ensures.1 in
     rw (p.1, p.2) (or_given (at_depfile c.args.conventions (g.T.Tree.files c.args.tree.now) c.args.depfile.now c.args.target.now c.args.command.now _
-    c.in_ok-check_words.ensures.words) (c.in_err-text.ensures.bytes honest))
+    (sym c.in_ok-check_words.ensures.words)) (c.in_err-text.ensures.bytes honest))
 
 pub returns-in_err-prerequisites-clause-refused : goal.returns-in_err-prerequisites-clause-refused
 returns-in_err-prerequisites-clause-refused g c = λ honest.
     let p = err_from_is_err_and c.from_residual-in_err-prerequisites.result c.from_residual-in_err-prerequisites.ensures.1 in
     rw (p.1, p.2) (or_given (at_listed c.args.conventions (g.T.Tree.files c.args.tree.now) c.args.depfile.now c.args.target.now c.args.command.now c.deref.result.now _
-    c.in_ok-check_words.ensures.words
+    (sym c.in_ok-check_words.ensures.words)
     (c.in_ok-text.ensures.bytes honest ∙ ap (λ b. Ok b) (sym c.deref.ensures.value)))
     (refused_without c.args.conventions.header c.in_err-prerequisites.field-0.0 c.deref.result.now c.in_err-prerequisites.ensures.refusal))
 
@@ -65,7 +65,7 @@ returns-in_err-generation-clause-refused g c = λ honest.
     let p = err_from_is_err_and c.from_residual-in_err-generation.result c.from_residual-in_err-generation.ensures.1 in
     let files = g.T.Tree.files c.args.tree.now in
     rw (p.1, p.2) (or_given (λ said. at_synced c.args.conventions files c.args.depfile.now c.args.target.now c.args.command.now c.deref.result.now
-    c.in_ok-prerequisites.prerequisites _ c.in_ok-check_words.ensures.words
+    c.in_ok-prerequisites.prerequisites _ (sym c.in_ok-check_words.ensures.words)
     (c.in_ok-text.ensures.bytes honest ∙ ap (λ b. Ok b) (sym c.deref.ensures.value))
     (listed_but c.args.conventions.header c.deref.result.now c.in_ok-prerequisites.prerequisites c.in_ok-prerequisites.ensures.refusal c.in_ok-prerequisites.ensures.value)
     (synced_there files _ _ (c.in_ok-text.ensures.reads.unchanged honest) said)) (c.in_err-generation.ensures.read honest))
@@ -77,7 +77,7 @@ returns-in_err-scan_all_by-clause-refused g c = λ honest.
     let same = c.in_ok-text.ensures.reads.unchanged honest in
     let same_later = c.in_ok-generation.ensures.reads.unchanged honest ∙ same in
     rw (p.1, p.2) (or_given (λ said. at_scanned c.args.conventions files c.args.depfile.now c.args.target.now c.args.command.now c.deref.result.now
-    c.in_ok-prerequisites.prerequisites c.in_ok-generation.generation _ c.in_ok-check_words.ensures.words
+    c.in_ok-prerequisites.prerequisites c.in_ok-generation.generation _ (sym c.in_ok-check_words.ensures.words)
     (c.in_ok-text.ensures.bytes honest ∙ ap (λ b. Ok b) (sym c.deref.ensures.value))
     (listed_but c.args.conventions.header c.deref.result.now c.in_ok-prerequisites.prerequisites c.in_ok-prerequisites.ensures.refusal c.in_ok-prerequisites.ensures.value)
     (synced_there files _ _ same (c.in_ok-generation.ensures.read honest)) (scanned_there _ _ files _ c.in_ok-prerequisites.prerequisites _ (c.scan_by.ensures.rules ∙ c.for_target.ensures) same_later said))

@@ -56,7 +56,7 @@ pub use Rattle.ks_fixdep.specs.NameIter.{names_left}
 pub use Rattle.ks_fixdep.specs.Pieces.{BorrowedInTurn, is_followed, joined}
 pub use Rattle.ks_fixdep.specs.PlaceSet.{ArePointedAt, with_place}
 pub use Rattle.ks_fixdep.specs.Places.{IsRun, IsTaken, ListsTaken}
-pub use Rattle.ks_fixdep.specs.Progress.{Stands}
+pub use Rattle.ks_fixdep.specs.Progress.{Stands, after_target}
 pub use Rattle.ks_fixdep.specs.Record.{config_names, deps_after, new_names, own_line, record_of, record_text, source_of}
 pub use Rattle.ks_fixdep.specs.Rule.{FirstTokensAreTokens, RulesReadBack, continued, is_token, stamp_of}
 pub use Rattle.ks_fixdep.specs.Scan.{NameAt, bare_name, begun, byte_before, placed, prefix, taken}

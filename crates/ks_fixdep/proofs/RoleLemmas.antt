@@ -1,6 +1,7 @@
 -- One more token.
-use Rattle.ks_fixdep.proofs.Prelude.{◌≡◌, inl, inr, ℕ, suc, ◌+◌, ◌-◌, Bool, true, false, List, [], ◌∷◌, ◌++◌, length, drop, refl, sym, ap, ◌∙◌, arith, append_assoc, append-nil, reverse, ⊎_elim, length-append, map, Bor, Option, Some, None, Result, Ok, Err, subst, get_or, take, ◌<◌, ◌≤◌, drop-cons, take-append-drop, reverse-append, drop_all, drop-append-le, map-append, cond-true, cond-false, cases_Bool, and_from, list_all, bytes_eq, if◌then◌else◌, not, ◌||◌, ◌&&◌, list_any-append, list_all-append, after_last, list_any, suffix_len, prefix_len, Header, Role, is_path, or_else, IsRefusal, RefusedBy, is_header, is_kept, is_target_token, role_after, with_roles, fault_after, first_fault, token_refusal, added, tokens, is_separator, is_some_token, DepError, IsErr, IsErrAnd, slice_split, length-filter, count_by-le-length, length-slice_split}
+use Rattle.ks_fixdep.proofs.Prelude.{◌≡◌, inl, inr, ℕ, suc, ◌+◌, ◌-◌, Bool, true, false, List, [], ◌∷◌, ◌++◌, length, drop, refl, sym, ap, ap₂, ◌∙◌, arith, append_assoc, append-nil, reverse, ⊎_elim, length-append, map, Bor, Option, Some, None, Result, Ok, Err, subst, get_or, take, ◌<◌, ◌≤◌, drop-cons, take-append-drop, reverse-append, drop_all, drop-append-le, map-append, cond-true, cond-false, cases_Bool, and_from, list_all, bytes_eq, if◌then◌else◌, not, ◌||◌, ◌&&◌, list_any-append, list_all-append, after_last, list_any, suffix_len, prefix_len, Header, Role, is_path, or_else, IsRefusal, RefusedBy, is_header, is_kept, is_target_token, role_after, after_target, with_roles, fault_after, first_fault, token_refusal, added, tokens, is_separator, is_some_token, DepError, IsErr, IsErrAnd, slice_split, length-filter, count_by-le-length, length-slice_split}
 use Rattle.ks_fixdep.specs.declared.dep_error.DepError.TheVariants as errors
+use Rattle.ks_fixdep.specs.declared.dependency_file.Role.TheVariants as role
 
 -- the entry of one more token, if it is kept
 abbrev pub entry_of : Header → List (List ℕ) → List ℕ → List (List ℕ × Role)
@@ -81,12 +82,47 @@ module _ (header : Header) (seen : List (List ℕ)) (x : List ℕ) where
   pub roles-yes : is_kept header x ≡ true → with_roles header [] (seen ++ x ∷ []) ≡ with_roles header [] seen ++ (x, role_after header seen) ∷ []
   roles-yes kept = with_roles-push header [] seen x ∙ ap (λ l. with_roles header [] seen ++ l) (cond-true _ _ _ kept)
 
-pub role-same : (a b : Bool) (s l c : Role) → (if a then (if b then l else c) else s) ≡ (if not a then s else if b then l else c)
-role-same true b s l c = refl
-role-same false b s l c = refl
-
 pub not-kept-target : (header : Header) → (x : List ℕ) → is_target_token x ≡ true → is_kept header x ≡ false
 not-kept-target header x target = ap (λ t. not t && not (is_header header x)) target
+
+-- the role after the tokens, by whether one is kept and whether one is kept since the last target
+abbrev role_when : Bool → Bool → Role
+role_when some since = if not some then role.Source else if since then role.Listed else role.Scanned
+
+role_when-target : (some since : Bool) → after_target (role_when some since) ≡ role_when some false
+role_when-target false since = refl
+role_when-target true true = refl
+role_when-target true false = refl
+
+role_when-source : (some since : Bool) → role_when some since ≡ role.Source → some ≡ false
+role_when-source false since is = refl
+role_when-source true true is = absurd cc
+role_when-source true false is = absurd cc
+
+role_when-other : (some since : Bool) → (role_when some since ≡ role.Source → ⊥) → some ≡ true
+role_when-other false since not_source = absurd (not_source refl)
+role_when-other true since not_source = refl
+
+-- the role after one more token
+module _ (header : Header) (seen : List (List ℕ)) (x : List ℕ) where
+  pub role-target : is_target_token x ≡ true → after_target (role_after header seen) ≡ role_after header (seen ++ x ∷ [])
+  role-target is =
+      role_when-target (list_any (is_kept header) seen) (list_any (is_kept header) (after_last is_target_token seen))
+      ∙ ap₂ role_when (sym (kept-no header seen x (not-kept-target header x is))) (sym (since-target header seen x is))
+
+  pub role-no : is_target_token x ≡ false → is_kept header x ≡ false → role_after header seen ≡ role_after header (seen ++ x ∷ [])
+  role-no other not_kept = ap₂ role_when (sym (kept-no header seen x not_kept)) (sym (since-no header seen x other not_kept))
+
+  pub role-yes : is_target_token x ≡ false → is_kept header x ≡ true → role.Listed ≡ role_after header (seen ++ x ∷ [])
+  role-yes other kept = ap₂ role_when (sym (kept-yes header seen x kept)) (sym (since-yes header seen x other kept))
+
+-- the next kept token is the source exactly where none is kept
+module _ (header : Header) (seen : List (List ℕ)) where
+  pub source-next : role_after header seen ≡ role.Source → list_any (is_kept header) seen ≡ false
+  source-next = role_when-source (list_any (is_kept header) seen) (list_any (is_kept header) (after_last is_target_token seen))
+
+  pub other-next : (role_after header seen ≡ role.Source → ⊥) → list_any (is_kept header) seen ≡ true
+  other-next = role_when-other (list_any (is_kept header) seen) (list_any (is_kept header) (after_last is_target_token seen))
 
 pub kept-when : (header : Header) → (x : List ℕ) (h : Bool) → is_target_token x ≡ false → is_header header x ≡ h → is_kept header x ≡ not h
 kept-when header x h other is = ap (λ t. not t && not (is_header header x)) other ∙ ap not is

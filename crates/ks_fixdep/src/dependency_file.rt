@@ -1,7 +1,7 @@
 //! Dependency files, which a compiler writes with -MD: the files that an object was made from, in one rule or
 //! several. Which file is scanned for names and which is listed for make follows from its place alone. Paths
 //! that a makefile would read as something else are refused, so that no command file says what was not meant.
-ghost use Rattle.std.specs.Prelude.{◌≡◌, ◌≤◌, ◌<◌, ◌+◌, ◌-◌, ◌^◌, ◌&&◌, ◌++◌, take, ◌∷◌, [], List, ℕ, IfOk, IfErr, IfSome, OnOk, IsTrue, None, nat_eq, length, slice_get, if◌then◌else◌};
+ghost use Rattle.std.specs.Prelude.{◌≡◌, ◌≤◌, ◌<◌, ◌+◌, ◌-◌, ◌^◌, ◌&&◌, ◌++◌, take, ◌∷◌, [], List, ℕ, IfOk, IfErr, IfSome, OnOk, IsTrue, None, nat_eq, length, slice_get};
 ghost use Rattle.std.specs.Iterator.{item_count};
 ghost use Rattle.std.specs.List.{ends_with, list_all};
 ghost use Rattle.std.specs.Map.Iter.{TakesFirst};
@@ -11,7 +11,7 @@ ghost use Rattle.ks_symbols.specs.Names.{is_path, header_path};
 ghost use Rattle.ks_symbols.specs.Refusals.{IsRefusal, RefusedBy};
 ghost use Rattle.ks_fixdep.specs.Tokens.{tokens};
 ghost use Rattle.ks_fixdep.specs.DependencyFile.{is_target_token, is_folder, ends_in_path, is_header, usual_header, added, paths_of, borrowed_pair, prerequisites, prerequisites_without, token_refusal, dependency_refusal, refusal_without};
-ghost use Rattle.ks_fixdep.specs.declared.dependency_file.Role.TheVariants as role;
+ghost use Rattle.ks_fixdep.specs.Progress.{after_target};
 
 use crate::dep_error::DepError;
 use crate::seed::{Seed, path_text};
@@ -181,14 +181,13 @@ fn names_header(header: Header<'_>, token: &[u8]) -> bool
     }
 }
 
-/// The role of the next kept token.
-fn next_role(has_kept: bool, has_kept_since_target: bool) -> Role
-    ensures { result ≡ (if has_kept then (if has_kept_since_target then role.Listed else role.Scanned) else role.Source) }
+/// The role of the next kept token once a target was read, by what it was before.
+fn after_target(next: Role) -> Role
+    ensures { result ≡ after_target next }
 {
-    match (has_kept, has_kept_since_target) {
-        (false, _) => Role::Source,
-        (true, true) => Role::Listed,
-        (true, false) => Role::Scanned,
+    match next {
+        Role::Source => Role::Source,
+        Role::Scanned | Role::Listed => Role::Scanned,
     }
 }
 
@@ -206,14 +205,13 @@ fn note(
     Ok(())
 }
 
-/// What is known of the tokens so far.
+/// What is known of the tokens so far. Until a token is kept, the next one is the source.
 #[derive(Drop)]
 struct Progress {
     alloc: Global,
     number: u64,
     has_target: bool,
-    has_kept: bool,
-    has_kept_since_target: bool,
+    next: Role,
     by_path: IndexMap<String, Role, Seed>,
 }
 
@@ -230,8 +228,7 @@ impl Progress {
             alloc,
             number: 0,
             has_target: false,
-            has_kept: false,
-            has_kept_since_target: false,
+            next: Role::Source,
             by_path: IndexMap::with_hasher(alloc, seed),
         }
     }
@@ -247,7 +244,7 @@ impl Progress {
         self.number += 1;
         if names_target(token) {
             self.has_target = true;
-            self.has_kept_since_target = false;
+            self.next = after_target(self.next);
             return Ok(());
         }
         if !self.has_target {
@@ -259,11 +256,8 @@ impl Progress {
         if !path_is_legal(token) {
             return Err(DepError::BadPath(self.number));
         }
-        let path = path_text(token);
-        let role = next_role(self.has_kept, self.has_kept_since_target);
-        note(self.alloc, &mut self.by_path, path, role)?;
-        self.has_kept = true;
-        self.has_kept_since_target = true;
+        note(self.alloc, &mut self.by_path, path_text(token), self.next)?;
+        self.next = Role::Listed;
         Ok(())
     }
 }
@@ -283,7 +277,7 @@ fn prerequisites_of(
     for token in Tokens::new(text) {
         progress.take(header, token)?;
     }
-    if !progress.has_kept {
+    if progress.next == Role::Source {
         return Err(DepError::NoTarget);
     }
     Ok(Prerequisites {

@@ -1,5 +1,7 @@
-use Rattle.ks_fixdep.proofs.Prelude.{◌≡◌, inr, ◌++◌, ◌∷◌, [], map, length, sym, ap, subst, ◌∙◌, arith, drop, suc, refl, YieldsList-from_first, YieldsList-end, YieldsList-turn, YieldsList-so_far, length-append, tokens, first_fault, token_refusal, once, with_roles, prerequisites_without, Stands}
-use Rattle.ks_fixdep.proofs.RoleLemmas.{seen-push, faults-fit, tokens-length, refused-err, refused-through, none-kept, some-kept, parted}
+use Rattle.ks_fixdep.proofs.Prelude.{◌≡◌, rules, true, list_any, is_kept, inr, ◌++◌, ◌∷◌, [], map, length, sym, ap, subst, ◌∙◌, arith, drop, suc, refl, YieldsList-from_first, YieldsList-end, YieldsList-turn, YieldsList-so_far, length-append, tokens, first_fault, token_refusal, once, with_roles, prerequisites_without, Stands}
+use Rattle.std.proofs.lemmas.Grind.{common_steps}
+use Rattle.ks_fixdep.specs.declared.dependency_file.Role.TheVariants as role
+use Rattle.ks_fixdep.proofs.RoleLemmas.{seen-push, faults-fit, tokens-length, refused-err, refused-through, source-next, other-next, none-kept, some-kept, parted}
 use Rattle.ks_fixdep.proofs.dependency_file.prerequisites_of.Goals as goal
 use Rattle.ks_fixdep.proofs.dependency_file.prerequisites_of.Goals.{In-None, In-Some}
 
@@ -56,17 +58,23 @@ returns-in_err-take-clause-refusal c =
     (refused-through c.args.header e ts seen c.in-Some.token.now _ (parts (goal.at.returns-in_err-take-clause-refusal c).In-Some) c.loop-token.invariant.fits
     (c.in_err-take.ensures.refusal seen c.loop-token.invariant.stands))
 
-pub returns-then-not-progress-clause-refusal : goal.returns-then-not-progress-clause-refusal
-returns-then-not-progress-clause-refusal c =
-    inr (ap (token_refusal c.args.header) (sym (all_seen (goal.at.returns-then-not-progress-clause-refusal c).In-None))
+pub returns-then-eq-clause-refusal : goal.returns-then-eq-clause-refusal
+returns-then-eq-clause-refusal c =
+    let source : c.loop-token.progress.next ≡ role.Source = search rules in
+    inr (ap (token_refusal c.args.header) (sym (all_seen (goal.at.returns-then-eq-clause-refusal c).In-None))
     ∙ none-kept c.args.header (map (λ x. x.now) c.loop-token.yielded) c.loop-token.invariant.fits
-    (sym c.loop-token.invariant.stands.kept ∙ c.if-not-progress.true))
+    (source-next c.args.header (map (λ x. x.now) c.loop-token.yielded) (sym c.loop-token.invariant.stands.next ∙ source)))
+
+not_source : (c : goal.Else-eq) → c.loop-token.progress.next ≡ role.Source → ⊥
+not_source c is = grind (arith, common_steps)
+
+kept : (c : goal.Else-eq) → list_any (is_kept c.args.header) (map (λ x. x.now) c.loop-token.yielded) ≡ true
+kept c = other-next c.args.header (map (λ x. x.now) c.loop-token.yielded) (λ is. not_source c (c.loop-token.invariant.stands.next ∙ is))
 
 pub returns-clause-refusal : goal.returns-clause-refusal
 returns-clause-refusal c =
     ap (token_refusal c.args.header) (sym (all_seen (goal.at.returns-clause-refusal c).In-None))
-    ∙ some-kept c.args.header (map (λ x. x.now) c.loop-token.yielded) c.loop-token.invariant.fits
-    (sym c.loop-token.invariant.stands.kept ∙ c.if-not-progress.false)
+    ∙ some-kept c.args.header (map (λ x. x.now) c.loop-token.yielded) c.loop-token.invariant.fits (kept c)
 
 pub returns-clause-value : goal.returns-clause-value
 unfolding prerequisites_without
@@ -75,6 +83,6 @@ returns-clause-value c =
 
 pub invariant_of-result : goal.invariant_of-result
 invariant_of-result c = record {
-  some = c.loop-token.invariant.stands.some c.if-not-progress.false;
+  some = c.loop-token.invariant.stands.some (kept c);
   legal = c.loop-token.invariant.stands.legal;
 }

@@ -15,11 +15,10 @@ ks_output 200
 ks_compare 30
 ks_fixdep 540
 ks_tree 430
-ks_script 90
 ks_streams 30
 ks_engine 480
 ks_parallel 120
-ks_requests 400
+ks_requests 490
 ks_words 230
 ks_commands 400
 ks_program 60

@@ -1,8 +1,8 @@
 -- The lock that a command needs, and the script that was looked at to know it.
 use Rattle.std.specs.Prelude.{◌≡◌, ◌&&◌, ℕ, Bool, true, false, List, Option, Some, None, Result, Ok, Err, option_map, is_none, string_bytes, if◌then◌else◌}
 use Rattle.std.specs.List.{list_any}
-use Rattle.ks_script.specs.Script.{Line, Sync, Record, Stale, script_lines}
-use Rattle.ks_script.specs.ScriptRefusals.{script_refusal}
+use Rattle.ks_requests.specs.Script.{Line, Sync, Record, Stale, script_lines}
+use Rattle.ks_requests.specs.ScriptRefusals.{script_refusal}
 use Rattle.ks_tree.specs.Files.{Files, content}
 use Rattle.ks_requests.specs.declared.request.Request.{Request}
 use Rattle.ks_requests.specs.declared.request.Request.TheVariants as request

@@ -3,12 +3,11 @@
 //! the file system knows no locks, or the folder can't be opened, the program goes on without.
 ghost use Rattle.std.specs.Prelude.{◌≡◌, None, IfOk, IfSome, map};
 ghost use Rattle.std.specs.List.{list_any};
-ghost use Rattle.ks_script.specs.Script.{seen_line};
+ghost use Rattle.ks_requests.specs.Script.{seen_line};
 ghost use Rattle.ks_tree.specs.Frames.{Reads};
 ghost use Rattle.confstamp.specs.Lock.{AreLocked, IsAccessOf, IsLookedAt, IsScriptAccess, is_sync, lock_for, text_syncs};
 
-use ks_requests::Request;
-use ks_script::{ScriptError, ScriptLine, read_script};
+use ks_requests::{Request, ScriptError, ScriptLine, read_script};
 use ks_tree::{Tree, TreeFault};
 use ks_words::WordsError;
 use std::alloc::Global;

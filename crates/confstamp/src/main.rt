@@ -118,7 +118,14 @@ fn run(rt: &HostRuntime) -> io::Result<u8> {
     let mut out = Stream::new(Pipe::new(BufWriter::new(alloc, rt.stdout())?));
     let mut err = Stream::new(rt.stderr());
     let failures = tree.failures();
-    let status = execute(alloc, &mut tree, invocation.dialect, &asked, &mut out, &mut err);
+    let status = execute(
+        alloc,
+        &mut tree,
+        invocation.dialect,
+        &asked,
+        &mut out,
+        &mut err,
+    );
     if status == 2 && tree.failures() > failures {
         tell_failure(rt, &tree);
     }

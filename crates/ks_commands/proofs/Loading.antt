@@ -2,7 +2,7 @@
 use Rattle.ks_commands.proofs.Prelude.{◌≡◌, ◌∙◌, ◌<◌, ◌+◌, ℕ, true, false, suc, List, [], ◌∷◌, ◌++◌, Option, Some, None, IsSome, take, Result, Ok, Err, map, drop, length, get_or, refl, ap, ap₂, subst, sym, arith, drop-cons, append_assoc, bytes_eq, true≢false, All, map-append, map_more, take_more, All-append, All-cons, All-nil, All-weaker, bytes_decides, Files, SameBut, content, none_some, some_same, EngineError, Action, followed, and_then, Line, given, AreGiven, AreKept, IsKept, action_at, actions_at, line_of, without_files}
 use Rattle.std.specs.FinMap as map_of
 use Rattle.ks_engine.specs.Actions as asked
-use Rattle.ks_script.specs.Script.{Sync, Record, Stale}
+use Rattle.ks_requests.specs.Script.{Sync, Record, Stale}
 use Rattle.ks_requests.specs.Inputs.{Texts}
 
 -- actions in front of an answer

@@ -84,6 +84,7 @@ pub use Rattle.ks_requests.specs.Inputs.{given, given_if_named}
 pub use Rattle.ks_requests.specs.JsonLines.{answer_in}
 pub use Rattle.ks_requests.specs.Outputs.{WritesPreview}
 pub use Rattle.ks_requests.specs.Replies.{answer_line, refused_target_line, reply_lines}
+pub use Rattle.ks_requests.specs.Script.{Line, seen_line}
 pub use Rattle.ks_requests.specs.Sites.{IsSiteLine, IsThere, Site, excerpt_at, site_of}
 pub use Rattle.ks_requests.specs.Statuses.{code_of, explanation_status, reply_status, stale_among, status_unless_refused, worst}
 pub use Rattle.ks_requests.specs.Symbols.{cost_line, symbols_of, use_line}
@@ -103,7 +104,6 @@ pub use Rattle.ks_requests.specs.declared.status.Outcome.{Outcome}
 pub use Rattle.ks_requests.specs.declared.status.Status.{Status}
 pub use Rattle.ks_requests.specs.declared.telling.Telling.{Telling}
 pub use Rattle.ks_requests.specs.declared.telling.Telling.TheVariants.{Lines, LinesAndStatus}
-pub use Rattle.ks_script.specs.Script.{Line, seen_line}
 pub use Rattle.ks_streams.specs.Streams.{State}
 pub use Rattle.ks_symbols.proofs.Faults.{unknown-cons}
 pub use Rattle.ks_symbols.specs.Configuration.{Configuration}

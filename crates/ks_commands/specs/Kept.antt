@@ -1,7 +1,7 @@
 -- The files that a script names, as they are kept while it runs.
 use Rattle.std.specs.Prelude.{◌≡◌, ℕ, List, Some, Ok, IsSome, ⊤}
 use Rattle.ks_tree.specs.Files.{Files, content}
-use Rattle.ks_script.specs.Script.{Line, Sync}
+use Rattle.ks_requests.specs.Script.{Line, Sync}
 use Rattle.ks_requests.specs.Inputs.{given}
 
 -- Each file kept is the one that its path names.

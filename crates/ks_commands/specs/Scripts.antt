@@ -6,9 +6,9 @@ use Rattle.ks_engine.specs.Actions.{Action}
 use Rattle.ks_engine.specs.Actions as asked
 use Rattle.ks_engine.specs.Recording.{followed}
 use Rattle.ks_engine.specs.Refusals.{IsGivenUp, and_then}
-use Rattle.ks_script.specs.Script.{Line, Sync, Record, Stale, script_lines}
-use Rattle.ks_script.specs.ScriptRefusals.{script_refusal}
-use Rattle.ks_script.specs.declared.error.ScriptError.{ScriptError}
+use Rattle.ks_requests.specs.Script.{Line, Sync, Record, Stale, script_lines}
+use Rattle.ks_requests.specs.ScriptRefusals.{script_refusal}
+use Rattle.ks_requests.specs.declared.script_error.ScriptError.{ScriptError}
 use Rattle.ks_requests.specs.declared.refusal.Refusal.{Refusal}
 use Rattle.ks_requests.specs.declared.refusal.Refusal.TheVariants.{Engine}
 use Rattle.ks_requests.specs.Endings.{Ending}

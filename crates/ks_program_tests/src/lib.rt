@@ -14,6 +14,8 @@ mod golden;
 #[cfg(test)]
 mod refusals;
 #[cfg(test)]
+mod script_lines;
+#[cfg(test)]
 mod scripts;
 #[cfg(test)]
 mod steps;

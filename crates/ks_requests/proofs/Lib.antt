@@ -6,3 +6,6 @@ pub mod Printing
 pub mod Siting
 pub mod JsonReading
 pub mod JsonObjects
+mod ScriptFaults
+mod ScriptSpellings
+mod ScriptWords

@@ -1,4 +1,8 @@
 pub mod Requests
+pub mod Script
+pub mod ScriptRefusals
+pub mod ScriptLaws
+pub mod ScriptExamples
 pub mod Faults
 pub mod Statuses
 pub mod Endings

@@ -1,8 +1,8 @@
 -- The refusals of a preview and of a script as those of a whole command.
 use Rattle.ks_engine.specs.declared.error.EngineError.TheVariants.{GenerationFull, OutOfMemory, TooLarge}
 use Rattle.ks_engine.specs.Refusals.{of_auto, of_source}
-use Rattle.ks_script.specs.declared.error.ScriptError.{ScriptError}
-use Rattle.ks_script.specs.declared.error.ScriptError.TheVariants as script
+use Rattle.ks_requests.specs.declared.script_error.ScriptError.{ScriptError}
+use Rattle.ks_requests.specs.declared.script_error.ScriptError.TheVariants as script
 use Rattle.ks_requests.specs.declared.preview.PreviewError.{PreviewError}
 use Rattle.ks_requests.specs.declared.preview.PreviewError.TheVariants as preview
 use Rattle.ks_requests.specs.declared.refusal.Refusal.{Refusal}

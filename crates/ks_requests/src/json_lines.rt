@@ -11,7 +11,7 @@ ghost use Rattle.ks_requests.specs.Faults.{place_text, whole_text};
 ghost use Rattle.ks_requests.specs.JsonLines.{json_answer, json_cause, json_causes, json_explanation, json_first, json_byte, json_items, json_string, json_name, json_beginning, json_refused, verdict_word};
 ghost use Rattle.ks_requests.specs.Statuses.{code_of, explanation_status, status_unless_refused};
 
-use crate::faults::{FaultText, FaultPlace, engine_fault};
+use crate::faults::{FaultPlace, FaultText, engine_fault};
 use crate::replies::verdict_status;
 use crate::status::Status;
 use itoa::Buffer;

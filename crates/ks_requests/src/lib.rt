@@ -1,5 +1,5 @@
-//! What the program `confstamp` is asked, and how it answers: requests, the files that their words name, and the texts of
-//! answers and refusals, over any tree of files and any two writers. What a request does is for the crate above.
+//! What the program `confstamp` is asked, and how it answers: requests, scripts, the files that words name, and the texts
+//! of answers and refusals, over any tree of files and any two writers. What a request does is for the crate above.
 #![tactic(auto)]
 
 mod faults;
@@ -11,6 +11,8 @@ mod preview;
 mod refusal;
 mod replies;
 mod request;
+mod script;
+mod script_error;
 mod sites;
 mod status;
 mod symbols;
@@ -20,7 +22,7 @@ mod unknown;
 
 pub use inputs::{Inputs, Texts, borrowed, borrowed_path, inputs_at, read_given, texts_at};
 pub use json_lines::write_json_answer;
-pub use laws::json_lines_are_objects;
+pub use laws::{json_lines_are_objects, script_examples, script_lines_are_spelled};
 pub use output::{print, refuse, refuse_at};
 pub use preview::{PreviewError, preview_of, preview_to};
 pub use refusal::Refusal;
@@ -29,6 +31,8 @@ pub use replies::{
     write_build_line, write_refused_target,
 };
 pub use request::{Form, Request, Stamps, Targets};
+pub use script::{ScriptLine, read_script};
+pub use script_error::ScriptError;
 pub use sites::{Part, Site, site_of};
 pub use status::{Count, Outcome, Status, stale_of, worse};
 pub use symbols::{symbols_of, write_cost, write_unrecorded, write_use};

@@ -5,8 +5,8 @@ ghost use Rattle.ks_requests.specs.Refusals.{of_preview, of_script};
 ghost use Rattle.ks_requests.specs.declared.refusal.Refusal.TheVariants.{Engine};
 
 use crate::preview::PreviewError;
+use crate::script_error::ScriptError;
 use ks_engine::EngineError;
-use ks_script::ScriptError;
 use std::alloc::{AllocError, AllocFailed};
 
 /// Why a command was refused as a whole.

@@ -1,6 +1,6 @@
-//! The tests of the libraries that read and write texts: ks_symbols, ks_output, ks_compare, ks_script and ks_fixdep. What their
+//! The tests of the libraries that read and write texts: ks_symbols, ks_output, ks_compare and ks_fixdep. What their
 //! contracts say needs none, so these are worked examples, the texts of refusals, and each public call once with ample memory.
-//! They are a crate of their own, over all five, since a crate that has tests is proved once more for them. Nothing stands on it,
+//! They are a crate of their own, over all four, since a crate that has tests is proved once more for them. Nothing stands on it,
 //! and without its tests it is empty.
 #![tactic(auto)]
 
@@ -16,7 +16,5 @@ mod fixdep;
 mod golden;
 #[cfg(test)]
 mod output;
-#[cfg(test)]
-mod script;
 #[cfg(test)]
 mod symbols;

@@ -3,7 +3,7 @@ use Rattle.std.specs.Prelude.{◌||◌, Bool, map}
 use Rattle.std.specs.List.{list_any}
 use Rattle.std.proofs.lemmas.Iterator.{YieldsList-from_slice}
 use Rattle.std.proofs.lemmas.Iterator.Search.{any_from_yields_List}
-use Rattle.ks_script.specs.Script.{seen_line}
+use Rattle.ks_requests.specs.Script.{seen_line}
 use Rattle.confstamp.specs.Lock.{is_sync}
 use Rattle.confstamp.proofs.lock.has_sync.Goals as goal
 

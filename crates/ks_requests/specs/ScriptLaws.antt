@@ -1,6 +1,6 @@
 -- Laws: the definitions said in another way.
 use Rattle.std.specs.Prelude.{◌≡◌, ◌↔◌, ℕ, List, Some}
-use Rattle.ks_script.specs.Script.{Line, Says, script_line}
+use Rattle.ks_requests.specs.Script.{Line, Says, script_line}
 
 -- A line asks for what it spells, and for nothing else.
 abbrev pub LinesAreSpelled : Type 0

@@ -5,12 +5,12 @@
 //! The form is a rule of this project.
 ghost use Rattle.std.specs.Prelude.{◌≡◌, ◌++◌, [], None, count_by, is_some, length, map, option_map, take_while, drop, OnOk, IfOk, IsErrOf};
 ghost use Rattle.std.specs.List.{cons_option, list_all};
-ghost use Rattle.ks_script.specs.Script.{is_word_byte, is_word, first_word, seen_line, sync_line, record_line, stale_line, script_line, script_lines};
-ghost use Rattle.ks_script.specs.ScriptRefusals.{line_fault, script_refusal};
+ghost use Rattle.ks_requests.specs.Script.{is_word_byte, is_word, first_word, seen_line, sync_line, record_line, stale_line, script_line, script_lines};
+ghost use Rattle.ks_requests.specs.ScriptRefusals.{line_fault, script_refusal};
 ghost use Rattle.ks_symbols.specs.Lines.{lines};
 ghost use Rattle.ks_symbols.specs.Refusals.{RefusedBy};
 
-use crate::error::ScriptError;
+use crate::script_error::ScriptError;
 use bstr::ByteSlice;
 use ks_symbols::{MAX_BYTES, is_silent, path_is_legal};
 use std::alloc::Global;
@@ -132,7 +132,7 @@ fn take_line<'a>(
 }
 
 /// Whether a line asks for a command.
-#[tactic(auto, using(crate::proofs::Faults::is_some_map))]
+#[tactic(auto, using(crate::proofs::ScriptFaults::is_some_map))]
 fn asks(line: &[u8]) -> bool
     ensures { result ≡ is_some (script_line line.now) }
 {

@@ -1,6 +1,6 @@
 -- The first fault of lines, and refusals.
-use Rattle.ks_script.proofs.Prelude.{cond_some, ◌≡◌, inl, inr, ℕ, ◌+◌, ◌<◌, ◌≤◌, Bool, true, false, cond, nat_lt, List, [], ◌∷◌, ◌++◌, length, Option, Some, None, is_some, option_map, refl, ap, ◌∙◌, arith, cons_option, position_from, cond-true, cond-false, nat_tests, lines, max_bytes, ScriptError, is_faulty, line_fault, script_refusal, IsRefusal}
-use Rattle.ks_script.specs.declared.error.ScriptError.TheVariants as fault
+use Rattle.ks_requests.proofs.Prelude.{cond_some, ◌≡◌, inl, inr, ℕ, ◌+◌, ◌<◌, ◌≤◌, Bool, true, false, cond, nat_lt, List, [], ◌∷◌, ◌++◌, length, Option, Some, None, is_some, option_map, refl, ap, ◌∙◌, arith, cons_option, position_from, cond-true, cond-false, nat_tests, lines, max_bytes, ScriptError, is_faulty, line_fault, script_refusal, IsRefusal}
+use Rattle.ks_requests.specs.declared.script_error.ScriptError.TheVariants as fault
 
 passed : (b : Bool) (e : ScriptError) → cond b (Some e) None ≡ None → b ≡ false
 passed true e h = absurd (cc h)

@@ -1,5 +1,5 @@
-use Rattle.ks_script.proofs.Prelude.{refl, line_len, lines_from, is_path, lines, first_word, sync_line, record_line, stale_line, script_line, script_lines, script_refusal}
-use Rattle.ks_script.proofs.laws.examples_hold.Goals as goal
+use Rattle.ks_requests.proofs.Prelude.{refl, line_len, lines_from, is_path, lines, first_word, sync_line, record_line, stale_line, script_line, script_lines, script_refusal}
+use Rattle.ks_requests.proofs.laws.script_examples.Goals as goal
 
 pub returns : goal.returns
 unfolding line_len lines_from is_path lines first_word sync_line record_line stale_line script_line script_lines script_refusal

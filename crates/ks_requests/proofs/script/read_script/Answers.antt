@@ -1,7 +1,7 @@
-use Rattle.ks_script.proofs.Prelude.{◌≡◌, inr, ◌∷◌, ◌++◌, option_map, length, map, sym, ap, ◌∙◌, arith, append-nil, filter_map, position_from, err_from_is_err_and, lines, script_lines, seen_line, script_line, is_faulty, line_fault, script_refusal}
-use Rattle.ks_script.specs.declared.error.ScriptError.TheVariants as fault
-use Rattle.ks_script.proofs.Faults.{no_fault, fault_here, refused, too_large, not_large, option_append}
-use Rattle.ks_script.proofs.script.read_script.Goals as goal
+use Rattle.ks_requests.proofs.Prelude.{◌≡◌, inr, ◌∷◌, ◌++◌, option_map, length, map, sym, ap, ◌∙◌, arith, append-nil, filter_map, position_from, err_from_is_err_and, lines, script_lines, seen_line, script_line, is_faulty, line_fault, script_refusal}
+use Rattle.ks_requests.specs.declared.script_error.ScriptError.TheVariants as fault
+use Rattle.ks_requests.proofs.ScriptFaults.{no_fault, fault_here, refused, too_large, not_large, option_append}
+use Rattle.ks_requests.proofs.script.read_script.Goals as goal
 
 pub returns-then-text-gt-MAX_BYTES-clause-refusal : goal.returns-then-text-gt-MAX_BYTES-clause-refusal
 returns-then-text-gt-MAX_BYTES-clause-refusal c = inr (too_large c.args.text.now c.if-text-gt-MAX_BYTES.true)

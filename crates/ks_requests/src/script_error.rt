@@ -1,6 +1,6 @@
 //! Why a script is refused.
 ghost use Rattle.std.specs.Prelude.{◌≡◌};
-ghost use Rattle.ks_script.specs.declared.error.ScriptError.TheVariants.{OutOfMemory};
+ghost use Rattle.ks_requests.specs.declared.script_error.ScriptError.TheVariants.{OutOfMemory};
 
 use std::alloc::AllocFailed;
 use thiserror::Error;

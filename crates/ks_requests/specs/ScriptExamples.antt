@@ -1,8 +1,8 @@
 -- Small scripts, and what the definitions make of them.
 use Rattle.std.specs.Prelude.{◌≡◌, [], ◌∷◌, codes, Some, None}
-use Rattle.ks_script.specs.declared.error.ScriptError.TheVariants as fault
-use Rattle.ks_script.specs.Script.{Sync, Record, Stale, script_line, script_lines}
-use Rattle.ks_script.specs.ScriptRefusals.{script_refusal}
+use Rattle.ks_requests.specs.declared.script_error.ScriptError.TheVariants as fault
+use Rattle.ks_requests.specs.Script.{Sync, Record, Stale, script_line, script_lines}
+use Rattle.ks_requests.specs.ScriptRefusals.{script_refusal}
 
 pub record Examples : Type 0 where
   pub synchronisation : script_line (codes "sync K C") ≡ Some (Sync (codes "K") (codes "C"))

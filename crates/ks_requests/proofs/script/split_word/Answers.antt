@@ -1,6 +1,6 @@
-use Rattle.ks_script.proofs.Prelude.{ℕ, take, sym, ap, ◌∙◌}
-use Rattle.ks_script.proofs.Words.{first_space}
-use Rattle.ks_script.proofs.script.split_word.Goals as goal
+use Rattle.ks_requests.proofs.Prelude.{ℕ, take, sym, ap, ◌∙◌}
+use Rattle.ks_requests.proofs.ScriptWords.{first_space}
+use Rattle.ks_requests.proofs.script.split_word.Goals as goal
 
 pub returns-clause-word : goal.returns-clause-word
 returns-clause-word c =

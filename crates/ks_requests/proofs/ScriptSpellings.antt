@@ -1,5 +1,5 @@
 -- A line of a script asks for what it spells.
-use Rattle.ks_script.proofs.Prelude.{chain, cond_some, ◌≡◌, ℕ, ◌&&◌, ◌==◌, Bool, true, false, not, cond, nat_eq, IsTrue, List, [], ◌∷◌, ◌++◌, length, drop, take_while, codes, Option, Some, None, option_map, option_and_then, refl, sym, ap, subst, ◌∙◌, append_assoc, nat_le, arith, list_all, starts_with, drop-append_seam, cond-true, cond-false, cases_Bool, and_parts, and_from, nat_tests, take_while-cons, ⊎_elim, is_path, is_path_byte, run_is, opened, run_split, is_word_byte, is_word, Line, Sync, Record, Stale, Says, first_word, script_line, sync_line, record_line, stale_line, LinesAreSpelled}
+use Rattle.ks_requests.proofs.Prelude.{chain, cond_some, ◌≡◌, ℕ, ◌&&◌, ◌==◌, Bool, true, false, not, cond, nat_eq, IsTrue, List, [], ◌∷◌, ◌++◌, length, drop, take_while, codes, Option, Some, None, option_map, option_and_then, refl, sym, ap, subst, ◌∙◌, append_assoc, nat_le, arith, list_all, starts_with, drop-append_seam, cond-true, cond-false, cases_Bool, and_parts, and_from, nat_tests, take_while-cons, ⊎_elim, is_path, is_path_byte, run_is, opened, run_split, is_word_byte, is_word, Line, Sync, Record, Stale, Says, first_word, script_line, sync_line, record_line, stale_line, LinesAreSpelled}
 
 -- what was chain after something that was chain
 mapped : {X Y : Type 0} (f : X → Y) (o : Option X) (y : Y) → option_map f o ≡ Some y → (x : X) × (o ≡ Some x) × (f x ≡ y)

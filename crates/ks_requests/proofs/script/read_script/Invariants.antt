@@ -1,5 +1,5 @@
-use Rattle.ks_script.proofs.Prelude.{◌≡◌, ◌+◌, ◌≤◌, ◌++◌, length, map, filter_map, position_from, lines, seen_line, script_line, is_faulty}
-use Rattle.ks_script.proofs.script.read_script.Given as goal
+use Rattle.ks_requests.proofs.Prelude.{◌≡◌, ◌+◌, ◌≤◌, ◌++◌, length, map, filter_map, position_from, lines, seen_line, script_line, is_faulty}
+use Rattle.ks_requests.proofs.script.read_script.Given as goal
 
 -- what was read so far, and what the lines that are left ask for, is what all lines ask for
 abbrev pub invariant-loop-line : goal.invariant-loop-line

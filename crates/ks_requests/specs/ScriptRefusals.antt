@@ -3,9 +3,9 @@ use Rattle.std.specs.Prelude.{ℕ, ◌&&◌, Bool, not, nat_lt, is_none, List, l
 use Rattle.std.specs.List.{position_from}
 use Rattle.ks_symbols.specs.Lines.{max_bytes, lines}
 use Rattle.ks_symbols.specs.Statements.{is_silent}
-use Rattle.ks_script.specs.declared.error.ScriptError.{ScriptError}
-use Rattle.ks_script.specs.declared.error.ScriptError.TheVariants as fault
-use Rattle.ks_script.specs.Script.{script_line}
+use Rattle.ks_requests.specs.declared.script_error.ScriptError.{ScriptError}
+use Rattle.ks_requests.specs.declared.script_error.ScriptError.TheVariants as fault
+use Rattle.ks_requests.specs.Script.{script_line}
 
 -- neither a command nor a comment nor an empty line
 abbrev pub is_faulty : List ℕ → Bool

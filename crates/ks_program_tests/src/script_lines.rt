@@ -1,5 +1,5 @@
 //! Scripts as they stand in files, and what is read of them.
-use ks_script::{ScriptError, ScriptLine, read_script};
+use ks_requests::{ScriptError, ScriptLine, read_script};
 use std::alloc::{AllocError, Global};
 
 /// What a script asks for, with its words between bars, or the refusal.

@@ -3,8 +3,8 @@ use Rattle.std.specs.Prelude.{◌≡◌, ℕ, ◌++◌, ◌&&◌, ◌==◌, Bool
 use Rattle.std.specs.List.{starts_with, list_all, filter_map}
 use Rattle.ks_symbols.specs.Names.{is_path}
 use Rattle.ks_symbols.specs.Lines.{lines}
-use Rattle.ks_script.specs.declared.script.ScriptLine as script
-use Rattle.ks_script.specs.declared.script.ScriptLine.TheVariants as seen
+use Rattle.ks_requests.specs.declared.script.ScriptLine as script
+use Rattle.ks_requests.specs.declared.script.ScriptLine.TheVariants as seen
 
 abbrev pub is_word_byte : ℕ → Bool
 is_word_byte b = not (b == 32)

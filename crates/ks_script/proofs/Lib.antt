@@ -1,4 +1,0 @@
-pub mod Prelude
-mod Faults
-mod Spellings
-mod Words

@@ -1,4 +1,0 @@
-pub mod Script
-pub mod ScriptRefusals
-pub mod Laws
-pub mod Examples

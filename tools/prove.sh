@@ -8,8 +8,8 @@
 # The program logic that the proofs were written for: what `rt version` has to tell, whichever kit it is.
 logic=dac8208d650f15bf
 
-# Seconds that a proof of each crate takes on a machine of four processors, beside other work. Those of ks_commands,
-# ks_program and confstamp are reckoned, all others measured.
+# Seconds that a proof of each crate takes on a machine of four processors, beside other work. Those of ks_requests,
+# ks_commands and confstamp are reckoned, all others measured.
 seconds='ks_symbols 220
 ks_output 200
 ks_compare 30
@@ -20,8 +20,7 @@ ks_engine 480
 ks_parallel 120
 ks_requests 490
 ks_words 230
-ks_commands 400
-ks_program 60
+ks_commands 420
 confstamp 150'
 
 # The lines of crates.txt for the program and all that it stands on; crates of tests alone are no part of it.

@@ -8,7 +8,7 @@ mod numbers;
 mod pipe;
 
 use folder::{Front, Invocation, is_folder, take_front};
-use ks_program::execute;
+use ks_commands::execute;
 use ks_requests::Request;
 use ks_streams::Stream;
 use ks_tree::FolderTree;

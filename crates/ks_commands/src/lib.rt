@@ -1,5 +1,6 @@
-//! What each request of the program `confstamp` does, over any tree of files and any two writers, and what follows for any
-//! list of runs. How it is asked and answered is defined in ks_requests.
+//! The program `confstamp` over any tree of files and any two writers: what its words ask for is done, or it is said why
+//! they ask for nothing; and what follows for any list of runs. It knows no folder, no lock and no streams of the system: those
+//! are for the crate `confstamp`. How it is asked and answered is defined in ks_requests, and what words mean in ks_words.
 #![tactic(auto)]
 
 mod asked_symbols;
@@ -10,6 +11,7 @@ mod differences;
 mod fixdep;
 mod laws;
 mod performing;
+mod program;
 mod questions;
 mod spelling;
 mod users;
@@ -19,3 +21,4 @@ pub use laws::{
     statuses_are_at_most_two, statuses_tell_differences,
 };
 pub use performing::perform;
+pub use program::execute;

@@ -2,7 +2,7 @@
 //! status is 2 also where it doesn't.
 use crate::golden::{AUTO, COMMAND_FILE};
 use crate::steps::{Step, play, run_over, shown, world};
-use ks_program::execute;
+use ks_commands::execute;
 use ks_streams::Stream;
 use ks_symbols::Dialect;
 use ks_words::request_of;

@@ -1,6 +1,5 @@
-use Rattle.std.proofs.Common.{inl, inr, refl, subst}
-use Rattle.ks_program.specs.Performing.{IsAskedBy}
-use Rattle.ks_program.proofs.program.execute.Goals as goal
+use Rattle.ks_commands.proofs.Prelude.{inl, inr, refl, subst, IsAskedBy}
+use Rattle.ks_commands.proofs.program.execute.Goals as goal
 
 pub returns-in-Ok : goal.returns-in-Ok
 returns-in-Ok g c = λ words by. inl (

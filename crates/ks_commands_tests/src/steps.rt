@@ -1,6 +1,6 @@
 //! Worked examples over a tree in memory: tables of words, and of the status and all that is printed.
 use crate::golden;
-use ks_program::execute;
+use ks_commands::execute;
 use ks_streams::Stream;
 use ks_symbols::Dialect;
 use ks_tree::{MemoryTree, Tree};

@@ -3,9 +3,9 @@
 ghost use Rattle.std.specs.Prelude.{Err, List};
 ghost use Rattle.clap.specs.Words.{Text};
 ghost use Rattle.ks_streams.specs.Streams.{state_of};
-ghost use Rattle.ks_program.specs.Performing.{Executes, IsAskedBy, Refuses};
+ghost use Rattle.ks_commands.specs.Performing.{Executes, IsAskedBy, Refuses};
 
-use ks_commands::perform;
+use crate::performing::perform;
 use ks_engine::EngineError;
 use ks_requests::{Refusal, Request, refuse};
 use ks_streams::Stream;

@@ -1,7 +1,5 @@
-use Rattle.std.proofs.Common.{Err, inl, inr, ⊎_elim, subst}
-use Rattle.clap.specs.Words.{kind_of}
-use Rattle.ks_program.specs.Performing.{IsAskedBy}
-use Rattle.ks_program.proofs.program.tell_why.Goals as goal
+use Rattle.ks_commands.proofs.Prelude.{Err, inl, inr, ⊎_elim, subst, kind_of, IsAskedBy}
+use Rattle.ks_commands.proofs.program.tell_why.Goals as goal
 
 pub returns-in-Refused : goal.returns-in-Refused
 returns-in-Refused g c = λ words by.

@@ -20,5 +20,4 @@ pub use laws::{
     batch_tells_changes, previews_are_performed, programs_tell_changes, refusals_change_nothing,
     statuses_are_at_most_two, statuses_tell_differences,
 };
-pub use performing::perform;
 pub use program::execute;

@@ -1,8 +1,8 @@
-//! Doing what was asked for, over any tree and any two writers.
+//! Doing what was asked for, over any tree.
 //!
-//! The whole text of a command is made before its first byte is written, so that a command that is refused as a whole
-//! writes nothing to the output, and a line to standard error, with a second one where there is a file to point at.
-ghost use Rattle.std.specs.Prelude.{◌≡◌, ℕ, List, Err, IfOk, option_map};
+//! The whole text of a command is made here, before `execute` prints its first byte, so that a command that is refused as a
+//! whole writes nothing to the output.
+ghost use Rattle.std.specs.Prelude.{◌≡◌, Err, IfOk, option_map};
 ghost use Rattle.ks_tree.specs.Files.{HasRisen};
 ghost use Rattle.ks_tree.specs.Frames.{Reads};
 ghost use Rattle.ks_engine.specs.FileRuns.{state};
@@ -10,11 +10,8 @@ ghost use Rattle.ks_engine.specs.Follows.{GoesOn};
 ghost use Rattle.ks_engine.specs.declared.error.EngineError.TheVariants.{Device};
 ghost use Rattle.ks_requests.specs.declared.refusal.Refusal.TheVariants.{Engine};
 ghost use Rattle.ks_requests.specs.declared.status.Status.TheVariants.{Done};
-ghost use Rattle.ks_streams.specs.Streams.{state_of};
-ghost use Rattle.ks_requests.specs.Endings.{Ending, Printed};
 ghost use Rattle.ks_requests.specs.Requests.{IsNoQuestion};
-ghost use Rattle.ks_requests.specs.Sites.{IsSiteLine, ending_site};
-ghost use Rattle.ks_commands.specs.Performed.{Continues, Counts, Ends, EndsFixdep, EndsPreview, Performs, by_files};
+ghost use Rattle.ks_commands.specs.Performed.{Continues, Counts, Ends, EndsFixdep, EndsPreview, by_files};
 
 use crate::batch::run_script;
 use crate::changes::{record_rule, record_target, synchronise};
@@ -24,15 +21,10 @@ use crate::fixdep::command_file_text;
 use crate::questions::{ask_after, ask_targets, outdated_target};
 use crate::users::tell_users;
 use ks_engine::Question;
-use ks_requests::{
-    Outcome, Refusal, Request, borrowed, borrowed_path, inputs_at, preview_of, print, refuse,
-    refuse_at, site_of,
-};
-use ks_streams::Stream;
+use ks_requests::{Outcome, Refusal, Request, borrowed, borrowed_path, inputs_at, preview_of};
 use ks_symbols::{Dialect, Kconfig};
 use ks_tree::Tree;
 use std::alloc::Global;
-use std::io::Write;
 
 /// What a synchronisation would do.
 fn preview<T: Tree>(
@@ -73,7 +65,7 @@ fn fixdep<T: Tree>(
 }
 
 /// Does what was asked for, unless it is refused as a whole.
-fn outcome<T: Tree>(
+pub(crate) fn outcome<T: Tree>(
     alloc: Global,
     tree: &mut T,
     dialect: Dialect,
@@ -163,30 +155,5 @@ fn outcome<T: Tree>(
         Request::Batch { script } => run_script(alloc, tree, dialect, script.as_bytes()),
         Request::Users { symbols, targets } => tell_users(alloc, tree, symbols, targets),
         Request::Cost { top, targets } => tell_cost(alloc, tree, *top, targets),
-    }
-}
-
-/// Does what was asked for, and answers the exit status: 0 done and nothing stale, 1 something stale or built by
-/// another command, 2 something refused. Sources and Kconfigs are read in the dialect.
-pub fn perform<T: Tree, W: Write, E: Write>(
-    alloc: Global,
-    tree: &mut T,
-    dialect: Dialect,
-    request: &Request,
-    out: &mut Stream<W>,
-    err: &mut Stream<E>,
-) -> u8
-    // It ends with a text or a refusal: this is what it leaves, by the files and by histories, and what it prints; which
-    // file a refusal is about stands on a line of its own.
-    ensures { (ended : Ending) × Performs T.Tree dialect tree.old tree.new request.now ended
-        × (following : List ℕ) × IsSiteLine T.is_honest (T.files tree.new) (ending_site request.now ended) following
-        × Printed following ended (state_of W.Write out.old) (state_of W.Write out.new) (state_of E.Write err.old) (state_of E.Write err.new) result }
-{
-    match outcome(alloc, tree, dialect, request) {
-        Ok(outcome) => print(&outcome, out, err),
-        Err(refusal) => match site_of(request, &refusal) {
-            Some(site) => refuse_at(alloc, tree, &site, &refusal, err),
-            None => refuse(err, &refusal),
-        },
     }
 }

@@ -1,13 +1,16 @@
 //! The program over any tree and any two writers: what its words ask for in, its status out. The words are taken as a request
 //! once, by `request_of` of ks_words, so that what is looked at before the command runs is what runs.
+//!
+//! The whole text of a command is there before its first byte is written. A command that is refused as a whole writes nothing
+//! to the output, and a line to standard error, with a second one where there is a file to point at.
 ghost use Rattle.std.specs.Prelude.{Err, List};
 ghost use Rattle.clap.specs.Words.{Text};
 ghost use Rattle.ks_streams.specs.Streams.{state_of};
 ghost use Rattle.ks_commands.specs.Performing.{Executes, IsAskedBy, Refuses};
 
-use crate::performing::perform;
+use crate::performing::outcome;
 use ks_engine::EngineError;
-use ks_requests::{Refusal, Request, refuse};
+use ks_requests::{Refusal, Request, print, refuse, refuse_at, site_of};
 use ks_streams::Stream;
 use ks_symbols::Dialect;
 use ks_tree::Tree;
@@ -45,8 +48,15 @@ pub fn execute<T: Tree, W: Write, E: Write>(
     ensures { (words : List Text) → IsAskedBy words asked.now → Executes T.Tree dialect words tree.old tree.new
         (state_of W.Write out.old) (state_of W.Write out.new) (state_of E.Write err.old) (state_of E.Write err.new) result }
 {
-    match asked {
-        Ok(request) => perform(alloc, tree, dialect, request, out, err),
-        Err(error) => tell_why(alloc, error, out, err),
+    let request = match asked {
+        Ok(request) => request,
+        Err(error) => return tell_why(alloc, error, out, err),
+    };
+    match outcome(alloc, tree, dialect, request) {
+        Ok(outcome) => print(&outcome, out, err),
+        Err(refusal) => match site_of(request, &refusal) {
+            Some(site) => refuse_at(alloc, tree, &site, &refusal, err),
+            None => refuse(err, &refusal),
+        },
     }
 }

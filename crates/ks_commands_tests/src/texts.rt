@@ -1,6 +1,6 @@
 //! From texts to texts, without the words of a command line: what previews print, and why there is none; what differs from
 //! auto.conf; and scripts whose lines name files more than once.
-use ks_commands::perform;
+use ks_commands::execute;
 use ks_requests::{PreviewError, Request, Telling, preview_to};
 use ks_streams::Stream;
 use ks_symbols::{Dialect, Kconfig, SourceError};
@@ -132,11 +132,11 @@ fn batch(alloc: Global, script: &[u8]) -> Result<String, AllocError> {
     let request = Request::Batch {
         script: "S".to_string(alloc)?,
     };
-    let status = perform(
+    let status = execute(
         alloc,
         &mut tree,
         Dialect::Linux,
-        &request,
+        &Ok(request),
         &mut out,
         &mut err,
     );
@@ -195,11 +195,11 @@ fn diff(
         dotconfig: "c".to_string(alloc)?,
         telling: Telling::Lines,
     };
-    let status = perform(
+    let status = execute(
         alloc,
         &mut tree,
         Dialect::Linux,
-        &request,
+        &Ok(request),
         &mut out,
         &mut err,
     );

@@ -1,4 +1,4 @@
-use Rattle.ks_engine.proofs.Prelude.{vec_items, ◌≡◌, ℕ, List, Option, Some, None, true, false, nat_lt, length, sym, subst, ◌∙◌, ap, Ok, Err, err_from_is_err_and, max_bytes, NamesBySource, prerequisites_without, found_of, names_by, picked, content, TooLarge, there, pairs_of, AreScanned, IsMemoOf, Result, RecordPlan, EngineError, drafted, record_plan_under}
+use Rattle.ks_engine.proofs.Prelude.{inr, vec_items, ◌≡◌, ℕ, List, Option, Some, None, true, false, nat_lt, length, sym, subst, ◌∙◌, ap, Ok, Err, err_from_is_err_and, max_bytes, NamesBySource, prerequisites_without, found_of, names_by, picked, content, TooLarge, there, pairs_of, AreScanned, IsMemoOf, Result, RecordPlan, EngineError, drafted, record_plan_under}
 use Rattle.std.specs.Prelude.{if◌then◌else◌}
 use Rattle.ks_fixdep.specs.FoundNames.{names_of}
 use Rattle.ks_engine.proofs.Reading.{ok_ok, err_ok}

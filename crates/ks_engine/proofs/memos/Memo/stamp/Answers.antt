@@ -2,14 +2,15 @@ use Rattle.ks_engine.proofs.Prelude.{string_bytes, vec_items, sym, ◌∙◌, ap
 use Rattle.ks_engine.proofs.Keeping.{kept_found, kept_added, value-pairs}
 use Rattle.ks_engine.proofs.memos.Memo.stamp.Goals as goal
 
-pub returns-in-Some-clause-number : goal.returns-in-Some-clause-number
-returns-in-Some-clause-number g c = λ honest.
+pub returns-in-Some-get-clause-number : goal.returns-in-Some-get-clause-number
+returns-in-Some-get-clause-number g c = λ honest after seen.
     let files = g.T.Tree.files c.args.tree.now in
     let text = c.name_text-text.result.now in
     let stamps = c.args.self.now.stamps.entries in
-    let found = value-pairs string_bytes text stamps ∙ sym c.in-Some.ensures.value in
-    let is = kept_found (IsStamp files) text c.in-Some.number.now (pairs_of string_bytes stamps) (c.requires.memo honest).stamps found in
-    (subst (λ x. IsStamp files x c.in-Some.number.now) c.name_text-text.ensures is).1
+    let found = value-pairs string_bytes text stamps ∙ sym c.in-Some-get.ensures.value in
+    let is = kept_found (IsStamp files) text c.in-Some-get.number.now (pairs_of string_bytes stamps) (c.requires.memo honest).stamps found in
+    let has = (subst (λ x. IsStamp files x c.in-Some-get.number.now) c.name_text-text.ensures is).1 in
+    subst (λ b. HasNumber b c.in-Some-get.number.now) (sym (c.foreseen.ensures.others c.in_default.is files after seen)) has
 
 pub returns-clause-memo : goal.returns-clause-memo
 returns-clause-memo g c = λ honest.

@@ -1,6 +1,6 @@
 -- A refusal names the first line that does not fit: whatever stands after that line it is refused again, and with other lines in its place
 -- the lines before it are read.
-use Rattle.ks_fixdep.proofs.Prelude.{◌≡◌, ℕ, suc, ◌+◌, ◌-◌, ◌<◌, ◌≤◌, true, false, List, [], ◌∷◌, ◌++◌, length, take, drop, refl, sym, ap, ◌∙◌, arith, Option, Some, None, Result, Ok, Err, subst, codes, option_and_then, if◌then◌else◌, option_or, bytes_eq, decimal_value, is_target, is_path, Dep, line_feed, content, following, before, CommandRecord, is_command, deps_begin, target_line, deps_end, generation_mark, ended, IsFirstMisfit, checked, dep_in, saved_command, source_in, ◌>>=◌, or_fault, fixed_at, form_at, deps_in, onto_deps, said, said_after, generation_from, end_from, record_in}
+use Rattle.ks_fixdep.proofs.Prelude.{◌≡◌, ℕ, suc, ◌+◌, ◌-◌, ◌<◌, ◌≤◌, true, false, List, [], ◌∷◌, ◌++◌, length, take, drop, refl, sym, ap, ◌∙◌, arith, Option, Some, None, Result, Ok, Err, subst, codes, option_and_then, if◌then◌else◌, option_or, bytes_eq, decimal_value, is_target, is_path, Dep, line_feed, content, following, before, CommandRecord, is_command, deps_begin, target_line, deps_end, generation_mark, ended, IsFirstMisfit, checked, dep_in, saved_command, source_in, ◌>>=◌, or_fault, fixed_at, form_at, deps_in, onto_deps, said, said_after, generation_from, end_from, record_in, source_line}
 use Rattle.ks_fixdep.proofs.CommandFormLemmas.{bytes-refl, saved_command-line, source_in-line, dep_in-none}
 use Rattle.ks_fixdep.proofs.CommandFitLemmas.{steps, fixed-begins, lines-fit, lines-read}
 use Rattle.ks_fixdep.proofs.CommandTextLemmas.{content-ended}
@@ -316,7 +316,7 @@ unfolding record_in is_target is_path is_command
 record-reader =
     form-reader 1 saved_command (codes "savedcmd_x := ") (codes "x", []) _ (saved_command-line (codes "x") [] refl refl)
     (λ saved line is. fixed-reader 2 [] _
-    (form-reader 3 (source_in saved.0) (codes "source_" ++ saved.0 ++ codes " := " ++ codes "x") (codes "x") _ (source_in-line saved.0 (codes "x") refl)
+    (form-reader 3 (source_in saved.0) (source_line saved.0 (codes "x")) (codes "x") _ (source_in-line saved.0 (codes "x") refl)
     (λ source line is. fixed-reader 4 [] _
     (fixed-reader 5 (deps_begin saved.0) _ (tail-reader saved.0 saved.1 source)))))
 

@@ -1,5 +1,5 @@
 -- Lines that fit the layout are read, and lines that are read fit it.
-use Rattle.ks_fixdep.proofs.Prelude.{◌≡◌, ℕ, ◌+◌, Bool, true, false, List, [], ◌∷◌, ◌++◌, length, take, drop, refl, sym, ap, ◌∙◌, Option, Some, None, Result, Ok, Err, map, append_assoc, subst, ◌<◌, ◌^◌, ◌&&◌, ◌||◌, not, codes, is_some, option_and_then, if◌then◌else◌, IfSome, nat_lt, option_or, list_all, filter_map, cons_option, bytes_eq, map-append, cond-true, ltb-true, and_parts, last_of, is_path, is_target, decimal_value, is_canonical, digits_value, Dep, line_feed, content, following, before, between, CommandRecord, back_lines, is_command, is_dep, IsLegal, dep_line, deps_begin, target_line, deps_end, layout, generation_mark, generation_in, is_sound, LinesRead, dep_in, saved_command, source_in, ◌>>=◌, or_fault, fixed_at, form_at, deps_in, onto_deps, said, said_after, generation_from, end_from, record_in}
+use Rattle.ks_fixdep.proofs.Prelude.{◌≡◌, ℕ, ◌+◌, Bool, true, false, List, [], ◌∷◌, ◌++◌, length, take, drop, refl, sym, ap, ◌∙◌, Option, Some, None, Result, Ok, Err, map, append_assoc, subst, ◌<◌, ◌^◌, ◌&&◌, ◌||◌, not, is_some, option_and_then, if◌then◌else◌, IfSome, nat_lt, option_or, list_all, filter_map, cons_option, bytes_eq, map-append, cond-true, ltb-true, and_parts, last_of, is_path, is_target, decimal_value, is_canonical, digits_value, Dep, line_feed, content, following, before, between, CommandRecord, back_lines, is_command, is_dep, IsLegal, dep_line, deps_begin, target_line, deps_end, layout, generation_mark, generation_in, is_sound, LinesRead, dep_in, saved_command, source_in, ◌>>=◌, or_fault, fixed_at, form_at, deps_in, onto_deps, said, said_after, generation_from, end_from, record_in, saved_line, source_line}
 use Rattle.std.proofs.lemmas.List.{take-append-drop}
 use Rattle.ks_fixdep.proofs.CommandFormLemmas.{bytes-refl, bytes-same, saved_command-line, source_in-line, dep-line, dep_in-none, saved_command-is, source_in-is, dep_in-is}
 
@@ -118,8 +118,8 @@ record-fits : (f : CommandRecord) (ls more : List (List ℕ)) → IsLegal f → 
 unfolding record_in
 record-fits f ls more legal e generation =
     let t = f.target in
-    let saved = codes "savedcmd_" ++ t ++ codes " := " ++ f.command in
-    let named = codes "source_" ++ t ++ codes " := " ++ f.source in
+    let saved = saved_line t f.command in
+    let named = source_line t f.source in
     let end = back_lines t in
     let deps = map dep_line f.deps ++ end in
     let l1 = drop 1 ls in
@@ -295,14 +295,14 @@ end-ends n t ls g e =
     }
 
 saved-begins : (ls rest : List (List ℕ)) (t c : List ℕ) → form_at 1 saved_command ls ≡ Ok ((t, c), rest) → (is_target t ≡ true) × (is_command c ≡ true)
-    × Begins (codes "savedcmd_" ++ t ++ codes " := " ++ c) rest ls
+    × Begins (saved_line t c) rest ls
 saved-begins ls rest t c e =
     let b = form-begins 1 saved_command ls rest (t, c) e in
     let line = saved_command-is (content b.line) t c b.says in
     (line.target_legal, line.command_legal, record { line = b.line; is = b.is; fits = line.is })
 
 source-begins : (ls rest : List (List ℕ)) (t s : List ℕ) → form_at 3 (source_in t) ls ≡ Ok (s, rest) → (is_path s ≡ true)
-    × Begins (codes "source_" ++ t ++ codes " := " ++ s) rest ls
+    × Begins (source_line t s) rest ls
 source-begins ls rest t s e =
     let b = form-begins 3 (source_in t) ls rest s e in
     let line = source_in-is t (content b.line) s b.says in
@@ -358,11 +358,11 @@ lines-fit f ls e =
       generation
           = subst P (sym end.generation) (last-below end.appended);
     } in
-    let named = codes "source_" ++ t ++ codes " := " ++ s3.value.0 in
+    let named = source_line t s3.value.0 in
     let following = map dep_line ds ++ back_lines t in
     let more = end.appended in
     let front : Front (layout r) more ls =
-    front-one (codes "savedcmd_" ++ t ++ codes " := " ++ c) ([] ∷ named ∷ [] ∷ deps_begin t ∷ following) more s1.value.1 ls saved.2
+    front-one (saved_line t c) ([] ∷ named ∷ [] ∷ deps_begin t ∷ following) more s1.value.1 ls saved.2
     (front-one [] (named ∷ [] ∷ deps_begin t ∷ following) more s2.value s1.value.1 (fixed-begins 2 [] s1.value.1 s2.value s2.first)
     (front-one named ([] ∷ deps_begin t ∷ following) more s3.value.1 s2.value source.1
     (front-one [] (deps_begin t ∷ following) more s4.value s3.value.1 (fixed-begins 4 [] s3.value.1 s4.value s4.first)

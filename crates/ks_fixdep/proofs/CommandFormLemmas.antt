@@ -1,5 +1,5 @@
 -- A line of the layout says what it was made of, and no other line does.
-use Rattle.ks_fixdep.proofs.Prelude.{same_Some, ◌≡◌, ℕ, zero, suc, ◌+◌, ◌-◌, ◌<◌, ◌≤◌, Bool, true, false, List, [], ◌∷◌, ◌++◌, length, take, drop, refl, sym, ap, ◌∙◌, arith, ⊎_elim, Option, Some, None, subst, length-append, append_assoc, inl, inr, take-append_seam, drop-append_seam, drop-append-add, drop-drop, bytes_eq-Decides, Dep, File, Config, is_dep, dep_line, cond-true, cond-false, cases_Bool, eqb-true, eq-eqb, le-leb, cases_lt, and_parts, and_right, ◌==◌, ◌&&◌, not, nat_eq, nat_le, codes, slice_index, option_and_then, if◌then◌else◌, list_all, bytes_eq, first_of, matches, matches_from, match_len, occurs_at, is_name, is_path, is_target, is_path_byte, following, before, between, is_command, checked, split_once, cut, saved_command, source_in, path_in, name_in, dep_in, either_dep}
+use Rattle.ks_fixdep.proofs.Prelude.{same_Some, ◌≡◌, ℕ, zero, suc, ◌+◌, ◌-◌, ◌<◌, ◌≤◌, Bool, true, false, List, [], ◌∷◌, ◌++◌, length, take, drop, refl, sym, ap, ◌∙◌, arith, ⊎_elim, Option, Some, None, subst, length-append, append_assoc, inl, inr, take-append_seam, drop-append_seam, drop-append-add, drop-drop, bytes_eq-Decides, Dep, File, Config, is_dep, dep_line, cond-true, cond-false, cases_Bool, eqb-true, eq-eqb, le-leb, cases_lt, and_parts, and_right, ◌==◌, ◌&&◌, not, nat_eq, nat_le, slice_index, option_and_then, if◌then◌else◌, list_all, bytes_eq, first_of, matches, matches_from, match_len, occurs_at, is_name, is_path, is_target, is_path_byte, following, before, between, is_command, checked, split_once, cut, saved_command, source_in, path_in, name_in, dep_in, either_dep, assignment, file_end, file_line, file_mark, name_end, name_line, name_mark, saved_line, saved_mark, source_line, source_mark}
 use Rattle.std.proofs.lemmas.List.{take-append-drop}
 
 -- a byte that passes is none that fails
@@ -38,36 +38,36 @@ before-end x end =
 pub between-both : (front x end : List ℕ) → between front end (front ++ (x ++ end)) ≡ Some x
 between-both front x end = ap (option_and_then (before end)) (after-front front (x ++ end)) ∙ before-end x end
 
-pub path_in-line : (p : List ℕ) → is_path p ≡ true → path_in (codes "  " ++ p ++ codes " \\") ≡ Some p
+pub path_in-line : (p : List ℕ) → is_path p ≡ true → path_in (file_line p) ≡ Some p
 unfolding path_in
-path_in-line p legal = ap (option_and_then (checked is_path)) (between-both (codes "  ") p (codes " \\")) ∙ cond-true _ _ _ legal
+path_in-line p legal = ap (option_and_then (checked is_path)) (between-both file_mark p file_end) ∙ cond-true _ _ _ legal
 
-pub name_in-line : (x : List ℕ) → is_name x ≡ true → name_in (codes "    $(wildcard include/config/" ++ x ++ codes ") \\") ≡ Some x
+pub name_in-line : (x : List ℕ) → is_name x ≡ true → name_in (name_line x) ≡ Some x
 unfolding name_in
-name_in-line x legal = ap (option_and_then (checked is_name)) (between-both (codes "    $(wildcard include/config/") x (codes ") \\")) ∙ cond-true _ _ _ legal
+name_in-line x legal = ap (option_and_then (checked is_name)) (between-both name_mark x name_end) ∙ cond-true _ _ _ legal
 
-third-differs : (b : ℕ) (rest : List ℕ) → nat_eq b 32 ≡ false → bytes_eq (32 ∷ 32 ∷ b ∷ rest) (codes "    $(wildcard include/config/") ≡ false
-third-differs b rest e = ap (λ v. v && bytes_eq rest (drop 3 (codes "    $(wildcard include/config/"))) e
+third-differs : (b : ℕ) (rest : List ℕ) → nat_eq b 32 ≡ false → bytes_eq (32 ∷ 32 ∷ b ∷ rest) name_mark ≡ false
+third-differs b rest e = ap (λ v. v && bytes_eq rest (drop 3 name_mark)) e
 
-after-path : (b : ℕ) (p : List ℕ) → nat_eq b 32 ≡ false → following (codes "    $(wildcard include/config/") (32 ∷ 32 ∷ b ∷ p) ≡ None
+after-path : (b : ℕ) (p : List ℕ) → nat_eq b 32 ≡ false → following name_mark (32 ∷ 32 ∷ b ∷ p) ≡ None
 after-path b p e = cond-false _ _ _ (third-differs b (take 27 p) e)
 
-pub name_in-path : (p : List ℕ) → is_path p ≡ true → name_in (codes "  " ++ p ++ codes " \\") ≡ None
+pub name_in-path : (p : List ℕ) → is_path p ≡ true → name_in (file_line p) ≡ None
 unfolding name_in is_path
 name_in-path [] legal = absurd cc
 name_in-path (b ∷ p) legal =
     let bytes = and_parts (is_path_byte b) (list_all is_path_byte p) (path-bytes (b ∷ p) legal) in
-    ap (λ o. option_and_then (checked is_name) (option_and_then (before (codes ") \\")) o))
-    (after-path b (p ++ codes " \\") (other-byte is_path_byte 32 b refl bytes.0))
+    ap (λ o. option_and_then (checked is_name) (option_and_then (before name_end) o))
+    (after-path b (p ++ file_end) (other-byte is_path_byte 32 b refl bytes.0))
 
-pub source_in-line : (t s : List ℕ) → is_path s ≡ true → source_in t (codes "source_" ++ t ++ codes " := " ++ s) ≡ Some s
+pub source_in-line : (t s : List ℕ) → is_path s ≡ true → source_in t (source_line t s) ≡ Some s
 unfolding source_in
 source_in-line t s legal =
-    ap (λ l. source_in t (codes "source_" ++ l)) (append_assoc t (codes " := ") s) ∙
-    ap (λ o. option_and_then (checked is_path) (option_and_then (following (codes " := ")) (option_and_then (following t) o)))
-    (after-front (codes "source_") (t ++ (codes " := " ++ s)))
-    ∙ ap (λ o. option_and_then (checked is_path) (option_and_then (following (codes " := ")) o)) (after-front t (codes " := " ++ s))
-    ∙ ap (option_and_then (checked is_path)) (after-front (codes " := ") s)
+    ap (λ l. source_in t (source_mark ++ l)) (append_assoc t assignment s) ∙
+    ap (λ o. option_and_then (checked is_path) (option_and_then (following assignment) (option_and_then (following t) o)))
+    (after-front source_mark (t ++ (assignment ++ s)))
+    ∙ ap (λ o. option_and_then (checked is_path) (option_and_then (following assignment) o)) (after-front t (assignment ++ s))
+    ∙ ap (option_and_then (checked is_path)) (after-front assignment s)
     ∙ cond-true _ _ _ legal
 
 -- the first match is the first place where the needle occurs
@@ -86,36 +86,36 @@ first-match hay needle (suc n) i k low high none here =
     ]
 
 -- the separator begins with a byte that a target has not
-no-separator : (t more : List ℕ) (j : ℕ) → list_all is_path_byte t ≡ true → j < length t → bytes_eq (take 4 (drop j (t ++ more))) (codes " := ") ≡ false
+no-separator : (t more : List ℕ) (j : ℕ) → list_all is_path_byte t ≡ true → j < length t → bytes_eq (take 4 (drop j (t ++ more))) assignment ≡ false
 no-separator [] more j legal lt = absurd (omega arith)
 no-separator (b ∷ t) more zero legal lt =
     let bytes = and_parts (is_path_byte b) (list_all is_path_byte t) legal in
-    ap (λ v. v && bytes_eq (take 3 (t ++ more)) (drop 1 (codes " := "))) (other-byte is_path_byte 32 b refl bytes.0)
+    ap (λ v. v && bytes_eq (take 3 (t ++ more)) (drop 1 assignment)) (other-byte is_path_byte 32 b refl bytes.0)
 no-separator (b ∷ t) more (suc j) legal lt =
     no-separator t more j (and_parts (is_path_byte b) (list_all is_path_byte t) legal).1 (omega arith)
 
-split-target : (t c : List ℕ) → list_all is_path_byte t ≡ true → split_once (codes " := ") (t ++ (codes " := " ++ c)) ≡ Some (t, c)
+split-target : (t c : List ℕ) → list_all is_path_byte t ≡ true → split_once assignment (t ++ (assignment ++ c)) ≡ Some (t, c)
 split-target t c legal =
-    let hay = t ++ (codes " := " ++ c) in
-    let four : length (codes " := " ++ c) ≡ 4 + length c = omega arith in
-    let size : length hay ≡ length t + (4 + length c) = length-append t (codes " := " ++ c) ∙ ap (λ k. length t + k) four in
-    let here : occurs_at hay (codes " := ") (length t) ≡ true =
-    ap (λ v. v && bytes_eq (take 4 (drop (length t) hay)) (codes " := ")) (le-leb (length t + 4) (length hay) (omega (arith, size)))
-    ∙ ap (λ d. bytes_eq (take 4 d) (codes " := ")) (drop-append_seam t (codes " := " ++ c)) in
-    let found : first_of (matches hay (codes " := ") 0) ≡ Some (length t) =
-    first-match hay (codes " := ") (length hay + 1 - 0) 0 (length t) (omega arith) (omega (arith, size))
-    (λ j l lt. and_right (nat_le (j + 4) (length hay)) _ (no-separator t (codes " := " ++ c) j legal lt)) here in
-    let after-it : drop (length t + 4) hay ≡ c = drop-append-add t (codes " := " ++ c) 4 in
-    ap (cut (codes " := ") hay) found
-    ∙ ap (λ x. Some (x, drop (length t + 4) hay)) (take-append_seam t (codes " := " ++ c))
+    let hay = t ++ (assignment ++ c) in
+    let four : length (assignment ++ c) ≡ 4 + length c = omega arith in
+    let size : length hay ≡ length t + (4 + length c) = length-append t (assignment ++ c) ∙ ap (λ k. length t + k) four in
+    let here : occurs_at hay assignment (length t) ≡ true =
+    ap (λ v. v && bytes_eq (take 4 (drop (length t) hay)) assignment) (le-leb (length t + 4) (length hay) (omega (arith, size)))
+    ∙ ap (λ d. bytes_eq (take 4 d) assignment) (drop-append_seam t (assignment ++ c)) in
+    let found : first_of (matches hay assignment 0) ≡ Some (length t) =
+    first-match hay assignment (length hay + 1 - 0) 0 (length t) (omega arith) (omega (arith, size))
+    (λ j l lt. and_right (nat_le (j + 4) (length hay)) _ (no-separator t (assignment ++ c) j legal lt)) here in
+    let after-it : drop (length t + 4) hay ≡ c = drop-append-add t (assignment ++ c) 4 in
+    ap (cut assignment hay) found
+    ∙ ap (λ x. Some (x, drop (length t + 4) hay)) (take-append_seam t (assignment ++ c))
     ∙ ap (λ y. Some (t, y)) after-it
 
-pub saved_command-line : (t c : List ℕ) → is_target t ≡ true → is_command c ≡ true → saved_command (codes "savedcmd_" ++ t ++ codes " := " ++ c) ≡ Some (t, c)
+pub saved_command-line : (t c : List ℕ) → is_target t ≡ true → is_command c ≡ true → saved_command (saved_line t c) ≡ Some (t, c)
 unfolding saved_command
 saved_command-line t c target command =
     let test = λ (p : List ℕ × List ℕ). is_target p.0 && is_command p.1 in
-    ap (λ l. saved_command (codes "savedcmd_" ++ l)) (append_assoc t (codes " := ") c) ∙
-    ap (λ o. option_and_then (checked test) (option_and_then (split_once (codes " := ")) o)) (after-front (codes "savedcmd_") (t ++ (codes " := " ++ c)))
+    ap (λ l. saved_command (saved_mark ++ l)) (append_assoc t assignment c) ∙
+    ap (λ o. option_and_then (checked test) (option_and_then (split_once assignment) o)) (after-front saved_mark (t ++ (assignment ++ c)))
     ∙ ap (option_and_then (checked test)) (split-target t c (path-bytes t (target-path t target)))
     ∙ cond-true _ _ _ (ap (λ v. v && is_command c) target ∙ command)
 
@@ -200,35 +200,35 @@ split-is sep xs a b e = at (first_of (matches xs sep 0)) refl e
 pub record SavedLine (line target command : List ℕ) : Type 0 where
   pub target_legal : is_target target ≡ true
   pub command_legal : is_command command ≡ true
-  pub is : line ≡ codes "savedcmd_" ++ target ++ codes " := " ++ command
+  pub is : line ≡ saved_line target command
 
 pub saved_command-is : (line t c : List ℕ) → saved_command line ≡ Some (t, c) → SavedLine line t c
 unfolding saved_command
 saved_command-is line t c e =
     let test = λ (p : List ℕ × List ℕ). is_target p.0 && is_command p.1 in
-    let legal = and_then-steps (checked test) (option_and_then (split_once (codes " := ")) (following (codes "savedcmd_") line)) (t, c) e in
+    let legal = and_then-steps (checked test) (option_and_then (split_once assignment) (following saved_mark line)) (t, c) e in
     let checks = checked-parts test legal.value (t, c) legal.next in
     let tests = and_parts (is_target t) (is_command c) checks.0 in
-    let split = and_then-steps (split_once (codes " := ")) (following (codes "savedcmd_") line) (t, c) (legal.first ∙ ap (λ p. Some p) checks.1) in
+    let split = and_then-steps (split_once assignment) (following saved_mark line) (t, c) (legal.first ∙ ap (λ p. Some p) checks.1) in
     record {
       target_legal = tests.0;
       command_legal = tests.1;
-      is = after-is (codes "savedcmd_") line split.value split.first
-          ∙ ap (λ l. codes "savedcmd_" ++ l) (split-is (codes " := ") split.value t c split.next ∙ sym (append_assoc t (codes " := ") c));
+      is = after-is saved_mark line split.value split.first
+          ∙ ap (λ l. saved_mark ++ l) (split-is assignment split.value t c split.next ∙ sym (append_assoc t assignment c));
     }
 
-pub source_in-is : (t line s : List ℕ) → source_in t line ≡ Some s → (is_path s ≡ true) × (line ≡ codes "source_" ++ t ++ codes " := " ++ s)
+pub source_in-is : (t line s : List ℕ) → source_in t line ≡ Some s → (is_path s ≡ true) × (line ≡ source_line t s)
 unfolding source_in
 source_in-is t line s e =
-    let named = option_and_then (following t) (following (codes "source_") line) in
-    let legal = and_then-steps (checked is_path) (option_and_then (following (codes " := ")) named) s e in
+    let named = option_and_then (following t) (following source_mark line) in
+    let legal = and_then-steps (checked is_path) (option_and_then (following assignment) named) s e in
     let checks = checked-parts is_path legal.value s legal.next in
-    let value = and_then-steps (following (codes " := ")) named s (legal.first ∙ ap (λ p. Some p) checks.1) in
-    let name = and_then-steps (following t) (following (codes "source_") line) value.value value.first in (
+    let value = and_then-steps (following assignment) named s (legal.first ∙ ap (λ p. Some p) checks.1) in
+    let name = and_then-steps (following t) (following source_mark line) value.value value.first in (
       checks.0,
-      after-is (codes "source_") line name.value name.first
-          ∙ ap (λ l. codes "source_" ++ l) (after-is t name.value value.value name.next ∙ ap (λ l. t ++ l)
-          (after-is (codes " := ") value.value s value.next) ∙ sym (append_assoc t (codes " := ") s)),
+      after-is source_mark line name.value name.first
+          ∙ ap (λ l. source_mark ++ l) (after-is t name.value value.value name.next ∙ ap (λ l. t ++ l)
+          (after-is assignment value.value s value.next) ∙ sym (append_assoc t assignment s)),
     )
 
 -- a value between a front and an end, which passes
@@ -247,9 +247,9 @@ dep_in-is line d e = at (name_in line) (path_in line) refl refl e
     at (Some x) path named listed e =
         let is : Config x ≡ d = cc in
         let P : Dep → Type 0 = λ y. (is_dep y ≡ true) × (line ≡ dep_line y) in
-        subst P is (between-checked is_name (codes "    $(wildcard include/config/") (codes ") \\") line x named)
+        subst P is (between-checked is_name name_mark name_end line x named)
     at None (Some p) named listed e =
         let is : File p ≡ d = cc in
         let P : Dep → Type 0 = λ y. (is_dep y ≡ true) × (line ≡ dep_line y) in
-        subst P is (between-checked is_path (codes "  ") (codes " \\") line p listed)
+        subst P is (between-checked is_path file_mark file_end line p listed)
     at None None named listed e = absurd cc

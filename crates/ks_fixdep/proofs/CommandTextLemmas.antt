@@ -1,5 +1,5 @@
 -- The lines of a written text are those of the layout and the line of the generation, and so the text reads as what was written.
-use Rattle.ks_fixdep.proofs.Prelude.{◌≡◌, ℕ, ◌<◌, ◌^◌, Bool, true, false, List, [], ◌∷◌, ◌++◌, length, refl, sym, ap, ◌∙◌, Option, Some, None, append_assoc, map, ◌==◌, ◌&&◌, ◌||◌, not, nat_le, nat_lt, codes, flat_map, decimal, if◌then◌else◌, IfSome, is_some, option_and_then, unwrap_or, list_all, filter_map, cons_option, onto_first, is_ascii_digit, digits_value, cond-false, and_parts, and_from, map-append, list_all-append, last_of, is_name, is_path, is_path_byte, is_word_byte, decimal_value, is_canonical, starts_well, Dep, File, Config, line_feed, lines, content, following, before, CommandRecord, back_lines, is_command, is_command_byte, is_dep, IsLegal, dep_line, target_line, deps_end, layout, generation_mark, generation_line, ended, command_text, generation_in, is_sound, CommandReads}
+use Rattle.ks_fixdep.proofs.Prelude.{◌≡◌, ℕ, ◌<◌, ◌^◌, Bool, true, false, List, [], ◌∷◌, ◌++◌, length, refl, sym, ap, ◌∙◌, Option, Some, None, append_assoc, map, ◌==◌, ◌&&◌, ◌||◌, not, nat_le, nat_lt, codes, flat_map, decimal, if◌then◌else◌, IfSome, is_some, option_and_then, unwrap_or, list_all, filter_map, cons_option, onto_first, is_ascii_digit, digits_value, cond-false, and_parts, and_from, map-append, list_all-append, last_of, is_name, is_path, is_path_byte, is_word_byte, decimal_value, is_canonical, starts_well, Dep, File, Config, line_feed, lines, content, following, before, CommandRecord, back_lines, is_command, is_command_byte, is_dep, IsLegal, dep_line, target_line, deps_end, layout, generation_mark, generation_line, ended, command_text, generation_in, is_sound, CommandReads, assignment, file_end, file_mark, name_end, name_mark}
 use Rattle.ks_fixdep.proofs.CommandFormLemmas.{other-byte, all-imp, path-bytes, target-path, before-end, after-front}
 
 -- ---- no line of the layout has a line feed in it, so the lines of the text are these
@@ -47,8 +47,8 @@ plain-name x legal = all-imp is_word_byte is_plain_byte (λ b passes. ap not (ot
     (and_parts (not (length x == 0) && nat_le (length x) 128) (list_all is_word_byte x) legal).1
 
 plain-dep : (d : Dep) → is_dep d ≡ true → is_plain (dep_line d) ≡ true
-plain-dep (File p) legal = plain-append (codes "  " ++ p) (codes " \\") (plain-path p legal) refl
-plain-dep (Config x) legal = plain-append (codes "    $(wildcard include/config/" ++ x) (codes ") \\") (plain-name x legal) refl
+plain-dep (File p) legal = plain-append (file_mark ++ p) file_end (plain-path p legal) refl
+plain-dep (Config x) legal = plain-append (name_mark ++ x) name_end (plain-name x legal) refl
 
 plain-deps : (ds : List Dep) → list_all is_dep ds ≡ true → list_all is_plain (map dep_line ds) ≡ true
 plain-deps [] legal = refl
@@ -70,7 +70,7 @@ plain-decimal n back =
 
 plain-generation : (g : Option ℕ) → IfSome g (λ x. decimal_value (decimal x) ≡ Some x) → list_all is_plain (generation_line g) ≡ true
 plain-generation None back = refl
-plain-generation (Some g) back = and_from (is_plain (codes "#generation " ++ decimal g)) true (plain-decimal g back) refl
+plain-generation (Some g) back = and_from (is_plain (generation_mark ++ decimal g)) true (plain-decimal g back) refl
 
 plain-last : (t : List ℕ) → is_plain t ≡ true → list_all is_plain (back_lines t) ≡ true
 plain-last t plain =
@@ -83,12 +83,12 @@ plain-layout : (f : CommandRecord) → IsLegal f → list_all is_plain (layout f
 plain-layout f legal =
     let t = f.target in
     let target = plain-path t (target-path t legal.target) in
-    let saved = plain-append (t ++ codes " := ") f.command (plain-append t (codes " := ") target refl) (plain-command f.command legal.command) in
-    let source = plain-append (t ++ codes " := ") f.source (plain-append t (codes " := ") target refl) (plain-path f.source legal.source) in
+    let saved = plain-append (t ++ assignment) f.command (plain-append t assignment target refl) (plain-command f.command legal.command) in
+    let source = plain-append (t ++ assignment) f.source (plain-append t assignment target refl) (plain-path f.source legal.source) in
     let begin = plain-append t (codes " := \\") target refl in
     let rest = list_all-append is_plain (map dep_line f.deps) (back_lines t) ∙ and_from (list_all is_plain (map dep_line f.deps))
     (list_all is_plain (back_lines t)) (plain-deps f.deps legal.deps) (plain-last t target) in
-    ap (λ v. v && (is_plain (t ++ codes " := " ++ f.source) && (is_plain (t ++ codes " := \\") && list_all is_plain (map dep_line f.deps ++ back_lines t))))
+    ap (λ v. v && (is_plain (t ++ assignment ++ f.source) && (is_plain (t ++ codes " := \\") && list_all is_plain (map dep_line f.deps ++ back_lines t))))
     saved
     ∙ ap (λ v. v && (is_plain (t ++ codes " := \\") && list_all is_plain (map dep_line f.deps ++ back_lines t))) source
     ∙ ap (λ v. v && list_all is_plain (map dep_line f.deps ++ back_lines t)) begin

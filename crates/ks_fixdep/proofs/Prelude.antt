@@ -37,11 +37,12 @@ unfoldable pub use Rattle.ks_symbols.specs.Names.{header_path, is_name, is_path,
 pub use Rattle.ks_symbols.specs.Refusals.{IsRefusal, RefusedBy, or_else}
 pub use Rattle.ks_fixdep.specs.CommandAnswers.{Fails, Gives}
 unfoldable pub use Rattle.ks_fixdep.specs.CommandExamples.{example, example_front, example_lines}
-pub use Rattle.ks_fixdep.specs.CommandFile.{CommandRecord, IsLegal, back_lines, command_text, dep_line, deps_begin, deps_end, ended, front_lines, generation_line, generation_mark, is_command_byte, is_dep, layout, target_line, view}
+pub use Rattle.ks_fixdep.specs.CommandFile.{CommandRecord, IsLegal, back_lines, command_text, dep_line, ended, front_lines, generation_line, is_command_byte, is_dep, layout, view}
 unfoldable pub use Rattle.ks_fixdep.specs.CommandFile.{is_command}
 pub use Rattle.ks_fixdep.specs.CommandForms.{checked, cut, either_dep, split_once}
 unfoldable pub use Rattle.ks_fixdep.specs.CommandForms.{dep_in, name_in, path_in, saved_command, source_in}
 pub use Rattle.ks_fixdep.specs.CommandLaws.{ReadsBack}
+pub use Rattle.ks_fixdep.specs.CommandLayout.{assignment, deps_begin, deps_end, file_end, file_line, file_mark, generation_mark, name_end, name_line, name_mark, saved_line, saved_mark, source_line, source_mark, target_line}
 pub use Rattle.ks_fixdep.specs.CommandLines.{before, following, between, line_feed}
 unfoldable pub use Rattle.ks_fixdep.specs.CommandLines.{content, lines}
 pub use Rattle.ks_fixdep.specs.CommandReading.{line_at, onto_deps, or_fault, reading, said_after, ◌>>=◌}

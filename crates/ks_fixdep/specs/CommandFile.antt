@@ -1,11 +1,12 @@
--- What a command file says, and its text: the layout of scripts/basic/fixdep.c. The prefix `savedcmd_` and the line of the generation are this project's own.
-use Rattle.std.specs.Prelude.{◌<◌, ◌^◌, ◌&&◌, ◌==◌, ℕ, Bool, not, IsTrue, List, [], ◌∷◌, ◌++◌, Option, Some, None, IfSome, map, flat_map, codes, decimal}
+-- What a command file says, and its text, in the lines of `CommandLayout`.
+use Rattle.std.specs.Prelude.{◌<◌, ◌^◌, ◌&&◌, ◌==◌, ℕ, Bool, not, IsTrue, List, [], ◌∷◌, ◌++◌, Option, Some, None, IfSome, map, flat_map, decimal}
 use Rattle.std.specs.List.{list_all}
 use Rattle.ks_symbols.specs.Names.{is_name, is_path, is_target}
 use Rattle.ks_fixdep.specs.declared.command_file.Dep.{Dep}
 use Rattle.ks_fixdep.specs.declared.command_file.Dep.TheVariants.{File, Config}
 use Rattle.ks_fixdep.specs.declared.command_file.CommandFile as code
 use Rattle.ks_fixdep.specs.CommandLines.{line_feed}
+use Rattle.ks_fixdep.specs.CommandLayout.{saved_line, source_line, file_line, name_line, deps_begin, target_line, deps_end, generation_mark}
 
 -- a command file without where it lies in memory
 pub record CommandRecord : Type 0 where
@@ -40,22 +41,12 @@ pub record IsLegal (f : CommandRecord) : Type 0 where
 
 -- a listed file, or a name that is found in a source
 abbrev pub dep_line : Dep → List ℕ
-dep_line (File path) = codes "  " ++ path ++ codes " \\"
-dep_line (Config name) = codes "    $(wildcard include/config/" ++ name ++ codes ") \\"
-
-abbrev pub deps_begin : List ℕ → List ℕ
-deps_begin target = codes "deps_" ++ target ++ codes " := \\"
-
-abbrev pub target_line : List ℕ → List ℕ
-target_line target = target ++ codes ": $(deps_" ++ target ++ codes ")"
-
-abbrev pub deps_end : List ℕ → List ℕ
-deps_end target = codes "$(deps_" ++ target ++ codes "):"
+dep_line (File path) = file_line path
+dep_line (Config name) = name_line name
 
 -- the lines before those of the dependencies
 abbrev pub front_lines : List ℕ → List ℕ → List ℕ → List (List ℕ)
-front_lines target command source =
-    (codes "savedcmd_" ++ target ++ codes " := " ++ command) ∷ [] ∷ (codes "source_" ++ target ++ codes " := " ++ source) ∷ [] ∷ deps_begin target ∷ []
+front_lines target command source = saved_line target command ∷ [] ∷ source_line target source ∷ [] ∷ deps_begin target ∷ []
 
 -- the lines after those of the dependencies
 abbrev pub back_lines : List ℕ → List (List ℕ)
@@ -64,10 +55,6 @@ back_lines target = [] ∷ target_line target ∷ [] ∷ deps_end target ∷ []
 -- the lines but for that of the generation
 abbrev pub layout : CommandRecord → List (List ℕ)
 layout f = front_lines f.target f.command f.source ++ map dep_line f.deps ++ back_lines f.target
-
--- what the line of a generation begins with
-abbrev pub generation_mark : List ℕ
-generation_mark = codes "#generation "
 
 abbrev pub generation_line : Option ℕ → List (List ℕ)
 generation_line None = []

@@ -5,7 +5,8 @@ use Rattle.std.specs.Str.{bytes_eq}
 use Rattle.ks_symbols.specs.Decimal.{decimal_value}
 use Rattle.ks_fixdep.specs.declared.command_file.Dep.{Dep}
 use Rattle.ks_fixdep.specs.CommandLines.{line_feed, lines, content, following, before}
-use Rattle.ks_fixdep.specs.CommandFile.{CommandRecord, deps_begin, target_line, deps_end, generation_mark}
+use Rattle.ks_fixdep.specs.CommandLayout.{deps_begin, target_line, deps_end, generation_mark}
+use Rattle.ks_fixdep.specs.CommandFile.{CommandRecord}
 use Rattle.ks_fixdep.specs.CommandForms.{saved_command, source_in, dep_in}
 
 infixl 10 ◌>>=◌

@@ -5,7 +5,8 @@ use Rattle.std.specs.List.{list_all, filter_map}
 use Rattle.memchr.specs.Find.{last_of}
 use Rattle.ks_symbols.specs.Decimal.{decimal_value}
 use Rattle.ks_fixdep.specs.CommandLines.{line_feed, lines, content, following, between}
-use Rattle.ks_fixdep.specs.CommandFile.{CommandRecord, IsLegal, layout, generation_mark}
+use Rattle.ks_fixdep.specs.CommandLayout.{generation_mark}
+use Rattle.ks_fixdep.specs.CommandFile.{CommandRecord, IsLegal, layout}
 
 -- the generation that a line says: a decimal stands between the mark and the line feed
 abbrev pub generation_in : List ℕ → Option ℕ

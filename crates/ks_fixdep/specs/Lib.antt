@@ -16,6 +16,7 @@ pub mod Tokens
 pub mod DependencyFile
 pub mod Progress
 pub mod CommandLines
+pub mod CommandLayout
 pub mod CommandFile
 pub mod Borrowed
 pub mod CommandReads

@@ -8,6 +8,7 @@ ghost use Rattle.ks_fixdep.specs.declared.command_file.CommandError.TheVariants.
 
 mod borrowed;
 mod laws;
+mod layout;
 mod owning;
 mod reading;
 mod writing;

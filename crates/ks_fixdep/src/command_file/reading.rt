@@ -1,6 +1,6 @@
 //! Reading a command file. Each function takes one line, or the lines from one number on, and answers what the definition of
 //! these lines answers: what they say, or the number of the first that does not fit.
-ghost use Rattle.std.specs.Prelude.{◌≡◌, ◌∷◌, [], ◌<◌, ◌≤◌, ◌+◌, ◌^◌, List, ℕ, length, drop, IfOk, IfSome, IsTrue, IsErrOf, OnOk, flat_map, map};
+ghost use Rattle.std.specs.Prelude.{◌≡◌, ◌∷◌, [], ◌<◌, ◌≤◌, ◌+◌, ◌^◌, List, ℕ, length, drop, IfOk, IfSome, IsTrue, IsErrOf, OnOk, map};
 ghost use Rattle.std.specs.Option.{option_copied, option_map};
 ghost use Rattle.std.specs.Str.{bytes_eq};
 ghost use Rattle.ks_symbols.specs.Names.{is_name, is_path, is_target};
@@ -12,12 +12,13 @@ ghost use Rattle.ks_fixdep.specs.CommandForms as Forms;
 ghost use Rattle.ks_fixdep.specs.CommandReading as Reading;
 ghost use Rattle.ks_fixdep.specs.CommandReading.{reading};
 ghost use Rattle.ks_fixdep.specs.CommandAnswers.{Gives, copied_pair};
+ghost use Rattle.ks_fixdep.specs.CommandWriting.{joined};
 ghost use Rattle.ks_fixdep.specs.declared.command_file.CommandError.TheVariants.{TooLarge};
 
 use super::owning::own_command;
 use super::{
     BorrowedCommand, BorrowedDep, BorrowedName, CommandError, CommandFile, command_files_fit,
-    command_is_legal,
+    command_is_legal, layout,
 };
 use bstr::ByteSlice;
 use ks_symbols::{MAX_BYTES, name_is_legal, path_is_legal, read_decimal, target_is_legal};
@@ -57,7 +58,7 @@ fn line_at(number: u64, text: &[u8]) -> Result<(&[u8], &[u8]), CommandError>
 
 /// Whether a line is these parts, one after the other.
 fn is_joined(line: &[u8], parts: &[&[u8]]) -> bool
-    ensures { result ≡ bytes_eq line.now (flat_map (λ p. p.now) parts.now) }
+    ensures { result ≡ bytes_eq line.now (joined parts.now) }
 {
     let mut rest = line;
     for part in parts {
@@ -73,7 +74,7 @@ fn is_joined(line: &[u8], parts: &[&[u8]]) -> bool
 #[tactic(auto, unfolding(crate::specs::CommandReading::fixed_at))]
 fn fixed_at<'a>(number: u64, parts: &[&[u8]], text: &'a [u8]) -> Result<&'a [u8], CommandError>
     ensures shorter { IfOk result (λ r. length r.now < length text.now) }
-    ensures value { Gives (λ r. lines r.now) result (Reading.fixed_at number (flat_map (λ p. p.now) parts.now) (lines text.now)) }
+    ensures value { Gives (λ r. lines r.now) result (Reading.fixed_at number (joined parts.now) (lines text.now)) }
 {
     let (line, rest) = line_at(number, text)?;
     if !is_joined(line, parts) {
@@ -88,8 +89,8 @@ fn saved_command(line: &[u8]) -> Option<(&[u8], &[u8])>
     ensures value { copied_pair result ≡ Forms.saved_command line.now }
     ensures legal { IfSome result (λ p. IsTrue (is_path p.0.now)) }
 {
-    let named = line.strip_prefix(b"savedcmd_")?;
-    let (target, command) = named.split_once_str(b" := ")?;
+    let named = line.strip_prefix(layout::SAVED_MARK)?;
+    let (target, command) = named.split_once_str(layout::ASSIGNMENT)?;
     if target_is_legal(target) && command_is_legal(command) {
         Some((target, command))
     } else {
@@ -104,9 +105,9 @@ fn source_in<'a>(target: &[u8], line: &'a [u8]) -> Option<&'a [u8]>
     ensures legal { IfSome result (λ x. IsTrue (is_path x.now)) }
 {
     let source = line
-        .strip_prefix(b"source_")?
+        .strip_prefix(layout::SOURCE_MARK)?
         .strip_prefix(target)?
-        .strip_prefix(b" := ")?;
+        .strip_prefix(layout::ASSIGNMENT)?;
     if path_is_legal(source) {
         Some(source)
     } else {
@@ -121,8 +122,8 @@ fn name_in(line: &[u8]) -> Option<&[u8]>
     ensures legal { IfSome result (λ x. IsTrue (is_name x.now)) }
 {
     let name = line
-        .strip_prefix(b"    $(wildcard include/config/")?
-        .strip_suffix(b") \\")?;
+        .strip_prefix(layout::NAME_MARK)?
+        .strip_suffix(layout::NAME_END)?;
     if name_is_legal(name) {
         Some(name)
     } else {
@@ -136,7 +137,9 @@ fn path_in(line: &[u8]) -> Option<&[u8]>
     ensures value { option_copied result ≡ Forms.path_in line.now }
     ensures legal { IfSome result (λ x. IsTrue (is_path x.now)) }
 {
-    let path = line.strip_prefix(b"  ")?.strip_suffix(b" \\")?;
+    let path = line
+        .strip_prefix(layout::FILE_MARK)?
+        .strip_suffix(layout::FILE_END)?;
     if path_is_legal(path) {
         Some(path)
     } else {
@@ -149,7 +152,7 @@ fn path_in(line: &[u8]) -> Option<&[u8]>
 fn said(number: u64, line: &[u8]) -> Result<Option<u64>, CommandError>
     ensures { Gives (λ g. g) result (Reading.said number line.now) }
 {
-    let Some(after) = line.strip_prefix(b"#generation ") else {
+    let Some(after) = line.strip_prefix(layout::GENERATION_MARK) else {
         return Ok(None);
     };
     let Some(digits) = after.strip_suffix(b"\n") else {
@@ -185,9 +188,9 @@ fn end_from(number: u64, target: &[u8], text: &[u8]) -> Result<Option<u64>, Comm
     ensures { Gives (λ g. g) result (Reading.end_from number target.now (lines text.now)) }
 {
     let rest = fixed_at(number, &[], text)?;
-    let rest = fixed_at(number + 1, &[target, b": $(deps_", target, b")"], rest)?;
+    let rest = fixed_at(number + 1, &layout::target_line(target), rest)?;
     let rest = fixed_at(number + 2, &[], rest)?;
-    let rest = fixed_at(number + 3, &[b"$(deps_", target, b"):"], rest)?;
+    let rest = fixed_at(number + 3, &layout::deps_end(target), rest)?;
     generation_from(number + 4, rest)
 }
 
@@ -264,7 +267,7 @@ fn borrowed_record_in(alloc: Global, text: &[u8]) -> Result<BorrowedCommand<'_>,
     let rest = fixed_at(2, &[], rest)?;
     let (source, rest) = source_at(target, rest)?;
     let rest = fixed_at(4, &[], rest)?;
-    let rest = fixed_at(5, &[b"deps_", target, b" := \\"], rest)?;
+    let rest = fixed_at(5, &layout::deps_begin(target), rest)?;
     let (deps, rest) = borrowed_dependencies(alloc, rest)?;
     let generation = end_from(6 + deps.len() as u64, target, rest)?;
     Ok(BorrowedCommand {

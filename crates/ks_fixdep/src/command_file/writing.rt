@@ -4,7 +4,7 @@ ghost use Rattle.ks_fixdep.specs.CommandFile.{back_lines, command_text, dep_line
 ghost use Rattle.ks_fixdep.specs.CommandWriting.{Extends, deps_text, joined};
 ghost use Rattle.ks_fixdep.specs.declared.command_file.Dep.TheVariants.{File, Config};
 
-use super::{CommandFile, Dep};
+use super::{CommandFile, Dep, layout};
 use ks_symbols::write_decimal;
 use std::alloc::AllocError;
 
@@ -36,9 +36,10 @@ pub(crate) fn push_file(out: &mut Vec<u8>, path: &[u8]) -> Result<(), AllocError
     ensures ok { OnOk result (out.new.items ≡ out.old.items ++ ended (dep_line (File path.now))) }
     ensures extends { Extends out.old.items out.new.items }
 {
-    out.extend_from_slice(b"  ")?;
+    out.extend_from_slice(layout::FILE_MARK)?;
     out.extend_from_slice(path)?;
-    out.extend_from_slice(b" \\\n")?;
+    out.extend_from_slice(layout::FILE_END)?;
+    out.push(b'\n')?;
     Ok(())
 }
 
@@ -47,9 +48,10 @@ pub(crate) fn push_name(out: &mut Vec<u8>, name: &[u8]) -> Result<(), AllocError
     ensures ok { OnOk result (out.new.items ≡ out.old.items ++ ended (dep_line (Config name.now))) }
     ensures extends { Extends out.old.items out.new.items }
 {
-    out.extend_from_slice(b"    $(wildcard include/config/")?;
+    out.extend_from_slice(layout::NAME_MARK)?;
     out.extend_from_slice(name)?;
-    out.extend_from_slice(b") \\\n")?;
+    out.extend_from_slice(layout::NAME_END)?;
+    out.push(b'\n')?;
     Ok(())
 }
 
@@ -81,7 +83,7 @@ fn push_generation(out: &mut Vec<u8>, generation: Option<u64>) -> Result<(), All
     ensures extends { Extends out.old.items out.new.items }
 {
     if let Some(number) = generation {
-        out.extend_from_slice(b"#generation ")?;
+        out.extend_from_slice(layout::GENERATION_MARK)?;
         write_decimal(number, out)?;
         out.push(b'\n')?;
     }
@@ -101,11 +103,11 @@ pub(crate) fn push_front<'a>(
     push_lines(
         out,
         &[
-            &[b"savedcmd_", target, b" := ", command],
+            &[layout::SAVED_MARK, target, layout::ASSIGNMENT, command],
             &[],
-            &[b"source_", target, b" := ", source],
+            &[layout::SOURCE_MARK, target, layout::ASSIGNMENT, source],
             &[],
-            &[b"deps_", target, b" := \\"],
+            &layout::deps_begin(target),
         ],
     )
 }
@@ -123,9 +125,9 @@ pub(crate) fn push_back(
         out,
         &[
             &[],
-            &[target, b": $(deps_", target, b")"],
+            &layout::target_line(target),
             &[],
-            &[b"$(deps_", target, b"):"],
+            &layout::deps_end(target),
         ],
     )?;
     push_generation(out, generation)

@@ -10,5 +10,5 @@ returns-clause-ok c =
     let d = c.push_generation.new.out.items in
     on_ok_weaker c.push_generation.result
     (λ is. then-part o _ d (flat_map ended back) (flat_map ended last)
-    (c.in_ok-push_lines.ensures.ok ∙ ap (λ l. o ++ l) (back-is c.args.target.now)) is ∙ ap (λ l. o ++ l) (sym (flat_map-append ended back last)))
+    (c.in_ok-push_lines.ensures.ok ∙ ap (λ l. o ++ l) (back-is c.args.target.now _ _ c.target_line.ensures c.deps_end.ensures)) is ∙ ap (λ l. o ++ l) (sym (flat_map-append ended back last)))
     c.push_generation.ensures.ok

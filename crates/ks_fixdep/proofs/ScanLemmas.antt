@@ -1,5 +1,6 @@
 -- The names of a text by its words.
-use Rattle.ks_fixdep.proofs.Prelude.{◌≡◌, ℕ, zero, suc, ◌+◌, ◌-◌, ◌≤◌, ◌<◌, true, false, cond, List, [], ◌∷◌, ◌++◌, length, take, drop, get_or, map, Option, Some, None, refl, sym, ap, ap₂, ◌∙◌, arith, ⊎_elim, append_assoc, append-nil, length-drop, get_or-drop, get_or-take, take-append-drop, take-take, cond_both, cond-true, cond-false, cases_Bool, cases_lt, and_from, and_parts, le-leb, drop_all, drop-drop, get_or_past, length-take, map-append, length-prefix_len, list_all-append, list_all-from_AllPass, prefix_len_passes, prefix_len_stops, take_while-cons, bytes_eq-Decides, if◌then◌else◌, list_all, prefix_len, take_while, bytes_eq, OccursAt, FindsNeedle, occurs_at-true, OccursAt-true, is_word_byte, is_name, prefix, begun, byte_before, name_of, name_of_word, names_after, placed, further}
+use Rattle.ks_fixdep.proofs.Prelude.{◌≡◌, ℕ, zero, suc, ◌+◌, ◌-◌, ◌≤◌, ◌<◌, true, false, cond, List, [], ◌∷◌, ◌++◌, length, take, drop, get_or, map, Option, Some, None, refl, sym, ap, ap₂, ◌∙◌, arith, ⊎_elim, append_assoc, append-nil, length-drop, get_or-drop, get_or-take, take-append-drop, take-take, cond_both, cond-true, cond-false, cases_Bool, cases_lt, and_from, and_parts, le-leb, drop_all, drop-drop, get_or_past, length-take, map-append, length-prefix_len, list_all-append, list_all-from_AllPass, prefix_len_passes, prefix_len_stops, take_while-cons, bytes_eq-Decides, if◌then◌else◌, list_all, prefix_len, take_while, bytes_eq, OccursAt, FindsNeedle, occurs_at-true, OccursAt-true, is_word_byte, is_name, prefix, begun, byte_before, name_of, name_of_word, names_after, placed, further, NameAt, names_left}
+use Rattle.ks_fixdep.specs.declared.name_iter.NameIter.{NameIter}
 use Rattle.ks_fixdep.proofs.RunLemmas.{name_of-legal}
 
 -- ---- a word
@@ -232,3 +233,8 @@ names_after-legal before i (b ∷ t) =
     let w = take_while is_word_byte (b ∷ t) in
     let first = legal-placed i (begun before (name_of_word w)) (λ x is. name_of_word-legal w x (begun-some before (name_of_word w) x is).1) in
     list_all-append (λ x. is_name x.name) (placed i (begun before (name_of_word w))) (names_after b (i + 1) t) ∙ and_from _ _ first (names_after-legal b (i + 1) t)
+
+-- .. and so is the next one that is left
+pub next-legal : (it : NameIter) (x : NameAt) (more : List NameAt) → names_left it ≡ x ∷ more → is_name x.name ≡ true
+next-legal it x more is =
+    (and_parts _ _ (sym (ap (list_all (λ y. is_name y.name)) is) ∙ names_after-legal 0 it.next_place (drop it.next_place it.text.now))).0

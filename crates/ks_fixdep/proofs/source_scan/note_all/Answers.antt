@@ -1,12 +1,9 @@
-use Rattle.ks_fixdep.proofs.Prelude.{drop, map, sym, ap, ◌∙◌, and_parts, list_all, is_name, all_noted, names_left, bare_name}
-use Rattle.ks_fixdep.proofs.ScanLemmas.{names_after-legal}
+use Rattle.ks_fixdep.proofs.Prelude.{map, sym, ap, ◌∙◌, all_noted, names_left, bare_name}
+use Rattle.ks_fixdep.proofs.ScanLemmas.{next-legal}
 use Rattle.ks_fixdep.proofs.source_scan.note_all.Goals as goal
 
 pub note-requires : goal.note-requires
-note-requires c =
-    let it = c.loop-next.names in
-    (and_parts _ _ (sym (ap (list_all (λ x. is_name x.name)) c.in-Some.ensures) ∙ names_after-legal 0 it.next_place
-    (drop it.next_place it.text.now))).0
+note-requires c = next-legal c.loop-next.names _ _ c.in-Some.ensures
 
 pub loop-next-preserved : goal.loop-next-preserved
 loop-next-preserved c = record {

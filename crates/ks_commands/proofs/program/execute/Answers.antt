@@ -1,16 +1,56 @@
-use Rattle.ks_commands.proofs.Prelude.{inl, inr, refl, subst, IsAskedBy}
+use Rattle.ks_commands.proofs.Prelude.{◌≡◌, ◌∙◌, [], Some, Ok, Err, inl, inr, refl, ap, subst, IsSiteLine, site_of, seen_site, IsAskedBy}
+use Rattle.ks_commands.proofs.Siting.{no_site, read_after, site_line_kept, some_none}
 use Rattle.ks_commands.proofs.program.execute.Goals as goal
-
-pub returns-in-Ok : goal.returns-in-Ok
-returns-in-Ok g c = λ words by. inl (
-  c.in-Ok.request,
-  subst (IsAskedBy words) c.in-Ok.is by,
-  c.perform.ensures.0,
-  c.perform.ensures.1,
-  c.perform.ensures.2,
-  c.perform.ensures.3,
-  c.perform.ensures.4,
-)
 
 pub returns-in-Err : goal.returns-in-Err
 returns-in-Err g c = λ words by. inr (refl, c.tell_why.ensures words (subst (IsAskedBy words) c.in-Err.is by))
+
+pub returns-in-Ok-outcome : goal.returns-in-Ok-outcome
+returns-in-Ok-outcome g c = λ words by.
+    let did = c.in-Ok-outcome.ensures in
+    inl (
+      c.in-Ok.request,
+      subst (IsAskedBy words) c.in-Ok.is by,
+      Ok c.in-Ok-outcome.outcome,
+      record { done = did.done; files = did.files; goes_on = did.goes_on; cause = did.cause; counts = did.counts },
+      [],
+      refl,
+      c.print.ensures,
+    )
+
+pub returns : goal.returns
+returns g c = λ words by.
+    let did = c.in-Err.ensures in
+    inl (
+      c.in-Ok.request,
+      subst (IsAskedBy words) c.in-Ok.is by,
+      Err c.in-Err.refusal,
+      record { done = did.done; files = did.files; goes_on = did.goes_on; cause = did.cause; counts = tt },
+      [],
+      subst (λ site. IsSiteLine g.T.Tree.is_honest (g.T.Tree.files c.outcome.new.tree) site []) c.in-None.ensures refl,
+      (refl, c.refuse.ensures.told, c.refuse.ensures.status),
+    )
+
+pub returns-in-Some : goal.returns-in-Some
+returns-in-Some g c = λ words by.
+    let request = c.in-Ok.request in
+    let refusal = c.in-Err.refusal in
+    let did = c.in-Err.ensures in
+    let site = seen_site c.in-Some.site in
+    let found : Some site ≡ site_of request refusal = c.in-Some.ensures in
+    let told = c.refuse_at.ensures.told in
+    let reads = c.refuse_at.ensures.reads in
+    inl (
+      request,
+      subst (IsAskedBy words) c.in-Ok.is by,
+      Err refusal,
+      read_after g.T.Tree c.args.dialect c.args.tree.now c.outcome.new.tree c.refuse_at.new.tree request refusal
+          (λ memory. absurd (some_none site (found ∙ ap (site_of request) memory ∙ no_site request)))
+          (record { done = did.done; files = did.files; goes_on = did.goes_on; cause = did.cause; counts = tt })
+          reads,
+      told.0,
+      subst (λ s. IsSiteLine g.T.Tree.is_honest (g.T.Tree.files c.refuse_at.new.tree) s told.0) found
+          (site_line_kept g.T.Tree.is_honest (g.T.Tree.files c.outcome.new.tree) (g.T.Tree.files c.refuse_at.new.tree) (Some site) told.0 reads.unchanged
+          told.1),
+      (refl, told.2, c.refuse_at.ensures.status),
+    )

@@ -20,11 +20,11 @@ returns-in-Ok-outcome g c = λ words by.
 
 pub returns : goal.returns
 returns g c = λ words by.
-    let did = c.in-Err.ensures in
+    let did = c.in-Err-outcome.ensures in
     inl (
       c.in-Ok.request,
       subst (IsAskedBy words) c.in-Ok.is by,
-      Err c.in-Err.refusal,
+      Err c.in-Err-outcome.refusal,
       record { done = did.done; files = did.files; goes_on = did.goes_on; cause = did.cause; counts = tt },
       [],
       subst (λ site. IsSiteLine g.T.Tree.is_honest (g.T.Tree.files c.outcome.new.tree) site []) c.in-None.ensures refl,
@@ -34,8 +34,8 @@ returns g c = λ words by.
 pub returns-in-Some : goal.returns-in-Some
 returns-in-Some g c = λ words by.
     let request = c.in-Ok.request in
-    let refusal = c.in-Err.refusal in
-    let did = c.in-Err.ensures in
+    let refusal = c.in-Err-outcome.refusal in
+    let did = c.in-Err-outcome.ensures in
     let site = seen_site c.in-Some.site in
     let found : Some site ≡ site_of request refusal = c.in-Some.ensures in
     let told = c.refuse_at.ensures.told in

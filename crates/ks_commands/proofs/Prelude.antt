@@ -128,7 +128,7 @@ unfoldable pub use Rattle.ks_commands.specs.Fixdep.{command_file_at}
 pub use Rattle.ks_commands.specs.Kept.{AreGiven, AreKept, IsKept}
 pub use Rattle.ks_commands.specs.Laws.{BatchTellsChanges, IsPreviewed, PreviewsArePerformed, ProgramsTellChanges, RefusalsChangeNothing, StatusesAreAtMostTwo, StatusesTellDifferences}
 pub use Rattle.ks_commands.specs.Performed.{AsksCounted, Continues, Ends, EndsAll, EndsImpact, EndsPreview, EndsStale, EndsWhy, FollowsImpact, FollowsOutdated, FollowsWhy, IsCounted, Performs, Runs, RunsAll, RunsCounted, RunsOn, Says, SaysLines, TellsAll, TellsAnswer, TellsCounted, TellsVerdict, by_files, by_histories, count_of, not_counted}
-pub use Rattle.ks_commands.specs.Performing.{IsAskedBy}
+pub use Rattle.ks_commands.specs.Performing.{Executes, IsAskedBy}
 pub use Rattle.ks_commands.specs.Programs.{Chain, ProgramRun, ProgramTellsChanges, StepsTellChanges, TellsAfter, TellsBuild, TellsCauses, TellsChange, changes_told}
 pub use Rattle.ks_commands.specs.Questions.{IsSpelled, LineCounted, counted_of, tells_of}
 pub use Rattle.ks_commands.specs.Readings.{AddsAll, ReadsUser}

@@ -25,12 +25,12 @@ abbrev pub Refuses : List Text → State → State → State → State → ℕ �
 Refuses words before after err_before err_after status =
     Printed [] (Err (Engine OutOfMemory)) before after err_before err_after status ⊎ Explains words before after err_before err_after status
 
--- The request of the words was performed, and a refusal told with where it points; or memory was refused for it, or the words were
--- explained, and the tree is as before.
-abbrev pub Executes : {T : Type 0} → Ghosts T → Dialect → List Text → T → T → State → State → State → State → ℕ → Type 0
-Executes tree dialect words old new before after err_before err_after status =
-    ((request : Request) × Makes words request
-    × (ended : Ending) × Performs tree dialect old new request ended
+-- A request was performed, and a refusal told with where it points. Where there is none the tree is as before, and all words that make none for
+-- this reason are explained, or memory was refused for them.
+abbrev pub Executes : {T : Type 0} → Ghosts T → Dialect → Result Request WordsError → T → T → State → State → State → State → ℕ → Type 0
+Executes tree dialect (Ok request) old new before after err_before err_after status =
+    (ended : Ending) × Performs tree dialect old new request ended
     × (following : List ℕ) × IsSiteLine tree.is_honest (tree.files new) (ending_site request ended) following
-    × Printed following ended before after err_before err_after status)
-    ⊎ ((new ≡ old) × Refuses words before after err_before err_after status)
+    × Printed following ended before after err_before err_after status
+Executes tree dialect (Err e) old new before after err_before err_after status =
+    (new ≡ old) × ((words : List Text) → IsAskedBy words (Err e) → Refuses words before after err_before err_after status)

@@ -44,8 +44,8 @@ pub fn execute<T: Tree, W: Write, E: Write>(
     out: &mut Stream<W>,
     err: &mut Stream<E>,
 ) -> u8
-    // Of all words that ask for this: their request was performed; or they make none, and the tree is as before.
-    ensures { (words : List Text) → IsAskedBy words asked.now → Executes T.Tree dialect words tree.old tree.new
+    // Their request was performed; or they make none, and the tree is as before.
+    ensures { Executes T.Tree dialect asked.now tree.old tree.new
         (state_of W.Write out.old) (state_of W.Write out.new) (state_of E.Write err.old) (state_of E.Write err.new) result }
 {
     let request = match asked {

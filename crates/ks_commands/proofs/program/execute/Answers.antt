@@ -1,16 +1,14 @@
-use Rattle.ks_commands.proofs.Prelude.{◌≡◌, ◌∙◌, [], Some, Ok, Err, inl, inr, refl, ap, subst, IsSiteLine, site_of, seen_site, IsAskedBy}
+use Rattle.ks_commands.proofs.Prelude.{◌≡◌, ◌∙◌, [], Some, Ok, Err, refl, ap, subst, IsSiteLine, site_of, seen_site}
 use Rattle.ks_commands.proofs.Siting.{no_site, read_after, site_line_kept, some_none}
 use Rattle.ks_commands.proofs.program.execute.Goals as goal
 
 pub returns-in-Err : goal.returns-in-Err
-returns-in-Err g c = λ words by. inr (refl, c.tell_why.ensures words (subst (IsAskedBy words) c.in-Err.is by))
+returns-in-Err g c = rw (c.in-Err.is) (refl, c.tell_why.ensures)
 
 pub returns-in-Ok-outcome : goal.returns-in-Ok-outcome
-returns-in-Ok-outcome g c = λ words by.
+returns-in-Ok-outcome g c =
     let did = c.in-Ok-outcome.ensures in
-    inl (
-      c.in-Ok.request,
-      subst (IsAskedBy words) c.in-Ok.is by,
+    rw (c.in-Ok.is) (
       Ok c.in-Ok-outcome.outcome,
       record { done = did.done; files = did.files; goes_on = did.goes_on; cause = did.cause; counts = did.counts },
       [],
@@ -19,11 +17,9 @@ returns-in-Ok-outcome g c = λ words by.
     )
 
 pub returns : goal.returns
-returns g c = λ words by.
+returns g c =
     let did = c.in-Err-outcome.ensures in
-    inl (
-      c.in-Ok.request,
-      subst (IsAskedBy words) c.in-Ok.is by,
+    rw (c.in-Ok.is) (
       Err c.in-Err-outcome.refusal,
       record { done = did.done; files = did.files; goes_on = did.goes_on; cause = did.cause; counts = tt },
       [],
@@ -32,7 +28,7 @@ returns g c = λ words by.
     )
 
 pub returns-in-Some : goal.returns-in-Some
-returns-in-Some g c = λ words by.
+returns-in-Some g c =
     let request = c.in-Ok.request in
     let refusal = c.in-Err-outcome.refusal in
     let did = c.in-Err-outcome.ensures in
@@ -40,9 +36,7 @@ returns-in-Some g c = λ words by.
     let found : Some site ≡ site_of request refusal = c.in-Some.ensures in
     let told = c.refuse_at.ensures.told in
     let reads = c.refuse_at.ensures.reads in
-    inl (
-      request,
-      subst (IsAskedBy words) c.in-Ok.is by,
+    rw (c.in-Ok.is) (
       Err refusal,
       read_after g.T.Tree c.args.dialect c.args.tree.now c.outcome.new.tree c.refuse_at.new.tree request refusal
           (λ memory. absurd (some_none site (found ∙ ap (site_of request) memory ∙ no_site request)))

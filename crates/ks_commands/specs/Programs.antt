@@ -35,7 +35,7 @@ pub record ProgramRun : Type 0 where
   pub ended : Ending
   pub after : TreeState
 
--- Each begins with the files and the history that the one before it left, and goes on as `perform` promises.
+-- Each begins with the files and the history that the one before it left, and goes on as `execute` promises.
 abbrev pub Chain : TreeState → List ProgramRun → TreeState → Type 0
 Chain first [] last = IsSame first last
 Chain first (run ∷ runs) last =

@@ -49,11 +49,12 @@ fn assign(
     Ok(())
 }
 
-/// Takes in the line of a number.
+/// Takes in the line of a number. Its symbol is looked for at the place `near` first.
 fn apply(
     alloc: Global,
     settings: &mut SettingsDraft,
     symbols: &Symbols,
+    near: &mut usize,
     number: u64,
     line: &[u8],
 ) -> Result<(), SourceError>
@@ -73,13 +74,13 @@ fn apply(
             }
         }
         Some(Statement::Unsets(name)) => {
-            match symbols.kind_of(name) {
+            match symbols.kind_near(name, near) {
                 None => settings.skip(),
                 Some(_) => settings.clear(name)?,
             }
             Ok(())
         }
-        Some(Statement::Assigns(name, written)) => match symbols.kind_of(name) {
+        Some(Statement::Assigns(name, written)) => match symbols.kind_near(name, near) {
             None => {
                 settings.skip();
                 Ok(())
@@ -106,9 +107,10 @@ pub fn draft_settings(
     }
     symbols.keeps_names();
     let mut settings = SettingsDraft::new(alloc);
+    let mut near = 0;
     let mut number: u64 = 1;
     for line in text.lines() {
-        apply(alloc, &mut settings, symbols, number, line)?;
+        apply(alloc, &mut settings, symbols, &mut near, number, line)?;
         number += 1;
     }
     Ok(settings)

@@ -20,6 +20,7 @@ use crate::forms::{Form, form_of};
 use crate::kinds::{Kind, fits};
 use crate::limits::MAX_BYTES;
 use crate::names::name_is_legal;
+use crate::order::Order;
 use crate::symbols::Symbols;
 use crate::table::{Draft, Table};
 use crate::titles::is_title;
@@ -57,24 +58,27 @@ fn first_kinds(alloc: Global, declared: &[Declaration<'_>]) -> Result<Table<Kind
     kinds.close(alloc)
 }
 
-/// Whether a declaration has another kind than its name has here.
-fn has_other_kind(kinds: &Table<Kind>, declaration: &Declaration<'_>) -> bool
+/// Whether a declaration has another kind than its name has here. Its place is noted.
+fn has_other_kind(kinds: &Table<Kind>, declaration: &Declaration<'_>, order: &mut Order) -> bool
     ensures { result ≡ clashes declaration.now.kind (option_map (λ s. s.0) (map.get kinds.now declaration.now.name.now)) }
 {
-    match kinds.get(declaration.name) {
-        Some((first, _)) => clashes(declaration.kind, first),
+    match kinds.get_near(declaration.name, 0) {
+        Some((place, first, _)) => {
+            order.push(place);
+            clashes(declaration.kind, first)
+        }
         None => false,
     }
 }
 
-/// The line of the first declaration with another kind than the first one of its name.
-fn first_clash(kinds: &Table<Kind>, declared: &[Declaration<'_>]) -> Option<u64>
+/// The line of the first declaration with another kind than the first one of its name. The places of those before it are noted.
+fn first_clash(kinds: &Table<Kind>, declared: &[Declaration<'_>], order: &mut Order) -> Option<u64>
     requires { (x : List ℕ) → map.get kinds.now x ≡ option_map without_text (first_kind (map_list seen declared.now) x) }
     ensures clash { option_map (λ n. SourceError.TypeClash n) result ≡ first_clash [] (map_list seen declared.now) }
     ensures kinds { IfNone result ((x : List ℕ) → first_kind (map_list seen declared.now) x ≡ last_kind (map_list seen declared.now) x) }
 {
     for declaration in declared {
-        if has_other_kind(kinds, declaration) {
+        if has_other_kind(kinds, declaration, order) {
             return Some(declaration.number);
         }
     }
@@ -240,12 +244,12 @@ impl<'a> Reader<'a> {
     }
 
     /// The line of the first declaration with another kind than the first one of its name.
-    fn clash(&self, kinds: &Table<Kind>) -> Option<u64>
+    fn clash(&self, kinds: &Table<Kind>, order: &mut Order) -> Option<u64>
         requires { (x : List ℕ) → map.get kinds.now x ≡ option_map without_text (first_kind self.now.declared x) }
         ensures clash { option_map (λ n. SourceError.TypeClash n) result ≡ first_clash [] self.now.declared }
         ensures kinds { IfNone result ((x : List ℕ) → first_kind self.now.declared x ≡ last_kind self.now.declared x) }
     {
-        first_clash(kinds, &self.declared)
+        first_clash(kinds, &self.declared, order)
     }
 
     /// The title of the text.
@@ -271,12 +275,13 @@ fn read_text(alloc: Global, dialect: Dialect, text: &[u8]) -> Result<Symbols, So
     let mut reader = Reader::new(alloc);
     let read = reader.take_lines(dialect, text);
     let kinds = reader.kinds(alloc)?;
-    if let Some(number) = reader.clash(&kinds) {
+    let mut order = Order::new(alloc, kinds.len())?;
+    if let Some(number) = reader.clash(&kinds, &mut order) {
         return Err(SourceError::TypeClash(number));
     }
     read?;
     let title = reader.title(alloc)?;
-    Ok(Symbols::new(kinds, title))
+    Ok(Symbols::new(kinds, title, order))
 }
 
 /// The symbols that a Kconfig declares.

@@ -11,6 +11,7 @@ mod kinds;
 mod laws;
 mod limits;
 mod names;
+mod order;
 mod settings;
 mod statements;
 mod symbols;

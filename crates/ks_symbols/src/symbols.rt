@@ -6,6 +6,7 @@ ghost use Rattle.ks_symbols.specs.Names.{is_in, is_name};
 
 use crate::kinds::Kind;
 use crate::names::Name;
+use crate::order::Order;
 use crate::table::Table;
 use std::alloc::{AllocError, Global};
 use std::marker::Model;
@@ -15,6 +16,7 @@ use std::marker::Model;
 pub struct Symbols {
     kinds: Table<Kind>,
     title: Vec<u8>,
+    order: Order,
 }
 
 impl Model for Symbols {
@@ -31,12 +33,16 @@ impl Model for Symbols {
 }
 
 impl Symbols {
-    pub(crate) fn new(kinds: Table<Kind>, title: Vec<u8>) -> Symbols
+    pub(crate) fn new(kinds: Table<Kind>, title: Vec<u8>, order: Order) -> Symbols
         requires { HasSymbolNames (map.get (kinds_in kinds)) }
         ensures kinds { result.kinds ≡ kinds_in kinds }
         ensures title { result.title ≡ title.items }
     {
-        Symbols { kinds, title }
+        Symbols {
+            kinds,
+            title,
+            order,
+        }
     }
 
     pub fn title(&self) -> &[u8]
@@ -51,6 +57,20 @@ impl Symbols {
     {
         match self.kinds.get(name) {
             Some((kind, _)) => Some(kind),
+            None => None,
+        }
+    }
+
+    /// The kind of a declared symbol, which is looked for at the place `near` first. That becomes the place of the symbol declared
+    /// after it.
+    pub(crate) fn kind_near(&self, name: &[u8], near: &mut usize) -> Option<Kind>
+        ensures { result ≡ map.get self.now.kinds name.now }
+    {
+        match self.kinds.get_near(name, *near) {
+            Some((place, kind, _)) => {
+                *near = self.order.after(place);
+                Some(kind)
+            }
             None => None,
         }
     }

@@ -4,7 +4,7 @@
 //! A configuration is read line by line, compared and written, and never changed in between. So lines are kept as they
 //! come, in a `Draft`, and put in order once, when it is closed. Of several lines about a name the last counts. A record has
 //! the first bytes of its name besides, so that most names are told apart without a look at where they lie.
-ghost use Rattle.std.specs.Prelude.{◌≡◌, OnOk, IfOk, List, ℕ, T, map as map_list, option_map, slice_index, slice_range, ◌<◌};
+ghost use Rattle.std.specs.Prelude.{◌≡◌, OnOk, IfOk, IfSome, Some, List, ℕ, T, map as map_list, option_map, slice_index, slice_range, ◌<◌};
 ghost use Rattle.std.specs.FinMap as map;
 ghost use Rattle.std.specs.FinMap.{find, is_sorted};
 ghost use Rattle.std.specs.Iterator.{item_count};
@@ -125,18 +125,41 @@ fn last_ones<V: Copy>(
     Ok(kept)
 }
 
-/// The value and the text of a name, of records whose names rise.
-fn find<'a, V: Copy>(bytes: &'a [u8], records: &[Record<V>], name: &[u8]) -> Option<(V, &'a [u8])>
+/// The place, the value and the text of a name, of records whose names rise.
+fn find<'a, V: Copy>(
+    bytes: &'a [u8],
+    records: &[Record<V>],
+    name: &[u8],
+) -> Option<(usize, V, &'a [u8])>
     requires { T (is_sorted (slice_cmp nat_cmp) (map_list (entry_in bytes.now) records.now)) }
-    ensures { option_map (λ s. (s.0, s.1.now)) result ≡ find (slice_cmp nat_cmp) name.now (map_list (entry_in bytes.now) records.now) }
+    ensures { option_map (λ s. (s.1, s.2.now)) result ≡ find (slice_cmp nat_cmp) name.now (map_list (entry_in bytes.now) records.now) }
 {
     match records.binary_search_by(|at| name_of(bytes, at).cmp(name)) {
         Ok(index) => {
             let at = &records[index];
-            Some((at.value, text_of(bytes, at)))
+            Some((index, at.value, text_of(bytes, at)))
         }
         Err(_) => None,
     }
+}
+
+/// The same of the record at one place, where it has the name.
+fn found_at<'a, V: Copy>(
+    bytes: &'a [u8],
+    records: &[Record<V>],
+    name: &[u8],
+    place: usize,
+) -> Option<(usize, V, &'a [u8])>
+    requires { T (is_sorted (slice_cmp nat_cmp) (map_list (entry_in bytes.now) records.now)) }
+    ensures { IfSome result (λ s. Some (s.1, s.2.now) ≡ find (slice_cmp nat_cmp) name.now (map_list (entry_in bytes.now) records.now)) }
+{
+    if place < records.len() {
+        let at = &records[place];
+        if name_of(bytes, at) == name {
+            return Some((place, at.value, text_of(bytes, at)));
+        }
+    }
+    None
 }
 
 /// Lines about names in the order in which they come, seen as the map that they make: the last line about a name counts.
@@ -257,7 +280,25 @@ impl<V: Copy> Table<V> {
     pub fn get(&self, name: &[u8]) -> Option<(V, &[u8])>
         ensures { option_map (λ s. (s.0, s.1.now)) result ≡ map.get self.now name.now }
     {
-        find(&self.bytes, &self.records, name)
+        match find(&self.bytes, &self.records, name) {
+            Some(found) => Some((found.1, found.2)),
+            None => None,
+        }
+    }
+
+    /// The place, the value and the text of a name, which is looked for at one place first.
+    pub(crate) fn get_near(&self, name: &[u8], near: usize) -> Option<(usize, V, &[u8])>
+        ensures { option_map (λ s. (s.1, s.2.now)) result ≡ map.get self.now name.now }
+    {
+        match found_at(&self.bytes, &self.records, name, near) {
+            Some(found) => Some(found),
+            None => find(&self.bytes, &self.records, name),
+        }
+    }
+
+    /// How many names there are.
+    pub(crate) fn len(&self) -> usize {
+        self.records.len()
     }
 
     /// The rows, by rising names.

@@ -1,4 +1,4 @@
-use Rattle.ks_symbols.proofs.Prelude.{◌≡◌, ◌+◌, length, ◌++◌, List, ℕ, option_map, sym, ap, subst, ◌∙◌, arith, length-append, AreHeaded, said_in, after_line, after_lines}
+use Rattle.ks_symbols.proofs.Prelude.{◌≡◌, ◌+◌, length, ◌++◌, List, ℕ, option_map, sym, ap, subst, ◌∙◌, arith, length-append, AreHeaded, said_in, after_line, after_lines, rules, head_of}
 use Rattle.std.proofs.Common.{map as map_list}
 use Rattle.std.specs.FinMap as map
 use Rattle.ks_symbols.proofs.LastOnes.{after_push}
@@ -14,34 +14,19 @@ module _ (g : given.Over) (c : After-len-end g) where
   bytes = c.in_ok-extend_from_slice-2.ensures.items ∙ ap (λ (l : List ℕ). l ++ c.args.text.now) c.in_ok-extend_from_slice.ensures.items
 
   long : length c.extend_from_slice-2.new.self.items ≡ length c.self.inside.bytes.items + length c.args.name.now + length c.args.text.now
-  long = ap length bytes ∙ length-append (c.self.inside.bytes.items ++ c.args.name.now) c.args.text.now
-      ∙ ap (λ n. n + length c.args.text.now) (length-append c.self.inside.bytes.items c.args.name.now)
+  long = search (rules, bytes, length-append)
 
   start : c.len-start.result ≡ length c.self.inside.bytes.items
-  start = c.len-start.ensures ∙ c.self.inside.bytes.ok.0
+  start = search rules
 
   middle : c.len-middle.result ≡ length c.self.inside.bytes.items + length c.args.name.now
-  middle = c.len-middle.ensures ∙ c.extend_from_slice.new.self.ok.0 ∙ ap length c.in_ok-extend_from_slice.ensures.items
-      ∙ length-append c.self.inside.bytes.items c.args.name.now
+  middle = search (rules, length-append)
 
   end : c.len-end.result ≡ length c.self.inside.bytes.items + length c.args.name.now + length c.args.text.now
-  end = c.len-end.ensures ∙ c.extend_from_slice-2.new.self.ok.0 ∙ long
+  end = search (rules, long)
 
 pub invariant_of-self-in_err-extend_from_slice-2 : goal.invariant_of-self-in_err-extend_from_slice-2
-invariant_of-self-in_err-extend_from_slice-2 g c =
-    let old = c.self.inside.bytes.items in
-    let rs = c.self.inside.records.items in (
-      lie_more (length old) _ rs
-          (omega (
-            arith,
-            ap length c.in_err-extend_from_slice-2.ensures.items,
-            ap length c.in_ok-extend_from_slice.ensures.items,
-            length-append old c.args.name.now,
-          ))
-          c.self.invariant.0,
-      subst (λ (b : List ℕ). AreHeaded b rs) (sym (c.in_err-extend_from_slice-2.ensures.items ∙ c.in_ok-extend_from_slice.ensures.items))
-          (headed_more old c.args.name.now rs c.self.invariant.0 c.self.invariant.1),
-    )
+invariant_of-self-in_err-extend_from_slice-2 g c = search (rules, lie_more, length-append, headed_more)
 
 pub invariant_of-self-in_err-push : goal.invariant_of-self-in_err-push
 invariant_of-self-in_err-push g c =

@@ -1,5 +1,5 @@
 -- What is printed of objects and commands, with what the tree has counted on the way.
-use Rattle.ks_commands.proofs.Prelude.{Dialect, ◌≡◌, ◌≤◌, ◌++◌, ◌∙◌, ℕ, List, [], ◌∷◌, Option, None, Result, Ok, Err, IfOk, append-nil, append_assoc, arith, refl, sym, ap, subst, Files, EngineError, Reply, Limit, Action, FileRun, FileState, Form, Targets, Outcome, Ending, given_if_named, reply_lines, file_of, with_file, words_of, AsksCounted, IsCounted, RunsCounted, Says, TellsCounted, AreSpelled, script_at}
+use Rattle.ks_commands.proofs.Prelude.{Dialect, ◌≡◌, ◌≤◌, ◌++◌, ◌∙◌, ℕ, List, [], ◌∷◌, Option, None, Result, Ok, Err, IfOk, append-nil, append_assoc, refl, ap, EngineError, Reply, Limit, Action, FileRun, FileState, Form, Targets, Outcome, Ending, given_if_named, reply_lines, file_of, with_file, words_of, AsksCounted, IsCounted, RunsCounted, Says, TellsCounted, AreSpelled, script_at, rules}
 use Rattle.ks_commands.proofs.Continuing.{file_run_follows}
 
 -- nothing is said of it
@@ -12,27 +12,9 @@ pub counted_more : {A : Type 0} (says : List ℕ → Result A EngineError → Li
     (o : List ℕ) (answer : Result A EngineError) (lines after : List ℕ) (last : ℕ)
     → TellsCounted says first objects text mid → IsCounted mid answer last → says o answer lines → after ≡ text ++ lines
     → TellsCounted says first (objects ++ o ∷ []) after last
-counted_more says first [] text mid o answer lines after last so_far counted is more = (
-  answer,
-  lines,
-  last,
-  [],
-  subst (λ m. IsCounted m answer last) so_far.1 counted,
-  is,
-  more ∙ ap (λ l. l ++ lines) so_far.0 ∙ sym (append-nil lines),
-  (refl, refl),
-)
-counted_more says first (p ∷ ps) text mid o answer lines after last so_far counted is more =
-    let (told, said, next, rest, before, spoken, first_is, later) = so_far in (
-      told,
-      said,
-      next,
-      rest ++ lines,
-      before,
-      spoken,
-      more ∙ ap (λ l. l ++ lines) first_is ∙ append_assoc said rest lines,
-      counted_more says next ps rest mid o answer lines (rest ++ lines) last later counted is refl,
-    )
+counted_more says first [] text mid o answer lines after last so_far counted is more = search (rules, append-nil)
+counted_more says first (p ∷ ps) text mid o answer lines after last (told, said, next, rest, before, spoken, first_is, later) counted is more =
+    (told, said, next, rest ++ lines, before, spoken, search (rules, append_assoc), counted_more says next ps rest mid o answer lines (rest ++ lines) last later counted is refl)
 
 -- ---- after the reads of the targets
 
@@ -40,27 +22,13 @@ pub question_asked : (form : Form) (limit : Limit) (honest : Type 0) (old : File
     (text : List ℕ) (new : FileState) → (file_of targets ≡ None → from ≡ None) → (honest → given_if_named old.files (file_of targets) ≡ Ok from)
     → old.failures ≤ m → objects ≡ with_file (words_of targets) from → TellsCounted (Says form limit) m objects text new.failures
     → AsksCounted form limit honest old targets text new
-question_asked form limit honest old targets m from objects text new named there later are each = record {
-  from = from;
-  named = named;
-  there = there;
-  failures = m;
-  later = later;
-  each = subst (λ os. TellsCounted (Says form limit) m os text new.failures) are each;
-}
+question_asked form limit honest old targets m from objects text new named there later are each = search rules
 
 -- .. and after others
 pub asked_after : {E : Type 0} (form : Form) (limit : Limit) (r : Result Outcome E) (honest : Type 0) (old mid : FileState) (targets : Targets)
     (new : FileState) → (honest → mid.files ≡ old.files) → old.failures ≤ mid.failures
     → IfOk r (λ o. AsksCounted form limit honest mid targets o.text.items new) → IfOk r (λ o. AsksCounted form limit honest old targets o.text.items new)
-asked_after form limit (Ok o) honest old mid targets new same later asked = record {
-  from = asked.from;
-  named = asked.named;
-  there = λ is. subst (λ (f : Files). given_if_named f (file_of targets) ≡ Ok asked.from) (same is) (asked.there is);
-  failures = asked.failures;
-  later = omega (arith, later, asked.later);
-  each = asked.each;
-}
+asked_after form limit (Ok o) honest old mid targets new same later asked = search rules
 asked_after form limit (Err e) honest old mid targets new same later asked = asked
 
 -- ---- the lines of a script

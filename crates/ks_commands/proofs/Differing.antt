@@ -1,5 +1,5 @@
 -- What is told of a comparison, and what its status says.
-use Rattle.ks_commands.proofs.Prelude.{◌≡◌, ◌↔◌, ◌∙◌, ℕ, List, [], ◌∷◌, true, false, ◌||◌, cond, Ok, refl, sym, ap, arith, bytes_eq-Decides, Configuration, is_in, Texts, AreChanges, differs, Telling, Outcome, IsUnknown, TellsUnknown, code_of, unknown_lines, Files, IsDiff, asks_status, difference_status, lines_asked, StatusesTellDifferences, KconfigText}
+use Rattle.ks_commands.proofs.Prelude.{◌≡◌, ◌↔◌, ◌∙◌, ℕ, List, [], ◌∷◌, true, ◌||◌, cond, Ok, refl, sym, ap, bytes_eq-Decides, Configuration, is_in, Texts, AreChanges, differs, Telling, Outcome, IsUnknown, TellsUnknown, code_of, unknown_lines, Files, IsDiff, asks_status, difference_status, lines_asked, StatusesTellDifferences, KconfigText, rules}
 
 -- an outcome tells what it holds
 pub told_of : (telling : Telling) (files : Files) (kconfig : KconfigText) (dotconfig : List ℕ) (o : Outcome)
@@ -13,10 +13,8 @@ first_is_in x xs = ap (λ b. b || is_in xs x) ((bytes_eq-Decides x x).1 refl)
 
 told_by : (telling : Telling) (old : Texts) (new : Configuration) (names : List (List ℕ)) (status : ℕ) → asks_status telling ≡ true → AreChanges old new names
     → status ≡ difference_status telling names → (status ≡ 1) ↔ ((x : List ℕ) × (differs old new x ≡ true))
-told_by telling old new [] status asked are is =
-    (λ one. absurd (omega (arith, is, one)), λ found. let none : false ≡ true = are.each found.0 ∙ found.1 in cc)
-told_by telling old new (x ∷ xs) status asked are is =
-    (λ one. (x, sym (are.each x) ∙ first_is_in x xs), λ found. is ∙ ap (λ b. cond b 1 0) asked)
+told_by telling old new [] status asked are is = search rules
+told_by telling old new (x ∷ xs) status asked are is = (λ one. (x, sym (are.each x) ∙ first_is_in x xs), λ found. is ∙ ap (λ b. cond b 1 0) asked)
 
 pub statuses_tell_differences : StatusesTellDifferences
 statuses_tell_differences telling old new text status asked tells = told_by telling old new tells.names status asked tells.changed tells.status_of

@@ -9,5 +9,5 @@ pub mod Headline
 pub mod Differing
 pub mod Unknowns
 pub mod Spelled
-pub mod Readings
+pub mod Objects
 pub mod Searching

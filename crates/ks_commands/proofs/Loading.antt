@@ -1,5 +1,5 @@
 -- The actions of lines, from a place on.
-use Rattle.ks_commands.proofs.Prelude.{◌≡◌, ◌∙◌, ◌<◌, ◌+◌, ℕ, true, false, suc, List, [], ◌∷◌, ◌++◌, Option, Some, None, IsSome, take, Result, Ok, Err, map, drop, length, get_or, refl, ap, ap₂, subst, sym, arith, drop-cons, append_assoc, bytes_eq, true≢false, All, map-append, map_more, take_more, All-append, All-cons, All-nil, All-weaker, bytes_decides, Files, SameBut, content, none_some, some_same, EngineError, Action, followed, and_then, Line, given, AreGiven, AreKept, IsKept, action_at, actions_at, line_of, without_files}
+use Rattle.ks_commands.proofs.Prelude.{◌≡◌, ◌∙◌, ◌<◌, ◌+◌, ℕ, true, false, List, [], ◌∷◌, ◌++◌, Option, Some, None, IsSome, take, Result, Ok, Err, map, drop, length, get_or, refl, ap, subst, sym, arith, drop-cons, append_assoc, bytes_eq, true≢false, All, map-append, map_more, take_more, All-append, All-cons, All-nil, All-weaker, bytes_decides, Files, SameBut, content, none_some, some_same, EngineError, Action, followed, and_then, Line, given, AreGiven, AreKept, IsKept, action_at, actions_at, line_of, without_files, common_steps, rules}
 use Rattle.std.specs.FinMap as map_of
 use Rattle.ks_engine.specs.Actions as asked
 use Rattle.ks_requests.specs.Script.{Sync, Record, Stale}
@@ -16,28 +16,19 @@ after_next front a (Err e) = refl
 
 lines_from : {X : Type 0} (files : Files) (f : X → Line) (xs : List X) (i : ℕ) (d : X) → i < length xs
     → actions_at files (map f (drop i xs)) ≡ followed (action_at files (f (get_or xs i d))) (actions_at files (map f (drop (i + 1) xs)))
-lines_from files f xs i d within =
-    let next : suc i ≡ i + 1 = omega arith in
-    subst (λ (j : ℕ). actions_at files (map f (drop i xs)) ≡ followed (action_at files (f (get_or xs i d))) (actions_at files (map f (drop j xs)))) next
-    (ap (λ ys. actions_at files (map f ys)) (drop-cons xs i d within))
+lines_from files f xs i d within = search (rules, drop-cons)
 
 pub actions_next : {X : Type 0} (files : Files) (f : X → Line) (xs : List X) (i : ℕ) (d : X) (front : List Action) (a : Action)
     (all : Result (List Action) EngineError)
     → i < length xs → action_at files (f (get_or xs i d)) ≡ Ok a → following front (actions_at files (map f (drop i xs))) ≡ all
     → following (front ++ a ∷ []) (actions_at files (map f (drop (i + 1) xs))) ≡ all
-actions_next files f xs i d front a all within is before =
-    let rest = actions_at files (map f (drop (i + 1) xs)) in
-    sym (after_next front a rest) ∙ sym (ap (following front) (lines_from files f xs i d within ∙ ap (λ r. followed r rest) is)) ∙ before
+actions_next files f xs i d front a all within is before = grind (arith, common_steps, after_next, lines_from)
 
 -- the same of what the lines say without files
 pub spelled_next : {X : Type 0} (f : X → Line) (xs : List X) (i : ℕ) (d : X) (front : List Action) (a : Action) → i < length xs
     → line_of a ≡ without_files (f (get_or xs i d)) → map line_of front ≡ map without_files (map f (take i xs))
     → map line_of (front ++ a ∷ []) ≡ map without_files (map f (take (i + 1) xs))
-spelled_next f xs i d front a within is before =
-    map-append line_of front (a ∷ [])
-    ∙ ap₂ (λ l x. l ++ x ∷ []) before is
-    ∙ sym (map-append without_files (map f (take i xs)) (f (get_or xs i d) ∷ []))
-    ∙ ap (map without_files) (sym (map_more f xs i d within))
+spelled_next f xs i d front a within is before = grind (arith, common_steps, map-append, map_more)
 
 pub actions_begin : (all : Result (List Action) EngineError) → following [] all ≡ all
 actions_begin (Ok actions) = refl
@@ -71,9 +62,7 @@ abbrev asked_of : Result Texts EngineError → Result Action EngineError
 asked_of texts = and_then texts (λ t. Ok (asked.Sync t.kconfig t.dotconfig))
 
 sync_action : (files : Files) (k d a b : List ℕ) → given files k ≡ Ok a → given files d ≡ Ok b → action_at files (Sync k d) ≡ Ok (asked.Sync a b)
-sync_action files k d a b first second =
-    ap (λ r. asked_of (and_then r (λ kconfig. and_then (given files d) (λ dotconfig. Ok (two kconfig dotconfig))))) first
-    ∙ ap (λ r. asked_of (and_then r (λ dotconfig. Ok (two a dotconfig)))) second
+sync_action files k d a b first second = search rules
 
 -- the action of a line whose files are kept
 pub kept_action : (files kept : Files) (line : Line) → AreGiven files kept → AreKept kept line → (a : Action) × (action_at files line ≡ Ok a)
@@ -86,8 +75,7 @@ kept_action files kept (Stale t) given are = (asked.Stale t, refl)
 
 are_more : (old new : Files) → ((q : List ℕ) → IsKept old q → IsKept new q) → (line : Line) → AreKept old line → AreKept new line
 are_more old new grows (Sync k d) are = (grows k are.0, grows d are.1)
-are_more old new grows (Record d t c) are = are
-are_more old new grows (Stale t) are = are
+are_more old new grows line are = are
 
 -- the lines up to a place, and the one there
 pub kept_next : {X : Type 0} (f : X → Line) (old new : Files) (xs : List X) (i : ℕ) (d : X) → i < length xs → ((q : List ℕ) → IsKept old q → IsKept new q)

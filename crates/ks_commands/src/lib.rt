@@ -13,6 +13,7 @@ mod laws;
 mod performing;
 mod program;
 mod questions;
+mod readings;
 mod spelling;
 mod users;
 

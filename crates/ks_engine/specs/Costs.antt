@@ -5,7 +5,7 @@ use Rattle.std.specs.List.Sorted.{IsSorted}
 use Rattle.std.specs.Ordering.{nat_cmp, ordering_then}
 use Rattle.std.specs.Cmp.Lexicographic.{slice_cmp}
 use Rattle.std.specs.declared.cmp.Ordering.{Ordering}
-use Rattle.ks_symbols.specs.Names.{is_in, is_target}
+use Rattle.ks_symbols.specs.Names.{is_target}
 use Rattle.ks_fixdep.specs.CommandFile.{CommandRecord}
 use Rattle.ks_tree.specs.Files.{Files, content}
 use Rattle.ks_tree.specs.Paths.{command_path}
@@ -25,10 +25,6 @@ record_at files o = if is_target o then command_file o (content files (command_p
 
 abbrev pub one_if : Bool → ℕ
 one_if b = if b then 1 else 0
-
--- how many of these records name a symbol, each given by its names
-abbrev pub cost_in : List (List (List ℕ)) → List ℕ → ℕ
-cost_in records x = count_by (λ names. is_in names x) records
 
 -- the dearer one first, and of equal ones the lesser name
 abbrev pub by_cost : List ℕ × ℕ → List ℕ × ℕ → Ordering

@@ -1,16 +1,10 @@
-use Rattle.ks_commands.proofs.Prelude.{[], ◌∷◌, ◌++◌, refl, ◌∙◌, subst, arith, All, seen_line, AreGiven, AreKept}
+use Rattle.ks_commands.proofs.Prelude.{[], ◌∷◌, ◌++◌, ◌∙◌, subst, arith, seen_line, AreGiven, rules}
 use Rattle.std.proofs.lemmas.List.{take_all}
 use Rattle.ks_commands.proofs.Loading.{actions_begin, actions_next, kept_action, kept_next, none_kept}
 use Rattle.ks_commands.proofs.batch.named_files.Goals as goal
 
 pub loop-line-init : goal.loop-line-init
-loop-line-init g c = record {
-  unchanged = λ honest. refl;
-  later = omega arith;
-  given = λ honest. none_kept (g.T.Tree.files c.args.tree.now) c.new-kept.result c.new-kept.ensures;
-  here = λ k d within. absurd (omega (arith, within));
-  before = λ honest. ([], actions_begin _);
-}
+loop-line-init g c = search (rules, none_kept, actions_begin)
 
 pub loop-line-preserved : goal.loop-line-preserved
 loop-line-preserved g c =
@@ -34,6 +28,4 @@ loop-line-preserved g c =
     }
 
 pub returns-clause-here : goal.returns-clause-here
-returns-clause-here g c =
-    subst (All (λ line. AreKept c.loop-line.kept (seen_line line))) (take_all c.loop-line.line-index c.args.lines.now c.loop-line-test.false)
-    c.loop-line.invariant.here
+returns-clause-here g c = search (rules, take_all)

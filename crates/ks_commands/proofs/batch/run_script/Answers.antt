@@ -1,60 +1,19 @@
-use Rattle.ks_commands.proofs.Prelude.{inl, inr, Ok, Err, sym, ap, ◌∙◌, ◌≤◌, subst, map, refl, arith, ⊤, err_from_is_err_and, action, state, at, Shows, Engine, Runs, RunsOn, of_engine, without_files}
+use Rattle.ks_commands.proofs.Prelude.{inr, Ok, sym, ap, ◌∙◌, ◌≤◌, subst, map, arith, ⊤, err_from_is_err_and, action, state, at, Shows, Runs, RunsOn, of_engine, rules}
 use Rattle.ks_commands.proofs.Continuing.{file_run_follows, run_follows, runs_all, script_missing, script_stopped, script_there}
 use Rattle.ks_commands.proofs.Counting.{script_counted}
 use Rattle.ks_commands.proofs.batch.run_script.Goals as goal
 
 pub returns-in_err-script-clause-files : goal.returns-in_err-script-clause-files
-returns-in_err-script-clause-files g c = λ honest.
-    let p = err_from_is_err_and c.from_residual.result c.from_residual.ensures.1 in
-    inl (
-      c.in_err-script.ensures.reads.unchanged honest,
-      (
-        Engine c.in_err-script.field-0.0,
-        script_missing _ c.args.path.now _
-            (c.in_err-script.ensures.bytes honest),
-        p.1 ∙ ap (λ r. Err r) p.2,
-      ),
-    )
+returns-in_err-script-clause-files g c = search (rules, err_from_is_err_and, script_missing)
 
 pub returns-in_err-script-clause-goes_on : goal.returns-in_err-script-clause-goes_on
-returns-in_err-script-clause-goes_on g c = λ honest h shows.
-    let p = err_from_is_err_and c.from_residual.result c.from_residual.ensures.1 in
-    let same = c.in_err-script.ensures.reads.unchanged honest in (
-      h,
-      inl (
-        (same, refl),
-        (
-          Engine c.in_err-script.field-0.0,
-          script_missing _ c.args.path.now _ (c.in_err-script.ensures.bytes honest),
-          p.1 ∙ ap
-              (λ r. Err r) p.2,
-        ),
-      ),
-      subst (λ f. Shows f h) (sym same) shows,
-    )
+returns-in_err-script-clause-goes_on g c = search (rules, err_from_is_err_and, script_missing)
 
 pub returns-in_err-lines-clause-files : goal.returns-in_err-lines-clause-files
-returns-in_err-lines-clause-files g c = λ honest.
-    let p = err_from_is_err_and c.from_residual-in_err-lines.result c.from_residual-in_err-lines.ensures.1 in
-    let same = c.in_ok-script.ensures.reads.unchanged honest in
-    let there = c.in_ok-script.ensures.bytes honest ∙ ap (λ b. Ok b) (sym c.deref.ensures.value) in
-    let r = c.in_err-lines.field-0.0 in
-    inl (
-      c.in_err-lines.ensures.reads.unchanged honest ∙ same,
-      (r, script_stopped _ _ c.args.path.now _ r same there (c.in_err-lines.ensures.refused honest), p.1 ∙ ap (λ r. Err r) p.2),
-    )
+returns-in_err-lines-clause-files g c = search (rules, err_from_is_err_and, script_stopped)
 
 pub returns-in_err-lines-clause-goes_on : goal.returns-in_err-lines-clause-goes_on
-returns-in_err-lines-clause-goes_on g c = λ honest h shows.
-    let p = err_from_is_err_and c.from_residual-in_err-lines.result c.from_residual-in_err-lines.ensures.1 in
-    let same = c.in_ok-script.ensures.reads.unchanged honest in
-    let same_later = c.in_err-lines.ensures.reads.unchanged honest ∙ same in
-    let there = c.in_ok-script.ensures.bytes honest ∙ ap (λ b. Ok b) (sym c.deref.ensures.value) in
-    let r = c.in_err-lines.field-0.0 in (
-      h,
-      inl ((same_later, refl), (r, script_stopped _ _ c.args.path.now _ r same there (c.in_err-lines.ensures.refused honest), p.1 ∙ ap (λ r. Err r) p.2)),
-      subst (λ f. Shows f h) (sym same_later) shows,
-    )
+returns-in_err-lines-clause-goes_on g c = search (rules, err_from_is_err_and, script_stopped)
 
 pub returns-clause-files : goal.returns-clause-files
 returns-clause-files g c = λ honest.
@@ -103,15 +62,8 @@ returns-clause-goes_on g c = λ honest h shows.
 
 pub returns-clause-counts : goal.returns-clause-counts
 returns-clause-counts g c =
-    let mid = g.T.Tree.files c.read_given.new.tree in
-    let actions = map action c.in_ok-commands.commands.items in
     let later : g.T.Tree.failures c.args.tree.now ≤ g.T.Tree.failures c.load_script.new.tree
     = omega (arith, c.in_ok-script.ensures.reads.counted.later, c.in_ok-lines.ensures.reads.counted.later) in
     script_counted c.args.dialect c.run_commands.result g.T.Tree.is_honest (state g.T.Tree c.args.tree.now) (state g.T.Tree c.load_script.new.tree) _
-    (map action c.deref-2.result.now) actions c.args.path.now c.deref.result.now
-    (λ honest. c.in_ok-lines.ensures.reads.unchanged honest ∙ c.in_ok-script.ensures.reads.unchanged honest) later (ap (map action) c.deref-2.ensures.value)
-    (record { faultless = c.in_ok-lines.ensures.spelled.0; lines = c.in_ok-commands.ensures.spelled ∙ ap (map without_files) c.in_ok-lines.ensures.spelled.1 })
-    (λ honest. script_there _ _ c.args.path.now _ (Ok actions) (c.in_ok-script.ensures.reads.unchanged honest)
-    (c.in_ok-script.ensures.bytes honest ∙ ap (λ b. Ok b) (sym c.deref.ensures.value))
-    (c.in_ok-lines.ensures.lines honest ∙ ap of_engine (c.in_ok-commands.ensures.given mid (c.in_ok-lines.ensures.given honest))))
-    c.run_commands.ensures.counts
+    (map action c.deref-2.result.now) (map action c.in_ok-commands.commands.items) c.args.path.now c.deref.result.now (search rules) later (search rules) (search rules)
+    (λ honest. search (rules, script_there, (c.in_ok-commands.ensures.given _ (c.in_ok-lines.ensures.given honest)))) c.run_commands.ensures.counts

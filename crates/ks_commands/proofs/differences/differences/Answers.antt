@@ -1,4 +1,4 @@
-use Rattle.ks_commands.proofs.Prelude.{ℕ, List, ◌∙◌, inl, ap, ap₂, flat_map, err_from_is_err_and, Configuration, Texts, difference_line, difference_status, lines_asked}
+use Rattle.ks_commands.proofs.Prelude.{ℕ, List, ◌∙◌, ap, ap₂, flat_map, err_from_is_err_and, Configuration, Texts, difference_line, difference_status, lines_asked, rules}
 use Rattle.ks_commands.proofs.Unknowns.{for_memory, plan_counts}
 use Rattle.ks_commands.proofs.differences.differences.Goals as goal
 
@@ -25,8 +25,4 @@ returns-clause-told g c = λ honest.
     )
 
 pub returns-in_err-count-clause-refused : goal.returns-in_err-count-clause-refused
-returns-in_err-count-clause-refused g c = λ honest.
-    let planned = c.in_ok-planned.ensures.planned honest in
-    let p = err_from_is_err_and c.from_residual-in_err-count.result c.from_residual-in_err-count.ensures.1 in
-    rw (p.1, p.2) (inl (for_memory (g.T.Tree.files c.args.tree.now) c.args.kconfig.now c.args.dotconfig.now planned.0 c.in_err-count.field-0.0 planned.1
-    c.in_err-count.ensures.refusal))
+returns-in_err-count-clause-refused g c = search (rules, err_from_is_err_and, for_memory)

@@ -1,4 +1,4 @@
-use Rattle.ks_commands.proofs.Prelude.{◌≡◌, Ok, inl, sym, ap, subst, err_from_is_err_and, names_by, None, refusal_without, prerequisites_without, rules_for, scanned_all, depfile_listed, command_file_at}
+use Rattle.ks_commands.proofs.Prelude.{◌≡◌, Ok, sym, ap, subst, err_from_is_err_and, names_by, None, refusal_without, prerequisites_without, rules_for, scanned_all, depfile_listed, command_file_at, rules}
 use Rattle.ks_commands.proofs.fixdep.command_file_text.Goals as goal
 
 pub returns-clause-text : goal.returns-clause-text
@@ -14,6 +14,4 @@ returns-clause-text g c = λ honest.
 
 -- want of memory for the lines
 pub returns-in_err-lines-clause-text : goal.returns-in_err-lines-clause-text
-returns-in_err-lines-clause-text g c = λ honest.
-    let p = err_from_is_err_and c.from_residual-in_err-lines.result c.from_residual-in_err-lines.ensures.1 in
-    rw (p.1, p.2) (inl tt)
+returns-in_err-lines-clause-text g c = search (rules, err_from_is_err_and)

@@ -1,20 +1,12 @@
-use Rattle.ks_commands.proofs.Prelude.{◌≡◌, ◌∙◌, [], Some, Ok, Err, refl, ap, subst, IsSiteLine, site_of, seen_site}
-use Rattle.ks_commands.proofs.Siting.{no_site, read_after, site_line_kept, some_none}
+use Rattle.ks_commands.proofs.Prelude.{◌≡◌, [], Some, Err, refl, subst, IsSiteLine, site_of, seen_site, rules}
+use Rattle.ks_commands.proofs.Siting.{has_site, read_after, site_line_kept}
 use Rattle.ks_commands.proofs.program.execute.Goals as goal
 
 pub returns-in-Err : goal.returns-in-Err
 returns-in-Err g c = rw (c.in-Err.is) (refl, c.tell_why.ensures)
 
 pub returns-in-Ok-outcome : goal.returns-in-Ok-outcome
-returns-in-Ok-outcome g c =
-    let did = c.in-Ok-outcome.ensures in
-    rw (c.in-Ok.is) (
-      Ok c.in-Ok-outcome.outcome,
-      record { done = did.done; files = did.files; goes_on = did.goes_on; cause = did.cause; counts = did.counts },
-      [],
-      refl,
-      c.print.ensures,
-    )
+returns-in-Ok-outcome g c = search rules
 
 pub returns : goal.returns
 returns g c =
@@ -39,7 +31,7 @@ returns-in-Some g c =
     rw (c.in-Ok.is) (
       Err refusal,
       read_after g.T.Tree c.args.dialect c.args.tree.now c.outcome.new.tree c.refuse_at.new.tree request refusal
-          (λ memory. absurd (some_none site (found ∙ ap (site_of request) memory ∙ no_site request)))
+          (has_site request refusal site found)
           (record { done = did.done; files = did.files; goes_on = did.goes_on; cause = did.cause; counts = tt })
           reads,
       told.0,

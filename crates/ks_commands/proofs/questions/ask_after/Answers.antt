@@ -1,4 +1,4 @@
-use Rattle.ks_commands.proofs.Prelude.{inl, inr, List, ℕ, Err, ap, arith, subst, ◌∙◌, err_from_is_err_and, state, First, IsAnswerAfter, IsImpactOf, targets_at, seen_texts, EndsAll, TellsVerdict, count_of, read_in, KconfigText}
+use Rattle.ks_commands.proofs.Prelude.{inl, inr, List, ℕ, Err, ap, subst, ◌∙◌, err_from_is_err_and, IsAnswerAfter, IsImpactOf, targets_at, seen_texts, EndsAll, TellsVerdict, count_of, read_in, KconfigText, rules}
 use Rattle.ks_commands.proofs.Counting.{asked_after}
 use Rattle.ks_commands.proofs.Verdicts.{verdicts_weaker}
 use Rattle.ks_commands.proofs.questions.ask_after.Goals as goal
@@ -41,9 +41,4 @@ returns-clause-told g c = λ honest.
     )
 
 pub returns-clause-counts : goal.returns-clause-counts
-returns-clause-counts g c =
-    let first = c.in_ok-texts.ensures.reads in
-    let then = c.in_ok-impact.ensures.reads in
-    asked_after c.args.form First c.ask_targets.result g.T.Tree.is_honest (state g.T.Tree c.args.tree.now) (state g.T.Tree c.of.new.tree)
-    c.args.targets.now _ (λ honest. then.unchanged honest ∙ first.unchanged honest) (omega (arith, first.counted.later, then.counted.later))
-    c.ask_targets.ensures.counts
+returns-clause-counts g c = search (rules, asked_after)

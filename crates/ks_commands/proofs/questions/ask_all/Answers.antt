@@ -1,4 +1,4 @@
-use Rattle.ks_commands.proofs.Prelude.{◌∙◌, ◌+◌, ◌++◌, ◌∷◌, ap, arith, max, ℕ, List, [], Bor, get_or, sym, subst, subst₂, map, map_more, take, take_all, refl, rules, length-map, code_of, IsAnswerTo, IsMemoOf, limit_of, Says, TellsAll, TellsCounted, counted_of, tells_of}
+use Rattle.ks_commands.proofs.Prelude.{◌∙◌, ◌+◌, ◌++◌, ◌∷◌, ap, arith, max, ℕ, List, [], Bor, get_or, sym, subst, subst₂, map, map_more, take, take_all, refl, rules, length-map, code_of, IsAnswerTo, IsMemoOf, limit_of, Says, TellsAll, TellsCounted, counted_of, tells_of, common_steps}
 use Rattle.ks_commands.proofs.Counting.{counted_more}
 use Rattle.ks_commands.proofs.Verdicts.{nothing_told, told_more}
 use Rattle.ks_commands.proofs.questions.ask_all.Goals as goal
@@ -54,10 +54,7 @@ loop-target-preserved g c = record {
 }
 
 pub returns-clause-counted : goal.returns-clause-counted
-returns-clause-counted g c =
-    subst (λ ts. TellsCounted (Says c.args.form (limit_of c.args.question)) (g.T.Tree.failures c.args.tree.now) (map (λ t. t.now) ts) c.loop-target.text.items
-    (g.T.Tree.failures c.loop-target.tree))
-    (take_all c.loop-target.target-index c.args.targets.now c.loop-target-test.false) c.loop-target.invariant.counted
+returns-clause-counted g c = grind (arith, common_steps)
 
 pub returns-clause-told : goal.returns-clause-told
 returns-clause-told g c = λ honest. (

@@ -1,4 +1,4 @@
-use Rattle.ks_commands.proofs.Prelude.{option_map, code_of}
+use Rattle.ks_commands.proofs.Prelude.{option_map, code_of, arith, common_steps}
 use Rattle.ks_commands.proofs.Spelled.{spelled_counted, spelled_told}
 use Rattle.ks_commands.proofs.questions.tell_one.Goals as goal
 
@@ -11,9 +11,4 @@ returns-clause-told g c = λ honest answers.
     c.in_ok-status.ensures.status
 
 pub returns-clause-counted : goal.returns-clause-counted
-returns-clause-counted g c = λ first small asked.
-    let told = c.with_spelling-told.result in
-    spelled_counted c.args.question c.args.form c.args.target.now c.args.answer told.answer (option_map (λ v. v.items) told.spelling)
-    c.args.text.now.items c.write_in.new.text.items c.write_spelling.new.text.items first (g.T.Tree.failures c.args.tree.now)
-    (g.T.Tree.failures c.with_spelling-told.new.tree) c.with_spelling-told.ensures.line c.in_ok-status.ensures.lines c.in_ok-write_spelling.ensures
-    small c.with_spelling-told.ensures.reads.counted.later asked c.with_spelling-told.ensures.cause
+returns-clause-counted g c = grind (arith, common_steps, spelled_counted)

@@ -1,41 +1,31 @@
 -- The names that differ between two lists of entries, each in rising order, by one pass over both.
-use Rattle.ks_compare.proofs.Prelude.{order, first, second, is_less, two, ◌≡◌, ℕ, Bool, true, false, cond, ◌||◌, T, List, [], ◌∷◌, ◌++◌, bytes_eq, Option, Some, None, option_map, refl, sym, ap, ap₂, subst, ◌∙◌, cases_Bool, cond-true, cond-false, inl, inr, is_lt, is_eq, ordering_reverse, nat_list_cmp_total, Ordering, Less, Equal, Greater, find, is_sorted, below_all, AllByRecursion, AllEntries, IsStrictlySortedBy, is_eq-slice_cmp, Kind, Class, Configuration, find_below, tied, is_in, Texts, TakesFirst, compared, unlike, differ, AreChanges, changed_name, OldItem, NewItem, EitherOrBoth, Left, Right, Both, map_any, merge_join_by, merge_join_by-nil, by_ordering, cons_option, filter_map}
+use Rattle.ks_compare.proofs.Prelude.{took, nil_from_length, rest_so_far, Run, order, first, second, is_less, two, ◌≡◌, ℕ, Bool, true, false, cond, T, List, [], ◌∷◌, ◌++◌, bytes_eq, Option, Some, None, option_map, refl, sym, ap, subst, ◌∙◌, cases_Bool, inl, inr, is_lt, is_eq, nat_list_cmp_total, Ordering, Less, Equal, Greater, find, is_sorted, below_all, AllByRecursion, AllEntries, IsStrictlySortedBy, is_eq-slice_cmp, Kind, Class, Configuration, find_below, tied, is_in, Texts, TakesFirst, compared, differ, AreChanges, changed_name, OldItem, NewItem, EitherOrBoth, Left, Right, Both, map_any, merge_join_by, merge_join_by-nil, by_ordering, cons_option, filter_map, arith, rules}
 use Rattle.std.proofs.Common.{map as map_list, map-id}
-use Rattle.std.proofs.iter.runs.Made.{took}
-use Rattle.std.proofs.lemmas.List.{nil_from_length}
-use Rattle.std.proofs.lemmas.Map.Iter.{rest_so_far}
 use Rattle.std.specs.FinMap as map
-use Rattle.std.specs.Iterator.Runs.{Run}
 
 abbrev pub Above : List ℕ → List (List ℕ) → Type 0
 Above z names = AllByRecursion (λ n. order z n ≡ Less) names
 
-pub here_test : (x k : List ℕ) → is_eq (order x k) ≡ bytes_eq x k
-here_test x k = is_eq-slice_cmp x k
-
 pub turned : (x y : List ℕ) → order x y ≡ Greater → order y x ≡ Less
-turned x y e = nat_list_cmp_total.antisymm y x ∙ ap ordering_reverse e
+turned x y e = search (rules, nat_list_cmp_total)
 
 less : (o : Ordering) → T (is_lt o) → o ≡ Less
-less Less p = refl
-less Equal p = absurd p
-less Greater p = absurd p
+less o p = search rules
 
 below_more : {X : Type 0} (z k : List ℕ) (es : List (List ℕ × X)) → order z k ≡ Less → T (below_all order k es) → T (below_all order z es)
 below_more z k [] p h = tt
-below_more z k (e ∷ es) p h =
-    two _ _ (is_less _ (nat_list_cmp_total.trans z k e.0 p (less _ (first _ _ h)))) (below_more z k es p (second _ _ h))
+below_more z k (e ∷ es) p h = search (rules, two, is_less, less, first, second, (nat_list_cmp_total.trans z k), (below_more z k es p))
 
 -- a name below the first of a rising list is below all of it
 abbrev Ahead : {X : Type 0} → List ℕ → List (List ℕ × X) → Type 0
 Ahead k es = T (is_sorted order es) → T (below_all order k es)
 
 ahead : {X : Type 0} (k : List ℕ) (e : List ℕ × X) (es : List (List ℕ × X)) → order k e.0 ≡ Less → Ahead k (e ∷ es)
-ahead k e es p h = two _ _ (is_less _ p) (below_more k e.0 es p (first _ _ h))
+ahead k e es p h = search (rules, two, is_less, below_more, first)
 
 keys_above : {X : Type 0} (k : List ℕ) (es : List (List ℕ × X)) → T (below_all order k es) → AllEntries (λ n _. order k n ≡ Less) es
 keys_above k [] h = tt
-keys_above k (e ∷ es) h = (less _ (first _ _ h), keys_above k es (second _ _ h))
+keys_above k (e ∷ es) h = search (rules, less, first, second, (keys_above k es))
 
 -- one more name below all, with what each of the two lists has for it
 abbrev put_first : {X : Type 0} → List ℕ → Option X → List (List ℕ × X) → List (List ℕ × X)
@@ -44,13 +34,11 @@ put_first k (Some v) es = (k, v) ∷ es
 
 find_here : {X : Type 0} (k x : List ℕ) (o : Option X) (es : List (List ℕ × X)) → is_eq (order x k) ≡ true → T (below_all order k es)
     → find order x (put_first k o es) ≡ o
-find_here k x None es same h = ap (λ (n : List ℕ). find order n es) (tied x k same) ∙ find_below k es h
-find_here k x (Some v) es same h = cond-true (is_eq (order x k)) (Some v) (find order x es) same
+find_here k x o es same h = let none = find_below k es h in let here = tied x k same in grind (arith, none, here)
 
 find_other : {X : Type 0} (k x : List ℕ) (o : Option X) (es : List (List ℕ × X)) → is_eq (order x k) ≡ false
     → find order x (put_first k o es) ≡ find order x es
-find_other k x None es ne = refl
-find_other k x (Some v) es ne = cond-false (is_eq (order x k)) (Some v) (find order x es) ne
+find_other k x o es ne = grind arith
 
 record Good (xs : List OldItem) (ys : List NewItem) (names : List (List ℕ)) : Type 0 where
   rising : IsStrictlySortedBy order names
@@ -60,12 +48,10 @@ abbrev chosen : Bool → List ℕ → List (List ℕ) → List (List ℕ)
 chosen d k names = cons_option (cond d (Some k) None) names
 
 chosen_by : (P : List (List ℕ) → Type 0) (d : Bool) (k : List ℕ) (names : List (List ℕ)) → P (k ∷ names) → P names → P (chosen d k names)
-chosen_by P true k names p h = p
-chosen_by P false k names p h = h
+chosen_by P d k names p h = grind arith
 
 chosen_is : (d : Bool) (x k : List ℕ) (names : List (List ℕ)) → bytes_eq x k ≡ true → is_in names x ≡ false → is_in (chosen d k names) x ≡ d
-chosen_is true x k names e h = ap (λ b. b || is_in names x) e
-chosen_is false x k names e h = h
+chosen_is d x k names e h = grind arith
 
 none_good : Good [] [] []
 unfolding IsStrictlySortedBy
@@ -112,25 +98,20 @@ module _ {A B : Type 0} (f : A → OldItem) (g : B → NewItem) where
   every P xs ys =
       by_steps (λ xs ys ns. AllEntries (λ n _. P n) (map_list f xs) → AllEntries (λ n _. P n) (map_list g ys) → AllByRecursion P ns) (λ h k. tt)
       (λ a xs ys _ q h k. (h.0, q h.1 k)) (λ b xs ys _ q h k. (k.0, q h k.1))
-      (λ a b xs ys _ q h k. chosen_by (AllByRecursion P) (unlike (f a).1 (compared (g b).1)) (f a).0 _ (h.0, q h.1 k.1) (q h.1 k.1)) xs ys
+      (λ a b xs ys _ q h k. chosen_by (AllByRecursion P) _ _ _ (h.0, q h.1 k.1) (q h.1 k.1)) xs ys
 
   one_more : (k : List ℕ) (t : Option (Option Class × List ℕ)) (s : Option (Kind × List ℕ)) (xs : List A) (ys : List B) → T (below_all order k (map_list f xs))
       → T (below_all order k (map_list g ys)) → Good (map_list f xs) (map_list g ys) (names xs ys)
       → Good (put_first k t (map_list f xs)) (put_first k s (map_list g ys)) (chosen (differ t (option_map compared s)) k (names xs ys))
   unfolding IsStrictlySortedBy
   one_more k t s xs ys h l good =
-      let d = differ t (option_map compared s) in
       let n = names xs ys in
-      let both : Option (Option Class × List ℕ) → Option (Kind × List ℕ) → Bool = λ o q. differ o (option_map compared q) in
+      let above = every (λ x. order k x ≡ Less) xs ys (keys_above k _ h) (keys_above k _ l) in
       record {
-        rising = chosen_by (IsStrictlySortedBy order) d k n (every (λ x. order k x ≡ Less) xs ys (keys_above k _ h) (keys_above k _ l), good.rising) good.rising;
+        rising = chosen_by (IsStrictlySortedBy order) (differ t (option_map compared s)) k n (above, good.rising) good.rising;
         each = λ x. elim (cases_Bool (is_eq (order x k))) [
-          | inl same ↦
-              chosen_is d x k n (sym (here_test x k) ∙ same) (good.each x ∙ ap₂ both (find_here k x None _ same h) (find_here k x None _ same l))
-              ∙ sym (ap₂ both (find_here k x t _ same h) (find_here k x s _ same l))
-          | inr ne ↦
-              chosen_by (λ ns. is_in ns x ≡ is_in n x) d k n (ap (λ b. b || is_in n x) (sym (here_test x k) ∙ ne)) refl
-              ∙ good.each x ∙ sym (ap₂ both (find_other k x t _ ne) (find_other k x s _ ne))
+          | inl same ↦ search (rules, chosen_is, same, is_eq-slice_cmp, good.each, find_here, (find_here k x None _ same h), (find_here k x None _ same l))
+          | inr ne ↦ search (rules, ne, is_eq-slice_cmp, good.each, find_other, (chosen_by (λ ns. is_in ns x ≡ is_in n x)))
         ];
       }
 
@@ -149,23 +130,19 @@ module _ {A B : Type 0} (f : A → OldItem) (g : B → NewItem) where
   pub merged_changes : (old : Texts) (new : Configuration) (xs : List A) (ys : List B) → map_list f xs ≡ map.entries old → map_list g ys ≡ map.entries new
       → AreChanges old new (names xs ys)
   merged_changes old new xs ys is was =
-      let all = good xs ys (subst (λ l. T (is_sorted order l)) (sym is) (map.entries_sorted old)) (subst (λ l. T (is_sorted order l)) (sym was) (map.entries_sorted new)) in
-      record {
-        rising = all.rising;
-        each = λ x. all.each x ∙ ap₂ (λ o s. differ o (option_map compared s)) (ap (find order x) is ∙ sym (map.get-entries old x)) (ap (find order x) was ∙ sym (map.get-entries new x));
-      }
+      let all = good xs ys (rw is (map.entries_sorted old)) (rw was (map.entries_sorted new)) in
+      record { rising = all.rising; each = λ x. search (rules, all.each, is, was, map.get-entries) }
 
 keys : (ys : List NewItem) → names (λ e. e) (λ y. y) [] ys ≡ map_list (λ y. y.0) ys
 keys [] = refl
-keys (y ∷ ys) = ap (λ l. y.0 ∷ l) (keys ys)
+keys (y ∷ ys) = search (rules, (keys ys))
 
 none_left : map.entries (map.empty {X = Option Class × List ℕ} {R = order}) ≡ []
 none_left = nil_from_length _ (sym (map.len-entries map.empty) ∙ map.len-empty order (Option Class × List ℕ))
 
 -- against no texts each name changes
 pub first_names : (new : Configuration) → AreChanges map.empty new (map_list (λ e. e.0) (map.entries new))
-first_names new =
-    subst (AreChanges map.empty new) (keys (map.entries new)) (merged_changes (λ e. e) (λ y. y) map.empty new [] (map.entries new) (sym none_left) (map-id (map.entries new)))
+first_names new = rw (← keys (map.entries new)) (merged_changes (λ e. e) (λ y. y) map.empty new [] (map.entries new) (sym none_left) (map-id (map.entries new)))
 
 -- what holds of each entry holds of those that a run has taken
 fronts : {X : Type 0} (P : List ℕ → X → Type 0) (es rest : List (List ℕ × X)) → AllEntries P (es ++ rest) → AllEntries P es
@@ -174,14 +151,13 @@ fronts P (e ∷ es) rest h = (h.0, fronts P es rest h.1)
 
 pub taken : {A X : Type 0} (shows : A → List ℕ × X) (P : List ℕ → X → Type 0) (p : Run (TakesFirst shows)) (es : List (List ℕ × X)) → p.from ≡ es → AllEntries P es
     → AllEntries P (map_list shows p.items)
-taken shows P p es is h = fronts P (map_list shows p.items) (took p).0 (subst (AllEntries P) (sym is ∙ rest_so_far shows p.items p.from (took p).0 (took p).1) h)
+taken shows P p es is h = search (rules, fronts, (took p), rest_so_far)
 
 later : (P : List ℕ → Type 0) (o : Option (List ℕ)) (names : List (List ℕ)) → AllByRecursion P (cons_option o names) → AllByRecursion P names
-later P None names h = h
-later P (Some n) names h = h.1
+later P o names h = grind arith
 
 -- a name that comes among others is as legal as they are
 pub among : {A : Type 0} (P : List ℕ → Type 0) (h : A → Option (List ℕ)) (xs more : List A) (x : A) (n : List ℕ) → h x ≡ Some n
     → AllByRecursion P (filter_map h ((xs ++ x ∷ []) ++ more)) → P n
-among P h [] more x n is all = (subst (λ o. AllByRecursion P (cons_option o (filter_map h more))) is all).0
-among P h (y ∷ xs) more x n is all = among P h xs more x n is (later P (h y) _ all)
+among P h [] more x n is all = search (rules, is)
+among P h (y ∷ xs) more x n is all = search (rules, later, (among P h xs more x n is))

@@ -1,34 +1,27 @@
 -- What the proofs of this crate import: one name for each thing.
-pub use Rattle.std.proofs.Common.{Bool, IsTrue, List, None, Option, Some, T, [], ap, ap₂, bytes_eq, cond, false, not, option_map, refl, subst, sym, true, ℕ, ◌&&◌, ◌++◌, ◌||◌, ◌↔◌, ◌∙◌, ◌∷◌, ◌≡◌}
-pub use Rattle.std.proofs.lemmas.Bool.{and_parts, cases_Bool, cond-false, cond-true, eq-eqb, eqb-true, false≢true, not-false}
-pub use Rattle.std.proofs.lemmas.List.{append-nil}
-pub use Rattle.std.proofs.lemmas.Map.Text.{is_eq-slice_cmp}
-pub use Rattle.std.specs.Cmp.{tied_itself}
-pub use Rattle.std.specs.Cmp.Lexicographic.{bytes_decides, nat_list_cmp_total}
-pub use Rattle.std.specs.FinMap.{find, is_sorted}
-pub use Rattle.std.specs.FinMap.Entries.{below_all}
-pub use Rattle.std.specs.List.{AllByRecursion, cons_option, filter_map}
-unfoldable pub use Rattle.std.specs.List.Sorted.{IsStrictlySortedBy}
-pub use Rattle.std.specs.Map.Iter.{TakesFirst}
-pub use Rattle.std.specs.Ordering.{is_eq, is_lt, ordering_reverse}
-pub use Rattle.std.specs.declared.cmp.Ordering.{Ordering}
-pub use Rattle.std.specs.declared.cmp.Ordering.TheVariants.{Equal, Greater, Less}
-pub use mathlib.Core.Logic.{inl, inr}
+pub use Rattle.ks_symbols.proofs.Prelude.{AllByRecursion, Bool, Configuration, Equal, Greater, IsTrue, Less, List, None, Option, Ordering, Some, T, TakesFirst, [], and_parts, ap, append-nil, ap₂, arith, below_all, borrowed_entry, bytes_decides, bytes_eq, cases_Bool, class_again, cond, cons_option, eqb-true, false, false≢true, filter_map, find, is_eq, is_eq-slice_cmp, is_in, is_lt, is_name, is_sorted, nat_list_cmp_total, not-false, option_map, refl, rules, subst, sym, true, ℕ, ◌++◌, ◌↔◌, ◌∙◌, ◌∷◌, ◌≡◌}
+unfoldable pub use Rattle.ks_symbols.proofs.Prelude.{IsStrictlySortedBy}
+pub use Rattle.ks_output.proofs.Prelude.{Texts, borrowed_old_entry, eq-eqb, first, inl, inr, order, second}
 pub use Rattle.ks_output.proofs.Definitions.{alike_is_defined_alike}
 pub use Rattle.ks_output.proofs.Entries.{AllEntries, all_entries, find_below, tied}
 pub use Rattle.ks_output.proofs.Texts.{name_of_symbol, texts_are_of_entries}
-pub use Rattle.ks_output.specs.OldConfig.{Texts, borrowed_old_entry, texts_of}
-pub use Rattle.ks_symbols.proofs.LastOnes.{first, is_less, order, second, two}
-pub use Rattle.ks_symbols.specs.Configuration.{Configuration, borrowed_entry}
-pub use Rattle.ks_symbols.specs.Kinds.{class_again, class_number, numbered_class}
-pub use Rattle.ks_symbols.specs.Names.{is_in, is_name}
+pub use Rattle.ks_symbols.proofs.LastOnes.{is_less, two}
 pub use Rattle.ks_symbols.specs.declared.kinds.Class.{Class}
 pub use Rattle.ks_symbols.specs.declared.kinds.Kind.{Kind}
-pub use Rattle.ks_compare.specs.Changes.{AreChanges, compared, differ, same_class, unlike}
-pub use Rattle.ks_compare.specs.Laws.{ChangesAreLegal, ChangesAreOne, ChangesExist, FirstChangesAreNames, NothingChanges, UnchangedIsDefinedAlike, UnchangedIsKept}
+pub use Rattle.ks_compare.specs.Changes.{AreChanges, compared, differ, differs, same_class}
+pub use Rattle.ks_compare.specs.Laws.{ChangesAreLegal, ChangesAreOne, ChangesExist, NothingChanges, UnchangedIsDefinedAlike, UnchangedIsKept}
 pub use Rattle.ks_compare.specs.Pass.{NewItem, OldItem, changed_name}
 pub use Rattle.itertools.proofs.ListLemmas.{merge_join_by-nil}
 pub use Rattle.itertools.specs.EitherOrBoth.{map_any}
 pub use Rattle.itertools.specs.List.{by_ordering, merge_join_by}
 pub use Rattle.itertools.specs.declared.either_or_both.EitherOrBoth.{EitherOrBoth}
 pub use Rattle.itertools.specs.declared.either_or_both.EitherOrBoth.TheVariants.{Both, Left, Right}
+pub use Rattle.std.proofs.lemmas.Bool.{or_left, or_from}
+pub use Rattle.std.proofs.Common.{map-id}
+pub use Rattle.std.proofs.iter.runs.Made.{seen, took}
+pub use Rattle.std.proofs.lemmas.List.{nil_from_length}
+pub use Rattle.std.proofs.lemmas.Map.Iter.{rest_so_far}
+pub use Rattle.std.specs.Iterator.Runs.{Run}
+pub use Rattle.std.proofs.lemmas.Grind.{common_steps}
+pub use Rattle.std.proofs.lemmas.Iterator.Consumers.{YieldsList-from_rest}
+pub use Rattle.std.proofs.lemmas.List.Elements.{filter_map-append}

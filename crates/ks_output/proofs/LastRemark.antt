@@ -1,5 +1,5 @@
 -- What remarks leave, read one after the other from the first on.
-use Rattle.ks_output.proofs.Prelude.{◌≡◌, ℕ, Bool, nat_lt, ◌<◌, ◌≤◌, List, [], ◌∷◌, ◌++◌, length, reverse, get_or, Option, Some, option_map, refl, sym, ap, ◌∙◌, arith, filter_map, reverse_onto, cond-true, cond-false, nat_tests, filter_map-append, Class, max_bytes, Texts, Remark, Gives, Numbers, Silent, seen_remark, remarks, is_typed, neighbours, class_by, given, number, texts_given, auto_generation, auto_fault, auto_refusal}
+use Rattle.ks_output.proofs.Prelude.{◌≡◌, ℕ, Bool, ◌≤◌, List, [], ◌∷◌, ◌++◌, length, reverse, get_or, Option, option_map, refl, ap, ◌∙◌, arith, filter_map, reverse_onto, cond-false, nat_tests, filter_map-append, Class, Texts, Remark, Gives, Numbers, Silent, seen_remark, remarks, is_typed, neighbours, class_by, given, number, texts_given, auto_generation, auto_fault, auto_refusal, rules, common_steps}
 use Rattle.std.specs.FinMap as map
 use Rattle.ks_output.specs.declared.auto_conf.AutoError.TheVariants as fault
 use Rattle.ks_output.specs.declared.auto_lines.Remark as auto_lines
@@ -18,107 +18,85 @@ put_all-empty (e ∷ es) = ap (λ m. map.insert m e.0 e.1) (put_all-empty es)
 put_all-append : (m : Texts) (xs ys : List (List ℕ × (Option Class × List ℕ))) → put_all m (xs ++ ys) ≡ put_all (put_all m ys) xs
 unfolding put_all
 put_all-append m [] ys = refl
-put_all-append m (x ∷ xs) ys = ap (λ n. map.insert n x.0 x.1) (put_all-append m xs ys)
+put_all-append m (x ∷ xs) ys = search (rules, (put_all-append m xs ys))
 
 latest_last : {X Y : Type 0} (f : X → Option Y) (x : X) (xs : List X) → filter_map f (reverse (x ∷ xs)) ≡ filter_map f (reverse xs) ++ filter_map f (x ∷ [])
 latest_last f x xs = ap (filter_map f) (reverse_onto xs x []) ∙ filter_map-append f (reverse xs) (x ∷ [])
-
--- the map after remarks, when there were a map and a remark before
-pub texts_after : Bool → Texts → Remark → List Remark → Texts
-texts_after typed m before said = put_all m (filter_map (given typed) (reverse (neighbours before said)))
 
 -- the map with what a remark gives after another one
 unfoldable pub with_given : Bool → Texts → Remark → Remark → Texts
 with_given typed m before (Gives x t) = map.insert m x (class_by typed before, t)
 with_given typed m before r = m
 
+-- the map after remarks, when there were a map and a remark before
+unfoldable pub texts_after : Bool → Texts → Remark → List Remark → Texts
+texts_after typed m before [] = m
+texts_after typed m before (r ∷ said) = texts_after typed (with_given typed m before r) r said
+
 given_one : (typed : Bool) (m : Texts) (before r : Remark) → put_all m (filter_map (given typed) ((before, r) ∷ [])) ≡ with_given typed m before r
 unfolding put_all with_given
-given_one typed m before (Gives x t) = refl
-given_one typed m before r = refl
+given_one typed m before r = grind arith
 
-pub texts_after-step : (typed : Bool) (m : Texts) (before r : Remark) (said : List Remark) → texts_after typed m before (r ∷ said)
-    ≡ texts_after typed (with_given typed m before r) r said
-unfolding texts_after neighbours
-texts_after-step typed m before r said =
-    ap (put_all m) (latest_last (given typed) (before, r) (neighbours r said))
-    ∙ put_all-append m (filter_map (given typed) (reverse (neighbours r said))) (filter_map (given typed) ((before, r) ∷ []))
-    ∙ ap (λ n. put_all n (filter_map (given typed) (reverse (neighbours r said)))) (given_one typed m before r)
-
-pub texts_after-nil : (typed : Bool) (m : Texts) (before : Remark) → texts_after typed m before [] ≡ m
+after_all : (typed : Bool) (m : Texts) (before : Remark) (said : List Remark) → texts_after typed m before said
+    ≡ put_all m (filter_map (given typed) (reverse (neighbours before said)))
 unfolding texts_after put_all neighbours
-texts_after-nil typed m before = refl
+after_all typed m before [] = refl
+after_all typed m before (r ∷ said) = search (rules, put_all, latest_last, put_all-append, given_one, (after_all typed (with_given typed m before r) r said))
 
 pub texts_after-empty : (said : List Remark) → texts_after (is_typed said) map.empty Silent said ≡ texts_given said
-unfolding texts_after texts_given
-texts_after-empty said = put_all-empty (filter_map (given (is_typed said)) (reverse (neighbours Silent said)))
+unfolding texts_given
+texts_after-empty said = after_all (is_typed said) map.empty Silent said ∙ put_all-empty (filter_map (given (is_typed said)) (reverse (neighbours Silent said)))
 
 -- of the remark before, the class alone counts
 with_given-class : (typed : Bool) (m : Texts) (a b r : Remark) → class_by typed a ≡ class_by typed b → with_given typed m a r ≡ with_given typed m b r
 unfolding with_given
-with_given-class typed m a b (Gives x t) e = ap (λ (c : Option Class). map.insert m x (c, t)) e
-with_given-class typed m a b r e = refl
+with_given-class typed m a b r e = grind arith
 
 pub texts_after-class : (typed : Bool) (m : Texts) (a b : Remark) (said : List Remark) → class_by typed a ≡ class_by typed b → texts_after typed m a said
     ≡ texts_after typed m b said
-texts_after-class typed m a b [] e = texts_after-nil typed m a ∙ sym (texts_after-nil typed m b)
-texts_after-class typed m a b (r ∷ said) e =
-    texts_after-step typed m a r said ∙ ap (λ n. texts_after typed n r said) (with_given-class typed m a b r e) ∙ sym (texts_after-step typed m b r said)
+unfolding texts_after
+texts_after-class typed m a b [] e = refl
+texts_after-class typed m a b (r ∷ said) e = ap (λ n. texts_after typed n r said) (with_given-class typed m a b r e)
 
 -- before the mark and the first entry not even that
 at_front : (m : Texts) (a b r : Remark) (said : List Remark) → with_given (is_typed (r ∷ said)) m a r ≡ with_given (is_typed (r ∷ said)) m b r
 unfolding with_given is_typed
-at_front m a b (Gives x t) said = refl
-at_front m a b r said = refl
+at_front m a b r said = grind arith
 
 pub texts_after-front : (m : Texts) (a b : Remark) (said : List Remark) → texts_after (is_typed said) m a said ≡ texts_after (is_typed said) m b said
-texts_after-front m a b [] = texts_after-nil (is_typed []) m a ∙ sym (texts_after-nil (is_typed []) m b)
-texts_after-front m a b (r ∷ said) =
-    let typed = is_typed (r ∷ said) in
-    texts_after-step typed m a r said ∙ ap (λ n. texts_after typed n r said) (at_front m a b r said) ∙ sym (texts_after-step typed m b r said)
-
--- the generation after remarks, when there was one before
-pub number_after : ℕ → List Remark → ℕ
-number_after g said = get_or (filter_map number (reverse said)) 0 g
+unfolding texts_after
+texts_after-front m a b [] = refl
+texts_after-front m a b (r ∷ said) = ap (λ n. texts_after (is_typed (r ∷ said)) n r said) (at_front m a b r said)
 
 first_of_two : (xs ys : List ℕ) (g : ℕ) → get_or (xs ++ ys) 0 g ≡ get_or xs 0 (get_or ys 0 g)
-first_of_two [] ys g = refl
-first_of_two (x ∷ xs) ys g = refl
+first_of_two xs ys g = grind (arith, common_steps)
 
 unfoldable pub with_number : ℕ → Remark → ℕ
 with_number g (Numbers n) = n
 with_number g r = g
 
+-- the generation after remarks, when there was one before
+unfoldable pub number_after : ℕ → List Remark → ℕ
+number_after g [] = g
+number_after g (r ∷ said) = number_after (with_number g r) said
+
 number_one : (g : ℕ) (r : Remark) → get_or (filter_map number (r ∷ [])) 0 g ≡ with_number g r
 unfolding with_number
-number_one g (Numbers n) = refl
-number_one g r = refl
+number_one g r = grind arith
 
-pub number_after-step : (g : ℕ) (r : Remark) (said : List Remark) → number_after g (r ∷ said) ≡ number_after (with_number g r) said
+number_is : (g : ℕ) (said : List Remark) → number_after g said ≡ get_or (filter_map number (reverse said)) 0 g
 unfolding number_after
-number_after-step g r said =
-    ap (λ (l : List ℕ). get_or l 0 g) (latest_last number r said)
-    ∙ first_of_two (filter_map number (reverse said)) (filter_map number (r ∷ [])) g
-    ∙ ap (λ (n : ℕ). get_or (filter_map number (reverse said)) 0 n) (number_one g r)
+number_is g [] = refl
+number_is g (r ∷ said) = search (rules, latest_last, first_of_two, number_one, (number_is (with_number g r) said))
 
 pub with_number-others : (g : ℕ) (r : auto_lines.Remark) → ((n : ℕ) → r ≡ seen.Numbers n → ⊥) → with_number g (seen_remark r) ≡ g
 unfolding with_number
-with_number-others g (seen.Numbers n) ne = absurd (ne n refl)
-with_number-others g r ne = refl
-
-pub number_after-nil : (g : ℕ) → number_after g [] ≡ g
-unfolding number_after
-number_after-nil g = refl
+with_number-others g r ne = grind arith
 
 pub number_after-zero : (text : List ℕ) → number_after 0 (remarks text) ≡ auto_generation text
-unfolding number_after auto_generation
-number_after-zero text = refl
-
--- refusals
-pub too_large : (text : List ℕ) → 67108864 < length text → auto_refusal text ≡ Some fault.TooLarge
-unfolding auto_refusal
-too_large text large = cond-true (nat_lt max_bytes (length text)) _ _ (grind (arith, nat_tests))
+unfolding auto_generation
+number_after-zero text = number_is 0 (remarks text)
 
 pub not_large : (text : List ℕ) → length text ≤ 67108864 → auto_refusal text ≡ option_map fault.BadAuto (auto_fault text)
 unfolding auto_refusal
-not_large text small = cond-false (nat_lt max_bytes (length text)) _ _ (grind (arith, nat_tests))
+not_large text small = search (rules, nat_tests, cond-false)

@@ -4,7 +4,6 @@ pub mod Entries
 pub mod LastLine
 pub mod LastRemark
 pub mod LegalNames
-pub mod Pieces
 pub mod PositionSteps
 pub mod PlainTexts
 pub mod ReadBack

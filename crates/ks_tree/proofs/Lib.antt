@@ -3,7 +3,6 @@ pub mod PathLemmas
 pub mod Places
 pub mod StampLemmas
 pub mod Touching
-pub mod Making
 pub mod Stored
 pub mod Tables
 pub mod Reading

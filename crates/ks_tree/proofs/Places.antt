@@ -1,6 +1,6 @@
 -- A path tells which of the files that the commands write stands at it.
-use Rattle.ks_tree.proofs.Prelude.{◌≡◌, ◌-◌, ℕ, List, ◌++◌, codes, nat_eq, cond, length, take, drop, ap, sym, ◌∙◌, refl, length-append, append_assoc, arith, take-append-le, take_all, auto_temporary, header_temporary, stamp_path, stamp_temporary, command_path, command_temporary, dotted, Place, AutoConf, Header, Stamp, CommandFile, AutoTemporary, HeaderTemporary, StampTemporary, CommandTemporary, path_of, IsLegalPlace, PathsNeverMeet}
-use Rattle.ks_tree.proofs.PathLemmas.{ending, has_dot, last, undotted, undotted-dotted, ending-stamp, ending-auto, ending-header, ending-command, ending-command_temporary, ending-auto_temporary, ending-header_temporary, ending-stamp_temporary}
+use Rattle.ks_tree.proofs.Prelude.{◌≡◌, ◌-◌, ℕ, List, ◌++◌, codes, nat_eq, cond, length, take, drop, ap, sym, ◌∙◌, refl, length-append, append_assoc, take-append-le, take_all, auto_path, header_path, auto_temporary, header_temporary, stamp_path, stamp_temporary, command_path, command_temporary, dotted, Place, AutoConf, Header, Stamp, CommandFile, AutoTemporary, HeaderTemporary, StampTemporary, CommandTemporary, path_of, IsLegalPlace, PathsNeverMeet, rules}
+use Rattle.ks_tree.proofs.PathLemmas.{ending, has_dot, last, undotted, undotted-dotted, ending-stamp, ending-command, ending-command_temporary}
 
 -- without its last n bytes
 front : ℕ → List ℕ → List ℕ
@@ -8,9 +8,7 @@ front n p = take (length p - n) p
 
 front-append : (xs ys : List ℕ) (n : ℕ) → length ys ≡ n → front n (xs ++ ys) ≡ xs
 unfolding front
-front-append xs ys n is =
-    ap (λ m. take m (xs ++ ys)) (let e : length (xs ++ ys) - n ≡ length xs = omega (arith, length-append xs ys) in e)
-    ∙ take-append-le (length xs) xs ys (omega arith) ∙ take_all (length xs) xs (omega arith)
+front-append xs ys n is = search (rules, length-append, take-append-le, take_all)
 
 -- the file at a temporary path, by the ending of what stands before `.tmp`
 temporary_at : List ℕ → Place
@@ -23,42 +21,18 @@ place_at p = cond (nat_eq (ending p) 0) (Stamp (drop 15 p)) (cond (nat_eq (endin
 
 after_command : (o : List ℕ) → front 4 (command_temporary o) ≡ command_path o
 unfolding command_temporary command_path
-after_command o = ap (front 4) (sym (append_assoc (dotted o) (codes ".cmd") (codes ".tmp"))) ∙ front-append (dotted o ++ codes ".cmd") (codes ".tmp") 4 refl
+after_command o = search (rules, (append_assoc (dotted o) (codes ".cmd") (codes ".tmp")), front-append)
 
 command_of : (o : List ℕ) → undotted (front 4 (command_path o)) ≡ o
 unfolding command_path
-command_of o = ap undotted (front-append (dotted o) (codes ".cmd") 4 refl) ∙ undotted-dotted o
-
-dropped : (x : List ℕ) → Stamp (drop 15 (stamp_path x)) ≡ Stamp x
-unfolding stamp_path
-dropped x = refl
-
-following_auto : temporary_at (front 4 auto_temporary) ≡ AutoTemporary
-unfolding temporary_at front auto_temporary ending has_dot last
-following_auto = refl
-
-following_header : temporary_at (front 4 header_temporary) ≡ HeaderTemporary
-unfolding temporary_at front header_temporary ending has_dot last
-following_header = refl
-
-after_stamp : temporary_at (front 4 stamp_temporary) ≡ StampTemporary
-unfolding temporary_at front stamp_temporary ending has_dot last
-after_stamp = refl
-
-after_any_command : (o : List ℕ) → temporary_at (front 4 (command_temporary o)) ≡ CommandTemporary o
-unfolding temporary_at
-after_any_command o = ap temporary_at (after_command o) ∙ rw (ending-command o) (ap (λ p. CommandTemporary p) (command_of o))
+command_of o = search (rules, (front-append (dotted o) (codes ".cmd") 4 refl), undotted-dotted)
 
 found : (a : Place) → IsLegalPlace a → place_at (path_of a) ≡ a
-unfolding place_at
-found AutoConf h = rw ending-auto refl
-found Header h = rw ending-header refl
-found (Stamp x) h = rw (ending-stamp x h) (dropped x)
-found (CommandFile o) h = rw (ending-command o) (ap (λ p. CommandFile p) (command_of o))
-found AutoTemporary h = rw ending-auto_temporary following_auto
-found HeaderTemporary h = rw ending-header_temporary following_header
-found StampTemporary h = rw ending-stamp_temporary after_stamp
-found (CommandTemporary o) h = rw (ending-command_temporary o) (after_any_command o)
+unfolding place_at temporary_at front auto_path header_path auto_temporary header_temporary stamp_path stamp_temporary ending has_dot last
+found (Stamp x) h = rw (ending-stamp x h)
+found (CommandFile o) h = rw (ending-command o, command_of o)
+found (CommandTemporary o) h = rw (ending-command_temporary o, after_command o, ending-command o, command_of o)
+found a h = refl
 
 -- so two of them at one path are the same file
 pub paths_never_meet : PathsNeverMeet

@@ -1,47 +1,33 @@
--- One more stamp is set.
-use Rattle.ks_tree.proofs.Prelude.{IsTrue, ◌≡◌, ◌≢◌, ⊎_elim, ℕ, List, [], ◌∷◌, ◌++◌, Some, Bool, true, false, ◌||◌, cond, sym, ◌∙◌, ap, refl, arith, bytes_eq, true≢false, or_left, or_right, cases_Bool, cond-true, bytes_eq-Decides, Files, content, SameButBoth, is_name, is_in, stamp_path, stamp_temporary, stamp_text, Touches}
+-- One more stamp is set, or made.
+use Rattle.ks_tree.proofs.Prelude.{◌≡◌, ◌≢◌, ℕ, List, [], ◌∷◌, ◌++◌, Some, arith, bytes_eq, cases_Bool, bytes_eq-Decides, Files, content, SameButBoth, kept_or, SameBut, MakesStamps, stamp_path, stamp_temporary, stamp_text, Touches, Result, OnErr, common_steps, rules}
 use Rattle.ks_tree.proofs.PathLemmas.{apart, ending-stamp, ending-stamp_temporary, stamp-injective}
-
-pub is_in_more : (xs : List (List ℕ)) (y x : List ℕ) → is_in (xs ++ y ∷ []) x ≡ (is_in xs x || bytes_eq x y)
-is_in_more [] y x = elim (bytes_eq x y) as (λ b. (b || false) ≡ b) [ true ↦ refl | false ↦ refl ]
-is_in_more (z ∷ xs) y x = elim (bytes_eq x z) as (λ b. (b || is_in (xs ++ y ∷ []) x) ≡ ((b || is_in xs x) || bytes_eq x y))
-    [ true ↦ refl | false ↦ is_in_more xs y x ]
-
-pub or_false : (b c : Bool) → c ≡ false → (b || c) ≡ b
-or_false true c e = refl
-or_false false c e = e
 
 pub touches_more : (xs : List (List ℕ)) (y : List ℕ) (g : ℕ) (old mid new : Files) → Touches xs g old mid
     → content new (stamp_path y) ≡ Some (stamp_text g) → SameButBoth stamp_temporary (stamp_path y) mid new → Touches (xs ++ y ∷ []) g old new
-touches_more xs y g old mid new touched set others = record {
-  stamps = λ x name. ⊎_elim
-      (λ same.
-      ap (λ z. content new (stamp_path z)) ((bytes_eq-Decides x y).0 same) ∙ set
-      ∙ sym (cond-true _ _ (content old (stamp_path x)) (is_in_more xs y x ∙ or_right (is_in xs x) _ same)))
-      (λ other.
-      others (stamp_path x) (apart (ending-stamp x name) ending-stamp_temporary (λ e. omega arith))
-      (λ e. true≢false (sym ((bytes_eq-Decides x y).1 (stamp-injective x y e)) ∙ other))
-      ∙ touched.stamps x name
-      ∙ ap (λ b. cond b (Some (stamp_text g)) (content old (stamp_path x))) (sym (is_in_more xs y x ∙ or_false (is_in xs x) _ other)))
-      (cases_Bool (bytes_eq x y));
-  others = λ q temporary none.
-      others q temporary (none y (is_in_more xs y y ∙ or_right (is_in xs y) _ ((bytes_eq-Decides y y).1 refl)))
-      ∙ touched.others q temporary (λ x among. none x (is_in_more xs y x ∙ or_left _ (bytes_eq x y) among));
-}
+touches_more xs y g old mid new touched set others = grind (arith, common_steps, bytes_eq-Decides, apart, ending-stamp, ending-stamp_temporary, stamp-injective)
+
+-- What a path that was written holds may be what it held.
+pub kept_at : (p q : List ℕ) (mid new : Files) → content new p ≡ content mid p → (q ≢ p → content new q ≡ content mid q) → content new q ≡ content mid q
+kept_at p q mid new kept others = grind (arith, common_steps, (bytes_eq-Decides q p), (cases_Bool (bytes_eq q p)))
 
 -- a stamp that was not set leaves the first ones
 pub touches_same : (xs : List (List ℕ)) (y : List ℕ) (g : ℕ) (old mid new : Files) → Touches xs g old mid
     → content new (stamp_path y) ≡ content mid (stamp_path y) → SameButBoth stamp_temporary (stamp_path y) mid new → Touches xs g old new
-touches_same xs y g old mid new touched kept others = record {
-  stamps = λ x name. at x name ∙ touched.stamps x name;
-  others = λ q temporary none. elsewhere q temporary ∙ touched.others q temporary none;
-}
-  where
-    elsewhere : (q : List ℕ) → q ≢ stamp_temporary → content new q ≡ content mid q
-    elsewhere q temporary = ⊎_elim
-        (λ same. let e = (bytes_eq-Decides q (stamp_path y)).0 same in ap (content new) e ∙ kept ∙ ap (content mid) (sym e))
-        (λ other. others q temporary (λ e. true≢false (sym ((bytes_eq-Decides q (stamp_path y)).1 e) ∙ other)))
-        (cases_Bool (bytes_eq q (stamp_path y)))
+touches_same xs y g old mid new touched kept others =
+    let all = λ (q : List ℕ) (other : q ≢ stamp_temporary). kept_at (stamp_path y) q mid new kept (others q other) in
+    search (rules, all, apart, ending-stamp, ending-stamp_temporary, touched.stamps, touched.others)
 
-    at : (x : List ℕ) → IsTrue (is_name x) → content new (stamp_path x) ≡ content mid (stamp_path x)
-    at x name = elsewhere (stamp_path x) (apart (ending-stamp x name) ending-stamp_temporary (λ e. omega arith))
+-- an empty one, where there was none
+pub made_more : (xs : List (List ℕ)) (y : List ℕ) (old mid new : Files) → MakesStamps xs old mid
+    → content new (stamp_path y) ≡ Some (kept_or (content mid (stamp_path y)) []) → SameBut (stamp_path y) mid new → MakesStamps (xs ++ y ∷ []) old new
+made_more xs y old mid new made at others = grind (arith, common_steps, bytes_eq-Decides, stamp-injective)
+
+-- a stamp that was not made leaves the first ones
+pub made_same : (xs : List (List ℕ)) (y : List ℕ) (old mid new : Files) → MakesStamps xs old mid
+    → content new (stamp_path y) ≡ content mid (stamp_path y) → SameBut (stamp_path y) mid new → MakesStamps xs old new
+made_same xs y old mid new made kept others =
+    let all = λ (q : List ℕ). kept_at (stamp_path y) q mid new kept (others q) in search (rules, all, made.made, made.others)
+
+-- the answer of a call that failed
+pub on_err : {T E : Type 0} (r : Result T E) (P : Type 0) → P → OnErr r P
+on_err r P p = search rules

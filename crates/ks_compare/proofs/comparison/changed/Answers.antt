@@ -1,10 +1,5 @@
-use Rattle.std.proofs.Common.{rules, arith}
-use Rattle.std.proofs.lemmas.Grind.{common_steps}
-use Rattle.std.proofs.iter.runs.Made.{seen}
-use Rattle.std.proofs.lemmas.Iterator.Consumers.{YieldsList-from_rest}
-use Rattle.std.proofs.lemmas.List.Elements.{filter_map-append}
 use Rattle.itertools.proofs.AdaptorLemmas.{items_from_whole_run, run_to_end, run_to_item}
-use Rattle.ks_compare.proofs.Prelude.{[], refl, sym, ap, ap₂, subst, ◌∙◌, append-nil, IsTrue, filter_map, merge_join_by, AllByRecursion, AreChanges, all_entries, name_of_symbol, is_name, borrowed_entry, borrowed_old_entry}
+use Rattle.ks_compare.proofs.Prelude.{rules, arith, common_steps, seen, YieldsList-from_rest, filter_map-append, [], refl, sym, ap, ap₂, subst, ◌∙◌, append-nil, IsTrue, filter_map, merge_join_by, AllByRecursion, AreChanges, all_entries, name_of_symbol, is_name, borrowed_entry, borrowed_old_entry}
 use Rattle.ks_compare.proofs.Merge.{by_name, name_of, every, taken, among, merged_changes}
 use Rattle.ks_compare.proofs.comparison.changed.Goals as goal
 

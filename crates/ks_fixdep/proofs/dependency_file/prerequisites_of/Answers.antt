@@ -1,6 +1,4 @@
-use Rattle.ks_fixdep.proofs.Prelude.{◌≡◌, rules, true, list_any, is_kept, inr, ◌++◌, ◌∷◌, [], map, length, sym, ap, subst, ◌∙◌, arith, drop, suc, refl, YieldsList-from_first, YieldsList-end, YieldsList-turn, YieldsList-so_far, length-append, tokens, first_fault, token_refusal, once, with_roles, prerequisites_without, Stands}
-use Rattle.std.proofs.lemmas.Grind.{common_steps}
-use Rattle.ks_fixdep.specs.declared.dependency_file.Role.TheVariants as role
+use Rattle.ks_fixdep.proofs.Prelude.{common_steps, ◌≡◌, rules, ◌++◌, ◌∷◌, map, length, sym, ap, ◌∙◌, arith, drop, suc, refl, YieldsList-from_first, YieldsList-end, YieldsList-turn, YieldsList-so_far, length-append, tokens, prerequisites_without}
 use Rattle.ks_fixdep.proofs.RoleLemmas.{seen-push, faults-fit, tokens-length, refused-err, refused-through, source-next, other-next, none-kept, some-kept, parted}
 use Rattle.ks_fixdep.proofs.dependency_file.prerequisites_of.Goals as goal
 use Rattle.ks_fixdep.proofs.dependency_file.prerequisites_of.Goals.{In-None, In-Some}
@@ -39,50 +37,24 @@ take-requires c =
     omega (arith, simp length-append at (ap length is), c.loop-token.invariant.stands.number, tokens-length c.args.text.now, c.requires)
 
 pub loop-token-preserved : goal.loop-token-preserved
-loop-token-preserved c =
-    let seen = map (λ x. x.now) c.loop-token.yielded in
-    let x = c.in-Some.token.now in
-    let push = seen-push c.loop-token.yielded c.in-Some.token in
-    let s = c.loop-token.invariant.stands in
-    record {
-      stands = subst (Stands c.args.header c.take.new.self) (sym push) (c.in_ok-take.ensures.stands seen s);
-      fits = ap (first_fault c.args.header []) push ∙ faults-fit c.args.header seen x c.loop-token.invariant.fits (c.in_ok-take.ensures.fits seen s);
-    }
+loop-token-preserved c = grind (arith, common_steps, seen-push, faults-fit)
 
 pub returns-in_err-take-clause-refusal : goal.returns-in_err-take-clause-refusal
 returns-in_err-take-clause-refusal c =
-    let seen = map (λ x. x.now) c.loop-token.yielded in
-    let ts = tokens c.args.text.now in
-    let e = c.in_err-take.field-0.0 in
-    refused-err c.from_residual.result e (token_refusal c.args.header ts) c.from_residual.ensures.0 c.from_residual.ensures.1
-    (refused-through c.args.header e ts seen c.in-Some.token.now _ (parts (goal.at.returns-in_err-take-clause-refusal c).In-Some) c.loop-token.invariant.fits
-    (c.in_err-take.ensures.refusal seen c.loop-token.invariant.stands))
+    let is = parts (goal.at.returns-in_err-take-clause-refusal c).In-Some in
+    let refusal = c.in_err-take.ensures.refusal (map (λ x. x.now) c.loop-token.yielded) c.loop-token.invariant.stands in
+    let through = refused-through c.args.header c.in_err-take.field-0.0 _ _ _ _ is c.loop-token.invariant.fits refusal in
+    search (rules, refused-err)
 
 pub returns-then-eq-clause-refusal : goal.returns-then-eq-clause-refusal
-returns-then-eq-clause-refusal c =
-    let source : c.loop-token.progress.next ≡ role.Source = search rules in
-    inr (ap (token_refusal c.args.header) (sym (all_seen (goal.at.returns-then-eq-clause-refusal c).In-None))
-    ∙ none-kept c.args.header (map (λ x. x.now) c.loop-token.yielded) c.loop-token.invariant.fits
-    (source-next c.args.header (map (λ x. x.now) c.loop-token.yielded) (sym c.loop-token.invariant.stands.next ∙ source)))
-
-not_source : (c : goal.Else-eq) → c.loop-token.progress.next ≡ role.Source → ⊥
-not_source c is = grind (arith, common_steps)
-
-kept : (c : goal.Else-eq) → list_any (is_kept c.args.header) (map (λ x. x.now) c.loop-token.yielded) ≡ true
-kept c = other-next c.args.header (map (λ x. x.now) c.loop-token.yielded) (λ is. not_source c (c.loop-token.invariant.stands.next ∙ is))
+returns-then-eq-clause-refusal c = let all = all_seen (goal.at.returns-then-eq-clause-refusal c).In-None in search (rules, none-kept, source-next)
 
 pub returns-clause-refusal : goal.returns-clause-refusal
-returns-clause-refusal c =
-    ap (token_refusal c.args.header) (sym (all_seen (goal.at.returns-clause-refusal c).In-None))
-    ∙ some-kept c.args.header (map (λ x. x.now) c.loop-token.yielded) c.loop-token.invariant.fits (kept c)
+returns-clause-refusal c = let all = all_seen (goal.at.returns-clause-refusal c).In-None in search (rules, some-kept, other-next)
 
 pub returns-clause-value : goal.returns-clause-value
 unfolding prerequisites_without
-returns-clause-value c =
-    c.loop-token.invariant.stands.found ∙ ap (λ ts. once (with_roles c.args.header [] ts)) (all_seen (goal.at.returns-clause-value c).In-None)
+returns-clause-value c = let all = all_seen (goal.at.returns-clause-value c).In-None in cc (c.loop-token.invariant.stands.found)
 
 pub invariant_of-result : goal.invariant_of-result
-invariant_of-result c = record {
-  some = c.loop-token.invariant.stands.some (kept c);
-  legal = c.loop-token.invariant.stands.legal;
-}
+invariant_of-result c = grind (arith, common_steps, other-next)

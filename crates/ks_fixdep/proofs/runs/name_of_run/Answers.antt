@@ -1,18 +1,14 @@
-use Rattle.ks_fixdep.proofs.Prelude.{sym, ap, arith, ◌∙◌, Some, None, ◌≡◌, length, nat_tests, name_of}
-use Rattle.ks_fixdep.proofs.RunLemmas.{name_of-some, name_of-none}
+use Rattle.ks_fixdep.proofs.Prelude.{arith, nat_tests, common_steps}
+unfoldable use Rattle.ks_fixdep.specs.Scan.{name_of}
+unfoldable use Rattle.ks_symbols.specs.Names.{is_name}
+use Rattle.ks_fixdep.proofs.RunLemmas.{list_all-less}
 use Rattle.ks_fixdep.proofs.runs.name_of_run.Goals as goal
 use Rattle.ks_fixdep.proofs.runs.name_of_run.Goals.{then-is_empty-via-then-is_empty, then-is_empty-via-else-is_empty+then-name-gt-LONGEST_NAME}
 
 pub returns-then-is_empty : goal.returns-then-is_empty
-returns-then-is_empty c =
-    let same = ap length c.without_module-name.ensures in
-    elim c.then-is_empty.branch as (λ _. None ≡ name_of c.args.run.now) [
-      | then-is_empty-via-then-is_empty w ↦ sym (name_of-none c.args.run.now (λ low high. grind (arith, nat_tests)))
-      | then-is_empty-via-else-is_empty+then-name-gt-LONGEST_NAME w ↦ sym (name_of-none c.args.run.now (λ low high. omega arith))
-    ]
+unfolding name_of is_name
+returns-then-is_empty c = grind (arith, common_steps, nat_tests, then-is_empty-via-then-is_empty, then-is_empty-via-else-is_empty+then-name-gt-LONGEST_NAME)
 
 pub returns : goal.returns
-returns c =
-    let name = c.without_module-name.ensures in
-    let same = ap length name in
-    ap Some name ∙ sym (name_of-some c.args.run.now c.requires (grind (arith, nat_tests)) (omega (arith, same)))
+unfolding name_of is_name
+returns c = grind (arith, common_steps, nat_tests, (list_all-less c.args.run.now c.requires))

@@ -1,4 +1,4 @@
-use Rattle.ks_output.proofs.Prelude.{sym, ap, seen_remark}
+use Rattle.ks_output.proofs.Prelude.{sym, ap, seen_remark, rules, lines, remark}
 use Rattle.ks_output.proofs.LastRemark.{with_number, with_number-others}
 use Rattle.ks_output.proofs.PositionSteps.{counts_all, counts_on, counted}
 use Rattle.ks_output.proofs.auto_conf.read_auto_generation.Goals as goal
@@ -16,4 +16,4 @@ loop-remark-preserved c = counts_on _ _ _ _ (c.in_ok-remark.ensures.judged c.arg
     c.in-Some.is (sym (with_number-others c.loop-remark.generation c.in-Some.remark c.in_default-remark.not-Numbers))
 
 pub returns-clause-generation : goal.returns-clause-generation
-returns-clause-generation c = counted _ _ _ _ (c.in_ok-remark.ensures.judged c.args.text.now) _ c.loop-remark.invariant c.in_default.is
+returns-clause-generation c = search (rules, counted)

@@ -1,5 +1,7 @@
-use Rattle.ks_output.proofs.Worked.{files_of_switches, entry_lines_are, definition_lines_are, lines_read, faults_found, macros_read}
+use Rattle.ks_output.proofs.Prelude.{rules, is_name, unsetting, assignment, statement, class_remark, said_by, first_faulty, heard, is_typed}
+use Rattle.ks_output.proofs.Worked.{files_of_switches, faults_found}
 use Rattle.ks_output.proofs.laws.examples_are_worked.Goals as goal
 
 pub returns : goal.returns
-returns c = record { files = files_of_switches; entries = entry_lines_are; definitions = definition_lines_are; lines = lines_read; faults = faults_found; macros = macros_read }
+unfolding said_by class_remark statement assignment unsetting is_name is_typed heard first_faulty
+returns c = search (rules, files_of_switches, faults_found)

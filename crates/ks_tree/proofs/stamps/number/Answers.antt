@@ -1,15 +1,8 @@
-use Rattle.ks_tree.proofs.Prelude.{◌++◌, ◌∷◌, [], ◌∙◌, ap}
-use Rattle.ks_tree.proofs.StampLemmas.{read_number, read_none}
+use Rattle.ks_tree.proofs.Prelude.{ltb-true, reads_only_written, reads_back, append_cancel_right, rules}
 use Rattle.ks_tree.proofs.stamps.number.Goals as goal
 
 pub returns-in-Some-eq10-default-clause-found : goal.returns-in-Some-eq10-default-clause-found
-returns-in-Some-eq10-default-clause-found c =
-    let arm = c.in-Some-eq10-default in
-    read_number c.args.stamp.now arm.digits.now c.read_decimal.result (arm.ensures.cases.0 ∙ ap (λ b. arm.digits.now ++ b ∷ []) arm.field-0-0-test)
-    c.read_decimal.ensures
+returns-in-Some-eq10-default-clause-found c = search (rules, reads_only_written, ltb-true)
 
 pub returns-in-Some-eq10-default-clause-none : goal.returns-in-Some-eq10-default-clause-none
-returns-in-Some-eq10-default-clause-none c =
-    let arm = c.in-Some-eq10-default in
-    read_none c.args.stamp.now arm.digits.now c.read_decimal.result (arm.ensures.cases.0 ∙ ap (λ b. arm.digits.now ++ b ∷ []) arm.field-0-0-test)
-    c.read_decimal.ensures
+returns-in-Some-eq10-default-clause-none c = search (rules, append_cancel_right, reads_back)

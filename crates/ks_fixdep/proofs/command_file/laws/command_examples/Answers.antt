@@ -1,20 +1,8 @@
-use Rattle.ks_fixdep.proofs.Prelude.{refl, first_of, matches_from, is_name, is_path, is_target, lines, content, is_command, saved_command, source_in, path_in, name_in, dep_in, fixed_at, form_at, deps_in, said, generation_from, end_from, record_in, example, example_front, example_lines}
+use Rattle.ks_fixdep.proofs.Prelude.{first_of, matches_from, is_name, is_path, is_target, lines, content, is_command, saved_command, source_in, path_in, name_in, dep_in, fixed_at, form_at, deps_in, said, generation_from, end_from, record_in, example, example_front, example_lines, rules}
 use Rattle.ks_fixdep.proofs.command_file.laws.command_examples.Goals as goal
 
 -- each by computation
 pub returns : goal.returns
 unfolding first_of matches_from is_name is_path is_target lines content is_command saved_command source_in path_in name_in dep_in fixed_at form_at deps_in
     said generation_from end_from record_in example example_front example_lines
-returns c = record {
-  text = refl;
-  further = refl;
-  leading_zero = refl;
-  no_line_feed = refl;
-  ends_early = refl;
-  cut = refl;
-  cut_in_line = refl;
-  cut_at_empty
-      = refl;
-  empty = refl;
-  folder_above = refl;
-}
+returns c = search rules

@@ -1,5 +1,6 @@
-use Rattle.ks_fixdep.proofs.StreamLemmas.{borrowed-legal}
+use Rattle.ks_fixdep.proofs.Prelude.{arith, common_steps}
+use Rattle.ks_fixdep.proofs.ScanLemmas.{name_of_word-legal}
 use Rattle.ks_fixdep.proofs.open_word.OpenWord.name.Goals as goal
 
 pub returns-clause-legal : goal.returns-clause-legal
-returns-clause-legal c = borrowed-legal _ c.name_of_whole.result c.name_of_whole.ensures
+returns-clause-legal c = grind (arith, common_steps, name_of_word-legal)

@@ -1,17 +1,10 @@
-use Rattle.ks_fixdep.proofs.Prelude.{[], sym, ap, ◌∙◌, map, all_noted, bare_name}
+use Rattle.ks_fixdep.proofs.Prelude.{arith, common_steps, rules}
 use Rattle.ks_fixdep.proofs.NameLemmas.{ended-nil}
 use Rattle.ks_fixdep.proofs.WordLemmas.{stands-first}
 use Rattle.ks_fixdep.proofs.source_scan.SourceScan.begin_source.Goals as goal
 
 pub returns-clause-stands : goal.returns-clause-stands
-returns-clause-stands c = record {
-  word = c.new-self.ensures;
-  names = c.restart.ensures.current ∙ ap (λ xs. all_noted [] (map bare_name xs)) (sym ended-nil);
-}
+returns-clause-stands c = grind (arith, common_steps, ended-nil)
 
 pub returns-clause-under_rules : goal.returns-clause-under_rules
-returns-clause-under_rules c = stands-first _ (returns-clause-stands c) (record {
-  word = c.new-self-2.ensures.word;
-  awaited = c.new-self-2.ensures.awaited;
-  names = c.restart.ensures.current;
-})
+returns-clause-under_rules c = search (rules, stands-first, returns-clause-stands)

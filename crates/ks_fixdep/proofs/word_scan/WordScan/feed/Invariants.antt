@@ -1,5 +1,4 @@
-use Rattle.ks_fixdep.proofs.Prelude.{◌≡◌, ◌≤◌, ◌-◌, length, take}
-use Rattle.ks_fixdep.specs.WordScan.{Known, Knows, known_after}
+use Rattle.ks_fixdep.proofs.Prelude.{Known, Knows, known_after, ◌≡◌, ◌≤◌, ◌-◌, length, take}
 use Rattle.ks_fixdep.proofs.word_scan.WordScan.feed.Given as goal
 
 -- as much is known as of the bytes so far

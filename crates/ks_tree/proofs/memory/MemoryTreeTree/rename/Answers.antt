@@ -1,20 +1,19 @@
-use Rattle.ks_tree.proofs.Prelude.{◌≡◌, Some, None, refl, rules, files_of}
-use Rattle.ks_tree.proofs.Stored.{found, inserted, removed, moved, none_is_some}
+use Rattle.ks_tree.proofs.Prelude.{arith, Some, None, refl, rules, files_of}
+use Rattle.ks_tree.proofs.Stored.{found, sets, here, elsewhere}
 use Rattle.ks_tree.proofs.memory.MemoryTreeTree.rename.Goals as goal
 
 pub returns-in_default-clause-moved : goal.returns-in_default-clause-moved
 returns-in_default-clause-moved c = λ honest.
-    absurd (none_is_some _ (found c.self.inside.files.entries c.args.self.now c.args.from.now None c.self.view_is c.in_default.ensures.value)
-    (c.requires.there honest))
+    let none = found _ c.args.self.now _ None c.self.view_is c.in_default.ensures.value in let there = c.requires.there honest in grind arith
 
 pub returns-clause-moved : goal.returns-clause-moved
-returns-clause-moved c = λ honest.
-    let same : c.in_ok-bytes.bytes.items ≡ c.in-Some.bytes.now.items = search rules in
-    moved c.args.from.now c.args.to.now c.in-Some.bytes.now.items c.args.self.now (files_of c.insert.new.self.entries) _ c.requires.differ
-    (found c.self.inside.files.entries c.args.self.now c.args.from.now (Some c.in-Some.bytes.now) c.self.view_is c.in-Some.ensures.value)
-    (inserted c.self.inside.files c.insert.new.self c.args.self.now c.self.view_is c.in_ok-to.to c.in_ok-bytes.bytes _ _ c.in_ok-insert.ensures.updates
-    (search rules) same)
-    (removed c.insert.new.self c.remove.new.self (files_of c.insert.new.self.entries) refl c.args.from.now c.remove.ensures.updates)
+returns-clause-moved c =
+    let at = found _ c.args.self.now _ (Some c.in-Some.bytes.now) c.self.view_is c.in-Some.ensures.value in
+    let put = sets c.self.inside.files c.insert.new.self c.args.self.now c.self.view_is _ c.args.to.now _ (Some c.in-Some.bytes.now.items)
+    c.in_ok-insert.ensures.updates (search rules) (search rules) in
+    let taken = sets c.insert.new.self c.remove.new.self (files_of c.insert.new.self.entries) refl c.args.from.now _ None _
+    c.remove.ensures.updates refl refl in
+    search (rules, elsewhere, here)
 
 pub returns-in_default-clause-called : goal.returns-in_default-clause-called
 returns-in_default-clause-called c = (returns-in_default-clause-moved c tt, tt)

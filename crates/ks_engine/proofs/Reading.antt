@@ -1,10 +1,8 @@
 -- What the calls of the layers below give for the definitions of auto.conf and of the two texts.
-use Rattle.ks_engine.proofs.Prelude.{◌≡◌, ◌⊎◌, inl, inr, ℕ, ◌+◌, ◌<◌, ◌≤◌, List, Option, Some, None, Result, Ok, Err, sym, ◌∙◌, ap, ap₂, refl, subst, length, nat_eq, if◌then◌else◌, lt-ltb, le-ltb, ne_eqb, cond-true, cond-false, get, empty, Kind, IsConfiguration, Configuration, max_bytes, declared, title_of, kconfig_refusal, setting, unknown_count, dotconfig_refusal, or_else, IsRefusal, AutoError, auto_text, auto_map, auto_generation, auto_refusal, OldTexts, HasNames, Files, content, IsTooLarge, auto_path, TreeFault, EngineError, NeverSynced, of_tree, of_auto, IsGivenUp, and_then, AreChanges, IsLegalSync, AreLegalChanges, OldAuto, read_unless, old_auto, synced_at, last_generation, Sources, Plan, plan_over, IsSyncPlan, old_of, KconfigText}
+use Rattle.ks_engine.proofs.Prelude.{⊎_map, AreSources, ◌≡◌, ◌⊎◌, inl, inr, ℕ, ◌+◌, ◌≤◌, List, Option, Some, None, Result, Ok, Err, ap, refl, length, lt-ltb, le-ltb, ne_eqb, cond-true, cond-false, get, empty, Kind, IsConfiguration, Configuration, max_bytes, declared, title_of, kconfig_refusal, setting, unknown_count, dotconfig_refusal, IsRefusal, AutoError, auto_text, auto_map, auto_generation, auto_refusal, OldTexts, HasNames, Files, content, IsTooLarge, auto_path, TreeFault, EngineError, NeverSynced, of_tree, of_auto, IsGivenUp, and_then, AreChanges, IsLegalSync, AreLegalChanges, OldAuto, read_unless, old_auto, synced_at, last_generation, Sources, Plan, plan_over, IsSyncPlan, old_of, KconfigText, rules, changes_are_legal, arith}
 use Rattle.ks_symbols.specs.Lines.{lines}
 use Rattle.ks_output.specs.declared.auto_conf.AutoError.TheVariants as auto
 use Rattle.ks_tree.specs.declared.fault.TreeFault.TheVariants as fault
-use Rattle.ks_engine.specs.SyncPlan.{AreSources}
-use Rattle.ks_engine.proofs.LowerLaws.{legal_changes}
 
 -- ---- steps that may refuse
 
@@ -22,96 +20,69 @@ pub are_sources : (kconfig : KconfigText) (dotconfig : List ℕ) (s : Sources) (
     → AreSources kconfig dotconfig s
 are_sources kconfig dotconfig s kinds same first second title settings unknown legal =
     let kinds_same : kinds ≡ declared kconfig = λ i x. same x i in
-    record {
-      accepted = ap₂ or_else first (ap (λ k. dotconfig_refusal k dotconfig) (sym kinds_same) ∙ second);
-      title = title;
-      settings = λ x. settings x ∙ ap (λ k. setting k (lines dotconfig) x) kinds_same;
-      unknown = unknown ∙ ap (λ k. unknown_count k (lines dotconfig)) kinds_same;
-      legal = legal;
-    }
+    let refused = rw kinds_same at second in
+    record { accepted = rw (first, refused) refl; title = title; settings = rw kinds_same at settings; unknown = rw kinds_same at unknown; legal = legal }
 
 -- ---- the names that changed
 
 pub are_changed : (old : OldTexts) (new : Configuration) (names : List (List ℕ)) → HasNames old.texts → IsConfiguration new → AreChanges old.texts new names
     → AreLegalChanges old.texts new names
-are_changed old new names legal config are = record { are = are; legal = legal_changes old.texts new names legal config are }
+are_changed old new names legal config are = record { are = are; legal = changes_are_legal old.texts new names legal config are }
 
 pub plan_made : (s : Sources) (a : OldAuto) → (a.generation ≡ 18446744073709551615 → ⊥) → length (auto_text s.title s.config (a.generation + 1)) ≤ max_bytes
     → plan_over s a ≡ Ok (record { title = s.title; config = s.config; unknown = s.unknown; old = a.texts; generation = a.generation })
-plan_made s a room small = cond-false _ _ _ (ne_eqb a.generation 18446744073709551615 room) ∙ cond-false _ _ _ (le-ltb max_bytes _ small)
+plan_made s a room small = search (rules, cond-false, ne_eqb, le-ltb)
 
 -- ---- auto.conf
-
-auto_large : (b : List ℕ) → max_bytes < length b → auto_refusal b ≡ Some auto.TooLarge
-unfolding auto_refusal
-auto_large b large = cond-true _ _ _ (lt-ltb max_bytes (length b) large)
 
 pub old_some : (file : Option (List ℕ)) (b : List ℕ) (refusal : Option AutoError) → file ≡ Some b → auto_refusal b ≡ refusal → old_auto file
     ≡ read_unless refusal b
 unfolding old_auto
-old_some file b refusal at is = ap old_auto at ∙ ap (λ r. read_unless r b) is
+old_some file b refusal at is = rw (at, is) refl
 
 pub old_fault : (f : TreeFault) (file : Option (List ℕ)) → (f ≡ fault.TooLarge → IsTooLarge file) → IsGivenUp (of_tree f) ⊎ (old_auto file ≡ Err (of_tree f))
-old_fault fault.TooLarge file large = let is = large refl in inr (old_some file is.0 _ is.1 (auto_large is.0 is.2))
-old_fault fault.OutOfMemory file large = inl tt
-old_fault fault.Device file large = inl tt
+unfolding auto_refusal
+old_fault fault.TooLarge file large = let is = large refl in inr (old_some file is.0 _ is.1 (cond-true _ _ _ (lt-ltb max_bytes (length is.0) is.2)))
+old_fault f file large = inl tt
 
 pub old_refused : (e : AutoError) (file : Option (List ℕ)) (b : List ℕ) → file ≡ Some b → IsRefusal auto.OutOfMemory e (auto_refusal b)
     → IsGivenUp (of_auto e) ⊎ (old_auto file ≡ Err (of_auto e))
-old_refused e file b at (inl memory) = inl (subst (λ x. IsGivenUp (of_auto x)) (sym memory) tt)
-old_refused e file b at (inr is) = inr (old_some file b _ at is)
+old_refused e file b at = ⊎_map (λ memory. rw memory tt) (old_some file b _ at)
 
-same_old : (a b : OldAuto) → a.texts ≡ b.texts → a.generation ≡ b.generation → a ≡ b
-same_old a b p q = λ i. record { texts = p i; generation = q i }
-
-pub old_read : (old : OldTexts) (file : Option (List ℕ)) (b : List ℕ) → file ≡ Some b → auto_refusal b ≡ None → old.texts ≡ auto_map b → old.generation
-    ≡ auto_generation b
-    → old_auto file ≡ Ok (old_of old)
-old_read old file b at fine texts generation = old_some file b None at fine ∙ ap (λ a. Ok a) (same_old _ (old_of old) (sym texts) (sym generation))
+pub old_read : (old : OldTexts) (file : Option (List ℕ)) (b : List ℕ) → file ≡ Some b → auto_refusal b ≡ None → old.texts ≡ auto_map b
+    → old.generation ≡ auto_generation b → old_auto file ≡ Ok (old_of old)
+old_read old file b at fine texts generation = rw (old_some file b None at fine, texts, generation) refl
 
 pub old_none : (old : OldTexts) (file : Option (List ℕ)) → file ≡ None → old.texts ≡ empty → old.generation ≡ 0 → old_auto file ≡ Ok (old_of old)
 unfolding old_auto
-old_none old file at none zero =
-    ap old_auto at ∙ ap (λ a. Ok a) (same_old _ (old_of old) (sym none) (sym zero))
-
--- the generation of what was read
-pub generation_of : (file : Option (List ℕ)) (a : OldAuto) (r : Result ℕ EngineError) → old_auto file ≡ Ok a → synced_at a ≡ r → last_generation file ≡ r
-generation_of file a r is at = ap (λ o. and_then o synced_at) is ∙ at
+old_none old file at none zero = search rules
 
 -- what is read of an auto.conf where its texts are not
 pub last_refused : (file : Option (List ℕ)) (e : EngineError) → IsGivenUp e ⊎ (old_auto file ≡ Err e) → IsGivenUp e ⊎ (last_generation file ≡ Err e)
-last_refused file e (inl given) = inl given
-last_refused file e (inr bad) = inr (ap (λ o. and_then o synced_at) bad)
+last_refused file e = ⊎_map (λ given. given) (ap (λ o. and_then o synced_at))
 
 pub last_none : (file : Option (List ℕ)) → file ≡ None → last_generation file ≡ Err NeverSynced
 unfolding old_auto
-last_none file at = ap last_generation at
-
-last_read : (file : Option (List ℕ)) (b : List ℕ) (g : ℕ) → file ≡ Some b → auto_refusal b ≡ None → g ≡ auto_generation b → last_generation file
-    ≡ (if nat_eq g 0 then Err NeverSynced else Ok g)
-last_read file b g at fine is = ap (λ o. and_then o synced_at) (old_some file b None at fine) ∙ ap (λ n. if nat_eq n 0 then Err NeverSynced else Ok n) (sym is)
+last_none file at = rw at refl
 
 pub last_zero : (file : Option (List ℕ)) (b : List ℕ) (g : ℕ) → file ≡ Some b → auto_refusal b ≡ None → g ≡ auto_generation b → g ≡ 0 → last_generation file
     ≡ Err NeverSynced
-last_zero file b g at fine is zero = last_read file b g at fine is ∙ ap (λ n. if nat_eq n 0 then Err NeverSynced else Ok n) zero
+last_zero file b g at fine is zero = rw (old_some file b None at fine, ← is, zero) refl
 
 pub last_some : (file : Option (List ℕ)) (b : List ℕ) (g : ℕ) → file ≡ Some b → auto_refusal b ≡ None → g ≡ auto_generation b → (g ≡ 0 → ⊥)
     → last_generation file ≡ Ok g
-last_some file b g at fine is some = last_read file b g at fine is ∙ cond-false _ _ _ (ne_eqb g 0 some)
+last_some file b g at fine is some = rw (old_some file b None at fine, ← is, ne_eqb g 0 some) refl
 
 -- ---- the plan of a synchronisation, by its sources and by auto.conf
 
 pub plan_of_old : (files : Files) (kconfig : KconfigText) (dotconfig : List ℕ) (s : Sources) (e : EngineError) → AreSources kconfig dotconfig s
     → old_auto (content files auto_path) ≡ Err e → IsSyncPlan files kconfig dotconfig (Err e)
-plan_of_old files kconfig dotconfig s e are bad = inr (s, are, sym (ap (λ o. and_then o (plan_over s)) bad))
+plan_of_old files kconfig dotconfig s e are bad = inr (s, are, rw bad refl)
 
-pub plan_of_over : (files : Files) (kconfig : KconfigText) (dotconfig : List ℕ) (s : Sources) (a : OldAuto) (r : Result Plan EngineError) → AreSources kconfig dotconfig s
-    → old_auto (content files auto_path) ≡ Ok a → plan_over s a ≡ r
-    → IsSyncPlan files kconfig dotconfig r
-plan_of_over files kconfig dotconfig s a r are read over = inr (s, are, sym (ap (λ o. and_then o (plan_over s)) read ∙ over))
+pub plan_of_over : (files : Files) (kconfig : KconfigText) (dotconfig : List ℕ) (s : Sources) (a : OldAuto) (r : Result Plan EngineError)
+    → AreSources kconfig dotconfig s → old_auto (content files auto_path) ≡ Ok a → plan_over s a ≡ r → IsSyncPlan files kconfig dotconfig r
+plan_of_over files kconfig dotconfig s a r are read over = inr (s, are, rw (read, over) refl)
 
 -- a fault that is no TooLarge gives up
 pub given_fault : (f : TreeFault) → (f ≡ fault.TooLarge → ⊥) → IsGivenUp (of_tree f)
-given_fault fault.TooLarge small = absurd (small refl)
-given_fault fault.OutOfMemory small = tt
-given_fault fault.Device small = tt
+given_fault f small = grind arith

@@ -1,168 +1,71 @@
 -- What the last history of a run says of each of its steps.
-use Rattle.ks_engine.proofs.Prelude.{◌≡◌, ◌⊎◌, ℕ, List, [], ◌∷◌, ap, sym, refl, subst, inl, inr, ⊎_elim, Result, Ok, map, All, All-nil, All-cons, All-head, All-tail, Action, Dialect, Sync, Record, Reply, Refused, EngineError, IsGivenUpAnswer, Configuration, History, NoneBroken, TreeState, IsShown, Step, Follows, Leaves, Leads, Run, IsSuspectVerdict, IsChangedVerdict, IsSafeVerdict, IsGivenUpSync}
+use Rattle.ks_engine.proofs.Prelude.{◌≡◌, ◌⊎◌, List, [], ◌∷◌, ap, refl, subst, Ok, All-nil, All-head, All-tail, Action, Dialect, Sync, Record, Reply, Refused, IsGivenUpAnswer, History, NoneBroken, TreeState, IsShown, Step, Follows, Leaves, Leads, Run, IsSuspectVerdict, IsChangedVerdict, IsSafeVerdict, IsGivenUpSync, Result, EngineError, rules}
 use Rattle.ks_engine.specs.Actions.{Stale}
-use Rattle.ks_engine.specs.declared.commands.Reply.TheVariants.{Synced, Recorded, Verdict}
+use Rattle.ks_engine.specs.declared.commands.Reply.TheVariants.{Verdict}
 use Rattle.ks_engine.specs.declared.staleness.Verdict.{Verdict as VerdictValue}
-use Rattle.ks_engine.specs.History.{Synced as SyncedEvent, Broken as BrokenEvent, Recorded as RecordedEvent}
-
--- a run, before anything is said of its verdicts
-pub record Trace (dialect : Dialect) (first : TreeState) (asked : List Action) (answered : List Reply) (last : TreeState) : Type 0 where
-  pub steps : List Step
-  pub actions : map (λ step. step.action) steps ≡ asked
-  pub replies : map (λ step. step.reply) steps ≡ answered
-  pub leads : Leads dialect first steps last
-  pub shown : IsShown last
-
-pub no_steps : (dialect : Dialect) (first : TreeState) → IsShown first → Trace dialect first [] [] first
-no_steps dialect first shown = record { steps = []; actions = refl; replies = refl; leads = refl; shown = shown }
-
--- a step in front of a run
-pub step_first : (dialect : Dialect) (first : TreeState) (a : Action) (r : Reply) (mid : TreeState) (acts : List Action) (rs : List Reply) (last : TreeState)
-    → Follows dialect a r first mid → IsShown mid → Trace dialect mid acts rs last → Trace dialect first (a ∷ acts) (r ∷ rs) last
-step_first dialect first a r mid acts rs last follows shown trace =
-    let step : Step = record { before = first; action = a; reply = r; after = mid } in
-    record {
-      steps = step ∷ trace.steps;
-      actions = ap (λ xs. a ∷ xs) trace.actions;
-      replies = ap (λ xs. r ∷ xs) trace.replies;
-      leads = (refl, follows, shown, trace.leads);
-      shown = trace.shown;
-    }
 
 -- ---- what an action adds to a history: nothing, a completed synchronisation, a record, or a broken synchronisation where it was given up
 
-GoesOn : History → Action → Reply → History → Type 0
-GoesOn h a r next =
-    (next ≡ h)
-    ⊎ (((t : List ℕ) × (c : Configuration) × (next ≡ SyncedEvent t c h))
-    ⊎ (((o : List ℕ) × (w : List ℕ) × (names : List (List ℕ)) × (header : List ℕ) × (next ≡ RecordedEvent o w names header h))
-    ⊎ (IsGivenUpSync a r × ((t : List ℕ) × (c : Configuration) × (renewed : List (List ℕ)) × (next ≡ BrokenEvent t c renewed h)))))
+-- What a history goes on to has no broken synchronisation only where it has none itself, and has none where no synchronisation was given up.
+abbrev GoesOn : Type 0 → History → History → Type 0
+GoesOn given h next = (NoneBroken next → NoneBroken h) × ((given → ⊥) → NoneBroken h → NoneBroken next)
 
-goes_on : (dialect : Dialect) (old : TreeState) (a : Action) (r : Reply) (new : TreeState) → Leaves dialect old a r new → GoesOn old.history a r new.history
-unfolding GoesOn
-goes_on dialect old (Sync k d) (Synced report) new is = inr (inl (is.files.plan.title, is.files.plan.config, is.history))
-goes_on dialect old (Sync k d) (Refused e) new (inl plain) = inl plain.1.1
-goes_on dialect old (Sync k d) (Refused e) new (inr (given, inl same)) = inl same.1
-goes_on dialect old (Sync k d) (Refused e) new (inr (given, inr (broken, inl event)))
-    = inr (inr (inr (given, (broken.plan.title, broken.plan.config, broken.some.0, event))))
-goes_on dialect old (Sync k d) (Refused e) new (inr (given, inr (broken, inr event))) = inr (inl (broken.plan.title, broken.plan.config, event))
-goes_on dialect old (Sync k d) (Recorded answer) new is = absurd is
-goes_on dialect old (Sync k d) (Verdict v) new is = absurd is
-goes_on dialect old (Record d o c) (Recorded answer) new is = ⊎_elim (λ claimed. inr (inr (inl (o, c, is.files.plan.names, claimed.1.0, claimed.1.2))))
-    (λ none. inl none.1) is.history
-goes_on dialect old (Record d o c) (Refused e) new (inl plain) = inl plain.1.1
-goes_on dialect old (Record d o c) (Refused e) new (inr (given, inl same)) = inl same.1
-goes_on dialect old (Record d o c) (Refused e) new (inr (given, inr (tried, inl kept))) = inl kept
-goes_on dialect old (Record d o c) (Refused e) new (inr (given, inr (tried, inr event))) = inr (inr (inl (o, c, tried.plan.names, event.0, event.2)))
-goes_on dialect old (Record d o c) (Synced report) new is = absurd is
-goes_on dialect old (Record d o c) (Verdict v) new is = absurd is
-goes_on dialect old (Stale o) (Verdict v) new is = inl is.same.1
-goes_on dialect old (Stale o) (Refused e) new is = inl is.same.1
-goes_on dialect old (Stale o) (Synced report) new is = absurd is
-goes_on dialect old (Stale o) (Recorded answer) new is = absurd is
-
--- What a history goes on to has no broken synchronisation only where it has none itself, ..
-none_before : (h : History) (a : Action) (r : Reply) (next : History) → GoesOn h a r next → NoneBroken next → NoneBroken h
-unfolding GoesOn
-none_before h a r next (inl same) none = subst NoneBroken same none
-none_before h a r next (inr (inl (t, c, is))) none = subst NoneBroken is none
-none_before h a r next (inr (inr (inl (o, w, names, header, is)))) none = subst NoneBroken is none
-none_before h a r next (inr (inr (inr (given, (t, c, renewed, is))))) none = absurd (subst NoneBroken is none)
-
--- .. and has none where no synchronisation was given up.
-none_after : (h : History) (a : Action) (r : Reply) (next : History) → GoesOn h a r next → (IsGivenUpSync a r → ⊥) → NoneBroken h → NoneBroken next
-unfolding GoesOn
-none_after h a r next (inl same) kept none = subst NoneBroken (sym same) none
-none_after h a r next (inr (inl (t, c, is))) kept none = subst NoneBroken (sym is) none
-none_after h a r next (inr (inr (inl (o, w, names, header, is)))) kept none = subst NoneBroken (sym is) none
-none_after h a r next (inr (inr (inr (given, is)))) kept none = absurd (kept given)
-
--- ---- the same along the steps
+goes_on : (dialect : Dialect) (old : TreeState) (a : Action) (r : Reply) (new : TreeState) → Leaves dialect old a r new
+    → GoesOn (IsGivenUpSync a r) old.history new.history
+goes_on dialect old (Sync k d) (Refused e) new is = search rules
+goes_on dialect old (Record d o c) (Refused e) new is = search rules
+goes_on dialect old (Stale o) (Refused e) new is = search rules
+goes_on dialect old a r new is = search rules
 
 none_first : (dialect : Dialect) (first : TreeState) (steps : List Step) (last : TreeState) → Leads dialect first steps last → NoneBroken last.history → NoneBroken first.history
 none_first dialect first [] last leads none = subst (λ (s : TreeState). NoneBroken s.history) leads none
-none_first dialect first (s ∷ ss) last leads none =
-    subst (λ (t : TreeState). NoneBroken t.history) leads.0
-    (none_before s.before.history s.action s.reply s.after.history (goes_on dialect s.before s.action s.reply s.after leads.1.leaves)
-    (none_first dialect s.after ss last leads.3 none))
-
-none_last : (dialect : Dialect) (first : TreeState) (steps : List Step) (last : TreeState) → Leads dialect first steps last → NoneBroken first.history
-    → All (λ step. IsGivenUpSync step.action step.reply → ⊥) steps → NoneBroken last.history
-none_last dialect first [] last leads none kept = subst (λ (s : TreeState). NoneBroken s.history) (sym leads) none
-none_last dialect first (s ∷ ss) last leads none kept =
-    none_last dialect s.after ss last leads.3
-    (none_after s.before.history s.action s.reply s.after.history (goes_on dialect s.before s.action s.reply s.after leads.1.leaves)
-    (All-head (λ step. IsGivenUpSync step.action step.reply → ⊥) s ss kept)
-    (subst (λ (t : TreeState). NoneBroken t.history) (sym leads.0) none))
-    (All-tail (λ step. IsGivenUpSync step.action step.reply → ⊥) s ss kept)
+none_first dialect first (s ∷ ss) last leads none = search (rules, goes_on, (none_first dialect s.after ss last leads.3 none))
 
 -- ---- the verdict of a step
 
-same_verdict : (u v : VerdictValue) → ◌≡◌ {A = Result VerdictValue EngineError} (Ok u) (Ok v) → u ≡ v
-same_verdict u v e = cc
+same : (v w : VerdictValue) → IsGivenUpAnswer {A = VerdictValue} (Ok v) ⊎ (◌≡◌ {A = Result VerdictValue EngineError} (Ok v) (Ok w)) → v ≡ w
+same v w told = search rules
 
-told : (v w : VerdictValue) → IsGivenUpAnswer {A = VerdictValue} (Ok v) ⊎ (◌≡◌ {A = Result VerdictValue EngineError} (Ok v) (Ok w)) → v ≡ w
-told v w (inl given) = absurd given
-told v w (inr is) = same_verdict v w is
+told : (dialect : Dialect) (old : TreeState) (a : Action) (r : Reply) (new : TreeState) → Leaves dialect old a r new
+    → IsSuspectVerdict old.history a r × (NoneBroken old.history → IsChangedVerdict old.history a r) × IsSafeVerdict old a r
+told dialect old (Stale o) (Verdict v) new is = (
+  λ w last. same v _ (is.recorded w last).suspect,
+  λ none w last. same v _ ((is.recorded w last).changed none),
+  λ w last fresh. (is.recorded w last).safe (ap (λ x. Ok x) fresh),
+)
+told dialect old a r new is = (tt, λ none. tt, tt)
 
-suspect_verdict : (dialect : Dialect) (old : TreeState) (a : Action) (r : Reply) (new : TreeState) → Leaves dialect old a r new → IsSuspectVerdict old.history a r
-suspect_verdict dialect old (Stale o) (Verdict v) new is = λ w last. told v _ (is.recorded w last).suspect
-suspect_verdict dialect old (Stale o) (Refused e) new is = tt
-suspect_verdict dialect old (Stale o) (Synced e) new is = tt
-suspect_verdict dialect old (Stale o) (Recorded e) new is = tt
-suspect_verdict dialect old (Sync k d) r new is = tt
-suspect_verdict dialect old (Record d o c) r new is = tt
+-- ---- a run, step by step
 
-changed_verdict : (dialect : Dialect) (old : TreeState) (a : Action) (r : Reply) (new : TreeState) → NoneBroken old.history → Leaves dialect old a r new → IsChangedVerdict old.history a r
-changed_verdict dialect old (Stale o) (Verdict v) new none is = λ w last. told v _ ((is.recorded w last).changed none)
-changed_verdict dialect old (Stale o) (Refused e) new none is = tt
-changed_verdict dialect old (Stale o) (Synced e) new none is = tt
-changed_verdict dialect old (Stale o) (Recorded e) new none is = tt
-changed_verdict dialect old (Sync k d) r new none is = tt
-changed_verdict dialect old (Record d o c) r new none is = tt
-
-safe_verdict : (dialect : Dialect) (old : TreeState) (a : Action) (r : Reply) (new : TreeState) → Leaves dialect old a r new → IsSafeVerdict old a r
-safe_verdict dialect old (Stale o) (Verdict v) new is = λ w last fresh. (is.recorded w last).safe (ap (λ x. Ok x) fresh)
-safe_verdict dialect old (Stale o) (Refused e) new is = tt
-safe_verdict dialect old (Stale o) (Synced e) new is = tt
-safe_verdict dialect old (Stale o) (Recorded e) new is = tt
-safe_verdict dialect old (Sync k d) r new is = tt
-safe_verdict dialect old (Record d o c) r new is = tt
-
-suspect_all : (dialect : Dialect) (first : TreeState) (steps : List Step) (last : TreeState) → Leads dialect first steps last
-    → All (λ step. IsSuspectVerdict step.before.history step.action step.reply) steps
-suspect_all dialect first [] last leads = All-nil _
-suspect_all dialect first (s ∷ ss) last leads =
-    All-cons (λ step. IsSuspectVerdict step.before.history step.action step.reply) s ss (suspect_verdict dialect s.before s.action s.reply s.after leads.1.leaves)
-    (suspect_all dialect s.after ss last leads.3)
-
-changed_all : (dialect : Dialect) (first : TreeState) (steps : List Step) (last : TreeState) → Leads dialect first steps last → NoneBroken last.history
-    → All (λ step. IsChangedVerdict step.before.history step.action step.reply) steps
-changed_all dialect first [] last leads none = All-nil _
-changed_all dialect first (s ∷ ss) last leads none =
-    All-cons (λ step. IsChangedVerdict step.before.history step.action step.reply) s ss
-    (changed_verdict dialect s.before s.action s.reply s.after
-    (none_before s.before.history s.action s.reply s.after.history (goes_on dialect s.before s.action s.reply s.after leads.1.leaves)
-    (none_first dialect s.after ss last leads.3 none)) leads.1.leaves)
-    (changed_all dialect s.after ss last leads.3 none)
-
-safe_all : (dialect : Dialect) (first : TreeState) (steps : List Step) (last : TreeState) → Leads dialect first steps last
-    → All (λ step. IsSafeVerdict step.before step.action step.reply) steps
-safe_all dialect first [] last leads = All-nil _
-safe_all dialect first (s ∷ ss) last leads =
-    All-cons (λ step. IsSafeVerdict step.before step.action step.reply) s ss (safe_verdict dialect s.before s.action s.reply s.after leads.1.leaves)
-    (safe_all dialect s.after ss last leads.3)
-
--- From the steps alone all is told of the verdicts.
-pub run_of : (dialect : Dialect) (first : TreeState) (acts : List Action) (rs : List Reply) (last : TreeState) → Trace dialect first acts rs last → Run dialect first acts rs last
-run_of dialect first acts rs last trace = record {
-  steps = trace.steps;
-  actions = trace.actions;
-  replies = trace.replies;
-  leads = trace.leads;
-  shown = trace.shown;
-  suspect = suspect_all dialect first trace.steps last trace.leads;
-  changed = λ none. changed_all dialect first trace.steps last trace.leads none;
-  safe = safe_all dialect first trace.steps last trace.leads;
-  unbroken = none_last dialect first trace.steps last trace.leads;
+pub no_steps : (dialect : Dialect) (first : TreeState) → IsShown first → Run dialect first [] [] first
+no_steps dialect first shown = record {
+  steps = [];
+  actions = refl;
+  replies = refl;
+  leads = refl;
+  shown = shown;
+  suspect = All-nil _;
+  changed = λ none. All-nil _;
+  safe = All-nil _;
+  unbroken = λ none kept. none;
 }
+
+-- a step in front of a run
+pub step_first : (dialect : Dialect) (first mid last : TreeState) (a : Action) (r : Reply) (acts : List Action) (rs : List Reply)
+    → Follows dialect a r first mid → IsShown mid → Run dialect mid acts rs last → Run dialect first (a ∷ acts) (r ∷ rs) last
+step_first dialect first mid last a r acts rs follows shown run =
+    let step : Step = record { before = first; action = a; reply = r; after = mid } in
+    let goes = goes_on dialect first a r mid follows.leaves in
+    let verdict = told dialect first a r mid follows.leaves in
+    record {
+      steps = step ∷ run.steps;
+      actions = ap (λ xs. a ∷ xs) run.actions;
+      replies = ap (λ xs. r ∷ xs) run.replies;
+      leads = (refl, follows, shown, run.leads);
+      shown = run.shown;
+      suspect = search rules;
+      changed = search (rules, verdict.1, goes.0, none_first, run.changed);
+      safe = search rules;
+      unbroken = λ none kept. run.unbroken (goes.1 (All-head (λ (s : Step). IsGivenUpSync s.action s.reply → ⊥) step run.steps kept) none)
+          (All-tail (λ (s : Step). IsGivenUpSync s.action s.reply → ⊥) step run.steps kept);
+    }

@@ -1,20 +1,23 @@
 -- The stamps that are made after a synchronisation.
-use Rattle.ks_engine.proofs.Prelude.{◌≡◌, ◌⊎◌, ◌∙◌, inl, inr, ℕ, true, List, Err, take, IsTrue, refl, sym, ap, subst, declared, dotconfig_refusal, kconfig_refusal, or_else, IsRefusal, SourceError, is_in, is_name, Files, IsGivenUp, of_source, IsSyncPlan, KconfigText}
-use Rattle.ks_symbols.specs.declared.error.SourceError.TheVariants as source
-use Rattle.ks_engine.specs.Stamped.{AreDeclared, AreSomeDeclared}
-use Rattle.ks_engine.proofs.DepfileLemmas.{beginning}
+use Rattle.ks_engine.proofs.Prelude.{IsStamped, IsStampedRefused, FollowsSyncStamped, ◌≡◌, ◌∙◌, inl, inr, ℕ, true, List, Ok, Err, Result, IfOk, IfErr, IsTrue, refl, sym, is_some, declared, is_name, Files, EngineError, Report, History, Shows, at, KconfigText}
+use Rattle.ks_engine.proofs.DepfileLemmas.{made_stamps_show}
+use Rattle.ks_engine.proofs.Following.{sync_follows}
 
--- a Kconfig that is refused
-pub names_refused : (kconfig : KconfigText) (e : SourceError) → IsRefusal source.OutOfMemory e (kconfig_refusal kconfig)
-    → IsGivenUp (of_source e) ⊎ ((files : Files) (dotconfig : List ℕ) → IsSyncPlan files kconfig dotconfig (Err (of_source e)))
-names_refused kconfig e (inl memory) = inl (subst (λ x. IsGivenUp (of_source x)) (sym memory) tt)
-names_refused kconfig e (inr refused) =
-    inr (λ files dotconfig. inl (e, ap (λ r. or_else r (dotconfig_refusal (declared kconfig) dotconfig)) refused, refl))
-
--- the first of the declared names are some of them
-pub some_declared : (kconfig : KconfigText) (names : List (List ℕ)) (n : ℕ) → AreDeclared kconfig names → AreSomeDeclared kconfig (take n names)
-some_declared kconfig names n are x among = sym (are x) ∙ beginning names n x among
-
-pub some_legal : (names : List (List ℕ)) (n : ℕ) → ((x : List ℕ) → is_in names x ≡ true → IsTrue (is_name x)) → (x : List ℕ) → is_in (take n names) x ≡ true
-    → IsTrue (is_name x)
-some_legal names n legal x among = legal x (beginning names n x among)
+-- Each history that the files show goes on with a synchronisation and the stamps after it.
+pub stamped_follows : (old new : Files) (m n : ℕ) (h : History) (k : KconfigText) (d : List ℕ) (r : Result Report EngineError)
+    → ((x : List ℕ) → is_some (declared k x) ≡ true → IsTrue (is_name x)) → Shows old h → IfOk r (IsStamped old new k d) → IfErr r (IsStampedRefused old new k d)
+    → (next : History) × FollowsSyncStamped k d r (at old m h) (at new n next) × Shows new next
+stamped_follows old new m n h k d (Ok report) legal shows is refused =
+    let next = sync_follows old is.between m n h k d (Ok report) shows is.synced tt in (
+      next.0,
+      record { between = at is.between n next.0; synced = next.1; history = refl; names = is.names; declared = is.declared; stamps = is.stamps },
+      made_stamps_show is.between new is.names next.0 (λ x among. legal x (sym (is.declared x) ∙ among)) is.stamps next.2,
+    )
+stamped_follows old new m n h k d (Err e) legal shows ok (inl refused) =
+    let next = sync_follows old new m n h k d (Err e) shows tt refused in (next.0, inl next.1, next.2)
+stamped_follows old new m n h k d (Err e) legal shows ok (inr (given, is)) =
+    let next = sync_follows old is.between m n h k d (Ok is.report) shows is.synced tt in (
+      next.0,
+      inr (given, record { report = is.report; between = at is.between n next.0; synced = next.1; history = refl; names = is.names; declared = is.declared; stamps = is.stamps }),
+      made_stamps_show is.between new is.names next.0 (λ x among. legal x (is.declared x among)) is.stamps next.2,
+    )

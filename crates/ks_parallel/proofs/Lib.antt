@@ -7,6 +7,5 @@ pub mod Plans
 pub mod Stepping
 pub mod Parts
 pub mod Joined
-pub mod Saying
 pub mod Turns
 pub mod Outcomes

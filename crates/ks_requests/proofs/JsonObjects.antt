@@ -1,5 +1,5 @@
 -- What a reader of JSON finds in the line of an answer.
-use Rattle.ks_requests.proofs.Prelude.{◌≡◌, ◌≢◌, ◌<◌, ◌≤◌, ◌∙◌, ◌⊎◌, inl, inr, ◌^◌, ◌+◌, ◌/◌, ◌%◌, ℕ, Bool, true, false, List, [], ◌∷◌, ◌++◌, Option, Some, option_and_then, Ok, Err, arith, append-nil, append_assoc, ap, ap₂, codes, cond, decimal, flat_map, refl, sym, subst, cases_eq, cases_lt, lt-ltb, le-ltb, ne_eqb, All-head, All-tail, encodes_same, All, digit_char, Json, document, if_last, max_depth, member, no_items, no_members, string, value, Lexeme, Mode, after_value, between, colon, comma, fresh, in_string, lex, lex_byte, operator, other, punctuate, space, string_token, token, tokens, content, Token, depth, items_depth, json_tokens, items_tokens, is_operator, is_space, value-json_tokens, lex-number, IsNumber-decimal, Cause, EngineError, Explanation, Limit, Verdict, counted, fault_text, json_beginning, json_byte, json_cause, json_causes, json_explanation, json_first, json_items, json_name, json_refused, json_string, verdict_word, AreBytes, CharactersTellApart, HasBytes, IsOfBytes, LinesAreObjects, asked_values, cause_value, cause_values, characters, first_values, value_of}
+use Rattle.ks_requests.proofs.Prelude.{◌≡◌, ◌≢◌, ◌<◌, ◌≤◌, ◌∙◌, ◌^◌, ◌+◌, ◌/◌, ◌%◌, ℕ, Bool, true, false, List, [], ◌∷◌, ◌++◌, Option, Some, option_and_then, Ok, Err, arith, append-nil, append_assoc, ap, codes, cond, decimal, flat_map, refl, sym, subst, cases_eq, cases_lt, lt-ltb, le-ltb, ne_eqb, All-head, All-tail, encodes_same, All, digit_char, Json, document, if_last, max_depth, member, no_items, no_members, string, value, Lexeme, Mode, after_value, between, colon, comma, fresh, in_string, lex, lex_byte, operator, other, punctuate, space, token, tokens, content, Token, depth, items_depth, json_tokens, items_tokens, value-json_tokens, lex-number, IsNumber-decimal, Cause, EngineError, Explanation, Limit, Verdict, counted, fault_text, json_beginning, json_byte, json_cause, json_causes, json_explanation, json_first, json_items, json_name, json_refused, json_string, verdict_word, AreBytes, CharactersTellApart, HasBytes, IsOfBytes, LinesAreObjects, asked_values, cause_value, cause_values, characters, first_values, value_of, rules}
 use Rattle.json.specs.Token as t
 use Rattle.ks_engine.specs.declared.question.Limit.TheVariants as limit
 use Rattle.ks_engine.specs.declared.staleness.Verdict.TheVariants as verdict
@@ -10,10 +10,7 @@ record Spells (text : List ℕ) (ls : List Lexeme) : Type 0 where
   are : (r : List ℕ) → lex between (text ++ r) ≡ ls ++ lex between r
 
 then_spells : (a b : List ℕ) (la lb : List Lexeme) → Spells a la → Spells b lb → Spells (a ++ b) (la ++ lb)
-then_spells a b la lb first second = record {
-  are = λ r.
-      ap (lex between) (append_assoc a b r) ∙ first.are (b ++ r) ∙ ap (λ ls. la ++ ls) (second.are r) ∙ sym (append_assoc la lb (lex between r));
-}
+then_spells a b la lb first second = search (rules, append_assoc)
 
 -- ---- strings
 
@@ -37,29 +34,17 @@ stays_inside false false x r k = refl
 
 other_is_passed : (b : ℕ) → b ≢ 34 → b ≢ 92 → (r : List ℕ) → lex in_string (b ∷ r) ≡ lex in_string r
 unfolding lex
-other_is_passed b quote backslash r =
-    rw (ne_eqb b 34 quote, ne_eqb b 92 backslash) (stays_inside (is_operator b) (is_space b) b r (λ next. lex next r))
+other_is_passed b quote backslash r = search (rules, ne_eqb, stays_inside)
 
 digit_is_passed : (d : ℕ) → d < 36 → (r : List ℕ) → lex in_string (digit_char d ∷ r) ≡ lex in_string r
-digit_is_passed d small r = go (cases_lt d 10)
-  where
-    go : (d < 10) ⊎ (10 ≤ d) → lex in_string (digit_char d ∷ r) ≡ lex in_string r
-    go (inl low) = rw (lt-ltb d 10 low) (other_is_passed (48 + d) (λ e. omega (arith, e)) (λ e. omega (arith, e)) r)
-    go (inr high) = rw (le-ltb d 10 high) (other_is_passed (87 + d) (λ e. omega (arith, e)) (λ e. omega (arith, e)) r)
+digit_is_passed d small r = search (rules, cases_lt, lt-ltb, other_is_passed, le-ltb)
 
 numbered_is_passed : (b : ℕ) → b < 256 → (r : List ℕ) → lex in_string (numbered b ++ r) ≡ lex in_string r
 unfolding lex
 numbered_is_passed b small r = digit_is_passed (b / 16) (omega arith) (digit_char (b % 16) ∷ r) ∙ digit_is_passed (b % 16) (omega arith) r
 
 is_passed : (b : ℕ) → b < 256 → IsPassed b
-is_passed b small r = go (cases_eq b 34) (cases_eq b 92) (cases_lt b 32) (cases_lt 126 b)
-  where
-    go : (b ≡ 34) ⊎ (b ≢ 34) → (b ≡ 92) ⊎ (b ≢ 92) → (b < 32) ⊎ (32 ≤ b) → (126 < b) ⊎ (b ≤ 126) → lex in_string (json_byte b ++ r) ≡ lex in_string r
-    go (inl quote) backslash low high = subst IsPassed (sym quote) quote_is_passed r
-    go (inr q) (inl backslash) low high = subst IsPassed (sym backslash) backslash_is_passed r
-    go (inr q) (inr s) (inl low) high = ap (λ bytes. lex in_string (bytes ++ r)) (low_byte b low) ∙ numbered_is_passed b small r
-    go (inr q) (inr s) (inr above) (inl high) = ap (λ bytes. lex in_string (bytes ++ r)) (high_byte b high) ∙ numbered_is_passed b small r
-    go (inr q) (inr s) (inr above) (inr below) = ap (λ bytes. lex in_string (bytes ++ r)) (plain_byte b q s above below) ∙ other_is_passed b q s r
+is_passed b small r = search (rules, cases_eq, cases_lt, quote_is_passed, backslash_is_passed, low_byte, numbered_is_passed, high_byte, plain_byte, other_is_passed)
 
 bytes_are_passed : (bytes r : List ℕ) → AreBytes bytes → lex in_string (flat_map json_byte bytes ++ codes "\"" ++ r) ≡ lex between r
 unfolding lex
@@ -73,9 +58,7 @@ bytes_are_passed (b ∷ bytes) r small =
 
 string_is : (bytes : List ℕ) → AreBytes bytes → Spells (json_string bytes) (token (t.string (characters bytes)) ∷ [])
 unfolding json_string lex
-string_is bytes small = record {
-  are = λ r. ap₂ (λ found ls. token (string_token found) ∷ ls) (bytes_are_read bytes r small) (bytes_are_passed bytes r small);
-}
+string_is bytes small = search (rules, bytes_are_read, bytes_are_passed)
 
 -- ---- literals
 
@@ -150,8 +133,7 @@ further_spell (c ∷ cs) small =
 causes_spell : (cs : List Cause) → All IsOfBytes cs → Spells (json_items json_cause cs) (causes_lexemes cs)
 unfolding json_items
 causes_spell [] small = nothing_is
-causes_spell (c ∷ cs) small =
-    then_spells _ _ _ _ (cause_spells c (All-head IsOfBytes c cs small)) (further_spell cs (All-tail IsOfBytes c cs small))
+causes_spell (c ∷ cs) small = then_spells _ _ _ _ (cause_spells c (All-head IsOfBytes c cs small)) (further_spell cs (All-tail IsOfBytes c cs small))
 
 -- ---- their tokens
 
@@ -171,21 +153,13 @@ further_are : (cs : List Cause) (ls : List Lexeme)
     → punctuate after_value (further_lexemes cs ++ ended_by ls) ≡ items_tokens (cause_values cs) ++ punctuate after_value ls
 unfolding punctuate
 further_are [] ls = refl
-further_are (c ∷ cs) ls =
-    ap (punctuate after_value) (append_assoc (comma ∷ cause_lexemes c) (further_lexemes cs) (ended_by ls))
-    ∙ cause_is_further c (further_lexemes cs ++ ended_by ls)
-    ∙ ap (λ ts. json_tokens (cause_value c) ++ ts) (further_are cs ls)
-    ∙ sym (append_assoc (json_tokens (cause_value c)) (items_tokens (cause_values cs)) (punctuate after_value ls))
+further_are (c ∷ cs) ls = search (rules, append_assoc, cause_is_further, (further_are cs ls))
 
 causes_are : (cs : List Cause) (ls : List Lexeme)
     → punctuate fresh (causes_lexemes cs ++ ended_by ls) ≡ items_tokens (cause_values cs) ++ punctuate after_value ls
 unfolding punctuate
 causes_are [] ls = refl
-causes_are (c ∷ cs) ls =
-    ap (punctuate fresh) (append_assoc (cause_lexemes c) (further_lexemes cs) (ended_by ls))
-    ∙ cause_is_first c (further_lexemes cs ++ ended_by ls)
-    ∙ ap (λ ts. json_tokens (cause_value c) ++ ts) (further_are cs ls)
-    ∙ sym (append_assoc (json_tokens (cause_value c)) (items_tokens (cause_values cs)) (punctuate after_value ls))
+causes_are (c ∷ cs) ls = search (rules, append_assoc, cause_is_first, further_are)
 
 -- ---- what was asked for
 
@@ -200,10 +174,7 @@ asked_lexemes limit.All e = causes_lexemes e.causes.items
 first_spells : (v : Verdict) → HasBytes v → Spells (json_first v) (first_lexemes v)
 unfolding json_first
 first_spells (verdict.Changed name) small = name_spells name small
-first_spells verdict.Fresh small = nothing_is
-first_spells verdict.NoCommandFile small = nothing_is
-first_spells verdict.Unnumbered small = nothing_is
-first_spells verdict.Ahead small = nothing_is
+first_spells v small = nothing_is
 
 asked_spell : (l : Limit) (e : Explanation) → HasBytes e.verdict → All IsOfBytes e.causes.items → Spells (json_causes l e) (asked_lexemes l e)
 unfolding json_causes
@@ -214,10 +185,7 @@ first_are : (v : Verdict) (ls : List Lexeme)
     → punctuate fresh (first_lexemes v ++ ended_by ls) ≡ items_tokens (first_values v) ++ punctuate after_value ls
 unfolding punctuate
 first_are (verdict.Changed name) ls = refl
-first_are verdict.Fresh ls = refl
-first_are verdict.NoCommandFile ls = refl
-first_are verdict.Unnumbered ls = refl
-first_are verdict.Ahead ls = refl
+first_are v ls = refl
 
 asked_are : (l : Limit) (e : Explanation) (ls : List Lexeme)
     → punctuate fresh (asked_lexemes l e ++ ended_by ls) ≡ items_tokens (asked_values l e) ++ punctuate after_value ls
@@ -230,10 +198,7 @@ causes_are_shallow (c ∷ cs) = omega (arith, causes_are_shallow cs)
 
 first_is_shallow : (v : Verdict) → items_depth (first_values v) ≤ 1
 first_is_shallow (verdict.Changed name) = omega arith
-first_is_shallow verdict.Fresh = omega arith
-first_is_shallow verdict.NoCommandFile = omega arith
-first_is_shallow verdict.Unnumbered = omega arith
-first_is_shallow verdict.Ahead = omega arith
+first_is_shallow v = omega arith
 
 asked_are_shallow : (l : Limit) (e : Explanation) → items_depth (asked_values l e) ≤ 1
 asked_are_shallow limit.First e = first_is_shallow e.verdict
@@ -257,10 +222,7 @@ refused_is_word = record { are = λ r. refl }
 verdict_is_word : (v : Verdict) → IsWord (verdict_word v)
 unfolding lex content verdict_word
 verdict_is_word (verdict.Changed name) = record { are = λ r. refl }
-verdict_is_word verdict.Fresh = record { are = λ r. refl }
-verdict_is_word verdict.NoCommandFile = record { are = λ r. refl }
-verdict_is_word verdict.Unnumbered = record { are = λ r. refl }
-verdict_is_word verdict.Ahead = record { are = λ r. refl }
+verdict_is_word v = record { are = λ r. refl }
 
 abbrev beginning_lexemes : List ℕ → List ℕ → List Lexeme
 beginning_lexemes target word = token t.begin_object ∷ token (t.string (codes "target")) ∷ colon ∷ token (t.string (characters target)) ∷ comma

@@ -1,12 +1,9 @@
 -- What a reader of JSON finds in a string.
-use Rattle.ks_requests.proofs.Prelude.{◌≡◌, ◌≢◌, ◌<◌, ◌≤◌, ◌∙◌, ◌⊎◌, inl, inr, ◌/◌, ◌%◌, ℕ, List, [], ◌∷◌, ◌++◌, Some, arith, append_assoc, ap, flat_map, refl, sym, codes, subst, cases_eq, cases_lt, lt-leb, lt-ltb, le-ltb, ne_eqb, digit_value-digit_char, encode_ascii, All-head, All-tail, digit_char, encode_utf8, All, encode, code_unit, content, plain, prepend, short_escape, json_byte}
+use Rattle.ks_requests.proofs.Prelude.{◌≡◌, ◌≢◌, ◌<◌, ◌≤◌, ◌∙◌, ◌/◌, ◌%◌, ℕ, List, [], ◌∷◌, ◌++◌, Some, arith, append_assoc, ap, flat_map, refl, codes, cases_eq, cases_lt, lt-leb, lt-ltb, le-ltb, ne_eqb, digit_value-digit_char, encode_ascii, All-head, All-tail, digit_char, encode_utf8, All, encode, code_unit, content, plain, prepend, short_escape, json_byte, rules}
 
 unit_of : (b : ℕ) → b < 256 → code_unit 48 48 (digit_char (b / 16)) (digit_char (b % 16)) ≡ Some b
 unfolding code_unit
-unit_of b small =
-    let high = digit_value-digit_char (b / 16) (omega arith) in
-    let low = digit_value-digit_char (b % 16) (omega arith) in
-    rw (high, low, lt-ltb (b / 16) 16 (omega arith), lt-ltb (b % 16) 16 (omega arith)) (ap (λ (n : ℕ). Some n) (omega arith))
+unit_of b small = search (rules, digit_value-digit_char, lt-ltb)
 
 -- what a reader makes of the byte, before any text
 abbrev IsRead : ℕ → Type 0
@@ -26,9 +23,7 @@ plain_byte b quote backslash above below = rw (ne_eqb b 34 quote, ne_eqb b 92 ba
 
 plain_is_read : (b : ℕ) → b ≢ 34 → b ≢ 92 → 32 ≤ b → b ≤ 126 → IsRead b
 unfolding content
-plain_is_read b quote backslash above below r =
-    ap (λ bytes. content plain (bytes ++ r)) (plain_byte b quote backslash above below)
-    ∙ rw (ne_eqb b 34 quote, ne_eqb b 92 backslash, le-ltb b 32 above, encode_ascii b (omega arith)) refl
+plain_is_read b quote backslash above below r = search (rules, plain_byte, ne_eqb, le-ltb, encode_ascii)
 
 -- by its number
 abbrev pub numbered : ℕ → List ℕ
@@ -47,15 +42,7 @@ unfolding content
 unit_is_read b small r = rw (unit_of b small, lt-leb 0xd800 b (omega arith), lt-leb 0xdc00 b (omega arith)) refl
 
 is_read : (b : ℕ) → b < 256 → IsRead b
-is_read b small r = go (cases_eq b 34) (cases_eq b 92) (cases_lt b 32) (cases_lt 126 b)
-  where
-    go : (b ≡ 34) ⊎ (b ≢ 34) → (b ≡ 92) ⊎ (b ≢ 92) → (b < 32) ⊎ (32 ≤ b) → (126 < b) ⊎ (b ≤ 126)
-        → content plain (json_byte b ++ r) ≡ prepend (encode_utf8 b) (content plain r)
-    go (inl quote) backslash low high = subst IsRead (sym quote) quote_is_read r
-    go (inr q) (inl backslash) low high = subst IsRead (sym backslash) backslash_is_read r
-    go (inr q) (inr s) (inl low) high = ap (λ bytes. content plain (bytes ++ r)) (low_byte b low) ∙ unit_is_read b small r
-    go (inr q) (inr s) (inr above) (inl high) = ap (λ bytes. content plain (bytes ++ r)) (high_byte b high) ∙ unit_is_read b small r
-    go (inr q) (inr s) (inr above) (inr below) = plain_is_read b q s above below r
+is_read b small r = search (rules, cases_eq, cases_lt, quote_is_read, backslash_is_read, low_byte, unit_is_read, high_byte, plain_is_read)
 
 pub bytes_are_read : (bytes rest : List ℕ) → All (λ b. b < 256) bytes
     → content plain ((flat_map json_byte bytes ++ codes "\"") ++ rest) ≡ Some (flat_map encode_utf8 bytes)

@@ -1,5 +1,5 @@
 -- The lines of replies, from a place on.
-use Rattle.ks_requests.proofs.Prelude.{◌≡◌, ◌∙◌, ◌<◌, ◌+◌, ℕ, suc, List, [], ◌∷◌, ◌++◌, length, drop, take, map, get_or, max, refl, sym, ap, ap₂, subst, arith, drop-cons, append_assoc, map_more, fold-append, Command, Reply, action, reply_line, reply_lines, worst}
+use Rattle.ks_requests.proofs.Prelude.{◌≡◌, ◌∙◌, ◌<◌, ◌+◌, ℕ, suc, List, [], ◌++◌, length, drop, take, map, get_or, max, refl, sym, ap, ap₂, subst, arith, drop-cons, append_assoc, map_more, fold-append, Command, Reply, action, reply_line, reply_lines, worst, common_steps}
 
 pub lines_from : (cs : List Command) (rs : List Reply) (i : ℕ) (c : Command) (r : Reply) → i < length cs → i < length rs
     → reply_lines (map action (drop i cs)) (drop i rs) ≡ reply_line (action (get_or cs i c)) (get_or rs i r)
@@ -30,6 +30,4 @@ then_appended old one new a b first second = second ∙ ap (λ xs. xs ++ b) firs
 -- the worst of one status more
 pub worst_more : {X : Type 0} (f : X → ℕ) (xs : List X) (i : ℕ) (x : X) (status one all : ℕ) → i < length xs → x ≡ get_or xs i x
     → status ≡ worst (map f (take i xs)) → one ≡ f x → all ≡ max status one → all ≡ worst (map f (take (i + 1) xs))
-worst_more f xs i x status one all within at so_far this now =
-    now ∙ ap₂ max so_far (this ∙ ap f at)
-    ∙ sym (ap worst (map_more f xs i x within) ∙ fold-append max 0 (map f (take i xs)) (f (get_or xs i x) ∷ []))
+worst_more f xs i x status one all within at so_far this now = grind (arith, common_steps, map_more, fold-append)

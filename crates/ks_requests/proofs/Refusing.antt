@@ -1,25 +1,16 @@
 -- The refusal of a part is that of the preview, where the parts before it are not refused.
-use Rattle.ks_requests.proofs.Prelude.{◌≡◌, inl, inr, sym, subst, ◌≢◌, ◌-◌, ◌^◌, ℕ, List, Option, Some, None, option_map, ap, ◌∙◌, cond-true, cond-false, eq-eqb, ne_eqb, SourceError, or_else, IsRefusal, AutoError, PreviewError, source_refusal, IsPreviewRefusal, old_refusal, old_generation, full_refusal, preview_refusal, KconfigText}
+use Rattle.ks_requests.proofs.Prelude.{◌≡◌, inl, inr, sym, subst, ◌≢◌, ◌-◌, ◌^◌, ℕ, List, Option, Some, None, option_map, ap, cond-true, cond-false, eq-eqb, ne_eqb, SourceError, or_else, IsRefusal, AutoError, PreviewError, source_refusal, IsPreviewRefusal, old_refusal, old_generation, full_refusal, preview_refusal, KconfigText, rules}
 use Rattle.ks_symbols.specs.declared.error.SourceError.TheVariants as source
 use Rattle.ks_output.specs.declared.auto_conf.AutoError.TheVariants as auto
 use Rattle.ks_requests.specs.declared.preview.PreviewError.TheVariants as preview
 
 source_refusal_is : (e : SourceError) (o : Option PreviewError) → o ≡ Some (preview.Source e) → IsPreviewRefusal (preview.Source e) o
-source_refusal_is (source.NotBare n) o h = h
-source_refusal_is (source.BadName n) o h = h
-source_refusal_is (source.ModuleName n) o h = h
-source_refusal_is (source.NoType n) o h = h
-source_refusal_is (source.TypeClash n) o h = h
-source_refusal_is (source.BadTitle n) o h = h
-source_refusal_is (source.NotAConfigLine n) o h = h
-source_refusal_is (source.BadValue n) o h = h
-source_refusal_is source.TooLarge o h = h
 source_refusal_is source.OutOfMemory o h = tt
+source_refusal_is e o h = h
 
 auto_refusal_is : (e : AutoError) (o : Option PreviewError) → o ≡ Some (preview.Auto e) → IsPreviewRefusal (preview.Auto e) o
-auto_refusal_is (auto.BadAuto n) o h = h
-auto_refusal_is auto.TooLarge o h = h
 auto_refusal_is auto.OutOfMemory o h = tt
+auto_refusal_is e o h = h
 
 pub source_refused : (e : SourceError) (r : Option SourceError) (later : Option PreviewError) → IsRefusal source.OutOfMemory e r
     → IsPreviewRefusal (preview.Source e) (or_else (option_map preview.Source r) later)
@@ -40,14 +31,12 @@ texts_refused kconfig dotconfig old e h = source_refused e (source_refusal kconf
 pub preview_refusal-old : (kconfig : KconfigText) (dotconfig : List ℕ) (old : Option (List ℕ)) → source_refusal kconfig dotconfig ≡ None
     → preview_refusal kconfig dotconfig old ≡ or_else (option_map preview.Auto (old_refusal old)) (full_refusal (old_generation old))
 unfolding preview_refusal
-preview_refusal-old kconfig dotconfig old h =
-    ap (λ o. or_else (option_map preview.Source o) (or_else (option_map preview.Auto (old_refusal old)) (full_refusal (old_generation old)))) h
+preview_refusal-old kconfig dotconfig old h = search rules
 
 -- where the old auto.conf is not refused either
 pub preview_refusal-full : (kconfig : KconfigText) (dotconfig : List ℕ) (old : Option (List ℕ)) → source_refusal kconfig dotconfig ≡ None → old_refusal old ≡ None
     → preview_refusal kconfig dotconfig old ≡ full_refusal (old_generation old)
-preview_refusal-full kconfig dotconfig old h k =
-    preview_refusal-old kconfig dotconfig old h ∙ ap (λ o. or_else (option_map preview.Auto o) (full_refusal (old_generation old))) k
+preview_refusal-full kconfig dotconfig old h k = search (rules, preview_refusal-old)
 
 pub full_refusal-full : (generation : ℕ) → generation ≡ 2 ^ 64 - 1 → full_refusal generation ≡ Some preview.GenerationFull
 full_refusal-full generation h = cond-true _ _ _ (eq-eqb generation (2 ^ 64 - 1) h)

@@ -1,5 +1,5 @@
 -- The first fault of lines, and refusals.
-use Rattle.ks_requests.proofs.Prelude.{cond_some, ◌≡◌, inl, inr, ℕ, ◌+◌, ◌<◌, ◌≤◌, Bool, true, false, cond, nat_lt, List, [], ◌∷◌, ◌++◌, length, Option, Some, None, is_some, option_map, refl, ap, ◌∙◌, arith, cons_option, position_from, cond-true, cond-false, nat_tests, lines, max_bytes, ScriptError, is_faulty, line_fault, script_refusal, IsRefusal}
+use Rattle.ks_requests.proofs.Prelude.{cond_some, ◌≡◌, inl, inr, ℕ, ◌+◌, ◌<◌, ◌≤◌, Bool, true, false, cond, nat_lt, List, [], ◌∷◌, ◌++◌, length, Option, Some, None, is_some, option_map, refl, ap, arith, cons_option, position_from, cond-true, cond-false, nat_tests, lines, max_bytes, ScriptError, is_faulty, line_fault, script_refusal, IsRefusal, rules}
 use Rattle.ks_requests.specs.declared.script_error.ScriptError.TheVariants as fault
 
 passed : (b : Bool) (e : ScriptError) → cond b (Some e) None ≡ None → b ≡ false
@@ -14,9 +14,7 @@ no_fault n line rest none = cond-false (is_faulty line) _ _ (passed (is_faulty l
 pub fault_here : (n : ℕ) (line : List ℕ) (rest : List (List ℕ)) (e : ScriptError) → line_fault n line ≡ Some e
     → option_map fault.BadScript (position_from is_faulty n (line ∷ rest)) ≡ Some e
 unfolding line_fault
-fault_here n line rest e is =
-    let said = cond_some (is_faulty line) (fault.BadScript n) e is in
-    ap (option_map fault.BadScript) (cond-true (is_faulty line) _ _ said.0) ∙ ap Some said.1
+fault_here n line rest e is = search (rules, cond_some, cond-true)
 
 -- an error that is the refusal f is also the refusal g, where g follows from f
 pub refused : (e : ScriptError) (f g : Option ScriptError) → (f ≡ Some e → g ≡ Some e) → IsRefusal fault.OutOfMemory e f → IsRefusal fault.OutOfMemory e g

@@ -1,5 +1,5 @@
 -- What the command line makes of words that begin with no hyphen.
-use Rattle.ks_words.proofs.Prelude.{◌≡◌, ◌≢◌, ◌==◌, inl, inr, ap, sym, subst, ℕ, List, [], ◌∷◌, Option, Some, None, refl, codes, true, false, slice_index, option_map, arith, true≢false, nat_tests, Error, HasKind, IsAmong, Kinds, kind_of, Row, Text, first_of, first_value, is_simple, is_simple_and_free, rows_of, subcommand_name_of, subcommand_of, subcommand_rows, subcommand_rows_of, takes, Box, IfErr, IsErrAnd, Result, Ok, Err, is_some, same_Some, IsBatchOf, IsPreviewOf, Request, WordsError, IsFaultOf, IsRequestOf, IsTold, IsWantOfMemory, box_value, ArgMatches, SubCommand, out-ArgMatches, out-SubCommand, CommandLine, reading_of, strip_byte, bytes_eq, Found, first_value-rows, clap_on_literals, command_line_app}
+use Rattle.ks_words.proofs.Prelude.{◌≡◌, ◌≢◌, ◌==◌, inl, inr, ap, sym, subst, ℕ, List, [], ◌∷◌, Option, Some, None, refl, codes, true, false, slice_index, option_map, arith, true≢false, nat_tests, Error, HasKind, IsAmong, Kinds, kind_of, Row, Text, first_of, first_value, is_simple, is_simple_and_free, rows_of, subcommand_name_of, subcommand_of, subcommand_rows_of, takes, IfErr, IsErrAnd, Result, Ok, Err, is_some, same_Some, IsBatchOf, IsPreviewOf, Request, WordsError, IsFaultOf, IsRequestOf, IsTold, IsWantOfMemory, ArgMatches, CommandLine, reading_of, strip_byte, bytes_eq, Found, first_value-rows, clap_on_literals, command_line_app, rules}
 use Rattle.clap.specs.declared.error.kind.ErrorKind.TheVariants.{OutOfMemory as NoMemory}
 use Rattle.std.specs.Prelude.{IsSomeAnd}
 use Rattle.ks_requests.specs.declared.request.Request.TheVariants as request
@@ -60,11 +60,7 @@ first_at f name = first_value-rows f name
 
 -- the name of the subcommand that was entered, by its rows
 pub entered_name : (m : ArgMatches) → subcommand_name_of m ≡ option_map (λ p. p.0) (subcommand_rows_of m)
-entered_name m = go (out-ArgMatches m).subcommand
-  where
-    go : {Z : Type 0} (o : Option (Box SubCommand Z)) → option_map (λ b. (out-SubCommand (box_value b)).name.now) o ≡ option_map (λ p. p.0) (subcommand_rows o)
-    go None = refl
-    go (Some b) = refl
+entered_name m = search rules
 
 -- what holds of the name and the rows of a subcommand holds of the two together
 pub both : (o : Option (Text × List Row)) (name : Text) (rows : List Row) (P : Text → List Row → Type 0)
@@ -76,33 +72,13 @@ both (Some p) name rows P e f h = subst (λ n. P n p.1) (same_Some _ _ e) (subst
 pub preview_of : (k d : Text) (r : Request) → IsRequestOf (codes "preview") (given (codes "KCONFIG") k ∷ given (codes "DOTCONFIG") d ∷ []) r
     → IsPreviewOf k d None r
 preview_of k d (request.Preview k' d' o) h = (h.1, h.2, h.3)
-preview_of k d (request.Sync k' d' stamps) h = absurd (true≢false (ap (λ t. slice_index t 0 == 112) h.0))
-preview_of k d (request.Diff k' d' telling) h = absurd (true≢false (ap (λ t. slice_index t 0 == 112) h.0))
-preview_of k d (request.Fixdep d' t c) h = absurd (true≢false (ap (λ t. slice_index t 0 == 112) h.0))
-preview_of k d (request.Record d' t c) h = absurd (true≢false (ap (λ t. slice_index t 0 == 112) h.0))
-preview_of k d (request.Depfile end d' t c) h = absurd (true≢false (ap (λ t. slice_index t 0 == 112) h.0))
 preview_of k d (request.Stale ts f) h = absurd (h.0 1 [] (omega arith) refl)
-preview_of k d (request.Why ts f) h = absurd (true≢false (ap (λ t. slice_index t 0 == 112) h.0))
-preview_of k d (request.Impact k' d' ts f) h = absurd (true≢false (ap (λ t. slice_index t 0 == 112) h.0))
-preview_of k d (request.Batch s) h = absurd (true≢false (ap (λ t. slice_index t 0 == 112) h.0))
-preview_of k d (request.Outdated t c) h = absurd (true≢false (ap (λ t. slice_index t 0 == 112) h.0))
-preview_of k d (request.Users symbols ts) h = absurd (true≢false (ap (λ t. slice_index t 0 == 112) h.0))
-preview_of k d (request.Cost top ts) h = absurd (true≢false (ap (λ t. slice_index t 0 == 112) h.0))
+preview_of k d r h = absurd (true≢false (ap (λ t. slice_index t 0 == 112) h.0))
 
 pub batch_of : (p : Text) (r : Request) → IsRequestOf (codes "batch") (given (codes "SCRIPT") p ∷ []) r → IsBatchOf p r
 batch_of p (request.Batch s) h = h.1
-batch_of p (request.Sync k d stamps) h = absurd (true≢false (ap (λ t. slice_index t 0 == 98) h.0))
-batch_of p (request.Preview k d o) h = absurd (true≢false (ap (λ t. slice_index t 0 == 98) h.0))
-batch_of p (request.Diff k d telling) h = absurd (true≢false (ap (λ t. slice_index t 0 == 98) h.0))
-batch_of p (request.Fixdep d t c) h = absurd (true≢false (ap (λ t. slice_index t 0 == 98) h.0))
-batch_of p (request.Record d t c) h = absurd (true≢false (ap (λ t. slice_index t 0 == 98) h.0))
-batch_of p (request.Depfile end d t c) h = absurd (true≢false (ap (λ t. slice_index t 0 == 98) h.0))
 batch_of p (request.Stale ts f) h = absurd (h.0 6 [] (omega arith) refl)
-batch_of p (request.Why ts f) h = absurd (true≢false (ap (λ t. slice_index t 0 == 98) h.0))
-batch_of p (request.Impact k d ts f) h = absurd (true≢false (ap (λ t. slice_index t 0 == 98) h.0))
-batch_of p (request.Outdated t c) h = absurd (true≢false (ap (λ t. slice_index t 0 == 98) h.0))
-batch_of p (request.Users symbols ts) h = absurd (true≢false (ap (λ t. slice_index t 0 == 98) h.0))
-batch_of p (request.Cost top ts) h = absurd (true≢false (ap (λ t. slice_index t 0 == 98) h.0))
+batch_of p r h = absurd (true≢false (ap (λ t. slice_index t 0 == 98) h.0))
 
 -- what holds of the error holds where there is an error
 pub err_all : {T E : Type 0} (r : Result T E) (P Q : E → Type 0) → ((e : E) → P e → Q e) → IsErrAnd r P → IfErr r Q

@@ -1,5 +1,5 @@
-use Rattle.ks_engine.proofs.FileRunning.{file_runs_go_on}
+use Rattle.ks_engine.proofs.FileRunning.{goes_on}
 use Rattle.ks_engine.proofs.laws.file_runs_go_on.Goals as goal
 
 pub returns : goal.returns
-returns c = file_runs_go_on
+returns c = λ dialect first acts rs last h shows run. goes_on dialect _ first acts rs last h tt shows run

@@ -7,5 +7,5 @@ returns c = record {
   room = λ full. c.if-generation-eq18446744073709551615.false (c.generation.ensures ∙ full);
   generation = ap (λ n. n + 1) c.generation-generation.ensures;
   unknown = c.unknown-unknown.ensures;
-  changed = are_changed c.args.old.now c.args.sources.now.settings.entries c.in_ok-touched.touched.items c.keeps_names.ensures c.keeps_configuration.ensures c.in_ok-touched.ensures;
+  changed = are_changed c.args.old.now _ _ c.keeps_names.ensures c.keeps_configuration.ensures c.in_ok-touched.ensures;
 }

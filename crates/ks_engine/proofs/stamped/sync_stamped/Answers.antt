@@ -1,7 +1,7 @@
-use Rattle.ks_engine.proofs.Prelude.{inl, inr, ⊎_elim, ap, refl, subst, take, Err, err_from_is_err_and, at, MakesStamps}
-use Rattle.ks_engine.proofs.DepfileLemmas.{made_stamps_show}
+use Rattle.ks_engine.proofs.Prelude.{inl, inr, ⊎_elim, ◌∙◌, ap, refl, subst, sym, take, Ok, Err, err_from_is_err_and, MakesStamps, rules}
 use Rattle.ks_engine.proofs.Reading.{given_fault}
-use Rattle.ks_engine.proofs.Stamping.{some_declared, some_legal}
+use Rattle.ks_engine.proofs.Stamping.{stamped_follows}
+use Rattle.ks_engine.proofs.Writes.{beginning}
 use Rattle.ks_engine.proofs.stamped.sync_stamped.Goals as goal
 
 pub returns-in_err-names-clause-refused : goal.returns-in_err-names-clause-refused
@@ -25,9 +25,7 @@ returns-in_err-names-clause-follows g c = λ honest h shows.
     )
 
 pub returns-in_err-report-clause-refused : goal.returns-in_err-report-clause-refused
-returns-in_err-report-clause-refused g c = λ honest.
-    let p = err_from_is_err_and c.from_residual-in_err-report.result c.from_residual-in_err-report.ensures.1 in
-    rw (p.1, p.2) (inl (c.in_err-report.ensures.refused honest))
+returns-in_err-report-clause-refused g c = search (rules, err_from_is_err_and)
 
 pub returns-in_err-report-clause-follows : goal.returns-in_err-report-clause-follows
 returns-in_err-report-clause-follows g c = λ honest h shows.
@@ -38,47 +36,23 @@ returns-in_err-report-clause-follows g c = λ honest h shows.
 pub returns-in_err-make_stamps-clause-refused : goal.returns-in_err-make_stamps-clause-refused
 returns-in_err-make_stamps-clause-refused g c = λ honest.
     let p = err_from_is_err_and c.from_residual-in_err-make_stamps.result c.from_residual-in_err-make_stamps.ensures.1 in
-    let mid = g.T.Tree.files c.sync.new.tree in
-    let new = g.T.Tree.files c.make_stamps.new.tree in
-    let names = c.in_ok-names.names.items in
     let made = c.in_err-make_stamps.ensures.some honest in
     rw (p.1, p.2) (inr (
-      given_fault c.in_err-make_stamps.field-0.0 (λ e. c.in_err-make_stamps.ensures.never (ap (λ f. Err f) e)),
+      given_fault _ (λ e. c.in_err-make_stamps.ensures.never (ap (λ f. Err f) e)),
       record {
         report = c.in_ok-report.report;
-        between = mid;
+        between = g.T.Tree.files c.sync.new.tree;
         synced = c.in_ok-report.ensures.synced honest;
-        names = take made.0 names;
-        declared = some_declared c.args.kconfig.now names made.0 c.in_ok-names.ensures.declared;
-        stamps = subst (λ ns. MakesStamps (take made.0 ns) mid new) c.deref.ensures.value made.1;
+        names = take made.0 c.in_ok-names.names.items;
+        declared = λ x among. sym (c.in_ok-names.ensures.declared x) ∙ beginning c.in_ok-names.names.items made.0 x among;
+        stamps = subst (λ ns. MakesStamps (take made.0 ns) (g.T.Tree.files c.sync.new.tree) (g.T.Tree.files c.make_stamps.new.tree)) c.deref.ensures.value made.1;
       },
     ))
 
 pub returns-in_err-make_stamps-clause-follows : goal.returns-in_err-make_stamps-clause-follows
 returns-in_err-make_stamps-clause-follows g c = λ honest h shows.
-    let p = err_from_is_err_and c.from_residual-in_err-make_stamps.result c.from_residual-in_err-make_stamps.ensures.1 in
-    let mid = g.T.Tree.files c.sync.new.tree in
-    let new = g.T.Tree.files c.make_stamps.new.tree in
-    let names = c.in_ok-names.names.items in
-    let made = c.in_err-make_stamps.ensures.some honest in
-    let stamps = subst (λ ns. MakesStamps (take made.0 ns) mid new) c.deref.ensures.value made.1 in
-    let next = c.in_ok-report.ensures.follows honest h shows in
-    rw (p.1, p.2) (
-      next.0,
-      inr (
-        given_fault c.in_err-make_stamps.field-0.0 (λ e. c.in_err-make_stamps.ensures.never (ap (λ f. Err f) e)),
-        record {
-          report = c.in_ok-report.report;
-          between = at mid (g.T.Tree.failures c.sync.new.tree) next.0;
-          synced = next.1;
-          history = refl;
-          names = take made.0 names;
-          declared = some_declared c.args.kconfig.now names made.0 c.in_ok-names.ensures.declared;
-          stamps = stamps;
-        },
-      ),
-      made_stamps_show mid new (take made.0 names) next.0 (some_legal names made.0 c.in_ok-names.ensures.legal) stamps next.2,
-    )
+    stamped_follows _ _ _ _ h _ _ _ (λ x is. c.in_ok-names.ensures.legal x (c.in_ok-names.ensures.declared x ∙ is)) shows (search (rules, err_from_is_err_and))
+    (returns-in_err-make_stamps-clause-refused g c honest)
 
 pub returns-clause-stamped : goal.returns-clause-stamped
 returns-clause-stamped g c = λ honest. record {
@@ -92,19 +66,5 @@ returns-clause-stamped g c = λ honest. record {
 
 pub returns-clause-follows : goal.returns-clause-follows
 returns-clause-follows g c = λ honest h shows.
-    let mid = g.T.Tree.files c.sync.new.tree in
-    let new = g.T.Tree.files c.make_stamps.new.tree in
-    let names = c.in_ok-names.names.items in
-    let stamps = subst (λ ns. MakesStamps ns mid new) c.deref.ensures.value (c.in_ok-make_stamps.ensures.all honest) in
-    let next = c.in_ok-report.ensures.follows honest h shows in (
-      next.0,
-      record {
-        between = at mid (g.T.Tree.failures c.sync.new.tree) next.0;
-        synced = next.1;
-        history = refl;
-        names = names;
-        declared = c.in_ok-names.ensures.declared;
-        stamps = stamps;
-      },
-      made_stamps_show mid new names next.0 c.in_ok-names.ensures.legal stamps next.2,
-    )
+    stamped_follows _ _ (g.T.Tree.failures c.args.tree.now) (g.T.Tree.failures c.make_stamps.new.tree) h _ _ (Ok c.in_ok-report.report)
+    (λ x is. c.in_ok-names.ensures.legal x (c.in_ok-names.ensures.declared x ∙ is)) shows (returns-clause-stamped g c honest) tt

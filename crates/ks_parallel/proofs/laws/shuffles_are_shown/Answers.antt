@@ -1,5 +1,4 @@
-use Rattle.ks_parallel.proofs.Joined.{shuffles_are_shown, side_by_side}
-use Rattle.ks_parallel.proofs.Saying.{shuffles_say_the_same}
+use Rattle.ks_parallel.proofs.Joined.{shuffles_are_shown, side_by_side, shuffles_say_the_same}
 use Rattle.ks_parallel.proofs.laws.shuffles_are_shown.Goals as goal
 
 pub returns : goal.returns

@@ -1,37 +1,18 @@
-use Rattle.ks_requests.proofs.Prelude.{◌≡◌, ◌+◌, ◌++◌, ℕ, List, option_map, ap, sym, subst, ◌∙◌, err_from_is_err_and, Texts, auto_text, AreLegalChanges, PlansOver, Reports, old_of, sources_of, old_generation, touch_lines}
-use Rattle.std.specs.Borrow.{Bor}
+use Rattle.ks_requests.proofs.Prelude.{◌+◌, ◌++◌, ℕ, ap, subst, ◌∙◌, err_from_is_err_and, Texts, auto_text, AreLegalChanges, PlansOver, Reports, old_of, sources_of, touch_lines, rules}
 use Rattle.ks_requests.proofs.Refusing.{texts_refused, auto_refused, preview_refusal-old, preview_refusal-full, full_refusal-full, full_refusal-below}
 use Rattle.ks_requests.proofs.preview.preview_of.Goals as goal
 
 pub returns-in_err-sources-clause-refusal : goal.returns-in_err-sources-clause-refusal
-returns-in_err-sources-clause-refusal c =
-    let p = err_from_is_err_and c.from_residual.result c.from_residual.ensures.1 in
-    rw (p.1, p.2)
-    (texts_refused c.args.kconfig.now c.args.dotconfig.now (option_map (λ (t : Bor (List ℕ)). t.now) c.args.old) c.in_err-sources.field-0.0
-    c.in_err-sources.ensures.refusal)
+returns-in_err-sources-clause-refusal c = search (rules, err_from_is_err_and, texts_refused)
 
 pub returns-in_err-before-clause-refusal : goal.returns-in_err-before-clause-refusal
-returns-in_err-before-clause-refusal c =
-    let old = option_map (λ (t : Bor (List ℕ)). t.now) c.args.old in
-    let p = err_from_is_err_and c.from_residual-in_err-before.result c.from_residual-in_err-before.ensures.1 in
-    rw (p.1, p.2, preview_refusal-old c.args.kconfig.now c.args.dotconfig.now old c.in_ok-sources.ensures.refusal)
-    (auto_refused c.in_err-before.field-0.0 _ _ c.in_err-before.ensures.refusal)
+returns-in_err-before-clause-refusal c = search (rules, err_from_is_err_and, preview_refusal-old, auto_refused)
 
 pub returns-in_default-clause-refusal : goal.returns-in_default-clause-refusal
-returns-in_default-clause-refusal c =
-    let old = option_map (λ (t : Bor (List ℕ)). t.now) c.args.old in
-    let full : c.in_ok-before.before.generation ≡ 18446744073709551615
-    = subst (PlansOver (sources_of c.in_ok-sources.sources) (old_of c.in_ok-before.before)) c.in_default.is c.in_ok-report.ensures in
-    preview_refusal-full c.args.kconfig.now c.args.dotconfig.now old c.in_ok-sources.ensures.refusal c.in_ok-before.ensures.refusal
-    ∙ full_refusal-full (old_generation old) (sym c.in_ok-before.ensures.generation ∙ full)
+returns-in_default-clause-refusal c = search (rules, preview_refusal-full, full_refusal-full)
 
 pub returns-clause-refusal : goal.returns-clause-refusal
-returns-clause-refusal c =
-    let old = option_map (λ (t : Bor (List ℕ)). t.now) c.args.old in
-    let planned : Reports (sources_of c.in_ok-sources.sources) (old_of c.in_ok-before.before) c.in-Some.report
-    = subst (PlansOver (sources_of c.in_ok-sources.sources) (old_of c.in_ok-before.before)) c.in-Some.is c.in_ok-report.ensures in
-    preview_refusal-full c.args.kconfig.now c.args.dotconfig.now old c.in_ok-sources.ensures.refusal c.in_ok-before.ensures.refusal
-    ∙ full_refusal-below (old_generation old) (λ full. planned.room (c.in_ok-before.ensures.generation ∙ full))
+returns-clause-refusal c = search (rules, preview_refusal-full, full_refusal-below)
 
 pub returns-clause-text : goal.returns-clause-text
 returns-clause-text c =

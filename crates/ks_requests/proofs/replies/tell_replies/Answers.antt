@@ -1,4 +1,4 @@
-use Rattle.ks_requests.proofs.Prelude.{◌<◌, ◌++◌, ◌∙◌, sym, ap, arith, length, map, drop, append-nil, drop_all, action, reply_lines, code_of, reply_status}
+use Rattle.ks_requests.proofs.Prelude.{◌<◌, arith, length, append-nil, drop_all, code_of, reply_status, rules}
 use Rattle.ks_requests.proofs.Printing.{lines_more, no_lines, worst_more}
 use Rattle.ks_requests.proofs.replies.tell_replies.Goals as goal
 
@@ -14,9 +14,4 @@ loop-index-preserved c =
     }
 
 pub returns-clause-lines : goal.returns-clause-lines
-returns-clause-lines c =
-    ap (λ v. v.items) c.of.ensures.text
-    ∙ sym (append-nil c.loop-index.text.items)
-    ∙ ap (λ xs. c.loop-index.text.items ++ xs) (sym (ap (λ cs. reply_lines (map action cs) (drop c.loop-index.index c.args.replies.now))
-    (drop_all c.loop-index.index c.args.commands.now c.loop-index-test.false) ∙ no_lines _))
-    ∙ c.loop-index.invariant.lines
+returns-clause-lines c = search (rules, append-nil, drop_all, no_lines)

@@ -1,4 +1,4 @@
-use Rattle.ks_requests.proofs.Prelude.{◌≡◌, ◌∙◌, ◌<◌, ◌+◌, ◌++◌, ℕ, List, [], ◌∷◌, Bor, ap, bytes_eq, cond, false, get_or, length, map, refl, sym, take, true, list_any, map-append, map_more, fold-append, insert_key, all_noted, noted}
+use Rattle.ks_requests.proofs.Prelude.{◌≡◌, ◌∙◌, ◌<◌, ◌+◌, ℕ, List, [], Bor, ap, bytes_eq, get_or, length, map, take, true, map-append, map_more, fold-append, insert_key, all_noted, noted, arith, common_steps, rules}
 use Rattle.ks_requests.proofs.Viewed.{list_any-map}
 use Rattle.ks_requests.proofs.targets.each_once.Goals as goal
 
@@ -6,18 +6,11 @@ abbrev seen : Bor (List ℕ) → List ℕ
 seen t = t.now
 
 insert_seen : (ts : List (Bor (List ℕ))) (t : Bor (List ℕ)) → map seen (insert_key (λ a b. bytes_eq a.now b.now) ts t) ≡ noted (map seen ts) t.now
-insert_seen ts t =
-    elim (list_any (λ b. bytes_eq t.now b.now) ts) as (λ b. map seen (cond b ts (ts ++ t ∷ [])) ≡ cond b (map seen ts) (map seen ts ++ t.now ∷ [])) [
-      | true ↦ refl
-      | false ↦ map-append seen ts (t ∷ [])
-    ]
-    ∙ ap (λ b. cond b (map seen ts) (map seen ts ++ t.now ∷ [])) (sym (list_any-map (bytes_eq t.now) seen ts))
+insert_seen ts t = search (rules, map-append, list_any-map)
 
 noted_more : (ts : List (Bor (List ℕ))) (i : ℕ) (d : Bor (List ℕ)) → i < length ts
     → noted (all_noted [] (map seen (take i ts))) (get_or ts i d).now ≡ all_noted [] (map seen (take (i + 1) ts))
-noted_more ts i d within =
-    sym (ap (all_noted []) (map_more seen ts i d within)
-    ∙ fold-append noted [] (map seen (take i ts)) ((get_or ts i d).now ∷ []))
+noted_more ts i d within = grind (arith, common_steps, map_more, fold-append)
 
 pub loop-target-preserved : goal.loop-target-preserved
 loop-target-preserved c =

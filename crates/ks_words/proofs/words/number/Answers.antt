@@ -1,4 +1,4 @@
-use Rattle.ks_words.proofs.Prelude.{◌≡◌, ℕ, Option, Some, None, refl, subst, ExplainsUnsignedError, HasUnsignedDigitsIfOk, ParsesUnsigned, ReadsOne, Text, found_of, one_text, one_text-rows, IsNumberOf}
+use Rattle.ks_words.proofs.Prelude.{◌≡◌, ℕ, Option, Some, None, refl, ParsesUnsigned, ReadsOne, Text, one_text-rows, IsNumberOf, rules}
 use Rattle.std.proofs.Common.{Result}
 use Rattle.ks_words.proofs.words.number.Goals as goal
 
@@ -9,8 +9,4 @@ number_read Explains Spells (Some t) (Some n) none some = let read = some t refl
 number_read Explains Spells (Some t) None none some = λ numeral. (some t refl).1.0 numeral
 
 pub returns : goal.returns
-returns c =
-    let f = found_of c.args.matches.now in
-    subst (λ o. IsNumberOf o c.get_one.result) (one_text-rows f c.args.id.now)
-    (number_read (λ t r. ExplainsUnsignedError 10 t r) (λ t r. HasUnsignedDigitsIfOk t r) (one_text f c.args.id.now) c.get_one.result
-    c.get_one.ensures.none c.get_one.ensures.value)
+returns c = search (rules, one_text-rows, number_read)

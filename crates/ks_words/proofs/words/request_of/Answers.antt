@@ -1,4 +1,4 @@
-use Rattle.ks_words.proofs.Prelude.{◌∙◌, ap, subst, IsSomeAnd, texts, HasKind, fault_of, is_simple, is_simple_and_free, subcommand_of, subcommand_rows_of, takes, command_line_app, IsRequestOf}
+use Rattle.ks_words.proofs.Prelude.{◌∙◌, ap, subst, IsSomeAnd, texts, HasKind, fault_of, is_simple, is_simple_and_free, subcommand_of, subcommand_rows_of, takes, command_line_app, IsRequestOf, rules}
 use Rattle.ks_words.proofs.WordLemmas.{batch_of, batch_rows, both, entered_name, err_all, fault_told, is_free_line, is_simple_line, memory_told, preview_of, preview_rows}
 use Rattle.ks_words.proofs.words.request_of.Goals as goal
 
@@ -11,14 +11,10 @@ returns-clause-exact c =
     (c.in-Some.ensures.name ∙ entered_name c.in_ok-matches.matches) c.in-Some.ensures.rows c.in_ok-request_named-in-Some.ensures)
 
 pub returns-clause-batch : goal.returns-clause-batch
-returns-clause-batch c p are plain =
-    batch_of p _ (subst (λ o. IsSomeAnd o (λ command. IsRequestOf command.0 command.1 c.in_ok-request_named-in-Some.field-0))
-    (ap (subcommand_of command_line_app) are ∙ batch_rows p plain) (returns-clause-exact c))
+returns-clause-batch c p are plain = search (rules, batch_of, batch_rows, returns-clause-exact)
 
 pub returns-clause-preview : goal.returns-clause-preview
-returns-clause-preview c k d are first second =
-    preview_of k d _ (subst (λ o. IsSomeAnd o (λ command. IsRequestOf command.0 command.1 c.in_ok-request_named-in-Some.field-0))
-    (ap (subcommand_of command_line_app) are ∙ preview_rows k d first second) (returns-clause-exact c))
+returns-clause-preview c k d are first second = search (rules, preview_of, preview_rows, returns-clause-exact)
 
 pub returns-in_err-matches-clause-taken : goal.returns-in_err-matches-clause-taken
 returns-in_err-matches-clause-taken c =

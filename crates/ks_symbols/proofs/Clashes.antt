@@ -1,5 +1,5 @@
 -- Declarations of one name with two kinds.
-use Rattle.ks_symbols.proofs.Prelude.{eq-eqb, ◌≡◌, ℕ, arith, ◌+◌, Bool, true, false, cond, List, [], ◌∷◌, ◌++◌, Option, Some, None, option_map, bytes_eq, length, take, drop, get_or, ◌<◌, refl, ap, append_assoc, cases_Bool, cond-true, cond-false, not-false, eqb-true, nat_list_cmp_total, find, Kind, SourceError, NameMap, kinds_in, or_else, clashes, fits, Form, Declaration, Declared, seen, Progress, progress_after, clash_fault, step_fault, no_kinds, first_kind, last_kind, first_clash, without_text, rules, is_eq-slice_cmp, declared, at_drop_more, map_more}
+use Rattle.ks_symbols.proofs.Prelude.{eq-eqb, ◌≡◌, ℕ, arith, ◌+◌, Bool, true, false, cond, List, [], ◌∷◌, ◌++◌, Option, Some, None, option_map, bytes_eq, length, take, drop, get_or, ◌<◌, refl, ap, append_assoc, cases_Bool, cond-true, cond-false, not-false, eqb-true, nat_list_cmp_total, find, Kind, SourceError, NameMap, kinds_in, or_else, clashes, fits, Form, Declaration, Declared, seen, Progress, progress_after, clash_fault, step_fault, no_kinds, first_kind, last_kind, first_clash, without_text, rules, is_eq-slice_cmp, at_drop_more, map_more}
 use Rattle.std.proofs.Common.{map as map_list}
 use Rattle.std.specs.FinMap as map
 use Rattle.ks_symbols.specs.declared.error.SourceError.TheVariants as fault

@@ -1,5 +1,5 @@
 -- Settings have names of symbols and texts of their kinds.
-use Rattle.ks_symbols.proofs.Prelude.{is_title, ◌≡◌, ℕ, ◌+◌, false, List, [], ◌∷◌, ◌++◌, Option, Some, None, option_and_then, IsTrue, bytes_eq, refl, sym, ◌∙◌, lookup, cond-true, cond-false, cases_Bool, append-nil, Kind, is_name, is_symbol_name, is_text, is_off, text_of, lines, Statement, statement, setting, gives, last_about, Form, Title, Entry, HasKind, title_in, title_of, entry_of, declares, declarations, declared, story, forms, form_fault, kind_fault, goes_on, first_form_fault, kconfig_refusal, IsConfiguration, HasSymbolNames, Configuration, SettingsAreConfigurations, KconfigText, rules, arith, option_and_then_some}
+use Rattle.ks_symbols.proofs.Prelude.{is_title, ◌≡◌, ℕ, ◌+◌, false, List, [], ◌∷◌, ◌++◌, Option, Some, None, option_and_then, IsTrue, bytes_eq, refl, sym, ◌∙◌, lookup, cond-true, cond-false, cases_Bool, append-nil, Kind, is_name, is_symbol_name, is_text, is_off, text_of, lines, Statement, statement, setting, gives, last_about, Form, Title, Entry, HasKind, title_in, title_of, entry_of, declares, declarations, declared, story, form_fault, kind_fault, goes_on, first_form_fault, kconfig_refusal, IsConfiguration, HasSymbolNames, Configuration, SettingsAreConfigurations, KconfigText, rules, arith, option_and_then_some}
 use Rattle.ks_symbols.specs.declared.kinds.Kind.TheVariants as kind
 use Rattle.std.specs.FinMap as map
 use Rattle.ks_symbols.proofs.Readings.{reads_are_texts}

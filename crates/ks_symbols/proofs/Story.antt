@@ -1,5 +1,5 @@
 -- Line by line, a reader of Kconfig finds what the whole text means.
-use Rattle.ks_symbols.proofs.Prelude.{◌≡◌, ℕ, ◌+◌, ◌≤◌, length, arith, Bool, cond, List, [], ◌∷◌, ◌++◌, reverse, Option, Some, None, option_map, unwrap_or, codes, bytes_eq, refl, sym, ◌∙◌, append_assoc, append-nil, filter, list_any, reverse_onto, SourceError, or_else, cond-true, cond-false, nat_tests, Form, says, opens, entry_of, declarations, kind_in, title_in, lacks_kind, form_fault, goes_on, first_form_fault, story, forms, kconfig_refusal, KconfigText, Declared, Progress, no_progress, progress_after, waiting_fault, step_fault, last_kind, rules, cases_Bool, declared}
+use Rattle.ks_symbols.proofs.Prelude.{◌≡◌, ℕ, ◌+◌, ◌≤◌, length, arith, Bool, cond, List, [], ◌∷◌, ◌++◌, reverse, Option, Some, None, option_map, unwrap_or, codes, bytes_eq, refl, sym, ◌∙◌, append_assoc, append-nil, filter, list_any, reverse_onto, SourceError, or_else, cond-true, cond-false, nat_tests, Form, says, opens, entry_of, declarations, kind_in, title_in, lacks_kind, form_fault, goes_on, first_form_fault, story, forms, kconfig_refusal, KconfigText, Declared, Progress, no_progress, progress_after, waiting_fault, step_fault, last_kind, rules, cases_Bool}
 use Rattle.std.specs.List.{find}
 use Rattle.ks_symbols.specs.declared.error.SourceError.TheVariants as fault
 

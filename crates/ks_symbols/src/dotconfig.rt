@@ -107,7 +107,7 @@ pub fn draft_settings(
     }
     symbols.keeps_names();
     let mut settings = SettingsDraft::new(alloc);
-    let mut near = 0;
+    let mut near = symbols.first_place();
     let mut number: u64 = 1;
     for line in text.lines() {
         apply(alloc, &mut settings, symbols, &mut near, number, line)?;

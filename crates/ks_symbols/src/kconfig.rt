@@ -58,27 +58,34 @@ fn first_kinds(alloc: Global, declared: &[Declaration<'_>]) -> Result<Table<Kind
     kinds.close(alloc)
 }
 
-/// Whether a declaration has another kind than its name has here. Its place is noted.
-fn has_other_kind(kinds: &Table<Kind>, declaration: &Declaration<'_>, order: &mut Order) -> bool
+/// Whether a declaration has another kind than its name has here, which is looked for at the place `near` first. That becomes the
+/// place of the symbol declared after it.
+fn has_other_kind(
+    kinds: &Table<Kind>,
+    declaration: &Declaration<'_>,
+    order: &Order,
+    near: &mut usize,
+) -> bool
     ensures { result ≡ clashes declaration.now.kind (option_map (λ s. s.0) (map.get kinds.now declaration.now.name.now)) }
 {
-    match kinds.get_near(declaration.name, 0) {
+    match kinds.get_near(declaration.name, *near) {
         Some((place, first, _)) => {
-            order.push(place);
+            *near = order.after(place);
             clashes(declaration.kind, first)
         }
         None => false,
     }
 }
 
-/// The line of the first declaration with another kind than the first one of its name. The places of those before it are noted.
-fn first_clash(kinds: &Table<Kind>, declared: &[Declaration<'_>], order: &mut Order) -> Option<u64>
+/// The line of the first declaration with another kind than the first one of its name. Names are looked for in their order first.
+fn first_clash(kinds: &Table<Kind>, declared: &[Declaration<'_>], order: &Order) -> Option<u64>
     requires { (x : List ℕ) → map.get kinds.now x ≡ option_map without_text (first_kind (map_list seen declared.now) x) }
     ensures clash { option_map (λ n. SourceError.TypeClash n) result ≡ first_clash [] (map_list seen declared.now) }
     ensures kinds { IfNone result ((x : List ℕ) → first_kind (map_list seen declared.now) x ≡ last_kind (map_list seen declared.now) x) }
 {
+    let mut near = order.first();
     for declaration in declared {
-        if has_other_kind(kinds, declaration, order) {
+        if has_other_kind(kinds, declaration, order, &mut near) {
             return Some(declaration.number);
         }
     }
@@ -244,7 +251,7 @@ impl<'a> Reader<'a> {
     }
 
     /// The line of the first declaration with another kind than the first one of its name.
-    fn clash(&self, kinds: &Table<Kind>, order: &mut Order) -> Option<u64>
+    fn clash(&self, kinds: &Table<Kind>, order: &Order) -> Option<u64>
         requires { (x : List ℕ) → map.get kinds.now x ≡ option_map without_text (first_kind self.now.declared x) }
         ensures clash { option_map (λ n. SourceError.TypeClash n) result ≡ first_clash [] self.now.declared }
         ensures kinds { IfNone result ((x : List ℕ) → first_kind self.now.declared x ≡ last_kind self.now.declared x) }
@@ -275,8 +282,9 @@ fn read_text(alloc: Global, dialect: Dialect, text: &[u8]) -> Result<Symbols, So
     let mut reader = Reader::new(alloc);
     let read = reader.take_lines(dialect, text);
     let kinds = reader.kinds(alloc)?;
-    let mut order = Order::new(alloc, kinds.len())?;
-    if let Some(number) = reader.clash(&kinds, &mut order) {
+    // (the draft got the declarations in turned order)
+    let order = kinds.latest_first(alloc)?;
+    if let Some(number) = reader.clash(&kinds, &order) {
         return Err(SourceError::TypeClash(number));
     }
     read?;

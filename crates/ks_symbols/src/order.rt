@@ -4,28 +4,40 @@
 //! without a search. Nothing rests on that: the name that stands there is compared, and searched for where it is another.
 use std::alloc::{AllocError, Global};
 
-/// For each place the one that follows.
+/// The first place, and for each place the one that follows.
 #[derive(Drop)]
 pub(crate) struct Order {
+    first: usize,
     following: Vec<usize>,
-    last: usize,
+    last: Option<usize>,
 }
 
 impl Order {
     /// No order of so many places yet.
     pub(crate) fn new(alloc: Global, count: usize) -> Result<Order, AllocError> {
         Ok(Order {
+            first: 0,
             following: vec![in alloc; 0; count]?,
-            last: 0,
+            last: None,
         })
     }
 
     /// Notes the next place.
     pub(crate) fn push(&mut self, place: usize) {
-        if let Some(following) = self.following.get_mut(self.last) {
-            *following = place;
+        match self.last {
+            Some(last) => {
+                if let Some(following) = self.following.get_mut(last) {
+                    *following = place;
+                }
+            }
+            None => self.first = place,
         }
-        self.last = place;
+        self.last = Some(place);
+    }
+
+    /// The first place, or 0 where there is none.
+    pub(crate) fn first(&self) -> usize {
+        self.first
     }
 
     /// The place after this one.

@@ -61,6 +61,11 @@ impl Symbols {
         }
     }
 
+    /// The place of the symbol that is declared first.
+    pub(crate) fn first_place(&self) -> usize {
+        self.order.first()
+    }
+
     /// The kind of a declared symbol, which is looked for at the place `near` first. That becomes the place of the symbol declared
     /// after it.
     pub(crate) fn kind_near(&self, name: &[u8], near: &mut usize) -> Option<Kind>

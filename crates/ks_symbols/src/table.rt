@@ -14,6 +14,7 @@ ghost use Rattle.std.specs.Cmp.Lexicographic.{slice_cmp};
 ghost use Rattle.std.specs.List.Sorted.{IsSortedByKey, IsStableByKey};
 ghost use Rattle.ks_symbols.specs.Table.{name_in, text_in, entry_in, said_in, after_line, begins_with, last_ones, borrowed_row, head_of, by_heads, AreHeaded};
 
+use crate::order::Order;
 use std::alloc::{AllocError, Global};
 use std::cmp::Ordering;
 use std::marker::Model;
@@ -296,9 +297,19 @@ impl<V: Copy> Table<V> {
         }
     }
 
-    /// How many names there are.
-    pub(crate) fn len(&self) -> usize {
-        self.records.len()
+    /// The order in which the names were given what they have, the last one first. Names lie in the bytes as they came, so no
+    /// name is looked for.
+    pub(crate) fn latest_first(&self, alloc: Global) -> Result<Order, AllocError> {
+        let mut starts = Vec::with_capacity(alloc, self.records.len())?;
+        for (place, at) in self.records.iter().enumerate() {
+            starts.push((at.start, place))?;
+        }
+        starts.sort_unstable_by(|one, other| other.0.cmp(&one.0));
+        let mut order = Order::new(alloc, starts.len())?;
+        for (_, place) in &starts {
+            order.push(*place);
+        }
+        Ok(order)
     }
 
     /// The rows, by rising names.

@@ -1,4 +1,4 @@
-use Rattle.ks_symbols.proofs.Prelude.{sym, ◌∙◌, arith, drop_all, first_kind, first_clash, rules, common_steps, last_kind, false, true}
+use Rattle.ks_symbols.proofs.Prelude.{sym, ◌∙◌, arith, drop_all, first_kind, first_clash, rules, common_steps, last_kind}
 use Rattle.ks_symbols.proofs.Clashes.{clash_at, clash_past, kind_of_first}
 use Rattle.ks_symbols.proofs.LastOnes.{or_none}
 use Rattle.ks_symbols.proofs.kconfig.first_clash.Goals as goal

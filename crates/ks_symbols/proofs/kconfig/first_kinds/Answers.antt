@@ -1,5 +1,5 @@
 use Rattle.ks_symbols.proofs.LastOnes.{or_none}
-use Rattle.ks_symbols.proofs.Prelude.{◌≡◌, ◌+◌, ◌-◌, ◌<◌, option_map, length, take, sym, ap, ◌∙◌, arith, take-length, or_else, seen, first_kind, without_text, rules, true, declared, map_more}
+use Rattle.ks_symbols.proofs.Prelude.{◌≡◌, ◌+◌, ◌-◌, ◌<◌, option_map, length, take, sym, ap, ◌∙◌, arith, take-length, or_else, seen, first_kind, without_text, rules, map_more}
 use Rattle.std.proofs.Common.{map as map_list}
 use Rattle.std.specs.FinMap as map
 use Rattle.ks_symbols.proofs.Clashes.{put_next}

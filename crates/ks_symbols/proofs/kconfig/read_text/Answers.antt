@@ -7,8 +7,8 @@ pub returns-then-text-gt-MAX_BYTES-clause-refusal : goal.returns-then-text-gt-MA
 unfolding kconfig_refusal
 returns-then-text-gt-MAX_BYTES-clause-refusal c = search (rules, nat_tests, cond-true)
 
-pub new-requires-2 : goal.new-requires-2
-new-requires-2 c = search (rules, declares_names, get-kinds_in, kind_of_first)
+pub new-requires : goal.new-requires
+new-requires c = search (rules, declares_names, get-kinds_in, kind_of_first)
 
 pub returns-clause-kinds : goal.returns-clause-kinds
 returns-clause-kinds c = search (rules, get-kinds_in, kind_of_first)

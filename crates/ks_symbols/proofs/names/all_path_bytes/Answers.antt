@@ -1,4 +1,4 @@
-use Rattle.ks_symbols.proofs.Prelude.{◌≡◌, ◌+◌, ◌-◌, arith, length-drop, take-add, take_all, list_all-append, rules, true}
+use Rattle.ks_symbols.proofs.Prelude.{◌≡◌, ◌+◌, ◌-◌, arith, length-drop, take-add, take_all, list_all-append, rules}
 use Rattle.ks_symbols.proofs.Overlaps.{all-overlap}
 use Rattle.ks_symbols.proofs.names.all_path_bytes.Goals as goal
 

@@ -1,4 +1,4 @@
-use Rattle.ks_symbols.proofs.Prelude.{◌≡◌, ◌+◌, ◌-◌, arith, list_all-append, take-add, rules, and_from, true}
+use Rattle.ks_symbols.proofs.Prelude.{◌≡◌, ◌+◌, ◌-◌, arith, list_all-append, take-add, rules, and_from}
 use Rattle.ks_symbols.proofs.statements.whole_groups.Goals as goal
 
 pub loop-end-preserved : goal.loop-end-preserved

@@ -1,4 +1,4 @@
-use Rattle.ks_symbols.proofs.Prelude.{sym, rules, always_returns_same, name_in, text_of}
+use Rattle.ks_symbols.proofs.Prelude.{sym, rules, always_returns_same, name_in}
 use Rattle.ks_symbols.proofs.LastOnes.{order}
 use Rattle.ks_symbols.proofs.Records.{found_at, searchable, parted_none}
 use Rattle.ks_symbols.proofs.table.find.Goals as goal

@@ -1,4 +1,4 @@
-use Rattle.ks_symbols.proofs.Prelude.{◌≡◌, ◌+◌, length, ◌++◌, List, ℕ, option_map, sym, ap, subst, ◌∙◌, arith, length-append, AreHeaded, said_in, after_line, after_lines, rules, head_of}
+use Rattle.ks_symbols.proofs.Prelude.{◌≡◌, ◌+◌, length, ◌++◌, List, ℕ, option_map, sym, ap, subst, ◌∙◌, arith, length-append, AreHeaded, said_in, after_line, after_lines, rules}
 use Rattle.std.proofs.Common.{map as map_list}
 use Rattle.std.specs.FinMap as map
 use Rattle.ks_symbols.proofs.LastOnes.{after_push}

@@ -4,7 +4,8 @@
        fuzz PROGRAM SEED CASES [SECONDS]
 
    A case is a tree and some commands over it: up to four at random, or the story of a build, so that objects are recorded
-   and symbols change after their records. The same seed makes the same cases. The folder is the current one, and is emptied.
+   and symbols change after their records. Half of the cases are in the words of Linux, the others in those of U-Boot or BusyBox,
+   and at times a command goes by those of another project. The same seed makes the same cases. The folder is the current one, and is emptied.
    At the first difference the case is left there and told, status 1. */
 #define _GNU_SOURCE
 #include "program.h"
@@ -52,10 +53,26 @@ static bool rarely(size_t one_of)
 
 #define PICK(table) (table)[below(sizeof(table) / sizeof *(table))]
 
+/* The project of the case, or NULL for Linux where nothing is said. */
+static const char *project;
+
+static const char *const projects[] = {"u-boot", "busybox", "linux"};
+
+static bool is_of(const char *name)
+{
+    return project && strcmp(project, name) == 0;
+}
+
 /* Texts made at random: mostly what a reader takes, with some faults. */
 
-static const char *const names[] = {"A", "B", "C", "D", "E_1", "x86", "CONFIG_A", "A_MODULE_B", "MODULE", "0", "S", "H"};
-static const char *const kinds[] = {"bool", "tristate", "string", "int", "hex"};
+static const char *const names[] = {"A", "B", "C", "D", "E_1", "x86", "CONFIG_A", "A_MODULE_B", "MODULE", "0", "S", "H", "NOT_A", "SPL_A", "B_MODULE"};
+static const char *const kinds[] = {"bool", "tristate", "string", "int", "hex", "raw", "flag"};
+
+/* How many of the names are declared: the last one may be in BusyBox alone. */
+static size_t declared_names(void)
+{
+    return sizeof names / sizeof *names - !is_of("busybox");
+}
 
 static const char *name(void)
 {
@@ -133,7 +150,7 @@ static Bytes made_kconfig(void)
     Text text = {0};
     if (one_in(2))
         add_text(&text, "mainmenu \"%s\"%s", titles[one_in(12) ? below(5) : below(2)], line_end());
-    for (size_t i = 0; i < sizeof names / sizeof *names; i++) {
+    for (size_t i = 0; i < declared_names(); i++) {
         if (one_in(4))
             continue;
         if (one_in(12))
@@ -155,7 +172,7 @@ static Bytes made_dotconfig(void)
 {
     Text text = {0};
     for (size_t count = below(14); count > 0; count--) {
-        size_t which = below(sizeof names / sizeof *names);
+        size_t which = below(declared_names());
         if (one_in(7))
             add_text(&text, "# CONFIG_%s is not set%s", names[which], line_end());
         else if (one_in(15))
@@ -179,7 +196,7 @@ static Bytes made_auto(void)
     for (size_t count = below(8); count > 0; count--) {
         const char *entry = name();
         if (one_in(3))
-            add_text(&text, "#type %s %s%s", one_in(20) ? name() : entry, kinds[one_in(20) ? below(5) : 2 + below(3)], line_end());
+            add_text(&text, "#type %s %s%s", one_in(20) ? name() : entry, kinds[one_in(20) ? below(7) : 2 + below(5)], line_end());
         add_text(&text, "CONFIG_%s=%s%s", entry, value(), line_end());
         if (one_in(30))
             add_text(&text, "#typed%s", line_end());
@@ -189,6 +206,16 @@ static Bytes made_auto(void)
     return perhaps_damaged(&text, 10);
 }
 
+/* Words of U-Boot and BusyBox, and what stands between them. */
+static void add_words(Text *text)
+{
+    static const char *const fronts[] = {"ENABLE_", "IF_", "IF_NOT_", "USE_", "CONFIG_IS_ENABLED", "CONFIG_VAL", "CONFIG_IF_ENABLED_INT"};
+    static const char *const marks[] = {"", "", "(", " (", "( ", "\\\n(\t", ",", " , ", "(("};
+    add_text(text, "%s%s%s", PICK(fronts), PICK(marks), one_in(6) ? "CONFIG_" : "");
+    if (!one_in(6))
+        add_text(text, "%s%s%s", name(), PICK(marks), one_in(2) ? name() : "");
+}
+
 static Bytes made_source(void)
 {
     static const char *const between[] = {" ", "\n", "\t", "(", ")", "x", "_", "CONFIG_", "_MODULE", "\0", "\r\n", "-", "\377", "CONFIG"};
@@ -196,6 +223,8 @@ static Bytes made_source(void)
     for (size_t count = below(12); count > 0; count--) {
         if (one_in(3))
             add_text(&text, "CONFIG_%s%s", name(), one_in(5) ? "_MODULE" : "");
+        if (one_in(project ? 2 : 12))
+            add_words(&text);
         const char *gap = PICK(between);
         add(&text, (Bytes){gap, *gap ? strlen(gap) : 1});
     }
@@ -203,7 +232,7 @@ static Bytes made_source(void)
 }
 
 static const char *const sources[] = {"x.c", "a.h", "b.h", "d/c.h", "t.s", "./a.h", "d//c.h"};
-static const char *const odd_paths[] = {"none.h", "d", "x.c/y", "a$b.h", "include/generated/autoconf.h", "y.o:", "a.h", "\303\244.h", "a#b", "a;b", "(a)", "d/"};
+static const char *const odd_paths[] = {"none.h", "d", "x.c/y", "a$b.h", "include/generated/autoconf.h", "y.o:", "a.h", "\303\244.h", "a#b", "a;b", "(a)", "d/", "include/autoconf.h", "d/include/autoconf.h", "my_include/autoconf.h"};
 
 static Bytes made_depfile(void)
 {
@@ -223,8 +252,13 @@ static const char *const odd_targets[] = {"x.o/", "a$b", "", "d", "none.o", "x.c
 static const char *const commands[] = {"cc -c x.c", "cc -O2 -c x.c", "", " := ", "$(x) #\\", "cc \303\244"};
 static const char *const odd_commands[] = {"a\nb", "a\rb", "x.o := y"};
 
+/* In these folders of U-Boot symbols have a prefix. */
+static const char *const phase_targets[] = {"spl/x.o", "tpl/d/y.o", "vpl/x.o", "tools/x.o", "d/spl/x.o"};
+
 static const char *target(void)
 {
+    if (is_of("u-boot") && one_in(3))
+        return PICK(phase_targets);
     return one_in(25) ? PICK(odd_targets) : PICK(targets);
 }
 
@@ -497,6 +531,18 @@ static Command made_step(size_t step)
     return made;
 }
 
+/* The words of the project in front of a command, at times of another one. */
+static void say_project(Command *made)
+{
+    const char *said = one_in(project ? 10 : 40) ? PICK(projects) : project;
+    if (!said)
+        return;
+    memmove(made->words + 2, made->words, made->count * sizeof *made->words);
+    made->words[0] = bytes_of("--dialect");
+    made->words[1] = bytes_of(said);
+    made->count += 2;
+}
+
 /* The tree on the disk, below the current folder. */
 
 static void make_folders(char *path)
@@ -658,12 +704,14 @@ static bool run_case(uint64_t seed, uint64_t number, uint64_t *runs)
     forget_all();
     empty_folder();
     is_build = one_in(3);
+    project = one_in(2) ? NULL : projects[below(2)];
     Tree tree = made_tree();
     for (size_t i = 0; i < tree.count; i++)
         write_file(tree.files[i].path, tree.files[i].bytes);
     size_t count = is_build ? 5 + below(3) : 1 + below(4);
     for (size_t step = 0; step < count; step++) {
         Command command = is_build ? made_step(step) : made_command();
+        say_project(&command);
         ++*runs;
         if (!agrees(&tree, &command)) {
             fprintf(stderr, "fuzz: seed %llu, case %llu\n", (unsigned long long)seed, (unsigned long long)number);

@@ -8,6 +8,9 @@
 
 bool auto_is_typed;
 
+/* The project in whose words Kconfigs, configurations and sources are read: that of the command which runs. */
+static enum { LINUX, U_BOOT, BUSYBOX } dialect;
+
 /* Memory and texts */
 
 typedef struct Block {
@@ -140,6 +143,15 @@ Bytes of_text(const Text *text)
     return (Bytes){text->at, text->length};
 }
 
+static Bytes joined(const char *before, Bytes middle, const char *after)
+{
+    Text text = {0};
+    add_text(&text, "%s", before);
+    add(&text, middle);
+    add_text(&text, "%s", after);
+    return of_text(&text);
+}
+
 /* Room for one item more in a list of `count` items, which moves where it is full. */
 static void *with_room(void *items, size_t count, size_t *room, size_t size)
 {
@@ -264,9 +276,18 @@ static bool read_decimal(Bytes text, uint64_t *number)
 
 /* Kinds and values */
 
-typedef enum { BOOL, TRISTATE, STRING, INT, HEX, NO_KIND } Kind;
+typedef enum { BOOL, TRISTATE, STRING, INT, HEX, RAW, FLAG, NO_KIND } Kind;
 
-static const char *const kind_words[] = {"bool", "tristate", "string", "int", "hex"};
+/* The words of auto.conf; those of a Kconfig are the ones up to HEX. */
+static const char *const kind_words[] = {"bool", "tristate", "string", "int", "hex", "raw", "flag"};
+
+/* The kind that a word of a Kconfig declares. */
+static Kind declared_kind(Kind word)
+{
+    if (word == STRING && dialect != LINUX)
+        return RAW;
+    return word == BOOL && dialect == BUSYBOX ? FLAG : word;
+}
 
 static bool is_int(Bytes text)
 {
@@ -294,6 +315,7 @@ static bool read_value(Kind kind, Bytes written, Bytes *text)
     *text = written;
     switch (kind) {
     case BOOL:
+    case FLAG:
         return is_text(written, "y") || is_text(written, "n");
     case TRISTATE:
         return is_text(written, "y") || is_text(written, "m") || is_text(written, "n");
@@ -307,6 +329,8 @@ static bool read_value(Kind kind, Bytes written, Bytes *text)
     Text plain = {0};
     if (written.length < 2 || written.at[0] != '"' || !is_command(written))
         return false;
+    if (kind == RAW)
+        return ends(written, "\"");
     size_t i = 1;
     for (; i < written.length && written.at[i] != '"'; i++) {
         if (written.at[i] == '\\') {
@@ -322,7 +346,7 @@ static bool read_value(Kind kind, Bytes written, Bytes *text)
 
 static bool is_off(Kind kind, Bytes text)
 {
-    return (kind == BOOL || kind == TRISTATE) && is_text(text, "n");
+    return (kind == BOOL || kind == FLAG || kind == TRISTATE) && is_text(text, "n");
 }
 
 /* Kconfig */
@@ -412,11 +436,13 @@ static Form form_of(Bytes line, Bytes *word, Kind *kind)
         *word = upto(rest, word_length(rest));
         return word->length && is_blank(from(rest, word->length)) ? ENTRY : FORMLESS;
     }
-    for (*kind = BOOL; *kind < NO_KIND; (*kind)++)
-        if (is_text(first, kind_words[*kind]))
+    for (Kind word_kind = BOOL; word_kind <= HEX; word_kind++)
+        if (is_text(first, kind_words[word_kind])) {
+            *kind = declared_kind(word_kind);
             return rest.length == 0 || is_prompt(rest) ? KIND : FORMLESS;
+        }
     if (is_text(first, "def_bool") || is_text(first, "def_tristate")) {
-        *kind = is_text(first, "def_bool") ? BOOL : TRISTATE;
+        *kind = is_text(first, "def_bool") ? declared_kind(BOOL) : TRISTATE;
         bool is_value = rest.length && strchr("ymn", rest.at[0]) && rest.at[0] && is_blank(from(rest, 1));
         return is_value ? KIND : FORMLESS;
     }
@@ -471,13 +497,15 @@ static Fault read_kconfig(Bytes text, Symbols *symbols)
         } else if (form == ENTRY) {
             if (!is_name(word))
                 return fault("2 BadName line %" PRIu64, lines.number);
-            if (ends(word, "_MODULE"))
+            if (ends(word, "_MODULE") && dialect != BUSYBOX)
                 return fault("3 ModuleName line %" PRIu64, lines.number);
             if (leaves_untyped(lines))
                 return fault("4 NoType line %" PRIu64, lines.number);
             has_entry = true;
             entry = word;
         } else {
+            if (ends(entry, "_MODULE") && kind != FLAG)
+                return fault("3 ModuleName line %" PRIu64, lines.number);
             Symbol *earlier = symbol_named(symbols, entry);
             if (earlier && earlier->kind != kind)
                 return fault("5 TypeClash line %" PRIu64, lines.number);
@@ -676,8 +704,8 @@ static Bytes header_text(const Symbols *settings)
     add_text(&text, "\n */\n");
     for (size_t i = 0; i < settings->count; i++) {
         const Symbol *setting = &settings->symbols[i];
-        bool is_switch = class_of(setting->kind) == TRISTATE;
-        add_text(&text, "#define CONFIG_");
+        bool is_switch = class_of(setting->kind) == TRISTATE || setting->kind == FLAG;
+        add_text(&text, "#define %s_", setting->kind == FLAG ? "ENABLE" : "CONFIG");
         add(&text, setting->name);
         add_text(&text, is_switch && is_text(setting->text, "m") ? "_MODULE " : " ");
         if (is_switch)
@@ -751,22 +779,114 @@ static void note_once(Names *names, Bytes name)
         note(names, name);
 }
 
-/* The names at the places of a text that weren't noted yet. */
-static void scan(Bytes text, Names *names)
+static void note_legal(Names *names, Bytes name)
 {
-    for (size_t i = 0; i < text.length; i++) {
-        if (!starts(from(text, i), "CONFIG_") || (i > 0 && is_word_byte(text.at[i - 1])))
-            continue;
-        Bytes run = from(text, i + 7);
-        size_t length = 0;
-        while (length < run.length && is_word_byte(run.at[length]))
-            length++;
-        run.length = length;
-        if (ends(run, "_MODULE"))
-            run.length -= 7;
-        if (is_name(run))
-            note_once(names, run);
+    if (is_name(name))
+        note_once(names, name);
+}
+
+static bool is_separator(char byte)
+{
+    return byte == ' ' || byte == '\t' || byte == '\\' || byte == '\r' || byte == '\n';
+}
+
+/* The word bytes from a place on. */
+static Bytes word_at(Bytes text, size_t place)
+{
+    Bytes word = from(text, place);
+    size_t length = 0;
+    while (length < word.length && is_word_byte(word.at[length]))
+        length++;
+    return upto(word, length);
+}
+
+/* The name after `CONFIG_`, without one `_MODULE` at its end. */
+static void note_in_linux(Names *names, Bytes word)
+{
+    if (!starts(word, "CONFIG_"))
+        return;
+    Bytes run = from(word, 7);
+    if (ends(run, "_MODULE"))
+        run.length -= 7;
+    note_legal(names, run);
+}
+
+static void note_in_busybox(Names *names, Bytes word)
+{
+    static const char *const fronts[] = {"CONFIG_", "ENABLE_", "IF_NOT_", "IF_"};
+    for (size_t i = 0; i < sizeof fronts / sizeof *fronts; i++)
+        if (starts(word, fronts[i]))
+            note_legal(names, from(word, strlen(fronts[i])));
+}
+
+/* How many arguments of a word of U-Boot name symbols. Such a word is no symbol itself. */
+static size_t arguments_of(Bytes word)
+{
+    if (is_text(word, "CONFIG_IS_ENABLED") || is_text(word, "CONFIG_VAL"))
+        return 1;
+    return is_text(word, "CONFIG_IF_ENABLED_INT") ? 2 : 0;
+}
+
+/* Where a word begins after a mark that follows here, or the end of the text. */
+static size_t argument_after(Bytes text, size_t place, char mark)
+{
+    while (place < text.length && is_separator(text.at[place]))
+        place++;
+    if (place == text.length || text.at[place] != mark)
+        return text.length;
+    place++;
+    while (place < text.length && is_separator(text.at[place]))
+        place++;
+    return place < text.length && is_word_byte(text.at[place]) ? place : text.length;
+}
+
+static const char *prefix_of(Bytes target)
+{
+    static const char *const prefixes[][2] = {{"spl/", "SPL_"}, {"tpl/", "TPL_"}, {"vpl/", "VPL_"}, {"tools/", "TOOLS_"}};
+    for (size_t i = 0; i < sizeof prefixes / sizeof *prefixes; i++)
+        if (starts(target, prefixes[i][0]))
+            return prefixes[i][1];
+    return "";
+}
+
+/* The names at the places of a text that weren't noted yet. */
+static void scan_by_places(Bytes text, Names *names)
+{
+    for (size_t i = 0; i < text.length; i++)
+        if (starts(from(text, i), "CONFIG_") && (i == 0 || !is_word_byte(text.at[i - 1])))
+            note_in_linux(names, word_at(text, i));
+}
+
+/* The names of its words that weren't. In U-Boot a word may be the argument of one before it, by the path of the object. */
+static void scan_by_words(Bytes text, Bytes target, Names *names)
+{
+    bool *is_argument = keep(text.length + 1);
+    memset(is_argument, 0, text.length + 1);
+    for (size_t place = 0; place < text.length;) {
+        Bytes word = word_at(text, place);
+        size_t arguments = dialect == U_BOOT ? arguments_of(word) : 0;
+        if (arguments) {
+            size_t first = argument_after(text, place + word.length, '(');
+            is_argument[first] = true;
+            if (arguments == 2 && first < text.length)
+                is_argument[argument_after(text, first + word_at(text, first).length, ',')] = true;
+        }
+        if (is_argument[place])
+            note_legal(names, joined(prefix_of(target), word, ""));
+        if (dialect == BUSYBOX)
+            note_in_busybox(names, word);
+        else if (arguments == 0)
+            note_in_linux(names, word);
+        place += word.length ? word.length : 1;
     }
+}
+
+static void scan(Bytes text, Bytes target, Names *names)
+{
+    if (dialect == LINUX)
+        scan_by_places(text, names);
+    else
+        scan_by_words(text, target, names);
 }
 
 typedef enum { SOURCE, LISTED, SCANNED } Role;
@@ -780,11 +900,6 @@ typedef struct {
     Prerequisite *all;
     size_t count;
 } Prerequisites;
-
-static bool is_separator(char byte)
-{
-    return byte == ' ' || byte == '\t' || byte == '\\' || byte == '\r' || byte == '\n';
-}
 
 static bool next_token(Bytes *rest, Bytes *token)
 {
@@ -806,6 +921,14 @@ static void add_prerequisite(Prerequisites *list, Bytes path, Role role)
     list->all[list->count++] = (Prerequisite){path, role};
 }
 
+/* The header that every object depends on. */
+static bool is_header(Bytes token)
+{
+    if (dialect != BUSYBOX)
+        return ends(token, "include/generated/autoconf.h");
+    return is_text(token, "include/autoconf.h") || ends(token, "/include/autoconf.h");
+}
+
 static Fault read_depfile(Bytes text, Prerequisites *list)
 {
     if (text.length > MAX_BYTES)
@@ -823,7 +946,7 @@ static Fault read_depfile(Bytes text, Prerequisites *list)
         }
         if (!has_target)
             return fault("20 NoTarget");
-        if (ends(token, "include/generated/autoconf.h"))
+        if (is_header(token))
             continue;
         if (!is_path(token))
             return fault("21 BadPath token %" PRIu64, number);
@@ -1040,15 +1163,6 @@ static Fault load(const Tree *tree, Bytes path, Bytes *bytes)
     return refused(found) || is_there ? found : fault_of("40 MissingFile", path);
 }
 
-static Bytes joined(const char *before, Bytes middle, const char *after)
-{
-    Text text = {0};
-    add_text(&text, "%s", before);
-    add(&text, middle);
-    add_text(&text, "%s", after);
-    return of_text(&text);
-}
-
 static Bytes command_path(Bytes target)
 {
     size_t base = target.length;
@@ -1150,7 +1264,7 @@ static Fault synchronise(Tree *tree, Bytes kconfig, Bytes dotconfig, Plan *plan)
 }
 
 /* The command file's text up to its last line, and how many names it has. */
-static Fault list_prerequisites(const Tree *tree, const Prerequisites *list, Text *text, size_t *count)
+static Fault list_prerequisites(const Tree *tree, const Prerequisites *list, Bytes target, Text *text, size_t *count)
 {
     Names names = {0};
     for (size_t i = 0; i < list->count; i++) {
@@ -1161,7 +1275,7 @@ static Fault list_prerequisites(const Tree *tree, const Prerequisites *list, Tex
         if (list->all[i].role == LISTED)
             add(text, joined("  ", list->all[i].path, " \\\n"));
         size_t first = names.count;
-        scan(source, &names);
+        scan(source, target, &names);
         for (; first < names.count; first++)
             add(text, joined("    $(wildcard include/config/", names.names[first], ") \\\n"));
     }
@@ -1190,7 +1304,7 @@ static Fault command_text(const Tree *tree, const Prerequisites *list, Bytes tar
     add(text, joined("source_", target, " := "));
     add(text, joined("", list->all[0].path, "\n\n"));
     add(text, joined("deps_", target, " := \\\n"));
-    Fault found = list_prerequisites(tree, list, text, count);
+    Fault found = list_prerequisites(tree, list, target, text, count);
     add(text, joined("\n", target, ": $(deps_"));
     add(text, joined("", target, ")\n\n"));
     add(text, joined("$(deps_", target, "):\n"));
@@ -1745,7 +1859,9 @@ static Bytes shown_value(const Symbol *entry)
 static const char *class_word(Kind kind)
 {
     Kind class = class_of(kind);
-    return class == NO_KIND ? "untyped" : class == TRISTATE ? "bool/tristate" : kind_words[class];
+    if (class == NO_KIND)
+        return "untyped";
+    return class == TRISTATE ? "bool/tristate" : class == RAW ? "raw string" : kind_words[class];
 }
 
 static void add_difference(Text *output, Bytes name, const Symbol *old, const Symbol *new)
@@ -1925,8 +2041,15 @@ static Answer run_command(Tree *tree, Bytes *words, size_t count)
     exit(2);
 }
 
+/* In front of a command stands `--dialect NAME`, or nothing. */
 Answer run_words(Tree *tree, const Bytes *words, size_t count)
 {
+    dialect = LINUX;
+    if (count > 2 && is_text(words[0], "--dialect")) {
+        dialect = is_text(words[1], "busybox") ? BUSYBOX : is_text(words[1], "u-boot") ? U_BOOT : LINUX;
+        words += 2;
+        count -= 2;
+    }
     Bytes *own = keep((count + 1) * sizeof *own);
     memcpy(own, words, count * sizeof *own);
     return run_command(tree, own, count);

@@ -7,10 +7,11 @@ ghost use Rattle.ks_engine.specs.Refusals.{Answers};
 ghost use Rattle.confstamp.specs.Numbers.{BeginsAnew, HoldsNumber, IsHighStamp, IsStampFault, has_record_number, is_command_name};
 
 use crate::folder::below;
-use ks_engine::{EngineError, read_old};
+use ks_engine::EngineError;
 use ks_fixdep::borrow_command;
+use ks_output::read_auto_generation;
 use ks_symbols::{Name, name_is_legal};
-use ks_tree::{Tree, read_stamp};
+use ks_tree::{Tree, auto_path, read_stamp};
 use std::alloc::Global;
 
 /// Whether a synchronisation would begin the numbers: auto.conf is missing, or another tool wrote it.
@@ -18,8 +19,10 @@ pub(crate) fn begins_anew<T: Tree>(alloc: Global, tree: &mut T) -> Result<bool, 
     ensures reads { Reads T.Tree tree.old tree.new (IsErrOf result EngineError.Device) }
     ensures read { T.is_honest → IfOk result (BeginsAnew (content (T.files tree.old) auto_path)) }
 {
-    let old = read_old(alloc, tree)?;
-    Ok(old.generation() == 0)
+    let Some(text) = tree.read(alloc, auto_path())? else {
+        return Ok(true);
+    };
+    Ok(read_auto_generation(&text)? == 0)
 }
 
 /// Whether the file at a path is a command file whose record has a number.

@@ -1,5 +1,5 @@
 -- The names of a record's dependency lines.
-use Rattle.ks_fixdep.proofs.Prelude.{◌≡◌, ℕ, true, false, List, [], ◌∷◌, ◌++◌, refl, ap, sym, ◌∙◌, map, append_assoc, append-nil, length, not, filter, flat_map, list_all, list_any, bytes_eq, and_from, cond-true, cond-false, flat_map-append, fold-append, append_cancel_left, map-append, list_any-append, filter-append, is_path, dep_line, ended, is_dep, deps_text, all_noted, names_of, noted, new_names, own_line, deps_after, config_names, Dep, Config, Role, arith, common_steps}
+use Rattle.ks_fixdep.proofs.Prelude.{◌≡◌, ℕ, true, false, List, [], ◌∷◌, ◌++◌, refl, ap, sym, ◌∙◌, map, append_assoc, append-nil, not, filter, flat_map, list_all, list_any, bytes_eq, and_from, cond-true, cond-false, flat_map-append, fold-append, append_cancel_left, map-append, list_any-append, filter-append, is_path, dep_line, ended, is_dep, deps_text, all_noted, names_of, noted, new_names, own_line, deps_after, config_names, Dep, Config, Role, arith, common_steps}
 use Rattle.ks_fixdep.proofs.OnceLemmas.{all_noted_again}
 
 -- those of these names that were not seen
@@ -32,25 +32,30 @@ of_configs : (xs : List (List ℕ)) (deps : List Dep) → config_names (map Conf
 of_configs [] deps = refl
 of_configs (x ∷ xs) deps = ap (λ l. x ∷ l) (of_configs xs deps)
 
--- The dependency lines name what was found in all prerequisites, each once and in that order.
-names_following : (seen : List (List ℕ)) (ps : List (List ℕ × Role)) (found : List (List (List ℕ))) → length ps ≡ length found
+-- The dependency lines name what was found in all prerequisites and elsewhere, each once and in that order.
+names_following : (seen : List (List ℕ)) (ps : List (List ℕ × Role)) (found : List (List (List ℕ)))
     → seen ++ config_names (deps_after seen ps found) ≡ all_noted seen (flat_map (λ names. names) found)
-names_following seen (p ∷ ps) (names ∷ found) len =
-    let later : length ps ≡ length found = cc in
+names_following seen ps [] = append-nil seen
+names_following seen [] (names ∷ found) =
+    rw (
+      of_configs,
+      ← append_assoc,
+      ← new_after,
+      names_following (all_noted seen names) [] found,
+      fold-append noted seen names _,
+    ) refl
+names_following seen (p ∷ ps) (names ∷ found) =
     rw (
       of_own_line p.0 p.1 _,
       of_configs,
       ← append_assoc,
       ← new_after,
-      names_following (all_noted seen names) ps found later,
+      names_following (all_noted seen names) ps found,
       fold-append noted seen names _,
     ) refl
-names_following seen [] [] len = append-nil seen
-names_following seen ps found len = absurd cc
 
-pub record_names : (ps : List (List ℕ × Role)) (found : List (List (List ℕ))) → length ps ≡ length found
-    → config_names (deps_after [] ps found) ≡ names_of found
-record_names ps found len = names_following [] ps found len
+pub record_names : (ps : List (List ℕ × Role)) (found : List (List (List ℕ))) → config_names (deps_after [] ps found) ≡ names_of found
+record_names ps found = names_following [] ps found
 
 -- ---- one prerequisite after the other
 

@@ -1,5 +1,9 @@
 -- What is written as one rule is read token by token.
-use Rattle.ks_fixdep.proofs.Prelude.{list_all-from_AllPass, prefix_len_passes, length-prefix_len, get_or-take, ◌≡◌, ℕ, ◌+◌, ◌<◌, Bool, true, false, List, [], ◌∷◌, ◌++◌, map, drop, ◌∙◌, arith, append_assoc, length-append, length-take-le, flat_map, list_all, prefix_len, slice_split, cond-true, cond-false, and_from, and_parts, not-true, flat_map-append, list_all-append, list_all-map, common_steps, nat_tests, prefix_len-le-length, is_name, is_path, line_feed, tokens, is_separator, is_other, stamp_of, continued, is_token, RulesReadBack, FirstTokensAreTokens, rules}
+use Rattle.ks_fixdep.proofs.Prelude.{None, Some, refl, list_all-from_AllPass, prefix_len_passes, length-prefix_len, get_or-take, ◌≡◌, ℕ, ◌+◌, ◌<◌, Bool, true, false, List, [], ◌∷◌, ◌++◌, map, drop, ◌∙◌, arith, append_assoc, length-append, length-take-le, flat_map, list_all, prefix_len, slice_split, cond-true, cond-false, and_from, and_parts, not-true, flat_map-append, list_all-append, list_all-map, common_steps, nat_tests, prefix_len-le-length, is_name, is_path, line_feed, tokens, is_separator, is_other, stamp_of, continued, is_token, RulesReadBack, FirstTokensAreTokens, rules}
+unfoldable use Rattle.ks_fixdep.specs.DependencyFile.{refusal_without, token_refusal}
+use Rattle.ks_fixdep.specs.DependencyFile.{is_target_token}
+use Rattle.ks_fixdep.specs.declared.dependency_file.Header.{Header}
+use Rattle.ks_fixdep.specs.declared.dep_error.DepError.TheVariants as errors
 use Rattle.ks_fixdep.proofs.CommandFormLemmas.{other-byte, all-imp}
 use Rattle.ks_fixdep.proofs.TokenLemmas.{tokens-nil, tokens-separator, tokens-trim, tokens-first, tokens-none, separators-end}
 
@@ -58,8 +62,20 @@ first-of b t ts some is =
       nat_tests,
     )
 
-pub first_tokens : FirstTokensAreTokens
-first_tokens d t ts is =
+first_token : (d t : List ℕ) (ts : List (List ℕ)) → tokens d ≡ t ∷ ts → is_token t ≡ true
+first_token d t ts is =
     let trimmed : tokens (drop (prefix_len is_separator d) d) ≡ t ∷ ts = tokens-trim d ∙ is in
     let ends = separators-end d in
     grind (arith, common_steps, first-of, tokens-none, tokens-nil)
+
+-- a file that begins with no target is refused
+refused_first : (header : Header) (t : List ℕ) (ts : List (List ℕ)) → is_target_token t ≡ false → token_refusal header (t ∷ ts) ≡ Some errors.NoTarget
+unfolding token_refusal
+refused_first header t ts not = rw not refl
+
+target_first : (header : Header) (d t : List ℕ) (ts : List (List ℕ)) → tokens d ≡ t ∷ ts → refusal_without header d ≡ None → is_target_token t ≡ true
+unfolding refusal_without
+target_first header d t ts is none = grind (arith, common_steps, refused_first)
+
+pub first_tokens : FirstTokensAreTokens
+first_tokens d t ts is = (first_token d t ts is, λ header none. target_first header d t ts is none)

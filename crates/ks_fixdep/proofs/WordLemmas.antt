@@ -1,6 +1,7 @@
 -- A text that is scanned by its words.
-use Rattle.ks_fixdep.proofs.Prelude.{after_word, nothing, passed, phase_prefix, word_names, Word, SourceNames, Known, Knows, at_start, ended_by, known_after, next, word_ended, StandsAfter, StandsAfterAs, ◌≡◌, ℕ, ◌+◌, ◌<◌, true, false, List, [], ◌∷◌, ◌++◌, length, take, get_or, Option, refl, sym, ap, ◌∙◌, and_from, list_all-append, take_more, take_while, take-append_seam, arith, ⊎_elim, append_assoc, append-nil, length-append, length-drop, cases_Bool, fold-append, bytes_eq-Decides, list_all, and_parts, is_word_byte, list_of, lengthened, common_steps, rules}
+use Rattle.ks_fixdep.proofs.Prelude.{cond_both, length-take, without_module, after_word, nothing, passed, phase_prefix, word_names, Word, SourceNames, Known, Knows, at_start, ended_by, known_after, next, word_ended, StandsAfter, StandsAfterAs, ◌≡◌, ℕ, ◌+◌, ◌<◌, true, false, List, [], ◌∷◌, ◌++◌, length, take, get_or, Option, refl, sym, ap, ◌∙◌, and_from, list_all-append, take_more, take_while, take-append_seam, arith, ⊎_elim, append_assoc, append-nil, length-append, length-drop, cases_Bool, fold-append, bytes_eq-Decides, list_all, and_parts, is_word_byte, list_of, lengthened, common_steps, rules}
 unfoldable use Rattle.ks_fixdep.specs.Dialects.{arguments_of, busybox_names, names_of_parts, parts}
+use Rattle.ks_fixdep.specs.Dialects.{of_module}
 use Rattle.ks_fixdep.specs.declared.awaited.Awaited.{Awaited}
 use Rattle.ks_fixdep.specs.declared.source_scan.SourceScan.{SourceScan}
 use Rattle.ks_fixdep.specs.declared.dialect.Rules.{Rules}
@@ -17,10 +18,14 @@ arguments-long rules.Linux w long = refl
 arguments-long (rules.UBoot p) w long = grind (arith, common_steps, bytes_eq-Decides)
 arguments-long rules.BusyBox w long = refl
 
+-- what is cut off its end leaves it too long
+module-long : (x : List ℕ) → 142 < length x → of_module x ≡ []
+module-long x long = grind (arith, common_steps, cond_both, length-take, (legal-length (without_module x)))
+
 pub names-long : (r : Rules) (a : Awaited) (w : List ℕ) → 142 < length w → word_names r a w ≡ []
 unfolding busybox_names
 names-long rules.Linux a w long = ap list_of (name_of_word-long w long)
-names-long (rules.UBoot p) a w long = grind (arith, common_steps, (legal-length (phase_prefix p ++ w)), length-append, name_of_word-long)
+names-long (rules.UBoot p) a w long = grind (arith, common_steps, (legal-length (phase_prefix p ++ w)), (module-long (phase_prefix p ++ w)), length-append, name_of_word-long)
 names-long rules.BusyBox a w long = grind (arith, common_steps, legal-length, length-drop)
 
 -- ---- where a word ends

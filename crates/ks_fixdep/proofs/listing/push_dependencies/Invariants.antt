@@ -12,6 +12,5 @@ invariant-loop-source l = record {
   names : names_of (picked l.table.found l.sources)
       ≡ all_noted (names_at l.table.names l.listed) (flat_map (λ names. names) (picked l.table.found (drop l.source-index l.sources)));
   many : length l.listed ≡ length (names_at l.table.names l.listed);
-  each : length (drop l.source-index l.sources) ≡ length l.entries;
   paths : IsTrue (list_all (λ p. is_path p.0) l.entries);
 }

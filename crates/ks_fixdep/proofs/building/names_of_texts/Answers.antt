@@ -1,0 +1,11 @@
+use Rattle.ks_fixdep.proofs.Prelude.{arith, common_steps}
+use Rattle.ks_fixdep.proofs.building.names_of_texts.Goals as goal
+
+pub loop-text-init : goal.loop-text-init
+loop-text-init c = grind (arith, common_steps)
+
+pub loop-text-preserved : goal.loop-text-preserved
+loop-text-preserved c = grind (arith, common_steps)
+
+pub returns : goal.returns
+returns c = grind (arith, common_steps)

@@ -26,6 +26,8 @@ uboot_rows =
     ∷ (codes "spl/x.o", codes "CONFIG_IS_ENABLED(A)", codes "SPL_A" ∷ [])
     ∷ (codes "vpl/x.o", codes "CONFIG_IS_ENABLED(A)", codes "VPL_A" ∷ [])
     ∷ (codes "tools/x.o", codes "CONFIG_IS_ENABLED(A)", codes "TOOLS_A" ∷ [])
+    ∷ (codes "x.o", codes "CONFIG_IS_ENABLED(A_MODULE)", codes "A" ∷ codes "A_MODULE" ∷ [])
+    ∷ (codes "spl/x.o", codes "CONFIG_IF_ENABLED_INT(A_MODULE, MODULE)", codes "SPL_A" ∷ codes "SPL_A_MODULE" ∷ codes "SPL" ∷ codes "SPL_MODULE" ∷ [])
     ∷ (codes "spl/x.o", codes "CONFIG_IS_ENABLED( A)", codes "SPL_A" ∷ [])
     ∷ (codes "spl/x.o", codes "CONFIG_IS_ENABLED (A)", codes "SPL_A" ∷ [])
     ∷ (codes "x.o", codes "CONFIG_IS_ENABLED \\\n\t(\r\n A)", codes "A" ∷ [])

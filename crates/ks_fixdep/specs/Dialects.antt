@@ -1,10 +1,11 @@
 -- Where a source text names a symbol, by the words of three projects: of Linux (`Scan`); of U-Boot (its include/linux/kconfig.h); and of
--- BusyBox (scripts/basic/fixdep.c and scripts/kconfig/confdata.c there). That blanks may stand round an argument, and that all five
--- prefixes of U-Boot are known, are rules of this project: its own scripts/basic/fixdep.c misses these names.
+-- BusyBox (scripts/basic/fixdep.c and scripts/kconfig/confdata.c there). That blanks may stand round an argument, that all five prefixes
+-- of U-Boot are known, and that an argument may be the macro of a module, are rules of this project: U-Boot's own scripts/basic/fixdep.c
+-- misses these names.
 use Rattle.std.specs.Prelude.{ℕ, Bool, ◌-◌, ◌==◌, ◌||◌, List, [], ◌∷◌, ◌++◌, codes, drop, length, map, nat_eq, nat_lt, take, if◌then◌else◌}
-use Rattle.std.specs.List.{starts_with}
+use Rattle.std.specs.List.{starts_with, ends_with}
 use Rattle.std.specs.Str.{bytes_eq}
-use Rattle.ks_symbols.specs.Names.{is_word_byte, is_name}
+use Rattle.ks_symbols.specs.Names.{is_word_byte, is_name, module_end, without_module}
 use Rattle.ks_fixdep.specs.Scan.{bare_name, name_of_word, taken}
 use Rattle.ks_fixdep.specs.Stream.{list_of}
 use Rattle.ks_fixdep.specs.FoundNames.{all_noted}
@@ -62,9 +63,13 @@ arguments_of (rules.UBoot phase) w =
     else (if bytes_eq w (codes "CONFIG_IF_ENABLED_INT") then 2 else 0)
 arguments_of rules.BusyBox w = 0
 
--- U-Boot: an argument of such a macro names the symbol of its phase
+-- the tristate whose macro, where it is a module, ends so after `CONFIG_`
+abbrev pub of_module : List ℕ → List (List ℕ)
+of_module x = if ends_with nat_eq x module_end then legal (without_module x) else []
+
+-- U-Boot: an argument of such a macro names the symbol of its phase, and where it ends in `_MODULE` the tristate before that too
 abbrev pub argument_names : Phase → Bool → List ℕ → List (List ℕ)
-argument_names phase is_argument w = if is_argument then legal (phase_prefix phase ++ w) else []
+argument_names phase is_argument w = if is_argument then of_module (phase_prefix phase ++ w) ++ legal (phase_prefix phase ++ w) else []
 
 -- and each word names what it names in Linux, but for the macros themselves, which are no symbol's. So an argument that begins with `CONFIG_`
 -- names two symbols, and a macro inside an argument is looked at like any other

@@ -24,10 +24,10 @@ own_line (path, role.Listed) = File path ∷ []
 own_line (path, role.Source) = []
 own_line (path, role.Scanned) = []
 
--- for each prerequisite its own line, and its names that those before have not
+-- For each prerequisite its own line, and its names that those before have not. Past the last one, as in the words of a command, only names are found.
 abbrev pub deps_after : List (List ℕ) → List (List ℕ × Role) → List (List (List ℕ)) → List Dep
-deps_after before [] found = []
-deps_after before (p ∷ ps) [] = []
+deps_after before ps [] = []
+deps_after before [] (names ∷ found) = map Config (new_names before names) ++ deps_after (all_noted before names) [] found
 deps_after before (p ∷ ps) (names ∷ found) = own_line p ++ (map Config (new_names before names) ++ deps_after (all_noted before names) ps found)
 
 -- the first prerequisite
@@ -35,7 +35,7 @@ abbrev pub source_of : List (List ℕ × Role) → List ℕ
 source_of [] = []
 source_of (p ∷ ps) = p.0
 
--- the command file of a target, from its prerequisites and the names found in each; it has no generation yet
+-- the command file of a target, from its prerequisites and the names found in each, and then elsewhere; it has no generation yet
 abbrev pub record_of : List ℕ → List ℕ → List (List ℕ × Role) → List (List (List ℕ)) → command_file.CommandRecord
 record_of target command ps found =
     record { target = target; command = command; source = source_of ps; deps = deps_after [] ps found; generation = None }

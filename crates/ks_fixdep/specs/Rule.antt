@@ -1,12 +1,12 @@
 -- The dependency file that a build by times is given in the place of the compiler's: one rule, in which the stamps of the found names stand for the
 -- header of all symbols. Its form is that of compilers; what stands in it is a rule of this project.
-use Rattle.std.specs.Prelude.{◌≡◌, ◌&&◌, ℕ, Bool, IsTrue, List, [], ◌∷◌, ◌++◌, map, flat_map, codes}
+use Rattle.std.specs.Prelude.{◌≡◌, ◌&&◌, ℕ, Bool, IsTrue, None, List, [], ◌∷◌, ◌++◌, map, flat_map, codes}
 use Rattle.std.specs.List.{list_all}
 use Rattle.ks_symbols.specs.Names.{is_name, is_path}
 use Rattle.ks_fixdep.specs.declared.dependency_file.Header.{Header}
 use Rattle.ks_fixdep.specs.CommandLines.{line_feed}
 use Rattle.ks_fixdep.specs.Tokens.{tokens, is_other, is_some_token}
-use Rattle.ks_fixdep.specs.DependencyFile.{prerequisites_without}
+use Rattle.ks_fixdep.specs.DependencyFile.{is_target_token, prerequisites_without, refusal_without}
 
 -- the stamp of a name
 abbrev pub stamp_of : List ℕ → List ℕ
@@ -41,4 +41,6 @@ RulesReadBack =
 
 -- What a dependency file has first is such a token, and a target where the file isn't refused.
 abbrev pub FirstTokensAreTokens : Type 0
-FirstTokensAreTokens = (depfile t : List ℕ) (ts : List (List ℕ)) → tokens depfile ≡ t ∷ ts → IsTrue (is_token t)
+FirstTokensAreTokens =
+    (depfile t : List ℕ) (ts : List (List ℕ)) → tokens depfile ≡ t ∷ ts
+    → IsTrue (is_token t) × ((header : Header) → refusal_without header depfile ≡ None → IsTrue (is_target_token t))

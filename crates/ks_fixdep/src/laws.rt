@@ -35,10 +35,9 @@ pub fn names_of_all_sources()
     ensures { (ts : List (List ℕ)) → names_of (map names_in ts) ≡ all_noted [] (flat_map (λ t. map bare_name (taken t)) ts) }
 {}
 
-/// The dependency lines of a record name what was found in all its prerequisites, each once and in that order.
+/// The dependency lines of a record name what was found in all its prerequisites, and then elsewhere, each once and in that order.
 pub fn names_of_a_record()
-    ensures { (ps : List (List ℕ × Role)) (found : List (List (List ℕ))) → length ps ≡ length found
-        → config_names (deps_after [] ps found) ≡ names_of found }
+    ensures { (ps : List (List ℕ × Role)) (found : List (List (List ℕ))) → config_names (deps_after [] ps found) ≡ names_of found }
 {}
 
 /// Names inside words and with suffixes, the roles of three rules, a fault, and the dependency lines of a small object.

@@ -1,6 +1,6 @@
 //! The text of the command file of an object: for each prerequisite a line of its own, where it is listed, and then the names that
-//! none before it has. Each line is written from where its path or its name lies already: an object has hundreds, and a path or a
-//! name of its own for each would cost more than the text itself.
+//! none before it has; and last the names that were found elsewhere alone. Each line is written from where its path or its name
+//! lies already: an object has hundreds, and a path or a name of its own for each would cost more than the text itself.
 ghost use Rattle.std.specs.Prelude.{◌≡◌, ◌+◌, ◌++◌, [], IfOk, IsTrue, OnOk, length, map};
 ghost use Rattle.std.specs.List.{list_all};
 ghost use Rattle.ks_symbols.specs.Names.{is_name, is_path};
@@ -74,18 +74,17 @@ fn push_dependencies(
     sources: &[usize],
     listed: &mut PlaceSet,
 ) -> Result<(), AllocError>
-    requires each { length sources.now ≡ length prerequisites.now }
-    requires none { listed.old ≡ [] }
+    requires { listed.old ≡ [] }
     ensures text { OnOk result (text.new.items ≡ text.old.items ++ deps_text (deps_after [] prerequisites.now (picked table.now.found sources.now))) }
     ensures names { OnOk result (length listed.new ≡ length (names_of (picked table.now.found sources.now))) }
     ensures legal { OnOk result (IsTrue (list_all is_dep (deps_after [] prerequisites.now (picked table.now.found sources.now)))) }
 {
     let mut entries = prerequisites.entries();
     for source in sources {
-        let Some((path, role)) = entries.next() else {
-            unreachable!();
-        };
-        push_own_line(text, path, *role)?;
+        // Past the last prerequisite there is no path, and only names are listed.
+        if let Some((path, role)) = entries.next() {
+            push_own_line(text, path, *role)?;
+        }
         push_new_names(text, table, table.source(*source), listed)?;
     }
     Ok(())
@@ -104,7 +103,8 @@ pub(crate) fn source_path(prerequisites: &Prerequisites) -> &[u8]
     }
 }
 
-/// The text of the command file of a target, from the names found in each prerequisite, in order. What was found stays.
+/// The text of the command file of a target, from the names found in each prerequisite, and then elsewhere, in order. What was
+/// found stays.
 pub fn record_text(
     alloc: Global,
     target: &[u8],
@@ -113,7 +113,6 @@ pub fn record_text(
     found: &mut NamesBySource,
     generation: Option<u64>,
 ) -> Result<RecordText, AllocError>
-    requires { length found.old.sources.items ≡ length prerequisites.now }
     ensures text { IfOk result (λ r. r.text.items ≡ record_text target.now command.now prerequisites.now (names_by found.old) generation) }
     ensures names { IfOk result (λ r. r.names ≡ length (names_of (names_by found.old))) }
     ensures source { OnOk result (IsTrue (is_path (source_of prerequisites.now))) }

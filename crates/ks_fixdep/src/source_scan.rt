@@ -30,11 +30,11 @@ pub struct SourceScan {
     pub(crate) table: SourceTable,
 }
 
-/// The names of the prerequisites of an object, which are among the sources of a scan.
+/// The names of the prerequisites of an object, and of what else is scanned of it, which are among the sources of a scan.
 #[derive(Drop)]
 pub struct NamesBySource {
     pub scan: SourceScan,
-    /// For each prerequisite, in their order, which of the sources it is, counted from 0.
+    /// For each prerequisite, in their order, which of the sources it is, counted from 0; and then for all else.
     pub sources: Vec<usize>,
     /// The names that stand in the text of a record already.
     pub(crate) listed: PlaceSet,

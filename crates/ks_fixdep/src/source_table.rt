@@ -5,7 +5,7 @@ ghost use Rattle.std.specs.Prelude.{◌≡◌, ◌++◌, ◌∷◌, [], ℕ, IfS
 ghost use Rattle.std.specs.List.{list_any};
 ghost use Rattle.std.specs.Option.{option_copied, option_map};
 ghost use Rattle.ks_symbols.specs.Names.{is_name};
-ghost use Rattle.ks_fixdep.specs.Dialects.{legal};
+ghost use Rattle.ks_fixdep.specs.Dialects.{legal, of_module};
 ghost use Rattle.ks_fixdep.specs.FoundNames.{all_noted, noted};
 ghost use Rattle.ks_fixdep.specs.SourceTable.{names_at};
 
@@ -115,13 +115,25 @@ impl SourceTable {
         Ok(())
     }
 
-    /// Notes what two parts are together, where it is a name.
+    /// Notes the tristate of which this is the macro as a module, if it ends as one.
+    fn note_module(&mut self, macro_end: &[u8]) -> Result<(), AllocError>
+        ensures found { self.new.found ≡ self.old.found }
+        ensures current { OnOk result (self.new.current ≡ all_noted self.old.current (of_module macro_end.now)) }
+    {
+        match macro_end.strip_suffix(b"_MODULE") {
+            Some(tristate) => self.note_legal(tristate),
+            None => Ok(()),
+        }
+    }
+
+    /// Notes what two parts are together, and before it the tristate of which that is the macro as a module, where these are names.
     pub(crate) fn note_joined(&mut self, front: &[u8], rest: &[u8]) -> Result<(), AllocError>
         ensures found { self.new.found ≡ self.old.found }
-        ensures current { OnOk result (self.new.current ≡ all_noted self.old.current (legal (front.now ++ rest.now))) }
+        ensures current { OnOk result (self.new.current ≡ all_noted self.old.current (of_module (front.now ++ rest.now) ++ legal (front.now ++ rest.now))) }
     {
         let mut name = Vec::from_slice(self.alloc, front)?;
         name.extend_from_slice(rest)?;
+        self.note_module(&name)?;
         self.note_legal(&name)
     }
 

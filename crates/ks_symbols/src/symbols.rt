@@ -80,7 +80,7 @@ impl Symbols {
         }
     }
 
-    /// The names of all symbols, by rising names.
+    /// The names of all symbols.
     pub fn names(&self, alloc: Global) -> Result<Vec<Name>, AllocError>
         ensures all { IfOk result (λ names. (x : List ℕ) → is_in names.items x ≡ is_some (map.get self.now.kinds x)) }
         ensures legal { IfOk result (λ names. (x : List ℕ) → is_in names.items x ≡ true → IsTrue (is_name x)) }

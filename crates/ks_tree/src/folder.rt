@@ -13,10 +13,10 @@ ghost use Rattle.ks_tree.specs.SystemErrors.{fault_of, found_of, meaning_of};
 
 use crate::folder_fault::FolderFault;
 use crate::held::HeldReading;
-use crate::new_file::{create_new, write_new};
+use crate::new_file::{create_new, make_long_past, write_new};
 use crate::read_ahead::KeptFile;
 use crate::system_error::{Meaning, meaning_of};
-use crate::{Claim, Tree, TreeFault};
+use crate::{Aging, Claim, Tree, TreeFault};
 use ks_symbols::MAX_BYTES;
 use std::alloc::Global;
 use std::borrow::CowStr;
@@ -80,6 +80,15 @@ fn read_bytes<R: Files>(files: &R, alloc: Global, place: &str) -> io::Result<Opt
         return Ok(None);
     }
     Ok(Some(bytes))
+}
+
+/// Gives the file at a place the first second of 1970 as its time. A pipe isn't opened here either.
+fn age_file<R: Files>(files: &R, place: &str) -> io::Result<()> {
+    let found = fs::metadata(files, place)?;
+    if !found.is_file() {
+        return Err(without_an_end(&found));
+    }
+    make_long_past(&fs::open(files, place)?)
 }
 
 impl<R: Files> FolderTree<R>
@@ -371,5 +380,29 @@ where
         ensures { result ≡ self.now.seed }
     {
         self.seed
+    }
+}
+
+impl<R: Files> Aging for FolderTree<R>
+where
+    R::File: Claim,
+{
+    /// The file gets the first second of 1970 as its time, as a stamp that was made.
+    fn age(&mut self, alloc: Global, path: &[u8]) -> Result<(), TreeFault>
+        ensures told { IsErrOf result TreeFault.Device → IfSome self.new.last_fault (λ fault. string_bytes fault.path ≡ path.now) }
+        ensures never { IsErrOf result TreeFault.TooLarge → ⊥ }
+        ensures later { self.old.failures ≤ self.new.failures }
+        ensures passed { OnOk result (self.new.failures ≡ self.old.failures) }
+        ensures uncounted { IsErrOf result TreeFault.OutOfMemory → self.new.failures ≡ self.old.failures }
+        ensures cause { IsErrOf result TreeFault.Device → HasRisen self.old.failures self.new.failures }
+    {
+        let Some(place) = self.place(alloc, path)? else {
+            return Err(self.device());
+        };
+        match age_file(&self.files, place.as_str()) {
+            Ok(()) => Ok(()),
+            Err(error) if meaning_of(&error) == Meaning::Missing => Ok(()),
+            Err(error) => Err(self.fault(alloc, path, &error)),
+        }
     }
 }

@@ -4,7 +4,7 @@ ghost use Rattle.std.specs.Prelude.{◌≡◌, ◌≢◌, ◌⊎◌, ◌+◌, �
 ghost use Rattle.ks_symbols.specs.Lines.{max_bytes};
 ghost use Rattle.ks_tree.specs.Files.{content, kept_or, SameBut, IsHalfCreated, IsMoved, IsTooLarge, IsReadAt, HasRisen};
 
-use crate::{Tree, TreeFault};
+use crate::{Aging, Tree, TreeFault};
 use std::alloc::Global;
 
 /// What the first failing call leaves. Each later one does nothing.
@@ -12,7 +12,7 @@ use std::alloc::Global;
 pub enum FuseMode {
     /// It did nothing.
     Clean,
-    /// A write or a creation has left the first half of its bytes, and a rename has happened.
+    /// A write or a creation has left the first half of its bytes, and a rename has happened, or a file was aged.
     Half,
 }
 
@@ -106,6 +106,8 @@ impl<T: Tree + Drop> Tree for FuseTree<T> {
 
     ghost failures = { λ t. T.failures t.inner + t.fuse.failed };
 
+    ghost aged = { λ t. T.aged t.inner };
+
     ghost writes = { λ old path bytes new answer. WritesAt (turn_of (fuse_of old)) T.Tree (inner_of old) path bytes (inner_of new) answer };
 
     ghost creates = { λ old path bytes new answer. CreatesAt (turn_of (fuse_of old)) T.Tree (inner_of old) path bytes (inner_of new) answer };
@@ -117,6 +119,7 @@ impl<T: Tree + Drop> Tree for FuseTree<T> {
         ensures small { T.is_honest → IfOk result (λ found. (b : List ℕ) → content (T.files (inner_of self.old)) path.now ≡ Some b → length b ≤ max_bytes) }
         ensures too_large { T.is_honest → IsErrOf result TreeFault.TooLarge → IsTooLarge (content (T.files (inner_of self.old)) path.now) }
         ensures unchanged { T.is_honest → T.files (inner_of self.new) ≡ T.files (inner_of self.old) }
+        ensures kept { T.aged (inner_of self.new) ≡ T.aged (inner_of self.old) }
         ensures later { failed_in T.Tree self.old ≤ failed_in T.Tree self.new }
         ensures passed { OnOk result (failed_in T.Tree self.new ≡ failed_in T.Tree self.old) }
         ensures uncounted { IsErrOf result TreeFault.OutOfMemory → failed_in T.Tree self.new ≡ failed_in T.Tree self.old }
@@ -142,6 +145,7 @@ impl<T: Tree + Drop> Tree for FuseTree<T> {
         ensures found { T.is_honest → IfOk result (IsReadAt (content (T.files (inner_of self.old)) path.now) offset into.old into.new) }
         ensures within { IfOk result (λ found. IfSome found (λ n. n ≤ length into.new)) }
         ensures unchanged { T.is_honest → T.files (inner_of self.new) ≡ T.files (inner_of self.old) }
+        ensures kept { T.aged (inner_of self.new) ≡ T.aged (inner_of self.old) }
         ensures never { IsErrOf result TreeFault.TooLarge → ⊥ }
         ensures later { failed_in T.Tree self.old ≤ failed_in T.Tree self.new }
         ensures passed { OnOk result (failed_in T.Tree self.new ≡ failed_in T.Tree self.old) }
@@ -160,6 +164,7 @@ impl<T: Tree + Drop> Tree for FuseTree<T> {
     fn write(&mut self, alloc: Global, path: &[u8], bytes: &[u8]) -> Result<(), TreeFault>
         ensures written { T.is_honest → OnOk result (content (T.files (inner_of self.new)) path.now ≡ Some bytes.now) }
         ensures others { T.is_honest → SameBut path.now (T.files (inner_of self.old)) (T.files (inner_of self.new)) }
+        ensures kept { T.aged (inner_of self.new) ≡ T.aged (inner_of self.old) }
         ensures refused { T.is_honest → IsErrOf result TreeFault.OutOfMemory → T.files (inner_of self.new) ≡ T.files (inner_of self.old) }
         ensures never { IsErrOf result TreeFault.TooLarge → ⊥ }
         ensures later { failed_in T.Tree self.old ≤ failed_in T.Tree self.new }
@@ -184,6 +189,7 @@ impl<T: Tree + Drop> Tree for FuseTree<T> {
         ensures made { T.is_honest → OnOk result (content (T.files (inner_of self.new)) path.now ≡ Some (kept_or (content (T.files (inner_of self.old)) path.now) bytes.now)) }
         ensures failed { T.is_honest → OnErr result (IsHalfCreated (content (T.files (inner_of self.old)) path.now) bytes.now (content (T.files (inner_of self.new)) path.now)) }
         ensures others { T.is_honest → SameBut path.now (T.files (inner_of self.old)) (T.files (inner_of self.new)) }
+        ensures kept { T.aged (inner_of self.new) ≡ T.aged (inner_of self.old) }
         ensures refused { T.is_honest → IsErrOf result TreeFault.OutOfMemory → T.files (inner_of self.new) ≡ T.files (inner_of self.old) }
         ensures never { IsErrOf result TreeFault.TooLarge → ⊥ }
         ensures later { failed_in T.Tree self.old ≤ failed_in T.Tree self.new }
@@ -210,6 +216,7 @@ impl<T: Tree + Drop> Tree for FuseTree<T> {
         ensures moved { T.is_honest → OnOk result (IsMoved from.now to.now (T.files (inner_of self.old)) (T.files (inner_of self.new))) }
         ensures failed { T.is_honest → OnErr result ((T.files (inner_of self.new) ≡ T.files (inner_of self.old))
             ⊎ IsMoved from.now to.now (T.files (inner_of self.old)) (T.files (inner_of self.new))) }
+        ensures kept { T.aged (inner_of self.new) ≡ T.aged (inner_of self.old) }
         ensures refused { T.is_honest → IsErrOf result TreeFault.OutOfMemory → T.files (inner_of self.new) ≡ T.files (inner_of self.old) }
         ensures never { IsErrOf result TreeFault.TooLarge → ⊥ }
         ensures later { failed_in T.Tree self.old ≤ failed_in T.Tree self.new }
@@ -232,5 +239,18 @@ impl<T: Tree + Drop> Tree for FuseTree<T> {
 
     fn seed(&self) -> u64 {
         self.inner.seed()
+    }
+}
+
+impl<T: Aging + Drop> Aging for FuseTree<T> {
+    fn age(&mut self, alloc: Global, path: &[u8]) -> Result<(), TreeFault> {
+        match self.fuse.turn() {
+            Turn::Pass => self.inner.age(alloc, path),
+            Turn::Fail => Err(TreeFault::Device),
+            Turn::HalfDone => {
+                let _ = self.inner.age(alloc, path);
+                Err(TreeFault::Device)
+            }
+        }
     }
 }

@@ -1,6 +1,8 @@
 //! Trees of files, replacing files in them, and the stamps of names.
 #![tactic(auto)]
 
+mod aged;
+mod aging;
 mod fault;
 mod folder;
 mod folder_fault;
@@ -16,6 +18,8 @@ mod stamps;
 mod system_error;
 mod tree;
 
+pub use aged::AgedTree;
+pub use aging::Aging;
 pub use fault::{TreeError, TreeFault};
 pub use folder::FolderTree;
 pub use folder_fault::FolderFault;

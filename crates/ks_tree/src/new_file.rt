@@ -60,16 +60,17 @@ pub(crate) fn create_new<R: Files>(files: &R, place: &str, bytes: &[u8]) -> io::
     match opened {
         Ok(mut file) => {
             file.write_all(bytes)?;
-            file.set_times(FileTimes::new().set_modified(long_past()))
+            make_long_past(&file)
         }
         Err(error) if error.kind() == ErrorKind::AlreadyExists => Ok(()),
         Err(error) => Err(error),
     }
 }
 
-/// The first second of 1970. Some programs take the second before it for no time at all.
-fn long_past() -> SystemTime {
-    SystemTime::UNIX_EPOCH + Duration::from_secs(1)
+/// Gives a file the first second of 1970 as its time. Some programs take the second before it for no time at all.
+pub(crate) fn make_long_past<F: OpenFile>(file: &F) -> io::Result<()> {
+    let long_past = SystemTime::UNIX_EPOCH + Duration::from_secs(1);
+    file.set_times(FileTimes::new().set_modified(long_past))
 }
 
 /// How a new file is opened: to be written, and only where nothing stands, not even a link.

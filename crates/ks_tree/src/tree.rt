@@ -1,6 +1,6 @@
 //! A tree of files, by what each of its calls may do. Everything above this crate stands on this contract alone, so that it
 //! holds of a tree in memory, of one whose calls fail, and of a folder that acts as it says.
-ghost use Rattle.std.specs.Prelude.{◌≡◌, ◌≢◌, ◌⊎◌, ◌<◌, ◌≤◌, ℕ, List, Result, length, Some, None, IsSome, IfSome, IfOk, OnOk, OnErr, IsErrOf, option_map, ⊤};
+ghost use Rattle.std.specs.Prelude.{◌≡◌, ◌≢◌, ◌⊎◌, ◌<◌, ◌≤◌, ℕ, List, [], Result, length, Some, None, IsSome, IfSome, IfOk, OnOk, OnErr, IsErrOf, option_map, ⊤};
 ghost use Rattle.ks_symbols.specs.Lines.{max_bytes};
 ghost use Rattle.ks_tree.specs.declared.fault.TreeFault.{TreeFault};
 ghost use Rattle.ks_tree.specs.Files.{Files, content, kept_or, SameBut, IsHalfCreated, IsMoved, IsTooLarge, IsReadAt, HasRisen};
@@ -19,6 +19,9 @@ pub trait Tree {
     /// How often the device has failed.
     ghost failures: { Self → ℕ };
 
+    /// The paths whose files were made older than all others, in turn, of a tree that can (`Aging`).
+    ghost aged: { Self → List (List ℕ) } = { λ tree. [] };
+
     /// What a write is known to do: of the tree, the path, the bytes, the tree after the call and its answer. In a contract over
     /// any tree it says that the call was made, since nothing else gives it.
     ghost writes: { Self → List ℕ → List ℕ → Self → Result Unit TreeFault → Type 0 } = { λ old path bytes new answer. ⊤ };
@@ -35,6 +38,7 @@ pub trait Tree {
         ensures small { is_honest → IfOk result (λ found. (b : List ℕ) → content (files self.old) path.now ≡ Some b → length b ≤ max_bytes) }
         ensures too_large { is_honest → IsErrOf result TreeFault.TooLarge → IsTooLarge (content (files self.old) path.now) }
         ensures unchanged { is_honest → files self.new ≡ files self.old }
+        ensures kept { aged self.new ≡ aged self.old }
         ensures later { failures self.old ≤ failures self.new }
         ensures passed { OnOk result (failures self.new ≡ failures self.old) }
         ensures uncounted { IsErrOf result TreeFault.OutOfMemory → failures self.new ≡ failures self.old }
@@ -53,6 +57,7 @@ pub trait Tree {
         ensures found { is_honest → IfOk result (IsReadAt (content (files self.old) path.now) offset into.old into.new) }
         ensures within { IfOk result (λ found. IfSome found (λ n. n ≤ length into.new)) }
         ensures unchanged { is_honest → files self.new ≡ files self.old }
+        ensures kept { aged self.new ≡ aged self.old }
         ensures never { IsErrOf result TreeFault.TooLarge → ⊥ }
         ensures later { failures self.old ≤ failures self.new }
         ensures passed { OnOk result (failures self.new ≡ failures self.old) }
@@ -64,6 +69,7 @@ pub trait Tree {
         ensures written { is_honest → OnOk result (content (files self.new) path.now ≡ Some bytes.now) }
         ensures called { writes self.old path.now bytes.now self.new result }
         ensures others { is_honest → SameBut path.now (files self.old) (files self.new) }
+        ensures kept { aged self.new ≡ aged self.old }
         ensures refused { is_honest → IsErrOf result TreeFault.OutOfMemory → files self.new ≡ files self.old }
         ensures never { IsErrOf result TreeFault.TooLarge → ⊥ }
         ensures later { failures self.old ≤ failures self.new }
@@ -78,6 +84,7 @@ pub trait Tree {
         ensures called { creates self.old path.now bytes.now self.new result }
         ensures failed { is_honest → OnErr result (IsHalfCreated (content (files self.old) path.now) bytes.now (content (files self.new) path.now)) }
         ensures others { is_honest → SameBut path.now (files self.old) (files self.new) }
+        ensures kept { aged self.new ≡ aged self.old }
         ensures refused { is_honest → IsErrOf result TreeFault.OutOfMemory → files self.new ≡ files self.old }
         ensures never { IsErrOf result TreeFault.TooLarge → ⊥ }
         ensures later { failures self.old ≤ failures self.new }
@@ -90,6 +97,7 @@ pub trait Tree {
         requires differ { from.now ≢ to.now }
         requires there { is_honest → IsSome (content (files self.old) from.now) }
         ensures moved { is_honest → OnOk result (IsMoved from.now to.now (files self.old) (files self.new)) }
+        ensures kept { aged self.new ≡ aged self.old }
         ensures called { renames self.old from.now to.now self.new result }
         ensures failed { is_honest → OnErr result ((files self.new ≡ files self.old) ⊎ IsMoved from.now to.now (files self.old) (files self.new)) }
         ensures refused { is_honest → IsErrOf result TreeFault.OutOfMemory → files self.new ≡ files self.old }

@@ -1,6 +1,6 @@
 //! Calls broken off after every count of calls, in both modes.
 use crate::steps::{Step, answer, name};
-use ks_tree::{FuseMode, FuseTree, MemoryTree, Tree, touch_all};
+use ks_tree::{AgedTree, Aging, FuseMode, FuseTree, MemoryTree, Tree, touch_all};
 use std::alloc::{AllocError, Global};
 use std::test::Fail;
 
@@ -29,6 +29,45 @@ fn outcome(
         story.push_str(answer(alloc, &mut tree, Step::Read(path))?.as_str())?;
     }
     Ok(story)
+}
+
+/// Which of three files are aged behind a fuse, by their paths, with `.` or `!` for each call.
+fn aged(
+    alloc: Global,
+    passes: u64,
+    fails: Option<u64>,
+    mode: FuseMode,
+) -> Result<String, AllocError> {
+    let tree = AgedTree::new(alloc, MemoryTree::new(alloc));
+    let mut tree = FuseTree::new(tree, passes, fails, mode);
+    let mut story = String::new(alloc);
+    for path in ["a", "b", "c"] {
+        let outcome = tree.age(alloc, path.as_bytes());
+        story.push(if outcome.is_ok() { '.' } else { '!' })?;
+    }
+    let tree = tree.into_inner();
+    for path in tree.aged() {
+        story.push_str(str::from_utf8(path).unwrap_or("not text"))?;
+    }
+    Ok(story)
+}
+
+#[test]
+fn aging_fails_in_turn(rt: HostRuntime) -> Result<(), Fail> {
+    let (clean, half) = (FuseMode::Clean, FuseMode::Half);
+    for (passes, fails, mode, want) in [
+        (0, None, clean, "!!!"),
+        (1, None, clean, ".!!a"),
+        (3, None, clean, "...abc"),
+        (0, None, half, "!!!a"),
+        (1, None, half, ".!!ab"),
+        (0, Some(1), clean, "!..bc"),
+        (1, Some(1), half, ".!.abc"),
+    ] {
+        let got = aged(rt.alloc(), passes, fails, mode)?;
+        assert_eq!(rt; got.as_str(), want, "{passes} {fails:?} {mode:?}");
+    }
+    Ok(())
 }
 
 #[test]

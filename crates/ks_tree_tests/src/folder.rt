@@ -2,7 +2,7 @@
 //! what is then seen. Most tests are a scene, a row of deeds.
 use crate::steps::{STEPS, Step, run};
 use ks_symbols::MAX_BYTES;
-use ks_tree::{FolderTree, Tree, TreeFault};
+use ks_tree::{Aging, FolderTree, Tree, TreeFault};
 use std::alloc::{AllocError, Global};
 use std::fs::OpenOptions;
 use std::io::Write;
@@ -38,6 +38,8 @@ enum Deed<'a> {
     HasLength(&'a str, usize),
     /// A path that is no text is read, and a file that isn't there is moved: both fail.
     Strange,
+    /// The file at a path is aged, or it fails.
+    Age(&'a str, bool),
     /// The time of a file is the first second of 1970.
     IsLongPast(&'a str),
     /// Two files have one mode.
@@ -185,6 +187,10 @@ fn do_deed(
             assert_eq!(rt; length_of(host.alloc(), tree, path), Some(want), "{path}");
         }
         Deed::Strange => strange(rt, host.alloc(), tree),
+        Deed::Age(path, passes) => {
+            let aged = tree.age(host.alloc(), path.as_bytes());
+            assert_eq!(rt; aged.is_ok(), passes, "{path}");
+        }
         Deed::IsLongPast(path) => {
             assert!(rt; is_long_past(host, root, path)?, "{path}");
         }
@@ -527,6 +533,43 @@ const UP_TO_THE_LIMIT: &[Deed<'_>] = &[
 #[test]
 fn reads_up_to_the_limit(rt: HostRuntime) -> Result<(), Fail> {
     scene(&rt, &rt, "limit", UP_TO_THE_LIMIT)
+}
+
+const AGED: &[Deed<'_>] = &[
+    Deed::Others("x.o", Act::Put("object")),
+    Deed::Others("y.o", Act::LinkTo("x.o")),
+    Deed::Others("folder", Act::MakeFolder),
+    Deed::Others("locked.o", Act::Put("object")),
+    Deed::Others("locked.o", Act::Mode(0o444)),
+    Deed::Age("x.o", true),
+    Deed::IsLongPast("x.o"),
+    Deed::Steps(&[(Step::Read("x.o"), "object"), (Step::Read("y.o"), "object")]),
+    // what nobody may write can be aged by whom it belongs to
+    Deed::Age("locked.o", true),
+    Deed::IsLongPast("locked.o"),
+    // where there is no file there is none afterwards, and that is no failure
+    Deed::Age("none.o", true),
+    Deed::Age("no/where.o", true),
+    Deed::Steps(&[(Step::Read("none.o"), "none")]),
+    Deed::Failures(0),
+    Deed::Age("nowhere/below", true),
+    Deed::Age("x.o/below", false),
+    Deed::Told("x.o/below: Not a directory"),
+    Deed::Age("folder", false),
+    Deed::Told("folder: Is a directory"),
+    Deed::Failures(2),
+    // a file that was read ahead is as it was
+    Deed::Steps(&[
+        (Step::Write("z.o", "new"), "done"),
+        (Step::Read("z.o"), "new"),
+    ]),
+    Deed::Age("z.o", true),
+    Deed::Steps(&[(Step::Read("z.o"), "new")]),
+];
+
+#[test]
+fn a_file_is_aged(rt: HostRuntime) -> Result<(), Fail> {
+    scene(&rt, &rt, "aged", AGED)
 }
 
 const USUAL: &[Deed<'_>] = &[

@@ -1,10 +1,13 @@
 -- What is left behind the record of an object shows what was shown before.
-use Rattle.ks_engine.proofs.Prelude.{FollowsRecordedUnder, ◌≡◌, ◌≢◌, ◌⊎◌, inl, inr, ⊎_elim, ℕ, true, false, List, [], ◌∷◌, ◌++◌, Option, Some, Result, Ok, Err, IfOk, IfErr, IsTrue, sym, ◌∙◌, ap, refl, subst, arith, codes, nat_eq, append_assoc, length, ends_with, list_all, or_left, cases_Bool, and_parts, Decides-eqb, bytes_eq-Decides, ends_is, is_name, is_in, header_path, Dep, File, Config, Conventions, is_dep, config_names, rule_text, Files, content, kept_or, SameButBoth, temporary, auto_path, stamp_path, command_path, command_temporary, dotted, HasNumber, MakesStamps, apart, stamp-injective, ending-temporary, ending-auto, ending-header, ending-stamp, ending-command, EngineError, Draft, IsDraft, History, Shows, stamp, RecordPlan, IsRecordPlanUnder, IsRecordedUnder, IsRecordTriedUnder, at, is_own_file, RuleLeaves, RuleDone, RuleTried, IsDepfileRecorded, IsDepfileRefused, IsOldOrRule, FollowsDepfile, MadeStampsShow, rules, both_ways, or_right, or_cases, ◌<◌}
+use Rattle.ks_engine.proofs.Prelude.{Dialect, None, Role, listed_unless, rules_for, scanned_all, there, FollowsRecordedUnder, ◌≡◌, ◌≢◌, ◌⊎◌, inl, inr, ⊎_elim, ℕ, true, false, List, [], ◌∷◌, ◌++◌, Option, Some, Result, Ok, Err, IfOk, IfErr, IsTrue, sym, ◌∙◌, ap, refl, subst, arith, codes, nat_eq, append_assoc, length, ends_with, list_all, or_left, cases_Bool, and_parts, Decides-eqb, bytes_eq-Decides, ends_is, is_name, is_in, header_path, Dep, File, Config, Conventions, is_dep, config_names, rule_text, Files, content, kept_or, SameButBoth, temporary, auto_path, stamp_path, command_path, command_temporary, dotted, HasNumber, MakesStamps, apart, stamp-injective, ending-temporary, ending-auto, ending-header, ending-stamp, ending-command, EngineError, Draft, IsDraft, History, Shows, stamp, RecordPlan, IsRecordPlanUnder, IsRecordedUnder, IsRecordTriedUnder, at, is_own_file, RuleLeaves, RuleDone, RuleTried, IsDepfileRecorded, IsDepfileRefused, IsOldOrRule, FollowsDepfile, MadeStampsShow, rules, both_ways, or_right, or_cases, ◌<◌}
 use Rattle.ks_engine.specs.declared.recording.Recorded.{Recorded as Answer}
 use Rattle.ks_tree.proofs.PathLemmas.{ending}
 use Rattle.ks_engine.proofs.Reading.{ok_ok}
 use Rattle.ks_engine.proofs.Steps.{same_shows}
-use Rattle.ks_engine.proofs.RecordSteps.{count_names, record_follows_under}
+use Rattle.ks_fixdep.specs.declared.dep_error.DepError.{DepError}
+use Rattle.ks_fixdep.specs.declared.dependency_file.Header.{Header}
+use Rattle.ks_engine.specs.Depfile.{NamesCommand, ruled_by}
+use Rattle.ks_engine.proofs.RecordSteps.{all_found, count_names, drafted_of, made_of, record_follows_under}
 
 -- ---- the commands' own files
 
@@ -145,6 +148,41 @@ module _ (conventions : Conventions) {old new : Files} (m n : ℕ) (h : History)
         inr (inr (given, record { answer = is.answer; between = at is.between n next.0; recorded = next.1; history = refl; was = is.was; was_there = is.was_there; rule = next.2 })),
         next.3,
       )
+
+-- ---- the names of the command
+
+there_some : (d : List ℕ) (file : Option (List ℕ)) (text : List ℕ) → there d file ≡ Ok text → file ≡ Some text
+there_some d None text e = absurd cc
+there_some d (Some b) text e = search (rules, ok_ok)
+
+all_listed : (refusal : Option DepError) (all ps : List (List ℕ × Role)) → listed_unless refusal all ≡ Ok ps → ps ≡ all
+all_listed None all ps e = sym (ok_ok all ps e)
+all_listed (Some bad) all ps e = absurd cc
+
+-- the rule leaves the command file
+command_kept : (between new : Files) (d t text : List ℕ) (names made : List (List ℕ)) → is_own_file d ≡ false → ((x : List ℕ) → is_in names x ≡ true → IsTrue (is_name x))
+    → RuleLeaves between new d names text made → content new (command_path t) ≡ content between (command_path t)
+command_kept between new d t text names made free legal leaves = leaves.others (command_path t)
+    (λ x among. apart (ending-command t) (ending-stamp x (legal x (leaves.within x among))) (λ e. omega arith)) (λ e. free_not d (command_path t) free (own-command t) (sym e))
+    (apart (ending-command t) (ending-temporary d) (λ e. omega arith))
+
+pub names_command : (header : Header) (dialect : Dialect) (old new : Files) (d t c : List ℕ) (answer : Answer) → IsDepfileRecorded (ruled_by header dialect) old new d t c answer
+    → NamesCommand header dialect old new d t c
+names_command header dialect old new d t c answer is =
+    let under = ruled_by header dialect in
+    let plan = is.recorded.plan in
+    let planned = is.recorded.planned in
+    let made = made_of under old d t c plan planned.planned in
+    let parts = drafted_of t c made.ps made.g (all_found made) plan made.draft in
+    record {
+      was = made.text;
+      was_there = there_some d (content old d) made.text made.at;
+      found = made.found;
+      scanned = subst (λ ps. scanned_all (rules_for dialect t) old ps ≡ Ok made.found) (all_listed _ _ made.ps made.listed) made.all;
+      file = plan.file;
+      written = command_kept is.between new d t _ plan.names plan.names is.free (legal_names under old d t c plan planned) is.rule.leaves ∙ is.recorded.written;
+      names = count_names under old d t c plan planned ∙ parts.names;
+    }
 
 -- ---- the dependency file
 

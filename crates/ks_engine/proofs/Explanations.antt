@@ -1,5 +1,5 @@
 -- Why an object is stale: what a shown tree gives of a recorded object, and that places are first.
-use Rattle.ks_engine.proofs.Prelude.{map, ◌≡◌, ◌⊎◌, inl, inr, ℕ, List, [], ◌∷◌, ◌++◌, Some, Result, Ok, Err, true, false, nat_lt, ◌∙◌, ap, refl, subst, get_or, append-nil, bytes_eq, filter, not, All, list_all, list_any, cond-false, cond-true, not-true, All-nil, All-head, All-tail, All-append, All-map, All-same, All-filter, filter_passes, list_any-append, list_any_at, bytes_eq-Decides, is_in, Dep, Config, Role, all_noted, noted, new_names, deps_after, source_of, record_of, Files, EngineError, Cause, Explanation, IsGivenUpAnswer, History, LastRecord, done, last_record, found, suspect_since, Shows, stamp, placed, names_placed, cause, IsByStamps, IsExplained, listed, IsExplanationJudged, first_with, listed_last, is_listed, PlacesAreFirst, PlacesAreTheirs, rules, arith, common_steps, cond_both, All-push}
+use Rattle.ks_engine.proofs.Prelude.{map, ◌≡◌, ◌⊎◌, inl, inr, ℕ, List, [], ◌∷◌, ◌++◌, Some, Result, Ok, Err, true, false, nat_lt, ◌∙◌, ap, refl, subst, get_or, append-nil, bytes_eq, filter, not, All, list_all, list_any, cond-false, cond-true, not-true, All-nil, All-head, All-tail, All-append, All-map, All-same, All-filter, filter_passes, list_any-append, list_any_at, bytes_eq-Decides, is_in, Dep, Config, Role, all_noted, noted, new_names, deps_after, source_of, record_of, Files, EngineError, Cause, Explanation, IsGivenUpAnswer, History, LastRecord, done, last_record, found, suspect_since, Shows, stamp, placed, names_placed, cause, IsByStamps, IsExplained, listed, IsExplanationJudged, first_with, listed_last, is_listed, last_path, length, PlacesAreFirst, PlacesAreTheirs, rules, arith, common_steps, cond_both, All-push}
 use Rattle.ks_fixdep.specs.declared.dependency_file.Role.TheVariants as role
 use Rattle.ks_engine.specs.declared.question.Limit.TheVariants.{All as Every}
 use Rattle.ks_engine.proofs.Asking.{asked_shown, by_stamps, gave_up_told, judges, of_record, same_on}
@@ -82,9 +82,9 @@ first_next place paths before names lists deps rest =
         )
 
 first_after : (place : List ℕ) (before : List (List ℕ)) (ps : List (List ℕ × Role)) (lists : List (List (List ℕ)))
-    → All (IsFirst (listed_last place ps) lists before) (placed place (deps_after before ps lists))
-first_after place before [] lists = All-nil _
-first_after place before (p ∷ ps) [] = All-nil _
+    → All (IsFirst (listed_last place ps lists) lists before) (placed place (deps_after before ps lists))
+first_after place before ps [] = All-nil _
+first_after place before [] (names ∷ lists) = search (rules, first_next, (first_after place (all_noted before names) [] lists))
 first_after place before ((path, role.Listed) ∷ ps) (names ∷ lists) = search (rules, first_next, (first_after path (all_noted before names) ps lists))
 first_after place before ((path, role.Source) ∷ ps) (names ∷ lists) = search (rules, first_next, (first_after place (all_noted before names) ps lists))
 first_after place before ((path, role.Scanned) ∷ ps) (names ∷ lists) = search (rules, first_next, (first_after place (all_noted before names) ps lists))
@@ -92,15 +92,24 @@ first_after place before ((path, role.Scanned) ∷ ps) (names ∷ lists) = searc
 pub places_first : PlacesAreFirst
 places_first target command ps names = λ k d within. (first_after (source_of ps) [] ps names k d within).0
 
-all_listed : (place : List ℕ) (ps : List (List ℕ × Role)) → list_all is_listed ps ≡ true → listed_last place ps ≡ map (λ q. q.0) ps
-all_listed place [] are = refl
-all_listed place (p ∷ ps) are = grind (arith, common_steps, (all_listed p.0 ps))
+past_all : (place : List ℕ) (past : List (List (List ℕ))) → listed_last place [] past ≡ map (λ _. place) past
+past_all place [] = refl
+past_all place (names ∷ past) = ap (λ l. place ∷ l) (past_all place past)
 
-after_source : (source : List ℕ × Role) (ps : List (List ℕ × Role)) → list_all is_listed ps ≡ true
-    → listed_last source.0 (source ∷ ps) ≡ map (λ q. q.0) (source ∷ ps)
-after_source source ps are = grind (arith, common_steps, (all_listed source.0 ps))
+all_listed : (before : List ℕ × Role) (ps : List (List ℕ × Role)) (names past : List (List (List ℕ))) → list_all is_listed ps ≡ true → length names ≡ length ps
+    → listed_last before.0 ps (names ++ past) ≡ map (λ q. q.0) ps ++ map (λ _. last_path before ps) past
+all_listed before [] [] past are each = past_all before.0 past
+all_listed before (p ∷ ps) (x ∷ names) past are each = grind (arith, common_steps, (all_listed p ps names past))
+all_listed before [] (x ∷ names) past are each = absurd cc
+all_listed before (p ∷ ps) [] past are each = absurd cc
+
+after_source : (source : List ℕ × Role) (ps : List (List ℕ × Role)) (names past : List (List (List ℕ))) → list_all is_listed ps ≡ true
+    → length names ≡ length (source ∷ ps)
+    → listed_last source.0 (source ∷ ps) (names ++ past) ≡ map (λ q. q.0) (source ∷ ps) ++ map (λ _. last_path source ps) past
+after_source source ps [] past are each = absurd cc
+after_source source ps (x ∷ names) past are each = grind (arith, common_steps, (all_listed source ps names past))
 
 pub places_theirs : PlacesAreTheirs
-places_theirs target command source ps names are =
-    subst (λ paths. All (λ p. first_with p.0 paths names ≡ Some p.1) (names_placed (record_of target command (source ∷ ps) names)))
-    (after_source source ps are) (places_first target command (source ∷ ps) names)
+places_theirs target command source ps names past are each =
+    subst (λ paths. All (λ p. first_with p.0 paths (names ++ past) ≡ Some p.1) (names_placed (record_of target command (source ∷ ps) (names ++ past))))
+    (after_source source ps names past are each) (places_first target command (source ∷ ps) (names ++ past))

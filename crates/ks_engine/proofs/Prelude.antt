@@ -39,7 +39,7 @@ pub use Rattle.ks_engine.specs.Costs.{AreCosts, AreOnce, AreTallies, IsTally, by
 pub use Rattle.ks_engine.specs.Depfile.{FollowsDepfile, IsDepfileRecorded, IsDepfileRefused, IsOldOrRule, RuleDone, RuleLeaves, RuleTried}
 unfoldable pub use Rattle.ks_engine.specs.Depfile.{is_own_file}
 pub use Rattle.ks_engine.specs.Drafts.{IsDraft}
-pub use Rattle.ks_engine.specs.Explained.{IsExplanationJudged, IsExplanationOn, PlacesAreFirst, PlacesAreTheirs, first_with, is_listed, listed_last}
+pub use Rattle.ks_engine.specs.Explained.{IsExplanationJudged, IsExplanationOn, PlacesAreFirst, PlacesAreTheirs, first_with, is_listed, last_path, listed_last}
 pub use Rattle.ks_engine.specs.FileRuns.{FileRun, FileState, IsAnswerOn, LeavesFiles, StepsTo, state}
 pub use Rattle.ks_engine.specs.Follows.{FollowsRecordedUnder, FollowsRecord, FollowsRecordUnder, FollowsSync, IsRecordEvent, TreeState, at}
 pub use Rattle.ks_engine.specs.History.{Begun, Broken, History, LastRecord, NoneBroken, Recorded, Synced, WasSynced, before, done, last_record}
@@ -49,12 +49,12 @@ pub use Rattle.ks_engine.specs.LastSync.{OldAuto, last_generation, read_unless, 
 unfoldable pub use Rattle.ks_engine.specs.LastSync.{old_auto}
 pub use Rattle.ks_engine.specs.Laws.{AreNotNumbered, EmptyTreeShows, HasChangeAfter, MadeStampsShow, NotNumberedTreeShows, PlansAreOne, SuspicionsHaveCauses, UntypedTreeShows, UsualTreeShows}
 pub use Rattle.ks_engine.specs.Legal.{AreAllRenewed, IsHistory, IsLegalSync, MayBeHeader}
-pub use Rattle.ks_engine.specs.Memos.{AreScanned, Grows, IsKept, IsMemoOf, IsNoSource, IsStamp, pairs_of, value_of, with_pair}
+pub use Rattle.ks_engine.specs.Memos.{AreScanned, Grows, IsKept, IsMemoOf, IsNoSource, IsStamp, are_placed, pairs_of, value_of, with_pair}
 pub use Rattle.ks_engine.specs.OtherRecords.{OtherRecordsDoNotMatter, own_history}
 pub use Rattle.ks_engine.specs.Questions.{IsAnswerTo, IsSeen, limit_of}
 pub use Rattle.ks_engine.specs.Recorded.{IsRecordPlanUnder, IsRecordRefused, IsRecordRefusedUnder, IsRecordTried, IsRecordTriedUnder, IsRecorded, IsRecordedUnder, RecordPlan, drafted, numbered, record_plan, usual}
 unfoldable pub use Rattle.ks_engine.specs.Recorded.{record_plan_under}
-pub use Rattle.ks_engine.specs.Recording.{followed, listed_unless, scanned, there, words}
+pub use Rattle.ks_engine.specs.Recording.{followed, listed_unless, scanned, there, with_command, words}
 unfoldable pub use Rattle.ks_engine.specs.Recording.{scanned_all}
 pub use Rattle.ks_engine.specs.Refusals.{IsGivenUp, IsGivenUpAnswer, and_then, of_auto, of_source, of_stamp, of_tree}
 pub use Rattle.ks_engine.specs.Runs.{Follows, FollowsStale, IsShown, Leads, Leaves, Run, Step}

@@ -1,6 +1,7 @@
 -- A record goes on with each history that the files show.
-use Rattle.ks_engine.proofs.Prelude.{names_of, ◌≡◌, ◌⊎◌, inl, inr, ⊎_elim, ℕ, ◌<◌, ◌≤◌, List, [], ◌∷◌, Some, Result, Ok, Err, IfOk, IfErr, sym, ◌∙◌, ap, refl, length, ltb-false, eqb-false, max_bytes, Conventions, Dialect, Role, Rules, rules_for, usual, CommandRecord, command_text, config_names, record_of, Files, content, SameButBoth, auto_path, command_path, command_temporary, EngineError, and_then, History, done, WasSynced, Shows, IsCommandFile, at, FollowsRecord, FollowsRecordUnder, IsRecordEvent, OldAuto, synced_at, last_generation, scanned_all, RecordPlan, numbered, drafted, record_plan_under, IsRecordPlanUnder, IsRecorded, IsRecordedUnder, IsRecordRefused, IsRecordRefusedUnder, rules}
+use Rattle.ks_engine.proofs.Prelude.{names_of, there, ◌≡◌, ◌⊎◌, inl, inr, ⊎_elim, ℕ, ◌<◌, ◌≤◌, List, [], ◌∷◌, Some, Result, Ok, Err, IfOk, IfErr, sym, ◌∙◌, ap, refl, length, ltb-false, eqb-false, max_bytes, Conventions, Dialect, Role, Rules, rules_for, usual, CommandRecord, command_text, config_names, record_of, Files, content, SameButBoth, auto_path, command_path, command_temporary, EngineError, and_then, History, done, WasSynced, Shows, IsCommandFile, at, FollowsRecord, FollowsRecordUnder, IsRecordEvent, OldAuto, synced_at, last_generation, scanned_all, with_command, RecordPlan, numbered, drafted, record_plan_under, IsRecordPlanUnder, IsRecorded, IsRecordedUnder, IsRecordRefused, IsRecordRefusedUnder, rules}
 use Rattle.ks_engine.specs.declared.recording.Recorded.{Recorded as Answer}
+use Rattle.ks_engine.specs.Recording.{listed_without}
 use Rattle.ks_engine.proofs.Heart.{synced_or_not}
 use Rattle.ks_engine.proofs.LowerLaws.{names_of_record, written_reads}
 use Rattle.ks_engine.proofs.Reading.{ok_ok, err_ok}
@@ -13,16 +14,23 @@ then_made : {A B : Type 0} (step : Result A EngineError) (next : A → Result B 
 then_made step next y e = search rules
 
 -- what a plan was made of
-record Made (r : Rules) (files : Files) (t c : List ℕ) (plan : RecordPlan) : Type 0 where
-  ps : List (List ℕ × Role)
-  g : ℕ
-  found : List (List (List ℕ))
-  synced : last_generation (content files auto_path) ≡ Ok g
-  all : scanned_all r files ps ≡ Ok found
-  draft : drafted t c ps g found ≡ Ok plan
+pub record Made (conventions : Conventions) (files : Files) (d t c : List ℕ) (plan : RecordPlan) : Type 0 where
+  pub text : List ℕ
+  pub ps : List (List ℕ × Role)
+  pub g : ℕ
+  pub found : List (List (List ℕ))
+  pub at : there d (content files d) ≡ Ok text
+  pub listed : listed_without conventions.header text ≡ Ok ps
+  pub synced : last_generation (content files auto_path) ≡ Ok g
+  pub all : scanned_all (rules_for conventions.dialect t) files ps ≡ Ok found
+  pub draft : drafted t c ps g (with_command conventions.scans_command (rules_for conventions.dialect t) c found) ≡ Ok plan
 
-made_of : (conventions : Conventions) (files : Files) (d t c : List ℕ) (plan : RecordPlan) → record_plan_under conventions files d t c ≡ Ok plan
-    → Made (rules_for conventions.dialect t) files t c plan
+-- what is found of it
+abbrev pub all_found : {conventions : Conventions} {files : Files} {d t c : List ℕ} {plan : RecordPlan} → Made conventions files d t c plan → List (List (List ℕ))
+all_found {conventions} {files} {d} {t} {c} made = with_command conventions.scans_command (rules_for conventions.dialect t) c made.found
+
+pub made_of : (conventions : Conventions) (files : Files) (d t c : List ℕ) (plan : RecordPlan) → record_plan_under conventions files d t c ≡ Ok plan
+    → Made conventions files d t c plan
 unfolding record_plan_under
 made_of conventions files d t c plan e = search (rules, then_made)
 
@@ -39,17 +47,12 @@ drafted_of t c ps g found plan e = search (rules, err_ok, ok_ok, ltb-false)
 
 -- ---- the names of a plan are those of its command file
 
--- there is one list for each prerequisite
-found_each : (r : Rules) (files : Files) (ps : List (List ℕ × Role)) (found : List (List (List ℕ))) → scanned_all r files ps ≡ Ok found → length ps ≡ length found
-unfolding scanned_all
-found_each r files [] found e = search rules
-found_each r files (p ∷ ps) found e = search (rules, (found_each r files ps))
-
 pub count_names : (conventions : Conventions) (files : Files) (d t c : List ℕ) (plan : RecordPlan) → IsRecordPlanUnder conventions files d t c plan → config_names plan.file.deps ≡ plan.names
 count_names conventions files d t c plan is =
     let made = made_of conventions files d t c plan is.planned in
-    let parts = drafted_of t c made.ps made.g made.found plan made.draft in
-    ap (λ (f : CommandRecord). config_names f.deps) parts.file ∙ names_of_record made.ps made.found (found_each _ files made.ps made.found made.all) ∙ sym parts.names
+    let found = all_found made in
+    let parts = drafted_of t c made.ps made.g found plan made.draft in
+    ap (λ (f : CommandRecord). config_names f.deps) parts.file ∙ names_of_record made.ps found ∙ sym parts.names
 
 -- ---- the history goes on
 
@@ -65,7 +68,7 @@ plan_records : (under : Conventions) (files : Files) (h : History) (d t c header
     → (0 < done h) × (plan.generation ≡ done h) × IsCommandFile t (record { command = c; names = plan.names; header = header; past = h }) (command_text plan.file)
 plan_records under files h d t c header plan shows is =
     let made = made_of under files d t c plan is.planned in
-    let parts = drafted_of t c made.ps made.g made.found plan made.draft in
+    let parts = drafted_of t c made.ps made.g (all_found made) plan made.draft in
     let synced = plan_synced files h made.g shows made.synced in
     search (rules, written_reads, count_names, parts.file)
 

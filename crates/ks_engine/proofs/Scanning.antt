@@ -1,5 +1,5 @@
 -- Prerequisites scanned one after the other.
-use Rattle.ks_engine.proofs.Prelude.{add-one, ◌≡◌, ◌<◌, Bool, true, nat_lt, get_or, length-append, ℕ, ◌+◌, ◌≤◌, List, [], ◌∷◌, ◌++◌, Some, Result, Ok, Err, length, drop, append_assoc, append-nil, arith, slice_get, drop-cons, list_all, and_from, and_parts, lt-ltb, ltb-true, drop_all, get_or_append_left, map-append, list_all-append, picked, Grows, slice_get_within, get_or_from_slice_get, Role, Rules, Files, content, scanned, scanned_all, followed, EngineError, rules}
+use Rattle.ks_engine.proofs.Prelude.{are_placed, add-one, ap, ◌∙◌, get_or-append_seam, ◌≡◌, ◌<◌, Bool, true, nat_lt, get_or, length-append, ℕ, ◌+◌, ◌≤◌, List, [], ◌∷◌, ◌++◌, Some, Result, Ok, Err, length, drop, append_assoc, append-nil, arith, slice_get, drop-cons, list_all, and_from, and_parts, lt-ltb, ltb-true, drop_all, get_or_append_left, map-append, list_all-append, picked, Grows, slice_get_within, get_or_from_slice_get, Role, Rules, Files, content, scanned, scanned_all, followed, EngineError, rules}
 
 -- the names found so far, and then those
 abbrev pub following : List (List (List ℕ)) → Result (List (List (List ℕ))) EngineError → Result (List (List (List ℕ))) EngineError
@@ -27,9 +27,6 @@ scanned_end r files ps i found whole past before = search (rules, drop_all, appe
 
 -- ---- the places of sources
 
-abbrev pub are_placed : List (List (List ℕ)) → List ℕ → Bool
-are_placed found places = list_all (λ i. nat_lt i (length found)) places
-
 picked_longer : (found more : List (List (List ℕ))) (places : List ℕ) → are_placed found places ≡ true
     → (are_placed (found ++ more) places ≡ true) × (picked (found ++ more) places ≡ picked found places)
 picked_longer found more [] placed = search rules
@@ -45,3 +42,10 @@ pub picked_next : (found later : List (List (List ℕ))) (places all : List ℕ)
     → (are_placed later all ≡ true) × (picked later all ≡ picked found places ++ get_or later i [] ∷ [])
 picked_next found later places all i grows placed here is =
     let old = picked_longer found grows.0 places placed in search (rules, list_all-append, map-append, and_from, lt-ltb, is, grows.1)
+
+-- .. and of one that was scanned just now
+pub picked_last : (found later : List (List (List ℕ))) (places all : List ℕ) (names : List (List ℕ)) (place : ℕ) → later ≡ found ++ names ∷ [] → place ≡ length found
+    → are_placed found places ≡ true → all ≡ places ++ place ∷ [] → picked later all ≡ picked found places ++ names ∷ []
+picked_last found later places all names place grown at placed is =
+    let last : (place < length later) × (get_or later place [] ≡ names) = search (rules, length-append, get_or-append_seam) in
+    (picked_next found later places all place (names ∷ [], grown) placed last.0 is).1 ∙ ap (λ x. picked found places ++ x ∷ []) last.1

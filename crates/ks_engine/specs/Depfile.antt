@@ -1,17 +1,24 @@
 -- What recording an object leaves of its dependency file, for a build that goes by that file.
-use Rattle.std.specs.Prelude.{◌≡◌, ◌≢◌, ◌⊎◌, ◌||◌, ℕ, Bool, true, false, List, [], Option, Some, Result, Ok, Err, codes, bytes_eq, nat_eq}
+use Rattle.std.specs.Prelude.{◌≡◌, ◌≢◌, ◌⊎◌, ◌||◌, ◌++◌, ◌∷◌, ℕ, Bool, true, false, List, [], Option, Some, Result, Ok, Err, codes, bytes_eq, nat_eq}
 use Rattle.std.specs.List.{starts_with, ends_with}
 use Rattle.ks_symbols.specs.Names.{is_in, header_path}
+use Rattle.ks_symbols.specs.declared.dialect.Dialect.{Dialect}
 use Rattle.ks_fixdep.specs.declared.dependency_file.Header.{Header}
+use Rattle.ks_fixdep.specs.CommandFile.{CommandRecord, command_text}
+use Rattle.ks_fixdep.specs.DependencyFile.{prerequisites_without}
+use Rattle.ks_fixdep.specs.Dialects.{names_in_as, rules_for}
+use Rattle.ks_fixdep.specs.FoundNames.{names_of}
+use Rattle.ks_fixdep.specs.Record.{config_names}
 use Rattle.ks_fixdep.specs.Rule.{rule_text}
 use Rattle.ks_tree.specs.Files.{Files, content, kept_or}
-use Rattle.ks_tree.specs.Paths.{stamp_path, temporary}
+use Rattle.ks_tree.specs.Paths.{command_path, stamp_path, temporary}
 use Rattle.ks_engine.specs.declared.conventions.Conventions.{Conventions}
 use Rattle.ks_engine.specs.declared.error.EngineError.{EngineError}
 use Rattle.ks_engine.specs.declared.error.EngineError.TheVariants.{BadPath}
 use Rattle.ks_engine.specs.declared.recording.Recorded.{Recorded as RecordAnswer}
 use Rattle.ks_engine.specs.declared.depfile.Ruled.{Ruled}
 use Rattle.ks_engine.specs.Refusals.{IsGivenUp}
+use Rattle.ks_engine.specs.Recording.{scanned_all}
 use Rattle.ks_engine.specs.Recorded.{RecordPlan, IsRecordedUnder, IsRecordRefusedUnder}
 use Rattle.ks_engine.specs.Drafts.{IsDraft}
 use Rattle.ks_engine.specs.Follows.{TreeState, IsSame, FollowsRecordedUnder, FollowsRecordUnder}
@@ -21,6 +28,10 @@ unfoldable pub is_own_file : List ℕ → Bool
 is_own_file path =
     starts_with nat_eq path (codes "include/config/") || bytes_eq path header_path || ends_with nat_eq path (codes ".cmd")
     || ends_with nat_eq path (codes ".tmp")
+
+-- How an object is read that is recorded so: by this header, and with the words of its command.
+abbrev pub ruled_by : Header → Dialect → Conventions
+ruled_by header dialect = record { header = header; dialect = dialect; scans_command = true }
 
 -- ---- after the record
 
@@ -58,6 +69,16 @@ pub record IsDepfileRecorded (conventions : Conventions) (old new : Files) (depf
   pub was : List ℕ
   pub was_there : content old depfile ≡ Some was
   pub rule : RuleDone between new depfile recorded.plan.names (rule_text conventions.header was recorded.plan.names)
+
+-- The command file that is left names what was found in the prerequisites, in their order, and then what the words of the command do.
+pub record NamesCommand (header : Header) (dialect : Dialect) (old new : Files) (depfile target command : List ℕ) : Type 0 where
+  pub was : List ℕ
+  pub was_there : content old depfile ≡ Some was
+  pub found : List (List (List ℕ))
+  pub scanned : scanned_all (rules_for dialect target) old (prerequisites_without header was) ≡ Ok found
+  pub file : CommandRecord
+  pub written : content new (command_path target) ≡ Some (command_text file)
+  pub names : config_names file.deps ≡ names_of (found ++ names_in_as (rules_for dialect target) command ∷ [])
 
 -- It was recorded, and given up after that.
 pub record IsDepfileBroken (conventions : Conventions) (old new : Files) (depfile target command : List ℕ) : Type 0 where

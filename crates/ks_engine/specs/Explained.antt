@@ -1,5 +1,5 @@
 -- Why an object is stale, by histories: all of its names that were touched since its record, each with the file after which it stands.
-use Rattle.std.specs.Prelude.{◌≡◌, ◌⊎◌, ℕ, List, [], ◌∷◌, Option, Some, None, Result, Ok, Bool, true, false, IfOk, IsTrue, map, filter, if◌then◌else◌}
+use Rattle.std.specs.Prelude.{◌≡◌, ◌⊎◌, ℕ, List, [], ◌∷◌, ◌++◌, length, Option, Some, None, Result, Ok, Bool, true, false, IfOk, IsTrue, map, filter, if◌then◌else◌}
 use Rattle.std.specs.List.{All, list_all}
 use Rattle.ks_symbols.specs.Names.{is_in}
 use Rattle.ks_fixdep.specs.declared.dependency_file.Role.{Role}
@@ -45,12 +45,13 @@ first_with x [] lists = None
 first_with x (path ∷ paths) [] = None
 first_with x (path ∷ paths) (names ∷ lists) = if is_in names x then Some path else first_with x paths lists
 
--- for each prerequisite the path that is listed last, its own included
-abbrev pub listed_last : List ℕ → List (List ℕ × Role) → List (List ℕ)
-listed_last place [] = []
-listed_last place ((path, role.Listed) ∷ ps) = path ∷ listed_last path ps
-listed_last place ((path, role.Source) ∷ ps) = place ∷ listed_last place ps
-listed_last place ((path, role.Scanned) ∷ ps) = place ∷ listed_last place ps
+-- for each prerequisite the path that is listed last, its own included; and for each list of names past them the last of all
+abbrev pub listed_last : List ℕ → List (List ℕ × Role) → List (List (List ℕ)) → List (List ℕ)
+listed_last place ps [] = []
+listed_last place [] (names ∷ lists) = place ∷ listed_last place [] lists
+listed_last place ((path, role.Listed) ∷ ps) (names ∷ lists) = path ∷ listed_last path ps lists
+listed_last place ((path, role.Source) ∷ ps) (names ∷ lists) = place ∷ listed_last place ps lists
+listed_last place ((path, role.Scanned) ∷ ps) (names ∷ lists) = place ∷ listed_last place ps lists
 
 -- whether it has a line of its own
 abbrev pub is_listed : List ℕ × Role → Bool
@@ -58,15 +59,23 @@ is_listed (path, role.Listed) = true
 is_listed (path, role.Source) = false
 is_listed (path, role.Scanned) = false
 
+-- the last of them
+abbrev pub last_path : List ℕ × Role → List (List ℕ × Role) → List ℕ
+last_path p [] = p.0
+last_path p (q ∷ ps) = last_path q ps
+
 -- In the command file of a record each name stands after the first prerequisite in which it was found. A scanned one has no line of its own: its
--- names stand after the last that has one.
+-- names stand after the last that has one. So do those that are found past all prerequisites, in the words of the command.
 abbrev pub PlacesAreFirst : Type 0
 PlacesAreFirst =
     (target command : List ℕ) (ps : List (List ℕ × Role)) (names : List (List (List ℕ)))
-    → All (λ p. first_with p.0 (listed_last (source_of ps) ps) names ≡ Some p.1) (names_placed (record_of target command ps names))
+    → All (λ p. first_with p.0 (listed_last (source_of ps) ps names) names ≡ Some p.1) (names_placed (record_of target command ps names))
 
--- Where all prerequisites after the source are listed, as those of a single rule are, it is that prerequisite itself.
+-- Where all prerequisites after the source are listed, as those of a single rule are, it is that prerequisite itself. The names past them, in the
+-- words of the command, stand after the last one.
 abbrev pub PlacesAreTheirs : Type 0
 PlacesAreTheirs =
-    (target command : List ℕ) (source : List ℕ × Role) (ps : List (List ℕ × Role)) (names : List (List (List ℕ))) → IsTrue (list_all is_listed ps)
-    → All (λ p. first_with p.0 (map (λ q. q.0) (source ∷ ps)) names ≡ Some p.1) (names_placed (record_of target command (source ∷ ps) names))
+    (target command : List ℕ) (source : List ℕ × Role) (ps : List (List ℕ × Role)) (names past : List (List (List ℕ))) → IsTrue (list_all is_listed ps)
+    → length names ≡ length (source ∷ ps)
+    → All (λ p. first_with p.0 (map (λ q. q.0) (source ∷ ps) ++ map (λ _. last_path source ps) past) (names ++ past) ≡ Some p.1)
+    (names_placed (record_of target command (source ∷ ps) (names ++ past)))

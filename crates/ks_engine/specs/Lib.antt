@@ -7,6 +7,7 @@ pub mod SyncPlan
 pub mod Synchronised
 pub mod Causes
 pub mod Asked
+pub mod Aged
 pub mod BuildStates
 pub mod Judged
 pub mod Explained

@@ -1,6 +1,6 @@
 -- What a command has read of a tree, and keeps: each thing kept is what the files say.
-use Rattle.std.specs.Prelude.{◌≡◌, ◌≢◌, ◌<◌, ◌++◌, ℕ, List, [], ◌∷◌, Option, Some, Ok, IsTrue, string_bytes, vec_items, get_or, length, map, bytes_eq, if◌then◌else◌}
-use Rattle.std.specs.List.{All}
+use Rattle.std.specs.Prelude.{◌≡◌, ◌≢◌, ◌<◌, ◌++◌, ℕ, Bool, nat_lt, List, [], ◌∷◌, Option, Some, Ok, IsTrue, string_bytes, vec_items, get_or, length, map, bytes_eq, if◌then◌else◌}
+use Rattle.std.specs.List.{All, list_all}
 use Rattle.std.specs.Map.{lookup}
 use Rattle.ks_symbols.specs.Names.{is_name}
 use Rattle.ks_tree.specs.Files.{Files, content}
@@ -36,6 +36,10 @@ IsKept r files found path place = (place < length found) × (scanned r path (con
 
 abbrev pub AreScanned : Rules → Files → List (List (List ℕ)) → List (List ℕ × ℕ) → Type 0
 AreScanned r files found kept = All (λ s. IsKept r files found s.0 s.1) kept
+
+-- each of these places is one of a source
+abbrev pub are_placed : List (List (List ℕ)) → List ℕ → Bool
+are_placed found places = list_all (λ i. nat_lt i (length found)) places
 
 -- new begins with old
 abbrev pub Grows : List (List (List ℕ)) → List (List (List ℕ)) → Type 0

@@ -1,5 +1,5 @@
 -- What recording an object comes to, and what it leaves.
-use Rattle.std.specs.Prelude.{◌≡◌, ◌⊎◌, ℕ, List, Some, Result, Ok, Err, nat_lt, length, if◌then◌else◌}
+use Rattle.std.specs.Prelude.{◌≡◌, ◌⊎◌, ℕ, false, List, Some, Result, Ok, Err, nat_lt, length, if◌then◌else◌}
 use Rattle.ks_symbols.specs.Lines.{max_bytes}
 use Rattle.ks_fixdep.specs.Dialects.{rules_for}
 use Rattle.ks_symbols.specs.declared.dialect.Dialect.{Dialect}
@@ -16,13 +16,13 @@ use Rattle.ks_engine.specs.declared.error.EngineError.TheVariants.{TooLarge}
 use Rattle.ks_engine.specs.declared.recording.Recorded.{Recorded}
 use Rattle.ks_engine.specs.Refusals.{IsGivenUp, and_then}
 use Rattle.ks_engine.specs.LastSync.{last_generation}
-use Rattle.ks_engine.specs.Recording.{words, there, listed_without, scanned_all}
+use Rattle.ks_engine.specs.Recording.{words, there, listed_without, scanned_all, with_command}
 
 -- a record against which no refusal stands
 pub record RecordPlan : Type 0 where
   pub file : CommandRecord
   pub generation : ℕ
-  -- the names found in all prerequisites
+  -- the names found in all prerequisites, and in the command where it is scanned
   pub names : List (List ℕ)
 
 -- the command file of a generation
@@ -35,7 +35,7 @@ drafted target command ps g found =
     if nat_lt max_bytes (length (command_text file)) then Err TooLarge else Ok (record { file = file; generation = g; names = names_of found })
 
 -- What is to be done, or why it is refused: the words, the dependency file, auto.conf, each prerequisite but the header, by the rules for the target,
--- and then what would be written.
+-- and the command where it is scanned; and then what would be written.
 unfoldable pub record_plan_under : Conventions → Files → List ℕ → List ℕ → List ℕ → Result RecordPlan EngineError
 record_plan_under conventions files depfile target command =
     and_then (words depfile target command) (λ _.
@@ -43,7 +43,7 @@ record_plan_under conventions files depfile target command =
     and_then (listed_without conventions.header d) (λ ps.
     and_then (last_generation (content files auto_path)) (λ g.
     and_then (scanned_all (rules_for conventions.dialect target) files ps) (λ found.
-    drafted target command ps g found)))))
+    drafted target command ps g (with_command conventions.scans_command (rules_for conventions.dialect target) command found))))))
 
 -- The plan for these files and words; its parts are legal.
 pub record IsRecordPlanUnder (conventions : Conventions) (files : Files) (depfile target command : List ℕ) (plan : RecordPlan) : Type 0 where
@@ -72,10 +72,10 @@ IsRecordRefusedUnder conventions old new depfile target command e =
     ((record_plan_under conventions old depfile target command ≡ Err e) × (new ≡ old))
     ⊎ (IsGivenUp e × ((new ≡ old) ⊎ IsRecordTriedUnder conventions old new depfile target command))
 
--- ---- the same without the usual header
+-- ---- the same without the usual header, and by the prerequisites alone
 
 abbrev pub usual : Dialect → Conventions
-usual dialect = record { header = usual_header dialect; dialect = dialect }
+usual dialect = record { header = usual_header dialect; dialect = dialect; scans_command = false }
 
 abbrev pub record_plan : Dialect → Files → List ℕ → List ℕ → List ℕ → Result RecordPlan EngineError
 record_plan dialect files depfile target command = record_plan_under (usual dialect) files depfile target command

@@ -1,5 +1,5 @@
 -- The steps of recording an object, by the files: its words, its dependency file, and the names in its prerequisites.
-use Rattle.std.specs.Prelude.{ℕ, List, [], ◌∷◌, Option, Some, None, Result, Ok, Err, nat_lt, length, if◌then◌else◌}
+use Rattle.std.specs.Prelude.{ℕ, Bool, true, false, List, [], ◌∷◌, ◌++◌, Option, Some, None, Result, Ok, Err, nat_lt, length, if◌then◌else◌}
 use Rattle.ks_symbols.specs.Lines.{max_bytes}
 use Rattle.ks_symbols.specs.Names.{is_path, is_target}
 use Rattle.ks_fixdep.specs.declared.dep_error.DepError.{DepError}
@@ -53,3 +53,8 @@ followed (Ok x) (Ok xs) = Ok (x ∷ xs)
 unfoldable pub scanned_all : Rules → Files → List (List ℕ × Role) → Result (List (List (List ℕ))) EngineError
 scanned_all r files [] = Ok []
 scanned_all r files (p ∷ ps) = followed (scanned r p.0 (content files p.0)) (scanned_all r files ps)
+
+-- and then the names of the words of the command, where these are scanned too
+abbrev pub with_command : Bool → Rules → List ℕ → List (List (List ℕ)) → List (List (List ℕ))
+with_command false r command found = found
+with_command true r command found = found ++ names_in_as r command ∷ []

@@ -1,6 +1,7 @@
 //! Recording an object for a build that goes by dependency files, as ninja does: in such a file the header of all symbols would
 //! make each change of the configuration a change of every object. So the stamps of the names that the object mentions stand in
-//! its place. The record comes first: until it is made the compiler's own file stays, and the object is rebuilt too often and
+//! its place. With `-DFEATURE=CONFIG_N` the command itself mentions one, and the compiler lists no file for that: so the command is
+//! scanned too. The record comes first: until it is made the compiler's own file stays, and the object is rebuilt too often and
 //! never too rarely.
 ghost use Rattle.std.specs.Prelude.{◌≡◌, ◌⊎◌, ◌||◌, List, ℕ, false, true, IfErr, IfOk, IsErrOf, IsTrue, OnErr, OnOk, Ok, Err, Some};
 ghost use Rattle.ks_symbols.specs.Names.{is_in, is_name};
@@ -10,14 +11,14 @@ ghost use Rattle.ks_tree.specs.Paths.{command_path, command_temporary, temporary
 ghost use Rattle.ks_engine.specs.Refusals.{IsGivenUp};
 ghost use Rattle.ks_engine.specs.Recorded.{RecordPlan, IsRecordPlanUnder, record_plan_under};
 ghost use Rattle.ks_engine.specs.Follows.{GoesOn};
-ghost use Rattle.ks_engine.specs.Depfile.{FollowsDepfile, IsDepfileRecorded, IsDepfileRefused, IsOldOrRule, IsRuled, RuleDone, RuleTried, is_own_file};
+ghost use Rattle.ks_engine.specs.Depfile.{FollowsDepfile, IsDepfileRecorded, IsDepfileRefused, IsOldOrRule, IsRuled, NamesCommand, RuleDone, RuleTried, is_own_file, ruled_by};
 
 use crate::EngineError;
 use crate::conventions::Conventions;
 use crate::memos::Memo;
 use crate::recording::{Draft, Recorded, prepare};
-use ks_fixdep::{Seed, names_of_object, rule_text};
-use ks_symbols::Name;
+use ks_fixdep::{Header, Seed, names_of_object, rule_text};
+use ks_symbols::{Dialect, Name};
 use ks_tree::{Tree, command_path, command_temporary, header_path, make_stamps, replace};
 use std::alloc::{AllocError, Global};
 
@@ -127,29 +128,38 @@ fn leave_rule<T: Tree>(
     Ok(())
 }
 
-/// Records an object as `record_object` does, but for the header, and then leaves one rule in its dependency file: its
-/// prerequisites without the header, and the stamps of the names that were found.
+/// Records an object as `record_object` does, but for the header, and with the names that the words of its command have, like those
+/// of a source that comes last. Then it leaves one rule in its dependency file: its prerequisites without the header, and the
+/// stamps of the names that were found.
 pub fn record_depfile<T: Tree>(
     alloc: Global,
     tree: &mut T,
-    conventions: Conventions<'_>,
+    header: Header<'_>,
+    dialect: Dialect,
     depfile: &[u8],
     target: &[u8],
     command: &[u8],
 ) -> Result<Recorded, EngineError>
     // By the files: the record, the stamps and the rule are done in this order, or it was refused, or given up on the way.
-    ensures recorded { T.is_honest → IfOk result (IsDepfileRecorded conventions.entry (T.files tree.old) (T.files tree.new) depfile.now target.now command.now) }
-    ensures refused { T.is_honest → IfErr result (IsDepfileRefused conventions.entry (T.files tree.old) (T.files tree.new) depfile.now target.now command.now) }
+    ensures recorded { T.is_honest → IfOk result (IsDepfileRecorded (ruled_by header.entry dialect) (T.files tree.old) (T.files tree.new) depfile.now target.now command.now) }
+    ensures refused { T.is_honest → IfErr result (IsDepfileRefused (ruled_by header.entry dialect) (T.files tree.old) (T.files tree.new) depfile.now target.now command.now) }
     ensures old_or_rule { T.is_honest → OnErr result
-        (IsOldOrRule conventions.entry.header (content (T.files tree.old) depfile.now) (content (T.files tree.new) depfile.now)) }
+        (IsOldOrRule header.entry (content (T.files tree.old) depfile.now) (content (T.files tree.new) depfile.now)) }
+    // The names of the record are those of the prerequisites, and then those of the command's words.
+    ensures names { T.is_honest → OnOk result (NamesCommand header.entry dialect (T.files tree.old) (T.files tree.new) depfile.now target.now command.now) }
     // By histories: each one that the files show goes on with this answer, and the files show the next one.
-    ensures follows { GoesOn T.Tree tree.old tree.new (FollowsDepfile conventions.entry depfile.now target.now command.now result) }
+    ensures follows { GoesOn T.Tree tree.old tree.new (FollowsDepfile (ruled_by header.entry dialect) depfile.now target.now command.now result) }
     // The device is to blame only where the tree counted a failure.
     ensures counted { Counted T.Tree tree.old tree.new (IsErrOf result EngineError.Device) }
 {
     if is_own_file(depfile) {
         return Err(EngineError::BadPath(0));
     }
+    let conventions = Conventions {
+        header,
+        dialect,
+        scans_command: true,
+    };
     let ruled = prepare_rule(alloc, tree, conventions, depfile, target, command)?;
     write_record(alloc, tree, target, &ruled.draft.text)?;
     leave_rule(alloc, tree, depfile, &ruled.names, &ruled.rule)?;

@@ -1,6 +1,7 @@
 //! Synchronising a tree, recording its objects, and the question which of them are stale.
 #![tactic(auto)]
 
+mod aging;
 mod commands;
 mod conventions;
 mod costs;
@@ -19,6 +20,7 @@ mod staleness;
 mod stamped;
 mod synchronise;
 
+pub use aging::{Ages, age_if_stale};
 pub use commands::{Command, Reply, run};
 pub use conventions::Conventions;
 pub use costs::{Cost, Costs, borrow_record, read_record};

@@ -1,9 +1,10 @@
 //! What one command has read of a tree so far, so that it reads no file twice: hundreds of objects have one auto.conf, and share
 //! most of their stamps. A synchronisation drops all of it; a record changes nothing that is kept. Between commands nothing is kept,
 //! since others may write then.
-ghost use Rattle.std.specs.Prelude.{◌≡◌, ◌⊎◌, List, ℕ, true, length, slice_get, string_bytes, vec_items, Ok, Err, Some, OnOk, IfOk, IfErr, IfSome, OnErr, IsErrOf, IsTrue};
+ghost use Rattle.std.specs.Prelude.{◌≡◌, ◌⊎◌, ◌++◌, ◌∷◌, [], List, ℕ, true, length, slice_get, string_bytes, vec_items, Ok, Err, Some, OnOk, IfOk, IfErr, IfSome, OnErr, IsErrOf, IsTrue};
 ghost use Rattle.ks_symbols.specs.Names.{is_name, is_path};
-ghost use Rattle.ks_fixdep.specs.SourceScan.{found_of};
+ghost use Rattle.ks_fixdep.specs.SourceScan.{found_of, names_by};
+ghost use Rattle.ks_fixdep.specs.Dialects.{names_in_as};
 ghost use Rattle.ks_tree.specs.Frames.{Reads};
 ghost use Rattle.ks_tree.specs.Files.{Files, content};
 ghost use Rattle.ks_tree.specs.Paths.{auto_path, stamp_path};
@@ -12,7 +13,7 @@ ghost use Rattle.ks_engine.specs.Refusals.{Answers, IsGivenUp};
 ghost use Rattle.ks_engine.specs.Recording.{scanned};
 ghost use Rattle.ks_engine.specs.LastSync.{last_generation};
 ghost use Rattle.ks_engine.specs.Questions.{IsSeen};
-ghost use Rattle.ks_engine.specs.Memos.{pairs_of, value_of, with_pair, Grows, IsKept, IsMemoOf, IsNoSource};
+ghost use Rattle.ks_engine.specs.Memos.{are_placed, pairs_of, value_of, with_pair, Grows, IsKept, IsMemoOf, IsNoSource};
 
 use crate::EngineError;
 use crate::last_sync::read_generation;
@@ -232,6 +233,20 @@ impl Memo {
         scan_file(alloc, tree, path, room, self.rules, &mut self.found.scan)?;
         self.keep_source(alloc, path, place)?;
         Ok(place)
+    }
+
+    /// Scans the words of a command as the last source of an object. They are kept under no path.
+    pub(crate) fn scan_command(&mut self, command: &[u8]) -> Result<(), AllocError>
+        ensures memo { (files : Files) → IsMemoOf files self.old → IsMemoOf files self.new }
+        ensures names { IsTrue (are_placed (found_of self.old.found.scan) self.old.found.sources.items)
+            → OnOk result (names_by self.new.found ≡ names_by self.old.found ++ names_in_as self.old.rules command.now ∷ []) }
+    {
+        let place = self.found.scan.len();
+        self.found.scan.begin_source();
+        self.found.scan.feed_as(self.rules, command)?;
+        self.found.scan.end_source_as(self.rules)?;
+        self.found.sources.push(place)?;
+        Ok(())
     }
 
     /// Forgets the sources if the file at a path is among them, since it is to be written.

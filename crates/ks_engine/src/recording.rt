@@ -3,14 +3,14 @@
 ghost use Rattle.std.specs.Prelude.{◌≡◌, ◌⊎◌, Ok, Err, IfOk, IfErr, OnOk, IsTrue, IsErrOf, length};
 ghost use Rattle.ks_symbols.specs.Names.{is_path, is_target};
 ghost use Rattle.ks_fixdep.specs.CommandFile.{is_command, IsLegal};
-ghost use Rattle.ks_fixdep.specs.SourceScan.{names_by};
+ghost use Rattle.ks_fixdep.specs.SourceScan.{found_of, names_by};
 ghost use Rattle.ks_tree.specs.Frames.{Counted, Reads};
-ghost use Rattle.ks_tree.specs.Files.{content};
+ghost use Rattle.ks_tree.specs.Files.{Files, content};
 ghost use Rattle.ks_engine.specs.Refusals.{Answers, IsGivenUp};
-ghost use Rattle.ks_engine.specs.Recording.{words, there};
+ghost use Rattle.ks_engine.specs.Recording.{words, there, with_command};
 ghost use Rattle.ks_engine.specs.Recorded.{RecordPlan, drafted, usual, record_plan_under, IsRecordPlanUnder, IsRecorded, IsRecordRefused};
 ghost use Rattle.ks_engine.specs.Follows.{GoesOn, FollowsRecord};
-ghost use Rattle.ks_engine.specs.Memos.{IsMemoOf};
+ghost use Rattle.ks_engine.specs.Memos.{are_placed, IsMemoOf};
 ghost use Rattle.ks_engine.specs.Drafts.{IsDraft, IsPrepared};
 
 use crate::EngineError;
@@ -23,7 +23,7 @@ use ks_fixdep::{
 };
 use ks_symbols::{Dialect, MAX_BYTES, Path, path_is_legal, target_is_legal};
 use ks_tree::{Tree, command_path, command_temporary, replace};
-use std::alloc::Global;
+use std::alloc::{AllocError, Global};
 
 /// What was recorded.
 #[derive(Clone, Copy, Debug)]
@@ -87,7 +87,6 @@ fn make_draft(
 ) -> Result<Draft, EngineError>
     requires target { IsTrue (is_target target.now) }
     requires command { IsTrue (is_command command.now) }
-    requires each { length found.old.sources.items ≡ length prerequisites.now }
     ensures no_device { IsErrOf result EngineError.Device → ⊥ }
     ensures drafted { IfOk result (λ d. (plan : RecordPlan)
         × (drafted target.now command.now prerequisites.now generation (names_by found.old) ≡ Ok plan) × IsLegal plan.file × IsDraft plan d) }
@@ -108,6 +107,22 @@ fn make_draft(
         answer,
         text: written.text,
     })
+}
+
+/// Scans the command of an object whose prerequisites were scanned, where the conventions say so.
+fn scan_command_by(
+    memo: &mut Memo,
+    conventions: Conventions<'_>,
+    command: &[u8],
+) -> Result<(), AllocError>
+    ensures memo { (files : Files) → IsMemoOf files memo.old → IsMemoOf files memo.new }
+    ensures names { IsTrue (are_placed (found_of memo.old.found.scan) memo.old.found.sources.items)
+        → OnOk result (names_by memo.new.found ≡ with_command conventions.entry.scans_command memo.old.rules command.now (names_by memo.old.found)) }
+{
+    if conventions.scans_command {
+        return memo.scan_command(command);
+    }
+    Ok(())
 }
 
 /// All steps before the write.
@@ -136,6 +151,7 @@ pub(crate) fn prepare<T: Tree>(
     let generation = memo.generation(alloc, tree)?;
     memo.scan_by(Rules::for_target(conventions.dialect, target));
     scan_all_by(alloc, tree, memo, &prerequisites)?;
+    scan_command_by(memo, conventions, command)?;
     let draft = make_draft(
         alloc,
         target,
@@ -170,6 +186,7 @@ pub(crate) fn record_by<T: Tree>(
     let conventions = Conventions {
         header: Header::usual(dialect),
         dialect,
+        scans_command: false,
     };
     let prepared = prepare(alloc, tree, memo, conventions, depfile, target, command)?;
     let path = command_path(alloc, target)?;

@@ -7,7 +7,7 @@ ghost use Rattle.ks_fixdep.specs.SourceScan.{found_of, names_by};
 ghost use Rattle.ks_tree.specs.Frames.{Reads};
 ghost use Rattle.ks_tree.specs.Files.{content};
 ghost use Rattle.ks_engine.specs.Refusals.{IsGivenUp};
-ghost use Rattle.ks_engine.specs.Memos.{IsMemoOf, IsKept, Grows};
+ghost use Rattle.ks_engine.specs.Memos.{are_placed, IsMemoOf, IsKept, Grows};
 ghost use Rattle.ks_engine.specs.Recording.{scanned, scanned_all};
 
 use crate::EngineError;
@@ -69,7 +69,9 @@ pub(crate) fn scan_all_by<T: Tree>(
     ensures reads { Reads T.Tree tree.old tree.new (IsErrOf result EngineError.Device) }
     ensures names { T.is_honest → OnOk result (scanned_all memo.old.rules (T.files tree.old) prerequisites.now ≡ Ok (names_by memo.new.found)) }
     ensures refused { T.is_honest → IfErr result (λ e. IsGivenUp e ⊎ (scanned_all memo.old.rules (T.files tree.old) prerequisites.now ≡ Err e)) }
+    ensures placed { T.is_honest → OnOk result (IsTrue (are_placed (found_of memo.new.found.scan) memo.new.found.sources.items)) }
     ensures each { OnOk result (length memo.new.found.sources.items ≡ length prerequisites.now) }
+    ensures rules { memo.new.rules ≡ memo.old.rules }
 {
     let mut room = [0; PIECE];
     let mut sources = Vec::with_capacity(alloc, prerequisites.len())?;

@@ -1,7 +1,6 @@
 //! Tables of what is asked of a tree, and of what is answered.
 use ks_engine::{
-    BuildState, Conventions, Recorded, Report, Verdict, outdated, record_depfile, record_object,
-    stale, sync,
+    BuildState, Recorded, Report, Verdict, outdated, record_depfile, record_object, stale, sync,
 };
 use ks_fixdep::Header;
 use ks_symbols::{Dialect, Kconfig, Name};
@@ -15,7 +14,7 @@ pub(crate) enum Step<'a> {
     Sync(&'a str, &'a str),
     Record(&'a str, &'a str, &'a str),
     /// Of a header, a dependency file and a target.
-    Depfile(&'a str, &'a str, &'a str),
+    Depfile(&'a str, &'a str, &'a str, &'a str),
     Stale(&'a str),
     Outdated(&'a str, &'a str),
     Put(&'a str, &'a str),
@@ -95,13 +94,12 @@ pub(crate) fn answer<T: Tree>(
                 Err(error) => error,
             }
         }
-        Step::Depfile(header, depfile, target) => {
-            let conventions = Conventions {
-                header: Header::At(header.as_bytes()),
-                dialect: Dialect::Linux,
-            };
+        Step::Depfile(header, depfile, target, command) => {
+            let header = Header::At(header.as_bytes());
             let (depfile, target) = (depfile.as_bytes(), target.as_bytes());
-            match record_depfile(alloc, tree, conventions, depfile, target, b"cc") {
+            let command = command.as_bytes();
+            let dialect = Dialect::Linux;
+            match record_depfile(alloc, tree, header, dialect, depfile, target, command) {
                 Ok(recorded) => return recorded_text(alloc, recorded),
                 Err(error) => error,
             }

@@ -1,5 +1,5 @@
 use Rattle.ks_engine.proofs.Prelude.{IfErr-weaker, inl, inr, sym, ◌∙◌, Ok, err_from_is_err_and, rules}
-use Rattle.ks_engine.proofs.DepfileLemmas.{depfile_follows, legal_names, old_or_rule, recorded_from, tried_from}
+use Rattle.ks_engine.proofs.DepfileLemmas.{depfile_follows, legal_names, names_command, old_or_rule, recorded_from, tried_from}
 use Rattle.ks_engine.proofs.depfile.record_depfile.Goals as goal
 
 pub leave_rule-requires-clause-legal : goal.leave_rule-requires-clause-legal
@@ -57,6 +57,9 @@ returns-clause-recorded g c = λ honest.
       was_there = planned.2.was_there;
       rule = search rules;
     }
+
+pub returns-clause-names : goal.returns-clause-names
+returns-clause-names g c = λ honest. names_command _ _ _ _ _ _ _ _ (returns-clause-recorded g c honest)
 
 pub returns-clause-follows : goal.returns-clause-follows
 returns-clause-follows g c = λ honest h shows.

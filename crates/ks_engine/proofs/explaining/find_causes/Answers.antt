@@ -45,6 +45,7 @@ loop-dep-preserved g c =
           let all : limit_of c.args.question ≡ Every = cc in
           rw (w.tree-is, w.memo-is, w.causes-is, w.place-is) (record {
             unchanged = λ h. said.reads.unchanged h ∙ old.unchanged h;
+            kept = said.reads.kept ∙ old.kept;
             memo = said.memo;
             later = omega (arith, old.later, said.reads.counted.later);
             place = old.place;
@@ -58,6 +59,7 @@ loop-dep-preserved g c =
           let said = w.in_ok-number-in-Config.ensures in
           rw (w.tree-is, w.memo-is, w.causes-is, w.place-is) (record {
             unchanged = λ h. said.reads.unchanged h ∙ old.unchanged h;
+            kept = said.reads.kept ∙ old.kept;
             memo = said.memo;
             later = omega (arith, old.later, said.reads.counted.later);
             place = old.place;

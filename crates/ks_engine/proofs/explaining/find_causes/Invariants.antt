@@ -6,6 +6,7 @@ use Rattle.ks_engine.proofs.explaining.find_causes.Given as goal
 abbrev pub invariant-loop-dep : goal.invariant-loop-dep
 invariant-loop-dep g l = record {
   unchanged : g.T.Tree.is_honest → g.T.Tree.files l.tree ≡ g.T.Tree.files l.fn.tree;
+  kept : g.T.Tree.aged l.tree ≡ g.T.Tree.aged l.fn.tree;
   memo : g.T.Tree.is_honest → IsMemoOf (g.T.Tree.files l.tree) l.memo;
   later : g.T.Tree.failures l.fn.tree ≤ g.T.Tree.failures l.tree;
   place : IsTrue (is_path l.place);

@@ -13,6 +13,7 @@ returns-in_err-source-clause-refused g c = λ honest.
 pub loop-place-preserved : goal.loop-place-preserved
 loop-place-preserved g c = record {
   unchanged = search rules;
+  kept = search rules;
   later = search rules;
   memo = c.in_ok-source.ensures.memo;
   within = omega arith;

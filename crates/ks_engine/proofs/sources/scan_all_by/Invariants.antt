@@ -1,5 +1,5 @@
-use Rattle.ks_engine.proofs.Prelude.{◌≡◌, ◌≤◌, true, drop, length, found_of, picked, IsMemoOf, scanned_all}
-use Rattle.ks_engine.proofs.Scanning.{are_placed, following}
+use Rattle.ks_engine.proofs.Prelude.{are_placed, ◌≡◌, ◌≤◌, true, drop, length, found_of, picked, IsMemoOf, scanned_all}
+use Rattle.ks_engine.proofs.Scanning.{following}
 use Rattle.ks_engine.proofs.sources.scan_all_by.Given as goal
 
 -- there are as many places as there were prerequisites; on an honest tree all there is to find is what the sources there have and what the
@@ -7,6 +7,7 @@ use Rattle.ks_engine.proofs.sources.scan_all_by.Given as goal
 abbrev pub invariant-loop-place : goal.invariant-loop-place
 invariant-loop-place g l = record {
   unchanged : g.T.Tree.is_honest → g.T.Tree.files l.tree ≡ g.T.Tree.files l.fn.tree;
+  kept : g.T.Tree.aged l.tree ≡ g.T.Tree.aged l.fn.tree;
   later : g.T.Tree.failures l.fn.tree ≤ g.T.Tree.failures l.tree;
   within : l.place ≤ length l.prerequisites;
   room : length l.room ≡ 4096;

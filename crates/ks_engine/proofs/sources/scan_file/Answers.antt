@@ -28,6 +28,7 @@ loop-count-preserved g c =
     let stood = c.loop-count.invariant.stands in
     record {
       unchanged = search rules;
+      kept = search rules;
       later = search rules;
       full = search rules;
       found = search rules;

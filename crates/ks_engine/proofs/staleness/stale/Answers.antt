@@ -8,3 +8,6 @@ pub returns-in_err-answer-clause-recorded : goal.returns-in_err-answer-clause-re
 returns-in_err-answer-clause-recorded g c = λ honest h r shows last.
     let p = err_from_is_err_and c.from_residual.result c.from_residual.ensures.1 in
     rw (p.1, p.2) ((c.in_err-answer.ensures.answer honest).recorded h r shows last)
+
+pub returns-clause-recorded : goal.returns-clause-recorded
+returns-clause-recorded g c = λ honest. (c.in_ok-answer.ensures.answer honest).recorded

@@ -1,0 +1,21 @@
+use Rattle.ks_engine.proofs.Prelude.{[], ◌∷◌, ◌++◌, ◌∙◌, ap, refl, names_in_as}
+use Rattle.ks_engine.proofs.Keeping.{grows_none, memo_grown}
+use Rattle.ks_engine.proofs.Scanning.{picked_last}
+use Rattle.ks_engine.proofs.memos.Memo.scan_command.Goals as goal
+
+pub returns-in_err-feed_as-clause-memo : goal.returns-in_err-feed_as-clause-memo
+returns-in_err-feed_as-clause-memo c = λ files is.
+    memo_grown files c.args.self.now _ refl refl refl refl (grows_none _ _ (c.feed_as.ensures.found ∙ c.begin_source.ensures.found)) is
+
+pub returns-in_err-end_source_as-clause-memo : goal.returns-in_err-end_source_as-clause-memo
+returns-in_err-end_source_as-clause-memo c = λ files is.
+    memo_grown files c.args.self.now _ refl refl refl refl
+    (grows_none _ _ (c.in_err-end_source_as.ensures.err ∙ c.feed_as.ensures.found ∙ c.begin_source.ensures.found)) is
+
+pub returns-clause-names : goal.returns-clause-names
+returns-clause-names c = λ placed.
+    let fed = c.in_ok-feed_as.ensures.stands [] (c.begin_source.ensures.under_rules c.args.self.now.rules) in
+    let names = names_in_as c.args.self.now.rules c.args.command.now in
+    let kept = c.in_ok-feed_as.ensures.found ∙ c.begin_source.ensures.found in
+    picked_last _ _ _ _ names c.len-place.result (c.in_ok-end_source_as.ensures.found c.args.command.now fed ∙ ap (λ f. f ++ names ∷ []) kept) c.len-place.ensures placed
+    c.in_ok-push.ensures.items

@@ -5,6 +5,7 @@ use Rattle.ks_engine.specs.declared.staleness.Verdict.{Verdict as VerdictValue}
 use Rattle.ks_engine.specs.History.{Synced as Past}
 use Rattle.ks_engine.specs.declared.question.Limit.TheVariants.{All as Every}
 use Rattle.ks_commands.proofs.Prelude.{at, told}
+use Rattle.ks_requests.specs.declared.request.Form.TheVariants.{Text}
 use Rattle.ks_requests.specs.declared.request.Request.TheVariants as request
 use Rattle.ks_requests.specs.declared.request.Stamps.TheVariants as stamps
 use Rattle.ks_commands.proofs.Verdicts.{answers_weaker, impact_weaker, verdicts_weaker}
@@ -84,6 +85,11 @@ program_tells : (dialect : Dialect) (r : Request) (ended : Ending) (old new : Tr
 program_tells dialect (request.Stale ts f) ended old new none later is = (
   is.0,
   verdicts_weaker f (λ o answer. FollowsStale old o answer new) (TellsChange old) not_counted (targets_at old.files ts) ended
+      (λ o answer is. judged_tells old o answer none is.recorded) is.1,
+)
+program_tells dialect (request.Age which ts) ended old new none later is = (
+  is.0,
+  verdicts_weaker Text (λ o answer. FollowsStale old o answer new) (TellsChange old) not_counted (targets_at old.files ts) ended
       (λ o answer is. judged_tells old o answer none is.recorded) is.1,
 )
 program_tells dialect (request.Why ts f) ended old new none later is = (

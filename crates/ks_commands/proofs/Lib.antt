@@ -10,4 +10,5 @@ pub mod Differing
 pub mod Unknowns
 pub mod Spelled
 pub mod Objects
+pub mod AgingLemmas
 pub mod Searching

@@ -1,6 +1,7 @@
 -- What a read after a refusal leaves.
 use Rattle.ks_commands.proofs.Prelude.{Dialect, ◌≡◌, ◌≢◌, ℕ, List, Option, Some, None, Ok, Err, inl, inr, sym, ap, ◌∙◌, subst, arith, Ghosts, Files, Reads, EngineError, OutOfMemory, Conventions, FollowsDepfile, FollowsStamps, Stamps, FileState, state, TreeState, at, History, Shows, Refusal, Engine, Request, IsSiteLine, Site, excerpt_at, site_of, Continues, Ends, Performs, by_files, KconfigText, rules}
 use Rattle.ks_requests.specs.declared.request.Request.TheVariants as request
+use Rattle.ks_commands.specs.Aging.{AgesAsked}
 use Rattle.ks_requests.specs.declared.request.Stamps.TheVariants as stamps
 
 -- what stands there, with the files as they are after they were read
@@ -81,5 +82,6 @@ read_after tree dialect old mid new asked r plain performs reads = record {
         subst (λ (f : Files). Shows f next.0) (sym (reads.unchanged honest)) next.2,
       );
   cause = search (rules, arith);
+  aged = λ honest. subst (λ (l : List (List ℕ)). AgesAsked (tree.files old) asked (Err r) (tree.aged old) l) (sym reads.kept) (performs.aged honest);
   counts = tt;
 }

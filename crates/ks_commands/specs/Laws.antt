@@ -1,12 +1,18 @@
--- Laws of the definitions: what a preview has written, what a refusal leaves, the statuses, when names differ, and what runs of the program tell.
-use Rattle.std.specs.Prelude.{◌≡◌, ◌⊎◌, ◌<◌, ◌≤◌, ◌↔◌, ℕ, List, Option, Err, IfOk, Ok, true}
+-- Laws of the definitions: what a preview has written, what a refusal leaves, the statuses, when names differ, what runs of the program tell, and what
+-- `age` is for.
+use Rattle.std.specs.Prelude.{◌≡◌, ◌⊎◌, ◌<◌, ◌≤◌, ◌↔◌, ℕ, List, Option, Result, Err, IfOk, Ok, true}
 use Rattle.std.specs.List.{All}
 use Rattle.ks_streams.specs.Streams.{State}
 use Rattle.ks_symbols.specs.declared.dialect.Dialect.{Dialect}
 use Rattle.ks_tree.specs.Files.{Files}
 use Rattle.ks_engine.specs.FileRuns.{FileState}
 use Rattle.ks_engine.specs.Follows.{TreeState}
-use Rattle.ks_engine.specs.History.{NoneBroken}
+use Rattle.ks_engine.specs.declared.aging.Ages.{Ages}
+use Rattle.ks_engine.specs.declared.error.EngineError.{EngineError}
+use Rattle.ks_engine.specs.History.{History, NoneBroken}
+use Rattle.ks_engine.specs.Shows.{Shows}
+use Rattle.ks_engine.specs.Staleness.{changed_since, suspect_since}
+use Rattle.ks_symbols.specs.Names.{is_in}
 use Rattle.ks_requests.specs.declared.refusal.Refusal.{Refusal}
 use Rattle.ks_requests.specs.declared.request.Request.{Request}
 use Rattle.ks_requests.specs.declared.status.Outcome.{Outcome}
@@ -15,6 +21,7 @@ use Rattle.ks_requests.specs.Endings.{Ending, Printed}
 use Rattle.ks_requests.specs.Outputs.{WritesPreview}
 use Rattle.ks_requests.specs.Requests.{IsPreviewOf}
 use Rattle.ks_requests.specs.Statuses.{code_of}
+use Rattle.ks_commands.specs.Aging.{EndsAged}
 use Rattle.ks_commands.specs.Performed.{Ends, EndsBatch, by_files, by_histories}
 use Rattle.ks_symbols.specs.Configuration.{Configuration}
 use Rattle.ks_output.specs.OldConfig.{Texts}
@@ -64,3 +71,15 @@ BatchTellsChanges = (dialect : Dialect) (path : List ℕ) (o : Outcome) (old new
 -- So does each of any list of runs of the program, of which no synchronisation was broken off.
 abbrev pub ProgramsTellChanges : Type 0
 ProgramsTellChanges = (first last : TreeState) (runs : List ProgramRun) → Chain first runs last → NoneBroken last.history → All ProgramTellsChanges runs
+
+-- A name that was found at an object's last record was touched since, by a synchronisation that was completed or by one that was broken off.
+abbrev pub WasTouched : History → List ℕ → List ℕ → Type 0
+WasTouched h o x = (changed_since h o x ≡ true) ⊎ (suspect_since h o x ≡ true)
+
+-- What `age` is for: where it refused nothing, each of its objects of which a name was touched since the record is among the aged, by each history that
+-- the files show.
+abbrev pub WhatChangedIsAged : Type 0
+WhatChangedIsAged =
+    (which : Ages) (files : Files) (h : History) (targets : Result (List (List ℕ)) EngineError) (outcome : Outcome) (objects old new : List (List ℕ))
+    (o x : List ℕ) → Shows files h → code_of outcome.status < 2 → EndsAged which files targets (Ok outcome) old new → targets ≡ Ok objects
+    → is_in objects o ≡ true → WasTouched h o x → is_in new o ≡ true

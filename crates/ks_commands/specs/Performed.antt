@@ -21,7 +21,7 @@ use Rattle.ks_engine.specs.declared.staleness.Verdict.{Verdict}
 use Rattle.ks_engine.specs.Actions.{Action}
 use Rattle.ks_engine.specs.Asked.{asked, told, IsAnswer, IsExplained}
 use Rattle.ks_engine.specs.BuildStates.{build_asked, IsBuildState}
-use Rattle.ks_engine.specs.Depfile.{FollowsDepfile}
+use Rattle.ks_engine.specs.Depfile.{FollowsDepfile, ruled_by}
 use Rattle.ks_engine.specs.Explained.{IsExplanationJudged, IsExplanationOn}
 use Rattle.ks_engine.specs.Follows.{TreeState, at, IsSame, GoesOn, FollowsRecord}
 use Rattle.ks_engine.specs.History.{History, LastRecord, Synced, last_record}
@@ -37,10 +37,11 @@ use Rattle.ks_requests.specs.declared.preview.PreviewError.{PreviewError}
 use Rattle.ks_requests.specs.declared.preview.PreviewError.TheVariants.{Output as PreviewOutput}
 use Rattle.ks_requests.specs.declared.refusal.Refusal.TheVariants.{Engine}
 use Rattle.ks_requests.specs.declared.request.Form.{Form}
+use Rattle.ks_requests.specs.declared.request.Form.TheVariants.{Text}
 use Rattle.ks_requests.specs.declared.request.Request.{Request}
 use Rattle.ks_requests.specs.declared.request.Stamps.{Stamps}
 use Rattle.ks_requests.specs.declared.request.Targets.{Targets}
-use Rattle.ks_requests.specs.declared.request.Request.TheVariants.{Batch, Cost, Depfile, Diff, Fixdep, Impact, Outdated, Preview, Record, Stale, Sync, Users, Why}
+use Rattle.ks_requests.specs.declared.request.Request.TheVariants.{Age, Batch, Cost, Depfile, Diff, Fixdep, Impact, Outdated, Preview, Record, Stale, Sync, Users, Why}
 use Rattle.ks_requests.specs.declared.status.Count.{Count}
 use Rattle.ks_requests.specs.declared.status.Count.TheVariants as count
 use Rattle.ks_requests.specs.declared.telling.Telling.{Telling}
@@ -55,6 +56,7 @@ use Rattle.ks_requests.specs.Requests.{IsNoQuestion}
 use Rattle.ks_requests.specs.Statuses.{build_status, explanation_status, reply_status, stale_among, status_unless_refused, worst}
 use Rattle.ks_requests.specs.Symbols.{symbols_of}
 use Rattle.ks_requests.specs.Targets.{file_of, targets_at, with_file, words_of}
+use Rattle.ks_commands.specs.Aging.{AgesAsked}
 use Rattle.ks_commands.specs.Depfiles.{IsHeaderOf, IsNoHeader, LeavesDepfile}
 use Rattle.ks_commands.specs.Differences.{IsDiff, lines_asked}
 use Rattle.ks_commands.specs.Fixdep.{command_file_at}
@@ -201,6 +203,7 @@ Ends files effects (Stale targets form) ended = effects.same × EndsStale effect
 Ends files effects (Why targets form) ended = effects.same × EndsWhy files effects form (targets_at files targets) ended
 Ends files effects (Impact k d targets form) ended =
     effects.same × EndsImpact effects.dialect files effects.impact (string_bytes k) (string_bytes d) form (targets_at files targets) ended
+Ends files effects (Age which targets) ended = effects.same × EndsStale effects Text (targets_at files targets) ended
 Ends files effects (Outdated t c) ended = effects.same × EndsOutdated effects.outdated (string_bytes t) (string_bytes c) ended
 Ends files effects (Batch script) ended = EndsBatch files effects (string_bytes script) ended
 Ends files effects (Users symbols targets) ended = effects.same × EndsUsers files (symbols_of symbols.items) (targets_at files targets) ended
@@ -226,7 +229,7 @@ by_files dialect old new = record {
   same = new.files ≡ old.files;
   sync = λ stamps k. LeavesStamps old.files new.files stamps (read_in dialect k);
   recording = LeavesRecord dialect old.files new.files;
-  ruling = λ header. LeavesDepfile old.files new.files (record { header = header; dialect = dialect });
+  ruling = λ header. LeavesDepfile old.files new.files (ruled_by header dialect);
   stale = IsAnswerOn old.files;
   why = IsExplanationOn old.files;
   impact = λ k. IsAnswerAfter old.files (read_in dialect k);
@@ -266,7 +269,7 @@ by_histories dialect old new = record {
   same = IsSame old new;
   sync = λ stamps k d answer. FollowsStamps stamps (read_in dialect k) d answer old new;
   recording = λ d t c answer. FollowsRecord dialect d t c answer old new;
-  ruling = λ header d t c answer. FollowsDepfile (record { header = header; dialect = dialect }) d t c answer old new;
+  ruling = λ header d t c answer. FollowsDepfile (ruled_by header dialect) d t c answer old new;
   stale = λ o answer. FollowsStale old o answer new;
   why = λ o answer. FollowsWhy old o answer new;
   impact = λ k d o answer. FollowsImpact old (read_in dialect k) d o answer new;
@@ -336,6 +339,7 @@ pub record RunsCounted (dialect : Dialect) (honest : Type 0) (old : FileState) (
 -- What is printed where not all is refused blames the device for an object or a command only where its failure was counted.
 abbrev pub Counts : Dialect → Type 0 → FileState → Request → List ℕ → FileState → Type 0
 Counts dialect honest old (Stale targets form) text new = AsksCounted form First honest old targets text new
+Counts dialect honest old (Age which targets) text new = AsksCounted Text First honest old targets text new
 Counts dialect honest old (Why targets form) text new = AsksCounted form Every honest old targets text new
 Counts dialect honest old (Impact k d targets form) text new = AsksCounted form First honest old targets text new
 Counts dialect honest old (Outdated t c) text new = TellsCounted (SaysLines build_line) old.failures (string_bytes t ∷ []) text new.failures
@@ -352,4 +356,5 @@ pub record Performs {T : Type 0} (tree : Ghosts T) (dialect : Dialect) (old new 
   pub files : tree.is_honest → Ends (tree.files old) (by_files dialect (state tree old) (state tree new)) request ended
   pub goes_on : GoesOn tree old new (Continues dialect request ended)
   pub cause : ended ≡ Err (Engine Device) → HasRisen (tree.failures old) (tree.failures new)
+  pub aged : tree.is_honest → AgesAsked (tree.files old) request ended (tree.aged old) (tree.aged new)
   pub counts : IfOk ended (λ o. Counts dialect tree.is_honest (state tree old) request o.text.items (state tree new))

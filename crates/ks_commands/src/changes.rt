@@ -14,9 +14,7 @@ ghost use Rattle.ks_commands.specs.Depfiles.{IsHeaderOf, IsNoHeader};
 ghost use Rattle.ks_commands.specs.Stamps.{FollowsStamps, LeavesStamps};
 ghost use Rattle.ks_commands.specs.Performed.{EndsDepfile, EndsRecord, EndsSync, by_files, by_histories};
 
-use ks_engine::{
-    Conventions, EngineError, Report, record_depfile, record_object, sync, sync_stamped,
-};
+use ks_engine::{EngineError, Report, record_depfile, record_object, sync, sync_stamped};
 use ks_fixdep::Header;
 use ks_requests::{Outcome, Refusal, Stamps, tell_depfile, tell_recorded, tell_report, texts_at};
 use ks_symbols::{Dialect, Kconfig, path_is_legal};
@@ -113,7 +111,6 @@ pub(crate) fn record_rule<T: Tree>(
     ensures cause { result ≡ Err (Engine Device) → HasRisen (T.failures tree.old) (T.failures tree.new) }
 {
     let header = header_of(dialect, header)?;
-    let conventions = Conventions { header, dialect };
-    let recorded = record_depfile(alloc, tree, conventions, depfile, target, command)?;
+    let recorded = record_depfile(alloc, tree, header, dialect, depfile, target, command)?;
     Ok(tell_depfile(alloc, target, &recorded)?)
 }

@@ -1,5 +1,5 @@
 //! Laws of the definitions, each the contract of a function that does nothing.
-ghost use Rattle.ks_commands.specs.Laws.{BatchTellsChanges, PreviewsArePerformed, ProgramsTellChanges, RefusalsChangeNothing, StatusesAreAtMostTwo, StatusesTellDifferences};
+ghost use Rattle.ks_commands.specs.Laws.{BatchTellsChanges, PreviewsArePerformed, ProgramsTellChanges, RefusalsChangeNothing, StatusesAreAtMostTwo, StatusesTellDifferences, WhatChangedIsAged};
 
 /// What is said of a preview as a caller has its words.
 pub fn previews_are_performed()
@@ -29,4 +29,10 @@ pub fn batch_tells_changes()
 /// The headline for runs of the program one after the other, as a build makes them.
 pub fn programs_tell_changes()
     ensures { ProgramsTellChanges }
+{}
+
+/// What `age` is for. Make compiles an object that is older than one of its prerequisites, and an aged one is older than each
+/// stamp that a synchronisation has written: so make compiles what changed, whatever a clock said.
+pub fn what_changed_is_aged()
+    ensures { WhatChangedIsAged }
 {}

@@ -11,8 +11,10 @@ ghost use Rattle.ks_engine.specs.declared.error.EngineError.TheVariants.{Device}
 ghost use Rattle.ks_requests.specs.declared.refusal.Refusal.TheVariants.{Engine};
 ghost use Rattle.ks_requests.specs.declared.status.Status.TheVariants.{Done};
 ghost use Rattle.ks_requests.specs.Requests.{IsNoQuestion};
+ghost use Rattle.ks_commands.specs.Aging.{AgesAsked};
 ghost use Rattle.ks_commands.specs.Performed.{Continues, Counts, Ends, EndsFixdep, EndsPreview, by_files};
 
+use crate::aging::age_targets;
 use crate::batch::run_script;
 use crate::changes::{record_rule, record_target, synchronise};
 use crate::cost::tell_cost;
@@ -23,7 +25,7 @@ use crate::users::tell_users;
 use ks_engine::Question;
 use ks_requests::{Outcome, Refusal, Request, borrowed, borrowed_path, inputs_at, preview_of};
 use ks_symbols::{Dialect, Kconfig};
-use ks_tree::Tree;
+use ks_tree::{Aging, Tree};
 use std::alloc::Global;
 
 /// What a synchronisation would do.
@@ -65,7 +67,7 @@ fn fixdep<T: Tree>(
 }
 
 /// Does what was asked for, unless it is refused as a whole.
-pub(crate) fn outcome<T: Tree>(
+pub(crate) fn outcome<T: Aging>(
     alloc: Global,
     tree: &mut T,
     dialect: Dialect,
@@ -75,6 +77,7 @@ pub(crate) fn outcome<T: Tree>(
     ensures files { T.is_honest → Ends (T.files tree.old) (by_files dialect (state T.Tree tree.old) (state T.Tree tree.new)) request.now result }
     ensures goes_on { GoesOn T.Tree tree.old tree.new (Continues dialect request.now result) }
     ensures cause { result ≡ Err (Engine Device) → HasRisen (T.failures tree.old) (T.failures tree.new) }
+    ensures aged { T.is_honest → AgesAsked (T.files tree.old) request.now result (T.aged tree.old) (T.aged tree.new) }
     ensures counts { IfOk result (λ o. Counts dialect T.is_honest (state T.Tree tree.old) request.now o.text.items (state T.Tree tree.new)) }
 {
     match request {
@@ -149,6 +152,7 @@ pub(crate) fn outcome<T: Tree>(
             let (kconfig, dotconfig) = (kconfig.as_bytes(), dotconfig.as_bytes());
             ask_after(alloc, tree, dialect, kconfig, dotconfig, *form, targets)
         }
+        Request::Age { which, targets } => age_targets(alloc, tree, *which, targets),
         Request::Outdated { target, command } => {
             outdated_target(alloc, tree, target.as_bytes(), command.as_bytes())
         }

@@ -13,7 +13,7 @@ use ks_engine::EngineError;
 use ks_requests::{Refusal, Request, print, refuse, refuse_at, site_of};
 use ks_streams::Stream;
 use ks_symbols::Dialect;
-use ks_tree::Tree;
+use ks_tree::Aging;
 use ks_words::{WordsError, explain};
 use std::alloc::Global;
 use std::io::Write;
@@ -36,7 +36,7 @@ fn tell_why<W: Write, E: Write>(
 
 /// Runs the command that the words after the program's name ask for, and answers the exit status: 0 done and nothing stale,
 /// 1 something stale or built by another command, 2 something refused. Sources and Kconfigs are read in the dialect.
-pub fn execute<T: Tree, W: Write, E: Write>(
+pub fn execute<T: Aging, W: Write, E: Write>(
     alloc: Global,
     tree: &mut T,
     dialect: Dialect,

@@ -37,6 +37,9 @@ const ROWS: &[(Step<'_>, &str)] = &[
     (Step::InUBoot(&["depfile", "u.d", "spl/x.o", "cc"]), "0 depfile spl/x.o generation 1 names 2\n"),
     (Step::Read("u.d"), "x.o: \\\n  u.c \\\n  include/config/SPL_A \\\n  include/config/B\n"),
     (Step::Read("include/config/SPL_A"), ""),
+    (Step::Put("u.d", "x.o: u.c\n"), "done"),
+    (Step::InUBoot(&["depfile", "u.d", "spl/x.o", "cc -DX=CONFIG_IS_ENABLED(C_MODULE)"]), "0 depfile spl/x.o generation 1 names 4\n"),
+    (Step::Read("u.d"), "x.o: \\\n  u.c \\\n  include/config/SPL_A \\\n  include/config/B \\\n  include/config/SPL_C \\\n  include/config/SPL_C_MODULE\n"),
 ];
 
 #[test]

@@ -5,6 +5,8 @@
 #![tactic(auto)]
 
 #[cfg(test)]
+mod aging;
+#[cfg(test)]
 mod commands;
 #[cfg(test)]
 mod dialects;

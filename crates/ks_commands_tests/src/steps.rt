@@ -3,7 +3,7 @@ use crate::golden;
 use ks_commands::execute;
 use ks_streams::Stream;
 use ks_symbols::Dialect;
-use ks_tree::{MemoryTree, Tree};
+use ks_tree::{AgedTree, Aging, MemoryTree, Tree};
 use ks_words::request_of;
 use std::alloc::Global;
 use std::process::Abort;
@@ -29,7 +29,7 @@ pub(crate) struct Run {
     pub(crate) err: String,
 }
 
-pub(crate) fn run_over<'a, T: Tree>(
+pub(crate) fn run_over<'a, T: Aging>(
     alloc: Global,
     tree: &mut T,
     dialect: Dialect,
@@ -59,7 +59,7 @@ fn run_text(alloc: Global, run: &Run) -> Result<String, Fail> {
 }
 
 /// What comes of a step: what was read, or the status, the output and standard error, one after the other.
-pub(crate) fn told<T: Tree>(alloc: Global, tree: &mut T, step: Step<'_>) -> Result<String, Fail> {
+pub(crate) fn told<T: Aging>(alloc: Global, tree: &mut T, step: Step<'_>) -> Result<String, Fail> {
     match step {
         Step::Words(words) => run_text(alloc, &run_over(alloc, tree, Dialect::Linux, words)?),
         Step::InUBoot(words) => run_text(alloc, &run_over(alloc, tree, Dialect::UBoot, words)?),
@@ -75,7 +75,7 @@ pub(crate) fn told<T: Tree>(alloc: Global, tree: &mut T, step: Step<'_>) -> Resu
 }
 
 /// Takes the steps one after another, each with what is to come of it.
-pub(crate) fn play<T: Tree>(
+pub(crate) fn play<T: Aging>(
     rt: &impl Abort,
     alloc: Global,
     tree: &mut T,
@@ -89,8 +89,8 @@ pub(crate) fn play<T: Tree>(
 }
 
 /// A tree with the inputs of all examples.
-pub(crate) fn world(rt: &impl Abort, alloc: Global) -> Result<MemoryTree, Fail> {
-    let mut tree = MemoryTree::new(alloc);
+pub(crate) fn world(rt: &impl Abort, alloc: Global) -> Result<AgedTree<MemoryTree>, Fail> {
+    let mut tree = AgedTree::new(alloc, MemoryTree::new(alloc));
     play(rt, alloc, &mut tree, golden::INPUTS)?;
     Ok(tree)
 }

@@ -4,7 +4,7 @@ use ks_commands::execute;
 use ks_requests::{PreviewError, Request, Telling, preview_to};
 use ks_streams::Stream;
 use ks_symbols::{Dialect, Kconfig, SourceError};
-use ks_tree::MemoryTree;
+use ks_tree::{AgedTree, MemoryTree};
 use std::alloc::{AllocError, Global};
 
 /// A title, a bool and a tristate.
@@ -127,6 +127,7 @@ fn batch(alloc: Global, script: &[u8]) -> Result<String, AllocError> {
             Vec::from_slice(alloc, bytes)?,
         )?;
     }
+    let mut tree = AgedTree::new(alloc, tree);
     let mut out: Stream<Vec<u8>> = Stream::new(Vec::new(alloc));
     let mut err: Stream<Vec<u8>> = Stream::new(Vec::new(alloc));
     let request = Request::Batch {
@@ -188,6 +189,7 @@ fn diff(
             )?;
         }
     }
+    let mut tree = AgedTree::new(alloc, tree);
     let mut out: Stream<Vec<u8>> = Stream::new(Vec::new(alloc));
     let mut err: Stream<Vec<u8>> = Stream::new(Vec::new(alloc));
     let request = Request::Diff {

@@ -1,7 +1,7 @@
 //! Which request the words make, and which words are refused. What help and the version print, tests/main holds against
 //! the built program.
 use crate::steps::{Step, told};
-use ks_tree::MemoryTree;
+use ks_tree::{AgedTree, MemoryTree};
 use ks_words::request_of;
 use std::test::Fail;
 
@@ -66,7 +66,7 @@ fn words_are_taken_as_meant(rt: HostRuntime) -> Result<(), Fail> {
 #[rattlefmt::skip]
 fn words_that_are_no_command(rt: HostRuntime) -> Result<(), Fail> {
     let alloc = rt.alloc();
-    let mut tree = MemoryTree::new(alloc);
+    let mut tree = AgedTree::new(alloc, MemoryTree::new(alloc));
     let rows: [(&str, &[&str]); 45] = [
         ("no words", &[]),
         ("another command", &["bogus"]),

@@ -1,7 +1,7 @@
 -- What is asked of the program, without where its words lie.
 use Rattle.std.specs.Prelude.{◌≡◌, ℕ, List, Option, option_map, string_bytes, ⊤}
 use Rattle.ks_requests.specs.declared.request.Request.{Request}
-use Rattle.ks_requests.specs.declared.request.Request.TheVariants.{Batch, Cost, Diff, Impact, Outdated, Preview, Stale, Users, Why}
+use Rattle.ks_requests.specs.declared.request.Request.TheVariants.{Age, Batch, Cost, Diff, Impact, Outdated, Preview, Stale, Users, Why}
 use Rattle.ks_requests.specs.declared.telling.Telling.TheVariants.{LinesAndStatus, Status}
 
 -- the request is a preview of these two files, over this old auto.conf if there is one
@@ -20,6 +20,7 @@ abbrev pub IsNoQuestion : Request → Type 0
 IsNoQuestion (Stale targets form) = ⊥
 IsNoQuestion (Why targets form) = ⊥
 IsNoQuestion (Impact kconfig dotconfig targets form) = ⊥
+IsNoQuestion (Age which targets) = ⊥
 IsNoQuestion (Outdated target command) = ⊥
 IsNoQuestion (Batch script) = ⊥
 IsNoQuestion (Diff kconfig dotconfig LinesAndStatus) = ⊥

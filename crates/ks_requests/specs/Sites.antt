@@ -11,7 +11,7 @@ use Rattle.ks_engine.specs.declared.error.EngineError.TheVariants.{BadAuto, BadP
 use Rattle.ks_requests.specs.declared.refusal.Refusal.{Refusal}
 use Rattle.ks_requests.specs.declared.refusal.Refusal.TheVariants.{Engine, BadScript}
 use Rattle.ks_requests.specs.declared.request.Request.{Request}
-use Rattle.ks_requests.specs.declared.request.Request.TheVariants.{Batch, Cost, Depfile, Diff, Fixdep, Impact, Outdated, Preview, Record, Stale, Sync, Users, Why}
+use Rattle.ks_requests.specs.declared.request.Request.TheVariants.{Age, Batch, Cost, Depfile, Diff, Fixdep, Impact, Outdated, Preview, Record, Stale, Sync, Users, Why}
 use Rattle.ks_requests.specs.declared.sites.Part.{Part}
 use Rattle.ks_requests.specs.declared.sites.Part.TheVariants.{Whole, Line, Token}
 use Rattle.ks_requests.specs.Endings.{Ending}
@@ -66,6 +66,7 @@ site_of (Depfile end d t c) refusal = record_site (string_bytes d) refusal
 site_of (Batch script) refusal = script_site (string_bytes script) refusal
 site_of (Stale targets form) refusal = None
 site_of (Why targets form) refusal = None
+site_of (Age which targets) refusal = None
 site_of (Outdated t c) refusal = None
 site_of (Users symbols targets) refusal = None
 site_of (Cost top targets) refusal = None

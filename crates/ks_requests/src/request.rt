@@ -1,5 +1,6 @@
 //! What the program can be asked to do.
 use crate::telling::Telling;
+use ks_engine::Ages;
 
 /// The objects that a question is about: those among the words, and after them those of a file, one a line.
 #[derive(Debug, Drop)]
@@ -83,6 +84,11 @@ pub enum Request {
         dotconfig: String,
         targets: Targets,
         form: Form,
+    },
+    /// Which of these objects are stale, and those of them are aged.
+    Age {
+        which: Ages,
+        targets: Targets,
     },
     /// Whether an object was built by another command, or is stale.
     Outdated {

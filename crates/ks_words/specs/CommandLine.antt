@@ -90,6 +90,7 @@ command_line_app = with_all bare_app
     ∷ needing_one (taking (codes "why") (any_number (codes "TARGET") ∷ following (codes "from") (codes "FILE") ∷ flag (codes "json") ∷ []))
     ∷ needing_one (taking (codes "impact") (once (codes "KCONFIG") ∷ once (codes "DOTCONFIG") ∷ any_number (codes "TARGET")
     ∷ following (codes "from") (codes "FILE") ∷ flag (codes "json") ∷ []))
+    ∷ needing_one (taking (codes "age") (flag (codes "unrecorded") ∷ any_number (codes "TARGET") ∷ following (codes "from") (codes "FILE") ∷ []))
     ∷ taking (codes "batch") (once (codes "SCRIPT") ∷ [])
     ∷ taking (codes "outdated") (once (codes "TARGET") ∷ once (codes "COMMAND") ∷ [])
     ∷ needing_one (taking (codes "users") (once_after (codes "from") (codes "FILE") ∷ at_least_once (codes "SYMBOL") ∷ []))

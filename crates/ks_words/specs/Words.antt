@@ -3,6 +3,8 @@ use Rattle.std.specs.Prelude.{◌≡◌, ◌≢◌, ◌⊎◌, ℕ, Bool, false,
 use Rattle.std.specs.List.{All}
 use Rattle.std.specs.Option.{option_map_or}
 use Rattle.clap.specs.Words.{IsAmong, Kinds, Row, Text, all_of, first_of, one_of}
+use Rattle.ks_engine.specs.declared.aging.Ages.{Ages}
+use Rattle.ks_engine.specs.declared.aging.Ages.TheVariants as ages
 use Rattle.ks_requests.specs.declared.request.Form.{Form}
 use Rattle.ks_requests.specs.declared.request.Form.TheVariants as form
 use Rattle.std.specs.Str.Parse.{IsNumeral, digits_value, without_leading_plus}
@@ -63,11 +65,15 @@ telling_of rows = if is_set (codes "quiet") rows then Status else (if is_set (co
 abbrev pub stamps_of : List Row → Stamps
 stamps_of rows = if is_set (codes "stamps") rows then stamps.Declared else stamps.Touched
 
+-- which stale objects `age` is to age
+abbrev pub ages_of : List Row → Ages
+ages_of rows = if is_set (codes "unrecorded") rows then ages.Unrecorded else ages.Recorded
+
 -- the name is that of no command but `stale`
 abbrev pub IsNoOther : Text → Type 0
 IsNoOther name = All (λ other. name ≢ other)
     (codes "sync" ∷ codes "preview" ∷ codes "diff" ∷ codes "fixdep" ∷ codes "record" ∷ codes "depfile" ∷ codes "batch" ∷ codes "outdated"
-    ∷ codes "why" ∷ codes "impact" ∷ codes "users" ∷ codes "cost" ∷ [])
+    ∷ codes "why" ∷ codes "impact" ∷ codes "age" ∷ codes "users" ∷ codes "cost" ∷ [])
 
 -- the objects of a question
 abbrev pub AreTargets : List Row → Targets → Type 0
@@ -109,6 +115,7 @@ IsRequestOf command rows (request.Why ts f) = (command ≡ codes "why") × AreTa
 IsRequestOf command rows (request.Impact k d ts f) = (command ≡ codes "impact")
     × (string_bytes k ≡ word_at (codes "KCONFIG") rows) × (string_bytes d ≡ word_at (codes "DOTCONFIG") rows) × AreTargets rows ts
     × (f ≡ form_of rows)
+IsRequestOf command rows (request.Age which ts) = (command ≡ codes "age") × (which ≡ ages_of rows) × AreTargets rows ts
 IsRequestOf command rows (request.Batch s) =
     (command ≡ codes "batch") × (string_bytes s ≡ word_at (codes "SCRIPT") rows)
 IsRequestOf command rows (request.Outdated t c) = (command ≡ codes "outdated")

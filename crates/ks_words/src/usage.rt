@@ -5,13 +5,15 @@ pub(crate) const ABOUT: &str =
     "Which objects of a kernel build are stale after a change of .config";
 
 /// How the program is called.
-pub(crate) const CALL: &str = "confstamp [-C DIR]... [--begin] [--dialect NAME] <COMMAND>";
+pub(crate) const CALL: &str =
+    "confstamp [-C DIR]... [--begin] [--dialect NAME] [--wait SECONDS] <COMMAND>";
 
 /// What holds for all commands.
 pub(crate) const NOTES: &str = "\
 Files are looked up in the current folder, or below DIR of -C DIR in front of the command.
 --begin lets a sync begin its numbers again, where files hold some and auto.conf has no generation.
 --dialect says in whose words sources and Kconfigs are read: linux, as without it, u-boot or busybox.
+--wait tries again for SECONDS seconds where another confstamp is at work in the folder.
 A word that begins with - is taken after --.
 
 Exit status:
@@ -170,7 +172,13 @@ const TOP: Word = Word {
     help: "Print the N dearest symbols alone",
 };
 
-pub(crate) const USAGES: [Usage; 13] = [
+const UNRECORDED: Word = Word {
+    name: "unrecorded",
+    times: Times::Flag,
+    help: "Age objects without a command file or without a number too",
+};
+
+pub(crate) const USAGES: [Usage; 14] = [
     Usage {
         name: "sync",
         about: "Write auto.conf, the header and the stamps of all symbols that changed",
@@ -263,6 +271,17 @@ Example: confstamp why x.o y.o",
 Prints what stale would print after sync KCONFIG DOTCONFIG, and N of M stale to standard error. Writes no file.
 
 Example: confstamp impact Kconfig .config x.o y.o",
+    },
+    Usage {
+        name: "age",
+        about: "Say which objects are stale, and age them, so that make builds them whatever their times",
+        words: &[UNRECORDED, TARGETS, FROM],
+        choice: Some("confstamp age [--unrecorded] [--from FILE] [TARGET]..."),
+        notes: "\
+Prints the lines of stale. The file of each stale object gets the first second of 1970 as its time, and keeps its
+bytes. One of the words is needed.
+
+Example: confstamp age --from objects",
     },
     Usage {
         name: "batch",

@@ -5,11 +5,12 @@ ghost use Rattle.clap.specs.Walk.{texts};
 ghost use Rattle.ks_requests.specs.Requests.{IsBatchOf, IsPreviewOf};
 ghost use Rattle.ks_words.specs.CommandLine.{command_line_app};
 ghost use Rattle.ks_words.specs.Meaning.{Makes};
-ghost use Rattle.ks_words.specs.Words.{AreTargets, IsFaultOf, IsPlainWord, IsRequestOf, IsTold, IsWantOfMemory, is_set, stamps_of, telling_of, word_at, words_at, form_of, IsNumberOf};
+ghost use Rattle.ks_words.specs.Words.{AreTargets, IsFaultOf, IsPlainWord, IsRequestOf, IsTold, IsWantOfMemory, ages_of, is_set, stamps_of, telling_of, word_at, words_at, form_of, IsNumberOf};
 
 use crate::command_line::command_line;
 use clap::ArgMatches;
 use clap::error::ErrorKind;
+use ks_engine::Ages;
 use ks_requests::{Form, Request, Stamps, Targets, Telling};
 use std::alloc::{AllocError, Global};
 use thiserror::Error;
@@ -119,6 +120,17 @@ fn stamps(matches: &ArgMatches<'_>) -> Stamps
         Stamps::Declared
     } else {
         Stamps::Touched
+    }
+}
+
+/// Which stale objects `age` is to age.
+fn ages(matches: &ArgMatches<'_>) -> Ages
+    ensures { result ≡ ages_of (rows_of (found_of matches.now)) }
+{
+    if is_set(matches, "unrecorded") {
+        Ages::Unrecorded
+    } else {
+        Ages::Recorded
     }
 }
 
@@ -264,6 +276,10 @@ fn request_named(alloc: Global, name: &str, matches: &ArgMatches<'_>) -> Result<
             form: form(matches),
         }),
         "impact" => impact_request(alloc, matches),
+        "age" => Ok(Request::Age {
+            which: ages(matches),
+            targets: targets(alloc, matches)?,
+        }),
         "users" => users_request(alloc, matches),
         "cost" => cost_request(alloc, matches),
         _ => Ok(Request::Stale {

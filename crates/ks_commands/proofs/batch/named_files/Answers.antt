@@ -13,6 +13,7 @@ loop-line-preserved g c =
     let files = g.T.Tree.files c.args.tree.now in
     record {
       unchanged = λ honest. after.reads.unchanged honest ∙ before.unchanged honest;
+      kept = after.reads.kept ∙ before.kept;
       later = omega (arith, after.reads.counted.later, before.later);
       given = λ honest. subst (λ f. AreGiven f c.keep_files.new.kept) (before.unchanged honest) (after.given honest);
       here = kept_next seen_line c.loop-line.kept c.keep_files.new.kept c.args.lines.now c.loop-line.line-index _ c.loop-line-test.true after.grows

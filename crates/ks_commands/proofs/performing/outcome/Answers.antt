@@ -1,4 +1,5 @@
 use Rattle.ks_commands.proofs.Prelude.{refl, sym, subst, state, Shows}
+use Rattle.ks_requests.specs.declared.request.Form.TheVariants.{Text}
 use Rattle.ks_commands.proofs.Counting.{if_ok}
 use Rattle.ks_commands.proofs.Continuing.{impact_follows, stale_follows, why_follows}
 use Rattle.ks_commands.proofs.performing.outcome.Goals as goal
@@ -30,6 +31,17 @@ returns-in-Stale-clause-goes_on g c = λ honest h shows.
     let same = c.ask_targets.ensures.reads.unchanged honest in (
       h,
       rw c.in-Stale.is ((same, refl), stale_follows c.args.dialect (state g.T.Tree c.args.tree.now) (state g.T.Tree c.ask_targets.new.tree) h _ _ _ same shows (c.ask_targets.ensures.told honest)),
+      subst (λ f. Shows f h) (sym same) shows,
+    )
+
+pub returns-in-Age-clause-files : goal.returns-in-Age-clause-files
+returns-in-Age-clause-files g c = λ honest. rw c.in-Age.is (c.age_targets.ensures.unchanged honest, c.age_targets.ensures.told honest)
+
+pub returns-in-Age-clause-goes_on : goal.returns-in-Age-clause-goes_on
+returns-in-Age-clause-goes_on g c = λ honest h shows.
+    let same = c.age_targets.ensures.unchanged honest in (
+      h,
+      rw c.in-Age.is ((same, refl), stale_follows c.args.dialect (state g.T.Tree c.args.tree.now) (state g.T.Tree c.age_targets.new.tree) h Text _ _ same shows (c.age_targets.ensures.told honest)),
       subst (λ f. Shows f h) (sym same) shows,
     )
 
@@ -96,3 +108,48 @@ returns-in-Outdated-clause-counts g c = rw (c.in-Outdated.is, ← c.as_bytes-in-
 
 pub returns-in-Batch-clause-counts : goal.returns-in-Batch-clause-counts
 returns-in-Batch-clause-counts g c = rw (c.in-Batch.is, ← c.as_bytes-in-Batch.ensures.value) c.run_script.ensures.counts
+
+pub returns-in-Age-clause-counts : goal.returns-in-Age-clause-counts
+returns-in-Age-clause-counts g c = rw c.in-Age.is c.age_targets.ensures.counts
+
+pub returns-in-Age-clause-aged : goal.returns-in-Age-clause-aged
+returns-in-Age-clause-aged g c = λ honest. rw c.in-Age.is (c.age_targets.ensures.aged honest)
+
+pub returns-in-Preview-clause-aged : goal.returns-in-Preview-clause-aged
+returns-in-Preview-clause-aged g c = λ honest. rw c.in-Preview.is c.preview.ensures.reads.kept
+
+pub returns-in-Diff-clause-aged : goal.returns-in-Diff-clause-aged
+returns-in-Diff-clause-aged g c = λ honest. rw c.in-Diff.is c.tell_differences.ensures.reads.kept
+
+pub returns-in-Fixdep-clause-aged : goal.returns-in-Fixdep-clause-aged
+returns-in-Fixdep-clause-aged g c = λ honest. rw c.in-Fixdep.is c.fixdep.ensures.reads.kept
+
+pub returns-in-Stale-clause-aged : goal.returns-in-Stale-clause-aged
+returns-in-Stale-clause-aged g c = λ honest. rw c.in-Stale.is c.ask_targets.ensures.reads.kept
+
+pub returns-in-Why-clause-aged : goal.returns-in-Why-clause-aged
+returns-in-Why-clause-aged g c = λ honest. rw c.in-Why.is c.ask_targets-in-Why.ensures.reads.kept
+
+pub returns-in-Impact-clause-aged : goal.returns-in-Impact-clause-aged
+returns-in-Impact-clause-aged g c = λ honest. rw c.in-Impact.is c.ask_after.ensures.reads.kept
+
+pub returns-in-Outdated-clause-aged : goal.returns-in-Outdated-clause-aged
+returns-in-Outdated-clause-aged g c = λ honest. rw c.in-Outdated.is c.outdated_target.ensures.reads.kept
+
+pub returns-in-Users-clause-aged : goal.returns-in-Users-clause-aged
+returns-in-Users-clause-aged g c = λ honest. rw c.in-Users.is c.tell_users.ensures.reads.kept
+
+pub returns-in-Cost-clause-aged : goal.returns-in-Cost-clause-aged
+returns-in-Cost-clause-aged g c = λ honest. rw c.in-Cost.is c.tell_cost.ensures.reads.kept
+
+pub returns-in-Sync-clause-aged : goal.returns-in-Sync-clause-aged
+returns-in-Sync-clause-aged g c = λ honest. rw c.in-Sync.is tt
+
+pub returns-in-Record-clause-aged : goal.returns-in-Record-clause-aged
+returns-in-Record-clause-aged g c = λ honest. rw c.in-Record.is tt
+
+pub returns-in-Depfile-clause-aged : goal.returns-in-Depfile-clause-aged
+returns-in-Depfile-clause-aged g c = λ honest. rw c.in-Depfile.is tt
+
+pub returns-in-Batch-clause-aged : goal.returns-in-Batch-clause-aged
+returns-in-Batch-clause-aged g c = λ honest. rw c.in-Batch.is tt

@@ -6,6 +6,7 @@ use Rattle.ks_commands.proofs.questions.ask_all.Goals as goal
 pub loop-target-init : goal.loop-target-init
 loop-target-init g c = record {
   unchanged = λ honest. refl;
+  kept = refl;
   later = search rules;
   memo = λ honest. c.with_seed-memo.ensures (g.T.Tree.files c.args.tree.now);
   told = λ honest.
@@ -17,6 +18,7 @@ loop-target-init g c = record {
 pub loop-target-preserved : goal.loop-target-preserved
 loop-target-preserved g c = record {
   unchanged = λ honest. c.tell_one.ensures.reads.unchanged honest ∙ c.ask-answer.ensures.reads.unchanged honest ∙ c.loop-target.invariant.unchanged honest;
+  kept = c.tell_one.ensures.reads.kept ∙ c.ask-answer.ensures.reads.kept ∙ c.loop-target.invariant.kept;
   later = search rules;
   memo = λ honest. subst (λ f. IsMemoOf f c.ask-answer.new.memo) (sym (c.tell_one.ensures.reads.unchanged honest)) (c.ask-answer.ensures.memo honest);
   told = λ honest.

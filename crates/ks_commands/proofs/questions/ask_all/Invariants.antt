@@ -4,6 +4,7 @@ use Rattle.ks_commands.proofs.questions.ask_all.Given as goal
 abbrev pub invariant-loop-target : goal.invariant-loop-target
 invariant-loop-target g l = record {
   unchanged : g.T.Tree.is_honest → g.T.Tree.files l.tree ≡ g.T.Tree.files l.fn.tree;
+  kept : g.T.Tree.aged l.tree ≡ g.T.Tree.aged l.fn.tree;
   later : g.T.Tree.failures l.fn.tree ≤ g.T.Tree.failures l.tree;
   memo : g.T.Tree.is_honest → IsMemoOf (g.T.Tree.files l.tree) l.memo;
   told : g.T.Tree.is_honest

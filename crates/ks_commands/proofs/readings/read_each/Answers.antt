@@ -16,6 +16,7 @@ loop-target-preserved g c =
     let nothing : Bor (List ℕ) = record { ref_ptr = (0, 0); now = [] } in
     record {
       unchanged = λ honest. reads.unchanged honest ∙ old.unchanged honest;
+      kept = reads.kept ∙ old.kept;
       later = omega (arith, old.later, reads.counted.later);
       same = c.in_ok-one.ensures.same ∙ old.same;
       told = read_more old.told old.unchanged (ap g.R.Reader.line old.same) c.in_ok-one.ensures.told

@@ -12,5 +12,5 @@ loop-usage-preserved c =
 
 pub returns : goal.returns
 returns c =
-    let all : c.loop-usage.usage-index ≡ 13 = omega arith in
+    let all : c.loop-usage.usage-index ≡ 14 = omega arith in
     c.loop-usage.invariant ∙ rw all refl

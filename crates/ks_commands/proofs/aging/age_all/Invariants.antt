@@ -1,0 +1,18 @@
+use Rattle.ks_commands.proofs.Prelude.{◌≡◌, ◌≤◌, ℕ, map, take, IsAnswerOn, IsMemoOf, code_of, Says, TellsAll, TellsCounted, TellsVerdict}
+use Rattle.ks_engine.specs.declared.question.Limit.TheVariants.{First}
+use Rattle.ks_requests.specs.declared.request.Form.TheVariants.{Text}
+use Rattle.ks_commands.specs.Aging.{AgesEach}
+use Rattle.ks_commands.proofs.aging.age_all.Given as goal
+
+abbrev pub invariant-loop-target : goal.invariant-loop-target
+invariant-loop-target g l = record {
+  unchanged : g.T.Tree.is_honest → g.T.Tree.files l.tree ≡ g.T.Tree.files l.fn.tree;
+  later : g.T.Tree.failures l.fn.tree ≤ g.T.Tree.failures l.tree;
+  memo : g.T.Tree.is_honest → IsMemoOf (g.T.Tree.files l.tree) l.memo;
+  aged : g.T.Tree.is_honest
+      → AgesEach l.which (g.T.Tree.files l.fn.tree) (map (λ t. t.now) (take l.target-index l.targets)) l.text.items (code_of l.status) (g.T.Tree.aged l.fn.tree)
+      (g.T.Tree.aged l.tree);
+  told : g.T.Tree.is_honest → (stale : ℕ)
+      × TellsAll (TellsVerdict Text (IsAnswerOn (g.T.Tree.files l.fn.tree))) (map (λ t. t.now) (take l.target-index l.targets)) l.text.items (code_of l.status) stale;
+  counted : TellsCounted (Says Text First) (g.T.Tree.failures l.fn.tree) (map (λ t. t.now) (take l.target-index l.targets)) l.text.items (g.T.Tree.failures l.tree);
+}

@@ -1,0 +1,119 @@
+//! Aging: which objects are aged over a tree in memory, and what is left of that by a device that fails at any call.
+use crate::steps::{Step, play, run_over, shown, world};
+use ks_symbols::Dialect;
+use ks_tree::{AgedTree, FuseMode, FuseTree, MemoryTree};
+use std::alloc::{AllocError, Global};
+use std::process::Abort;
+use std::test::Fail;
+
+/// Two objects are recorded, one has no record, one a record without a number, and then A changes.
+#[rattlefmt::skip]
+const CHANGED: &[(Step<'_>, &str)] = &[
+    (Step::Put("x.o", "object"), "done"),
+    (Step::Words(&["sync", "K1", "c1"]), "0 generation 1\ntouch A\ntouch B\nunknown 0\n"),
+    (Step::Words(&["record", "x.d", "x.o", "cc -c x.c"]), "0 record x.o generation 1 names 3\n"),
+    (Step::Words(&["record", "x.d", "w.o", "cc -c x.c"]), "0 record w.o generation 1 names 3\n"),
+    (Step::Put(".old.o.cmd", "savedcmd_old.o := cc\n\nsource_old.o := x.c\n\ndeps_old.o := \\\n    $(wildcard include/config/A) \\\n\nold.o: $(deps_old.o)\n\n$(deps_old.o):\n"), "done"),
+    (Step::Words(&["age", "x.o", "w.o"]), "0 x.o fresh\nw.o fresh\n"),
+    (Step::Words(&["sync", "K1", "only_b"]), "0 generation 2\ntouch A\nunknown 0\n"),
+    (Step::Words(&["record", "x.d", "new.o", "cc -c x.c"]), "0 record new.o generation 2 names 3\n"),
+    (Step::Put("objects", "w.o\nnone.o\n"), "done"),
+];
+
+/// A tree with these objects.
+fn changed(rt: &impl Abort, alloc: Global) -> Result<AgedTree<MemoryTree>, Fail> {
+    let mut tree = world(rt, alloc)?;
+    play(rt, alloc, &mut tree, CHANGED)?;
+    Ok(tree)
+}
+
+/// The paths that were aged, in turn.
+fn paths(alloc: Global, tree: &AgedTree<MemoryTree>) -> Result<String, AllocError> {
+    let mut paths = String::new(alloc);
+    for path in tree.aged() {
+        paths.push_str(str::from_utf8(path).unwrap_or("not text"))?;
+        paths.push(' ')?;
+    }
+    Ok(paths)
+}
+
+#[test]
+#[rattlefmt::skip]
+fn what_is_stale_is_aged(rt: HostRuntime) -> Result<(), Fail> {
+    let alloc = rt.alloc();
+    let rows: [(&[&str], &str, &str); 8] = [
+        (&["age", "x.o"], "1 x.o stale A\n", "x.o "),
+        (&["age", "new.o", "x.o", "none.o", "old.o", "w.o"],
+            "1 new.o fresh\nx.o stale A\nnone.o stale no-command-file\nold.o stale not-numbered\nw.o stale A\n", "x.o w.o "),
+        (&["age", "--unrecorded", "new.o", "none.o", "old.o", "w.o"],
+            "1 new.o fresh\nnone.o stale no-command-file\nold.o stale not-numbered\nw.o stale A\n", "none.o old.o w.o "),
+        (&["age", "x.o", "--from", "objects"], "1 x.o stale A\nw.o stale A\nnone.o stale no-command-file\n", "x.o w.o "),
+        (&["age", "x.o", "x.o"], "1 x.o stale A\nx.o stale A\n", "x.o x.o "),
+        (&["age", "x.o", "a$b", "w.o"], "2 x.o stale A\na$b refused 21 BadPath token 0\nw.o stale A\n", "x.o w.o "),
+        (&["age", "x.o", "--from", "nowhere"], "2 confstamp: 40 MissingFile nowhere\n", ""),
+        (&["stale", "x.o"], "1 x.o stale A\n", ""),
+    ];
+    for (words, want, aged) in rows {
+        let mut tree = changed(&rt, alloc)?;
+        play(&rt, alloc, &mut tree, &[(Step::Words(words), want), (Step::Read("x.o"), "object")])?;
+        assert_eq!(rt; paths(alloc, &tree)?.as_str(), aged, "{words:?}");
+    }
+    Ok(())
+}
+
+#[test]
+#[rattlefmt::skip]
+fn a_generation_to_come_is_aged(rt: HostRuntime) -> Result<(), Fail> {
+    let alloc = rt.alloc();
+    let mut tree = changed(&rt, alloc)?;
+    play(&rt, alloc, &mut tree, &[
+        (Step::Put("include/config/auto.conf", "#typed\n#generation 1\n"), "done"),
+        (Step::Words(&["age", "new.o"]), "1 new.o stale generation-ahead\n"),
+    ])?;
+    assert_eq!(rt; paths(alloc, &tree)?.as_str(), "new.o ");
+    Ok(())
+}
+
+/// The objects that the lines call stale, in turn.
+fn told(alloc: Global, lines: &str) -> Result<String, AllocError> {
+    let mut told = String::new(alloc);
+    for line in lines.lines() {
+        if let Some((path, _)) = line.split_once(" stale A") {
+            told.push_str(path)?;
+            told.push(' ')?;
+        }
+    }
+    Ok(told)
+}
+
+/// `age` behind a fuse: what is told as stale was aged, and nothing else but maybe the one object of which 30 is told.
+fn break_off(rt: &impl Abort, alloc: Global, passes: u64, mode: FuseMode) -> Result<u8, Fail> {
+    let tree = changed(rt, alloc)?;
+    let mut tree = FuseTree::new(tree, passes, Some(1), mode);
+    let words = ["age", "x.o", "new.o", "w.o"];
+    let run = run_over(alloc, &mut tree, Dialect::Linux, &words)?;
+    let mut tree = tree.into_inner();
+    let (told, aged) = (told(alloc, run.out.as_str())?, paths(alloc, &tree)?);
+    let half = mode == FuseMode::Half && run.status == 2;
+    let (told, aged) = (told.as_str(), aged.as_str());
+    let is_as_told = told == aged || half && aged == "x.o w.o ";
+    assert!(rt; is_as_told, "{passes} {mode:?}: told {told}, aged {aged}");
+    let left = shown(alloc, &mut tree, "x.o")?;
+    assert_eq!(rt; left.as_str(), "object", "{passes}");
+    Ok(run.status)
+}
+
+#[test]
+fn a_device_that_fails(rt: HostRuntime) -> Result<(), Fail> {
+    for mode in [FuseMode::Clean, FuseMode::Half] {
+        let mut failed = 0;
+        for passes in 0..30 {
+            if break_off(&rt, rt.alloc(), passes, mode)? == 2 {
+                failed += 1;
+            }
+        }
+        // three command files, auto.conf, three stamps and two objects
+        assert_eq!(rt; failed, 9, "{mode:?}");
+    }
+    Ok(())
+}

@@ -12,13 +12,13 @@ use Rattle.ks_tree.specs.Stamps.{HasNumber, IsStampRefusal}
 use Rattle.ks_tree.specs.declared.fault.TreeError.{TreeError}
 use Rattle.ks_engine.specs.declared.error.EngineError.{EngineError}
 use Rattle.ks_engine.specs.declared.error.EngineError.TheVariants.{BadCommandFile, TooLarge}
-use Rattle.ks_engine.specs.LastSync.{OldAuto, old_auto}
-use Rattle.ks_engine.specs.Refusals.{Answers, of_stamp}
+use Rattle.ks_engine.specs.LastSync.{old_auto}
+use Rattle.ks_engine.specs.Refusals.{Answers, and_then, of_stamp}
 use Rattle.confstamp.specs.Folders.{below}
 
 -- an auto.conf without a generation, or none at all
-abbrev pub BeginsAnew : Option (List ℕ) → Bool → Type 0
-BeginsAnew file begins = (old : OldAuto) × (old_auto file ≡ Ok old) × (begins ≡ nat_eq old.generation 0)
+abbrev pub begins_anew : Option (List ℕ) → Result Bool EngineError
+begins_anew file = and_then (old_auto file) (λ old. Ok (nat_eq old.generation 0))
 
 -- a number that was given by a synchronisation
 abbrev pub is_given : Option ℕ → Bool

@@ -12,8 +12,12 @@ use ks_tree::{Tree, TreeFault};
 use ks_words::WordsError;
 use std::alloc::Global;
 use std::fs::{File, TryLockError};
-use std::io;
 use std::io::ErrorKind;
+use std::time::Duration;
+use std::{io, thread};
+
+/// How often in a second a lock that another program has is tried again.
+const TRIES_A_SECOND: u64 = 20;
 
 /// What was found in the place of a script, to be run as it was looked at.
 #[derive(Drop)]
@@ -120,12 +124,41 @@ pub(crate) fn access_of<T: Tree>(
     }
 }
 
-/// The folder, or the current one for an empty path, locked as long as it is open. An error of the kind `WouldBlock` says that
-/// another program is in the way.
+/// Tries for the lock once.
+fn try_folder(folder: &File, lock: FolderLock) -> Result<(), TryLockError> {
+    match lock {
+        FolderLock::Exclusive => folder.try_lock(),
+        FolderLock::Shared => folder.try_lock_shared(),
+    }
+}
+
+/// Tries for the lock until these seconds are over, while another program is in the way. After the first one it is told.
+fn try_folder_for(
+    rt: &HostRuntime,
+    folder: &File,
+    lock: FolderLock,
+    seconds: u64,
+) -> Result<(), TryLockError> {
+    for tried in 0..seconds.saturating_mul(TRIES_A_SECOND) {
+        match try_folder(folder, lock) {
+            Err(TryLockError::WouldBlock) => {}
+            outcome => return outcome,
+        }
+        if tried == TRIES_A_SECOND {
+            let _ = eprintln!(rt; "confstamp: waiting for another confstamp in this folder");
+        }
+        thread::sleep(rt, Duration::from_millis(1000 / TRIES_A_SECOND));
+    }
+    try_folder(folder, lock)
+}
+
+/// The folder, or the current one for an empty path, locked as long as it is open; another program in the way is waited for, as
+/// many seconds as are given. An error of the kind `WouldBlock` says that it still is.
 pub(crate) fn lock_folder(
     rt: &HostRuntime,
     folder: &str,
     lock: Option<FolderLock>,
+    seconds: u64,
 ) -> io::Result<Option<File>> {
     let Some(lock) = lock else {
         return Ok(None);
@@ -134,11 +167,7 @@ pub(crate) fn lock_folder(
     let Ok(folder) = File::open(rt, path) else {
         return Ok(None);
     };
-    let outcome = match lock {
-        FolderLock::Exclusive => folder.try_lock(),
-        FolderLock::Shared => folder.try_lock_shared(),
-    };
-    match outcome {
+    match try_folder_for(rt, &folder, lock, seconds) {
         Ok(()) => Ok(Some(folder)),
         Err(TryLockError::WouldBlock) => Err(io::Error::from(ErrorKind::WouldBlock)),
         Err(TryLockError::Error(_)) => Ok(None),

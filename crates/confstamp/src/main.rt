@@ -2,12 +2,14 @@
 #![tactic(auto)]
 
 mod folder;
+mod front;
 mod lock;
 mod lost_numbers;
 mod numbers;
 mod pipe;
 
-use folder::{Front, Invocation, is_folder, take_front};
+use folder::is_folder;
+use front::{Fault, Front, Invocation, Settings, take_front};
 use ks_commands::execute;
 use ks_requests::Request;
 use ks_streams::Stream;
@@ -27,6 +29,15 @@ use std::{env, io};
 const LOST_NUMBERS: &str =
     "has a number, and auto.conf has no generation: another tool wrote it, or it was removed. Remove include/config and all \
     command files (make clean) and build anew, or say that numbers begin again: confstamp --begin";
+
+/// What is said of words in front of a command that are none.
+fn text_of(fault: Fault) -> &'static str {
+    match fault {
+        Fault::NoFolder => "-C: a folder is needed after it",
+        Fault::NoDialect => "--dialect: linux, u-boot or busybox is needed after it",
+        Fault::NoSeconds => "--wait: a number of seconds is needed after it",
+    }
+}
 
 /// The texts of the words.
 fn texts_of(alloc: Global, words: &[String]) -> Result<Vec<&str>, AllocError> {
@@ -72,14 +83,14 @@ struct Held {
 fn hold_folder(
     rt: &HostRuntime,
     tree: &mut FolderTree<&HostRuntime>,
-    invocation: &Invocation<'_>,
+    settings: &Settings,
     asked: &Result<Request, WordsError>,
 ) -> io::Result<Option<Held>> {
     let access = access_of(rt.alloc(), tree, asked)?;
     let lock = access.as_ref().map(|access| access.lock);
-    let folder = lock_folder(rt, invocation.folder.as_str(), lock)?;
-    if matches!(lock, Some(FolderLock::Exclusive)) && !invocation.may_begin {
-        if let Some(path) = lost_number(rt, tree, invocation.folder.as_str())? {
+    let folder = lock_folder(rt, settings.folder.as_str(), lock, settings.seconds)?;
+    if matches!(lock, Some(FolderLock::Exclusive)) && !settings.may_begin {
+        if let Some(path) = lost_number(rt, tree, settings.folder.as_str())? {
             let _ = eprintln!(rt; "confstamp: {path} {LOST_NUMBERS}");
             return Ok(None);
         }
@@ -95,24 +106,18 @@ fn run(rt: &HostRuntime) -> io::Result<u8> {
     let alloc = rt.alloc();
     let words: Vec<String> = env::args(rt)?.skip(1).collect(alloc)?;
     let texts = texts_of(alloc, &words)?;
-    let invocation = match take_front(alloc, &texts)? {
+    let Invocation { settings, words } = match take_front(alloc, &texts)? {
         Front::Taken(invocation) => invocation,
-        Front::NoFolder => {
-            let _ = eprintln!(rt; "confstamp: -C: a folder is needed after it");
-            return Ok(2);
-        }
-        Front::NoDialect => {
-            let _ = eprintln!(rt;
-                "confstamp: --dialect: linux, u-boot or busybox is needed after it"
-            );
+        Front::Faulty(fault) => {
+            let _ = eprintln!(rt; "confstamp: {}", text_of(fault));
             return Ok(2);
         }
     };
-    let Some(mut tree) = tree_of(rt, invocation.folder.as_str())? else {
+    let Some(mut tree) = tree_of(rt, settings.folder.as_str())? else {
         return Ok(2);
     };
-    let asked = request_of(alloc, invocation.words);
-    let Some(_held) = hold_folder(rt, &mut tree, &invocation, &asked)? else {
+    let asked = request_of(alloc, words);
+    let Some(_held) = hold_folder(rt, &mut tree, &settings, &asked)? else {
         return Ok(2);
     };
     let mut out = Stream::new(Pipe::new(BufWriter::new(alloc, rt.stdout())?));
@@ -121,7 +126,7 @@ fn run(rt: &HostRuntime) -> io::Result<u8> {
     let status = execute(
         alloc,
         &mut tree,
-        invocation.dialect,
+        settings.dialect,
         &asked,
         &mut out,
         &mut err,

@@ -4,7 +4,7 @@ ghost use Rattle.ks_tree.specs.Files.{content};
 ghost use Rattle.ks_tree.specs.Frames.{Reads};
 ghost use Rattle.ks_tree.specs.Paths.{auto_path, stamp_path};
 ghost use Rattle.ks_engine.specs.Refusals.{Answers};
-ghost use Rattle.confstamp.specs.Numbers.{BeginsAnew, HoldsNumber, IsHighStamp, IsStampFault, has_record_number, is_command_name};
+ghost use Rattle.confstamp.specs.Numbers.{HoldsNumber, IsHighStamp, IsStampFault, begins_anew, has_record_number, is_command_name};
 
 use crate::folder::below;
 use ks_engine::EngineError;
@@ -17,7 +17,7 @@ use std::alloc::Global;
 /// Whether a synchronisation would begin the numbers: auto.conf is missing, or another tool wrote it.
 pub(crate) fn begins_anew<T: Tree>(alloc: Global, tree: &mut T) -> Result<bool, EngineError>
     ensures reads { Reads T.Tree tree.old tree.new (IsErrOf result EngineError.Device) }
-    ensures read { T.is_honest → IfOk result (BeginsAnew (content (T.files tree.old) auto_path)) }
+    ensures read { T.is_honest → Answers (begins_anew (content (T.files tree.old) auto_path)) (λ begins. begins) result }
 {
     let Some(text) = tree.read(alloc, auto_path())? else {
         return Ok(true);

@@ -11,6 +11,11 @@ last=include/config/confstamp.generation
 records=include/config/confstamp.records
 dialects=include/config/confstamp.dialect
 split=include/config/confstamp.h
+make_mark=include/config/confstamp.make
+witness=include/config/confstamp.time
+kept_auto=include/config/confstamp.auto
+due=include/config/confstamp.due
+mark='# Synchronised by the hooks of confstamp'
 
 # The program: the one of CONFSTAMP, or that was installed with the hooks, or the one in PATH.
 confstamp=${CONFSTAMP:-$here/../../../bin/confstamp}
@@ -76,6 +81,23 @@ list_targets() {
     fi
 }
 
+# recorded DIR..: of what was recorded `targets` has what is there, and `answers` what isn't. And objects that nothing was
+# recorded of are targets: hidden ones are steps of the link of vmlinux, which make takes no record of.
+recorded() {
+    "$here/objects" "$@" > "$work/recorded"
+    while read -r target; do
+        if [ -e "$target" ]; then
+            echo "$target" >&3
+        else
+            echo "$target stale no-object"
+        fi
+    done < "$work/recorded" 3> "$work/targets" > "$work/answers"
+    [ "$#" -gt 0 ] || set -- .
+    find "$@" -name '[!.]*.o' -type f | while read -r object; do
+        [ -s "${object%/*}/.${object##*/}.cmd" ] || echo "${object#./}"
+    done >> "$work/targets"
+}
+
 # kconfigs: the Kconfig files that the project's tool has read, where they stand. Kbuild takes no path with a blank. Whoever
 # isn't called by make has a link `source` in a build folder of its own, and in one of BusyBox its makefile; a file there comes
 # before the one of the sources.
@@ -96,6 +118,16 @@ kconfigs() {
     ' "$read_kconfigs"
 }
 
+# declared: the names that the project's Kconfig files declare, in order, each once.
+declared() {
+    kconfigs | tr '\n' '\0' | xargs -0 sed -nE 's/^[[:blank:]]*(menu)?config[[:blank:]]+([A-Za-z0-9_]+).*/\2/p' | sort -u
+}
+
+# can_tell_declared: is it known here which names are declared?
+can_tell_declared() {
+    [ -e "$read_kconfigs" ] && declared > "$work/declared" 2> "$work/told" && [ -s "$work/declared" ]
+}
+
 # undeclared KCONFIG: the names of .config that it doesn't declare.
 undeclared() {
     awk '
@@ -106,10 +138,93 @@ undeclared() {
     ' "$1" "$config"
 }
 
-# Was the last synchronisation one by the hooks? BusyBox's own tools leave auto.conf as it was, but their split-include empties
-# each header in include/config that is no symbol's. Where the hooks call it they write theirs anew.
+# Was the last synchronisation one by the hooks? Linux's own tool writes auto.conf.cmd first of all, without the mark, and then
+# empties stamps; auto.conf comes last. BusyBox's own tools leave auto.conf as it was, but their split-include empties each header
+# in include/config that is no symbol's. Where the hooks call it they write theirs anew.
 synchronised() {
-    grep -qs '^#generation ' "$auto" && { [ "$dialect" != busybox ] || [ -s "$split" ]; }
+    grep -qs '^#generation ' "$auto" || return 1
+    case $dialect in
+    '') grep -qsxF -e "$mark" "$auto.cmd" ;;
+    busybox) [ -s "$split" ] ;;
+    esac
+}
+
+# A program of an earlier edition can't wait for another one in its folder.
+knows_wait() {
+    case $("$confstamp" --help) in
+    *--wait*) ;;
+    *) return 1 ;;
+    esac
+}
+
+# patiently TOLD WORD..: the program, with its standard error in TOLD. Where another one is at work in this folder it waits ten
+# seconds for that.
+patiently() {
+    told=$1
+    shift
+    status=0
+    "$confstamp" "$@" 2> "$told" || status=$?
+    if [ "$status" = 2 ] && grep -q 'another confstamp is at work' "$told" && knows_wait; then
+        tell 'waiting for another confstamp that is at work in this folder'
+        status=0
+        "$confstamp" --wait 10 "$@" 2> "$told" || status=$?
+        sed -i '/^confstamp: waiting /d' "$told"
+    fi
+    return "$status"
+}
+
+# Of standard input, one a line: a time before all others, for each file that is there. It is second 1, since 0 says to some
+# tools that a file isn't there.
+age_files() {
+    tr '\n' '\0' | TZ=UTC0 xargs -0 -r touch -c -t 197001010000.01
+}
+
+# age_objects FOLDER RECORDED: each object of FOLDER/targets that is stale by a symbol gets a time before all others, so that make
+# compiles it whatever any clock said. FOLDER/answers are those of all, and FOLDER/due has these. RECORDED lists what was recorded.
+# Status 1 where an answer is missing.
+age_objects() {
+    : > "$1/answers"
+    [ ! -s "$1/targets" ] || patiently "$1/told" age --from "$1/targets" > "$1/answers" || :
+    awk -v due="$1/due" '
+        BEGIN { printf "" > due }
+        FILENAME == ARGV[1] { asked++; next }
+        { answered++ }
+        $2 == "stale" && ($3 !~ /-/ || $3 == "generation-ahead") { print $1 > due }
+        END { exit answered < asked }
+    ' "$1/targets" "$1/answers" || {
+        tell "what is stale could not be given an old time: $(head -n 1 "$1/told")"
+        return 1
+    }
+    [ ! -s "$1/due" ] || age_products "$1" "$2"
+}
+
+# age_products FOLDER RECORDED: what make links or packs of objects would look newer than they will be, where it has a time to come.
+# Such products stand beside what was recorded, or above it, and have a command file. BusyBox itself has none.
+age_products() {
+    : > "$1/now"
+    folders=$(awk '
+        { while (sub(/\/[^\/]*$/, "") && $0 != "" && !($0 in known)) { known[$0]; print } }
+        END { print "." }
+    ' "$2")
+    # shellcheck disable=SC2086 # the list is words, and Kbuild takes no path with a blank
+    to_come=$(find $folders -maxdepth 1 ! -name '*.[chS]' ! -name '.*.cmd' -type f -newer "$1/now" 2> /dev/null) || :
+    [ -n "$to_come" ] || return 0
+    echo "$to_come" | sed 's,^\./,,' | awk 'NR == FNR { recorded[$0]; next } !($0 in recorded)' "$2" - |
+        while read -r product; do
+            case $product in
+            busybox | busybox_unstripped) commands=$product ;;
+            */*) commands=${product%/*}/.${product##*/}.cmd ;;
+            *) commands=.$product.cmd ;;
+            esac
+            [ ! -e "$commands" ] || echo "$product"
+        done | age_files
+}
+
+# The witness is a file that says its own time, so whoever finds it elsewhere knows whether times came along. One that is wrong
+# stays so until kbuild/restore has mended the times.
+leave_witness() {
+    date +%s.%N > "$witness"
+    touch -d "@$(cat "$witness")" "$witness"
 }
 
 # What the first difference is between .config and the configuration that was synchronised last; nothing where they say the
@@ -120,7 +235,9 @@ difference_of_config() {
     elif [ ! -f "$config" ]; then
         echo 'there is none'
     elif ! grep -qsxFf "$last" "$auto" || ! cmp -s "$config" "$kept"; then
-        { "$confstamp" ${dialect:+--dialect "$dialect"} diff "$bare" "$config" 2>&1 || :; } | awk '
+        {
+            "$confstamp" ${dialect:+--dialect "$dialect"} diff "$bare" "$config" 2>&1 || echo "confstamp diff ended with $?"
+        } | awk '
             / warning: / { next }
             $1 == "unknown" { $0 = $2 " is new" }
             { if (!count++) first = substr($0, 1, 120) }
@@ -152,4 +269,106 @@ by_folder() {
         shown == 4 { line = line ", .." }
         END { if (folder != "") print line }
     '
+}
+
+# makefiles_of_targets: those of the folders of `targets`, and of the folders above them.
+makefiles_of_targets() {
+    awk '{ folder = "./" $0; while (sub(/\/[^\/]*$/, "", folder)) if (!told[folder]++) print folder }' "$work/targets" |
+        while read -r folder; do
+            for makefile in Kbuild Makefile; do
+                [ ! -f "$sources/$folder/$makefile" ] || echo "$folder $sources/$folder/$makefile"
+            done
+        done
+}
+
+# builds_of_targets: how the configuration changes the build of an object of `targets`, by the lines `obj-$(CONFIG_X) += x.o` of
+# makefiles: `x.o n` where none builds it by .config, and `x.o X=m` or `x.o X=y` where it is built in by one of .config and the
+# synchronised configuration, and part of a module by the other. A line whose symbol isn't plain counts as y, and so does a
+# folder, or an object, that no line names.
+builds_of_targets() {
+    sources=${srctree:-.}
+    [ -e "$sources/Makefile" ] && [ ! -e source/Makefile ] || sources=source
+    makefiles_of_targets > "$work/makefiles"
+    awk -v makefiles="$work/makefiles" -v synchronised="$auto" -v wanted="$config" '
+        function read_values(time, file,    line, name) {
+            while ((getline line < file) > 0) {
+                if (line !~ /^CONFIG_[A-Za-z0-9_]+=[ym]$/) continue
+                name = substr(line, 8, length(line) - 9)
+                value[time, name] = substr(line, length(line))
+            }
+        }
+        # A path without `.` and `..`.
+        function plain(path) {
+            while (sub(/\/\.?\//, "/", path)) continue
+            while (sub(/[^\/]+\/\.\.\//, "", path)) continue
+            sub(/^\.\//, "", path)
+            return path
+        }
+        # stem-selector += words
+        function read_line(folder, line,    equals, name, words, count, place, dash, stem, selector, whole) {
+            sub(/[ \t]*#.*/, "", line)
+            if (line !~ /^[ \t]*[A-Za-z0-9_\/.-]+-[^ \t:=+?]+[ \t]*[:+?]?=/) return
+            equals = index(line, "=")
+            name = substr(line, 1, equals - 1)
+            gsub(/[ \t:+?]/, "", name)
+            count = split(substr(line, equals + 1), words, /[ \t]+/)
+            dash = match(name, /-\$\(.*$/) ? RSTART : match(name, /-[^-]*$/) ? RSTART : 0
+            stem = substr(name, 1, dash - 1)
+            selector = substr(name, dash + 1)
+            whole = stem ~ /^(obj|lib|extra|always|core|libs|drivers|net|targets|hostprogs)$/ ? "" : plain(folder "/" stem ".o")
+            for (place = 1; place <= count; place++) {
+                if (words[place] !~ /\.o$|\/$/) continue
+                list(plain(folder "/" words[place]), whole, selector)
+            }
+        }
+        function list(path, whole, selector) {
+            lines[path]++
+            of[path, lines[path]] = whole
+            by[path, lines[path]] = selector
+        }
+        function read_makefile(folder, file,    line, text) {
+            text = ""
+            while ((getline line < file) > 0) {
+                if (line ~ /\\$/) { text = text substr(line, 1, length(line) - 1) " "; continue }
+                read_line(folder, text line)
+                text = ""
+            }
+            close(file)
+        }
+        function selected(time, selector,    name) {
+            if (selector !~ /^\$\(CONFIG_[A-Za-z0-9_]+\)$/) return "y"
+            name = substr(selector, 10, length(selector) - 10)
+            if (value["old", name] != value["new", name]) reason = name
+            return value[time, name] == "" ? "n" : value[time, name]
+        }
+        # How an object or a folder is built by its own lines. Part of another object it is as that one, or not at all.
+        function built(time, path, depth,    place, best, one) {
+            if (!(path in lines) || depth > 9) return "y"
+            best = "n"
+            for (place = 1; place <= lines[path]; place++) {
+                one = selected(time, by[path, place])
+                if (of[path, place] != "" && one != "n") one = built(time, of[path, place], depth + 1)
+                if (one == "y" || one == "m" && best == "n") best = one
+            }
+            return best
+        }
+        function above(time, path) {
+            while (sub(/[^\/]+\/?$/, "", path) && path != "") if (built(time, path, 0) == "n") return "n"
+            return "y"
+        }
+        BEGIN {
+            read_values("old", synchronised)
+            read_values("new", wanted)
+            while ((getline line < makefiles) > 0) { split(line, part, " "); read_makefile(part[1], part[2]) }
+        }
+        {
+            reason = ""
+            new = built("new", $1, 0)
+            if (above("new", $1) == "n") new = "n"
+            if (new == "n") { print $1, "n"; next }
+            reason = ""
+            old = built("old", $1, 0)
+            if (old != "n" && old != new && reason != "") print $1, reason "=" new
+        }
+    ' "$work/targets"
 }

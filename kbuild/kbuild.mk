@@ -50,8 +50,10 @@ confstamp-last-file = include/config/auto.conf
 endif
 
 # Has auto.conf another generation than the hook's last one, or none, or is .config not the text that was synchronised then?
-# File times don't say it: a .config that was copied back may have an old one. make reads the files itself where it can
-# (from GNU make 4.2 on), since each process would cost more than that.
+# File times don't say it: a .config that was copied back may have an old one. Or has Linux's own tool been here, which writes
+# auto.conf.cmd before all else, and without the mark? make reads the files itself where it can (from GNU make 4.2 on), since each
+# process would cost more than that.
+confstamp-mark := Synchronised by the hooks of confstamp
 ifeq ($(filter 3.% 4.0% 4.1%,$(MAKE_VERSION)),)
 define confstamp-line-feed
 
@@ -65,27 +67,68 @@ confstamp-number = $(and $(confstamp-last),$(findstring $(confstamp-line-feed)$(
 confstamp-equal = $(and $(findstring $(1),$(2)),$(findstring $(2),$(1)))
 confstamp-same = $(and $(or $(findstring $(1),$(2)),$(findstring $(2),$(1))),$(call confstamp-equal,$(strip $(1)),$(strip $(2))))
 confstamp-split = $(if $(confstamp-ours),$(file < $(confstamp-ours)),yes)
-confstamp-synchronised = $(and $(confstamp-number),$(confstamp-split),$(call confstamp-same,$(file \
+confstamp-alone = $(if $(confstamp-dialect),yes,$(findstring $(confstamp-mark),$(file < include/config/auto.conf.cmd)))
+confstamp-synchronised = $(and $(confstamp-number),$(confstamp-split),$(confstamp-alone),$(call confstamp-same,$(file \
 	< $(confstamp-config)),$(file < include/config/confstamp.config)))
 else
 confstamp-synchronised = $(shell grep -qsxFf include/config/confstamp.generation include/config/auto.conf && \
-	cmp -s $(confstamp-config) include/config/confstamp.config $(if $(confstamp-ours),&& [ -s $(confstamp-ours) ]) && echo yes)
+	cmp -s $(confstamp-config) include/config/confstamp.config $(if $(confstamp-ours),&& [ -s $(confstamp-ours) ]) \
+	$(if $(confstamp-dialect),,&& grep -qsF '$(confstamp-mark)' include/config/auto.conf.cmd) && echo yes)
 endif
 
 # Where a recipe fails make removes its targets, and with auto.conf the generation would be lost; a synchronisation that fails
 # leaves its files as they may be. One that is part of a build counts no objects, since make is about to compile them. After each
-# make begins again, and must find that all is synchronised: it doesn't go on for ever where it never does.
+# make begins again, and must find that all is synchronised: it doesn't go on for ever where it never does. What is still due since
+# an earlier one gets its old time once more, where it lost that.
 define confstamp-rules
 .PRECIOUS: $(addprefix include/,config/auto.conf config/auto.conf.cmd generated/autoconf.h generated/rustc_cfg)
 export CONFSTAMP_BUILDS := yes
+$(if $(MAKE_RESTARTS),,$(if $(and $(wildcard include/config/confstamp.due),$(confstamp-synchronised)),$(confstamp-age)))
 $(if $(confstamp-synchronised),,$(if $(filter-out 1 2 3,$(MAKE_RESTARTS)),$(confstamp-never))$(confstamp-last-file): FORCE)
+$(confstamp-marks)
 endef
+confstamp-age = $(if $(CONFSTAMP_ASKS),,$(shell $(CONFSTAMP_KBUILD)/age $(KBUILD_EXTMOD)))
 confstamp-never = $(error confstamp has synchronised $(MAKE_RESTARTS) times, and $(confstamp-config) still isn't what was synchronised)
 
-# kbuild/stale --make asks what make would record, by make -n. Recipes that begin with `+` run even then, and the link of
-# vmlinux and of modules does, and rustc. So no recipe is left; each object that isn't up to date is told on a line of its
-# own, with its command as a word of the shell, and the files that make takes for newer. A line that has $(MAKE) in it runs as
-# well, and in Linux 6.1 one of them writes autoksyms.h and include/ksym/, so it gets a shell that does nothing.
+# kbuild/restore wants to know whether the last make of the whole ended well. Where one begins this file says `begun`, and at its
+# end `ended`. A make of some goals alone turns `ended` into `part`. The recipe comes out empty, so no process is started.
+confstamp-make-mark = include/config/confstamp.make
+confstamp-whole = $(if $(confstamp-dialect),_all,all)
+ifeq ($(filter 3.% 4.0% 4.1%,$(MAKE_VERSION)),)
+confstamp-write-make-mark = $(file > $(confstamp-make-mark),$(1))
+confstamp-read-make-mark = $(file < $(confstamp-make-mark))
+else
+confstamp-write-make-mark = $(shell echo $(1) > $(confstamp-make-mark))
+confstamp-read-make-mark = $(shell cat $(confstamp-make-mark) 2> /dev/null)
+endif
+confstamp-options = $(firstword -$(MAKEFLAGS))
+confstamp-only-asked = $(CONFSTAMP_ASKS)$(findstring n,$(confstamp-options))$(findstring q,$(confstamp-options))
+confstamp-marked = $(if $(KBUILD_EXTMOD)$(confstamp-only-asked),,$(wildcard include/config/auto.conf))
+confstamp-goals = $(or $(MAKECMDGOALS),all)
+confstamp-begun = $(if $(filter all _all __all,$(confstamp-goals)),begun,$(if $(filter begun part,$(confstamp-read-make-mark)),,part))
+confstamp-ended = $(if $(confstamp-marked),$(call confstamp-write-make-mark,ended))
+define confstamp-marks
+$(if $(confstamp-marked),$(if $(confstamp-begun),$(call confstamp-write-make-mark,$(confstamp-begun))))
+$(if $(KBUILD_EXTMOD),,$(confstamp-whole): ; $$(confstamp-ended))
+endef
+
+# An external module's objects are in no list of the tree's, whose numbers may have gone on since they were recorded. So they are
+# looked for once, as make begins.
+ifneq ($(KBUILD_EXTMOD),$(CONFSTAMP_AGED))
+export CONFSTAMP_AGED := $(KBUILD_EXTMOD)
+$(if $(KBUILD_EXTMOD),$(confstamp-age))
+endif
+
+# kbuild/stale --make asks what make would do, by make -n. Recipes that begin with `+` run even then, and the link of vmlinux and
+# of modules does, and rustc. So no recipe is left. Of each target that make comes to, lines are told:
+#   - confstamp-asked: its name,
+#   - confstamp-told: of an object with a list of dependencies that isn't up to date, its command as a word of the shell, and
+#     the files that make takes for newer. Of what make would write anew it takes all for newer;
+#   - confstamp-linked: of what is made of other files whether its command differs, and these files. vmlinux is an object of
+#     both kinds. BusyBox links without a saved command, each time, so what counts there is these files;
+#   - confstamp-text: a text that would come out otherwise. The commands that print it run, since that is what says so.
+# A line that has $(MAKE) in it runs as well, and in Linux 6.1 one of them writes autoksyms.h and include/ksym/, so it gets a
+# shell that does nothing.
 ifdef CONFSTAMP_ASKS
 ifdef confstamp-dialect
 confstamp-newer = $(filter-out $(PHONY),$?) $(filter-out $(PHONY) $(wildcard $^),$^)
@@ -93,12 +136,19 @@ confstamp-other = $(if $(confstamp-ours),$(call arg-check, $(cmd_$(1)), $(cmd_$@
 else
 confstamp-newer = $(newer-prereqs)
 confstamp-other = $(cmd-check)
+override define filechk
++@{ $(filechk_$(1)); } 2> /dev/null | cmp -s - $@ || echo 'confstamp-text $@'
+endef
 endif
-confstamp-told = $(if $(strip $(confstamp-newer) $(confstamp-other)),$(info confstamp-told $@ '$(make-cmd)' $(confstamp-newer)))@:
+confstamp-object = $(if $(strip $(confstamp-newer) $(confstamp-other)),$(info confstamp-told $@ '$(make-cmd)' $(confstamp-newer)))
+confstamp-parts = $(if $(filter %.o %.a,$^),$(info confstamp-linked $@ same $(filter %.o %.a,$^)))
+confstamp-link = $(info confstamp-linked $@ $(if $(strip $(confstamp-other)),differs,same) $(filter-out $(PHONY) $(2),$^))
+confstamp-asked = $(info confstamp-asked $@)$(if $(deps_$@),$(confstamp-object)$(confstamp-parts),$(confstamp-link))
+confstamp-told = $(if $(filter $(PHONY),$@),,$(confstamp-asked))@:
 override if_changed_dep = $(confstamp-told)
 override if_changed_rule = $(confstamp-told)
-override if_changed = @:
-override if_changed_except = @:
-override cmd = @:
+override if_changed = $(confstamp-told)
+override if_changed_except = $(confstamp-told)
+override cmd = $(if $(confstamp-ours),$(if $(wildcard $@),$(info confstamp-linked $@ same $(filter-out $(PHONY),$^))))@:
 autoksyms_recursive: private SHELL := true
 endif

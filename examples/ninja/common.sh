@@ -41,7 +41,7 @@ needs "${CC:-cc}" ninja ps setsid
 
 # As tools/install puts them.
 mkdir "$work/bin"
-cp "$confstamp" "$root/ninja/confstamp-cc" "$work/bin"
+cp "$confstamp" "$root/ninja/confstamp-cc" "$root/ninja/confstamp-sync" "$work/bin"
 # The compiler tells what it compiles. Where there is a file `slow` it takes its time.
 cat > "$work/bin/cc" << WORDS
 #!/bin/sh
@@ -197,13 +197,15 @@ failing_compile() {
     fresh
 }
 
-# Without confstamp an object keeps the header of all symbols, until it is recorded again.
-without_confstamp() {
-    label='the launcher finds no confstamp'
+# Where nothing is recorded an object keeps the header of all symbols, until it is recorded again.
+without_record() {
+    label='the launcher has nothing recorded'
+    printf '#!/bin/sh\n[ "$1" != depfile ] || exit 2\nexec "%s/bin/confstamp" "$@"\n' "$work" > "$work/none"
+    chmod +x "$work/none"
     edit '$aCONFIG_DEBUG_SG=y'
     CONFSTAMP=$work/none build stamps > "$work/log" 2>&1 || fail "$(cat "$work/log")"
     same 'compiled' core/buffer "$(compiled)"
-    label='after it found none'
+    label='after that'
     edit 's/0x1$/0x3/'
     builds stamps core/buffer core/mask
     edit 's/0x3$/0x1/'

@@ -840,6 +840,14 @@ static size_t argument_after(Bytes text, size_t place, char mark)
     return place < text.length && is_word_byte(text.at[place]) ? place : text.length;
 }
 
+/* An argument with its prefix; and before it, where it ends as the macro of a module, the tristate of that. */
+static void note_argument(Names *names, Bytes argument)
+{
+    if (ends(argument, "_MODULE"))
+        note_legal(names, upto(argument, argument.length - strlen("_MODULE")));
+    note_legal(names, argument);
+}
+
 static const char *prefix_of(Bytes target)
 {
     static const char *const prefixes[][2] = {{"spl/", "SPL_"}, {"tpl/", "TPL_"}, {"vpl/", "VPL_"}, {"tools/", "TOOLS_"}};
@@ -872,7 +880,7 @@ static void scan_by_words(Bytes text, Bytes target, Names *names)
                 is_argument[argument_after(text, first + word_at(text, first).length, ',')] = true;
         }
         if (is_argument[place])
-            note_legal(names, joined(prefix_of(target), word, ""));
+            note_argument(names, joined(prefix_of(target), word, ""));
         if (dialect == BUSYBOX)
             note_in_busybox(names, word);
         else if (arguments == 0)

@@ -3,6 +3,7 @@
    REFUSE=N     the Nth call of malloc or realloc gives nothing
    WRITE=N      the Nth write to standard output fails, as on a full disk
    PIECE=N      a write to standard output takes N bytes at most
+   SIGNALS=N    N writes to standard output are interrupted, each second one
    SHORT=N      a read gives N bytes at most */
 #define _GNU_SOURCE
 #include <dlfcn.h>
@@ -58,13 +59,21 @@ void *realloc(void *old, size_t size)
 ssize_t write(int file, const void *bytes, size_t length)
 {
     static ssize_t (*next)(int, const void *, size_t);
-    static long left = -1;
+    static long left = -1, signals = -1, calls;
     if (!next)
         next = (ssize_t(*)(int, const void *, size_t))dlsym(RTLD_NEXT, "write");
     if (file != STDOUT_FILENO)
         return next(file, bytes, length);
     if (left < 0)
         left = number("WRITE");
+    if (signals < 0)
+        signals = number("SIGNALS");
+    if (signals > 0 && calls++ % 2 == 0) {
+        signals--;
+        mark();
+        errno = EINTR;
+        return -1;
+    }
     if (left > 0 && --left == 0) {
         mark();
         errno = ENOSPC;

@@ -8,13 +8,20 @@ installed_files() {
     cat << END
 $made/confstamp bin/confstamp
 tools/bare-kconfig bin/bare-kconfig
+tools/paste-check bin/paste-check
 ninja/confstamp-cc bin/confstamp-cc
+ninja/confstamp-sync bin/confstamp-sync
 tools/bare-kconfig lib/confstamp/tools/bare-kconfig
-docs/confstamp.1 share/man/man1/confstamp.1
 $made/bash share/bash-completion/completions/confstamp
 $made/zsh share/zsh/site-functions/_confstamp
 $made/fish share/fish/vendor_completions.d/confstamp.fish
 END
+    for page in "$top"/docs/*.1; do
+        echo "docs/${page##*/} share/man/man1/${page##*/}"
+    done
+    for document in "$top"/docs/*.md; do
+        echo "docs/${document##*/} share/doc/confstamp/docs/${document##*/}"
+    done
     for hook in "$top"/kbuild/*; do
         [ ! -f "$hook" ] || echo "kbuild/${hook##*/} lib/confstamp/kbuild/${hook##*/}"
     done

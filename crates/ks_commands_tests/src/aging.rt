@@ -106,10 +106,10 @@ fn break_off(rt: &impl Abort, alloc: Global, passes: u64, mode: FuseMode) -> Res
 #[test]
 fn a_device_that_fails(rt: HostRuntime) -> Result<(), Fail> {
     for mode in [FuseMode::Clean, FuseMode::Half] {
-        let mut failed = 0;
+        let mut failed = 0_u64;
         for passes in 0..30 {
             if break_off(&rt, rt.alloc(), passes, mode)? == 2 {
-                failed += 1;
+                failed = failed.saturating_add(1);
             }
         }
         // three command files, auto.conf, three stamps and two objects

@@ -1,11 +1,17 @@
 # The checks of the program: each folder of examples/, and each executable file of tests/. Sourced by .ci/run and tools/test,
 # which stand at the top of the repository then and have set CONFSTAMP. In bash.
 #
+# They go side by side, as many as there are processors, or as CHECKS_AT_ONCE says. One that fails is tried once more while no
+# other runs, since those of several programs at once depend on the load of the machine; what the first try said is shown.
+#
 # Status 0 of a check says passed; 77 skipped, since a package that it needs isn't here; any other failed. What comes of them is
 # counted in `passed` and `skipped`, and by name in `failed`; `reasons` has the last lines of each that failed. `log` is a file.
 # shellcheck shell=bash disable=SC2154
 
 seconds_allowed=300
+
+# Those that take minutes. They begin first.
+longest='tests/refused-memory tests/kills examples/make examples/projects tests/fuzz'
 
 # how STATUS: in words how a check ended.
 how() {
@@ -15,35 +21,56 @@ how() {
     esac
 }
 
-# check NAME COMMAND..: one that fails is tried once more, since checks of several programs at once depend on the load of
-# the machine; what the first try said is shown.
-check() {
-    local name=$1 status=0 tries='' first
-    shift
-    timeout -k 10 "$seconds_allowed" "$@" > "$log" 2>&1 < /dev/null || status=$?
-    if [ "$status" != 0 ] && [ "$status" != 77 ]; then
-        sed 's/^/  first try: /' "$log"
-        first=$(how "$status")
-        tries=' at the second try'
-        status=0
-        timeout -k 10 "$seconds_allowed" "$@" > "$log" 2>&1 < /dev/null || status=$?
-    fi
+run_check() {
+    case $1 in
+    examples/*) set -- examples/check "${1#examples/}" ;;
+    esac
+    timeout -k 10 "$seconds_allowed" "$@" < /dev/null 2>&1
+}
+
+# tell_check NAME LOG STATUS [WORDS]: the line of a check that passed or was skipped.
+tell_check() {
+    case $3 in
+    0) echo "$1: passed${4-}: $(tail -n 1 "$2")" ;;
+    77) echo "$1: SKIPPED: $(tail -n 1 "$2")" ;;
+    esac
+}
+
+# first_try NAME: what it printed, and its status, go to files.
+first_try() {
+    local status=0 file=$tried/${1//\//.}
+    run_check "$1" > "$file.log" || status=$?
+    tell_check "$1" "$file.log" "$status"
+    echo "$status" > "$file.status"
+}
+
+# second_try NAME STATUS: of one that ended so at first; `status` is how it ends now.
+second_try() {
+    sed 's/^/  first try: /' "$tried/${1//\//.}.log"
+    status=0
+    run_check "$1" > "$log" || status=$?
+    tell_check "$1" "$log" "$status" ' at the second try'
     case $status in
-    0)
-        passed=$((passed + 1))
-        echo "$name: passed$tries: $(tail -n 1 "$log")"
-        ;;
-    77)
-        skipped=$((skipped + 1))
-        echo "$name: SKIPPED: $(tail -n 1 "$log")"
-        ;;
-    *)
-        failed+=("$name")
-        sed 's/^/  /' "$log"
-        echo "$name: FAILED with status $status"
-        reasons+=("$name: $(how "$status"); at the first try $first. The last lines:")
-        mapfile -t -O "${#reasons[@]}" reasons < <(tail -n 6 "$log" | sed "s,^,$name: ," | cut -c 1-300)
-        ;;
+    0 | 77) return ;;
+    esac
+    sed 's/^/  /' "$log"
+    echo "$1: FAILED with status $status"
+    reasons+=("$1: $(how "$status"); at the first try $(how "$2"). The last lines:")
+    mapfile -t -O "${#reasons[@]}" reasons < <(tail -n 6 "$log" | sed "s,^,$1: ," | cut -c 1-300)
+}
+
+# count_check NAME: what came of it.
+count_check() {
+    local status
+    status=$(cat "$tried/${1//\//.}.status")
+    case $status in
+    0 | 77) ;;
+    *) second_try "$1" "$status" ;;
+    esac
+    case $status in
+    0) passed=$((passed + 1)) ;;
+    77) skipped=$((skipped + 1)) ;;
+    *) failed+=("$1") ;;
     esac
 }
 
@@ -60,14 +87,32 @@ each_check() {
     done
 }
 
+# The same, those that take long first.
+longest_first() {
+    each_check | awk -v longest="$longest" '
+        BEGIN { count = split(longest, names, " "); for (at = 1; at <= count; at++) is_long[names[at]] = 1 }
+        $0 in is_long { print; next }
+        { others[++other] = $0 }
+        END { for (at = 1; at <= other; at++) print others[at] }
+    '
+}
+
 check_each() {
-    local name
-    for name in $(each_check); do
-        case $name in
-        examples/*) check "$name" examples/check "$(basename "$name")" ;;
-        *) check "$name" "$name" ;;
-        esac
+    local name tried running=0 at_once=${CHECKS_AT_ONCE:-$(nproc)}
+    tried=$(mktemp -d) || exit 1
+    for name in $(longest_first); do
+        if [ "$running" -ge "$at_once" ]; then
+            wait -n
+            running=$((running - 1))
+        fi
+        first_try "$name" &
+        running=$((running + 1))
     done
+    wait
+    for name in $(each_check); do
+        count_check "$name"
+    done
+    rm -rf "$tried"
 }
 
 # What failed, once more behind all checks.

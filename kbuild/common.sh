@@ -72,6 +72,18 @@ make_work_folder() {
     trap 'exit 2' HUP INT TERM
 }
 
+# find_there WORD..: find. What is gone meanwhile, as beside a make, is no failure; all else is told, and has status 1.
+find_there() {
+    ended=0
+    { complaints=$(find "$@" 2>&1 >&3) || ended=$?; } 3>&1
+    [ "$ended" != 0 ] || return 0
+    complaints=${complaints:-find ended with $ended}
+    others=$(echo "$complaints" | sed '/^find: .*: No such file or directory$/d') || others=$complaints
+    [ -n "$others" ] || return 0
+    tell "not all could be looked through: $(echo "$others" | head -n 1)"
+    return 1
+}
+
 # list_targets DIR..: $work/targets has what was recorded there. Where that is nothing the hook ends.
 list_targets() {
     "$here/objects" "$@" > "$work/targets"
@@ -93,9 +105,10 @@ recorded() {
         fi
     done < "$work/recorded" 3> "$work/targets" > "$work/answers"
     [ "$#" -gt 0 ] || set -- .
-    find "$@" -name '[!.]*.o' -type f | while read -r object; do
+    find_there "$@" -name '[!.]*.o' -type f > "$work/objects" || exit 2
+    while read -r object; do
         [ -s "${object%/*}/.${object##*/}.cmd" ] || echo "${object#./}"
-    done >> "$work/targets"
+    done < "$work/objects" >> "$work/targets"
 }
 
 # kconfigs: the Kconfig files that the project's tool has read, where they stand. Kbuild takes no path with a blank. Whoever
@@ -118,9 +131,10 @@ kconfigs() {
     ' "$read_kconfigs"
 }
 
-# declared: the names that the project's Kconfig files declare, in order, each once.
+# declared: the names that the project's Kconfig files declare, in order, each once. Of a file that can't be read nobody knows them.
 declared() {
-    kconfigs | tr '\n' '\0' | xargs -0 sed -nE 's/^[[:blank:]]*(menu)?config[[:blank:]]+([A-Za-z0-9_]+).*/\2/p' | sort -u
+    kconfigs > "$work/kconfigs" && tr '\n' '\0' < "$work/kconfigs" |
+        xargs -0 sed -nE 's/^[[:blank:]]*(menu)?config[[:blank:]]+([A-Za-z0-9_]+).*/\2/p' > "$work/names" && sort -u "$work/names"
 }
 
 # can_tell_declared: is it known here which names are declared?
@@ -179,15 +193,32 @@ age_files() {
     tr '\n' '\0' | TZ=UTC0 xargs -0 -r touch -c -t 197001010000.01
 }
 
-# age_objects FOLDER RECORDED: each object of FOLDER/targets that is stale by a symbol gets a time before all others, so that make
-# compiles it whatever any clock said. FOLDER/answers are those of all, and FOLDER/due has these. RECORDED lists what was recorded.
-# Status 1 where an answer is missing.
-age_objects() {
+# ask_age FOLDER: the answers of all of FOLDER/targets. What fails lacks an answer, or is refused.
+ask_age() {
     : > "$1/answers"
     [ ! -s "$1/targets" ] || patiently "$1/told" age --from "$1/targets" > "$1/answers" || :
+}
+
+# replace_by_copies FOLDER: the objects that the system refused a time. One of another user can't be given any, and its copy can.
+replace_by_copies() {
+    sed -n 's/ refused 30 Device$//p' "$1/answers" | while read -r object; do
+        { cp "$object" "$object.confstamp" && mv -f "$object.confstamp" "$object"; } 2> "$1/copied" || rm -f "$object.confstamp"
+    done
+}
+
+# age_objects FOLDER RECORDED: each object of FOLDER/targets that is stale by a symbol gets a time before all others, so that make
+# compiles it whatever any clock said. FOLDER/answers are those of all, and FOLDER/due has these. RECORDED lists what was recorded.
+# Status 1 where an answer is missing, or the system fails.
+age_objects() {
+    ask_age "$1"
+    if grep -q ' refused 30 Device$' "$1/answers"; then
+        replace_by_copies "$1"
+        ask_age "$1"
+    fi
     awk -v due="$1/due" '
         BEGIN { printf "" > due }
         FILENAME == ARGV[1] { asked++; next }
+        / refused 30 Device$/ { next }
         { answered++ }
         $2 == "stale" && ($3 !~ /-/ || $3 == "generation-ahead") { print $1 > due }
         END { exit answered < asked }
@@ -207,7 +238,7 @@ age_products() {
         END { print "." }
     ' "$2")
     # shellcheck disable=SC2086 # the list is words, and Kbuild takes no path with a blank
-    to_come=$(find $folders -maxdepth 1 ! -name '*.[chS]' ! -name '.*.cmd' -type f -newer "$1/now" 2> /dev/null) || :
+    to_come=$(find_there $folders -maxdepth 1 ! -name '*.[chS]' ! -name '.*.cmd' -type f -newer "$1/now") || return 1
     [ -n "$to_come" ] || return 0
     echo "$to_come" | sed 's,^\./,,' | awk 'NR == FNR { recorded[$0]; next } !($0 in recorded)' "$2" - |
         while read -r product; do

@@ -87,7 +87,8 @@ $(if $(MAKE_RESTARTS),,$(if $(and $(wildcard include/config/confstamp.due),$(con
 $(if $(confstamp-synchronised),,$(if $(filter-out 1 2 3,$(MAKE_RESTARTS)),$(confstamp-never))$(confstamp-last-file): FORCE)
 $(confstamp-marks)
 endef
-confstamp-age = $(if $(CONFSTAMP_ASKS),,$(shell $(CONFSTAMP_KBUILD)/age $(KBUILD_EXTMOD)))
+confstamp-age = $(if $(CONFSTAMP_ASKS),,$(if $(shell $(CONFSTAMP_KBUILD)/age $(KBUILD_EXTMOD) || echo failed),$(confstamp-not-aged)))
+confstamp-not-aged = $(error what is stale could not be given an old time)
 confstamp-never = $(error confstamp has synchronised $(MAKE_RESTARTS) times, and $(confstamp-config) still isn't what was synchronised)
 
 # kbuild/restore wants to know whether the last make of the whole ended well. Where one begins this file says `begun`, and at its
@@ -105,7 +106,8 @@ confstamp-options = $(firstword -$(MAKEFLAGS))
 confstamp-only-asked = $(CONFSTAMP_ASKS)$(findstring n,$(confstamp-options))$(findstring q,$(confstamp-options))
 confstamp-marked = $(if $(KBUILD_EXTMOD)$(confstamp-only-asked),,$(wildcard include/config/auto.conf))
 confstamp-goals = $(or $(MAKECMDGOALS),all)
-confstamp-begun = $(if $(filter all _all __all,$(confstamp-goals)),begun,$(if $(filter begun part,$(confstamp-read-make-mark)),,part))
+confstamp-begun = $(if $(filter all _all __all,$(confstamp-goals)),begun,$(if $(filter begun part,$(confstamp-left-mark)),,part))
+confstamp-left-mark = $(or $(confstamp-read-make-mark),$(if $(wildcard $(confstamp-make-mark)),begun))
 confstamp-ended = $(if $(confstamp-marked),$(call confstamp-write-make-mark,ended))
 define confstamp-marks
 $(if $(confstamp-marked),$(if $(confstamp-begun),$(call confstamp-write-make-mark,$(confstamp-begun))))

@@ -11,6 +11,7 @@ tools/bare-kconfig bin/bare-kconfig
 tools/paste-check bin/paste-check
 ninja/confstamp-cc bin/confstamp-cc
 ninja/confstamp-sync bin/confstamp-sync
+make/confstamp.mk lib/confstamp/make/confstamp.mk
 tools/bare-kconfig lib/confstamp/tools/bare-kconfig
 $made/bash share/bash-completion/completions/confstamp
 $made/zsh share/zsh/site-functions/_confstamp

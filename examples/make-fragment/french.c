@@ -1,0 +1,6 @@
+#include "greet.h"
+
+const char *french(void)
+{
+	return "Bonjour";
+}

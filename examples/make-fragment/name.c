@@ -1,0 +1,6 @@
+#include "greet.h"
+
+const char *name(void)
+{
+	return CONFIG_NAME;
+}

@@ -1,0 +1,149 @@
+# confstamp.mk: lets a makefile compile by symbol. For a build whose sources all include one header of all symbols, and that has
+# no fixdep. docs/make.md tells how it is used; examples/make-fragment is a makefile that does.
+#
+# Before the line that includes it the makefile may set
+#
+#     confstamp-kconfig     the bare Kconfig (Kconfig)
+#     confstamp-config      the configuration (.config)
+#     confstamp-dir         the folder whose include/ holds the numbers (.). Where it isn't the one in which make runs, commands
+#                           run there, and name their files from the root
+#     confstamp-header      the header, where the project's own tool writes it (include/generated/autoconf.h of that folder)
+#     confstamp-maker       the target whose recipe writes these files, where the project's own tool has a part in it
+#     confstamp-inputs      what it makes them from: a change of their text is seen, whatever their time
+#
+# Behind it there are
+#
+#     $(call confstamp-compile,COMMAND,LABEL)     for a recipe: COMMAND compiles $@, by -c and -o. It has no options -M
+#     $(call confstamp-generate,COMMAND,LABEL)    the same of a text that a compiler makes, and which may name symbols. COMMAND
+#                                                 has -MD -MF $(confstamp-depfile)
+#     $(call confstamp-link,COMMAND,LABEL)        COMMAND makes $@ of files that name no symbol, as a link does
+#     $(call confstamp-watch,TARGETS)             a line of the makefile: all targets whose recipes are one of these calls
+#     $(confstamp-prerequisites)                  $^ of a target that is watched: of each there is one prerequisite more
+#     $(confstamp-comma)                          a comma of COMMAND, since make takes the words of a call apart at commas
+#     $(confstamp-depfile)                        the list of what $@ was made from, as the compiler writes it
+#     CONFIG_X                                    each symbol, from auto.conf
+#
+# A command runs where a prerequisite is newer, where it isn't the one that made the target, or where the numbers say that the
+# target is stale; no time is asked for the two last ones. What a command begun last has made is only taken for made once it is
+# recorded, so a kill or a failure in between costs one more run.
+#
+# CONFSTAMP is the program, V=1 has commands printed and not labels. Tried with GNU make 4.3.
+
+confstamp-first-goal := $(.DEFAULT_GOAL)
+confstamp-kconfig ?= Kconfig
+confstamp-config ?= .config
+confstamp-dir ?= .
+confstamp-elsewhere := $(filter-out .,$(confstamp-dir))
+confstamp-below := $(if $(confstamp-elsewhere),$(abspath $(confstamp-dir))/)
+confstamp-own-header := $(confstamp-header)
+confstamp-header ?= $(confstamp-below)include/generated/autoconf.h
+confstamp-state := $(confstamp-below)include/config
+confstamp-program = $(or $(CONFSTAMP),confstamp)
+confstamp-quote := '
+confstamp-hash := \#
+confstamp-comma := ,
+
+# What was synchronised: the files that the synchronisation goes by and those that it wrote, one after the other. As make
+# begins these texts are compared. Times don't say it: a .config that was copied back may have an old one.
+confstamp-sources := $(sort $(confstamp-kconfig) $(confstamp-config) $(confstamp-inputs))
+confstamp-kept := $(confstamp-state)/confstamp.kept
+confstamp-due := $(shell cat $(confstamp-sources) $(confstamp-state)/auto.conf $(confstamp-header) 2> /dev/null | \
+	cmp -s - $(confstamp-kept) || echo confstamp-always)
+ifneq ($(confstamp-due),)
+ifneq ($(filter-out 1 2 3 4 5,$(MAKE_RESTARTS)),)
+$(error confstamp has synchronised again and again, and $(confstamp-config) still isn't what was synchronised)
+endif
+endif
+
+# The synchronisation, in a makefile that is included: make makes that anew before all else, and then begins again, with the
+# symbols of auto.conf, and asks which objects are stale. The text of the sources is taken before, so a change meanwhile is
+# seen. What was synchronised is told last, so one that was broken off is done again.
+include $(confstamp-state)/confstamp.mk
+ifdef confstamp-maker
+$(confstamp-maker): $(confstamp-due)
+$(confstamp-kconfig) $(confstamp-config): $(confstamp-maker) ;
+endif
+$(confstamp-state)/confstamp.mk: $(confstamp-sources) $(confstamp-due)
+	$(if $(confstamp-silent),,@echo '  SYNC    $(confstamp-config)')
+	@mkdir -p $(@D)
+	@cat $(confstamp-sources) > $(confstamp-kept).new
+	@$(confstamp-program) -C $(confstamp-dir) --wait 60 sync $(abspath $(confstamp-kconfig) $(confstamp-config)) > /dev/null
+	@cat $(@D)/auto.conf $(confstamp-header) >> $(confstamp-kept).new
+	@{ echo '-include $(@D)/auto.conf' && sed -n 's/^#generation /confstamp-generation := /p' $(@D)/auto.conf; } > $@
+	@mv $(confstamp-kept).new $(confstamp-kept)
+
+.PHONY: confstamp-always
+confstamp-always:
+
+# What is known of a target stands in .TARGET.mk beside it: what it depends on, whether confstamp has a record of it or else the
+# generation at which it was made, and at last the command. Blanks of commands don't count.
+confstamp-mk = $(dir $(1)).$(notdir $(1)).mk
+confstamp-depfile = $(if $(confstamp-elsewhere),$(abspath $(@D)),$(@D))/.$(@F).d
+confstamp-prerequisites = $(filter-out confstamp-always,$^)
+confstamp-same = $(and $(findstring <$(1)>,<$(2)>),$(findstring <$(2)>,<$(1)>))
+confstamp-silent := $(findstring s,$(firstword -$(MAKEFLAGS)))
+confstamp-text = $(subst $(confstamp-quote),'\$(confstamp-quote)',$(strip $(1)))
+confstamp-made = $(subst $(confstamp-hash),$$(confstamp-hash),$(subst $$,$$$$,$(call confstamp-text,$(1))))
+
+# Why COMMAND is to run: nothing, where it isn't.
+confstamp-why = $(strip $(if $(confstamp-watched_$@),,$(error $@ is none of the targets of confstamp-watch)) \
+	$(if $(confstamp-due),$(error nothing was read again after the synchronisation)) \
+	$(filter-out confstamp-always,$?) $(if $(wildcard $@),,absent) $(filter $@,$(confstamp-stale)) \
+	$(filter-out $(confstamp-generation),$(confstamp-at_$@)) \
+	$(if $(call confstamp-same,$(strip $(1)),$(confstamp-made_$@)),,other))
+
+# confstamp-run COMMAND LABEL WORDS KNOWN: the recipe. .TARGET.mk is emptied first, and has the command only at the end.
+confstamp-run = @$(call confstamp-tell,$(1),$(2)); $(if $(wildcard $(@D)),,mkdir -p $(@D) &&) : > $(call confstamp-mk,$@) && \
+	( $(3) ) && { $(4) printf '%s\n' 'confstamp-made_$@ := $(call confstamp-made,$(1))'; } > $(call confstamp-mk,$@)
+confstamp-tell = $(if $(confstamp-silent),:,$(if $(and $(2),$(if $(filter 1,$(V)),,yes)),printf '  %-7s %s\n' '$(2)' \
+	'$(patsubst $(CURDIR)/%,%,$@)',printf '%s\n' '$(confstamp-text)'))
+
+# The stamps are left out of what make looks at, since the numbers are asked. A file that is gone counts as new. What the
+# launcher has no record of (docs/ninja.md says when) is made again at each other generation.
+confstamp-known = sed -e '/^  include\/config\/[A-Za-z0-9_]*\( \\\)*$$/d' -e '1s/^[^:]*:/confstamp-files :=/' \
+	$(confstamp-depfile) && printf '\n%s\n' '$@: $$(confstamp-files)' '$$(confstamp-files):' && \
+	if [ -e $(dir $@).$(notdir $@).cmd ]; then echo 'confstamp-recorded += $@'; \
+	else echo 'confstamp-at_$@ := $(confstamp-generation)'; fi &&
+confstamp-there = $(if $(confstamp-elsewhere),cd $(confstamp-dir) &&)
+confstamp-options = $(if $(confstamp-own-header),--header $(confstamp-own-header))
+confstamp-cc = $(confstamp-there) confstamp-cc $(confstamp-options) $(1) -MD -MF $(confstamp-depfile)
+confstamp-record = $(confstamp-there) $(1) && $(confstamp-program) depfile $(confstamp-options) -- $(confstamp-depfile) $@ \
+	'$(confstamp-text)' > /dev/null
+
+confstamp-compile = $(if $(confstamp-why),$(call confstamp-run,$(1),$(2),$(confstamp-cc),$(confstamp-known)))
+confstamp-generate = $(if $(confstamp-why),$(call confstamp-run,$(1),$(2),$(confstamp-record),$(confstamp-known)))
+confstamp-link = $(if $(or $(confstamp-why),$(filter $@,$(confstamp-ahead))),$(call confstamp-run,$(1),$(2),$(1),))
+
+# What is known is read, and confstamp is asked of the recorded targets: each that is stale is named, and gets a time before
+# all others. One that it doesn't answer for counts as stale. Before that each with a time to come gets the present one, so
+# that what is made of it now is newer. A make that was called by another one, of the same folder, leaves times alone, since
+# the other one may be compiling.
+confstamp-watch = $(if $(strip $(1)),$(eval $(1): confstamp-always) \
+	$(foreach target,$(1),$(eval confstamp-watched_$(target) := yes)) \
+	$(call confstamp-read,$(wildcard $(foreach target,$(1),$(call confstamp-mk,$(target))))) \
+	$(if $(confstamp-due),,$(confstamp-ask)$(call confstamp-look,$(wildcard $(filter-out $(confstamp-recorded),$(1))))))
+confstamp-read = $(if $(1),$(eval -include $(1))$(eval $(1): ;))
+define confstamp-line-feed
+
+
+endef
+confstamp-space := $(subst ,, )
+confstamp-list := $(confstamp-state)/confstamp.list
+confstamp-now := $(confstamp-state)/confstamp.now
+confstamp-first := $(if $(filter $(abspath $(confstamp-dir)),$(CONFSTAMP_AGED)),,yes)
+export CONFSTAMP_AGED := $(abspath $(confstamp-dir))
+confstamp-ask = $(file > $(confstamp-list),$(subst $(confstamp-space),$(confstamp-line-feed),$(strip $(confstamp-recorded)))) \
+	$(eval confstamp-stale := $(shell touch $(confstamp-now); $(if $(confstamp-first),$(confstamp-to-now);) \
+	$(confstamp-program) -C $(confstamp-dir) --wait 60 $(if $(confstamp-first),age,stale) --from $(abspath $(confstamp-list)) | \
+	awk ' \
+		FILENAME != "-" { if ($$1 != "") unanswered[$$1]; next } \
+		$$2 == "fresh" { delete unanswered[$$1] } \
+		END { for (target in unanswered) print target } \
+	' $(confstamp-list) -))
+confstamp-to-now = tr '\n' '\0' < $(confstamp-list) | xargs -0r sh -c \
+	'find "$$@" -prune -newer $(confstamp-now) -exec touch -r $(confstamp-now) {} + 2> /dev/null' -
+
+# A link with a time to come is made again, since nobody knows what it is older than.
+confstamp-look = $(if $(1),$(eval confstamp-ahead += $(shell find $(1) -prune -newer $(confstamp-now))))
+
+.DEFAULT_GOAL := $(confstamp-first-goal)

@@ -5,8 +5,8 @@
 #
 #     confstamp-kconfig     the bare Kconfig (Kconfig)
 #     confstamp-config      the configuration (.config)
-#     confstamp-dir         the folder whose include/ holds the numbers (.). Where it isn't the one in which make runs, commands
-#                           run there, and name their files from the root
+#     confstamp-dir         the folder whose include/ holds the numbers (.). Where it isn't the one in which make runs, all
+#                           files that a command reads or makes are named from the root
 #     confstamp-header      the header, where the project's own tool writes it (include/generated/autoconf.h of that folder)
 #     confstamp-maker       the target whose recipe writes these files, where the project's own tool has a part in it
 #     confstamp-inputs      what it makes them from: a change of their text is seen, whatever their time
@@ -104,10 +104,10 @@ confstamp-known = sed -e '/^  include\/config\/[A-Za-z0-9_]*\( \\\)*$$/d' -e '1s
 	$(confstamp-depfile) && printf '\n%s\n' '$@: $$(confstamp-files)' '$$(confstamp-files):' && \
 	if [ -e $(dir $@).$(notdir $@).cmd ]; then echo 'confstamp-recorded += $@'; \
 	else echo 'confstamp-at_$@ := $(confstamp-generation)'; fi &&
-confstamp-there = $(if $(confstamp-elsewhere),cd $(confstamp-dir) &&)
 confstamp-options = $(if $(confstamp-own-header),--header $(confstamp-own-header))
-confstamp-cc = $(confstamp-there) confstamp-cc $(confstamp-options) $(1) -MD -MF $(confstamp-depfile)
-confstamp-record = $(confstamp-there) $(1) && $(confstamp-program) depfile $(confstamp-options) -- $(confstamp-depfile) $@ \
+confstamp-cc = $(if $(confstamp-elsewhere),cd $(confstamp-dir) &&) confstamp-cc $(confstamp-options) \
+	$(if $(confstamp-elsewhere),env -C $(CURDIR)) $(1) -MD -MF $(confstamp-depfile)
+confstamp-record = $(1) && $(confstamp-program) -C $(confstamp-dir) depfile $(confstamp-options) -- $(confstamp-depfile) $@ \
 	'$(confstamp-text)' > /dev/null
 
 confstamp-compile = $(if $(confstamp-why),$(call confstamp-run,$(1),$(2),$(confstamp-cc),$(confstamp-known)))

@@ -1,5 +1,5 @@
-# The same, with all that is made below build/. Commands name their files from the root, since they run there.
-CFLAGS := -std=gnu11 -Wall -Wextra -Werror -O1
+# The same, with all that is made below build/. Commands name their files from the root.
+CFLAGS := -std=gnu11 -Wall -Wextra -Werror -O1 -g
 out := $(CURDIR)/build
 
 all: $(out)/greet $(out)/motd

@@ -78,6 +78,7 @@ confstamp-always:
 # What is known of a target stands in .TARGET.mk beside it: what it depends on, whether confstamp has a record of it or else the
 # generation at which it was made, and at last the command. Blanks of commands don't count.
 confstamp-mk = $(dir $(1)).$(notdir $(1)).mk
+confstamp-cmd = $(dir $@).$(notdir $@).cmd
 confstamp-depfile = $(if $(confstamp-elsewhere),$(abspath $(@D)),$(@D))/.$(@F).d
 confstamp-prerequisites = $(filter-out confstamp-always,$^)
 confstamp-same = $(and $(findstring <$(1)>,<$(2)>),$(findstring <$(2)>,<$(1)>))
@@ -102,13 +103,13 @@ confstamp-tell = $(if $(confstamp-silent),:,$(if $(and $(2),$(if $(filter 1,$(V)
 # launcher has no record of (docs/ninja.md says when) is made again at each other generation.
 confstamp-known = sed -e '/^  include\/config\/[A-Za-z0-9_]*\( \\\)*$$/d' -e '1s/^[^:]*:/confstamp-files :=/' \
 	$(confstamp-depfile) && printf '\n%s\n' '$@: $$(confstamp-files)' '$$(confstamp-files):' && \
-	if [ -e $(dir $@).$(notdir $@).cmd ]; then echo 'confstamp-recorded += $@'; \
+	if [ -e $(confstamp-cmd) ]; then echo 'confstamp-recorded += $@'; \
 	else echo 'confstamp-at_$@ := $(confstamp-generation)'; fi &&
 confstamp-options = $(if $(confstamp-own-header),--header $(confstamp-own-header))
 confstamp-cc = $(if $(confstamp-elsewhere),cd $(confstamp-dir) &&) confstamp-cc $(confstamp-options) \
 	$(if $(confstamp-elsewhere),env -C $(CURDIR)) $(1) -MD -MF $(confstamp-depfile)
-confstamp-record = $(1) && $(confstamp-program) -C $(confstamp-dir) depfile $(confstamp-options) -- $(confstamp-depfile) $@ \
-	'$(confstamp-text)' > /dev/null
+confstamp-record = $(1) && { $(confstamp-program) -C $(confstamp-dir) depfile $(confstamp-options) -- $(confstamp-depfile) $@ \
+	'$(confstamp-text)' > /dev/null || rm -f $(confstamp-cmd); }
 
 confstamp-compile = $(if $(confstamp-why),$(call confstamp-run,$(1),$(2),$(confstamp-cc),$(confstamp-known)))
 confstamp-generate = $(if $(confstamp-why),$(call confstamp-run,$(1),$(2),$(confstamp-record),$(confstamp-known)))

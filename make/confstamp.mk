@@ -137,10 +137,10 @@ confstamp-ask = $(file > $(confstamp-list),$(subst $(confstamp-space),$(confstam
 	$(eval confstamp-stale := $(shell touch $(confstamp-now); $(if $(confstamp-first),$(confstamp-to-now);) \
 	$(confstamp-program) -C $(confstamp-dir) --wait 60 $(if $(confstamp-first),age,stale) --from $(abspath $(confstamp-list)) | \
 	awk ' \
-		FILENAME != "-" { if ($$1 != "") unanswered[$$1]; next } \
+		asked { if ($$1 != "") unanswered[$$1]; next } \
 		$$2 == "fresh" { delete unanswered[$$1] } \
 		END { for (target in unanswered) print target } \
-	' $(confstamp-list) -))
+	' asked=yes $(confstamp-list) asked= -))
 confstamp-to-now = tr '\n' '\0' < $(confstamp-list) | xargs -0r sh -c \
 	'find "$$@" -prune -newer $(confstamp-now) -exec touch -r $(confstamp-now) {} + 2> /dev/null' -
 

@@ -5,7 +5,7 @@ out := $(CURDIR)/build
 all: $(out)/greet $(out)/motd
 
 confstamp-dir := build
-include $(dir $(shell command -v confstamp))../lib/confstamp/make/confstamp.mk
+include $(dir $(realpath $(shell command -v confstamp)))../lib/confstamp/make/confstamp.mk
 
 parts := $(addprefix $(out)/,banner.o name.o plain.o repeat.o $(if $(CONFIG_FRENCH),french.o))
 

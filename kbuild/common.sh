@@ -226,12 +226,13 @@ age_objects() {
         tell "what is stale could not be given an old time: $(head -n 1 "$1/told")"
         return 1
     }
-    [ ! -s "$1/due" ] || age_products "$1" "$2"
+    age_to_come "$1" "$2"
 }
 
-# age_products FOLDER RECORDED: what make links or packs of objects would look newer than they will be, where it has a time to come.
-# Such products stand beside what was recorded, or above it, and have a command file. BusyBox itself has none.
-age_products() {
+# age_to_come FOLDER RECORDED: what has a time to come would look newer than what it is made of, once make has written that. So
+# what make links or packs gets a time before all others. Such products stand beside what was recorded, or above it, and have a
+# command file. BusyBox itself has none.
+age_to_come() {
     : > "$1/now"
     folders=$(awk '
         { while (sub(/\/[^\/]*$/, "") && $0 != "" && !($0 in known)) { known[$0]; print } }
@@ -240,7 +241,8 @@ age_products() {
     # shellcheck disable=SC2086 # the list is words, and Kbuild takes no path with a blank
     to_come=$(find_there $folders -maxdepth 1 ! -name '*.[chS]' ! -name '.*.cmd' -type f -newer "$1/now") || return 1
     [ -n "$to_come" ] || return 0
-    echo "$to_come" | sed 's,^\./,,' | awk 'NR == FNR { recorded[$0]; next } !($0 in recorded)' "$2" - |
+    echo "$to_come" | sed 's,^\./,,' > "$1/to-come"
+    awk 'NR == FNR { recorded[$0]; next } !($0 in recorded)' "$2" "$1/to-come" |
         while read -r product; do
             case $product in
             busybox | busybox_unstripped) commands=$product ;;
@@ -249,6 +251,28 @@ age_products() {
             esac
             [ ! -e "$commands" ] || echo "$product"
         done | age_files
+    awk 'NR == FNR { recorded[$0]; next } $0 in recorded' "$2" "$1/to-come" > "$1/ahead"
+    [ ! -s "$1/ahead" ] || bring_to_now "$1"
+}
+
+# bring_to_now FOLDER: an object of FOLDER/ahead is fresh, but make may be about to write a file that it is made of, as the
+# packed kernel of the boot code. So it gets the present time. Where such a file has a time to come as well make would compile
+# the object each time until then, so it keeps its own.
+bring_to_now() {
+    sed 's,[^/]*$,.&.cmd,' "$1/ahead" | tr '\n' '\0' | xargs -0 awk '
+        FNR == 1 { target = FILENAME; sub(/\.cmd$/, "", target); match(target, /[^\/]*$/)
+            target = substr(target, 1, RSTART - 1) substr(target, RSTART + 1) }
+        /^source_[^ ]* := / { print $3, target }
+        /^  [^ $]+ \\$/ { print $1, target }
+        sub(/.*: \$\(wildcard /, "") { sub(/\).*/, ""); print $1, target }
+    ' 2> /dev/null > "$1/made-of" || :
+    awk '!told[$1]++ { print $1 }' "$1/made-of" | tr '\n' '\0' |
+        xargs -0 -r sh -c 'find "$@" -prune -newer "$0" 2> /dev/null || :' "$1/now" > "$1/files-ahead"
+    awk '
+        FILENAME == ARGV[1] { ahead[$1]; next }
+        FILENAME == ARGV[2] { known[$2]; if ($1 in ahead) kept[$2]; next }
+        $0 in known && !($0 in kept)
+    ' "$1/files-ahead" "$1/made-of" "$1/ahead" | tr '\n' '\0' | xargs -0 -r touch -c
 }
 
 # The witness is a file that says its own time, so whoever finds it elsewhere knows whether times came along. One that is wrong

@@ -10,7 +10,7 @@ ghost use Rattle.confstamp.specs.Lock.{AreLocked, IsAccessOf, IsLookedAt, IsScri
 use ks_requests::{Request, ScriptError, ScriptLine, read_script};
 use ks_tree::{Tree, TreeFault};
 use ks_words::WordsError;
-use std::alloc::Global;
+use std::alloc::{AllocError, Global};
 use std::fs::{File, TryLockError};
 use std::io::ErrorKind;
 use std::time::Duration;
@@ -62,26 +62,26 @@ fn has_sync(lines: &[ScriptLine<'_>]) -> bool
 }
 
 /// The lock that the lines of a script need. A script with a faulty line is refused later, and runs nothing.
-fn script_lock(alloc: Global, text: &[u8]) -> io::Result<FolderLock>
+fn script_lock(alloc: Global, text: &[u8]) -> Result<FolderLock, AllocError>
     ensures { IfOk result (λ lock. lock ≡ lock_for (text_syncs text.now)) }
 {
     match read_script(alloc, text) {
         Ok(lines) if has_sync(&lines) => Ok(FolderLock::Exclusive),
-        Err(ScriptError::OutOfMemory) => Err(io::Error::from(ErrorKind::OutOfMemory)),
+        Err(ScriptError::OutOfMemory) => Err(AllocError),
         _ => Ok(FolderLock::Shared),
     }
 }
 
 /// The access that a script needs. One that the system doesn't give is taken for a synchronisation, since it may be there
 /// by the time that it is run; that there is none is held as a text is.
-fn script_access<T: Tree>(alloc: Global, tree: &mut T, script: &str) -> io::Result<Access>
+fn script_access<T: Tree>(alloc: Global, tree: &mut T, script: &str) -> Result<Access, AllocError>
     ensures reads { Reads T.Tree tree.old tree.new ⊥ }
     ensures looked_at { T.is_honest → IfOk result (λ access. IfSome access.script (IsLookedAt (T.files tree.old))) }
     ensures lock { IfOk result (IsScriptAccess script.now) }
 {
     let found = match tree.read(alloc, script.as_bytes()) {
         Ok(found) => found,
-        Err(TreeFault::OutOfMemory) => return Err(io::Error::from(ErrorKind::OutOfMemory)),
+        Err(TreeFault::OutOfMemory) => return Err(AllocError),
         Err(_) => return Ok(Access::with_nothing_held(FolderLock::Exclusive)),
     };
     let lock = match &found {
@@ -96,7 +96,11 @@ fn script_access<T: Tree>(alloc: Global, tree: &mut T, script: &str) -> io::Resu
 }
 
 /// The access that the request needs.
-fn request_access<T: Tree>(alloc: Global, tree: &mut T, request: &Request) -> io::Result<Access>
+fn request_access<T: Tree>(
+    alloc: Global,
+    tree: &mut T,
+    request: &Request,
+) -> Result<Access, AllocError>
     ensures reads { Reads T.Tree tree.old tree.new ⊥ }
     ensures looked_at { T.is_honest → IfOk result (λ access. IfSome access.script (IsLookedAt (T.files tree.old))) }
     ensures lock { IfOk result (IsAccessOf request.now) }
@@ -113,7 +117,7 @@ pub(crate) fn access_of<T: Tree>(
     alloc: Global,
     tree: &mut T,
     asked: &Result<Request, WordsError>,
-) -> io::Result<Option<Access>>
+) -> Result<Option<Access>, AllocError>
     ensures reads { Reads T.Tree tree.old tree.new ⊥ }
     ensures looked_at { T.is_honest → IfOk result (λ found. IfSome found (λ access. IfSome access.script (IsLookedAt (T.files tree.old)))) }
     ensures lock { IfOk result (AreLocked asked.now) }

@@ -16,9 +16,17 @@ use Rattle.ks_engine.specs.LastSync.{old_auto}
 use Rattle.ks_engine.specs.Refusals.{Answers, and_then, of_stamp}
 use Rattle.confstamp.specs.Folders.{below}
 
+-- what a test says of the generation of an auto.conf, which is 0 where it has none, or where there is none
+abbrev pub of_generation : (ℕ → Bool) → Option (List ℕ) → Result Bool EngineError
+of_generation test file = and_then (old_auto file) (λ old. Ok (test old.generation))
+
 -- an auto.conf without a generation, or none at all
 abbrev pub begins_anew : Option (List ℕ) → Result Bool EngineError
-begins_anew file = and_then (old_auto file) (λ old. Ok (nat_eq old.generation 0))
+begins_anew = of_generation (λ g. nat_eq g 0)
+
+-- one with a generation
+abbrev pub has_generation : Option (List ℕ) → Result Bool EngineError
+has_generation = of_generation (nat_lt 0)
 
 -- a number that was given by a synchronisation
 abbrev pub is_given : Option ℕ → Bool

@@ -2,11 +2,13 @@
 //! generation, or it was removed. An object that was recorded at a high number would then be called fresh until the numbers
 //! have come as far again, whatever changes. So nothing is begun before somebody says that it is meant.
 //!
-//! What can't be read is passed over: the command that needs it tells it.
+//! What can't be read is passed over: the command that needs it tells it. So is a folder that is the top of another tree, whose
+//! numbers are its own.
 use crate::folder::below;
-use crate::numbers::{begins_anew, holds_number};
+use crate::numbers::{begins_anew, holds_number, is_another_tree};
 use ks_engine::EngineError;
 use ks_tree::FolderTree;
+use std::alloc::Global;
 use std::io::ErrorKind;
 use std::{fs, io};
 
@@ -17,6 +19,19 @@ fn unless_unread<V: Drop>(answer: Result<V, EngineError>) -> io::Result<Option<V
         Err(EngineError::OutOfMemory) => Err(io::Error::from(ErrorKind::OutOfMemory)),
         Err(_) => Ok(None),
     }
+}
+
+/// Notes a folder to be looked at, unless it is the top of another tree.
+fn note_folder(
+    alloc: Global,
+    tree: &mut FolderTree<&HostRuntime>,
+    folder: String,
+    folders: &mut Vec<String>,
+) -> io::Result<()> {
+    if unless_unread(is_another_tree(alloc, tree, folder.as_str()))? != Some(true) {
+        folders.push(folder)?;
+    }
+    Ok(())
 }
 
 /// The path of a file in one folder of the tree that holds a number. The folders in it are noted; links are not followed.
@@ -46,7 +61,7 @@ fn find_in(
             return Ok(Some(below(alloc, folder, name)?));
         }
         if entry.file_type().is_ok_and(|kind| kind.is_dir()) {
-            folders.push(below(alloc, folder, name)?)?;
+            note_folder(alloc, tree, below(alloc, folder, name)?, folders)?;
         }
     }
     Ok(None)

@@ -1,10 +1,11 @@
 //! The numbers that files hold: the generation of auto.conf, those under which objects were recorded, and the stamps.
-ghost use Rattle.std.specs.Prelude.{◌≡◌, IfErr, IfOk, IsErrOf};
+ghost use Rattle.std.specs.Prelude.{◌≡◌, codes, IfErr, IfOk, IsErrOf};
 ghost use Rattle.ks_tree.specs.Files.{content};
 ghost use Rattle.ks_tree.specs.Frames.{Reads};
 ghost use Rattle.ks_tree.specs.Paths.{auto_path, stamp_path};
 ghost use Rattle.ks_engine.specs.Refusals.{Answers};
-ghost use Rattle.confstamp.specs.Numbers.{HoldsNumber, IsHighStamp, IsStampFault, begins_anew, has_record_number, is_command_name};
+ghost use Rattle.confstamp.specs.Folders as folders;
+ghost use Rattle.confstamp.specs.Numbers.{HoldsNumber, IsHighStamp, IsStampFault, begins_anew, has_generation, has_record_number, is_command_name};
 
 use crate::folder::below;
 use ks_engine::EngineError;
@@ -23,6 +24,18 @@ pub(crate) fn begins_anew<T: Tree>(alloc: Global, tree: &mut T) -> Result<bool, 
         return Ok(true);
     };
     Ok(read_auto_generation(&text)? == 0)
+}
+
+/// Whether a folder is the top of another tree: its own auto.conf has a generation, so the numbers below it are that tree's.
+pub(crate) fn is_another_tree<T: Tree>(alloc: Global, tree: &mut T, folder: &str) -> Result<bool, EngineError>
+    ensures reads { Reads T.Tree tree.old tree.new (IsErrOf result EngineError.Device) }
+    ensures read { T.is_honest → Answers (has_generation (content (T.files tree.old) (folders.below folder.now (codes "include/config/auto.conf")))) (λ has. has) result }
+{
+    let path = below(alloc, folder, "include/config/auto.conf")?;
+    let Some(text) = tree.read(alloc, path.as_bytes())? else {
+        return Ok(false);
+    };
+    Ok(read_auto_generation(&text)? > 0)
 }
 
 /// Whether the file at a path is a command file whose record has a number.

@@ -27,7 +27,11 @@ pub(crate) fn begins_anew<T: Tree>(alloc: Global, tree: &mut T) -> Result<bool, 
 }
 
 /// Whether a folder is the top of another tree: its own auto.conf has a generation, so the numbers below it are that tree's.
-pub(crate) fn is_another_tree<T: Tree>(alloc: Global, tree: &mut T, folder: &str) -> Result<bool, EngineError>
+pub(crate) fn is_another_tree<T: Tree>(
+    alloc: Global,
+    tree: &mut T,
+    folder: &str,
+) -> Result<bool, EngineError>
     ensures reads { Reads T.Tree tree.old tree.new (IsErrOf result EngineError.Device) }
     ensures read { T.is_honest → Answers (has_generation (content (T.files tree.old) (folders.below folder.now (codes "include/config/auto.conf")))) (λ has. has) result }
 {

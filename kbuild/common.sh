@@ -15,6 +15,7 @@ make_mark=include/config/confstamp.make
 witness=include/config/confstamp.time
 kept_auto=include/config/confstamp.auto
 due=include/config/confstamp.due
+verified=include/config/confstamp.verified
 mark='# Synchronised by the hooks of confstamp'
 
 # The program: the one of CONFSTAMP, or that was installed with the hooks, or the one in PATH.

@@ -11,28 +11,53 @@ export CONFSTAMP
 # Up to Linux 6.2 make looks for the command of an object under cmd_T in its command file, and not under savedcmd_T.
 confstamp-prefix = $(if $(findstring savedcmd_,$(value cmd-check)),,cmd_)
 
-# In front of the kernel's own fixdep, which runs only where both commands before it have failed. The program comes first,
+# From Linux 6.13 on make runs in the folder of an external module, and the tree is elsewhere. Then an object is recorded by its whole
+# path, from the tree.
+confstamp-elsewhere = $(filter-out . $(CURDIR),$(objtree))
+confstamp-named = $(if $(confstamp-elsewhere),$(abspath $(1)),$(1))
+
+# CONFSTAMP_VERIFY says that each record is held against the project's own fixdep, and each synchronisation against its own conf. In
+# a tree whose edition was not tried it is so until a make of all has ended well.
+confstamp-verified = $(if $(confstamp-elsewhere),$(confstamp-elsewhere)/)include/config/confstamp.verified-all
+ifndef CONFSTAMP_VERIFY
+ifeq ($(confstamp-untried)$(wildcard $(confstamp-verified)),yes)
+export CONFSTAMP_VERIFY := first
+endif
+endif
+confstamp-verifies = $(filter-out 0 no,$(CONFSTAMP_VERIFY))
+
+# In front of the kernel's own fixdep, which runs only where what stands before it has failed. The program comes first,
 # since a shell for each object costs more than the record. Of the editions with cmd_T autoksyms.h has to be left out of
-# the dependency file before the record, where it is in use; the hook does that.
-confstamp-record = $(if $(and $(confstamp-prefix),$(CONFIG_TRIM_UNUSED_KSYMS)),,$(confstamp-directly)) \
-	$(CONFSTAMP_KBUILD)/fixdep $(depfile) $@ '$(make-cmd)' $(confstamp-prefix) ||
+# the dependency file before the record, where it is in use; the hook does that. Where the hook says that fixdep has found another
+# name, with status 3, the recipe ends.
+confstamp-record = $(if $(confstamp-by-hook),,$(confstamp-directly)) $(confstamp-hook) $(depfile) $@ '$(make-cmd)' \
+	$(confstamp-prefix) || $(if $(confstamp-verifies),{ [ $$? != 3 ] || exit 1; false; } ||)
+confstamp-by-hook = $(confstamp-verifies)$(confstamp-elsewhere)$(and $(confstamp-prefix),$(CONFIG_TRIM_UNUSED_KSYMS))
+confstamp-hook = $(CONFSTAMP_KBUILD)/fixdep $(confstamp-dialect) $(if $(confstamp-in-place),--in-place) \
+	$(if $(confstamp-elsewhere),--tree $(objtree)) \
+	$(if $(confstamp-verifies),--verify $(or $(objtree),.)/$(or $(confstamp-fixdep),scripts/basic/fixdep))
 confstamp-directly = { $(CONFSTAMP) record -- $(depfile) $@ '$(make-cmd)' 2> /dev/null >> $(confstamp-records) \
 	$(if $(confstamp-prefix),&& echo 'cmd_$@ := $$(savedcmd_$@)' >> $(dot-target).cmd); } ||
 
-# In the makefiles of U-Boot and BusyBox the command file is written aside, and moved to its place behind the call of fixdep. The
-# sources are scanned by the project's own words, and own-stamps.sed adds what its own tools would look for.
+# In the makefiles of U-Boot and BusyBox the command file is written aside, and moved to its place behind the call of fixdep; in
+# those of Xen it isn't. The sources are scanned by the project's own words, and own-stamps.sed adds what its own tools would
+# look for. Xen's words are those of Linux, which U-Boot's are with more, and its conf is as old as U-Boot's.
 ifdef confstamp-dialect
-confstamp-record = $(confstamp-directly) $(CONFSTAMP_KBUILD)/fixdep $(confstamp-dialect) $(depfile) $@ '$(make-cmd)' cmd_ ||
+confstamp-aside = $(@D)/.$(@F).$(if $(confstamp-in-place),cmd.)tmp
 confstamp-directly = { $(CONFSTAMP) $(confstamp-dialect) record -- $(depfile) $@ '$(make-cmd)' 2> /dev/null \
-	>> $(confstamp-records) && sed -nf $(CONFSTAMP_KBUILD)/own-stamps.sed $(@D)/.$(@F).cmd > $(@D)/.$(@F).tmp; } ||
+	>> $(confstamp-records) && sed -nf $(CONFSTAMP_KBUILD)/own-stamps.sed $(@D)/.$(@F).cmd > $(confstamp-aside) \
+	$(if $(confstamp-in-place),&& mv -f $(confstamp-aside) $(@D)/.$(@F).cmd); } ||
 endif
+
+# In front of the command by which Xen removes auto.conf before each synchronisation: that touches all symbols.
+confstamp-keeps = @:
 
 # What record says goes to the list of what was recorded here. An external module may stand in nobody's own tree.
 confstamp-records = $(if $(KBUILD_EXTMOD),/dev/null,include/config/confstamp.records)
 
 # In front of the command of the kernel's conf, or of BusyBox's.
 confstamp-syncconfig = $(if $(filter syncconfig silentoldconfig,$@),$(CONFSTAMP_KBUILD)/syncconfig $(confstamp-dialect) \
-	$(if $(findstring s,$(firstword -$(MAKEFLAGS))),--quiet))
+	$(if $(confstamp-project),--project $(confstamp-project)) $(if $(findstring s,$(firstword -$(MAKEFLAGS))),--quiet))
 
 # BusyBox's .config has a fixed place. What a synchronisation writes last is its header, and make then splits that into stamps. This
 # empties confstamp.h, a header of no symbol, so a synchronisation without the hooks is seen by it. `make mrproper` removes the
@@ -87,28 +112,33 @@ $(if $(MAKE_RESTARTS),,$(if $(and $(wildcard include/config/confstamp.due),$(con
 $(if $(confstamp-synchronised),,$(if $(filter-out 1 2 3,$(MAKE_RESTARTS)),$(confstamp-never))$(confstamp-last-file): FORCE)
 $(confstamp-marks)
 endef
-confstamp-age = $(if $(CONFSTAMP_ASKS),,$(if $(shell $(CONFSTAMP_KBUILD)/age $(KBUILD_EXTMOD) || echo failed),$(confstamp-not-aged)))
+confstamp-age = $(if $(CONFSTAMP_ASKS),,$(if $(shell $(if $(confstamp-elsewhere),cd $(objtree) &&) $(CONFSTAMP_KBUILD)/age \
+	$(if $(confstamp-elsewhere),$(CURDIR),$(KBUILD_EXTMOD)) || echo failed),$(confstamp-not-aged)))
 confstamp-not-aged = $(error what is stale could not be given an old time)
 confstamp-never = $(error confstamp has synchronised $(MAKE_RESTARTS) times, and $(confstamp-config) still isn't what was synchronised)
 
 # kbuild/restore wants to know whether the last make of the whole ended well. Where one begins this file says `begun`, and at its
 # end `ended`. A make of some goals alone turns `ended` into `part`. The recipe comes out empty, so no process is started.
 confstamp-make-mark = include/config/confstamp.make
+ifndef confstamp-whole
 confstamp-whole = $(if $(confstamp-dialect),_all,all)
+endif
 ifeq ($(filter 3.% 4.0% 4.1%,$(MAKE_VERSION)),)
 confstamp-write-make-mark = $(file > $(confstamp-make-mark),$(1))
+confstamp-verified-all = $(file > $(confstamp-verified),ended)
 confstamp-read-make-mark = $(file < $(confstamp-make-mark))
 else
 confstamp-write-make-mark = $(shell echo $(1) > $(confstamp-make-mark))
+confstamp-verified-all = $(shell echo ended > $(confstamp-verified))
 confstamp-read-make-mark = $(shell cat $(confstamp-make-mark) 2> /dev/null)
 endif
 confstamp-options = $(firstword -$(MAKEFLAGS))
 confstamp-only-asked = $(CONFSTAMP_ASKS)$(findstring n,$(confstamp-options))$(findstring q,$(confstamp-options))
 confstamp-marked = $(if $(KBUILD_EXTMOD)$(confstamp-only-asked),,$(wildcard include/config/auto.conf))
 confstamp-goals = $(or $(MAKECMDGOALS),all)
-confstamp-begun = $(if $(filter all _all __all,$(confstamp-goals)),begun,$(if $(filter begun part,$(confstamp-left-mark)),,part))
+confstamp-begun = $(if $(filter all _all __all $(confstamp-whole:_%=%),$(confstamp-goals)),begun,$(if $(filter begun part,$(confstamp-left-mark)),,part))
 confstamp-left-mark = $(or $(confstamp-read-make-mark),$(if $(wildcard $(confstamp-make-mark)),begun))
-confstamp-ended = $(if $(confstamp-marked),$(call confstamp-write-make-mark,ended))
+confstamp-ended = $(if $(confstamp-marked),$(call confstamp-write-make-mark,ended)$(if $(confstamp-verifies),$(confstamp-verified-all)))
 define confstamp-marks
 $(if $(confstamp-marked),$(if $(confstamp-begun),$(call confstamp-write-make-mark,$(confstamp-begun))))
 $(if $(KBUILD_EXTMOD),,$(confstamp-whole): ; $$(confstamp-ended))
@@ -134,18 +164,21 @@ endif
 ifdef CONFSTAMP_ASKS
 ifdef confstamp-dialect
 confstamp-newer = $(filter-out $(PHONY),$?) $(filter-out $(PHONY) $(wildcard $^),$^)
-confstamp-other = $(if $(confstamp-ours),$(call arg-check, $(cmd_$(1)), $(cmd_$@)),$(arg-check))
+confstamp-other = $(if $(confstamp-ours),$(call arg-check, $(cmd_$(1)), $(cmd_$@)),$(arg-check)$(cmd-check))
 else
 confstamp-newer = $(newer-prereqs)
 confstamp-other = $(cmd-check)
 override define filechk
-+@{ $(filechk_$(1)); } 2> /dev/null | cmp -s - $@ || echo 'confstamp-text $@'
++@{ $(filechk_$(1)); } 2> /dev/null | cmp -s - $@ || echo 'confstamp-text $(call confstamp-named,$@)'
 endef
 endif
-confstamp-object = $(if $(strip $(confstamp-newer) $(confstamp-other)),$(info confstamp-told $@ '$(make-cmd)' $(confstamp-newer)))
-confstamp-parts = $(if $(filter %.o %.a,$^),$(info confstamp-linked $@ same $(filter %.o %.a,$^)))
-confstamp-link = $(info confstamp-linked $@ $(if $(strip $(confstamp-other)),differs,same) $(filter-out $(PHONY) $(2),$^))
-confstamp-asked = $(info confstamp-asked $@)$(if $(deps_$@),$(confstamp-object)$(confstamp-parts),$(confstamp-link))
+confstamp-object = $(if $(strip $(confstamp-newer) $(confstamp-other)),$(info confstamp-told $(call confstamp-named,$@) \
+	'$(make-cmd)' $(call confstamp-named,$(confstamp-newer))))
+confstamp-parts = $(if $(filter %.o %.a,$^),$(info confstamp-linked $(call confstamp-named,$@) same $(call \
+	confstamp-named,$(filter %.o %.a,$^))))
+confstamp-link = $(info confstamp-linked $(call confstamp-named,$@) $(if $(strip $(confstamp-other)),differs,same) $(call \
+	confstamp-named,$(filter-out $(PHONY) $(2),$^)))
+confstamp-asked = $(info confstamp-asked $(call confstamp-named,$@))$(if $(deps_$@),$(confstamp-object)$(confstamp-parts),$(confstamp-link))
 confstamp-told = $(if $(filter $(PHONY),$@),,$(confstamp-asked))@:
 override if_changed_dep = $(confstamp-told)
 override if_changed_rule = $(confstamp-told)

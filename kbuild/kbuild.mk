@@ -11,13 +11,13 @@ export CONFSTAMP
 # Up to Linux 6.2 make looks for the command of an object under cmd_T in its command file, and not under savedcmd_T.
 confstamp-prefix = $(if $(findstring savedcmd_,$(value cmd-check)),,cmd_)
 
-# From Linux 6.13 on make runs in the folder of an external module, and the tree is elsewhere. Then an object is recorded by its whole
-# path, from the tree.
+# From Linux 6.13 on make runs in the folder of an external module, and the tree is elsewhere. Then an object is recorded by its
+# whole path, from the tree.
 confstamp-elsewhere = $(filter-out . $(CURDIR),$(objtree))
 confstamp-named = $(if $(confstamp-elsewhere),$(abspath $(1)),$(1))
 
-# CONFSTAMP_VERIFY says that each record is held against the project's own fixdep, and each synchronisation against its own conf. In
-# a tree whose edition was not tried it is so until a make of all has ended well.
+# CONFSTAMP_VERIFY says that each record is held against the project's own fixdep, and each synchronisation against its own
+# conf. In a tree whose edition was not tried it is so until a make of all has ended well.
 confstamp-verified = $(if $(confstamp-elsewhere),$(confstamp-elsewhere)/)include/config/confstamp.verified-all
 ifndef CONFSTAMP_VERIFY
 ifeq ($(confstamp-untried)$(wildcard $(confstamp-verified)),yes)
@@ -28,8 +28,8 @@ confstamp-verifies = $(filter-out 0 no,$(CONFSTAMP_VERIFY))
 
 # In front of the kernel's own fixdep, which runs only where what stands before it has failed. The program comes first,
 # since a shell for each object costs more than the record. Of the editions with cmd_T autoksyms.h has to be left out of
-# the dependency file before the record, where it is in use; the hook does that. Where the hook says that fixdep has found another
-# name, with status 3, the recipe ends.
+# the dependency file before the record, where it is in use; the hook does that. Where the hook says that fixdep has found
+# another name, with status 3, the recipe ends.
 confstamp-record = $(if $(confstamp-by-hook),,$(confstamp-directly)) $(confstamp-hook) $(depfile) $@ '$(make-cmd)' \
 	$(confstamp-prefix) || $(if $(confstamp-verifies),{ [ $$? != 3 ] || exit 1; false; } ||)
 confstamp-by-hook = $(confstamp-verifies)$(confstamp-elsewhere)$(and $(confstamp-prefix),$(CONFIG_TRIM_UNUSED_KSYMS))
@@ -136,9 +136,12 @@ confstamp-options = $(firstword -$(MAKEFLAGS))
 confstamp-only-asked = $(CONFSTAMP_ASKS)$(findstring n,$(confstamp-options))$(findstring q,$(confstamp-options))
 confstamp-marked = $(if $(KBUILD_EXTMOD)$(confstamp-only-asked),,$(wildcard include/config/auto.conf))
 confstamp-goals = $(or $(MAKECMDGOALS),all)
-confstamp-begun = $(if $(filter all _all __all $(confstamp-whole:_%=%),$(confstamp-goals)),begun,$(if $(filter begun part,$(confstamp-left-mark)),,part))
+confstamp-goals-of-all = all _all __all $(confstamp-whole:_%=%)
+confstamp-begun = $(if $(filter $(confstamp-goals-of-all),$(confstamp-goals)),begun,$(if $(filter begun \
+	part,$(confstamp-left-mark)),,part))
 confstamp-left-mark = $(or $(confstamp-read-make-mark),$(if $(wildcard $(confstamp-make-mark)),begun))
-confstamp-ended = $(if $(confstamp-marked),$(call confstamp-write-make-mark,ended)$(if $(confstamp-verifies),$(confstamp-verified-all)))
+confstamp-ended = $(if $(confstamp-marked),$(call confstamp-write-make-mark,ended)$(if \
+	$(confstamp-verifies),$(confstamp-verified-all)))
 define confstamp-marks
 $(if $(confstamp-marked),$(if $(confstamp-begun),$(call confstamp-write-make-mark,$(confstamp-begun))))
 $(if $(KBUILD_EXTMOD),,$(confstamp-whole): ; $$(confstamp-ended))
@@ -178,7 +181,8 @@ confstamp-parts = $(if $(filter %.o %.a,$^),$(info confstamp-linked $(call confs
 	confstamp-named,$(filter %.o %.a,$^))))
 confstamp-link = $(info confstamp-linked $(call confstamp-named,$@) $(if $(strip $(confstamp-other)),differs,same) $(call \
 	confstamp-named,$(filter-out $(PHONY) $(2),$^)))
-confstamp-asked = $(info confstamp-asked $(call confstamp-named,$@))$(if $(deps_$@),$(confstamp-object)$(confstamp-parts),$(confstamp-link))
+confstamp-asked = $(info confstamp-asked $(call confstamp-named,$@))$(if \
+	$(deps_$@),$(confstamp-object)$(confstamp-parts),$(confstamp-link))
 confstamp-told = $(if $(filter $(PHONY),$@),,$(confstamp-asked))@:
 override if_changed_dep = $(confstamp-told)
 override if_changed_rule = $(confstamp-told)

@@ -1,5 +1,5 @@
 -- Options one after the other.
-use Rattle.std.proofs.Common.{◌≡◌, ◌++◌, ◌∷◌, ◌+◌, ◌-◌, ◌∙◌, [], ℕ, Bor, List, ap, drop, map, refl, sym, take}
+use Rattle.std.proofs.Common.{◌≡◌, ◌++◌, ◌∷◌, ◌+◌, ◌∙◌, [], ℕ, Bor, List, ap, drop, map, refl, sym, take}
 use Rattle.std.proofs.lemmas.List.{drop-drop, drop-map, take-append-drop}
 use Rattle.confstamp.specs.Front.{Spells, SpellsAll, Word}
 

@@ -1,7 +1,7 @@
-use Rattle.std.proofs.Common.{◌++◌, ◌∷◌, ◌+◌, ◌-◌, ◌≤◌, ◌∙◌, [], ℕ, Bor, List, ap, arith, drop, length, length-drop, map, subst, sym, take}
+use Rattle.std.proofs.Common.{◌++◌, ◌∷◌, ◌+◌, ◌≤◌, ◌∙◌, [], ℕ, Bor, List, ap, arith, drop, length, length-drop, map, subst, sym, take}
 use Rattle.std.proofs.lemmas.List.{length-map, take_rest}
 use Rattle.std.proofs.lemmas.List.Sums.{fold-append}
-use Rattle.confstamp.specs.Front.{Spells, SpellsAll, Word, nothing, said, seen_option}
+use Rattle.confstamp.specs.Front.{Spells, SpellsAll, nothing, said, seen_option}
 use Rattle.confstamp.proofs.FrontLemmas.{rest_after, spelled_more}
 use Rattle.confstamp.proofs.front.take_front.Goals as goal
 

@@ -1,4 +1,4 @@
-use Rattle.std.specs.Prelude.{◌≡◌, nat_eq, refl}
+use Rattle.std.specs.Prelude.{nat_eq, refl}
 use Rattle.std.proofs.Common.{rules}
 use Rattle.std.proofs.lemmas.Result.{err_from_is_err_and}
 use Rattle.ks_tree.specs.Files.{content}

@@ -47,8 +47,8 @@ confstamp-comma := ,
 # begins these texts are compared. Times don't say it: a .config that was copied back may have an old one.
 confstamp-sources := $(sort $(confstamp-kconfig) $(confstamp-config) $(confstamp-inputs))
 confstamp-kept := $(confstamp-state)/confstamp.kept
-confstamp-due := $(shell cat $(confstamp-sources) $(confstamp-state)/auto.conf $(confstamp-header) 2> /dev/null | \
-	cmp -s - $(confstamp-kept) || echo confstamp-always)
+confstamp-texts = $(confstamp-sources) $(confstamp-state)/auto.conf $(confstamp-header)
+confstamp-due := $(shell cat $(confstamp-texts) 2> /dev/null | cmp -s - $(confstamp-kept) || echo confstamp-always)
 ifneq ($(confstamp-due),)
 ifneq ($(filter-out 1 2 3 4 5,$(MAKE_RESTARTS)),)
 $(error confstamp has synchronised again and again, and $(confstamp-config) still isn't what was synchronised)
@@ -57,20 +57,20 @@ endif
 
 # The synchronisation, in a makefile that is included: make makes that anew before all else, and then begins again, with the
 # symbols of auto.conf, and asks which objects are stale. The text of the sources is taken before, so a change meanwhile is
-# seen. What was synchronised is told last, so one that was broken off is done again.
+# seen. What was synchronised is told last, so one that was broken off is done again. A tool that writes the same text once
+# more is no reason, else make would begin again for ever.
 include $(confstamp-state)/confstamp.mk
 ifdef confstamp-maker
 $(confstamp-maker): $(confstamp-due)
 $(confstamp-kconfig) $(confstamp-config): $(confstamp-maker) ;
 endif
 $(confstamp-state)/confstamp.mk: $(confstamp-sources) $(confstamp-due)
-	$(if $(confstamp-silent),,@echo '  SYNC    $(confstamp-config)')
-	@mkdir -p $(@D)
-	@cat $(confstamp-sources) > $(confstamp-kept).new
-	@$(confstamp-program) -C $(confstamp-dir) --wait 60 sync $(abspath $(confstamp-kconfig) $(confstamp-config)) > /dev/null
-	@cat $(@D)/auto.conf $(confstamp-header) >> $(confstamp-kept).new
-	@{ echo '-include $(@D)/auto.conf' && sed -n 's/^#generation /confstamp-generation := /p' $(@D)/auto.conf; } > $@
-	@mv $(confstamp-kept).new $(confstamp-kept)
+	@$(if $(confstamp-due),false,cat $(confstamp-texts) | cmp -s - $(confstamp-kept) && [ -e $@ ]) || { \
+	$(if $(confstamp-silent),:,echo '  SYNC    $(confstamp-config)'); mkdir -p $(@D) && \
+	cat $(confstamp-sources) > $(confstamp-kept).new && \
+	$(confstamp-program) -C $(confstamp-dir) --wait 60 sync $(abspath $(confstamp-kconfig) $(confstamp-config)) > /dev/null && \
+	cat $(@D)/auto.conf $(confstamp-header) >> $(confstamp-kept).new && { echo '-include $(@D)/auto.conf' && \
+	sed -n 's/^#generation /confstamp-generation := /p' $(@D)/auto.conf; } > $@ && mv $(confstamp-kept).new $(confstamp-kept); }
 
 .PHONY: confstamp-always
 confstamp-always:

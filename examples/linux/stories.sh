@@ -607,6 +607,12 @@ clock_ahead() {
         begin "objects two hours ahead, $way before make"
         ahead
     done
+}
+
+# The same in a build folder of its own.
+clock_ahead_beside() {
+    way=synchronised
+    changed=
     cd "$work"
     rm -rf linux out
     tar -xf sources.tar

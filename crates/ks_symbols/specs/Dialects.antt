@@ -17,14 +17,16 @@ abbrev pub dialect_number : Dialect → ℕ
 dialect_number dialect.Linux = 0
 dialect_number dialect.UBoot = 1
 dialect_number dialect.BusyBox = 2
+dialect_number dialect.Coreboot = 3
 
 abbrev pub numbered_dialect : ℕ → Dialect
-numbered_dialect n = if n == 0 then dialect.Linux else if n == 1 then dialect.UBoot else dialect.BusyBox
+numbered_dialect n = if n == 0 then dialect.Linux else if n == 1 then dialect.UBoot else if n == 2 then dialect.BusyBox else dialect.Coreboot
 
 abbrev pub dialect_again : (d : Dialect) → numbered_dialect (dialect_number d) ≡ d
 dialect_again dialect.Linux = refl
 dialect_again dialect.UBoot = refl
 dialect_again dialect.BusyBox = refl
+dialect_again dialect.Coreboot = refl
 
 abbrev pub coded_dialect : Coded Dialect
 coded_dialect = code_by ℕ coded_ℕ dialect_number numbered_dialect dialect_again

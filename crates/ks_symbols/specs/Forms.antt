@@ -74,23 +74,26 @@ is_one_word text = not (length text == 0) && length (after_word text) == 0
 abbrev pub is_state : List ℕ → Bool
 is_state word = bytes_eq word (codes "y") || bytes_eq word (codes "m") || bytes_eq word (codes "n")
 
--- the kind that `string` names: Linux has escapes in the value, and the others take it as it stands (scripts/kconfig/confdata.c of each)
+-- the kind that `string` names: Linux and coreboot have escapes in the value, and the others take it as it stands (confdata.c of each)
 abbrev pub text_kind : Dialect → Kind
 text_kind dialect.Linux = kind.Text
 text_kind dialect.UBoot = kind.Raw
 text_kind dialect.BusyBox = kind.Raw
+text_kind dialect.Coreboot = kind.Text
 
 -- the kind that `bool` names: BusyBox asks for a macro ENABLE_N as well (its scripts/kconfig/confdata.c)
 abbrev pub bool_kind : Dialect → Kind
 bool_kind dialect.Linux = kind.Bool
 bool_kind dialect.UBoot = kind.Bool
 bool_kind dialect.BusyBox = kind.Flag
+bool_kind dialect.Coreboot = kind.Bool
 
 -- BusyBox has no modules
 abbrev pub has_modules : Dialect → Bool
 has_modules dialect.Linux = true
 has_modules dialect.UBoot = true
 has_modules dialect.BusyBox = false
+has_modules dialect.Coreboot = true
 
 -- the kind that a word names, with a prompt or nothing after it
 abbrev pub named_kind : Dialect → List ℕ → Option Kind

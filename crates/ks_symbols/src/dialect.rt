@@ -1,5 +1,5 @@
-//! Whose build it is. Linux, U-Boot and BusyBox are built by the same makefiles, and say the same things in different words: in their
-//! sources, and in the values of strings.
+//! Whose build it is. Linux, U-Boot, BusyBox and coreboot have one language of configuration, and say the same things in different
+//! words: in their sources, and in the values of strings.
 ghost use Rattle.std.specs.Prelude.{◌≡◌};
 ghost use Rattle.ks_symbols.specs.Dialects.{read_in};
 
@@ -11,6 +11,7 @@ pub enum Dialect {
     Linux,
     UBoot,
     BusyBox,
+    Coreboot,
 }
 
 /// The text of a Kconfig, with the dialect that it is read in.

@@ -3,9 +3,9 @@
 //! The last line about a symbol counts, as in scripts/kconfig/confdata.c. A line that means nothing is refused
 //! with its number, where the kernel's tool warns: a misspelt line would otherwise be a symbol that is off.
 //! Lines about names that are not declared are skipped and counted.
-ghost use Rattle.std.specs.Prelude.{◌≡◌, ◌≢◌, ◌+◌, ◌^◌, ◌<◌, ◌≤◌, ℕ, List, None, Some, cond, bytes_eq, OnOk, IfOk, IsErrOf, if◌then◌else◌};
+ghost use Rattle.std.specs.Prelude.{◌≡◌, ◌≢◌, ◌+◌, ◌^◌, ◌<◌, ◌≤◌, ℕ, List, None, Some, cond, bytes_eq, OnOk, IfOk, IsErrOf, false, length, if◌then◌else◌};
 ghost use Rattle.std.specs.FinMap as map;
-ghost use Rattle.ks_symbols.specs.Lines.{lines};
+ghost use Rattle.ks_symbols.specs.Lines.{lines, max_bytes};
 ghost use Rattle.ks_symbols.specs.Values.{text_of};
 ghost use Rattle.ks_symbols.specs.Configuration.{IsConfiguration};
 ghost use Rattle.ks_symbols.specs.Statements.{statement};
@@ -64,6 +64,7 @@ fn apply(
     ensures unknown { OnOk result (settings.new.unknown ≡ settings.old.unknown
         + (if is_of_unknown (map.get symbols.now.kinds) (statement line.now) then 1 else 0)) }
     ensures refusal { RefusedBy SourceError.OutOfMemory result (fault_of_statement (map.get symbols.now.kinds) number line.now (statement line.now)) }
+    ensures memory { IsErrOf result SourceError.OutOfMemory → (statement line.now ≢ None) × (is_of_unknown (map.get symbols.now.kinds) (statement line.now) ≡ false) }
 {
     match parse_statement(line) {
         None => {
@@ -100,6 +101,8 @@ pub fn draft_settings(
     ensures entries { IfOk result (λ s. (x : List ℕ) → map.get s.entries x ≡ setting (map.get symbols.now.kinds) (lines text.now) x) }
     ensures unknown { IfOk result (λ s. s.unknown ≡ unknown_count (map.get symbols.now.kinds) (lines text.now)) }
     ensures refusal { RefusedBy SourceError.OutOfMemory result (dotconfig_refusal (map.get symbols.now.kinds) text.now) }
+    ensures memory { IsErrOf result SourceError.OutOfMemory → length text.now ≤ max_bytes }
+    ensures short { OnOk result (length text.now ≤ max_bytes) }
     ensures configured { IfOk result (λ s. IsConfiguration s.entries) }
 {
     if text.len() > MAX_BYTES {
@@ -125,6 +128,7 @@ pub fn read_dotconfig(
     ensures entries { IfOk result (λ s. (x : List ℕ) → map.get s.entries x ≡ setting (map.get symbols.now.kinds) (lines text.now) x) }
     ensures unknown { IfOk result (λ s. s.unknown ≡ unknown_count (map.get symbols.now.kinds) (lines text.now)) }
     ensures refusal { RefusedBy SourceError.OutOfMemory result (dotconfig_refusal (map.get symbols.now.kinds) text.now) }
+    ensures memory { IsErrOf result SourceError.OutOfMemory → length text.now ≤ max_bytes }
     ensures configured { IfOk result (λ s. IsConfiguration s.entries) }
 {
     let draft = draft_settings(alloc, text, symbols)?;

@@ -127,7 +127,7 @@ fn text_kind(dialect: Dialect) -> Kind
     ensures { result ≡ text_kind dialect }
 {
     match dialect {
-        Dialect::Linux => Kind::Text,
+        Dialect::Linux | Dialect::Coreboot => Kind::Text,
         Dialect::UBoot | Dialect::BusyBox => Kind::Raw,
     }
 }
@@ -137,7 +137,7 @@ fn bool_kind(dialect: Dialect) -> Kind
     ensures { result ≡ bool_kind dialect }
 {
     match dialect {
-        Dialect::Linux | Dialect::UBoot => Kind::Bool,
+        Dialect::Linux | Dialect::UBoot | Dialect::Coreboot => Kind::Bool,
         Dialect::BusyBox => Kind::Flag,
     }
 }
@@ -147,7 +147,7 @@ fn has_modules(dialect: Dialect) -> bool
     ensures { result ≡ has_modules dialect }
 {
     match dialect {
-        Dialect::Linux | Dialect::UBoot => true,
+        Dialect::Linux | Dialect::UBoot | Dialect::Coreboot => true,
         Dialect::BusyBox => false,
     }
 }

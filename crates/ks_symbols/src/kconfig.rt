@@ -6,6 +6,7 @@
 ghost use Rattle.std.specs.Prelude.{◌≡◌, ◌+◌, ◌≤◌, ◌<◌, ◌^◌, [], ℕ, List, Option, option_map, unwrap_or, codes, vec_items, length, None, Some, IfOk, IfNone, OnOk, OnErr, IsErrOf, IsTrue, map as map_list};
 ghost use Rattle.std.specs.FinMap as map;
 ghost use Rattle.ks_symbols.specs.declared.error.SourceError.{SourceError};
+ghost use Rattle.ks_symbols.specs.Lines.{max_bytes};
 ghost use Rattle.ks_symbols.specs.Refusals.{RefusedBy, or_else};
 ghost use Rattle.ks_symbols.specs.Configuration.{HasSymbolNames};
 ghost use Rattle.ks_symbols.specs.Progress.{no_progress, waiting_fault, progress_after, step_fault, no_kinds, seen, first_kind, last_kind, first_clash, without_text};
@@ -273,6 +274,7 @@ fn read_text(alloc: Global, dialect: Dialect, text: &[u8]) -> Result<Symbols, So
     ensures kinds { IfOk result (λ s. (x : List ℕ) → map.get s.kinds x ≡ declared (read_in dialect text.now) x) }
     ensures title { IfOk result (λ s. s.title ≡ title_of (read_in dialect text.now)) }
     ensures refusal { RefusedBy SourceError.OutOfMemory result (kconfig_refusal (read_in dialect text.now)) }
+    ensures memory { IsErrOf result SourceError.OutOfMemory → length text.now ≤ max_bytes }
     ensures names { IfOk result (λ s. HasSymbolNames (map.get s.kinds)) }
     ensures titled { IfOk result (λ s. IsTrue (is_title s.title)) }
 {
@@ -297,6 +299,7 @@ pub fn read_kconfig(alloc: Global, kconfig: &Kconfig<'_>) -> Result<Symbols, Sou
     ensures kinds { IfOk result (λ s. (x : List ℕ) → map.get s.kinds x ≡ declared kconfig.now x) }
     ensures title { IfOk result (λ s. s.title ≡ title_of kconfig.now) }
     ensures refusal { RefusedBy SourceError.OutOfMemory result (kconfig_refusal kconfig.now) }
+    ensures memory { IsErrOf result SourceError.OutOfMemory → length kconfig.now.text ≤ max_bytes }
     ensures names { IfOk result (λ s. HasSymbolNames (map.get s.kinds)) }
     ensures titled { IfOk result (λ s. IsTrue (is_title s.title)) }
 {

@@ -1,5 +1,5 @@
 -- A line of the layout says what it was made of, and no other line does.
-use Rattle.ks_fixdep.proofs.Prelude.{All-head, ap₂, ◌≡◌, ℕ, zero, suc, ◌+◌, ◌-◌, ◌<◌, Bool, true, false, List, [], ◌∷◌, ◌++◌, length, take, drop, refl, sym, ap, ◌∙◌, arith, Option, Some, None, length-append, append_assoc, take-append_seam, drop-append_seam, drop-append-add, bytes_eq-Decides, Dep, File, Config, is_dep, dep_line, cond-true, eqb-true, and_parts, ◌==◌, ◌&&◌, option_and_then, if◌then◌else◌, list_all, bytes_eq, first_of, is_name, is_path, is_target, is_path_byte, following, before, between, is_command, checked, split_once, saved_command, source_in, path_in, name_in, dep_in, either_dep, assignment, file_end, file_line, file_mark, name_end, name_line, name_mark, saved_line, saved_mark, source_line, common_steps, rules, and_from}
+use Rattle.ks_fixdep.proofs.Prelude.{All-head, ap₂, ◌≡◌, ℕ, zero, suc, ◌<◌, Bool, true, false, List, [], ◌∷◌, ◌++◌, length, take, drop, refl, sym, ap, ◌∙◌, arith, Option, Some, None, length-append, append_assoc, take-append_seam, drop-append_seam, drop-append-add, bytes_eq-Decides, Dep, File, Config, is_dep, dep_line, cond-true, eqb-true, and_parts, ◌==◌, ◌&&◌, option_and_then, if◌then◌else◌, list_all, bytes_eq, first_of, is_name, is_path, is_target, is_path_byte, following, before, between, is_command, checked, split_once, saved_command, source_in, path_in, name_in, dep_in, either_dep, assignment, file_end, file_line, file_mark, name_end, name_line, name_mark, saved_line, saved_mark, source_line, common_steps, rules, and_from}
 use Rattle.std.proofs.lemmas.List.{take-append-drop}
 use Rattle.memchr.proofs.lemmas.CallerLemmas.{All-matches}
 use Rattle.memchr.proofs.lemmas.MatchLemmas.{OccursAt-from_part, OccursAt-part, OccursAt-split, matches-first}

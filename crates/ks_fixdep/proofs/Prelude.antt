@@ -47,7 +47,8 @@ pub use Rattle.ks_fixdep.specs.declared.command_file.Dep.TheVariants.{Config, Fi
 pub use Rattle.ks_fixdep.specs.declared.dep_error.DepError.{DepError}
 pub use Rattle.ks_fixdep.specs.declared.dependency_file.Header.{Header}
 pub use Rattle.ks_fixdep.specs.declared.dependency_file.Role.{Role}
-pub use Rattle.ks_fixdep.specs.Dialects.{Word, word_names, phase_prefix, passed, nothing, after_word, names_in_as, rules_for}
+pub use Rattle.ks_fixdep.specs.Dialects.{names_in_as, rules_for}
+pub use Rattle.ks_fixdep.specs.Words.{Word, word_names, passed, nothing, after_word}
 unfoldable pub use Rattle.ks_fixdep.specs.Rule.{rule_text}
 pub use Rattle.std.proofs.lemmas.Option.{cond_some, slice_get_cases, none-some}
 pub use Rattle.ks_fixdep.specs.WordScan.{word_ended, next, known_after, ended_by, at_start, Knows, Known}
@@ -55,5 +56,5 @@ pub use Rattle.std.proofs.lemmas.List.Elements.{All-drop, All-head}
 pub use Rattle.std.proofs.lemmas.List.Folds.{Any-from_list_any}
 pub use Rattle.std.proofs.lemmas.List.Sums.{prefix_len-drop_no, prefix_len-drop_all}
 pub use Rattle.std.proofs.Math.Seq.{take-add}
-pub use Rattle.std.proofs.lemmas.List.{take_at, get_or-append_right, get_or_append_left}
+pub use Rattle.std.proofs.lemmas.List.{at_drop_more, take_at, get_or-append_right, get_or_append_left}
 pub use Rattle.std.proofs.lemmas.List.Prefix.{front_fits, at_reads}

@@ -1,5 +1,5 @@
 -- What is written as one rule is read token by token.
-use Rattle.ks_fixdep.proofs.Prelude.{None, Some, refl, list_all-from_AllPass, prefix_len_passes, length-prefix_len, get_or-take, ◌≡◌, ℕ, ◌+◌, ◌<◌, Bool, true, false, List, [], ◌∷◌, ◌++◌, map, drop, ◌∙◌, arith, append_assoc, length-append, length-take-le, flat_map, list_all, prefix_len, slice_split, cond-true, cond-false, and_from, and_parts, not-true, flat_map-append, list_all-append, list_all-map, common_steps, nat_tests, prefix_len-le-length, is_name, is_path, line_feed, tokens, is_separator, is_other, stamp_of, continued, is_token, RulesReadBack, FirstTokensAreTokens, rules}
+use Rattle.ks_fixdep.proofs.Prelude.{None, Some, refl, list_all-from_AllPass, prefix_len_passes, length-prefix_len, get_or-take, ◌≡◌, ℕ, ◌<◌, Bool, true, false, List, [], ◌∷◌, ◌++◌, map, drop, ◌∙◌, arith, append_assoc, length-append, length-take-le, flat_map, list_all, prefix_len, slice_split, cond-true, cond-false, and_from, and_parts, not-true, flat_map-append, list_all-append, list_all-map, common_steps, nat_tests, prefix_len-le-length, is_name, is_path, line_feed, tokens, is_separator, is_other, stamp_of, continued, is_token, RulesReadBack, FirstTokensAreTokens, rules}
 unfoldable use Rattle.ks_fixdep.specs.DependencyFile.{refusal_without, token_refusal}
 use Rattle.ks_fixdep.specs.DependencyFile.{is_target_token}
 use Rattle.ks_fixdep.specs.declared.dependency_file.Header.{Header}

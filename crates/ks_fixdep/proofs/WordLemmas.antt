@@ -1,42 +1,65 @@
 -- A text that is scanned by its words.
-use Rattle.ks_fixdep.proofs.Prelude.{cond_both, length-take, without_module, after_word, nothing, passed, phase_prefix, word_names, Word, SourceNames, Known, Knows, at_start, ended_by, known_after, next, word_ended, StandsAfter, StandsAfterAs, ◌≡◌, ℕ, ◌+◌, ◌<◌, true, false, List, [], ◌∷◌, ◌++◌, length, take, get_or, Option, refl, sym, ap, ◌∙◌, and_from, list_all-append, take_more, take_while, take-append_seam, arith, ⊎_elim, append_assoc, append-nil, length-append, length-drop, cases_Bool, fold-append, bytes_eq-Decides, list_all, and_parts, is_word_byte, list_of, lengthened, common_steps, rules}
-unfoldable use Rattle.ks_fixdep.specs.Dialects.{arguments_of, busybox_names, names_of_parts, parts}
-use Rattle.ks_fixdep.specs.Dialects.{of_module}
+use Rattle.ks_fixdep.proofs.Prelude.{all_noted, bare_name, if◌then◌else◌, ◌-◌, drop_all, get_or-drop, map, map-append, names_in, names_in_as, None, placed, Some, suc, take_all, take_while-cons, zero, ◌≤◌, cond_both, length-take, without_module, after_word, nothing, passed, word_names, Word, SourceNames, Known, Knows, at_start, ended_by, known_after, next, word_ended, StandsAfter, StandsAfterAs, ◌≡◌, ℕ, ◌+◌, ◌<◌, true, false, List, [], ◌∷◌, ◌++◌, length, take, drop, flat_map, get_or, Option, refl, sym, ap, ◌∙◌, and_from, list_all-append, take_more, take_while, take-append_seam, arith, ⊎_elim, append_assoc, append-nil, length-append, length-drop, cases_Bool, fold-append, bytes_eq-Decides, list_all, and_parts, is_word_byte, list_of, lengthened, common_steps, nat_tests}
+unfoldable use Rattle.ks_fixdep.proofs.Prelude.{name_of, name_of_word, names_after}
+unfoldable use Rattle.ks_fixdep.specs.Dialects.{words_of}
+use Rattle.ks_fixdep.specs.Dialects.{config_form}
+unfoldable use Rattle.ks_fixdep.specs.Words.{arguments_of, named_by, names_of_parts, parts}
+use Rattle.ks_fixdep.specs.Words.{AreShort, SourceWords, WordForm, WordMacro, is_short_form, is_short_macro, of_module, symbol_of}
 use Rattle.ks_fixdep.specs.declared.awaited.Awaited.{Awaited}
 use Rattle.ks_fixdep.specs.declared.source_scan.SourceScan.{SourceScan}
 use Rattle.ks_fixdep.specs.declared.dialect.Rules.{Rules}
 use Rattle.ks_fixdep.specs.declared.dialect.Rules.TheVariants as rules
+use Rattle.std.proofs.lemmas.Bool.{leb-true}
 use Rattle.ks_fixdep.proofs.RunLemmas.{legal-length}
-use Rattle.ks_fixdep.proofs.ScanLemmas.{word-split}
-use Rattle.ks_fixdep.proofs.StreamLemmas.{name_of_word-long, within-lengthened}
+use Rattle.ks_fixdep.proofs.ScanLemmas.{nameless, names-first, word, word-passes, word-split, word-stops}
+use Rattle.ks_fixdep.proofs.StreamLemmas.{within-lengthened}
 
 -- ---- a word that is too long
 
-pub arguments-long : (r : Rules) (w : List ℕ) → 142 < length w → arguments_of r w ≡ 0
+pub arguments-long : (macros : List WordMacro) (w : List ℕ) → list_all is_short_macro macros ≡ true → 142 < length w → arguments_of macros w ≡ 0
 unfolding arguments_of
-arguments-long rules.Linux w long = refl
-arguments-long (rules.UBoot p) w long = grind (arith, common_steps, bytes_eq-Decides)
-arguments-long rules.BusyBox w long = refl
+arguments-long [] w short long = refl
+arguments-long (m ∷ macros) w short long =
+    let both = and_parts (is_short_macro m) (list_all is_short_macro macros) short in
+    grind (arith, common_steps, nat_tests, bytes_eq-Decides, both.0, (arguments-long macros w both.1 long))
 
 -- what is cut off its end leaves it too long
 module-long : (x : List ℕ) → 142 < length x → of_module x ≡ []
 module-long x long = grind (arith, common_steps, cond_both, length-take, (legal-length (without_module x)))
 
-pub names-long : (r : Rules) (a : Awaited) (w : List ℕ) → 142 < length w → word_names r a w ≡ []
-unfolding busybox_names
-names-long rules.Linux a w long = ap list_of (name_of_word-long w long)
-names-long (rules.UBoot p) a w long = grind (arith, common_steps, (legal-length (phase_prefix p ++ w)), (module-long (phase_prefix p ++ w)), length-append, name_of_word-long)
-names-long rules.BusyBox a w long = grind (arith, common_steps, legal-length, length-drop)
+symbol-long : (f : WordForm) (x : List ℕ) → 128 + (if f.has_modules then 7 else 0) < length x → symbol_of f x ≡ []
+symbol-long f x long = ⊎_elim
+    (λ modules. grind (arith, modules, length-take, (legal-length (without_module x))))
+    (λ none. grind (arith, none, (legal-length x)))
+    (cases_Bool f.has_modules)
+
+named-long : (f : WordForm) (w : List ℕ) → is_short_form f ≡ true → 142 < length w → named_by f w ≡ []
+unfolding named_by
+named-long f w short long =
+    let rest = drop (length f.begin) w in
+    let name = take (length rest - length f.end) rest in
+    let fits = leb-true (length f.begin + length f.end + (if f.has_modules then 7 else 0)) 14 short in
+    let over : 128 + (if f.has_modules then 7 else 0) < length name = grind (arith, long, fits, length-drop, length-take) in
+    grind (arith, cond_both, (symbol-long f name over))
+
+forms-long : (forms : List WordForm) (w : List ℕ) → list_all is_short_form forms ≡ true → 142 < length w → flat_map (λ f. named_by f w) forms ≡ []
+forms-long [] w short long = refl
+forms-long (f ∷ forms) w short long =
+    let both = and_parts (is_short_form f) (list_all is_short_form forms) short in
+    grind (arith, (named-long f w both.0 long), (forms-long forms w both.1 long))
+
+pub names-long : (words : SourceWords) (a : Awaited) (w : List ℕ) → AreShort words → 142 < length w → word_names words a w ≡ []
+names-long words a w short long = grind (arith, common_steps, (legal-length (words.front ++ w)), (module-long (words.front ++ w)), length-append, (forms-long words.forms w short.forms long))
 
 -- ---- where a word ends
 
-pub ended-long : (r : Rules) (k : Known) (w : List ℕ) → 142 < length w
-    → ended_by r k w ≡ record { word = []; awaited = after_word k.awaited 0; names = k.names }
-ended-long r k w long = grind (arith, common_steps, arguments-long, names-long, append-nil)
+pub ended-long : (words : SourceWords) (k : Known) (w : List ℕ) → AreShort words → 142 < length w
+    → ended_by words k w ≡ record { word = []; awaited = after_word k.awaited 0; names = k.names }
+ended-long words k w short long = grind (arith, common_steps, (arguments-long words.macros w short.macros long), (names-long words k.awaited w short long), append-nil)
 
 -- ---- word bytes lengthen the word, and no more
 
-pub word-known : (r : Rules) (k : Known) (h : List ℕ) → list_all is_word_byte h ≡ true
+pub word-known : (r : SourceWords) (k : Known) (h : List ℕ) → list_all is_word_byte h ≡ true
     → known_after r k h ≡ record { word = k.word ++ h; awaited = k.awaited; names = k.names }
 word-known r k [] all = rw append-nil
 word-known r k (b ∷ h) all =
@@ -47,12 +70,12 @@ word-known r k (b ∷ h) all =
 pub word-taken : (t head : List ℕ) → head ≡ take_while is_word_byte t → take (length head) t ≡ head
 word-taken t head is = grind (arith, common_steps, word-split, take-append_seam)
 
-pub word-more : (r : Rules) (k : Known) (t head : List ℕ) → head ≡ take_while is_word_byte t → length head < length t
+pub word-more : (r : SourceWords) (k : Known) (t head : List ℕ) → head ≡ take_while is_word_byte t → length head < length t
     → known_after r k (take (length head + 1) t) ≡ next r (known_after r k head) (get_or t (length head) 0)
 word-more r k t head is short = grind (arith, common_steps, take_more, word-taken, fold-append)
 
 -- what a scan knows once it has taken word bytes
-pub knows-pushed : (r : Rules) (k : Known) (old new : Option (List ℕ)) (a : Awaited) (table : SourceNames) (h : List ℕ) → list_all is_word_byte h ≡ true
+pub knows-pushed : (r : SourceWords) (k : Known) (old new : Option (List ℕ)) (a : Awaited) (table : SourceNames) (h : List ℕ) → list_all is_word_byte h ≡ true
     → new ≡ lengthened old h → Knows (record { word = old; awaited = a }) table k
     → Knows (record { word = new; awaited = a }) table (known_after r k h)
 knows-pushed r k old new a table h all is knows = grind (arith, common_steps, word-known, within-lengthened)
@@ -66,14 +89,14 @@ parts-word b [] [] all stops = rw (and_parts (is_word_byte b) true all).0
 parts-word b [] (c ∷ v) all stops = rw ((and_parts (is_word_byte b) true all).0, stops)
 parts-word b (c ∷ w) v all stops = let both = and_parts (is_word_byte b) (list_all is_word_byte (c ∷ w)) all in rw (both.0, parts-word c w v both.1 stops)
 
-ended-parts : (r : Rules) (k : Known) (w v : List ℕ) → list_all is_word_byte w ≡ true → is_word_byte (get_or v 0 0) ≡ false
+ended-parts : (r : SourceWords) (k : Known) (w v : List ℕ) → list_all is_word_byte w ≡ true → is_word_byte (get_or v 0 0) ≡ false
     → (ended_by r k w).names ++ names_of_parts r (ended_by r k w).awaited (parts v) ≡ k.names ++ names_of_parts r k.awaited (parts (w ++ v))
 unfolding names_of_parts
 ended-parts r k [] v all stops = refl
 ended-parts r k (b ∷ w) v all stops = rw (parts-word b w v all stops, append_assoc)
 
 -- What is noted of a text, once its last word has ended, are the names of its parts.
-names-known : (r : Rules) (k : Known) (t : List ℕ) → list_all is_word_byte k.word ≡ true
+names-known : (r : SourceWords) (k : Known) (t : List ℕ) → list_all is_word_byte k.word ≡ true
     → (word_ended r (known_after r k t)).names ≡ k.names ++ names_of_parts r k.awaited (parts (k.word ++ t))
 unfolding names_of_parts parts
 names-known r k [] all = sym (append-nil (word_ended r k).names) ∙ ended-parts r k k.word [] all refl
@@ -89,8 +112,61 @@ names-known r k (b ∷ t) all = ⊎_elim
     ))
     (cases_Bool (is_word_byte b))
 
-pub names-whole : (r : Rules) (t : List ℕ) → (word_ended r (known_after r at_start t)).names ≡ names_of_parts r nothing (parts t)
+pub names-whole : (r : SourceWords) (t : List ℕ) → (word_ended r (known_after r at_start t)).names ≡ names_of_parts r nothing (parts t)
 names-whole r t = names-known r at_start t refl
+
+-- ---- the words of Linux are those at its places
+
+placed-bare : (i : ℕ) (name : Option (List ℕ)) → map bare_name (placed i name) ≡ list_of name
+placed-bare i None = refl
+placed-bare i (Some x) = refl
+
+config-named : (w : List ℕ) → named_by config_form w ≡ list_of (name_of_word w)
+unfolding named_by name_of_word name_of
+config-named w = grind (arith, common_steps, drop_all, nat_tests, take_all)
+
+linux-word : (w : List ℕ) → word_names (words_of rules.Linux) nothing w ≡ list_of (name_of_word w)
+unfolding words_of arguments_of
+linux-word w = grind (arith, append-nil, (config-named w))
+
+-- nothing is ever awaited
+linux-passed : (b : ℕ) → passed nothing b ≡ nothing
+linux-passed b = grind (arith, cond_both)
+
+-- after any byte that is no word byte the same names begin
+names_after-other : (before i : ℕ) (t : List ℕ) → is_word_byte before ≡ false → names_after before i t ≡ names_after 0 i t
+unfolding names_after
+names_after-other before i [] other = refl
+names_after-other before i (b ∷ t) other = rw other
+
+linux-names : (n i : ℕ) (t : List ℕ) → length t ≤ n → map bare_name (names_after 0 i t) ≡ names_of_parts (words_of rules.Linux) nothing (parts t)
+unfolding names_after names_of_parts parts words_of arguments_of
+linux-names n i [] fits = refl
+linux-names zero i (b ∷ t) fits = absurd (omega (arith, fits))
+linux-names (suc n) i (b ∷ t) fits = ⊎_elim
+    (λ is_word.
+    let v = drop (length (word t)) t in
+    let first = names-first (b ∷ t) 0 i in
+    let head = take_while-cons is_word_byte b t in
+    let passes = and_from _ _ is_word (word-passes t) in
+    let stops : is_word_byte (get_or v 0 0) ≡ false = grind (arith, get_or-drop, (word-stops t)) in
+    let whole = parts-word b (word t) v passes stops in
+    let left = linux-names n (i + length (word (b ∷ t))) v (omega (arith, fits, length-drop (length (word t)) t)) in
+    grind (arith, is_word, first, head, whole, left, map-append, placed-bare, linux-word, (word-split t)))
+    (λ other. grind (
+      arith,
+      other,
+      nameless,
+      cond_both,
+      (take_while-cons is_word_byte b t),
+      (names_after-other b (i + 1) t other),
+      linux-passed,
+      (linux-names n (i + 1) t (omega (arith, fits))),
+    ))
+    (cases_Bool (is_word_byte b))
+
+pub linux-places : (t : List ℕ) → names_in_as rules.Linux t ≡ names_in t
+linux-places t = ap (all_noted []) (sym (linux-names (length t) 0 t (omega arith)))
 
 -- ---- a source under the rules of an object
 
@@ -99,3 +175,4 @@ pub stands-first : (s : SourceScan) → StandsAfter s [] → Knows s.words s.tab
 stands-first s linux words rules.Linux = linux
 stands-first s linux words (rules.UBoot p) = words
 stands-first s linux words rules.BusyBox = words
+stands-first s linux words rules.Coreboot = words

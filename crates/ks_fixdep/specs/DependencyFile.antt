@@ -40,6 +40,7 @@ abbrev pub usual_header : Dialect → Header
 usual_header dialect.Linux = Usual
 usual_header dialect.UBoot = Usual
 usual_header dialect.BusyBox = BusyBox
+usual_header dialect.Coreboot = Usual
 
 -- what is neither a target nor the header, which every source includes, so that it says nothing
 abbrev pub is_kept : Header → List ℕ → Bool

@@ -1,4 +1,4 @@
--- Texts and their names in BusyBox and in U-Boot.
+-- Texts and their names in BusyBox, in U-Boot and in coreboot.
 use Rattle.std.specs.Prelude.{ℕ, List, [], ◌∷◌, codes}
 
 -- in BusyBox: a text, and its names
@@ -39,4 +39,13 @@ uboot_rows =
     ∷ (codes "spl/x.o", codes "CONFIG_IS_ENABLED(CONFIG_A)", codes "SPL_CONFIG_A" ∷ codes "A" ∷ [])
     ∷ (codes "spl/x.o", codes "CONFIG_VAL(CONFIG_VAL(A))", codes "SPL_CONFIG_VAL" ∷ codes "SPL_A" ∷ [])
     ∷ (codes "x.o", codes "xCONFIG_IS_ENABLED(A) CONFIG_IS_ENABLED;(A) CONFIG_$(SPL_)A", [])
+    ∷ []
+
+-- in coreboot: a text, and its names
+abbrev pub coreboot_rows : List (List ℕ × List (List ℕ))
+coreboot_rows =
+    (codes "CONFIG(A)", codes "A" ∷ [])
+    ∷ (codes "CONFIG_A CONFIG (B)", codes "A" ∷ codes "B" ∷ [])
+    ∷ (codes "if (!CONFIG( A ) && x)", codes "A" ∷ [])
+    ∷ (codes "xCONFIG(A) CONFIG;(A) CONFIGS(A)", [])
     ∷ []

@@ -9,6 +9,7 @@ pub mod FoundNames
 pub mod PlaceSet
 pub mod SourceTable
 pub mod SourceScan
+pub mod Words
 pub mod Dialects
 pub mod DialectExamples
 pub mod WordScan

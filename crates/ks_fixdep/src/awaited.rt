@@ -1,15 +1,7 @@
-//! What a macro of U-Boot still waits for. `CONFIG_IS_ENABLED(A)` names no symbol by itself: its argument does. So after the
+//! What a macro still waits for. `CONFIG_IS_ENABLED(A)` of U-Boot names no symbol by itself: its argument does. So after the
 //! macro's word a `(` is waited for, and after that the argument; blanks may stand between.
 ghost use Rattle.std.specs.Prelude.{◌≡◌, ◌||◌, ◌==◌};
-ghost use Rattle.ks_fixdep.specs.Dialects.{arguments_of, after_word, is_blank, passed};
-
-use crate::dialect::Rules;
-
-const IS_ENABLED: &[u8] = b"CONFIG_IS_ENABLED";
-
-const VALUE: &[u8] = b"CONFIG_VAL";
-
-const IF_ENABLED: &[u8] = b"CONFIG_IF_ENABLED_INT";
+ghost use Rattle.ks_fixdep.specs.Words.{after_word, is_blank, passed};
 
 /// How many arguments begin at the next word, at a `(`, or at a `,`. Where none does, the number is 0.
 #[derive(Clone, Copy, Debug)]
@@ -24,25 +16,6 @@ fn is_blank(byte: u8) -> bool
     ensures { result ≡ is_blank byte }
 {
     byte == b' ' || byte == b'\t' || byte == b'\r' || byte == b'\n' || byte == b'\\'
-}
-
-/// How many arguments a word takes that name symbols.
-#[tactic(auto, unfolding(crate::specs::Dialects::arguments_of))]
-pub(crate) fn arguments_of(rules: Rules, word: &[u8]) -> u8
-    ensures { result ≡ arguments_of rules word.now }
-{
-    match rules {
-        Rules::Linux | Rules::BusyBox => 0,
-        Rules::UBoot(_) => {
-            if word == IS_ENABLED || word == VALUE {
-                return 1;
-            }
-            if word == IF_ENABLED {
-                return 2;
-            }
-            0
-        }
-    }
 }
 
 impl Awaited {

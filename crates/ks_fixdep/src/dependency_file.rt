@@ -1,7 +1,7 @@
 //! Dependency files, which a compiler writes with -MD: the files that an object was made from, in one rule or
 //! several. Which file is scanned for names and which is listed for make follows from its place alone. Paths
 //! that a makefile would read as something else are refused, so that no command file says what was not meant.
-ghost use Rattle.std.specs.Prelude.{◌≡◌, ◌≤◌, ◌<◌, ◌+◌, ◌-◌, ◌^◌, ◌&&◌, ◌++◌, take, ◌∷◌, [], List, ℕ, IfOk, IfErr, IfSome, OnOk, IsTrue, None, nat_eq, length, slice_get};
+ghost use Rattle.std.specs.Prelude.{◌≡◌, ◌≤◌, ◌<◌, ◌+◌, ◌-◌, ◌^◌, ◌&&◌, ◌++◌, take, ◌∷◌, [], List, ℕ, IfOk, IfErr, IfSome, IsErrOf, OnOk, IsTrue, None, nat_eq, length, slice_get};
 ghost use Rattle.std.specs.Iterator.{item_count};
 ghost use Rattle.std.specs.List.{ends_with, list_all};
 ghost use Rattle.std.specs.Map.Iter.{TakesFirst};
@@ -41,7 +41,7 @@ impl<'a> Header<'a> {
         ensures { result ≡ usual_header dialect }
     {
         match dialect {
-            Dialect::Linux | Dialect::UBoot => Header::Usual,
+            Dialect::Linux | Dialect::UBoot | Dialect::Coreboot => Header::Usual,
             Dialect::BusyBox => Header::BusyBox,
         }
     }
@@ -240,6 +240,7 @@ impl Progress {
         ensures fits { OnOk result ((seen : List (List ℕ)) → Stands header.entry self.old seen → fault_after header.entry seen token.now ≡ None) }
         ensures refusal { IfErr result (λ e. (seen : List (List ℕ)) → Stands header.entry self.old seen
             → IsRefusal DepError.OutOfMemory e (fault_after header.entry seen token.now)) }
+        ensures memory { IsErrOf result DepError.OutOfMemory → (seen : List (List ℕ)) → Stands header.entry self.old seen → fault_after header.entry seen token.now ≡ None }
     {
         self.number += 1;
         if names_target(token) {
@@ -312,6 +313,7 @@ pub fn read_depfile_without(
 ) -> Result<Prerequisites, DepError>
     ensures value { IfOk result (λ p. p ≡ prerequisites_without header.entry text.now) }
     ensures refusal { RefusedBy DepError.OutOfMemory result (refusal_without header.entry text.now) }
+    ensures memory { IsErrOf result DepError.OutOfMemory → length text.now ≤ max_bytes }
 {
     if text.len() > MAX_BYTES {
         return Err(DepError::TooLarge);

@@ -4,8 +4,8 @@ ghost use Rattle.ks_fixdep.specs.Scan.{taken, bare_name};
 ghost use Rattle.ks_fixdep.specs.Places.{ListsTaken};
 ghost use Rattle.ks_fixdep.specs.Pieces.{EndedAreFollowed, PiecesGiveTheWhole};
 ghost use Rattle.ks_fixdep.specs.FoundNames.{all_noted, names_in, names_of};
-ghost use Rattle.ks_fixdep.specs.DialectExamples.{busybox_rows, uboot_rows};
-ghost use Rattle.ks_fixdep.specs.Dialects.{names_as, rules_for};
+ghost use Rattle.ks_fixdep.specs.DialectExamples.{busybox_rows, coreboot_rows, uboot_rows};
+ghost use Rattle.ks_fixdep.specs.Dialects.{names_as, names_in_as, rules_for};
 ghost use Rattle.ks_fixdep.specs.Record.{deps_after, config_names};
 ghost use Rattle.ks_fixdep.specs.DependencyFile.{prerequisites, dependency_refusal};
 ghost use Rattle.ks_fixdep.specs.declared.command_file.Dep.TheVariants.{File, Config};
@@ -51,8 +51,14 @@ pub fn recording_examples()
         ≡ Config (codes "A") ∷ Config (codes "B") ∷ File (codes "a.h") ∷ Config (codes "C") ∷ File (codes "b.h") ∷ [] }
 {}
 
-/// Texts with their names in BusyBox, and in U-Boot by the target.
+/// The words of Linux find in any text what is taken at its places.
+pub fn linux_words_are_at_its_places()
+    ensures { (t : List ℕ) → names_in_as rules.Linux t ≡ names_in t }
+{}
+
+/// Texts with their names in BusyBox and in coreboot, and in U-Boot by the target.
 pub fn dialect_examples()
     ensures busybox { map (λ row. names_as rules.BusyBox row.0) busybox_rows ≡ map (λ row. row.1) busybox_rows }
+    ensures coreboot { map (λ row. names_as rules.Coreboot row.0) coreboot_rows ≡ map (λ row. row.1) coreboot_rows }
     ensures uboot { map (λ row. names_as (rules_for dialect.UBoot row.0) row.1) uboot_rows ≡ map (λ row. row.2) uboot_rows }
 {}

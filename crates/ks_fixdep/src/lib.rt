@@ -24,6 +24,7 @@ mod source_scan;
 mod source_table;
 mod tokens;
 mod word_scan;
+mod words;
 
 pub use building::{build, build_from};
 pub use command_file::{
@@ -39,8 +40,8 @@ pub use dependency_file::{
 pub use dialect::{Phase, Rules};
 pub use found_names::{BorrowedNames, FoundNames};
 pub use laws::{
-    dialect_examples, ended_names_are_followed, names_by_places, names_of_a_record,
-    names_of_all_sources, pieces_give_the_whole, recording_examples,
+    dialect_examples, ended_names_are_followed, linux_words_are_at_its_places, names_by_places,
+    names_of_a_record, names_of_all_sources, pieces_give_the_whole, recording_examples,
 };
 pub use listing::{RecordText, record_text};
 pub use name_iter::NameIter;

@@ -50,7 +50,7 @@ pub(crate) fn trailing_word(text: &[u8]) -> &[u8]
 }
 
 /// The run without one final `_MODULE`.
-fn without_module(run: &[u8]) -> &[u8]
+pub(crate) fn without_module(run: &[u8]) -> &[u8]
     ensures { result.now ≡ without_module run.now }
 {
     match run.strip_suffix(MODULE_SUFFIX) {

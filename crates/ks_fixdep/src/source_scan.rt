@@ -9,6 +9,7 @@ ghost use Rattle.ks_fixdep.specs.NameIter.{names_left};
 ghost use Rattle.ks_fixdep.specs.Scan.{bare_name};
 ghost use Rattle.ks_fixdep.specs.SourceScan.{found_of};
 ghost use Rattle.ks_fixdep.specs.Stream.{list_of};
+ghost use Rattle.ks_fixdep.specs.Words.{AreShort};
 
 use crate::dialect::Rules;
 use crate::found_names::FoundNames;
@@ -19,6 +20,7 @@ use crate::scanner::Scanner;
 use crate::seed::Seed;
 use crate::source_table::SourceTable;
 use crate::word_scan::WordScan;
+use crate::words::Words;
 use std::alloc::{AllocError, Global};
 
 /// The names of the sources that have ended, and of the one that is being read.
@@ -134,20 +136,22 @@ impl SourceScan {
     }
 
     /// Takes the next piece of a source that is scanned by its words.
-    fn feed_words(&mut self, rules: Rules, piece: &[u8]) -> Result<(), AllocError>
-        ensures knows { (k : Known) → Knows self.old.words self.old.table k → OnOk result (Knows self.new.words self.new.table (known_after rules k piece.now)) }
+    fn feed_words(&mut self, words: &Words<'_>, piece: &[u8]) -> Result<(), AllocError>
+        requires { AreShort words.now }
+        ensures knows { (k : Known) → Knows self.old.words self.old.table k → OnOk result (Knows self.new.words self.new.table (known_after words.now k piece.now)) }
         ensures found { found_of self.new ≡ found_of self.old }
     {
-        self.words.feed(rules, piece, &mut self.table)
+        self.words.feed(words, piece, &mut self.table)
     }
 
     /// Ends a source that is scanned by its words.
-    fn end_words(&mut self, rules: Rules) -> Result<(), AllocError>
+    fn end_words(&mut self, words: &Words<'_>) -> Result<(), AllocError>
+        requires { AreShort words.now }
         ensures knows { OnOk result (Knows self.new.words self.new.table at_start) }
-        ensures found { (k : Known) → Knows self.old.words self.old.table k → OnOk result (found_of self.new ≡ found_of self.old ++ all_noted [] (word_ended rules k).names ∷ []) }
+        ensures found { (k : Known) → Knows self.old.words self.old.table k → OnOk result (found_of self.new ≡ found_of self.old ++ all_noted [] (word_ended words.now k).names ∷ []) }
         ensures err { OnErr result (found_of self.new ≡ found_of self.old) }
     {
-        self.words.finish(rules, &mut self.table)?;
+        self.words.finish(words, &mut self.table)?;
         self.table.end_source()
     }
 
@@ -158,8 +162,9 @@ impl SourceScan {
     {
         match rules {
             Rules::Linux => self.feed(piece),
-            Rules::UBoot(_) => self.feed_words(rules, piece),
-            Rules::BusyBox => self.feed_words(rules, piece),
+            Rules::UBoot(_) => self.feed_words(&rules.words(), piece),
+            Rules::BusyBox => self.feed_words(&rules.words(), piece),
+            Rules::Coreboot => self.feed_words(&rules.words(), piece),
         }
     }
 
@@ -171,8 +176,9 @@ impl SourceScan {
     {
         match rules {
             Rules::Linux => self.end_source(),
-            Rules::UBoot(_) => self.end_words(rules),
-            Rules::BusyBox => self.end_words(rules),
+            Rules::UBoot(_) => self.end_words(&rules.words()),
+            Rules::BusyBox => self.end_words(&rules.words()),
+            Rules::Coreboot => self.end_words(&rules.words()),
         }
     }
 

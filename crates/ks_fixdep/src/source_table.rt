@@ -5,7 +5,7 @@ ghost use Rattle.std.specs.Prelude.{◌≡◌, ◌++◌, ◌∷◌, [], ℕ, IfS
 ghost use Rattle.std.specs.List.{list_any};
 ghost use Rattle.std.specs.Option.{option_copied, option_map};
 ghost use Rattle.ks_symbols.specs.Names.{is_name};
-ghost use Rattle.ks_fixdep.specs.Dialects.{legal, of_module};
+ghost use Rattle.ks_fixdep.specs.Words.{legal, of_module};
 ghost use Rattle.ks_fixdep.specs.FoundNames.{all_noted, noted};
 ghost use Rattle.ks_fixdep.specs.SourceTable.{names_at};
 

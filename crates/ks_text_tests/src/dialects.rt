@@ -1,4 +1,4 @@
-//! Texts with known names in U-Boot and in BusyBox, in pieces of several sizes.
+//! Texts with known names in U-Boot, in BusyBox and in coreboot, in pieces of several sizes.
 ghost use Rattle.std.specs.Prelude.{◌<◌};
 
 use ks_fixdep::{Header, NamesBySource, Rules, Seed, names_of_object, read_depfile_without};
@@ -82,6 +82,26 @@ fn macros_of_u_boot(rt: HostRuntime) -> Result<(), Fail> {
 }
 
 #[test]
+#[rattlefmt::skip]
+fn macro_of_coreboot(rt: HostRuntime) -> Result<(), Fail> {
+    let rows: [(&[u8], &[u8]); 6] = [
+        (b"CONFIG(A)",                         b" A"),
+        (b"#if CONFIG_A && CONFIG (B)",        b" A B"),
+        (b"if (!CONFIG( A ) && CONFIG(B))",    b" A B"),
+        (b"CONFIG(\\\n A)",                     b" A"),
+        (b"xCONFIG(A) CONFIG;(A) CONFIGS(A)",  b""),
+        (b"CONFIG(CONFIG_A) ENABLE_B",         b" CONFIG_A A"),
+    ];
+    for (text, want) in rows {
+        for size in [1usize, 7, 4096] {
+            let all = names_by(rt.alloc(), Rules::for_target(Dialect::Coreboot, b"x.o"), text, size)?;
+            assert_eq!(rt; all.as_slice(), want, "in pieces of {size}");
+        }
+    }
+    Ok(())
+}
+
+#[test]
 fn linux_by_its_dialect(rt: HostRuntime) -> Result<(), Fail> {
     let text = b"CONFIG_A ENABLE_B CONFIG_C_MODULE CONFIG_IS_ENABLED(D)";
     for size in [1usize, 7, 4096] {
@@ -100,10 +120,11 @@ fn linux_by_its_dialect(rt: HostRuntime) -> Result<(), Fail> {
 #[rattlefmt::skip]
 fn headers_left_out(rt: HostRuntime) -> Result<(), Fail> {
     let text = b"x.o: x.c include/autoconf.h ../include/autoconf.h minclude/autoconf.h include/generated/autoconf.h";
-    let rows: [(Dialect, &[u8]); 3] = [
+    let rows: [(Dialect, &[u8]); 4] = [
         (Dialect::Linux, b" x.c include/autoconf.h ../include/autoconf.h minclude/autoconf.h"),
         (Dialect::UBoot, b" x.c include/autoconf.h ../include/autoconf.h minclude/autoconf.h"),
         (Dialect::BusyBox, b" x.c minclude/autoconf.h include/generated/autoconf.h"),
+        (Dialect::Coreboot, b" x.c include/autoconf.h ../include/autoconf.h minclude/autoconf.h"),
     ];
     for (dialect, want) in rows {
         let header = Header::usual(dialect);

@@ -1,4 +1,4 @@
-use Rattle.ks_fixdep.proofs.Prelude.{◌≡◌, ◌+◌, ◌++◌, ◌∷◌, [], append_assoc, ap, length-append, sym, take, ◌∙◌, arith, true, false, get_or, list_any, and_from, not-true, not-false, fold-append, take_all, take_more, list_all-append, all_noted, noted, names_at, common_steps}
+use Rattle.ks_fixdep.proofs.Prelude.{◌≡◌, ◌+◌, ◌++◌, ◌∷◌, [], append_assoc, ap, length-append, sym, take, ◌∙◌, arith, true, false, get_or, list_any, and_from, not-true, not-false, fold-append, take_all, take_more, list_all-append, all_noted, names_at, common_steps}
 use Rattle.std.proofs.Common.{nat_eq}
 use Rattle.ks_fixdep.proofs.DepsLemmas.{name_line-last, new_is}
 use Rattle.ks_fixdep.proofs.TableLemmas.{at_none, at_pushed, at_put}

@@ -1,4 +1,4 @@
-use Rattle.ks_fixdep.proofs.Prelude.{true, ◌+◌, ◌-◌, take, drop, length-drop, length-take-le, arith, cases_lt, AllPass-from_list_all, prefix_len_is, is_other, common_steps}
+use Rattle.ks_fixdep.proofs.Prelude.{◌+◌, ◌-◌, take, drop, length-drop, length-take-le, arith, cases_lt, AllPass-from_list_all, prefix_len_is, is_other, common_steps}
 use Rattle.std.proofs.lemmas.List.{get_or-take, get_or-drop}
 use Rattle.ks_fixdep.proofs.tokens.leading_others.Goals as goal
 

@@ -13,7 +13,7 @@ use Rattle.ks_symbols.specs.Names.{is_in}
 use Rattle.ks_symbols.specs.Configuration.{Configuration}
 use Rattle.ks_output.specs.OldConfig.{Texts}
 
--- What of an entry counts: its class and its text. Nothing above looks into an entry.
+-- What of an entry counts: its class and its text. A comparison tells no more of it; what each name has and would have `diff` takes from both.
 abbrev pub compared : Kind × List ℕ → Option Class × List ℕ
 compared s = (Some (class_of s.0), s.1)
 

@@ -1,7 +1,15 @@
-//! The streams of the program: writers of which is known whether a write to them has failed, and whether they keep back
-//! what they took.
+//! The streams of the program: what the calls of a system's writer answer, and how a whole text goes out by calls that may take
+//! a part, be interrupted or fail.
 #![tactic(auto)]
 
+mod fault;
+mod notes;
+mod scripted;
 mod stream;
+mod writer;
 
+pub use fault::WriteFault;
+pub use notes::Notes;
+pub use scripted::{Scripted, Step};
 pub use stream::Stream;
+pub use writer::Writer;

@@ -1,84 +1,111 @@
-//! A writer that remembers whether a write to it has failed. Without that nothing could be said of a report that is cut off:
-//! a program that prints half a text, or nothing, would be as right as one that prints it all.
-ghost use Rattle.std.specs.Prelude.{◌≡◌, IsTrue, IfSome, IsNone, false, true, flat_map, take};
-ghost use Rattle.std.specs.Io.KnownBytes.{Appends, Keeps};
-ghost use Rattle.ks_streams.specs.Streams.{Breaks, IsPart, Prints, Takes, fresh, state_of};
+//! A writer to which whole texts are written. A call of a writer may take a part, or be interrupted, and then it is made for the
+//! rest, or anew. Without that half a report would be as right as a whole one, and a signal a failure.
+//!
+//! A reader may go away before all is read, as `head` does once it has its lines. Nothing has failed then: who asked has what was
+//! wanted. So what nobody reads counts as taken, and the command goes on to its end.
+ghost use Rattle.std.specs.Prelude.{◌≡◌, ◌<◌, ◌≤◌, [], IfOk, IsErrOf, IsTrue, OnOk, false, flat_map, length, take};
+ghost use Rattle.ks_streams.specs.declared.fault.WriteFault.{WriteFault};
+ghost use Rattle.ks_streams.specs.Streams.{Breaks, IsGivenUp, Prints, Takes, state_of};
+ghost use Rattle.ks_streams.specs.Writers.{HasTaken, IsLeft, IsSeenOut};
 
-use std::io::{ErrorKind, Write};
+use crate::{WriteFault, Writer};
 
-/// How often a text is offered again to a writer that was interrupted.
+/// How often a call is made that is interrupted each time.
 const TRIES: usize = 1000;
 
-/// A writer, with whether a write to it has failed, and whether it may keep bytes back.
+/// A writer of whole texts.
 #[derive(Drop)]
 pub struct Stream<W> {
     writer: W,
-    failed: bool,
-    held: bool,
 }
 
-impl<W: Write> Stream<W> {
-    /// A writer to which no write has failed yet.
+impl<W: Writer> Stream<W> {
+    /// A stream over a writer, as it stands.
     pub fn new(writer: W) -> Stream<W>
-        ensures { state_of W.Write result ≡ fresh (W.contents writer) }
+        ensures { state_of W.Writer result ≡ W.state writer }
     {
-        Stream {
-            writer,
-            failed: false,
-            held: true,
-        }
+        Stream { writer }
     }
 
     /// The writer, as the writes have left it.
     pub fn into_writer(self) -> W
-        ensures { W.contents result ≡ (state_of W.Write self).bytes }
+        ensures { W.state result ≡ state_of W.Writer self }
     {
-        let Stream {
-            writer,
-            failed: _,
-            held: _,
-        } = self;
+        let Stream { writer } = self;
         writer
     }
 
-    /// Notes that a write has failed.
-    fn fail(&mut self) -> bool
-        ensures answer { result ≡ false }
-        ensures bytes { (state_of W.Write self.new).bytes ≡ (state_of W.Write self.old).bytes }
-        ensures failed { (state_of W.Write self.new).failed ≡ true }
+    /// Whether a write has found that nobody reads any more.
+    pub fn is_unread(&self) -> bool
+        ensures { result ≡ (state_of W.Writer self.now).is_unread }
     {
-        self.failed = true;
-        false
+        self.writer.is_unread()
     }
 
-    /// Writes some bytes, as many as go out before a write fails, and tells whether all did.
-    fn write_part(&mut self, bytes: &[u8]) -> bool
-        ensures whole { IsTrue result → Takes bytes.now (state_of W.Write self.old) (state_of W.Write self.new) }
-        ensures broken { result ≡ false → Breaks bytes.now (state_of W.Write self.old) (state_of W.Write self.new) }
+    /// Offers some bytes, anew where a signal comes first, and tells how many were taken.
+    fn offer(&mut self, bytes: &[u8]) -> Result<usize, WriteFault>
+        ensures within { IfOk result (λ n. n ≤ length bytes.now) }
+        ensures some { IfOk result (λ n. 0 < length bytes.now → 0 < n) }
+        ensures taken { IfOk result (λ n. HasTaken (take n bytes.now) (state_of W.Writer self.old) (state_of W.Writer self.new)) }
+        ensures unread { IsErrOf result WriteFault.NoReader → IsLeft (state_of W.Writer self.old) (state_of W.Writer self.new) }
+        ensures failed { IsErrOf result WriteFault.Failed → IsGivenUp (state_of W.Writer self.old) (state_of W.Writer self.new) }
+        ensures interrupted { IsErrOf result WriteFault.Interrupted → IsGivenUp (state_of W.Writer self.old) (state_of W.Writer self.new) }
     {
+        for _ in 0..TRIES {
+            match self.writer.write(bytes) {
+                Ok(count) => return Ok(count),
+                Err(WriteFault::Interrupted) => {}
+                Err(WriteFault::NoReader) => return Err(WriteFault::NoReader),
+                Err(WriteFault::Failed) => return Err(WriteFault::Failed),
+            }
+        }
+        Err(WriteFault::Interrupted)
+    }
+
+    /// Has the writer let go what it keeps back, anew where a signal comes first.
+    fn let_go(&mut self) -> Result<(), WriteFault>
+        ensures seen_out { OnOk result (IsSeenOut (state_of W.Writer self.old) (state_of W.Writer self.new)) }
+        ensures unread { IsErrOf result WriteFault.NoReader → IsLeft (state_of W.Writer self.old) (state_of W.Writer self.new) }
+        ensures failed { IsErrOf result WriteFault.Failed → IsGivenUp (state_of W.Writer self.old) (state_of W.Writer self.new) }
+        ensures interrupted { IsErrOf result WriteFault.Interrupted → IsGivenUp (state_of W.Writer self.old) (state_of W.Writer self.new) }
+    {
+        for _ in 0..TRIES {
+            match self.writer.flush() {
+                Ok(()) => return Ok(()),
+                Err(WriteFault::Interrupted) => {}
+                Err(WriteFault::NoReader) => return Err(WriteFault::NoReader),
+                Err(WriteFault::Failed) => return Err(WriteFault::Failed),
+            }
+        }
+        Err(WriteFault::Interrupted)
+    }
+
+    /// Writes some bytes, as many as go out before there is a cause to end, and tells whether all did.
+    fn write_part(&mut self, bytes: &[u8]) -> bool
+        ensures whole { IsTrue result → Takes bytes.now (state_of W.Writer self.old) (state_of W.Writer self.new) }
+        ensures broken { result ≡ false → Breaks bytes.now (state_of W.Writer self.old) (state_of W.Writer self.new) }
+    {
+        // A pipe may get another reader, who would see a text without its middle.
+        if self.is_unread() {
+            return true;
+        }
         let mut done = 0;
-        let mut tries = TRIES;
-        self.held = true;
         while done < bytes.len() {
-            match self.writer.write(&bytes[done..]) {
-                Ok(0) => return self.fail(),
+            match self.offer(&bytes[done..]) {
                 Ok(count) => done += count,
-                Err(error) => {
-                    if error.kind() != ErrorKind::Interrupted || tries == 0 {
-                        return self.fail();
-                    }
-                    tries -= 1;
-                }
+                Err(WriteFault::NoReader) => return true,
+                Err(WriteFault::Failed) => return false,
+                Err(WriteFault::Interrupted) => return false,
             }
         }
         true
     }
 
-    /// Writes some texts one after the other, as much as goes out before a write fails, and tells whether all did. They may be
-    /// kept back until `see_out`.
+    /// Writes some texts one after the other, as much as goes out before there is a cause to end, and tells whether all did. They
+    /// may be kept back until `see_out`.
     pub fn write(&mut self, parts: &[&[u8]]) -> bool
-        ensures whole { IsTrue result → Takes (flat_map (λ p. p.now) parts.now) (state_of W.Write self.old) (state_of W.Write self.new) }
-        ensures broken { result ≡ false → Breaks (flat_map (λ p. p.now) parts.now) (state_of W.Write self.old) (state_of W.Write self.new) }
+        ensures whole { IsTrue result → Takes (flat_map (λ p. p.now) parts.now) (state_of W.Writer self.old) (state_of W.Writer self.new) }
+        ensures broken { result ≡ false → Breaks (flat_map (λ p. p.now) parts.now) (state_of W.Writer self.old) (state_of W.Writer self.new) }
     {
         for part in parts {
             if !self.write_part(*part) {
@@ -90,26 +117,29 @@ impl<W: Write> Stream<W> {
 
     /// Sees out what was kept back, and tells whether that was done.
     pub fn see_out(&mut self) -> bool
-        ensures bytes { Keeps (state_of W.Write self.old).bytes (state_of W.Write self.new).bytes }
-        ensures whole { IsTrue result → (state_of W.Write self.new).failed ≡ (state_of W.Write self.old).failed }
-        ensures seen_out { IsTrue result → (state_of W.Write self.new).held ≡ false }
-        ensures broken { result ≡ false → (state_of W.Write self.new).failed ≡ true }
+        ensures whole { IsTrue result → Prints [] (state_of W.Writer self.old) (state_of W.Writer self.new) }
+        ensures broken { result ≡ false → Breaks [] (state_of W.Writer self.old) (state_of W.Writer self.new) }
     {
-        match self.writer.flush() {
-            Ok(()) => {
-                self.held = false;
-                true
-            }
-            Err(_) => self.fail(),
+        if self.writer.is_unread() {
+            return true;
+        }
+        match self.let_go() {
+            Ok(()) => true,
+            Err(WriteFault::NoReader) => true,
+            Err(WriteFault::Failed) => false,
+            Err(WriteFault::Interrupted) => false,
         }
     }
 
-    /// Writes some texts one after the other and sees them out, as much as goes out before a write fails, and tells whether all
-    /// did.
+    /// Writes some texts one after the other and sees them out, as much as goes out before there is a cause to end, and tells
+    /// whether all did.
     pub fn print(&mut self, parts: &[&[u8]]) -> bool
-        ensures whole { IsTrue result → Prints (flat_map (λ p. p.now) parts.now) (state_of W.Write self.old) (state_of W.Write self.new) }
-        ensures broken { result ≡ false → Breaks (flat_map (λ p. p.now) parts.now) (state_of W.Write self.old) (state_of W.Write self.new) }
+        ensures whole { IsTrue result → Prints (flat_map (λ p. p.now) parts.now) (state_of W.Writer self.old) (state_of W.Writer self.new) }
+        ensures broken { result ≡ false → Breaks (flat_map (λ p. p.now) parts.now) (state_of W.Writer self.old) (state_of W.Writer self.new) }
     {
-        self.write(parts) && self.see_out()
+        if !self.write(parts) {
+            return false;
+        }
+        self.see_out()
     }
 }

@@ -1,31 +1,24 @@
-use Rattle.ks_streams.proofs.Prelude.{◌+◌, ◌-◌, ◌≤◌, ℕ, List, length, take, drop, subst, sym, arith, length-drop, take_rest, Appends, IsPart}
-use Rattle.ks_streams.proofs.Writing.{written_more, part_written, kept_of_nothing}
+use Rattle.ks_streams.proofs.Prelude.{Err, ap, sym, state_of}
+use Rattle.ks_streams.proofs.Offering.{begun, ended, goes_on, left, written}
 use Rattle.ks_streams.proofs.stream.Stream.write_part.Goals as goal
 
-within_rest : (xs : List ℕ) (i n : ℕ) → i ≤ length xs → n ≤ length (take (length xs - i) (drop i xs)) → i + n ≤ length xs
-within_rest xs i n within h = omega (arith, within, subst (λ l. n ≤ length l) (take_rest xs i) h, length-drop i xs)
+pub loop-done-init : goal.loop-done-init
+loop-done-init g c = begun c.args.bytes.now (state_of g.W.Writer c.args.self.now) (sym c.if-is_unread.ensures)
 
-pub returns-in-Ok-eq0-clause-broken : goal.returns-in-Ok-eq0-clause-broken
-returns-in-Ok-eq0-clause-broken g c = λ no. record {
-  bytes =
-      subst (IsPart c.args.bytes.now (g.W.Write.contents c.args.self.now.writer)) (sym c.fail.ensures.bytes)
-      (part_written _ _ _ c.args.bytes.now c.loop-done.done c.loop-done.invariant.appended
-      (kept_of_nothing _ _ (subst (λ n. Appends (g.W.Write.contents c.loop-done.self.writer) (g.W.Write.contents c.write.new.self)
-      (take n (take (length c.args.bytes.now - c.loop-done.done) (drop c.loop-done.done c.args.bytes.now)))) c.in-Ok-eq0.field-0-test c.in-Ok-eq0.ensures.bytes)));
-  failed = c.fail.ensures.failed;
-}
+pub loop-done-preserved : goal.loop-done-preserved
+loop-done-preserved g c = goes_on c.loop-done.done c.in-Ok.count c.args.bytes.now _ _ _ c.loop-done.invariant c.in-Ok.ensures.within c.in-Ok.ensures.taken
 
-pub loop-done-preserved-in-Ok : goal.loop-done-preserved-in-Ok
-loop-done-preserved-in-Ok g c = record {
-  within = within_rest c.args.bytes.now c.loop-done.done _ c.loop-done.invariant.within c.in-Ok.ensures.bound;
-  appended = written_more _ _ _ c.args.bytes.now c.loop-done.done _ c.loop-done.invariant.appended c.in-Ok.ensures.bytes;
-  failed = c.loop-done.invariant.failed;
-}
+pub returns-in-Err-NoReader-clause-whole : goal.returns-in-Err-NoReader-clause-whole
+returns-in-Err-NoReader-clause-whole g c = λ yes.
+    left _ c.args.bytes.now _ _ _ c.loop-done.invariant (c.in-Err-NoReader.ensures.unread (ap (λ f. Err f) c.in-Err-NoReader.field-0-is))
 
-pub returns-then-ne-clause-broken : goal.returns-then-ne-clause-broken
-returns-then-ne-clause-broken g c = λ no. record {
-  bytes =
-      subst (IsPart c.args.bytes.now (g.W.Write.contents c.args.self.now.writer)) (sym c.fail-then-ne.ensures.bytes)
-      (part_written _ _ _ c.args.bytes.now c.loop-done.done c.loop-done.invariant.appended c.in-Err.ensures.bytes);
-  failed = c.fail-then-ne.ensures.failed;
-}
+pub returns-in-Err-Failed-clause-broken : goal.returns-in-Err-Failed-clause-broken
+returns-in-Err-Failed-clause-broken g c = λ no.
+    ended _ c.args.bytes.now _ _ _ c.loop-done.invariant (c.in-Err-Failed.ensures.failed (ap (λ f. Err f) c.in-Err-Failed.field-0-is))
+
+pub returns-in-Err-Interrupted-clause-broken : goal.returns-in-Err-Interrupted-clause-broken
+returns-in-Err-Interrupted-clause-broken g c = λ no.
+    ended _ c.args.bytes.now _ _ _ c.loop-done.invariant (c.in-Err-Interrupted.ensures.interrupted (ap (λ f. Err f) c.in-Err-Interrupted.field-0-is))
+
+pub returns-clause-whole : goal.returns-clause-whole
+returns-clause-whole g c = λ yes. written _ c.args.bytes.now _ _ c.loop-done.invariant c.loop-done-test.false

@@ -1,0 +1,47 @@
+use Rattle.std.proofs.Common.{rules, arith, ap, ap₂, subst, sym, ◌∙◌, ◌≤◌, length}
+use Rattle.std.proofs.lemmas.List.{length-drop, take_rest}
+use Rattle.ks_tree.specs.Files.{content}
+use Rattle.ks_system.proofs.Pieces.{put_all, put_long}
+use Rattle.ks_system.proofs.Filled.{filled_at, nothing_filled, read_end, read_full}
+use Rattle.ks_system.proofs.kept_file.KeptFile.read.Goals as goal
+
+pub returns-then-count-eq0-clause-found : goal.returns-then-count-eq0-clause-found
+returns-then-count-eq0-clause-found g c = λ honest.
+    read_end _ _ _ _ _ _ _ _ _ _ _ (c.loop.invariant.read honest)
+    (ap₂ (λ w h. content w.files (g.S.System.opened h).path) (c.loop.invariant.world honest) c.loop.invariant.file)
+    (c.in_ok-count.ensures.read honest) c.loop.invariant.at (take_rest c.loop.into c.loop.given)
+    (put_all _ _ _ c.loop.invariant.within) c.if-count-eq0.true c.loop.invariant.room c.loop.invariant.within
+
+pub loop-init : goal.loop-init
+loop-init g c = record {
+  world = search rules;
+  read = λ honest. nothing_filled _ _ _;
+  ahead = λ honest. c.go_to.ensures.ahead _ (c.requires.ahead honest);
+  at = search rules;
+  within = search rules;
+  room = search rules;
+  path = search rules;
+  file = search rules;
+  kept = search rules;
+}
+
+pub loop-preserved : goal.loop-preserved
+loop-preserved g c = record {
+  world = search rules;
+  read = λ honest.
+      filled_at _ _ _ _ _ _ _ _ _ _ _ (c.loop.invariant.read honest)
+      (ap₂ (λ w h. content w.files (g.S.System.opened h).path) (c.loop.invariant.world honest) c.loop.invariant.file)
+      (c.in_ok-count.ensures.read honest) c.loop.invariant.at (take_rest c.loop.into c.loop.given)
+      (put_all _ _ _ c.loop.invariant.within);
+  ahead = search rules;
+  at = search rules;
+  within =
+      let long = put_long _ _ _ c.loop.invariant.within c.in_ok-count.ensures.room in
+      let count = c.in_ok-count.ensures.within in
+      let room = c.in_ok-count.ensures.room in let rest = ap length (take_rest c.loop.into c.loop.given) in let after = length-drop c.loop.given c.loop.into in
+      let before = c.loop.invariant.within in omega arith;
+  room = put_long _ _ _ c.loop.invariant.within c.in_ok-count.ensures.room ∙ c.loop.invariant.room;
+  path = search rules;
+  file = search rules;
+  kept = search rules;
+}

@@ -1,0 +1,10 @@
+use Rattle.std.proofs.Common.{◌≡◌}
+use Rattle.ks_tree.specs.Files.{SameBut}
+use Rattle.ks_system.proofs.new_file.write_new.Given as goal
+
+abbrev pub invariant-loop : goal.invariant-loop
+invariant-loop g l = record {
+  others : g.S.System.is_honest → SameBut (g.S.System.path_at l.place) (g.S.System.world l.fn.system).files (g.S.System.world l.system).files;
+  dated : g.S.System.is_honest → (g.S.System.world l.system).dated ≡ (g.S.System.world l.fn.system).dated;
+  kept : g.S.System.aged l.system ≡ g.S.System.aged l.fn.system;
+}

@@ -1,0 +1,10 @@
+use Rattle.std.proofs.Common.{◌≡◌}
+use Rattle.ks_system.proofs.new_file.write_some.Given as goal
+
+abbrev pub invariant-loop : goal.invariant-loop
+invariant-loop g l = record {
+  world : g.S.System.is_honest → g.S.System.world l.system ≡ g.S.System.world l.fn.system;
+  opened : g.S.System.opened l.handle ≡ g.S.System.opened l.fn.handle;
+  claimed : g.S.System.is_claimed l.handle ≡ g.S.System.is_claimed l.fn.handle;
+  kept : g.S.System.aged l.system ≡ g.S.System.aged l.fn.system;
+}

@@ -1,0 +1,13 @@
+use Rattle.std.proofs.Common.{◌≡◌, ◌≤◌, length, take}
+use Rattle.ks_tree.specs.Files.{content}
+use Rattle.ks_system.specs.Reading.{IsReadTo}
+use Rattle.ks_system.proofs.reading.fill.Given as goal
+
+abbrev pub invariant-loop : goal.invariant-loop
+invariant-loop g l = record {
+  world : g.S.System.is_honest → g.S.System.world l.system ≡ g.S.System.world l.fn.system;
+  read : g.S.System.is_honest → IsReadTo (content (g.S.System.world l.fn.system).files (g.S.System.opened l.handle).path) (take l.given l.into);
+  within : l.given ≤ length l.into;
+  room : length l.into ≡ length l.fn.into;
+  kept : g.S.System.aged l.system ≡ g.S.System.aged l.fn.system;
+}

@@ -1,0 +1,10 @@
+use Rattle.std.proofs.Common.{◌≡◌, length}
+use Rattle.ks_system.proofs.reading.read_some.Given as goal
+
+abbrev pub invariant-loop : goal.invariant-loop
+invariant-loop g l = record {
+  world : g.S.System.is_honest → g.S.System.world l.system ≡ g.S.System.world l.fn.system;
+  into : g.S.System.is_honest → l.into ≡ l.fn.into;
+  room : length l.into ≡ length l.fn.into;
+  kept : g.S.System.aged l.system ≡ g.S.System.aged l.fn.system;
+}

@@ -1,0 +1,32 @@
+-- What an error of the system says. This table is the only place where errors are told apart.
+use Rattle.std.specs.Prelude.{◌≡◌, Option, Some, None, Result, Ok, Err}
+use Rattle.std.specs.IoError.{error_kind}
+use Rattle.std.specs.declared.io.Error.{Error}
+use Rattle.std.specs.declared.io.ErrorKind.{ErrorKind}
+use Rattle.std.specs.declared.io.ErrorKind.TheVariants as kind
+use Rattle.ks_system.specs.declared.errors.Meaning.{Meaning}
+use Rattle.ks_system.specs.declared.errors.Meaning.TheVariants.{Missing, Stands, Interrupted, Failed}
+
+-- ENOENT is a missing file, EEXIST something in its place, EINTR an interrupted call.
+abbrev pub meaning_by : ErrorKind → Meaning
+meaning_by kind.NotFound = Missing
+meaning_by kind.AlreadyExists = Stands
+meaning_by kind.Interrupted = Interrupted
+meaning_by kind = Failed
+
+abbrev pub meaning_of : Error → Meaning
+meaning_of e = meaning_by (error_kind e)
+
+-- The call failed, and its error says that.
+abbrev pub Says : {V : Type 0} → Meaning → Result V Error → Type 0
+Says meaning (Ok v) = ⊥
+Says meaning (Err e) = meaning_of e ≡ meaning
+
+-- what a look-up by its meaning answers: None for a missing file alone
+abbrev pub absent_or_error : {V : Type 0} → Error → Meaning → Result (Option V) Error
+absent_or_error e Missing = Ok None
+absent_or_error e meaning = Err e
+
+abbrev pub found_of : {V : Type 0} → Result V Error → Result (Option V) Error
+found_of (Ok v) = Ok (Some v)
+found_of (Err e) = absent_or_error e (meaning_of e)

@@ -1,0 +1,5 @@
+pub mod Errors
+pub mod System
+pub mod Reading
+pub mod Held
+pub mod Disk

@@ -1,0 +1,21 @@
+-- What was read of a file, in turn, and before it was asked for.
+use Rattle.std.specs.Prelude.{◌≡◌, ◌≤◌, ℕ, List, [], Bool, true, Option, Some, is_some, length, take, drop}
+
+-- What was read so far is a beginning of the file.
+pub record IsReadTo (file : Option (List ℕ)) (read : List ℕ) : Type 0 where
+  pub is : (b : List ℕ) → file ≡ Some b → read ≡ take (length read) b
+  pub within : (b : List ℕ) → file ≡ Some b → length read ≤ length b
+
+-- which file, from which offset on, which bytes
+pub record Ahead : Type 0 where
+  pub path : List ℕ
+  pub offset : ℕ
+  pub bytes : List ℕ
+
+-- nothing of that file
+abbrev pub nothing_of : List ℕ → ℕ → Ahead
+nothing_of path offset = record { path = path; offset = offset; bytes = [] }
+
+-- What was read ahead are bytes of a file that is there, from its offset on.
+abbrev pub IsAheadOf : Option (List ℕ) → Ahead → Type 0
+IsAheadOf file ahead = (is_some file ≡ true) × ((b : List ℕ) → file ≡ Some b → ahead.bytes ≡ take (length ahead.bytes) (drop ahead.offset b))

@@ -1,0 +1,319 @@
+//! A disk in memory whose calls are short, interrupted or fail by a script. It shows that the contract of `System` can be met, and on it
+//! tests see what no clause says.
+ghost use Rattle.std.specs.Prelude.{◌≡◌, ◌≤◌, ◌<◌, ◌++◌, ◌∷◌, [], length, take, map, true, Some, None, IfOk, OnOk, OnErr, ⊤};
+ghost use Rattle.ks_tree.specs.Files.{IsMoved, SameBut, content};
+ghost use Rattle.ks_system.specs.declared.errors.Meaning.{Meaning};
+ghost use Rattle.ks_system.specs.Errors.{Says, meaning_of};
+ghost use Rattle.ks_system.specs.Disk.{world_of};
+ghost use Rattle.ks_system.specs.System.{IsSomeRead};
+
+use crate::disk_files::DiskFiles;
+use crate::{Kind, Look, System};
+use std::alloc::{AllocError, Global};
+use std::borrow::CowStr;
+use std::io;
+use std::io::ErrorKind;
+
+/// What becomes of one call.
+#[derive(Clone, Copy, Debug, PartialEq, Eq)]
+pub enum Turn {
+    /// It is done whole.
+    Whole,
+    /// Of what is read or written so many bytes are, or one.
+    Short(usize),
+    /// A signal comes first.
+    Interrupted,
+    /// It fails.
+    Fails,
+    /// A folder is missing, where a file is to be made.
+    NoFolder,
+    /// Another program has claimed the file.
+    Claimed,
+}
+
+/// An open file of a disk in memory.
+#[derive(Drop)]
+pub struct DiskHandle {
+    path: Vec<u8>,
+    made: bool,
+    is_claimed: bool,
+}
+
+/// Files in memory, and what becomes of each call in turn. After the script all calls are whole.
+#[derive(Drop)]
+pub struct ScriptedDisk<'a> {
+    files: DiskFiles,
+    alloc: Global,
+    script: &'a [Turn],
+    calls: usize,
+    aged: Vec<Vec<u8>>,
+    dated: Vec<Vec<u8>>,
+}
+
+/// The error of an interrupted call.
+fn interrupted() -> io::Error
+    ensures { meaning_of result ≡ Meaning.Interrupted }
+{
+    io::Error::new(ErrorKind::Interrupted, "Interrupted system call")
+}
+
+/// The error of a call that failed.
+fn failed() -> io::Error
+    ensures { meaning_of result ≡ Meaning.Failed }
+{
+    io::Error::new(ErrorKind::Other, "Input/output error")
+}
+
+/// Copies some bytes from an offset on, `most` at most, but one at least where there is one.
+fn copy_some(bytes: &[u8], offset: u64, most: usize, into: &mut [u8]) -> usize
+    ensures read { IsSomeRead bytes.now offset into.old into.new result }
+    ensures within { result ≤ length into.new }
+{
+    if offset >= bytes.len() as u64 {
+        return 0;
+    }
+    let rest = &bytes[offset as usize..];
+    let count = rest.len().min(into.len()).min(most.max(1));
+    into[..count].copy_from_slice(&rest[..count]);
+    count
+}
+
+impl<'a> ScriptedDisk<'a> {
+    /// A disk with no files, and what becomes of its calls.
+    pub fn new(alloc: Global, script: &'a [Turn]) -> ScriptedDisk<'a> {
+        ScriptedDisk {
+            files: DiskFiles::new(alloc),
+            alloc,
+            script,
+            calls: 0,
+            aged: Vec::new(alloc),
+            dated: Vec::new(alloc),
+        }
+    }
+
+    /// Puts a file at a path, in the place of what was there.
+    pub fn put(&mut self, path: &[u8], bytes: &[u8]) -> Result<(), AllocError> {
+        let (path, bytes) = (path.to_vec(self.alloc)?, bytes.to_vec(self.alloc)?);
+        self.files.put(path, bytes)
+    }
+
+    /// The bytes of the file at a path, if there is one.
+    pub fn get(&self, path: &[u8]) -> Option<&[u8]> {
+        self.files.get(path)
+    }
+
+    /// The paths of the files that were made older than all others, in turn.
+    pub fn aged(&self) -> &[Vec<u8>] {
+        &self.aged
+    }
+
+    /// The paths of the files that were given a time long past when they were made, in turn.
+    pub fn dated(&self) -> &[Vec<u8>] {
+        &self.dated
+    }
+
+    /// How many calls there were.
+    pub fn calls(&self) -> usize {
+        self.calls
+    }
+
+    /// What becomes of the next call.
+    fn turn(&mut self) -> Turn
+        ensures files { self.new.files ≡ self.old.files }
+        ensures aged { self.new.aged ≡ self.old.aged }
+        ensures dated { self.new.dated ≡ self.old.dated }
+    {
+        let turn = self.script.get(self.calls).copied().unwrap_or(Turn::Whole);
+        self.calls = self.calls.saturating_add(1);
+        turn
+    }
+
+    /// The next call, as far as it is done at all.
+    fn begin(&mut self) -> io::Result<Turn>
+        ensures missing { Says Meaning.Missing result → ⊥ }
+        ensures stands { Says Meaning.Stands result → ⊥ }
+        ensures files { self.new.files ≡ self.old.files }
+        ensures aged { self.new.aged ≡ self.old.aged }
+        ensures dated { self.new.dated ≡ self.old.dated }
+    {
+        match self.turn() {
+            Turn::Interrupted => Err(interrupted()),
+            Turn::Fails => Err(failed()),
+            turn => Ok(turn),
+        }
+    }
+
+    /// A handle of the file at a path.
+    fn handle(&self, path: &[u8], made: bool) -> io::Result<DiskHandle>
+        ensures missing { Says Meaning.Missing result → ⊥ }
+        ensures stands { Says Meaning.Stands result → ⊥ }
+        ensures path { IfOk result (λ h. h.path.items ≡ path.now) }
+        ensures made { IfOk result (λ h. h.made ≡ made) }
+    {
+        Ok(DiskHandle {
+            path: path.to_vec(self.alloc)?,
+            made,
+            is_claimed: false,
+        })
+    }
+}
+
+impl<'a> System for ScriptedDisk<'a> {
+    ghost use Rattle.ks_system.specs.System.{Opened};
+
+    type Handle = DiskHandle;
+
+    ghost world = { λ s. world_of s.files (map (λ path. path.items) s.dated.items) };
+
+    ghost is_honest = { ⊤ };
+
+    ghost path_at = { λ place. place };
+
+    ghost opened = { λ h. record { path = h.path.items; names = 0; made = h.made } };
+
+    ghost is_claimed = { λ h. h.is_claimed };
+
+    ghost aged = { λ s. map (λ path. path.items) s.aged.items };
+
+    fn place<'p>(&self, _alloc: Global, path: &'p [u8]) -> Result<Option<CowStr<'p>>, AllocError> {
+        match str::from_utf8(path) {
+            Ok(place) => Ok(Some(CowStr::Borrowed(place))),
+            Err(_) => Ok(None),
+        }
+    }
+
+    fn look(&mut self, place: &str) -> io::Result<Look> {
+        self.begin()?;
+        match self.files.get(place.as_bytes()) {
+            Some(bytes) => Ok(Look {
+                kind: Kind::File,
+                size: bytes.len() as u64,
+            }),
+            None => Err(io::Error::from(ErrorKind::NotFound)),
+        }
+    }
+
+    fn kind(&mut self, place: &str) -> io::Result<Kind> {
+        self.begin()?;
+        match self.files.get(place.as_bytes()) {
+            Some(_) => Ok(Kind::File),
+            None => Err(io::Error::from(ErrorKind::NotFound)),
+        }
+    }
+
+    fn open(&mut self, place: &str) -> io::Result<DiskHandle> {
+        self.begin()?;
+        if self.files.get(place.as_bytes()).is_none() {
+            return Err(io::Error::from(ErrorKind::NotFound));
+        }
+        self.handle(place.as_bytes(), false)
+    }
+
+    fn open_left_over(&mut self, place: &str) -> io::Result<DiskHandle> {
+        self.open(place)
+    }
+
+    fn read_at(&mut self, handle: &DiskHandle, offset: u64, into: &mut [u8]) -> io::Result<usize> {
+        let most = match self.begin()? {
+            Turn::Short(most) => most,
+            _ => into.len(),
+        };
+        match self.files.get(&handle.path) {
+            Some(bytes) => Ok(copy_some(bytes, offset, most, into)),
+            None => Err(failed()),
+        }
+    }
+
+    fn create_new(&mut self, place: &str) -> io::Result<DiskHandle> {
+        if self.begin()? == Turn::NoFolder {
+            return Err(io::Error::from(ErrorKind::NotFound));
+        }
+        if self.files.get(place.as_bytes()).is_some() {
+            return Err(io::Error::from(ErrorKind::AlreadyExists));
+        }
+        let handle = self.handle(place.as_bytes(), true)?;
+        let path = place.as_bytes().to_vec(self.alloc)?;
+        self.files.put(path, Vec::new(self.alloc))?;
+        Ok(handle)
+    }
+
+    fn make_folders(&mut self, _place: &str) -> io::Result<()> {
+        self.begin()?;
+        Ok(())
+    }
+
+    fn claim(&mut self, handle: &mut DiskHandle) -> bool {
+        if self.turn() == Turn::Claimed {
+            return false;
+        }
+        handle.is_claimed = true;
+        true
+    }
+
+    fn has_a_name(&mut self, handle: &DiskHandle) -> io::Result<bool> {
+        self.begin()?;
+        Ok(self.files.get(&handle.path).is_some())
+    }
+
+    fn is_at(&mut self, handle: &DiskHandle, place: &str) -> io::Result<bool> {
+        self.begin()?;
+        Ok(handle.path.as_slice() == place.as_bytes())
+    }
+
+    fn write(&mut self, handle: &mut DiskHandle, bytes: &[u8]) -> io::Result<usize> {
+        let most = match self.begin()? {
+            Turn::Short(most) => most.max(1),
+            _ => bytes.len(),
+        };
+        let count = most.min(bytes.len());
+        let Some(old) = self.files.get(&handle.path) else {
+            return Err(failed());
+        };
+        let mut new = old.to_vec(self.alloc)?;
+        new.extend_from_slice(&bytes[..count])?;
+        let path = handle.path.as_slice().to_vec(self.alloc)?;
+        self.files.put(path, new)?;
+        Ok(count)
+    }
+
+    fn date(&mut self, handle: &DiskHandle) -> io::Result<()> {
+        self.begin()?;
+        let path = handle.path.as_slice().to_vec(self.alloc)?;
+        self.dated.push(path)?;
+        Ok(())
+    }
+
+    fn age(&mut self, place: &str, _file: Option<DiskHandle>) -> io::Result<()>
+        ensures aged { OnOk result (map (λ path. path.items) self.new.aged.items ≡ map (λ path. path.items) self.old.aged.items ++ place.now ∷ []) }
+        ensures failed { OnErr result (map (λ path. path.items) self.new.aged.items ≡ map (λ path. path.items) self.old.aged.items) }
+        ensures unchanged { world_of self.new.files (map (λ path. path.items) self.new.dated.items)
+            ≡ world_of self.old.files (map (λ path. path.items) self.old.dated.items) }
+    {
+        self.begin()?;
+        let path = place.as_bytes().to_vec(self.alloc)?;
+        self.aged.push(path)?;
+        Ok(())
+    }
+
+    fn remove_file(&mut self, place: &str) -> io::Result<()> {
+        self.begin()?;
+        self.files.remove(place.as_bytes());
+        Ok(())
+    }
+
+    fn remove_folder(&mut self, _place: &str) -> io::Result<()> {
+        Err(failed())
+    }
+
+    fn rename(&mut self, from: &str, to: &str) -> io::Result<()> {
+        self.begin()?;
+        let Some(bytes) = self.files.get(from.as_bytes()) else {
+            return Err(failed());
+        };
+        let bytes = bytes.to_vec(self.alloc)?;
+        let path = to.as_bytes().to_vec(self.alloc)?;
+        self.files.put(path, bytes)?;
+        self.files.remove(from.as_bytes());
+        Ok(())
+    }
+}

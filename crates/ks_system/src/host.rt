@@ -1,0 +1,185 @@
+//! The system itself, below a folder. Each call is passed on to std, and no contract says what the system then does: that it acts as
+//! `System` has it is the premise under which the theorems are read for a folder. Where a path stands is proved.
+ghost use Rattle.std.specs.Prelude.{◌≡◌, [], false, true, IfOk, IsNone, IsOk, MatchOption, IsUtf8, string_bytes};
+ghost use Rattle.std.specs.Cow.{cow_str_bytes};
+ghost use Rattle.std.specs.FinMap as map;
+ghost use Rattle.std.specs.Fs.{asks_create_new};
+ghost use Rattle.ks_tree.specs.Folder.{place_of};
+
+use crate::{Kind, Look, System};
+use ks_tree::Claim;
+use std::alloc::{AllocError, Global};
+use std::borrow::CowStr;
+use std::fs::{FileTimes, Metadata, OpenFile, OpenOptions};
+use std::io::Write;
+use std::os::unix::fs::{FileExt, FileTypeExt, MetadataExt};
+use std::rt::Files;
+use std::time::{Duration, SystemTime};
+use std::{fs, io};
+
+/// A folder of the system, by its path. A path that begins with `/` names that file itself, any other one below the folder.
+#[derive(Drop)]
+pub struct Host<R: Files> {
+    files: R,
+    root: String,
+}
+
+/// The number of `/dev/null`.
+const NULL_DEVICE: u64 = 0x103;
+
+/// What was found.
+fn kind_of(found: &Metadata) -> Kind {
+    let kind = found.file_type();
+    match () {
+        _ if kind.is_file() => Kind::File,
+        _ if kind.is_dir() => Kind::Folder,
+        _ if kind.is_block_device() => Kind::Disk,
+        _ if kind.is_char_device() && found.rdev() == NULL_DEVICE => Kind::Null,
+        _ if kind.is_char_device() => Kind::Device,
+        _ => Kind::Other,
+    }
+}
+
+/// Gives a file the first second of 1970 as its time. Some programs take the second before it for no time at all.
+fn make_long_past<F: OpenFile>(file: &F) -> io::Result<()> {
+    let long_past = SystemTime::UNIX_EPOCH + Duration::from_secs(1);
+    file.set_times(FileTimes::new().set_modified(long_past))
+}
+
+/// How a new file is opened: to be written, and only where nothing stands, not even a link.
+fn for_a_new_file() -> OpenOptions
+    ensures { asks_create_new result ≡ true }
+{
+    let mut options = OpenOptions::new();
+    options.write(true).create_new(true);
+    options
+}
+
+impl<R: Files> Host<R> {
+    /// The system below a folder. An empty root is the current folder.
+    pub fn new(files: R, root: String) -> Host<R> {
+        Host { files, root }
+    }
+
+    /// Where a path stands, or `None` where it isn't text.
+    fn place_of<'a>(&self, alloc: Global, path: &'a [u8]) -> Result<Option<CowStr<'a>>, AllocError>
+        ensures { IfOk result (λ found. MatchOption found (IsUtf8 path.now → ⊥)
+            (λ place. cow_str_bytes place ≡ place_of (string_bytes self.now.root) path.now)) }
+    {
+        let Ok(path) = str::from_utf8(path) else {
+            return Ok(None);
+        };
+        let root = self.root.as_str();
+        if path.starts_with('/') || root.is_empty() {
+            return Ok(Some(CowStr::Borrowed(path)));
+        }
+        Ok(Some(CowStr::Owned(format!(in alloc; "{root}/{path}")?)))
+    }
+}
+
+impl<R: Files> System for Host<R>
+where
+    R::File: Claim + FileExt,
+{
+    ghost use Rattle.ks_system.specs.System.{World, Opened};
+
+    type Handle = R::File;
+
+    ghost world = { λ s. record { files = map.empty; names = 0; dated = [] } };
+
+    ghost is_honest = { ⊥ };
+
+    ghost path_at = { λ place. place };
+
+    ghost opened = { λ h. record { path = []; names = 0; made = false } };
+
+    ghost is_claimed = { λ h. true };
+
+    ghost aged = { λ s. [] };
+
+    fn place<'a>(&self, alloc: Global, path: &'a [u8]) -> Result<Option<CowStr<'a>>, AllocError> {
+        self.place_of(alloc, path)
+    }
+
+    fn look(&mut self, place: &str) -> io::Result<Look> {
+        let found = fs::metadata(&self.files, place)?;
+        Ok(Look {
+            kind: kind_of(&found),
+            size: found.len(),
+        })
+    }
+
+    fn kind(&mut self, place: &str) -> io::Result<Kind> {
+        Ok(kind_of(&fs::symlink_metadata(&self.files, place)?))
+    }
+
+    fn open(&mut self, place: &str) -> io::Result<R::File> {
+        fs::open(&self.files, place)
+    }
+
+    fn open_left_over(&mut self, place: &str) -> io::Result<R::File> {
+        // Some file systems lock only what is opened for writing.
+        let mut options = OpenOptions::new();
+        options.read(true).write(true);
+        options
+            .open(&self.files, place)
+            .or_else(|_| fs::open(&self.files, place))
+    }
+
+    fn read_at(&mut self, file: &R::File, offset: u64, into: &mut [u8]) -> io::Result<usize> {
+        file.read_at(into, offset)
+    }
+
+    fn create_new(&mut self, place: &str) -> io::Result<R::File> {
+        for_a_new_file().open(&self.files, place)
+    }
+
+    fn make_folders(&mut self, place: &str) -> io::Result<()> {
+        match place.rsplit_once('/') {
+            Some((folder, _)) => fs::create_dir_all(&self.files, folder),
+            None => Ok(()),
+        }
+    }
+
+    fn claim(&mut self, file: &mut R::File) -> bool {
+        file.claim()
+    }
+
+    fn has_a_name(&mut self, file: &R::File) -> io::Result<bool> {
+        Ok(file.metadata()?.nlink() > 0)
+    }
+
+    fn is_at(&mut self, file: &R::File, place: &str) -> io::Result<bool> {
+        let (file, found) = (file.metadata()?, fs::symlink_metadata(&self.files, place)?);
+        Ok(file.dev() == found.dev() && file.ino() == found.ino())
+    }
+
+    fn write(&mut self, file: &mut R::File, bytes: &[u8]) -> io::Result<usize> {
+        file.write(bytes)
+    }
+
+    fn date(&mut self, file: &R::File) -> io::Result<()> {
+        make_long_past(file)
+    }
+
+    fn age(&mut self, _place: &str, file: Option<R::File>) -> io::Result<()>
+        ensures { IsNone file → IsOk result }
+    {
+        match file {
+            Some(file) => make_long_past(&file),
+            None => Ok(()),
+        }
+    }
+
+    fn remove_file(&mut self, place: &str) -> io::Result<()> {
+        fs::remove_file(&self.files, place)
+    }
+
+    fn remove_folder(&mut self, place: &str) -> io::Result<()> {
+        fs::remove_dir(&self.files, place)
+    }
+
+    fn rename(&mut self, from: &str, to: &str) -> io::Result<()> {
+        fs::rename(&self.files, from, to)
+    }
+}

@@ -1,0 +1,21 @@
+//! The calls of the system, and a tree over them that is honest where they are.
+#![tactic(auto)]
+
+mod disk;
+mod disk_files;
+mod errors;
+mod fault;
+mod held;
+mod host;
+mod kept_file;
+mod new_file;
+mod reading;
+mod system;
+mod system_tree;
+
+pub use disk::{DiskHandle, ScriptedDisk, Turn};
+pub use errors::Meaning;
+pub use fault::FolderFault;
+pub use host::Host;
+pub use system::{Kind, Look, System};
+pub use system_tree::SystemTree;

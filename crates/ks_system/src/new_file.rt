@@ -1,0 +1,238 @@
+//! A new file at a place, whatever is left over there, or only where nothing is. What stands there is never written into: it may be a
+//! link, and its bytes those of another tree. A new file is claimed until it is moved, so that of two programs that write at one place
+//! neither moves what the other has only begun. A short write is never taken for the whole.
+ghost use Rattle.std.specs.Prelude.{◌≡◌, ◌≤◌, ◌++◌, ◌∷◌, ℕ, [], true, Some, None, IsSome, IfOk, IfSome, OnOk, OnErr, MatchOption, length, take};
+ghost use Rattle.ks_tree.specs.Files.{IsHalfCreated, SameBut, content, kept_or};
+ghost use Rattle.ks_system.specs.System.{Begun, IsAppended, IsMade};
+
+use crate::errors::{Meaning, meaning_of};
+use crate::reading::never_done;
+use crate::{Kind, System};
+use std::io;
+use std::io::ErrorKind;
+
+/// How often a file is made before its place counts as taken.
+const TRIES: usize = 16;
+
+/// Writes some of the bytes at the end of a file that was made, and tries an interrupted write again.
+fn write_some<S: System>(system: &mut S, handle: &mut S::Handle, bytes: &[u8]) -> io::Result<usize>
+    requires current { S.is_honest → (S.opened handle.old).names ≡ (S.world system.old).names }
+    requires made { S.is_honest → (S.opened handle.old).made ≡ true }
+    ensures written { S.is_honest → IfOk result (λ n. IsAppended (S.opened handle.old).path (take n bytes.now) (S.world system.old).files (S.world system.new).files) }
+    ensures within { IfOk result (λ n. n ≤ length bytes.now) }
+    ensures names { S.is_honest → (S.world system.new).names ≡ (S.world system.old).names }
+    ensures dated { S.is_honest → (S.world system.new).dated ≡ (S.world system.old).dated }
+    ensures failed { S.is_honest → OnErr result (S.world system.new ≡ S.world system.old) }
+    ensures opened { S.opened handle.new ≡ S.opened handle.old }
+    ensures claimed { S.is_claimed handle.new ≡ S.is_claimed handle.old }
+    ensures kept { S.aged system.new ≡ S.aged system.old }
+{
+    for _ in 0..u64::MAX {
+        match system.write(handle, bytes) {
+            Ok(count) => return Ok(count),
+            Err(error) if meaning_of(&error) == Meaning::Interrupted => {}
+            Err(error) => return Err(error),
+        }
+    }
+    Err(never_done())
+}
+
+/// Writes all of the bytes into a file that was made.
+fn fill_new<S: System>(system: &mut S, handle: &mut S::Handle, bytes: &[u8]) -> io::Result<()>
+    requires current { S.is_honest → (S.opened handle.old).names ≡ (S.world system.old).names }
+    requires made { S.is_honest → (S.opened handle.old).made ≡ true }
+    requires empty { S.is_honest → content (S.world system.old).files (S.opened handle.old).path ≡ Some [] }
+    ensures written { S.is_honest → OnOk result (content (S.world system.new).files (S.opened handle.old).path ≡ Some bytes.now) }
+    ensures begun { S.is_honest → (n : ℕ) × Begun (S.world system.new).files (S.opened handle.old).path bytes.now n }
+    ensures others { S.is_honest → SameBut (S.opened handle.old).path (S.world system.old).files (S.world system.new).files }
+    ensures dated { S.is_honest → (S.world system.new).dated ≡ (S.world system.old).dated }
+    ensures opened { S.opened handle.new ≡ S.opened handle.old }
+    ensures claimed { S.is_claimed handle.new ≡ S.is_claimed handle.old }
+    ensures kept { S.aged system.new ≡ S.aged system.old }
+{
+    let mut written = 0;
+    for _ in 0..u64::MAX {
+        if written == bytes.len() {
+            return Ok(());
+        }
+        let count = write_some(system, handle, &bytes[written..])?;
+        if count == 0 {
+            return Err(io::Error::new(ErrorKind::WriteZero, "Nothing more is written"));
+        }
+        written += count;
+    }
+    Err(never_done())
+}
+
+/// Writes all of the bytes into a file that was made, where no other program has claimed it, and gives it back.
+fn write_claimed<S: System>(
+    system: &mut S,
+    mut handle: S::Handle,
+    bytes: &[u8],
+) -> io::Result<Option<S::Handle>>
+    requires current { S.is_honest → (S.opened handle).names ≡ (S.world system.old).names }
+    requires made { S.is_honest → (S.opened handle).made ≡ true }
+    requires empty { S.is_honest → content (S.world system.old).files (S.opened handle).path ≡ Some [] }
+    ensures written { S.is_honest → IfOk result (λ found. IfSome found (λ _. content (S.world system.new).files (S.opened handle).path ≡ Some bytes.now)) }
+    ensures claimed { IfOk result (λ found. IfSome found (λ h. (S.is_claimed h ≡ true) × (S.opened h ≡ S.opened handle))) }
+    ensures others { S.is_honest → SameBut (S.opened handle).path (S.world system.old).files (S.world system.new).files }
+    ensures dated { S.is_honest → (S.world system.new).dated ≡ (S.world system.old).dated }
+    ensures kept { S.aged system.new ≡ S.aged system.old }
+{
+    if !system.claim(&mut handle) {
+        return Ok(None);
+    }
+    // Before it was claimed, another program may have taken it for left over and removed it.
+    if !system.has_a_name(&handle)? {
+        return Ok(None);
+    }
+    fill_new(system, &mut handle, bytes)?;
+    Ok(Some(handle))
+}
+
+/// Writes a new file at a place, and gives it, claimed. Folders that are missing are made.
+pub(crate) fn write_new<S: System>(
+    system: &mut S,
+    place: &str,
+    bytes: &[u8],
+) -> io::Result<S::Handle>
+    ensures written { S.is_honest → OnOk result (content (S.world system.new).files (S.path_at place.now) ≡ Some bytes.now) }
+    ensures claimed { IfOk result (λ h. S.is_claimed h ≡ true) }
+    ensures of_path { S.is_honest → IfOk result (λ h. (S.opened h).path ≡ S.path_at place.now) }
+    ensures others { S.is_honest → SameBut (S.path_at place.now) (S.world system.old).files (S.world system.new).files }
+    ensures dated { S.is_honest → (S.world system.new).dated ≡ (S.world system.old).dated }
+    ensures kept { S.aged system.new ≡ S.aged system.old }
+{
+    for _ in 0..TRIES {
+        match system.create_new(place) {
+            Ok(handle) => {
+                if let Some(file) = write_claimed(system, handle, bytes)? {
+                    return Ok(file);
+                }
+            }
+            Err(error) => make_way(system, place, error)?,
+        }
+    }
+    Err(claimed())
+}
+
+/// Does what lets a file be made at a place where that failed, or gives the failure back.
+fn make_way<S: System>(system: &mut S, place: &str, error: io::Error) -> io::Result<()>
+    ensures others { S.is_honest → SameBut (S.path_at place.now) (S.world system.old).files (S.world system.new).files }
+    ensures dated { S.is_honest → (S.world system.new).dated ≡ (S.world system.old).dated }
+    ensures kept { S.aged system.new ≡ S.aged system.old }
+{
+    match meaning_of(&error) {
+        Meaning::Stands => clear(system, place),
+        Meaning::Missing => system.make_folders(place),
+        _ => Err(error),
+    }
+}
+
+/// Makes a file, or gives `None` where something stands.
+fn make_once<S: System>(system: &mut S, place: &str) -> io::Result<Option<S::Handle>>
+    ensures made { S.is_honest → IfOk result (λ found. MatchOption found
+        (IsSome (content (S.world system.old).files (S.path_at place.now)) × (S.world system.new ≡ S.world system.old))
+        (λ h. IsMade (S.path_at place.now) (S.world system.old).files (S.world system.new).files
+        × (S.opened h ≡ record { path = S.path_at place.now; names = (S.world system.new).names; made = true }))) }
+    ensures dated { S.is_honest → (S.world system.new).dated ≡ (S.world system.old).dated }
+    ensures failed { S.is_honest → OnErr result (S.world system.new ≡ S.world system.old) }
+    ensures kept { S.aged system.new ≡ S.aged system.old }
+{
+    match system.create_new(place) {
+        Ok(handle) => Ok(Some(handle)),
+        Err(error) if meaning_of(&error) == Meaning::Stands => Ok(None),
+        Err(error) => Err(error),
+    }
+}
+
+/// The same, and folders that are missing are made.
+fn make_in_folders<S: System>(system: &mut S, place: &str) -> io::Result<Option<S::Handle>>
+    ensures made { S.is_honest → IfOk result (λ found. MatchOption found
+        (IsSome (content (S.world system.old).files (S.path_at place.now)) × (S.world system.new ≡ S.world system.old))
+        (λ h. IsMade (S.path_at place.now) (S.world system.old).files (S.world system.new).files
+        × (S.opened h ≡ record { path = S.path_at place.now; names = (S.world system.new).names; made = true }))) }
+    ensures dated { S.is_honest → (S.world system.new).dated ≡ (S.world system.old).dated }
+    ensures failed { S.is_honest → OnErr result (S.world system.new ≡ S.world system.old) }
+    ensures kept { S.aged system.new ≡ S.aged system.old }
+{
+    match make_once(system, place) {
+        Ok(found) => return Ok(found),
+        Err(error) if meaning_of(&error) == Meaning::Missing => {}
+        Err(error) => return Err(error),
+    }
+    system.make_folders(place)?;
+    make_once(system, place)
+}
+
+/// Makes a file of these bytes, unless something stands at the place. Folders that are missing are made. The file's time is long
+/// past: one of now would be newer than what was built just before, and a build that goes by times would build it once more.
+pub(crate) fn create_new<S: System>(system: &mut S, place: &str, bytes: &[u8]) -> io::Result<()>
+    ensures made { S.is_honest → OnOk result (content (S.world system.new).files (S.path_at place.now)
+        ≡ Some (kept_or (content (S.world system.old).files (S.path_at place.now)) bytes.now)) }
+    ensures failed { S.is_honest → OnErr result (IsHalfCreated (content (S.world system.old).files (S.path_at place.now)) bytes.now
+        (content (S.world system.new).files (S.path_at place.now))) }
+    ensures others { S.is_honest → SameBut (S.path_at place.now) (S.world system.old).files (S.world system.new).files }
+    ensures dated { S.is_honest → OnOk result (content (S.world system.old).files (S.path_at place.now) ≡ None →
+        (S.world system.new).dated ≡ (S.world system.old).dated ++ S.path_at place.now ∷ []) }
+    ensures kept { S.aged system.new ≡ S.aged system.old }
+{
+    let Some(mut handle) = make_in_folders(system, place)? else {
+        return Ok(());
+    };
+    fill_new(system, &mut handle, bytes)?;
+    system.date(&handle)
+}
+
+/// That another program has claimed what stands at a place.
+fn claimed() -> io::Error {
+    io::Error::new(ErrorKind::ResourceBusy, "Another program is writing it")
+}
+
+/// Removes what is left over at a place, if it hasn't gone by now.
+fn clear<S: System>(system: &mut S, place: &str) -> io::Result<()>
+    ensures others { S.is_honest → SameBut (S.path_at place.now) (S.world system.old).files (S.world system.new).files }
+    ensures dated { S.is_honest → (S.world system.new).dated ≡ (S.world system.old).dated }
+    ensures kept { S.aged system.new ≡ S.aged system.old }
+{
+    match remove(system, place) {
+        Err(error) if meaning_of(&error) == Meaning::Missing => Ok(()),
+        outcome => outcome,
+    }
+}
+
+/// Removes a file, a link, a pipe or an empty folder. A device is nobody's left-over.
+fn remove<S: System>(system: &mut S, place: &str) -> io::Result<()>
+    ensures others { S.is_honest → SameBut (S.path_at place.now) (S.world system.old).files (S.world system.new).files }
+    ensures dated { S.is_honest → (S.world system.new).dated ≡ (S.world system.old).dated }
+    ensures kept { S.aged system.new ≡ S.aged system.old }
+{
+    match system.kind(place)? {
+        Kind::Disk | Kind::Null | Kind::Device => {
+            Err(io::Error::new(ErrorKind::ResourceBusy, "A device stands there"))
+        }
+        Kind::Folder => system.remove_folder(place),
+        Kind::File => remove_unclaimed(system, place),
+        Kind::Other => system.remove_file(place),
+    }
+}
+
+/// Removes a regular file, but none that another program has claimed.
+fn remove_unclaimed<S: System>(system: &mut S, place: &str) -> io::Result<()>
+    ensures others { S.is_honest → SameBut (S.path_at place.now) (S.world system.old).files (S.world system.new).files }
+    ensures dated { S.is_honest → (S.world system.new).dated ≡ (S.world system.old).dated }
+    ensures kept { S.aged system.new ≡ S.aged system.old }
+{
+    let Ok(mut handle) = system.open_left_over(place) else {
+        return system.remove_file(place);
+    };
+    let is_free = system.claim(&mut handle);
+    if !is_free {
+        return Err(claimed());
+    }
+    // Before it was claimed it may have been moved, and a file of another program may stand here.
+    if system.is_at(&handle, place)? {
+        return system.remove_file(place);
+    }
+    Ok(())
+}

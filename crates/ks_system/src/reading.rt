@@ -1,0 +1,199 @@
+//! Reading by a handle. Neither a short read nor an interrupted one is taken for the end: otherwise a symbol that stands further on in
+//! a file would be missed, and an object called fresh.
+ghost use Rattle.std.specs.Prelude.{◌≡◌, ◌≤◌, ◌<◌, ℕ, List, Some, None, Ok, IsSome, IfOk, IsErrOf, OnOk, IfSome, Option, length, take, option_map};
+ghost use Rattle.ks_symbols.specs.Lines.{max_bytes};
+ghost use Rattle.ks_tree.specs.Files.{IsTooLarge, content};
+ghost use Rattle.ks_system.specs.System.{IsLookAt, IsSomeReadAt};
+ghost use Rattle.ks_system.specs.Reading.{IsReadTo};
+ghost use Rattle.ks_system.specs.declared.fault.ReadFault.{ReadFault};
+
+use crate::errors::{Meaning, found_of, meaning_of};
+use crate::fault::ReadFault;
+use crate::{Kind, Look, System};
+use ks_symbols::MAX_BYTES;
+use std::alloc::{AllocError, Global};
+use std::io;
+use std::io::ErrorKind;
+
+/// How much is read at once where a file's length isn't known.
+const ROOM: usize = 32768;
+
+/// That a call never ends to be interrupted.
+pub(crate) fn never_done() -> io::Error {
+    io::Error::new(ErrorKind::Other, "Interrupted without end")
+}
+
+/// So many bytes of room.
+pub(crate) fn room(alloc: Global, size: usize) -> Result<Vec<u8>, AllocError>
+    ensures { IfOk result (λ room. length room.items ≡ size) }
+{
+    let mut room = Vec::with_capacity(alloc, size)?;
+    room.resize(size, 0)?;
+    Ok(room)
+}
+
+/// Reads some bytes, and tries an interrupted read again.
+pub(crate) fn read_some<S: System>(
+    system: &mut S,
+    handle: &S::Handle,
+    offset: u64,
+    into: &mut [u8],
+) -> io::Result<usize>
+    requires current { S.is_honest → (S.opened handle.now).names ≡ (S.world system.old).names }
+    ensures read { S.is_honest → IfOk result (IsSomeReadAt (content (S.world system.old).files (S.opened handle.now).path) offset into.old into.new) }
+    ensures within { IfOk result (λ n. n ≤ length into.new) }
+    ensures room { length into.new ≡ length into.old }
+    ensures unchanged { S.is_honest → S.world system.new ≡ S.world system.old }
+    ensures kept { S.aged system.new ≡ S.aged system.old }
+{
+    for _ in 0..u64::MAX {
+        match system.read_at(handle, offset, into) {
+            Ok(count) => return Ok(count),
+            Err(error) if meaning_of(&error) == Meaning::Interrupted => {}
+            Err(error) => return Err(error),
+        }
+    }
+    Err(never_done())
+}
+
+/// Reads a file from its beginning on, until the room is full or the file ends, and tells how many bytes these are.
+pub(crate) fn fill<S: System>(
+    system: &mut S,
+    handle: &S::Handle,
+    into: &mut [u8],
+) -> io::Result<usize>
+    requires current { S.is_honest → (S.opened handle.now).names ≡ (S.world system.old).names }
+    ensures read { S.is_honest → IfOk result (λ n. IsReadTo (content (S.world system.old).files (S.opened handle.now).path) (take n into.new)) }
+    ensures whole { S.is_honest → IfOk result (λ n. n < length into.new →
+        content (S.world system.old).files (S.opened handle.now).path ≡ Some (take n into.new)) }
+    ensures within { IfOk result (λ n. n ≤ length into.new) }
+    ensures room { length into.new ≡ length into.old }
+    ensures unchanged { S.is_honest → S.world system.new ≡ S.world system.old }
+    ensures kept { S.aged system.new ≡ S.aged system.old }
+{
+    let mut given = 0;
+    for _ in 0..u64::MAX {
+        if given == into.len() {
+            return Ok(given);
+        }
+        let count = read_some(system, handle, given as u64, &mut into[given..])?;
+        if count == 0 {
+            return Ok(given);
+        }
+        given += count;
+    }
+    Err(never_done())
+}
+
+/// Reads a file on to its end, piece by piece.
+fn read_rest<S: System>(
+    system: &mut S,
+    handle: &S::Handle,
+    mut bytes: Vec<u8>,
+    room: &mut [u8],
+) -> Result<Vec<u8>, ReadFault>
+    requires current { S.is_honest → (S.opened handle.now).names ≡ (S.world system.old).names }
+    requires room { 0 < length room.old }
+    requires small { length bytes.items ≤ max_bytes }
+    requires so_far { S.is_honest → IsReadTo (content (S.world system.old).files (S.opened handle.now).path) bytes.items }
+    ensures read { S.is_honest → IfOk result (λ v. content (S.world system.old).files (S.opened handle.now).path ≡ Some v.items) }
+    ensures small { IfOk result (λ v. length v.items ≤ max_bytes) }
+    ensures too_large { S.is_honest → IsErrOf result ReadFault.TooLarge → IsTooLarge (content (S.world system.old).files (S.opened handle.now).path) }
+    ensures unchanged { S.is_honest → S.world system.new ≡ S.world system.old }
+    ensures kept { S.aged system.new ≡ S.aged system.old }
+{
+    for _ in 0..u64::MAX {
+        let count = read_some(system, handle, bytes.len() as u64, room)?;
+        if count == 0 {
+            return Ok(bytes);
+        }
+        if count > MAX_BYTES - bytes.len() {
+            return Err(ReadFault::TooLarge);
+        }
+        bytes.extend_from_slice(&room[..count])?;
+    }
+    Err(ReadFault::System(never_done()))
+}
+
+/// Reads a whole file of so many bytes, or of more or fewer where it has changed since it was looked at. One read gives the bytes, and
+/// a second one sees the end.
+fn read_opened<S: System>(
+    alloc: Global,
+    system: &mut S,
+    handle: &S::Handle,
+    size: usize,
+) -> Result<Vec<u8>, ReadFault>
+    requires current { S.is_honest → (S.opened handle.now).names ≡ (S.world system.old).names }
+    requires there { S.is_honest → IsSome (content (S.world system.old).files (S.opened handle.now).path) }
+    requires small { size ≤ max_bytes }
+    ensures read { S.is_honest → IfOk result (λ v. content (S.world system.old).files (S.opened handle.now).path ≡ Some v.items) }
+    ensures small { IfOk result (λ v. length v.items ≤ max_bytes) }
+    ensures too_large { S.is_honest → IsErrOf result ReadFault.TooLarge → IsTooLarge (content (S.world system.old).files (S.opened handle.now).path) }
+    ensures unchanged { S.is_honest → S.world system.new ≡ S.world system.old }
+    ensures kept { S.aged system.new ≡ S.aged system.old }
+{
+    let mut bytes = room(alloc, size + 1)?;
+    let count = fill(system, handle, &mut bytes)?;
+    if count < bytes.len() {
+        bytes.truncate(count);
+        return Ok(bytes);
+    }
+    if count > MAX_BYTES {
+        return Err(ReadFault::TooLarge);
+    }
+    let mut room = room(alloc, ROOM)?;
+    read_rest(system, handle, bytes, &mut room)
+}
+
+/// Whether a file can be read to its end without waiting for anybody: a regular file, a disk, and `/dev/null`.
+fn has_an_end(kind: Kind) -> bool {
+    matches!(kind, Kind::File | Kind::Disk | Kind::Null)
+}
+
+/// Why such a file isn't read.
+pub(crate) fn without_an_end(kind: Kind) -> io::Error {
+    if kind == Kind::Folder {
+        io::Error::new(ErrorKind::IsADirectory, "Is a directory")
+    } else {
+        io::Error::new(ErrorKind::InvalidInput, "Not a regular file")
+    }
+}
+
+/// For how many bytes room is made, of what was looked at, or why it isn't read.
+fn size_to_read(look: &Look) -> Result<usize, ReadFault>
+    ensures small { IfOk result (λ n. n ≤ max_bytes) }
+    ensures too_large { (file : Option (List ℕ)) → IsLookAt file look.now → IsErrOf result ReadFault.TooLarge → IsTooLarge file }
+{
+    if !has_an_end(look.kind) {
+        return Err(ReadFault::System(without_an_end(look.kind)));
+    }
+    if look.size <= MAX_BYTES as u64 {
+        return Ok(look.size as usize);
+    }
+    if look.kind == Kind::File {
+        return Err(ReadFault::TooLarge);
+    }
+    Ok(MAX_BYTES)
+}
+
+/// The bytes of the file at a place, or `None` where there is none. A pipe isn't even opened, since that may wait for ever.
+pub(crate) fn read_whole<S: System>(
+    alloc: Global,
+    system: &mut S,
+    place: &str,
+) -> Result<Option<Vec<u8>>, ReadFault>
+    ensures found { S.is_honest → IfOk result (λ found. option_map (λ v. v.items) found ≡ content (S.world system.old).files (S.path_at place.now)) }
+    ensures small { IfOk result (λ found. IfSome found (λ v. length v.items ≤ max_bytes)) }
+    ensures too_large { S.is_honest → IsErrOf result ReadFault.TooLarge → IsTooLarge (content (S.world system.old).files (S.path_at place.now)) }
+    ensures unchanged { S.is_honest → S.world system.new ≡ S.world system.old }
+    ensures kept { S.aged system.new ≡ S.aged system.old }
+{
+    let Some(look) = found_of(system.look(place))? else {
+        return Ok(None);
+    };
+    let size = size_to_read(&look)?;
+    let Some(handle) = found_of(system.open(place))? else {
+        return Ok(None);
+    };
+    Ok(Some(read_opened(alloc, system, &handle, size)?))
+}

@@ -1,4 +1,4 @@
--- Whether an object was build_asked by a command, by the files.
+-- Whether an object was built by a command, by the files.
 use Rattle.std.specs.Prelude.{◌≡◌, ℕ, List, Option, Some, Result, Ok, Err, if◌then◌else◌, bytes_eq}
 use Rattle.ks_symbols.specs.Names.{is_target}
 use Rattle.ks_fixdep.specs.CommandFile.{CommandRecord, is_command}

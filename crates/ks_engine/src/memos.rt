@@ -30,6 +30,8 @@ use std::alloc::{AllocError, Global};
 pub struct Memo {
     generation: Option<u64>,
     stamps: IndexMap<String, u64, Seed>,
+    /// The place after the stamp that was asked for last. No answer depends on it.
+    next_stamp: usize,
     /// For each path of a source its place among those that were scanned.
     sources: IndexMap<Vec<u8>, usize, Seed>,
     /// By which rules these were scanned.
@@ -64,6 +66,7 @@ fn are_same(one: Rules, other: Rules) -> bool
         (Rules::Linux, Rules::Linux) => true,
         (Rules::UBoot(phase), Rules::UBoot(other)) => phase == other,
         (Rules::BusyBox, Rules::BusyBox) => true,
+        (Rules::Coreboot, Rules::Coreboot) => true,
         _ => false,
     }
 }
@@ -96,6 +99,7 @@ impl Memo {
         Memo {
             generation: None,
             stamps: IndexMap::with_hasher(alloc, seed),
+            next_stamp: 0,
             sources: IndexMap::with_hasher(alloc, seed),
             rules: Rules::Linux,
             found: NamesBySource::with_seed(alloc, seed),
@@ -145,6 +149,23 @@ impl Memo {
         Ok(generation)
     }
 
+    /// The place and the number of a name's stamp, if it is kept. That after the last one is looked at first: objects name most
+    /// symbols in one order, so that most names are compared once and not sought.
+    fn kept_stamp(&self, name: &str) -> Option<(usize, u64)>
+        ensures { IfSome result (λ kept. (value_of name.now (pairs_of string_bytes self.now.stamps.entries) ≡ Some kept.1)
+            ⊎ ((i : ℕ) × (slice_get (pairs_of string_bytes self.now.stamps.entries) i ≡ Some (name.now, kept.1)))) }
+    {
+        if let Some((next, number)) = self.stamps.get_index(self.next_stamp) {
+            if next.as_str() == name {
+                return Some((self.next_stamp, *number));
+            }
+        }
+        match self.stamps.get_full(name) {
+            Some((place, _, number)) => Some((place, *number)),
+            None => None,
+        }
+    }
+
     /// The number of a name's stamp, as a question sees it. What the tree has is read once.
     pub(crate) fn stamp<T: Tree>(
         &mut self,
@@ -166,11 +187,13 @@ impl Memo {
             return Ok(number);
         }
         let text = name_text(name);
-        if let Some(number) = self.stamps.get(text) {
-            return Ok(*number);
+        if let Some((place, number)) = self.kept_stamp(text) {
+            self.next_stamp = place.saturating_add(1);
+            return Ok(number);
         }
         let named = Name::new(alloc, name)?;
         let number = read_stamp(alloc, tree, &named)?;
+        self.next_stamp = self.stamps.len().saturating_add(1);
         keep_stamp(alloc, &mut self.stamps, text, number)?;
         Ok(number)
     }

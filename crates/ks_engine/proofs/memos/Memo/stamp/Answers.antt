@@ -1,12 +1,11 @@
-use Rattle.ks_engine.proofs.Prelude.{string_bytes, sym, ◌∙◌, pairs_of, IsStamp, rules}
-use Rattle.ks_engine.proofs.Keeping.{kept_found, kept_added, value-pairs}
+use Rattle.ks_engine.proofs.Prelude.{string_bytes, pairs_of, IsStamp, rules}
+use Rattle.ks_engine.proofs.Keeping.{kept_found_or_at, kept_added}
 use Rattle.ks_engine.proofs.memos.Memo.stamp.Goals as goal
 
-pub returns-in-Some-get-clause-number : goal.returns-in-Some-get-clause-number
-returns-in-Some-get-clause-number g c = λ honest after seen.
-    let found = value-pairs string_bytes c.name_text-text.result.now c.args.self.now.stamps.entries ∙ sym c.in-Some-get.ensures.value in
-    let is = kept_found (IsStamp (g.T.Tree.files c.args.tree.now)) c.name_text-text.result.now c.in-Some-get.number.now _
-    (c.requires.memo honest).stamps found in
+pub returns-in-Some-kept_stamp-clause-number : goal.returns-in-Some-kept_stamp-clause-number
+returns-in-Some-kept_stamp-clause-number g c = λ honest after seen.
+    let is = kept_found_or_at (IsStamp (g.T.Tree.files c.args.tree.now)) c.name_text-text.result.now c.in-Some-kept_stamp.number _
+    (c.requires.memo honest).stamps c.in-Some-kept_stamp.ensures in
     search (rules, c.name_text-text.ensures, is, (c.foreseen.ensures.others c.in_default.is _ after seen))
 
 pub returns-clause-memo : goal.returns-clause-memo

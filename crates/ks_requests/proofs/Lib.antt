@@ -4,6 +4,7 @@ pub mod Refusing
 pub mod Writing
 pub mod Printing
 pub mod Siting
+mod ReadingLemmas
 pub mod JsonReading
 pub mod JsonObjects
 mod ScriptFaults

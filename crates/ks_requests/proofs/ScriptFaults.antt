@@ -1,5 +1,5 @@
 -- The first fault of lines, and refusals.
-use Rattle.ks_requests.proofs.Prelude.{cond_some, ◌≡◌, inl, inr, ℕ, ◌+◌, ◌<◌, ◌≤◌, Bool, true, false, cond, nat_lt, List, [], ◌∷◌, ◌++◌, length, Option, Some, None, is_some, option_map, refl, ap, arith, cons_option, position_from, cond-true, cond-false, nat_tests, lines, max_bytes, ScriptError, is_faulty, line_fault, script_refusal, IsRefusal, rules}
+use Rattle.ks_requests.proofs.Prelude.{cond_some, ◌≡◌, inl, inr, ℕ, ◌+◌, ◌<◌, ◌≤◌, Bool, true, false, cond, nat_lt, List, [], ◌∷◌, ◌++◌, length, Option, Some, None, option_map, refl, ap, arith, cons_option, position_from, cond-true, cond-false, nat_tests, lines, max_bytes, ScriptError, is_faulty, line_fault, script_refusal, IsRefusal, rules}
 use Rattle.ks_requests.specs.declared.script_error.ScriptError.TheVariants as fault
 
 passed : (b : Bool) (e : ScriptError) → cond b (Some e) None ≡ None → b ≡ false
@@ -33,7 +33,3 @@ pub option_append : {X : Type 0} (xs : List X) (o : Option X) (rest : List X) �
 option_append [] None rest = refl
 option_append [] (Some x) rest = refl
 option_append (y ∷ ys) o rest = ap (λ l. y ∷ l) (option_append ys o rest)
-
-pub is_some_map : {X Y : Type 0} (f : X → Y) (found : Option X) → is_some (option_map f found) ≡ is_some found
-is_some_map f None = refl
-is_some_map f (Some x) = refl

@@ -7,6 +7,7 @@ pub mod Faults
 pub mod Statuses
 pub mod Endings
 pub mod Sites
+pub mod Readings
 pub mod Inputs
 pub mod Targets
 pub mod Unknown

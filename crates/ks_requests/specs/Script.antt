@@ -1,5 +1,5 @@
 -- What a script asks for, line by line. A rule of this project.
-use Rattle.std.specs.Prelude.{◌≡◌, ℕ, ◌++◌, ◌&&◌, ◌==◌, Bool, not, nat_eq, IsTrue, List, length, drop, codes, take_while, Option, Some, None, option_map, option_and_then, if◌then◌else◌}
+use Rattle.std.specs.Prelude.{◌≡◌, ℕ, ◌++◌, ◌&&◌, ◌||◌, ◌==◌, Bool, not, nat_eq, IsTrue, List, length, drop, codes, take_while, Option, Some, None, option_map, option_and_then, if◌then◌else◌}
 use Rattle.std.specs.List.{starts_with, list_all, filter_map}
 use Rattle.ks_symbols.specs.Names.{is_path}
 use Rattle.ks_symbols.specs.Lines.{lines}
@@ -48,6 +48,11 @@ script_line line =
     if starts_with nat_eq line (codes "sync ") then sync_line (drop 5 line)
     else (if starts_with nat_eq line (codes "record ") then record_line (drop 7 line)
     else (if starts_with nat_eq line (codes "stale ") then stale_line (drop 6 line) else None))
+
+-- the name of a command and a space, as each line that asks for one begins
+abbrev pub begins_command : List ℕ → Bool
+begins_command line =
+    starts_with nat_eq line (codes "sync ") || starts_with nat_eq line (codes "record ") || starts_with nat_eq line (codes "stale ")
 
 -- what the lines of a text ask for, in their order
 unfoldable pub script_lines : List ℕ → List Line

@@ -1,11 +1,13 @@
 -- Which file a refusal is about, and the line that says so: its path, the line or the token of it, and what stands there. The form is this project's.
-use Rattle.std.specs.Prelude.{◌≡◌, ℕ, ◌-◌, ◌||◌, ◌==◌, nat_lt, List, [], ◌++◌, Option, Some, None, IfSome, Ok, Err, option_map}
+use Rattle.std.specs.Prelude.{◌≡◌, ℕ, ◌-◌, ◌||◌, ◌==◌, nat_lt, List, [], ◌++◌, Option, Some, None, IfSome, Result, Ok, Err, option_map, ⊤}
 use Rattle.std.specs.Prelude.{option_and_then, codes, map, take, slice_get, string_bytes, if◌then◌else◌}
 use Rattle.ks_symbols.specs.Lines.{lines}
 use Rattle.ks_symbols.specs.declared.error.SourceError.{SourceError}
 use Rattle.ks_symbols.specs.declared.error.SourceError.TheVariants as source
 use Rattle.ks_fixdep.specs.Tokens.{tokens}
-use Rattle.ks_tree.specs.Files.{Files, content}
+use Rattle.ks_tree.specs.Files.{Files, IsTooLarge, content}
+use Rattle.ks_tree.specs.declared.fault.TreeFault.{TreeFault}
+use Rattle.ks_tree.specs.declared.fault.TreeFault.TheVariants.{TooLarge}
 use Rattle.ks_tree.specs.Paths.{auto_path}
 use Rattle.ks_engine.specs.declared.error.EngineError.TheVariants.{BadAuto, BadPath, NoTarget, Source}
 use Rattle.ks_requests.specs.declared.refusal.Refusal.{Refusal}
@@ -108,15 +110,21 @@ shown (Some text) = codes ": " ++ text
 unfoldable pub site_line : Site → Option (List ℕ) → List ℕ
 site_line site text = codes "  " ++ site.0 ++ part_label site.1 ++ shown text ++ codes "\n"
 
--- It is an excerpt, and on an honest tree that of the file at the site.
-pub record IsThere (honest : Type 0) (files : Files) (site : Site) (text : List ℕ) : Type 0 where
-  pub visible : (bytes : List ℕ) × (text ≡ excerpt bytes)
-  pub there : honest → excerpt_at files site ≡ Some text
+-- On an honest tree it is what the file has at the site, and on any tree an excerpt; or the file is too large, or gave no answer.
+abbrev pub IsThere : Type 0 → Files → Site → Result (Option (List ℕ)) TreeFault → Type 0
+IsThere honest files site (Ok text) = (honest → text ≡ excerpt_at files site) × IfSome text (λ t. (bytes : List ℕ) × (t ≡ excerpt bytes))
+IsThere honest files site (Err TooLarge) = honest → IsTooLarge (content files site.0)
+IsThere honest files site (Err fault) = ⊤
 
--- There is a line where there is a site. What stands there is left out where it can't be read.
+abbrev pub found_text : Result (Option (List ℕ)) TreeFault → Option (List ℕ)
+found_text (Ok text) = text
+found_text (Err fault) = None
+
+-- There is a line where there is a site. What stands there is left out where the file has no such part, or where it can't be read.
 abbrev pub IsSiteLine : Type 0 → Files → Option Site → List ℕ → Type 0
 IsSiteLine honest files None line = line ≡ []
-IsSiteLine honest files (Some site) line = (text : Option (List ℕ)) × IfSome text (IsThere honest files site) × (line ≡ site_line site text)
+IsSiteLine honest files (Some site) line =
+    (found : Result (Option (List ℕ)) TreeFault) × IsThere honest files site found × (line ≡ site_line site (found_text found))
 
 -- the site of what is refused as a whole
 abbrev pub ending_site : Request → Ending → Option Site

@@ -1,17 +1,20 @@
 //! The files that a command's words name.
 //!
 //! All paths are looked at before the first file is read, so that a misspelt word costs nothing; and all files
-//! are read before anything is parsed.
-ghost use Rattle.std.specs.Prelude.{◌≡◌, IfOk, IsErrOf, None, option_map, string_bytes};
+//! are read before anything is parsed. Each is read once, and nothing else is asked of the tree meanwhile.
+ghost use Rattle.std.specs.Prelude.{◌≡◌, ◌⊎◌, ◌∷◌, ◌++◌, [], IfOk, IsErrOf, None, OnOk, option_map, string_bytes};
+ghost use Rattle.std.specs.Bool.{MatchBool};
+ghost use Rattle.ks_symbols.specs.Names.{is_path};
 ghost use Rattle.ks_tree.specs.Frames.{Reads};
 ghost use Rattle.ks_engine.specs.Refusals.{Answers};
 ghost use Rattle.ks_requests.specs.Inputs.{given, given_if_named, inputs_at, legal, legal_if_named, texts_at};
 ghost use Rattle.ks_requests.specs.Inputs as inputs;
+ghost use Rattle.ks_requests.specs.Readings.{ReadsEach, ReadsSome, if_named};
 ghost use Rattle.ks_requests.specs.Views.{seen_inputs, seen_texts};
 
+use crate::reading::Reading;
 use ks_engine::EngineError;
 use ks_symbols::{Path, path_is_legal};
-use ks_tree::Tree;
 use std::alloc::Global;
 
 /// A Kconfig and a `.config`: the bytes of each file as they were read, still to be parsed.
@@ -50,20 +53,26 @@ fn check_named(path: Option<&str>) -> Result<(), EngineError>
 }
 
 /// The bytes of a file that has to be there, 64 MiB at most. A word that is no legal path is `BadPath(0)`, and the tree is
-/// not asked; a file that isn't there is `MissingFile`, with its path.
-pub fn read_given<T: Tree>(alloc: Global, tree: &mut T, path: &[u8]) -> Result<Vec<u8>, EngineError>
+/// not asked; a file that isn't there is `MissingFile`, with its path. The file is read once, whatever comes of it.
+pub fn read_given<T: Reading>(
+    alloc: Global,
+    tree: &mut T,
+    path: &[u8],
+) -> Result<Vec<u8>, EngineError>
     ensures reads { Reads T.Tree tree.old tree.new (IsErrOf result EngineError.Device) }
     ensures bytes { T.is_honest → Answers (given (T.files tree.old) path.now) (λ v. v.items) result }
+    ensures asked { MatchBool (is_path path.now) (T.reads tree.old path.now tree.new) (tree.new ≡ tree.old) }
+    ensures once { OnOk result (T.reads tree.old path.now tree.new) }
 {
     check_path(path)?;
-    match tree.read(alloc, path)? {
+    match tree.read_file(alloc, path)? {
         Some(bytes) => Ok(bytes),
         None => Err(EngineError::MissingFile(Path::new(alloc, path)?)),
     }
 }
 
 /// The bytes of the file that may be named, where one is named.
-pub(crate) fn read_named<T: Tree>(
+pub(crate) fn read_named<T: Reading>(
     alloc: Global,
     tree: &mut T,
     path: Option<&str>,
@@ -71,6 +80,8 @@ pub(crate) fn read_named<T: Tree>(
     ensures reads { Reads T.Tree tree.old tree.new (IsErrOf result EngineError.Device) }
     ensures bytes { T.is_honest → Answers (given_if_named (T.files tree.old) (option_map (λ p. p.now) path.entry)) (option_map (λ v. v.items)) result }
     ensures none { option_map (λ p. p.now) path.entry ≡ None → IfOk result (λ found. found ≡ None) }
+    ensures once { OnOk result (ReadsEach T.reads tree.old (if_named (option_map (λ p. p.now) path.entry)) tree.new) }
+    ensures no_other { ReadsSome T.reads tree.old (if_named (option_map (λ p. p.now) path.entry)) tree.new }
 {
     match path {
         Some(path) => Ok(Some(read_given(alloc, tree, path.as_bytes())?)),
@@ -79,7 +90,7 @@ pub(crate) fn read_named<T: Tree>(
 }
 
 /// The two files of a synchronisation.
-fn read_texts<T: Tree>(
+fn read_texts<T: Reading>(
     alloc: Global,
     tree: &mut T,
     kconfig: &[u8],
@@ -87,6 +98,8 @@ fn read_texts<T: Tree>(
 ) -> Result<Texts, EngineError>
     ensures reads { Reads T.Tree tree.old tree.new (IsErrOf result EngineError.Device) }
     ensures texts { T.is_honest → Answers (inputs.read_texts (T.files tree.old) kconfig.now dotconfig.now) seen_texts result }
+    ensures once { OnOk result (ReadsEach T.reads tree.old (kconfig.now ∷ dotconfig.now ∷ []) tree.new) }
+    ensures no_other { ReadsSome T.reads tree.old (kconfig.now ∷ dotconfig.now ∷ []) tree.new }
 {
     let kconfig = read_given(alloc, tree, kconfig)?;
     let dotconfig = read_given(alloc, tree, dotconfig)?;
@@ -96,7 +109,7 @@ fn read_texts<T: Tree>(
 /// The files that the two words of a synchronisation name. An error is that of `read_given` for the first of the two that
 /// has one, but a word that is no path is told before any file is read.
 #[tactic(auto, unfolding(crate::specs::Inputs::texts_at))]
-pub fn texts_at<T: Tree>(
+pub fn texts_at<T: Reading>(
     alloc: Global,
     tree: &mut T,
     kconfig: &[u8],
@@ -104,6 +117,8 @@ pub fn texts_at<T: Tree>(
 ) -> Result<Texts, EngineError>
     ensures reads { Reads T.Tree tree.old tree.new (IsErrOf result EngineError.Device) }
     ensures texts { T.is_honest → Answers (texts_at (T.files tree.old) kconfig.now dotconfig.now) seen_texts result }
+    ensures once { OnOk result (ReadsEach T.reads tree.old (kconfig.now ∷ dotconfig.now ∷ []) tree.new) }
+    ensures no_other { ReadsSome T.reads tree.old (kconfig.now ∷ dotconfig.now ∷ []) tree.new }
 {
     check_path(kconfig)?;
     check_path(dotconfig)?;
@@ -111,7 +126,7 @@ pub fn texts_at<T: Tree>(
 }
 
 /// The files of a preview, the old auto.conf last.
-fn read_inputs<T: Tree>(
+fn read_inputs<T: Reading>(
     alloc: Global,
     tree: &mut T,
     kconfig: &[u8],
@@ -121,6 +136,8 @@ fn read_inputs<T: Tree>(
     ensures reads { Reads T.Tree tree.old tree.new (IsErrOf result EngineError.Device) }
     ensures inputs { T.is_honest
         → Answers (inputs.read_inputs (T.files tree.old) kconfig.now dotconfig.now (option_map (λ p. p.now) old.entry)) seen_inputs result }
+    ensures once { OnOk result (ReadsEach T.reads tree.old (kconfig.now ∷ dotconfig.now ∷ if_named (option_map (λ p. p.now) old.entry)) tree.new) }
+    ensures no_other { ReadsSome T.reads tree.old (kconfig.now ∷ dotconfig.now ∷ if_named (option_map (λ p. p.now) old.entry)) tree.new }
 {
     let texts = read_texts(alloc, tree, kconfig, dotconfig)?;
     let old = read_named(alloc, tree, old)?;
@@ -130,7 +147,7 @@ fn read_inputs<T: Tree>(
 /// The files that the words of a preview name, in the order of the words, with the errors of `texts_at`. Without an old
 /// auto.conf no third file is looked for.
 #[tactic(auto, unfolding(crate::specs::Inputs::inputs_at))]
-pub fn inputs_at<T: Tree>(
+pub fn inputs_at<T: Reading>(
     alloc: Global,
     tree: &mut T,
     kconfig: &[u8],
@@ -139,6 +156,8 @@ pub fn inputs_at<T: Tree>(
 ) -> Result<Inputs, EngineError>
     ensures reads { Reads T.Tree tree.old tree.new (IsErrOf result EngineError.Device) }
     ensures inputs { T.is_honest → Answers (inputs_at (T.files tree.old) kconfig.now dotconfig.now (option_map (λ p. p.now) old.entry)) seen_inputs result }
+    ensures once { OnOk result (ReadsEach T.reads tree.old (kconfig.now ∷ dotconfig.now ∷ if_named (option_map (λ p. p.now) old.entry)) tree.new) }
+    ensures no_other { ReadsSome T.reads tree.old (kconfig.now ∷ dotconfig.now ∷ if_named (option_map (λ p. p.now) old.entry)) tree.new }
 {
     check_path(kconfig)?;
     check_path(dotconfig)?;

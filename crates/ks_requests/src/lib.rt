@@ -8,6 +8,7 @@ mod json_lines;
 mod laws;
 mod output;
 mod preview;
+mod reading;
 mod refusal;
 mod replies;
 mod request;
@@ -25,6 +26,7 @@ pub use json_lines::write_json_answer;
 pub use laws::{json_lines_are_objects, script_examples, script_lines_are_spelled};
 pub use output::{print, refuse, refuse_at};
 pub use preview::{PreviewError, preview_of, preview_to};
+pub use reading::Reading;
 pub use refusal::Refusal;
 pub use replies::{
     build_status, tell_depfile, tell_recorded, tell_replies, tell_report, write_answer,

@@ -15,24 +15,23 @@ use crate::refusal::Refusal;
 use crate::sites::{Part, Site, excerpt_at};
 use crate::status::{Count, Outcome, exit_status};
 use itoa::Buffer;
-use ks_streams::Stream;
+use ks_streams::{Stream, Writer};
 use ks_tree::Tree;
 use std::alloc::Global;
-use std::io::Write;
 
 /// Prints the line of a text with its place, and tells whether all of it went out.
-fn print_fault_line<E: Write>(err: &mut Stream<E>, name: &[u8], place: &[u8]) -> bool
-    ensures whole { IsTrue result → Prints (codes "confstamp: " ++ (name.now ++ place.now) ++ codes "\n") (state_of E.Write err.old) (state_of E.Write err.new) }
-    ensures broken { result ≡ false → Breaks (codes "confstamp: " ++ (name.now ++ place.now) ++ codes "\n") (state_of E.Write err.old) (state_of E.Write err.new) }
+fn print_fault_line<E: Writer>(err: &mut Stream<E>, name: &[u8], place: &[u8]) -> bool
+    ensures whole { IsTrue result → Prints (codes "confstamp: " ++ (name.now ++ place.now) ++ codes "\n") (state_of E.Writer err.old) (state_of E.Writer err.new) }
+    ensures broken { result ≡ false → Breaks (codes "confstamp: " ++ (name.now ++ place.now) ++ codes "\n") (state_of E.Writer err.old) (state_of E.Writer err.new) }
 {
     err.print(&[b"confstamp: ", name, place, b"\n"])
 }
 
 /// Prints the line of a refusal, and tells whether all of it went out.
 #[tactic(auto, unfolding(crate::specs::Faults::complaint))]
-fn print_complaint<E: Write>(err: &mut Stream<E>, refusal: &Refusal) -> bool
-    ensures whole { IsTrue result → Prints (complaint refusal.now) (state_of E.Write err.old) (state_of E.Write err.new) }
-    ensures broken { result ≡ false → Breaks (complaint refusal.now) (state_of E.Write err.old) (state_of E.Write err.new) }
+fn print_complaint<E: Writer>(err: &mut Stream<E>, refusal: &Refusal) -> bool
+    ensures whole { IsTrue result → Prints (complaint refusal.now) (state_of E.Writer err.old) (state_of E.Writer err.new) }
+    ensures broken { result ≡ false → Breaks (complaint refusal.now) (state_of E.Writer err.old) (state_of E.Writer err.new) }
 {
     let fault = refusal_fault(refusal);
     match fault.place {
@@ -45,7 +44,7 @@ fn print_complaint<E: Write>(err: &mut Stream<E>, refusal: &Refusal) -> bool
 }
 
 /// Prints the line of a site: its path, the part, and what stands there. Tells whether all of it went out.
-fn print_site_line<E: Write>(
+fn print_site_line<E: Writer>(
     err: &mut Stream<E>,
     path: &[u8],
     label: &[u8],
@@ -53,9 +52,9 @@ fn print_site_line<E: Write>(
     text: Option<&[u8]>,
 ) -> bool
     ensures whole { IsTrue result → Prints (codes "  " ++ path.now ++ (label.now ++ number.now) ++ shown (option_map (λ t. t.now) text.entry) ++ codes "\n")
-        (state_of E.Write err.old) (state_of E.Write err.new) }
+        (state_of E.Writer err.old) (state_of E.Writer err.new) }
     ensures broken { result ≡ false → Breaks (codes "  " ++ path.now ++ (label.now ++ number.now) ++ shown (option_map (λ t. t.now) text.entry) ++ codes "\n")
-        (state_of E.Write err.old) (state_of E.Write err.new) }
+        (state_of E.Writer err.old) (state_of E.Writer err.new) }
 {
     match text {
         Some(text) => err.print(&[b"  ", path, label, number, b": ", text, b"\n"]),
@@ -65,9 +64,9 @@ fn print_site_line<E: Write>(
 
 /// Prints where a refusal points, and tells whether all of it went out.
 #[tactic(auto, unfolding(crate::specs::Sites::site_line, crate::specs::Sites::part_label, crate::specs::Faults::counted))]
-fn print_site<E: Write>(err: &mut Stream<E>, site: &Site<'_>, text: Option<&[u8]>) -> bool
-    ensures whole { IsTrue result → Prints (site_line (seen_site site.now) (option_map (λ t. t.now) text.entry)) (state_of E.Write err.old) (state_of E.Write err.new) }
-    ensures broken { result ≡ false → Breaks (site_line (seen_site site.now) (option_map (λ t. t.now) text.entry)) (state_of E.Write err.old) (state_of E.Write err.new) }
+fn print_site<E: Writer>(err: &mut Stream<E>, site: &Site<'_>, text: Option<&[u8]>) -> bool
+    ensures whole { IsTrue result → Prints (site_line (seen_site site.now) (option_map (λ t. t.now) text.entry)) (state_of E.Writer err.old) (state_of E.Writer err.new) }
+    ensures broken { result ≡ false → Breaks (site_line (seen_site site.now) (option_map (λ t. t.now) text.entry)) (state_of E.Writer err.old) (state_of E.Writer err.new) }
 {
     let path = site.path;
     match site.part {
@@ -94,27 +93,34 @@ fn print_site<E: Write>(err: &mut Stream<E>, site: &Site<'_>, text: Option<&[u8]
 }
 
 /// Prints `confstamp: ` and why a command was refused, as well as that goes. The status is 2 also where that fails.
-pub fn refuse<E: Write>(err: &mut Stream<E>, refusal: &Refusal) -> u8
+pub fn refuse<E: Writer>(err: &mut Stream<E>, refusal: &Refusal) -> u8
     ensures status { result ≡ 2 }
-    ensures told { Complains refusal.now [] (state_of E.Write err.old) (state_of E.Write err.new) }
+    ensures told { Complains refusal.now [] (state_of E.Writer err.old) (state_of E.Writer err.new) }
 {
     let _ = print_complaint(err, refusal);
     2
 }
 
-/// Prints where a refusal points, with what stands there as far as the file can be read.
-fn print_found<T: Tree, E: Write>(alloc: Global, tree: &mut T, site: &Site<'_>, err: &mut Stream<E>)
+/// Prints where a refusal points, with what stands there, where the file can be read and has such a part.
+fn print_found<T: Tree, E: Writer>(
+    alloc: Global,
+    tree: &mut T,
+    site: &Site<'_>,
+    err: &mut Stream<E>,
+)
     ensures reads { Reads T.Tree tree.old tree.new ⊥ }
     ensures line { (line : List ℕ) × IsSiteLine T.is_honest (T.files tree.old) (Some (seen_site site.now)) line
-        × PrintsOrBreaks line (state_of E.Write err.old) (state_of E.Write err.new) }
+        × PrintsOrBreaks line (state_of E.Writer err.old) (state_of E.Writer err.new) }
 {
-    let text = excerpt_at(alloc, tree, site);
-    let _ = print_site(err, site, borrowed(&text));
+    let _ = match excerpt_at(alloc, tree, site) {
+        Ok(text) => print_site(err, site, borrowed(&text)),
+        Err(_) => print_site(err, site, None),
+    };
 }
 
 /// Prints why a command was refused, and after it which file that is about and what stands there. The file is read
 /// again once the refusal is told. The status is 2 also where that fails.
-pub fn refuse_at<T: Tree, E: Write>(
+pub fn refuse_at<T: Tree, E: Writer>(
     alloc: Global,
     tree: &mut T,
     site: &Site<'_>,
@@ -124,7 +130,7 @@ pub fn refuse_at<T: Tree, E: Write>(
     ensures status { result ≡ 2 }
     ensures reads { Reads T.Tree tree.old tree.new ⊥ }
     ensures told { (line : List ℕ) × IsSiteLine T.is_honest (T.files tree.old) (Some (seen_site site.now)) line
-        × Complains refusal.now line (state_of E.Write err.old) (state_of E.Write err.new) }
+        × Complains refusal.now line (state_of E.Writer err.old) (state_of E.Writer err.new) }
 {
     if print_complaint(err, refusal) {
         print_found(alloc, tree, site, err);
@@ -133,16 +139,16 @@ pub fn refuse_at<T: Tree, E: Write>(
 }
 
 /// Prints the two numbers of a count, and what is counted.
-fn print_count_line<E: Write>(err: &mut Stream<E>, some: &[u8], all: &[u8], kind: &[u8])
-    ensures { PrintsOrBreaks (some.now ++ (codes " of " ++ all.now) ++ kind.now) (state_of E.Write err.old) (state_of E.Write err.new) }
+fn print_count_line<E: Writer>(err: &mut Stream<E>, some: &[u8], all: &[u8], kind: &[u8])
+    ensures { PrintsOrBreaks (some.now ++ (codes " of " ++ all.now) ++ kind.now) (state_of E.Writer err.old) (state_of E.Writer err.new) }
 {
     let _ = err.print(&[some, b" of ", all, kind]);
 }
 
 /// Prints how many of all objects are of a kind, or which names are unknown, where that is told.
 #[tactic(auto, unfolding(crate::specs::Replies::count_line, crate::specs::Faults::counted))]
-fn print_count<E: Write>(err: &mut Stream<E>, count: &Option<Count>)
-    ensures { CountGoes count.now (state_of E.Write err.old) (state_of E.Write err.new) }
+fn print_count<E: Writer>(err: &mut Stream<E>, count: &Option<Count>)
+    ensures { CountGoes count.now (state_of E.Writer err.old) (state_of E.Writer err.new) }
 {
     match count {
         Some(Count::Stale { stale, all }) => print_count_line(
@@ -166,8 +172,12 @@ fn print_count<E: Write>(err: &mut Stream<E>, count: &Option<Count>)
 
 /// Prints what is to be printed of a command, and answers the exit status. The text goes to `out`, which is seen out, and a
 /// count to `err` as well as that goes. Where the output fails that is told as 51 Output, with the status 2.
-pub fn print<W: Write, E: Write>(outcome: &Outcome, out: &mut Stream<W>, err: &mut Stream<E>) -> u8
-    ensures { Printed [] (Ok outcome.now) (state_of W.Write out.old) (state_of W.Write out.new) (state_of E.Write err.old) (state_of E.Write err.new) result }
+pub fn print<W: Writer, E: Writer>(
+    outcome: &Outcome,
+    out: &mut Stream<W>,
+    err: &mut Stream<E>,
+) -> u8
+    ensures { Printed [] (Ok outcome.now) (state_of W.Writer out.old) (state_of W.Writer out.new) (state_of E.Writer err.old) (state_of E.Writer err.new) result }
 {
     if out.print(&[&outcome.text]) {
         print_count(err, &outcome.count);

@@ -1,11 +1,13 @@
 //! Where a refusal points: which file it is about, the line or the token of it, and what stands there.
 //!
 //! The number of a line is of no use without the name of its file. What stands there is read again once the refusal is
-//! told, and is left out where that fails, so that it never takes the place of the refusal.
-ghost use Rattle.std.specs.Prelude.{◌≡◌, ◌-◌, ℕ, List, Some, IfOk, IfSome, map, option_map, slice_get, string_bytes};
+//! told, and is left out only where the file has no such line, memory is refused, or the file can't be read: so it never takes the
+//! place of the refusal.
+ghost use Rattle.std.specs.Prelude.{◌≡◌, ◌-◌, ℕ, List, Some, IfOk, IfSome, IsErrOf, map, option_map, slice_get, string_bytes};
 ghost use Rattle.ks_symbols.specs.Lines.{lines};
+ghost use Rattle.ks_tree.specs.Files.{IsTooLarge, content};
 ghost use Rattle.ks_tree.specs.Frames.{Reads};
-ghost use Rattle.ks_requests.specs.Sites.{config_site, depfile_site, excerpt, excerpt_at, excerpt_in, record_site, script_site, site_of, source_site, visible};
+ghost use Rattle.ks_requests.specs.Sites.{config_site, depfile_site, excerpt, excerpt_at, excerpt_in, part_text, record_site, script_site, site_of, source_site, visible};
 ghost use Rattle.ks_requests.specs.declared.sites.Part.TheVariants.{Line};
 ghost use Rattle.ks_requests.specs.Views.{seen_site};
 
@@ -15,7 +17,7 @@ use bstr::ByteSlice;
 use ks_engine::EngineError;
 use ks_fixdep::token_at;
 use ks_symbols::SourceError;
-use ks_tree::{Tree, auto_path};
+use ks_tree::{Tree, TreeFault, auto_path};
 use std::alloc::{AllocError, Global};
 
 /// How many bytes of a line or a token are shown.
@@ -209,29 +211,43 @@ fn excerpt(alloc: Global, text: &[u8]) -> Result<Vec<u8>, AllocError>
         .collect(alloc)
 }
 
-/// What stands at a part of a text, where there is such a part and memory for it.
-fn excerpt_in(alloc: Global, part: Part, text: &[u8]) -> Option<Vec<u8>>
-    ensures { IfSome result (λ t. excerpt_in part text.now ≡ Some t.items) }
+/// The line or the token that a part of a text is, where there is such a part.
+fn part_text(part: Part, text: &[u8]) -> Option<&[u8]>
+    ensures { option_map (λ t. t.now) result ≡ part_text part text.now }
 {
-    let found = match part {
+    match part {
         Part::Whole => None,
         Part::Line(number) => line_at(text, number),
         Part::Token(number) => token_at(text, number),
-    };
-    excerpt(alloc, found?).ok()
+    }
 }
 
-/// What stands at a site, where the file can be read.
-pub(crate) fn excerpt_at<T: Tree>(alloc: Global, tree: &mut T, site: &Site<'_>) -> Option<Vec<u8>>
-    ensures reads { Reads T.Tree tree.old tree.new ⊥ }
-    ensures there { T.is_honest → IfSome result (λ t. excerpt_at (T.files tree.old) (seen_site site.now) ≡ Some t.items) }
-    ensures visible { IfSome result (λ t. (bytes : List ℕ) × (t.items ≡ excerpt bytes)) }
+/// What stands at a part of a text, where there is such a part.
+fn excerpt_in(alloc: Global, part: Part, text: &[u8]) -> Result<Option<Vec<u8>>, AllocError>
+    ensures { IfOk result (λ found. option_map (λ t. t.items) found ≡ excerpt_in part text.now) }
+{
+    match part_text(part, text) {
+        Some(found) => Ok(Some(excerpt(alloc, found)?)),
+        None => Ok(None),
+    }
+}
+
+/// What stands at a site, where the file has such a part.
+pub(crate) fn excerpt_at<T: Tree>(
+    alloc: Global,
+    tree: &mut T,
+    site: &Site<'_>,
+) -> Result<Option<Vec<u8>>, TreeFault>
+    ensures reads { Reads T.Tree tree.old tree.new (IsErrOf result TreeFault.Device) }
+    ensures there { T.is_honest → IfOk result (λ found. option_map (λ t. t.items) found ≡ excerpt_at (T.files tree.old) (seen_site site.now)) }
+    ensures visible { IfOk result (λ found. IfSome found (λ t. (bytes : List ℕ) × (t.items ≡ excerpt bytes))) }
+    ensures too_large { T.is_honest → IsErrOf result TreeFault.TooLarge → IsTooLarge (content (T.files tree.old) site.now.path.now) }
 {
     if matches!(site.part, Part::Whole) {
-        return None;
+        return Ok(None);
     }
-    match tree.read(alloc, site.path) {
-        Ok(Some(text)) => excerpt_in(alloc, site.part, &text),
-        _ => None,
+    match tree.read(alloc, site.path)? {
+        Some(text) => Ok(excerpt_in(alloc, site.part, &text)?),
+        None => Ok(None),
     }
 }

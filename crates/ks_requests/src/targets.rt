@@ -7,15 +7,16 @@ ghost use Rattle.ks_tree.specs.Frames.{Reads};
 ghost use Rattle.ks_engine.specs.Refusals.{Answers};
 ghost use Rattle.ks_fixdep.specs.FoundNames.{all_noted};
 ghost use Rattle.ks_requests.specs.Inputs.{given_if_named};
+ghost use Rattle.ks_requests.specs.Readings.{ReadsEach, ReadsSome, if_named};
 ghost use Rattle.ks_requests.specs.Targets.{file_of, targets_in, with_file, words_of};
 
 use crate::inputs::{borrowed_path, read_named};
+use crate::reading::Reading;
 use crate::request::Targets;
 use bstr::ByteSlice;
 use indexmap::IndexSet;
 use ks_engine::EngineError;
 use ks_fixdep::Seed;
-use ks_tree::Tree;
 use std::alloc::{AllocError, Global};
 
 /// Appends the lines of a text that are not empty.
@@ -42,7 +43,7 @@ fn push_words<'a>(words: &'a [String], targets: &mut Vec<&'a [u8]>) -> Result<()
 
 /// The text of the file that may be named, or `None` where none is. An error is that of `read_given`: what the file holds is
 /// not looked at, so it can hold anything.
-pub fn read_targets<T: Tree>(
+pub fn read_targets<T: Reading>(
     alloc: Global,
     tree: &mut T,
     targets: &Targets,
@@ -50,6 +51,8 @@ pub fn read_targets<T: Tree>(
     ensures reads { Reads T.Tree tree.old tree.new (IsErrOf result EngineError.Device) }
     ensures text { T.is_honest → Answers (given_if_named (T.files tree.old) (file_of targets.now)) (option_map (λ v. v.items)) result }
     ensures none { file_of targets.now ≡ None → IfOk result (λ found. found ≡ None) }
+    ensures once { OnOk result (ReadsEach T.reads tree.old (if_named (file_of targets.now)) tree.new) }
+    ensures no_other { ReadsSome T.reads tree.old (if_named (file_of targets.now)) tree.new }
 {
     read_named(alloc, tree, borrowed_path(&targets.from))
 }

@@ -4,7 +4,7 @@ use Rattle.ks_requests.proofs.output.print_fault_line.Goals as goal
 
 pub returns-clause-whole : goal.returns-clause-whole
 returns-clause-whole g c = λ all.
-    subst (λ text. Prints text (state_of g.E.Write c.args.err.now) (state_of g.E.Write c.print.new.self))
+    subst (λ text. Prints text (state_of g.E.Writer c.args.err.now) (state_of g.E.Writer c.print.new.self))
     (fault_pieces (codes "confstamp: ") c.args.name.now c.args.place.now (10 ∷ []))
     (c.print.ensures.whole all)
 

@@ -8,5 +8,5 @@ returns-in-Some-clause-whole g c = grind (arith, common_steps, site_pieces)
 pub returns-in-Some-clause-broken : goal.returns-in-Some-clause-broken
 returns-in-Some-clause-broken g c = λ no.
     rw c.in-Some.is
-    (subst (λ text. Breaks text (state_of g.E.Write c.args.err.now) (state_of g.E.Write c.print.new.self))
+    (subst (λ text. Breaks text (state_of g.E.Writer c.args.err.now) (state_of g.E.Writer c.print.new.self))
     (site_pieces (codes "  ") c.args.path.now c.args.label.now c.args.number.now (codes ": ") c.in-Some.text.now (10 ∷ [])) (c.print.ensures.broken no))

@@ -21,5 +21,5 @@ pub use Rattle.clap.specs.declared.parser.matches.ValueSource.TheVariants.{Comma
 pub use Rattle.ks_requests.specs.declared.request.Request.{Request}
 pub use Rattle.ks_words.specs.CommandLine.{bare_app, command_line_app, taking, usage_app, with_all, word_rule}
 pub use Rattle.ks_words.specs.Laws.{BatchWords, PreviewWords}
-pub use Rattle.ks_words.specs.Words.{IsFaultOf, IsNumberOf, IsRequestOf, IsTold, IsWantOfMemory}
+pub use Rattle.ks_words.specs.Words.{IsFaultOf, IsNumberOf, IsRequestOf, IsTelling, IsTold, IsWantOfMemory, is_no_memory}
 pub use Rattle.ks_words.specs.declared.words.WordsError.{WordsError}

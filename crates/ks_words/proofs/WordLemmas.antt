@@ -1,5 +1,6 @@
 -- What the command line makes of words that begin with no hyphen.
-use Rattle.ks_words.proofs.Prelude.{◌≡◌, ◌≢◌, ◌==◌, inl, inr, ap, sym, subst, ℕ, List, [], ◌∷◌, Option, Some, None, refl, codes, true, false, slice_index, option_map, arith, true≢false, nat_tests, Error, HasKind, IsAmong, Kinds, kind_of, Row, Text, first_of, first_value, is_simple, is_simple_and_free, rows_of, subcommand_name_of, subcommand_of, subcommand_rows_of, takes, IfErr, IsErrAnd, Result, Ok, Err, is_some, same_Some, IsBatchOf, IsPreviewOf, Request, WordsError, IsFaultOf, IsRequestOf, IsTold, IsWantOfMemory, ArgMatches, CommandLine, reading_of, strip_byte, bytes_eq, Found, first_value-rows, clap_on_literals, command_line_app, rules}
+use Rattle.ks_words.proofs.Prelude.{◌≡◌, ◌≢◌, ◌==◌, inl, inr, ap, sym, subst, ◌∙◌, ℕ, List, [], ◌∷◌, Option, Some, None, refl, codes, true, false, slice_index, option_map, arith, true≢false, nat_tests, Error, HasKind, IsAmong, Kinds, kind_of, Row, Text, first_of, first_value, is_simple, is_simple_and_free, rows_of, subcommand_name_of, subcommand_of, subcommand_rows_of, takes, is_some, same_Some, IsBatchOf, IsPreviewOf, Request, WordsError, IsFaultOf, IsRequestOf, IsTelling, IsTold, IsWantOfMemory, is_no_memory, ArgMatches, CommandLine, reading_of, strip_byte, bytes_eq, Found, first_value-rows, clap_on_literals, command_line_app, rules}
+use Rattle.clap.specs.declared.error.kind.ErrorKind.{ErrorKind}
 use Rattle.clap.specs.declared.error.kind.ErrorKind.TheVariants.{OutOfMemory as NoMemory}
 use Rattle.std.specs.Prelude.{IsSomeAnd}
 use Rattle.ks_requests.specs.declared.request.Request.TheVariants as request
@@ -80,17 +81,17 @@ batch_of p (request.Batch s) h = h.1
 batch_of p (request.Stale ts f) h = absurd (h.0 6 [] (omega arith) refl)
 batch_of p r h = absurd (true≢false (ap (λ t. slice_index t 0 == 98) h.0))
 
--- what holds of the error holds where there is an error
-pub err_all : {T E : Type 0} (r : Result T E) (P Q : E → Type 0) → ((e : E) → P e → Q e) → IsErrAnd r P → IfErr r Q
-err_all (Ok x) P Q f h = tt
-err_all (Err e) P Q f h = f e h
-
 -- an error that is told is of a kind of its words
 pub fault_told : (e : Error) (kinds : Kinds) (told : WordsError) → HasKind kinds e → IsTold e told → IsFaultOf kinds told
-fault_told e kinds (words.Refused told) (inl memory) h = absurd (h.1 memory)
-fault_told e kinds (words.Refused told) (inr among) h = subst (λ x. IsAmong (kind_of x) kinds) (sym h.0) among
+fault_told e kinds (words.Refused said) (inl memory) h = absurd (true≢false (sym (ap is_no_memory memory) ∙ h.1))
+fault_told e kinds (words.Refused said) (inr among) h = subst (λ (k : ErrorKind). IsAmong k kinds) (sym h.0) among
 fault_told e kinds words.OutOfMemory has h = tt
 
 pub memory_told : (e : Error) (told : WordsError) → kind_of e ≡ NoMemory → IsTold e told → IsWantOfMemory told
-memory_told e (words.Refused told) memory h = absurd (h.1 memory)
+memory_told e (words.Refused said) memory h = absurd (true≢false (sym (ap is_no_memory memory) ∙ h.1))
 memory_told e words.OutOfMemory memory h = tt
+
+-- .. and has something to see in it
+pub visibly_told : (e : Error) (told : WordsError) → IsTold e told → IsTelling told
+visibly_told e (words.Refused said) h = h.2
+visibly_told e words.OutOfMemory h = tt

@@ -1,6 +1,6 @@
 -- Words of the command line, the requests that they make, and why they make none.
-use Rattle.std.specs.Prelude.{◌≡◌, ◌≢◌, ◌⊎◌, ℕ, Bool, false, List, [], ◌∷◌, bytes_eq, codes, option_map, slice_index, string_bytes, unwrap_or, ⊤, if◌then◌else◌, ◌<◌, ◌^◌, Option, Some, None, map}
-use Rattle.std.specs.List.{All}
+use Rattle.std.specs.Prelude.{◌≡◌, ◌≢◌, ◌⊎◌, ℕ, Bool, false, true, nat_lt, List, [], ◌∷◌, bytes_eq, codes, option_map, slice_index, string_bytes, unwrap_or, ⊤, if◌then◌else◌, ◌<◌, ◌^◌, Option, Some, None, map}
+use Rattle.std.specs.List.{All, list_any}
 use Rattle.std.specs.Option.{option_map_or}
 use Rattle.clap.specs.Words.{IsAmong, Kinds, Row, Text, all_of, first_of, one_of}
 use Rattle.ks_engine.specs.declared.aging.Ages.{Ages}
@@ -33,17 +33,32 @@ IsWantOfMemory OutOfMemory = Unit {0}
 IsWantOfMemory _ = ⊥
 
 -- help, or the version
-abbrev pub IsHelp : ErrorKind → Type 0
-IsHelp kind = (kind ≡ DisplayHelp) ⊎ (kind ≡ DisplayVersion)
+abbrev pub is_help : ErrorKind → Bool
+is_help DisplayHelp = true
+is_help DisplayVersion = true
+is_help kind = false
 
--- An error of `clap` is told as it is, and want of memory as such.
+abbrev pub is_no_memory : ErrorKind → Bool
+is_no_memory NoMemory = true
+is_no_memory kind = false
+
+-- there is something to see in it
+abbrev pub is_visible : List ℕ → Bool
+is_visible text = list_any (nat_lt 32) text
+
+-- An explanation of a mistake, of help or of the version has a text.
+abbrev pub IsTelling : WordsError → Type 0
+IsTelling (Refused said) = is_visible (string_bytes said.text) ≡ true
+IsTelling OutOfMemory = ⊤
+
+-- An error of `clap` is told as one of its kind, but want of memory, or memory is refused for the text.
 abbrev pub IsTold : Error → WordsError → Type 0
-IsTold e (Refused told) = (told ≡ e) × (kind_of e ≢ NoMemory)
-IsTold e OutOfMemory = kind_of e ≡ NoMemory
+IsTold e (Refused said) = (said.kind ≡ kind_of e) × (is_no_memory (kind_of e) ≡ false) × (is_visible (string_bytes said.text) ≡ true)
+IsTold e OutOfMemory = ⊤
 
 -- the error is of one of these kinds, or memory was refused
 abbrev pub IsFaultOf : Kinds → WordsError → Type 0
-IsFaultOf kinds (Refused e) = IsAmong (kind_of e) kinds
+IsFaultOf kinds (Refused said) = IsAmong said.kind kinds
 IsFaultOf kinds OutOfMemory = ⊤
 
 -- the word that stands for this name, and the words that stand for it

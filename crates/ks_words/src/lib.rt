@@ -8,6 +8,6 @@ mod laws;
 mod usage;
 mod words;
 
-pub use explanation::explain;
+pub use explanation::{Explanation, explain};
 pub use laws::{batch_words, preview_words};
 pub use words::{WordsError, request_of};

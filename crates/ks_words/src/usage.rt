@@ -12,7 +12,7 @@ pub(crate) const CALL: &str =
 pub(crate) const NOTES: &str = "\
 Files are looked up in the current folder, or below DIR of -C DIR in front of the command.
 --begin lets a sync begin its numbers again, where files hold some and auto.conf has no generation.
---dialect says in whose words sources and Kconfigs are read: linux, as without it, u-boot or busybox.
+--dialect says in whose words sources and Kconfigs are read: linux, as without it, u-boot, busybox or coreboot.
 --wait tries again for SECONDS seconds where another confstamp is at work in the folder.
 A word that begins with - is taken after --.
 

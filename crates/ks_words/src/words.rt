@@ -1,13 +1,14 @@
 //! What the words after the program's name ask for.
 ghost use Rattle.std.specs.Prelude.{◌≡◌, ℕ, List, [], ◌∷◌, IfErr, IfOk, codes, true, map, None, option_map, string_bytes};
-ghost use Rattle.clap.specs.Words.{fault_of, first_of, found_of, one_of, rows_of, takes};
+ghost use Rattle.clap.specs.Words.{fault_of, first_of, found_of, kind_of, one_of, rows_of, takes};
 ghost use Rattle.clap.specs.Walk.{texts};
 ghost use Rattle.ks_requests.specs.Requests.{IsBatchOf, IsPreviewOf};
 ghost use Rattle.ks_words.specs.CommandLine.{command_line_app};
 ghost use Rattle.ks_words.specs.Meaning.{Makes};
-ghost use Rattle.ks_words.specs.Words.{AreTargets, IsFaultOf, IsPlainWord, IsRequestOf, IsTold, IsWantOfMemory, ages_of, is_set, stamps_of, telling_of, word_at, words_at, form_of, IsNumberOf};
+ghost use Rattle.ks_words.specs.Words.{AreTargets, IsFaultOf, IsPlainWord, IsRequestOf, IsTelling, IsTold, IsWantOfMemory, ages_of, is_no_memory, is_set, stamps_of, telling_of, word_at, words_at, form_of, IsNumberOf};
 
 use crate::command_line::command_line;
+use crate::explanation::Explanation;
 use clap::ArgMatches;
 use clap::error::ErrorKind;
 use ks_engine::Ages;
@@ -18,9 +19,9 @@ use thiserror::Error;
 /// Why the words are no request.
 #[derive(Debug, Drop, Error)]
 pub enum WordsError {
-    /// What `clap` has to say in place of a request: a mistake in the words, help, or the version.
+    /// What is said in place of a request: a mistake in the words, help, or the version.
     #[error("{0}")]
-    Refused(clap::Error),
+    Refused(Explanation),
     #[error("10 OutOfMemory")]
     OutOfMemory,
 }
@@ -33,14 +34,23 @@ impl From<AllocError> for WordsError {
     }
 }
 
-impl From<clap::Error> for WordsError {
-    ghost from_gives = { IsTold };
+/// Whether `clap` was refused memory.
+fn lacks_memory(error: &clap::Error) -> bool
+    ensures { result ≡ is_no_memory (kind_of error.now) }
+{
+    matches!(error.kind(), ErrorKind::OutOfMemory)
+}
 
-    fn from(error: clap::Error) -> WordsError {
-        match error.kind() {
-            ErrorKind::OutOfMemory => WordsError::OutOfMemory,
-            _ => WordsError::Refused(error),
-        }
+/// What an error of `clap` says, unless memory is refused.
+fn refused(alloc: Global, error: &clap::Error) -> WordsError
+    ensures { IsTold error.now result }
+{
+    if lacks_memory(error) {
+        return WordsError::OutOfMemory;
+    }
+    match Explanation::of(alloc, error) {
+        Ok(said) => WordsError::Refused(said),
+        Err(_) => WordsError::OutOfMemory,
     }
 }
 
@@ -294,6 +304,7 @@ pub fn request_of<'a>(alloc: Global, words: &'a [&'a str]) -> Result<Request, Wo
     ensures exact { IfOk result (λ r. Makes (texts words.entry.now) r) }
     ensures taken { IfErr result (λ e. takes command_line_app (texts words.entry.now) ≡ true → IsWantOfMemory e) }
     ensures fault { IfErr result (IsFaultOf (fault_of command_line_app (texts words.entry.now))) }
+    ensures telling { IfErr result IsTelling }
     ensures batch { IfOk result (λ r. (p : List ℕ) → texts words.entry.now ≡ codes "batch" ∷ p ∷ []
         → IsPlainWord p → IsBatchOf p r) }
     ensures preview { IfOk result (λ r. (k d : List ℕ)
@@ -301,7 +312,10 @@ pub fn request_of<'a>(alloc: Global, words: &'a [&'a str]) -> Result<Request, Wo
         → IsPlainWord k → IsPlainWord d → IsPreviewOf k d None r) }
 {
     let command = command_line(alloc)?;
-    let matches = command.try_get_matches_from(words)?;
+    let matches = match command.try_get_matches_from(words) {
+        Ok(matches) => matches,
+        Err(error) => return Err(refused(alloc, &error)),
+    };
     match matches.subcommand() {
         Some((name, inner)) => Ok(request_named(alloc, name, inner)?),
         // `clap` refuses words without a command itself.

@@ -1,15 +1,20 @@
 -- What a read after a refusal leaves.
 use Rattle.ks_commands.proofs.Prelude.{Dialect, ◌≡◌, ◌≢◌, ℕ, List, Option, Some, None, Ok, Err, inl, inr, sym, ap, ◌∙◌, subst, arith, Ghosts, Files, Reads, EngineError, OutOfMemory, Conventions, FollowsDepfile, FollowsStamps, Stamps, FileState, state, TreeState, at, History, Shows, Refusal, Engine, Request, IsSiteLine, Site, excerpt_at, site_of, Continues, Ends, Performs, by_files, KconfigText, rules}
 use Rattle.ks_requests.specs.declared.request.Request.TheVariants as request
+use Rattle.ks_tree.specs.Files.{IsTooLarge, content}
+use Rattle.ks_tree.specs.declared.fault.TreeFault.TheVariants as fault
 use Rattle.ks_commands.specs.Aging.{AgesAsked}
 use Rattle.ks_requests.specs.declared.request.Stamps.TheVariants as stamps
 
 -- what stands there, with the files as they are after they were read
 pub site_line_kept : (honest : Type 0) (old new : Files) (site : Option Site) (line : List ℕ) → (honest → new ≡ old) → IsSiteLine honest old site line
     → IsSiteLine honest new site line
-site_line_kept honest old new (Some site) line same (Some text, there, whole) =
-    (Some text, record { visible = there.visible; there = λ h. ap (λ (f : Files). excerpt_at f site) (same h) ∙ there.there h }, whole)
-site_line_kept honest old new (Some site) line same (None, there, whole) = (None, there, whole)
+site_line_kept honest old new (Some site) line same (Ok text, there, whole) =
+    (Ok text, (λ h. there.0 h ∙ ap (λ (f : Files). excerpt_at f site) (sym (same h)), there.1), whole)
+site_line_kept honest old new (Some site) line same (Err fault.TooLarge, there, whole) =
+    (Err fault.TooLarge, λ h. subst (λ (f : Files). IsTooLarge (content f site.0)) (sym (same h)) (there h), whole)
+site_line_kept honest old new (Some site) line same (Err fault.OutOfMemory, there, whole) = (Err fault.OutOfMemory, there, whole)
+site_line_kept honest old new (Some site) line same (Err fault.Device, there, whole) = (Err fault.Device, there, whole)
 site_line_kept honest old new None line same is = is
 
 -- ---- a read after a refusal

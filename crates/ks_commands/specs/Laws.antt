@@ -1,6 +1,6 @@
 -- Laws of the definitions: what a preview has written, what a refusal leaves, the statuses, when names differ, what runs of the program tell, and what
 -- `age` is for.
-use Rattle.std.specs.Prelude.{◌≡◌, ◌⊎◌, ◌<◌, ◌≤◌, ◌↔◌, ℕ, List, Option, Result, Err, IfOk, Ok, true}
+use Rattle.std.specs.Prelude.{◌≡◌, ◌⊎◌, ◌<◌, ◌≤◌, ◌↔◌, ℕ, List, Option, Result, Err, IfOk, Ok, false, true}
 use Rattle.std.specs.List.{All}
 use Rattle.ks_streams.specs.Streams.{State}
 use Rattle.ks_symbols.specs.declared.dialect.Dialect.{Dialect}
@@ -31,10 +31,10 @@ use Rattle.ks_commands.specs.Differences.{TellsChanges, asks_status}
 use Rattle.ks_commands.specs.Programs.{Chain, ProgramRun, ProgramTellsChanges, changes_told}
 use Rattle.ks_commands.specs.Scripts.{IsGivenUpRefusal}
 
--- A preview is done or refused, leaves the files as they are, and once done it has printed what is said of these words.
+-- A preview is done or refused, leaves the files as they are, and once done it has printed what is said of these words, to whoever reads it.
 pub record IsPreviewed (dialect : Dialect) (k d : List ℕ) (o : Option (List ℕ)) (old new : Files) (before after : State) (status : ℕ) : Type 0 where
   pub answered : (status ≡ 0) ⊎ (status ≡ 2)
-  pub written : status ≡ 0 → WritesPreview dialect old k d o before.bytes after.bytes
+  pub written : status ≡ 0 → after.is_unread ≡ false → WritesPreview dialect old k d o before.bytes after.bytes
   pub unchanged : new ≡ old
 
 abbrev pub PreviewsArePerformed : Type 0

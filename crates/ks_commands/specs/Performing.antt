@@ -1,5 +1,5 @@
 -- What the program does with its words.
-use Rattle.std.specs.Prelude.{◌≡◌, ◌⊎◌, ℕ, List, [], Result, Ok, Err, true}
+use Rattle.std.specs.Prelude.{◌≡◌, ℕ, List, [], Result, Ok, Err, true}
 use Rattle.clap.specs.Words.{Text, fault_of, takes}
 use Rattle.ks_streams.specs.Streams.{State}
 use Rattle.ks_symbols.specs.declared.dialect.Dialect.{Dialect}
@@ -12,18 +12,20 @@ use Rattle.ks_requests.specs.Sites.{IsSiteLine, ending_site}
 use Rattle.ks_commands.specs.Performed.{Performs}
 use Rattle.ks_words.specs.CommandLine.{command_line_app}
 use Rattle.ks_words.specs.Meaning.{Explains, Makes}
-use Rattle.ks_words.specs.Words.{IsFaultOf, IsWantOfMemory}
+use Rattle.ks_words.specs.Words.{IsFaultOf, IsTelling, IsWantOfMemory}
 use Rattle.ks_words.specs.declared.words.WordsError.{WordsError}
+use Rattle.ks_words.specs.declared.words.WordsError.TheVariants as why
 
 -- The words make this request; or they make none for this reason, or memory was refused.
 abbrev pub IsAskedBy : List Text → Result Request WordsError → Type 0
 IsAskedBy words (Ok request) = Makes words request
-IsAskedBy words (Err e) = (takes command_line_app words ≡ true → IsWantOfMemory e) × IsFaultOf (fault_of command_line_app words) e
+IsAskedBy words (Err e) = (takes command_line_app words ≡ true → IsWantOfMemory e) × IsFaultOf (fault_of command_line_app words) e × IsTelling e
 
--- Memory was refused, or the words are explained.
-abbrev pub Refuses : List Text → State → State → State → State → ℕ → Type 0
-Refuses words before after err_before err_after status =
-    Printed [] (Err (Engine OutOfMemory)) before after err_before err_after status ⊎ Explains words before after err_before err_after status
+-- What is said of the words is printed; or memory was refused for them, and that is told.
+abbrev pub Refuses : List Text → WordsError → State → State → State → State → ℕ → Type 0
+Refuses asked (why.Refused said) before after err_before err_after status = Explains asked said before after err_before err_after status
+Refuses asked why.OutOfMemory before after err_before err_after status =
+    Printed [] (Err (Engine OutOfMemory)) before after err_before err_after status
 
 -- A request was performed, and a refusal told with where it points. Where there is none the tree is as before, and all words that make none for
 -- this reason are explained, or memory was refused for them.
@@ -33,4 +35,4 @@ Executes tree dialect (Ok request) old new before after err_before err_after sta
     × (following : List ℕ) × IsSiteLine tree.is_honest (tree.files new) (ending_site request ended) following
     × Printed following ended before after err_before err_after status
 Executes tree dialect (Err e) old new before after err_before err_after status =
-    (new ≡ old) × ((words : List Text) → IsAskedBy words (Err e) → Refuses words before after err_before err_after status)
+    (new ≡ old) × ((words : List Text) → IsAskedBy words (Err e) → Refuses words e before after err_before err_after status)

@@ -2,7 +2,7 @@
 //!
 //! The whole text of a command is made here, before `execute` prints its first byte, so that a command that is refused as a
 //! whole writes nothing to the output.
-ghost use Rattle.std.specs.Prelude.{◌≡◌, Err, IfOk, option_map};
+ghost use Rattle.std.specs.Prelude.{◌≡◌, ◌∷◌, Err, IfOk, option_map};
 ghost use Rattle.ks_tree.specs.Files.{HasRisen};
 ghost use Rattle.ks_tree.specs.Frames.{Reads};
 ghost use Rattle.ks_engine.specs.FileRuns.{state};
@@ -10,6 +10,7 @@ ghost use Rattle.ks_engine.specs.Follows.{GoesOn};
 ghost use Rattle.ks_engine.specs.declared.error.EngineError.TheVariants.{Device};
 ghost use Rattle.ks_requests.specs.declared.refusal.Refusal.TheVariants.{Engine};
 ghost use Rattle.ks_requests.specs.declared.status.Status.TheVariants.{Done};
+ghost use Rattle.ks_requests.specs.Readings.{ReadsSome, if_named};
 ghost use Rattle.ks_requests.specs.Requests.{IsNoQuestion};
 ghost use Rattle.ks_commands.specs.Aging.{AgesAsked};
 ghost use Rattle.ks_commands.specs.Performed.{Continues, Counts, Ends, EndsFixdep, EndsPreview, by_files};
@@ -23,13 +24,15 @@ use crate::fixdep::command_file_text;
 use crate::questions::{ask_after, ask_targets, outdated_target};
 use crate::users::tell_users;
 use ks_engine::Question;
-use ks_requests::{Outcome, Refusal, Request, borrowed, borrowed_path, inputs_at, preview_of};
+use ks_requests::{
+    Outcome, Reading, Refusal, Request, borrowed, borrowed_path, inputs_at, preview_of,
+};
 use ks_symbols::{Dialect, Kconfig};
 use ks_tree::{Aging, Tree};
 use std::alloc::Global;
 
-/// What a synchronisation would do.
-fn preview<T: Tree>(
+/// What a synchronisation would do. The files of the words are read for it, and no other one.
+fn preview<T: Reading>(
     alloc: Global,
     tree: &mut T,
     dialect: Dialect,
@@ -40,6 +43,7 @@ fn preview<T: Tree>(
     ensures done { IfOk result (λ o. o.status ≡ Done) }
     ensures reads { Reads T.Tree tree.old tree.new (result ≡ Err (Engine Device)) }
     ensures told { T.is_honest → EndsPreview dialect (T.files tree.old) kconfig.now dotconfig.now (option_map (λ p. p.now) old.entry) result }
+    ensures no_other { ReadsSome T.reads tree.old (kconfig.now ∷ dotconfig.now ∷ if_named (option_map (λ p. p.now) old.entry)) tree.new }
 {
     let inputs = inputs_at(alloc, tree, kconfig, dotconfig, old)?;
     let texts = &inputs.texts;

@@ -11,32 +11,30 @@ ghost use Rattle.ks_commands.specs.Performing.{Executes, IsAskedBy, Refuses};
 use crate::performing::outcome;
 use ks_engine::EngineError;
 use ks_requests::{Refusal, Request, print, refuse, refuse_at, site_of};
-use ks_streams::Stream;
+use ks_streams::{Stream, Writer};
 use ks_symbols::Dialect;
 use ks_tree::Aging;
 use ks_words::{WordsError, explain};
 use std::alloc::Global;
-use std::io::Write;
 
 /// Tells why words make no request.
-fn tell_why<W: Write, E: Write>(
-    alloc: Global,
+fn tell_why<W: Writer, E: Writer>(
     error: &WordsError,
     out: &mut Stream<W>,
     err: &mut Stream<E>,
 ) -> u8
-    ensures { (words : List Text) → IsAskedBy words (Err error.now) → Refuses words
-        (state_of W.Write out.old) (state_of W.Write out.new) (state_of E.Write err.old) (state_of E.Write err.new) result }
+    ensures { (words : List Text) → IsAskedBy words (Err error.now) → Refuses words error.now
+        (state_of W.Writer out.old) (state_of W.Writer out.new) (state_of E.Writer err.old) (state_of E.Writer err.new) result }
 {
     match error {
-        WordsError::Refused(error) => explain(alloc, error, out, err),
+        WordsError::Refused(said) => explain(said, out, err),
         WordsError::OutOfMemory => refuse(err, &Refusal::Engine(EngineError::OutOfMemory)),
     }
 }
 
 /// Runs the command that the words after the program's name ask for, and answers the exit status: 0 done and nothing stale,
 /// 1 something stale or built by another command, 2 something refused. Sources and Kconfigs are read in the dialect.
-pub fn execute<T: Aging, W: Write, E: Write>(
+pub fn execute<T: Aging, W: Writer, E: Writer>(
     alloc: Global,
     tree: &mut T,
     dialect: Dialect,
@@ -46,11 +44,11 @@ pub fn execute<T: Aging, W: Write, E: Write>(
 ) -> u8
     // Their request was performed; or they make none, and the tree is as before.
     ensures { Executes T.Tree dialect asked.now tree.old tree.new
-        (state_of W.Write out.old) (state_of W.Write out.new) (state_of E.Write err.old) (state_of E.Write err.new) result }
+        (state_of W.Writer out.old) (state_of W.Writer out.new) (state_of E.Writer err.old) (state_of E.Writer err.new) result }
 {
     let request = match asked {
         Ok(request) => request,
-        Err(error) => return tell_why(alloc, error, out, err),
+        Err(error) => return tell_why(error, out, err),
     };
     match outcome(alloc, tree, dialect, request) {
         Ok(outcome) => print(&outcome, out, err),

@@ -1,51 +1,28 @@
 //! An output that fails: the command's work on the tree stays done, the refusal is told where that goes, and the
 //! status is 2 also where it doesn't.
 use crate::golden::{AUTO, COMMAND_FILE};
-use crate::steps::{Step, play, run_over, shown, world};
+use crate::steps::{Step as Told, play, ready, run_over, shown, world};
 use ks_commands::execute;
-use ks_streams::Stream;
+use ks_streams::{Scripted, Step, Stream, WriteFault};
 use ks_symbols::Dialect;
 use ks_words::request_of;
-use std::alloc::Global;
-use std::io;
-use std::io::{ErrorKind, Write};
+use std::alloc::{AllocError, Global};
 use std::process::Abort;
 use std::test::Fail;
 
-/// Takes one byte a call, and fails at its last call and each one after.
-#[derive(Drop)]
-struct Failing {
-    taken: Vec<u8>,
-    passes: usize,
-}
-
-impl Failing {
-    /// A step of the writer, unless it fails there.
-    fn pass(&mut self) -> io::Result<()> {
-        if self.passes == 0 {
-            return Err(io::Error::from(ErrorKind::Other));
-        }
-        self.passes -= 1;
-        Ok(())
+/// Takes one byte a call, so many times, and then does what this step says.
+fn one_by_one(alloc: Global, calls: usize, last: Step) -> Result<Stream<Scripted>, AllocError> {
+    let mut script = Vec::new(alloc);
+    for _ in 0..calls {
+        script.push(Step::Take(1))?;
     }
-}
-
-impl Write for Failing {
-    fn write(&mut self, bytes: &[u8]) -> io::Result<usize> {
-        self.pass()?;
-        let count = bytes.len().min(1);
-        self.taken.extend_from_slice(&bytes[..count])?;
-        Ok(count)
-    }
-
-    fn flush(&mut self) -> io::Result<()> {
-        self.pass()
-    }
+    script.push(last)?;
+    Ok(Stream::new(Scripted::new(Vec::new(alloc), script)))
 }
 
 /// A command, what was done before it, and a file of the tree as it stands after it.
 struct Case<'a> {
-    before: &'a [(Step<'a>, &'a str)],
+    before: &'a [(Told<'a>, &'a str)],
     words: &'a [&'a str],
     path: &'a str,
     holds: &'a str,
@@ -63,9 +40,8 @@ fn calls_made(rt: &impl Abort, alloc: Global, case: &Case<'_>) -> Result<usize, 
 fn break_off(rt: &impl Abort, alloc: Global, case: &Case<'_>, passes: usize) -> Result<(), Fail> {
     let mut tree = world(rt, alloc)?;
     play(rt, alloc, &mut tree, case.before)?;
-    let taken = Vec::new(alloc);
-    let mut out = Stream::new(Failing { taken, passes });
-    let mut err: Stream<Vec<u8>> = Stream::new(Vec::new(alloc));
+    let mut out = one_by_one(alloc, passes, Step::Refuse(WriteFault::Failed))?;
+    let mut err = ready(alloc);
     let status = execute(
         alloc,
         &mut tree,
@@ -77,9 +53,9 @@ fn break_off(rt: &impl Abort, alloc: Global, case: &Case<'_>, passes: usize) -> 
     let words = case.words;
     let place = format!(in alloc; "{passes} {words:?}")?;
     assert_eq!(rt; status, 2, "{place}");
-    assert_eq!(rt; out.into_writer().taken.len(), passes, "{place}");
+    assert_eq!(rt; out.into_writer().into_bytes().len(), passes, "{place}");
     assert_eq!(rt;
-        err.into_writer().as_slice(),
+        err.into_writer().into_bytes().as_slice(),
         b"confstamp: 51 Output\n".as_slice(),
         "{place}"
     );
@@ -89,9 +65,9 @@ fn break_off(rt: &impl Abort, alloc: Global, case: &Case<'_>, passes: usize) -> 
 }
 
 #[rattlefmt::skip]
-const SYNCED: &[(Step<'_>, &str)] = &[(Step::Words(&["sync", "K1", "c1"]), "0 generation 1\ntouch A\ntouch B\nunknown 0\n")];
+const SYNCED: &[(Told<'_>, &str)] = &[(Told::Words(&["sync", "K1", "c1"]), "0 generation 1\ntouch A\ntouch B\nunknown 0\n")];
 
-const SCRIPT: &[(Step<'_>, &str)] = &[(Step::Put("script", "sync K1 c1\nstale x.o\n"), "done")];
+const SCRIPT: &[(Told<'_>, &str)] = &[(Told::Put("script", "sync K1 c1\nstale x.o\n"), "done")];
 
 const AUTO_PATH: &str = "include/config/auto.conf";
 
@@ -123,16 +99,47 @@ fn both_outputs_that_fail(rt: HostRuntime) -> Result<(), Fail> {
     let asked = request_of(alloc, &["sync", "K1", "c1"]);
     for passes in 0..40 {
         let mut tree = world(&rt, alloc)?;
-        let mut out = Stream::new(Failing {
-            taken: Vec::new(alloc),
-            passes,
-        });
-        let mut err = Stream::new(Failing {
-            taken: Vec::new(alloc),
-            passes: passes / 2,
-        });
+        let mut out = one_by_one(alloc, passes, Step::Refuse(WriteFault::Failed))?;
+        let mut err = one_by_one(alloc, passes / 2, Step::Refuse(WriteFault::Failed))?;
         let status = execute(alloc, &mut tree, Dialect::Linux, &asked, &mut out, &mut err);
         assert_eq!(rt; status, 2, "{passes}");
+    }
+    Ok(())
+}
+
+/// What a command says over two outputs with the same script.
+fn said(rt: &impl Abort, alloc: Global, words: &[&str], script: &[Step]) -> Result<String, Fail> {
+    let mut tree = world(rt, alloc)?;
+    play(rt, alloc, &mut tree, SYNCED)?;
+    let mut out = Stream::new(Scripted::new(Vec::new(alloc), Vec::from_slice(alloc, script)?));
+    let mut err = Stream::new(Scripted::new(Vec::new(alloc), Vec::from_slice(alloc, script)?));
+    let asked = request_of(alloc, words);
+    let status = execute(alloc, &mut tree, Dialect::Linux, &asked, &mut out, &mut err);
+    let unread = out.is_unread();
+    let out = String::from_utf8(out.into_writer().into_bytes())?;
+    let err = String::from_utf8(err.into_writer().into_bytes())?;
+    Ok(format!(in alloc; "{status} {unread} {out}{err}")?)
+}
+
+const SIGNAL: Step = Step::Refuse(WriteFault::Interrupted);
+
+#[rattlefmt::skip]
+const ANSWERS: &[(&str, &[Step], &str)] = &[
+    ("all at once", &[], "0 false generation 2\nunknown 0\n"),
+    ("three bytes a call", &[Step::Take(3)], "0 false generation 2\nunknown 0\n"),
+    ("a signal before each call", &[SIGNAL, Step::Take(1)], "0 false generation 2\nunknown 0\n"),
+    ("some signals, and none of the bytes asked for", &[SIGNAL, SIGNAL, SIGNAL, Step::Take(0)], "0 false generation 2\nunknown 0\n"),
+    ("signals alone", &[SIGNAL], "2 false "),
+    ("a reader who goes", &[Step::Take(7), Step::Refuse(WriteFault::NoReader)], "0 true generat"),
+    ("no reader", &[Step::Refuse(WriteFault::NoReader)], "0 true "),
+    ("a failure after a part", &[Step::Take(7), Step::Refuse(WriteFault::Failed)], "2 false generatconfsta"),
+];
+
+#[test]
+fn answers_of_an_output(rt: HostRuntime) -> Result<(), Fail> {
+    for (place, script, want) in ANSWERS {
+        let found = said(&rt, rt.alloc(), &["sync", "K1", "c1"], script)?;
+        assert_eq!(rt; found.as_str(), *want, "{place}");
     }
     Ok(())
 }

@@ -1,7 +1,7 @@
 //! Worked examples over a tree in memory: tables of words, and of the status and all that is printed.
 use crate::golden;
 use ks_commands::execute;
-use ks_streams::Stream;
+use ks_streams::{Scripted, Stream};
 use ks_symbols::Dialect;
 use ks_tree::{AgedTree, Aging, MemoryTree, Tree};
 use ks_words::request_of;
@@ -29,18 +29,23 @@ pub(crate) struct Run {
     pub(crate) err: String,
 }
 
+/// A stream in memory that takes all.
+pub(crate) fn ready(alloc: Global) -> Stream<Scripted> {
+    Stream::new(Scripted::new(Vec::new(alloc), Vec::new(alloc)))
+}
+
 pub(crate) fn run_over<'a, T: Aging>(
     alloc: Global,
     tree: &mut T,
     dialect: Dialect,
     words: &'a [&'a str],
 ) -> Result<Run, Fail> {
-    let mut out: Stream<Vec<u8>> = Stream::new(Vec::new(alloc));
-    let mut err: Stream<Vec<u8>> = Stream::new(Vec::new(alloc));
+    let mut out = ready(alloc);
+    let mut err = ready(alloc);
     let asked = request_of(alloc, words);
     let status = execute(alloc, tree, dialect, &asked, &mut out, &mut err);
-    let out = String::from_utf8(out.into_writer())?;
-    let err = String::from_utf8(err.into_writer())?;
+    let out = String::from_utf8(out.into_writer().into_bytes())?;
+    let err = String::from_utf8(err.into_writer().into_bytes())?;
     Ok(Run { status, out, err })
 }
 

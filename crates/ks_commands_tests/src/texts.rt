@@ -1,8 +1,8 @@
 //! From texts to texts, without the words of a command line: what previews print, and why there is none; what differs from
 //! auto.conf; and scripts whose lines name files more than once.
+use crate::steps::ready;
 use ks_commands::execute;
 use ks_requests::{PreviewError, Request, Telling, preview_to};
-use ks_streams::Stream;
 use ks_symbols::{Dialect, Kconfig, SourceError};
 use ks_tree::{AgedTree, MemoryTree};
 use std::alloc::{AllocError, Global};
@@ -128,8 +128,8 @@ fn batch(alloc: Global, script: &[u8]) -> Result<String, AllocError> {
         )?;
     }
     let mut tree = AgedTree::new(alloc, tree);
-    let mut out: Stream<Vec<u8>> = Stream::new(Vec::new(alloc));
-    let mut err: Stream<Vec<u8>> = Stream::new(Vec::new(alloc));
+    let mut out = ready(alloc);
+    let mut err = ready(alloc);
     let request = Request::Batch {
         script: "S".to_string(alloc)?,
     };
@@ -141,8 +141,8 @@ fn batch(alloc: Global, script: &[u8]) -> Result<String, AllocError> {
         &mut out,
         &mut err,
     );
-    let mut out = out.into_writer();
-    out.extend_from_slice(&err.into_writer())?;
+    let mut out = out.into_writer().into_bytes();
+    out.extend_from_slice(&err.into_writer().into_bytes())?;
     format!(in alloc; "{status}\n{}", String::from_utf8_lossy(alloc, &out)?)
 }
 
@@ -190,8 +190,8 @@ fn diff(
         }
     }
     let mut tree = AgedTree::new(alloc, tree);
-    let mut out: Stream<Vec<u8>> = Stream::new(Vec::new(alloc));
-    let mut err: Stream<Vec<u8>> = Stream::new(Vec::new(alloc));
+    let mut out = ready(alloc);
+    let mut err = ready(alloc);
     let request = Request::Diff {
         kconfig: "K".to_string(alloc)?,
         dotconfig: "c".to_string(alloc)?,
@@ -205,8 +205,8 @@ fn diff(
         &mut out,
         &mut err,
     );
-    let mut out = out.into_writer();
-    out.extend_from_slice(&err.into_writer())?;
+    let mut out = out.into_writer().into_bytes();
+    out.extend_from_slice(&err.into_writer().into_bytes())?;
     format!(in alloc; "{status}\n{}", String::from_utf8_lossy(alloc, &out)?)
 }
 

@@ -14,4 +14,5 @@ dialect_named name =
     if bytes_eq name (codes "linux") then Some dialect.Linux
     else (if bytes_eq name (codes "u-boot") then Some dialect.UBoot
     else (if bytes_eq name (codes "busybox") then Some dialect.BusyBox
-    else None))
+    else (if bytes_eq name (codes "coreboot") then Some dialect.Coreboot
+    else None)))

@@ -56,3 +56,8 @@ abbrev pub AreLocked : Result Request WordsError → Option Access → Type 0
 AreLocked (Ok request) (Some access) = IsAccessOf request access
 AreLocked (Ok request) None = ⊥
 AreLocked (Err e) found = found ≡ None
+
+-- The script of a `batch` is read, once, and nothing else is asked of the tree. What one reading does is the tree's to say.
+abbrev pub LooksAtScript : {T : Type 0} → (T → List ℕ → T → Type 0) → Result Request WordsError → T → T → Type 0
+LooksAtScript reads (Ok (request.Batch script)) old new = reads old (string_bytes script) new
+LooksAtScript reads asked old new = new ≡ old

@@ -73,6 +73,7 @@ fn dialect_named(name: &str) -> Option<Dialect>
         "linux" => Some(Dialect::Linux),
         "u-boot" => Some(Dialect::UBoot),
         "busybox" => Some(Dialect::BusyBox),
+        "coreboot" => Some(Dialect::Coreboot),
         _ => None,
     }
 }

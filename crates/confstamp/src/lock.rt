@@ -1,20 +1,20 @@
 //! One writer at a time: a lock on the folder that the program works in, which makes no file. Without it two synchronisations
 //! at once could leave the header of one beside the auto.conf of the other, and objects would be called fresh wrongly. Where
 //! the file system knows no locks, or the folder can't be opened, the program goes on without.
-ghost use Rattle.std.specs.Prelude.{◌≡◌, None, IfOk, IfSome, map};
+ghost use Rattle.std.specs.Prelude.{◌≡◌, None, Ok, IfOk, IfSome, map};
 ghost use Rattle.std.specs.List.{list_any};
 ghost use Rattle.ks_requests.specs.Script.{seen_line};
 ghost use Rattle.ks_tree.specs.Frames.{Reads};
-ghost use Rattle.confstamp.specs.Lock.{AreLocked, IsAccessOf, IsLookedAt, IsScriptAccess, is_sync, lock_for, text_syncs};
+ghost use Rattle.confstamp.specs.Lock.{AreLocked, IsAccessOf, IsLookedAt, IsScriptAccess, LooksAtScript, is_sync, lock_for, text_syncs};
 
-use ks_requests::{Request, ScriptError, ScriptLine, read_script};
-use ks_tree::{Tree, TreeFault};
+use crate::start::Locking;
+use ks_requests::{Reading, Request, ScriptError, ScriptLine, read_script};
+use ks_tree::TreeFault;
 use ks_words::WordsError;
 use std::alloc::{AllocError, Global};
 use std::fs::{File, TryLockError};
-use std::io::ErrorKind;
+use std::thread;
 use std::time::Duration;
-use std::{io, thread};
 
 /// How often in a second a lock that another program has is tried again.
 const TRIES_A_SECOND: u64 = 20;
@@ -74,12 +74,17 @@ fn script_lock(alloc: Global, text: &[u8]) -> Result<FolderLock, AllocError>
 
 /// The access that a script needs. One that the system doesn't give is taken for a synchronisation, since it may be there
 /// by the time that it is run; that there is none is held as a text is.
-fn script_access<T: Tree>(alloc: Global, tree: &mut T, script: &str) -> Result<Access, AllocError>
+fn script_access<T: Reading>(
+    alloc: Global,
+    tree: &mut T,
+    script: &str,
+) -> Result<Access, AllocError>
     ensures reads { Reads T.Tree tree.old tree.new ⊥ }
     ensures looked_at { T.is_honest → IfOk result (λ access. IfSome access.script (IsLookedAt (T.files tree.old))) }
     ensures lock { IfOk result (IsScriptAccess script.now) }
+    ensures once { T.reads tree.old script.now tree.new }
 {
-    let found = match tree.read(alloc, script.as_bytes()) {
+    let found = match tree.read_file(alloc, script.as_bytes()) {
         Ok(found) => found,
         Err(TreeFault::OutOfMemory) => return Err(AllocError),
         Err(_) => return Ok(Access::with_nothing_held(FolderLock::Exclusive)),
@@ -96,7 +101,7 @@ fn script_access<T: Tree>(alloc: Global, tree: &mut T, script: &str) -> Result<A
 }
 
 /// The access that the request needs.
-fn request_access<T: Tree>(
+fn request_access<T: Reading>(
     alloc: Global,
     tree: &mut T,
     request: &Request,
@@ -104,6 +109,7 @@ fn request_access<T: Tree>(
     ensures reads { Reads T.Tree tree.old tree.new ⊥ }
     ensures looked_at { T.is_honest → IfOk result (λ access. IfSome access.script (IsLookedAt (T.files tree.old))) }
     ensures lock { IfOk result (IsAccessOf request.now) }
+    ensures once { LooksAtScript T.reads (Ok request.now) tree.old tree.new }
 {
     match request {
         Request::Sync { .. } => Ok(Access::with_nothing_held(FolderLock::Exclusive)),
@@ -113,7 +119,7 @@ fn request_access<T: Tree>(
 }
 
 /// The access that what was asked for needs, or `None` where the words make no request, which is told later.
-pub(crate) fn access_of<T: Tree>(
+pub(crate) fn access_of<T: Reading>(
     alloc: Global,
     tree: &mut T,
     asked: &Result<Request, WordsError>,
@@ -121,6 +127,7 @@ pub(crate) fn access_of<T: Tree>(
     ensures reads { Reads T.Tree tree.old tree.new ⊥ }
     ensures looked_at { T.is_honest → IfOk result (λ found. IfSome found (λ access. IfSome access.script (IsLookedAt (T.files tree.old)))) }
     ensures lock { IfOk result (AreLocked asked.now) }
+    ensures once { LooksAtScript T.reads asked.now tree.old tree.new }
 {
     match asked {
         Ok(request) => Ok(Some(request_access(alloc, tree, request)?)),
@@ -157,23 +164,20 @@ fn try_folder_for(
 }
 
 /// The folder, or the current one for an empty path, locked as long as it is open; another program in the way is waited for, as
-/// many seconds as are given. An error of the kind `WouldBlock` says that it still is.
+/// many seconds as are given.
 pub(crate) fn lock_folder(
     rt: &HostRuntime,
     folder: &str,
-    lock: Option<FolderLock>,
+    lock: FolderLock,
     seconds: u64,
-) -> io::Result<Option<File>> {
-    let Some(lock) = lock else {
-        return Ok(None);
-    };
+) -> Locking<File> {
     let path = if folder.is_empty() { "." } else { folder };
     let Ok(folder) = File::open(rt, path) else {
-        return Ok(None);
+        return Locking::Had(None);
     };
     match try_folder_for(rt, &folder, lock, seconds) {
-        Ok(()) => Ok(Some(folder)),
-        Err(TryLockError::WouldBlock) => Err(io::Error::from(ErrorKind::WouldBlock)),
-        Err(TryLockError::Error(_)) => Ok(None),
+        Ok(()) => Locking::Had(Some(folder)),
+        Err(TryLockError::WouldBlock) => Locking::Busy,
+        Err(TryLockError::Error(_)) => Locking::Had(None),
     }
 }

@@ -5,18 +5,17 @@
 //! What can't be read is passed over: the command that needs it tells it. So is a folder that is the top of another tree, whose
 //! numbers are its own.
 use crate::folder::below;
-use crate::numbers::{begins_anew, holds_number, is_another_tree};
+use crate::numbers::{holds_number, is_another_tree};
 use ks_engine::EngineError;
-use ks_tree::FolderTree;
-use std::alloc::Global;
-use std::io::ErrorKind;
-use std::{fs, io};
+use ks_system::{Host, SystemTree};
+use std::alloc::{AllocError, Global};
+use std::fs;
 
 /// What was answered, or nothing where it can't be read.
-fn unless_unread<V: Drop>(answer: Result<V, EngineError>) -> io::Result<Option<V>> {
+fn unless_unread<V: Drop>(answer: Result<V, EngineError>) -> Result<Option<V>, AllocError> {
     match answer {
         Ok(value) => Ok(Some(value)),
-        Err(EngineError::OutOfMemory) => Err(io::Error::from(ErrorKind::OutOfMemory)),
+        Err(EngineError::OutOfMemory) => Err(AllocError),
         Err(_) => Ok(None),
     }
 }
@@ -24,10 +23,10 @@ fn unless_unread<V: Drop>(answer: Result<V, EngineError>) -> io::Result<Option<V
 /// Notes a folder to be looked at, unless it is the top of another tree.
 fn note_folder(
     alloc: Global,
-    tree: &mut FolderTree<&HostRuntime>,
+    tree: &mut SystemTree<Host<&HostRuntime>>,
     folder: String,
     folders: &mut Vec<String>,
-) -> io::Result<()> {
+) -> Result<(), AllocError> {
     if unless_unread(is_another_tree(alloc, tree, folder.as_str()))? != Some(true) {
         folders.push(folder)?;
     }
@@ -37,11 +36,11 @@ fn note_folder(
 /// The path of a file in one folder of the tree that holds a number. The folders in it are noted; links are not followed.
 fn find_in(
     rt: &HostRuntime,
-    tree: &mut FolderTree<&HostRuntime>,
+    tree: &mut SystemTree<Host<&HostRuntime>>,
     root: &str,
     folder: &str,
     folders: &mut Vec<String>,
-) -> io::Result<Option<String>> {
+) -> Result<Option<String>, AllocError> {
     let alloc = rt.alloc();
     let place = below(alloc, root, folder)?;
     let place = if place.is_empty() {
@@ -68,11 +67,11 @@ fn find_in(
 }
 
 /// The path of a file of the tree that holds a number.
-fn find_number(
+pub(crate) fn find_number(
     rt: &HostRuntime,
-    tree: &mut FolderTree<&HostRuntime>,
+    tree: &mut SystemTree<Host<&HostRuntime>>,
     root: &str,
-) -> io::Result<Option<String>> {
+) -> Result<Option<String>, AllocError> {
     let alloc = rt.alloc();
     let mut folders: Vec<String> = Vec::new(alloc);
     let mut folder = String::new(alloc);
@@ -85,18 +84,6 @@ fn find_number(
             Some(next) => folder = next,
             None => return Ok(None),
         }
-    }
-    Ok(None)
-}
-
-/// The path of a file that holds a number, where a synchronisation would begin them anew.
-pub(crate) fn lost_number(
-    rt: &HostRuntime,
-    tree: &mut FolderTree<&HostRuntime>,
-    root: &str,
-) -> io::Result<Option<String>> {
-    if unless_unread(begins_anew(rt.alloc(), tree))? == Some(true) {
-        return find_number(rt, tree, root);
     }
     Ok(None)
 }

@@ -3,25 +3,25 @@
 
 mod folder;
 mod front;
+mod host;
 mod lock;
 mod lost_numbers;
 mod numbers;
-mod pipe;
+mod standard;
+mod start;
 
-use folder::is_folder;
-use front::{Fault, Front, Invocation, Settings, take_front};
+use front::{Fault, Front, Invocation, take_front};
+use host::OwnHost;
 use ks_commands::execute;
 use ks_requests::Request;
 use ks_streams::Stream;
-use ks_tree::FolderTree;
+use ks_symbols::Dialect;
+use ks_system::{System, SystemTree};
 use ks_words::{WordsError, request_of};
-use lock::{FolderLock, Script, access_of, lock_folder};
-use lost_numbers::lost_number;
-use pipe::Pipe;
+use standard::{Standard, exit_status};
+use start::{Ready, Start, come_to_folder};
 use std::alloc::{AllocError, Global};
-use std::fs::File;
-use std::hash::{BuildHasher, Hasher, RandomState};
-use std::io::{BufWriter, ErrorKind};
+use std::io::ErrorKind;
 use std::process::ExitCode;
 use std::{env, io};
 
@@ -34,7 +34,7 @@ const LOST_NUMBERS: &str =
 fn text_of(fault: Fault) -> &'static str {
     match fault {
         Fault::NoFolder => "-C: a folder is needed after it",
-        Fault::NoDialect => "--dialect: linux, u-boot or busybox is needed after it",
+        Fault::NoDialect => "--dialect: linux, u-boot, busybox or coreboot is needed after it",
         Fault::NoSeconds => "--wait: a number of seconds is needed after it",
     }
 }
@@ -48,57 +48,32 @@ fn texts_of(alloc: Global, words: &[String]) -> Result<Vec<&str>, AllocError> {
     Ok(texts)
 }
 
-/// The tree of a folder, or `None` where there is none, which is told.
-fn tree_of<'a>(
-    rt: &'a HostRuntime,
-    folder: &str,
-) -> Result<Option<FolderTree<&'a HostRuntime>>, AllocError> {
-    if !is_folder(rt, folder) {
-        let _ = eprintln!(rt; "confstamp: -C: {folder}: No such folder");
-        return Ok(None);
-    }
-    let Some(seed) = draw_seed(rt) else {
-        let _ = eprintln!(rt; "confstamp: 30 Device\n  the system gives no random number");
-        return Ok(None);
+/// Tells why a command did not come to its folder.
+fn tell_no_start<P: Drop, L: Drop>(rt: &HostRuntime, folder: &str, answer: Start<P, L>) {
+    let _ = match answer {
+        Start::Ready(_) => Ok(()),
+        Start::NoFolder => eprintln!(rt; "confstamp: -C: {folder}: No such folder"),
+        Start::NoSeed => eprintln!(rt; "confstamp: 30 Device\n  the system gives no random number"),
+        Start::Busy => eprintln!(rt; "confstamp: another confstamp is at work in this folder"),
+        Start::LostNumber(path) => eprintln!(rt; "confstamp: {path} {LOST_NUMBERS}"),
     };
-    let root = String::from_str(rt.alloc(), folder)?;
-    Ok(Some(FolderTree::new(rt, root).with_seed(seed)))
 }
 
-/// A number that nobody can know before, or `None` where the system gives none. Without it whoever writes the files could
-/// choose names that collide.
-fn draw_seed(rt: &HostRuntime) -> Option<u64> {
-    let random = RandomState::new(rt).ok()?;
-    Some(random.build_hasher().finish())
-}
-
-/// What the program has of its folder while it works there: the lock, where the file system knows any.
-#[derive(Drop)]
-struct Held {
-    _folder: Option<File>,
-}
-
-/// Locks the folder as the request needs it, and holds the script that was looked at to know that. `None` where numbers would
-/// be lost, which is told.
-fn hold_folder(
+/// Runs the command over a tree and the standard streams.
+fn perform<S: System + Drop>(
     rt: &HostRuntime,
-    tree: &mut FolderTree<&HostRuntime>,
-    settings: &Settings,
+    tree: &mut SystemTree<S>,
+    dialect: Dialect,
     asked: &Result<Request, WordsError>,
-) -> io::Result<Option<Held>> {
-    let access = access_of(rt.alloc(), tree, asked)?;
-    let lock = access.as_ref().map(|access| access.lock);
-    let folder = lock_folder(rt, settings.folder.as_str(), lock, settings.seconds)?;
-    if matches!(lock, Some(FolderLock::Exclusive)) && !settings.may_begin {
-        if let Some(path) = lost_number(rt, tree, settings.folder.as_str())? {
-            let _ = eprintln!(rt; "confstamp: {path} {LOST_NUMBERS}");
-            return Ok(None);
-        }
+) -> u8 {
+    let mut out = Stream::new(Standard::new(rt.stdout()));
+    let mut err = Stream::new(Standard::new(rt.stderr()));
+    let failures = tree.failures();
+    let status = execute(rt.alloc(), tree, dialect, asked, &mut out, &mut err);
+    if status == 2 && tree.failures() > failures {
+        tell_failure(rt, tree);
     }
-    if let Some(Script { path, found }) = access.and_then(|access| access.script) {
-        tree.hold(path, found);
-    }
-    Ok(Some(Held { _folder: folder }))
+    exit_status(&out, status)
 }
 
 /// Runs the command over the folder that its words name and the standard streams.
@@ -113,32 +88,25 @@ fn run(rt: &HostRuntime) -> io::Result<u8> {
             return Ok(2);
         }
     };
-    let Some(mut tree) = tree_of(rt, settings.folder.as_str())? else {
-        return Ok(2);
-    };
     let asked = request_of(alloc, words);
-    let Some(_held) = hold_folder(rt, &mut tree, &settings, &asked)? else {
-        return Ok(2);
+    let host = OwnHost::new(rt);
+    // The lock stands first, so that it is let go last.
+    let Ready {
+        lock: _lock,
+        place: mut tree,
+        dialect,
+    } = match come_to_folder(&host, alloc, &settings, &asked)? {
+        Start::Ready(ready) => ready,
+        answer => {
+            tell_no_start(rt, settings.folder.as_str(), answer);
+            return Ok(2);
+        }
     };
-    let mut out = Stream::new(Pipe::new(BufWriter::new(alloc, rt.stdout())?));
-    let mut err = Stream::new(rt.stderr());
-    let failures = tree.failures();
-    let status = execute(
-        alloc,
-        &mut tree,
-        settings.dialect,
-        &asked,
-        &mut out,
-        &mut err,
-    );
-    if status == 2 && tree.failures() > failures {
-        tell_failure(rt, &tree);
-    }
-    Ok(out.into_writer().exit_status(status))
+    Ok(perform(rt, &mut tree, dialect, &asked))
 }
 
 /// Says where the system failed last, and why, after all else. Where memory is refused for it the line is left out.
-fn tell_failure(rt: &HostRuntime, tree: &FolderTree<&HostRuntime>) {
+fn tell_failure<S: System + Drop>(rt: &HostRuntime, tree: &SystemTree<S>) {
     let Some(fault) = tree.last_fault() else {
         return;
     };
@@ -147,14 +115,13 @@ fn tell_failure(rt: &HostRuntime, tree: &FolderTree<&HostRuntime>) {
     }
 }
 
-/// What cannot even be read of the words, or made room for, and that another program is in the way, is told as a refusal.
+/// What cannot even be read of the words, or made room for, is told as a refusal.
 fn main(rt: HostRuntime) -> ExitCode {
     match run(&rt) {
         Ok(status) => ExitCode::from(status),
         Err(error) => {
             let text = match error.kind() {
                 ErrorKind::OutOfMemory => "confstamp: 10 OutOfMemory",
-                ErrorKind::WouldBlock => "confstamp: another confstamp is at work in this folder",
                 _ => "confstamp: the words are not UTF-8 text",
             };
             let _ = eprintln!(rt; "{text}");

@@ -1,5 +1,5 @@
 //! The numbers that files hold: the generation of auto.conf, those under which objects were recorded, and the stamps.
-ghost use Rattle.std.specs.Prelude.{◌≡◌, codes, IfErr, IfOk, IsErrOf};
+ghost use Rattle.std.specs.Prelude.{◌≡◌, codes, IfErr, IfOk, IsErrOf, option_map};
 ghost use Rattle.ks_tree.specs.Files.{content};
 ghost use Rattle.ks_tree.specs.Frames.{Reads};
 ghost use Rattle.ks_tree.specs.Paths.{auto_path, stamp_path};
@@ -11,19 +11,36 @@ use crate::folder::below;
 use ks_engine::EngineError;
 use ks_fixdep::borrow_command;
 use ks_output::read_auto_generation;
+use ks_requests::Reading;
 use ks_symbols::{Name, name_is_legal};
 use ks_tree::{Tree, auto_path, read_stamp};
 use std::alloc::Global;
 
+/// Whether numbers begin, and what was found of auto.conf to know it.
+#[derive(Drop)]
+pub(crate) struct Beginning {
+    pub(crate) begins: bool,
+    pub(crate) found: Option<Vec<u8>>,
+}
+
 /// Whether a synchronisation would begin the numbers: auto.conf is missing, or another tool wrote it.
-pub(crate) fn begins_anew<T: Tree>(alloc: Global, tree: &mut T) -> Result<bool, EngineError>
+pub(crate) fn begins_anew<T: Reading>(alloc: Global, tree: &mut T) -> Result<Beginning, EngineError>
     ensures reads { Reads T.Tree tree.old tree.new (IsErrOf result EngineError.Device) }
-    ensures read { T.is_honest → Answers (begins_anew (content (T.files tree.old) auto_path)) (λ begins. begins) result }
+    ensures read { T.is_honest → Answers (begins_anew (content (T.files tree.old) auto_path)) (λ told. told.begins) result }
+    ensures found { T.is_honest → IfOk result (λ told. option_map (λ v. v.items) told.found ≡ content (T.files tree.old) auto_path) }
+    ensures once { T.reads tree.old auto_path tree.new }
 {
-    let Some(text) = tree.read(alloc, auto_path())? else {
-        return Ok(true);
+    let Some(text) = tree.read_file(alloc, auto_path())? else {
+        return Ok(Beginning {
+            begins: true,
+            found: None,
+        });
     };
-    Ok(read_auto_generation(&text)? == 0)
+    let begins = read_auto_generation(&text)? == 0;
+    Ok(Beginning {
+        begins,
+        found: Some(text),
+    })
 }
 
 /// Whether a folder is the top of another tree: its own auto.conf has a generation, so the numbers below it are that tree's.

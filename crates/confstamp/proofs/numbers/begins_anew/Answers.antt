@@ -15,11 +15,11 @@ returns-in_default-clause-read g c = λ honest.
     of_none (λ n. nat_eq n 0) (content (g.T.Tree.files c.args.tree.now) auto_path)
     (rw (← c.auto_path.ensures, ← c.in_ok-text.ensures.found honest, c.in_default.is) refl)
 
-pub returns-in_err-read_auto_generation-clause-read : goal.returns-in_err-read_auto_generation-clause-read
-returns-in_err-read_auto_generation-clause-read g c = search (rules, err_from_is_err_and, refused, old_refused)
+pub returns-in_err-begins-clause-read : goal.returns-in_err-begins-clause-read
+returns-in_err-begins-clause-read g c = search (rules, err_from_is_err_and, refused, old_refused)
 
 pub returns-clause-read : goal.returns-clause-read
 returns-clause-read g c = λ honest.
-    of_some (λ n. nat_eq n 0) (content (g.T.Tree.files c.args.tree.now) auto_path) c.deref.result.now c.in_ok-read_auto_generation.field-0
+    of_some (λ n. nat_eq n 0) (content (g.T.Tree.files c.args.tree.now) auto_path) c.deref.result.now c.in_ok-begins.field-0
     (rw (← c.auto_path.ensures, ← c.in_ok-text.ensures.found honest, c.in-Some.is, ← c.deref.ensures.value) refl)
-    c.in_ok-read_auto_generation.ensures.refusal c.in_ok-read_auto_generation.ensures.generation
+    c.in_ok-begins.ensures.refusal c.in_ok-begins.ensures.generation

@@ -6,6 +6,7 @@ case $0 in
 esac
 auto=include/config/auto.conf
 bare=include/config/Kconfig.bare
+kinds=include/config/Kconfig.kinds
 kept=include/config/confstamp.config
 last=include/config/confstamp.generation
 records=include/config/confstamp.records
@@ -157,10 +158,15 @@ undeclared() {
 # empties stamps; auto.conf comes last. BusyBox's own tools leave auto.conf as it was, but their split-include empties each header
 # in include/config that is no symbol's. Where the hooks call it they write theirs anew.
 synchronised() {
-    grep -qs '^#generation ' "$auto" || return 1
     case $dialect in
-    '') grep -qsxF -e "$mark" "$auto.cmd" ;;
-    busybox) [ -s "$split" ] ;;
+    '')
+        case $(grep -hsx -e '#generation .*' -e "$mark" "$auto" "$auto.cmd") in
+        '#generation '*"$mark") ;;
+        *) return 1 ;;
+        esac
+        ;;
+    busybox) [ -s "$split" ] && grep -qs '^#generation ' "$auto" ;;
+    *) grep -qs '^#generation ' "$auto" ;;
     esac
 }
 
@@ -212,37 +218,41 @@ replace_by_copies() {
 # Status 1 where an answer is missing, or the system fails.
 age_objects() {
     ask_age "$1"
-    if grep -q ' refused 30 Device$' "$1/answers"; then
-        replace_by_copies "$1"
-        ask_age "$1"
-    fi
-    awk -v due="$1/due" '
-        BEGIN { printf "" > due }
-        FILENAME == ARGV[1] { asked++; next }
-        / refused 30 Device$/ { next }
-        { answered++ }
-        $2 == "stale" && ($3 !~ /-/ || $3 == "generation-ahead") { print $1 > due }
-        END { exit answered < asked }
-    ' "$1/targets" "$1/answers" || {
+    folders=$(read_answers "$1" "$2") || {
+        grep -q ' refused 30 Device$' "$1/answers" && replace_by_copies "$1" && ask_age "$1" && folders=$(read_answers "$1" "$2")
+    } || {
         tell "what is stale could not be given an old time: $(head -n 1 "$1/told")"
         return 1
     }
     age_to_come "$1" "$2"
 }
 
+# read_answers FOLDER RECORDED: what has the old time goes to FOLDER/due. Prints the folders of what was recorded, and those above
+# them. Status 1 where an answer is missing, or the system fails.
+read_answers() {
+    awk -v due="$1/due" '
+        BEGIN { printf "" > due; print "." }
+        file == "targets" { asked++; next }
+        file == "recorded" {
+            while (sub(/\/[^\/]*$/, "") && $0 != "" && !($0 in known)) { known[$0]; print }
+            next
+        }
+        / refused 30 Device$/ { next }
+        { answered++ }
+        $2 == "stale" && ($3 !~ /-/ || $3 == "generation-ahead") { print $1 > due }
+        END { exit answered < asked }
+    ' file=targets "$1/targets" file=answers "$1/answers" file=recorded "$2"
+}
+
 # age_to_come FOLDER RECORDED: what has a time to come would look newer than what it is made of, once make has written that. So
-# what make links or packs gets a time before all others. Such products stand beside what was recorded, or above it, and have a
-# command file. BusyBox itself has none.
+# what make links or packs gets a time before all others. Such products stand in one of `folders`, beside what was recorded or above
+# it, and have a command file. BusyBox itself has none.
 age_to_come() {
     : > "$1/now"
-    folders=$(awk '
-        { while (sub(/\/[^\/]*$/, "") && $0 != "" && !($0 in known)) { known[$0]; print } }
-        END { print "." }
-    ' "$2")
     # shellcheck disable=SC2086 # the list is words, and Kbuild takes no path with a blank
-    to_come=$(find_there $folders -maxdepth 1 ! -name '*.[chS]' ! -name '.*.cmd' -type f -newer "$1/now") || return 1
-    [ -n "$to_come" ] || return 0
-    echo "$to_come" | sed 's,^\./,,' > "$1/to-come"
+    find_there $folders -maxdepth 1 ! -name '*.[chS]' ! -name '.*.cmd' -type f -newer "$1/now" > "$1/newer" || return 1
+    [ -s "$1/newer" ] || return 0
+    sed 's,^\./,,' "$1/newer" > "$1/to-come"
     awk 'NR == FNR { recorded[$0]; next } !($0 in recorded)' "$2" "$1/to-come" |
         while read -r product; do
             case $product in

@@ -56,7 +56,7 @@ static bool rarely(size_t one_of)
 /* The project of the case, or NULL for Linux where nothing is said. */
 static const char *project;
 
-static const char *const projects[] = {"u-boot", "busybox", "linux"};
+static const char *const projects[] = {"u-boot", "busybox", "coreboot", "linux"};
 
 static bool is_of(const char *name)
 {
@@ -206,10 +206,10 @@ static Bytes made_auto(void)
     return perhaps_damaged(&text, 10);
 }
 
-/* Words of U-Boot and BusyBox, and what stands between them. */
+/* Words of other projects, and what stands between them. */
 static void add_words(Text *text)
 {
-    static const char *const fronts[] = {"ENABLE_", "IF_", "IF_NOT_", "USE_", "CONFIG_IS_ENABLED", "CONFIG_VAL", "CONFIG_IF_ENABLED_INT"};
+    static const char *const fronts[] = {"ENABLE_", "IF_", "IF_NOT_", "USE_", "CONFIG_IS_ENABLED", "CONFIG_VAL", "CONFIG_IF_ENABLED_INT", "CONFIG"};
     static const char *const marks[] = {"", "", "(", " (", "( ", "\\\n(\t", ",", " , ", "(("};
     add_text(text, "%s%s%s", PICK(fronts), PICK(marks), one_in(6) ? "CONFIG_" : "");
     if (!one_in(6))
@@ -704,7 +704,7 @@ static bool run_case(uint64_t seed, uint64_t number, uint64_t *runs)
     forget_all();
     empty_folder();
     is_build = one_in(3);
-    project = one_in(2) ? NULL : projects[below(2)];
+    project = one_in(2) ? NULL : projects[below(3)];
     Tree tree = made_tree();
     for (size_t i = 0; i < tree.count; i++)
         write_file(tree.files[i].path, tree.files[i].bytes);

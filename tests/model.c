@@ -9,7 +9,7 @@
 bool auto_is_typed;
 
 /* The project in whose words Kconfigs, configurations and sources are read: that of the command which runs. */
-static enum { LINUX, U_BOOT, BUSYBOX } dialect;
+static enum { LINUX, U_BOOT, BUSYBOX, COREBOOT } dialect;
 
 /* Memory and texts */
 
@@ -284,7 +284,7 @@ static const char *const kind_words[] = {"bool", "tristate", "string", "int", "h
 /* The kind that a word of a Kconfig declares. */
 static Kind declared_kind(Kind word)
 {
-    if (word == STRING && dialect != LINUX)
+    if (word == STRING && (dialect == U_BOOT || dialect == BUSYBOX))
         return RAW;
     return word == BOOL && dialect == BUSYBOX ? FLAG : word;
 }
@@ -819,9 +819,13 @@ static void note_in_busybox(Names *names, Bytes word)
             note_legal(names, from(word, strlen(fronts[i])));
 }
 
-/* How many arguments of a word of U-Boot name symbols. Such a word is no symbol itself. */
+/* How many arguments of a word name symbols. Such a word is no symbol itself. */
 static size_t arguments_of(Bytes word)
 {
+    if (dialect == COREBOOT)
+        return is_text(word, "CONFIG");
+    if (dialect != U_BOOT)
+        return 0;
     if (is_text(word, "CONFIG_IS_ENABLED") || is_text(word, "CONFIG_VAL"))
         return 1;
     return is_text(word, "CONFIG_IF_ENABLED_INT") ? 2 : 0;
@@ -865,14 +869,14 @@ static void scan_by_places(Bytes text, Names *names)
             note_in_linux(names, word_at(text, i));
 }
 
-/* The names of its words that weren't. In U-Boot a word may be the argument of one before it, by the path of the object. */
+/* The names of its words that weren't. A word may be the argument of one before it, in U-Boot by the path of the object. */
 static void scan_by_words(Bytes text, Bytes target, Names *names)
 {
     bool *is_argument = keep(text.length + 1);
     memset(is_argument, 0, text.length + 1);
     for (size_t place = 0; place < text.length;) {
         Bytes word = word_at(text, place);
-        size_t arguments = dialect == U_BOOT ? arguments_of(word) : 0;
+        size_t arguments = arguments_of(word);
         if (arguments) {
             size_t first = argument_after(text, place + word.length, '(');
             is_argument[first] = true;
@@ -880,7 +884,7 @@ static void scan_by_words(Bytes text, Bytes target, Names *names)
                 is_argument[argument_after(text, first + word_at(text, first).length, ',')] = true;
         }
         if (is_argument[place])
-            note_argument(names, joined(prefix_of(target), word, ""));
+            note_argument(names, joined(dialect == U_BOOT ? prefix_of(target) : "", word, ""));
         if (dialect == BUSYBOX)
             note_in_busybox(names, word);
         else if (arguments == 0)
@@ -2054,7 +2058,10 @@ Answer run_words(Tree *tree, const Bytes *words, size_t count)
 {
     dialect = LINUX;
     if (count > 2 && is_text(words[0], "--dialect")) {
-        dialect = is_text(words[1], "busybox") ? BUSYBOX : is_text(words[1], "u-boot") ? U_BOOT : LINUX;
+        dialect = is_text(words[1], "busybox")    ? BUSYBOX
+                  : is_text(words[1], "u-boot")   ? U_BOOT
+                  : is_text(words[1], "coreboot") ? COREBOOT
+                                                  : LINUX;
         words += 2;
         count -= 2;
     }

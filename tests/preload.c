@@ -4,7 +4,11 @@
    WRITE=N      the Nth write to standard output fails, as on a full disk
    PIECE=N      a write to standard output takes N bytes at most
    SIGNALS=N    N writes to standard output are interrupted, each second one
-   SHORT=N      a read gives N bytes at most */
+   STORM=1      each write to standard output is interrupted
+   NONE=1       each write to standard output takes nothing
+   AT=N         with the five above, descriptor N is meant in place of standard output
+   SHORT=N      a read gives N bytes at most, also one at a place
+   CUT=N        a write to a file takes N bytes at most */
 #define _GNU_SOURCE
 #include <dlfcn.h>
 #include <errno.h>
@@ -59,11 +63,24 @@ void *realloc(void *old, size_t size)
 ssize_t write(int file, const void *bytes, size_t length)
 {
     static ssize_t (*next)(int, const void *, size_t);
-    static long left = -1, signals = -1, calls;
+    static long at = -1, left = -1, signals = -1, calls;
     if (!next)
         next = (ssize_t(*)(int, const void *, size_t))dlsym(RTLD_NEXT, "write");
-    if (file != STDOUT_FILENO)
-        return next(file, bytes, length);
+    if (at < 0)
+        at = getenv("AT") ? number("AT") : STDOUT_FILENO;
+    if (file != at) {
+        size_t most = file > STDERR_FILENO ? (size_t)number("CUT") : 0;
+        return next(file, bytes, most && most < length ? most : length);
+    }
+    if (number("STORM")) {
+        mark();
+        errno = EINTR;
+        return -1;
+    }
+    if (number("NONE")) {
+        mark();
+        return 0;
+    }
     if (left < 0)
         left = number("WRITE");
     if (signals < 0)
@@ -90,6 +107,15 @@ ssize_t read(int file, void *bytes, size_t length)
         next = (ssize_t(*)(int, void *, size_t))dlsym(RTLD_NEXT, "read");
     size_t most = (size_t)number("SHORT");
     return next(file, bytes, most && most < length ? most : length);
+}
+
+ssize_t pread(int file, void *bytes, size_t length, off_t place)
+{
+    static ssize_t (*next)(int, void *, size_t, off_t);
+    if (!next)
+        next = (ssize_t(*)(int, void *, size_t, off_t))dlsym(RTLD_NEXT, "pread");
+    size_t most = (size_t)number("SHORT");
+    return next(file, bytes, most && most < length ? most : length, place);
 }
 
 /* So that no write goes another way. */

@@ -94,6 +94,7 @@ install_tool() {
 
 # The run is written in the temporary folder, so that one which is broken off leaves nothing.
 start_run() {
+    cut -d ' ' -f 1-3 /proc/loadavg > "$work/load"
     run=$work/run
     mkdir "$run"
     echo 'case,run,value' > "$run/raw.csv"
@@ -134,7 +135,7 @@ describe_machine() {
     echo "- kernel: $(uname -srm)"
     echo "- processor: $(sed -n 's/^model name[[:space:]]*: //p' /proc/cpuinfo | head -n 1), $(nproc) cores"
     echo "- memory: $(awk '/^MemTotal/ { printf "%.1f GB", $2 / 1048576 }' /proc/meminfo)"
-    echo "- load before the run: $(cut -d ' ' -f 1-3 /proc/loadavg)"
+    echo "- load before the run: $(cat "$work/load")"
 }
 
 commit() {

@@ -4,18 +4,30 @@ ghost use Rattle.std.specs.Prelude.{◌≡◌, [], false, true, IfOk, IsNone, Is
 ghost use Rattle.std.specs.Cow.{cow_str_bytes};
 ghost use Rattle.std.specs.FinMap as map;
 ghost use Rattle.std.specs.Fs.{asks_create_new};
-ghost use Rattle.ks_tree.specs.Folder.{place_of};
+ghost use Rattle.ks_system.specs.Places.{place_of};
 
 use crate::{Kind, Look, System};
-use ks_tree::Claim;
 use std::alloc::{AllocError, Global};
 use std::borrow::CowStr;
-use std::fs::{FileTimes, Metadata, OpenFile, OpenOptions};
+use std::fs::{File, FileTimes, Metadata, OpenFile, OpenOptions, TryLockError};
 use std::io::Write;
 use std::os::unix::fs::{FileExt, FileTypeExt, MetadataExt};
 use std::rt::Files;
 use std::time::{Duration, SystemTime};
 use std::{fs, io};
+
+/// A file that a program can claim.
+pub trait Claim {
+    /// Whether nobody else has claimed the file. From now on this program has, until it closes it. The answer is yes as well
+    /// where the file system knows no locks: nobody can claim a file there.
+    fn claim(&self) -> bool;
+}
+
+impl Claim for File {
+    fn claim(&self) -> bool {
+        !matches!(self.try_lock(), Err(TryLockError::WouldBlock))
+    }
+}
 
 /// A folder of the system, by its path. A path that begins with `/` names that file itself, any other one below the folder.
 #[derive(Drop)]
@@ -60,21 +72,6 @@ impl<R: Files> Host<R> {
     pub fn new(files: R, root: String) -> Host<R> {
         Host { files, root }
     }
-
-    /// Where a path stands, or `None` where it isn't text.
-    fn place_of<'a>(&self, alloc: Global, path: &'a [u8]) -> Result<Option<CowStr<'a>>, AllocError>
-        ensures { IfOk result (λ found. MatchOption found (IsUtf8 path.now → ⊥)
-            (λ place. cow_str_bytes place ≡ place_of (string_bytes self.now.root) path.now)) }
-    {
-        let Ok(path) = str::from_utf8(path) else {
-            return Ok(None);
-        };
-        let root = self.root.as_str();
-        if path.starts_with('/') || root.is_empty() {
-            return Ok(Some(CowStr::Borrowed(path)));
-        }
-        Ok(Some(CowStr::Owned(format!(in alloc; "{root}/{path}")?)))
-    }
 }
 
 impl<R: Files> System for Host<R>
@@ -97,8 +94,18 @@ where
 
     ghost aged = { λ s. [] };
 
-    fn place<'a>(&self, alloc: Global, path: &'a [u8]) -> Result<Option<CowStr<'a>>, AllocError> {
-        self.place_of(alloc, path)
+    fn place<'a>(&self, alloc: Global, path: &'a [u8]) -> Result<Option<CowStr<'a>>, AllocError>
+        ensures { IfOk result (λ found. MatchOption found (IsUtf8 path.now → ⊥)
+            (λ place. cow_str_bytes place ≡ place_of (string_bytes self.now.root) path.now)) }
+    {
+        let Ok(path) = str::from_utf8(path) else {
+            return Ok(None);
+        };
+        let root = self.root.as_str();
+        if path.starts_with('/') || root.is_empty() {
+            return Ok(Some(CowStr::Borrowed(path)));
+        }
+        Ok(Some(CowStr::Owned(format!(in alloc; "{root}/{path}")?)))
     }
 
     fn look(&mut self, place: &str) -> io::Result<Look> {

@@ -16,6 +16,6 @@ mod system_tree;
 pub use disk::{DiskHandle, ScriptedDisk, Turn};
 pub use errors::Meaning;
 pub use fault::FolderFault;
-pub use host::Host;
+pub use host::{Claim, Host};
 pub use system::{Kind, Look, System};
 pub use system_tree::SystemTree;

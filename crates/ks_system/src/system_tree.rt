@@ -105,6 +105,7 @@ impl<S: System + Drop> SystemTree<S> {
         ensures device { result ≡ TreeFault.Device }
         ensures untold { self.new.last_fault ≡ None }
         ensures system { self.new.system ≡ self.old.system }
+        ensures claim { self.new.written ≡ self.old.written }
         ensures held { self.new.held ≡ self.old.held }
         ensures later { self.old.failures ≤ self.new.failures }
         ensures counted { self.new.failures ≡ min (self.old.failures + 1) 18446744073709551615 }
@@ -119,6 +120,7 @@ impl<S: System + Drop> SystemTree<S> {
         ensures device { result ≡ TreeFault.Device }
         ensures told { IfSome self.new.last_fault (λ fault. string_bytes fault.path ≡ path.now) }
         ensures system { self.new.system ≡ self.old.system }
+        ensures claim { self.new.written ≡ self.old.written }
         ensures held { self.new.held ≡ self.old.held }
         ensures later { self.old.failures ≤ self.new.failures }
         ensures cause { HasRisen self.old.failures self.new.failures }
@@ -151,6 +153,8 @@ impl<S: System + Drop> SystemTree<S> {
             (λ k. ((S.opened k.file).names ≡ (S.world self.old.system).names) × ((S.opened k.file).path ≡ path.now)
             × IsAheadOf (content (S.world self.old.system).files path.now) k.ahead)) }
         ensures of_path { IfOk result (λ found. IfSome found (λ k. k.ahead.path ≡ path.now)) }
+        ensures told { IsErrOf result TreeFault.Device → IfSome self.new.last_fault (λ fault. string_bytes fault.path ≡ path.now) }
+        ensures claim { self.new.written ≡ self.old.written }
         ensures unchanged { S.is_honest → S.world self.new.system ≡ S.world self.old.system }
         ensures kept { S.aged self.new.system ≡ S.aged self.old.system }
         ensures later { self.old.failures ≤ self.new.failures }
@@ -198,7 +202,9 @@ impl<S: System + Drop> Tree for SystemTree<S> {
         ensures uncounted { IsErrOf result TreeFault.OutOfMemory → self.new.failures ≡ self.old.failures }
         ensures too_large_uncounted { IsErrOf result TreeFault.TooLarge → self.new.failures ≡ self.old.failures }
         ensures cause { IsErrOf result TreeFault.Device → HasRisen self.old.failures self.new.failures }
-        // Of what is held.
+        // Of the claim, what is held, and what is told.
+        ensures claim { self.new.written ≡ self.old.written }
+        ensures told { IsErrOf result TreeFault.Device → IfSome self.new.last_fault (λ fault. string_bytes fault.path ≡ path.now) }
         ensures held { IfSome self.old.held (λ held. held.path ≡ path.now →
             IfOk result (λ found. option_map (λ v. v.items) found ≡ held.found) × IfErr result (λ _. ⊥)) }
         ensures once { IfSome self.old.held (λ held. held.path ≡ path.now → self.new.held ≡ None) }
@@ -223,7 +229,20 @@ impl<S: System + Drop> Tree for SystemTree<S> {
         path: &[u8],
         offset: u64,
         into: &mut [u8],
-    ) -> Result<Option<usize>, TreeFault> {
+    ) -> Result<Option<usize>, TreeFault>
+        ensures found { S.is_honest → IfOk result (IsReadAt (content (S.world self.old.system).files path.now) offset into.old into.new) }
+        ensures within { IfOk result (λ found. IfSome found (λ n. n ≤ length into.new)) }
+        ensures unchanged { S.is_honest → (S.world self.new.system).files ≡ (S.world self.old.system).files }
+        ensures kept { S.aged self.new.system ≡ S.aged self.old.system }
+        ensures never { IsErrOf result TreeFault.TooLarge → ⊥ }
+        ensures later { self.old.failures ≤ self.new.failures }
+        ensures passed { OnOk result (self.new.failures ≡ self.old.failures) }
+        ensures uncounted { IsErrOf result TreeFault.OutOfMemory → self.new.failures ≡ self.old.failures }
+        ensures cause { IsErrOf result TreeFault.Device → HasRisen self.old.failures self.new.failures }
+        // Of the claim, and what is told.
+        ensures claim { self.new.written ≡ self.old.written }
+        ensures told { IsErrOf result TreeFault.Device → IfSome self.new.last_fault (λ fault. string_bytes fault.path ≡ path.now) }
+    {
         let Some(mut kept) = self.take_kept(alloc, path, offset)? else {
             return Ok(None);
         };
@@ -375,6 +394,7 @@ impl<S: System + Drop> Aging for SystemTree<S> {
         ensures passed { OnOk result (self.new.failures ≡ self.old.failures) }
         ensures uncounted { IsErrOf result TreeFault.OutOfMemory → self.new.failures ≡ self.old.failures }
         ensures cause { IsErrOf result TreeFault.Device → HasRisen self.old.failures self.new.failures }
+        ensures claim { self.new.written ≡ self.old.written }
         ensures told { IsErrOf result TreeFault.Device → IfSome self.new.last_fault (λ fault. string_bytes fault.path ≡ path.now) }
     {
         let Some(place) = self.system.place(alloc, path)? else {

@@ -5,4 +5,3 @@ pub mod StampLemmas
 pub mod Touching
 pub mod Stored
 pub mod Tables
-pub mod Reading

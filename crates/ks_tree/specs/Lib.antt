@@ -5,7 +5,3 @@ pub mod Paths
 pub mod Stamps
 pub mod Memory
 pub mod Fuse
-pub mod Held
-pub mod Folder
-pub mod ReadAhead
-pub mod SystemErrors

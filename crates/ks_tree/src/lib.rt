@@ -4,29 +4,20 @@
 mod aged;
 mod aging;
 mod fault;
-mod folder;
-mod folder_fault;
 mod fuse;
-mod held;
 mod memory;
 mod missing_stamps;
-mod new_file;
 mod paths;
-mod read_ahead;
 mod replacement;
 mod stamps;
-mod system_error;
 mod tree;
 
 pub use aged::AgedTree;
 pub use aging::Aging;
 pub use fault::{TreeError, TreeFault};
-pub use folder::FolderTree;
-pub use folder_fault::FolderFault;
 pub use fuse::{FuseMode, FuseTree};
 pub use memory::{FilesIter, MemoryTree};
 pub use missing_stamps::make_stamps;
-pub use new_file::Claim;
 pub use paths::{
     auto_path, auto_temporary, command_path, command_temporary, header_path, header_temporary,
     paths_never_meet, stamp_path, stamp_temporary,

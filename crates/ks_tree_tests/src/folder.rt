@@ -2,7 +2,8 @@
 //! what is then seen. Most tests are a scene, a row of deeds.
 use crate::steps::{STEPS, Step, run};
 use ks_symbols::MAX_BYTES;
-use ks_tree::{Aging, FolderTree, Tree, TreeFault};
+use ks_system::{Host, System, SystemTree};
+use ks_tree::{Aging, Tree, TreeFault};
 use std::alloc::{AllocError, Global};
 use std::fs::OpenOptions;
 use std::io::Write;
@@ -36,8 +37,8 @@ enum Deed<'a> {
     Replaced(&'a str),
     /// How many bytes the tree reads.
     HasLength(&'a str, usize),
-    /// A path that is no text is read, and a file that isn't there is moved: both fail.
-    Strange,
+    /// A path that is no text is read, which fails.
+    NoText,
     /// The file at a path is aged, or it fails.
     Age(&'a str, bool),
     /// The time of a file is the first second of 1970.
@@ -111,11 +112,11 @@ fn mode_of(rt: &HostRuntime, root: &str, path: &str) -> io::Result<u32> {
     Ok(fs::metadata(rt, place.as_str())?.permissions().mode())
 }
 
-fn replaced(
+fn replaced<S: System + Drop>(
     host: &HostRuntime,
     rt: &impl Abort,
     root: &str,
-    tree: &mut FolderTree<&HostRuntime>,
+    tree: &mut SystemTree<S>,
     path: &str,
 ) -> io::Result<()> {
     let steps = [
@@ -130,11 +131,11 @@ fn replaced(
     Ok(())
 }
 
-fn absolute(
+fn absolute<S: System + Drop>(
     host: &HostRuntime,
     rt: &impl Abort,
     root: &str,
-    tree: &mut FolderTree<&HostRuntime>,
+    tree: &mut SystemTree<S>,
     path: &str,
     want: &str,
 ) -> Result<(), AllocError> {
@@ -148,34 +149,41 @@ fn absolute(
 }
 
 /// How many bytes the tree reads at a path, or none.
-fn length_of(alloc: Global, tree: &mut FolderTree<&HostRuntime>, path: &str) -> Option<usize> {
+fn length_of<S: System + Drop>(
+    alloc: Global,
+    tree: &mut SystemTree<S>,
+    path: &str,
+) -> Option<usize> {
     match tree.read(alloc, path.as_bytes()) {
         Ok(Some(bytes)) => Some(bytes.len()),
         _ => None,
     }
 }
 
-fn strange(rt: &impl Abort, alloc: Global, tree: &mut FolderTree<&HostRuntime>) {
+fn no_text<S: System + Drop>(rt: &impl Abort, alloc: Global, tree: &mut SystemTree<S>) {
     let read = tree.read(alloc, b"\xff");
     assert!(rt; matches!(read, Err(TreeFault::Device)), "not text");
     assert!(rt; tree.last_fault().is_none(), "no path to tell");
-    let moved = tree.rename(alloc, b"none", b"some");
-    assert!(rt; matches!(moved, Err(TreeFault::Device)), "no file to move");
+}
+
+/// How often a tree has failed. (The prover knows no shared borrow of a tree of this type.)
+fn failures_of<S: System + Drop>(tree: &mut SystemTree<S>) -> u64 {
+    tree.failures()
 }
 
 /// What is told of the last failure.
-fn told(alloc: Global, tree: &FolderTree<&HostRuntime>) -> Result<String, AllocError> {
+fn told<S: System + Drop>(alloc: Global, tree: &mut SystemTree<S>) -> Result<String, AllocError> {
     match tree.last_fault() {
         Some(fault) => fault.tell(alloc),
         None => String::from_str(alloc, "none"),
     }
 }
 
-fn do_deed(
+fn do_deed<S: System + Drop>(
     host: &HostRuntime,
     rt: &impl Abort,
     root: &str,
-    tree: &mut FolderTree<&HostRuntime>,
+    tree: &mut SystemTree<S>,
     deed: Deed<'_>,
 ) -> io::Result<()> {
     match deed {
@@ -186,7 +194,7 @@ fn do_deed(
         Deed::HasLength(path, want) => {
             assert_eq!(rt; length_of(host.alloc(), tree, path), Some(want), "{path}");
         }
-        Deed::Strange => strange(rt, host.alloc(), tree),
+        Deed::NoText => no_text(rt, host.alloc(), tree),
         Deed::Age(path, passes) => {
             let aged = tree.age(host.alloc(), path.as_bytes());
             assert_eq!(rt; aged.is_ok(), passes, "{path}");
@@ -209,7 +217,7 @@ fn do_deed(
 
 /// Does the deeds one after another with a tree in a folder.
 fn play(host: &HostRuntime, rt: &impl Abort, root: &str, deeds: &[Deed<'_>]) -> io::Result<()> {
-    let mut tree = FolderTree::new(host, String::from_str(host.alloc(), root)?);
+    let mut tree = SystemTree::new(Host::new(host, String::from_str(host.alloc(), root)?));
     for deed in deeds {
         do_deed(host, rt, root, &mut tree, *deed)?;
     }
@@ -339,9 +347,9 @@ fn many_bytes(alloc: Global) -> Result<Vec<u8>, AllocError> {
 }
 
 /// What the tree reads of a large file in so many pieces of a size.
-fn read_in_pieces(
+fn read_in_pieces<S: System + Drop>(
     alloc: Global,
-    tree: &mut FolderTree<&HostRuntime>,
+    tree: &mut SystemTree<S>,
     size: usize,
     pieces: usize,
 ) -> Result<Vec<u8>, TreeFault> {
@@ -359,14 +367,14 @@ fn read_in_pieces(
 #[test]
 fn a_large_file_in_pieces(rt: HostRuntime) -> Result<(), Fail> {
     let root = fresh_folder(&rt, "large")?;
-    let mut tree = FolderTree::new(&rt, root.clone()?);
+    let mut tree = SystemTree::new(Host::new(&rt, root.clone()?));
     let bytes = many_bytes(rt.alloc())?;
     tree.write(rt.alloc(), b"large", &bytes)?;
     for (size, pieces) in [(4096, 49), (1000, 201), (65536, 4), (70_000, 3)] {
         let read = read_in_pieces(rt.alloc(), &mut tree, size, pieces)?;
         assert!(rt; read == bytes, "{size}");
     }
-    assert_eq!(rt; tree.failures(), 0);
+    assert_eq!(rt; failures_of(&mut tree), 0);
     fs::remove_dir_all(&rt, root.as_str())?;
     Ok(())
 }
@@ -387,8 +395,8 @@ const FAILURES: &[Deed<'_>] = &[
         (Step::Read("file"), "bytes"),
     ]),
     Deed::Failures(9),
-    Deed::Strange,
-    Deed::Failures(11),
+    Deed::NoText,
+    Deed::Failures(10),
 ];
 
 #[test]
@@ -484,24 +492,24 @@ const TURNS: [[&[(Step<'_>, &str)]; 2]; 3] = [
 #[test]
 fn of_two_writers_one_is_refused(rt: HostRuntime) -> Result<(), Fail> {
     let root = fresh_folder(&rt, "two")?;
-    let mut first = FolderTree::new(&rt, root.clone()?);
-    let mut second = FolderTree::new(&rt, root.clone()?);
+    let mut first = SystemTree::new(Host::new(&rt, root.clone()?));
+    let mut second = SystemTree::new(Host::new(&rt, root.clone()?));
     for [one, other] in TURNS {
         run(&rt, rt.alloc(), &mut first, one)?;
         run(&rt, rt.alloc(), &mut second, other)?;
     }
-    assert!(rt; first.failures() == 0 && second.failures() == 1);
+    assert_eq!(rt; (failures_of(&mut first), failures_of(&mut second)), (0, 1));
     fs::remove_dir_all(&rt, root.as_str())?;
     Ok(())
 }
 
 /// What comes of a file written to a folder without permission: a counted failure, unless this user may write everywhere.
 fn write_without_permission(host: &HostRuntime, rt: &impl Abort, root: &str) -> io::Result<()> {
-    let mut tree = FolderTree::new(host, String::from_str(host.alloc(), root)?);
+    let mut tree = SystemTree::new(Host::new(host, String::from_str(host.alloc(), root)?));
     match tree.write(host.alloc(), b"x", b"x") {
         Ok(()) => println!(host; "skipped: this user may write into every folder")?,
         Err(fault) => {
-            assert!(rt; fault == TreeFault::Device && tree.failures() == 1);
+            assert!(rt; fault == TreeFault::Device && failures_of(&mut tree) == 1);
         }
     }
     Ok(())

@@ -1,7 +1,10 @@
 //! What a synchronisation comes to: what its two texts say, and over the old auto.conf which stamps it renews, under which
 //! generation, or why it is refused. Nothing is written here, and no text is made: who only asks what would be touched
 //! needs none.
-ghost use Rattle.std.specs.Prelude.{◌≡◌, ◌⊎◌, Ok, Err, IfOk, IfErr, IsErrOf};
+ghost use Rattle.std.specs.Prelude.{◌≡◌, ◌⊎◌, List, ℕ, Ok, Err, IfOk, IfErr, IsErrOf};
+ghost use Rattle.std.specs.FinMap as map;
+ghost use Rattle.ks_symbols.specs.Dialects.{KconfigText};
+ghost use Rattle.ks_symbols.specs.Kconfig.{declared};
 ghost use Rattle.ks_symbols.specs.Refusals.{RefusedBy};
 ghost use Rattle.ks_tree.specs.Frames.{Reads};
 ghost use Rattle.ks_engine.specs.Refusals.{IsGivenUp};
@@ -12,7 +15,10 @@ use crate::last_sync::read_old;
 use crate::{EngineError, Report};
 use ks_compare::changed;
 use ks_output::{OldConfig, auto_len};
-use ks_symbols::{Kconfig, MAX_BYTES, Settings, SourceError, draft_settings, read_kconfig};
+use ks_symbols::{
+    Kconfig, MAX_BYTES, Settings, SourceError, Symbols, draft_settings, read_dotconfig,
+    read_kconfig,
+};
 use ks_tree::Tree;
 use std::alloc::{AllocError, Global};
 
@@ -39,6 +45,34 @@ pub fn read_sources(
     drop(symbols);
     let settings = draft.close(alloc)?;
     Ok(Sources { title, settings })
+}
+
+/// What a Kconfig and a `.config` say, and the symbols that the one declares.
+#[derive(Drop)]
+pub struct Parsed {
+    pub sources: Sources,
+    pub symbols: Symbols,
+}
+
+/// Reads them as `read_sources` does and keeps the symbols, for who asks for more of these than what is set: nothing is parsed
+/// a second time for that.
+pub fn parse_sources(
+    alloc: Global,
+    kconfig: &Kconfig<'_>,
+    dotconfig: &[u8],
+) -> Result<Parsed, SourceError>
+    ensures read { IfOk result (λ p. AreSources kconfig.now dotconfig.now (sources_of p.sources)) }
+    ensures declared { IfOk result (λ p. (x : List ℕ) → map.get p.symbols.kinds x ≡ declared kconfig.now x) }
+    ensures refusal { RefusedBy SourceError.OutOfMemory result (source_refusal kconfig.now dotconfig.now) }
+{
+    let symbols = read_kconfig(alloc, kconfig)?;
+    let settings = read_dotconfig(alloc, dotconfig, &symbols)?;
+    let copied = Vec::from_slice(alloc, symbols.title())?;
+    let sources = Sources {
+        title: copied,
+        settings,
+    };
+    Ok(Parsed { sources, symbols })
 }
 
 /// What a synchronisation over an old auto.conf reports, or `None` where no generation comes after that one.
@@ -84,6 +118,27 @@ pub struct Planned {
     pub report: Report,
 }
 
+/// What a synchronisation of a tree comes to by what was read of its two texts.
+pub fn plan_sources<T: Tree>(
+    alloc: Global,
+    tree: &mut T,
+    sources: Sources,
+) -> Result<Planned, EngineError>
+    ensures reads { Reads T.Tree tree.old tree.new (IsErrOf result EngineError.Device) }
+    ensures planned { T.is_honest → (kconfig : KconfigText) (dotconfig : List ℕ) → AreSources kconfig dotconfig (sources_of sources)
+        → IfOk result (IsPlanned (T.files tree.old) kconfig dotconfig) }
+    ensures refused { T.is_honest → (kconfig : KconfigText) (dotconfig : List ℕ) → AreSources kconfig dotconfig (sources_of sources)
+        → IfErr result (λ e. IsGivenUp e ⊎ IsSyncPlan (T.files tree.old) kconfig dotconfig (Err e)) }
+{
+    let old = read_old(alloc, tree)?;
+    let report = report_over(alloc, &sources, &old)?;
+    Ok(Planned {
+        sources,
+        old,
+        report,
+    })
+}
+
 /// What a synchronisation of a tree with two texts comes to. It is refused where that would be before its first write.
 pub fn plan_sync<T: Tree>(
     alloc: Global,
@@ -96,11 +151,5 @@ pub fn plan_sync<T: Tree>(
     ensures refused { T.is_honest → IfErr result (λ e. IsGivenUp e ⊎ IsSyncPlan (T.files tree.old) kconfig.now dotconfig.now (Err e)) }
 {
     let sources = read_sources(alloc, kconfig, dotconfig)?;
-    let old = read_old(alloc, tree)?;
-    let report = report_over(alloc, &sources, &old)?;
-    Ok(Planned {
-        sources,
-        old,
-        report,
-    })
+    plan_sources(alloc, tree, sources)
 }

@@ -3,28 +3,46 @@
 //! empty one is made. The tree says then what it said before.
 ghost use Rattle.std.specs.Prelude.{◌≡◌, ◌⊎◌, ℕ, List, Err, IfErr, IfOk, IsErrOf, IsTrue, true};
 ghost use Rattle.ks_symbols.specs.Names.{is_in, is_name};
-ghost use Rattle.ks_tree.specs.Files.{Files};
-ghost use Rattle.ks_tree.specs.Frames.{Counted};
+ghost use Rattle.ks_tree.specs.Frames.{Counted, Reads};
 ghost use Rattle.ks_engine.specs.Refusals.{IsGivenUp};
 ghost use Rattle.ks_engine.specs.SyncPlan.{IsSyncPlan};
 ghost use Rattle.ks_engine.specs.Follows.{GoesOn};
 ghost use Rattle.ks_engine.specs.Stamped.{AreDeclared, FollowsSyncStamped, IsStamped, IsStampedRefused};
+ghost use Rattle.ks_engine.specs.Views.{IsPrepared};
 
-use crate::synchronise::sync;
+use crate::planning::{parse_sources, plan_sources};
+use crate::synchronise::{Work, work_of, write_all};
 use crate::{EngineError, Report};
-use ks_symbols::{Kconfig, Name, read_kconfig};
+use ks_symbols::{Kconfig, Name};
 use ks_tree::{Tree, make_stamps};
 use std::alloc::Global;
 
-/// The symbols that a Kconfig declares.
-fn declared_names(alloc: Global, kconfig: &Kconfig<'_>) -> Result<Vec<Name>, EngineError>
-    ensures declared { IfOk result (λ names. AreDeclared kconfig.now names.items) }
-    ensures legal { IfOk result (λ names. (x : List ℕ) → is_in names.items x ≡ true → IsTrue (is_name x)) }
-    ensures refused { IfErr result (λ e. IsGivenUp e ⊎ ((files : Files) (dotconfig : List ℕ) → IsSyncPlan files kconfig.now dotconfig (Err e))) }
-    ensures no_device { IsErrOf result EngineError.Device → ⊥ }
+/// What stands ready before the first write: what is to be written, and the names of the declared symbols.
+#[derive(Drop)]
+struct Ready {
+    work: Work,
+    names: Vec<Name>,
+}
+
+/// All steps before the first write.
+fn prepare<T: Tree>(
+    alloc: Global,
+    tree: &mut T,
+    kconfig: &Kconfig<'_>,
+    dotconfig: &[u8],
+) -> Result<Ready, EngineError>
+    ensures reads { Reads T.Tree tree.old tree.new (IsErrOf result EngineError.Device) }
+    ensures planned { T.is_honest → IfOk result (λ r. IsPrepared (T.files tree.old) kconfig.now dotconfig.now r.work) }
+    ensures declared { IfOk result (λ r. AreDeclared kconfig.now r.names.items) }
+    ensures legal { IfOk result (λ r. (x : List ℕ) → is_in r.names.items x ≡ true → IsTrue (is_name x)) }
+    ensures refused { T.is_honest → IfErr result (λ e. IsGivenUp e ⊎ IsSyncPlan (T.files tree.old) kconfig.now dotconfig.now (Err e)) }
 {
-    let symbols = read_kconfig(alloc, kconfig)?;
-    Ok(symbols.names(alloc)?)
+    let parsed = parse_sources(alloc, kconfig, dotconfig)?;
+    let names = parsed.symbols.names(alloc)?;
+    drop(parsed.symbols);
+    let planned = plan_sources(alloc, tree, parsed.sources)?;
+    let work = work_of(alloc, planned)?;
+    Ok(Ready { work, names })
 }
 
 /// Does what `sync` does, and then makes the missing stamp of each declared symbol, which is empty. After `OutOfMemory` or
@@ -43,9 +61,9 @@ pub fn sync_stamped<T: Tree>(
     // The device is to blame only where the tree counted a failure.
     ensures counted { Counted T.Tree tree.old tree.new (IsErrOf result EngineError.Device) }
 {
-    // Before the first write, so that want of memory for the names leaves all as it was.
-    let names = declared_names(alloc, kconfig)?;
-    let report = sync(alloc, tree, kconfig, dotconfig)?;
-    make_stamps(alloc, tree, &names)?;
-    Ok(report)
+    // The names come before the first write, so that want of memory for them leaves all as it was.
+    let ready = prepare(alloc, tree, kconfig, dotconfig)?;
+    write_all(alloc, tree, &ready.work)?;
+    make_stamps(alloc, tree, &ready.names)?;
+    Ok(ready.work.report)
 }

@@ -30,14 +30,14 @@ pub struct Report {
 
 /// What is to be written.
 #[derive(Drop)]
-struct Work {
-    report: Report,
+pub(crate) struct Work {
+    pub(crate) report: Report,
     header: Vec<u8>,
     auto: Vec<u8>,
 }
 
 /// All that is to be written, before any of it is. The old auto.conf is let go first, since the texts to come are as large.
-fn work_of(alloc: Global, planned: Planned) -> Result<Work, AllocError>
+pub(crate) fn work_of(alloc: Global, planned: Planned) -> Result<Work, AllocError>
     ensures { IfOk result (λ work. (plan : Plan) → IsPlannedBy plan planned → IsWork plan work) }
 {
     let Planned {
@@ -74,7 +74,7 @@ fn prepare<T: Tree>(
 }
 
 /// The stamps, then the header, then auto.conf: an auto.conf before its stamps would hide the change for good.
-fn write_all<T: Tree>(alloc: Global, tree: &mut T, work: &Work) -> Result<(), TreeFault>
+pub(crate) fn write_all<T: Tree>(alloc: Global, tree: &mut T, work: &Work) -> Result<(), TreeFault>
     ensures all { T.is_honest → (plan : Plan) → IsWork plan work.now
         → OnOk result (SyncDone (T.files tree.old) (T.files tree.new) plan work.now.report.touched.items) }
     ensures some { T.is_honest → (plan : Plan) → IsWork plan work.now

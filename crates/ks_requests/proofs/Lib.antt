@@ -9,4 +9,5 @@ pub mod JsonReading
 pub mod JsonObjects
 mod ScriptFaults
 mod ScriptSpellings
+mod ScriptSyncing
 mod ScriptWords

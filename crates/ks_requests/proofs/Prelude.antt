@@ -1,12 +1,15 @@
 -- What the proofs of this crate import: one name for each thing.
-pub use Rattle.ks_symbols.proofs.Prelude.{All, All-head, All-tail, Bool, Err, IsRefusal, IsTrue, KconfigText, List, None, Ok, Option, Some, YieldsList-from_rest, [], and_from, and_parts, ap, append_assoc, ap₂, arith, bytes_eq, cases_Bool, cases_eq, cases_lt, codes, common_steps, cond, cond-false, cond-true, cond_some, cons_option, decimal, digit_char, digit_value-digit_char, drop, drop-append_seam, drop-cons, drop_all, encode_ascii, encode_utf8, encodes_same, err_from_is_err_and, false, false_from_ne_true, filter, filter_map, flat_map, flat_map-append, get_or, inl, inr, is_path_byte, le-ltb, length, list_all, list_any, lt-leb, map, map-append, map_more, max, max_bytes, nat_lt, nat_tests, ne_eqb, not, nth_from_yields_List, option_and_then, option_map, or_else, position_from, position_or_len, position_or_len_is, refl, rules, slice_get, statement, string_bytes, subst, suc, sym, take, take_while, take_while-cons, true, unwrap_or, ℕ, ◌%◌, ◌&&◌, ◌++◌, ◌+◌, ◌-◌, ◌/◌, ◌<◌, ◌==◌, ◌^◌, ◌||◌, ◌∙◌, ◌∷◌, ◌≡◌, ◌≢◌, ◌≤◌}
+pub use Rattle.ks_symbols.proofs.Prelude.{All, All-head, All-tail, Bool, Err, IsRefusal, IsTrue, KconfigText, List, None, Ok, Option, Some, YieldsList-from_rest, [], and_from, and_parts, ap, append_assoc, ap₂, arith, bytes_eq, cases_Bool, cases_eq, cases_lt, codes, common_steps, cond, cond-false, cond-true, cond_some, cons_option, decimal, digit_char, digit_value-digit_char, drop, drop-append_seam, drop-cons, drop_all, encode_ascii, encode_utf8, encodes_same, err_from_is_err_and, false, false_from_ne_true, false≢true, filter, filter_map, flat_map, flat_map-append, get_or, inl, inr, is_path_byte, le-ltb, length, list_all, list_any, lt-leb, map, map-append, map_more, max, max_bytes, nat_lt, nat_tests, ne_eqb, nil_from_length, not, not-false, not-true, nth_from_yields_List, option_and_then, option_map, or_cases, or_else, or_parts, position_from, position_or_len, position_or_len_is, refl, rules, slice_get, statement, string_bytes, subst, suc, sym, take, take_while, take_while-cons, true, unwrap_or, ℕ, ◌%◌, ◌&&◌, ◌++◌, ◌+◌, ◌-◌, ◌/◌, ◌<◌, ◌==◌, ◌^◌, ◌||◌, ◌∙◌, ◌∷◌, ◌≡◌, ◌≢◌, ◌≤◌, ◌⊎◌}
 unfoldable pub use Rattle.ks_symbols.proofs.Prelude.{encode, is_path, line_len, lines, lines_from}
 pub use Rattle.ks_engine.proofs.Prelude.{AreLegalChanges, Files, PlansOver, Reports, Texts, action, all_noted, append-nil, auto_text, is_some, lt-ltb, noted, old_of, source_refusal, sources_of}
 pub use Rattle.ks_streams.proofs.Prelude.{Bor, Breaks, Prints, PrintsOrBreaks, state_of}
 pub use Rattle.ks_output.proofs.Prelude.{Keeps, eq-eqb, opened, run_is}
 pub use Rattle.ks_fixdep.proofs.Prelude.{insert_key}
 pub use Rattle.ks_tree.proofs.Prelude.{IfSome}
-pub use Rattle.std.proofs.Common.{nat_le}
+pub use Rattle.std.proofs.Common.{nat_le, tests}
+pub use Rattle.std.proofs.lemmas.Iterator.Search.{any_from_yields_List}
+pub use Rattle.std.specs.Prelude.{is_none}
+pub use Rattle.ks_symbols.specs.Statements.{is_silent}
 pub use Rattle.std.proofs.lemmas.List.Sums.{fold-append}
 pub use Rattle.bstr.specs.Find.{IsFirstByte, is_byte}
 pub use Rattle.json.proofs.Printed.Decimals.{IsNumber-decimal}
@@ -26,6 +29,7 @@ pub use Rattle.ks_engine.specs.declared.explaining.Cause.{Cause}
 pub use Rattle.ks_engine.specs.declared.explaining.Explanation.{Explanation}
 pub use Rattle.ks_engine.specs.declared.question.Limit.{Limit}
 pub use Rattle.ks_engine.specs.declared.staleness.Verdict.{Verdict}
+pub use Rattle.ks_engine.specs.Refusals.{of_auto, of_source}
 pub use Rattle.ks_output.specs.declared.auto_conf.AutoError.{AutoError}
 pub use Rattle.ks_streams.proofs.Writing.{told, told_first, told_more}
 pub use Rattle.ks_symbols.proofs.Configured.{chain}
@@ -35,15 +39,16 @@ pub use Rattle.ks_requests.specs.Faults.{complaint, fault_text}
 unfoldable pub use Rattle.ks_requests.specs.Faults.{counted}
 unfoldable pub use Rattle.ks_requests.specs.JsonLines.{json_beginning, json_byte, json_cause, json_causes, json_explanation, json_first, json_items, json_name, json_refused, json_string, verdict_word}
 pub use Rattle.ks_requests.specs.Laws.{AreBytes, CharactersTellApart, HasBytes, IsOfBytes, LinesAreObjects, asked_values, cause_value, cause_values, characters, first_values, value_of}
-pub use Rattle.ks_requests.specs.Preview.{IsPreviewRefusal, full_refusal, old_generation, old_refusal, touch_lines}
+pub use Rattle.ks_requests.specs.Preview.{full_refusal, old_generation, old_refusal, touch_lines}
 unfoldable pub use Rattle.ks_requests.specs.Preview.{preview_refusal}
 pub use Rattle.ks_requests.specs.Replies.{answer_line, cause_line, reply_line}
 unfoldable pub use Rattle.ks_requests.specs.Replies.{reply_lines, report_lines, synced_line}
-pub use Rattle.ks_requests.specs.Script.{Line, Record, Says, Stale, Sync, is_word, is_word_byte, seen_line}
+pub use Rattle.ks_requests.specs.Script.{Line, Record, Says, Stale, Sync, begins_sync, is_word, is_word_byte, seen_line}
 unfoldable pub use Rattle.ks_requests.specs.Script.{first_word, record_line, script_line, script_lines, stale_line, sync_line}
 pub use Rattle.ks_requests.specs.ScriptLaws.{LinesAreSpelled}
 pub use Rattle.ks_requests.specs.ScriptRefusals.{is_faulty}
 unfoldable pub use Rattle.ks_requests.specs.ScriptRefusals.{line_fault, script_refusal}
+pub use Rattle.ks_requests.specs.ScriptSyncs.{is_sync, script_syncs}
 pub use Rattle.ks_requests.specs.Sites.{IsSiteLine, IsThere, Site, excerpt, excerpt_at, excerpt_in, part_text, site_line, site_of}
 pub use Rattle.ks_requests.specs.Statuses.{code_of, explanation_status, reply_status, stale_among, status_unless_refused, worst}
 pub use Rattle.ks_requests.specs.Symbols.{cost_line, symbol_of, symbols_of, use_line}
@@ -51,7 +56,6 @@ unfoldable pub use Rattle.ks_requests.specs.Targets.{targets_in}
 pub use Rattle.ks_requests.specs.Unknown.{unknown_in, unknown_line, unknown_names}
 unfoldable pub use Rattle.ks_requests.specs.Unknown.{unknown_lines}
 pub use Rattle.ks_requests.specs.Views.{seen_inputs, seen_site, seen_texts}
-pub use Rattle.ks_requests.specs.declared.preview.PreviewError.{PreviewError}
 pub use Rattle.ks_requests.specs.declared.script_error.ScriptError.{ScriptError}
 pub use Rattle.ks_requests.specs.declared.sites.Part.{Part}
 pub use Rattle.ks_requests.specs.Endings.{Complains, Ending, IsUnknown, TellsUnknown}

@@ -1,6 +1,7 @@
 pub mod Requests
 pub mod Script
 pub mod ScriptRefusals
+pub mod ScriptSyncs
 pub mod ScriptLaws
 pub mod ScriptExamples
 pub mod Faults

@@ -1,19 +1,18 @@
 -- What a preview prints: which stamps a synchronisation would renew, and the auto.conf that it would write. The form is this project's.
-use Rattle.std.specs.Prelude.{◌≡◌, ◌+◌, ◌-◌, ◌^◌, ◌==◌, ◌++◌, ℕ, List, codes, flat_map, Option, Some, None, option_map, Result, Ok, Err, ⊤, if◌then◌else◌}
+use Rattle.std.specs.Prelude.{◌≡◌, ◌+◌, ◌-◌, ◌^◌, ◌==◌, ◌++◌, ℕ, List, codes, flat_map, Option, Some, None, option_map, if◌then◌else◌}
 use Rattle.std.specs.FinMap as map
 use Rattle.std.specs.Io.KnownBytes.{Appends}
 use Rattle.ks_symbols.specs.Dialects.{KconfigText}
-use Rattle.ks_symbols.specs.declared.error.SourceError.TheVariants as source
 use Rattle.ks_symbols.specs.Refusals.{or_else}
 use Rattle.ks_output.specs.OldConfig.{Texts}
 use Rattle.ks_output.specs.declared.auto_conf.AutoError.{AutoError}
-use Rattle.ks_output.specs.declared.auto_conf.AutoError.TheVariants as auto
 use Rattle.ks_output.specs.AutoText.{auto_text}
 use Rattle.ks_output.specs.AutoConf.{auto_map, auto_generation, auto_refusal}
+use Rattle.ks_engine.specs.declared.error.EngineError.{EngineError}
+use Rattle.ks_engine.specs.declared.error.EngineError.TheVariants.{GenerationFull}
+use Rattle.ks_engine.specs.Refusals.{of_auto, of_source}
 use Rattle.ks_engine.specs.SyncPlan.{Sources, AreSources, source_refusal}
 use Rattle.ks_engine.specs.Synchronised.{AreLegalChanges}
-use Rattle.ks_requests.specs.declared.preview.PreviewError.{PreviewError}
-use Rattle.ks_requests.specs.declared.preview.PreviewError.TheVariants as preview
 
 -- what an old auto.conf holds; none is the empty one of generation 0
 abbrev pub old_texts : Option (List ℕ) → Texts
@@ -33,13 +32,13 @@ abbrev pub old_refusal : Option (List ℕ) → Option AutoError
 old_refusal None = None
 old_refusal (Some text) = auto_refusal text
 
-abbrev pub full_refusal : ℕ → Option PreviewError
-full_refusal generation = if generation == 2 ^ 64 - 1 then Some preview.GenerationFull else None
+abbrev pub full_refusal : ℕ → Option EngineError
+full_refusal generation = if generation == 2 ^ 64 - 1 then Some GenerationFull else None
 
-unfoldable pub preview_refusal : KconfigText → List ℕ → Option (List ℕ) → Option PreviewError
+unfoldable pub preview_refusal : KconfigText → List ℕ → Option (List ℕ) → Option EngineError
 preview_refusal kconfig dotconfig old =
-    or_else (option_map preview.Source (source_refusal kconfig dotconfig))
-    (or_else (option_map preview.Auto (old_refusal old)) (full_refusal (old_generation old)))
+    or_else (option_map of_source (source_refusal kconfig dotconfig))
+    (or_else (option_map of_auto (old_refusal old)) (full_refusal (old_generation old)))
 
 -- a preview of texts that are accepted: the names that differ from the old auto.conf, and the auto.conf of the generation after it
 pub record IsPreview (kconfig : KconfigText) (dotconfig : List ℕ) (old : Option (List ℕ)) (text : List ℕ) : Type 0 where
@@ -55,20 +54,3 @@ pub record Previews (kconfig : KconfigText) (dotconfig : List ℕ) (old before a
   pub text : List ℕ
   pub is_preview : IsPreview kconfig dotconfig old text
   pub appended : Appends before after text
-
--- An error is the refusal that the definitions have, or want of memory, or a failing output of what is not refused.
-abbrev pub IsPreviewRefusal : PreviewError → Option PreviewError → Type 0
-IsPreviewRefusal preview.Output refusal = refusal ≡ None
-IsPreviewRefusal preview.OutOfMemory refusal = ⊤
-IsPreviewRefusal (preview.Source source.OutOfMemory) refusal = ⊤
-IsPreviewRefusal (preview.Auto auto.OutOfMemory) refusal = ⊤
-IsPreviewRefusal e refusal = refusal ≡ Some e
-
-abbrev pub PreviewRefusedBy : {X : Type 0} → Result X PreviewError → Option PreviewError → Type 0
-PreviewRefusedBy (Ok x) refusal = refusal ≡ None
-PreviewRefusedBy (Err e) refusal = IsPreviewRefusal e refusal
-
--- all but a failing output leaves the writer's known bytes
-abbrev pub WritesNothing : PreviewError → Option (List ℕ) → Option (List ℕ) → Type 0
-WritesNothing preview.Output before after = ⊤
-WritesNothing e before after = after ≡ before

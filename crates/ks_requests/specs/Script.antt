@@ -54,6 +54,10 @@ abbrev pub begins_command : List ℕ → Bool
 begins_command line =
     starts_with nat_eq line (codes "sync ") || starts_with nat_eq line (codes "record ") || starts_with nat_eq line (codes "stale ")
 
+-- .. and as each that asks for a `sync`
+abbrev pub begins_sync : List ℕ → Bool
+begins_sync line = starts_with nat_eq line (codes "sync ")
+
 -- what the lines of a text ask for, in their order
 unfoldable pub script_lines : List ℕ → List Line
 script_lines text = filter_map script_line (lines text)

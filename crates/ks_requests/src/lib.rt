@@ -25,7 +25,7 @@ pub use inputs::{Inputs, Texts, borrowed, borrowed_path, inputs_at, read_given, 
 pub use json_lines::write_json_answer;
 pub use laws::{json_lines_are_objects, script_examples, script_lines_are_spelled};
 pub use output::{print, refuse, refuse_at};
-pub use preview::{PreviewError, preview_of, preview_to};
+pub use preview::preview_of;
 pub use reading::Reading;
 pub use refusal::Refusal;
 pub use replies::{
@@ -33,7 +33,7 @@ pub use replies::{
     write_build_line, write_refused_target,
 };
 pub use request::{Form, Request, Stamps, Targets};
-pub use script::{ScriptLine, read_script};
+pub use script::{ScriptLine, read_script, script_syncs};
 pub use script_error::ScriptError;
 pub use sites::{Part, Site, site_of};
 pub use status::{Count, Outcome, Status, stale_of, worse};

@@ -1,62 +1,15 @@
 //! What a synchronisation would do, without doing it: the stamps that it would renew, and its auto.conf.
 //!
-//! The whole text is made before its first byte is written, so that a refusal of what was read writes
-//! nothing.
-ghost use Rattle.std.specs.Prelude.{◌≡◌, ◌+◌, ◌++◌, None, IfOk, OnOk, IfErr, IsErrOf, option_map};
+//! The whole text is made here, and written by whoever asked for it, so that a refusal of what was read writes nothing.
+ghost use Rattle.std.specs.Prelude.{◌≡◌, ◌+◌, ◌++◌, None, IfOk, OnOk, option_map};
 ghost use Rattle.ks_symbols.specs.Refusals.{RefusedBy};
 ghost use Rattle.ks_output.specs.AutoText.{auto_text};
-ghost use Rattle.ks_requests.specs.declared.preview.PreviewError.TheVariants.{Auto, OutOfMemory, Source};
-ghost use Rattle.ks_requests.specs.Preview.{IsPreview, PreviewRefusedBy, Previews, WritesNothing, old_generation, old_refusal, old_texts, preview_refusal, touch_lines};
+ghost use Rattle.ks_requests.specs.Preview.{IsPreview, old_generation, old_refusal, old_texts, preview_refusal, touch_lines};
 
-use ks_engine::{Report, Sources, plan, read_sources};
+use ks_engine::{EngineError, Report, Sources, plan, read_sources};
 use ks_output::{AutoError, OldConfig, read_auto, write_auto};
-use ks_symbols::{Kconfig, Name, SourceError};
+use ks_symbols::{Kconfig, Name};
 use std::alloc::{AllocError, Global};
-use std::io::Write;
-use thiserror::Error;
-
-/// Why there is no preview.
-#[derive(Debug, Drop, Error)]
-pub enum PreviewError {
-    /// The Kconfig or the `.config` is refused.
-    #[error("{0}")]
-    Source(SourceError),
-    /// The old auto.conf is refused.
-    #[error("{0}")]
-    Auto(AutoError),
-    #[error("10 OutOfMemory")]
-    OutOfMemory,
-    /// No generation comes after that of the old auto.conf.
-    #[error("42 GenerationFull")]
-    GenerationFull,
-    /// The output failed; a beginning of the text may be out.
-    #[error("51 Output")]
-    Output,
-}
-
-impl From<SourceError> for PreviewError {
-    ghost from_gives = { λ s e. e ≡ Source s };
-
-    fn from(error: SourceError) -> PreviewError {
-        PreviewError::Source(error)
-    }
-}
-
-impl From<AutoError> for PreviewError {
-    ghost from_gives = { λ a e. e ≡ Auto a };
-
-    fn from(error: AutoError) -> PreviewError {
-        PreviewError::Auto(error)
-    }
-}
-
-impl From<AllocError> for PreviewError {
-    ghost from_gives = { λ _ e. e ≡ OutOfMemory };
-
-    fn from(_error: AllocError) -> PreviewError {
-        PreviewError::OutOfMemory
-    }
-}
 
 /// The old auto.conf, or the empty one where there is none.
 fn read_old(alloc: Global, old: Option<&[u8]>) -> Result<OldConfig, AutoError>
@@ -95,41 +48,21 @@ fn preview_text(alloc: Global, report: Report, sources: &Sources) -> Result<Vec<
     Ok(text)
 }
 
-/// The text of a preview, of any length, though a synchronisation refuses an auto.conf of more than 64 MiB.
+/// What a synchronisation over an old auto.conf would touch, a line `touch NAME` each, and the auto.conf that it would write, of any
+/// length, though a synchronisation refuses one of more than 64 MiB. Without an old one it is the first synchronisation.
 pub fn preview_of(
     alloc: Global,
     kconfig: &Kconfig<'_>,
     dotconfig: &[u8],
     old: Option<&[u8]>,
-) -> Result<Vec<u8>, PreviewError>
+) -> Result<Vec<u8>, EngineError>
     ensures text { IfOk result (λ t. IsPreview kconfig.now dotconfig.now (option_map (λ t. t.now) old.entry) t.items) }
-    ensures refusal { PreviewRefusedBy result (preview_refusal kconfig.now dotconfig.now (option_map (λ t. t.now) old.entry)) }
-    ensures no_output { IsErrOf result PreviewError.Output → ⊥ }
+    ensures refusal { RefusedBy EngineError.OutOfMemory result (preview_refusal kconfig.now dotconfig.now (option_map (λ t. t.now) old.entry)) }
 {
     let sources = read_sources(alloc, kconfig, dotconfig)?;
     let before = read_old(alloc, old)?;
     let Some(report) = plan(alloc, &sources, &before)? else {
-        return Err(PreviewError::GenerationFull);
+        return Err(EngineError::GenerationFull);
     };
     Ok(preview_text(alloc, report, &sources)?)
-}
-
-/// Writes what a synchronisation over an old auto.conf would touch, a line `touch NAME` each, and the
-/// auto.conf that it would write. Without an old one it is the first synchronisation.
-pub fn preview_to<W: Write>(
-    alloc: Global,
-    kconfig: &Kconfig<'_>,
-    dotconfig: &[u8],
-    old: Option<&[u8]>,
-    out: &mut W,
-) -> Result<(), PreviewError>
-    ensures written { OnOk result (Previews kconfig.now dotconfig.now (option_map (λ t. t.now) old.entry) (W.contents out.old) (W.contents out.new)) }
-    ensures refusal { PreviewRefusedBy result (preview_refusal kconfig.now dotconfig.now (option_map (λ t. t.now) old.entry)) }
-    ensures unwritten { IfErr result (λ e. WritesNothing e (W.contents out.old) (W.contents out.new)) }
-{
-    let text = preview_of(alloc, kconfig, dotconfig, old)?;
-    match out.write_all(&text) {
-        Ok(()) => Ok(()),
-        Err(_) => Err(PreviewError::Output),
-    }
 }

@@ -1,10 +1,9 @@
 //! Why a command was refused as a whole. The texts that users see stand in `faults.rt`.
 ghost use Rattle.std.specs.Prelude.{◌≡◌};
 ghost use Rattle.ks_engine.specs.declared.error.EngineError.TheVariants.{OutOfMemory};
-ghost use Rattle.ks_requests.specs.Refusals.{of_preview, of_script};
+ghost use Rattle.ks_requests.specs.Refusals.{of_script};
 ghost use Rattle.ks_requests.specs.declared.refusal.Refusal.TheVariants.{Engine};
 
-use crate::preview::PreviewError;
 use crate::script_error::ScriptError;
 use ks_engine::EngineError;
 use std::alloc::{AllocError, AllocFailed};
@@ -25,20 +24,6 @@ impl From<EngineError> for Refusal {
 
     fn from(error: EngineError) -> Refusal {
         Refusal::Engine(error)
-    }
-}
-
-impl From<PreviewError> for Refusal {
-    ghost from_gives = { λ e r. r ≡ of_preview e };
-
-    fn from(error: PreviewError) -> Refusal {
-        match error {
-            PreviewError::Source(error) => Refusal::Engine(EngineError::from(error)),
-            PreviewError::Auto(error) => Refusal::Engine(EngineError::from(error)),
-            PreviewError::OutOfMemory => Refusal::Engine(EngineError::OutOfMemory),
-            PreviewError::GenerationFull => Refusal::Engine(EngineError::GenerationFull),
-            PreviewError::Output => Refusal::Output,
-        }
     }
 }
 

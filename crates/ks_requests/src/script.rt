@@ -3,10 +3,11 @@
 //! A script that is read wrongly asks the wrong question of a build, so its lines have one spelling each: words stand
 //! apart by one space and are not empty, and any other line is refused with its number. Nothing is opened or run here.
 //! The form is a rule of this project.
-ghost use Rattle.std.specs.Prelude.{◌≡◌, ◌++◌, [], None, count_by, length, map, option_map, take_while, drop, OnOk, IfOk, IsErrOf};
-ghost use Rattle.std.specs.List.{cons_option, list_all};
-ghost use Rattle.ks_requests.specs.Script.{begins_command, is_word_byte, is_word, first_word, seen_line, sync_line, record_line, stale_line, script_line, script_lines};
-ghost use Rattle.ks_requests.specs.ScriptRefusals.{line_fault, script_refusal};
+ghost use Rattle.std.specs.Prelude.{◌≡◌, ◌++◌, [], None, count_by, is_none, length, map, option_map, take_while, drop, OnOk, IfOk, IsErrOf};
+ghost use Rattle.std.specs.List.{cons_option, list_all, list_any};
+ghost use Rattle.ks_requests.specs.Script.{begins_command, begins_sync, is_word_byte, is_word, first_word, seen_line, sync_line, record_line, stale_line, script_line, script_lines};
+ghost use Rattle.ks_requests.specs.ScriptRefusals.{is_faulty, line_fault, script_refusal};
+ghost use Rattle.ks_requests.specs.ScriptSyncs.{script_syncs};
 ghost use Rattle.ks_symbols.specs.Lines.{lines};
 ghost use Rattle.ks_symbols.specs.Refusals.{RefusedBy};
 
@@ -163,4 +164,32 @@ pub fn read_script(alloc: Global, text: &[u8]) -> Result<Vec<ScriptLine<'_>>, Sc
         number += 1;
     }
     Ok(lines)
+}
+
+/// Whether a line begins as a `sync` does.
+fn has_sync(text: &[u8]) -> bool
+    ensures { result ≡ list_any begins_sync (lines text.now) }
+{
+    text.lines().any(|line| line.starts_with(b"sync "))
+}
+
+/// Whether a line asks for nothing, and is neither a comment nor empty.
+fn is_faulty(line: &[u8]) -> bool
+    ensures { result ≡ is_faulty line.now }
+{
+    parse_line(line).is_none() && !is_silent(line)
+}
+
+/// Whether a script isn't refused. Nothing is kept of its lines.
+fn is_faultless(text: &[u8]) -> bool
+    ensures { result ≡ is_none (script_refusal text.now) }
+{
+    text.len() <= MAX_BYTES && !text.lines().any(|line| is_faulty(line))
+}
+
+/// Whether a script asks for a `sync`, and isn't refused. Where no line begins as one does, no line is parsed to know it.
+pub fn script_syncs(text: &[u8]) -> bool
+    ensures { result ≡ script_syncs text.now }
+{
+    has_sync(text) && is_faultless(text)
 }

@@ -2,14 +2,12 @@
 //! counts their lines; who only asks what it would do is told which.
 ghost use Rattle.std.specs.Prelude.{◌≡◌, ◌++◌, IfOk, OnOk, flat_map};
 ghost use Rattle.std.specs.FinMap as map;
-ghost use Rattle.ks_symbols.specs.Kconfig.{kconfig_refusal};
 ghost use Rattle.ks_symbols.specs.Lines.{lines};
-ghost use Rattle.ks_symbols.specs.Refusals.{RefusedBy};
 ghost use Rattle.ks_symbols.specs.Statements.{statement};
-ghost use Rattle.ks_requests.specs.Unknown.{unknown_in, unknown_line, unknown_lines, unknown_names};
+ghost use Rattle.ks_requests.specs.Unknown.{unknown_in, unknown_line, unknown_names};
 
 use bstr::ByteSlice;
-use ks_symbols::{Kconfig, SourceError, Statement, Symbols, parse_statement, read_kconfig};
+use ks_symbols::{Statement, Symbols, parse_statement};
 use std::alloc::{AllocError, Global};
 
 /// Appends a line, if this line of a `.config` is about a name that is not declared.
@@ -40,18 +38,16 @@ fn write_unknown(symbols: &Symbols, dotconfig: &[u8], text: &mut Vec<u8>) -> Res
     Ok(())
 }
 
-/// A line `unknown NAME` for each line of a `.config` about a name that a Kconfig doesn't declare, in their order. The Kconfig
-/// is read for it, and is refused as ever; of the `.config` nothing else is looked at.
+/// A line `unknown NAME` for each line of a `.config` about a name that is none of the symbols, in their order. Nothing else is
+/// looked at in it.
 pub fn unknown_lines(
     alloc: Global,
-    kconfig: &Kconfig<'_>,
+    symbols: &Symbols,
     dotconfig: &[u8],
-) -> Result<Vec<u8>, SourceError>
-    ensures lines { IfOk result (λ text. text.items ≡ unknown_lines kconfig.now dotconfig.now) }
-    ensures refusal { RefusedBy SourceError.OutOfMemory result (kconfig_refusal kconfig.now) }
+) -> Result<Vec<u8>, AllocError>
+    ensures { IfOk result (λ text. text.items ≡ flat_map unknown_line (unknown_names (map.get symbols.now.kinds) (lines dotconfig.now))) }
 {
-    let symbols = read_kconfig(alloc, kconfig)?;
     let mut text = Vec::new(alloc);
-    write_unknown(&symbols, dotconfig, &mut text)?;
+    write_unknown(symbols, dotconfig, &mut text)?;
     Ok(text)
 }

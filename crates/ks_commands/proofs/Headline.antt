@@ -1,5 +1,5 @@
 -- What scripts and runs of the program tell: no synchronisation was broken off before one of them where none was at the end.
-use Rattle.ks_commands.proofs.Prelude.{IsJudged, filter_agree, Dialect, ◌≡◌, ◌<◌, ℕ, List, [], ◌∷◌, Some, Result, Ok, Err, IfOk, IsTrue, inl, inr, subst, filter, map, fold, max, arith, All, is_command, All-nil, All-cons, Reply, Verdict, Refused, EngineError, Explanation, BuildState, Report, Action, Sync, Stale, TreeState, FollowsSync, FollowsRecordUnder, FollowsDepfile, FollowsStamps, Stamps, Conventions, History, LastRecord, NoneBroken, last_record, FollowsStale, Leads, Leaves, Step, changed_since, found, suspect_since, IsGivenUpSync, suspect_since-changed_since, Request, Ending, reply_status, targets_at, BatchTellsChanges, ProgramsTellChanges, Continues, FollowsImpact, FollowsOutdated, FollowsWhy, Runs, not_counted, Chain, ProgramRun, ProgramTellsChanges, StepsTellChanges, TellsAfter, TellsBuild, TellsCauses, TellsChange, spelling_of, KconfigText, read_in, rules}
+use Rattle.ks_commands.proofs.Prelude.{IsAnswerAfter, IsAnswerOn, IsExplanationOn, IsJudged, IsShown, IsStateOf, filter_agree, Dialect, ◌≡◌, ◌<◌, ℕ, List, [], ◌∷◌, Some, Result, Ok, Err, IfOk, IsTrue, inl, inr, subst, filter, map, fold, max, arith, All, is_command, All-nil, All-cons, Reply, Verdict, Refused, EngineError, Explanation, BuildState, Report, Action, Sync, Stale, TreeState, FollowsSync, FollowsRecordUnder, FollowsDepfile, FollowsStamps, Stamps, Conventions, History, LastRecord, NoneBroken, last_record, Leads, Leaves, Step, changed_since, found, suspect_since, IsGivenUpSync, suspect_since-changed_since, Request, Ending, reply_status, targets_at, BatchTellsChanges, ProgramsTellChanges, Continues, Runs, not_counted, Chain, ProgramRun, ProgramTellsChanges, StepsTellChanges, TellsAfter, TellsBuild, TellsCauses, TellsChange, spelling_of, KconfigText, read_in, rules}
 use Rattle.ks_engine.specs.declared.recording.Recorded.{Recorded as RecordAnswer}
 use Rattle.ks_engine.specs.declared.staleness.Verdict.{Verdict as VerdictValue}
 use Rattle.ks_engine.specs.History.{Synced as Past}
@@ -67,12 +67,12 @@ causes_changed s o (Err e) none is = is
 one_record : (h : History) (o : List ℕ) (r w : LastRecord) → last_record h o ≡ Some r → last_record h o ≡ Some w → r ≡ w
 one_record h o r w a b = cc
 
-build_tells : (old new : TreeState) (o command : List ℕ) (answer : Result BuildState EngineError) → NoneBroken old.history
-    → FollowsOutdated old o command answer new → IsTrue (is_command command) → TellsBuild old o command answer
-build_tells old new o command answer none is legal = record {
-  differs = λ r was other. (is.recorded legal r was).differs other;
+build_tells : (old : TreeState) (o command : List ℕ) (answer : Result BuildState EngineError) → IsShown old → NoneBroken old.history
+    → IsStateOf old.files o command answer → IsTrue (is_command command) → TellsBuild old o command answer
+build_tells old o command answer shown none is legal = record {
+  differs = λ r was other. (is.recorded legal old.history r shown was).differs other;
   same = λ r was alike.
-      let found = (is.recorded legal r was).same alike in
+      let found = (is.recorded legal old.history r shown was).same alike in
       (found.0, found.1, judged_tells old o found.0 none (λ w last. subst (λ v. IsJudged old.files old.history o v found.0) (one_record old.history o r w was last) found.2));
 }
 
@@ -80,40 +80,41 @@ steps_tell : (dialect : Dialect) (old new : TreeState) (actions : List Action) (
     → Runs dialect old new actions replies → StepsTellChanges dialect old new actions replies
 steps_tell dialect old new actions replies none (failures, later, run) = search rules
 
-program_tells : (dialect : Dialect) (r : Request) (ended : Ending) (old new : TreeState) → NoneBroken old.history → NoneBroken new.history
+program_tells : (dialect : Dialect) (r : Request) (ended : Ending) (old new : TreeState) → IsShown old → NoneBroken old.history → NoneBroken new.history
     → Continues dialect r ended old new → ProgramTellsChanges (record { dialect = dialect; before = old; request = r; ended = ended; after = new })
-program_tells dialect (request.Stale ts f) ended old new none later is = (
+program_tells dialect (request.Stale ts f) ended old new shown none later is = (
   is.0,
-  verdicts_weaker f (λ o answer. FollowsStale old o answer new) (TellsChange old) not_counted (targets_at old.files ts) ended
-      (λ o answer is. judged_tells old o answer none is.recorded) is.1,
+  verdicts_weaker f (IsAnswerOn old.files) (TellsChange old) not_counted (targets_at old.files ts) ended
+      (λ o answer is. judged_tells old o answer none (λ r was. is.recorded old.history r shown was)) is.1,
 )
-program_tells dialect (request.Age which ts) ended old new none later is = (
+program_tells dialect (request.Age which ts) ended old new shown none later is = (
   is.0,
-  verdicts_weaker Text (λ o answer. FollowsStale old o answer new) (TellsChange old) not_counted (targets_at old.files ts) ended
-      (λ o answer is. judged_tells old o answer none is.recorded) is.1,
+  verdicts_weaker Text (IsAnswerOn old.files) (TellsChange old) not_counted (targets_at old.files ts) ended
+      (λ o answer is. judged_tells old o answer none (λ r was. is.recorded old.history r shown was)) is.1,
 )
-program_tells dialect (request.Why ts f) ended old new none later is = (
+program_tells dialect (request.Why ts f) ended old new shown none later is = (
   is.0,
-  answers_weaker f Every (spelling_of old.files) (λ o answer. FollowsWhy old o answer new) (TellsCauses old) not_counted (targets_at old.files ts) ended
+  answers_weaker f Every (spelling_of old.files) (IsExplanationOn old.files) (TellsCauses old) not_counted (targets_at old.files ts) ended
       (λ o answer is. record {
-        tells = judged_tells old o (told answer) none (λ r was. (is.recorded r was).judged);
-        causes = λ r was. causes_changed old o answer none (is.recorded r was).suspects;
+        tells = judged_tells old o (told answer) none (λ r was. (is.recorded old.history r shown was).judged);
+        causes = λ r was. causes_changed old o answer none (is.recorded old.history r shown was).suspects;
       }) is.1,
 )
-program_tells dialect (request.Impact k d ts f) ended old new none later is = (
+program_tells dialect (request.Impact k d ts f) ended old new shown none later is = (
   is.0,
-  impact_weaker dialect old.files (λ k d o answer. FollowsImpact old (read_in dialect k) d o answer new) (λ k. TellsAfter old (read_in dialect k)) _ _ f
+  impact_weaker dialect old.files (λ k. IsAnswerAfter old.files (read_in dialect k)) (λ k. TellsAfter old (read_in dialect k)) _ _ f
       (targets_at old.files ts) ended (λ k d o answer is after report synced.
-      judged_tells (at after old.failures (Past synced.plan.title synced.plan.config old.history)) o answer none (is.recorded after report synced)) is.1,
+      judged_tells (at after old.failures (Past synced.plan.title synced.plan.config old.history)) o answer none
+      (λ r was. is.recorded after report synced old.history r shown was)) is.1,
 )
-program_tells dialect asked ended old new none later is = search (rules, build_tells, steps_tell)
+program_tells dialect asked ended old new shown none later is = search (rules, build_tells, steps_tell)
 
 pub programs_tell_changes : ProgramsTellChanges
 programs_tell_changes first last [] chain none = All-nil ProgramTellsChanges
 programs_tell_changes first last (run ∷ runs) chain none =
     let later = none_at_first run.after runs last chain.3 none in
-    let before = none_before_program run.dialect run.request run.ended run.before run.after chain.1 later in
-    All-cons ProgramTellsChanges run runs (program_tells run.dialect run.request run.ended run.before run.after before later chain.1)
+    let before = none_before_program run.dialect run.request run.ended run.before run.after chain.2 later in
+    All-cons ProgramTellsChanges run runs (program_tells run.dialect run.request run.ended run.before run.after chain.1 before later chain.2)
     (programs_tell_changes run.after last runs chain.3 none)
 
 -- ---- a script without a refusal

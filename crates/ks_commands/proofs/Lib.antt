@@ -5,8 +5,10 @@ pub mod Siting
 pub mod Verdicts
 pub mod Counting
 pub mod Ending
+pub mod Histories
 pub mod Headline
 pub mod Differing
+mod Previewing
 pub mod Unknowns
 pub mod Spelled
 pub mod Objects

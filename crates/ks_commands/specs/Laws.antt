@@ -1,12 +1,12 @@
--- Laws of the definitions: what a preview has written, what a refusal leaves, the statuses, when names differ, what runs of the program tell, and what
--- `age` is for.
+-- Laws of the definitions: how histories go on with a request, what a preview has written, what a refusal leaves, the statuses, when names differ, what
+-- runs of the program tell, and what `age` is for.
 use Rattle.std.specs.Prelude.{◌≡◌, ◌⊎◌, ◌<◌, ◌≤◌, ◌↔◌, ℕ, List, Option, Result, Err, IfOk, Ok, false, true}
 use Rattle.std.specs.List.{All}
 use Rattle.ks_streams.specs.Streams.{State}
 use Rattle.ks_symbols.specs.declared.dialect.Dialect.{Dialect}
 use Rattle.ks_tree.specs.Files.{Files}
 use Rattle.ks_engine.specs.FileRuns.{FileState}
-use Rattle.ks_engine.specs.Follows.{TreeState}
+use Rattle.ks_engine.specs.Follows.{TreeState, at}
 use Rattle.ks_engine.specs.declared.aging.Ages.{Ages}
 use Rattle.ks_engine.specs.declared.error.EngineError.{EngineError}
 use Rattle.ks_engine.specs.History.{History, NoneBroken}
@@ -22,7 +22,8 @@ use Rattle.ks_requests.specs.Outputs.{WritesPreview}
 use Rattle.ks_requests.specs.Requests.{IsPreviewOf}
 use Rattle.ks_requests.specs.Statuses.{code_of}
 use Rattle.ks_commands.specs.Aging.{EndsAged}
-use Rattle.ks_commands.specs.Performed.{Ends, EndsBatch, by_files, by_histories}
+use Rattle.ks_commands.specs.Histories.{Continues, by_histories}
+use Rattle.ks_commands.specs.Performed.{Ends, EndsBatch, by_files}
 use Rattle.ks_symbols.specs.Configuration.{Configuration}
 use Rattle.ks_output.specs.OldConfig.{Texts}
 use Rattle.ks_compare.specs.Changes.{differs}
@@ -30,6 +31,14 @@ use Rattle.ks_requests.specs.declared.telling.Telling.{Telling}
 use Rattle.ks_commands.specs.Differences.{TellsChanges, asks_status}
 use Rattle.ks_commands.specs.Programs.{Chain, ProgramRun, ProgramTellsChanges, changes_told}
 use Rattle.ks_commands.specs.Scripts.{IsGivenUpRefusal}
+
+-- A request that ended so by the files of an honest tree goes on with each history that the first of them show: there is a next one, which the last of
+-- them show.
+abbrev pub RequestsGoOn : Type 0
+RequestsGoOn =
+    (dialect : Dialect) (request : Request) (ended : Ending) (old new : FileState) (h : History) → Shows old.files h
+    → Ends old.files (by_files dialect old new) request ended → (next : History)
+    × Continues dialect request ended (at old.files old.failures h) (at new.files new.failures next) × Shows new.files next
 
 -- A preview is done or refused, leaves the files as they are, and once done it has printed what is said of these words, to whoever reads it.
 pub record IsPreviewed (dialect : Dialect) (k d : List ℕ) (o : Option (List ℕ)) (old new : Files) (before after : State) (status : ℕ) : Type 0 where

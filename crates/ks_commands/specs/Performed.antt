@@ -1,11 +1,12 @@
--- What each request comes to, by the files of a tree and by its history alike.
-use Rattle.std.specs.Prelude.{◌≡◌, ◌≢◌, ◌⊎◌, ◌≤◌, ◌++◌, ℕ, List, [], ◌∷◌, Option, Result, Ok, Err, map, flat_map, option_map, string_bytes, length, Some, None, IfOk, IsTrue, ⊤}
+-- What each request comes to, by the files of a tree.
+use Rattle.std.specs.Prelude.{◌≡◌, ◌⊎◌, ◌≤◌, ◌++◌, ℕ, List, [], ◌∷◌, Option, Result, Ok, Err, map, flat_map, option_map, string_bytes, length, Some, None, IfOk, IsTrue, ⊤}
 use Rattle.std.specs.List.{All}
 use Rattle.ks_fixdep.specs.CommandFile.{CommandRecord, is_command}
 use Rattle.ks_fixdep.specs.FoundNames.{all_noted}
 use Rattle.ks_fixdep.specs.declared.dependency_file.Header.{Header}
 use Rattle.ks_symbols.specs.declared.dialect.Dialect.{Dialect}
-use Rattle.ks_symbols.specs.Dialects.{KconfigText, read_in}
+use Rattle.ks_symbols.specs.Dialects.{read_in}
+use Rattle.ks_symbols.specs.Refusals.{IsRefusal}
 use Rattle.ks_tree.specs.declared.tree.Tree.{Ghosts}
 use Rattle.ks_tree.specs.Files.{Files, HasRisen}
 use Rattle.ks_engine.specs.declared.error.EngineError.{EngineError}
@@ -19,22 +20,19 @@ use Rattle.ks_engine.specs.declared.synchronise.Report.{Report}
 use Rattle.ks_engine.specs.declared.staleness.BuildState.{BuildState}
 use Rattle.ks_engine.specs.declared.staleness.Verdict.{Verdict}
 use Rattle.ks_engine.specs.Actions.{Action}
-use Rattle.ks_engine.specs.Asked.{asked, told, IsAnswer, IsExplained}
+use Rattle.ks_engine.specs.Asked.{told}
 use Rattle.ks_engine.specs.BuildStates.{build_asked, IsBuildState}
-use Rattle.ks_engine.specs.Depfile.{FollowsDepfile, ruled_by}
-use Rattle.ks_engine.specs.Explained.{IsExplanationJudged, IsExplanationOn}
-use Rattle.ks_engine.specs.Follows.{TreeState, at, IsSame, GoesOn, FollowsRecord}
-use Rattle.ks_engine.specs.History.{History, LastRecord, Synced, last_record}
-use Rattle.ks_engine.specs.Impact.{AnswersAfter, IsAnswerAfter}
-use Rattle.ks_engine.specs.Judged.{IsJudged, IsBuildJudged}
+use Rattle.ks_engine.specs.Depfile.{ruled_by}
+use Rattle.ks_engine.specs.Explained.{IsExplanationOn}
+use Rattle.ks_engine.specs.Follows.{at}
+use Rattle.ks_engine.specs.History.{History, LastRecord, last_record}
+use Rattle.ks_engine.specs.Impact.{IsAnswerAfter}
+use Rattle.ks_engine.specs.Judged.{IsBuildJudged}
 use Rattle.ks_engine.specs.Refusals.{Answers, IsGivenUpAnswer, IsGivenUp}
 use Rattle.ks_engine.specs.FileRuns.{FileState, FileRun, IsAnswerOn, LeavesRecord, state}
-use Rattle.ks_engine.specs.Runs.{Run, FollowsStale}
 use Rattle.ks_engine.specs.Shows.{Shows}
 use Rattle.ks_engine.specs.SyncPlan.{IsSyncPlan}
 use Rattle.ks_engine.specs.Synchronised.{IsSynced}
-use Rattle.ks_requests.specs.declared.preview.PreviewError.{PreviewError}
-use Rattle.ks_requests.specs.declared.preview.PreviewError.TheVariants.{Output as PreviewOutput}
 use Rattle.ks_requests.specs.declared.refusal.Refusal.TheVariants.{Engine}
 use Rattle.ks_requests.specs.declared.request.Form.{Form}
 use Rattle.ks_requests.specs.declared.request.Form.TheVariants.{Text}
@@ -49,8 +47,7 @@ use Rattle.ks_requests.specs.declared.status.Status.TheVariants.{Done}
 use Rattle.ks_requests.specs.Endings.{Answered, Ending, Stopped, Tells, TellsCount, TellsUnknown}
 use Rattle.ks_requests.specs.Unknown.{unknown_lines}
 use Rattle.ks_requests.specs.Inputs.{Inputs, Texts, given_if_named, inputs_at, texts_at}
-use Rattle.ks_requests.specs.Preview.{IsPreview, IsPreviewRefusal, preview_refusal}
-use Rattle.ks_requests.specs.Refusals.{of_preview}
+use Rattle.ks_requests.specs.Preview.{IsPreview, preview_refusal}
 use Rattle.ks_requests.specs.Replies.{answer_line, build_line, depfile_line, recorded_line, reply_lines, report_lines}
 use Rattle.ks_requests.specs.Requests.{IsNoQuestion}
 use Rattle.ks_requests.specs.Statuses.{build_status, explanation_status, reply_status, stale_among, status_unless_refused, worst}
@@ -60,12 +57,12 @@ use Rattle.ks_commands.specs.Aging.{AgesAsked}
 use Rattle.ks_commands.specs.Depfiles.{IsHeaderOf, IsNoHeader, LeavesDepfile}
 use Rattle.ks_commands.specs.Differences.{IsDiff, lines_asked}
 use Rattle.ks_commands.specs.Fixdep.{command_file_at}
-use Rattle.ks_commands.specs.Stamps.{FollowsStamps, LeavesStamps}
+use Rattle.ks_commands.specs.Stamps.{LeavesStamps}
 use Rattle.ks_commands.specs.Spelling.{spelled_in, spelling_of}
 use Rattle.ks_commands.specs.Records.{EndsCost, EndsUsers, unread_lines, uses_lines}
 use Rattle.ks_commands.specs.Scripts.{AreSpelled, StoppedScript, script_at}
 
--- What the engine's calls answer and leave: the one way of saying it by files, the other by histories.
+-- What the engine's calls answer and leave. It is said by the files here, and by histories in the laws of this crate.
 pub record Effects : Type 1 where
   -- in which sources and Kconfigs are read
   pub dialect : Dialect
@@ -81,11 +78,11 @@ pub record Effects : Type 1 where
   pub run : List Action → List Reply → Type 0
 
 -- Nothing has changed where the two files can't be read. Else it ends as the engine answers.
-abbrev pub EndsSync : Files → Type 0 → (List ℕ → List ℕ → Result Report EngineError → Type 0) → List ℕ → List ℕ → Ending → Type 0
-EndsSync files same sync k d ended =
-    (same × Stopped (texts_at files k d) ended)
+abbrev pub EndsSync : Files → Effects → Stamps → List ℕ → List ℕ → Ending → Type 0
+EndsSync files effects stamps k d ended =
+    (effects.same × Stopped (texts_at files k d) ended)
     ⊎ ((t : Texts) × (texts_at files k d ≡ Ok t)
-    × (answer : Result Report EngineError) × sync t.kconfig t.dotconfig answer × Answered report_lines answer ended)
+    × (answer : Result Report EngineError) × effects.sync stamps t.kconfig t.dotconfig answer × Answered report_lines answer ended)
 
 -- The engine looks at the words of a record itself.
 abbrev pub EndsRecord : Effects → List ℕ → List ℕ → List ℕ → Ending → Type 0
@@ -98,12 +95,12 @@ EndsDepfile effects end d t c ended =
     ⊎ ((header : Header) × IsHeaderOf effects.dialect end header
     × (answer : Result RecordAnswer EngineError) × effects.ruling header d t c answer × Answered (depfile_line t) answer ended)
 
--- A preview of what the files hold, or the refusal that their texts have.
+-- A preview of what the files hold, or the refusal that their texts have, or want of memory.
 abbrev pub EndsPreview : Dialect → Files → List ℕ → List ℕ → Option (List ℕ) → Ending → Type 0
 EndsPreview dialect files k d o ended =
     Stopped (inputs_at files k d o) ended
     ⊎ ((i : Inputs) × (inputs_at files k d o ≡ Ok i) × (((text : List ℕ) × IsPreview (read_in dialect i.kconfig) i.dotconfig i.old text × Tells text 0 ended)
-    ⊎ ((e : PreviewError) × (e ≢ PreviewOutput) × IsPreviewRefusal e (preview_refusal (read_in dialect i.kconfig) i.dotconfig i.old) × (ended ≡ Err (of_preview e)))))
+    ⊎ ((e : EngineError) × IsRefusal OutOfMemory e (preview_refusal (read_in dialect i.kconfig) i.dotconfig i.old) × (ended ≡ Err (Engine e)))))
 
 -- A synchronisation of these texts is refused before its first write, or memory or the device fails before that.
 abbrev pub StoppedSync : Dialect → Files → Texts → Ending → Type 0
@@ -192,7 +189,7 @@ EndsBatch files effects path ended =
     ⊎ ((actions : List Action) × (script_at files path ≡ Ok actions) × RunsAll effects.same (effects.run actions) actions ended)
 
 abbrev pub Ends : Files → Effects → Request → Ending → Type 0
-Ends files effects (Sync k d stamps) ended = EndsSync files effects.same (effects.sync stamps) (string_bytes k) (string_bytes d) ended
+Ends files effects (Sync k d stamps) ended = EndsSync files effects stamps (string_bytes k) (string_bytes d) ended
 Ends files effects (Preview k d o) ended = effects.same × EndsPreview effects.dialect files (string_bytes k) (string_bytes d) (option_map (λ path. string_bytes path) o) ended
 Ends files effects (Diff k d telling) ended = effects.same × EndsDiff effects.dialect telling files (string_bytes k) (string_bytes d) ended
 Ends files effects (Fixdep d t c) ended = effects.same × EndsFixdep effects.dialect files (string_bytes d) (string_bytes t) (string_bytes c) ended
@@ -209,7 +206,7 @@ Ends files effects (Batch script) ended = EndsBatch files effects (string_bytes 
 Ends files effects (Users symbols targets) ended = effects.same × EndsUsers files (symbols_of symbols.items) (targets_at files targets) ended
 Ends files effects (Cost top targets) ended = effects.same × EndsCost files top (targets_at files targets) ended
 
--- ---- by files
+-- ---- what the calls of the engine leave
 
 pub record IsStateOf (files : Files) (o command : List ℕ) (answer : Result BuildState EngineError) : Type 0 where
   pub by_files : IsGivenUpAnswer answer ⊎ IsBuildState files (build_asked files o command) answer
@@ -236,50 +233,6 @@ by_files dialect old new = record {
   outdated = IsStateOf old.files;
   run = RunsOn dialect ⊤ old new;
 }
-
--- ---- by histories
-
--- of an object
-pub record FollowsWhy (old : TreeState) (o : List ℕ) (answer : Result Explanation EngineError) (new : TreeState) : Type 0 where
-  pub same : IsSame old new
-  pub by_files : IsGivenUpAnswer answer ⊎ IsExplained Every old.files o answer
-  pub verdict : IfOk answer (λ e. IsAnswer old.files (asked old.files o) (Ok e.verdict))
-  pub recorded : (r : LastRecord) → last_record old.history o ≡ Some r → IsExplanationJudged old.files old.history o r answer
-
--- of two texts and an object: judged by the history with their synchronisation added
-pub record FollowsImpact (old : TreeState) (k : KconfigText) (d o : List ℕ) (answer : Result Verdict EngineError) (new : TreeState) : Type 0 where
-  pub same : IsSame old new
-  pub by_files : AnswersAfter old.files k d o answer
-  pub recorded : (after : Files) (report : Report) (synced : IsSynced old.files after k d report) (r : LastRecord) → last_record old.history o ≡ Some r
-      → IsJudged after (Synced synced.plan.title synced.plan.config old.history) o r answer
-
--- of an object and a command
-pub record FollowsOutdated (old : TreeState) (o command : List ℕ) (answer : Result BuildState EngineError) (new : TreeState) : Type 0 where
-  pub same : IsSame old new
-  pub by_files : IsGivenUpAnswer answer ⊎ IsBuildState old.files (build_asked old.files o command) answer
-  pub recorded : IsTrue (is_command command) → (r : LastRecord) → last_record old.history o ≡ Some r → IsBuildJudged old.files old.history o command r answer
-
--- as above
-abbrev pub Runs : Dialect → TreeState → TreeState → List Action → List Reply → Type 0
-Runs dialect old new actions replies = (failures : ℕ) × (old.failures ≤ failures) × Run dialect (at old.files failures old.history) actions replies new
-
-abbrev pub by_histories : Dialect → TreeState → TreeState → Effects
-by_histories dialect old new = record {
-  dialect = dialect;
-  same = IsSame old new;
-  sync = λ stamps k d answer. FollowsStamps stamps (read_in dialect k) d answer old new;
-  recording = λ d t c answer. FollowsRecord dialect d t c answer old new;
-  ruling = λ header d t c answer. FollowsDepfile (ruled_by header dialect) d t c answer old new;
-  stale = λ o answer. FollowsStale old o answer new;
-  why = λ o answer. FollowsWhy old o answer new;
-  impact = λ k d o answer. FollowsImpact old (read_in dialect k) d o answer new;
-  outdated = λ o command answer. FollowsOutdated old o command answer new;
-  run = Runs dialect old new;
-}
-
--- The next state of a tree, by this request that ended so.
-abbrev pub Continues : Dialect → Request → Ending → TreeState → TreeState → Type 0
-Continues dialect request ended old new = Ends old.files (by_histories dialect old new) request ended
 
 -- ---- on every tree, honest or not
 
@@ -350,11 +303,10 @@ Counts dialect honest old _ text new = ⊤
 
 -- ---- all of it
 
--- It ended so: by the files, by each history that they show, and by what the tree has counted.
+-- It ended so: by the files, and by what the tree has counted.
 pub record Performs {T : Type 0} (tree : Ghosts T) (dialect : Dialect) (old new : T) (request : Request) (ended : Ending) : Type 0 where
   pub done : IsNoQuestion request → IfOk ended (λ o. o.status ≡ Done)
   pub files : tree.is_honest → Ends (tree.files old) (by_files dialect (state tree old) (state tree new)) request ended
-  pub goes_on : GoesOn tree old new (Continues dialect request ended)
   pub cause : ended ≡ Err (Engine Device) → HasRisen (tree.failures old) (tree.failures new)
   pub aged : tree.is_honest → AgesAsked (tree.files old) request ended (tree.aged old) (tree.aged new)
   pub counts : IfOk ended (λ o. Counts dialect tree.is_honest (state tree old) request o.text.items (state tree new))

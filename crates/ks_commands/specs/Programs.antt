@@ -26,7 +26,8 @@ use Rattle.ks_engine.specs.Synchronised.{IsSynced}
 use Rattle.ks_engine.specs.Verdicts.{IsChangedVerdict, IsSafeVerdict}
 use Rattle.ks_requests.specs.declared.request.Request.{Request}
 use Rattle.ks_requests.specs.Endings.{Ending}
-use Rattle.ks_commands.specs.Performed.{Continues, Effects, Ends, by_histories}
+use Rattle.ks_commands.specs.Histories.{Continues, by_histories}
+use Rattle.ks_commands.specs.Performed.{Effects, Ends}
 
 pub record ProgramRun : Type 0 where
   pub dialect : Dialect
@@ -35,11 +36,11 @@ pub record ProgramRun : Type 0 where
   pub ended : Ending
   pub after : TreeState
 
--- Each begins with the files and the history that the one before it left, and goes on as `execute` promises.
+-- Each begins with the files and the history that the one before it left, and that goes on as the law `requests_go_on` has it.
 abbrev pub Chain : TreeState → List ProgramRun → TreeState → Type 0
 Chain first [] last = IsSame first last
 Chain first (run ∷ runs) last =
-    IsSame first run.before × Continues run.dialect run.request run.ended run.before run.after × IsShown run.after × Chain run.after runs last
+    IsSame first run.before × IsShown run.before × Continues run.dialect run.request run.ended run.before run.after × Chain run.after runs last
 
 -- What is answered of a recorded object is the first of its names that changed since the record. Fresh, the header defines its names as then.
 pub record TellsChange (s : TreeState) (o : List ℕ) (answer : Result Verdict EngineError) : Type 0 where

@@ -7,9 +7,7 @@ ghost use Rattle.std.specs.List.{All};
 ghost use Rattle.ks_tree.specs.Frames.{Reads};
 ghost use Rattle.ks_engine.specs.Actions.{action};
 ghost use Rattle.ks_engine.specs.FileRuns.{FileRun, state};
-ghost use Rattle.ks_engine.specs.Follows.{GoesOn, IsSame};
 ghost use Rattle.ks_engine.specs.Refusals.{IsGivenUp};
-ghost use Rattle.ks_engine.specs.Runs.{Run};
 ghost use Rattle.ks_engine.specs.declared.commands.Reply.{Reply};
 ghost use Rattle.ks_engine.specs.declared.error.EngineError.TheVariants.{Device};
 ghost use Rattle.ks_tree.specs.Files.{Files, HasRisen, content};
@@ -18,7 +16,7 @@ ghost use Rattle.ks_requests.specs.ScriptRefusals.{script_refusal};
 ghost use Rattle.ks_requests.specs.declared.refusal.Refusal.TheVariants.{Engine};
 ghost use Rattle.ks_requests.specs.Inputs.{given};
 ghost use Rattle.ks_requests.specs.Replies.{reply_lines};
-ghost use Rattle.ks_commands.specs.Performed.{EndsBatch, RunsAll, RunsCounted, by_files, by_histories};
+ghost use Rattle.ks_commands.specs.Performed.{EndsBatch, RunsAll, RunsCounted, by_files};
 ghost use Rattle.ks_commands.specs.Kept.{AreGiven, AreKept, IsKept};
 ghost use Rattle.ks_commands.specs.Scripts.{IsGivenUpRefusal, action_at, actions_at, line_of, of_engine, script_actions, without_files};
 
@@ -173,8 +171,6 @@ fn run_commands<T: Tree>(
 ) -> Result<Outcome, Refusal>
     ensures files { T.is_honest → RunsAll (T.files tree.new ≡ T.files tree.old)
         (λ replies. FileRun dialect ⊤ (state T.Tree tree.old) (map action commands.now) replies (state T.Tree tree.new)) (map action commands.now) result }
-    ensures goes_on { GoesOn T.Tree tree.old tree.new (λ old new. RunsAll (IsSame old new)
-        (λ replies. Run dialect old (map action commands.now) replies new) (map action commands.now) result) }
     ensures counts { IfOk result (λ o. (replies : List Reply)
         × FileRun dialect T.is_honest (state T.Tree tree.old) (map action commands.now) replies (state T.Tree tree.new)
         × (o.text.items ≡ reply_lines (map action commands.now) replies)) }
@@ -193,7 +189,6 @@ pub(crate) fn run_script<T: Tree>(
     path: &[u8],
 ) -> Result<Outcome, Refusal>
     ensures files { T.is_honest → EndsBatch (T.files tree.old) (by_files dialect (state T.Tree tree.old) (state T.Tree tree.new)) path.now result }
-    ensures goes_on { GoesOn T.Tree tree.old tree.new (λ old new. EndsBatch old.files (by_histories dialect old new) path.now result) }
     ensures cause { result ≡ Err (Engine Device) → HasRisen (T.failures tree.old) (T.failures tree.new) }
     ensures counts { IfOk result (λ o. RunsCounted dialect T.is_honest (state T.Tree tree.old) path.now o.text.items (state T.Tree tree.new)) }
 {

@@ -2,17 +2,15 @@
 //!
 //! A refusal of the engine is one of the whole command, and prints nothing to the output.
 ghost use Rattle.std.specs.Prelude.{◌≡◌, Err, IfErr, IfOk, IsErrOf, option_map};
-ghost use Rattle.ks_symbols.specs.Dialects.{read_in};
 ghost use Rattle.ks_tree.specs.Files.{HasRisen};
 ghost use Rattle.ks_tree.specs.Frames.{Counted};
 ghost use Rattle.ks_engine.specs.FileRuns.{state};
-ghost use Rattle.ks_engine.specs.Follows.{GoesOn, IsSame};
 ghost use Rattle.ks_engine.specs.declared.error.EngineError.TheVariants.{BadPath, Device};
 ghost use Rattle.ks_requests.specs.declared.refusal.Refusal.TheVariants.{Engine};
 ghost use Rattle.ks_requests.specs.declared.status.Status.TheVariants.{Done};
 ghost use Rattle.ks_commands.specs.Depfiles.{IsHeaderOf, IsNoHeader};
-ghost use Rattle.ks_commands.specs.Stamps.{FollowsStamps, LeavesStamps};
-ghost use Rattle.ks_commands.specs.Performed.{EndsDepfile, EndsRecord, EndsSync, by_files, by_histories};
+ghost use Rattle.ks_commands.specs.Stamps.{LeavesStamps};
+ghost use Rattle.ks_commands.specs.Performed.{EndsDepfile, EndsRecord, EndsSync, by_files};
 
 use ks_engine::{EngineError, Report, record_depfile, record_object, sync, sync_stamped};
 use ks_fixdep::Header;
@@ -30,7 +28,6 @@ fn sync_with<T: Tree>(
     dotconfig: &[u8],
 ) -> Result<Report, EngineError>
     ensures files { T.is_honest → LeavesStamps (T.files tree.old) (T.files tree.new) stamps kconfig.now dotconfig.now result }
-    ensures follows { GoesOn T.Tree tree.old tree.new (FollowsStamps stamps kconfig.now dotconfig.now result) }
     ensures counted { Counted T.Tree tree.old tree.new (IsErrOf result EngineError.Device) }
 {
     match stamps {
@@ -49,10 +46,8 @@ pub(crate) fn synchronise<T: Tree>(
     dotconfig: &[u8],
 ) -> Result<Outcome, Refusal>
     ensures done { IfOk result (λ o. o.status ≡ Done) }
-    ensures files { T.is_honest → EndsSync (T.files tree.old) (T.files tree.new ≡ T.files tree.old)
-        (λ k. LeavesStamps (T.files tree.old) (T.files tree.new) stamps (read_in dialect k)) kconfig.now dotconfig.now result }
-    ensures goes_on { GoesOn T.Tree tree.old tree.new (λ old new. EndsSync old.files (IsSame old new)
-        (λ k d answer. FollowsStamps stamps (read_in dialect k) d answer old new) kconfig.now dotconfig.now result) }
+    ensures files { T.is_honest → EndsSync (T.files tree.old) (by_files dialect (state T.Tree tree.old) (state T.Tree tree.new))
+        stamps kconfig.now dotconfig.now result }
     ensures cause { result ≡ Err (Engine Device) → HasRisen (T.failures tree.old) (T.failures tree.new) }
 {
     let texts = texts_at(alloc, tree, kconfig, dotconfig)?;
@@ -72,7 +67,6 @@ pub(crate) fn record_target<T: Tree>(
 ) -> Result<Outcome, Refusal>
     ensures done { IfOk result (λ o. o.status ≡ Done) }
     ensures files { T.is_honest → EndsRecord (by_files dialect (state T.Tree tree.old) (state T.Tree tree.new)) depfile.now target.now command.now result }
-    ensures goes_on { GoesOn T.Tree tree.old tree.new (λ old new. EndsRecord (by_histories dialect old new) depfile.now target.now command.now result) }
     ensures cause { result ≡ Err (Engine Device) → HasRisen (T.failures tree.old) (T.failures tree.new) }
 {
     let recorded = record_object(alloc, tree, dialect, depfile, target, command)?;
@@ -106,8 +100,6 @@ pub(crate) fn record_rule<T: Tree>(
     ensures done { IfOk result (λ o. o.status ≡ Done) }
     ensures files { T.is_honest → EndsDepfile (by_files dialect (state T.Tree tree.old) (state T.Tree tree.new))
         (option_map (λ p. p.now) header.entry) depfile.now target.now command.now result }
-    ensures goes_on { GoesOn T.Tree tree.old tree.new (λ old new. EndsDepfile (by_histories dialect old new)
-        (option_map (λ p. p.now) header.entry) depfile.now target.now command.now result) }
     ensures cause { result ≡ Err (Engine Device) → HasRisen (T.failures tree.old) (T.failures tree.new) }
 {
     let header = header_of(dialect, header)?;

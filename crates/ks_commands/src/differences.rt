@@ -12,19 +12,17 @@ ghost use Rattle.ks_requests.specs.declared.refusal.Refusal.TheVariants.{Engine}
 ghost use Rattle.ks_requests.specs.declared.status.Status.TheVariants.{Done};
 ghost use Rattle.ks_requests.specs.Statuses.{code_of};
 ghost use Rattle.ks_requests.specs.Endings.{IsUnknown};
-ghost use Rattle.ks_requests.specs.Unknown.{unknown_lines};
+ghost use Rattle.ks_requests.specs.Unknown.{unknown_line, unknown_lines, unknown_names};
 ghost use Rattle.ks_symbols.specs.DotConfig.{unknown_count};
-ghost use Rattle.ks_symbols.specs.Kconfig.{declared, kconfig_refusal};
 ghost use Rattle.ks_symbols.specs.Lines.{lines};
-ghost use Rattle.ks_symbols.specs.Refusals.{IsRefusal};
 ghost use Rattle.ks_commands.specs.Differences.{IsDiff, change_line, class_word, difference_line, difference_status, lines_asked, shown_classes, shown_value};
 ghost use Rattle.ks_commands.specs.Performed.{EndsDiff};
 ghost use Rattle.ks_commands.specs.Views.{seen_value};
 
-use ks_engine::{EngineError, plan_sync};
+use ks_engine::{EngineError, parse_sources, plan_sources};
 use ks_output::{OldConfig, write_quoted};
 use ks_requests::{Count, Outcome, Refusal, Status, Telling, texts_at, unknown_lines};
-use ks_symbols::{Class, Dialect, Kconfig, Name, Settings, SourceError};
+use ks_symbols::{Class, Dialect, Kconfig, Name, Settings, Symbols};
 use ks_tree::Tree;
 use std::alloc::{AllocError, Global};
 
@@ -173,13 +171,12 @@ fn difference_status(telling: Telling, names: &[Name]) -> Status
 fn unknown_asked(
     alloc: Global,
     telling: Telling,
-    kconfig: &Kconfig<'_>,
+    symbols: &Symbols,
     dotconfig: &[u8],
     unknown: u64,
-) -> Result<Option<Count>, SourceError>
-    ensures lines { unknown ≡ unknown_count (declared kconfig.now) (lines dotconfig.now)
-        → IfOk result (IsUnknown (lines_asked telling (unknown_lines kconfig.now dotconfig.now))) }
-    ensures refusal { IfErr result (λ e. IsRefusal SourceError.OutOfMemory e (kconfig_refusal kconfig.now)) }
+) -> Result<Option<Count>, AllocError>
+    ensures { unknown ≡ unknown_count (map.get symbols.now.kinds) (lines dotconfig.now)
+        → IfOk result (IsUnknown (lines_asked telling (flat_map unknown_line (unknown_names (map.get symbols.now.kinds) (lines dotconfig.now))))) }
 {
     if unknown == 0 {
         return Ok(None);
@@ -187,7 +184,7 @@ fn unknown_asked(
     match telling {
         Telling::Status => Ok(None),
         Telling::Lines | Telling::LinesAndStatus => {
-            let lines = unknown_lines(alloc, kconfig, dotconfig)?;
+            let lines = unknown_lines(alloc, symbols, dotconfig)?;
             Ok(Some(Count::Unknown(lines)))
         }
     }
@@ -207,12 +204,15 @@ fn differences<T: Tree>(
         × IsUnknown (lines_asked telling (unknown_lines kconfig.now dotconfig.now)) o.count) }
     ensures refused { T.is_honest → IfErr result (λ e. IsGivenUp e ⊎ IsSyncPlan (T.files tree.old) kconfig.now dotconfig.now (Err e)) }
 {
-    let planned = plan_sync(alloc, tree, kconfig, dotconfig)?;
+    let parsed = parse_sources(alloc, kconfig, dotconfig)?;
+    let unknown = parsed.sources.settings.unknown();
+    let count = unknown_asked(alloc, telling, &parsed.symbols, dotconfig, unknown)?;
+    drop(parsed.symbols);
+    let planned = plan_sources(alloc, tree, parsed.sources)?;
     let names = &planned.report.touched;
     let settings = &planned.sources.settings;
     let text = lines_asked(alloc, telling, names, &planned.old, settings)?;
     let status = difference_status(telling, names);
-    let count = unknown_asked(alloc, telling, kconfig, dotconfig, planned.report.unknown)?;
     Ok(Outcome {
         text,
         status,

@@ -1,7 +1,6 @@
 //! The command file of an object, as scripts/basic/fixdep.c prints it, from the compiler's dependency file.
 //!
-//! The words are looked at first, then the dependency file is read, then each prerequisite in order. Sources are
-//! read in pieces, none of them whole.
+//! The words are looked at first, then the dependency file is read, then each prerequisite in order, in pieces.
 ghost use Rattle.std.specs.Prelude.{IsErrOf};
 ghost use Rattle.ks_tree.specs.Frames.{Reads};
 ghost use Rattle.ks_engine.specs.Refusals.{Answers};

@@ -1,9 +1,21 @@
 //! Laws of the definitions, each the contract of a function that does nothing.
-ghost use Rattle.ks_commands.specs.Laws.{BatchTellsChanges, PreviewsArePerformed, ProgramsTellChanges, RefusalsChangeNothing, StatusesAreAtMostTwo, StatusesTellDifferences, WhatChangedIsAged};
+ghost use Rattle.ks_commands.specs.PreviewLaws.{PreviewsAreRefusedAsSyncs, PreviewsTellSyncs};
+ghost use Rattle.ks_commands.specs.Laws.{BatchTellsChanges, PreviewsArePerformed, ProgramsTellChanges, RefusalsChangeNothing, RequestsGoOn, StatusesAreAtMostTwo, StatusesTellDifferences, WhatChangedIsAged};
+
+/// What is said of a request by the files of an honest tree says what becomes of each history that they show.
+pub fn requests_go_on()
+    ensures { RequestsGoOn }
+{}
 
 /// What is said of a preview as a caller has its words.
 pub fn previews_are_performed()
     ensures { PreviewsArePerformed }
+{}
+
+/// What a preview over a tree's own auto.conf tells of a synchronisation of the same texts.
+pub fn previews_tell_synchronisations()
+    ensures told { PreviewsTellSyncs }
+    ensures refused { PreviewsAreRefusedAsSyncs }
 {}
 
 /// What a refusal leaves, memory and the device aside.

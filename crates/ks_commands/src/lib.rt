@@ -19,7 +19,8 @@ mod spelling;
 mod users;
 
 pub use laws::{
-    batch_tells_changes, previews_are_performed, programs_tell_changes, refusals_change_nothing,
-    statuses_are_at_most_two, statuses_tell_differences, what_changed_is_aged,
+    batch_tells_changes, previews_are_performed, previews_tell_synchronisations,
+    programs_tell_changes, refusals_change_nothing, statuses_are_at_most_two,
+    statuses_tell_differences, what_changed_is_aged,
 };
 pub use program::execute;

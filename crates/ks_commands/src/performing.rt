@@ -6,14 +6,13 @@ ghost use Rattle.std.specs.Prelude.{◌≡◌, ◌∷◌, Err, IfOk, option_map}
 ghost use Rattle.ks_tree.specs.Files.{HasRisen};
 ghost use Rattle.ks_tree.specs.Frames.{Reads};
 ghost use Rattle.ks_engine.specs.FileRuns.{state};
-ghost use Rattle.ks_engine.specs.Follows.{GoesOn};
 ghost use Rattle.ks_engine.specs.declared.error.EngineError.TheVariants.{Device};
 ghost use Rattle.ks_requests.specs.declared.refusal.Refusal.TheVariants.{Engine};
 ghost use Rattle.ks_requests.specs.declared.status.Status.TheVariants.{Done};
 ghost use Rattle.ks_requests.specs.Readings.{ReadsSome, if_named};
 ghost use Rattle.ks_requests.specs.Requests.{IsNoQuestion};
 ghost use Rattle.ks_commands.specs.Aging.{AgesAsked};
-ghost use Rattle.ks_commands.specs.Performed.{Continues, Counts, Ends, EndsFixdep, EndsPreview, by_files};
+ghost use Rattle.ks_commands.specs.Performed.{Counts, Ends, EndsFixdep, EndsPreview, by_files};
 
 use crate::aging::age_targets;
 use crate::batch::run_script;
@@ -79,7 +78,6 @@ pub(crate) fn outcome<T: Aging>(
 ) -> Result<Outcome, Refusal>
     ensures done { IsNoQuestion request.now → IfOk result (λ o. o.status ≡ Done) }
     ensures files { T.is_honest → Ends (T.files tree.old) (by_files dialect (state T.Tree tree.old) (state T.Tree tree.new)) request.now result }
-    ensures goes_on { GoesOn T.Tree tree.old tree.new (Continues dialect request.now result) }
     ensures cause { result ≡ Err (Engine Device) → HasRisen (T.failures tree.old) (T.failures tree.new) }
     ensures aged { T.is_honest → AgesAsked (T.files tree.old) request.now result (T.aged tree.old) (T.aged tree.new) }
     ensures counts { IfOk result (λ o. Counts dialect T.is_honest (state T.Tree tree.old) request.now o.text.items (state T.Tree tree.new)) }

@@ -1,19 +1,13 @@
-use Rattle.ks_commands.proofs.Prelude.{inr, Ok, sym, ap, ◌∙◌, ◌≤◌, subst, map, arith, ⊤, err_from_is_err_and, action, state, at, Shows, Runs, RunsOn, of_engine, rules}
-use Rattle.ks_commands.proofs.Continuing.{file_run_follows, run_follows, runs_all, script_missing, script_stopped, script_there}
+use Rattle.ks_commands.proofs.Prelude.{inr, Ok, sym, ap, ◌∙◌, ◌≤◌, map, arith, ⊤, err_from_is_err_and, action, state, RunsOn, of_engine, rules}
+use Rattle.ks_commands.proofs.Continuing.{file_run_follows, runs_all, script_missing, script_stopped, script_there}
 use Rattle.ks_commands.proofs.Counting.{script_counted}
 use Rattle.ks_commands.proofs.batch.run_script.Goals as goal
 
 pub returns-in_err-script-clause-files : goal.returns-in_err-script-clause-files
 returns-in_err-script-clause-files g c = search (rules, err_from_is_err_and, script_missing)
 
-pub returns-in_err-script-clause-goes_on : goal.returns-in_err-script-clause-goes_on
-returns-in_err-script-clause-goes_on g c = search (rules, err_from_is_err_and, script_missing)
-
 pub returns-in_err-lines-clause-files : goal.returns-in_err-lines-clause-files
 returns-in_err-lines-clause-files g c = search (rules, err_from_is_err_and, script_stopped)
-
-pub returns-in_err-lines-clause-goes_on : goal.returns-in_err-lines-clause-goes_on
-returns-in_err-lines-clause-goes_on g c = search (rules, err_from_is_err_and, script_stopped)
 
 pub returns-clause-files : goal.returns-clause-files
 returns-clause-files g c = λ honest.
@@ -34,30 +28,6 @@ returns-clause-files g c = λ honest.
       runs_all _ _ _ (RunsOn c.args.dialect ⊤ old new actions) _ _ _ (λ unchanged. unchanged ∙ same_later)
           (λ replies run. file_run_follows c.args.dialect ⊤ old (state g.T.Tree c.load_script.new.tree) _ actions replies new (λ t. same_later) later are run) are
           (c.run_commands.ensures.files honest),
-    )
-
-pub returns-clause-goes_on : goal.returns-clause-goes_on
-returns-clause-goes_on g c = λ honest h shows.
-    let failures = g.T.Tree.failures in
-    let mid = g.T.Tree.files c.read_given.new.tree in
-    let same = c.in_ok-script.ensures.reads.unchanged honest in
-    let same_later = c.in_ok-lines.ensures.reads.unchanged honest ∙ same in
-    let there = c.in_ok-script.ensures.bytes honest ∙ ap (λ b. Ok b) (sym c.deref.ensures.value) in
-    let actions = map action c.in_ok-commands.commands.items in
-    let asked = c.in_ok-lines.ensures.lines honest ∙ ap of_engine (c.in_ok-commands.ensures.given mid (c.in_ok-lines.ensures.given honest)) in
-    let are = ap (map action) c.deref-2.ensures.value in
-    let later : failures c.args.tree.now ≤ failures c.load_script.new.tree
-    = omega (arith, c.in_ok-script.ensures.reads.counted.later, c.in_ok-lines.ensures.reads.counted.later) in
-    let next = c.run_commands.ensures.goes_on honest h (subst (λ f. Shows f h) (sym same_later) shows) in
-    let last = at (g.T.Tree.files c.run_commands.new.tree) (failures c.run_commands.new.tree) next.0 in (
-      next.0,
-      inr (
-        actions,
-        script_there _ _ c.args.path.now _ (Ok actions) same there asked,
-        runs_all _ _ _ (Runs c.args.dialect (at (g.T.Tree.files c.args.tree.now) (failures c.args.tree.now) h) last actions) _ _ _ (λ s. (s.0 ∙ same_later, s.1))
-            (λ replies run. run_follows c.args.dialect _ _ _ _ h _ _ replies last same_later later are run) are next.1,
-      ),
-      next.2,
     )
 
 pub returns-clause-counts : goal.returns-clause-counts

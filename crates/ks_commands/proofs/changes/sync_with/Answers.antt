@@ -5,11 +5,5 @@ use Rattle.ks_commands.proofs.changes.sync_with.Goals as goal
 pub returns-in-Touched-clause-files : goal.returns-in-Touched-clause-files
 returns-in-Touched-clause-files g c = search (rules, sync_said)
 
-pub returns-in-Touched-clause-follows : goal.returns-in-Touched-clause-follows
-returns-in-Touched-clause-follows g c = rw c.in-Touched.is c.sync.ensures.follows
-
 pub returns-in-Declared-clause-files : goal.returns-in-Declared-clause-files
 returns-in-Declared-clause-files g c = search (rules, sync_said)
-
-pub returns-in-Declared-clause-follows : goal.returns-in-Declared-clause-follows
-returns-in-Declared-clause-follows g c = rw c.in-Declared.is c.sync_stamped.ensures.follows

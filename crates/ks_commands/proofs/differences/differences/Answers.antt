@@ -1,10 +1,13 @@
-use Rattle.ks_commands.proofs.Prelude.{ℕ, List, ◌∙◌, ap, ap₂, flat_map, err_from_is_err_and, Configuration, Texts, difference_line, difference_status, lines_asked, rules}
-use Rattle.ks_commands.proofs.Unknowns.{for_memory, plan_counts}
+use Rattle.ks_commands.proofs.Prelude.{ℕ, List, Option, ◌∙◌, ap, ap₂, flat_map, err_from_is_err_and, Kind, Configuration, Texts, difference_line, difference_status, lines_asked, rules}
+use Rattle.std.specs.FinMap as map
+use Rattle.ks_commands.proofs.Unknowns.{counted_unknown, told_unknown}
 use Rattle.ks_commands.proofs.differences.differences.Goals as goal
 
 pub returns-clause-told : goal.returns-clause-told
 returns-clause-told g c = λ honest.
-    let planned = c.in_ok-planned.ensures.planned honest in
+    let sources = c.in_ok-parsed.ensures.read in
+    let kinds : List ℕ → Option Kind = map.get c.in_ok-parsed.parsed.symbols.kinds in
+    let planned = c.in_ok-planned.ensures.planned honest c.args.kconfig.now c.args.dotconfig.now sources in
     let read = c.in_ok-planned.planned in
     let names = read.report.touched.items in
     let lines : Texts → Configuration → List (List ℕ) → List ℕ = λ old new names. lines_asked c.args.telling (flat_map (difference_line old new) names) in (
@@ -20,9 +23,14 @@ returns-clause-told g c = λ honest.
           status_of = c.difference_status-status.ensures.status ∙ ap (difference_status c.args.telling) c.deref-2.ensures.value;
         },
       ),
-      c.in_ok-count.ensures.lines (planned.2.report.unknown
-          ∙ plan_counts (g.T.Tree.files c.args.tree.now) c.args.kconfig.now c.args.dotconfig.now planned.0 planned.1),
+      told_unknown c.args.telling c.args.kconfig.now c.args.dotconfig.now kinds _ c.in_ok-parsed.ensures.declared
+          (c.in_ok-count.ensures (counted_unknown c.args.kconfig.now c.args.dotconfig.now kinds _ c.in_ok-parsed.ensures.declared (c.unknown-unknown.ensures ∙ sources.unknown))),
     )
 
-pub returns-in_err-count-clause-refused : goal.returns-in_err-count-clause-refused
-returns-in_err-count-clause-refused g c = search (rules, err_from_is_err_and, for_memory)
+pub returns-in_err-parsed-clause-refused : goal.returns-in_err-parsed-clause-refused
+returns-in_err-parsed-clause-refused g c = search (rules, err_from_is_err_and)
+
+pub returns-in_err-planned-clause-refused : goal.returns-in_err-planned-clause-refused
+returns-in_err-planned-clause-refused g c = λ honest.
+    let p = err_from_is_err_and c.from_residual-in_err-planned.result c.from_residual-in_err-planned.ensures.1 in
+    rw (p.1, p.2) (c.in_err-planned.ensures.refused honest c.args.kconfig.now c.args.dotconfig.now c.in_ok-parsed.ensures.read)

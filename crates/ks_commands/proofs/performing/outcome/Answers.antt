@@ -1,80 +1,26 @@
-use Rattle.ks_commands.proofs.Prelude.{refl, sym, subst, state, Shows}
-use Rattle.ks_requests.specs.declared.request.Form.TheVariants.{Text}
 use Rattle.ks_commands.proofs.Counting.{if_ok}
-use Rattle.ks_commands.proofs.Continuing.{impact_follows, stale_follows, why_follows}
 use Rattle.ks_commands.proofs.performing.outcome.Goals as goal
-
-pub returns-in-Sync-clause-goes_on : goal.returns-in-Sync-clause-goes_on
-returns-in-Sync-clause-goes_on g c = λ honest h shows.
-    let next = c.synchronise.ensures.goes_on honest h shows in
-    (next.0, rw (c.in-Sync.is, ← c.as_bytes-kconfig.ensures.value, ← c.as_bytes-dotconfig.ensures.value) next.1, next.2)
 
 pub returns-in-Diff-clause-files : goal.returns-in-Diff-clause-files
 returns-in-Diff-clause-files g c = λ honest.
     rw (c.in-Diff.is, ← c.as_bytes-kconfig-in-Diff.ensures.value, ← c.as_bytes-dotconfig-in-Diff.ensures.value)
     (c.tell_differences.ensures.reads.unchanged honest, c.tell_differences.ensures.told honest)
 
-pub returns-in-Diff-clause-goes_on : goal.returns-in-Diff-clause-goes_on
-returns-in-Diff-clause-goes_on g c = λ honest h shows.
-    let same = c.tell_differences.ensures.reads.unchanged honest in (
-      h,
-      rw (c.in-Diff.is, ← c.as_bytes-kconfig-in-Diff.ensures.value, ← c.as_bytes-dotconfig-in-Diff.ensures.value) ((same, refl), c.tell_differences.ensures.told honest),
-      subst (λ f. Shows f h) (sym same) shows,
-    )
-
 pub returns-in-Stale-clause-files : goal.returns-in-Stale-clause-files
 returns-in-Stale-clause-files g c = λ honest.
     rw c.in-Stale.is (c.ask_targets.ensures.reads.unchanged honest, c.ask_targets.ensures.told honest)
 
-pub returns-in-Stale-clause-goes_on : goal.returns-in-Stale-clause-goes_on
-returns-in-Stale-clause-goes_on g c = λ honest h shows.
-    let same = c.ask_targets.ensures.reads.unchanged honest in (
-      h,
-      rw c.in-Stale.is ((same, refl), stale_follows c.args.dialect (state g.T.Tree c.args.tree.now) (state g.T.Tree c.ask_targets.new.tree) h _ _ _ same shows (c.ask_targets.ensures.told honest)),
-      subst (λ f. Shows f h) (sym same) shows,
-    )
-
 pub returns-in-Age-clause-files : goal.returns-in-Age-clause-files
 returns-in-Age-clause-files g c = λ honest. rw c.in-Age.is (c.age_targets.ensures.unchanged honest, c.age_targets.ensures.told honest)
-
-pub returns-in-Age-clause-goes_on : goal.returns-in-Age-clause-goes_on
-returns-in-Age-clause-goes_on g c = λ honest h shows.
-    let same = c.age_targets.ensures.unchanged honest in (
-      h,
-      rw c.in-Age.is ((same, refl), stale_follows c.args.dialect (state g.T.Tree c.args.tree.now) (state g.T.Tree c.age_targets.new.tree) h Text _ _ same shows (c.age_targets.ensures.told honest)),
-      subst (λ f. Shows f h) (sym same) shows,
-    )
 
 pub returns-in-Why-clause-files : goal.returns-in-Why-clause-files
 returns-in-Why-clause-files g c = λ honest.
     rw c.in-Why.is (c.ask_targets-in-Why.ensures.reads.unchanged honest, c.ask_targets-in-Why.ensures.told honest)
 
-pub returns-in-Why-clause-goes_on : goal.returns-in-Why-clause-goes_on
-returns-in-Why-clause-goes_on g c = λ honest h shows.
-    let same = c.ask_targets-in-Why.ensures.reads.unchanged honest in (
-      h,
-      rw c.in-Why.is ((same, refl), why_follows c.args.dialect (state g.T.Tree c.args.tree.now) (state g.T.Tree c.ask_targets-in-Why.new.tree) h _ _ _ same shows (c.ask_targets-in-Why.ensures.told honest)),
-      subst (λ f. Shows f h) (sym same) shows,
-    )
-
 pub returns-in-Impact-clause-files : goal.returns-in-Impact-clause-files
 returns-in-Impact-clause-files g c = λ honest.
     rw (c.in-Impact.is, ← c.as_bytes-kconfig-in-Impact.ensures.value, ← c.as_bytes-dotconfig-in-Impact.ensures.value)
     (c.ask_after.ensures.reads.unchanged honest, c.ask_after.ensures.told honest)
-
-pub returns-in-Impact-clause-goes_on : goal.returns-in-Impact-clause-goes_on
-returns-in-Impact-clause-goes_on g c = λ honest h shows.
-    let same = c.ask_after.ensures.reads.unchanged honest in (
-      h,
-      rw (c.in-Impact.is, ← c.as_bytes-kconfig-in-Impact.ensures.value, ← c.as_bytes-dotconfig-in-Impact.ensures.value)
-          ((same, refl), impact_follows c.args.dialect (state g.T.Tree c.args.tree.now) (state g.T.Tree c.ask_after.new.tree) h _ _ _ _ _ same shows (c.ask_after.ensures.told honest)),
-      subst (λ f. Shows f h) (sym same) shows,
-    )
-
-pub returns-in-Batch-clause-goes_on : goal.returns-in-Batch-clause-goes_on
-returns-in-Batch-clause-goes_on g c = λ honest h shows.
-    let next = c.run_script.ensures.goes_on honest h shows in
-    (next.0, rw (c.in-Batch.is, ← c.as_bytes-in-Batch.ensures.value) next.1, next.2)
 
 pub returns-in-Sync-clause-counts : goal.returns-in-Sync-clause-counts
 returns-in-Sync-clause-counts g c = rw c.in-Sync.is (if_ok c.synchronise.result _ (λ o. tt))

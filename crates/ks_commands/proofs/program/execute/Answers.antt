@@ -13,7 +13,7 @@ returns g c =
     let did = c.in-Err-outcome.ensures in
     rw (c.in-Ok.is) (
       Err c.in-Err-outcome.refusal,
-      record { done = did.done; files = did.files; goes_on = did.goes_on; cause = did.cause; aged = did.aged; counts = tt },
+      record { done = did.done; files = did.files; cause = did.cause; aged = did.aged; counts = tt },
       [],
       subst (λ site. IsSiteLine g.T.Tree.is_honest (g.T.Tree.files c.outcome.new.tree) site []) c.in-None.ensures refl,
       (refl, c.refuse.ensures.told, c.refuse.ensures.status),
@@ -32,7 +32,7 @@ returns-in-Some g c =
       Err refusal,
       read_after g.T.Tree c.args.dialect c.args.tree.now c.outcome.new.tree c.refuse_at.new.tree request refusal
           (has_site request refusal site found)
-          (record { done = did.done; files = did.files; goes_on = did.goes_on; cause = did.cause; aged = did.aged; counts = tt })
+          (record { done = did.done; files = did.files; cause = did.cause; aged = did.aged; counts = tt })
           reads,
       told.0,
       subst (λ s. IsSiteLine g.T.Tree.is_honest (g.T.Tree.files c.refuse_at.new.tree) s told.0) found

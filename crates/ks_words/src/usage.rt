@@ -278,8 +278,8 @@ Example: confstamp impact Kconfig .config x.o y.o",
         words: &[UNRECORDED, TARGETS, FROM],
         choice: Some("confstamp age [--unrecorded] [--from FILE] [TARGET]..."),
         notes: "\
-Prints the lines of stale. The file of each stale object gets the first second of 1970 as its time, and keeps its
-bytes. One of the words is needed.
+Prints the lines of stale. The file of an object that is stale by its record gets the first second of 1970 as its
+time, and keeps its bytes. One of the words is needed.
 
 Example: confstamp age --from objects",
     },

@@ -1,6 +1,6 @@
 -- What was looked at for the sake of numbers.
 use Rattle.std.specs.Prelude.{◌≡◌, ℕ, Bool, true, false, List, Option, Some, None, Result, Ok, Err, IfOk, option_map, refl}
-use Rattle.std.proofs.Common.{◌∙◌, ap, subst}
+use Rattle.std.proofs.Common.{◌∙◌, ap, rules, subst}
 use Rattle.ks_tree.specs.Files.{content}
 use Rattle.ks_tree.specs.Paths.{auto_path}
 use Rattle.ks_tree.specs.declared.tree.Tree.{Ghosts}
@@ -29,6 +29,8 @@ not_begun tree calls reads folder old read found b (Kept (Some script)) once is 
   read = read;
   once = once;
   begins = Ok false;
+  possible = tt;
+  cause = λ is_device. search rules;
   told = λ honest. told honest ∙ ap (λ b. Ok b) is;
   follows = ((kept.0, λ honest. kept.1 ∙ there honest), refl);
 }
@@ -45,6 +47,8 @@ begun tree calls reads folder old read new found b (Kept (Some script)) once is 
   read = read;
   once = once;
   begins = Ok true;
+  possible = tt;
+  cause = λ is_device. search rules;
   told = λ honest. told honest ∙ ap (λ b. Ok b) is;
   follows = ((kept.0, λ honest. kept.1 ∙ there honest), finds);
 }

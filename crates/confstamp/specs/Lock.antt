@@ -1,9 +1,8 @@
 -- The lock that a command needs, and the script that was looked at to know it.
-use Rattle.std.specs.Prelude.{◌≡◌, ◌&&◌, ℕ, Bool, true, false, List, Option, Some, None, Result, Ok, Err, option_map, is_none, string_bytes, if◌then◌else◌}
-use Rattle.std.specs.List.{list_any}
-use Rattle.ks_requests.specs.Script.{Line, Sync, Record, Stale, script_lines}
-use Rattle.ks_requests.specs.ScriptRefusals.{script_refusal}
-use Rattle.ks_tree.specs.Files.{Files, content}
+use Rattle.std.specs.Prelude.{◌≡◌, ◌⊎◌, ℕ, Bool, false, List, Option, Some, None, Result, Ok, Err, ⊤, option_map, string_bytes, if◌then◌else◌}
+use Rattle.ks_requests.specs.ScriptSyncs.{script_syncs}
+use Rattle.ks_tree.specs.Files.{HasRisen, IsTooLarge, content}
+use Rattle.ks_tree.specs.declared.tree.Tree.{Ghosts}
 use Rattle.ks_requests.specs.declared.request.Request.{Request}
 use Rattle.ks_requests.specs.declared.request.Request.TheVariants as request
 use Rattle.ks_words.specs.declared.words.WordsError.{WordsError}
@@ -12,23 +11,10 @@ use Rattle.confstamp.specs.declared.lock.FolderLock.{FolderLock}
 use Rattle.confstamp.specs.declared.lock.FolderLock.TheVariants.{Exclusive, Shared}
 use Rattle.confstamp.specs.declared.lock.Script.{Script}
 
--- what was found of the script is what the files hold at its path
-abbrev pub IsLookedAt : Files → Script → Type 0
-IsLookedAt files script = option_map (λ v. v.items) script.found ≡ content files script.path.items
-
-abbrev pub is_sync : Line → Bool
-is_sync (Sync kconfig dotconfig) = true
-is_sync (Record depfile target command) = false
-is_sync (Stale target) = false
-
--- a script that isn't refused, and has a line `sync`
-abbrev pub text_syncs : List ℕ → Bool
-text_syncs text = is_none (script_refusal text) && list_any is_sync (script_lines text)
-
--- there is such a script
+-- there is a script that has a line `sync`, and isn't refused
 abbrev pub found_syncs : Option (List ℕ) → Bool
 found_syncs None = false
-found_syncs (Some text) = text_syncs text
+found_syncs (Some text) = script_syncs text
 
 -- ---- locks
 
@@ -61,3 +47,13 @@ AreLocked (Err e) found = found ≡ None
 abbrev pub LooksAtScript : {T : Type 0} → (T → List ℕ → T → Type 0) → Result Request WordsError → T → T → Type 0
 LooksAtScript reads (Ok (request.Batch script)) old new = reads old (string_bytes script) new
 LooksAtScript reads asked old new = new ≡ old
+
+-- What is held of the script at a path is what an honest tree has there. Nothing is held only where that is too large, or the tree has failed.
+abbrev pub IsLookedAt : {T : Type 0} → Ghosts T → List ℕ → T → T → Option Script → Type 0
+IsLookedAt tree path old new (Some script) = option_map (λ v. v.items) script.found ≡ content (tree.files old) path
+IsLookedAt tree path old new None = IsTooLarge (content (tree.files old) path) ⊎ HasRisen (tree.failures old) (tree.failures new)
+
+-- so of the script of a `batch`
+abbrev pub HoldsScript : {T : Type 0} → Ghosts T → Result Request WordsError → T → T → Option Access → Type 0
+HoldsScript tree (Ok (request.Batch script)) old new (Some access) = IsLookedAt tree (string_bytes script) old new access.script
+HoldsScript tree asked old new access = ⊤

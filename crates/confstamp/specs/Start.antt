@@ -1,14 +1,15 @@
 -- What was done before a command runs, call by call, from the opening of its tree on.
-use Rattle.std.specs.Prelude.{◌≡◌, ◌&&◌, ℕ, Bool, true, false, not, List, Option, Some, None, Result, Ok, Err, option_map, string_bytes}
-use Rattle.ks_tree.specs.Files.{content}
+use Rattle.std.specs.Prelude.{◌≡◌, ◌≢◌, ◌&&◌, ℕ, Bool, true, false, not, List, Option, Some, None, Result, Ok, Err, IfErr, IsErrOf, option_map, string_bytes}
+use Rattle.ks_tree.specs.Files.{HasRisen, content}
 use Rattle.ks_tree.specs.Paths.{auto_path}
 use Rattle.ks_tree.specs.declared.tree.Tree.{Ghosts}
 use Rattle.ks_engine.specs.declared.error.EngineError.{EngineError}
+use Rattle.ks_engine.specs.declared.error.EngineError.TheVariants.{Device, OutOfMemory}
 use Rattle.ks_engine.specs.Refusals.{Answers}
 use Rattle.ks_requests.specs.declared.request.Request.{Request}
 use Rattle.ks_words.specs.declared.words.WordsError.{WordsError}
 use Rattle.confstamp.specs.Calls.{Calls}
-use Rattle.confstamp.specs.Lock.{AreLocked, LooksAtScript}
+use Rattle.confstamp.specs.Lock.{AreLocked, HoldsScript, LooksAtScript}
 use Rattle.confstamp.specs.Numbers.{begins_anew}
 use Rattle.confstamp.specs.declared.front.Settings.{Settings}
 use Rattle.confstamp.specs.declared.lock.Access.{Access}
@@ -31,7 +32,7 @@ Readings P = P → List ℕ → P → Type 0
 
 -- The folder is there, and its tree was opened under a number that the system drew.
 abbrev pub Opens : {P L : Type 0} → Calls P L → Settings → P → Type 0
-Opens calls settings place = (seed : ℕ) × calls.draws (Some seed) × calls.opens (string_bytes settings.folder) seed place
+Opens calls settings place = calls.has_folder (string_bytes settings.folder) true × (seed : ℕ) × calls.draws (Some seed) × calls.opens (string_bytes settings.folder) seed place
 
 -- The lock that is needed was asked for; where none is, nothing was.
 abbrev pub Locks : {P L : Type 0} → Calls P L → Settings → Option Access → P → Locking L → P → Type 0
@@ -39,20 +40,21 @@ Locks calls settings None old answer new = (new ≡ old) × (answer ≡ Had None
 Locks calls settings (Some access) old answer new = calls.locks (string_bytes settings.folder) access.lock settings.seconds old answer new
 
 -- The tree was opened, the script of a `batch` read, and nothing else; and then the lock was asked for that the request needs.
-pub record AsksForLock {P L : Type 0} (calls : Calls P L) (reads : Readings P) (settings : Settings) (asked : Result Request WordsError)
+pub record AsksForLock {P L : Type 0} (tree : Ghosts P) (calls : Calls P L) (reads : Readings P) (settings : Settings) (asked : Result Request WordsError)
     (access : Option Access) (answer : Locking L) (place : P) : Type 0 where
   pub first : P
   pub opened : Opens calls settings first
   pub second : P
   pub looked : LooksAtScript reads asked first second
+  pub held : tree.is_honest → HoldsScript tree asked first second access
   pub needed : AreLocked asked access
   pub asked_for : Locks calls settings access second answer place
 
-abbrev pub Enters : {P L : Type 0} → Calls P L → Readings P → Settings → Result Request WordsError → Entry P L → Type 0
-Enters {P} calls reads settings asked (entry.Entered e) = AsksForLock calls reads settings asked e.access (Had e.lock) e.place
-Enters {P} calls reads settings asked entry.NoFolder = calls.has_folder (string_bytes settings.folder) false
-Enters {P} calls reads settings asked entry.NoSeed = calls.draws None
-Enters {P} calls reads settings asked entry.Busy = (access : Option Access) × (place : P) × AsksForLock calls reads settings asked access Busy place
+abbrev pub Enters : {P L : Type 0} → Ghosts P → Calls P L → Readings P → Settings → Result Request WordsError → Entry P L → Type 0
+Enters {P} tree calls reads settings asked (entry.Entered e) = AsksForLock tree calls reads settings asked e.access (Had e.lock) e.place
+Enters {P} tree calls reads settings asked entry.NoFolder = calls.has_folder (string_bytes settings.folder) false
+Enters {P} tree calls reads settings asked entry.NoSeed = calls.draws None
+Enters {P} tree calls reads settings asked entry.Busy = (access : Option Access) × (place : P) × AsksForLock tree calls reads settings asked access Busy place
 
 -- ---- lost numbers
 
@@ -83,11 +85,13 @@ Follows tree calls folder old read (Ok false) (Kept auto) new = IsAutoConf tree 
 Follows tree calls folder old read (Err e) (Kept auto) new = (auto ≡ None) × (new ≡ read)
 Follows tree calls folder old read answer (Lost path) new = ⊥
 
--- auto.conf was read, once, and whether it begins the numbers was looked at.
+-- auto.conf was read, once, and whether it begins the numbers was looked at. It was given up only where the tree has failed.
 pub record Looks {P L : Type 0} (tree : Ghosts P) (calls : Calls P L) (reads : Readings P) (folder : List ℕ) (old : P) (numbers : Numbers) (new : P) : Type 0 where
   pub read : P
   pub once : reads old auto_path read
   pub begins : Result Bool EngineError
+  pub possible : IfErr begins (λ e. e ≢ OutOfMemory)
+  pub cause : IsErrOf begins Device → HasRisen (tree.failures old) (tree.failures read)
   pub told : tree.is_honest → Answers (begins_anew (content (tree.files old) auto_path)) (λ b. b) begins
   pub follows : Follows tree calls folder old read begins numbers new
 
@@ -114,7 +118,7 @@ Holds calls (Some script) old new = calls.holds old script.path.items (option_ma
 pub record LooksLocked {P L : Type 0} (tree : Ghosts P) (calls : Calls P L) (reads : Readings P) (settings : Settings) (asked : Result Request WordsError)
     (access : Option Access) (lock : Option L) (numbers : Numbers) (place : P) : Type 0 where
   pub before : P
-  pub locked : AsksForLock calls reads settings asked access (Had lock) before
+  pub locked : AsksForLock tree calls reads settings asked access (Had lock) before
   pub looks : LooksIf (needs_look settings.may_begin access) tree calls reads (string_bytes settings.folder) before numbers place
 
 -- A command that is to run has its lock and its dialect, and none of its numbers would be lost; the script, or auto.conf, is held as it was read.
@@ -132,6 +136,6 @@ abbrev pub Starts : {P L : Type 0} → Ghosts P → Calls P L → Readings P →
 Starts tree calls reads settings asked (start.Ready ready) = IsReady tree calls reads settings asked ready
 Starts tree calls reads settings asked start.NoFolder = calls.has_folder (string_bytes settings.folder) false
 Starts tree calls reads settings asked start.NoSeed = calls.draws None
-Starts {P} tree calls reads settings asked start.Busy = (access : Option Access) × (place : P) × AsksForLock calls reads settings asked access Busy place
+Starts {P} tree calls reads settings asked start.Busy = (access : Option Access) × (place : P) × AsksForLock tree calls reads settings asked access Busy place
 Starts {P} {L} tree calls reads settings asked (start.LostNumber path) =
     (access : Option Access) × (lock : Option L) × (place : P) × LooksLocked tree calls reads settings asked access lock (Lost path) place

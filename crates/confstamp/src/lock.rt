@@ -1,14 +1,13 @@
 //! One writer at a time: a lock on the folder that the program works in, which makes no file. Without it two synchronisations
 //! at once could leave the header of one beside the auto.conf of the other, and objects would be called fresh wrongly. Where
 //! the file system knows no locks, or the folder can't be opened, the program goes on without.
-ghost use Rattle.std.specs.Prelude.{◌≡◌, None, Ok, IfOk, IfSome, map};
-ghost use Rattle.std.specs.List.{list_any};
-ghost use Rattle.ks_requests.specs.Script.{seen_line};
+ghost use Rattle.std.specs.Prelude.{◌≡◌, None, Ok, Some, IfOk};
+ghost use Rattle.ks_requests.specs.ScriptSyncs.{script_syncs};
 ghost use Rattle.ks_tree.specs.Frames.{Reads};
-ghost use Rattle.confstamp.specs.Lock.{AreLocked, IsAccessOf, IsLookedAt, IsScriptAccess, LooksAtScript, is_sync, lock_for, text_syncs};
+ghost use Rattle.confstamp.specs.Lock.{AreLocked, HoldsScript, IsAccessOf, IsLookedAt, IsScriptAccess, LooksAtScript, lock_for};
 
 use crate::start::Locking;
-use ks_requests::{Reading, Request, ScriptError, ScriptLine, read_script};
+use ks_requests::{Reading, Request, script_syncs};
 use ks_tree::TreeFault;
 use ks_words::WordsError;
 use std::alloc::{AllocError, Global};
@@ -52,23 +51,14 @@ impl Access {
     }
 }
 
-/// Whether a line is a `sync`.
-fn has_sync(lines: &[ScriptLine<'_>]) -> bool
-    ensures { result ≡ list_any is_sync (map seen_line lines.now) }
-{
-    lines
-        .iter()
-        .any(|line| matches!(line, ScriptLine::Sync(..)))
-}
-
 /// The lock that the lines of a script need. A script with a faulty line is refused later, and runs nothing.
-fn script_lock(alloc: Global, text: &[u8]) -> Result<FolderLock, AllocError>
-    ensures { IfOk result (λ lock. lock ≡ lock_for (text_syncs text.now)) }
+fn script_lock(text: &[u8]) -> FolderLock
+    ensures { result ≡ lock_for (script_syncs text.now) }
 {
-    match read_script(alloc, text) {
-        Ok(lines) if has_sync(&lines) => Ok(FolderLock::Exclusive),
-        Err(ScriptError::OutOfMemory) => Err(AllocError),
-        _ => Ok(FolderLock::Shared),
+    if script_syncs(text) {
+        FolderLock::Exclusive
+    } else {
+        FolderLock::Shared
     }
 }
 
@@ -80,7 +70,7 @@ fn script_access<T: Reading>(
     script: &str,
 ) -> Result<Access, AllocError>
     ensures reads { Reads T.Tree tree.old tree.new ⊥ }
-    ensures looked_at { T.is_honest → IfOk result (λ access. IfSome access.script (IsLookedAt (T.files tree.old))) }
+    ensures looked_at { T.is_honest → IfOk result (λ access. IsLookedAt T.Tree script.now tree.old tree.new access.script) }
     ensures lock { IfOk result (IsScriptAccess script.now) }
     ensures once { T.reads tree.old script.now tree.new }
 {
@@ -90,7 +80,7 @@ fn script_access<T: Reading>(
         Err(_) => return Ok(Access::with_nothing_held(FolderLock::Exclusive)),
     };
     let lock = match &found {
-        Some(text) => script_lock(alloc, text)?,
+        Some(text) => script_lock(text),
         None => FolderLock::Shared,
     };
     let path = script.as_bytes().to_vec(alloc)?;
@@ -107,7 +97,7 @@ fn request_access<T: Reading>(
     request: &Request,
 ) -> Result<Access, AllocError>
     ensures reads { Reads T.Tree tree.old tree.new ⊥ }
-    ensures looked_at { T.is_honest → IfOk result (λ access. IfSome access.script (IsLookedAt (T.files tree.old))) }
+    ensures looked_at { T.is_honest → IfOk result (λ access. HoldsScript T.Tree (Ok request.now) tree.old tree.new (Some access)) }
     ensures lock { IfOk result (IsAccessOf request.now) }
     ensures once { LooksAtScript T.reads (Ok request.now) tree.old tree.new }
 {
@@ -125,7 +115,7 @@ pub(crate) fn access_of<T: Reading>(
     asked: &Result<Request, WordsError>,
 ) -> Result<Option<Access>, AllocError>
     ensures reads { Reads T.Tree tree.old tree.new ⊥ }
-    ensures looked_at { T.is_honest → IfOk result (λ found. IfSome found (λ access. IfSome access.script (IsLookedAt (T.files tree.old)))) }
+    ensures looked_at { T.is_honest → IfOk result (HoldsScript T.Tree asked.now tree.old tree.new) }
     ensures lock { IfOk result (AreLocked asked.now) }
     ensures once { LooksAtScript T.reads asked.now tree.old tree.new }
 {

@@ -1,5 +1,5 @@
-//! A stream of the system: each call is passed on to a writer of std, once, and its answer is noted. What that answers is all that
-//! is known of the system. The kit's own writers say of the bytes that they took how many there were; that they are out is trusted.
+//! A stream of the system: each call is passed on to a writer of std, and its answer is noted. What that answers is all that is
+//! known of the system. The kit's own writers say of the bytes that they took how many there were; that they are out is trusted.
 ghost use Rattle.std.specs.Prelude.{◌≡◌, false, if◌then◌else◌};
 ghost use Rattle.ks_streams.specs.Noted.{noted};
 ghost use Rattle.ks_streams.specs.Streams.{state_of};

@@ -148,7 +148,7 @@ fn enter_place<H: Host>(
     asked: &Result<Request, WordsError>,
 ) -> Result<Entry<H::Place, H::Lock>, AllocError>
     requires { Opens (H.calls host.now) settings.now place }
-    ensures { IfOk result (Enters (H.calls host.now) H.Place.reads settings.now asked.now) }
+    ensures { IfOk result (Enters H.Place.Tree (H.calls host.now) H.Place.reads settings.now asked.now) }
 {
     let access = access_of(alloc, &mut place, asked)?;
     match take_lock(host, &mut place, settings, &access) {
@@ -168,7 +168,7 @@ fn enter<H: Host>(
     settings: &Settings,
     asked: &Result<Request, WordsError>,
 ) -> Result<Entry<H::Place, H::Lock>, AllocError>
-    ensures { IfOk result (Enters (H.calls host.now) H.Place.reads settings.now asked.now) }
+    ensures { IfOk result (Enters H.Place.Tree (H.calls host.now) H.Place.reads settings.now asked.now) }
 {
     let folder = settings.folder.as_str();
     if !host.has_folder(folder) {
@@ -272,7 +272,7 @@ fn prepare<H: Host>(
     asked: &Result<Request, WordsError>,
     entered: Entered<H::Place, H::Lock>,
 ) -> Result<Start<H::Place, H::Lock>, AllocError>
-    requires { Enters (H.calls host.now) H.Place.reads settings.now asked.now (Entry.Entered entered) }
+    requires { Enters H.Place.Tree (H.calls host.now) H.Place.reads settings.now asked.now (Entry.Entered entered) }
     ensures { IfOk result (Starts H.Place.Tree (H.calls host.now) H.Place.reads settings.now asked.now) }
 {
     let Entered {

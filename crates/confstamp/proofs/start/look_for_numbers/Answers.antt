@@ -8,6 +8,8 @@ returns-in-Err g c = record {
   read = c.begins_anew.new.tree;
   once = c.begins_anew.ensures.once;
   begins = Err c.in-Err.field-0;
+  possible = search rules;
+  cause = λ is. c.begins_anew.ensures.reads.counted.cause (search rules);
   told = c.in-Err.ensures.read;
   follows = (refl, refl);
 }
@@ -27,6 +29,8 @@ returns-in-Some g c =
       read = c.begins_anew.new.tree;
       once = c.begins_anew.ensures.once;
       begins = Ok true;
+      possible = tt;
+      cause = λ is_device. search rules;
       told = λ honest. c.in-Ok.ensures.read honest ∙ ap (λ b. Ok b) is;
       follows = found_as (λ path. string_bytes path)
           (λ found. (g.H.Host.calls c.args.host.now).finds c.args.folder.now c.begins_anew.new.tree found c.find_number.new.place)

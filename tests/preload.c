@@ -8,11 +8,13 @@
    NONE=1       each write to standard output takes nothing
    AT=N         with the five above, descriptor N is meant in place of standard output
    SHORT=N      a read gives N bytes at most, also one at a place
-   CUT=N        a write to a file takes N bytes at most */
+   CUT=N        a write to a file takes N bytes at most
+   CLAIM=N      before the Nth claim of a file the shell's command BEFORE is run, as by another program */
 #define _GNU_SOURCE
 #include <dlfcn.h>
 #include <errno.h>
 #include <stdlib.h>
+#include <sys/file.h>
 #include <sys/uio.h>
 #include <unistd.h>
 
@@ -116,6 +118,22 @@ ssize_t pread(int file, void *bytes, size_t length, off_t place)
         next = (ssize_t(*)(int, void *, size_t, off_t))dlsym(RTLD_NEXT, "pread");
     size_t most = (size_t)number("SHORT");
     return next(file, bytes, most && most < length ? most : length, place);
+}
+
+int flock(int file, int how)
+{
+    static int (*next)(int, int);
+    static long left = -1;
+    if (!next)
+        next = (int (*)(int, int))dlsym(RTLD_NEXT, "flock");
+    if (left < 0)
+        left = number("CLAIM");
+    if (left > 0 && --left == 0) {
+        unsetenv("LD_PRELOAD");
+        if (system(getenv("BEFORE")))
+            abort();
+    }
+    return next(file, how);
 }
 
 /* So that no write goes another way. */

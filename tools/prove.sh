@@ -125,7 +125,7 @@ copy_program() {
     mkdir -p "$1/.git"
     program_crates > "$1/crates.txt"
     sed 's,:.*,,; s,^,crates/,' "$1/crates.txt" |
-        tar -C "$top" --exclude=out --exclude=must-fail --exclude=more-wrong -cf - -T - HANDLES | tar -C "$1" -xf -
+        tar -C "$top" --exclude=out --exclude=must-fail --exclude=more-wrong --exclude=wrong-host -cf - -T - HANDLES | tar -C "$1" -xf -
 }
 
 # prove_copy COPY: the program is there then, crates/confstamp/out/confstamp. A check that is killed is tried once more by

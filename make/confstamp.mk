@@ -10,6 +10,8 @@
 #     confstamp-header      the header, where the project's own tool writes it (include/generated/autoconf.h of that folder)
 #     confstamp-maker       the target whose recipe writes these files, where the project's own tool has a part in it
 #     confstamp-inputs      what it makes them from: a change of their text is seen, whatever their time
+#     confstamp-dialect     whose words the sources have, where they have more than CONFIG_X: u-boot, busybox or coreboot. Where
+#                           it changes, all has to be made from nothing
 #
 # Behind it there are
 #
@@ -39,6 +41,7 @@ confstamp-own-header := $(confstamp-header)
 confstamp-header ?= $(confstamp-below)include/generated/autoconf.h
 confstamp-state := $(confstamp-below)include/config
 confstamp-program = $(or $(CONFSTAMP),confstamp)
+confstamp-words = $(addprefix --dialect ,$(confstamp-dialect))
 confstamp-quote := '
 confstamp-hash := \#
 confstamp-comma := ,
@@ -68,7 +71,8 @@ $(confstamp-state)/confstamp.mk: $(confstamp-sources) $(confstamp-due)
 	@$(if $(confstamp-due),false,cat $(confstamp-texts) | cmp -s - $(confstamp-kept) && [ -e $@ ]) || { \
 	$(if $(confstamp-silent),:,echo '  SYNC    $(confstamp-config)'); mkdir -p $(@D) && \
 	cat $(confstamp-sources) > $(confstamp-kept).new && \
-	$(confstamp-program) -C $(confstamp-dir) --wait 60 sync $(abspath $(confstamp-kconfig) $(confstamp-config)) > /dev/null && \
+	$(confstamp-program) $(confstamp-words) -C $(confstamp-dir) --wait 60 sync $(abspath $(confstamp-kconfig) $(confstamp-config)) \
+	> /dev/null && \
 	cat $(@D)/auto.conf $(confstamp-header) >> $(confstamp-kept).new && { echo '-include $(@D)/auto.conf' && \
 	sed -n 's/^#generation /confstamp-generation := /p' $(@D)/auto.conf; } > $@ && mv $(confstamp-kept).new $(confstamp-kept); }
 
@@ -106,10 +110,10 @@ confstamp-known = sed -e '/^  include\/config\/[A-Za-z0-9_]*\( \\\)*$$/d' -e '1s
 	if [ -e $(confstamp-cmd) ]; then echo 'confstamp-recorded += $@'; \
 	else echo 'confstamp-at_$@ := $(confstamp-generation)'; fi &&
 confstamp-options = $(if $(confstamp-own-header),--header $(confstamp-own-header))
-confstamp-cc = $(if $(confstamp-elsewhere),cd $(confstamp-dir) &&) confstamp-cc $(confstamp-options) \
+confstamp-cc = $(if $(confstamp-elsewhere),cd $(confstamp-dir) &&) confstamp-cc $(confstamp-words) $(confstamp-options) \
 	$(if $(confstamp-elsewhere),env -C $(CURDIR)) $(1) -MD -MF $(confstamp-depfile)
-confstamp-record = $(1) && { $(confstamp-program) -C $(confstamp-dir) depfile $(confstamp-options) -- $(confstamp-depfile) $@ \
-	'$(confstamp-text)' > /dev/null || rm -f $(confstamp-cmd); }
+confstamp-record = $(1) && { $(confstamp-program) $(confstamp-words) -C $(confstamp-dir) depfile $(confstamp-options) -- \
+	$(confstamp-depfile) $@ '$(confstamp-text)' > /dev/null || rm -f $(confstamp-cmd); }
 
 confstamp-compile = $(if $(confstamp-why),$(call confstamp-run,$(1),$(2),$(confstamp-cc),$(confstamp-known)))
 confstamp-generate = $(if $(confstamp-why),$(call confstamp-run,$(1),$(2),$(confstamp-record),$(confstamp-known)))

@@ -647,7 +647,8 @@ commit_of() {
     commit "$1 $2" $commit_sources
 }
 
-# Twenty jobs with a cache between all, good, failing, cancelled and partial ones.
+# Twenty jobs with a cache between all, good, failing, cancelled and partial ones. Those before FIRST_JOB are left out, so that one
+# finds the tree of the first build in the cache.
 twenty_jobs() {
     story='twenty jobs'
     way=tar
@@ -668,12 +669,13 @@ twenty_jobs() {
     WANTED_CONFIG=$work/wanted
     for kind in $kinds; do
         number=$((number + 1))
+        [ "$number" -ge "${FIRST_JOB:-1}" ] || continue
         rm -rf "$work/linux"
         cd "$work"
         sed "s/^CONFIG_LOG_BUF_SHIFT=.*/CONFIG_LOG_BUF_SHIFT=$((number % 4 + 13))/" "$work/config" > "$WANTED_CONFIG"
         job "$number" "$kind"
         say "  job $number, $kind: $counts"
     done
-    say "$story: after each of the $(echo "$kinds" | tr -s ' \n' '\n\n' | grep -c good) good ones every product is that of a" \
-        'clean build'
+    say "$story: after each of the $(echo "$kinds" | tr -s ' \n' '\n\n' | tail -n "+${FIRST_JOB:-1}" | grep -c good) good ones" \
+        'every product is that of a clean build'
 }

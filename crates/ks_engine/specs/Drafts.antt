@@ -2,7 +2,6 @@
 use Rattle.std.specs.Prelude.{◌≡◌, ℕ, List, Some, length}
 use Rattle.ks_fixdep.specs.CommandFile.{command_text}
 use Rattle.ks_fixdep.specs.DependencyFile.{prerequisites_without}
-use Rattle.ks_fixdep.specs.FoundNames.{names_of}
 use Rattle.ks_fixdep.specs.Record.{config_names}
 use Rattle.ks_tree.specs.Files.{Files, content}
 use Rattle.ks_engine.specs.declared.conventions.Conventions.{Conventions}
@@ -16,9 +15,9 @@ pub record IsDraft (plan : RecordPlan) (draft : Draft) : Type 0 where
   pub generation : draft.answer.generation ≡ plan.generation
   pub names : draft.answer.names ≡ length (config_names plan.file.deps)
 
--- what stands ready of a plan: its draft, and the dependency file that it was made of, with its prerequisites
-pub record IsPrepared (conventions : Conventions) (files : Files) (depfile : List ℕ) (plan : RecordPlan) (found : List (List (List ℕ))) (p : Prepared) : Type 0 where
+-- what stands ready of a plan: its draft, the names that are listed in it, and the dependency file that it was made of, with its prerequisites
+pub record IsPrepared (conventions : Conventions) (files : Files) (depfile : List ℕ) (plan : RecordPlan) (listed : List (List ℕ)) (p : Prepared) : Type 0 where
   pub draft : IsDraft plan p.draft
   pub text : content files depfile ≡ Some p.depfile.items
   pub prerequisites : p.prerequisites ≡ prerequisites_without conventions.header p.depfile.items
-  pub names : plan.names ≡ names_of found
+  pub names : plan.names ≡ listed

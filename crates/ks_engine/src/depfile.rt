@@ -17,7 +17,7 @@ use crate::EngineError;
 use crate::conventions::Conventions;
 use crate::memos::Memo;
 use crate::recording::{Draft, Recorded, prepare};
-use ks_fixdep::{Header, Seed, names_of_object, rule_text};
+use ks_fixdep::{Header, Seed, listed_names, rule_text};
 use ks_symbols::{Dialect, Name};
 use ks_tree::{Tree, command_path, command_temporary, header_path, make_stamps, replace};
 use std::alloc::{AllocError, Global};
@@ -66,8 +66,7 @@ fn prepare_rule<T: Tree>(
     ensures refused { T.is_honest → IfErr result (λ e. IsGivenUp e
         ⊎ (record_plan_under conventions.entry (T.files tree.old) depfile.now target.now command.now ≡ Err e)) }
 {
-    let seed = Seed::new(tree.seed());
-    let mut memo = Memo::of_one_object(alloc, seed);
+    let mut memo = Memo::of_one_object(alloc, Seed::new(tree.seed()));
     let prepared = prepare(
         alloc,
         tree,
@@ -77,7 +76,7 @@ fn prepare_rule<T: Tree>(
         target,
         command,
     )?;
-    let names = names_of_object(alloc, seed, &memo.found)?;
+    let names = listed_names(alloc, &memo.found)?;
     let rule = rule_text(alloc, &prepared.depfile, &prepared.prerequisites, &names)?;
     Ok(Ruled {
         draft: prepared.draft,

@@ -3,7 +3,8 @@
 ghost use Rattle.std.specs.Prelude.{◌≡◌, ◌⊎◌, Ok, Err, IfOk, IfErr, OnOk, IsTrue, IsErrOf, length};
 ghost use Rattle.ks_symbols.specs.Names.{is_path, is_target};
 ghost use Rattle.ks_fixdep.specs.CommandFile.{is_command, IsLegal};
-ghost use Rattle.ks_fixdep.specs.SourceScan.{found_of, names_by};
+ghost use Rattle.ks_fixdep.specs.FoundNames.{names_of};
+ghost use Rattle.ks_fixdep.specs.SourceScan.{found_of, listed_of, names_by};
 ghost use Rattle.ks_tree.specs.Frames.{Counted, Reads};
 ghost use Rattle.ks_tree.specs.Files.{Files, content};
 ghost use Rattle.ks_engine.specs.Refusals.{Answers, IsGivenUp};
@@ -91,6 +92,7 @@ fn make_draft(
     ensures drafted { IfOk result (λ d. (plan : RecordPlan)
         × (drafted target.now command.now prerequisites.now generation (names_by found.old) ≡ Ok plan) × IsLegal plan.file × IsDraft plan d) }
     ensures refused { IfErr result (λ e. IsGivenUp e ⊎ (drafted target.now command.now prerequisites.now generation (names_by found.old) ≡ Err e)) }
+    ensures listed { OnOk result (listed_of found.new ≡ names_of (names_by found.old)) }
     ensures scan { found.new.scan ≡ found.old.scan }
     ensures sources { found.new.sources ≡ found.old.sources }
 {
@@ -140,7 +142,7 @@ pub(crate) fn prepare<T: Tree>(
     ensures reads { Reads T.Tree tree.old tree.new (IsErrOf result EngineError.Device) }
     ensures planned { T.is_honest → IfOk result (λ p. (plan : RecordPlan)
         × IsRecordPlanUnder conventions.entry (T.files tree.old) depfile.now target.now command.now plan
-        × IsPrepared conventions.entry (T.files tree.old) depfile.now plan (names_by memo.new.found) p) }
+        × IsPrepared conventions.entry (T.files tree.old) depfile.now plan (listed_of memo.new.found) p) }
     ensures refused { T.is_honest → IfErr result (λ e. IsGivenUp e
         ⊎ (record_plan_under conventions.entry (T.files tree.old) depfile.now target.now command.now ≡ Err e)) }
 {

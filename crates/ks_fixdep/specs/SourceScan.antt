@@ -6,6 +6,7 @@ use Rattle.ks_fixdep.specs.Scan.{bare_name}
 use Rattle.ks_fixdep.specs.Stream.{ended, kept}
 use Rattle.ks_fixdep.specs.Dialects.{words_of}
 use Rattle.ks_fixdep.specs.FoundNames.{all_noted}
+use Rattle.ks_fixdep.specs.SourceTable.{names_at}
 use Rattle.ks_fixdep.specs.WordScan.{Knows, at_start, known_after}
 use Rattle.ks_fixdep.specs.declared.dialect.Rules.{Rules}
 use Rattle.ks_fixdep.specs.declared.dialect.Rules.TheVariants as rules
@@ -33,3 +34,7 @@ picked found places = map (λ i. get_or found i []) places
 -- the names of each prerequisite of an object
 abbrev pub names_by : NamesBySource → List (List (List ℕ))
 names_by n = picked (found_of n.scan) n.sources.items
+
+-- those in the text of a record that was written last
+abbrev pub listed_of : NamesBySource → List (List ℕ)
+listed_of n = names_at n.scan.table.names n.listed

@@ -45,7 +45,7 @@ pub use laws::{
 };
 pub use listing::{RecordText, record_text};
 pub use name_iter::NameIter;
-pub use object_names::names_of_object;
+pub use object_names::listed_names;
 pub use rule::{rule_text, rules_read_back};
 pub use scan::{Found, names};
 pub use scanner::{Fed, Scanner};

@@ -8,7 +8,7 @@ ghost use Rattle.ks_fixdep.specs.CommandFile.{is_dep};
 ghost use Rattle.ks_fixdep.specs.CommandWriting.{deps_text};
 ghost use Rattle.ks_fixdep.specs.FoundNames.{all_noted, names_of};
 ghost use Rattle.ks_fixdep.specs.Record.{own_line, new_names, deps_after, source_of, record_text};
-ghost use Rattle.ks_fixdep.specs.SourceScan.{names_by, picked};
+ghost use Rattle.ks_fixdep.specs.SourceScan.{listed_of, names_by, picked};
 ghost use Rattle.ks_fixdep.specs.SourceTable.{names_at};
 ghost use Rattle.ks_fixdep.specs.declared.command_file.Dep.TheVariants.{Config};
 
@@ -77,6 +77,7 @@ fn push_dependencies(
     requires { listed.old ≡ [] }
     ensures text { OnOk result (text.new.items ≡ text.old.items ++ deps_text (deps_after [] prerequisites.now (picked table.now.found sources.now))) }
     ensures names { OnOk result (length listed.new ≡ length (names_of (picked table.now.found sources.now))) }
+    ensures listed { OnOk result (names_at table.now.names listed.new ≡ names_of (picked table.now.found sources.now)) }
     ensures legal { OnOk result (IsTrue (list_all is_dep (deps_after [] prerequisites.now (picked table.now.found sources.now)))) }
 {
     let mut entries = prerequisites.entries();
@@ -115,6 +116,7 @@ pub fn record_text(
 ) -> Result<RecordText, AllocError>
     ensures text { IfOk result (λ r. r.text.items ≡ record_text target.now command.now prerequisites.now (names_by found.old) generation) }
     ensures names { IfOk result (λ r. r.names ≡ length (names_of (names_by found.old))) }
+    ensures listed { OnOk result (listed_of found.new ≡ names_of (names_by found.old)) }
     ensures source { OnOk result (IsTrue (is_path (source_of prerequisites.now))) }
     ensures deps { OnOk result (IsTrue (list_all is_dep (deps_after [] prerequisites.now (names_by found.old)))) }
     ensures scan { found.new.scan ≡ found.old.scan }

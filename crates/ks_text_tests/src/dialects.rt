@@ -1,22 +1,27 @@
 //! Texts with known names in U-Boot, in BusyBox and in coreboot, in pieces of several sizes.
 ghost use Rattle.std.specs.Prelude.{◌<◌};
 
-use ks_fixdep::{Header, NamesBySource, Rules, Seed, names_of_object, read_depfile_without};
+use ks_fixdep::{
+    DepError, Header, NamesBySource, Rules, Seed, listed_names, read_depfile, read_depfile_without,
+    record_text,
+};
 use ks_symbols::Dialect;
-use std::alloc::{AllocError, Global};
+use std::alloc::Global;
 use std::test::Fail;
 
 /// The names of a text that comes in pieces of a size, each after a space.
-fn names_by(alloc: Global, rules: Rules, text: &[u8], size: usize) -> Result<Vec<u8>, AllocError>
+fn names_by(alloc: Global, rules: Rules, text: &[u8], size: usize) -> Result<Vec<u8>, DepError>
     requires { 0 < size }
 {
+    let read = read_depfile(alloc, b"x.o: x.c")?;
     let mut found = NamesBySource::with_seed(alloc, Seed::new(0));
     for piece in text.chunks(size) {
         found.scan.feed_as(rules, piece)?;
     }
     found.scan.end_source_as(rules)?;
     found.sources.push(0)?;
-    let names = names_of_object(alloc, Seed::new(0), &found)?;
+    record_text(alloc, b"x.o", b"cc", &read, &mut found, None)?;
+    let names = listed_names(alloc, &found)?;
     let mut all = Vec::new(alloc);
     for name in &names {
         all.push(b' ')?;

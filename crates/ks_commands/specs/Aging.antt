@@ -1,5 +1,5 @@
 -- What `age` tells and ages: each object is asked for, aged where it is stale, and told of, one after the other.
-use Rattle.std.specs.Prelude.{◌≡◌, ◌⊎◌, ◌++◌, ℕ, List, [], ◌∷◌, Result, Ok, Err, max, take, ⊤}
+use Rattle.std.specs.Prelude.{◌≡◌, ◌⊎◌, ◌++◌, ℕ, List, [], ◌∷◌, Result, Ok, Err, max, take}
 use Rattle.ks_tree.specs.Files.{Files}
 use Rattle.ks_engine.specs.declared.aging.Ages.{Ages}
 use Rattle.ks_engine.specs.declared.error.EngineError.{EngineError}
@@ -11,7 +11,7 @@ use Rattle.ks_engine.specs.FileRuns.{IsAnswerOn}
 use Rattle.ks_requests.specs.declared.refusal.Refusal.{Refusal}
 use Rattle.ks_requests.specs.declared.request.Form.TheVariants.{Text}
 use Rattle.ks_requests.specs.declared.request.Request.{Request}
-use Rattle.ks_requests.specs.declared.request.Request.TheVariants.{Age, Batch, Depfile, Record, Sync}
+use Rattle.ks_requests.specs.declared.request.Request.TheVariants.{Age}
 use Rattle.ks_requests.specs.declared.status.Outcome.{Outcome}
 use Rattle.ks_requests.specs.Endings.{Ending}
 use Rattle.ks_requests.specs.JsonLines.{answer_in}
@@ -39,11 +39,7 @@ EndsAged which files targets ended old new =
     ((refusal : Refusal) × (ended ≡ Err refusal) × (new ≡ old))
     ⊎ ((objects : List (List ℕ)) × (targets ≡ Ok objects) × AgesAll which files objects ended old new)
 
--- What a request ages. No question does; of what writes files nothing is said here.
+-- What a request ages: no other one does.
 abbrev pub AgesAsked : Files → Request → Ending → List (List ℕ) → List (List ℕ) → Type 0
 AgesAsked files (Age which targets) ended old new = EndsAged which files (targets_at files targets) ended old new
-AgesAsked files (Sync k d stamps) ended old new = ⊤
-AgesAsked files (Record d t c) ended old new = ⊤
-AgesAsked files (Depfile end d t c) ended old new = ⊤
-AgesAsked files (Batch script) ended old new = ⊤
 AgesAsked files _ ended old new = new ≡ old

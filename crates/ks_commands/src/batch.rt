@@ -175,6 +175,7 @@ fn run_commands<T: Tree>(
         × FileRun dialect T.is_honest (state T.Tree tree.old) (map action commands.now) replies (state T.Tree tree.new)
         × (o.text.items ≡ reply_lines (map action commands.now) replies)) }
     ensures later { T.failures tree.old ≤ T.failures tree.new }
+    ensures kept { T.aged tree.new ≡ T.aged tree.old }
     ensures no_device { result ≡ Err (Engine Device) → ⊥ }
 {
     let replies = run(alloc, tree, dialect, commands)?;
@@ -190,6 +191,7 @@ pub(crate) fn run_script<T: Tree>(
 ) -> Result<Outcome, Refusal>
     ensures files { T.is_honest → EndsBatch (T.files tree.old) (by_files dialect (state T.Tree tree.old) (state T.Tree tree.new)) path.now result }
     ensures cause { result ≡ Err (Engine Device) → HasRisen (T.failures tree.old) (T.failures tree.new) }
+    ensures kept { T.aged tree.new ≡ T.aged tree.old }
     ensures counts { IfOk result (λ o. RunsCounted dialect T.is_honest (state T.Tree tree.old) path.now o.text.items (state T.Tree tree.new)) }
 {
     let script = read_given(alloc, tree, path)?;

@@ -29,6 +29,7 @@ fn sync_with<T: Tree>(
 ) -> Result<Report, EngineError>
     ensures files { T.is_honest → LeavesStamps (T.files tree.old) (T.files tree.new) stamps kconfig.now dotconfig.now result }
     ensures counted { Counted T.Tree tree.old tree.new (IsErrOf result EngineError.Device) }
+    ensures kept { T.aged tree.new ≡ T.aged tree.old }
 {
     match stamps {
         Stamps::Touched => sync(alloc, tree, kconfig, dotconfig),
@@ -49,6 +50,7 @@ pub(crate) fn synchronise<T: Tree>(
     ensures files { T.is_honest → EndsSync (T.files tree.old) (by_files dialect (state T.Tree tree.old) (state T.Tree tree.new))
         stamps kconfig.now dotconfig.now result }
     ensures cause { result ≡ Err (Engine Device) → HasRisen (T.failures tree.old) (T.failures tree.new) }
+    ensures kept { T.aged tree.new ≡ T.aged tree.old }
 {
     let texts = texts_at(alloc, tree, kconfig, dotconfig)?;
     let kconfig = Kconfig::new(dialect, &texts.kconfig);
@@ -68,6 +70,7 @@ pub(crate) fn record_target<T: Tree>(
     ensures done { IfOk result (λ o. o.status ≡ Done) }
     ensures files { T.is_honest → EndsRecord (by_files dialect (state T.Tree tree.old) (state T.Tree tree.new)) depfile.now target.now command.now result }
     ensures cause { result ≡ Err (Engine Device) → HasRisen (T.failures tree.old) (T.failures tree.new) }
+    ensures kept { T.aged tree.new ≡ T.aged tree.old }
 {
     let recorded = record_object(alloc, tree, dialect, depfile, target, command)?;
     Ok(tell_recorded(alloc, target, &recorded)?)
@@ -101,6 +104,7 @@ pub(crate) fn record_rule<T: Tree>(
     ensures files { T.is_honest → EndsDepfile (by_files dialect (state T.Tree tree.old) (state T.Tree tree.new))
         (option_map (λ p. p.now) header.entry) depfile.now target.now command.now result }
     ensures cause { result ≡ Err (Engine Device) → HasRisen (T.failures tree.old) (T.failures tree.new) }
+    ensures kept { T.aged tree.new ≡ T.aged tree.old }
 {
     let header = header_of(dialect, header)?;
     let recorded = record_depfile(alloc, tree, header, dialect, depfile, target, command)?;

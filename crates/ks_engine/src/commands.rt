@@ -53,6 +53,7 @@ fn answer<T: Tree>(
     requires memo { T.is_honest → IsMemoOf (T.files tree.old) memo.old }
     ensures memo { T.is_honest → IsMemoOf (T.files tree.new) memo.new }
     ensures step { StepsTo dialect T.is_honest (state T.Tree tree.old) (action command.now) result (state T.Tree tree.new) }
+    ensures kept { T.aged tree.new ≡ T.aged tree.old }
 {
     match command {
         Command::Sync { kconfig, dotconfig } => {
@@ -93,6 +94,7 @@ pub fn run<T: Tree>(
     // Where memory is refused for the replies, nothing was asked of the tree.
     ensures untouched { OnErr result (tree.new ≡ tree.old) }
     ensures later { T.failures tree.old ≤ T.failures tree.new }
+    ensures kept { T.aged tree.new ≡ T.aged tree.old }
 {
     let mut replies = Vec::with_capacity(alloc, commands.len())?;
     let mut memo = Memo::with_seed(alloc, Seed::new(tree.seed()));

@@ -99,6 +99,7 @@ fn write_record<T: Tree>(
     ensures others { T.is_honest → SameButBoth (command_temporary target.now) (command_path target.now) (T.files tree.old) (T.files tree.new) }
     ensures given { IfErr result IsGivenUp }
     ensures counted { Counted T.Tree tree.old tree.new (IsErrOf result EngineError.Device) }
+    ensures kept { T.aged tree.new ≡ T.aged tree.old }
 {
     let path = command_path(alloc, target)?;
     let temporary = command_temporary(alloc, target)?;
@@ -120,6 +121,7 @@ fn leave_rule<T: Tree>(
     ensures tried { T.is_honest → OnErr result (RuleTried (T.files tree.old) (T.files tree.new) depfile.now names.now rule.now) }
     ensures given { IfErr result IsGivenUp }
     ensures counted { Counted T.Tree tree.old tree.new (IsErrOf result EngineError.Device) }
+    ensures kept { T.aged tree.new ≡ T.aged tree.old }
 {
     let temporary = temporary(alloc, depfile)?;
     make_stamps(alloc, tree, names)?;
@@ -150,6 +152,7 @@ pub fn record_depfile<T: Tree>(
     ensures follows { GoesOn T.Tree tree.old tree.new (FollowsDepfile (ruled_by header.entry dialect) depfile.now target.now command.now result) }
     // The device is to blame only where the tree counted a failure.
     ensures counted { Counted T.Tree tree.old tree.new (IsErrOf result EngineError.Device) }
+    ensures kept { T.aged tree.new ≡ T.aged tree.old }
 {
     if is_own_file(depfile) {
         return Err(EngineError::BadPath(0));

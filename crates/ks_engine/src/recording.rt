@@ -184,6 +184,7 @@ pub(crate) fn record_by<T: Tree>(
     ensures recorded { T.is_honest → IfOk result (IsRecorded dialect (T.files tree.old) (T.files tree.new) depfile.now target.now command.now) }
     ensures refused { T.is_honest → IfErr result (IsRecordRefused dialect (T.files tree.old) (T.files tree.new) depfile.now target.now command.now) }
     ensures counted { Counted T.Tree tree.old tree.new (IsErrOf result EngineError.Device) }
+    ensures kept { T.aged tree.new ≡ T.aged tree.old }
 {
     let conventions = Conventions {
         header: Header::usual(dialect),
@@ -216,6 +217,7 @@ pub fn record_object<T: Tree>(
     ensures follows { GoesOn T.Tree tree.old tree.new (FollowsRecord dialect depfile.now target.now command.now result) }
     // The device is to blame only where the tree counted a failure.
     ensures counted { Counted T.Tree tree.old tree.new (IsErrOf result EngineError.Device) }
+    ensures kept { T.aged tree.new ≡ T.aged tree.old }
 {
     let mut memo = Memo::of_one_object(alloc, Seed::new(tree.seed()));
     record_by(alloc, tree, &mut memo, dialect, depfile, target, command)

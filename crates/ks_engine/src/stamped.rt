@@ -60,6 +60,7 @@ pub fn sync_stamped<T: Tree>(
     ensures follows { GoesOn T.Tree tree.old tree.new (FollowsSyncStamped kconfig.now dotconfig.now result) }
     // The device is to blame only where the tree counted a failure.
     ensures counted { Counted T.Tree tree.old tree.new (IsErrOf result EngineError.Device) }
+    ensures kept { T.aged tree.new ≡ T.aged tree.old }
 {
     // The names come before the first write, so that want of memory for them leaves all as it was.
     let ready = prepare(alloc, tree, kconfig, dotconfig)?;

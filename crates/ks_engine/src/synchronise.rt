@@ -81,6 +81,7 @@ pub(crate) fn write_all<T: Tree>(alloc: Global, tree: &mut T, work: &Work) -> Re
         → OnErr result (SyncSome (T.files tree.old) (T.files tree.new) plan work.now.report.touched.items) }
     ensures never { IsErrOf result TreeFault.TooLarge → ⊥ }
     ensures counted { Counted T.Tree tree.old tree.new (IsErrOf result TreeFault.Device) }
+    ensures kept { T.aged tree.new ≡ T.aged tree.old }
 {
     touch_all(alloc, tree, &work.report.touched, work.report.generation)?;
     replace(alloc, tree, header_temporary(), header_path(), &work.header)?;
@@ -102,6 +103,7 @@ pub fn sync<T: Tree>(
     ensures follows { GoesOn T.Tree tree.old tree.new (FollowsSync kconfig.now dotconfig.now result) }
     // The device is to blame only where the tree counted a failure.
     ensures counted { Counted T.Tree tree.old tree.new (IsErrOf result EngineError.Device) }
+    ensures kept { T.aged tree.new ≡ T.aged tree.old }
 {
     let work = prepare(alloc, tree, kconfig, dotconfig)?;
     write_all(alloc, tree, &work)?;

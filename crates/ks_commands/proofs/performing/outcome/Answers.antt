@@ -89,13 +89,13 @@ pub returns-in-Cost-clause-aged : goal.returns-in-Cost-clause-aged
 returns-in-Cost-clause-aged g c = λ honest. rw c.in-Cost.is c.tell_cost.ensures.reads.kept
 
 pub returns-in-Sync-clause-aged : goal.returns-in-Sync-clause-aged
-returns-in-Sync-clause-aged g c = λ honest. rw c.in-Sync.is tt
+returns-in-Sync-clause-aged g c = λ honest. rw c.in-Sync.is c.synchronise.ensures.kept
 
 pub returns-in-Record-clause-aged : goal.returns-in-Record-clause-aged
-returns-in-Record-clause-aged g c = λ honest. rw c.in-Record.is tt
+returns-in-Record-clause-aged g c = λ honest. rw c.in-Record.is c.record_target.ensures.kept
 
 pub returns-in-Depfile-clause-aged : goal.returns-in-Depfile-clause-aged
-returns-in-Depfile-clause-aged g c = λ honest. rw c.in-Depfile.is tt
+returns-in-Depfile-clause-aged g c = λ honest. rw c.in-Depfile.is c.record_rule.ensures.kept
 
 pub returns-in-Batch-clause-aged : goal.returns-in-Batch-clause-aged
-returns-in-Batch-clause-aged g c = λ honest. rw c.in-Batch.is tt
+returns-in-Batch-clause-aged g c = λ honest. rw c.in-Batch.is c.run_script.ensures.kept

@@ -6,6 +6,7 @@ abbrev pub invariant-loop-command : goal.invariant-loop-command
 invariant-loop-command g l = record {
   run : FileRun l.fn.dialect g.T.Tree.is_honest (state g.T.Tree l.fn.tree) (map action (take l.command-index l.commands)) l.replies.items (state g.T.Tree l.tree);
   later : g.T.Tree.failures l.fn.tree ≤ g.T.Tree.failures l.tree;
+  kept : g.T.Tree.aged l.tree ≡ g.T.Tree.aged l.fn.tree;
   memo : g.T.Tree.is_honest → IsMemoOf (g.T.Tree.files l.tree) l.memo;
   told : vec_len l.replies ≡ l.command-index;
   room : length l.commands ≤ vec_capacity l.replies;

@@ -14,4 +14,5 @@ loop-name-preserved g c = record {
   made = λ honest. let was = c.loop-name.invariant.made honest in let at = c.in_ok-make_stamp.ensures.made honest in
       let others = c.make_stamp.ensures.others honest in grind (arith, common_steps, made_more);
   same = search rules;
+  kept = search rules;
 }

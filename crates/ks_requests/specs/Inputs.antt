@@ -1,5 +1,6 @@
 -- The files that words name: all words first, then the files in their order.
-use Rattle.std.specs.Prelude.{ℕ, List, Option, Some, None, Result, Ok, Err, if◌then◌else◌}
+use Rattle.std.specs.Prelude.{ℕ, Bool, List, Option, Some, None, Result, Ok, Err, if◌then◌else◌}
+use Rattle.std.specs.List.{list_all}
 use Rattle.ks_symbols.specs.Names.{is_path}
 use Rattle.ks_tree.specs.Files.{Files, content}
 use Rattle.ks_engine.specs.declared.error.EngineError.{EngineError}
@@ -10,6 +11,10 @@ use Rattle.ks_engine.specs.Recording.{there}
 -- a word that has to be a path
 abbrev pub legal : List ℕ → Result (Unit {0}) EngineError
 legal path = if is_path path then Ok tt else Err (BadPath 0)
+
+-- whether each of these words is one
+abbrev pub are_paths : List (List ℕ) → Bool
+are_paths words = list_all is_path words
 
 -- the file that a word names
 abbrev pub given : Files → List ℕ → Result (List ℕ) EngineError

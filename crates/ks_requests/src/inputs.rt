@@ -2,12 +2,12 @@
 //!
 //! All paths are looked at before the first file is read, so that a misspelt word costs nothing; and all files
 //! are read before anything is parsed. Each is read once, and nothing else is asked of the tree meanwhile.
-ghost use Rattle.std.specs.Prelude.{◌≡◌, ◌⊎◌, ◌∷◌, ◌++◌, [], IfOk, IsErrOf, None, OnOk, option_map, string_bytes};
+ghost use Rattle.std.specs.Prelude.{◌≡◌, ◌⊎◌, ◌∷◌, ◌++◌, [], false, IfOk, IsErrOf, None, OnOk, option_map, string_bytes};
 ghost use Rattle.std.specs.Bool.{MatchBool};
 ghost use Rattle.ks_symbols.specs.Names.{is_path};
 ghost use Rattle.ks_tree.specs.Frames.{Reads};
 ghost use Rattle.ks_engine.specs.Refusals.{Answers};
-ghost use Rattle.ks_requests.specs.Inputs.{given, given_if_named, inputs_at, legal, legal_if_named, texts_at};
+ghost use Rattle.ks_requests.specs.Inputs.{are_paths, given, given_if_named, inputs_at, legal, legal_if_named, texts_at};
 ghost use Rattle.ks_requests.specs.Inputs as inputs;
 ghost use Rattle.ks_requests.specs.Readings.{ReadsEach, ReadsSome, if_named};
 ghost use Rattle.ks_requests.specs.Views.{seen_inputs, seen_texts};
@@ -119,6 +119,7 @@ pub fn texts_at<T: Reading>(
     ensures texts { T.is_honest → Answers (texts_at (T.files tree.old) kconfig.now dotconfig.now) seen_texts result }
     ensures once { OnOk result (ReadsEach T.reads tree.old (kconfig.now ∷ dotconfig.now ∷ []) tree.new) }
     ensures no_other { ReadsSome T.reads tree.old (kconfig.now ∷ dotconfig.now ∷ []) tree.new }
+    ensures words_first { are_paths (kconfig.now ∷ dotconfig.now ∷ []) ≡ false → tree.new ≡ tree.old }
 {
     check_path(kconfig)?;
     check_path(dotconfig)?;
@@ -158,6 +159,7 @@ pub fn inputs_at<T: Reading>(
     ensures inputs { T.is_honest → Answers (inputs_at (T.files tree.old) kconfig.now dotconfig.now (option_map (λ p. p.now) old.entry)) seen_inputs result }
     ensures once { OnOk result (ReadsEach T.reads tree.old (kconfig.now ∷ dotconfig.now ∷ if_named (option_map (λ p. p.now) old.entry)) tree.new) }
     ensures no_other { ReadsSome T.reads tree.old (kconfig.now ∷ dotconfig.now ∷ if_named (option_map (λ p. p.now) old.entry)) tree.new }
+    ensures words_first { are_paths (kconfig.now ∷ dotconfig.now ∷ if_named (option_map (λ p. p.now) old.entry)) ≡ false → tree.new ≡ tree.old }
 {
     check_path(kconfig)?;
     check_path(dotconfig)?;

@@ -1,5 +1,5 @@
 -- Each process alone shows its record, so all together show each shuffle of them.
-use Rattle.ks_parallel.proofs.Prelude.{◌≡◌, inl, inr, ⊎_elim, ℕ, ◌<◌, ◌≤◌, List, [], ◌∷◌, Ok, Err, true, length, get_or, sym, ◌∙◌, ap, refl, subst, arith, cases_lt, header_path, Files, OutOfMemory, History, Shows, IsRecordEvent, at, record_follows, untouched_shows, Job, ReadFile, Stage, Reading, Written, Done, Failed, Recorder, own, is_own_job, is_others_job, without, RecordEvent, with_records, IsOfJob, jobs_of, are_distinct, IsAtStage, part, alone, Played, IsRecordOf, Adds, AllShuffles, ShowsShuffles, rules, get_or_default}
+use Rattle.ks_parallel.proofs.Prelude.{◌≡◌, inl, inr, ⊎_elim, ℕ, ◌<◌, ◌≤◌, List, [], ◌∷◌, Ok, Err, true, length, get_or, sym, ◌∙◌, ap, refl, subst, arith, cases_lt, header_path, Files, History, Shows, IsRecordEvent, at, record_follows, untouched_shows, Job, ReadFile, Stage, Reading, Written, Done, Failed, Recorder, own, is_own_job, is_others_job, without, RecordEvent, with_records, IsOfJob, jobs_of, are_distinct, IsAtStage, part, alone, Played, IsRecordOf, Adds, AllShuffles, ShowsShuffles, rules, get_or_default}
 use Rattle.ks_parallel.proofs.Each.{Each, each_all}
 use Rattle.ks_parallel.proofs.Parts.{Said, same_said}
 use Rattle.ks_parallel.proofs.Joined.{views_show, side_by_side}
@@ -36,16 +36,15 @@ added_alone files now h job reads (Done answer) shows is =
     record { es = e.0 ∷ []; adds = search (rules, e, next.1.files.names); shows = rw e.1 at next.2 })
     (λ none. record { es = []; adds = inr (none.0, refl); shows = rw none.1 at next.2 })
     next.1.history
-added_alone files now h job reads (Failed fault) shows (inl same) = record { es = []; adds = inl refl; shows = rw same shows }
-added_alone files now h job reads (Failed fault) shows (inr tried) =
-    let next = record_follows job.dialect files now 0 0 h job.depfile.now job.target.now job.command.now (Err OutOfMemory) shows tt (inr (tt, inr tried)) in
+added_alone files now h job reads (Failed fault) shows is =
+    let next = record_follows job.dialect files now 0 0 h job.depfile.now job.target.now job.command.now (Err fault) shows tt is in
     let unchanged : next.0 ≡ h → IsAdded files now h job (Failed fault)
     = λ same. record { es = []; adds = inl refl; shows = rw same at next.2 } in
     ⊎_elim
     (λ plain. unchanged plain.1.1)
     (λ given. ⊎_elim (λ same. unchanged same.1) (λ tried. ⊎_elim unchanged (λ some.
     let e = event files 0 h next.0 job tried.0.plan.names some in
-    record { es = e.0 ∷ []; adds = inr (e.0, refl, e.2); shows = rw e.1 at next.2 }) tried.1) given.1)
+    record { es = e.0 ∷ []; adds = inr (given.0, (e.0, refl, e.2)); shows = rw e.1 at next.2 }) tried.1) given.1)
     next.1
 
 -- ---- all of them

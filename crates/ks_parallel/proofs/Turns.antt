@@ -1,5 +1,5 @@
 -- One more turn of a process among several.
-use Rattle.ks_parallel.proofs.Prelude.{◌≡◌, ⊎_elim, ℕ, zero, suc, ◌+◌, ◌<◌, ◌≤◌, List, [], ◌∷◌, ◌++◌, Some, Bool, true, false, cond, not, ◌&&◌, length, get_or, set, sym, ◌∙◌, ap, refl, subst, true≢false, bytes_eq, nat_eq, arith, append-nil, get_or-set_same, get_or-set_other, length-set, length-append, list_any, false_from_ne_true, and_from, and_parts, or_from, or_cases, or_left, or_right, eq-eqb, ne_eqb, cases_eq, bytes_eq-Decides, Files, content, command_temporary, Job, Stage, Written, Recorder, Call, Nothing, after, after_all, Finds, AllFind, own, EachOf, KeepsApart, AreApart, is_own_job, sees, numbered, jobs_of, has_target, are_distinct, IsAtStage, IsAt, IsReadyAt, IsReady, StepsBy, GoesOn, HasHad, AreBegun, IsTurn, part, alone, Played, rules, not-true, cases_lt, map_push, get_or_default}
+use Rattle.ks_parallel.proofs.Prelude.{◌≡◌, all, ◌⊎◌, count_by, sum_by-append, list_any-append, IsCounted, AreCounted, inr, inl, cases_Bool, both_ways, Reading, HasRisenBy, HasRisen, FailsByDevice, Failed, Device, ⊎_elim, ℕ, zero, suc, ◌+◌, ◌<◌, ◌≤◌, List, [], ◌∷◌, ◌++◌, Some, Bool, true, false, cond, not, ◌&&◌, length, get_or, set, sym, ◌∙◌, ap, refl, subst, true≢false, bytes_eq, nat_eq, arith, append-nil, get_or-set_same, get_or-set_other, length-set, length-append, list_any, false_from_ne_true, and_from, and_parts, or_from, or_cases, or_left, or_right, eq-eqb, ne_eqb, cases_eq, bytes_eq-Decides, Files, content, command_temporary, Job, Stage, Written, Recorder, Call, Nothing, after, after_all, Finds, AllFind, own, EachOf, KeepsApart, AreApart, is_own_job, sees, numbered, jobs_of, has_target, are_distinct, IsAtStage, IsAt, IsReadyAt, IsReady, StepsBy, GoesOn, HasHad, AreBegun, IsTurn, part, alone, Played, rules, not-true, cases_lt, map_push, get_or_default}
 use Rattle.ks_parallel.proofs.Apart.{view_at, views_are_honest, finds_same, seen_in_view}
 use Rattle.ks_parallel.proofs.Joined.{hidden_from, own_seen}
 use Rattle.ks_parallel.proofs.Made.{content_left}
@@ -110,7 +110,10 @@ module _ (jobs : List Job) (start now : Files) (turns : List ℕ) (rs : List Rec
       let found = finds_same (sees (jobs_of jobs) i) now (part jobs now i) step.call (seen_in_view (sees (jobs_of jobs) i) now) keeps.seen step.finds in
       let mine : IsOn jobs start i (own i p.calls ++ step.call ∷ []) (get_or jobs i dj) next = (
         step.process ∙ was.0,
-        rw after_push (step.goes_on (part jobs start i) (alone jobs start p.calls i) was.1 (rw (← seen_alone) found)),
+        rw after_push (subst (λ k. IsAt (part jobs start k) (after (alone jobs start p.calls i) step.call) (get_or jobs i dj) next) was.0
+            (step.goes_on start (alone jobs start p.calls i)
+            (subst (λ k. IsAt (part jobs start k) (alone jobs start p.calls i) (get_or jobs i dj) (get_or rs i d)) (sym was.0) was.1)
+            (rw (← seen_alone) found))),
         rw length-append (had_more (get_or rs i d) next (length (own i p.calls)) (get_or rs i d).stage was.2 refl step.further),
       ) in
       more new step.call (set rs i next) step.leaves step.finds keeps (length-set rs i next)
@@ -125,6 +128,86 @@ module _ (jobs : List Job) (start now : Files) (turns : List ℕ) (rs : List Rec
       (λ within. let turn = taken within in rw turn.3 (turn_taken new turn.0 turn.1 turn.2 distinct within turn.4))
       (λ past. let same = passed past in rw (same.0, same.1) (search (rules, (more now Nothing rs), true≢false)))
       (cases_lt i (length rs))
+
+-- ---- failures of the device
+
+abbrev blames : Stage → Bool
+blames (Failed Device) = true
+blames stage = false
+
+blames_is : (stage : Stage) → blames stage ≡ true → stage ≡ Failed Device
+blames_is (Failed Device) is = refl
+blames_is stage is = absurd cc
+
+-- a turn of a process
+module _ (rs ss : List Recorder) (i old new : ℕ) (r next : Recorder) (within : i < length rs) (at : r ≡ get_or rs i r) (made : ss ≡ set rs i next) (later : old ≤ new)
+    (cause : FailsByDevice r next → HasRisen old new) where
+  -- what a process says, where only one says it anew
+  says : (failed : Bool) → (next.stage ≡ Failed Device → (r.stage ≡ Failed Device) ⊎ (failed ≡ true)) → (j : ℕ) (d : Recorder) → (get_or ss j d).stage ≡ Failed Device
+      → ((get_or rs j d).stage ≡ Failed Device) ⊎ ((i ≡ j) × (failed ≡ true))
+  says failed here j d is = ⊎_elim
+      (λ same. ⊎_elim
+      (λ before. inl (subst (λ k. (get_or rs k d).stage ≡ Failed Device) same
+      (ap (λ (p : Recorder). p.stage) (get_or_default rs i d r within ∙ sym at) ∙ before)))
+      (λ now. inr (same, now))
+      (here (ap (λ (p : Recorder). p.stage) (sym (get_or-set_same rs i next d within) ∙ ap (λ xs. get_or xs i d) (sym made)
+      ∙ ap (λ k. get_or ss k d) same) ∙ is)))
+      (λ other. inl (ap (λ (p : Recorder). p.stage) (sym (get_or-set_other rs i j next d (λ e. other (sym e))) ∙ ap (λ xs. get_or xs j d) (sym made)) ∙ is))
+      (cases_eq i j)
+
+  pub counted_turn : IsCounted i rs ss old new
+  counted_turn = ⊎_elim
+      (λ loud. ⊎_elim
+      (λ before. record { failed = false; later = later; risen = λ e. absurd cc; blamed = says false (λ is. inl (blames_is r.stage before)) })
+      (λ before. record {
+        failed = true;
+        later = later;
+        risen = λ e. cause ((λ is. both_ways _ before (ap blames is)), blames_is next.stage loud);
+        blamed = says true (λ is. inr refl);
+      })
+      (cases_Bool (blames r.stage)))
+      (λ silent. record {
+        failed = false;
+        later = later;
+        risen = λ e. absurd cc;
+        blamed = says false (λ is. absurd (both_ways _ silent (ap blames is)));
+      })
+      (cases_Bool (blames next.stage))
+
+-- a turn of none
+pub counted_none : (rs ss : List Recorder) (i old new : ℕ) → ss ≡ rs → new ≡ old → IsCounted i rs ss old new
+counted_none rs ss i old new same unchanged = record {
+  failed = false;
+  later = omega arith;
+  risen = λ e. absurd cc;
+  blamed = λ j d is. inl (ap (λ xs. (get_or xs j d).stage) (sym same) ∙ is);
+}
+
+-- one more turn
+pub counted_more : (turns : List ℕ) (rs ss : List Recorder) (i first old new : ℕ) → AreCounted turns rs first old → length ss ≡ length rs → IsCounted i rs ss old new
+    → AreCounted (turns ++ i ∷ []) ss first new
+counted_more turns rs ss i first old new was count turn = record {
+  failed = was.failed ++ (i, turn.failed) ∷ [];
+  in_turn = rw (map_push, was.in_turn);
+  counted = rw (map_push, sum_by-append (λ (b : Bool). cond b 1 0)) (risen_more first (count_by (λ b. b) (all was.failed)) old new turn.failed was.counted turn.later turn.risen);
+  blamed = λ j d within is. rw (own_push, list_any-append) (⊎_elim
+      (λ before. or_left _ _ (was.blamed j d (omega arith) before))
+      (λ now. or_right _ _ (subst (λ b. list_any (λ b. b) (cond b (turn.failed ∷ []) []) ≡ true) (sym (eq-eqb i j now.0)) (or_left _ _ now.1)))
+      (turn.blamed j d is));
+}
+  where
+    risen_more : (first n old new : ℕ) (failed : Bool) → HasRisenBy n first old → old ≤ new → (failed ≡ true → HasRisen old new)
+        → HasRisenBy (n + (0 + cond failed 1 0)) first new
+    risen_more first n old new true risen later cause = let one = cause refl in omega arith
+    risen_more first n old new false risen later cause = omega arith
+
+pub counted_begun : (jobs : List Job) (rs : List Recorder) (n : ℕ) → AreBegun jobs rs → AreCounted [] rs n n
+counted_begun jobs rs n begun = record {
+  failed = [];
+  in_turn = refl;
+  counted = omega arith;
+  blamed = λ i d within is. let reading = (begun.each i d within).stage in let never : Reading ≡ Failed Device = sym reading ∙ is in absurd cc;
+}
 
 -- before the first turn
 pub no_turn : (jobs : List Job) (start : Files) (rs : List Recorder) → AreBegun jobs rs → Played jobs start start [] rs

@@ -3,6 +3,7 @@ use Rattle.std.specs.Prelude.{◌≡◌, ◌⊎◌, ℕ, ◌<◌, ◌≤◌, Lis
 use Rattle.ks_symbols.specs.Names.{header_path}
 use Rattle.ks_tree.specs.Files.{Files, content}
 use Rattle.ks_engine.specs.History.{History, WasSynced}
+use Rattle.ks_engine.specs.Refusals.{IsGivenUp}
 use Rattle.ks_engine.specs.Shows.{Shows}
 use Rattle.ks_parallel.specs.declared.jobs.Job.{Job}
 use Rattle.ks_parallel.specs.declared.recorder.Stage.{Stage}
@@ -17,12 +18,12 @@ pub record IsRecordOf (files : Files) (job : Job) (e : RecordEvent) : Type 0 whe
   pub command : e.command ≡ job.command.now
   pub header : content files header_path ≡ Some e.header
 
--- What a process adds to a history. One that is done adds its record, unless the history has no synchronisation yet. One that failed may have left its
--- record or not, and any other one adds nothing.
+-- What a process adds to a history. One that is done adds its record, unless the history has no synchronisation yet. One that was given up may have left
+-- its record or not, and any other one adds nothing.
 abbrev pub Adds : Files → History → Job → Stage → List RecordEvent → Type 0
 Adds files h job (Done answer) es =
     (WasSynced h × ((e : RecordEvent) × (es ≡ e ∷ []) × IsRecordOf files job e × (answer.names ≡ length e.names))) ⊎ ((WasSynced h → ⊥) × (es ≡ []))
-Adds files h job (Failed fault) es = (es ≡ []) ⊎ ((e : RecordEvent) × (es ≡ e ∷ []) × IsRecordOf files job e)
+Adds files h job (Failed fault) es = (es ≡ []) ⊎ (IsGivenUp fault × ((e : RecordEvent) × (es ≡ e ∷ []) × IsRecordOf files job e))
 Adds files h job _ es = es ≡ []
 
 -- From each history that the files showed there are records of the processes such that the files show every shuffle of them after it.

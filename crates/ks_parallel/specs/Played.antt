@@ -1,13 +1,15 @@
 -- What is left of a tree and of the processes by the turns that they have had.
-use Rattle.std.specs.Prelude.{◌≡◌, ℕ, ◌<◌, ◌≤◌, List, [], length, get_or, set, map}
-use Rattle.ks_tree.specs.Files.{Files}
+use Rattle.std.specs.Prelude.{◌≡◌, ◌⊎◌, ℕ, ◌+◌, ◌<◌, ◌≤◌, min, Bool, true, List, [], length, get_or, set, map, count_by}
+use Rattle.std.specs.List.{list_any}
+use Rattle.ks_tree.specs.Files.{Files, HasRisen}
+use Rattle.ks_engine.specs.declared.error.EngineError.TheVariants.{Device}
 use Rattle.ks_parallel.specs.declared.jobs.Job.{Job}
-use Rattle.ks_parallel.specs.declared.recorder.Stage.TheVariants.{Reading}
+use Rattle.ks_parallel.specs.declared.recorder.Stage.TheVariants.{Reading, Failed}
 use Rattle.ks_parallel.specs.declared.recorder.Recorder.{Recorder}
-use Rattle.ks_parallel.specs.Calls.{Call, after_all, AllFind, view}
+use Rattle.ks_parallel.specs.Calls.{Call, after_all, AllFind}
 use Rattle.ks_parallel.specs.Orders.{own, all, EachOf, KeepsApart}
 use Rattle.ks_parallel.specs.Views.{sees}
-use Rattle.ks_parallel.specs.Jobs.{jobs_of}
+use Rattle.ks_parallel.specs.Jobs.{jobs_of, part}
 use Rattle.ks_parallel.specs.Recorders.{IsAt, IsReady, StepsBy, HasHad}
 
 pub record IsBegun (i : ℕ) (r : Recorder) : Type 0 where
@@ -19,10 +21,7 @@ pub record AreBegun (jobs : List Job) (rs : List Recorder) : Type 0 where
   pub count : length rs ≡ length jobs
   pub each : (i : ℕ) (d : Recorder) → i < length rs → IsBegun i (get_or rs i d)
 
--- what a process sees of files, and what its own calls make of that
-abbrev pub part : List Job → Files → ℕ → Files
-part jobs files i = view (sees (jobs_of jobs) i) files
-
+-- what a process's own calls make of the files that it sees
 abbrev pub alone : List Job → Files → List (ℕ × Call) → ℕ → Files
 alone jobs files calls i = after_all (part jobs files i) (own i calls)
 
@@ -39,6 +38,28 @@ pub record Played (jobs : List Job) (start now : Files) (turns : List ℕ) (rs :
       × IsAt (part jobs start i) (alone jobs start calls i) (get_or jobs i job) (get_or rs i d)
       × HasHad (length (own i calls)) (length (get_or rs i d).reads.items) (get_or rs i d).stage
   pub beyond : (i : ℕ) → length rs ≤ i → alone jobs start calls i ≡ part jobs start i
+
+-- ---- failures of the device
+
+-- The count of failures rose by as many, or stands at its end.
+abbrev pub HasRisenBy : ℕ → ℕ → ℕ → Type 0
+HasRisenBy n before now = min (before + n) 18446744073709551615 ≤ now
+
+-- In which turns the device failed: it counted a failure for each of them, and a process that says so had one.
+pub record AreCounted (turns : List ℕ) (rs : List Recorder) (old new : ℕ) : Type 0 where
+  pub failed : List (ℕ × Bool)
+  pub in_turn : map (λ t. t.0) failed ≡ turns
+  pub counted : HasRisenBy (count_by (λ b. b) (all failed)) old new
+  pub blamed : (i : ℕ) (d : Recorder) → i < length rs → (get_or rs i d).stage ≡ Failed Device → list_any (λ b. b) (own i failed) ≡ true
+
+-- Whether it failed in a turn: the count rose then, and nobody else but the process whose turn it is says so since.
+pub record IsCounted (i : ℕ) (rs ss : List Recorder) (old new : ℕ) : Type 0 where
+  pub failed : Bool
+  pub later : old ≤ new
+  pub risen : failed ≡ true → HasRisen old new
+  pub blamed : (j : ℕ) (d : Recorder) → (get_or ss j d).stage ≡ Failed Device → ((get_or rs j d).stage ≡ Failed Device) ⊎ ((i ≡ j) × (failed ≡ true))
+
+-- ---- a turn
 
 -- Each process may take a turn.
 abbrev pub AreReady : Files → List Job → List Recorder → Type 0

@@ -1,10 +1,12 @@
 -- How far a process has come with its record, and what each of its steps does.
-use Rattle.std.specs.Prelude.{◌≡◌, ◌⊎◌, ◌+◌, ◌≤◌, ℕ, List, length, Option, Some, Result, Ok, Err, true, IsSome, IfSome, ⊤}
-use Rattle.ks_tree.specs.Files.{Files, content}
+use Rattle.std.specs.Prelude.{◌≡◌, ◌⊎◌, ◌+◌, ◌≤◌, ℕ, List, length, Option, Some, Result, Ok, Err, true, IsSome, ⊤}
+use Rattle.ks_tree.specs.Files.{Files, content, IsTooLarge}
 use Rattle.ks_tree.specs.Paths.{command_path, command_temporary}
 use Rattle.ks_engine.specs.declared.error.EngineError.{EngineError}
+use Rattle.ks_engine.specs.declared.error.EngineError.TheVariants.{TooLarge, Device}
 use Rattle.ks_engine.specs.declared.recording.Recorded.{Recorded}
-use Rattle.ks_engine.specs.Recorded.{IsRecorded, IsRecordTried}
+use Rattle.ks_engine.specs.Refusals.{IsGivenUp}
+use Rattle.ks_engine.specs.Recorded.{IsRecorded, IsRecordRefused}
 use Rattle.ks_parallel.specs.declared.jobs.Job.{Job}
 use Rattle.ks_parallel.specs.declared.known.ReadFile.{ReadFile}
 use Rattle.ks_parallel.specs.declared.recorder.Stage.{Stage}
@@ -12,19 +14,20 @@ use Rattle.ks_parallel.specs.declared.recorder.Stage.TheVariants.{Reading, Writt
 use Rattle.ks_parallel.specs.declared.recorder.Recorder.{Recorder}
 use Rattle.ks_parallel.specs.Calls.{Call, Leaves, Moves, after, Finds, writes, uses}
 use Rattle.ks_parallel.specs.Views.{is_written_for, sees}
-use Rattle.ks_parallel.specs.Jobs.{jobs_of}
+use Rattle.ks_parallel.specs.Jobs.{jobs_of, part}
 use Rattle.ks_parallel.specs.Known.{AreTrue}
 use Rattle.ks_parallel.specs.Drafted.{IsDrafted}
 
 -- ---- how far it has come
 
--- What a process has left of the files that it saw at the start: nothing, the temporary file, its record, or what a record that was given up leaves.
+-- What a process has left of the files that it saw at the start: nothing, the temporary file, its record, or what a record leaves that is refused or given
+-- up with its error.
 abbrev pub IsAtStage : Files → Files → Job → List ReadFile → Stage → Type 0
 IsAtStage start now job reads Reading = (now ≡ start) × AreTrue start reads
 IsAtStage start now job reads (Written answer) = (text : List ℕ) × IsDrafted start job text answer
     × (now ≡ after start (Leaves (command_temporary job.target.now) (Some text)))
 IsAtStage start now job reads (Done answer) = IsRecorded job.dialect start now job.depfile.now job.target.now job.command.now answer
-IsAtStage start now job reads (Failed e) = (now ≡ start) ⊎ IsRecordTried job.dialect start now job.depfile.now job.target.now job.command.now
+IsAtStage start now job reads (Failed e) = IsRecordRefused job.dialect start now job.depfile.now job.target.now job.command.now e
 
 abbrev pub IsAt : Files → Files → Job → Recorder → Type 0
 IsAt start now job r = IsAtStage start now job r.reads.items r.stage
@@ -39,9 +42,9 @@ IsReady files job r = IsReadyAt files job r.stage
 
 -- ---- its steps
 
--- What was read of a file that the process sees stands there. Of any other one nothing is read.
-abbrev pub IsReadBy : List Job → ℕ → Files → ReadFile → Type 0
-IsReadBy jobs process files r = IfSome r.file (λ v. (sees (jobs_of jobs) process r.path.items ≡ true) × (content files r.path.items ≡ Some v.items))
+-- Why a file was not read: it is too large, or the reading was given up.
+abbrev pub IsUnread : Option (List ℕ) → EngineError → Type 0
+IsUnread file e = IsGivenUp e ⊎ ((e ≡ TooLarge) × IsTooLarge file)
 
 -- The text was written, or anything was left at the temporary path.
 abbrev pub IsWriting : Files → Job → List ℕ → Result Unit EngineError → Files → Type 0
@@ -77,14 +80,19 @@ HasHad turns reads (Written answer) = turns ≡ reads + 1
 HasHad turns reads (Done answer) = reads + 2 ≤ turns
 HasHad turns reads (Failed e) = ⊤
 
--- A step makes one call. It writes none but the process's own two paths, and reads only what the process sees. Where the process alone had come as far,
--- this call takes it as far on.
+-- The step failed by the device.
+abbrev pub FailsByDevice : Recorder → Recorder → Type 0
+FailsByDevice before next = (before.stage ≡ Failed Device → ⊥) × (next.stage ≡ Failed Device)
+
+-- A step makes one call. It writes none but the process's own two paths, and reads only what the process sees. Where the process alone had come as far
+-- from what it sees of some files, this call takes it as far on.
 pub record StepsBy (jobs : List Job) (job : Job) (before next : Recorder) (old new : Files) : Type 0 where
   pub call : Call
   pub leaves : new ≡ after old call
   pub finds : Finds old call
   pub own : (q : List ℕ) → writes call q ≡ true → is_written_for job.target.now q ≡ true
   pub seen : (q : List ℕ) → uses call q ≡ true → (writes call q ≡ true) ⊎ (sees (jobs_of jobs) before.process q ≡ true)
-  pub goes_on : (start now : Files) → IsAt start now job before → Finds now call → IsAt start (after now call) job next
+  pub goes_on : (start now : Files) → IsAt (part jobs start before.process) now job before → Finds now call
+      → IsAt (part jobs start before.process) (after now call) job next
   pub process : next.process ≡ before.process
   pub further : GoesOn before before.stage next

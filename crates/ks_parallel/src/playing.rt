@@ -3,7 +3,7 @@
 ghost use Rattle.std.specs.Prelude.{◌≡◌, ◌<◌, ◌≤◌, IfOk, IsTrue, OnErr, length};
 ghost use Rattle.ks_parallel.specs.Jobs.{are_distinct};
 ghost use Rattle.ks_parallel.specs.Outcomes.{ShowsShuffles};
-ghost use Rattle.ks_parallel.specs.Played.{AreBegun, AreReady, IsTurn, Played};
+ghost use Rattle.ks_parallel.specs.Played.{AreBegun, AreCounted, AreReady, IsCounted, IsTurn, Played};
 
 use crate::jobs::Job;
 use crate::recorder::{Recorder, Stage};
@@ -38,6 +38,7 @@ fn take_turn<T: Tree>(
     ensures taken { T.is_honest → process < length recorders.old.items
         → IsTurn jobs.now process recorders.old.items recorders.new.items (T.files tree.old) (T.files tree.new) }
     ensures passed { length recorders.old.items ≤ process → (recorders.new ≡ recorders.old) × (tree.new ≡ tree.old) }
+    ensures counted { IsCounted process recorders.old.items recorders.new.items (T.failures tree.old) (T.failures tree.new) }
 {
     if process >= recorders.len() {
         return;
@@ -54,10 +55,14 @@ pub fn play<T: Tree>(
     turns: &[usize],
 ) -> Result<Vec<Recorder>, AllocError>
     requires { IsTrue (are_distinct jobs.now) }
-    // A call for each turn, in this order; each process is as far as its own calls take it, made alone of what it sees.
+    // A call for each turn, in this order; each process is as far as its own calls take it, made alone of what it sees: done, or
+    // refused or given up as its own record would be.
     ensures played { T.is_honest → IfOk result (λ rs. Played jobs.now (T.files tree.old) (T.files tree.new) turns.now rs.items) }
     // From each history that the files showed: they show every shuffle of the records that were made after it.
     ensures shown { T.is_honest → IfOk result (λ rs. ShowsShuffles jobs.now (T.files tree.old) (T.files tree.new) rs.items) }
+    // The device is to blame only where the tree counted a failure, in a turn of the process that says so.
+    ensures counted { IfOk result (λ rs. AreCounted turns.now rs.items (T.failures tree.old) (T.failures tree.new)) }
+    ensures later { T.failures tree.old ≤ T.failures tree.new }
     // Where memory is refused for the processes, nothing was asked of the tree.
     ensures untouched { OnErr result (tree.new ≡ tree.old) }
 {

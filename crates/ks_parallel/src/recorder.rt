@@ -1,10 +1,15 @@
 //! A record as a process makes it, a call of the tree at a time: it reads what it needs, writes the text at the temporary path, and
 //! moves it. Between two calls it keeps what it has read and how far it has come, and nothing of the tree.
-ghost use Rattle.std.specs.Prelude.{◌≡◌, IfOk, IsSome};
-ghost use Rattle.ks_tree.specs.Files.{content};
+ghost use Rattle.std.specs.Prelude.{◌≡◌, IfErr, IfOk, IsErrOf, IsSome};
+ghost use Rattle.ks_tree.specs.Files.{Files, content};
+ghost use Rattle.ks_tree.specs.Frames.{Counted, Reads};
 ghost use Rattle.ks_tree.specs.Paths.{command_temporary};
+ghost use Rattle.ks_engine.specs.Refusals.{IsGivenUp};
 ghost use Rattle.ks_parallel.specs.declared.jobs.Job.{Job};
-ghost use Rattle.ks_parallel.specs.Recorders.{IsMoving, IsReadBy, IsReady, IsWriting, StepsBy, done_stage, written_stage};
+ghost use Rattle.ks_parallel.specs.Drafted.{IsNeeded};
+ghost use Rattle.ks_parallel.specs.Jobs.{part};
+ghost use Rattle.ks_parallel.specs.Known.{AreTrue, IsTrueOf};
+ghost use Rattle.ks_parallel.specs.Recorders.{FailsByDevice, IsMoving, IsReady, IsUnread, IsWriting, StepsBy, done_stage, written_stage};
 
 use crate::jobs::{Job, sees};
 use crate::known::ReadFile;
@@ -39,8 +44,9 @@ fn read_file<T: Tree>(
     process: usize,
     path: Vec<u8>,
 ) -> Result<ReadFile, EngineError>
-    ensures unchanged { T.is_honest → T.files tree.new ≡ T.files tree.old }
-    ensures read { T.is_honest → IfOk result (IsReadBy jobs.now process (T.files tree.old)) }
+    ensures reads { Reads T.Tree tree.old tree.new (IsErrOf result EngineError.Device) }
+    ensures read { T.is_honest → IfOk result (IsTrueOf (part jobs.now (T.files tree.old) process)) }
+    ensures unread { T.is_honest → IfErr result (IsUnread (content (part jobs.now (T.files tree.old) process) path.items)) }
 {
     if !sees(alloc, jobs, process, &path)? {
         return Ok(ReadFile { path, file: None });
@@ -56,7 +62,9 @@ fn write_text<T: Tree>(
     job: &Job<'_>,
     text: &[u8],
 ) -> Result<(), EngineError>
-    ensures { T.is_honest → IsWriting (T.files tree.old) job.now text.now result (T.files tree.new) }
+    ensures written { T.is_honest → IsWriting (T.files tree.old) job.now text.now result (T.files tree.new) }
+    ensures given { IfErr result IsGivenUp }
+    ensures counted { Counted T.Tree tree.old tree.new (IsErrOf result EngineError.Device) }
 {
     let temporary = command_temporary(alloc, job.target)?;
     tree.write(alloc, &temporary, text)?;
@@ -66,7 +74,9 @@ fn write_text<T: Tree>(
 /// Moves what stands at the temporary path to that of the command file.
 fn move_text<T: Tree>(alloc: Global, tree: &mut T, job: &Job<'_>) -> Result<(), EngineError>
     requires { T.is_honest → IsSome (content (T.files tree.old) (command_temporary job.now.target.now)) }
-    ensures { T.is_honest → IsMoving (T.files tree.old) job.now result (T.files tree.new) }
+    ensures moved { T.is_honest → IsMoving (T.files tree.old) job.now result (T.files tree.new) }
+    ensures given { IfErr result IsGivenUp }
+    ensures counted { Counted T.Tree tree.old tree.new (IsErrOf result EngineError.Device) }
 {
     let temporary = command_temporary(alloc, job.target)?;
     let path = command_path(alloc, job.target)?;
@@ -96,7 +106,9 @@ impl Recorder {
     /// Reads one more file.
     fn read<T: Tree>(&mut self, alloc: Global, tree: &mut T, jobs: &[Job<'_>], path: Vec<u8>)
         requires { self.old.stage ≡ Stage.Reading }
-        ensures { T.is_honest → (job : Job) → StepsBy jobs.now job self.old self.new (T.files tree.old) (T.files tree.new) }
+        ensures steps { T.is_honest → (job : Job) → ((files : Files) → AreTrue files self.old.reads.items → IsNeeded files job path.items)
+            → StepsBy jobs.now job self.old self.new (T.files tree.old) (T.files tree.new) }
+        ensures counted { Counted T.Tree tree.old tree.new (self.new.stage ≡ Stage.Failed EngineError.Device) }
     {
         match read_file(alloc, tree, jobs, self.process, path) {
             Ok(file) => match self.reads.push(file) {
@@ -110,7 +122,8 @@ impl Recorder {
     /// Reads one more file, or writes the text if all is read.
     fn read_on<T: Tree>(&mut self, alloc: Global, tree: &mut T, jobs: &[Job<'_>], job: &Job<'_>)
         requires { self.old.stage ≡ Stage.Reading }
-        ensures { T.is_honest → StepsBy jobs.now job.now self.old self.new (T.files tree.old) (T.files tree.new) }
+        ensures steps { T.is_honest → StepsBy jobs.now job.now self.old self.new (T.files tree.old) (T.files tree.new) }
+        ensures counted { Counted T.Tree tree.old tree.new (self.new.stage ≡ Stage.Failed EngineError.Device) }
     {
         match go_on(alloc, job, &self.reads) {
             Ok(Next::Read(path)) => self.read(alloc, tree, jobs, path),
@@ -131,7 +144,8 @@ impl Recorder {
         job: &Job<'_>,
     )
         requires { T.is_honest → IsReady (T.files tree.old) job.now self.old }
-        ensures { T.is_honest → StepsBy jobs.now job.now self.old self.new (T.files tree.old) (T.files tree.new) }
+        ensures steps { T.is_honest → StepsBy jobs.now job.now self.old self.new (T.files tree.old) (T.files tree.new) }
+        ensures counted { Counted T.Tree tree.old tree.new (FailsByDevice self.old self.new) }
     {
         match self.stage {
             Stage::Reading => self.read_on(alloc, tree, jobs, job),

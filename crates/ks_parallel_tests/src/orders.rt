@@ -1,6 +1,6 @@
 //! Records played in many orders: each leaves the command files that they leave one after the other.
-use ks_engine::{record_object, sync};
-use ks_parallel::{Job, Recorder, Stage, are_distinct, play};
+use ks_engine::{EngineError, record_object, sync};
+use ks_parallel::{Job, Recorder, Stage, are_distinct, play, sees};
 use ks_symbols::{Dialect, Kconfig};
 use ks_tree::{FuseMode, FuseTree, MemoryTree, Tree};
 use std::alloc::{AllocError, Global};
@@ -58,12 +58,13 @@ fn recorded(rt: &impl Abort, alloc: Global) -> MemoryTree {
     tree
 }
 
-/// Whether the command file of a process is there as it is to be: where it is done, where it failed perhaps, else not.
+/// Whether the command file of a process is there as it is to be: where it is done, where the device failed perhaps, else not.
 fn holds(tree: &MemoryTree, wanted: &MemoryTree, path: &[u8], stage: &Stage) -> bool {
     let found = tree.get(path);
     match stage {
         Stage::Done(_) => found == wanted.get(path),
-        Stage::Failed(_) => found.is_none() || found == wanted.get(path),
+        Stage::Failed(EngineError::Device) => found.is_none() || found == wanted.get(path),
+        Stage::Failed(_) => false,
         Stage::Reading => found.is_none(),
         Stage::Written(_) => found.is_none(),
     }
@@ -183,5 +184,65 @@ fn four_records_with_a_failing_call(rt: HostRuntime) -> Result<(), AllocError> {
     }
     assert_eq!(&rt; all_done.saturating_add(one_failed), 1000);
     assert!(&rt; one_failed > 100);
+    Ok(())
+}
+
+/// A file that is missing, and with what a process is refused for that.
+#[rattlefmt::skip]
+const REFUSALS: [(&[u8], &str); 3] = [
+    (b"v.d", "40 MissingFile v.d"),
+    (b"include/config/auto.conf", "41 NeverSynced"),
+    (b"a.c", "40 MissingFile a.c"),
+];
+
+/// The tree after a synchronisation, but for a file.
+fn begun_without(rt: &impl Abort, alloc: Global, missing: &[u8]) -> MemoryTree {
+    let whole = begun(rt, alloc);
+    let mut tree = MemoryTree::new(alloc);
+    for (path, bytes) in whole.files() {
+        if path != missing {
+            tree.write(alloc, path, bytes).expect(rt, "a file");
+        }
+    }
+    tree
+}
+
+/// How a process was refused.
+fn refusal(alloc: Global, recorders: &[Recorder]) -> Result<String, AllocError> {
+    match recorders {
+        [recorder] => match &recorder.stage {
+            Stage::Failed(error) => format!(in alloc; "{error}"),
+            _ => String::from_str(alloc, "not refused"),
+        },
+        _ => String::from_str(alloc, "not one process"),
+    }
+}
+
+/// A process is refused as its own record is.
+#[test]
+fn refused_as_alone(rt: HostRuntime) -> Result<(), AllocError> {
+    let alloc = rt.alloc();
+    let jobs = &JOBS[..1];
+    if !are_distinct(jobs) {
+        return Ok(());
+    }
+    for (missing, wanted) in REFUSALS {
+        let mut tree = begun_without(&rt, alloc, missing);
+        let recorders = play(alloc, &mut tree, jobs, &[0; 6])?;
+        let told = refusal(alloc, &recorders)?;
+        assert_eq!(&rt; told.as_str(), wanted);
+    }
+    Ok(())
+}
+
+/// A process sees all but the two files that are written for the target of the other.
+#[test]
+fn seen_by_one_of_two(rt: HostRuntime) -> Result<(), AllocError> {
+    let alloc = rt.alloc();
+    let jobs = &JOBS[..2];
+    assert!(&rt; sees(alloc, jobs, 0, b".v.o.cmd")?);
+    assert!(&rt; sees(alloc, jobs, 0, b"b.c")?);
+    assert!(&rt; !sees(alloc, jobs, 0, b".w.o.cmd")?);
+    assert!(&rt; !sees(alloc, jobs, 0, b".w.o.cmd.tmp")?);
     Ok(())
 }

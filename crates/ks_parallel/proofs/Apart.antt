@@ -25,7 +25,7 @@ pub unwritten : (f : Files) (c : Call) (q : List ℕ) → writes c q ≡ false �
 unfolding after
 unwritten f c q apart = search (rules, content-put, or_parts, content-moved, cond-false)
 
-used : (c : Call) (q : List ℕ) → writes c q ≡ true → uses c q ≡ true
+pub used : (c : Call) (q : List ℕ) → writes c q ≡ true → uses c q ≡ true
 used c q w = search (rules, true≢false)
 
 -- ---- what is seen
@@ -35,7 +35,7 @@ abbrev Agree : (List ℕ → Bool) → Files → Files → Type 0
 Agree p f g = (q : List ℕ) → p q ≡ true → content f q ≡ content g q
 
 -- a call on seen paths does the same to both
-agreed : (p : List ℕ → Bool) (f g : Files) (c : Call) → Agree p f g → ((q : List ℕ) → uses c q ≡ true → p q ≡ true) → Agree p (after f c) (after g c)
+pub agreed : (p : List ℕ → Bool) (f g : Files) (c : Call) → Agree p f g → ((q : List ℕ) → uses c q ≡ true → p q ≡ true) → Agree p (after f c) (after g c)
 unfolding after
 agreed p f g (Leaves path file) agree seen = search (rules, content-put)
 agreed p f g c agree seen = search (rules, or_left, content-moved)

@@ -1,16 +1,10 @@
 -- What a view shows of a history, and what all files show where each view shows its part.
-use Rattle.ks_parallel.proofs.Prelude.{◌≡◌, ⊎_elim, ℕ, List, [], ◌∷◌, Option, Some, None, true, false, not, ◌&&◌, sym, ◌∙◌, ap, refl, subst, subst₂, bytes_eq, nat_eq, filter, cases_Bool, cond-false, false_from_ne_true, not_from_false, and_from, and_parts, or_from, or_cases, or_left, or_right, eqb-true, eqb-false, eq-eqb, bytes_eq-Decides, Files, content, command_path, Place, AutoConf, Header, Stamp, CommandFile, CommandTemporary, path_of, IsLegalPlace, HasNumber, paths_never_meet, History, LastRecord, IsHistory, Shows, own_history, last_record, IsCommandFile, view, after_all, own, all, EachOf, Jobs, is_own_job, is_others_job, AreApart, is_written_for, sees, without, ViewsShow, RecordEvent, with_records, IsOfJob, ShufflesAreShown, SideBySide, rules, Any-from_list_any, list_any-from_Any, ne_eqb, not_from_true, others_do_not_matter, ShufflesSayTheSame}
+use Rattle.ks_parallel.proofs.Prelude.{Bool, ◌≡◌, ⊎_elim, ℕ, List, [], ◌∷◌, Some, None, true, false, not, ◌&&◌, sym, ◌∙◌, ap, refl, subst, subst₂, bytes_eq, nat_eq, filter, cases_Bool, cond-false, false_from_ne_true, not_from_false, and_from, and_parts, or_from, or_cases, or_left, or_right, eqb-true, eqb-false, eq-eqb, bytes_eq-Decides, Files, content, command_path, Place, AutoConf, Header, Stamp, CommandFile, CommandTemporary, path_of, IsLegalPlace, HasNumber, paths_never_meet, History, LastRecord, IsHistory, Shows, own_history, last_record, IsCommandFile, view, after_all, own, all, EachOf, Jobs, is_own_job, is_others_job, AreApart, is_written_for, sees, without, target_of, SeesPlaces, AllPlacesAreSeen, ViewsShow, RecordEvent, with_records, IsOfJob, ShufflesAreShown, SideBySide, rules, Any-from_list_any, list_any-from_Any, ne_eqb, not_from_true, others_do_not_matter, ShufflesSayTheSame}
 use Rattle.ks_parallel.proofs.Each.{Each, each_own, each_all}
 use Rattle.ks_parallel.proofs.Apart.{seen_in_view, views_are_honest}
 use Rattle.ks_parallel.proofs.Parts.{Said, said, same_said, said_with, legal_without, none_left, own_without, MayFollow, legal_with, may_follow, own_with, alike, alike_file}
 
 -- ---- which paths are seen
-
--- whose record writes a file
-abbrev target_of : Place → Option (List ℕ)
-target_of (CommandFile t) = Some t
-target_of (CommandTemporary t) = Some t
-target_of q = None
 
 written_place : (t : List ℕ) (q : Place) → IsLegalPlace q → is_written_for t (path_of q) ≡ true → target_of q ≡ Some t
 written_place t q legal is =
@@ -18,26 +12,29 @@ written_place t q legal is =
     search (rules, or_cases, bytes_eq-Decides, file, temporary)
 
 -- all but what is written for the targets of others
-seen_place : (jobs : Jobs) (i : ℕ) (q : Place) → IsLegalPlace q → ((t : List ℕ) → target_of q ≡ Some t → is_others_job jobs i t ≡ false)
+pub seen_place : (jobs : Jobs) (i : ℕ) (q : Place) → IsLegalPlace q → ((t : List ℕ) → target_of q ≡ Some t → is_others_job jobs i t ≡ false)
     → sees jobs i (path_of q) ≡ true
 seen_place jobs i q legal clean = not_from_false _ (false_from_ne_true _ (λ hidden.
     let by = Any-from_list_any (λ job. not (nat_eq job.0 i) && is_written_for job.1 (path_of q)) jobs hidden in
     let parts = and_parts (not (nat_eq by.1.0 i)) _ by.4 in
     search (rules, (clean by.1.1 (written_place by.1.1 q legal parts.1)), list_any-from_Any, and_from, bytes_eq-Decides)))
 
+pub all_places_are_seen : AllPlacesAreSeen
+all_places_are_seen jobs = seen_place jobs
+
 -- Both show the same but for the files of records.
 abbrev AreBeside : Files → Files → Type 0
 AreBeside f k = (q : Place) → IsLegalPlace q → target_of q ≡ None → content f (path_of q) ≡ content k (path_of q)
 
-module _ (jobs : Jobs) (i : ℕ) (files : Files) where
+module _ (jobs : Jobs) (seen : ℕ → List ℕ → Bool) (places : SeesPlaces jobs seen) (i : ℕ) (files : Files) where
   at_place : (q : Place) → IsLegalPlace q → ((t : List ℕ) → target_of q ≡ Some t → is_others_job jobs i t ≡ false)
-      → content files (path_of q) ≡ content (view (sees jobs i) files) (path_of q)
-  at_place q legal clean = seen_in_view (sees jobs i) files (path_of q) (seen_place jobs i q legal clean)
+      → content files (path_of q) ≡ content (view (seen i) files) (path_of q)
+  at_place q legal clean = seen_in_view (seen i) files (path_of q) (places i q legal clean)
 
-  beside : AreBeside files (view (sees jobs i) files)
+  beside : AreBeside files (view (seen i) files)
   beside q legal none = at_place q legal (λ t e. cc)
 
-  at_command : (o : List ℕ) → is_others_job jobs i o ≡ false → content files (command_path o) ≡ content (view (sees jobs i) files) (command_path o)
+  at_command : (o : List ℕ) → is_others_job jobs i o ≡ false → content files (command_path o) ≡ content (view (seen i) files) (command_path o)
   at_command o clean = at_place (CommandFile o) tt (search rules)
 
 -- ---- what goes over from files to others
@@ -61,12 +58,12 @@ carried f k g h shows same files legal commands = record {
 }
 
 pub views_show : ViewsShow
-views_show jobs i files h shows =
+views_show jobs seen i files h places shows =
     let p = is_others_job jobs i in
-    carried files (view (sees jobs i) files) h (without p h) shows (sym (same_said p h)) (beside jobs i files) (legal_without p h shows.history)
+    carried files (view (seen i) files) h (without p h) shows (sym (same_said p h)) (beside jobs seen places i files) (legal_without p h shows.history)
     (λ o r last. ⊎_elim
     (λ out. let none = none_left p h o out in absurd cc)
-    (λ kept. recorded files _ h _ o shows (own_without p h o kept) (at_command jobs i files o kept) r last)
+    (λ kept. recorded files _ h _ o shows (own_without p h o kept) (at_command jobs seen places i files o kept) r last)
     (cases_Bool (p o)))
 
 -- ---- who records an object
@@ -120,8 +117,9 @@ same_own jobs h s i o clean each = search (rules, own_with, same_records, own_wi
 
 -- ---- all together
 
-module _ (jobs : Jobs) (files : Files) (h : History) (s : List (ℕ × RecordEvent)) (are : AreApart jobs) (each : EachOf (IsOfJob jobs) s) (legal : IsHistory h)
-    (shown : (i : ℕ) → Shows (view (sees jobs i) files) (with_records (without (is_others_job jobs i) h) (own i s))) where
+module _ (jobs : Jobs) (seen : ℕ → List ℕ → Bool) (files : Files) (h : History) (s : List (ℕ × RecordEvent)) (are : AreApart jobs) (places : SeesPlaces jobs seen)
+    (each : EachOf (IsOfJob jobs) s) (legal : IsHistory h)
+    (shown : (i : ℕ) → Shows (view (seen i) files) (with_records (without (is_others_job jobs i) h) (own i s))) where
   all_follow : (xs : List (ℕ × RecordEvent)) → EachOf (λ i. MayFollow h) xs → Each (MayFollow h) (all xs)
   all_follow [] may = tt
   all_follow (x ∷ xs) may = (may.0, all_follow xs may.1)
@@ -133,22 +131,22 @@ module _ (jobs : Jobs) (files : Files) (h : History) (s : List (ℕ × RecordEve
 
   pub joined : Shows files (with_records h (all s))
   joined =
-      carried (view (sees jobs 0) files) files (with_records (without (is_others_job jobs 0) h) (own 0 s)) (with_records h (all s)) (shown 0)
+      carried (view (seen 0) files) files (with_records (without (is_others_job jobs 0) h) (own 0 s)) (with_records h (all s)) (shown 0)
       (said_with (without (is_others_job jobs 0) h) (own 0 s) ∙ same_said (is_others_job jobs 0) h ∙ sym (said_with h (all s)))
-      (λ q legal none. sym (beside jobs 0 files q legal none))
+      (λ q legal none. sym (beside jobs seen places 0 files q legal none))
       (legal_with h (all s) legal (all_follow s each_follows))
       (λ o. let i = viewer jobs o are in
-      recorded (view (sees jobs i.0) files) files _ (with_records h (all s)) o (shown i.0) (same_own jobs h s i.0 o i.1 each)
-      (sym (at_command jobs i.0 files o i.1)))
+      recorded (view (seen i.0) files) files _ (with_records h (all s)) o (shown i.0) (same_own jobs h s i.0 o i.1 each)
+      (sym (at_command jobs seen places i.0 files o i.1)))
 
 pub shuffles_are_shown : ShufflesAreShown
-shuffles_are_shown jobs files h s are each legal shown = joined jobs files h s are each legal shown
+shuffles_are_shown jobs seen files h s are places each legal shown = joined jobs seen files h s are places each legal shown
 
 pub side_by_side : SideBySide
-side_by_side jobs files h calls s are each shows keep finds shown =
-    joined jobs (after_all files (all calls)) h s are each shows.history
+side_by_side jobs seen files h calls s are places each shows keep finds shown =
+    joined jobs seen (after_all files (all calls)) h s are places each shows.history
     (λ i. subst (λ f. Shows f (with_records (without (is_others_job jobs i) h) (own i s)))
-    (sym (views_are_honest (sees jobs) files calls i keep finds).1) (shown i))
+    (sym (views_are_honest seen files calls i keep finds).1) (shown i))
 
 -- Each shuffle of the records says the same of each object.
 pub shuffles_say_the_same : ShufflesSayTheSame

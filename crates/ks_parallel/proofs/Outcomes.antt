@@ -1,8 +1,8 @@
 -- Each process alone shows its record, so all together show each shuffle of them.
-use Rattle.ks_parallel.proofs.Prelude.{◌≡◌, inl, inr, ⊎_elim, ℕ, ◌<◌, ◌≤◌, List, [], ◌∷◌, Ok, Err, true, length, get_or, sym, ◌∙◌, ap, refl, subst, arith, cases_lt, header_path, Files, History, Shows, IsRecordEvent, at, record_follows, untouched_shows, Job, ReadFile, Stage, Reading, Written, Done, Failed, Recorder, own, is_own_job, is_others_job, without, RecordEvent, with_records, IsOfJob, jobs_of, are_distinct, IsAtStage, part, alone, Played, IsRecordOf, Adds, AllShuffles, ShowsShuffles, rules, get_or_default}
+use Rattle.ks_parallel.proofs.Prelude.{◌≡◌, inl, inr, ⊎_elim, ℕ, ◌<◌, ◌≤◌, List, [], ◌∷◌, Ok, Err, true, length, get_or, sym, ◌∙◌, ap, refl, subst, arith, cases_lt, header_path, Files, History, Shows, IsRecordEvent, at, record_follows, untouched_shows, Job, ReadFile, Stage, Reading, Written, Done, Failed, Recorder, own, is_own_job, is_others_job, without, RecordEvent, with_records, IsOfJob, jobs_of, sees, are_distinct, IsAtStage, part, alone, Played, IsRecordOf, Adds, AllShuffles, ShowsShuffles, rules, get_or_default}
 use Rattle.ks_parallel.proofs.Each.{Each, each_all}
 use Rattle.ks_parallel.proofs.Parts.{Said, same_said}
-use Rattle.ks_parallel.proofs.Joined.{views_show, side_by_side}
+use Rattle.ks_parallel.proofs.Joined.{all_places_are_seen, views_show, side_by_side}
 use Rattle.ks_parallel.proofs.Made.{content_beside, own_paths_apart}
 use Rattle.ks_parallel.proofs.Turns.{distinct_apart, own_job, seen_some}
 
@@ -14,10 +14,10 @@ record IsAdded (files now : Files) (h : History) (job : Job) (stage : Stage) : T
   adds : Adds files h job stage es
   shows : Shows now (with_records h es)
 
-event : (files : Files) (m : ℕ) (h next : History) (job : Job) (names : List (List ℕ)) → IsRecordEvent (at files m h) job.target.now job.command.now names next
-    → (e : RecordEvent) × (next ≡ with_records h (e ∷ [])) × IsRecordOf files job e × (e.names ≡ names)
-event files m h next job names is = (
-  record { object = job.target.now; command = job.command.now; names = names; header = is.0 },
+pub event : (files : Files) (m : ℕ) (h next : History) (o c : List ℕ) (names : List (List ℕ)) → IsRecordEvent (at files m h) o c names next
+    → (e : RecordEvent) × (next ≡ with_records h (e ∷ [])) × IsRecordOf files o c e × (e.names ≡ names)
+event files m h next o c names is = (
+  record { object = o; command = c; names = names; header = is.0 },
   is.2,
   record { object = refl; command = refl; header = is.1 },
   refl,
@@ -32,7 +32,7 @@ added_alone files now h job reads (Written answer) shows is =
 added_alone files now h job reads (Done answer) shows is =
     let next = record_follows job.dialect files now 0 0 h job.depfile.now job.target.now job.command.now (Ok answer) shows is tt in
     ⊎_elim
-    (λ some. let e = event files 0 h next.0 job next.1.files.plan.names some.1 in
+    (λ some. let e = event files 0 h next.0 job.target.now job.command.now next.1.files.plan.names some.1 in
     record { es = e.0 ∷ []; adds = search (rules, e, next.1.files.names); shows = rw e.1 at next.2 })
     (λ none. record { es = []; adds = inr (none.0, refl); shows = rw none.1 at next.2 })
     next.1.history
@@ -43,14 +43,14 @@ added_alone files now h job reads (Failed fault) shows is =
     ⊎_elim
     (λ plain. unchanged plain.1.1)
     (λ given. ⊎_elim (λ same. unchanged same.1) (λ tried. ⊎_elim unchanged (λ some.
-    let e = event files 0 h next.0 job tried.0.plan.names some in
+    let e = event files 0 h next.0 job.target.now job.command.now tried.0.plan.names some in
     record { es = e.0 ∷ []; adds = inr (given.0, (e.0, refl, e.2)); shows = rw e.1 at next.2 }) tried.1) given.1)
     next.1
 
 -- ---- all of them
 
 -- what stands at a place, whatever stood for a place after the end
-standing : {A : Type 0} (xs : List A) (i : ℕ) → i < length xs → (x : A) × ((d : A) → get_or xs i d ≡ x)
+pub standing : {A : Type 0} (xs : List A) (i : ℕ) → i < length xs → (x : A) × ((d : A) → get_or xs i d ≡ x)
 standing [] i within = absurd (omega arith)
 standing (x ∷ xs) i within = (get_or (x ∷ xs) i x, λ d. get_or_default (x ∷ xs) i d x within)
 
@@ -82,7 +82,7 @@ module _ (jobs : List Job) (start now : Files) (turns : List ℕ) (rs : List Rec
       let within_jobs : i < length jobs = subst (λ n. i < n) p.count within in
       let j = standing jobs i within_jobs in
       let made = added_alone (part jobs start i) (alone jobs start p.calls i) (without (is_others_job (jobs_of jobs) i) h) (get_or jobs i j.0)
-      (get_or rs i r.0).reads.items (get_or rs i r.0).stage (views_show (jobs_of jobs) i start h shows) (p.each i j.0 r.0 within).1 in
+      (get_or rs i r.0).reads.items (get_or rs i r.0).stage (views_show (jobs_of jobs) (sees (jobs_of jobs)) i start h (all_places_are_seen (jobs_of jobs)) shows) (p.each i j.0 r.0 within).1 in
       let all_added = whole i (get_or jobs i j.0) (get_or rs i r.0).stage made.es made.adds in
       record {
         es = made.es;
@@ -96,7 +96,7 @@ module _ (jobs : List Job) (start now : Files) (turns : List ℕ) (rs : List Rec
         added = λ job d within. absurd (omega arith);
         none = λ _. refl;
         its = tt;
-        shown = rw (p.beyond i past) (views_show (jobs_of jobs) i start h shows);
+        shown = rw (p.beyond i past) (views_show (jobs_of jobs) (sees (jobs_of jobs)) i start h (all_places_are_seen (jobs_of jobs)) shows);
       })
       (cases_lt i (length rs))
 
@@ -106,7 +106,7 @@ module _ (jobs : List Job) (start now : Files) (turns : List ℕ) (rs : List Rec
     added = λ i. (of_process i).added;
     none = λ i. (of_process i).none;
     shown = λ shuffle order.
-        rw p.leaves (side_by_side (jobs_of jobs) start h p.calls shuffle (distinct_apart jobs 0 distinct)
+        rw p.leaves (side_by_side (jobs_of jobs) (sees (jobs_of jobs)) start h p.calls shuffle (distinct_apart jobs 0 distinct) (all_places_are_seen (jobs_of jobs))
         (each_all (IsOfJob (jobs_of jobs)) shuffle (λ i. rw (order i) (of_process i).its)) shows p.apart p.finds (λ i. rw (order i) (of_process i).shown));
   }
 

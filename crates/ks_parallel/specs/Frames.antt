@@ -1,32 +1,52 @@
--- The paths of a record: those that it reads decide what it comes to, and it writes two.
-use Rattle.std.specs.Prelude.{◌≡◌, ℕ, List, [], ◌∷◌, Option, Some, None, Result, true, map}
-use Rattle.ks_symbols.specs.Names.{is_in}
-use Rattle.ks_fixdep.specs.DependencyFile.{prerequisites_without, usual_header}
+-- The paths of a record: those that it reads decide what it comes to, and it writes few.
+use Rattle.std.specs.Prelude.{◌≡◌, ◌≢◌, ◌⊎◌, ℕ, List, [], ◌∷◌, Option, Some, None, Result, Ok, Err, true, map, IsTrue}
+use Rattle.ks_symbols.specs.Names.{is_in, is_name}
+use Rattle.ks_fixdep.specs.DependencyFile.{prerequisites_without}
+use Rattle.ks_fixdep.specs.declared.dependency_file.Header.{Header}
 use Rattle.ks_symbols.specs.declared.dialect.Dialect.{Dialect}
 use Rattle.ks_tree.specs.Files.{Files, content, SameButBoth}
-use Rattle.ks_tree.specs.Paths.{auto_path, command_path, command_temporary}
+use Rattle.ks_tree.specs.Paths.{auto_path, command_path, command_temporary, stamp_path, temporary}
+use Rattle.ks_engine.specs.declared.conventions.Conventions.{Conventions}
 use Rattle.ks_engine.specs.declared.error.EngineError.{EngineError}
 use Rattle.ks_engine.specs.declared.recording.Recorded.{Recorded}
-use Rattle.ks_engine.specs.Recorded.{record_plan}
+use Rattle.ks_engine.specs.Recorded.{record_plan_under}
+use Rattle.ks_engine.specs.Depfile.{IsDepfileRecorded, IsDepfileRefused}
 use Rattle.ks_engine.specs.FileRuns.{LeavesRecord}
 
--- the prerequisites of a dependency file, where there is one, but for the header that the sources of the dialect include
-abbrev pub prerequisite_paths : Dialect → Option (List ℕ) → List (List ℕ)
-prerequisite_paths dialect None = []
-prerequisite_paths dialect (Some d) = map (λ p. p.0) (prerequisites_without (usual_header dialect) d)
+-- the prerequisites of a dependency file, where there is one, but for a header
+abbrev pub prerequisite_paths : Header → Option (List ℕ) → List (List ℕ)
+prerequisite_paths header None = []
+prerequisite_paths header (Some d) = map (λ p. p.0) (prerequisites_without header d)
 
 -- the dependency file, auto.conf and the prerequisites
-abbrev pub paths_read : Dialect → Files → List ℕ → List (List ℕ)
-paths_read dialect files depfile = depfile ∷ auto_path ∷ prerequisite_paths dialect (content files depfile)
+abbrev pub paths_read : Header → Files → List ℕ → List (List ℕ)
+paths_read header files depfile = depfile ∷ auto_path ∷ prerequisite_paths header (content files depfile)
 
--- Files that are the same at these paths come to the same plan, or to the same refusal, ..
+-- Files that are the same at these paths come to the same plan, or to the same refusal, however the sources are read.
 abbrev pub RecordsGoByWhatTheyRead : Type 0
 RecordsGoByWhatTheyRead =
-    (dialect : Dialect) (files other : Files) (depfile target command : List ℕ) → ((q : List ℕ) → is_in (paths_read dialect files depfile) q ≡ true → content other q ≡ content files q)
-    → record_plan dialect other depfile target command ≡ record_plan dialect files depfile target command
+    (conventions : Conventions) (files other : Files) (depfile target command : List ℕ)
+    → ((q : List ℕ) → is_in (paths_read conventions.header files depfile) q ≡ true → content other q ≡ content files q)
+    → record_plan_under conventions other depfile target command ≡ record_plan_under conventions files depfile target command
 
--- .. and a record, done or refused or given up, leaves each path but its command file and that one's temporary file.
+-- A record, done or refused or given up, leaves each path but its command file and that one's temporary file.
 abbrev pub RecordsWriteTwoPaths : Type 0
 RecordsWriteTwoPaths =
     (dialect : Dialect) (old new : Files) (depfile target command : List ℕ) (answer : Result Recorded EngineError) → LeavesRecord dialect old new depfile target command answer
     → SameButBoth (command_temporary target) (command_path target) old new
+
+-- what `record_depfile` leaves by its answer
+abbrev pub LeavesDepfile : Conventions → Files → Files → List ℕ → List ℕ → List ℕ → Result Recorded EngineError → Type 0
+LeavesDepfile conventions old new depfile target command (Ok answer) = IsDepfileRecorded conventions old new depfile target command answer
+LeavesDepfile conventions old new depfile target command (Err e) = IsDepfileRefused conventions old new depfile target command e
+
+-- the stamp of a name, which was missing and is empty
+abbrev pub IsMadeStamp : Files → Files → List ℕ → Type 0
+IsMadeStamp old new q = (x : List ℕ) × IsTrue (is_name x) × (q ≡ stamp_path x) × (content old q ≡ None) × (content new q ≡ Some [])
+
+-- One that goes by the dependency file leaves each path but these two, that file and its temporary file, or has made a missing stamp there.
+abbrev pub DepfilesWriteTheirPaths : Type 0
+DepfilesWriteTheirPaths =
+    (conventions : Conventions) (old new : Files) (depfile target command : List ℕ) (answer : Result Recorded EngineError)
+    → LeavesDepfile conventions old new depfile target command answer → (q : List ℕ) → q ≢ command_path target → q ≢ command_temporary target → q ≢ depfile
+    → q ≢ temporary depfile → (content new q ≡ content old q) ⊎ IsMadeStamp old new q

@@ -3,9 +3,11 @@ pub mod Orders
 pub mod Frames
 pub mod Views
 pub mod Shuffles
+pub mod Stamping
 pub mod Jobs
 pub mod Known
 pub mod Drafted
 pub mod Recorders
 pub mod Played
 pub mod Outcomes
+pub mod Depfiles

@@ -1,9 +1,11 @@
 -- What records that were played mean for the history of the tree.
-use Rattle.std.specs.Prelude.{◌≡◌, ◌⊎◌, ℕ, ◌<◌, ◌≤◌, List, [], ◌∷◌, Some, length, get_or}
+use Rattle.std.specs.Prelude.{◌≡◌, ◌⊎◌, ℕ, ◌<◌, ◌≤◌, List, [], ◌∷◌, Some, Result, Ok, Err, length, get_or}
 use Rattle.ks_symbols.specs.Names.{header_path}
 use Rattle.ks_tree.specs.Files.{Files, content}
 use Rattle.ks_engine.specs.History.{History, WasSynced}
 use Rattle.ks_engine.specs.Refusals.{IsGivenUp}
+use Rattle.ks_engine.specs.declared.error.EngineError.{EngineError}
+use Rattle.ks_engine.specs.declared.recording.Recorded.{Recorded}
 use Rattle.ks_engine.specs.Shows.{Shows}
 use Rattle.ks_parallel.specs.declared.jobs.Job.{Job}
 use Rattle.ks_parallel.specs.declared.recorder.Stage.{Stage}
@@ -12,18 +14,22 @@ use Rattle.ks_parallel.specs.declared.recorder.Recorder.{Recorder}
 use Rattle.ks_parallel.specs.Orders.{all, IsOrderOf}
 use Rattle.ks_parallel.specs.Shuffles.{RecordEvent, with_records}
 
--- The record of a job, with the header as it stands.
-pub record IsRecordOf (files : Files) (job : Job) (e : RecordEvent) : Type 0 where
-  pub object : e.object ≡ job.target.now
-  pub command : e.command ≡ job.command.now
+-- The record of this object by this command, with the header as it stands.
+pub record IsRecordOf (files : Files) (o c : List ℕ) (e : RecordEvent) : Type 0 where
+  pub object : e.object ≡ o
+  pub command : e.command ≡ c
   pub header : content files header_path ≡ Some e.header
 
--- What a process adds to a history. One that is done adds its record, unless the history has no synchronisation yet. One that was given up may have left
--- its record or not, and any other one adds nothing.
+-- What an answer adds to a history: a record that is done, unless the history has no synchronisation yet, and perhaps one that was given up.
+abbrev pub AddsBy : Files → History → List ℕ → List ℕ → Result Recorded EngineError → List RecordEvent → Type 0
+AddsBy files h o c (Ok answer) es =
+    (WasSynced h × ((e : RecordEvent) × (es ≡ e ∷ []) × IsRecordOf files o c e × (answer.names ≡ length e.names))) ⊎ ((WasSynced h → ⊥) × (es ≡ []))
+AddsBy files h o c (Err fault) es = (es ≡ []) ⊎ (IsGivenUp fault × ((e : RecordEvent) × (es ≡ e ∷ []) × IsRecordOf files o c e))
+
+-- What a process adds, which adds nothing before it has ended.
 abbrev pub Adds : Files → History → Job → Stage → List RecordEvent → Type 0
-Adds files h job (Done answer) es =
-    (WasSynced h × ((e : RecordEvent) × (es ≡ e ∷ []) × IsRecordOf files job e × (answer.names ≡ length e.names))) ⊎ ((WasSynced h → ⊥) × (es ≡ []))
-Adds files h job (Failed fault) es = (es ≡ []) ⊎ (IsGivenUp fault × ((e : RecordEvent) × (es ≡ e ∷ []) × IsRecordOf files job e))
+Adds files h job (Done answer) es = AddsBy files h job.target.now job.command.now (Ok answer) es
+Adds files h job (Failed fault) es = AddsBy files h job.target.now job.command.now (Err fault) es
 Adds files h job _ es = es ≡ []
 
 -- From each history that the files showed there are records of the processes such that the files show every shuffle of them after it.

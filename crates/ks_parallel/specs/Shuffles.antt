@@ -1,5 +1,5 @@
 -- Records of several processes at once: the files that they leave together show a history with each shuffle of these records.
-use Rattle.std.specs.Prelude.{◌≡◌, ℕ, List, [], ◌∷◌, true}
+use Rattle.std.specs.Prelude.{◌≡◌, ℕ, List, [], ◌∷◌, Bool, true}
 use Rattle.ks_tree.specs.Files.{Files}
 use Rattle.ks_engine.specs.History.{History, Recorded}
 use Rattle.ks_engine.specs.Legal.{IsHistory}
@@ -7,7 +7,7 @@ use Rattle.ks_engine.specs.Shows.{Shows}
 use Rattle.ks_engine.specs.Staleness.{found, first_changed, first_suspect}
 use Rattle.ks_parallel.specs.Calls.{Call, after_all, AllFind, view}
 use Rattle.ks_parallel.specs.Orders.{own, all, EachOf, IsOrderOf, KeepsApart}
-use Rattle.ks_parallel.specs.Views.{Jobs, AreApart, is_own_job, is_others_job, sees, without}
+use Rattle.ks_parallel.specs.Views.{Jobs, AreApart, SeesPlaces, is_own_job, is_others_job, without}
 
 -- a record as an event
 pub record RecordEvent : Type 0 where
@@ -31,8 +31,9 @@ IsOfJob jobs i e = is_own_job jobs i e.object ≡ true
 -- What each process sees shows its own records after the history. Then all files show each shuffle of the records after it.
 abbrev pub ShufflesAreShown : Type 0
 ShufflesAreShown =
-    (jobs : Jobs) (files : Files) (h : History) (shuffle : List (ℕ × RecordEvent)) → AreApart jobs → EachOf (IsOfJob jobs) shuffle → IsHistory h
-    → ((i : ℕ) → Shows (view (sees jobs i) files) (with_records (without (is_others_job jobs i) h) (own i shuffle)))
+    (jobs : Jobs) (seen : ℕ → List ℕ → Bool) (files : Files) (h : History) (shuffle : List (ℕ × RecordEvent)) → AreApart jobs → SeesPlaces jobs seen
+    → EachOf (IsOfJob jobs) shuffle → IsHistory h
+    → ((i : ℕ) → Shows (view (seen i) files) (with_records (without (is_others_job jobs i) h) (own i shuffle)))
     → Shows files (with_records h (all shuffle))
 
 -- What is said of an object by two histories: its names, and the first one for which it is stale.
@@ -51,7 +52,7 @@ ShufflesSayTheSame =
 -- show its records, all calls together lead to files that show each shuffle of the records.
 abbrev pub SideBySide : Type 0
 SideBySide =
-    (jobs : Jobs) (files : Files) (h : History) (calls : List (ℕ × Call)) (shuffle : List (ℕ × RecordEvent)) → AreApart jobs
-    → EachOf (IsOfJob jobs) shuffle → Shows files h → EachOf (KeepsApart (sees jobs)) calls → AllFind files (all calls)
-    → ((i : ℕ) → Shows (after_all (view (sees jobs i) files) (own i calls)) (with_records (without (is_others_job jobs i) h) (own i shuffle)))
+    (jobs : Jobs) (seen : ℕ → List ℕ → Bool) (files : Files) (h : History) (calls : List (ℕ × Call)) (shuffle : List (ℕ × RecordEvent)) → AreApart jobs
+    → SeesPlaces jobs seen → EachOf (IsOfJob jobs) shuffle → Shows files h → EachOf (KeepsApart seen) calls → AllFind files (all calls)
+    → ((i : ℕ) → Shows (after_all (view (seen i) files) (own i calls)) (with_records (without (is_others_job jobs i) h) (own i shuffle)))
     → Shows (after_all files (all calls)) (with_records h (all shuffle))

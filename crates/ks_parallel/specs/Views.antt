@@ -1,8 +1,8 @@
 -- What a process sees of a tree in which others record at the same time.
-use Rattle.std.specs.Prelude.{◌≡◌, ℕ, List, Bool, true, false, ◌||◌, ◌&&◌, not, nat_eq, bytes_eq, if◌then◌else◌}
+use Rattle.std.specs.Prelude.{◌≡◌, ℕ, List, Option, Some, None, Bool, true, false, ◌||◌, ◌&&◌, not, nat_eq, bytes_eq, if◌then◌else◌}
 use Rattle.std.specs.List.{list_any}
 use Rattle.ks_tree.specs.Files.{Files}
-use Rattle.ks_tree.specs.Paths.{command_path, command_temporary}
+use Rattle.ks_tree.specs.Paths.{command_path, command_temporary, Place, CommandFile, CommandTemporary, path_of, IsLegalPlace}
 use Rattle.ks_engine.specs.History.{History, Begun, Synced, Broken, Recorded}
 use Rattle.ks_engine.specs.Shows.{Shows}
 use Rattle.ks_parallel.specs.Calls.{view}
@@ -38,6 +38,22 @@ without hidden (Broken title config renewed past) = Broken title config renewed 
 without hidden (Recorded object command names header past) =
     if hidden object then without hidden past else Recorded object command names header (without hidden past)
 
+-- the target whose record writes a file
+abbrev pub target_of : Place → Option (List ℕ)
+target_of (CommandFile target) = Some target
+target_of (CommandTemporary target) = Some target
+target_of place = None
+
+-- By such views each process sees all files of the commands but those that are written for the targets of others.
+abbrev pub SeesPlaces : Jobs → (ℕ → List ℕ → Bool) → Type 0
+SeesPlaces jobs seen =
+    (i : ℕ) (q : Place) → IsLegalPlace q → ((o : List ℕ) → target_of q ≡ Some o → is_others_job jobs i o ≡ false) → seen i (path_of q) ≡ true
+
+abbrev pub AllPlacesAreSeen : Type 0
+AllPlacesAreSeen = (jobs : Jobs) → SeesPlaces jobs (sees jobs)
+
 -- What is shown to a process: the files that it sees show the history without the records of the targets of others.
 abbrev pub ViewsShow : Type 0
-ViewsShow = (jobs : Jobs) (i : ℕ) (files : Files) (h : History) → Shows files h → Shows (view (sees jobs i) files) (without (is_others_job jobs i) h)
+ViewsShow =
+    (jobs : Jobs) (seen : ℕ → List ℕ → Bool) (i : ℕ) (files : Files) (h : History) → SeesPlaces jobs seen → Shows files h
+    → Shows (view (seen i) files) (without (is_others_job jobs i) h)

@@ -11,7 +11,8 @@ mod recorder;
 pub use jobs::{Job, are_distinct, sees};
 pub use known::ReadFile;
 pub use laws::{
-    orders_leave_the_same, records_have_their_paths, shuffles_are_shown, views_are_honest,
+    orders_leave_the_same, records_have_their_paths, shuffles_are_shown, stampers_keep_apart,
+    views_are_honest,
 };
 pub use playing::play;
 pub use recorder::{Recorder, Stage};

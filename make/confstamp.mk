@@ -12,6 +12,7 @@
 #     confstamp-inputs      what it makes them from: a change of their text is seen, whatever their time
 #     confstamp-dialect     whose words the sources have, where they have more than CONFIG_X: u-boot, busybox or coreboot. Where
 #                           it changes, all has to be made from nothing
+#     confstamp-silent      empty where labels are printed even with -s, as in a makefile that puts -s into MAKEFLAGS itself
 #
 # Behind it there are
 #
@@ -86,7 +87,7 @@ confstamp-cmd = $(dir $@).$(notdir $@).cmd
 confstamp-depfile = $(if $(confstamp-elsewhere),$(abspath $(@D)),$(@D))/.$(@F).d
 confstamp-prerequisites = $(filter-out confstamp-always,$^)
 confstamp-same = $(and $(findstring <$(1)>,<$(2)>),$(findstring <$(2)>,<$(1)>))
-confstamp-silent := $(findstring s,$(firstword -$(MAKEFLAGS)))
+confstamp-silent := $(if $(filter undefined,$(origin confstamp-silent)),$(findstring s,$(firstword -$(MAKEFLAGS))),$(confstamp-silent))
 confstamp-text = $(subst $(confstamp-quote),'\$(confstamp-quote)',$(strip $(1)))
 confstamp-made = $(subst $(confstamp-hash),$$(confstamp-hash),$(subst $$,$$$$,$(call confstamp-text,$(1))))
 

@@ -1,0 +1,5 @@
+#include <fmap_config.h>
+SECTIONS
+{
+	. = CONFIG_ROM_SIZE - FMAP_SIZE;
+}

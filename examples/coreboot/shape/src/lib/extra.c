@@ -1,0 +1,1 @@
+const int extra = 1;

@@ -1,0 +1,2 @@
+#include <fmap_config.h>
+const int size = FMAP_SIZE;

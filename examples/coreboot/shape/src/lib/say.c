@@ -1,0 +1,4 @@
+const char *say(void)
+{
+	return CONFIG(LOUD) ? "HELLO" : "hello";
+}

@@ -307,6 +307,16 @@ built_in_goes() {
     grep -q '^kernel/configs\.o$' "$work/compiled" || fail "$label: kernel/configs.o isn't compiled"
     same_as_clean
     say "$label: kernel/configs.o is named, and compiled; $asked"
+    label='the same option, with .config in the kernel'
+    configure '--disable CRC7'
+    ends 1 "make syncconfig && $hooks/stale --make -j\$(nproc)"
+    says 'vmlinux stale made-of '
+    says 'kernel/configs.o stale made-of kernel/config_data'
+    named=$(tail -n 1 "$work/log")
+    make_all
+    ! grep -q crc7_be System.map || fail "$label: crc7_be is there"
+    same_as_clean
+    say "$label is switched off: before make ${named%%; not*}; after it $asked"
     label='all taken back'
     cp "$work/config" .config
     make_all

@@ -218,7 +218,8 @@ make_is_cancelled() {
     until [ -e "$work/group.ended" ] || [ "$(grep -c '^  CC ' "$work/cancelled.log")" -ge 3 ]; do
         sleep 0.1
     done
-    kill -KILL -- "-$(cat "$work/group")" 2> "$work/killed" || :
+    kill -s KILL -- "-$(cat "$work/group")" 2> "$work/killed" || [ -e "$work/group.ended" ] ||
+        fail "$label: make can't be killed: $(cat "$work/killed")"
     wait "$!" 2> "$work/killed" || :
     cat "$work/cancelled.log"
 }

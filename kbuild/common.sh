@@ -249,6 +249,7 @@ read_answers() {
 # it, and have a command file. BusyBox itself has none.
 age_to_come() {
     : > "$1/now"
+    tools_to_come "$1"
     # shellcheck disable=SC2086 # the list is words, and Kbuild takes no path with a blank
     find_there $folders -maxdepth 1 ! -name '*.[chS]' ! -name '.*.cmd' -type f -newer "$1/now" > "$1/newer" || return 1
     [ -s "$1/newer" ] || return 0
@@ -264,6 +265,21 @@ age_to_come() {
         done | age_files
     awk 'NR == FNR { recorded[$0]; next } $0 in recorded' "$2" "$1/to-come" > "$1/ahead"
     [ ! -s "$1/ahead" ] || bring_to_now "$1"
+}
+
+# tools_to_come FOLDER: a tool that has a makefile of its own, as Linux's objtool, is made of objects that nobody records. As long as
+# one has a time to come each make links the tool anew, and compiles what depends on it. So such an object gets the time of its
+# command file, which was written behind it, or that of the tool.
+tools_to_come() {
+    for tool in tools/objtool/objtool tools/bpf/resolve_btfids/resolve_btfids; do
+        [ -f "$tool" ] || continue
+        [ -z "$(find "$tool" -newer "$1/now")" ] || touch -c "$tool"
+        find "${tool%/*}" -name '*.o' -type f -newer "$1/now" | while read -r object; do
+            written=${object%/*}/.${object##*/}.cmd
+            [ -n "$(find "$written" ! -newer "$1/now" 2> /dev/null)" ] || written=$tool
+            touch -c -r "$written" "$object"
+        done
+    done
 }
 
 # bring_to_now FOLDER: an object of FOLDER/ahead is fresh, but make may be about to write a file that it is made of, as the

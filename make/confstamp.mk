@@ -5,8 +5,8 @@
 #
 #     confstamp-kconfig     the bare Kconfig (Kconfig)
 #     confstamp-config      the configuration (.config)
-#     confstamp-dir         the folder whose include/ holds the numbers (.). Where it isn't the one in which make runs, all
-#                           files that a command reads or makes are named from the root
+#     confstamp-dir         the folder whose include/ holds the numbers (.). Where it isn't the one in which make runs, what a
+#                           command makes is named from the root, and so is what the one of confstamp-generate reads
 #     confstamp-header      the header, where the project's own tool writes it (include/generated/autoconf.h of that folder)
 #     confstamp-maker       the target whose recipe writes these files, where the project's own tool has a part in it
 #     confstamp-inputs      what it makes them from: a change of their text is seen, whatever their time

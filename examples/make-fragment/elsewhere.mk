@@ -1,4 +1,4 @@
-# The same, with all that is made below build/. Commands name their files from the root.
+# The same, with all that is made below build/. What is made is named from the root, and so is what a text is made of.
 CFLAGS := -std=gnu11 -Wall -Wextra -Werror -O1 -g
 out := $(CURDIR)/build
 
@@ -15,7 +15,7 @@ $(out)/greet: $(out)/main.o $(out)/libgreet.a
 $(out)/libgreet.a: $(parts)
 	$(call confstamp-link,rm -f $@ && $(AR) rcD $@ $(parts),AR)
 
-$(out)/%.o: $(CURDIR)/%.c
+$(out)/%.o: %.c
 	$(call confstamp-compile,$(CC) $(CFLAGS) -include $(confstamp-header) -c $< -o $@,CC)
 
 $(out)/motd: $(CURDIR)/motd.in

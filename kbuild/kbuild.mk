@@ -112,6 +112,11 @@ $(if $(MAKE_RESTARTS),,$(if $(and $(wildcard include/config/confstamp.due),$(con
 $(if $(confstamp-synchronised),,$(if $(filter-out 1 2 3,$(MAKE_RESTARTS)),$(confstamp-never))$(confstamp-last-file): FORCE)
 $(confstamp-marks)
 endef
+
+# BusyBox has no Kbuild at its top, so scripts/Makefile.build reads the whole Makefile for that folder. This is no make of its own.
+ifneq ($(filter %Makefile.build,$(MAKEFILE_LIST)),)
+confstamp-rules :=
+endif
 confstamp-age = $(if $(CONFSTAMP_ASKS),,$(if $(shell $(if $(confstamp-elsewhere),cd $(objtree) &&) $(CONFSTAMP_KBUILD)/age \
 	$(if $(confstamp-elsewhere),$(CURDIR),$(KBUILD_EXTMOD)) || echo failed),$(confstamp-not-aged)))
 confstamp-not-aged = $(error what is stale could not be given an old time)

@@ -60,38 +60,39 @@ fn first_comparison(rt: HostRuntime) -> Result<(), AllocError> {
     Ok(())
 }
 
+#[rattlefmt::skip]
+const COMPARISONS: &[(&str, &[u8], &[u8], &str)] = &[
+    ("an empty auto.conf", b"", b"CONFIG_B=m\nCONFIG_A=y\n", "A B "),
+    ("the same", b"#typed\nCONFIG_A=y\nCONFIG_B=m\n#generation 1\n", b"CONFIG_B=m\nCONFIG_A=y\n", ""),
+    ("another text", b"#typed\nCONFIG_A=y\nCONFIG_B=m\n#generation 1\n", b"CONFIG_A=y\nCONFIG_B=y\n", "B "),
+    ("a name that is off now", b"#typed\nCONFIG_A=y\nCONFIG_B=m\n#generation 1\n", b"CONFIG_B=m\n", "A "),
+    ("a name that is off in both", b"#typed\nCONFIG_B=m\n#generation 1\n", b"CONFIG_B=m\n# CONFIG_A is not set\n", ""),
+    ("a name that vanished", b"#typed\nCONFIG_A=y\nCONFIG_Z=y\n", b"CONFIG_A=y\n", "Z "),
+    ("the last line of a name", b"#typed\nCONFIG_A=n\nCONFIG_A=y\r\n", b"CONFIG_A=y\n", ""),
+    ("the string n", b"#typed\n#type S string\nCONFIG_S=n\n", b"CONFIG_S=\"n\"\n", ""),
+    ("an empty string, as before", b"#typed\n#type S string\nCONFIG_S=\n", b"CONFIG_S=\"\"\n", ""),
+    ("an empty string, and none before", b"#typed\nCONFIG_A=y\n", b"CONFIG_A=y\nCONFIG_S=\"\"\n", "S "),
+    ("an empty string before, and none now", b"CONFIG_S=", b"", "S "),
+    ("the same number in other letters", b"#typed\n#type H hex\nCONFIG_H=0x1f\n", b"CONFIG_H=0x1F\n", "H "),
+    ("all at once, rising", b"CONFIG_Z=1\nCONFIG_B=m\nCONFIG_AA=y\n", b"CONFIG_S=\"x\"\nCONFIG_B=y\nCONFIG_A=y\n", "A AA B S Z "),
+    ("a bool that is a tristate now", b"#typed\nCONFIG_B=y\n", b"CONFIG_B=y\n", ""),
+    ("a bool that is a string now", b"#typed\nCONFIG_S=y\n", b"CONFIG_S=\"y\"\n", "S "),
+    ("a string that is a bool now", b"#typed\n#type A string\nCONFIG_A=y\n", b"CONFIG_A=y\n", "A "),
+    ("an int that is a hex now", b"#typed\n#type H int\nCONFIG_H=10\n", b"CONFIG_H=10\n", "H "),
+    ("a string that is a hex now", b"#typed\n#type H string\nCONFIG_H=10\n", b"CONFIG_H=10\n", "H "),
+    ("an int as before", b"#typed\n#type I int\nCONFIG_I=10\n", b"CONFIG_I=10\n", ""),
+    ("another class and text", b"#typed\n#type A string\nCONFIG_A=n\n", b"CONFIG_A=y\n", "A "),
+    ("a class in an earlier line alone", b"#typed\n#type S string\nCONFIG_S=y\nCONFIG_S=y\n", b"CONFIG_S=\"y\"\n", "S "),
+    ("the untyped form", b"CONFIG_A=y\nCONFIG_B=m\n#generation 1\n", b"CONFIG_B=m\nCONFIG_A=y\n", "A B "),
+    ("the untyped form of a string", b"CONFIG_S=y\n", b"CONFIG_S=\"y\"\n", "S "),
+    ("the untyped form with lines of classes", b"#type S string\nCONFIG_S=y\n", b"CONFIG_S=\"y\"\n", "S "),
+    ("the untyped form, and nothing now", b"CONFIG_A=y\n", b"", "A "),
+];
+
 #[test]
 fn comparisons(rt: HostRuntime) -> Result<(), AllocError> {
     let alloc = rt.alloc();
-    #[rattlefmt::skip]
-    let rows: [(&str, &[u8], &[u8], &str); 25] = [
-        ("an empty auto.conf", b"", b"CONFIG_B=m\nCONFIG_A=y\n", "A B "),
-        ("the same", b"#typed\nCONFIG_A=y\nCONFIG_B=m\n#generation 1\n", b"CONFIG_B=m\nCONFIG_A=y\n", ""),
-        ("another text", b"#typed\nCONFIG_A=y\nCONFIG_B=m\n#generation 1\n", b"CONFIG_A=y\nCONFIG_B=y\n", "B "),
-        ("a name that is off now", b"#typed\nCONFIG_A=y\nCONFIG_B=m\n#generation 1\n", b"CONFIG_B=m\n", "A "),
-        ("a name that is off in both", b"#typed\nCONFIG_B=m\n#generation 1\n", b"CONFIG_B=m\n# CONFIG_A is not set\n", ""),
-        ("a name that vanished", b"#typed\nCONFIG_A=y\nCONFIG_Z=y\n", b"CONFIG_A=y\n", "Z "),
-        ("the last line of a name", b"#typed\nCONFIG_A=n\nCONFIG_A=y\r\n", b"CONFIG_A=y\n", ""),
-        ("the string n", b"#typed\n#type S string\nCONFIG_S=n\n", b"CONFIG_S=\"n\"\n", ""),
-        ("an empty string, as before", b"#typed\n#type S string\nCONFIG_S=\n", b"CONFIG_S=\"\"\n", ""),
-        ("an empty string, and none before", b"#typed\nCONFIG_A=y\n", b"CONFIG_A=y\nCONFIG_S=\"\"\n", "S "),
-        ("an empty string before, and none now", b"CONFIG_S=", b"", "S "),
-        ("the same number in other letters", b"#typed\n#type H hex\nCONFIG_H=0x1f\n", b"CONFIG_H=0x1F\n", "H "),
-        ("all at once, rising", b"CONFIG_Z=1\nCONFIG_B=m\nCONFIG_AA=y\n", b"CONFIG_S=\"x\"\nCONFIG_B=y\nCONFIG_A=y\n", "A AA B S Z "),
-        ("a bool that is a tristate now", b"#typed\nCONFIG_B=y\n", b"CONFIG_B=y\n", ""),
-        ("a bool that is a string now", b"#typed\nCONFIG_S=y\n", b"CONFIG_S=\"y\"\n", "S "),
-        ("a string that is a bool now", b"#typed\n#type A string\nCONFIG_A=y\n", b"CONFIG_A=y\n", "A "),
-        ("an int that is a hex now", b"#typed\n#type H int\nCONFIG_H=10\n", b"CONFIG_H=10\n", "H "),
-        ("a string that is a hex now", b"#typed\n#type H string\nCONFIG_H=10\n", b"CONFIG_H=10\n", "H "),
-        ("an int as before", b"#typed\n#type I int\nCONFIG_I=10\n", b"CONFIG_I=10\n", ""),
-        ("another class and text", b"#typed\n#type A string\nCONFIG_A=n\n", b"CONFIG_A=y\n", "A "),
-        ("a class in an earlier line alone", b"#typed\n#type S string\nCONFIG_S=y\nCONFIG_S=y\n", b"CONFIG_S=\"y\"\n", "S "),
-        ("the untyped form", b"CONFIG_A=y\nCONFIG_B=m\n#generation 1\n", b"CONFIG_B=m\nCONFIG_A=y\n", "A B "),
-        ("the untyped form of a string", b"CONFIG_S=y\n", b"CONFIG_S=\"y\"\n", "S "),
-        ("the untyped form with lines of classes", b"#type S string\nCONFIG_S=y\n", b"CONFIG_S=\"y\"\n", "S "),
-        ("the untyped form, and nothing now", b"CONFIG_A=y\n", b"", "A "),
-    ];
-    for (name, auto, dotconfig, want) in rows {
+    for &(name, auto, dotconfig, want) in COMPARISONS {
         let found = compared(alloc, auto, dotconfig)?;
         assert!(rt; found.as_str() == want, "{name}: {found}");
     }

@@ -1,85 +1,124 @@
 //! Texts with known names in U-Boot, in BusyBox and in coreboot, in pieces of several sizes.
 ghost use Rattle.std.specs.Prelude.{◌<◌};
 
+use crate::fixdep::{in_pieces, note_source};
 use ks_fixdep::{
-    DepError, Header, NamesBySource, Rules, Seed, listed_names, read_depfile, read_depfile_without,
-    record_text,
+    DepError, Header, NamesBySource, Prerequisites, Rules, Seed, SourceScan, listed_names,
+    read_depfile, read_depfile_without, record_text,
 };
-use ks_symbols::Dialect;
-use std::alloc::Global;
+use ks_symbols::{Dialect, Name};
+use std::alloc::{AllocError, Global};
 use std::test::Fail;
 
-/// The names of a text that comes in pieces of a size, each after a space.
-fn names_by(alloc: Global, rules: Rules, text: &[u8], size: usize) -> Result<Vec<u8>, DepError>
-    requires { 0 < size }
-{
-    let read = read_depfile(alloc, b"x.o: x.c")?;
-    let mut found = NamesBySource::with_seed(alloc, Seed::new(0));
-    for piece in text.chunks(size) {
-        found.scan.feed_as(rules, piece)?;
+/// Scans a source that comes in these pieces.
+fn scan_by(scan: &mut SourceScan, rules: Rules, pieces: &[&[u8]]) -> Result<(), AllocError> {
+    for piece in pieces {
+        scan.feed_as(rules, piece)?;
     }
-    found.scan.end_source_as(rules)?;
-    found.sources.push(0)?;
-    record_text(alloc, b"x.o", b"cc", &read, &mut found, None)?;
-    let names = listed_names(alloc, &found)?;
+    scan.end_source_as(rules)
+}
+
+/// The only source of an object, in these pieces.
+fn scanned_by(alloc: Global, rules: Rules, pieces: &[&[u8]]) -> Result<NamesBySource, AllocError> {
+    let mut found = NamesBySource::with_seed(alloc, Seed::new(0));
+    scan_by(&mut found.scan, rules, pieces)?;
+    note_source(&mut found)?;
+    Ok(found)
+}
+
+/// Names, each after a space.
+fn spelled(alloc: Global, names: &[Name]) -> Result<Vec<u8>, AllocError> {
     let mut all = Vec::new(alloc);
-    for name in &names {
+    for name in names {
         all.push(b' ')?;
         all.extend_from_slice(name.as_bytes())?;
     }
     Ok(all)
 }
 
-#[test]
+/// The names that a record lists, each after a space.
+fn listed(
+    alloc: Global,
+    read: &Prerequisites,
+    found: &mut NamesBySource,
+) -> Result<Vec<u8>, AllocError> {
+    record_text(alloc, b"x.o", b"cc", read, found, None)?;
+    let names = listed_names(alloc, found)?;
+    spelled(alloc, &names)
+}
+
+/// The names of a text that comes in pieces of a size, each after a space.
+fn names_by(alloc: Global, rules: Rules, text: &[u8], size: usize) -> Result<Vec<u8>, DepError>
+    requires { 0 < size }
+{
+    let pieces = in_pieces(alloc, text, size)?;
+    let mut found = scanned_by(alloc, rules, &pieces)?;
+    let read = read_depfile(alloc, b"x.o: x.c")?;
+    Ok(listed(alloc, &read, &mut found)?)
+}
+
 #[rattlefmt::skip]
+const WORDS_OF_BUSYBOX: &[(&[u8], &[u8])] = &[
+    (b"CONFIG_A",               b" A"),
+    (b"ENABLE_A",               b" A"),
+    (b"IF_A(x)",                b" A"),
+    (b"IF_NOT_A(x)",            b" A NOT_A"),
+    (b"IF_NOTE(x)",             b" NOTE"),
+    (b"xCONFIG_A _IF_A USE_A",  b""),
+    (b"CONFIG_A_MODULE",        b" A_MODULE"),
+    (b"CONFIG_A.CONFIG_B",      b" A B"),
+    (b"ENABLE_IF_A",            b" IF_A"),
+    (b"CONFIG_XIF_B",           b" XIF_B"),
+    (b"CONFIG_",                b""),
+    (b"IF_NOT_",                b" NOT_"),
+];
+
+#[test]
 fn words_of_busybox(rt: HostRuntime) -> Result<(), Fail> {
-    let rows: [(&[u8], &[u8]); 12] = [
-        (b"CONFIG_A",               b" A"),
-        (b"ENABLE_A",               b" A"),
-        (b"IF_A(x)",                b" A"),
-        (b"IF_NOT_A(x)",            b" A NOT_A"),
-        (b"IF_NOTE(x)",             b" NOTE"),
-        (b"xCONFIG_A _IF_A USE_A",  b""),
-        (b"CONFIG_A_MODULE",        b" A_MODULE"),
-        (b"CONFIG_A.CONFIG_B",      b" A B"),
-        (b"ENABLE_IF_A",            b" IF_A"),
-        (b"CONFIG_XIF_B",           b" XIF_B"),
-        (b"CONFIG_",                b""),
-        (b"IF_NOT_",                b" NOT_"),
-    ];
-    for (text, want) in rows {
+    for &(text, want) in WORDS_OF_BUSYBOX {
         for size in [1usize, 7, 4096] {
-            let all = names_by(rt.alloc(), Rules::for_target(Dialect::BusyBox, b"x.o"), text, size)?;
+            let all = names_by(
+                rt.alloc(),
+                Rules::for_target(Dialect::BusyBox, b"x.o"),
+                text,
+                size,
+            )?;
             assert_eq!(rt; all.as_slice(), want, "in pieces of {size}");
         }
     }
     Ok(())
 }
 
-#[test]
 #[rattlefmt::skip]
+const MACROS_OF_U_BOOT: &[(&[u8], &[u8], &[u8])] = &[
+    (b"spl/x.o",   b"CONFIG_A CONFIG_B_MODULE",             b" A B"),
+    (b"x.o",       b"CONFIG_IS_ENABLED(A)",                 b" A"),
+    (b"spl/x.o",   b"CONFIG_IS_ENABLED(A)",                 b" SPL_A"),
+    (b"vpl/x.o",   b"CONFIG_IS_ENABLED(A)",                 b" VPL_A"),
+    (b"tools/x.o", b"CONFIG_IS_ENABLED(A)",                 b" TOOLS_A"),
+    (b"splat/x.o", b"CONFIG_IS_ENABLED(A)",                 b" A"),
+    (b"spl/x.o",   b"CONFIG_IS_ENABLED( A)",                b" SPL_A"),
+    (b"spl/x.o",   b"CONFIG_IS_ENABLED (A)",                b" SPL_A"),
+    (b"x.o",       b"CONFIG_IS_ENABLED \\\n\t(\r\n A)",     b" A"),
+    (b"tpl/x.o",   b"CONFIG_VAL(A)",                        b" TPL_A"),
+    (b"x.o",       b"CONFIG_IF_ENABLED_INT(A, B)",          b" A B"),
+    (b"spl/x.o",   b"CONFIG_IF_ENABLED_INT(A , B), C",      b" SPL_A SPL_B"),
+    (b"spl/x.o",   b"IS_ENABLED(CONFIG_A)",                 b" A"),
+    (b"spl/x.o",   b"CONFIG_IS_ENABLED(CONFIG_A)",          b" SPL_CONFIG_A A"),
+    (b"spl/x.o",   b"CONFIG_VAL(CONFIG_VAL(A))",            b" SPL_CONFIG_VAL SPL_A"),
+    (b"x.o",       b"xCONFIG_IS_ENABLED(A) CONFIG_$(SPL_)A", b""),
+];
+
+#[test]
 fn macros_of_u_boot(rt: HostRuntime) -> Result<(), Fail> {
-    let rows: [(&[u8], &[u8], &[u8]); 16] = [
-        (b"spl/x.o",   b"CONFIG_A CONFIG_B_MODULE",             b" A B"),
-        (b"x.o",       b"CONFIG_IS_ENABLED(A)",                 b" A"),
-        (b"spl/x.o",   b"CONFIG_IS_ENABLED(A)",                 b" SPL_A"),
-        (b"vpl/x.o",   b"CONFIG_IS_ENABLED(A)",                 b" VPL_A"),
-        (b"tools/x.o", b"CONFIG_IS_ENABLED(A)",                 b" TOOLS_A"),
-        (b"splat/x.o", b"CONFIG_IS_ENABLED(A)",                 b" A"),
-        (b"spl/x.o",   b"CONFIG_IS_ENABLED( A)",                b" SPL_A"),
-        (b"spl/x.o",   b"CONFIG_IS_ENABLED (A)",                b" SPL_A"),
-        (b"x.o",       b"CONFIG_IS_ENABLED \\\n\t(\r\n A)",     b" A"),
-        (b"tpl/x.o",   b"CONFIG_VAL(A)",                        b" TPL_A"),
-        (b"x.o",       b"CONFIG_IF_ENABLED_INT(A, B)",          b" A B"),
-        (b"spl/x.o",   b"CONFIG_IF_ENABLED_INT(A , B), C",      b" SPL_A SPL_B"),
-        (b"spl/x.o",   b"IS_ENABLED(CONFIG_A)",                 b" A"),
-        (b"spl/x.o",   b"CONFIG_IS_ENABLED(CONFIG_A)",          b" SPL_CONFIG_A A"),
-        (b"spl/x.o",   b"CONFIG_VAL(CONFIG_VAL(A))",            b" SPL_CONFIG_VAL SPL_A"),
-        (b"x.o",       b"xCONFIG_IS_ENABLED(A) CONFIG_$(SPL_)A", b""),
-    ];
-    for (target, text, want) in rows {
+    for &(target, text, want) in MACROS_OF_U_BOOT {
         for size in [1usize, 7, 4096] {
-            let all = names_by(rt.alloc(), Rules::for_target(Dialect::UBoot, target), text, size)?;
+            let all = names_by(
+                rt.alloc(),
+                Rules::for_target(Dialect::UBoot, target),
+                text,
+                size,
+            )?;
             assert_eq!(rt; all.as_slice(), want, "in pieces of {size}");
         }
     }

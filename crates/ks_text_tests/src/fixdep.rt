@@ -3,8 +3,8 @@ ghost use Rattle.std.specs.Prelude.{◌<◌};
 
 use crate::golden;
 use ks_fixdep::{
-    CommandFile, DepError, FoundNames, NamesBySource, Prerequisites, Role, Scanner, Seed, build,
-    build_from, names, read_depfile, record_text, token_at, write_command,
+    CommandFile, DepError, FoundNames, NamesBySource, Prerequisites, Role, Scanner, Seed,
+    SourceScan, build, build_from, names, read_depfile, record_text, token_at, write_command,
 };
 use ks_symbols::{MAX_BYTES, name_is_legal, write_decimal};
 use std::alloc::{AllocError, Global};
@@ -58,7 +58,8 @@ fn spelled(alloc: Global, found: &FoundNames) -> Result<Vec<u8>, AllocError> {
     Ok(all)
 }
 
-fn in_pieces(alloc: Global, text: &[u8], size: usize) -> Result<Vec<&[u8]>, AllocError>
+/// A text in pieces of a size.
+pub(crate) fn in_pieces(alloc: Global, text: &[u8], size: usize) -> Result<Vec<&[u8]>, AllocError>
     requires { 0 < size }
 {
     let mut pieces = Vec::new(alloc);
@@ -156,14 +157,26 @@ fn borrowed_in(alloc: Global, text: &[u8], size: usize) -> Result<Vec<u8>, Alloc
     borrowed(alloc, &pieces)
 }
 
+/// Scans a source that comes in these pieces.
+fn scan_pieces(scan: &mut SourceScan, pieces: &[&[u8]]) -> Result<(), AllocError> {
+    for piece in pieces {
+        scan.feed(piece)?;
+    }
+    scan.end_source()
+}
+
+/// Notes the source that was scanned last as the next prerequisite.
+pub(crate) fn note_source(found: &mut NamesBySource) -> Result<(), AllocError> {
+    let place = found.sources.len();
+    found.sources.push(place)?;
+    Ok(())
+}
+
 /// The only source of an object, in these pieces.
 fn scanned_in(alloc: Global, pieces: &[&[u8]]) -> Result<NamesBySource, AllocError> {
     let mut found = NamesBySource::with_seed(alloc, Seed::new(0));
-    for piece in pieces {
-        found.scan.feed(piece)?;
-    }
-    found.scan.end_source()?;
-    found.sources.push(0)?;
+    scan_pieces(&mut found.scan, pieces)?;
+    note_source(&mut found)?;
     Ok(found)
 }
 
@@ -432,14 +445,19 @@ fn a_dependency_file_may_have_64_mebibytes(rt: HostRuntime) -> Result<(), Fail> 
     Ok(())
 }
 
+/// Scans these texts, each a source.
+fn scan_texts(found: &mut NamesBySource, texts: &[&[u8]]) -> Result<(), AllocError> {
+    for text in texts {
+        scan_pieces(&mut found.scan, &[text])?;
+        note_source(found)?;
+    }
+    Ok(())
+}
+
 /// The names in each of these texts.
 fn scanned(alloc: Global, texts: &[&[u8]]) -> Result<NamesBySource, AllocError> {
     let mut found = NamesBySource::with_seed(alloc, Seed::new(0));
-    for (place, text) in texts.iter().enumerate() {
-        found.scan.feed(text)?;
-        found.scan.end_source()?;
-        found.sources.push(place)?;
-    }
+    scan_texts(&mut found, texts)?;
     Ok(found)
 }
 

@@ -80,23 +80,24 @@ fn files_of_switches(rt: HostRuntime) -> Result<(), AllocError> {
     Ok(())
 }
 
+#[rattlefmt::skip]
+const FILES_OF_OTHER_KINDS: &[(&str, &[u8], &[u8], &[u8], &[u8])] = &[
+    ("nothing at all", b"", b"", b"", b""),
+    ("an undeclared name", SWITCHES, b"CONFIG_A=y\n# CONFIG_A is not set\nCONFIG_ZZ=7\n", b"", b""),
+    ("quotes and backslashes", STRING, br#"CONFIG_S="a\"b\\c""#, b"#type S string\nCONFIG_S=a\"b\\c\n", b"#define CONFIG_S \"a\\\"b\\\\c\"\n"),
+    ("an empty string", STRING, b"CONFIG_S=\"\"\n", b"#type S string\nCONFIG_S=\n", b"#define CONFIG_S \"\"\n"),
+    ("the string n", STRING, b"CONFIG_S=\"n\"\n", b"#type S string\nCONFIG_S=n\n", b"#define CONFIG_S \"n\"\n"),
+    ("the string y", STRING, b"CONFIG_S=\"y\"\n", b"#type S string\nCONFIG_S=y\n", b"#define CONFIG_S \"y\"\n"),
+    ("hexadecimal numbers", NUMBERS, b"CONFIG_G=1f\nCONFIG_H=0x1f\nCONFIG_I=0X1F\n",
+        b"#type G hex\nCONFIG_G=1f\n#type H hex\nCONFIG_H=0x1f\n#type I hex\nCONFIG_I=0X1F\n", b"#define CONFIG_G 0x1f\n#define CONFIG_H 0x1f\n#define CONFIG_I 0X1F\n"),
+    ("integers", NUMBERS, b"CONFIG_J=-0\nCONFIG_K=0\nCONFIG_L=-12\n",
+        b"#type J int\nCONFIG_J=-0\n#type K int\nCONFIG_K=0\n#type L int\nCONFIG_L=-12\n", b"#define CONFIG_J -0\n#define CONFIG_K 0\n#define CONFIG_L -12\n"),
+];
+
 #[test]
 fn files_of_other_kinds(rt: HostRuntime) -> Result<(), AllocError> {
     let alloc = rt.alloc();
-    #[rattlefmt::skip]
-    let rows: [(&str, &[u8], &[u8], &[u8], &[u8]); 8] = [
-        ("nothing at all", b"", b"", b"", b""),
-        ("an undeclared name", SWITCHES, b"CONFIG_A=y\n# CONFIG_A is not set\nCONFIG_ZZ=7\n", b"", b""),
-        ("quotes and backslashes", STRING, br#"CONFIG_S="a\"b\\c""#, b"#type S string\nCONFIG_S=a\"b\\c\n", b"#define CONFIG_S \"a\\\"b\\\\c\"\n"),
-        ("an empty string", STRING, b"CONFIG_S=\"\"\n", b"#type S string\nCONFIG_S=\n", b"#define CONFIG_S \"\"\n"),
-        ("the string n", STRING, b"CONFIG_S=\"n\"\n", b"#type S string\nCONFIG_S=n\n", b"#define CONFIG_S \"n\"\n"),
-        ("the string y", STRING, b"CONFIG_S=\"y\"\n", b"#type S string\nCONFIG_S=y\n", b"#define CONFIG_S \"y\"\n"),
-        ("hexadecimal numbers", NUMBERS, b"CONFIG_G=1f\nCONFIG_H=0x1f\nCONFIG_I=0X1F\n",
-            b"#type G hex\nCONFIG_G=1f\n#type H hex\nCONFIG_H=0x1f\n#type I hex\nCONFIG_I=0X1F\n", b"#define CONFIG_G 0x1f\n#define CONFIG_H 0x1f\n#define CONFIG_I 0X1F\n"),
-        ("integers", NUMBERS, b"CONFIG_J=-0\nCONFIG_K=0\nCONFIG_L=-12\n",
-            b"#type J int\nCONFIG_J=-0\n#type K int\nCONFIG_K=0\n#type L int\nCONFIG_L=-12\n", b"#define CONFIG_J -0\n#define CONFIG_K 0\n#define CONFIG_L -12\n"),
-    ];
-    for (name, kconfig, dotconfig, entries, definitions) in rows {
+    for &(name, kconfig, dotconfig, entries, definitions) in FILES_OF_OTHER_KINDS {
         let (auto, header) = written(alloc, kconfig, dotconfig)?;
         assert!(rt;
             auto.starts_with(b"auto:#\n# Automatically")
@@ -227,35 +228,36 @@ fn no_auto_conf_yet(rt: HostRuntime) {
     assert!(rt; is_empty(&none));
 }
 
+#[rattlefmt::skip]
+const READINGS: &[(&str, &[u8], &str)] = &[
+    ("an empty text", b"", "#0"),
+    ("a whole file", SWITCHES_AUTO, "A:switch=y B:switch=m #1"),
+    ("the last line of a name", b"CONFIG_A=y\nCONFIG_A=m\n", "A=m #0"),
+    ("the last generation", b"#generation 3\nCONFIG_S=a=b\n#generation 5\n", "S=a=b #5"),
+    ("the largest generation", b"#generation 18446744073709551615\n", "#18446744073709551615"),
+    ("one more than the largest", b"#generation 18446744073709551616\n", "11 BadAuto line 1"),
+    ("a generation with an idle zero", b"#generation 05\n", "11 BadAuto line 1"),
+    ("no generation", b"#generation \n", "11 BadAuto line 1"),
+    ("a generation without its end", b"#\n# Auto\n# Demo\n#\nCONFIG_A=y\nCONFIG_B=m\n#generation 1", "11 BadAuto line 7"),
+    ("a name that leaves its folder", b"#\n# Auto\n# Demo\n#\nCONFIG_../x=y\n", "11 BadAuto line 5"),
+    ("no name", b"CONFIG_=y\n", "11 BadAuto line 1"),
+    ("no text", b"\nCONFIG_A\n", "11 BadAuto line 2"),
+    ("a blank in front", b" CONFIG_A=y\n", "11 BadAuto line 1"),
+    ("the first faulty line", b"#generation 1\nA\n#generation 01\n", "11 BadAuto line 2"),
+    ("names out of order", b"CONFIG_B=y\nCONFIG_A=y\n", "A=y B=y #0"),
+    ("the text n", b"CONFIG_S=n\n", "S=n #0"),
+    ("an empty string", b"CONFIG_S=\n", "S= #0"),
+    ("a quoted text, as it stands", b"CONFIG_S=\"a\"\n", "S=\"a\" #0"),
+    ("lines that end in CR LF", b"CONFIG_A=y\r\n#generation 4\r\n", "A=y #4"),
+    ("a last line without its end", b"CONFIG_A=y", "A=y #0"),
+    ("a name of a module", b"CONFIG_A_MODULE=y\n", "A_MODULE=y #0"),
+    ("comments", b"# CONFIG_A is not set\n#generation\n#generation3\n", "#0"),
+];
+
 #[test]
 fn readings(rt: HostRuntime) -> Result<(), AllocError> {
     let alloc = rt.alloc();
-    #[rattlefmt::skip]
-    let rows: [(&str, &[u8], &str); 22] = [
-        ("an empty text", b"", "#0"),
-        ("a whole file", SWITCHES_AUTO, "A:switch=y B:switch=m #1"),
-        ("the last line of a name", b"CONFIG_A=y\nCONFIG_A=m\n", "A=m #0"),
-        ("the last generation", b"#generation 3\nCONFIG_S=a=b\n#generation 5\n", "S=a=b #5"),
-        ("the largest generation", b"#generation 18446744073709551615\n", "#18446744073709551615"),
-        ("one more than the largest", b"#generation 18446744073709551616\n", "11 BadAuto line 1"),
-        ("a generation with an idle zero", b"#generation 05\n", "11 BadAuto line 1"),
-        ("no generation", b"#generation \n", "11 BadAuto line 1"),
-        ("a generation without its end", b"#\n# Auto\n# Demo\n#\nCONFIG_A=y\nCONFIG_B=m\n#generation 1", "11 BadAuto line 7"),
-        ("a name that leaves its folder", b"#\n# Auto\n# Demo\n#\nCONFIG_../x=y\n", "11 BadAuto line 5"),
-        ("no name", b"CONFIG_=y\n", "11 BadAuto line 1"),
-        ("no text", b"\nCONFIG_A\n", "11 BadAuto line 2"),
-        ("a blank in front", b" CONFIG_A=y\n", "11 BadAuto line 1"),
-        ("the first faulty line", b"#generation 1\nA\n#generation 01\n", "11 BadAuto line 2"),
-        ("names out of order", b"CONFIG_B=y\nCONFIG_A=y\n", "A=y B=y #0"),
-        ("the text n", b"CONFIG_S=n\n", "S=n #0"),
-        ("an empty string", b"CONFIG_S=\n", "S= #0"),
-        ("a quoted text, as it stands", b"CONFIG_S=\"a\"\n", "S=\"a\" #0"),
-        ("lines that end in CR LF", b"CONFIG_A=y\r\n#generation 4\r\n", "A=y #4"),
-        ("a last line without its end", b"CONFIG_A=y", "A=y #0"),
-        ("a name of a module", b"CONFIG_A_MODULE=y\n", "A_MODULE=y #0"),
-        ("comments", b"# CONFIG_A is not set\n#generation\n#generation3\n", "#0"),
-    ];
-    for (name, auto, want) in rows {
+    for &(name, auto, want) in READINGS {
         let found = said(alloc, auto)?;
         assert!(rt; found.as_str() == want, "{name}: {found}");
     }
@@ -276,36 +278,37 @@ fn said_twice(alloc: Global, auto: &[u8]) -> Result<String, AllocError> {
     Ok(found)
 }
 
+#[rattlefmt::skip]
+const TYPED_READINGS: &[(&str, &[u8], &str)] = &[
+    ("each class", b"#typed\nCONFIG_A=m\n#type H hex\nCONFIG_H=10\n#type I int\nCONFIG_I=1\n#type S string\nCONFIG_S=y\n#generation 3\n",
+        "A:switch=m H:hex=10 I:int=1 S:string=y #3"),
+    ("no entries", b"#typed\n#generation 2\n", "#2"),
+    ("another name", b"#typed\n#type S string\nCONFIG_T=x\n", "11 BadAuto line 2"),
+    ("a longer name", b"#typed\n#type S string\nCONFIG_SS=x\n", "11 BadAuto line 2"),
+    ("a class that is not written", b"#typed\n#type S bool\nCONFIG_S=x\n", "11 BadAuto line 2"),
+    ("a blank at the end", b"#typed\n#type S string \nCONFIG_S=x\n", "11 BadAuto line 2"),
+    ("no class", b"#typed\n#type S\nCONFIG_S=x\n", "11 BadAuto line 2"),
+    ("no name", b"#typed\n#type string\nCONFIG_S=x\n", "11 BadAuto line 2"),
+    ("the last line", b"#typed\nCONFIG_T=x\n#type S string\n", "11 BadAuto line 3"),
+    ("the last line without its end", b"#typed\n#type S string", "11 BadAuto line 2"),
+    ("a comment between", b"#typed\n#type S string\n#\nCONFIG_S=x\n", "11 BadAuto line 2"),
+    ("two in a row", b"#typed\n#type S int\n#type S string\nCONFIG_S=x\n", "11 BadAuto line 2"),
+    ("the first of two faults", b"#typed\n#type S int\nA\n", "11 BadAuto line 2"),
+    ("a fault before a mark", b"A\n#typed\n#type S int\n", "11 BadAuto line 1"),
+    ("an earlier line's class", b"#typed\n#type S string\nCONFIG_S=a\nCONFIG_S=y\n", "S:switch=y #0"),
+    ("a later line's class", b"#typed\n#type S string\nCONFIG_S=a\n#type S int\nCONFIG_S=1\n", "S:int=1 #0"),
+    ("lines that end in CR LF", b"#typed\r\n#type S string\r\nCONFIG_S=a\r\n", "S:string=a #0"),
+    ("without the mark", b"#type S string\nCONFIG_T=x\n#type\n#type S bool\n", "T=x #0"),
+    ("a mark after the first entry", b"CONFIG_T=x\n#typed\n#type S string\nCONFIG_S=y\n#type S\n", "S=y T=x #0"),
+    ("before the mark", b"#type S string\n#type\n#type S\n#typed\nCONFIG_S=y\n", "S:switch=y #0"),
+    ("two marks", b"#typed\n#typed\n#type S string\nCONFIG_S=y\n#typed\nCONFIG_T=y\n", "S:string=y T:switch=y #0"),
+    ("almost a mark", b"#typed \n#type S string\nCONFIG_T=y\n", "T=y #0"),
+];
+
 #[test]
 fn typed_readings(rt: HostRuntime) -> Result<(), AllocError> {
     let alloc = rt.alloc();
-    #[rattlefmt::skip]
-    let rows: [(&str, &[u8], &str); 22] = [
-        ("each class", b"#typed\nCONFIG_A=m\n#type H hex\nCONFIG_H=10\n#type I int\nCONFIG_I=1\n#type S string\nCONFIG_S=y\n#generation 3\n",
-            "A:switch=m H:hex=10 I:int=1 S:string=y #3"),
-        ("no entries", b"#typed\n#generation 2\n", "#2"),
-        ("another name", b"#typed\n#type S string\nCONFIG_T=x\n", "11 BadAuto line 2"),
-        ("a longer name", b"#typed\n#type S string\nCONFIG_SS=x\n", "11 BadAuto line 2"),
-        ("a class that is not written", b"#typed\n#type S bool\nCONFIG_S=x\n", "11 BadAuto line 2"),
-        ("a blank at the end", b"#typed\n#type S string \nCONFIG_S=x\n", "11 BadAuto line 2"),
-        ("no class", b"#typed\n#type S\nCONFIG_S=x\n", "11 BadAuto line 2"),
-        ("no name", b"#typed\n#type string\nCONFIG_S=x\n", "11 BadAuto line 2"),
-        ("the last line", b"#typed\nCONFIG_T=x\n#type S string\n", "11 BadAuto line 3"),
-        ("the last line without its end", b"#typed\n#type S string", "11 BadAuto line 2"),
-        ("a comment between", b"#typed\n#type S string\n#\nCONFIG_S=x\n", "11 BadAuto line 2"),
-        ("two in a row", b"#typed\n#type S int\n#type S string\nCONFIG_S=x\n", "11 BadAuto line 2"),
-        ("the first of two faults", b"#typed\n#type S int\nA\n", "11 BadAuto line 2"),
-        ("a fault before a mark", b"A\n#typed\n#type S int\n", "11 BadAuto line 1"),
-        ("an earlier line's class", b"#typed\n#type S string\nCONFIG_S=a\nCONFIG_S=y\n", "S:switch=y #0"),
-        ("a later line's class", b"#typed\n#type S string\nCONFIG_S=a\n#type S int\nCONFIG_S=1\n", "S:int=1 #0"),
-        ("lines that end in CR LF", b"#typed\r\n#type S string\r\nCONFIG_S=a\r\n", "S:string=a #0"),
-        ("without the mark", b"#type S string\nCONFIG_T=x\n#type\n#type S bool\n", "T=x #0"),
-        ("a mark after the first entry", b"CONFIG_T=x\n#typed\n#type S string\nCONFIG_S=y\n#type S\n", "S=y T=x #0"),
-        ("before the mark", b"#type S string\n#type\n#type S\n#typed\nCONFIG_S=y\n", "S:switch=y #0"),
-        ("two marks", b"#typed\n#typed\n#type S string\nCONFIG_S=y\n#typed\nCONFIG_T=y\n", "S:string=y T:switch=y #0"),
-        ("almost a mark", b"#typed \n#type S string\nCONFIG_T=y\n", "T=y #0"),
-    ];
-    for (name, auto, want) in rows {
+    for &(name, auto, want) in TYPED_READINGS {
         let found = said_twice(alloc, auto)?;
         assert!(rt; found.as_str() == want, "{name}: {found}");
     }

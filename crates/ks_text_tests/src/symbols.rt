@@ -80,112 +80,115 @@ fn dotconfig_outcome(
     }
 }
 
-#[test]
 #[rattlefmt::skip]
+const KCONFIGS: &[(&str, &[u8], &str)] = &[
+    ("a title and two symbols", DEMO, "Demo Some(Bool)"),
+    ("nothing", b"", "Main menu None"),
+    ("comments and blank lines", b"# x\n \t\nconfig A\n\n# y\n  bool  \n", "Main menu Some(Bool)"),
+    ("a prompt", b"config A\n\tstring \"a \\\" b\" \n", "Main menu Some(Text)"),
+    ("def_tristate", b"menuconfig A\n\tdef_tristate m\n", "Main menu Some(Tristate)"),
+    ("the same kind again", b"config A\n\thex\nconfig A\n\thex\n", "Main menu Some(Hex)"),
+    ("CR LF", b"mainmenu \"Demo\"\r\nconfig A\r\n\tint\r\n", "Demo Some(Int)"),
+    ("MODULE is a name", b"config MODULE\n\tbool\n", "Main menu None"),
+    ("a help text", b"config A\n\tbool\n\thelp\n", "1 NotBare line 3"),
+    ("a kind without an entry", b"\tbool\n", "1 NotBare line 1"),
+    ("two words after config", b"config A B\n\tbool\n", "1 NotBare line 1"),
+    ("an indented entry", b" config A\n\tbool\n", "1 NotBare line 1"),
+    ("no word bytes", b"config A-B\n\tbool\n", "2 BadName line 1"),
+    ("a module's name", b"config FOO_MODULE\n\tbool\n", "3 ModuleName line 1"),
+    ("two entries", b"config A\nconfig B\n\tbool\n", "4 NoType line 1"),
+    ("an entry at the end", b"config A\n# end\n", "4 NoType line 1"),
+    ("a title after an entry's line", b"config A\nmainmenu \"x\"\n", "4 NoType line 1"),
+    ("two kinds", b"config A\n\tbool\nconfig A\n\tstring\n", "5 TypeClash line 4"),
+    ("bool, then tristate", b"config A\n\tbool\nconfig A\n\ttristate\n", "5 TypeClash line 4"),
+    ("thrice the same kind", b"config A\n\tint\nconfig A\n\tint\nconfig A\n\tint\n", "Main menu Some(Int)"),
+    ("thrice, then another kind", b"config A\n\tint\nconfig A\n\tint\nconfig A\n\thex\n", "5 TypeClash line 6"),
+    ("another kind, then the first", b"config A\n\tint\nconfig A\n\thex\nconfig A\n\tint\n", "5 TypeClash line 4"),
+    ("three kinds of a name", b"config A\n\tint\nconfig A\n\thex\nconfig A\n\tbool\n", "5 TypeClash line 4"),
+    ("two names, each twice", b"config B\n\tint\nconfig A\n\tint\nconfig B\n\thex\nconfig A\n\thex\n", "5 TypeClash line 6"),
+    ("two kinds before a bad name", b"config A\n\tint\nconfig A\n\thex\nconfig A-B\n", "5 TypeClash line 4"),
+    ("two kinds after a bad name", b"config A\n\tint\nconfig A-B\n\tint\nconfig A\n\thex\n", "2 BadName line 3"),
+    ("the end of a comment", b"mainmenu \"a*/b\"\n", "6 BadTitle line 1"),
+    ("an empty title", b"mainmenu \"\"\n", "6 BadTitle line 1"),
+    ("two titles", b"mainmenu \"a\"\nmainmenu \"b\"\n", "6 BadTitle line 2"),
+    ("a title after an entry", b"config A\n\tbool\nmainmenu \"b\"\n", "6 BadTitle line 3"),
+    ("a title without quotes", b"mainmenu Demo\n", "6 BadTitle line 1"),
+];
+
+#[test]
 fn kconfigs(rt: HostRuntime) -> Result<(), AllocError> {
     let alloc = rt.alloc();
-    let rows: [(&str, &[u8], &str); 31] = [
-        ("a title and two symbols", DEMO, "Demo Some(Bool)"),
-        ("nothing", b"", "Main menu None"),
-        ("comments and blank lines", b"# x\n \t\nconfig A\n\n# y\n  bool  \n", "Main menu Some(Bool)"),
-        ("a prompt", b"config A\n\tstring \"a \\\" b\" \n", "Main menu Some(Text)"),
-        ("def_tristate", b"menuconfig A\n\tdef_tristate m\n", "Main menu Some(Tristate)"),
-        ("the same kind again", b"config A\n\thex\nconfig A\n\thex\n", "Main menu Some(Hex)"),
-        ("CR LF", b"mainmenu \"Demo\"\r\nconfig A\r\n\tint\r\n", "Demo Some(Int)"),
-        ("MODULE is a name", b"config MODULE\n\tbool\n", "Main menu None"),
-        ("a help text", b"config A\n\tbool\n\thelp\n", "1 NotBare line 3"),
-        ("a kind without an entry", b"\tbool\n", "1 NotBare line 1"),
-        ("two words after config", b"config A B\n\tbool\n", "1 NotBare line 1"),
-        ("an indented entry", b" config A\n\tbool\n", "1 NotBare line 1"),
-        ("no word bytes", b"config A-B\n\tbool\n", "2 BadName line 1"),
-        ("a module's name", b"config FOO_MODULE\n\tbool\n", "3 ModuleName line 1"),
-        ("two entries", b"config A\nconfig B\n\tbool\n", "4 NoType line 1"),
-        ("an entry at the end", b"config A\n# end\n", "4 NoType line 1"),
-        ("a title after an entry's line", b"config A\nmainmenu \"x\"\n", "4 NoType line 1"),
-        ("two kinds", b"config A\n\tbool\nconfig A\n\tstring\n", "5 TypeClash line 4"),
-        ("bool, then tristate", b"config A\n\tbool\nconfig A\n\ttristate\n", "5 TypeClash line 4"),
-        ("thrice the same kind", b"config A\n\tint\nconfig A\n\tint\nconfig A\n\tint\n", "Main menu Some(Int)"),
-        ("thrice, then another kind", b"config A\n\tint\nconfig A\n\tint\nconfig A\n\thex\n", "5 TypeClash line 6"),
-        ("another kind, then the first", b"config A\n\tint\nconfig A\n\thex\nconfig A\n\tint\n", "5 TypeClash line 4"),
-        ("three kinds of a name", b"config A\n\tint\nconfig A\n\thex\nconfig A\n\tbool\n", "5 TypeClash line 4"),
-        ("two names, each twice", b"config B\n\tint\nconfig A\n\tint\nconfig B\n\thex\nconfig A\n\thex\n", "5 TypeClash line 6"),
-        ("two kinds before a bad name", b"config A\n\tint\nconfig A\n\thex\nconfig A-B\n", "5 TypeClash line 4"),
-        ("two kinds after a bad name", b"config A\n\tint\nconfig A-B\n\tint\nconfig A\n\thex\n", "2 BadName line 3"),
-        ("the end of a comment", b"mainmenu \"a*/b\"\n", "6 BadTitle line 1"),
-        ("an empty title", b"mainmenu \"\"\n", "6 BadTitle line 1"),
-        ("two titles", b"mainmenu \"a\"\nmainmenu \"b\"\n", "6 BadTitle line 2"),
-        ("a title after an entry", b"config A\n\tbool\nmainmenu \"b\"\n", "6 BadTitle line 3"),
-        ("a title without quotes", b"mainmenu Demo\n", "6 BadTitle line 1"),
-    ];
-    for (name, text, want) in rows {
+    for &(name, text, want) in KCONFIGS {
         let found = kconfig_outcome(alloc, &Kconfig::new(Dialect::Linux, text), b"A")?;
         assert!(rt; found.as_str() == want, "{name}");
     }
     Ok(())
 }
 
-#[test]
 #[rattlefmt::skip]
+const DOTCONFIGS: &[(&str, &[u8], &[u8], &str)] = &[
+    ("two switches", DEMO, b"CONFIG_B=m\nCONFIG_A=y\n", "A=y B=m unknown 0"),
+    ("CR LF and no end", DEMO, b"CONFIG_A=y\r\nCONFIG_B=m", "A=y B=m unknown 0"),
+    ("off, and a name of none", DEMO, b"CONFIG_A=y\n# CONFIG_A is not set\nCONFIG_ZZ=7\n", "unknown 1"),
+    ("on again", DEMO, b"# CONFIG_A is not set\nCONFIG_A=y\n", "A=y unknown 0"),
+    ("n is off", DEMO, b"CONFIG_A=y\nCONFIG_A=n\n", "unknown 0"),
+    ("unset names of none", DEMO, b"# CONFIG_ZZ is not set\n# CONFIG_ZZ is not set\n", "unknown 2"),
+    ("no symbols, no lines", b"", b"", "unknown 0"),
+    ("a comment with a CR after", DEMO, b"CONFIG_A=y\n# CONFIG_A is not set\r", "A=y unknown 0"),
+    ("blanks", DEMO, b"\nCONFIG_A = y\n", "7 NotAConfigLine line 2"),
+    ("a line of blanks", DEMO, b" \n", "7 NotAConfigLine line 1"),
+    ("m for a bool", DEMO, b"CONFIG_A=m\n", "8 BadValue line 1"),
+    ("a faulty value, then a good one", DEMO, b"CONFIG_A=x\nCONFIG_A=y\n", "8 BadValue line 1"),
+    ("one symbol", b"config A\n\tbool\n", b"CONFIG_A=y\n", "A=y unknown 0"),
+    ("three lines of a name", VALUES, b"CONFIG_I=1\nCONFIG_I=2\nCONFIG_I=3\n", "I=3 unknown 0"),
+    ("and other names between", VALUES, b"CONFIG_I=1\nCONFIG_S=\"a\"\nCONFIG_I=2\nCONFIG_H=1\nCONFIG_I=3\n", "H=1 I=3 S=a unknown 0"),
+    ("names that begin alike", ALIKE, b"CONFIG_a=y\nCONFIG__=y\nCONFIG_AA=y\nCONFIG_A_=y\nCONFIG_0=y\nCONFIG_A=y\n", "0=y A=y AA=y A_=y _=y a=y unknown 0"),
+    ("quotes and backslashes", VALUES, b"CONFIG_S=\"a\\\"b\\\\c\"\n", "S=a\"b\\c unknown 0"),
+    ("an empty string", VALUES, b"CONFIG_S=\"\"\n", "S= unknown 0"),
+    ("the string n", VALUES, b"CONFIG_S=\"n\"\n", "S=n unknown 0"),
+    ("a string that is not set", VALUES, b"CONFIG_S=\"a\"\n# CONFIG_S is not set\n", "unknown 0"),
+    ("another escape", VALUES, b"CONFIG_S=\"a\\n\"\n", "8 BadValue line 1"),
+    ("no closing quote", VALUES, b"CONFIG_S=\"a\n", "8 BadValue line 1"),
+    ("no quotes", VALUES, b"CONFIG_S=a\n", "8 BadValue line 1"),
+    ("bytes after the quote", VALUES, b"CONFIG_S=\"a\"b\n", "8 BadValue line 1"),
+    ("minus zero", VALUES, b"CONFIG_I=-0\n", "I=-0 unknown 0"),
+    ("a negative number", VALUES, b"CONFIG_I=-12\n", "I=-12 unknown 0"),
+    ("idle zeros", VALUES, b"CONFIG_I=007\n", "8 BadValue line 1"),
+    ("a lone minus", VALUES, b"CONFIG_I=-\n", "8 BadValue line 1"),
+    ("a plus", VALUES, b"CONFIG_I=+1\n", "8 BadValue line 1"),
+    ("no number", VALUES, b"CONFIG_I=\n", "8 BadValue line 1"),
+    ("hex as it is written", VALUES, b"CONFIG_H=0x1f\nCONFIG_H=0X1F\n", "H=0X1F unknown 0"),
+    ("a bare radix", VALUES, b"CONFIG_H=0x\n", "8 BadValue line 1"),
+];
+
+#[test]
 fn dotconfigs(rt: HostRuntime) -> Result<(), AllocError> {
     let alloc = rt.alloc();
-    let rows: [(&str, &[u8], &[u8], &str); 32] = [
-        ("two switches", DEMO, b"CONFIG_B=m\nCONFIG_A=y\n", "A=y B=m unknown 0"),
-        ("CR LF and no end", DEMO, b"CONFIG_A=y\r\nCONFIG_B=m", "A=y B=m unknown 0"),
-        ("off, and a name of none", DEMO, b"CONFIG_A=y\n# CONFIG_A is not set\nCONFIG_ZZ=7\n", "unknown 1"),
-        ("on again", DEMO, b"# CONFIG_A is not set\nCONFIG_A=y\n", "A=y unknown 0"),
-        ("n is off", DEMO, b"CONFIG_A=y\nCONFIG_A=n\n", "unknown 0"),
-        ("unset names of none", DEMO, b"# CONFIG_ZZ is not set\n# CONFIG_ZZ is not set\n", "unknown 2"),
-        ("no symbols, no lines", b"", b"", "unknown 0"),
-        ("a comment with a CR after", DEMO, b"CONFIG_A=y\n# CONFIG_A is not set\r", "A=y unknown 0"),
-        ("blanks", DEMO, b"\nCONFIG_A = y\n", "7 NotAConfigLine line 2"),
-        ("a line of blanks", DEMO, b" \n", "7 NotAConfigLine line 1"),
-        ("m for a bool", DEMO, b"CONFIG_A=m\n", "8 BadValue line 1"),
-        ("a faulty value, then a good one", DEMO, b"CONFIG_A=x\nCONFIG_A=y\n", "8 BadValue line 1"),
-        ("one symbol", b"config A\n\tbool\n", b"CONFIG_A=y\n", "A=y unknown 0"),
-        ("three lines of a name", VALUES, b"CONFIG_I=1\nCONFIG_I=2\nCONFIG_I=3\n", "I=3 unknown 0"),
-        ("and other names between", VALUES, b"CONFIG_I=1\nCONFIG_S=\"a\"\nCONFIG_I=2\nCONFIG_H=1\nCONFIG_I=3\n", "H=1 I=3 S=a unknown 0"),
-        ("names that begin alike", ALIKE, b"CONFIG_a=y\nCONFIG__=y\nCONFIG_AA=y\nCONFIG_A_=y\nCONFIG_0=y\nCONFIG_A=y\n", "0=y A=y AA=y A_=y _=y a=y unknown 0"),
-        ("quotes and backslashes", VALUES, b"CONFIG_S=\"a\\\"b\\\\c\"\n", "S=a\"b\\c unknown 0"),
-        ("an empty string", VALUES, b"CONFIG_S=\"\"\n", "S= unknown 0"),
-        ("the string n", VALUES, b"CONFIG_S=\"n\"\n", "S=n unknown 0"),
-        ("a string that is not set", VALUES, b"CONFIG_S=\"a\"\n# CONFIG_S is not set\n", "unknown 0"),
-        ("another escape", VALUES, b"CONFIG_S=\"a\\n\"\n", "8 BadValue line 1"),
-        ("no closing quote", VALUES, b"CONFIG_S=\"a\n", "8 BadValue line 1"),
-        ("no quotes", VALUES, b"CONFIG_S=a\n", "8 BadValue line 1"),
-        ("bytes after the quote", VALUES, b"CONFIG_S=\"a\"b\n", "8 BadValue line 1"),
-        ("minus zero", VALUES, b"CONFIG_I=-0\n", "I=-0 unknown 0"),
-        ("a negative number", VALUES, b"CONFIG_I=-12\n", "I=-12 unknown 0"),
-        ("idle zeros", VALUES, b"CONFIG_I=007\n", "8 BadValue line 1"),
-        ("a lone minus", VALUES, b"CONFIG_I=-\n", "8 BadValue line 1"),
-        ("a plus", VALUES, b"CONFIG_I=+1\n", "8 BadValue line 1"),
-        ("no number", VALUES, b"CONFIG_I=\n", "8 BadValue line 1"),
-        ("hex as it is written", VALUES, b"CONFIG_H=0x1f\nCONFIG_H=0X1F\n", "H=0X1F unknown 0"),
-        ("a bare radix", VALUES, b"CONFIG_H=0x\n", "8 BadValue line 1"),
-    ];
-    for (name, kconfig, text, want) in rows {
+    for &(name, kconfig, text, want) in DOTCONFIGS {
         let found = dotconfig_outcome(alloc, &Kconfig::new(Dialect::Linux, kconfig), text)?;
         assert!(rt; found.as_str() == want, "{name}");
     }
     Ok(())
 }
 
-#[test]
 #[rattlefmt::skip]
+const KCONFIGS_OF_DIALECTS: &[(&str, Dialect, &[u8], &str)] = &[
+    ("a string of U-Boot", Dialect::UBoot, b"config A\n\tstring\n", "Main menu Some(Raw)"),
+    ("a bool of U-Boot", Dialect::UBoot, b"config A\n\tdef_bool y\n", "Main menu Some(Bool)"),
+    ("a module's name in U-Boot", Dialect::UBoot, b"config A_MODULE\n\tbool\n", "3 ModuleName line 1"),
+    ("a string of BusyBox", Dialect::BusyBox, b"config A\n\tstring \"a\"\n", "Main menu Some(Raw)"),
+    ("a bool of BusyBox", Dialect::BusyBox, b"config A\n\tbool \"a\"\n", "Main menu Some(Flag)"),
+    ("a default", Dialect::BusyBox, b"config A\n\tdef_bool y\n", "Main menu Some(Flag)"),
+    ("a name that ends in _MODULE", Dialect::BusyBox, b"config A_MODULE\n\tbool\nconfig A\n\tint\n", "Main menu Some(Int)"),
+    ("a number of such a name", Dialect::BusyBox, b"config A\n\tbool\nconfig A_MODULE\n\tint\n", "3 ModuleName line 4"),
+    ("such a name without a kind", Dialect::BusyBox, b"config A_MODULE\nconfig A\n\tbool\n", "4 NoType line 1"),
+    ("a module's name after an entry without a kind", Dialect::Linux, b"config A\nconfig A_MODULE\n\tbool\n", "4 NoType line 1"),
+];
+
+#[test]
 fn kconfigs_of_dialects(rt: HostRuntime) -> Result<(), AllocError> {
     let alloc = rt.alloc();
-    let rows: [(&str, Dialect, &[u8], &str); 10] = [
-        ("a string of U-Boot", Dialect::UBoot, b"config A\n\tstring\n", "Main menu Some(Raw)"),
-        ("a bool of U-Boot", Dialect::UBoot, b"config A\n\tdef_bool y\n", "Main menu Some(Bool)"),
-        ("a module's name in U-Boot", Dialect::UBoot, b"config A_MODULE\n\tbool\n", "3 ModuleName line 1"),
-        ("a string of BusyBox", Dialect::BusyBox, b"config A\n\tstring \"a\"\n", "Main menu Some(Raw)"),
-        ("a bool of BusyBox", Dialect::BusyBox, b"config A\n\tbool \"a\"\n", "Main menu Some(Flag)"),
-        ("a default", Dialect::BusyBox, b"config A\n\tdef_bool y\n", "Main menu Some(Flag)"),
-        ("a name that ends in _MODULE", Dialect::BusyBox, b"config A_MODULE\n\tbool\nconfig A\n\tint\n", "Main menu Some(Int)"),
-        ("a number of such a name", Dialect::BusyBox, b"config A\n\tbool\nconfig A_MODULE\n\tint\n", "3 ModuleName line 4"),
-        ("such a name without a kind", Dialect::BusyBox, b"config A_MODULE\nconfig A\n\tbool\n", "4 NoType line 1"),
-        ("a module's name after an entry without a kind", Dialect::Linux, b"config A\nconfig A_MODULE\n\tbool\n", "4 NoType line 1"),
-    ];
-    for (name, dialect, text, want) in rows {
+    for &(name, dialect, text, want) in KCONFIGS_OF_DIALECTS {
         let found = kconfig_outcome(alloc, &Kconfig::new(dialect, text), b"A")?;
         assert!(rt; found.as_str() == want, "{name}: {found}");
     }

@@ -37,25 +37,31 @@ fn paths(alloc: Global, tree: &AgedTree<MemoryTree>) -> Result<String, AllocErro
     Ok(paths)
 }
 
-#[test]
 #[rattlefmt::skip]
+const AGINGS: &[(&[&str], &str, &str)] = &[
+    (&["age", "x.o"], "1 x.o stale A\n", "x.o "),
+    (&["age", "new.o", "x.o", "none.o", "old.o", "w.o"],
+        "1 new.o fresh\nx.o stale A\nnone.o stale no-command-file\nold.o stale not-numbered\nw.o stale A\n", "x.o w.o "),
+    (&["age", "--unrecorded", "new.o", "none.o", "old.o", "w.o"],
+        "1 new.o fresh\nnone.o stale no-command-file\nold.o stale not-numbered\nw.o stale A\n", "none.o old.o w.o "),
+    (&["age", "x.o", "--from", "objects"], "1 x.o stale A\nw.o stale A\nnone.o stale no-command-file\n", "x.o w.o "),
+    (&["age", "x.o", "x.o"], "1 x.o stale A\nx.o stale A\n", "x.o x.o "),
+    (&["age", "x.o", "a$b", "w.o"], "2 x.o stale A\na$b refused 21 BadPath token 0\nw.o stale A\n", "x.o w.o "),
+    (&["age", "x.o", "--from", "nowhere"], "2 confstamp: 40 MissingFile nowhere\n", ""),
+    (&["stale", "x.o"], "1 x.o stale A\n", ""),
+];
+
+#[test]
 fn what_is_stale_is_aged(rt: HostRuntime) -> Result<(), Fail> {
     let alloc = rt.alloc();
-    let rows: [(&[&str], &str, &str); 8] = [
-        (&["age", "x.o"], "1 x.o stale A\n", "x.o "),
-        (&["age", "new.o", "x.o", "none.o", "old.o", "w.o"],
-            "1 new.o fresh\nx.o stale A\nnone.o stale no-command-file\nold.o stale not-numbered\nw.o stale A\n", "x.o w.o "),
-        (&["age", "--unrecorded", "new.o", "none.o", "old.o", "w.o"],
-            "1 new.o fresh\nnone.o stale no-command-file\nold.o stale not-numbered\nw.o stale A\n", "none.o old.o w.o "),
-        (&["age", "x.o", "--from", "objects"], "1 x.o stale A\nw.o stale A\nnone.o stale no-command-file\n", "x.o w.o "),
-        (&["age", "x.o", "x.o"], "1 x.o stale A\nx.o stale A\n", "x.o x.o "),
-        (&["age", "x.o", "a$b", "w.o"], "2 x.o stale A\na$b refused 21 BadPath token 0\nw.o stale A\n", "x.o w.o "),
-        (&["age", "x.o", "--from", "nowhere"], "2 confstamp: 40 MissingFile nowhere\n", ""),
-        (&["stale", "x.o"], "1 x.o stale A\n", ""),
-    ];
-    for (words, want, aged) in rows {
+    for &(words, want, aged) in AGINGS {
         let mut tree = changed(&rt, alloc)?;
-        play(&rt, alloc, &mut tree, &[(Step::Words(words), want), (Step::Read("x.o"), "object")])?;
+        play(
+            &rt,
+            alloc,
+            &mut tree,
+            &[(Step::Words(words), want), (Step::Read("x.o"), "object")],
+        )?;
         assert_eq!(rt; paths(alloc, &tree)?.as_str(), aged, "{words:?}");
     }
     Ok(())

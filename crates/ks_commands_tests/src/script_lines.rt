@@ -24,66 +24,68 @@ fn outcome(alloc: Global, text: &[u8]) -> Result<String, AllocError> {
     Ok(whole)
 }
 
-#[test]
 #[rattlefmt::skip]
+const SCRIPTS: &[(&str, &[u8], &str)] = &[
+    ("nothing", b"", ""),
+    ("comments and empty lines alone", b"# x\n\n#\n", ""),
+    ("a line of each kind", b"sync K C\nrecord x.d x.o cc -c x.c\nstale x.o\n", "sync|K|C||\nrecord|x.d|x.o|cc -c x.c|\nstale|x.o|||\n"),
+    ("CR LF", b"# x\r\n\r\nsync K C\r\nstale x.o\r\n", "sync|K|C||\nstale|x.o|||\n"),
+    ("a last line without its end", b"stale y.o\nstale x.o", "stale|y.o|||\nstale|x.o|||\n"),
+    ("an empty command", b"record x.d x.o \n", "record|x.d|x.o||\n"),
+    ("a command of spaces", b"record x.d x.o  cc  \n", "record|x.d|x.o| cc  |\n"),
+    ("a target that is no path", b"stale a$b\n", "stale|a$b|||\n"),
+    ("a dependency file that is no path", b"record a$b x.o cc\n", "record|a$b|x.o|cc|\n"),
+    ("a lone CR", b"stale x\r.o\r", "stale|x\r.o\r|||\n"),
+    ("two targets", b"stale x.o y.o", "50 BadScript line 1"),
+    ("two spaces before a target", b"stale  x.o", "50 BadScript line 1"),
+    ("no third space", b"record x.d x.o", "50 BadScript line 1"),
+    ("no target", b"stale\n", "50 BadScript line 1"),
+    ("an empty target", b"stale \n", "50 BadScript line 1"),
+    ("a space after a target", b"stale x.o \n", "50 BadScript line 1"),
+    ("two spaces between paths", b"sync K  C\n", "50 BadScript line 1"),
+    ("a space after paths", b"sync K C \n", "50 BadScript line 1"),
+    ("one path", b"sync K\n", "50 BadScript line 1"),
+    ("a Kconfig that is no path", b"\n\nsync K$ C\n", "50 BadScript line 3"),
+    ("a .config that is no path", b"# x\nsync K C:\n", "50 BadScript line 2"),
+    ("two spaces before a target of a record", b"record x.d  x.o cc\n", "50 BadScript line 1"),
+    ("an empty dependency file", b"record  x.o cc\n", "50 BadScript line 1"),
+    ("a space in front", b" stale x.o\n", "50 BadScript line 1"),
+    ("a comment after a space", b" # x\n", "50 BadScript line 1"),
+    ("another command", b"stale x.o\npreview K C\n", "50 BadScript line 2"),
+    ("the first faulty line", b"stale x.o\r\nstale\r\nsync K\r\n", "50 BadScript line 2"),
+];
+
+#[test]
 fn scripts(rt: HostRuntime) -> Result<(), AllocError> {
     let alloc = rt.alloc();
-    let rows: [(&str, &[u8], &str); 27] = [
-        ("nothing", b"", ""),
-        ("comments and empty lines alone", b"# x\n\n#\n", ""),
-        ("a line of each kind", b"sync K C\nrecord x.d x.o cc -c x.c\nstale x.o\n", "sync|K|C||\nrecord|x.d|x.o|cc -c x.c|\nstale|x.o|||\n"),
-        ("CR LF", b"# x\r\n\r\nsync K C\r\nstale x.o\r\n", "sync|K|C||\nstale|x.o|||\n"),
-        ("a last line without its end", b"stale y.o\nstale x.o", "stale|y.o|||\nstale|x.o|||\n"),
-        ("an empty command", b"record x.d x.o \n", "record|x.d|x.o||\n"),
-        ("a command of spaces", b"record x.d x.o  cc  \n", "record|x.d|x.o| cc  |\n"),
-        ("a target that is no path", b"stale a$b\n", "stale|a$b|||\n"),
-        ("a dependency file that is no path", b"record a$b x.o cc\n", "record|a$b|x.o|cc|\n"),
-        ("a lone CR", b"stale x\r.o\r", "stale|x\r.o\r|||\n"),
-        ("two targets", b"stale x.o y.o", "50 BadScript line 1"),
-        ("two spaces before a target", b"stale  x.o", "50 BadScript line 1"),
-        ("no third space", b"record x.d x.o", "50 BadScript line 1"),
-        ("no target", b"stale\n", "50 BadScript line 1"),
-        ("an empty target", b"stale \n", "50 BadScript line 1"),
-        ("a space after a target", b"stale x.o \n", "50 BadScript line 1"),
-        ("two spaces between paths", b"sync K  C\n", "50 BadScript line 1"),
-        ("a space after paths", b"sync K C \n", "50 BadScript line 1"),
-        ("one path", b"sync K\n", "50 BadScript line 1"),
-        ("a Kconfig that is no path", b"\n\nsync K$ C\n", "50 BadScript line 3"),
-        ("a .config that is no path", b"# x\nsync K C:\n", "50 BadScript line 2"),
-        ("two spaces before a target of a record", b"record x.d  x.o cc\n", "50 BadScript line 1"),
-        ("an empty dependency file", b"record  x.o cc\n", "50 BadScript line 1"),
-        ("a space in front", b" stale x.o\n", "50 BadScript line 1"),
-        ("a comment after a space", b" # x\n", "50 BadScript line 1"),
-        ("another command", b"stale x.o\npreview K C\n", "50 BadScript line 2"),
-        ("the first faulty line", b"stale x.o\r\nstale\r\nsync K\r\n", "50 BadScript line 2"),
-    ];
-    for (name, text, want) in rows {
+    for &(name, text, want) in SCRIPTS {
         let found = outcome(alloc, text)?;
         assert!(rt; found.as_str() == want, "{name}: {found}");
     }
     Ok(())
 }
 
+#[rattlefmt::skip]
+const CUTS: &[(usize, usize, &str)] = &[
+    (0, 0, "read 0"),
+    (1, 7, "50 BadScript line 1"),
+    (8, 9, "read 1"),
+    (10, 23, "50 BadScript line 2"),
+    (24, 26, "read 2"),
+    (27, 32, "50 BadScript line 3"),
+    (33, 36, "read 3"),
+];
+
 #[test]
 fn cuts(rt: HostRuntime) -> Result<(), AllocError> {
     let alloc = rt.alloc();
     let whole = b"sync K C\nrecord x.d x.o c\nstale x.o\n".as_slice();
-    #[rattlefmt::skip]
-    let rows: [(usize, usize, &str); 7] = [
-        (0, 0, "read 0"),
-        (1, 7, "50 BadScript line 1"),
-        (8, 9, "read 1"),
-        (10, 23, "50 BadScript line 2"),
-        (24, 26, "read 2"),
-        (27, 32, "50 BadScript line 3"),
-        (33, 36, "read 3"),
-    ];
     for end in 0..=whole.len() {
         let found = match read_script(alloc, &whole[..end]) {
             Ok(lines) => format!(in alloc; "read {}", lines.len())?,
             Err(error) => error.to_string(alloc)?,
         };
-        for (first, last, want) in rows {
+        for &(first, last, want) in CUTS {
             if first <= end && end <= last {
                 assert!(rt; found.as_str() == want, "{end} bytes: {found}");
             }

@@ -42,32 +42,33 @@ fn whole(alloc: Global, touches: &str, title: &str, rest: &str) -> Result<String
     )
 }
 
-#[test]
 #[rattlefmt::skip]
+const PREVIEWS: &[(&str, &[u8], &[u8], Option<&[u8]>, &str, &str, &str)] = &[
+    ("a first one", DEMO, b"CONFIG_A=y\nCONFIG_B=m\n", None,
+        "touch A\ntouch B\n", "Demo", "CONFIG_A=y\nCONFIG_B=m\n#generation 1\n"),
+    ("CR LF and no end", DEMO, b"CONFIG_A=y\r\nCONFIG_B=m", None,
+        "touch A\ntouch B\n", "Demo", "CONFIG_A=y\nCONFIG_B=m\n#generation 1\n"),
+    ("the last line counts", DEMO, b"CONFIG_A=y\n# CONFIG_A is not set\nCONFIG_ZZ=7\n", None,
+        "", "Demo", "#generation 1\n"),
+    ("nothing", b"", b"", None, "", "Main menu", "#generation 1\n"),
+    ("nothing changed", DEMO, b"CONFIG_A=y\nCONFIG_B=m\n", Some(DEMO_AUTO),
+        "", "Demo", "CONFIG_A=y\nCONFIG_B=m\n#generation 2\n"),
+    ("a bool that is a string now", b"config S\n\tstring\n", b"CONFIG_S=\"y\"\n", Some(b"#typed\nCONFIG_S=y\n"),
+        "touch S\n", "Main menu", "#type S string\nCONFIG_S=y\n#generation 1\n"),
+    ("over the untyped form", DEMO, b"CONFIG_A=y\n", Some(b"CONFIG_A=y\nCONFIG_B=m\n#generation 1\n"),
+        "touch A\ntouch B\n", "Demo", "CONFIG_A=y\n#generation 2\n"),
+    ("one vanished, one changed", b"mainmenu \"Demo\"\nconfig B\n\ttristate\n", b"CONFIG_A=y\nCONFIG_B=y\n", Some(DEMO_AUTO),
+        "touch A\ntouch B\n", "Demo", "CONFIG_B=y\n#generation 2\n"),
+    ("an empty string", b"config S\n\tstring\n", b"CONFIG_S=\"\"\n", Some(b""),
+        "touch S\n", "Main menu", "#type S string\nCONFIG_S=\n#generation 1\n"),
+    ("a string and a number", b"config S\n\tstring\nconfig H\n\thex\n", b"CONFIG_S=\"a\\\"b\\\\c\"\nCONFIG_H=0X1F\n", None,
+        "touch H\ntouch S\n", "Main menu", "#type H hex\nCONFIG_H=0X1F\n#type S string\nCONFIG_S=a\"b\\c\n#generation 1\n"),
+];
+
+#[test]
 fn previews(rt: HostRuntime) -> Result<(), AllocError> {
     let alloc = rt.alloc();
-    let rows: [(&str, &[u8], &[u8], Option<&[u8]>, &str, &str, &str); 10] = [
-        ("a first one", DEMO, b"CONFIG_A=y\nCONFIG_B=m\n", None,
-            "touch A\ntouch B\n", "Demo", "CONFIG_A=y\nCONFIG_B=m\n#generation 1\n"),
-        ("CR LF and no end", DEMO, b"CONFIG_A=y\r\nCONFIG_B=m", None,
-            "touch A\ntouch B\n", "Demo", "CONFIG_A=y\nCONFIG_B=m\n#generation 1\n"),
-        ("the last line counts", DEMO, b"CONFIG_A=y\n# CONFIG_A is not set\nCONFIG_ZZ=7\n", None,
-            "", "Demo", "#generation 1\n"),
-        ("nothing", b"", b"", None, "", "Main menu", "#generation 1\n"),
-        ("nothing changed", DEMO, b"CONFIG_A=y\nCONFIG_B=m\n", Some(DEMO_AUTO),
-            "", "Demo", "CONFIG_A=y\nCONFIG_B=m\n#generation 2\n"),
-        ("a bool that is a string now", b"config S\n\tstring\n", b"CONFIG_S=\"y\"\n", Some(b"#typed\nCONFIG_S=y\n"),
-            "touch S\n", "Main menu", "#type S string\nCONFIG_S=y\n#generation 1\n"),
-        ("over the untyped form", DEMO, b"CONFIG_A=y\n", Some(b"CONFIG_A=y\nCONFIG_B=m\n#generation 1\n"),
-            "touch A\ntouch B\n", "Demo", "CONFIG_A=y\n#generation 2\n"),
-        ("one vanished, one changed", b"mainmenu \"Demo\"\nconfig B\n\ttristate\n", b"CONFIG_A=y\nCONFIG_B=y\n", Some(DEMO_AUTO),
-            "touch A\ntouch B\n", "Demo", "CONFIG_B=y\n#generation 2\n"),
-        ("an empty string", b"config S\n\tstring\n", b"CONFIG_S=\"\"\n", Some(b""),
-            "touch S\n", "Main menu", "#type S string\nCONFIG_S=\n#generation 1\n"),
-        ("a string and a number", b"config S\n\tstring\nconfig H\n\thex\n", b"CONFIG_S=\"a\\\"b\\\\c\"\nCONFIG_H=0X1F\n", None,
-            "touch H\ntouch S\n", "Main menu", "#type H hex\nCONFIG_H=0X1F\n#type S string\nCONFIG_S=a\"b\\c\n#generation 1\n"),
-    ];
-    for (name, kconfig, dotconfig, old, touches, title, rest) in rows {
+    for &(name, kconfig, dotconfig, old, touches, title, rest) in PREVIEWS {
         let want = whole(alloc, touches, title, rest)?;
         let found = outcome(alloc, kconfig, dotconfig, old)?;
         assert!(rt; found.as_str() == want.as_str(), "{name}");
@@ -75,27 +76,28 @@ fn previews(rt: HostRuntime) -> Result<(), AllocError> {
     Ok(())
 }
 
-#[test]
 #[rattlefmt::skip]
+const REFUSALS: &[(&[u8], &[u8], Option<&[u8]>, &str)] = &[
+    (b"config A\n\tbool\n\thelp\n", b"", None, "1 NotBare line 3"),
+    (b"config A-B\n\tbool\n", b"", None, "2 BadName line 1"),
+    (b"config FOO_MODULE\n\tbool\n", b"", None, "3 ModuleName line 1"),
+    (b"config A\nconfig B\n\tbool\n", b"", None, "4 NoType line 1"),
+    (b"config A\n\tbool\nconfig A\n\ttristate\n", b"", None, "5 TypeClash line 4"),
+    (b"mainmenu \"a*/b\"\n", b"", None, "6 BadTitle line 1"),
+    (DEMO, b"\nCONFIG_A = y\n", None, "7 NotAConfigLine line 2"),
+    (DEMO, b"CONFIG_A=m\n", None, "8 BadValue line 1"),
+    (DEMO, b"", Some(b"#\n#\n\n#\nCONFIG_../x=y\n"), "11 BadAuto line 5"),
+    (DEMO, b"", Some(b"#generation 1"), "11 BadAuto line 1"),
+    (DEMO, b"", Some(b"#typed\n#type S string\nCONFIG_T=x\n"), "11 BadAuto line 2"),
+    (DEMO, b"", Some(b"#generation 18446744073709551615\n"), "42 GenerationFull"),
+    (DEMO, b"CONFIG_A=m\n", Some(b"CONFIG_A\n"), "8 BadValue line 1"),
+    (b"config A\n", b"CONFIG_A=m\n", Some(b"CONFIG_A\n"), "4 NoType line 1"),
+];
+
+#[test]
 fn refusals(rt: HostRuntime) -> Result<(), AllocError> {
     let alloc = rt.alloc();
-    let rows: [(&[u8], &[u8], Option<&[u8]>, &str); 14] = [
-        (b"config A\n\tbool\n\thelp\n", b"", None, "1 NotBare line 3"),
-        (b"config A-B\n\tbool\n", b"", None, "2 BadName line 1"),
-        (b"config FOO_MODULE\n\tbool\n", b"", None, "3 ModuleName line 1"),
-        (b"config A\nconfig B\n\tbool\n", b"", None, "4 NoType line 1"),
-        (b"config A\n\tbool\nconfig A\n\ttristate\n", b"", None, "5 TypeClash line 4"),
-        (b"mainmenu \"a*/b\"\n", b"", None, "6 BadTitle line 1"),
-        (DEMO, b"\nCONFIG_A = y\n", None, "7 NotAConfigLine line 2"),
-        (DEMO, b"CONFIG_A=m\n", None, "8 BadValue line 1"),
-        (DEMO, b"", Some(b"#\n#\n\n#\nCONFIG_../x=y\n"), "11 BadAuto line 5"),
-        (DEMO, b"", Some(b"#generation 1"), "11 BadAuto line 1"),
-        (DEMO, b"", Some(b"#typed\n#type S string\nCONFIG_T=x\n"), "11 BadAuto line 2"),
-        (DEMO, b"", Some(b"#generation 18446744073709551615\n"), "42 GenerationFull"),
-        (DEMO, b"CONFIG_A=m\n", Some(b"CONFIG_A\n"), "8 BadValue line 1"),
-        (b"config A\n", b"CONFIG_A=m\n", Some(b"CONFIG_A\n"), "4 NoType line 1"),
-    ];
-    for (kconfig, dotconfig, old, want) in rows {
+    for &(kconfig, dotconfig, old, want) in REFUSALS {
         let found = outcome(alloc, kconfig, dotconfig, old)?;
         assert!(rt; found.as_str() == want);
     }
@@ -200,35 +202,36 @@ fn diff(
     format!(in alloc; "{status}\n{}", String::from_utf8_lossy(alloc, &out)?)
 }
 
-#[test]
 #[rattlefmt::skip]
+const DIFFERENCES: &[(&str, &[u8], &[u8], Option<&[u8]>, &str)] = &[
+    ("a first one", DEMO, b"CONFIG_A=y\nCONFIG_B=m\n", None, "0\nA n -> y\nB n -> m\n"),
+    ("nothing changed", DEMO, b"CONFIG_A=y\nCONFIG_B=m\n", Some(DEMO_AUTO), "0\n"),
+    ("one vanished, one changed", b"config B\n\ttristate\n", b"CONFIG_A=y\nCONFIG_B=y\n", Some(DEMO_AUTO),
+        "0\nA y -> n\nB m -> y\nunknown A\n"),
+    ("lines about names that are not declared", DEMO, b"CONFIG_C=y\nCONFIG_A=y\n# CONFIG_Z is not set\n# CONFIG_Z was\nCONFIG_C=m\n", None,
+        "0\nA n -> y\nunknown C\nunknown Z\nunknown C\n"),
+    ("a string and a number", b"config S\n\tstring\nconfig H\n\thex\n", b"CONFIG_S=\"a\\\"b\\\\c\"\nCONFIG_H=0X1F\n",
+        Some(b"#typed\n#type H hex\nCONFIG_H=0x1f\n#type S string\nCONFIG_S=\n"),
+        "0\nH 0x1f -> 0X1F\nS \"\" -> \"a\\\"b\\\\c\"\n"),
+    ("a bool that is a string now", b"config S\n\tstring\n", b"CONFIG_S=\"y\"\n", Some(b"#typed\nCONFIG_S=y\n"),
+        "0\nS y -> \"y\" (bool/tristate -> string)\n"),
+    ("a string that is a number now", b"config S\n\tint\n", b"CONFIG_S=7\n", Some(b"#typed\n#type S string\nCONFIG_S=7\n"),
+        "0\nS \"7\" -> 7 (string -> int)\n"),
+    ("over the untyped form", DEMO, b"CONFIG_A=y\n", Some(b"CONFIG_A=y\nCONFIG_B=m\n#generation 1\n"),
+        "0\nA y -> y (untyped -> bool/tristate)\nB m -> n\n"),
+    ("quotes of Kbuild", b"config S\n\tstring\n", b"CONFIG_S=\"a\"\n", Some(b"CONFIG_S=\"a\"\n"),
+        "0\nS \"a\" -> \"a\"\n"),
+    ("a faulty .config", DEMO, b"CONFIG_A=m\n", Some(b"CONFIG_A\n"), "2\nconfstamp: 8 BadValue line 1\n  c:1: CONFIG_A=m\n"),
+    ("a faulty auto.conf", DEMO, b"CONFIG_A=y\n", Some(b"CONFIG_A\n"),
+        "2\nconfstamp: 11 BadAuto line 1\n  include/config/auto.conf:1: CONFIG_A\n"),
+    ("the last generation", DEMO, b"", Some(b"#generation 18446744073709551615\n"), "2\nconfstamp: 42 GenerationFull\n"),
+    ("nothing", b"", b"", None, "0\n"),
+];
+
+#[test]
 fn differences(rt: HostRuntime) -> Result<(), AllocError> {
     let alloc = rt.alloc();
-    let rows: [(&str, &[u8], &[u8], Option<&[u8]>, &str); 13] = [
-        ("a first one", DEMO, b"CONFIG_A=y\nCONFIG_B=m\n", None, "0\nA n -> y\nB n -> m\n"),
-        ("nothing changed", DEMO, b"CONFIG_A=y\nCONFIG_B=m\n", Some(DEMO_AUTO), "0\n"),
-        ("one vanished, one changed", b"config B\n\ttristate\n", b"CONFIG_A=y\nCONFIG_B=y\n", Some(DEMO_AUTO),
-            "0\nA y -> n\nB m -> y\nunknown A\n"),
-        ("lines about names that are not declared", DEMO, b"CONFIG_C=y\nCONFIG_A=y\n# CONFIG_Z is not set\n# CONFIG_Z was\nCONFIG_C=m\n", None,
-            "0\nA n -> y\nunknown C\nunknown Z\nunknown C\n"),
-        ("a string and a number", b"config S\n\tstring\nconfig H\n\thex\n", b"CONFIG_S=\"a\\\"b\\\\c\"\nCONFIG_H=0X1F\n",
-            Some(b"#typed\n#type H hex\nCONFIG_H=0x1f\n#type S string\nCONFIG_S=\n"),
-            "0\nH 0x1f -> 0X1F\nS \"\" -> \"a\\\"b\\\\c\"\n"),
-        ("a bool that is a string now", b"config S\n\tstring\n", b"CONFIG_S=\"y\"\n", Some(b"#typed\nCONFIG_S=y\n"),
-            "0\nS y -> \"y\" (bool/tristate -> string)\n"),
-        ("a string that is a number now", b"config S\n\tint\n", b"CONFIG_S=7\n", Some(b"#typed\n#type S string\nCONFIG_S=7\n"),
-            "0\nS \"7\" -> 7 (string -> int)\n"),
-        ("over the untyped form", DEMO, b"CONFIG_A=y\n", Some(b"CONFIG_A=y\nCONFIG_B=m\n#generation 1\n"),
-            "0\nA y -> y (untyped -> bool/tristate)\nB m -> n\n"),
-        ("quotes of Kbuild", b"config S\n\tstring\n", b"CONFIG_S=\"a\"\n", Some(b"CONFIG_S=\"a\"\n"),
-            "0\nS \"a\" -> \"a\"\n"),
-        ("a faulty .config", DEMO, b"CONFIG_A=m\n", Some(b"CONFIG_A\n"), "2\nconfstamp: 8 BadValue line 1\n  c:1: CONFIG_A=m\n"),
-        ("a faulty auto.conf", DEMO, b"CONFIG_A=y\n", Some(b"CONFIG_A\n"),
-            "2\nconfstamp: 11 BadAuto line 1\n  include/config/auto.conf:1: CONFIG_A\n"),
-        ("the last generation", DEMO, b"", Some(b"#generation 18446744073709551615\n"), "2\nconfstamp: 42 GenerationFull\n"),
-        ("nothing", b"", b"", None, "0\n"),
-    ];
-    for (name, kconfig, dotconfig, auto, want) in rows {
+    for &(name, kconfig, dotconfig, auto, want) in DIFFERENCES {
         let found = diff(alloc, kconfig, dotconfig, auto)?;
         assert!(rt; found.as_str() == want, "{name}: {found}");
     }

@@ -196,11 +196,11 @@ const ROWS: &[Row<'static>] = &[
 ];
 
 fn read<T: Tree>(alloc: Global, tree: &mut T, path: &str) -> Result<String, TreeFault> {
-    let bytes = tree.read(alloc, path.as_bytes())?;
-    let text = bytes
-        .as_ref()
-        .map_or(Ok("none"), |bytes| str::from_utf8(bytes));
-    Ok(String::from_str(alloc, text.unwrap_or("not text"))?)
+    let Some(bytes) = tree.read(alloc, path.as_bytes())? else {
+        return Ok(String::from_str(alloc, "none")?);
+    };
+    let text = str::from_utf8(&bytes).unwrap_or("not text");
+    Ok(String::from_str(alloc, text)?)
 }
 
 fn piece<T: Tree>(
@@ -290,9 +290,11 @@ fn run(rt: &impl Abort, alloc: Global, row: &Row<'_>) -> Result<(), AllocError> 
     let mut disk = ScriptedDisk::new(alloc, row.script);
     disk.put(b"a", b"abcdefgh")?;
     let mut tree = SystemTree::new(disk);
-    for (place, (deed, want)) in row.deeds.iter().enumerate() {
+    let mut place = 0_u64;
+    for (deed, want) in row.deeds {
         let got = answer(alloc, &mut tree, *deed)?;
         assert_eq!(rt; got.as_str(), *want, "{name}, deed {place}");
+        place = place.saturating_add(1);
     }
     assert_eq!(rt; failures_of(&mut tree), row.failures, "{name}");
     let disk = tree.into_system();

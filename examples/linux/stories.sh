@@ -519,8 +519,8 @@ nearly_full_disk() {
     cd linux
     make_all
     ended=
-    free=8
-    while [ "$free" -le 200 ]; do
+    free=$DISK_FROM
+    while [ "$free" -le "$DISK_TO" ]; do
         label="a disk with $free KiB free"
         one_full_disk "$work/config$([ $((free / DISK_STEP % 2)) = 1 ] && echo -14)"
         free=$((free + DISK_STEP))
@@ -528,10 +528,10 @@ nearly_full_disk() {
     cd "$work"
     umount linux
     label='a disk that is nearly full'
-    say "$label, 8 to 200 KiB by $DISK_STEP: .config stays whole, and the next make is right; make syncconfig ended well with" \
+    say "$label, $DISK_FROM to $DISK_TO KiB by $DISK_STEP: .config stays whole, and the next make is right; make syncconfig ended well with" \
         "${ended:-none of these}"
 }
-DISK_STEP=${DISK_STEP:-8}
+DISK_FROM=${DISK_FROM:-8} DISK_TO=${DISK_TO:-200} DISK_STEP=${DISK_STEP:-8}
 
 # one_full_disk CONFIG: it is to be taken over, with a value that the kernel's tool puts right in .config.
 one_full_disk() {

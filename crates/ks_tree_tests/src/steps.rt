@@ -29,11 +29,11 @@ pub(crate) fn name(alloc: Global, text: &str) -> Result<Name, AllocError> {
 }
 
 fn read<T: Tree>(alloc: Global, tree: &mut T, path: &str) -> Result<String, TreeFault> {
-    let bytes = tree.read(alloc, path.as_bytes())?;
-    let text = bytes
-        .as_ref()
-        .map_or(Ok("none"), |bytes| str::from_utf8(bytes));
-    Ok(String::from_str(alloc, text.unwrap_or("not text"))?)
+    let Some(bytes) = tree.read(alloc, path.as_bytes())? else {
+        return Ok(String::from_str(alloc, "none")?);
+    };
+    let text = str::from_utf8(&bytes).unwrap_or("not text");
+    Ok(String::from_str(alloc, text)?)
 }
 
 fn piece<T: Tree>(
@@ -126,9 +126,11 @@ pub(crate) fn run<T: Tree>(
     tree: &mut T,
     steps: &[(Step<'_>, &str)],
 ) -> Result<(), AllocError> {
-    for (place, (step, want)) in steps.iter().enumerate() {
+    let mut place = 0_u64;
+    for (step, want) in steps {
         let got = answer(alloc, tree, *step)?;
         assert_eq!(rt; got.as_str(), *want, "step {place}");
+        place = place.saturating_add(1);
     }
     Ok(())
 }

@@ -2,6 +2,7 @@
 use Rattle.ks_commands.proofs.Prelude.{subst₂, Ending, Refusal, ◌≡◌, ◌++◌, ◌<◌, ◌||◌, ◌∙◌, ℕ, Bool, true, false, List, [], ◌∷◌, Option, Some, None, Result, Ok, Err, ap, inl, inr, refl, sym, subst, cond, max, append-nil, append_assoc, arith, common_steps, true≢false, bytes_eq, bytes_eq-Decides, is_in, Files, EngineError, Explanation, History, LastRecord, Shows, IsAnswerOn, answer_in, code_of, explanation_status, status_unless_refused, rules}
 use Rattle.std.proofs.Common.{find}
 use Rattle.std.proofs.lemmas.List.Folds.{list_any-append}
+use Rattle.ks_engine.proofs.Asking.{stale_judged}
 use Rattle.ks_engine.specs.declared.aging.Ages.{Ages}
 use Rattle.ks_engine.specs.declared.error.EngineError.TheVariants.{Device}
 use Rattle.ks_engine.specs.declared.question.Limit.TheVariants.{First}
@@ -111,7 +112,8 @@ one_aged which files h o x (Err e) old new shows touched small is aged = absurd 
 one_aged which files h o x (Ok e) old new shows touched small is aged =
     let among = suspect_found h o x touched in
     let r = recorded h o x among in
-    let stale : ages which e.verdict ≡ true = search (rules, ages_found) in
+    let judged = stale_judged files h o r.0 (Ok e.verdict) is shows r.1 in
+    let stale : ages which e.verdict ≡ true = search (rules, ages_found, judged) in
     rw aged (list_any-append (bytes_eq o) old (aged_by which o e.verdict) ∙ grind (arith, common_steps, stale, (bytes_eq-Decides o o)))
 
 touched_aged : (which : Ages) (files : Files) (h : History) (objects : List (List ℕ)) (text : List ℕ) (status : ℕ) (old new : List (List ℕ)) (o x : List ℕ)

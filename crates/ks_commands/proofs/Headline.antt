@@ -1,5 +1,8 @@
 -- What scripts and runs of the program tell: no synchronisation was broken off before one of them where none was at the end.
-use Rattle.ks_commands.proofs.Prelude.{IsAnswerAfter, IsAnswerOn, IsExplanationOn, IsJudged, IsShown, IsStateOf, filter_agree, Dialect, ◌≡◌, ◌<◌, ℕ, List, [], ◌∷◌, Some, Result, Ok, Err, IfOk, IsTrue, inl, inr, subst, filter, map, fold, max, arith, All, is_command, All-nil, All-cons, Reply, Verdict, Refused, EngineError, Explanation, BuildState, Report, Action, Sync, Stale, TreeState, FollowsSync, FollowsRecordUnder, FollowsDepfile, FollowsStamps, Stamps, Conventions, History, LastRecord, NoneBroken, last_record, Leads, Leaves, Step, changed_since, found, suspect_since, IsGivenUpSync, suspect_since-changed_since, Request, Ending, reply_status, targets_at, BatchTellsChanges, ProgramsTellChanges, Continues, Runs, not_counted, Chain, ProgramRun, ProgramTellsChanges, StepsTellChanges, TellsAfter, TellsBuild, TellsCauses, TellsChange, spelling_of, KconfigText, read_in, rules}
+use Rattle.ks_commands.proofs.Prelude.{IsAnswerAfter, IsAnswerOn, IsExplanationOn, IsJudged, IsShown, IsStateOn, filter_agree, Dialect, ◌≡◌, ◌<◌, ℕ, List, [], ◌∷◌, Some, Result, Ok, Err, IfOk, IsTrue, inl, inr, subst, filter, map, fold, max, arith, All, is_command, All-nil, All-cons, Reply, Verdict, Refused, EngineError, Explanation, BuildState, Report, Action, Sync, Stale, TreeState, FollowsSync, FollowsRecordUnder, FollowsDepfile, FollowsStamps, Stamps, Conventions, History, LastRecord, NoneBroken, last_record, Leads, Leaves, Step, changed_since, found, suspect_since, IsGivenUpSync, suspect_since-changed_since, Request, Ending, reply_status, targets_at, BatchTellsChanges, ProgramsTellChanges, Continues, Runs, not_counted, Chain, ProgramRun, ProgramTellsChanges, StepsTellChanges, TellsAfter, TellsBuild, TellsCauses, TellsChange, spelling_of, KconfigText, read_in, rules}
+use Rattle.ks_engine.proofs.Asking.{build_judged, stale_judged}
+use Rattle.ks_engine.proofs.Explanations.{explanation_judged}
+use Rattle.ks_engine.proofs.Foreseeing.{impact_judged}
 use Rattle.ks_engine.specs.declared.recording.Recorded.{Recorded as RecordAnswer}
 use Rattle.ks_engine.specs.declared.staleness.Verdict.{Verdict as VerdictValue}
 use Rattle.ks_engine.specs.History.{Synced as Past}
@@ -68,11 +71,11 @@ one_record : (h : History) (o : List ℕ) (r w : LastRecord) → last_record h o
 one_record h o r w a b = cc
 
 build_tells : (old : TreeState) (o command : List ℕ) (answer : Result BuildState EngineError) → IsShown old → NoneBroken old.history
-    → IsStateOf old.files o command answer → IsTrue (is_command command) → TellsBuild old o command answer
+    → IsStateOn old.files o command answer → IsTrue (is_command command) → TellsBuild old o command answer
 build_tells old o command answer shown none is legal = record {
-  differs = λ r was other. (is.recorded legal old.history r shown was).differs other;
+  differs = λ r was other. (build_judged old.files old.history o command r answer is legal shown was).differs other;
   same = λ r was alike.
-      let found = (is.recorded legal old.history r shown was).same alike in
+      let found = (build_judged old.files old.history o command r answer is legal shown was).same alike in
       (found.0, found.1, judged_tells old o found.0 none (λ w last. subst (λ v. IsJudged old.files old.history o v found.0) (one_record old.history o r w was last) found.2));
 }
 
@@ -85,19 +88,19 @@ program_tells : (dialect : Dialect) (r : Request) (ended : Ending) (old new : Tr
 program_tells dialect (request.Stale ts f) ended old new shown none later is = (
   is.0,
   verdicts_weaker f (IsAnswerOn old.files) (TellsChange old) not_counted (targets_at old.files ts) ended
-      (λ o answer is. judged_tells old o answer none (λ r was. is.recorded old.history r shown was)) is.1,
+      (λ o answer is. judged_tells old o answer none (λ r was. stale_judged old.files old.history o r answer is shown was)) is.1,
 )
 program_tells dialect (request.Age which ts) ended old new shown none later is = (
   is.0,
   verdicts_weaker Text (IsAnswerOn old.files) (TellsChange old) not_counted (targets_at old.files ts) ended
-      (λ o answer is. judged_tells old o answer none (λ r was. is.recorded old.history r shown was)) is.1,
+      (λ o answer is. judged_tells old o answer none (λ r was. stale_judged old.files old.history o r answer is shown was)) is.1,
 )
 program_tells dialect (request.Why ts f) ended old new shown none later is = (
   is.0,
   answers_weaker f Every (spelling_of old.files) (IsExplanationOn old.files) (TellsCauses old) not_counted (targets_at old.files ts) ended
       (λ o answer is. record {
-        tells = judged_tells old o (told answer) none (λ r was. (is.recorded old.history r shown was).judged);
-        causes = λ r was. causes_changed old o answer none (is.recorded old.history r shown was).suspects;
+        tells = judged_tells old o (told answer) none (λ r was. (explanation_judged old.files old.history o r answer is.by_files shown was).judged);
+        causes = λ r was. causes_changed old o answer none (explanation_judged old.files old.history o r answer is.by_files shown was).suspects;
       }) is.1,
 )
 program_tells dialect (request.Impact k d ts f) ended old new shown none later is = (
@@ -105,7 +108,7 @@ program_tells dialect (request.Impact k d ts f) ended old new shown none later i
   impact_weaker dialect old.files (λ k. IsAnswerAfter old.files (read_in dialect k)) (λ k. TellsAfter old (read_in dialect k)) _ _ f
       (targets_at old.files ts) ended (λ k d o answer is after report synced.
       judged_tells (at after old.failures (Past synced.plan.title synced.plan.config old.history)) o answer none
-      (λ r was. is.recorded after report synced old.history r shown was)) is.1,
+      (λ r was. impact_judged old.files (read_in dialect k) d o answer is after report synced old.history r shown was)) is.1,
 )
 program_tells dialect asked ended old new shown none later is = search (rules, build_tells, steps_tell)
 

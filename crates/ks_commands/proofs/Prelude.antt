@@ -1,5 +1,5 @@
 -- What the proofs of this crate import: one name for each thing.
-pub use Rattle.ks_engine.proofs.Prelude.{Action, All, All-append, All-cons, All-nil, All-weaker, AreChanges, AreCosts, AreTallies, Bool, CommandRecord, Configuration, Err, FileRun, FileState, Files, FollowsDepfile, FollowsRecord, FollowsRecordUnder, FollowsSync, HasRisen, History, IfErr, IfOk, IsAnswerAfter, IsAnswerOn, IsAnswerTo, IsBinarySearchResult, IsExplanationOn, IsGivenUp, IsGivenUpAnswer, IsGivenUpSync, IsImpactOf, IsMemoOf, IsPermutation-map, IsRefusal, IsSearchInRange, IsShown, IsSortedByKey, IsSyncPlan, IsSynced, IsTrue, KconfigText, LastRecord, Leads, Leaves, List, None, NoneBroken, Ok, OldAuto, OnOk, Option, Plan, Result, Run, SameBut, Shows, Some, Sources, Step, Sync, Texts, TreeState, [], action, all_noted, and_parts, and_then, ap, append-nil, append_assoc, ap₂, arith, at, auto_path, borrowed_view, bytes_eq, bytes_eq-Decides, cases_lt, changed_since, command_file, common_steps, cond, config_names, content, cost_of, count_by, declared, differs, drop, drop-cons, err_from_is_err_and, false, filter-append, followed, found, get_or, inl, inr, is_command, is_eq, is_eq-slice_cmp, is_in, is_name, is_ok, is_some, kconfig_refusal, last_record, length, length-append, length-map, limit_of, list_any_at, lt-ltb, map, map-append, names_by, names_placed, of_source, old_auto, one_if, option_map, or_else, placed, plan_over, prerequisites_without, read_in, refl, refusal_without, rules, rules_for, scanned_all, searchable_from_sorted, seen_cost, seen_dep, slice_cmp, state, string_bytes, subst, subst₂, sum_by-cons, suspect_since, sym, take, take_all, take_more, tallies_of, told, true, true≢false, unknown_count, ℕ, ⊎_elim, ⊤, ◌++◌, ◌+◌, ◌<◌, ◌||◌, ◌∙◌, ◌∷◌, ◌≡◌, ◌≢◌, ◌≤◌, ◌⊎◌}
+pub use Rattle.ks_engine.proofs.Prelude.{Action, All, All-append, All-cons, All-nil, All-weaker, AreChanges, AreCosts, AreTallies, Bool, CommandRecord, Configuration, Err, FileRun, FileState, Files, FollowsDepfile, FollowsRecord, FollowsRecordUnder, FollowsSync, HasRisen, History, IfErr, IfOk, IsAnswerAfter, IsAnswerOn, IsAnswerTo, IsBinarySearchResult, IsExplanationOn, IsGivenUp, IsGivenUpAnswer, IsGivenUpSync, IsImpactOf, IsMemoOf, IsPermutation-map, IsRefusal, IsSearchInRange, IsShown, IsSortedByKey, IsStateOn, IsSyncPlan, IsSynced, IsTrue, KconfigText, LastRecord, Leads, Leaves, List, None, NoneBroken, Ok, OldAuto, OnOk, Option, Plan, Result, Run, SameBut, Shows, Some, Sources, Step, Sync, Texts, TreeState, [], action, all_noted, and_parts, and_then, ap, append-nil, append_assoc, ap₂, arith, at, auto_path, borrowed_view, bytes_eq, bytes_eq-Decides, cases_lt, changed_since, command_file, common_steps, cond, config_names, content, cost_of, count_by, declared, differs, drop, drop-cons, err_from_is_err_and, false, filter-append, followed, found, get_or, inl, inr, is_command, is_eq, is_eq-slice_cmp, is_in, is_name, is_ok, is_some, kconfig_refusal, last_record, length, length-append, length-map, limit_of, list_any_at, lt-ltb, map, map-append, names_by, names_placed, of_source, old_auto, one_if, option_map, or_else, placed, plan_over, prerequisites_without, read_in, refl, refusal_without, rules, rules_for, scanned_all, searchable_from_sorted, seen_cost, seen_dep, slice_cmp, state, string_bytes, subst, subst₂, sum_by-cons, suspect_since, sym, take, take_all, take_more, tallies_of, told, true, true≢false, unknown_count, ℕ, ⊎_elim, ⊤, ◌++◌, ◌+◌, ◌<◌, ◌||◌, ◌∙◌, ◌∷◌, ◌≡◌, ◌≢◌, ◌≤◌, ◌⊎◌}
 pub use Rattle.ks_requests.proofs.Prelude.{Bor, Ending, IsSiteLine, IsUnknown, Line, Site, TellsUnknown, answer_in, answer_line, code_of, cost_line, excerpt_at, explanation_status, file_of, flat_map, flat_map-append, fold-append, given, given_if_named, lines, map_more, max, reply_lines, reply_status, seen_inputs, seen_line, seen_site, seen_texts, site_of, stale_among, statement, status_unless_refused, symbols_of, targets_at, unknown_in, unknown_line, unknown_names, use_line, with_file, words_of}
 unfoldable pub use Rattle.ks_requests.proofs.Prelude.{unknown_lines}
 pub use Rattle.ks_symbols.proofs.Prelude.{All-from_get_or, IsSome, Statement, YieldsList-from_slice_split, bytes_decides, flat_map-map, fold, fun_ext, is_of_unknown, list_any-IsPermutation, list_any_none, lit≤, map_from_collect, min_comm, nat_cmp, sum_by-append, take-map, take_min, tests, ◌↔◌}
@@ -48,7 +48,7 @@ unfoldable pub use Rattle.ks_commands.specs.Fixdep.{command_file_at}
 pub use Rattle.ks_commands.specs.Histories.{Continues, FollowsStamps, Runs}
 pub use Rattle.ks_commands.specs.Kept.{AreGiven, AreKept, IsKept}
 pub use Rattle.ks_commands.specs.Laws.{BatchTellsChanges, PreviewsArePerformed, ProgramsTellChanges, RefusalsChangeNothing, RequestsGoOn, StatusesAreAtMostTwo, StatusesTellDifferences}
-pub use Rattle.ks_commands.specs.Performed.{ReadsCounted, AsksCounted, Ends, EndsAll, EndsImpact, IsCounted, IsStateOf, Performs, RunsAll, RunsCounted, RunsOn, Says, SaysLines, TellsAll, TellsAnswer, TellsCounted, TellsVerdict, by_files, count_of, not_counted}
+pub use Rattle.ks_commands.specs.Performed.{ReadsCounted, AsksCounted, Ends, EndsAll, EndsImpact, IsCounted, Performs, RunsAll, RunsCounted, RunsOn, Says, SaysLines, TellsAll, TellsAnswer, TellsCounted, TellsVerdict, by_files, count_of, not_counted}
 pub use Rattle.ks_commands.specs.Programs.{Chain, ProgramRun, ProgramTellsChanges, StepsTellChanges, TellsAfter, TellsBuild, TellsCauses, TellsChange}
 pub use Rattle.ks_commands.specs.Questions.{IsSpelled, LineCounted, counted_of, tells_of}
 pub use Rattle.ks_commands.specs.Readings.{records_in, record_in, ReadsTargets, ReadsOne, ReadsAll, HasCosts, Adds}

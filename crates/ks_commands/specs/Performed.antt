@@ -1,7 +1,7 @@
 -- What each request comes to, by the files of a tree.
-use Rattle.std.specs.Prelude.{◌≡◌, ◌⊎◌, ◌≤◌, ◌++◌, ℕ, List, [], ◌∷◌, Option, Result, Ok, Err, map, flat_map, option_map, string_bytes, length, Some, None, IfOk, IsTrue, ⊤}
+use Rattle.std.specs.Prelude.{◌≡◌, ◌⊎◌, ◌≤◌, ◌++◌, ℕ, List, [], ◌∷◌, Option, Result, Ok, Err, map, flat_map, option_map, string_bytes, length, Some, None, IfOk, ⊤}
 use Rattle.std.specs.List.{All}
-use Rattle.ks_fixdep.specs.CommandFile.{CommandRecord, is_command}
+use Rattle.ks_fixdep.specs.CommandFile.{CommandRecord}
 use Rattle.ks_fixdep.specs.FoundNames.{all_noted}
 use Rattle.ks_fixdep.specs.declared.dependency_file.Header.{Header}
 use Rattle.ks_symbols.specs.declared.dialect.Dialect.{Dialect}
@@ -21,16 +21,13 @@ use Rattle.ks_engine.specs.declared.staleness.BuildState.{BuildState}
 use Rattle.ks_engine.specs.declared.staleness.Verdict.{Verdict}
 use Rattle.ks_engine.specs.Actions.{Action}
 use Rattle.ks_engine.specs.Asked.{told}
-use Rattle.ks_engine.specs.BuildStates.{build_asked, IsBuildState}
+use Rattle.ks_engine.specs.BuildStates.{IsStateOn}
 use Rattle.ks_engine.specs.Depfile.{ruled_by}
 use Rattle.ks_engine.specs.Explained.{IsExplanationOn}
 use Rattle.ks_engine.specs.Follows.{at}
-use Rattle.ks_engine.specs.History.{History, LastRecord, last_record}
 use Rattle.ks_engine.specs.Impact.{IsAnswerAfter}
-use Rattle.ks_engine.specs.Judged.{IsBuildJudged}
-use Rattle.ks_engine.specs.Refusals.{Answers, IsGivenUpAnswer, IsGivenUp}
+use Rattle.ks_engine.specs.Refusals.{Answers, IsGivenUp}
 use Rattle.ks_engine.specs.FileRuns.{FileState, FileRun, IsAnswerOn, LeavesRecord, state}
-use Rattle.ks_engine.specs.Shows.{Shows}
 use Rattle.ks_engine.specs.SyncPlan.{IsSyncPlan}
 use Rattle.ks_engine.specs.Synchronised.{IsSynced}
 use Rattle.ks_requests.specs.declared.refusal.Refusal.TheVariants.{Engine}
@@ -208,11 +205,6 @@ Ends files effects (Cost top targets) ended = effects.same × EndsCost files top
 
 -- ---- what the calls of the engine leave
 
-pub record IsStateOf (files : Files) (o command : List ℕ) (answer : Result BuildState EngineError) : Type 0 where
-  pub by_files : IsGivenUpAnswer answer ⊎ IsBuildState files (build_asked files o command) answer
-  pub recorded : IsTrue (is_command command) → (h : History) (r : LastRecord)
-      → Shows files h → last_record h o ≡ Some r → IsBuildJudged files h o command r answer
-
 -- The files of a script are read before its run begins.
 pub record RunsOn (dialect : Dialect) (honest : Type 0) (old new : FileState) (actions : List Action) (replies : List Reply) : Type 0 where
   pub first : FileState
@@ -230,7 +222,7 @@ by_files dialect old new = record {
   stale = IsAnswerOn old.files;
   why = IsExplanationOn old.files;
   impact = λ k. IsAnswerAfter old.files (read_in dialect k);
-  outdated = IsStateOf old.files;
+  outdated = IsStateOn old.files;
   run = RunsOn dialect ⊤ old new;
 }
 

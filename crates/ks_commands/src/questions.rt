@@ -6,6 +6,7 @@ ghost use Rattle.std.specs.Prelude.{◌≡◌, ◌⊎◌, ◌≤◌, ◌++◌, �
 ghost use Rattle.ks_symbols.specs.Dialects.{read_in};
 ghost use Rattle.ks_tree.specs.Files.{HasRisen};
 ghost use Rattle.ks_tree.specs.Frames.{Reads};
+ghost use Rattle.ks_engine.specs.BuildStates.{IsStateOn};
 ghost use Rattle.ks_engine.specs.Impact.{IsAnswerAfter};
 ghost use Rattle.ks_engine.specs.FileRuns.{state};
 ghost use Rattle.ks_engine.specs.Questions.{IsAnswerTo, limit_of};
@@ -17,7 +18,7 @@ ghost use Rattle.ks_requests.specs.JsonLines.{answer_in};
 ghost use Rattle.ks_requests.specs.Replies.{build_line};
 ghost use Rattle.ks_requests.specs.Statuses.{code_of, explanation_status, status_unless_refused};
 ghost use Rattle.ks_requests.specs.Targets.{targets_at};
-ghost use Rattle.ks_commands.specs.Performed.{AsksCounted, EndsAll, EndsImpact, EndsOutdated, IsStateOf, Says, SaysLines, TellsAll, TellsCounted};
+ghost use Rattle.ks_commands.specs.Performed.{AsksCounted, EndsAll, EndsImpact, EndsOutdated, Says, SaysLines, TellsAll, TellsCounted};
 ghost use Rattle.ks_commands.specs.Questions.{IsSpelled, LineCounted, counted_of, tells_of};
 ghost use Rattle.ks_commands.specs.Spelling.{IsLine, spelling_of, spelling_told};
 
@@ -221,7 +222,7 @@ pub(crate) fn outdated_target<T: Tree>(
     command: &[u8],
 ) -> Result<Outcome, Refusal>
     ensures reads { Reads T.Tree tree.old tree.new ⊥ }
-    ensures told { T.is_honest → EndsOutdated (IsStateOf (T.files tree.old)) target.now command.now result }
+    ensures told { T.is_honest → EndsOutdated (IsStateOn (T.files tree.old)) target.now command.now result }
     ensures counted { IfOk result (λ o.
         TellsCounted (SaysLines build_line) (T.failures tree.old) (target.now ∷ []) o.text.items (T.failures tree.new)) }
     ensures no_device { result ≡ Err (Engine Device) → ⊥ }

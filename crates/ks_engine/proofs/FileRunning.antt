@@ -1,7 +1,10 @@
 -- A run by the files goes on by one command; and each history that its first files show goes on with it.
-use Rattle.ks_engine.proofs.Prelude.{◌≡◌, ℕ, ◌+◌, ◌<◌, List, [], ◌∷◌, ◌++◌, refl, subst, Ok, Err, map, take, length, get_or, ⊤, take_more, map-append, Action, Dialect, Sync, Record, action, Command, Reply, Refused, FileState, LeavesFiles, StepsTo, FileRun, TreeState, at, History, Leaves, Run, Shows, read_in, arith, common_steps, rules}
+use Rattle.ks_engine.proofs.Prelude.{◌≡◌, ℕ, ◌+◌, ◌<◌, List, [], ◌∷◌, ◌++◌, refl, sym, subst, Ok, Err, map, take, length, get_or, ⊤, take_more, map-append, Action, Dialect, Sync, Record, action, Command, Reply, Refused, FileState, Files, Result, EngineError, IsAnswerOn, LeavesFiles, StepsTo, FileRun, TreeState, at, History, Leaves, Run, Shows, read_in, arith, common_steps, rules}
 use Rattle.ks_engine.specs.Actions.{Stale}
-use Rattle.ks_engine.specs.declared.commands.Reply.TheVariants.{Synced, Recorded}
+use Rattle.ks_engine.specs.declared.commands.Reply.TheVariants.{Synced, Recorded, Verdict}
+use Rattle.ks_engine.specs.declared.staleness.Verdict.{Verdict as VerdictValue}
+use Rattle.ks_engine.specs.Runs.{FollowsStale}
+use Rattle.ks_engine.proofs.Asking.{stale_judged}
 use Rattle.ks_engine.proofs.Following.{sync_follows}
 use Rattle.ks_engine.proofs.RecordSteps.{record_follows}
 use Rattle.ks_engine.proofs.Running.{no_steps, step_first}
@@ -34,13 +37,23 @@ on_honest dialect honest first acts rs last is run = absurd run
 abbrev with : FileState → History → TreeState
 with s h = at s.files s.failures h
 
+stale_goes_on : (old : FileState) (o : List ℕ) (answer : Result VerdictValue EngineError) (new : FileState) (h : History) → Shows old.files h
+    → (new.files ≡ old.files) × IsAnswerOn old.files o answer
+    → (next : History) × FollowsStale (with old h) o answer (with new next) × Shows new.files next
+stale_goes_on old o answer new h shows (same, is) = (
+  h,
+  record { same = (same, refl); by_files = is; recorded = λ r last. stale_judged old.files h o r answer is shows last },
+  subst (λ (f : Files). Shows f h) (sym same) shows,
+)
+
 step_goes_on : (dialect : Dialect) (old : FileState) (a : Action) (r : Reply) (new : FileState) (h : History) → Shows old.files h → LeavesFiles dialect old.files a r new.files
     → (next : History) × Leaves dialect (with old h) a r (with new next) × Shows new.files next
 step_goes_on dialect old (Sync k d) (Synced report) new h shows is = sync_follows old.files new.files old.failures new.failures h (read_in dialect k) d (Ok report) shows is tt
 step_goes_on dialect old (Sync k d) (Refused e) new h shows is = sync_follows old.files new.files old.failures new.failures h (read_in dialect k) d (Err e) shows tt is
 step_goes_on dialect old (Record d t c) (Recorded answer) new h shows is = search (rules, record_follows)
 step_goes_on dialect old (Record d t c) (Refused e) new h shows is = record_follows dialect old.files new.files old.failures new.failures h d t c (Err e) shows tt is
-step_goes_on dialect old (Stale o) (Refused e) new h shows is = search rules
+step_goes_on dialect old (Stale o) (Verdict v) new h shows is = stale_goes_on old o (Ok v) new h shows is
+step_goes_on dialect old (Stale o) (Refused e) new h shows is = stale_goes_on old o (Err e) new h shows is
 step_goes_on dialect old a r new h shows is = search rules
 
 pub goes_on : (dialect : Dialect) (honest : Type 0) (first : FileState) (acts : List Action) (rs : List Reply) (last : FileState) (h : History) → honest → Shows first.files h

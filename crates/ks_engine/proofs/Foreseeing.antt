@@ -1,11 +1,10 @@
 -- The tree that a synchronisation would leave, what is answered over it, and a name among rising ones.
-use Rattle.ks_engine.proofs.Prelude.{list_any_none, exact_bytes, ◌≡◌, ◌⊎◌, inr, ℕ, ◌+◌, ◌<◌, ◌^◌, List, [], ◌∷◌, Option, Some, Result, Ok, Err, true, false, sym, ◌∙◌, refl, arith, length, get_or, IsTrue, bytes_eq, nat_cmp, Less-from_sorted, is_eq-slice_cmp, or_left, or_right, false_from_ne_true, searchable_from_sorted, bytes_eq-Decides, tied_itself, slice_cmp, nat_list_cmp_total, insert, get-insert, IsStrictlySortedBy, IsSearchInRange, IsBinarySearchResult, is_ok, Ordering, Equal, is_name, is_in, header_path, auto_text, header_text, Files, content, SameBut, SameButBoth, auto_path, auto_temporary, stamp_path, Stamp, stamp_text, Touches, EngineError, Impact, Explanation, Planned, Question, Stale, Why, After, Verdict, Report, IsGivenUpAnswer, OldAuto, old_auto, Plan, AreLegalChanges, SyncDone, IsSynced, asked, IsAnswer, IsExplained, IsPlanned, IsImpactOf, IsAfter, IsAnswerAfter, IsAnswerTo, IsSeen, limit_of, KconfigText, rules, generation_fits, list_any_at, both_ways, ⊎_elim, cases_Bool}
+use Rattle.ks_engine.proofs.Prelude.{list_any_none, exact_bytes, ◌≡◌, ◌⊎◌, inr, ℕ, ◌+◌, ◌<◌, ◌^◌, List, [], ◌∷◌, Option, Some, Result, Ok, Err, true, false, sym, ◌∙◌, refl, arith, length, get_or, IsTrue, bytes_eq, nat_cmp, Less-from_sorted, is_eq-slice_cmp, or_left, or_right, false_from_ne_true, searchable_from_sorted, bytes_eq-Decides, tied_itself, slice_cmp, nat_list_cmp_total, insert, get-insert, IsStrictlySortedBy, IsSearchInRange, IsBinarySearchResult, is_ok, Ordering, Equal, is_name, is_in, header_path, auto_text, header_text, Files, content, SameBut, SameButBoth, auto_path, auto_temporary, stamp_path, Stamp, stamp_text, Touches, EngineError, Impact, Explanation, Planned, Question, Stale, Why, After, Verdict, Report, IsGivenUpAnswer, OldAuto, old_auto, Plan, AreLegalChanges, SyncDone, IsSynced, asked, IsAnswer, IsExplained, IsPlanned, IsImpactOf, IsAfter, IsAnswerAfter, IsAnswerOn, IsAnswerTo, JudgesAfter, IsSeen, limit_of, KconfigText, rules, generation_fits, list_any_at, both_ways, ⊎_elim, cases_Bool}
 use Rattle.ks_engine.proofs.LowerLaws.{generation_back, accepted, apart}
 use Rattle.ks_engine.proofs.Reading.{last_some, ok_ok}
 use Rattle.ks_engine.proofs.Writes.{finished, header_stays}
 use Rattle.ks_engine.proofs.Steps.{plan_stands, plan_facts, command_kept, synced_shows}
 use Rattle.ks_engine.proofs.Asking.{stale_judged, told_answered, verdict_answered}
-use Rattle.ks_engine.proofs.Explanations.{explanation_judged}
 use Rattle.ks_engine.proofs.Beginnings.{one_plan}
 
 -- ---- a name among rising ones
@@ -109,18 +108,18 @@ is_after files after k d impact report told synced =
 
 -- ---- what a question is answered
 
--- What is answered over all that stands so is answered, and judged, over each tree that it leaves.
+-- What is answered over all that stands so is answered over each tree that it leaves.
 after_sync : (files : Files) (k : KconfigText) (d o : List ℕ) (impact : Impact) (answer : Result Verdict EngineError)
-    → ((after : Files) → IsAfter files after impact.report → IsGivenUpAnswer answer ⊎ IsAnswer after (asked after o) answer) → IsImpactOf files k d impact
-    → IsAnswerAfter files k d o answer
-after_sync files k d o impact answer said told = record {
-  by_files = λ after report synced. said after (is_after files after k d impact report told synced);
-  recorded = λ after report synced h r shows last.
-      let by = said after (is_after files after k d impact report told synced) in search (rules, stale_judged, synced_shows, plan_facts, by);
-}
+    → ((after : Files) → IsAfter files after impact.report → IsAnswerOn after o answer) → IsImpactOf files k d impact → IsAnswerAfter files k d o answer
+after_sync files k d o impact answer said told = λ after report synced. said after (is_after files after k d impact report told synced)
+
+pub impact_judged : (files : Files) (k : KconfigText) (d o : List ℕ) (answer : Result Verdict EngineError) → IsAnswerAfter files k d o answer
+    → JudgesAfter files k d o answer
+impact_judged files k d o answer said = λ after report synced h r shows last.
+    let by = said after report synced in search (rules, stale_judged, synced_shows, plan_facts, by)
 
 pub answers_to : (q : Question) (files : Files) (o : List ℕ) (answer : Result Explanation EngineError)
     → ((after : Files) → IsSeen q files after → IsGivenUpAnswer answer ⊎ IsExplained (limit_of q) after o answer) → IsAnswerTo q files o answer
-answers_to Stale files o answer said = search (rules, told_answered, stale_judged)
-answers_to Why files o answer said = search (rules, verdict_answered, explanation_judged)
+answers_to Stale files o answer said = search (rules, told_answered)
+answers_to Why files o answer said = search (rules, verdict_answered)
 answers_to (After impact) files o answer said = search (rules, after_sync, told_answered)

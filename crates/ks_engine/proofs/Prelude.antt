@@ -32,7 +32,7 @@ pub use Rattle.ks_tree.specs.declared.fault.TreeFault.{TreeFault}
 pub use Rattle.ks_engine.specs.Actions.{Action, Record, Sync, action}
 pub use Rattle.ks_engine.specs.Asked.{Asked, AtOnce, ByStamps, IsAnswer, IsExplained, IsExplainedBy, asked_of, asked_since, command_file, listed, told, verdict_by}
 unfoldable pub use Rattle.ks_engine.specs.Asked.{asked}
-pub use Rattle.ks_engine.specs.BuildStates.{Asks, BuildAsked, IsBuildState, build_asked_of, judged}
+pub use Rattle.ks_engine.specs.BuildStates.{Asks, BuildAsked, IsBuildState, IsStateOn, build_asked_of, judged}
 unfoldable pub use Rattle.ks_engine.specs.BuildStates.{build_asked}
 pub use Rattle.ks_engine.specs.Causes.{AreCauses, AreEnough, AreTooFew, EndsAt, IsByStamps, cause, names_placed, placed, verdict_of}
 pub use Rattle.ks_engine.specs.Costs.{AreCosts, AreOnce, AreTallies, IsTally, by_cost, cost_of, counted, number_in, one_if, seen_cost, tallies_of, tally_cost, tally_pairs}
@@ -43,7 +43,7 @@ pub use Rattle.ks_engine.specs.Explained.{IsExplanationJudged, IsExplanationOn, 
 pub use Rattle.ks_engine.specs.FileRuns.{FileRun, FileState, IsAnswerOn, LeavesFiles, StepsTo, state}
 pub use Rattle.ks_engine.specs.Follows.{FollowsRecordedUnder, FollowsRecord, FollowsRecordUnder, FollowsSync, IsRecordEvent, TreeState, at}
 pub use Rattle.ks_engine.specs.History.{Begun, Broken, History, LastRecord, NoneBroken, Recorded, Synced, WasSynced, before, done, last_record}
-pub use Rattle.ks_engine.specs.Impact.{IsAfter, IsAnswerAfter, IsImpactOf}
+pub use Rattle.ks_engine.specs.Impact.{IsAfter, IsAnswerAfter, IsImpactOf, JudgesAfter}
 pub use Rattle.ks_engine.specs.Judged.{HasSameDefinitions, IsBuildJudged, IsJudged}
 pub use Rattle.ks_engine.specs.LastSync.{OldAuto, last_generation, read_unless, synced_at}
 unfoldable pub use Rattle.ks_engine.specs.LastSync.{old_auto}

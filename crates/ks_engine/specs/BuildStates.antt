@@ -1,5 +1,5 @@
 -- Whether an object was built by a command, by the files.
-use Rattle.std.specs.Prelude.{◌≡◌, ℕ, List, Option, Some, Result, Ok, Err, if◌then◌else◌, bytes_eq}
+use Rattle.std.specs.Prelude.{◌≡◌, ◌⊎◌, ℕ, List, Option, Some, Result, Ok, Err, if◌then◌else◌, bytes_eq}
 use Rattle.ks_symbols.specs.Names.{is_target}
 use Rattle.ks_fixdep.specs.CommandFile.{CommandRecord, is_command}
 use Rattle.ks_tree.specs.Files.{Files, content}
@@ -10,6 +10,7 @@ use Rattle.ks_engine.specs.declared.staleness.Verdict.{Verdict}
 use Rattle.ks_engine.specs.declared.staleness.BuildState.{BuildState}
 use Rattle.ks_engine.specs.declared.staleness.BuildState.TheVariants.{CommandDiffers, Verdict as Judged}
 use Rattle.ks_engine.specs.Asked.{Asked, AtOnce, asked_of, command_file, IsAnswer}
+use Rattle.ks_engine.specs.Refusals.{IsGivenUpAnswer}
 
 -- the saved command is another one, or the rest is as asked
 pub data BuildAsked : Type 0 where
@@ -34,3 +35,7 @@ judged (Err e) = Err e
 abbrev pub IsBuildState : Files → BuildAsked → Result BuildState EngineError → Type 0
 IsBuildState files Differs answer = answer ≡ Ok CommandDiffers
 IsBuildState files (Asks question) answer = (verdict : Result Verdict EngineError) × IsAnswer files question verdict × (answer ≡ judged verdict)
+
+-- memory and the device aside
+abbrev pub IsStateOn : Files → List ℕ → List ℕ → Result BuildState EngineError → Type 0
+IsStateOn files o command answer = IsGivenUpAnswer answer ⊎ IsBuildState files (build_asked files o command) answer

@@ -30,12 +30,11 @@ pub record IsExplanationJudged (files : Files) (h : History) (o : List ℕ) (r :
 abbrev pub ExplainsRecorded : Files → List ℕ → Result Explanation EngineError → Type 0
 ExplainsRecorded files o answer = (h : History) (r : LastRecord) → Shows files h → last_record h o ≡ Some r → IsExplanationJudged files h o r answer
 
--- what a question is answered with all of its causes, whichever history is shown
+-- what a question is answered with all of its causes
 pub record IsExplanationOn (files : Files) (o : List ℕ) (answer : Result Explanation EngineError) : Type 0 where
   pub by_files : IsGivenUpAnswer answer ⊎ IsExplained Every files o answer
   -- The verdict is one that is answered to a question for the first of them.
   pub verdict : IfOk answer (λ e. IsAnswer files (asked files o) (Ok e.verdict))
-  pub recorded : ExplainsRecorded files o answer
 
 -- ---- a law: places are first
 

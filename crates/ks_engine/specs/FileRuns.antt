@@ -13,7 +13,6 @@ use Rattle.ks_engine.specs.declared.staleness.Verdict.{Verdict as VerdictValue}
 use Rattle.ks_engine.specs.declared.synchronise.Report.{Report}
 use Rattle.ks_engine.specs.Refusals.{IsGivenUpAnswer}
 use Rattle.ks_engine.specs.Asked.{asked, IsAnswer}
-use Rattle.ks_engine.specs.Judged.{JudgesRecorded}
 use Rattle.ks_engine.specs.Recorded.{IsRecorded, IsRecordRefused}
 use Rattle.ks_engine.specs.Synchronised.{IsSynced, IsSyncRefused}
 use Rattle.ks_engine.specs.Actions.{Action, Sync, Record, Stale}
@@ -28,10 +27,9 @@ abbrev pub LeavesRecord : Dialect → Files → Files → List ℕ → List ℕ 
 LeavesRecord dialect old new d t c (Ok answer) = IsRecorded dialect old new d t c answer
 LeavesRecord dialect old new d t c (Err e) = IsRecordRefused dialect old new d t c e
 
--- what a question is answered, whichever history is shown
-pub record IsAnswerOn (files : Files) (o : List ℕ) (answer : Result VerdictValue EngineError) : Type 0 where
-  pub by_files : IsGivenUpAnswer answer ⊎ IsAnswer files (asked files o) answer
-  pub recorded : JudgesRecorded files o answer
+-- what a question is answered, memory and the device aside
+abbrev pub IsAnswerOn : Files → List ℕ → Result VerdictValue EngineError → Type 0
+IsAnswerOn files o answer = IsGivenUpAnswer answer ⊎ IsAnswer files (asked files o) answer
 
 -- the files after an action, by its reply; no action is answered as another one
 abbrev pub LeavesFiles : Dialect → Files → Action → Reply → Files → Type 0

@@ -1,5 +1,5 @@
 -- What a synchronisation would do: the trees that it leaves, and what is answered and judged over them.
-use Rattle.std.specs.Prelude.{◌≡◌, ◌⊎◌, ℕ, List, Some, Result, Ok, true, false, IsTrue}
+use Rattle.std.specs.Prelude.{◌≡◌, ℕ, List, Some, Result, Ok, true, false, IsTrue}
 use Rattle.std.specs.Ordering.{nat_cmp}
 use Rattle.std.specs.Cmp.Lexicographic.{slice_cmp}
 use Rattle.std.specs.List.Sorted.{IsStrictlySortedBy}
@@ -12,12 +12,11 @@ use Rattle.ks_engine.specs.declared.error.EngineError.{EngineError}
 use Rattle.ks_engine.specs.declared.impact.Impact.{Impact}
 use Rattle.ks_engine.specs.declared.staleness.Verdict.{Verdict}
 use Rattle.ks_engine.specs.declared.synchronise.Report.{Report}
-use Rattle.ks_engine.specs.Refusals.{IsGivenUpAnswer}
 use Rattle.ks_engine.specs.History.{History, Synced, LastRecord, last_record}
 use Rattle.ks_engine.specs.Shows.{Shows}
 use Rattle.ks_engine.specs.LastSync.{last_generation}
 use Rattle.ks_engine.specs.Synchronised.{IsSynced}
-use Rattle.ks_engine.specs.Asked.{asked, IsAnswer}
+use Rattle.ks_engine.specs.FileRuns.{IsAnswerOn}
 use Rattle.ks_engine.specs.Judged.{IsJudged}
 
 -- There is a tree that a completed synchronisation of these texts leaves, with this report.
@@ -25,20 +24,14 @@ abbrev pub IsImpactOf : Files → KconfigText → List ℕ → Impact → Type 0
 IsImpactOf files kconfig dotconfig impact = (after : Files) × IsSynced files after kconfig dotconfig impact.report
 
 -- It is an answer of `stale` over each tree that a completed synchronisation of these texts leaves.
-abbrev pub AnswersAfter : Files → KconfigText → List ℕ → List ℕ → Result Verdict EngineError → Type 0
-AnswersAfter files kconfig dotconfig o answer =
-    (after : Files) (report : Report) → IsSynced files after kconfig dotconfig report → IsGivenUpAnswer answer ⊎ IsAnswer after (asked after o) answer
+abbrev pub IsAnswerAfter : Files → KconfigText → List ℕ → List ℕ → Result Verdict EngineError → Type 0
+IsAnswerAfter files kconfig dotconfig o answer = (after : Files) (report : Report) → IsSynced files after kconfig dotconfig report → IsAnswerOn after o answer
 
 -- Of each object that is recorded in a history that the files show, it is judged by that history with the synchronisation added.
 abbrev pub JudgesAfter : Files → KconfigText → List ℕ → List ℕ → Result Verdict EngineError → Type 0
 JudgesAfter files kconfig dotconfig o answer =
     (after : Files) (report : Report) (synced : IsSynced files after kconfig dotconfig report) (h : History) (r : LastRecord) → Shows files h
     → last_record h o ≡ Some r → IsJudged after (Synced synced.plan.title synced.plan.config h) o r answer
-
--- what is answered over each tree that a completed synchronisation of these texts leaves
-pub record IsAnswerAfter (files : Files) (kconfig : KconfigText) (dotconfig o : List ℕ) (answer : Result Verdict EngineError) : Type 0 where
-  pub by_files : AnswersAfter files kconfig dotconfig o answer
-  pub recorded : JudgesAfter files kconfig dotconfig o answer
 
 -- What a question asks of such a tree: its generation and the touched stamps are of the report, all else is as before.
 pub record IsAfter (files after : Files) (report : Report) : Type 0 where

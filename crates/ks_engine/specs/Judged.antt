@@ -1,7 +1,8 @@
 -- What an answer about a recorded object says, by the history that the files show.
-use Rattle.std.specs.Prelude.{◌≡◌, ◌⊎◌, ℕ, List, Some, Result, Ok, true, false, bytes_eq}
+use Rattle.std.specs.Prelude.{◌≡◌, ◌⊎◌, ℕ, List, Some, Result, Ok, IsTrue, true, false, bytes_eq}
 use Rattle.ks_output.specs.Definitions.{definitions}
 use Rattle.ks_symbols.specs.Names.{is_in, header_path}
+use Rattle.ks_fixdep.specs.CommandFile.{is_command}
 use Rattle.ks_tree.specs.Files.{Files, content}
 use Rattle.ks_engine.specs.declared.error.EngineError.{EngineError}
 use Rattle.ks_engine.specs.declared.staleness.Verdict.{Verdict}
@@ -35,3 +36,8 @@ JudgesRecorded files o answer = (h : History) (r : LastRecord) → Shows files h
 pub record IsBuildJudged (files : Files) (h : History) (o command : List ℕ) (r : LastRecord) (answer : Result BuildState EngineError) : Type 0 where
   pub differs : bytes_eq r.command command ≡ false → IsGivenUpAnswer answer ⊎ (answer ≡ Ok CommandDiffers)
   pub same : bytes_eq r.command command ≡ true → (verdict : Result Verdict EngineError) × (answer ≡ judged verdict) × IsJudged files h o r verdict
+
+-- of each object that is recorded in such a history
+abbrev pub JudgesBuild : Files → List ℕ → List ℕ → Result BuildState EngineError → Type 0
+JudgesBuild files o command answer =
+    IsTrue (is_command command) → (h : History) (r : LastRecord) → Shows files h → last_record h o ≡ Some r → IsBuildJudged files h o command r answer

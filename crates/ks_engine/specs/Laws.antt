@@ -1,5 +1,5 @@
 -- Laws of the definitions: which trees show a history without events, that a synchronisation has one plan, that a suspicion has a cause,
--- and that a run by the files is one of each history that the first of them show.
+-- that a run by the files is one of each history that the first of them show, and that what is answered by the files is judged by it.
 use Rattle.std.specs.Prelude.{◌≡◌, ◌⊎◌, ℕ, ◌+◌, ◌≤◌, List, Some, None, Result, Ok, true, IsTrue, ⊤}
 use Rattle.std.specs.FinMap.{empty}
 use Rattle.ks_symbols.specs.Dialects.{KconfigText}
@@ -13,6 +13,9 @@ use Rattle.ks_output.specs.OldConfig.{Texts}
 use Rattle.ks_fixdep.specs.CommandFile.{CommandRecord}
 use Rattle.ks_fixdep.specs.CommandReading.{reading}
 use Rattle.ks_symbols.specs.declared.dialect.Dialect.{Dialect}
+use Rattle.ks_engine.specs.declared.explaining.Explanation.{Explanation}
+use Rattle.ks_engine.specs.declared.staleness.BuildState.{BuildState}
+use Rattle.ks_engine.specs.declared.staleness.Verdict.{Verdict}
 use Rattle.ks_engine.specs.declared.staleness.Verdict.TheVariants.{Fresh}
 use Rattle.ks_engine.specs.Asked.{asked, IsAnswer}
 use Rattle.ks_engine.specs.History.{History, Begun, Synced, Broken, Recorded, LastRecord, before, done, last_record}
@@ -22,7 +25,11 @@ use Rattle.ks_engine.specs.Shows.{Shows, IsFirstAuto}
 use Rattle.ks_engine.specs.SyncPlan.{Plan, IsSyncPlan}
 use Rattle.ks_engine.specs.declared.commands.Reply.{Reply}
 use Rattle.ks_engine.specs.Actions.{Action}
-use Rattle.ks_engine.specs.FileRuns.{FileState, FileRun}
+use Rattle.ks_engine.specs.FileRuns.{FileState, FileRun, IsAnswerOn}
+use Rattle.ks_engine.specs.BuildStates.{IsStateOn}
+use Rattle.ks_engine.specs.Explained.{ExplainsRecorded, IsExplanationOn}
+use Rattle.ks_engine.specs.Impact.{IsAnswerAfter, JudgesAfter}
+use Rattle.ks_engine.specs.Judged.{JudgesBuild, JudgesRecorded}
 use Rattle.ks_engine.specs.Follows.{at}
 use Rattle.ks_engine.specs.Runs.{Run}
 
@@ -84,6 +91,26 @@ FileRunsGoOn =
     (dialect : Dialect) (first : FileState) (actions : List Action) (replies : List Reply) (last : FileState) (h : History) → Shows first.files h
     → FileRun dialect ⊤ first actions replies last
     → (next : History) × Run dialect (at first.files first.failures h) actions replies (at last.files last.failures next)
+
+-- What is answered by the files is judged by each history that they show: a verdict, ..
+abbrev pub VerdictsAreJudged : Type 0
+VerdictsAreJudged = (files : Files) (o : List ℕ) (answer : Result Verdict EngineError) → IsAnswerOn files o answer → JudgesRecorded files o answer
+
+-- .. an explanation, ..
+abbrev pub ExplanationsAreJudged : Type 0
+ExplanationsAreJudged =
+    (files : Files) (o : List ℕ) (answer : Result Explanation EngineError) → IsExplanationOn files o answer → ExplainsRecorded files o answer
+
+-- .. a verdict after a synchronisation, with that one as the last event, ..
+abbrev pub ImpactsAreJudged : Type 0
+ImpactsAreJudged =
+    (files : Files) (kconfig : KconfigText) (dotconfig o : List ℕ) (answer : Result Verdict EngineError) → IsAnswerAfter files kconfig dotconfig o answer
+    → JudgesAfter files kconfig dotconfig o answer
+
+-- .. and whether an object was built by a command.
+abbrev pub BuildsAreJudged : Type 0
+BuildsAreJudged =
+    (files : Files) (o command : List ℕ) (answer : Result BuildState EngineError) → IsStateOn files o command answer → JudgesBuild files o command answer
 
 -- To make the missing stamps of names says nothing: the files show each history then that they showed before.
 abbrev pub MadeStampsShow : Type 0

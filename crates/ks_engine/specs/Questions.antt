@@ -1,4 +1,4 @@
--- What each question is answered: which files it is asked of, how many causes it lists, and what is said of a recorded object.
+-- What each question is answered: which files it is asked of, and how many causes it lists.
 use Rattle.std.specs.Prelude.{◌≡◌, ℕ, List, Result}
 use Rattle.ks_symbols.specs.Dialects.{KconfigText}
 use Rattle.ks_tree.specs.Files.{Files}
@@ -25,7 +25,7 @@ IsSeen Stale files after = after ≡ files
 IsSeen Why files after = after ≡ files
 IsSeen (After impact) files after = IsAfter files after impact.now.report
 
--- what answers it, by the files and by the histories that they show
+-- what answers it
 abbrev pub IsAnswerTo : Question → Files → List ℕ → Result Explanation EngineError → Type 0
 IsAnswerTo Stale files o answer = IsAnswerOn files o (told answer)
 IsAnswerTo Why files o answer = IsExplanationOn files o answer

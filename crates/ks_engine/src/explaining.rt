@@ -173,8 +173,8 @@ pub fn ask<T: Tree>(
     requires memo { T.is_honest → IsMemoOf (T.files tree.old) memo.old }
     ensures reads { Reads T.Tree tree.old tree.new (IsErrOf result EngineError.Device) }
     ensures memo { T.is_honest → IsMemoOf (T.files tree.new) memo.new }
-    // Memory and the device aside, what its steps answer by the files; and by histories, what was touched since a recorded
-    // object's record, or would be.
+    // Memory and the device aside, what its steps answer by the files. The law `answers_are_judged` says what that tells of a
+    // recorded object.
     ensures answer { T.is_honest → IsAnswerTo question.entry (T.files tree.old) target.now result }
 {
     if !target_is_legal(target) {

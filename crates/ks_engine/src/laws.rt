@@ -1,7 +1,7 @@
 //! Laws of the definitions, each the contract of a function that does nothing.
 ghost use Rattle.ks_engine.specs.OtherRecords.{OtherRecordsDoNotMatter};
 ghost use Rattle.ks_engine.specs.Explained.{PlacesAreFirst, PlacesAreTheirs};
-ghost use Rattle.ks_engine.specs.Laws.{EmptyTreeShows, FileRunsGoOn, MadeStampsShow, NotNumberedTreeShows, UsualTreeShows, UntypedTreeShows, PlansAreOne, SuspicionsHaveCauses};
+ghost use Rattle.ks_engine.specs.Laws.{BuildsAreJudged, EmptyTreeShows, ExplanationsAreJudged, FileRunsGoOn, ImpactsAreJudged, MadeStampsShow, NotNumberedTreeShows, UsualTreeShows, UntypedTreeShows, PlansAreOne, SuspicionsHaveCauses, VerdictsAreJudged};
 
 /// There are trees to begin with: an empty one, each of Kbuild, and each that the untyped form left, whose stamps may
 /// be one above the generation where a synchronisation was broken off. And each whose command files have lost their numbers: as
@@ -40,6 +40,15 @@ pub fn places_are_first()
 /// What is said of a run by its files says what its history is: there is a run from each history that the first files show.
 pub fn file_runs_go_on()
     ensures { FileRunsGoOn }
+{}
+
+/// What is answered by the files says of a recorded object what was touched since its record, or would be, by each history that the
+/// files show.
+pub fn answers_are_judged()
+    ensures verdicts { VerdictsAreJudged }
+    ensures explanations { ExplanationsAreJudged }
+    ensures impacts { ImpactsAreJudged }
+    ensures builds { BuildsAreJudged }
 {}
 
 /// A missing stamp counts as 0, and one that is made holds 0. So a tree shows what it showed where missing ones are made.

@@ -1,18 +1,16 @@
 //! Which objects are stale: those of which a name has a stamp above the generation of their record. A command file that can't be
 //! trusted is refused or said to be so, and never read as fresh; whether a source file itself changed is make's matter.
-ghost use Rattle.std.specs.Prelude.{◌≡◌, ◌⊎◌, Err, IfOk, IfErr, IsErrOf, IsTrue, option_map, bytes_eq, Some};
-ghost use Rattle.ks_fixdep.specs.CommandFile.{is_command};
+ghost use Rattle.std.specs.Prelude.{◌≡◌, ◌⊎◌, Err, IfOk, IfErr, IsErrOf, option_map, bytes_eq, Some};
 ghost use Rattle.ks_fixdep.specs.Borrowed.{borrowed_view};
 ghost use Rattle.ks_tree.specs.Frames.{Reads};
 ghost use Rattle.ks_tree.specs.Files.{Files, content};
 ghost use Rattle.ks_tree.specs.Paths.{command_path};
-ghost use Rattle.ks_engine.specs.Refusals.{Answers, IsGivenUpAnswer, IsGivenUp};
-ghost use Rattle.ks_engine.specs.History.{History, LastRecord, last_record};
-ghost use Rattle.ks_engine.specs.Shows.{Shows};
-ghost use Rattle.ks_engine.specs.Asked.{command_file, asked, IsAnswer};
+ghost use Rattle.ks_engine.specs.Refusals.{Answers, IsGivenUp};
+ghost use Rattle.ks_engine.specs.Asked.{command_file};
+ghost use Rattle.ks_engine.specs.FileRuns.{IsAnswerOn};
 ghost use Rattle.ks_engine.specs.Memos.{IsMemoOf};
-ghost use Rattle.ks_engine.specs.BuildStates.{build_asked, IsBuildState};
-ghost use Rattle.ks_engine.specs.Judged.{JudgesRecorded, IsBuildJudged};
+ghost use Rattle.ks_engine.specs.BuildStates.{IsStateOn};
+ghost use Rattle.ks_engine.specs.Judged.{JudgesBuild, JudgesRecorded};
 
 use crate::EngineError;
 use crate::explaining::{ask, judge};
@@ -93,7 +91,7 @@ fn ask_built<T: Tree>(
     requires memo { T.is_honest → IsMemoOf (T.files tree.old) memo.old }
     ensures reads { Reads T.Tree tree.old tree.new (IsErrOf result EngineError.Device) }
     ensures memo { T.is_honest → IsMemoOf (T.files tree.new) memo.new }
-    ensures answer { T.is_honest → IsGivenUpAnswer result ⊎ IsBuildState (T.files tree.old) (build_asked (T.files tree.old) target.now command.now) result }
+    ensures answer { T.is_honest → IsStateOn (T.files tree.old) target.now command.now result }
 {
     if !target_is_legal(target) {
         return Err(EngineError::BadPath(0));
@@ -116,7 +114,7 @@ fn ask_built<T: Tree>(
 pub fn stale<T: Tree>(alloc: Global, tree: &mut T, target: &[u8]) -> Result<Verdict, EngineError>
     ensures reads { Reads T.Tree tree.old tree.new (IsErrOf result EngineError.Device) }
     // By the files: memory and the device aside, what its steps answer.
-    ensures answer { T.is_honest → IsGivenUpAnswer result ⊎ IsAnswer (T.files tree.old) (asked (T.files tree.old) target.now) result }
+    ensures answer { T.is_honest → IsAnswerOn (T.files tree.old) target.now result }
     // By histories: what was touched since a recorded object's record.
     ensures recorded { T.is_honest → JudgesRecorded (T.files tree.old) target.now result }
 {
@@ -134,10 +132,9 @@ pub fn outdated<T: Tree>(
 ) -> Result<BuildState, EngineError>
     ensures reads { Reads T.Tree tree.old tree.new (IsErrOf result EngineError.Device) }
     // By the files: memory and the device aside, what its steps answer.
-    ensures answer { T.is_honest → IsGivenUpAnswer result ⊎ IsBuildState (T.files tree.old) (build_asked (T.files tree.old) target.now command.now) result }
+    ensures answer { T.is_honest → IsStateOn (T.files tree.old) target.now command.now result }
     // By histories: the command is compared with that of the record, and then as `stale`.
-    ensures recorded { T.is_honest → IsTrue (is_command command.now) → (h : History) (r : LastRecord) → Shows (T.files tree.old) h
-        → last_record h target.now ≡ Some r → IsBuildJudged (T.files tree.old) h target.now command.now r result }
+    ensures recorded { T.is_honest → JudgesBuild (T.files tree.old) target.now command.now result }
 {
     let mut memo = Memo::with_seed(alloc, Seed::new(tree.seed()));
     ask_built(alloc, tree, &mut memo, target, command)

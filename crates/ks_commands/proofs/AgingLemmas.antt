@@ -1,5 +1,5 @@
 -- What is told of objects and aged, one after the other, and why what was touched is among it.
-use Rattle.ks_commands.proofs.Prelude.{subst₂, Ending, Refusal, ◌≡◌, ◌++◌, ◌<◌, ◌||◌, ◌∙◌, ℕ, Bool, true, false, List, [], ◌∷◌, Option, Some, None, Result, Ok, Err, ap, inl, inr, refl, sym, subst, cond, max, append-nil, append_assoc, arith, common_steps, true≢false, bytes_eq, bytes_eq-Decides, is_in, Files, EngineError, Explanation, History, LastRecord, Shows, IsAnswerOn, answer_in, code_of, explanation_status, status_unless_refused, rules}
+use Rattle.ks_commands.proofs.Prelude.{subst₂, Ending, Refusal, ◌≡◌, ◌++◌, ◌<◌, ◌∙◌, ℕ, Bool, true, false, List, [], ◌∷◌, Some, None, Result, Ok, Err, inl, inr, refl, sym, subst, max, append-nil, append_assoc, arith, common_steps, true≢false, bytes_eq, bytes_eq-Decides, is_in, Files, EngineError, Explanation, History, LastRecord, Shows, IsAnswerOn, answer_in, code_of, explanation_status, status_unless_refused, rules}
 use Rattle.std.proofs.Common.{find}
 use Rattle.std.proofs.lemmas.List.Folds.{list_any-append}
 use Rattle.ks_engine.proofs.Asking.{stale_judged}
@@ -10,7 +10,7 @@ use Rattle.ks_engine.specs.declared.staleness.Verdict.{Verdict}
 use Rattle.ks_engine.specs.Aged.{IsAged, aged_by, ages}
 use Rattle.ks_engine.specs.Asked.{told}
 use Rattle.ks_engine.specs.History.{Begun, Synced, Broken, Recorded, last_record}
-use Rattle.ks_engine.specs.Staleness.{changed_since, first_suspect, found, suspect_since, verdict}
+use Rattle.ks_engine.specs.Staleness.{changed_since, found, suspect_since, verdict}
 use Rattle.ks_requests.specs.declared.request.Form.TheVariants.{Text}
 use Rattle.ks_commands.specs.Aging.{AgesAll, AgesEach, EndsAged}
 use Rattle.ks_commands.specs.Laws.{WhatChangedIsAged, WasTouched}

@@ -1,5 +1,5 @@
 -- What a call of the engine leaves, after reads that changed no file.
-use Rattle.ks_commands.proofs.Prelude.{Dialect, ◌≡◌, ◌⊎◌, ◌≤◌, ℕ, List, Result, Ok, Err, subst, Files, Reply, EngineError, Report, Action, FileRun, FileState, Stamps, LeavesStamps, IfOk, IfErr, at, IsGivenUp, Refusal, Engine, Ending, given, RunsAll, RunsOn, IsGivenUpRefusal, script_actions, script_at, KconfigText, rules}
+use Rattle.ks_commands.proofs.Prelude.{Dialect, ◌≡◌, ◌⊎◌, ◌≤◌, ℕ, List, Result, Ok, Err, subst, Files, Reply, EngineError, Report, Action, FileRun, FileState, Stamps, LeavesStamps, IfOk, IfErr, IsGivenUp, Refusal, Engine, Ending, given, RunsAll, RunsOn, IsGivenUpRefusal, script_actions, script_at, KconfigText, rules}
 
 -- what a synchronisation leaves is what the one or the other call leaves
 pub sync_said : (which : Stamps) (old new : Files) (k : KconfigText) (d : List ℕ) (r : Result Report EngineError)

@@ -1,17 +1,17 @@
 -- What scripts and runs of the program tell: no synchronisation was broken off before one of them where none was at the end.
-use Rattle.ks_commands.proofs.Prelude.{IsAnswerAfter, IsAnswerOn, IsExplanationOn, IsJudged, IsShown, IsStateOn, filter_agree, Dialect, ◌≡◌, ◌<◌, ℕ, List, [], ◌∷◌, Some, Result, Ok, Err, IfOk, IsTrue, inl, inr, subst, filter, map, fold, max, arith, All, is_command, All-nil, All-cons, Reply, Verdict, Refused, EngineError, Explanation, BuildState, Report, Action, Sync, Stale, TreeState, FollowsSync, FollowsRecordUnder, FollowsDepfile, FollowsStamps, Stamps, Conventions, History, LastRecord, NoneBroken, last_record, Leads, Leaves, Step, changed_since, found, suspect_since, IsGivenUpSync, suspect_since-changed_since, Request, Ending, reply_status, targets_at, BatchTellsChanges, ProgramsTellChanges, Continues, Runs, not_counted, Chain, ProgramRun, ProgramTellsChanges, StepsTellChanges, TellsAfter, TellsBuild, TellsCauses, TellsChange, spelling_of, KconfigText, read_in, rules}
+use Rattle.ks_commands.proofs.Prelude.{⊤, IsAnswerAfter, IsAnswerOn, IsExplanationOn, IsJudged, IsShown, IsStateOn, filter_agree, Dialect, ◌≡◌, ◌<◌, ℕ, List, [], ◌∷◌, Some, Result, Ok, Err, IfOk, IsTrue, inl, inr, subst, filter, map, fold, max, arith, All, is_command, All-nil, All-cons, Reply, Verdict, Refused, EngineError, Explanation, BuildState, Report, Action, Sync, Stale, TreeState, FollowsSync, FollowsRecordUnder, FollowsDepfile, FollowsStamps, Stamps, Conventions, History, LastRecord, NoneBroken, last_record, Leads, Leaves, Step, changed_since, found, suspect_since, IsGivenUpSync, suspect_since-changed_since, Request, Ending, reply_status, files_of, no_count, BatchTellsChanges, ProgramsTellChanges, Continues, Runs, Chain, ProgramRun, ProgramTellsChanges, StepsTellChanges, TellsAfter, TellsBuild, TellsCauses, TellsChange, KconfigText, read_in, rules}
 use Rattle.ks_engine.proofs.Asking.{build_judged, stale_judged}
 use Rattle.ks_engine.proofs.Explanations.{explanation_judged}
 use Rattle.ks_engine.proofs.Foreseeing.{impact_judged}
 use Rattle.ks_engine.specs.declared.recording.Recorded.{Recorded as RecordAnswer}
 use Rattle.ks_engine.specs.declared.staleness.Verdict.{Verdict as VerdictValue}
 use Rattle.ks_engine.specs.History.{Synced as Past}
-use Rattle.ks_engine.specs.declared.question.Limit.TheVariants.{All as Every}
+use Rattle.ks_engine.specs.declared.question.Limit.TheVariants.{First, All as Every}
 use Rattle.ks_commands.proofs.Prelude.{at, told}
 use Rattle.ks_requests.specs.declared.request.Form.TheVariants.{Text}
 use Rattle.ks_requests.specs.declared.request.Request.TheVariants as request
 use Rattle.ks_requests.specs.declared.request.Stamps.TheVariants as stamps
-use Rattle.ks_commands.proofs.Verdicts.{answers_weaker, impact_weaker, verdicts_weaker}
+use Rattle.ks_commands.proofs.Parts.{answers_weaker, impact_weaker}
 
 -- ---- none was broken off before a step where none is after it
 
@@ -83,32 +83,43 @@ steps_tell : (dialect : Dialect) (old new : TreeState) (actions : List Action) (
     → Runs dialect old new actions replies → StepsTellChanges dialect old new actions replies
 steps_tell dialect old new actions replies none (failures, later, run) = search rules
 
+verdict_tells : (old : TreeState) (o : List ℕ) (answer : Result VerdictValue EngineError) → IsShown old → NoneBroken old.history → IsAnswerOn old.files o answer
+    → TellsChange old o answer
+verdict_tells old o answer shown none is = judged_tells old o answer none (λ r was. stale_judged old.files old.history o r answer is shown was)
+
+causes_tell : (old : TreeState) (o : List ℕ) (answer : Result Explanation EngineError) → IsShown old → NoneBroken old.history → IsExplanationOn old.files o answer
+    → TellsCauses old o answer
+causes_tell old o answer shown none is =
+    let judged = λ (r : LastRecord) (was : last_record old.history o ≡ Some r). explanation_judged old.files old.history o r answer is.by_files shown was in
+    record { tells = judged_tells old o (told answer) none (λ r was. (judged r was).judged); causes = λ r was. causes_changed old o answer none (judged r was).suspects }
+
+after_tells : (old : TreeState) (k : KconfigText) (d o : List ℕ) (answer : Result VerdictValue EngineError) → IsShown old → NoneBroken old.history
+    → IsAnswerAfter old.files k d o answer → TellsAfter old k d o answer
+after_tells old k d o answer shown none is = λ after report synced.
+    judged_tells (at after old.failures (Past synced.plan.title synced.plan.config old.history)) o answer none
+    (λ r was. impact_judged old.files k d o answer is after report synced old.history r shown was)
+
 program_tells : (dialect : Dialect) (r : Request) (ended : Ending) (old new : TreeState) → IsShown old → NoneBroken old.history → NoneBroken new.history
     → Continues dialect r ended old new → ProgramTellsChanges (record { dialect = dialect; before = old; request = r; ended = ended; after = new })
 program_tells dialect (request.Stale ts f) ended old new shown none later is = (
   is.0,
-  verdicts_weaker f (IsAnswerOn old.files) (TellsChange old) not_counted (targets_at old.files ts) ended
-      (λ o answer is. judged_tells old o answer none (λ r was. stale_judged old.files old.history o r answer is shown was)) is.1,
+  answers_weaker ⊤ old.files f First (λ o answer. IsAnswerOn old.files o (told answer)) (λ o answer. TellsChange old o (told answer)) no_count (files_of old) ts ended
+      (files_of new) (λ o answer. verdict_tells old o (told answer) shown none) is.1,
 )
 program_tells dialect (request.Age which ts) ended old new shown none later is = (
   is.0,
-  verdicts_weaker Text (IsAnswerOn old.files) (TellsChange old) not_counted (targets_at old.files ts) ended
-      (λ o answer is. judged_tells old o answer none (λ r was. stale_judged old.files old.history o r answer is shown was)) is.1,
+  answers_weaker ⊤ old.files Text First (λ o answer. IsAnswerOn old.files o (told answer)) (λ o answer. TellsChange old o (told answer)) no_count (files_of old) ts ended
+      (files_of new) (λ o answer. verdict_tells old o (told answer) shown none) is.1,
 )
 program_tells dialect (request.Why ts f) ended old new shown none later is = (
   is.0,
-  answers_weaker f Every (spelling_of old.files) (IsExplanationOn old.files) (TellsCauses old) not_counted (targets_at old.files ts) ended
-      (λ o answer is. record {
-        tells = judged_tells old o (told answer) none (λ r was. (explanation_judged old.files old.history o r answer is.by_files shown was).judged);
-        causes = λ r was. causes_changed old o answer none (explanation_judged old.files old.history o r answer is.by_files shown was).suspects;
-      }) is.1,
+  answers_weaker ⊤ old.files f Every (IsExplanationOn old.files) (TellsCauses old) no_count (files_of old) ts ended (files_of new)
+      (λ o answer. causes_tell old o answer shown none) is.1,
 )
 program_tells dialect (request.Impact k d ts f) ended old new shown none later is = (
   is.0,
-  impact_weaker dialect old.files (λ k. IsAnswerAfter old.files (read_in dialect k)) (λ k. TellsAfter old (read_in dialect k)) _ _ f
-      (targets_at old.files ts) ended (λ k d o answer is after report synced.
-      judged_tells (at after old.failures (Past synced.plan.title synced.plan.config old.history)) o answer none
-      (λ r was. impact_judged old.files (read_in dialect k) d o answer is after report synced old.history r shown was)) is.1,
+  impact_weaker ⊤ dialect (λ k. IsAnswerAfter old.files (read_in dialect k)) (λ k. TellsAfter old (read_in dialect k)) (files_of old) _ _ f ts ended (files_of new)
+      (λ k d o answer. after_tells old (read_in dialect k) d o answer shown none) is.1,
 )
 program_tells dialect asked ended old new shown none later is = search (rules, build_tells, steps_tell)
 
@@ -137,8 +148,8 @@ none_given_up a [] small = search (rules, All-nil)
 none_given_up a (s ∷ ss) small = search (rules, All-cons, not_given_up, below_two, (none_given_up (max a (reply_status s.reply)) ss small))
 
 pub batch_tells_changes : BatchTellsChanges
-batch_tells_changes dialect path o old new small none (inr (actions, at, inr ran)) =
+batch_tells_changes dialect path o old new small none (inr (script, actions, spelled, at, inr ran)) =
     let last = ran.1.2.unbroken none (none_given_up 0 ran.1.2.steps (rw (ran.1.2.replies, ← ran.2.1) small)) in
     search (rules, steps_tell)
-batch_tells_changes dialect path o old new small none (inr (actions, at, inl memory)) = inr (actions, at, inl memory)
+batch_tells_changes dialect path o old new small none (inr (script, actions, spelled, at, inl memory)) = inr (script, actions, spelled, at, inl memory)
 batch_tells_changes dialect path o old new small none (inl stopped) = inl stopped

@@ -1,5 +1,5 @@
 -- Each history that the files show goes on with a request, by what is said of it by the files.
-use Rattle.ks_commands.proofs.Prelude.{Dialect, ◌≡◌, ℕ, true, List, Option, Some, None, Result, Ok, Err, IsTrue, inl, inr, refl, sym, subst, ⊤, and_parts, is_some, is_name, string_bytes, Kind, declared, kconfig_refusal, KconfigText, read_in, Plan, IsSyncPlan, Files, FileState, History, Shows, at, EngineError, Report, Reply, Action, Run, FollowsDepfile, FollowsRecord, IsSynced, Conventions, RunsOn, Runs, LeavesStamps, FollowsStamps, Stamps, RequestsGoOn}
+use Rattle.ks_commands.proofs.Prelude.{Dialect, ◌≡◌, ℕ, true, List, Option, Some, None, Result, Ok, Err, IsTrue, inl, inr, refl, sym, subst, ⊤, and_parts, is_some, is_name, option_map, string_bytes, Kind, declared, kconfig_refusal, KconfigText, read_in, Plan, IsSyncPlan, Files, FileState, History, Shows, at, EngineError, Report, Reply, Action, Run, FollowsDepfile, FollowsRecord, IsSynced, Conventions, RunsOn, Runs, LeavesStamps, FollowsStamps, Stamps, Ending, EndsDepfile, EndsSync, by_files, by_histories, RequestsGoOn}
 use Rattle.ks_engine.specs.declared.recording.Recorded.{Recorded as RecordAnswer}
 use Rattle.ks_engine.specs.Depfile.{ruled_by}
 use Rattle.ks_engine.specs.FileRuns.{LeavesRecord}
@@ -69,26 +69,48 @@ run_follows dialect old new h actions replies shows ran =
 
 -- ---- each request
 
-pub requests_go_on : RequestsGoOn
-requests_go_on dialect (request.Sync k d which) ended old new h shows (inr (t, there, answer, is, told)) =
+-- nothing has changed
+stays : (old new : FileState) (h : History) → Shows old.files h → new.files ≡ old.files → Shows new.files h
+stays old new h shows same = subst (λ (f : Files). Shows f h) (sym same) shows
+
+sync_goes_on : (dialect : Dialect) (which : Stamps) (k d : List ℕ) (ended : Ending) (old new : FileState) (h : History) → Shows old.files h
+    → EndsSync old.files (by_files dialect ⊤ old new) which k d ended
+    → (next : History) × EndsSync old.files (by_histories dialect (at old.files old.failures h) (at new.files new.failures next)) which k d ended × Shows new.files next
+sync_goes_on dialect which k d ended old new h shows (inl (same, stopped)) = (h, inl ((same, refl), stopped), stays old new h shows same)
+sync_goes_on dialect which k d ended old new h shows (inr (t, there, answer, is, told)) =
     let next = stamps_follow which old.files new.files old.failures new.failures h (read_in dialect t.kconfig) t.dotconfig answer shows is in
     (next.0, inr (t, there, answer, next.1, told), next.2)
-requests_go_on dialect (request.Sync k d which) ended old new h shows (inl (same, stopped)) =
-    (h, inl ((same, refl), stopped), subst (λ (f : Files). Shows f h) (sym same) shows)
-requests_go_on dialect (request.Record d t c) ended old new h shows (answer, is, told) =
-    let next = recorded_follows dialect old.files new.files old.failures new.failures h (string_bytes d) (string_bytes t) (string_bytes c) answer shows is in
-    (next.0, (answer, next.1, told), next.2)
-requests_go_on dialect (request.Depfile end d t c) ended old new h shows (inr (header, named, answer, is, told)) =
-    let next = ruled_follows (ruled_by header dialect) old.files new.files old.failures new.failures h (string_bytes d) (string_bytes t) (string_bytes c) answer shows is in
+
+rule_goes_on : (dialect : Dialect) (end : Option (List ℕ)) (d t c : List ℕ) (ended : Ending) (old new : FileState) (h : History) → Shows old.files h
+    → EndsDepfile (by_files dialect ⊤ old new) end d t c ended
+    → (next : History) × EndsDepfile (by_histories dialect (at old.files old.failures h) (at new.files new.failures next)) end d t c ended × Shows new.files next
+rule_goes_on dialect end d t c ended old new h shows (inl (same, none, told)) = (h, inl ((same, refl), none, told), stays old new h shows same)
+rule_goes_on dialect end d t c ended old new h shows (inr (header, named, answer, is, told)) =
+    let next = ruled_follows (ruled_by header dialect) old.files new.files old.failures new.failures h d t c answer shows is in
     (next.0, inr (header, named, answer, next.1, told), next.2)
-requests_go_on dialect (request.Depfile end d t c) ended old new h shows (inl (same, none, told)) =
-    (h, inl ((same, refl), none, told), subst (λ (f : Files). Shows f h) (sym same) shows)
-requests_go_on dialect (request.Batch script) ended old new h shows (inr (actions, there, inr (replies, ran, told))) =
+
+pub requests_go_on : RequestsGoOn
+requests_go_on dialect (request.Sync k d which) ended old new h shows ends =
+    let next = sync_goes_on dialect which (string_bytes k) (string_bytes d) ended old new h shows (ends tt) in (next.0, λ t. next.1, next.2)
+requests_go_on dialect (request.Record d t c) ended old new h shows ends =
+    let is = ends tt in
+    let next = recorded_follows dialect old.files new.files old.failures new.failures h (string_bytes d) (string_bytes t) (string_bytes c) is.0 shows is.1 in
+    (next.0, λ u. (is.0, next.1, is.2), next.2)
+requests_go_on dialect (request.Depfile end d t c) ended old new h shows ends =
+    let next = rule_goes_on dialect (option_map (λ p. string_bytes p) end) (string_bytes d) (string_bytes t) (string_bytes c) ended old new h shows (ends tt) in
+    (next.0, λ u. next.1, next.2)
+requests_go_on dialect (request.Batch script) ended old new h shows (inl (r, why, is)) =
+    (h, inl (r, λ t. (((why t).0, refl), (why t).1), is), stays old new h shows (why tt).0)
+requests_go_on dialect (request.Batch script) ended old new h shows (inr (text, actions, spelled, there, inl (same, memory))) =
+    (h, inr (text, actions, spelled, there, inl (λ t. (same t, refl), memory)), stays old new h shows (same tt))
+requests_go_on dialect (request.Batch script) ended old new h shows (inr (text, actions, spelled, there, inr (replies, ran, told))) =
     let next = run_follows dialect old new h actions replies shows ran in
-    (next.0, inr (actions, there, inr (replies, next.1, told)), next.2)
-requests_go_on dialect (request.Batch script) ended old new h shows (inr (actions, there, inl (same, memory))) =
-    (h, inr (actions, there, inl ((same, refl), memory)), subst (λ (f : Files). Shows f h) (sym same) shows)
-requests_go_on dialect (request.Batch script) ended old new h shows (inl (same, stopped)) =
-    (h, inl ((same, refl), stopped), subst (λ (f : Files). Shows f h) (sym same) shows)
+    (next.0, inr (text, actions, spelled, there, inr (replies, next.1, told)), next.2)
+requests_go_on dialect (request.Preview k d o) ended old new h shows ends =
+    (h, λ t. (((ends t).0, refl), (ends t).1), stays old new h shows (ends tt).0)
+requests_go_on dialect (request.Diff k d telling) ended old new h shows ends =
+    (h, λ t. (((ends t).0, refl), (ends t).1), stays old new h shows (ends tt).0)
+requests_go_on dialect (request.Fixdep d o c) ended old new h shows ends =
+    (h, λ t. (((ends t).0, refl), (ends t).1), stays old new h shows (ends tt).0)
 requests_go_on dialect asked ended old new h shows ends =
-    (h, ((ends.0, refl), ends.1), subst (λ (f : Files). Shows f h) (sym ends.0) shows)
+    (h, (λ t. (ends.0 t, refl), ends.1), stays old new h shows (ends.0 tt))

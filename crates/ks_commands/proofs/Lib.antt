@@ -2,8 +2,7 @@ pub mod Prelude
 pub mod Loading
 pub mod Continuing
 pub mod Siting
-pub mod Verdicts
-pub mod Counting
+pub mod Parts
 pub mod Ending
 pub mod Histories
 pub mod Headline

@@ -1,7 +1,6 @@
 -- The objects of a question about command files, one after the other.
-use Rattle.ks_commands.proofs.Prelude.{ReadsCounted, All, length-map, length-append, AreTallies, tallies_of, config_names, HasCosts, Costs, cost_of, is_in, common_steps, Bool, Err, List, None, Ok, OnOk, Option, Result, Some, [], ap, append-nil, arith, cond, drop, false, filter, length, max, refl, rules, subst, sym, ℕ, ◌++◌, ◌+◌, ◌∙◌, ◌∷◌, ◌≡◌, ◌≤◌, fun_ext, flat_map-append, map-append, All-append, All-cons, All-nil, fold-append, sum_by-append, sum_by-cons, count_by, nat_lt, names_placed, placed, AreCosts, one_if, FileState, and_then, EngineError, CommandRecord, all_noted, Dep, Config, answer_line, targets_at, with_file, words_of, Targets, lines, SaysLines, TellsCounted, Adds, ReadsAll, ReadsOne, ReadsTargets, record_in, records_in, AreRead, IsRead, Reading, is_user, uses_in, uses_lines, Told}
+use Rattle.ks_commands.proofs.Prelude.{AreTallies, tallies_of, config_names, HasCosts, Costs, cost_of, is_in, common_steps, Bool, Err, List, None, Ok, OnOk, Option, Result, Some, [], ap, append-nil, arith, cond, drop, false, length, length-append, refl, rules, subst, sym, ℕ, ◌++◌, ◌+◌, ◌∷◌, ◌∙◌, ◌≡◌, ◌≤◌, fun_ext, flat_map-append, sum_by-append, sum_by-cons, count_by, nat_lt, names_placed, placed, AreCosts, one_if, EngineError, CommandRecord, Dep, Config, Files, Part, answer_line, Adds, record_in, records_in, IsRead, IsReadIn, is_user, uses_in, uses_lines}
 use Rattle.std.specs.List.{filter}
-use Rattle.ks_commands.proofs.Counting.{counted_more}
 
 -- ---- the names that are left of a record
 
@@ -25,25 +24,17 @@ nothing_added Has before has = rw append-nil has
 
 -- ---- an object more
 
-pub read_more : {line now : List ℕ → Option CommandRecord → List ℕ} {honest : Type 0} {first mid last : FileState} {objects later : List (List ℕ)}
-    {o before after : List ℕ} {status one worse : ℕ} {Old New : List CommandRecord → Type 0} → ReadsAll line Old honest first objects before status mid
-    → (honest → mid.files ≡ first.files) → now ≡ line → ReadsOne now (Adds Old New) honest mid o before after one last → later ≡ objects ++ o ∷ []
-    → worse ≡ max status one → ReadsAll line New honest first later after worse last
-read_more {line} {now} {honest} {first} {mid} {last} {objects} {later} {o} {before} {after} {status} {one} {worse} {Old} {New} so_far unchanged same is more worst_is =
-    let reading : List Reading = (o, is.answer) ∷ [] in
-    let lines : after ≡ before ++ answer_line line o is.answer = subst (λ l. after ≡ before ++ answer_line l o is.answer) same is.lines in
-    record {
-      readings = so_far.readings ++ reading;
-      of_objects = map-append (λ r. r.0) so_far.readings reading ∙ ap (λ xs. xs ++ o ∷ []) so_far.of_objects ∙ sym more;
-      each = λ h. All-append (IsRead first.files) so_far.readings reading (so_far.each h)
-          (All-cons (IsRead first.files) (o, is.answer) [] (subst (λ f. IsRead f (o, is.answer)) (unchanged h) (is.read h)) (All-nil (IsRead first.files)));
-      lines = search (rules, append-nil, flat_map-append);
-      worst_of = search (rules, map-append, fold-append);
-      kept = subst New (sym (flat_map-append (λ r. record_in r.1) so_far.readings reading)) (rw append-nil (is.added (records_in so_far.readings) so_far.kept));
-      counted = subst (λ os. TellsCounted (SaysLines line) first.failures os after last.failures) (sym more)
-          (counted_more (SaysLines line) first.failures objects before mid.failures o is.answer (answer_line line o is.answer) after last.failures
-          so_far.counted is.counted refl lines);
-    }
+pub kept_more : (Old New : List CommandRecord → Type 0) (parts : List (Part (Option CommandRecord))) (p : Part (Option CommandRecord)) → Old (records_in parts)
+    → Adds Old New p.answer → New (records_in (parts ++ p ∷ []))
+kept_more Old New parts p kept adds = subst New (sym (flat_map-append (λ q. record_in q.answer) parts (p ∷ []))) (rw append-nil (adds (records_in parts) kept))
+
+-- by the same files, in the same lines
+pub read_over : (honest : Type 0) (f g : Files) (now line : List ℕ → Option CommandRecord → List ℕ) → (honest → f ≡ g) → now ≡ line
+    → (p : Part (Option CommandRecord)) → IsReadIn honest f now p → IsReadIn honest g line p
+read_over honest f g now line same is p read = record {
+  read = λ h. subst (λ files. IsRead files p.object p.answer) (same h) (read.read h);
+  lines = subst (λ l. p.lines ≡ answer_line l p.object p.answer) is read.lines;
+}
 
 pub count_more : {X : Type 0} (p : X → Bool) (xs : List X) (x : X) (n one : ℕ) → n ≡ count_by p xs → one ≡ one_if (p x) → n + one ≡ count_by p (xs ++ x ∷ [])
 count_more p xs x n one so_far is = search (rules, sum_by-append, sum_by-cons)
@@ -59,25 +50,29 @@ costs_more (Ok done) old new before file more sound costs had = record {
 }
 costs_more (Err e) old new before file more sound costs had = tt
 
--- ---- the records among the readings
+-- ---- the records among the answers
 
-pub few_records : (rs : List Reading) → length (records_in rs) ≤ length rs
+few_one : (answer : Result (Option CommandRecord) EngineError) → length (record_in answer) ≤ 1
+few_one (Ok (Some file)) = search rules
+few_one (Ok None) = search rules
+few_one (Err e) = search rules
+
+pub few_records : (ps : List (Part (Option CommandRecord))) → length (records_in ps) ≤ length ps
 few_records [] = search rules
-few_records ((o, Ok (Some file)) ∷ rs) = grind (arith, common_steps, (few_records rs))
-few_records ((o, Ok None) ∷ rs) = grind (arith, common_steps, (few_records rs))
-few_records ((o, Err e) ∷ rs) = grind (arith, common_steps, (few_records rs))
+few_records (p ∷ ps) = grind (arith, common_steps, (few_one p.answer), (few_records ps), length-append)
 
-pub few_read : {line : List ℕ → Option CommandRecord → List ℕ} {HasRead : List CommandRecord → Type 0} {honest : Type 0} {first last : FileState}
-    {objects : List (List ℕ)} {text : List ℕ} {status : ℕ} → (is : ReadsAll line HasRead honest first objects text status last)
-    → length (records_in is.readings) ≤ length objects
-few_read is = omega (arith, few_records is.readings, length-map is.readings (λ r. r.0), ap length is.of_objects)
+count_one : (holds : Result (Option CommandRecord) EngineError → Bool) → holds (Ok None) ≡ false → ((e : EngineError) → holds (Err e) ≡ false)
+    → (answer : Result (Option CommandRecord) EngineError) (rest : List CommandRecord)
+    → count_by (λ file. holds (Ok (Some file))) (record_in answer ++ rest) ≡ one_if (holds answer) + count_by (λ file. holds (Ok (Some file))) rest
+count_one holds none refused (Ok (Some file)) rest = search (rules, sum_by-cons)
+count_one holds none refused (Ok None) rest = grind (arith, common_steps, none)
+count_one holds none refused (Err e) rest = grind (arith, common_steps, (refused e))
 
-pub count_records : (p : Result (Option CommandRecord) EngineError → Bool) → p (Ok None) ≡ false → ((e : EngineError) → p (Err e) ≡ false) → (rs : List Reading)
-    → count_by (λ file. p (Ok (Some file))) (records_in rs) ≡ count_by (λ r. p r.1) rs
-count_records p none refused [] = refl
-count_records p none refused ((o, Ok (Some file)) ∷ rs) = grind (arith, common_steps, sum_by-cons, (count_records p none refused rs))
-count_records p none refused ((o, Ok None) ∷ rs) = grind (arith, common_steps, (count_records p none refused rs))
-count_records p none refused ((o, Err e) ∷ rs) = grind (arith, common_steps, (count_records p none refused rs))
+pub count_records : (holds : Result (Option CommandRecord) EngineError → Bool) → holds (Ok None) ≡ false → ((e : EngineError) → holds (Err e) ≡ false)
+    → (ps : List (Part (Option CommandRecord))) → count_by (λ file. holds (Ok (Some file))) (records_in ps) ≡ count_by (λ p. holds p.answer) ps
+count_records holds none refused [] = refl
+count_records holds none refused (p ∷ ps) =
+    grind (arith, common_steps, sum_by-cons, (count_one holds none refused p.answer (records_in ps)), (count_records holds none refused ps))
 
 -- ---- symbols among which are the same names
 
@@ -98,16 +93,3 @@ same_user ss ts same (Err e) = refl
 -- two costs that are the same of each symbol
 pub same_costs : (f g : List ℕ → ℕ) (costs : List (List ℕ × ℕ)) → ((x : List ℕ) → f x ≡ g x) → AreCosts f costs → AreCosts g costs
 same_costs f g costs same are = search rules
-
--- ---- all targets
-
-module _ {line : List ℕ → Option CommandRecord → List ℕ} {HasRead : List CommandRecord → Type 0} {honest : Type 0} {old new : FileState} {targets : Targets} {told : Told} where
-  pub targets_there : (is : ReadsTargets line HasRead honest old targets told new) → honest → targets_at old.files targets ≡ Ok (with_file (words_of targets) is.from)
-  targets_there is h = ap (λ r. and_then r (λ t. Ok (with_file (words_of targets) t))) (is.there h)
-
-  pub all_read : (is : ReadsTargets line HasRead honest old targets told new) → honest
-      → AreRead old.files (all_noted [] (with_file (words_of targets) is.from)) is.reads.readings
-  all_read is h = record { of_objects = is.reads.of_objects; each = subst (λ f. All (IsRead f) is.reads.readings) (is.unchanged h) (is.reads.each h) }
-
-  pub read_counted : ReadsTargets line HasRead honest old targets told new → ReadsCounted line honest old targets told.text.items new
-  read_counted is = search rules

@@ -45,18 +45,18 @@ pub use Rattle.ks_tree.specs.declared.tree.Tree.{Ghosts}
 pub use Rattle.ks_commands.specs.AskedSymbols.{symbols_in}
 pub use Rattle.ks_commands.specs.Differences.{IsDiff, asks_status, difference_line, difference_status, lines_asked}
 unfoldable pub use Rattle.ks_commands.specs.Fixdep.{command_file_at}
-pub use Rattle.ks_commands.specs.Histories.{Continues, FollowsStamps, Runs}
+pub use Rattle.ks_commands.specs.Histories.{Continues, FollowsStamps, Runs, by_histories, files_of}
 pub use Rattle.ks_commands.specs.Kept.{AreGiven, AreKept, IsKept}
 pub use Rattle.ks_commands.specs.Laws.{BatchTellsChanges, PreviewsArePerformed, ProgramsTellChanges, RefusalsChangeNothing, RequestsGoOn, StatusesAreAtMostTwo, StatusesTellDifferences}
-pub use Rattle.ks_commands.specs.Performed.{ReadsCounted, AsksCounted, Ends, EndsAll, EndsImpact, IsCounted, Performs, RunsAll, RunsCounted, RunsOn, Says, SaysLines, TellsAll, TellsAnswer, TellsCounted, TellsVerdict, by_files, count_of, not_counted}
+pub use Rattle.ks_commands.specs.Parts.{AreTold, Asking, Asks, EndsAsked, IsCounted, Part, TellsAll, TellsOne, statuses}
+pub use Rattle.ks_commands.specs.Performed.{Ends, EndsDepfile, EndsImpact, EndsSync, Performs, RunsAll, RunsOn, by_files}
 pub use Rattle.ks_commands.specs.Programs.{Chain, ProgramRun, ProgramTellsChanges, StepsTellChanges, TellsAfter, TellsBuild, TellsCauses, TellsChange}
-pub use Rattle.ks_commands.specs.Questions.{IsSpelled, LineCounted, counted_of, tells_of}
-pub use Rattle.ks_commands.specs.Readings.{records_in, record_in, ReadsTargets, ReadsOne, ReadsAll, HasCosts, Adds}
-pub use Rattle.ks_commands.specs.Records.{AreRead, IsRead, Reading, cost_among, is_user, lines_of, names_it, user_count, uses_in, uses_lines}
+pub use Rattle.ks_commands.specs.Questions.{IsExplainedIn, IsSpelled, asking_by, counted_of, explaining, no_count, stale_count}
+pub use Rattle.ks_commands.specs.Readings.{Adds, HasCosts, record_in, records_in}
+pub use Rattle.ks_commands.specs.Records.{IsRead, IsReadIn, cost_among, is_user, names_it, reading, user_count, uses_in, uses_lines}
 pub use Rattle.ks_commands.specs.Scripts.{AreSpelled, IsGivenUpRefusal, action_at, actions_at, line_of, of_engine, script_actions, without_files}
 unfoldable pub use Rattle.ks_commands.specs.Scripts.{script_at}
 pub use Rattle.ks_commands.specs.Stamps.{LeavesStamps}
-pub use Rattle.ks_commands.specs.Spelling.{IsLine, spelling_line, spelling_of, step}
-pub use Rattle.ks_commands.specs.declared.readings.Told.{Told}
+pub use Rattle.ks_commands.specs.Spelling.{IsLine, spelled_in, spelling_line, spelling_of, spelling_told, step}
 pub use Rattle.ks_engine.specs.Judged.{IsJudged}
 pub use Rattle.std.proofs.lemmas.List.Elements.{filter_agree}

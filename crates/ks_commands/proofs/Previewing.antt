@@ -2,7 +2,7 @@
 use Rattle.std.specs.Prelude.{if◌then◌else◌, nat_eq}
 use Rattle.std.specs.Option.{is_some}
 use Rattle.std.specs.Result.{is_err}
-use Rattle.ks_commands.proofs.Prelude.{of_source, IsRefusal, ◌≡◌, ◌≢◌, ◌∙◌, ◌++◌, ◌+◌, inl, inr, refl, sym, ap, subst, ℕ, Bool, true, false, List, Option, Some, None, Result, Ok, Err, Files, KconfigText, EngineError, GenerationFull, TooLarge, SourceError, OldAuto, Plan, Sources, AreChanges, IsSyncPlan, and_then, or_else, content, auto_path, plan_over, option_map, length, nat_lt}
+use Rattle.ks_commands.proofs.Prelude.{of_source, IsRefusal, ◌≡◌, ◌≢◌, ◌∙◌, ◌++◌, ◌+◌, inl, inr, refl, sym, ap, subst, ℕ, Bool, true, false, List, Option, Some, None, Ok, Err, Files, KconfigText, EngineError, GenerationFull, TooLarge, SourceError, OldAuto, Plan, Sources, AreChanges, IsSyncPlan, and_then, or_else, content, auto_path, plan_over, option_map, length, nat_lt}
 use Rattle.ks_symbols.specs.Lines.{max_bytes}
 use Rattle.ks_symbols.specs.declared.error.SourceError.TheVariants as source
 use Rattle.ks_output.specs.declared.auto_conf.AutoError.TheVariants as auto

@@ -1,9 +1,7 @@
--- What a read after a refusal leaves.
-use Rattle.ks_commands.proofs.Prelude.{Dialect, ◌≡◌, ◌≢◌, ℕ, List, Option, Some, None, Ok, Err, sym, ap, ◌∙◌, subst, arith, Ghosts, Files, Reads, OutOfMemory, FileState, state, Refusal, Engine, Request, IsSiteLine, Site, excerpt_at, site_of, Ends, Performs, by_files, rules}
-use Rattle.ks_requests.specs.declared.request.Request.TheVariants as request
+-- What a read after a refusal leaves, and where there is none.
+use Rattle.ks_commands.proofs.Prelude.{◌≡◌, List, ℕ, Option, Some, None, Ok, Err, refl, sym, ap, ◌∙◌, subst, Ghosts, Files, Reads, IsSiteLine, Site, excerpt_at, rules}
 use Rattle.ks_tree.specs.Files.{IsTooLarge, content}
 use Rattle.ks_tree.specs.declared.fault.TreeFault.TheVariants as fault
-use Rattle.ks_commands.specs.Aging.{AgesAsked}
 
 -- what stands there, with the files as they are after they were read
 pub site_line_kept : (honest : Type 0) (old new : Files) (site : Option Site) (line : List ℕ) → (honest → new ≡ old) → IsSiteLine honest old site line
@@ -16,25 +14,6 @@ site_line_kept honest old new (Some site) line same (Err fault.OutOfMemory, ther
 site_line_kept honest old new (Some site) line same (Err fault.Device, there, whole) = (Err fault.Device, there, whole)
 site_line_kept honest old new None line same is = is
 
--- ---- a read after a refusal
-
--- want of memory has no site
-pub has_site : (asked : Request) (r : Refusal) (site : Site) → Some site ≡ site_of asked r → r ≢ Engine OutOfMemory
-has_site (request.Batch p) r site found memory = cc
-has_site asked r site found memory = cc
-
-files_after : (dialect : Dialect) (asked : Request) (r : Refusal) (old mid new : FileState) → r ≢ Engine OutOfMemory → mid.files ≡ new.files
-    → Ends old.files (by_files dialect old mid) asked (Err r) → Ends old.files (by_files dialect old new) asked (Err r)
-files_after dialect (request.Batch p) r old mid new plain same ends = search rules
-files_after dialect asked r old mid new plain same ends = search rules
-
--- A refusal after which a file was read again is that refusal.
-pub read_after : {T : Type 0} (tree : Ghosts T) (dialect : Dialect) (old mid new : T) (asked : Request) (r : Refusal) → r ≢ Engine OutOfMemory
-    → Performs tree dialect old mid asked (Err r) → Reads tree mid new ⊥ → Performs tree dialect old new asked (Err r)
-read_after tree dialect old mid new asked r plain performs reads = record {
-  done = performs.done;
-  files = λ honest. files_after dialect asked r (state tree old) (state tree mid) (state tree new) plain (sym (reads.unchanged honest)) (performs.files honest);
-  cause = search (rules, arith);
-  aged = λ honest. subst (λ (l : List (List ℕ)). AgesAsked (tree.files old) asked (Err r) (tree.aged old) l) (sym reads.kept) (performs.aged honest);
-  counts = tt;
-}
+-- nothing is read
+pub nothing_read : {T : Type 0} (tree : Ghosts T) (t : T) → Reads tree t t ⊥
+nothing_read tree t = record { unchanged = λ honest. refl; kept = refl; counted = record { later = search rules; cause = λ device. absurd device } }

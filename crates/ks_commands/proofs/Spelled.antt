@@ -1,5 +1,5 @@
 -- An answer that is written with another spelling.
-use Rattle.ks_commands.proofs.Prelude.{◌≡◌, ◌⊎◌, ◌≤◌, ◌++◌, ℕ, List, Option, None, Result, Err, append_assoc, arith, refl, Files, HasRisen, EngineError, Explanation, Question, IsExplanationOn, IsAnswerTo, limit_of, IsGivenUpAnswer, Form, answer_in, explanation_status, status_unless_refused, IsSpelled, LineCounted, tells_of, IsLine, spelling_line, spelling_of, common_steps, rules}
+use Rattle.ks_commands.proofs.Prelude.{◌≡◌, ◌⊎◌, ◌≤◌, ◌++◌, ℕ, List, Option, None, Result, Err, inl, inr, sym, subst, append_assoc, arith, refl, Files, HasRisen, EngineError, Explanation, Question, IsExplanationOn, IsAnswerTo, limit_of, IsGivenUpAnswer, Form, answer_in, explanation_status, status_unless_refused, IsCounted, TellsOne, asking_by, IsSpelled, IsLine, spelled_in, spelling_line, spelling_of, spelling_told, common_steps, rules}
 use Rattle.ks_engine.specs.declared.error.EngineError.TheVariants as engine
 
 -- an answer that gave up has no spelling, and is one to `why`
@@ -11,17 +11,40 @@ gave_up_explains : (files : Files) (o : List ℕ) (told : Result Explanation Eng
 gave_up_explains files o (Err e) up = search rules
 gave_up_explains files o told up = absurd up
 
-pub spelled_told : (files : Files) (question : Question) (form : Form) (o : List ℕ) (answer told : Result Explanation EngineError)
-    (spelling : Option (List ℕ)) (before mid after : List ℕ) (status : ℕ) → IsAnswerTo question files o answer
-    → IsSpelled files question form o answer told spelling → IsLine (limit_of question) form spelling
-    → mid ≡ before ++ answer_in form (limit_of question) o told → after ≡ mid ++ spelling_line spelling
-    → status ≡ status_unless_refused explanation_status told
-    → (lines : List ℕ) × (after ≡ before ++ lines) × tells_of files form question o lines status
-spelled_told files question form o answer told spelling before mid after status answers spelled line first then is = grind (arith, common_steps, append_assoc, gave_up_explains, no_spelling)
+-- the device failed before, or on the way
+risen : (l m n : ℕ) (Before : Type 0) → l ≤ m → (Before → HasRisen l m) → m ≤ n → Before ⊎ HasRisen m n → HasRisen l n
+risen l m n Before small before large (inl was) = grind (arith, common_steps, (before was))
+risen l m n Before small before large (inr is) = grind (arith, common_steps)
 
-pub spelled_counted : (question : Question) (form : Form) (o : List ℕ) (answer told : Result Explanation EngineError) (spelling : Option (List ℕ))
-    (before mid after : List ℕ) (l m n : ℕ) → IsLine (limit_of question) form spelling
-    → mid ≡ before ++ answer_in form (limit_of question) o told → after ≡ mid ++ spelling_line spelling
-    → l ≤ m → m ≤ n → (answer ≡ Err engine.Device → HasRisen l m) → (told ≡ Err engine.Device → (answer ≡ Err engine.Device) ⊎ HasRisen m n)
-    → (lines : List ℕ) × (after ≡ before ++ lines) × LineCounted form question l o lines n
-spelled_counted question form o answer told spelling before mid after l m n line first then small large asked cause = grind (arith, common_steps, append_assoc)
+told_answers : (files : Files) (question : Question) (form : Form) (o : List ℕ) (answer told : Result Explanation EngineError) (spelling : Option (List ℕ))
+    → IsAnswerTo question files o answer → IsSpelled files question form o answer told spelling → IsAnswerTo question files o told
+told_answers files question form o answer told spelling answers (inl (same, alike)) = subst (λ a. IsAnswerTo question files o a) (sym same) answers
+told_answers files question form o answer told spelling answers (inr (why, up, none)) =
+    subst (λ q. IsAnswerTo q files o told) (sym why) (gave_up_explains files o told up)
+
+told_spelled : (files : Files) (question : Question) (form : Form) (o : List ℕ) (answer told : Result Explanation EngineError) (spelling : Option (List ℕ))
+    → IsSpelled files question form o answer told spelling
+    → spelling_told (limit_of question) form spelling ≡ spelling_told (limit_of question) form (spelling_of files o told)
+told_spelled files question form o answer told spelling (inl (same, alike)) =
+    subst (λ a. spelling_told (limit_of question) form spelling ≡ spelling_told (limit_of question) form (spelling_of files o a)) (sym same) alike
+told_spelled files question form o answer told spelling (inr (why, up, none)) = rw (none, no_spelling files o told up) refl
+
+pub spelled_told : (honest : Type 0) (files : Files) (question : Question) (form : Form) (o : List ℕ) (answer told : Result Explanation EngineError)
+    (spelling : Option (List ℕ)) (before mid after : List ℕ) (code l m n : ℕ) → IsCounted l answer m → (honest → IsAnswerTo question files o answer)
+    → (honest → IsSpelled files question form o answer told spelling) → IsLine (limit_of question) form spelling
+    → mid ≡ before ++ answer_in form (limit_of question) o told → after ≡ mid ++ spelling_line spelling → code ≡ status_unless_refused explanation_status told
+    → m ≤ n → (told ≡ Err engine.Device → (answer ≡ Err engine.Device) ⊎ HasRisen m n)
+    → TellsOne (asking_by honest files form question).told explanation_status l o before after code n
+spelled_told honest files question form o answer told spelling before mid after code l m n counted answers spelled line first then is later cause = record {
+  part = record { object = o; answer = told; lines = spelled_in form (limit_of question) o told spelling };
+  of_object = refl;
+  counted = record { later = omega (arith, counted.later); cause = λ device. risen l m n (answer ≡ Err engine.Device) counted.later counted.cause later (cause device) };
+  is_told = record {
+    answered = λ h. told_answers files question form o answer told spelling (answers h) (spelled h);
+    spelling = spelling;
+    spelled = λ h. told_spelled files question form o answer told spelling (spelled h);
+    lines = refl;
+  };
+  lines = search (rules, append_assoc, line);
+  status_of = is;
+}

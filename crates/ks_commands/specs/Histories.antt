@@ -1,5 +1,5 @@
 -- How a history that the files show goes on with a request, by how the request ended.
-use Rattle.std.specs.Prelude.{◌≤◌, ℕ, List, Result}
+use Rattle.std.specs.Prelude.{◌≤◌, ℕ, List, Result, ⊤}
 use Rattle.ks_symbols.specs.declared.dialect.Dialect.{Dialect}
 use Rattle.ks_symbols.specs.Dialects.{KconfigText, read_in}
 use Rattle.ks_engine.specs.declared.commands.Reply.{Reply}
@@ -32,7 +32,7 @@ Runs dialect old new actions replies = (failures : ℕ) × (old.failures ≤ fai
 
 -- What changes a tree is the next event. A question adds none, and what it is answered by the files holds of each history that they show.
 abbrev pub by_histories : Dialect → TreeState → TreeState → Effects
-by_histories dialect old new = record (by_files dialect (files_of old) (files_of new)) {
+by_histories dialect old new = record (by_files dialect ⊤ (files_of old) (files_of new)) {
   same = IsSame old new;
   sync = λ stamps k d answer. FollowsStamps stamps (read_in dialect k) d answer old new;
   recording = λ d t c answer. FollowsRecord dialect d t c answer old new;
@@ -42,4 +42,4 @@ by_histories dialect old new = record (by_files dialect (files_of old) (files_of
 
 -- The next state of a tree, by this request that ended so.
 abbrev pub Continues : Dialect → Request → Ending → TreeState → TreeState → Type 0
-Continues dialect request ended old new = Ends old.files (by_histories dialect old new) request ended
+Continues dialect request ended old new = Ends ⊤ (by_histories dialect old new) (files_of old) request ended (files_of new)

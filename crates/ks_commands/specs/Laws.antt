@@ -1,6 +1,6 @@
 -- Laws of the definitions: how histories go on with a request, what a preview has written, what a refusal leaves, the statuses, when names differ, what
 -- runs of the program tell, and what `age` is for.
-use Rattle.std.specs.Prelude.{◌≡◌, ◌⊎◌, ◌<◌, ◌≤◌, ◌↔◌, ℕ, List, Option, Result, Err, IfOk, Ok, false, true}
+use Rattle.std.specs.Prelude.{◌≡◌, ◌⊎◌, ◌<◌, ◌≤◌, ◌↔◌, ℕ, List, Option, Result, Err, IfOk, Ok, false, true, ⊤}
 use Rattle.std.specs.List.{All}
 use Rattle.ks_streams.specs.Streams.{State}
 use Rattle.ks_symbols.specs.declared.dialect.Dialect.{Dialect}
@@ -22,7 +22,7 @@ use Rattle.ks_requests.specs.Outputs.{WritesPreview}
 use Rattle.ks_requests.specs.Requests.{IsPreviewOf}
 use Rattle.ks_requests.specs.Statuses.{code_of}
 use Rattle.ks_commands.specs.Aging.{EndsAged}
-use Rattle.ks_commands.specs.Histories.{Continues, by_histories}
+use Rattle.ks_commands.specs.Histories.{Continues, by_histories, files_of}
 use Rattle.ks_commands.specs.Performed.{Ends, EndsBatch, by_files}
 use Rattle.ks_symbols.specs.Configuration.{Configuration}
 use Rattle.ks_output.specs.OldConfig.{Texts}
@@ -37,7 +37,7 @@ use Rattle.ks_commands.specs.Scripts.{IsGivenUpRefusal}
 abbrev pub RequestsGoOn : Type 0
 RequestsGoOn =
     (dialect : Dialect) (request : Request) (ended : Ending) (old new : FileState) (h : History) → Shows old.files h
-    → Ends old.files (by_files dialect old new) request ended → (next : History)
+    → Ends ⊤ (by_files dialect ⊤ old new) old request ended new → (next : History)
     × Continues dialect request ended (at old.files old.failures h) (at new.files new.failures next) × Shows new.files next
 
 -- A preview is done or refused, leaves the files as they are, and once done it has printed what is said of these words, to whoever reads it.
@@ -50,13 +50,13 @@ abbrev pub PreviewsArePerformed : Type 0
 PreviewsArePerformed =
     (dialect : Dialect) (k d : List ℕ) (o : Option (List ℕ)) (request : Request) (ended : Ending) (following : List ℕ) (old new : FileState)
     (before after err_before err_after : State) (status : ℕ)
-    → IsPreviewOf k d o request → Ends old.files (by_files dialect old new) request ended → Printed following ended before after err_before err_after status
+    → IsPreviewOf k d o request → Ends ⊤ (by_files dialect ⊤ old new) old request ended new → Printed following ended before after err_before err_after status
     → IsPreviewed dialect k d o old.files new.files before after status
 
 -- A refusal of the whole command leaves the files as before, but for want of memory and a failure of the device.
 abbrev pub RefusalsChangeNothing : Type 0
 RefusalsChangeNothing = (dialect : Dialect) (request : Request) (refusal : Refusal) (old new : FileState)
-    → (IsGivenUpRefusal refusal → ⊥) → Ends old.files (by_files dialect old new) request (Err refusal) → new.files ≡ old.files
+    → (IsGivenUpRefusal refusal → ⊥) → Ends ⊤ (by_files dialect ⊤ old new) old request (Err refusal) new → new.files ≡ old.files
 
 -- The status is at most 2, and 0 or 2 of what is done or refused.
 pub record IsStatusOf (ended : Ending) (status : ℕ) : Type 0 where
@@ -75,7 +75,7 @@ StatusesTellDifferences = (telling : Telling) (old : Texts) (new : Configuration
 -- A script that runs without a refusal, after a history without a broken synchronisation, tells what changed.
 abbrev pub BatchTellsChanges : Type 0
 BatchTellsChanges = (dialect : Dialect) (path : List ℕ) (o : Outcome) (old new : TreeState) → code_of o.status < 2 → NoneBroken old.history
-    → EndsBatch old.files (by_histories dialect old new) path (Ok o) → EndsBatch old.files (changes_told dialect old new) path (Ok o)
+    → EndsBatch ⊤ (by_histories dialect old new) (files_of old) path (Ok o) → EndsBatch ⊤ (changes_told dialect old new) (files_of old) path (Ok o)
 
 -- So does each of any list of runs of the program, of which no synchronisation was broken off.
 abbrev pub ProgramsTellChanges : Type 0

@@ -4,6 +4,7 @@ use Rattle.clap.specs.Words.{Text, fault_of, takes}
 use Rattle.ks_streams.specs.Streams.{State}
 use Rattle.ks_symbols.specs.declared.dialect.Dialect.{Dialect}
 use Rattle.ks_tree.specs.declared.tree.Tree.{Ghosts}
+use Rattle.ks_tree.specs.Frames.{Reads}
 use Rattle.ks_engine.specs.declared.error.EngineError.TheVariants.{OutOfMemory}
 use Rattle.ks_requests.specs.declared.refusal.Refusal.TheVariants.{Engine}
 use Rattle.ks_requests.specs.declared.request.Request.{Request}
@@ -27,11 +28,11 @@ Refuses asked (why.Refused said) before after err_before err_after status = Expl
 Refuses asked why.OutOfMemory before after err_before err_after status =
     Printed [] (Err (Engine OutOfMemory)) before after err_before err_after status
 
--- A request was performed, and a refusal told with where it points. Where there is none the tree is as before, and all words that make none for
--- this reason are explained, or memory was refused for them.
+-- A request was performed, and then no more than read: a refusal is told with where it points. Where there is none the tree is as before, and all
+-- words that make none for this reason are explained, or memory was refused for them.
 abbrev pub Executes : {T : Type 0} → Ghosts T → Dialect → Result Request WordsError → T → T → State → State → State → State → ℕ → Type 0
-Executes tree dialect (Ok request) old new before after err_before err_after status =
-    (ended : Ending) × Performs tree dialect old new request ended
+Executes {T} tree dialect (Ok request) old new before after err_before err_after status =
+    (ended : Ending) × (done : T) × Performs tree dialect old done request ended × Reads tree done new ⊥
     × (following : List ℕ) × IsSiteLine tree.is_honest (tree.files new) (ending_site request ended) following
     × Printed following ended before after err_before err_after status
 Executes tree dialect (Err e) old new before after err_before err_after status =

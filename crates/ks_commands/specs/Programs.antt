@@ -1,5 +1,5 @@
 -- Runs of the program, one after the other over the files of one tree.
-use Rattle.std.specs.Prelude.{◌≡◌, ◌⊎◌, ◌≤◌, ℕ, List, [], ◌∷◌, Some, Result, Ok, IfOk, IsTrue, bytes_eq, filter, false, map, true}
+use Rattle.std.specs.Prelude.{◌≡◌, ◌⊎◌, ◌≤◌, ℕ, List, [], ◌∷◌, Some, Result, Ok, IfOk, IsTrue, bytes_eq, filter, false, map, true, ⊤}
 use Rattle.std.specs.List.{All}
 use Rattle.ks_fixdep.specs.CommandFile.{is_command}
 use Rattle.ks_symbols.specs.declared.dialect.Dialect.{Dialect}
@@ -26,7 +26,7 @@ use Rattle.ks_engine.specs.Synchronised.{IsSynced}
 use Rattle.ks_engine.specs.Verdicts.{IsChangedVerdict, IsSafeVerdict}
 use Rattle.ks_requests.specs.declared.request.Request.{Request}
 use Rattle.ks_requests.specs.Endings.{Ending}
-use Rattle.ks_commands.specs.Histories.{Continues, by_histories}
+use Rattle.ks_commands.specs.Histories.{Continues, by_histories, files_of}
 use Rattle.ks_commands.specs.Performed.{Effects, Ends}
 
 pub record ProgramRun : Type 0 where
@@ -87,4 +87,5 @@ changes_told dialect old new = record (by_histories dialect old new) {
 
 -- All that a run of the program prints of recorded objects tells what changed.
 abbrev pub ProgramTellsChanges : ProgramRun → Type 0
-ProgramTellsChanges run = Ends run.before.files (changes_told run.dialect run.before run.after) run.request run.ended
+ProgramTellsChanges run =
+    Ends ⊤ (changes_told run.dialect run.before run.after) (files_of run.before) run.request run.ended (files_of run.after)

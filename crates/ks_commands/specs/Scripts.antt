@@ -1,5 +1,5 @@
 -- What a script asks for, by the files that it names.
-use Rattle.std.specs.Prelude.{◌≡◌, ◌⊎◌, ℕ, List, [], ◌∷◌, Option, Some, None, Result, Ok, Err, map}
+use Rattle.std.specs.Prelude.{◌≡◌, ℕ, List, [], ◌∷◌, Option, Some, None, Result, Ok, Err, map}
 use Rattle.ks_tree.specs.Files.{Files}
 use Rattle.ks_engine.specs.declared.error.EngineError.{EngineError}
 use Rattle.ks_engine.specs.Actions.{Action}
@@ -11,7 +11,6 @@ use Rattle.ks_requests.specs.ScriptRefusals.{script_refusal}
 use Rattle.ks_requests.specs.declared.script_error.ScriptError.{ScriptError}
 use Rattle.ks_requests.specs.declared.refusal.Refusal.{Refusal}
 use Rattle.ks_requests.specs.declared.refusal.Refusal.TheVariants.{Engine}
-use Rattle.ks_requests.specs.Endings.{Ending}
 use Rattle.ks_requests.specs.Inputs.{given, read_texts}
 use Rattle.ks_requests.specs.Refusals.{of_script}
 
@@ -65,7 +64,3 @@ script_at files path = actions_of files (given files path)
 abbrev pub IsGivenUpRefusal : Refusal → Type 0
 IsGivenUpRefusal (Engine e) = IsGivenUp e
 IsGivenUpRefusal r = ⊥
-
--- It is refused as the script is, or gives up before its first command.
-abbrev pub StoppedScript : Result (List Action) Refusal → Ending → Type 0
-StoppedScript step ended = (r : Refusal) × (IsGivenUpRefusal r ⊎ (step ≡ Err r)) × (ended ≡ Err r)

@@ -1,16 +1,17 @@
 //! Aging what is stale: each object is asked for and told of as by `stale`, and where it is stale it is aged before its line is
 //! written. So each line says what became of its object, and a refused one does not keep the next from being aged.
-ghost use Rattle.std.specs.Prelude.{◌≡◌, ℕ, Err, IfOk, None, length, map};
+ghost use Rattle.std.specs.Prelude.{◌≡◌, List, Err, IfOk, None, length, map};
 ghost use Rattle.ks_tree.specs.Frames.{Counted};
-ghost use Rattle.ks_engine.specs.FileRuns.{IsAnswerOn, state};
+ghost use Rattle.ks_engine.specs.FileRuns.{state};
 ghost use Rattle.ks_engine.specs.declared.error.EngineError.TheVariants.{Device};
-ghost use Rattle.ks_engine.specs.declared.question.Limit.TheVariants.{First};
+ghost use Rattle.ks_engine.specs.declared.explaining.Explanation.{Explanation};
 ghost use Rattle.ks_requests.specs.declared.refusal.Refusal.TheVariants.{Engine};
 ghost use Rattle.ks_requests.specs.declared.request.Form.TheVariants.{Text};
-ghost use Rattle.ks_requests.specs.Statuses.{code_of};
+ghost use Rattle.ks_requests.specs.Statuses.{code_of, explanation_status};
 ghost use Rattle.ks_requests.specs.Targets.{targets_at};
 ghost use Rattle.ks_commands.specs.Aging.{AgesAll, EndsAged};
-ghost use Rattle.ks_commands.specs.Performed.{AsksCounted, EndsAll, Says, TellsAll, TellsCounted, TellsVerdict, not_counted};
+ghost use Rattle.ks_commands.specs.Parts.{EndsAsked, Part, TellsAll};
+ghost use Rattle.ks_commands.specs.Questions.{asking_by, no_count};
 
 use ks_engine::{Ages, Memo, Question, age_if_stale};
 use ks_fixdep::Seed;
@@ -30,11 +31,10 @@ fn age_all<T: Aging>(
     ensures counts { Counted T.Tree tree.old tree.new ⊥ }
     ensures unchanged { T.is_honest → T.files tree.new ≡ T.files tree.old }
     ensures aged { T.is_honest → AgesAll which (T.files tree.old) (map (λ t. t.now) targets.now) result (T.aged tree.old) (T.aged tree.new) }
-    ensures told { T.is_honest → IfOk result (λ o. (stale : ℕ)
-        × TellsAll (TellsVerdict Text (IsAnswerOn (T.files tree.old))) (map (λ t. t.now) targets.now) o.text.items (code_of o.status) stale) }
+    ensures told { IfOk result (λ o. (parts : List (Part Explanation))
+        × TellsAll (asking_by T.is_honest (T.files tree.old) Text Question.Stale).told explanation_status parts (T.failures tree.old)
+        (map (λ t. t.now) targets.now) o.text.items (code_of o.status) (T.failures tree.new)) }
     ensures none { IfOk result (λ o. o.count ≡ None) }
-    ensures counted { IfOk result (λ o.
-        TellsCounted (Says Text First) (T.failures tree.old) (map (λ t. t.now) targets.now) o.text.items (T.failures tree.new)) }
 {
     let mut text = Vec::new(alloc);
     let mut memo = Memo::with_seed(alloc, Seed::new(tree.seed()));
@@ -58,10 +58,8 @@ pub(crate) fn age_targets<T: Aging>(
     ensures unchanged { T.is_honest → T.files tree.new ≡ T.files tree.old }
     ensures aged { T.is_honest → EndsAged which (T.files tree.old) (targets_at (T.files tree.old) targets.now) result (T.aged tree.old) (T.aged tree.new) }
     // What is told is what `stale` tells.
-    ensures told { T.is_honest → EndsAll (TellsVerdict Text (IsAnswerOn (T.files tree.old))) not_counted
-        (targets_at (T.files tree.old) targets.now) result }
-    ensures counts { IfOk result (λ o.
-        AsksCounted Text First T.is_honest (state T.Tree tree.old) targets.now o.text.items (state T.Tree tree.new)) }
+    ensures told { EndsAsked (asking_by T.is_honest (T.files tree.old) Text Question.Stale) no_count T.is_honest (state T.Tree tree.old) targets.now
+        result (state T.Tree tree.new) }
 {
     let text = read_targets(alloc, tree, targets)?;
     let targets = all_targets(alloc, targets, borrowed(&text))?;

@@ -2,21 +2,19 @@
 //!
 //! So a script that is misspelt, or that names a missing file, changes nothing. A file that several lines name is read and
 //! kept once, and their commands borrow it.
-ghost use Rattle.std.specs.Prelude.{◌≡◌, ◌⊎◌, ◌≤◌, ℕ, List, IfErr, IfOk, OnOk, Ok, Err, Some, None, IsErrOf, map, ⊤};
+ghost use Rattle.std.specs.Prelude.{◌≡◌, ◌⊎◌, ◌≤◌, ℕ, List, IfErr, IfOk, OnOk, Ok, Err, Some, None, IsErrOf, map};
 ghost use Rattle.std.specs.List.{All};
 ghost use Rattle.ks_tree.specs.Frames.{Reads};
 ghost use Rattle.ks_engine.specs.Actions.{action};
 ghost use Rattle.ks_engine.specs.FileRuns.{FileRun, state};
 ghost use Rattle.ks_engine.specs.Refusals.{IsGivenUp};
-ghost use Rattle.ks_engine.specs.declared.commands.Reply.{Reply};
 ghost use Rattle.ks_engine.specs.declared.error.EngineError.TheVariants.{Device};
 ghost use Rattle.ks_tree.specs.Files.{Files, HasRisen, content};
 ghost use Rattle.ks_requests.specs.Script.{script_lines, seen_line};
 ghost use Rattle.ks_requests.specs.ScriptRefusals.{script_refusal};
 ghost use Rattle.ks_requests.specs.declared.refusal.Refusal.TheVariants.{Engine};
 ghost use Rattle.ks_requests.specs.Inputs.{given};
-ghost use Rattle.ks_requests.specs.Replies.{reply_lines};
-ghost use Rattle.ks_commands.specs.Performed.{EndsBatch, RunsAll, RunsCounted, by_files};
+ghost use Rattle.ks_commands.specs.Performed.{EndsBatch, RunsAll, by_files};
 ghost use Rattle.ks_commands.specs.Kept.{AreGiven, AreKept, IsKept};
 ghost use Rattle.ks_commands.specs.Scripts.{IsGivenUpRefusal, action_at, actions_at, line_of, of_engine, script_actions, without_files};
 
@@ -169,11 +167,8 @@ fn run_commands<T: Tree>(
     dialect: Dialect,
     commands: &[Command<'_>],
 ) -> Result<Outcome, Refusal>
-    ensures files { T.is_honest → RunsAll (T.files tree.new ≡ T.files tree.old)
-        (λ replies. FileRun dialect ⊤ (state T.Tree tree.old) (map action commands.now) replies (state T.Tree tree.new)) (map action commands.now) result }
-    ensures counts { IfOk result (λ o. (replies : List Reply)
-        × FileRun dialect T.is_honest (state T.Tree tree.old) (map action commands.now) replies (state T.Tree tree.new)
-        × (o.text.items ≡ reply_lines (map action commands.now) replies)) }
+    ensures ran { RunsAll (T.is_honest → T.files tree.new ≡ T.files tree.old)
+        (λ replies. FileRun dialect T.is_honest (state T.Tree tree.old) (map action commands.now) replies (state T.Tree tree.new)) (map action commands.now) result }
     ensures later { T.failures tree.old ≤ T.failures tree.new }
     ensures kept { T.aged tree.new ≡ T.aged tree.old }
     ensures no_device { result ≡ Err (Engine Device) → ⊥ }
@@ -189,10 +184,9 @@ pub(crate) fn run_script<T: Tree>(
     dialect: Dialect,
     path: &[u8],
 ) -> Result<Outcome, Refusal>
-    ensures files { T.is_honest → EndsBatch (T.files tree.old) (by_files dialect (state T.Tree tree.old) (state T.Tree tree.new)) path.now result }
+    ensures ran { EndsBatch T.is_honest (by_files dialect T.is_honest (state T.Tree tree.old) (state T.Tree tree.new)) (state T.Tree tree.old) path.now result }
     ensures cause { result ≡ Err (Engine Device) → HasRisen (T.failures tree.old) (T.failures tree.new) }
     ensures kept { T.aged tree.new ≡ T.aged tree.old }
-    ensures counts { IfOk result (λ o. RunsCounted dialect T.is_honest (state T.Tree tree.old) path.now o.text.items (state T.Tree tree.new)) }
 {
     let script = read_given(alloc, tree, path)?;
     let Loaded { lines, kept } = load_script(alloc, tree, &script)?;

@@ -47,7 +47,7 @@ pub(crate) fn synchronise<T: Tree>(
     dotconfig: &[u8],
 ) -> Result<Outcome, Refusal>
     ensures done { IfOk result (λ o. o.status ≡ Done) }
-    ensures files { T.is_honest → EndsSync (T.files tree.old) (by_files dialect (state T.Tree tree.old) (state T.Tree tree.new))
+    ensures files { T.is_honest → EndsSync (T.files tree.old) (by_files dialect T.is_honest (state T.Tree tree.old) (state T.Tree tree.new))
         stamps kconfig.now dotconfig.now result }
     ensures cause { result ≡ Err (Engine Device) → HasRisen (T.failures tree.old) (T.failures tree.new) }
     ensures kept { T.aged tree.new ≡ T.aged tree.old }
@@ -68,7 +68,7 @@ pub(crate) fn record_target<T: Tree>(
     command: &[u8],
 ) -> Result<Outcome, Refusal>
     ensures done { IfOk result (λ o. o.status ≡ Done) }
-    ensures files { T.is_honest → EndsRecord (by_files dialect (state T.Tree tree.old) (state T.Tree tree.new)) depfile.now target.now command.now result }
+    ensures files { T.is_honest → EndsRecord (by_files dialect T.is_honest (state T.Tree tree.old) (state T.Tree tree.new)) depfile.now target.now command.now result }
     ensures cause { result ≡ Err (Engine Device) → HasRisen (T.failures tree.old) (T.failures tree.new) }
     ensures kept { T.aged tree.new ≡ T.aged tree.old }
 {
@@ -101,7 +101,7 @@ pub(crate) fn record_rule<T: Tree>(
     command: &[u8],
 ) -> Result<Outcome, Refusal>
     ensures done { IfOk result (λ o. o.status ≡ Done) }
-    ensures files { T.is_honest → EndsDepfile (by_files dialect (state T.Tree tree.old) (state T.Tree tree.new))
+    ensures files { T.is_honest → EndsDepfile (by_files dialect T.is_honest (state T.Tree tree.old) (state T.Tree tree.new))
         (option_map (λ p. p.now) header.entry) depfile.now target.now command.now result }
     ensures cause { result ≡ Err (Engine Device) → HasRisen (T.failures tree.old) (T.failures tree.new) }
     ensures kept { T.aged tree.new ≡ T.aged tree.old }

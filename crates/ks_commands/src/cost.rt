@@ -5,8 +5,6 @@ ghost use Rattle.ks_engine.specs.Costs.{seen_cost};
 ghost use Rattle.ks_engine.specs.FileRuns.{state};
 ghost use Rattle.ks_engine.specs.declared.error.EngineError.TheVariants.{Device};
 ghost use Rattle.ks_requests.specs.declared.refusal.Refusal.TheVariants.{Engine};
-ghost use Rattle.ks_requests.specs.Targets.{targets_at};
-ghost use Rattle.ks_commands.specs.Performed.{ReadsCosts};
 ghost use Rattle.ks_commands.specs.Readings.{HasCosts};
 ghost use Rattle.ks_commands.specs.Records.{EndsCost, at_most, cost_lines, unread_lines};
 
@@ -68,8 +66,7 @@ pub(crate) fn tell_cost<T: Tree>(
     targets: &Targets,
 ) -> Result<Outcome, Refusal>
     ensures reads { Reads T.Tree tree.old tree.new (result ≡ Err (Engine Device)) }
-    ensures told { T.is_honest → EndsCost (T.files tree.old) top (targets_at (T.files tree.old) targets.now) result }
-    ensures counts { IfOk result (λ o. ReadsCosts T.is_honest (state T.Tree tree.old) targets.now o.text.items (state T.Tree tree.new)) }
+    ensures told { EndsCost T.is_honest (state T.Tree tree.old) top targets.now result (state T.Tree tree.new) }
 {
     let mut costs = Costs::with_seed(alloc, Seed::new(tree.seed()));
     let Told {

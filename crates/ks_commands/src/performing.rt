@@ -12,7 +12,7 @@ ghost use Rattle.ks_requests.specs.declared.status.Status.TheVariants.{Done};
 ghost use Rattle.ks_requests.specs.Readings.{ReadsSome, if_named};
 ghost use Rattle.ks_requests.specs.Requests.{IsNoQuestion};
 ghost use Rattle.ks_commands.specs.Aging.{AgesAsked};
-ghost use Rattle.ks_commands.specs.Performed.{Counts, Ends, EndsFixdep, EndsPreview, by_files};
+ghost use Rattle.ks_commands.specs.Performed.{Ends, EndsFixdep, EndsPreview, by_files};
 
 use crate::aging::age_targets;
 use crate::batch::run_script;
@@ -77,10 +77,10 @@ pub(crate) fn outcome<T: Aging>(
     request: &Request,
 ) -> Result<Outcome, Refusal>
     ensures done { IsNoQuestion request.now → IfOk result (λ o. o.status ≡ Done) }
-    ensures files { T.is_honest → Ends (T.files tree.old) (by_files dialect (state T.Tree tree.old) (state T.Tree tree.new)) request.now result }
+    ensures ends { Ends T.is_honest (by_files dialect T.is_honest (state T.Tree tree.old) (state T.Tree tree.new)) (state T.Tree tree.old) request.now result
+        (state T.Tree tree.new) }
     ensures cause { result ≡ Err (Engine Device) → HasRisen (T.failures tree.old) (T.failures tree.new) }
     ensures aged { T.is_honest → AgesAsked (T.files tree.old) request.now result (T.aged tree.old) (T.aged tree.new) }
-    ensures counts { IfOk result (λ o. Counts dialect T.is_honest (state T.Tree tree.old) request.now o.text.items (state T.Tree tree.new)) }
 {
     match request {
         Request::Sync {

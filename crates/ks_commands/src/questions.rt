@@ -2,7 +2,7 @@
 //! built by a command.
 //!
 //! A refused question is a line of the output, and the questions after it are still answered.
-ghost use Rattle.std.specs.Prelude.{◌≡◌, ◌⊎◌, ◌≤◌, ◌++◌, ℕ, List, [], ◌∷◌, Err, IfErr, IfOk, IsErrOf, OnOk, length, map, option_map};
+ghost use Rattle.std.specs.Prelude.{◌≡◌, ◌⊎◌, ◌++◌, ℕ, List, Err, IfErr, IfOk, IsErrOf, OnOk, length, map, option_map};
 ghost use Rattle.ks_symbols.specs.Dialects.{read_in};
 ghost use Rattle.ks_tree.specs.Files.{HasRisen};
 ghost use Rattle.ks_tree.specs.Frames.{Reads};
@@ -12,14 +12,12 @@ ghost use Rattle.ks_engine.specs.FileRuns.{state};
 ghost use Rattle.ks_engine.specs.Questions.{IsAnswerTo, limit_of};
 ghost use Rattle.ks_engine.specs.Refusals.{IsGivenUp};
 ghost use Rattle.ks_engine.specs.declared.error.EngineError.TheVariants.{Device};
-ghost use Rattle.ks_engine.specs.declared.question.Limit.TheVariants.{First};
 ghost use Rattle.ks_requests.specs.declared.refusal.Refusal.TheVariants.{Engine};
 ghost use Rattle.ks_requests.specs.JsonLines.{answer_in};
-ghost use Rattle.ks_requests.specs.Replies.{build_line};
-ghost use Rattle.ks_requests.specs.Statuses.{code_of, explanation_status, status_unless_refused};
-ghost use Rattle.ks_requests.specs.Targets.{targets_at};
-ghost use Rattle.ks_commands.specs.Performed.{AsksCounted, EndsAll, EndsImpact, EndsOutdated, Says, SaysLines, TellsAll, TellsCounted};
-ghost use Rattle.ks_commands.specs.Questions.{IsSpelled, LineCounted, counted_of, tells_of};
+ghost use Rattle.ks_requests.specs.Statuses.{code_of, explanation_status, stale_among, status_unless_refused};
+ghost use Rattle.ks_commands.specs.Parts.{EndsAsked, IsCounted, Part, TellsAll, TellsOne, statuses};
+ghost use Rattle.ks_commands.specs.Performed.{EndsImpact, EndsOutdated};
+ghost use Rattle.ks_commands.specs.Questions.{IsSpelled, asking_by, counted_of};
 ghost use Rattle.ks_commands.specs.Spelling.{IsLine, spelling_of, spelling_told};
 
 use crate::spelling::{spelling_of, write_spelling};
@@ -117,12 +115,10 @@ fn tell_one<T: Tree>(
     text: &mut Vec<u8>,
 ) -> Result<Status, AllocError>
     ensures reads { Reads T.Tree tree.old tree.new ⊥ }
-    ensures told { T.is_honest → IsAnswerTo question.entry (T.files tree.old) target.now answer
-        → IfOk result (λ status. (lines : List ℕ) × (text.new.items ≡ text.old.items ++ lines)
-        × tells_of (T.files tree.old) form question.entry target.now lines (code_of status)) }
-    ensures counted { (first : ℕ) → first ≤ T.failures tree.old → (answer ≡ Err EngineError.Device → HasRisen first (T.failures tree.old))
-        → OnOk result ((lines : List ℕ) × (text.new.items ≡ text.old.items ++ lines)
-        × LineCounted form question.entry first target.now lines (T.failures tree.new)) }
+    ensures told { (first : ℕ) → IsCounted first answer (T.failures tree.old)
+        → (T.is_honest → IsAnswerTo question.entry (T.files tree.old) target.now answer)
+        → IfOk result (λ status. TellsOne (asking_by T.is_honest (T.files tree.old) form question.entry).told explanation_status first target.now
+        text.old.items text.new.items (code_of status) (T.failures tree.new)) }
 {
     let told = with_spelling(alloc, tree, question, form, target, answer);
     let status = write_in(form, question, target, &told.answer, text)?;
@@ -132,7 +128,8 @@ fn tell_one<T: Tree>(
 
 /// The count of stale objects, where the question is for one.
 fn count_for(question: Question<'_>, stale: usize, all: usize) -> Option<Count>
-    ensures { result ≡ counted_of question.entry stale all }
+    ensures { (parts : List (Part Explanation)) → stale ≡ stale_among (statuses explanation_status parts) → all ≡ length parts
+        → result ≡ counted_of question.entry parts }
 {
     match question {
         Question::After(_) => Some(Count::Stale { stale, all }),
@@ -149,11 +146,10 @@ fn ask_all<T: Tree>(
     targets: &[&[u8]],
 ) -> Result<Outcome, AllocError>
     ensures reads { Reads T.Tree tree.old tree.new ⊥ }
-    ensures told { T.is_honest → IfOk result (λ o. (stale : ℕ)
-        × TellsAll (tells_of (T.files tree.old) form question.entry) (map (λ t. t.now) targets.now) o.text.items (code_of o.status) stale
-        × (o.count ≡ counted_of question.entry stale (length (map (λ t. t.now) targets.now)))) }
-    ensures counted { IfOk result (λ o.
-        TellsCounted (Says form (limit_of question.entry)) (T.failures tree.old) (map (λ t. t.now) targets.now) o.text.items (T.failures tree.new)) }
+    ensures told { IfOk result (λ o. (parts : List (Part Explanation))
+        × TellsAll (asking_by T.is_honest (T.files tree.old) form question.entry).told explanation_status parts (T.failures tree.old)
+        (map (λ t. t.now) targets.now) o.text.items (code_of o.status) (T.failures tree.new)
+        × (o.count ≡ counted_of question.entry parts)) }
 {
     let mut text = Vec::new(alloc);
     let mut memo = Memo::with_seed(alloc, Seed::new(tree.seed()));
@@ -182,10 +178,8 @@ pub(crate) fn ask_targets<T: Tree>(
     targets: &Targets,
 ) -> Result<Outcome, Refusal>
     ensures reads { Reads T.Tree tree.old tree.new (result ≡ Err (Engine Device)) }
-    ensures told { T.is_honest → EndsAll (tells_of (T.files tree.old) form question.entry) (counted_of question.entry)
-        (targets_at (T.files tree.old) targets.now) result }
-    ensures counts { IfOk result (λ o.
-        AsksCounted form (limit_of question.entry) T.is_honest (state T.Tree tree.old) targets.now o.text.items (state T.Tree tree.new)) }
+    ensures told { EndsAsked (asking_by T.is_honest (T.files tree.old) form question.entry) (counted_of question.entry) T.is_honest
+        (state T.Tree tree.old) targets.now result (state T.Tree tree.new) }
 {
     let text = read_targets(alloc, tree, targets)?;
     let targets = all_targets(alloc, targets, borrowed(&text))?;
@@ -203,10 +197,8 @@ pub(crate) fn ask_after<T: Tree>(
     targets: &Targets,
 ) -> Result<Outcome, Refusal>
     ensures reads { Reads T.Tree tree.old tree.new (result ≡ Err (Engine Device)) }
-    ensures told { T.is_honest → EndsImpact dialect (T.files tree.old) (λ k. IsAnswerAfter (T.files tree.old) (read_in dialect k))
-        kconfig.now dotconfig.now form (targets_at (T.files tree.old) targets.now) result }
-    ensures counts { IfOk result (λ o.
-        AsksCounted form First T.is_honest (state T.Tree tree.old) targets.now o.text.items (state T.Tree tree.new)) }
+    ensures told { EndsImpact T.is_honest dialect (λ k. IsAnswerAfter (T.files tree.old) (read_in dialect k)) (state T.Tree tree.old)
+        kconfig.now dotconfig.now form targets.now result (state T.Tree tree.new) }
 {
     let texts = texts_at(alloc, tree, kconfig, dotconfig)?;
     let kconfig = Kconfig::new(dialect, &texts.kconfig);
@@ -222,9 +214,8 @@ pub(crate) fn outdated_target<T: Tree>(
     command: &[u8],
 ) -> Result<Outcome, Refusal>
     ensures reads { Reads T.Tree tree.old tree.new ⊥ }
-    ensures told { T.is_honest → EndsOutdated (IsStateOn (T.files tree.old)) target.now command.now result }
-    ensures counted { IfOk result (λ o.
-        TellsCounted (SaysLines build_line) (T.failures tree.old) (target.now ∷ []) o.text.items (T.failures tree.new)) }
+    ensures told { EndsOutdated T.is_honest (IsStateOn (T.files tree.old)) (state T.Tree tree.old) target.now command.now result
+        (state T.Tree tree.new) }
     ensures no_device { result ≡ Err (Engine Device) → ⊥ }
 {
     let answer = outdated(alloc, tree, target, command);

@@ -9,11 +9,12 @@ ghost use Rattle.ks_tree.specs.Frames.{Reads};
 ghost use Rattle.ks_engine.specs.FileRuns.{state};
 ghost use Rattle.ks_engine.specs.declared.error.EngineError.TheVariants.{Device};
 ghost use Rattle.ks_requests.specs.declared.refusal.Refusal.TheVariants.{Engine};
-ghost use Rattle.ks_requests.specs.Endings.{Stopped};
 ghost use Rattle.ks_requests.specs.Statuses.{code_of};
 ghost use Rattle.ks_requests.specs.Symbols.{unrecorded_line};
 ghost use Rattle.ks_requests.specs.Targets.{targets_at};
-ghost use Rattle.ks_commands.specs.Readings.{Adds, ReadsAll, ReadsOne, ReadsTargets};
+ghost use Rattle.ks_commands.specs.Parts.{Asks, Part, StoppedBy, TellsOne};
+ghost use Rattle.ks_commands.specs.Readings.{Adds, records_in};
+ghost use Rattle.ks_commands.specs.Records.{IsReadIn, reading};
 
 use ks_engine::{borrow_record, read_record};
 use ks_fixdep::{BorrowedCommand, Seed};
@@ -73,8 +74,9 @@ fn read_one<T: Tree, R: Reader>(
     requires { (before : List CommandRecord) × (length before < usize.MAX) × R.has_read reader.old before }
     ensures reads { Reads T.Tree tree.old tree.new ⊥ }
     ensures same { OnOk result (R.asked reader.new ≡ R.asked reader.old) }
-    ensures told { IfOk result (λ status. ReadsOne (R.line (R.asked reader.old)) (Adds (R.has_read reader.old) (R.has_read reader.new)) T.is_honest
-        (state T.Tree tree.old) target.now text.old.items text.new.items (code_of status) (state T.Tree tree.new)) }
+    ensures told { IfOk result (λ status. (one : TellsOne (IsReadIn T.is_honest (T.files tree.old) (R.line (R.asked reader.old))) (λ _. 0)
+        (T.failures tree.old) target.now text.old.items text.new.items (code_of status) (T.failures tree.new))
+        × Adds (R.has_read reader.old) (R.has_read reader.new) one.part.answer) }
 {
     let error = match read_record(alloc, tree, target) {
         Ok(Some(record)) => match borrow_record(alloc, target, &record) {
@@ -104,9 +106,11 @@ pub(crate) fn read_each<T: Tree, R: Reader>(
     requires { R.has_read reader.old [] }
     ensures reads { Reads T.Tree tree.old tree.new (result ≡ Err (Engine Device)) }
     ensures same { OnOk result (R.asked reader.new ≡ R.asked reader.old) }
-    ensures stopped { T.is_honest → IfErr result (λ e. Stopped (targets_at (T.files tree.old) targets.now) (Err e)) }
-    ensures told { IfOk result (λ told. ReadsTargets (R.line (R.asked reader.old)) (R.has_read reader.new) T.is_honest (state T.Tree tree.old)
-        targets.now told (state T.Tree tree.new)) }
+    ensures stopped { IfErr result (λ r. StoppedBy T.is_honest (λ e. targets_at (T.files tree.old) targets.now ≡ Err e) (Err r)) }
+    ensures told { IfOk result (λ told. (parts : List (Part (Option CommandRecord)))
+        × Asks (reading T.is_honest (T.files tree.old) (R.line (R.asked reader.old))) T.is_honest (state T.Tree tree.old) targets.now parts
+        told.text.items (code_of told.status) (state T.Tree tree.new)
+        × R.has_read reader.new (records_in parts) × (told.all ≡ length parts)) }
 {
     let from = read_targets(alloc, tree, targets)?;
     let targets = all_targets(alloc, targets, borrowed(&from))?;

@@ -6,11 +6,10 @@ ghost use Rattle.ks_engine.specs.FileRuns.{state};
 ghost use Rattle.ks_engine.specs.declared.error.EngineError.TheVariants.{Device};
 ghost use Rattle.ks_requests.specs.declared.refusal.Refusal.TheVariants.{Engine};
 ghost use Rattle.ks_requests.specs.Symbols.{symbols_of, use_line};
-ghost use Rattle.ks_requests.specs.Targets.{targets_at};
 ghost use Rattle.ks_commands.specs.AskedSymbols.{symbols_in};
-ghost use Rattle.ks_commands.specs.Performed.{ReadsCounted};
+ghost use Rattle.ks_commands.specs.Parts.{EndsAsked};
 ghost use Rattle.ks_commands.specs.Readings.{HasUsers};
-ghost use Rattle.ks_commands.specs.Records.{EndsUsers, uses_in, uses_lines};
+ghost use Rattle.ks_commands.specs.Records.{reading, user_count, uses_in, uses_lines};
 
 use crate::asked_symbols::AskedSymbols;
 use crate::readings::{Reader, Told, read_each};
@@ -86,9 +85,8 @@ pub(crate) fn tell_users<T: Tree>(
     targets: &Targets,
 ) -> Result<Outcome, Refusal>
     ensures reads { Reads T.Tree tree.old tree.new (result ≡ Err (Engine Device)) }
-    ensures told { T.is_honest → EndsUsers (T.files tree.old) (symbols_of words.now) (targets_at (T.files tree.old) targets.now) result }
-    ensures counts { IfOk result (λ o. ReadsCounted (uses_lines (symbols_of words.now)) T.is_honest (state T.Tree tree.old)
-        targets.now o.text.items (state T.Tree tree.new)) }
+    ensures told { EndsAsked (reading T.is_honest (T.files tree.old) (uses_lines (symbols_of words.now))) (user_count (symbols_of words.now))
+        T.is_honest (state T.Tree tree.old) targets.now result (state T.Tree tree.new) }
 {
     let symbols = AskedSymbols::new(symbols_of(alloc, words)?);
     let mut users = Users { symbols, users: 0 };

@@ -1,12 +1,12 @@
-use Rattle.ks_commands.proofs.Prelude.{err_from_is_err_and, stale_among, take-map, ◌∙◌, ◌+◌, ◌++◌, ◌∷◌, ap, arith, max, ℕ, List, [], Bor, get_or, sym, subst, subst₂, map, map_more, take, take_all, append-nil, refl, rules, None, answer_in, code_of, explanation_status, status_unless_refused, IsAnswerOn, IsMemoOf, Says, TellsAll, TellsCounted, TellsVerdict, common_steps}
+use Rattle.ks_commands.proofs.Prelude.{err_from_is_err_and, take-map, ◌∙◌, ◌+◌, ◌++◌, ◌∷◌, ap, arith, max, ℕ, List, [], Bor, get_or, sym, subst, map, map_more, take, take_all, append-nil, refl, rules, None, answer_in, code_of, explanation_status, status_unless_refused, IsAnswerOn, TellsAll, TellsOne, asking_by}
 use Rattle.ks_engine.specs.declared.question.Limit.TheVariants.{First}
+use Rattle.ks_engine.specs.declared.question.Question.TheVariants.{Stale}
 use Rattle.ks_engine.specs.Aged.{IsAged}
 use Rattle.ks_engine.specs.Asked.{told}
 use Rattle.ks_requests.specs.declared.request.Form.TheVariants.{Text}
 use Rattle.ks_commands.specs.Aging.{AgesEach}
 use Rattle.ks_commands.proofs.AgingLemmas.{aged_more}
-use Rattle.ks_commands.proofs.Counting.{counted_more}
-use Rattle.ks_commands.proofs.Verdicts.{nothing_told, told_more}
+use Rattle.ks_commands.proofs.Parts.{nothing_told, told_more}
 use Rattle.ks_commands.proofs.aging.age_all.Goals as goal
 
 pub loop-target-init : goal.loop-target-init
@@ -15,9 +15,10 @@ loop-target-init g c = record {
   later = search rules;
   memo = λ honest. c.with_seed-memo.ensures (g.T.Tree.files c.args.tree.now);
   aged = λ honest. (c.new-text.ensures.items, refl, refl);
-  told = λ honest.
-      (0, subst (λ l. TellsAll (TellsVerdict Text (IsAnswerOn (g.T.Tree.files c.args.tree.now))) [] l 0 0) (sym c.new-text.ensures.items) (nothing_told _));
-  counted = (c.new-text.ensures.items, refl);
+  told =
+      let failures = g.T.Tree.failures c.args.tree.now in
+      let says = (asking_by g.T.Tree.is_honest (g.T.Tree.files c.args.tree.now) Text Stale).told in
+      ([], subst (λ l. TellsAll says explanation_status [] failures [] l 0 failures) (sym c.new-text.ensures.items) (nothing_told says explanation_status failures));
 }
 
 pub loop-target-preserved : goal.loop-target-preserved
@@ -48,25 +49,25 @@ loop-target-preserved g c =
           (subst (λ f. IsAnswerOn f o (told answer)) (was.unchanged honest) (aging.ensures.answer honest))
           (subst (λ f. IsAged c.args.which f o (g.T.Tree.aged c.loop-target.tree) (told answer) (g.T.Tree.aged aging.new.tree)) (was.unchanged honest) (aging.ensures.aged honest))
           said.lines (c.worse-status.ensures ∙ ap (max (code_of c.loop-target.status)) said.status));
-      told = λ honest.
-          let so_far = was.told honest in
-          let tells = TellsVerdict Text (IsAnswerOn files) in
-          let answers = subst (λ f. IsAnswerOn f o (told answer)) (was.unchanged honest) (aging.ensures.answer honest) in (
-            so_far.0 + stale_among (one ∷ []),
-            subst₂ (λ objects status. TellsAll tells objects after status (so_far.0 + stale_among (one ∷ []))) taken (sym c.worse-status.ensures)
-                (told_more tells before o lines c.loop-target.text.items after (code_of c.loop-target.status) one so_far.0 so_far.1
-                (answer, answers, sym (append-nil _), said.status) said.lines),
-          );
-      counted =
-          let says = Says Text First in
-          subst (λ objects. TellsCounted says (g.T.Tree.failures c.args.tree.now) objects after (g.T.Tree.failures aging.new.tree)) taken
-          (counted_more says (g.T.Tree.failures c.args.tree.now) before c.loop-target.text.items (g.T.Tree.failures c.loop-target.tree) o answer lines after
-          (g.T.Tree.failures aging.new.tree) was.counted (record { later = aging.ensures.counted.later; cause = aging.ensures.counted.cause }) (None, sym (append-nil _))
-          said.lines);
+      told =
+          let (parts, tells) = was.told in
+          let says = (asking_by g.T.Tree.is_honest files Text Stale).told in
+          let here : TellsOne says explanation_status (g.T.Tree.failures c.loop-target.tree) o c.loop-target.text.items after one (g.T.Tree.failures aging.new.tree)
+          = record {
+            part = record { object = o; answer = answer; lines = lines };
+            of_object = refl;
+            counted = record { later = aging.ensures.counted.later; cause = aging.ensures.counted.cause };
+            is_told = record {
+              answered = λ h. subst (λ f. IsAnswerOn f o (told answer)) (was.unchanged h) (aging.ensures.answer h);
+              spelling = None;
+              spelled = λ h. refl;
+              lines = sym (append-nil _);
+            };
+            lines = said.lines;
+            status_of = said.status;
+          } in
+          (parts ++ here.part ∷ [], told_more says explanation_status (map (λ t. t.now) (take (i + 1) targets)) worse (λ p is. is) tells here (sym taken) c.worse-status.ensures);
     }
-
-pub returns-clause-counted : goal.returns-clause-counted
-returns-clause-counted g c = grind (arith, common_steps)
 
 pub returns-clause-aged : goal.returns-clause-aged
 returns-clause-aged g c = λ honest.
@@ -76,13 +77,13 @@ returns-clause-aged g c = λ honest.
     (take_all c.loop-target.target-index c.args.targets.now c.loop-target-test.false) (c.loop-target.invariant.aged honest))
 
 pub returns-clause-told : goal.returns-clause-told
-returns-clause-told g c = λ honest.
-    let told = c.loop-target.invariant.told honest in (
-      told.0,
+returns-clause-told g c =
+    let (parts, tells) = c.loop-target.invariant.told in (
+      parts,
       rw (c.of.ensures.text, c.of.ensures.status)
-          (subst (λ ts. TellsAll (TellsVerdict Text (IsAnswerOn (g.T.Tree.files c.args.tree.now))) (map (λ t. t.now) ts) c.loop-target.text.items
-          (code_of c.loop-target.status) told.0)
-          (take_all c.loop-target.target-index c.args.targets.now c.loop-target-test.false) told.1),
+          (subst (λ ts. TellsAll (asking_by g.T.Tree.is_honest (g.T.Tree.files c.args.tree.now) Text Stale).told explanation_status parts
+          (g.T.Tree.failures c.args.tree.now) (map (λ t. t.now) ts) c.loop-target.text.items (code_of c.loop-target.status) (g.T.Tree.failures c.loop-target.tree))
+          (take_all c.loop-target.target-index c.args.targets.now c.loop-target-test.false) tells),
     )
 
 pub returns-in_err-answered-clause-aged : goal.returns-in_err-answered-clause-aged

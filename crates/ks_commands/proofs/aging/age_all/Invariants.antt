@@ -1,5 +1,5 @@
-use Rattle.ks_commands.proofs.Prelude.{◌≡◌, ◌≤◌, ℕ, map, take, IsAnswerOn, IsMemoOf, code_of, Says, TellsAll, TellsCounted, TellsVerdict}
-use Rattle.ks_engine.specs.declared.question.Limit.TheVariants.{First}
+use Rattle.ks_commands.proofs.Prelude.{◌≡◌, ◌≤◌, Explanation, IsMemoOf, List, Part, TellsAll, asking_by, code_of, explanation_status, map, take}
+use Rattle.ks_engine.specs.declared.question.Question.TheVariants.{Stale}
 use Rattle.ks_requests.specs.declared.request.Form.TheVariants.{Text}
 use Rattle.ks_commands.specs.Aging.{AgesEach}
 use Rattle.ks_commands.proofs.aging.age_all.Given as goal
@@ -12,7 +12,7 @@ invariant-loop-target g l = record {
   aged : g.T.Tree.is_honest
       → AgesEach l.which (g.T.Tree.files l.fn.tree) (map (λ t. t.now) (take l.target-index l.targets)) l.text.items (code_of l.status) (g.T.Tree.aged l.fn.tree)
       (g.T.Tree.aged l.tree);
-  told : g.T.Tree.is_honest → (stale : ℕ)
-      × TellsAll (TellsVerdict Text (IsAnswerOn (g.T.Tree.files l.fn.tree))) (map (λ t. t.now) (take l.target-index l.targets)) l.text.items (code_of l.status) stale;
-  counted : TellsCounted (Says Text First) (g.T.Tree.failures l.fn.tree) (map (λ t. t.now) (take l.target-index l.targets)) l.text.items (g.T.Tree.failures l.tree);
+  told : (parts : List (Part Explanation))
+      × TellsAll (asking_by g.T.Tree.is_honest (g.T.Tree.files l.fn.tree) Text Stale).told explanation_status parts (g.T.Tree.failures l.fn.tree)
+      (map (λ t. t.now) (take l.target-index l.targets)) l.text.items (code_of l.status) (g.T.Tree.failures l.tree);
 }

@@ -1,62 +1,40 @@
-use Rattle.ks_commands.proofs.Counting.{if_ok}
 use Rattle.ks_commands.proofs.performing.outcome.Goals as goal
 
-pub returns-in-Diff-clause-files : goal.returns-in-Diff-clause-files
-returns-in-Diff-clause-files g c = λ honest.
+pub returns-in-Sync-clause-ends : goal.returns-in-Sync-clause-ends
+returns-in-Sync-clause-ends g c =
+    rw (c.in-Sync.is, ← c.as_bytes-kconfig.ensures.value, ← c.as_bytes-dotconfig.ensures.value) c.synchronise.ensures.files
+
+pub returns-in-Diff-clause-ends : goal.returns-in-Diff-clause-ends
+returns-in-Diff-clause-ends g c =
     rw (c.in-Diff.is, ← c.as_bytes-kconfig-in-Diff.ensures.value, ← c.as_bytes-dotconfig-in-Diff.ensures.value)
-    (c.tell_differences.ensures.reads.unchanged honest, c.tell_differences.ensures.told honest)
+    (λ honest. (c.tell_differences.ensures.reads.unchanged honest, c.tell_differences.ensures.told honest))
 
-pub returns-in-Stale-clause-files : goal.returns-in-Stale-clause-files
-returns-in-Stale-clause-files g c = λ honest.
-    rw c.in-Stale.is (c.ask_targets.ensures.reads.unchanged honest, c.ask_targets.ensures.told honest)
+pub returns-in-Stale-clause-ends : goal.returns-in-Stale-clause-ends
+returns-in-Stale-clause-ends g c = rw c.in-Stale.is (c.ask_targets.ensures.reads.unchanged, c.ask_targets.ensures.told)
 
-pub returns-in-Age-clause-files : goal.returns-in-Age-clause-files
-returns-in-Age-clause-files g c = λ honest. rw c.in-Age.is (c.age_targets.ensures.unchanged honest, c.age_targets.ensures.told honest)
+pub returns-in-Why-clause-ends : goal.returns-in-Why-clause-ends
+returns-in-Why-clause-ends g c = rw c.in-Why.is (c.ask_targets-in-Why.ensures.reads.unchanged, c.ask_targets-in-Why.ensures.told)
 
-pub returns-in-Why-clause-files : goal.returns-in-Why-clause-files
-returns-in-Why-clause-files g c = λ honest.
-    rw c.in-Why.is (c.ask_targets-in-Why.ensures.reads.unchanged honest, c.ask_targets-in-Why.ensures.told honest)
+pub returns-in-Age-clause-ends : goal.returns-in-Age-clause-ends
+returns-in-Age-clause-ends g c = rw c.in-Age.is (c.age_targets.ensures.unchanged, c.age_targets.ensures.told)
 
-pub returns-in-Impact-clause-files : goal.returns-in-Impact-clause-files
-returns-in-Impact-clause-files g c = λ honest.
+pub returns-in-Impact-clause-ends : goal.returns-in-Impact-clause-ends
+returns-in-Impact-clause-ends g c =
     rw (c.in-Impact.is, ← c.as_bytes-kconfig-in-Impact.ensures.value, ← c.as_bytes-dotconfig-in-Impact.ensures.value)
-    (c.ask_after.ensures.reads.unchanged honest, c.ask_after.ensures.told honest)
+    (c.ask_after.ensures.reads.unchanged, c.ask_after.ensures.told)
 
-pub returns-in-Sync-clause-counts : goal.returns-in-Sync-clause-counts
-returns-in-Sync-clause-counts g c = rw c.in-Sync.is (if_ok c.synchronise.result _ (λ o. tt))
+pub returns-in-Outdated-clause-ends : goal.returns-in-Outdated-clause-ends
+returns-in-Outdated-clause-ends g c =
+    rw (c.in-Outdated.is, ← c.as_bytes-in-Outdated.ensures.value, ← c.as_bytes-in-Outdated-2.ensures.value) (c.outdated_target.ensures.reads.unchanged, c.outdated_target.ensures.told)
 
-pub returns-in-Preview-clause-counts : goal.returns-in-Preview-clause-counts
-returns-in-Preview-clause-counts g c = rw c.in-Preview.is (if_ok c.preview.result _ (λ o. tt))
+pub returns-in-Batch-clause-ends : goal.returns-in-Batch-clause-ends
+returns-in-Batch-clause-ends g c = rw (c.in-Batch.is, ← c.as_bytes-in-Batch.ensures.value) c.run_script.ensures.ran
 
-pub returns-in-Diff-clause-counts : goal.returns-in-Diff-clause-counts
-returns-in-Diff-clause-counts g c = rw c.in-Diff.is (if_ok c.tell_differences.result _ (λ o. tt))
+pub returns-in-Users-clause-ends : goal.returns-in-Users-clause-ends
+returns-in-Users-clause-ends g c = rw (c.in-Users.is, ← c.deref.ensures.value) (c.tell_users.ensures.reads.unchanged, c.tell_users.ensures.told)
 
-pub returns-in-Fixdep-clause-counts : goal.returns-in-Fixdep-clause-counts
-returns-in-Fixdep-clause-counts g c = rw c.in-Fixdep.is (if_ok c.fixdep.result _ (λ o. tt))
-
-pub returns-in-Record-clause-counts : goal.returns-in-Record-clause-counts
-returns-in-Record-clause-counts g c = rw c.in-Record.is (if_ok c.record_target.result _ (λ o. tt))
-
-pub returns-in-Depfile-clause-counts : goal.returns-in-Depfile-clause-counts
-returns-in-Depfile-clause-counts g c = rw c.in-Depfile.is (if_ok c.record_rule.result _ (λ o. tt))
-
-pub returns-in-Stale-clause-counts : goal.returns-in-Stale-clause-counts
-returns-in-Stale-clause-counts g c = rw c.in-Stale.is c.ask_targets.ensures.counts
-
-pub returns-in-Why-clause-counts : goal.returns-in-Why-clause-counts
-returns-in-Why-clause-counts g c = rw c.in-Why.is c.ask_targets-in-Why.ensures.counts
-
-pub returns-in-Impact-clause-counts : goal.returns-in-Impact-clause-counts
-returns-in-Impact-clause-counts g c = rw c.in-Impact.is c.ask_after.ensures.counts
-
-pub returns-in-Outdated-clause-counts : goal.returns-in-Outdated-clause-counts
-returns-in-Outdated-clause-counts g c = rw (c.in-Outdated.is, ← c.as_bytes-in-Outdated.ensures.value) c.outdated_target.ensures.counted
-
-pub returns-in-Batch-clause-counts : goal.returns-in-Batch-clause-counts
-returns-in-Batch-clause-counts g c = rw (c.in-Batch.is, ← c.as_bytes-in-Batch.ensures.value) c.run_script.ensures.counts
-
-pub returns-in-Age-clause-counts : goal.returns-in-Age-clause-counts
-returns-in-Age-clause-counts g c = rw c.in-Age.is c.age_targets.ensures.counts
+pub returns-in-Cost-clause-ends : goal.returns-in-Cost-clause-ends
+returns-in-Cost-clause-ends g c = rw c.in-Cost.is (c.tell_cost.ensures.reads.unchanged, c.tell_cost.ensures.told)
 
 pub returns-in-Age-clause-aged : goal.returns-in-Age-clause-aged
 returns-in-Age-clause-aged g c = λ honest. rw c.in-Age.is (c.age_targets.ensures.aged honest)

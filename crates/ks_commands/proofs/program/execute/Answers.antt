@@ -1,19 +1,21 @@
 use Rattle.ks_commands.proofs.Prelude.{◌≡◌, [], Some, Err, refl, subst, IsSiteLine, site_of, seen_site, rules}
-use Rattle.ks_commands.proofs.Siting.{has_site, read_after, site_line_kept}
+use Rattle.ks_commands.proofs.Siting.{nothing_read, site_line_kept}
 use Rattle.ks_commands.proofs.program.execute.Goals as goal
 
 pub returns-in-Err : goal.returns-in-Err
 returns-in-Err g c = rw (c.in-Err.is) (refl, c.tell_why.ensures)
 
 pub returns-in-Ok-outcome : goal.returns-in-Ok-outcome
-returns-in-Ok-outcome g c = search rules
+returns-in-Ok-outcome g c = search (rules, nothing_read)
 
 pub returns : goal.returns
 returns g c =
     let did = c.in-Err-outcome.ensures in
     rw (c.in-Ok.is) (
       Err c.in-Err-outcome.refusal,
-      record { done = did.done; files = did.files; cause = did.cause; aged = did.aged; counts = tt },
+      c.outcome.new.tree,
+      record { done = did.done; ends = did.ends; cause = did.cause; aged = did.aged },
+      nothing_read g.T.Tree c.outcome.new.tree,
       [],
       subst (λ site. IsSiteLine g.T.Tree.is_honest (g.T.Tree.files c.outcome.new.tree) site []) c.in-None.ensures refl,
       (refl, c.refuse.ensures.told, c.refuse.ensures.status),
@@ -30,10 +32,9 @@ returns-in-Some g c =
     let reads = c.refuse_at.ensures.reads in
     rw (c.in-Ok.is) (
       Err refusal,
-      read_after g.T.Tree c.args.dialect c.args.tree.now c.outcome.new.tree c.refuse_at.new.tree request refusal
-          (has_site request refusal site found)
-          (record { done = did.done; files = did.files; cause = did.cause; aged = did.aged; counts = tt })
-          reads,
+      c.outcome.new.tree,
+      record { done = did.done; ends = did.ends; cause = did.cause; aged = did.aged },
+      reads,
       told.0,
       subst (λ s. IsSiteLine g.T.Tree.is_honest (g.T.Tree.files c.refuse_at.new.tree) s told.0) found
           (site_line_kept g.T.Tree.is_honest (g.T.Tree.files c.outcome.new.tree) (g.T.Tree.files c.refuse_at.new.tree) (Some site) told.0 reads.unchanged

@@ -1,4 +1,4 @@
-use Rattle.ks_commands.proofs.Prelude.{◌≡◌, ◌≤◌, map, take, IsMemoOf, code_of, limit_of, Says, TellsAll, TellsCounted, tells_of}
+use Rattle.ks_commands.proofs.Prelude.{◌≡◌, ◌≤◌, Explanation, IsMemoOf, List, Part, TellsAll, asking_by, code_of, explanation_status, map, stale_among, statuses, take}
 use Rattle.ks_commands.proofs.questions.ask_all.Given as goal
 
 abbrev pub invariant-loop-target : goal.invariant-loop-target
@@ -7,8 +7,9 @@ invariant-loop-target g l = record {
   kept : g.T.Tree.aged l.tree ≡ g.T.Tree.aged l.fn.tree;
   later : g.T.Tree.failures l.fn.tree ≤ g.T.Tree.failures l.tree;
   memo : g.T.Tree.is_honest → IsMemoOf (g.T.Tree.files l.tree) l.memo;
-  told : g.T.Tree.is_honest
-      → TellsAll (tells_of (g.T.Tree.files l.fn.tree) l.form l.question) (map (λ t. t.now) (take l.target-index l.targets)) l.text.items (code_of l.status) l.stale;
-  counted : TellsCounted (Says l.form (limit_of l.question)) (g.T.Tree.failures l.fn.tree) (map (λ t. t.now) (take l.target-index l.targets)) l.text.items (g.T.Tree.failures l.tree);
+  told : (parts : List (Part Explanation))
+      × TellsAll (asking_by g.T.Tree.is_honest (g.T.Tree.files l.fn.tree) l.form l.question).told explanation_status parts (g.T.Tree.failures l.fn.tree)
+      (map (λ t. t.now) (take l.target-index l.targets)) l.text.items (code_of l.status) (g.T.Tree.failures l.tree)
+      × (l.stale ≡ stale_among (statuses explanation_status parts));
   few : l.stale ≤ l.target-index;
 }

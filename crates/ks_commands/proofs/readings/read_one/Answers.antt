@@ -1,4 +1,4 @@
-use Rattle.ks_commands.proofs.Prelude.{Err, ◌∙◌, None, Ok, Some, ap, inl, inr, option_map, refl, sym, ⊎_elim, ◌++◌, command_file}
+use Rattle.ks_commands.proofs.Prelude.{Err, ◌∙◌, None, Ok, Some, ap, inl, inr, option_map, refl, sym, ⊎_elim, ◌++◌, answer_line, command_file}
 use Rattle.ks_commands.proofs.Objects.{err_as, nothing_added}
 use Rattle.ks_commands.proofs.readings.read_one.Goals as goal
 use Rattle.ks_commands.proofs.readings.read_one.Goals.{in-Ok-Some+in-Err-borrow_record, in-Err}
@@ -6,50 +6,68 @@ use Rattle.ks_commands.proofs.readings.read_one.Goals.{in-Ok-Some+in-Err-borrow_
 pub returns-in-Ok-None-clause-told : goal.returns-in-Ok-None-clause-told
 returns-in-Ok-None-clause-told g c =
     let o = c.args.target.now in
-    record {
-      answer = Ok None;
-      read = λ honest. inr (sym (c.in-Ok-None.ensures.read honest ∙ ap (λ f. command_file o (option_map (λ v. v.items) f)) c.in-Ok-None.field-0-is));
-      counted = record { later = c.read_record.ensures.reads.counted.later; cause = λ is. absurd cc };
-      lines = c.in_ok-write_unrecorded-in-Ok-None.ensures ∙ ap (λ l. c.args.text.now.items ++ l) (sym (g.met.R.Reader.unrecorded (g.R.Reader.asked c.args.reader.now) o));
-      refused = refl;
-      added = nothing_added (g.R.Reader.has_read c.args.reader.now);
-    }
+    let line = g.R.Reader.line (g.R.Reader.asked c.args.reader.now) in (
+      record {
+        part = record { object = o; answer = Ok None; lines = answer_line line o (Ok None) };
+        of_object = refl;
+        counted = record { later = c.read_record.ensures.reads.counted.later; cause = λ is. absurd cc };
+        is_told = record {
+          read = λ honest. inr (sym (c.in-Ok-None.ensures.read honest ∙ ap (λ f. command_file o (option_map (λ v. v.items) f)) c.in-Ok-None.field-0-is));
+          lines = refl;
+        };
+        lines = c.in_ok-write_unrecorded-in-Ok-None.ensures ∙ ap (λ l. c.args.text.now.items ++ l) (sym (g.met.R.Reader.unrecorded (g.R.Reader.asked c.args.reader.now) o));
+        status_of = refl;
+      },
+      nothing_added (g.R.Reader.has_read c.args.reader.now),
+    )
 
 pub returns-in-Ok-clause-told : goal.returns-in-Ok-clause-told
 returns-in-Ok-clause-told g c =
-    let o = c.args.target.now in
-    record {
-      answer = _;
-      read = λ honest. inr (sym (c.in-Ok-Some.ensures.read honest
-          ∙ ap (λ f. command_file o (option_map (λ v. v.items) f)) c.in-Ok-Some.field-0-is
-          ∙ ap (λ t. command_file o (Some t)) (sym c.deref.ensures.value)
-          ∙ c.in-Ok.ensures.read));
-      counted = record { later = c.read_record.ensures.reads.counted.later; cause = λ is. absurd cc };
-      lines = c.in_ok-read-in-Ok.ensures.lines;
-      refused = refl;
-      added = c.in_ok-read-in-Ok.ensures.more;
-    }
+    let o = c.args.target.now in (
+      record {
+        part = record { object = o; answer = _; lines = _ };
+        of_object = refl;
+        counted = record { later = c.read_record.ensures.reads.counted.later; cause = λ is. absurd cc };
+        is_told = record {
+          read = λ honest. inr (sym (c.in-Ok-Some.ensures.read honest
+              ∙ ap (λ f. command_file o (option_map (λ v. v.items) f)) c.in-Ok-Some.field-0-is
+              ∙ ap (λ t. command_file o (Some t)) (sym c.deref.ensures.value)
+              ∙ c.in-Ok.ensures.read));
+          lines = refl;
+        };
+        lines = c.in_ok-read-in-Ok.ensures.lines;
+        status_of = refl;
+      },
+      c.in_ok-read-in-Ok.ensures.more,
+    )
 
 pub returns-clause-told : goal.returns-clause-told
 returns-clause-told g c =
     let o = c.args.target.now in
-    record {
-      answer = Err c.match-read_record.error;
-      read = λ honest. elim c.match-read_record.branch [
-        | in-Ok-Some+in-Err-borrow_record w ↦ rw w.error-is (⊎_elim (λ up. inl up) (λ bad. inr (sym (w.in-Ok-Some.ensures.read honest
-            ∙ ap (λ f. command_file o (option_map (λ v. v.items) f)) w.in-Ok-Some.field-0-is
-            ∙ ap (λ t. command_file o (Some t)) (sym w.deref.ensures.value)
-            ∙ bad))) w.in-Err-borrow_record.ensures.read)
-        | in-Err w ↦ rw w.error-is (⊎_elim (λ up. inl up) (λ bad. inr (sym bad)) (w.in-Err.ensures.refused honest))
-      ];
-      counted = record {
-        later = c.read_record.ensures.reads.counted.later;
-        cause = λ is. elim c.match-read_record.branch [
-          | in-Ok-Some+in-Err-borrow_record w ↦ absurd (w.in-Err-borrow_record.ensures.no_device (err_as (rw w.error-is at is)))
-          | in-Err w ↦ w.in-Err.ensures.reads.counted.cause (err_as (rw w.error-is at is))
-        ];
-      };
-      lines = c.in_ok-write_refused_target.ensures;
-      refused = refl;
-      added = nothing_added (g.R.Reader.has_read c.args.reader.now);
-    }
+    let line = g.R.Reader.line (g.R.Reader.asked c.args.reader.now) in
+    let error = c.match-read_record.error in (
+      record {
+        part = record { object = o; answer = Err error; lines = answer_line line o (Err error) };
+        of_object = refl;
+        counted = record {
+          later = c.read_record.ensures.reads.counted.later;
+          cause = λ is. elim c.match-read_record.branch [
+            | in-Ok-Some+in-Err-borrow_record w ↦ absurd (w.in-Err-borrow_record.ensures.no_device (err_as (rw w.error-is at is)))
+            | in-Err w ↦ w.in-Err.ensures.reads.counted.cause (err_as (rw w.error-is at is))
+          ];
+        };
+        is_told = record {
+          read = λ honest. elim c.match-read_record.branch [
+            | in-Ok-Some+in-Err-borrow_record w ↦ rw w.error-is (⊎_elim (λ up. inl up) (λ bad. inr (sym (w.in-Ok-Some.ensures.read honest
+                ∙ ap (λ f. command_file o (option_map (λ v. v.items) f)) w.in-Ok-Some.field-0-is
+                ∙ ap (λ t. command_file o (Some t)) (sym w.deref.ensures.value)
+                ∙ bad))) w.in-Err-borrow_record.ensures.read)
+            | in-Err w ↦ rw w.error-is (⊎_elim (λ up. inl up) (λ bad. inr (sym bad)) (w.in-Err.ensures.refused honest))
+          ];
+          lines = refl;
+        };
+        lines = c.in_ok-write_refused_target.ensures;
+        status_of = refl;
+      },
+      nothing_added (g.R.Reader.has_read c.args.reader.now),
+    )

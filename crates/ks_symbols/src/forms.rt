@@ -1,9 +1,11 @@
 //! The forms of lines that a bare Kconfig may have, as Documentation/kbuild/kconfig-language.rst spells them.
 //!
 //! Only how a line is spelled is looked at here; what it means beside its neighbours is `kconfig`'s.
-ghost use Rattle.std.specs.Prelude.{◌≡◌, length, drop, take_while, option_map};
-ghost use Rattle.std.specs.List.{list_all};
-ghost use Rattle.ks_symbols.specs.Forms.{is_blank, is_no_blank, is_no_quote, skip_blanks, first_word, after_word, is_one_word, is_state, after_quote, is_prompt, text_kind, bool_kind, has_modules, entry_form, named_kind, valued_kind, kind_form, title_form, word_form, form, seen_form};
+ghost use Rattle.std.specs.Prelude.{◌≡◌, ◌&&◌, nat_eq, length, drop, take_while, option_map, IsTrue, IfSome};
+ghost use Rattle.std.specs.List.{list_all, ends_with};
+ghost use Rattle.ks_symbols.specs.declared.dialect.Dialect.{Dialect};
+ghost use Rattle.ks_symbols.specs.Names.{is_name, module_end};
+ghost use Rattle.ks_symbols.specs.Forms.{is_blank, is_no_blank, is_no_quote, skip_blanks, first_word, after_word, is_one_word, is_state, after_quote, is_prompt, text_kind, bool_kind, has_modules, entry_form, named_kind, valued_kind, kind_form, title_form, word_form, form, seen_form, HasKind};
 
 use crate::dialect::Dialect;
 use crate::kinds::Kind;
@@ -214,11 +216,18 @@ fn title_form(rest: &[u8]) -> Form<'_>
     }
 }
 
+/// Whether a name ends as those of modules do, where there are modules.
+pub(crate) fn is_kept_free(dialect: Dialect, name: &[u8]) -> bool
+    ensures { result ≡ (has_modules dialect && ends_with nat_eq name.now module_end) }
+{
+    has_modules(dialect) && name.ends_with(b"_MODULE")
+}
+
 /// The entry of a name.
 fn entry_form<'a>(dialect: Dialect, name: &'a [u8]) -> Form<'a>
     ensures { seen_form result ≡ entry_form dialect name.now }
 {
-    if has_modules(dialect) && name_is_legal(name) && name.ends_with(b"_MODULE") {
+    if is_kept_free(dialect, name) && name_is_legal(name) {
         Form::ModuleEntry
     } else {
         Form::Entry(name)
@@ -246,10 +255,37 @@ fn word_form<'a>(dialect: Dialect, at_front: bool, word: &[u8], rest: &'a [u8]) 
     }
 }
 
+/// The name of a line that has `config`, a blank and a legal name, and nothing else. So is nearly each entry of a bare Kconfig, and
+/// it is looked at once.
+pub(crate) fn plain_entry(line: &[u8]) -> Option<&[u8]>
+    ensures legal { IfSome result (λ name. IsTrue (is_name name.now)) }
+    ensures form { IfSome result (λ name. (d : Dialect) → form d line.now ≡ entry_form d name.now) }
+{
+    if line.starts_with(b"config ") && name_is_legal(&line[7..]) {
+        Some(&line[7..])
+    } else {
+        None
+    }
+}
+
+/// The kind of a line that has a tab and the name of a kind, and nothing else, as nearly each kind of a bare Kconfig stands.
+fn plain_kind(dialect: Dialect, line: &[u8]) -> Option<Kind>
+    ensures { IfSome result (λ k. form dialect line.now ≡ HasKind k) }
+{
+    if line.starts_with(b"\t") {
+        named_kind(dialect, &line[1..])
+    } else {
+        None
+    }
+}
+
 #[tactic(auto, unfolding(crate::specs::Forms::form))]
 pub(crate) fn form_of<'a>(dialect: Dialect, line: &'a [u8]) -> Form<'a>
     ensures { seen_form result ≡ form dialect line.now }
 {
+    if let Some(kind) = plain_kind(dialect, line) {
+        return Form::HasKind(kind);
+    }
     let text = skip_blanks(line);
     if text.is_empty() || text.starts_with(b"#") {
         return Form::Silent;

@@ -11,13 +11,14 @@ ghost use Rattle.ks_symbols.specs.Refusals.{RefusedBy, or_else};
 ghost use Rattle.ks_symbols.specs.Configuration.{HasSymbolNames};
 ghost use Rattle.ks_symbols.specs.Progress.{no_progress, waiting_fault, progress_after, step_fault, no_kinds, seen, first_kind, last_kind, first_clash, without_text};
 ghost use Rattle.ks_symbols.specs.Dialects.{read_in};
-ghost use Rattle.ks_symbols.specs.Forms.{form, Title, Entry, HasKind};
+ghost use Rattle.ks_symbols.specs.Names.{is_name};
+ghost use Rattle.ks_symbols.specs.Forms.{form, entry_form, Title, Entry, HasKind};
 ghost use Rattle.ks_symbols.specs.Titles.{is_title};
 ghost use Rattle.ks_symbols.specs.Kconfig.{clashes, declared, title_of, kconfig_refusal};
 
 use crate::dialect::{Dialect, Kconfig};
 use crate::error::SourceError;
-use crate::forms::{Form, form_of};
+use crate::forms::{Form, form_of, is_kept_free, plain_entry};
 use crate::kinds::{Kind, fits};
 use crate::limits::MAX_BYTES;
 use crate::names::name_is_legal;
@@ -183,6 +184,28 @@ impl<'a> Reader<'a> {
         Ok(())
     }
 
+    /// Takes in the entry of a legal name.
+    fn take_name(
+        &mut self,
+        dialect: Dialect,
+        number: u64,
+        name: &'a [u8],
+    ) -> Result<(), SourceError>
+        requires { IsTrue (is_name name.now) }
+        ensures progress { OnOk result (self.new ≡ progress_after self.old number (entry_form dialect name.now)) }
+        ensures refusal { RefusedBy SourceError.OutOfMemory result (step_fault no_kinds self.old number (entry_form dialect name.now)) }
+        ensures memory { IsErrOf result SourceError.OutOfMemory → ⊥ }
+        ensures kept { OnErr result (self.new.declared ≡ self.old.declared) }
+    {
+        self.check_waiting()?;
+        if is_kept_free(dialect, name) {
+            return Err(SourceError::ModuleName(number));
+        }
+        self.started = true;
+        self.waiting = Some((number, name));
+        Ok(())
+    }
+
     fn take_kind(&mut self, number: u64, kind: Kind) -> Result<(), SourceError>
         ensures progress { OnOk result (self.new ≡ progress_after self.old number (HasKind kind)) }
         ensures refusal { RefusedBy SourceError.OutOfMemory result (step_fault no_kinds self.old number (HasKind kind)) }
@@ -210,6 +233,9 @@ impl<'a> Reader<'a> {
         ensures memory { IsErrOf result SourceError.OutOfMemory → step_fault no_kinds self.old number (form dialect line.now) ≡ None }
         ensures kept { OnErr result (self.new.declared ≡ self.old.declared) }
     {
+        if let Some(name) = plain_entry(line) {
+            return self.take_name(dialect, number, name);
+        }
         match form_of(dialect, line) {
             Form::Silent => Ok(()),
             Form::Title(title) => self.take_title(number, title),

@@ -25,6 +25,16 @@ pub said_more : {V : Type 0} (bs more : List ℕ) (rs : List (Record (Option V))
 said_more bs more [] h = refl
 said_more bs more (r ∷ rs) h = search (rules, range_more, (said_more bs more rs h.2))
 
+pub entry_more : {V : Type 0} (bs more : List ℕ) (rs : List (Record V)) → LieIn (length bs) rs → map_list (entry_in (bs ++ more)) rs ≡ map_list (entry_in bs) rs
+entry_more bs more [] h = refl
+entry_more bs more (r ∷ rs) h = search (rules, range_more, (entry_more bs more rs h.2))
+
+-- a row that is pushed with its name and its text
+pub entry_pushed : {V : Type 0} (bs name text : List ℕ) (rs : List (Record V)) (r : Record V) → LieIn (length bs) rs
+    → r.start ≡ length bs → r.middle ≡ length bs + length name → r.end ≡ length bs + length name + length text
+    → map_list (entry_in ((bs ++ name) ++ text)) (rs ++ r ∷ []) ≡ map_list (entry_in bs) rs ++ (name, (r.value, text)) ∷ []
+entry_pushed bs name text rs r h from mid to = search (rules, length-append, range_more, range_end, map-append, entry_more, lie_more)
+
 -- a record that is pushed after its name and its text
 pub said_pushed : {V : Type 0} (bs name text : List ℕ) (rs : List (Record (Option V))) (r : Record (Option V)) → LieIn (length bs) rs
     → r.start ≡ length bs → r.middle ≡ length bs + length name → r.end ≡ length bs + length name + length text

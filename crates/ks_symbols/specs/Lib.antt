@@ -16,3 +16,4 @@ pub mod Settling
 pub mod Laws
 pub mod Examples
 pub mod Table
+pub mod Placed

@@ -3,96 +3,109 @@
 //! The last line about a symbol counts, as in scripts/kconfig/confdata.c. A line that means nothing is refused
 //! with its number, where the kernel's tool warns: a misspelt line would otherwise be a symbol that is off.
 //! Lines about names that are not declared are skipped and counted.
-ghost use Rattle.std.specs.Prelude.{◌≡◌, ◌≢◌, ◌+◌, ◌^◌, ◌<◌, ◌≤◌, ℕ, List, None, Some, cond, bytes_eq, OnOk, IfOk, IsErrOf, false, length, if◌then◌else◌};
+ghost use Rattle.std.specs.Prelude.{◌≡◌, ◌≢◌, ◌+◌, ◌^◌, ◌<◌, ◌≤◌, ℕ, List, Option, None, Some, cond, bytes_eq, OnOk, IfOk, IsErrOf, false, length, slice_get, if◌then◌else◌};
 ghost use Rattle.std.specs.FinMap as map;
 ghost use Rattle.ks_symbols.specs.Lines.{lines, max_bytes};
 ghost use Rattle.ks_symbols.specs.Values.{text_of};
 ghost use Rattle.ks_symbols.specs.Configuration.{IsConfiguration};
-ghost use Rattle.ks_symbols.specs.Statements.{statement};
-ghost use Rattle.ks_symbols.specs.DotConfig.{entry_with, value_fault, is_of_unknown, fault_of_statement, setting, unknown_count, dotconfig_refusal};
+ghost use Rattle.ks_symbols.specs.Statements.{statement, seen_statement, name_of};
+ghost use Rattle.ks_symbols.specs.DotConfig.{entry_with, gives, value_fault, is_of_unknown, fault_of_statement, setting, unknown_count, dotconfig_refusal};
 ghost use Rattle.ks_symbols.specs.Refusals.{RefusedBy};
 ghost use Rattle.ks_symbols.specs.Settling.{after_statement};
 
 use crate::error::SourceError;
-use crate::kinds::{Kind, is_off};
+use crate::kinds::Kind;
 use crate::limits::MAX_BYTES;
+use crate::placed::Placed;
 use crate::settings::{Settings, SettingsDraft};
 use crate::statements::{Statement, is_silent, parse_statement};
 use crate::symbols::Symbols;
-use crate::values::text_of;
+use crate::values::is_value;
 use bstr::ByteSlice;
 use std::alloc::Global;
 
-/// Takes in a value of a declared symbol.
-fn assign(
+/// Takes in a value of the declared symbol at a place.
+fn assign<'a>(
     alloc: Global,
-    settings: &mut SettingsDraft,
+    settings: &mut Placed<'a>,
     number: u64,
+    place: usize,
     kind: Kind,
-    name: &[u8],
-    written: &[u8],
+    written: &'a [u8],
 ) -> Result<(), SourceError>
-    ensures entries { OnOk result ((x : List ℕ) → map.get settings.new.entries x ≡ cond (bytes_eq name.now x) (entry_with kind (text_of kind written.now))
-        (map.get settings.old.entries x)) }
+    ensures entries { OnOk result ((name x : List ℕ) → slice_get (map.entries settings.old.kinds) place ≡ Some (name, kind) → map.get settings.new.entries x
+        ≡ cond (bytes_eq name x) (entry_with kind (text_of kind written.now)) (map.get settings.old.entries x)) }
+    ensures kinds { OnOk result (settings.new.kinds ≡ settings.old.kinds) }
     ensures unknown { OnOk result (settings.new.unknown ≡ settings.old.unknown) }
     ensures refusal { RefusedBy SourceError.OutOfMemory result (value_fault number written.now (Some kind)) }
-    ensures memory { IsErrOf result SourceError.OutOfMemory → kind ≢ Kind.Text → value_fault number written.now (Some kind) ≡ None }
+    ensures memory { IsErrOf result SourceError.OutOfMemory → kind ≡ Kind.Text }
 {
-    let Some(text) = text_of(alloc, kind, written).map_err(|_| SourceError::OutOfMemory)? else {
+    if !is_value(alloc, kind, written)? {
         return Err(SourceError::BadValue(number));
-    };
-    if is_off(kind, &text) {
-        settings.clear(name)?;
-    } else {
-        settings.put(name, kind, &text)?;
     }
+    settings.note(place, Some(written));
     Ok(())
 }
 
-/// Takes in the line of a number. Its symbol is looked for at the place `near` first.
-fn apply(
+/// Takes in what a line says of the declared symbol at a place.
+fn take<'a>(
     alloc: Global,
-    settings: &mut SettingsDraft,
-    symbols: &Symbols,
-    near: &mut usize,
+    settings: &mut Placed<'a>,
     number: u64,
-    line: &[u8],
+    place: usize,
+    kind: Kind,
+    said: Statement<'a>,
 ) -> Result<(), SourceError>
-    requires { settings.old.unknown < 2 ^ 63 }
-    ensures entries { OnOk result ((x : List ℕ) → map.get settings.new.entries x ≡ after_statement (map.get symbols.now.kinds x) x (statement line.now)
-        (map.get settings.old.entries x)) }
-    ensures unknown { OnOk result (settings.new.unknown ≡ settings.old.unknown
-        + (if is_of_unknown (map.get symbols.now.kinds) (statement line.now) then 1 else 0)) }
-    ensures refusal { RefusedBy SourceError.OutOfMemory result (fault_of_statement (map.get symbols.now.kinds) number line.now (statement line.now)) }
-    ensures memory { IsErrOf result SourceError.OutOfMemory → (statement line.now ≢ None) × (is_of_unknown (map.get symbols.now.kinds) (statement line.now) ≡ false) }
+    ensures entries { OnOk result ((x : List ℕ) → slice_get (map.entries settings.old.kinds) place ≡ Some (name_of (seen_statement said.entry), kind)
+        → map.get settings.new.entries x
+        ≡ cond (bytes_eq (name_of (seen_statement said.entry)) x) (gives kind (Some (seen_statement said.entry))) (map.get settings.old.entries x)) }
+    ensures kinds { OnOk result (settings.new.kinds ≡ settings.old.kinds) }
+    ensures unknown { OnOk result (settings.new.unknown ≡ settings.old.unknown) }
+    ensures refusal { (kinds : List ℕ → Option Kind) (line : List ℕ) → kinds (name_of (seen_statement said.entry)) ≡ Some kind
+        → RefusedBy SourceError.OutOfMemory result (fault_of_statement kinds number line (Some (seen_statement said.entry))) }
 {
-    match parse_statement(line) {
-        None => {
-            if is_silent(line) {
-                Ok(())
-            } else {
-                Err(SourceError::NotAConfigLine(number))
-            }
-        }
-        Some(Statement::Unsets(name)) => {
-            match symbols.kind_near(name, near) {
-                None => settings.skip(),
-                Some(_) => settings.clear(name)?,
-            }
+    match said {
+        Statement::Unsets(_) => {
+            settings.note(place, None);
             Ok(())
         }
-        Some(Statement::Assigns(name, written)) => match symbols.kind_near(name, near) {
-            None => {
-                settings.skip();
-                Ok(())
-            }
-            Some(kind) => assign(alloc, settings, number, kind, name, written),
-        },
+        Statement::Assigns(_, written) => assign(alloc, settings, number, place, kind, written),
     }
 }
 
-/// What the lines of a `.config` give to the declared symbols, not yet in order. The symbols are asked for no more after it,
-/// so they can be let go before the settings are put in order, which takes as much memory as they have.
+/// Takes in the line of a number.
+fn apply<'a>(
+    alloc: Global,
+    settings: &mut Placed<'a>,
+    number: u64,
+    line: &'a [u8],
+) -> Result<(), SourceError>
+    requires { settings.old.unknown < 2 ^ 63 }
+    ensures entries { OnOk result ((x : List ℕ) → map.get settings.new.entries x ≡ after_statement (map.get settings.old.kinds x) x (statement line.now)
+        (map.get settings.old.entries x)) }
+    ensures kinds { OnOk result (settings.new.kinds ≡ settings.old.kinds) }
+    ensures unknown { OnOk result (settings.new.unknown ≡ settings.old.unknown
+        + (if is_of_unknown (map.get settings.old.kinds) (statement line.now) then 1 else 0)) }
+    ensures refusal { RefusedBy SourceError.OutOfMemory result (fault_of_statement (map.get settings.old.kinds) number line.now (statement line.now)) }
+    ensures memory { IsErrOf result SourceError.OutOfMemory → (statement line.now ≢ None) × (is_of_unknown (map.get settings.old.kinds) (statement line.now) ≡ false) }
+{
+    let Some(said) = parse_statement(line) else {
+        return if is_silent(line) {
+            Ok(())
+        } else {
+            Err(SourceError::NotAConfigLine(number))
+        };
+    };
+    match settings.look_up(said.name()) {
+        Some((place, kind)) => take(alloc, settings, number, place, kind, said),
+        None => {
+            settings.skip();
+            Ok(())
+        }
+    }
+}
+
+/// What the lines of a `.config` give to the declared symbols. These are asked for no more after it.
 pub fn draft_settings(
     alloc: Global,
     text: &[u8],
@@ -109,14 +122,13 @@ pub fn draft_settings(
         return Err(SourceError::TooLarge);
     }
     symbols.keeps_names();
-    let mut settings = SettingsDraft::new(alloc);
-    let mut near = symbols.first_place();
+    let mut settings = Placed::new(alloc, symbols)?;
     let mut number: u64 = 1;
     for line in text.lines() {
-        apply(alloc, &mut settings, symbols, &mut near, number, line)?;
+        apply(alloc, &mut settings, number, line)?;
         number += 1;
     }
-    Ok(settings)
+    Ok(settings.close(alloc)?)
 }
 
 /// The settings that a `.config` gives to the declared symbols.

@@ -12,6 +12,7 @@ mod laws;
 mod limits;
 mod names;
 mod order;
+mod placed;
 mod settings;
 mod statements;
 mod symbols;

@@ -1,12 +1,12 @@
 //! The settings.
-ghost use Rattle.std.specs.Prelude.{◌≡◌, ◌+◌, ◌^◌, ◌<◌, OnOk, IfOk, Some, None, List, ℕ, cond, bytes_eq, option_map};
+ghost use Rattle.std.specs.Prelude.{◌≡◌, IfOk, option_map};
 ghost use Rattle.std.specs.FinMap as map;
 ghost use Rattle.std.specs.Iterator.{item_count};
 ghost use Rattle.std.specs.Map.Iter.{TakesFirst};
 ghost use Rattle.ks_symbols.specs.Configuration.{IsConfiguration, borrowed_entry};
 
 use crate::kinds::Kind;
-use crate::table::{Draft, Rows, Table};
+use crate::table::{Rows, Table};
 use std::alloc::{AllocError, Global};
 use std::marker::Model;
 
@@ -92,10 +92,10 @@ impl Settings {
     }
 }
 
-/// Settings while their lines are read: not yet in order, and so not to be asked.
+/// Settings as the lines of a `.config` give them, which may not be asked before they are known to be a configuration.
 #[derive(Drop)]
 pub struct SettingsDraft {
-    entries: Draft<Kind>,
+    entries: Table<Kind>,
     unknown: u64,
 }
 
@@ -110,49 +110,20 @@ impl Model for SettingsDraft {
 }
 
 impl SettingsDraft {
-    pub(crate) fn new(alloc: Global) -> SettingsDraft
-        ensures entries { result.entries ≡ map.empty }
-        ensures unknown { result.unknown ≡ 0 }
+    pub(crate) fn new(entries: Table<Kind>, unknown: u64) -> SettingsDraft
+        ensures entries { result.entries ≡ entries }
+        ensures unknown { result.unknown ≡ unknown }
     {
-        SettingsDraft {
-            entries: Draft::new(alloc),
-            unknown: 0,
-        }
+        SettingsDraft { entries, unknown }
     }
 
-    /// Gives a symbol a kind and a text, in place of those before.
-    pub(crate) fn put(&mut self, name: &[u8], kind: Kind, text: &[u8]) -> Result<(), AllocError>
-        ensures entries { OnOk result ((x : List ℕ) → map.get self.new.entries x
-            ≡ cond (bytes_eq name.now x) (Some (kind, text.now)) (map.get self.old.entries x)) }
-        ensures unknown { OnOk result (self.new.unknown ≡ self.old.unknown) }
-    {
-        self.entries.put(name, kind, text)
-    }
-
-    /// Takes a symbol's value away.
-    pub(crate) fn clear(&mut self, name: &[u8]) -> Result<(), AllocError>
-        ensures entries { OnOk result ((x : List ℕ) → map.get self.new.entries x ≡ cond (bytes_eq name.now x) None (map.get self.old.entries x)) }
-        ensures unknown { OnOk result (self.new.unknown ≡ self.old.unknown) }
-    {
-        self.entries.remove(name)
-    }
-
-    /// Counts a line about a name that is not declared.
-    pub(crate) fn skip(&mut self)
-        requires { self.old.unknown < 2 ^ 63 }
-        ensures entries { self.new.entries ≡ self.old.entries }
-        ensures unknown { self.new.unknown ≡ self.old.unknown + 1 }
-    {
-        self.unknown += 1;
-    }
-
-    /// The settings, put in order.
-    pub fn close(self, alloc: Global) -> Result<Settings, AllocError>
+    /// The settings. They are in order since their lines were read, so no memory is asked for.
+    pub fn close(self, _alloc: Global) -> Result<Settings, AllocError>
         requires { IsConfiguration self.entries }
         ensures { IfOk result (λ s. s ≡ self) }
     {
         Ok(Settings {
-            entries: self.entries.close(alloc)?,
+            entries: self.entries,
             unknown: self.unknown,
         })
     }

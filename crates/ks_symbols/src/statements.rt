@@ -5,7 +5,7 @@
 ghost use Rattle.std.specs.Prelude.{◌≡◌, ◌≤◌, IsTrue, option_map, length, take, take_while, drop};
 ghost use Rattle.std.specs.List.{list_all, prefix_len};
 ghost use Rattle.ks_symbols.specs.Names.{is_word_byte};
-ghost use Rattle.ks_symbols.specs.Statements.{seen_statement, statement, assignment, unsetting, is_silent};
+ghost use Rattle.ks_symbols.specs.Statements.{seen_statement, name_of, statement, assignment, unsetting, is_silent};
 
 use crate::names::{GROUP, all_word_bytes, is_word_byte, word_is_name};
 
@@ -16,6 +16,17 @@ pub enum Statement<'a> {
     Assigns(&'a [u8], &'a [u8]),
     /// `# CONFIG_NAME is not set`: the name.
     Unsets(&'a [u8]),
+}
+
+impl<'a> Statement<'a> {
+    /// The name that it is about.
+    pub(crate) fn name(&self) -> &'a [u8]
+        ensures { result.now ≡ name_of (seen_statement self.now) }
+    {
+        match self {
+            Statement::Assigns(name, _) | Statement::Unsets(name) => *name,
+        }
+    }
 }
 
 /// How many bytes at the front are word bytes by whole groups.

@@ -1,5 +1,5 @@
 //! The declared symbols.
-ghost use Rattle.std.specs.Prelude.{◌≡◌, ℕ, List, IfOk, IsTrue, is_some, true};
+ghost use Rattle.std.specs.Prelude.{◌≡◌, ℕ, List, Some, IfOk, IfSome, IsTrue, is_some, true, length, option_map, slice_get, map as map_list};
 ghost use Rattle.std.specs.FinMap as map;
 ghost use Rattle.ks_symbols.specs.Configuration.{HasSymbolNames, kinds_in};
 ghost use Rattle.ks_symbols.specs.Names.{is_in, is_name};
@@ -7,7 +7,7 @@ ghost use Rattle.ks_symbols.specs.Names.{is_in, is_name};
 use crate::kinds::Kind;
 use crate::names::Name;
 use crate::order::Order;
-use crate::table::Table;
+use crate::table::{Rows, Table};
 use std::alloc::{AllocError, Global};
 use std::marker::Model;
 
@@ -66,18 +66,34 @@ impl Symbols {
         self.order.first()
     }
 
-    /// The kind of a declared symbol, which is looked for at the place `near` first. That becomes the place of the symbol declared
-    /// after it.
-    pub(crate) fn kind_near(&self, name: &[u8], near: &mut usize) -> Option<Kind>
-        ensures { result ≡ map.get self.now.kinds name.now }
+    /// The place of the symbol that is declared after the one at this place.
+    pub(crate) fn place_after(&self, place: usize) -> usize {
+        self.order.after(place)
+    }
+
+    /// How many symbols are declared.
+    pub(crate) fn count(&self) -> usize
+        ensures { result ≡ length (map.entries self.now.kinds) }
     {
-        match self.kinds.get_near(name, *near) {
-            Some((place, kind, _)) => {
-                *near = self.order.after(place);
-                Some(kind)
-            }
+        self.kinds.len()
+    }
+
+    /// The place and the kind of a declared symbol, which is looked for at the place `near` first.
+    pub(crate) fn kind_near(&self, name: &[u8], near: usize) -> Option<(usize, Kind)>
+        ensures kind { option_map (λ s. s.1) result ≡ map.get self.now.kinds name.now }
+        ensures place { IfSome result (λ s. slice_get (map.entries self.now.kinds) s.0 ≡ Some (name.now, s.1)) }
+    {
+        match self.kinds.get_near(name, near) {
+            Some((place, kind, _)) => Some((place, kind)),
             None => None,
         }
+    }
+
+    /// The symbols, by rising names.
+    pub(crate) fn rows(&self) -> Rows<'_, Kind>
+        ensures { map_list (λ e. (e.0, e.1.0)) result ≡ map.entries self.now.kinds }
+    {
+        self.kinds.rows()
     }
 
     /// The names of all symbols.

@@ -4,7 +4,7 @@
 //! A configuration is read line by line, compared and written, and never changed in between. So lines are kept as they
 //! come, in a `Draft`, and put in order once, when it is closed. Of several lines about a name the last counts. A record has
 //! the first bytes of its name besides, so that most names are told apart without a look at where they lie.
-ghost use Rattle.std.specs.Prelude.{◌≡◌, OnOk, IfOk, IfSome, Some, List, ℕ, T, map as map_list, option_map, slice_index, slice_range, ◌<◌};
+ghost use Rattle.std.specs.Prelude.{◌≡◌, OnOk, IfOk, IfSome, Some, List, ℕ, T, [], ◌∷◌, ◌++◌, length, map as map_list, option_map, slice_get, slice_index, slice_range, ◌<◌};
 ghost use Rattle.std.specs.FinMap as map;
 ghost use Rattle.std.specs.FinMap.{find, is_sorted};
 ghost use Rattle.std.specs.Iterator.{item_count};
@@ -133,7 +133,8 @@ fn find<'a, V: Copy>(
     name: &[u8],
 ) -> Option<(usize, V, &'a [u8])>
     requires { T (is_sorted (slice_cmp nat_cmp) (map_list (entry_in bytes.now) records.now)) }
-    ensures { option_map (λ s. (s.1, s.2.now)) result ≡ find (slice_cmp nat_cmp) name.now (map_list (entry_in bytes.now) records.now) }
+    ensures value { option_map (λ s. (s.1, s.2.now)) result ≡ find (slice_cmp nat_cmp) name.now (map_list (entry_in bytes.now) records.now) }
+    ensures place { IfSome result (λ s. slice_get (map_list (entry_in bytes.now) records.now) s.0 ≡ Some (name.now, (s.1, s.2.now))) }
 {
     match records.binary_search_by(|at| name_of(bytes, at).cmp(name)) {
         Ok(index) => {
@@ -152,7 +153,8 @@ fn found_at<'a, V: Copy>(
     place: usize,
 ) -> Option<(usize, V, &'a [u8])>
     requires { T (is_sorted (slice_cmp nat_cmp) (map_list (entry_in bytes.now) records.now)) }
-    ensures { IfSome result (λ s. Some (s.1, s.2.now) ≡ find (slice_cmp nat_cmp) name.now (map_list (entry_in bytes.now) records.now)) }
+    ensures value { IfSome result (λ s. Some (s.1, s.2.now) ≡ find (slice_cmp nat_cmp) name.now (map_list (entry_in bytes.now) records.now)) }
+    ensures place { IfSome result (λ s. slice_get (map_list (entry_in bytes.now) records.now) s.0 ≡ Some (name.now, (s.1, s.2.now))) }
 {
     if place < records.len() {
         let at = &records[place];
@@ -240,6 +242,67 @@ impl<V: Copy> Draft<V> {
     }
 }
 
+/// Rows of names, values and texts, as they are put one after another.
+#[derive(Drop)]
+pub(crate) struct RowList<V> {
+    bytes: Vec<u8>,
+    records: Vec<Record<V>>,
+}
+
+impl<V> Model for RowList<V> {
+    ghost use Rattle.std.specs.Prelude.{List, ℕ, map, length};
+    ghost use Rattle.std.specs.Coded.{coded_list, coded×, coded_ℕ};
+
+    ghost Value = { List (List ℕ × (V × List ℕ)) };
+
+    ghost coded = { coded_list (coded× (coded_list coded_ℕ) (coded× V.code (coded_list coded_ℕ))) };
+
+    ghost use Rattle.ks_symbols.specs.Table.{entry_in, LieIn};
+
+    ghost view = { λ r. map (entry_in r.bytes.items) r.records.items };
+
+    ghost invariant = { λ r. LieIn (length r.bytes.items) r.records.items };
+}
+
+impl<V: Copy> RowList<V> {
+    pub(crate) fn new(alloc: Global) -> RowList<V>
+        ensures { result ≡ [] }
+    {
+        RowList {
+            bytes: Vec::new(alloc),
+            records: Vec::new(alloc),
+        }
+    }
+
+    /// Puts a row after the others.
+    pub(crate) fn push(&mut self, name: &[u8], value: V, text: &[u8]) -> Result<(), AllocError>
+        ensures { OnOk result (self.new ≡ self.old ++ (name.now, (value, text.now)) ∷ []) }
+    {
+        let start = self.bytes.len();
+        self.bytes.extend_from_slice(name)?;
+        let middle = self.bytes.len();
+        self.bytes.extend_from_slice(text)?;
+        let end = self.bytes.len();
+        self.records.push(Record {
+            start,
+            middle,
+            end,
+            head: 0,
+            value,
+        })?;
+        Ok(())
+    }
+
+    /// The map of rows that were put in rising order of their names.
+    pub(crate) fn close(self) -> Table<V>
+        requires { T (is_sorted (slice_cmp nat_cmp) self) }
+        ensures { result ≡ map.from_entries self }
+    {
+        let RowList { bytes, records } = self;
+        Table { bytes, records }
+    }
+}
+
 /// A map from names to values and texts, in rising order of the names.
 #[derive(Drop)]
 pub struct Table<V> {
@@ -277,6 +340,13 @@ impl<V: Copy> Table<V> {
         }
     }
 
+    /// How many names there are.
+    pub(crate) fn len(&self) -> usize
+        ensures { result ≡ length (map.entries self.now) }
+    {
+        self.records.len()
+    }
+
     /// The value and the text of a name.
     pub fn get(&self, name: &[u8]) -> Option<(V, &[u8])>
         ensures { option_map (λ s. (s.0, s.1.now)) result ≡ map.get self.now name.now }
@@ -289,7 +359,8 @@ impl<V: Copy> Table<V> {
 
     /// The place, the value and the text of a name, which is looked for at one place first.
     pub(crate) fn get_near(&self, name: &[u8], near: usize) -> Option<(usize, V, &[u8])>
-        ensures { option_map (λ s. (s.1, s.2.now)) result ≡ map.get self.now name.now }
+        ensures value { option_map (λ s. (s.1, s.2.now)) result ≡ map.get self.now name.now }
+        ensures place { IfSome result (λ s. slice_get (map.entries self.now) s.0 ≡ Some (name.now, (s.1, s.2.now))) }
     {
         match found_at(&self.bytes, &self.records, name, near) {
             Some(found) => Some(found),

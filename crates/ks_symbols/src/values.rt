@@ -2,7 +2,7 @@
 //!
 //! scripts/kconfig/confdata.c drops a backslash before any byte and whatever follows the closing quote. Here
 //! only `\"` and `\\` are escapes and nothing may follow, so that each text has one spelling.
-ghost use Rattle.std.specs.Prelude.{◌≡◌, ◌≢◌, IfOk, OnErr, Some, option_map, vec_items};
+ghost use Rattle.std.specs.Prelude.{◌≡◌, IfOk, OnErr, is_some, option_map, vec_items};
 ghost use Rattle.ks_symbols.specs.Values.{text_of, is_escaped, unquoted};
 
 use crate::kinds::{Kind, is_string_byte, value_is_valid};
@@ -15,7 +15,7 @@ fn is_escaped(byte: u8) -> bool
 }
 
 /// The text that stands between quotes, if the bytes are a quoted text.
-fn unquoted(alloc: Global, written: &[u8]) -> Result<Option<Vec<u8>>, AllocError>
+pub(crate) fn unquoted(alloc: Global, written: &[u8]) -> Result<Option<Vec<u8>>, AllocError>
     ensures { IfOk result (λ o. option_map vec_items o ≡ unquoted written.now) }
 {
     if !written.starts_with(b"\"") {
@@ -45,21 +45,14 @@ fn unquoted(alloc: Global, written: &[u8]) -> Result<Option<Vec<u8>>, AllocError
     }
 }
 
-/// The text that a written value has for a symbol of the kind, if it is one of its values.
-#[tactic(auto, unfolding(crate::specs::Values::text_of, crate::specs::Kinds::is_text))]
-pub(crate) fn text_of(
-    alloc: Global,
-    kind: Kind,
-    written: &[u8],
-) -> Result<Option<Vec<u8>>, AllocError>
-    ensures text { IfOk result (λ o. option_map vec_items o ≡ text_of kind written.now) }
-    ensures memory { OnErr result (kind ≢ Kind.Text → text_of kind written.now ≡ Some written.now) }
+/// Whether a written value is one of a symbol of the kind.
+#[tactic(auto, unfolding(crate::specs::Values::text_of))]
+pub(crate) fn is_value(alloc: Global, kind: Kind, written: &[u8]) -> Result<bool, AllocError>
+    ensures value { IfOk result (λ b. b ≡ is_some (text_of kind written.now)) }
+    ensures memory { OnErr result (kind ≡ Kind.Text) }
 {
     if kind == Kind::Text {
-        return unquoted(alloc, written);
+        return Ok(unquoted(alloc, written)?.is_some());
     }
-    if !value_is_valid(kind, written) {
-        return Ok(None);
-    }
-    Ok(Some(Vec::from_slice(alloc, written)?))
+    Ok(value_is_valid(kind, written))
 }

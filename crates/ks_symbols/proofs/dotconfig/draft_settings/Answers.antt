@@ -1,4 +1,4 @@
-use Rattle.ks_symbols.proofs.Prelude.{zero-add, arith, err_from_is_err_and, lines, line_fault, first_fault, dotconfig_refusal, common_steps, rules, cond-true, nat_tests}
+use Rattle.ks_symbols.proofs.Prelude.{ap, length, zero-add, arith, err_from_is_err_and, lines, line_fault, first_fault, dotconfig_refusal, common_steps, rules, cond-true, nat_tests}
 use Rattle.std.specs.FinMap as map
 use Rattle.ks_symbols.proofs.Faults.{refused, not_large, unknown-cons}
 use Rattle.ks_symbols.proofs.LastLine.{settled, settled-setting}
@@ -19,7 +19,14 @@ returns-in_err-apply-clause-refusal c = search (rules, err_from_is_err_and, refu
 
 pub loop-line-preserved : goal.loop-line-preserved
 unfolding line_fault settled first_fault
-loop-line-preserved c = grind (arith, common_steps, unknown-cons)
+loop-line-preserved c = record {
+  same = search rules;
+  entries = λ x. search (rules, (c.in_ok-apply.ensures.entries x), (c.loop-line.invariant.entries x));
+  unknown = grind (arith, common_steps, unknown-cons);
+  refusal = search rules;
+  numbers = omega (arith, ap length c.in-Some.ensures.steps);
+  small = grind (arith, common_steps);
+}
 
 pub returns-clause-entries : goal.returns-clause-entries
 unfolding settled
@@ -31,4 +38,4 @@ returns-clause-refusal c = search (rules, not_large)
 
 pub returns-clause-configured : goal.returns-clause-configured
 returns-clause-configured c =
-    configured (map.get c.args.symbols.now.kinds) (lines c.args.text.now) c.loop-line.settings.entries c.keeps_names.ensures (returns-clause-entries c)
+    configured (map.get c.args.symbols.now.kinds) (lines c.args.text.now) c.in_ok-close.field-0.entries c.keeps_names.ensures (returns-clause-entries c)

@@ -1,10 +1,11 @@
 use Rattle.ks_symbols.proofs.Prelude.{◌≡◌, Some, Equal, List, ℕ, sym, ap, subst, ◌∙◌, get_or, bytes_decides, name_in, entry_in}
 use Rattle.ks_symbols.proofs.LastOnes.{order}
 use Rattle.ks_symbols.proofs.Records.{found_at, same_order}
+use Rattle.ks_symbols.proofs.Places.{placed_record}
 use Rattle.ks_symbols.proofs.table.found_at.Goals as goal
 
-pub returns-then-eq : goal.returns-then-eq
-returns-then-eq g c =
+pub returns-then-eq-clause-value : goal.returns-then-eq-clause-value
+returns-then-eq-clause-value g c =
     let bytes = c.args.bytes.now in
     let q = c.args.name.now in
     let it = c.index-records-place.result in
@@ -15,3 +16,15 @@ returns-then-eq g c =
     ap (λ (t : List ℕ). Some (it.value, t)) c.text_of.ensures
     ∙ ap (λ r. Some (entry_in bytes r).1) c.index-records-place.is
     ∙ sym (found_at bytes q c.args.records.now c.args.place it c.if-place-records.true c.requires (subst (λ (n : List ℕ). order n q ≡ Equal) (sym named) (same_order q)))
+
+pub returns-then-eq-clause-place : goal.returns-then-eq-clause-place
+returns-then-eq-clause-place g c =
+    let bytes = c.args.bytes.now in
+    let q = c.args.name.now in
+    let it = c.index-records-place.result in
+    let named : name_in bytes (get_or c.args.records.now c.args.place it) ≡ q =
+    ap (name_in bytes) (sym c.index-records-place.is)
+    ∙ sym c.name_of.ensures
+    ∙ (bytes_decides c.name_of.result.now q).0 (sym c.eq.ensures ∙ c.if-eq.true) in
+    let here = placed_record bytes q c.args.records.now c.args.place it c.if-place-records.true named in
+    cc (here, c.text_of.ensures, c.index-records-place.is)

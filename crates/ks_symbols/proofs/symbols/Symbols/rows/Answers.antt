@@ -1,0 +1,6 @@
+use Rattle.ks_symbols.proofs.Prelude.{rules}
+use Rattle.ks_symbols.proofs.Places.{entries-kinds_in}
+use Rattle.ks_symbols.proofs.symbols.Symbols.rows.Goals as goal
+
+pub returns : goal.returns
+returns c = search (rules, entries-kinds_in)

@@ -1,11 +1,70 @@
--- The run that a text begins with, past elements that all pass.
-use Rattle.ks_symbols.proofs.Prelude.{◌≡◌, ℕ, suc, ◌+◌, ◌≤◌, Bool, true, List, [], ◌∷◌, refl, arith, length, take, drop, take_while, list_all, prefix_len, and_parts, cases_Bool, cond-true, cond-false, take_while-cons, rules}
-
-pub run_past : {X : Type 0} (p : X → Bool) (n : ℕ) (xs : List X) → n ≤ length xs → list_all p (take n xs) ≡ true
-    → n + prefix_len p (drop n xs) ≡ prefix_len p xs
-run_past p (suc n) (x ∷ xs) within all = grind (arith, and_parts, cond-true, (run_past p n xs))
-run_past p n xs within all = omega arith
+-- The run of word bytes that a text begins with: past bytes that are known to pass, and among sixteen bytes that are looked at at once.
+use Rattle.ks_symbols.proofs.Prelude.{◌≡◌, ℕ, ◌+◌, ◌-◌, ◌%◌, ◌^◌, ◌<◌, ◌≤◌, Bool, true, false, cond, not, List, [], ◌∷◌, map, refl, sym, ap, ◌∙◌, arith, inl, inr, length, get_or, get_or-take, take, drop, length-take-le, AllPass-from_list_all, take_while, list_all, starts_with, nat_eq, codes, prefix_len, prefix_len_is, length-prefix_len, take_rest, drop-drop, not-false, not-true, cases_Bool, cases_lt, cond-true, cond-false, take_while-cons, length-map, is_word_byte, rules}
+use Rattle.ks_symbols.proofs.Spellings.{opened}
+use Rattle.std.proofs.Common.{Fits, w8, w64, eqb}
+use Rattle.std.proofs.lemmas.Bool.{agree_below, agree_below_at}
+use Rattle.std.proofs.lemmas.Simd.{map-map, mask_l-mod, length-chunk, first_set_mask_l, run_in_chunk_le, run_in_chunk_fails, run_in_chunk_stops}
+use lib.Lanes.{chunk, mask_l, top}
+use Rattle.std.specs.Int.{trailing_zeros}
 
 pub run_passes : {X : Type 0} (p : X → Bool) (xs : List X) → list_all p (take_while p xs) ≡ true
 run_passes p [] = refl
 run_passes p (x ∷ xs) = search (rules, take_while-cons, cond-true, cond-false, cases_Bool, (run_passes p xs))
+
+-- the word of a line that begins with `CONFIG_`
+module _ (line : List ℕ) (e : starts_with nat_eq line (codes "CONFIG_") ≡ true) where
+  pub entry_fits : 7 ≤ length line
+  entry_fits = let long : length line ≡ 7 + length (drop 7 line) = ap length (opened line (codes "CONFIG_") e) ∙ omega arith in omega arith
+
+  pub entry_passes : list_all is_word_byte (take 7 line) ≡ true
+  entry_passes = ap (λ l. list_all is_word_byte (take 7 l)) (opened line (codes "CONFIG_") e)
+
+  pub entry_end : prefix_len is_word_byte line ≡ 7 + prefix_len is_word_byte (drop 7 line)
+  entry_end = ap (prefix_len is_word_byte) (opened line (codes "CONFIG_") e) ∙ omega arith
+
+  pub entry_name : (end : ℕ) → end ≡ prefix_len is_word_byte line → take (end - 7) (drop 7 line) ≡ take_while is_word_byte (drop 7 line)
+  entry_name end is = let left : end - 7 ≡ prefix_len is_word_byte (drop 7 line) = omega (arith, is, entry_end) in ap (λ n. take n (drop 7 line)) left
+
+  pub entry_rest : (end : ℕ) → end ≡ prefix_len is_word_byte line → take (length line - end) (drop end line) ≡ drop (length (take (end - 7) (drop 7 line))) (drop 7 line)
+  entry_rest end is =
+      let long : length (take (end - 7) (drop 7 line)) ≡ prefix_len is_word_byte (drop 7 line) = ap length (entry_name end is) ∙ length-prefix_len is_word_byte (drop 7 line) in
+      let on : end ≡ 7 + length (take (end - 7) (drop 7 line)) = omega (arith, is, entry_end, long) in
+      take_rest line end ∙ ap (λ n. drop n line) on ∙ sym (drop-drop (length (take (end - 7) (drop 7 line))) 7 line)
+
+pub known_pass : (p : ℕ → Bool) (xs : List ℕ) (known : ℕ) → known ≤ length xs → list_all p (take known xs) ≡ true → (k : ℕ) → k < known → p (get_or xs k 0) ≡ true
+known_pass p xs known fits all k within =
+    ap p (sym (get_or-take known xs k 0 within)) ∙ AllPass-from_list_all p (take known xs) all k 0 (omega (arith, length-take-le known xs fits))
+
+-- bytes that pass up to a place, and from one before it up to an end
+pub passes_on : (p : ℕ → Bool) (xs : List ℕ) (seen at end : ℕ) → at ≤ seen → ((k : ℕ) → k < seen → p (get_or xs k 0) ≡ true)
+    → ((k : ℕ) → at ≤ k → k < end → p (get_or xs k 0) ≡ true) → (k : ℕ) → k < end → p (get_or xs k 0) ≡ true
+passes_on p xs seen at end overlap front run k within = elim (cases_lt k seen) [ inl early ↦ front k early | inr late ↦ run k (omega arith) within ]
+
+pub run_ends : (p : ℕ → Bool) (xs : List ℕ) (seen at end : ℕ) → at ≤ seen → end ≤ length xs → ((k : ℕ) → k < seen → p (get_or xs k 0) ≡ true)
+    → ((k : ℕ) → at ≤ k → k < end → p (get_or xs k 0) ≡ true) → (end < length xs → p (get_or xs end 0) ≡ false) → end ≡ prefix_len p xs
+run_ends p xs seen at end overlap fits front run stops = sym (prefix_len_is p xs end 0 fits (passes_on p xs seen at end overlap front run) stops)
+
+-- Of sixteen bytes the lanes z are set by f where no word goes on.
+module _ (text : List ℕ) (at r : ℕ) (f : ℕ → ℕ) (z : List ℕ) (room : at + 16 ≤ length text) (fits : (k : ℕ) → Fits w8 (get_or text k 0))
+    (lanes : z ≡ map f (chunk at 16 text))
+    (found : r ≡ cond (eqb (mask_l (map (top 7) z) % 2 ^ 64) 0) 16 (trailing_zeros w64 (mask_l (map (top 7) z) % 2 ^ 64)))
+    (agrees : agree_below (λ x. top 7 (f x)) (λ x. not (is_word_byte x)) 256 ≡ true) where
+  abbrev stops : ℕ → Bool
+  stops x = top 7 (f x)
+
+  counted : r ≡ prefix_len (λ x. not (stops x)) (chunk at 16 text)
+  counted =
+      let v = chunk at 16 text in
+      let long = length-chunk at 16 text room in
+      let mask = ap (λ l. mask_l l % 2 ^ 64) (ap (map (top 7)) lanes ∙ map-map (top 7) f v) ∙ mask_l-mod (map stops v) 64 (omega (arith, length-map v stops, long)) in
+      found ∙ ap (λ m. cond (eqb m 0) 16 (trailing_zeros w64 m)) mask ∙ first_set_mask_l stops v 16 long (omega arith)
+
+  tells : (k : ℕ) → not (is_word_byte (get_or text k 0)) ≡ stops (get_or text k 0)
+  tells k = sym (agree_below_at stops (λ x. not (is_word_byte x)) 256 (get_or text k 0) agrees (fits k).fits)
+
+  pub run_of_lanes : (r ≤ 16) × ((k : ℕ) → at ≤ k → k < at + r → is_word_byte (get_or text k 0) ≡ true) × (r < 16 → is_word_byte (get_or text (at + r) 0) ≡ false)
+  run_of_lanes = (
+    run_in_chunk_le stops text at 16 r 0 room counted,
+    λ k from to. not-false _ (tells k ∙ run_in_chunk_fails stops text at 16 r 0 room counted k from to),
+    λ short. not-true _ (tells (at + r) ∙ run_in_chunk_stops stops text at 16 r 0 room counted short),
+  )

@@ -19,6 +19,7 @@ mod symbols;
 mod table;
 mod titles;
 mod values;
+mod word_runs;
 
 pub use decimal::{decimals_read_back, read_decimal, write_decimal};
 pub use dialect::{Dialect, Kconfig};

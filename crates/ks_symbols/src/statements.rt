@@ -2,12 +2,13 @@
 //! `CONFIG_NAME=value` and `# CONFIG_NAME is not set`.
 //!
 //! auto.conf is made of the first of them, so its reader asks here too.
-ghost use Rattle.std.specs.Prelude.{◌≡◌, ◌≤◌, IsTrue, option_map, length, take, take_while, drop};
-ghost use Rattle.std.specs.List.{list_all, prefix_len};
+ghost use Rattle.std.specs.Prelude.{◌≡◌, IsTrue, codes, drop, length, nat_eq, option_map, take_while};
+ghost use Rattle.std.specs.List.{list_all, starts_with};
 ghost use Rattle.ks_symbols.specs.Names.{is_word_byte};
 ghost use Rattle.ks_symbols.specs.Statements.{seen_statement, name_of, statement, assignment, unsetting, is_silent};
 
-use crate::names::{GROUP, all_word_bytes, is_word_byte, word_is_name};
+use crate::names::word_is_name;
+use crate::word_runs::word_end;
 
 /// What a line says about a symbol.
 #[derive(Drop)]
@@ -29,31 +30,6 @@ impl<'a> Statement<'a> {
     }
 }
 
-/// How many bytes at the front are word bytes by whole groups.
-fn whole_groups(text: &[u8]) -> usize
-    ensures fits { result ≤ length text.now }
-    ensures passes { IsTrue (list_all is_word_byte (take result text.now)) }
-{
-    let mut end = 0;
-    while text.len() - end >= GROUP && all_word_bytes(&text[end..end + GROUP]) {
-        end += GROUP;
-    }
-    end
-}
-
-/// How many bytes at the front are word bytes. They are looked at by groups first: auto.conf is read for each record, and most
-/// of it are names.
-fn word_end(text: &[u8]) -> usize
-    ensures value { result ≡ prefix_len is_word_byte text.now }
-    ensures fits { result ≤ length text.now }
-{
-    let mut end = whole_groups(text);
-    while end < text.len() && is_word_byte(text[end]) {
-        end += 1;
-    }
-    end
-}
-
 /// The word bytes at the front, and what follows them.
 #[tactic(auto, using(crate::proofs::WordRuns::run_passes))]
 pub fn split_word(text: &[u8]) -> (&[u8], &[u8])
@@ -61,14 +37,29 @@ pub fn split_word(text: &[u8]) -> (&[u8], &[u8])
     ensures passes { IsTrue (list_all is_word_byte result.0.now) }
     ensures rest { result.1.now ≡ drop (length result.0.now) text.now }
 {
-    text.split_at(word_end(text))
+    text.split_at(word_end(text, 0))
 }
 
-#[tactic(auto, unfolding(crate::specs::Statements::assignment))]
-fn assignment(text: &[u8]) -> Option<Statement<'_>>
-    ensures { option_map seen_statement result ≡ assignment text.now }
+/// The same of what stands behind the `CONFIG_` of a line. It is a part of the word that the line begins with, so of most lines
+/// there are bytes enough for many to be looked at at once.
+#[inline]
+fn split_entry(line: &[u8]) -> (&[u8], &[u8])
+    requires { IsTrue (starts_with nat_eq line.now (codes "CONFIG_")) }
+    ensures word { result.0.now ≡ take_while is_word_byte (drop 7 line.now) }
+    ensures passes { IsTrue (list_all is_word_byte result.0.now) }
+    ensures rest { result.1.now ≡ drop (length result.0.now) (drop 7 line.now) }
 {
-    let (name, rest) = split_word(text);
+    let end = word_end(line, 7);
+    (&line[7..end], &line[end..])
+}
+
+#[inline]
+#[tactic(auto, unfolding(crate::specs::Statements::assignment))]
+fn assignment(line: &[u8]) -> Option<Statement<'_>>
+    requires { IsTrue (starts_with nat_eq line.now (codes "CONFIG_")) }
+    ensures { option_map seen_statement result ≡ assignment (drop 7 line.now) }
+{
+    let (name, rest) = split_entry(line);
     if word_is_name(name) && rest.starts_with(b"=") {
         Some(Statement::Assigns(name, &rest[1..]))
     } else {
@@ -89,12 +80,13 @@ fn unsetting(text: &[u8]) -> Option<Statement<'_>>
 }
 
 /// What a line, without its end, says of a symbol, if it is one of the two.
+#[inline]
 #[tactic(auto, unfolding(crate::specs::Statements::statement))]
 pub fn parse_statement(line: &[u8]) -> Option<Statement<'_>>
     ensures { option_map seen_statement result ≡ statement line.now }
 {
     if line.starts_with(b"CONFIG_") {
-        assignment(&line[7..])
+        assignment(line)
     } else if line.starts_with(b"# CONFIG_") {
         unsetting(&line[9..])
     } else {

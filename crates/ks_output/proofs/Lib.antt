@@ -7,6 +7,7 @@ pub mod LegalNames
 pub mod PositionSteps
 pub mod PlainTexts
 pub mod ReadBack
+pub mod Switches
 pub mod SmallNumbers
 pub mod Texts
 pub mod Worked

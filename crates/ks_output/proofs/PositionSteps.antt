@@ -1,7 +1,10 @@
 -- What the lines that are left come to, by the position where they stand, and how each line leads to the next one.
-use Rattle.ks_output.proofs.Prelude.{◌≡◌, ℕ, Bool, true, false, cond, ◌+◌, ◌<◌, List, [], ◌∷◌, bytes_eq, Option, Some, None, Ok, option_map, refl, ap, subst, ◌∙◌, Bor, Class, Texts, Remark, Gives, Marks, Types, Silent, seen_remark, is_typed, heard, first_faulty, auto_map, auto_generation, auto_refusal, Position, Front, Untyped, Typed, Entry, class_at, following, wants_entry, blamed, fault_left, seen_position, said_left, AreLeftOf, BeginsAs, Judged, Lines, rules, cases_Bool, cond-false, cond-true}
+use Rattle.ks_output.proofs.Prelude.{◌≡◌, ℕ, Bool, true, false, cond, ◌+◌, ◌<◌, List, [], ◌∷◌, bytes_eq, Option, Some, None, Ok, option_map, refl, sym, ap, subst, ◌∙◌, Bor, Class, Texts, Remark, Gives, Marks, Types, Silent, seen_remark, is_typed, heard, first_faulty, auto_map, auto_generation, auto_refusal, Position, Front, Untyped, Typed, Entry, class_at, following, wants_entry, blamed, fault_left, seen_position, said_left, AreLeftOf, BeginsAs, Judged, Lines, rules, cases_Bool, cond-false, cond-true}
 use Rattle.std.specs.FinMap as map
+use Rattle.ks_symbols.specs.declared.kinds.Class.TheVariants as class
 use Rattle.ks_output.specs.declared.auto_conf.AutoError.TheVariants as fault
+use Rattle.ks_output.specs.declared.positions.Position as positions
+use Rattle.ks_output.specs.declared.positions.Position.TheVariants as position
 use Rattle.ks_output.specs.declared.auto_lines.Remark as auto_lines
 use Rattle.ks_output.specs.declared.auto_lines.Remark.TheVariants as seen
 use Rattle.ks_output.proofs.LastRemark.{with_given, texts_after, texts_after-empty, texts_after-class, texts_after-front, not_large, with_number, number_after, number_after-zero}
@@ -30,6 +33,11 @@ ends : (p : Position) (n : ℕ) → fault_left p n [] ≡ cond (wants_entry p) (
 unfolding fault_left first_faulty heard is_typed
 ends (Entry x k) n = refl
 ends p n = refl
+
+-- an entry of a file of the typed form, right after another one
+pub typed_entry : (p : positions.Position) (x t : List ℕ) → p ≡ position.Typed
+    → (Some (seen_position p) ≡ following (seen_position p) (Gives x t)) × (Some class.Switch ≡ class_at (seen_position p))
+typed_entry p x t e = subst (λ q. (Some (seen_position q) ≡ following (seen_position q) (Gives x t)) × (Some class.Switch ≡ class_at (seen_position q))) (sym e) (refl, refl)
 
 -- A line that can't stand there is refused, and so is the end where an entry has to stand; after any other the lines that are left are one less.
 pub refused : (text : List ℕ) (l : Lines) (r : Remark) (said : List Remark) → AreLeftOf text l → said_left l ≡ r ∷ said → None ≡ following (seen_position l.position) r

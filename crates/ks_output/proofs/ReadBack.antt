@@ -42,7 +42,7 @@ said_by_entry ended name text h =
     let told = (statements_are_spelled (codes "CONFIG_" ++ name ++ codes "=" ++ text) (Assigns name text)).1 (h, refl) in
     search (rules, ne_eqb, told)
 
-entry_remark : (name text rest : List ℕ) → is_name name ≡ true → is_plain text ≡ true → remarks (entry_line name text ++ rest) ≡ Gives name text ∷ remarks rest
+pub entry_remark : (name text rest : List ℕ) → is_name name ≡ true → is_plain text ≡ true → remarks (entry_line name text ++ rest) ≡ Gives name text ∷ remarks rest
 entry_remark name text rest h p =
     ap remarks (append_assoc (codes "CONFIG_" ++ name ++ codes "=" ++ text) (10 ∷ []) rest)
     ∙ next (codes "CONFIG_" ++ name ++ codes "=" ++ text) rest (Gives name text) (search (rules, plain-append, plain_name)) (said_by_entry true name text h)

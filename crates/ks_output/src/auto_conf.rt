@@ -9,7 +9,7 @@ ghost use Rattle.ks_output.specs.declared.auto_conf.AutoError.TheVariants.{OutOf
 ghost use Rattle.ks_output.specs.AutoConf.{auto_map, auto_generation, auto_refusal};
 ghost use Rattle.ks_output.specs.OldConfig.{HasNames};
 
-use crate::auto_lines::{Remark, parse_remark};
+use crate::auto_lines::{Remark, parse_remark, split_switch};
 use crate::old_config::OldConfig;
 use crate::positions::Position;
 use bstr::{ByteSlice, LinesWithTerminator};
@@ -64,10 +64,19 @@ impl<'a> Lines<'a> {
     }
 
     /// What the next line says, and the class of an entry there. A line that can't stand there is refused, and so is the end.
+    /// Most lines of a typed file are a y or an m: they end right behind it, so no end is looked for.
+    #[inline(always)]
     fn next_line(&mut self) -> Result<Option<(Remark<'a>, Option<Class>)>, AutoError>
         ensures judged { (text : List ℕ) → AreLeftOf text self.old → Judged text self.old result self.new }
         ensures memory { IsErrOf result AutoError.OutOfMemory → ⊥ }
     {
+        if let Position::Typed = self.position
+            && let Some((name, text, rest)) = split_switch(self.left.as_bytes())
+        {
+            self.left = rest.lines_with_terminator();
+            self.number += 1;
+            return Ok(Some((Remark::Gives(name, text), Some(Class::Switch))));
+        }
         let position = self.position;
         let refusal = AutoError::BadAuto(position.blamed(self.number));
         let Some(line) = self.left.next() else {

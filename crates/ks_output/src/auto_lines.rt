@@ -2,9 +2,10 @@
 //!
 //! The lines of Kbuild are among those that are read. A line that begins as one of this project's own, on the
 //! generation or a class, and is none, is told from a comment: what it meant to say would be lost.
-ghost use Rattle.std.specs.Prelude.{◌≡◌};
+ghost use Rattle.std.specs.Prelude.{◌≡◌, ◌≤◌, ◌∷◌, ◌||◌, IfSome, IsTrue, codes, length, nat_eq};
+ghost use Rattle.std.specs.List.{starts_with};
 ghost use Rattle.bstr.specs.Text.{without_terminator};
-ghost use Rattle.ks_output.specs.AutoLines.{seen_remark, remark, class_remark, spelled_class};
+ghost use Rattle.ks_output.specs.AutoLines.{Gives, seen_remark, remark, remarks, class_remark, spelled_class};
 
 use ks_symbols::{
     Class, Statement, is_silent, name_is_legal, parse_statement, read_decimal, split_word,
@@ -78,6 +79,7 @@ fn parse_class(text: &[u8]) -> Remark<'_>
 }
 
 /// What a line says, which is given with its end.
+#[inline]
 #[tactic(auto, unfolding(crate::specs::AutoLines::said_by))]
 pub(crate) fn parse_remark(line: &[u8]) -> Remark<'_>
     ensures { seen_remark result ≡ remark line.now }
@@ -99,5 +101,27 @@ pub(crate) fn parse_remark(line: &[u8]) -> Remark<'_>
             Some(Statement::Assigns(name, text)) => Remark::Gives(name, text),
             _ => Remark::Faulty,
         }
+    }
+}
+
+/// Whether a text begins with a y or an m that ends its line.
+#[inline]
+fn begins_as_switch(text: &[u8]) -> bool
+    ensures bound { IsTrue result → 2 ≤ length text.now }
+    ensures value { result ≡ (starts_with nat_eq text.now (codes "y\n") || starts_with nat_eq text.now (codes "m\n")) }
+{
+    text.starts_with(b"y\n") || text.starts_with(b"m\n")
+}
+
+/// The entry of a y or an m that a text begins with, if it does: the name, its text, and what follows the line.
+#[inline]
+pub(crate) fn split_switch(text: &[u8]) -> Option<(&[u8], &[u8], &[u8])>
+    ensures { IfSome result (λ e. remarks text.now ≡ Gives e.0.now e.1.now ∷ remarks e.2.now) }
+{
+    match parse_statement(text) {
+        Some(Statement::Assigns(name, written)) if begins_as_switch(written) => {
+            Some((name, &written[..1], &written[2..]))
+        }
+        _ => None,
     }
 }

@@ -1,4 +1,4 @@
-use Rattle.ks_output.proofs.Prelude.{sym, ap, seen_remark, rules, lines, remark}
+use Rattle.ks_output.proofs.Prelude.{sym, ap, seen_remark, rules}
 use Rattle.ks_output.proofs.LastRemark.{with_number, with_number-others}
 use Rattle.ks_output.proofs.PositionSteps.{counts_all, counts_on, counted}
 use Rattle.ks_output.proofs.auto_conf.read_auto_generation.Goals as goal

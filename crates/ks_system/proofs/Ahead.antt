@@ -1,12 +1,9 @@
 -- What was read ahead is given in turn, and none is left out.
-use Rattle.std.proofs.Common.{◌≡◌, ◌≤◌, ◌<◌, ◌+◌, ◌-◌, ◌++◌, ℕ, List, [], Option, Some, None, IsSome, Bool, true, is_some, length, take, drop, subst, sym, ap, min, ◌∙◌, arith, refl, rules}
-use Rattle.std.proofs.lemmas.List.{take-append-drop, take_at, length-take-le, drop-take, take-take, length-append, length-drop, length-take, take_min, drop_all, drop-drop, append_assoc}
-use Rattle.std.proofs.Math.Seq.{drop-append_seam}
-use borrow.Rule.Slice.PartMut.{put_mid}
-use Rattle.ks_tree.specs.Files.{IsPieceRead, IsReadAt}
-use Rattle.ks_system.specs.System.{IsSomeRead, IsSomeReadAt}
+use Rattle.std.proofs.Common.{◌≡◌, ◌≤◌, ◌<◌, ◌+◌, ◌-◌, ◌++◌, ℕ, List, Option, Some, None, true, is_some, length, take, drop, subst, sym, ap, min, arith, refl, rules}
+use Rattle.std.proofs.lemmas.List.{length-take-le, drop-take, take-take, length-drop, length-take, drop-drop}
+use Rattle.ks_system.specs.System.{IsSomeReadAt}
 use Rattle.ks_system.specs.Reading.{Ahead, IsAheadOf, nothing_of}
-use Rattle.ks_system.proofs.Pieces.{piece_read, put_all, some_same, take_on}
+use Rattle.ks_system.proofs.Pieces.{piece_read, some_same}
 
 is_there : (file : Option (List ℕ)) (b : List ℕ) → file ≡ Some b → is_some file ≡ true
 is_there file b p = subst (λ o. is_some o ≡ true) (sym p) refl

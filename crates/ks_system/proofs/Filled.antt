@@ -1,5 +1,5 @@
 -- A room that is filled piece by piece.
-use Rattle.std.proofs.Common.{◌≡◌, ◌≤◌, ◌<◌, ◌+◌, ◌-◌, ◌++◌, ℕ, List, [], Option, Some, None, Bool, true, is_some, length, take, drop, subst, sym, ap, min, ◌∙◌, arith, refl}
+use Rattle.std.proofs.Common.{◌≡◌, ◌≤◌, ◌+◌, ◌-◌, ◌++◌, ℕ, List, Option, Some, true, is_some, length, take, drop, subst, sym, ap, min, ◌∙◌, arith, refl}
 use Rattle.std.proofs.lemmas.List.{length-drop, drop-drop, append_assoc, take_at, length-take-le, length-take, take_min}
 use Rattle.std.proofs.Math.Seq.{drop-append_seam}
 use Rattle.ks_tree.specs.Files.{IsPieceRead, IsReadAt}

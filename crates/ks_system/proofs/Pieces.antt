@@ -1,10 +1,10 @@
 -- Pieces that are read or written in turn make up the whole.
-use Rattle.std.proofs.Common.{◌≡◌, ◌≢◌, ◌≤◌, ◌<◌, ◌+◌, ◌-◌, ◌++◌, ℕ, [], List, Option, Some, None, IsSome, length, take, drop, subst, sym, ap, min, ◌∙◌, arith, refl, rules}
-use Rattle.std.proofs.lemmas.List.{take-append-drop, take_at, take_all, length-take-le, drop-take, take_rest, take-take, length-append, length-drop, length-take, take_min, drop_all, append-nil, drop-drop, append_assoc}
+use Rattle.std.proofs.Common.{◌≡◌, ◌≢◌, ◌≤◌, ◌<◌, ◌+◌, ◌-◌, ◌++◌, ℕ, List, Option, Some, length, take, drop, subst, sym, ap, ◌∙◌, arith, refl}
+use Rattle.std.proofs.lemmas.List.{take-append-drop, take_at, take_all, length-take-le, drop-take, take_rest, take-take, length-append, length-drop, drop_all, append-nil}
 use Rattle.std.proofs.Math.Seq.{take-append-add}
 use borrow.Rule.Slice.PartMut.{put_mid}
 use Rattle.ks_symbols.specs.Lines.{max_bytes}
-use Rattle.ks_tree.specs.Files.{Files, IsTooLarge, IsPieceRead, IsReadAt}
+use Rattle.ks_tree.specs.Files.{Files, IsTooLarge}
 use Rattle.ks_system.specs.System.{Opened, IsSomeRead, IsSomeReadAt, IsAppended, Begun}
 use Rattle.ks_system.specs.Reading.{IsReadTo}
 

@@ -1,5 +1,5 @@
 -- What was read of a file, in turn, and before it was asked for.
-use Rattle.std.specs.Prelude.{◌≡◌, ◌≤◌, ℕ, List, [], Bool, true, Option, Some, is_some, length, take, drop}
+use Rattle.std.specs.Prelude.{◌≡◌, ◌≤◌, ℕ, List, [], true, Option, Some, is_some, length, take, drop}
 
 -- What was read so far is a beginning of the file.
 pub record IsReadTo (file : Option (List ℕ)) (read : List ℕ) : Type 0 where

@@ -1,7 +1,6 @@
 -- What a call of an honest system reads or changes.
-use Rattle.std.specs.Prelude.{◌≡◌, ◌≤◌, ◌<◌, ◌+◌, ℕ, List, [], ◌∷◌, ◌++◌, Bool, true, false, Option, Some, None, length, take, drop}
+use Rattle.std.specs.Prelude.{◌≡◌, ◌≤◌, ◌<◌, ℕ, List, [], ◌∷◌, ◌++◌, Bool, Option, Some, None, length, take, drop}
 use Rattle.ks_tree.specs.Files.{Files, content, SameBut}
-use Rattle.ks_system.specs.declared.system.Kind.{Kind}
 use Rattle.ks_system.specs.declared.system.Kind.TheVariants as kind
 use Rattle.ks_system.specs.declared.system.Look.{Look}
 

@@ -1,7 +1,6 @@
-use Rattle.std.proofs.Common.{rules, arith, [], Some, ap, sym, subst, ◌∙◌, ◌≤◌, length}
+use Rattle.std.proofs.Common.{rules, arith, [], Some, ap, sym, ◌∙◌, length}
 use Rattle.std.proofs.lemmas.List.{length-drop, length-take-le, take_rest}
 use Rattle.ks_tree.specs.Files.{content}
-use Rattle.ks_system.specs.Reading.{IsReadTo}
 use Rattle.ks_system.proofs.Pieces.{nothing_read, put_before, put_long, put_more, read_on_at, read_whole_at, rest_room}
 use Rattle.ks_system.proofs.reading.fill.Goals as goal
 

@@ -1,8 +1,8 @@
-use Rattle.std.proofs.Common.{rules, arith, ap, ap₂, subst, sym, ◌∙◌, ◌≤◌, length}
+use Rattle.std.proofs.Common.{rules, arith, ap, ap₂, ◌∙◌, length}
 use Rattle.std.proofs.lemmas.List.{length-drop, take_rest}
 use Rattle.ks_tree.specs.Files.{content}
 use Rattle.ks_system.proofs.Pieces.{put_all, put_long}
-use Rattle.ks_system.proofs.Filled.{filled_at, nothing_filled, read_end, read_full}
+use Rattle.ks_system.proofs.Filled.{filled_at, nothing_filled, read_end}
 use Rattle.ks_system.proofs.kept_file.KeptFile.read.Goals as goal
 
 pub returns-then-count-eq0-clause-found : goal.returns-then-count-eq0-clause-found

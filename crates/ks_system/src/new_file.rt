@@ -175,6 +175,8 @@ pub(crate) fn create_new<S: System>(system: &mut S, place: &str, bytes: &[u8]) -
     ensures others { S.is_honest → SameBut (S.path_at place.now) (S.world system.old).files (S.world system.new).files }
     ensures dated { S.is_honest → OnOk result (content (S.world system.old).files (S.path_at place.now) ≡ None →
         (S.world system.new).dated ≡ (S.world system.old).dated ++ S.path_at place.now ∷ []) }
+    ensures stood { S.is_honest → IsSome (content (S.world system.old).files (S.path_at place.now)) → (S.world system.new).dated ≡ (S.world system.old).dated }
+    ensures undated { S.is_honest → OnErr result ((S.world system.new).dated ≡ (S.world system.old).dated) }
     ensures kept { S.aged system.new ≡ S.aged system.old }
 {
     let Some(mut handle) = make_in_folders(system, place)? else {

@@ -202,7 +202,8 @@ impl<S: System + Drop> Tree for SystemTree<S> {
         ensures uncounted { IsErrOf result TreeFault.OutOfMemory → self.new.failures ≡ self.old.failures }
         ensures too_large_uncounted { IsErrOf result TreeFault.TooLarge → self.new.failures ≡ self.old.failures }
         ensures cause { IsErrOf result TreeFault.Device → HasRisen self.old.failures self.new.failures }
-        // Of the claim, what is held, and what is told.
+        // Of the files' times, the claim, what is held, and what is told.
+        ensures undated { S.is_honest → (S.world self.new.system).dated ≡ (S.world self.old.system).dated }
         ensures claim { self.new.written ≡ self.old.written }
         ensures told { IsErrOf result TreeFault.Device → IfSome self.new.last_fault (λ fault. string_bytes fault.path ≡ path.now) }
         ensures held { IfSome self.old.held (λ held. held.path ≡ path.now →
@@ -239,7 +240,8 @@ impl<S: System + Drop> Tree for SystemTree<S> {
         ensures passed { OnOk result (self.new.failures ≡ self.old.failures) }
         ensures uncounted { IsErrOf result TreeFault.OutOfMemory → self.new.failures ≡ self.old.failures }
         ensures cause { IsErrOf result TreeFault.Device → HasRisen self.old.failures self.new.failures }
-        // Of the claim, and what is told.
+        // Of the files' times, the claim, and what is told.
+        ensures undated { S.is_honest → (S.world self.new.system).dated ≡ (S.world self.old.system).dated }
         ensures claim { self.new.written ≡ self.old.written }
         ensures told { IsErrOf result TreeFault.Device → IfSome self.new.last_fault (λ fault. string_bytes fault.path ≡ path.now) }
     {
@@ -266,7 +268,8 @@ impl<S: System + Drop> Tree for SystemTree<S> {
         ensures passed { OnOk result (self.new.failures ≡ self.old.failures) }
         ensures uncounted { IsErrOf result TreeFault.OutOfMemory → self.new.failures ≡ self.old.failures }
         ensures cause { IsErrOf result TreeFault.Device → HasRisen self.old.failures self.new.failures }
-        // Of the claim, the readings, and what is told.
+        // Of the files' times, the claim, the readings, and what is told.
+        ensures undated { S.is_honest → (S.world self.new.system).dated ≡ (S.world self.old.system).dated }
         ensures claimed { OnOk result (MatchOption self.new.written ⊥ (λ h. S.is_claimed h ≡ true)) }
         ensures of_path { S.is_honest → OnOk result (IfSome self.new.written (λ h. (S.opened h).path ≡ path.now)) }
         ensures forgotten { self.new.held ≡ None }
@@ -298,9 +301,11 @@ impl<S: System + Drop> Tree for SystemTree<S> {
         ensures passed { OnOk result (self.new.failures ≡ self.old.failures) }
         ensures uncounted { IsErrOf result TreeFault.OutOfMemory → self.new.failures ≡ self.old.failures }
         ensures cause { IsErrOf result TreeFault.Device → HasRisen self.old.failures self.new.failures }
-        // Of the file's time, the readings, and what is told.
+        // Of the files' times, the readings, and what is told.
         ensures dated { S.is_honest → OnOk result (content (S.world self.old.system).files path.now ≡ None →
             (S.world self.new.system).dated ≡ (S.world self.old.system).dated ++ path.now ∷ []) }
+        ensures stood { S.is_honest → IsSome (content (S.world self.old.system).files path.now) → (S.world self.new.system).dated ≡ (S.world self.old.system).dated }
+        ensures undated { S.is_honest → OnErr result ((S.world self.new.system).dated ≡ (S.world self.old.system).dated) }
         ensures forgotten { self.new.held ≡ None }
         ensures told { IsErrOf result TreeFault.Device → IfSome self.new.last_fault (λ fault. string_bytes fault.path ≡ path.now) }
     {
@@ -328,7 +333,8 @@ impl<S: System + Drop> Tree for SystemTree<S> {
         ensures passed { OnOk result (self.new.failures ≡ self.old.failures) }
         ensures uncounted { IsErrOf result TreeFault.OutOfMemory → self.new.failures ≡ self.old.failures }
         ensures cause { IsErrOf result TreeFault.Device → HasRisen self.old.failures self.new.failures }
-        // Of the readings, and what is told.
+        // Of the files' times, the readings, and what is told.
+        ensures undated { S.is_honest → (S.world self.new.system).dated ≡ (S.world self.old.system).dated }
         ensures forgotten { self.new.held ≡ None }
         ensures told { IsErrOf result TreeFault.Device → IfSome self.new.last_fault (λ fault. string_bytes fault.path ≡ to.now) }
     {
@@ -394,6 +400,8 @@ impl<S: System + Drop> Aging for SystemTree<S> {
         ensures passed { OnOk result (self.new.failures ≡ self.old.failures) }
         ensures uncounted { IsErrOf result TreeFault.OutOfMemory → self.new.failures ≡ self.old.failures }
         ensures cause { IsErrOf result TreeFault.Device → HasRisen self.old.failures self.new.failures }
+        // Of the files that were made, the claim, and what is told.
+        ensures undated { S.is_honest → (S.world self.new.system).dated ≡ (S.world self.old.system).dated }
         ensures claim { self.new.written ≡ self.old.written }
         ensures told { IsErrOf result TreeFault.Device → IfSome self.new.last_fault (λ fault. string_bytes fault.path ≡ path.now) }
     {

@@ -1487,18 +1487,23 @@ static void add_lines(const Tree *tree, Bytes target, Question question, const F
     }
 }
 
-/* A text of JSON, of a character for each byte. */
+/* A text of JSON, of a character for each byte, in UTF-8. */
 static void add_string(Text *output, Bytes bytes)
 {
+    static const char escaped[] = "\"\\\b\f\n\r\t", letters[] = "\"\\bfnrt";
+
     add_text(output, "\"");
     for (size_t i = 0; i < bytes.length; i++) {
         unsigned char byte = (unsigned char)bytes.at[i];
-        if (byte == '"' || byte == '\\')
-            add_text(output, "\\%c", byte);
-        else if (byte < 32 || byte > 126)
+        const char *found = byte ? strchr(escaped, byte) : NULL;
+        if (found)
+            add_text(output, "\\%c", letters[found - escaped]);
+        else if (byte < 32)
             add_text(output, "\\u%04x", byte);
-        else
+        else if (byte < 128)
             add_text(output, "%c", byte);
+        else
+            add_text(output, "%c%c", 0xc0 | (byte >> 6), 0x80 | (byte & 0x3f));
     }
     add_text(output, "\"");
 }

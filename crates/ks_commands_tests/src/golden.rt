@@ -185,7 +185,7 @@ pub const QUESTIONS: &[(Step<'_>, &str)] = &[
 ];
 
 const REFUSED_AS_JSON: &str =
-    "2 {\"target\":\"a\\\"b.o\",\"verdict\":\"no-command-file\",\"causes\":[]}\n{\"target\":\"\\\\\\u0009\\u00c3\\u00a9\\u007f~ \",\"verdict\":\"refused\",\"causes\":[],\"refused\":\"21 BadPath token 0\"}\n{\"target\":\"x.o\",\"verdict\":\"fresh\",\"causes\":[]}\n";
+    "2 {\"target\":\"a\\\"b.o\",\"verdict\":\"no-command-file\",\"causes\":[]}\n{\"target\":\"\\\\\\tÃ©\u{7f}~ \",\"verdict\":\"refused\",\"causes\":[],\"refused\":\"21 BadPath token 0\"}\n{\"target\":\"x.o\",\"verdict\":\"fresh\",\"causes\":[]}\n";
 
 const IMPACT_AS_JSON: &str =
     "1 {\"target\":\"x.o\",\"verdict\":\"stale\",\"causes\":[{\"name\":\"A\"}]}\n{\"target\":\"z.o\",\"verdict\":\"no-command-file\",\"causes\":[]}\n2 of 2 stale\n";

@@ -5,7 +5,6 @@ pub mod Writing
 pub mod Printing
 pub mod Siting
 mod ReadingLemmas
-pub mod JsonReading
 pub mod JsonObjects
 mod ScriptFaults
 mod ScriptSpellings

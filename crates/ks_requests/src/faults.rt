@@ -69,7 +69,7 @@ fn source_fault<'a>(error: &SourceError) -> FaultText<'a>
 
 /// The text of a refusal of the engine, of its parts, or of a word or a file.
 #[tactic(auto, unfolding(crate::specs::Faults::fault_text))]
-pub(crate) fn engine_fault(error: &EngineError) -> FaultText<'_>
+fn engine_fault(error: &EngineError) -> FaultText<'_>
     ensures { whole_text result ≡ fault_text error.now }
 {
     match error {

@@ -1,251 +1,184 @@
 //! An answer about an object as a line of JSON (RFC 8259), for scripts.
 //!
 //! A path may hold a `"`, and a line of a file of targets any byte but a line feed. Written as they are, they could end their
-//! string, and a script would read another object or none. A byte that is no printable ASCII is written by its number, so a
-//! target that is no UTF-8 has its line too, and no two have one text.
-ghost use Rattle.std.specs.Prelude.{◌≡◌, ◌<◌, ◌++◌, IfOk, OnOk, OnErr, codes, flat_map};
-ghost use Rattle.std.specs.Char.{digit_char};
+//! string, and a script would read another object or none: so all of it goes through a `Writer`. A text has a character for
+//! each byte, so a target that is no UTF-8 has its line too, and no two have one text.
+ghost use Rattle.std.specs.Prelude.{◌≡◌, ◌∷◌, ◌++◌, [], IfOk, OnOk, OnErr, codes, map, string_bytes};
+ghost use Rattle.std.specs.Str.{IsUtf8};
+ghost use Rattle.json.specs.Token.{begin_array, begin_object, end_object, key, string};
+ghost use Rattle.json.specs.Tree.{items_tokens, json_tokens};
+ghost use Rattle.json.specs.Value.{items_of};
 ghost use Rattle.ks_engine.specs.Questions.{limit_of};
-ghost use Rattle.ks_output.specs.Appending.{Keeps};
-ghost use Rattle.ks_requests.specs.Faults.{place_text, whole_text};
-ghost use Rattle.ks_requests.specs.JsonLines.{json_answer, json_cause, json_causes, json_explanation, json_first, json_byte, json_items, json_string, json_name, json_beginning, json_refused, verdict_word};
+ghost use Rattle.ks_requests.specs.Faults.{fault_text};
+ghost use Rattle.ks_requests.specs.JsonLines.{answer_value, asked_values, cause_value, characters, first_values, json_answer, verdict_word};
 ghost use Rattle.ks_requests.specs.Statuses.{code_of, explanation_status, status_unless_refused};
 
-use crate::faults::{FaultPlace, FaultText, engine_fault};
-use crate::replies::verdict_status;
+use crate::faults::write_fault;
+use crate::replies::answer_status;
 use crate::status::Status;
-use itoa::Buffer;
+use json::Writer;
 use ks_engine::{Cause, EngineError, Explanation, Limit, Question, Verdict};
-use std::alloc::AllocError;
+use std::alloc::{AllocError, Global};
 
-fn hex_digit(digit: u8) -> u8
-    requires { digit < 16 }
-    ensures { result ≡ digit_char digit }
+/// A character for each byte, the one with that number.
+fn characters(alloc: Global, bytes: &[u8]) -> Result<String, AllocError>
+    ensures { IfOk result (λ text. string_bytes text ≡ characters bytes.now) }
 {
-    if digit < 10 {
-        b'0' + digit
-    } else {
-        b'a' + (digit - 10)
-    }
+    bytes.iter().map(|byte| char::from(*byte)).collect(alloc)
 }
 
-/// A byte in a string.
-#[tactic(auto, unfolding(crate::specs::JsonLines::json_byte))]
-fn write_byte(byte: u8, text: &mut Vec<u8>) -> Result<(), AllocError>
-    ensures written { OnOk result (text.new.items ≡ text.old.items ++ json_byte byte) }
-    ensures kept { Keeps text.old.items text.new.items }
+/// A member that is a text.
+fn write_text(alloc: Global, name: &str, bytes: &[u8], out: &mut Writer) -> Result<(), AllocError>
+    ensures tokens { OnOk result (out.new.tokens ≡ out.old.tokens ++ key name.now ∷ string (characters bytes.now) ∷ []) }
+    ensures before { out.new.before ≡ out.old.before }
 {
-    match byte {
-        b'"' | b'\\' => text.extend_from_slice(&[b'\\', byte]),
-        b' '..=b'~' => text.extend_from_slice(&[byte]),
-        _ => {
-            let digits = [hex_digit(byte / 16), hex_digit(byte % 16)];
-            text.extend_from_slice(b"\\u00")?;
-            text.extend_from_slice(&digits)
+    let text = characters(alloc, bytes)?;
+    out.key(name)?;
+    out.string(text.as_str())
+}
+
+/// `{"name":"NAME","place":"PLACE","stamp":N}`.
+fn write_cause(alloc: Global, cause: &Cause, out: &mut Writer) -> Result<(), AllocError>
+    ensures tokens { OnOk result (out.new.tokens ≡ out.old.tokens ++ json_tokens (cause_value cause.now)) }
+    ensures before { out.new.before ≡ out.old.before }
+{
+    out.begin_object()?;
+    write_text(alloc, "name", cause.name.as_bytes(), out)?;
+    write_text(alloc, "place", cause.place.as_bytes(), out)?;
+    out.key("stamp")?;
+    out.u64(cause.generation)?;
+    out.end_object()
+}
+
+/// The causes, and the end of their array.
+fn write_causes(alloc: Global, causes: &[Cause], out: &mut Writer) -> Result<(), AllocError>
+    ensures tokens { OnOk result (out.new.tokens ≡ out.old.tokens ++ items_tokens (items_of (map cause_value causes.now))) }
+    ensures before { out.new.before ≡ out.old.before }
+{
+    for cause in causes {
+        write_cause(alloc, cause, out)?;
+    }
+    out.end_array()
+}
+
+/// The name of a verdict that has one, and the end of its array.
+fn write_first(alloc: Global, verdict: &Verdict, out: &mut Writer) -> Result<(), AllocError>
+    ensures tokens { OnOk result (out.new.tokens ≡ out.old.tokens ++ items_tokens (first_values verdict.now)) }
+    ensures before { out.new.before ≡ out.old.before }
+{
+    match verdict {
+        Verdict::Changed(name) => {
+            out.begin_object()?;
+            write_text(alloc, "name", name.as_bytes(), out)?;
+            out.end_object()?;
+            out.end_array()
+        }
+        Verdict::Fresh | Verdict::NoCommandFile | Verdict::Unnumbered | Verdict::Ahead => {
+            out.end_array()
         }
     }
 }
 
-/// The bytes of a string, without its quotes.
-fn write_bytes(bytes: &[u8], text: &mut Vec<u8>) -> Result<(), AllocError>
-    ensures written { OnOk result (text.new.items ≡ text.old.items ++ flat_map json_byte bytes.now) }
-    ensures kept { Keeps text.old.items text.new.items }
-{
-    for byte in bytes {
-        write_byte(*byte, text)?;
-    }
-    Ok(())
-}
-
-/// `"BYTES"`.
-#[tactic(auto, unfolding(crate::specs::JsonLines::json_string))]
-fn write_string(bytes: &[u8], text: &mut Vec<u8>) -> Result<(), AllocError>
-    ensures written { OnOk result (text.new.items ≡ text.old.items ++ json_string bytes.now) }
-    ensures kept { Keeps text.old.items text.new.items }
-{
-    text.extend_from_slice(b"\"")?;
-    write_bytes(bytes, text)?;
-    text.extend_from_slice(b"\"")
-}
-
-/// `{"name":"NAME"}`.
-#[tactic(auto, unfolding(crate::specs::JsonLines::json_name))]
-fn write_name(name: &[u8], text: &mut Vec<u8>) -> Result<(), AllocError>
-    ensures written { OnOk result (text.new.items ≡ text.old.items ++ json_name name.now) }
-    ensures kept { Keeps text.old.items text.new.items }
-{
-    text.extend_from_slice(b"{\"name\":")?;
-    write_string(name, text)?;
-    text.extend_from_slice(b"}")
-}
-
-/// `{"name":"NAME","place":"PLACE","stamp":N}`.
-#[tactic(auto, unfolding(crate::specs::JsonLines::json_cause, crate::specs::Faults::counted))]
-fn write_cause(cause: &Cause, text: &mut Vec<u8>) -> Result<(), AllocError>
-    ensures written { OnOk result (text.new.items ≡ text.old.items ++ json_cause cause.now) }
-    ensures kept { Keeps text.old.items text.new.items }
-{
-    text.extend_from_slice(b"{\"name\":")?;
-    write_string(cause.name.as_bytes(), text)?;
-    text.extend_from_slice(b",\"place\":")?;
-    write_string(cause.place.as_bytes(), text)?;
-    text.extend_from_slice(b",\"stamp\":")?;
-    text.extend_from_slice(Buffer::new().format(cause.generation).as_bytes())?;
-    text.extend_from_slice(b"}")
-}
-
-/// A further cause, after a comma.
-fn write_further(cause: &Cause, text: &mut Vec<u8>) -> Result<(), AllocError>
-    ensures written { OnOk result (text.new.items ≡ text.old.items ++ codes "," ++ json_cause cause.now) }
-    ensures kept { Keeps text.old.items text.new.items }
-{
-    text.extend_from_slice(b",")?;
-    write_cause(cause, text)
-}
-
-/// The causes, with a comma between them.
-#[tactic(auto, unfolding(crate::specs::JsonLines::json_items))]
-fn write_causes(causes: &[Cause], text: &mut Vec<u8>) -> Result<(), AllocError>
-    ensures written { OnOk result (text.new.items ≡ text.old.items ++ json_items json_cause causes.now) }
-    ensures kept { Keeps text.old.items text.new.items }
-{
-    let Some((first, others)) = causes.split_first() else {
-        return Ok(());
-    };
-    write_cause(first, text)?;
-    for cause in others {
-        write_further(cause, text)?;
-    }
-    Ok(())
-}
-
-/// The name of a verdict that has one.
-#[tactic(auto, unfolding(crate::specs::JsonLines::json_first))]
-fn write_first(verdict: &Verdict, text: &mut Vec<u8>) -> Result<(), AllocError>
-    ensures written { OnOk result (text.new.items ≡ text.old.items ++ json_first verdict.now) }
-    ensures kept { Keeps text.old.items text.new.items }
-{
-    match verdict {
-        Verdict::Changed(name) => write_name(name.as_bytes(), text),
-        Verdict::Fresh | Verdict::NoCommandFile | Verdict::Unnumbered | Verdict::Ahead => Ok(()),
-    }
-}
-
-/// The causes that a question asks for.
-#[tactic(auto, unfolding(crate::specs::JsonLines::json_causes))]
+/// The causes that a question asks for, and the end of their array.
 fn write_asked(
+    alloc: Global,
     question: Question<'_>,
     explanation: &Explanation,
-    text: &mut Vec<u8>,
+    out: &mut Writer,
 ) -> Result<(), AllocError>
-    ensures written { OnOk result (text.new.items ≡ text.old.items ++ json_causes (limit_of question.entry) explanation.now) }
-    ensures kept { Keeps text.old.items text.new.items }
+    ensures tokens { OnOk result (out.new.tokens ≡ out.old.tokens ++ items_tokens (asked_values (limit_of question.entry) explanation.now)) }
+    ensures before { out.new.before ≡ out.old.before }
 {
     match question.limit() {
-        Limit::First => write_first(&explanation.verdict, text),
-        Limit::All => write_causes(&explanation.causes, text),
+        Limit::First => write_first(alloc, &explanation.verdict, out),
+        Limit::All => write_causes(alloc, &explanation.causes, out),
     }
 }
 
 #[tactic(auto, unfolding(crate::specs::JsonLines::verdict_word))]
-fn word_of(verdict: &Verdict) -> &'static [u8]
+fn word_of(verdict: &Verdict) -> &'static str
     ensures { result.now ≡ verdict_word verdict.now }
 {
     match verdict {
-        Verdict::Fresh => b"fresh",
-        Verdict::Changed(_) => b"stale",
-        Verdict::NoCommandFile => b"no-command-file",
-        Verdict::Unnumbered => b"not-numbered",
-        Verdict::Ahead => b"generation-ahead",
+        Verdict::Fresh => "fresh",
+        Verdict::Changed(_) => "stale",
+        Verdict::NoCommandFile => "no-command-file",
+        Verdict::Unnumbered => "not-numbered",
+        Verdict::Ahead => "generation-ahead",
     }
 }
 
 /// `{"target":"TARGET","verdict":"WORD","causes":[`.
-#[tactic(auto, unfolding(crate::specs::JsonLines::json_beginning))]
-fn write_beginning(target: &[u8], word: &[u8], text: &mut Vec<u8>) -> Result<(), AllocError>
-    ensures written { OnOk result (text.new.items ≡ text.old.items ++ json_beginning target.now word.now) }
-    ensures kept { Keeps text.old.items text.new.items }
-{
-    text.extend_from_slice(b"{\"target\":")?;
-    write_string(target, text)?;
-    text.extend_from_slice(b",\"verdict\":\"")?;
-    text.extend_from_slice(word)?;
-    text.extend_from_slice(b"\",\"causes\":[")
-}
-
-/// The line of an object with its verdict.
-#[tactic(auto, unfolding(crate::specs::JsonLines::json_explanation))]
-fn write_explanation(
-    question: Question<'_>,
+fn write_beginning(
+    alloc: Global,
     target: &[u8],
-    explanation: &Explanation,
-    text: &mut Vec<u8>,
+    word: &str,
+    out: &mut Writer,
 ) -> Result<(), AllocError>
-    ensures written { OnOk result (text.new.items ≡ text.old.items ++ json_explanation (limit_of question.entry) target.now explanation.now) }
-    ensures kept { Keeps text.old.items text.new.items }
+    ensures tokens { OnOk result (out.new.tokens ≡ out.old.tokens ++ begin_object ∷ key (codes "target") ∷ string (characters target.now)
+        ∷ key (codes "verdict") ∷ string word.now ∷ key (codes "causes") ∷ begin_array ∷ []) }
+    ensures before { out.new.before ≡ out.old.before }
 {
-    write_beginning(target, word_of(&explanation.verdict), text)?;
-    write_asked(question, explanation, text)?;
-    text.extend_from_slice(b"]}\n")
+    out.begin_object()?;
+    write_text(alloc, "target", target, out)?;
+    out.key("verdict")?;
+    out.string(word)?;
+    out.key("causes")?;
+    out.begin_array()
 }
 
-/// What stands after the name of a refusal.
-fn write_place(place: &FaultPlace<'_>, text: &mut Vec<u8>) -> Result<(), AllocError>
-    ensures written { OnOk result (text.new.items ≡ text.old.items ++ flat_map json_byte (place_text place.now)) }
-    ensures kept { Keeps text.old.items text.new.items }
+/// The text of a refusal, and the end of its object.
+fn write_refusal(alloc: Global, error: &EngineError, out: &mut Writer) -> Result<(), AllocError>
+    ensures tokens { OnOk result (out.new.tokens ≡ out.old.tokens ++ key (codes "refused") ∷ string (characters (fault_text error.now)) ∷ end_object ∷ []) }
+    ensures before { out.new.before ≡ out.old.before }
 {
-    match place {
-        FaultPlace::Nowhere => Ok(()),
-        FaultPlace::Numbered(number) => write_bytes(Buffer::new().format(*number).as_bytes(), text),
-        FaultPlace::Named(bytes) => write_bytes(bytes, text),
-    }
+    let mut text = Vec::new(alloc);
+    write_fault(error, &mut text)?;
+    write_text(alloc, "refused", &text, out)?;
+    out.end_object()
 }
 
-/// The text of a refusal as a string.
-#[tactic(auto, unfolding(crate::specs::JsonLines::json_string))]
-fn write_fault_string(fault: &FaultText<'_>, text: &mut Vec<u8>) -> Result<(), AllocError>
-    ensures written { OnOk result (text.new.items ≡ text.old.items ++ json_string (whole_text fault.now)) }
-    ensures kept { Keeps text.old.items text.new.items }
-{
-    text.extend_from_slice(b"\"")?;
-    write_bytes(fault.name, text)?;
-    write_place(&fault.place, text)?;
-    text.extend_from_slice(b"\"")
-}
-
-/// The line of an object that is refused.
-#[tactic(auto, unfolding(crate::specs::JsonLines::json_refused))]
-fn write_refused(target: &[u8], error: &EngineError, text: &mut Vec<u8>) -> Result<(), AllocError>
-    ensures written { OnOk result (text.new.items ≡ text.old.items ++ json_refused target.now error.now) }
-    ensures kept { Keeps text.old.items text.new.items }
-{
-    write_beginning(target, b"refused", text)?;
-    text.extend_from_slice(b"],\"refused\":")?;
-    write_fault_string(&engine_fault(error), text)?;
-    text.extend_from_slice(b"}\n")
-}
-
-/// The line of an answer, or a beginning of it.
-fn write_answer(
+/// The object of an answer.
+fn write_object(
+    alloc: Global,
     question: Question<'_>,
     target: &[u8],
     answer: &Result<Explanation, EngineError>,
-    text: &mut Vec<u8>,
-) -> Result<Status, AllocError>
-    ensures line { OnOk result (text.new.items ≡ text.old.items ++ json_answer (limit_of question.entry) target.now answer.now) }
-    ensures status { IfOk result (λ s. code_of s ≡ status_unless_refused explanation_status answer.now) }
-    ensures kept { Keeps text.old.items text.new.items }
+    out: &mut Writer,
+) -> Result<(), AllocError>
+    ensures tokens { OnOk result (out.new.tokens ≡ out.old.tokens ++ json_tokens (answer_value (limit_of question.entry) target.now answer.now)) }
+    ensures before { out.new.before ≡ out.old.before }
 {
     match answer {
         Ok(explanation) => {
-            write_explanation(question, target, explanation, text)?;
-            Ok(verdict_status(&explanation.verdict))
+            write_beginning(alloc, target, word_of(&explanation.verdict), out)?;
+            write_asked(alloc, question, explanation, out)?;
+            out.end_object()
         }
         Err(error) => {
-            write_refused(target, error, text)?;
-            Ok(Status::Refused)
+            write_beginning(alloc, target, "refused", out)?;
+            out.end_array()?;
+            write_refusal(alloc, error, out)
         }
     }
+}
+
+/// The line of an answer.
+#[tactic(auto, unfolding(crate::specs::JsonLines::json_answer))]
+fn line_of(
+    alloc: Global,
+    question: Question<'_>,
+    target: &[u8],
+    answer: &Result<Explanation, EngineError>,
+) -> Result<Vec<u8>, AllocError>
+    ensures line { IfOk result (λ line. line.items ≡ json_answer (limit_of question.entry) target.now answer.now) }
+    ensures utf8 { OnOk result (IsUtf8 (json_answer (limit_of question.entry) target.now answer.now)) }
+{
+    let mut out = Writer::new(Vec::new(alloc));
+    write_object(alloc, question, target, answer, &mut out)?;
+    let mut line = out.into_inner();
+    line.push(b'\n')?;
+    Ok(line)
 }
 
 /// Appends an answer as a line `{"target":..,"verdict":..,"causes":[..]}`, with `"refused":..` after the causes of one that is
@@ -257,15 +190,11 @@ pub fn write_json_answer(
     text: &mut Vec<u8>,
 ) -> Result<Status, AllocError>
     ensures line { OnOk result (text.new.items ≡ text.old.items ++ json_answer (limit_of question.entry) target.now answer.now) }
+    ensures utf8 { OnOk result (IsUtf8 (json_answer (limit_of question.entry) target.now answer.now)) }
     ensures status { IfOk result (λ s. code_of s ≡ status_unless_refused explanation_status answer.now) }
     ensures kept { OnErr result (text.new.items ≡ text.old.items) }
 {
-    let start = text.len();
-    match write_answer(question, target, answer, text) {
-        Ok(status) => Ok(status),
-        Err(refused) => {
-            text.truncate(start);
-            Err(refused)
-        }
-    }
+    let line = line_of(*text.allocator(), question, target, answer)?;
+    text.extend_from_slice(&line)?;
+    Ok(answer_status(answer))
 }

@@ -275,12 +275,22 @@ pub fn write_build_line(
 }
 
 /// What a verdict comes to: all but fresh is stale.
-pub(crate) fn verdict_status(verdict: &Verdict) -> Status
+fn verdict_status(verdict: &Verdict) -> Status
     ensures { code_of result ≡ verdict_status verdict.now }
 {
     match verdict {
         Verdict::Fresh => Status::Done,
         _ => Status::Stale,
+    }
+}
+
+/// What an answer comes to: a refused object is more than a stale one.
+pub(crate) fn answer_status(answer: &Result<Explanation, EngineError>) -> Status
+    ensures { code_of result ≡ status_unless_refused explanation_status answer.now }
+{
+    match answer {
+        Ok(explanation) => verdict_status(&explanation.verdict),
+        Err(_) => Status::Refused,
     }
 }
 

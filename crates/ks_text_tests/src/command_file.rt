@@ -99,31 +99,40 @@ fn a_command_file_without_a_generation_too(rt: HostRuntime) -> Result<(), Fail> 
     Ok(())
 }
 
-#[test]
+/// What a command file comes to in which one text stands in the place of another: its generation, or the line that is refused.
 #[rattlefmt::skip]
+const DAMAGES: &[(&str, &[u8], &[u8], Result<Option<u64>, u64>)] = &[
+    ("as it is",                  b"",                b"",                               Ok(Some(1))),
+    ("a line of Kbuild after",   b"#generation 1\n", b"#generation 1\n#SYMVER f 0x1\n", Ok(Some(1))),
+    ("the last generation",       b"#generation 1\n", b"#generation 1\n#generation 5\n", Ok(Some(5))),
+    ("the greatest generation",   b"generation 1",    b"generation 18446744073709551615", Ok(Some(u64::MAX))),
+    ("a greater one",             b"generation 1",    b"generation 18446744073709551616", Err(15)),
+    ("a leading zero",            b"generation 1",    b"generation 01",                  Err(15)),
+    ("no line feed after it",    b"generation 1\n",  b"generation 1",                   Err(15)),
+    ("another comment",           b"#generation 1\n", b"#generations 1",                 Ok(None)),
+    ("a folder above",            b"config/A)",       b"config/../A)",                   Err(6)),
+    ("three spaces",              b"    $(wildcard include/config/B", b"   $(wildcard include/config/B", Err(7)),
+    ("a folder as target",        b"x.o",             b"x/",                             Err(1)),
+    ("a carriage return",         b"cc -c",           b"cc\r-c",                         Err(1)),
+    ("another target's source",   b"source_x.o",      b"source_y.o",                     Err(3)),
+    ("a source with a space",     b":= x.c",          b":= x .c",                        Err(3)),
+    ("two empty lines",           b"b.h \\\n\n",      b"b.h \\\n\n\n",                   Err(12)),
+    ("CR LF",                     b"\n",              b"\r\n",                           Err(1)),
+];
+
+/// The answer with this generation, or with the refusal of this line.
+fn answer(outcome: Result<Option<u64>, u64>) -> Result<Option<u64>, CommandError> {
+    match outcome {
+        Ok(generation) => Ok(generation),
+        Err(line) => Err(CommandError::BadCommandFile(line)),
+    }
+}
+
+#[test]
 fn a_damaged_command_file_is_refused_with_its_line(rt: HostRuntime) -> Result<(), Fail> {
-    let at = |line: u64| -> Result<Option<u64>, CommandError> { Err(CommandError::BadCommandFile(line)) };
-    let rows: [(&str, &[u8], &[u8], Result<Option<u64>, CommandError>); 16] = [
-        ("as it is",                  b"",                b"",                               Ok(Some(1))),
-        ("a line of Kbuild after",   b"#generation 1\n", b"#generation 1\n#SYMVER f 0x1\n", Ok(Some(1))),
-        ("the last generation",       b"#generation 1\n", b"#generation 1\n#generation 5\n", Ok(Some(5))),
-        ("the greatest generation",   b"generation 1",    b"generation 18446744073709551615", Ok(Some(u64::MAX))),
-        ("a greater one",             b"generation 1",    b"generation 18446744073709551616", at(15)),
-        ("a leading zero",            b"generation 1",    b"generation 01",                  at(15)),
-        ("no line feed after it",    b"generation 1\n",  b"generation 1",                   at(15)),
-        ("another comment",           b"#generation 1\n", b"#generations 1",                 Ok(None)),
-        ("a folder above",            b"config/A)",       b"config/../A)",                   at(6)),
-        ("three spaces",              b"    $(wildcard include/config/B", b"   $(wildcard include/config/B", at(7)),
-        ("a folder as target",        b"x.o",             b"x/",                             at(1)),
-        ("a carriage return",         b"cc -c",           b"cc\r-c",                         at(1)),
-        ("another target's source",   b"source_x.o",      b"source_y.o",                     at(3)),
-        ("a source with a space",     b":= x.c",          b":= x .c",                        at(3)),
-        ("two empty lines",           b"b.h \\\n\n",      b"b.h \\\n\n\n",                   at(12)),
-        ("CR LF",                     b"\n",              b"\r\n",                           at(1)),
-    ];
-    for (row, old, new, want) in rows {
+    for &(row, old, new, want) in DAMAGES {
         let text = WORKED.replace(rt.alloc(), old, new)?;
-        assert_eq!(rt; generation_of(rt.alloc(), &text), want, "{row}");
+        assert_eq!(rt; generation_of(rt.alloc(), &text), answer(want), "{row}");
     }
     Ok(())
 }

@@ -125,20 +125,26 @@ fn macros_of_u_boot(rt: HostRuntime) -> Result<(), Fail> {
     Ok(())
 }
 
-#[test]
 #[rattlefmt::skip]
+const MACROS_OF_COREBOOT: &[(&[u8], &[u8])] = &[
+    (b"CONFIG(A)",                         b" A"),
+    (b"#if CONFIG_A && CONFIG (B)",        b" A B"),
+    (b"if (!CONFIG( A ) && CONFIG(B))",    b" A B"),
+    (b"CONFIG(\\\n A)",                     b" A"),
+    (b"xCONFIG(A) CONFIG;(A) CONFIGS(A)",  b""),
+    (b"CONFIG(CONFIG_A) ENABLE_B",         b" CONFIG_A A"),
+];
+
+#[test]
 fn macro_of_coreboot(rt: HostRuntime) -> Result<(), Fail> {
-    let rows: [(&[u8], &[u8]); 6] = [
-        (b"CONFIG(A)",                         b" A"),
-        (b"#if CONFIG_A && CONFIG (B)",        b" A B"),
-        (b"if (!CONFIG( A ) && CONFIG(B))",    b" A B"),
-        (b"CONFIG(\\\n A)",                     b" A"),
-        (b"xCONFIG(A) CONFIG;(A) CONFIGS(A)",  b""),
-        (b"CONFIG(CONFIG_A) ENABLE_B",         b" CONFIG_A A"),
-    ];
-    for (text, want) in rows {
+    for &(text, want) in MACROS_OF_COREBOOT {
         for size in [1usize, 7, 4096] {
-            let all = names_by(rt.alloc(), Rules::for_target(Dialect::Coreboot, b"x.o"), text, size)?;
+            let all = names_by(
+                rt.alloc(),
+                Rules::for_target(Dialect::Coreboot, b"x.o"),
+                text,
+                size,
+            )?;
             assert_eq!(rt; all.as_slice(), want, "in pieces of {size}");
         }
     }
@@ -160,17 +166,19 @@ fn linux_by_its_dialect(rt: HostRuntime) -> Result<(), Fail> {
     Ok(())
 }
 
-#[test]
 #[rattlefmt::skip]
+const FILES_BESIDE_HEADERS: &[(Dialect, &[u8])] = &[
+    (Dialect::Linux, b" x.c include/autoconf.h ../include/autoconf.h minclude/autoconf.h"),
+    (Dialect::UBoot, b" x.c include/autoconf.h ../include/autoconf.h minclude/autoconf.h"),
+    (Dialect::BusyBox, b" x.c minclude/autoconf.h include/generated/autoconf.h"),
+    (Dialect::Coreboot, b" x.c include/autoconf.h ../include/autoconf.h minclude/autoconf.h"),
+];
+
+#[test]
 fn headers_left_out(rt: HostRuntime) -> Result<(), Fail> {
-    let text = b"x.o: x.c include/autoconf.h ../include/autoconf.h minclude/autoconf.h include/generated/autoconf.h";
-    let rows: [(Dialect, &[u8]); 4] = [
-        (Dialect::Linux, b" x.c include/autoconf.h ../include/autoconf.h minclude/autoconf.h"),
-        (Dialect::UBoot, b" x.c include/autoconf.h ../include/autoconf.h minclude/autoconf.h"),
-        (Dialect::BusyBox, b" x.c minclude/autoconf.h include/generated/autoconf.h"),
-        (Dialect::Coreboot, b" x.c include/autoconf.h ../include/autoconf.h minclude/autoconf.h"),
-    ];
-    for (dialect, want) in rows {
+    let text =
+        b"x.o: x.c include/autoconf.h ../include/autoconf.h minclude/autoconf.h include/generated/autoconf.h";
+    for &(dialect, want) in FILES_BESIDE_HEADERS {
         let header = Header::usual(dialect);
         let mut all = Vec::new(rt.alloc());
         if let Ok(read) = read_depfile_without(rt.alloc(), Seed::new(0), header, text) {

@@ -88,34 +88,38 @@ fn all_names(alloc: Global, text: &[u8]) -> Result<Vec<u8>, AllocError> {
     Ok(all)
 }
 
-#[test]
 #[rattlefmt::skip]
+const PLACED_NAMES: &[(&str, &[u8], &[u8])] = &[
+    ("inside words, and with one suffix or two", golden::SUFFIXES, b"13 B 52 MODULE 66 C_MODULE 89 D "),
+    ("inside a name",                  b"CONFIG_CONFIG_E",        b"0 CONFIG_E "),
+    ("after bytes past ASCII",        b"\xc3\xa9CONFIG_A",       b"2 A "),
+    ("after a NUL",                   b"a\0CONFIG_B",            b"2 B "),
+    ("twice",                          b"CONFIG_A(CONFIG_A)",     b"0 A 9 A "),
+    ("nothing after",                 b"CONFIG_",                b""),
+    ("nothing at all",                 b"",                       b""),
+];
+
+#[test]
 fn names_stand_at_their_places(rt: HostRuntime) -> Result<(), Fail> {
-    let rows: [(&str, &[u8], &[u8]); 7] = [
-        ("inside words, and with one suffix or two", golden::SUFFIXES, b"13 B 52 MODULE 66 C_MODULE 89 D "),
-        ("inside a name",                  b"CONFIG_CONFIG_E",        b"0 CONFIG_E "),
-        ("after bytes past ASCII",        b"\xc3\xa9CONFIG_A",       b"2 A "),
-        ("after a NUL",                   b"a\0CONFIG_B",            b"2 B "),
-        ("twice",                          b"CONFIG_A(CONFIG_A)",     b"0 A 9 A "),
-        ("nothing after",                 b"CONFIG_",                b""),
-        ("nothing at all",                 b"",                       b""),
-    ];
-    for (name, text, want) in rows {
+    for &(name, text, want) in PLACED_NAMES {
         let all = with_places(rt.alloc(), text)?;
         assert_eq!(rt; all.as_slice(), want, "{name}");
     }
     Ok(())
 }
 
+/// How many letters a name has, what follows it, and whether it is one.
+const LONG_NAMES: &[(usize, &[u8], bool)] = &[
+    (128, b"", true),
+    (128, b"_MODULE", true),
+    (128, b"_MODULEX", false),
+    (129, b"", false),
+    (129, b"_MODULE", false),
+];
+
 #[test]
 fn the_longest_name_whole_and_byte_by_byte(rt: HostRuntime) -> Result<(), Fail> {
-    for (letters, following, taken) in [
-        (128, b"".as_slice(), true),
-        (128, b"_MODULE".as_slice(), true),
-        (128, b"_MODULEX".as_slice(), false),
-        (129, b"".as_slice(), false),
-        (129, b"_MODULE".as_slice(), false),
-    ] {
+    for &(letters, following, taken) in LONG_NAMES {
         let text = long_name(rt.alloc(), letters, following)?;
         let first = names(&text).next();
         assert_eq!(rt;
@@ -132,17 +136,18 @@ fn the_longest_name_whole_and_byte_by_byte(rt: HostRuntime) -> Result<(), Fail> 
     Ok(())
 }
 
-#[test]
 #[rattlefmt::skip]
+const SOURCES_IN_PIECES: &[(&str, &[&[u8]], &[u8])] = &[
+    ("a name in three pieces",       &[b"int CON", b"FIG_ALP", b"HA;"],            b"ALPHA "),
+    ("the word begins before",       &[b"HIS_", b"CONFIG_A"],                      b""),
+    ("a suffix in two, and an empty piece", &[b"CONFIG_B_MOD", b"", b"ULE CONFIG_"], b"B "),
+    ("no piece",                     &[],                                          b""),
+    ("a name at the end of each",    &[b"CONFIG_A", b" CONFIG_B", b" CONFIG_B"],   b"A B B "),
+];
+
+#[test]
 fn pieces_of_all_sizes_borrow_the_same_names(rt: HostRuntime) -> Result<(), Fail> {
-    let rows: [(&str, &[&[u8]], &[u8]); 5] = [
-        ("a name in three pieces",       &[b"int CON", b"FIG_ALP", b"HA;"],            b"ALPHA "),
-        ("the word begins before",       &[b"HIS_", b"CONFIG_A"],                      b""),
-        ("a suffix in two, and an empty piece", &[b"CONFIG_B_MOD", b"", b"ULE CONFIG_"], b"B "),
-        ("no piece",                     &[],                                          b""),
-        ("a name at the end of each",    &[b"CONFIG_A", b" CONFIG_B", b" CONFIG_B"],   b"A B B "),
-    ];
-    for (name, pieces, want) in rows {
+    for &(name, pieces, want) in SOURCES_IN_PIECES {
         let all = borrowed(rt.alloc(), pieces)?;
         assert_eq!(rt; all.as_slice(), want, "{name}");
     }
@@ -341,30 +346,31 @@ fn prerequisites(alloc: Global, text: &[u8]) -> Result<Vec<u8>, AllocError> {
     Ok(all)
 }
 
-#[test]
 #[rattlefmt::skip]
+const DEPENDENCY_FILES: &[(&str, &[u8], &[u8])] = &[
+    ("as compilers write it",         golden::DEPFILE,                                 b"Sx.c +a.h +b.h "),
+    ("a second rule",                 b"x.o: x.c a.h\ny.o: t.s b.h\n",                 b"Sx.c +a.h -t.s +b.h "),
+    ("a repeat takes the first place", b"x.o: x.c a.h\ny.o: a.h b.h\n",                b"Sx.c +a.h +b.h "),
+    ("the header does not",           b"x.o: x.c\ny.o: include/generated/autoconf.h t.s\n", b"Sx.c -t.s "),
+    ("a repeat of a scanned file",    b"x.o: x.c\ny.o: t.s\nz.o: t.s u.h",             b"Sx.c -t.s +u.h "),
+    ("the source again",              b"x.o: x.c x.c a.h x.c",                         b"Sx.c +a.h "),
+    ("targets side by side",          b"x.o: y.o:\r\n\tx.c \\\r\n a.h",                b"Sx.c +a.h "),
+    ("a target without files",        b"x.o: x.c\na.h:\nb.h: c.h",                     b"Sx.c -c.h "),
+    ("a header elsewhere",            b"x.o: x.c out/include/generated/autoconf.h a.h", b"Sx.c +a.h "),
+    ("no target",                     b"a.h b.h",                                      b"20 NoTarget"),
+    ("a file before the target",      b"x.c x.o: a.h",                                 b"20 NoTarget"),
+    ("the header before it",          b"include/generated/autoconf.h x.o: x.c",        b"20 NoTarget"),
+    ("faulty in both ways",           b"a$b x.o: x.c",                                 b"20 NoTarget"),
+    ("nothing",                       b"",                                             b"20 NoTarget"),
+    ("no file but the header",        b"x.o: include/generated/autoconf.h",            b"20 NoTarget"),
+    ("a dollar",                      b"x.o: x.c a$b.h",                               b"21 BadPath token 3"),
+    ("all tokens are counted",        b"x.o: y.o: include/generated/autoconf.h x.c a#", b"21 BadPath token 5"),
+    ("the first fault",               b"x.o: x.c \xc3\xa9.h a$b.h",                    b"21 BadPath token 3"),
+];
+
+#[test]
 fn prerequisites_have_their_roles_by_place(rt: HostRuntime) -> Result<(), Fail> {
-    let rows: [(&str, &[u8], &[u8]); 18] = [
-        ("as compilers write it",         golden::DEPFILE,                                 b"Sx.c +a.h +b.h "),
-        ("a second rule",                 b"x.o: x.c a.h\ny.o: t.s b.h\n",                 b"Sx.c +a.h -t.s +b.h "),
-        ("a repeat takes the first place", b"x.o: x.c a.h\ny.o: a.h b.h\n",                b"Sx.c +a.h +b.h "),
-        ("the header does not",           b"x.o: x.c\ny.o: include/generated/autoconf.h t.s\n", b"Sx.c -t.s "),
-        ("a repeat of a scanned file",    b"x.o: x.c\ny.o: t.s\nz.o: t.s u.h",             b"Sx.c -t.s +u.h "),
-        ("the source again",              b"x.o: x.c x.c a.h x.c",                         b"Sx.c +a.h "),
-        ("targets side by side",          b"x.o: y.o:\r\n\tx.c \\\r\n a.h",                b"Sx.c +a.h "),
-        ("a target without files",        b"x.o: x.c\na.h:\nb.h: c.h",                     b"Sx.c -c.h "),
-        ("a header elsewhere",            b"x.o: x.c out/include/generated/autoconf.h a.h", b"Sx.c +a.h "),
-        ("no target",                     b"a.h b.h",                                      b"20 NoTarget"),
-        ("a file before the target",      b"x.c x.o: a.h",                                 b"20 NoTarget"),
-        ("the header before it",          b"include/generated/autoconf.h x.o: x.c",        b"20 NoTarget"),
-        ("faulty in both ways",           b"a$b x.o: x.c",                                 b"20 NoTarget"),
-        ("nothing",                       b"",                                             b"20 NoTarget"),
-        ("no file but the header",        b"x.o: include/generated/autoconf.h",            b"20 NoTarget"),
-        ("a dollar",                      b"x.o: x.c a$b.h",                               b"21 BadPath token 3"),
-        ("all tokens are counted",        b"x.o: y.o: include/generated/autoconf.h x.c a#", b"21 BadPath token 5"),
-        ("the first fault",               b"x.o: x.c \xc3\xa9.h a$b.h",                    b"21 BadPath token 3"),
-    ];
-    for (name, text, want) in rows {
+    for &(name, text, want) in DEPENDENCY_FILES {
         let read = prerequisites(rt.alloc(), text)?;
         assert_eq!(rt; read.as_slice(), want, "{name}");
     }
@@ -400,26 +406,27 @@ fn tokens_by_their_numbers(rt: HostRuntime) {
     assert!(rt; token_at(text, 5).is_none());
 }
 
-#[test]
+/// The last cut of each row, what is settled there, and where the path begins that is cut.
 #[rattlefmt::skip]
+const CUTS: &[(usize, &[u8], usize)] = &[
+    ( 5, b"20 NoTarget",     53), // no more than the target
+    ( 8, b"S",                5), // in the source
+    ( 9, b"Sx.c ",           53),
+    (12, b"Sx.c +",           9), // in a listed file
+    (16, b"Sx.c +a.h ",      53),
+    (43, b"Sx.c +a.h +",     16), // in the header that is passed over, which is another file until it is whole
+    (45, b"Sx.c +a.h ",      53), // it is whole
+    (47, b"Sx.c +a.h +",     45), // in a repeat, which is another file until it is whole
+    (49, b"Sx.c +a.h ",      53), // it is whole
+    (52, b"Sx.c +a.h +",     49), // in the last file
+    (53, b"Sx.c +a.h +b.h ", 53),
+];
+
+#[test]
 fn each_cut_of_a_dependency_file_is_read_or_refused(rt: HostRuntime) -> Result<(), Fail> {
-    // the last cut of each row, what is settled there, and where the path begins that is cut
-    let rows: [(usize, &[u8], usize); 11] = [
-        ( 5, b"20 NoTarget",     53), // no more than the target
-        ( 8, b"S",                5), // in the source
-        ( 9, b"Sx.c ",           53),
-        (12, b"Sx.c +",           9), // in a listed file
-        (16, b"Sx.c +a.h ",      53),
-        (43, b"Sx.c +a.h +",     16), // in the header that is passed over, which is another file until it is whole
-        (45, b"Sx.c +a.h ",      53), // it is whole
-        (47, b"Sx.c +a.h +",     45), // in a repeat, which is another file until it is whole
-        (49, b"Sx.c +a.h ",      53), // it is whole
-        (52, b"Sx.c +a.h +",     49), // in the last file
-        (53, b"Sx.c +a.h +b.h ", 53),
-    ];
     for end in 0..=golden::DEPFILE.len() {
         let text = &golden::DEPFILE[..end];
-        let (_, settled, open) = *rows.iter().find(|row| end <= row.0).ok_or("no row")?;
+        let (_, settled, open) = *CUTS.iter().find(|row| end <= row.0).ok_or("no row")?;
         let mut want = settled.to_vec(rt.alloc())?;
         if open < end {
             push_name(&mut want, &text[open..])?;
@@ -542,53 +549,64 @@ fn command_text(
     Ok(out)
 }
 
+#[rattlefmt::skip]
+const OBJECTS: &[(&str, &[u8], &[&[u8]], &[u8])] = &[
+    (
+        "each name with its first prerequisite",
+        golden::DEPFILE,
+        &[
+            b"#ifdef CONFIG_A\nCONFIG_B\n",
+            b"CONFIG_B CONFIG_C_MODULE\n",
+            b"CONFIG_A\n",
+        ],
+        golden::COMMAND_FILE,
+    ),
+    (
+        "a scanned file is not listed",
+        b"x.o: x.c a.h\ny.o: t.s b.h\n",
+        &[b"", b"", b"CONFIG_Z", b""],
+        golden::SCANNED_COMMAND_FILE,
+    ),
+    (
+        "no names and no other files",
+        b"x.o: x.c",
+        &[b"int x;"],
+        golden::SMALLEST_COMMAND_FILE,
+    ),
+];
+
 #[test]
 fn objects_have_their_command_files(rt: HostRuntime) -> Result<(), Fail> {
     let words = (b"x.o".as_slice(), b"cc -c x.c".as_slice());
-    let rows: [(&str, &[u8], &[&[u8]], &[u8]); 3] = [
-        (
-            "each name with its first prerequisite",
-            golden::DEPFILE,
-            &[
-                b"#ifdef CONFIG_A\nCONFIG_B\n",
-                b"CONFIG_B CONFIG_C_MODULE\n",
-                b"CONFIG_A\n",
-            ],
-            golden::COMMAND_FILE,
-        ),
-        (
-            "a scanned file is not listed",
-            b"x.o: x.c a.h\ny.o: t.s b.h\n",
-            &[b"", b"", b"CONFIG_Z", b""],
-            golden::SCANNED_COMMAND_FILE,
-        ),
-        (
-            "no names and no other files",
-            b"x.o: x.c",
-            &[b"int x;"],
-            golden::SMALLEST_COMMAND_FILE,
-        ),
-    ];
-    for (name, depfile, texts, want) in rows {
+    for &(name, depfile, texts, want) in OBJECTS {
         let text = command_text(rt.alloc(), depfile, words, texts)?;
         assert_eq!(rt; text.as_slice(), want, "{name}");
     }
     Ok(())
 }
 
-#[test]
+/// Why an object has no command file.
+fn refusal_of(alloc: Global, target: &[u8], command: &[u8]) -> Result<String, AllocError> {
+    match command_text(alloc, b"x.o: x.c", (target, command), &[b""]) {
+        Ok(_) => String::from_str(alloc, "not refused"),
+        Err(refusal) => format!(in alloc; "{refusal}"),
+    }
+}
+
 #[rattlefmt::skip]
-fn a_target_and_a_command_are_checked_in_this_order(rt: HostRuntime) -> Result<(), Fail> {
-    let rows: [(&str, &[u8], &[u8], DepError); 5] = [
-        ("a folder",            b"d/",  b"cc",   DepError::BadPath(0)),
-        ("no target",           b"",    b"cc",   DepError::BadPath(0)),
-        ("two lines",           b"x.o", b"a\nb", DepError::BadCommand),
-        ("a NUL",               b"x.o", b"a\0",  DepError::BadCommand),
-        ("both are at fault",   b"d/",  b"a\nb", DepError::BadPath(0)),
-    ];
-    for (name, target, command, want) in rows {
-        let built = command_text(rt.alloc(), b"x.o: x.c", (target, command), &[b""]);
-        assert_eq!(rt; built.err(), Some(want), "{name}");
+const FAULTY_WORDS: &[(&str, &[u8], &[u8], &str)] = &[
+    ("a folder",            b"d/",  b"cc",   "21 BadPath token 0"),
+    ("no target",           b"",    b"cc",   "21 BadPath token 0"),
+    ("two lines",           b"x.o", b"a\nb", "22 BadCommand"),
+    ("a NUL",               b"x.o", b"a\0",  "22 BadCommand"),
+    ("both are at fault",   b"d/",  b"a\nb", "21 BadPath token 0"),
+];
+
+#[test]
+fn a_target_and_a_command_are_checked_in_this_order(rt: HostRuntime) -> Result<(), AllocError> {
+    for &(name, target, command, want) in FAULTY_WORDS {
+        let refusal = refusal_of(rt.alloc(), target, command)?;
+        assert_eq!(rt; refusal.as_str(), want, "{name}");
     }
     Ok(())
 }

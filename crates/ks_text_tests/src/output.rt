@@ -118,18 +118,19 @@ fn files_of_other_kinds(rt: HostRuntime) -> Result<(), AllocError> {
     Ok(())
 }
 
+#[rattlefmt::skip]
+const FILES_OF_DIALECTS: &[(&str, Dialect, &[u8], &[u8], &[u8], &[u8])] = &[
+    ("a string of U-Boot", Dialect::UBoot, STRING, br#"CONFIG_S="a\"b""#, b"#type S raw\nCONFIG_S=\"a\\\"b\"\n", b"#define CONFIG_S \"a\\\"b\"\n"),
+    ("an empty one", Dialect::UBoot, STRING, b"CONFIG_S=\"\"\n", b"#type S raw\nCONFIG_S=\"\"\n", b"#define CONFIG_S \"\"\n"),
+    ("a string of BusyBox", Dialect::BusyBox, STRING, b"CONFIG_S=\"./_install\"\n", b"#type S raw\nCONFIG_S=\"./_install\"\n", b"#define CONFIG_S \"./_install\"\n"),
+    ("a bool of BusyBox", Dialect::BusyBox, b"config A\n\tbool\n", b"CONFIG_A=y\n", b"#type A flag\nCONFIG_A=y\n", b"#define ENABLE_A 1\n"),
+    ("one whose name ends in _MODULE", Dialect::BusyBox, b"config A_MODULE\n\tbool\n", b"CONFIG_A_MODULE=y\n", b"#type A_MODULE flag\nCONFIG_A_MODULE=y\n", b"#define ENABLE_A_MODULE 1\n"),
+];
+
 #[test]
 fn files_of_dialects(rt: HostRuntime) -> Result<(), AllocError> {
     let alloc = rt.alloc();
-    #[rattlefmt::skip]
-    let rows: [(&str, Dialect, &[u8], &[u8], &[u8], &[u8]); 5] = [
-        ("a string of U-Boot", Dialect::UBoot, STRING, br#"CONFIG_S="a\"b""#, b"#type S raw\nCONFIG_S=\"a\\\"b\"\n", b"#define CONFIG_S \"a\\\"b\"\n"),
-        ("an empty one", Dialect::UBoot, STRING, b"CONFIG_S=\"\"\n", b"#type S raw\nCONFIG_S=\"\"\n", b"#define CONFIG_S \"\"\n"),
-        ("a string of BusyBox", Dialect::BusyBox, STRING, b"CONFIG_S=\"./_install\"\n", b"#type S raw\nCONFIG_S=\"./_install\"\n", b"#define CONFIG_S \"./_install\"\n"),
-        ("a bool of BusyBox", Dialect::BusyBox, b"config A\n\tbool\n", b"CONFIG_A=y\n", b"#type A flag\nCONFIG_A=y\n", b"#define ENABLE_A 1\n"),
-        ("one whose name ends in _MODULE", Dialect::BusyBox, b"config A_MODULE\n\tbool\n", b"CONFIG_A_MODULE=y\n", b"#type A_MODULE flag\nCONFIG_A_MODULE=y\n", b"#define ENABLE_A_MODULE 1\n"),
-    ];
-    for (name, dialect, kconfig, dotconfig, entries, definitions) in rows {
+    for &(name, dialect, kconfig, dotconfig, entries, definitions) in FILES_OF_DIALECTS {
         let (auto, header) = written_in(alloc, dialect, kconfig, dotconfig)?;
         assert!(rt;
             auto == joined(alloc, &[b"auto:", AUTO_HEAD, entries, b"#generation 1\n"])?,

@@ -195,24 +195,26 @@ fn kconfigs_of_dialects(rt: HostRuntime) -> Result<(), AllocError> {
     Ok(())
 }
 
-#[test]
+const FLAGS: &[u8] = b"config A_MODULE\n\tbool\nconfig A\n\tbool\n";
+
 #[rattlefmt::skip]
+const DOTCONFIGS_OF_DIALECTS: &[(&str, Dialect, &[u8], &[u8], &str)] = &[
+    ("a backslash is one", Dialect::UBoot, VALUES, b"CONFIG_S=\"a\\n\"\n", "S=\"a\\n\" unknown 0"),
+    ("a quote within", Dialect::UBoot, VALUES, b"CONFIG_S=\"a\"b\"\n", "S=\"a\"b\" unknown 0"),
+    ("an escape is none", Dialect::UBoot, VALUES, b"CONFIG_S=\"a\\\"\n", "S=\"a\\\" unknown 0"),
+    ("an empty string", Dialect::UBoot, VALUES, b"CONFIG_S=\"\"\n", "S=\"\" unknown 0"),
+    ("one quote", Dialect::UBoot, VALUES, b"CONFIG_S=\"\n", "8 BadValue line 1"),
+    ("no closing quote", Dialect::UBoot, VALUES, b"CONFIG_S=\"a\n", "8 BadValue line 1"),
+    ("bytes after the quote", Dialect::UBoot, VALUES, b"CONFIG_S=\"a\"b\n", "8 BadValue line 1"),
+    ("names of BusyBox", Dialect::BusyBox, FLAGS, b"CONFIG_A_MODULE=y\n# CONFIG_A is not set\n", "A_MODULE=y unknown 0"),
+    ("n is off", Dialect::BusyBox, FLAGS, b"CONFIG_A_MODULE=n\nCONFIG_A=y\n", "A=y unknown 0"),
+    ("m for a flag", Dialect::BusyBox, FLAGS, b"CONFIG_A=m\n", "8 BadValue line 1"),
+];
+
+#[test]
 fn dotconfigs_of_dialects(rt: HostRuntime) -> Result<(), AllocError> {
     let alloc = rt.alloc();
-    let flags: &[u8] = b"config A_MODULE\n\tbool\nconfig A\n\tbool\n";
-    let rows: [(&str, Dialect, &[u8], &[u8], &str); 10] = [
-        ("a backslash is one", Dialect::UBoot, VALUES, b"CONFIG_S=\"a\\n\"\n", "S=\"a\\n\" unknown 0"),
-        ("a quote within", Dialect::UBoot, VALUES, b"CONFIG_S=\"a\"b\"\n", "S=\"a\"b\" unknown 0"),
-        ("an escape is none", Dialect::UBoot, VALUES, b"CONFIG_S=\"a\\\"\n", "S=\"a\\\" unknown 0"),
-        ("an empty string", Dialect::UBoot, VALUES, b"CONFIG_S=\"\"\n", "S=\"\" unknown 0"),
-        ("one quote", Dialect::UBoot, VALUES, b"CONFIG_S=\"\n", "8 BadValue line 1"),
-        ("no closing quote", Dialect::UBoot, VALUES, b"CONFIG_S=\"a\n", "8 BadValue line 1"),
-        ("bytes after the quote", Dialect::UBoot, VALUES, b"CONFIG_S=\"a\"b\n", "8 BadValue line 1"),
-        ("names of BusyBox", Dialect::BusyBox, flags, b"CONFIG_A_MODULE=y\n# CONFIG_A is not set\n", "A_MODULE=y unknown 0"),
-        ("n is off", Dialect::BusyBox, flags, b"CONFIG_A_MODULE=n\nCONFIG_A=y\n", "A=y unknown 0"),
-        ("m for a flag", Dialect::BusyBox, flags, b"CONFIG_A=m\n", "8 BadValue line 1"),
-    ];
-    for (name, dialect, kconfig, text, want) in rows {
+    for &(name, dialect, kconfig, text, want) in DOTCONFIGS_OF_DIALECTS {
         let found = dotconfig_outcome(alloc, &Kconfig::new(dialect, kconfig), text)?;
         assert!(rt; found.as_str() == want, "{name}: {found}");
     }

@@ -29,8 +29,8 @@ pub struct Sources {
     pub settings: Settings,
 }
 
-/// Reads a Kconfig and a `.config`, in this order. The symbols are let go before the settings are put in order: nothing
-/// asks for them any more, and they are as large as these.
+/// Reads a Kconfig and a `.config`, in this order. The symbols are let go once the settings are read: nothing asks for
+/// them any more, and they are as large as these.
 pub fn read_sources(
     alloc: Global,
     kconfig: &Kconfig<'_>,

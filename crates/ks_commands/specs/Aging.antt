@@ -39,7 +39,7 @@ EndsAged which files targets ended old new =
     ((refusal : Refusal) × (ended ≡ Err refusal) × (new ≡ old))
     ⊎ ((objects : List (List ℕ)) × (targets ≡ Ok objects) × AgesAll which files objects ended old new)
 
--- What a request ages: no other one does.
+-- What `age` ages; no other request ages anything.
 abbrev pub AgesAsked : Files → Request → Ending → List (List ℕ) → List (List ℕ) → Type 0
 AgesAsked files (Age which targets) ended old new = EndsAged which files (targets_at files targets) ended old new
 AgesAsked files _ ended old new = new ≡ old

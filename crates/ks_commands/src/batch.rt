@@ -43,6 +43,7 @@ fn keep_file<T: Tree>(
     ensures given { T.is_honest → AreGiven (T.files tree.old) kept.new }
     ensures here { OnOk result (IsKept kept.new path.now) }
     ensures grows { (q : List ℕ) → IsKept kept.old q → IsKept kept.new q }
+    ensures once { IsKept kept.old path.now → tree.new ≡ tree.old }
     ensures refused { T.is_honest → IfErr result (λ e. IsGivenUp e ⊎ (given (T.files tree.old) path.now ≡ Err e)) }
 {
     if kept.get(path).is_some() {

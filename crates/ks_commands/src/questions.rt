@@ -53,6 +53,7 @@ fn told_spelling<T: Tree>(
         spelling_told limit form (option_map (λ v. v.items) s) ≡ spelling_told limit form (spelling_of (T.files tree.old) target.now answer.now)) }
     ensures line { IfOk result (λ s. IsLine (limit_of question.entry) form (option_map (λ v. v.items) s)) }
     ensures given_up { T.is_honest → IfErr result (λ e. (question.entry ≡ Question.Why) × IsGivenUp e) }
+    ensures uncounted { IsErrOf result EngineError.OutOfMemory → T.failures tree.new ≡ T.failures tree.old }
 {
     match question {
         Question::Why => match form {
@@ -77,6 +78,8 @@ fn with_spelling<T: Tree>(
     ensures line { IsLine (limit_of question.entry) form (option_map (λ v. v.items) result.spelling) }
     ensures cause { result.answer ≡ Err EngineError.Device
         → (answer ≡ Err EngineError.Device) ⊎ HasRisen (T.failures tree.old) (T.failures tree.new) }
+    ensures uncounted { result.answer ≡ Err EngineError.OutOfMemory
+        → (answer ≡ Err EngineError.OutOfMemory) ⊎ (T.failures tree.new ≡ T.failures tree.old) }
 {
     match told_spelling(alloc, tree, question, form, target, &answer) {
         Ok(spelling) => Spelled { answer, spelling },

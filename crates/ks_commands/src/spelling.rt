@@ -70,6 +70,7 @@ fn no_record(error: EngineError) -> Result<bool, EngineError>
 fn has_record<T: Tree>(alloc: Global, tree: &mut T, target: &[u8]) -> Result<bool, EngineError>
     ensures reads { Reads T.Tree tree.old tree.new (IsErrOf result EngineError.Device) }
     ensures read { T.is_honest → Answers (Ok (is_record (record_at (T.files tree.old) target.now))) (λ is. is) result }
+    ensures uncounted { IsErrOf result EngineError.OutOfMemory → T.failures tree.new ≡ T.failures tree.old }
 {
     let text = match read_record(alloc, tree, target) {
         Ok(Some(text)) => text,
@@ -91,6 +92,7 @@ fn recorded_as<T: Tree>(
 ) -> Result<Option<Vec<u8>>, EngineError>
     ensures reads { Reads T.Tree tree.old tree.new (IsErrOf result EngineError.Device) }
     ensures told { T.is_honest → Answers (Ok (recorded_as (T.files tree.old) target.now)) (option_map (λ v. v.items)) result }
+    ensures uncounted { IsErrOf result EngineError.OutOfMemory → T.failures tree.new ≡ T.failures tree.old }
 {
     let usual = usual(alloc, target)?;
     if usual.as_slice() == target {
@@ -123,6 +125,7 @@ pub(crate) fn spelling_of<T: Tree>(
 ) -> Result<Option<Vec<u8>>, EngineError>
     ensures reads { Reads T.Tree tree.old tree.new (IsErrOf result EngineError.Device) }
     ensures told { T.is_honest → Answers (Ok (spelling_of (T.files tree.old) target.now answer.now)) (option_map (λ v. v.items)) result }
+    ensures uncounted { IsErrOf result EngineError.OutOfMemory → T.failures tree.new ≡ T.failures tree.old }
 {
     if is_unknown(answer) {
         recorded_as(alloc, tree, target)

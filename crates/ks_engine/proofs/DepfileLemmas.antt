@@ -104,13 +104,14 @@ module _ {conventions : Conventions} {old mid new : Files} {d t c : List ℕ} {p
       → IsRecordTriedUnder conventions old new d t c
   tried_from either = search rules
 
-  abbrev pub recorded_from : content new (command_path t) ≡ Some text → IsRecordedUnder conventions old new d t c draft.answer
-  recorded_from written = record {
+  abbrev pub recorded_from : content new (command_path t) ≡ Some text → content new (command_temporary t) ≡ None → IsRecordedUnder conventions old new d t c draft.answer
+  recorded_from written gone = record {
     plan = plan;
     planned = planned;
     generation = is.generation;
     names = is.names ∙ ap length (count_names conventions old d t c plan planned);
     written = written ∙ ap (λ b. Some b) (same_text ∙ is.text);
+    gone = gone;
     others = subst (λ f. SameButBoth (command_temporary t) (command_path t) f new) same others;
   }
 

@@ -29,7 +29,7 @@ pub on_honest : (dialect : Dialect) (honest : Type 0) (first : FileState) (acts 
 on_honest dialect honest first [] [] last is run = run
 on_honest dialect honest first (a ∷ acts) (r ∷ rs) last is run =
     let step = run.1 in
-    (run.0, record { leaves = λ t. step.leaves is; later = step.later; cause = step.cause }, on_honest dialect honest run.0 acts rs last is run.2)
+    (run.0, record { leaves = λ t. step.leaves is; later = step.later; cause = step.cause; uncounted = step.uncounted }, on_honest dialect honest run.0 acts rs last is run.2)
 on_honest dialect honest first acts rs last is run = absurd run
 
 -- ---- the history that goes on with it

@@ -1,8 +1,8 @@
 -- The tree that a synchronisation would leave, what is answered over it, and a name among rising ones.
-use Rattle.ks_engine.proofs.Prelude.{list_any_none, exact_bytes, ◌≡◌, ◌⊎◌, inr, ℕ, ◌+◌, ◌<◌, ◌^◌, List, [], ◌∷◌, Option, Some, Result, Ok, Err, true, false, sym, ◌∙◌, refl, arith, length, get_or, IsTrue, bytes_eq, nat_cmp, Less-from_sorted, is_eq-slice_cmp, or_left, or_right, false_from_ne_true, searchable_from_sorted, bytes_eq-Decides, tied_itself, slice_cmp, nat_list_cmp_total, insert, get-insert, IsStrictlySortedBy, IsSearchInRange, IsBinarySearchResult, is_ok, Ordering, Equal, is_name, is_in, header_path, auto_text, header_text, Files, content, SameBut, SameButBoth, auto_path, auto_temporary, stamp_path, Stamp, stamp_text, Touches, EngineError, Impact, Explanation, Planned, Question, Stale, Why, After, Verdict, Report, IsGivenUpAnswer, OldAuto, old_auto, Plan, AreLegalChanges, SyncDone, IsSynced, asked, IsAnswer, IsExplained, IsPlanned, IsImpactOf, IsAfter, IsAnswerAfter, IsAnswerOn, IsAnswerTo, JudgesAfter, IsSeen, limit_of, KconfigText, rules, generation_fits, list_any_at, both_ways, ⊎_elim, cases_Bool}
+use Rattle.ks_engine.proofs.Prelude.{list_any_none, exact_bytes, ◌≡◌, ◌⊎◌, inr, ℕ, ◌+◌, ◌<◌, ◌^◌, ◌≢◌, List, [], ◌∷◌, Option, Some, None, Result, Ok, Err, true, false, sym, ◌∙◌, refl, arith, length, get_or, IsTrue, bytes_eq, nat_cmp, Less-from_sorted, is_eq-slice_cmp, or_left, or_right, false_from_ne_true, searchable_from_sorted, bytes_eq-Decides, tied_itself, slice_cmp, nat_list_cmp_total, insert, get-insert, remove, get-remove, IsStrictlySortedBy, IsSearchInRange, IsBinarySearchResult, is_ok, Ordering, Equal, is_name, is_in, header_path, auto_text, header_text, Files, content, SameBut, SameButBoth, auto_path, auto_temporary, header_temporary, stamp_path, stamp_temporary, left_over, AutoConf, AutoTemporary, Header, HeaderTemporary, Stamp, StampTemporary, stamp_text, Touches, EngineError, Impact, Explanation, Planned, Question, Stale, Why, After, Verdict, Report, IsGivenUpAnswer, OldAuto, old_auto, Plan, AreLegalChanges, SyncDone, IsSynced, asked, IsAnswer, IsExplained, IsPlanned, IsImpactOf, IsAfter, IsAnswerAfter, IsAnswerOn, IsAnswerTo, JudgesAfter, IsSeen, limit_of, KconfigText, rules, generation_fits, list_any_at, both_ways, ⊎_elim, cases_Bool}
 use Rattle.ks_engine.proofs.LowerLaws.{generation_back, accepted, apart}
 use Rattle.ks_engine.proofs.Reading.{last_some, ok_ok}
-use Rattle.ks_engine.proofs.Writes.{finished, header_stays}
+use Rattle.ks_engine.proofs.Writes.{cleared, finished, header_stays}
 use Rattle.ks_engine.proofs.Steps.{plan_stands, plan_facts, command_kept, synced_shows}
 use Rattle.ks_engine.proofs.Asking.{stale_judged, told_answered, verdict_answered}
 use Rattle.ks_engine.proofs.Beginnings.{one_plan}
@@ -33,46 +33,84 @@ put_here files p b = rw (get-insert nat_list_cmp_total files p b p, tied_itself 
 put_elsewhere : (files : Files) (p b : List ℕ) → SameBut p files (insert files p b)
 put_elsewhere files p b q other = get-insert nat_list_cmp_total files p b q ∙ grind (arith, (is_eq-slice_cmp q p), (bytes_eq-Decides q p).0)
 
+gone_here : (files : Files) (p : List ℕ) → content (remove files p) p ≡ None
+gone_here files p = rw (get-remove nat_list_cmp_total files p p, tied_itself nat_list_cmp_total p) refl
+
+gone_elsewhere : (files : Files) (p : List ℕ) → SameBut p files (remove files p)
+gone_elsewhere files p q other = get-remove nat_list_cmp_total files p q ∙ grind (arith, (is_eq-slice_cmp q p), (bytes_eq-Decides q p).0)
+
+-- a file was written at a temporary path and moved to its own
+module _ (files : Files) (t p b : List ℕ) where
+  replaced : Files
+  replaced = insert (remove files t) p b
+
+  replaced_here : content replaced p ≡ Some b
+  unfolding replaced
+  replaced_here = put_here (remove files t) p b
+
+  replaced_gone : t ≢ p → content replaced t ≡ None
+  unfolding replaced
+  replaced_gone differ = put_elsewhere (remove files t) p b t differ ∙ gone_here files t
+
+  replaced_elsewhere : SameButBoth t p files replaced
+  unfolding replaced
+  replaced_elsewhere q temporary other = put_elsewhere (remove files t) p b q other ∙ gone_elsewhere files t q temporary
+
 stamped : List (List ℕ) → ℕ → Files → Files
 stamped [] g files = files
-stamped (x ∷ xs) g files = insert (stamped xs g files) (stamp_path x) (stamp_text g)
+stamped (x ∷ xs) g files = replaced (stamped xs g files) stamp_temporary (stamp_path x) (stamp_text g)
+
+among_itself : (x : List ℕ) (xs : List (List ℕ)) → is_in (x ∷ xs) x ≡ true
+among_itself x xs = or_left (bytes_eq x x) (is_in xs x) ((bytes_eq-Decides x x).1 refl)
 
 touched : (files : Files) (g : ℕ) (xs : List (List ℕ)) → ((x : List ℕ) → is_in xs x ≡ true → IsTrue (is_name x)) → Touches xs g files (stamped xs g files)
 unfolding stamped
 touched files g [] legal = record { stamps = λ x name. refl; others = λ q temporary other. refl }
 touched files g (x ∷ xs) legal =
     let before = touched files g xs (λ y among. legal y (or_right (bytes_eq y x) _ among)) in
-    let is_x = or_left (bytes_eq x x) (is_in xs x) ((bytes_eq-Decides x x).1 refl) in
-    let here = put_here (stamped xs g files) (stamp_path x) (stamp_text g) in
-    let elsewhere = put_elsewhere (stamped xs g files) (stamp_path x) (stamp_text g) in
+    let is_x = among_itself x xs in
+    let here = replaced_here (stamped xs g files) stamp_temporary (stamp_path x) (stamp_text g) in
+    let elsewhere = replaced_elsewhere (stamped xs g files) stamp_temporary (stamp_path x) (stamp_text g) in
     record {
       stamps = λ y name. ⊎_elim
           (λ same. let at = (bytes_eq-Decides y x).0 same in rw (same, at) here)
-          (λ other. rw other (elsewhere (stamp_path y) (apart (Stamp y) (Stamp x) name (legal x is_x) (λ e. both_ways _ other ((bytes_eq-Decides y x).1 cc)))
+          (λ other. rw other (elsewhere (stamp_path y) (apart (Stamp y) StampTemporary name tt (λ e. cc)) (apart (Stamp y) (Stamp x) name (legal x is_x) (λ e. both_ways _ other ((bytes_eq-Decides y x).1 cc)))
           ∙ before.stamps y name))
           (cases_Bool (bytes_eq y x));
-      others = λ q temporary other. elsewhere q (other x is_x) ∙ before.others q temporary (λ y among. other y (or_right (bytes_eq y x) _ among));
+      others = λ q temporary other. elsewhere q temporary (other x is_x) ∙ before.others q temporary (λ y among. other y (or_right (bytes_eq y x) _ among));
     }
+
+stamps_cleared : (files : Files) (g : ℕ) (xs : List (List ℕ)) → ((x : List ℕ) → is_in xs x ≡ true → IsTrue (is_name x))
+    → content (stamped xs g files) stamp_temporary ≡ left_over xs (content files stamp_temporary)
+unfolding stamped
+stamps_cleared files g [] legal = refl
+stamps_cleared files g (x ∷ xs) legal = replaced_gone (stamped xs g files) stamp_temporary (stamp_path x) (stamp_text g)
+    (apart StampTemporary (Stamp x) tt (legal x (among_itself x xs)) (λ e. cc))
 
 leave : Files → Plan → List (List ℕ) → Files
 leave files plan names =
-    insert (insert (stamped names (plan.generation + 1) files) header_path (header_text plan.title plan.config))
-    auto_path (auto_text plan.title plan.config (plan.generation + 1))
+    replaced (replaced (stamped names (plan.generation + 1) files) header_temporary header_path (header_text plan.title plan.config))
+    auto_temporary auto_path (auto_text plan.title plan.config (plan.generation + 1))
 
 done_by : (files : Files) (plan : Plan) (names : List (List ℕ)) → AreLegalChanges plan.old plan.config names → SyncDone files (leave files plan names) plan names
 unfolding leave
 done_by files plan names are =
     let g = plan.generation + 1 in
     let one = stamped names g files in
-    let two = insert one header_path (header_text plan.title plan.config) in
-    let here = put_here two auto_path (auto_text plan.title plan.config g) in
-    let made = put_here one header_path (header_text plan.title plan.config) in
-    let others_then : SameButBoth auto_temporary auto_path two (leave files plan names) = λ q temporary other. put_elsewhere two auto_path _ q other in
+    let header = header_text plan.title plan.config in
+    let auto = auto_text plan.title plan.config g in
+    let two = replaced one header_temporary header_path header in
+    let here = replaced_here two auto_temporary auto_path auto in
+    let made = replaced_here one header_temporary header_path header in
+    let others = replaced_elsewhere one header_temporary header_path header in
+    let others_then = replaced_elsewhere two auto_temporary auto_path auto in
     record {
-      leaves = finished files plan names are g one two _ refl (touched files g names are.legal)
-          (λ q temporary other. put_elsewhere one header_path _ q other) made others_then (inr here);
+      leaves = finished files plan names are g one two _ refl (touched files g names are.legal) others made others_then (inr here);
       header = header_stays files plan names are two _ others_then ∙ made;
       auto = here;
+      cleared = cleared files one two _ names (stamps_cleared files g names are.legal) others
+          (replaced_gone one header_temporary header_path header (apart HeaderTemporary Header tt tt (λ e. cc))) others_then
+          (replaced_gone two auto_temporary auto_path auto (apart AutoTemporary AutoConf tt tt (λ e. cc)));
     }
 
 pub impact_told : (files : Files) (k : KconfigText) (d : List ℕ) (planned : Planned) → IsPlanned files k d planned

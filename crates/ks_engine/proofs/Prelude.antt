@@ -1,15 +1,16 @@
 -- What the proofs of this crate import: one name for each thing.
-pub use Rattle.ks_symbols.proofs.Prelude.{All, All-append, All-cons, All-filter, All-head, All-map, All-map-IsPermutation, All-nil, All-push, All-same, All-tail, All-weaker, Bool, Configuration, Decides-eqb, Equal, Err, Global, HashMap, IfErr, IfOk, IsBinarySearchResult, IsConfiguration, IsPermutation, IsPermutation-map, IsRefusal, IsSearchInRange, IsSortedBy, IsSortedByKey, IsStrictlySortedBy, IsTotalOrder, IsTrue, KconfigText, Less-from_sorted, List, None, Ok, OnErr, OnOk, Option, Ordering, Result, Some, [], always_returns_same, and_from, and_parts, ap, append_assoc, ap₂, arith, back_total, both_ways, bytes_eq, bytes_eq-Decides, cases_Bool, cases_lt, codes, common_steps, cond, cond-false, cond-true, cond_both, count_by, declared, dotconfig_refusal, drop, drop-cons, drop-take, drop_all, empty, ends_is, ends_with, eqb-false, err_from_is_err_and, false, false_from_ne_true, filter-append, filter_passes, get, get-empty, get-insert, get_or, get_or-append_seam, get_or-map, get_or_append_left, get_or_from_slice_get, if◌then◌else◌, inl, inr, insert, is_eq, is_eq-slice_cmp, is_in, is_lt, is_name, is_ok, is_path, is_target, is_title, kconfig_refusal, le-ltb, length, length-append, length-map, length-take, list_all, list_all-append, list_any, list_any-append, list_any_at, lookup, ltb-false, ltb-true, map, map-append, max_bytes, min, nat_cmp-IsAntisymmetric, nat_cmp_total, nat_eq, nat_list_cmp_total, nat_lt, ne_eqb, not-true, on_total, option_map, or_cases, or_else, or_from, or_left, or_parts, or_right, ranks_by, read_in, refl, rules, same_map, searchable_from_sorted, set_value, setting, slice_cmp, slice_cmp-IsAntisymmetric, slice_get, slice_get-map, slice_get_within, string_bytes, subst, subst₂, suc, sum_by-IsPermutation, sum_by-cons, sym, take, take-append-drop, take-append_seam, take_more, then_total, tied_itself, title_of, true, true≢false, unknown_count, vec_capacity, vec_len, zero, ℕ, ⊤, ◌&&◌, ◌++◌, ◌+◌, ◌-◌, ◌<◌, ◌==◌, ◌^◌, ◌||◌, ◌∙◌, ◌∷◌, ◌≡◌, ◌≢◌, ◌≤◌, ◌⊎◌}
+pub use Rattle.ks_symbols.proofs.Prelude.{All, All-append, All-cons, All-filter, All-head, All-map, All-map-IsPermutation, All-nil, All-push, All-same, All-tail, All-weaker, Bool, Configuration, Decides-eqb, Equal, Err, Global, HashMap, IfErr, IfOk, IsBinarySearchResult, IsConfiguration, IsPermutation, IsPermutation-map, IsRefusal, IsSearchInRange, IsSortedBy, IsSortedByKey, IsStrictlySortedBy, IsTotalOrder, IsTrue, KconfigText, Less-from_sorted, List, None, Ok, OnErr, OnOk, Option, Ordering, Result, Some, [], always_returns_same, and_from, and_parts, ap, append_assoc, ap₂, arith, back_total, both_ways, bytes_eq, bytes_eq-Decides, cases_Bool, cases_lt, codes, common_steps, cond, cond-false, cond-true, cond_both, count_by, declared, dotconfig_refusal, drop, drop-cons, drop-take, drop_all, empty, ends_is, ends_with, eqb-false, err_from_is_err_and, false, false_from_ne_true, filter-append, filter_passes, get, get-empty, get-insert, get-remove, get_or, get_or-append_seam, get_or-map, get_or_append_left, get_or_from_slice_get, if◌then◌else◌, inl, inr, insert, is_eq, is_eq-slice_cmp, is_in, is_lt, is_name, is_ok, is_path, is_target, is_title, kconfig_refusal, le-ltb, length, length-append, length-map, length-take, list_all, list_all-append, list_any, list_any-append, list_any_at, lookup, ltb-false, ltb-true, map, map-append, max_bytes, min, nat_cmp-IsAntisymmetric, nat_cmp_total, nat_eq, nat_list_cmp_total, nat_lt, ne_eqb, not-true, on_total, option_map, or_cases, or_else, or_from, or_left, or_parts, or_right, ranks_by, read_in, refl, rules, same_map, searchable_from_sorted, set_value, setting, slice_cmp, slice_cmp-IsAntisymmetric, slice_get, slice_get-map, slice_get_within, string_bytes, subst, subst₂, suc, sum_by-IsPermutation, sum_by-cons, sym, take, take-append-drop, take-append_seam, take_more, then_total, tied_itself, title_of, true, true≢false, unknown_count, vec_capacity, vec_len, zero, ℕ, ⊤, ◌&&◌, ◌++◌, ◌+◌, ◌-◌, ◌<◌, ◌==◌, ◌^◌, ◌||◌, ◌∙◌, ◌∷◌, ◌≡◌, ◌≢◌, ◌≤◌, ◌⊎◌}
 unfoldable pub use Rattle.ks_symbols.proofs.Prelude.{header_path}
 pub use Rattle.ks_fixdep.proofs.Prelude.{CommandRecord, IsLegal, ReadFits, ReadsBack, StandsAfterAs, all_noted, append-nil, borrowed_view, command_text, config_names, deps_after, filter, found_of, insert_entry, is_command, is_dep, lines, lt-ltb, names_by, names_in_as, new_names, not, noted, picked, prerequisites_without, record_of, refusal_without, rules_for, seen_dep, source_of, usual_header, ⊎_elim}
 unfoldable pub use Rattle.ks_fixdep.proofs.Prelude.{rule_text}
-pub use Rattle.ks_tree.proofs.Prelude.{AutoConf, AutoTemporary, CommandFile, CommandTemporary, Files, HasNumber, HasRisen, HeaderTemporary, IsLegalPlace, IsPieceRead, IsStampRefusal, IsTooLarge, MakesStamps, Place, SameBut, SameButBoth, Stamp, StampTemporary, Touches, auto_temporary, content, dotted, header_temporary, kept_or, nat_cmp, path_of, reads_back, stamp_text, take-take, temporary}
+pub use Rattle.ks_tree.proofs.Prelude.{AutoConf, AutoTemporary, CommandFile, CommandTemporary, Files, HasNumber, HasRisen, HeaderTemporary, IsLegalPlace, IsPieceRead, IsStampRefusal, IsTooLarge, MakesStamps, Place, SameBut, SameButBoth, Stamp, StampTemporary, Touches, auto_temporary, content, dotted, header_temporary, kept_or, left_over, nat_cmp, path_of, reads_back, stamp_temporary, stamp_text, take-take, temporary}
 unfoldable pub use Rattle.ks_tree.proofs.Prelude.{auto_path, command_path, command_temporary, stamp_path}
 pub use Rattle.ks_output.proofs.Prelude.{HasNames, OldTexts, Texts, auto_generation, auto_map, auto_text, definitions, header_text, texts_of}
 unfoldable pub use Rattle.ks_output.proofs.Prelude.{auto_refusal}
 pub use Rattle.ks_compare.proofs.Prelude.{AreChanges, alike_is_defined_alike, differs}
 pub use Rattle.std.proofs.Common.{add-one, find, is_some, take_all, vec_items}
 pub use Rattle.std.proofs.lemmas.List.{length-drop}
+pub use Rattle.std.specs.FinMap.{remove}
 pub use Rattle.std.specs.Prelude.{Vec}
 pub use Rattle.ks_compare.proofs.ChangeLemmas.{changes_are_legal, unchanged_is_kept}
 pub use Rattle.ks_fixdep.proofs.CommandFitLemmas.{lines-fit, lines-read}
@@ -61,7 +62,7 @@ pub use Rattle.ks_engine.specs.Runs.{Follows, FollowsStale, IsShown, Leads, Leav
 pub use Rattle.ks_engine.specs.Shows.{IsFirstAuto, IsAuto, IsCommandFile, Shows, stamp}
 pub use Rattle.ks_engine.specs.Staleness.{changed_since, first_suspect, found, renewed_since_sync, suspect_since, verdict}
 pub use Rattle.ks_engine.specs.SyncPlan.{AreSources, IsSyncPlan, Plan, Sources, plan_over, source_refusal}
-pub use Rattle.ks_engine.specs.Synchronised.{AreLegalChanges, IsSyncRefused, IsSynced, SyncDone, SyncLeaves}
+pub use Rattle.ks_engine.specs.Synchronised.{AreCleared, AreLegalChanges, IsSyncRefused, IsSynced, SyncDone, SyncLeaves}
 pub use Rattle.ks_engine.specs.Verdicts.{IsChangedVerdict, IsGivenUpSync, IsSafeVerdict, IsSuspectVerdict}
 pub use Rattle.ks_engine.specs.Views.{IsWork, IsPlanned, PlansOver, Reports, old_of, sources_of}
 pub use Rattle.ks_engine.specs.declared.commands.Command.{Command}

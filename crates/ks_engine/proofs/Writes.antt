@@ -1,5 +1,5 @@
 -- What the writes of a synchronisation leave, one after another.
-use Rattle.ks_engine.proofs.Prelude.{Header, ◌≡◌, ◌⊎◌, inl, inr, ⊎_elim, ℕ, ◌+◌, List, Some, true, sym, ap, ◌∙◌, refl, subst, take, drop, take-append-drop, list_any-append, or_left, bytes_eq, Result, OnErr, auto_text, header_text, is_in, header_path, Files, content, SameButBoth, auto_path, auto_temporary, header_temporary, stamp_path, Place, AutoConf, Stamp, AutoTemporary, HeaderTemporary, StampTemporary, path_of, IsLegalPlace, Touches, AreLegalChanges, SyncLeaves, Plan, rules}
+use Rattle.ks_engine.proofs.Prelude.{Header, ◌≡◌, ◌⊎◌, inl, inr, ⊎_elim, ℕ, ◌+◌, List, Some, None, true, sym, ap, ◌∙◌, refl, subst, take, drop, take-append-drop, list_any-append, or_left, bytes_eq, Result, Ok, Err, OnErr, OnOk, auto_text, header_text, is_in, header_path, Files, content, SameButBoth, auto_path, auto_temporary, header_temporary, stamp_path, stamp_temporary, left_over, AreCleared, Place, AutoConf, Stamp, AutoTemporary, HeaderTemporary, StampTemporary, path_of, IsLegalPlace, Touches, AreLegalChanges, SyncLeaves, Plan, rules}
 use Rattle.ks_engine.proofs.LowerLaws.{apart}
 
 module _ (old : Files) (plan : Plan) (changed : List (List ℕ)) (are : AreLegalChanges plan.old plan.config changed) where
@@ -56,9 +56,27 @@ module _ (old : Files) (plan : Plan) (changed : List (List ℕ)) (are : AreLegal
         others = λ q stamps header auto ts th ta. others_then q ta auto ∙ was.others q stamps header auto ts th ta;
       }
 
+-- The two last writes leave no temporary file, and that of the stamps as it was.
+pub cleared : (old one two three : Files) (changed : List (List ℕ)) → content one stamp_temporary ≡ left_over changed (content old stamp_temporary)
+    → SameButBoth header_temporary header_path one two → content two header_temporary ≡ None → SameButBoth auto_temporary auto_path two three
+    → content three auto_temporary ≡ None → AreCleared old three changed
+cleared old one two three changed stamps others header others_then auto =
+    let kept = λ (p : Place) (legal : IsLegalPlace p) (temporary : p ≡ AutoTemporary → ⊥) (conf : p ≡ AutoConf → ⊥). others_then (path_of p)
+    (apart p AutoTemporary legal tt temporary) (apart p AutoConf legal tt conf) in
+    record {
+      stamps = kept StampTemporary tt (λ e. cc) (λ e. cc)
+          ∙ others stamp_temporary (apart StampTemporary HeaderTemporary tt tt (λ e. cc)) (apart StampTemporary Header tt tt (λ e. cc)) ∙ stamps;
+      header = kept HeaderTemporary tt (λ e. cc) (λ e. cc) ∙ header;
+      auto = auto;
+    }
+
 pub on_err : {T E : Type 0} (r : Result T E) (P : Type 0) → P → OnErr r P
 on_err r P p = search rules
 
 -- what is among the first names is among them
 pub beginning : (names : List (List ℕ)) (n : ℕ) (x : List ℕ) → is_in (take n names) x ≡ true → is_in names x ≡ true
 beginning names n x among = sym (ap (λ l. is_in l x) (take-append-drop n names)) ∙ list_any-append (bytes_eq x) (take n names) (drop n names) ∙ or_left _ _ among
+
+pub both_ok : {T E : Type 0} (r : Result T E) (P Q : Type 0) → OnOk r P → OnOk r Q → OnOk r (P × Q)
+both_ok (Ok x) P Q p q = (p, q)
+both_ok (Err e) P Q p q = tt

@@ -1,5 +1,5 @@
 -- What recording an object leaves of its dependency file, for a build that goes by that file.
-use Rattle.std.specs.Prelude.{◌≡◌, ◌≢◌, ◌⊎◌, ◌||◌, ◌++◌, ◌∷◌, ℕ, Bool, true, false, List, [], Option, Some, Result, Ok, Err, codes, bytes_eq, nat_eq}
+use Rattle.std.specs.Prelude.{◌≡◌, ◌≢◌, ◌⊎◌, ◌||◌, ◌++◌, ◌∷◌, ℕ, Bool, true, false, List, [], Option, Some, None, Result, Ok, Err, codes, bytes_eq, nat_eq}
 use Rattle.std.specs.List.{starts_with, ends_with}
 use Rattle.ks_symbols.specs.Names.{is_in, header_path}
 use Rattle.ks_symbols.specs.declared.dialect.Dialect.{Dialect}
@@ -42,10 +42,11 @@ pub record RuleLeaves (old new : Files) (depfile : List ℕ) (names : List (List
   pub depfile_is : (content new depfile ≡ content old depfile) ⊎ ((made ≡ names) × (content new depfile ≡ Some text))
   pub others : (q : List ℕ) → ((x : List ℕ) → is_in made x ≡ true → q ≢ stamp_path x) → q ≢ depfile → q ≢ temporary depfile → content new q ≡ content old q
 
--- All of it is done.
+-- All of it is done, and its temporary file is gone.
 pub record RuleDone (old new : Files) (depfile : List ℕ) (names : List (List ℕ)) (text : List ℕ) : Type 0 where
   pub leaves : RuleLeaves old new depfile names text names
   pub text_is : content new depfile ≡ Some text
+  pub gone : content new (temporary depfile) ≡ None
 
 -- It was given up on the way.
 abbrev pub RuleTried : Files → Files → List ℕ → List (List ℕ) → List ℕ → Type 0

@@ -5,7 +5,7 @@ use Rattle.ks_symbols.specs.Dialects.{KconfigText, read_in}
 use Rattle.ks_tree.specs.declared.tree.Tree.{Ghosts}
 use Rattle.ks_tree.specs.Files.{Files, HasRisen}
 use Rattle.ks_engine.specs.declared.error.EngineError.{EngineError}
-use Rattle.ks_engine.specs.declared.error.EngineError.TheVariants.{Device}
+use Rattle.ks_engine.specs.declared.error.EngineError.TheVariants.{Device, OutOfMemory}
 use Rattle.ks_engine.specs.declared.commands.Reply.{Reply}
 use Rattle.ks_engine.specs.declared.commands.Reply.TheVariants.{Synced, Recorded, Verdict, Refused}
 use Rattle.ks_engine.specs.declared.recording.Recorded.{Recorded as RecordAnswer}
@@ -51,11 +51,13 @@ pub record FileState : Type 0 where
 abbrev pub state : {T : Type 0} → Ghosts T → T → FileState
 state tree t = record { files = tree.files t; failures = tree.failures t }
 
--- A step of an honest tree leaves these files. Of any tree the count of failures never falls, and the device is to blame only where it rose.
+-- A step of an honest tree leaves these files. Of any tree the count of failures never falls; the device is to blame only where it rose, and want
+-- of memory only where it didn't.
 pub record StepsTo (dialect : Dialect) (honest : Type 0) (old : FileState) (action : Action) (reply : Reply) (new : FileState) : Type 0 where
   pub leaves : honest → LeavesFiles dialect old.files action reply new.files
   pub later : old.failures ≤ new.failures
   pub cause : reply ≡ Refused Device → HasRisen old.failures new.failures
+  pub uncounted : reply ≡ Refused OutOfMemory → new.failures ≡ old.failures
 
 -- Each action has its reply and its step, which begins where the one before it ended.
 abbrev pub FileRun : Dialect → Type 0 → FileState → List Action → List Reply → FileState → Type 0

@@ -1,5 +1,5 @@
 -- What recording an object comes to, and what it leaves.
-use Rattle.std.specs.Prelude.{◌≡◌, ◌⊎◌, ℕ, false, List, Some, Result, Ok, Err, nat_lt, length, if◌then◌else◌}
+use Rattle.std.specs.Prelude.{◌≡◌, ◌⊎◌, ℕ, false, List, Some, None, Result, Ok, Err, nat_lt, length, if◌then◌else◌}
 use Rattle.ks_symbols.specs.Lines.{max_bytes}
 use Rattle.ks_fixdep.specs.Dialects.{rules_for}
 use Rattle.ks_symbols.specs.declared.dialect.Dialect.{Dialect}
@@ -50,13 +50,14 @@ pub record IsRecordPlanUnder (conventions : Conventions) (files : Files) (depfil
   pub planned : record_plan_under conventions files depfile target command ≡ Ok plan
   pub legal : IsLegal plan.file
 
--- It was done, and this is its answer. All but the command file and its temporary file is as before.
+-- It was done, and this is its answer. All but the command file and its temporary file, which is gone, is as before.
 pub record IsRecordedUnder (conventions : Conventions) (old new : Files) (depfile target command : List ℕ) (answer : Recorded) : Type 0 where
   pub plan : RecordPlan
   pub planned : IsRecordPlanUnder conventions old depfile target command plan
   pub generation : answer.generation ≡ plan.generation
   pub names : answer.names ≡ length plan.names
   pub written : content new (command_path target) ≡ Some (command_text plan.file)
+  pub gone : content new (command_temporary target) ≡ None
   pub others : SameButBoth (command_temporary target) (command_path target) old new
 
 -- It was given up at the write: the command file is the old one or the new one.

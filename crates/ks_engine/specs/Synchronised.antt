@@ -1,5 +1,5 @@
 -- What a synchronisation leaves: all of its plan, or a part of it where it was broken off.
-use Rattle.std.specs.Prelude.{◌≡◌, ◌≢◌, ◌⊎◌, ℕ, ◌+◌, List, Some, Ok, Err, true, if◌then◌else◌, IsTrue}
+use Rattle.std.specs.Prelude.{◌≡◌, ◌≢◌, ◌⊎◌, ℕ, ◌+◌, List, Some, None, Ok, Err, true, if◌then◌else◌, IsTrue}
 use Rattle.ks_symbols.specs.Dialects.{KconfigText}
 use Rattle.ks_symbols.specs.Names.{is_name, is_in, header_path}
 use Rattle.ks_output.specs.AutoText.{auto_text}
@@ -7,7 +7,7 @@ use Rattle.ks_output.specs.Header.{header_text}
 use Rattle.ks_compare.specs.Changes.{AreChanges}
 use Rattle.ks_tree.specs.Files.{Files, content}
 use Rattle.ks_tree.specs.Paths.{auto_path, auto_temporary, header_temporary, stamp_path, stamp_temporary}
-use Rattle.ks_tree.specs.Stamps.{stamp_text}
+use Rattle.ks_tree.specs.Stamps.{left_over, stamp_text}
 use Rattle.ks_engine.specs.declared.error.EngineError.{EngineError}
 use Rattle.ks_engine.specs.declared.synchronise.Report.{Report}
 use Rattle.ks_engine.specs.Refusals.{IsGivenUp}
@@ -33,11 +33,18 @@ pub record SyncLeaves (old new : Files) (plan : Plan) (changed renewed : List (L
   pub others : (q : List ℕ) → ((x : List ℕ) → is_in changed x ≡ true → q ≢ stamp_path x) → q ≢ header_path → q ≢ auto_path
       → q ≢ stamp_temporary → q ≢ header_temporary → q ≢ auto_temporary → content new q ≡ content old q
 
+-- Nothing is left at the temporary paths; that of the stamps was written only where a name changed.
+pub record AreCleared (old new : Files) (changed : List (List ℕ)) : Type 0 where
+  pub stamps : content new stamp_temporary ≡ left_over changed (content old stamp_temporary)
+  pub header : content new header_temporary ≡ None
+  pub auto : content new auto_temporary ≡ None
+
 -- All of it is done.
 pub record SyncDone (old new : Files) (plan : Plan) (changed : List (List ℕ)) : Type 0 where
   pub leaves : SyncLeaves old new plan changed changed
   pub header : content new header_path ≡ Some (header_text plan.title plan.config)
   pub auto : content new auto_path ≡ Some (auto_text plan.title plan.config (plan.generation + 1))
+  pub cleared : AreCleared old new changed
 
 -- It was broken off in one of the states on the way.
 abbrev pub SyncSome : Files → Files → Plan → List (List ℕ) → Type 0

@@ -51,6 +51,7 @@ pub fn age_if_stale<T: Aging>(
 ) -> Result<Explanation, EngineError>
     requires memo { T.is_honest → IsMemoOf (T.files tree.old) memo.old }
     ensures counted { Counted T.Tree tree.old tree.new (IsErrOf result EngineError.Device) }
+    ensures uncounted { IsErrOf result EngineError.OutOfMemory → T.failures tree.new ≡ T.failures tree.old }
     ensures unchanged { T.is_honest → T.files tree.new ≡ T.files tree.old }
     ensures memo { T.is_honest → IsMemoOf (T.files tree.new) memo.new }
     ensures answer { T.is_honest → IsAnswerOn (T.files tree.old) target.now (told result) }

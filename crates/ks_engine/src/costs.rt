@@ -30,6 +30,8 @@ pub fn read_record<T: Tree>(
     ensures read { T.is_honest → IfOk result (λ found.
         record_at (T.files tree.old) target.now ≡ command_file target.now (option_map (λ v. v.items) found)) }
     ensures refused { T.is_honest → IfErr result (λ e. IsGivenUp e ⊎ (record_at (T.files tree.old) target.now ≡ Err e)) }
+    ensures passed { OnOk result (T.failures tree.new ≡ T.failures tree.old) }
+    ensures uncounted { IsErrOf result EngineError.OutOfMemory → T.failures tree.new ≡ T.failures tree.old }
 {
     if !target_is_legal(target) {
         return Err(EngineError::BadPath(0));

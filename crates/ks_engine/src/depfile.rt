@@ -3,7 +3,7 @@
 //! its place. With `-DFEATURE=CONFIG_N` the command itself mentions one, and the compiler lists no file for that: so the command is
 //! scanned too. The record comes first: until it is made the compiler's own file stays, and the object is rebuilt too often and
 //! never too rarely.
-ghost use Rattle.std.specs.Prelude.{◌≡◌, ◌⊎◌, ◌||◌, List, ℕ, false, true, IfErr, IfOk, IsErrOf, IsTrue, OnErr, OnOk, Ok, Err, Some};
+ghost use Rattle.std.specs.Prelude.{◌≡◌, ◌⊎◌, ◌||◌, List, ℕ, false, true, IfErr, IfOk, IsErrOf, IsTrue, OnErr, OnOk, Ok, Err, Some, None};
 ghost use Rattle.ks_symbols.specs.Names.{is_in, is_name};
 ghost use Rattle.ks_tree.specs.Files.{content, SameButBoth};
 ghost use Rattle.ks_tree.specs.Frames.{Counted, Reads};
@@ -60,6 +60,8 @@ fn prepare_rule<T: Tree>(
     command: &[u8],
 ) -> Result<Ruled, EngineError>
     ensures reads { Reads T.Tree tree.old tree.new (IsErrOf result EngineError.Device) }
+    ensures passed { OnOk result (T.failures tree.new ≡ T.failures tree.old) }
+    ensures uncounted { IsErrOf result EngineError.OutOfMemory → T.failures tree.new ≡ T.failures tree.old }
     ensures planned { T.is_honest → IfOk result (λ r. (plan : RecordPlan)
         × IsRecordPlanUnder conventions.entry (T.files tree.old) depfile.now target.now command.now plan
         × IsRuled conventions.entry (T.files tree.old) depfile.now plan r) }
@@ -93,12 +95,15 @@ fn write_record<T: Tree>(
     text: &[u8],
 ) -> Result<(), EngineError>
     ensures written { T.is_honest → OnOk result (content (T.files tree.new) (command_path target.now) ≡ Some text.now) }
+    ensures gone { T.is_honest → OnOk result (content (T.files tree.new) (command_temporary target.now) ≡ None) }
     ensures either { T.is_honest → OnErr result
         ((content (T.files tree.new) (command_path target.now) ≡ content (T.files tree.old) (command_path target.now))
         ⊎ (content (T.files tree.new) (command_path target.now) ≡ Some text.now)) }
     ensures others { T.is_honest → SameButBoth (command_temporary target.now) (command_path target.now) (T.files tree.old) (T.files tree.new) }
     ensures given { IfErr result IsGivenUp }
     ensures counted { Counted T.Tree tree.old tree.new (IsErrOf result EngineError.Device) }
+    ensures passed { OnOk result (T.failures tree.new ≡ T.failures tree.old) }
+    ensures uncounted { IsErrOf result EngineError.OutOfMemory → T.failures tree.new ≡ T.failures tree.old }
     ensures kept { T.aged tree.new ≡ T.aged tree.old }
 {
     let path = command_path(alloc, target)?;
@@ -121,6 +126,7 @@ fn leave_rule<T: Tree>(
     ensures tried { T.is_honest → OnErr result (RuleTried (T.files tree.old) (T.files tree.new) depfile.now names.now rule.now) }
     ensures given { IfErr result IsGivenUp }
     ensures counted { Counted T.Tree tree.old tree.new (IsErrOf result EngineError.Device) }
+    ensures uncounted { IsErrOf result EngineError.OutOfMemory → T.failures tree.new ≡ T.failures tree.old }
     ensures kept { T.aged tree.new ≡ T.aged tree.old }
 {
     let temporary = temporary(alloc, depfile)?;
@@ -152,6 +158,7 @@ pub fn record_depfile<T: Tree>(
     ensures follows { GoesOn T.Tree tree.old tree.new (FollowsDepfile (ruled_by header.entry dialect) depfile.now target.now command.now result) }
     // The device is to blame only where the tree counted a failure.
     ensures counted { Counted T.Tree tree.old tree.new (IsErrOf result EngineError.Device) }
+    ensures uncounted { IsErrOf result EngineError.OutOfMemory → T.failures tree.new ≡ T.failures tree.old }
     ensures kept { T.aged tree.new ≡ T.aged tree.old }
 {
     if is_own_file(depfile) {

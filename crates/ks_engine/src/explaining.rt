@@ -2,7 +2,7 @@
 //! that brought it in. A question for a verdict stops at the first of them; `explain` lists all, so nobody has to touch one, build,
 //! and meet the next. Both are one pass over the stamps, so what is listed can't differ from the verdict. Which of two texts a name
 //! had is left out: stamps don't keep them.
-ghost use Rattle.std.specs.Prelude.{◌≡◌, ◌⊎◌, [], Ok, Err, IfOk, IfErr, IsErrOf, IsTrue, map};
+ghost use Rattle.std.specs.Prelude.{◌≡◌, ◌⊎◌, [], Ok, Err, IfOk, IfErr, IsErrOf, IsTrue, map, OnOk};
 ghost use Rattle.std.specs.List.{list_all};
 ghost use Rattle.ks_symbols.specs.Names.{is_path};
 ghost use Rattle.ks_fixdep.specs.CommandFile.{IsLegal, is_dep};
@@ -99,6 +99,8 @@ fn find_causes<T: Tree>(
     requires source { IsTrue (is_path source.now) }
     requires deps { IsTrue (list_all is_dep (map seen_dep deps.now)) }
     ensures reads { Reads T.Tree tree.old tree.new (IsErrOf result EngineError.Device) }
+    ensures passed { OnOk result (T.failures tree.new ≡ T.failures tree.old) }
+    ensures uncounted { IsErrOf result EngineError.OutOfMemory → T.failures tree.new ≡ T.failures tree.old }
     ensures memo { T.is_honest → IsMemoOf (T.files tree.new) memo.new }
     ensures causes { T.is_honest → (after : Files) → IsSeen question.entry (T.files tree.old) after
         → IfOk result (λ causes. IsByStamps (limit_of question.entry) after generation (placed source.now (map seen_dep deps.now)) (Ok causes.items)) }
@@ -138,6 +140,8 @@ pub(crate) fn judge<T: Tree>(
     requires memo { T.is_honest → IsMemoOf (T.files tree.old) memo.old }
     requires legal { IsLegal (borrowed_view file.now) }
     ensures reads { Reads T.Tree tree.old tree.new (IsErrOf result EngineError.Device) }
+    ensures passed { OnOk result (T.failures tree.new ≡ T.failures tree.old) }
+    ensures uncounted { IsErrOf result EngineError.OutOfMemory → T.failures tree.new ≡ T.failures tree.old }
     ensures memo { T.is_honest → IsMemoOf (T.files tree.new) memo.new }
     ensures answer { T.is_honest → (after : Files) → IsSeen question.entry (T.files tree.old) after
         → IsGivenUpAnswer result ⊎ IsExplainedBy (limit_of question.entry) after (asked_since after (names_placed (borrowed_view file.now)) file.now.generation) result }
@@ -172,6 +176,8 @@ pub fn ask<T: Tree>(
 ) -> Result<Explanation, EngineError>
     requires memo { T.is_honest → IsMemoOf (T.files tree.old) memo.old }
     ensures reads { Reads T.Tree tree.old tree.new (IsErrOf result EngineError.Device) }
+    ensures passed { OnOk result (T.failures tree.new ≡ T.failures tree.old) }
+    ensures uncounted { IsErrOf result EngineError.OutOfMemory → T.failures tree.new ≡ T.failures tree.old }
     ensures memo { T.is_honest → IsMemoOf (T.files tree.new) memo.new }
     // Memory and the device aside, what its steps answer by the files. The law `answers_are_judged` says what that tells of a
     // recorded object.
@@ -195,6 +201,7 @@ pub fn explain<T: Tree>(
     target: &[u8],
 ) -> Result<Explanation, EngineError>
     ensures reads { Reads T.Tree tree.old tree.new (IsErrOf result EngineError.Device) }
+    ensures uncounted { IsErrOf result EngineError.OutOfMemory → T.failures tree.new ≡ T.failures tree.old }
     // By the files: memory and the device aside, what its steps answer.
     ensures answer { T.is_honest → IsGivenUpAnswer result ⊎ IsExplained All (T.files tree.old) target.now result }
     // The verdict is the one that `stale` answers.

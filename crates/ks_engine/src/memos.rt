@@ -138,6 +138,8 @@ impl Memo {
     ) -> Result<u64, EngineError>
         requires memo { T.is_honest → IsMemoOf (T.files tree.old) self.old }
         ensures reads { Reads T.Tree tree.old tree.new (IsErrOf result EngineError.Device) }
+        ensures passed { OnOk result (T.failures tree.new ≡ T.failures tree.old) }
+        ensures uncounted { IsErrOf result EngineError.OutOfMemory → T.failures tree.new ≡ T.failures tree.old }
         ensures memo { T.is_honest → IsMemoOf (T.files tree.new) self.new }
         ensures read { T.is_honest → Answers (last_generation (content (T.files tree.old) auto_path)) (λ g. g) result }
     {
@@ -177,6 +179,8 @@ impl Memo {
         requires memo { T.is_honest → IsMemoOf (T.files tree.old) self.old }
         requires name { IsTrue (is_name name.now) }
         ensures reads { Reads T.Tree tree.old tree.new (IsErrOf result TreeError.Device) }
+        ensures passed { OnOk result (T.failures tree.new ≡ T.failures tree.old) }
+        ensures uncounted { IsErrOf result TreeError.OutOfMemory → T.failures tree.new ≡ T.failures tree.old }
         ensures memo { T.is_honest → IsMemoOf (T.files tree.new) self.new }
         ensures number { T.is_honest → (after : Files) → IsSeen question.entry (T.files tree.old) after
             → IfOk result (λ n. HasNumber (content after (stamp_path name.now)) n) }
@@ -243,6 +247,8 @@ impl Memo {
         requires room { length room.old ≡ 4096 }
         ensures memo { T.is_honest → IsMemoOf (T.files tree.new) self.new }
         ensures reads { Reads T.Tree tree.old tree.new (IsErrOf result EngineError.Device) }
+        ensures passed { OnOk result (T.failures tree.new ≡ T.failures tree.old) }
+        ensures uncounted { IsErrOf result EngineError.OutOfMemory → T.failures tree.new ≡ T.failures tree.old }
         ensures rules { self.new.rules ≡ self.old.rules }
         ensures grows { OnOk result (Grows (found_of self.old.found.scan) (found_of self.new.found.scan)) }
         ensures scanned { T.is_honest → IfOk result (IsKept self.old.rules (T.files tree.old) (found_of self.new.found.scan) path.now) }

@@ -1,7 +1,7 @@
 //! What a synchronisation comes to: what its two texts say, and over the old auto.conf which stamps it renews, under which
 //! generation, or why it is refused. Nothing is written here, and no text is made: who only asks what would be touched
 //! needs none.
-ghost use Rattle.std.specs.Prelude.{◌≡◌, ◌⊎◌, List, ℕ, Ok, Err, IfOk, IfErr, IsErrOf};
+ghost use Rattle.std.specs.Prelude.{◌≡◌, ◌⊎◌, List, ℕ, Ok, Err, IfOk, IfErr, IsErrOf, OnOk};
 ghost use Rattle.std.specs.FinMap as map;
 ghost use Rattle.ks_symbols.specs.Dialects.{KconfigText};
 ghost use Rattle.ks_symbols.specs.Kconfig.{declared};
@@ -125,6 +125,8 @@ pub fn plan_sources<T: Tree>(
     sources: Sources,
 ) -> Result<Planned, EngineError>
     ensures reads { Reads T.Tree tree.old tree.new (IsErrOf result EngineError.Device) }
+    ensures passed { OnOk result (T.failures tree.new ≡ T.failures tree.old) }
+    ensures uncounted { IsErrOf result EngineError.OutOfMemory → T.failures tree.new ≡ T.failures tree.old }
     ensures planned { T.is_honest → (kconfig : KconfigText) (dotconfig : List ℕ) → AreSources kconfig dotconfig (sources_of sources)
         → IfOk result (IsPlanned (T.files tree.old) kconfig dotconfig) }
     ensures refused { T.is_honest → (kconfig : KconfigText) (dotconfig : List ℕ) → AreSources kconfig dotconfig (sources_of sources)
@@ -147,6 +149,8 @@ pub fn plan_sync<T: Tree>(
     dotconfig: &[u8],
 ) -> Result<Planned, EngineError>
     ensures reads { Reads T.Tree tree.old tree.new (IsErrOf result EngineError.Device) }
+    ensures passed { OnOk result (T.failures tree.new ≡ T.failures tree.old) }
+    ensures uncounted { IsErrOf result EngineError.OutOfMemory → T.failures tree.new ≡ T.failures tree.old }
     ensures planned { T.is_honest → IfOk result (IsPlanned (T.files tree.old) kconfig.now dotconfig.now) }
     ensures refused { T.is_honest → IfErr result (λ e. IsGivenUp e ⊎ IsSyncPlan (T.files tree.old) kconfig.now dotconfig.now (Err e)) }
 {

@@ -1,6 +1,6 @@
 //! What is asked of an object, and which stamps the answer goes by: those of the tree, or those that a synchronisation would leave.
 //! Nothing else differs between the questions, so the answer to one can't part from the answer to another.
-ghost use Rattle.std.specs.Prelude.{◌≡◌, IfSome, IsErrOf, IsTrue, None};
+ghost use Rattle.std.specs.Prelude.{◌≡◌, IfSome, IsErrOf, IsTrue, None, OnOk};
 ghost use Rattle.std.specs.Ordering.{nat_cmp};
 ghost use Rattle.std.specs.Cmp.Lexicographic.{slice_cmp};
 ghost use Rattle.std.specs.List.Sorted.{IsStrictlySortedBy};
@@ -66,6 +66,8 @@ impl Question<'_> {
     ) -> Result<u64, EngineError>
         requires memo { T.is_honest → IsMemoOf (T.files tree.old) memo.old }
         ensures reads { Reads T.Tree tree.old tree.new (IsErrOf result EngineError.Device) }
+        ensures passed { OnOk result (T.failures tree.new ≡ T.failures tree.old) }
+        ensures uncounted { IsErrOf result EngineError.OutOfMemory → T.failures tree.new ≡ T.failures tree.old }
         ensures memo { T.is_honest → IsMemoOf (T.files tree.new) memo.new }
         ensures read { T.is_honest → (after : Files) → IsSeen self.entry (T.files tree.old) after
             → Answers (last_generation (content after auto_path)) (λ g. g) result }

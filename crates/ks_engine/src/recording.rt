@@ -69,6 +69,8 @@ pub fn check_words(depfile: &[u8], target: &[u8], command: &[u8]) -> Result<(), 
 fn read_there<T: Tree>(alloc: Global, tree: &mut T, path: &[u8]) -> Result<Vec<u8>, EngineError>
     requires { IsTrue (is_path path.now) }
     ensures reads { Reads T.Tree tree.old tree.new (IsErrOf result EngineError.Device) }
+    ensures passed { OnOk result (T.failures tree.new ≡ T.failures tree.old) }
+    ensures uncounted { IsErrOf result EngineError.OutOfMemory → T.failures tree.new ≡ T.failures tree.old }
     ensures bytes { T.is_honest → Answers (there path.now (content (T.files tree.old) path.now)) (λ v. v.items) result }
 {
     match tree.read(alloc, path)? {
@@ -140,6 +142,8 @@ pub(crate) fn prepare<T: Tree>(
     requires memo { T.is_honest → IsMemoOf (T.files tree.old) memo.old }
     ensures memo { T.is_honest → IsMemoOf (T.files tree.new) memo.new }
     ensures reads { Reads T.Tree tree.old tree.new (IsErrOf result EngineError.Device) }
+    ensures passed { OnOk result (T.failures tree.new ≡ T.failures tree.old) }
+    ensures uncounted { IsErrOf result EngineError.OutOfMemory → T.failures tree.new ≡ T.failures tree.old }
     ensures planned { T.is_honest → IfOk result (λ p. (plan : RecordPlan)
         × IsRecordPlanUnder conventions.entry (T.files tree.old) depfile.now target.now command.now plan
         × IsPrepared conventions.entry (T.files tree.old) depfile.now plan (listed_of memo.new.found) p) }
@@ -184,6 +188,7 @@ pub(crate) fn record_by<T: Tree>(
     ensures recorded { T.is_honest → IfOk result (IsRecorded dialect (T.files tree.old) (T.files tree.new) depfile.now target.now command.now) }
     ensures refused { T.is_honest → IfErr result (IsRecordRefused dialect (T.files tree.old) (T.files tree.new) depfile.now target.now command.now) }
     ensures counted { Counted T.Tree tree.old tree.new (IsErrOf result EngineError.Device) }
+    ensures uncounted { IsErrOf result EngineError.OutOfMemory → T.failures tree.new ≡ T.failures tree.old }
     ensures kept { T.aged tree.new ≡ T.aged tree.old }
 {
     let conventions = Conventions {
@@ -217,6 +222,7 @@ pub fn record_object<T: Tree>(
     ensures follows { GoesOn T.Tree tree.old tree.new (FollowsRecord dialect depfile.now target.now command.now result) }
     // The device is to blame only where the tree counted a failure.
     ensures counted { Counted T.Tree tree.old tree.new (IsErrOf result EngineError.Device) }
+    ensures uncounted { IsErrOf result EngineError.OutOfMemory → T.failures tree.new ≡ T.failures tree.old }
     ensures kept { T.aged tree.new ≡ T.aged tree.old }
 {
     let mut memo = Memo::of_one_object(alloc, Seed::new(tree.seed()));

@@ -33,6 +33,8 @@ pub(crate) fn scan_file<T: Tree>(
     requires path { IsTrue (is_path path.now) }
     requires room { length room.old ≡ 4096 }
     ensures reads { Reads T.Tree tree.old tree.new (IsErrOf result EngineError.Device) }
+    ensures passed { OnOk result (T.failures tree.new ≡ T.failures tree.old) }
+    ensures uncounted { IsErrOf result EngineError.OutOfMemory → T.failures tree.new ≡ T.failures tree.old }
     ensures scanned { OnOk result ((names : List (List ℕ)) × (found_of scan.new ≡ found_of scan.old ++ names ∷ [])
         × (T.is_honest → scanned rules path.now (content (T.files tree.old) path.now) ≡ Ok names)) }
     ensures kept { OnErr result (found_of scan.new ≡ found_of scan.old) }
@@ -67,6 +69,8 @@ pub(crate) fn scan_all_by<T: Tree>(
     requires memo { T.is_honest → IsMemoOf (T.files tree.old) memo.old }
     ensures memo { T.is_honest → IsMemoOf (T.files tree.new) memo.new }
     ensures reads { Reads T.Tree tree.old tree.new (IsErrOf result EngineError.Device) }
+    ensures passed { OnOk result (T.failures tree.new ≡ T.failures tree.old) }
+    ensures uncounted { IsErrOf result EngineError.OutOfMemory → T.failures tree.new ≡ T.failures tree.old }
     ensures names { T.is_honest → OnOk result (scanned_all memo.old.rules (T.files tree.old) prerequisites.now ≡ Ok (names_by memo.new.found)) }
     ensures refused { T.is_honest → IfErr result (λ e. IsGivenUp e ⊎ (scanned_all memo.old.rules (T.files tree.old) prerequisites.now ≡ Err e)) }
     ensures placed { T.is_honest → OnOk result (IsTrue (are_placed (found_of memo.new.found.scan) memo.new.found.sources.items)) }

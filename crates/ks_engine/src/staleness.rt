@@ -1,6 +1,6 @@
 //! Which objects are stale: those of which a name has a stamp above the generation of their record. A command file that can't be
 //! trusted is refused or said to be so, and never read as fresh; whether a source file itself changed is make's matter.
-ghost use Rattle.std.specs.Prelude.{◌≡◌, ◌⊎◌, Err, IfOk, IfErr, IsErrOf, option_map, bytes_eq, Some};
+ghost use Rattle.std.specs.Prelude.{◌≡◌, ◌⊎◌, Err, IfOk, IfErr, IsErrOf, OnOk, option_map, bytes_eq, Some};
 ghost use Rattle.ks_fixdep.specs.Borrowed.{borrowed_view};
 ghost use Rattle.ks_tree.specs.Frames.{Reads};
 ghost use Rattle.ks_tree.specs.Files.{Files, content};
@@ -51,6 +51,8 @@ pub(crate) fn read_command_text<T: Tree>(
     ensures reads { Reads T.Tree tree.old tree.new (IsErrOf result EngineError.Device) }
     ensures read { T.is_honest → IfOk result (λ found. option_map (λ v. v.items) found ≡ content (T.files tree.old) (command_path target.now)) }
     ensures refused { T.is_honest → IfErr result (λ e. IsGivenUp e ⊎ (command_file target.now (content (T.files tree.old) (command_path target.now)) ≡ Err e)) }
+    ensures passed { OnOk result (T.failures tree.new ≡ T.failures tree.old) }
+    ensures uncounted { IsErrOf result EngineError.OutOfMemory → T.failures tree.new ≡ T.failures tree.old }
 {
     let path = command_path(alloc, target)?;
     Ok(tree.read(alloc, &path)?)
@@ -90,6 +92,7 @@ fn ask_built<T: Tree>(
 ) -> Result<BuildState, EngineError>
     requires memo { T.is_honest → IsMemoOf (T.files tree.old) memo.old }
     ensures reads { Reads T.Tree tree.old tree.new (IsErrOf result EngineError.Device) }
+    ensures uncounted { IsErrOf result EngineError.OutOfMemory → T.failures tree.new ≡ T.failures tree.old }
     ensures memo { T.is_honest → IsMemoOf (T.files tree.new) memo.new }
     ensures answer { T.is_honest → IsStateOn (T.files tree.old) target.now command.now result }
 {
@@ -113,6 +116,7 @@ fn ask_built<T: Tree>(
 /// Whether an object is stale. It writes nothing.
 pub fn stale<T: Tree>(alloc: Global, tree: &mut T, target: &[u8]) -> Result<Verdict, EngineError>
     ensures reads { Reads T.Tree tree.old tree.new (IsErrOf result EngineError.Device) }
+    ensures uncounted { IsErrOf result EngineError.OutOfMemory → T.failures tree.new ≡ T.failures tree.old }
     // By the files: memory and the device aside, what its steps answer.
     ensures answer { T.is_honest → IsAnswerOn (T.files tree.old) target.now result }
     // By histories: what was touched since a recorded object's record.
@@ -131,6 +135,7 @@ pub fn outdated<T: Tree>(
     command: &[u8],
 ) -> Result<BuildState, EngineError>
     ensures reads { Reads T.Tree tree.old tree.new (IsErrOf result EngineError.Device) }
+    ensures uncounted { IsErrOf result EngineError.OutOfMemory → T.failures tree.new ≡ T.failures tree.old }
     // By the files: memory and the device aside, what its steps answer.
     ensures answer { T.is_honest → IsStateOn (T.files tree.old) target.now command.now result }
     // By histories: the command is compared with that of the record, and then as `stale`.

@@ -1,7 +1,7 @@
 //! Synchronising a tree for a build that lists the stamps of all symbols as files that a synchronisation makes, as ninja wants
 //! it: a listed file that is missing runs the synchronisation each time. A symbol that never changed has no stamp yet, so an
 //! empty one is made. The tree says then what it said before.
-ghost use Rattle.std.specs.Prelude.{◌≡◌, ◌⊎◌, ℕ, List, Err, IfErr, IfOk, IsErrOf, IsTrue, true};
+ghost use Rattle.std.specs.Prelude.{◌≡◌, ◌⊎◌, ℕ, List, Err, IfErr, IfOk, IsErrOf, IsTrue, true, OnOk};
 ghost use Rattle.ks_symbols.specs.Names.{is_in, is_name};
 ghost use Rattle.ks_tree.specs.Frames.{Counted, Reads};
 ghost use Rattle.ks_engine.specs.Refusals.{IsGivenUp};
@@ -32,6 +32,8 @@ fn prepare<T: Tree>(
     dotconfig: &[u8],
 ) -> Result<Ready, EngineError>
     ensures reads { Reads T.Tree tree.old tree.new (IsErrOf result EngineError.Device) }
+    ensures passed { OnOk result (T.failures tree.new ≡ T.failures tree.old) }
+    ensures uncounted { IsErrOf result EngineError.OutOfMemory → T.failures tree.new ≡ T.failures tree.old }
     ensures planned { T.is_honest → IfOk result (λ r. IsPrepared (T.files tree.old) kconfig.now dotconfig.now r.work) }
     ensures declared { IfOk result (λ r. AreDeclared kconfig.now r.names.items) }
     ensures legal { IfOk result (λ r. (x : List ℕ) → is_in r.names.items x ≡ true → IsTrue (is_name x)) }
@@ -60,6 +62,7 @@ pub fn sync_stamped<T: Tree>(
     ensures follows { GoesOn T.Tree tree.old tree.new (FollowsSyncStamped kconfig.now dotconfig.now result) }
     // The device is to blame only where the tree counted a failure.
     ensures counted { Counted T.Tree tree.old tree.new (IsErrOf result EngineError.Device) }
+    ensures uncounted { IsErrOf result EngineError.OutOfMemory → T.failures tree.new ≡ T.failures tree.old }
     ensures kept { T.aged tree.new ≡ T.aged tree.old }
 {
     // The names come before the first write, so that want of memory for them leaves all as it was.

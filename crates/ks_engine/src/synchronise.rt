@@ -66,6 +66,8 @@ fn prepare<T: Tree>(
     dotconfig: &[u8],
 ) -> Result<Work, EngineError>
     ensures reads { Reads T.Tree tree.old tree.new (IsErrOf result EngineError.Device) }
+    ensures passed { OnOk result (T.failures tree.new ≡ T.failures tree.old) }
+    ensures uncounted { IsErrOf result EngineError.OutOfMemory → T.failures tree.new ≡ T.failures tree.old }
     ensures planned { T.is_honest → IfOk result (IsPrepared (T.files tree.old) kconfig.now dotconfig.now) }
     ensures refused { T.is_honest → IfErr result (λ e. IsGivenUp e ⊎ IsSyncPlan (T.files tree.old) kconfig.now dotconfig.now (Err e)) }
 {
@@ -81,6 +83,8 @@ pub(crate) fn write_all<T: Tree>(alloc: Global, tree: &mut T, work: &Work) -> Re
         → OnErr result (SyncSome (T.files tree.old) (T.files tree.new) plan work.now.report.touched.items) }
     ensures never { IsErrOf result TreeFault.TooLarge → ⊥ }
     ensures counted { Counted T.Tree tree.old tree.new (IsErrOf result TreeFault.Device) }
+    ensures passed { OnOk result (T.failures tree.new ≡ T.failures tree.old) }
+    ensures uncounted { IsErrOf result TreeFault.OutOfMemory → T.failures tree.new ≡ T.failures tree.old }
     ensures kept { T.aged tree.new ≡ T.aged tree.old }
 {
     touch_all(alloc, tree, &work.report.touched, work.report.generation)?;
@@ -103,6 +107,7 @@ pub fn sync<T: Tree>(
     ensures follows { GoesOn T.Tree tree.old tree.new (FollowsSync kconfig.now dotconfig.now result) }
     // The device is to blame only where the tree counted a failure.
     ensures counted { Counted T.Tree tree.old tree.new (IsErrOf result EngineError.Device) }
+    ensures uncounted { IsErrOf result EngineError.OutOfMemory → T.failures tree.new ≡ T.failures tree.old }
     ensures kept { T.aged tree.new ≡ T.aged tree.old }
 {
     let work = prepare(alloc, tree, kconfig, dotconfig)?;

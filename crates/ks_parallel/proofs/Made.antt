@@ -67,3 +67,9 @@ content_beside f p file q apart = search (rules, unwritten, bytes_eq-Decides, fa
 
 pub own_paths_apart : (t : List ℕ) → command_temporary t ≢ command_path t
 own_paths_apart t = λ e. let same : CommandTemporary t ≡ CommandFile t = paths_never_meet (CommandTemporary t) (CommandFile t) tt tt e in cc
+
+-- nothing stays at the temporary path of a command file that was moved to its own
+pub none_stays : (f : Files) (t : List ℕ) → content (after f (Moves (command_temporary t) (command_path t))) (command_temporary t) ≡ None
+none_stays f t = content-moved f (command_temporary t) (command_path t) (command_temporary t)
+    ∙ cond-false _ _ _ (false_from_ne_true _ (λ same. own_paths_apart t (sym ((bytes_eq-Decides (command_path t) (command_temporary t)).0 same))))
+    ∙ cond-true _ _ _ ((bytes_eq-Decides (command_temporary t) (command_temporary t)).1 refl)

@@ -5,7 +5,7 @@ use Rattle.ks_engine.specs.declared.recording.Recorded.{Recorded}
 use Rattle.ks_tree.specs.declared.fault.TreeFault.{TreeFault}
 use Rattle.ks_tree.specs.declared.fault.TreeFault.TheVariants as fault
 use Rattle.ks_parallel.proofs.Apart.{content-moved, view_at}
-use Rattle.ks_parallel.proofs.Made.{content_left, content_beside, own_paths_apart}
+use Rattle.ks_parallel.proofs.Made.{content_left, content_beside, none_stays, own_paths_apart}
 
 -- ---- what is read
 
@@ -34,7 +34,7 @@ module _ (start now : Files) (job : Job) (text : List ℕ) (answer : Recorded) (
     (at : now ≡ after start (Leaves (command_temporary job.target.now) (Some text))) where
   pub is_done : IsRecorded job.dialect start (after now (Moves (command_temporary job.target.now) (command_path job.target.now))) job.depfile.now job.target.now
       job.command.now answer
-  is_done = rw at (search (rules, content-moved, content_left, content_beside, bytes_eq-Decides))
+  is_done = rw at (search (rules, content-moved, content_left, content_beside, bytes_eq-Decides, none_stays))
 
   pub is_moved_still : IsRecordTried job.dialect start (after now (Moves (command_temporary job.target.now) (command_path job.target.now))) job.depfile.now
       job.target.now job.command.now

@@ -63,6 +63,7 @@ pub fn read_given<T: Reading>(
     ensures bytes { T.is_honest → Answers (given (T.files tree.old) path.now) (λ v. v.items) result }
     ensures asked { MatchBool (is_path path.now) (T.reads tree.old path.now tree.new) (tree.new ≡ tree.old) }
     ensures once { OnOk result (T.reads tree.old path.now tree.new) }
+    ensures uncounted { IsErrOf result EngineError.OutOfMemory → T.failures tree.new ≡ T.failures tree.old }
 {
     check_path(path)?;
     match tree.read_file(alloc, path)? {

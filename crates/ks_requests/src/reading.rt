@@ -26,6 +26,7 @@ pub trait Reading: Tree {
         ensures kept { Self.aged self.new ≡ Self.aged self.old }
         ensures later { Self.failures self.old ≤ Self.failures self.new }
         ensures passed { OnOk result (Self.failures self.new ≡ Self.failures self.old) }
+        ensures uncounted { IsErrOf result TreeFault.OutOfMemory → Self.failures self.new ≡ Self.failures self.old }
         ensures cause { IsErrOf result TreeFault.Device → HasRisen (Self.failures self.old) (Self.failures self.new) };
 }
 

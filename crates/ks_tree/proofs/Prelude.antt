@@ -8,6 +8,6 @@ pub use Rattle.ks_tree.specs.Files.{Files, HasRisen, IsMoved, IsPieceRead, IsToo
 pub use Rattle.ks_tree.specs.Memory.{files_of, named}
 pub use Rattle.ks_tree.specs.Paths.{AutoConf, AutoTemporary, CommandFile, CommandTemporary, Header, HeaderTemporary, IsLegalPlace, PathsNeverMeet, Place, Stamp, StampTemporary, dotted, has_slash, path_of, temporary}
 unfoldable pub use Rattle.ks_tree.specs.Paths.{auto_path, auto_temporary, command_path, command_temporary, header_temporary, stamp_path, stamp_temporary}
-pub use Rattle.ks_tree.specs.Stamps.{HasNumber, IsStampRefusal, MakesStamps, Touches, stamp_text}
+pub use Rattle.ks_tree.specs.Stamps.{HasNumber, IsStampRefusal, MakesStamps, Touches, left_over, stamp_text}
 pub use Rattle.ks_tree.specs.Frames.{Reads}
 pub use Rattle.std.proofs.lemmas.List.Folds.{list_any-append}

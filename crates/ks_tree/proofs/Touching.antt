@@ -1,5 +1,5 @@
 -- One more stamp is set, or made.
-use Rattle.ks_tree.proofs.Prelude.{◌≡◌, ◌≢◌, ℕ, List, [], ◌∷◌, ◌++◌, Some, arith, bytes_eq, cases_Bool, bytes_eq-Decides, Files, content, SameButBoth, kept_or, SameBut, MakesStamps, stamp_path, stamp_temporary, stamp_text, Touches, Result, OnErr, common_steps, rules}
+use Rattle.ks_tree.proofs.Prelude.{◌≡◌, ◌≢◌, ◌<◌, ◌+◌, ℕ, List, [], ◌∷◌, ◌++◌, Option, Some, None, length, take, left_over, arith, bytes_eq, cases_Bool, bytes_eq-Decides, Files, content, SameButBoth, kept_or, SameBut, MakesStamps, stamp_path, stamp_temporary, stamp_text, Touches, Result, OnErr, common_steps, rules}
 use Rattle.ks_tree.proofs.PathLemmas.{apart, ending-stamp, ending-stamp_temporary, stamp-injective}
 
 pub touches_more : (xs : List (List ℕ)) (y : List ℕ) (g : ℕ) (old mid new : Files) → Touches xs g old mid
@@ -27,6 +27,11 @@ pub made_same : (xs : List (List ℕ)) (y : List ℕ) (old mid new : Files) → 
     → content new (stamp_path y) ≡ content mid (stamp_path y) → SameBut (stamp_path y) mid new → MakesStamps xs old new
 made_same xs y old mid new made kept others =
     let all = λ (q : List ℕ). kept_at (stamp_path y) q mid new kept (others q) in search (rules, all, made.made, made.others)
+
+-- once one stamp is set nothing is left over
+pub none_left : (xs : List (List ℕ)) (n : ℕ) (old : Option (List ℕ)) → n < length xs → left_over (take (n + 1) xs) old ≡ None
+none_left [] n old within = absurd (omega (arith, within))
+none_left (x ∷ xs) n old within = grind (arith, common_steps)
 
 -- the answer of a call that failed
 pub on_err : {T E : Type 0} (r : Result T E) (P : Type 0) → P → OnErr r P

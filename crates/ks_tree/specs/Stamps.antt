@@ -34,3 +34,8 @@ pub record MakesStamps (xs : List (List ℕ)) (old new : Files) : Type 0 where
 pub record Touches (xs : List (List ℕ)) (g : ℕ) (old new : Files) : Type 0 where
   pub stamps : (x : List ℕ) → IsTrue (is_name x) → content new (stamp_path x) ≡ (if is_in xs x then Some (stamp_text g) else content old (stamp_path x))
   pub others : (q : List ℕ) → q ≢ stamp_temporary → ((x : List ℕ) → is_in xs x ≡ true → q ≢ stamp_path x) → content new q ≡ content old q
+
+-- what the temporary file of the stamps holds once these names' are set: it is gone, or where there are none what it was
+abbrev pub left_over : List (List ℕ) → Option (List ℕ) → Option (List ℕ)
+left_over [] old = old
+left_over (x ∷ xs) old = None

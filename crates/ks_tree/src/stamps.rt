@@ -4,7 +4,7 @@ ghost use Rattle.std.specs.Prelude.{◌≡◌, ◌↔◌, ◌⊎◌, ◌≤◌, 
 ghost use Rattle.ks_tree.specs.Frames.{Counted, Reads};
 ghost use Rattle.ks_tree.specs.Files.{content, SameButBoth};
 ghost use Rattle.ks_tree.specs.Paths.{stamp_path, stamp_temporary};
-ghost use Rattle.ks_tree.specs.Stamps.{HasNumber, IsStampRefusal, Touches, stamp_text};
+ghost use Rattle.ks_tree.specs.Stamps.{HasNumber, IsStampRefusal, Touches, left_over, stamp_text};
 
 use crate::paths::{stamp_path, stamp_temporary};
 use crate::{Tree, TreeError, TreeFault, replace};
@@ -39,6 +39,7 @@ pub fn read_stamp<T: Tree>(alloc: Global, tree: &mut T, name: &Name) -> Result<u
     ensures refused { T.is_honest → IfErr result (IsStampRefusal name.now (content (T.files tree.old) (stamp_path name.now))) }
     ensures reads { Reads T.Tree tree.old tree.new (IsErrOf result TreeError.Device) }
     ensures passed { OnOk result (T.failures tree.new ≡ T.failures tree.old) }
+    ensures uncounted { IsErrOf result TreeError.OutOfMemory → T.failures tree.new ≡ T.failures tree.old }
 {
     let path = stamp_path(alloc, name)?;
     let Some(stamp) = tree.read(alloc, &path)? else {
@@ -82,6 +83,7 @@ pub fn touch_all<T: Tree>(
     generation: u64,
 ) -> Result<(), TreeFault>
     ensures all { T.is_honest → OnOk result (Touches names.now generation (T.files tree.old) (T.files tree.new)) }
+    ensures gone { T.is_honest → OnOk result (content (T.files tree.new) stamp_temporary ≡ left_over names.now (content (T.files tree.old) stamp_temporary)) }
     ensures none { names.now ≡ [] → tree.new ≡ tree.old }
     // After a fault the stamps of a beginning of the names are set.
     ensures some { T.is_honest → OnErr result ((n : ℕ) × Touches (take n names.now) generation (T.files tree.old) (T.files tree.new)) }

@@ -1,14 +1,15 @@
 use Rattle.ks_engine.proofs.Prelude.{◌≡◌, EngineError, Device, Refused, rules}
 use Rattle.ks_engine.proofs.commands.answer.Goals as goal
 
-refused_is : (e : EngineError) → Refused e ≡ Refused Device → e ≡ Device
-refused_is e same = cc
+refused_is : (e f : EngineError) → Refused e ≡ Refused f → e ≡ f
+refused_is e f same = cc
 
 pub returns-in-Err-clause-step : goal.returns-in-Err-clause-step
 returns-in-Err-clause-step g c = record {
   leaves = λ honest. rw (c.in-Sync.is, ← c.new.ensures) (c.in-Err.ensures.refused honest);
   later = search rules;
   cause = search (rules, refused_is);
+  uncounted = search (rules, refused_is);
 }
 
 pub returns-in-Err-record_by-clause-step : goal.returns-in-Err-record_by-clause-step

@@ -1,4 +1,4 @@
-use Rattle.ks_engine.proofs.Prelude.{inr, ◌∙◌, take}
+use Rattle.ks_engine.proofs.Prelude.{inr, ◌≡◌, ◌∙◌, None, subst, take, content}
 use Rattle.ks_engine.proofs.Writes.{beginning, on_err}
 use Rattle.ks_engine.proofs.DepfileLemmas.{stamps_left, rule_left}
 use Rattle.ks_engine.proofs.depfile.leave_rule.Goals as goal
@@ -24,4 +24,5 @@ returns-clause-done g c = λ honest.
       leaves = rule_left c.args.depfile.now c.args.names.now c.args.rule.now c.requires.free _ _ _ _ (c.deref.ensures.value ∙ c.in_ok-temporary.ensures) (c.requires.legal honest)
           (c.in_ok-make_stamps.ensures.all honest) (c.in_ok-replace.ensures.others honest) (inr written);
       text_is = written;
+      gone = subst (λ t. content (g.T.Tree.files c.replace.new.tree) t ≡ None) (c.deref.ensures.value ∙ c.in_ok-temporary.ensures) (c.in_ok-replace.ensures.gone honest);
     }

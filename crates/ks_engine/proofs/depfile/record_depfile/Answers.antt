@@ -30,7 +30,7 @@ returns-in_err-leave_rule-clause-refused g c = λ honest.
         answer = c.in_ok-ruled.ruled.draft.answer;
         between = g.T.Tree.files c.write_record.new.tree;
         recorded = recorded_from planned.1 planned.2.draft (c.prepare_rule.ensures.reads.unchanged honest) c.deref.ensures.value
-            (c.in_ok-write_record.ensures.others honest) (c.in_ok-write_record.ensures.written honest);
+            (c.in_ok-write_record.ensures.others honest) (c.in_ok-write_record.ensures.written honest) (c.in_ok-write_record.ensures.gone honest);
         was = planned.2.was;
         was_there = planned.2.was_there;
         rule = search rules;
@@ -52,7 +52,7 @@ returns-clause-recorded g c = λ honest.
       free = search rules;
       between = g.T.Tree.files c.write_record.new.tree;
       recorded = recorded_from planned.1 planned.2.draft (c.prepare_rule.ensures.reads.unchanged honest) c.deref.ensures.value
-          (c.in_ok-write_record.ensures.others honest) (c.in_ok-write_record.ensures.written honest);
+          (c.in_ok-write_record.ensures.others honest) (c.in_ok-write_record.ensures.written honest) (c.in_ok-write_record.ensures.gone honest);
       was = planned.2.was;
       was_there = planned.2.was_there;
       rule = search rules;

@@ -8,7 +8,7 @@ invariant-loop-dep g l = record {
   unchanged : g.T.Tree.is_honest → g.T.Tree.files l.tree ≡ g.T.Tree.files l.fn.tree;
   kept : g.T.Tree.aged l.tree ≡ g.T.Tree.aged l.fn.tree;
   memo : g.T.Tree.is_honest → IsMemoOf (g.T.Tree.files l.tree) l.memo;
-  later : g.T.Tree.failures l.fn.tree ≤ g.T.Tree.failures l.tree;
+  same : g.T.Tree.failures l.tree ≡ g.T.Tree.failures l.fn.tree;
   place : IsTrue (is_path l.place);
   few : AreTooFew (limit_of l.question) l.causes.items;
   looked : g.T.Tree.is_honest → (after : Files) → IsSeen l.question (g.T.Tree.files l.fn.tree) after

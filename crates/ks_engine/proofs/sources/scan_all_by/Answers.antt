@@ -14,7 +14,7 @@ pub loop-place-preserved : goal.loop-place-preserved
 loop-place-preserved g c = record {
   unchanged = search rules;
   kept = search rules;
-  later = search rules;
+  same = search rules;
   memo = c.in_ok-source.ensures.memo;
   within = omega arith;
   rules = search rules;

@@ -8,7 +8,7 @@ abbrev pub invariant-loop-place : goal.invariant-loop-place
 invariant-loop-place g l = record {
   unchanged : g.T.Tree.is_honest → g.T.Tree.files l.tree ≡ g.T.Tree.files l.fn.tree;
   kept : g.T.Tree.aged l.tree ≡ g.T.Tree.aged l.fn.tree;
-  later : g.T.Tree.failures l.fn.tree ≤ g.T.Tree.failures l.tree;
+  same : g.T.Tree.failures l.tree ≡ g.T.Tree.failures l.fn.tree;
   within : l.place ≤ length l.prerequisites;
   room : length l.room ≡ 4096;
   memo : g.T.Tree.is_honest → IsMemoOf (g.T.Tree.files l.tree) l.memo;

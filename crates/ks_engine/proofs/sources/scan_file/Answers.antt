@@ -29,7 +29,7 @@ loop-count-preserved g c =
     record {
       unchanged = search rules;
       kept = search rules;
-      later = search rules;
+      same = search rules;
       full = search rules;
       found = search rules;
       small = c.if-offset.false;

@@ -7,7 +7,8 @@ pub returns-in_err-work-clause-refused : goal.returns-in_err-work-clause-refused
 returns-in_err-work-clause-refused g c = search (rules, err_from_is_err_and)
 
 pub returns-in_err-work-clause-follows : goal.returns-in_err-work-clause-follows
-returns-in_err-work-clause-follows g c = search (rules, err_from_is_err_and, sync_follows, returns-in_err-work-clause-refused)
+returns-in_err-work-clause-follows g c = λ honest h shows.
+    sync_follows _ _ _ _ h _ _ _ shows (search (rules, err_from_is_err_and)) (returns-in_err-work-clause-refused g c honest)
 
 pub returns-in_err-write_all-clause-refused : goal.returns-in_err-write_all-clause-refused
 returns-in_err-write_all-clause-refused g c = λ honest.

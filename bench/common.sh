@@ -65,7 +65,7 @@ download_packages() {
         done
         return 0
     done
-    fail 'apt knows no linux-headers of Linux 6.2 or later'
+    fail 'apt knows no linux-headers of Linux 6.2 or later; apt-get update may help'
 }
 
 # $work/tree: one folder that looks as a built kernel's source tree: the common headers and the generated ones together. The

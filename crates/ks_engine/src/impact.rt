@@ -1,7 +1,7 @@
 //! What a synchronisation would touch, were it done now. Who had to synchronise to learn this would make objects stale by a
 //! configuration that was only asked about. Nothing is written; an object that is asked about after it is judged by the stamps as
 //! they would be, so one that is stale already is told as well.
-ghost use Rattle.std.specs.Prelude.{◌≡◌, ◌⊎◌, Err, IfOk, IfErr, IsErrOf};
+ghost use Rattle.std.specs.Prelude.{◌≡◌, ◌⊎◌, Err, IfOk, IfErr, IsErrOf, OnOk};
 ghost use Rattle.ks_tree.specs.Frames.{Reads};
 ghost use Rattle.ks_engine.specs.Refusals.{IsGivenUp};
 ghost use Rattle.ks_engine.specs.SyncPlan.{IsSyncPlan};
@@ -28,6 +28,8 @@ impl Impact {
         dotconfig: &[u8],
     ) -> Result<Impact, EngineError>
         ensures reads { Reads T.Tree tree.old tree.new (IsErrOf result EngineError.Device) }
+        ensures passed { OnOk result (T.failures tree.new ≡ T.failures tree.old) }
+        ensures uncounted { IsErrOf result EngineError.OutOfMemory → T.failures tree.new ≡ T.failures tree.old }
         // Where it isn't refused, a synchronisation can be completed, and this is what that reports.
         ensures told { T.is_honest → IfOk result (IsImpactOf (T.files tree.old) kconfig.now dotconfig.now) }
         ensures refused { T.is_honest → IfErr result (λ e. IsGivenUp e ⊎ IsSyncPlan (T.files tree.old) kconfig.now dotconfig.now (Err e)) }

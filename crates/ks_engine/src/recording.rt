@@ -188,6 +188,7 @@ pub(crate) fn record_by<T: Tree>(
     ensures recorded { T.is_honest → IfOk result (IsRecorded dialect (T.files tree.old) (T.files tree.new) depfile.now target.now command.now) }
     ensures refused { T.is_honest → IfErr result (IsRecordRefused dialect (T.files tree.old) (T.files tree.new) depfile.now target.now command.now) }
     ensures counted { Counted T.Tree tree.old tree.new (IsErrOf result EngineError.Device) }
+    ensures passed { OnOk result (T.failures tree.new ≡ T.failures tree.old) }
     ensures uncounted { IsErrOf result EngineError.OutOfMemory → T.failures tree.new ≡ T.failures tree.old }
     ensures kept { T.aged tree.new ≡ T.aged tree.old }
 {
@@ -222,6 +223,7 @@ pub fn record_object<T: Tree>(
     ensures follows { GoesOn T.Tree tree.old tree.new (FollowsRecord dialect depfile.now target.now command.now result) }
     // The device is to blame only where the tree counted a failure.
     ensures counted { Counted T.Tree tree.old tree.new (IsErrOf result EngineError.Device) }
+    ensures passed { OnOk result (T.failures tree.new ≡ T.failures tree.old) }
     ensures uncounted { IsErrOf result EngineError.OutOfMemory → T.failures tree.new ≡ T.failures tree.old }
     ensures kept { T.aged tree.new ≡ T.aged tree.old }
 {

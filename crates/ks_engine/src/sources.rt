@@ -98,6 +98,8 @@ pub fn scan_all<T: Tree>(
     prerequisites: &Prerequisites,
 ) -> Result<NamesBySource, EngineError>
     ensures reads { Reads T.Tree tree.old tree.new (IsErrOf result EngineError.Device) }
+    ensures passed { OnOk result (T.failures tree.new ≡ T.failures tree.old) }
+    ensures uncounted { IsErrOf result EngineError.OutOfMemory → T.failures tree.new ≡ T.failures tree.old }
     ensures names { T.is_honest → IfOk result (λ found. scanned_all rules (T.files tree.old) prerequisites.now ≡ Ok (names_by found)) }
     ensures refused { T.is_honest → IfErr result (λ e. IsGivenUp e ⊎ (scanned_all rules (T.files tree.old) prerequisites.now ≡ Err e)) }
     ensures each { IfOk result (λ found. length found.sources.items ≡ length prerequisites.now) }

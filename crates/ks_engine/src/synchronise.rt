@@ -107,6 +107,7 @@ pub fn sync<T: Tree>(
     ensures follows { GoesOn T.Tree tree.old tree.new (FollowsSync kconfig.now dotconfig.now result) }
     // The device is to blame only where the tree counted a failure.
     ensures counted { Counted T.Tree tree.old tree.new (IsErrOf result EngineError.Device) }
+    ensures passed { OnOk result (T.failures tree.new ≡ T.failures tree.old) }
     ensures uncounted { IsErrOf result EngineError.OutOfMemory → T.failures tree.new ≡ T.failures tree.old }
     ensures kept { T.aged tree.new ≡ T.aged tree.old }
 {

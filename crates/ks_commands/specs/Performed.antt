@@ -40,7 +40,7 @@ use Rattle.ks_requests.specs.Unknown.{unknown_lines}
 use Rattle.ks_requests.specs.Inputs.{Inputs, Texts, inputs_at, texts_at}
 use Rattle.ks_requests.specs.Preview.{IsPreview, preview_refusal}
 use Rattle.ks_requests.specs.Replies.{answer_line, build_line, depfile_line, recorded_line, reply_lines, report_lines}
-use Rattle.ks_requests.specs.Requests.{IsNoQuestion}
+use Rattle.ks_requests.specs.Requests.{IsNoQuestion, IsOneStep}
 use Rattle.ks_requests.specs.Statuses.{build_status, reply_status, status_unless_refused, worst}
 use Rattle.ks_requests.specs.Symbols.{symbols_of}
 use Rattle.ks_commands.specs.Aging.{AgesAsked}
@@ -199,4 +199,5 @@ pub record Performs {T : Type 0} (tree : Ghosts T) (dialect : Dialect) (old new 
   pub done : IsNoQuestion request → IfOk ended (λ o. o.status ≡ Done)
   pub ends : Ends tree.is_honest (by_files dialect tree.is_honest (state tree old) (state tree new)) (state tree old) request ended (state tree new)
   pub cause : ended ≡ Err (Engine Device) → HasRisen (tree.failures old) (tree.failures new)
+  pub memory : IsOneStep request → ended ≡ Err (Engine OutOfMemory) → tree.failures new ≡ tree.failures old
   pub aged : tree.is_honest → AgesAsked (tree.files old) request ended (tree.aged old) (tree.aged new)

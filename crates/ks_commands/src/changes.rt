@@ -1,11 +1,11 @@
 //! The commands that change a tree: a synchronisation, and the record of an object, in one of its two forms.
 //!
 //! A refusal of the engine is one of the whole command, and prints nothing to the output.
-ghost use Rattle.std.specs.Prelude.{◌≡◌, Err, IfErr, IfOk, IsErrOf, option_map};
+ghost use Rattle.std.specs.Prelude.{◌≡◌, Err, IfErr, IfOk, IsErrOf, OnOk, option_map};
 ghost use Rattle.ks_tree.specs.Files.{HasRisen};
 ghost use Rattle.ks_tree.specs.Frames.{Counted};
 ghost use Rattle.ks_engine.specs.FileRuns.{state};
-ghost use Rattle.ks_engine.specs.declared.error.EngineError.TheVariants.{BadPath, Device};
+ghost use Rattle.ks_engine.specs.declared.error.EngineError.TheVariants.{BadPath, Device, OutOfMemory};
 ghost use Rattle.ks_requests.specs.declared.refusal.Refusal.TheVariants.{Engine};
 ghost use Rattle.ks_requests.specs.declared.status.Status.TheVariants.{Done};
 ghost use Rattle.ks_commands.specs.Depfiles.{IsHeaderOf, IsNoHeader};
@@ -29,6 +29,8 @@ fn sync_with<T: Tree>(
 ) -> Result<Report, EngineError>
     ensures files { T.is_honest → LeavesStamps (T.files tree.old) (T.files tree.new) stamps kconfig.now dotconfig.now result }
     ensures counted { Counted T.Tree tree.old tree.new (IsErrOf result EngineError.Device) }
+    ensures passed { OnOk result (T.failures tree.new ≡ T.failures tree.old) }
+    ensures uncounted { IsErrOf result EngineError.OutOfMemory → T.failures tree.new ≡ T.failures tree.old }
     ensures kept { T.aged tree.new ≡ T.aged tree.old }
 {
     match stamps {
@@ -50,6 +52,7 @@ pub(crate) fn synchronise<T: Tree>(
     ensures files { T.is_honest → EndsSync (T.files tree.old) (by_files dialect T.is_honest (state T.Tree tree.old) (state T.Tree tree.new))
         stamps kconfig.now dotconfig.now result }
     ensures cause { result ≡ Err (Engine Device) → HasRisen (T.failures tree.old) (T.failures tree.new) }
+    ensures memory { result ≡ Err (Engine OutOfMemory) → T.failures tree.new ≡ T.failures tree.old }
     ensures kept { T.aged tree.new ≡ T.aged tree.old }
 {
     let texts = texts_at(alloc, tree, kconfig, dotconfig)?;
@@ -70,6 +73,7 @@ pub(crate) fn record_target<T: Tree>(
     ensures done { IfOk result (λ o. o.status ≡ Done) }
     ensures files { T.is_honest → EndsRecord (by_files dialect T.is_honest (state T.Tree tree.old) (state T.Tree tree.new)) depfile.now target.now command.now result }
     ensures cause { result ≡ Err (Engine Device) → HasRisen (T.failures tree.old) (T.failures tree.new) }
+    ensures memory { result ≡ Err (Engine OutOfMemory) → T.failures tree.new ≡ T.failures tree.old }
     ensures kept { T.aged tree.new ≡ T.aged tree.old }
 {
     let recorded = record_object(alloc, tree, dialect, depfile, target, command)?;
@@ -104,6 +108,7 @@ pub(crate) fn record_rule<T: Tree>(
     ensures files { T.is_honest → EndsDepfile (by_files dialect T.is_honest (state T.Tree tree.old) (state T.Tree tree.new))
         (option_map (λ p. p.now) header.entry) depfile.now target.now command.now result }
     ensures cause { result ≡ Err (Engine Device) → HasRisen (T.failures tree.old) (T.failures tree.new) }
+    ensures memory { result ≡ Err (Engine OutOfMemory) → T.failures tree.new ≡ T.failures tree.old }
     ensures kept { T.aged tree.new ≡ T.aged tree.old }
 {
     let header = header_of(dialect, header)?;

@@ -7,7 +7,7 @@ ghost use Rattle.ks_compare.specs.Changes.{compared};
 ghost use Rattle.ks_tree.specs.Frames.{Reads};
 ghost use Rattle.ks_engine.specs.Refusals.{IsGivenUp};
 ghost use Rattle.ks_engine.specs.SyncPlan.{IsSyncPlan};
-ghost use Rattle.ks_engine.specs.declared.error.EngineError.TheVariants.{Device};
+ghost use Rattle.ks_engine.specs.declared.error.EngineError.TheVariants.{Device, OutOfMemory};
 ghost use Rattle.ks_requests.specs.declared.refusal.Refusal.TheVariants.{Engine};
 ghost use Rattle.ks_requests.specs.declared.status.Status.TheVariants.{Done};
 ghost use Rattle.ks_requests.specs.Statuses.{code_of};
@@ -200,6 +200,7 @@ fn differences<T: Tree>(
 ) -> Result<Outcome, EngineError>
     ensures done { telling ≡ Telling.Lines → IfOk result (λ o. o.status ≡ Done) }
     ensures reads { Reads T.Tree tree.old tree.new (IsErrOf result EngineError.Device) }
+    ensures uncounted { IsErrOf result EngineError.OutOfMemory → T.failures tree.new ≡ T.failures tree.old }
     ensures told { T.is_honest → IfOk result (λ o. IsDiff telling (T.files tree.old) kconfig.now dotconfig.now o.text.items (code_of o.status)
         × IsUnknown (lines_asked telling (unknown_lines kconfig.now dotconfig.now)) o.count) }
     ensures refused { T.is_honest → IfErr result (λ e. IsGivenUp e ⊎ IsSyncPlan (T.files tree.old) kconfig.now dotconfig.now (Err e)) }
@@ -231,6 +232,7 @@ pub(crate) fn tell_differences<T: Tree>(
 ) -> Result<Outcome, Refusal>
     ensures done { telling ≡ Telling.Lines → IfOk result (λ o. o.status ≡ Done) }
     ensures reads { Reads T.Tree tree.old tree.new (result ≡ Err (Engine Device)) }
+    ensures memory { result ≡ Err (Engine OutOfMemory) → T.failures tree.new ≡ T.failures tree.old }
     ensures told { T.is_honest → EndsDiff dialect telling (T.files tree.old) kconfig.now dotconfig.now result }
 {
     let texts = texts_at(alloc, tree, kconfig, dotconfig)?;

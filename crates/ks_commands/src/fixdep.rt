@@ -1,7 +1,7 @@
 //! The command file of an object, as scripts/basic/fixdep.c prints it, from the compiler's dependency file.
 //!
 //! The words are looked at first, then the dependency file is read, then each prerequisite in order, in pieces.
-ghost use Rattle.std.specs.Prelude.{IsErrOf};
+ghost use Rattle.std.specs.Prelude.{◌≡◌, IsErrOf};
 ghost use Rattle.ks_tree.specs.Frames.{Reads};
 ghost use Rattle.ks_engine.specs.Refusals.{Answers};
 ghost use Rattle.ks_commands.specs.Fixdep.{command_file_at};
@@ -24,6 +24,7 @@ pub(crate) fn command_file_text<T: Tree>(
     command: &[u8],
 ) -> Result<Vec<u8>, EngineError>
     ensures reads { Reads T.Tree tree.old tree.new (IsErrOf result EngineError.Device) }
+    ensures uncounted { IsErrOf result EngineError.OutOfMemory → T.failures tree.new ≡ T.failures tree.old }
     ensures text { T.is_honest → Answers (command_file_at dialect (T.files tree.old) depfile.now target.now command.now) (λ text. text.items) result }
 {
     check_words(depfile, target, command)?;

@@ -6,11 +6,11 @@ ghost use Rattle.std.specs.Prelude.{◌≡◌, ◌∷◌, Err, IfOk, option_map}
 ghost use Rattle.ks_tree.specs.Files.{HasRisen};
 ghost use Rattle.ks_tree.specs.Frames.{Reads};
 ghost use Rattle.ks_engine.specs.FileRuns.{state};
-ghost use Rattle.ks_engine.specs.declared.error.EngineError.TheVariants.{Device};
+ghost use Rattle.ks_engine.specs.declared.error.EngineError.TheVariants.{Device, OutOfMemory};
 ghost use Rattle.ks_requests.specs.declared.refusal.Refusal.TheVariants.{Engine};
 ghost use Rattle.ks_requests.specs.declared.status.Status.TheVariants.{Done};
 ghost use Rattle.ks_requests.specs.Readings.{ReadsSome, if_named};
-ghost use Rattle.ks_requests.specs.Requests.{IsNoQuestion};
+ghost use Rattle.ks_requests.specs.Requests.{IsNoQuestion, IsOneStep};
 ghost use Rattle.ks_commands.specs.Aging.{AgesAsked};
 ghost use Rattle.ks_commands.specs.Performed.{Ends, EndsFixdep, EndsPreview, by_files};
 
@@ -41,6 +41,7 @@ fn preview<T: Reading>(
 ) -> Result<Outcome, Refusal>
     ensures done { IfOk result (λ o. o.status ≡ Done) }
     ensures reads { Reads T.Tree tree.old tree.new (result ≡ Err (Engine Device)) }
+    ensures memory { result ≡ Err (Engine OutOfMemory) → T.failures tree.new ≡ T.failures tree.old }
     ensures told { T.is_honest → EndsPreview dialect (T.files tree.old) kconfig.now dotconfig.now (option_map (λ p. p.now) old.entry) result }
     ensures no_other { ReadsSome T.reads tree.old (kconfig.now ∷ dotconfig.now ∷ if_named (option_map (λ p. p.now) old.entry)) tree.new }
 {
@@ -63,6 +64,7 @@ fn fixdep<T: Tree>(
 ) -> Result<Outcome, Refusal>
     ensures done { IfOk result (λ o. o.status ≡ Done) }
     ensures reads { Reads T.Tree tree.old tree.new (result ≡ Err (Engine Device)) }
+    ensures memory { result ≡ Err (Engine OutOfMemory) → T.failures tree.new ≡ T.failures tree.old }
     ensures told { T.is_honest → EndsFixdep dialect (T.files tree.old) depfile.now target.now command.now result }
 {
     let text = command_file_text(alloc, tree, dialect, depfile, target, command)?;
@@ -80,6 +82,7 @@ pub(crate) fn outcome<T: Aging>(
     ensures ends { Ends T.is_honest (by_files dialect T.is_honest (state T.Tree tree.old) (state T.Tree tree.new)) (state T.Tree tree.old) request.now result
         (state T.Tree tree.new) }
     ensures cause { result ≡ Err (Engine Device) → HasRisen (T.failures tree.old) (T.failures tree.new) }
+    ensures memory { IsOneStep request.now → result ≡ Err (Engine OutOfMemory) → T.failures tree.new ≡ T.failures tree.old }
     ensures aged { T.is_honest → AgesAsked (T.files tree.old) request.now result (T.aged tree.old) (T.aged tree.new) }
 {
     match request {

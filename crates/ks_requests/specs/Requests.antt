@@ -1,7 +1,7 @@
 -- What is asked of the program, without where its words lie.
 use Rattle.std.specs.Prelude.{◌≡◌, ℕ, List, Option, option_map, string_bytes, ⊤}
 use Rattle.ks_requests.specs.declared.request.Request.{Request}
-use Rattle.ks_requests.specs.declared.request.Request.TheVariants.{Age, Batch, Cost, Diff, Impact, Outdated, Preview, Stale, Users, Why}
+use Rattle.ks_requests.specs.declared.request.Request.TheVariants.{Age, Batch, Cost, Depfile, Diff, Fixdep, Impact, Outdated, Preview, Record, Stale, Sync, Users, Why}
 use Rattle.ks_requests.specs.declared.telling.Telling.TheVariants.{LinesAndStatus, Status}
 
 -- the request is a preview of these two files, over this old auto.conf if there is one
@@ -28,3 +28,13 @@ IsNoQuestion (Diff kconfig dotconfig Status) = ⊥
 IsNoQuestion (Users symbols targets) = ⊥
 IsNoQuestion (Cost top targets) = ⊥
 IsNoQuestion _ = ⊤
+
+-- a request of one step: it neither answers object by object nor runs a script
+abbrev pub IsOneStep : Request → Type 0
+IsOneStep (Sync kconfig dotconfig stamps) = ⊤
+IsOneStep (Preview kconfig dotconfig old) = ⊤
+IsOneStep (Diff kconfig dotconfig telling) = ⊤
+IsOneStep (Fixdep depfile target command) = ⊤
+IsOneStep (Record depfile target command) = ⊤
+IsOneStep (Depfile header depfile target command) = ⊤
+IsOneStep _ = ⊥

@@ -60,6 +60,7 @@ pub fn read_given<T: Reading>(
     path: &[u8],
 ) -> Result<Vec<u8>, EngineError>
     ensures reads { Reads T.Tree tree.old tree.new (IsErrOf result EngineError.Device) }
+    ensures passed { OnOk result (T.failures tree.new ≡ T.failures tree.old) }
     ensures bytes { T.is_honest → Answers (given (T.files tree.old) path.now) (λ v. v.items) result }
     ensures asked { MatchBool (is_path path.now) (T.reads tree.old path.now tree.new) (tree.new ≡ tree.old) }
     ensures once { OnOk result (T.reads tree.old path.now tree.new) }
@@ -79,6 +80,8 @@ pub(crate) fn read_named<T: Reading>(
     path: Option<&str>,
 ) -> Result<Option<Vec<u8>>, EngineError>
     ensures reads { Reads T.Tree tree.old tree.new (IsErrOf result EngineError.Device) }
+    ensures passed { OnOk result (T.failures tree.new ≡ T.failures tree.old) }
+    ensures uncounted { IsErrOf result EngineError.OutOfMemory → T.failures tree.new ≡ T.failures tree.old }
     ensures bytes { T.is_honest → Answers (given_if_named (T.files tree.old) (option_map (λ p. p.now) path.entry)) (option_map (λ v. v.items)) result }
     ensures none { option_map (λ p. p.now) path.entry ≡ None → IfOk result (λ found. found ≡ None) }
     ensures once { OnOk result (ReadsEach T.reads tree.old (if_named (option_map (λ p. p.now) path.entry)) tree.new) }
@@ -98,6 +101,8 @@ fn read_texts<T: Reading>(
     dotconfig: &[u8],
 ) -> Result<Texts, EngineError>
     ensures reads { Reads T.Tree tree.old tree.new (IsErrOf result EngineError.Device) }
+    ensures passed { OnOk result (T.failures tree.new ≡ T.failures tree.old) }
+    ensures uncounted { IsErrOf result EngineError.OutOfMemory → T.failures tree.new ≡ T.failures tree.old }
     ensures texts { T.is_honest → Answers (inputs.read_texts (T.files tree.old) kconfig.now dotconfig.now) seen_texts result }
     ensures once { OnOk result (ReadsEach T.reads tree.old (kconfig.now ∷ dotconfig.now ∷ []) tree.new) }
     ensures no_other { ReadsSome T.reads tree.old (kconfig.now ∷ dotconfig.now ∷ []) tree.new }
@@ -117,6 +122,8 @@ pub fn texts_at<T: Reading>(
     dotconfig: &[u8],
 ) -> Result<Texts, EngineError>
     ensures reads { Reads T.Tree tree.old tree.new (IsErrOf result EngineError.Device) }
+    ensures passed { OnOk result (T.failures tree.new ≡ T.failures tree.old) }
+    ensures uncounted { IsErrOf result EngineError.OutOfMemory → T.failures tree.new ≡ T.failures tree.old }
     ensures texts { T.is_honest → Answers (texts_at (T.files tree.old) kconfig.now dotconfig.now) seen_texts result }
     ensures once { OnOk result (ReadsEach T.reads tree.old (kconfig.now ∷ dotconfig.now ∷ []) tree.new) }
     ensures no_other { ReadsSome T.reads tree.old (kconfig.now ∷ dotconfig.now ∷ []) tree.new }
@@ -136,6 +143,8 @@ fn read_inputs<T: Reading>(
     old: Option<&str>,
 ) -> Result<Inputs, EngineError>
     ensures reads { Reads T.Tree tree.old tree.new (IsErrOf result EngineError.Device) }
+    ensures passed { OnOk result (T.failures tree.new ≡ T.failures tree.old) }
+    ensures uncounted { IsErrOf result EngineError.OutOfMemory → T.failures tree.new ≡ T.failures tree.old }
     ensures inputs { T.is_honest
         → Answers (inputs.read_inputs (T.files tree.old) kconfig.now dotconfig.now (option_map (λ p. p.now) old.entry)) seen_inputs result }
     ensures once { OnOk result (ReadsEach T.reads tree.old (kconfig.now ∷ dotconfig.now ∷ if_named (option_map (λ p. p.now) old.entry)) tree.new) }
@@ -157,6 +166,8 @@ pub fn inputs_at<T: Reading>(
     old: Option<&str>,
 ) -> Result<Inputs, EngineError>
     ensures reads { Reads T.Tree tree.old tree.new (IsErrOf result EngineError.Device) }
+    ensures passed { OnOk result (T.failures tree.new ≡ T.failures tree.old) }
+    ensures uncounted { IsErrOf result EngineError.OutOfMemory → T.failures tree.new ≡ T.failures tree.old }
     ensures inputs { T.is_honest → Answers (inputs_at (T.files tree.old) kconfig.now dotconfig.now (option_map (λ p. p.now) old.entry)) seen_inputs result }
     ensures once { OnOk result (ReadsEach T.reads tree.old (kconfig.now ∷ dotconfig.now ∷ if_named (option_map (λ p. p.now) old.entry)) tree.new) }
     ensures no_other { ReadsSome T.reads tree.old (kconfig.now ∷ dotconfig.now ∷ if_named (option_map (λ p. p.now) old.entry)) tree.new }

@@ -1,3 +1,4 @@
+pub mod Counted
 pub mod Pieces
 pub mod Ahead
 pub mod Filled

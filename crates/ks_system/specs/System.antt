@@ -1,6 +1,10 @@
 -- What a call of an honest system reads or changes.
-use Rattle.std.specs.Prelude.{◌≡◌, ◌≤◌, ◌<◌, ℕ, List, [], ◌∷◌, ◌++◌, Bool, Option, Some, None, length, take, drop}
-use Rattle.ks_tree.specs.Files.{Files, content, SameBut}
+use Rattle.std.specs.Prelude.{◌≡◌, ◌≢◌, ◌≤◌, ◌<◌, ℕ, List, [], ◌∷◌, ◌++◌, Bool, Option, Some, None, Result, Ok, Err, length, take, drop}
+use Rattle.std.specs.declared.io.Error.{Error}
+use Rattle.ks_tree.specs.Files.{Files, HasRisen, content, SameBut}
+use Rattle.ks_system.specs.Errors.{Says}
+use Rattle.ks_system.specs.declared.errors.Meaning.{Meaning}
+use Rattle.ks_system.specs.declared.system.Kind.{Kind}
 use Rattle.ks_system.specs.declared.system.Kind.TheVariants as kind
 use Rattle.ks_system.specs.declared.system.Look.{Look}
 
@@ -17,6 +21,19 @@ pub record Opened : Type 0 where
   pub path : List ℕ
   pub names : ℕ
   pub made : Bool
+
+-- A call that went well leaves the count of failed calls, and one that failed raises it.
+abbrev pub Counts : {V : Type 0} → Result V Error → ℕ → ℕ → Type 0
+Counts (Ok v) before now = now ≡ before
+Counts (Err e) before now = HasRisen before now
+
+-- The same, but that an error of this meaning is an answer, which leaves the count.
+abbrev pub CountsBut : {V : Type 0} → Meaning → Result V Error → ℕ → ℕ → Type 0
+CountsBut meaning result before now = (Says meaning result → now ≡ before) × ((Says meaning result → ⊥) → Counts result before now)
+
+-- Something stands there that is no regular file.
+abbrev pub IsNoFile : Option Kind → Type 0
+IsNoFile found = (k : Kind) × (found ≡ Some k) × (k ≢ kind.File)
 
 -- A file's length, where a file stands there.
 abbrev pub IsLookAt : Option (List ℕ) → Look → Type 0

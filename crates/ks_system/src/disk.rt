@@ -1,11 +1,11 @@
 //! A disk in memory whose calls are short, interrupted or fail by a script. It shows that the contract of `System` can be met, and on it
 //! tests see what no clause says.
-ghost use Rattle.std.specs.Prelude.{◌≡◌, ◌≤◌, ◌<◌, ◌++◌, ◌∷◌, [], length, take, map, true, Some, None, IfOk, OnOk, OnErr, ⊤};
-ghost use Rattle.ks_tree.specs.Files.{IsMoved, SameBut, content};
+ghost use Rattle.std.specs.Prelude.{◌≡◌, ◌≤◌, ◌<◌, ◌++◌, ◌∷◌, List, ℕ, [], length, take, map, option_map, true, Some, None, Err, IfOk, IfSome, OnOk, OnErr, ⊤};
+ghost use Rattle.ks_tree.specs.Files.{HasRisen, IsMoved, SameBut, content};
 ghost use Rattle.ks_system.specs.declared.errors.Meaning.{Meaning};
 ghost use Rattle.ks_system.specs.Errors.{Says, meaning_of};
 ghost use Rattle.ks_system.specs.Disk.{world_of};
-ghost use Rattle.ks_system.specs.System.{IsSomeRead};
+ghost use Rattle.ks_system.specs.System.{Counts, CountsBut, IsSomeRead};
 
 use crate::disk_files::DiskFiles;
 use crate::{Kind, Look, System};
@@ -46,6 +46,7 @@ pub struct ScriptedDisk<'a> {
     alloc: Global,
     script: &'a [Turn],
     calls: usize,
+    faults: u64,
     aged: Vec<Vec<u8>>,
     dated: Vec<Vec<u8>>,
 }
@@ -86,6 +87,7 @@ impl<'a> ScriptedDisk<'a> {
             alloc,
             script,
             calls: 0,
+            faults: 0,
             aged: Vec::new(alloc),
             dated: Vec::new(alloc),
         }
@@ -122,36 +124,114 @@ impl<'a> ScriptedDisk<'a> {
         ensures files { self.new.files ≡ self.old.files }
         ensures aged { self.new.aged ≡ self.old.aged }
         ensures dated { self.new.dated ≡ self.old.dated }
+        ensures faults { self.new.faults ≡ self.old.faults }
     {
         let turn = self.script.get(self.calls).copied().unwrap_or(Turn::Whole);
         self.calls = self.calls.saturating_add(1);
         turn
     }
 
-    /// The next call, as far as it is done at all.
-    fn begin(&mut self) -> io::Result<Turn>
+    /// Counts a call that failed by this error.
+    fn fail<V>(&mut self, error: io::Error) -> io::Result<V>
+        ensures error { result ≡ Err error }
+        ensures counted { HasRisen self.old.faults self.new.faults }
+        ensures files { self.new.files ≡ self.old.files }
+        ensures aged { self.new.aged ≡ self.old.aged }
+        ensures dated { self.new.dated ≡ self.old.dated }
+    {
+        self.faults = self.faults.saturating_add(1);
+        Err(error)
+    }
+
+    /// Some of the bytes, owned: where memory is refused for them, the call has failed.
+    fn owned(&mut self, bytes: &[u8]) -> io::Result<Vec<u8>>
+        ensures bytes { IfOk result (λ v. v.items ≡ bytes.now) }
         ensures missing { Says Meaning.Missing result → ⊥ }
         ensures stands { Says Meaning.Stands result → ⊥ }
+        ensures interrupted { Says Meaning.Interrupted result → ⊥ }
+        ensures counted { Counts result self.old.faults self.new.faults }
+        ensures files { self.new.files ≡ self.old.files }
+        ensures aged { self.new.aged ≡ self.old.aged }
+        ensures dated { self.new.dated ≡ self.old.dated }
+    {
+        match bytes.to_vec(self.alloc) {
+            Ok(bytes) => Ok(bytes),
+            Err(error) => self.fail(io::Error::from(error)),
+        }
+    }
+
+    /// Puts a file at a path, in the place of what was there.
+    fn store(&mut self, path: &[u8], bytes: Vec<u8>) -> io::Result<()>
+        ensures written { OnOk result (content self.new.files path.now ≡ Some bytes.items) }
+        ensures others { SameBut path.now self.old.files self.new.files }
+        ensures refused { OnErr result (self.new.files ≡ self.old.files) }
+        ensures stands { Says Meaning.Stands result → ⊥ }
+        ensures interrupted { Says Meaning.Interrupted result → ⊥ }
+        ensures counted { Counts result self.old.faults self.new.faults }
+        ensures aged { self.new.aged ≡ self.old.aged }
+        ensures dated { self.new.dated ≡ self.old.dated }
+    {
+        let path = self.owned(path)?;
+        match self.files.put(path, bytes) {
+            Ok(()) => Ok(()),
+            Err(error) => self.fail(io::Error::from(error)),
+        }
+    }
+
+    /// The next call, as far as it is done at all, where an interrupted one has not failed.
+    fn begin_piece(&mut self) -> io::Result<Turn>
+        ensures missing { Says Meaning.Missing result → ⊥ }
+        ensures stands { Says Meaning.Stands result → ⊥ }
+        ensures counted { CountsBut Meaning.Interrupted result self.old.faults self.new.faults }
         ensures files { self.new.files ≡ self.old.files }
         ensures aged { self.new.aged ≡ self.old.aged }
         ensures dated { self.new.dated ≡ self.old.dated }
     {
         match self.turn() {
             Turn::Interrupted => Err(interrupted()),
-            Turn::Fails => Err(failed()),
+            Turn::Fails => self.fail(failed()),
             turn => Ok(turn),
         }
     }
 
+    /// The next call, as far as it is done at all.
+    fn begin(&mut self) -> io::Result<Turn>
+        ensures missing { Says Meaning.Missing result → ⊥ }
+        ensures stands { Says Meaning.Stands result → ⊥ }
+        ensures counted { Counts result self.old.faults self.new.faults }
+        ensures files { self.new.files ≡ self.old.files }
+        ensures aged { self.new.aged ≡ self.old.aged }
+        ensures dated { self.new.dated ≡ self.old.dated }
+    {
+        match self.turn() {
+            Turn::Interrupted => self.fail(interrupted()),
+            Turn::Fails => self.fail(failed()),
+            turn => Ok(turn),
+        }
+    }
+
+    /// The bytes of a file and more, if there is one, and memory for them.
+    fn grown(&self, path: &[u8], more: &[u8]) -> Option<Vec<u8>>
+        ensures { IfSome result (λ v. (b : List ℕ) × (content self.now.files path.now ≡ Some b) × (v.items ≡ b ++ more.now)) }
+    {
+        let mut bytes = self.files.get(path)?.to_vec(self.alloc).ok()?;
+        bytes.extend_from_slice(more).ok()?;
+        Some(bytes)
+    }
+
     /// A handle of the file at a path.
-    fn handle(&self, path: &[u8], made: bool) -> io::Result<DiskHandle>
+    fn handle(&mut self, path: &[u8], made: bool) -> io::Result<DiskHandle>
         ensures missing { Says Meaning.Missing result → ⊥ }
         ensures stands { Says Meaning.Stands result → ⊥ }
         ensures path { IfOk result (λ h. h.path.items ≡ path.now) }
         ensures made { IfOk result (λ h. h.made ≡ made) }
+        ensures counted { Counts result self.old.faults self.new.faults }
+        ensures files { self.new.files ≡ self.old.files }
+        ensures aged { self.new.aged ≡ self.old.aged }
+        ensures dated { self.new.dated ≡ self.old.dated }
     {
         Ok(DiskHandle {
-            path: path.to_vec(self.alloc)?,
+            path: self.owned(path)?,
             made,
             is_claimed: false,
         })
@@ -160,6 +240,7 @@ impl<'a> ScriptedDisk<'a> {
 
 impl<'a> System for ScriptedDisk<'a> {
     ghost use Rattle.ks_system.specs.System.{Opened};
+    ghost use Rattle.ks_system.specs.declared.system.Kind.TheVariants as kind;
 
     type Handle = DiskHandle;
 
@@ -174,6 +255,10 @@ impl<'a> System for ScriptedDisk<'a> {
     ghost is_claimed = { λ h. h.is_claimed };
 
     ghost aged = { λ s. map (λ path. path.items) s.aged.items };
+
+    ghost faults = { λ s. s.faults };
+
+    ghost kind_at = { λ s path. option_map (λ b. kind.File) (content s.files path) };
 
     fn place<'p>(&self, _alloc: Global, path: &'p [u8]) -> Result<Option<CowStr<'p>>, AllocError> {
         match str::from_utf8(path) {
@@ -214,26 +299,25 @@ impl<'a> System for ScriptedDisk<'a> {
     }
 
     fn read_at(&mut self, handle: &DiskHandle, offset: u64, into: &mut [u8]) -> io::Result<usize> {
-        let most = match self.begin()? {
+        let most = match self.begin_piece()? {
             Turn::Short(most) => most,
             _ => into.len(),
         };
         match self.files.get(&handle.path) {
             Some(bytes) => Ok(copy_some(bytes, offset, most, into)),
-            None => Err(failed()),
+            None => self.fail(failed()),
         }
     }
 
     fn create_new(&mut self, place: &str) -> io::Result<DiskHandle> {
         if self.begin()? == Turn::NoFolder {
-            return Err(io::Error::from(ErrorKind::NotFound));
+            return self.fail(io::Error::from(ErrorKind::NotFound));
         }
         if self.files.get(place.as_bytes()).is_some() {
             return Err(io::Error::from(ErrorKind::AlreadyExists));
         }
         let handle = self.handle(place.as_bytes(), true)?;
-        let path = place.as_bytes().to_vec(self.alloc)?;
-        self.files.put(path, Vec::new(self.alloc))?;
+        self.store(place.as_bytes(), Vec::new(self.alloc))?;
         Ok(handle)
     }
 
@@ -261,26 +345,25 @@ impl<'a> System for ScriptedDisk<'a> {
     }
 
     fn write(&mut self, handle: &mut DiskHandle, bytes: &[u8]) -> io::Result<usize> {
-        let most = match self.begin()? {
+        let most = match self.begin_piece()? {
             Turn::Short(most) => most.max(1),
             _ => bytes.len(),
         };
         let count = most.min(bytes.len());
-        let Some(old) = self.files.get(&handle.path) else {
-            return Err(failed());
-        };
-        let mut new = old.to_vec(self.alloc)?;
-        new.extend_from_slice(&bytes[..count])?;
-        let path = handle.path.as_slice().to_vec(self.alloc)?;
-        self.files.put(path, new)?;
+        match self.grown(handle.path.as_slice(), &bytes[..count]) {
+            Some(new) => self.store(handle.path.as_slice(), new)?,
+            None => return self.fail(failed()),
+        }
         Ok(count)
     }
 
     fn date(&mut self, handle: &DiskHandle) -> io::Result<()> {
         self.begin()?;
-        let path = handle.path.as_slice().to_vec(self.alloc)?;
-        self.dated.push(path)?;
-        Ok(())
+        let path = self.owned(handle.path.as_slice())?;
+        match self.dated.push(path) {
+            Ok(()) => Ok(()),
+            Err(error) => self.fail(io::Error::from(error)),
+        }
     }
 
     fn age(&mut self, place: &str, _file: Option<DiskHandle>) -> io::Result<()>
@@ -288,11 +371,14 @@ impl<'a> System for ScriptedDisk<'a> {
         ensures failed { OnErr result (map (λ path. path.items) self.new.aged.items ≡ map (λ path. path.items) self.old.aged.items) }
         ensures unchanged { world_of self.new.files (map (λ path. path.items) self.new.dated.items)
             ≡ world_of self.old.files (map (λ path. path.items) self.old.dated.items) }
+        ensures faults { Counts result self.old.faults self.new.faults }
     {
         self.begin()?;
-        let path = place.as_bytes().to_vec(self.alloc)?;
-        self.aged.push(path)?;
-        Ok(())
+        let path = self.owned(place.as_bytes())?;
+        match self.aged.push(path) {
+            Ok(()) => Ok(()),
+            Err(error) => self.fail(io::Error::from(error)),
+        }
     }
 
     fn remove_file(&mut self, place: &str) -> io::Result<()> {
@@ -302,17 +388,15 @@ impl<'a> System for ScriptedDisk<'a> {
     }
 
     fn remove_folder(&mut self, _place: &str) -> io::Result<()> {
-        Err(failed())
+        self.fail(failed())
     }
 
     fn rename(&mut self, from: &str, to: &str) -> io::Result<()> {
         self.begin()?;
-        let Some(bytes) = self.files.get(from.as_bytes()) else {
-            return Err(failed());
-        };
-        let bytes = bytes.to_vec(self.alloc)?;
-        let path = to.as_bytes().to_vec(self.alloc)?;
-        self.files.put(path, bytes)?;
+        match self.grown(from.as_bytes(), b"") {
+            Some(bytes) => self.store(to.as_bytes(), bytes)?,
+            None => return self.fail(failed()),
+        }
         self.files.remove(from.as_bytes());
         Ok(())
     }

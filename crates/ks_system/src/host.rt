@@ -1,6 +1,6 @@
 //! The system itself, below a folder. Each call is passed on to std, and no contract says what the system then does: that it acts as
 //! `System` has it is the premise under which the theorems are read for a folder. Where a path stands is proved.
-ghost use Rattle.std.specs.Prelude.{◌≡◌, [], false, true, IfOk, IsNone, IsOk, MatchOption, IsUtf8, string_bytes};
+ghost use Rattle.std.specs.Prelude.{◌≡◌, [], None, false, true, IfOk, IsNone, IsOk, MatchOption, IsUtf8, string_bytes};
 ghost use Rattle.std.specs.Cow.{cow_str_bytes};
 ghost use Rattle.std.specs.FinMap as map;
 ghost use Rattle.std.specs.Fs.{asks_create_new};
@@ -93,6 +93,10 @@ where
     ghost is_claimed = { λ h. true };
 
     ghost aged = { λ s. [] };
+
+    ghost faults = { λ s. 0 };
+
+    ghost kind_at = { λ s path. None };
 
     fn place<'a>(&self, alloc: Global, path: &'a [u8]) -> Result<Option<CowStr<'a>>, AllocError>
         ensures { IfOk result (λ found. MatchOption found (IsUtf8 path.now → ⊥)

@@ -1,9 +1,10 @@
 //! The calls of the system that a folder's tree makes, by what an honest system does: each may be short, interrupted, or fail, as
 //! POSIX has it. Which files there are, and which of them a handle has, are ghosts.
-ghost use Rattle.std.specs.Prelude.{◌≡◌, ◌≢◌, ◌≤◌, ◌++◌, ◌∷◌, ℕ, List, [], Bool, length, take, Some, None, IsSome, IfSome, IfOk, OnOk, OnErr, MatchOption, IsTrue, true, false};
+ghost use Rattle.std.specs.Prelude.{◌≡◌, ◌≢◌, ◌≤◌, ◌++◌, ◌∷◌, ℕ, List, [], Bool, length, take, Some, None, IsSome, IfOk, OnOk, OnErr, MatchOption, IsTrue, IsUtf8, true, false, Option};
 ghost use Rattle.std.specs.Cow.{cow_str_bytes};
 ghost use Rattle.ks_tree.specs.Files.{content, SameBut, IsMoved};
 ghost use Rattle.ks_system.specs.declared.errors.Meaning.{Meaning};
+ghost use Rattle.ks_system.specs.declared.system.Kind.{Kind};
 
 use std::alloc::{AllocError, Global};
 use std::borrow::CowStr;
@@ -34,7 +35,7 @@ pub struct Look {
 /// Files of a system by their places. A place is text: where a path stands.
 pub trait System {
     ghost use Rattle.ks_system.specs.Errors.{Says};
-    ghost use Rattle.ks_system.specs.System.{World, Opened, IsLookAt, IsSomeReadAt, IsMade, IsAppended, dated_also};
+    ghost use Rattle.ks_system.specs.System.{World, Opened, Counts, CountsBut, IsLookAt, IsSomeReadAt, IsMade, IsAppended, dated_also};
 
     /// An open file.
     type Handle: Drop;
@@ -57,21 +58,30 @@ pub trait System {
     /// The paths whose files were made older than all others, in turn.
     ghost aged: { Self → List (List ℕ) };
 
-    /// Where a path stands, or `None` where it stands nowhere.
+    /// How many of its calls have failed, up to the greatest `u64`.
+    ghost faults: { Self → ℕ };
+
+    /// What stands at a path, behind a link too, if anything does.
+    ghost kind_at: { Self → List ℕ → Option Kind };
+
+    /// Where a path stands, or `None` where it stands nowhere, since it is no text.
     fn place<'a>(&self, alloc: Global, path: &'a [u8]) -> Result<Option<CowStr<'a>>, AllocError>
-        ensures { is_honest → IfOk result (λ found. IfSome found (λ place. path_at (cow_str_bytes place) ≡ path.now)) };
+        ensures { is_honest → IfOk result (λ found. MatchOption found (IsUtf8 path.now → ⊥) (λ place. path_at (cow_str_bytes place) ≡ path.now)) };
 
     /// Looks at what stands at a place, behind a link too.
     fn look(&mut self, place: &str) -> io::Result<Look>
         ensures seen { is_honest → IfOk result (IsLookAt (content (world self.old).files (path_at place.now))) }
+        ensures kind { is_honest → IfOk result (λ look. kind_at self.old (path_at place.now) ≡ Some look.kind) }
         ensures missing { is_honest → Says Meaning.Missing result → content (world self.old).files (path_at place.now) ≡ None }
         ensures unchanged { is_honest → world self.new ≡ world self.old }
-        ensures kept { aged self.new ≡ aged self.old };
+        ensures kept { aged self.new ≡ aged self.old }
+        ensures faults { is_honest → CountsBut Meaning.Missing result (faults self.old) (faults self.new) };
 
     /// What stands at a place, where a link is not followed.
     fn kind(&mut self, place: &str) -> io::Result<Kind>
         ensures unchanged { is_honest → world self.new ≡ world self.old }
-        ensures kept { aged self.new ≡ aged self.old };
+        ensures kept { aged self.new ≡ aged self.old }
+        ensures faults { is_honest → CountsBut Meaning.Missing result (faults self.old) (faults self.new) };
 
     /// Opens a file to be read.
     fn open(&mut self, place: &str) -> io::Result<Self::Handle>
@@ -79,12 +89,14 @@ pub trait System {
         ensures there { is_honest → OnOk result (IsSome (content (world self.old).files (path_at place.now))) }
         ensures missing { is_honest → Says Meaning.Missing result → content (world self.old).files (path_at place.now) ≡ None }
         ensures unchanged { is_honest → world self.new ≡ world self.old }
-        ensures kept { aged self.new ≡ aged self.old };
+        ensures kept { aged self.new ≡ aged self.old }
+        ensures faults { is_honest → CountsBut Meaning.Missing result (faults self.old) (faults self.new) };
 
     /// Opens what is left over at a place, to claim it.
     fn open_left_over(&mut self, place: &str) -> io::Result<Self::Handle>
         ensures unchanged { is_honest → world self.new ≡ world self.old }
-        ensures kept { aged self.new ≡ aged self.old };
+        ensures kept { aged self.new ≡ aged self.old }
+        ensures faults { is_honest → CountsBut Meaning.Missing result (faults self.old) (faults self.new) };
 
     /// Reads some bytes from an offset on, maybe fewer than there is room for, but none only at the end.
     fn read_at(&mut self, handle: &Self::Handle, offset: u64, into: &mut [u8]) -> io::Result<usize>
@@ -94,7 +106,8 @@ pub trait System {
         ensures room { length into.new ≡ length into.old }
         ensures interrupted { is_honest → Says Meaning.Interrupted result → into.new ≡ into.old }
         ensures unchanged { is_honest → world self.new ≡ world self.old }
-        ensures kept { aged self.new ≡ aged self.old };
+        ensures kept { aged self.new ≡ aged self.old }
+        ensures faults { is_honest → CountsBut Meaning.Interrupted result (faults self.old) (faults self.new) };
 
     /// Makes an empty file where nothing stands, and opens it to be written.
     fn create_new(&mut self, place: &str) -> io::Result<Self::Handle>
@@ -103,29 +116,34 @@ pub trait System {
         ensures stands { is_honest → Says Meaning.Stands result → IsSome (content (world self.old).files (path_at place.now)) }
         ensures dated { is_honest → (world self.new).dated ≡ (world self.old).dated }
         ensures failed { is_honest → OnErr result (world self.new ≡ world self.old) }
-        ensures kept { aged self.new ≡ aged self.old };
+        ensures kept { aged self.new ≡ aged self.old }
+        ensures faults { is_honest → CountsBut Meaning.Stands result (faults self.old) (faults self.new) };
 
     /// Makes the folders above a place that are missing.
     fn make_folders(&mut self, place: &str) -> io::Result<()>
         ensures unchanged { is_honest → world self.new ≡ world self.old }
-        ensures kept { aged self.new ≡ aged self.old };
+        ensures kept { aged self.new ≡ aged self.old }
+        ensures faults { is_honest → Counts result (faults self.old) (faults self.new) };
 
     /// Whether no other program has claimed the file. From now on this program has, until it closes it.
     fn claim(&mut self, handle: &mut Self::Handle) -> bool
         ensures claimed { IsTrue result → is_claimed handle.new ≡ true }
         ensures opened { opened handle.new ≡ opened handle.old }
         ensures unchanged { is_honest → world self.new ≡ world self.old }
-        ensures kept { aged self.new ≡ aged self.old };
+        ensures kept { aged self.new ≡ aged self.old }
+        ensures faults { is_honest → faults self.new ≡ faults self.old };
 
     /// Whether the file still has a name.
     fn has_a_name(&mut self, handle: &Self::Handle) -> io::Result<bool>
         ensures unchanged { is_honest → world self.new ≡ world self.old }
-        ensures kept { aged self.new ≡ aged self.old };
+        ensures kept { aged self.new ≡ aged self.old }
+        ensures faults { is_honest → Counts result (faults self.old) (faults self.new) };
 
     /// Whether the file is the one that stands at a place, where a link is not followed.
     fn is_at(&mut self, handle: &Self::Handle, place: &str) -> io::Result<bool>
         ensures unchanged { is_honest → world self.new ≡ world self.old }
-        ensures kept { aged self.new ≡ aged self.old };
+        ensures kept { aged self.new ≡ aged self.old }
+        ensures faults { is_honest → Counts result (faults self.old) (faults self.new) };
 
     /// Writes some of the bytes at the end of a file that the handle made, maybe not all, and tells how many.
     fn write(&mut self, handle: &mut Self::Handle, bytes: &[u8]) -> io::Result<usize>
@@ -138,13 +156,15 @@ pub trait System {
         ensures failed { is_honest → OnErr result (world self.new ≡ world self.old) }
         ensures opened { opened handle.new ≡ opened handle.old }
         ensures claimed { is_claimed handle.new ≡ is_claimed handle.old }
-        ensures kept { aged self.new ≡ aged self.old };
+        ensures kept { aged self.new ≡ aged self.old }
+        ensures faults { is_honest → CountsBut Meaning.Interrupted result (faults self.old) (faults self.new) };
 
     /// Gives a new file a time long past.
     fn date(&mut self, handle: &Self::Handle) -> io::Result<()>
         ensures dated { is_honest → OnOk result (world self.new ≡ dated_also (world self.old) (opened handle.now).path) }
         ensures failed { is_honest → OnErr result (world self.new ≡ world self.old) }
-        ensures kept { aged self.new ≡ aged self.old };
+        ensures kept { aged self.new ≡ aged self.old }
+        ensures faults { is_honest → Counts result (faults self.old) (faults self.new) };
 
     /// Makes the file that was opened at a place older than all others. Where there is none, nothing happens to it, and all is well too.
     fn age(&mut self, place: &str, file: Option<Self::Handle>) -> io::Result<()>
@@ -152,7 +172,8 @@ pub trait System {
             (λ h. (opened h).path ≡ path_at place.now) }
         ensures aged { is_honest → OnOk result (aged self.new ≡ aged self.old ++ path_at place.now ∷ []) }
         ensures failed { is_honest → OnErr result (aged self.new ≡ aged self.old) }
-        ensures unchanged { is_honest → world self.new ≡ world self.old };
+        ensures unchanged { is_honest → world self.new ≡ world self.old }
+        ensures faults { is_honest → Counts result (faults self.old) (faults self.new) };
 
     /// Removes a file, a link, a pipe or a socket.
     fn remove_file(&mut self, place: &str) -> io::Result<()>
@@ -160,12 +181,14 @@ pub trait System {
         ensures others { is_honest → SameBut (path_at place.now) (world self.old).files (world self.new).files }
         ensures dated { is_honest → (world self.new).dated ≡ (world self.old).dated }
         ensures failed { is_honest → OnErr result (world self.new ≡ world self.old) }
-        ensures kept { aged self.new ≡ aged self.old };
+        ensures kept { aged self.new ≡ aged self.old }
+        ensures faults { is_honest → CountsBut Meaning.Missing result (faults self.old) (faults self.new) };
 
     /// Removes an empty folder.
     fn remove_folder(&mut self, place: &str) -> io::Result<()>
         ensures unchanged { is_honest → world self.new ≡ world self.old }
-        ensures kept { aged self.new ≡ aged self.old };
+        ensures kept { aged self.new ≡ aged self.old }
+        ensures faults { is_honest → Counts result (faults self.old) (faults self.new) };
 
     /// Moves a file, in the place of what was there.
     fn rename(&mut self, from: &str, to: &str) -> io::Result<()>
@@ -174,5 +197,6 @@ pub trait System {
         ensures moved { is_honest → OnOk result (IsMoved (path_at from.now) (path_at to.now) (world self.old).files (world self.new).files) }
         ensures dated { is_honest → (world self.new).dated ≡ (world self.old).dated }
         ensures failed { is_honest → OnErr result (world self.new ≡ world self.old) }
-        ensures kept { aged self.new ≡ aged self.old };
+        ensures kept { aged self.new ≡ aged self.old }
+        ensures faults { is_honest → Counts result (faults self.old) (faults self.new) };
 }

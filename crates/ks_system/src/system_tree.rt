@@ -3,11 +3,12 @@
 //!
 //! Only the system's "no such file" counts as a missing file. A folder, a file in the place of a folder, and every other
 //! failure are `Device`, since a build that takes an unreadable file for a missing one would call objects fresh.
-ghost use Rattle.std.specs.Prelude.{◌≡◌, ◌≢◌, ◌⊎◌, ◌≤◌, ◌+◌, ◌++◌, ◌∷◌, ℕ, List, [], Bool, true, is_some, min, length, take, drop, Some, None, IsSome, IfErr, IfOk, IfSome, OnOk, OnErr, IsErrOf, MatchOption, option_map, string_bytes};
+ghost use Rattle.std.specs.Prelude.{◌≡◌, ◌≢◌, ◌⊎◌, ◌≤◌, ◌+◌, ◌++◌, ◌∷◌, ℕ, List, [], Bool, true, is_some, min, length, take, drop, Some, None, IsSome, IfErr, IfOk, IfSome, OnOk, OnErr, IsErrOf, MatchOption, IsUtf8, option_map, string_bytes};
 ghost use Rattle.std.proofs.Props.{props};
 ghost use Rattle.ks_symbols.specs.Lines.{max_bytes};
 ghost use Rattle.ks_tree.specs.declared.fault.TreeFault.{TreeFault};
 ghost use Rattle.ks_tree.specs.Files.{HasRisen, IsHalfCreated, IsMoved, IsReadAt, IsTooLarge, SameBut, content, kept_or};
+ghost use Rattle.ks_system.specs.System.{IsNoFile};
 ghost use Rattle.ks_system.specs.Reading.{IsAheadOf};
 
 use crate::errors::found_of;
@@ -162,6 +163,8 @@ impl<S: System + Drop> SystemTree<S> {
         ensures passed { OnOk result (self.new.failures ≡ self.old.failures) }
         ensures uncounted { IsErrOf result TreeFault.OutOfMemory → self.new.failures ≡ self.old.failures }
         ensures never { IsErrOf result TreeFault.TooLarge → ⊥ }
+        ensures unfailed { S.is_honest → OnOk result (S.faults self.new.system ≡ S.faults self.old.system) }
+        ensures due { S.is_honest → IsErrOf result TreeFault.Device → HasRisen (S.faults self.old.system) (S.faults self.new.system) ⊎ (IsUtf8 path.now → ⊥) }
     {
         let mut earlier = None;
         if let Some(kept) = self.kept.take() {
@@ -337,6 +340,8 @@ impl<S: System + Drop> Tree for SystemTree<S> {
         ensures undated { S.is_honest → (S.world self.new.system).dated ≡ (S.world self.old.system).dated }
         ensures forgotten { self.new.held ≡ None }
         ensures told { IsErrOf result TreeFault.Device → IfSome self.new.last_fault (λ fault. string_bytes fault.path ≡ to.now) }
+        ensures due { S.is_honest → IsErrOf result TreeFault.Device → HasRisen (S.faults self.old.system) (S.faults self.new.system)
+            ⊎ ((IsUtf8 from.now → ⊥) ⊎ (IsUtf8 to.now → ⊥)) }
     {
         self.forget_readings();
         let Some(old) = self.system.place(alloc, from)? else {
@@ -367,6 +372,8 @@ fn open_to_age<S: System>(system: &mut S, place: &str) -> io::Result<Option<S::H
         (λ h. (S.opened h).path ≡ S.path_at place.now)) }
     ensures unchanged { S.is_honest → S.world system.new ≡ S.world system.old }
     ensures kept { S.aged system.new ≡ S.aged system.old }
+    ensures passed { S.is_honest → OnOk result (S.faults system.new ≡ S.faults system.old) }
+    ensures cause { S.is_honest → OnErr result (HasRisen (S.faults system.old) (S.faults system.new) ⊎ IsNoFile (S.kind_at system.old (S.path_at place.now))) }
 {
     let Some(look) = found_of(system.look(place))? else {
         return Ok(None);
@@ -382,6 +389,7 @@ fn age_file<S: System>(system: &mut S, place: &str) -> io::Result<()>
     ensures aged { S.is_honest → OnOk result (S.aged system.new ≡ S.aged system.old ++ S.path_at place.now ∷ []) }
     ensures failed { S.is_honest → OnErr result (S.aged system.new ≡ S.aged system.old) }
     ensures unchanged { S.is_honest → S.world system.new ≡ S.world system.old }
+    ensures cause { S.is_honest → OnErr result (HasRisen (S.faults system.old) (S.faults system.new) ⊎ IsNoFile (S.kind_at system.old (S.path_at place.now))) }
 {
     let file = open_to_age(system, place)?;
     system.age(place, file)
@@ -400,10 +408,12 @@ impl<S: System + Drop> Aging for SystemTree<S> {
         ensures passed { OnOk result (self.new.failures ≡ self.old.failures) }
         ensures uncounted { IsErrOf result TreeFault.OutOfMemory → self.new.failures ≡ self.old.failures }
         ensures cause { IsErrOf result TreeFault.Device → HasRisen self.old.failures self.new.failures }
-        // Of the files that were made, the claim, and what is told.
+        // Of the files that were made, the claim, what is told, and what a failure comes of.
         ensures undated { S.is_honest → (S.world self.new.system).dated ≡ (S.world self.old.system).dated }
         ensures claim { self.new.written ≡ self.old.written }
         ensures told { IsErrOf result TreeFault.Device → IfSome self.new.last_fault (λ fault. string_bytes fault.path ≡ path.now) }
+        ensures due { S.is_honest → IsErrOf result TreeFault.Device → HasRisen (S.faults self.old.system) (S.faults self.new.system)
+            ⊎ ((IsUtf8 path.now → ⊥) ⊎ IsNoFile (S.kind_at self.old.system path.now)) }
     {
         let Some(place) = self.system.place(alloc, path)? else {
             return Err(self.device());

@@ -1,0 +1,21 @@
+-- What a call that went well, or failed, did to the count of failed calls.
+use Rattle.std.proofs.Common.{◌≡◌, ◌⊎◌, ℕ, Result, Ok, Err, OnErr, subst, inl, rules}
+use Rattle.std.specs.declared.io.Error.{Error}
+use Rattle.ks_tree.specs.Files.{HasRisen}
+use Rattle.ks_system.specs.System.{Counts}
+
+pub passed : {V : Type 0} (r : Result V Error) (v : V) (before now : ℕ) → r ≡ Ok v → Counts r before now → now ≡ before
+passed r v before now is counts = subst (λ r. Counts r before now) is counts
+
+pub failed : {V : Type 0} (r : Result V Error) (e : Error) (before now : ℕ) → r ≡ Err e → Counts r before now → HasRisen before now
+failed r e before now is counts = subst (λ r. Counts r before now) is counts
+
+-- a failure has this cause, or another
+pub cause : {V : Type 0} (r : Result V Error) (before middle now : ℕ) (other : Type 0) → middle ≡ before → Counts r middle now
+    → OnErr r (HasRisen before now ⊎ other)
+cause (Ok v) before middle now other same counts = search rules
+cause (Err e) before middle now other same counts = inl (subst (λ n. HasRisen n now) same counts)
+
+pub caused : {V : Type 0} (r : Result V Error) (before now : ℕ) (other : Type 0) → HasRisen before now → OnErr r (HasRisen before now ⊎ other)
+caused (Ok v) before now other risen = search rules
+caused (Err e) before now other risen = inl risen

@@ -19,3 +19,7 @@ cause (Err e) before middle now other same counts = inl (subst (λ n. HasRisen n
 pub caused : {V : Type 0} (r : Result V Error) (before now : ℕ) (other : Type 0) → HasRisen before now → OnErr r (HasRisen before now ⊎ other)
 caused (Ok v) before now other risen = search rules
 caused (Err e) before now other risen = inl risen
+
+pub failed_after : {V : Type 0} (r : Result V Error) (e : Error) (before middle now : ℕ) → r ≡ Err e → middle ≡ before → Counts r middle now
+    → HasRisen before now
+failed_after r e before middle now is same counts = subst (λ n. HasRisen n now) same (failed r e middle now is counts)

@@ -1,5 +1,9 @@
 -- What was read of a file, in turn, and before it was asked for.
-use Rattle.std.specs.Prelude.{◌≡◌, ◌≤◌, ℕ, List, [], true, Option, Some, is_some, length, take, drop}
+use Rattle.std.specs.Prelude.{◌≡◌, ◌≤◌, ℕ, List, [], Bool, true, false, Option, Some, Result, Ok, Err, is_some, length, take, drop, ⊤}
+use Rattle.ks_system.specs.declared.fault.ReadFault.{ReadFault}
+use Rattle.ks_system.specs.declared.fault.ReadFault.TheVariants.{System}
+use Rattle.ks_system.specs.declared.system.Kind.{Kind}
+use Rattle.ks_system.specs.declared.system.Kind.TheVariants as kind
 
 -- What was read so far is a beginning of the file.
 pub record IsReadTo (file : Option (List ℕ)) (read : List ℕ) : Type 0 where
@@ -19,3 +23,19 @@ nothing_of path offset = record { path = path; offset = offset; bytes = [] }
 -- What was read ahead are bytes of a file that is there, from its offset on.
 abbrev pub IsAheadOf : Option (List ℕ) → Ahead → Type 0
 IsAheadOf file ahead = (is_some file ≡ true) × ((b : List ℕ) → file ≡ Some b → ahead.bytes ≡ take (length ahead.bytes) (drop ahead.offset b))
+
+-- It is read to its end without waiting for anybody.
+abbrev pub has_an_end : Kind → Bool
+has_an_end kind.File = true
+has_an_end kind.Disk = true
+has_an_end kind.Null = true
+has_an_end _ = false
+
+abbrev pub HasNoEnd : Kind → Type 0
+HasNoEnd found = has_an_end found ≡ false
+
+-- Nothing was read since the system failed, and not for the length or for want of memory.
+abbrev pub IsOfSystem : {V : Type 0} → Result V ReadFault → Type 0
+IsOfSystem (Ok v) = ⊥
+IsOfSystem (Err (System e)) = ⊤
+IsOfSystem (Err _) = ⊥

@@ -1,5 +1,5 @@
 -- What a call of an honest system reads or changes.
-use Rattle.std.specs.Prelude.{◌≡◌, ◌≢◌, ◌≤◌, ◌<◌, ℕ, List, [], ◌∷◌, ◌++◌, Bool, Option, Some, None, Result, Ok, Err, length, take, drop}
+use Rattle.std.specs.Prelude.{◌≡◌, ◌≢◌, ◌⊎◌, ◌≤◌, ◌<◌, ℕ, List, [], ◌∷◌, ◌++◌, Bool, Option, Some, None, Result, Ok, Err, length, take, drop}
 use Rattle.std.specs.declared.io.Error.{Error}
 use Rattle.ks_tree.specs.Files.{Files, HasRisen, content, SameBut}
 use Rattle.ks_system.specs.Errors.{Says}
@@ -30,6 +30,10 @@ Counts (Err e) before now = HasRisen before now
 -- The same, but that an error of this meaning is an answer, which leaves the count.
 abbrev pub CountsBut : {V : Type 0} → Meaning → Result V Error → ℕ → ℕ → Type 0
 CountsBut meaning result before now = (Says meaning result → now ≡ before) × ((Says meaning result → ⊥) → Counts result before now)
+
+-- A call failed, or signals interrupted calls up to the end of their count.
+abbrev pub HasFailed : ℕ → ℕ → ℕ → Type 0
+HasFailed before now signals = HasRisen before now ⊎ (18446744073709551615 ≤ signals)
 
 -- Something stands there that is no regular file.
 abbrev pub IsNoFile : Option Kind → Type 0

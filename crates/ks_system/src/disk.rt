@@ -47,6 +47,7 @@ pub struct ScriptedDisk<'a> {
     script: &'a [Turn],
     calls: usize,
     faults: u64,
+    signals: u64,
     aged: Vec<Vec<u8>>,
     dated: Vec<Vec<u8>>,
 }
@@ -88,6 +89,7 @@ impl<'a> ScriptedDisk<'a> {
             script,
             calls: 0,
             faults: 0,
+            signals: 0,
             aged: Vec::new(alloc),
             dated: Vec::new(alloc),
         }
@@ -125,6 +127,7 @@ impl<'a> ScriptedDisk<'a> {
         ensures aged { self.new.aged ≡ self.old.aged }
         ensures dated { self.new.dated ≡ self.old.dated }
         ensures faults { self.new.faults ≡ self.old.faults }
+        ensures signals { self.new.signals ≡ self.old.signals }
     {
         let turn = self.script.get(self.calls).copied().unwrap_or(Turn::Whole);
         self.calls = self.calls.saturating_add(1);
@@ -183,12 +186,16 @@ impl<'a> ScriptedDisk<'a> {
         ensures missing { Says Meaning.Missing result → ⊥ }
         ensures stands { Says Meaning.Stands result → ⊥ }
         ensures counted { CountsBut Meaning.Interrupted result self.old.faults self.new.faults }
+        ensures signals { Says Meaning.Interrupted result → HasRisen self.old.signals self.new.signals }
         ensures files { self.new.files ≡ self.old.files }
         ensures aged { self.new.aged ≡ self.old.aged }
         ensures dated { self.new.dated ≡ self.old.dated }
     {
         match self.turn() {
-            Turn::Interrupted => Err(interrupted()),
+            Turn::Interrupted => {
+                self.signals = self.signals.saturating_add(1);
+                Err(interrupted())
+            }
             Turn::Fails => self.fail(failed()),
             turn => Ok(turn),
         }
@@ -257,6 +264,8 @@ impl<'a> System for ScriptedDisk<'a> {
     ghost aged = { λ s. map (λ path. path.items) s.aged.items };
 
     ghost faults = { λ s. s.faults };
+
+    ghost signals = { λ s. s.signals };
 
     ghost kind_at = { λ s path. option_map (λ b. kind.File) (content s.files path) };
 

@@ -96,6 +96,8 @@ where
 
     ghost faults = { λ s. 0 };
 
+    ghost signals = { λ s. 0 };
+
     ghost kind_at = { λ s path. None };
 
     fn place<'a>(&self, alloc: Global, path: &'a [u8]) -> Result<Option<CowStr<'a>>, AllocError>

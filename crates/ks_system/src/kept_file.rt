@@ -1,9 +1,9 @@
 //! A file that is asked for in small pieces, and read from the system in larger ones: a system call costs more than a copy of what it
 //! reads. The room is made once for all files, and never cleared in between. The bytes of one file and offset are never given for
 //! another.
-ghost use Rattle.std.specs.Prelude.{◌≡◌, ◌≢◌, ◌↔◌, ◌≤◌, ◌<◌, ◌+◌, ◌++◌, ℕ, List, [], Option, Some, min, length, take, drop, IfOk, IsTrue, OnOk};
+ghost use Rattle.std.specs.Prelude.{◌≡◌, ◌≢◌, ◌⊎◌, ◌↔◌, ◌≤◌, ◌<◌, ◌+◌, ◌++◌, ℕ, List, [], Option, Some, min, length, take, drop, IfOk, IsTrue, OnErr, OnOk};
 ghost use Rattle.ks_tree.specs.Files.{IsReadAt, content};
-ghost use Rattle.ks_system.specs.System.{IsSomeReadAt};
+ghost use Rattle.ks_system.specs.System.{HasFailed, IsSomeReadAt};
 ghost use Rattle.ks_system.specs.Reading.{IsAheadOf, nothing_of};
 
 use crate::System;
@@ -133,6 +133,9 @@ impl ReadAhead {
         ensures offset { self.new.offset ≡ self.old.offset }
         ensures unchanged { S.is_honest → S.world system.new ≡ S.world system.old }
         ensures kept { S.aged system.new ≡ S.aged system.old }
+        ensures passed { S.is_honest → OnOk result (S.faults system.new ≡ S.faults system.old) }
+        ensures cause { S.is_honest → OnErr result (HasFailed (S.faults system.old) (S.faults system.new) (S.signals system.new)
+            ⊎ (18446744073709551615 < self.old.offset)) }
     {
         let Some(offset) = self.base.checked_add(self.start as u64) else {
             return Err(io::Error::new(ErrorKind::FileTooLarge, "No such offset"));
@@ -193,6 +196,9 @@ impl<S: System> KeptFile<S> {
         ensures file { self.new.file ≡ self.old.file }
         ensures unchanged { S.is_honest → S.world system.new ≡ S.world system.old }
         ensures kept { S.aged system.new ≡ S.aged system.old }
+        ensures passed { S.is_honest → OnOk result (S.faults system.new ≡ S.faults system.old) }
+        ensures cause { S.is_honest → OnErr result (HasFailed (S.faults system.old) (S.faults system.new) (S.signals system.new)
+            ⊎ (18446744073709551615 < self.old.ahead.offset)) }
     {
         if self.ahead.is_empty() {
             self.ahead.fill(system, &self.file)?;
@@ -213,6 +219,9 @@ impl<S: System> KeptFile<S> {
         ensures file { self.new.file ≡ self.old.file }
         ensures unchanged { S.is_honest → S.world system.new ≡ S.world system.old }
         ensures kept { S.aged system.new ≡ S.aged system.old }
+        ensures passed { S.is_honest → OnOk result (S.faults system.new ≡ S.faults system.old) }
+        ensures cause { S.is_honest → OnErr result (HasFailed (S.faults system.old) (S.faults system.new) (S.signals system.new)
+            ⊎ (18446744073709551615 < self.old.ahead.offset)) }
     {
         self.refill(system)?;
         Ok(self.ahead.serve(into))
@@ -230,6 +239,8 @@ impl<S: System> KeptFile<S> {
         ensures file { self.new.file ≡ self.old.file }
         ensures unchanged { S.is_honest → S.world system.new ≡ S.world system.old }
         ensures kept { S.aged system.new ≡ S.aged system.old }
+        ensures cause { S.is_honest → OnErr result (HasFailed (S.faults system.old) (S.faults system.new) (S.signals system.new)
+            ⊎ (18446744073709551615 < offset + length into.old)) }
     {
         self.ahead.go_to(offset);
         let mut given = 0;

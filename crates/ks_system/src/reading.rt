@@ -1,10 +1,11 @@
 //! Reading by a handle. Neither a short read nor an interrupted one is taken for the end: otherwise a symbol that stands further on in
 //! a file would be missed, and an object called fresh.
-ghost use Rattle.std.specs.Prelude.{◌≡◌, ◌≤◌, ◌<◌, ℕ, List, Some, None, Ok, IsSome, IfOk, IsErrOf, OnOk, IfSome, Option, length, take, option_map};
+ghost use Rattle.std.specs.Prelude.{◌≡◌, ◌⊎◌, ◌≤◌, ◌<◌, ℕ, List, Some, None, Ok, IsSome, IfOk, IsErrOf, OnOk, OnErr, IfSome, Option, length, take, option_map};
 ghost use Rattle.ks_symbols.specs.Lines.{max_bytes};
 ghost use Rattle.ks_tree.specs.Files.{IsTooLarge, content};
-ghost use Rattle.ks_system.specs.System.{IsLookAt, IsSomeReadAt};
-ghost use Rattle.ks_system.specs.Reading.{IsReadTo};
+ghost use Rattle.ks_system.specs.System.{HasFailed, IsLookAt, IsSomeReadAt};
+ghost use Rattle.ks_system.specs.Reading.{IsReadTo, HasNoEnd, IsOfSystem, has_an_end};
+ghost use Rattle.ks_system.specs.declared.system.Kind.{Kind};
 ghost use Rattle.ks_system.specs.declared.fault.ReadFault.{ReadFault};
 
 use crate::errors::{Meaning, found_of, meaning_of};
@@ -45,6 +46,8 @@ pub(crate) fn read_some<S: System>(
     ensures room { length into.new ≡ length into.old }
     ensures unchanged { S.is_honest → S.world system.new ≡ S.world system.old }
     ensures kept { S.aged system.new ≡ S.aged system.old }
+    ensures passed { S.is_honest → OnOk result (S.faults system.new ≡ S.faults system.old) }
+    ensures cause { S.is_honest → OnErr result (HasFailed (S.faults system.old) (S.faults system.new) (S.signals system.new)) }
 {
     for _ in 0..u64::MAX {
         match system.read_at(handle, offset, into) {
@@ -70,6 +73,8 @@ pub(crate) fn fill<S: System>(
     ensures room { length into.new ≡ length into.old }
     ensures unchanged { S.is_honest → S.world system.new ≡ S.world system.old }
     ensures kept { S.aged system.new ≡ S.aged system.old }
+    ensures passed { S.is_honest → OnOk result (S.faults system.new ≡ S.faults system.old) }
+    ensures cause { S.is_honest → OnErr result (HasFailed (S.faults system.old) (S.faults system.new) (S.signals system.new)) }
 {
     let mut given = 0;
     for _ in 0..u64::MAX {
@@ -101,6 +106,7 @@ fn read_rest<S: System>(
     ensures too_large { S.is_honest → IsErrOf result ReadFault.TooLarge → IsTooLarge (content (S.world system.old).files (S.opened handle.now).path) }
     ensures unchanged { S.is_honest → S.world system.new ≡ S.world system.old }
     ensures kept { S.aged system.new ≡ S.aged system.old }
+    ensures cause { S.is_honest → IsOfSystem result → HasFailed (S.faults system.old) (S.faults system.new) (S.signals system.new) }
 {
     for _ in 0..u64::MAX {
         let count = read_some(system, handle, bytes.len() as u64, room)?;
@@ -131,6 +137,7 @@ fn read_opened<S: System>(
     ensures too_large { S.is_honest → IsErrOf result ReadFault.TooLarge → IsTooLarge (content (S.world system.old).files (S.opened handle.now).path) }
     ensures unchanged { S.is_honest → S.world system.new ≡ S.world system.old }
     ensures kept { S.aged system.new ≡ S.aged system.old }
+    ensures cause { S.is_honest → IsOfSystem result → HasFailed (S.faults system.old) (S.faults system.new) (S.signals system.new) }
 {
     let mut bytes = room(alloc, size + 1)?;
     let count = fill(system, handle, &mut bytes)?;
@@ -146,7 +153,9 @@ fn read_opened<S: System>(
 }
 
 /// Whether a file can be read to its end without waiting for anybody: a regular file, a disk, and `/dev/null`.
-fn has_an_end(kind: Kind) -> bool {
+fn has_an_end(kind: Kind) -> bool
+    ensures { result ≡ has_an_end kind }
+{
     matches!(kind, Kind::File | Kind::Disk | Kind::Null)
 }
 
@@ -163,6 +172,7 @@ pub(crate) fn without_an_end(kind: Kind) -> io::Error {
 fn size_to_read(look: &Look) -> Result<usize, ReadFault>
     ensures small { IfOk result (λ n. n ≤ max_bytes) }
     ensures too_large { (file : Option (List ℕ)) → IsLookAt file look.now → IsErrOf result ReadFault.TooLarge → IsTooLarge file }
+    ensures cause { IsOfSystem result → HasNoEnd look.now.kind }
 {
     if !has_an_end(look.kind) {
         return Err(ReadFault::System(without_an_end(look.kind)));
@@ -187,6 +197,8 @@ pub(crate) fn read_whole<S: System>(
     ensures too_large { S.is_honest → IsErrOf result ReadFault.TooLarge → IsTooLarge (content (S.world system.old).files (S.path_at place.now)) }
     ensures unchanged { S.is_honest → S.world system.new ≡ S.world system.old }
     ensures kept { S.aged system.new ≡ S.aged system.old }
+    ensures cause { S.is_honest → IsOfSystem result → HasFailed (S.faults system.old) (S.faults system.new) (S.signals system.new)
+        ⊎ ((k : Kind) × (S.kind_at system.old (S.path_at place.now) ≡ Some k) × HasNoEnd k) }
 {
     let Some(look) = found_of(system.look(place))? else {
         return Ok(None);

@@ -2,7 +2,7 @@
 //! POSIX has it. Which files there are, and which of them a handle has, are ghosts.
 ghost use Rattle.std.specs.Prelude.{◌≡◌, ◌≢◌, ◌≤◌, ◌++◌, ◌∷◌, ℕ, List, [], Bool, length, take, Some, None, IsSome, IfOk, OnOk, OnErr, MatchOption, IsTrue, IsUtf8, true, false, Option};
 ghost use Rattle.std.specs.Cow.{cow_str_bytes};
-ghost use Rattle.ks_tree.specs.Files.{content, SameBut, IsMoved};
+ghost use Rattle.ks_tree.specs.Files.{content, HasRisen, SameBut, IsMoved};
 ghost use Rattle.ks_system.specs.declared.errors.Meaning.{Meaning};
 ghost use Rattle.ks_system.specs.declared.system.Kind.{Kind};
 
@@ -61,6 +61,9 @@ pub trait System {
     /// How many of its calls have failed, up to the greatest `u64`.
     ghost faults: { Self → ℕ };
 
+    /// How many of its reads and writes a signal has interrupted, up to the greatest `u64`.
+    ghost signals: { Self → ℕ };
+
     /// What stands at a path, behind a link too, if anything does.
     ghost kind_at: { Self → List ℕ → Option Kind };
 
@@ -107,7 +110,8 @@ pub trait System {
         ensures interrupted { is_honest → Says Meaning.Interrupted result → into.new ≡ into.old }
         ensures unchanged { is_honest → world self.new ≡ world self.old }
         ensures kept { aged self.new ≡ aged self.old }
-        ensures faults { is_honest → CountsBut Meaning.Interrupted result (faults self.old) (faults self.new) };
+        ensures faults { is_honest → CountsBut Meaning.Interrupted result (faults self.old) (faults self.new) }
+        ensures signals { is_honest → Says Meaning.Interrupted result → HasRisen (signals self.old) (signals self.new) };
 
     /// Makes an empty file where nothing stands, and opens it to be written.
     fn create_new(&mut self, place: &str) -> io::Result<Self::Handle>
@@ -157,7 +161,8 @@ pub trait System {
         ensures opened { opened handle.new ≡ opened handle.old }
         ensures claimed { is_claimed handle.new ≡ is_claimed handle.old }
         ensures kept { aged self.new ≡ aged self.old }
-        ensures faults { is_honest → CountsBut Meaning.Interrupted result (faults self.old) (faults self.new) };
+        ensures faults { is_honest → CountsBut Meaning.Interrupted result (faults self.old) (faults self.new) }
+        ensures signals { is_honest → Says Meaning.Interrupted result → HasRisen (signals self.old) (signals self.new) };
 
     /// Gives a new file a time long past.
     fn date(&mut self, handle: &Self::Handle) -> io::Result<()>

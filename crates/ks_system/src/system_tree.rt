@@ -3,13 +3,14 @@
 //!
 //! Only the system's "no such file" counts as a missing file. A folder, a file in the place of a folder, and every other
 //! failure are `Device`, since a build that takes an unreadable file for a missing one would call objects fresh.
-ghost use Rattle.std.specs.Prelude.{◌≡◌, ◌≢◌, ◌⊎◌, ◌≤◌, ◌+◌, ◌++◌, ◌∷◌, ℕ, List, [], Bool, true, is_some, min, length, take, drop, Some, None, IsSome, IfErr, IfOk, IfSome, OnOk, OnErr, IsErrOf, MatchOption, IsUtf8, option_map, string_bytes};
+ghost use Rattle.std.specs.Prelude.{◌≡◌, ◌≢◌, ◌⊎◌, ◌≤◌, ◌<◌, ◌+◌, ◌++◌, ◌∷◌, ℕ, List, [], Bool, true, is_some, min, length, take, drop, Some, None, IsSome, IfErr, IfOk, IfSome, OnOk, OnErr, IsErrOf, MatchOption, IsUtf8, option_map, string_bytes};
 ghost use Rattle.std.proofs.Props.{props};
 ghost use Rattle.ks_symbols.specs.Lines.{max_bytes};
 ghost use Rattle.ks_tree.specs.declared.fault.TreeFault.{TreeFault};
 ghost use Rattle.ks_tree.specs.Files.{HasRisen, IsHalfCreated, IsMoved, IsReadAt, IsTooLarge, SameBut, content, kept_or};
-ghost use Rattle.ks_system.specs.System.{IsNoFile};
-ghost use Rattle.ks_system.specs.Reading.{IsAheadOf};
+ghost use Rattle.ks_system.specs.System.{HasFailed, IsNoFile};
+ghost use Rattle.ks_system.specs.Reading.{HasNoEnd, IsAheadOf};
+ghost use Rattle.ks_system.specs.declared.system.Kind.{Kind};
 
 use crate::errors::found_of;
 use crate::fault::{FolderFault, ReadFault};
@@ -212,6 +213,9 @@ impl<S: System + Drop> Tree for SystemTree<S> {
         ensures held { IfSome self.old.held (λ held. held.path ≡ path.now →
             IfOk result (λ found. option_map (λ v. v.items) found ≡ held.found) × IfErr result (λ _. ⊥)) }
         ensures once { IfSome self.old.held (λ held. held.path ≡ path.now → self.new.held ≡ None) }
+        ensures due { S.is_honest → IsErrOf result TreeFault.Device →
+            HasFailed (S.faults self.old.system) (S.faults self.new.system) (S.signals self.new.system)
+            ⊎ ((IsUtf8 path.now → ⊥) ⊎ ((k : Kind) × (S.kind_at self.old.system path.now ≡ Some k) × HasNoEnd k)) }
     {
         if let Some(found) = HeldReading::take(&mut self.held, path) {
             return Ok(found);
@@ -247,6 +251,9 @@ impl<S: System + Drop> Tree for SystemTree<S> {
         ensures undated { S.is_honest → (S.world self.new.system).dated ≡ (S.world self.old.system).dated }
         ensures claim { self.new.written ≡ self.old.written }
         ensures told { IsErrOf result TreeFault.Device → IfSome self.new.last_fault (λ fault. string_bytes fault.path ≡ path.now) }
+        ensures due { S.is_honest → IsErrOf result TreeFault.Device →
+            HasFailed (S.faults self.old.system) (S.faults self.new.system) (S.signals self.new.system)
+            ⊎ ((IsUtf8 path.now → ⊥) ⊎ (18446744073709551615 < offset + length into.old)) }
     {
         let Some(mut kept) = self.take_kept(alloc, path, offset)? else {
             return Ok(None);

@@ -11,6 +11,8 @@ loop-init g c = record {
   within = search rules;
   room = search rules;
   kept = search rules;
+  faults = search rules;
+  many = search rules;
 }
 
 pub loop-preserved : goal.loop-preserved
@@ -26,6 +28,8 @@ loop-preserved g c = record {
       let before = c.loop.invariant.within in omega arith;
   room = put_long _ _ _ c.loop.invariant.within c.in_ok-count.ensures.room ∙ c.loop.invariant.room;
   kept = search rules;
+  faults = search rules;
+  many = search rules;
 }
 
 pub returns-then-count-eq0-clause-whole : goal.returns-then-count-eq0-clause-whole

@@ -10,4 +10,6 @@ invariant-loop g l = record {
   within : l.given ≤ length l.into;
   room : length l.into ≡ length l.fn.into;
   kept : g.S.System.aged l.system ≡ g.S.System.aged l.fn.system;
+  faults : g.S.System.is_honest → g.S.System.faults l.system ≡ g.S.System.faults l.fn.system;
+  many : l.counter ≤ l.given;
 }

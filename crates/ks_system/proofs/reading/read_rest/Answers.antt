@@ -13,6 +13,8 @@ loop-preserved g c = record {
   room = search rules;
   small = search (rules, length-append, length-take-le);
   kept = search rules;
+  faults = search rules;
+  many = search rules;
 }
 
 pub returns-then-count-eq0-clause-read : goal.returns-then-count-eq0-clause-read

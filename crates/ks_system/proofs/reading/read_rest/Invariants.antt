@@ -11,4 +11,6 @@ invariant-loop g l = record {
   room : length l.room ≡ length l.fn.room;
   small : length l.bytes.items ≤ max_bytes;
   kept : g.S.System.aged l.system ≡ g.S.System.aged l.fn.system;
+  faults : g.S.System.is_honest → g.S.System.faults l.system ≡ g.S.System.faults l.fn.system;
+  many : l.counter ≤ length l.bytes.items;
 }

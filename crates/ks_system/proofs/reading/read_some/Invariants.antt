@@ -1,4 +1,4 @@
-use Rattle.std.proofs.Common.{◌≡◌, length}
+use Rattle.std.proofs.Common.{◌≡◌, ◌≤◌, length}
 use Rattle.ks_system.proofs.reading.read_some.Given as goal
 
 abbrev pub invariant-loop : goal.invariant-loop
@@ -7,4 +7,6 @@ invariant-loop g l = record {
   into : g.S.System.is_honest → l.into ≡ l.fn.into;
   room : length l.into ≡ length l.fn.into;
   kept : g.S.System.aged l.system ≡ g.S.System.aged l.fn.system;
+  faults : g.S.System.is_honest → g.S.System.faults l.system ≡ g.S.System.faults l.fn.system;
+  signals : g.S.System.is_honest → l.counter ≤ g.S.System.signals l.system;
 }

@@ -23,6 +23,8 @@ loop-init g c = record {
   path = search rules;
   file = search rules;
   kept = search rules;
+  faults = search rules;
+  many = search rules;
 }
 
 pub loop-preserved : goal.loop-preserved
@@ -44,4 +46,6 @@ loop-preserved g c = record {
   path = search rules;
   file = search rules;
   kept = search rules;
+  faults = search rules;
+  many = search rules;
 }

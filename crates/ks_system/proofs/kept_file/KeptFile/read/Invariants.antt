@@ -15,4 +15,6 @@ invariant-loop g l = record {
   path : l.self.ahead.path ≡ l.fn.self.ahead.path;
   file : l.self.file ≡ l.fn.self.file;
   kept : g.S.System.aged l.system ≡ g.S.System.aged l.fn.system;
+  faults : g.S.System.is_honest → g.S.System.faults l.system ≡ g.S.System.faults l.fn.system;
+  many : l.counter ≤ l.given;
 }

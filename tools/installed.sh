@@ -45,6 +45,11 @@ put_files() {
     done
 }
 
+# packed_readme: README.md without its links to what is not packed, also where one goes over the end of a line.
+packed_readme() {
+    sed -Ez 's,\[([^][]*)\]\((bench|tests|examples|HACKING|\.)[^()]*\),\1,g' "$top/README.md"
+}
+
 # take_prefix WORDS..: `prefix`, which is the word, or ~/.local without one.
 take_prefix() {
     case $#:${1-} in

@@ -2,7 +2,7 @@
 //! object, and what comes of it where it is tried again, or where the object is recorded and the first configuration comes back.
 use crate::golden::*;
 use crate::steps::{Step, answer, example, play};
-use ks_tree::{FuseMode, FuseTree, MemoryTree};
+use ks_tree::{FuseMode, FuseTree, MemoryTree, Tree};
 use std::alloc::{AllocError, Global};
 use std::process::Abort;
 
@@ -18,7 +18,7 @@ struct Left<'a> {
 
 /// Where the call that fails did nothing.
 #[rattlefmt::skip]
-const CLEAN: [Left<'_>; 7] = [
+const CLEAN: &[Left<'_>] = &[
     Left { passes: 0, stamp: "1\n", header: HEADER, auto: AUTO, verdict: "fresh" },
     Left { passes: 1, stamp: "1\n", header: HEADER, auto: AUTO, verdict: "fresh" },
     Left { passes: 2, stamp: "1\n", header: HEADER, auto: AUTO, verdict: "fresh" },
@@ -30,7 +30,7 @@ const CLEAN: [Left<'_>; 7] = [
 
 /// Where a write has left half of its bytes, and a rename has happened.
 #[rattlefmt::skip]
-const HALF: [Left<'_>; 7] = [
+const HALF: &[Left<'_>] = &[
     Left { passes: 0, stamp: "1\n", header: HEADER, auto: AUTO, verdict: "fresh" },
     Left { passes: 1, stamp: "1\n", header: HEADER, auto: AUTO, verdict: "fresh" },
     Left { passes: 2, stamp: "2\n", header: HEADER, auto: AUTO, verdict: "stale A" },
@@ -42,7 +42,7 @@ const HALF: [Left<'_>; 7] = [
 
 /// The temporary file that is half written after so many calls, and its length.
 #[rattlefmt::skip]
-const HALF_WRITTEN: [(u64, &str, usize); 3] = [
+const HALF_WRITTEN: &[(u64, &str, usize)] = &[
     (1, "include/config/stamp.tmp", 1),
     (3, "include/generated/autoconf.h.tmp", 43),
     (5, "include/config/auto.conf.tmp", 44),
@@ -189,7 +189,7 @@ fn recorded_between(
     ask(rt, alloc, tree, HEADER, "fresh")
 }
 
-/// One call fails, or all from there on.
+/// What a synchronisation leaves that is broken off in this way is completed, or an object is recorded on it.
 fn broken_off(
     rt: &impl Abort,
     alloc: Global,
@@ -204,23 +204,30 @@ fn broken_off(
     recorded_between(rt, alloc, &mut tree, left)
 }
 
-#[test]
-fn each_call_broken_off(rt: HostRuntime) -> Result<(), AllocError> {
-    for left in CLEAN {
-        broken_off(&rt, rt.alloc(), left, None, FuseMode::Clean)?;
-        broken_off(&rt, rt.alloc(), left, Some(1), FuseMode::Clean)?;
-    }
-    for left in HALF {
-        broken_off(&rt, rt.alloc(), left, None, FuseMode::Half)?;
-        broken_off(&rt, rt.alloc(), left, Some(1), FuseMode::Half)?;
+/// One call fails, or all from there on.
+fn each_broken_off(
+    rt: &impl Abort,
+    alloc: Global,
+    rows: &[Left<'_>],
+    mode: FuseMode,
+) -> Result<(), AllocError> {
+    for left in rows {
+        broken_off(rt, alloc, *left, None, mode)?;
+        broken_off(rt, alloc, *left, Some(1), mode)?;
     }
     Ok(())
+}
+
+#[test]
+fn each_call_broken_off(rt: HostRuntime) -> Result<(), AllocError> {
+    each_broken_off(&rt, rt.alloc(), CLEAN, FuseMode::Clean)?;
+    each_broken_off(&rt, rt.alloc(), HALF, FuseMode::Half)
 }
 
 /// What the untyped form left of the synchronisation with B alone: the stamps of A and B, the header and auto.conf; and what is
 /// then answered, where auto.conf is the old one and where it is that of B alone.
 #[rattlefmt::skip]
-const UNTYPED: [([&str; 4], [&str; 4]); 5] = [
+const UNTYPED: &[([&str; 4], [&str; 4])] = &[
     (["1\n", "1\n", HEADER, UNTYPED_AUTO], BEFORE_AUTO),
     (["2\n", "1\n", HEADER, UNTYPED_AUTO], BEFORE_AUTO),
     (["2\n", "2\n", HEADER, UNTYPED_AUTO], BEFORE_AUTO),
@@ -242,36 +249,73 @@ const BEHIND_AUTO: [&str; 4] = [
     "generation 4 touched A unknown 0",
 ];
 
-/// Each of these trees is synchronised, which touches all names, old and new; then an object is recorded and asked for.
+/// Puts what was left.
+fn put_left<T: Tree>(
+    rt: &impl Abort,
+    alloc: Global,
+    tree: &mut T,
+    [a, b, header, auto]: [&str; 4],
+) -> Result<(), AllocError> {
+    let files = [
+        (Step::Put("include/config/A", a), "done"),
+        (Step::Put("include/config/B", b), "done"),
+        (Step::Put("include/generated/autoconf.h", header), "done"),
+        (Step::Put("include/config/auto.conf", auto), "done"),
+    ];
+    play(rt, alloc, tree, &files)
+}
+
+/// The tree is synchronised, which touches all names, old and new; then an object is recorded and asked for.
+fn synced_and_recorded<T: Tree>(
+    rt: &impl Abort,
+    alloc: Global,
+    tree: &mut T,
+    [at_first, first, then, again]: [&str; 4],
+) -> Result<(), AllocError> {
+    let recording = Step::Record("x.d", "x.o", "cc -c x.c");
+    let steps = [
+        (recording, at_first),
+        (Step::Sync(KCONFIG, BOTH), first),
+        (Step::Stale("x.o"), "stale A"),
+        (recording, then),
+        (Step::Stale("x.o"), "fresh"),
+        (Step::Sync(KCONFIG, ONLY_B), again),
+        (Step::Stale("x.o"), "stale A"),
+    ];
+    play(rt, alloc, tree, &steps)
+}
+
 #[test]
 fn the_untyped_form_broken_off(rt: HostRuntime) -> Result<(), AllocError> {
-    for ([a, b, header, auto], [at_first, first, then, again]) in UNTYPED {
-        let steps = [
-            (Step::Put("include/config/A", a), "done"),
-            (Step::Put("include/config/B", b), "done"),
-            (Step::Put("include/generated/autoconf.h", header), "done"),
-            (Step::Put("include/config/auto.conf", auto), "done"),
-            (Step::Record("x.d", "x.o", "cc -c x.c"), at_first),
-            (Step::Sync(KCONFIG, BOTH), first),
-            (Step::Stale("x.o"), "stale A"),
-            (Step::Record("x.d", "x.o", "cc -c x.c"), then),
-            (Step::Stale("x.o"), "fresh"),
-            (Step::Sync(KCONFIG, ONLY_B), again),
-            (Step::Stale("x.o"), "stale A"),
-        ];
-        example(&rt, rt.alloc(), SOURCES, &steps)?;
+    for (left, answers) in UNTYPED {
+        let mut tree = MemoryTree::new(rt.alloc());
+        play(&rt, rt.alloc(), &mut tree, SOURCES)?;
+        put_left(&rt, rt.alloc(), &mut tree, *left)?;
+        synced_and_recorded(&rt, rt.alloc(), &mut tree, *answers)?;
     }
     Ok(())
 }
 
+/// How long a file is that a broken synchronisation leaves half written.
+fn half_length(
+    rt: &impl Abort,
+    alloc: Global,
+    passes: u64,
+    fails: Option<u64>,
+    temporary: &str,
+) -> Result<usize, AllocError> {
+    let mut tree = broken(rt, alloc, passes, fails, FuseMode::Half)?;
+    let half = answer(alloc, &mut tree, Step::Read(temporary))?;
+    Ok(half.as_str().len())
+}
+
 #[test]
 fn temporary_files_that_are_half_written(rt: HostRuntime) -> Result<(), AllocError> {
-    for (passes, temporary, length) in HALF_WRITTEN {
-        for fails in [None, Some(1)] {
-            let mut tree = broken(&rt, rt.alloc(), passes, fails, FuseMode::Half)?;
-            let half = answer(rt.alloc(), &mut tree, Step::Read(temporary))?;
-            assert_eq!(rt; half.as_str().len(), length, "{temporary}");
-        }
+    for &(passes, temporary, length) in HALF_WRITTEN {
+        let all_fail = half_length(&rt, rt.alloc(), passes, None, temporary)?;
+        assert_eq!(rt; all_fail, length, "{temporary}");
+        let one_fails = half_length(&rt, rt.alloc(), passes, Some(1), temporary)?;
+        assert_eq!(rt; one_fails, length, "{temporary}");
     }
     Ok(())
 }
@@ -293,13 +337,21 @@ const COMPLETED: &[(Step<'_>, &str)] = &[
     (Step::Read("include/config/auto.conf"), AUTO_B),
 ];
 
+/// A synchronisation behind a fuse comes to these answers, and is then complete.
+fn check_again(
+    rt: &impl Abort,
+    alloc: Global,
+    passes: u64,
+    fails: Option<u64>,
+    steps: &[(Step<'_>, &str)],
+) -> Result<(), AllocError> {
+    let mut fuse = FuseTree::new(recorded(rt, alloc)?, passes, fails, FuseMode::Clean);
+    play(rt, alloc, &mut fuse, steps)?;
+    play(rt, alloc, &mut fuse.into_inner(), COMPLETED)
+}
+
 #[test]
 fn asked_again_where_one_call_failed_or_none(rt: HostRuntime) -> Result<(), AllocError> {
-    for (passes, fails, steps) in [(5, Some(1), AT_THE_SECOND_TRY), (7, None, AT_ONCE)] {
-        let tree = recorded(&rt, rt.alloc())?;
-        let mut fuse = FuseTree::new(tree, passes, fails, FuseMode::Clean);
-        play(&rt, rt.alloc(), &mut fuse, steps)?;
-        play(&rt, rt.alloc(), &mut fuse.into_inner(), COMPLETED)?;
-    }
-    Ok(())
+    check_again(&rt, rt.alloc(), 5, Some(1), AT_THE_SECOND_TRY)?;
+    check_again(&rt, rt.alloc(), 7, None, AT_ONCE)
 }

@@ -3,7 +3,7 @@ use crate::golden::*;
 use crate::steps::{example, play, recorded_text, report_text, verdict_text};
 use ks_engine::{Command, Reply, run};
 use ks_symbols::Dialect;
-use ks_tree::MemoryTree;
+use ks_tree::{MemoryTree, Tree};
 use std::alloc::{AllocError, Global};
 
 #[test]
@@ -40,11 +40,18 @@ fn reply_text(alloc: Global, reply: &Reply) -> Result<String, AllocError> {
     }
 }
 
-#[test]
-fn one_reply_for_each_command(rt: HostRuntime) -> Result<(), AllocError> {
-    let alloc = rt.alloc();
-    let mut tree = MemoryTree::new(alloc);
-    play(&rt, alloc, &mut tree, SOURCES)?;
+/// Replies, one after the other.
+fn replies_text(alloc: Global, replies: &[Reply]) -> Result<String, AllocError> {
+    let mut told = String::new(alloc);
+    for reply in replies {
+        told.push_str(reply_text(alloc, reply)?.as_str())?;
+        told.push_str("; ")?;
+    }
+    Ok(told)
+}
+
+/// The replies to four commands.
+fn replies<T: Tree>(alloc: Global, tree: &mut T) -> Result<String, AllocError> {
     let commands = [
         Command::Sync {
             kconfig: KCONFIG.as_bytes(),
@@ -58,11 +65,15 @@ fn one_reply_for_each_command(rt: HostRuntime) -> Result<(), AllocError> {
         Command::Stale { target: b"x.o" },
         Command::Stale { target: b"a$b" },
     ];
-    let mut told = String::new(alloc);
-    for reply in &run(alloc, &mut tree, Dialect::Linux, &commands)? {
-        told.push_str(reply_text(alloc, reply)?.as_str())?;
-        told.push_str("; ")?;
-    }
+    let replies = run(alloc, tree, Dialect::Linux, &commands)?;
+    replies_text(alloc, &replies)
+}
+
+#[test]
+fn one_reply_for_each_command(rt: HostRuntime) -> Result<(), AllocError> {
+    let mut tree = MemoryTree::new(rt.alloc());
+    play(&rt, rt.alloc(), &mut tree, SOURCES)?;
+    let told = replies(rt.alloc(), &mut tree)?;
     assert_eq!(rt;
         told.as_str(),
         "generation 1 touched A B unknown 0; generation 1 names 3; fresh; 21 BadPath token 0; "

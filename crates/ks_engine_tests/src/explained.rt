@@ -1,9 +1,12 @@
 //! Why an object is stale: a history, and what is explained after each step of it.
+ghost use Rattle.ks_engine.specs.Memos.{IsMemoOf};
+
 use crate::golden::*;
 use crate::steps::{Step, play, text, verdict_text};
-use ks_engine::{EngineError, Explanation, Memo, Question, ask, explain};
-use ks_tree::MemoryTree;
+use ks_engine::{Cause, EngineError, Explanation, Memo, Question, ask, explain};
+use ks_tree::{MemoryTree, Tree};
 use std::alloc::{AllocError, Global};
+use std::process::Abort;
 
 const KCONFIG_C: &str =
     "mainmenu \"Demo\"\nconfig A\n\tbool\nconfig B\n\ttristate\nconfig C\n\tbool\n";
@@ -12,20 +15,28 @@ const ALL: &str = "CONFIG_A=y\nCONFIG_B=m\nCONFIG_C=y\n";
 
 const ALL_BUT_A: &str = "CONFIG_B=m\nCONFIG_C=y\n";
 
-/// A verdict, and after it each cause with its number and its place.
-fn told(alloc: Global, answer: &Result<Explanation, EngineError>) -> Result<String, AllocError> {
-    let explanation = match answer {
-        Ok(explanation) => explanation,
-        Err(error) => return error.to_string(alloc),
-    };
+/// A cause with its number and its place.
+fn push_cause(alloc: Global, all: &mut String, cause: &Cause) -> Result<(), AllocError> {
+    let (name, place) = (text(cause.name.as_bytes()), text(cause.place.as_bytes()));
+    let one = format!(in alloc; "; {name} {} {place}", cause.generation)?;
+    all.push_str(one.as_str())
+}
+
+/// A verdict, and after it each cause.
+fn explanation_text(alloc: Global, explanation: &Explanation) -> Result<String, AllocError> {
     let mut all = verdict_text(alloc, &explanation.verdict)?;
     for cause in &explanation.causes {
-        let (name, place) = (text(cause.name.as_bytes()), text(cause.place.as_bytes()));
-        let generation = cause.generation;
-        let one = format!(in alloc; "; {name} {generation} {place}")?;
-        all.push_str(one.as_str())?;
+        push_cause(alloc, &mut all, cause)?;
     }
     Ok(all)
+}
+
+/// The same, or the refusal.
+fn told(alloc: Global, answer: &Result<Explanation, EngineError>) -> Result<String, AllocError> {
+    match answer {
+        Ok(explanation) => explanation_text(alloc, explanation),
+        Err(error) => error.to_string(alloc),
+    }
 }
 
 /// What is done, what comes of it, and what is then explained of x.o.
@@ -47,34 +58,69 @@ const STEPS: &[(Step<'_>, &str, &str)] = &[
     (Step::Put(".x.o.cmd", CUT), "done", "23 BadCommandFile line 9"),
 ];
 
+/// A step, what comes of it, and what is then explained of x.o.
+fn check_step<T: Tree>(
+    rt: &impl Abort,
+    alloc: Global,
+    tree: &mut T,
+    (step, want, explained): (Step<'_>, &str, &str),
+) -> Result<(), AllocError> {
+    play(rt, alloc, tree, &[(step, want)])?;
+    let why = told(alloc, &explain(alloc, tree, b"x.o"))?;
+    assert_eq!(rt; why.as_str(), explained, "after {want}");
+    Ok(())
+}
+
 #[test]
 fn all_that_speaks_for_a_verdict(rt: HostRuntime) -> Result<(), AllocError> {
-    let alloc = rt.alloc();
-    let mut tree = MemoryTree::new(alloc);
-    play(&rt, alloc, &mut tree, SOURCES)?;
-    for (step, want, explained) in STEPS {
-        play(&rt, alloc, &mut tree, &[(*step, *want)])?;
-        let why = told(alloc, &explain(alloc, &mut tree, b"x.o"))?;
-        assert_eq!(rt; why.as_str(), *explained, "after {want}");
+    let mut tree = MemoryTree::new(rt.alloc());
+    play(&rt, rt.alloc(), &mut tree, SOURCES)?;
+    for step in STEPS {
+        check_step(&rt, rt.alloc(), &mut tree, *step)?;
     }
     Ok(())
 }
 
-/// Two objects by one memo, and a target that is no path.
+/// What is explained of an object by what was read before.
+fn why<T: Tree>(
+    alloc: Global,
+    tree: &mut T,
+    memo: &mut Memo,
+    object: &[u8],
+) -> Result<String, AllocError>
+    requires memo { T.is_honest → IsMemoOf (T.files tree.old) memo.old }
+    ensures memo { T.is_honest → IsMemoOf (T.files tree.new) memo.new }
+{
+    let answer = ask(alloc, tree, memo, Question::Why, object);
+    told(alloc, &answer)
+}
+
+/// What is explained of two objects by one memo, and of a target that is no path.
+fn whys<T: Tree>(alloc: Global, tree: &mut T) -> [Result<String, AllocError>; 3] {
+    let mut memo = Memo::new(alloc);
+    let first = why(alloc, tree, &mut memo, b"x.o");
+    let second = why(alloc, tree, &mut memo, b"y.o");
+    let last = why(alloc, tree, &mut memo, b"a$b");
+    [first, second, last]
+}
+
+fn check_whys(
+    rt: &impl Abort,
+    [first, second, last]: [Result<String, AllocError>; 3],
+) -> Result<(), AllocError> {
+    let (first, second, last) = (first?, second?, last?);
+    assert_eq!(rt; first.as_str(), "stale A; A 2 x.c; B 2 x.c");
+    assert_eq!(rt; second.as_str(), "stale A; A 2 b.h; B 2 a.h");
+    assert_eq!(rt; last.as_str(), "21 BadPath token 0");
+    Ok(())
+}
+
 #[test]
 fn several_objects_by_what_was_read_before(rt: HostRuntime) -> Result<(), AllocError> {
-    let alloc = rt.alloc();
-    let mut tree = MemoryTree::new(alloc);
-    play(&rt, alloc, &mut tree, SOURCES)?;
-    play(&rt, alloc, &mut tree, TWO_OBJECTS)?;
-    let mut memo = Memo::new(alloc);
-    let first = ask(alloc, &mut tree, &mut memo, Question::Why, b"x.o");
-    let second = ask(alloc, &mut tree, &mut memo, Question::Why, b"y.o");
-    let last = ask(alloc, &mut tree, &mut memo, Question::Why, b"a$b");
-    assert_eq!(rt; told(alloc, &first)?.as_str(), "stale A; A 2 x.c; B 2 x.c");
-    assert_eq!(rt; told(alloc, &second)?.as_str(), "stale A; A 2 b.h; B 2 a.h");
-    assert_eq!(rt; told(alloc, &last)?.as_str(), "21 BadPath token 0");
-    Ok(())
+    let mut tree = MemoryTree::new(rt.alloc());
+    play(&rt, rt.alloc(), &mut tree, SOURCES)?;
+    play(&rt, rt.alloc(), &mut tree, TWO_OBJECTS)?;
+    check_whys(&rt, whys(rt.alloc(), &mut tree))
 }
 
 #[rattlefmt::skip]

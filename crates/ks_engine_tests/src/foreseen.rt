@@ -1,11 +1,14 @@
 //! What is foreseen of a synchronisation and of objects after it, and what then comes of them: each row is asked twice, before the
 //! synchronisation and of the tree that it leaves.
+ghost use Rattle.ks_engine.specs.Memos.{IsMemoOf};
+
 use crate::golden::*;
 use crate::steps::{Step, answer, play, report_text, verdict_text};
 use ks_engine::{Impact, Memo, Question, ask};
 use ks_symbols::{Dialect, Kconfig};
 use ks_tree::{MemoryTree, Tree};
 use std::alloc::{AllocError, Global};
+use std::process::Abort;
 
 const OBJECTS: [&str; 4] = ["x.o", "u.o", "a.o", "z.o"];
 
@@ -20,7 +23,7 @@ const BEFORE: &[(Step<'_>, &str)] = &[
 
 /// A `.config`, and what is told of it and of each object.
 #[rattlefmt::skip]
-const ROWS: [(&str, &str); 6] = [
+const ROWS: &[(&str, &str)] = &[
     ("CONFIG_A=y\nCONFIG_B=m\nCONFIG_D=y\n", "generation 2 touched D unknown 0; fresh; not-numbered; generation-ahead; no-command-file"),
     ("CONFIG_B=m\nCONFIG_D=y\n", "generation 3 touched A unknown 0; stale A; not-numbered; generation-ahead; no-command-file"),
     ("CONFIG_A=y\nCONFIG_B=m\nCONFIG_D=y\n", "generation 4 touched A unknown 0; stale A; not-numbered; generation-ahead; no-command-file"),
@@ -28,6 +31,22 @@ const ROWS: [(&str, &str); 6] = [
     ("CONFIG_B=y\nCONFIG_X=y\n", "generation 6 touched A B D unknown 1; stale A; not-numbered; stale A; no-command-file"),
     ("CONFIG_A=m\n", "8 BadValue line 1"),
 ];
+
+/// What is foreseen of an object by what was read before.
+fn foreseen_by<T: Tree>(
+    alloc: Global,
+    tree: &mut T,
+    memo: &mut Memo,
+    impact: &Impact,
+    object: &[u8],
+) -> Result<String, AllocError>
+    requires memo { T.is_honest → IsMemoOf (T.files tree.old) memo.old }
+{
+    match ask(alloc, tree, memo, Question::After(impact), object) {
+        Ok(answer) => verdict_text(alloc, &answer.verdict),
+        Err(error) => error.to_string(alloc),
+    }
+}
 
 /// What is foreseen of an object.
 fn foreseen_of<T: Tree>(
@@ -37,16 +56,7 @@ fn foreseen_of<T: Tree>(
     object: &str,
 ) -> Result<String, AllocError> {
     let mut memo = Memo::new(alloc);
-    match ask(
-        alloc,
-        tree,
-        &mut memo,
-        Question::After(impact),
-        object.as_bytes(),
-    ) {
-        Ok(answer) => verdict_text(alloc, &answer.verdict),
-        Err(error) => error.to_string(alloc),
-    }
+    foreseen_by(alloc, tree, &mut memo, impact, object.as_bytes())
 }
 
 /// What is foreseen of a synchronisation with a `.config`.
@@ -79,17 +89,27 @@ fn synced<T: Tree>(alloc: Global, tree: &mut T, dotconfig: &str) -> Result<Strin
     Ok(told)
 }
 
+/// What is told of a `.config`, before its synchronisation and after it.
+fn check_row<T: Tree>(
+    rt: &impl Abort,
+    alloc: Global,
+    tree: &mut T,
+    (dotconfig, want): (&str, &str),
+) -> Result<(), AllocError> {
+    let told = foreseen(alloc, tree, dotconfig)?;
+    assert_eq!(rt; told.as_str(), want, "before {dotconfig:?}");
+    let came = synced(alloc, tree, dotconfig)?;
+    assert_eq!(rt; came.as_str(), want, "after {dotconfig:?}");
+    Ok(())
+}
+
 #[test]
 fn what_is_foreseen_comes(rt: HostRuntime) -> Result<(), AllocError> {
-    let alloc = rt.alloc();
-    let mut tree = MemoryTree::new(alloc);
-    play(&rt, alloc, &mut tree, SOURCES)?;
-    play(&rt, alloc, &mut tree, BEFORE)?;
-    for (dotconfig, want) in ROWS {
-        let told = foreseen(alloc, &mut tree, dotconfig)?;
-        assert_eq!(rt; told.as_str(), want, "before {dotconfig:?}");
-        let came = synced(alloc, &mut tree, dotconfig)?;
-        assert_eq!(rt; came.as_str(), want, "after {dotconfig:?}");
+    let mut tree = MemoryTree::new(rt.alloc());
+    play(&rt, rt.alloc(), &mut tree, SOURCES)?;
+    play(&rt, rt.alloc(), &mut tree, BEFORE)?;
+    for row in ROWS {
+        check_row(&rt, rt.alloc(), &mut tree, *row)?;
     }
     Ok(())
 }

@@ -1,6 +1,7 @@
 //! Tables of what is asked of a tree, and of what is answered.
 use ks_engine::{
-    BuildState, Recorded, Report, Verdict, outdated, record_depfile, record_object, stale, sync,
+    BuildState, EngineError, Recorded, Report, Verdict, outdated, record_depfile, record_object,
+    stale, sync,
 };
 use ks_fixdep::Header;
 use ks_symbols::{Dialect, Kconfig, Name};
@@ -66,69 +67,93 @@ fn state_text(alloc: Global, state: &BuildState) -> Result<String, AllocError> {
     }
 }
 
+fn synced<T: Tree>(
+    alloc: Global,
+    tree: &mut T,
+    kconfig: &str,
+    dotconfig: &str,
+) -> Result<String, AllocError> {
+    let kconfig = Kconfig::new(Dialect::Linux, kconfig.as_bytes());
+    match sync(alloc, tree, &kconfig, dotconfig.as_bytes()) {
+        Ok(report) => report_text(alloc, &report),
+        Err(error) => error.to_string(alloc),
+    }
+}
+
+/// What comes of a record.
+fn noted(alloc: Global, outcome: Result<Recorded, EngineError>) -> Result<String, AllocError> {
+    match outcome {
+        Ok(recorded) => recorded_text(alloc, recorded),
+        Err(error) => error.to_string(alloc),
+    }
+}
+
+fn judged<T: Tree>(alloc: Global, tree: &mut T, target: &str) -> Result<String, AllocError> {
+    match stale(alloc, tree, target.as_bytes()) {
+        Ok(verdict) => verdict_text(alloc, &verdict),
+        Err(error) => error.to_string(alloc),
+    }
+}
+
+fn compared<T: Tree>(
+    alloc: Global,
+    tree: &mut T,
+    target: &str,
+    command: &str,
+) -> Result<String, AllocError> {
+    match outdated(alloc, tree, target.as_bytes(), command.as_bytes()) {
+        Ok(state) => state_text(alloc, &state),
+        Err(error) => error.to_string(alloc),
+    }
+}
+
+fn put<T: Tree>(
+    alloc: Global,
+    tree: &mut T,
+    path: &str,
+    bytes: &str,
+) -> Result<String, AllocError> {
+    match tree.write(alloc, path.as_bytes(), bytes.as_bytes()) {
+        Ok(()) => String::from_str(alloc, "done"),
+        Err(fault) => fault.to_string(alloc),
+    }
+}
+
+fn read<T: Tree>(alloc: Global, tree: &mut T, path: &str) -> Result<String, AllocError> {
+    match tree.read(alloc, path.as_bytes()) {
+        Ok(Some(bytes)) => String::from_str(alloc, text(&bytes)),
+        Ok(None) => String::from_str(alloc, "none"),
+        Err(fault) => fault.to_string(alloc),
+    }
+}
+
 /// What comes of a step: what was answered or read, or the refusal.
 pub(crate) fn answer<T: Tree>(
     alloc: Global,
     tree: &mut T,
     step: Step<'_>,
 ) -> Result<String, AllocError> {
-    let refusal = match step {
-        Step::Sync(kconfig, dotconfig) => {
-            let kconfig = Kconfig::new(Dialect::Linux, kconfig.as_bytes());
-            match sync(alloc, tree, &kconfig, dotconfig.as_bytes()) {
-                Ok(report) => return report_text(alloc, &report),
-                Err(error) => error,
-            }
-        }
+    let dialect = Dialect::Linux;
+    match step {
+        Step::Sync(kconfig, dotconfig) => synced(alloc, tree, kconfig, dotconfig),
         Step::Record(depfile, target, command) => {
             let (depfile, target) = (depfile.as_bytes(), target.as_bytes());
-            match record_object(
-                alloc,
-                tree,
-                Dialect::Linux,
-                depfile,
-                target,
-                command.as_bytes(),
-            ) {
-                Ok(recorded) => return recorded_text(alloc, recorded),
-                Err(error) => error,
-            }
+            let command = command.as_bytes();
+            let outcome = record_object(alloc, tree, dialect, depfile, target, command);
+            noted(alloc, outcome)
         }
         Step::Depfile(header, depfile, target, command) => {
             let header = Header::At(header.as_bytes());
             let (depfile, target) = (depfile.as_bytes(), target.as_bytes());
             let command = command.as_bytes();
-            let dialect = Dialect::Linux;
-            match record_depfile(alloc, tree, header, dialect, depfile, target, command) {
-                Ok(recorded) => return recorded_text(alloc, recorded),
-                Err(error) => error,
-            }
+            let outcome = record_depfile(alloc, tree, header, dialect, depfile, target, command);
+            noted(alloc, outcome)
         }
-        Step::Stale(target) => match stale(alloc, tree, target.as_bytes()) {
-            Ok(verdict) => return verdict_text(alloc, &verdict),
-            Err(error) => error,
-        },
-        Step::Outdated(target, command) => {
-            match outdated(alloc, tree, target.as_bytes(), command.as_bytes()) {
-                Ok(state) => return state_text(alloc, &state),
-                Err(error) => error,
-            }
-        }
-        Step::Put(path, bytes) => {
-            return match tree.write(alloc, path.as_bytes(), bytes.as_bytes()) {
-                Ok(()) => String::from_str(alloc, "done"),
-                Err(fault) => fault.to_string(alloc),
-            };
-        }
-        Step::Read(path) => {
-            return match tree.read(alloc, path.as_bytes()) {
-                Ok(Some(bytes)) => String::from_str(alloc, text(&bytes)),
-                Ok(None) => String::from_str(alloc, "none"),
-                Err(fault) => fault.to_string(alloc),
-            };
-        }
-    };
-    refusal.to_string(alloc)
+        Step::Stale(target) => judged(alloc, tree, target),
+        Step::Outdated(target, command) => compared(alloc, tree, target, command),
+        Step::Put(path, bytes) => put(alloc, tree, path, bytes),
+        Step::Read(path) => read(alloc, tree, path),
+    }
 }
 
 /// Takes the steps one after another, each with what is to come of it.

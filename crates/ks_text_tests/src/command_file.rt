@@ -4,6 +4,7 @@ use ks_fixdep::{CommandError, CommandFile, Dep, command_is_legal, read_command, 
 use ks_symbols::MAX_BYTES;
 use memchr::memrchr;
 use std::alloc::Global;
+use std::process::Abort;
 use std::test::Fail;
 
 /// A worked command file.
@@ -48,40 +49,49 @@ fn named(dep: &Dep) -> &[u8] {
     }
 }
 
-/// What the lines of dependencies of the worked command file name.
-const NAMED: [&[u8]; 5] = [b"A", b"B", b"a.h", b"C", b"b.h"];
-
-fn are_named(deps: &[Dep]) -> bool {
-    let mut right = deps.len() == NAMED.len();
-    for (dep, want) in deps.iter().zip(NAMED.iter()) {
-        if named(dep) != *want {
-            right = false;
-        }
+/// What the lines of dependencies name, each with a space after it.
+fn all_named(alloc: Global, deps: &[Dep]) -> Result<Vec<u8>, CommandError> {
+    let mut all = Vec::new(alloc);
+    for dep in deps {
+        all.extend_from_slice(named(dep))?;
+        all.push(b' ')?;
     }
-    right
+    Ok(all)
 }
 
 /// Whether all but the generation of a command file is as the worked one has it.
-fn is_worked(file: &CommandFile) -> bool {
-    file.target.as_bytes() == b"x.o".as_slice()
-        && file.command.as_slice() == b"cc -c x.c".as_slice()
-        && file.source.as_bytes() == b"x.c".as_slice()
-        && are_named(&file.deps)
+fn is_worked(alloc: Global, file: &CommandFile) -> Result<bool, CommandError> {
+    let named = all_named(alloc, &file.deps)?;
+    Ok(
+        file.target.as_bytes() == b"x.o".as_slice()
+            && file.command.as_slice() == b"cc -c x.c".as_slice()
+            && file.source.as_bytes() == b"x.c".as_slice()
+            && named.as_slice() == b"A B a.h C b.h ".as_slice(),
+    )
 }
 
-/// What is written of a worked command file that was read with this generation, after a word that stood there before.
+/// What is written of a command file, after a word that stood there before where it is as the worked one, with this generation.
+fn written(
+    alloc: Global,
+    file: &CommandFile,
+    generation: Option<u64>,
+) -> Result<Vec<u8>, CommandError> {
+    let mut out = Vec::new(alloc);
+    if is_worked(alloc, file)? && file.generation == generation {
+        out.extend_from_slice(b"before ")?;
+    }
+    write_command(file, &mut out)?;
+    Ok(out)
+}
+
+/// What is written of a text that was read.
 fn written_again(
     alloc: Global,
     text: &[u8],
     generation: Option<u64>,
 ) -> Result<Vec<u8>, CommandError> {
     let file = read_command(alloc, text)?;
-    let mut out = Vec::new(alloc);
-    if is_worked(&file) && file.generation == generation {
-        out.extend_from_slice(b"before ")?;
-    }
-    write_command(&file, &mut out)?;
-    Ok(out)
+    written(alloc, &file, generation)
 }
 
 #[test]
@@ -128,24 +138,56 @@ fn answer(outcome: Result<Option<u64>, u64>) -> Result<Option<u64>, CommandError
     }
 }
 
+/// A text comes to this generation or this refusal.
+fn check_answer(
+    rt: &impl Abort,
+    alloc: Global,
+    row: &str,
+    text: &[u8],
+    want: Result<Option<u64>, CommandError>,
+) {
+    assert_eq!(rt;
+        generation_of(alloc, text),
+        want,
+        "{row}, {} bytes",
+        text.len()
+    );
+}
+
 #[test]
 fn a_damaged_command_file_is_refused_with_its_line(rt: HostRuntime) -> Result<(), Fail> {
     for &(row, old, new, want) in DAMAGES {
         let text = WORKED.replace(rt.alloc(), old, new)?;
-        assert_eq!(rt; generation_of(rt.alloc(), &text), answer(want), "{row}");
+        check_answer(&rt, rt.alloc(), row, &text, answer(want));
     }
     Ok(())
+}
+
+/// How many lines have their line feed.
+fn whole_lines(text: &[u8]) -> usize {
+    let mut lines = 0_usize;
+    for byte in text {
+        if *byte == b'\n' {
+            lines = lines.saturating_add(1);
+        }
+    }
+    lines
+}
+
+/// How many bytes stand after the last line feed.
+fn open_bytes(text: &[u8]) -> usize {
+    match memrchr(b'\n', text) {
+        Some(end) => text.len() - end - 1,
+        None => text.len(),
+    }
 }
 
 /// What a beginning of the worked command file comes to. The lines that have their line feed fit. A beginning of the next line
 /// fits or not, and is the fault if not; where it fits, the line after it is missing. After the last line of the layout
 /// nothing has to stand, but what begins as a generation line has to end.
 fn answer_of_cut(text: &[u8]) -> Result<Option<u64>, CommandError> {
-    let whole = text.iter().filter(|byte| **byte == b'\n').count();
-    let open = match memrchr(b'\n', text) {
-        Some(end) => text.len() - end - 1,
-        None => text.len(),
-    };
+    let whole = whole_lines(text);
+    let open = open_bytes(text);
     if whole > LINES {
         return Ok(Some(1));
     }
@@ -161,74 +203,74 @@ fn answer_of_cut(text: &[u8]) -> Result<Option<u64>, CommandError> {
 }
 
 #[test]
-fn each_cut_is_read_or_refused_at_its_first_missing_line(rt: HostRuntime) -> Result<(), Fail> {
+fn each_cut_is_read_or_refused_at_its_first_missing_line(rt: HostRuntime) {
     for end in 0..=WORKED.len() {
         let text = &WORKED[..end];
-        assert_eq!(rt;
-            generation_of(rt.alloc(), text),
-            answer_of_cut(text),
-            "cut at {end}"
-        );
+        check_answer(&rt, rt.alloc(), "a cut", text, answer_of_cut(text));
     }
-    Ok(())
 }
 
-#[test]
-fn a_text_ends_too_early(rt: HostRuntime) -> Result<(), Fail> {
-    for (end, line) in [
-        ("  a.h \\\n", 9),
-        ("  a.h \\", 9),
-        ("  a.h", 8),
-        ("cc -c x.c\n", 2),
-        ("cc -c x.c", 2),
-    ] {
-        let (_, rest) = WORKED.split_once_str(end.as_bytes()).ok_or("no such line")?;
-        let text = WORKED.strip_suffix(rest).unwrap_or(WORKED);
-        assert_eq!(rt;
-            generation_of(rt.alloc(), text),
-            Err(CommandError::BadCommandFile(line)),
-            "{end}"
-        );
+/// The worked command file as far as its first line that ends so.
+fn worked_up_to(end: &str) -> &'static [u8] {
+    match WORKED.split_once_str(end.as_bytes()) {
+        Some((_, rest)) => WORKED.strip_suffix(rest).unwrap_or(WORKED),
+        None => WORKED,
     }
-    Ok(())
+}
+
+/// Where a text ends, and the line that is at fault.
+const ENDS: &[(&str, u64)] = &[
+    ("  a.h \\\n", 9),
+    ("  a.h \\", 9),
+    ("  a.h", 8),
+    ("cc -c x.c\n", 2),
+    ("cc -c x.c", 2),
+];
+
+#[test]
+fn a_text_ends_too_early(rt: HostRuntime) {
+    for &(end, line) in ENDS {
+        let text = worked_up_to(end);
+        check_answer(&rt, rt.alloc(), end, text, answer(Err(line)));
+    }
 }
 
 #[test]
 fn a_longer_text_is_too_large(rt: HostRuntime) -> Result<(), Fail> {
     let mut text = vec![in rt.alloc(); b'\n'; MAX_BYTES]?;
-    assert_eq!(rt;
-        generation_of(rt.alloc(), &text),
-        Err(CommandError::BadCommandFile(1))
-    );
+    check_answer(&rt, rt.alloc(), "the largest", &text, answer(Err(1)));
     text.push(b'\n')?;
-    assert_eq!(rt;
-        generation_of(rt.alloc(), &text),
-        Err(CommandError::TooLarge)
-    );
+    let too_large = Err(CommandError::TooLarge);
+    check_answer(&rt, rt.alloc(), "a larger one", &text, too_large);
     Ok(())
 }
 
+const REFUSALS: &[(CommandError, &str)] = &[
+    (CommandError::BadCommandFile(9), "23 BadCommandFile line 9"),
+    (CommandError::TooLarge, "9 TooLarge"),
+    (CommandError::OutOfMemory, "10 OutOfMemory"),
+];
+
 #[test]
 fn refusals_tell_their_number_and_line(rt: HostRuntime) -> Result<(), Fail> {
-    for (error, text) in [
-        (CommandError::BadCommandFile(9), "23 BadCommandFile line 9"),
-        (CommandError::TooLarge, "9 TooLarge"),
-        (CommandError::OutOfMemory, "10 OutOfMemory"),
-    ] {
-        assert_eq!(rt; format!(in rt.alloc(); "{error}")?.as_str(), text);
+    for (error, want) in REFUSALS {
+        let text = error.to_string(rt.alloc())?;
+        assert_eq!(rt; text.as_str(), *want);
     }
     Ok(())
 }
 
+const COMMANDS: &[(&str, bool)] = &[
+    ("", true),
+    ("cc -c x.c", true),
+    ("a\nb", false),
+    ("a\rb", false),
+    ("a\0b", false),
+];
+
 #[test]
 fn a_command_is_one_line(rt: HostRuntime) {
-    for (command, legal) in [
-        ("", true),
-        ("cc -c x.c", true),
-        ("a\nb", false),
-        ("a\rb", false),
-        ("a\0b", false),
-    ] {
+    for &(command, legal) in COMMANDS {
         assert_eq!(rt; command_is_legal(command.as_bytes()), legal, "{command}");
     }
 }

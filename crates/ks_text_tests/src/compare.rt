@@ -1,37 +1,11 @@
 //! Worked comparisons: an old auto.conf, new settings, and the names that changed.
 use ks_compare::changed;
 use ks_output::{OldConfig, read_auto};
-use ks_symbols::{Dialect, Kconfig, Name, read_dotconfig, read_kconfig};
+use ks_symbols::{Dialect, Kconfig, Name, Settings, Symbols, read_dotconfig, read_kconfig};
 use std::alloc::{AllocError, Global};
 
 const KCONFIG: &[u8] =
     b"config A\n\tbool\nconfig B\n\ttristate\nconfig S\n\tstring\nconfig H\n\thex\nconfig I\n\tint\n";
-
-/// The names that change between an old configuration and a `.config`.
-fn changes(alloc: Global, old: &OldConfig, dotconfig: &[u8]) -> Result<String, AllocError> {
-    changes_by(
-        alloc,
-        &Kconfig::new(Dialect::Linux, KCONFIG),
-        old,
-        dotconfig,
-    )
-}
-
-/// The same, of the symbols of a Kconfig.
-fn changes_by(
-    alloc: Global,
-    kconfig: &Kconfig<'_>,
-    old: &OldConfig,
-    dotconfig: &[u8],
-) -> Result<String, AllocError> {
-    let Ok(symbols) = read_kconfig(alloc, kconfig) else {
-        return String::from_str(alloc, "Kconfig");
-    };
-    let Ok(settings) = read_dotconfig(alloc, dotconfig, &symbols) else {
-        return String::from_str(alloc, ".config");
-    };
-    spelled(alloc, &changed(alloc, old, &settings)?)
-}
 
 /// The names, each with a space after it.
 fn spelled(alloc: Global, changes: &[Name]) -> Result<String, AllocError> {
@@ -43,6 +17,44 @@ fn spelled(alloc: Global, changes: &[Name]) -> Result<String, AllocError> {
     Ok(names)
 }
 
+/// The names that change between an old configuration and new settings.
+fn changes_to(alloc: Global, old: &OldConfig, settings: &Settings) -> Result<String, AllocError> {
+    let names = changed(alloc, old, settings)?;
+    spelled(alloc, &names)
+}
+
+/// The same with a `.config` of these symbols.
+fn changes_of(
+    alloc: Global,
+    symbols: &Symbols,
+    old: &OldConfig,
+    dotconfig: &[u8],
+) -> Result<String, AllocError> {
+    match read_dotconfig(alloc, dotconfig, symbols) {
+        Ok(settings) => changes_to(alloc, old, &settings),
+        Err(_) => String::from_str(alloc, ".config"),
+    }
+}
+
+/// The same, of the symbols of a Kconfig.
+fn changes_by(
+    alloc: Global,
+    kconfig: &Kconfig<'_>,
+    old: &OldConfig,
+    dotconfig: &[u8],
+) -> Result<String, AllocError> {
+    match read_kconfig(alloc, kconfig) {
+        Ok(symbols) => changes_of(alloc, &symbols, old, dotconfig),
+        Err(_) => String::from_str(alloc, "Kconfig"),
+    }
+}
+
+/// The same, of the usual symbols.
+fn changes(alloc: Global, old: &OldConfig, dotconfig: &[u8]) -> Result<String, AllocError> {
+    let kconfig = Kconfig::new(Dialect::Linux, KCONFIG);
+    changes_by(alloc, &kconfig, old, dotconfig)
+}
+
 /// The names that change between an auto.conf and a `.config`, or the refusal.
 fn compared(alloc: Global, auto: &[u8], dotconfig: &[u8]) -> Result<String, AllocError> {
     match read_auto(alloc, auto) {
@@ -51,12 +63,18 @@ fn compared(alloc: Global, auto: &[u8], dotconfig: &[u8]) -> Result<String, Allo
     }
 }
 
+/// The names that change where there is no auto.conf yet.
+fn first_changes(alloc: Global, dotconfig: &[u8]) -> Result<String, AllocError> {
+    let none = OldConfig::empty(alloc);
+    changes(alloc, &none, dotconfig)
+}
+
 #[test]
 fn first_comparison(rt: HostRuntime) -> Result<(), AllocError> {
-    let alloc = rt.alloc();
-    let none = OldConfig::empty(alloc);
-    assert!(rt; changes(alloc, &none, b"CONFIG_B=m\nCONFIG_A=y\n")?.as_str() == "A B ");
-    assert!(rt; changes(alloc, &none, b"")?.as_str() == "");
+    let found = first_changes(rt.alloc(), b"CONFIG_B=m\nCONFIG_A=y\n")?;
+    assert!(rt; found.as_str() == "A B ");
+    let found = first_changes(rt.alloc(), b"")?;
+    assert!(rt; found.is_empty());
     Ok(())
 }
 
@@ -109,27 +127,30 @@ pub(crate) fn lines_falling(
     let mut text = String::new(alloc);
     for number in (0..1000).rev() {
         if number != but {
-            text.push_str(&format!(in alloc; "{before}S{number:04}{after}")?)?;
+            let line = format!(in alloc; "{before}S{number:04}{after}")?;
+            text.push_str(&line)?;
         }
     }
     Ok(text)
 }
 
-/// The names that change between an auto.conf without a symbol and a configuration of all thousand.
-fn changes_of_thousand(alloc: Global, missing: u32) -> Result<String, AllocError> {
+/// The names that change between an auto.conf and a configuration of all thousand.
+fn changes_to_thousand(alloc: Global, auto: &[u8]) -> Result<String, AllocError> {
     let kconfig = lines_falling(alloc, 1000, "config ", "\n\tbool\n")?;
     let dotconfig = lines_falling(alloc, 1000, "CONFIG_", "=y\n")?;
-    let mut auto = String::from_str(alloc, "#typed\n")?;
-    auto.push_str(&lines_falling(alloc, missing, "CONFIG_", "=y\n")?)?;
-    match read_auto(alloc, auto.as_bytes()) {
-        Ok(old) => changes_by(
-            alloc,
-            &Kconfig::new(Dialect::Linux, kconfig.as_bytes()),
-            &old,
-            dotconfig.as_bytes(),
-        ),
+    let kconfig = Kconfig::new(Dialect::Linux, kconfig.as_bytes());
+    match read_auto(alloc, auto) {
+        Ok(old) => changes_by(alloc, &kconfig, &old, dotconfig.as_bytes()),
         Err(error) => error.to_string(alloc),
     }
+}
+
+/// The same where the auto.conf is without a symbol.
+fn changes_of_thousand(alloc: Global, missing: u32) -> Result<String, AllocError> {
+    let mut auto = String::from_str(alloc, "#typed\n")?;
+    let lines = lines_falling(alloc, missing, "CONFIG_", "=y\n")?;
+    auto.push_str(&lines)?;
+    changes_to_thousand(alloc, auto.as_bytes())
 }
 
 #[test]

@@ -3,27 +3,21 @@ ghost use Rattle.std.specs.Prelude.{◌<◌};
 
 use crate::fixdep::{in_pieces, note_source};
 use ks_fixdep::{
-    DepError, Header, NamesBySource, Prerequisites, Rules, Seed, SourceScan, listed_names,
-    read_depfile, read_depfile_without, record_text,
+    DepError, Header, NamesBySource, Prerequisites, Rules, Seed, listed_names, read_depfile,
+    read_depfile_without, record_text,
 };
 use ks_symbols::{Dialect, Name};
 use std::alloc::{AllocError, Global};
+use std::process::Abort;
 use std::test::Fail;
 
-/// Scans a source that comes in these pieces.
-fn scan_by(scan: &mut SourceScan, rules: Rules, pieces: &[&[u8]]) -> Result<(), AllocError> {
+/// Scans a source that comes in these pieces, as the next prerequisite.
+fn scan_by(found: &mut NamesBySource, rules: Rules, pieces: &[&[u8]]) -> Result<(), AllocError> {
     for piece in pieces {
-        scan.feed_as(rules, piece)?;
+        found.scan.feed_as(rules, piece)?;
     }
-    scan.end_source_as(rules)
-}
-
-/// The only source of an object, in these pieces.
-fn scanned_by(alloc: Global, rules: Rules, pieces: &[&[u8]]) -> Result<NamesBySource, AllocError> {
-    let mut found = NamesBySource::with_seed(alloc, Seed::new(0));
-    scan_by(&mut found.scan, rules, pieces)?;
-    note_source(&mut found)?;
-    Ok(found)
+    found.scan.end_source_as(rules)?;
+    note_source(found)
 }
 
 /// Names, each after a space.
@@ -36,15 +30,22 @@ fn spelled(alloc: Global, names: &[Name]) -> Result<Vec<u8>, AllocError> {
     Ok(all)
 }
 
-/// The names that a record lists, each after a space.
-fn listed(
+/// The names that the record of a scanned source lists, each after a space.
+fn listed(alloc: Global, found: &mut NamesBySource) -> Result<Vec<u8>, DepError> {
+    let read = read_depfile(alloc, b"x.o: x.c")?;
+    record_text(alloc, b"x.o", b"cc", &read, found, None)?;
+    Ok(spelled(alloc, &listed_names(alloc, found)?)?)
+}
+
+/// Scans a source, and lists the names of its record.
+fn listed_by(
     alloc: Global,
-    read: &Prerequisites,
+    rules: Rules,
+    pieces: &[&[u8]],
     found: &mut NamesBySource,
-) -> Result<Vec<u8>, AllocError> {
-    record_text(alloc, b"x.o", b"cc", read, found, None)?;
-    let names = listed_names(alloc, found)?;
-    spelled(alloc, &names)
+) -> Result<Vec<u8>, DepError> {
+    scan_by(found, rules, pieces)?;
+    listed(alloc, found)
 }
 
 /// The names of a text that comes in pieces of a size, each after a space.
@@ -52,9 +53,23 @@ fn names_by(alloc: Global, rules: Rules, text: &[u8], size: usize) -> Result<Vec
     requires { 0 < size }
 {
     let pieces = in_pieces(alloc, text, size)?;
-    let mut found = scanned_by(alloc, rules, &pieces)?;
-    let read = read_depfile(alloc, b"x.o: x.c")?;
-    Ok(listed(alloc, &read, &mut found)?)
+    let mut found = NamesBySource::with_seed(alloc, Seed::new(0));
+    listed_by(alloc, rules, &pieces, &mut found)
+}
+
+/// The names of a text, each after a space, are these, whatever the size of the pieces that it comes in.
+fn check_names(
+    rt: &impl Abort,
+    alloc: Global,
+    rules: Rules,
+    text: &[u8],
+    want: &[u8],
+) -> Result<(), Fail> {
+    for size in [1, 7, 4096] {
+        let all = names_by(alloc, rules, text, size)?;
+        assert_eq!(rt; all.as_slice(), want, "in pieces of {size}");
+    }
+    Ok(())
 }
 
 #[rattlefmt::skip]
@@ -75,16 +90,9 @@ const WORDS_OF_BUSYBOX: &[(&[u8], &[u8])] = &[
 
 #[test]
 fn words_of_busybox(rt: HostRuntime) -> Result<(), Fail> {
+    let rules = Rules::for_target(Dialect::BusyBox, b"x.o");
     for &(text, want) in WORDS_OF_BUSYBOX {
-        for size in [1usize, 7, 4096] {
-            let all = names_by(
-                rt.alloc(),
-                Rules::for_target(Dialect::BusyBox, b"x.o"),
-                text,
-                size,
-            )?;
-            assert_eq!(rt; all.as_slice(), want, "in pieces of {size}");
-        }
+        check_names(&rt, rt.alloc(), rules, text, want)?;
     }
     Ok(())
 }
@@ -112,15 +120,8 @@ const MACROS_OF_U_BOOT: &[(&[u8], &[u8], &[u8])] = &[
 #[test]
 fn macros_of_u_boot(rt: HostRuntime) -> Result<(), Fail> {
     for &(target, text, want) in MACROS_OF_U_BOOT {
-        for size in [1usize, 7, 4096] {
-            let all = names_by(
-                rt.alloc(),
-                Rules::for_target(Dialect::UBoot, target),
-                text,
-                size,
-            )?;
-            assert_eq!(rt; all.as_slice(), want, "in pieces of {size}");
-        }
+        let rules = Rules::for_target(Dialect::UBoot, target);
+        check_names(&rt, rt.alloc(), rules, text, want)?;
     }
     Ok(())
 }
@@ -137,33 +138,18 @@ const MACROS_OF_COREBOOT: &[(&[u8], &[u8])] = &[
 
 #[test]
 fn macro_of_coreboot(rt: HostRuntime) -> Result<(), Fail> {
+    let rules = Rules::for_target(Dialect::Coreboot, b"x.o");
     for &(text, want) in MACROS_OF_COREBOOT {
-        for size in [1usize, 7, 4096] {
-            let all = names_by(
-                rt.alloc(),
-                Rules::for_target(Dialect::Coreboot, b"x.o"),
-                text,
-                size,
-            )?;
-            assert_eq!(rt; all.as_slice(), want, "in pieces of {size}");
-        }
+        check_names(&rt, rt.alloc(), rules, text, want)?;
     }
     Ok(())
 }
 
 #[test]
 fn linux_by_its_dialect(rt: HostRuntime) -> Result<(), Fail> {
+    let rules = Rules::for_target(Dialect::Linux, b"spl/x.o");
     let text = b"CONFIG_A ENABLE_B CONFIG_C_MODULE CONFIG_IS_ENABLED(D)";
-    for size in [1usize, 7, 4096] {
-        let all = names_by(
-            rt.alloc(),
-            Rules::for_target(Dialect::Linux, b"spl/x.o"),
-            text,
-            size,
-        )?;
-        assert_eq!(rt; all.as_slice(), b" A C IS_ENABLED".as_slice());
-    }
-    Ok(())
+    check_names(&rt, rt.alloc(), rules, text, b" A C IS_ENABLED")
 }
 
 #[rattlefmt::skip]
@@ -174,21 +160,36 @@ const FILES_BESIDE_HEADERS: &[(Dialect, &[u8])] = &[
     (Dialect::Coreboot, b" x.c include/autoconf.h ../include/autoconf.h minclude/autoconf.h"),
 ];
 
+/// Prerequisites, each after a space.
+fn spelled_files(alloc: Global, read: &Prerequisites) -> Result<Vec<u8>, AllocError> {
+    let mut all = Vec::new(alloc);
+    for place in 0..read.len() {
+        if let Some((path, _)) = read.get(place) {
+            all.push(b' ')?;
+            all.extend_from_slice(path)?;
+        }
+    }
+    Ok(all)
+}
+
+/// The files that a dependency file lists beside the header of a dialect, each after a space; nothing where it is refused.
+fn files_beside_header(
+    alloc: Global,
+    dialect: Dialect,
+    text: &[u8],
+) -> Result<Vec<u8>, AllocError> {
+    match read_depfile_without(alloc, Seed::new(0), Header::usual(dialect), text) {
+        Ok(read) => spelled_files(alloc, &read),
+        Err(_) => Ok(Vec::new(alloc)),
+    }
+}
+
 #[test]
 fn headers_left_out(rt: HostRuntime) -> Result<(), Fail> {
     let text =
         b"x.o: x.c include/autoconf.h ../include/autoconf.h minclude/autoconf.h include/generated/autoconf.h";
     for &(dialect, want) in FILES_BESIDE_HEADERS {
-        let header = Header::usual(dialect);
-        let mut all = Vec::new(rt.alloc());
-        if let Ok(read) = read_depfile_without(rt.alloc(), Seed::new(0), header, text) {
-            for place in 0..read.len() {
-                if let Some((path, _)) = read.get(place) {
-                    all.push(b' ')?;
-                    all.extend_from_slice(path)?;
-                }
-            }
-        }
+        let all = files_beside_header(rt.alloc(), dialect, text)?;
         assert_eq!(rt; all.as_slice(), want);
     }
     Ok(())

@@ -3,11 +3,12 @@ ghost use Rattle.std.specs.Prelude.{◌<◌};
 
 use crate::golden;
 use ks_fixdep::{
-    CommandFile, DepError, FoundNames, NamesBySource, Prerequisites, Role, Scanner, Seed,
-    SourceScan, build, build_from, names, read_depfile, record_text, token_at, write_command,
+    CommandFile, DepError, FoundNames, NamesBySource, Prerequisites, Role, Scanner, Seed, build,
+    build_from, names, read_depfile, record_text, token_at, write_command,
 };
 use ks_symbols::{MAX_BYTES, name_is_legal, write_decimal};
 use std::alloc::{AllocError, Global};
+use std::process::Abort;
 use std::test::Fail;
 
 /// What stands in place of a text where there are not as many texts as prerequisites.
@@ -117,21 +118,39 @@ const LONG_NAMES: &[(usize, &[u8], bool)] = &[
     (129, b"_MODULE", false),
 ];
 
+/// The place of the first name of a text, and its length.
+fn first_name(text: &[u8]) -> Option<(usize, usize)> {
+    match names(text).next() {
+        Some(found) => Some((found.place, found.name.len())),
+        None => None,
+    }
+}
+
+/// A text is one name of so many letters, or none, whole and in pieces.
+fn check_long_name(
+    rt: &impl Abort,
+    alloc: Global,
+    text: &[u8],
+    letters: Option<usize>,
+) -> Result<(), AllocError> {
+    let (first, length) = match letters {
+        Some(letters) => (Some((0, letters)), letters.saturating_add(1)),
+        None => (None, 0),
+    };
+    assert_eq!(rt; first_name(text), first);
+    for size in [1, 7, 142, 4096] {
+        let all = borrowed_in(alloc, text, size)?;
+        assert_eq!(rt; all.len(), length, "{letters:?} in pieces of {size}");
+    }
+    Ok(())
+}
+
 #[test]
 fn the_longest_name_whole_and_byte_by_byte(rt: HostRuntime) -> Result<(), Fail> {
     for &(letters, following, taken) in LONG_NAMES {
         let text = long_name(rt.alloc(), letters, following)?;
-        let first = names(&text).next();
-        assert_eq!(rt;
-            first.map(|found| (found.place, found.name.len())),
-            taken.then_some((0, letters))
-        );
-        let want = if taken { letters + 1 } else { 0 };
-        for size in [1, 7, 142, 4096] {
-            let pieces = in_pieces(rt.alloc(), &text, size)?;
-            let all = borrowed(rt.alloc(), &pieces)?;
-            assert_eq!(rt; all.len(), want, "{letters} in pieces of {size}");
-        }
+        let letters = if taken { Some(letters) } else { None };
+        check_long_name(&rt, rt.alloc(), &text, letters)?;
     }
     Ok(())
 }
@@ -162,12 +181,13 @@ fn borrowed_in(alloc: Global, text: &[u8], size: usize) -> Result<Vec<u8>, Alloc
     borrowed(alloc, &pieces)
 }
 
-/// Scans a source that comes in these pieces.
-fn scan_pieces(scan: &mut SourceScan, pieces: &[&[u8]]) -> Result<(), AllocError> {
+/// Scans a source that comes in these pieces, as the next prerequisite.
+fn scan_pieces(found: &mut NamesBySource, pieces: &[&[u8]]) -> Result<(), AllocError> {
     for piece in pieces {
-        scan.feed(piece)?;
+        found.scan.feed(piece)?;
     }
-    scan.end_source()
+    found.scan.end_source()?;
+    note_source(found)
 }
 
 /// Notes the source that was scanned last as the next prerequisite.
@@ -177,25 +197,42 @@ pub(crate) fn note_source(found: &mut NamesBySource) -> Result<(), AllocError> {
     Ok(())
 }
 
-/// The only source of an object, in these pieces.
-fn scanned_in(alloc: Global, pieces: &[&[u8]]) -> Result<NamesBySource, AllocError> {
-    let mut found = NamesBySource::with_seed(alloc, Seed::new(0));
-    scan_pieces(&mut found.scan, pieces)?;
-    note_source(&mut found)?;
-    Ok(found)
+/// The text of the command file of an object with these prerequisites, which were scanned.
+fn record_of(
+    alloc: Global,
+    read: &Prerequisites,
+    words: (&[u8], &[u8]),
+    found: &mut NamesBySource,
+) -> Result<Vec<u8>, AllocError> {
+    if read.len() != found.sources.len() {
+        return Vec::from_slice(alloc, ANOTHER_NUMBER);
+    }
+    Ok(record_text(alloc, words.0, words.1, read, found, None)?.text)
 }
 
-/// The text of the command file of an object whose only source is in pieces of a size.
+/// The text of the command file of an object whose only source was scanned.
+fn record_of_source(alloc: Global, found: &mut NamesBySource) -> Result<Vec<u8>, DepError> {
+    let read = read_depfile(alloc, b"x.o: x.c")?;
+    Ok(record_of(alloc, &read, (b"x.o", b"cc"), found)?)
+}
+
+/// Scans the only source of an object, and makes that text.
+fn record_of_pieces(
+    alloc: Global,
+    pieces: &[&[u8]],
+    found: &mut NamesBySource,
+) -> Result<Vec<u8>, DepError> {
+    scan_pieces(found, pieces)?;
+    record_of_source(alloc, found)
+}
+
+/// The same where the source is in pieces of a size.
 fn record_in_pieces(alloc: Global, text: &[u8], size: usize) -> Result<Vec<u8>, DepError>
     requires { 0 < size }
 {
-    let read = read_depfile(alloc, b"x.o: x.c")?;
     let pieces = in_pieces(alloc, text, size)?;
-    let mut found = scanned_in(alloc, &pieces)?;
-    if read.len() != found.sources.len() {
-        return Ok(Vec::from_slice(alloc, ANOTHER_NUMBER)?);
-    }
-    Ok(record_text(alloc, b"x.o", b"cc", &read, &mut found, None)?.text)
+    let mut found = NamesBySource::with_seed(alloc, Seed::new(0));
+    record_of_pieces(alloc, &pieces, &mut found)
 }
 
 /// The same text for a source with these names.
@@ -267,20 +304,24 @@ fn a_name_over_a_border(rt: HostRuntime) -> Result<(), Fail> {
     Ok(())
 }
 
+/// Notes the legal ones of these names.
+fn note_each(found: &mut FoundNames, names: &[&[u8]]) -> Result<(), AllocError> {
+    for name in names {
+        if name_is_legal(name) {
+            found.note(name)?;
+        }
+    }
+    Ok(())
+}
+
 #[test]
 fn a_name_is_noted_once(rt: HostRuntime) -> Result<(), Fail> {
     let mut found = FoundNames::new(rt.alloc());
     assert!(rt; found.is_empty());
-    let legal: [&[u8]; 4] = [b"B", b"A", b"B", b"C"];
-    for name in legal {
-        assert!(rt; name_is_legal(name));
-        found.note(name)?;
-    }
+    note_each(&mut found, &[b"B", b"A", b"B", b"C"])?;
     assert_eq!(rt; found.len(), 3);
-    assert_eq!(rt;
-        spelled(rt.alloc(), &found)?.as_slice(),
-        b"B A C ".as_slice()
-    );
+    let all = spelled(rt.alloc(), &found)?;
+    assert_eq!(rt; all.as_slice(), b"B A C ".as_slice());
     Ok(())
 }
 
@@ -302,7 +343,8 @@ fn note_many(alloc: Global, found: &mut FoundNames) -> Result<(), AllocError> {
 fn many_names(alloc: Global) -> Result<Vec<u8>, AllocError> {
     let mut all = Vec::new(alloc);
     for number in 0..MANY {
-        push_name(&mut all, format!(in alloc; "NAME_{number}")?.as_bytes())?;
+        let name = format!(in alloc; "NAME_{number}")?;
+        push_name(&mut all, name.as_bytes())?;
     }
     Ok(all)
 }
@@ -324,26 +366,27 @@ fn letter(role: Role) -> u8 {
     }
 }
 
-/// The prerequisites of a dependency file, each after the letter of its role; or the refusal.
-fn prerequisites(alloc: Global, text: &[u8]) -> Result<Vec<u8>, AllocError> {
+/// Prerequisites, each after the letter of its role.
+fn with_roles(alloc: Global, read: &Prerequisites) -> Result<Vec<u8>, AllocError> {
     let mut all = Vec::new(alloc);
-    match read_depfile(alloc, text) {
-        Ok(read) => {
-            for place in 0..read.len() {
-                if let Some((path, role)) = read.get(place) {
-                    all.push(letter(role))?;
-                    push_name(&mut all, path)?;
-                }
-            }
-            if read.get(read.len()).is_some() {
-                all.push(b'!')?;
-            }
-        }
-        Err(refusal) => {
-            all.extend_from_slice(format!(in alloc; "{refusal}")?.as_bytes())?;
+    for place in 0..read.len() {
+        if let Some((path, role)) = read.get(place) {
+            all.push(letter(role))?;
+            push_name(&mut all, path)?;
         }
     }
+    if read.get(read.len()).is_some() {
+        all.push(b'!')?;
+    }
     Ok(all)
+}
+
+/// The prerequisites of a dependency file, each after the letter of its role; or the refusal.
+fn prerequisites(alloc: Global, text: &[u8]) -> Result<Vec<u8>, AllocError> {
+    match read_depfile(alloc, text) {
+        Ok(read) => with_roles(alloc, &read),
+        Err(refusal) => Ok(refusal.to_string(alloc)?.into_bytes()),
+    }
 }
 
 #[rattlefmt::skip]
@@ -382,19 +425,25 @@ fn many_files(alloc: Global, rounds: usize) -> Result<String, AllocError> {
     let mut text = String::from_str(alloc, "x.o: x.c")?;
     for _ in 0..rounds {
         for number in 0..MANY {
-            text.push_str(&format!(in alloc; " d/{number}.h")?)?;
+            let file = format!(in alloc; " d/{number}.h")?;
+            text.push_str(&file)?;
         }
     }
     Ok(text)
 }
 
+/// The prerequisites of so often each of many files.
+fn many_prerequisites(alloc: Global, rounds: usize) -> Result<Vec<u8>, AllocError> {
+    let text = many_files(alloc, rounds)?;
+    prerequisites(alloc, text.as_bytes())
+}
+
 #[test]
 fn many_files_are_listed_once(rt: HostRuntime) -> Result<(), AllocError> {
-    let once = many_files(rt.alloc(), 1)?;
-    let thrice = many_files(rt.alloc(), 3)?;
-    let read = prerequisites(rt.alloc(), once.as_bytes())?;
-    assert!(rt; read.starts_with(b"Sx.c +d/0.h +d/1.h ") && read.ends_with(b" +d/4999.h "));
-    assert!(rt; prerequisites(rt.alloc(), thrice.as_bytes())? == read);
+    let once = many_prerequisites(rt.alloc(), 1)?;
+    assert!(rt; once.starts_with(b"Sx.c +d/0.h +d/1.h ") && once.ends_with(b" +d/4999.h "));
+    let thrice = many_prerequisites(rt.alloc(), 3)?;
+    assert!(rt; thrice == once);
     Ok(())
 }
 
@@ -422,16 +471,33 @@ const CUTS: &[(usize, &[u8], usize)] = &[
     (53, b"Sx.c +a.h +b.h ", 53),
 ];
 
+/// What is settled where a text is cut, and where the path begins that is cut.
+fn settled_at(end: usize) -> (&'static [u8], usize) {
+    for &(last, settled, open) in CUTS {
+        if end <= last {
+            return (settled, open);
+        }
+    }
+    (b"no row", end)
+}
+
+/// What is read of a text that is cut.
+fn read_of_cut(alloc: Global, text: &[u8]) -> Result<Vec<u8>, AllocError> {
+    let (settled, open) = settled_at(text.len());
+    let mut all = Vec::from_slice(alloc, settled)?;
+    if open < text.len() {
+        push_name(&mut all, &text[open..])?;
+    }
+    Ok(all)
+}
+
 #[test]
 fn each_cut_of_a_dependency_file_is_read_or_refused(rt: HostRuntime) -> Result<(), Fail> {
     for end in 0..=golden::DEPFILE.len() {
         let text = &golden::DEPFILE[..end];
-        let (_, settled, open) = *CUTS.iter().find(|row| end <= row.0).ok_or("no row")?;
-        let mut want = settled.to_vec(rt.alloc())?;
-        if open < end {
-            push_name(&mut want, &text[open..])?;
-        }
-        assert_eq!(rt; prerequisites(rt.alloc(), text)?, want, "cut at {end}");
+        let want = read_of_cut(rt.alloc(), text)?;
+        let read = prerequisites(rt.alloc(), text)?;
+        assert!(rt; read == want, "cut at {end}");
     }
     Ok(())
 }
@@ -440,31 +506,28 @@ fn each_cut_of_a_dependency_file_is_read_or_refused(rt: HostRuntime) -> Result<(
 fn a_dependency_file_may_have_64_mebibytes(rt: HostRuntime) -> Result<(), Fail> {
     let mut text = vec![in rt.alloc(); b' '; MAX_BYTES - 8]?;
     text.extend_from_slice(b"x.o: x.c")?;
-    assert_eq!(rt;
-        prerequisites(rt.alloc(), &text)?.as_slice(),
-        b"Sx.c ".as_slice()
-    );
+    let read = prerequisites(rt.alloc(), &text)?;
+    assert_eq!(rt; read.as_slice(), b"Sx.c ".as_slice());
     text.push(b'c')?;
-    assert_eq!(rt;
-        prerequisites(rt.alloc(), &text)?.as_slice(),
-        b"9 TooLarge".as_slice()
-    );
+    let read = prerequisites(rt.alloc(), &text)?;
+    assert_eq!(rt; read.as_slice(), b"9 TooLarge".as_slice());
     Ok(())
 }
 
-/// Scans these texts, each a source.
-fn scan_texts(found: &mut NamesBySource, texts: &[&[u8]]) -> Result<(), AllocError> {
-    for text in texts {
-        scan_pieces(&mut found.scan, &[text])?;
-        note_source(found)?;
+/// Notes the names of a text.
+fn note_names(found: &mut FoundNames, text: &[u8]) -> Result<(), AllocError> {
+    for next in names(text) {
+        if name_is_legal(next.name) {
+            found.note(next.name)?;
+        }
     }
     Ok(())
 }
 
-/// The names in each of these texts.
-fn scanned(alloc: Global, texts: &[&[u8]]) -> Result<NamesBySource, AllocError> {
-    let mut found = NamesBySource::with_seed(alloc, Seed::new(0));
-    scan_texts(&mut found, texts)?;
+/// The names of a text, each once.
+fn noted_in(alloc: Global, text: &[u8]) -> Result<FoundNames, AllocError> {
+    let mut found = FoundNames::new(alloc);
+    note_names(&mut found, text)?;
     Ok(found)
 }
 
@@ -472,13 +535,7 @@ fn scanned(alloc: Global, texts: &[&[u8]]) -> Result<NamesBySource, AllocError> 
 fn noted(alloc: Global, texts: &[&[u8]]) -> Result<Vec<FoundNames>, AllocError> {
     let mut all = Vec::new(alloc);
     for text in texts {
-        let mut found = FoundNames::new(alloc);
-        for next in names(text) {
-            if name_is_legal(next.name) {
-                found.note(next.name)?;
-            }
-        }
-        all.push(found)?;
+        all.push(noted_in(alloc, text)?)?;
     }
     Ok(all)
 }
@@ -489,6 +546,20 @@ fn written(alloc: Global, file: &CommandFile) -> Result<Vec<u8>, AllocError> {
     Ok(out)
 }
 
+/// Scans these texts, each a source, and makes the text of a command file straight from what was found.
+fn record_of_texts(
+    alloc: Global,
+    read: &Prerequisites,
+    words: (&[u8], &[u8]),
+    texts: &[&[u8]],
+    found: &mut NamesBySource,
+) -> Result<Vec<u8>, AllocError> {
+    for text in texts {
+        scan_pieces(found, &[text])?;
+    }
+    record_of(alloc, read, words, found)
+}
+
 /// The text of a command file straight from the names.
 fn text_of_record(
     alloc: Global,
@@ -496,11 +567,8 @@ fn text_of_record(
     words: (&[u8], &[u8]),
     texts: &[&[u8]],
 ) -> Result<Vec<u8>, AllocError> {
-    let mut found = scanned(alloc, texts)?;
-    if read.len() != found.sources.len() {
-        return Vec::from_slice(alloc, ANOTHER_NUMBER);
-    }
-    Ok(record_text(alloc, words.0, words.1, read, &mut found, None)?.text)
+    let mut found = NamesBySource::with_seed(alloc, Seed::new(0));
+    record_of_texts(alloc, read, words, texts, &mut found)
 }
 
 /// The same by a command file that is made of the names.
@@ -532,7 +600,23 @@ fn text_from_texts(
     Ok(written(alloc, &built)?)
 }
 
-/// The text of the command file of an object, from the texts of its prerequisites; or the refusal. All three ways to it agree.
+/// The text of the command file of an object with these prerequisites. All three ways to it agree.
+fn text_by_all_ways(
+    alloc: Global,
+    read: &Prerequisites,
+    words: (&[u8], &[u8]),
+    texts: &[&[u8]],
+) -> Result<Vec<u8>, DepError> {
+    let straight = text_of_record(alloc, read, words, texts)?;
+    let out = text_from_names(alloc, read, words, texts)?;
+    let again = text_from_texts(alloc, read, words, texts)?;
+    if straight != out || again != out {
+        return Ok(Vec::from_slice(alloc, b"three ways to different texts".as_slice())?);
+    }
+    Ok(out)
+}
+
+/// The text of the command file of an object, from the texts of its prerequisites; or the refusal.
 fn command_text(
     alloc: Global,
     depfile: &[u8],
@@ -540,13 +624,7 @@ fn command_text(
     texts: &[&[u8]],
 ) -> Result<Vec<u8>, DepError> {
     let read = read_depfile(alloc, depfile)?;
-    let straight = text_of_record(alloc, &read, words, texts)?;
-    let out = text_from_names(alloc, &read, words, texts)?;
-    let again = text_from_texts(alloc, &read, words, texts)?;
-    if straight != out || again != out {
-        return Ok(Vec::from_slice(alloc, b"three ways to different texts".as_slice())?);
-    }
-    Ok(out)
+    text_by_all_ways(alloc, &read, words, texts)
 }
 
 #[rattlefmt::skip]
@@ -589,7 +667,7 @@ fn objects_have_their_command_files(rt: HostRuntime) -> Result<(), Fail> {
 fn refusal_of(alloc: Global, target: &[u8], command: &[u8]) -> Result<String, AllocError> {
     match command_text(alloc, b"x.o: x.c", (target, command), &[b""]) {
         Ok(_) => String::from_str(alloc, "not refused"),
-        Err(refusal) => format!(in alloc; "{refusal}"),
+        Err(refusal) => refusal.to_string(alloc),
     }
 }
 
@@ -611,18 +689,20 @@ fn a_target_and_a_command_are_checked_in_this_order(rt: HostRuntime) -> Result<(
     Ok(())
 }
 
-#[test]
 #[rattlefmt::skip]
+const REFUSALS: &[(DepError, &str)] = &[
+    (DepError::TooLarge,    "9 TooLarge"),
+    (DepError::OutOfMemory, "10 OutOfMemory"),
+    (DepError::NoTarget,    "20 NoTarget"),
+    (DepError::BadPath(7),  "21 BadPath token 7"),
+    (DepError::BadCommand,  "22 BadCommand"),
+];
+
+#[test]
 fn refusals_have_their_texts(rt: HostRuntime) -> Result<(), Fail> {
-    for (refusal, want) in [
-        (DepError::TooLarge,    "9 TooLarge"),
-        (DepError::OutOfMemory, "10 OutOfMemory"),
-        (DepError::NoTarget,    "20 NoTarget"),
-        (DepError::BadPath(7),  "21 BadPath token 7"),
-        (DepError::BadCommand,  "22 BadCommand"),
-    ] {
-        let text = format!(in rt.alloc(); "{refusal}")?;
-        assert_eq!(rt; text.as_str(), want);
+    for (refusal, want) in REFUSALS {
+        let text = refusal.to_string(rt.alloc())?;
+        assert_eq!(rt; text.as_str(), *want);
     }
     Ok(())
 }

@@ -1,8 +1,9 @@
 //! Worked examples: whole files as they are written, and what is read of others.
 use crate::compare::lines_falling;
 use ks_output::{OldConfig, read_auto, read_auto_generation, write_auto, write_header};
-use ks_symbols::{Class, Dialect, Kconfig, read_dotconfig, read_kconfig};
+use ks_symbols::{Class, Dialect, Kconfig, Settings, Symbols, read_dotconfig, read_kconfig};
 use std::alloc::{AllocError, Global};
+use std::process::Abort;
 
 const SWITCHES: &[u8] = b"mainmenu \"Demo\"\nconfig A\n\tbool\nconfig B\n\ttristate\n";
 
@@ -13,9 +14,6 @@ const NUMBERS: &[u8] =
 
 const AUTO_HEAD: &[u8] =
     b"#\n# Automatically generated file; DO NOT EDIT.\n# Main menu\n#\n#typed\n";
-
-const HEADER_HEAD: &[u8] =
-    b"/*\n * Automatically generated file; DO NOT EDIT.\n * Main menu\n */\n";
 
 const SWITCHES_AUTO: &[u8] = br#"#
 # Automatically generated file; DO NOT EDIT.
@@ -35,86 +33,151 @@ const SWITCHES_HEADER: &[u8] = br#"/*
 #define CONFIG_B_MODULE 1
 "#;
 
-/// The auto.conf of generation 1 and the header of two source texts, each after a word that stood there before.
-fn written(
-    alloc: Global,
-    kconfig: &[u8],
-    dotconfig: &[u8],
-) -> Result<(Vec<u8>, Vec<u8>), AllocError> {
-    written_in(alloc, Dialect::Linux, kconfig, dotconfig)
+/// An auto.conf of generation 1 and a header, each after a word that stood there before.
+#[derive(Drop)]
+struct Written {
+    auto: Vec<u8>,
+    header: Vec<u8>,
 }
 
-/// The same in a dialect.
-fn written_in(
+fn write_both(settings: &Settings, title: &[u8], files: &mut Written) -> Result<(), AllocError> {
+    write_auto(settings, title, 1, &mut files.auto)?;
+    write_header(settings, title, &mut files.header)
+}
+
+/// Writes what a `.config` says of these symbols; nothing where it is refused.
+fn write_settings(
+    alloc: Global,
+    symbols: &Symbols,
+    dotconfig: &[u8],
+    files: &mut Written,
+) -> Result<(), AllocError> {
+    match read_dotconfig(alloc, dotconfig, symbols) {
+        Ok(settings) => write_both(&settings, symbols.title(), files),
+        Err(_) => Ok(()),
+    }
+}
+
+/// The same of the symbols of a Kconfig.
+fn write_texts(
+    alloc: Global,
+    kconfig: &Kconfig<'_>,
+    dotconfig: &[u8],
+    files: &mut Written,
+) -> Result<(), AllocError> {
+    match read_kconfig(alloc, kconfig) {
+        Ok(symbols) => write_settings(alloc, &symbols, dotconfig, files),
+        Err(_) => Ok(()),
+    }
+}
+
+/// Two files with nothing but those words.
+fn begun(alloc: Global) -> Result<Written, AllocError> {
+    let auto = Vec::from_slice(alloc, b"auto:".as_slice())?;
+    let header = Vec::from_slice(alloc, b"header:".as_slice())?;
+    Ok(Written { auto, header })
+}
+
+/// The files of two source texts in a dialect.
+fn files_in(
     alloc: Global,
     dialect: Dialect,
     kconfig: &[u8],
     dotconfig: &[u8],
-) -> Result<(Vec<u8>, Vec<u8>), AllocError> {
-    let mut auto = Vec::from_slice(alloc, b"auto:".as_slice())?;
-    let mut header = Vec::from_slice(alloc, b"header:".as_slice())?;
-    if let Ok(symbols) = read_kconfig(alloc, &Kconfig::new(dialect, kconfig)) {
-        if let Ok(settings) = read_dotconfig(alloc, dotconfig, &symbols) {
-            write_auto(&settings, symbols.title(), 1, &mut auto)?;
-            write_header(&settings, symbols.title(), &mut header)?;
-        }
-    }
-    Ok((auto, header))
+) -> Result<Written, AllocError> {
+    let mut files = begun(alloc)?;
+    write_texts(
+        alloc,
+        &Kconfig::new(dialect, kconfig),
+        dotconfig,
+        &mut files,
+    )?;
+    Ok(files)
 }
 
-fn joined(alloc: Global, pieces: &[&[u8]]) -> Result<Vec<u8>, AllocError> {
-    let mut whole = Vec::new(alloc);
+/// The same in that of Linux.
+fn files_of(alloc: Global, kconfig: &[u8], dotconfig: &[u8]) -> Result<Written, AllocError> {
+    files_in(alloc, Dialect::Linux, kconfig, dotconfig)
+}
+
+/// Whether a text is made of these pieces, one after the other.
+fn is_made_of(text: &[u8], pieces: &[&[u8]]) -> bool {
+    let mut rest = text;
     for piece in pieces {
-        whole.extend_from_slice(piece)?;
+        match rest.strip_prefix(*piece) {
+            Some(after) => rest = after,
+            None => return false,
+        }
     }
-    Ok(whole)
+    rest.is_empty()
+}
+
+/// The files are made of these pieces.
+fn check_files(rt: &impl Abort, name: &str, files: &Written, auto: &[&[u8]], header: &[&[u8]]) {
+    assert!(rt; is_made_of(&files.auto, auto), "auto.conf of {name}");
+    assert!(rt; is_made_of(&files.header, header), "header of {name}");
 }
 
 #[test]
 fn files_of_switches(rt: HostRuntime) -> Result<(), AllocError> {
-    let alloc = rt.alloc();
-    let (auto, header) = written(alloc, SWITCHES, b"CONFIG_B=m\nCONFIG_A=y\n")?;
-    assert!(rt; auto == joined(alloc, &[b"auto:", SWITCHES_AUTO])?);
-    assert!(rt; header == joined(alloc, &[b"header:", SWITCHES_HEADER])?);
-    assert!(rt; auto.len() == 5 + 99 && header.len() == 7 + 106);
+    let files = files_of(rt.alloc(), SWITCHES, b"CONFIG_B=m\nCONFIG_A=y\n")?;
+    let auto = [b"auto:", SWITCHES_AUTO];
+    let header = [b"header:", SWITCHES_HEADER];
+    check_files(&rt, "switches", &files, &auto, &header);
+    assert!(rt; files.auto.len() == 5 + 99 && files.header.len() == 7 + 106);
     Ok(())
 }
 
+/// The files of a configuration with this title have these entries and definitions, and nothing else.
+fn check_entries(
+    rt: &impl Abort,
+    name: &str,
+    files: &Written,
+    title: &[u8],
+    (entries, definitions): (&[u8], &[u8]),
+) {
+    let auto: [&[u8]; 6] = [
+        b"auto:",
+        b"#\n# Automatically generated file; DO NOT EDIT.\n# ",
+        title,
+        b"\n#\n#typed\n",
+        entries,
+        b"#generation 1\n",
+    ];
+    let header: [&[u8]; 5] = [
+        b"header:",
+        b"/*\n * Automatically generated file; DO NOT EDIT.\n * ",
+        title,
+        b"\n */\n",
+        definitions,
+    ];
+    check_files(rt, name, files, &auto, &header);
+}
+
+const DEMO: &[u8] = b"Demo";
+
+const MAIN: &[u8] = b"Main menu";
+
 #[rattlefmt::skip]
-const FILES_OF_OTHER_KINDS: &[(&str, &[u8], &[u8], &[u8], &[u8])] = &[
-    ("nothing at all", b"", b"", b"", b""),
-    ("an undeclared name", SWITCHES, b"CONFIG_A=y\n# CONFIG_A is not set\nCONFIG_ZZ=7\n", b"", b""),
-    ("quotes and backslashes", STRING, br#"CONFIG_S="a\"b\\c""#, b"#type S string\nCONFIG_S=a\"b\\c\n", b"#define CONFIG_S \"a\\\"b\\\\c\"\n"),
-    ("an empty string", STRING, b"CONFIG_S=\"\"\n", b"#type S string\nCONFIG_S=\n", b"#define CONFIG_S \"\"\n"),
-    ("the string n", STRING, b"CONFIG_S=\"n\"\n", b"#type S string\nCONFIG_S=n\n", b"#define CONFIG_S \"n\"\n"),
-    ("the string y", STRING, b"CONFIG_S=\"y\"\n", b"#type S string\nCONFIG_S=y\n", b"#define CONFIG_S \"y\"\n"),
-    ("hexadecimal numbers", NUMBERS, b"CONFIG_G=1f\nCONFIG_H=0x1f\nCONFIG_I=0X1F\n",
+const FILES_OF_OTHER_KINDS: &[(&str, &[u8], &[u8], &[u8], &[u8], &[u8])] = &[
+    ("nothing at all", MAIN, b"", b"", b"", b""),
+    ("an undeclared name", DEMO, SWITCHES, b"CONFIG_A=y\n# CONFIG_A is not set\nCONFIG_ZZ=7\n", b"", b""),
+    ("quotes and backslashes", MAIN, STRING, br#"CONFIG_S="a\"b\\c""#, b"#type S string\nCONFIG_S=a\"b\\c\n", b"#define CONFIG_S \"a\\\"b\\\\c\"\n"),
+    ("an empty string", MAIN, STRING, b"CONFIG_S=\"\"\n", b"#type S string\nCONFIG_S=\n", b"#define CONFIG_S \"\"\n"),
+    ("the string n", MAIN, STRING, b"CONFIG_S=\"n\"\n", b"#type S string\nCONFIG_S=n\n", b"#define CONFIG_S \"n\"\n"),
+    ("the string y", MAIN, STRING, b"CONFIG_S=\"y\"\n", b"#type S string\nCONFIG_S=y\n", b"#define CONFIG_S \"y\"\n"),
+    ("hexadecimal numbers", MAIN, NUMBERS, b"CONFIG_G=1f\nCONFIG_H=0x1f\nCONFIG_I=0X1F\n",
         b"#type G hex\nCONFIG_G=1f\n#type H hex\nCONFIG_H=0x1f\n#type I hex\nCONFIG_I=0X1F\n", b"#define CONFIG_G 0x1f\n#define CONFIG_H 0x1f\n#define CONFIG_I 0X1F\n"),
-    ("integers", NUMBERS, b"CONFIG_J=-0\nCONFIG_K=0\nCONFIG_L=-12\n",
+    ("integers", MAIN, NUMBERS, b"CONFIG_J=-0\nCONFIG_K=0\nCONFIG_L=-12\n",
         b"#type J int\nCONFIG_J=-0\n#type K int\nCONFIG_K=0\n#type L int\nCONFIG_L=-12\n", b"#define CONFIG_J -0\n#define CONFIG_K 0\n#define CONFIG_L -12\n"),
 ];
 
 #[test]
 fn files_of_other_kinds(rt: HostRuntime) -> Result<(), AllocError> {
-    let alloc = rt.alloc();
-    for &(name, kconfig, dotconfig, entries, definitions) in FILES_OF_OTHER_KINDS {
-        let (auto, header) = written(alloc, kconfig, dotconfig)?;
-        assert!(rt;
-            auto.starts_with(b"auto:#\n# Automatically")
-                && auto.ends_with(&joined(
-                    alloc,
-                    &[b"\n#\n#typed\n", entries, b"#generation 1\n"]
-                )?),
-            "{name}"
-        );
-        assert!(rt;
-            header.ends_with(&joined(alloc, &[b"\n */\n", definitions])?),
-            "{name}"
-        );
+    for &(name, title, kconfig, dotconfig, entries, definitions) in FILES_OF_OTHER_KINDS {
+        let files = files_of(rt.alloc(), kconfig, dotconfig)?;
+        check_entries(&rt, name, &files, title, (entries, definitions));
     }
-    let (auto, header) = written(alloc, b"", b"")?;
-    assert!(rt; auto == joined(alloc, &[b"auto:", AUTO_HEAD, b"#generation 1\n"])?);
-    assert!(rt; header == joined(alloc, &[b"header:", HEADER_HEAD])?);
     Ok(())
 }
 
@@ -129,17 +192,9 @@ const FILES_OF_DIALECTS: &[(&str, Dialect, &[u8], &[u8], &[u8], &[u8])] = &[
 
 #[test]
 fn files_of_dialects(rt: HostRuntime) -> Result<(), AllocError> {
-    let alloc = rt.alloc();
     for &(name, dialect, kconfig, dotconfig, entries, definitions) in FILES_OF_DIALECTS {
-        let (auto, header) = written_in(alloc, dialect, kconfig, dotconfig)?;
-        assert!(rt;
-            auto == joined(alloc, &[b"auto:", AUTO_HEAD, entries, b"#generation 1\n"])?,
-            "{name}"
-        );
-        assert!(rt;
-            header == joined(alloc, &[b"header:", HEADER_HEAD, definitions])?,
-            "{name}"
-        );
+        let files = files_in(rt.alloc(), dialect, kconfig, dotconfig)?;
+        check_entries(&rt, name, &files, MAIN, (entries, definitions));
     }
     Ok(())
 }
@@ -148,20 +203,25 @@ fn files_of_dialects(rt: HostRuntime) -> Result<(), AllocError> {
 fn lines_rising(alloc: Global) -> Result<String, AllocError> {
     let mut text = String::new(alloc);
     for number in 0..1000 {
-        text.push_str(&format!(in alloc; "CONFIG_S{number:04}=y\n")?)?;
+        let line = format!(in alloc; "CONFIG_S{number:04}=y\n")?;
+        text.push_str(&line)?;
     }
     Ok(text)
 }
 
-#[test]
-fn a_thousand_falling_symbols_are_written_rising(rt: HostRuntime) -> Result<(), AllocError> {
-    let alloc = rt.alloc();
+/// The files of a thousand symbols, the last of them first.
+fn files_of_thousand(alloc: Global) -> Result<Written, AllocError> {
     let kconfig = lines_falling(alloc, 1000, "config ", "\n\tbool\n")?;
     let dotconfig = lines_falling(alloc, 1000, "CONFIG_", "=y\n")?;
-    let (auto, _) = written(alloc, kconfig.as_bytes(), dotconfig.as_bytes())?;
-    let rising = lines_rising(alloc)?;
-    let want = [b"auto:", AUTO_HEAD, rising.as_bytes(), b"#generation 1\n"];
-    assert!(rt; auto == joined(alloc, &want)?);
+    files_of(alloc, kconfig.as_bytes(), dotconfig.as_bytes())
+}
+
+#[test]
+fn a_thousand_falling_symbols_are_written_rising(rt: HostRuntime) -> Result<(), AllocError> {
+    let files = files_of_thousand(rt.alloc())?;
+    let rising = lines_rising(rt.alloc())?;
+    let want: [&[u8]; 4] = [b"auto:", AUTO_HEAD, rising.as_bytes(), b"#generation 1\n"];
+    assert!(rt; is_made_of(&files.auto, &want));
     Ok(())
 }
 
@@ -265,13 +325,18 @@ fn readings(rt: HostRuntime) -> Result<(), AllocError> {
     Ok(())
 }
 
+/// The generation of a text, or the refusal.
+fn generation_said(alloc: Global, auto: &[u8]) -> Result<String, AllocError> {
+    match read_auto_generation(auto) {
+        Ok(generation) => format!(in alloc; "#{generation}"),
+        Err(error) => error.to_string(alloc),
+    }
+}
+
 /// What both readers say of a text: the entries, and that both give its generation or the same refusal.
 fn said_twice(alloc: Global, auto: &[u8]) -> Result<String, AllocError> {
     let mut found = said(alloc, auto)?;
-    let generation = match read_auto_generation(auto) {
-        Ok(generation) => format!(in alloc; "#{generation}")?,
-        Err(error) => error.to_string(alloc)?,
-    };
+    let generation = generation_said(alloc, auto)?;
     if !found.as_str().ends_with(generation.as_str()) {
         found.push_str(" but ")?;
         found.push_str(&generation)?;
@@ -316,24 +381,28 @@ fn typed_readings(rt: HostRuntime) -> Result<(), AllocError> {
     Ok(())
 }
 
+const CLASS: &[u8] = b"#typed\nCONFIG_A=y\n#type S string\nCONFIG_S=y\n";
+
+/// What is said of a text that ends there.
+fn said_of_cut(end: usize) -> &'static str {
+    let line = 18; // where the line of the class begins
+    if end < line + 6 {
+        "A:switch=y #0"
+    } else if end < line + 15 + "CONFIG_S=".len() {
+        "11 BadAuto line 3"
+    } else if end < line + 15 + "CONFIG_S=y".len() {
+        "A:switch=y S:string= #0"
+    } else {
+        "A:switch=y S:string=y #0"
+    }
+}
+
 /// Where the text ends within or right after the line of a class, that line is refused, or what is left of it is a comment.
 #[test]
 fn cut_classes(rt: HostRuntime) -> Result<(), AllocError> {
-    let alloc = rt.alloc();
-    let whole: &[u8] = b"#typed\nCONFIG_A=y\n#type S string\nCONFIG_S=y\n";
-    let line = 18; // where the line of the class begins
-    for end in line..whole.len() + 1 {
-        let found = said_twice(alloc, &whole[..end])?;
-        let want = if end < line + 6 {
-            "A:switch=y #0"
-        } else if end < line + 15 + "CONFIG_S=".len() {
-            "11 BadAuto line 3"
-        } else if end < line + 15 + "CONFIG_S=y".len() {
-            "A:switch=y S:string= #0"
-        } else {
-            "A:switch=y S:string=y #0"
-        };
-        assert!(rt; found.as_str() == want, "{end}: {found}");
+    for end in 18..=CLASS.len() {
+        let found = said_twice(rt.alloc(), &CLASS[..end])?;
+        assert!(rt; found.as_str() == said_of_cut(end), "{end}: {found}");
     }
     Ok(())
 }

@@ -5,6 +5,7 @@ use ks_symbols::{
     target_is_legal, value_is_valid, write_decimal,
 };
 use std::alloc::{AllocError, Global};
+use std::process::Abort;
 
 /// Two symbols, one of each kind that a switch can have, and a title.
 const DEMO: &[u8] = b"mainmenu \"Demo\"\nconfig A\n\tbool\nconfig B\n\ttristate\n";
@@ -18,19 +19,22 @@ const ALIKE: &[u8] =
 
 const LONGEST: &[u8; 128] = &[b'N'; 128];
 
-/// The title and, for each name, `name kind` as the Kconfig has them, or the refusal.
+/// The title and the kind of a name.
+fn symbols_said(alloc: Global, symbols: &Symbols, name: &[u8]) -> Result<String, AllocError> {
+    let title = String::from_utf8_lossy(alloc, symbols.title())?;
+    let kind = symbols.kind_of(name);
+    format!(in alloc; "{title} {kind:?}")
+}
+
+/// The title and the kind of a name as a Kconfig has them, or the refusal.
 fn kconfig_outcome(
     alloc: Global,
     kconfig: &Kconfig<'_>,
     name: &[u8],
 ) -> Result<String, AllocError> {
     match read_kconfig(alloc, kconfig) {
+        Ok(symbols) => symbols_said(alloc, &symbols, name),
         Err(error) => error.to_string(alloc),
-        Ok(symbols) => {
-            let title = String::from_utf8_lossy(alloc, symbols.title())?;
-            let kind = symbols.kind_of(name);
-            format!(in alloc; "{title} {kind:?}")
-        }
     }
 }
 
@@ -221,43 +225,64 @@ fn dotconfigs_of_dialects(rt: HostRuntime) -> Result<(), AllocError> {
     Ok(())
 }
 
-#[test]
-fn names_and_paths(rt: HostRuntime) -> Result<(), AllocError> {
-    let alloc = rt.alloc();
-    let mut longer = Vec::from_slice(alloc, LONGEST)?;
-    longer.push(b'N')?;
-    assert!(rt;
-        name_is_legal(LONGEST) && !name_is_legal(&longer),
-        "128 bytes and 129"
-    );
+fn check_names(rt: &impl Abort) {
+    assert!(rt; name_is_legal(LONGEST), "128 bytes");
     assert!(rt; !name_is_legal(b"") && !name_is_legal(b"A-B") && name_is_legal(b"_0"));
+}
+
+fn check_paths(rt: &impl Abort) {
     assert!(rt; path_is_legal(b"/a/../b.h") && !path_is_legal(b"a b") && !path_is_legal(b"a$b"));
     assert!(rt; !path_is_legal(b"a:") && path_is_legal(b"a/") && !target_is_legal(b"a/"));
     assert!(rt; target_is_legal(b"d/x.o") && !path_is_legal(b""));
+}
+
+/// A name and a path, once each: they are the bytes that they were made of.
+fn check_made(rt: &impl Abort, alloc: Global) -> Result<(), AllocError> {
     if name_is_legal(LONGEST) {
-        assert!(rt; Name::new(alloc, LONGEST)?.as_bytes() == LONGEST.as_slice());
+        let name = Name::new(alloc, LONGEST)?;
+        assert!(rt; name.as_bytes() == LONGEST.as_slice());
     }
     let path = b"d/x.o".as_slice();
     if path_is_legal(path) {
-        assert!(rt; Path::new(alloc, path)?.as_bytes() == path);
+        let made = Path::new(alloc, path)?;
+        assert!(rt; made.as_bytes() == path);
     }
     Ok(())
 }
 
 #[test]
-fn values_and_lines(rt: HostRuntime) -> Result<(), AllocError> {
-    let alloc = rt.alloc();
+fn names_and_paths(rt: HostRuntime) -> Result<(), AllocError> {
+    check_names(&rt);
+    check_paths(&rt);
+    check_made(&rt, rt.alloc())?;
+    let mut longer = Vec::from_slice(rt.alloc(), LONGEST)?;
+    longer.push(b'N')?;
+    assert!(rt; !name_is_legal(&longer), "129 bytes");
+    Ok(())
+}
+
+fn check_values(rt: &impl Abort) {
     assert!(rt; value_is_valid(Kind::Tristate, b"m") && !value_is_valid(Kind::Bool, b"m"));
     assert!(rt; value_is_valid(Kind::Text, b"") && !value_is_valid(Kind::Text, b"a\nb"));
     assert!(rt; value_is_valid(Kind::Raw, b"\"a\"") && !value_is_valid(Kind::Raw, b"\"a\nb\""));
     assert!(rt; value_is_valid(Kind::Flag, b"y") && !value_is_valid(Kind::Flag, b"m"));
-    assert_eq!(rt; read_decimal(b"18446744073709551615"), Some(u64::MAX));
-    for text in [b"18446744073709551616".as_slice(), b"01", b"", b"1 ", b"+1"] {
-        assert_eq!(rt; read_decimal(text), None);
+}
+
+const NO_DECIMALS: &[&[u8]] = &[b"18446744073709551616", b"01", b"", b"1 ", b"+1"];
+
+/// The greatest number is read and written.
+fn check_decimals(rt: &impl Abort, alloc: Global) -> Result<(), AllocError> {
+    assert!(rt; read_decimal(b"18446744073709551615") == Some(u64::MAX));
+    for text in NO_DECIMALS {
+        assert!(rt; read_decimal(text).is_none());
     }
     let mut out = Vec::new(alloc);
     write_decimal(u64::MAX, &mut out)?;
     assert!(rt; out.as_slice() == b"18446744073709551615".as_slice());
+    Ok(())
+}
+
+fn check_statements(rt: &impl Abort) {
     assert!(rt;
         matches!(
             parse_statement(b"CONFIG_A=y=z"),
@@ -274,18 +299,31 @@ fn values_and_lines(rt: HostRuntime) -> Result<(), AllocError> {
         parse_statement(b"CONFIG_=y").is_none() && parse_statement(b"# CONFIG_A is not").is_none()
     );
     assert!(rt; is_silent(b"") && is_silent(b"#") && !is_silent(b" "));
-    Ok(())
+}
+
+#[test]
+fn values_and_lines(rt: HostRuntime) -> Result<(), AllocError> {
+    check_values(&rt);
+    check_statements(&rt);
+    check_decimals(&rt, rt.alloc())
+}
+
+fn check_symbols(rt: &impl Abort, symbols: &Symbols) {
+    assert!(rt;
+        symbols.kind_of(b"H") == Some(Kind::Hex) && symbols.title() == b"Main menu".as_slice()
+    );
+}
+
+fn check_settings(rt: &impl Abort, settings: &Settings) {
+    assert!(rt; matches!(settings.get(b"S"), Some((Kind::Text, b"a"))));
+    assert!(rt; settings.get(b"I").is_none() && settings.get(b"T").is_none());
 }
 
 #[test]
 fn look_ups(rt: HostRuntime) -> Result<(), SourceError> {
-    let alloc = rt.alloc();
-    let symbols = read_kconfig(alloc, &Kconfig::new(Dialect::Linux, VALUES))?;
-    let settings = read_dotconfig(alloc, b"CONFIG_S=\"a\"\nCONFIG_H=1f\n", &symbols)?;
-    assert!(rt; matches!(settings.get(b"S"), Some((Kind::Text, b"a"))));
-    assert!(rt; settings.get(b"I").is_none() && settings.get(b"T").is_none());
-    assert!(rt;
-        symbols.kind_of(b"H") == Some(Kind::Hex) && symbols.title() == b"Main menu".as_slice()
-    );
+    let symbols = read_kconfig(rt.alloc(), &Kconfig::new(Dialect::Linux, VALUES))?;
+    check_symbols(&rt, &symbols);
+    let settings = read_dotconfig(rt.alloc(), b"CONFIG_S=\"a\"\nCONFIG_H=1f\n", &symbols)?;
+    check_settings(&rt, &settings);
     Ok(())
 }

@@ -1,5 +1,5 @@
 -- The tree that a synchronisation would leave, what is answered over it, and a name among rising ones.
-use Rattle.ks_engine.proofs.Prelude.{list_any_none, exact_bytes, ◌≡◌, ◌⊎◌, inr, ℕ, ◌+◌, ◌<◌, ◌^◌, ◌≢◌, List, [], ◌∷◌, Option, Some, None, Result, Ok, Err, true, false, sym, ◌∙◌, refl, arith, length, get_or, IsTrue, bytes_eq, nat_cmp, Less-from_sorted, is_eq-slice_cmp, or_left, or_right, false_from_ne_true, searchable_from_sorted, bytes_eq-Decides, tied_itself, slice_cmp, nat_list_cmp_total, insert, get-insert, remove, get-remove, IsStrictlySortedBy, IsSearchInRange, IsBinarySearchResult, is_ok, Ordering, Equal, is_name, is_in, header_path, auto_text, header_text, Files, content, SameBut, SameButBoth, auto_path, auto_temporary, header_temporary, stamp_path, stamp_temporary, left_over, AutoConf, AutoTemporary, Header, HeaderTemporary, Stamp, StampTemporary, stamp_text, Touches, EngineError, Impact, Explanation, Planned, Question, Stale, Why, After, Verdict, Report, IsGivenUpAnswer, OldAuto, old_auto, Plan, AreLegalChanges, SyncDone, IsSynced, asked, IsAnswer, IsExplained, IsPlanned, IsImpactOf, IsAfter, IsAnswerAfter, IsAnswerOn, IsAnswerTo, JudgesAfter, IsSeen, limit_of, KconfigText, rules, generation_fits, list_any_at, both_ways, ⊎_elim, cases_Bool}
+use Rattle.ks_engine.proofs.Prelude.{list_any_none, exact_bytes, ◌≡◌, ◌⊎◌, inr, ℕ, ◌+◌, ◌<◌, ◌^◌, ◌≢◌, List, [], ◌∷◌, Option, Some, None, Result, Ok, Err, true, false, sym, ◌∙◌, refl, arith, length, get_or, IsTrue, bytes_eq, nat_cmp, Less-from_sorted, is_eq-slice_cmp, or_left, or_right, false_from_ne_true, searchable_from_sorted, bytes_eq-Decides, tied_itself, slice_cmp, nat_list_cmp_total, insert, get-insert, remove, get-remove, IsStrictlySortedBy, IsSearchInRange, IsBinarySearchResult, is_ok, Ordering, Equal, is_name, is_in, header_path, auto_text, header_text, Files, content, SameBut, SameButBoth, auto_path, auto_temporary, header_temporary, stamp_path, stamp_temporary, left_over, AutoConf, AutoTemporary, Header, HeaderTemporary, Stamp, StampTemporary, stamp_text, Touches, EngineError, Impact, Explanation, Planned, Question, Stale, Why, After, Verdict, Report, IsGivenUpAnswer, OldAuto, old_auto, Plan, AreLegalChanges, SyncDone, IsSynced, IsExplained, IsPlanned, IsImpactOf, IsAfter, IsAnswerAfter, IsAnswerOn, IsAnswerTo, JudgesAfter, IsSeen, limit_of, KconfigText, rules, generation_fits, list_any_at, both_ways, ⊎_elim, cases_Bool}
 use Rattle.ks_engine.proofs.LowerLaws.{generation_back, accepted, apart}
 use Rattle.ks_engine.proofs.Reading.{last_some, ok_ok}
 use Rattle.ks_engine.proofs.Writes.{cleared, finished, header_stays}

@@ -1,5 +1,5 @@
 -- A record goes on with each history that the files show.
-use Rattle.ks_engine.proofs.Prelude.{names_of, there, ◌≡◌, ◌⊎◌, inl, inr, ⊎_elim, ℕ, ◌<◌, ◌≤◌, List, [], ◌∷◌, Some, Result, Ok, Err, IfOk, IfErr, sym, ◌∙◌, ap, refl, length, ltb-false, eqb-false, max_bytes, Conventions, Dialect, Role, Rules, rules_for, usual, CommandRecord, command_text, config_names, record_of, Files, content, SameButBoth, auto_path, command_path, command_temporary, EngineError, and_then, History, done, WasSynced, Shows, IsCommandFile, at, FollowsRecord, FollowsRecordUnder, IsRecordEvent, OldAuto, synced_at, last_generation, scanned_all, with_command, RecordPlan, numbered, drafted, record_plan_under, IsRecordPlanUnder, IsRecorded, IsRecordedUnder, IsRecordRefused, IsRecordRefusedUnder, rules}
+use Rattle.ks_engine.proofs.Prelude.{names_of, there, ◌≡◌, ◌⊎◌, inl, inr, ⊎_elim, ℕ, ◌<◌, ◌≤◌, List, [], Some, Result, Ok, Err, IfOk, IfErr, sym, ◌∙◌, ap, refl, length, ltb-false, eqb-false, max_bytes, Conventions, Dialect, Role, rules_for, usual, CommandRecord, command_text, config_names, record_of, Files, content, SameButBoth, auto_path, command_path, command_temporary, EngineError, and_then, History, done, WasSynced, Shows, IsCommandFile, at, FollowsRecord, FollowsRecordUnder, IsRecordEvent, OldAuto, synced_at, last_generation, scanned_all, with_command, RecordPlan, numbered, drafted, record_plan_under, IsRecordPlanUnder, IsRecorded, IsRecordedUnder, IsRecordRefused, IsRecordRefusedUnder, rules}
 use Rattle.ks_engine.specs.declared.recording.Recorded.{Recorded as Answer}
 use Rattle.ks_engine.specs.Recording.{listed_without}
 use Rattle.ks_engine.proofs.Heart.{synced_or_not}

@@ -1,5 +1,5 @@
 -- Prerequisites scanned one after the other.
-use Rattle.ks_engine.proofs.Prelude.{are_placed, add-one, ap, ◌∙◌, get_or-append_seam, ◌≡◌, ◌<◌, Bool, true, nat_lt, get_or, length-append, ℕ, ◌+◌, ◌≤◌, List, [], ◌∷◌, ◌++◌, Some, Result, Ok, Err, length, drop, append_assoc, append-nil, arith, slice_get, drop-cons, list_all, and_from, and_parts, lt-ltb, ltb-true, drop_all, get_or_append_left, map-append, list_all-append, picked, Grows, slice_get_within, get_or_from_slice_get, Role, Rules, Files, content, scanned, scanned_all, followed, EngineError, rules}
+use Rattle.ks_engine.proofs.Prelude.{are_placed, add-one, ap, ◌∙◌, get_or-append_seam, ◌≡◌, ◌<◌, true, get_or, length-append, ℕ, ◌+◌, ◌≤◌, List, [], ◌∷◌, ◌++◌, Some, Result, Ok, Err, length, drop, append_assoc, append-nil, arith, slice_get, drop-cons, and_from, and_parts, lt-ltb, ltb-true, drop_all, get_or_append_left, map-append, list_all-append, picked, Grows, slice_get_within, get_or_from_slice_get, Role, Rules, Files, content, scanned, scanned_all, followed, EngineError, rules}
 
 -- the names found so far, and then those
 abbrev pub following : List (List (List ℕ)) → Result (List (List (List ℕ))) EngineError → Result (List (List (List ℕ))) EngineError

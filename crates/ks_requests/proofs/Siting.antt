@@ -1,5 +1,5 @@
 -- What stands at a site.
-use Rattle.ks_requests.proofs.Prelude.{◌≡◌, List, ℕ, Option, Some, None, IfSome, option_map, Part, excerpt, excerpt_in, part_text, sym, ◌∙◌}
+use Rattle.ks_requests.proofs.Prelude.{◌≡◌, List, ℕ, Option, Some, None, IfSome, option_map, Part, excerpt, excerpt_in, part_text, sym}
 
 excerpt_of : (found : Option (List ℕ)) (text : List ℕ) → option_map excerpt found ≡ Some text → (bytes : List ℕ) × (text ≡ excerpt bytes)
 excerpt_of None text is = absurd cc

@@ -1,4 +1,4 @@
-use Rattle.ks_engine.proofs.Prelude.{◌≡◌, EngineError, Device, Refused, rules}
+use Rattle.ks_engine.proofs.Prelude.{◌≡◌, EngineError, Refused, rules}
 use Rattle.ks_engine.proofs.commands.answer.Goals as goal
 
 refused_is : (e f : EngineError) → Refused e ≡ Refused f → e ≡ f

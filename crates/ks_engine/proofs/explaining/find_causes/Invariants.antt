@@ -1,4 +1,4 @@
-use Rattle.ks_engine.proofs.Prelude.{◌≡◌, ◌≤◌, IsTrue, map, is_path, seen_dep, Files, AreTooFew, IsMemoOf, IsSeen, limit_of}
+use Rattle.ks_engine.proofs.Prelude.{◌≡◌, IsTrue, map, is_path, seen_dep, Files, AreTooFew, IsMemoOf, IsSeen, limit_of}
 use Rattle.ks_engine.proofs.Listing.{LookedAt}
 use Rattle.ks_engine.proofs.explaining.find_causes.Given as goal
 

@@ -1,4 +1,4 @@
-use Rattle.ks_engine.proofs.Prelude.{rules, sym, ◌∙◌, arith, length-append, err_from_is_err_and, scanned}
+use Rattle.ks_engine.proofs.Prelude.{rules, sym, ◌∙◌, arith, length-append, err_from_is_err_and}
 use Rattle.ks_engine.proofs.Drafting.{or_given}
 use Rattle.ks_engine.proofs.Scanning.{picked_next, scanned_step, after_next, scanned_end}
 use Rattle.ks_engine.proofs.sources.scan_all_by.Goals as goal

@@ -1,4 +1,4 @@
-use Rattle.ks_requests.proofs.Prelude.{[], ◌∷◌, inr, is_path, refl}
+use Rattle.ks_requests.proofs.Prelude.{[], inr, is_path, refl}
 use Rattle.ks_requests.proofs.ReadingLemmas.{one_read}
 use Rattle.ks_requests.proofs.inputs.read_texts.Goals as goal
 

@@ -1,4 +1,4 @@
-use Rattle.ks_requests.proofs.Prelude.{◌≡◌, ◌∙◌, ◌<◌, ◌+◌, ℕ, List, [], Bor, ap, bytes_eq, get_or, length, map, take, true, map-append, map_more, fold-append, insert_key, all_noted, noted, arith, common_steps, rules}
+use Rattle.ks_requests.proofs.Prelude.{◌≡◌, ◌∙◌, ◌<◌, ◌+◌, ℕ, List, [], Bor, ap, bytes_eq, get_or, length, map, take, map-append, map_more, fold-append, insert_key, all_noted, noted, arith, common_steps, rules}
 use Rattle.ks_requests.proofs.Viewed.{list_any-map}
 use Rattle.ks_requests.proofs.targets.each_once.Goals as goal
 

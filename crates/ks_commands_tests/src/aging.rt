@@ -1,5 +1,5 @@
 //! Aging: which objects are aged over a tree in memory, and what is left of that by a device that fails at any call.
-use crate::steps::{Step, play, run_over, shown, world};
+use crate::steps::{Run, Step, play, run_over, world};
 use ks_symbols::Dialect;
 use ks_tree::{AgedTree, FuseMode, FuseTree, MemoryTree};
 use std::alloc::{AllocError, Global};
@@ -51,33 +51,41 @@ const AGINGS: &[(&[&str], &str, &str)] = &[
     (&["stale", "x.o"], "1 x.o stale A\n", ""),
 ];
 
-#[test]
-fn what_is_stale_is_aged(rt: HostRuntime) -> Result<(), Fail> {
-    let alloc = rt.alloc();
-    for &(words, want, aged) in AGINGS {
-        let mut tree = changed(&rt, alloc)?;
-        play(
-            &rt,
-            alloc,
-            &mut tree,
-            &[(Step::Words(words), want), (Step::Read("x.o"), "object")],
-        )?;
-        assert_eq!(rt; paths(alloc, &tree)?.as_str(), aged, "{words:?}");
-    }
+/// Words over a tree, what they tell, and which paths they age. The object stays as it is.
+fn check_aging<'a>(
+    rt: &impl Abort,
+    alloc: Global,
+    tree: &mut AgedTree<MemoryTree>,
+    (words, want, aged): (&'a [&'a str], &'a str, &'a str),
+) -> Result<(), Fail> {
+    play(rt, alloc, tree, &[(Step::Words(words), want)])?;
+    play(rt, alloc, tree, &[(Step::Read("x.o"), "object")])?;
+    let paths = paths(alloc, tree)?;
+    assert_eq!(rt; paths.as_str(), aged, "where it tells {want}");
     Ok(())
 }
 
 #[test]
-#[rattlefmt::skip]
-fn a_generation_to_come_is_aged(rt: HostRuntime) -> Result<(), Fail> {
-    let alloc = rt.alloc();
-    let mut tree = changed(&rt, alloc)?;
-    play(&rt, alloc, &mut tree, &[
-        (Step::Put("include/config/auto.conf", "#typed\n#generation 1\n"), "done"),
-        (Step::Words(&["age", "new.o"]), "1 new.o stale generation-ahead\n"),
-    ])?;
-    assert_eq!(rt; paths(alloc, &tree)?.as_str(), "new.o ");
+fn what_is_stale_is_aged(rt: HostRuntime) -> Result<(), Fail> {
+    for row in AGINGS {
+        let mut tree = changed(&rt, rt.alloc())?;
+        check_aging(&rt, rt.alloc(), &mut tree, *row)?;
+    }
     Ok(())
+}
+
+#[rattlefmt::skip]
+const GENERATION_ONE: &[(Step<'_>, &str)] = &[
+    (Step::Put("include/config/auto.conf", "#typed\n#generation 1\n"), "done"),
+];
+
+#[test]
+fn a_generation_to_come_is_aged(rt: HostRuntime) -> Result<(), Fail> {
+    let mut tree = changed(&rt, rt.alloc())?;
+    play(&rt, rt.alloc(), &mut tree, GENERATION_ONE)?;
+    let ahead = "1 new.o stale generation-ahead\n";
+    let row = (["age", "new.o"].as_slice(), ahead, "new.o ");
+    check_aging(&rt, rt.alloc(), &mut tree, row)
 }
 
 /// The objects that the lines call stale, in turn.
@@ -92,20 +100,29 @@ fn told(alloc: Global, lines: &str) -> Result<String, AllocError> {
     Ok(told)
 }
 
-/// `age` behind a fuse: what is told as stale was aged, and nothing else but maybe the one object of which 30 is told.
-fn break_off(rt: &impl Abort, alloc: Global, passes: u64, mode: FuseMode) -> Result<u8, Fail> {
-    let tree = changed(rt, alloc)?;
-    let mut tree = FuseTree::new(tree, passes, Some(1), mode);
-    let words = ["age", "x.o", "new.o", "w.o"];
-    let run = run_over(alloc, &mut tree, Dialect::Linux, &words)?;
-    let mut tree = tree.into_inner();
-    let (told, aged) = (told(alloc, run.out.as_str())?, paths(alloc, &tree)?);
-    let half = mode == FuseMode::Half && run.status == 2;
+/// What is told as stale was aged, and nothing else but maybe the one object of which 30 is told. The object stays as it is.
+fn check_told(
+    rt: &impl Abort,
+    alloc: Global,
+    tree: &mut AgedTree<MemoryTree>,
+    run: &Run,
+    mode: FuseMode,
+) -> Result<(), Fail> {
+    let told = told(alloc, str::from_utf8(&run.out)?)?;
+    let aged = paths(alloc, tree)?;
     let (told, aged) = (told.as_str(), aged.as_str());
+    let half = mode == FuseMode::Half && run.status == 2;
     let is_as_told = told == aged || half && aged == "x.o w.o ";
-    assert!(rt; is_as_told, "{passes} {mode:?}: told {told}, aged {aged}");
-    let left = shown(alloc, &mut tree, "x.o")?;
-    assert_eq!(rt; left.as_str(), "object", "{passes}");
+    assert!(rt; is_as_told, "{mode:?}: told {told}, aged {aged}");
+    play(rt, alloc, tree, &[(Step::Read("x.o"), "object")])
+}
+
+/// The status of `age` behind a fuse.
+fn break_off(rt: &impl Abort, alloc: Global, passes: u64, mode: FuseMode) -> Result<u8, Fail> {
+    let mut tree = FuseTree::new(changed(rt, alloc)?, passes, Some(1), mode);
+    let words = ["age", "x.o", "new.o", "w.o"];
+    let run = run_over(alloc, &mut tree, Dialect::Linux, &words);
+    check_told(rt, alloc, &mut tree.into_inner(), &run, mode)?;
     Ok(run.status)
 }
 

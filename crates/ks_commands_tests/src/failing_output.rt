@@ -1,23 +1,23 @@
 //! An output that fails: the command's work on the tree stays done, the refusal is told where that goes, and the
 //! status is 2 also where it doesn't.
 use crate::golden::{AUTO, COMMAND_FILE};
-use crate::steps::{Step as Told, play, ready, run_over, shown, world};
-use ks_commands::execute;
-use ks_streams::{Scripted, Step, Stream, WriteFault};
+use crate::steps::{Run, Step as Told, play, run_onto, run_over, shown, world};
+use ks_streams::{Step, WriteFault};
 use ks_symbols::Dialect;
+use ks_tree::Aging;
 use ks_words::request_of;
 use std::alloc::{AllocError, Global};
 use std::process::Abort;
 use std::test::Fail;
 
-/// Takes one byte a call, so many times, and then does what this step says.
-fn one_by_one(alloc: Global, calls: usize, last: Step) -> Result<Stream<Scripted>, AllocError> {
+/// The script of an output that takes one byte a call, so many times, and then does what this step says.
+fn one_by_one(alloc: Global, calls: usize, last: Step) -> Result<Vec<Step>, AllocError> {
     let mut script = Vec::new(alloc);
     for _ in 0..calls {
         script.push(Step::Take(1))?;
     }
     script.push(last)?;
-    Ok(Stream::new(Scripted::new(Vec::new(alloc), script)))
+    Ok(script)
 }
 
 /// A command, what was done before it, and a file of the tree as it stands after it.
@@ -32,34 +32,48 @@ struct Case<'a> {
 fn calls_made(rt: &impl Abort, alloc: Global, case: &Case<'_>) -> Result<usize, Fail> {
     let mut tree = world(rt, alloc)?;
     play(rt, alloc, &mut tree, case.before)?;
-    let run = run_over(alloc, &mut tree, Dialect::Linux, case.words)?;
+    let run = run_over(alloc, &mut tree, Dialect::Linux, case.words);
     Ok(run.out.len().saturating_add(1))
 }
 
-/// A command over an output that fails after so many calls. The tree is then as after the whole command.
-fn break_off(rt: &impl Abort, alloc: Global, case: &Case<'_>, passes: usize) -> Result<(), Fail> {
-    let mut tree = world(rt, alloc)?;
-    play(rt, alloc, &mut tree, case.before)?;
-    let mut out = one_by_one(alloc, passes, Step::Refuse(WriteFault::Failed))?;
-    let mut err = ready(alloc);
-    let status = execute(
-        alloc,
-        &mut tree,
-        Dialect::Linux,
-        &request_of(alloc, case.words),
-        &mut out,
-        &mut err,
-    );
-    let words = case.words;
-    let place = format!(in alloc; "{passes} {words:?}")?;
-    assert_eq!(rt; status, 2, "{place}");
-    assert_eq!(rt; out.into_writer().into_bytes().len(), passes, "{place}");
+/// A command over an output that fails after so many calls.
+fn run_broken_off<T: Aging>(
+    alloc: Global,
+    tree: &mut T,
+    words: &[&str],
+    passes: usize,
+) -> Result<Run, AllocError> {
+    let out = one_by_one(alloc, passes, Step::Refuse(WriteFault::Failed))?;
+    let asked = request_of(alloc, words);
+    let scripts = (out, Vec::new(alloc));
+    Ok(run_onto(alloc, tree, Dialect::Linux, &asked, scripts))
+}
+
+/// The command is refused for its output, of which those bytes came that were let through.
+fn check_refused(rt: &impl Abort, run: &Run, passes: usize, place: &str) {
+    assert_eq!(rt; run.status, 2, "{place}");
+    assert_eq!(rt; run.out.len(), passes, "{place}");
     assert_eq!(rt;
-        err.into_writer().into_bytes().as_slice(),
+        run.err.as_slice(),
         b"confstamp: 51 Output\n".as_slice(),
         "{place}"
     );
-    let left = shown(alloc, &mut tree, case.path)?;
+}
+
+/// A case over an output that fails after so many calls. The tree is then as after the whole command.
+fn break_off<T: Aging>(
+    rt: &impl Abort,
+    alloc: Global,
+    tree: &mut T,
+    case: &Case<'_>,
+    passes: usize,
+) -> Result<(), Fail> {
+    play(rt, alloc, tree, case.before)?;
+    let words = case.words;
+    let place = format!(in alloc; "{passes} {words:?}")?;
+    let run = run_broken_off(alloc, tree, words, passes)?;
+    check_refused(rt, &run, passes, &place);
+    let left = shown(alloc, tree, case.path)?;
     assert_eq!(rt; left.as_str(), case.holds, "{place}");
     Ok(())
 }
@@ -87,38 +101,54 @@ const CASES: &[Case<'_>] = &[
 fn an_output_that_fails(rt: HostRuntime) -> Result<(), Fail> {
     for case in CASES {
         for passes in 0..calls_made(&rt, rt.alloc(), case)? {
-            break_off(&rt, rt.alloc(), case, passes)?;
+            let mut tree = world(&rt, rt.alloc())?;
+            break_off(&rt, rt.alloc(), &mut tree, case, passes)?;
         }
     }
     Ok(())
 }
 
+/// The status of a command where both outputs fail after so many calls.
+fn status_broken_off<T: Aging>(
+    alloc: Global,
+    tree: &mut T,
+    passes: usize,
+) -> Result<u8, AllocError> {
+    let out = one_by_one(alloc, passes, Step::Refuse(WriteFault::Failed))?;
+    let err = one_by_one(alloc, passes / 2, Step::Refuse(WriteFault::Failed))?;
+    let asked = request_of(alloc, &["sync", "K1", "c1"]);
+    let run = run_onto(alloc, tree, Dialect::Linux, &asked, (out, err));
+    Ok(run.status)
+}
+
 #[test]
 fn both_outputs_that_fail(rt: HostRuntime) -> Result<(), Fail> {
-    let alloc = rt.alloc();
-    let asked = request_of(alloc, &["sync", "K1", "c1"]);
     for passes in 0..40 {
-        let mut tree = world(&rt, alloc)?;
-        let mut out = one_by_one(alloc, passes, Step::Refuse(WriteFault::Failed))?;
-        let mut err = one_by_one(alloc, passes / 2, Step::Refuse(WriteFault::Failed))?;
-        let status = execute(alloc, &mut tree, Dialect::Linux, &asked, &mut out, &mut err);
+        let mut tree = world(&rt, rt.alloc())?;
+        let status = status_broken_off(rt.alloc(), &mut tree, passes)?;
         assert_eq!(rt; status, 2, "{passes}");
     }
     Ok(())
 }
 
 /// What a command says over two outputs with the same script.
-fn said(rt: &impl Abort, alloc: Global, words: &[&str], script: &[Step]) -> Result<String, Fail> {
-    let mut tree = world(rt, alloc)?;
-    play(rt, alloc, &mut tree, SYNCED)?;
-    let mut out = Stream::new(Scripted::new(Vec::new(alloc), Vec::from_slice(alloc, script)?));
-    let mut err = Stream::new(Scripted::new(Vec::new(alloc), Vec::from_slice(alloc, script)?));
+fn said<T: Aging>(
+    alloc: Global,
+    tree: &mut T,
+    words: &[&str],
+    script: &[Step],
+) -> Result<String, Fail> {
+    let out = Vec::from_slice(alloc, script)?;
+    let err = Vec::from_slice(alloc, script)?;
     let asked = request_of(alloc, words);
-    let status = execute(alloc, &mut tree, Dialect::Linux, &asked, &mut out, &mut err);
-    let unread = out.is_unread();
-    let out = String::from_utf8(out.into_writer().into_bytes())?;
-    let err = String::from_utf8(err.into_writer().into_bytes())?;
-    Ok(format!(in alloc; "{status} {unread} {out}{err}")?)
+    let run = run_onto(alloc, tree, Dialect::Linux, &asked, (out, err));
+    run_text(alloc, &run)
+}
+
+/// The status, whether nobody read the output to its end, the output and standard error, one after the other.
+fn run_text(alloc: Global, run: &Run) -> Result<String, Fail> {
+    let (out, err) = (str::from_utf8(&run.out)?, str::from_utf8(&run.err)?);
+    Ok(format!(in alloc; "{} {} {out}{err}", run.status, run.unread)?)
 }
 
 const SIGNAL: Step = Step::Refuse(WriteFault::Interrupted);
@@ -138,7 +168,9 @@ const ANSWERS: &[(&str, &[Step], &str)] = &[
 #[test]
 fn answers_of_an_output(rt: HostRuntime) -> Result<(), Fail> {
     for (place, script, want) in ANSWERS {
-        let found = said(&rt, rt.alloc(), &["sync", "K1", "c1"], script)?;
+        let mut tree = world(&rt, rt.alloc())?;
+        play(&rt, rt.alloc(), &mut tree, SYNCED)?;
+        let found = said(rt.alloc(), &mut tree, &["sync", "K1", "c1"], script)?;
         assert_eq!(rt; found.as_str(), *want, "{place}");
     }
     Ok(())

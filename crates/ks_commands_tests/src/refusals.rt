@@ -1,8 +1,10 @@
 //! The refusals of a whole command: nothing on the output, a line on standard error, after it one that says where, and
 //! nothing changed.
 use crate::golden::AUTO;
-use crate::steps::{Step, play, play_each, told, world};
-use ks_tree::{FuseMode, FuseTree, Tree};
+use crate::steps::{Step, play, play_each, world};
+use ks_tree::{Aging, FuseMode, FuseTree, Tree};
+use std::alloc::Global;
+use std::process::Abort;
 use std::test::Fail;
 
 #[rattlefmt::skip]
@@ -122,48 +124,59 @@ fn a_tree_that_fails(rt: HostRuntime) -> Result<(), Fail> {
     play(&rt, rt.alloc(), &mut tree, FAILING_TREE)
 }
 
+const TWO_LINES: &[(Step<'_>, &str)] = &[(Step::Put("script", "sync K1 c1\nsync K1 c1\n"), "done")];
+
+const ONE_REFUSED: &[(Step<'_>, &str)] = &[(
+    Step::Words(&["batch", "script"]),
+    "2 refused 30 Device\nsync generation 1 touched 2 unknown 0\n",
+)];
+
+const SYNCED: &[(Step<'_>, &str)] = &[(Step::Read("include/config/auto.conf"), AUTO)];
+
 /// A device that fails while a script runs refuses a line, and the lines after it are still answered.
 #[test]
 fn a_device_that_fails_once(rt: HostRuntime) -> Result<(), Fail> {
-    let alloc = rt.alloc();
-    let mut tree = world(&rt, alloc)?;
-    let script = Step::Put("script", "sync K1 c1\nsync K1 c1\n");
-    play(&rt, alloc, &mut tree, &[(script, "done")])?;
+    let mut tree = world(&rt, rt.alloc())?;
+    play(&rt, rt.alloc(), &mut tree, TWO_LINES)?;
     let mut tree = FuseTree::new(tree, 10, Some(1), FuseMode::Clean);
-    let found = told(alloc, &mut tree, Step::Words(&["batch", "script"]))?;
-    let want = "2 refused 30 Device\nsync generation 1 touched 2 unknown 0\n";
-    assert_eq!(rt; found.as_str(), want);
-    let mut tree = tree.into_inner();
-    play(
-        &rt,
-        alloc,
-        &mut tree,
-        &[(Step::Read("include/config/auto.conf"), AUTO)],
-    )
+    play(&rt, rt.alloc(), &mut tree, ONE_REFUSED)?;
+    play(&rt, rt.alloc(), &mut tree.into_inner(), SYNCED)
+}
+
+/// A file of one byte more than the limit.
+fn put_big<T: Aging>(alloc: Global, tree: &mut T) -> Result<(), Fail> {
+    let big: Vec<u8> = vec![in alloc; b'\n'; 67_108_865]?;
+    tree.write(alloc, b"big", &big)?;
+    Ok(())
 }
 
 #[test]
 fn files_above_the_limit(rt: HostRuntime) -> Result<(), Fail> {
     let mut tree = world(&rt, rt.alloc())?;
-    let big: Vec<u8> = vec![in rt.alloc(); b'\n'; 67_108_865]?;
-    tree.write(rt.alloc(), b"big", &big)?;
+    put_big(rt.alloc(), &mut tree)?;
     play(&rt, rt.alloc(), &mut tree, TOO_LARGE)
 }
 
-/// Of a long line the beginning is shown. Where the file can't be read again, its name and the number are still told.
-#[test]
-fn what_stands_there(rt: HostRuntime) -> Result<(), Fail> {
-    let alloc = rt.alloc();
-    let mut tree = world(&rt, alloc)?;
+/// Of a long line the beginning is shown.
+fn check_long_line<T: Aging>(rt: &impl Abort, alloc: Global, tree: &mut T) -> Result<(), Fail> {
     let long: Vec<u8> = vec![in alloc; b'x'; 121]?;
     tree.write(alloc, b"long", &long)?;
-    let found = told(alloc, &mut tree, Step::Words(&["batch", "long"]))?;
     let shown = str::from_utf8(&long[..120])?;
     let want = format!(in alloc; "2 confstamp: 50 BadScript line 1\n  long:1: {shown}\n")?;
-    assert_eq!(rt; found.as_str(), want.as_str());
+    let words = ["batch", "long"];
+    play(rt, alloc, tree, &[(Step::Words(&words), want.as_str())])
+}
+
+/// Where the file can't be read again, its name and the number are still told.
+const NOT_READ_AGAIN: &[(Step<'_>, &str)] = &[(
+    Step::Words(&["sync", "K1", "faulty"]),
+    "2 confstamp: 8 BadValue line 2\n  faulty:2\n",
+)];
+
+#[test]
+fn what_stands_there(rt: HostRuntime) -> Result<(), Fail> {
+    let mut tree = world(&rt, rt.alloc())?;
+    check_long_line(&rt, rt.alloc(), &mut tree)?;
     let mut tree = FuseTree::new(tree, 2, None, FuseMode::Clean);
-    let found = told(alloc, &mut tree, Step::Words(&["sync", "K1", "faulty"]))?;
-    let want = "2 confstamp: 8 BadValue line 2\n  faulty:2\n";
-    assert_eq!(rt; found.as_str(), want);
-    Ok(())
+    play(&rt, rt.alloc(), &mut tree, NOT_READ_AGAIN)
 }

@@ -1,27 +1,40 @@
 //! Scripts as they stand in files, and what is read of them.
 use ks_requests::{ScriptError, ScriptLine, read_script};
 use std::alloc::{AllocError, Global};
+use std::process::Abort;
+
+/// The words of a line.
+fn words_of<'a>(line: &ScriptLine<'a>) -> [&'a [u8]; 4] {
+    match *line {
+        ScriptLine::Sync(kconfig, dotconfig) => [b"sync", kconfig, dotconfig, b""],
+        ScriptLine::Record(depfile, target, command) => [b"record", depfile, target, command],
+        ScriptLine::Stale(target) => [b"stale", target, b"", b""],
+    }
+}
+
+fn push_words(alloc: Global, whole: &mut String, words: &[&[u8]]) -> Result<(), AllocError> {
+    for word in words {
+        whole.push_str(&String::from_utf8_lossy(alloc, word)?)?;
+        whole.push_str("|")?;
+    }
+    whole.push_str("\n")
+}
+
+/// Lines with their words between bars.
+fn spelled(alloc: Global, lines: &[ScriptLine<'_>]) -> Result<String, AllocError> {
+    let mut whole = String::new(alloc);
+    for line in lines {
+        push_words(alloc, &mut whole, &words_of(line))?;
+    }
+    Ok(whole)
+}
 
 /// What a script asks for, with its words between bars, or the refusal.
 fn outcome(alloc: Global, text: &[u8]) -> Result<String, AllocError> {
-    let lines = match read_script(alloc, text) {
-        Ok(lines) => lines,
-        Err(error) => return error.to_string(alloc),
-    };
-    let mut whole = String::new(alloc);
-    for line in &lines {
-        let words: [&[u8]; 4] = match *line {
-            ScriptLine::Sync(kconfig, dotconfig) => [b"sync", kconfig, dotconfig, b""],
-            ScriptLine::Record(depfile, target, command) => [b"record", depfile, target, command],
-            ScriptLine::Stale(target) => [b"stale", target, b"", b""],
-        };
-        for word in words {
-            whole.push_str(&String::from_utf8_lossy(alloc, word)?)?;
-            whole.push_str("|")?;
-        }
-        whole.push_str("\n")?;
+    match read_script(alloc, text) {
+        Ok(lines) => spelled(alloc, &lines),
+        Err(error) => error.to_string(alloc),
     }
-    Ok(whole)
 }
 
 #[rattlefmt::skip]
@@ -76,20 +89,29 @@ const CUTS: &[(usize, usize, &str)] = &[
     (33, 36, "read 3"),
 ];
 
+/// How many lines a script has, or the refusal.
+fn count(alloc: Global, text: &[u8]) -> Result<String, AllocError> {
+    match read_script(alloc, text) {
+        Ok(lines) => format!(in alloc; "read {}", lines.len()),
+        Err(error) => error.to_string(alloc),
+    }
+}
+
+/// The rows that stand for this length want that.
+fn check_cut(rt: &impl Abort, end: usize, found: &str) {
+    for &(first, last, want) in CUTS {
+        if first <= end && end <= last {
+            assert!(rt; found == want, "{end} bytes: {found}");
+        }
+    }
+}
+
 #[test]
 fn cuts(rt: HostRuntime) -> Result<(), AllocError> {
-    let alloc = rt.alloc();
     let whole = b"sync K C\nrecord x.d x.o c\nstale x.o\n".as_slice();
     for end in 0..=whole.len() {
-        let found = match read_script(alloc, &whole[..end]) {
-            Ok(lines) => format!(in alloc; "read {}", lines.len())?,
-            Err(error) => error.to_string(alloc)?,
-        };
-        for &(first, last, want) in CUTS {
-            if first <= end && end <= last {
-                assert!(rt; found.as_str() == want, "{end} bytes: {found}");
-            }
-        }
+        let found = count(rt.alloc(), &whole[..end])?;
+        check_cut(&rt, end, found.as_str());
     }
     Ok(())
 }
@@ -107,20 +129,20 @@ fn long_outcome(
     outcome(alloc, &line)
 }
 
+#[rattlefmt::skip]
+const LONG_WORDS: &[(&str, &[u8], usize, &[u8], &[u8])] = &[
+    ("a Kconfig of 129 bytes", b"sync ", 129, b" C", b"sync|"),
+    ("a target of 129 bytes", b"stale ", 129, b"", b"stale|"),
+    ("a longest path", b"sync K ", 1024, b"", b"sync|K|"),
+    ("a longer path", b"sync K ", 1025, b"", b"50 BadScript line 1"),
+    ("a word longer than a path", b"record ", 1025, b" x.o cc", b"record|"),
+    ("a long command", b"record x.d x.o ", 5000, b"", b"record|x.d|x.o|"),
+];
+
 #[test]
 fn long_words(rt: HostRuntime) -> Result<(), AllocError> {
-    let alloc = rt.alloc();
-    #[rattlefmt::skip]
-    let rows: [(&str, &[u8], usize, &[u8], &[u8]); 6] = [
-        ("a Kconfig of 129 bytes", b"sync ", 129, b" C", b"sync|"),
-        ("a target of 129 bytes", b"stale ", 129, b"", b"stale|"),
-        ("a longest path", b"sync K ", 1024, b"", b"sync|K|"),
-        ("a longer path", b"sync K ", 1025, b"", b"50 BadScript line 1"),
-        ("a word longer than a path", b"record ", 1025, b" x.o cc", b"record|"),
-        ("a long command", b"record x.d x.o ", 5000, b"", b"record|x.d|x.o|"),
-    ];
-    for (name, front, length, back, want) in rows {
-        let found = long_outcome(alloc, front, length, back)?;
+    for &(name, front, length, back, want) in LONG_WORDS {
+        let found = long_outcome(rt.alloc(), front, length, back)?;
         assert!(rt; found.as_bytes().starts_with(want), "{name}");
     }
     Ok(())
@@ -128,11 +150,13 @@ fn long_words(rt: HostRuntime) -> Result<(), AllocError> {
 
 #[test]
 fn refusals(rt: HostRuntime) -> Result<(), AllocError> {
-    let alloc = rt.alloc();
-    let mut comment = vec![in alloc; b'#'; 67_108_864]?;
-    assert!(rt; outcome(alloc, &comment)?.as_str() == "");
+    let mut comment = vec![in rt.alloc(); b'#'; 67_108_864]?;
+    let found = outcome(rt.alloc(), &comment)?;
+    assert!(rt; found.is_empty());
     comment.push(b'\n')?;
-    assert!(rt; outcome(alloc, &comment)?.as_str() == "9 TooLarge");
-    assert!(rt; ScriptError::OutOfMemory.to_string(alloc)?.as_str() == "10 OutOfMemory");
+    let found = outcome(rt.alloc(), &comment)?;
+    assert!(rt; found.as_str() == "9 TooLarge");
+    let found = ScriptError::OutOfMemory.to_string(rt.alloc())?;
+    assert!(rt; found.as_str() == "10 OutOfMemory");
     Ok(())
 }

@@ -1,10 +1,11 @@
 //! Worked examples over a tree in memory: tables of words, and of the status and all that is printed.
 use crate::golden;
 use ks_commands::execute;
-use ks_streams::{Scripted, Stream};
+use ks_requests::Request;
+use ks_streams::{Scripted, Step as Call, Stream};
 use ks_symbols::Dialect;
 use ks_tree::{AgedTree, Aging, MemoryTree, Tree};
-use ks_words::request_of;
+use ks_words::{WordsError, request_of};
 use std::alloc::Global;
 use std::process::Abort;
 use std::test::Fail;
@@ -21,32 +22,61 @@ pub(crate) enum Step<'a> {
     Read(&'a str),
 }
 
-/// What words left: the status, the output and standard error.
+/// What a command left: the status, whether nobody read the output to its end, the output and standard error.
 #[derive(Drop)]
 pub(crate) struct Run {
     pub(crate) status: u8,
-    pub(crate) out: String,
-    pub(crate) err: String,
+    pub(crate) unread: bool,
+    pub(crate) out: Vec<u8>,
+    pub(crate) err: Vec<u8>,
 }
 
-/// A stream in memory that takes all.
-pub(crate) fn ready(alloc: Global) -> Stream<Scripted> {
-    Stream::new(Scripted::new(Vec::new(alloc), Vec::new(alloc)))
+/// A stream in memory whose calls go by this script. Where there is none it takes all.
+fn scripted(alloc: Global, script: Vec<Call>) -> Stream<Scripted> {
+    Stream::new(Scripted::new(Vec::new(alloc), script))
 }
 
+/// Runs what is asked for over an output and a standard error that go by these scripts.
+pub(crate) fn run_onto<T: Aging>(
+    alloc: Global,
+    tree: &mut T,
+    dialect: Dialect,
+    asked: &Result<Request, WordsError>,
+    (out, err): (Vec<Call>, Vec<Call>),
+) -> Run {
+    let mut out = scripted(alloc, out);
+    let mut err = scripted(alloc, err);
+    let status = execute(alloc, tree, dialect, asked, &mut out, &mut err);
+    let unread = out.is_unread();
+    let out = out.into_writer().into_bytes();
+    let err = err.into_writer().into_bytes();
+    Run {
+        status,
+        unread,
+        out,
+        err,
+    }
+}
+
+/// Runs what is asked for where all that it prints is taken.
+pub(crate) fn run_asked<T: Aging>(
+    alloc: Global,
+    tree: &mut T,
+    dialect: Dialect,
+    asked: &Result<Request, WordsError>,
+) -> Run {
+    let scripts = (Vec::new(alloc), Vec::new(alloc));
+    run_onto(alloc, tree, dialect, asked, scripts)
+}
+
+/// Runs the command that the words ask for.
 pub(crate) fn run_over<'a, T: Aging>(
     alloc: Global,
     tree: &mut T,
     dialect: Dialect,
     words: &'a [&'a str],
-) -> Result<Run, Fail> {
-    let mut out = ready(alloc);
-    let mut err = ready(alloc);
-    let asked = request_of(alloc, words);
-    let status = execute(alloc, tree, dialect, &asked, &mut out, &mut err);
-    let out = String::from_utf8(out.into_writer().into_bytes())?;
-    let err = String::from_utf8(err.into_writer().into_bytes())?;
-    Ok(Run { status, out, err })
+) -> Run {
+    run_asked(alloc, tree, dialect, &request_of(alloc, words))
 }
 
 /// The bytes of a file as text.
@@ -59,17 +89,17 @@ pub(crate) fn shown<T: Tree>(alloc: Global, tree: &mut T, path: &str) -> Result<
 
 /// The status, the output and standard error, one after the other.
 fn run_text(alloc: Global, run: &Run) -> Result<String, Fail> {
-    let (status, out, err) = (run.status, run.out.as_str(), run.err.as_str());
-    Ok(format!(in alloc; "{status} {out}{err}")?)
+    let (out, err) = (str::from_utf8(&run.out)?, str::from_utf8(&run.err)?);
+    Ok(format!(in alloc; "{} {out}{err}", run.status)?)
 }
 
 /// What comes of a step: what was read, or the status, the output and standard error, one after the other.
 pub(crate) fn told<T: Aging>(alloc: Global, tree: &mut T, step: Step<'_>) -> Result<String, Fail> {
     match step {
-        Step::Words(words) => run_text(alloc, &run_over(alloc, tree, Dialect::Linux, words)?),
-        Step::InUBoot(words) => run_text(alloc, &run_over(alloc, tree, Dialect::UBoot, words)?),
+        Step::Words(words) => run_text(alloc, &run_over(alloc, tree, Dialect::Linux, words)),
+        Step::InUBoot(words) => run_text(alloc, &run_over(alloc, tree, Dialect::UBoot, words)),
         Step::InBusyBox(words) => {
-            run_text(alloc, &run_over(alloc, tree, Dialect::BusyBox, words)?)
+            run_text(alloc, &run_over(alloc, tree, Dialect::BusyBox, words))
         }
         Step::Put(path, bytes) => {
             tree.write(alloc, path.as_bytes(), bytes.as_bytes())?;

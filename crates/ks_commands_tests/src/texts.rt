@@ -1,11 +1,11 @@
 //! From texts to texts, without the words of a command line: what previews print, and why there is none; what differs from
 //! auto.conf; and scripts whose lines name files more than once.
-use crate::steps::ready;
-use ks_commands::execute;
+use crate::steps::{Run, run_asked};
 use ks_requests::{Request, Telling, preview_of};
 use ks_symbols::{Dialect, Kconfig};
-use ks_tree::{AgedTree, MemoryTree};
+use ks_tree::{AgedTree, Aging, MemoryTree, Tree};
 use std::alloc::{AllocError, Global};
+use std::test::Fail;
 
 /// A title, a bool and a tristate.
 const DEMO: &[u8] = b"mainmenu \"Demo\"\nconfig A\n\tbool\nconfig B\n\ttristate\n";
@@ -104,102 +104,80 @@ fn refusals(rt: HostRuntime) -> Result<(), AllocError> {
     Ok(())
 }
 
-/// The status of a script over a Kconfig and two `.config`s, and what it prints.
-fn batch(alloc: Global, script: &[u8]) -> Result<String, AllocError> {
-    let mut tree = MemoryTree::new(alloc);
-    let files: [(&[u8], &[u8]); 4] = [
-        (b"K", DEMO),
-        (b"c", b"CONFIG_A=y\n"),
-        (b"d", b"CONFIG_B=m\n"),
-        (b"S", script),
-    ];
+/// Writes these files.
+fn put_all<T: Tree>(alloc: Global, tree: &mut T, files: &[(&str, &[u8])]) -> Result<(), Fail> {
     for (path, bytes) in files {
-        tree.put(
-            Vec::from_slice(alloc, path)?,
-            Vec::from_slice(alloc, bytes)?,
-        )?;
+        tree.write(alloc, path.as_bytes(), bytes)?;
     }
-    let mut tree = AgedTree::new(alloc, tree);
-    let mut out = ready(alloc);
-    let mut err = ready(alloc);
-    let request = Request::Batch {
-        script: "S".to_string(alloc)?,
-    };
-    let status = execute(
-        alloc,
-        &mut tree,
-        Dialect::Linux,
-        &Ok(request),
-        &mut out,
-        &mut err,
-    );
-    let mut out = out.into_writer().into_bytes();
-    out.extend_from_slice(&err.into_writer().into_bytes())?;
-    format!(in alloc; "{status}\n{}", String::from_utf8_lossy(alloc, &out)?)
+    Ok(())
 }
 
-#[test]
+/// The status of a run, and what it prints.
+fn run_text(alloc: Global, run: &Run) -> Result<String, Fail> {
+    let (out, err) = (str::from_utf8(&run.out)?, str::from_utf8(&run.err)?);
+    Ok(format!(in alloc; "{}\n{out}{err}", run.status)?)
+}
+
+/// The status of a script over a Kconfig and two `.config`s, and what it prints.
+fn batch<T: Aging>(alloc: Global, tree: &mut T, script: &[u8]) -> Result<String, Fail> {
+    put_all(alloc, tree, CONFIGS)?;
+    put_all(alloc, tree, &[("S", script)])?;
+    let script = "S".to_string(alloc)?;
+    let asked = Ok(Request::Batch { script });
+    let run = run_asked(alloc, tree, Dialect::Linux, &asked);
+    run_text(alloc, &run)
+}
+
+const CONFIGS: &[(&str, &[u8])] = &[("K", DEMO), ("c", b"CONFIG_A=y\n"), ("d", b"CONFIG_B=m\n")];
+
 #[rattlefmt::skip]
-fn scripts(rt: HostRuntime) -> Result<(), AllocError> {
-    let alloc = rt.alloc();
-    let rows: [(&str, &[u8], &str); 6] = [
-        ("one pair, three times", b"sync K c\nsync K c\nsync K c\n",
-            "0\nsync generation 1 touched 1 unknown 0\nsync generation 2 touched 0 unknown 0\nsync generation 3 touched 0 unknown 0\n"),
-        ("two pairs in turn", b"sync K c\nsync K d\nsync K c\n",
-            "0\nsync generation 1 touched 1 unknown 0\nsync generation 2 touched 2 unknown 0\nsync generation 3 touched 2 unknown 0\n"),
-        ("a .config that is the Kconfig of an earlier line", b"sync K c\nsync K K\n",
-            "2\nsync generation 1 touched 1 unknown 0\nrefused 7 NotAConfigLine line 1\n"),
-        ("a later line with a missing .config", b"sync K c\nsync K e\nsync f c\n", "2\nconfstamp: 40 MissingFile e\n"),
-        ("a later line with a missing Kconfig", b"sync K c\nsync f e\n", "2\nconfstamp: 40 MissingFile f\n"),
-        ("a directory of its own is another path", b"sync K c\nsync ./K c\n", "2\nconfstamp: 40 MissingFile ./K\n"),
-    ];
-    for (name, script, want) in rows {
-        let found = batch(alloc, script)?;
+const SCRIPTS: &[(&str, &[u8], &str)] = &[
+    ("one pair, three times", b"sync K c\nsync K c\nsync K c\n",
+        "0\nsync generation 1 touched 1 unknown 0\nsync generation 2 touched 0 unknown 0\nsync generation 3 touched 0 unknown 0\n"),
+    ("two pairs in turn", b"sync K c\nsync K d\nsync K c\n",
+        "0\nsync generation 1 touched 1 unknown 0\nsync generation 2 touched 2 unknown 0\nsync generation 3 touched 2 unknown 0\n"),
+    ("a .config that is the Kconfig of an earlier line", b"sync K c\nsync K K\n",
+        "2\nsync generation 1 touched 1 unknown 0\nrefused 7 NotAConfigLine line 1\n"),
+    ("a later line with a missing .config", b"sync K c\nsync K e\nsync f c\n", "2\nconfstamp: 40 MissingFile e\n"),
+    ("a later line with a missing Kconfig", b"sync K c\nsync f e\n", "2\nconfstamp: 40 MissingFile f\n"),
+    ("a directory of its own is another path", b"sync K c\nsync ./K c\n", "2\nconfstamp: 40 MissingFile ./K\n"),
+];
+
+#[test]
+fn scripts(rt: HostRuntime) -> Result<(), Fail> {
+    for &(name, script, want) in SCRIPTS {
+        let mut tree = AgedTree::new(rt.alloc(), MemoryTree::new(rt.alloc()));
+        let found = batch(rt.alloc(), &mut tree, script)?;
         assert!(rt; found.as_str() == want, "{name}: {found}");
     }
     Ok(())
 }
 
+fn diff_request(alloc: Global) -> Result<Request, AllocError> {
+    let kconfig = "K".to_string(alloc)?;
+    let dotconfig = "c".to_string(alloc)?;
+    Ok(Request::Diff {
+        kconfig,
+        dotconfig,
+        telling: Telling::Lines,
+    })
+}
+
 /// The status of a diff over a tree with these texts, and what it prints.
-fn diff(
+fn diff<T: Aging>(
     alloc: Global,
+    tree: &mut T,
     kconfig: &[u8],
     dotconfig: &[u8],
     auto: Option<&[u8]>,
-) -> Result<String, AllocError> {
-    let mut tree = MemoryTree::new(alloc);
-    let files: [(&[u8], Option<&[u8]>); 3] = [
-        (b"K", Some(kconfig)),
-        (b"c", Some(dotconfig)),
-        (b"include/config/auto.conf", auto),
-    ];
-    for (path, bytes) in files {
-        if let Some(bytes) = bytes {
-            tree.put(
-                Vec::from_slice(alloc, path)?,
-                Vec::from_slice(alloc, bytes)?,
-            )?;
-        }
+) -> Result<String, Fail> {
+    put_all(alloc, tree, &[("K", kconfig), ("c", dotconfig)])?;
+    if let Some(auto) = auto {
+        put_all(alloc, tree, &[("include/config/auto.conf", auto)])?;
     }
-    let mut tree = AgedTree::new(alloc, tree);
-    let mut out = ready(alloc);
-    let mut err = ready(alloc);
-    let request = Request::Diff {
-        kconfig: "K".to_string(alloc)?,
-        dotconfig: "c".to_string(alloc)?,
-        telling: Telling::Lines,
-    };
-    let status = execute(
-        alloc,
-        &mut tree,
-        Dialect::Linux,
-        &Ok(request),
-        &mut out,
-        &mut err,
-    );
-    let mut out = out.into_writer().into_bytes();
-    out.extend_from_slice(&err.into_writer().into_bytes())?;
-    format!(in alloc; "{status}\n{}", String::from_utf8_lossy(alloc, &out)?)
+    let asked = Ok(diff_request(alloc)?);
+    let run = run_asked(alloc, tree, Dialect::Linux, &asked);
+    run_text(alloc, &run)
 }
 
 #[rattlefmt::skip]
@@ -229,10 +207,10 @@ const DIFFERENCES: &[(&str, &[u8], &[u8], Option<&[u8]>, &str)] = &[
 ];
 
 #[test]
-fn differences(rt: HostRuntime) -> Result<(), AllocError> {
-    let alloc = rt.alloc();
+fn differences(rt: HostRuntime) -> Result<(), Fail> {
     for &(name, kconfig, dotconfig, auto, want) in DIFFERENCES {
-        let found = diff(alloc, kconfig, dotconfig, auto)?;
+        let mut tree = AgedTree::new(rt.alloc(), MemoryTree::new(rt.alloc()));
+        let found = diff(rt.alloc(), &mut tree, kconfig, dotconfig, auto)?;
         assert!(rt; found.as_str() == want, "{name}: {found}");
     }
     Ok(())

@@ -3,6 +3,7 @@
 use crate::steps::{Step, told};
 use ks_tree::{AgedTree, MemoryTree};
 use ks_words::request_of;
+use std::alloc::{AllocError, Global};
 use std::test::Fail;
 
 #[rattlefmt::skip]
@@ -50,14 +51,18 @@ const MEANINGS: &[(&str, &[&str], &str)] = &[
     ("the dearest of a file", &["cost", "--top", "007", "--from", "f"], r#"Cost { top: Some(7), targets: Targets { words: [], from: Some("f") } }"#),
 ];
 
+/// The request that the words make.
+fn meaning(alloc: Global, words: &[&str]) -> Result<String, AllocError> {
+    match request_of(alloc, words) {
+        Ok(request) => format!(in alloc; "{request:?}"),
+        Err(_) => String::from_str(alloc, "refused"),
+    }
+}
+
 #[test]
-fn words_are_taken_as_meant(rt: HostRuntime) -> Result<(), Fail> {
-    let alloc = rt.alloc();
+fn words_are_taken_as_meant(rt: HostRuntime) -> Result<(), AllocError> {
     for &(name, words, want) in MEANINGS {
-        let Ok(request) = request_of(alloc, words) else {
-            return Err(Fail::from("refused"));
-        };
-        let found = format!(in alloc; "{request:?}")?;
+        let found = meaning(rt.alloc(), words)?;
         assert!(rt; found.as_str() == want, "{name}: {found}");
     }
     Ok(())
@@ -114,10 +119,9 @@ const WORDS_THAT_ARE_NO_COMMAND: &[(&str, &[&str])] = &[
 
 #[test]
 fn words_that_are_no_command(rt: HostRuntime) -> Result<(), Fail> {
-    let alloc = rt.alloc();
-    let mut tree = AgedTree::new(alloc, MemoryTree::new(alloc));
     for &(name, words) in WORDS_THAT_ARE_NO_COMMAND {
-        let found = told(alloc, &mut tree, Step::Words(words))?;
+        let mut tree = AgedTree::new(rt.alloc(), MemoryTree::new(rt.alloc()));
+        let found = told(rt.alloc(), &mut tree, Step::Words(words))?;
         assert!(rt; found.starts_with("2 error: "), "{name}: {found}");
     }
     Ok(())

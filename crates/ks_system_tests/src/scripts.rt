@@ -280,29 +280,43 @@ fn found(alloc: Global, disk: &ScriptedDisk<'_>, path: &str) -> Result<String, A
     String::from_str(alloc, text)
 }
 
-/// How often a tree has failed. (The prover knows no shared borrow of a tree whose disk borrows its script.)
-fn failures_of<S: System + Drop>(tree: &mut SystemTree<S>) -> u64 {
-    tree.failures()
+/// The deeds of a row, one after another, each with the answer that is wanted; and how often the tree has then failed.
+fn play<S: System + Drop>(
+    rt: &impl Abort,
+    alloc: Global,
+    tree: &mut SystemTree<S>,
+    row: &Row<'_>,
+) -> Result<(), AllocError> {
+    let mut place = 0_u64;
+    for (deed, want) in row.deeds {
+        let got = answer(alloc, tree, *deed)?;
+        assert_eq!(rt; got.as_str(), *want, "{}, deed {place}", row.name);
+        place = place.saturating_add(1);
+    }
+    assert_eq!(rt; tree.failures(), row.failures, "{}", row.name);
+    Ok(())
+}
+
+/// The disk has what a row wants.
+fn check(
+    rt: &impl Abort,
+    alloc: Global,
+    disk: &ScriptedDisk<'_>,
+    row: &Row<'_>,
+) -> Result<(), AllocError> {
+    for (path, want) in row.disk {
+        let got = found(alloc, disk, *path)?;
+        assert_eq!(rt; got.as_str(), *want, "{}, {path}", row.name);
+    }
+    Ok(())
 }
 
 fn run(rt: &impl Abort, alloc: Global, row: &Row<'_>) -> Result<(), AllocError> {
-    let name = row.name;
     let mut disk = ScriptedDisk::new(alloc, row.script);
     disk.put(b"a", b"abcdefgh")?;
     let mut tree = SystemTree::new(disk);
-    let mut place = 0_u64;
-    for (deed, want) in row.deeds {
-        let got = answer(alloc, &mut tree, *deed)?;
-        assert_eq!(rt; got.as_str(), *want, "{name}, deed {place}");
-        place = place.saturating_add(1);
-    }
-    assert_eq!(rt; failures_of(&mut tree), row.failures, "{name}");
-    let disk = tree.into_system();
-    for (path, want) in row.disk {
-        let got = found(alloc, &disk, *path)?;
-        assert_eq!(rt; got.as_str(), *want, "{name}, {path}");
-    }
-    Ok(())
+    play(rt, alloc, &mut tree, row)?;
+    check(rt, alloc, &tree.into_system(), row)
 }
 
 #[test]

@@ -218,7 +218,9 @@ impl<'a> Reader<'a> {
         if !fits(kind, name) {
             return Err(SourceError::ModuleName(number));
         }
-        self.declared.push(Declaration { name, kind, number })?;
+        self.declared
+            .push(Declaration { name, kind, number })
+            .map_err(AllocError::from)?;
         Ok(())
     }
 

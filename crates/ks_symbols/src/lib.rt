@@ -32,7 +32,9 @@ pub use laws::{
     settings_are_configurations, statements_are_spelled,
 };
 pub use limits::MAX_BYTES;
-pub use names::{Name, Path, name_is_legal, path_is_legal, target_is_legal};
+pub use names::{
+    Legal, Name, OfNames, OfPaths, Path, Rule, name_is_legal, path_is_legal, target_is_legal,
+};
 pub use settings::{Entries, Settings, SettingsDraft};
 pub use statements::{Statement, is_silent, parse_statement, split_word};
 pub use symbols::Symbols;

@@ -1,11 +1,11 @@
 //! What the words after the program's name ask for.
-ghost use Rattle.std.specs.Prelude.{◌≡◌, ℕ, List, [], ◌∷◌, IfErr, IfOk, codes, true, map, None, option_map, string_bytes};
+ghost use Rattle.std.specs.Prelude.{◌≡◌, ℕ, List, [], ◌∷◌, IfErr, IfOk, codes, true, map, None, option_map, string_bytes, if◌then◌else◌};
 ghost use Rattle.clap.specs.Words.{fault_of, first_of, found_of, kind_of, one_of, rows_of, takes};
 ghost use Rattle.clap.specs.Walk.{texts};
 ghost use Rattle.ks_requests.specs.Requests.{IsBatchOf, IsPreviewOf};
 ghost use Rattle.ks_words.specs.CommandLine.{command_line_app};
 ghost use Rattle.ks_words.specs.Meaning.{Makes};
-ghost use Rattle.ks_words.specs.Words.{AreTargets, IsFaultOf, IsPlainWord, IsRequestOf, IsTelling, IsTold, IsWantOfMemory, ages_of, is_no_memory, is_set, stamps_of, telling_of, word_at, words_at, form_of, IsNumberOf};
+ghost use Rattle.ks_words.specs.Words.{AreTargets, IsFaultOf, IsPlainWord, IsRequestOf, IsTelling, IsTold, IsWantOfMemory, is_no_memory, is_set, telling_of, word_at, words_at, form_of, IsNumberOf};
 
 use crate::command_line::command_line;
 use crate::explanation::Explanation;
@@ -88,6 +88,13 @@ fn is_set(matches: &ArgMatches<'_>, id: &str) -> bool
     }
 }
 
+/// One of two values, by whether the option `id` stands there.
+fn chosen<C: Copy>(matches: &ArgMatches<'_>, id: &str, set: C, unset: C) -> C
+    ensures { result ≡ (if is_set id.now (rows_of (found_of matches.now)) then set else unset) }
+{
+    if is_set(matches, id) { set } else { unset }
+}
+
 /// The words of the argument `id`.
 fn all_words(alloc: Global, matches: &ArgMatches<'_>, id: &str) -> Result<Vec<String>, AllocError>
     ensures { IfOk result (λ ws. map (λ s. string_bytes s) ws.items ≡ words_at id.now (rows_of (found_of matches.now))) }
@@ -115,33 +122,7 @@ fn targets(alloc: Global, matches: &ArgMatches<'_>) -> Result<Targets, AllocErro
 fn form(matches: &ArgMatches<'_>) -> Form
     ensures { result ≡ form_of (rows_of (found_of matches.now)) }
 {
-    if is_set(matches, "json") {
-        Form::Json
-    } else {
-        Form::Text
-    }
-}
-
-/// Which stamps `sync` is to leave.
-fn stamps(matches: &ArgMatches<'_>) -> Stamps
-    ensures { result ≡ stamps_of (rows_of (found_of matches.now)) }
-{
-    if is_set(matches, "stamps") {
-        Stamps::Declared
-    } else {
-        Stamps::Touched
-    }
-}
-
-/// Which stale objects `age` is to age.
-fn ages(matches: &ArgMatches<'_>) -> Ages
-    ensures { result ≡ ages_of (rows_of (found_of matches.now)) }
-{
-    if is_set(matches, "unrecorded") {
-        Ages::Unrecorded
-    } else {
-        Ages::Recorded
-    }
+    chosen(matches, "json", Form::Json, Form::Text)
 }
 
 fn sync_request(alloc: Global, matches: &ArgMatches<'_>) -> Result<Request, AllocError>
@@ -150,7 +131,7 @@ fn sync_request(alloc: Global, matches: &ArgMatches<'_>) -> Result<Request, Allo
     Ok(Request::Sync {
         kconfig: word(alloc, matches, "KCONFIG")?,
         dotconfig: word(alloc, matches, "DOTCONFIG")?,
-        stamps: stamps(matches),
+        stamps: chosen(matches, "stamps", Stamps::Declared, Stamps::Touched),
     })
 }
 
@@ -287,7 +268,7 @@ fn request_named(alloc: Global, name: &str, matches: &ArgMatches<'_>) -> Result<
         }),
         "impact" => impact_request(alloc, matches),
         "age" => Ok(Request::Age {
-            which: ages(matches),
+            which: chosen(matches, "unrecorded", Ages::Unrecorded, Ages::Recorded),
             targets: targets(alloc, matches)?,
         }),
         "users" => users_request(alloc, matches),

@@ -70,6 +70,8 @@ pub(crate) struct Usage {
     pub(crate) notes: &'static str,
 }
 
+// The words that several commands take. A word of one command alone stands in its row of the table.
+
 const KCONFIG: Word = Word {
     name: "KCONFIG",
     times: Times::Once,
@@ -82,22 +84,10 @@ const DOTCONFIG: Word = Word {
     help: "The .config file: what the symbols are set to",
 };
 
-const OLDAUTO: Word = Word {
-    name: "OLDAUTO",
-    times: Times::AtMostOnce,
-    help: "The auto.conf to start from; without it, as if nothing had been synchronised yet",
-};
-
 const DEPFILE: Word = Word {
     name: "DEPFILE",
     times: Times::Once,
     help: "The dependency file that the compiler wrote with -MD",
-};
-
-const HEADER: Word = Word {
-    name: "END",
-    times: Times::Following("header"),
-    help: "The header of all symbols, by the end of its path; without it, include/generated/autoconf.h",
 };
 
 const TARGET: Word = Word {
@@ -118,18 +108,6 @@ const FROM: Word = Word {
     help: "A file with further objects, one a line; they come after the others, and empty lines are skipped",
 };
 
-const EXIT_CODE: Word = Word {
-    name: "exit-code",
-    times: Times::Flag,
-    help: "End with status 1 where a symbol differs",
-};
-
-const QUIET: Word = Word {
-    name: "quiet",
-    times: Times::Flag,
-    help: "Print nothing, and end with status 1 where a symbol differs",
-};
-
 const JSON: Word = Word {
     name: "json",
     times: Times::Flag,
@@ -142,47 +120,19 @@ const COMMAND: Word = Word {
     help: "The command line that builds the object, as one word",
 };
 
-const STAMPS: Word = Word {
-    name: "stamps",
-    times: Times::Flag,
-    help: "Make the missing stamp of each symbol of KCONFIG too, empty, so that a build can list them all",
-};
-
-const SCRIPT: Word = Word {
-    name: "SCRIPT",
-    times: Times::Once,
-    help: "A file with a command sync, record or stale on each line; empty lines and those that begin with # are skipped",
-};
-
-const OBJECTS: Word = Word {
-    name: "FILE",
-    times: Times::OnceAfter("from"),
-    help: "A file with the objects, one a line; empty lines are skipped",
-};
-
-const SYMBOLS: Word = Word {
-    name: "SYMBOL",
-    times: Times::AtLeastOnce,
-    help: "The symbols, with or without CONFIG_ in front",
-};
-
-const TOP: Word = Word {
-    name: "N",
-    times: Times::NumberAfter("top"),
-    help: "Print the N dearest symbols alone",
-};
-
-const UNRECORDED: Word = Word {
-    name: "unrecorded",
-    times: Times::Flag,
-    help: "Age objects without a command file or without a number too",
-};
-
 pub(crate) const USAGES: [Usage; 14] = [
     Usage {
         name: "sync",
         about: "Write auto.conf, the header and the stamps of all symbols that changed",
-        words: &[STAMPS, KCONFIG, DOTCONFIG],
+        words: &[
+            Word {
+                name: "stamps",
+                times: Times::Flag,
+                help: "Make the missing stamp of each symbol of KCONFIG too, empty, so that a build can list them all",
+            },
+            KCONFIG,
+            DOTCONFIG,
+        ],
         choice: Some("confstamp sync [--stamps] <KCONFIG> <DOTCONFIG>"),
         notes: "\
 Prints the generation, touch NAME for each stamp, and how many lines name an unknown symbol.
@@ -192,7 +142,15 @@ Example: confstamp sync Kconfig .config",
     Usage {
         name: "preview",
         about: "Show what sync would touch, and the auto.conf that it would write",
-        words: &[KCONFIG, DOTCONFIG, OLDAUTO],
+        words: &[
+            KCONFIG,
+            DOTCONFIG,
+            Word {
+                name: "OLDAUTO",
+                times: Times::AtMostOnce,
+                help: "The auto.conf to start from; without it, as if nothing had been synchronised yet",
+            },
+        ],
         choice: None,
         notes: "\
 Prints touch NAME for each stamp, then auto.conf. Writes no file.
@@ -202,7 +160,20 @@ Example: confstamp preview Kconfig .config include/config/auto.conf",
     Usage {
         name: "diff",
         about: "Show what sync would touch, with the old and the new value of each symbol",
-        words: &[EXIT_CODE, QUIET, KCONFIG, DOTCONFIG],
+        words: &[
+            Word {
+                name: "exit-code",
+                times: Times::Flag,
+                help: "End with status 1 where a symbol differs",
+            },
+            Word {
+                name: "quiet",
+                times: Times::Flag,
+                help: "Print nothing, and end with status 1 where a symbol differs",
+            },
+            KCONFIG,
+            DOTCONFIG,
+        ],
         choice: Some("confstamp diff [--exit-code] [--quiet] <KCONFIG> <DOTCONFIG>"),
         notes: "\
 Prints NAME OLD -> NEW for each, n where a symbol has no value, and both kinds where the values are alike.
@@ -233,7 +204,16 @@ Example: confstamp record x.d x.o 'cc -c x.c'",
     Usage {
         name: "depfile",
         about: "Record an object, and put the stamps of its names into its dependency file, for ninja",
-        words: &[HEADER, DEPFILE, TARGET, COMMAND],
+        words: &[
+            Word {
+                name: "END",
+                times: Times::Following("header"),
+                help: "The header of all symbols, by the end of its path; without it, include/generated/autoconf.h",
+            },
+            DEPFILE,
+            TARGET,
+            COMMAND,
+        ],
         choice: Some("confstamp depfile [--header END] <DEPFILE> <TARGET> <COMMAND>"),
         notes: "\
 Does what record does. Then it makes the missing stamps, empty, and leaves one rule in DEPFILE: without the header,
@@ -275,7 +255,15 @@ Example: confstamp impact Kconfig .config x.o y.o",
     Usage {
         name: "age",
         about: "Say which objects are stale, and age them, so that make builds them whatever their times",
-        words: &[UNRECORDED, TARGETS, FROM],
+        words: &[
+            Word {
+                name: "unrecorded",
+                times: Times::Flag,
+                help: "Age objects without a command file or without a number too",
+            },
+            TARGETS,
+            FROM,
+        ],
         choice: Some("confstamp age [--unrecorded] [--from FILE] [TARGET]..."),
         notes: "\
 Prints the lines of stale. The file of an object that is stale by its record gets the first second of 1970 as its
@@ -286,7 +274,11 @@ Example: confstamp age --from objects",
     Usage {
         name: "batch",
         about: "Run the commands of a script, one after the other",
-        words: &[SCRIPT],
+        words: &[Word {
+            name: "SCRIPT",
+            times: Times::Once,
+            help: "A file with a command sync, record or stale on each line; empty lines and those that begin with # are skipped",
+        }],
         choice: None,
         notes: "\
 Prints a line for each command of the script. A refused one does not end it.
@@ -306,7 +298,18 @@ Example: confstamp outdated x.o 'cc -c x.c'",
     Usage {
         name: "users",
         about: "Say which objects name a symbol, so that a change of it makes them stale",
-        words: &[OBJECTS, SYMBOLS],
+        words: &[
+            Word {
+                name: "FILE",
+                times: Times::OnceAfter("from"),
+                help: "A file with the objects, one a line; empty lines are skipped",
+            },
+            Word {
+                name: "SYMBOL",
+                times: Times::AtLeastOnce,
+                help: "The symbols, with or without CONFIG_ in front",
+            },
+        ],
         choice: Some("confstamp users --from FILE <SYMBOL>..."),
         notes: "\
 Prints OBJECT SYMBOL PLACE for each, with the first file that mentions the symbol, and N of M objects to standard
@@ -317,7 +320,15 @@ Example: confstamp users --from objects PRINTK",
     Usage {
         name: "cost",
         about: "Say how many objects name each symbol, so that a change of it makes them stale",
-        words: &[TARGETS, FROM, TOP],
+        words: &[
+            TARGETS,
+            FROM,
+            Word {
+                name: "N",
+                times: Times::NumberAfter("top"),
+                help: "Print the N dearest symbols alone",
+            },
+        ],
         choice: Some("confstamp cost [--from FILE] [--top N] [TARGET]..."),
         notes: "\
 Prints SYMBOL N for each, the dearest first. Looks at each object once, and at command files alone. One of the words

@@ -20,12 +20,12 @@ use thiserror::Error;
 /// Why an auto.conf is refused.
 #[derive(Clone, Copy, Debug, PartialEq, Eq, Drop, Error)]
 pub enum AutoError {
-    #[error("11 BadAuto line {0}")]
-    BadAuto(u64),
     #[error("9 TooLarge")]
     TooLarge,
     #[error("10 OutOfMemory")]
     OutOfMemory,
+    #[error("11 BadAuto line {0}")]
+    BadAuto(u64),
 }
 
 impl From<AllocError> for AutoError {

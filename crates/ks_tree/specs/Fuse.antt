@@ -48,10 +48,6 @@ after_call f =
     if passes_next f then record f { passes = f.passes - 1 }
     else record f { fails = one_less f.fails; failed = min (f.failed + 1) 18446744073709551615 }
 
--- how often calls have failed, of the tree behind the fuse and by the fuse
-abbrev pub failed_in : {T : Type 0} → Ghosts T → FuseTree T → ℕ
-failed_in tree t = tree.failures t.inner + t.fuse.failed
-
 -- The fuse counts each call. One that passes fails by the device only where the tree behind the fuse counted that; any other one fails so.
 pub record IsFuseCall {T : Type 0} (tree : Ghosts T) (old new : FuseTree T) (device : Type 0) : Type 0 where
   pub counted : fuse_of new ≡ after_call (fuse_of old)
@@ -83,6 +79,12 @@ pub record IsHalfCreation {T : Type 0} (tree : Ghosts T) (path bytes : List ℕ)
   pub made : tree.is_honest → OnOk answer (content (tree.files new) path ≡ Some (kept_or (content (tree.files old) path) (half_of bytes)))
   pub refused : tree.is_honest → IsErrOf answer OutOfMemory → tree.files new ≡ tree.files old
   pub failed : IsErrOf answer Device → HasRisen (tree.failures old) (tree.failures new)
+
+-- What a call that only reads does at a turn of the fuse: one that passes is that of the tree after it, and a failed one did nothing.
+abbrev pub OnlyReadsAt : {T : Type 0} → Turn → Type 0 → T → T → Type 0
+OnlyReadsAt Pass passed old new = passed
+OnlyReadsAt Fail passed old new = new ≡ old
+OnlyReadsAt HalfDone passed old new = new ≡ old
 
 -- What a write does at a turn of the fuse: one that passes is that of the tree after it, and a failed one did nothing.
 abbrev pub WritesAt : {T : Type 0} → Turn → Ghosts T → T → List ℕ → List ℕ → T → Result Unit TreeFault → Type 0

@@ -1,8 +1,7 @@
 //! A tree whose calls fail by a count, with which tests break every command off between any two of its calls. It keeps the
 //! contract of the tree that it passes the calls on to.
-ghost use Rattle.std.specs.Prelude.{◌≡◌, ◌≢◌, ◌⊎◌, ◌+◌, ◌≤◌, ℕ, List, length, Some, IsSome, IfSome, IfOk, OnOk, OnErr, IsErrOf, option_map};
-ghost use Rattle.ks_symbols.specs.Lines.{max_bytes};
-ghost use Rattle.ks_tree.specs.Files.{content, kept_or, SameBut, IsHalfCreated, IsMoved, IsTooLarge, IsReadAt, HasRisen};
+ghost use Rattle.std.specs.Prelude.{◌≡◌, ◌≢◌, ◌+◌, ◌≤◌, IsErrOf};
+ghost use Rattle.ks_tree.specs.Files.{HasRisen};
 
 use crate::{Aging, Tree, TreeFault};
 use std::alloc::Global;
@@ -98,7 +97,8 @@ impl<T: Drop> FuseTree<T> {
 }
 
 impl<T: Tree + Drop> Tree for FuseTree<T> {
-    ghost use Rattle.ks_tree.specs.Fuse.{IsFuseCall, CreatesAt, RenamesAt, WritesAt, failed_in, fuse_of, inner_of, turn_of};
+    ghost use Rattle.ks_tree.specs.declared.fault.TreeFault.{TreeFault};
+    ghost use Rattle.ks_tree.specs.Fuse.{CreatesAt, IsFuseCall, OnlyReadsAt, RenamesAt, WritesAt, fuse_of, inner_of, turn_of};
 
     ghost files = { λ t. T.files t.inner };
 
@@ -108,27 +108,22 @@ impl<T: Tree + Drop> Tree for FuseTree<T> {
 
     ghost aged = { λ t. T.aged t.inner };
 
-    ghost writes = { λ old path bytes new answer. WritesAt (turn_of (fuse_of old)) T.Tree (inner_of old) path bytes (inner_of new) answer };
+    ghost reads_whole = { λ old path new answer. IsFuseCall T.Tree old new (IsErrOf answer TreeFault.Device)
+        × OnlyReadsAt (turn_of (fuse_of old)) (T.reads_whole (inner_of old) path (inner_of new) answer) (inner_of old) (inner_of new) };
 
-    ghost creates = { λ old path bytes new answer. CreatesAt (turn_of (fuse_of old)) T.Tree (inner_of old) path bytes (inner_of new) answer };
+    ghost reads_at = { λ old path offset new answer. IsFuseCall T.Tree old new (IsErrOf answer TreeFault.Device)
+        × OnlyReadsAt (turn_of (fuse_of old)) (T.reads_at (inner_of old) path offset (inner_of new) answer) (inner_of old) (inner_of new) };
 
-    ghost renames = { λ old from to new answer. RenamesAt (turn_of (fuse_of old)) T.Tree (inner_of old) from to (inner_of new) answer };
+    ghost writes = { λ old path bytes new answer. IsFuseCall T.Tree old new (IsErrOf answer TreeFault.Device)
+        × WritesAt (turn_of (fuse_of old)) T.Tree (inner_of old) path bytes (inner_of new) answer };
 
-    fn read(&mut self, alloc: Global, path: &[u8]) -> Result<Option<Vec<u8>>, TreeFault>
-        ensures found { T.is_honest → IfOk result (λ found. option_map (λ v. v.items) found ≡ content (T.files (inner_of self.old)) path.now) }
-        ensures small { T.is_honest → IfOk result (λ found. (b : List ℕ) → content (T.files (inner_of self.old)) path.now ≡ Some b → length b ≤ max_bytes) }
-        ensures too_large { T.is_honest → IsErrOf result TreeFault.TooLarge → IsTooLarge (content (T.files (inner_of self.old)) path.now) }
-        ensures unchanged { T.is_honest → T.files (inner_of self.new) ≡ T.files (inner_of self.old) }
-        ensures kept { T.aged (inner_of self.new) ≡ T.aged (inner_of self.old) }
-        ensures later { failed_in T.Tree self.old ≤ failed_in T.Tree self.new }
-        ensures passed { OnOk result (failed_in T.Tree self.new ≡ failed_in T.Tree self.old) }
-        ensures uncounted { IsErrOf result TreeFault.OutOfMemory → failed_in T.Tree self.new ≡ failed_in T.Tree self.old }
-        ensures too_large_uncounted { IsErrOf result TreeFault.TooLarge → failed_in T.Tree self.new ≡ failed_in T.Tree self.old }
-        ensures cause { IsErrOf result TreeFault.Device → HasRisen (failed_in T.Tree self.old) (failed_in T.Tree self.new) }
-        // Of the fuse: which calls pass, and what the others leave.
-        ensures fuse { IsFuseCall T.Tree self.old self.new (IsErrOf result TreeFault.Device) }
-        ensures nothing { (turn_of (fuse_of self.old) ≡ Turn.Pass → ⊥) → inner_of self.new ≡ inner_of self.old }
-    {
+    ghost creates = { λ old path bytes new answer. IsFuseCall T.Tree old new (IsErrOf answer TreeFault.Device)
+        × CreatesAt (turn_of (fuse_of old)) T.Tree (inner_of old) path bytes (inner_of new) answer };
+
+    ghost renames = { λ old from to new answer. IsFuseCall T.Tree old new (IsErrOf answer TreeFault.Device)
+        × RenamesAt (turn_of (fuse_of old)) T.Tree (inner_of old) from to (inner_of new) answer };
+
+    fn read(&mut self, alloc: Global, path: &[u8]) -> Result<Option<Vec<u8>>, TreeFault> {
         match self.fuse.turn() {
             Turn::Pass => self.inner.read(alloc, path),
             Turn::Fail | Turn::HalfDone => Err(TreeFault::Device),
@@ -141,40 +136,14 @@ impl<T: Tree + Drop> Tree for FuseTree<T> {
         path: &[u8],
         offset: u64,
         into: &mut [u8],
-    ) -> Result<Option<usize>, TreeFault>
-        ensures found { T.is_honest → IfOk result (IsReadAt (content (T.files (inner_of self.old)) path.now) offset into.old into.new) }
-        ensures within { IfOk result (λ found. IfSome found (λ n. n ≤ length into.new)) }
-        ensures unchanged { T.is_honest → T.files (inner_of self.new) ≡ T.files (inner_of self.old) }
-        ensures kept { T.aged (inner_of self.new) ≡ T.aged (inner_of self.old) }
-        ensures never { IsErrOf result TreeFault.TooLarge → ⊥ }
-        ensures later { failed_in T.Tree self.old ≤ failed_in T.Tree self.new }
-        ensures passed { OnOk result (failed_in T.Tree self.new ≡ failed_in T.Tree self.old) }
-        ensures uncounted { IsErrOf result TreeFault.OutOfMemory → failed_in T.Tree self.new ≡ failed_in T.Tree self.old }
-        ensures cause { IsErrOf result TreeFault.Device → HasRisen (failed_in T.Tree self.old) (failed_in T.Tree self.new) }
-        // Of the fuse: which calls pass, and what the others leave.
-        ensures fuse { IsFuseCall T.Tree self.old self.new (IsErrOf result TreeFault.Device) }
-        ensures nothing { (turn_of (fuse_of self.old) ≡ Turn.Pass → ⊥) → inner_of self.new ≡ inner_of self.old }
-    {
+    ) -> Result<Option<usize>, TreeFault> {
         match self.fuse.turn() {
             Turn::Pass => self.inner.read_at(alloc, path, offset, into),
             Turn::Fail | Turn::HalfDone => Err(TreeFault::Device),
         }
     }
 
-    fn write(&mut self, alloc: Global, path: &[u8], bytes: &[u8]) -> Result<(), TreeFault>
-        ensures written { T.is_honest → OnOk result (content (T.files (inner_of self.new)) path.now ≡ Some bytes.now) }
-        ensures others { T.is_honest → SameBut path.now (T.files (inner_of self.old)) (T.files (inner_of self.new)) }
-        ensures kept { T.aged (inner_of self.new) ≡ T.aged (inner_of self.old) }
-        ensures refused { T.is_honest → IsErrOf result TreeFault.OutOfMemory → T.files (inner_of self.new) ≡ T.files (inner_of self.old) }
-        ensures never { IsErrOf result TreeFault.TooLarge → ⊥ }
-        ensures later { failed_in T.Tree self.old ≤ failed_in T.Tree self.new }
-        ensures passed { OnOk result (failed_in T.Tree self.new ≡ failed_in T.Tree self.old) }
-        ensures uncounted { IsErrOf result TreeFault.OutOfMemory → failed_in T.Tree self.new ≡ failed_in T.Tree self.old }
-        ensures cause { IsErrOf result TreeFault.Device → HasRisen (failed_in T.Tree self.old) (failed_in T.Tree self.new) }
-        // Of the fuse: which calls pass, and what the others leave.
-        ensures fuse { IsFuseCall T.Tree self.old self.new (IsErrOf result TreeFault.Device) }
-        ensures called { WritesAt (turn_of (fuse_of self.old)) T.Tree (inner_of self.old) path.now bytes.now (inner_of self.new) result }
-    {
+    fn write(&mut self, alloc: Global, path: &[u8], bytes: &[u8]) -> Result<(), TreeFault> {
         match self.fuse.turn() {
             Turn::Pass => self.inner.write(alloc, path, bytes),
             Turn::Fail => Err(TreeFault::Device),
@@ -185,21 +154,7 @@ impl<T: Tree + Drop> Tree for FuseTree<T> {
         }
     }
 
-    fn create(&mut self, alloc: Global, path: &[u8], bytes: &[u8]) -> Result<(), TreeFault>
-        ensures made { T.is_honest → OnOk result (content (T.files (inner_of self.new)) path.now ≡ Some (kept_or (content (T.files (inner_of self.old)) path.now) bytes.now)) }
-        ensures failed { T.is_honest → OnErr result (IsHalfCreated (content (T.files (inner_of self.old)) path.now) bytes.now (content (T.files (inner_of self.new)) path.now)) }
-        ensures others { T.is_honest → SameBut path.now (T.files (inner_of self.old)) (T.files (inner_of self.new)) }
-        ensures kept { T.aged (inner_of self.new) ≡ T.aged (inner_of self.old) }
-        ensures refused { T.is_honest → IsErrOf result TreeFault.OutOfMemory → T.files (inner_of self.new) ≡ T.files (inner_of self.old) }
-        ensures never { IsErrOf result TreeFault.TooLarge → ⊥ }
-        ensures later { failed_in T.Tree self.old ≤ failed_in T.Tree self.new }
-        ensures passed { OnOk result (failed_in T.Tree self.new ≡ failed_in T.Tree self.old) }
-        ensures uncounted { IsErrOf result TreeFault.OutOfMemory → failed_in T.Tree self.new ≡ failed_in T.Tree self.old }
-        ensures cause { IsErrOf result TreeFault.Device → HasRisen (failed_in T.Tree self.old) (failed_in T.Tree self.new) }
-        // Of the fuse: which calls pass, and what the others leave.
-        ensures fuse { IsFuseCall T.Tree self.old self.new (IsErrOf result TreeFault.Device) }
-        ensures called { CreatesAt (turn_of (fuse_of self.old)) T.Tree (inner_of self.old) path.now bytes.now (inner_of self.new) result }
-    {
+    fn create(&mut self, alloc: Global, path: &[u8], bytes: &[u8]) -> Result<(), TreeFault> {
         match self.fuse.turn() {
             Turn::Pass => self.inner.create(alloc, path, bytes),
             Turn::Fail => Err(TreeFault::Device),
@@ -210,23 +165,7 @@ impl<T: Tree + Drop> Tree for FuseTree<T> {
         }
     }
 
-    fn rename(&mut self, alloc: Global, from: &[u8], to: &[u8]) -> Result<(), TreeFault>
-        requires differ { from.now ≢ to.now }
-        requires there { T.is_honest → IsSome (content (T.files (inner_of self.old)) from.now) }
-        ensures moved { T.is_honest → OnOk result (IsMoved from.now to.now (T.files (inner_of self.old)) (T.files (inner_of self.new))) }
-        ensures failed { T.is_honest → OnErr result ((T.files (inner_of self.new) ≡ T.files (inner_of self.old))
-            ⊎ IsMoved from.now to.now (T.files (inner_of self.old)) (T.files (inner_of self.new))) }
-        ensures kept { T.aged (inner_of self.new) ≡ T.aged (inner_of self.old) }
-        ensures refused { T.is_honest → IsErrOf result TreeFault.OutOfMemory → T.files (inner_of self.new) ≡ T.files (inner_of self.old) }
-        ensures never { IsErrOf result TreeFault.TooLarge → ⊥ }
-        ensures later { failed_in T.Tree self.old ≤ failed_in T.Tree self.new }
-        ensures passed { OnOk result (failed_in T.Tree self.new ≡ failed_in T.Tree self.old) }
-        ensures uncounted { IsErrOf result TreeFault.OutOfMemory → failed_in T.Tree self.new ≡ failed_in T.Tree self.old }
-        ensures cause { IsErrOf result TreeFault.Device → HasRisen (failed_in T.Tree self.old) (failed_in T.Tree self.new) }
-        // Of the fuse: which calls pass, and what the others leave.
-        ensures fuse { IsFuseCall T.Tree self.old self.new (IsErrOf result TreeFault.Device) }
-        ensures called { RenamesAt (turn_of (fuse_of self.old)) T.Tree (inner_of self.old) from.now to.now (inner_of self.new) result }
-    {
+    fn rename(&mut self, alloc: Global, from: &[u8], to: &[u8]) -> Result<(), TreeFault> {
         match self.fuse.turn() {
             Turn::Pass => self.inner.rename(alloc, from, to),
             Turn::Fail => Err(TreeFault::Device),

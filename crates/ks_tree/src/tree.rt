@@ -1,6 +1,7 @@
 //! A tree of files, by what each of its calls may do. Everything above this crate stands on this contract alone, so that it
 //! holds of a tree in memory, of one whose calls fail, and of a folder that acts as it says.
-ghost use Rattle.std.specs.Prelude.{◌≡◌, ◌≢◌, ◌⊎◌, ◌<◌, ◌≤◌, ℕ, List, [], Result, length, Some, None, IsSome, IfSome, IfOk, OnOk, OnErr, IsErrOf, option_map, ⊤};
+ghost use Rattle.std.specs.Prelude.{◌≡◌, ◌≢◌, ◌⊎◌, ◌<◌, ◌≤◌, ℕ, List, [], Option, Result, Vec, length, Some, None, IsSome, IfSome, IfOk, OnOk, OnErr, IsErrOf, option_map, ⊤};
+ghost use Rattle.std.specs.declared.alloc.Global.{Global};
 ghost use Rattle.ks_symbols.specs.Lines.{max_bytes};
 ghost use Rattle.ks_tree.specs.declared.fault.TreeFault.{TreeFault};
 ghost use Rattle.ks_tree.specs.Files.{Files, content, kept_or, SameBut, IsHalfCreated, IsMoved, IsTooLarge, IsReadAt, HasRisen};
@@ -22,8 +23,15 @@ pub trait Tree {
     /// The paths whose files were made older than all others, in turn, of a tree that can (`Aging`).
     ghost aged: { Self → List (List ℕ) } = { λ tree. [] };
 
-    /// What a write is known to do: of the tree, the path, the bytes, the tree after the call and its answer. In a contract over
-    /// any tree it says that the call was made, since nothing else gives it.
+    /// What a reading of a whole file is known to do: of the tree, the path, the tree after the call and its answer. In a contract
+    /// over any tree it says that the call was made, since nothing else gives it.
+    ghost reads_whole: { Self → List ℕ → Self → Result (Option (Vec ℕ Global)) TreeFault → Type 0 } = { λ old path new answer. ⊤ };
+
+    /// What a reading from an offset on is known to do, as `reads_whole`: of the tree, the path, the offset, the tree after the call
+    /// and its answer.
+    ghost reads_at: { Self → List ℕ → ℕ → Self → Result (Option ℕ) TreeFault → Type 0 } = { λ old path offset new answer. ⊤ };
+
+    /// What a write is known to do, as `reads_whole`: of the tree, the path, the bytes, the tree after the call and its answer.
     ghost writes: { Self → List ℕ → List ℕ → Self → Result Unit TreeFault → Type 0 } = { λ old path bytes new answer. ⊤ };
 
     /// What a creation is known to do, as `writes`.
@@ -35,6 +43,7 @@ pub trait Tree {
     /// The bytes of a file, or `None` where there is no file.
     fn read(&mut self, alloc: Global, path: &[u8]) -> Result<Option<Vec<u8>>, TreeFault>
         ensures found { is_honest → IfOk result (λ found. option_map (λ v. v.items) found ≡ content (files self.old) path.now) }
+        ensures called { reads_whole self.old path.now self.new result }
         ensures small { is_honest → IfOk result (λ found. (b : List ℕ) → content (files self.old) path.now ≡ Some b → length b ≤ max_bytes) }
         ensures too_large { is_honest → IsErrOf result TreeFault.TooLarge → IsTooLarge (content (files self.old) path.now) }
         ensures unchanged { is_honest → files self.new ≡ files self.old }
@@ -55,6 +64,7 @@ pub trait Tree {
         into: &mut [u8],
     ) -> Result<Option<usize>, TreeFault>
         ensures found { is_honest → IfOk result (IsReadAt (content (files self.old) path.now) offset into.old into.new) }
+        ensures called { reads_at self.old path.now offset self.new result }
         ensures within { IfOk result (λ found. IfSome found (λ n. n ≤ length into.new)) }
         ensures unchanged { is_honest → files self.new ≡ files self.old }
         ensures kept { aged self.new ≡ aged self.old }

@@ -18,7 +18,7 @@ use ks_symbols::{Name, Path};
 pub use laws::{command_examples, command_files_fit, command_texts_read_back};
 pub(crate) use reading::own_record_in;
 pub use reading::{borrow_command, read_command};
-use std::alloc::{AllocError, AllocFailed};
+use std::alloc::AllocError;
 use thiserror::Error;
 pub use writing::write_command;
 pub(crate) use writing::{push_back, push_file, push_front, push_name};
@@ -57,14 +57,6 @@ impl From<AllocError> for CommandError {
     ghost from_gives = { λ _ e. e ≡ OutOfMemory };
 
     fn from(_e: AllocError) -> CommandError {
-        CommandError::OutOfMemory
-    }
-}
-
-impl<T: Drop> From<AllocFailed<T>> for CommandError {
-    ghost from_gives = { λ _ e. e ≡ OutOfMemory };
-
-    fn from(_e: AllocFailed<T>) -> CommandError {
         CommandError::OutOfMemory
     }
 }

@@ -2,7 +2,7 @@
 ghost use Rattle.std.specs.Prelude.{◌≡◌};
 ghost use Rattle.ks_fixdep.specs.declared.dep_error.DepError.TheVariants.{OutOfMemory};
 
-use std::alloc::{AllocError, AllocFailed};
+use std::alloc::AllocError;
 use thiserror::Error;
 
 /// A refusal of `read_depfile`, `build` or `build_from`. A token has its number from 1, and an argument the number 0.
@@ -24,14 +24,6 @@ impl From<AllocError> for DepError {
     ghost from_gives = { λ _ e. e ≡ OutOfMemory };
 
     fn from(_e: AllocError) -> DepError {
-        DepError::OutOfMemory
-    }
-}
-
-impl<T: Drop> From<AllocFailed<T>> for DepError {
-    ghost from_gives = { λ _ e. e ≡ OutOfMemory };
-
-    fn from(_e: AllocFailed<T>) -> DepError {
         DepError::OutOfMemory
     }
 }

@@ -3,7 +3,7 @@ use bstr::ByteSlice;
 use ks_fixdep::{CommandError, CommandFile, Dep, command_is_legal, read_command, write_command};
 use ks_symbols::MAX_BYTES;
 use memchr::memrchr;
-use std::alloc::Global;
+use std::alloc::{AllocError, Global};
 use std::process::Abort;
 use std::test::Fail;
 
@@ -50,7 +50,7 @@ fn named(dep: &Dep) -> &[u8] {
 }
 
 /// What the lines of dependencies name, each with a space after it.
-fn all_named(alloc: Global, deps: &[Dep]) -> Result<Vec<u8>, CommandError> {
+fn all_named(alloc: Global, deps: &[Dep]) -> Result<Vec<u8>, AllocError> {
     let mut all = Vec::new(alloc);
     for dep in deps {
         all.extend_from_slice(named(dep))?;

@@ -5,7 +5,7 @@ ghost use Rattle.std.specs.Option.{option_copied, option_map};
 ghost use Rattle.std.specs.Str.{bytes_eq};
 ghost use Rattle.ks_symbols.specs.Names.{is_name, is_path, is_target};
 ghost use Rattle.ks_symbols.specs.Lines.{max_bytes};
-ghost use Rattle.ks_fixdep.specs.CommandLines.{lines, content};
+ghost use Rattle.ks_fixdep.specs.CommandLines.{lines, content, between};
 ghost use Rattle.ks_fixdep.specs.CommandFile.{view};
 ghost use Rattle.ks_fixdep.specs.Borrowed.{seen_dep, borrowed_view};
 ghost use Rattle.ks_fixdep.specs.CommandForms as Forms;
@@ -98,21 +98,35 @@ fn saved_command(line: &[u8]) -> Option<(&[u8], &[u8])>
     }
 }
 
+/// The bytes, where they are a path.
+fn legal_path(bytes: &[u8]) -> Option<&[u8]>
+    ensures value { option_copied result ≡ Forms.checked is_path bytes.now }
+    ensures legal { IfSome result (λ x. IsTrue (is_path x.now)) }
+{
+    if path_is_legal(bytes) {
+        Some(bytes)
+    } else {
+        None
+    }
+}
+
+/// What stands between the beginning and the end of a line.
+fn between<'a>(begin: &[u8], end: &[u8], line: &'a [u8]) -> Option<&'a [u8]>
+    ensures { option_copied result ≡ between begin.now end.now line.now }
+{
+    line.strip_prefix(begin)?.strip_suffix(end)
+}
+
 /// The source of a line.
 #[tactic(auto, unfolding(crate::specs::CommandForms::source_in))]
 fn source_in<'a>(target: &[u8], line: &'a [u8]) -> Option<&'a [u8]>
     ensures value { option_copied result ≡ Forms.source_in target.now line.now }
     ensures legal { IfSome result (λ x. IsTrue (is_path x.now)) }
 {
-    let source = line
+    let named = line
         .strip_prefix(layout::SOURCE_MARK)?
-        .strip_prefix(target)?
-        .strip_prefix(layout::ASSIGNMENT)?;
-    if path_is_legal(source) {
-        Some(source)
-    } else {
-        None
-    }
+        .strip_prefix(target)?;
+    legal_path(named.strip_prefix(layout::ASSIGNMENT)?)
 }
 
 /// The name of a dependency line.
@@ -121,9 +135,7 @@ fn name_in(line: &[u8]) -> Option<&[u8]>
     ensures value { option_copied result ≡ Forms.name_in line.now }
     ensures legal { IfSome result (λ x. IsTrue (is_name x.now)) }
 {
-    let name = line
-        .strip_prefix(layout::NAME_MARK)?
-        .strip_suffix(layout::NAME_END)?;
+    let name = between(layout::NAME_MARK, layout::NAME_END, line)?;
     if name_is_legal(name) {
         Some(name)
     } else {
@@ -137,14 +149,7 @@ fn path_in(line: &[u8]) -> Option<&[u8]>
     ensures value { option_copied result ≡ Forms.path_in line.now }
     ensures legal { IfSome result (λ x. IsTrue (is_path x.now)) }
 {
-    let path = line
-        .strip_prefix(layout::FILE_MARK)?
-        .strip_suffix(layout::FILE_END)?;
-    if path_is_legal(path) {
-        Some(path)
-    } else {
-        None
-    }
+    legal_path(between(layout::FILE_MARK, layout::FILE_END, line)?)
 }
 
 /// What a line says of the generation.

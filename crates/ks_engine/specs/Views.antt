@@ -52,7 +52,3 @@ pub record IsWork (plan : Plan) (work : Work) : Type 0 where
   pub report : IsReport plan work.report
   pub header : work.header.items ≡ header_text plan.title plan.config
   pub auto : work.auto.items ≡ auto_text plan.title plan.config (plan.generation + 1)
-
--- the work of that plan
-abbrev pub IsPrepared : Files → KconfigText → List ℕ → Work → Type 0
-IsPrepared files kconfig dotconfig work = (plan : Plan) × IsSyncPlan files kconfig dotconfig (Ok plan) × IsWork plan work

@@ -1,51 +1,17 @@
 //! Synchronising a tree for a build that lists the stamps of all symbols as files that a synchronisation makes, as ninja wants
 //! it: a listed file that is missing runs the synchronisation each time. A symbol that never changed has no stamp yet, so an
 //! empty one is made. The tree says then what it said before.
-ghost use Rattle.std.specs.Prelude.{◌≡◌, ◌⊎◌, ℕ, List, Err, IfErr, IfOk, IsErrOf, IsTrue, true, OnOk};
-ghost use Rattle.ks_symbols.specs.Names.{is_in, is_name};
-ghost use Rattle.ks_tree.specs.Frames.{Counted, Reads};
-ghost use Rattle.ks_engine.specs.Refusals.{IsGivenUp};
-ghost use Rattle.ks_engine.specs.SyncPlan.{IsSyncPlan};
+ghost use Rattle.std.specs.Prelude.{◌≡◌, IfErr, IfOk, IsErrOf, OnOk};
+ghost use Rattle.ks_tree.specs.Frames.{Counted};
 ghost use Rattle.ks_engine.specs.Follows.{GoesOn};
-ghost use Rattle.ks_engine.specs.Stamped.{AreDeclared, FollowsSyncStamped, IsStamped, IsStampedRefused};
-ghost use Rattle.ks_engine.specs.Views.{IsPrepared};
+ghost use Rattle.ks_engine.specs.Stamped.{FollowsSyncStamped, IsStamped, IsStampedRefused};
 
 use crate::planning::{parse_sources, plan_sources};
-use crate::synchronise::{Work, work_of, write_all};
+use crate::synchronise::carry_out;
 use crate::{EngineError, Report};
-use ks_symbols::{Kconfig, Name};
+use ks_symbols::Kconfig;
 use ks_tree::{Tree, make_stamps};
 use std::alloc::Global;
-
-/// What stands ready before the first write: what is to be written, and the names of the declared symbols.
-#[derive(Drop)]
-struct Ready {
-    work: Work,
-    names: Vec<Name>,
-}
-
-/// All steps before the first write.
-fn prepare<T: Tree>(
-    alloc: Global,
-    tree: &mut T,
-    kconfig: &Kconfig<'_>,
-    dotconfig: &[u8],
-) -> Result<Ready, EngineError>
-    ensures reads { Reads T.Tree tree.old tree.new (IsErrOf result EngineError.Device) }
-    ensures passed { OnOk result (T.failures tree.new ≡ T.failures tree.old) }
-    ensures uncounted { IsErrOf result EngineError.OutOfMemory → T.failures tree.new ≡ T.failures tree.old }
-    ensures planned { T.is_honest → IfOk result (λ r. IsPrepared (T.files tree.old) kconfig.now dotconfig.now r.work) }
-    ensures declared { IfOk result (λ r. AreDeclared kconfig.now r.names.items) }
-    ensures legal { IfOk result (λ r. (x : List ℕ) → is_in r.names.items x ≡ true → IsTrue (is_name x)) }
-    ensures refused { T.is_honest → IfErr result (λ e. IsGivenUp e ⊎ IsSyncPlan (T.files tree.old) kconfig.now dotconfig.now (Err e)) }
-{
-    let parsed = parse_sources(alloc, kconfig, dotconfig)?;
-    let names = parsed.symbols.names(alloc)?;
-    drop(parsed.symbols);
-    let planned = plan_sources(alloc, tree, parsed.sources)?;
-    let work = work_of(alloc, planned)?;
-    Ok(Ready { work, names })
-}
 
 /// Does what `sync` does, and then makes the missing stamp of each declared symbol, which is empty. After `OutOfMemory` or
 /// `Device` some of it may be done, and the next one completes it.
@@ -66,9 +32,12 @@ pub fn sync_stamped<T: Tree>(
     ensures uncounted { IsErrOf result EngineError.OutOfMemory → T.failures tree.new ≡ T.failures tree.old }
     ensures kept { T.aged tree.new ≡ T.aged tree.old }
 {
+    let parsed = parse_sources(alloc, kconfig, dotconfig)?;
     // The names come before the first write, so that want of memory for them leaves all as it was.
-    let ready = prepare(alloc, tree, kconfig, dotconfig)?;
-    write_all(alloc, tree, &ready.work)?;
-    make_stamps(alloc, tree, &ready.names)?;
-    Ok(ready.work.report)
+    let names = parsed.symbols.names(alloc)?;
+    drop(parsed.symbols);
+    let planned = plan_sources(alloc, tree, parsed.sources)?;
+    let report = carry_out(alloc, tree, planned)?;
+    make_stamps(alloc, tree, &names)?;
+    Ok(report)
 }

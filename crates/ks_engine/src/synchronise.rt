@@ -1,16 +1,16 @@
 //! Synchronising a tree with a configuration: the stamps of the changed names first, then the header, then auto.conf. An object
 //! recorded under the old auto.conf is then stale as soon as a stamp says so, wherever the synchronisation is broken off.
 //! (conf_write_autoconf of scripts/kconfig/confdata.c writes in the same order.)
-ghost use Rattle.std.specs.Prelude.{◌≡◌, ◌⊎◌, ◌↔◌, ◌≤◌, ◌+◌, Some, Ok, Err, IfOk, IfErr, OnOk, OnErr, MatchResult, IsErrOf};
-ghost use Rattle.ks_tree.specs.Frames.{Counted, Reads};
+ghost use Rattle.std.specs.Prelude.{◌≡◌, ◌⊎◌, ◌↔◌, ◌≤◌, ◌+◌, List, ℕ, Some, Ok, Err, IfOk, IfErr, OnOk, OnErr, MatchResult, IsErrOf};
+ghost use Rattle.ks_symbols.specs.Dialects.{KconfigText};
+ghost use Rattle.ks_tree.specs.Frames.{Counted};
 ghost use Rattle.ks_engine.specs.Synchronised.{SyncDone, SyncSome, IsSynced, IsSyncRefused};
-ghost use Rattle.ks_engine.specs.SyncPlan.{Plan, IsSyncPlan};
-ghost use Rattle.ks_engine.specs.Refusals.{IsGivenUp};
+ghost use Rattle.ks_engine.specs.SyncPlan.{Plan};
 ghost use Rattle.ks_engine.specs.Follows.{GoesOn, FollowsSync};
-ghost use Rattle.ks_engine.specs.Views.{IsPlannedBy, IsPrepared, IsWork};
+ghost use Rattle.ks_engine.specs.Views.{IsPlanned, IsPlannedBy, IsWork};
 
 use crate::EngineError;
-use crate::planning::{Planned, plan_sync};
+use crate::planning::{Planned, plan_sources, read_sources};
 use ks_output::{write_auto, write_header};
 use ks_symbols::{Kconfig, Name};
 use ks_tree::{
@@ -30,14 +30,14 @@ pub struct Report {
 
 /// What is to be written.
 #[derive(Drop)]
-pub(crate) struct Work {
-    pub(crate) report: Report,
+struct Work {
+    report: Report,
     header: Vec<u8>,
     auto: Vec<u8>,
 }
 
 /// All that is to be written, before any of it is. The old auto.conf is let go first, since the texts to come are as large.
-pub(crate) fn work_of(alloc: Global, planned: Planned) -> Result<Work, AllocError>
+fn work_of(alloc: Global, planned: Planned) -> Result<Work, AllocError>
     ensures { IfOk result (λ work. (plan : Plan) → IsPlannedBy plan planned → IsWork plan work) }
 {
     let Planned {
@@ -58,25 +58,8 @@ pub(crate) fn work_of(alloc: Global, planned: Planned) -> Result<Work, AllocErro
     })
 }
 
-/// All steps before the first write.
-fn prepare<T: Tree>(
-    alloc: Global,
-    tree: &mut T,
-    kconfig: &Kconfig<'_>,
-    dotconfig: &[u8],
-) -> Result<Work, EngineError>
-    ensures reads { Reads T.Tree tree.old tree.new (IsErrOf result EngineError.Device) }
-    ensures passed { OnOk result (T.failures tree.new ≡ T.failures tree.old) }
-    ensures uncounted { IsErrOf result EngineError.OutOfMemory → T.failures tree.new ≡ T.failures tree.old }
-    ensures planned { T.is_honest → IfOk result (IsPrepared (T.files tree.old) kconfig.now dotconfig.now) }
-    ensures refused { T.is_honest → IfErr result (λ e. IsGivenUp e ⊎ IsSyncPlan (T.files tree.old) kconfig.now dotconfig.now (Err e)) }
-{
-    let planned = plan_sync(alloc, tree, kconfig, dotconfig)?;
-    Ok(work_of(alloc, planned)?)
-}
-
 /// The stamps, then the header, then auto.conf: an auto.conf before its stamps would hide the change for good.
-pub(crate) fn write_all<T: Tree>(alloc: Global, tree: &mut T, work: &Work) -> Result<(), TreeFault>
+fn write_all<T: Tree>(alloc: Global, tree: &mut T, work: &Work) -> Result<(), TreeFault>
     ensures all { T.is_honest → (plan : Plan) → IsWork plan work.now
         → OnOk result (SyncDone (T.files tree.old) (T.files tree.new) plan work.now.report.touched.items) }
     ensures some { T.is_honest → (plan : Plan) → IsWork plan work.now
@@ -90,6 +73,26 @@ pub(crate) fn write_all<T: Tree>(alloc: Global, tree: &mut T, work: &Work) -> Re
     touch_all(alloc, tree, &work.report.touched, work.report.generation)?;
     replace(alloc, tree, header_temporary(), header_path(), &work.header)?;
     replace(alloc, tree, auto_temporary(), auto_path(), &work.auto)
+}
+
+/// Does what a plan comes to, once all of its texts stand ready.
+pub(crate) fn carry_out<T: Tree>(
+    alloc: Global,
+    tree: &mut T,
+    planned: Planned,
+) -> Result<Report, EngineError>
+    ensures synced { T.is_honest → (kconfig : KconfigText) (dotconfig : List ℕ) → IsPlanned (T.files tree.old) kconfig dotconfig planned
+        → IfOk result (IsSynced (T.files tree.old) (T.files tree.new) kconfig dotconfig) }
+    ensures refused { T.is_honest → (kconfig : KconfigText) (dotconfig : List ℕ) → IsPlanned (T.files tree.old) kconfig dotconfig planned
+        → IfErr result (IsSyncRefused (T.files tree.old) (T.files tree.new) kconfig dotconfig) }
+    ensures counted { Counted T.Tree tree.old tree.new (IsErrOf result EngineError.Device) }
+    ensures passed { OnOk result (T.failures tree.new ≡ T.failures tree.old) }
+    ensures uncounted { IsErrOf result EngineError.OutOfMemory → T.failures tree.new ≡ T.failures tree.old }
+    ensures kept { T.aged tree.new ≡ T.aged tree.old }
+{
+    let work = work_of(alloc, planned)?;
+    write_all(alloc, tree, &work)?;
+    Ok(work.report)
 }
 
 /// Brings the stamps, the header and auto.conf up to a configuration. Each completed synchronisation raises the generation, also
@@ -111,7 +114,7 @@ pub fn sync<T: Tree>(
     ensures uncounted { IsErrOf result EngineError.OutOfMemory → T.failures tree.new ≡ T.failures tree.old }
     ensures kept { T.aged tree.new ≡ T.aged tree.old }
 {
-    let work = prepare(alloc, tree, kconfig, dotconfig)?;
-    write_all(alloc, tree, &work)?;
-    Ok(work.report)
+    let sources = read_sources(alloc, kconfig, dotconfig)?;
+    let planned = plan_sources(alloc, tree, sources)?;
+    carry_out(alloc, tree, planned)
 }

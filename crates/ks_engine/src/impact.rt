@@ -7,7 +7,7 @@ ghost use Rattle.ks_engine.specs.Refusals.{IsGivenUp};
 ghost use Rattle.ks_engine.specs.SyncPlan.{IsSyncPlan};
 ghost use Rattle.ks_engine.specs.Impact.{IsImpactOf};
 
-use crate::planning::plan_sync;
+use crate::planning::{plan_sources, read_sources};
 use crate::{EngineError, Report};
 use ks_symbols::Kconfig;
 use ks_tree::Tree;
@@ -34,7 +34,8 @@ impl Impact {
         ensures told { T.is_honest → IfOk result (IsImpactOf (T.files tree.old) kconfig.now dotconfig.now) }
         ensures refused { T.is_honest → IfErr result (λ e. IsGivenUp e ⊎ IsSyncPlan (T.files tree.old) kconfig.now dotconfig.now (Err e)) }
     {
-        let planned = plan_sync(alloc, tree, kconfig, dotconfig)?;
+        let sources = read_sources(alloc, kconfig, dotconfig)?;
+        let planned = plan_sources(alloc, tree, sources)?;
         Ok(Impact {
             report: planned.report,
         })

@@ -34,9 +34,7 @@ pub use laws::{
     places_are_first, plans_are_one, suspicions_have_causes,
 };
 pub use memos::Memo;
-pub use planning::{
-    Parsed, Planned, Sources, parse_sources, plan, plan_sources, plan_sync, read_sources,
-};
+pub use planning::{Parsed, Planned, Sources, parse_sources, plan, plan_sources, read_sources};
 pub use question::{Limit, Question};
 pub use recording::{Recorded, check_words, record_object};
 pub use sources::scan_all;

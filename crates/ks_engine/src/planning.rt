@@ -118,7 +118,8 @@ pub struct Planned {
     pub report: Report,
 }
 
-/// What a synchronisation of a tree comes to by what was read of its two texts.
+/// What a synchronisation of a tree comes to by what was read of its two texts. It is refused where that would be before its
+/// first write.
 pub fn plan_sources<T: Tree>(
     alloc: Global,
     tree: &mut T,
@@ -139,21 +140,4 @@ pub fn plan_sources<T: Tree>(
         old,
         report,
     })
-}
-
-/// What a synchronisation of a tree with two texts comes to. It is refused where that would be before its first write.
-pub fn plan_sync<T: Tree>(
-    alloc: Global,
-    tree: &mut T,
-    kconfig: &Kconfig<'_>,
-    dotconfig: &[u8],
-) -> Result<Planned, EngineError>
-    ensures reads { Reads T.Tree tree.old tree.new (IsErrOf result EngineError.Device) }
-    ensures passed { OnOk result (T.failures tree.new ≡ T.failures tree.old) }
-    ensures uncounted { IsErrOf result EngineError.OutOfMemory → T.failures tree.new ≡ T.failures tree.old }
-    ensures planned { T.is_honest → IfOk result (IsPlanned (T.files tree.old) kconfig.now dotconfig.now) }
-    ensures refused { T.is_honest → IfErr result (λ e. IsGivenUp e ⊎ IsSyncPlan (T.files tree.old) kconfig.now dotconfig.now (Err e)) }
-{
-    let sources = read_sources(alloc, kconfig, dotconfig)?;
-    plan_sources(alloc, tree, sources)
 }

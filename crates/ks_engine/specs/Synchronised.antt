@@ -1,14 +1,17 @@
 -- What a synchronisation leaves: all of its plan, or a part of it where it was broken off.
-use Rattle.std.specs.Prelude.{◌≡◌, ◌≢◌, ◌⊎◌, ℕ, ◌+◌, List, Some, None, Ok, Err, true, if◌then◌else◌, IsTrue}
+use Rattle.std.specs.Prelude.{◌≡◌, ◌≢◌, ◌⊎◌, ℕ, ◌+◌, List, Some, None, Ok, Err, true, if◌then◌else◌, IsTrue, Result, OnOk, IsErrOf}
 use Rattle.ks_symbols.specs.Dialects.{KconfigText}
 use Rattle.ks_symbols.specs.Names.{is_name, is_in, header_path}
 use Rattle.ks_output.specs.AutoText.{auto_text}
 use Rattle.ks_output.specs.Header.{header_text}
 use Rattle.ks_compare.specs.Changes.{AreChanges}
+use Rattle.ks_tree.specs.declared.tree.Tree.{Ghosts}
 use Rattle.ks_tree.specs.Files.{Files, content}
+use Rattle.ks_tree.specs.Frames.{Counted}
 use Rattle.ks_tree.specs.Paths.{auto_path, auto_temporary, header_temporary, stamp_path, stamp_temporary}
 use Rattle.ks_tree.specs.Stamps.{left_over, stamp_text}
 use Rattle.ks_engine.specs.declared.error.EngineError.{EngineError}
+use Rattle.ks_engine.specs.declared.error.EngineError.TheVariants.{Device, OutOfMemory}
 use Rattle.ks_engine.specs.declared.synchronise.Report.{Report}
 use Rattle.ks_engine.specs.Refusals.{IsGivenUp}
 use Rattle.ks_symbols.specs.Configuration.{Configuration}
@@ -71,3 +74,11 @@ pub record IsBrokenOff (old new : Files) (kconfig : KconfigText) (dotconfig : Li
 abbrev pub IsSyncRefused : Files → Files → KconfigText → List ℕ → EngineError → Type 0
 IsSyncRefused old new kconfig dotconfig e =
     (IsSyncPlan old kconfig dotconfig (Err e) × (new ≡ old)) ⊎ (IsGivenUp e × ((new ≡ old) ⊎ IsBrokenOff old new kconfig dotconfig))
+
+-- How a synchronisation is counted: the device is to blame only where the tree counted a failure, and where all went well, or
+-- memory was wanting, none was. No file is made older.
+pub record IsSyncCall {T : Type 0} (tree : Ghosts T) (old new : T) (answer : Result Report EngineError) : Type 0 where
+  pub counted : Counted tree old new (IsErrOf answer Device)
+  pub passed : OnOk answer (tree.failures new ≡ tree.failures old)
+  pub uncounted : IsErrOf answer OutOfMemory → tree.failures new ≡ tree.failures old
+  pub kept : tree.aged new ≡ tree.aged old

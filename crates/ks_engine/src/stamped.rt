@@ -1,10 +1,10 @@
 //! Synchronising a tree for a build that lists the stamps of all symbols as files that a synchronisation makes, as ninja wants
 //! it: a listed file that is missing runs the synchronisation each time. A symbol that never changed has no stamp yet, so an
 //! empty one is made. The tree says then what it said before.
-ghost use Rattle.std.specs.Prelude.{◌≡◌, IfErr, IfOk, IsErrOf, OnOk};
-ghost use Rattle.ks_tree.specs.Frames.{Counted};
+ghost use Rattle.std.specs.Prelude.{IfErr, IfOk};
 ghost use Rattle.ks_engine.specs.Follows.{GoesOn};
 ghost use Rattle.ks_engine.specs.Stamped.{FollowsSyncStamped, IsStamped, IsStampedRefused};
+ghost use Rattle.ks_engine.specs.Synchronised.{IsSyncCall};
 
 use crate::planning::{parse_sources, plan_sources};
 use crate::synchronise::carry_out;
@@ -26,11 +26,7 @@ pub fn sync_stamped<T: Tree>(
     ensures refused { T.is_honest → IfErr result (IsStampedRefused (T.files tree.old) (T.files tree.new) kconfig.now dotconfig.now) }
     // By histories: each one that the files show goes on with this answer, and the files show the next one.
     ensures follows { GoesOn T.Tree tree.old tree.new (FollowsSyncStamped kconfig.now dotconfig.now result) }
-    // The device is to blame only where the tree counted a failure.
-    ensures counted { Counted T.Tree tree.old tree.new (IsErrOf result EngineError.Device) }
-    ensures passed { OnOk result (T.failures tree.new ≡ T.failures tree.old) }
-    ensures uncounted { IsErrOf result EngineError.OutOfMemory → T.failures tree.new ≡ T.failures tree.old }
-    ensures kept { T.aged tree.new ≡ T.aged tree.old }
+    ensures counted { IsSyncCall T.Tree tree.old tree.new result }
 {
     let parsed = parse_sources(alloc, kconfig, dotconfig)?;
     // The names come before the first write, so that want of memory for them leaves all as it was.

@@ -4,7 +4,7 @@
 ghost use Rattle.std.specs.Prelude.{◌≡◌, ◌⊎◌, ◌↔◌, ◌≤◌, ◌+◌, List, ℕ, Some, Ok, Err, IfOk, IfErr, OnOk, OnErr, MatchResult, IsErrOf};
 ghost use Rattle.ks_symbols.specs.Dialects.{KconfigText};
 ghost use Rattle.ks_tree.specs.Frames.{Counted};
-ghost use Rattle.ks_engine.specs.Synchronised.{SyncDone, SyncSome, IsSynced, IsSyncRefused};
+ghost use Rattle.ks_engine.specs.Synchronised.{SyncDone, SyncSome, IsSyncCall, IsSynced, IsSyncRefused};
 ghost use Rattle.ks_engine.specs.SyncPlan.{Plan};
 ghost use Rattle.ks_engine.specs.Follows.{GoesOn, FollowsSync};
 ghost use Rattle.ks_engine.specs.Views.{IsPlanned, IsPlannedBy, IsWork};
@@ -85,10 +85,7 @@ pub(crate) fn carry_out<T: Tree>(
         → IfOk result (IsSynced (T.files tree.old) (T.files tree.new) kconfig dotconfig) }
     ensures refused { T.is_honest → (kconfig : KconfigText) (dotconfig : List ℕ) → IsPlanned (T.files tree.old) kconfig dotconfig planned
         → IfErr result (IsSyncRefused (T.files tree.old) (T.files tree.new) kconfig dotconfig) }
-    ensures counted { Counted T.Tree tree.old tree.new (IsErrOf result EngineError.Device) }
-    ensures passed { OnOk result (T.failures tree.new ≡ T.failures tree.old) }
-    ensures uncounted { IsErrOf result EngineError.OutOfMemory → T.failures tree.new ≡ T.failures tree.old }
-    ensures kept { T.aged tree.new ≡ T.aged tree.old }
+    ensures counted { IsSyncCall T.Tree tree.old tree.new result }
 {
     let work = work_of(alloc, planned)?;
     write_all(alloc, tree, &work)?;
@@ -108,13 +105,8 @@ pub fn sync<T: Tree>(
     ensures refused { T.is_honest → IfErr result (IsSyncRefused (T.files tree.old) (T.files tree.new) kconfig.now dotconfig.now) }
     // By histories: each one that the files show goes on with this answer, and the files show the next one.
     ensures follows { GoesOn T.Tree tree.old tree.new (FollowsSync kconfig.now dotconfig.now result) }
-    // The device is to blame only where the tree counted a failure.
-    ensures counted { Counted T.Tree tree.old tree.new (IsErrOf result EngineError.Device) }
-    ensures passed { OnOk result (T.failures tree.new ≡ T.failures tree.old) }
-    ensures uncounted { IsErrOf result EngineError.OutOfMemory → T.failures tree.new ≡ T.failures tree.old }
-    ensures kept { T.aged tree.new ≡ T.aged tree.old }
+    ensures counted { IsSyncCall T.Tree tree.old tree.new result }
 {
-    let sources = read_sources(alloc, kconfig, dotconfig)?;
-    let planned = plan_sources(alloc, tree, sources)?;
+    let planned = plan_sources(alloc, tree, read_sources(alloc, kconfig, dotconfig)?)?;
     carry_out(alloc, tree, planned)
 }

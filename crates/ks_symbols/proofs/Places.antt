@@ -1,11 +1,11 @@
 -- Rows by their places: what stands at a place of a map, and what values at the places of symbols give these.
-use Rattle.ks_symbols.proofs.Prelude.{◌≡◌, ℕ, zero, suc, ◌<◌, Bool, true, false, cond, ◌&&◌, T, List, [], ◌∷◌, ◌++◌, append_assoc, Option, Some, None, option_map, bytes_eq, length, set, get_or, refl, sym, ap, ap₂, subst, ◌∙◌, arith, cases_Bool, cond-true, cond-false, nat_cmp, is_lt, is_eq, nat_list_eq_equiv, nat_list_cmp_total, bytes_decides, is_eq-slice_cmp, Ordering, Less, find, is_sorted, below_all, same_Some, slice_get-map, Record, name_in, entry_in, Kind, NameMap, kinds_in, rules, common_steps}
+use Rattle.ks_symbols.proofs.Prelude.{◌≡◌, ℕ, zero, suc, ◌<◌, Bool, true, false, cond, ◌&&◌, T, List, [], ◌∷◌, ◌++◌, append_assoc, Option, Some, None, option_map, bytes_eq, length, set, get_or, refl, sym, ap, ap₂, subst, ◌∙◌, arith, is_lt, is_eq, nat_list_eq_equiv, bytes_decides, is_eq-slice_cmp, Ordering, Less, find, is_sorted, below_all, same_Some, slice_get-map, Record, name_in, entry_in, Kind, NameMap, kinds_in}
 use Rattle.std.proofs.Common.{map as map_list, replicate}
 use Rattle.std.specs.List.{slice_get}
 use Rattle.std.specs.FinMap as map
 use Rattle.ks_symbols.specs.Table.{with_entry}
 use Rattle.ks_symbols.specs.Placed.{given, placed}
-use Rattle.ks_symbols.proofs.LastOnes.{order, first, second, two, turned}
+use Rattle.ks_symbols.proofs.LastOnes.{order, first, second, two}
 use Rattle.ks_symbols.proofs.Records.{entries_of, find_after, same_order}
 
 -- ---- a row that stands at a place of a map

@@ -1,5 +1,5 @@
 -- Lines of a Kconfig with no blank but one: their forms are seen at their fronts.
-use Rattle.ks_symbols.proofs.Prelude.{◌≡◌, ◌++◌, ◌+◌, ◌==◌, if◌then◌else◌, not, length, drop_all, eq-eqb, ℕ, Bool, true, false, cond, List, [], ◌∷◌, Option, Some, None, IfSome, codes, drop, take_while, refl, ◌∙◌, sym, ap, arith, list_all, starts_with, nat_eq, nat_tests, prefix_len, bytes_eq, bytes_decides, and_parts, and_from, cond-true, cond-false, take_while-cons, same_Some, is_word_byte, is_name, is_blank, is_no_blank, Kind, Form, HasKind, form, word_form, kind_form, common_steps, rules}
+use Rattle.ks_symbols.proofs.Prelude.{◌≡◌, ◌++◌, ◌+◌, ◌==◌, if◌then◌else◌, not, length, drop_all, eq-eqb, ℕ, Bool, true, false, cond, List, [], ◌∷◌, Option, Some, None, IfSome, codes, drop, take_while, refl, ◌∙◌, sym, ap, arith, list_all, starts_with, nat_eq, nat_tests, prefix_len, bytes_eq, bytes_decides, and_parts, and_from, cond-true, take_while-cons, same_Some, is_word_byte, is_name, is_blank, is_no_blank, Kind, HasKind, form, word_form, kind_form, rules}
 use Rattle.ks_symbols.specs.declared.dialect.Dialect.{Dialect}
 use Rattle.ks_symbols.specs.declared.kinds.Kind.TheVariants as kind
 use Rattle.ks_symbols.specs.Forms.{bool_kind, text_kind, named_kind, entry_form, skip_blanks, first_word, after_word, is_one_word, Unknown}

@@ -1,4 +1,4 @@
-use Rattle.ks_symbols.proofs.Prelude.{◌∙◌, sym, ap, subst, take_rest, is_name}
+use Rattle.ks_symbols.proofs.Prelude.{◌∙◌, sym, ap, take_rest, is_name}
 use Rattle.ks_symbols.specs.Forms.{entry_form}
 use Rattle.ks_symbols.proofs.PlainLines.{entry_line}
 use Rattle.ks_symbols.proofs.forms.plain_entry.Goals as goal

@@ -1,5 +1,4 @@
-use Rattle.ks_symbols.proofs.Prelude.{◌≡◌, ◌<◌, length, sym, ap, ◌∙◌, arith, length-map, nat_list_cmp_total, slice_get_within, option_map, rules}
-use Rattle.std.proofs.Common.{map as map_list}
+use Rattle.ks_symbols.proofs.Prelude.{length, ap, arith, length-map, nat_list_cmp_total, slice_get_within, rules}
 use Rattle.std.proofs.lemmas.List.{map-set}
 use Rattle.std.specs.FinMap as map
 use Rattle.ks_symbols.proofs.Places.{found_set}

@@ -20,6 +20,7 @@ ks_engine 480
 ks_parallel 120
 ks_requests 490
 ks_words 230
+ks_start 120
 ks_commands 420
 confstamp 150'
 

@@ -1,12 +1,18 @@
 //! The system, as a command comes to its folder by it. Each call is one of the system's, or of the module that makes it.
-use crate::folder::is_folder;
-use crate::lock::{FolderLock, Script, lock_folder};
+use crate::folder_lock::lock_folder;
 use crate::lost_numbers::find_number;
-use crate::start::{Host, Locking};
+use ks_start::{FolderLock, Host, Locking, Script};
 use ks_system::{Host as System, SystemTree};
 use std::alloc::{AllocError, Global};
+use std::fs;
 use std::fs::File;
 use std::hash::{BuildHasher, Hasher, RandomState};
+use std::rt::Files;
+
+/// Whether files can be looked up there. An empty path is the current folder.
+fn is_folder(files: &impl Files, folder: &str) -> bool {
+    folder.is_empty() || fs::metadata(files, folder).is_ok_and(|found| found.is_dir())
+}
 
 /// The system that runs the program.
 #[derive(Drop)]

@@ -4,9 +4,8 @@
 //!
 //! What can't be read is passed over: the command that needs it tells it. So is a folder that is the top of another tree, whose
 //! numbers are its own.
-use crate::folder::below;
-use crate::numbers::{holds_number, is_another_tree};
 use ks_engine::EngineError;
+use ks_start::{below, holds_number, is_another_tree};
 use ks_system::{Host, SystemTree};
 use std::alloc::{AllocError, Global};
 use std::fs;

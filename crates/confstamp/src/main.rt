@@ -1,25 +1,20 @@
 //! The program `confstamp`: a command line over the current folder, or that of `-C`, and the standard streams.
 #![tactic(auto)]
 
-mod folder;
-mod front;
+mod folder_lock;
 mod host;
-mod lock;
 mod lost_numbers;
-mod numbers;
 mod standard;
-mod start;
 
-use front::{Fault, Front, Invocation, take_front};
 use host::OwnHost;
 use ks_commands::execute;
 use ks_requests::Request;
+use ks_start::{Fault, Front, Invocation, Ready, Start, come_to_folder, take_front};
 use ks_streams::Stream;
 use ks_symbols::Dialect;
 use ks_system::{System, SystemTree};
 use ks_words::{WordsError, request_of};
 use standard::{Standard, exit_status};
-use start::{Ready, Start, come_to_folder};
 use std::alloc::{AllocError, Global};
 use std::io::ErrorKind;
 use std::process::ExitCode;

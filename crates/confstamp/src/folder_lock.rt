@@ -1,0 +1,56 @@
+//! The lock on the folder that the program works in, which makes no file. Where the file system knows no locks, or the folder can't be
+//! opened, the program goes on without.
+use ks_start::{FolderLock, Locking};
+use std::fs::{File, TryLockError};
+use std::thread;
+use std::time::Duration;
+
+/// How often in a second a lock that another program has is tried again.
+const TRIES_A_SECOND: u64 = 20;
+
+/// Tries for the lock once.
+fn try_folder(folder: &File, lock: FolderLock) -> Result<(), TryLockError> {
+    match lock {
+        FolderLock::Exclusive => folder.try_lock(),
+        FolderLock::Shared => folder.try_lock_shared(),
+    }
+}
+
+/// Tries for the lock until these seconds are over, while another program is in the way. After the first one it is told.
+fn try_folder_for(
+    rt: &HostRuntime,
+    folder: &File,
+    lock: FolderLock,
+    seconds: u64,
+) -> Result<(), TryLockError> {
+    for tried in 0..seconds.saturating_mul(TRIES_A_SECOND) {
+        match try_folder(folder, lock) {
+            Err(TryLockError::WouldBlock) => {}
+            outcome => return outcome,
+        }
+        if tried == TRIES_A_SECOND {
+            let _ = eprintln!(rt; "confstamp: waiting for another confstamp in this folder");
+        }
+        thread::sleep(rt, Duration::from_millis(1000 / TRIES_A_SECOND));
+    }
+    try_folder(folder, lock)
+}
+
+/// The folder, or the current one for an empty path, locked as long as it is open; another program in the way is waited for, as
+/// many seconds as are given.
+pub(crate) fn lock_folder(
+    rt: &HostRuntime,
+    folder: &str,
+    lock: FolderLock,
+    seconds: u64,
+) -> Locking<File> {
+    let path = if folder.is_empty() { "." } else { folder };
+    let Ok(folder) = File::open(rt, path) else {
+        return Locking::Had(None);
+    };
+    match try_folder_for(rt, &folder, lock, seconds) {
+        Ok(()) => Locking::Had(Some(folder)),
+        Err(TryLockError::WouldBlock) => Locking::Busy,
+        Err(TryLockError::Error(_)) => Locking::Had(None),
+    }
+}

@@ -1,0 +1,311 @@
+//! How a command comes to its folder: which tree it works on, the lock that it needs, what was looked at before it runs, and whether
+//! numbers would be lost. Who took another lock than the command needs, or took it late, could leave the header of one
+//! configuration beside the auto.conf of another; who began numbers anew unasked would call stale objects fresh.
+//!
+//! All of it is decided here, over any system that answers these calls. `main` gives the system's own, and goes by the answer.
+ghost use Rattle.std.specs.Prelude.{◌≡◌, IfOk, option_map, string_bytes};
+ghost use Rattle.ks_start.specs.Calls.{Calls, no_calls};
+ghost use Rattle.ks_start.specs.Start.{Enters, Holds, IsKept, Locks, Looks, LooksIf, Opens, Starts, first_held, needs_look};
+
+use crate::front::Settings;
+use crate::lock::{Access, FolderLock, Script, access_of};
+use crate::numbers::{Beginning, begins_anew};
+use ks_engine::EngineError;
+use ks_requests::{Reading, Request};
+use ks_symbols::Dialect;
+use ks_tree::auto_path;
+use ks_words::WordsError;
+use std::alloc::{AllocError, Global};
+
+/// What came of asking for a lock.
+#[derive(Drop)]
+pub enum Locking<L> {
+    /// It is had as long as this is kept; `None` where no lock was asked for, or the system knows none.
+    Had(Option<L>),
+    /// Another program is in the way.
+    Busy,
+}
+
+/// The calls of the system that a command comes to its folder by. Each is known to have been made where its answer is, since
+/// nothing else gives it.
+pub trait Host {
+    /// The tree of a folder.
+    type Place: Reading + Drop;
+
+    /// What a lock is had by.
+    type Lock: Drop;
+
+    ghost calls: { Self → Calls Self.Place Self.Lock } = { λ host. no_calls };
+
+    /// Whether there is such a folder.
+    fn has_folder(&self, folder: &str) -> bool
+        ensures { (calls self.now).has_folder folder.now result };
+
+    /// A number that nobody can know before, or `None` where the system gives none. Without it whoever writes the files could
+    /// choose names that collide.
+    fn draw_seed(&self) -> Option<u64>
+        ensures { (calls self.now).draws result };
+
+    /// The tree of a folder, which hashes by a seed.
+    fn open(&self, alloc: Global, folder: &str, seed: u64) -> Result<Self::Place, AllocError>
+        ensures { IfOk result ((calls self.now).opens folder.now seed) };
+
+    /// Asks for a lock on a folder, and waits so many seconds for another program.
+    fn lock(
+        &self,
+        place: &mut Self::Place,
+        folder: &str,
+        lock: FolderLock,
+        seconds: u64,
+    ) -> Locking<Self::Lock>
+        ensures { (calls self.now).locks folder.now lock seconds place.old result place.new };
+
+    /// The path of a file of the folder, or of one below it, that holds a number.
+    fn find_number(
+        &self,
+        alloc: Global,
+        place: &mut Self::Place,
+        folder: &str,
+    ) -> Result<Option<String>, AllocError>
+        ensures { IfOk result (λ found. (calls self.now).finds folder.now place.old (option_map (λ path. string_bytes path) found) place.new) };
+
+    /// Holds what was found at a path, so that it is not read again.
+    fn hold(&self, place: &mut Self::Place, script: Script)
+        ensures { (calls self.now).holds place.old script.path.items (option_map (λ v. v.items) script.found) place.new };
+}
+
+/// A tree, with the lock that its command needs.
+#[derive(Drop)]
+pub struct Entered<P, L> {
+    place: P,
+    access: Option<Access>,
+    lock: Option<L>,
+}
+
+/// What came of entering a folder.
+#[derive(Drop)]
+pub enum Entry<P, L> {
+    Entered(Entered<P, L>),
+    NoFolder,
+    NoSeed,
+    Busy,
+}
+
+/// All that a command needs to run.
+#[derive(Drop)]
+pub struct Ready<P, L> {
+    pub place: P,
+    pub dialect: Dialect,
+    /// Kept until the command has ended.
+    pub lock: Option<L>,
+}
+
+/// What came of the start.
+#[derive(Drop)]
+pub enum Start<P, L> {
+    Ready(Ready<P, L>),
+    NoFolder,
+    NoSeed,
+    /// Another program is at work in the folder.
+    Busy,
+    /// The file at this path holds a number, and the command would begin them anew.
+    LostNumber(String),
+}
+
+/// What was looked at for the sake of numbers.
+#[derive(Drop)]
+pub enum Numbers {
+    /// The file at this path holds one that would be lost.
+    Lost(String),
+    /// None would be lost, and this was found of auto.conf.
+    Kept(Option<Script>),
+}
+
+/// The lock that is needed.
+fn take_lock<H: Host>(
+    host: &H,
+    place: &mut H::Place,
+    settings: &Settings,
+    access: &Option<Access>,
+) -> Locking<H::Lock>
+    ensures { Locks (H.calls host.now) settings.now access.now place.old result place.new }
+{
+    match access {
+        Some(access) => {
+            let folder = settings.folder.as_str();
+            host.lock(place, folder, access.lock, settings.seconds)
+        }
+        None => Locking::Had(None),
+    }
+}
+
+/// Looks at the script, and then takes the lock.
+fn enter_place<H: Host>(
+    host: &H,
+    alloc: Global,
+    mut place: H::Place,
+    settings: &Settings,
+    asked: &Result<Request, WordsError>,
+) -> Result<Entry<H::Place, H::Lock>, AllocError>
+    requires { Opens (H.calls host.now) settings.now place }
+    ensures { IfOk result (Enters H.Place.Tree (H.calls host.now) H.Place.reads settings.now asked.now) }
+{
+    let access = access_of(alloc, &mut place, asked)?;
+    match take_lock(host, &mut place, settings, &access) {
+        Locking::Had(lock) => Ok(Entry::Entered(Entered {
+            place,
+            access,
+            lock,
+        })),
+        Locking::Busy => Ok(Entry::Busy),
+    }
+}
+
+/// Enters the folder, with the lock that the request needs.
+fn enter<H: Host>(
+    host: &H,
+    alloc: Global,
+    settings: &Settings,
+    asked: &Result<Request, WordsError>,
+) -> Result<Entry<H::Place, H::Lock>, AllocError>
+    ensures { IfOk result (Enters H.Place.Tree (H.calls host.now) H.Place.reads settings.now asked.now) }
+{
+    let folder = settings.folder.as_str();
+    if !host.has_folder(folder) {
+        return Ok(Entry::NoFolder);
+    }
+    let Some(seed) = host.draw_seed() else {
+        return Ok(Entry::NoSeed);
+    };
+    let place = host.open(alloc, folder, seed)?;
+    enter_place(host, alloc, place, settings, asked)
+}
+
+/// What was found of auto.conf, to be held as a script is.
+fn held_auto(alloc: Global, found: Option<Vec<u8>>) -> Result<Numbers, AllocError>
+    ensures { IfOk result (IsKept (option_map (λ v. v.items) found)) }
+{
+    let path = auto_path().to_vec(alloc)?;
+    Ok(Numbers::Kept(Some(Script { path, found })))
+}
+
+/// Looks whether numbers would begin anew, and if so for a file that holds one.
+fn look_for_numbers<H: Host>(
+    host: &H,
+    alloc: Global,
+    place: &mut H::Place,
+    folder: &str,
+) -> Result<Numbers, AllocError>
+    ensures { IfOk result (λ numbers. Looks H.Place.Tree (H.calls host.now) H.Place.reads folder.now place.old numbers place.new) }
+{
+    let Beginning { begins, found } = match begins_anew(alloc, place) {
+        Ok(beginning) => beginning,
+        Err(EngineError::OutOfMemory) => return Err(AllocError),
+        // The command that needs auto.conf tells why it can't be read.
+        Err(_) => return Ok(Numbers::Kept(None)),
+    };
+    if !begins {
+        return held_auto(alloc, found);
+    }
+    match host.find_number(alloc, place, folder)? {
+        Some(path) => Ok(Numbers::Lost(path)),
+        None => held_auto(alloc, found),
+    }
+}
+
+/// Whether a command that has this access could lose numbers: one that synchronises, unless they may begin again.
+fn needs_look(settings: &Settings, access: &Option<Access>) -> bool
+    ensures { result ≡ needs_look settings.now.may_begin access.now }
+{
+    match access {
+        Some(access) => matches!(access.lock, FolderLock::Exclusive) && !settings.may_begin,
+        None => false,
+    }
+}
+
+/// Looks for lost numbers where the command could lose some.
+fn look_if_needed<H: Host>(
+    host: &H,
+    alloc: Global,
+    place: &mut H::Place,
+    settings: &Settings,
+    access: &Option<Access>,
+) -> Result<Numbers, AllocError>
+    ensures { IfOk result (λ numbers. LooksIf (needs_look settings.now.may_begin access.now) H.Place.Tree (H.calls host.now) H.Place.reads (string_bytes settings.now.folder) place.old numbers place.new) }
+{
+    if needs_look(settings, access) {
+        look_for_numbers(host, alloc, place, settings.folder.as_str())
+    } else {
+        Ok(Numbers::Kept(None))
+    }
+}
+
+/// What is to be held: the script that was looked at, or else auto.conf.
+fn first_held(access: Option<Access>, auto: Option<Script>) -> Option<Script>
+    ensures { result ≡ first_held access auto }
+{
+    match access {
+        Some(
+            Access {
+                script: Some(script),
+                ..
+            },
+        ) => Some(script),
+        _ => auto,
+    }
+}
+
+/// Holds what was read, so that what runs is what was looked at.
+fn hold_readings<H: Host>(host: &H, place: &mut H::Place, held: Option<Script>)
+    ensures { Holds (H.calls host.now) held place.old place.new }
+{
+    if let Some(script) = held {
+        host.hold(place, script);
+    }
+}
+
+/// Looks for lost numbers with the lock had, and holds what was read.
+fn prepare<H: Host>(
+    host: &H,
+    alloc: Global,
+    settings: &Settings,
+    asked: &Result<Request, WordsError>,
+    entered: Entered<H::Place, H::Lock>,
+) -> Result<Start<H::Place, H::Lock>, AllocError>
+    requires { Enters H.Place.Tree (H.calls host.now) H.Place.reads settings.now asked.now (Entry.Entered entered) }
+    ensures { IfOk result (Starts H.Place.Tree (H.calls host.now) H.Place.reads settings.now asked.now) }
+{
+    let Entered {
+        mut place,
+        access,
+        lock,
+    } = entered;
+    match look_if_needed(host, alloc, &mut place, settings, &access)? {
+        Numbers::Lost(path) => Ok(Start::LostNumber(path)),
+        Numbers::Kept(auto) => {
+            hold_readings(host, &mut place, first_held(access, auto));
+            Ok(Start::Ready(Ready {
+                place,
+                dialect: settings.dialect,
+                lock,
+            }))
+        }
+    }
+}
+
+/// Comes to the folder, as what stands in front of the command and what is asked for need it.
+pub fn come_to_folder<H: Host>(
+    host: &H,
+    alloc: Global,
+    settings: &Settings,
+    asked: &Result<Request, WordsError>,
+) -> Result<Start<H::Place, H::Lock>, AllocError>
+    ensures { IfOk result (Starts H.Place.Tree (H.calls host.now) H.Place.reads settings.now asked.now) }
+{
+    match enter(host, alloc, settings, asked)? {
+        Entry::Entered(entered) => prepare(host, alloc, settings, asked, entered),
+        Entry::NoFolder => Ok(Start::NoFolder),
+        Entry::NoSeed => Ok(Start::NoSeed),
+        Entry::Busy => Ok(Start::Busy),
+    }
+}

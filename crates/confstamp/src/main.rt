@@ -9,7 +9,7 @@ mod standard;
 use host::OwnHost;
 use ks_commands::execute;
 use ks_requests::Request;
-use ks_start::{Fault, Front, Invocation, Ready, Start, come_to_folder, take_front};
+use ks_start::{Fault, Front, Invocation, Ready, Settings, Start, come_to_folder, take_front};
 use ks_streams::Stream;
 use ks_symbols::Dialect;
 use ks_system::{System, SystemTree};
@@ -71,33 +71,55 @@ fn perform<S: System + Drop>(
     exit_status(&out, status)
 }
 
-/// Runs the command over the folder that its words name and the standard streams.
-fn run(rt: &HostRuntime) -> io::Result<u8> {
-    let alloc = rt.alloc();
-    let words: Vec<String> = env::args(rt)?.skip(1).collect(alloc)?;
-    let texts = texts_of(alloc, &words)?;
-    let Invocation { settings, words } = match take_front(alloc, &texts)? {
-        Front::Taken(invocation) => invocation,
-        Front::Faulty(fault) => {
-            let _ = eprintln!(rt; "confstamp: {}", text_of(fault));
-            return Ok(2);
-        }
-    };
-    let asked = request_of(alloc, words);
-    let host = OwnHost::new(rt);
+/// Runs the command over a tree, as long as its lock is had.
+fn perform_locked<S: System + Drop, L: Drop>(
+    rt: &HostRuntime,
+    ready: Ready<SystemTree<S>, L>,
+    asked: &Result<Request, WordsError>,
+) -> u8 {
     // The lock stands first, so that it is let go last.
     let Ready {
         lock: _lock,
         place: mut tree,
         dialect,
-    } = match come_to_folder(&host, alloc, &settings, &asked)? {
-        Start::Ready(ready) => ready,
+    } = ready;
+    perform(rt, &mut tree, dialect, asked)
+}
+
+/// Runs the command in the folder that stands in front of it, or tells why it didn't come there.
+fn run_in_folder(
+    rt: &HostRuntime,
+    settings: &Settings,
+    asked: &Result<Request, WordsError>,
+) -> Result<u8, AllocError> {
+    let host = OwnHost::new(rt);
+    match come_to_folder(&host, rt.alloc(), settings, asked)? {
+        Start::Ready(ready) => Ok(perform_locked(rt, ready, asked)),
         answer => {
             tell_no_start(rt, settings.folder.as_str(), answer);
-            return Ok(2);
+            Ok(2)
         }
-    };
-    Ok(perform(rt, &mut tree, dialect, &asked))
+    }
+}
+
+/// Runs the command that the words name, over the folder in front of it and the standard streams.
+fn run_words(rt: &HostRuntime, words: &[&str]) -> Result<u8, AllocError> {
+    match take_front(rt.alloc(), words)? {
+        Front::Taken(Invocation { settings, words }) => {
+            run_in_folder(rt, &settings, &request_of(rt.alloc(), words))
+        }
+        Front::Faulty(fault) => {
+            let _ = eprintln!(rt; "confstamp: {}", text_of(fault));
+            Ok(2)
+        }
+    }
+}
+
+/// Runs the command of the program's own words.
+fn run(rt: &HostRuntime) -> io::Result<u8> {
+    let words: Vec<String> = env::args(rt)?.skip(1).collect(rt.alloc())?;
+    let texts = texts_of(rt.alloc(), &words)?;
+    Ok(run_words(rt, &texts)?)
 }
 
 /// Says where the system failed last, and why, after all else. Where memory is refused for it the line is left out.

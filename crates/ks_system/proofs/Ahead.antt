@@ -1,6 +1,6 @@
 -- What was read ahead is given in turn, and none is left out.
-use Rattle.std.proofs.Common.{◌≡◌, ◌≤◌, ◌<◌, ◌+◌, ◌-◌, ◌++◌, ℕ, List, Option, Some, None, true, is_some, length, take, drop, subst, sym, ap, min, arith, refl, rules}
-use Rattle.std.proofs.lemmas.List.{length-take-le, drop-take, take-take, length-drop, length-take, drop-drop}
+use Rattle.std.proofs.Common.{◌≡◌, ◌≤◌, ◌<◌, ◌+◌, ◌-◌, ◌++◌, ℕ, List, [], Option, Some, None, true, is_some, length, take, drop, subst, sym, ap, min, arith, refl, rules}
+use Rattle.std.proofs.lemmas.List.{length-take-le, drop-take, take-take, length-drop, length-take, drop-drop, take_at}
 use Rattle.ks_system.specs.System.{IsSomeReadAt}
 use Rattle.ks_system.specs.Reading.{Ahead, IsAheadOf, nothing_of}
 use Rattle.ks_system.proofs.Pieces.{piece_read, some_same}
@@ -26,6 +26,22 @@ ahead_read file offset n old new a some within at bytes = (
       let piece = piece_read some.0 old new offset n some.2 in
       let long = length-take-le n new within in cc,
 )
+
+-- what was read into the room is ahead
+pub ahead_in_room : (file : Option (List ℕ)) (offset o n size : ℕ) (old new rest : List ℕ) → IsSomeReadAt file offset old new n → n ≤ length new
+    → length new ≡ size → o ≡ offset
+    → (is_some file ≡ true) × ((b : List ℕ) → file ≡ Some b
+    → take n (take size (new ++ rest)) ≡ take (length (take n (take size (new ++ rest)))) (drop o b))
+ahead_in_room file offset o n size old new rest some within long at =
+    ahead_read file offset n old new (record { path = []; offset = o; bytes = take n (take size (new ++ rest)) }) some within at
+    (ap (take n) (take_at new rest size long))
+
+-- none is read at the end alone
+pub read_none : (file : Option (List ℕ)) (offset o n : ℕ) (old new : List ℕ) → IsSomeReadAt file offset old new n → 0 < length old → o ≡ offset → n ≡ 0
+    → (b : List ℕ) → file ≡ Some b → length b ≤ o
+read_none file offset o n old new some room at none b there =
+    let end = some.2.end none room in
+    subst (λ b. length b ≤ o) (some_same file some.0 b some.1 there) (subst (λ k. length some.0 ≤ k) (sym at) end)
 
 -- what is left after some was given is ahead
 pub served_ahead : (file : Option (List ℕ)) (o o' n : ℕ) (xs xs' : List ℕ)

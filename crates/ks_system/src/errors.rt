@@ -1,7 +1,7 @@
 //! What an error of the system says: the one table by which errors are told apart. A build that takes a file that it may not read
 //! for a missing one would call objects fresh, and so would one that takes an interrupted read for the end.
-ghost use Rattle.std.specs.Prelude.{◌≡◌, ◌↔◌, ℕ, IsTrue};
-ghost use Rattle.ks_system.specs.Errors.{found_of, meaning_of};
+ghost use Rattle.std.specs.Prelude.{◌≡◌, ◌↔◌, ℕ, Ok, Err, IfErr, IfOk, IsTrue, MatchOption};
+ghost use Rattle.ks_system.specs.Errors.{Says, found_of, meaning_of};
 ghost use Rattle.ks_system.specs.System.{Counts, CountsBut};
 ghost use Rattle.ks_system.specs.declared.errors.Meaning.{Meaning};
 
@@ -36,6 +36,8 @@ pub(crate) fn meaning_of(error: &io::Error) -> Meaning
 /// What a look-up found: `None` where the system says that there is no such file, and for no other error.
 pub(crate) fn found_of<V: Drop>(outcome: io::Result<V>) -> io::Result<Option<V>>
     ensures found { result ≡ found_of outcome }
+    ensures value { IfOk result (λ found. MatchOption found (Says Meaning.Missing outcome) (λ v. outcome ≡ Ok v)) }
+    ensures error { IfErr result (λ e. outcome ≡ Err e) }
     ensures faults { (before now : ℕ) → CountsBut Meaning.Missing outcome before now → Counts result before now }
 {
     match outcome {

@@ -1,6 +1,7 @@
 use Rattle.std.proofs.Common.{rules, arith, [], Some, ap, sym, ◌∙◌, length}
 use Rattle.std.proofs.lemmas.List.{length-drop, length-take-le, take_rest}
 use Rattle.ks_tree.specs.Files.{content}
+use Rattle.ks_system.proofs.Counted.{failed_since, on_err}
 use Rattle.ks_system.proofs.Pieces.{nothing_read, put_before, put_long, put_more, read_on_at, read_whole_at, rest_room}
 use Rattle.ks_system.proofs.reading.fill.Goals as goal
 
@@ -37,3 +38,6 @@ returns-then-count-eq0-clause-whole g c = λ honest less.
     read_whole_at _ _ _ _ _ _ _ (c.loop.invariant.read honest) (ap (λ w. content w.files (g.S.System.opened c.args.handle.now).path) (c.loop.invariant.world honest))
     (c.in_ok-count.ensures.read honest) (sym (length-take-le _ _ c.loop.invariant.within)) c.if-count-eq0.true
     (rest_room _ _ c.loop.invariant.within (search rules)) ∙ ap Some (sym (put_before _ _ _ c.loop.invariant.within))
+
+pub returns-in_err-count-clause-cause : goal.returns-in_err-count-clause-cause
+returns-in_err-count-clause-cause g c = λ honest. on_err _ _ (failed_since _ _ _ _ (c.loop.invariant.faults honest) (c.in_err-count.ensures.cause honest))

@@ -1,6 +1,8 @@
-use Rattle.std.proofs.Common.{rules, arith, ap, ap₂, ◌∙◌, length}
+use Rattle.std.proofs.Common.{◌≤◌, rules, arith, ap, ap₂, subst, ◌∙◌, length}
 use Rattle.std.proofs.lemmas.List.{length-drop, take_rest}
 use Rattle.ks_tree.specs.Files.{content}
+use Rattle.ks_system.specs.Reading.{IsAheadOf}
+use Rattle.ks_system.proofs.Counted.{failed_at, on_err}
 use Rattle.ks_system.proofs.Pieces.{put_all, put_long}
 use Rattle.ks_system.proofs.Filled.{filled_at, nothing_filled, read_end}
 use Rattle.ks_system.proofs.kept_file.KeptFile.read.Goals as goal
@@ -29,23 +31,31 @@ loop-init g c = record {
 
 pub loop-preserved : goal.loop-preserved
 loop-preserved g c = record {
-  world = search rules;
+  world = λ honest. c.in_ok-count.ensures.unchanged honest ∙ c.loop.invariant.world honest;
   read = λ honest.
       filled_at _ _ _ _ _ _ _ _ _ _ _ (c.loop.invariant.read honest)
       (ap₂ (λ w h. content w.files (g.S.System.opened h).path) (c.loop.invariant.world honest) c.loop.invariant.file)
       (c.in_ok-count.ensures.read honest) c.loop.invariant.at (take_rest c.loop.into c.loop.given)
       (put_all _ _ _ c.loop.invariant.within);
-  ahead = search rules;
-  at = search rules;
+  ahead = λ honest.
+      subst (λ file. IsAheadOf file c.give_some.new.self.ahead)
+      (ap₂ (λ w h. content w.files (g.S.System.opened h).path) (c.loop.invariant.world honest) c.loop.invariant.file)
+      (c.in_ok-count.ensures.ahead honest);
+  at = let moved = c.in_ok-count.ensures.offset in let at = c.loop.invariant.at in omega arith;
   within =
       let long = put_long _ _ _ c.loop.invariant.within c.in_ok-count.ensures.room in
       let count = c.in_ok-count.ensures.within in
       let room = c.in_ok-count.ensures.room in let rest = ap length (take_rest c.loop.into c.loop.given) in let after = length-drop c.loop.given c.loop.into in
       let before = c.loop.invariant.within in omega arith;
   room = put_long _ _ _ c.loop.invariant.within c.in_ok-count.ensures.room ∙ c.loop.invariant.room;
-  path = search rules;
-  file = search rules;
-  kept = search rules;
-  faults = search rules;
-  many = search rules;
+  path = c.in_ok-count.ensures.path ∙ c.loop.invariant.path;
+  file = c.in_ok-count.ensures.file ∙ c.loop.invariant.file;
+  kept = c.in_ok-count.ensures.kept ∙ c.loop.invariant.kept;
+  faults = λ honest. c.in_ok-count.ensures.passed honest ∙ c.loop.invariant.faults honest;
+  many = omega arith;
 }
+
+pub returns-in_err-count-clause-cause : goal.returns-in_err-count-clause-cause
+returns-in_err-count-clause-cause g c = λ honest.
+    let within = subst (λ n. c.loop.given ≤ n) c.loop.invariant.room c.loop.invariant.within in
+    on_err _ _ (failed_at _ _ _ _ _ _ _ _ (c.loop.invariant.faults honest) c.loop.invariant.at within (c.in_err-count.ensures.cause honest))

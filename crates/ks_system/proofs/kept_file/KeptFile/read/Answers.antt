@@ -4,7 +4,7 @@ use Rattle.ks_tree.specs.Files.{content}
 use Rattle.ks_system.specs.Reading.{IsAheadOf}
 use Rattle.ks_system.proofs.Counted.{failed_at, on_err}
 use Rattle.ks_system.proofs.Pieces.{put_all, put_long}
-use Rattle.ks_system.proofs.Filled.{filled_at, nothing_filled, read_end}
+use Rattle.ks_system.proofs.Filled.{filled_at, nothing_filled, read_end, read_full}
 use Rattle.ks_system.proofs.kept_file.KeptFile.read.Goals as goal
 
 pub returns-then-count-eq0-clause-found : goal.returns-then-count-eq0-clause-found
@@ -59,3 +59,7 @@ pub returns-in_err-count-clause-cause : goal.returns-in_err-count-clause-cause
 returns-in_err-count-clause-cause g c = λ honest.
     let within = subst (λ n. c.loop.given ≤ n) c.loop.invariant.room c.loop.invariant.within in
     on_err _ _ (failed_at _ _ _ _ _ _ _ _ (c.loop.invariant.faults honest) c.loop.invariant.at within (c.in_err-count.ensures.cause honest))
+
+pub returns-then-given-into-clause-found : goal.returns-then-given-into-clause-found
+returns-then-given-into-clause-found g c = λ honest.
+    read_full _ _ _ _ _ (c.loop.invariant.read honest) (c.loop.invariant.ahead honest).0 c.if-given-into.true c.loop.invariant.room

@@ -70,7 +70,9 @@ heads_total {V} bs = then_total (on_total (λ (r : Record V). r.head) nat_cmp_to
 -- heads stay when bytes are appended, and a record may be pushed after its name
 pub headed_more : {V : Type 0} (bs more : List ℕ) (rs : List (Record V)) → LieIn (length bs) rs → AreHeaded bs rs → AreHeaded (bs ++ more) rs
 headed_more bs more [] lie all = All-nil _
-headed_more bs more (r ∷ rs) lie all = search (rules, All-head, All-tail, All-cons, range_more, (headed_more bs more rs lie.2))
+headed_more bs more (r ∷ rs) lie all =
+    All-cons (headed (bs ++ more)) r rs (All-head (headed bs) r rs all ∙ ap head_of (sym (range_more bs more r.start r.middle lie.0)))
+    (headed_more bs more rs lie.2 (All-tail (headed bs) r rs all))
 
 pub headed_line : {V : Type 0} (bs name text : List ℕ) (rs : List (Record V)) → LieIn (length bs) rs → AreHeaded bs rs
     → AreHeaded ((bs ++ name) ++ text) rs

@@ -1,5 +1,5 @@
 -- What is left of lines that are put in the order of their names, where of each name the last one is kept.
-use Rattle.ks_symbols.proofs.Prelude.{filter_agree, ◌≡◌, ◌⊎◌, ℕ, suc, Bool, true, false, cond, not, ◌&&◌, T, List, [], ◌∷◌, ◌++◌, Option, Some, None, unwrap_or, bytes_eq, refl, sym, ap, ◌∙◌, arith, inl, cases_Bool, cond-true, cond-false, nat_cmp, is_lt, is_eq, ordering_reverse, slice_cmp, nat_list_cmp_total, nat_list_eq_equiv, bytes_decides, is_eq-slice_cmp, Ordering, Less, Equal, find, is_sorted, slice_cmp-IsAntisymmetric, nat_cmp-IsAntisymmetric, below_all, filter, AllByRecursion, IsSortedByKey, IsStableByKey, or_else, NameMap, after_line, after_lines, begins_with, last_ones, rules, same_map}
+use Rattle.ks_symbols.proofs.Prelude.{filter_agree, ◌≡◌, ◌⊎◌, ℕ, suc, Bool, true, false, cond, not, ◌&&◌, T, List, [], ◌∷◌, ◌++◌, Option, Some, None, unwrap_or, bytes_eq, refl, sym, ap, subst, ◌∙◌, arith, inl, inr, cases_Bool, cond-true, cond-false, nat_cmp, is_lt, is_eq, ordering_reverse, slice_cmp, nat_list_cmp_total, nat_list_eq_equiv, bytes_decides, is_eq-slice_cmp, Ordering, Less, Equal, Greater, find, is_sorted, slice_cmp-IsAntisymmetric, nat_cmp-IsAntisymmetric, below_all, filter, AllByRecursion, IsSortedByKey, IsStableByKey, or_else, NameMap, after_line, after_lines, begins_with, last_ones, rules, same_map}
 use Rattle.std.proofs.Common.{map as map_list}
 use Rattle.std.specs.FinMap as map
 
@@ -105,9 +105,21 @@ Above x es = AllByRecursion (λ e. order x e.0 ≡ Less) es
 pub tied : (x y : List ℕ) → order x y ≡ Equal → x ≡ y
 tied x y e = bytes_exact x y e
 
+-- x is below y, and y is not above z
+above_next : (x y z : List ℕ) → order x y ≡ Less → is_lt (order z y) ≡ false → order x z ≡ Less
+above_next x y z p n = elim (at_most (order y z) (ap is_lt (sym (turned y z)) ∙ n)) [
+  | inl less ↦ nat_list_cmp_total.trans x y z p less
+  | inr same ↦ subst (λ (w : List ℕ). order x w ≡ Less) (tied y z same) p
+]
+  where
+    at_most : (o : Ordering) → is_lt (ordering_reverse o) ≡ false → (o ≡ Less) ⊎ (o ≡ Equal)
+    at_most Less e = inl refl
+    at_most Equal e = inr refl
+    at_most Greater e = absurd cc
+
 above_more : {Y : Type 0} (x y : List ℕ) (es : List (List ℕ × Y)) → order x y ≡ Less → NotAbove y es → Rises es → Above x es
 above_more x y [] p n r = tt
-above_more x y (f ∷ es) p n r = search (rules, turned, tied, (nat_list_cmp_total.trans x y f.0), (above_more x f.0 es))
+above_more x y (f ∷ es) p n r = let here = above_next x y f.0 p n in (here, above_more x f.0 es here r.0 r.1)
 
 apart : {Y : Type 0} (x : List ℕ) (es : List (List ℕ × Y)) → begins_with x es ≡ false → NotAbove x es → Rises es → Above x es
 apart x [] ne n r = tt

@@ -1,5 +1,5 @@
 -- A line of a `.config` says what it spells.
-use Rattle.ks_symbols.proofs.Prelude.{drop-append_seam, cond_some, ◌≡◌, ℕ, Bool, true, false, nat_eq, List, [], ◌∷◌, ◌++◌, length, drop, take_while, codes, Some, refl, append_assoc, list_all, starts_with, cond-true, cond-false, cases_Bool, and_parts, take-append-drop, take_while-cons, is_word_byte, is_name, Statement, Says, statement, assignment, unsetting, StatementsAreSpelled, rules}
+use Rattle.ks_symbols.proofs.Prelude.{drop-append_seam, cond_some, ◌≡◌, ℕ, Bool, true, false, nat_eq, List, [], ◌∷◌, ◌++◌, length, drop, take_while, codes, Some, inl, inr, refl, sym, ◌∙◌, append_assoc, list_all, starts_with, cond-true, cond-false, cases_Bool, and_parts, take-append-drop, take_while-cons, is_word_byte, is_name, Statement, Says, statement, assignment, unsetting, StatementsAreSpelled, rules}
 
 -- a text is its run and what follows
 pub run_split : (p : ℕ → Bool) (xs : List ℕ) → xs ≡ take_while p xs ++ drop (length (take_while p xs)) xs
@@ -22,9 +22,21 @@ says_assignment : (line text : List ℕ) (said : Statement) → line ≡ codes "
 unfolding assignment
 says_assignment line text said is e = search (rules, cond_some, and_parts, run_split, opened, append_assoc)
 
+says_unsetting : (line text : List ℕ) (said : Statement) → line ≡ codes "# CONFIG_" ++ text → unsetting text ≡ Some said → Says line said
+unfolding unsetting
+says_unsetting line text said is e = search (rules, cond_some, and_parts, run_split, append_assoc)
+
 spelled : (line : List ℕ) (said : Statement) → statement line ≡ Some said → Says line said
-unfolding statement unsetting
-spelled line said e = search (rules, says_assignment, opened, cond_some, and_parts, run_split, cond-true, cond-false, cases_Bool)
+unfolding statement
+spelled line said e = elim (cases_Bool (starts_with nat_eq line (codes "CONFIG_"))) [
+  | inl set ↦ says_assignment line (drop 7 line) said (opened line (codes "CONFIG_") set) (sym (cond-true _ _ _ set) ∙ e)
+  | inr other ↦
+      let rest = sym (cond-false _ _ _ other) ∙ e in
+      elim (cases_Bool (starts_with nat_eq line (codes "# CONFIG_"))) [
+        | inl unset ↦ says_unsetting line (drop 9 line) said (opened line (codes "# CONFIG_") unset) (sym (cond-true _ _ _ unset) ∙ rest)
+        | inr silent ↦ absurd (cc (sym (cond-false _ _ _ silent) ∙ rest))
+      ]
+]
 
 spells : (line : List ℕ) (said : Statement) → Says line said → statement line ≡ Some said
 unfolding statement assignment unsetting

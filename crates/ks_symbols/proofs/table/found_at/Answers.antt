@@ -26,5 +26,6 @@ returns-then-eq-clause-place g c =
     ap (name_in bytes) (sym c.index-records-place.is)
     ∙ sym c.name_of.ensures
     ∙ (bytes_decides c.name_of.result.now q).0 (sym c.eq.ensures ∙ c.if-eq.true) in
-    let here = placed_record bytes q c.args.records.now c.args.place it c.if-place-records.true named in
-    cc (here, c.text_of.ensures, c.index-records-place.is)
+    placed_record bytes q c.args.records.now c.args.place it c.if-place-records.true named
+    ∙ ap (λ r. Some (q, (entry_in bytes r).1)) (sym c.index-records-place.is)
+    ∙ ap (λ (t : List ℕ). Some (q, (it.value, t))) (sym c.text_of.ensures)

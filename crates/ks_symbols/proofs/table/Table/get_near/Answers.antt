@@ -1,19 +1,22 @@
-use Rattle.ks_symbols.proofs.Prelude.{◌≡◌, IfSome, Some, subst, nat_list_cmp_total, entry_in, rules}
-use Rattle.std.proofs.Common.{map as map_list, slice_get}
-use Rattle.std.specs.FinMap as map
-use Rattle.ks_symbols.proofs.Records.{entries_of}
+use Rattle.ks_symbols.proofs.Prelude.{◌≡◌, IfSome, Some, subst, sym, ap, ◌∙◌}
+use Rattle.std.proofs.Common.{slice_get}
+use Rattle.ks_symbols.proofs.Records.{found_in, entries_in}
 use Rattle.ks_symbols.proofs.table.Table.get_near.Goals as goal
 
 pub returns-in-Some-clause-value : goal.returns-in-Some-clause-value
-returns-in-Some-clause-value g c = search (rules, map.get-from_entries, nat_list_cmp_total)
+returns-in-Some-clause-value g c = c.in-Some.ensures.value ∙ found_in _ _ _ _ _ c.deref.ensures.value c.deref-2.ensures.value c.self.view_is c.args.name.now
 
 pub returns-in-Some-clause-place : goal.returns-in-Some-clause-place
-returns-in-Some-clause-place g c = search (rules, entries_of)
+returns-in-Some-clause-place g c =
+    ap (λ es. slice_get es c.in-Some.found.0) (sym (entries_in _ _ _ _ _ c.deref.ensures.value c.deref-2.ensures.value c.self.view_is c.self.invariant))
+    ∙ c.in-Some.ensures.place
 
 pub returns-in-None-clause-value : goal.returns-in-None-clause-value
-returns-in-None-clause-value g c = search (rules, map.get-from_entries, nat_list_cmp_total)
+returns-in-None-clause-value g c =
+    c.find.ensures.value ∙ found_in _ _ _ _ _ c.deref-in-None.ensures.value c.deref-in-None-2.ensures.value c.self.view_is c.args.name.now
 
 pub returns-in-None-clause-place : goal.returns-in-None-clause-place
 returns-in-None-clause-place g c =
-    let same : map_list (entry_in c.deref-in-None.result.now) c.deref-in-None-2.result.now ≡ map.entries c.args.self.now = search (rules, entries_of) in
-    subst (λ es. IfSome c.find.result (λ s. slice_get es s.0 ≡ Some (c.args.name.now, (s.1, s.2.now)))) same c.find.ensures.place
+    subst (λ es. IfSome c.find.result (λ s. slice_get es s.0 ≡ Some (c.args.name.now, (s.1, s.2.now))))
+    (entries_in _ _ _ _ _ c.deref-in-None.ensures.value c.deref-in-None-2.ensures.value c.self.view_is c.self.invariant)
+    c.find.ensures.place

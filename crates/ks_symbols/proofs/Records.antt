@@ -1,5 +1,5 @@
 -- Records over bytes: they stay what they are when bytes are appended, and are found where their names rise.
-use Rattle.ks_symbols.proofs.Prelude.{ordering_reverse, ◌≡◌, ℕ, zero, suc, ◌+◌, ◌<◌, ◌≤◌, false, T, length, List, [], ◌∷◌, ◌++◌, Option, Some, None, option_map, get_or, slice_range, refl, sym, ap, ap₂, add-one, ◌∙◌, arith, inl, inr, length-append, take-length, drop-append_seam, map-append, cases_lt, is_lt, is_eq, ordering_index, nat_list_cmp_total, Ordering, Less, Equal, Greater, find, is_sorted, below_all, IsNonDecreasingBy, IsPartitionPoint, searchable_from_sorted, Record, NameMap, name_in, entry_in, said_in, LieIn, common_steps, rules, same_map}
+use Rattle.ks_symbols.proofs.Prelude.{ordering_reverse, ◌≡◌, ℕ, zero, suc, ◌+◌, ◌<◌, ◌≤◌, false, T, length, List, [], ◌∷◌, ◌++◌, Option, Some, None, option_map, get_or, slice_range, refl, sym, ap, ap₂, add-one, ◌∙◌, arith, inl, inr, length-append, take-length, drop-append_seam, map-append, cases_lt, is_lt, is_eq, ordering_index, nat_list_cmp_total, Ordering, Less, Equal, Greater, find, is_sorted, below_all, IsNonDecreasingBy, IsPartitionPoint, searchable_from_sorted, slice_get, same_Some, bytes_eq, begins_with, Record, NameMap, name_in, entry_in, said_in, LieIn, common_steps, rules, same_map}
 use Rattle.std.proofs.Common.{map as map_list}
 use Rattle.std.specs.FinMap as map
 use Rattle.ks_symbols.proofs.LastOnes.{order, bytes_exact, first, second, turned, tied}
@@ -110,6 +110,12 @@ pub entries_of : {X : Type 0} (es : List (List ℕ × X)) → T (is_sorted order
 entries_of es h =
     let same = map.same_map nat_list_cmp_total bytes_exact (map.from_entries es) (map.from_sorted es) in
     search (rules, same, map.get-from_entries, nat_list_cmp_total, map.get-from_sorted, map.entries-from_sorted)
+
+-- whether the first record has a name
+pub begins_at : {V : Type 0} (bs name : List ℕ) (rs : List (Record (Option V))) (r : Record (Option V)) → Some r ≡ slice_get rs 0
+    → begins_with name (map_list (said_in bs) rs) ≡ bytes_eq name (name_in bs r)
+begins_at bs name [] r e = absurd (cc e)
+begins_at {V} bs name (s ∷ rs) r e = ap (λ (x : Record (Option V)). bytes_eq name (name_in bs x)) (same_Some s r (sym e))
 
 -- what is found, and which entries there are, where bytes and records are those of a map
 module _ {V : Type 0} (bs inner : List ℕ) (rs records : List (Record V)) (m : NameMap (V × List ℕ)) (same : bs ≡ inner) (alike : rs ≡ records)

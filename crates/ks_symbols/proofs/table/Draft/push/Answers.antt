@@ -14,7 +14,10 @@ module _ (g : given.Over) (c : After-len-end g) where
   bytes = c.in_ok-extend_from_slice-2.ensures.items ∙ ap (λ (l : List ℕ). l ++ c.args.text.now) c.in_ok-extend_from_slice.ensures.items
 
   long : length c.extend_from_slice-2.new.self.items ≡ length c.self.inside.bytes.items + length c.args.name.now + length c.args.text.now
-  long = search (rules, bytes, length-append)
+  long =
+      ap length bytes
+      ∙ length-append (c.self.inside.bytes.items ++ c.args.name.now) c.args.text.now
+      ∙ ap (λ n. n + length c.args.text.now) (length-append c.self.inside.bytes.items c.args.name.now)
 
   start : c.len-start.result ≡ length c.self.inside.bytes.items
   start = search rules
@@ -25,8 +28,18 @@ module _ (g : given.Over) (c : After-len-end g) where
   end : c.len-end.result ≡ length c.self.inside.bytes.items + length c.args.name.now + length c.args.text.now
   end = search (rules, long)
 
+pub invariant_of-self : goal.invariant_of-self
+invariant_of-self g c = rw (c.in_err-extend_from_slice.ensures.items) c.self.invariant
+
 pub invariant_of-self-in_err-extend_from_slice-2 : goal.invariant_of-self-in_err-extend_from_slice-2
-invariant_of-self-in_err-extend_from_slice-2 g c = search (rules, lie_more, length-append, headed_more)
+invariant_of-self-in_err-extend_from_slice-2 g c =
+    let old = c.self.inside.bytes.items in
+    let name = c.args.name.now in
+    let rs = c.self.inside.records.items in
+    rw (c.in_err-extend_from_slice-2.ensures.items, c.in_ok-extend_from_slice.ensures.items) (
+      lie_more (length old) _ rs (omega (arith, length-append old name)) c.self.invariant.0,
+      headed_more old name rs c.self.invariant.0 c.self.invariant.1,
+    )
 
 pub invariant_of-self-in_err-push : goal.invariant_of-self-in_err-push
 invariant_of-self-in_err-push g c =

@@ -1,5 +1,7 @@
 -- Lines that fit the layout are read, and lines that are read fit it.
-use Rattle.ks_fixdep.proofs.Prelude.{◌≡◌, ℕ, ◌+◌, true, List, [], ◌∷◌, ◌++◌, length, take, drop, refl, sym, ap, ap₂, ◌∙◌, Option, Some, None, Result, Ok, map, append_assoc, subst, ◌<◌, ◌^◌, if◌then◌else◌, IfSome, option_or, list_all, filter_map, cons_option, bytes_eq, map-append, cond-true, ltb-true, and_from, and_parts, last_of, is_path, Dep, content, CommandRecord, back_lines, checked, is_dep, IsLegal, dep_line, deps_begin, target_line, deps_end, layout, generation_in, is_sound, LinesRead, dep_in, saved_command, source_in, ◌>>=◌, or_fault, fixed_at, form_at, deps_in, onto_deps, said, generation_from, end_from, record_in, source_line, arith, common_steps, rules}
+use Rattle.ks_fixdep.proofs.Prelude.{◌≡◌, ℕ, ◌+◌, true, List, [], ◌∷◌, ◌++◌, length, take, drop, refl, sym, ap, ap₂, ◌∙◌, Option, Some, None, Result, Ok, map, append_assoc, subst, ◌<◌, ◌^◌, if◌then◌else◌, IfSome, not, ◌||◌, option_and_then, before, between, following, line_feed, generation_mark, decimal_value, option_or, list_all, filter_map, cons_option, bytes_eq, map-append, cond-true, ltb-true, and_from, and_parts, last_of, is_path, Dep, content, CommandRecord, back_lines, checked, is_dep, IsLegal, dep_line, deps_begin, target_line, deps_end, layout, generation_in, is_sound, LinesRead, dep_in, saved_command, source_in, ◌>>=◌, or_fault, fixed_at, form_at, deps_in, onto_deps, said, generation_from, end_from, record_in, source_line, arith, common_steps, rules}
+use Rattle.std.specs.Prelude.{is_some}
+use Rattle.ks_fixdep.specs.CommandReading.{said_after}
 use Rattle.std.proofs.lemmas.List.{take-append-drop}
 use Rattle.ks_fixdep.proofs.CommandFormLemmas.{SavedLine, bytes-refl, bytes-same, if-some, saved_command-line, source_in-line, dep-line, dep_in-none, saved_command-is, source_in-is, dep_in-is}
 
@@ -21,9 +23,16 @@ deps-fit (d ∷ ds) (l ∷ ls) xs more e legal =
 
 -- ---- the generation
 
+said_after-is : (n : ℕ) (after : Option (List ℕ)) → let g = option_and_then decimal_value (option_and_then (before line_feed) after) in
+    said_after n after ≡ or_fault n (if not (is_some after) || is_some g then Some g else None)
+said_after-is n None = refl
+said_after-is n (Some x) =
+    elim (option_and_then decimal_value (before line_feed x)) as (λ g. (or_fault n g >>= λ g. Ok (Some g)) ≡ or_fault n (if is_some g then Some g else None))
+    [ None ↦ refl | Some g ↦ refl ]
+
 pub said-is : (n : ℕ) (line : List ℕ) → said n line ≡ or_fault n (if is_sound line then Some (generation_in line) else None)
 unfolding said
-said-is n line = search rules
+said-is n line = said_after-is n (following generation_mark line)
 
 last-cons : (o : Option ℕ) (xs : List ℕ) → option_or (last_of xs) o ≡ last_of (cons_option o xs)
 unfolding last_of
@@ -111,7 +120,10 @@ sound-is n line o e = search rules
 generation-sounds : (n : ℕ) (ls : List (List ℕ)) (g : Option ℕ) → generation_from n ls ≡ Ok g → list_all is_sound ls ≡ true
 unfolding generation_from
 generation-sounds n [] g e = refl
-generation-sounds n (l ∷ ls) g e = search (rules, sound-is, and_from, (generation-sounds (n + 1) ls))
+generation-sounds n (l ∷ ls) g e =
+    let own = steps (said n l) _ g e in
+    let later = steps (generation_from (n + 1) ls) _ g own.next in
+    and_from (is_sound l) (list_all is_sound ls) (sound-is n l own.value own.first) (generation-sounds (n + 1) ls later.value later.first)
 
 generation-is : (n : ℕ) (ls : List (List ℕ)) (g : Option ℕ) → generation_from n ls ≡ Ok g → (list_all is_sound ls ≡ true)
     × (g ≡ last_of (filter_map generation_in ls))
@@ -124,10 +136,27 @@ ok-same : {A : Type 0} (x y : A) (r : Result A ℕ) → r ≡ Ok x → r ≡ Ok 
 ok-same x y r is e = cc
 
 -- a decimal that is read is below 2^64
-last-below : (ls : List (List ℕ)) → IfSome (last_of (filter_map generation_in ls)) (λ g. g < 2 ^ 64)
+abbrev IsBelow : Option ℕ → Type 0
+IsBelow o = IfSome o (λ g. g < 2 ^ 64)
+
+value-below : (text : List ℕ) → IsBelow (decimal_value text)
+value-below text = grind (arith, common_steps, ltb-true)
+
+in-below : (text : Option (List ℕ)) → IsBelow (option_and_then decimal_value text)
+in-below None = tt
+in-below (Some text) = value-below text
+
+either-below : (a b : Option ℕ) → IsBelow a → IsBelow b → IsBelow (option_or a b)
+either-below None b a_is b_is = b_is
+either-below (Some x) b a_is b_is = a_is
+
+last-below : (ls : List (List ℕ)) → IsBelow (last_of (filter_map generation_in ls))
 unfolding last_of
 last-below [] = tt
-last-below (l ∷ ls) = grind (arith, common_steps, last-cons, ltb-true, (last-below ls))
+last-below (l ∷ ls) =
+    let later = filter_map generation_in ls in
+    let own = in-below (between generation_mark line_feed l) in
+    subst IsBelow (last-cons (generation_in l) later) (either-below (last_of later) (generation_in l) (last-below ls) own)
 
 -- lines with these contents, and the lines after them
 record Front (xs more ls : List (List ℕ)) : Type 0 where
@@ -189,8 +218,7 @@ lines-fit f ls e =
     let front : Front (layout r) end.more ls =
     front-one s1.is s1.says.is (front-one s2.is s2.says (front-one s3.is s3.says.1 (front-one s4.is s4.says (front-one s5.is s5.says
     (front-deps ds (back_lines t) end.more s5.rest deps.0 end.front))))) in
-    let P : Option ℕ → Type 0 = λ o. IfSome o (λ g. g < 2 ^ 64) in
-    subst (LinesRead ls) (ok-same r f (Ok r) refl s6.next) (record {
+    subst (LinesRead ls) {x = r} (ok-same r f (Ok r) refl s6.next) (record {
       laid_out = front.laid;
       appended = end.more;
       legal = record {
@@ -198,7 +226,7 @@ lines-fit f ls e =
         command = s1.says.command_legal;
         source = s3.says.0;
         deps = deps.1;
-        generation = subst P (sym end.last) (last-below end.more);
+        generation = subst IsBelow (sym end.last) (last-below end.more);
       };
       parts = front.parts;
       fits = front.fits;

@@ -126,7 +126,18 @@ between-is : (test : List ℕ → Bool) (front end line x : List ℕ) → option
     × (line ≡ front ++ (x ++ end))
 between-is test front end line x e = search (rules, after-is, before-is)
 
+-- a path is of a listed file, a name of a found one
+file-path : (name path : Option (List ℕ)) (x : List ℕ) → either_dep name path ≡ Some (File x) → path ≡ Some x
+file-path (Some y) path x e = absurd cc
+file-path None (Some y) x e = cc
+file-path None None x e = absurd cc
+
+config-name : (name path : Option (List ℕ)) (x : List ℕ) → either_dep name path ≡ Some (Config x) → name ≡ Some x
+config-name (Some y) path x e = cc
+config-name None (Some y) x e = absurd cc
+config-name None None x e = absurd cc
+
 pub dep_in-is : (line : List ℕ) (d : Dep) → dep_in line ≡ Some d → (is_dep d ≡ true) × (line ≡ dep_line d)
 unfolding dep_in name_in path_in
-dep_in-is line (File p) e = between-is is_path file_mark file_end line p (grind (arith, common_steps))
-dep_in-is line (Config x) e = between-is is_name name_mark name_end line x (grind (arith, common_steps))
+dep_in-is line (File p) e = between-is is_path file_mark file_end line p (file-path (name_in line) (path_in line) p e)
+dep_in-is line (Config x) e = between-is is_name name_mark name_end line x (config-name (name_in line) (path_in line) x e)

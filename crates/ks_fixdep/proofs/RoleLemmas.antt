@@ -1,5 +1,6 @@
 -- One more token.
-use Rattle.ks_fixdep.proofs.Prelude.{◌≡◌, inl, inr, ℕ, suc, ◌+◌, Bool, true, false, List, [], ◌∷◌, ◌++◌, length, drop, sym, ap, arith, append_assoc, append-nil, length-append, map, Bor, Option, Some, None, Result, get_or, take, ◌<◌, ◌≤◌, drop-cons, take-append-drop, reverse-append, drop_all, drop-append-le, map-append, cond-true, cond-false, cases_Bool, and_from, list_all, if◌then◌else◌, not, list_any-append, list_all-append, after_last, list_any, Header, Role, is_path, or_else, IsRefusal, RefusedBy, is_header, is_kept, is_target_token, role_after, after_target, with_roles, fault_after, first_fault, token_refusal, added, tokens, DepError, IsErr, IsErrAnd, length-filter, count_by-le-length, length-slice_split, common_steps, rules}
+use Rattle.ks_fixdep.proofs.Prelude.{◌≡◌, ◌∙◌, inl, inr, ℕ, suc, ◌+◌, Bool, true, false, List, [], ◌∷◌, ◌++◌, length, drop, sym, ap, arith, append_assoc, append-nil, length-append, map, Bor, Option, Some, None, Result, get_or, take, ◌<◌, ◌≤◌, drop-cons, take-append-drop, reverse-append, drop_all, drop-append-le, map-append, cond-true, cond-false, cases_Bool, and_from, list_all, if◌then◌else◌, not, list_any-append, list_all-append, after_last, list_any, Header, Role, is_path, or_else, IsRefusal, RefusedBy, is_header, is_kept, is_target_token, role_after, after_target, with_roles, fault_after, first_fault, token_refusal, added, tokens, DepError, IsErr, IsErrAnd, length-filter, count_by-le-length, length-slice_split, common_steps, rules}
+use Rattle.ks_symbols.proofs.Clashes.{or_assoc}
 use Rattle.ks_fixdep.specs.declared.dep_error.DepError.TheVariants as errors
 use Rattle.ks_fixdep.specs.declared.dependency_file.Role.TheVariants as role
 
@@ -73,7 +74,12 @@ kept-when header x h other is = rw (other, is)
 pub faults-split : (header : Header) → (before xs : List (List ℕ)) (x : List ℕ) (ys : List (List ℕ)) → first_fault header before (xs ++ x ∷ ys)
     ≡ or_else (first_fault header before xs) (or_else (fault_after header (before ++ xs) x) (first_fault header ((before ++ xs) ++ x ∷ []) ys))
 faults-split header before [] x ys = ap (λ b. or_else (fault_after header b x) (first_fault header (b ++ x ∷ []) ys)) (sym (append-nil before))
-faults-split header before (z ∷ xs) x ys = grind (arith, common_steps, append_assoc, (faults-split header (before ++ z ∷ []) xs x ys))
+faults-split header before (z ∷ xs) x ys =
+    let own = fault_after header before z in
+    let next = before ++ z ∷ [] in
+    let after = λ (seen : List (List ℕ)). or_else (fault_after header seen x) (first_fault header (seen ++ x ∷ []) ys) in
+    ap (or_else own) (faults-split header next xs x ys) ∙ sym (or_assoc own (first_fault header next xs) (after (next ++ xs)))
+    ∙ ap (λ seen. or_else (or_else own (first_fault header next xs)) (after seen)) (append_assoc before (z ∷ []) xs)
 
 pub faults-fit : (header : Header) → (seen : List (List ℕ)) (x : List ℕ) → first_fault header [] seen ≡ None → fault_after header seen x ≡ None → first_fault header [] (seen ++ x ∷ []) ≡ None
 faults-fit header seen x none fits = rw (faults-split header [] seen x [], none, fits)

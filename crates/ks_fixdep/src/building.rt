@@ -1,10 +1,11 @@
 //! The command file of an object as a value. It is what its text says, and the text is written as that of every record.
-ghost use Rattle.std.specs.Prelude.{◌≡◌, IfOk, length, map};
+ghost use Rattle.std.specs.Prelude.{◌≡◌, [], IfOk, IsTrue, None, OnOk, length, map};
+ghost use Rattle.ks_symbols.specs.Names.{is_target};
 ghost use Rattle.ks_symbols.specs.Refusals.{RefusedBy};
-ghost use Rattle.ks_fixdep.specs.CommandFile.{view};
+ghost use Rattle.ks_fixdep.specs.CommandFile.{is_command, view};
 ghost use Rattle.ks_fixdep.specs.FoundNames.{names_in};
 ghost use Rattle.ks_fixdep.specs.Record.{record_of, record_refusal};
-ghost use Rattle.ks_fixdep.specs.SourceScan.{names_by};
+ghost use Rattle.ks_fixdep.specs.SourceScan.{found_of, names_by};
 
 use crate::command_file::{
     CommandError, CommandFile, command_is_legal, command_texts_read_back, own_record_in,
@@ -18,16 +19,49 @@ use crate::source_scan::NamesBySource;
 use ks_symbols::target_is_legal;
 use std::alloc::{AllocError, Global};
 
-/// The lists as the names of sources, one for each prerequisite.
-fn by_source(alloc: Global, found: &[FoundNames]) -> Result<NamesBySource, AllocError>
-    ensures { IfOk result (λ n. names_by n ≡ found.now) }
+/// Adds the lists as the names of sources, one for each prerequisite.
+fn add_sources(
+    alloc: Global,
+    all: &mut NamesBySource,
+    found: &[FoundNames],
+) -> Result<(), AllocError>
+    requires { found_of all.old.scan ≡ [] }
+    ensures { OnOk result (names_by all.new ≡ found.now) }
 {
-    let mut all = NamesBySource::with_seed(alloc, Seed::new(0));
     for names in found {
         all.scan.add_source(names)?;
     }
     all.sources = (0..found.len()).collect(alloc)?;
-    Ok(all)
+    Ok(())
+}
+
+/// The command file of a legal target and command, from the names found in each prerequisite, which are added where none are yet.
+/// It is refused for memory alone.
+fn file_of(
+    alloc: Global,
+    target: &[u8],
+    command: &[u8],
+    prerequisites: &Prerequisites,
+    found: &[FoundNames],
+    names: &mut NamesBySource,
+) -> Result<CommandFile, DepError>
+    requires target { IsTrue (is_target target.now) }
+    requires command { IsTrue (is_command command.now) }
+    requires none { found_of names.old.scan ≡ [] }
+    ensures value { IfOk result (λ f. view f ≡ record_of target.now command.now prerequisites.now found.now) }
+    ensures refusal { RefusedBy DepError.OutOfMemory result None }
+{
+    add_sources(alloc, names, found)?;
+    let written = record_text(alloc, target, command, prerequisites, names, None)?;
+    command_texts_read_back();
+    match own_record_in(alloc, &written.text) {
+        Ok(file) => Ok(file),
+        Err(fault) => match fault {
+            // What was just written fits.
+            CommandError::BadCommandFile(_) | CommandError::TooLarge => unreachable!(),
+            CommandError::OutOfMemory => Err(DepError::OutOfMemory),
+        },
+    }
 }
 
 /// The command file of a target, from the names found in each prerequisite, in order.
@@ -48,17 +82,8 @@ pub fn build_from(
     if !command_is_legal(command) {
         return Err(DepError::BadCommand);
     }
-    let mut names = by_source(alloc, found)?;
-    let written = record_text(alloc, target, command, prerequisites, &mut names, None)?;
-    command_texts_read_back();
-    match own_record_in(alloc, &written.text) {
-        Ok(file) => Ok(file),
-        Err(fault) => match fault {
-            // What was just written fits.
-            CommandError::BadCommandFile(_) | CommandError::TooLarge => unreachable!(),
-            CommandError::OutOfMemory => Err(DepError::OutOfMemory),
-        },
-    }
+    let mut names = NamesBySource::with_seed(alloc, Seed::new(0));
+    file_of(alloc, target, command, prerequisites, found, &mut names)
 }
 
 /// The names of each text.

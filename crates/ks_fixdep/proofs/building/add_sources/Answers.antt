@@ -1,5 +1,5 @@
 use Rattle.ks_fixdep.proofs.Prelude.{common_steps, get_or, length, refl, [], arith, YieldsList-from_range, items_from_collect, take_all, fill_by_all}
-use Rattle.ks_fixdep.proofs.building.by_source.Goals as goal
+use Rattle.ks_fixdep.proofs.building.add_sources.Goals as goal
 
 pub returns : goal.returns
 returns c =

@@ -1,5 +1,5 @@
 use Rattle.ks_fixdep.proofs.Prelude.{arith, common_steps, ◌≡◌, true, None, Ok, List, ℕ, [], list_all, is_path, is_target, is_command, is_dep, ReadsBack, reading, deps_after, record_of, record_text, source_of, Role, rules}
-use Rattle.ks_fixdep.proofs.building.build_from.Goals as goal
+use Rattle.ks_fixdep.proofs.building.file_of.Goals as goal
 
 -- what is written of a record reads as it
 reads : (t k : List ℕ) (ps : List (List ℕ × Role)) (given found : List (List (List ℕ))) (text : List ℕ) → ReadsBack → is_target t ≡ true → is_command k ≡ true

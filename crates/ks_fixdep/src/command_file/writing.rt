@@ -36,11 +36,7 @@ pub(crate) fn push_file(out: &mut Vec<u8>, path: &[u8]) -> Result<(), AllocError
     ensures ok { OnOk result (out.new.items ≡ out.old.items ++ ended (dep_line (File path.now))) }
     ensures extends { Extends out.old.items out.new.items }
 {
-    out.extend_from_slice(layout::FILE_MARK)?;
-    out.extend_from_slice(path)?;
-    out.extend_from_slice(layout::FILE_END)?;
-    out.push(b'\n')?;
-    Ok(())
+    push_line(out, &[layout::FILE_MARK, path, layout::FILE_END])
 }
 
 /// Writes the line of a name.
@@ -48,11 +44,7 @@ pub(crate) fn push_name(out: &mut Vec<u8>, name: &[u8]) -> Result<(), AllocError
     ensures ok { OnOk result (out.new.items ≡ out.old.items ++ ended (dep_line (Config name.now))) }
     ensures extends { Extends out.old.items out.new.items }
 {
-    out.extend_from_slice(layout::NAME_MARK)?;
-    out.extend_from_slice(name)?;
-    out.extend_from_slice(layout::NAME_END)?;
-    out.push(b'\n')?;
-    Ok(())
+    push_line(out, &[layout::NAME_MARK, name, layout::NAME_END])
 }
 
 /// Writes a dependency line.

@@ -2,7 +2,7 @@
 ghost use Rattle.std.specs.Prelude.{◌≡◌, IfOk, false};
 ghost use Rattle.clap.specs.Words.{app_of, rule_of};
 ghost use Rattle.clap.specs.declared.builder.command.Command.TheViews.{out-Command};
-ghost use Rattle.ks_words.specs.CommandLine.{command_line_app, usage_app, word_rule};
+ghost use Rattle.ks_words.specs.CommandLine.{bare_app, command_line_app, usage_app, word_rule};
 
 use crate::usage::{ABOUT, CALL, NOTES, Times, USAGES, Usage, Word};
 use clap::{Arg, ArgAction, Command, value_parser};
@@ -41,19 +41,28 @@ fn subcommand<'a>(alloc: Global, usage: &Usage) -> Result<Command<'a>, AllocErro
     }
 }
 
+/// The program without its commands.
+fn bare_command<'a>(alloc: Global) -> Result<Command<'a>, AllocError>
+    ensures { IfOk result (λ c. app_of c ≡ bare_app) }
+{
+    let named = Command::new(alloc, "confstamp").bin_name("confstamp")?;
+    Ok(
+        named
+            .about(ABOUT)
+            .override_usage(CALL)
+            .after_help(NOTES)
+            .version("0.1.0")
+            .no_binary_name(true)
+            .subcommand_required(true),
+    )
+}
+
 /// The program's command line.
 pub(crate) fn command_line<'a>(alloc: Global) -> Result<Command<'a>, AllocError>
     ensures { IfOk result (λ c. app_of c ≡ command_line_app) }
 {
-    let mut command = Command::new(alloc, "confstamp")
-        .bin_name("confstamp")?
-        .about(ABOUT)
-        .override_usage(CALL)
-        .after_help(NOTES)
-        .version("0.1.0")
-        .no_binary_name(true)
-        .subcommand_required(true);
-    for usage in &USAGES {
+    let mut command = bare_command(alloc)?;
+    for usage in USAGES {
         command = command.subcommand(subcommand(alloc, usage)?)?;
     }
     Ok(command)

@@ -120,7 +120,7 @@ const COMMAND: Word = Word {
     help: "The command line that builds the object, as one word",
 };
 
-pub(crate) const USAGES: [Usage; 14] = [
+pub(crate) const USAGES: &[Usage] = &[
     Usage {
         name: "sync",
         about: "Write auto.conf, the header and the stamps of all symbols that changed",

@@ -7,7 +7,7 @@ loop-usage-init c = search rules
 
 pub loop-usage-preserved : goal.loop-usage-preserved
 loop-usage-preserved c =
-    added _ _ _ _ _ c.in_ok-command.ensures c.in_ok-subcommand.ensures.local c.loop-usage.invariant c.in_ok-subcommand.ensures.app
+    added _ _ _ _ _ c.in_ok-command-2.ensures c.in_ok-subcommand.ensures.local c.loop-usage.invariant c.in_ok-subcommand.ensures.app
     ∙ sym (fold_more (λ a sub. with_subcommand a sub.top) usage_app bare_app _ c.loop-usage.usage-index _ c.loop-usage-test.true)
 
 pub returns : goal.returns

@@ -1,8 +1,60 @@
 //! Calls broken off after every count of calls, in both modes.
-use crate::steps::{Step, answer, name};
-use ks_tree::{AgedTree, Aging, FuseMode, FuseTree, MemoryTree, Tree, touch_all};
+use crate::steps::{Step, answer, check_row, name};
+use ks_symbols::Name;
+use ks_tree::FuseMode::{self, Clean, Half};
+use ks_tree::{AgedTree, Aging, FuseTree, MemoryTree, Tree, touch_all};
 use std::alloc::{AllocError, Global};
 use std::test::Fail;
+
+/// `.`, or `!` where it failed.
+fn sign(failed: bool) -> char {
+    if failed { '!' } else { '.' }
+}
+
+/// Takes steps one after another, and adds the sign of each.
+fn add_signs<T: Tree>(
+    alloc: Global,
+    tree: &mut T,
+    steps: &[Step<'_>],
+    story: &mut String,
+) -> Result<(), AllocError> {
+    for step in steps {
+        let found = answer(alloc, tree, *step)?;
+        story.push(sign(found.as_str() == "30 Device"))?;
+    }
+    Ok(())
+}
+
+/// Takes steps one after another, and adds what comes of each.
+fn add_answers<T: Tree>(
+    alloc: Global,
+    tree: &mut T,
+    steps: &[Step<'_>],
+    story: &mut String,
+) -> Result<(), AllocError> {
+    for step in steps {
+        let found = answer(alloc, tree, *step)?;
+        story.push(' ')?;
+        story.push_str(found.as_str())?;
+    }
+    Ok(())
+}
+
+/// Four calls, since a file is replaced by two.
+const CALLS: &[Step<'_>] = &[
+    Step::Read("a"),
+    Step::Piece("a", 0),
+    Step::Replace("a", "newer"),
+];
+
+const PLACES: &[Step<'_>] = &[Step::Read("a"), Step::Read("t.tmp")];
+
+/// A tree with one file, where there is memory for it.
+fn one_file(alloc: Global) -> MemoryTree {
+    let mut tree = MemoryTree::new(alloc);
+    let _ = tree.write(alloc, b"a", b"old");
+    tree
+}
 
 /// What comes of four calls behind a fuse, `.` or `!` for each step, and what two paths hold after it.
 fn outcome(
@@ -11,24 +63,28 @@ fn outcome(
     fails: Option<u64>,
     mode: FuseMode,
 ) -> Result<String, AllocError> {
-    let mut tree = MemoryTree::new(alloc);
-    let _ = tree.write(alloc, b"a", b"old");
-    let mut tree = FuseTree::new(tree, passes, fails, mode);
     let mut story = String::new(alloc);
-    for step in [
-        Step::Read("a"),
-        Step::Piece("a", 0),
-        Step::Replace("a", "newer"),
-    ] {
-        let failed = answer(alloc, &mut tree, step)?.as_str() == "30 Device";
-        story.push(if failed { '!' } else { '.' })?;
-    }
+    let mut tree = FuseTree::new(one_file(alloc), passes, fails, mode);
+    add_signs(alloc, &mut tree, CALLS, &mut story)?;
     let mut tree = tree.into_inner();
-    for path in ["a", "t.tmp"] {
-        story.push(' ')?;
-        story.push_str(answer(alloc, &mut tree, Step::Read(path))?.as_str())?;
-    }
+    add_answers(alloc, &mut tree, PLACES, &mut story)?;
     Ok(story)
+}
+
+/// Ages three files, and adds the sign of each call.
+fn age_three<T: Aging>(alloc: Global, tree: &mut T, story: &mut String) -> Result<(), AllocError> {
+    for path in ["a", "b", "c"] {
+        let outcome = tree.age(alloc, path.as_bytes());
+        story.push(sign(outcome.is_err()))?;
+    }
+    Ok(())
+}
+
+fn add_aged(tree: &AgedTree<MemoryTree>, story: &mut String) -> Result<(), AllocError> {
+    for path in tree.aged() {
+        story.push_str(str::from_utf8(path).unwrap_or("not text"))?;
+    }
+    Ok(())
 }
 
 /// Which of three files are aged behind a fuse, by their paths, with `.` or `!` for each call.
@@ -38,105 +94,100 @@ fn aged(
     fails: Option<u64>,
     mode: FuseMode,
 ) -> Result<String, AllocError> {
+    let mut story = String::new(alloc);
     let tree = AgedTree::new(alloc, MemoryTree::new(alloc));
     let mut tree = FuseTree::new(tree, passes, fails, mode);
-    let mut story = String::new(alloc);
-    for path in ["a", "b", "c"] {
-        let outcome = tree.age(alloc, path.as_bytes());
-        story.push(if outcome.is_ok() { '.' } else { '!' })?;
-    }
-    let tree = tree.into_inner();
-    for path in tree.aged() {
-        story.push_str(str::from_utf8(path).unwrap_or("not text"))?;
-    }
+    age_three(alloc, &mut tree, &mut story)?;
+    add_aged(&tree.into_inner(), &mut story)?;
     Ok(story)
 }
 
+/// How many calls pass, which one more fails, the mode, and what comes of it.
+const AGINGS: &[(u64, Option<u64>, FuseMode, &str)] = &[
+    (0, None, Clean, "!!!"),
+    (1, None, Clean, ".!!a"),
+    (3, None, Clean, "...abc"),
+    (0, None, Half, "!!!a"),
+    (1, None, Half, ".!!ab"),
+    (0, Some(1), Clean, "!..bc"),
+    (1, Some(1), Half, ".!.abc"),
+];
+
 #[test]
 fn aging_fails_in_turn(rt: HostRuntime) -> Result<(), Fail> {
-    let (clean, half) = (FuseMode::Clean, FuseMode::Half);
-    for (passes, fails, mode, want) in [
-        (0, None, clean, "!!!"),
-        (1, None, clean, ".!!a"),
-        (3, None, clean, "...abc"),
-        (0, None, half, "!!!a"),
-        (1, None, half, ".!!ab"),
-        (0, Some(1), clean, "!..bc"),
-        (1, Some(1), half, ".!.abc"),
-    ] {
+    for &(passes, fails, mode, want) in AGINGS {
         let got = aged(rt.alloc(), passes, fails, mode)?;
-        assert_eq!(rt; got.as_str(), want, "{passes} {fails:?} {mode:?}");
+        check_row(&rt, got.as_str(), want, passes);
     }
     Ok(())
 }
 
+/// The same of the four calls.
+const OUTCOMES: &[(u64, Option<u64>, FuseMode, &str)] = &[
+    (0, None, Clean, "!!! old none"),
+    (1, None, Clean, ".!! old none"),
+    (2, None, Clean, "..! old none"),
+    (3, None, Clean, "..! old newer"),
+    (4, None, Clean, "... newer none"),
+    (0, None, Half, "!!! old none"),
+    (1, None, Half, ".!! old none"),
+    (2, None, Half, "..! old ne"),
+    (3, None, Half, "..! newer none"),
+    (4, None, Half, "... newer none"),
+    (0, Some(1), Clean, "!.. newer none"),
+    (1, Some(1), Half, ".!. newer none"),
+    (2, Some(1), Half, "..! old ne"),
+    (3, Some(1), Half, "..! newer none"),
+    (1, Some(2), Half, ".!! old none"),
+    (0, Some(0), Half, "... newer none"),
+];
+
 #[test]
 fn each_call_fails_in_turn(rt: HostRuntime) -> Result<(), Fail> {
-    let (clean, half) = (FuseMode::Clean, FuseMode::Half);
-    for (passes, fails, mode, want) in [
-        (0, None, clean, "!!! old none"),
-        (1, None, clean, ".!! old none"),
-        (2, None, clean, "..! old none"),
-        (3, None, clean, "..! old newer"),
-        (4, None, clean, "... newer none"),
-        (0, None, half, "!!! old none"),
-        (1, None, half, ".!! old none"),
-        (2, None, half, "..! old ne"),
-        (3, None, half, "..! newer none"),
-        (4, None, half, "... newer none"),
-        (0, Some(1), clean, "!.. newer none"),
-        (1, Some(1), half, ".!. newer none"),
-        (2, Some(1), half, "..! old ne"),
-        (3, Some(1), half, "..! newer none"),
-        (1, Some(2), half, ".!! old none"),
-        (0, Some(0), half, "... newer none"),
-    ] {
+    for &(passes, fails, mode, want) in OUTCOMES {
         let got = outcome(rt.alloc(), passes, fails, mode)?;
-        assert_eq!(rt; got.as_str(), want, "{passes} {fails:?} {mode:?}");
+        check_row(&rt, got.as_str(), want, passes);
     }
     Ok(())
+}
+
+const STAMPS: &[Step<'_>] = &[Step::Stamp("A"), Step::Stamp("B"), Step::Stamp("C")];
+
+fn three_names(alloc: Global) -> Result<Vec<Name>, AllocError> {
+    Ok(vec![in alloc; name(alloc, "A")?, name(alloc, "B")?, name(alloc, "C")?]?)
 }
 
 /// The fault of touching three names behind a fuse, and their stamps after it.
 fn touched(alloc: Global, passes: u64, mode: FuseMode) -> Result<String, AllocError> {
-    let names = vec![in alloc; name(alloc, "A")?, name(alloc, "B")?, name(alloc, "C")?]?;
-    let mut tree = FuseTree::new(MemoryTree::new(alloc), passes, None, mode);
     let mut story = String::new(alloc);
-    story.push(if touch_all(alloc, &mut tree, &names, 9).is_ok() {
-        '.'
-    } else {
-        '!'
-    })?;
+    let names = three_names(alloc)?;
+    let mut tree = FuseTree::new(MemoryTree::new(alloc), passes, None, mode);
+    let outcome = touch_all(alloc, &mut tree, &names, 9);
     let mut tree = tree.into_inner();
-    for symbol in ["A", "B", "C"] {
-        story.push(' ')?;
-        story.push_str(answer(alloc, &mut tree, Step::Stamp(symbol))?.as_str())?;
-    }
+    story.push(sign(outcome.is_err()))?;
+    add_answers(alloc, &mut tree, STAMPS, &mut story)?;
     Ok(story)
 }
 
+/// How many calls pass, and what comes of it in each mode. Of the six calls each odd one is a rename, which has happened where it
+/// is half done.
+const TOUCHES: &[(u64, &str, &str)] = &[
+    (0, "! 0 0 0", "! 0 0 0"),
+    (1, "! 0 0 0", "! 9 0 0"),
+    (2, "! 9 0 0", "! 9 0 0"),
+    (3, "! 9 0 0", "! 9 9 0"),
+    (4, "! 9 9 0", "! 9 9 0"),
+    (5, "! 9 9 0", "! 9 9 9"),
+    (6, ". 9 9 9", ". 9 9 9"),
+];
+
 #[test]
 fn touching_stops_at_the_first_fault(rt: HostRuntime) -> Result<(), Fail> {
-    // Of the six calls each odd one is a rename, which has happened where it is half done.
-    for (passes, clean, half) in [
-        (0, "! 0 0 0", "! 0 0 0"),
-        (1, "! 0 0 0", "! 9 0 0"),
-        (2, "! 9 0 0", "! 9 0 0"),
-        (3, "! 9 0 0", "! 9 9 0"),
-        (4, "! 9 9 0", "! 9 9 0"),
-        (5, "! 9 9 0", "! 9 9 9"),
-        (6, ". 9 9 9", ". 9 9 9"),
-    ] {
-        assert_eq!(rt;
-            touched(rt.alloc(), passes, FuseMode::Clean)?.as_str(),
-            clean,
-            "{passes}"
-        );
-        assert_eq!(rt;
-            touched(rt.alloc(), passes, FuseMode::Half)?.as_str(),
-            half,
-            "{passes}"
-        );
+    for &(passes, clean, half) in TOUCHES {
+        for (mode, want) in [(Clean, clean), (Half, half)] {
+            let got = touched(rt.alloc(), passes, mode)?;
+            check_row(&rt, got.as_str(), want, passes);
+        }
     }
     Ok(())
 }
@@ -144,6 +195,6 @@ fn touching_stops_at_the_first_fault(rt: HostRuntime) -> Result<(), Fail> {
 #[test]
 fn no_name_makes_no_call(rt: HostRuntime) {
     let alloc = rt.alloc();
-    let mut tree = FuseTree::new(MemoryTree::new(alloc), 0, None, FuseMode::Clean);
-    assert_eq!(rt; touch_all(alloc, &mut tree, &[], 9), Ok(()));
+    let mut tree = FuseTree::new(MemoryTree::new(alloc), 0, None, Clean);
+    assert!(rt; touch_all(alloc, &mut tree, &[], 9).is_ok());
 }

@@ -1,6 +1,6 @@
 //! The tree of a folder, in a fresh one below the system's folder for temporary files: what it does, what others do beside it, and
 //! what is then seen. Most tests are a scene, a row of deeds.
-use crate::steps::{STEPS, Step, run};
+use crate::steps::{STEPS, Step, check, run};
 use ks_symbols::MAX_BYTES;
 use ks_system::{Host, System, SystemTree};
 use ks_tree::{Aging, Tree, TreeFault};
@@ -138,32 +138,42 @@ fn absolute<S: System + Drop>(
     tree: &mut SystemTree<S>,
     path: &str,
     want: &str,
-) -> Result<(), AllocError> {
+) -> io::Result<()> {
     let place = format!(in host.alloc(); "{root}/{path}")?;
-    run(
-        rt,
-        host.alloc(),
-        tree,
-        &[(Step::Read(place.as_str()), want)],
-    )
+    let steps = [(Step::Read(place.as_str()), want)];
+    run(rt, host.alloc(), tree, &steps)?;
+    Ok(())
 }
 
-/// How many bytes the tree reads at a path, or none.
-fn length_of<S: System + Drop>(
+fn has_length<S: System + Drop>(
+    rt: &impl Abort,
     alloc: Global,
     tree: &mut SystemTree<S>,
     path: &str,
-) -> Option<usize> {
-    match tree.read(alloc, path.as_bytes()) {
+    want: usize,
+) {
+    let length = match tree.read(alloc, path.as_bytes()) {
         Ok(Some(bytes)) => Some(bytes.len()),
         _ => None,
-    }
+    };
+    assert!(rt; length == Some(want), "{path}");
 }
 
 fn no_text<S: System + Drop>(rt: &impl Abort, alloc: Global, tree: &mut SystemTree<S>) {
     let read = tree.read(alloc, b"\xff");
     assert!(rt; matches!(read, Err(TreeFault::Device)), "not text");
     assert!(rt; tree.last_fault().is_none(), "no path to tell");
+}
+
+fn age<S: System + Drop>(
+    rt: &impl Abort,
+    alloc: Global,
+    tree: &mut SystemTree<S>,
+    path: &str,
+    passes: bool,
+) {
+    let aged = tree.age(alloc, path.as_bytes());
+    assert!(rt; aged.is_ok() == passes, "{path}");
 }
 
 /// How often a tree has failed. (The prover knows no shared borrow of a tree of this type.)
@@ -179,6 +189,51 @@ fn told<S: System + Drop>(alloc: Global, tree: &mut SystemTree<S>) -> Result<Str
     }
 }
 
+fn check_told<S: System + Drop>(
+    rt: &impl Abort,
+    alloc: Global,
+    tree: &mut SystemTree<S>,
+    want: &str,
+) -> io::Result<()> {
+    let found = told(alloc, tree)?;
+    check(rt, found.as_str(), want);
+    Ok(())
+}
+
+fn check_long_past(host: &HostRuntime, rt: &impl Abort, root: &str, path: &str) -> io::Result<()> {
+    let found = is_long_past(host, root, path)?;
+    assert!(rt; found, "{path}");
+    Ok(())
+}
+
+fn check_modes(
+    host: &HostRuntime,
+    rt: &impl Abort,
+    root: &str,
+    one: &str,
+    other: &str,
+) -> io::Result<()> {
+    let modes = (mode_of(host, root, one)?, mode_of(host, root, other)?);
+    assert!(rt; modes.0 == modes.1, "{one}");
+    Ok(())
+}
+
+fn check_failures<S: System + Drop>(rt: &impl Abort, tree: &mut SystemTree<S>, want: u64) {
+    let failures = tree.failures();
+    assert!(rt; failures == want, "{failures} failures");
+}
+
+/// Takes steps of the tree.
+fn take_steps<S: System + Drop>(
+    rt: &impl Abort,
+    alloc: Global,
+    tree: &mut SystemTree<S>,
+    steps: &[(Step<'_>, &str)],
+) -> io::Result<()> {
+    run(rt, alloc, tree, steps)?;
+    Ok(())
+}
+
 fn do_deed<S: System + Drop>(
     host: &HostRuntime,
     rt: &impl Abort,
@@ -187,41 +242,59 @@ fn do_deed<S: System + Drop>(
     deed: Deed<'_>,
 ) -> io::Result<()> {
     match deed {
-        Deed::Steps(steps) => run(rt, host.alloc(), tree, steps)?,
-        Deed::Others(path, act) => others_do(host, root, path, act)?,
-        Deed::Absolute(path, want) => absolute(host, rt, root, tree, path, want)?,
-        Deed::Replaced(path) => replaced(host, rt, root, tree, path)?,
+        Deed::Steps(steps) => take_steps(rt, host.alloc(), tree, steps),
+        Deed::Others(path, act) => others_do(host, root, path, act),
+        Deed::Absolute(path, want) => absolute(host, rt, root, tree, path, want),
+        Deed::Replaced(path) => replaced(host, rt, root, tree, path),
         Deed::HasLength(path, want) => {
-            assert_eq!(rt; length_of(host.alloc(), tree, path), Some(want), "{path}");
+            has_length(rt, host.alloc(), tree, path, want);
+            Ok(())
         }
-        Deed::NoText => no_text(rt, host.alloc(), tree),
+        Deed::NoText => {
+            no_text(rt, host.alloc(), tree);
+            Ok(())
+        }
         Deed::Age(path, passes) => {
-            let aged = tree.age(host.alloc(), path.as_bytes());
-            assert_eq!(rt; aged.is_ok(), passes, "{path}");
+            age(rt, host.alloc(), tree, path, passes);
+            Ok(())
         }
-        Deed::IsLongPast(path) => {
-            assert!(rt; is_long_past(host, root, path)?, "{path}");
+        Deed::IsLongPast(path) => check_long_past(host, rt, root, path),
+        Deed::HaveOneMode(one, other) => check_modes(host, rt, root, one, other),
+        Deed::Told(want) => check_told(rt, host.alloc(), tree, want),
+        Deed::Failures(want) => {
+            check_failures(rt, tree, want);
+            Ok(())
         }
-        Deed::HaveOneMode(one, other) => {
-            assert_eq!(rt;
-                mode_of(host, root, one)?,
-                mode_of(host, root, other)?,
-                "{one}"
-            );
-        }
-        Deed::Told(want) => assert_eq!(rt; told(host.alloc(), tree)?.as_str(), want),
-        Deed::Failures(want) => assert_eq!(rt; tree.failures(), want),
+    }
+}
+
+/// Does the deeds one after another.
+fn do_deeds<S: System + Drop>(
+    host: &HostRuntime,
+    rt: &impl Abort,
+    root: &str,
+    tree: &mut SystemTree<S>,
+    deeds: &[Deed<'_>],
+) -> io::Result<()> {
+    for deed in deeds {
+        do_deed(host, rt, root, tree, *deed)?;
     }
     Ok(())
 }
 
-/// Does the deeds one after another with a tree in a folder.
+/// The tree of a folder.
+fn tree_of<'a>(
+    host: &'a HostRuntime,
+    root: &str,
+) -> Result<SystemTree<Host<&'a HostRuntime>>, AllocError> {
+    let root = String::from_str(host.alloc(), root)?;
+    Ok(SystemTree::new(Host::new(host, root)))
+}
+
+/// Does the deeds with a tree in a folder.
 fn play(host: &HostRuntime, rt: &impl Abort, root: &str, deeds: &[Deed<'_>]) -> io::Result<()> {
-    let mut tree = SystemTree::new(Host::new(host, String::from_str(host.alloc(), root)?));
-    for deed in deeds {
-        do_deed(host, rt, root, &mut tree, *deed)?;
-    }
-    Ok(())
+    let mut tree = tree_of(host, root)?;
+    do_deeds(host, rt, root, &mut tree, deeds)
 }
 
 /// Plays a scene in a folder of its own.
@@ -364,17 +437,34 @@ fn read_in_pieces<S: System + Drop>(
     Ok(read)
 }
 
+/// Sizes of pieces, and how many of each are read.
+const SIZES: &[(usize, usize)] = &[(4096, 49), (1000, 201), (65536, 4), (70_000, 3)];
+
+fn read_at_each_size<S: System + Drop>(
+    rt: &impl Abort,
+    alloc: Global,
+    tree: &mut SystemTree<S>,
+    bytes: &[u8],
+) -> Result<(), TreeFault> {
+    tree.write(alloc, b"large", bytes)?;
+    for &(size, pieces) in SIZES {
+        let read = read_in_pieces(alloc, tree, size, pieces)?;
+        assert!(rt; read.as_slice() == bytes, "{size}");
+    }
+    check_failures(rt, tree, 0);
+    Ok(())
+}
+
+fn large_file(host: &HostRuntime, rt: &impl Abort, root: &str) -> Result<(), TreeFault> {
+    let bytes = many_bytes(host.alloc())?;
+    let mut tree = tree_of(host, root)?;
+    read_at_each_size(rt, host.alloc(), &mut tree, &bytes)
+}
+
 #[test]
 fn a_large_file_in_pieces(rt: HostRuntime) -> Result<(), Fail> {
     let root = fresh_folder(&rt, "large")?;
-    let mut tree = SystemTree::new(Host::new(&rt, root.clone()?));
-    let bytes = many_bytes(rt.alloc())?;
-    tree.write(rt.alloc(), b"large", &bytes)?;
-    for (size, pieces) in [(4096, 49), (1000, 201), (65536, 4), (70_000, 3)] {
-        let read = read_in_pieces(rt.alloc(), &mut tree, size, pieces)?;
-        assert!(rt; read == bytes, "{size}");
-    }
-    assert_eq!(rt; failures_of(&mut tree), 0);
+    large_file(&rt, &rt, root.as_str())?;
     fs::remove_dir_all(&rt, root.as_str())?;
     Ok(())
 }
@@ -470,57 +560,79 @@ fn what_is_left_over_is_not_written_into(rt: HostRuntime) -> Result<(), Fail> {
 }
 
 /// What the first of two writers does, and then the second, turn by turn.
-const TURNS: [[&[(Step<'_>, &str)]; 2]; 3] = [
-    [
+const TURNS: &[(&[(Step<'_>, &str)], &[(Step<'_>, &str)])] = &[
+    (
         &[(Step::Write("t", "first"), "done")],
         &[
             (Step::Write("t", "second"), "30 Device"),
             (Step::Read("t"), "first"),
         ],
-    ],
-    [
+    ),
+    (
         &[(Step::Move("t", "x"), "done")],
         &[
             (Step::Write("t", "second"), "done"),
             (Step::Read("x"), "first"),
             (Step::Write("x", "no file that counts is claimed"), "done"),
         ],
-    ],
-    [&[(Step::Write("t", "third"), "done")], &[]],
+    ),
+    (&[(Step::Write("t", "third"), "done")], &[]),
 ];
+
+fn take_turns<S: System + Drop>(
+    rt: &impl Abort,
+    alloc: Global,
+    first: &mut SystemTree<S>,
+    second: &mut SystemTree<S>,
+) -> Result<(), AllocError> {
+    for &(one, other) in TURNS {
+        run(rt, alloc, first, one)?;
+        run(rt, alloc, second, other)?;
+    }
+    check_failures(rt, first, 0);
+    check_failures(rt, second, 1);
+    Ok(())
+}
+
+fn two_writers(host: &HostRuntime, rt: &impl Abort, root: &str) -> Result<(), AllocError> {
+    let mut first = tree_of(host, root)?;
+    let mut second = tree_of(host, root)?;
+    take_turns(rt, host.alloc(), &mut first, &mut second)
+}
 
 #[test]
 fn of_two_writers_one_is_refused(rt: HostRuntime) -> Result<(), Fail> {
     let root = fresh_folder(&rt, "two")?;
-    let mut first = SystemTree::new(Host::new(&rt, root.clone()?));
-    let mut second = SystemTree::new(Host::new(&rt, root.clone()?));
-    for [one, other] in TURNS {
-        run(&rt, rt.alloc(), &mut first, one)?;
-        run(&rt, rt.alloc(), &mut second, other)?;
-    }
-    assert_eq!(rt; (failures_of(&mut first), failures_of(&mut second)), (0, 1));
+    two_writers(&rt, &rt, root.as_str())?;
     fs::remove_dir_all(&rt, root.as_str())?;
     Ok(())
 }
 
 /// What comes of a file written to a folder without permission: a counted failure, unless this user may write everywhere.
-fn write_without_permission(host: &HostRuntime, rt: &impl Abort, root: &str) -> io::Result<()> {
-    let mut tree = SystemTree::new(Host::new(host, String::from_str(host.alloc(), root)?));
+fn write_without_permission<S: System + Drop>(
+    host: &HostRuntime,
+    rt: &impl Abort,
+    tree: &mut SystemTree<S>,
+) -> io::Result<()> {
     match tree.write(host.alloc(), b"x", b"x") {
         Ok(()) => println!(host; "skipped: this user may write into every folder")?,
         Err(fault) => {
-            assert!(rt; fault == TreeFault::Device && failures_of(&mut tree) == 1);
+            assert!(rt; fault == TreeFault::Device && failures_of(tree) == 1);
         }
     }
     Ok(())
 }
 
+fn without_permission(host: &HostRuntime, rt: &impl Abort, root: &str) -> io::Result<()> {
+    others_do(host, root, "", Act::Mode(0o555))?;
+    write_without_permission(host, rt, &mut tree_of(host, root)?)?;
+    others_do(host, root, "", Act::Mode(0o755))
+}
+
 #[test]
 fn a_folder_without_permission(rt: HostRuntime) -> Result<(), Fail> {
     let root = fresh_folder(&rt, "permission")?;
-    others_do(&rt, root.as_str(), "", Act::Mode(0o555))?;
-    write_without_permission(&rt, &rt, root.as_str())?;
-    others_do(&rt, root.as_str(), "", Act::Mode(0o755))?;
+    without_permission(&rt, &rt, root.as_str())?;
     fs::remove_dir_all(&rt, root.as_str())?;
     Ok(())
 }

@@ -28,7 +28,7 @@ pub(crate) fn name(alloc: Global, text: &str) -> Result<Name, AllocError> {
     }
 }
 
-fn read<T: Tree>(alloc: Global, tree: &mut T, path: &str) -> Result<String, TreeFault> {
+pub(crate) fn read<T: Tree>(alloc: Global, tree: &mut T, path: &str) -> Result<String, TreeFault> {
     let Some(bytes) = tree.read(alloc, path.as_bytes())? else {
         return Ok(String::from_str(alloc, "none")?);
     };
@@ -36,7 +36,7 @@ fn read<T: Tree>(alloc: Global, tree: &mut T, path: &str) -> Result<String, Tree
     Ok(String::from_str(alloc, text)?)
 }
 
-fn piece<T: Tree>(
+pub(crate) fn piece<T: Tree>(
     alloc: Global,
     tree: &mut T,
     path: &str,
@@ -78,9 +78,53 @@ fn replace_file<T: Tree>(
 }
 
 /// `done`, or the fault.
-fn done(alloc: Global, outcome: Result<(), TreeFault>) -> Result<String, TreeFault> {
+pub(crate) fn done(alloc: Global, outcome: Result<(), TreeFault>) -> Result<String, TreeFault> {
     outcome?;
     Ok(String::from_str(alloc, "done")?)
+}
+
+fn touch_one<T: Tree>(
+    alloc: Global,
+    tree: &mut T,
+    symbol: &str,
+    generation: u64,
+) -> Result<String, TreeFault> {
+    let symbol = name(alloc, symbol)?;
+    done(alloc, touch(alloc, tree, &symbol, generation))
+}
+
+fn make_stamp<T: Tree>(alloc: Global, tree: &mut T, symbol: &str) -> Result<String, TreeFault> {
+    let symbols = [name(alloc, symbol)?];
+    done(alloc, make_stamps(alloc, tree, &symbols))
+}
+
+/// The generation of a stamp, or what is wrong with it.
+fn stamp<T: Tree>(alloc: Global, tree: &mut T, symbol: &str) -> Result<String, TreeFault> {
+    let symbol = name(alloc, symbol)?;
+    let text = match read_stamp(alloc, tree, &symbol) {
+        Ok(number) => format!(in alloc; "{number}"),
+        Err(error) => error.to_string(alloc),
+    };
+    Ok(text?)
+}
+
+/// Takes a step, and tells what was read, or `done`.
+fn take<T: Tree>(alloc: Global, tree: &mut T, step: Step<'_>) -> Result<String, TreeFault> {
+    match step {
+        Step::Read(path) => read(alloc, tree, path),
+        Step::Piece(path, offset) => piece(alloc, tree, path, offset),
+        Step::Write(path, bytes) => {
+            done(alloc, tree.write(alloc, path.as_bytes(), bytes.as_bytes()))
+        }
+        Step::Create(path, bytes) => {
+            done(alloc, tree.create(alloc, path.as_bytes(), bytes.as_bytes()))
+        }
+        Step::Move(from, to) => move_file(alloc, tree, from, to),
+        Step::Replace(path, bytes) => replace_file(alloc, tree, path, bytes),
+        Step::Touch(symbol, generation) => touch_one(alloc, tree, symbol, generation),
+        Step::MakeStamp(symbol) => make_stamp(alloc, tree, symbol),
+        Step::Stamp(symbol) => stamp(alloc, tree, symbol),
+    }
 }
 
 /// What comes of a step: what was read, `done`, or the fault.
@@ -89,34 +133,20 @@ pub(crate) fn answer<T: Tree>(
     tree: &mut T,
     step: Step<'_>,
 ) -> Result<String, AllocError> {
-    let outcome = match step {
-        Step::Read(path) => read(alloc, tree, path),
-        Step::Piece(path, offset) => piece(alloc, tree, path, offset),
-        Step::Move(from, to) => move_file(alloc, tree, from, to),
-        Step::Replace(path, bytes) => replace_file(alloc, tree, path, bytes),
-        Step::Write(path, bytes) => {
-            done(alloc, tree.write(alloc, path.as_bytes(), bytes.as_bytes()))
-        }
-        Step::Create(path, bytes) => {
-            done(alloc, tree.create(alloc, path.as_bytes(), bytes.as_bytes()))
-        }
-        Step::Touch(symbol, generation) => {
-            done(alloc, touch(alloc, tree, &name(alloc, symbol)?, generation))
-        }
-        Step::MakeStamp(symbol) => {
-            done(alloc, make_stamps(alloc, tree, &[name(alloc, symbol)?]))
-        }
-        Step::Stamp(symbol) => {
-            return match read_stamp(alloc, tree, &name(alloc, symbol)?) {
-                Ok(number) => format!(in alloc; "{number}"),
-                Err(error) => error.to_string(alloc),
-            };
-        }
-    };
-    match outcome {
+    match take(alloc, tree, step) {
         Ok(text) => Ok(text),
         Err(fault) => fault.to_string(alloc),
     }
+}
+
+/// What was found is what was wanted.
+pub(crate) fn check(rt: &impl Abort, found: &str, want: &str) {
+    assert!(rt; found == want, "found {found}, wanted {want}");
+}
+
+/// The same in the row of this number.
+pub(crate) fn check_row(rt: &impl Abort, found: &str, want: &str, row: u64) {
+    assert!(rt; found == want, "row {row}: found {found}, wanted {want}");
 }
 
 /// Takes the steps one after another, each with what is to come of it.
@@ -129,7 +159,7 @@ pub(crate) fn run<T: Tree>(
     let mut place = 0_u64;
     for (step, want) in steps {
         let got = answer(alloc, tree, *step)?;
-        assert_eq!(rt; got.as_str(), *want, "step {place}");
+        check_row(rt, got.as_str(), *want, place);
         place = place.saturating_add(1);
     }
     Ok(())

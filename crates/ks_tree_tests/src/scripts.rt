@@ -1,4 +1,6 @@
-//! Rows of scripts: what becomes of each call of the disk, what is done to the tree, what it answers, and what the disk has then.
+//! The tree over a disk whose calls are short, interrupted or fail. Rows of scripts: what becomes of each call of the disk, what is
+//! done to the tree, what it answers, and what the disk has then.
+use crate::steps::{done, piece, read};
 use ks_system::{ScriptedDisk, System, SystemTree, Turn};
 use ks_tree::{Aging, Tree, TreeFault};
 use std::alloc::{AllocError, Global};
@@ -195,40 +197,12 @@ const ROWS: &[Row<'static>] = &[
     },
 ];
 
-fn read<T: Tree>(alloc: Global, tree: &mut T, path: &str) -> Result<String, TreeFault> {
-    let Some(bytes) = tree.read(alloc, path.as_bytes())? else {
-        return Ok(String::from_str(alloc, "none")?);
-    };
-    let text = str::from_utf8(&bytes).unwrap_or("not text");
-    Ok(String::from_str(alloc, text)?)
-}
-
-fn piece<T: Tree>(
-    alloc: Global,
-    tree: &mut T,
-    path: &str,
-    offset: u64,
-) -> Result<String, TreeFault> {
-    let mut into = *b"......";
-    let Some(count) = tree.read_at(alloc, path.as_bytes(), offset, &mut into)? else {
-        return Ok(String::from_str(alloc, "none")?);
-    };
-    let text = str::from_utf8(&into).unwrap_or("not text");
-    Ok(format!(in alloc; "{count} {text}")?)
-}
-
 fn move_file<T: Tree>(alloc: Global, tree: &mut T, from: &str, to: &str) -> Result<(), TreeFault> {
     let (from, to) = (from.as_bytes(), to.as_bytes());
     if from != to && tree.read(alloc, from)?.is_some() {
         tree.rename(alloc, from, to)?;
     }
     Ok(())
-}
-
-/// `done`, or the fault.
-fn done(alloc: Global, outcome: Result<(), TreeFault>) -> Result<String, TreeFault> {
-    outcome?;
-    Ok(String::from_str(alloc, "done")?)
 }
 
 /// What comes of a deed: what was read, `done`, or the fault.
@@ -280,6 +254,12 @@ fn found(alloc: Global, disk: &ScriptedDisk<'_>, path: &str) -> Result<String, A
     String::from_str(alloc, text)
 }
 
+/// What was found is what a row wants.
+fn check(rt: &impl Abort, row: &Row<'_>, found: &str, want: &str) {
+    let name = row.name;
+    assert!(rt; found == want, "{name}: found {found}, wanted {want}");
+}
+
 /// The deeds of a row, one after another, each with the answer that is wanted; and how often the tree has then failed.
 fn play<S: System + Drop>(
     rt: &impl Abort,
@@ -287,18 +267,16 @@ fn play<S: System + Drop>(
     tree: &mut SystemTree<S>,
     row: &Row<'_>,
 ) -> Result<(), AllocError> {
-    let mut place = 0_u64;
     for (deed, want) in row.deeds {
         let got = answer(alloc, tree, *deed)?;
-        assert_eq!(rt; got.as_str(), *want, "{}, deed {place}", row.name);
-        place = place.saturating_add(1);
+        check(rt, row, got.as_str(), *want);
     }
-    assert_eq!(rt; tree.failures(), row.failures, "{}", row.name);
+    assert!(rt; tree.failures() == row.failures, "{}", row.name);
     Ok(())
 }
 
 /// The disk has what a row wants.
-fn check(
+fn check_disk(
     rt: &impl Abort,
     alloc: Global,
     disk: &ScriptedDisk<'_>,
@@ -306,7 +284,7 @@ fn check(
 ) -> Result<(), AllocError> {
     for (path, want) in row.disk {
         let got = found(alloc, disk, *path)?;
-        assert_eq!(rt; got.as_str(), *want, "{}, {path}", row.name);
+        check(rt, row, got.as_str(), *want);
     }
     Ok(())
 }
@@ -316,7 +294,7 @@ fn run(rt: &impl Abort, alloc: Global, row: &Row<'_>) -> Result<(), AllocError> 
     disk.put(b"a", b"abcdefgh")?;
     let mut tree = SystemTree::new(disk);
     play(rt, alloc, &mut tree, row)?;
-    check(rt, alloc, &tree.into_system(), row)
+    check_disk(rt, alloc, &tree.into_system(), row)
 }
 
 #[test]

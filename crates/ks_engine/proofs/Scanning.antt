@@ -1,10 +1,14 @@
 -- Prerequisites scanned one after the other.
-use Rattle.ks_engine.proofs.Prelude.{are_placed, add-one, ap, ◌∙◌, get_or-append_seam, ◌≡◌, ◌<◌, true, get_or, length-append, ℕ, ◌+◌, ◌≤◌, List, [], ◌∷◌, ◌++◌, Some, Result, Ok, Err, length, drop, append_assoc, append-nil, arith, slice_get, drop-cons, and_from, and_parts, lt-ltb, ltb-true, drop_all, get_or_append_left, map-append, list_all-append, picked, Grows, slice_get_within, get_or_from_slice_get, Role, Rules, Files, content, scanned, scanned_all, followed, EngineError, rules}
+use Rattle.ks_engine.proofs.Prelude.{are_placed, add-one, ap, refl, ◌∙◌, get_or-append_seam, ◌≡◌, ◌<◌, true, get_or, length-append, ℕ, ◌+◌, ◌≤◌, List, [], ◌∷◌, ◌++◌, Some, Result, Ok, Err, length, drop, append_assoc, append-nil, arith, slice_get, drop-cons, and_from, and_parts, lt-ltb, ltb-true, drop_all, get_or_append_left, map-append, list_all-append, picked, Grows, slice_get_within, get_or_from_slice_get, Role, Rules, Files, content, scanned, scanned_all, followed, EngineError, rules}
 
 -- the names found so far, and then those
 abbrev pub following : List (List (List ℕ)) → Result (List (List (List ℕ))) EngineError → Result (List (List (List ℕ))) EngineError
 following found (Ok more) = Ok (found ++ more)
 following found (Err e) = Err e
+
+pub following_none : (r : Result (List (List (List ℕ))) EngineError) → r ≡ following [] r
+following_none (Ok more) = refl
+following_none (Err e) = refl
 
 pub after_next : (found : List (List (List ℕ))) (x : List (List ℕ)) (rest : Result (List (List (List ℕ))) EngineError) → following found (followed (Ok x) rest)
     ≡ following (found ++ x ∷ []) rest

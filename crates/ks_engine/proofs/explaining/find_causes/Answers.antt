@@ -38,7 +38,15 @@ loop-dep-preserved g c =
       | in-File w ↦
           let here = next _ (ap seen_dep w.in-File.is) in
           let legal = and_parts (is_dep (File w.in-File.path.now)) _ (rw here at (list_all-drop is_dep c.loop-dep.dep-index _ c.requires.deps)) in
-          rw (w.tree-is, w.memo-is, w.causes-is, w.place-is) (search (rules, legal, old, old.looked, looked_file, here))
+          rw (w.tree-is, w.memo-is, w.causes-is, w.place-is) (record {
+            unchanged = old.unchanged;
+            kept = old.kept;
+            memo = old.memo;
+            same = old.same;
+            place = legal.0;
+            few = old.few;
+            looked = λ h after seen. looked_file after c.args.generation c.args.source.now _ _ _ _ _ here (old.looked h after seen);
+          })
       | in-Config+in_ok-number-in-Config+then-generation-number+in_ok-cause-in-Config+in_ok-push-in-Config+in-All w ↦
           let said = w.in_ok-number-in-Config.ensures in
           let made = w.in_ok-cause-in-Config.ensures in

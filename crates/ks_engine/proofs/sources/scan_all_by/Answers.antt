@@ -1,6 +1,6 @@
-use Rattle.ks_engine.proofs.Prelude.{rules, sym, ◌∙◌, arith, length-append, err_from_is_err_and}
+use Rattle.ks_engine.proofs.Prelude.{refl, rules, sym, ◌∙◌, arith, length-append, err_from_is_err_and}
 use Rattle.ks_engine.proofs.Drafting.{or_given}
-use Rattle.ks_engine.proofs.Scanning.{picked_next, scanned_step, after_next, scanned_end}
+use Rattle.ks_engine.proofs.Scanning.{picked_next, scanned_step, after_next, scanned_end, following_none}
 use Rattle.ks_engine.proofs.sources.scan_all_by.Goals as goal
 
 pub returns-in_err-source-clause-refused : goal.returns-in_err-source-clause-refused
@@ -9,6 +9,22 @@ returns-in_err-source-clause-refused g c = λ honest.
     let said = rw (c.loop-place.invariant.unchanged honest, c.loop-place.invariant.rules) at (c.in_err-source.ensures.refused honest) in
     rw (p.1, p.2) (or_given (λ bad. scanned_step _ _ c.args.prerequisites.now c.loop-place.place _ _ _ _ (sym c.in-Some.ensures.value) bad
     (c.loop-place.invariant.scanned honest).1) said)
+
+pub loop-place-init : goal.loop-place-init
+loop-place-init g c = record {
+  unchanged = λ honest. refl;
+  kept = refl;
+  same = refl;
+  within = omega arith;
+  rules = refl;
+  room = search rules;
+  memo = c.requires.memo;
+  counts = search rules;
+  scanned = λ honest. rw c.in_ok-sources.ensures.items (refl, following_none _);
+}
+
+pub source_at-requires : goal.source_at-requires
+source_at-requires g c = record { memo = c.loop-place.invariant.memo; path = search rules; room = c.loop-place.invariant.room }
 
 pub loop-place-preserved : goal.loop-place-preserved
 loop-place-preserved g c = record {
@@ -32,3 +48,9 @@ returns-clause-memo g c = search rules
 
 pub returns-clause-names : goal.returns-clause-names
 returns-clause-names g c = search (rules, scanned_end)
+
+pub returns-clause-placed : goal.returns-clause-placed
+returns-clause-placed g c = λ honest. (c.loop-place.invariant.scanned honest).0
+
+pub returns-clause-each : goal.returns-clause-each
+returns-clause-each g c = omega (arith, c.loop-place.invariant.counts, c.loop-place.invariant.within)

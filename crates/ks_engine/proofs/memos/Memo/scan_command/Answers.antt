@@ -12,6 +12,20 @@ returns-in_err-end_source_as-clause-memo c = λ files is.
     memo_grown files c.args.self.now _ refl refl refl refl
     (grows_none _ _ (c.in_err-end_source_as.ensures.err ∙ c.feed_as.ensures.found ∙ c.begin_source.ensures.found)) is
 
+pub returns-in_err-push-clause-memo : goal.returns-in_err-push-clause-memo
+returns-in_err-push-clause-memo c = λ files is. memo_grown files c.args.self.now _ refl refl refl refl (
+  names_in_as c.args.self.now.rules c.args.command.now ∷ [],
+  c.in_ok-end_source_as.ensures.found c.args.command.now (c.in_ok-feed_as.ensures.stands [] (c.begin_source.ensures.under_rules c.args.self.now.rules))
+      ∙ ap (λ f. f ++ names_in_as c.args.self.now.rules c.args.command.now ∷ []) (c.in_ok-feed_as.ensures.found ∙ c.begin_source.ensures.found),
+) is
+
+pub returns-clause-memo : goal.returns-clause-memo
+returns-clause-memo c = λ files is. memo_grown files c.args.self.now _ refl refl refl refl (
+  names_in_as c.args.self.now.rules c.args.command.now ∷ [],
+  c.in_ok-end_source_as.ensures.found c.args.command.now (c.in_ok-feed_as.ensures.stands [] (c.begin_source.ensures.under_rules c.args.self.now.rules))
+      ∙ ap (λ f. f ++ names_in_as c.args.self.now.rules c.args.command.now ∷ []) (c.in_ok-feed_as.ensures.found ∙ c.begin_source.ensures.found),
+) is
+
 pub returns-clause-names : goal.returns-clause-names
 returns-clause-names c = λ placed.
     let fed = c.in_ok-feed_as.ensures.stands [] (c.begin_source.ensures.under_rules c.args.self.now.rules) in

@@ -1,5 +1,6 @@
 -- The steps of a record before its command file is drafted.
-use Rattle.ks_engine.proofs.Prelude.{◌≡◌, ◌⊎◌, inl, inr, ℕ, List, None, Ok, sym, ◌∙◌, ap, Conventions, Dialect, usual_header, Role, Rules, rules_for, prerequisites_without, refusal_without, Files, content, auto_path, last_generation, words, there, listed_unless, scanned_all, with_command, drafted, record_plan_under}
+use Rattle.ks_engine.proofs.Prelude.{Bool, IfOk, Result, Err, ◌≡◌, ◌⊎◌, inl, inr, ℕ, List, None, Ok, sym, ◌∙◌, ap, Conventions, Dialect, usual_header, Role, Rules, rules_for, prerequisites_without, refusal_without, Files, content, auto_path, last_generation, words, there, listed_unless, scanned_all, with_command, drafted, record_plan_under}
+use Rattle.ks_engine.specs.Drafts.{drafted_by}
 use Rattle.ks_engine.specs.Recording.{listed}
 
 -- ---- the dependency file
@@ -10,12 +11,20 @@ depfile_listed dialect d ps none is = ap (λ r. listed_unless r (prerequisites_w
 
 -- ---- nothing was refused before the draft
 
-pub at_drafted : (conventions : Conventions) (files mid later : Files) (by : Rules) (d t c b : List ℕ) (ps : List (List ℕ × Role)) (g : ℕ) (found all : List (List (List ℕ)))
+pub at_prerequisites : (conventions : Conventions) (files later : Files) (by : Rules) (d t c b : List ℕ) (ps : List (List ℕ × Role))
     → words d t c ≡ Ok tt → there d (content files d) ≡ Ok b → refusal_without conventions.header b ≡ None → ps ≡ prerequisites_without conventions.header b
-    → mid ≡ files → last_generation (content mid auto_path) ≡ Ok g → later ≡ files → by ≡ rules_for conventions.dialect t → scanned_all by later ps ≡ Ok found
-    → all ≡ with_command conventions.scans_command by c found → record_plan_under conventions files d t c ≡ drafted t c ps g all
+    → later ≡ files → by ≡ rules_for conventions.dialect t → record_plan_under conventions files d t c ≡ drafted_by by conventions.scans_command later t c ps
 unfolding record_plan_under
-at_drafted conventions files mid later by d t c b ps g found all w th none is same sy same_later same_rules sc more = cc
+at_prerequisites conventions files later by d t c b ps w th none is same same_rules = rw (same, same_rules, is) (cc (w, th, none))
+
+pub at_drafted : (files later : Files) (r by : Rules) (scans_command : Bool) (t c : List ℕ) (ps : List (List ℕ × Role)) (g : ℕ) (found all : List (List (List ℕ)))
+    → last_generation (content files auto_path) ≡ Ok g → later ≡ files → by ≡ r → scanned_all by later ps ≡ Ok found → all ≡ with_command scans_command by c found
+    → drafted_by r scans_command files t c ps ≡ drafted t c ps g all
+at_drafted files later r by scans_command t c ps g found all sy same same_rules sc more = cc
+
+pub both : {A E : Type 0} (r : Result A E) (P Q : A → Type 0) → IfOk r P → IfOk r Q → IfOk r (λ x. P x × Q x)
+both (Ok x) P Q p q = (p, q)
+both (Err e) P Q p q = tt
 
 pub or_given : {P Q R : Type 0} → (Q → R) → P ⊎ Q → P ⊎ R
 or_given f (inl p) = inl p

@@ -1,5 +1,5 @@
 //! Runs of commands: what a build asks of a tree, in order, and one reply for each.
-ghost use Rattle.std.specs.Prelude.{◌≡◌, ◌≤◌, IfOk, OnErr, map, length};
+ghost use Rattle.std.specs.Prelude.{◌≡◌, ◌≤◌, [], IfOk, OnErr, map, length, vec_capacity};
 ghost use Rattle.ks_engine.specs.History.{History};
 ghost use Rattle.ks_engine.specs.Shows.{Shows};
 ghost use Rattle.ks_engine.specs.Follows.{at};
@@ -78,6 +78,29 @@ fn answer<T: Tree>(
     }
 }
 
+/// Answers commands in order, by what was read before and what is still to be read. There is room for the replies.
+fn answer_all<T: Tree>(
+    alloc: Global,
+    tree: &mut T,
+    memo: &mut Memo,
+    dialect: Dialect,
+    commands: &[Command<'_>],
+    replies: &mut Vec<Reply>,
+)
+    requires memo { T.is_honest → IsMemoOf (T.files tree.old) memo.old }
+    requires none { replies.old.items ≡ [] }
+    requires room { length commands.now ≤ vec_capacity replies.old }
+    ensures steps { FileRun dialect T.is_honest (state T.Tree tree.old) (map action commands.now) replies.new.items (state T.Tree tree.new) }
+    ensures each { length replies.new.items ≡ length commands.now }
+    ensures later { T.failures tree.old ≤ T.failures tree.new }
+    ensures kept { T.aged tree.new ≡ T.aged tree.old }
+{
+    for command in commands {
+        let reply = answer(alloc, tree, memo, dialect, command);
+        replies.push(reply).unwrap();
+    }
+}
+
 /// Answers commands in order, one reply for each. A refusal is a reply. Sources and Kconfigs are read in the dialect.
 pub fn run<T: Tree>(
     alloc: Global,
@@ -98,9 +121,6 @@ pub fn run<T: Tree>(
 {
     let mut replies = Vec::with_capacity(alloc, commands.len())?;
     let mut memo = Memo::with_seed(alloc, Seed::new(tree.seed()));
-    for command in commands {
-        let reply = answer(alloc, tree, &mut memo, dialect, command);
-        replies.push(reply).unwrap();
-    }
+    answer_all(alloc, tree, &mut memo, dialect, commands, &mut replies);
     Ok(replies)
 }

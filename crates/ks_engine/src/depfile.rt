@@ -3,21 +3,25 @@
 //! its place. With `-DFEATURE=CONFIG_N` the command itself mentions one, and the compiler lists no file for that: so the command is
 //! scanned too. The record comes first: until it is made the compiler's own file stays, and the object is rebuilt too often and
 //! never too rarely.
-ghost use Rattle.std.specs.Prelude.{◌≡◌, ◌⊎◌, ◌||◌, List, ℕ, false, true, IfErr, IfOk, IsErrOf, IsTrue, OnErr, OnOk, Ok, Err, Some, None};
+ghost use Rattle.std.specs.Prelude.{◌≡◌, ◌⊎◌, ◌||◌, List, ℕ, false, true, IfErr, IfOk, IsErrOf, IsTrue, OnErr, OnOk, Ok, Err, Some, None, map};
 ghost use Rattle.ks_symbols.specs.Names.{is_in, is_name};
+ghost use Rattle.ks_fixdep.specs.Rule.{first_target, rule_of};
+ghost use Rattle.ks_fixdep.specs.SourceScan.{listed_of};
+ghost use Rattle.ks_fixdep.specs.Tokens.{tokens};
 ghost use Rattle.ks_tree.specs.Files.{content, SameButBoth};
 ghost use Rattle.ks_tree.specs.Frames.{Counted, Reads};
 ghost use Rattle.ks_tree.specs.Paths.{command_path, command_temporary, temporary};
 ghost use Rattle.ks_engine.specs.Refusals.{IsGivenUp};
 ghost use Rattle.ks_engine.specs.Recorded.{RecordPlan, IsRecordPlanUnder, record_plan_under};
 ghost use Rattle.ks_engine.specs.Follows.{GoesOn};
+ghost use Rattle.ks_engine.specs.Memos.{IsMemoOf};
 ghost use Rattle.ks_engine.specs.Depfile.{FollowsDepfile, IsDepfileRecorded, IsDepfileRefused, IsOldOrRule, IsRuled, NamesCommand, RuleDone, RuleTried, is_own_file, ruled_by};
 
 use crate::EngineError;
 use crate::conventions::Conventions;
 use crate::memos::Memo;
-use crate::recording::{Draft, Recorded, prepare};
-use ks_fixdep::{Header, Seed, listed_names, rule_text};
+use crate::recording::{Draft, Prepared, Recorded, prepare};
+use ks_fixdep::{Header, NamesBySource, Seed, listed_names, rule_text};
 use ks_symbols::{Dialect, Name};
 use ks_tree::{Tree, command_path, command_temporary, header_path, make_stamps, replace};
 use std::alloc::{AllocError, Global};
@@ -50,6 +54,45 @@ fn temporary(alloc: Global, depfile: &[u8]) -> Result<Vec<u8>, AllocError>
     Ok(path)
 }
 
+/// Makes the rule of an object for which the rest stands ready, and the names that it lists.
+fn make_rule(alloc: Global, prepared: Prepared, found: &NamesBySource) -> Result<Ruled, EngineError>
+    ensures ruled { IfOk result (λ r. (r.draft ≡ prepared.draft) × (r.names.items ≡ listed_of found.now)
+        × (r.rule.items ≡ rule_of (first_target (tokens prepared.depfile.items)) (map (λ p. p.0) prepared.prerequisites) (listed_of found.now))) }
+    ensures memory { OnErr result (result ≡ Err EngineError.OutOfMemory) }
+{
+    let names = listed_names(alloc, found)?;
+    let rule = rule_text(alloc, &prepared.depfile, &prepared.prerequisites, &names)?;
+    Ok(Ruled {
+        draft: prepared.draft,
+        names,
+        rule,
+    })
+}
+
+/// All steps before the first write, by what was read before and what is still to be read.
+fn prepare_rule_by<T: Tree>(
+    alloc: Global,
+    tree: &mut T,
+    memo: &mut Memo,
+    conventions: Conventions<'_>,
+    depfile: &[u8],
+    target: &[u8],
+    command: &[u8],
+) -> Result<Ruled, EngineError>
+    requires memo { T.is_honest → IsMemoOf (T.files tree.old) memo.old }
+    ensures reads { Reads T.Tree tree.old tree.new (IsErrOf result EngineError.Device) }
+    ensures passed { OnOk result (T.failures tree.new ≡ T.failures tree.old) }
+    ensures uncounted { IsErrOf result EngineError.OutOfMemory → T.failures tree.new ≡ T.failures tree.old }
+    ensures planned { T.is_honest → IfOk result (λ r. (plan : RecordPlan)
+        × IsRecordPlanUnder conventions.entry (T.files tree.old) depfile.now target.now command.now plan
+        × IsRuled conventions.entry (T.files tree.old) depfile.now plan r) }
+    ensures refused { T.is_honest → IfErr result (λ e. IsGivenUp e
+        ⊎ (record_plan_under conventions.entry (T.files tree.old) depfile.now target.now command.now ≡ Err e)) }
+{
+    let prepared = prepare(alloc, tree, memo, conventions, depfile, target, command)?;
+    make_rule(alloc, prepared, &memo.found)
+}
+
 /// All steps before the first write.
 fn prepare_rule<T: Tree>(
     alloc: Global,
@@ -69,7 +112,7 @@ fn prepare_rule<T: Tree>(
         ⊎ (record_plan_under conventions.entry (T.files tree.old) depfile.now target.now command.now ≡ Err e)) }
 {
     let mut memo = Memo::of_one_object(alloc, Seed::new(tree.seed()));
-    let prepared = prepare(
+    prepare_rule_by(
         alloc,
         tree,
         &mut memo,
@@ -77,14 +120,7 @@ fn prepare_rule<T: Tree>(
         depfile,
         target,
         command,
-    )?;
-    let names = listed_names(alloc, &memo.found)?;
-    let rule = rule_text(alloc, &prepared.depfile, &prepared.prerequisites, &names)?;
-    Ok(Ruled {
-        draft: prepared.draft,
-        names,
-        rule,
-    })
+    )
 }
 
 /// Writes a command file.

@@ -141,6 +141,7 @@ impl Memo {
         ensures passed { OnOk result (T.failures tree.new ≡ T.failures tree.old) }
         ensures uncounted { IsErrOf result EngineError.OutOfMemory → T.failures tree.new ≡ T.failures tree.old }
         ensures memo { T.is_honest → IsMemoOf (T.files tree.new) self.new }
+        ensures rules { self.new.rules ≡ self.old.rules }
         ensures read { T.is_honest → Answers (last_generation (content (T.files tree.old) auto_path)) (λ g. g) result }
     {
         if let Some(generation) = self.generation {

@@ -1,18 +1,19 @@
 //! Recording an object: the command that builds it, the files that it is made of, and the names in them, under the generation of
 //! the last completed synchronisation. A greater number, as that of a stamp, would hide a synchronisation that was broken off.
-ghost use Rattle.std.specs.Prelude.{◌≡◌, ◌⊎◌, Ok, Err, IfOk, IfErr, OnOk, IsTrue, IsErrOf, length};
+ghost use Rattle.std.specs.Prelude.{◌≡◌, ◌⊎◌, Ok, Err, Some, None, IfOk, IfErr, OnOk, OnErr, IsTrue, IsErrOf, length};
 ghost use Rattle.ks_symbols.specs.Names.{is_path, is_target};
 ghost use Rattle.ks_fixdep.specs.CommandFile.{is_command, IsLegal};
 ghost use Rattle.ks_fixdep.specs.FoundNames.{names_of};
 ghost use Rattle.ks_fixdep.specs.SourceScan.{found_of, listed_of, names_by};
 ghost use Rattle.ks_tree.specs.Frames.{Counted, Reads};
-ghost use Rattle.ks_tree.specs.Files.{Files, content};
+ghost use Rattle.ks_tree.specs.Files.{Files, SameButBoth, content};
+ghost use Rattle.ks_tree.specs.Paths.{command_path, command_temporary};
 ghost use Rattle.ks_engine.specs.Refusals.{Answers, IsGivenUp};
 ghost use Rattle.ks_engine.specs.Recording.{words, there, with_command};
 ghost use Rattle.ks_engine.specs.Recorded.{RecordPlan, drafted, usual, record_plan_under, IsRecordPlanUnder, IsRecorded, IsRecordRefused};
 ghost use Rattle.ks_engine.specs.Follows.{GoesOn, FollowsRecord};
 ghost use Rattle.ks_engine.specs.Memos.{are_placed, IsMemoOf};
-ghost use Rattle.ks_engine.specs.Drafts.{IsDraft, IsPrepared};
+ghost use Rattle.ks_engine.specs.Drafts.{IsDraft, IsPrepared, drafted_by};
 
 use crate::EngineError;
 use crate::conventions::Conventions;
@@ -113,20 +114,52 @@ fn make_draft(
     })
 }
 
-/// Scans the command of an object whose prerequisites were scanned, where the conventions say so.
-fn scan_command_by(
-    memo: &mut Memo,
-    conventions: Conventions<'_>,
-    command: &[u8],
-) -> Result<(), AllocError>
+/// Scans the command of an object whose prerequisites were scanned, where that is asked for.
+fn scan_command_by(memo: &mut Memo, scans_command: bool, command: &[u8]) -> Result<(), AllocError>
     ensures memo { (files : Files) → IsMemoOf files memo.old → IsMemoOf files memo.new }
     ensures names { IsTrue (are_placed (found_of memo.old.found.scan) memo.old.found.sources.items)
-        → OnOk result (names_by memo.new.found ≡ with_command conventions.entry.scans_command memo.old.rules command.now (names_by memo.old.found)) }
+        → OnOk result (names_by memo.new.found ≡ with_command scans_command memo.old.rules command.now (names_by memo.old.found)) }
 {
-    if conventions.scans_command {
+    if scans_command {
         return memo.scan_command(command);
     }
     Ok(())
+}
+
+/// Drafts the command file of an object that has these prerequisites, by the rules of what is kept.
+fn draft_by<T: Tree>(
+    alloc: Global,
+    tree: &mut T,
+    memo: &mut Memo,
+    scans_command: bool,
+    target: &[u8],
+    command: &[u8],
+    prerequisites: &Prerequisites,
+) -> Result<Draft, EngineError>
+    requires memo { T.is_honest → IsMemoOf (T.files tree.old) memo.old }
+    requires target { IsTrue (is_target target.now) }
+    requires command { IsTrue (is_command command.now) }
+    ensures memo { T.is_honest → IsMemoOf (T.files tree.new) memo.new }
+    ensures reads { Reads T.Tree tree.old tree.new (IsErrOf result EngineError.Device) }
+    ensures passed { OnOk result (T.failures tree.new ≡ T.failures tree.old) }
+    ensures uncounted { IsErrOf result EngineError.OutOfMemory → T.failures tree.new ≡ T.failures tree.old }
+    ensures drafted { T.is_honest → IfOk result (λ d. (plan : RecordPlan)
+        × (drafted_by memo.old.rules scans_command (T.files tree.old) target.now command.now prerequisites.now ≡ Ok plan) × IsLegal plan.file
+        × IsDraft plan d × (plan.names ≡ listed_of memo.new.found)) }
+    ensures refused { T.is_honest → IfErr result (λ e. IsGivenUp e
+        ⊎ (drafted_by memo.old.rules scans_command (T.files tree.old) target.now command.now prerequisites.now ≡ Err e)) }
+{
+    let generation = memo.generation(alloc, tree)?;
+    scan_all_by(alloc, tree, memo, prerequisites)?;
+    scan_command_by(memo, scans_command, command)?;
+    make_draft(
+        alloc,
+        target,
+        command,
+        prerequisites,
+        generation,
+        &mut memo.found,
+    )
 }
 
 /// All steps before the write.
@@ -154,23 +187,51 @@ pub(crate) fn prepare<T: Tree>(
     let text = read_there(alloc, tree, depfile)?;
     let header = conventions.header;
     let prerequisites = read_depfile_without(alloc, Seed::new(tree.seed()), header, &text)?;
-    let generation = memo.generation(alloc, tree)?;
     memo.scan_by(Rules::for_target(conventions.dialect, target));
-    scan_all_by(alloc, tree, memo, &prerequisites)?;
-    scan_command_by(memo, conventions, command)?;
-    let draft = make_draft(
+    let draft = draft_by(
         alloc,
+        tree,
+        memo,
+        conventions.scans_command,
         target,
         command,
         &prerequisites,
-        generation,
-        &mut memo.found,
     )?;
     Ok(Prepared {
         draft,
         depfile: text,
         prerequisites,
     })
+}
+
+/// Writes a command file. It and its temporary file are forgotten before.
+fn write_record_by<T: Tree>(
+    alloc: Global,
+    tree: &mut T,
+    memo: &mut Memo,
+    target: &[u8],
+    text: &[u8],
+) -> Result<(), EngineError>
+    requires memo { T.is_honest → IsMemoOf (T.files tree.old) memo.old }
+    ensures memo { T.is_honest → IsMemoOf (T.files tree.new) memo.new }
+    ensures counted { Counted T.Tree tree.old tree.new (IsErrOf result EngineError.Device) }
+    ensures passed { OnOk result (T.failures tree.new ≡ T.failures tree.old) }
+    ensures uncounted { IsErrOf result EngineError.OutOfMemory → T.failures tree.new ≡ T.failures tree.old }
+    ensures kept { T.aged tree.new ≡ T.aged tree.old }
+    ensures others { T.is_honest → SameButBoth (command_temporary target.now) (command_path target.now) (T.files tree.old) (T.files tree.new) }
+    ensures written { T.is_honest → OnOk result (content (T.files tree.new) (command_path target.now) ≡ Some text.now) }
+    ensures gone { T.is_honest → OnOk result (content (T.files tree.new) (command_temporary target.now) ≡ None) }
+    ensures given { IfErr result IsGivenUp }
+    ensures either { T.is_honest → OnErr result
+        ((content (T.files tree.new) (command_path target.now) ≡ content (T.files tree.old) (command_path target.now))
+        ⊎ (content (T.files tree.new) (command_path target.now) ≡ Some text.now)) }
+{
+    let path = command_path(alloc, target)?;
+    let temporary = command_temporary(alloc, target)?;
+    memo.forget(&temporary);
+    memo.forget(&path);
+    replace(alloc, tree, &temporary, &path, text)?;
+    Ok(())
 }
 
 /// Records an object, by what was read before and what is still to be read.
@@ -198,11 +259,7 @@ pub(crate) fn record_by<T: Tree>(
         scans_command: false,
     };
     let prepared = prepare(alloc, tree, memo, conventions, depfile, target, command)?;
-    let path = command_path(alloc, target)?;
-    let temporary = command_temporary(alloc, target)?;
-    memo.forget(&temporary);
-    memo.forget(&path);
-    replace(alloc, tree, &temporary, &path, &prepared.draft.text)?;
+    write_record_by(alloc, tree, memo, target, &prepared.draft.text)?;
     Ok(prepared.draft.answer)
 }
 

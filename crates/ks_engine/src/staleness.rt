@@ -113,6 +113,22 @@ fn ask_built<T: Tree>(
     Ok(BuildState::Verdict(judged.verdict))
 }
 
+/// Whether an object is stale, by what was read before and what is still to be read.
+fn stale_by<T: Tree>(
+    alloc: Global,
+    tree: &mut T,
+    memo: &mut Memo,
+    target: &[u8],
+) -> Result<Verdict, EngineError>
+    requires memo { T.is_honest → IsMemoOf (T.files tree.old) memo.old }
+    ensures reads { Reads T.Tree tree.old tree.new (IsErrOf result EngineError.Device) }
+    ensures uncounted { IsErrOf result EngineError.OutOfMemory → T.failures tree.new ≡ T.failures tree.old }
+    ensures answer { T.is_honest → IsAnswerOn (T.files tree.old) target.now result }
+{
+    let answer = ask(alloc, tree, memo, Question::Stale, target)?;
+    Ok(answer.verdict)
+}
+
 /// Whether an object is stale. It writes nothing.
 pub fn stale<T: Tree>(alloc: Global, tree: &mut T, target: &[u8]) -> Result<Verdict, EngineError>
     ensures reads { Reads T.Tree tree.old tree.new (IsErrOf result EngineError.Device) }
@@ -123,8 +139,7 @@ pub fn stale<T: Tree>(alloc: Global, tree: &mut T, target: &[u8]) -> Result<Verd
     ensures recorded { T.is_honest → JudgesRecorded (T.files tree.old) target.now result }
 {
     let mut memo = Memo::with_seed(alloc, Seed::new(tree.seed()));
-    let answer = ask(alloc, tree, &mut memo, Question::Stale, target)?;
-    Ok(answer.verdict)
+    stale_by(alloc, tree, &mut memo, target)
 }
 
 /// Whether an object was built by this command, and whether it is stale. It writes nothing.

@@ -1,5 +1,5 @@
 use Rattle.ks_engine.proofs.Prelude.{◌≡◌, ◌≤◌, length, take, map, vec_len, vec_capacity, action, FileRun, state, IsMemoOf}
-use Rattle.ks_engine.proofs.commands.run.Given as goal
+use Rattle.ks_engine.proofs.commands.answer_all.Given as goal
 
 -- the commands so far have a run with the replies so far, and there is room for the other replies
 abbrev pub invariant-loop-command : goal.invariant-loop-command

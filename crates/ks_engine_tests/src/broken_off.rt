@@ -1,7 +1,7 @@
 //! One synchronisation broken off at each of its calls, in both ways in which a call fails: what it leaves, what is then said of an
 //! object, and what comes of it where it is tried again, or where the object is recorded and the first configuration comes back.
 use crate::golden::*;
-use crate::steps::{Step, answer, example, play};
+use crate::steps::{Step, answer, check, check_text, example, play};
 use ks_tree::{FuseMode, FuseTree, MemoryTree, Tree};
 use std::alloc::{AllocError, Global};
 use std::process::Abort;
@@ -68,6 +68,20 @@ fn definitions(alloc: Global, header: &str, name: &str) -> Result<String, AllocE
     Ok(found)
 }
 
+/// Two headers define a name alike.
+fn check_definitions(
+    rt: &impl Abort,
+    alloc: Global,
+    name: &str,
+    now: &str,
+    then: &str,
+) -> Result<(), AllocError> {
+    let now = definitions(alloc, now, name)?;
+    let then = definitions(alloc, then, name)?;
+    check_text(rt, name, now.as_str(), then.as_str());
+    Ok(())
+}
+
 /// Asks of the object, and holds that against what is wanted. Where it is fresh, the header defines each of its names as the
 /// header at its record did.
 fn ask(
@@ -81,9 +95,7 @@ fn ask(
     if want == "fresh" {
         let header = answer(alloc, tree, Step::Read("include/generated/autoconf.h"))?;
         for name in ["A", "B", "C"] {
-            let now = definitions(alloc, header.as_str(), name)?;
-            let then = definitions(alloc, recorded, name)?;
-            assert!(rt; now == then, "{name}");
+            check_definitions(rt, alloc, name, header.as_str(), recorded)?;
         }
     }
     Ok(())
@@ -313,9 +325,9 @@ fn half_length(
 fn temporary_files_that_are_half_written(rt: HostRuntime) -> Result<(), AllocError> {
     for &(passes, temporary, length) in HALF_WRITTEN {
         let all_fail = half_length(&rt, rt.alloc(), passes, None, temporary)?;
-        assert_eq!(rt; all_fail, length, "{temporary}");
+        check(&rt, temporary, all_fail == length);
         let one_fails = half_length(&rt, rt.alloc(), passes, Some(1), temporary)?;
-        assert_eq!(rt; one_fails, length, "{temporary}");
+        check(&rt, temporary, one_fails == length);
     }
     Ok(())
 }

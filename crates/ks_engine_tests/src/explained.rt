@@ -2,7 +2,7 @@
 ghost use Rattle.ks_engine.specs.Memos.{IsMemoOf};
 
 use crate::golden::*;
-use crate::steps::{Step, play, text, verdict_text};
+use crate::steps::{Step, check_text, play, text, verdict_text};
 use ks_engine::{Cause, EngineError, Explanation, Memo, Question, ask, explain};
 use ks_tree::{MemoryTree, Tree};
 use std::alloc::{AllocError, Global};
@@ -67,7 +67,7 @@ fn check_step<T: Tree>(
 ) -> Result<(), AllocError> {
     play(rt, alloc, tree, &[(step, want)])?;
     let why = told(alloc, &explain(alloc, tree, b"x.o"))?;
-    assert_eq!(rt; why.as_str(), explained, "after {want}");
+    check_text(rt, want, why.as_str(), explained);
     Ok(())
 }
 
@@ -109,9 +109,9 @@ fn check_whys(
     [first, second, last]: [Result<String, AllocError>; 3],
 ) -> Result<(), AllocError> {
     let (first, second, last) = (first?, second?, last?);
-    assert_eq!(rt; first.as_str(), "stale A; A 2 x.c; B 2 x.c");
-    assert_eq!(rt; second.as_str(), "stale A; A 2 b.h; B 2 a.h");
-    assert_eq!(rt; last.as_str(), "21 BadPath token 0");
+    check_text(rt, "x.o", first.as_str(), "stale A; A 2 x.c; B 2 x.c");
+    check_text(rt, "y.o", second.as_str(), "stale A; A 2 b.h; B 2 a.h");
+    check_text(rt, "a$b", last.as_str(), "21 BadPath token 0");
     Ok(())
 }
 

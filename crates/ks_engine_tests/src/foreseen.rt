@@ -3,7 +3,7 @@
 ghost use Rattle.ks_engine.specs.Memos.{IsMemoOf};
 
 use crate::golden::*;
-use crate::steps::{Step, answer, play, report_text, verdict_text};
+use crate::steps::{Step, answer, check_text, play, report_text, verdict_text};
 use ks_engine::{Impact, Memo, Question, ask};
 use ks_symbols::{Dialect, Kconfig};
 use ks_tree::{MemoryTree, Tree};
@@ -97,9 +97,9 @@ fn check_row<T: Tree>(
     (dotconfig, want): (&str, &str),
 ) -> Result<(), AllocError> {
     let told = foreseen(alloc, tree, dotconfig)?;
-    assert_eq!(rt; told.as_str(), want, "before {dotconfig:?}");
+    check_text(rt, "before", told.as_str(), want);
     let came = synced(alloc, tree, dotconfig)?;
-    assert_eq!(rt; came.as_str(), want, "after {dotconfig:?}");
+    check_text(rt, "after", came.as_str(), want);
     Ok(())
 }
 

@@ -156,6 +156,22 @@ pub(crate) fn answer<T: Tree>(
     }
 }
 
+/// What is said of a row is so. The assertions stand here and in the next call, since one in the function of a test costs its proof
+/// more than the call does.
+pub(crate) fn check(rt: &impl Abort, row: &str, is_so: bool) {
+    assert!(rt; is_so, "{row}");
+}
+
+/// A row has this text.
+pub(crate) fn check_text(rt: &impl Abort, row: &str, found: &str, want: &str) {
+    assert!(rt; found == want, "{row}: found {found}, wanted {want}");
+}
+
+/// A step comes to this text.
+fn check_step(rt: &impl Abort, place: u64, found: &str, want: &str) {
+    assert!(rt; found == want, "step {place}: found {found}, wanted {want}");
+}
+
 /// Takes the steps one after another, each with what is to come of it.
 pub(crate) fn play<T: Tree>(
     rt: &impl Abort,
@@ -166,7 +182,7 @@ pub(crate) fn play<T: Tree>(
     let mut place = 0_u64;
     for (step, want) in steps {
         let got = answer(alloc, tree, *step)?;
-        assert_eq!(rt; got.as_str(), *want, "step {place}");
+        check_step(rt, place, got.as_str(), *want);
         place = place.saturating_add(1);
     }
     Ok(())

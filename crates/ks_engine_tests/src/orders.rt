@@ -1,4 +1,5 @@
 //! Records played in many orders: each leaves the command files that they leave one after the other.
+use crate::steps::{check, check_text};
 use ks_engine::{EngineError, record_object, sync};
 use ks_parallel::{Job, Recorder, Stage, are_distinct, play, sees};
 use ks_symbols::{Dialect, Kconfig};
@@ -11,7 +12,7 @@ const KCONFIG: &[u8] = b"config A\n\tbool\nconfig B\n\tbool\n";
 const DOTCONFIG: &[u8] = b"CONFIG_A=y\n";
 
 #[rattlefmt::skip]
-const SOURCES: [(&[u8], &[u8]); 6] = [
+const SOURCES: &[(&[u8], &[u8])] = &[
     (b"v.d", b"v.o: a.c\n"),
     (b"w.d", b"w.o: b.c\n"),
     (b"x.d", b"x.o: a.c\n"),
@@ -28,12 +29,12 @@ const JOBS: [Job<'static>; 4] = [
     Job { dialect: Dialect::Linux, depfile: b"y.d", target: b"y.o", command: b"cc y" },
 ];
 
-const COMMAND_FILES: [&[u8]; 4] = [b".v.o.cmd", b".w.o.cmd", b".x.o.cmd", b".y.o.cmd"];
+const COMMAND_FILES: &[&[u8]] = &[b".v.o.cmd", b".w.o.cmd", b".x.o.cmd", b".y.o.cmd"];
 
 /// A tree after a synchronisation.
 fn begun(rt: &impl Abort, alloc: Global) -> MemoryTree {
     let mut tree = MemoryTree::new(alloc);
-    for (path, bytes) in SOURCES {
+    for &(path, bytes) in SOURCES {
         tree.write(alloc, path, bytes).expect(rt, "a source");
     }
     let kconfig = Kconfig::new(Dialect::Linux, KCONFIG);
@@ -44,7 +45,7 @@ fn begun(rt: &impl Abort, alloc: Global) -> MemoryTree {
 /// The tree after the records, one after the other.
 fn recorded(rt: &impl Abort, alloc: Global) -> MemoryTree {
     let mut tree = begun(rt, alloc);
-    for job in JOBS {
+    for job in &JOBS {
         record_object(
             alloc,
             &mut tree,
@@ -120,7 +121,7 @@ fn two_records_in_each_order(rt: HostRuntime) -> Result<(), AllocError> {
             orders = orders.saturating_add(1);
         }
     }
-    assert_eq!(&rt; orders, 252);
+    check(&rt, "all orders", orders == 252);
     Ok(())
 }
 
@@ -182,14 +183,18 @@ fn four_records_with_a_failing_call(rt: HostRuntime) -> Result<(), AllocError> {
             _ => {}
         }
     }
-    assert_eq!(&rt; all_done.saturating_add(one_failed), 1000);
-    assert!(&rt; one_failed > 100);
+    check(
+        &rt,
+        "all or all but one",
+        all_done.saturating_add(one_failed) == 1000,
+    );
+    check(&rt, "all but one", one_failed > 100);
     Ok(())
 }
 
 /// A file that is missing, and with what a process is refused for that.
 #[rattlefmt::skip]
-const REFUSALS: [(&[u8], &str); 3] = [
+const REFUSALS: &[(&[u8], &str)] = &[
     (b"v.d", "40 MissingFile v.d"),
     (b"include/config/auto.conf", "41 NeverSynced"),
     (b"a.c", "40 MissingFile a.c"),
@@ -226,23 +231,31 @@ fn refused_as_alone(rt: HostRuntime) -> Result<(), AllocError> {
     if !are_distinct(jobs) {
         return Ok(());
     }
-    for (missing, wanted) in REFUSALS {
+    for &(missing, want) in REFUSALS {
         let mut tree = begun_without(&rt, alloc, missing);
         let recorders = play(alloc, &mut tree, jobs, &[0; 6])?;
         let told = refusal(alloc, &recorders)?;
-        assert_eq!(&rt; told.as_str(), wanted);
+        check_text(&rt, "a missing file", told.as_str(), want);
     }
     Ok(())
 }
+
+/// A path, and whether the first of two processes sees it.
+const SEEN: &[(&[u8], bool)] = &[
+    (b".v.o.cmd", true),
+    (b"b.c", true),
+    (b".w.o.cmd", false),
+    (b".w.o.cmd.tmp", false),
+];
 
 /// A process sees all but the two files that are written for the target of the other.
 #[test]
 fn seen_by_one_of_two(rt: HostRuntime) -> Result<(), AllocError> {
     let alloc = rt.alloc();
     let jobs = &JOBS[..2];
-    assert!(&rt; sees(alloc, jobs, 0, b".v.o.cmd")?);
-    assert!(&rt; sees(alloc, jobs, 0, b"b.c")?);
-    assert!(&rt; !sees(alloc, jobs, 0, b".w.o.cmd")?);
-    assert!(&rt; !sees(alloc, jobs, 0, b".w.o.cmd.tmp")?);
+    for &(path, is_seen) in SEEN {
+        let found = sees(alloc, jobs, 0, path)?;
+        check(&rt, "a path", found == is_seen);
+    }
     Ok(())
 }

@@ -1,4 +1,5 @@
 //! Command files as they stand on disk: read, written, cut and damaged.
+use crate::check::{check, check_text};
 use bstr::ByteSlice;
 use ks_fixdep::{CommandError, CommandFile, Dep, command_is_legal, read_command, write_command};
 use ks_symbols::MAX_BYTES;
@@ -97,7 +98,11 @@ fn written_again(
 #[test]
 fn a_command_file_is_read_and_written_again(rt: HostRuntime) -> Result<(), Fail> {
     let out = written_again(rt.alloc(), WORKED, Some(1))?;
-    assert!(rt; out.strip_prefix(b"before ") == Some(WORKED));
+    check(
+        &rt,
+        "as it stands",
+        out.strip_prefix(b"before ") == Some(WORKED),
+    );
     Ok(())
 }
 
@@ -105,7 +110,11 @@ fn a_command_file_is_read_and_written_again(rt: HostRuntime) -> Result<(), Fail>
 fn a_command_file_without_a_generation_too(rt: HostRuntime) -> Result<(), Fail> {
     let unnumbered = WORKED.replace(rt.alloc(), b"#generation 1\n", b"")?;
     let out = written_again(rt.alloc(), &unnumbered, None)?;
-    assert!(rt; out.strip_prefix(b"before ") == Some(unnumbered.as_slice()));
+    check(
+        &rt,
+        "unnumbered",
+        out.strip_prefix(b"before ") == Some(unnumbered.as_slice()),
+    );
     Ok(())
 }
 
@@ -255,7 +264,7 @@ const REFUSALS: &[(CommandError, &str)] = &[
 fn refusals_tell_their_number_and_line(rt: HostRuntime) -> Result<(), Fail> {
     for (error, want) in REFUSALS {
         let text = error.to_string(rt.alloc())?;
-        assert_eq!(rt; text.as_str(), *want);
+        check_text(&rt, "a refusal", text.as_str(), *want);
     }
     Ok(())
 }
@@ -271,6 +280,6 @@ const COMMANDS: &[(&str, bool)] = &[
 #[test]
 fn a_command_is_one_line(rt: HostRuntime) {
     for &(command, legal) in COMMANDS {
-        assert_eq!(rt; command_is_legal(command.as_bytes()), legal, "{command}");
+        check(&rt, command, command_is_legal(command.as_bytes()) == legal);
     }
 }

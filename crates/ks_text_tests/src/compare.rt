@@ -1,4 +1,5 @@
 //! Worked comparisons: an old auto.conf, new settings, and the names that changed.
+use crate::check::check_text;
 use ks_compare::changed;
 use ks_output::{OldConfig, read_auto};
 use ks_symbols::{Dialect, Kconfig, Name, Settings, Symbols, read_dotconfig, read_kconfig};
@@ -72,9 +73,9 @@ fn first_changes(alloc: Global, dotconfig: &[u8]) -> Result<String, AllocError> 
 #[test]
 fn first_comparison(rt: HostRuntime) -> Result<(), AllocError> {
     let found = first_changes(rt.alloc(), b"CONFIG_B=m\nCONFIG_A=y\n")?;
-    assert!(rt; found.as_str() == "A B ");
+    check_text(&rt, "two lines", found.as_str(), "A B ");
     let found = first_changes(rt.alloc(), b"")?;
-    assert!(rt; found.is_empty());
+    check_text(&rt, "no line", found.as_str(), "");
     Ok(())
 }
 
@@ -112,7 +113,7 @@ fn comparisons(rt: HostRuntime) -> Result<(), AllocError> {
     let alloc = rt.alloc();
     for &(name, auto, dotconfig, want) in COMPARISONS {
         let found = compared(alloc, auto, dotconfig)?;
-        assert!(rt; found.as_str() == want, "{name}: {found}");
+        check_text(&rt, name, found.as_str(), want);
     }
     Ok(())
 }
@@ -157,8 +158,8 @@ fn changes_of_thousand(alloc: Global, missing: u32) -> Result<String, AllocError
 fn a_thousand_falling_symbols(rt: HostRuntime) -> Result<(), AllocError> {
     let alloc = rt.alloc();
     let found = changes_of_thousand(alloc, 500)?;
-    assert!(rt; found.as_str() == "S0500 ", "{found}");
+    check_text(&rt, "one in the middle", found.as_str(), "S0500 ");
     let found = changes_of_thousand(alloc, 1000)?;
-    assert!(rt; found.as_str() == "", "{found}");
+    check_text(&rt, "none", found.as_str(), "");
     Ok(())
 }

@@ -1,6 +1,7 @@
 //! Texts with known names in U-Boot, in BusyBox and in coreboot, in pieces of several sizes.
 ghost use Rattle.std.specs.Prelude.{◌<◌};
 
+use crate::check::{check_bytes, check_cut};
 use crate::fixdep::{in_pieces, note_source};
 use ks_fixdep::{
     DepError, Header, NamesBySource, Prerequisites, Rules, Seed, listed_names, read_depfile,
@@ -67,7 +68,7 @@ fn check_names(
 ) -> Result<(), Fail> {
     for size in [1, 7, 4096] {
         let all = names_by(alloc, rules, text, size)?;
-        assert_eq!(rt; all.as_slice(), want, "in pieces of {size}");
+        check_cut(rt, size, &all, want);
     }
     Ok(())
 }
@@ -190,7 +191,7 @@ fn headers_left_out(rt: HostRuntime) -> Result<(), Fail> {
         b"x.o: x.c include/autoconf.h ../include/autoconf.h minclude/autoconf.h include/generated/autoconf.h";
     for &(dialect, want) in FILES_BESIDE_HEADERS {
         let all = files_beside_header(rt.alloc(), dialect, text)?;
-        assert_eq!(rt; all.as_slice(), want);
+        check_bytes(&rt, "files beside headers", &all, want);
     }
     Ok(())
 }

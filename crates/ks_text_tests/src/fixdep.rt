@@ -1,6 +1,7 @@
 //! Texts with known names, whole and in pieces; dependency files; and objects with their command files.
 ghost use Rattle.std.specs.Prelude.{◌<◌};
 
+use crate::check::{check, check_bytes, check_cut, check_text};
 use crate::golden;
 use ks_fixdep::{
     CommandFile, DepError, FoundNames, NamesBySource, Prerequisites, Role, Scanner, Seed, build,
@@ -104,7 +105,7 @@ const PLACED_NAMES: &[(&str, &[u8], &[u8])] = &[
 fn names_stand_at_their_places(rt: HostRuntime) -> Result<(), Fail> {
     for &(name, text, want) in PLACED_NAMES {
         let all = with_places(rt.alloc(), text)?;
-        assert_eq!(rt; all.as_slice(), want, "{name}");
+        check_bytes(&rt, name, &all, want);
     }
     Ok(())
 }
@@ -137,10 +138,10 @@ fn check_long_name(
         Some(letters) => (Some((0, letters)), letters.saturating_add(1)),
         None => (None, 0),
     };
-    assert_eq!(rt; first_name(text), first);
+    check(rt, "the first name", first_name(text) == first);
     for size in [1, 7, 142, 4096] {
         let all = borrowed_in(alloc, text, size)?;
-        assert_eq!(rt; all.len(), length, "{letters:?} in pieces of {size}");
+        check(rt, "its length in pieces", all.len() == length);
     }
     Ok(())
 }
@@ -168,7 +169,7 @@ const SOURCES_IN_PIECES: &[(&str, &[&[u8]], &[u8])] = &[
 fn pieces_of_all_sizes_borrow_the_same_names(rt: HostRuntime) -> Result<(), Fail> {
     for &(name, pieces, want) in SOURCES_IN_PIECES {
         let all = borrowed(rt.alloc(), pieces)?;
-        assert_eq!(rt; all.as_slice(), want, "{name}");
+        check_bytes(&rt, name, &all, want);
     }
     Ok(())
 }
@@ -253,10 +254,7 @@ fn record_of_names(alloc: Global, names: &[u8]) -> Result<Vec<u8>, AllocError> {
 fn a_short_source_in_pieces(rt: HostRuntime) -> Result<(), Fail> {
     for size in [1, 7, 4096] {
         let all = borrowed_in(rt.alloc(), b"int CONFIG_ALPHA;", size)?;
-        assert!(rt;
-            all.as_slice() == b"ALPHA ".as_slice(),
-            "in pieces of {size}"
-        );
+        check_cut(&rt, size, &all, b"ALPHA ");
     }
     Ok(())
 }
@@ -265,10 +263,7 @@ fn a_short_source_in_pieces(rt: HostRuntime) -> Result<(), Fail> {
 fn names_cut_at_each_byte(rt: HostRuntime) -> Result<(), Fail> {
     for size in 1..=300usize {
         let all = borrowed_in(rt.alloc(), golden::BORDERS, size)?;
-        assert!(rt;
-            all.as_slice() == golden::BORDER_NAMES,
-            "in pieces of {size}"
-        );
+        check_cut(&rt, size, &all, golden::BORDER_NAMES);
     }
     Ok(())
 }
@@ -278,7 +273,7 @@ fn names_cut_at_each_byte_are_listed_once(rt: HostRuntime) -> Result<(), Fail> {
     let want = record_of_names(rt.alloc(), golden::BORDER_NAMES_ONCE)?;
     for size in 1..=300usize {
         let text = record_in_pieces(rt.alloc(), golden::BORDERS, size)?;
-        assert!(rt; text == want, "in pieces of {size}");
+        check_cut(&rt, size, &text, &want);
     }
     Ok(())
 }
@@ -286,7 +281,7 @@ fn names_cut_at_each_byte_are_listed_once(rt: HostRuntime) -> Result<(), Fail> {
 #[test]
 fn names_in_no_pieces(rt: HostRuntime) -> Result<(), Fail> {
     let whole = all_names(rt.alloc(), golden::BORDERS)?;
-    assert!(rt; whole.as_slice() == golden::BORDER_NAMES);
+    check_bytes(&rt, "in no pieces", &whole, golden::BORDER_NAMES);
     Ok(())
 }
 
@@ -300,7 +295,7 @@ fn borrowed_over_a_border(alloc: Global) -> Result<Vec<u8>, AllocError> {
 #[test]
 fn a_name_over_a_border(rt: HostRuntime) -> Result<(), Fail> {
     let all = borrowed_over_a_border(rt.alloc())?;
-    assert!(rt; all.as_slice() == b"ALPHA ".as_slice());
+    check_bytes(&rt, "over a border", &all, b"ALPHA ");
     Ok(())
 }
 
@@ -317,11 +312,11 @@ fn note_each(found: &mut FoundNames, names: &[&[u8]]) -> Result<(), AllocError> 
 #[test]
 fn a_name_is_noted_once(rt: HostRuntime) -> Result<(), Fail> {
     let mut found = FoundNames::new(rt.alloc());
-    assert!(rt; found.is_empty());
+    check(&rt, "none yet", found.is_empty());
     note_each(&mut found, &[b"B", b"A", b"B", b"C"])?;
-    assert_eq!(rt; found.len(), 3);
+    check(&rt, "three", found.len() == 3);
     let all = spelled(rt.alloc(), &found)?;
-    assert_eq!(rt; all.as_slice(), b"B A C ".as_slice());
+    check_bytes(&rt, "in turn", &all, b"B A C ");
     Ok(())
 }
 
@@ -353,8 +348,9 @@ fn many_names(alloc: Global) -> Result<Vec<u8>, AllocError> {
 fn many_names_are_noted_once(rt: HostRuntime) -> Result<(), AllocError> {
     let mut found = FoundNames::new(rt.alloc());
     note_many(rt.alloc(), &mut found)?;
-    assert_eq!(rt; found.len(), MANY);
-    assert!(rt; spelled(rt.alloc(), &found)? == many_names(rt.alloc())?);
+    check(&rt, "many", found.len() == MANY);
+    let (all, want) = (spelled(rt.alloc(), &found)?, many_names(rt.alloc())?);
+    check(&rt, "in turn", all == want);
     Ok(())
 }
 
@@ -415,7 +411,7 @@ const DEPENDENCY_FILES: &[(&str, &[u8], &[u8])] = &[
 fn prerequisites_have_their_roles_by_place(rt: HostRuntime) -> Result<(), Fail> {
     for &(name, text, want) in DEPENDENCY_FILES {
         let read = prerequisites(rt.alloc(), text)?;
-        assert_eq!(rt; read.as_slice(), want, "{name}");
+        check_bytes(&rt, name, &read, want);
     }
     Ok(())
 }
@@ -441,18 +437,23 @@ fn many_prerequisites(alloc: Global, rounds: usize) -> Result<Vec<u8>, AllocErro
 #[test]
 fn many_files_are_listed_once(rt: HostRuntime) -> Result<(), AllocError> {
     let once = many_prerequisites(rt.alloc(), 1)?;
-    assert!(rt; once.starts_with(b"Sx.c +d/0.h +d/1.h ") && once.ends_with(b" +d/4999.h "));
+    check(
+        &rt,
+        "the first ones",
+        once.starts_with(b"Sx.c +d/0.h +d/1.h "),
+    );
+    check(&rt, "the last one", once.ends_with(b" +d/4999.h "));
     let thrice = many_prerequisites(rt.alloc(), 3)?;
-    assert!(rt; thrice == once);
+    check(&rt, "three times", thrice == once);
     Ok(())
 }
 
 #[test]
 fn tokens_by_their_numbers(rt: HostRuntime) {
     let text = b"x.o: y.o:\r\n\tx.c \\\r\n a#";
-    assert!(rt; token_at(text, 1) == Some(b"x.o:".as_slice()));
-    assert!(rt; token_at(text, 4) == Some(b"a#".as_slice()));
-    assert!(rt; token_at(text, 5).is_none());
+    check(&rt, "1", token_at(text, 1) == Some(b"x.o:".as_slice()));
+    check(&rt, "4", token_at(text, 4) == Some(b"a#".as_slice()));
+    check(&rt, "5", token_at(text, 5).is_none());
 }
 
 /// The last cut of each row, what is settled there, and where the path begins that is cut.
@@ -497,7 +498,7 @@ fn each_cut_of_a_dependency_file_is_read_or_refused(rt: HostRuntime) -> Result<(
         let text = &golden::DEPFILE[..end];
         let want = read_of_cut(rt.alloc(), text)?;
         let read = prerequisites(rt.alloc(), text)?;
-        assert!(rt; read == want, "cut at {end}");
+        check_cut(&rt, end, &read, &want);
     }
     Ok(())
 }
@@ -507,10 +508,10 @@ fn a_dependency_file_may_have_64_mebibytes(rt: HostRuntime) -> Result<(), Fail> 
     let mut text = vec![in rt.alloc(); b' '; MAX_BYTES - 8]?;
     text.extend_from_slice(b"x.o: x.c")?;
     let read = prerequisites(rt.alloc(), &text)?;
-    assert_eq!(rt; read.as_slice(), b"Sx.c ".as_slice());
+    check_bytes(&rt, "as much as may be", &read, b"Sx.c ");
     text.push(b'c')?;
     let read = prerequisites(rt.alloc(), &text)?;
-    assert_eq!(rt; read.as_slice(), b"9 TooLarge".as_slice());
+    check_bytes(&rt, "a byte more", &read, b"9 TooLarge");
     Ok(())
 }
 
@@ -658,7 +659,7 @@ fn objects_have_their_command_files(rt: HostRuntime) -> Result<(), Fail> {
     let words = (b"x.o".as_slice(), b"cc -c x.c".as_slice());
     for &(name, depfile, texts, want) in OBJECTS {
         let text = command_text(rt.alloc(), depfile, words, texts)?;
-        assert_eq!(rt; text.as_slice(), want, "{name}");
+        check_bytes(&rt, name, &text, want);
     }
     Ok(())
 }
@@ -684,7 +685,7 @@ const FAULTY_WORDS: &[(&str, &[u8], &[u8], &str)] = &[
 fn a_target_and_a_command_are_checked_in_this_order(rt: HostRuntime) -> Result<(), AllocError> {
     for &(name, target, command, want) in FAULTY_WORDS {
         let refusal = refusal_of(rt.alloc(), target, command)?;
-        assert_eq!(rt; refusal.as_str(), want, "{name}");
+        check_text(&rt, name, refusal.as_str(), want);
     }
     Ok(())
 }
@@ -702,7 +703,7 @@ const REFUSALS: &[(DepError, &str)] = &[
 fn refusals_have_their_texts(rt: HostRuntime) -> Result<(), Fail> {
     for (refusal, want) in REFUSALS {
         let text = refusal.to_string(rt.alloc())?;
-        assert_eq!(rt; text.as_str(), *want);
+        check_text(&rt, "a refusal", text.as_str(), *want);
     }
     Ok(())
 }

@@ -1,4 +1,5 @@
 //! Worked examples: whole files as they are written, and what is read of others.
+use crate::check::{check, check_cut, check_text};
 use crate::compare::lines_falling;
 use ks_output::{OldConfig, read_auto, read_auto_generation, write_auto, write_header};
 use ks_symbols::{Class, Dialect, Kconfig, Settings, Symbols, read_dotconfig, read_kconfig};
@@ -114,8 +115,8 @@ fn is_made_of(text: &[u8], pieces: &[&[u8]]) -> bool {
 
 /// The files are made of these pieces.
 fn check_files(rt: &impl Abort, name: &str, files: &Written, auto: &[&[u8]], header: &[&[u8]]) {
-    assert!(rt; is_made_of(&files.auto, auto), "auto.conf of {name}");
-    assert!(rt; is_made_of(&files.header, header), "header of {name}");
+    check(rt, name, is_made_of(&files.auto, auto));
+    check(rt, name, is_made_of(&files.header, header));
 }
 
 #[test]
@@ -124,7 +125,8 @@ fn files_of_switches(rt: HostRuntime) -> Result<(), AllocError> {
     let auto = [b"auto:", SWITCHES_AUTO];
     let header = [b"header:", SWITCHES_HEADER];
     check_files(&rt, "switches", &files, &auto, &header);
-    assert!(rt; files.auto.len() == 5 + 99 && files.header.len() == 7 + 106);
+    check(&rt, "auto.conf", files.auto.len() == 5 + 99);
+    check(&rt, "the header", files.header.len() == 7 + 106);
     Ok(())
 }
 
@@ -221,7 +223,7 @@ fn a_thousand_falling_symbols_are_written_rising(rt: HostRuntime) -> Result<(), 
     let files = files_of_thousand(rt.alloc())?;
     let rising = lines_rising(rt.alloc())?;
     let want: [&[u8]; 4] = [b"auto:", AUTO_HEAD, rising.as_bytes(), b"#generation 1\n"];
-    assert!(rt; is_made_of(&files.auto, &want));
+    check(&rt, "auto.conf", is_made_of(&files.auto, &want));
     Ok(())
 }
 
@@ -286,7 +288,7 @@ fn is_empty(old: &OldConfig) -> bool {
 #[test]
 fn no_auto_conf_yet(rt: HostRuntime) {
     let none = OldConfig::empty(rt.alloc());
-    assert!(rt; is_empty(&none));
+    check(&rt, "no auto.conf", is_empty(&none));
 }
 
 #[rattlefmt::skip]
@@ -320,7 +322,7 @@ fn readings(rt: HostRuntime) -> Result<(), AllocError> {
     let alloc = rt.alloc();
     for &(name, auto, want) in READINGS {
         let found = said(alloc, auto)?;
-        assert!(rt; found.as_str() == want, "{name}: {found}");
+        check_text(&rt, name, found.as_str(), want);
     }
     Ok(())
 }
@@ -376,7 +378,7 @@ fn typed_readings(rt: HostRuntime) -> Result<(), AllocError> {
     let alloc = rt.alloc();
     for &(name, auto, want) in TYPED_READINGS {
         let found = said_twice(alloc, auto)?;
-        assert!(rt; found.as_str() == want, "{name}: {found}");
+        check_text(&rt, name, found.as_str(), want);
     }
     Ok(())
 }
@@ -402,7 +404,7 @@ fn said_of_cut(end: usize) -> &'static str {
 fn cut_classes(rt: HostRuntime) -> Result<(), AllocError> {
     for end in 18..=CLASS.len() {
         let found = said_twice(rt.alloc(), &CLASS[..end])?;
-        assert!(rt; found.as_str() == said_of_cut(end), "{end}: {found}");
+        check_cut(&rt, end, found.as_bytes(), said_of_cut(end).as_bytes());
     }
     Ok(())
 }
@@ -411,8 +413,10 @@ fn cut_classes(rt: HostRuntime) -> Result<(), AllocError> {
 fn size_limit(rt: HostRuntime) -> Result<(), AllocError> {
     let alloc = rt.alloc();
     let mut auto = vec![in alloc; b'#'; 67_108_864]?;
-    assert!(rt; said(alloc, &auto)?.as_str() == "#0");
+    let found = said(alloc, &auto)?;
+    check_text(&rt, "as much as may be", found.as_str(), "#0");
     auto.push(b'\n')?;
-    assert!(rt; said(alloc, &auto)?.as_str() == "9 TooLarge");
+    let found = said(alloc, &auto)?;
+    check_text(&rt, "a byte more", found.as_str(), "9 TooLarge");
     Ok(())
 }

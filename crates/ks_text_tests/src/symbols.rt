@@ -1,4 +1,5 @@
 //! Kconfig and `.config` texts as they stand in files, what is read of them, and the rules of names, paths, values and lines.
+use crate::check::{check, check_bytes, check_text};
 use ks_symbols::{
     Dialect, Kconfig, Kind, Name, Path, Settings, SourceError, Statement, Symbols, is_silent,
     name_is_legal, parse_statement, path_is_legal, read_decimal, read_dotconfig, read_kconfig,
@@ -124,7 +125,7 @@ fn kconfigs(rt: HostRuntime) -> Result<(), AllocError> {
     let alloc = rt.alloc();
     for &(name, text, want) in KCONFIGS {
         let found = kconfig_outcome(alloc, &Kconfig::new(Dialect::Linux, text), b"A")?;
-        assert!(rt; found.as_str() == want, "{name}");
+        check_text(&rt, name, found.as_str(), want);
     }
     Ok(())
 }
@@ -170,7 +171,7 @@ fn dotconfigs(rt: HostRuntime) -> Result<(), AllocError> {
     let alloc = rt.alloc();
     for &(name, kconfig, text, want) in DOTCONFIGS {
         let found = dotconfig_outcome(alloc, &Kconfig::new(Dialect::Linux, kconfig), text)?;
-        assert!(rt; found.as_str() == want, "{name}");
+        check_text(&rt, name, found.as_str(), want);
     }
     Ok(())
 }
@@ -194,7 +195,7 @@ fn kconfigs_of_dialects(rt: HostRuntime) -> Result<(), AllocError> {
     let alloc = rt.alloc();
     for &(name, dialect, text, want) in KCONFIGS_OF_DIALECTS {
         let found = kconfig_outcome(alloc, &Kconfig::new(dialect, text), b"A")?;
-        assert!(rt; found.as_str() == want, "{name}: {found}");
+        check_text(&rt, name, found.as_str(), want);
     }
     Ok(())
 }
@@ -220,85 +221,134 @@ fn dotconfigs_of_dialects(rt: HostRuntime) -> Result<(), AllocError> {
     let alloc = rt.alloc();
     for &(name, dialect, kconfig, text, want) in DOTCONFIGS_OF_DIALECTS {
         let found = dotconfig_outcome(alloc, &Kconfig::new(dialect, kconfig), text)?;
-        assert!(rt; found.as_str() == want, "{name}: {found}");
+        check_text(&rt, name, found.as_str(), want);
     }
     Ok(())
 }
 
-fn check_names(rt: &impl Abort) {
-    assert!(rt; name_is_legal(LONGEST), "128 bytes");
-    assert!(rt; !name_is_legal(b"") && !name_is_legal(b"A-B") && name_is_legal(b"_0"));
-}
+#[rattlefmt::skip]
+const NAMES: &[(&str, &[u8], bool)] = &[
+    ("128 bytes",   LONGEST, true),
+    ("no byte",     b"",     false),
+    ("a hyphen",    b"A-B",  false),
+    ("a low line",  b"_0",   true),
+];
 
-fn check_paths(rt: &impl Abort) {
-    assert!(rt; path_is_legal(b"/a/../b.h") && !path_is_legal(b"a b") && !path_is_legal(b"a$b"));
-    assert!(rt; !path_is_legal(b"a:") && path_is_legal(b"a/") && !target_is_legal(b"a/"));
-    assert!(rt; target_is_legal(b"d/x.o") && !path_is_legal(b""));
+#[rattlefmt::skip]
+const PATHS: &[(&str, &[u8], bool)] = &[
+    ("a folder above", b"/a/../b.h", true),
+    ("a space",        b"a b",       false),
+    ("a dollar",       b"a$b",       false),
+    ("a colon",        b"a:",        false),
+    ("a folder",       b"a/",        true),
+    ("no byte",        b"",          false),
+];
+
+#[rattlefmt::skip]
+const TARGETS: &[(&str, &[u8], bool)] = &[
+    ("a folder", b"a/",    false),
+    ("a file",   b"d/x.o", true),
+];
+
+/// Which names, paths and targets are legal.
+fn check_legal(rt: &impl Abort) {
+    for &(row, name, is_legal) in NAMES {
+        check(rt, row, name_is_legal(name) == is_legal);
+    }
+    for &(row, path, is_legal) in PATHS {
+        check(rt, row, path_is_legal(path) == is_legal);
+    }
+    for &(row, target, is_legal) in TARGETS {
+        check(rt, row, target_is_legal(target) == is_legal);
+    }
 }
 
 /// A name and a path, once each: they are the bytes that they were made of.
 fn check_made(rt: &impl Abort, alloc: Global) -> Result<(), AllocError> {
     if name_is_legal(LONGEST) {
         let name = Name::new(alloc, LONGEST)?;
-        assert!(rt; name.as_bytes() == LONGEST.as_slice());
+        check_bytes(rt, "a name", name.as_bytes(), LONGEST);
     }
     let path = b"d/x.o".as_slice();
     if path_is_legal(path) {
         let made = Path::new(alloc, path)?;
-        assert!(rt; made.as_bytes() == path);
+        check_bytes(rt, "a path", made.as_bytes(), path);
     }
     Ok(())
 }
 
 #[test]
 fn names_and_paths(rt: HostRuntime) -> Result<(), AllocError> {
-    check_names(&rt);
-    check_paths(&rt);
+    check_legal(&rt);
     check_made(&rt, rt.alloc())?;
     let mut longer = Vec::from_slice(rt.alloc(), LONGEST)?;
     longer.push(b'N')?;
-    assert!(rt; !name_is_legal(&longer), "129 bytes");
+    check(&rt, "129 bytes", !name_is_legal(&longer));
     Ok(())
 }
 
+#[rattlefmt::skip]
+const VALUES_OF_KINDS: &[(&str, Kind, &[u8], bool)] = &[
+    ("m of a tristate",        Kind::Tristate, b"m",          true),
+    ("m of a bool",            Kind::Bool,     b"m",          false),
+    ("no text",                Kind::Text,     b"",           true),
+    ("two lines of a text",    Kind::Text,     b"a\nb",       false),
+    ("a raw value",            Kind::Raw,      b"\"a\"",      true),
+    ("two lines of a raw one", Kind::Raw,      b"\"a\nb\"",   false),
+    ("y of a flag",            Kind::Flag,     b"y",          true),
+    ("m of a flag",            Kind::Flag,     b"m",          false),
+];
+
 fn check_values(rt: &impl Abort) {
-    assert!(rt; value_is_valid(Kind::Tristate, b"m") && !value_is_valid(Kind::Bool, b"m"));
-    assert!(rt; value_is_valid(Kind::Text, b"") && !value_is_valid(Kind::Text, b"a\nb"));
-    assert!(rt; value_is_valid(Kind::Raw, b"\"a\"") && !value_is_valid(Kind::Raw, b"\"a\nb\""));
-    assert!(rt; value_is_valid(Kind::Flag, b"y") && !value_is_valid(Kind::Flag, b"m"));
+    for &(row, kind, value, is_valid) in VALUES_OF_KINDS {
+        check(rt, row, value_is_valid(kind, value) == is_valid);
+    }
 }
 
 const NO_DECIMALS: &[&[u8]] = &[b"18446744073709551616", b"01", b"", b"1 ", b"+1"];
 
 /// The greatest number is read and written.
 fn check_decimals(rt: &impl Abort, alloc: Global) -> Result<(), AllocError> {
-    assert!(rt; read_decimal(b"18446744073709551615") == Some(u64::MAX));
+    check(
+        rt,
+        "the greatest number",
+        read_decimal(b"18446744073709551615") == Some(u64::MAX),
+    );
     for text in NO_DECIMALS {
-        assert!(rt; read_decimal(text).is_none());
+        check(rt, "no number", read_decimal(text).is_none());
     }
     let mut out = Vec::new(alloc);
     write_decimal(u64::MAX, &mut out)?;
-    assert!(rt; out.as_slice() == b"18446744073709551615".as_slice());
+    check_bytes(rt, "the greatest number", &out, b"18446744073709551615");
     Ok(())
 }
 
+fn assigns(line: &[u8], name: &[u8], value: &[u8]) -> bool {
+    match parse_statement(line) {
+        Some(Statement::Assigns(found, text)) => found == name && text == value,
+        _ => false,
+    }
+}
+
+fn unsets(line: &[u8], name: &[u8]) -> bool {
+    match parse_statement(line) {
+        Some(Statement::Unsets(found)) => found == name,
+        _ => false,
+    }
+}
+
 fn check_statements(rt: &impl Abort) {
-    assert!(rt;
-        matches!(
-            parse_statement(b"CONFIG_A=y=z"),
-            Some(Statement::Assigns(b"A", b"y=z"))
-        )
+    check(rt, "an assignment", assigns(b"CONFIG_A=y=z", b"A", b"y=z"));
+    check(rt, "unset", unsets(b"# CONFIG_A is not set", b"A"));
+    check(rt, "no name", parse_statement(b"CONFIG_=y").is_none());
+    check(
+        rt,
+        "no set",
+        parse_statement(b"# CONFIG_A is not").is_none(),
     );
-    assert!(rt;
-        matches!(
-            parse_statement(b"# CONFIG_A is not set"),
-            Some(Statement::Unsets(b"A"))
-        )
-    );
-    assert!(rt;
-        parse_statement(b"CONFIG_=y").is_none() && parse_statement(b"# CONFIG_A is not").is_none()
-    );
-    assert!(rt; is_silent(b"") && is_silent(b"#") && !is_silent(b" "));
+    check(rt, "no byte", is_silent(b""));
+    check(rt, "a comment", is_silent(b"#"));
+    check(rt, "a blank", !is_silent(b" "));
 }
 
 #[test]
@@ -309,14 +359,18 @@ fn values_and_lines(rt: HostRuntime) -> Result<(), AllocError> {
 }
 
 fn check_symbols(rt: &impl Abort, symbols: &Symbols) {
-    assert!(rt;
-        symbols.kind_of(b"H") == Some(Kind::Hex) && symbols.title() == b"Main menu".as_slice()
-    );
+    check(rt, "H", symbols.kind_of(b"H") == Some(Kind::Hex));
+    check_bytes(rt, "the title", symbols.title(), b"Main menu");
 }
 
 fn check_settings(rt: &impl Abort, settings: &Settings) {
-    assert!(rt; matches!(settings.get(b"S"), Some((Kind::Text, b"a"))));
-    assert!(rt; settings.get(b"I").is_none() && settings.get(b"T").is_none());
+    check(
+        rt,
+        "S",
+        matches!(settings.get(b"S"), Some((Kind::Text, b"a"))),
+    );
+    check(rt, "I", settings.get(b"I").is_none());
+    check(rt, "T", settings.get(b"T").is_none());
 }
 
 #[test]

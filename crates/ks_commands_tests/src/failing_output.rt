@@ -1,7 +1,7 @@
 //! An output that fails: the command's work on the tree stays done, the refusal is told where that goes, and the
 //! status is 2 also where it doesn't.
 use crate::golden::{AUTO, COMMAND_FILE};
-use crate::steps::{Run, Step as Told, play, run_onto, run_over, shown, world};
+use crate::steps::{Run, Step as Told, check, check_text, play, run_onto, run_over, shown, world};
 use ks_streams::{Step, WriteFault};
 use ks_symbols::Dialect;
 use ks_tree::Aging;
@@ -51,12 +51,12 @@ fn run_broken_off<T: Aging>(
 
 /// The command is refused for its output, of which those bytes came that were let through.
 fn check_refused(rt: &impl Abort, run: &Run, passes: usize, place: &str) {
-    assert_eq!(rt; run.status, 2, "{place}");
-    assert_eq!(rt; run.out.len(), passes, "{place}");
-    assert_eq!(rt;
-        run.err.as_slice(),
-        b"confstamp: 51 Output\n".as_slice(),
-        "{place}"
+    check(rt, place, run.status == 2);
+    check(rt, place, run.out.len() == passes);
+    check(
+        rt,
+        place,
+        run.err.as_slice() == b"confstamp: 51 Output\n".as_slice(),
     );
 }
 
@@ -74,7 +74,7 @@ fn break_off<T: Aging>(
     let run = run_broken_off(alloc, tree, words, passes)?;
     check_refused(rt, &run, passes, &place);
     let left = shown(alloc, tree, case.path)?;
-    assert_eq!(rt; left.as_str(), case.holds, "{place}");
+    check_text(rt, &place, left.as_str(), case.holds);
     Ok(())
 }
 
@@ -126,7 +126,7 @@ fn both_outputs_that_fail(rt: HostRuntime) -> Result<(), Fail> {
     for passes in 0..40 {
         let mut tree = world(&rt, rt.alloc())?;
         let status = status_broken_off(rt.alloc(), &mut tree, passes)?;
-        assert_eq!(rt; status, 2, "{passes}");
+        check(&rt, "both fail", status == 2);
     }
     Ok(())
 }
@@ -171,7 +171,7 @@ fn answers_of_an_output(rt: HostRuntime) -> Result<(), Fail> {
         let mut tree = world(&rt, rt.alloc())?;
         play(&rt, rt.alloc(), &mut tree, SYNCED)?;
         let found = said(rt.alloc(), &mut tree, &["sync", "K1", "c1"], script)?;
-        assert_eq!(rt; found.as_str(), *want, "{place}");
+        check_text(&rt, *place, found.as_str(), *want);
     }
     Ok(())
 }

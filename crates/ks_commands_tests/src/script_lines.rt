@@ -1,4 +1,5 @@
 //! Scripts as they stand in files, and what is read of them.
+use crate::steps::{check, check_text};
 use ks_requests::{ScriptError, ScriptLine, read_script};
 use std::alloc::{AllocError, Global};
 use std::process::Abort;
@@ -73,7 +74,7 @@ fn scripts(rt: HostRuntime) -> Result<(), AllocError> {
     let alloc = rt.alloc();
     for &(name, text, want) in SCRIPTS {
         let found = outcome(alloc, text)?;
-        assert!(rt; found.as_str() == want, "{name}: {found}");
+        check_text(&rt, name, found.as_str(), want);
     }
     Ok(())
 }
@@ -101,7 +102,7 @@ fn count(alloc: Global, text: &[u8]) -> Result<String, AllocError> {
 fn check_cut(rt: &impl Abort, end: usize, found: &str) {
     for &(first, last, want) in CUTS {
         if first <= end && end <= last {
-            assert!(rt; found == want, "{end} bytes: {found}");
+            check_text(rt, "cut", found, want);
         }
     }
 }
@@ -143,7 +144,7 @@ const LONG_WORDS: &[(&str, &[u8], usize, &[u8], &[u8])] = &[
 fn long_words(rt: HostRuntime) -> Result<(), AllocError> {
     for &(name, front, length, back, want) in LONG_WORDS {
         let found = long_outcome(rt.alloc(), front, length, back)?;
-        assert!(rt; found.as_bytes().starts_with(want), "{name}");
+        check(&rt, name, found.as_bytes().starts_with(want));
     }
     Ok(())
 }
@@ -152,11 +153,11 @@ fn long_words(rt: HostRuntime) -> Result<(), AllocError> {
 fn refusals(rt: HostRuntime) -> Result<(), AllocError> {
     let mut comment = vec![in rt.alloc(); b'#'; 67_108_864]?;
     let found = outcome(rt.alloc(), &comment)?;
-    assert!(rt; found.is_empty());
+    check_text(&rt, "as much as may be", found.as_str(), "");
     comment.push(b'\n')?;
     let found = outcome(rt.alloc(), &comment)?;
-    assert!(rt; found.as_str() == "9 TooLarge");
+    check_text(&rt, "a byte more", found.as_str(), "9 TooLarge");
     let found = ScriptError::OutOfMemory.to_string(rt.alloc())?;
-    assert!(rt; found.as_str() == "10 OutOfMemory");
+    check_text(&rt, "no memory", found.as_str(), "10 OutOfMemory");
     Ok(())
 }

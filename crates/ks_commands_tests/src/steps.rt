@@ -93,20 +93,47 @@ fn run_text(alloc: Global, run: &Run) -> Result<String, Fail> {
     Ok(format!(in alloc; "{} {out}{err}", run.status)?)
 }
 
+/// The same of the command that the words ask for.
+fn said<'a, T: Aging>(
+    alloc: Global,
+    tree: &mut T,
+    dialect: Dialect,
+    words: &'a [&'a str],
+) -> Result<String, Fail> {
+    let run = run_over(alloc, tree, dialect, words);
+    run_text(alloc, &run)
+}
+
+fn put<T: Tree>(alloc: Global, tree: &mut T, path: &str, bytes: &str) -> Result<String, Fail> {
+    tree.write(alloc, path.as_bytes(), bytes.as_bytes())?;
+    Ok(String::from_str(alloc, "done")?)
+}
+
 /// What comes of a step: what was read, or the status, the output and standard error, one after the other.
 pub(crate) fn told<T: Aging>(alloc: Global, tree: &mut T, step: Step<'_>) -> Result<String, Fail> {
     match step {
-        Step::Words(words) => run_text(alloc, &run_over(alloc, tree, Dialect::Linux, words)),
-        Step::InUBoot(words) => run_text(alloc, &run_over(alloc, tree, Dialect::UBoot, words)),
-        Step::InBusyBox(words) => {
-            run_text(alloc, &run_over(alloc, tree, Dialect::BusyBox, words))
-        }
-        Step::Put(path, bytes) => {
-            tree.write(alloc, path.as_bytes(), bytes.as_bytes())?;
-            Ok(String::from_str(alloc, "done")?)
-        }
+        Step::Words(words) => said(alloc, tree, Dialect::Linux, words),
+        Step::InUBoot(words) => said(alloc, tree, Dialect::UBoot, words),
+        Step::InBusyBox(words) => said(alloc, tree, Dialect::BusyBox, words),
+        Step::Put(path, bytes) => put(alloc, tree, path, bytes),
         Step::Read(path) => shown(alloc, tree, path),
     }
+}
+
+/// What is said of a row is so. The assertions stand here and in the next two calls, since one in the function of a test costs its
+/// proof more than the call does.
+pub(crate) fn check(rt: &impl Abort, row: &str, is_so: bool) {
+    assert!(rt; is_so, "{row}");
+}
+
+/// A row has this text.
+pub(crate) fn check_text(rt: &impl Abort, row: &str, found: &str, want: &str) {
+    assert!(rt; found == want, "{row}: found {found}, wanted {want}");
+}
+
+/// A step comes to this text.
+fn check_step(rt: &impl Abort, step: &Step<'_>, found: &str, want: &str) {
+    assert!(rt; found == want, "{step:?}: found {found}, wanted {want}");
 }
 
 /// Takes the steps one after another, each with what is to come of it.
@@ -118,7 +145,7 @@ pub(crate) fn play<T: Aging>(
 ) -> Result<(), Fail> {
     for (step, want) in steps {
         let found = told(alloc, tree, *step)?;
-        assert_eq!(rt; found.as_str(), *want, "{step:?}");
+        check_step(rt, step, found.as_str(), *want);
     }
     Ok(())
 }
@@ -130,6 +157,12 @@ pub(crate) fn world(rt: &impl Abort, alloc: Global) -> Result<AgedTree<MemoryTre
     Ok(tree)
 }
 
+/// Plays steps over a tree with the inputs.
+fn play_alone(rt: &impl Abort, alloc: Global, steps: &[(Step<'_>, &str)]) -> Result<(), Fail> {
+    let mut tree = world(rt, alloc)?;
+    play(rt, alloc, &mut tree, steps)
+}
+
 /// Plays each list of steps over a tree of its own.
 pub(crate) fn play_each(
     rt: &impl Abort,
@@ -137,8 +170,7 @@ pub(crate) fn play_each(
     lists: &[&[(Step<'_>, &str)]],
 ) -> Result<(), Fail> {
     for steps in lists {
-        let mut tree = world(rt, alloc)?;
-        play(rt, alloc, &mut tree, steps)?;
+        play_alone(rt, alloc, steps)?;
     }
     Ok(())
 }

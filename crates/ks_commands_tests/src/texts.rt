@@ -1,6 +1,6 @@
 //! From texts to texts, without the words of a command line: what previews print, and why there is none; what differs from
 //! auto.conf; and scripts whose lines name files more than once.
-use crate::steps::{Run, run_asked};
+use crate::steps::{Run, check_text, run_asked};
 use ks_requests::{Request, Telling, preview_of};
 use ks_symbols::{Dialect, Kconfig};
 use ks_tree::{AgedTree, Aging, MemoryTree, Tree};
@@ -71,7 +71,7 @@ fn previews(rt: HostRuntime) -> Result<(), AllocError> {
     for &(name, kconfig, dotconfig, old, touches, title, rest) in PREVIEWS {
         let want = whole(alloc, touches, title, rest)?;
         let found = outcome(alloc, kconfig, dotconfig, old)?;
-        assert!(rt; found.as_str() == want.as_str(), "{name}");
+        check_text(&rt, name, found.as_str(), want.as_str());
     }
     Ok(())
 }
@@ -99,7 +99,7 @@ fn refusals(rt: HostRuntime) -> Result<(), AllocError> {
     let alloc = rt.alloc();
     for &(kconfig, dotconfig, old, want) in REFUSALS {
         let found = outcome(alloc, kconfig, dotconfig, old)?;
-        assert!(rt; found.as_str() == want);
+        check_text(&rt, "a refusal", found.as_str(), want);
     }
     Ok(())
 }
@@ -148,7 +148,7 @@ fn scripts(rt: HostRuntime) -> Result<(), Fail> {
     for &(name, script, want) in SCRIPTS {
         let mut tree = AgedTree::new(rt.alloc(), MemoryTree::new(rt.alloc()));
         let found = batch(rt.alloc(), &mut tree, script)?;
-        assert!(rt; found.as_str() == want, "{name}: {found}");
+        check_text(&rt, name, found.as_str(), want);
     }
     Ok(())
 }
@@ -211,7 +211,7 @@ fn differences(rt: HostRuntime) -> Result<(), Fail> {
     for &(name, kconfig, dotconfig, auto, want) in DIFFERENCES {
         let mut tree = AgedTree::new(rt.alloc(), MemoryTree::new(rt.alloc()));
         let found = diff(rt.alloc(), &mut tree, kconfig, dotconfig, auto)?;
-        assert!(rt; found.as_str() == want, "{name}: {found}");
+        check_text(&rt, name, found.as_str(), want);
     }
     Ok(())
 }

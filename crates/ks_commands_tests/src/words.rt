@@ -1,6 +1,6 @@
 //! Which request the words make, and which words are refused. What help and the version print, tests/main holds against
 //! the built program.
-use crate::steps::{Step, told};
+use crate::steps::{Step, check, check_text, told};
 use ks_tree::{AgedTree, MemoryTree};
 use ks_words::request_of;
 use std::alloc::{AllocError, Global};
@@ -63,7 +63,7 @@ fn meaning(alloc: Global, words: &[&str]) -> Result<String, AllocError> {
 fn words_are_taken_as_meant(rt: HostRuntime) -> Result<(), AllocError> {
     for &(name, words, want) in MEANINGS {
         let found = meaning(rt.alloc(), words)?;
-        assert!(rt; found.as_str() == want, "{name}: {found}");
+        check_text(&rt, name, found.as_str(), want);
     }
     Ok(())
 }
@@ -122,7 +122,7 @@ fn words_that_are_no_command(rt: HostRuntime) -> Result<(), Fail> {
     for &(name, words) in WORDS_THAT_ARE_NO_COMMAND {
         let mut tree = AgedTree::new(rt.alloc(), MemoryTree::new(rt.alloc()));
         let found = told(rt.alloc(), &mut tree, Step::Words(words))?;
-        assert!(rt; found.starts_with("2 error: "), "{name}: {found}");
+        check(&rt, name, found.starts_with("2 error: "));
     }
     Ok(())
 }

@@ -1,5 +1,5 @@
 -- An answer that is written with another spelling.
-use Rattle.ks_commands.proofs.Prelude.{◌≡◌, ◌⊎◌, ◌≤◌, ◌++◌, ℕ, List, Option, None, Result, Err, inl, inr, sym, subst, append_assoc, arith, refl, Files, HasRisen, EngineError, Explanation, Question, IsExplanationOn, IsAnswerTo, limit_of, IsGivenUpAnswer, Form, answer_in, explanation_status, status_unless_refused, IsCounted, TellsOne, asking_by, IsSpelled, IsLine, spelled_in, spelling_line, spelling_of, spelling_told, common_steps, rules}
+use Rattle.ks_commands.proofs.Prelude.{◌≡◌, ◌⊎◌, ◌≤◌, ◌++◌, ℕ, List, Option, None, Result, Ok, Err, IfOk, OnOk, inl, inr, sym, subst, append_assoc, arith, refl, Files, HasRisen, EngineError, Explanation, Question, IsExplanationOn, IsAnswerTo, limit_of, IsGivenUpAnswer, Form, answer_in, explanation_status, status_unless_refused, IsCounted, TellsOne, asking_by, IsSpelled, IsLine, spelled_in, spelling_line, spelling_of, spelling_told, common_steps, rules}
 use Rattle.ks_engine.specs.declared.error.EngineError.TheVariants as engine
 
 -- an answer that gave up has no spelling, and is one to `why`
@@ -48,3 +48,8 @@ spelled_told honest files question form o answer told spelling before mid after 
   lines = search (rules, append_assoc, line);
   status_of = is;
 }
+
+-- what is so of a text and a status is so where they were written
+pub if_written : {A E P : Type 0} {Q R : A → Type 0} (result : Result A E) → (P → (x : A) → Q x → R x) → OnOk result P → IfOk result Q → IfOk result R
+if_written (Ok x) f text is = f text x is
+if_written (Err e) f text is = search rules

@@ -3,6 +3,7 @@
 ghost use Rattle.std.specs.Prelude.{◌≡◌, List, Err, IfOk, None, length, map};
 ghost use Rattle.ks_tree.specs.Frames.{Counted};
 ghost use Rattle.ks_engine.specs.FileRuns.{state};
+ghost use Rattle.ks_engine.specs.Memos.{IsMemoOf};
 ghost use Rattle.ks_engine.specs.declared.error.EngineError.TheVariants.{Device};
 ghost use Rattle.ks_engine.specs.declared.explaining.Explanation.{Explanation};
 ghost use Rattle.ks_requests.specs.declared.refusal.Refusal.TheVariants.{Engine};
@@ -21,6 +22,33 @@ use ks_requests::{
 use ks_tree::Aging;
 use std::alloc::{AllocError, Global};
 
+/// Ages each object that is stale, by what was read before and what is still to be read.
+fn age_each<T: Aging>(
+    alloc: Global,
+    tree: &mut T,
+    memo: &mut Memo,
+    which: Ages,
+    targets: &[&[u8]],
+) -> Result<Outcome, AllocError>
+    requires memo { T.is_honest → IsMemoOf (T.files tree.old) memo.old }
+    ensures counts { Counted T.Tree tree.old tree.new ⊥ }
+    ensures unchanged { T.is_honest → T.files tree.new ≡ T.files tree.old }
+    ensures aged { T.is_honest → AgesAll which (T.files tree.old) (map (λ t. t.now) targets.now) result (T.aged tree.old) (T.aged tree.new) }
+    ensures told { IfOk result (λ o. (parts : List (Part Explanation))
+        × TellsAll (asking_by T.is_honest (T.files tree.old) Text Question.Stale).told explanation_status parts (T.failures tree.old)
+        (map (λ t. t.now) targets.now) o.text.items (code_of o.status) (T.failures tree.new)) }
+    ensures none { IfOk result (λ o. o.count ≡ None) }
+{
+    let mut text = Vec::new(alloc);
+    let mut status = Status::Done;
+    for target in targets {
+        let answer = age_if_stale(alloc, tree, memo, which, *target);
+        let answered = write_answer(Question::Stale, *target, &answer, &mut text)?;
+        status = worse(status, answered);
+    }
+    Ok(Outcome::of(text, status))
+}
+
 /// Ages each object that is stale, one after the other.
 fn age_all<T: Aging>(
     alloc: Global,
@@ -36,15 +64,8 @@ fn age_all<T: Aging>(
         (map (λ t. t.now) targets.now) o.text.items (code_of o.status) (T.failures tree.new)) }
     ensures none { IfOk result (λ o. o.count ≡ None) }
 {
-    let mut text = Vec::new(alloc);
     let mut memo = Memo::with_seed(alloc, Seed::new(tree.seed()));
-    let mut status = Status::Done;
-    for target in targets {
-        let answer = age_if_stale(alloc, tree, &mut memo, which, *target);
-        let answered = write_answer(Question::Stale, *target, &answer, &mut text)?;
-        status = worse(status, answered);
-    }
-    Ok(Outcome::of(text, status))
+    age_each(alloc, tree, &mut memo, which, targets)
 }
 
 /// Ages each stale object among the words, and then each in the file.

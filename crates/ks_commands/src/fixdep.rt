@@ -1,17 +1,62 @@
 //! The command file of an object, as scripts/basic/fixdep.c prints it, from the compiler's dependency file.
 //!
 //! The words are looked at first, then the dependency file is read, then each prerequisite in order, in pieces.
-ghost use Rattle.std.specs.Prelude.{◌≡◌, IsErrOf};
+ghost use Rattle.std.specs.Prelude.{◌≡◌, Err, IsErrOf, Ok, OnErr};
+ghost use Rattle.ks_fixdep.specs.CommandFile.{command_text};
+ghost use Rattle.ks_fixdep.specs.Dialects.{rules_for};
+ghost use Rattle.ks_fixdep.specs.Record.{record_of};
+ghost use Rattle.ks_fixdep.specs.SourceScan.{names_by};
 ghost use Rattle.ks_tree.specs.Frames.{Reads};
-ghost use Rattle.ks_engine.specs.Refusals.{Answers};
+ghost use Rattle.ks_engine.specs.Recording.{scanned_all};
+ghost use Rattle.ks_engine.specs.Refusals.{Answers, and_then};
 ghost use Rattle.ks_commands.specs.Fixdep.{command_file_at};
 
 use ks_engine::{EngineError, check_words, scan_all};
-use ks_fixdep::{Header, Rules, Seed, read_depfile_without, record_text};
+use ks_fixdep::{
+    Header, NamesBySource, Prerequisites, Rules, Seed, read_depfile_without, record_text,
+};
 use ks_requests::read_given;
 use ks_symbols::Dialect;
 use ks_tree::Tree;
 use std::alloc::Global;
+
+/// The lines of a target's command file, by the names that were found.
+fn lines_of(
+    alloc: Global,
+    target: &[u8],
+    command: &[u8],
+    prerequisites: &Prerequisites,
+    found: &mut NamesBySource,
+) -> Result<Vec<u8>, EngineError>
+    ensures text { Answers (Ok (command_text (record_of target.now command.now prerequisites.now (names_by found.old)))) (λ text. text.items) result }
+    ensures memory { OnErr result (result ≡ Err EngineError.OutOfMemory) }
+{
+    let lines = record_text(alloc, target, command, prerequisites, found, None)?;
+    Ok(lines.text)
+}
+
+/// The lines of a target's command file, by its prerequisites.
+fn scanned_lines<T: Tree>(
+    alloc: Global,
+    tree: &mut T,
+    dialect: Dialect,
+    target: &[u8],
+    command: &[u8],
+    prerequisites: &Prerequisites,
+) -> Result<Vec<u8>, EngineError>
+    ensures reads { Reads T.Tree tree.old tree.new (IsErrOf result EngineError.Device) }
+    ensures uncounted { IsErrOf result EngineError.OutOfMemory → T.failures tree.new ≡ T.failures tree.old }
+    ensures text { T.is_honest → Answers (and_then (scanned_all (rules_for dialect target.now) (T.files tree.old) prerequisites.now)
+        (λ found. Ok (command_text (record_of target.now command.now prerequisites.now found)))) (λ text. text.items) result }
+{
+    let mut found = scan_all(
+        alloc,
+        tree,
+        Rules::for_target(dialect, target),
+        prerequisites,
+    )?;
+    lines_of(alloc, target, command, prerequisites, &mut found)
+}
 
 /// The text of a target's command file, without a generation.
 #[tactic(auto, unfolding(crate::specs::Fixdep::command_file_at))]
@@ -35,12 +80,5 @@ pub(crate) fn command_file_text<T: Tree>(
         Header::usual(dialect),
         &text,
     )?;
-    let mut found = scan_all(
-        alloc,
-        tree,
-        Rules::for_target(dialect, target),
-        &prerequisites,
-    )?;
-    let lines = record_text(alloc, target, command, &prerequisites, &mut found, None)?;
-    Ok(lines.text)
+    scanned_lines(alloc, tree, dialect, target, command, &prerequisites)
 }

@@ -9,6 +9,7 @@ ghost use Rattle.ks_tree.specs.Frames.{Reads};
 ghost use Rattle.ks_engine.specs.BuildStates.{IsStateOn};
 ghost use Rattle.ks_engine.specs.Impact.{IsAnswerAfter};
 ghost use Rattle.ks_engine.specs.FileRuns.{state};
+ghost use Rattle.ks_engine.specs.Memos.{IsMemoOf};
 ghost use Rattle.ks_engine.specs.Questions.{IsAnswerTo, limit_of};
 ghost use Rattle.ks_engine.specs.Refusals.{IsGivenUp};
 ghost use Rattle.ks_engine.specs.declared.error.EngineError.TheVariants.{Device};
@@ -18,7 +19,7 @@ ghost use Rattle.ks_requests.specs.Statuses.{code_of, explanation_status, stale_
 ghost use Rattle.ks_commands.specs.Parts.{EndsAsked, IsCounted, Part, TellsAll, TellsOne, statuses};
 ghost use Rattle.ks_commands.specs.Performed.{EndsImpact, EndsOutdated};
 ghost use Rattle.ks_commands.specs.Questions.{IsSpelled, asking_by, counted_of};
-ghost use Rattle.ks_commands.specs.Spelling.{IsLine, spelling_of, spelling_told};
+ghost use Rattle.ks_commands.specs.Spelling.{IsLine, spelling_line, spelling_of, spelling_told};
 
 use crate::spelling::{spelling_of, write_spelling};
 use ks_engine::{EngineError, Explanation, Impact, Memo, Question, ask, outdated};
@@ -107,6 +108,23 @@ fn write_in(
     }
 }
 
+/// Writes an answer in a form, and under it the other spelling where there is one.
+fn write_spelled(
+    form: Form,
+    question: Question<'_>,
+    target: &[u8],
+    told: &Spelled,
+    text: &mut Vec<u8>,
+) -> Result<Status, AllocError>
+    ensures lines { OnOk result (text.new.items ≡ (text.old.items ++ answer_in form (limit_of question.entry) target.now told.now.answer)
+        ++ spelling_line (option_map (λ v. v.items) told.now.spelling)) }
+    ensures status { IfOk result (λ s. code_of s ≡ status_unless_refused explanation_status told.now.answer) }
+{
+    let status = write_in(form, question, target, &told.answer, text)?;
+    write_spelling(&told.spelling, text)?;
+    Ok(status)
+}
+
 /// Writes what is told of an object by its answer.
 fn tell_one<T: Tree>(
     alloc: Global,
@@ -124,9 +142,7 @@ fn tell_one<T: Tree>(
         text.old.items text.new.items (code_of status) (T.failures tree.new)) }
 {
     let told = with_spelling(alloc, tree, question, form, target, answer);
-    let status = write_in(form, question, target, &told.answer, text)?;
-    write_spelling(&told.spelling, text)?;
-    Ok(status)
+    write_spelled(form, question, target, &told, text)
 }
 
 /// The count of stale objects, where the question is for one.
@@ -138,6 +154,39 @@ fn count_for(question: Question<'_>, stale: usize, all: usize) -> Option<Count>
         Question::After(_) => Some(Count::Stale { stale, all }),
         Question::Stale | Question::Why => None,
     }
+}
+
+/// Asks of each object, by what was read before and what is still to be read.
+fn ask_each<T: Tree>(
+    alloc: Global,
+    tree: &mut T,
+    memo: &mut Memo,
+    question: Question<'_>,
+    form: Form,
+    targets: &[&[u8]],
+) -> Result<Outcome, AllocError>
+    requires memo { T.is_honest → IsMemoOf (T.files tree.old) memo.old }
+    ensures reads { Reads T.Tree tree.old tree.new ⊥ }
+    ensures told { IfOk result (λ o. (parts : List (Part Explanation))
+        × TellsAll (asking_by T.is_honest (T.files tree.old) form question.entry).told explanation_status parts (T.failures tree.old)
+        (map (λ t. t.now) targets.now) o.text.items (code_of o.status) (T.failures tree.new)
+        × (o.count ≡ counted_of question.entry parts)) }
+{
+    let mut text = Vec::new(alloc);
+    let mut status = Status::Done;
+    let mut stale = 0;
+    for target in targets {
+        let answer = ask(alloc, tree, memo, question, *target);
+        let answered = tell_one(alloc, tree, question, form, *target, answer, &mut text)?;
+        status = worse(status, answered);
+        stale += stale_of(answered);
+    }
+    let count = count_for(question, stale, targets.len());
+    Ok(Outcome {
+        text,
+        status,
+        count,
+    })
 }
 
 /// Asks of each object, one after the other.
@@ -154,22 +203,8 @@ fn ask_all<T: Tree>(
         (map (λ t. t.now) targets.now) o.text.items (code_of o.status) (T.failures tree.new)
         × (o.count ≡ counted_of question.entry parts)) }
 {
-    let mut text = Vec::new(alloc);
     let mut memo = Memo::with_seed(alloc, Seed::new(tree.seed()));
-    let mut status = Status::Done;
-    let mut stale = 0;
-    for target in targets {
-        let answer = ask(alloc, tree, &mut memo, question, *target);
-        let answered = tell_one(alloc, tree, question, form, *target, answer, &mut text)?;
-        status = worse(status, answered);
-        stale += stale_of(answered);
-    }
-    let count = count_for(question, stale, targets.len());
-    Ok(Outcome {
-        text,
-        status,
-        count,
-    })
+    ask_each(alloc, tree, &mut memo, question, form, targets)
 }
 
 /// Asks of each object among the words, and then of each in the file.

@@ -5,6 +5,7 @@
 ghost use Rattle.std.specs.Prelude.{◌≡◌, ◌<◌, ◌++◌, ℕ, List, [], ◌∷◌, Option, None, Some, Err, IfErr, IfOk, OnOk, length, map};
 ghost use Rattle.ks_fixdep.specs.Borrowed.{borrowed_view};
 ghost use Rattle.ks_fixdep.specs.CommandFile.{CommandRecord};
+ghost use Rattle.ks_fixdep.specs.FoundNames.{all_noted};
 ghost use Rattle.ks_tree.specs.Frames.{Reads};
 ghost use Rattle.ks_engine.specs.FileRuns.{state};
 ghost use Rattle.ks_engine.specs.declared.error.EngineError.TheVariants.{Device};
@@ -12,7 +13,7 @@ ghost use Rattle.ks_requests.specs.declared.refusal.Refusal.TheVariants.{Engine}
 ghost use Rattle.ks_requests.specs.Statuses.{code_of};
 ghost use Rattle.ks_requests.specs.Symbols.{unrecorded_line};
 ghost use Rattle.ks_requests.specs.Targets.{targets_at};
-ghost use Rattle.ks_commands.specs.Parts.{Asks, Part, StoppedBy, TellsOne};
+ghost use Rattle.ks_commands.specs.Parts.{Asks, Part, StoppedBy, TellsAll, TellsOne};
 ghost use Rattle.ks_commands.specs.Readings.{Adds, records_in};
 ghost use Rattle.ks_commands.specs.Records.{IsReadIn, reading};
 
@@ -96,6 +97,51 @@ fn read_one<T: Tree, R: Reader>(
     Ok(Status::Refused)
 }
 
+/// Reads the command file of each of these objects, one after the other.
+fn read_objects<T: Tree, R: Reader>(
+    alloc: Global,
+    tree: &mut T,
+    reader: &mut R,
+    objects: &[&[u8]],
+) -> Result<Told, AllocError>
+    requires { R.has_read reader.old [] }
+    ensures reads { Reads T.Tree tree.old tree.new ⊥ }
+    ensures same { OnOk result (R.asked reader.new ≡ R.asked reader.old) }
+    ensures told { IfOk result (λ told. (parts : List (Part (Option CommandRecord)))
+        × TellsAll (IsReadIn T.is_honest (T.files tree.old) (R.line (R.asked reader.old))) (λ _. 0) parts (T.failures tree.old)
+        (map (λ t. t.now) objects.now) told.text.items (code_of told.status) (T.failures tree.new)
+        × R.has_read reader.new (records_in parts) × (told.all ≡ length parts)) }
+{
+    let mut text = Vec::new(alloc);
+    let mut status = Status::Done;
+    for target in objects {
+        let one = read_one(alloc, tree, reader, *target, &mut text)?;
+        status = worse(status, one);
+    }
+    let all = objects.len();
+    Ok(Told { text, status, all })
+}
+
+/// Reads the command file of each of these targets once, however often it is among them.
+fn read_once<T: Tree, R: Reader>(
+    alloc: Global,
+    tree: &mut T,
+    reader: &mut R,
+    targets: &[&[u8]],
+) -> Result<Told, AllocError>
+    requires { R.has_read reader.old [] }
+    ensures reads { Reads T.Tree tree.old tree.new ⊥ }
+    ensures same { OnOk result (R.asked reader.new ≡ R.asked reader.old) }
+    ensures told { IfOk result (λ told. (parts : List (Part (Option CommandRecord)))
+        × TellsAll (IsReadIn T.is_honest (T.files tree.old) (R.line (R.asked reader.old))) (λ _. 0) parts (T.failures tree.old)
+        (all_noted [] (map (λ t. t.now) targets.now)) told.text.items (code_of told.status) (T.failures tree.new)
+        × R.has_read reader.new (records_in parts) × (told.all ≡ length parts)) }
+{
+    let once = each_once(alloc, Seed::new(tree.seed()), targets)?;
+    let objects = once.as_slice();
+    read_objects(alloc, tree, reader, objects)
+}
+
 /// Reads the command file of each target, among the words and in the file, one after the other.
 pub(crate) fn read_each<T: Tree, R: Reader>(
     alloc: Global,
@@ -114,14 +160,5 @@ pub(crate) fn read_each<T: Tree, R: Reader>(
 {
     let from = read_targets(alloc, tree, targets)?;
     let targets = all_targets(alloc, targets, borrowed(&from))?;
-    let once = each_once(alloc, Seed::new(tree.seed()), &targets)?;
-    let objects = once.as_slice();
-    let mut text = Vec::new(alloc);
-    let mut status = Status::Done;
-    for target in objects {
-        let one = read_one(alloc, tree, reader, *target, &mut text)?;
-        status = worse(status, one);
-    }
-    let all = objects.len();
-    Ok(Told { text, status, all })
+    Ok(read_once(alloc, tree, reader, &targets)?)
 }

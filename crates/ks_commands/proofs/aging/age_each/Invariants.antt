@@ -2,7 +2,7 @@ use Rattle.ks_commands.proofs.Prelude.{◌≡◌, ◌≤◌, Explanation, IsMemo
 use Rattle.ks_engine.specs.declared.question.Question.TheVariants.{Stale}
 use Rattle.ks_requests.specs.declared.request.Form.TheVariants.{Text}
 use Rattle.ks_commands.specs.Aging.{AgesEach}
-use Rattle.ks_commands.proofs.aging.age_all.Given as goal
+use Rattle.ks_commands.proofs.aging.age_each.Given as goal
 
 abbrev pub invariant-loop-target : goal.invariant-loop-target
 invariant-loop-target g l = record {

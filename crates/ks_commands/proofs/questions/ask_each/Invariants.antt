@@ -1,5 +1,5 @@
 use Rattle.ks_commands.proofs.Prelude.{◌≡◌, ◌≤◌, Explanation, IsMemoOf, List, Part, TellsAll, asking_by, code_of, explanation_status, map, stale_among, statuses, take}
-use Rattle.ks_commands.proofs.questions.ask_all.Given as goal
+use Rattle.ks_commands.proofs.questions.ask_each.Given as goal
 
 abbrev pub invariant-loop-target : goal.invariant-loop-target
 invariant-loop-target g l = record {

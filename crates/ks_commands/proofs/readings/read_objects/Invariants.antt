@@ -1,14 +1,14 @@
 use Rattle.ks_commands.proofs.Prelude.{◌≡◌, ◌≤◌, CommandRecord, List, Option, Part, TellsAll, IsReadIn, code_of, map, records_in, take}
-use Rattle.ks_commands.proofs.readings.read_each.Given as goal
+use Rattle.ks_commands.proofs.readings.read_objects.Given as goal
 
 abbrev pub invariant-loop-target : goal.invariant-loop-target
 invariant-loop-target g l = record {
   unchanged : g.T.Tree.is_honest → g.T.Tree.files l.tree ≡ g.T.Tree.files l.fn.tree;
   kept : g.T.Tree.aged l.tree ≡ g.T.Tree.aged l.fn.tree;
-  later : g.T.Tree.failures l.initial.tree ≤ g.T.Tree.failures l.tree;
+  later : g.T.Tree.failures l.fn.tree ≤ g.T.Tree.failures l.tree;
   same : g.R.Reader.asked l.reader ≡ g.R.Reader.asked l.fn.reader;
   told : (parts : List (Part (Option CommandRecord)))
-      × TellsAll (IsReadIn g.T.Tree.is_honest (g.T.Tree.files l.fn.tree) (g.R.Reader.line (g.R.Reader.asked l.fn.reader))) (λ x. 0) parts (g.T.Tree.failures l.initial.tree)
+      × TellsAll (IsReadIn g.T.Tree.is_honest (g.T.Tree.files l.fn.tree) (g.R.Reader.line (g.R.Reader.asked l.fn.reader))) (λ x. 0) parts (g.T.Tree.failures l.fn.tree)
       (map (λ t. t.now) (take l.target-index l.objects)) l.text.items (code_of l.status) (g.T.Tree.failures l.tree)
       × g.R.Reader.has_read l.reader (records_in parts);
 }

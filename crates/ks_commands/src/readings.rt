@@ -13,8 +13,8 @@ ghost use Rattle.ks_requests.specs.declared.refusal.Refusal.TheVariants.{Engine}
 ghost use Rattle.ks_requests.specs.Statuses.{code_of};
 ghost use Rattle.ks_requests.specs.Symbols.{unrecorded_line};
 ghost use Rattle.ks_requests.specs.Targets.{targets_at};
-ghost use Rattle.ks_commands.specs.Parts.{Asks, Part, StoppedBy, TellsAll, TellsOne};
-ghost use Rattle.ks_commands.specs.Readings.{Adds, records_in};
+ghost use Rattle.ks_commands.specs.Parts.{Asks, Part, StoppedBy, TellsOne};
+ghost use Rattle.ks_commands.specs.Readings.{Adds, AreRead, records_in};
 ghost use Rattle.ks_commands.specs.Records.{IsReadIn, reading};
 
 use ks_engine::{borrow_record, read_record};
@@ -107,10 +107,8 @@ fn read_objects<T: Tree, R: Reader>(
     requires { R.has_read reader.old [] }
     ensures reads { Reads T.Tree tree.old tree.new ⊥ }
     ensures same { OnOk result (R.asked reader.new ≡ R.asked reader.old) }
-    ensures told { IfOk result (λ told. (parts : List (Part (Option CommandRecord)))
-        × TellsAll (IsReadIn T.is_honest (T.files tree.old) (R.line (R.asked reader.old))) (λ _. 0) parts (T.failures tree.old)
-        (map (λ t. t.now) objects.now) told.text.items (code_of told.status) (T.failures tree.new)
-        × R.has_read reader.new (records_in parts) × (told.all ≡ length parts)) }
+    ensures told { IfOk result (λ told. AreRead (IsReadIn T.is_honest (T.files tree.old) (R.line (R.asked reader.old))) (R.has_read reader.new)
+        (map (λ t. t.now) objects.now) (T.failures tree.old) told (T.failures tree.new)) }
 {
     let mut text = Vec::new(alloc);
     let mut status = Status::Done;
@@ -132,10 +130,8 @@ fn read_once<T: Tree, R: Reader>(
     requires { R.has_read reader.old [] }
     ensures reads { Reads T.Tree tree.old tree.new ⊥ }
     ensures same { OnOk result (R.asked reader.new ≡ R.asked reader.old) }
-    ensures told { IfOk result (λ told. (parts : List (Part (Option CommandRecord)))
-        × TellsAll (IsReadIn T.is_honest (T.files tree.old) (R.line (R.asked reader.old))) (λ _. 0) parts (T.failures tree.old)
-        (all_noted [] (map (λ t. t.now) targets.now)) told.text.items (code_of told.status) (T.failures tree.new)
-        × R.has_read reader.new (records_in parts) × (told.all ≡ length parts)) }
+    ensures told { IfOk result (λ told. AreRead (IsReadIn T.is_honest (T.files tree.old) (R.line (R.asked reader.old))) (R.has_read reader.new)
+        (all_noted [] (map (λ t. t.now) targets.now)) (T.failures tree.old) told (T.failures tree.new)) }
 {
     let once = each_once(alloc, Seed::new(tree.seed()), targets)?;
     let objects = once.as_slice();

@@ -8,21 +8,21 @@
 # The program logic that the proofs were written for: what `rt version` has to tell, whichever kit it is.
 logic=dac8208d650f15bf
 
-# Seconds that a proof of each crate takes on a machine of four processors, beside other work. Those of ks_requests,
-# ks_commands and confstamp are reckoned, all others measured.
-seconds='ks_symbols 220
-ks_output 200
-ks_compare 30
-ks_fixdep 540
-ks_tree 430
-ks_streams 30
-ks_engine 480
-ks_parallel 120
-ks_requests 490
-ks_words 230
-ks_start 120
-ks_commands 420
-confstamp 150'
+# Seconds that a proof of each crate takes on a machine of four processors, as measured in a whole gate.
+seconds='ks_symbols 227
+ks_output 113
+ks_compare 29
+ks_fixdep 318
+ks_tree 127
+ks_system 350
+ks_streams 32
+ks_engine 443
+ks_parallel 83
+ks_requests 265
+ks_words 155
+ks_start 96
+ks_commands 330
+confstamp 222'
 
 # The lines of crates.txt for the program and all that it stands on; crates of tests alone are no part of it.
 program_crates() {

@@ -100,10 +100,6 @@ hidden_from (job ∷ jobs) i j o q own differ written = search (
   (hidden_from jobs i j o q),
 )
 
--- .. and by itself.
-pub own_seen : (jobs : Jobs) (i : ℕ) (o q : List ℕ) → is_others_job jobs i o ≡ false → is_written_for o q ≡ true → sees jobs i q ≡ true
-own_seen jobs i o q clean written = search (rules, bytes_eq-Decides, (seen_place jobs i (CommandFile o)), (seen_place jobs i (CommandTemporary o)), or_cases)
-
 -- its records in a shuffle are those of that process
 pub same_records : (jobs : Jobs) (i : ℕ) (o : List ℕ) (s : List (ℕ × RecordEvent)) → is_others_job jobs i o ≡ false → EachOf (IsOfJob jobs) s
     → filter (λ (e : RecordEvent). bytes_eq e.object o) (all s) ≡ filter (λ (e : RecordEvent). bytes_eq e.object o) (own i s)

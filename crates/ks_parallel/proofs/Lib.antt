@@ -1,13 +1,8 @@
 pub mod Prelude
 pub mod Each
 pub mod Apart
-pub mod Made
-pub mod Plans
-pub mod Stepping
 pub mod Parts
 pub mod Joined
 pub mod Stamping
 pub mod Frames
-pub mod Turns
-pub mod Outcomes
-pub mod Depfiles
+pub mod Runs

@@ -19,23 +19,10 @@ pub use Rattle.ks_fixdep.specs.declared.dialect.Rules.{Rules}
 pub use Rattle.ks_tree.proofs.Stored.{none_some}
 pub use Rattle.ks_parallel.specs.Calls.{AllFind, Call, Finds, Leaves, Moves, Nothing, Reads, after_all, put, uses, view, writes}
 unfoldable pub use Rattle.ks_parallel.specs.Calls.{after}
-pub use Rattle.ks_parallel.specs.Drafted.{IsDrafted, IsNeeded, IsNext, IsRefused, IsToldBy, plan_of}
 pub use Rattle.ks_parallel.specs.Frames.{RecordsGoByWhatTheyRead, RecordsWriteTwoPaths, DepfilesWriteTheirPaths, IsMadeStamp}
-pub use Rattle.ks_parallel.specs.Jobs.{are_distinct, has_target, hidden_by, jobs_of, numbered, part}
-pub use Rattle.ks_parallel.specs.Known.{AreTrue, AreKnown, IsTrueOf, is_read, missing_path}
 pub use Rattle.ks_parallel.specs.Orders.{EachOf, KeepsApart, OrdersLeaveTheSame, ViewsAreHonest, all, own, IsOrderOf}
-pub use Rattle.ks_parallel.specs.Outcomes.{Adds, AllShuffles, IsRecordOf, ShowsShuffles, AddsBy}
-pub use Rattle.ks_parallel.specs.Played.{AreBegun, IsBegun, IsTurn, Played, alone, AreCounted, HasRisenBy, IsCounted}
-pub use Rattle.ks_parallel.specs.Recorders.{GoesOn, HasHad, IsAt, IsAtStage, IsMoving, IsReady, IsReadyAt, IsWriting, StepsBy, done_stage, written_stage, FailsByDevice, IsUnread}
 pub use Rattle.ks_parallel.specs.Shuffles.{IsOfJob, RecordEvent, ShufflesAreShown, ShufflesSayTheSame, SideBySide, with_record, with_records}
 pub use Rattle.ks_parallel.specs.Views.{AreApart, Jobs, ViewsShow, is_others_job, is_own_job, is_written_for, sees, without, AllPlacesAreSeen, SeesPlaces, target_of}
-pub use Rattle.ks_parallel.specs.declared.jobs.Job.{Job}
-pub use Rattle.ks_parallel.specs.declared.known.ReadFile.{ReadFile}
-pub use Rattle.ks_parallel.specs.declared.next.Next.{Next}
-pub use Rattle.ks_parallel.specs.declared.next.Next.TheVariants.{Read, Refuse, Write}
-pub use Rattle.ks_parallel.specs.declared.recorder.Recorder.{Recorder}
-pub use Rattle.ks_parallel.specs.declared.recorder.Stage.{Stage}
-pub use Rattle.ks_parallel.specs.declared.recorder.Stage.TheVariants.{Done, Failed, Reading, Written}
 pub use Rattle.std.proofs.lemmas.Bool.{not-true, cases_lt}
 pub use Rattle.std.proofs.lemmas.List.{map_push, get_or_default}
 pub use Rattle.std.proofs.lemmas.List.Elements.{All-append}
@@ -43,5 +30,5 @@ pub use Rattle.std.proofs.lemmas.List.Folds.{list_any-from_Any, Any-from_list_an
 pub use Rattle.std.proofs.lemmas.List.Sums.{sum_by-append}
 pub use Rattle.std.proofs.lemmas.Result.{IfOk-weaker}
 pub use Rattle.ks_engine.proofs.DepfileLemmas.{depfile_follows, legal_names}
-pub use Rattle.ks_parallel.specs.Depfiles.{DepfileRun, DepfilesSideBySide, LeavesRun, RunsApart, RunsAreShown, targets_from, targets_of}
 pub use Rattle.ks_parallel.specs.Stamping.{Act, AllActsFind, Calls, IsOrMade, KeepsOff, MakeStampsApart, Makes, StampersAreApart, StampersSideBySide, StampOrdersLeaveTheSame, StampsStay, after_act, after_acts, call_of, is_stamp_of}
+pub use Rattle.ks_parallel.specs.Runs.{AddsBy, IsRecordOf, LeavesBy, LeavesRun, Process, RunsApart, RunsAreShown, RunsSideBySide, Way, targets_from, targets_of}

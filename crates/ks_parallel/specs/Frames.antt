@@ -1,5 +1,5 @@
 -- The paths of a record: those that it reads decide what it comes to, and it writes few.
-use Rattle.std.specs.Prelude.{◌≡◌, ◌≢◌, ◌⊎◌, ℕ, List, [], ◌∷◌, Option, Some, None, Result, Ok, Err, true, map, IsTrue}
+use Rattle.std.specs.Prelude.{◌≡◌, ◌≢◌, ◌⊎◌, ℕ, List, [], ◌∷◌, Option, Some, None, Result, true, map, IsTrue}
 use Rattle.ks_symbols.specs.Names.{is_in, is_name}
 use Rattle.ks_fixdep.specs.DependencyFile.{prerequisites_without}
 use Rattle.ks_fixdep.specs.declared.dependency_file.Header.{Header}
@@ -10,8 +10,7 @@ use Rattle.ks_engine.specs.declared.conventions.Conventions.{Conventions}
 use Rattle.ks_engine.specs.declared.error.EngineError.{EngineError}
 use Rattle.ks_engine.specs.declared.recording.Recorded.{Recorded}
 use Rattle.ks_engine.specs.Recorded.{record_plan_under}
-use Rattle.ks_engine.specs.Depfile.{IsDepfileRecorded, IsDepfileRefused}
-use Rattle.ks_engine.specs.FileRuns.{LeavesRecord}
+use Rattle.ks_engine.specs.FileRuns.{LeavesDepfile, LeavesRecord}
 
 -- the prerequisites of a dependency file, where there is one, but for a header
 abbrev pub prerequisite_paths : Header → Option (List ℕ) → List (List ℕ)
@@ -34,11 +33,6 @@ abbrev pub RecordsWriteTwoPaths : Type 0
 RecordsWriteTwoPaths =
     (dialect : Dialect) (old new : Files) (depfile target command : List ℕ) (answer : Result Recorded EngineError) → LeavesRecord dialect old new depfile target command answer
     → SameButBoth (command_temporary target) (command_path target) old new
-
--- what `record_depfile` leaves by its answer
-abbrev pub LeavesDepfile : Conventions → Files → Files → List ℕ → List ℕ → List ℕ → Result Recorded EngineError → Type 0
-LeavesDepfile conventions old new depfile target command (Ok answer) = IsDepfileRecorded conventions old new depfile target command answer
-LeavesDepfile conventions old new depfile target command (Err e) = IsDepfileRefused conventions old new depfile target command e
 
 -- the stamp of a name, which was missing and is empty
 abbrev pub IsMadeStamp : Files → Files → List ℕ → Type 0

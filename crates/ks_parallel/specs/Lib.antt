@@ -4,10 +4,4 @@ pub mod Frames
 pub mod Views
 pub mod Shuffles
 pub mod Stamping
-pub mod Jobs
-pub mod Known
-pub mod Drafted
-pub mod Recorders
-pub mod Played
-pub mod Outcomes
-pub mod Depfiles
+pub mod Runs

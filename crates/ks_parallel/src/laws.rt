@@ -2,9 +2,9 @@
 //! processes, with nothing between them. That each of them may count on what it is promised alone, and that the files are in the
 //! end those of one record after the other, in any order, rests on two things: no process uses what another one writes, and no
 //! synchronisation runs meanwhile.
-ghost use Rattle.ks_parallel.specs.Depfiles.{DepfilesSideBySide};
 ghost use Rattle.ks_parallel.specs.Frames.{DepfilesWriteTheirPaths, RecordsGoByWhatTheyRead, RecordsWriteTwoPaths};
 ghost use Rattle.ks_parallel.specs.Orders.{OrdersLeaveTheSame, ViewsAreHonest};
+ghost use Rattle.ks_parallel.specs.Runs.{RunsSideBySide};
 ghost use Rattle.ks_parallel.specs.Shuffles.{ShufflesAreShown, ShufflesSayTheSame, SideBySide};
 ghost use Rattle.ks_parallel.specs.Stamping.{StampOrdersLeaveTheSame, StampersAreApart, StampersSideBySide, StampsStay};
 ghost use Rattle.ks_parallel.specs.Views.{AllPlacesAreSeen, ViewsShow};
@@ -45,5 +45,10 @@ pub fn stampers_keep_apart()
     ensures orders { StampOrdersLeaveTheSame }
     ensures stamps { StampsStay }
     ensures side_by_side { StampersSideBySide }
-    ensures depfiles { DepfilesSideBySide }
+{}
+
+/// The same of whole runs of `record` and `depfile`: where each of them alone would leave what its contract says, done, refused or
+/// given up, the files show each shuffle of the records after each history that they showed.
+pub fn runs_side_by_side()
+    ensures { RunsSideBySide }
 {}

@@ -1,5 +1,6 @@
 -- What remarks leave, read one after the other from the first on.
 use Rattle.ks_output.proofs.Prelude.{◌≡◌, ℕ, Bool, ◌≤◌, List, [], ◌∷◌, ◌++◌, length, reverse, get_or, Option, option_map, refl, ap, ◌∙◌, arith, filter_map, reverse_onto, cond-false, nat_tests, filter_map-append, Class, Texts, Remark, Gives, Numbers, Silent, seen_remark, remarks, is_typed, neighbours, class_by, given, number, texts_given, auto_generation, auto_fault, auto_refusal, rules, common_steps}
+use Rattle.std.proofs.Common.{map as map_list}
 use Rattle.std.specs.FinMap as map
 use Rattle.ks_output.specs.declared.auto_conf.AutoError.TheVariants as fault
 use Rattle.ks_output.specs.declared.auto_lines.Remark as auto_lines
@@ -92,6 +93,12 @@ number_is g (r ∷ said) = search (rules, latest_last, first_of_two, number_one,
 pub with_number-others : (g : ℕ) (r : auto_lines.Remark) → ((n : ℕ) → r ≡ seen.Numbers n → ⊥) → with_number g (seen_remark r) ≡ g
 unfolding with_number
 with_number-others g r ne = grind arith
+
+-- entries leave the number as it is
+pub passed_number : (g : ℕ) (entries : List (List ℕ × List ℕ)) (said : List Remark) → number_after g (map_list (λ e. Gives e.0 e.1) entries ++ said) ≡ number_after g said
+unfolding number_after with_number
+passed_number g [] said = refl
+passed_number g (e ∷ entries) said = passed_number g entries said
 
 pub number_after-zero : (text : List ℕ) → number_after 0 (remarks text) ≡ auto_generation text
 unfolding auto_generation

@@ -1,5 +1,6 @@
 -- What the lines that are left come to, by the position where they stand, and how each line leads to the next one.
-use Rattle.ks_output.proofs.Prelude.{◌≡◌, ℕ, Bool, true, false, cond, ◌+◌, ◌<◌, List, [], ◌∷◌, bytes_eq, Option, Some, None, Ok, option_map, refl, sym, ap, subst, ◌∙◌, Bor, Class, Texts, Remark, Gives, Marks, Types, Silent, seen_remark, is_typed, heard, first_faulty, auto_map, auto_generation, auto_refusal, Position, Front, Untyped, Typed, Entry, class_at, following, wants_entry, blamed, fault_left, seen_position, said_left, AreLeftOf, BeginsAs, Judged, Lines, rules, cases_Bool, cond-false, cond-true}
+use Rattle.ks_output.proofs.Prelude.{◌≡◌, ℕ, Bool, true, false, cond, ◌+◌, ◌<◌, List, [], ◌∷◌, ◌++◌, append_assoc, map-append, bytes_eq, Option, Some, None, Ok, option_map, refl, sym, ap, subst, ◌∙◌, Bor, Class, Texts, Remark, Gives, Marks, Types, Silent, seen_remark, is_typed, heard, first_faulty, auto_map, auto_generation, auto_refusal, Position, Front, Untyped, Typed, Entry, class_at, following, wants_entry, blamed, fault_left, seen_position, said_left, AreLeftOf, ArePassed, BeginsAs, Judged, Lines, rules, cases_Bool, cond-false, cond-true}
+use Rattle.std.proofs.Common.{map as map_list}
 use Rattle.std.specs.FinMap as map
 use Rattle.ks_symbols.specs.declared.kinds.Class.TheVariants as class
 use Rattle.ks_output.specs.declared.auto_conf.AutoError.TheVariants as fault
@@ -7,7 +8,7 @@ use Rattle.ks_output.specs.declared.positions.Position as positions
 use Rattle.ks_output.specs.declared.positions.Position.TheVariants as position
 use Rattle.ks_output.specs.declared.auto_lines.Remark as auto_lines
 use Rattle.ks_output.specs.declared.auto_lines.Remark.TheVariants as seen
-use Rattle.ks_output.proofs.LastRemark.{with_given, texts_after, texts_after-empty, texts_after-class, texts_after-front, not_large, with_number, number_after, number_after-zero}
+use Rattle.ks_output.proofs.LastRemark.{with_given, texts_after, texts_after-empty, texts_after-class, texts_after-front, not_large, with_number, number_after, number_after-zero, passed_number}
 
 -- what a line leads to, by the position after it: the fault of the lines that follow, or the line to blame
 led : Position → ℕ → List Remark → Option Position → Option ℕ
@@ -61,6 +62,29 @@ pub goes_on : (text : List ℕ) (l m : Lines) (r : Remark) → AreLeftOf text l 
 unfolding led
 goes_on text l m r is split goes next = search (rules, leads)
 
+-- In a file of the typed form entries were passed over, and each was a line further on.
+pub record Passing (old new : Lines) : Type 0 where
+  pub typed : new.position ≡ position.Typed
+  pub passed : ArePassed (said_left old) (said_left new)
+  pub left : (text : List ℕ) → AreLeftOf text old → AreLeftOf text new
+
+pub passing_none : (l : Lines) → l.position ≡ position.Typed → Passing l l
+passing_none l typed = record { typed = typed; passed = ([], refl); left = λ text is. is }
+
+one_more : (before : List Remark) (entries : List (List ℕ × List ℕ)) (x t : List ℕ) (said after : List Remark)
+    → before ≡ map_list (λ e. Gives e.0 e.1) entries ++ said → said ≡ Gives x t ∷ after → before ≡ map_list (λ e. Gives e.0 e.1) (entries ++ (x, t) ∷ []) ++ after
+one_more before entries x t said after passed next = search (rules, map-append, append_assoc)
+
+pub passing_on : (old l m : Lines) (x t : List ℕ) → Passing old l → said_left l ≡ Gives x t ∷ said_left m → m.position ≡ l.position → m.number ≡ l.number + 1
+    → Passing old m
+passing_on old l m x t p split same next =
+    let goes = subst (λ q. Some (seen_position q) ≡ following (seen_position l.position) (Gives x t)) (sym same) (typed_entry l.position x t p.typed).0 in
+    record {
+      typed = same ∙ p.typed;
+      passed = (p.passed.0 ++ (x, t) ∷ [], one_more _ p.passed.0 x t _ _ p.passed.1 split);
+      left = λ text is. goes_on text l m (Gives x t) (p.left text is) split goes next;
+    }
+
 -- the map, where there was one before
 pub texts_left : Texts → Position → List Remark → Texts
 texts_left m Front said = texts_after (is_typed said) m Silent said
@@ -108,6 +132,12 @@ Fills text l m = texts_left m (seen_position l.position) (said_left l) ≡ auto_
 
 pub counts_all : (text : List ℕ) (l : Lines) → BeginsAs text (Ok l) → Counts text l 0
 counts_all text l begins = record { lines = begins.0; number = ap (number_after 0) begins.2 ∙ number_after-zero text }
+
+pub counts_passed : (text : List ℕ) (l m : Lines) (g : ℕ) → Counts text l g → ArePassed (said_left l) (said_left m) → (AreLeftOf text l → AreLeftOf text m) → Counts text m g
+counts_passed text l m g counts passed left = record {
+  lines = left counts.lines;
+  number = sym (passed_number g passed.0 (said_left m)) ∙ ap (number_after g) (sym passed.1) ∙ counts.number;
+}
 
 pub fills_all : (text : List ℕ) (l : Lines) (m : Texts) → BeginsAs text (Ok l) → m ≡ map.empty → Fills text l m
 unfolding Fills texts_left auto_map

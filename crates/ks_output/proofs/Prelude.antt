@@ -30,7 +30,7 @@ pub use Rattle.ks_output.specs.HeaderLaws.{AlikeIsDefinedAlike, DefinitionsAreLi
 pub use Rattle.ks_output.specs.Laws.{GenerationFits, GenerationReadsBack, HasNoFault, IsAccepted, LastLineCounts, TextsAreOfEntries, TextsHaveNames, TextsReadBack, UntypedHasNoClass, beginning}
 pub use Rattle.ks_output.specs.OldConfig.{HasNames, OldTexts, Texts, borrowed_old_entry, kept}
 unfoldable pub use Rattle.ks_output.specs.OldConfig.{texts_of}
-pub use Rattle.ks_output.specs.Positions.{AreLeftOf, BeginsAs, Entry, Front, Judged, Position, Typed, Untyped, blamed, class_at, following, said_left, seen_position, wants_entry}
+pub use Rattle.ks_output.specs.Positions.{AreLeftOf, ArePassed, BeginsAs, Entry, Front, Judged, Position, Typed, Untyped, blamed, class_at, following, said_left, seen_position, wants_entry}
 unfoldable pub use Rattle.ks_output.specs.Positions.{fault_left}
 pub use Rattle.ks_output.specs.declared.auto_conf.Lines.{Lines}
 pub use Rattle.std.proofs.lemmas.List.{map-append}

@@ -1,5 +1,5 @@
 -- Where a line of an auto.conf stands, by what the lines before it said. `AutoConf` says what a whole text comes to.
-use Rattle.std.specs.Prelude.{◌≡◌, ℕ, ◌-◌, ◌≤◌, Bool, true, false, List, [], ◌∷◌, bytes_eq, length, map as map_list, Option, Some, None, Result, Ok, Err, if◌then◌else◌}
+use Rattle.std.specs.Prelude.{◌≡◌, ℕ, ◌-◌, ◌≤◌, Bool, true, false, List, [], ◌∷◌, ◌++◌, bytes_eq, length, map as map_list, Option, Some, None, Result, Ok, Err, if◌then◌else◌}
 use Rattle.ks_symbols.specs.declared.kinds.Class.{Class}
 use Rattle.ks_symbols.specs.declared.kinds.Class.TheVariants as class
 use Rattle.ks_output.specs.AutoLines.{Remark, Gives, Marks, Types, Mistypes, Faulty, seen_remark, remark, remarks}
@@ -70,6 +70,10 @@ said_left l = map_list remark l.left
 pub record AreLeftOf (text : List ℕ) (l : Lines) : Type 0 where
   pub small : length text ≤ 67108864
   pub fault : fault_left (seen_position l.position) l.number (said_left l) ≡ auto_fault text
+
+-- Entries were passed over: all that was said before is what they say, and what is said after them.
+abbrev pub ArePassed : List Remark → List Remark → Type 0
+ArePassed before after = (entries : List (List ℕ × List ℕ)) × (before ≡ map_list (λ e. Gives e.0 e.1) entries ++ after)
 
 -- all lines of a text, or that it is too large
 abbrev pub BeginsAs : List ℕ → Result Lines AutoError → Type 0

@@ -46,7 +46,7 @@ pub(crate) struct Lines<'a> {
 }
 
 impl<'a> Lines<'a> {
-    ghost use Rattle.ks_output.specs.Positions.{AreLeftOf, Judged, BeginsAs};
+    ghost use Rattle.ks_output.specs.Positions.{AreLeftOf, ArePassed, Judged, BeginsAs, said_left};
 
     /// All lines of a text, unless it is too large.
     fn of(text: &'a [u8]) -> Result<Lines<'a>, AutoError>
@@ -61,6 +61,22 @@ impl<'a> Lines<'a> {
             position: Position::Front,
             number: 1,
         })
+    }
+
+    /// Passes over the entries of a y or an m that come next in a typed file. They are most of its lines, and say nothing that
+    /// the lines after them depend on.
+    #[inline(always)]
+    fn pass_switches(&mut self)
+        ensures passed { ArePassed (said_left self.old) (said_left self.new) }
+        ensures left { (text : List ℕ) → AreLeftOf text self.old → AreLeftOf text self.new }
+    {
+        let Position::Typed = self.position else {
+            return;
+        };
+        'switches: while let Some((_, _, rest)) = split_switch(self.left.as_bytes()) {
+            self.left = rest.lines_with_terminator();
+            self.number += 1;
+        }
     }
 
     /// What the next line says, and the class of an entry there. A line that can't stand there is refused, and so is the end.
@@ -124,10 +140,13 @@ pub fn read_auto_generation(text: &[u8]) -> Result<u64, AutoError>
 {
     let mut lines = Lines::of(text)?;
     let mut generation = 0;
-    while let Some((remark, _)) = lines.next_line()? {
+    'remarks: loop {
+        lines.pass_switches();
+        let Some((remark, _)) = lines.next_line()? else {
+            return Ok(generation);
+        };
         if let Remark::Numbers(last) = remark {
             generation = last;
         }
     }
-    Ok(generation)
 }

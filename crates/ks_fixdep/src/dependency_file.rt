@@ -292,18 +292,10 @@ pub fn read_depfile(alloc: Global, text: &[u8]) -> Result<Prerequisites, DepErro
     ensures value { IfOk result (λ p. p ≡ prerequisites text.now) }
     ensures refusal { RefusedBy DepError.OutOfMemory result (dependency_refusal text.now) }
 {
-    read_depfile_by(alloc, Seed::new(0), text)
+    read_depfile_without(alloc, Seed::new(0), Header::Usual, text)
 }
 
-/// The same, with paths that are sought by a seed.
-pub fn read_depfile_by(alloc: Global, seed: Seed, text: &[u8]) -> Result<Prerequisites, DepError>
-    ensures value { IfOk result (λ p. p ≡ prerequisites text.now) }
-    ensures refusal { RefusedBy DepError.OutOfMemory result (dependency_refusal text.now) }
-{
-    read_depfile_without(alloc, seed, Header::Usual, text)
-}
-
-/// The same, where another header is that of all symbols.
+/// The same, with paths that are sought by a seed, and where another header is that of all symbols.
 #[tactic(auto, unfolding(crate::specs::DependencyFile::refusal_without))]
 pub fn read_depfile_without(
     alloc: Global,

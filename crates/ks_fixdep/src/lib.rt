@@ -34,8 +34,7 @@ pub use command_file::{
 };
 pub use dep_error::DepError;
 pub use dependency_file::{
-    BorrowedPrerequisites, Header, Prerequisites, Role, read_depfile, read_depfile_by,
-    read_depfile_without,
+    BorrowedPrerequisites, Header, Prerequisites, Role, read_depfile, read_depfile_without,
 };
 pub use dialect::{Phase, Rules};
 pub use found_names::{BorrowedNames, FoundNames};

@@ -74,16 +74,7 @@ impl SourceScan {
     ghost use Rattle.ks_fixdep.specs.WordScan.{Known, Knows, at_start, known_after, word_ended};
     ghost use Rattle.ks_fixdep.specs.declared.dialect.Rules.{Rules};
 
-    /// A scan that stands before the first source. It takes no memory.
-    pub fn new(alloc: Global) -> Self
-        ensures stands { StandsAfter result [] }
-        ensures under_rules { (rules : Rules) → StandsAfterAs rules result [] }
-        ensures found { found_of result ≡ [] }
-    {
-        SourceScan::with_seed(alloc, Seed::new(0))
-    }
-
-    /// The same, with names that are sought by a seed.
+    /// A scan that stands before the first source, with names that are sought by a seed. It takes no memory.
     pub fn with_seed(alloc: Global, seed: Seed) -> Self
         ensures stands { StandsAfter result [] }
         ensures under_rules { (rules : Rules) → StandsAfterAs rules result [] }

@@ -8,23 +8,19 @@ use super::{BorrowedCommand, BorrowedDep, CommandFile, Dep};
 use ks_symbols::{Name, Path};
 use std::alloc::{AllocError, Global};
 
-fn own_dep(alloc: Global, dep: &BorrowedDep<'_>) -> Result<Dep, AllocError>
-    requires { IsTrue (is_dep (seen_dep dep.now)) }
-    ensures { IfOk result (λ d. d ≡ seen_dep dep.now) }
-{
-    match dep {
-        BorrowedDep::File(path) => Ok(Dep::File(Path::new(alloc, path)?)),
-        BorrowedDep::Config(name) => Ok(Dep::Config(Name::new(alloc, name.as_bytes())?)),
-    }
-}
-
+/// The same dependencies.
 fn own_deps(alloc: Global, deps: &[BorrowedDep<'_>]) -> Result<Vec<Dep>, AllocError>
     requires { IsTrue (list_all is_dep (map seen_dep deps.now)) }
     ensures { IfOk result (λ r. r.items ≡ map seen_dep deps.now) }
 {
     let mut owned = Vec::new(alloc);
     for dep in deps {
-        owned.push(own_dep(alloc, dep)?)?;
+        match dep {
+            BorrowedDep::File(path) => owned.push(Dep::File(Path::new(alloc, path)?))?,
+            BorrowedDep::Config(name) => {
+                owned.push(Dep::Config(Name::new(alloc, name.as_bytes())?))?;
+            }
+        }
     }
     Ok(owned)
 }

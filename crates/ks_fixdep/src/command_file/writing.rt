@@ -47,24 +47,16 @@ pub(crate) fn push_name(out: &mut Vec<u8>, name: &[u8]) -> Result<(), AllocError
     push_line(out, &[layout::NAME_MARK, name, layout::NAME_END])
 }
 
-/// Writes a dependency line.
-fn push_dep(out: &mut Vec<u8>, dep: &Dep) -> Result<(), AllocError>
-    ensures ok { OnOk result (out.new.items ≡ out.old.items ++ ended (dep_line dep.now)) }
-    ensures extends { Extends out.old.items out.new.items }
-{
-    match dep {
-        Dep::File(path) => push_file(out, path.as_bytes()),
-        Dep::Config(name) => push_name(out, name.as_bytes()),
-    }
-}
-
 /// Writes the dependency lines.
 fn push_deps(out: &mut Vec<u8>, deps: &[Dep]) -> Result<(), AllocError>
     ensures ok { OnOk result (out.new.items ≡ out.old.items ++ deps_text deps.now) }
     ensures extends { Extends out.old.items out.new.items }
 {
     for dep in deps {
-        push_dep(out, dep)?;
+        match dep {
+            Dep::File(path) => push_file(out, path.as_bytes())?,
+            Dep::Config(name) => push_name(out, name.as_bytes())?,
+        }
     }
     Ok(())
 }

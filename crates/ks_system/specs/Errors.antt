@@ -1,5 +1,5 @@
 -- What an error of the system says. This table is the only place where errors are told apart.
-use Rattle.std.specs.Prelude.{◌≡◌, Option, Some, None, Result, Ok, Err}
+use Rattle.std.specs.Prelude.{◌≡◌, ◌⊎◌, Option, Some, None, Result, Ok, Err, ⊤}
 use Rattle.std.specs.IoError.{error_kind}
 use Rattle.std.specs.declared.io.Error.{Error}
 use Rattle.std.specs.declared.io.ErrorKind.{ErrorKind}
@@ -30,3 +30,20 @@ absent_or_error e meaning = Err e
 abbrev pub found_of : {V : Type 0} → Result V Error → Result (Option V) Error
 found_of (Ok v) = Ok (Some v)
 found_of (Err e) = absent_or_error e (meaning_of e)
+
+-- The last call went well, or its error has this meaning, which is passed over.
+abbrev pub IsPassed : Meaning → Option Error → Type 0
+IsPassed meaning None = ⊤
+IsPassed meaning (Some e) = meaning_of e ≡ meaning
+
+-- What is told is the error of the last call, or one of this kind where that call went well.
+abbrev pub IsTold : ErrorKind → Option Error → Error → Type 0
+IsTold own last e = (last ≡ Some e) ⊎ ((last ≡ None) × (error_kind e ≡ own))
+
+-- The same, where an error of this meaning is passed over.
+abbrev pub IsToldBut : Meaning → ErrorKind → Option Error → Error → Type 0
+IsToldBut meaning own last e = (last ≡ Some e) ⊎ (IsPassed meaning last × (error_kind e ≡ own))
+
+-- What is told of writing: the error of the last call, that it writes nothing more, or that it is interrupted without end.
+abbrev pub IsToldOfWriting : Option Error → Error → Type 0
+IsToldOfWriting last e = IsTold kind.WriteZero last e ⊎ IsToldBut Interrupted kind.Other last e

@@ -31,6 +31,11 @@ Counts (Err e) before now = HasRisen before now
 abbrev pub CountsBut : {V : Type 0} → Meaning → Result V Error → ℕ → ℕ → Type 0
 CountsBut meaning result before now = (Says meaning result → now ≡ before) × ((Says meaning result → ⊥) → Counts result before now)
 
+-- The error of the last call is that of this result, and there is none where it went well.
+abbrev pub IsErrorOf : {V : Type 0} → Result V Error → Option Error → Type 0
+IsErrorOf (Ok v) last = last ≡ None
+IsErrorOf (Err e) last = last ≡ Some e
+
 -- A call failed, or signals interrupted calls up to the end of their count.
 abbrev pub HasFailed : ℕ → ℕ → ℕ → Type 0
 HasFailed before now signals = HasRisen before now ⊎ (18446744073709551615 ≤ signals)

@@ -5,7 +5,7 @@ ghost use Rattle.ks_tree.specs.Files.{HasRisen, IsMoved, SameBut, content};
 ghost use Rattle.ks_system.specs.declared.errors.Meaning.{Meaning};
 ghost use Rattle.ks_system.specs.Errors.{Says, meaning_of};
 ghost use Rattle.ks_system.specs.Disk.{world_of};
-ghost use Rattle.ks_system.specs.System.{Counts, CountsBut, IsSomeRead};
+ghost use Rattle.ks_system.specs.System.{Counts, CountsBut, IsErrorOf, IsSomeRead};
 
 use crate::disk_files::DiskFiles;
 use crate::{Kind, Look, System};
@@ -50,6 +50,7 @@ pub struct ScriptedDisk<'a> {
     signals: u64,
     aged: Vec<Vec<u8>>,
     dated: Vec<Vec<u8>>,
+    last_error: Option<io::Error>,
 }
 
 /// The error of an interrupted call.
@@ -92,6 +93,7 @@ impl<'a> ScriptedDisk<'a> {
             signals: 0,
             aged: Vec::new(alloc),
             dated: Vec::new(alloc),
+            last_error: None,
         }
     }
 
@@ -128,22 +130,39 @@ impl<'a> ScriptedDisk<'a> {
         ensures dated { self.new.dated ≡ self.old.dated }
         ensures faults { self.new.faults ≡ self.old.faults }
         ensures signals { self.new.signals ≡ self.old.signals }
+        ensures error { self.new.last_error ≡ None }
     {
+        self.last_error = None;
         let turn = self.script.get(self.calls).copied().unwrap_or(Turn::Whole);
         self.calls = self.calls.saturating_add(1);
         turn
     }
 
+    /// Answers a call by an error, which is no failure.
+    fn answer<V>(&mut self, error: io::Error) -> io::Result<V>
+        ensures error { result ≡ Err error }
+        ensures last { self.new.last_error ≡ Some error }
+        ensures files { self.new.files ≡ self.old.files }
+        ensures aged { self.new.aged ≡ self.old.aged }
+        ensures dated { self.new.dated ≡ self.old.dated }
+        ensures faults { self.new.faults ≡ self.old.faults }
+        ensures signals { self.new.signals ≡ self.old.signals }
+    {
+        self.last_error = Some(error);
+        Err(error)
+    }
+
     /// Counts a call that failed by this error.
     fn fail<V>(&mut self, error: io::Error) -> io::Result<V>
         ensures error { result ≡ Err error }
+        ensures last { self.new.last_error ≡ Some error }
         ensures counted { HasRisen self.old.faults self.new.faults }
         ensures files { self.new.files ≡ self.old.files }
         ensures aged { self.new.aged ≡ self.old.aged }
         ensures dated { self.new.dated ≡ self.old.dated }
     {
         self.faults = self.faults.saturating_add(1);
-        Err(error)
+        self.answer(error)
     }
 
     /// Some of the bytes, owned: where memory is refused for them, the call has failed.
@@ -156,6 +175,7 @@ impl<'a> ScriptedDisk<'a> {
         ensures files { self.new.files ≡ self.old.files }
         ensures aged { self.new.aged ≡ self.old.aged }
         ensures dated { self.new.dated ≡ self.old.dated }
+        ensures error { self.old.last_error ≡ None → IsErrorOf result self.new.last_error }
     {
         match bytes.to_vec(self.alloc) {
             Ok(bytes) => Ok(bytes),
@@ -173,6 +193,7 @@ impl<'a> ScriptedDisk<'a> {
         ensures counted { Counts result self.old.faults self.new.faults }
         ensures aged { self.new.aged ≡ self.old.aged }
         ensures dated { self.new.dated ≡ self.old.dated }
+        ensures error { self.old.last_error ≡ None → IsErrorOf result self.new.last_error }
     {
         let path = self.owned(path)?;
         match self.files.put(path, bytes) {
@@ -190,11 +211,12 @@ impl<'a> ScriptedDisk<'a> {
         ensures files { self.new.files ≡ self.old.files }
         ensures aged { self.new.aged ≡ self.old.aged }
         ensures dated { self.new.dated ≡ self.old.dated }
+        ensures error { IsErrorOf result self.new.last_error }
     {
         match self.turn() {
             Turn::Interrupted => {
                 self.signals = self.signals.saturating_add(1);
-                Err(interrupted())
+                self.answer(interrupted())
             }
             Turn::Fails => self.fail(failed()),
             turn => Ok(turn),
@@ -209,6 +231,7 @@ impl<'a> ScriptedDisk<'a> {
         ensures files { self.new.files ≡ self.old.files }
         ensures aged { self.new.aged ≡ self.old.aged }
         ensures dated { self.new.dated ≡ self.old.dated }
+        ensures error { IsErrorOf result self.new.last_error }
     {
         match self.turn() {
             Turn::Interrupted => self.fail(interrupted()),
@@ -236,6 +259,7 @@ impl<'a> ScriptedDisk<'a> {
         ensures files { self.new.files ≡ self.old.files }
         ensures aged { self.new.aged ≡ self.old.aged }
         ensures dated { self.new.dated ≡ self.old.dated }
+        ensures error { self.old.last_error ≡ None → IsErrorOf result self.new.last_error }
     {
         Ok(DiskHandle {
             path: self.owned(path)?,
@@ -267,6 +291,8 @@ impl<'a> System for ScriptedDisk<'a> {
 
     ghost signals = { λ s. s.signals };
 
+    ghost last_error = { λ s. s.last_error };
+
     ghost kind_at = { λ s path. option_map (λ b. kind.File) (content s.files path) };
 
     fn place<'p>(&self, _alloc: Global, path: &'p [u8]) -> Result<Option<CowStr<'p>>, AllocError> {
@@ -283,7 +309,7 @@ impl<'a> System for ScriptedDisk<'a> {
                 kind: Kind::File,
                 size: bytes.len() as u64,
             }),
-            None => Err(io::Error::from(ErrorKind::NotFound)),
+            None => self.answer(io::Error::from(ErrorKind::NotFound)),
         }
     }
 
@@ -291,14 +317,14 @@ impl<'a> System for ScriptedDisk<'a> {
         self.begin()?;
         match self.files.get(place.as_bytes()) {
             Some(_) => Ok(Kind::File),
-            None => Err(io::Error::from(ErrorKind::NotFound)),
+            None => self.answer(io::Error::from(ErrorKind::NotFound)),
         }
     }
 
     fn open(&mut self, place: &str) -> io::Result<DiskHandle> {
         self.begin()?;
         if self.files.get(place.as_bytes()).is_none() {
-            return Err(io::Error::from(ErrorKind::NotFound));
+            return self.answer(io::Error::from(ErrorKind::NotFound));
         }
         self.handle(place.as_bytes(), false)
     }
@@ -323,7 +349,7 @@ impl<'a> System for ScriptedDisk<'a> {
             return self.fail(io::Error::from(ErrorKind::NotFound));
         }
         if self.files.get(place.as_bytes()).is_some() {
-            return Err(io::Error::from(ErrorKind::AlreadyExists));
+            return self.answer(io::Error::from(ErrorKind::AlreadyExists));
         }
         let handle = self.handle(place.as_bytes(), true)?;
         self.store(place.as_bytes(), Vec::new(self.alloc))?;
@@ -381,6 +407,7 @@ impl<'a> System for ScriptedDisk<'a> {
         ensures unchanged { world_of self.new.files (map (λ path. path.items) self.new.dated.items)
             ≡ world_of self.old.files (map (λ path. path.items) self.old.dated.items) }
         ensures faults { Counts result self.old.faults self.new.faults }
+        ensures error { IsErrorOf result self.new.last_error }
     {
         self.begin()?;
         let path = self.owned(place.as_bytes())?;

@@ -55,7 +55,7 @@ const NUMBER: &str = " (os error ";
 
 impl FolderFault {
     /// The failure at a path, or `None` where memory is refused for it or the path isn't text.
-    pub(crate) fn new(alloc: Global, path: &[u8], error: &io::Error) -> Option<FolderFault>
+    pub fn new(alloc: Global, path: &[u8], error: &io::Error) -> Option<FolderFault>
         ensures { IfSome result (λ fault. string_bytes fault.path ≡ path.now) }
     {
         let path = str::from_utf8(path).ok()?;
@@ -68,11 +68,15 @@ impl FolderFault {
     /// The path and the reason, in the system's words: `a/b.h: Permission denied`.
     pub fn tell(&self, alloc: Global) -> Result<String, AllocError> {
         let path = self.path.as_str();
-        let error = self.error;
-        let words = format!(in alloc; "{error}")?;
-        let reason = without_number(words.as_str());
+        let reason = reason_of(alloc, &self.error)?;
         format!(in alloc; "{path}: {reason}")
     }
+}
+
+/// The reason of a failure, in the system's words: `Permission denied`.
+pub fn reason_of(alloc: Global, error: &io::Error) -> Result<String, AllocError> {
+    let words = format!(in alloc; "{error}")?;
+    String::from_str(alloc, without_number(words.as_str()))
 }
 
 /// The text of an error without the system's number for it.

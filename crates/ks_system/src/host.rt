@@ -7,6 +7,7 @@ ghost use Rattle.std.specs.Fs.{asks_create_new};
 ghost use Rattle.ks_system.specs.Places.{place_of};
 
 use crate::{Kind, Look, System};
+use ks_tree::stamp_temporary;
 use std::alloc::{AllocError, Global};
 use std::borrow::CowStr;
 use std::fs::{File, FileTimes, Metadata, OpenFile, OpenOptions, TryLockError};
@@ -34,6 +35,10 @@ impl Claim for File {
 pub struct Host<R: Files> {
     files: R,
     root: String,
+    /// Whether the folder is locked for this program alone.
+    is_alone: bool,
+    /// Whether the lock on the folder claims the file that was made last.
+    is_claimed: bool,
 }
 
 /// The number of `/dev/null`.
@@ -70,8 +75,24 @@ fn for_a_new_file() -> OpenOptions
 impl<R: Files> Host<R> {
     /// The system below a folder. An empty root is the current folder.
     pub fn new(files: R, root: String) -> Host<R> {
-        Host { files, root }
+        Host {
+            files,
+            root,
+            is_alone: false,
+            is_claimed: false,
+        }
     }
+
+    /// From now on the folder is locked for this program alone, and that lock claims what stamps are written at: only a
+    /// synchronisation writes there, and no other one is at work in the folder.
+    pub(crate) fn claim_stamps(&mut self) {
+        self.is_alone = true;
+    }
+}
+
+/// Whether a stamp is written at a place before it is moved.
+fn is_of_stamps(place: &str) -> bool {
+    place.as_bytes().ends_with(stamp_temporary())
 }
 
 impl<R: Files> System for Host<R>
@@ -97,6 +118,8 @@ where
     ghost faults = { λ s. 0 };
 
     ghost signals = { λ s. 0 };
+
+    ghost last_error = { λ s. None };
 
     ghost kind_at = { λ s path. None };
 
@@ -144,7 +167,11 @@ where
     }
 
     fn create_new(&mut self, place: &str) -> io::Result<R::File> {
-        for_a_new_file().open(&self.files, place)
+        // What is left over there may be claimed by another program that had no lock.
+        self.is_claimed = false;
+        let file = for_a_new_file().open(&self.files, place)?;
+        self.is_claimed = self.is_alone && is_of_stamps(place);
+        Ok(file)
     }
 
     fn make_folders(&mut self, place: &str) -> io::Result<()> {
@@ -155,11 +182,11 @@ where
     }
 
     fn claim(&mut self, file: &mut R::File) -> bool {
-        file.claim()
+        self.is_claimed || file.claim()
     }
 
     fn has_a_name(&mut self, file: &R::File) -> io::Result<bool> {
-        Ok(file.metadata()?.nlink() > 0)
+        Ok(self.is_claimed || file.metadata()?.nlink() > 0)
     }
 
     fn is_at(&mut self, file: &R::File, place: &str) -> io::Result<bool> {

@@ -5,6 +5,7 @@ mod disk;
 mod disk_files;
 mod errors;
 mod fault;
+mod folder_tree;
 mod held;
 mod host;
 mod kept_file;
@@ -15,7 +16,8 @@ mod system_tree;
 
 pub use disk::{DiskHandle, ScriptedDisk, Turn};
 pub use errors::Meaning;
-pub use fault::FolderFault;
+pub use fault::{FolderFault, reason_of};
+pub use folder_tree::FolderTree;
 pub use host::{Claim, Host};
 pub use system::{Kind, Look, System};
 pub use system_tree::SystemTree;

@@ -1,9 +1,13 @@
 //! A new file at a place, whatever is left over there, or only where nothing is. What stands there is never written into: it may be a
 //! link, and its bytes those of another tree. A new file is claimed until it is moved, so that of two programs that write at one place
 //! neither moves what the other has only begun. A short write is never taken for the whole.
-ghost use Rattle.std.specs.Prelude.{◌≡◌, ◌≤◌, ◌++◌, ◌∷◌, ℕ, [], true, Some, None, IsSome, IfOk, IfSome, OnOk, OnErr, MatchOption, length, take};
+ghost use Rattle.std.specs.Prelude.{◌≡◌, ◌⊎◌, ◌≤◌, ◌++◌, ◌∷◌, ℕ, [], true, Some, None, IsNone, IsSome, IfErr, IfOk, IfSome, OnOk, OnErr, MatchOption, length, take};
+ghost use Rattle.std.specs.declared.io.ErrorKind.TheVariants as kind;
+ghost use Rattle.std.specs.IoError.{error_kind};
 ghost use Rattle.ks_tree.specs.Files.{IsHalfCreated, SameBut, content, kept_or};
+ghost use Rattle.ks_system.specs.Errors.{IsPassed, IsTold, IsToldBut, IsToldOfWriting, meaning_of};
 ghost use Rattle.ks_system.specs.System.{Begun, IsAppended, IsMade};
+ghost use Rattle.ks_system.specs.declared.errors.Meaning.{Meaning};
 
 use crate::errors::{Meaning, meaning_of};
 use crate::reading::never_done;
@@ -26,6 +30,8 @@ fn write_some<S: System>(system: &mut S, handle: &mut S::Handle, bytes: &[u8]) -
     ensures opened { S.opened handle.new ≡ S.opened handle.old }
     ensures claimed { S.is_claimed handle.new ≡ S.is_claimed handle.old }
     ensures kept { S.aged system.new ≡ S.aged system.old }
+    ensures passed { S.is_honest → OnOk result (S.last_error system.new ≡ None) }
+    ensures told { S.is_honest → IfErr result (IsToldBut Meaning.Interrupted kind.Other (S.last_error system.new)) }
 {
     for _ in 0..u64::MAX {
         match system.write(handle, bytes) {
@@ -49,6 +55,7 @@ fn fill_new<S: System>(system: &mut S, handle: &mut S::Handle, bytes: &[u8]) -> 
     ensures opened { S.opened handle.new ≡ S.opened handle.old }
     ensures claimed { S.is_claimed handle.new ≡ S.is_claimed handle.old }
     ensures kept { S.aged system.new ≡ S.aged system.old }
+    ensures told { S.is_honest → IfErr result (IsToldOfWriting (S.last_error system.new)) }
 {
     let mut written = 0;
     for _ in 0..u64::MAX {
@@ -78,6 +85,8 @@ fn write_claimed<S: System>(
     ensures others { S.is_honest → SameBut (S.opened handle).path (S.world system.old).files (S.world system.new).files }
     ensures dated { S.is_honest → (S.world system.new).dated ≡ (S.world system.old).dated }
     ensures kept { S.aged system.new ≡ S.aged system.old }
+    ensures passed { S.is_honest → IfOk result (λ found. IsNone found → S.last_error system.new ≡ None) }
+    ensures told { S.is_honest → IfErr result (IsToldOfWriting (S.last_error system.new)) }
 {
     if !system.claim(&mut handle) {
         return Ok(None);
@@ -102,6 +111,7 @@ pub(crate) fn write_new<S: System>(
     ensures others { S.is_honest → SameBut (S.path_at place.now) (S.world system.old).files (S.world system.new).files }
     ensures dated { S.is_honest → (S.world system.new).dated ≡ (S.world system.old).dated }
     ensures kept { S.aged system.new ≡ S.aged system.old }
+    ensures told { S.is_honest → IfErr result (λ e. IsToldOfWriting (S.last_error system.new) e ⊎ IsToldBut Meaning.Missing kind.ResourceBusy (S.last_error system.new) e) }
 {
     for _ in 0..TRIES {
         match system.create_new(place) {
@@ -118,9 +128,12 @@ pub(crate) fn write_new<S: System>(
 
 /// Does what lets a file be made at a place where that failed, or gives the failure back.
 fn make_way<S: System>(system: &mut S, place: &str, error: io::Error) -> io::Result<()>
+    requires last { S.is_honest → S.last_error system.old ≡ Some error }
     ensures others { S.is_honest → SameBut (S.path_at place.now) (S.world system.old).files (S.world system.new).files }
     ensures dated { S.is_honest → (S.world system.new).dated ≡ (S.world system.old).dated }
     ensures kept { S.aged system.new ≡ S.aged system.old }
+    ensures passed { S.is_honest → OnOk result (IfSome (S.last_error system.new) (λ e. (meaning_of e ≡ Meaning.Missing) × (meaning_of error ≡ Meaning.Stands))) }
+    ensures told { S.is_honest → IfErr result (IsTold kind.ResourceBusy (S.last_error system.new)) }
 {
     match meaning_of(&error) {
         Meaning::Stands => clear(system, place),
@@ -138,6 +151,7 @@ fn make_once<S: System>(system: &mut S, place: &str) -> io::Result<Option<S::Han
     ensures dated { S.is_honest → (S.world system.new).dated ≡ (S.world system.old).dated }
     ensures failed { S.is_honest → OnErr result (S.world system.new ≡ S.world system.old) }
     ensures kept { S.aged system.new ≡ S.aged system.old }
+    ensures told { S.is_honest → IfErr result (λ e. S.last_error system.new ≡ Some e) }
 {
     match system.create_new(place) {
         Ok(handle) => Ok(Some(handle)),
@@ -155,6 +169,7 @@ fn make_in_folders<S: System>(system: &mut S, place: &str) -> io::Result<Option<
     ensures dated { S.is_honest → (S.world system.new).dated ≡ (S.world system.old).dated }
     ensures failed { S.is_honest → OnErr result (S.world system.new ≡ S.world system.old) }
     ensures kept { S.aged system.new ≡ S.aged system.old }
+    ensures told { S.is_honest → IfErr result (λ e. S.last_error system.new ≡ Some e) }
 {
     match make_once(system, place) {
         Ok(found) => return Ok(found),
@@ -178,6 +193,7 @@ pub(crate) fn create_new<S: System>(system: &mut S, place: &str, bytes: &[u8]) -
     ensures stood { S.is_honest → IsSome (content (S.world system.old).files (S.path_at place.now)) → (S.world system.new).dated ≡ (S.world system.old).dated }
     ensures undated { S.is_honest → OnErr result ((S.world system.new).dated ≡ (S.world system.old).dated) }
     ensures kept { S.aged system.new ≡ S.aged system.old }
+    ensures told { S.is_honest → IfErr result (IsToldOfWriting (S.last_error system.new)) }
 {
     let Some(mut handle) = make_in_folders(system, place)? else {
         return Ok(());
@@ -187,7 +203,9 @@ pub(crate) fn create_new<S: System>(system: &mut S, place: &str, bytes: &[u8]) -
 }
 
 /// That another program has claimed what stands at a place.
-fn claimed() -> io::Error {
+fn claimed() -> io::Error
+    ensures { error_kind result ≡ kind.ResourceBusy }
+{
     io::Error::new(ErrorKind::ResourceBusy, "Another program is writing it")
 }
 
@@ -196,6 +214,8 @@ fn clear<S: System>(system: &mut S, place: &str) -> io::Result<()>
     ensures others { S.is_honest → SameBut (S.path_at place.now) (S.world system.old).files (S.world system.new).files }
     ensures dated { S.is_honest → (S.world system.new).dated ≡ (S.world system.old).dated }
     ensures kept { S.aged system.new ≡ S.aged system.old }
+    ensures passed { S.is_honest → OnOk result (IsPassed Meaning.Missing (S.last_error system.new)) }
+    ensures told { S.is_honest → IfErr result (IsTold kind.ResourceBusy (S.last_error system.new)) }
 {
     match remove(system, place) {
         Err(error) if meaning_of(&error) == Meaning::Missing => Ok(()),
@@ -208,6 +228,8 @@ fn remove<S: System>(system: &mut S, place: &str) -> io::Result<()>
     ensures others { S.is_honest → SameBut (S.path_at place.now) (S.world system.old).files (S.world system.new).files }
     ensures dated { S.is_honest → (S.world system.new).dated ≡ (S.world system.old).dated }
     ensures kept { S.aged system.new ≡ S.aged system.old }
+    ensures passed { S.is_honest → OnOk result (S.last_error system.new ≡ None) }
+    ensures told { S.is_honest → IfErr result (IsTold kind.ResourceBusy (S.last_error system.new)) }
 {
     match system.kind(place)? {
         Kind::Disk | Kind::Null | Kind::Device => {
@@ -224,6 +246,8 @@ fn remove_unclaimed<S: System>(system: &mut S, place: &str) -> io::Result<()>
     ensures others { S.is_honest → SameBut (S.path_at place.now) (S.world system.old).files (S.world system.new).files }
     ensures dated { S.is_honest → (S.world system.new).dated ≡ (S.world system.old).dated }
     ensures kept { S.aged system.new ≡ S.aged system.old }
+    ensures passed { S.is_honest → OnOk result (S.last_error system.new ≡ None) }
+    ensures told { S.is_honest → IfErr result (IsTold kind.ResourceBusy (S.last_error system.new)) }
 {
     let Ok(mut handle) = system.open_left_over(place) else {
         return system.remove_file(place);

@@ -1,6 +1,8 @@
 //! Reading by a handle. Neither a short read nor an interrupted one is taken for the end: otherwise a symbol that stands further on in
 //! a file would be missed, and an object called fresh.
 ghost use Rattle.std.specs.Prelude.{◌≡◌, ◌⊎◌, ◌≤◌, ◌<◌, ℕ, List, Some, None, Ok, IsSome, IfOk, IsErrOf, OnOk, OnErr, IfSome, Option, length, take, option_map};
+ghost use Rattle.std.specs.IoError.{error_kind};
+ghost use Rattle.std.specs.declared.io.ErrorKind.TheVariants as kind;
 ghost use Rattle.ks_symbols.specs.Lines.{max_bytes};
 ghost use Rattle.ks_tree.specs.Files.{IsTooLarge, content};
 ghost use Rattle.ks_system.specs.System.{HasFailed, IsLookAt, IsSomeReadAt};
@@ -20,7 +22,9 @@ use std::io::ErrorKind;
 const ROOM: usize = 32768;
 
 /// That a call never ends to be interrupted.
-pub(crate) fn never_done() -> io::Error {
+pub(crate) fn never_done() -> io::Error
+    ensures { error_kind result ≡ kind.Other }
+{
     io::Error::new(ErrorKind::Other, "Interrupted without end")
 }
 

@@ -34,8 +34,9 @@ pub struct Look {
 
 /// Files of a system by their places. A place is text: where a path stands.
 pub trait System {
+    ghost use Rattle.std.specs.declared.io.Error.{Error};
     ghost use Rattle.ks_system.specs.Errors.{Says};
-    ghost use Rattle.ks_system.specs.System.{World, Opened, Counts, CountsBut, IsLookAt, IsSomeReadAt, IsMade, IsAppended, dated_also};
+    ghost use Rattle.ks_system.specs.System.{World, Opened, Counts, CountsBut, IsErrorOf, IsLookAt, IsSomeReadAt, IsMade, IsAppended, dated_also};
 
     /// An open file.
     type Handle: Drop;
@@ -64,6 +65,9 @@ pub trait System {
     /// How many of its reads and writes a signal has interrupted, up to the greatest `u64`.
     ghost signals: { Self → ℕ };
 
+    /// The error of its last call, or `None` where that went well.
+    ghost last_error: { Self → Option Error };
+
     /// What stands at a path, behind a link too, if anything does.
     ghost kind_at: { Self → List ℕ → Option Kind };
 
@@ -78,13 +82,15 @@ pub trait System {
         ensures missing { is_honest → Says Meaning.Missing result → content (world self.old).files (path_at place.now) ≡ None }
         ensures unchanged { is_honest → world self.new ≡ world self.old }
         ensures kept { aged self.new ≡ aged self.old }
-        ensures faults { is_honest → CountsBut Meaning.Missing result (faults self.old) (faults self.new) };
+        ensures faults { is_honest → CountsBut Meaning.Missing result (faults self.old) (faults self.new) }
+        ensures error { is_honest → IsErrorOf result (last_error self.new) };
 
     /// What stands at a place, where a link is not followed.
     fn kind(&mut self, place: &str) -> io::Result<Kind>
         ensures unchanged { is_honest → world self.new ≡ world self.old }
         ensures kept { aged self.new ≡ aged self.old }
-        ensures faults { is_honest → CountsBut Meaning.Missing result (faults self.old) (faults self.new) };
+        ensures faults { is_honest → CountsBut Meaning.Missing result (faults self.old) (faults self.new) }
+        ensures error { is_honest → IsErrorOf result (last_error self.new) };
 
     /// Opens a file to be read.
     fn open(&mut self, place: &str) -> io::Result<Self::Handle>
@@ -93,13 +99,15 @@ pub trait System {
         ensures missing { is_honest → Says Meaning.Missing result → content (world self.old).files (path_at place.now) ≡ None }
         ensures unchanged { is_honest → world self.new ≡ world self.old }
         ensures kept { aged self.new ≡ aged self.old }
-        ensures faults { is_honest → CountsBut Meaning.Missing result (faults self.old) (faults self.new) };
+        ensures faults { is_honest → CountsBut Meaning.Missing result (faults self.old) (faults self.new) }
+        ensures error { is_honest → IsErrorOf result (last_error self.new) };
 
     /// Opens what is left over at a place, to claim it.
     fn open_left_over(&mut self, place: &str) -> io::Result<Self::Handle>
         ensures unchanged { is_honest → world self.new ≡ world self.old }
         ensures kept { aged self.new ≡ aged self.old }
-        ensures faults { is_honest → CountsBut Meaning.Missing result (faults self.old) (faults self.new) };
+        ensures faults { is_honest → CountsBut Meaning.Missing result (faults self.old) (faults self.new) }
+        ensures error { is_honest → IsErrorOf result (last_error self.new) };
 
     /// Reads some bytes from an offset on, maybe fewer than there is room for, but none only at the end.
     fn read_at(&mut self, handle: &Self::Handle, offset: u64, into: &mut [u8]) -> io::Result<usize>
@@ -111,6 +119,7 @@ pub trait System {
         ensures unchanged { is_honest → world self.new ≡ world self.old }
         ensures kept { aged self.new ≡ aged self.old }
         ensures faults { is_honest → CountsBut Meaning.Interrupted result (faults self.old) (faults self.new) }
+        ensures error { is_honest → IsErrorOf result (last_error self.new) }
         ensures signals { is_honest → Says Meaning.Interrupted result → HasRisen (signals self.old) (signals self.new) };
 
     /// Makes an empty file where nothing stands, and opens it to be written.
@@ -121,13 +130,15 @@ pub trait System {
         ensures dated { is_honest → (world self.new).dated ≡ (world self.old).dated }
         ensures failed { is_honest → OnErr result (world self.new ≡ world self.old) }
         ensures kept { aged self.new ≡ aged self.old }
-        ensures faults { is_honest → CountsBut Meaning.Stands result (faults self.old) (faults self.new) };
+        ensures faults { is_honest → CountsBut Meaning.Stands result (faults self.old) (faults self.new) }
+        ensures error { is_honest → IsErrorOf result (last_error self.new) };
 
     /// Makes the folders above a place that are missing.
     fn make_folders(&mut self, place: &str) -> io::Result<()>
         ensures unchanged { is_honest → world self.new ≡ world self.old }
         ensures kept { aged self.new ≡ aged self.old }
-        ensures faults { is_honest → Counts result (faults self.old) (faults self.new) };
+        ensures faults { is_honest → Counts result (faults self.old) (faults self.new) }
+        ensures error { is_honest → IsErrorOf result (last_error self.new) };
 
     /// Whether no other program has claimed the file. From now on this program has, until it closes it.
     fn claim(&mut self, handle: &mut Self::Handle) -> bool
@@ -135,19 +146,22 @@ pub trait System {
         ensures opened { opened handle.new ≡ opened handle.old }
         ensures unchanged { is_honest → world self.new ≡ world self.old }
         ensures kept { aged self.new ≡ aged self.old }
-        ensures faults { is_honest → faults self.new ≡ faults self.old };
+        ensures faults { is_honest → faults self.new ≡ faults self.old }
+        ensures error { is_honest → last_error self.new ≡ None };
 
     /// Whether the file still has a name.
     fn has_a_name(&mut self, handle: &Self::Handle) -> io::Result<bool>
         ensures unchanged { is_honest → world self.new ≡ world self.old }
         ensures kept { aged self.new ≡ aged self.old }
-        ensures faults { is_honest → Counts result (faults self.old) (faults self.new) };
+        ensures faults { is_honest → Counts result (faults self.old) (faults self.new) }
+        ensures error { is_honest → IsErrorOf result (last_error self.new) };
 
     /// Whether the file is the one that stands at a place, where a link is not followed.
     fn is_at(&mut self, handle: &Self::Handle, place: &str) -> io::Result<bool>
         ensures unchanged { is_honest → world self.new ≡ world self.old }
         ensures kept { aged self.new ≡ aged self.old }
-        ensures faults { is_honest → Counts result (faults self.old) (faults self.new) };
+        ensures faults { is_honest → Counts result (faults self.old) (faults self.new) }
+        ensures error { is_honest → IsErrorOf result (last_error self.new) };
 
     /// Writes some of the bytes at the end of a file that the handle made, maybe not all, and tells how many.
     fn write(&mut self, handle: &mut Self::Handle, bytes: &[u8]) -> io::Result<usize>
@@ -162,6 +176,7 @@ pub trait System {
         ensures claimed { is_claimed handle.new ≡ is_claimed handle.old }
         ensures kept { aged self.new ≡ aged self.old }
         ensures faults { is_honest → CountsBut Meaning.Interrupted result (faults self.old) (faults self.new) }
+        ensures error { is_honest → IsErrorOf result (last_error self.new) }
         ensures signals { is_honest → Says Meaning.Interrupted result → HasRisen (signals self.old) (signals self.new) };
 
     /// Gives a new file a time long past.
@@ -169,7 +184,8 @@ pub trait System {
         ensures dated { is_honest → OnOk result (world self.new ≡ dated_also (world self.old) (opened handle.now).path) }
         ensures failed { is_honest → OnErr result (world self.new ≡ world self.old) }
         ensures kept { aged self.new ≡ aged self.old }
-        ensures faults { is_honest → Counts result (faults self.old) (faults self.new) };
+        ensures faults { is_honest → Counts result (faults self.old) (faults self.new) }
+        ensures error { is_honest → IsErrorOf result (last_error self.new) };
 
     /// Makes the file that was opened at a place older than all others. Where there is none, nothing happens to it, and all is well too.
     fn age(&mut self, place: &str, file: Option<Self::Handle>) -> io::Result<()>
@@ -178,7 +194,8 @@ pub trait System {
         ensures aged { is_honest → OnOk result (aged self.new ≡ aged self.old ++ path_at place.now ∷ []) }
         ensures failed { is_honest → OnErr result (aged self.new ≡ aged self.old) }
         ensures unchanged { is_honest → world self.new ≡ world self.old }
-        ensures faults { is_honest → Counts result (faults self.old) (faults self.new) };
+        ensures faults { is_honest → Counts result (faults self.old) (faults self.new) }
+        ensures error { is_honest → IsErrorOf result (last_error self.new) };
 
     /// Removes a file, a link, a pipe or a socket.
     fn remove_file(&mut self, place: &str) -> io::Result<()>
@@ -187,13 +204,15 @@ pub trait System {
         ensures dated { is_honest → (world self.new).dated ≡ (world self.old).dated }
         ensures failed { is_honest → OnErr result (world self.new ≡ world self.old) }
         ensures kept { aged self.new ≡ aged self.old }
-        ensures faults { is_honest → CountsBut Meaning.Missing result (faults self.old) (faults self.new) };
+        ensures faults { is_honest → CountsBut Meaning.Missing result (faults self.old) (faults self.new) }
+        ensures error { is_honest → IsErrorOf result (last_error self.new) };
 
     /// Removes an empty folder.
     fn remove_folder(&mut self, place: &str) -> io::Result<()>
         ensures unchanged { is_honest → world self.new ≡ world self.old }
         ensures kept { aged self.new ≡ aged self.old }
-        ensures faults { is_honest → Counts result (faults self.old) (faults self.new) };
+        ensures faults { is_honest → Counts result (faults self.old) (faults self.new) }
+        ensures error { is_honest → IsErrorOf result (last_error self.new) };
 
     /// Moves a file, in the place of what was there.
     fn rename(&mut self, from: &str, to: &str) -> io::Result<()>
@@ -203,5 +222,6 @@ pub trait System {
         ensures dated { is_honest → (world self.new).dated ≡ (world self.old).dated }
         ensures failed { is_honest → OnErr result (world self.new ≡ world self.old) }
         ensures kept { aged self.new ≡ aged self.old }
-        ensures faults { is_honest → Counts result (faults self.old) (faults self.new) };
+        ensures faults { is_honest → Counts result (faults self.old) (faults self.new) }
+        ensures error { is_honest → IsErrorOf result (last_error self.new) };
 }

@@ -26,7 +26,7 @@ use std::io;
 /// The tree of a system's files.
 #[derive(Drop)]
 pub struct SystemTree<S: System + Drop> {
-    system: S,
+    pub(crate) system: S,
     seed: u64,
     failures: u64,
     /// What failed last, where something can be said of it.
@@ -45,7 +45,7 @@ pub struct SystemTree<S: System + Drop> {
 
 impl<S: System + Drop> SystemTree<S> {
     /// The tree of a system.
-    pub fn new(system: S) -> SystemTree<S>
+    pub fn over(system: S) -> SystemTree<S>
         ensures system { result.system ≡ system }
         ensures failures { result.failures ≡ 0 }
     {
@@ -141,6 +141,31 @@ impl<S: System + Drop> SystemTree<S> {
     {
         self.kept = None;
         self.held = None;
+    }
+
+    /// Removes the file at a path. That none is there is a failure too.
+    pub fn remove(&mut self, alloc: Global, path: &[u8]) -> Result<(), TreeFault>
+        ensures gone { S.is_honest → OnOk result (content (S.world self.new.system).files path.now ≡ None) }
+        ensures others { S.is_honest → SameBut path.now (S.world self.old.system).files (S.world self.new.system).files }
+        ensures failed { S.is_honest → OnErr result ((S.world self.new.system).files ≡ (S.world self.old.system).files) }
+        ensures kept { S.aged self.new.system ≡ S.aged self.old.system }
+        ensures undated { S.is_honest → (S.world self.new.system).dated ≡ (S.world self.old.system).dated }
+        ensures never { IsErrOf result TreeFault.TooLarge → ⊥ }
+        ensures later { self.old.failures ≤ self.new.failures }
+        ensures passed { OnOk result (self.new.failures ≡ self.old.failures) }
+        ensures uncounted { IsErrOf result TreeFault.OutOfMemory → self.new.failures ≡ self.old.failures }
+        ensures cause { IsErrOf result TreeFault.Device → HasRisen self.old.failures self.new.failures }
+        ensures forgotten { self.new.held ≡ None }
+        ensures told { IsErrOf result TreeFault.Device → IfSome self.new.last_fault (λ fault. string_bytes fault.path ≡ path.now) }
+    {
+        self.forget_readings();
+        let Some(place) = self.system.place(alloc, path)? else {
+            return Err(self.device());
+        };
+        match self.system.remove_file(place.as_str()) {
+            Ok(()) => Ok(()),
+            Err(error) => Err(self.fault(alloc, path, &error)),
+        }
     }
 
     /// The kept file, where it is that of the path, or else the path's own, newly opened. It is opened anew for its first

@@ -2,7 +2,7 @@
 //! what is then seen. Most tests are a scene, a row of deeds.
 use crate::steps::{STEPS, Step, check, run};
 use ks_symbols::MAX_BYTES;
-use ks_system::{Host, System, SystemTree};
+use ks_system::{FolderTree, System, SystemTree};
 use ks_tree::{Aging, Tree, TreeFault};
 use std::alloc::{AllocError, Global};
 use std::fs::OpenOptions;
@@ -286,9 +286,9 @@ fn do_deeds<S: System + Drop>(
 fn tree_of<'a>(
     host: &'a HostRuntime,
     root: &str,
-) -> Result<SystemTree<Host<&'a HostRuntime>>, AllocError> {
+) -> Result<FolderTree<&'a HostRuntime>, AllocError> {
     let root = String::from_str(host.alloc(), root)?;
-    Ok(SystemTree::new(Host::new(host, root)))
+    Ok(FolderTree::new(host, root))
 }
 
 /// Does the deeds with a tree in a folder.

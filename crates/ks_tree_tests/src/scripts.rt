@@ -292,7 +292,7 @@ fn check_disk(
 fn run(rt: &impl Abort, alloc: Global, row: &Row<'_>) -> Result<(), AllocError> {
     let mut disk = ScriptedDisk::new(alloc, row.script);
     disk.put(b"a", b"abcdefgh")?;
-    let mut tree = SystemTree::new(disk);
+    let mut tree = SystemTree::over(disk);
     play(rt, alloc, &mut tree, row)?;
     check_disk(rt, alloc, &tree.into_system(), row)
 }

@@ -15,6 +15,7 @@ loop-preserved g c = record {
   dated = search rules;
   opened = search rules;
   claimed = search rules;
+  last = search rules;
   kept = search rules;
 }
 

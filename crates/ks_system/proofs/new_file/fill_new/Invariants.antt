@@ -1,4 +1,4 @@
-use Rattle.std.proofs.Common.{◌≡◌, ◌≤◌, length}
+use Rattle.std.proofs.Common.{◌≡◌, ◌≤◌, ◌<◌, None, length}
 use Rattle.ks_tree.specs.Files.{SameBut}
 use Rattle.ks_system.specs.System.{Begun}
 use Rattle.ks_system.proofs.new_file.fill_new.Given as goal
@@ -12,5 +12,6 @@ invariant-loop g l = record {
   dated : g.S.System.is_honest → (g.S.System.world l.system).dated ≡ (g.S.System.world l.fn.system).dated;
   opened : g.S.System.opened l.handle ≡ g.S.System.opened l.fn.handle;
   claimed : g.S.System.is_claimed l.handle ≡ g.S.System.is_claimed l.fn.handle;
+  last : g.S.System.is_honest → 0 < l.counter → g.S.System.last_error l.system ≡ None;
   kept : g.S.System.aged l.system ≡ g.S.System.aged l.fn.system;
 }

@@ -1,4 +1,6 @@
-use Rattle.std.proofs.Common.{◌≡◌}
+use Rattle.std.proofs.Common.{◌≡◌, ◌<◌}
+use Rattle.ks_system.specs.Errors.{IsPassed}
+use Rattle.ks_system.specs.declared.errors.Meaning.TheVariants.{Missing}
 use Rattle.ks_tree.specs.Files.{SameBut}
 use Rattle.ks_system.proofs.new_file.write_new.Given as goal
 
@@ -6,5 +8,6 @@ abbrev pub invariant-loop : goal.invariant-loop
 invariant-loop g l = record {
   others : g.S.System.is_honest → SameBut (g.S.System.path_at l.place) (g.S.System.world l.fn.system).files (g.S.System.world l.system).files;
   dated : g.S.System.is_honest → (g.S.System.world l.system).dated ≡ (g.S.System.world l.fn.system).dated;
+  last : g.S.System.is_honest → 0 < l.counter → IsPassed Missing (g.S.System.last_error l.system);
   kept : g.S.System.aged l.system ≡ g.S.System.aged l.fn.system;
 }

@@ -1,67 +1,116 @@
 -- A run by the files goes on by one command; and each history that its first files show goes on with it.
-use Rattle.ks_engine.proofs.Prelude.{◌≡◌, ℕ, ◌+◌, ◌<◌, List, [], ◌∷◌, ◌++◌, refl, sym, subst, Ok, Err, map, take, length, get_or, ⊤, take_more, map-append, Action, Dialect, Sync, Record, action, Command, Reply, Refused, FileState, Files, Result, EngineError, IsAnswerOn, LeavesFiles, StepsTo, FileRun, TreeState, at, History, Leaves, Run, Shows, read_in, arith, common_steps, rules}
-use Rattle.ks_engine.specs.Actions.{Stale}
-use Rattle.ks_engine.specs.declared.commands.Reply.TheVariants.{Synced, Recorded, Verdict}
-use Rattle.ks_engine.specs.declared.staleness.Verdict.{Verdict as VerdictValue}
-use Rattle.ks_engine.specs.Runs.{FollowsStale}
+use Rattle.ks_engine.proofs.Prelude.{◌≡◌, ◌∙◌, ℕ, ◌+◌, ◌<◌, List, [], ◌∷◌, ◌++◌, refl, sym, ap, ap₂, subst, Ok, Err, map, take, length, length-map, length-take, get_or, ⊤, take_more, map-append, Action, Dialect, Sync, Record, Call, action, call_of, calls_of, reply_to, Command, CommandReply, Reply, FileState, Files, LeavesFiles, Ages, StepsTo, FileRun, TreeState, at, History, IsJudgedReply, FollowsQuestion, Leaves, read_in, Run, Shows, told, arith, common_steps, rules}
+use Rattle.ks_engine.specs.Actions.{SyncStamped, Depfile, Stale, Why, After, Age, Outdated, Read, Synced, Recorded, Judged, Explained, Built, Found}
+use Rattle.ks_engine.specs.Depfile.{ruled_by}
 use Rattle.ks_engine.proofs.Asking.{stale_judged}
+use Rattle.ks_engine.proofs.DepfileLemmas.{depfile_follows}
+use Rattle.ks_engine.proofs.Explanations.{explanation_judged}
 use Rattle.ks_engine.proofs.Following.{sync_follows}
 use Rattle.ks_engine.proofs.RecordSteps.{record_follows}
 use Rattle.ks_engine.proofs.Running.{no_steps, step_first}
+use Rattle.ks_engine.proofs.Stamping.{stamped_follows}
 
 -- ---- one command more
 
-run_more : (dialect : Dialect) (honest : Type 0) (first : FileState) (acts : List Action) (rs : List Reply) (mid : FileState) (a : Action) (r : Reply) (last : FileState)
-    → FileRun dialect honest first acts rs mid → StepsTo dialect honest mid a r last → FileRun dialect honest first (acts ++ a ∷ []) (rs ++ r ∷ []) last
-run_more dialect honest first [] [] mid a r last run step = (last, subst (λ (s : FileState). StepsTo dialect honest s a r last) run step, refl)
-run_more dialect honest first (b ∷ bs) (q ∷ qs) mid a r last run step = (run.0, run.1, run_more dialect honest run.0 bs qs mid a r last run.2 step)
-run_more dialect honest first acts rs mid a r last run step = absurd run
+pub run_more : (dialect : Dialect) (honest : Type 0) (first : FileState) (calls : List Call) (mid : FileState) (call : Call) (last : FileState)
+    → FileRun dialect honest first calls mid → StepsTo dialect honest mid call.action call.reply last → FileRun dialect honest first (calls ++ call ∷ []) last
+run_more dialect honest first [] mid call last run step = (last, subst (λ (s : FileState). StepsTo dialect honest s call.action call.reply last) run step, refl)
+run_more dialect honest first (c ∷ cs) mid call last run step = (run.0, run.1, run_more dialect honest run.0 cs mid call last run.2 step)
+
+calls_more : (acts : List Action) (rs : List CommandReply) (a : Action) (r : CommandReply) → length rs ≡ length acts
+    → calls_of (acts ++ a ∷ []) (rs ++ r ∷ []) ≡ calls_of acts rs ++ call_of a r ∷ []
+calls_more [] [] a r as_many = refl
+calls_more (b ∷ bs) (q ∷ qs) a r as_many = ap (λ cs. call_of b q ∷ cs) (calls_more bs qs a r (omega (arith, as_many)))
+calls_more [] (q ∷ qs) a r as_many = absurd (omega (arith, as_many))
+calls_more (b ∷ bs) [] a r as_many = absurd (omega (arith, as_many))
 
 -- the same, of the commands up to a place
-pub more : (dialect : Dialect) (honest : Type 0) (first : FileState) (cs : List Command) (i : ℕ) (d : Command) (rs new : List Reply) (mid : FileState) (r : Reply)
-    (last : FileState) → i < length cs → FileRun dialect honest first (map action (take i cs)) rs mid → StepsTo dialect honest mid (action (get_or cs i d)) r last
-    → new ≡ rs ++ r ∷ [] → FileRun dialect honest first (map action (take (i + 1) cs)) new last
-more dialect honest first cs i d rs new mid r last test run step items = grind (arith, common_steps, map-append, take_more, run_more)
+pub more : (dialect : Dialect) (honest : Type 0) (first : FileState) (cs : List Command) (i : ℕ) (d : Command) (rs new : List CommandReply) (mid : FileState)
+    (r : CommandReply) (last : FileState) → i < length cs → length rs ≡ i → FileRun dialect honest first (calls_of (map action (take i cs)) rs) mid
+    → StepsTo dialect honest mid (action (get_or cs i d)) (reply_to (action (get_or cs i d)) r) last → new ≡ rs ++ r ∷ []
+    → FileRun dialect honest first (calls_of (map action (take (i + 1) cs)) new) last
+more dialect honest first cs i d rs new mid r last test as_many run step items =
+    let acts = map action (take i cs) in
+    let a = action (get_or cs i d) in
+    let many : length rs ≡ length acts = grind (arith, common_steps, length-map, length-take) in
+    let next : map action (take (i + 1) cs) ≡ acts ++ a ∷ [] = grind (arith, common_steps, map-append, take_more) in
+    subst (λ (calls : List Call). FileRun dialect honest first calls last) (sym (calls_more acts rs a r many) ∙ sym (ap₂ calls_of next items))
+    (run_more dialect honest first (calls_of acts rs) mid (call_of a r) last run step)
 
 -- what is said of an honest tree by its honesty
-pub on_honest : (dialect : Dialect) (honest : Type 0) (first : FileState) (acts : List Action) (rs : List Reply) (last : FileState) → honest → FileRun dialect honest first acts rs last
-    → FileRun dialect ⊤ first acts rs last
-on_honest dialect honest first [] [] last is run = run
-on_honest dialect honest first (a ∷ acts) (r ∷ rs) last is run =
-    let step = run.1 in
-    (run.0, record { leaves = λ t. step.leaves is; later = step.later; cause = step.cause; uncounted = step.uncounted }, on_honest dialect honest run.0 acts rs last is run.2)
-on_honest dialect honest first acts rs last is run = absurd run
+ages_on_honest : (honest : Type 0) (old : FileState) (a : Action) (r : Reply) (aged : List (List ℕ)) → honest → Ages honest old a r aged → Ages ⊤ old a r aged
+ages_on_honest honest old (Age which o) (Explained r spelling) aged is ages = λ t. ages is
+ages_on_honest honest old a r aged is ages = ages
+
+pub on_honest : (dialect : Dialect) (honest : Type 0) (first : FileState) (calls : List Call) (last : FileState) → honest → FileRun dialect honest first calls last
+    → FileRun dialect ⊤ first calls last
+on_honest dialect honest first [] last is run = run
+on_honest dialect honest first (call ∷ calls) last is run =
+    let step = run.1 in (
+      run.0,
+      record {
+        leaves = λ t. step.leaves is;
+        ages = ages_on_honest honest first call.action call.reply run.0.aged is step.ages;
+        later = step.later;
+        cause = step.cause;
+        uncounted = step.uncounted;
+      },
+      on_honest dialect honest run.0 calls last is run.2,
+    )
 
 -- ---- the history that goes on with it
 
 abbrev with : FileState → History → TreeState
 with s h = at s.files s.failures h
 
-stale_goes_on : (old : FileState) (o : List ℕ) (answer : Result VerdictValue EngineError) (new : FileState) (h : History) → Shows old.files h
-    → (new.files ≡ old.files) × IsAnswerOn old.files o answer
-    → (next : History) × FollowsStale (with old h) o answer (with new next) × Shows new.files next
-stale_goes_on old o answer new h shows (same, is) = (
+judged : (dialect : Dialect) (old : FileState) (a : Action) (r : Reply) (new : FileState) (h : History) → Shows old.files h → LeavesFiles dialect old.files a r new.files
+    → IsJudgedReply (with old h) a r
+judged dialect old (Stale o) (Judged r) new h shows is = λ w last. stale_judged old.files h o w r is.1 shows last
+judged dialect old (Stale o) (Explained r spelling) new h shows is = λ w last. stale_judged old.files h o w (told r) is.1 shows last
+judged dialect old (Age which o) (Explained r spelling) new h shows is = λ w last. stale_judged old.files h o w (told r) is.1 shows last
+judged dialect old (Why o) (Explained r spelling) new h shows is = λ w last. (explanation_judged old.files h o w r is.1.by_files shows last).judged
+judged dialect old a r new h shows is = tt
+
+stays : (dialect : Dialect) (old : FileState) (a : Action) (r : Reply) (new : FileState) (h : History) → Shows old.files h → LeavesFiles dialect old.files a r new.files
+    → new.files ≡ old.files → (next : History) × FollowsQuestion dialect (with old h) a r (with new next) × Shows new.files next
+stays dialect old a r new h shows is same = (
   h,
-  record { same = (same, refl); by_files = is; recorded = λ r last. stale_judged old.files h o r answer is shows last },
+  record { same = (same, refl); by_files = is; recorded = judged dialect old a r new h shows is },
   subst (λ (f : Files). Shows f h) (sym same) shows,
 )
 
-step_goes_on : (dialect : Dialect) (old : FileState) (a : Action) (r : Reply) (new : FileState) (h : History) → Shows old.files h → LeavesFiles dialect old.files a r new.files
+pub step_goes_on : (dialect : Dialect) (old : FileState) (a : Action) (r : Reply) (new : FileState) (h : History) → Shows old.files h → LeavesFiles dialect old.files a r new.files
     → (next : History) × Leaves dialect (with old h) a r (with new next) × Shows new.files next
-step_goes_on dialect old (Sync k d) (Synced report) new h shows is = sync_follows old.files new.files old.failures new.failures h (read_in dialect k) d (Ok report) shows is tt
-step_goes_on dialect old (Sync k d) (Refused e) new h shows is = sync_follows old.files new.files old.failures new.failures h (read_in dialect k) d (Err e) shows tt is
-step_goes_on dialect old (Record d t c) (Recorded answer) new h shows is = search (rules, record_follows)
-step_goes_on dialect old (Record d t c) (Refused e) new h shows is = record_follows dialect old.files new.files old.failures new.failures h d t c (Err e) shows tt is
-step_goes_on dialect old (Stale o) (Verdict v) new h shows is = stale_goes_on old o (Ok v) new h shows is
-step_goes_on dialect old (Stale o) (Refused e) new h shows is = stale_goes_on old o (Err e) new h shows is
-step_goes_on dialect old a r new h shows is = search rules
+step_goes_on dialect old (Sync k d) (Synced (Ok report)) new h shows is =
+    sync_follows old.files new.files old.failures new.failures h (read_in dialect k) d (Ok report) shows is tt
+step_goes_on dialect old (Sync k d) (Synced (Err e)) new h shows is =
+    sync_follows old.files new.files old.failures new.failures h (read_in dialect k) d (Err e) shows tt is
+step_goes_on dialect old (SyncStamped k d) (Synced (Ok report)) new h shows is =
+    stamped_follows old.files new.files old.failures new.failures h (read_in dialect k) d (Ok report) shows is tt
+step_goes_on dialect old (SyncStamped k d) (Synced (Err e)) new h shows is =
+    stamped_follows old.files new.files old.failures new.failures h (read_in dialect k) d (Err e) shows tt is
+step_goes_on dialect old (Record d t c) (Recorded (Ok answer)) new h shows is =
+    record_follows dialect old.files new.files old.failures new.failures h d t c (Ok answer) shows is tt
+step_goes_on dialect old (Record d t c) (Recorded (Err e)) new h shows is =
+    record_follows dialect old.files new.files old.failures new.failures h d t c (Err e) shows tt is
+step_goes_on dialect old (Depfile header d t c) (Recorded (Ok answer)) new h shows is =
+    depfile_follows (ruled_by header dialect) old.failures new.failures h d t c (Ok answer) shows is tt
+step_goes_on dialect old (Depfile header d t c) (Recorded (Err e)) new h shows is =
+    depfile_follows (ruled_by header dialect) old.failures new.failures h d t c (Err e) shows tt is
+step_goes_on dialect old (Stale o) (Judged r) new h shows is = stays dialect old (Stale o) (Judged r) new h shows is is.0
+step_goes_on dialect old (Why o) (Explained r spelling) new h shows is = stays dialect old (Why o) (Explained r spelling) new h shows is is.0
+step_goes_on dialect old (Stale o) (Explained r spelling) new h shows is = stays dialect old (Stale o) (Explained r spelling) new h shows is is.0
+step_goes_on dialect old (After k d o) (Explained r spelling) new h shows is = stays dialect old (After k d o) (Explained r spelling) new h shows is is.0
+step_goes_on dialect old (Age which o) (Explained r spelling) new h shows is = stays dialect old (Age which o) (Explained r spelling) new h shows is is.0
+step_goes_on dialect old (Outdated o c) (Built r) new h shows is = stays dialect old (Outdated o c) (Built r) new h shows is is.0
+step_goes_on dialect old (Read o) (Found r) new h shows is = stays dialect old (Read o) (Found r) new h shows is is.0
+step_goes_on dialect old a r new h shows is = absurd is
 
-pub goes_on : (dialect : Dialect) (honest : Type 0) (first : FileState) (acts : List Action) (rs : List Reply) (last : FileState) (h : History) → honest → Shows first.files h
-    → FileRun dialect honest first acts rs last → (next : History) × Run dialect (with first h) acts rs (with last next)
-goes_on dialect honest first [] [] last h is shows run = search (rules, no_steps)
-goes_on dialect honest first (a ∷ acts) (r ∷ rs) last h is shows run =
+pub goes_on : (dialect : Dialect) (honest : Type 0) (first : FileState) (calls : List Call) (last : FileState) (h : History) → honest → Shows first.files h
+    → FileRun dialect honest first calls last → (next : History) × Run dialect (with first h) calls (with last next)
+goes_on dialect honest first [] last h is shows run = search (rules, no_steps)
+goes_on dialect honest first (call ∷ calls) last h is shows run =
     let step = run.1 in
-    let one = step_goes_on dialect first a r run.0 h shows (step.leaves is) in
-    let rest = goes_on dialect honest run.0 acts rs last one.0 is one.2 run.2 in
-    (rest.0, step_first dialect _ _ _ a r acts rs (record { leaves = one.1; later = step.later; cause = step.cause }) one.2 rest.1)
-goes_on dialect honest first acts rs last h is shows run = absurd run
+    let one = step_goes_on dialect first call.action call.reply run.0 h shows (step.leaves is) in
+    let rest = goes_on dialect honest run.0 calls last one.0 is one.2 run.2 in
+    (rest.0, step_first dialect _ _ _ call calls shows (record { leaves = one.1; later = step.later; cause = step.cause }) one.2 rest.1)

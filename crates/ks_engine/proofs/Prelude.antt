@@ -30,8 +30,8 @@ pub use Rattle.ks_tree.proofs.PathLemmas.{apart, ending-auto, ending-command, en
 pub use Rattle.ks_tree.proofs.Places.{paths_never_meet}
 pub use Rattle.ks_tree.specs.declared.fault.TreeError.{TreeError}
 pub use Rattle.ks_tree.specs.declared.fault.TreeFault.{TreeFault}
-pub use Rattle.ks_engine.specs.Actions.{Action, Record, Sync, action}
-pub use Rattle.ks_engine.specs.Asked.{Asked, AtOnce, ByStamps, IsAnswer, IsExplained, IsExplainedBy, asked_of, asked_since, command_file, listed, told, verdict_by}
+pub use Rattle.ks_engine.specs.Actions.{Action, Call, Record, Reply, Sync, action, call_of, calls_of, reply_to}
+pub use Rattle.ks_engine.specs.Asked.{Asked, AtOnce, ByStamps, IsAnswer, IsAnswerOn, IsExplained, IsExplainedBy, asked_of, asked_since, command_file, listed, told, verdict_by}
 unfoldable pub use Rattle.ks_engine.specs.Asked.{asked}
 pub use Rattle.ks_engine.specs.BuildStates.{Asks, BuildAsked, IsBuildState, IsStateOn, build_asked_of, judged}
 unfoldable pub use Rattle.ks_engine.specs.BuildStates.{build_asked}
@@ -41,7 +41,7 @@ pub use Rattle.ks_engine.specs.Depfile.{FollowsDepfile, IsDepfileRecorded, IsDep
 unfoldable pub use Rattle.ks_engine.specs.Depfile.{is_own_file}
 pub use Rattle.ks_engine.specs.Drafts.{IsDraft}
 pub use Rattle.ks_engine.specs.Explained.{IsExplanationJudged, IsExplanationOn, PlacesAreFirst, PlacesAreTheirs, first_with, is_listed, last_path, listed_last}
-pub use Rattle.ks_engine.specs.FileRuns.{FileRun, FileState, IsAnswerOn, LeavesFiles, StepsTo, state}
+pub use Rattle.ks_engine.specs.FileRuns.{Ages, FileRun, FileState, LeavesDepfile, LeavesFiles, LeavesRecord, LeavesStamped, LeavesSync, StepsTo, state}
 pub use Rattle.ks_engine.specs.Follows.{FollowsRecordedUnder, FollowsRecord, FollowsRecordUnder, FollowsSync, IsRecordEvent, TreeState, at}
 pub use Rattle.ks_engine.specs.History.{Begun, Broken, History, LastRecord, NoneBroken, Recorded, Synced, WasSynced, before, done, last_record}
 pub use Rattle.ks_engine.specs.Impact.{IsAfter, IsAnswerAfter, IsImpactOf, JudgesAfter}
@@ -58,16 +58,15 @@ unfoldable pub use Rattle.ks_engine.specs.Recorded.{record_plan_under}
 pub use Rattle.ks_engine.specs.Recording.{followed, listed_unless, scanned, there, with_command, words}
 unfoldable pub use Rattle.ks_engine.specs.Recording.{scanned_all}
 pub use Rattle.ks_engine.specs.Refusals.{IsGivenUp, IsGivenUpAnswer, and_then, of_auto, of_source, of_stamp, of_tree}
-pub use Rattle.ks_engine.specs.Runs.{Follows, FollowsStale, IsShown, Leads, Leaves, Run, Step}
+pub use Rattle.ks_engine.specs.Runs.{Follows, FollowsQuestion, IsShown, Leads, Leaves, Run, Step}
 pub use Rattle.ks_engine.specs.Shows.{IsFirstAuto, IsAuto, IsCommandFile, Shows, stamp}
 pub use Rattle.ks_engine.specs.Staleness.{changed_since, first_suspect, found, renewed_since_sync, suspect_since, verdict}
 pub use Rattle.ks_engine.specs.SyncPlan.{AreSources, IsSyncPlan, Plan, Sources, plan_over, source_refusal}
 pub use Rattle.ks_engine.specs.Synchronised.{AreCleared, AreLegalChanges, IsSyncRefused, IsSynced, SyncDone, SyncLeaves}
-pub use Rattle.ks_engine.specs.Verdicts.{IsChangedVerdict, IsGivenUpSync, IsSafeVerdict, IsSuspectVerdict}
+pub use Rattle.ks_engine.specs.Verdicts.{IsChangedVerdict, IsGivenUpSync, IsJudgedReply, IsSafeVerdict, IsSuspectVerdict}
 pub use Rattle.ks_engine.specs.Views.{IsWork, IsPlanned, PlansOver, Reports, old_of, sources_of}
 pub use Rattle.ks_engine.specs.declared.commands.Command.{Command}
-pub use Rattle.ks_engine.specs.declared.commands.Reply.{Reply}
-pub use Rattle.ks_engine.specs.declared.commands.Reply.TheVariants.{Refused}
+pub use Rattle.ks_engine.specs.declared.commands.Reply.{Reply as CommandReply}
 pub use Rattle.ks_engine.specs.declared.conventions.Conventions.{Conventions}
 pub use Rattle.ks_engine.specs.declared.costs.Cost.{Cost}
 pub use Rattle.ks_engine.specs.declared.costs.Costs.{Costs}

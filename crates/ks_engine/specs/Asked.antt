@@ -1,5 +1,5 @@
 -- What is answered of an object, by the files: first its target, then its command file, then auto.conf, then its stamps.
-use Rattle.std.specs.Prelude.{◌≡◌, ℕ, List, [], Option, Some, None, Result, Ok, Err, IfOk, nat_lt, if◌then◌else◌, length, bytes_eq}
+use Rattle.std.specs.Prelude.{◌≡◌, ◌⊎◌, ℕ, List, [], Option, Some, None, Result, Ok, Err, IfOk, nat_lt, if◌then◌else◌, length, bytes_eq}
 use Rattle.ks_symbols.specs.Lines.{max_bytes}
 use Rattle.ks_symbols.specs.Names.{is_target}
 use Rattle.ks_fixdep.specs.CommandFile.{CommandRecord}
@@ -16,6 +16,7 @@ use Rattle.ks_engine.specs.declared.staleness.Verdict.{Verdict}
 use Rattle.ks_engine.specs.declared.staleness.Verdict.TheVariants.{NoCommandFile, Unnumbered, Ahead}
 use Rattle.ks_engine.specs.Causes.{IsByStamps, names_placed, verdict_of}
 use Rattle.ks_engine.specs.LastSync.{last_generation}
+use Rattle.ks_engine.specs.Refusals.{IsGivenUpAnswer}
 
 -- an answer at once, or by the stamps of these names, each with its place, against a generation
 pub data Asked : Type 0 where
@@ -60,6 +61,10 @@ verdict_by (Err e) = Err e
 abbrev pub IsAnswer : Files → Asked → Result Verdict EngineError → Type 0
 IsAnswer files (AtOnce known) answer = answer ≡ known
 IsAnswer files (ByStamps g names) answer = (found : Result (List Cause) EngineError) × IsByStamps First files g names found × (answer ≡ verdict_by found)
+
+-- .. memory and the device aside
+abbrev pub IsAnswerOn : Files → List ℕ → Result Verdict EngineError → Type 0
+IsAnswerOn files o answer = IsGivenUpAnswer answer ⊎ IsAnswer files (asked files o) answer
 
 -- ---- an explanation
 

@@ -1,5 +1,5 @@
 -- What an object's record says, by its command file alone, and what a symbol costs: how many records name it.
-use Rattle.std.specs.Prelude.{◌≡◌, ◌+◌, ◌<◌, ◌≤◌, ◌==◌, ℕ, Bool, List, Option, Some, None, Result, Err, Vec, map, is_some, bytes_eq, if◌then◌else◌}
+use Rattle.std.specs.Prelude.{◌≡◌, ◌⊎◌, ◌+◌, ◌<◌, ◌≤◌, ◌==◌, ℕ, Bool, List, Option, Some, None, Result, Err, Vec, map, is_some, bytes_eq, if◌then◌else◌}
 use Rattle.std.specs.List.{All, count_by}
 use Rattle.std.specs.List.Sorted.{IsSorted}
 use Rattle.std.specs.Ordering.{nat_cmp, ordering_then}
@@ -16,10 +16,15 @@ use Rattle.ks_engine.specs.declared.costs.Costs.{Costs}
 use Rattle.ks_engine.specs.declared.costs.Tally.{Tally}
 use Rattle.ks_engine.specs.Asked.{command_file}
 use Rattle.ks_engine.specs.Memos.{value_of}
+use Rattle.ks_engine.specs.Refusals.{IsGivenUpAnswer}
 
 -- the record of an object, or that it has none, or why it can't be read
 abbrev pub record_at : Files → List ℕ → Result (Option CommandRecord) EngineError
 record_at files o = if is_target o then command_file o (content files (command_path o)) else Err (BadPath 0)
+
+-- .. memory and the device aside
+abbrev pub IsRead : Files → List ℕ → Result (Option CommandRecord) EngineError → Type 0
+IsRead files o answer = IsGivenUpAnswer answer ⊎ (answer ≡ record_at files o)
 
 -- ---- what symbols cost
 

@@ -1,67 +1,93 @@
--- Runs by the files of a tree: what each command leaves, and what the tree has counted, one command after the other.
-use Rattle.std.specs.Prelude.{◌≡◌, ◌⊎◌, ◌≤◌, ℕ, List, [], ◌∷◌, Result, Ok, Err}
+-- Runs by the files of a tree: what each action leaves and is answered, and what the tree has counted, one action after the other.
+use Rattle.std.specs.Prelude.{◌≡◌, ◌≤◌, ℕ, List, [], ◌∷◌, Some, Result, Ok, Err, ⊤}
 use Rattle.ks_symbols.specs.declared.dialect.Dialect.{Dialect}
 use Rattle.ks_symbols.specs.Dialects.{KconfigText, read_in}
 use Rattle.ks_tree.specs.declared.tree.Tree.{Ghosts}
 use Rattle.ks_tree.specs.Files.{Files, HasRisen}
+use Rattle.ks_engine.specs.declared.conventions.Conventions.{Conventions}
 use Rattle.ks_engine.specs.declared.error.EngineError.{EngineError}
 use Rattle.ks_engine.specs.declared.error.EngineError.TheVariants.{Device, OutOfMemory}
-use Rattle.ks_engine.specs.declared.commands.Reply.{Reply}
-use Rattle.ks_engine.specs.declared.commands.Reply.TheVariants.{Synced, Recorded, Verdict, Refused}
 use Rattle.ks_engine.specs.declared.recording.Recorded.{Recorded as RecordAnswer}
-use Rattle.ks_engine.specs.declared.staleness.Verdict.{Verdict as VerdictValue}
 use Rattle.ks_engine.specs.declared.synchronise.Report.{Report}
-use Rattle.ks_engine.specs.Refusals.{IsGivenUpAnswer}
-use Rattle.ks_engine.specs.Asked.{asked, IsAnswer}
+use Rattle.ks_engine.specs.Actions.{Action, Call, Reply, error_of}
+use Rattle.ks_engine.specs.Actions as asked
+use Rattle.ks_engine.specs.Aged.{IsAged}
+use Rattle.ks_engine.specs.Asked.{IsAnswerOn, told}
+use Rattle.ks_engine.specs.BuildStates.{IsStateOn}
+use Rattle.ks_engine.specs.Costs.{IsRead}
+use Rattle.ks_engine.specs.Depfile.{IsDepfileRecorded, IsDepfileRefused, ruled_by}
+use Rattle.ks_engine.specs.Explained.{IsExplanationOn}
+use Rattle.ks_engine.specs.Impact.{IsAnswerAfter}
 use Rattle.ks_engine.specs.Recorded.{IsRecorded, IsRecordRefused}
+use Rattle.ks_engine.specs.Spelling.{spelling_of}
+use Rattle.ks_engine.specs.Stamped.{IsStamped, IsStampedRefused}
 use Rattle.ks_engine.specs.Synchronised.{IsSynced, IsSyncRefused}
-use Rattle.ks_engine.specs.Actions.{Action, Sync, Record, Stale}
 
--- ---- what a call leaves and answers
+-- ---- what an action leaves and is answered
 
 abbrev pub LeavesSync : Files → Files → KconfigText → List ℕ → Result Report EngineError → Type 0
 LeavesSync old new k d (Ok report) = IsSynced old new k d report
 LeavesSync old new k d (Err e) = IsSyncRefused old new k d e
 
+abbrev pub LeavesStamped : Files → Files → KconfigText → List ℕ → Result Report EngineError → Type 0
+LeavesStamped old new k d (Ok report) = IsStamped old new k d report
+LeavesStamped old new k d (Err e) = IsStampedRefused old new k d e
+
 abbrev pub LeavesRecord : Dialect → Files → Files → List ℕ → List ℕ → List ℕ → Result RecordAnswer EngineError → Type 0
 LeavesRecord dialect old new d t c (Ok answer) = IsRecorded dialect old new d t c answer
 LeavesRecord dialect old new d t c (Err e) = IsRecordRefused dialect old new d t c e
 
--- what a question is answered, memory and the device aside
-abbrev pub IsAnswerOn : Files → List ℕ → Result VerdictValue EngineError → Type 0
-IsAnswerOn files o answer = IsGivenUpAnswer answer ⊎ IsAnswer files (asked files o) answer
+abbrev pub LeavesDepfile : Conventions → Files → Files → List ℕ → List ℕ → List ℕ → Result RecordAnswer EngineError → Type 0
+LeavesDepfile conventions old new d t c (Ok answer) = IsDepfileRecorded conventions old new d t c answer
+LeavesDepfile conventions old new d t c (Err e) = IsDepfileRefused conventions old new d t c e
 
--- the files after an action, by its reply; no action is answered as another one
+-- The files after each action, by its reply: a question leaves them as they are. No action is answered as another one.
 abbrev pub LeavesFiles : Dialect → Files → Action → Reply → Files → Type 0
-LeavesFiles dialect old (Sync k d) (Synced report) new = LeavesSync old new (read_in dialect k) d (Ok report)
-LeavesFiles dialect old (Sync k d) (Refused e) new = LeavesSync old new (read_in dialect k) d (Err e)
-LeavesFiles dialect old (Record d t c) (Recorded answer) new = LeavesRecord dialect old new d t c (Ok answer)
-LeavesFiles dialect old (Record d t c) (Refused e) new = LeavesRecord dialect old new d t c (Err e)
-LeavesFiles dialect old (Stale o) (Verdict v) new = (new ≡ old) × IsAnswerOn old o (Ok v)
-LeavesFiles dialect old (Stale o) (Refused e) new = (new ≡ old) × IsAnswerOn old o (Err e)
-LeavesFiles dialect old _ _ new = ⊥
+LeavesFiles dialect old (asked.Sync k d) (asked.Synced r) new = LeavesSync old new (read_in dialect k) d r
+LeavesFiles dialect old (asked.SyncStamped k d) (asked.Synced r) new = LeavesStamped old new (read_in dialect k) d r
+LeavesFiles dialect old (asked.Record d t c) (asked.Recorded r) new = LeavesRecord dialect old new d t c r
+LeavesFiles dialect old (asked.Depfile header d t c) (asked.Recorded r) new = LeavesDepfile (ruled_by header dialect) old new d t c r
+LeavesFiles dialect old (asked.Stale o) (asked.Judged r) new = (new ≡ old) × IsAnswerOn old o r
+LeavesFiles dialect old (asked.Stale o) (asked.Explained r spelling) new = (new ≡ old) × IsAnswerOn old o (told r)
+LeavesFiles dialect old (asked.Why o) (asked.Explained r spelling) new = (new ≡ old) × IsExplanationOn old o r × (spelling ≡ spelling_of old o r)
+LeavesFiles dialect old (asked.After k d o) (asked.Explained r spelling) new = (new ≡ old) × IsAnswerAfter old (read_in dialect k) d o (told r)
+LeavesFiles dialect old (asked.Age which o) (asked.Explained r spelling) new = (new ≡ old) × IsAnswerOn old o (told r)
+LeavesFiles dialect old (asked.Outdated o c) (asked.Built r) new = (new ≡ old) × IsStateOn old o c r
+LeavesFiles dialect old (asked.Read o) (asked.Found r) new = (new ≡ old) × IsRead old o r
+LeavesFiles dialect old action reply new = ⊥
 
--- ---- one call after the other
+-- ---- one action after the other
 
--- the files of a tree, and how often its device has failed
+-- the files of a tree, how often its device has failed, and which files it has aged
 pub record FileState : Type 0 where
   pub files : Files
   pub failures : ℕ
+  pub aged : List (List ℕ)
 
 abbrev pub state : {T : Type 0} → Ghosts T → T → FileState
-state tree t = record { files = tree.files t; failures = tree.failures t }
+state tree t = record { files = tree.files t; failures = tree.failures t; aged = tree.aged t }
+
+-- what is aged after an action: on an honest tree what `age` ages, and nothing more for any other
+abbrev pub Ages : Type 0 → FileState → Action → Reply → List (List ℕ) → Type 0
+Ages honest old (asked.Age which o) (asked.Explained r spelling) aged = honest → IsAged which old.files o old.aged (told r) aged
+Ages honest old action reply aged = aged ≡ old.aged
+
+-- It asks once: `why` looks for another spelling once it has its answer.
+abbrev pub AsksOnce : Action → Type 0
+AsksOnce (asked.Why o) = ⊥
+AsksOnce action = ⊤
 
 -- A step of an honest tree leaves these files. Of any tree the count of failures never falls; the device is to blame only where it rose, and want
 -- of memory only where it didn't.
 pub record StepsTo (dialect : Dialect) (honest : Type 0) (old : FileState) (action : Action) (reply : Reply) (new : FileState) : Type 0 where
   pub leaves : honest → LeavesFiles dialect old.files action reply new.files
+  pub ages : Ages honest old action reply new.aged
   pub later : old.failures ≤ new.failures
-  pub cause : reply ≡ Refused Device → HasRisen old.failures new.failures
-  pub uncounted : reply ≡ Refused OutOfMemory → new.failures ≡ old.failures
+  pub cause : error_of reply ≡ Some Device → HasRisen old.failures new.failures
+  pub uncounted : AsksOnce action → error_of reply ≡ Some OutOfMemory → new.failures ≡ old.failures
 
--- Each action has its reply and its step, which begins where the one before it ended.
-abbrev pub FileRun : Dialect → Type 0 → FileState → List Action → List Reply → FileState → Type 0
-FileRun dialect honest first [] [] last = last ≡ first
-FileRun dialect honest first (action ∷ actions) (reply ∷ replies) last =
-    (next : FileState) × StepsTo dialect honest first action reply next × FileRun dialect honest next actions replies last
-FileRun dialect honest first _ _ last = ⊥
+-- Each step begins where the one before it ended.
+abbrev pub FileRun : Dialect → Type 0 → FileState → List Call → FileState → Type 0
+FileRun dialect honest first [] last = last ≡ first
+FileRun dialect honest first (call ∷ calls) last =
+    (next : FileState) × StepsTo dialect honest first call.action call.reply next × FileRun dialect honest next calls last

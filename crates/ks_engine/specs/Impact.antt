@@ -16,7 +16,7 @@ use Rattle.ks_engine.specs.History.{History, Synced, LastRecord, last_record}
 use Rattle.ks_engine.specs.Shows.{Shows}
 use Rattle.ks_engine.specs.LastSync.{last_generation}
 use Rattle.ks_engine.specs.Synchronised.{IsSynced}
-use Rattle.ks_engine.specs.FileRuns.{IsAnswerOn}
+use Rattle.ks_engine.specs.Asked.{IsAnswerOn}
 use Rattle.ks_engine.specs.Judged.{IsJudged}
 
 -- There is a tree that a completed synchronisation of these texts leaves, with this report.

@@ -17,15 +17,14 @@ use Rattle.ks_engine.specs.declared.explaining.Explanation.{Explanation}
 use Rattle.ks_engine.specs.declared.staleness.BuildState.{BuildState}
 use Rattle.ks_engine.specs.declared.staleness.Verdict.{Verdict}
 use Rattle.ks_engine.specs.declared.staleness.Verdict.TheVariants.{Fresh}
-use Rattle.ks_engine.specs.Asked.{asked, IsAnswer}
+use Rattle.ks_engine.specs.Asked.{asked, IsAnswer, IsAnswerOn}
 use Rattle.ks_engine.specs.History.{History, Begun, Synced, Broken, Recorded, LastRecord, before, done, last_record}
 use Rattle.ks_engine.specs.Staleness.{suspect_since}
 use Rattle.ks_engine.specs.Legal.{IsHistory}
 use Rattle.ks_engine.specs.Shows.{Shows, IsFirstAuto}
 use Rattle.ks_engine.specs.SyncPlan.{Plan, IsSyncPlan}
-use Rattle.ks_engine.specs.declared.commands.Reply.{Reply}
-use Rattle.ks_engine.specs.Actions.{Action}
-use Rattle.ks_engine.specs.FileRuns.{FileState, FileRun, IsAnswerOn}
+use Rattle.ks_engine.specs.Actions.{Call}
+use Rattle.ks_engine.specs.FileRuns.{FileState, FileRun}
 use Rattle.ks_engine.specs.BuildStates.{IsStateOn}
 use Rattle.ks_engine.specs.Explained.{ExplainsRecorded, IsExplanationOn}
 use Rattle.ks_engine.specs.Impact.{IsAnswerAfter, JudgesAfter}
@@ -88,9 +87,8 @@ SuspicionsHaveCauses =
 -- A run of an honest tree by its files is a run from each history that the first of these files show.
 abbrev pub FileRunsGoOn : Type 0
 FileRunsGoOn =
-    (dialect : Dialect) (first : FileState) (actions : List Action) (replies : List Reply) (last : FileState) (h : History) → Shows first.files h
-    → FileRun dialect ⊤ first actions replies last
-    → (next : History) × Run dialect (at first.files first.failures h) actions replies (at last.files last.failures next)
+    (dialect : Dialect) (first : FileState) (calls : List Call) (last : FileState) (h : History) → Shows first.files h → FileRun dialect ⊤ first calls last
+    → (next : History) × Run dialect (at first.files first.failures h) calls (at last.files last.failures next)
 
 -- What is answered by the files is judged by each history that they show: a verdict, ..
 abbrev pub VerdictsAreJudged : Type 0

@@ -22,6 +22,7 @@ pub mod Follows
 pub mod Depfile
 pub mod Stamped
 pub mod Impact
+pub mod Spelling
 pub mod Actions
 pub mod FileRuns
 pub mod Questions

@@ -8,9 +8,8 @@ use Rattle.ks_engine.specs.declared.question.Limit.{Limit}
 use Rattle.ks_engine.specs.declared.question.Limit.TheVariants.{First, All}
 use Rattle.ks_engine.specs.declared.question.Question.{Question}
 use Rattle.ks_engine.specs.declared.question.Question.TheVariants.{Stale, Why, After}
-use Rattle.ks_engine.specs.Asked.{told}
+use Rattle.ks_engine.specs.Asked.{IsAnswerOn, told}
 use Rattle.ks_engine.specs.Explained.{IsExplanationOn}
-use Rattle.ks_engine.specs.FileRuns.{IsAnswerOn}
 use Rattle.ks_engine.specs.Impact.{IsAfter, IsAnswerAfter, IsImpactOf}
 
 -- how many causes answer it

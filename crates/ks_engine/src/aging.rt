@@ -4,8 +4,7 @@
 ghost use Rattle.std.specs.Prelude.{◌≡◌, IsErrOf};
 ghost use Rattle.ks_tree.specs.Frames.{Counted};
 ghost use Rattle.ks_engine.specs.Aged.{IsAged, ages};
-ghost use Rattle.ks_engine.specs.Asked.{told};
-ghost use Rattle.ks_engine.specs.FileRuns.{IsAnswerOn};
+ghost use Rattle.ks_engine.specs.Asked.{IsAnswerOn, told};
 ghost use Rattle.ks_engine.specs.Memos.{IsMemoOf};
 
 use crate::EngineError;

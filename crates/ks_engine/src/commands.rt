@@ -3,7 +3,7 @@ ghost use Rattle.std.specs.Prelude.{◌≡◌, ◌≤◌, [], IfOk, OnErr, map, 
 ghost use Rattle.ks_engine.specs.History.{History};
 ghost use Rattle.ks_engine.specs.Shows.{Shows};
 ghost use Rattle.ks_engine.specs.Follows.{at};
-ghost use Rattle.ks_engine.specs.Actions.{action};
+ghost use Rattle.ks_engine.specs.Actions.{action, calls_of, reply_to};
 ghost use Rattle.ks_engine.specs.FileRuns.{FileRun, StepsTo, state};
 ghost use Rattle.ks_engine.specs.Memos.{IsMemoOf};
 ghost use Rattle.ks_engine.specs.Runs.{Run};
@@ -52,7 +52,7 @@ fn answer<T: Tree>(
 ) -> Reply
     requires memo { T.is_honest → IsMemoOf (T.files tree.old) memo.old }
     ensures memo { T.is_honest → IsMemoOf (T.files tree.new) memo.new }
-    ensures step { StepsTo dialect T.is_honest (state T.Tree tree.old) (action command.now) result (state T.Tree tree.new) }
+    ensures step { let asked = action command.now in StepsTo dialect T.is_honest (state T.Tree tree.old) asked (reply_to asked result) (state T.Tree tree.new) }
     ensures kept { T.aged tree.new ≡ T.aged tree.old }
 {
     match command {
@@ -90,7 +90,7 @@ fn answer_all<T: Tree>(
     requires memo { T.is_honest → IsMemoOf (T.files tree.old) memo.old }
     requires none { replies.old.items ≡ [] }
     requires room { length commands.now ≤ vec_capacity replies.old }
-    ensures steps { FileRun dialect T.is_honest (state T.Tree tree.old) (map action commands.now) replies.new.items (state T.Tree tree.new) }
+    ensures steps { FileRun dialect T.is_honest (state T.Tree tree.old) (calls_of (map action commands.now) replies.new.items) (state T.Tree tree.new) }
     ensures each { length replies.new.items ≡ length commands.now }
     ensures later { T.failures tree.old ≤ T.failures tree.new }
     ensures kept { T.aged tree.new ≡ T.aged tree.old }
@@ -109,10 +109,11 @@ pub fn run<T: Tree>(
     commands: &[Command<'_>],
 ) -> Result<Vec<Reply>, AllocError>
     // By the files, and by what the tree has counted: a step for each command, with its reply, from the tree before to the tree after.
-    ensures steps { IfOk result (λ replies. FileRun dialect T.is_honest (state T.Tree tree.old) (map action commands.now) replies.items (state T.Tree tree.new)) }
+    ensures steps { IfOk result (λ replies.
+        FileRun dialect T.is_honest (state T.Tree tree.old) (calls_of (map action commands.now) replies.items) (state T.Tree tree.new)) }
     // From each history that the files show there is a run with these replies, and the files show its last history.
-    ensures runs { T.is_honest → (h : History) → Shows (T.files tree.old) h → IfOk result (λ replies. (last : History)
-        × Run dialect (at (T.files tree.old) (T.failures tree.old) h) (map action commands.now) replies.items (at (T.files tree.new) (T.failures tree.new) last)) }
+    ensures runs { T.is_honest → (h : History) → Shows (T.files tree.old) h → IfOk result (λ replies. let calls = calls_of (map action commands.now) replies.items in
+        (last : History) × Run dialect (at (T.files tree.old) (T.failures tree.old) h) calls (at (T.files tree.new) (T.failures tree.new) last)) }
     ensures each { IfOk result (λ replies. length replies.items ≡ length commands.now) }
     // Where memory is refused for the replies, nothing was asked of the tree.
     ensures untouched { OnErr result (tree.new ≡ tree.old) }

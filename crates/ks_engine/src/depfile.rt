@@ -8,9 +8,9 @@ ghost use Rattle.ks_symbols.specs.Names.{is_in, is_name};
 ghost use Rattle.ks_fixdep.specs.Rule.{first_target, rule_of};
 ghost use Rattle.ks_fixdep.specs.SourceScan.{listed_of};
 ghost use Rattle.ks_fixdep.specs.Tokens.{tokens};
-ghost use Rattle.ks_tree.specs.Files.{content, SameButBoth};
+ghost use Rattle.ks_tree.specs.Files.{content};
 ghost use Rattle.ks_tree.specs.Frames.{Counted, Reads};
-ghost use Rattle.ks_tree.specs.Paths.{command_path, command_temporary, temporary};
+ghost use Rattle.ks_tree.specs.Paths.{temporary};
 ghost use Rattle.ks_engine.specs.Refusals.{IsGivenUp};
 ghost use Rattle.ks_engine.specs.Recorded.{RecordPlan, IsRecordPlanUnder, record_plan_under};
 ghost use Rattle.ks_engine.specs.Follows.{GoesOn};
@@ -20,10 +20,10 @@ ghost use Rattle.ks_engine.specs.Depfile.{FollowsDepfile, IsDepfileRecorded, IsD
 use crate::EngineError;
 use crate::conventions::Conventions;
 use crate::memos::Memo;
-use crate::recording::{Draft, Prepared, Recorded, prepare};
+use crate::recording::{Draft, Prepared, Recorded, prepare, write_record};
 use ks_fixdep::{Header, NamesBySource, Seed, listed_names, rule_text};
 use ks_symbols::{Dialect, Name};
-use ks_tree::{Tree, command_path, command_temporary, header_path, make_stamps, replace};
+use ks_tree::{Tree, header_path, make_stamps, replace};
 use std::alloc::{AllocError, Global};
 
 /// What stands ready before the first write: the command file, the names whose stamps are to be there, and the rule.
@@ -121,31 +121,6 @@ fn prepare_rule<T: Tree>(
         target,
         command,
     )
-}
-
-/// Writes a command file.
-fn write_record<T: Tree>(
-    alloc: Global,
-    tree: &mut T,
-    target: &[u8],
-    text: &[u8],
-) -> Result<(), EngineError>
-    ensures written { T.is_honest → OnOk result (content (T.files tree.new) (command_path target.now) ≡ Some text.now) }
-    ensures gone { T.is_honest → OnOk result (content (T.files tree.new) (command_temporary target.now) ≡ None) }
-    ensures either { T.is_honest → OnErr result
-        ((content (T.files tree.new) (command_path target.now) ≡ content (T.files tree.old) (command_path target.now))
-        ⊎ (content (T.files tree.new) (command_path target.now) ≡ Some text.now)) }
-    ensures others { T.is_honest → SameButBoth (command_temporary target.now) (command_path target.now) (T.files tree.old) (T.files tree.new) }
-    ensures given { IfErr result IsGivenUp }
-    ensures counted { Counted T.Tree tree.old tree.new (IsErrOf result EngineError.Device) }
-    ensures passed { OnOk result (T.failures tree.new ≡ T.failures tree.old) }
-    ensures uncounted { IsErrOf result EngineError.OutOfMemory → T.failures tree.new ≡ T.failures tree.old }
-    ensures kept { T.aged tree.new ≡ T.aged tree.old }
-{
-    let path = command_path(alloc, target)?;
-    let temporary = command_temporary(alloc, target)?;
-    replace(alloc, tree, &temporary, &path, text)?;
-    Ok(())
 }
 
 /// Makes the missing stamps of the names, and then puts the rule into the place of the dependency file.

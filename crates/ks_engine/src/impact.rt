@@ -16,7 +16,8 @@ use std::alloc::Global;
 /// What a synchronisation of two texts would do, were it done now.
 #[derive(Drop)]
 pub struct Impact {
-    pub(crate) report: Report,
+    /// What it would report: the next generation, and the names that it would touch.
+    pub report: Report,
 }
 
 impl Impact {
@@ -39,12 +40,5 @@ impl Impact {
         Ok(Impact {
             report: planned.report,
         })
-    }
-
-    /// What it would report: the next generation, and the names that it would touch.
-    pub fn report(&self) -> &Report
-        ensures { result.now ≡ self.now.report }
-    {
-        &self.report
     }
 }

@@ -72,14 +72,7 @@ fn are_same(one: Rules, other: Rules) -> bool
 }
 
 impl Memo {
-    /// Nothing was read yet. It takes no memory.
-    pub fn new(alloc: Global) -> Memo
-        ensures { (files : Files) → IsMemoOf files result }
-    {
-        Memo::with_seed(alloc, Seed::new(0))
-    }
-
-    /// The same, with names and paths that are sought by a seed.
+    /// Nothing was read yet, and names and paths are sought by a seed. It takes no memory.
     pub fn with_seed(alloc: Global, seed: Seed) -> Memo
         ensures { (files : Files) → IsMemoOf files result }
     {

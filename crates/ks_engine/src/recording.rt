@@ -12,7 +12,7 @@ ghost use Rattle.ks_engine.specs.Refusals.{Answers, IsGivenUp};
 ghost use Rattle.ks_engine.specs.Recording.{words, there, with_command};
 ghost use Rattle.ks_engine.specs.Recorded.{RecordPlan, drafted, usual, record_plan_under, IsRecordPlanUnder, IsRecorded, IsRecordRefused};
 ghost use Rattle.ks_engine.specs.Follows.{GoesOn, FollowsRecord};
-ghost use Rattle.ks_engine.specs.Memos.{are_placed, IsMemoOf};
+ghost use Rattle.ks_engine.specs.Memos.{are_placed, IsMemoOf, IsNoSource};
 ghost use Rattle.ks_engine.specs.Drafts.{IsDraft, IsPrepared, drafted_by};
 
 use crate::EngineError;
@@ -204,33 +204,38 @@ pub(crate) fn prepare<T: Tree>(
     })
 }
 
-/// Writes a command file. It and its temporary file are forgotten before.
-fn write_record_by<T: Tree>(
+/// Writes a command file.
+pub(crate) fn write_record<T: Tree>(
     alloc: Global,
     tree: &mut T,
-    memo: &mut Memo,
     target: &[u8],
     text: &[u8],
 ) -> Result<(), EngineError>
-    requires memo { T.is_honest → IsMemoOf (T.files tree.old) memo.old }
-    ensures memo { T.is_honest → IsMemoOf (T.files tree.new) memo.new }
+    ensures written { T.is_honest → OnOk result (content (T.files tree.new) (command_path target.now) ≡ Some text.now) }
+    ensures gone { T.is_honest → OnOk result (content (T.files tree.new) (command_temporary target.now) ≡ None) }
+    ensures either { T.is_honest → OnErr result
+        ((content (T.files tree.new) (command_path target.now) ≡ content (T.files tree.old) (command_path target.now))
+        ⊎ (content (T.files tree.new) (command_path target.now) ≡ Some text.now)) }
+    ensures others { T.is_honest → SameButBoth (command_temporary target.now) (command_path target.now) (T.files tree.old) (T.files tree.new) }
+    ensures given { IfErr result IsGivenUp }
     ensures counted { Counted T.Tree tree.old tree.new (IsErrOf result EngineError.Device) }
     ensures passed { OnOk result (T.failures tree.new ≡ T.failures tree.old) }
     ensures uncounted { IsErrOf result EngineError.OutOfMemory → T.failures tree.new ≡ T.failures tree.old }
     ensures kept { T.aged tree.new ≡ T.aged tree.old }
-    ensures others { T.is_honest → SameButBoth (command_temporary target.now) (command_path target.now) (T.files tree.old) (T.files tree.new) }
-    ensures written { T.is_honest → OnOk result (content (T.files tree.new) (command_path target.now) ≡ Some text.now) }
-    ensures gone { T.is_honest → OnOk result (content (T.files tree.new) (command_temporary target.now) ≡ None) }
-    ensures given { IfErr result IsGivenUp }
-    ensures either { T.is_honest → OnErr result
-        ((content (T.files tree.new) (command_path target.now) ≡ content (T.files tree.old) (command_path target.now))
-        ⊎ (content (T.files tree.new) (command_path target.now) ≡ Some text.now)) }
 {
     let path = command_path(alloc, target)?;
     let temporary = command_temporary(alloc, target)?;
-    memo.forget(&temporary);
-    memo.forget(&path);
     replace(alloc, tree, &temporary, &path, text)?;
+    Ok(())
+}
+
+/// Forgets what was kept of an object's command file and its temporary file, since both are to be written.
+fn forget_record(alloc: Global, memo: &mut Memo, target: &[u8]) -> Result<(), AllocError>
+    ensures memo { (files : Files) → IsMemoOf files memo.old → IsMemoOf files memo.new }
+    ensures gone { OnOk result (IsNoSource (command_path target.now) memo.new × IsNoSource (command_temporary target.now) memo.new) }
+{
+    memo.forget(&command_temporary(alloc, target)?);
+    memo.forget(&command_path(alloc, target)?);
     Ok(())
 }
 
@@ -259,7 +264,8 @@ pub(crate) fn record_by<T: Tree>(
         scans_command: false,
     };
     let prepared = prepare(alloc, tree, memo, conventions, depfile, target, command)?;
-    write_record_by(alloc, tree, memo, target, &prepared.draft.text)?;
+    forget_record(alloc, memo, target)?;
+    write_record(alloc, tree, target, &prepared.draft.text)?;
     Ok(prepared.draft.answer)
 }
 

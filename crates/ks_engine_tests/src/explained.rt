@@ -4,6 +4,7 @@ ghost use Rattle.ks_engine.specs.Memos.{IsMemoOf};
 use crate::golden::*;
 use crate::steps::{Step, check_text, play, text, verdict_text};
 use ks_engine::{Cause, EngineError, Explanation, Memo, Question, ask, explain};
+use ks_fixdep::Seed;
 use ks_tree::{MemoryTree, Tree};
 use std::alloc::{AllocError, Global};
 use std::process::Abort;
@@ -97,7 +98,7 @@ fn why<T: Tree>(
 
 /// What is explained of two objects by one memo, and of a target that is no path.
 fn whys<T: Tree>(alloc: Global, tree: &mut T) -> [Result<String, AllocError>; 3] {
-    let mut memo = Memo::new(alloc);
+    let mut memo = Memo::with_seed(alloc, Seed::new(0));
     let first = why(alloc, tree, &mut memo, b"x.o");
     let second = why(alloc, tree, &mut memo, b"y.o");
     let last = why(alloc, tree, &mut memo, b"a$b");

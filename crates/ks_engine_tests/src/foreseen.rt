@@ -5,6 +5,7 @@ ghost use Rattle.ks_engine.specs.Memos.{IsMemoOf};
 use crate::golden::*;
 use crate::steps::{Step, answer, check_text, play, report_text, verdict_text};
 use ks_engine::{Impact, Memo, Question, ask};
+use ks_fixdep::Seed;
 use ks_symbols::{Dialect, Kconfig};
 use ks_tree::{MemoryTree, Tree};
 use std::alloc::{AllocError, Global};
@@ -55,7 +56,7 @@ fn foreseen_of<T: Tree>(
     impact: &Impact,
     object: &str,
 ) -> Result<String, AllocError> {
-    let mut memo = Memo::new(alloc);
+    let mut memo = Memo::with_seed(alloc, Seed::new(0));
     foreseen_by(alloc, tree, &mut memo, impact, object.as_bytes())
 }
 
@@ -66,7 +67,7 @@ fn foreseen<T: Tree>(alloc: Global, tree: &mut T, dotconfig: &str) -> Result<Str
         Ok(impact) => impact,
         Err(error) => return error.to_string(alloc),
     };
-    let mut told = report_text(alloc, impact.report())?;
+    let mut told = report_text(alloc, &impact.report)?;
     for object in OBJECTS {
         let one = foreseen_of(alloc, tree, &impact, object)?;
         told.push_str("; ")?;

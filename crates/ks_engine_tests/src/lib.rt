@@ -1,7 +1,6 @@
-//! The tests of ks_engine and ks_parallel: histories of synchronisations, records and questions over a tree in memory and over one
-//! whose calls fail, each with what is answered and what the files then hold, and records in many orders of their calls. They are a
-//! crate of their own since a crate that has tests is proved once more for them. Nothing stands on it, and without its tests it is
-//! empty.
+//! The tests of ks_engine: histories of synchronisations, records and questions over a tree in memory and over one whose calls fail,
+//! each with what is answered and what the files then hold. They are a crate of their own since a crate that has tests is proved
+//! once more for them. Nothing stands on it, and without its tests it is empty.
 #![tactic(auto)]
 
 #[cfg(test)]
@@ -14,8 +13,6 @@ mod explained;
 mod foreseen;
 #[cfg(test)]
 mod golden;
-#[cfg(test)]
-mod orders;
 #[cfg(test)]
 mod steps;
 #[cfg(test)]

@@ -1,19 +1,20 @@
-use Rattle.ks_engine.proofs.Prelude.{◌≡◌, EngineError, Refused, rules}
+use Rattle.ks_engine.proofs.Prelude.{◌≡◌, EngineError, Some, rules}
 use Rattle.ks_engine.proofs.commands.answer.Goals as goal
 
-refused_is : (e f : EngineError) → Refused e ≡ Refused f → e ≡ f
-refused_is e f same = cc
+error_is : (e f : EngineError) → Some e ≡ Some f → e ≡ f
+error_is e f same = cc
 
 pub returns-in-Err-clause-step : goal.returns-in-Err-clause-step
 returns-in-Err-clause-step g c = record {
   leaves = λ honest. rw (c.in-Sync.is, ← c.new.ensures) (c.in-Err.ensures.refused honest);
+  ages = search rules;
   later = search rules;
-  cause = search (rules, refused_is);
-  uncounted = search (rules, refused_is);
+  cause = search (rules, error_is);
+  uncounted = search (rules, error_is);
 }
 
 pub returns-in-Err-record_by-clause-step : goal.returns-in-Err-record_by-clause-step
-returns-in-Err-record_by-clause-step g c = search (rules, refused_is)
+returns-in-Err-record_by-clause-step g c = search (rules, error_is)
 
 pub returns-in-Ok-clause-memo : goal.returns-in-Ok-clause-memo
 returns-in-Ok-clause-memo g c = λ honest. c.clear.ensures (g.T.Tree.files c.sync.new.tree)

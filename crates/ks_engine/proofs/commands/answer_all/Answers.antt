@@ -1,10 +1,11 @@
-use Rattle.ks_engine.proofs.Prelude.{◌≡◌, ◌∙◌, refl, ◌∷◌, ◌++◌, [], arith, rules, common_steps}
+use Rattle.ks_engine.proofs.Prelude.{◌≡◌, ◌∙◌, refl, ◌∷◌, ◌++◌, [], arith, length, rules, common_steps}
 use Rattle.ks_engine.proofs.FileRunning.{more}
 use Rattle.ks_engine.proofs.commands.answer_all.Goals as goal
 
 pub loop-command-preserved : goal.loop-command-preserved
 loop-command-preserved g c = record {
-  run = let items : c.push.new.self.items ≡ c.loop-command.replies.items ++ c.answer-reply.result ∷ [] = grind (arith, common_steps) in search (rules, more);
+  run = let items : c.push.new.self.items ≡ c.loop-command.replies.items ++ c.answer-reply.result ∷ [] = grind (arith, common_steps) in
+      let many : length c.loop-command.replies.items ≡ c.loop-command.command-index = grind (arith, common_steps, c.loop-command.invariant.told) in search (rules, more);
   later = omega (arith, c.loop-command.invariant.later, c.answer-reply.ensures.step.later);
   kept = c.answer-reply.ensures.kept ∙ c.loop-command.invariant.kept;
   memo = c.answer-reply.ensures.memo;

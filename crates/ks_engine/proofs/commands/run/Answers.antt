@@ -10,4 +10,4 @@ answer_all-requires g c = record {
 }
 
 pub returns-clause-runs : goal.returns-clause-runs
-returns-clause-runs g c = λ honest h shows. goes_on _ _ _ _ _ _ h honest shows c.answer_all.ensures.steps
+returns-clause-runs g c = λ honest h shows. goes_on _ _ _ _ _ h honest shows c.answer_all.ensures.steps

@@ -67,9 +67,7 @@ returns-in_err-make_stamps-clause-refused g c = λ honest.
 
 pub returns-in_err-make_stamps-clause-follows : goal.returns-in_err-make_stamps-clause-follows
 returns-in_err-make_stamps-clause-follows g c = λ honest h shows.
-    let declared = all_declared g (goal.at.returns-in_err-make_stamps-clause-follows g c).After-make_stamps in
-    stamped_follows _ _ _ _ h _ _ _ (λ x is. c.in_ok-names.ensures.legal x (declared x ∙ is)) shows (search (rules, err_from_is_err_and))
-    (returns-in_err-make_stamps-clause-refused g c honest)
+    stamped_follows _ _ _ _ h _ _ _ shows (search (rules, err_from_is_err_and)) (returns-in_err-make_stamps-clause-refused g c honest)
 
 pub returns-clause-stamped : goal.returns-clause-stamped
 returns-clause-stamped g c = λ honest. record {
@@ -83,6 +81,5 @@ returns-clause-stamped g c = λ honest. record {
 
 pub returns-clause-follows : goal.returns-clause-follows
 returns-clause-follows g c = λ honest h shows.
-    let declared = all_declared g (goal.at.returns-clause-follows g c).After-make_stamps in
-    stamped_follows _ _ (g.T.Tree.failures c.args.tree.now) (g.T.Tree.failures c.make_stamps.new.tree) h _ _ (Ok c.in_ok-report.report)
-    (λ x is. c.in_ok-names.ensures.legal x (declared x ∙ is)) shows (returns-clause-stamped g c honest) tt
+    stamped_follows _ _ (g.T.Tree.failures c.args.tree.now) (g.T.Tree.failures c.make_stamps.new.tree) h _ _ (Ok c.in_ok-report.report) shows
+    (returns-clause-stamped g c honest) tt

@@ -3,16 +3,18 @@ use Rattle.std.specs.Prelude.{◌≡◌, ◌+◌, ◌-◌, ◌^◌, ◌==◌, �
 use Rattle.std.specs.FinMap as map
 use Rattle.std.specs.Io.KnownBytes.{Appends}
 use Rattle.ks_symbols.specs.Dialects.{KconfigText}
-use Rattle.ks_symbols.specs.Refusals.{or_else}
+use Rattle.ks_symbols.specs.Refusals.{or_else, IsRefusal}
 use Rattle.ks_output.specs.OldConfig.{Texts}
 use Rattle.ks_output.specs.declared.auto_conf.AutoError.{AutoError}
 use Rattle.ks_output.specs.AutoText.{auto_text}
 use Rattle.ks_output.specs.AutoConf.{auto_map, auto_generation, auto_refusal}
 use Rattle.ks_engine.specs.declared.error.EngineError.{EngineError}
-use Rattle.ks_engine.specs.declared.error.EngineError.TheVariants.{GenerationFull}
+use Rattle.ks_engine.specs.declared.error.EngineError.TheVariants.{GenerationFull, OutOfMemory}
 use Rattle.ks_engine.specs.Refusals.{of_auto, of_source}
 use Rattle.ks_engine.specs.SyncPlan.{Sources, AreSources, source_refusal}
 use Rattle.ks_engine.specs.Synchronised.{AreLegalChanges}
+use Rattle.ks_requests.specs.declared.preview.PreviewError.{PreviewError}
+use Rattle.ks_requests.specs.declared.preview.PreviewError.TheVariants.{Engine, Output}
 
 -- what an old auto.conf holds; none is the empty one of generation 0
 abbrev pub old_texts : Option (List ℕ) → Texts
@@ -54,3 +56,8 @@ pub record Previews (kconfig : KconfigText) (dotconfig : List ℕ) (old before a
   pub text : List ℕ
   pub is_preview : IsPreview kconfig dotconfig old text
   pub appended : Appends before after text
+
+-- The texts are refused as the definitions have it, or for memory, and nothing is written; or what is not refused didn't go out.
+abbrev pub IsNoPreview : KconfigText → List ℕ → Option (List ℕ) → Option (List ℕ) → Option (List ℕ) → PreviewError → Type 0
+IsNoPreview kconfig dotconfig old before after (Engine e) = IsRefusal OutOfMemory e (preview_refusal kconfig dotconfig old) × (after ≡ before)
+IsNoPreview kconfig dotconfig old before after Output = preview_refusal kconfig dotconfig old ≡ None

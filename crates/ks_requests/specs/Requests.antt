@@ -35,6 +35,6 @@ IsOneStep (Sync kconfig dotconfig stamps) = ⊤
 IsOneStep (Preview kconfig dotconfig old) = ⊤
 IsOneStep (Diff kconfig dotconfig telling) = ⊤
 IsOneStep (Fixdep depfile target command) = ⊤
-IsOneStep (Record depfile target command) = ⊤
+IsOneStep (Record depfile target command after) = ⊤
 IsOneStep (Depfile header depfile target command) = ⊤
 IsOneStep _ = ⊥

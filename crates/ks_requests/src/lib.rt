@@ -25,14 +25,14 @@ pub use inputs::{Inputs, Texts, borrowed, borrowed_path, inputs_at, read_given, 
 pub use json_lines::write_json_answer;
 pub use laws::{json_lines_are_objects, script_examples, script_lines_are_spelled};
 pub use output::{print, refuse, refuse_at};
-pub use preview::preview_of;
+pub use preview::{PreviewError, preview_to};
 pub use reading::Reading;
 pub use refusal::Refusal;
 pub use replies::{
     build_status, tell_depfile, tell_recorded, tell_replies, tell_report, write_answer,
     write_build_line, write_refused_target,
 };
-pub use request::{Form, Request, Stamps, Targets};
+pub use request::{DepfileAfter, Form, Request, Stamps, Targets};
 pub use script::{ScriptLine, read_script, script_syncs};
 pub use script_error::ScriptError;
 pub use sites::{Part, Site, site_of};

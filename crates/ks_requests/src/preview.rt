@@ -1,15 +1,37 @@
 //! What a synchronisation would do, without doing it: the stamps that it would renew, and its auto.conf.
 //!
-//! The whole text is made here, and written by whoever asked for it, so that a refusal of what was read writes nothing.
-ghost use Rattle.std.specs.Prelude.{◌≡◌, ◌+◌, ◌++◌, None, IfOk, OnOk, option_map};
+//! The whole text is made before its first byte is written, so that a refusal of what was read writes nothing.
+ghost use Rattle.std.specs.Prelude.{◌≡◌, ◌+◌, ◌++◌, None, IfErr, IfOk, OnOk, option_map};
 ghost use Rattle.ks_symbols.specs.Refusals.{RefusedBy};
 ghost use Rattle.ks_output.specs.AutoText.{auto_text};
-ghost use Rattle.ks_requests.specs.Preview.{IsPreview, old_generation, old_refusal, old_texts, preview_refusal, touch_lines};
+ghost use Rattle.ks_requests.specs.declared.preview.PreviewError.TheVariants.{Engine};
+ghost use Rattle.ks_requests.specs.Preview.{IsPreview, IsNoPreview, Previews, old_generation, old_refusal, old_texts, preview_refusal, touch_lines};
 
 use ks_engine::{EngineError, Report, Sources, plan, read_sources};
 use ks_output::{AutoError, OldConfig, read_auto, write_auto};
 use ks_symbols::{Kconfig, Name};
 use std::alloc::{AllocError, Global};
+use std::io::Write;
+use thiserror::Error;
+
+/// Why there is no preview.
+#[derive(Debug, Drop, Error)]
+pub enum PreviewError {
+    /// One of the texts, under the numbers 1 to 11, or 42 where no generation comes after that of the old auto.conf.
+    #[error(transparent)]
+    Engine(EngineError),
+    /// The output failed; a beginning of the text may be out.
+    #[error("51 Output")]
+    Output,
+}
+
+impl From<EngineError> for PreviewError {
+    ghost from_gives = { λ e p. p ≡ Engine e };
+
+    fn from(error: EngineError) -> PreviewError {
+        PreviewError::Engine(error)
+    }
+}
 
 /// The old auto.conf, or the empty one where there is none.
 fn read_old(alloc: Global, old: Option<&[u8]>) -> Result<OldConfig, AutoError>
@@ -48,9 +70,8 @@ fn preview_text(alloc: Global, report: Report, sources: &Sources) -> Result<Vec<
     Ok(text)
 }
 
-/// What a synchronisation over an old auto.conf would touch, a line `touch NAME` each, and the auto.conf that it would write, of any
-/// length, though a synchronisation refuses one of more than 64 MiB. Without an old one it is the first synchronisation.
-pub fn preview_of(
+/// The text of a preview, of any length, though a synchronisation refuses an auto.conf of more than 64 MiB.
+fn preview_of(
     alloc: Global,
     kconfig: &Kconfig<'_>,
     dotconfig: &[u8],
@@ -65,4 +86,23 @@ pub fn preview_of(
         return Err(EngineError::GenerationFull);
     };
     Ok(preview_text(alloc, report, &sources)?)
+}
+
+/// Writes what a synchronisation over an old auto.conf would touch, a line `touch NAME` each, and the auto.conf that it would
+/// write. Without an old one it is the first synchronisation.
+pub fn preview_to<W: Write>(
+    alloc: Global,
+    kconfig: &Kconfig<'_>,
+    dotconfig: &[u8],
+    old: Option<&[u8]>,
+    out: &mut W,
+) -> Result<(), PreviewError>
+    ensures written { OnOk result (Previews kconfig.now dotconfig.now (option_map (λ t. t.now) old.entry) (W.contents out.old) (W.contents out.new)) }
+    ensures refusal { IfErr result (IsNoPreview kconfig.now dotconfig.now (option_map (λ t. t.now) old.entry) (W.contents out.old) (W.contents out.new)) }
+{
+    let text = preview_of(alloc, kconfig, dotconfig, old)?;
+    match out.write_all(&text) {
+        Ok(()) => Ok(()),
+        Err(_) => Err(PreviewError::Output),
+    }
 }

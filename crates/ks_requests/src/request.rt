@@ -27,6 +27,15 @@ pub enum Stamps {
     Declared,
 }
 
+/// What is left of a dependency file that was recorded.
+#[derive(Clone, Copy, Debug, PartialEq, Eq)]
+pub enum DepfileAfter {
+    /// The file as it was.
+    Kept,
+    /// Nothing: once the object is recorded the program removes the file.
+    Removed,
+}
+
 /// One command of the program, with its words in order.
 #[derive(Debug, Drop)]
 pub enum Request {
@@ -59,6 +68,7 @@ pub enum Request {
         depfile: String,
         target: String,
         command: String,
+        after: DepfileAfter,
     },
     /// Record an object for a build that goes by its dependency file, which gets the stamps of the names that were found in the
     /// place of the header. The header is named by the end of its path, or it is the usual one.

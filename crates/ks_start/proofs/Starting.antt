@@ -1,6 +1,6 @@
 -- What was looked at for the sake of numbers.
-use Rattle.std.specs.Prelude.{◌≡◌, ℕ, Bool, true, false, List, Option, Some, None, Result, Ok, Err, IfOk, option_map, refl}
-use Rattle.std.proofs.Common.{◌∙◌, ap, rules, subst}
+use Rattle.std.specs.Prelude.{◌≡◌, ℕ, Bool, true, false, List, Option, Some, None, Result, Ok, Err, IfOk, refl}
+use Rattle.std.proofs.Common.{◌∙◌, ap, rules}
 use Rattle.ks_tree.specs.Files.{content}
 use Rattle.ks_tree.specs.Paths.{auto_path}
 use Rattle.ks_tree.specs.declared.tree.Tree.{Ghosts}
@@ -14,11 +14,6 @@ use Rattle.ks_start.specs.declared.start.Numbers.TheVariants.{Lost, Kept}
 pub if_ok : {A E : Type 0} (r : Result A E) (P Q : A → Type 0) → ((x : A) → P x → Q x) → IfOk r P → IfOk r Q
 if_ok (Ok x) P Q f h = f x h
 if_ok (Err e) P Q f h = tt
-
--- what is known of what was found, where that is something or nothing
-pub found_as : {S : Type 0} (text : S → List ℕ) (Finds : Option (List ℕ) → Type 0) (found known : Option S) → found ≡ known
-    → Finds (option_map text found) → Finds (option_map text known)
-found_as {S} text Finds found known is finds = subst (λ (o : Option S). Finds (option_map text o)) is finds
 
 -- auto.conf doesn't begin them
 pub not_begun : {P L : Type 0} (tree : Ghosts P) (calls : Calls P L) (reads : Readings P) (folder : List ℕ) (old read : P) (found : Option (List ℕ))

@@ -19,7 +19,7 @@ use Rattle.ks_start.specs.declared.lock.Script.{Script}
 use Rattle.ks_start.specs.declared.start.Entry.{Entry}
 use Rattle.ks_start.specs.declared.start.Entry.TheVariants as entry
 use Rattle.ks_start.specs.declared.start.Locking.{Locking}
-use Rattle.ks_start.specs.declared.start.Locking.TheVariants.{Had, Busy}
+use Rattle.ks_start.specs.declared.start.Locking.TheVariants.{Had, Busy, Failed}
 use Rattle.ks_start.specs.declared.start.Numbers.{Numbers}
 use Rattle.ks_start.specs.declared.start.Numbers.TheVariants.{Lost, Kept}
 use Rattle.ks_start.specs.declared.start.Ready.{Ready}
@@ -32,7 +32,7 @@ Readings P = P → List ℕ → P → Type 0
 
 -- The folder is there, and its tree was opened under a number that the system drew.
 abbrev pub Opens : {P L : Type 0} → Calls P L → Settings → P → Type 0
-Opens calls settings place = calls.has_folder (string_bytes settings.folder) true × (seed : ℕ) × calls.draws (Some seed) × calls.opens (string_bytes settings.folder) seed place
+Opens calls settings place = calls.looks (string_bytes settings.folder) (Ok tt) × (seed : ℕ) × calls.draws (Some seed) × calls.opens (string_bytes settings.folder) seed place
 
 -- The lock that is needed was asked for; where none is, nothing was.
 abbrev pub Locks : {P L : Type 0} → Calls P L → Settings → Option Access → P → Locking L → P → Type 0
@@ -52,9 +52,10 @@ pub record AsksForLock {P L : Type 0} (tree : Ghosts P) (calls : Calls P L) (rea
 
 abbrev pub Enters : {P L : Type 0} → Ghosts P → Calls P L → Readings P → Settings → Result Request WordsError → Entry P L → Type 0
 Enters {P} tree calls reads settings asked (entry.Entered e) = AsksForLock tree calls reads settings asked e.access (Had e.lock) e.place
-Enters {P} tree calls reads settings asked entry.NoFolder = calls.has_folder (string_bytes settings.folder) false
+Enters {P} tree calls reads settings asked (entry.NoFolder why) = calls.looks (string_bytes settings.folder) (Err why)
 Enters {P} tree calls reads settings asked entry.NoSeed = calls.draws None
 Enters {P} tree calls reads settings asked entry.Busy = (access : Option Access) × (place : P) × AsksForLock tree calls reads settings asked access Busy place
+Enters {P} tree calls reads settings asked (entry.NoLock why) = (access : Option Access) × (place : P) × AsksForLock tree calls reads settings asked access (Failed why) place
 
 -- ---- lost numbers
 
@@ -77,13 +78,13 @@ abbrev pub IsKept : Option (List ℕ) → Numbers → Type 0
 IsKept found (Kept (Some script)) = (script.path.items ≡ auto_path) × (option_map (λ v. v.items) script.found ≡ found)
 IsKept found numbers = ⊥
 
--- Where auto.conf begins them anew the tree is searched for a number, and only there; and what was found of it is kept where it could be read.
+-- Where auto.conf begins them anew the tree is searched for numbers, and only there; and what was found of it is kept where it could be read.
 abbrev pub Follows : {P L : Type 0} → Ghosts P → Calls P L → List ℕ → P → P → Result Bool EngineError → Numbers → P → Type 0
-Follows tree calls folder old read (Ok true) (Lost path) new = calls.finds folder read (Some (string_bytes path)) new
+Follows tree calls folder old read (Ok true) (Lost loss) new = calls.finds folder read (Some loss) new
 Follows tree calls folder old read (Ok true) (Kept auto) new = IsAutoConf tree old auto × calls.finds folder read None new
 Follows tree calls folder old read (Ok false) (Kept auto) new = IsAutoConf tree old auto × (new ≡ read)
 Follows tree calls folder old read (Err e) (Kept auto) new = (auto ≡ None) × (new ≡ read)
-Follows tree calls folder old read answer (Lost path) new = ⊥
+Follows tree calls folder old read answer (Lost loss) new = ⊥
 
 -- auto.conf was read, once, and whether it begins the numbers was looked at. It was given up only where the tree has failed.
 pub record Looks {P L : Type 0} (tree : Ghosts P) (calls : Calls P L) (reads : Readings P) (folder : List ℕ) (old : P) (numbers : Numbers) (new : P) : Type 0 where
@@ -134,8 +135,9 @@ pub record IsReady {P L : Type 0} (tree : Ghosts P) (calls : Calls P L) (reads :
 -- Each other answer comes of the call that gave it.
 abbrev pub Starts : {P L : Type 0} → Ghosts P → Calls P L → Readings P → Settings → Result Request WordsError → Start P L → Type 0
 Starts tree calls reads settings asked (start.Ready ready) = IsReady tree calls reads settings asked ready
-Starts tree calls reads settings asked start.NoFolder = calls.has_folder (string_bytes settings.folder) false
+Starts tree calls reads settings asked (start.NoFolder why) = calls.looks (string_bytes settings.folder) (Err why)
 Starts tree calls reads settings asked start.NoSeed = calls.draws None
 Starts {P} tree calls reads settings asked start.Busy = (access : Option Access) × (place : P) × AsksForLock tree calls reads settings asked access Busy place
-Starts {P} {L} tree calls reads settings asked (start.LostNumber path) =
-    (access : Option Access) × (lock : Option L) × (place : P) × LooksLocked tree calls reads settings asked access lock (Lost path) place
+Starts {P} tree calls reads settings asked (start.NoLock why) = (access : Option Access) × (place : P) × AsksForLock tree calls reads settings asked access (Failed why) place
+Starts {P} {L} tree calls reads settings asked (start.Lost loss) =
+    (access : Option Access) × (lock : Option L) × (place : P) × LooksLocked tree calls reads settings asked access lock (Lost loss) place

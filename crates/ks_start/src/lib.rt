@@ -12,4 +12,4 @@ pub use folder::below;
 pub use front::{Fault, Front, Invocation, Settings, take_front};
 pub use lock::{Access, FolderLock, Script, access_of};
 pub use numbers::{Beginning, begins_anew, holds_number, is_another_tree};
-pub use start::{Host, Locking, Ready, Start, come_to_folder};
+pub use start::{Host, Locking, Loss, Ready, Start, come_to_folder};

@@ -16,6 +16,7 @@ use ks_symbols::Dialect;
 use ks_tree::auto_path;
 use ks_words::WordsError;
 use std::alloc::{AllocError, Global};
+use std::io;
 
 /// What came of asking for a lock.
 #[derive(Drop)]
@@ -24,6 +25,17 @@ pub enum Locking<L> {
     Had(Option<L>),
     /// Another program is in the way.
     Busy,
+    /// The system failed, so nobody knows whether another program is in the way.
+    Failed(io::Error),
+}
+
+/// Why numbers would be lost, or might be.
+#[derive(Drop)]
+pub enum Loss {
+    /// The file at this path holds a number.
+    Number(String),
+    /// What may hold one can't be read: its path, and why.
+    Unread(String),
 }
 
 /// The calls of the system that a command comes to its folder by. Each is known to have been made where its answer is, since
@@ -37,9 +49,9 @@ pub trait Host {
 
     ghost calls: { Self → Calls Self.Place Self.Lock } = { λ host. no_calls };
 
-    /// Whether there is such a folder.
-    fn has_folder(&self, folder: &str) -> bool
-        ensures { (calls self.now).has_folder folder.now result };
+    /// Looks whether there is such a directory, or says why it is not to be had.
+    fn look(&self, folder: &str) -> io::Result<()>
+        ensures { (calls self.now).looks folder.now result };
 
     /// A number that nobody can know before, or `None` where the system gives none. Without it whoever writes the files could
     /// choose names that collide.
@@ -60,14 +72,14 @@ pub trait Host {
     ) -> Locking<Self::Lock>
         ensures { (calls self.now).locks folder.now lock seconds place.old result place.new };
 
-    /// The path of a file of the folder, or of one below it, that holds a number.
-    fn find_number(
+    /// What would be lost of the numbers in the directory, and in those below it.
+    fn find_loss(
         &self,
         alloc: Global,
         place: &mut Self::Place,
         folder: &str,
-    ) -> Result<Option<String>, AllocError>
-        ensures { IfOk result (λ found. (calls self.now).finds folder.now place.old (option_map (λ path. string_bytes path) found) place.new) };
+    ) -> Result<Option<Loss>, AllocError>
+        ensures { IfOk result (λ found. (calls self.now).finds folder.now place.old found place.new) };
 
     /// Holds what was found at a path, so that it is not read again.
     fn hold(&self, place: &mut Self::Place, script: Script)
@@ -86,9 +98,10 @@ pub struct Entered<P, L> {
 #[derive(Drop)]
 pub enum Entry<P, L> {
     Entered(Entered<P, L>),
-    NoFolder,
+    NoFolder(io::Error),
     NoSeed,
     Busy,
+    NoLock(io::Error),
 }
 
 /// All that a command needs to run.
@@ -104,19 +117,22 @@ pub struct Ready<P, L> {
 #[derive(Drop)]
 pub enum Start<P, L> {
     Ready(Ready<P, L>),
-    NoFolder,
+    /// The directory is not to be had, for this reason.
+    NoFolder(io::Error),
     NoSeed,
     /// Another program is at work in the folder.
     Busy,
-    /// The file at this path holds a number, and the command would begin them anew.
-    LostNumber(String),
+    /// Nobody knows whether another program is, for this reason.
+    NoLock(io::Error),
+    /// The command would begin the numbers anew.
+    Lost(Loss),
 }
 
 /// What was looked at for the sake of numbers.
 #[derive(Drop)]
 pub enum Numbers {
-    /// The file at this path holds one that would be lost.
-    Lost(String),
+    /// Some would be lost.
+    Lost(Loss),
     /// None would be lost, and this was found of auto.conf.
     Kept(Option<Script>),
 }
@@ -158,6 +174,7 @@ fn enter_place<H: Host>(
             lock,
         })),
         Locking::Busy => Ok(Entry::Busy),
+        Locking::Failed(error) => Ok(Entry::NoLock(error)),
     }
 }
 
@@ -171,8 +188,8 @@ fn enter<H: Host>(
     ensures { IfOk result (Enters H.Place.Tree (H.calls host.now) H.Place.reads settings.now asked.now) }
 {
     let folder = settings.folder.as_str();
-    if !host.has_folder(folder) {
-        return Ok(Entry::NoFolder);
+    if let Err(error) = host.look(folder) {
+        return Ok(Entry::NoFolder(error));
     }
     let Some(seed) = host.draw_seed() else {
         return Ok(Entry::NoSeed);
@@ -207,8 +224,8 @@ fn look_for_numbers<H: Host>(
     if !begins {
         return held_auto(alloc, found);
     }
-    match host.find_number(alloc, place, folder)? {
-        Some(path) => Ok(Numbers::Lost(path)),
+    match host.find_loss(alloc, place, folder)? {
+        Some(loss) => Ok(Numbers::Lost(loss)),
         None => held_auto(alloc, found),
     }
 }
@@ -281,7 +298,7 @@ fn prepare<H: Host>(
         lock,
     } = entered;
     match look_if_needed(host, alloc, &mut place, settings, &access)? {
-        Numbers::Lost(path) => Ok(Start::LostNumber(path)),
+        Numbers::Lost(loss) => Ok(Start::Lost(loss)),
         Numbers::Kept(auto) => {
             hold_readings(host, &mut place, first_held(access, auto));
             Ok(Start::Ready(Ready {
@@ -304,8 +321,9 @@ pub fn come_to_folder<H: Host>(
 {
     match enter(host, alloc, settings, asked)? {
         Entry::Entered(entered) => prepare(host, alloc, settings, asked, entered),
-        Entry::NoFolder => Ok(Start::NoFolder),
+        Entry::NoFolder(error) => Ok(Start::NoFolder(error)),
         Entry::NoSeed => Ok(Start::NoSeed),
         Entry::Busy => Ok(Start::Busy),
+        Entry::NoLock(error) => Ok(Start::NoLock(error)),
     }
 }

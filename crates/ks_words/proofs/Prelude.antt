@@ -4,7 +4,7 @@ pub use Rattle.std.proofs.Common.{IsSomeAnd, fold, slice_index}
 pub use Rattle.std.proofs.lemmas.Bool.{true≢false}
 pub use Rattle.std.proofs.lemmas.List.{take_all}
 pub use Rattle.std.proofs.lemmas.Option.{same_Some}
-pub use Rattle.std.specs.Prelude.{Err, IfErr, IsErrAnd, Ok, Result, is_some}
+pub use Rattle.std.specs.Prelude.{Err, IfErr, IfOk, IsErrAnd, Ok, Result, is_some}
 pub use Rattle.std.specs.Str.{bytes_eq}
 pub use Rattle.std.specs.Str.Parse.{ParsesUnsigned}
 unfoldable pub use Rattle.clap.proofs.OnLiterals.{clap_on_literals}
@@ -21,5 +21,6 @@ pub use Rattle.clap.specs.declared.parser.matches.ValueSource.TheVariants.{Comma
 pub use Rattle.ks_requests.specs.declared.request.Request.{Request}
 pub use Rattle.ks_words.specs.CommandLine.{bare_app, command_line_app, taking, usage_app, with_all, word_rule}
 pub use Rattle.ks_words.specs.Laws.{BatchWords, PreviewWords}
-pub use Rattle.ks_words.specs.Words.{IsFaultOf, IsNumberOf, IsRequestOf, IsTelling, IsTold, IsWantOfMemory, is_no_memory}
+pub use Rattle.ks_words.specs.Meaning.{IsPageFor, IsPageNamed, IsPageOf, IsPageTold, IsReason, IsTakenAs, Makes}
+pub use Rattle.ks_words.specs.Words.{IsNumberOf, IsRequestOf, IsTelling, IsTold, IsWantOfMemory, is_no_memory}
 pub use Rattle.ks_words.specs.declared.words.WordsError.{WordsError}

@@ -1,8 +1,11 @@
 -- What the command line makes of words that begin with no hyphen.
-use Rattle.ks_words.proofs.Prelude.{◌≡◌, ◌≢◌, ◌==◌, inl, inr, ap, sym, subst, ◌∙◌, ℕ, List, [], ◌∷◌, Option, Some, None, refl, codes, true, false, slice_index, option_map, arith, true≢false, nat_tests, Error, HasKind, IsAmong, Kinds, kind_of, Row, Text, first_of, first_value, is_simple, is_simple_and_free, rows_of, subcommand_name_of, subcommand_of, subcommand_rows_of, takes, is_some, same_Some, IsBatchOf, IsPreviewOf, Request, WordsError, IsFaultOf, IsRequestOf, IsTelling, IsTold, IsWantOfMemory, is_no_memory, ArgMatches, CommandLine, reading_of, strip_byte, bytes_eq, Found, first_value-rows, clap_on_literals, command_line_app, rules}
+use Rattle.ks_words.proofs.Prelude.{◌≡◌, ◌≢◌, ◌==◌, inl, inr, ap, sym, subst, ◌∙◌, ℕ, List, [], ◌∷◌, Option, Some, None, refl, codes, true, false, slice_index, option_map, arith, true≢false, nat_tests, Error, HasKind, IsAmong, Kinds, kind_of, Row, Text, first_of, first_value, is_simple, is_simple_and_free, rows_of, subcommand_name_of, subcommand_of, subcommand_rows_of, takes, is_some, same_Some, IsBatchOf, IsPreviewOf, Request, WordsError, IfErr, IfOk, IsPageNamed, IsPageTold, IsReason, IsRequestOf, IsTakenAs, IsTelling, IsTold, Makes, Ok, Err, Result, fault_of, is_no_memory, ArgMatches, CommandLine, reading_of, strip_byte, bytes_eq, Found, first_value-rows, clap_on_literals, command_line_app, rules}
 use Rattle.clap.specs.declared.error.kind.ErrorKind.{ErrorKind}
 use Rattle.clap.specs.declared.error.kind.ErrorKind.TheVariants.{OutOfMemory as NoMemory}
 use Rattle.std.specs.Prelude.{IsSomeAnd}
+use Rattle.ks_errors.specs.Errors.{Texts}
+unfoldable use Rattle.ks_errors.specs.Errors.{page}
+use Rattle.ks_words.specs.Words.{IsPlainWord, is_visible, word_at}
 use Rattle.ks_requests.specs.declared.request.Request.TheVariants as request
 use Rattle.ks_words.specs.declared.words.WordsError.TheVariants as words
 use Rattle.clap.specs.declared.builder.value_parser.ValueParser.TheVariants as vp
@@ -74,24 +77,87 @@ pub preview_of : (k d : Text) (r : Request) → IsRequestOf (codes "preview") (g
     → IsPreviewOf k d None r
 preview_of k d (request.Preview k' d' o) h = (h.1, h.2, h.3)
 preview_of k d (request.Stale ts f) h = absurd (h.0 1 [] (omega arith) refl)
+preview_of k d (request.Age which ts) h = elim h.0 [
+  | inl e ↦ absurd (true≢false (ap (λ t. slice_index t 0 == 112) e))
+  | inr e ↦ absurd (true≢false (ap (λ t. slice_index t 0 == 112) e))
+]
 preview_of k d r h = absurd (true≢false (ap (λ t. slice_index t 0 == 112) h.0))
 
 pub batch_of : (p : Text) (r : Request) → IsRequestOf (codes "batch") (given (codes "SCRIPT") p ∷ []) r → IsBatchOf p r
 batch_of p (request.Batch s) h = h.1
 batch_of p (request.Stale ts f) h = absurd (h.0 6 [] (omega arith) refl)
+batch_of p (request.Age which ts) h = elim h.0 [
+  | inl e ↦ absurd (true≢false (ap (λ t. slice_index t 2 == 116) e))
+  | inr e ↦ absurd (true≢false (ap (λ t. slice_index t 0 == 98) e))
+]
 batch_of p r h = absurd (true≢false (ap (λ t. slice_index t 0 == 98) h.0))
 
 -- an error that is told is of a kind of its words
-pub fault_told : (e : Error) (kinds : Kinds) (told : WordsError) → HasKind kinds e → IsTold e told → IsFaultOf kinds told
-fault_told e kinds (words.Refused said) (inl memory) h = absurd (true≢false (sym (ap is_no_memory memory) ∙ h.1))
-fault_told e kinds (words.Refused said) (inr among) h = subst (λ (k : ErrorKind). IsAmong k kinds) (sym h.0) among
-fault_told e kinds words.OutOfMemory has h = tt
+pub fault_told : (e : Error) (asked : List Text) (told : WordsError) → HasKind (fault_of command_line_app asked) e → IsTold e told
+    → IsReason asked told
+fault_told e asked (words.Refused said) (inl memory) h = absurd (true≢false (sym (ap is_no_memory memory) ∙ h.1))
+fault_told e asked (words.Refused said) (inr among) h = inl (subst (λ (k : ErrorKind). IsAmong k (fault_of command_line_app asked)) (sym h.0) among)
+fault_told e asked words.OutOfMemory has h = tt
 
-pub memory_told : (e : Error) (told : WordsError) → kind_of e ≡ NoMemory → IsTold e told → IsWantOfMemory told
-memory_told e (words.Refused said) memory h = absurd (true≢false (sym (ap is_no_memory memory) ∙ h.1))
-memory_told e words.OutOfMemory memory h = tt
+pub memory_told : (e : Error) (asked : List Text) (told : WordsError) → kind_of e ≡ NoMemory → IsTold e told → IsTakenAs asked told
+memory_told e asked (words.Refused said) memory h = absurd (true≢false (sym (ap is_no_memory memory) ∙ h.1))
+memory_told e asked words.OutOfMemory memory h = tt
 
 -- .. and has something to see in it
 pub visibly_told : (e : Error) (told : WordsError) → IsTold e told → IsTelling told
 visibly_told e (words.Refused said) h = h.2
 visibly_told e words.OutOfMemory h = tt
+
+-- the page of an error has something to see in it
+pub page_visible : (error : Texts) → is_visible (page error) ≡ true
+unfolding page
+page_visible error = refl
+
+-- the page that is told for its word is that of the command
+pub page_named : (name : Text) (rows : List Row) (told : WordsError) → name ≡ codes "explain" → IsPageTold (word_at (codes "NUMBER") rows) told
+    → IsPageNamed name rows told
+page_named name rows (words.Refused said) is h = (is, h.0)
+page_named name rows words.OutOfMemory is h = tt
+
+pub page_telling : (word : Text) (told : WordsError) → IsPageTold word told → IsTelling told
+page_telling word (words.Refused said) h = h.1
+page_telling word words.OutOfMemory h = tt
+
+-- what holds of the command that was entered holds of the one that the words name
+pub made_by : (o : Option (Text × List Row)) (name : Text) (rows : List Row) (r : Result Request WordsError)
+    → Some name ≡ option_map (λ p. p.0) o → Some rows ≡ option_map (λ p. p.1) o → IfOk r (IsRequestOf name rows)
+    → IfOk r (λ q. IsSomeAnd o (λ p. IsRequestOf p.0 p.1 q))
+made_by o name rows (Ok q) e f h = both o name rows (λ n ws. IsRequestOf n ws q) e f h
+made_by o name rows (Err told) e f h = tt
+
+pub paged_by : (o : Option (Text × List Row)) (name : Text) (rows : List Row) (r : Result Request WordsError)
+    → Some name ≡ option_map (λ p. p.0) o → Some rows ≡ option_map (λ p. p.1) o → IfErr r (IsPageNamed name rows)
+    → IfErr r (λ told. IsSomeAnd o (λ p. IsPageNamed p.0 p.1 told))
+paged_by o name rows (Ok q) e f h = tt
+paged_by o name rows (Err told) e f h = both o name rows (λ n ws. IsPageNamed n ws told) e f h
+
+-- .. so the words that are taken make no request for its page alone
+pub page_taken : (asked : List Text) (r : Result Request WordsError)
+    → IfErr r (λ told. IsSomeAnd (subcommand_of command_line_app asked) (λ p. IsPageNamed p.0 p.1 told))
+    → IfErr r (λ told. takes command_line_app asked ≡ true → IsTakenAs asked told)
+page_taken asked (Ok q) h = tt
+page_taken asked (Err (words.Refused said)) h = λ _. h
+page_taken asked (Err words.OutOfMemory) h = λ _. tt
+
+pub page_reason : (asked : List Text) (r : Result Request WordsError)
+    → IfErr r (λ told. IsSomeAnd (subcommand_of command_line_app asked) (λ p. IsPageNamed p.0 p.1 told)) → IfErr r (IsReason asked)
+page_reason asked (Ok q) h = tt
+page_reason asked (Err (words.Refused said)) h = inr h
+page_reason asked (Err words.OutOfMemory) h = tt
+
+pub batch_made : (asked : List Text) (r : Result Request WordsError) → IfOk r (λ q. Makes asked q)
+    → IfOk r (λ q. (p : List ℕ) → asked ≡ codes "batch" ∷ p ∷ [] → IsPlainWord p → IsBatchOf p q)
+batch_made asked (Ok q) made = λ p are plain. batch_of p q (subst (λ o. IsSomeAnd o (λ c. IsRequestOf c.0 c.1 q))
+    (ap (subcommand_of command_line_app) are ∙ batch_rows p plain) made)
+batch_made asked (Err told) made = tt
+
+pub preview_made : (asked : List Text) (r : Result Request WordsError) → IfOk r (λ q. Makes asked q)
+    → IfOk r (λ q. (k d : List ℕ) → asked ≡ codes "preview" ∷ k ∷ d ∷ [] → IsPlainWord k → IsPlainWord d → IsPreviewOf k d None q)
+preview_made asked (Ok q) made = λ k d are first second. preview_of k d q (subst (λ o. IsSomeAnd o (λ c. IsRequestOf c.0 c.1 q))
+    (ap (subcommand_of command_line_app) are ∙ preview_rows k d first second) made)
+preview_made asked (Err told) made = tt

@@ -1,18 +1,53 @@
 -- What the words after the program's name mean: a request, a mistake, or that help is asked for.
-use Rattle.std.specs.Prelude.{◌≡◌, ◌⊎◌, ℕ, List, [], IsSomeAnd, string_bytes, true}
+use Rattle.std.specs.Prelude.{◌≡◌, ◌⊎◌, ℕ, List, [], IsSomeAnd, codes, false, string_bytes, true, ⊤}
+use Rattle.std.specs.Option.{MatchOption}
 use Rattle.std.specs.Bool.{MatchBool}
-use Rattle.clap.specs.Words.{IsAmong, Text, fault_of, subcommand_of, takes}
+use Rattle.clap.specs.Words.{IsAmong, Row, Text, fault_of, subcommand_of, takes}
 use Rattle.ks_streams.specs.Streams.{Breaks, Prints, PrintsOrBreaks, State}
+use Rattle.ks_errors.specs.Errors.{error_of, known_errors, page}
 use Rattle.ks_requests.specs.declared.refusal.Refusal.TheVariants.{Output}
 use Rattle.ks_requests.specs.declared.request.Request.{Request}
 use Rattle.ks_requests.specs.Endings.{Complains}
 use Rattle.ks_words.specs.CommandLine.{command_line_app}
-use Rattle.ks_words.specs.Words.{IsRequestOf, is_help, is_visible}
+use Rattle.ks_words.specs.Words.{IsRequestOf, is_help, is_visible, word_at}
 use Rattle.ks_words.specs.declared.explanation.Explanation.{Explanation}
+use Rattle.ks_words.specs.declared.words.WordsError.{WordsError}
+use Rattle.ks_words.specs.declared.words.WordsError.TheVariants.{OutOfMemory, Refused}
 
 -- The request is that of the command that `clap` finds in the words, with what it finds for each of its words.
 abbrev pub Makes : List Text → Request → Type 0
 Makes words request = IsSomeAnd (subcommand_of command_line_app words) (λ command. IsRequestOf command.0 command.1 request)
+
+-- The page of the error of this number or name, as help is told; or of none, and which errors there are, as a mistake is told.
+abbrev pub IsPageOf : Text → Explanation → Type 0
+IsPageOf word said = MatchOption (error_of word)
+    ((is_help said.kind ≡ false) × (string_bytes said.text ≡ known_errors))
+    (λ error. (is_help said.kind ≡ true) × (string_bytes said.text ≡ page error))
+
+-- .. or memory was refused for it
+abbrev pub IsPageTold : Text → WordsError → Type 0
+IsPageTold word (Refused said) = IsPageOf word said × (is_visible (string_bytes said.text) ≡ true)
+IsPageTold word OutOfMemory = ⊤
+
+-- .. by a command and its words: those of `explain`
+abbrev pub IsPageNamed : Text → List Row → WordsError → Type 0
+IsPageNamed name rows (Refused said) = (name ≡ codes "explain") × IsPageOf (word_at (codes "NUMBER") rows) said
+IsPageNamed name rows OutOfMemory = ⊤
+
+-- The words ask `explain` about an error, and this is its page.
+abbrev pub IsPageFor : List Text → Explanation → Type 0
+IsPageFor words said = IsSomeAnd (subcommand_of command_line_app words)
+    (λ command. (command.0 ≡ codes "explain") × IsPageOf (word_at (codes "NUMBER") command.1) said)
+
+-- Why words that `clap` takes make no request: they ask for a page, or memory was refused.
+abbrev pub IsTakenAs : List Text → WordsError → Type 0
+IsTakenAs words (Refused said) = IsPageFor words said
+IsTakenAs words OutOfMemory = ⊤
+
+-- Why any words make none: it is of a kind that these words have, or they ask for a page.
+abbrev pub IsReason : List Text → WordsError → Type 0
+IsReason words (Refused said) = IsAmong said.kind (fault_of command_line_app words) ⊎ IsPageFor words said
+IsReason words OutOfMemory = ⊤
 
 -- A text was printed to the output, with the status 0; or a write to it failed, and that is refused.
 abbrev pub IsShown : List ℕ → State → State → State → State → ℕ → Type 0
@@ -28,9 +63,10 @@ abbrev pub IsSaid : Explanation → State → State → State → State → ℕ 
 IsSaid said before after err_before err_after status = MatchBool (is_help said.kind)
     (IsShown (string_bytes said.text) before after err_before err_after status) (IsBlamed (string_bytes said.text) before after err_before err_after status)
 
--- `clap` does not take the words, for a reason of a kind that these words have, there is something to see in what is said of it, and that is printed.
+-- `clap` does not take the words, for a reason of a kind that these words have, or they ask for a page; there is something to see in what is said
+-- of it, and that is printed.
 pub record Explains (words : List Text) (said : Explanation) (before after err_before err_after : State) (status : ℕ) : Type 0 where
-  pub refused : takes command_line_app words ≡ true → ⊥
-  pub reason : IsAmong said.kind (fault_of command_line_app words)
+  pub refused : takes command_line_app words ≡ true → IsPageFor words said
+  pub reason : IsAmong said.kind (fault_of command_line_app words) ⊎ IsPageFor words said
   pub visible : is_visible (string_bytes said.text) ≡ true
   pub printed : IsSaid said before after err_before err_after status

@@ -2,9 +2,11 @@
 use Rattle.std.specs.Prelude.{◌≡◌, ◌≢◌, ◌⊎◌, ℕ, Bool, false, true, nat_lt, List, [], ◌∷◌, bytes_eq, codes, option_map, slice_index, string_bytes, unwrap_or, ⊤, if◌then◌else◌, ◌<◌, ◌^◌, Option, Some, None, map}
 use Rattle.std.specs.List.{All, list_any}
 use Rattle.std.specs.Option.{option_map_or}
-use Rattle.clap.specs.Words.{IsAmong, Kinds, Row, Text, all_of, first_of, one_of}
+use Rattle.clap.specs.Words.{Row, Text, all_of, first_of, one_of}
 use Rattle.ks_engine.specs.declared.aging.Ages.{Ages}
 use Rattle.ks_engine.specs.declared.aging.Ages.TheVariants as ages
+use Rattle.ks_requests.specs.declared.request.DepfileAfter.{DepfileAfter}
+use Rattle.ks_requests.specs.declared.request.DepfileAfter.TheVariants as depfile
 use Rattle.ks_requests.specs.declared.request.Form.{Form}
 use Rattle.ks_requests.specs.declared.request.Form.TheVariants as form
 use Rattle.std.specs.Str.Parse.{IsNumeral, digits_value, without_leading_plus}
@@ -56,11 +58,6 @@ abbrev pub IsTold : Error → WordsError → Type 0
 IsTold e (Refused said) = (said.kind ≡ kind_of e) × (is_no_memory (kind_of e) ≡ false) × (is_visible (string_bytes said.text) ≡ true)
 IsTold e OutOfMemory = ⊤
 
--- the error is of one of these kinds, or memory was refused
-abbrev pub IsFaultOf : Kinds → WordsError → Type 0
-IsFaultOf kinds (Refused said) = IsAmong said.kind kinds
-IsFaultOf kinds OutOfMemory = ⊤
-
 -- the word that stands for this name, and the words that stand for it
 abbrev pub word_at : Text → List Row → Text
 word_at name rows = unwrap_or (first_of name rows) []
@@ -80,6 +77,10 @@ telling_of rows = if is_set (codes "quiet") rows then Status else (if is_set (co
 abbrev pub stamps_of : List Row → Stamps
 stamps_of rows = if is_set (codes "stamps") rows then stamps.Declared else stamps.Touched
 
+-- what `record` is to leave of the dependency file
+abbrev pub depfile_after : List Row → DepfileAfter
+depfile_after rows = if is_set (codes "remove-depfile") rows then depfile.Removed else depfile.Kept
+
 -- which stale objects `age` is to age
 abbrev pub ages_of : List Row → Ages
 ages_of rows = if is_set (codes "unrecorded") rows then ages.Unrecorded else ages.Recorded
@@ -88,7 +89,7 @@ ages_of rows = if is_set (codes "unrecorded") rows then ages.Unrecorded else age
 abbrev pub IsNoOther : Text → Type 0
 IsNoOther name = All (λ other. name ≢ other)
     (codes "sync" ∷ codes "preview" ∷ codes "diff" ∷ codes "fixdep" ∷ codes "record" ∷ codes "depfile" ∷ codes "batch" ∷ codes "outdated"
-    ∷ codes "why" ∷ codes "impact" ∷ codes "age" ∷ codes "users" ∷ codes "cost" ∷ [])
+    ∷ codes "why" ∷ codes "impact" ∷ codes "age" ∷ codes "users" ∷ codes "cost" ∷ codes "backdate" ∷ codes "explain" ∷ [])
 
 -- the objects of a question
 abbrev pub AreTargets : List Row → Targets → Type 0
@@ -118,9 +119,9 @@ IsRequestOf command rows (request.Diff k d telling) = (command ≡ codes "diff")
 IsRequestOf command rows (request.Fixdep d t c) = (command ≡ codes "fixdep")
     × (string_bytes d ≡ word_at (codes "DEPFILE") rows) × (string_bytes t ≡ word_at (codes "TARGET") rows)
     × (string_bytes c ≡ word_at (codes "COMMAND") rows)
-IsRequestOf command rows (request.Record d t c) = (command ≡ codes "record")
+IsRequestOf command rows (request.Record d t c after) = (command ≡ codes "record")
     × (string_bytes d ≡ word_at (codes "DEPFILE") rows) × (string_bytes t ≡ word_at (codes "TARGET") rows)
-    × (string_bytes c ≡ word_at (codes "COMMAND") rows)
+    × (string_bytes c ≡ word_at (codes "COMMAND") rows) × (after ≡ depfile_after rows)
 IsRequestOf command rows (request.Depfile end d t c) = (command ≡ codes "depfile")
     × (option_map (λ path. string_bytes path) end ≡ first_of (codes "END") rows) × (string_bytes d ≡ word_at (codes "DEPFILE") rows)
     × (string_bytes t ≡ word_at (codes "TARGET") rows) × (string_bytes c ≡ word_at (codes "COMMAND") rows)
@@ -130,7 +131,7 @@ IsRequestOf command rows (request.Why ts f) = (command ≡ codes "why") × AreTa
 IsRequestOf command rows (request.Impact k d ts f) = (command ≡ codes "impact")
     × (string_bytes k ≡ word_at (codes "KCONFIG") rows) × (string_bytes d ≡ word_at (codes "DOTCONFIG") rows) × AreTargets rows ts
     × (f ≡ form_of rows)
-IsRequestOf command rows (request.Age which ts) = (command ≡ codes "age") × (which ≡ ages_of rows) × AreTargets rows ts
+IsRequestOf command rows (request.Age which ts) = ((command ≡ codes "backdate") ⊎ (command ≡ codes "age")) × (which ≡ ages_of rows) × AreTargets rows ts
 IsRequestOf command rows (request.Batch s) =
     (command ≡ codes "batch") × (string_bytes s ≡ word_at (codes "SCRIPT") rows)
 IsRequestOf command rows (request.Outdated t c) = (command ≡ codes "outdated")

@@ -1,13 +1,14 @@
-//! What is said where the words are no request: help, the version, or which word is a mistake.
+//! What is said where the words are no request: help, the version, what is known of an error, or which word is a mistake.
 //!
 //! The text is made with the request, or in its place: who prints it asks for no memory, so a mistake is never told as want of it.
 ghost use Rattle.std.specs.Prelude.{◌≡◌, IfOk, string_bytes, true};
 ghost use Rattle.clap.specs.Words.{kind_of};
 ghost use Rattle.ks_streams.specs.Streams.{state_of};
-ghost use Rattle.ks_words.specs.Meaning.{IsSaid};
+ghost use Rattle.ks_words.specs.Meaning.{IsPageOf, IsSaid};
 ghost use Rattle.ks_words.specs.Words.{is_help, is_visible};
 
 use clap::error::ErrorKind;
+use ks_errors::{error_of, known_errors, page_of};
 use ks_requests::{Refusal, refuse};
 use ks_streams::{Stream, Writer};
 use std::alloc::{AllocError, Global};
@@ -45,6 +46,23 @@ impl Explanation {
         Ok(Explanation { kind, text })
     }
 
+    /// The page of the error of this number or name; of any other word, which errors there are.
+    pub(crate) fn of_error(alloc: Global, word: &str) -> Result<Explanation, AllocError>
+        ensures page { IfOk result (IsPageOf word.now) }
+        ensures text { IfOk result (λ said. is_visible (string_bytes said.text) ≡ true) }
+    {
+        match error_of(word) {
+            Some(error) => Ok(Explanation {
+                kind: ErrorKind::DisplayHelp,
+                text: page_of(alloc, &error)?,
+            }),
+            None => Ok(Explanation {
+                kind: ErrorKind::InvalidValue,
+                text: known_errors(alloc)?,
+            }),
+        }
+    }
+
     /// Whether it is help or the version, and no mistake.
     fn is_help(&self) -> bool
         ensures { result ≡ is_help self.now.kind }
@@ -62,7 +80,7 @@ impl fmt::Display for Explanation {
     }
 }
 
-/// Prints what is said in place of a request: help and the version to the output, status 0, and a mistake in the words to
+/// Prints what is said in place of a request: help, the version and the page of an error to the output, status 0, and a mistake in the words to
 /// standard error, status 2. Where the output fails that is refused, and the status is 2.
 pub fn explain<W: Writer, E: Writer>(
     said: &Explanation,

@@ -20,9 +20,11 @@ Exit status:
   0    done, and nothing is stale
   1    some object is stale, or was built by another command; of diff --exit-code and --quiet, a symbol differs
   2    something was refused, or the words are no command
+  65   numbers would be lost, so nothing was done
+  75   another confstamp is at work in the folder, so nothing was done
   141  nobody reads the output any more; all else is done
 
-A refusal is told by its number and its name, and by its place where it has one:
+A refusal is told by its number and its name, and by its place where it has one (confstamp explain NUMBER says more):
   Kconfig       1 NotBare, 2 BadName, 3 ModuleName, 4 NoType, 5 TypeClash, 6 BadTitle
   .config       7 NotAConfigLine, 8 BadValue
   any file      9 TooLarge, 40 MissingFile
@@ -114,6 +116,12 @@ const JSON: Word = Word {
     help: "Print a line of JSON for each object: its target, its verdict and the causes",
 };
 
+const UNRECORDED: Word = Word {
+    name: "unrecorded",
+    times: Times::Flag,
+    help: "Backdate objects without a command file or without a number too",
+};
+
 const COMMAND: Word = Word {
     name: "COMMAND",
     times: Times::Once,
@@ -194,8 +202,17 @@ Example: confstamp fixdep x.d x.o 'cc -c x.c'",
     Usage {
         name: "record",
         about: "Write the command file of an object that was just built",
-        words: &[DEPFILE, TARGET, COMMAND],
-        choice: None,
+        words: &[
+            Word {
+                name: "remove-depfile",
+                times: Times::Flag,
+                help: "Remove DEPFILE once the object is recorded; refused, it stays",
+            },
+            DEPFILE,
+            TARGET,
+            COMMAND,
+        ],
+        choice: Some("confstamp record [--remove-depfile] <DEPFILE> <TARGET> <COMMAND>"),
         notes: "\
 Is run directly after the compiler. Prints the generation, and how many names were found.
 
@@ -253,21 +270,23 @@ Prints what stale would print after sync KCONFIG DOTCONFIG, and N of M stale to 
 Example: confstamp impact Kconfig .config x.o y.o",
     },
     Usage {
-        name: "age",
-        about: "Say which objects are stale, and age them, so that make builds them whatever their times",
-        words: &[
-            Word {
-                name: "unrecorded",
-                times: Times::Flag,
-                help: "Age objects without a command file or without a number too",
-            },
-            TARGETS,
-            FROM,
-        ],
-        choice: Some("confstamp age [--unrecorded] [--from FILE] [TARGET]..."),
+        name: "backdate",
+        about: "Say which objects are stale, and backdate them, so that make builds them whatever their times",
+        words: &[UNRECORDED, TARGETS, FROM],
+        choice: Some("confstamp backdate [--unrecorded] [--from FILE] [TARGET]..."),
         notes: "\
 Prints the lines of stale. The file of an object that is stale by its record gets the first second of 1970 as its
 time, and keeps its bytes. One of the words is needed.
+
+Example: confstamp backdate --from objects",
+    },
+    Usage {
+        name: "age",
+        about: "The old name of backdate, which the next release takes no longer",
+        words: &[UNRECORDED, TARGETS, FROM],
+        choice: Some("confstamp age [--unrecorded] [--from FILE] [TARGET]..."),
+        notes: "\
+Does what backdate does. One of the words is needed.
 
 Example: confstamp age --from objects",
     },
@@ -335,5 +354,19 @@ Prints SYMBOL N for each, the dearest first. Looks at each object once, and at c
 is needed.
 
 Example: confstamp cost --from objects --top 20",
+    },
+    Usage {
+        name: "explain",
+        about: "Say what an error means, with an example, and what to do",
+        words: &[Word {
+            name: "NUMBER",
+            times: Times::AtMostOnce,
+            help: "The number of the error, or its name; without it, the mistake is told with all that there are",
+        }],
+        choice: None,
+        notes: "\
+Reads and writes no file.
+
+Example: confstamp explain 41",
     },
 ];

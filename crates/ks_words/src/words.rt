@@ -1,25 +1,25 @@
 //! What the words after the program's name ask for.
-ghost use Rattle.std.specs.Prelude.{◌≡◌, ℕ, List, [], ◌∷◌, IfErr, IfOk, codes, true, map, None, option_map, string_bytes, if◌then◌else◌};
-ghost use Rattle.clap.specs.Words.{fault_of, first_of, found_of, kind_of, one_of, rows_of, takes};
+ghost use Rattle.std.specs.Prelude.{◌≡◌, ◌≢◌, ℕ, List, [], ◌∷◌, IfErr, IfOk, codes, true, map, None, option_map, string_bytes, if◌then◌else◌};
+ghost use Rattle.clap.specs.Words.{first_of, found_of, kind_of, one_of, rows_of, takes};
 ghost use Rattle.clap.specs.Walk.{texts};
 ghost use Rattle.ks_requests.specs.Requests.{IsBatchOf, IsPreviewOf};
 ghost use Rattle.ks_words.specs.CommandLine.{command_line_app};
-ghost use Rattle.ks_words.specs.Meaning.{Makes};
-ghost use Rattle.ks_words.specs.Words.{AreTargets, IsFaultOf, IsPlainWord, IsRequestOf, IsTelling, IsTold, IsWantOfMemory, is_no_memory, is_set, telling_of, word_at, words_at, form_of, IsNumberOf};
+ghost use Rattle.ks_words.specs.Meaning.{IsPageNamed, IsPageTold, IsReason, IsTakenAs, Makes};
+ghost use Rattle.ks_words.specs.Words.{AreTargets, IsPlainWord, IsRequestOf, IsTelling, IsTold, IsWantOfMemory, is_no_memory, is_set, telling_of, word_at, words_at, form_of, IsNumberOf};
 
 use crate::command_line::command_line;
 use crate::explanation::Explanation;
 use clap::ArgMatches;
 use clap::error::ErrorKind;
 use ks_engine::Ages;
-use ks_requests::{Form, Request, Stamps, Targets, Telling};
+use ks_requests::{DepfileAfter, Form, Request, Stamps, Targets, Telling};
 use std::alloc::{AllocError, Global};
 use thiserror::Error;
 
 /// Why the words are no request.
 #[derive(Debug, Drop, Error)]
 pub enum WordsError {
-    /// What is said in place of a request: a mistake in the words, help, or the version.
+    /// What is said in place of a request: a mistake in the words, help, the version, or what is known of an error.
     #[error("{0}")]
     Refused(Explanation),
     #[error("10 OutOfMemory")]
@@ -54,12 +54,19 @@ fn refused(alloc: Global, error: &clap::Error) -> WordsError
     }
 }
 
-/// The word of the required argument `id`.
+/// The word of the argument `id`, or an empty one.
 #[tactic(auto, using(crate::proofs::WordLemmas::first_at))]
+fn text_of<'a>(matches: &ArgMatches<'a>, id: &str) -> &'a str
+    ensures { result.now ≡ word_at id.now (rows_of (found_of matches.now)) }
+{
+    matches.get_str(id).unwrap_or("")
+}
+
+/// The word of the required argument `id`.
 fn word(alloc: Global, matches: &ArgMatches<'_>, id: &str) -> Result<String, AllocError>
     ensures { IfOk result (λ s. string_bytes s ≡ word_at id.now (rows_of (found_of matches.now))) }
 {
-    String::from_str(alloc, matches.get_str(id).unwrap_or(""))
+    String::from_str(alloc, text_of(matches, id))
 }
 
 /// The word of the argument `id`, where it is there.
@@ -188,6 +195,12 @@ fn record_request(alloc: Global, matches: &ArgMatches<'_>) -> Result<Request, Al
         depfile: word(alloc, matches, "DEPFILE")?,
         target: word(alloc, matches, "TARGET")?,
         command: word(alloc, matches, "COMMAND")?,
+        after: chosen(
+            matches,
+            "remove-depfile",
+            DepfileAfter::Removed,
+            DepfileAfter::Kept,
+        ),
     })
 }
 
@@ -247,8 +260,19 @@ fn cost_request(alloc: Global, matches: &ArgMatches<'_>) -> Result<Request, Allo
     })
 }
 
+/// What `explain` says: the page of the error that its word names, unless memory is refused.
+fn page_asked(alloc: Global, matches: &ArgMatches<'_>) -> WordsError
+    ensures { IsPageTold (word_at (codes "NUMBER") (rows_of (found_of matches.now))) result }
+{
+    match Explanation::of_error(alloc, text_of(matches, "NUMBER")) {
+        Ok(said) => WordsError::Refused(said),
+        Err(_) => WordsError::OutOfMemory,
+    }
+}
+
 /// The request of the command `name` with these matches, where `clap` let that name through.
 fn request_named(alloc: Global, name: &str, matches: &ArgMatches<'_>) -> Result<Request, AllocError>
+    requires { name.now ≢ codes "explain" }
     ensures { IfOk result (IsRequestOf name.now (rows_of (found_of matches.now))) }
 {
     match name {
@@ -267,7 +291,7 @@ fn request_named(alloc: Global, name: &str, matches: &ArgMatches<'_>) -> Result<
             form: form(matches),
         }),
         "impact" => impact_request(alloc, matches),
-        "age" => Ok(Request::Age {
+        "backdate" | "age" => Ok(Request::Age {
             which: chosen(matches, "unrecorded", Ages::Unrecorded, Ages::Recorded),
             targets: targets(alloc, matches)?,
         }),
@@ -280,11 +304,24 @@ fn request_named(alloc: Global, name: &str, matches: &ArgMatches<'_>) -> Result<
     }
 }
 
+/// What the command `name` with these matches asks for: a request, or the page of an error in its place.
+#[tactic(auto, using(crate::proofs::WordLemmas::page_named, crate::proofs::WordLemmas::page_telling))]
+fn asked(alloc: Global, name: &str, matches: &ArgMatches<'_>) -> Result<Request, WordsError>
+    ensures made { IfOk result (IsRequestOf name.now (rows_of (found_of matches.now))) }
+    ensures page { IfErr result (IsPageNamed name.now (rows_of (found_of matches.now))) }
+    ensures telling { IfErr result IsTelling }
+{
+    if name == "explain" {
+        return Err(page_asked(alloc, matches));
+    }
+    Ok(request_named(alloc, name, matches)?)
+}
+
 /// The request that the words after the program's name make. A word that begins with `-` is taken after `--`.
 pub fn request_of<'a>(alloc: Global, words: &'a [&'a str]) -> Result<Request, WordsError>
     ensures exact { IfOk result (λ r. Makes (texts words.entry.now) r) }
-    ensures taken { IfErr result (λ e. takes command_line_app (texts words.entry.now) ≡ true → IsWantOfMemory e) }
-    ensures fault { IfErr result (IsFaultOf (fault_of command_line_app (texts words.entry.now))) }
+    ensures taken { IfErr result (λ e. takes command_line_app (texts words.entry.now) ≡ true → IsTakenAs (texts words.entry.now) e) }
+    ensures fault { IfErr result (IsReason (texts words.entry.now)) }
     ensures telling { IfErr result IsTelling }
     ensures batch { IfOk result (λ r. (p : List ℕ) → texts words.entry.now ≡ codes "batch" ∷ p ∷ []
         → IsPlainWord p → IsBatchOf p r) }
@@ -298,7 +335,7 @@ pub fn request_of<'a>(alloc: Global, words: &'a [&'a str]) -> Result<Request, Wo
         Err(error) => return Err(refused(alloc, &error)),
     };
     match matches.subcommand() {
-        Some((name, inner)) => Ok(request_named(alloc, name, inner)?),
+        Some((name, inner)) => asked(alloc, name, inner),
         // `clap` refuses words without a command itself.
         None => unreachable!(),
     }

@@ -1,6 +1,6 @@
-use Rattle.std.specs.Prelude.{◌≡◌, true, false, None, Some, Ok, Err, option_map, refl, string_bytes}
-use Rattle.std.proofs.Common.{◌∙◌, ap, rules}
-use Rattle.ks_start.proofs.Starting.{begun, found_as, if_ok, not_begun}
+use Rattle.std.specs.Prelude.{◌≡◌, true, false, Ok, Err, option_map, refl}
+use Rattle.std.proofs.Common.{◌∙◌, ap, rules, subst}
+use Rattle.ks_start.proofs.Starting.{begun, if_ok, not_begun}
 use Rattle.ks_start.proofs.start.look_for_numbers.Goals as goal
 
 pub returns-in-Err : goal.returns-in-Err
@@ -32,9 +32,8 @@ returns-in-Some g c =
       possible = tt;
       cause = λ is_device. search rules;
       told = λ honest. c.in-Ok.ensures.read honest ∙ ap (λ b. Ok b) is;
-      follows = found_as (λ path. string_bytes path)
-          (λ found. (g.H.Host.calls c.args.host.now).finds c.args.folder.now c.begins_anew.new.tree found c.find_number.new.place)
-          c.in_ok-path.field-0 (Some c.in-Some.path) c.in-Some.is c.in_ok-path.ensures;
+      follows = subst (λ found. (g.H.Host.calls c.args.host.now).finds c.args.folder.now c.begins_anew.new.tree found c.find_loss.new.place)
+          c.in-Some.is c.in_ok-loss.ensures;
     }
 
 pub returns-in-None : goal.returns-in-None
@@ -42,8 +41,7 @@ returns-in-None g c =
     let is : c.in-Ok.beginning.begins ≡ true = search rules in
     if_ok c.held_auto-in-None.result _ _
     (λ numbers kept. begun g.H.Place.Tree (g.H.Host.calls c.args.host.now) g.H.Place.Reading.reads c.args.folder.now c.args.place.now
-    c.begins_anew.new.tree c.find_number.new.place (option_map (λ v. v.items) c.in-Ok.beginning.found) c.in-Ok.beginning.begins numbers
+    c.begins_anew.new.tree c.find_loss.new.place (option_map (λ v. v.items) c.in-Ok.beginning.found) c.in-Ok.beginning.begins numbers
     c.begins_anew.ensures.once is c.in-Ok.ensures.read c.in-Ok.ensures.found
-    (found_as (λ path. string_bytes path)
-    (λ found. (g.H.Host.calls c.args.host.now).finds c.args.folder.now c.begins_anew.new.tree found c.find_number.new.place) c.in_ok-path.field-0 None
-    c.in-None.is c.in_ok-path.ensures) kept) c.held_auto-in-None.ensures
+    (subst (λ found. (g.H.Host.calls c.args.host.now).finds c.args.folder.now c.begins_anew.new.tree found c.find_loss.new.place)
+    c.in-None.is c.in_ok-loss.ensures) kept) c.held_auto-in-None.ensures

@@ -1,9 +1,9 @@
-use Rattle.ks_words.proofs.Prelude.{◌≡◌, ◌∙◌, sym, true, arith, refl, with_subcommand, bare_app, usage_app, rules}
+use Rattle.ks_words.proofs.Prelude.{◌≡◌, ◌∙◌, sym, true, arith, refl, with_subcommand, bare_app, usage_app}
 use Rattle.ks_words.proofs.RuleLemmas.{added, fold_more}
 use Rattle.ks_words.proofs.command_line.command_line.Goals as goal
 
 pub loop-usage-init : goal.loop-usage-init
-loop-usage-init c = search rules
+loop-usage-init c = c.in_ok-command.ensures
 
 pub loop-usage-preserved : goal.loop-usage-preserved
 loop-usage-preserved c =
@@ -12,5 +12,5 @@ loop-usage-preserved c =
 
 pub returns : goal.returns
 returns c =
-    let all : c.loop-usage.usage-index ≡ 14 = omega arith in
+    let all : c.loop-usage.usage-index ≡ 16 = omega arith in
     c.loop-usage.invariant ∙ rw all refl

@@ -1,5 +1,5 @@
--- What is told of objects and aged, one after the other, and why what was touched is among it.
-use Rattle.ks_commands.proofs.Prelude.{subst₂, Ending, Refusal, ◌≡◌, ◌++◌, ◌<◌, ◌∙◌, ℕ, Bool, true, false, List, [], ◌∷◌, Some, None, Result, Ok, Err, inl, inr, refl, sym, subst, max, append-nil, append_assoc, arith, common_steps, true≢false, bytes_eq, bytes_eq-Decides, is_in, Files, EngineError, Explanation, History, LastRecord, Shows, IsAnswerOn, answer_in, code_of, explanation_status, status_unless_refused, rules}
+-- Why what was touched is aged.
+use Rattle.ks_commands.proofs.Prelude.{◌≡◌, ◌++◌, ◌<◌, ◌∙◌, ℕ, Bool, true, false, List, [], ◌∷◌, Some, None, Result, Ok, Err, ap, and_then, inl, inr, refl, sym, subst, fold, max, append-nil, arith, common_steps, true≢false, bytes_eq, bytes_eq-Decides, is_in, Files, EngineError, Explanation, History, LastRecord, Shows, IsAnswerOn, explaining, explanation_status, objects_of, status_unless_refused, statuses, targets_at, with_file, words_of, Asking, Part, FileState, Walks, rules, ⊤}
 use Rattle.std.proofs.Common.{find}
 use Rattle.std.proofs.lemmas.List.Folds.{list_any-append}
 use Rattle.ks_engine.proofs.Asking.{stale_judged}
@@ -7,51 +7,13 @@ use Rattle.ks_engine.specs.declared.aging.Ages.{Ages}
 use Rattle.ks_engine.specs.declared.error.EngineError.TheVariants.{Device}
 use Rattle.ks_engine.specs.declared.question.Limit.TheVariants.{First}
 use Rattle.ks_engine.specs.declared.staleness.Verdict.{Verdict}
+use Rattle.ks_requests.specs.declared.request.Form.TheVariants.{Text}
 use Rattle.ks_engine.specs.Aged.{IsAged, aged_by, ages}
 use Rattle.ks_engine.specs.Asked.{told}
 use Rattle.ks_engine.specs.History.{Begun, Synced, Broken, Recorded, last_record}
 use Rattle.ks_engine.specs.Staleness.{changed_since, found, suspect_since, verdict}
-use Rattle.ks_requests.specs.declared.request.Form.TheVariants.{Text}
-use Rattle.ks_commands.specs.Aging.{AgesAll, AgesEach, EndsAged}
 use Rattle.ks_commands.specs.Laws.{WhatChangedIsAged, WasTouched}
-
--- ---- an object more
-
-pub aged_more : (which : Ages) (files : Files) (objects : List (List ℕ)) (text : List ℕ) (status : ℕ) (old mid : List (List ℕ)) (o : List ℕ)
-    (answer : Result Explanation EngineError) (after : List ℕ) (worse : ℕ) (new : List (List ℕ)) → AgesEach which files objects text status old mid
-    → IsAnswerOn files o (told answer) → IsAged which files o mid (told answer) new → after ≡ text ++ answer_in Text First o answer
-    → worse ≡ max status (status_unless_refused explanation_status answer) → AgesEach which files (objects ++ o ∷ []) after worse old new
-aged_more which files [] text status old mid o answer after worse new (none, zero, same) is aged more worst = (
-  answer,
-  [],
-  0,
-  new,
-  is,
-  subst (λ m. IsAged which files o m (told answer) new) same aged,
-  rw (more, none) (sym (append-nil _)),
-  omega (arith, worst, zero),
-  (refl, refl, refl),
-)
-aged_more which files (p ∷ ps) text status old mid o answer after worse new (said, rest, later, next, was, before, lines, worst_is, so_far) is aged more worst = (
-  said,
-  rest ++ answer_in Text First o answer,
-  max later (status_unless_refused explanation_status answer),
-  next,
-  was,
-  before,
-  rw (more, lines) (append_assoc (answer_in Text First p said) rest (answer_in Text First o answer)),
-  omega (arith, worst, worst_is),
-  aged_more which files ps rest later next mid o answer (rest ++ answer_in Text First o answer) (max later (status_unless_refused explanation_status answer)) new
-      so_far is aged refl refl,
-)
-
--- ---- where it is broken off
-
-pub aged_until : {E : Type 0} (which : Ages) (files mid : Files) (targets : Result (List (List ℕ)) EngineError) (objects : List (List ℕ)) (e : E)
-    (ended : Ending) (refusal : Refusal) (old between new : List (List ℕ)) → mid ≡ files → targets ≡ Ok objects → between ≡ old → ended ≡ Err refusal
-    → AgesAll which mid objects (Err e) between new → EndsAged which files targets ended old new
-aged_until which files mid targets objects e ended refusal old between new same are kept is ages =
-    rw is (inr (objects, are, subst₂ (λ f l. AgesAll which f objects (Err e) l new) same kept ages))
+use Rattle.ks_commands.proofs.Walks.{below_two}
 
 -- ---- what is aged stays so
 
@@ -69,11 +31,14 @@ stays : (which : Ages) (files : Files) (p : List ℕ) (old : List (List ℕ)) (a
     → IsAged which files p old answer new → is_in old o ≡ true → is_in new o ≡ true
 stays which files p old answer new o is among = let more = grows which files p old answer new is in rw more.1 (is_in_more old more.0 o among)
 
-stays_aged : (which : Ages) (files : Files) (objects : List (List ℕ)) (text : List ℕ) (status : ℕ) (old new : List (List ℕ)) (o : List ℕ)
-    → AgesEach which files objects text status old new → is_in old o ≡ true → is_in new o ≡ true
-stays_aged which files [] text status old new o (none, zero, same) among = rw same among
-stays_aged which files (p ∷ ps) text status old new o (answer, rest, later, next, is, aged, lines, worst, ages) among =
-    stays_aged which files ps rest later next new o ages (stays which files p old (told answer) next o aged among)
+abbrev pub ages_stale : Ages → Files → Asking Explanation
+ages_stale which files = explaining ⊤ files (Some which) Text First (λ o answer. IsAnswerOn files o (told answer))
+
+pub stays_aged : (which : Ages) (files : Files) (first : FileState) (parts : List (Part Explanation)) (last : FileState) (o : List ℕ)
+    → Walks (ages_stale which files) first parts last → is_in first.aged o ≡ true → is_in last.aged o ≡ true
+stays_aged which files first [] last o walks among = subst (λ (s : FileState). is_in s.aged o ≡ true) (sym walks) among
+stays_aged which files first (p ∷ ps) last o (next, step, later) among =
+    stays_aged which files next ps last o later (stays which files p.object first.aged (told p.answer) next.aged o (step.aged tt) among)
 
 -- ---- what was touched is found, and ages
 
@@ -116,21 +81,27 @@ one_aged which files h o x (Ok e) old new shows touched small is aged =
     let stale : ages which e.verdict ≡ true = search (rules, ages_found, judged) in
     rw aged (list_any-append (bytes_eq o) old (aged_by which o e.verdict) ∙ grind (arith, common_steps, stale, (bytes_eq-Decides o o)))
 
-touched_aged : (which : Ages) (files : Files) (h : History) (objects : List (List ℕ)) (text : List ℕ) (status : ℕ) (old new : List (List ℕ)) (o x : List ℕ)
-    → Shows files h → status < 2 → AgesEach which files objects text status old new → is_in objects o ≡ true → suspect_since h o x ≡ true → is_in new o ≡ true
-touched_aged which files h [] text status old new o x shows small ages among touched = absurd cc
-touched_aged which files h (p ∷ ps) text status old new o x shows small (answer, rest, later, next, is, aged, lines, worst, ages) among touched =
-    (elim (bytes_eq o p) as (λ b. bytes_eq o p ≡ b → is_in new o ≡ true) [
+touched_aged : (which : Ages) (files : Files) (h : History) (worst : ℕ) (first : FileState) (parts : List (Part Explanation)) (last : FileState) (o x : List ℕ)
+    → Shows files h → fold max worst (statuses parts) < 2 → Walks (ages_stale which files) first parts last → is_in (objects_of parts) o ≡ true
+    → suspect_since h o x ≡ true → is_in last.aged o ≡ true
+touched_aged which files h worst first [] last o x shows small walks among touched = absurd cc
+touched_aged which files h worst first (p ∷ ps) last o x shows small (next, step, later) among touched =
+    let below = below_two (max worst p.status) (statuses ps) small in
+    (elim (bytes_eq o p.object) as (λ b. bytes_eq o p.object ≡ b → is_in last.aged o ≡ true) [
       | true ↦ λ same.
-          let equal : o ≡ p = grind (arith, common_steps, (bytes_eq-Decides o p)) in
-          stays_aged which files ps rest later next new o ages
-          (one_aged which files h o x answer old next shows touched (omega (arith, worst, small)) (rw equal is) (rw equal aged))
+          let equal : o ≡ p.object = grind (arith, common_steps, (bytes_eq-Decides o p.object)) in
+          stays_aged which files next ps last o later
+          (one_aged which files h o x p.answer first.aged next.aged shows touched (omega (arith, below, step.told.status))
+          (rw equal (step.told.answered tt)) (rw equal (step.aged tt)))
       | false ↦ λ differs.
-          touched_aged which files h ps rest later next new o x shows (omega (arith, worst, small)) ages (sym (rw differs refl) ∙ among) touched
+          touched_aged which files h (max worst p.status) next ps last o x shows small later (sym (rw differs refl) ∙ among) touched
     ]) refl
 
 pub what_changed_is_aged : WhatChangedIsAged
-what_changed_is_aged which files h targets outcome objects old new o x shows small (inl refused) are among touched = absurd cc
-what_changed_is_aged which files h targets outcome objects old new o x shows small (inr (asked, same, ages)) are among touched =
-    let equal : asked ≡ objects = cc in
-    touched_aged which files h asked outcome.text.items (code_of outcome.status) old new o x shows small ages (rw equal among) (touched_suspect h o x touched)
+what_changed_is_aged which old new h targets outcome objects o x shows small (inl stopped) are among touched = absurd cc
+what_changed_is_aged which old new h targets outcome objects o x shows small (inr (asked, first, parts, read, walks, (same, told_so), memory)) are among touched =
+    let found : targets_at old.files targets ≡ Ok (with_file (words_of targets) read.from)
+    = ap (λ r. and_then r (λ text. Ok (with_file (words_of targets) text))) (read.there tt) in
+    let equal : asked ≡ objects = cc (found, are, read.all) in
+    touched_aged which old.files h 0 first parts new o x shows (subst (λ n. n < 2) told_so.1 small) walks
+    (subst (λ os. is_in os o ≡ true) (sym (same ∙ equal)) among) (touched_suspect h o x touched)

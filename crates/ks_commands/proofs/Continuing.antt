@@ -1,5 +1,5 @@
 -- What a call of the engine leaves, after reads that changed no file.
-use Rattle.ks_commands.proofs.Prelude.{Dialect, ◌≡◌, ◌⊎◌, ◌≤◌, ℕ, List, Result, Ok, Err, subst, Files, Reply, EngineError, Report, Action, FileRun, FileState, Stamps, LeavesStamps, IfOk, IfErr, IsGivenUp, Refusal, Engine, Ending, given, RunsAll, RunsOn, IsGivenUpRefusal, script_actions, script_at, KconfigText, rules}
+use Rattle.ks_commands.proofs.Prelude.{Dialect, ◌≡◌, ◌⊎◌, ◌≤◌, ℕ, List, Result, Ok, Err, subst, Files, Reply, EngineError, Report, Action, calls_of, FileRun, FileState, Stamps, LeavesStamps, IfOk, IfErr, IsGivenUp, Refusal, Engine, Ending, given, RunsAll, RunsOn, IsGivenUpRefusal, script_actions, script_at, KconfigText, rules}
 
 -- what a synchronisation leaves is what the one or the other call leaves
 pub sync_said : (which : Stamps) (old new : Files) (k : KconfigText) (d : List ℕ) (r : Result Report EngineError)
@@ -27,9 +27,9 @@ runs_all A B P Q asked actions ended f g are runs = search rules
 -- a run after the reads of its script
 pub file_run_follows : (dialect : Dialect) (honest : Type 0) (old mid : FileState) (asked actions : List Action) (replies : List Reply) (new : FileState)
     → (honest → mid.files ≡ old.files) → old.failures ≤ mid.failures → asked ≡ actions
-    → FileRun dialect honest mid asked replies new → RunsOn dialect honest old new actions replies
+    → FileRun dialect honest mid (calls_of asked replies) new → RunsOn dialect honest old new actions replies
 file_run_follows dialect honest old mid asked actions replies new same later are run =
-    record { first = mid; read = same; later = later; run = subst (λ (acts : List Action). FileRun dialect honest mid acts replies new) are run }
+    record { first = mid; read = same; later = later; run = subst (λ (acts : List Action). FileRun dialect honest mid (calls_of acts replies) new) are run }
 
 -- a script whose text or files are refused
 pub script_stopped : (files mid : Files) (path text : List ℕ) (r : Refusal) → mid ≡ files → given files path ≡ Ok text → IsGivenUpRefusal r

@@ -1,8 +1,12 @@
 -- What scripts and runs of the program tell: no synchronisation was broken off before one of them where none was at the end.
-use Rattle.ks_commands.proofs.Prelude.{⊤, IsAnswerAfter, IsAnswerOn, IsExplanationOn, IsJudged, IsShown, IsStateOn, filter_agree, Dialect, ◌≡◌, ◌<◌, ℕ, List, [], ◌∷◌, Some, Result, Ok, Err, IfOk, IsTrue, inl, inr, subst, filter, map, fold, max, arith, All, is_command, All-nil, All-cons, Reply, Verdict, Refused, EngineError, Explanation, BuildState, Report, Action, Sync, Stale, TreeState, FollowsSync, FollowsRecordUnder, FollowsDepfile, FollowsStamps, Stamps, Conventions, History, LastRecord, NoneBroken, last_record, Leads, Leaves, Step, changed_since, found, suspect_since, IsGivenUpSync, suspect_since-changed_since, Request, Ending, reply_status, files_of, no_count, BatchTellsChanges, ProgramsTellChanges, Continues, Runs, Chain, ProgramRun, ProgramTellsChanges, StepsTellChanges, TellsAfter, TellsBuild, TellsCauses, TellsChange, KconfigText, read_in, rules}
+use Rattle.ks_commands.proofs.Prelude.{⊤, IsAnswerAfter, IsAnswerOn, IsExplanationOn, IsJudged, IsShown, IsStateOn, filter_agree, Dialect, ◌≡◌, ◌<◌, ℕ, List, [], ◌∷◌, Some, Result, Ok, Err, IfOk, IsTrue, inl, inr, subst, filter, map, fold, max, arith, All, is_command, All-nil, All-cons, Reply, Refused, EngineError, Explanation, BuildState, Report, Action, Sync, TreeState, FollowsDepfile, FollowsStamps, Stamps, History, LastRecord, NoneBroken, last_record, Leads, Leaves, Step, changed_since, found, suspect_since, IsGivenUpSync, suspect_since-changed_since, Request, Ending, reply_status, None, state_of, tells, no_count, BatchTellsChanges, Continues, Runs, ProgramRun, ProgramTellsChanges, StepsTellChanges, TellsAfter, TellsBuild, TellsCauses, TellsChange, KconfigText, read_in, rules, Call, call_in, call_of, calls_of, reply_to, FollowsRecord}
 use Rattle.ks_engine.proofs.Asking.{build_judged, stale_judged}
 use Rattle.ks_engine.proofs.Explanations.{explanation_judged}
 use Rattle.ks_engine.proofs.Foreseeing.{impact_judged}
+use Rattle.ks_engine.proofs.Running.{goes_on, none_first}
+use Rattle.ks_engine.specs.Actions.{SyncStamped, Record, Depfile, Synced, Recorded}
+use Rattle.ks_engine.specs.Depfile.{ruled_by}
+use Rattle.ks_fixdep.specs.declared.dependency_file.Header.{Header}
 use Rattle.ks_engine.specs.declared.recording.Recorded.{Recorded as RecordAnswer}
 use Rattle.ks_engine.specs.declared.staleness.Verdict.{Verdict as VerdictValue}
 use Rattle.ks_engine.specs.History.{Synced as Past}
@@ -11,47 +15,26 @@ use Rattle.ks_commands.proofs.Prelude.{at, told}
 use Rattle.ks_requests.specs.declared.request.Form.TheVariants.{Text}
 use Rattle.ks_requests.specs.declared.request.Request.TheVariants as request
 use Rattle.ks_requests.specs.declared.request.Stamps.TheVariants as stamps
-use Rattle.ks_commands.proofs.Parts.{answers_weaker, impact_weaker}
+use Rattle.ks_commands.proofs.Walks.{answers_weaker, below_two, impact_weaker}
 
 -- ---- none was broken off before a step where none is after it
 
-none_before_sync : (k : KconfigText) (d : List ℕ) (answer : Result Report EngineError) (old new : TreeState) → FollowsSync k d answer old new → NoneBroken new.history
-    → NoneBroken old.history
-none_before_sync k d (Ok report) old new is none = subst NoneBroken is.history none
-none_before_sync k d (Err e) old new is none = search rules
+none_before_stamps : (dialect : Dialect) (which : Stamps) (k d : List ℕ) (answer : Result Report EngineError) (old new : TreeState)
+    → FollowsStamps which (read_in dialect k) d answer old new → NoneBroken new.history → NoneBroken old.history
+none_before_stamps dialect stamps.Touched k d answer old new is none = (goes_on dialect old (Sync k d) (Synced answer) new is).0 none
+none_before_stamps dialect stamps.Declared k d answer old new is none = (goes_on dialect old (SyncStamped k d) (Synced answer) new is).0 none
 
-none_before_stamps : (which : Stamps) (k : KconfigText) (d : List ℕ) (answer : Result Report EngineError) (old new : TreeState)
-    → FollowsStamps which k d answer old new → NoneBroken new.history → NoneBroken old.history
-none_before_stamps stamps.Declared k d (Ok report) old new is none = search (rules, none_before_sync)
-none_before_stamps stamps.Declared k d (Err e) old new is none = search (rules, none_before_sync)
-none_before_stamps which k d answer old new is none = none_before_sync k d answer old new is none
+none_before_recorded : (dialect : Dialect) (d t c : List ℕ) (answer : Result RecordAnswer EngineError) (old new : TreeState)
+    → FollowsRecord dialect d t c answer old new → NoneBroken new.history → NoneBroken old.history
+none_before_recorded dialect d t c answer old new is none = (goes_on dialect old (Record d t c) (Recorded answer) new is).0 none
 
-none_before_recorded : (conventions : Conventions) (d t c : List ℕ) (answer : Result RecordAnswer EngineError) (old new : TreeState)
-    → FollowsRecordUnder conventions d t c answer old new → NoneBroken new.history → NoneBroken old.history
-none_before_recorded conventions d t c (Ok answer) old new is none = search rules
-none_before_recorded conventions d t c answer old new is none = search rules
+none_before_depfile : (dialect : Dialect) (header : Header) (d t c : List ℕ) (answer : Result RecordAnswer EngineError) (old new : TreeState)
+    → FollowsDepfile (ruled_by header dialect) d t c answer old new → NoneBroken new.history → NoneBroken old.history
+none_before_depfile dialect header d t c answer old new is none = (goes_on dialect old (Depfile header d t c) (Recorded answer) new is).0 none
 
-none_before_depfile : (conventions : Conventions) (d t c : List ℕ) (answer : Result RecordAnswer EngineError) (old new : TreeState)
-    → FollowsDepfile conventions d t c answer old new → NoneBroken new.history → NoneBroken old.history
-none_before_depfile conventions d t c (Ok answer) old new is none = search (rules, none_before_recorded)
-none_before_depfile conventions d t c (Err e) old new is none = search (rules, none_before_recorded)
-
-none_before_step : (dialect : Dialect) (a : Action) (r : Reply) (old new : TreeState) → Leaves dialect old a r new → NoneBroken new.history → NoneBroken old.history
-none_before_step dialect (Stale o) (Verdict v) old new is none = search rules
-none_before_step dialect (Sync k d) (Verdict v) old new is none = absurd is
-none_before_step dialect a r old new is none = search (rules, none_before_sync, none_before_recorded)
-
-none_before_steps : (dialect : Dialect) (first : TreeState) (steps : List Step) (last : TreeState) → Leads dialect first steps last → NoneBroken last.history → NoneBroken first.history
-none_before_steps dialect first [] last leads none = subst (λ (s : TreeState). NoneBroken s.history) leads none
-none_before_steps dialect first (s ∷ ss) last leads none = search (rules, none_before_step, (none_before_steps dialect s.after ss last leads.3 none))
-
-none_before_program : (dialect : Dialect) (r : Request) (ended : Ending) (old new : TreeState) → Continues dialect r ended old new → NoneBroken new.history → NoneBroken old.history
-none_before_program dialect (request.Batch p) ended old new is none = search (rules, none_before_steps)
-none_before_program dialect asked ended old new is none = search (rules, none_before_stamps, none_before_recorded, none_before_depfile)
-
-none_at_first : (first : TreeState) (runs : List ProgramRun) (last : TreeState) → Chain first runs last → NoneBroken last.history → NoneBroken first.history
-none_at_first first [] last same none = subst NoneBroken same.1 none
-none_at_first first (run ∷ runs) last chain none = search (rules, none_before_program, (none_at_first run.after runs last chain.3 none))
+pub none_before_program : (dialect : Dialect) (r : Request) (ended : Ending) (old new : TreeState) → Continues dialect r ended old new → NoneBroken new.history → NoneBroken old.history
+none_before_program dialect (request.Batch p) ended old new (a, b, is) none = search (rules, none_first)
+none_before_program dialect asked ended old new (a, b, is) none = search (rules, none_before_stamps, none_before_recorded, none_before_depfile)
 
 -- ---- what is told then
 
@@ -99,57 +82,69 @@ after_tells old k d o answer shown none is = λ after report synced.
     judged_tells (at after old.failures (Past synced.plan.title synced.plan.config old.history)) o answer none
     (λ r was. impact_judged old.files k d o answer is after report synced old.history r shown was)
 
-program_tells : (dialect : Dialect) (r : Request) (ended : Ending) (old new : TreeState) → IsShown old → NoneBroken old.history → NoneBroken new.history
+pub program_tells : (dialect : Dialect) (r : Request) (ended : Ending) (old new : TreeState) → IsShown old → NoneBroken old.history → NoneBroken new.history
     → Continues dialect r ended old new → ProgramTellsChanges (record { dialect = dialect; before = old; request = r; ended = ended; after = new })
-program_tells dialect (request.Stale ts f) ended old new shown none later is = (
-  is.0,
-  answers_weaker ⊤ old.files f First (λ o answer. IsAnswerOn old.files o (told answer)) (λ o answer. TellsChange old o (told answer)) no_count (files_of old) ts ended
-      (files_of new) (λ o answer. verdict_tells old o (told answer) shown none) is.1,
+program_tells dialect (request.Stale ts f) ended old new shown none later (a, b, is) = (
+  a,
+  b,
+  (
+    is.0,
+    answers_weaker ⊤ None f First (λ o answer. IsAnswerOn old.files o (told answer)) (λ o answer. TellsChange old o (told answer)) (tells no_count)
+        (state_of old a) ts ended (state_of new b) (λ o answer. verdict_tells old o (told answer) shown none) is.1,
+  ),
 )
-program_tells dialect (request.Age which ts) ended old new shown none later is = (
-  is.0,
-  answers_weaker ⊤ old.files Text First (λ o answer. IsAnswerOn old.files o (told answer)) (λ o answer. TellsChange old o (told answer)) no_count (files_of old) ts ended
-      (files_of new) (λ o answer. verdict_tells old o (told answer) shown none) is.1,
+program_tells dialect (request.Age which ts) ended old new shown none later (a, b, is) = (
+  a,
+  b,
+  (
+    is.0,
+    answers_weaker ⊤ (Some which) Text First (λ o answer. IsAnswerOn old.files o (told answer)) (λ o answer. TellsChange old o (told answer)) (tells no_count)
+        (state_of old a) ts ended (state_of new b) (λ o answer. verdict_tells old o (told answer) shown none) is.1,
+  ),
 )
-program_tells dialect (request.Why ts f) ended old new shown none later is = (
-  is.0,
-  answers_weaker ⊤ old.files f Every (IsExplanationOn old.files) (TellsCauses old) no_count (files_of old) ts ended (files_of new)
-      (λ o answer. causes_tell old o answer shown none) is.1,
+program_tells dialect (request.Why ts f) ended old new shown none later (a, b, is) = (
+  a,
+  b,
+  (
+    is.0,
+    answers_weaker ⊤ None f Every (IsExplanationOn old.files) (TellsCauses old) (tells no_count) (state_of old a) ts ended (state_of new b)
+        (λ o answer. causes_tell old o answer shown none) is.1,
+  ),
 )
-program_tells dialect (request.Impact k d ts f) ended old new shown none later is = (
-  is.0,
-  impact_weaker ⊤ dialect (λ k. IsAnswerAfter old.files (read_in dialect k)) (λ k. TellsAfter old (read_in dialect k)) (files_of old) _ _ f ts ended (files_of new)
-      (λ k d o answer. after_tells old (read_in dialect k) d o answer shown none) is.1,
+program_tells dialect (request.Impact k d ts f) ended old new shown none later (a, b, is) = (
+  a,
+  b,
+  (
+    is.0,
+    impact_weaker ⊤ dialect (λ k. IsAnswerAfter old.files (read_in dialect k)) (λ k. TellsAfter old (read_in dialect k)) (state_of old a) _ _ f ts ended
+        (state_of new b) (λ k d o answer. after_tells old (read_in dialect k) d o answer shown none) is.1,
+  ),
 )
-program_tells dialect asked ended old new shown none later is = search (rules, build_tells, steps_tell)
-
-pub programs_tell_changes : ProgramsTellChanges
-programs_tell_changes first last [] chain none = All-nil ProgramTellsChanges
-programs_tell_changes first last (run ∷ runs) chain none =
-    let later = none_at_first run.after runs last chain.3 none in
-    let before = none_before_program run.dialect run.request run.ended run.before run.after chain.2 later in
-    All-cons ProgramTellsChanges run runs (program_tells run.dialect run.request run.ended run.before run.after chain.1 before later chain.2)
-    (programs_tell_changes run.after last runs chain.3 none)
+program_tells dialect asked ended old new shown none later (a, b, is) = (a, b, search (rules, build_tells, steps_tell))
 
 -- ---- a script without a refusal
 
--- a worst status below 2 is one of statuses below 2
-below_two : (a : ℕ) (xs : List ℕ) → fold max a xs < 2 → a < 2
-below_two a [] h = h
-below_two a (x ∷ xs) h = omega (arith, below_two (max a x) xs h)
-
-not_given_up : (a : Action) (r : Reply) → reply_status r < 2 → IsGivenUpSync a r → ⊥
+not_given_up : (a : Action) (r : Reply) → reply_status r < 2 → IsGivenUpSync a (reply_to a r) → ⊥
 not_given_up (Sync k d) (Refused e) small given = omega (arith, small)
+not_given_up (SyncStamped k d) (Refused e) small given = given
 not_given_up a r small given = given
 
-none_given_up : (a : ℕ) (steps : List Step) → fold max a (map reply_status (map (λ step. step.reply) steps)) < 2
+none_given_up : (a : ℕ) (steps : List Step) (acts : List Action) (rs : List Reply) → map call_in steps ≡ calls_of acts rs → fold max a (map reply_status rs) < 2
     → All (λ step. IsGivenUpSync step.action step.reply → ⊥) steps
-none_given_up a [] small = search (rules, All-nil)
-none_given_up a (s ∷ ss) small = search (rules, All-cons, not_given_up, below_two, (none_given_up (max a (reply_status s.reply)) ss small))
+none_given_up a [] acts rs same small = search (rules, All-nil)
+none_given_up a (s ∷ ss) (b ∷ bs) (r ∷ rs) same small =
+    let one : call_in s ≡ call_of b r = cc in
+    let more : map call_in ss ≡ calls_of bs rs = cc in
+    let below : reply_status r < 2 = omega (arith, below_two (max a (reply_status r)) (map reply_status rs) small) in
+    All-cons (λ step. IsGivenUpSync step.action step.reply → ⊥) s ss
+    (λ given. not_given_up b r below (subst (λ (c : Call). IsGivenUpSync c.action c.reply) one given))
+    (none_given_up (max a (reply_status r)) ss bs rs more small)
+none_given_up a (s ∷ ss) [] rs same small = absurd cc
+none_given_up a (s ∷ ss) (b ∷ bs) [] same small = absurd cc
 
 pub batch_tells_changes : BatchTellsChanges
 batch_tells_changes dialect path o old new small none (inr (script, actions, spelled, at, inr ran)) =
-    let last = ran.1.2.unbroken none (none_given_up 0 ran.1.2.steps (rw (ran.1.2.replies, ← ran.2.1) small)) in
+    let last = ran.1.2.unbroken none (none_given_up 0 ran.1.2.steps actions ran.0 ran.1.2.called (rw (← ran.2.1) small)) in
     search (rules, steps_tell)
 batch_tells_changes dialect path o old new small none (inr (script, actions, spelled, at, inl memory)) = inr (script, actions, spelled, at, inl memory)
 batch_tells_changes dialect path o old new small none (inl stopped) = inl stopped

@@ -2,7 +2,7 @@ pub mod Prelude
 pub mod Loading
 pub mod Continuing
 pub mod Siting
-pub mod Parts
+pub mod Walks
 pub mod Ending
 pub mod Histories
 pub mod Headline

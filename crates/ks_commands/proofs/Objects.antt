@@ -1,5 +1,5 @@
 -- The objects of a question about command files, one after the other.
-use Rattle.ks_commands.proofs.Prelude.{AreTallies, tallies_of, config_names, HasCosts, Costs, cost_of, is_in, common_steps, Bool, Err, List, None, Ok, OnOk, Option, Result, Some, [], ap, append-nil, arith, cond, drop, false, length, length-append, refl, rules, subst, sym, ℕ, ◌++◌, ◌+◌, ◌∷◌, ◌∙◌, ◌≡◌, ◌≤◌, fun_ext, flat_map-append, sum_by-append, sum_by-cons, count_by, nat_lt, names_placed, placed, AreCosts, one_if, EngineError, CommandRecord, Dep, Config, Files, Part, answer_line, Adds, record_in, records_in, IsRead, IsReadIn, is_user, uses_in, uses_lines}
+use Rattle.ks_commands.proofs.Prelude.{AreTallies, tallies_of, config_names, HasCosts, Costs, cost_of, is_in, common_steps, Bool, Err, List, None, Ok, OnOk, Option, Result, Some, FileState, Adds, IsStep, reading, status_unless_refused, [], ap, append-nil, arith, cond, drop, false, length, length-append, refl, rules, subst, sym, ℕ, ◌++◌, ◌+◌, ◌∷◌, ◌∙◌, ◌≡◌, ◌≤◌, fun_ext, flat_map-append, sum_by-append, sum_by-cons, count_by, nat_lt, names_placed, placed, AreCosts, one_if, EngineError, CommandRecord, Dep, Config, Files, Part, answer_line, record_in, records_in, IsRead, is_user, uses_in, uses_lines}
 use Rattle.std.specs.List.{filter}
 
 -- ---- the names that are left of a record
@@ -18,6 +18,10 @@ left_named symbols place name deps i b next is = search rules
 pub err_as : {A B : Type 0} {e f : EngineError} → ◌≡◌ {A = Result A EngineError} (Err e) (Err f) → ◌≡◌ {A = Result B EngineError} (Err e) (Err f)
 err_as {A} {B} {e} {f} is = let same : e ≡ f = cc in ap (λ x. Err x) same
 
+-- an object that is told of by its record
+abbrev pub read_part : (List ℕ → Option CommandRecord → List ℕ) → List ℕ → Result (Option CommandRecord) EngineError → Part (Option CommandRecord)
+read_part line o answer = record { object = o; answer = answer; lines = answer_line line o answer; status = status_unless_refused (λ _. 0) answer }
+
 -- nothing is kept of an object that has no record
 pub nothing_added : (Has : List CommandRecord → Type 0) (before : List CommandRecord) → Has before → Has (before ++ [])
 nothing_added Has before has = rw append-nil has
@@ -30,11 +34,18 @@ kept_more Old New parts p kept adds = subst New (sym (flat_map-append (λ q. rec
 
 -- by the same files, in the same lines
 pub read_over : (honest : Type 0) (f g : Files) (now line : List ℕ → Option CommandRecord → List ℕ) → (honest → f ≡ g) → now ≡ line
-    → (p : Part (Option CommandRecord)) → IsReadIn honest f now p → IsReadIn honest g line p
-read_over honest f g now line same is p read = record {
-  read = λ h. subst (λ files. IsRead files p.object p.answer) (same h) (read.read h);
-  lines = subst (λ l. p.lines ≡ answer_line l p.object p.answer) is read.lines;
+    → (s : FileState) (p : Part (Option CommandRecord)) (t : FileState) → IsStep (reading honest f now) s p t → IsStep (reading honest g line) s p t
+read_over honest f g now line same is s p t step = record {
+  told = record {
+    read = λ h. subst (λ files. IsRead files p.object p.answer) (same h) (step.told.read h);
+    lines = subst (λ l. p.lines ≡ answer_line l p.object p.answer) is step.told.lines;
+    status = step.told.status;
+  };
+  counted = step.counted;
+  aged = step.aged;
 }
+
+-- ---- what is counted of records
 
 pub count_more : {X : Type 0} (p : X → Bool) (xs : List X) (x : X) (n one : ℕ) → n ≡ count_by p xs → one ≡ one_if (p x) → n + one ≡ count_by p (xs ++ x ∷ [])
 count_more p xs x n one so_far is = search (rules, sum_by-append, sum_by-cons)

@@ -11,10 +11,11 @@ pub use Rattle.ks_engine.proofs.Asking.{borrowed_next}
 pub use Rattle.ks_engine.proofs.Drafting.{depfile_listed}
 pub use Rattle.ks_engine.proofs.FileRunning.{on_honest}
 pub use Rattle.ks_engine.proofs.Heart.{suspect_since-changed_since}
-pub use Rattle.ks_engine.specs.Actions.{Stale}
+pub use Rattle.ks_engine.specs.Actions.{Call, call_of, calls_of, reply_to}
+pub use Rattle.ks_engine.specs.Runs.{call_in}
 pub use Rattle.ks_engine.specs.declared.conventions.Conventions.{Conventions}
 pub use Rattle.ks_engine.specs.declared.commands.Reply.{Reply}
-pub use Rattle.ks_engine.specs.declared.commands.Reply.TheVariants.{Refused, Verdict}
+pub use Rattle.ks_engine.specs.declared.commands.Reply.TheVariants.{Refused}
 pub use Rattle.ks_engine.specs.declared.costs.Costs.{Costs}
 pub use Rattle.ks_engine.specs.declared.error.EngineError.{EngineError}
 pub use Rattle.ks_engine.specs.declared.error.EngineError.TheVariants.{GenerationFull, OutOfMemory, TooLarge}
@@ -45,18 +46,20 @@ pub use Rattle.ks_tree.specs.declared.tree.Tree.{Ghosts}
 pub use Rattle.ks_commands.specs.AskedSymbols.{symbols_in}
 pub use Rattle.ks_commands.specs.Differences.{IsDiff, asks_status, difference_line, difference_status, lines_asked}
 unfoldable pub use Rattle.ks_commands.specs.Fixdep.{command_file_at}
-pub use Rattle.ks_commands.specs.Histories.{Continues, FollowsStamps, Runs, by_histories, files_of}
+pub use Rattle.ks_commands.specs.Histories.{Continues, FollowsStamps, Runs, by_histories, state_of}
 pub use Rattle.ks_commands.specs.Kept.{AreGiven, AreKept, IsKept}
-pub use Rattle.ks_commands.specs.Laws.{BatchTellsChanges, PreviewsArePerformed, ProgramsTellChanges, RefusalsChangeNothing, RequestsGoOn, StatusesAreAtMostTwo, StatusesTellDifferences}
-pub use Rattle.ks_commands.specs.Parts.{AreTold, Asking, Asks, EndsAsked, IsCounted, Part, TellsAll, TellsOne, statuses}
+pub use Rattle.ks_commands.specs.Laws.{BatchTellsChanges, PreviewsArePerformed, RefusalsChangeNothing, RequestsGoOn, StatusesAreAtMostTwo, StatusesTellDifferences}
+pub use Rattle.ks_commands.specs.Walks.{AreAsked, Asking, EndsWalk, IsCounted, IsStep, Part, TellsAll, TellsOne, ToldAll, Walks, each_of, objects_of, statuses, text_of}
 pub use Rattle.ks_commands.specs.Performed.{Ends, EndsDepfile, EndsImpact, EndsSync, Performs, RunsAll, RunsOn, by_files}
-pub use Rattle.ks_commands.specs.Programs.{Chain, ProgramRun, ProgramTellsChanges, StepsTellChanges, TellsAfter, TellsBuild, TellsCauses, TellsChange}
-pub use Rattle.ks_commands.specs.Questions.{IsExplainedIn, IsSpelled, asking_by, counted_of, explaining, no_count, stale_count}
-pub use Rattle.ks_commands.specs.Readings.{Adds, HasCosts, record_in, records_in}
-pub use Rattle.ks_commands.specs.Records.{IsRead, IsReadIn, cost_among, is_user, names_it, reading, user_count, uses_in, uses_lines}
+pub use Rattle.ks_commands.specs.Programs.{ProgramRun, ProgramTellsChanges, StepsTellChanges, TellsAfter, TellsBuild, TellsCauses, TellsChange}
+pub use Rattle.ks_commands.specs.Questions.{AgesFor, IsExplainedIn, IsSpelled, MayAge, asking_by, explained, counted_of, explaining, no_count, stale_count, tells}
+pub use Rattle.ks_commands.specs.Readings.{Adds, AreRead, HasCosts, record_in, records_in}
+pub use Rattle.ks_commands.specs.Records.{IsReadIn, cost_among, is_user, names_it, reading, user_count, uses_in, uses_lines}
 pub use Rattle.ks_commands.specs.Scripts.{AreSpelled, IsGivenUpRefusal, action_at, actions_at, line_of, of_engine, script_actions, without_files}
 unfoldable pub use Rattle.ks_commands.specs.Scripts.{script_at}
 pub use Rattle.ks_commands.specs.Stamps.{LeavesStamps}
-pub use Rattle.ks_commands.specs.Spelling.{IsLine, spelled_in, spelling_line, spelling_of, spelling_told, step}
+pub use Rattle.ks_commands.specs.Spelling.{IsLine, spelled_in, spelling_line, spelling_told}
+pub use Rattle.ks_engine.specs.Costs.{IsRead}
+pub use Rattle.ks_engine.specs.Spelling.{spelling_of, step}
 pub use Rattle.ks_engine.specs.Judged.{IsJudged}
 pub use Rattle.std.proofs.lemmas.List.Elements.{filter_agree}

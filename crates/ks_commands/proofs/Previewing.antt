@@ -18,7 +18,9 @@ unfoldable use Rattle.ks_engine.specs.LastSync.{old_auto}
 use Rattle.ks_engine.specs.SyncPlan.{AreSources, plan_of, source_refusal}
 use Rattle.ks_requests.proofs.Refusing.{preview_refusal-old, preview_refusal-full}
 unfoldable use Rattle.ks_requests.specs.Preview.{preview_refusal}
-use Rattle.ks_requests.specs.Preview.{old_texts, old_generation, full_refusal, old_refusal, touch_lines}
+use Rattle.ks_requests.specs.declared.preview.PreviewError.{PreviewError}
+use Rattle.ks_requests.specs.declared.preview.PreviewError.TheVariants.{Engine, Output}
+use Rattle.ks_requests.specs.Preview.{IsNoPreview, old_texts, old_generation, full_refusal, old_refusal, touch_lines}
 use Rattle.ks_commands.specs.PreviewLaws.{PreviewsTellSyncs, PreviewsAreRefusedAsSyncs}
 
 -- what an auto.conf that isn't refused holds
@@ -143,3 +145,8 @@ by_texts k d o h = by_parts (source_refusal k d) (old_refusal o) (old_generation
 pub no_device : (e : EngineError) (k : KconfigText) (d : List ℕ) (o : Option (List ℕ)) → IsRefusal OutOfMemory e (preview_refusal k d o) → e ≢ Device
 no_device e k d o (inl memory) h = absurd cc
 no_device e k d o (inr is) h = by_texts k d o (is ∙ ap Some h)
+
+pub no_preview_by_device : (p : PreviewError) (e : EngineError) (k : KconfigText) (d : List ℕ) (o before after : Option (List ℕ)) → p ≡ Engine e
+    → IsNoPreview k d o before after p → e ≢ Device
+no_preview_by_device (Engine e') e k d o before after is h = λ device. absurd (no_device e' k d o h.0 cc)
+no_preview_by_device Output e k d o before after is h = λ device. absurd cc

@@ -1,11 +1,11 @@
 -- How a history that the files show goes on with a request, by how the request ended.
-use Rattle.std.specs.Prelude.{◌≤◌, ℕ, List, Result, ⊤}
+use Rattle.std.specs.Prelude.{◌≤◌, ℕ, List, [], Result, ⊤}
 use Rattle.ks_symbols.specs.declared.dialect.Dialect.{Dialect}
 use Rattle.ks_symbols.specs.Dialects.{KconfigText, read_in}
 use Rattle.ks_engine.specs.declared.commands.Reply.{Reply}
 use Rattle.ks_engine.specs.declared.error.EngineError.{EngineError}
 use Rattle.ks_engine.specs.declared.synchronise.Report.{Report}
-use Rattle.ks_engine.specs.Actions.{Action}
+use Rattle.ks_engine.specs.Actions.{Action, calls_of}
 use Rattle.ks_engine.specs.Depfile.{FollowsDepfile, ruled_by}
 use Rattle.ks_engine.specs.FileRuns.{FileState}
 use Rattle.ks_engine.specs.Follows.{TreeState, at, IsSame, FollowsRecord, FollowsSync}
@@ -17,9 +17,9 @@ use Rattle.ks_requests.specs.declared.request.Stamps.TheVariants.{Touched, Decla
 use Rattle.ks_requests.specs.Endings.{Ending}
 use Rattle.ks_commands.specs.Performed.{Effects, Ends, by_files}
 
--- a tree without its history
-abbrev pub files_of : TreeState → FileState
-files_of s = record { files = s.files; failures = s.failures }
+-- a tree without its history, and with the files that it has aged, which no history tells
+abbrev pub state_of : TreeState → List (List ℕ) → FileState
+state_of s aged = record { files = s.files; failures = s.failures; aged = aged }
 
 -- a synchronisation, by which stamps it is to leave
 abbrev pub FollowsStamps : Stamps → KconfigText → List ℕ → Result Report EngineError → TreeState → TreeState → Type 0
@@ -28,11 +28,11 @@ FollowsStamps Declared k d answer old new = FollowsSyncStamped k d answer old ne
 
 -- The files of a script are read before its run begins.
 abbrev pub Runs : Dialect → TreeState → TreeState → List Action → List Reply → Type 0
-Runs dialect old new actions replies = (failures : ℕ) × (old.failures ≤ failures) × Run dialect (at old.files failures old.history) actions replies new
+Runs dialect old new actions replies = (failures : ℕ) × (old.failures ≤ failures) × Run dialect (at old.files failures old.history) (calls_of actions replies) new
 
 -- What changes a tree is the next event. A question adds none, and what it is answered by the files holds of each history that they show.
 abbrev pub by_histories : Dialect → TreeState → TreeState → Effects
-by_histories dialect old new = record (by_files dialect ⊤ (files_of old) (files_of new)) {
+by_histories dialect old new = record (by_files dialect ⊤ (state_of old []) (state_of new [])) {
   same = IsSame old new;
   sync = λ stamps k d answer. FollowsStamps stamps (read_in dialect k) d answer old new;
   recording = λ d t c answer. FollowsRecord dialect d t c answer old new;
@@ -42,4 +42,5 @@ by_histories dialect old new = record (by_files dialect ⊤ (files_of old) (file
 
 -- The next state of a tree, by this request that ended so.
 abbrev pub Continues : Dialect → Request → Ending → TreeState → TreeState → Type 0
-Continues dialect request ended old new = Ends ⊤ (by_histories dialect old new) (files_of old) request ended (files_of new)
+Continues dialect request ended old new =
+    (a b : List (List ℕ)) × Ends ⊤ (by_histories dialect old new) (state_of old a) request ended (state_of new b)

@@ -1,35 +1,39 @@
--- Laws of the definitions: how histories go on with a request, what a preview has written, what a refusal leaves, the statuses, when names differ, what
--- runs of the program tell, and what `age` is for.
-use Rattle.std.specs.Prelude.{◌≡◌, ◌⊎◌, ◌<◌, ◌≤◌, ◌↔◌, ℕ, List, Option, Result, Err, IfOk, Ok, false, true, ⊤}
-use Rattle.std.specs.List.{All}
+-- Laws of the definitions: how histories go on with a request, what a preview has written, what a refusal leaves, the statuses, when names differ,
+-- what scripts tell, and what `age` is for.
+use Rattle.std.specs.Prelude.{◌≡◌, ◌⊎◌, ◌<◌, ◌≤◌, ◌↔◌, ℕ, List, Option, Some, Err, IfOk, Ok, false, true, ⊤}
 use Rattle.ks_streams.specs.Streams.{State}
 use Rattle.ks_symbols.specs.declared.dialect.Dialect.{Dialect}
 use Rattle.ks_tree.specs.Files.{Files}
 use Rattle.ks_engine.specs.FileRuns.{FileState}
+use Rattle.ks_engine.specs.Asked.{IsAnswerOn, told}
 use Rattle.ks_engine.specs.Follows.{TreeState, at}
 use Rattle.ks_engine.specs.declared.aging.Ages.{Ages}
-use Rattle.ks_engine.specs.declared.error.EngineError.{EngineError}
+use Rattle.ks_engine.specs.declared.question.Limit.TheVariants.{First}
 use Rattle.ks_engine.specs.History.{History, NoneBroken}
 use Rattle.ks_engine.specs.Shows.{Shows}
 use Rattle.ks_engine.specs.Staleness.{changed_since, suspect_since}
 use Rattle.ks_symbols.specs.Names.{is_in}
 use Rattle.ks_requests.specs.declared.refusal.Refusal.{Refusal}
 use Rattle.ks_requests.specs.declared.request.Request.{Request}
+use Rattle.ks_requests.specs.declared.request.Form.TheVariants.{Text}
+use Rattle.ks_requests.specs.declared.request.Targets.{Targets}
 use Rattle.ks_requests.specs.declared.status.Outcome.{Outcome}
 use Rattle.ks_requests.specs.declared.status.Status.TheVariants.{Done}
 use Rattle.ks_requests.specs.Endings.{Ending, Printed}
 use Rattle.ks_requests.specs.Outputs.{WritesPreview}
 use Rattle.ks_requests.specs.Requests.{IsPreviewOf}
 use Rattle.ks_requests.specs.Statuses.{code_of}
-use Rattle.ks_commands.specs.Aging.{EndsAged}
-use Rattle.ks_commands.specs.Histories.{Continues, by_histories, files_of}
+use Rattle.ks_requests.specs.Targets.{targets_at}
+use Rattle.ks_commands.specs.Histories.{Continues, by_histories}
 use Rattle.ks_commands.specs.Performed.{Ends, EndsBatch, by_files}
+use Rattle.ks_commands.specs.Questions.{explaining, no_count, tells}
+use Rattle.ks_commands.specs.Walks.{EndsWalk}
 use Rattle.ks_symbols.specs.Configuration.{Configuration}
 use Rattle.ks_output.specs.OldConfig.{Texts}
 use Rattle.ks_compare.specs.Changes.{differs}
 use Rattle.ks_requests.specs.declared.telling.Telling.{Telling}
 use Rattle.ks_commands.specs.Differences.{TellsChanges, asks_status}
-use Rattle.ks_commands.specs.Programs.{Chain, ProgramRun, ProgramTellsChanges, changes_told}
+use Rattle.ks_commands.specs.Programs.{changes_told}
 use Rattle.ks_commands.specs.Scripts.{IsGivenUpRefusal}
 
 -- A request that ended so by the files of an honest tree goes on with each history that the first of them show: there is a next one, which the last of
@@ -75,11 +79,7 @@ StatusesTellDifferences = (telling : Telling) (old : Texts) (new : Configuration
 -- A script that runs without a refusal, after a history without a broken synchronisation, tells what changed.
 abbrev pub BatchTellsChanges : Type 0
 BatchTellsChanges = (dialect : Dialect) (path : List ℕ) (o : Outcome) (old new : TreeState) → code_of o.status < 2 → NoneBroken old.history
-    → EndsBatch ⊤ (by_histories dialect old new) (files_of old) path (Ok o) → EndsBatch ⊤ (changes_told dialect old new) (files_of old) path (Ok o)
-
--- So does each of any list of runs of the program, of which no synchronisation was broken off.
-abbrev pub ProgramsTellChanges : Type 0
-ProgramsTellChanges = (first last : TreeState) (runs : List ProgramRun) → Chain first runs last → NoneBroken last.history → All ProgramTellsChanges runs
+    → EndsBatch ⊤ (by_histories dialect old new) old.files path (Ok o) → EndsBatch ⊤ (changes_told dialect old new) old.files path (Ok o)
 
 -- A name that was found at an object's last record was touched since, by a synchronisation that was completed or by one that was broken off.
 abbrev pub WasTouched : History → List ℕ → List ℕ → Type 0
@@ -89,6 +89,7 @@ WasTouched h o x = (changed_since h o x ≡ true) ⊎ (suspect_since h o x ≡ t
 -- the files show.
 abbrev pub WhatChangedIsAged : Type 0
 WhatChangedIsAged =
-    (which : Ages) (files : Files) (h : History) (targets : Result (List (List ℕ)) EngineError) (outcome : Outcome) (objects old new : List (List ℕ))
-    (o x : List ℕ) → Shows files h → code_of outcome.status < 2 → EndsAged which files targets (Ok outcome) old new → targets ≡ Ok objects
-    → is_in objects o ≡ true → WasTouched h o x → is_in new o ≡ true
+    (which : Ages) (old new : FileState) (h : History) (targets : Targets) (outcome : Outcome) (objects : List (List ℕ)) (o x : List ℕ)
+    → Shows old.files h → code_of outcome.status < 2
+    → EndsWalk (explaining ⊤ old.files (Some which) Text First (λ o answer. IsAnswerOn old.files o (told answer))) false (tells no_count) ⊤ old targets (Ok outcome) new
+    → targets_at old.files targets ≡ Ok objects → is_in objects o ≡ true → WasTouched h o x → is_in new.aged o ≡ true

@@ -1,5 +1,5 @@
 -- What each request comes to, by the files of a tree.
-use Rattle.std.specs.Prelude.{◌≡◌, ◌⊎◌, ◌≤◌, ℕ, List, Option, Result, Ok, Err, map, option_map, string_bytes, IfOk}
+use Rattle.std.specs.Prelude.{◌≡◌, ◌⊎◌, ◌≤◌, ℕ, List, Option, None, Some, Result, Ok, Err, false, map, option_map, string_bytes, true, IfOk, ⊤}
 use Rattle.ks_fixdep.specs.declared.dependency_file.Header.{Header}
 use Rattle.ks_symbols.specs.declared.dialect.Dialect.{Dialect}
 use Rattle.ks_symbols.specs.Dialects.{read_in}
@@ -15,14 +15,14 @@ use Rattle.ks_engine.specs.declared.recording.Recorded.{Recorded as RecordAnswer
 use Rattle.ks_engine.specs.declared.synchronise.Report.{Report}
 use Rattle.ks_engine.specs.declared.staleness.BuildState.{BuildState}
 use Rattle.ks_engine.specs.declared.staleness.Verdict.{Verdict}
-use Rattle.ks_engine.specs.Actions.{Action}
-use Rattle.ks_engine.specs.Asked.{told}
+use Rattle.ks_engine.specs.Actions.{Action, calls_of}
+use Rattle.ks_engine.specs.Asked.{IsAnswerOn, told}
 use Rattle.ks_engine.specs.BuildStates.{IsStateOn}
 use Rattle.ks_engine.specs.Depfile.{ruled_by}
 use Rattle.ks_engine.specs.Explained.{IsExplanationOn}
 use Rattle.ks_engine.specs.Impact.{IsAnswerAfter}
 use Rattle.ks_engine.specs.Refusals.{Answers, IsGivenUp}
-use Rattle.ks_engine.specs.FileRuns.{FileState, FileRun, IsAnswerOn, LeavesRecord, state}
+use Rattle.ks_engine.specs.FileRuns.{FileRun, FileState, LeavesDepfile, LeavesRecord, state}
 use Rattle.ks_engine.specs.SyncPlan.{IsSyncPlan}
 use Rattle.ks_engine.specs.Synchronised.{IsSynced}
 use Rattle.ks_requests.specs.declared.refusal.Refusal.{Refusal}
@@ -43,15 +43,14 @@ use Rattle.ks_requests.specs.Replies.{answer_line, build_line, depfile_line, rec
 use Rattle.ks_requests.specs.Requests.{IsNoQuestion, IsOneStep}
 use Rattle.ks_requests.specs.Statuses.{build_status, reply_status, status_unless_refused, worst}
 use Rattle.ks_requests.specs.Symbols.{symbols_of}
-use Rattle.ks_commands.specs.Aging.{AgesAsked}
-use Rattle.ks_commands.specs.Depfiles.{IsHeaderOf, IsNoHeader, LeavesDepfile}
+use Rattle.ks_commands.specs.Depfiles.{IsHeaderOf, IsNoHeader}
 use Rattle.ks_commands.specs.Differences.{IsDiff, lines_asked}
 use Rattle.ks_commands.specs.Fixdep.{command_file_at}
-use Rattle.ks_commands.specs.Parts.{EndsAsked, IsCounted, StoppedBy}
-use Rattle.ks_commands.specs.Questions.{explaining, no_count, stale_count}
+use Rattle.ks_commands.specs.Questions.{explaining, no_count, stale_count, tells}
 use Rattle.ks_commands.specs.Stamps.{LeavesStamps}
-use Rattle.ks_commands.specs.Records.{EndsCost, reading, user_count, uses_lines}
+use Rattle.ks_commands.specs.Records.{reading, tells_cost, unread_lines, user_count, uses_lines}
 use Rattle.ks_commands.specs.Scripts.{AreSpelled, IsGivenUpRefusal, script_at}
+use Rattle.ks_commands.specs.Walks.{EndsWalk, IsCounted, StoppedBy}
 
 -- What the engine's calls answer and leave. It is said by the files here, and by histories in the laws of this crate.
 pub record Effects : Type 1 where
@@ -118,11 +117,11 @@ CanBeSynced dialect files t = (after : Files) × (report : Report) × IsSynced f
 abbrev pub EndsImpact : Type 0 → Dialect → (List ℕ → List ℕ → List ℕ → Result Verdict EngineError → Type 0) → FileState → List ℕ → List ℕ → Form
     → Targets → Ending → FileState → Type 0
 EndsImpact honest dialect impact old k d form targets ended new =
-    StoppedBy honest (λ e. texts_at old.files k d ≡ Err e) ended
+    StoppedBy honest (λ e. texts_at old.files k d ≡ Err e) old ended new
     ⊎ ((t : Texts) × (honest → texts_at old.files k d ≡ Ok t)
-    × (StoppedBy honest (λ e. IsSyncPlan old.files (read_in dialect t.kconfig) t.dotconfig (Err e)) ended
+    × (StoppedBy honest (λ e. IsSyncPlan old.files (read_in dialect t.kconfig) t.dotconfig (Err e)) old ended new
     ⊎ ((honest → CanBeSynced dialect old.files t)
-    × EndsAsked (explaining honest old.files form First (λ o answer. impact t.kconfig t.dotconfig o (told answer))) stale_count honest old targets ended new)))
+    × EndsWalk (explaining honest old.files None form First (λ o answer. impact t.kconfig t.dotconfig o (told answer))) false (tells stale_count) honest old targets ended new)))
 
 abbrev pub EndsOutdated : Type 0 → (List ℕ → List ℕ → Result BuildState EngineError → Type 0) → FileState → List ℕ → List ℕ → Ending → FileState → Type 0
 EndsOutdated honest outdated old o c ended new =
@@ -136,10 +135,10 @@ RunsAll same run actions ended =
     ⊎ ((replies : List Reply) × run replies × Tells (reply_lines actions replies) (worst (map reply_status replies)) ended)
 
 -- The script or its files can't be read; or its commands run, which on an honest tree are those of the file at its path.
-abbrev pub EndsBatch : Type 0 → Effects → FileState → List ℕ → Ending → Type 0
-EndsBatch honest effects old path ended =
-    ((r : Refusal) × (honest → effects.same × (IsGivenUpRefusal r ⊎ (script_at old.files path ≡ Err r))) × (ended ≡ Err r))
-    ⊎ ((script : List ℕ) × (actions : List Action) × AreSpelled script actions × (honest → script_at old.files path ≡ Ok actions)
+abbrev pub EndsBatch : Type 0 → Effects → Files → List ℕ → Ending → Type 0
+EndsBatch honest effects files path ended =
+    ((r : Refusal) × (honest → effects.same × (IsGivenUpRefusal r ⊎ (script_at files path ≡ Err r))) × (ended ≡ Err r))
+    ⊎ ((script : List ℕ) × (actions : List Action) × AreSpelled script actions × (honest → script_at files path ≡ Ok actions)
     × RunsAll (honest → effects.same) (effects.run actions) actions ended)
 
 -- The request ended so. What the device is blamed for was counted on any tree; all else is said of honest ones.
@@ -150,24 +149,24 @@ Ends honest effects old (Preview k d o) ended new =
 Ends honest effects old (Diff k d telling) ended new = honest → effects.same × EndsDiff effects.dialect telling old.files (string_bytes k) (string_bytes d) ended
 Ends honest effects old (Fixdep d t c) ended new =
     honest → effects.same × EndsFixdep effects.dialect old.files (string_bytes d) (string_bytes t) (string_bytes c) ended
-Ends honest effects old (Record d t c) ended new = honest → EndsRecord effects (string_bytes d) (string_bytes t) (string_bytes c) ended
+Ends honest effects old (Record d t c after) ended new = honest → EndsRecord effects (string_bytes d) (string_bytes t) (string_bytes c) ended
 Ends honest effects old (Depfile end d t c) ended new =
     honest → EndsDepfile effects (option_map (λ path. string_bytes path) end) (string_bytes d) (string_bytes t) (string_bytes c) ended
-Ends honest effects old (Stale targets form) ended new =
-    (honest → effects.same) × EndsAsked (explaining honest old.files form First (λ o answer. effects.stale o (told answer))) no_count honest old targets ended new
+Ends honest effects old (Stale targets form) ended new = (honest → effects.same)
+    × EndsWalk (explaining honest old.files None form First (λ o answer. effects.stale o (told answer))) false (tells no_count) honest old targets ended new
 Ends honest effects old (Why targets form) ended new =
-    (honest → effects.same) × EndsAsked (explaining honest old.files form Every effects.why) no_count honest old targets ended new
+    (honest → effects.same) × EndsWalk (explaining honest old.files None form Every effects.why) false (tells no_count) honest old targets ended new
 Ends honest effects old (Impact k d targets form) ended new =
     (honest → effects.same) × EndsImpact honest effects.dialect effects.impact old (string_bytes k) (string_bytes d) form targets ended new
-Ends honest effects old (Age which targets) ended new =
-    (honest → effects.same) × EndsAsked (explaining honest old.files Text First (λ o answer. effects.stale o (told answer))) no_count honest old targets ended new
+Ends honest effects old (Age which targets) ended new = (honest → effects.same)
+    × EndsWalk (explaining honest old.files (Some which) Text First (λ o answer. effects.stale o (told answer))) false (tells no_count) honest old targets ended new
 Ends honest effects old (Outdated t c) ended new =
     (honest → effects.same) × EndsOutdated honest effects.outdated old (string_bytes t) (string_bytes c) ended new
-Ends honest effects old (Batch script) ended new = EndsBatch honest effects old (string_bytes script) ended
-Ends honest effects old (Users symbols targets) ended new =
-    (honest → effects.same)
-    × EndsAsked (reading honest old.files (uses_lines (symbols_of symbols.items))) (user_count (symbols_of symbols.items)) honest old targets ended new
-Ends honest effects old (Cost top targets) ended new = (honest → effects.same) × EndsCost honest old top targets ended new
+Ends honest effects old (Batch script) ended new = EndsBatch honest effects old.files (string_bytes script) ended
+Ends honest effects old (Users symbols targets) ended new = (honest → effects.same)
+    × EndsWalk (reading honest old.files (uses_lines (symbols_of symbols.items))) true (tells (user_count (symbols_of symbols.items))) honest old targets ended new
+Ends honest effects old (Cost top targets) ended new =
+    (honest → effects.same) × EndsWalk (reading honest old.files unread_lines) true (tells_cost top) honest old targets ended new
 
 -- ---- what the calls of the engine leave
 
@@ -176,7 +175,7 @@ pub record RunsOn (dialect : Dialect) (honest : Type 0) (old new : FileState) (a
   pub first : FileState
   pub read : honest → first.files ≡ old.files
   pub later : old.failures ≤ first.failures
-  pub run : FileRun dialect honest first actions replies new
+  pub run : FileRun dialect honest first (calls_of actions replies) new
 
 abbrev pub by_files : Dialect → Type 0 → FileState → FileState → Effects
 by_files dialect honest old new = record {
@@ -184,7 +183,7 @@ by_files dialect honest old new = record {
   same = new.files ≡ old.files;
   sync = λ stamps k. LeavesStamps old.files new.files stamps (read_in dialect k);
   recording = LeavesRecord dialect old.files new.files;
-  ruling = λ header. LeavesDepfile old.files new.files (ruled_by header dialect);
+  ruling = λ header. LeavesDepfile (ruled_by header dialect) old.files new.files;
   stale = IsAnswerOn old.files;
   why = IsExplanationOn old.files;
   impact = λ k. IsAnswerAfter old.files (read_in dialect k);
@@ -194,10 +193,20 @@ by_files dialect honest old new = record {
 
 -- ---- all of it
 
+-- a request that asks about no objects, one after the other: it ages none
+abbrev pub IsNoWalk : Request → Type 0
+IsNoWalk (Stale targets form) = ⊥
+IsNoWalk (Why targets form) = ⊥
+IsNoWalk (Impact kconfig dotconfig targets form) = ⊥
+IsNoWalk (Age which targets) = ⊥
+IsNoWalk (Users symbols targets) = ⊥
+IsNoWalk (Cost top targets) = ⊥
+IsNoWalk _ = ⊤
+
 -- It ended so, by the files and by what the tree has counted.
 pub record Performs {T : Type 0} (tree : Ghosts T) (dialect : Dialect) (old new : T) (request : Request) (ended : Ending) : Type 0 where
   pub done : IsNoQuestion request → IfOk ended (λ o. o.status ≡ Done)
   pub ends : Ends tree.is_honest (by_files dialect tree.is_honest (state tree old) (state tree new)) (state tree old) request ended (state tree new)
   pub cause : ended ≡ Err (Engine Device) → HasRisen (tree.failures old) (tree.failures new)
   pub memory : IsOneStep request → ended ≡ Err (Engine OutOfMemory) → tree.failures new ≡ tree.failures old
-  pub aged : tree.is_honest → AgesAsked (tree.files old) request ended (tree.aged old) (tree.aged new)
+  pub kept : IsNoWalk request → tree.aged new ≡ tree.aged old

@@ -1,6 +1,6 @@
 -- What the program does with its words.
 use Rattle.std.specs.Prelude.{◌≡◌, ℕ, List, [], Result, Ok, Err, true}
-use Rattle.clap.specs.Words.{Text, fault_of, takes}
+use Rattle.clap.specs.Words.{Text, takes}
 use Rattle.ks_streams.specs.Streams.{State}
 use Rattle.ks_symbols.specs.declared.dialect.Dialect.{Dialect}
 use Rattle.ks_tree.specs.declared.tree.Tree.{Ghosts}
@@ -12,15 +12,15 @@ use Rattle.ks_requests.specs.Endings.{Ending, Printed}
 use Rattle.ks_requests.specs.Sites.{IsSiteLine, ending_site}
 use Rattle.ks_commands.specs.Performed.{Performs}
 use Rattle.ks_words.specs.CommandLine.{command_line_app}
-use Rattle.ks_words.specs.Meaning.{Explains, Makes}
-use Rattle.ks_words.specs.Words.{IsFaultOf, IsTelling, IsWantOfMemory}
+use Rattle.ks_words.specs.Meaning.{Explains, IsReason, IsTakenAs, Makes}
+use Rattle.ks_words.specs.Words.{IsTelling}
 use Rattle.ks_words.specs.declared.words.WordsError.{WordsError}
 use Rattle.ks_words.specs.declared.words.WordsError.TheVariants as why
 
 -- The words make this request; or they make none for this reason, or memory was refused.
 abbrev pub IsAskedBy : List Text → Result Request WordsError → Type 0
 IsAskedBy words (Ok request) = Makes words request
-IsAskedBy words (Err e) = (takes command_line_app words ≡ true → IsWantOfMemory e) × IsFaultOf (fault_of command_line_app words) e × IsTelling e
+IsAskedBy words (Err e) = (takes command_line_app words ≡ true → IsTakenAs words e) × IsReason words e × IsTelling e
 
 -- What is said of the words is printed; or memory was refused for them, and that is told.
 abbrev pub Refuses : List Text → WordsError → State → State → State → State → ℕ → Type 0

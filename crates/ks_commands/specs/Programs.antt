@@ -13,20 +13,20 @@ use Rattle.ks_engine.specs.declared.staleness.BuildState.TheVariants.{CommandDif
 use Rattle.ks_engine.specs.declared.staleness.Verdict.{Verdict}
 use Rattle.ks_engine.specs.declared.synchronise.Report.{Report}
 use Rattle.ks_engine.specs.declared.staleness.Verdict.TheVariants.{Fresh}
-use Rattle.ks_engine.specs.Actions.{Action}
+use Rattle.ks_engine.specs.Actions.{Action, calls_of}
 use Rattle.ks_engine.specs.BuildStates.{judged}
 use Rattle.ks_engine.specs.Asked.{told}
 use Rattle.ks_engine.specs.Follows.{TreeState, IsSame, at}
 use Rattle.ks_engine.specs.History.{LastRecord, Synced, last_record}
 use Rattle.ks_engine.specs.Judged.{HasSameDefinitions}
 use Rattle.ks_engine.specs.Refusals.{IsGivenUpAnswer}
-use Rattle.ks_engine.specs.Runs.{IsShown, Leads, Step}
+use Rattle.ks_engine.specs.Runs.{IsShown, Leads, Step, call_in}
 use Rattle.ks_engine.specs.Staleness.{changed_since, first_changed, found, verdict}
 use Rattle.ks_engine.specs.Synchronised.{IsSynced}
 use Rattle.ks_engine.specs.Verdicts.{IsChangedVerdict, IsSafeVerdict}
 use Rattle.ks_requests.specs.declared.request.Request.{Request}
 use Rattle.ks_requests.specs.Endings.{Ending}
-use Rattle.ks_commands.specs.Histories.{Continues, by_histories, files_of}
+use Rattle.ks_commands.specs.Histories.{Continues, by_histories, state_of}
 use Rattle.ks_commands.specs.Performed.{Effects, Ends}
 
 pub record ProgramRun : Type 0 where
@@ -35,12 +35,6 @@ pub record ProgramRun : Type 0 where
   pub request : Request
   pub ended : Ending
   pub after : TreeState
-
--- Each begins with the files and the history that the one before it left, and that goes on as the law `requests_go_on` has it.
-abbrev pub Chain : TreeState → List ProgramRun → TreeState → Type 0
-Chain first [] last = IsSame first last
-Chain first (run ∷ runs) last =
-    IsSame first run.before × IsShown run.before × Continues run.dialect run.request run.ended run.before run.after × Chain run.after runs last
 
 -- What is answered of a recorded object is the first of its names that changed since the record. Fresh, the header defines its names as then.
 pub record TellsChange (s : TreeState) (o : List ℕ) (answer : Result Verdict EngineError) : Type 0 where
@@ -69,8 +63,7 @@ pub record StepsTellChanges (dialect : Dialect) (old new : TreeState) (actions :
   pub failures : ℕ
   pub later : old.failures ≤ failures
   pub steps : List Step
-  pub asked : map (λ step. step.action) steps ≡ actions
-  pub answered : map (λ step. step.reply) steps ≡ replies
+  pub called : map call_in steps ≡ calls_of actions replies
   pub leads : Leads dialect (at old.files failures old.history) steps new
   pub changed : All (λ step. IsChangedVerdict step.before.history step.action step.reply) steps
   pub safe : All (λ step. IsSafeVerdict step.before step.action step.reply) steps
@@ -88,4 +81,4 @@ changes_told dialect old new = record (by_histories dialect old new) {
 -- All that a run of the program prints of recorded objects tells what changed.
 abbrev pub ProgramTellsChanges : ProgramRun → Type 0
 ProgramTellsChanges run =
-    Ends ⊤ (changes_told run.dialect run.before run.after) (files_of run.before) run.request run.ended (files_of run.after)
+    (a b : List (List ℕ)) × Ends ⊤ (changes_told run.dialect run.before run.after) (state_of run.before a) run.request run.ended (state_of run.after b)

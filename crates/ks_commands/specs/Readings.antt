@@ -2,12 +2,13 @@
 use Rattle.std.specs.Prelude.{◌≡◌, ◌≤◌, ◌++◌, ℕ, List, [], ◌∷◌, Option, Some, Result, Ok, flat_map, length}
 use Rattle.std.specs.List.{count_by}
 use Rattle.ks_fixdep.specs.CommandFile.{CommandRecord}
+use Rattle.ks_engine.specs.FileRuns.{FileState}
 use Rattle.ks_engine.specs.declared.error.EngineError.{EngineError}
 use Rattle.ks_engine.specs.declared.costs.Costs.{Costs}
 use Rattle.ks_engine.specs.Costs.{AreTallies, cost_of, tallies_of}
 use Rattle.ks_requests.specs.Statuses.{code_of}
 use Rattle.ks_commands.specs.declared.readings.Told.{Told}
-use Rattle.ks_commands.specs.Parts.{Part, TellsAll}
+use Rattle.ks_commands.specs.Walks.{Asking, Part, TellsAll}
 use Rattle.ks_commands.specs.Records.{is_user, names_it}
 
 -- the record that was read, if there is one
@@ -19,10 +20,10 @@ record_in _ = []
 abbrev pub records_in : List (Part (Option CommandRecord)) → List CommandRecord
 records_in parts = flat_map (λ p. record_in p.answer) parts
 
--- These objects were told of one after the other, and their records read; between two counts of failures.
-abbrev pub AreRead : (Part (Option CommandRecord) → Type 0) → (List CommandRecord → Type 0) → List (List ℕ) → ℕ → Told → ℕ → Type 0
-AreRead told has_read objects first all last = (parts : List (Part (Option CommandRecord)))
-    × TellsAll told (λ _. 0) parts first objects all.text.items (code_of all.status) last × has_read (records_in parts) × (all.all ≡ length parts)
+-- These objects were told of one after the other, and their records read.
+abbrev pub AreRead : Asking (Option CommandRecord) → (List CommandRecord → Type 0) → List (List ℕ) → FileState → Told → FileState → Type 0
+AreRead asking has_read objects first all last = (parts : List (Part (Option CommandRecord)))
+    × TellsAll asking parts first objects all.text.items (code_of all.status) last × has_read (records_in parts) × (all.all ≡ length parts)
 
 -- What was so of the records before an answer is so of those with it.
 abbrev pub Adds : (List CommandRecord → Type 0) → (List CommandRecord → Type 0) → Result (Option CommandRecord) EngineError → Type 0

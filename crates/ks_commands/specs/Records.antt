@@ -1,37 +1,29 @@
 -- What command files say of symbols: which objects name one, and what each symbol costs.
-use Rattle.std.specs.Prelude.{◌≡◌, ◌⊎◌, ◌++◌, ℕ, Bool, false, nat_lt, List, [], Option, Some, None, Result, Ok, Err, filter, flat_map, length, take}
+use Rattle.std.specs.Prelude.{◌≡◌, ◌++◌, ℕ, Bool, false, nat_lt, List, [], Option, Some, None, Result, Ok, filter, flat_map, length, take}
 use Rattle.std.specs.List.{count_by}
 use Rattle.ks_symbols.specs.Names.{is_in}
 use Rattle.ks_fixdep.specs.CommandFile.{CommandRecord}
-use Rattle.ks_fixdep.specs.FoundNames.{all_noted}
 use Rattle.ks_fixdep.specs.Record.{config_names}
 use Rattle.ks_tree.specs.Files.{Files}
 use Rattle.ks_engine.specs.declared.error.EngineError.{EngineError}
 use Rattle.ks_engine.specs.Causes.{names_placed}
-use Rattle.ks_engine.specs.Costs.{AreCosts, record_at}
-use Rattle.ks_engine.specs.FileRuns.{FileState}
-use Rattle.ks_engine.specs.Refusals.{IsGivenUpAnswer}
-use Rattle.ks_requests.specs.declared.request.Targets.{Targets}
+use Rattle.ks_engine.specs.Costs.{AreCosts, IsRead}
 use Rattle.ks_requests.specs.declared.status.Count.{Count}
 use Rattle.ks_requests.specs.declared.status.Count.TheVariants.{Users}
-use Rattle.ks_requests.specs.Endings.{Ending, Tells}
+use Rattle.ks_requests.specs.declared.status.Outcome.{Outcome}
 use Rattle.ks_requests.specs.Replies.{answer_line}
+use Rattle.ks_requests.specs.Statuses.{code_of, status_unless_refused, worst}
 use Rattle.ks_requests.specs.Symbols.{cost_line, unrecorded_line, use_line}
-use Rattle.ks_requests.specs.Targets.{targets_at}
-use Rattle.ks_commands.specs.Parts.{Asking, Asks, Part, StoppedBy}
+use Rattle.ks_commands.specs.Walks.{Asking, Part, statuses, text_of}
 
--- Memory and the device aside, it is the record that the object has.
-abbrev pub IsRead : Files → List ℕ → Result (Option CommandRecord) EngineError → Type 0
-IsRead files o answer = IsGivenUpAnswer answer ⊎ (answer ≡ record_at files o)
-
--- an object is told of by the lines of what its command file was read as
+-- an object is told of by the lines of what its command file was read as; the status is 2 where that is refused
 pub record IsReadIn (honest : Type 0) (files : Files) (line : List ℕ → Option CommandRecord → List ℕ) (p : Part (Option CommandRecord)) : Type 0 where
   pub read : honest → IsRead files p.object p.answer
   pub lines : p.lines ≡ answer_line line p.object p.answer
+  pub status : p.status ≡ status_unless_refused (λ _. 0) p.answer
 
--- each object once, however often it is given; the status is 2 where one is refused
 abbrev pub reading : Type 0 → Files → (List ℕ → Option CommandRecord → List ℕ) → Asking (Option CommandRecord)
-reading honest files line = record { told = IsReadIn honest files line; status = λ _. 0; asked = all_noted [] }
+reading honest files line = record { told = IsReadIn honest files line; ages = λ p old new. new ≡ old }
 
 -- ---- who names a symbol
 
@@ -78,15 +70,6 @@ abbrev pub cost_lines : Option ℕ → List (List ℕ × ℕ) → List ℕ
 cost_lines top costs = flat_map cost_line (at_most top costs)
 
 -- Each object that has no record, or is refused, is told of; and then what each symbol costs by the others, the dearest first.
-pub record TellsCost (honest : Type 0) (old : FileState) (top : Option ℕ) (targets : Targets) (text : List ℕ) (code : ℕ) (new : FileState) : Type 0 where
-  pub parts : List (Part (Option CommandRecord))
-  pub unread : List ℕ
-  pub asks : Asks (reading honest old.files unread_lines) honest old targets parts unread code new
-  pub costs : List (List ℕ × ℕ)
-  pub are_costs : AreCosts (cost_among parts) costs
-  pub lines : text ≡ unread ++ cost_lines top costs
-
-abbrev pub EndsCost : Type 0 → FileState → Option ℕ → Targets → Ending → FileState → Type 0
-EndsCost honest old top targets ended new =
-    StoppedBy honest (λ e. targets_at old.files targets ≡ Err e) ended
-    ⊎ ((text : List ℕ) × (code : ℕ) × TellsCost honest old top targets text code new × Tells text code ended)
+abbrev pub tells_cost : Option ℕ → List (Part (Option CommandRecord)) → Outcome → Type 0
+tells_cost top parts o = (costs : List (List ℕ × ℕ)) × AreCosts (cost_among parts) costs × (o.text.items ≡ text_of parts ++ cost_lines top costs)
+    × (code_of o.status ≡ worst (statuses parts)) × (o.count ≡ None)

@@ -14,7 +14,7 @@ use Rattle.ks_requests.specs.declared.refusal.Refusal.TheVariants.{Engine}
 use Rattle.ks_requests.specs.Inputs.{given, read_texts}
 use Rattle.ks_requests.specs.Refusals.{of_script}
 
--- what a line and an action say without the files of a synchronisation
+-- What a line and an action say without the files of a synchronisation. An action that no line asks for says what no line does: none has an empty target.
 abbrev pub without_files : Line → Line
 without_files (Sync kconfig dotconfig) = Sync [] []
 without_files line = line
@@ -23,6 +23,7 @@ abbrev pub line_of : Action → Line
 line_of (asked.Sync kconfig dotconfig) = Sync [] []
 line_of (asked.Record depfile target command) = Record depfile target command
 line_of (asked.Stale target) = Stale target
+line_of action = Stale []
 
 -- The actions are those of the lines of a script, whatever its files hold.
 pub record AreSpelled (text : List ℕ) (actions : List Action) : Type 0 where

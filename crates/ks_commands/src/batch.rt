@@ -5,7 +5,7 @@
 ghost use Rattle.std.specs.Prelude.{◌≡◌, ◌⊎◌, ◌≤◌, ℕ, List, IfErr, IfOk, OnOk, Ok, Err, Some, None, IsErrOf, map};
 ghost use Rattle.std.specs.List.{All};
 ghost use Rattle.ks_tree.specs.Frames.{Reads};
-ghost use Rattle.ks_engine.specs.Actions.{action};
+ghost use Rattle.ks_engine.specs.Actions.{action, calls_of};
 ghost use Rattle.ks_engine.specs.FileRuns.{FileRun, state};
 ghost use Rattle.ks_engine.specs.Refusals.{IsGivenUp};
 ghost use Rattle.ks_engine.specs.declared.error.EngineError.TheVariants.{Device};
@@ -168,8 +168,8 @@ fn run_commands<T: Tree>(
     dialect: Dialect,
     commands: &[Command<'_>],
 ) -> Result<Outcome, Refusal>
-    ensures ran { RunsAll (T.is_honest → T.files tree.new ≡ T.files tree.old)
-        (λ replies. FileRun dialect T.is_honest (state T.Tree tree.old) (map action commands.now) replies (state T.Tree tree.new)) (map action commands.now) result }
+    ensures ran { let actions = map action commands.now in RunsAll (T.is_honest → T.files tree.new ≡ T.files tree.old)
+        (λ replies. FileRun dialect T.is_honest (state T.Tree tree.old) (calls_of actions replies) (state T.Tree tree.new)) actions result }
     ensures later { T.failures tree.old ≤ T.failures tree.new }
     ensures kept { T.aged tree.new ≡ T.aged tree.old }
     ensures no_device { result ≡ Err (Engine Device) → ⊥ }
@@ -185,7 +185,7 @@ pub(crate) fn run_script<T: Tree>(
     dialect: Dialect,
     path: &[u8],
 ) -> Result<Outcome, Refusal>
-    ensures ran { EndsBatch T.is_honest (by_files dialect T.is_honest (state T.Tree tree.old) (state T.Tree tree.new)) (state T.Tree tree.old) path.now result }
+    ensures ran { EndsBatch T.is_honest (by_files dialect T.is_honest (state T.Tree tree.old) (state T.Tree tree.new)) (T.files tree.old) path.now result }
     ensures cause { result ≡ Err (Engine Device) → HasRisen (T.failures tree.old) (T.failures tree.new) }
     ensures kept { T.aged tree.new ≡ T.aged tree.old }
 {

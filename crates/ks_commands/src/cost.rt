@@ -1,12 +1,13 @@
 //! What each symbol costs: how many objects a flip of it makes stale. What is kept of an object is a number for each symbol.
-ghost use Rattle.std.specs.Prelude.{◌≡◌, ◌++◌, [], Err, IfOk, OnOk, map, refl};
+ghost use Rattle.std.specs.Prelude.{◌≡◌, ◌++◌, [], Err, IfOk, OnOk, map, refl, true};
 ghost use Rattle.ks_tree.specs.Frames.{Reads};
-ghost use Rattle.ks_engine.specs.Costs.{seen_cost};
 ghost use Rattle.ks_engine.specs.FileRuns.{state};
+ghost use Rattle.ks_engine.specs.Costs.{seen_cost};
 ghost use Rattle.ks_engine.specs.declared.error.EngineError.TheVariants.{Device};
 ghost use Rattle.ks_requests.specs.declared.refusal.Refusal.TheVariants.{Engine};
 ghost use Rattle.ks_commands.specs.Readings.{HasCosts};
-ghost use Rattle.ks_commands.specs.Records.{EndsCost, at_most, cost_lines, unread_lines};
+ghost use Rattle.ks_commands.specs.Records.{at_most, cost_lines, reading, tells_cost, unread_lines};
+ghost use Rattle.ks_commands.specs.Walks.{EndsWalk};
 
 use crate::readings::{Reader, Told, read_each};
 use ks_engine::{Cost, Costs};
@@ -66,7 +67,8 @@ pub(crate) fn tell_cost<T: Tree>(
     targets: &Targets,
 ) -> Result<Outcome, Refusal>
     ensures reads { Reads T.Tree tree.old tree.new (result ≡ Err (Engine Device)) }
-    ensures told { EndsCost T.is_honest (state T.Tree tree.old) top targets.now result (state T.Tree tree.new) }
+    ensures told { EndsWalk (reading T.is_honest (T.files tree.old) unread_lines) true (tells_cost top) T.is_honest (state T.Tree tree.old) targets.now
+        result (state T.Tree tree.new) }
 {
     let mut costs = Costs::with_seed(alloc, Seed::new(tree.seed()));
     let Told {

@@ -1,6 +1,6 @@
 //! Laws of the definitions, each the contract of a function that does nothing.
 ghost use Rattle.ks_commands.specs.PreviewLaws.{PreviewsAreRefusedAsSyncs, PreviewsTellSyncs};
-ghost use Rattle.ks_commands.specs.Laws.{BatchTellsChanges, PreviewsArePerformed, ProgramsTellChanges, RefusalsChangeNothing, RequestsGoOn, StatusesAreAtMostTwo, StatusesTellDifferences, WhatChangedIsAged};
+ghost use Rattle.ks_commands.specs.Laws.{BatchTellsChanges, PreviewsArePerformed, RefusalsChangeNothing, RequestsGoOn, StatusesAreAtMostTwo, StatusesTellDifferences, WhatChangedIsAged};
 
 /// What is said of a request by the files of an honest tree says what becomes of each history that they show.
 pub fn requests_go_on()
@@ -36,11 +36,6 @@ pub fn statuses_tell_differences()
 /// A script that runs without a refusal tells what changed, where nothing was broken off before it.
 pub fn batch_tells_changes()
     ensures { BatchTellsChanges }
-{}
-
-/// The headline for runs of the program one after the other, as a build makes them.
-pub fn programs_tell_changes()
-    ensures { ProgramsTellChanges }
 {}
 
 /// What `age` is for. Make compiles an object that is older than one of its prerequisites, and an aged one is older than each

@@ -3,7 +3,6 @@
 //! are for the crate `confstamp`. How it is asked and answered is defined in ks_requests, and what words mean in ks_words.
 #![tactic(auto)]
 
-mod aging;
 mod asked_symbols;
 mod batch;
 mod changes;
@@ -20,7 +19,7 @@ mod users;
 
 pub use laws::{
     batch_tells_changes, previews_are_performed, previews_tell_synchronisations,
-    programs_tell_changes, refusals_change_nothing, statuses_are_at_most_two,
-    statuses_tell_differences, what_changed_is_aged,
+    refusals_change_nothing, statuses_are_at_most_two, statuses_tell_differences,
+    what_changed_is_aged,
 };
 pub use program::execute;

@@ -11,10 +11,8 @@ ghost use Rattle.ks_requests.specs.declared.refusal.Refusal.TheVariants.{Engine}
 ghost use Rattle.ks_requests.specs.declared.status.Status.TheVariants.{Done};
 ghost use Rattle.ks_requests.specs.Readings.{ReadsSome, if_named};
 ghost use Rattle.ks_requests.specs.Requests.{IsNoQuestion, IsOneStep};
-ghost use Rattle.ks_commands.specs.Aging.{AgesAsked};
-ghost use Rattle.ks_commands.specs.Performed.{Ends, EndsFixdep, EndsPreview, by_files};
+ghost use Rattle.ks_commands.specs.Performed.{Ends, EndsFixdep, EndsPreview, IsNoWalk, by_files};
 
-use crate::aging::age_targets;
 use crate::batch::run_script;
 use crate::changes::{record_rule, record_target, synchronise};
 use crate::cost::tell_cost;
@@ -22,9 +20,10 @@ use crate::differences::tell_differences;
 use crate::fixdep::command_file_text;
 use crate::questions::{ask_after, ask_targets, outdated_target};
 use crate::users::tell_users;
-use ks_engine::Question;
+use ks_engine::{EngineError, Question};
 use ks_requests::{
-    Outcome, Reading, Refusal, Request, borrowed, borrowed_path, inputs_at, preview_of,
+    Form, Outcome, PreviewError, Reading, Refusal, Request, borrowed, borrowed_path, inputs_at,
+    preview_to,
 };
 use ks_symbols::{Dialect, Kconfig};
 use ks_tree::{Aging, Tree};
@@ -49,8 +48,13 @@ fn preview<T: Reading>(
     let texts = &inputs.texts;
     let old = borrowed(&inputs.old);
     let kconfig = Kconfig::new(dialect, &texts.kconfig);
-    let text = preview_of(alloc, &kconfig, &texts.dotconfig, old)?;
-    Ok(Outcome::done(text))
+    let mut text = Vec::new(alloc);
+    match preview_to(alloc, &kconfig, &texts.dotconfig, old, &mut text) {
+        Ok(()) => Ok(Outcome::done(text)),
+        Err(PreviewError::Engine(error)) => Err(Refusal::Engine(error)),
+        // A vector takes any text but for want of memory.
+        Err(PreviewError::Output) => Err(Refusal::Engine(EngineError::OutOfMemory)),
+    }
 }
 
 /// The command file of an object.
@@ -83,7 +87,7 @@ pub(crate) fn outcome<T: Aging>(
         (state T.Tree tree.new) }
     ensures cause { result ≡ Err (Engine Device) → HasRisen (T.failures tree.old) (T.failures tree.new) }
     ensures memory { IsOneStep request.now → result ≡ Err (Engine OutOfMemory) → T.failures tree.new ≡ T.failures tree.old }
-    ensures aged { T.is_honest → AgesAsked (T.files tree.old) request.now result (T.aged tree.old) (T.aged tree.new) }
+    ensures kept { IsNoWalk request.now → T.aged tree.new ≡ T.aged tree.old }
 {
     match request {
         Request::Sync {
@@ -118,10 +122,12 @@ pub(crate) fn outcome<T: Aging>(
             let (depfile, command) = (depfile.as_bytes(), command.as_bytes());
             fixdep(alloc, tree, dialect, depfile, target.as_bytes(), command)
         }
+        // What is left of the dependency file is the program's to see to.
         Request::Record {
             depfile,
             target,
             command,
+            after: _,
         } => {
             let (depfile, command) = (depfile.as_bytes(), command.as_bytes());
             record_target(alloc, tree, dialect, depfile, target.as_bytes(), command)
@@ -145,9 +151,11 @@ pub(crate) fn outcome<T: Aging>(
             )
         }
         Request::Stale { targets, form } => {
-            ask_targets(alloc, tree, Question::Stale, *form, targets)
+            ask_targets(alloc, tree, Question::Stale, None, *form, targets)
         }
-        Request::Why { targets, form } => ask_targets(alloc, tree, Question::Why, *form, targets),
+        Request::Why { targets, form } => {
+            ask_targets(alloc, tree, Question::Why, None, *form, targets)
+        }
         Request::Impact {
             kconfig,
             dotconfig,
@@ -157,7 +165,14 @@ pub(crate) fn outcome<T: Aging>(
             let (kconfig, dotconfig) = (kconfig.as_bytes(), dotconfig.as_bytes());
             ask_after(alloc, tree, dialect, kconfig, dotconfig, *form, targets)
         }
-        Request::Age { which, targets } => age_targets(alloc, tree, *which, targets),
+        Request::Age { which, targets } => ask_targets(
+            alloc,
+            tree,
+            Question::Stale,
+            Some(*which),
+            Form::Text,
+            targets,
+        ),
         Request::Outdated { target, command } => {
             outdated_target(alloc, tree, target.as_bytes(), command.as_bytes())
         }

@@ -2,27 +2,32 @@
 //! built by a command.
 //!
 //! A refused question is a line of the output, and the questions after it are still answered.
-ghost use Rattle.std.specs.Prelude.{◌≡◌, ◌⊎◌, ◌++◌, ℕ, List, Err, IfErr, IfOk, IsErrOf, OnOk, length, map, option_map};
+ghost use Rattle.std.specs.Prelude.{◌≡◌, ◌⊎◌, ◌++◌, List, Err, IfErr, IfOk, IsErrOf, OnOk, false, length, map, option_map};
 ghost use Rattle.ks_symbols.specs.Dialects.{read_in};
-ghost use Rattle.ks_tree.specs.Files.{HasRisen};
+ghost use Rattle.ks_tree.specs.Files.{Files, HasRisen};
 ghost use Rattle.ks_tree.specs.Frames.{Reads};
+ghost use Rattle.ks_engine.specs.FileRuns.{state};
 ghost use Rattle.ks_engine.specs.BuildStates.{IsStateOn};
 ghost use Rattle.ks_engine.specs.Impact.{IsAnswerAfter};
-ghost use Rattle.ks_engine.specs.FileRuns.{state};
+ghost use Rattle.ks_engine.specs.Asked.{told};
 ghost use Rattle.ks_engine.specs.Memos.{IsMemoOf};
 ghost use Rattle.ks_engine.specs.Questions.{IsAnswerTo, limit_of};
 ghost use Rattle.ks_engine.specs.Refusals.{IsGivenUp};
+ghost use Rattle.ks_engine.specs.Spelling.{spelling_of};
 ghost use Rattle.ks_engine.specs.declared.error.EngineError.TheVariants.{Device};
+ghost use Rattle.ks_engine.specs.declared.explaining.Explanation.{Explanation};
 ghost use Rattle.ks_requests.specs.declared.refusal.Refusal.TheVariants.{Engine};
 ghost use Rattle.ks_requests.specs.JsonLines.{answer_in};
 ghost use Rattle.ks_requests.specs.Statuses.{code_of, explanation_status, stale_among, status_unless_refused};
-ghost use Rattle.ks_commands.specs.Parts.{EndsAsked, IsCounted, Part, TellsAll, TellsOne, statuses};
+ghost use Rattle.ks_commands.specs.Walks.{EndsWalk, IsCounted, IsStep, Part, ToldAll, Walks, statuses};
 ghost use Rattle.ks_commands.specs.Performed.{EndsImpact, EndsOutdated};
-ghost use Rattle.ks_commands.specs.Questions.{IsSpelled, asking_by, counted_of};
-ghost use Rattle.ks_commands.specs.Spelling.{IsLine, spelling_line, spelling_of, spelling_told};
+ghost use Rattle.ks_commands.specs.Questions.{AgesFor, IsSpelled, MayAge, asking_by, counted_of, explained, tells};
+ghost use Rattle.ks_commands.specs.Spelling.{IsLine, spelling_line, spelling_told};
 
 use crate::spelling::{spelling_of, write_spelling};
-use ks_engine::{EngineError, Explanation, Impact, Memo, Question, ask, outdated};
+use ks_engine::{
+    Ages, EngineError, Explanation, Impact, Memo, Question, age_if_stale, ask, outdated,
+};
 use ks_fixdep::Seed;
 use ks_requests::{
     Count, Form, Outcome, Refusal, Status, Targets, all_targets, borrowed, build_status,
@@ -30,7 +35,7 @@ use ks_requests::{
     write_refused_target,
 };
 use ks_symbols::{Dialect, Kconfig};
-use ks_tree::Tree;
+use ks_tree::{Aging, Tree};
 use std::alloc::{AllocError, Global};
 
 /// An answer, and the other spelling under which the object stands, where that is told.
@@ -125,29 +130,53 @@ fn write_spelled(
     Ok(status)
 }
 
-/// Writes what is told of an object by its answer.
-fn tell_one<T: Tree>(
+/// What an object is answered. Where stale ones are to be aged, it is aged then.
+fn answer<T: Aging>(
     alloc: Global,
     tree: &mut T,
+    memo: &mut Memo,
     question: Question<'_>,
+    ages: Option<Ages>,
+    target: &[u8],
+) -> Result<Explanation, EngineError>
+    requires memo { T.is_honest → IsMemoOf (T.files tree.old) memo.old }
+    requires may_age { MayAge question ages }
+    ensures counted { IsCounted (T.failures tree.old) result (T.failures tree.new) }
+    ensures unchanged { T.is_honest → T.files tree.new ≡ T.files tree.old }
+    ensures memo { T.is_honest → IsMemoOf (T.files tree.new) memo.new }
+    ensures answer { T.is_honest → IsAnswerTo question.entry (T.files tree.old) target.now result }
+    ensures aged { AgesFor T.is_honest (T.files tree.old) ages target.now (T.aged tree.old) (told result) (T.aged tree.new) }
+{
+    match ages {
+        Some(which) => age_if_stale(alloc, tree, memo, which, target),
+        None => ask(alloc, tree, memo, question, target),
+    }
+}
+/// The same, with another spelling where lines are to tell one.
+fn spelled_answer<T: Aging>(
+    alloc: Global,
+    tree: &mut T,
+    memo: &mut Memo,
+    question: Question<'_>,
+    ages: Option<Ages>,
     form: Form,
     target: &[u8],
-    answer: Result<Explanation, EngineError>,
-    text: &mut Vec<u8>,
-) -> Result<Status, AllocError>
-    ensures reads { Reads T.Tree tree.old tree.new ⊥ }
-    ensures told { (first : ℕ) → IsCounted first answer (T.failures tree.old)
-        → (T.is_honest → IsAnswerTo question.entry (T.files tree.old) target.now answer)
-        → IfOk result (λ status. TellsOne (asking_by T.is_honest (T.files tree.old) form question.entry).told explanation_status first target.now
-        text.old.items text.new.items (code_of status) (T.failures tree.new)) }
+) -> Spelled
+    requires memo { T.is_honest → IsMemoOf (T.files tree.old) memo.old }
+    requires may_age { MayAge question ages }
+    ensures unchanged { T.is_honest → T.files tree.new ≡ T.files tree.old }
+    ensures memo { T.is_honest → IsMemoOf (T.files tree.new) memo.new }
+    ensures line { IsLine (limit_of question.entry) form (option_map (λ v. v.items) result.spelling) }
+    ensures step { (files : Files) → (T.is_honest → T.files tree.old ≡ files) → IsStep (asking_by T.is_honest files ages form question.entry) (state T.Tree tree.old)
+        (explained form (limit_of question.entry) target.now result.answer (option_map (λ v. v.items) result.spelling)) (state T.Tree tree.new) }
 {
-    let told = with_spelling(alloc, tree, question, form, target, answer);
-    write_spelled(form, question, target, &told, text)
+    let answer = answer(alloc, tree, memo, question, ages, target);
+    with_spelling(alloc, tree, question, form, target, answer)
 }
 
 /// The count of stale objects, where the question is for one.
 fn count_for(question: Question<'_>, stale: usize, all: usize) -> Option<Count>
-    ensures { (parts : List (Part Explanation)) → stale ≡ stale_among (statuses explanation_status parts) → all ≡ length parts
+    ensures { (parts : List (Part Explanation)) → stale ≡ stale_among (statuses parts) → all ≡ length parts
         → result ≡ counted_of question.entry parts }
 {
     match question {
@@ -157,27 +186,28 @@ fn count_for(question: Question<'_>, stale: usize, all: usize) -> Option<Count>
 }
 
 /// Asks of each object, by what was read before and what is still to be read.
-fn ask_each<T: Tree>(
+fn ask_each<T: Aging>(
     alloc: Global,
     tree: &mut T,
     memo: &mut Memo,
     question: Question<'_>,
+    ages: Option<Ages>,
     form: Form,
     targets: &[&[u8]],
 ) -> Result<Outcome, AllocError>
     requires memo { T.is_honest → IsMemoOf (T.files tree.old) memo.old }
-    ensures reads { Reads T.Tree tree.old tree.new ⊥ }
-    ensures told { IfOk result (λ o. (parts : List (Part Explanation))
-        × TellsAll (asking_by T.is_honest (T.files tree.old) form question.entry).told explanation_status parts (T.failures tree.old)
-        (map (λ t. t.now) targets.now) o.text.items (code_of o.status) (T.failures tree.new)
-        × (o.count ≡ counted_of question.entry parts)) }
+    requires may_age { MayAge question ages }
+    ensures unchanged { T.is_honest → T.files tree.new ≡ T.files tree.old }
+    ensures told { (files : Files) → (T.is_honest → T.files tree.old ≡ files) → (parts : List (Part Explanation))
+        × Walks (asking_by T.is_honest files ages form question.entry) (state T.Tree tree.old) parts (state T.Tree tree.new)
+        × ToldAll (tells (counted_of question.entry)) (map (λ t. t.now) targets.now) parts result }
 {
     let mut text = Vec::new(alloc);
     let mut status = Status::Done;
     let mut stale = 0;
     for target in targets {
-        let answer = ask(alloc, tree, memo, question, *target);
-        let answered = tell_one(alloc, tree, question, form, *target, answer, &mut text)?;
+        let told = spelled_answer(alloc, tree, memo, question, ages, form, *target);
+        let answered = write_spelled(form, question, *target, &told, &mut text)?;
         status = worse(status, answered);
         stale += stale_of(answered);
     }
@@ -190,42 +220,46 @@ fn ask_each<T: Tree>(
 }
 
 /// Asks of each object, one after the other.
-fn ask_all<T: Tree>(
+fn ask_all<T: Aging>(
     alloc: Global,
     tree: &mut T,
     question: Question<'_>,
+    ages: Option<Ages>,
     form: Form,
     targets: &[&[u8]],
 ) -> Result<Outcome, AllocError>
-    ensures reads { Reads T.Tree tree.old tree.new ⊥ }
-    ensures told { IfOk result (λ o. (parts : List (Part Explanation))
-        × TellsAll (asking_by T.is_honest (T.files tree.old) form question.entry).told explanation_status parts (T.failures tree.old)
-        (map (λ t. t.now) targets.now) o.text.items (code_of o.status) (T.failures tree.new)
-        × (o.count ≡ counted_of question.entry parts)) }
+    requires may_age { MayAge question ages }
+    ensures unchanged { T.is_honest → T.files tree.new ≡ T.files tree.old }
+    ensures told { (files : Files) → (T.is_honest → T.files tree.old ≡ files) → (parts : List (Part Explanation))
+        × Walks (asking_by T.is_honest files ages form question.entry) (state T.Tree tree.old) parts (state T.Tree tree.new)
+        × ToldAll (tells (counted_of question.entry)) (map (λ t. t.now) targets.now) parts result }
 {
     let mut memo = Memo::with_seed(alloc, Seed::new(tree.seed()));
-    ask_each(alloc, tree, &mut memo, question, form, targets)
+    ask_each(alloc, tree, &mut memo, question, ages, form, targets)
 }
 
-/// Asks of each object among the words, and then of each in the file.
-pub(crate) fn ask_targets<T: Tree>(
+/// Asks of each object among the words, and then of each in the file. What is stale is aged, where it is to be.
+pub(crate) fn ask_targets<T: Aging>(
     alloc: Global,
     tree: &mut T,
     question: Question<'_>,
+    ages: Option<Ages>,
     form: Form,
     targets: &Targets,
 ) -> Result<Outcome, Refusal>
-    ensures reads { Reads T.Tree tree.old tree.new (result ≡ Err (Engine Device)) }
-    ensures told { EndsAsked (asking_by T.is_honest (T.files tree.old) form question.entry) (counted_of question.entry) T.is_honest
+    requires may_age { MayAge question ages }
+    ensures unchanged { T.is_honest → T.files tree.new ≡ T.files tree.old }
+    ensures cause { result ≡ Err (Engine Device) → HasRisen (T.failures tree.old) (T.failures tree.new) }
+    ensures told { EndsWalk (asking_by T.is_honest (T.files tree.old) ages form question.entry) false (tells (counted_of question.entry)) T.is_honest
         (state T.Tree tree.old) targets.now result (state T.Tree tree.new) }
 {
     let text = read_targets(alloc, tree, targets)?;
     let targets = all_targets(alloc, targets, borrowed(&text))?;
-    Ok(ask_all(alloc, tree, question, form, &targets)?)
+    Ok(ask_all(alloc, tree, question, ages, form, &targets)?)
 }
 
 /// Asks of each object whether it would be stale after a synchronisation with the files that two words name.
-pub(crate) fn ask_after<T: Tree>(
+pub(crate) fn ask_after<T: Aging>(
     alloc: Global,
     tree: &mut T,
     dialect: Dialect,
@@ -234,14 +268,15 @@ pub(crate) fn ask_after<T: Tree>(
     form: Form,
     targets: &Targets,
 ) -> Result<Outcome, Refusal>
-    ensures reads { Reads T.Tree tree.old tree.new (result ≡ Err (Engine Device)) }
+    ensures unchanged { T.is_honest → T.files tree.new ≡ T.files tree.old }
+    ensures cause { result ≡ Err (Engine Device) → HasRisen (T.failures tree.old) (T.failures tree.new) }
     ensures told { EndsImpact T.is_honest dialect (λ k. IsAnswerAfter (T.files tree.old) (read_in dialect k)) (state T.Tree tree.old)
         kconfig.now dotconfig.now form targets.now result (state T.Tree tree.new) }
 {
     let texts = texts_at(alloc, tree, kconfig, dotconfig)?;
     let kconfig = Kconfig::new(dialect, &texts.kconfig);
     let impact = Impact::of(alloc, tree, &kconfig, &texts.dotconfig)?;
-    ask_targets(alloc, tree, Question::After(&impact), form, targets)
+    ask_targets(alloc, tree, Question::After(&impact), None, form, targets)
 }
 
 /// Asks whether an object was built by another command, or else whether it is stale.

@@ -7,15 +7,15 @@ ghost use Rattle.ks_fixdep.specs.Borrowed.{borrowed_view};
 ghost use Rattle.ks_fixdep.specs.CommandFile.{CommandRecord};
 ghost use Rattle.ks_fixdep.specs.FoundNames.{all_noted};
 ghost use Rattle.ks_tree.specs.Frames.{Reads};
-ghost use Rattle.ks_engine.specs.FileRuns.{state};
+ghost use Rattle.ks_engine.specs.FileRuns.{FileState, state};
 ghost use Rattle.ks_engine.specs.declared.error.EngineError.TheVariants.{Device};
 ghost use Rattle.ks_requests.specs.declared.refusal.Refusal.TheVariants.{Engine};
 ghost use Rattle.ks_requests.specs.Statuses.{code_of};
 ghost use Rattle.ks_requests.specs.Symbols.{unrecorded_line};
 ghost use Rattle.ks_requests.specs.Targets.{targets_at};
-ghost use Rattle.ks_commands.specs.Parts.{Asks, Part, StoppedBy, TellsOne};
-ghost use Rattle.ks_commands.specs.Readings.{Adds, AreRead, records_in};
-ghost use Rattle.ks_commands.specs.Records.{IsReadIn, reading};
+ghost use Rattle.ks_commands.specs.Readings.{Adds, AreRead};
+ghost use Rattle.ks_commands.specs.Records.{reading};
+ghost use Rattle.ks_commands.specs.Walks.{AreAsked, StoppedBy, TellsOne};
 
 use ks_engine::{borrow_record, read_record};
 use ks_fixdep::{BorrowedCommand, Seed};
@@ -75,8 +75,8 @@ fn read_one<T: Tree, R: Reader>(
     requires { (before : List CommandRecord) × (length before < usize.MAX) × R.has_read reader.old before }
     ensures reads { Reads T.Tree tree.old tree.new ⊥ }
     ensures same { OnOk result (R.asked reader.new ≡ R.asked reader.old) }
-    ensures told { IfOk result (λ status. (one : TellsOne (IsReadIn T.is_honest (T.files tree.old) (R.line (R.asked reader.old))) (λ _. 0)
-        (T.failures tree.old) target.now text.old.items text.new.items (code_of status) (T.failures tree.new))
+    ensures told { IfOk result (λ status. (one : TellsOne (reading T.is_honest (T.files tree.old) (R.line (R.asked reader.old)))
+        (state T.Tree tree.old) target.now text.old.items text.new.items (code_of status) (state T.Tree tree.new))
         × Adds (R.has_read reader.old) (R.has_read reader.new) one.part.answer) }
 {
     let error = match read_record(alloc, tree, target) {
@@ -107,8 +107,8 @@ fn read_objects<T: Tree, R: Reader>(
     requires { R.has_read reader.old [] }
     ensures reads { Reads T.Tree tree.old tree.new ⊥ }
     ensures same { OnOk result (R.asked reader.new ≡ R.asked reader.old) }
-    ensures told { IfOk result (λ told. AreRead (IsReadIn T.is_honest (T.files tree.old) (R.line (R.asked reader.old))) (R.has_read reader.new)
-        (map (λ t. t.now) objects.now) (T.failures tree.old) told (T.failures tree.new)) }
+    ensures told { IfOk result (λ told. AreRead (reading T.is_honest (T.files tree.old) (R.line (R.asked reader.old))) (R.has_read reader.new)
+        (map (λ t. t.now) objects.now) (state T.Tree tree.old) told (state T.Tree tree.new)) }
 {
     let mut text = Vec::new(alloc);
     let mut status = Status::Done;
@@ -130,8 +130,8 @@ fn read_once<T: Tree, R: Reader>(
     requires { R.has_read reader.old [] }
     ensures reads { Reads T.Tree tree.old tree.new ⊥ }
     ensures same { OnOk result (R.asked reader.new ≡ R.asked reader.old) }
-    ensures told { IfOk result (λ told. AreRead (IsReadIn T.is_honest (T.files tree.old) (R.line (R.asked reader.old))) (R.has_read reader.new)
-        (all_noted [] (map (λ t. t.now) targets.now)) (T.failures tree.old) told (T.failures tree.new)) }
+    ensures told { IfOk result (λ told. AreRead (reading T.is_honest (T.files tree.old) (R.line (R.asked reader.old))) (R.has_read reader.new)
+        (all_noted [] (map (λ t. t.now) targets.now)) (state T.Tree tree.old) told (state T.Tree tree.new)) }
 {
     let once = each_once(alloc, Seed::new(tree.seed()), targets)?;
     let objects = once.as_slice();
@@ -148,11 +148,11 @@ pub(crate) fn read_each<T: Tree, R: Reader>(
     requires { R.has_read reader.old [] }
     ensures reads { Reads T.Tree tree.old tree.new (result ≡ Err (Engine Device)) }
     ensures same { OnOk result (R.asked reader.new ≡ R.asked reader.old) }
-    ensures stopped { IfErr result (λ r. StoppedBy T.is_honest (λ e. targets_at (T.files tree.old) targets.now ≡ Err e) (Err r)) }
-    ensures told { IfOk result (λ told. (parts : List (Part (Option CommandRecord)))
-        × Asks (reading T.is_honest (T.files tree.old) (R.line (R.asked reader.old))) T.is_honest (state T.Tree tree.old) targets.now parts
-        told.text.items (code_of told.status) (state T.Tree tree.new)
-        × R.has_read reader.new (records_in parts) × (told.all ≡ length parts)) }
+    ensures stopped { IfErr result (λ r. StoppedBy T.is_honest (λ e. targets_at (T.files tree.old) targets.now ≡ Err e) (state T.Tree tree.old) (Err r)
+        (state T.Tree tree.new)) }
+    ensures told { IfOk result (λ told. (objects : List (List ℕ)) × (first : FileState) × AreAsked T.is_honest (state T.Tree tree.old) targets.now objects first
+        × AreRead (reading T.is_honest (T.files tree.old) (R.line (R.asked reader.old))) (R.has_read reader.new) (all_noted [] objects) first told
+        (state T.Tree tree.new)) }
 {
     let from = read_targets(alloc, tree, targets)?;
     let targets = all_targets(alloc, targets, borrowed(&from))?;

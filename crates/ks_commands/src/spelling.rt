@@ -6,7 +6,8 @@ ghost use Rattle.std.specs.Prelude.{◌≡◌, ◌++◌, false, Ok, IfErr, IfOk,
 ghost use Rattle.ks_tree.specs.Frames.{Reads};
 ghost use Rattle.ks_engine.specs.Costs.{record_at};
 ghost use Rattle.ks_engine.specs.Refusals.{Answers, IsGivenUp};
-ghost use Rattle.ks_commands.specs.Spelling.{is_record, is_unknown, is_unknown_verdict, parts, recorded_as, spelling_line, spelling_of, step, steps, usual};
+ghost use Rattle.ks_engine.specs.Spelling.{is_record, is_unknown, is_unknown_verdict, parts, recorded_as, spelling_of, step, steps, usual};
+ghost use Rattle.ks_commands.specs.Spelling.{spelling_line};
 
 use ks_engine::{EngineError, Explanation, Verdict, borrow_record, read_record};
 use ks_tree::Tree;
@@ -43,7 +44,7 @@ fn steps(alloc: Global, path: &[u8]) -> Result<Vec<u8>, AllocError>
 }
 
 /// The usual spelling of a path.
-#[tactic(auto, unfolding(crate::specs::Spelling::usual))]
+#[tactic(auto, unfolding(ks_engine::specs::Spelling::usual))]
 fn usual(alloc: Global, path: &[u8]) -> Result<Vec<u8>, AllocError>
     ensures { IfOk result (λ v. v.items ≡ usual path.now) }
 {
@@ -84,7 +85,7 @@ fn has_record<T: Tree>(alloc: Global, tree: &mut T, target: &[u8]) -> Result<boo
 }
 
 /// The usual spelling of a target, where that is another one and a record stands under it.
-#[tactic(auto, unfolding(crate::specs::Spelling::recorded_as))]
+#[tactic(auto, unfolding(ks_engine::specs::Spelling::recorded_as))]
 fn recorded_as<T: Tree>(
     alloc: Global,
     tree: &mut T,

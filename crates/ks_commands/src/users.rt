@@ -1,5 +1,5 @@
 //! Which objects name a symbol: those that a flip of it makes stale.
-ghost use Rattle.std.specs.Prelude.{◌≡◌, ◌++◌, Err, IfOk, OnOk, flat_map, length, nat_lt, refl};
+ghost use Rattle.std.specs.Prelude.{◌≡◌, ◌++◌, Err, IfOk, OnOk, flat_map, length, nat_lt, refl, true};
 ghost use Rattle.ks_fixdep.specs.Borrowed.{borrowed_view};
 ghost use Rattle.ks_tree.specs.Frames.{Reads};
 ghost use Rattle.ks_engine.specs.FileRuns.{state};
@@ -7,9 +7,10 @@ ghost use Rattle.ks_engine.specs.declared.error.EngineError.TheVariants.{Device}
 ghost use Rattle.ks_requests.specs.declared.refusal.Refusal.TheVariants.{Engine};
 ghost use Rattle.ks_requests.specs.Symbols.{symbols_of, use_line};
 ghost use Rattle.ks_commands.specs.AskedSymbols.{symbols_in};
-ghost use Rattle.ks_commands.specs.Parts.{EndsAsked};
+ghost use Rattle.ks_commands.specs.Questions.{tells};
 ghost use Rattle.ks_commands.specs.Readings.{HasUsers};
 ghost use Rattle.ks_commands.specs.Records.{reading, user_count, uses_in, uses_lines};
+ghost use Rattle.ks_commands.specs.Walks.{EndsWalk};
 
 use crate::asked_symbols::AskedSymbols;
 use crate::readings::{Reader, Told, read_each};
@@ -85,7 +86,7 @@ pub(crate) fn tell_users<T: Tree>(
     targets: &Targets,
 ) -> Result<Outcome, Refusal>
     ensures reads { Reads T.Tree tree.old tree.new (result ≡ Err (Engine Device)) }
-    ensures told { EndsAsked (reading T.is_honest (T.files tree.old) (uses_lines (symbols_of words.now))) (user_count (symbols_of words.now))
+    ensures told { EndsWalk (reading T.is_honest (T.files tree.old) (uses_lines (symbols_of words.now))) true (tells (user_count (symbols_of words.now)))
         T.is_honest (state T.Tree tree.old) targets.now result (state T.Tree tree.new) }
 {
     let symbols = AskedSymbols::new(symbols_of(alloc, words)?);

@@ -1,7 +1,7 @@
 //! From texts to texts, without the words of a command line: what previews print, and why there is none; what differs from
 //! auto.conf; and scripts whose lines name files more than once.
 use crate::steps::{Run, check_text, run_asked};
-use ks_requests::{Request, Telling, preview_of};
+use ks_requests::{PreviewError, Request, Telling, preview_to};
 use ks_symbols::{Dialect, Kconfig};
 use ks_tree::{AgedTree, Aging, MemoryTree, Tree};
 use std::alloc::{AllocError, Global};
@@ -29,8 +29,9 @@ fn outcome(
     old: Option<&[u8]>,
 ) -> Result<String, AllocError> {
     let kconfig = Kconfig::new(Dialect::Linux, kconfig);
-    match preview_of(alloc, &kconfig, dotconfig, old) {
-        Ok(text) => String::from_utf8_lossy(alloc, &text),
+    let mut out = Vec::new(alloc);
+    match preview_to(alloc, &kconfig, dotconfig, old, &mut out) {
+        Ok(()) => String::from_utf8_lossy(alloc, &out),
         Err(error) => error.to_string(alloc),
     }
 }
@@ -101,6 +102,27 @@ fn refusals(rt: HostRuntime) -> Result<(), AllocError> {
         let found = outcome(alloc, kconfig, dotconfig, old)?;
         check_text(&rt, "a refusal", found.as_str(), want);
     }
+    Ok(())
+}
+
+#[test]
+fn a_full_output_is_refused(rt: HostRuntime) -> Result<(), AllocError> {
+    let mut room = [0; 4];
+    let mut out = room.as_mut_slice();
+    let kconfig = Kconfig::new(Dialect::Linux, DEMO);
+    let found = preview_to(rt.alloc(), &kconfig, b"CONFIG_A=y\n", None, &mut out);
+    let told = match found {
+        Ok(()) => "nothing",
+        Err(PreviewError::Engine(_)) => "a text",
+        Err(PreviewError::Output) => "the output",
+    };
+    check_text(&rt, "what is refused", told, "the output");
+    check_text(
+        &rt,
+        "its text",
+        PreviewError::Output.to_string(rt.alloc())?.as_str(),
+        "51 Output",
+    );
     Ok(())
 }
 

@@ -14,7 +14,7 @@ returns g c =
     rw (c.in-Ok.is) (
       Err c.in-Err-outcome.refusal,
       c.outcome.new.tree,
-      record { done = did.done; ends = did.ends; cause = did.cause; memory = did.memory; aged = did.aged },
+      record { done = did.done; ends = did.ends; cause = did.cause; memory = did.memory; kept = did.kept },
       nothing_read g.T.Tree c.outcome.new.tree,
       [],
       subst (λ site. IsSiteLine g.T.Tree.is_honest (g.T.Tree.files c.outcome.new.tree) site []) c.in-None.ensures refl,
@@ -33,7 +33,7 @@ returns-in-Some g c =
     rw (c.in-Ok.is) (
       Err refusal,
       c.outcome.new.tree,
-      record { done = did.done; ends = did.ends; cause = did.cause; memory = did.memory; aged = did.aged },
+      record { done = did.done; ends = did.ends; cause = did.cause; memory = did.memory; kept = did.kept },
       reads,
       told.0,
       subst (λ s. IsSiteLine g.T.Tree.is_honest (g.T.Tree.files c.refuse_at.new.tree) s told.0) found

@@ -1,5 +1,5 @@
 use Rattle.ks_commands.proofs.Prelude.{inl, inr, Err, ap, ◌≡◌, ◌∙◌, ◌≤◌, arith, err_from_is_err_and, IsImpactOf, read_in, seen_texts, state, rules}
-use Rattle.ks_commands.proofs.Parts.{impact_asked}
+use Rattle.ks_commands.proofs.Walks.{impact_asked}
 use Rattle.ks_commands.proofs.questions.ask_after.Goals as goal
 
 pub returns-in_err-texts-clause-told : goal.returns-in_err-texts-clause-told
@@ -16,6 +16,7 @@ returns-in_err-impact-clause-told g c =
         λ honest. rw (← c.deref.ensures.value, ← c.new-kconfig.ensures, ← c.deref-2.ensures.value, ← c.in_ok-texts.ensures.reads.unchanged honest)
             (c.in_err-impact.ensures.refused honest),
         p.1 ∙ ap (λ r. Err r) p.2,
+        c.in_err-impact.ensures.reads.kept ∙ c.in_ok-texts.ensures.reads.kept,
       ),
     )
 
@@ -38,7 +39,8 @@ returns-clause-told g c =
       inr (
         λ honest. let is = told_of honest in (is.0, impact.report, is.1),
         impact_asked g.T.Tree.is_honest c.args.form (record { ref_ptr = (0, 0); now = impact }) (read_in c.args.dialect texts.kconfig) texts.dotconfig (state g.T.Tree c.args.tree.now)
-            (state g.T.Tree c.of.new.tree) c.args.targets.now c.ask_targets.result (state g.T.Tree c.ask_targets.new.tree) same later told_of
+            (state g.T.Tree c.of.new.tree) c.args.targets.now c.ask_targets.result (state g.T.Tree c.ask_targets.new.tree) same later
+            (foreseen.kept ∙ there.kept) told_of
             c.ask_targets.ensures.told,
       ),
     )

@@ -1,13 +1,45 @@
-use Rattle.ks_commands.proofs.Prelude.{◌∙◌, ap, counted_of, map, option_map, state, with_file, words_of}
-use Rattle.ks_commands.proofs.Parts.{asked_all}
+use Rattle.ks_commands.proofs.Prelude.{◌∙◌, ap, err_from_is_err_and, inr, map, option_map, state, with_file, words_of}
 use Rattle.ks_commands.proofs.questions.ask_targets.Goals as goal
 
 pub returns-clause-told : goal.returns-clause-told
 returns-clause-told g c =
     let found = c.in_ok-text.ensures in
-    let (parts, tells, counted) = c.in_ok-ask_all.ensures.told in
-    asked_all g.T.Tree.is_honest c.args.form c.args.question (counted_of c.args.question) (state g.T.Tree c.args.tree.now) c.args.targets.now
-    (option_map (λ v. v.items) c.in_ok-text.text) (g.T.Tree.files c.read_targets.new.tree) (g.T.Tree.failures c.read_targets.new.tree)
-    (map (λ t. t.now) c.deref.result.now) parts c.in_ok-ask_all.field-0 (state g.T.Tree c.ask_all.new.tree)
-    (λ none. ap (option_map (λ v. v.items)) (found.none none)) found.text found.reads.unchanged found.reads.counted.later
-    (ap (map (λ t. t.now)) c.deref.ensures.value ∙ c.in_ok-targets.ensures ∙ ap (with_file (words_of c.args.targets.now)) c.borrowed.ensures) tells counted
+    let (parts, walks, told) = c.in_ok-ask_all.ensures.told (g.T.Tree.files c.args.tree.now) found.reads.unchanged in
+    inr (
+      map (λ t. t.now) c.deref.result.now,
+      state g.T.Tree c.read_targets.new.tree,
+      parts,
+      record {
+        from = option_map (λ v. v.items) c.in_ok-text.text;
+        named = λ none. ap (option_map (λ v. v.items)) (found.none none);
+        there = found.text;
+        all = ap (map (λ t. t.now)) c.deref.ensures.value ∙ c.in_ok-targets.ensures ∙ ap (with_file (words_of c.args.targets.now)) c.borrowed.ensures;
+        later = found.reads.counted.later;
+        aged = found.reads.kept;
+      },
+      walks,
+      told,
+      tt,
+    )
+
+pub returns-in_err-ask_all-clause-told : goal.returns-in_err-ask_all-clause-told
+returns-in_err-ask_all-clause-told g c =
+    let found = c.in_ok-text.ensures in
+    let (parts, walks, told) = c.in_err-ask_all.ensures.told (g.T.Tree.files c.args.tree.now) found.reads.unchanged in
+    let p = err_from_is_err_and c.from_residual-in_err-ask_all.result c.from_residual-in_err-ask_all.ensures.1 in
+    rw p.1 (inr (
+      map (λ t. t.now) c.deref.result.now,
+      state g.T.Tree c.read_targets.new.tree,
+      parts,
+      record {
+        from = option_map (λ v. v.items) c.in_ok-text.text;
+        named = λ none. ap (option_map (λ v. v.items)) (found.none none);
+        there = found.text;
+        all = ap (map (λ t. t.now)) c.deref.ensures.value ∙ c.in_ok-targets.ensures ∙ ap (with_file (words_of c.args.targets.now)) c.borrowed.ensures;
+        later = found.reads.counted.later;
+        aged = found.reads.kept;
+      },
+      walks,
+      told,
+      p.2,
+    ))

@@ -1,4 +1,4 @@
-use Rattle.ks_commands.proofs.Prelude.{◌≡◌, ◌≤◌, CommandRecord, List, Option, Part, TellsAll, IsReadIn, code_of, map, records_in, take}
+use Rattle.ks_commands.proofs.Prelude.{◌≡◌, ◌≤◌, CommandRecord, List, Option, Part, TellsAll, code_of, map, reading, records_in, state, take}
 use Rattle.ks_commands.proofs.readings.read_objects.Given as goal
 
 abbrev pub invariant-loop-target : goal.invariant-loop-target
@@ -8,7 +8,7 @@ invariant-loop-target g l = record {
   later : g.T.Tree.failures l.fn.tree ≤ g.T.Tree.failures l.tree;
   same : g.R.Reader.asked l.reader ≡ g.R.Reader.asked l.fn.reader;
   told : (parts : List (Part (Option CommandRecord)))
-      × TellsAll (IsReadIn g.T.Tree.is_honest (g.T.Tree.files l.fn.tree) (g.R.Reader.line (g.R.Reader.asked l.fn.reader))) (λ x. 0) parts (g.T.Tree.failures l.fn.tree)
-      (map (λ t. t.now) (take l.target-index l.objects)) l.text.items (code_of l.status) (g.T.Tree.failures l.tree)
+      × TellsAll (reading g.T.Tree.is_honest (g.T.Tree.files l.fn.tree) (g.R.Reader.line (g.R.Reader.asked l.fn.reader))) parts (state g.T.Tree l.fn.tree)
+      (map (λ t. t.now) (take l.target-index l.objects)) l.text.items (code_of l.status) (state g.T.Tree l.tree)
       × g.R.Reader.has_read l.reader (records_in parts);
 }

@@ -1,11 +1,11 @@
-use Rattle.ks_commands.proofs.Prelude.{◌≡◌, ◌∙◌, ℕ, List, Option, CommandRecord, Some, Asks, Part, ap, fun_ext, inr, refl, state, subst, count_by, code_of, is_in, is_user, reading, symbols_in, symbols_of}
+use Rattle.ks_commands.proofs.Prelude.{◌≡◌, ◌∙◌, ℕ, List, Option, CommandRecord, Some, Part, Walks, ap, fun_ext, inr, refl, state, subst, count_by, is_in, is_user, reading, symbols_in, symbols_of}
 use Rattle.ks_requests.specs.declared.status.Count.TheVariants.{Users}
 use Rattle.ks_commands.proofs.Objects.{count_records, same_lines, same_user}
 use Rattle.ks_commands.proofs.users.tell_users.Goals as goal
 
 pub returns-clause-told : goal.returns-clause-told
 returns-clause-told g c =
-    let (parts, asks, kept, all) = c.in_ok-text.ensures.told in
+    let (objects, first, are, (parts, tells, kept, all)) = c.in_ok-text.ensures.told in
     let honest = g.T.Tree.is_honest in
     let files = g.T.Tree.files c.args.tree.now in
     let found = symbols_in c.new-symbols.result in
@@ -17,15 +17,19 @@ returns-clause-told g c =
     ∙ ap (λ (ss : List (List ℕ)). count_by (λ (p : Part (Option CommandRecord)). is_user ss p.answer) parts) c.in_ok-text.ensures.same
     ∙ ap (λ is_found. count_by (λ (p : Part (Option CommandRecord)). is_found p.answer) parts) (fun_ext (same_user found words asked)) in
     inr (
+      objects,
+      first,
       parts,
-      c.in_ok-text.field-0.text.items,
-      code_of c.in_ok-text.field-0.status,
-      subst (λ line. Asks (reading honest files line) honest (state g.T.Tree c.args.tree.now) c.args.targets.now parts c.in_ok-text.field-0.text.items
-          (code_of c.in_ok-text.field-0.status) (state g.T.Tree c.read_each.new.tree)) (same_lines found words asked) asks,
+      are,
+      subst (λ line. Walks (reading honest files line) first parts (state g.T.Tree c.read_each.new.tree)) (same_lines found words asked) tells.walks,
       (
-        refl,
-        refl,
-        ap (λ n. Some (Users n c.in_ok-text.field-0.all)) users
-            ∙ ap (λ n. Some (Users (count_by (λ (p : Part (Option CommandRecord)). is_user words p.answer) parts) n)) all,
+        tells.of_objects,
+        (
+          tells.lines,
+          tells.worst_of,
+          ap (λ n. Some (Users n c.in_ok-text.field-0.all)) users
+              ∙ ap (λ n. Some (Users (count_by (λ (p : Part (Option CommandRecord)). is_user words p.answer) parts) n)) all,
+        ),
       ),
+      tt,
     )

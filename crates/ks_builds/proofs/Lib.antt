@@ -1,0 +1,4 @@
+mod Between
+mod Aged
+mod Stories
+mod Adopted

@@ -1,0 +1,4 @@
+pub mod Between
+pub mod Builds
+pub mod Stories
+pub mod Adopted

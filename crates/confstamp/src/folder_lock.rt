@@ -1,9 +1,13 @@
-//! The lock on the folder that the program works in, which makes no file. Where the file system knows no locks, or the folder can't be
-//! opened, the program goes on without.
+//! The lock on the directory that the program works in, which makes no file. Where the file system knows no locks, or the directory may
+//! not be opened, the program goes on without. For any other failure it is refused: another program may have the lock.
 use ks_start::{FolderLock, Locking};
 use std::fs::{File, TryLockError};
+use std::io::ErrorKind;
 use std::thread;
 use std::time::Duration;
+
+/// The system's number for a file that may not be opened.
+const EACCES: i32 = 13;
 
 /// How often in a second a lock that another program has is tried again.
 const TRIES_A_SECOND: u64 = 20;
@@ -36,7 +40,7 @@ fn try_folder_for(
     try_folder(folder, lock)
 }
 
-/// The folder, or the current one for an empty path, locked as long as it is open; another program in the way is waited for, as
+/// The directory, or the current one for an empty path, locked as long as it is open; another program in the way is waited for, as
 /// many seconds as are given.
 pub(crate) fn lock_folder(
     rt: &HostRuntime,
@@ -45,12 +49,17 @@ pub(crate) fn lock_folder(
     seconds: u64,
 ) -> Locking<File> {
     let path = if folder.is_empty() { "." } else { folder };
-    let Ok(folder) = File::open(rt, path) else {
-        return Locking::Had(None);
+    let folder = match File::open(rt, path) {
+        Ok(folder) => folder,
+        Err(error) if error.raw_os_error() == Some(EACCES) => return Locking::Had(None),
+        Err(error) => return Locking::Failed(error),
     };
     match try_folder_for(rt, &folder, lock, seconds) {
         Ok(()) => Locking::Had(Some(folder)),
         Err(TryLockError::WouldBlock) => Locking::Busy,
-        Err(TryLockError::Error(_)) => Locking::Had(None),
+        Err(TryLockError::Error(error)) if error.kind() == ErrorKind::Unsupported => {
+            Locking::Had(None)
+        }
+        Err(TryLockError::Error(error)) => Locking::Failed(error),
     }
 }

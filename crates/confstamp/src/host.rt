@@ -1,17 +1,21 @@
 //! The system, as a command comes to its folder by it. Each call is one of the system's, or of the module that makes it.
 use crate::folder_lock::lock_folder;
-use crate::lost_numbers::find_number;
-use ks_start::{FolderLock, Host, Locking, Script};
-use ks_system::{Host as System, SystemTree};
+use crate::lost_numbers::find_loss;
+use ks_start::{FolderLock, Host, Locking, Loss, Script};
+use ks_system::FolderTree;
 use std::alloc::{AllocError, Global};
-use std::fs;
 use std::fs::File;
 use std::hash::{BuildHasher, Hasher, RandomState};
+use std::io::ErrorKind;
 use std::rt::Files;
+use std::{fs, io};
 
-/// Whether files can be looked up there. An empty path is the current folder.
-fn is_folder(files: &impl Files, folder: &str) -> bool {
-    folder.is_empty() || fs::metadata(files, folder).is_ok_and(|found| found.is_dir())
+/// Looks whether there is such a directory. An empty path is the current one.
+fn look_at_folder(files: &impl Files, folder: &str) -> io::Result<()> {
+    if folder.is_empty() || fs::metadata(files, folder)?.is_dir() {
+        return Ok(());
+    }
+    Err(io::Error::new(ErrorKind::NotADirectory, "Not a directory"))
 }
 
 /// The system that runs the program.
@@ -27,12 +31,12 @@ impl<'a> OwnHost<'a> {
 }
 
 impl<'a> Host for OwnHost<'a> {
-    type Place = SystemTree<System<&'a HostRuntime>>;
+    type Place = FolderTree<&'a HostRuntime>;
 
     type Lock = File;
 
-    fn has_folder(&self, folder: &str) -> bool {
-        is_folder(self.rt, folder)
+    fn look(&self, folder: &str) -> io::Result<()> {
+        look_at_folder(self.rt, folder)
     }
 
     fn draw_seed(&self) -> Option<u64> {
@@ -45,31 +49,35 @@ impl<'a> Host for OwnHost<'a> {
         alloc: Global,
         folder: &str,
         seed: u64,
-    ) -> Result<SystemTree<System<&'a HostRuntime>>, AllocError> {
+    ) -> Result<FolderTree<&'a HostRuntime>, AllocError> {
         let root = String::from_str(alloc, folder)?;
-        Ok(SystemTree::new(System::new(self.rt, root)).with_seed(seed))
+        Ok(FolderTree::new(self.rt, root).with_seed(seed))
     }
 
     fn lock(
         &self,
-        _place: &mut SystemTree<System<&'a HostRuntime>>,
+        place: &mut FolderTree<&'a HostRuntime>,
         folder: &str,
         lock: FolderLock,
         seconds: u64,
     ) -> Locking<File> {
-        lock_folder(self.rt, folder, lock, seconds)
+        let locking = lock_folder(self.rt, folder, lock, seconds);
+        if let (FolderLock::Exclusive, Locking::Had(Some(_))) = (lock, &locking) {
+            place.claim_stamps();
+        }
+        locking
     }
 
-    fn find_number(
+    fn find_loss(
         &self,
         _alloc: Global,
-        place: &mut SystemTree<System<&'a HostRuntime>>,
+        place: &mut FolderTree<&'a HostRuntime>,
         folder: &str,
-    ) -> Result<Option<String>, AllocError> {
-        find_number(self.rt, place, folder)
+    ) -> Result<Option<Loss>, AllocError> {
+        find_loss(self.rt, place, folder)
     }
 
-    fn hold(&self, place: &mut SystemTree<System<&'a HostRuntime>>, script: Script) {
+    fn hold(&self, place: &mut FolderTree<&'a HostRuntime>, script: Script) {
         place.hold(script.path, script.found);
     }
 }

@@ -1,29 +1,49 @@
 //! The program `confstamp`: a command line over the current folder, or that of `-C`, and the standard streams.
 #![tactic(auto)]
 
+ghost use Rattle.std.specs.Prelude.{◌≡◌, IfOk};
+ghost use Rattle.confstamp.specs.Starts.{start_status};
+
 mod folder_lock;
 mod host;
 mod lost_numbers;
+mod spent;
 mod standard;
 
 use host::OwnHost;
 use ks_commands::execute;
 use ks_requests::Request;
-use ks_start::{Fault, Front, Invocation, Ready, Settings, Start, come_to_folder, take_front};
+use ks_start::{
+    Fault, Front, Invocation, Loss, Ready, Settings, Start, come_to_folder, take_front,
+};
 use ks_streams::Stream;
 use ks_symbols::Dialect;
-use ks_system::{System, SystemTree};
+use ks_system::{System, SystemTree, reason_of};
 use ks_words::{WordsError, request_of};
+use spent::remove_spent;
 use standard::{Standard, exit_status};
 use std::alloc::{AllocError, Global};
 use std::io::ErrorKind;
 use std::process::ExitCode;
 use std::{env, io};
 
-/// What is said of a file that holds a number, where auto.conf has none, and what to do.
-const LOST_NUMBERS: &str =
-    "has a number, and auto.conf has no generation: another tool wrote it, or it was removed. Remove include/config and all \
-    command files (make clean) and build anew, or say that numbers begin again: confstamp --begin";
+/// The exit status of what was refused.
+const REFUSED: u8 = 2;
+
+/// That of numbers that would be lost: EX_DATAERR of sysexits.
+const NUMBERS_LOST: u8 = 65;
+
+/// That of a command that another program is in the way of: EX_TEMPFAIL of sysexits.
+const TRY_AGAIN: u8 = 75;
+
+/// What is said of numbers where auto.conf has no generation, and what to do.
+const NO_GENERATION: &str =
+    "and auto.conf has no generation: another tool wrote it, or it was removed\n\
+    hint: remove include/config and all command files (make clean) and build anew, or let numbers begin again: confstamp --begin";
+
+/// What is said where another program is at work, and what to do.
+const BUSY: &str = "confstamp: another confstamp is at work in this folder\n\
+    hint: wait, and repeat the command; or let confstamp --wait SECONDS do so";
 
 /// What is said of words in front of a command that are none.
 fn text_of(fault: Fault) -> &'static str {
@@ -43,15 +63,83 @@ fn texts_of(alloc: Global, words: &[String]) -> Result<Vec<&str>, AllocError> {
     Ok(texts)
 }
 
-/// Tells why a command did not come to its folder.
-fn tell_no_start<P: Drop, L: Drop>(rt: &HostRuntime, folder: &str, answer: Start<P, L>) {
-    let _ = match answer {
-        Start::Ready(_) => Ok(()),
-        Start::NoFolder => eprintln!(rt; "confstamp: -C: {folder}: No such folder"),
-        Start::NoSeed => eprintln!(rt; "confstamp: 30 Device\n  the system gives no random number"),
-        Start::Busy => eprintln!(rt; "confstamp: another confstamp is at work in this folder"),
-        Start::LostNumber(path) => eprintln!(rt; "confstamp: {path} {LOST_NUMBERS}"),
+/// Tells that the directory of `-C` is not to be had, and why.
+fn tell_no_folder(rt: &HostRuntime, folder: &str, error: &io::Error) -> Result<(), AllocError> {
+    if error.kind() == ErrorKind::NotFound {
+        let _ = eprintln!(rt; "confstamp: -C: {folder}: No such folder");
+        return Ok(());
+    }
+    let reason = reason_of(rt.alloc(), error)?;
+    let _ = eprintln!(rt; "confstamp: -C: {folder}: {reason}");
+    Ok(())
+}
+
+/// Tells that nobody knows whether another program is at work in the directory, and why.
+fn tell_no_lock(rt: &HostRuntime, folder: &str, error: &io::Error) -> Result<(), AllocError> {
+    let folder = if folder.is_empty() { "." } else { folder };
+    let reason = reason_of(rt.alloc(), error)?;
+    let _ = eprintln!(rt; "confstamp: 30 Device\n  the lock on {folder}: {reason}");
+    Ok(())
+}
+
+/// Tells which numbers would be lost.
+fn tell_loss(rt: &HostRuntime, loss: Loss) {
+    let _ = match loss {
+        Loss::Number(path) => eprintln!(rt; "confstamp: {path} has a number, {NO_GENERATION}"),
+        Loss::Unread(path) => {
+            eprintln!(rt; "confstamp: {path}: it may hold numbers, {NO_GENERATION}")
+        }
     };
+}
+
+/// Tells why a command did not come to its folder, and answers its exit status, by which a script tells what may be tried again from
+/// what has to be mended. These statuses stay.
+fn tell_no_start<P: Drop, L: Drop>(
+    rt: &HostRuntime,
+    folder: &str,
+    answer: Start<P, L>,
+) -> Result<u8, AllocError>
+    ensures { IfOk result (λ status. status ≡ start_status answer) }
+{
+    match answer {
+        Start::Ready(_) => Ok(REFUSED),
+        Start::NoFolder(error) => {
+            tell_no_folder(rt, folder, &error)?;
+            Ok(REFUSED)
+        }
+        Start::NoSeed => {
+            let _ = eprintln!(rt; "confstamp: 30 Device\n  the system gives no random number");
+            Ok(REFUSED)
+        }
+        Start::Busy => {
+            let _ = eprintln!(rt; "{BUSY}");
+            Ok(TRY_AGAIN)
+        }
+        Start::NoLock(error) => {
+            tell_no_lock(rt, folder, &error)?;
+            Ok(REFUSED)
+        }
+        Start::Lost(loss) => {
+            tell_loss(rt, loss);
+            Ok(NUMBERS_LOST)
+        }
+    }
+}
+
+/// Removes what a command with this status leaves to be removed, or says why not. The status is that of all.
+fn clear_away<S: System + Drop>(
+    rt: &HostRuntime,
+    tree: &mut SystemTree<S>,
+    status: u8,
+    asked: &Result<Request, WordsError>,
+) -> u8 {
+    match remove_spent(rt.alloc(), tree, status, asked) {
+        Ok(()) => status,
+        Err(fault) => {
+            let _ = eprintln!(rt; "confstamp: {fault}");
+            2
+        }
+    }
 }
 
 /// Runs the command over a tree and the standard streams.
@@ -64,7 +152,8 @@ fn perform<S: System + Drop>(
     let mut out = Stream::new(Standard::new(rt.stdout()));
     let mut err = Stream::new(Standard::new(rt.stderr()));
     let failures = tree.failures();
-    let status = execute(rt.alloc(), tree, dialect, asked, &mut out, &mut err);
+    let done = execute(rt.alloc(), tree, dialect, asked, &mut out, &mut err);
+    let status = clear_away(rt, tree, done, asked);
     if status == 2 && tree.failures() > failures {
         tell_failure(rt, tree);
     }
@@ -95,10 +184,7 @@ fn run_in_folder(
     let host = OwnHost::new(rt);
     match come_to_folder(&host, rt.alloc(), settings, asked)? {
         Start::Ready(ready) => Ok(perform_locked(rt, ready, asked)),
-        answer => {
-            tell_no_start(rt, settings.folder.as_str(), answer);
-            Ok(2)
-        }
+        answer => tell_no_start(rt, settings.folder.as_str(), answer),
     }
 }
 

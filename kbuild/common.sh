@@ -1,4 +1,6 @@
+# SPDX-License-Identifier: Apache-2.0 OR MIT
 # What the hooks share; sourced by them.
+# shellcheck shell=sh disable=SC2034
 
 case $0 in
 /*) here=${0%/*} ;;
@@ -10,14 +12,15 @@ kinds=include/config/Kconfig.kinds
 kept=include/config/confstamp.config
 last=include/config/confstamp.generation
 records=include/config/confstamp.records
+module_records=.confstamp.records
 dialects=include/config/confstamp.dialect
 split=include/config/confstamp.h
 make_mark=include/config/confstamp.make
 witness=include/config/confstamp.time
 kept_auto=include/config/confstamp.auto
-due=include/config/confstamp.due
 verified=include/config/confstamp.verified
 mark='# Synchronised by the hooks of confstamp'
+marked='^[a-z]*cmd_[^ ]* := include.config.[^ ]*$'
 
 # The program: the one of CONFSTAMP, or that was installed with the hooks, or the one in PATH.
 confstamp=${CONFSTAMP:-$here/../../../bin/confstamp}
@@ -43,7 +46,7 @@ use_dialect "$dialect"
 
 # The head of a script is its help.
 show_help() {
-    sed -n '1,2d; /^#/!q; s/^# \{0,1\}//; p' "$0"
+    sed -n '1d; /^# SPDX/d; 2,3{/^#$/d;}; /^#/!q; s/^# \{0,1\}//; p' "$0"
     exit
 }
 
@@ -67,8 +70,16 @@ folders_only() {
     done
 }
 
+# No hook can do without the program.
+need_program() {
+    command -v "$confstamp" > /dev/null && return
+    tell "$confstamp is missing: install it again, or take the hooks out (install-hooks -R)"
+    exit 2
+}
+
 # $work: a folder that goes when the hook ends.
 make_work_folder() {
+    need_program
     work=$(mktemp -d)
     trap 'rm -rf "$work"' EXIT
     trap 'exit 2' HUP INT TERM
@@ -90,9 +101,13 @@ find_there() {
 list_targets() {
     "$here/objects" "$@" > "$work/targets"
     if [ ! -s "$work/targets" ]; then
-        tell 'nothing was asked'
+        nothing_here "$@"
         exit 2
     fi
+}
+
+nothing_here() {
+    tell "nothing was recorded below ${*:-.}: run it in the folder where make runs"
 }
 
 # recorded DIR..: of what was recorded `targets` has what is there, and `answers` what isn't. And objects that nothing was
@@ -107,7 +122,7 @@ recorded() {
         fi
     done < "$work/recorded" 3> "$work/targets" > "$work/answers"
     [ "$#" -gt 0 ] || set -- .
-    find_there "$@" -name '[!.]*.o' -type f > "$work/objects" || exit 2
+    find_there -H "$@" -name '[!.]*.o' -type f > "$work/objects" || exit 2
     while read -r object; do
         [ -s "${object%/*}/.${object##*/}.cmd" ] || echo "${object#./}"
     done < "$work/objects" >> "$work/targets"
@@ -178,14 +193,14 @@ knows_wait() {
     esac
 }
 
-# patiently TOLD WORD..: the program, with its standard error in TOLD. Where another one is at work in this folder it waits ten
-# seconds for that.
+# patiently TOLD WORD..: the program, with its standard error in TOLD. Where another one is at work in this folder (status 75) it waits
+# ten seconds for that.
 patiently() {
     told=$1
     shift
     status=0
     "$confstamp" "$@" 2> "$told" || status=$?
-    if [ "$status" = 2 ] && grep -q 'another confstamp is at work' "$told" && knows_wait; then
+    if [ "$status" = 75 ] && knows_wait; then
         tell 'waiting for another confstamp that is at work in this folder'
         status=0
         "$confstamp" --wait 10 "$@" 2> "$told" || status=$?
@@ -200,37 +215,15 @@ age_files() {
     tr '\n' '\0' | TZ=UTC0 xargs -0 -r touch -c -t 197001010000.01
 }
 
-# ask_age FOLDER: the answers of all of FOLDER/targets. What fails lacks an answer, or is refused.
-ask_age() {
+# mark_due FOLDER RECORDED [symbol]: of FOLDER/targets each object that is stale, that is refused, or that has no number is due; with
+# `symbol` only what is stale by one. Its command file gets lines that say the stamp of its symbol in place of the saved command, so
+# make compiles it, whatever any clock said, and V=2 says why. The record of that has no such line. FOLDER/answers are those of all.
+# `folders` are those of what was recorded, and those above them. Status 1 where an answer is missing, or the system fails.
+mark_due() {
     : > "$1/answers"
-    [ ! -s "$1/targets" ] || patiently "$1/told" age --from "$1/targets" > "$1/answers" || :
-}
-
-# replace_by_copies FOLDER: the objects that the system refused a time. One of another user can't be given any, and its copy can.
-replace_by_copies() {
-    sed -n 's/ refused 30 Device$//p' "$1/answers" | while read -r object; do
-        { cp "$object" "$object.confstamp" && mv -f "$object.confstamp" "$object"; } 2> "$1/copied" || rm -f "$object.confstamp"
-    done
-}
-
-# age_objects FOLDER RECORDED: each object of FOLDER/targets that is stale by a symbol gets a time before all others, so that make
-# compiles it whatever any clock said. FOLDER/answers are those of all, and FOLDER/due has these. RECORDED lists what was recorded.
-# Status 1 where an answer is missing, or the system fails.
-age_objects() {
-    ask_age "$1"
-    folders=$(read_answers "$1" "$2") || {
-        grep -q ' refused 30 Device$' "$1/answers" && replace_by_copies "$1" && ask_age "$1" && folders=$(read_answers "$1" "$2")
-    } || {
-        tell "what is stale could not be given an old time: $(head -n 1 "$1/told")"
-        return 1
-    }
-    age_to_come "$1" "$2"
-}
-
-# read_answers FOLDER RECORDED: what has the old time goes to FOLDER/due. Prints the folders of what was recorded, and those above
-# them. Status 1 where an answer is missing, or the system fails.
-read_answers() {
-    awk -v due="$1/due" '
+    [ ! -s "$1/targets" ] || patiently "$1/told" stale --from "$1/targets" > "$1/answers" || :
+    folders=$(awk -v due_by="${3:-all}" -v due="$1/due" '
+        function mark(stamp) { print stamp files[stamp] > due; files[stamp] = "" }
         BEGIN { printf "" > due; print "." }
         file == "targets" { asked++; next }
         file == "recorded" {
@@ -239,9 +232,38 @@ read_answers() {
         }
         / refused 30 Device$/ { next }
         { answered++ }
-        $2 == "stale" && ($3 !~ /-/ || $3 == "generation-ahead") { print $1 > due }
-        END { exit answered < asked }
-    ' file=targets "$1/targets" file=answers "$1/answers" file=recorded "$2"
+        $2 == "fresh" || $3 ~ /^no-/ { next }
+        { by_symbol = $2 == "stale" && $3 !~ /-/ }
+        !by_symbol && due_by == "symbol" && $3 != "generation-ahead" { next }
+        match($1, /[^\/]*$/) {
+            stamp = by_symbol ? $3 : "auto.conf"
+            files[stamp] = files[stamp] " " substr($1, 1, RSTART - 1) "." substr($1, RSTART) ".cmd"
+            if (!(++count[stamp] % 1000)) mark(stamp)
+        }
+        END {
+            for (stamp in files) if (files[stamp] != "") mark(stamp)
+            exit answered < asked
+        }
+    ' file=targets "$1/targets" file=answers "$1/answers" file=recorded "$2") || {
+        tell "nobody can say what is stale: $(head -n 1 "$1/told")"
+        return 1
+    }
+    while read -r stamp commands; do
+        # shellcheck disable=SC2086 # the list is words, and Kbuild takes no path with a blank
+        mark_commands "$stamp" $commands || return 1
+    done < "$1/due"
+}
+
+# mark_commands STAMP FILE..: in these command files. A mark that is there goes. None is written into, since it may be a file of
+# another tree as well.
+mark_commands() {
+    stamp=$1
+    shift
+    sed -i -e "/$marked/ { \$!d; s/.*/#/; }" -e '/^[a-z]*cmd_[^ ]* := /H' -e "\$ {
+        x; s,\( := \)[^\n]*,\1include/config/$stamp,g; x
+        /^#\$/! { G; x; s/.*//; x; b; }
+        g; s/^\n//; x; s/.*//; x
+    }" "$@"
 }
 
 # age_to_come FOLDER RECORDED: what has a time to come would look newer than what it is made of, once make has written that. So
@@ -302,11 +324,30 @@ bring_to_now() {
     ' "$1/files-ahead" "$1/made-of" "$1/ahead" | tr '\n' '\0' | xargs -0 -r touch -c
 }
 
-# The witness is a file that says its own time, so whoever finds it elsewhere knows whether times came along. One that is wrong
-# stays so until kbuild/restore has mended the times.
+# listing WORD..: of the files that find WORD.. finds lines `MTIME CTIME PATH`, to the nanosecond. What is gone meanwhile has none.
+as_listed='%Y %y|%Z %z|%n'
+listing() {
+    find "$@" -exec stat -c "$as_listed" {} + | as_listing
+}
+as_listing() {
+    sed 's/^\([0-9]*\) [^.|]*\(\.[0-9]*\)[^|]*|\([0-9]*\) [^.|]*\(\.[0-9]*\)[^|]*|/\1\2 \3\4 /'
+}
+
+# newer_than FILE: of such lines the paths of what has a later mtime.
+newer_than() {
+    awk -v since="$(time_of "$1")" '$1 > since + 0 { sub(/^[^ ]* [^ ]* /, ""); print }'
+}
+
+# time_of FILE: its mtime, or nothing.
+time_of() {
+    listing "$1" 2> /dev/null | cut -d ' ' -f 1
+}
+
+# The witness is a file that says its own time, so whoever finds it elsewhere knows whether times came along. In a file system without
+# times to less than a second it says another one. One that is wrong stays so until kbuild/restore has mended the times.
 leave_witness() {
-    date +%s.%N > "$witness"
-    touch -d "@$(cat "$witness")" "$witness"
+    touch "$witness.now" && time_of "$witness.now" | sed 's/\.0*$/.5/' > "$witness.tmp" &&
+        touch -r "$witness.now" "$witness.tmp" && mv -f "$witness.tmp" "$witness" && rm "$witness.now"
 }
 
 # What the first difference is between .config and the configuration that was synchronised last; nothing where they say the

@@ -1,3 +1,4 @@
+# SPDX-License-Identifier: Apache-2.0 OR MIT
 # The part of confstamp's hooks that make reads. kbuild/install-hooks puts the lines that include it into a kernel tree, and
 # each of these names into one place of the tree's own makefiles. Where this file isn't found the names are empty,
 # and the kernel's own tools do the work.
@@ -26,34 +27,44 @@ endif
 endif
 confstamp-verifies = $(filter-out 0 no,$(CONFSTAMP_VERIFY))
 
-# In front of the kernel's own fixdep, which runs only where what stands before it has failed. The program comes first,
-# since a shell for each object costs more than the record. Of the editions with cmd_T autoksyms.h has to be left out of
-# the dependency file before the record, where it is in use; the hook does that. Where the hook says that fixdep has found
-# another name, with status 3, the recipe ends.
-confstamp-record = $(if $(confstamp-by-hook),,$(confstamp-directly)) $(confstamp-hook) $(depfile) $@ '$(make-cmd)' \
-	$(confstamp-prefix) || $(if $(confstamp-verifies),{ [ $$? != 3 ] || exit 1; false; } ||)
+# In front of the kernel's own fixdep stands a function of the shell, so the words of fixdep are its own, and the command's text
+# stands once. fixdep runs only where what stands before it has failed. The program comes first, since a shell for each object
+# costs more than the record; it removes the dependency file itself, and the recipe ends there, without the process by which Kbuild
+# would. Of the editions with cmd_T autoksyms.h has to be left out of the dependency file before the record, where it is in use; the
+# hook does that. Where the hook says that fixdep has found another name, with status 3, the recipe ends.
+confstamp-record = $(confstamp-begin)confstamp_fixdep() { $(if $(confstamp-by-hook),,$(confstamp-directly) ||) $(confstamp-hook) \
+	"$$2" "$$3" "$$4" $(confstamp-prefix) || $(if $(confstamp-verifies),{ [ $$? != 3 ] || exit 1; false; } ||) "$$@"; }; \
+	confstamp_fixdep
 confstamp-by-hook = $(confstamp-verifies)$(confstamp-elsewhere)$(and $(confstamp-prefix),$(CONFIG_TRIM_UNUSED_KSYMS))
 confstamp-hook = $(CONFSTAMP_KBUILD)/fixdep $(confstamp-dialect) $(if $(confstamp-in-place),--in-place) \
 	$(if $(confstamp-elsewhere),--tree $(objtree)) \
 	$(if $(confstamp-verifies),--verify $(or $(objtree),.)/$(or $(confstamp-fixdep),scripts/basic/fixdep))
-confstamp-directly = { $(CONFSTAMP) record -- $(depfile) $@ '$(make-cmd)' 2> /dev/null >> $(confstamp-records) \
-	$(if $(confstamp-prefix),&& echo 'cmd_$@ := $$(savedcmd_$@)' >> $(dot-target).cmd); } ||
+confstamp-directly = { $(CONFSTAMP) record --remove-depfile -- "$$2" "$$3" "$$4" > /dev/null 2>&1 \
+	$(if $(confstamp-prefix),&& echo 'cmd_$@ := $$(savedcmd_$@)' >> $(confstamp-command-file)) && exit; }
 
 # In the makefiles of U-Boot and BusyBox the command file is written aside, and moved to its place behind the call of fixdep; in
 # those of Xen it isn't. The sources are scanned by the project's own words, and own-stamps.sed adds what its own tools would
 # look for. Xen's words are those of Linux, which U-Boot's are with more, and its conf is as old as U-Boot's.
 ifdef confstamp-dialect
 confstamp-aside = $(@D)/.$(@F).$(if $(confstamp-in-place),cmd.)tmp
-confstamp-directly = { $(CONFSTAMP) $(confstamp-dialect) record -- $(depfile) $@ '$(make-cmd)' 2> /dev/null \
-	>> $(confstamp-records) && sed -nf $(CONFSTAMP_KBUILD)/own-stamps.sed $(@D)/.$(@F).cmd > $(confstamp-aside) \
-	$(if $(confstamp-in-place),&& mv -f $(confstamp-aside) $(@D)/.$(@F).cmd); } ||
+confstamp-directly = { $(CONFSTAMP) $(confstamp-dialect) record -- "$$2" "$$3" "$$4" > /dev/null 2>&1 \
+	&& sed -nf $(CONFSTAMP_KBUILD)/own-stamps.sed $(confstamp-command-file) > $(confstamp-aside) \
+	$(if $(confstamp-in-place),&& mv -f $(confstamp-aside) $(confstamp-command-file)); }
 endif
 
 # In front of the command by which Xen removes auto.conf before each synchronisation: that touches all symbols.
 confstamp-keeps = @:
 
-# What record says goes to the list of what was recorded here. An external module may stand in nobody's own tree.
-confstamp-records = $(if $(KBUILD_EXTMOD),/dev/null,include/config/confstamp.records)
+# As make makes the recipe, before the compiler runs: the command file is emptied, so that make compiles once more what is compiled
+# and not recorded, as where it is killed in between; and the target is listed as one that was recorded in this tree, or, where it
+# stands elsewhere, in the folder of this external module. make itself writes, since a process for each object would cost more.
+confstamp-begin = $(if $(confstamp-only-asked),,$(if $(wildcard $(confstamp-command-file)),$(confstamp-empty))$(if $(wildcard \
+	$(confstamp-records)),$(confstamp-list)))
+confstamp-command-file = $(@D)/.$(@F).cmd
+confstamp-records = $(if $(confstamp-outside),$(if $(confstamp-elsewhere),.,$(KBUILD_EXTMOD))/.confstamp.records,$(if \
+	$(confstamp-elsewhere),$(confstamp-elsewhere)/)include/config/confstamp.records)
+confstamp-outside = $(if $(filter /% ../%,$(confstamp-target)),$(filter-out $(realpath $(or $(objtree),.))/%,$(realpath $(@D))/))
+confstamp-target = $(call confstamp-named,$@)
 
 # In front of the command of the kernel's conf, or of BusyBox's.
 confstamp-syncconfig = $(if $(filter syncconfig silentoldconfig,$@),$(CONFSTAMP_KBUILD)/syncconfig $(confstamp-dialect) \
@@ -103,12 +114,10 @@ endif
 
 # Where a recipe fails make removes its targets, and with auto.conf the generation would be lost; a synchronisation that fails
 # leaves its files as they may be. One that is part of a build counts no objects, since make is about to compile them. After each
-# make begins again, and must find that all is synchronised: it doesn't go on for ever where it never does. What is still due since
-# an earlier one gets its old time once more, where it lost that.
+# make begins again, and must find that all is synchronised: it doesn't go on for ever where it never does.
 define confstamp-rules
 .PRECIOUS: $(addprefix include/,config/auto.conf config/auto.conf.cmd generated/autoconf.h generated/rustc_cfg)
 export CONFSTAMP_BUILDS := yes
-$(if $(MAKE_RESTARTS),,$(if $(and $(wildcard include/config/confstamp.due),$(confstamp-synchronised)),$(confstamp-age)))
 $(if $(confstamp-synchronised),,$(if $(filter-out 1 2 3,$(MAKE_RESTARTS)),$(confstamp-never))$(confstamp-last-file): FORCE)
 $(confstamp-marks)
 endef
@@ -117,23 +126,26 @@ endef
 ifneq ($(filter %Makefile.build,$(MAKEFILE_LIST)),)
 confstamp-rules :=
 endif
-confstamp-age = $(if $(CONFSTAMP_ASKS),,$(if $(shell $(if $(confstamp-elsewhere),cd $(objtree) &&) $(CONFSTAMP_KBUILD)/age \
-	$(if $(confstamp-elsewhere),$(CURDIR),$(KBUILD_EXTMOD)) || echo failed),$(confstamp-not-aged)))
-confstamp-not-aged = $(error what is stale could not be given an old time)
 confstamp-never = $(error confstamp has synchronised $(MAKE_RESTARTS) times, and $(confstamp-config) still isn't what was synchronised)
 
 # kbuild/restore wants to know whether the last make of the whole ended well. Where one begins this file says `begun`, and at its
-# end `ended`. A make of some goals alone turns `ended` into `part`. The recipe comes out empty, so no process is started.
+# end `ended`, unless make was told to pass over errors. A make of some goals alone turns `ended` into `part`. The recipe comes out
+# empty, so no process is started. Behind the word stands this folder. Where that is another one the tree may be a copy by hard
+# links, and what is written into here must not be a file of the other tree.
 confstamp-make-mark = include/config/confstamp.make
 ifndef confstamp-whole
 confstamp-whole = $(if $(confstamp-dialect),_all,all)
 endif
 ifeq ($(filter 3.% 4.0% 4.1%,$(MAKE_VERSION)),)
-confstamp-write-make-mark = $(file > $(confstamp-make-mark),$(1))
+confstamp-empty = $(file > $(confstamp-command-file))
+confstamp-list = $(file >> $(confstamp-records),record $(confstamp-target))
+confstamp-write-make-mark = $(file > $(confstamp-make-mark),$(1) $(CURDIR))
 confstamp-verified-all = $(file > $(confstamp-verified),ended)
 confstamp-read-make-mark = $(file < $(confstamp-make-mark))
 else
-confstamp-write-make-mark = $(shell echo $(1) > $(confstamp-make-mark))
+confstamp-empty = $(shell : > $(confstamp-command-file))
+confstamp-list = $(shell echo 'record $(confstamp-target)' >> $(confstamp-records))
+confstamp-write-make-mark = $(shell echo '$(1) $(CURDIR)' > $(confstamp-make-mark))
 confstamp-verified-all = $(shell echo ended > $(confstamp-verified))
 confstamp-read-make-mark = $(shell cat $(confstamp-make-mark) 2> /dev/null)
 endif
@@ -144,20 +156,28 @@ confstamp-goals = $(or $(MAKECMDGOALS),all)
 confstamp-goals-of-all = all _all __all $(confstamp-whole:_%=%)
 confstamp-begun = $(if $(filter $(confstamp-goals-of-all),$(confstamp-goals)),begun,$(if $(filter begun \
 	part,$(confstamp-left-mark)),,part))
-confstamp-left-mark = $(or $(confstamp-read-make-mark),$(if $(wildcard $(confstamp-make-mark)),begun))
-confstamp-ended = $(if $(confstamp-marked),$(call confstamp-write-make-mark,ended)$(if \
-	$(confstamp-verifies),$(confstamp-verified-all)))
+confstamp-left-mark = $(or $(firstword $(confstamp-read-make-mark)),$(if $(wildcard $(confstamp-make-mark)),begun))
+confstamp-ended = $(if $(confstamp-marked),$(if $(findstring i,$(confstamp-options)),,$(call confstamp-write-make-mark,ended)$(if \
+	$(confstamp-verifies),$(confstamp-verified-all))))
+confstamp-its-own = $(if $(filter-out $(CURDIR),$(word 2,$(confstamp-read-make-mark))),$(shell find . -name .git -prune -o \
+	\( -name '.*.cmd' -o -path './include/config/confstamp.[!t]*' \) -type f -links +1 -exec sed -i '' {} +))
 define confstamp-marks
-$(if $(confstamp-marked),$(if $(confstamp-begun),$(call confstamp-write-make-mark,$(confstamp-begun))))
+$(if $(confstamp-marked),$(confstamp-its-own)$(if $(confstamp-begun),$(call confstamp-write-make-mark,$(confstamp-begun))))
 $(if $(KBUILD_EXTMOD),,$(confstamp-whole): ; $$(confstamp-ended))
 endef
 
-# An external module's objects are in no list of the tree's, whose numbers may have gone on since they were recorded. So they are
-# looked for once, as make begins.
-ifneq ($(KBUILD_EXTMOD),$(CONFSTAMP_AGED))
-export CONFSTAMP_AGED := $(KBUILD_EXTMOD)
-$(if $(KBUILD_EXTMOD),$(confstamp-age))
+# The tree's numbers may have gone on since an external module's objects were recorded. So these are asked about as make begins.
+confstamp-mark-due = $(if $(CONFSTAMP_ASKS),,$(if $(shell $(if $(confstamp-elsewhere),cd $(objtree) &&) $(CONFSTAMP_KBUILD)/mark \
+	$(if $(confstamp-elsewhere),$(CURDIR),$(KBUILD_EXTMOD)) || echo failed),$(error make could not be told what is stale)))
+ifneq ($(KBUILD_EXTMOD),$(CONFSTAMP_MARKED))
+export CONFSTAMP_MARKED := $(KBUILD_EXTMOD)
+$(if $(KBUILD_EXTMOD),$(confstamp-mark-due))
 endif
+
+# What is due says a stamp in place of its saved command. make takes that for a newer file: with V=2 it names it, and with
+# KBUILD_NOCMDDEP=1, where no command counts, it compiles the object even so. BusyBox has a word for commands alone.
+confstamp-due = $(if $(word 2,$(savedcmd_$@)),,$(filter-out $?,$(filter include/config/%,$(savedcmd_$@))))
+$(foreach word,newer-prereqs any-prereq arg-check,$(eval $(word) = $(value $(word))$$(confstamp-due)))
 
 # kbuild/stale --make asks what make would do, by make -n. Recipes that begin with `+` run even then, and the link of vmlinux and
 # of modules does, and rustc. So no recipe is left. Of each target that make comes to, lines are told:

@@ -1,3 +1,4 @@
+# SPDX-License-Identifier: Apache-2.0 OR MIT
 # own-stamps.sed: a command file by confstamp, as the make of U-Boot and of BusyBox reads it; `sed -n`.
 #
 #     sed -nf kbuild/own-stamps.sed .x.o.cmd

@@ -1,3 +1,4 @@
+# SPDX-License-Identifier: Apache-2.0 OR MIT
 # confstamp.mk: lets a makefile compile by symbol. For a build whose sources all include one header of all symbols, and that has
 # no fixdep. docs/make.md tells how it is used; examples/make-fragment is a makefile that does.
 #
@@ -75,7 +76,8 @@ $(confstamp-state)/confstamp.mk: $(confstamp-sources) $(confstamp-due)
 	$(confstamp-program) $(confstamp-words) -C $(confstamp-dir) --wait 60 sync $(abspath $(confstamp-kconfig) $(confstamp-config)) \
 	> /dev/null && \
 	cat $(@D)/auto.conf $(confstamp-header) >> $(confstamp-kept).new && { echo '-include $(@D)/auto.conf' && \
-	sed -n 's/^#generation /confstamp-generation := /p' $(@D)/auto.conf; } > $@ && mv $(confstamp-kept).new $(confstamp-kept); }
+	sed -n 's/^#generation /confstamp-generation := /p' $(@D)/auto.conf; } > $@ && \
+	cp -p $(@D)/../generated/autoconf.h $(@D)/header.kept && mv $(confstamp-kept).new $(confstamp-kept); }
 
 .PHONY: confstamp-always
 confstamp-always:
@@ -106,13 +108,13 @@ confstamp-tell = $(if $(confstamp-silent),:,$(if $(and $(2),$(if $(filter 1,$(V)
 
 # The stamps are left out of what make looks at, since the numbers are asked. A file that is gone counts as new. What the
 # launcher has no record of (docs/ninja.md says when) is made again at each other generation.
-confstamp-known = sed -e '/^  include\/config\/[A-Za-z0-9_]*\( \\\)*$$/d' -e '1s/^[^:]*:/confstamp-files :=/' \
+confstamp-known = sed -e '/^  \(\/.*\/\)*include\/config\/[A-Za-z0-9_]*\( \\\)*$$/d' -e '1s/^[^:]*:/confstamp-files :=/' \
 	$(confstamp-depfile) && printf '\n%s\n' '$@: $$(confstamp-files)' '$$(confstamp-files):' && \
 	if [ -e $(confstamp-cmd) ]; then echo 'confstamp-recorded += $@'; \
 	else echo 'confstamp-at_$@ := $(confstamp-generation)'; fi &&
 confstamp-options = $(if $(confstamp-own-header),--header $(confstamp-own-header))
-confstamp-cc = $(if $(confstamp-elsewhere),cd $(confstamp-dir) &&) confstamp-cc $(confstamp-words) $(confstamp-options) \
-	$(if $(confstamp-elsewhere),env -C $(CURDIR)) $(1) -MD -MF $(confstamp-depfile)
+confstamp-cc = confstamp-cc $(if $(confstamp-elsewhere),-C $(confstamp-dir)) $(confstamp-words) $(confstamp-options) \
+	$(1) -MD -MF $(confstamp-depfile)
 confstamp-record = $(1) && { $(confstamp-program) $(confstamp-words) -C $(confstamp-dir) depfile $(confstamp-options) -- \
 	$(confstamp-depfile) $@ '$(confstamp-text)' > /dev/null || rm -f $(confstamp-cmd); }
 
@@ -120,10 +122,10 @@ confstamp-compile = $(if $(confstamp-why),$(call confstamp-run,$(1),$(2),$(confs
 confstamp-generate = $(if $(confstamp-why),$(call confstamp-run,$(1),$(2),$(confstamp-record),$(confstamp-known)))
 confstamp-link = $(if $(or $(confstamp-why),$(filter $@,$(confstamp-ahead))),$(call confstamp-run,$(1),$(2),$(1),))
 
-# What is known is read, and confstamp is asked of the recorded targets: each that is stale is named, and gets a time before
-# all others. One that it doesn't answer for counts as stale. Before that each with a time to come gets the present one, so
-# that what is made of it now is newer. A make that was called by another one, of the same folder, leaves times alone, since
-# the other one may be compiling.
+# What is known is read, and confstamp is asked of the recorded targets: each that is stale is named, and removed, so that it is
+# made by whatever tool. One that it doesn't answer for counts as stale. Before that each with a future mtime gets the present
+# one, so that what is made of it now is newer. A make that was called by another one, of the same directory, removes nothing,
+# since the other one may be compiling; nor does make -n.
 confstamp-watch = $(if $(strip $(1)),$(eval $(1): confstamp-always) \
 	$(foreach target,$(1),$(eval confstamp-watched_$(target) := yes)) \
 	$(call confstamp-read,$(wildcard $(foreach target,$(1),$(call confstamp-mk,$(target))))) \
@@ -136,16 +138,18 @@ endef
 confstamp-space := $(subst ,, )
 confstamp-list := $(confstamp-state)/confstamp.list
 confstamp-now := $(confstamp-state)/confstamp.now
-confstamp-first := $(if $(filter $(abspath $(confstamp-dir)),$(CONFSTAMP_AGED)),,yes)
-export CONFSTAMP_AGED := $(abspath $(confstamp-dir))
+confstamp-gone := $(confstamp-state)/confstamp.gone
+confstamp-first := $(if $(filter $(abspath $(confstamp-dir)),$(CONFSTAMP_ASKED))$(findstring n,$(firstword -$(MAKEFLAGS))),,yes)
+export CONFSTAMP_ASKED := $(abspath $(confstamp-dir))
 confstamp-ask = $(file > $(confstamp-list),$(subst $(confstamp-space),$(confstamp-line-feed),$(strip $(confstamp-recorded)))) \
 	$(eval confstamp-stale := $(shell touch $(confstamp-now); $(if $(confstamp-first),$(confstamp-to-now);) \
-	$(confstamp-program) -C $(confstamp-dir) --wait 60 $(if $(confstamp-first),age,stale) --from $(abspath $(confstamp-list)) | \
+	$(confstamp-program) -C $(confstamp-dir) --wait 60 stale --from $(abspath $(confstamp-list)) | \
 	awk ' \
 		asked { if ($$1 != "") unanswered[$$1]; next } \
 		$$2 == "fresh" { delete unanswered[$$1] } \
 		END { for (target in unanswered) print target } \
-	' asked=yes $(confstamp-list) asked= -))
+	' asked=yes $(confstamp-list) asked= - | \
+	$(if $(confstamp-first),tee $(confstamp-gone); tr '\n' '\0' < $(confstamp-gone) | xargs -0r rm -f,cat)))
 confstamp-to-now = tr '\n' '\0' < $(confstamp-list) | xargs -0r sh -c \
 	'find "$$@" -prune -newer $(confstamp-now) -exec touch -r $(confstamp-now) {} + 2> /dev/null' -
 

@@ -1,0 +1,46 @@
+# confstamp.cmake: the synchronisation in a build by CMake, whose objects are compiled by symbol. It is included after `project`,
+# and before the targets.
+#
+#     set(confstamp_kconfig FILE)      the Kconfig (Kconfig of the sources)
+#     set(confstamp_dotconfig FILE)    the configuration (.config of the sources)
+#     include(.../lib/confstamp/ninja/confstamp.cmake)
+#
+# It synchronises when cmake configures. At the beginning of each build the texts of both files are compared with what was
+# synchronised, whatever their times: ninja runs cmake again where they differ, and under make each target waits for it.
+
+if(NOT confstamp_kconfig)
+  set(confstamp_kconfig ${CMAKE_SOURCE_DIR}/Kconfig)
+endif()
+if(NOT confstamp_dotconfig)
+  set(confstamp_dotconfig ${CMAKE_SOURCE_DIR}/.config)
+endif()
+set_property(DIRECTORY APPEND PROPERTY CMAKE_CONFIGURE_DEPENDS ${confstamp_kconfig} ${confstamp_dotconfig})
+execute_process(COMMAND confstamp-sync -C ${CMAKE_BINARY_DIR} ${confstamp_kconfig} ${confstamp_dotconfig} COMMAND_ERROR_IS_FATAL ANY)
+foreach(confstamp_language C CXX ASM)
+  set(CMAKE_${confstamp_language}_COMPILER_LAUNCHER confstamp-cc ${CMAKE_${confstamp_language}_COMPILER_LAUNCHER})
+endforeach()
+
+set(confstamp_compare confstamp-sync -C ${CMAKE_BINARY_DIR} --if-changed ${confstamp_kconfig} ${confstamp_dotconfig})
+if(CMAKE_GENERATOR MATCHES Ninja)
+  set(confstamp_done ${CMAKE_BINARY_DIR}/include/config/synchronised)
+  add_custom_command(OUTPUT confstamp-always COMMAND true)
+  set_property(SOURCE ${CMAKE_CURRENT_BINARY_DIR}/confstamp-always PROPERTY SYMBOLIC TRUE)
+  add_custom_command(OUTPUT ${confstamp_done} COMMAND ${confstamp_compare} DEPENDS confstamp-always COMMENT SYNC)
+  add_custom_target(confstamp-synchronise DEPENDS ${confstamp_done})
+  set_property(DIRECTORY APPEND PROPERTY CMAKE_CONFIGURE_DEPENDS ${confstamp_done})
+else()
+  add_custom_target(confstamp-synchronise ALL COMMAND ${confstamp_compare} COMMENT SYNC)
+  function(confstamp_wait directory)
+    get_property(targets DIRECTORY ${directory} PROPERTY BUILDSYSTEM_TARGETS)
+    foreach(target ${targets})
+      if(NOT target STREQUAL confstamp-synchronise)
+        add_dependencies(${target} confstamp-synchronise)
+      endif()
+    endforeach()
+    get_property(below DIRECTORY ${directory} PROPERTY SUBDIRECTORIES)
+    foreach(each ${below})
+      confstamp_wait(${each})
+    endforeach()
+  endfunction()
+  cmake_language(DEFER DIRECTORY ${CMAKE_SOURCE_DIR} CALL confstamp_wait ${CMAKE_SOURCE_DIR})
+endif()

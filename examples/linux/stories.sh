@@ -1,3 +1,4 @@
+# SPDX-License-Identifier: Apache-2.0 OR MIT
 # What the stories of examples/linux/caches share, and the stories; sourced by it.
 
 # ends STATUS COMMAND: what it prints goes to `log`.
@@ -698,4 +699,103 @@ twenty_jobs() {
     done
     say "$story: after each of the $(echo "$kinds" | tr -s ' \n' '\n\n' | tail -n "+${FIRST_JOB:-1}" | grep -c good) good ones" \
         'every product is that of a clean build'
+}
+
+# What ended with status 0 and a wrong product once. Each story ends with the same sources and the same .config, so one clean build is
+# held against all of them. No object is compiled twice by one make.
+one_source_more() {
+    echo 'const int params_of_log = CONFIG_LOG_BUF_SHIFT;' >> kernel/params.c
+    changed=kernel/params.c
+}
+
+flipped_and_right() {
+    configure '--set-val LOG_BUF_SHIFT 15 --enable FAT_DEFAULT_UTF8'
+    ends 0 'make -j$(nproc)'
+    compiled > "$work/compiled"
+    [ -z "$(uniq -d "$work/compiled")" ] || fail "$label: compiled twice: $(uniq -d "$work/compiled" | head -n 3)"
+    [ "$(log_buffer)" = 32768 ] || fail "$label: __log_buf has $(log_buffer) bytes"
+    same_as_clean
+}
+
+killed_at_a_record() {
+    begin 'a make that is killed between the compiler and the record'
+    one_source_more
+    printf '%s\n' '#!/bin/sh' 'case "$*" in "record "*params.o*) kill -KILL 0 ;; esac' "exec '$prefix/bin/confstamp' \"\$@\"" \
+        > "$work/killer"
+    chmod +x "$work/killer"
+    ! setsid -w make CONFSTAMP="$work/killer" kernel/params.o > "$work/log" 2>&1 || fail "$label: make was not killed"
+    make_all
+    grep -qx kernel/params.o "$work/compiled" || fail "$label: kernel/params.o is left"
+    flipped_and_right
+    grep -qx kernel/params.o "$work/compiled" || fail "$label: kernel/params.o is left, and it names the symbol"
+    nothing_left
+    say "$label: the next make compiled $(how_many "$work/compiled"); $asked"
+}
+
+stamps_lost() {
+    begin 'include/config was removed, and symbols changed at once'
+    one_source_more
+    make_all
+    rm -r include/config
+    flipped_and_right
+    nothing_left
+    say "$label: make compiled $(how_many "$work/compiled"); $asked"
+}
+
+# The symbol of the damaged stamp is the one of printk.o that the fewest objects mention.
+nobody_can_say() {
+    begin 'a damaged stamp, and an object by the kernel'\''s own fixdep, two hours ahead'
+    one_source_more
+    ends 0 "$hooks/install-hooks -R ."
+    ends 0 'make -j$(nproc)'
+    ends 0 "$hooks/install-hooks ."
+    ends 0 "$hooks/cost --all"
+    damaged=$(sed -n 's,^.*(wildcard include/config/\([A-Z0-9_]*\)) .$,\1,p' kernel/printk/.printk.o.cmd | while read -r name; do
+        [ ! -s "include/config/$name" ] || echo "$name"
+    done | awk 'FILENAME != "-" { order[$1] = FNR; next } { print order[$1], $1 }' "$work/log" - | sort -rn | sed -n '1s/.* //p')
+    echo x > "include/config/$damaged"
+    touch -d '+2 hours' kernel/printk/printk.o kernel/params.o
+    flipped_and_right
+    grep -qx kernel/params.o "$work/compiled" && grep -qx kernel/printk/printk.o "$work/compiled" ||
+        fail "$label: one of them is left"
+    say "$label: $damaged was damaged; make compiled $(how_many "$work/compiled"), each object is right"
+}
+
+errors_passed_over() {
+    begin 'make -i, and a cache without times'
+    one_source_more
+    echo '#error this does not compile' >> kernel/params.c
+    make -i -j"$(nproc)" > "$work/log" 2>&1 || :
+    [ "$(sed 's/ .*//' include/config/confstamp.make)" = begun ] || fail "$label: it counts as a make of all"
+    through_a_cache --touch
+    ends 0 "$hooks/restore"
+    says 'the last make did not end well'
+    ends 2 'make -j$(nproc)'
+    sed -i '$d' kernel/params.c
+    flipped_and_right
+    nothing_left
+    say "$label: make compiled $(how_many "$work/compiled") after it had failed; $asked"
+}
+
+# The folder is switched off as the tree is listed, so only M= knows of it. The kernel that M= finds lacks what FAT selects, which modpost
+# would call an error.
+driver_by_M() {
+    begin 'a folder that make M= builds first, two hours ahead'
+    one_source_more
+    configure '--disable VFAT_FS --disable FAT_FS'
+    make_all
+    find fs/fat \( -name '*.o' -o -name '*.ko' -o -name '*.mod*' -o -name '.*.cmd' -o -name '*.a' \) -exec rm -f {} +
+    rm include/config/confstamp.records
+    ends 0 'make syncconfig'
+    configure '--module FAT_FS --module VFAT_FS'
+    ends 0 'make syncconfig && make modules_prepare && make M=fs/fat KBUILD_MODPOST_WARN=1 modules'
+    find fs/fat -name '*.o' -exec touch -d '+2 hours' {} +
+    configure '--set-val LOG_BUF_SHIFT 15 --enable FAT_DEFAULT_UTF8'
+    ends 0 'make syncconfig'
+    says 'objects stale'
+    counted=$(sed -n 's/.*changed, //p' "$work/log")
+    flipped_and_right
+    grep -q fs/fat/ "$work/compiled" || fail "$label: fs/fat is left"
+    nothing_left
+    say "$label: $counted; make compiled $(how_many "$work/compiled"), of fs/fat $(grep -c fs/fat/ "$work/compiled"); $asked"
 }

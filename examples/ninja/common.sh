@@ -1,3 +1,4 @@
+# SPDX-License-Identifier: Apache-2.0 OR MIT
 # What the checks of examples/ninja, examples/cmake and examples/meson share; sourced by them, after they have set
 #     example             its name
 #     folder              where the build runs, below the tree
@@ -40,8 +41,9 @@ trap 'exit 1' HUP INT TERM
 needs "${CC:-cc}" ninja ps setsid
 
 # As tools/install puts them.
-mkdir "$work/bin"
+mkdir -p "$work/bin" "$work/lib/confstamp/ninja"
 cp "$confstamp" "$root/ninja/confstamp-cc" "$root/ninja/confstamp-sync" "$work/bin"
+cp "$root/ninja/confstamp.cmake" "$work/lib/confstamp/ninja"
 # The compiler tells what it compiles. Where there is a file `slow` it takes its time.
 cat > "$work/bin/cc" << WORDS
 #!/bin/sh
@@ -57,7 +59,20 @@ case " \$* " in
 esac
 exec "$(command -v "${CC:-cc}")" "\$@"
 WORDS
-chmod +x "$work/bin/cc"
+# confstamp-cc looks into scripts, and into no other program: this one calls the script.
+mv "$work/bin/cc" "$work/bin/cc.sh"
+"$(command -v "${CC:-cc}")" -x c - -DSCRIPT="\"$work/bin/cc.sh\"" -o "$work/bin/cc" << 'END'
+#include <unistd.h>
+int main(int count, char **words)
+{
+    char *all[count + 2];
+    all[0] = "sh";
+    all[1] = SCRIPT;
+    for (int at = 1; at <= count; at++)
+        all[at + 1] = words[at];
+    return execv("/bin/sh", all);
+}
+END
 PATH=$work/bin:$PATH
 export PATH
 unset CC

@@ -1,3 +1,4 @@
+# SPDX-License-Identifier: Apache-2.0 OR MIT
 # What the tests beside this file share; sourced by them. Each prints one line, `NAME: COUNTS`, and ends with status 0
 # (passed), 1 (a case failed) or 77 (skipped: something is missing here). CONFSTAMP is the program
 # (crates/confstamp/out/confstamp), CC the C compiler (cc), TMPDIR where to work (/dev/shm where it has room, since
@@ -16,7 +17,7 @@ failed=0
 # The head of the script, where the only word is --help.
 case ${1:-} in
 -h | --help)
-    sed -n '3,/^$/s/^#\{0,1\} \{0,1\}//p' "$0"
+    sed -n '1d; /^# SPDX/d; 2,3{/^#$/d;}; /^#/!q; s/^# \{0,1\}//; p' "$0"
     exit 0
     ;;
 esac

@@ -1,3 +1,4 @@
+/* SPDX-License-Identifier: Apache-2.0 OR MIT */
 /* Runs the program on damaged files, and compares with a table; or makes the table, from model.c alone.
 
        cuts --make FILE..           prints the table for these files of the current folder

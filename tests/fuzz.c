@@ -1,3 +1,4 @@
+/* SPDX-License-Identifier: Apache-2.0 OR MIT */
 /* Runs the program on trees that are made at random, and compares what it prints, its status and every file of the tree
    with what model.c says: answers by the definitions, a refusal leaves the tree, what was written reads back.
 

@@ -1,3 +1,4 @@
+/* SPDX-License-Identifier: Apache-2.0 OR MIT */
 /* What confstamp is to do, in C: the texts of docs/formats.md, the refusals of docs/refusals.md, and each command over files
    in memory. It is written from these two documents and shares no code with the program, so that the sweeps beside it have
    answers to compare with. All memory comes from one arena, which forget_all empties. */

@@ -1,3 +1,4 @@
+/* SPDX-License-Identifier: Apache-2.0 OR MIT */
 /* Preloaded into the program: makes one call of the C library fail, and writes a byte to descriptor 9 where it did.
 
    REFUSE=N     the Nth call of malloc or realloc gives nothing

@@ -1,3 +1,4 @@
+/* SPDX-License-Identifier: Apache-2.0 OR MIT */
 /* The program as the sweeps run it, in the current folder, with its two outputs in files beside that folder. */
 #ifndef PROGRAM_H
 #define PROGRAM_H

@@ -1,3 +1,4 @@
+/* SPDX-License-Identifier: Apache-2.0 OR MIT */
 /* Tells in which state a broken-off command left a tree.
 
        states AFTER SNAPSHOT..

@@ -1,3 +1,4 @@
+/* SPDX-License-Identifier: Apache-2.0 OR MIT */
 /* Prints a source of N names, or a dependency file of N paths, that all begin at one place of a table by the kit's FoldHasher
    under the seed 0. A table under that seed compares each of them with most of the others; one under a seed that nobody
    knows has them all over it, as any names. With `others` they are as many of the same length that nobody chose.

@@ -1,3 +1,4 @@
+# SPDX-License-Identifier: Apache-2.0 OR MIT
 # What the measurements under bench/ share; sourced by them, after they have set `root` and `bench`.
 
 fail() {
@@ -7,7 +8,7 @@ fail() {
 
 # The head of a script is its help.
 if [ "${1-}" = --help ]; then
-    sed -n '/^#!/d; /^#/!q; s/^# \{0,1\}//; p' "$0"
+    sed -n '1d; /^# SPDX/d; 2,3{/^#$/d;}; /^#/!q; s/^# \{0,1\}//; p' "$0"
     exit
 fi
 

@@ -1,3 +1,4 @@
+# SPDX-License-Identifier: Apache-2.0 OR MIT
 # The checks of the program: each folder of examples/, and each executable file of tests/. Sourced by .ci/run and tools/test,
 # which stand at the top of the repository then and have set CONFSTAMP. In bash.
 #

@@ -1,3 +1,4 @@
+# SPDX-License-Identifier: Apache-2.0 OR MIT
 # What tools/install puts where, tools/uninstall takes away and tools/release packs. Sourced by them, after they have set
 # `top`, the top of the repository, and `made`, where what was built lies, if that is another place than tools/install's.
 
@@ -11,11 +12,16 @@ tools/bare-kconfig bin/bare-kconfig
 tools/paste-check bin/paste-check
 ninja/confstamp-cc bin/confstamp-cc
 ninja/confstamp-sync bin/confstamp-sync
+ninja/confstamp.cmake lib/confstamp/ninja/confstamp.cmake
+kbuild/confstamp-kbuild bin/confstamp-kbuild
 make/confstamp.mk lib/confstamp/make/confstamp.mk
 tools/bare-kconfig lib/confstamp/tools/bare-kconfig
 $made/bash share/bash-completion/completions/confstamp
 $made/zsh share/zsh/site-functions/_confstamp
 $made/fish share/fish/vendor_completions.d/confstamp.fish
+tools/kbuild-completion/bash share/bash-completion/completions/confstamp-kbuild
+tools/kbuild-completion/zsh share/zsh/site-functions/_confstamp-kbuild
+tools/kbuild-completion/fish share/fish/vendor_completions.d/confstamp-kbuild.fish
 END
     for page in "$top"/docs/*.1; do
         echo "docs/${page##*/} share/man/man1/${page##*/}"
@@ -24,7 +30,7 @@ END
         echo "docs/${document##*/} share/doc/confstamp/docs/${document##*/}"
     done
     for hook in "$top"/kbuild/*; do
-        [ ! -f "$hook" ] || echo "kbuild/${hook##*/} lib/confstamp/kbuild/${hook##*/}"
+        [ ! -f "$hook" ] || [ "${hook##*/}" = confstamp-kbuild ] || echo "kbuild/${hook##*/} lib/confstamp/kbuild/${hook##*/}"
     done
 }
 
@@ -54,14 +60,16 @@ packed_readme() {
 take_prefix() {
     case $#:${1-} in
     1:--help)
-        sed -n '/^#!/d; /^#/!q; s/^# \{0,1\}//; p' "$0"
+        sed -n '1d; /^# SPDX/d; 2,3{/^#$/d;}; /^#/!q; s/^# \{0,1\}//; p' "$0"
         exit
         ;;
     0: | 1:[!-]*)
         prefix=${1:-$HOME/.local}
         ;;
     *)
-        echo "usage: tools/${0##*/} [PREFIX]" >&2
+        usage=
+        [ "${0##*/}" != install ] || usage=' [--shared] [--cpu x86-64-v3]'
+        echo "usage: tools/${0##*/}$usage [PREFIX]" >&2
         exit 2
         ;;
     esac

@@ -1,3 +1,4 @@
+# SPDX-License-Identifier: Apache-2.0 OR MIT
 # Proves the crates of the program side by side and builds it. Sourced by tools/install and tools/release, after they have set
 # `top`, the top of the repository, and `log`, the file for the prover's own words.
 #
@@ -18,6 +19,7 @@ ks_system 350
 ks_streams 32
 ks_engine 443
 ks_parallel 83
+ks_builds 60
 ks_requests 265
 ks_words 155
 ks_start 96
@@ -138,6 +140,38 @@ prove_copy() {
     echo 'memory was short: what is left is proved one at a time'
     rm "$1/.git/status"
     run_gate "$1" RT_JOBS=1
+}
+
+# prove_object COPY: the same, and its object file is there too, crates/confstamp/out/confstamp.o. What the gate keeps is linked
+# already, so the line of crates.txt is made to differ, by the status that holds without it as well: then everything but the program
+# is taken as it is kept, and the program is compiled.
+prove_object() {
+    sed -i 's/^confstamp:/confstamp status=0:/' "$1/crates.txt"
+    prove_copy "$1"
+}
+
+# prove_for COPY LEVEL: of a copy that is proved, the program for the processors of a level, x86-64-v3, and its object file. Which
+# level that is stands in the verdict of a proof, so the last crate is proved for it too.
+prove_for() {
+    (cd "$1/crates/confstamp" && rt run --cpu "$2" -- --version) >> "$log" 2>&1 < /dev/null
+}
+
+# has_level LEVEL: whether the processor here is of it, by what the C library's loader says.
+has_level() {
+    for loader in /lib64/ld-linux-x86-64.so.2 /lib/ld-linux-x86-64.so.2; do
+        [ ! -x "$loader" ] || "$loader" --help 2> /dev/null | grep -q "^ *$1 (supported" && return
+    done
+    return 1
+}
+
+# link_static OBJECT PROGRAM [WORD..]: links the object file and the kit's C code with the C library that is installed here in it, so
+# that no loader has to find one at each start. The words go to the linker's C compiler too. False where there is no static library.
+link_static() {
+    object=$1 linked=$2
+    shift 2
+    kit=$(dirname "$(rt doc)")
+    "${CC:-cc}" -static-pie -s -Wl,--gc-sections,-z,relro,-z,now,-z,noexecstack,--build-id=sha1,--fatal-warnings "$@" \
+        -o "$linked" "$object" "$kit/c/libos_c.a" "$kit/c/liblibc_c.a"
 }
 
 # The name of the kit and its logic, as in `rt version`.

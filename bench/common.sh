@@ -19,25 +19,25 @@ find_confstamp() {
     confstamp=$(cd "$(dirname "$confstamp")" && pwd)/$(basename "$confstamp")
 }
 
-make_work_folder() {
+make_work_directory() {
     work=$(mktemp -d)
     trap 'rm -rf "$work"' EXIT
     trap 'exit 1' HUP INT TERM
 }
 
-# A work folder in a file system in memory, where FOLDER does not name another one; `file_system` is which it is.
-choose_folder() {
-    folder=${FOLDER:-}
-    if [ -z "$folder" ] && [ -d /dev/shm ] && [ -w /dev/shm ]; then
-        folder=/dev/shm
+# A work directory in a file system in memory, where DIRECTORY does not name another one; `file_system` is which it is.
+choose_directory() {
+    directory=${DIRECTORY:-}
+    if [ -z "$directory" ] && [ -d /dev/shm ] && [ -w /dev/shm ]; then
+        directory=/dev/shm
     fi
-    TMPDIR=${folder:-${TMPDIR:-/tmp}}
+    TMPDIR=${directory:-${TMPDIR:-/tmp}}
     export TMPDIR
-    make_work_folder
+    make_work_directory
     file_system=$(df -T "$work" | awk 'NR == 2 { print $2 }')
 }
 
-# Folders usr/src/linux-headers-VERSION-ARCH below $1 whose kbuild package is there and writes savedcmd_.
+# Directories usr/src/linux-headers-VERSION-ARCH below $1 whose kbuild package is there and writes savedcmd_.
 usable_trees() {
     for tree in "$1"/usr/src/linux-headers-*-amd64; do
         if [ -x "$tree/scripts/basic/fixdep" ] && [ -d "${tree%-amd64}-common/include" ] &&
@@ -69,7 +69,7 @@ download_packages() {
     fail 'apt knows no linux-headers of Linux 6.2 or later; apt-get update may help'
 }
 
-# $work/tree: one folder that looks as a built kernel's source tree: the common headers and the generated ones together. The
+# $work/tree: one directory that looks as a built kernel's source tree: the common headers and the generated ones together. The
 # kernel's program goes to $work/kernel-fixdep.
 merge_tree() {
     tree=$(usable_trees "${HEADERS:-}" | tail -n 1)
@@ -93,7 +93,7 @@ install_tool() {
     command -v "$1" > /dev/null
 }
 
-# The run is written in the temporary folder, so that one which is broken off leaves nothing.
+# The run is written in the temporary directory, so that one which is broken off leaves nothing.
 start_run() {
     cut -d ' ' -f 1-3 /proc/loadavg > "$work/load"
     run=$work/run
@@ -101,7 +101,7 @@ start_run() {
     echo 'case,run,value' > "$run/raw.csv"
 }
 
-# Keeps the run in a new folder: one that is there already is never touched, the next one of a day gets a number.
+# Keeps the run in a new directory: one that is there already is never touched, the next one of a day gets a number.
 keep_run() {
     machine=$(printf '%s' "${MACHINE:-$(uname -n)}" | tr -c 'A-Za-z0-9_-' '-')
     mkdir -p "$root/bench/runs"
@@ -109,7 +109,7 @@ keep_run() {
     kept=$first
     number=1
     while ! mkdir "$kept" 2> "$work/log"; do
-        [ -d "$kept" ] || fail "can't make the folder $kept"
+        [ -d "$kept" ] || fail "can't make the directory $kept"
         number=$((number + 1))
         kept=$first-$number
     done
@@ -191,15 +191,15 @@ sorted() {
     awk -F , -v label="$1" '$1 == label { print $3 }' "$run/raw.csv" | sort -n
 }
 
-# make_input FOLDER SYMBOLS WIDTH: a Kconfig and a .config of that many symbols, their names at least WIDTH bytes long.
+# make_input DIRECTORY SYMBOLS WIDTH: a Kconfig and a .config of that many symbols, their names at least WIDTH bytes long.
 # Of 100 symbols 26 are y, 40 m, 20 not set, 6 int, 4 string, 2 hex, 1 string with escapes, 1 without a line. The
 # order is not that of the names, as in a real file.
 make_input() {
     mkdir -p "$1"
-    awk -v folder="$1" -v symbols="$2" -v width="$3" '
+    awk -v directory="$1" -v symbols="$2" -v width="$3" '
         BEGIN {
-            kconfig = folder "/Kconfig"
-            dotconfig = folder "/.config"
+            kconfig = directory "/Kconfig"
+            dotconfig = directory "/.config"
             filler = "DRIVER_OF_SOME_DEVICE_WITH_A_RATHER_LONG_NAME"
             print "mainmenu \"Linux/bench 1.0 Kernel Configuration\"\n" > kconfig
             print "#\n# Automatically generated file; DO NOT EDIT." > dotconfig
@@ -249,7 +249,7 @@ make_input_for_conf() {
 # The kernel's program: CONF, or one of an installed package, or the one beside the objects of bench/make-objects.
 find_conf() {
     conf=${CONF:-}
-    for candidate in "$(cache_folder)/linux-6.12/conf" /usr/lib/linux-kbuild-*/scripts/kconfig/conf; do
+    for candidate in "$(cache_directory)/linux-6.12/conf" /usr/lib/linux-kbuild-*/scripts/kconfig/conf; do
         if [ -z "$conf" ] && [ -x "$candidate" ]; then
             conf=$candidate
         fi
@@ -258,6 +258,6 @@ find_conf() {
 }
 
 # Where what takes long to make is kept.
-cache_folder() {
+cache_directory() {
     echo "${CACHE:-${XDG_CACHE_HOME:-$HOME/.cache}/confstamp}"
 }

@@ -13,8 +13,8 @@
 
 static char bytes[16 << 20];
 
-/* Makes the folders of a path. */
-static void folders(char *path)
+/* Makes the directories of a path. */
+static void directories(char *path)
 {
 	for (char *at = strchr(path + 1, '/'); at; at = strchr(at + 1, '/')) {
 		*at = 0;
@@ -69,7 +69,7 @@ int main(int count, char **words)
 		}
 		if (waitpid(child, &status, 0) < 0 || status)
 			return 1;
-		folders(kept_object);
+		directories(kept_object);
 		return copy(object, kept_object) || copy(depfile, kept_depfile);
 	}
 	if (!copy(kept_depfile, depfile) && !copy(kept_object, object))

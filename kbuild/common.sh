@@ -9,14 +9,14 @@ esac
 auto=include/config/auto.conf
 bare=include/config/Kconfig.bare
 kinds=include/config/Kconfig.kinds
-kept=include/config/confstamp.config
-last=include/config/confstamp.generation
+synced_config=include/config/confstamp.config
+generation_file=include/config/confstamp.generation
 records=include/config/confstamp.records
 module_records=.confstamp.records
 dialects=include/config/confstamp.dialect
 split=include/config/confstamp.h
 make_mark=include/config/confstamp.make
-witness=include/config/confstamp.time
+clock_ref=include/config/confstamp.time
 kept_auto=include/config/confstamp.auto
 verified=include/config/confstamp.verified
 mark='# Synchronised by the hooks of confstamp'
@@ -26,7 +26,7 @@ marked='^[a-z]*cmd_[^ ]* := include.config.[^ ]*$'
 confstamp=${CONFSTAMP:-$here/../../../bin/confstamp}
 [ -n "${CONFSTAMP:-}" ] || [ -x "$confstamp" ] || confstamp=confstamp
 
-tell() {
+report() {
     echo "kbuild/${0##*/}: $*" >&2
 }
 
@@ -55,8 +55,8 @@ wrong_words() {
     exit 2
 }
 
-# folders_only USAGE WORD..
-folders_only() {
+# directories_only USAGE WORD..
+directories_only() {
     usage=$1
     shift
     for word; do
@@ -64,7 +64,7 @@ folders_only() {
         -*) wrong_words "$usage" ;;
         esac
         if [ ! -d "$word" ]; then
-            tell "there is no folder $word"
+            report "there is no directory $word"
             exit 2
         fi
     done
@@ -73,15 +73,15 @@ folders_only() {
 # No hook can do without the program.
 need_program() {
     command -v "$confstamp" > /dev/null && return
-    tell "$confstamp is missing: install it again, or take the hooks out (install-hooks -R)"
+    report "$confstamp is missing: install it again, or take the hooks out (install-hooks -R)"
     exit 2
 }
 
-# $work: a folder that goes when the hook ends.
-make_work_folder() {
+# $tmpdir: a directory that goes when the hook ends.
+make_work_directory() {
     need_program
-    work=$(mktemp -d)
-    trap 'rm -rf "$work"' EXIT
+    tmpdir=$(mktemp -d)
+    trap 'rm -rf "$tmpdir"' EXIT
     trap 'exit 2' HUP INT TERM
 }
 
@@ -93,43 +93,43 @@ find_there() {
     complaints=${complaints:-find ended with $ended}
     others=$(echo "$complaints" | sed '/^find: .*: No such file or directory$/d') || others=$complaints
     [ -n "$others" ] || return 0
-    tell "not all could be looked through: $(echo "$others" | head -n 1)"
+    report "not all could be looked through: $(echo "$others" | head -n 1)"
     return 1
 }
 
-# list_targets DIR..: $work/targets has what was recorded there. Where that is nothing the hook ends.
+# list_targets DIR..: $tmpdir/targets has what was recorded there. Where that is nothing the hook ends.
 list_targets() {
-    "$here/objects" "$@" > "$work/targets"
-    if [ ! -s "$work/targets" ]; then
+    "$here/objects" "$@" > "$tmpdir/targets"
+    if [ ! -s "$tmpdir/targets" ]; then
         nothing_here "$@"
         exit 2
     fi
 }
 
 nothing_here() {
-    tell "nothing was recorded below ${*:-.}: run it in the folder where make runs"
+    report "nothing was recorded below ${*:-.}: run it in the directory where make runs"
 }
 
 # recorded DIR..: of what was recorded `targets` has what is there, and `answers` what isn't. And objects that nothing was
 # recorded of are targets: hidden ones are steps of the link of vmlinux, which make takes no record of.
 recorded() {
-    "$here/objects" "$@" > "$work/recorded"
+    "$here/objects" "$@" > "$tmpdir/recorded"
     while read -r target; do
         if [ -e "$target" ]; then
             echo "$target" >&3
         else
             echo "$target stale no-object"
         fi
-    done < "$work/recorded" 3> "$work/targets" > "$work/answers"
+    done < "$tmpdir/recorded" 3> "$tmpdir/targets" > "$tmpdir/answers"
     [ "$#" -gt 0 ] || set -- .
-    find_there -H "$@" -name '[!.]*.o' -type f > "$work/objects" || exit 2
+    find_there -H "$@" -name '[!.]*.o' -type f > "$tmpdir/objects" || exit 2
     while read -r object; do
         [ -s "${object%/*}/.${object##*/}.cmd" ] || echo "${object#./}"
-    done < "$work/objects" >> "$work/targets"
+    done < "$tmpdir/objects" >> "$tmpdir/targets"
 }
 
 # kconfigs: the Kconfig files that the project's tool has read, where they stand. Kbuild takes no path with a blank. Whoever
-# isn't called by make has a link `source` in a build folder of its own, and in one of BusyBox its makefile; a file there comes
+# isn't called by make has a link `source` in a build directory of its own, and in one of BusyBox its makefile; a file there comes
 # before the one of the sources.
 kconfigs() {
     sources=${srctree:-.}
@@ -150,13 +150,13 @@ kconfigs() {
 
 # declared: the names that the project's Kconfig files declare, in order, each once. Of a file that can't be read nobody knows them.
 declared() {
-    kconfigs > "$work/kconfigs" && tr '\n' '\0' < "$work/kconfigs" |
-        xargs -0 sed -nE 's/^[[:blank:]]*(menu)?config[[:blank:]]+([A-Za-z0-9_]+).*/\2/p' > "$work/names" && sort -u "$work/names"
+    kconfigs > "$tmpdir/kconfigs" && tr '\n' '\0' < "$tmpdir/kconfigs" |
+        xargs -0 sed -nE 's/^[[:blank:]]*(menu)?config[[:blank:]]+([A-Za-z0-9_]+).*/\2/p' > "$tmpdir/names" && sort -u "$tmpdir/names"
 }
 
 # can_tell_declared: is it known here which names are declared?
 can_tell_declared() {
-    [ -e "$read_kconfigs" ] && declared > "$work/declared" 2> "$work/told" && [ -s "$work/declared" ]
+    [ -e "$read_kconfigs" ] && declared > "$tmpdir/declared" 2> "$tmpdir/messages" && [ -s "$tmpdir/declared" ]
 }
 
 # undeclared KCONFIG: the names of .config that it doesn't declare.
@@ -185,7 +185,7 @@ synchronised() {
     esac
 }
 
-# A program of an earlier edition can't wait for another one in its folder.
+# A program of an earlier edition can't wait for another one in its directory.
 knows_wait() {
     case $("$confstamp" --help) in
     *--wait*) ;;
@@ -193,18 +193,18 @@ knows_wait() {
     esac
 }
 
-# patiently TOLD WORD..: the program, with its standard error in TOLD. Where another one is at work in this folder (status 75) it waits
+# patiently TOLD WORD..: the program, with its standard error in TOLD. Where another one is at work in this directory (status 75) it waits
 # ten seconds for that.
 patiently() {
-    told=$1
+    messages=$1
     shift
     status=0
-    "$confstamp" "$@" 2> "$told" || status=$?
+    "$confstamp" "$@" 2> "$messages" || status=$?
     if [ "$status" = 75 ] && knows_wait; then
-        tell 'waiting for another confstamp that is at work in this folder'
+        report 'waiting for another confstamp that is at work in this directory'
         status=0
-        "$confstamp" --wait 10 "$@" 2> "$told" || status=$?
-        sed -i '/^confstamp: waiting /d' "$told"
+        "$confstamp" --wait 10 "$@" 2> "$messages" || status=$?
+        sed -i '/^confstamp: waiting /d' "$messages"
     fi
     return "$status"
 }
@@ -215,14 +215,14 @@ age_files() {
     tr '\n' '\0' | TZ=UTC0 xargs -0 -r touch -c -t 197001010000.01
 }
 
-# mark_due FOLDER RECORDED [symbol]: of FOLDER/targets each object that is stale, that is refused, or that has no number is due; with
+# mark_due DIRECTORY RECORDED [symbol]: of DIRECTORY/targets each object that is stale, that is refused, or that has no number is due; with
 # `symbol` only what is stale by one. Its command file gets lines that say the stamp of its symbol in place of the saved command, so
-# make compiles it, whatever any clock said, and V=2 says why. The record of that has no such line. FOLDER/answers are those of all.
-# `folders` are those of what was recorded, and those above them. Status 1 where an answer is missing, or the system fails.
+# make compiles it, whatever any clock said, and V=2 says why. The record of that has no such line. DIRECTORY/answers are those of all.
+# `directories` are those of what was recorded, and those above them. Status 1 where an answer is missing, or the system fails.
 mark_due() {
     : > "$1/answers"
-    [ ! -s "$1/targets" ] || patiently "$1/told" stale --from "$1/targets" > "$1/answers" || :
-    folders=$(awk -v due_by="${3:-all}" -v due="$1/due" '
+    [ ! -s "$1/targets" ] || patiently "$1/messages" stale --from "$1/targets" > "$1/answers" || :
+    directories=$(awk -v due_by="${3:-all}" -v due="$1/due" '
         function mark(stamp) { print stamp files[stamp] > due; files[stamp] = "" }
         BEGIN { printf "" > due; print "." }
         file == "targets" { asked++; next }
@@ -245,7 +245,7 @@ mark_due() {
             exit answered < asked
         }
     ' file=targets "$1/targets" file=answers "$1/answers" file=recorded "$2") || {
-        tell "nobody can say what is stale: $(head -n 1 "$1/told")"
+        report "nobody can say what is stale: $(head -n 1 "$1/messages")"
         return 1
     }
     while read -r stamp commands; do
@@ -266,14 +266,14 @@ mark_commands() {
     }" "$@"
 }
 
-# age_to_come FOLDER RECORDED: what has a time to come would look newer than what it is made of, once make has written that. So
-# what make links or packs gets a time before all others. Such products stand in one of `folders`, beside what was recorded or above
+# age_to_come DIRECTORY RECORDED: what has a time to come would look newer than what it is made of, once make has written that. So
+# what make links or packs gets a time before all others. Such products stand in one of `directories`, beside what was recorded or above
 # it, and have a command file. BusyBox itself has none.
 age_to_come() {
     : > "$1/now"
     tools_to_come "$1"
     # shellcheck disable=SC2086 # the list is words, and Kbuild takes no path with a blank
-    find_there $folders -maxdepth 1 ! -name '*.[chS]' ! -name '.*.cmd' -type f -newer "$1/now" > "$1/newer" || return 1
+    find_there $directories -maxdepth 1 ! -name '*.[chS]' ! -name '.*.cmd' -type f -newer "$1/now" > "$1/newer" || return 1
     [ -s "$1/newer" ] || return 0
     sed 's,^\./,,' "$1/newer" > "$1/to-come"
     awk 'NR == FNR { recorded[$0]; next } !($0 in recorded)' "$2" "$1/to-come" |
@@ -289,7 +289,7 @@ age_to_come() {
     [ ! -s "$1/ahead" ] || bring_to_now "$1"
 }
 
-# tools_to_come FOLDER: a tool that has a makefile of its own, as Linux's objtool, is made of objects that nobody records. As long as
+# tools_to_come DIRECTORY: a tool that has a makefile of its own, as Linux's objtool, is made of objects that nobody records. As long as
 # one has a time to come each make links the tool anew, and compiles what depends on it. So such an object gets the time of its
 # command file, which was written behind it, or that of the tool.
 tools_to_come() {
@@ -304,7 +304,7 @@ tools_to_come() {
     done
 }
 
-# bring_to_now FOLDER: an object of FOLDER/ahead is fresh, but make may be about to write a file that it is made of, as the
+# bring_to_now DIRECTORY: an object of DIRECTORY/ahead is fresh, but make may be about to write a file that it is made of, as the
 # packed kernel of the boot code. So it gets the present time. Where such a file has a time to come as well make would compile
 # the object each time until then, so it keeps its own.
 bring_to_now() {
@@ -315,7 +315,7 @@ bring_to_now() {
         /^  [^ $]+ \\$/ { print $1, target }
         sub(/.*: \$\(wildcard /, "") { sub(/\).*/, ""); print $1, target }
     ' 2> /dev/null > "$1/made-of" || :
-    awk '!told[$1]++ { print $1 }' "$1/made-of" | tr '\n' '\0' |
+    awk '!seen[$1]++ { print $1 }' "$1/made-of" | tr '\n' '\0' |
         xargs -0 -r sh -c 'find "$@" -prune -newer "$0" 2> /dev/null || :' "$1/now" > "$1/files-ahead"
     awk '
         FILENAME == ARGV[1] { ahead[$1]; next }
@@ -346,8 +346,8 @@ time_of() {
 # The witness is a file that says its own time, so whoever finds it elsewhere knows whether times came along. In a file system without
 # times to less than a second it says another one. One that is wrong stays so until kbuild/restore has mended the times.
 leave_witness() {
-    touch "$witness.now" && time_of "$witness.now" | sed 's/\.0*$/.5/' > "$witness.tmp" &&
-        touch -r "$witness.now" "$witness.tmp" && mv -f "$witness.tmp" "$witness" && rm "$witness.now"
+    touch "$clock_ref.now" && time_of "$clock_ref.now" | sed 's/\.0*$/.5/' > "$clock_ref.tmp" &&
+        touch -r "$clock_ref.now" "$clock_ref.tmp" && mv -f "$clock_ref.tmp" "$clock_ref" && rm "$clock_ref.now"
 }
 
 # What the first difference is between .config and the configuration that was synchronised last; nothing where they say the
@@ -357,7 +357,7 @@ difference_of_config() {
         echo 'nothing was synchronised yet'
     elif [ ! -f "$config" ]; then
         echo 'there is none'
-    elif ! grep -qsxFf "$last" "$auto" || ! cmp -s "$config" "$kept"; then
+    elif ! grep -qsxFf "$generation_file" "$auto" || ! cmp -s "$config" "$synced_config"; then
         {
             "$confstamp" ${dialect:+--dialect "$dialect"} diff "$bare" "$config" 2>&1 || echo "confstamp diff ended with $?"
         } | awk '
@@ -369,17 +369,17 @@ difference_of_config() {
     fi
 }
 
-# by_folder ANSWERS: a table of the folders in which something is stale: how many of how many objects, and of the symbols that
-# they are stale by the three most frequent ones. The folder with the most comes first.
-by_folder() {
+# by_directory ANSWERS: a table of the directories in which something is stale: how many of how many objects, and of the symbols that
+# they are stale by the three most frequent ones. The directory with the most comes first.
+by_directory() {
     awk '
         /^ / { next }
         {
-            folder = $1
-            if (!sub(/\/[^\/]*$/, "", folder)) folder = "."
-            all[folder]++
+            directory = $1
+            if (!sub(/\/[^\/]*$/, "", directory)) directory = "."
+            all[directory]++
         }
-        $2 == "stale" { stale[folder]++; by[folder " " $3]++ }
+        $2 == "stale" { stale[directory]++; by[directory " " $3]++ }
         END {
             for (pair in by) {
                 split(pair, part, " ")
@@ -387,19 +387,19 @@ by_folder() {
             }
         }
     ' "$1" | sort -k1,1nr -k3,3 -k4,4nr -k5,5 | awk '
-        $3 != folder { if (folder != "") print line; folder = $3; shown = 0; line = sprintf("%7d of %5d %s:", $1, $2, $3) }
+        $3 != directory { if (directory != "") print line; directory = $3; shown = 0; line = sprintf("%7d of %5d %s:", $1, $2, $3) }
         shown++ < 3 { line = line (shown > 1 ? ", " : " ") $5 }
         shown == 4 { line = line ", .." }
-        END { if (folder != "") print line }
+        END { if (directory != "") print line }
     '
 }
 
-# makefiles_of_targets: those of the folders of `targets`, and of the folders above them.
+# makefiles_of_targets: those of the directories of `targets`, and of the directories above them.
 makefiles_of_targets() {
-    awk '{ folder = "./" $0; while (sub(/\/[^\/]*$/, "", folder)) if (!told[folder]++) print folder }' "$work/targets" |
-        while read -r folder; do
+    awk '{ directory = "./" $0; while (sub(/\/[^\/]*$/, "", directory)) if (!seen[directory]++) print directory }' "$tmpdir/targets" |
+        while read -r directory; do
             for makefile in Kbuild Makefile; do
-                [ ! -f "$sources/$folder/$makefile" ] || echo "$folder $sources/$folder/$makefile"
+                [ ! -f "$sources/$directory/$makefile" ] || echo "$directory $sources/$directory/$makefile"
             done
         done
 }
@@ -407,12 +407,12 @@ makefiles_of_targets() {
 # builds_of_targets: how the configuration changes the build of an object of `targets`, by the lines `obj-$(CONFIG_X) += x.o` of
 # makefiles: `x.o n` where none builds it by .config, and `x.o X=m` or `x.o X=y` where it is built in by one of .config and the
 # synchronised configuration, and part of a module by the other. A line whose symbol isn't plain counts as y, and so does a
-# folder, or an object, that no line names.
+# directory, or an object, that no line names.
 builds_of_targets() {
     sources=${srctree:-.}
     [ -e "$sources/Makefile" ] && [ ! -e source/Makefile ] || sources=source
-    makefiles_of_targets > "$work/makefiles"
-    awk -v makefiles="$work/makefiles" -v synchronised="$auto" -v wanted="$config" '
+    makefiles_of_targets > "$tmpdir/makefiles"
+    awk -v makefiles="$tmpdir/makefiles" -v synchronised="$auto" -v wanted="$config" '
         function read_values(time, file,    line, name) {
             while ((getline line < file) > 0) {
                 if (line !~ /^CONFIG_[A-Za-z0-9_]+=[ym]$/) continue
@@ -428,7 +428,7 @@ builds_of_targets() {
             return path
         }
         # stem-selector += words
-        function read_line(folder, line,    equals, name, words, count, place, dash, stem, selector, whole) {
+        function read_line(directory, line,    equals, name, words, count, place, dash, stem, selector, whole) {
             sub(/[ \t]*#.*/, "", line)
             if (line !~ /^[ \t]*[A-Za-z0-9_\/.-]+-[^ \t:=+?]+[ \t]*[:+?]?=/) return
             equals = index(line, "=")
@@ -438,10 +438,10 @@ builds_of_targets() {
             dash = match(name, /-\$\(.*$/) ? RSTART : match(name, /-[^-]*$/) ? RSTART : 0
             stem = substr(name, 1, dash - 1)
             selector = substr(name, dash + 1)
-            whole = stem ~ /^(obj|lib|extra|always|core|libs|drivers|net|targets|hostprogs)$/ ? "" : plain(folder "/" stem ".o")
+            whole = stem ~ /^(obj|lib|extra|always|core|libs|drivers|net|targets|hostprogs)$/ ? "" : plain(directory "/" stem ".o")
             for (place = 1; place <= count; place++) {
                 if (words[place] !~ /\.o$|\/$/) continue
-                list(plain(folder "/" words[place]), whole, selector)
+                list(plain(directory "/" words[place]), whole, selector)
             }
         }
         function list(path, whole, selector) {
@@ -449,11 +449,11 @@ builds_of_targets() {
             of[path, lines[path]] = whole
             by[path, lines[path]] = selector
         }
-        function read_makefile(folder, file,    line, text) {
+        function read_makefile(directory, file,    line, text) {
             text = ""
             while ((getline line < file) > 0) {
                 if (line ~ /\\$/) { text = text substr(line, 1, length(line) - 1) " "; continue }
-                read_line(folder, text line)
+                read_line(directory, text line)
                 text = ""
             }
             close(file)
@@ -464,7 +464,7 @@ builds_of_targets() {
             if (value["old", name] != value["new", name]) reason = name
             return value[time, name] == "" ? "n" : value[time, name]
         }
-        # How an object or a folder is built by its own lines. Part of another object it is as that one, or not at all.
+        # How an object or a directory is built by its own lines. Part of another object it is as that one, or not at all.
         function built(time, path, depth,    place, best, one) {
             if (!(path in lines) || depth > 9) return "y"
             best = "n"
@@ -493,5 +493,5 @@ builds_of_targets() {
             old = built("old", $1, 0)
             if (old != "n" && old != new && reason != "") print $1, reason "=" new
         }
-    ' "$work/targets"
+    ' "$tmpdir/targets"
 }

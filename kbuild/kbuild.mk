@@ -12,7 +12,7 @@ export CONFSTAMP
 # Up to Linux 6.2 make looks for the command of an object under cmd_T in its command file, and not under savedcmd_T.
 confstamp-prefix = $(if $(findstring savedcmd_,$(value cmd-check)),,cmd_)
 
-# From Linux 6.13 on make runs in the folder of an external module, and the tree is elsewhere. Then an object is recorded by its
+# From Linux 6.13 on make runs in the directory of an external module, and the tree is elsewhere. Then an object is recorded by its
 # whole path, from the tree.
 confstamp-elsewhere = $(filter-out . $(CURDIR),$(objtree))
 confstamp-named = $(if $(confstamp-elsewhere),$(abspath $(1)),$(1))
@@ -46,10 +46,10 @@ confstamp-directly = { $(CONFSTAMP) record --remove-depfile -- "$$2" "$$3" "$$4"
 # those of Xen it isn't. The sources are scanned by the project's own words, and own-stamps.sed adds what its own tools would
 # look for. Xen's words are those of Linux, which U-Boot's are with more, and its conf is as old as U-Boot's.
 ifdef confstamp-dialect
-confstamp-aside = $(@D)/.$(@F).$(if $(confstamp-in-place),cmd.)tmp
+confstamp-stripped = $(@D)/.$(@F).$(if $(confstamp-in-place),cmd.)tmp
 confstamp-directly = { $(CONFSTAMP) $(confstamp-dialect) record -- "$$2" "$$3" "$$4" > /dev/null 2>&1 \
-	&& sed -nf $(CONFSTAMP_KBUILD)/own-stamps.sed $(confstamp-command-file) > $(confstamp-aside) \
-	$(if $(confstamp-in-place),&& mv -f $(confstamp-aside) $(confstamp-command-file)); }
+	&& sed -nf $(CONFSTAMP_KBUILD)/own-stamps.sed $(confstamp-command-file) > $(confstamp-stripped) \
+	$(if $(confstamp-in-place),&& mv -f $(confstamp-stripped) $(confstamp-command-file)); }
 endif
 
 # In front of the command by which Xen removes auto.conf before each synchronisation: that touches all symbols.
@@ -57,7 +57,7 @@ confstamp-keeps = @:
 
 # As make makes the recipe, before the compiler runs: the command file is emptied, so that make compiles once more what is compiled
 # and not recorded, as where it is killed in between; and the target is listed as one that was recorded in this tree, or, where it
-# stands elsewhere, in the folder of this external module. make itself writes, since a process for each object would cost more.
+# stands elsewhere, in the directory of this external module. make itself writes, since a process for each object would cost more.
 confstamp-begin = $(if $(confstamp-only-asked),,$(if $(wildcard $(confstamp-command-file)),$(confstamp-empty))$(if $(wildcard \
 	$(confstamp-records)),$(confstamp-list)))
 confstamp-command-file = $(@D)/.$(@F).cmd
@@ -122,7 +122,7 @@ $(if $(confstamp-synchronised),,$(if $(filter-out 1 2 3,$(MAKE_RESTARTS)),$(conf
 $(confstamp-marks)
 endef
 
-# BusyBox has no Kbuild at its top, so scripts/Makefile.build reads the whole Makefile for that folder. This is no make of its own.
+# BusyBox has no Kbuild at its top, so scripts/Makefile.build reads the whole Makefile for that directory. This is no make of its own.
 ifneq ($(filter %Makefile.build,$(MAKEFILE_LIST)),)
 confstamp-rules :=
 endif
@@ -130,7 +130,7 @@ confstamp-never = $(error confstamp has synchronised $(MAKE_RESTARTS) times, and
 
 # kbuild/restore wants to know whether the last make of the whole ended well. Where one begins this file says `begun`, and at its
 # end `ended`, unless make was told to pass over errors. A make of some goals alone turns `ended` into `part`. The recipe comes out
-# empty, so no process is started. Behind the word stands this folder. Where that is another one the tree may be a copy by hard
+# empty, so no process is started. Behind the word stands this directory. Where that is another one the tree may be a copy by hard
 # links, and what is written into here must not be a file of the other tree.
 confstamp-make-mark = include/config/confstamp.make
 ifndef confstamp-whole
@@ -176,13 +176,13 @@ endif
 
 # What is due says a stamp in place of its saved command. make takes that for a newer file: with V=2 it names it, and with
 # KBUILD_NOCMDDEP=1, where no command counts, it compiles the object even so. BusyBox has a word for commands alone.
-confstamp-due = $(if $(word 2,$(savedcmd_$@)),,$(filter-out $?,$(filter include/config/%,$(savedcmd_$@))))
-$(foreach word,newer-prereqs any-prereq arg-check,$(eval $(word) = $(value $(word))$$(confstamp-due)))
+confstamp-pending = $(if $(word 2,$(savedcmd_$@)),,$(filter-out $?,$(filter include/config/%,$(savedcmd_$@))))
+$(foreach word,newer-prereqs any-prereq arg-check,$(eval $(word) = $(value $(word))$$(confstamp-pending)))
 
 # kbuild/stale --make asks what make would do, by make -n. Recipes that begin with `+` run even then, and the link of vmlinux and
 # of modules does, and rustc. So no recipe is left. Of each target that make comes to, lines are told:
-#   - confstamp-asked: its name,
-#   - confstamp-told: of an object with a list of dependencies that isn't up to date, its command as a word of the shell, and
+#   - confstamp-visited: its name,
+#   - confstamp-rebuild: of an object with a list of dependencies that isn't up to date, its command as a word of the shell, and
 #     the files that make takes for newer. Of what make would write anew it takes all for newer;
 #   - confstamp-linked: of what is made of other files whether its command differs, and these files. vmlinux is an object of
 #     both kinds. BusyBox links without a saved command, each time, so what counts there is these files;
@@ -200,19 +200,19 @@ override define filechk
 +@{ $(filechk_$(1)); } 2> /dev/null | cmp -s - $@ || echo 'confstamp-text $(call confstamp-named,$@)'
 endef
 endif
-confstamp-object = $(if $(strip $(confstamp-newer) $(confstamp-other)),$(info confstamp-told $(call confstamp-named,$@) \
+confstamp-object = $(if $(strip $(confstamp-newer) $(confstamp-other)),$(info confstamp-rebuild $(call confstamp-named,$@) \
 	'$(make-cmd)' $(call confstamp-named,$(confstamp-newer))))
 confstamp-parts = $(if $(filter %.o %.a,$^),$(info confstamp-linked $(call confstamp-named,$@) same $(call \
 	confstamp-named,$(filter %.o %.a,$^))))
 confstamp-link = $(info confstamp-linked $(call confstamp-named,$@) $(if $(strip $(confstamp-other)),differs,same) $(call \
 	confstamp-named,$(filter-out $(PHONY) $(2),$^)))
-confstamp-asked = $(info confstamp-asked $(call confstamp-named,$@))$(if \
+confstamp-visited = $(info confstamp-visited $(call confstamp-named,$@))$(if \
 	$(deps_$@),$(confstamp-object)$(confstamp-parts),$(confstamp-link))
-confstamp-told = $(if $(filter $(PHONY),$@),,$(confstamp-asked))@:
-override if_changed_dep = $(confstamp-told)
-override if_changed_rule = $(confstamp-told)
-override if_changed = $(confstamp-told)
-override if_changed_except = $(confstamp-told)
+confstamp-rebuild = $(if $(filter $(PHONY),$@),,$(confstamp-visited))@:
+override if_changed_dep = $(confstamp-rebuild)
+override if_changed_rule = $(confstamp-rebuild)
+override if_changed = $(confstamp-rebuild)
+override if_changed_except = $(confstamp-rebuild)
 override cmd = $(if $(confstamp-ours),$(if $(wildcard $@),$(info confstamp-linked $@ same $(filter-out $(PHONY),$^))))@:
 autoksyms_recursive: private SHELL := true
 endif

@@ -6,9 +6,9 @@
 #
 #     confstamp-kconfig     the bare Kconfig (Kconfig)
 #     confstamp-config      the configuration (.config)
-#     confstamp-dir         the folder whose include/ holds the numbers (.). Where it isn't the one in which make runs, what a
+#     confstamp-dir         the directory whose include/ holds the numbers (.). Where it isn't the one in which make runs, what a
 #                           command makes is named from the root, and so is what the one of confstamp-generate reads
-#     confstamp-header      the header, where the project's own tool writes it (include/generated/autoconf.h of that folder)
+#     confstamp-header      the header, where the project's own tool writes it (include/generated/autoconf.h of that directory)
 #     confstamp-maker       the target whose recipe writes these files, where the project's own tool has a part in it
 #     confstamp-inputs      what it makes them from: a change of their text is seen, whatever their time
 #     confstamp-dialect     whose words the sources have, where they have more than CONFIG_X: u-boot, busybox or coreboot. Where
@@ -53,8 +53,8 @@ confstamp-comma := ,
 confstamp-sources := $(sort $(confstamp-kconfig) $(confstamp-config) $(confstamp-inputs))
 confstamp-kept := $(confstamp-state)/confstamp.kept
 confstamp-texts = $(confstamp-sources) $(confstamp-state)/auto.conf $(confstamp-header)
-confstamp-due := $(shell cat $(confstamp-texts) 2> /dev/null | cmp -s - $(confstamp-kept) || echo confstamp-always)
-ifneq ($(confstamp-due),)
+confstamp-pending := $(shell cat $(confstamp-texts) 2> /dev/null | cmp -s - $(confstamp-kept) || echo confstamp-always)
+ifneq ($(confstamp-pending),)
 ifneq ($(filter-out 1 2 3 4 5,$(MAKE_RESTARTS)),)
 $(error confstamp has synchronised again and again, and $(confstamp-config) still isn't what was synchronised)
 endif
@@ -66,11 +66,11 @@ endif
 # more is no reason, else make would begin again for ever.
 include $(confstamp-state)/confstamp.mk
 ifdef confstamp-maker
-$(confstamp-maker): $(confstamp-due)
+$(confstamp-maker): $(confstamp-pending)
 $(confstamp-kconfig) $(confstamp-config): $(confstamp-maker) ;
 endif
-$(confstamp-state)/confstamp.mk: $(confstamp-sources) $(confstamp-due)
-	@$(if $(confstamp-due),false,cat $(confstamp-texts) | cmp -s - $(confstamp-kept) && [ -e $@ ]) || { \
+$(confstamp-state)/confstamp.mk: $(confstamp-sources) $(confstamp-pending)
+	@$(if $(confstamp-pending),false,cat $(confstamp-texts) | cmp -s - $(confstamp-kept) && [ -e $@ ]) || { \
 	$(if $(confstamp-silent),:,echo '  SYNC    $(confstamp-config)'); mkdir -p $(@D) && \
 	cat $(confstamp-sources) > $(confstamp-kept).new && \
 	$(confstamp-program) $(confstamp-words) -C $(confstamp-dir) --wait 60 sync $(abspath $(confstamp-kconfig) $(confstamp-config)) \
@@ -91,19 +91,19 @@ confstamp-prerequisites = $(filter-out confstamp-always,$^)
 confstamp-same = $(and $(findstring <$(1)>,<$(2)>),$(findstring <$(2)>,<$(1)>))
 confstamp-silent := $(if $(filter undefined,$(origin confstamp-silent)),$(findstring s,$(firstword -$(MAKEFLAGS))),$(confstamp-silent))
 confstamp-text = $(subst $(confstamp-quote),'\$(confstamp-quote)',$(strip $(1)))
-confstamp-made = $(subst $(confstamp-hash),$$(confstamp-hash),$(subst $$,$$$$,$(call confstamp-text,$(1))))
+confstamp-built = $(subst $(confstamp-hash),$$(confstamp-hash),$(subst $$,$$$$,$(call confstamp-text,$(1))))
 
 # Why COMMAND is to run: nothing, where it isn't.
 confstamp-why = $(strip $(if $(confstamp-watched_$@),,$(error $@ is none of the targets of confstamp-watch)) \
-	$(if $(confstamp-due),$(error nothing was read again after the synchronisation)) \
+	$(if $(confstamp-pending),$(error nothing was read again after the synchronisation)) \
 	$(filter-out confstamp-always,$?) $(if $(wildcard $@),,absent) $(filter $@,$(confstamp-stale)) \
 	$(filter-out $(confstamp-generation),$(confstamp-at_$@)) \
-	$(if $(call confstamp-same,$(strip $(1)),$(confstamp-made_$@)),,other))
+	$(if $(call confstamp-same,$(strip $(1)),$(confstamp-built_$@)),,other))
 
 # confstamp-run COMMAND LABEL WORDS KNOWN: the recipe. .TARGET.mk is emptied first, and has the command only at the end.
-confstamp-run = @$(call confstamp-tell,$(1),$(2)); $(if $(wildcard $(@D)),,mkdir -p $(@D) &&) : > $(call confstamp-mk,$@) && \
-	( $(3) ) && { $(4) printf '%s\n' 'confstamp-made_$@ := $(call confstamp-made,$(1))'; } > $(call confstamp-mk,$@)
-confstamp-tell = $(if $(confstamp-silent),:,$(if $(and $(2),$(if $(filter 1,$(V)),,yes)),printf '  %-7s %s\n' '$(2)' \
+confstamp-run = @$(call confstamp-report,$(1),$(2)); $(if $(wildcard $(@D)),,mkdir -p $(@D) &&) : > $(call confstamp-mk,$@) && \
+	( $(3) ) && { $(4) printf '%s\n' 'confstamp-built_$@ := $(call confstamp-built,$(1))'; } > $(call confstamp-mk,$@)
+confstamp-report = $(if $(confstamp-silent),:,$(if $(and $(2),$(if $(filter 1,$(V)),,yes)),printf '  %-7s %s\n' '$(2)' \
 	'$(patsubst $(CURDIR)/%,%,$@)',printf '%s\n' '$(confstamp-text)'))
 
 # The stamps are left out of what make looks at, since the numbers are asked. A file that is gone counts as new. What the
@@ -120,7 +120,7 @@ confstamp-record = $(1) && { $(confstamp-program) $(confstamp-words) -C $(confst
 
 confstamp-compile = $(if $(confstamp-why),$(call confstamp-run,$(1),$(2),$(confstamp-cc),$(confstamp-known)))
 confstamp-generate = $(if $(confstamp-why),$(call confstamp-run,$(1),$(2),$(confstamp-record),$(confstamp-known)))
-confstamp-link = $(if $(or $(confstamp-why),$(filter $@,$(confstamp-ahead))),$(call confstamp-run,$(1),$(2),$(1),))
+confstamp-link = $(if $(or $(confstamp-why),$(filter $@,$(confstamp-future))),$(call confstamp-run,$(1),$(2),$(1),))
 
 # What is known is read, and confstamp is asked of the recorded targets: each that is stale is named, and removed, so that it is
 # made by whatever tool. One that it doesn't answer for counts as stale. Before that each with a future mtime gets the present
@@ -129,7 +129,7 @@ confstamp-link = $(if $(or $(confstamp-why),$(filter $@,$(confstamp-ahead))),$(c
 confstamp-watch = $(if $(strip $(1)),$(eval $(1): confstamp-always) \
 	$(foreach target,$(1),$(eval confstamp-watched_$(target) := yes)) \
 	$(call confstamp-read,$(wildcard $(foreach target,$(1),$(call confstamp-mk,$(target))))) \
-	$(if $(confstamp-due),,$(confstamp-ask)$(call confstamp-look,$(wildcard $(filter-out $(confstamp-recorded),$(1))))))
+	$(if $(confstamp-pending),,$(confstamp-ask)$(call confstamp-look,$(wildcard $(filter-out $(confstamp-recorded),$(1))))))
 confstamp-read = $(if $(1),$(eval -include $(1))$(eval $(1): ;))
 define confstamp-line-feed
 
@@ -154,6 +154,6 @@ confstamp-to-now = tr '\n' '\0' < $(confstamp-list) | xargs -0r sh -c \
 	'find "$$@" -prune -newer $(confstamp-now) -exec touch -r $(confstamp-now) {} + 2> /dev/null' -
 
 # A link with a time to come is made again, since nobody knows what it is older than.
-confstamp-look = $(if $(1),$(eval confstamp-ahead += $(shell find $(1) -prune -newer $(confstamp-now))))
+confstamp-look = $(if $(1),$(eval confstamp-future += $(shell find $(1) -prune -newer $(confstamp-now))))
 
 .DEFAULT_GOAL := $(confstamp-first-goal)

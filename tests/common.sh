@@ -48,8 +48,8 @@ find_confstamp() {
     confstamp=$(cd "$(dirname "$confstamp")" && pwd)/$(basename "$confstamp")
 }
 
-# $work: a folder that goes when the sweep ends.
-make_work_folder() {
+# $work: a directory that goes when the sweep ends.
+make_work_directory() {
     place=${TMPDIR:-/tmp}
     if [ -z "${TMPDIR:-}" ] && [ -w /dev/shm ]; then
         room=$(df -Pk /dev/shm | awk 'NR == 2 { print $4 }')
@@ -87,7 +87,7 @@ model_words() {
     ! grep -q '^#typed$' "$root/docs/formats.md" || echo TYPED=1
 }
 
-# The files of the examples in docs/formats.md, in the folder $1: a Kconfig of two symbols, three configurations, a source
+# The files of the examples in docs/formats.md, in the directory $1: a Kconfig of two symbols, three configurations, a source
 # with two headers and its dependency file, and two scripts.
 make_inputs() {
     mkdir -p "$1"
@@ -106,18 +106,18 @@ make_inputs() {
     printf '%s\n' 'sync Kconfig without-a' 'record x.d y.o cc' 'stale x.o' 'sync K2 c2' 'stale y.o' > "$1/other-script"
 }
 
-# run FOLDER WORDS..: the program in that folder; $status, $work/output and $work/errors.
+# run DIRECTORY WORDS..: the program in that directory; $status, $work/output and $work/errors.
 run() {
     status=0
     (cd "$1" && shift && exec "$confstamp" "$@") > "$work/output" 2> "$work/errors" < /dev/null || status=$?
 }
 
 # The first line of standard error.
-told() {
+error_line() {
     head -n 1 "$work/errors"
 }
 
-# copy FROM TO: a fresh copy of a folder.
+# copy FROM TO: a fresh copy of a directory.
 copy() {
     rm -rf "$2"
     cp -R "$1" "$2"

@@ -1,8 +1,8 @@
 /* SPDX-License-Identifier: Apache-2.0 OR MIT */
 /* Runs the program on damaged files, and compares with a table; or makes the table, from model.c alone.
 
-       cuts --make FILE..           prints the table for these files of the current folder
-       cuts PROGRAM < TABLE         runs the program in the current folder
+       cuts --make FILE..           prints the table for these files of the current directory
+       cuts PROGRAM < TABLE         runs the program in the current directory
 
    Each file is cut after each of its bytes, and each byte is replaced by seven others in turn. A line of the table is
 

@@ -6,7 +6,7 @@
 
    A case is a tree and some commands over it: up to four at random, or the story of a build, so that objects are recorded
    and symbols change after their records. Half of the cases are in the words of Linux, the others in those of U-Boot or BusyBox,
-   and at times a command goes by those of another project. The same seed makes the same cases. The folder is the current one, and is emptied.
+   and at times a command goes by those of another project. The same seed makes the same cases. The directory is the current one, and is emptied.
    At the first difference the case is left there and told, status 1. */
 #define _GNU_SOURCE
 #include "program.h"
@@ -253,7 +253,7 @@ static const char *const odd_targets[] = {"x.o/", "a$b", "", "d", "none.o", "x.c
 static const char *const commands[] = {"cc -c x.c", "cc -O2 -c x.c", "", " := ", "$(x) #\\", "cc \303\244"};
 static const char *const odd_commands[] = {"a\nb", "a\rb", "x.o := y"};
 
-/* In these folders of U-Boot symbols have a prefix. */
+/* In these directories of U-Boot symbols have a prefix. */
 static const char *const phase_targets[] = {"spl/x.o", "tpl/d/y.o", "vpl/x.o", "tools/x.o", "d/spl/x.o"};
 
 static const char *target(void)
@@ -544,7 +544,7 @@ static void say_project(Command *made)
     made->count += 2;
 }
 
-/* The tree on the disk, below the current folder. */
+/* The tree on the disk, below the current directory. */
 
 static void make_folders(char *path)
 {
@@ -591,7 +591,7 @@ static int remove_entry(const char *path, const struct stat *about, int kind, st
 static void empty_folder(void)
 {
     if (nftw(".", remove_entry, 16, FTW_DEPTH | FTW_PHYS))
-        give_up("emptying the folder");
+        give_up("emptying the directory");
 }
 
 static const char *program;
@@ -664,7 +664,7 @@ static bool agrees(Tree *tree, const Command *command)
     Answer answer = run_program(program, command->words, command->count);
     found = (Tree){0};
     if (nftw(".", note_file, 16, FTW_PHYS))
-        give_up("reading the folder");
+        give_up("reading the directory");
     refusals += wanted.status == 2;
     bool is_same = answer.status == wanted.status && same(answer.output, wanted.output);
     bool says_why = wanted.is_usage ? is_usage(answer.error) : is_told(answer.error, wanted.error, wanted.output);

@@ -1,5 +1,5 @@
 /* SPDX-License-Identifier: Apache-2.0 OR MIT */
-/* Claims a file or a folder, as a program that is at work on it does, until standard input ends.
+/* Claims a file or a directory, as a program that is at work on it does, until standard input ends.
 
        hold alone|shared PATH
 

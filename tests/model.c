@@ -1135,7 +1135,7 @@ Tree copy_of_tree(const Tree *tree)
     return copy;
 }
 
-/* Whether a file stands where the path has a folder, or the path is a folder. */
+/* Whether a file stands where the path has a directory, or the path is a directory. */
 static bool is_no_file(const Tree *tree, Bytes path)
 {
     bool asks_folder = ends(path, "/") || ends(path, "/.") || is_text(path, ".");

@@ -1,5 +1,5 @@
 /* SPDX-License-Identifier: Apache-2.0 OR MIT */
-/* The program as the sweeps run it, in the current folder, with its two outputs in files beside that folder. */
+/* The program as the sweeps run it, in the current directory, with its two outputs in files beside that directory. */
 #ifndef PROGRAM_H
 #define PROGRAM_H
 

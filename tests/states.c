@@ -3,7 +3,7 @@
 
        states AFTER SNAPSHOT..
 
-   Each SNAPSHOT is a folder as one command after another leaves it. AFTER must lie between two that follow each other: of
+   Each SNAPSHOT is a directory as one command after another leaves it. AFTER must lie between two that follow each other: of
    the files in which these differ, in the order in which a command writes them (a command file, the stamps by name, the
    header, auto.conf, then a dependency file), those of a beginning are the new ones and all others the old ones. Files that
    end in .tmp may hold anything. Prints how many snapshots lie after, and how many files are new; status 1 where there is no such
@@ -59,10 +59,10 @@ static int note(const char *path, const struct stat *about, int kind, struct FTW
 }
 
 /* The bytes of a file, with their number, or NULL. */
-static char *load(const char *folder, const char *path, size_t *length)
+static char *load(const char *directory, const char *path, size_t *length)
 {
     char place[8192];
-    snprintf(place, sizeof place, "%s/%s", folder, path);
+    snprintf(place, sizeof place, "%s/%s", directory, path);
     FILE *file = fopen(place, "rb");
     if (!file)
         return NULL;
@@ -72,10 +72,10 @@ static char *load(const char *folder, const char *path, size_t *length)
     return bytes;
 }
 
-static bool same(const char *folder, const char *other, const char *path)
+static bool same(const char *directory, const char *other, const char *path)
 {
     size_t a = 0, b = 0;
-    char *first = load(folder, path, &a), *second = load(other, path, &b);
+    char *first = load(directory, path, &a), *second = load(other, path, &b);
     bool is_same = first && second ? a == b && memcmp(first, second, a) == 0 : !first && !second;
     free(first);
     free(second);

@@ -1,5 +1,5 @@
 # SPDX-License-Identifier: Apache-2.0 OR MIT
-# The checks of the program: each folder of examples/, and each executable file of tests/. Sourced by .ci/run and tools/test,
+# The checks of the program: each directory of examples/, and each executable file of tests/. Sourced by .ci/run and tools/test,
 # which stand at the top of the repository then and have set CONFSTAMP. In bash.
 #
 # They go side by side, as many as there are processors, or as CHECKS_AT_ONCE says. One that fails is tried once more while no
@@ -29,8 +29,8 @@ run_check() {
     timeout -k 10 "$seconds_allowed" "$@" < /dev/null 2>&1
 }
 
-# tell_check NAME LOG STATUS [WORDS]: the line of a check that passed or was skipped.
-tell_check() {
+# report_check NAME LOG STATUS [WORDS]: the line of a check that passed or was skipped.
+report_check() {
     case $3 in
     0) echo "$1: passed${4-}: $(tail -n 1 "$2")" ;;
     77) echo "$1: SKIPPED: $(tail -n 1 "$2")" ;;
@@ -41,7 +41,7 @@ tell_check() {
 first_try() {
     local status=0 file=$tried/${1//\//.}
     run_check "$1" > "$file.log" || status=$?
-    tell_check "$1" "$file.log" "$status"
+    report_check "$1" "$file.log" "$status"
     echo "$status" > "$file.status"
 }
 
@@ -50,7 +50,7 @@ second_try() {
     sed 's/^/  first try: /' "$tried/${1//\//.}.log"
     status=0
     run_check "$1" > "$log" || status=$?
-    tell_check "$1" "$log" "$status" ' at the second try'
+    report_check "$1" "$log" "$status" ' at the second try'
     case $status in
     0 | 77) return ;;
     esac
@@ -117,7 +117,7 @@ check_each() {
 }
 
 # What failed, once more behind all checks.
-tell_failed() {
+report_failed() {
     local each
     for each in ${reasons[@]+"${reasons[@]}"} ${failed[@]+"${failed[@]}"}; do
         echo "FAILED: $each"

@@ -2,7 +2,7 @@
 # Proves the crates of the program side by side and builds it. Sourced by tools/install and tools/release, after they have set
 # `top`, the top of the repository, and `log`, the file for the prover's own words.
 #
-# The gate's own command does it, `rt ci`, over a copy that has neither the wrong bodies nor the crates of tests. So as many
+# The gate's own command does it, `rt ci`, over a copy that has neither the mutants nor the crates of tests. So as many
 # checks run at once as there are processors and as memory allows, what the gate or an earlier call proved on this
 # machine is taken from where the kit keeps it, and what comes of it is the program that the gate tries.
 
@@ -21,8 +21,8 @@ ks_engine 443
 ks_parallel 83
 ks_builds 60
 ks_requests 265
-ks_words 155
-ks_start 96
+ks_cli 155
+ks_session 96
 ks_commands 330
 confstamp 222'
 
@@ -36,9 +36,9 @@ program_crates() {
 # or shorter as those that are done did. All is proved at the end of the longest row, or of the share of one processor where
 # that is more.
 seconds_left() {
-    (echo "$seconds" && echo && program_crates) | awk -v processors="$(getconf _NPROCESSORS_ONLN)" -v now="$1" -v told="$*" '
+    (echo "$seconds" && echo && program_crates) | awk -v processors="$(getconf _NPROCESSORS_ONLN)" -v now="$1" -v reported="$*" '
         BEGIN {
-            count = split(told, words, " ")
+            count = split(reported, words, " ")
             for (at = 2; at <= count; at++) { split(words[at], pair, "="); ended[pair[1]] = pair[2] }
         }
         $0 == "" { listed = 1; next }
@@ -123,12 +123,12 @@ run_gate() {
     [ ! -e "$copy/.git/status" ] || return "$(cat "$copy/.git/status")"
 }
 
-# copy_program COPY: what a proof of the program reads, in that folder, which is new.
+# copy_program COPY: what a proof of the program reads, in that directory, which is new.
 copy_program() {
     mkdir -p "$1/.git"
     program_crates > "$1/crates.txt"
     sed 's,:.*,,; s,^,crates/,' "$1/crates.txt" |
-        tar -C "$top" --exclude=out --exclude=must-fail --exclude=more-wrong --exclude=wrong-host -cf - -T - HANDLES | tar -C "$1" -xf -
+        tar -C "$top" --exclude=out --exclude=must-fail --exclude=mutants --exclude=host-mutants -cf - -T - HANDLES | tar -C "$1" -xf -
 }
 
 # prove_copy COPY: the program is there then, crates/confstamp/out/confstamp. A check that is killed is tried once more by

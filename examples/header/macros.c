@@ -1,4 +1,4 @@
-// What C has to see in the header of this folder's Kconfig and .config: each macro by its spelling and by its value,
+// What C has to see in the header of this directory's Kconfig and .config: each macro by its spelling and by its value,
 // and no macro for a symbol that is off, without a value, or a module asked for as built in.
 
 #include <generated/autoconf.h>

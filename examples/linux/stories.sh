@@ -165,7 +165,7 @@ take_history() {
     cp -R "$work/history.git" .git
 }
 
-# commit SUBJECT FILE..: these files, as they stand in the folder `next`, on top of the last commit.
+# commit SUBJECT FILE..: these files, as they stand in the directory `next`, on top of the last commit.
 commit() {
     subject=$1
     shift
@@ -176,7 +176,7 @@ commit() {
     git rev-parse HEAD >> "$work/commits"
 }
 
-# new_history FILE..: copies of these sources are in the folder `next`, and `commits` lists none.
+# new_history FILE..: copies of these sources are in the directory `next`, and `commits` lists none.
 new_history() {
     rm -rf "$work/next"
     for file; do
@@ -330,7 +330,7 @@ can_mount() {
     [ -n "${MAY_MOUNT:-}" ] || { say "left out: $1, since nothing can be mounted here"; return 1; }
 }
 
-# frozen FOLDER COMMAND: while it can't be written.
+# frozen DIRECTORY COMMAND: while it can't be written.
 frozen() {
     mount --bind "$1" "$1"
     mount -o remount,bind,ro "$1"
@@ -630,7 +630,7 @@ clock_ahead() {
     done
 }
 
-# The same in a build folder of its own.
+# The same in a build directory of its own.
 clock_ahead_beside() {
     way=synchronised
     changed=
@@ -777,10 +777,10 @@ errors_passed_over() {
     say "$label: make compiled $(how_many "$work/compiled") after it had failed; $asked"
 }
 
-# The folder is switched off as the tree is listed, so only M= knows of it. The kernel that M= finds lacks what FAT selects, which modpost
+# The directory is switched off as the tree is listed, so only M= knows of it. The kernel that M= finds lacks what FAT selects, which modpost
 # would call an error.
 driver_by_M() {
-    begin 'a folder that make M= builds first, two hours ahead'
+    begin 'a directory that make M= builds first, two hours ahead'
     one_source_more
     configure '--disable VFAT_FS --disable FAT_FS'
     make_all

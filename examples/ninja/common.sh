@@ -1,7 +1,7 @@
 # SPDX-License-Identifier: Apache-2.0 OR MIT
 # What the checks of examples/ninja, examples/cmake and examples/meson share; sourced by them, after they have set
 #     example             its name
-#     folder              where the build runs, below the tree
+#     directory              where the build runs, below the tree
 #     tool                the words that build, there
 #     configure           a function: makes $work/TREE ready to be built, for the TREE that is its word
 # The sources are those of examples/make, a C program of twelve; Kconfig and .config stand beside this file. They are built
@@ -100,7 +100,7 @@ make_tree() {
 # build TREE
 build() {
     # shellcheck disable=SC2086 # the list is words
-    (cd "$work/$1/$folder" && $tool)
+    (cd "$work/$1/$directory" && $tool)
 }
 
 # compiled: what was compiled since the last call. CMake has greet.dir/core/mask.c.o, and Meson greet.p/core_mask.c.o.
@@ -123,7 +123,7 @@ builds() {
 
 # objects TREE: each of them, as the tool that builds names them.
 objects() {
-    (cd "$work/$1/$folder" && find . -name '*.o' | sed 's,^\./,,' | sort)
+    (cd "$work/$1/$directory" && find . -name '*.o' | sed 's,^\./,,' | sort)
 }
 
 # The objects of the tree are those of another one, byte for byte, and confstamp calls all of them fresh.
@@ -131,10 +131,10 @@ settled() {
     objects stamps > "$work/objects"
     same 'objects' 12 "$(wc -l < "$work/objects" | tr -d ' ')"
     while read -r object; do
-        cmp -s "$work/stamps/$folder/$object" "$work/$1/$folder/$object" || fail "$object is not as in the tree $1"
+        cmp -s "$work/stamps/$directory/$object" "$work/$1/$directory/$object" || fail "$object is not as in the tree $1"
     done < "$work/objects"
     # shellcheck disable=SC2046 # the list is words
-    (cd "$work/stamps/$folder" && confstamp stale $(cat "$work/objects")) > "$work/log" || fail "not fresh: $(cat "$work/log")"
+    (cd "$work/stamps/$directory" && confstamp stale $(cat "$work/objects")) > "$work/log" || fail "not fresh: $(cat "$work/log")"
 }
 
 edit() {
@@ -153,7 +153,7 @@ change() {
     # shellcheck disable=SC2086 # the list is words
     builds plain $all
     settled plain
-    told="$told, $label $#"
+    reported="$reported, $label $#"
 }
 
 first_builds() {
@@ -166,7 +166,7 @@ first_builds() {
         builds "$tree" $all
     done
     settled plain
-    told=
+    reported=
 }
 
 kinds_of_changes() {
@@ -197,7 +197,7 @@ fresh() {
     build fresh > "$work/log" 2>&1 || fail "$(cat "$work/log")"
     rm -f "$work/compiled"
     settled fresh
-    same 'the program says' "$("$work/fresh/$folder/greet")" "$("$work/stamps/$folder/greet")"
+    same 'the program says' "$("$work/fresh/$directory/greet")" "$("$work/stamps/$directory/greet")"
 }
 
 # output.c takes at most nine.
@@ -240,7 +240,7 @@ killed() {
     : > "$work/slow"
     : > "$work/compiled"
     # shellcheck disable=SC2016 # the words are the inner shell's
-    setsid sh -c 'echo "$$" > "$0"; cd "$1" && $2' "$work/leader" "$work/stamps/$folder" "$tool" > "$work/log" 2>&1 &
+    setsid sh -c 'echo "$$" > "$0"; cd "$1" && $2' "$work/leader" "$work/stamps/$directory" "$tool" > "$work/log" 2>&1 &
     waited=0
     while [ "$(wc -l < "$work/compiled")" -lt 3 ]; do
         sleep 0.05
@@ -290,5 +290,5 @@ page() {
 }
 
 finish() {
-    echo "ok: 12 objects compiled each time without confstamp, and with it: ${told#, }"
+    echo "ok: 12 objects compiled each time without confstamp, and with it: ${reported#, }"
 }

@@ -4,7 +4,7 @@ use Rattle.ks_tree.specs.Files.{Files, SameBut, content}
 use Rattle.ks_requests.specs.declared.request.DepfileAfter.TheVariants.{Removed}
 use Rattle.ks_requests.specs.declared.request.Request.{Request}
 use Rattle.ks_requests.specs.declared.request.Request.TheVariants.{Record}
-use Rattle.ks_words.specs.declared.words.WordsError.{WordsError}
+use Rattle.ks_cli.specs.declared.args.WordsError.{WordsError}
 
 -- that of a record that is to remove it, once the record is done
 abbrev pub spent : ℕ → Result Request WordsError → Option (List ℕ)

@@ -1,7 +1,7 @@
-//! The system, as a command comes to its folder by it. Each call is one of the system's, or of the module that makes it.
-use crate::folder_lock::lock_folder;
+//! The system, as a command comes to its directory by it. Each call is one of the system's, or of the module that makes it.
+use crate::directory_lock::lock_directory;
 use crate::lost_numbers::find_loss;
-use ks_start::{FolderLock, Host, Locking, Loss, Script};
+use ks_session::{DirectoryLock, Host, Locking, Loss, Script};
 use ks_system::FolderTree;
 use std::alloc::{AllocError, Global};
 use std::fs::File;
@@ -11,8 +11,8 @@ use std::rt::Files;
 use std::{fs, io};
 
 /// Looks whether there is such a directory. An empty path is the current one.
-fn look_at_folder(files: &impl Files, folder: &str) -> io::Result<()> {
-    if folder.is_empty() || fs::metadata(files, folder)?.is_dir() {
+fn look_at_directory(files: &impl Files, directory: &str) -> io::Result<()> {
+    if directory.is_empty() || fs::metadata(files, directory)?.is_dir() {
         return Ok(());
     }
     Err(io::Error::new(ErrorKind::NotADirectory, "Not a directory"))
@@ -31,12 +31,12 @@ impl<'a> OwnHost<'a> {
 }
 
 impl<'a> Host for OwnHost<'a> {
-    type Place = FolderTree<&'a HostRuntime>;
+    type WorkTree = FolderTree<&'a HostRuntime>;
 
     type Lock = File;
 
-    fn look(&self, folder: &str) -> io::Result<()> {
-        look_at_folder(self.rt, folder)
+    fn look(&self, directory: &str) -> io::Result<()> {
+        look_at_directory(self.rt, directory)
     }
 
     fn draw_seed(&self) -> Option<u64> {
@@ -47,23 +47,23 @@ impl<'a> Host for OwnHost<'a> {
     fn open(
         &self,
         alloc: Global,
-        folder: &str,
+        directory: &str,
         seed: u64,
     ) -> Result<FolderTree<&'a HostRuntime>, AllocError> {
-        let root = String::from_str(alloc, folder)?;
+        let root = String::from_str(alloc, directory)?;
         Ok(FolderTree::new(self.rt, root).with_seed(seed))
     }
 
     fn lock(
         &self,
-        place: &mut FolderTree<&'a HostRuntime>,
-        folder: &str,
-        lock: FolderLock,
+        work_tree: &mut FolderTree<&'a HostRuntime>,
+        directory: &str,
+        lock: DirectoryLock,
         seconds: u64,
     ) -> Locking<File> {
-        let locking = lock_folder(self.rt, folder, lock, seconds);
-        if let (FolderLock::Exclusive, Locking::Had(Some(_))) = (lock, &locking) {
-            place.claim_stamps();
+        let locking = lock_directory(self.rt, directory, lock, seconds);
+        if let (DirectoryLock::Exclusive, Locking::Had(Some(_))) = (lock, &locking) {
+            work_tree.claim_stamps();
         }
         locking
     }
@@ -71,13 +71,13 @@ impl<'a> Host for OwnHost<'a> {
     fn find_loss(
         &self,
         _alloc: Global,
-        place: &mut FolderTree<&'a HostRuntime>,
-        folder: &str,
+        work_tree: &mut FolderTree<&'a HostRuntime>,
+        directory: &str,
     ) -> Result<Option<Loss>, AllocError> {
-        find_loss(self.rt, place, folder)
+        find_loss(self.rt, work_tree, directory)
     }
 
-    fn hold(&self, place: &mut FolderTree<&'a HostRuntime>, script: Script) {
-        place.hold(script.path, script.found);
+    fn hold(&self, work_tree: &mut FolderTree<&'a HostRuntime>, script: Script) {
+        work_tree.hold(script.path, script.found);
     }
 }

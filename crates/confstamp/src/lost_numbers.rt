@@ -6,8 +6,8 @@
 //! that can't be listed, and a file that can't be read, may hold numbers. Passed over are a file that can be read and is faulty, since
 //! the command that needs it tells that, and a directory that is the top of another tree, whose numbers are its own.
 use ks_engine::EngineError;
-use ks_start::{Loss, below, holds_number, is_another_tree};
-use ks_system::{FolderFault, FolderTree, System, SystemTree};
+use ks_session::{Loss, below, holds_number, is_another_tree};
+use ks_system::{FolderTree, FsError, System, SystemTree};
 use std::alloc::{AllocError, Global};
 use std::collections::BTreeSet;
 use std::fs::{DirEntry, Metadata};
@@ -23,20 +23,20 @@ const MAX_DEPTH: usize = 1365;
 
 /// The directories of a tree while it is searched.
 #[derive(Drop)]
-struct Folders {
+struct Directories {
     /// Those to be looked into.
     left: Vec<String>,
     /// Those that were, by device and number.
     seen: BTreeSet<(u64, u64)>,
 }
 
-impl Folders {
+impl Directories {
     /// The top and the directory of the stamps, to be looked into.
-    fn new(alloc: Global) -> Result<Folders, AllocError> {
+    fn new(alloc: Global) -> Result<Directories, AllocError> {
         let mut left = Vec::new(alloc);
         left.push(String::new(alloc))?;
         left.push(String::from_str(alloc, STAMPS)?)?;
-        Ok(Folders {
+        Ok(Directories {
             left,
             seen: BTreeSet::new(alloc),
         })
@@ -45,7 +45,7 @@ impl Folders {
     /// Notes the directories above the top of the tree as looked into. The root of the system is its own parent, and may be the top.
     fn leave_out_above(&mut self, rt: &HostRuntime, root: &str) -> Result<(), AllocError> {
         let alloc = rt.alloc();
-        let Ok(top) = fs::metadata(rt, place_of(alloc, root, "")?.as_str()) else {
+        let Ok(top) = fs::metadata(rt, host_path_of(alloc, root, "")?.as_str()) else {
             return Ok(());
         };
         let mut above = below(alloc, root, "..")?;
@@ -74,16 +74,16 @@ fn id_of(found: &Metadata) -> (u64, u64) {
 }
 
 /// Where a directory of the tree stands in the system.
-fn place_of(alloc: Global, root: &str, folder: &str) -> Result<String, AllocError> {
-    let place = if folder.is_empty() {
+fn host_path_of(alloc: Global, root: &str, directory: &str) -> Result<String, AllocError> {
+    let work_tree = if directory.is_empty() {
         String::from_str(alloc, root)?
     } else {
-        below(alloc, root, folder)?
+        below(alloc, root, directory)?
     };
-    if place.is_empty() {
+    if work_tree.is_empty() {
         return String::from_str(alloc, ".");
     }
-    Ok(place)
+    Ok(work_tree)
 }
 
 /// Whether nothing can be reached there. A link that leads to itself leads to nothing.
@@ -97,9 +97,9 @@ fn unread(alloc: Global, path: &str, error: &io::Error) -> Result<Option<Loss>, 
         return Ok(None);
     }
     let path = if path.is_empty() { "." } else { path };
-    match FolderFault::new(alloc, path.as_bytes(), error) {
+    match FsError::new(alloc, path.as_bytes(), error) {
         Some(fault) if error.kind() != ErrorKind::OutOfMemory => {
-            Ok(Some(Loss::Unread(fault.tell(alloc)?)))
+            Ok(Some(Loss::Unread(fault.describe(alloc)?)))
         }
         _ => Err(AllocError),
     }
@@ -111,8 +111,8 @@ fn unread_file<S: System + Drop>(
     tree: &SystemTree<S>,
     path: &str,
 ) -> Result<Loss, AllocError> {
-    match tree.last_fault() {
-        Some(fault) => Ok(Loss::Unread(fault.tell(alloc)?)),
+    match tree.last_error() {
+        Some(fault) => Ok(Loss::Unread(fault.describe(alloc)?)),
         None => Ok(Loss::Unread(String::from_str(alloc, path)?)),
     }
 }
@@ -121,12 +121,12 @@ fn unread_file<S: System + Drop>(
 fn look_at_file<S: System + Drop>(
     alloc: Global,
     tree: &mut SystemTree<S>,
-    folder: &str,
+    directory: &str,
     name: &str,
     path: &str,
     is_read: bool,
 ) -> Result<Option<Loss>, AllocError> {
-    match holds_number(alloc, tree, folder, name) {
+    match holds_number(alloc, tree, directory, name) {
         Ok(true) => Ok(Some(Loss::Number(String::from_str(alloc, path)?))),
         Err(EngineError::Device) if is_read => Ok(Some(unread_file(alloc, tree, path)?)),
         Err(EngineError::OutOfMemory) => Err(AllocError),
@@ -138,12 +138,12 @@ fn look_at_file<S: System + Drop>(
 fn is_other_top(
     alloc: Global,
     tree: &mut FolderTree<&HostRuntime>,
-    folder: &str,
+    directory: &str,
 ) -> Result<bool, AllocError> {
-    if folder.is_empty() {
+    if directory.is_empty() {
         return Ok(false);
     }
-    match is_another_tree(alloc, tree, folder) {
+    match is_another_tree(alloc, tree, directory) {
         Ok(is_other) => Ok(is_other),
         Err(EngineError::OutOfMemory) => Err(AllocError),
         Err(_) => Ok(false),
@@ -154,24 +154,24 @@ fn is_other_top(
 fn look_at(
     alloc: Global,
     tree: &mut FolderTree<&HostRuntime>,
-    folder: &str,
+    directory: &str,
     entry: &DirEntry<&HostRuntime>,
-    folders: &mut Folders,
+    directories: &mut Directories,
 ) -> Result<Option<Loss>, AllocError> {
     let name = entry.file_name();
-    let path = below(alloc, folder, name)?;
+    let path = below(alloc, directory, name)?;
     let kind = match entry.file_type() {
         Ok(kind) => kind,
         Err(error) => return unread(alloc, path.as_str(), &error),
     };
     let leads_on = kind.is_dir() || kind.is_symlink();
     let is_read = kind.is_file() || kind.is_symlink();
-    let loss = look_at_file(alloc, tree, folder, name, path.as_str(), is_read)?;
+    let loss = look_at_file(alloc, tree, directory, name, path.as_str(), is_read)?;
     if loss.is_some() {
         return Ok(loss);
     }
     if leads_on {
-        folders.left.push(path)?;
+        directories.left.push(path)?;
     }
     Ok(None)
 }
@@ -181,28 +181,28 @@ fn look_into(
     rt: &HostRuntime,
     tree: &mut FolderTree<&HostRuntime>,
     root: &str,
-    folder: &str,
-    folders: &mut Folders,
+    directory: &str,
+    directories: &mut Directories,
 ) -> Result<Option<Loss>, AllocError> {
     let alloc = rt.alloc();
-    let place = place_of(alloc, root, folder)?;
-    let found = match fs::metadata(rt, place.as_str()) {
+    let work_tree = host_path_of(alloc, root, directory)?;
+    let found = match fs::metadata(rt, work_tree.as_str()) {
         Ok(found) => found,
-        Err(error) => return unread(alloc, folder, &error),
+        Err(error) => return unread(alloc, directory, &error),
     };
-    if !folders.is_new(&found)? || is_other_top(alloc, tree, folder)? {
+    if !directories.is_new(&found)? || is_other_top(alloc, tree, directory)? {
         return Ok(None);
     }
-    let entries = match fs::read_dir(&rt, place.as_str()) {
+    let entries = match fs::read_dir(&rt, work_tree.as_str()) {
         Ok(entries) => entries,
-        Err(error) => return unread(alloc, folder, &error),
+        Err(error) => return unread(alloc, directory, &error),
     };
     for entry in entries {
         let loss = match entry {
-            Ok(entry) => look_at(alloc, tree, folder, &entry, folders)?,
+            Ok(entry) => look_at(alloc, tree, directory, &entry, directories)?,
             // A name that is no text is that of no object and no symbol.
             Err(error) if error.kind() == ErrorKind::InvalidFilename => None,
-            Err(error) => unread(alloc, folder, &error)?,
+            Err(error) => unread(alloc, directory, &error)?,
         };
         if loss.is_some() {
             return Ok(loss);
@@ -217,13 +217,13 @@ pub(crate) fn find_loss(
     tree: &mut FolderTree<&HostRuntime>,
     root: &str,
 ) -> Result<Option<Loss>, AllocError> {
-    let mut folders = Folders::new(rt.alloc())?;
-    folders.leave_out_above(rt, root)?;
+    let mut directories = Directories::new(rt.alloc())?;
+    directories.leave_out_above(rt, root)?;
     for _ in 0..u64::MAX {
-        let Some(folder) = folders.left.pop() else {
+        let Some(directory) = directories.left.pop() else {
             return Ok(None);
         };
-        let loss = look_into(rt, tree, root, folder.as_str(), &mut folders)?;
+        let loss = look_into(rt, tree, root, directory.as_str(), &mut directories)?;
         if loss.is_some() {
             return Ok(loss);
         }

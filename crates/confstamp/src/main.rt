@@ -1,25 +1,26 @@
-//! The program `confstamp`: a command line over the current folder, or that of `-C`, and the standard streams.
+//! The program `confstamp`: a command line over the current directory, or that of `-C`, and the standard streams.
 #![tactic(auto)]
 
 ghost use Rattle.std.specs.Prelude.{◌≡◌, IfOk};
 ghost use Rattle.confstamp.specs.Starts.{start_status};
 
-mod folder_lock;
+mod directory_lock;
 mod host;
 mod lost_numbers;
 mod spent;
 mod standard;
 
 use host::OwnHost;
+use ks_cli::{WordsError, request_of};
 use ks_commands::execute;
 use ks_requests::Request;
-use ks_start::{
-    Fault, Front, Invocation, Loss, Ready, Settings, Start, come_to_folder, take_front,
+use ks_session::{
+    ArgError, CommandArgs, Loss, ParsedOptions, Ready, Settings, Start, enter_directory,
+    parse_global_options,
 };
 use ks_streams::Stream;
 use ks_symbols::Dialect;
 use ks_system::{System, SystemTree, reason_of};
-use ks_words::{WordsError, request_of};
 use spent::remove_spent;
 use standard::{Standard, exit_status};
 use std::alloc::{AllocError, Global};
@@ -42,48 +43,52 @@ const NO_GENERATION: &str =
     hint: remove include/config and all command files (make clean) and build anew, or let numbers begin again: confstamp --begin";
 
 /// What is said where another program is at work, and what to do.
-const BUSY: &str = "confstamp: another confstamp is at work in this folder\n\
+const BUSY: &str = "confstamp: another confstamp is at work in this directory\n\
     hint: wait, and repeat the command; or let confstamp --wait SECONDS do so";
 
 /// What is said of words in front of a command that are none.
-fn text_of(fault: Fault) -> &'static str {
+fn text_of(fault: ArgError) -> &'static str {
     match fault {
-        Fault::NoFolder => "-C: a folder is needed after it",
-        Fault::NoDialect => "--dialect: linux, u-boot, busybox or coreboot is needed after it",
-        Fault::NoSeconds => "--wait: a number of seconds is needed after it",
+        ArgError::NoDirectory => "-C: a directory is needed after it",
+        ArgError::NoDialect => "--dialect: linux, u-boot, busybox or coreboot is needed after it",
+        ArgError::NoSeconds => "--wait: a number of seconds is needed after it",
     }
 }
 
 /// The texts of the words.
-fn texts_of(alloc: Global, words: &[String]) -> Result<Vec<&str>, AllocError> {
-    let mut texts = Vec::with_capacity(alloc, words.len())?;
-    for word in words {
-        texts.push(word.as_str())?;
+fn texts_of(alloc: Global, args: &[String]) -> Result<Vec<&str>, AllocError> {
+    let mut texts = Vec::with_capacity(alloc, args.len())?;
+    for arg in args {
+        texts.push(arg.as_str())?;
     }
     Ok(texts)
 }
 
 /// Tells that the directory of `-C` is not to be had, and why.
-fn tell_no_folder(rt: &HostRuntime, folder: &str, error: &io::Error) -> Result<(), AllocError> {
+fn print_no_directory(
+    rt: &HostRuntime,
+    directory: &str,
+    error: &io::Error,
+) -> Result<(), AllocError> {
     if error.kind() == ErrorKind::NotFound {
-        let _ = eprintln!(rt; "confstamp: -C: {folder}: No such folder");
+        let _ = eprintln!(rt; "confstamp: -C: {directory}: No such directory");
         return Ok(());
     }
     let reason = reason_of(rt.alloc(), error)?;
-    let _ = eprintln!(rt; "confstamp: -C: {folder}: {reason}");
+    let _ = eprintln!(rt; "confstamp: -C: {directory}: {reason}");
     Ok(())
 }
 
 /// Tells that nobody knows whether another program is at work in the directory, and why.
-fn tell_no_lock(rt: &HostRuntime, folder: &str, error: &io::Error) -> Result<(), AllocError> {
-    let folder = if folder.is_empty() { "." } else { folder };
+fn print_no_lock(rt: &HostRuntime, directory: &str, error: &io::Error) -> Result<(), AllocError> {
+    let directory = if directory.is_empty() { "." } else { directory };
     let reason = reason_of(rt.alloc(), error)?;
-    let _ = eprintln!(rt; "confstamp: 30 Device\n  the lock on {folder}: {reason}");
+    let _ = eprintln!(rt; "confstamp: 30 Device\n  the lock on {directory}: {reason}");
     Ok(())
 }
 
 /// Tells which numbers would be lost.
-fn tell_loss(rt: &HostRuntime, loss: Loss) {
+fn print_loss(rt: &HostRuntime, loss: Loss) {
     let _ = match loss {
         Loss::Number(path) => eprintln!(rt; "confstamp: {path} has a number, {NO_GENERATION}"),
         Loss::Unread(path) => {
@@ -92,19 +97,19 @@ fn tell_loss(rt: &HostRuntime, loss: Loss) {
     };
 }
 
-/// Tells why a command did not come to its folder, and answers its exit status, by which a script tells what may be tried again from
+/// Tells why a command did not come to its directory, and answers its exit status, by which a script tells what may be tried again from
 /// what has to be mended. These statuses stay.
-fn tell_no_start<P: Drop, L: Drop>(
+fn print_no_start<P: Drop, L: Drop>(
     rt: &HostRuntime,
-    folder: &str,
+    directory: &str,
     answer: Start<P, L>,
 ) -> Result<u8, AllocError>
     ensures { IfOk result (λ status. status ≡ start_status answer) }
 {
     match answer {
         Start::Ready(_) => Ok(REFUSED),
-        Start::NoFolder(error) => {
-            tell_no_folder(rt, folder, &error)?;
+        Start::NoDirectory(error) => {
+            print_no_directory(rt, directory, &error)?;
             Ok(REFUSED)
         }
         Start::NoSeed => {
@@ -116,11 +121,11 @@ fn tell_no_start<P: Drop, L: Drop>(
             Ok(TRY_AGAIN)
         }
         Start::NoLock(error) => {
-            tell_no_lock(rt, folder, &error)?;
+            print_no_lock(rt, directory, &error)?;
             Ok(REFUSED)
         }
         Start::Lost(loss) => {
-            tell_loss(rt, loss);
+            print_loss(rt, loss);
             Ok(NUMBERS_LOST)
         }
     }
@@ -155,7 +160,7 @@ fn perform<S: System + Drop>(
     let done = execute(rt.alloc(), tree, dialect, asked, &mut out, &mut err);
     let status = clear_away(rt, tree, done, asked);
     if status == 2 && tree.failures() > failures {
-        tell_failure(rt, tree);
+        print_failure(rt, tree);
     }
     exit_status(&out, status)
 }
@@ -169,32 +174,32 @@ fn perform_locked<S: System + Drop, L: Drop>(
     // The lock stands first, so that it is let go last.
     let Ready {
         lock: _lock,
-        place: mut tree,
+        work_tree: mut tree,
         dialect,
     } = ready;
     perform(rt, &mut tree, dialect, asked)
 }
 
-/// Runs the command in the folder that stands in front of it, or tells why it didn't come there.
-fn run_in_folder(
+/// Runs the command in the directory that stands in front of it, or tells why it didn't come there.
+fn run_in_directory(
     rt: &HostRuntime,
     settings: &Settings,
     asked: &Result<Request, WordsError>,
 ) -> Result<u8, AllocError> {
     let host = OwnHost::new(rt);
-    match come_to_folder(&host, rt.alloc(), settings, asked)? {
+    match enter_directory(&host, rt.alloc(), settings, asked)? {
         Start::Ready(ready) => Ok(perform_locked(rt, ready, asked)),
-        answer => tell_no_start(rt, settings.folder.as_str(), answer),
+        answer => print_no_start(rt, settings.directory.as_str(), answer),
     }
 }
 
-/// Runs the command that the words name, over the folder in front of it and the standard streams.
-fn run_words(rt: &HostRuntime, words: &[&str]) -> Result<u8, AllocError> {
-    match take_front(rt.alloc(), words)? {
-        Front::Taken(Invocation { settings, words }) => {
-            run_in_folder(rt, &settings, &request_of(rt.alloc(), words))
+/// Runs the command that the words name, over the directory in front of it and the standard streams.
+fn run_args(rt: &HostRuntime, args: &[&str]) -> Result<u8, AllocError> {
+    match parse_global_options(rt.alloc(), args)? {
+        ParsedOptions::Taken(CommandArgs { settings, args }) => {
+            run_in_directory(rt, &settings, &request_of(rt.alloc(), args))
         }
-        Front::Faulty(fault) => {
+        ParsedOptions::Faulty(fault) => {
             let _ = eprintln!(rt; "confstamp: {}", text_of(fault));
             Ok(2)
         }
@@ -203,18 +208,18 @@ fn run_words(rt: &HostRuntime, words: &[&str]) -> Result<u8, AllocError> {
 
 /// Runs the command of the program's own words.
 fn run(rt: &HostRuntime) -> io::Result<u8> {
-    let words: Vec<String> = env::args(rt)?.skip(1).collect(rt.alloc())?;
-    let texts = texts_of(rt.alloc(), &words)?;
-    Ok(run_words(rt, &texts)?)
+    let args: Vec<String> = env::args(rt)?.skip(1).collect(rt.alloc())?;
+    let texts = texts_of(rt.alloc(), &args)?;
+    Ok(run_args(rt, &texts)?)
 }
 
 /// Says where the system failed last, and why, after all else. Where memory is refused for it the line is left out.
-fn tell_failure<S: System + Drop>(rt: &HostRuntime, tree: &SystemTree<S>) {
-    let Some(fault) = tree.last_fault() else {
+fn print_failure<S: System + Drop>(rt: &HostRuntime, tree: &SystemTree<S>) {
+    let Some(fault) = tree.last_error() else {
         return;
     };
-    if let Ok(told) = fault.tell(rt.alloc()) {
-        let _ = eprintln!(rt; "  {told}");
+    if let Ok(reported) = fault.describe(rt.alloc()) {
+        let _ = eprintln!(rt; "  {reported}");
     }
 }
 

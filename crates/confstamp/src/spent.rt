@@ -3,10 +3,10 @@
 ghost use Rattle.std.specs.Prelude.{◌≡◌, OnErr, OnOk, option_map};
 ghost use Rattle.confstamp.specs.Spent.{IsWithout, spent};
 
+use ks_cli::WordsError;
 use ks_requests::{DepfileAfter, Request};
 use ks_system::{System, SystemTree};
 use ks_tree::TreeFault;
-use ks_words::WordsError;
 use std::alloc::Global;
 
 /// The dependency file that a command with this status leaves to be removed.

@@ -5,7 +5,7 @@ ghost use Rattle.ks_streams.specs.Noted.{noted};
 ghost use Rattle.ks_streams.specs.Streams.{state_of};
 ghost use Rattle.confstamp.specs.Standard.{fault_of};
 
-use ks_streams::{Notes, Stream, WriteFault, Writer};
+use ks_streams::{Notes, Stream, WriteError, Writer};
 use std::io;
 use std::io::{ErrorKind, Write};
 
@@ -32,23 +32,23 @@ impl<W: Write> Standard<W> {
 }
 
 /// What a failure of std says.
-fn fault_of(error: &io::Error) -> WriteFault
+fn fault_of(error: &io::Error) -> WriteError
     ensures { result ≡ fault_of error.now }
 {
     match error.kind() {
-        ErrorKind::Interrupted => WriteFault::Interrupted,
-        ErrorKind::BrokenPipe => WriteFault::NoReader,
-        _ => WriteFault::Failed,
+        ErrorKind::Interrupted => WriteError::Interrupted,
+        ErrorKind::BrokenPipe => WriteError::NoReader,
+        _ => WriteError::Failed,
     }
 }
 
 impl<W: Write> Writer for Standard<W> {
     ghost state = { λ s. noted (W.contents s.writer) s.notes };
 
-    fn write(&mut self, bytes: &[u8]) -> Result<usize, WriteFault> {
+    fn write(&mut self, bytes: &[u8]) -> Result<usize, WriteError> {
         match self.writer.write(bytes) {
             // A call that takes nothing would be made for ever.
-            Ok(0) => self.notes.refuse(WriteFault::Failed),
+            Ok(0) => self.notes.refuse(WriteError::Failed),
             Ok(count) => {
                 self.notes.took();
                 Ok(count)
@@ -57,7 +57,7 @@ impl<W: Write> Writer for Standard<W> {
         }
     }
 
-    fn flush(&mut self) -> Result<(), WriteFault> {
+    fn flush(&mut self) -> Result<(), WriteError> {
         match self.writer.flush() {
             Ok(()) => {
                 self.notes.saw_out();

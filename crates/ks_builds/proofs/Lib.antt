@@ -1,4 +1,4 @@
 mod Between
-mod Aged
+mod Backdated
 mod Stories
 mod Adopted

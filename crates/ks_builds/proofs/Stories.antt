@@ -1,11 +1,11 @@
 -- Each history goes on with a story, and what the runs of one without a break print is what changed.
 use Rattle.ks_commands.proofs.Prelude.{⊤, ◌≡◌, ℕ, List, [], ◌∷◌, refl, subst, Bool, true, false, cond, Shows, History, at, TreeState, NoneBroken, IsShown, rules}
-use Rattle.ks_commands.proofs.Headline.{none_before_program, program_tells}
+use Rattle.ks_commands.proofs.Headline.{none_before_program, program_reports}
 use Rattle.ks_commands.proofs.Histories.{requests_go_on}
 use Rattle.ks_engine.specs.FileRuns.{FileState}
 use Rattle.ks_engine.specs.History.{Begun, Synced, Broken, Recorded}
 use Rattle.ks_parallel.specs.Views.{without}
-use Rattle.ks_builds.specs.Stories.{FileStory, Happening, Leaves, LeavesFiles, Ran, Repaired, StoriesAreShown, StoriesTellChanges, Story, TellingStory, TellsBy, Written}
+use Rattle.ks_builds.specs.Stories.{FileStory, Happening, Leaves, LeavesFiles, Ran, Repaired, StoriesAreShown, StoriesReportChanges, Story, ReportingStory, ReportsBy, Written}
 use Rattle.ks_builds.proofs.Between.{lost_records_are_left_out, repairs_are_breaks}
 
 one_happens : (e : Happening) (old new : FileState) (h : History) → Shows old.files h → LeavesFiles e old new
@@ -43,13 +43,13 @@ none_at_first : (first : TreeState) (es : List Happening) (last : TreeState) →
 none_at_first first [] last same none = subst (λ (s : TreeState). NoneBroken s.history) same none
 none_at_first first (e ∷ es) last (next, leaves, shown, rest) none = none_before e first next leaves (none_at_first next es last rest none)
 
-tells_by : (e : Happening) (old new : TreeState) → IsShown old → NoneBroken old.history → NoneBroken new.history → Leaves e old new → TellsBy e old new
-tells_by (Ran dialect request ended) old new shown none later is = program_tells dialect request ended old new shown none later is
-tells_by (Written gone) old new shown none later is = tt
-tells_by (Repaired gone title config renewed) old new shown none later is = tt
+reports_by : (e : Happening) (old new : TreeState) → IsShown old → NoneBroken old.history → NoneBroken new.history → Leaves e old new → ReportsBy e old new
+reports_by (Ran dialect request ended) old new shown none later is = program_reports dialect request ended old new shown none later is
+reports_by (Written gone) old new shown none later is = tt
+reports_by (Repaired gone title config renewed) old new shown none later is = tt
 
-pub stories_tell_changes : StoriesTellChanges
-stories_tell_changes first [] last shown same none = same
-stories_tell_changes first (e ∷ es) last shown (next, leaves, is, rest) none =
+pub stories_report_changes : StoriesReportChanges
+stories_report_changes first [] last shown same none = same
+stories_report_changes first (e ∷ es) last shown (next, leaves, is, rest) none =
     let later = none_at_first next es last rest none in
-    (next, leaves, is, tells_by e first next shown (none_before e first next leaves later) later leaves, stories_tell_changes next es last is rest none)
+    (next, leaves, is, reports_by e first next shown (none_before e first next leaves later) later leaves, stories_report_changes next es last is rest none)

@@ -35,7 +35,7 @@ LostRecordsAreLeftOut = (h : History) (gone : List ℕ → Bool) (old new : File
 pub record IsRepaired (gone : List ℕ → Bool) (title : List ℕ) (config : Configuration) (renewed : List (List ℕ)) (old new : Files) : Type 0 where
   pub last : OldAuto
   pub read : old_auto (content old auto_path) ≡ Ok last
-  pub room : last.generation < 18446744073709551615
+  pub headroom : last.generation < 18446744073709551615
   pub legal : IsLegalSync title config
   pub each : (x : List ℕ) → is_in renewed x ≡ differs last.texts config x
   pub auto : content new auto_path ≡ content old auto_path

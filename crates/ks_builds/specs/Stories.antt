@@ -10,7 +10,7 @@ use Rattle.ks_engine.specs.Shows.{Shows}
 use Rattle.ks_requests.specs.declared.request.Request.{Request}
 use Rattle.ks_requests.specs.Endings.{Ending}
 use Rattle.ks_commands.specs.Histories.{Continues}
-use Rattle.ks_commands.specs.Programs.{ProgramTellsChanges}
+use Rattle.ks_commands.specs.Programs.{ProgramReportsChanges}
 use Rattle.ks_commands.specs.Performed.{Ends, by_files}
 use Rattle.ks_parallel.specs.Views.{without}
 use Rattle.ks_builds.specs.Between.{IsRepaired, SaysTheSame}
@@ -52,16 +52,16 @@ StoriesAreShown =
     → (next : History) × Story (at first.files first.failures h) es (at last.files last.failures next) × Shows last.files next
 
 -- What a run prints of recorded objects is what changed since their records.
-abbrev pub TellsBy : Happening → TreeState → TreeState → Type 0
-TellsBy (Ran dialect request ended) old new =
-    ProgramTellsChanges (record { dialect = dialect; before = old; request = request; ended = ended; after = new })
-TellsBy e old new = ⊤
+abbrev pub ReportsBy : Happening → TreeState → TreeState → Type 0
+ReportsBy (Ran dialect request ended) old new =
+    ProgramReportsChanges (record { dialect = dialect; before = old; request = request; ended = ended; after = new })
+ReportsBy e old new = ⊤
 
 -- a story in which each run does so
-abbrev pub TellingStory : TreeState → List Happening → TreeState → Type 0
-TellingStory first [] last = last ≡ first
-TellingStory first (e ∷ es) last = (next : TreeState) × Leaves e first next × IsShown next × TellsBy e first next × TellingStory next es last
+abbrev pub ReportingStory : TreeState → List Happening → TreeState → Type 0
+ReportingStory first [] last = last ≡ first
+ReportingStory first (e ∷ es) last = (next : TreeState) × Leaves e first next × IsShown next × ReportsBy e first next × ReportingStory next es last
 
 -- So does each run of a story in which no synchronisation was interrupted, and no other tool synchronised.
-abbrev pub StoriesTellChanges : Type 0
-StoriesTellChanges = (first : TreeState) (es : List Happening) (last : TreeState) → IsShown first → Story first es last → NoneBroken last.history → TellingStory first es last
+abbrev pub StoriesReportChanges : Type 0
+StoriesReportChanges = (first : TreeState) (es : List Happening) (last : TreeState) → IsShown first → Story first es last → NoneBroken last.history → ReportingStory first es last

@@ -1,8 +1,8 @@
 //! Laws of the definitions, each the contract of a function that does nothing.
 ghost use Rattle.ks_builds.specs.Adopted.{NeverTouchedIsTheSame};
 ghost use Rattle.ks_builds.specs.Between.{LostRecordsAreLeftOut, OthersMayWrite, RepairsAreBreaks, TreesBeginAgain};
-ghost use Rattle.ks_builds.specs.Builds.{BuildsAreRight, WhatIsNotAgedIsFresh, WhatIsNotAgedIsSafe};
-ghost use Rattle.ks_builds.specs.Stories.{StoriesAreShown, StoriesTellChanges};
+ghost use Rattle.ks_builds.specs.Builds.{BuildsAreRight, WhatIsNotBackdatedIsFresh, WhatIsNotBackdatedIsSafe};
+ghost use Rattle.ks_builds.specs.Stories.{StoriesAreShown, StoriesReportChanges};
 
 /// What any program may do between two runs, and which history the files show then.
 pub fn foreign_writes_are_shown()
@@ -18,9 +18,9 @@ pub fn never_touched_is_the_same()
 {}
 
 /// What `age` leaves alone.
-pub fn what_is_not_aged_is_safe()
-    ensures fresh { WhatIsNotAgedIsFresh }
-    ensures safe { WhatIsNotAgedIsSafe }
+pub fn what_is_not_backdated_is_safe()
+    ensures fresh { WhatIsNotBackdatedIsFresh }
+    ensures safe { WhatIsNotBackdatedIsSafe }
 {}
 
 /// What make may leave as it is: what is reported fresh.
@@ -32,5 +32,5 @@ pub fn builds_are_right()
 /// synchronisation was interrupted, what they print of recorded objects is what changed.
 pub fn stories_are_shown()
     ensures shown { StoriesAreShown }
-    ensures changes { StoriesTellChanges }
+    ensures changes { StoriesReportChanges }
 {}

@@ -1,14 +1,14 @@
 -- What a call of the engine leaves, after reads that changed no file.
-use Rattle.ks_commands.proofs.Prelude.{Dialect, ◌≡◌, ◌⊎◌, ◌≤◌, ℕ, List, Result, Ok, Err, subst, Files, Reply, EngineError, Report, Action, calls_of, FileRun, FileState, Stamps, LeavesStamps, IfOk, IfErr, IsGivenUp, Refusal, Engine, Ending, given, RunsAll, RunsOn, IsGivenUpRefusal, script_actions, script_at, KconfigText, rules}
+use Rattle.ks_commands.proofs.Prelude.{Dialect, ◌≡◌, ◌⊎◌, ◌≤◌, ℕ, List, Result, Ok, Err, subst, Files, Reply, EngineError, Report, Action, calls_of, FileRun, FileState, Stamps, LeavesStamps, IfOk, IfErr, IsAborted, Refusal, Engine, Ending, given, RunsAll, RunsOn, IsAbortedRefusal, script_actions, script_at, KconfigText, rules}
 
 -- what a synchronisation leaves is what the one or the other call leaves
-pub sync_said : (which : Stamps) (old new : Files) (k : KconfigText) (d : List ℕ) (r : Result Report EngineError)
+pub sync_printed : (which : Stamps) (old new : Files) (k : KconfigText) (d : List ℕ) (r : Result Report EngineError)
     → IfOk r (λ report. LeavesStamps old new which k d (Ok report)) → IfErr r (λ e. LeavesStamps old new which k d (Err e)) → LeavesStamps old new which k d r
-sync_said which old new k d (Ok report) ok err = ok
-sync_said which old new k d (Err e) ok err = err
+sync_printed which old new k d (Ok report) ok err = ok
+sync_printed which old new k d (Err e) ok err = err
 
 -- a script that is refused where it is read
-pub script_missing : (files : Files) (path : List ℕ) (e : EngineError) → IsGivenUp e ⊎ (given files path ≡ Err e) → IsGivenUpRefusal (Engine e)
+pub script_missing : (files : Files) (path : List ℕ) (e : EngineError) → IsAborted e ⊎ (given files path ≡ Err e) → IsAbortedRefusal (Engine e)
     ⊎ (script_at files path ≡ Err (Engine e))
 unfolding script_at
 script_missing files path e is = search rules
@@ -32,7 +32,7 @@ file_run_follows dialect honest old mid asked actions replies new same later are
     record { first = mid; read = same; later = later; run = subst (λ (acts : List Action). FileRun dialect honest mid (calls_of acts replies) new) are run }
 
 -- a script whose text or files are refused
-pub script_stopped : (files mid : Files) (path text : List ℕ) (r : Refusal) → mid ≡ files → given files path ≡ Ok text → IsGivenUpRefusal r
+pub script_stopped : (files mid : Files) (path text : List ℕ) (r : Refusal) → mid ≡ files → given files path ≡ Ok text → IsAbortedRefusal r
     ⊎ (script_actions mid text ≡ Err r)
-    → IsGivenUpRefusal r ⊎ (script_at files path ≡ Err r)
+    → IsAbortedRefusal r ⊎ (script_at files path ≡ Err r)
 script_stopped files mid path text r same there is = search (rules, script_there)

@@ -1,6 +1,6 @@
 -- Each history that the files show goes on with a request, by what is said of it by the files.
 use Rattle.ks_commands.proofs.Prelude.{Dialect, ◌≡◌, ℕ, List, Option, Result, inl, inr, refl, sym, subst, ⊤, option_map, string_bytes, read_in, Files, FileState, History, Shows, at, EngineError, Report, Reply, Action, calls_of, Run, RunsOn, Runs, LeavesStamps, FollowsStamps, Stamps, Ending, EndsDepfile, EndsSync, by_files, by_histories, RequestsGoOn}
-use Rattle.ks_engine.specs.Actions.{Sync, SyncStamped, Record, Depfile, Synced, Recorded}
+use Rattle.ks_engine.specs.Actions.{Sync, SyncAllStamps, Record, Depfile, Synced, Recorded}
 use Rattle.ks_requests.specs.declared.request.Request.TheVariants as request
 use Rattle.ks_requests.specs.declared.request.Stamps.TheVariants as stamps
 use Rattle.ks_engine.proofs.FileRunning.{goes_on, step_goes_on}
@@ -11,7 +11,7 @@ stamps_follow : (dialect : Dialect) (which : Stamps) (old new : FileState) (h : 
     → LeavesStamps old.files new.files which (read_in dialect k) d r
     → (next : History) × FollowsStamps which (read_in dialect k) d r (at old.files old.failures h) (at new.files new.failures next) × Shows new.files next
 stamps_follow dialect stamps.Touched old new h k d r shows is = step_goes_on dialect old (Sync k d) (Synced r) new h shows is
-stamps_follow dialect stamps.Declared old new h k d r shows is = step_goes_on dialect old (SyncStamped k d) (Synced r) new h shows is
+stamps_follow dialect stamps.Declared old new h k d r shows is = step_goes_on dialect old (SyncAllStamps k d) (Synced r) new h shows is
 
 run_follows : (dialect : Dialect) (old new : FileState) (h : History) (actions : List Action) (replies : List Reply) → Shows old.files h
     → RunsOn dialect ⊤ old new actions replies
@@ -36,41 +36,41 @@ sync_goes_on : (dialect : Dialect) (which : Stamps) (k d : List ℕ) (ended : En
     → EndsSync old.files (by_files dialect ⊤ old new) which k d ended
     → (next : History) × EndsSync old.files (by_histories dialect (at old.files old.failures h) (at new.files new.failures next)) which k d ended × Shows new.files next
 sync_goes_on dialect which k d ended old new h shows (inl (same, stopped)) = (h, inl ((same, refl), stopped), stays old new h shows same)
-sync_goes_on dialect which k d ended old new h shows (inr (t, there, answer, is, told)) =
+sync_goes_on dialect which k d ended old new h shows (inr (t, there, answer, is, reported)) =
     let next = stamps_follow dialect which old new h t.kconfig t.dotconfig answer shows is in
-    (next.0, inr (t, there, answer, next.1, told), next.2)
+    (next.0, inr (t, there, answer, next.1, reported), next.2)
 
 rule_goes_on : (dialect : Dialect) (end : Option (List ℕ)) (d t c : List ℕ) (ended : Ending) (old new : FileState) (h : History) → Shows old.files h
     → EndsDepfile (by_files dialect ⊤ old new) end d t c ended
     → (next : History) × EndsDepfile (by_histories dialect (at old.files old.failures h) (at new.files new.failures next)) end d t c ended × Shows new.files next
-rule_goes_on dialect end d t c ended old new h shows (inl (same, none, told)) = (h, inl ((same, refl), none, told), stays old new h shows same)
-rule_goes_on dialect end d t c ended old new h shows (inr (header, named, answer, is, told)) =
+rule_goes_on dialect end d t c ended old new h shows (inl (same, none, reported)) = (h, inl ((same, refl), none, reported), stays old new h shows same)
+rule_goes_on dialect end d t c ended old new h shows (inr (header, named, answer, is, reported)) =
     let next = step_goes_on dialect old (Depfile header d t c) (Recorded answer) new h shows is in
-    (next.0, inr (header, named, answer, next.1, told), next.2)
+    (next.0, inr (header, named, answer, next.1, reported), next.2)
 
 pub requests_go_on : RequestsGoOn
 requests_go_on dialect (request.Sync k d which) ended old new h shows ends =
     let next = sync_goes_on dialect which (string_bytes k) (string_bytes d) ended old new h shows (ends tt) in
-    (next.0, (old.aged, new.aged, λ t. next.1), next.2)
+    (next.0, (old.backdated, new.backdated, λ t. next.1), next.2)
 requests_go_on dialect (request.Record d t c after) ended old new h shows ends =
     let is = ends tt in
     let next = step_goes_on dialect old (Record (string_bytes d) (string_bytes t) (string_bytes c)) (Recorded is.0) new h shows is.1 in
-    (next.0, (old.aged, new.aged, λ u. (is.0, next.1, is.2)), next.2)
+    (next.0, (old.backdated, new.backdated, λ u. (is.0, next.1, is.2)), next.2)
 requests_go_on dialect (request.Depfile end d t c) ended old new h shows ends =
     let next = rule_goes_on dialect (option_map (λ p. string_bytes p) end) (string_bytes d) (string_bytes t) (string_bytes c) ended old new h shows (ends tt) in
-    (next.0, (old.aged, new.aged, λ u. next.1), next.2)
+    (next.0, (old.backdated, new.backdated, λ u. next.1), next.2)
 requests_go_on dialect (request.Batch script) ended old new h shows (inl (r, why, is)) =
-    (h, (old.aged, new.aged, inl (r, λ t. (((why t).0, refl), (why t).1), is)), stays old new h shows (why tt).0)
+    (h, (old.backdated, new.backdated, inl (r, λ t. (((why t).0, refl), (why t).1), is)), stays old new h shows (why tt).0)
 requests_go_on dialect (request.Batch script) ended old new h shows (inr (text, actions, spelled, there, inl (same, memory))) =
-    (h, (old.aged, new.aged, inr (text, actions, spelled, there, inl (λ t. (same t, refl), memory))), stays old new h shows (same tt))
-requests_go_on dialect (request.Batch script) ended old new h shows (inr (text, actions, spelled, there, inr (replies, ran, told))) =
+    (h, (old.backdated, new.backdated, inr (text, actions, spelled, there, inl (λ t. (same t, refl), memory))), stays old new h shows (same tt))
+requests_go_on dialect (request.Batch script) ended old new h shows (inr (text, actions, spelled, there, inr (replies, ran, reported))) =
     let next = run_follows dialect old new h actions replies shows ran in
-    (next.0, (old.aged, new.aged, inr (text, actions, spelled, there, inr (replies, next.1, told))), next.2)
+    (next.0, (old.backdated, new.backdated, inr (text, actions, spelled, there, inr (replies, next.1, reported))), next.2)
 requests_go_on dialect (request.Preview k d o) ended old new h shows ends =
-    (h, (old.aged, new.aged, λ t. (((ends t).0, refl), (ends t).1)), stays old new h shows (ends tt).0)
-requests_go_on dialect (request.Diff k d telling) ended old new h shows ends =
-    (h, (old.aged, new.aged, λ t. (((ends t).0, refl), (ends t).1)), stays old new h shows (ends tt).0)
+    (h, (old.backdated, new.backdated, λ t. (((ends t).0, refl), (ends t).1)), stays old new h shows (ends tt).0)
+requests_go_on dialect (request.Diff k d report_style) ended old new h shows ends =
+    (h, (old.backdated, new.backdated, λ t. (((ends t).0, refl), (ends t).1)), stays old new h shows (ends tt).0)
 requests_go_on dialect (request.Fixdep d o c) ended old new h shows ends =
-    (h, (old.aged, new.aged, λ t. (((ends t).0, refl), (ends t).1)), stays old new h shows (ends tt).0)
+    (h, (old.backdated, new.backdated, λ t. (((ends t).0, refl), (ends t).1)), stays old new h shows (ends tt).0)
 requests_go_on dialect asked ended old new h shows ends =
-    (h, (old.aged, new.aged, (λ t. (ends.0 t, refl), ends.1)), stays old new h shows (ends.0 tt))
+    (h, (old.backdated, new.backdated, (λ t. (ends.0 t, refl), ends.1)), stays old new h shows (ends.0 tt))

@@ -11,5 +11,5 @@ mod Previewing
 pub mod Unknowns
 pub mod Spelled
 pub mod Objects
-pub mod AgingLemmas
+pub mod BackdatingLemmas
 pub mod Searching

@@ -36,13 +36,13 @@ kept_more Old New parts p kept adds = subst New (sym (flat_map-append (λ q. rec
 pub read_over : (honest : Type 0) (f g : Files) (now line : List ℕ → Option CommandRecord → List ℕ) → (honest → f ≡ g) → now ≡ line
     → (s : FileState) (p : Part (Option CommandRecord)) (t : FileState) → IsStep (reading honest f now) s p t → IsStep (reading honest g line) s p t
 read_over honest f g now line same is s p t step = record {
-  told = record {
-    read = λ h. subst (λ files. IsRead files p.object p.answer) (same h) (step.told.read h);
-    lines = subst (λ l. p.lines ≡ answer_line l p.object p.answer) is step.told.lines;
-    status = step.told.status;
+  reported = record {
+    read = λ h. subst (λ files. IsRead files p.object p.answer) (same h) (step.reported.read h);
+    lines = subst (λ l. p.lines ≡ answer_line l p.object p.answer) is step.reported.lines;
+    status = step.reported.status;
   };
   counted = step.counted;
-  aged = step.aged;
+  backdated = step.backdated;
 }
 
 -- ---- what is counted of records

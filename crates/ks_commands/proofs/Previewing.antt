@@ -2,7 +2,7 @@
 use Rattle.std.specs.Prelude.{if◌then◌else◌, nat_eq}
 use Rattle.std.specs.Option.{is_some}
 use Rattle.std.specs.Result.{is_err}
-use Rattle.ks_commands.proofs.Prelude.{of_source, IsRefusal, ◌≡◌, ◌≢◌, ◌∙◌, ◌++◌, ◌+◌, inl, inr, refl, sym, ap, subst, ℕ, Bool, true, false, List, Option, Some, None, Ok, Err, Files, KconfigText, EngineError, GenerationFull, TooLarge, SourceError, OldAuto, Plan, Sources, AreChanges, IsSyncPlan, and_then, or_else, content, auto_path, plan_over, option_map, length, nat_lt}
+use Rattle.ks_commands.proofs.Prelude.{of_source, IsRefusal, ◌≡◌, ◌≢◌, ◌∙◌, ◌++◌, ◌+◌, inl, inr, refl, sym, ap, subst, ℕ, Bool, true, false, List, Option, Some, None, Ok, Err, Files, KconfigText, EngineError, GenerationFull, TooLarge, SourceError, OldAuto, Plan, ConfigInputs, AreChanges, IsSyncPlan, and_then, or_else, content, auto_path, plan_over, option_map, length, nat_lt}
 use Rattle.ks_symbols.specs.Lines.{max_bytes}
 use Rattle.ks_symbols.specs.declared.error.SourceError.TheVariants as source
 use Rattle.ks_output.specs.declared.auto_conf.AutoError.TheVariants as auto
@@ -15,13 +15,13 @@ use Rattle.ks_engine.proofs.Beginnings.{one_plan}
 use Rattle.ks_engine.proofs.Reading.{plan_of_over}
 use Rattle.ks_engine.specs.LastSync.{read_unless}
 unfoldable use Rattle.ks_engine.specs.LastSync.{old_auto}
-use Rattle.ks_engine.specs.SyncPlan.{AreSources, plan_of, source_refusal}
+use Rattle.ks_engine.specs.SyncPlan.{AreConfigInputs, plan_of, source_refusal}
 use Rattle.ks_requests.proofs.Refusing.{preview_refusal-old, preview_refusal-full}
 unfoldable use Rattle.ks_requests.specs.Preview.{preview_refusal}
 use Rattle.ks_requests.specs.declared.preview.PreviewError.{PreviewError}
 use Rattle.ks_requests.specs.declared.preview.PreviewError.TheVariants.{Engine, Output}
 use Rattle.ks_requests.specs.Preview.{IsNoPreview, old_texts, old_generation, full_refusal, old_refusal, touch_lines}
-use Rattle.ks_commands.specs.PreviewLaws.{PreviewsTellSyncs, PreviewsAreRefusedAsSyncs}
+use Rattle.ks_commands.specs.PreviewLaws.{PreviewsReportSyncs, PreviewsAreRefusedAsSyncs}
 
 -- what an auto.conf that isn't refused holds
 abbrev auto_of : Option (List ℕ) → OldAuto
@@ -49,16 +49,16 @@ planned_of true long p plan h = absurd cc
 planned_of false true p plan h = absurd cc
 planned_of false false p plan h = cc
 
-plan_is : (files : Files) (k : KconfigText) (d : List ℕ) (s : Sources) (plan : Plan) → AreSources k d s → old_refusal (content files auto_path) ≡ None
+plan_is : (files : Files) (k : KconfigText) (d : List ℕ) (s : ConfigInputs) (plan : Plan) → AreConfigInputs k d s → old_refusal (content files auto_path) ≡ None
     → IsSyncPlan files k d (Ok plan) → plan ≡ plan_of s (auto_of (content files auto_path))
 plan_is files k d s plan are fine planned =
     let auto = auto_of (content files auto_path) in
     planned_of (nat_eq auto.generation 18446744073709551615) (nat_lt max_bytes (length (auto_text s.title s.config (auto.generation + 1)))) (plan_of s auto) plan
     (one_plan files k d (plan_over s auto) (Ok plan) (plan_of_over files k d s auto _ are (old_read _ fine) refl) planned)
 
-pub previews_tell_syncs : PreviewsTellSyncs
-previews_tell_syncs old new k d text report p s =
-    let same = plan_is old k d p.sources s.plan p.are_sources (old_fine k d (content old auto_path) p.are_sources.accepted p.accepted) s.planned in
+pub previews_report_syncs : PreviewsReportSyncs
+previews_report_syncs old new k d text report p s =
+    let same = plan_is old k d p.sources s.plan p.are_config_inputs (old_fine k d (content old auto_path) p.are_config_inputs.accepted p.accepted) s.planned in
     let auto = subst (λ q. content new auto_path ≡ Some (auto_text q.title q.config (q.generation + 1))) same s.done.auto in
     let changed = subst (λ q. AreChanges q.old q.config report.touched.items) same s.changed.are in
     let names = changes_are_one _ _ p.names report.touched.items p.changed.are changed in
@@ -66,11 +66,11 @@ previews_tell_syncs old new k d text report p s =
     ∙ ap Some (ap (λ n. touch_lines n ++ auto_text p.sources.title p.sources.config (old_generation (content old auto_path) + 1)) (sym names) ∙ sym p.whole)
 
 -- where the texts are not refused, a bad auto.conf refuses both, ..
-bad_old : (r : Option AutoError) (e : AutoError) (b : List ℕ) (s : Sources) → r ≡ Some e → is_err (and_then (read_unless r b) (plan_over s)) ≡ true
+bad_old : (r : Option AutoError) (e : AutoError) (b : List ℕ) (s : ConfigInputs) → r ≡ Some e → is_err (and_then (read_unless r b) (plan_over s)) ≡ true
 bad_old None e b s h = absurd cc
 bad_old (Some x) e b s h = refl
 
-refused_by_auto : (k : KconfigText) (d : List ℕ) (o : Option (List ℕ)) (s : Sources) (e : AutoError) → source_refusal k d ≡ None → old_refusal o ≡ Some e
+refused_by_auto : (k : KconfigText) (d : List ℕ) (o : Option (List ℕ)) (s : ConfigInputs) (e : AutoError) → source_refusal k d ≡ None → old_refusal o ≡ Some e
     → is_some (preview_refusal k d o) ≡ is_err (and_then (old_auto o) (plan_over s))
 unfolding old_auto
 refused_by_auto k d None s e fine bad = absurd cc
@@ -84,14 +84,14 @@ full_alike x true long p small = refl
 full_alike x false true p small = absurd (small refl)
 full_alike x false false p small = refl
 
-refused_by_plan : (k : KconfigText) (d : List ℕ) (o : Option (List ℕ)) (s : Sources) → source_refusal k d ≡ None → old_refusal o ≡ None
+refused_by_plan : (k : KconfigText) (d : List ℕ) (o : Option (List ℕ)) (s : ConfigInputs) → source_refusal k d ≡ None → old_refusal o ≡ None
     → plan_over s (auto_of o) ≢ Err TooLarge → is_some (preview_refusal k d o) ≡ is_err (plan_over s (auto_of o))
 refused_by_plan k d o s fine read small =
     let auto = auto_of o in
     ap is_some (preview_refusal-full k d o fine read)
     ∙ full_alike _ (nat_eq auto.generation 18446744073709551615) (nat_lt max_bytes (length (auto_text s.title s.config (auto.generation + 1)))) (plan_of s auto) small
 
-refused_over : (k : KconfigText) (d : List ℕ) (o : Option (List ℕ)) (s : Sources) → source_refusal k d ≡ None → and_then (old_auto o) (plan_over s) ≢ Err TooLarge
+refused_over : (k : KconfigText) (d : List ℕ) (o : Option (List ℕ)) (s : ConfigInputs) → source_refusal k d ≡ None → and_then (old_auto o) (plan_over s) ≢ Err TooLarge
     → is_some (preview_refusal k d o) ≡ is_err (and_then (old_auto o) (plan_over s))
 refused_over k d o s fine small =
     elim (old_refusal o) as (λ r. old_refusal o ≡ r → is_some (preview_refusal k d o) ≡ is_err (and_then (old_auto o) (plan_over s))) [

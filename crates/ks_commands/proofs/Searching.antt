@@ -15,13 +15,13 @@ alike : (q x : List ℕ) → bytes_eq q x ≡ is_eq (slice_cmp nat_cmp x q)
 alike q x = sym (is_eq-slice_cmp q x) ∙ (eq_by_cmp_equiv nat_list_cmp_total).symm q x
 
 -- a search by halves finds a name that is one of them, where they are in order
-pub search_tells : (q : List ℕ) (symbols : List Symbol) (r : Result ℕ ℕ) → IsSearchInRange r (length symbols)
+pub search_reports : (q : List ℕ) (symbols : List Symbol) (r : Result ℕ ℕ) → IsSearchInRange r (length symbols)
     → IsBinarySearchResult (λ s. slice_cmp nat_cmp s.now q) symbols r → IsSortedByKey (λ s. s.now) (slice_cmp nat_cmp) symbols
     → is_ok r ≡ is_in (map (λ s. s.now) symbols) q
-search_tells q symbols (Ok i) range at in_order =
+search_reports q symbols (Ok i) range at in_order =
     sym (list_any-map (bytes_eq q) text symbols
     ∙ list_any_at (λ s. bytes_eq q s.now) symbols i nothing range (alike q (get_or symbols i nothing).now ∙ ap is_eq (at nothing)))
-search_tells q symbols (Err i) range parted in_order =
+search_reports q symbols (Err i) range parted in_order =
     let parts = parted (searchable_from_sorted nat_list_cmp_total (λ (s : Symbol). s.now) symbols q in_order) in
     sym (list_any-map (bytes_eq q) text symbols
     ∙ list_any_none (λ s. bytes_eq q s.now) symbols (All-from_get_or (λ s. bytes_eq q s.now ≡ false) symbols nothing (λ k lt.

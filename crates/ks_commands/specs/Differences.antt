@@ -10,8 +10,8 @@ use Rattle.ks_output.specs.OldConfig.{Texts}
 use Rattle.ks_compare.specs.Changes.{AreChanges, compared}
 use Rattle.ks_tree.specs.Files.{Files}
 use Rattle.ks_engine.specs.SyncPlan.{IsSyncPlan, Plan}
-use Rattle.ks_requests.specs.declared.telling.Telling.{Telling}
-use Rattle.ks_requests.specs.declared.telling.Telling.TheVariants.{Lines, LinesAndStatus, Status}
+use Rattle.ks_requests.specs.declared.report_style.ReportStyle.{ReportStyle}
+use Rattle.ks_requests.specs.declared.report_style.ReportStyle.TheVariants.{Lines, LinesAndStatus, Status}
 
 -- how the class of an entry is called; an entry of the untyped form has none
 abbrev pub class_word : Option Class → List ℕ
@@ -43,29 +43,29 @@ abbrev pub difference_line : Texts → Configuration → List ℕ → List ℕ
 difference_line old new name = change_line name (map.get old name) (option_map compared (map.get new name))
 
 -- the lines, unless the status alone is asked for
-abbrev pub lines_asked : Telling → List ℕ → List ℕ
+abbrev pub lines_asked : ReportStyle → List ℕ → List ℕ
 lines_asked Status lines = []
 lines_asked _ lines = lines
 
 -- whether the status is to say that a name differs
-abbrev pub asks_status : Telling → Bool
+abbrev pub asks_status : ReportStyle → Bool
 asks_status Lines = false
 asks_status LinesAndStatus = true
 asks_status Status = true
 
 -- then it is 1 where one does; else it is 0
-abbrev pub difference_status : Telling → List (List ℕ) → ℕ
-difference_status telling [] = 0
-difference_status telling (name ∷ names) = if asks_status telling then 1 else 0
+abbrev pub difference_status : ReportStyle → List (List ℕ) → ℕ
+difference_status report_style [] = 0
+difference_status report_style (name ∷ names) = if asks_status report_style then 1 else 0
 
 -- a line for exactly the names that differ, by rising names, each once; and their status
-pub record TellsChanges (telling : Telling) (old : Texts) (new : Configuration) (text : List ℕ) (status : ℕ) : Type 0 where
+pub record ReportsChanges (report_style : ReportStyle) (old : Texts) (new : Configuration) (text : List ℕ) (status : ℕ) : Type 0 where
   pub names : List (List ℕ)
   pub changed : AreChanges old new names
-  pub lines : text ≡ lines_asked telling (flat_map (difference_line old new) names)
-  pub status_of : status ≡ difference_status telling names
+  pub lines : text ≡ lines_asked report_style (flat_map (difference_line old new) names)
+  pub status_of : status ≡ difference_status report_style names
 
 -- what a synchronisation of these two texts would touch, told
-abbrev pub IsDiff : Telling → Files → KconfigText → List ℕ → List ℕ → ℕ → Type 0
-IsDiff telling files kconfig dotconfig text status =
-    (plan : Plan) × IsSyncPlan files kconfig dotconfig (Ok plan) × TellsChanges telling plan.old plan.config text status
+abbrev pub IsDiff : ReportStyle → Files → KconfigText → List ℕ → List ℕ → ℕ → Type 0
+IsDiff report_style files kconfig dotconfig text status =
+    (plan : Plan) × IsSyncPlan files kconfig dotconfig (Ok plan) × ReportsChanges report_style plan.old plan.config text status

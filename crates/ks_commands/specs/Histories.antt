@@ -10,7 +10,7 @@ use Rattle.ks_engine.specs.Depfile.{FollowsDepfile, ruled_by}
 use Rattle.ks_engine.specs.FileRuns.{FileState}
 use Rattle.ks_engine.specs.Follows.{TreeState, at, IsSame, FollowsRecord, FollowsSync}
 use Rattle.ks_engine.specs.Runs.{Run}
-use Rattle.ks_engine.specs.Stamped.{FollowsSyncStamped}
+use Rattle.ks_engine.specs.AllStamps.{FollowsSyncAllStamps}
 use Rattle.ks_requests.specs.declared.request.Request.{Request}
 use Rattle.ks_requests.specs.declared.request.Stamps.{Stamps}
 use Rattle.ks_requests.specs.declared.request.Stamps.TheVariants.{Touched, Declared}
@@ -19,12 +19,12 @@ use Rattle.ks_commands.specs.Performed.{Effects, Ends, by_files}
 
 -- a tree without its history, and with the files that it has aged, which no history tells
 abbrev pub state_of : TreeState → List (List ℕ) → FileState
-state_of s aged = record { files = s.files; failures = s.failures; aged = aged }
+state_of s backdated = record { files = s.files; failures = s.failures; backdated = backdated }
 
 -- a synchronisation, by which stamps it is to leave
 abbrev pub FollowsStamps : Stamps → KconfigText → List ℕ → Result Report EngineError → TreeState → TreeState → Type 0
 FollowsStamps Touched k d answer old new = FollowsSync k d answer old new
-FollowsStamps Declared k d answer old new = FollowsSyncStamped k d answer old new
+FollowsStamps Declared k d answer old new = FollowsSyncAllStamps k d answer old new
 
 -- The files of a script are read before its run begins.
 abbrev pub Runs : Dialect → TreeState → TreeState → List Action → List Reply → Type 0

@@ -5,17 +5,17 @@ use Rattle.ks_streams.specs.Streams.{State}
 use Rattle.ks_symbols.specs.declared.dialect.Dialect.{Dialect}
 use Rattle.ks_tree.specs.Files.{Files}
 use Rattle.ks_engine.specs.FileRuns.{FileState}
-use Rattle.ks_engine.specs.Asked.{IsAnswerOn, told}
+use Rattle.ks_engine.specs.Asked.{IsAnswerOn, reported}
 use Rattle.ks_engine.specs.Follows.{TreeState, at}
-use Rattle.ks_engine.specs.declared.aging.Ages.{Ages}
-use Rattle.ks_engine.specs.declared.question.Limit.TheVariants.{First}
+use Rattle.ks_engine.specs.declared.backdating.BackdateScope.{BackdateScope}
+use Rattle.ks_engine.specs.declared.query.Limit.TheVariants.{First}
 use Rattle.ks_engine.specs.History.{History, NoneBroken}
 use Rattle.ks_engine.specs.Shows.{Shows}
 use Rattle.ks_engine.specs.Staleness.{changed_since, suspect_since}
 use Rattle.ks_symbols.specs.Names.{is_in}
 use Rattle.ks_requests.specs.declared.refusal.Refusal.{Refusal}
 use Rattle.ks_requests.specs.declared.request.Request.{Request}
-use Rattle.ks_requests.specs.declared.request.Form.TheVariants.{Text}
+use Rattle.ks_requests.specs.declared.request.OutputFormat.TheVariants.{Text}
 use Rattle.ks_requests.specs.declared.request.Targets.{Targets}
 use Rattle.ks_requests.specs.declared.status.Outcome.{Outcome}
 use Rattle.ks_requests.specs.declared.status.Status.TheVariants.{Done}
@@ -26,15 +26,15 @@ use Rattle.ks_requests.specs.Statuses.{code_of}
 use Rattle.ks_requests.specs.Targets.{targets_at}
 use Rattle.ks_commands.specs.Histories.{Continues, by_histories}
 use Rattle.ks_commands.specs.Performed.{Ends, EndsBatch, by_files}
-use Rattle.ks_commands.specs.Questions.{explaining, no_count, tells}
+use Rattle.ks_commands.specs.Queries.{explaining, no_count, reports}
 use Rattle.ks_commands.specs.Walks.{EndsWalk}
 use Rattle.ks_symbols.specs.Configuration.{Configuration}
 use Rattle.ks_output.specs.OldConfig.{Texts}
 use Rattle.ks_compare.specs.Changes.{differs}
-use Rattle.ks_requests.specs.declared.telling.Telling.{Telling}
-use Rattle.ks_commands.specs.Differences.{TellsChanges, asks_status}
-use Rattle.ks_commands.specs.Programs.{changes_told}
-use Rattle.ks_commands.specs.Scripts.{IsGivenUpRefusal}
+use Rattle.ks_requests.specs.declared.report_style.ReportStyle.{ReportStyle}
+use Rattle.ks_commands.specs.Differences.{ReportsChanges, asks_status}
+use Rattle.ks_commands.specs.Programs.{changes_reported}
+use Rattle.ks_commands.specs.Scripts.{IsAbortedRefusal}
 
 -- A request that ended so by the files of an honest tree goes on with each history that the first of them show: there is a next one, which the last of
 -- them show.
@@ -60,7 +60,7 @@ PreviewsArePerformed =
 -- A refusal of the whole command leaves the files as before, but for want of memory and a failure of the device.
 abbrev pub RefusalsChangeNothing : Type 0
 RefusalsChangeNothing = (dialect : Dialect) (request : Request) (refusal : Refusal) (old new : FileState)
-    → (IsGivenUpRefusal refusal → ⊥) → Ends ⊤ (by_files dialect ⊤ old new) old request (Err refusal) new → new.files ≡ old.files
+    → (IsAbortedRefusal refusal → ⊥) → Ends ⊤ (by_files dialect ⊤ old new) old request (Err refusal) new → new.files ≡ old.files
 
 -- The status is at most 2, and 0 or 2 of what is done or refused.
 pub record IsStatusOf (ended : Ending) (status : ℕ) : Type 0 where
@@ -72,14 +72,14 @@ StatusesAreAtMostTwo = (ended : Ending) (following : List ℕ) (before after err
     → Printed following ended before after err_before err_after status → IsStatusOf ended status
 
 -- Where `diff` is asked for its status, that is 1 exactly if some name differs.
-abbrev pub StatusesTellDifferences : Type 0
-StatusesTellDifferences = (telling : Telling) (old : Texts) (new : Configuration) (text : List ℕ) (status : ℕ)
-    → asks_status telling ≡ true → TellsChanges telling old new text status → (status ≡ 1) ↔ ((x : List ℕ) × (differs old new x ≡ true))
+abbrev pub StatusesReportDifferences : Type 0
+StatusesReportDifferences = (report_style : ReportStyle) (old : Texts) (new : Configuration) (text : List ℕ) (status : ℕ)
+    → asks_status report_style ≡ true → ReportsChanges report_style old new text status → (status ≡ 1) ↔ ((x : List ℕ) × (differs old new x ≡ true))
 
 -- A script that runs without a refusal, after a history without a broken synchronisation, tells what changed.
-abbrev pub BatchTellsChanges : Type 0
-BatchTellsChanges = (dialect : Dialect) (path : List ℕ) (o : Outcome) (old new : TreeState) → code_of o.status < 2 → NoneBroken old.history
-    → EndsBatch ⊤ (by_histories dialect old new) old.files path (Ok o) → EndsBatch ⊤ (changes_told dialect old new) old.files path (Ok o)
+abbrev pub BatchReportsChanges : Type 0
+BatchReportsChanges = (dialect : Dialect) (path : List ℕ) (o : Outcome) (old new : TreeState) → code_of o.status < 2 → NoneBroken old.history
+    → EndsBatch ⊤ (by_histories dialect old new) old.files path (Ok o) → EndsBatch ⊤ (changes_reported dialect old new) old.files path (Ok o)
 
 -- A name that was found at an object's last record was touched since, by a synchronisation that was completed or by one that was broken off.
 abbrev pub WasTouched : History → List ℕ → List ℕ → Type 0
@@ -87,9 +87,9 @@ WasTouched h o x = (changed_since h o x ≡ true) ⊎ (suspect_since h o x ≡ t
 
 -- What `age` is for: where it refused nothing, each of its objects of which a name was touched since the record is among the aged, by each history that
 -- the files show.
-abbrev pub WhatChangedIsAged : Type 0
-WhatChangedIsAged =
-    (which : Ages) (old new : FileState) (h : History) (targets : Targets) (outcome : Outcome) (objects : List (List ℕ)) (o x : List ℕ)
+abbrev pub WhatChangedIsBackdated : Type 0
+WhatChangedIsBackdated =
+    (which : BackdateScope) (old new : FileState) (h : History) (targets : Targets) (outcome : Outcome) (objects : List (List ℕ)) (o x : List ℕ)
     → Shows old.files h → code_of outcome.status < 2
-    → EndsWalk (explaining ⊤ old.files (Some which) Text First (λ o answer. IsAnswerOn old.files o (told answer))) false (tells no_count) ⊤ old targets (Ok outcome) new
-    → targets_at old.files targets ≡ Ok objects → is_in objects o ≡ true → WasTouched h o x → is_in new.aged o ≡ true
+    → EndsWalk (explaining ⊤ old.files (Some which) Text First (λ o answer. IsAnswerOn old.files o (reported answer))) false (reports no_count) ⊤ old targets (Ok outcome) new
+    → targets_at old.files targets ≡ Ok objects → is_in objects o ≡ true → WasTouched h o x → is_in new.backdated o ≡ true

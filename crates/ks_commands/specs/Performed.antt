@@ -10,46 +10,46 @@ use Rattle.ks_engine.specs.declared.error.EngineError.{EngineError}
 use Rattle.ks_engine.specs.declared.error.EngineError.TheVariants.{BadPath, OutOfMemory, Device}
 use Rattle.ks_engine.specs.declared.commands.Reply.{Reply}
 use Rattle.ks_engine.specs.declared.explaining.Explanation.{Explanation}
-use Rattle.ks_engine.specs.declared.question.Limit.TheVariants.{First, All as Every}
+use Rattle.ks_engine.specs.declared.query.Limit.TheVariants.{First, All as Every}
 use Rattle.ks_engine.specs.declared.recording.Recorded.{Recorded as RecordAnswer}
 use Rattle.ks_engine.specs.declared.synchronise.Report.{Report}
 use Rattle.ks_engine.specs.declared.staleness.BuildState.{BuildState}
 use Rattle.ks_engine.specs.declared.staleness.Verdict.{Verdict}
 use Rattle.ks_engine.specs.Actions.{Action, calls_of}
-use Rattle.ks_engine.specs.Asked.{IsAnswerOn, told}
+use Rattle.ks_engine.specs.Asked.{IsAnswerOn, reported}
 use Rattle.ks_engine.specs.BuildStates.{IsStateOn}
 use Rattle.ks_engine.specs.Depfile.{ruled_by}
 use Rattle.ks_engine.specs.Explained.{IsExplanationOn}
 use Rattle.ks_engine.specs.Impact.{IsAnswerAfter}
-use Rattle.ks_engine.specs.Refusals.{Answers, IsGivenUp}
+use Rattle.ks_engine.specs.Refusals.{Answers, IsAborted}
 use Rattle.ks_engine.specs.FileRuns.{FileRun, FileState, LeavesDepfile, LeavesRecord, state}
 use Rattle.ks_engine.specs.SyncPlan.{IsSyncPlan}
 use Rattle.ks_engine.specs.Synchronised.{IsSynced}
 use Rattle.ks_requests.specs.declared.refusal.Refusal.{Refusal}
 use Rattle.ks_requests.specs.declared.refusal.Refusal.TheVariants.{Engine}
-use Rattle.ks_requests.specs.declared.request.Form.{Form}
-use Rattle.ks_requests.specs.declared.request.Form.TheVariants.{Text}
+use Rattle.ks_requests.specs.declared.request.OutputFormat.{OutputFormat}
+use Rattle.ks_requests.specs.declared.request.OutputFormat.TheVariants.{Text}
 use Rattle.ks_requests.specs.declared.request.Request.{Request}
 use Rattle.ks_requests.specs.declared.request.Stamps.{Stamps}
 use Rattle.ks_requests.specs.declared.request.Targets.{Targets}
-use Rattle.ks_requests.specs.declared.request.Request.TheVariants.{Age, Batch, Cost, Depfile, Diff, Fixdep, Impact, Outdated, Preview, Record, Stale, Sync, Users, Why}
-use Rattle.ks_requests.specs.declared.telling.Telling.{Telling}
+use Rattle.ks_requests.specs.declared.request.Request.TheVariants.{Backdate, Batch, Cost, Depfile, Diff, Fixdep, Impact, Outdated, Preview, Record, Stale, Sync, Users, Why}
+use Rattle.ks_requests.specs.declared.report_style.ReportStyle.{ReportStyle}
 use Rattle.ks_requests.specs.declared.status.Status.TheVariants.{Done}
-use Rattle.ks_requests.specs.Endings.{Answered, Ending, Stopped, Tells, TellsUnknown}
+use Rattle.ks_requests.specs.Endings.{Answered, Ending, Stopped, Reports, ReportsUnknown}
 use Rattle.ks_requests.specs.Unknown.{unknown_lines}
 use Rattle.ks_requests.specs.Inputs.{Inputs, Texts, inputs_at, texts_at}
 use Rattle.ks_requests.specs.Preview.{IsPreview, preview_refusal}
 use Rattle.ks_requests.specs.Replies.{answer_line, build_line, depfile_line, recorded_line, reply_lines, report_lines}
-use Rattle.ks_requests.specs.Requests.{IsNoQuestion, IsOneStep}
+use Rattle.ks_requests.specs.Requests.{IsNoQuery, IsOneStep}
 use Rattle.ks_requests.specs.Statuses.{build_status, reply_status, status_unless_refused, worst}
 use Rattle.ks_requests.specs.Symbols.{symbols_of}
 use Rattle.ks_commands.specs.Depfiles.{IsHeaderOf, IsNoHeader}
 use Rattle.ks_commands.specs.Differences.{IsDiff, lines_asked}
 use Rattle.ks_commands.specs.Fixdep.{command_file_at}
-use Rattle.ks_commands.specs.Questions.{explaining, no_count, stale_count, tells}
+use Rattle.ks_commands.specs.Queries.{explaining, no_count, stale_count, reports}
 use Rattle.ks_commands.specs.Stamps.{LeavesStamps}
-use Rattle.ks_commands.specs.Records.{reading, tells_cost, unread_lines, user_count, uses_lines}
-use Rattle.ks_commands.specs.Scripts.{AreSpelled, IsGivenUpRefusal, script_at}
+use Rattle.ks_commands.specs.Records.{reading, reports_cost, unread_lines, user_count, uses_lines}
+use Rattle.ks_commands.specs.Scripts.{AreSpelled, IsAbortedRefusal, script_at}
 use Rattle.ks_commands.specs.Walks.{EndsWalk, IsCounted, StoppedBy}
 
 -- What the engine's calls answer and leave. It is said by the files here, and by histories in the laws of this crate.
@@ -89,20 +89,20 @@ EndsDepfile effects end d t c ended =
 abbrev pub EndsPreview : Dialect → Files → List ℕ → List ℕ → Option (List ℕ) → Ending → Type 0
 EndsPreview dialect files k d o ended =
     Stopped (inputs_at files k d o) ended
-    ⊎ ((i : Inputs) × (inputs_at files k d o ≡ Ok i) × (((text : List ℕ) × IsPreview (read_in dialect i.kconfig) i.dotconfig i.old text × Tells text 0 ended)
+    ⊎ ((i : Inputs) × (inputs_at files k d o ≡ Ok i) × (((text : List ℕ) × IsPreview (read_in dialect i.kconfig) i.dotconfig i.old text × Reports text 0 ended)
     ⊎ ((e : EngineError) × IsRefusal OutOfMemory e (preview_refusal (read_in dialect i.kconfig) i.dotconfig i.old) × (ended ≡ Err (Engine e)))))
 
 -- A synchronisation of these texts is refused before its first write, or memory or the device fails before that.
 abbrev pub StoppedSync : Dialect → Files → Texts → Ending → Type 0
-StoppedSync dialect files t ended = (e : EngineError) × (IsGivenUp e ⊎ IsSyncPlan files (read_in dialect t.kconfig) t.dotconfig (Err e)) × (ended ≡ Err (Engine e))
+StoppedSync dialect files t ended = (e : EngineError) × (IsAborted e ⊎ IsSyncPlan files (read_in dialect t.kconfig) t.dotconfig (Err e)) × (ended ≡ Err (Engine e))
 
 -- What a synchronisation would touch, told; or the refusal that it would have before its first write.
-abbrev pub EndsDiff : Dialect → Telling → Files → List ℕ → List ℕ → Ending → Type 0
-EndsDiff dialect telling files k d ended =
+abbrev pub EndsDiff : Dialect → ReportStyle → Files → List ℕ → List ℕ → Ending → Type 0
+EndsDiff dialect report_style files k d ended =
     Stopped (texts_at files k d) ended
     ⊎ ((t : Texts) × (texts_at files k d ≡ Ok t)
-    × (((text : List ℕ) × (status : ℕ) × IsDiff telling files (read_in dialect t.kconfig) t.dotconfig text status
-    × TellsUnknown text status (lines_asked telling (unknown_lines (read_in dialect t.kconfig) t.dotconfig)) ended)
+    × (((text : List ℕ) × (status : ℕ) × IsDiff report_style files (read_in dialect t.kconfig) t.dotconfig text status
+    × ReportsUnknown text status (lines_asked report_style (unknown_lines (read_in dialect t.kconfig) t.dotconfig)) ended)
     ⊎ StoppedSync dialect files t ended))
 
 abbrev pub EndsFixdep : Dialect → Files → List ℕ → List ℕ → List ℕ → Ending → Type 0
@@ -114,30 +114,30 @@ abbrev pub CanBeSynced : Dialect → Files → Texts → Type 0
 CanBeSynced dialect files t = (after : Files) × (report : Report) × IsSynced files after (read_in dialect t.kconfig) t.dotconfig report
 
 -- What would be stale after a synchronisation, told; or the refusal that it would have before its first write, or the file of its targets has.
-abbrev pub EndsImpact : Type 0 → Dialect → (List ℕ → List ℕ → List ℕ → Result Verdict EngineError → Type 0) → FileState → List ℕ → List ℕ → Form
+abbrev pub EndsImpact : Type 0 → Dialect → (List ℕ → List ℕ → List ℕ → Result Verdict EngineError → Type 0) → FileState → List ℕ → List ℕ → OutputFormat
     → Targets → Ending → FileState → Type 0
-EndsImpact honest dialect impact old k d form targets ended new =
+EndsImpact honest dialect impact old k d format targets ended new =
     StoppedBy honest (λ e. texts_at old.files k d ≡ Err e) old ended new
     ⊎ ((t : Texts) × (honest → texts_at old.files k d ≡ Ok t)
     × (StoppedBy honest (λ e. IsSyncPlan old.files (read_in dialect t.kconfig) t.dotconfig (Err e)) old ended new
     ⊎ ((honest → CanBeSynced dialect old.files t)
-    × EndsWalk (explaining honest old.files None form First (λ o answer. impact t.kconfig t.dotconfig o (told answer))) false (tells stale_count) honest old targets ended new)))
+    × EndsWalk (explaining honest old.files None format First (λ o answer. impact t.kconfig t.dotconfig o (reported answer))) false (reports stale_count) honest old targets ended new)))
 
 abbrev pub EndsOutdated : Type 0 → (List ℕ → List ℕ → Result BuildState EngineError → Type 0) → FileState → List ℕ → List ℕ → Ending → FileState → Type 0
 EndsOutdated honest outdated old o c ended new =
     (answer : Result BuildState EngineError) × (honest → outdated o c answer) × IsCounted old.failures answer new.failures
-    × Tells (answer_line build_line o answer) (status_unless_refused build_status answer) ended
+    × Reports (answer_line build_line o answer) (status_unless_refused build_status answer) ended
 
 -- Memory is refused before the first command; else each command has its reply and its line.
 abbrev pub RunsAll : Type 0 → (List Reply → Type 0) → List Action → Ending → Type 0
 RunsAll same run actions ended =
     (same × (ended ≡ Err (Engine OutOfMemory)))
-    ⊎ ((replies : List Reply) × run replies × Tells (reply_lines actions replies) (worst (map reply_status replies)) ended)
+    ⊎ ((replies : List Reply) × run replies × Reports (reply_lines actions replies) (worst (map reply_status replies)) ended)
 
 -- The script or its files can't be read; or its commands run, which on an honest tree are those of the file at its path.
 abbrev pub EndsBatch : Type 0 → Effects → Files → List ℕ → Ending → Type 0
 EndsBatch honest effects files path ended =
-    ((r : Refusal) × (honest → effects.same × (IsGivenUpRefusal r ⊎ (script_at files path ≡ Err r))) × (ended ≡ Err r))
+    ((r : Refusal) × (honest → effects.same × (IsAbortedRefusal r ⊎ (script_at files path ≡ Err r))) × (ended ≡ Err r))
     ⊎ ((script : List ℕ) × (actions : List Action) × AreSpelled script actions × (honest → script_at files path ≡ Ok actions)
     × RunsAll (honest → effects.same) (effects.run actions) actions ended)
 
@@ -146,27 +146,27 @@ abbrev pub Ends : Type 0 → Effects → FileState → Request → Ending → Fi
 Ends honest effects old (Sync k d stamps) ended new = honest → EndsSync old.files effects stamps (string_bytes k) (string_bytes d) ended
 Ends honest effects old (Preview k d o) ended new =
     honest → effects.same × EndsPreview effects.dialect old.files (string_bytes k) (string_bytes d) (option_map (λ path. string_bytes path) o) ended
-Ends honest effects old (Diff k d telling) ended new = honest → effects.same × EndsDiff effects.dialect telling old.files (string_bytes k) (string_bytes d) ended
+Ends honest effects old (Diff k d report_style) ended new = honest → effects.same × EndsDiff effects.dialect report_style old.files (string_bytes k) (string_bytes d) ended
 Ends honest effects old (Fixdep d t c) ended new =
     honest → effects.same × EndsFixdep effects.dialect old.files (string_bytes d) (string_bytes t) (string_bytes c) ended
 Ends honest effects old (Record d t c after) ended new = honest → EndsRecord effects (string_bytes d) (string_bytes t) (string_bytes c) ended
 Ends honest effects old (Depfile end d t c) ended new =
     honest → EndsDepfile effects (option_map (λ path. string_bytes path) end) (string_bytes d) (string_bytes t) (string_bytes c) ended
-Ends honest effects old (Stale targets form) ended new = (honest → effects.same)
-    × EndsWalk (explaining honest old.files None form First (λ o answer. effects.stale o (told answer))) false (tells no_count) honest old targets ended new
-Ends honest effects old (Why targets form) ended new =
-    (honest → effects.same) × EndsWalk (explaining honest old.files None form Every effects.why) false (tells no_count) honest old targets ended new
-Ends honest effects old (Impact k d targets form) ended new =
-    (honest → effects.same) × EndsImpact honest effects.dialect effects.impact old (string_bytes k) (string_bytes d) form targets ended new
-Ends honest effects old (Age which targets) ended new = (honest → effects.same)
-    × EndsWalk (explaining honest old.files (Some which) Text First (λ o answer. effects.stale o (told answer))) false (tells no_count) honest old targets ended new
+Ends honest effects old (Stale targets format) ended new = (honest → effects.same)
+    × EndsWalk (explaining honest old.files None format First (λ o answer. effects.stale o (reported answer))) false (reports no_count) honest old targets ended new
+Ends honest effects old (Why targets format) ended new =
+    (honest → effects.same) × EndsWalk (explaining honest old.files None format Every effects.why) false (reports no_count) honest old targets ended new
+Ends honest effects old (Impact k d targets format) ended new =
+    (honest → effects.same) × EndsImpact honest effects.dialect effects.impact old (string_bytes k) (string_bytes d) format targets ended new
+Ends honest effects old (Backdate which targets) ended new = (honest → effects.same)
+    × EndsWalk (explaining honest old.files (Some which) Text First (λ o answer. effects.stale o (reported answer))) false (reports no_count) honest old targets ended new
 Ends honest effects old (Outdated t c) ended new =
     (honest → effects.same) × EndsOutdated honest effects.outdated old (string_bytes t) (string_bytes c) ended new
 Ends honest effects old (Batch script) ended new = EndsBatch honest effects old.files (string_bytes script) ended
 Ends honest effects old (Users symbols targets) ended new = (honest → effects.same)
-    × EndsWalk (reading honest old.files (uses_lines (symbols_of symbols.items))) true (tells (user_count (symbols_of symbols.items))) honest old targets ended new
+    × EndsWalk (reading honest old.files (uses_lines (symbols_of symbols.items))) true (reports (user_count (symbols_of symbols.items))) honest old targets ended new
 Ends honest effects old (Cost top targets) ended new =
-    (honest → effects.same) × EndsWalk (reading honest old.files unread_lines) true (tells_cost top) honest old targets ended new
+    (honest → effects.same) × EndsWalk (reading honest old.files unread_lines) true (reports_cost top) honest old targets ended new
 
 -- ---- what the calls of the engine leave
 
@@ -195,18 +195,18 @@ by_files dialect honest old new = record {
 
 -- a request that asks about no objects, one after the other: it ages none
 abbrev pub IsNoWalk : Request → Type 0
-IsNoWalk (Stale targets form) = ⊥
-IsNoWalk (Why targets form) = ⊥
-IsNoWalk (Impact kconfig dotconfig targets form) = ⊥
-IsNoWalk (Age which targets) = ⊥
+IsNoWalk (Stale targets format) = ⊥
+IsNoWalk (Why targets format) = ⊥
+IsNoWalk (Impact kconfig dotconfig targets format) = ⊥
+IsNoWalk (Backdate which targets) = ⊥
 IsNoWalk (Users symbols targets) = ⊥
 IsNoWalk (Cost top targets) = ⊥
 IsNoWalk _ = ⊤
 
 -- It ended so, by the files and by what the tree has counted.
 pub record Performs {T : Type 0} (tree : Ghosts T) (dialect : Dialect) (old new : T) (request : Request) (ended : Ending) : Type 0 where
-  pub done : IsNoQuestion request → IfOk ended (λ o. o.status ≡ Done)
+  pub done : IsNoQuery request → IfOk ended (λ o. o.status ≡ Done)
   pub ends : Ends tree.is_honest (by_files dialect tree.is_honest (state tree old) (state tree new)) (state tree old) request ended (state tree new)
   pub cause : ended ≡ Err (Engine Device) → HasRisen (tree.failures old) (tree.failures new)
   pub memory : IsOneStep request → ended ≡ Err (Engine OutOfMemory) → tree.failures new ≡ tree.failures old
-  pub kept : IsNoWalk request → tree.aged new ≡ tree.aged old
+  pub kept : IsNoWalk request → tree.backdated new ≡ tree.backdated old

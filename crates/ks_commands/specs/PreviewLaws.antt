@@ -11,8 +11,8 @@ use Rattle.ks_engine.specs.declared.synchronise.Report.{Report}
 use Rattle.ks_requests.specs.Preview.{IsPreview, preview_refusal, touch_lines}
 
 -- It prints a line for each name whose stamp the synchronisation renews, and then the auto.conf that it leaves.
-abbrev pub PreviewsTellSyncs : Type 0
-PreviewsTellSyncs =
+abbrev pub PreviewsReportSyncs : Type 0
+PreviewsReportSyncs =
     (old new : Files) (kconfig : KconfigText) (dotconfig text : List ℕ) (report : Report)
     → IsPreview kconfig dotconfig (content old auto_path) text → IsSynced old new kconfig dotconfig report
     → option_map (λ auto. touch_lines report.touched.items ++ auto) (content new auto_path) ≡ Some text

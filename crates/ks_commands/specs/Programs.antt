@@ -14,12 +14,12 @@ use Rattle.ks_engine.specs.declared.staleness.Verdict.{Verdict}
 use Rattle.ks_engine.specs.declared.synchronise.Report.{Report}
 use Rattle.ks_engine.specs.declared.staleness.Verdict.TheVariants.{Fresh}
 use Rattle.ks_engine.specs.Actions.{Action, calls_of}
-use Rattle.ks_engine.specs.BuildStates.{judged}
-use Rattle.ks_engine.specs.Asked.{told}
+use Rattle.ks_engine.specs.BuildStates.{evaluated}
+use Rattle.ks_engine.specs.Asked.{reported}
 use Rattle.ks_engine.specs.Follows.{TreeState, IsSame, at}
 use Rattle.ks_engine.specs.History.{LastRecord, Synced, last_record}
-use Rattle.ks_engine.specs.Judged.{HasSameDefinitions}
-use Rattle.ks_engine.specs.Refusals.{IsGivenUpAnswer}
+use Rattle.ks_engine.specs.Evaluated.{HasSameDefinitions}
+use Rattle.ks_engine.specs.Refusals.{IsAbortedAnswer}
 use Rattle.ks_engine.specs.Runs.{IsShown, Leads, Step, call_in}
 use Rattle.ks_engine.specs.Staleness.{changed_since, first_changed, found, verdict}
 use Rattle.ks_engine.specs.Synchronised.{IsSynced}
@@ -37,29 +37,29 @@ pub record ProgramRun : Type 0 where
   pub after : TreeState
 
 -- What is answered of a recorded object is the first of its names that changed since the record. Fresh, the header defines its names as then.
-pub record TellsChange (s : TreeState) (o : List ℕ) (answer : Result Verdict EngineError) : Type 0 where
-  pub changed : (r : LastRecord) → last_record s.history o ≡ Some r → IsGivenUpAnswer answer ⊎ (answer ≡ Ok (verdict (first_changed s.history o)))
+pub record ReportsChange (s : TreeState) (o : List ℕ) (answer : Result Verdict EngineError) : Type 0 where
+  pub changed : (r : LastRecord) → last_record s.history o ≡ Some r → IsAbortedAnswer answer ⊎ (answer ≡ Ok (verdict (first_changed s.history o)))
   pub safe : (r : LastRecord) → last_record s.history o ≡ Some r → answer ≡ Ok Fresh → HasSameDefinitions s.files r
 
 -- So does an explanation, and its causes are all names that changed.
-pub record TellsCauses (s : TreeState) (o : List ℕ) (answer : Result Explanation EngineError) : Type 0 where
-  pub tells : TellsChange s o (told answer)
+pub record ReportsCauses (s : TreeState) (o : List ℕ) (answer : Result Explanation EngineError) : Type 0 where
+  pub reports : ReportsChange s o (reported answer)
   pub causes : (r : LastRecord) → last_record s.history o ≡ Some r
       → IfOk answer (λ e. map (λ c. c.name) e.causes.items ≡ filter (changed_since s.history o) (found s.history o))
 
 -- So does an answer after a synchronisation of two texts, of each state that this would leave.
-abbrev pub TellsAfter : TreeState → KconfigText → List ℕ → List ℕ → Result Verdict EngineError → Type 0
-TellsAfter s k d o answer = (after : Files) (report : Report) (synced : IsSynced s.files after k d report)
-    → TellsChange (at after s.failures (Synced synced.plan.title synced.plan.config s.history)) o answer
+abbrev pub ReportsAfter : TreeState → KconfigText → List ℕ → List ℕ → Result Verdict EngineError → Type 0
+ReportsAfter s k d o answer = (after : Files) (report : Report) (synced : IsSynced s.files after k d report)
+    → ReportsChange (at after s.failures (Synced synced.plan.title synced.plan.config s.history)) o answer
 
 -- So does an answer about a command that builds it: another one is told exactly where that of the record is another one.
-pub record TellsBuild (s : TreeState) (o command : List ℕ) (answer : Result BuildState EngineError) : Type 0 where
-  pub differs : (r : LastRecord) → last_record s.history o ≡ Some r → bytes_eq r.command command ≡ false → IsGivenUpAnswer answer ⊎ (answer ≡ Ok CommandDiffers)
+pub record ReportsBuild (s : TreeState) (o command : List ℕ) (answer : Result BuildState EngineError) : Type 0 where
+  pub differs : (r : LastRecord) → last_record s.history o ≡ Some r → bytes_eq r.command command ≡ false → IsAbortedAnswer answer ⊎ (answer ≡ Ok CommandDiffers)
   pub same : (r : LastRecord) → last_record s.history o ≡ Some r → bytes_eq r.command command ≡ true
-      → (verdict : Result Verdict EngineError) × (answer ≡ judged verdict) × TellsChange s o verdict
+      → (verdict : Result Verdict EngineError) × (answer ≡ evaluated verdict) × ReportsChange s o verdict
 
 -- The steps of a script's run, which lead from the state before it to the state after it; their verdicts do the same.
-pub record StepsTellChanges (dialect : Dialect) (old new : TreeState) (actions : List Action) (replies : List Reply) : Type 0 where
+pub record StepsReportChanges (dialect : Dialect) (old new : TreeState) (actions : List Action) (replies : List Reply) : Type 0 where
   pub failures : ℕ
   pub later : old.failures ≤ failures
   pub steps : List Step
@@ -69,16 +69,16 @@ pub record StepsTellChanges (dialect : Dialect) (old new : TreeState) (actions :
   pub safe : All (λ step. IsSafeVerdict step.before step.action step.reply) steps
 
 -- What changes a tree does so as by its history; what is told of recorded objects tells what changed.
-abbrev pub changes_told : Dialect → TreeState → TreeState → Effects
-changes_told dialect old new = record (by_histories dialect old new) {
-  stale = TellsChange old;
-  why = TellsCauses old;
-  impact = λ k. TellsAfter old (read_in dialect k);
-  outdated = λ o command answer. IsTrue (is_command command) → TellsBuild old o command answer;
-  run = StepsTellChanges dialect old new;
+abbrev pub changes_reported : Dialect → TreeState → TreeState → Effects
+changes_reported dialect old new = record (by_histories dialect old new) {
+  stale = ReportsChange old;
+  why = ReportsCauses old;
+  impact = λ k. ReportsAfter old (read_in dialect k);
+  outdated = λ o command answer. IsTrue (is_command command) → ReportsBuild old o command answer;
+  run = StepsReportChanges dialect old new;
 }
 
 -- All that a run of the program prints of recorded objects tells what changed.
-abbrev pub ProgramTellsChanges : ProgramRun → Type 0
-ProgramTellsChanges run =
-    (a b : List (List ℕ)) × Ends ⊤ (changes_told run.dialect run.before run.after) (state_of run.before a) run.request run.ended (state_of run.after b)
+abbrev pub ProgramReportsChanges : ProgramRun → Type 0
+ProgramReportsChanges run =
+    (a b : List (List ℕ)) × Ends ⊤ (changes_reported run.dialect run.before run.after) (state_of run.before a) run.request run.ended (state_of run.after b)

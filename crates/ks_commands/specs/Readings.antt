@@ -7,8 +7,8 @@ use Rattle.ks_engine.specs.declared.error.EngineError.{EngineError}
 use Rattle.ks_engine.specs.declared.costs.Costs.{Costs}
 use Rattle.ks_engine.specs.Costs.{AreTallies, cost_of, tallies_of}
 use Rattle.ks_requests.specs.Statuses.{code_of}
-use Rattle.ks_commands.specs.declared.readings.Told.{Told}
-use Rattle.ks_commands.specs.Walks.{Asking, Part, TellsAll}
+use Rattle.ks_commands.specs.declared.readings.Reported.{Reported}
+use Rattle.ks_commands.specs.Walks.{Querying, Part, ReportsAll}
 use Rattle.ks_commands.specs.Records.{is_user, names_it}
 
 -- the record that was read, if there is one
@@ -21,9 +21,9 @@ abbrev pub records_in : List (Part (Option CommandRecord)) → List CommandRecor
 records_in parts = flat_map (λ p. record_in p.answer) parts
 
 -- These objects were told of one after the other, and their records read.
-abbrev pub AreRead : Asking (Option CommandRecord) → (List CommandRecord → Type 0) → List (List ℕ) → FileState → Told → FileState → Type 0
-AreRead asking has_read objects first all last = (parts : List (Part (Option CommandRecord)))
-    × TellsAll asking parts first objects all.text.items (code_of all.status) last × has_read (records_in parts) × (all.all ≡ length parts)
+abbrev pub AreRead : Querying (Option CommandRecord) → (List CommandRecord → Type 0) → List (List ℕ) → FileState → Reported → FileState → Type 0
+AreRead querying has_read objects first all last = (parts : List (Part (Option CommandRecord)))
+    × ReportsAll querying parts first objects all.text.items (code_of all.status) last × has_read (records_in parts) × (all.all ≡ length parts)
 
 -- What was so of the records before an answer is so of those with it.
 abbrev pub Adds : (List CommandRecord → Type 0) → (List CommandRecord → Type 0) → Result (Option CommandRecord) EngineError → Type 0

@@ -14,7 +14,7 @@ use Rattle.ks_requests.specs.declared.status.Outcome.{Outcome}
 use Rattle.ks_requests.specs.Replies.{answer_line}
 use Rattle.ks_requests.specs.Statuses.{code_of, status_unless_refused, worst}
 use Rattle.ks_requests.specs.Symbols.{cost_line, unrecorded_line, use_line}
-use Rattle.ks_commands.specs.Walks.{Asking, Part, statuses, text_of}
+use Rattle.ks_commands.specs.Walks.{Querying, Part, statuses, text_of}
 
 -- an object is told of by the lines of what its command file was read as; the status is 2 where that is refused
 pub record IsReadIn (honest : Type 0) (files : Files) (line : List ℕ → Option CommandRecord → List ℕ) (p : Part (Option CommandRecord)) : Type 0 where
@@ -22,8 +22,8 @@ pub record IsReadIn (honest : Type 0) (files : Files) (line : List ℕ → Optio
   pub lines : p.lines ≡ answer_line line p.object p.answer
   pub status : p.status ≡ status_unless_refused (λ _. 0) p.answer
 
-abbrev pub reading : Type 0 → Files → (List ℕ → Option CommandRecord → List ℕ) → Asking (Option CommandRecord)
-reading honest files line = record { told = IsReadIn honest files line; ages = λ p old new. new ≡ old }
+abbrev pub reading : Type 0 → Files → (List ℕ → Option CommandRecord → List ℕ) → Querying (Option CommandRecord)
+reading honest files line = record { reported = IsReadIn honest files line; backdates = λ p old new. new ≡ old }
 
 -- ---- who names a symbol
 
@@ -70,6 +70,6 @@ abbrev pub cost_lines : Option ℕ → List (List ℕ × ℕ) → List ℕ
 cost_lines top costs = flat_map cost_line (at_most top costs)
 
 -- Each object that has no record, or is refused, is told of; and then what each symbol costs by the others, the dearest first.
-abbrev pub tells_cost : Option ℕ → List (Part (Option CommandRecord)) → Outcome → Type 0
-tells_cost top parts o = (costs : List (List ℕ × ℕ)) × AreCosts (cost_among parts) costs × (o.text.items ≡ text_of parts ++ cost_lines top costs)
+abbrev pub reports_cost : Option ℕ → List (Part (Option CommandRecord)) → Outcome → Type 0
+reports_cost top parts o = (costs : List (List ℕ × ℕ)) × AreCosts (cost_among parts) costs × (o.text.items ≡ text_of parts ++ cost_lines top costs)
     × (code_of o.status ≡ worst (statuses parts)) × (o.count ≡ None)

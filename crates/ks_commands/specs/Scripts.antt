@@ -5,7 +5,7 @@ use Rattle.ks_engine.specs.declared.error.EngineError.{EngineError}
 use Rattle.ks_engine.specs.Actions.{Action}
 use Rattle.ks_engine.specs.Actions as asked
 use Rattle.ks_engine.specs.Recording.{followed}
-use Rattle.ks_engine.specs.Refusals.{IsGivenUp, and_then}
+use Rattle.ks_engine.specs.Refusals.{IsAborted, and_then}
 use Rattle.ks_requests.specs.Script.{Line, Sync, Record, Stale, script_lines}
 use Rattle.ks_requests.specs.ScriptRefusals.{script_refusal}
 use Rattle.ks_requests.specs.declared.script_error.ScriptError.{ScriptError}
@@ -62,6 +62,6 @@ unfoldable pub script_at : Files → List ℕ → Result (List Action) Refusal
 script_at files path = actions_of files (given files path)
 
 -- memory is refused, or the device fails: no file decides these
-abbrev pub IsGivenUpRefusal : Refusal → Type 0
-IsGivenUpRefusal (Engine e) = IsGivenUp e
-IsGivenUpRefusal r = ⊥
+abbrev pub IsAbortedRefusal : Refusal → Type 0
+IsAbortedRefusal (Engine e) = IsAborted e
+IsAbortedRefusal r = ⊥

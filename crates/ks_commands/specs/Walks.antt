@@ -6,14 +6,14 @@ use Rattle.ks_tree.specs.Files.{Files, HasRisen}
 use Rattle.ks_engine.specs.declared.error.EngineError.{EngineError}
 use Rattle.ks_engine.specs.declared.error.EngineError.TheVariants.{Device, OutOfMemory}
 use Rattle.ks_engine.specs.FileRuns.{FileState}
-use Rattle.ks_engine.specs.Refusals.{IsGivenUp}
+use Rattle.ks_engine.specs.Refusals.{IsAborted}
 use Rattle.ks_requests.specs.declared.refusal.Refusal.TheVariants.{Engine}
 use Rattle.ks_requests.specs.declared.request.Targets.{Targets}
 use Rattle.ks_requests.specs.declared.status.Outcome.{Outcome}
 use Rattle.ks_requests.specs.Endings.{Ending}
 use Rattle.ks_requests.specs.Inputs.{given_if_named}
 use Rattle.ks_requests.specs.Statuses.{worst}
-use Rattle.ks_requests.specs.Targets.{file_of, targets_at, with_file, words_of}
+use Rattle.ks_requests.specs.Targets.{file_of, targets_at, with_file, args_of}
 
 -- An answer blames the device only where the count of failures rose on the way to it, and the count never falls.
 pub record IsCounted {A : Type 0} (before : ℕ) (answer : Result A EngineError) (after : ℕ) : Type 0 where
@@ -30,20 +30,20 @@ pub record Part (A : Type 0) : Type 0 where
   pub status : ℕ
 
 -- what is asked of an object: by which answers, and in which lines, and what is aged for it
-pub record Asking (A : Type 0) : Type 1 where
-  pub told : Part A → Type 0
-  pub ages : Part A → List (List ℕ) → List (List ℕ) → Type 0
+pub record Querying (A : Type 0) : Type 1 where
+  pub reported : Part A → Type 0
+  pub backdates : Part A → List (List ℕ) → List (List ℕ) → Type 0
 
 -- An object is told of, from one standing to the next.
-pub record IsStep {A : Type 0} (asking : Asking A) (first : FileState) (p : Part A) (next : FileState) : Type 0 where
-  pub told : asking.told p
+pub record IsStep {A : Type 0} (querying : Querying A) (first : FileState) (p : Part A) (next : FileState) : Type 0 where
+  pub reported : querying.reported p
   pub counted : IsCounted first.failures p.answer next.failures
-  pub aged : asking.ages p first.aged next.aged
+  pub backdated : querying.backdates p first.backdated next.backdated
 
 -- Each begins where the one before it ended.
-abbrev pub Walks : {A : Type 0} → Asking A → FileState → List (Part A) → FileState → Type 0
-Walks asking first [] last = last ≡ first
-Walks asking first (p ∷ ps) last = (next : FileState) × IsStep asking first p next × Walks asking next ps last
+abbrev pub Walks : {A : Type 0} → Querying A → FileState → List (Part A) → FileState → Type 0
+Walks querying first [] last = last ≡ first
+Walks querying first (p ∷ ps) last = (next : FileState) × IsStep querying first p next × Walks querying next ps last
 
 -- all of them, their text and the worst status
 abbrev pub objects_of : {A : Type 0} → List (Part A) → List (List ℕ)
@@ -62,44 +62,44 @@ pub record AreAsked (honest : Type 0) (old : FileState) (targets : Targets) (obj
   pub from : Option (List ℕ)
   pub named : file_of targets ≡ None → from ≡ None
   pub there : honest → given_if_named old.files (file_of targets) ≡ Ok from
-  pub all : objects ≡ with_file (words_of targets) from
+  pub all : objects ≡ with_file (args_of targets) from
   pub later : old.failures ≤ first.failures
-  pub aged : first.aged ≡ old.aged
+  pub backdated : first.backdated ≡ old.backdated
 
 -- each of them, or each once, however often it is given
 abbrev pub each_of : Bool → List (List ℕ) → List (List ℕ)
 each_of once objects = if once then all_noted [] objects else objects
 
 -- All of them were told of, and it ended so; or memory was refused, and a beginning of them was.
-abbrev pub ToldAll : {A E : Type 0} → (List (Part A) → Outcome → Type 0) → List (List ℕ) → List (Part A) → Result Outcome E → Type 0
-ToldAll tells objects parts (Ok o) = (objects_of parts ≡ objects) × tells parts o
-ToldAll tells objects parts (Err e) = (n : ℕ) × (objects_of parts ≡ take n objects)
+abbrev pub ReportedAll : {A E : Type 0} → (List (Part A) → Outcome → Type 0) → List (List ℕ) → List (Part A) → Result Outcome E → Type 0
+ReportedAll reports objects parts (Ok o) = (objects_of parts ≡ objects) × reports parts o
+ReportedAll reports objects parts (Err e) = (n : ℕ) × (objects_of parts ≡ take n objects)
 
 -- It is refused for such a reason, or memory or the device fails, and nothing is aged. Which reasons there are is said of honest trees.
 abbrev pub StoppedBy : Type 0 → (EngineError → Type 0) → FileState → Ending → FileState → Type 0
-StoppedBy honest reason old ended new = (e : EngineError) × (honest → IsGivenUp e ⊎ reason e) × (ended ≡ Err (Engine e)) × (new.aged ≡ old.aged)
+StoppedBy honest reason old ended new = (e : EngineError) × (honest → IsAborted e ⊎ reason e) × (ended ≡ Err (Engine e)) × (new.backdated ≡ old.backdated)
 
 -- It is refused where the file of its objects is, or they are walked over.
-abbrev pub EndsWalk : {A : Type 0} → Asking A → Bool → (List (Part A) → Outcome → Type 0) → Type 0 → FileState → Targets → Ending → FileState → Type 0
-EndsWalk {A} asking once tells honest old targets ended new =
+abbrev pub EndsWalk : {A : Type 0} → Querying A → Bool → (List (Part A) → Outcome → Type 0) → Type 0 → FileState → Targets → Ending → FileState → Type 0
+EndsWalk {A} querying once reports honest old targets ended new =
     StoppedBy honest (λ e. targets_at old.files targets ≡ Err e) old ended new
     ⊎ ((objects : List (List ℕ)) × (first : FileState) × (parts : List (Part A)) × AreAsked honest old targets objects first
-    × Walks asking first parts new × ToldAll tells (each_of once objects) parts ended × IfErr ended (λ r. r ≡ Engine OutOfMemory))
+    × Walks querying first parts new × ReportedAll reports (each_of once objects) parts ended × IfErr ended (λ r. r ≡ Engine OutOfMemory))
 
 -- ---- for the proof of the bodies
 
 -- This object was told of, after the text before.
-pub record TellsOne {A : Type 0} (asking : Asking A) (first : FileState) (o before after : List ℕ) (code : ℕ) (last : FileState) : Type 0 where
+pub record ReportsOne {A : Type 0} (querying : Querying A) (first : FileState) (o before after : List ℕ) (code : ℕ) (last : FileState) : Type 0 where
   pub part : Part A
   pub of_object : part.object ≡ o
-  pub step : IsStep asking first part last
+  pub step : IsStep querying first part last
   pub lines : after ≡ before ++ part.lines
   pub status_of : code ≡ part.status
 
 -- These objects were, in this text, and the status is the worst.
-pub record TellsAll {A : Type 0} (asking : Asking A) (parts : List (Part A)) (first : FileState) (objects : List (List ℕ)) (text : List ℕ) (code : ℕ)
+pub record ReportsAll {A : Type 0} (querying : Querying A) (parts : List (Part A)) (first : FileState) (objects : List (List ℕ)) (text : List ℕ) (code : ℕ)
     (last : FileState) : Type 0 where
   pub of_objects : objects_of parts ≡ objects
-  pub walks : Walks asking first parts last
+  pub walks : Walks querying first parts last
   pub lines : text ≡ text_of parts
   pub worst_of : code ≡ worst (statuses parts)

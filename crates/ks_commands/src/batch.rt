@@ -7,7 +7,7 @@ ghost use Rattle.std.specs.List.{All};
 ghost use Rattle.ks_tree.specs.Frames.{Reads};
 ghost use Rattle.ks_engine.specs.Actions.{action, calls_of};
 ghost use Rattle.ks_engine.specs.FileRuns.{FileRun, state};
-ghost use Rattle.ks_engine.specs.Refusals.{IsGivenUp};
+ghost use Rattle.ks_engine.specs.Refusals.{IsAborted};
 ghost use Rattle.ks_engine.specs.declared.error.EngineError.TheVariants.{Device};
 ghost use Rattle.ks_tree.specs.Files.{Files, HasRisen, content};
 ghost use Rattle.ks_requests.specs.Script.{script_lines, seen_line};
@@ -16,10 +16,10 @@ ghost use Rattle.ks_requests.specs.declared.refusal.Refusal.TheVariants.{Engine}
 ghost use Rattle.ks_requests.specs.Inputs.{given};
 ghost use Rattle.ks_commands.specs.Performed.{EndsBatch, RunsAll, by_files};
 ghost use Rattle.ks_commands.specs.Kept.{AreGiven, AreKept, IsKept};
-ghost use Rattle.ks_commands.specs.Scripts.{IsGivenUpRefusal, action_at, actions_at, line_of, of_engine, script_actions, without_files};
+ghost use Rattle.ks_commands.specs.Scripts.{IsAbortedRefusal, action_at, actions_at, line_of, of_engine, script_actions, without_files};
 
 use ks_engine::{Command, EngineError, run};
-use ks_requests::{Outcome, Refusal, ScriptLine, read_given, read_script, tell_replies};
+use ks_requests::{Outcome, Refusal, ScriptLine, read_given, read_script, report_replies};
 use ks_symbols::Dialect;
 use ks_tree::{MemoryTree, Tree};
 use std::alloc::{AllocError, Global};
@@ -44,7 +44,7 @@ fn keep_file<T: Tree>(
     ensures here { OnOk result (IsKept kept.new path.now) }
     ensures grows { (q : List ℕ) → IsKept kept.old q → IsKept kept.new q }
     ensures once { IsKept kept.old path.now → tree.new ≡ tree.old }
-    ensures refused { T.is_honest → IfErr result (λ e. IsGivenUp e ⊎ (given (T.files tree.old) path.now ≡ Err e)) }
+    ensures refused { T.is_honest → IfErr result (λ e. IsAborted e ⊎ (given (T.files tree.old) path.now ≡ Err e)) }
 {
     if kept.get(path).is_some() {
         return Ok(());
@@ -67,7 +67,7 @@ fn keep_files<T: Tree>(
     ensures given { T.is_honest → AreGiven (T.files tree.old) kept.new }
     ensures here { OnOk result (AreKept kept.new (seen_line line.now)) }
     ensures grows { (q : List ℕ) → IsKept kept.old q → IsKept kept.new q }
-    ensures refused { T.is_honest → IfErr result (λ e. IsGivenUp e ⊎ (action_at (T.files tree.old) (seen_line line.now) ≡ Err e)) }
+    ensures refused { T.is_honest → IfErr result (λ e. IsAborted e ⊎ (action_at (T.files tree.old) (seen_line line.now) ≡ Err e)) }
 {
     match line {
         ScriptLine::Sync(kconfig, dotconfig) => {
@@ -87,7 +87,7 @@ fn named_files<T: Tree>(
     ensures reads { Reads T.Tree tree.old tree.new (IsErrOf result EngineError.Device) }
     ensures given { T.is_honest → IfOk result (AreGiven (T.files tree.old)) }
     ensures here { IfOk result (λ kept. All (λ line. AreKept kept (seen_line line)) lines.now) }
-    ensures refused { T.is_honest → IfErr result (λ e. IsGivenUp e ⊎ (actions_at (T.files tree.old) (map seen_line lines.now) ≡ Err e)) }
+    ensures refused { T.is_honest → IfErr result (λ e. IsAborted e ⊎ (actions_at (T.files tree.old) (map seen_line lines.now) ≡ Err e)) }
 {
     let mut kept = MemoryTree::new(alloc);
     for line in lines {
@@ -108,7 +108,7 @@ fn load_script<'a, T: Tree>(
     ensures spelled { IfOk result (λ all. (script_refusal script.now ≡ None) × (map seen_line all.lines.items ≡ script_lines script.now)) }
     ensures lines { T.is_honest → IfOk result (λ all.
         script_actions (T.files tree.old) script.now ≡ of_engine (actions_at (T.files tree.old) (map seen_line all.lines.items))) }
-    ensures refused { T.is_honest → IfErr result (λ r. IsGivenUpRefusal r ⊎ (script_actions (T.files tree.old) script.now ≡ Err r)) }
+    ensures refused { T.is_honest → IfErr result (λ r. IsAbortedRefusal r ⊎ (script_actions (T.files tree.old) script.now ≡ Err r)) }
 {
     let lines = read_script(alloc, script)?;
     let kept = named_files(alloc, tree, &lines)?;
@@ -171,11 +171,11 @@ fn run_commands<T: Tree>(
     ensures ran { let actions = map action commands.now in RunsAll (T.is_honest → T.files tree.new ≡ T.files tree.old)
         (λ replies. FileRun dialect T.is_honest (state T.Tree tree.old) (calls_of actions replies) (state T.Tree tree.new)) actions result }
     ensures later { T.failures tree.old ≤ T.failures tree.new }
-    ensures kept { T.aged tree.new ≡ T.aged tree.old }
+    ensures kept { T.backdated tree.new ≡ T.backdated tree.old }
     ensures no_device { result ≡ Err (Engine Device) → ⊥ }
 {
     let replies = run(alloc, tree, dialect, commands)?;
-    Ok(tell_replies(alloc, commands, &replies)?)
+    Ok(report_replies(alloc, commands, &replies)?)
 }
 
 /// Runs the script at a path, and tells a line for each of its commands.
@@ -187,7 +187,7 @@ pub(crate) fn run_script<T: Tree>(
 ) -> Result<Outcome, Refusal>
     ensures ran { EndsBatch T.is_honest (by_files dialect T.is_honest (state T.Tree tree.old) (state T.Tree tree.new)) (T.files tree.old) path.now result }
     ensures cause { result ≡ Err (Engine Device) → HasRisen (T.failures tree.old) (T.failures tree.new) }
-    ensures kept { T.aged tree.new ≡ T.aged tree.old }
+    ensures kept { T.backdated tree.new ≡ T.backdated tree.old }
 {
     let script = read_given(alloc, tree, path)?;
     let Loaded { lines, kept } = load_script(alloc, tree, &script)?;

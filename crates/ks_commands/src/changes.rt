@@ -12,9 +12,11 @@ ghost use Rattle.ks_commands.specs.Depfiles.{IsHeaderOf, IsNoHeader};
 ghost use Rattle.ks_commands.specs.Stamps.{LeavesStamps};
 ghost use Rattle.ks_commands.specs.Performed.{EndsDepfile, EndsRecord, EndsSync, by_files};
 
-use ks_engine::{EngineError, Report, record_depfile, record_object, sync, sync_stamped};
+use ks_engine::{EngineError, Report, record_depfile, record_object, sync, sync_all_stamps};
 use ks_fixdep::Header;
-use ks_requests::{Outcome, Refusal, Stamps, tell_depfile, tell_recorded, tell_report, texts_at};
+use ks_requests::{
+    Outcome, Refusal, Stamps, report_depfile, report_recorded, report_sync, texts_at,
+};
 use ks_symbols::{Dialect, Kconfig, path_is_legal};
 use ks_tree::Tree;
 use std::alloc::Global;
@@ -31,11 +33,11 @@ fn sync_with<T: Tree>(
     ensures counted { Counted T.Tree tree.old tree.new (IsErrOf result EngineError.Device) }
     ensures passed { OnOk result (T.failures tree.new ≡ T.failures tree.old) }
     ensures uncounted { IsErrOf result EngineError.OutOfMemory → T.failures tree.new ≡ T.failures tree.old }
-    ensures kept { T.aged tree.new ≡ T.aged tree.old }
+    ensures kept { T.backdated tree.new ≡ T.backdated tree.old }
 {
     match stamps {
         Stamps::Touched => sync(alloc, tree, kconfig, dotconfig),
-        Stamps::Declared => sync_stamped(alloc, tree, kconfig, dotconfig),
+        Stamps::Declared => sync_all_stamps(alloc, tree, kconfig, dotconfig),
     }
 }
 
@@ -53,12 +55,12 @@ pub(crate) fn synchronise<T: Tree>(
         stamps kconfig.now dotconfig.now result }
     ensures cause { result ≡ Err (Engine Device) → HasRisen (T.failures tree.old) (T.failures tree.new) }
     ensures memory { result ≡ Err (Engine OutOfMemory) → T.failures tree.new ≡ T.failures tree.old }
-    ensures kept { T.aged tree.new ≡ T.aged tree.old }
+    ensures kept { T.backdated tree.new ≡ T.backdated tree.old }
 {
     let texts = texts_at(alloc, tree, kconfig, dotconfig)?;
     let kconfig = Kconfig::new(dialect, &texts.kconfig);
     let report = sync_with(alloc, tree, stamps, &kconfig, &texts.dotconfig)?;
-    Ok(tell_report(alloc, &report)?)
+    Ok(report_sync(alloc, &report)?)
 }
 
 /// Writes the command file of an object, and tells under which generation. Its words are looked at by the engine.
@@ -74,10 +76,10 @@ pub(crate) fn record_target<T: Tree>(
     ensures files { T.is_honest → EndsRecord (by_files dialect T.is_honest (state T.Tree tree.old) (state T.Tree tree.new)) depfile.now target.now command.now result }
     ensures cause { result ≡ Err (Engine Device) → HasRisen (T.failures tree.old) (T.failures tree.new) }
     ensures memory { result ≡ Err (Engine OutOfMemory) → T.failures tree.new ≡ T.failures tree.old }
-    ensures kept { T.aged tree.new ≡ T.aged tree.old }
+    ensures kept { T.backdated tree.new ≡ T.backdated tree.old }
 {
     let recorded = record_object(alloc, tree, dialect, depfile, target, command)?;
-    Ok(tell_recorded(alloc, target, &recorded)?)
+    Ok(report_recorded(alloc, target, &recorded)?)
 }
 
 /// The header that a word names by the end of its path, or else the usual one.
@@ -109,9 +111,9 @@ pub(crate) fn record_rule<T: Tree>(
         (option_map (λ p. p.now) header.entry) depfile.now target.now command.now result }
     ensures cause { result ≡ Err (Engine Device) → HasRisen (T.failures tree.old) (T.failures tree.new) }
     ensures memory { result ≡ Err (Engine OutOfMemory) → T.failures tree.new ≡ T.failures tree.old }
-    ensures kept { T.aged tree.new ≡ T.aged tree.old }
+    ensures kept { T.backdated tree.new ≡ T.backdated tree.old }
 {
     let header = header_of(dialect, header)?;
     let recorded = record_depfile(alloc, tree, header, dialect, depfile, target, command)?;
-    Ok(tell_depfile(alloc, target, &recorded)?)
+    Ok(report_depfile(alloc, target, &recorded)?)
 }

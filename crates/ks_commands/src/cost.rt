@@ -6,10 +6,10 @@ ghost use Rattle.ks_engine.specs.Costs.{seen_cost};
 ghost use Rattle.ks_engine.specs.declared.error.EngineError.TheVariants.{Device};
 ghost use Rattle.ks_requests.specs.declared.refusal.Refusal.TheVariants.{Engine};
 ghost use Rattle.ks_commands.specs.Readings.{HasCosts};
-ghost use Rattle.ks_commands.specs.Records.{at_most, cost_lines, reading, tells_cost, unread_lines};
+ghost use Rattle.ks_commands.specs.Records.{at_most, cost_lines, reading, reports_cost, unread_lines};
 ghost use Rattle.ks_commands.specs.Walks.{EndsWalk};
 
-use crate::readings::{Reader, Told, read_each};
+use crate::readings::{Reader, Reported, read_each};
 use ks_engine::{Cost, Costs};
 use ks_fixdep::{BorrowedCommand, Seed};
 use ks_requests::{Outcome, Refusal, Targets, write_cost};
@@ -60,23 +60,23 @@ fn write_costs(costs: &[Cost<'_>], top: Option<u64>, text: &mut Vec<u8>) -> Resu
 }
 
 /// Tells what each symbol costs that the targets among the words, or those of a file, name.
-pub(crate) fn tell_cost<T: Tree>(
+pub(crate) fn report_cost<T: Tree>(
     alloc: Global,
     tree: &mut T,
     top: Option<u64>,
     targets: &Targets,
 ) -> Result<Outcome, Refusal>
     ensures reads { Reads T.Tree tree.old tree.new (result ≡ Err (Engine Device)) }
-    ensures told { EndsWalk (reading T.is_honest (T.files tree.old) unread_lines) true (tells_cost top) T.is_honest (state T.Tree tree.old) targets.now
+    ensures reported { EndsWalk (reading T.is_honest (T.files tree.old) unread_lines) true (reports_cost top) T.is_honest (state T.Tree tree.old) targets.now
         result (state T.Tree tree.new) }
 {
     let mut costs = Costs::with_seed(alloc, Seed::new(tree.seed()));
-    let Told {
+    let Reported {
         mut text,
         status,
         ..
     } = read_each(alloc, tree, &mut costs, targets)?;
-    let dearest = costs.dearest(alloc)?;
-    write_costs(&dearest, top, &mut text)?;
+    let most_expensive = costs.most_expensive(alloc)?;
+    write_costs(&most_expensive, top, &mut text)?;
     Ok(Outcome::of(text, status))
 }

@@ -5,7 +5,7 @@ ghost use Rattle.std.specs.Prelude.{◌≡◌, ◌⊎◌, ◌++◌, Err, IfErr, 
 ghost use Rattle.std.specs.FinMap as map;
 ghost use Rattle.ks_compare.specs.Changes.{compared};
 ghost use Rattle.ks_tree.specs.Frames.{Reads};
-ghost use Rattle.ks_engine.specs.Refusals.{IsGivenUp};
+ghost use Rattle.ks_engine.specs.Refusals.{IsAborted};
 ghost use Rattle.ks_engine.specs.SyncPlan.{IsSyncPlan};
 ghost use Rattle.ks_engine.specs.declared.error.EngineError.TheVariants.{Device, OutOfMemory};
 ghost use Rattle.ks_requests.specs.declared.refusal.Refusal.TheVariants.{Engine};
@@ -19,9 +19,9 @@ ghost use Rattle.ks_commands.specs.Differences.{IsDiff, change_line, class_word,
 ghost use Rattle.ks_commands.specs.Performed.{EndsDiff};
 ghost use Rattle.ks_commands.specs.Views.{seen_value};
 
-use ks_engine::{EngineError, parse_sources, plan_sources};
+use ks_engine::{EngineError, parse_config_inputs, plan_config_inputs};
 use ks_output::{OldConfig, write_quoted};
-use ks_requests::{Count, Outcome, Refusal, Status, Telling, texts_at, unknown_lines};
+use ks_requests::{Count, Outcome, Refusal, ReportStyle, Status, texts_at, unknown_lines};
 use ks_symbols::{Class, Dialect, Kconfig, Name, Settings, Symbols};
 use ks_tree::Tree;
 use std::alloc::{AllocError, Global};
@@ -139,17 +139,17 @@ fn write_changes(
 /// The lines of these names, unless the status alone is asked for.
 fn lines_asked(
     alloc: Global,
-    telling: Telling,
+    report_style: ReportStyle,
     names: &[Name],
     old: &OldConfig,
     new: &Settings,
 ) -> Result<Vec<u8>, AllocError>
-    ensures { IfOk result (λ text. text.items ≡ lines_asked telling (flat_map (difference_line old.now.texts new.now.entries) names.now)) }
+    ensures { IfOk result (λ text. text.items ≡ lines_asked report_style (flat_map (difference_line old.now.texts new.now.entries) names.now)) }
 {
     let mut text = Vec::new(alloc);
-    match telling {
-        Telling::Status => Ok(text),
-        Telling::Lines | Telling::LinesAndStatus => {
+    match report_style {
+        ReportStyle::Status => Ok(text),
+        ReportStyle::Lines | ReportStyle::LinesAndStatus => {
             write_changes(names, old, new, &mut text)?;
             Ok(text)
         }
@@ -157,12 +157,12 @@ fn lines_asked(
 }
 
 /// What these names come to: whether there is one, where that is asked for.
-fn difference_status(telling: Telling, names: &[Name]) -> Status
-    ensures status { code_of result ≡ difference_status telling names.now }
-    ensures done { telling ≡ Telling.Lines → result ≡ Done }
+fn difference_status(report_style: ReportStyle, names: &[Name]) -> Status
+    ensures status { code_of result ≡ difference_status report_style names.now }
+    ensures done { report_style ≡ ReportStyle.Lines → result ≡ Done }
 {
-    match telling {
-        Telling::LinesAndStatus | Telling::Status if !names.is_empty() => Status::Stale,
+    match report_style {
+        ReportStyle::LinesAndStatus | ReportStyle::Status if !names.is_empty() => Status::Stale,
         _ => Status::Done,
     }
 }
@@ -170,20 +170,20 @@ fn difference_status(telling: Telling, names: &[Name]) -> Status
 /// The lines of unknown names, where so many are counted, unless the status alone is asked for.
 fn unknown_asked(
     alloc: Global,
-    telling: Telling,
+    report_style: ReportStyle,
     symbols: &Symbols,
     dotconfig: &[u8],
     unknown: u64,
 ) -> Result<Option<Count>, AllocError>
     ensures { unknown ≡ unknown_count (map.get symbols.now.kinds) (lines dotconfig.now)
-        → IfOk result (IsUnknown (lines_asked telling (flat_map unknown_line (unknown_names (map.get symbols.now.kinds) (lines dotconfig.now))))) }
+        → IfOk result (IsUnknown (lines_asked report_style (flat_map unknown_line (unknown_names (map.get symbols.now.kinds) (lines dotconfig.now))))) }
 {
     if unknown == 0 {
         return Ok(None);
     }
-    match telling {
-        Telling::Status => Ok(None),
-        Telling::Lines | Telling::LinesAndStatus => {
+    match report_style {
+        ReportStyle::Status => Ok(None),
+        ReportStyle::Lines | ReportStyle::LinesAndStatus => {
             let lines = unknown_lines(alloc, symbols, dotconfig)?;
             Ok(Some(Count::Unknown(lines)))
         }
@@ -196,24 +196,24 @@ fn differences<T: Tree>(
     tree: &mut T,
     kconfig: &Kconfig<'_>,
     dotconfig: &[u8],
-    telling: Telling,
+    report_style: ReportStyle,
 ) -> Result<Outcome, EngineError>
-    ensures done { telling ≡ Telling.Lines → IfOk result (λ o. o.status ≡ Done) }
+    ensures done { report_style ≡ ReportStyle.Lines → IfOk result (λ o. o.status ≡ Done) }
     ensures reads { Reads T.Tree tree.old tree.new (IsErrOf result EngineError.Device) }
     ensures uncounted { IsErrOf result EngineError.OutOfMemory → T.failures tree.new ≡ T.failures tree.old }
-    ensures told { T.is_honest → IfOk result (λ o. IsDiff telling (T.files tree.old) kconfig.now dotconfig.now o.text.items (code_of o.status)
-        × IsUnknown (lines_asked telling (unknown_lines kconfig.now dotconfig.now)) o.count) }
-    ensures refused { T.is_honest → IfErr result (λ e. IsGivenUp e ⊎ IsSyncPlan (T.files tree.old) kconfig.now dotconfig.now (Err e)) }
+    ensures reported { T.is_honest → IfOk result (λ o. IsDiff report_style (T.files tree.old) kconfig.now dotconfig.now o.text.items (code_of o.status)
+        × IsUnknown (lines_asked report_style (unknown_lines kconfig.now dotconfig.now)) o.count) }
+    ensures refused { T.is_honest → IfErr result (λ e. IsAborted e ⊎ IsSyncPlan (T.files tree.old) kconfig.now dotconfig.now (Err e)) }
 {
-    let parsed = parse_sources(alloc, kconfig, dotconfig)?;
+    let parsed = parse_config_inputs(alloc, kconfig, dotconfig)?;
     let unknown = parsed.sources.settings.unknown();
-    let count = unknown_asked(alloc, telling, &parsed.symbols, dotconfig, unknown)?;
+    let count = unknown_asked(alloc, report_style, &parsed.symbols, dotconfig, unknown)?;
     drop(parsed.symbols);
-    let planned = plan_sources(alloc, tree, parsed.sources)?;
+    let planned = plan_config_inputs(alloc, tree, parsed.sources)?;
     let names = &planned.report.touched;
     let settings = &planned.sources.settings;
-    let text = lines_asked(alloc, telling, names, &planned.old, settings)?;
-    let status = difference_status(telling, names);
+    let text = lines_asked(alloc, report_style, names, &planned.old, settings)?;
+    let status = difference_status(report_style, names);
     Ok(Outcome {
         text,
         status,
@@ -222,20 +222,20 @@ fn differences<T: Tree>(
 }
 
 /// Tells what a synchronisation with the files that two words name would touch.
-pub(crate) fn tell_differences<T: Tree>(
+pub(crate) fn report_differences<T: Tree>(
     alloc: Global,
     tree: &mut T,
     dialect: Dialect,
     kconfig: &[u8],
     dotconfig: &[u8],
-    telling: Telling,
+    report_style: ReportStyle,
 ) -> Result<Outcome, Refusal>
-    ensures done { telling ≡ Telling.Lines → IfOk result (λ o. o.status ≡ Done) }
+    ensures done { report_style ≡ ReportStyle.Lines → IfOk result (λ o. o.status ≡ Done) }
     ensures reads { Reads T.Tree tree.old tree.new (result ≡ Err (Engine Device)) }
     ensures memory { result ≡ Err (Engine OutOfMemory) → T.failures tree.new ≡ T.failures tree.old }
-    ensures told { T.is_honest → EndsDiff dialect telling (T.files tree.old) kconfig.now dotconfig.now result }
+    ensures reported { T.is_honest → EndsDiff dialect report_style (T.files tree.old) kconfig.now dotconfig.now result }
 {
     let texts = texts_at(alloc, tree, kconfig, dotconfig)?;
     let kconfig = Kconfig::new(dialect, &texts.kconfig);
-    Ok(differences(alloc, tree, &kconfig, &texts.dotconfig, telling)?)
+    Ok(differences(alloc, tree, &kconfig, &texts.dotconfig, report_style)?)
 }

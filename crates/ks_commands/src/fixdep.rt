@@ -11,9 +11,9 @@ ghost use Rattle.ks_engine.specs.Recording.{scanned_all};
 ghost use Rattle.ks_engine.specs.Refusals.{Answers, and_then};
 ghost use Rattle.ks_commands.specs.Fixdep.{command_file_at};
 
-use ks_engine::{EngineError, check_words, scan_all};
+use ks_engine::{EngineError, check_args, scan_all};
 use ks_fixdep::{
-    Header, NamesBySource, Prerequisites, Rules, Seed, read_depfile_without, record_text,
+    Header, NamesBySource, Prerequisites, ScanRules, Seed, read_depfile_without, record_text,
 };
 use ks_requests::read_given;
 use ks_symbols::Dialect;
@@ -52,7 +52,7 @@ fn scanned_lines<T: Tree>(
     let mut found = scan_all(
         alloc,
         tree,
-        Rules::for_target(dialect, target),
+        ScanRules::for_target(dialect, target),
         prerequisites,
     )?;
     lines_of(alloc, target, command, prerequisites, &mut found)
@@ -72,7 +72,7 @@ pub(crate) fn command_file_text<T: Tree>(
     ensures uncounted { IsErrOf result EngineError.OutOfMemory → T.failures tree.new ≡ T.failures tree.old }
     ensures text { T.is_honest → Answers (command_file_at dialect (T.files tree.old) depfile.now target.now command.now) (λ text. text.items) result }
 {
-    check_words(depfile, target, command)?;
+    check_args(depfile, target, command)?;
     let text = read_given(alloc, tree, depfile)?;
     let prerequisites = read_depfile_without(
         alloc,

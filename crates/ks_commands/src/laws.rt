@@ -1,6 +1,6 @@
 //! Laws of the definitions, each the contract of a function that does nothing.
-ghost use Rattle.ks_commands.specs.PreviewLaws.{PreviewsAreRefusedAsSyncs, PreviewsTellSyncs};
-ghost use Rattle.ks_commands.specs.Laws.{BatchTellsChanges, PreviewsArePerformed, RefusalsChangeNothing, RequestsGoOn, StatusesAreAtMostTwo, StatusesTellDifferences, WhatChangedIsAged};
+ghost use Rattle.ks_commands.specs.PreviewLaws.{PreviewsAreRefusedAsSyncs, PreviewsReportSyncs};
+ghost use Rattle.ks_commands.specs.Laws.{BatchReportsChanges, PreviewsArePerformed, RefusalsChangeNothing, RequestsGoOn, StatusesAreAtMostTwo, StatusesReportDifferences, WhatChangedIsBackdated};
 
 /// What is said of a request by the files of an honest tree says what becomes of each history that they show.
 pub fn requests_go_on()
@@ -13,8 +13,8 @@ pub fn previews_are_performed()
 {}
 
 /// What a preview over a tree's own auto.conf tells of a synchronisation of the same texts.
-pub fn previews_tell_synchronisations()
-    ensures told { PreviewsTellSyncs }
+pub fn previews_report_synchronisations()
+    ensures reported { PreviewsReportSyncs }
     ensures refused { PreviewsAreRefusedAsSyncs }
 {}
 
@@ -29,17 +29,17 @@ pub fn statuses_are_at_most_two()
 {}
 
 /// What the status of `diff --exit-code` and `diff --quiet` says.
-pub fn statuses_tell_differences()
-    ensures { StatusesTellDifferences }
+pub fn statuses_report_differences()
+    ensures { StatusesReportDifferences }
 {}
 
 /// A script that runs without a refusal tells what changed, where nothing was broken off before it.
-pub fn batch_tells_changes()
-    ensures { BatchTellsChanges }
+pub fn batch_reports_changes()
+    ensures { BatchReportsChanges }
 {}
 
 /// What `age` is for. Make compiles an object that is older than one of its prerequisites, and an aged one is older than each
 /// stamp that a synchronisation has written: so make compiles what changed, whatever a clock said.
-pub fn what_changed_is_aged()
-    ensures { WhatChangedIsAged }
+pub fn what_changed_is_backdated()
+    ensures { WhatChangedIsBackdated }
 {}

@@ -1,5 +1,5 @@
 //! The program `confstamp` over any tree of files and any two writers: what its words ask for is done, or it is said why
-//! they ask for nothing; and what follows for any list of runs. It knows no folder, no lock and no streams of the system: those
+//! they ask for nothing; and what follows for any list of runs. It knows no directory, no lock and no streams of the system: those
 //! are for the crate `confstamp`. How it is asked and answered is defined in ks_requests, and what words mean in ks_words.
 #![tactic(auto)]
 
@@ -8,18 +8,18 @@ mod batch;
 mod changes;
 mod cost;
 mod differences;
+mod dispatch;
 mod fixdep;
 mod laws;
-mod performing;
 mod program;
-mod questions;
+mod queries;
 mod readings;
 mod spelling;
 mod users;
 
 pub use laws::{
-    batch_tells_changes, previews_are_performed, previews_tell_synchronisations,
-    refusals_change_nothing, statuses_are_at_most_two, statuses_tell_differences,
-    what_changed_is_aged,
+    batch_reports_changes, previews_are_performed, previews_report_synchronisations,
+    refusals_change_nothing, statuses_are_at_most_two, statuses_report_differences,
+    what_changed_is_backdated,
 };
 pub use program::execute;

@@ -6,35 +6,35 @@
 ghost use Rattle.std.specs.Prelude.{Err, List};
 ghost use Rattle.clap.specs.Words.{Text};
 ghost use Rattle.ks_streams.specs.Streams.{state_of};
-ghost use Rattle.ks_commands.specs.Performing.{Executes, IsAskedBy, Refuses};
+ghost use Rattle.ks_commands.specs.Dispatch.{Executes, IsAskedBy, Refuses};
 
-use crate::performing::outcome;
+use crate::dispatch::outcome;
+use ks_cli::{WordsError, print_help};
 use ks_engine::EngineError;
 use ks_requests::{Refusal, Request, print, refuse, refuse_at, site_of};
 use ks_streams::{Stream, Writer};
 use ks_symbols::Dialect;
-use ks_tree::Aging;
-use ks_words::{WordsError, explain};
+use ks_tree::Backdating;
 use std::alloc::Global;
 
 /// Tells why words make no request.
-fn tell_why<W: Writer, E: Writer>(
+fn report_why<W: Writer, E: Writer>(
     error: &WordsError,
     out: &mut Stream<W>,
     err: &mut Stream<E>,
 ) -> u8
-    ensures { (words : List Text) → IsAskedBy words (Err error.now) → Refuses words error.now
+    ensures { (args : List Text) → IsAskedBy args (Err error.now) → Refuses args error.now
         (state_of W.Writer out.old) (state_of W.Writer out.new) (state_of E.Writer err.old) (state_of E.Writer err.new) result }
 {
     match error {
-        WordsError::Refused(said) => explain(said, out, err),
+        WordsError::Refused(printed) => print_help(printed, out, err),
         WordsError::OutOfMemory => refuse(err, &Refusal::Engine(EngineError::OutOfMemory)),
     }
 }
 
 /// Runs the command that the words after the program's name ask for, and answers the exit status: 0 done and nothing stale,
 /// 1 something stale or built by another command, 2 something refused. Sources and Kconfigs are read in the dialect.
-pub fn execute<T: Aging, W: Writer, E: Writer>(
+pub fn execute<T: Backdating, W: Writer, E: Writer>(
     alloc: Global,
     tree: &mut T,
     dialect: Dialect,
@@ -48,7 +48,7 @@ pub fn execute<T: Aging, W: Writer, E: Writer>(
 {
     let request = match asked {
         Ok(request) => request,
-        Err(error) => return tell_why(error, out, err),
+        Err(error) => return report_why(error, out, err),
     };
     match outcome(alloc, tree, dialect, request) {
         Ok(outcome) => print(&outcome, out, err),

@@ -15,7 +15,7 @@ ghost use Rattle.ks_requests.specs.Symbols.{unrecorded_line};
 ghost use Rattle.ks_requests.specs.Targets.{targets_at};
 ghost use Rattle.ks_commands.specs.Readings.{Adds, AreRead};
 ghost use Rattle.ks_commands.specs.Records.{reading};
-ghost use Rattle.ks_commands.specs.Walks.{AreAsked, StoppedBy, TellsOne};
+ghost use Rattle.ks_commands.specs.Walks.{AreAsked, StoppedBy, ReportsOne};
 
 use ks_engine::{borrow_record, read_record};
 use ks_fixdep::{BorrowedCommand, Seed};
@@ -57,7 +57,7 @@ pub(crate) trait Reader {
 
 /// What was told of all objects.
 #[derive(Drop)]
-pub(crate) struct Told {
+pub(crate) struct Reported {
     pub(crate) text: Vec<u8>,
     pub(crate) status: Status,
     /// How many there are.
@@ -75,7 +75,7 @@ fn read_one<T: Tree, R: Reader>(
     requires { (before : List CommandRecord) × (length before < usize.MAX) × R.has_read reader.old before }
     ensures reads { Reads T.Tree tree.old tree.new ⊥ }
     ensures same { OnOk result (R.asked reader.new ≡ R.asked reader.old) }
-    ensures told { IfOk result (λ status. (one : TellsOne (reading T.is_honest (T.files tree.old) (R.line (R.asked reader.old)))
+    ensures reported { IfOk result (λ status. (one : ReportsOne (reading T.is_honest (T.files tree.old) (R.line (R.asked reader.old)))
         (state T.Tree tree.old) target.now text.old.items text.new.items (code_of status) (state T.Tree tree.new))
         × Adds (R.has_read reader.old) (R.has_read reader.new) one.part.answer) }
 {
@@ -103,12 +103,12 @@ fn read_objects<T: Tree, R: Reader>(
     tree: &mut T,
     reader: &mut R,
     objects: &[&[u8]],
-) -> Result<Told, AllocError>
+) -> Result<Reported, AllocError>
     requires { R.has_read reader.old [] }
     ensures reads { Reads T.Tree tree.old tree.new ⊥ }
     ensures same { OnOk result (R.asked reader.new ≡ R.asked reader.old) }
-    ensures told { IfOk result (λ told. AreRead (reading T.is_honest (T.files tree.old) (R.line (R.asked reader.old))) (R.has_read reader.new)
-        (map (λ t. t.now) objects.now) (state T.Tree tree.old) told (state T.Tree tree.new)) }
+    ensures reported { IfOk result (λ reported. AreRead (reading T.is_honest (T.files tree.old) (R.line (R.asked reader.old))) (R.has_read reader.new)
+        (map (λ t. t.now) objects.now) (state T.Tree tree.old) reported (state T.Tree tree.new)) }
 {
     let mut text = Vec::new(alloc);
     let mut status = Status::Done;
@@ -117,7 +117,7 @@ fn read_objects<T: Tree, R: Reader>(
         status = worse(status, one);
     }
     let all = objects.len();
-    Ok(Told { text, status, all })
+    Ok(Reported { text, status, all })
 }
 
 /// Reads the command file of each of these targets once, however often it is among them.
@@ -126,12 +126,12 @@ fn read_once<T: Tree, R: Reader>(
     tree: &mut T,
     reader: &mut R,
     targets: &[&[u8]],
-) -> Result<Told, AllocError>
+) -> Result<Reported, AllocError>
     requires { R.has_read reader.old [] }
     ensures reads { Reads T.Tree tree.old tree.new ⊥ }
     ensures same { OnOk result (R.asked reader.new ≡ R.asked reader.old) }
-    ensures told { IfOk result (λ told. AreRead (reading T.is_honest (T.files tree.old) (R.line (R.asked reader.old))) (R.has_read reader.new)
-        (all_noted [] (map (λ t. t.now) targets.now)) (state T.Tree tree.old) told (state T.Tree tree.new)) }
+    ensures reported { IfOk result (λ reported. AreRead (reading T.is_honest (T.files tree.old) (R.line (R.asked reader.old))) (R.has_read reader.new)
+        (all_noted [] (map (λ t. t.now) targets.now)) (state T.Tree tree.old) reported (state T.Tree tree.new)) }
 {
     let once = each_once(alloc, Seed::new(tree.seed()), targets)?;
     let objects = once.as_slice();
@@ -144,14 +144,14 @@ pub(crate) fn read_each<T: Tree, R: Reader>(
     tree: &mut T,
     reader: &mut R,
     targets: &Targets,
-) -> Result<Told, Refusal>
+) -> Result<Reported, Refusal>
     requires { R.has_read reader.old [] }
     ensures reads { Reads T.Tree tree.old tree.new (result ≡ Err (Engine Device)) }
     ensures same { OnOk result (R.asked reader.new ≡ R.asked reader.old) }
     ensures stopped { IfErr result (λ r. StoppedBy T.is_honest (λ e. targets_at (T.files tree.old) targets.now ≡ Err e) (state T.Tree tree.old) (Err r)
         (state T.Tree tree.new)) }
-    ensures told { IfOk result (λ told. (objects : List (List ℕ)) × (first : FileState) × AreAsked T.is_honest (state T.Tree tree.old) targets.now objects first
-        × AreRead (reading T.is_honest (T.files tree.old) (R.line (R.asked reader.old))) (R.has_read reader.new) (all_noted [] objects) first told
+    ensures reported { IfOk result (λ reported. (objects : List (List ℕ)) × (first : FileState) × AreAsked T.is_honest (state T.Tree tree.old) targets.now objects first
+        × AreRead (reading T.is_honest (T.files tree.old) (R.line (R.asked reader.old))) (R.has_read reader.new) (all_noted [] objects) first reported
         (state T.Tree tree.new)) }
 {
     let from = read_targets(alloc, tree, targets)?;

@@ -1,11 +1,11 @@
 //! Other spellings of one path. A record knows its object by the bytes of the target, so an object that is asked for as `./x.o`
 //! and was recorded as `x.o` is unknown, or its command file is refused as that of another target. `why` says so.
 //!
-//! What is looked for is the usual spelling of the path alone: no folder is read, and a link or a `..` leads where it leads.
+//! What is looked for is the usual spelling of the path alone: no directory is read, and a link or a `..` leads where it leads.
 ghost use Rattle.std.specs.Prelude.{◌≡◌, ◌++◌, false, Ok, IfErr, IfOk, IsErrOf, OnOk, map, option_map};
 ghost use Rattle.ks_tree.specs.Frames.{Reads};
 ghost use Rattle.ks_engine.specs.Costs.{record_at};
-ghost use Rattle.ks_engine.specs.Refusals.{Answers, IsGivenUp};
+ghost use Rattle.ks_engine.specs.Refusals.{Answers, IsAborted};
 ghost use Rattle.ks_engine.specs.Spelling.{is_record, is_unknown, is_unknown_verdict, parts, recorded_as, spelling_of, step, steps, usual};
 ghost use Rattle.ks_commands.specs.Spelling.{spelling_line};
 
@@ -57,8 +57,8 @@ fn usual(alloc: Global, path: &[u8]) -> Result<Vec<u8>, AllocError>
 
 /// That there is no record, where an error doesn't come of memory or the device.
 fn no_record(error: EngineError) -> Result<bool, EngineError>
-    ensures given_up { IfErr result (λ e. IsGivenUp e × (e ≡ error)) }
-    ensures none { IfOk result (λ is. (is ≡ false) × (IsGivenUp error → ⊥)) }
+    ensures aborted { IfErr result (λ e. IsAborted e × (e ≡ error)) }
+    ensures none { IfOk result (λ is. (is ≡ false) × (IsAborted error → ⊥)) }
 {
     match error {
         EngineError::OutOfMemory => Err(EngineError::OutOfMemory),
@@ -92,7 +92,7 @@ fn recorded_as<T: Tree>(
     target: &[u8],
 ) -> Result<Option<Vec<u8>>, EngineError>
     ensures reads { Reads T.Tree tree.old tree.new (IsErrOf result EngineError.Device) }
-    ensures told { T.is_honest → Answers (Ok (recorded_as (T.files tree.old) target.now)) (option_map (λ v. v.items)) result }
+    ensures reported { T.is_honest → Answers (Ok (recorded_as (T.files tree.old) target.now)) (option_map (λ v. v.items)) result }
     ensures uncounted { IsErrOf result EngineError.OutOfMemory → T.failures tree.new ≡ T.failures tree.old }
 {
     let usual = usual(alloc, target)?;
@@ -125,7 +125,7 @@ pub(crate) fn spelling_of<T: Tree>(
     answer: &Result<Explanation, EngineError>,
 ) -> Result<Option<Vec<u8>>, EngineError>
     ensures reads { Reads T.Tree tree.old tree.new (IsErrOf result EngineError.Device) }
-    ensures told { T.is_honest → Answers (Ok (spelling_of (T.files tree.old) target.now answer.now)) (option_map (λ v. v.items)) result }
+    ensures reported { T.is_honest → Answers (Ok (spelling_of (T.files tree.old) target.now answer.now)) (option_map (λ v. v.items)) result }
     ensures uncounted { IsErrOf result EngineError.OutOfMemory → T.failures tree.new ≡ T.failures tree.old }
 {
     if is_unknown(answer) {

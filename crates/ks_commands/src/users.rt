@@ -7,13 +7,13 @@ ghost use Rattle.ks_engine.specs.declared.error.EngineError.TheVariants.{Device}
 ghost use Rattle.ks_requests.specs.declared.refusal.Refusal.TheVariants.{Engine};
 ghost use Rattle.ks_requests.specs.Symbols.{symbols_of, use_line};
 ghost use Rattle.ks_commands.specs.AskedSymbols.{symbols_in};
-ghost use Rattle.ks_commands.specs.Questions.{tells};
+ghost use Rattle.ks_commands.specs.Queries.{reports};
 ghost use Rattle.ks_commands.specs.Readings.{HasUsers};
 ghost use Rattle.ks_commands.specs.Records.{reading, user_count, uses_in, uses_lines};
 ghost use Rattle.ks_commands.specs.Walks.{EndsWalk};
 
 use crate::asked_symbols::AskedSymbols;
-use crate::readings::{Reader, Told, read_each};
+use crate::readings::{Reader, Reported, read_each};
 use ks_fixdep::{BorrowedCommand, BorrowedDep};
 use ks_requests::{Count, Outcome, Refusal, Targets, symbols_of, write_use};
 use ks_tree::Tree;
@@ -79,19 +79,19 @@ impl Reader for Users<'_> {
 }
 
 /// Tells of each target of a file, or among the words, whether it names one of the symbols, and which files brought them in.
-pub(crate) fn tell_users<T: Tree>(
+pub(crate) fn report_users<T: Tree>(
     alloc: Global,
     tree: &mut T,
-    words: &[String],
+    args: &[String],
     targets: &Targets,
 ) -> Result<Outcome, Refusal>
     ensures reads { Reads T.Tree tree.old tree.new (result ≡ Err (Engine Device)) }
-    ensures told { EndsWalk (reading T.is_honest (T.files tree.old) (uses_lines (symbols_of words.now))) true (tells (user_count (symbols_of words.now)))
+    ensures reported { EndsWalk (reading T.is_honest (T.files tree.old) (uses_lines (symbols_of args.now))) true (reports (user_count (symbols_of args.now)))
         T.is_honest (state T.Tree tree.old) targets.now result (state T.Tree tree.new) }
 {
-    let symbols = AskedSymbols::new(symbols_of(alloc, words)?);
+    let symbols = AskedSymbols::new(symbols_of(alloc, args)?);
     let mut users = Users { symbols, users: 0 };
-    let Told { text, status, all } = read_each(alloc, tree, &mut users, targets)?;
+    let Reported { text, status, all } = read_each(alloc, tree, &mut users, targets)?;
     let count = Some(Count::Users {
         users: users.users,
         all,

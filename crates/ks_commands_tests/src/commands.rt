@@ -11,7 +11,7 @@ fn commands_over_trees(rt: HostRuntime) -> Result<(), Fail> {
         &[
             EACH_COMMAND,
             BY_RULES,
-            QUESTIONS,
+            QUERIES,
             AS_JSON,
             SECOND_RULE,
             WITHOUT_AUTO_CONF,

@@ -23,12 +23,12 @@ const REPLIES: &str =
 
 #[rattlefmt::skip]
 const ROWS: &[(Step<'_>, &str)] = &[
-    (Step::Words(&["sync", "K1", "c1"]), "0 generation 1\ntouch A\ntouch B\nunknown 0\n"),
+    (Step::Args(&["sync", "K1", "c1"]), "0 generation 1\ntouch A\ntouch B\nunknown 0\n"),
     (Step::Put("u.c", SOURCE), "done"),
     (Step::Put("u.d", "x.o: u.c\n"), "done"),
     (Step::InUBoot(&["record", "u.d", "spl/x.o", "cc"]), "0 record spl/x.o generation 1 names 2\n"),
     (Step::Read("spl/.x.o.cmd"), SPL),
-    (Step::Words(&["record", "u.d", "y.o", "cc"]), "0 record y.o generation 1 names 2\n"),
+    (Step::Args(&["record", "u.d", "y.o", "cc"]), "0 record y.o generation 1 names 2\n"),
     (Step::Read(".y.o.cmd"), LINUX),
     (Step::Put("script", SCRIPT), "done"),
     (Step::InUBoot(&["batch", "script"]), REPLIES),
@@ -73,10 +73,10 @@ const RAW: &[(Step<'_>, &str)] = &[
     (Step::Read("include/config/auto.conf"), RAW_AUTO),
     (Step::Read("include/generated/autoconf.h"), RAW_HEADER),
     (Step::InUBoot(&["diff", "K", "c"]), "0 "),
-    (Step::Words(&["diff", "K", "c"]), "2 confstamp: 8 BadValue line 1\n  c:1: CONFIG_S=\"a\\b\"\n"),
+    (Step::Args(&["diff", "K", "c"]), "2 confstamp: 8 BadValue line 1\n  c:1: CONFIG_S=\"a\\b\"\n"),
     (Step::Put("d", "CONFIG_S=\"a\"\nCONFIG_A=y\n"), "done"),
     (Step::InUBoot(&["diff", "K", "d"]), "0 S \"a\\b\" -> \"a\"\n"),
-    (Step::Words(&["diff", "K", "d"]), "0 S \"a\\b\" -> \"a\"\n"),
+    (Step::Args(&["diff", "K", "d"]), "0 S \"a\\b\" -> \"a\"\n"),
     (Step::Put("s", "sync K d\n"), "done"),
     (Step::InUBoot(&["batch", "s"]), "0 sync generation 2 touched 1 unknown 0\n"),
 ];
@@ -98,7 +98,7 @@ const FLAGS: &[(Step<'_>, &str)] = &[
     (Step::Put("c", "CONFIG_A_MODULE=y\n# CONFIG_A is not set\n"), "done"),
     (Step::Put("b.c", "#if ENABLE_A_MODULE\nIF_A(x)\n"), "done"),
     (Step::Put("b.d", "b.o: b.c include/autoconf.h\n"), "done"),
-    (Step::Words(&["sync", "K", "c"]), "2 confstamp: 3 ModuleName line 1\n  K:1: config A_MODULE\n"),
+    (Step::Args(&["sync", "K", "c"]), "2 confstamp: 3 ModuleName line 1\n  K:1: config A_MODULE\n"),
     (Step::InBusyBox(&["sync", "K", "c"]), "0 generation 1\ntouch A_MODULE\nunknown 0\n"),
     (Step::Read("include/generated/autoconf.h"), FLAGS_HEADER),
     (Step::InBusyBox(&["record", "b.d", "b.o", "cc"]), "0 record b.o generation 1 names 2\n"),

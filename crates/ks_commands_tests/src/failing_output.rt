@@ -1,11 +1,13 @@
 //! An output that fails: the command's work on the tree stays done, the refusal is told where that goes, and the
 //! status is 2 also where it doesn't.
 use crate::golden::{AUTO, COMMAND_FILE};
-use crate::steps::{Run, Step as Told, check, check_text, play, run_onto, run_over, shown, world};
-use ks_streams::{Step, WriteFault};
+use crate::steps::{
+    Run, Step as Reported, check, check_text, play, run_onto, run_over, shown, world,
+};
+use ks_cli::request_of;
+use ks_streams::{Step, WriteError};
 use ks_symbols::Dialect;
-use ks_tree::Aging;
-use ks_words::request_of;
+use ks_tree::Backdating;
 use std::alloc::{AllocError, Global};
 use std::process::Abort;
 use std::test::Fail;
@@ -22,8 +24,8 @@ fn one_by_one(alloc: Global, calls: usize, last: Step) -> Result<Vec<Step>, Allo
 
 /// A command, what was done before it, and a file of the tree as it stands after it.
 struct Case<'a> {
-    before: &'a [(Told<'a>, &'a str)],
-    words: &'a [&'a str],
+    before: &'a [(Reported<'a>, &'a str)],
+    args: &'a [&'a str],
     path: &'a str,
     holds: &'a str,
 }
@@ -32,19 +34,19 @@ struct Case<'a> {
 fn calls_made(rt: &impl Abort, alloc: Global, case: &Case<'_>) -> Result<usize, Fail> {
     let mut tree = world(rt, alloc)?;
     play(rt, alloc, &mut tree, case.before)?;
-    let run = run_over(alloc, &mut tree, Dialect::Linux, case.words);
+    let run = run_over(alloc, &mut tree, Dialect::Linux, case.args);
     Ok(run.out.len().saturating_add(1))
 }
 
 /// A command over an output that fails after so many calls.
-fn run_broken_off<T: Aging>(
+fn run_broken_off<T: Backdating>(
     alloc: Global,
     tree: &mut T,
-    words: &[&str],
+    args: &[&str],
     passes: usize,
 ) -> Result<Run, AllocError> {
-    let out = one_by_one(alloc, passes, Step::Refuse(WriteFault::Failed))?;
-    let asked = request_of(alloc, words);
+    let out = one_by_one(alloc, passes, Step::Refuse(WriteError::Failed))?;
+    let asked = request_of(alloc, args);
     let scripts = (out, Vec::new(alloc));
     Ok(run_onto(alloc, tree, Dialect::Linux, &asked, scripts))
 }
@@ -61,7 +63,7 @@ fn check_refused(rt: &impl Abort, run: &Run, passes: usize, place: &str) {
 }
 
 /// A case over an output that fails after so many calls. The tree is then as after the whole command.
-fn break_off<T: Aging>(
+fn break_off<T: Backdating>(
     rt: &impl Abort,
     alloc: Global,
     tree: &mut T,
@@ -69,9 +71,9 @@ fn break_off<T: Aging>(
     passes: usize,
 ) -> Result<(), Fail> {
     play(rt, alloc, tree, case.before)?;
-    let words = case.words;
-    let place = format!(in alloc; "{passes} {words:?}")?;
-    let run = run_broken_off(alloc, tree, words, passes)?;
+    let args = case.args;
+    let place = format!(in alloc; "{passes} {args:?}")?;
+    let run = run_broken_off(alloc, tree, args, passes)?;
     check_refused(rt, &run, passes, &place);
     let left = shown(alloc, tree, case.path)?;
     check_text(rt, &place, left.as_str(), case.holds);
@@ -79,22 +81,25 @@ fn break_off<T: Aging>(
 }
 
 #[rattlefmt::skip]
-const SYNCED: &[(Told<'_>, &str)] = &[(Told::Words(&["sync", "K1", "c1"]), "0 generation 1\ntouch A\ntouch B\nunknown 0\n")];
+const SYNCED: &[(Reported<'_>, &str)] = &[(Reported::Args(&["sync", "K1", "c1"]), "0 generation 1\ntouch A\ntouch B\nunknown 0\n")];
 
-const SCRIPT: &[(Told<'_>, &str)] = &[(Told::Put("script", "sync K1 c1\nstale x.o\n"), "done")];
+const SCRIPT: &[(Reported<'_>, &str)] = &[(
+    Reported::Put("script", "sync K1 c1\nstale x.o\n"),
+    "done",
+)];
 
 const AUTO_PATH: &str = "include/config/auto.conf";
 
 #[rattlefmt::skip]
 const CASES: &[Case<'_>] = &[
-    Case { before: &[], words: &["sync", "K1", "c1"], path: AUTO_PATH, holds: AUTO },
-    Case { before: &[], words: &["preview", "K1", "c1"], path: AUTO_PATH, holds: "none" },
-    Case { before: &[], words: &["fixdep", "x.d", "x.o", "cc"], path: ".x.o.cmd", holds: "none" },
-    Case { before: SYNCED, words: &["record", "x.d", "x.o", "cc -c x.c"], path: ".x.o.cmd", holds: COMMAND_FILE },
-    Case { before: SYNCED, words: &["stale", "x.o", "y.o"], path: ".x.o.cmd", holds: "none" },
-    Case { before: SYNCED, words: &["outdated", "x.o", "cc"], path: ".x.o.cmd", holds: "none" },
-    Case { before: SCRIPT, words: &["batch", "script"], path: AUTO_PATH, holds: AUTO },
-    Case { before: &[], words: &["help", "batch"], path: AUTO_PATH, holds: "none" },
+    Case { before: &[], args: &["sync", "K1", "c1"], path: AUTO_PATH, holds: AUTO },
+    Case { before: &[], args: &["preview", "K1", "c1"], path: AUTO_PATH, holds: "none" },
+    Case { before: &[], args: &["fixdep", "x.d", "x.o", "cc"], path: ".x.o.cmd", holds: "none" },
+    Case { before: SYNCED, args: &["record", "x.d", "x.o", "cc -c x.c"], path: ".x.o.cmd", holds: COMMAND_FILE },
+    Case { before: SYNCED, args: &["stale", "x.o", "y.o"], path: ".x.o.cmd", holds: "none" },
+    Case { before: SYNCED, args: &["outdated", "x.o", "cc"], path: ".x.o.cmd", holds: "none" },
+    Case { before: SCRIPT, args: &["batch", "script"], path: AUTO_PATH, holds: AUTO },
+    Case { before: &[], args: &["help", "batch"], path: AUTO_PATH, holds: "none" },
 ];
 
 #[test]
@@ -109,13 +114,13 @@ fn an_output_that_fails(rt: HostRuntime) -> Result<(), Fail> {
 }
 
 /// The status of a command where both outputs fail after so many calls.
-fn status_broken_off<T: Aging>(
+fn status_broken_off<T: Backdating>(
     alloc: Global,
     tree: &mut T,
     passes: usize,
 ) -> Result<u8, AllocError> {
-    let out = one_by_one(alloc, passes, Step::Refuse(WriteFault::Failed))?;
-    let err = one_by_one(alloc, passes / 2, Step::Refuse(WriteFault::Failed))?;
+    let out = one_by_one(alloc, passes, Step::Refuse(WriteError::Failed))?;
+    let err = one_by_one(alloc, passes / 2, Step::Refuse(WriteError::Failed))?;
     let asked = request_of(alloc, &["sync", "K1", "c1"]);
     let run = run_onto(alloc, tree, Dialect::Linux, &asked, (out, err));
     Ok(run.status)
@@ -132,15 +137,15 @@ fn both_outputs_that_fail(rt: HostRuntime) -> Result<(), Fail> {
 }
 
 /// What a command says over two outputs with the same script.
-fn said<T: Aging>(
+fn printed<T: Backdating>(
     alloc: Global,
     tree: &mut T,
-    words: &[&str],
+    args: &[&str],
     script: &[Step],
 ) -> Result<String, Fail> {
     let out = Vec::from_slice(alloc, script)?;
     let err = Vec::from_slice(alloc, script)?;
-    let asked = request_of(alloc, words);
+    let asked = request_of(alloc, args);
     let run = run_onto(alloc, tree, Dialect::Linux, &asked, (out, err));
     run_text(alloc, &run)
 }
@@ -151,7 +156,7 @@ fn run_text(alloc: Global, run: &Run) -> Result<String, Fail> {
     Ok(format!(in alloc; "{} {} {out}{err}", run.status, run.unread)?)
 }
 
-const SIGNAL: Step = Step::Refuse(WriteFault::Interrupted);
+const SIGNAL: Step = Step::Refuse(WriteError::Interrupted);
 
 #[rattlefmt::skip]
 const ANSWERS: &[(&str, &[Step], &str)] = &[
@@ -160,9 +165,9 @@ const ANSWERS: &[(&str, &[Step], &str)] = &[
     ("a signal before each call", &[SIGNAL, Step::Take(1)], "0 false generation 2\nunknown 0\n"),
     ("some signals, and none of the bytes asked for", &[SIGNAL, SIGNAL, SIGNAL, Step::Take(0)], "0 false generation 2\nunknown 0\n"),
     ("signals alone", &[SIGNAL], "2 false "),
-    ("a reader who goes", &[Step::Take(7), Step::Refuse(WriteFault::NoReader)], "0 true generat"),
-    ("no reader", &[Step::Refuse(WriteFault::NoReader)], "0 true "),
-    ("a failure after a part", &[Step::Take(7), Step::Refuse(WriteFault::Failed)], "2 false generatconfsta"),
+    ("a reader who goes", &[Step::Take(7), Step::Refuse(WriteError::NoReader)], "0 true generat"),
+    ("no reader", &[Step::Refuse(WriteError::NoReader)], "0 true "),
+    ("a failure after a part", &[Step::Take(7), Step::Refuse(WriteError::Failed)], "2 false generatconfsta"),
 ];
 
 #[test]
@@ -170,7 +175,7 @@ fn answers_of_an_output(rt: HostRuntime) -> Result<(), Fail> {
     for (place, script, want) in ANSWERS {
         let mut tree = world(&rt, rt.alloc())?;
         play(&rt, rt.alloc(), &mut tree, SYNCED)?;
-        let found = said(rt.alloc(), &mut tree, &["sync", "K1", "c1"], script)?;
+        let found = printed(rt.alloc(), &mut tree, &["sync", "K1", "c1"], script)?;
         check_text(&rt, *place, found.as_str(), *want);
     }
     Ok(())

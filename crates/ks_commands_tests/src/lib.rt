@@ -5,7 +5,9 @@
 #![tactic(auto)]
 
 #[cfg(test)]
-mod aging;
+mod args;
+#[cfg(test)]
+mod backdating;
 #[cfg(test)]
 mod commands;
 #[cfg(test)]
@@ -26,5 +28,3 @@ mod steps;
 mod symbols;
 #[cfg(test)]
 mod texts;
-#[cfg(test)]
-mod words;

@@ -2,110 +2,110 @@
 //! nothing changed.
 use crate::golden::AUTO;
 use crate::steps::{Step, play, play_each, world};
-use ks_tree::{Aging, FuseMode, FuseTree, Tree};
+use ks_tree::{Backdating, FuseMode, FuseTree, Tree};
 use std::alloc::Global;
 use std::process::Abort;
 use std::test::Fail;
 
 #[rattlefmt::skip]
 const SYNC_AND_PREVIEW: &[(Step<'_>, &str)] = &[
-    (Step::Words(&["sync", "a$b", "c1"]), "2 confstamp: 21 BadPath token 0\n"),
-    (Step::Words(&["sync", "missing", "a$b"]), "2 confstamp: 21 BadPath token 0\n"),
-    (Step::Words(&["sync", "missing", "faulty"]), "2 confstamp: 40 MissingFile missing\n"),
-    (Step::Words(&["sync", "c1", "missing"]), "2 confstamp: 40 MissingFile missing\n"),
-    (Step::Words(&["sync", "c1", "c1"]), "2 confstamp: 1 NotBare line 1\n  c1:1: CONFIG_A=y\n"),
-    (Step::Words(&["sync", "K1", "faulty"]), "2 confstamp: 8 BadValue line 2\n  faulty:2: CONFIG_A=m\n"),
-    (Step::Words(&["preview", "K1", "faulty"]), "2 confstamp: 8 BadValue line 2\n  faulty:2: CONFIG_A=m\n"),
-    (Step::Words(&["preview", "a$b", "c1"]), "2 confstamp: 21 BadPath token 0\n"),
-    (Step::Words(&["preview", "missing", "c1", "a$b"]), "2 confstamp: 21 BadPath token 0\n"),
-    (Step::Words(&["preview", "c1", "c1", "missing"]), "2 confstamp: 40 MissingFile missing\n"),
-    (Step::Words(&["diff", "missing", "a$b"]), "2 confstamp: 21 BadPath token 0\n"),
-    (Step::Words(&["diff", "c1", "missing"]), "2 confstamp: 40 MissingFile missing\n"),
+    (Step::Args(&["sync", "a$b", "c1"]), "2 confstamp: 21 BadPath token 0\n"),
+    (Step::Args(&["sync", "missing", "a$b"]), "2 confstamp: 21 BadPath token 0\n"),
+    (Step::Args(&["sync", "missing", "faulty"]), "2 confstamp: 40 MissingFile missing\n"),
+    (Step::Args(&["sync", "c1", "missing"]), "2 confstamp: 40 MissingFile missing\n"),
+    (Step::Args(&["sync", "c1", "c1"]), "2 confstamp: 1 NotBare line 1\n  c1:1: CONFIG_A=y\n"),
+    (Step::Args(&["sync", "K1", "faulty"]), "2 confstamp: 8 BadValue line 2\n  faulty:2: CONFIG_A=m\n"),
+    (Step::Args(&["preview", "K1", "faulty"]), "2 confstamp: 8 BadValue line 2\n  faulty:2: CONFIG_A=m\n"),
+    (Step::Args(&["preview", "a$b", "c1"]), "2 confstamp: 21 BadPath token 0\n"),
+    (Step::Args(&["preview", "missing", "c1", "a$b"]), "2 confstamp: 21 BadPath token 0\n"),
+    (Step::Args(&["preview", "c1", "c1", "missing"]), "2 confstamp: 40 MissingFile missing\n"),
+    (Step::Args(&["diff", "missing", "a$b"]), "2 confstamp: 21 BadPath token 0\n"),
+    (Step::Args(&["diff", "c1", "missing"]), "2 confstamp: 40 MissingFile missing\n"),
     (Step::Put("include/config/auto.conf", "#\n#\n#\n#\nCONFIG_../x=y\n"), "done"),
-    (Step::Words(&["sync", "K1", "c1"]), "2 confstamp: 11 BadAuto line 5\n  include/config/auto.conf:5: CONFIG_../x=y\n"),
-    (Step::Words(&["record", "x.d", "x.o", "cc"]), "2 confstamp: 11 BadAuto line 5\n  include/config/auto.conf:5: CONFIG_../x=y\n"),
-    (Step::Words(&["diff", "K1", "c1"]), "2 confstamp: 11 BadAuto line 5\n  include/config/auto.conf:5: CONFIG_../x=y\n"),
-    (Step::Words(&["impact", "K1", "c1", "x.o"]), "2 confstamp: 11 BadAuto line 5\n  include/config/auto.conf:5: CONFIG_../x=y\n"),
-    (Step::Words(&["diff", "K1", "faulty"]), "2 confstamp: 8 BadValue line 2\n  faulty:2: CONFIG_A=m\n"),
-    (Step::Words(&["diff", "--quiet", "K1", "faulty"]), "2 confstamp: 8 BadValue line 2\n  faulty:2: CONFIG_A=m\n"),
+    (Step::Args(&["sync", "K1", "c1"]), "2 confstamp: 11 BadAuto line 5\n  include/config/auto.conf:5: CONFIG_../x=y\n"),
+    (Step::Args(&["record", "x.d", "x.o", "cc"]), "2 confstamp: 11 BadAuto line 5\n  include/config/auto.conf:5: CONFIG_../x=y\n"),
+    (Step::Args(&["diff", "K1", "c1"]), "2 confstamp: 11 BadAuto line 5\n  include/config/auto.conf:5: CONFIG_../x=y\n"),
+    (Step::Args(&["impact", "K1", "c1", "x.o"]), "2 confstamp: 11 BadAuto line 5\n  include/config/auto.conf:5: CONFIG_../x=y\n"),
+    (Step::Args(&["diff", "K1", "faulty"]), "2 confstamp: 8 BadValue line 2\n  faulty:2: CONFIG_A=m\n"),
+    (Step::Args(&["diff", "--quiet", "K1", "faulty"]), "2 confstamp: 8 BadValue line 2\n  faulty:2: CONFIG_A=m\n"),
     (Step::Put("old", "#\nCONFIG_\u{1b}[2J\u{7f}é\n"), "done"),
-    (Step::Words(&["preview", "K1", "c1", "old"]), "2 confstamp: 11 BadAuto line 2\n  old:2: CONFIG_?[2J?é\n"),
+    (Step::Args(&["preview", "K1", "c1", "old"]), "2 confstamp: 11 BadAuto line 2\n  old:2: CONFIG_?[2J?é\n"),
     (Step::Put("old", ""), "done"),
     (Step::Put("K9", "config A\r\n"), "done"),
-    (Step::Words(&["preview", "K9", "c1"]), "2 confstamp: 4 NoType line 1\n  K9:1: config A\n"),
+    (Step::Args(&["preview", "K9", "c1"]), "2 confstamp: 4 NoType line 1\n  K9:1: config A\n"),
     (Step::Put("include/config/auto.conf", "#generation 18446744073709551615\n"), "done"),
-    (Step::Words(&["sync", "K1", "c1"]), "2 confstamp: 42 GenerationFull\n"),
-    (Step::Words(&["impact", "K1", "c1", "x.o"]), "2 confstamp: 42 GenerationFull\n"),
-    (Step::Words(&["preview", "K1", "c1", "include/config/auto.conf"]), "2 confstamp: 42 GenerationFull\n"),
+    (Step::Args(&["sync", "K1", "c1"]), "2 confstamp: 42 GenerationFull\n"),
+    (Step::Args(&["impact", "K1", "c1", "x.o"]), "2 confstamp: 42 GenerationFull\n"),
+    (Step::Args(&["preview", "K1", "c1", "include/config/auto.conf"]), "2 confstamp: 42 GenerationFull\n"),
     (Step::Read("include/config/auto.conf"), "#generation 18446744073709551615\n"),
     (Step::Read("include/generated/autoconf.h"), "none"),
 ];
 
 #[rattlefmt::skip]
 const FIXDEP_AND_RECORD: &[(Step<'_>, &str)] = &[
-    (Step::Words(&["fixdep", "a$b", "d/", "a\nb"]), "2 confstamp: 21 BadPath token 0\n"),
-    (Step::Words(&["fixdep", "missing", "d/", "a\nb"]), "2 confstamp: 21 BadPath token 0\n"),
-    (Step::Words(&["fixdep", "missing", "x.o", "a\nb"]), "2 confstamp: 22 BadCommand\n"),
-    (Step::Words(&["fixdep", "missing", "x.o", "cc"]), "2 confstamp: 40 MissingFile missing\n"),
-    (Step::Words(&["record", "a$b", "d/", "a\nb"]), "2 confstamp: 21 BadPath token 0\n"),
-    (Step::Words(&["record", "missing", "d/", "a\nb"]), "2 confstamp: 21 BadPath token 0\n"),
-    (Step::Words(&["record", "missing", "x.o", "a\nb"]), "2 confstamp: 22 BadCommand\n"),
-    (Step::Words(&["record", "missing", "x.o", "cc"]), "2 confstamp: 40 MissingFile missing\n"),
-    (Step::Words(&["record", "x.d", "x.o", "cc"]), "2 confstamp: 41 NeverSynced\n"),
-    (Step::Words(&["sync", "K1", "c1"]), "0 generation 1\ntouch A\ntouch B\nunknown 0\n"),
+    (Step::Args(&["fixdep", "a$b", "d/", "a\nb"]), "2 confstamp: 21 BadPath token 0\n"),
+    (Step::Args(&["fixdep", "missing", "d/", "a\nb"]), "2 confstamp: 21 BadPath token 0\n"),
+    (Step::Args(&["fixdep", "missing", "x.o", "a\nb"]), "2 confstamp: 22 BadCommand\n"),
+    (Step::Args(&["fixdep", "missing", "x.o", "cc"]), "2 confstamp: 40 MissingFile missing\n"),
+    (Step::Args(&["record", "a$b", "d/", "a\nb"]), "2 confstamp: 21 BadPath token 0\n"),
+    (Step::Args(&["record", "missing", "d/", "a\nb"]), "2 confstamp: 21 BadPath token 0\n"),
+    (Step::Args(&["record", "missing", "x.o", "a\nb"]), "2 confstamp: 22 BadCommand\n"),
+    (Step::Args(&["record", "missing", "x.o", "cc"]), "2 confstamp: 40 MissingFile missing\n"),
+    (Step::Args(&["record", "x.d", "x.o", "cc"]), "2 confstamp: 41 NeverSynced\n"),
+    (Step::Args(&["sync", "K1", "c1"]), "0 generation 1\ntouch A\ntouch B\nunknown 0\n"),
     (Step::Put("y.d", "a.h b.h\n"), "done"),
-    (Step::Words(&["fixdep", "y.d", "x.o", "cc"]), "2 confstamp: 20 NoTarget\n  y.d\n"),
-    (Step::Words(&["record", "y.d", "x.o", "cc"]), "2 confstamp: 20 NoTarget\n  y.d\n"),
+    (Step::Args(&["fixdep", "y.d", "x.o", "cc"]), "2 confstamp: 20 NoTarget\n  y.d\n"),
+    (Step::Args(&["record", "y.d", "x.o", "cc"]), "2 confstamp: 20 NoTarget\n  y.d\n"),
     (Step::Put("y.d", "x.o: x.c a$b.h\n"), "done"),
-    (Step::Words(&["fixdep", "y.d", "x.o", "cc"]), "2 confstamp: 21 BadPath token 3\n  y.d: token 3: a$b.h\n"),
-    (Step::Words(&["record", "y.d", "x.o", "cc"]), "2 confstamp: 21 BadPath token 3\n  y.d: token 3: a$b.h\n"),
+    (Step::Args(&["fixdep", "y.d", "x.o", "cc"]), "2 confstamp: 21 BadPath token 3\n  y.d: token 3: a$b.h\n"),
+    (Step::Args(&["record", "y.d", "x.o", "cc"]), "2 confstamp: 21 BadPath token 3\n  y.d: token 3: a$b.h\n"),
     (Step::Put("y.d", "x.o: x.c gone.h\n"), "done"),
-    (Step::Words(&["fixdep", "y.d", "x.o", "cc"]), "2 confstamp: 40 MissingFile gone.h\n"),
-    (Step::Words(&["record", "y.d", "x.o", "cc"]), "2 confstamp: 40 MissingFile gone.h\n"),
+    (Step::Args(&["fixdep", "y.d", "x.o", "cc"]), "2 confstamp: 40 MissingFile gone.h\n"),
+    (Step::Args(&["record", "y.d", "x.o", "cc"]), "2 confstamp: 40 MissingFile gone.h\n"),
     (Step::Read(".x.o.cmd"), "none"),
 ];
 
 #[rattlefmt::skip]
 const SCRIPTS: &[(Step<'_>, &str)] = &[
-    (Step::Words(&["batch", "a$b"]), "2 confstamp: 21 BadPath token 0\n"),
-    (Step::Words(&["batch", "missing"]), "2 confstamp: 40 MissingFile missing\n"),
+    (Step::Args(&["batch", "a$b"]), "2 confstamp: 21 BadPath token 0\n"),
+    (Step::Args(&["batch", "missing"]), "2 confstamp: 40 MissingFile missing\n"),
     (Step::Put("script", "stale x.o y.o\n"), "done"),
-    (Step::Words(&["batch", "script"]), "2 confstamp: 50 BadScript line 1\n  script:1: stale x.o y.o\n"),
+    (Step::Args(&["batch", "script"]), "2 confstamp: 50 BadScript line 1\n  script:1: stale x.o y.o\n"),
     (Step::Put("script", "stale  x.o\n"), "done"),
-    (Step::Words(&["batch", "script"]), "2 confstamp: 50 BadScript line 1\n  script:1: stale  x.o\n"),
+    (Step::Args(&["batch", "script"]), "2 confstamp: 50 BadScript line 1\n  script:1: stale  x.o\n"),
     (Step::Put("script", "record x.d x.o\n"), "done"),
-    (Step::Words(&["batch", "script"]), "2 confstamp: 50 BadScript line 1\n  script:1: record x.d x.o\n"),
+    (Step::Args(&["batch", "script"]), "2 confstamp: 50 BadScript line 1\n  script:1: record x.d x.o\n"),
     (Step::Put("script", "sync K1 c1\nsync K1 a$b\n"), "done"),
-    (Step::Words(&["batch", "script"]), "2 confstamp: 50 BadScript line 2\n  script:2: sync K1 a$b\n"),
+    (Step::Args(&["batch", "script"]), "2 confstamp: 50 BadScript line 2\n  script:2: sync K1 a$b\n"),
     (Step::Put("script", "sync K1 c1\nsync missing gone\n"), "done"),
-    (Step::Words(&["batch", "script"]), "2 confstamp: 40 MissingFile missing\n"),
+    (Step::Args(&["batch", "script"]), "2 confstamp: 40 MissingFile missing\n"),
     (Step::Read("include/config/auto.conf"), "none"),
 ];
 
 /// `big` has one byte more than the limit.
 #[rattlefmt::skip]
 const TOO_LARGE: &[(Step<'_>, &str)] = &[
-    (Step::Words(&["sync", "big", "c1"]), "2 confstamp: 9 TooLarge\n"),
-    (Step::Words(&["sync", "K1", "big"]), "2 confstamp: 9 TooLarge\n"),
-    (Step::Words(&["preview", "K1", "c1", "big"]), "2 confstamp: 9 TooLarge\n"),
-    (Step::Words(&["fixdep", "big", "x.o", "cc"]), "2 confstamp: 9 TooLarge\n"),
-    (Step::Words(&["batch", "big"]), "2 confstamp: 9 TooLarge\n"),
-    (Step::Words(&["sync", "K1", "c1"]), "0 generation 1\ntouch A\ntouch B\nunknown 0\n"),
+    (Step::Args(&["sync", "big", "c1"]), "2 confstamp: 9 TooLarge\n"),
+    (Step::Args(&["sync", "K1", "big"]), "2 confstamp: 9 TooLarge\n"),
+    (Step::Args(&["preview", "K1", "c1", "big"]), "2 confstamp: 9 TooLarge\n"),
+    (Step::Args(&["fixdep", "big", "x.o", "cc"]), "2 confstamp: 9 TooLarge\n"),
+    (Step::Args(&["batch", "big"]), "2 confstamp: 9 TooLarge\n"),
+    (Step::Args(&["sync", "K1", "c1"]), "0 generation 1\ntouch A\ntouch B\nunknown 0\n"),
     (Step::Put("y.d", "x.o: x.c big\n"), "done"),
-    (Step::Words(&["fixdep", "y.d", "x.o", "cc"]), "2 confstamp: 9 TooLarge\n"),
-    (Step::Words(&["record", "y.d", "x.o", "cc"]), "2 confstamp: 9 TooLarge\n"),
+    (Step::Args(&["fixdep", "y.d", "x.o", "cc"]), "2 confstamp: 9 TooLarge\n"),
+    (Step::Args(&["record", "y.d", "x.o", "cc"]), "2 confstamp: 9 TooLarge\n"),
 ];
 
 /// What a tree answers of which each call fails.
 #[rattlefmt::skip]
 const FAILING_TREE: &[(Step<'_>, &str)] = &[
-    (Step::Words(&["sync", "K1", "c1"]), "2 confstamp: 30 Device\n"),
-    (Step::Words(&["preview", "K1", "c1"]), "2 confstamp: 30 Device\n"),
-    (Step::Words(&["fixdep", "x.d", "x.o", "cc"]), "2 confstamp: 30 Device\n"),
-    (Step::Words(&["record", "x.d", "x.o", "cc"]), "2 confstamp: 30 Device\n"),
-    (Step::Words(&["stale", "x.o", "y.o"]), "2 x.o refused 30 Device\ny.o refused 30 Device\n"),
-    (Step::Words(&["outdated", "x.o", "cc"]), "2 x.o refused 30 Device\n"),
-    (Step::Words(&["batch", "script"]), "2 confstamp: 30 Device\n"),
+    (Step::Args(&["sync", "K1", "c1"]), "2 confstamp: 30 Device\n"),
+    (Step::Args(&["preview", "K1", "c1"]), "2 confstamp: 30 Device\n"),
+    (Step::Args(&["fixdep", "x.d", "x.o", "cc"]), "2 confstamp: 30 Device\n"),
+    (Step::Args(&["record", "x.d", "x.o", "cc"]), "2 confstamp: 30 Device\n"),
+    (Step::Args(&["stale", "x.o", "y.o"]), "2 x.o refused 30 Device\ny.o refused 30 Device\n"),
+    (Step::Args(&["outdated", "x.o", "cc"]), "2 x.o refused 30 Device\n"),
+    (Step::Args(&["batch", "script"]), "2 confstamp: 30 Device\n"),
 ];
 
 #[test]
@@ -127,7 +127,7 @@ fn a_tree_that_fails(rt: HostRuntime) -> Result<(), Fail> {
 const TWO_LINES: &[(Step<'_>, &str)] = &[(Step::Put("script", "sync K1 c1\nsync K1 c1\n"), "done")];
 
 const ONE_REFUSED: &[(Step<'_>, &str)] = &[(
-    Step::Words(&["batch", "script"]),
+    Step::Args(&["batch", "script"]),
     "2 refused 30 Device\nsync generation 1 touched 2 unknown 0\n",
 )];
 
@@ -144,7 +144,7 @@ fn a_device_that_fails_once(rt: HostRuntime) -> Result<(), Fail> {
 }
 
 /// A file of one byte more than the limit.
-fn put_big<T: Aging>(alloc: Global, tree: &mut T) -> Result<(), Fail> {
+fn put_big<T: Backdating>(alloc: Global, tree: &mut T) -> Result<(), Fail> {
     let big: Vec<u8> = vec![in alloc; b'\n'; 67_108_865]?;
     tree.write(alloc, b"big", &big)?;
     Ok(())
@@ -158,18 +158,22 @@ fn files_above_the_limit(rt: HostRuntime) -> Result<(), Fail> {
 }
 
 /// Of a long line the beginning is shown.
-fn check_long_line<T: Aging>(rt: &impl Abort, alloc: Global, tree: &mut T) -> Result<(), Fail> {
+fn check_long_line<T: Backdating>(
+    rt: &impl Abort,
+    alloc: Global,
+    tree: &mut T,
+) -> Result<(), Fail> {
     let long: Vec<u8> = vec![in alloc; b'x'; 121]?;
     tree.write(alloc, b"long", &long)?;
     let shown = str::from_utf8(&long[..120])?;
     let want = format!(in alloc; "2 confstamp: 50 BadScript line 1\n  long:1: {shown}\n")?;
-    let words = ["batch", "long"];
-    play(rt, alloc, tree, &[(Step::Words(&words), want.as_str())])
+    let args = ["batch", "long"];
+    play(rt, alloc, tree, &[(Step::Args(&args), want.as_str())])
 }
 
 /// Where the file can't be read again, its name and the number are still told.
 const NOT_READ_AGAIN: &[(Step<'_>, &str)] = &[(
-    Step::Words(&["sync", "K1", "faulty"]),
+    Step::Args(&["sync", "K1", "faulty"]),
     "2 confstamp: 8 BadValue line 2\n  faulty:2\n",
 )];
 

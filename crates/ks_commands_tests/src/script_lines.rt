@@ -5,7 +5,7 @@ use std::alloc::{AllocError, Global};
 use std::process::Abort;
 
 /// The words of a line.
-fn words_of<'a>(line: &ScriptLine<'a>) -> [&'a [u8]; 4] {
+fn args_of<'a>(line: &ScriptLine<'a>) -> [&'a [u8]; 4] {
     match *line {
         ScriptLine::Sync(kconfig, dotconfig) => [b"sync", kconfig, dotconfig, b""],
         ScriptLine::Record(depfile, target, command) => [b"record", depfile, target, command],
@@ -13,8 +13,8 @@ fn words_of<'a>(line: &ScriptLine<'a>) -> [&'a [u8]; 4] {
     }
 }
 
-fn push_words(alloc: Global, whole: &mut String, words: &[&[u8]]) -> Result<(), AllocError> {
-    for word in words {
+fn push_args(alloc: Global, whole: &mut String, args: &[&[u8]]) -> Result<(), AllocError> {
+    for word in args {
         whole.push_str(&String::from_utf8_lossy(alloc, word)?)?;
         whole.push_str("|")?;
     }
@@ -25,7 +25,7 @@ fn push_words(alloc: Global, whole: &mut String, words: &[&[u8]]) -> Result<(), 
 fn spelled(alloc: Global, lines: &[ScriptLine<'_>]) -> Result<String, AllocError> {
     let mut whole = String::new(alloc);
     for line in lines {
-        push_words(alloc, &mut whole, &words_of(line))?;
+        push_args(alloc, &mut whole, &args_of(line))?;
     }
     Ok(whole)
 }
@@ -131,7 +131,7 @@ fn long_outcome(
 }
 
 #[rattlefmt::skip]
-const LONG_WORDS: &[(&str, &[u8], usize, &[u8], &[u8])] = &[
+const LONG_ARGS: &[(&str, &[u8], usize, &[u8], &[u8])] = &[
     ("a Kconfig of 129 bytes", b"sync ", 129, b" C", b"sync|"),
     ("a target of 129 bytes", b"stale ", 129, b"", b"stale|"),
     ("a longest path", b"sync K ", 1024, b"", b"sync|K|"),
@@ -141,8 +141,8 @@ const LONG_WORDS: &[(&str, &[u8], usize, &[u8], &[u8])] = &[
 ];
 
 #[test]
-fn long_words(rt: HostRuntime) -> Result<(), AllocError> {
-    for &(name, front, length, back, want) in LONG_WORDS {
+fn long_args(rt: HostRuntime) -> Result<(), AllocError> {
+    for &(name, front, length, back, want) in LONG_ARGS {
         let found = long_outcome(rt.alloc(), front, length, back)?;
         check(&rt, name, found.as_bytes().starts_with(want));
     }

@@ -14,7 +14,7 @@ record x.d x.o cc -c x.c
 stale x.o
 ";
 
-const CHANGE_AND_BACK_TOLD: &str = "1 sync generation 1 touched 2 unknown 0
+const CHANGE_AND_BACK_REPORTED: &str = "1 sync generation 1 touched 2 unknown 0
 record x.o generation 1 names 3
 sync generation 2 touched 1 unknown 0
 x.o fresh
@@ -34,7 +34,7 @@ stale x.o
 sync K1 c1
 ";
 
-const REFUSED_LINES_TOLD: &str = "2 refused 8 BadValue line 2
+const REFUSED_LINES_REPORTED: &str = "2 refused 8 BadValue line 2
 refused 40 MissingFile missing
 a$b refused 21 BadPath token 0
 x.o stale no-command-file
@@ -44,31 +44,31 @@ sync generation 1 touched 2 unknown 0
 #[rattlefmt::skip]
 const CHANGES: &[(Step<'_>, &str)] = &[
     (Step::Put("script", CHANGE_AND_BACK), "done"),
-    (Step::Words(&["batch", "script"]), CHANGE_AND_BACK_TOLD),
+    (Step::Args(&["batch", "script"]), CHANGE_AND_BACK_REPORTED),
 ];
 
 #[rattlefmt::skip]
 const REFUSALS: &[(Step<'_>, &str)] = &[
     (Step::Put("script", REFUSED_LINES), "done"),
-    (Step::Words(&["batch", "script"]), REFUSED_LINES_TOLD),
+    (Step::Args(&["batch", "script"]), REFUSED_LINES_REPORTED),
 ];
 
 #[rattlefmt::skip]
 const QUIET_LINES: &[(Step<'_>, &str)] = &[
     (Step::Put("script", "# nothing\n\n#\n"), "done"),
-    (Step::Words(&["batch", "script"]), "0 "),
+    (Step::Args(&["batch", "script"]), "0 "),
     (Step::Put("script", ""), "done"),
-    (Step::Words(&["batch", "script"]), "0 "),
+    (Step::Args(&["batch", "script"]), "0 "),
     (Step::Put("script", "sync K1 c1\r\nrecord x.d x.o cc  -c x.c\nstale x.o"), "done"),
-    (Step::Words(&["batch", "script"]), "0 sync generation 1 touched 2 unknown 0\nrecord x.o generation 1 names 3\nx.o fresh\n"),
+    (Step::Args(&["batch", "script"]), "0 sync generation 1 touched 2 unknown 0\nrecord x.o generation 1 names 3\nx.o fresh\n"),
 ];
 
 /// The command of a record is the rest of its line, and may be empty.
 #[rattlefmt::skip]
 const EMPTY_COMMAND: &[(Step<'_>, &str)] = &[
-    (Step::Words(&["sync", "K1", "c1"]), "0 generation 1\ntouch A\ntouch B\nunknown 0\n"),
+    (Step::Args(&["sync", "K1", "c1"]), "0 generation 1\ntouch A\ntouch B\nunknown 0\n"),
     (Step::Put("script", "record x.d x.o \n"), "done"),
-    (Step::Words(&["batch", "script"]), "0 record x.o generation 1 names 3\n"),
+    (Step::Args(&["batch", "script"]), "0 record x.o generation 1 names 3\n"),
     (Step::Read(".x.o.cmd"), "savedcmd_x.o := \n\nsource_x.o := x.c\n\ndeps_x.o := \\\n    $(wildcard include/config/A) \\\n    $(wildcard include/config/B) \\\n  a.h \\\n    $(wildcard include/config/C) \\\n  b.h \\\n\nx.o: $(deps_x.o)\n\n$(deps_x.o):\n#generation 1\n"),
 ];
 

@@ -1,11 +1,11 @@
 //! Worked examples over a tree in memory: tables of words, and of the status and all that is printed.
 use crate::golden;
+use ks_cli::{WordsError, request_of};
 use ks_commands::execute;
 use ks_requests::Request;
 use ks_streams::{Scripted, Step as Call, Stream};
 use ks_symbols::Dialect;
-use ks_tree::{AgedTree, Aging, MemoryTree, Tree};
-use ks_words::{WordsError, request_of};
+use ks_tree::{Backdating, BackdatingTree, MemoryTree, Tree};
 use std::alloc::Global;
 use std::process::Abort;
 use std::test::Fail;
@@ -13,7 +13,7 @@ use std::test::Fail;
 /// One thing done to a tree: words that are run, a file that is put there, or one that is read.
 #[derive(Clone, Copy, Debug)]
 pub(crate) enum Step<'a> {
-    Words(&'a [&'a str]),
+    Args(&'a [&'a str]),
     /// The words under the dialect of U-Boot.
     InUBoot(&'a [&'a str]),
     /// The words under the dialect of BusyBox.
@@ -37,7 +37,7 @@ fn scripted(alloc: Global, script: Vec<Call>) -> Stream<Scripted> {
 }
 
 /// Runs what is asked for over an output and a standard error that go by these scripts.
-pub(crate) fn run_onto<T: Aging>(
+pub(crate) fn run_onto<T: Backdating>(
     alloc: Global,
     tree: &mut T,
     dialect: Dialect,
@@ -59,7 +59,7 @@ pub(crate) fn run_onto<T: Aging>(
 }
 
 /// Runs what is asked for where all that it prints is taken.
-pub(crate) fn run_asked<T: Aging>(
+pub(crate) fn run_asked<T: Backdating>(
     alloc: Global,
     tree: &mut T,
     dialect: Dialect,
@@ -70,13 +70,13 @@ pub(crate) fn run_asked<T: Aging>(
 }
 
 /// Runs the command that the words ask for.
-pub(crate) fn run_over<'a, T: Aging>(
+pub(crate) fn run_over<'a, T: Backdating>(
     alloc: Global,
     tree: &mut T,
     dialect: Dialect,
-    words: &'a [&'a str],
+    args: &'a [&'a str],
 ) -> Run {
-    run_asked(alloc, tree, dialect, &request_of(alloc, words))
+    run_asked(alloc, tree, dialect, &request_of(alloc, args))
 }
 
 /// The bytes of a file as text.
@@ -94,13 +94,13 @@ fn run_text(alloc: Global, run: &Run) -> Result<String, Fail> {
 }
 
 /// The same of the command that the words ask for.
-fn said<'a, T: Aging>(
+fn printed<'a, T: Backdating>(
     alloc: Global,
     tree: &mut T,
     dialect: Dialect,
-    words: &'a [&'a str],
+    args: &'a [&'a str],
 ) -> Result<String, Fail> {
-    let run = run_over(alloc, tree, dialect, words);
+    let run = run_over(alloc, tree, dialect, args);
     run_text(alloc, &run)
 }
 
@@ -110,11 +110,15 @@ fn put<T: Tree>(alloc: Global, tree: &mut T, path: &str, bytes: &str) -> Result<
 }
 
 /// What comes of a step: what was read, or the status, the output and standard error, one after the other.
-pub(crate) fn told<T: Aging>(alloc: Global, tree: &mut T, step: Step<'_>) -> Result<String, Fail> {
+pub(crate) fn reported<T: Backdating>(
+    alloc: Global,
+    tree: &mut T,
+    step: Step<'_>,
+) -> Result<String, Fail> {
     match step {
-        Step::Words(words) => said(alloc, tree, Dialect::Linux, words),
-        Step::InUBoot(words) => said(alloc, tree, Dialect::UBoot, words),
-        Step::InBusyBox(words) => said(alloc, tree, Dialect::BusyBox, words),
+        Step::Args(args) => printed(alloc, tree, Dialect::Linux, args),
+        Step::InUBoot(args) => printed(alloc, tree, Dialect::UBoot, args),
+        Step::InBusyBox(args) => printed(alloc, tree, Dialect::BusyBox, args),
         Step::Put(path, bytes) => put(alloc, tree, path, bytes),
         Step::Read(path) => shown(alloc, tree, path),
     }
@@ -137,22 +141,22 @@ fn check_step(rt: &impl Abort, step: &Step<'_>, found: &str, want: &str) {
 }
 
 /// Takes the steps one after another, each with what is to come of it.
-pub(crate) fn play<T: Aging>(
+pub(crate) fn play<T: Backdating>(
     rt: &impl Abort,
     alloc: Global,
     tree: &mut T,
     steps: &[(Step<'_>, &str)],
 ) -> Result<(), Fail> {
     for (step, want) in steps {
-        let found = told(alloc, tree, *step)?;
+        let found = reported(alloc, tree, *step)?;
         check_step(rt, step, found.as_str(), *want);
     }
     Ok(())
 }
 
 /// A tree with the inputs of all examples.
-pub(crate) fn world(rt: &impl Abort, alloc: Global) -> Result<AgedTree<MemoryTree>, Fail> {
-    let mut tree = AgedTree::new(alloc, MemoryTree::new(alloc));
+pub(crate) fn world(rt: &impl Abort, alloc: Global) -> Result<BackdatingTree<MemoryTree>, Fail> {
+    let mut tree = BackdatingTree::new(alloc, MemoryTree::new(alloc));
     play(rt, alloc, &mut tree, golden::INPUTS)?;
     Ok(tree)
 }

@@ -15,54 +15,54 @@ const COSTS: &str = "0 z.o no-command-file\nB 2\nA 1\nAB 1\nC 1\n";
 
 #[rattlefmt::skip]
 const USERS: &[(Step<'_>, &str)] = &[
-    (Step::Words(&["sync", "K1", "c1"]), "0 generation 1\ntouch A\ntouch B\nunknown 0\n"),
-    (Step::Words(&["record", "x.d", "x.o", "cc -c x.c"]), "0 record x.o generation 1 names 3\n"),
+    (Step::Args(&["sync", "K1", "c1"]), "0 generation 1\ntouch A\ntouch B\nunknown 0\n"),
+    (Step::Args(&["record", "x.d", "x.o", "cc -c x.c"]), "0 record x.o generation 1 names 3\n"),
     (Step::Put(".y.o.cmd", RECORDED), "done"),
     (Step::Put("objects", "x.o\ny.o\n\nz.o\ny.o\r\nx.o"), "done"),
-    (Step::Words(&["users", "--from", "objects", "A"]), "0 x.o A x.c\nz.o no-command-file\n1 of 3 objects\n"),
-    (Step::Words(&["users", "CONFIG_C", "--from", "objects"]), "0 x.o C a.h\nz.o no-command-file\n1 of 3 objects\n"),
-    (Step::Words(&["users", "--from", "objects", "CONFIG_CONFIG_C", "CONFIG_", "A=y", ""]), "0 z.o no-command-file\n0 of 3 objects\n"),
+    (Step::Args(&["users", "--from", "objects", "A"]), "0 x.o A x.c\nz.o no-command-file\n1 of 3 objects\n"),
+    (Step::Args(&["users", "CONFIG_C", "--from", "objects"]), "0 x.o C a.h\nz.o no-command-file\n1 of 3 objects\n"),
+    (Step::Args(&["users", "--from", "objects", "CONFIG_CONFIG_C", "CONFIG_", "A=y", ""]), "0 z.o no-command-file\n0 of 3 objects\n"),
     (Step::Put("objects", "y.o\nx.o\n"), "done"),
-    (Step::Words(&["users", "--from", "objects", "AB"]), "0 y.o AB y.c\n1 of 2 objects\n"),
+    (Step::Args(&["users", "--from", "objects", "AB"]), "0 y.o AB y.c\n1 of 2 objects\n"),
     (Step::Put("objects", "\n"), "done"),
-    (Step::Words(&["users", "--from", "objects", "A"]), "0 0 of 0 objects\n"),
+    (Step::Args(&["users", "--from", "objects", "A"]), "0 0 of 0 objects\n"),
     (Step::Put("objects", "y.o\na$b\nx.o\n"), "done"),
     (Step::Put(".y.o.cmd", "cmd_y.o := cc\n"), "done"),
-    (Step::Words(&["users", "--from", "objects", "C"]), REFUSED),
-    (Step::Words(&["users", "--from", "none", "C"]), "2 confstamp: 40 MissingFile none\n"),
-    (Step::Words(&["users", "--from", "a$b", "C"]), "2 confstamp: 21 BadPath token 0\n"),
+    (Step::Args(&["users", "--from", "objects", "C"]), REFUSED),
+    (Step::Args(&["users", "--from", "none", "C"]), "2 confstamp: 40 MissingFile none\n"),
+    (Step::Args(&["users", "--from", "a$b", "C"]), "2 confstamp: 21 BadPath token 0\n"),
 ];
 
 #[rattlefmt::skip]
 const SEVERAL: &[(Step<'_>, &str)] = &[
-    (Step::Words(&["sync", "K1", "c1"]), "0 generation 1\ntouch A\ntouch B\nunknown 0\n"),
-    (Step::Words(&["record", "x.d", "x.o", "cc -c x.c"]), "0 record x.o generation 1 names 3\n"),
+    (Step::Args(&["sync", "K1", "c1"]), "0 generation 1\ntouch A\ntouch B\nunknown 0\n"),
+    (Step::Args(&["record", "x.d", "x.o", "cc -c x.c"]), "0 record x.o generation 1 names 3\n"),
     (Step::Put(".y.o.cmd", RECORDED), "done"),
     (Step::Put("objects", "x.o\ny.o\nz.o\nx.o\n"), "done"),
-    (Step::Words(&["users", "--from", "objects", "B", "AB", "CONFIG_B"]), USES),
+    (Step::Args(&["users", "--from", "objects", "B", "AB", "CONFIG_B"]), USES),
 ];
 
 #[rattlefmt::skip]
 const COST: &[(Step<'_>, &str)] = &[
-    (Step::Words(&["sync", "K1", "c1"]), "0 generation 1\ntouch A\ntouch B\nunknown 0\n"),
-    (Step::Words(&["record", "x.d", "x.o", "cc -c x.c"]), "0 record x.o generation 1 names 3\n"),
+    (Step::Args(&["sync", "K1", "c1"]), "0 generation 1\ntouch A\ntouch B\nunknown 0\n"),
+    (Step::Args(&["record", "x.d", "x.o", "cc -c x.c"]), "0 record x.o generation 1 names 3\n"),
     (Step::Put(".y.o.cmd", RECORDED), "done"),
     (Step::Put("objects", "y.o\nz.o\n"), "done"),
-    (Step::Words(&["cost", "x.o"]), "0 A 1\nB 1\nC 1\n"),
-    (Step::Words(&["cost", "x.o", "y.o", "x.o", "--from", "objects"]), COSTS),
-    (Step::Words(&["cost", "x.o", "y.o", "--top", "2"]), "0 B 2\nA 1\n"),
-    (Step::Words(&["cost", "x.o", "--top", "+2"]), "0 A 1\nB 1\n"),
-    (Step::Words(&["cost", "x.o", "--top", "0"]), "0 "),
-    (Step::Words(&["cost", "x.o", "--top", "18446744073709551615"]), "0 A 1\nB 1\nC 1\n"),
-    (Step::Words(&["cost", "--top", "3"]), "0 "),
-    (Step::Words(&["cost", "a$b", "x.o", "--top", "1"]), "2 a$b refused 21 BadPath token 0\nA 1\n"),
-    (Step::Words(&["cost", "--from", "none"]), "2 confstamp: 40 MissingFile none\n"),
+    (Step::Args(&["cost", "x.o"]), "0 A 1\nB 1\nC 1\n"),
+    (Step::Args(&["cost", "x.o", "y.o", "x.o", "--from", "objects"]), COSTS),
+    (Step::Args(&["cost", "x.o", "y.o", "--top", "2"]), "0 B 2\nA 1\n"),
+    (Step::Args(&["cost", "x.o", "--top", "+2"]), "0 A 1\nB 1\n"),
+    (Step::Args(&["cost", "x.o", "--top", "0"]), "0 "),
+    (Step::Args(&["cost", "x.o", "--top", "18446744073709551615"]), "0 A 1\nB 1\nC 1\n"),
+    (Step::Args(&["cost", "--top", "3"]), "0 "),
+    (Step::Args(&["cost", "a$b", "x.o", "--top", "1"]), "2 a$b refused 21 BadPath token 0\nA 1\n"),
+    (Step::Args(&["cost", "--from", "none"]), "2 confstamp: 40 MissingFile none\n"),
     (Step::Put("include/config/auto.conf", "CONFIG\n"), "done"),
     (Step::Put("include/config/A", "A\n"), "done"),
-    (Step::Words(&["cost", "x.o", "--top", "1"]), "0 A 1\n"),
+    (Step::Args(&["cost", "x.o", "--top", "1"]), "0 A 1\n"),
 ];
 
 #[test]
-fn questions_by_symbol(rt: HostRuntime) -> Result<(), Fail> {
+fn queries_by_symbol(rt: HostRuntime) -> Result<(), Fail> {
     play_each(&rt, rt.alloc(), &[USERS, SEVERAL, COST])
 }

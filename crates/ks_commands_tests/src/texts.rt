@@ -1,9 +1,9 @@
 //! From texts to texts, without the words of a command line: what previews print, and why there is none; what differs from
 //! auto.conf; and scripts whose lines name files more than once.
 use crate::steps::{Run, check_text, run_asked};
-use ks_requests::{PreviewError, Request, Telling, preview_to};
+use ks_requests::{PreviewError, ReportStyle, Request, preview_to};
 use ks_symbols::{Dialect, Kconfig};
-use ks_tree::{AgedTree, Aging, MemoryTree, Tree};
+use ks_tree::{Backdating, BackdatingTree, MemoryTree, Tree};
 use std::alloc::{AllocError, Global};
 use std::test::Fail;
 
@@ -107,16 +107,16 @@ fn refusals(rt: HostRuntime) -> Result<(), AllocError> {
 
 #[test]
 fn a_full_output_is_refused(rt: HostRuntime) -> Result<(), AllocError> {
-    let mut room = [0; 4];
-    let mut out = room.as_mut_slice();
+    let mut buffer = [0; 4];
+    let mut out = buffer.as_mut_slice();
     let kconfig = Kconfig::new(Dialect::Linux, DEMO);
     let found = preview_to(rt.alloc(), &kconfig, b"CONFIG_A=y\n", None, &mut out);
-    let told = match found {
+    let reported = match found {
         Ok(()) => "nothing",
         Err(PreviewError::Engine(_)) => "a text",
         Err(PreviewError::Output) => "the output",
     };
-    check_text(&rt, "what is refused", told, "the output");
+    check_text(&rt, "what is refused", reported, "the output");
     check_text(
         &rt,
         "its text",
@@ -141,7 +141,7 @@ fn run_text(alloc: Global, run: &Run) -> Result<String, Fail> {
 }
 
 /// The status of a script over a Kconfig and two `.config`s, and what it prints.
-fn batch<T: Aging>(alloc: Global, tree: &mut T, script: &[u8]) -> Result<String, Fail> {
+fn batch<T: Backdating>(alloc: Global, tree: &mut T, script: &[u8]) -> Result<String, Fail> {
     put_all(alloc, tree, CONFIGS)?;
     put_all(alloc, tree, &[("S", script)])?;
     let script = "S".to_string(alloc)?;
@@ -168,7 +168,7 @@ const SCRIPTS: &[(&str, &[u8], &str)] = &[
 #[test]
 fn scripts(rt: HostRuntime) -> Result<(), Fail> {
     for &(name, script, want) in SCRIPTS {
-        let mut tree = AgedTree::new(rt.alloc(), MemoryTree::new(rt.alloc()));
+        let mut tree = BackdatingTree::new(rt.alloc(), MemoryTree::new(rt.alloc()));
         let found = batch(rt.alloc(), &mut tree, script)?;
         check_text(&rt, name, found.as_str(), want);
     }
@@ -181,12 +181,12 @@ fn diff_request(alloc: Global) -> Result<Request, AllocError> {
     Ok(Request::Diff {
         kconfig,
         dotconfig,
-        telling: Telling::Lines,
+        report_style: ReportStyle::Lines,
     })
 }
 
 /// The status of a diff over a tree with these texts, and what it prints.
-fn diff<T: Aging>(
+fn diff<T: Backdating>(
     alloc: Global,
     tree: &mut T,
     kconfig: &[u8],
@@ -231,7 +231,7 @@ const DIFFERENCES: &[(&str, &[u8], &[u8], Option<&[u8]>, &str)] = &[
 #[test]
 fn differences(rt: HostRuntime) -> Result<(), Fail> {
     for &(name, kconfig, dotconfig, auto, want) in DIFFERENCES {
-        let mut tree = AgedTree::new(rt.alloc(), MemoryTree::new(rt.alloc()));
+        let mut tree = BackdatingTree::new(rt.alloc(), MemoryTree::new(rt.alloc()));
         let found = diff(rt.alloc(), &mut tree, kconfig, dotconfig, auto)?;
         check_text(&rt, name, found.as_str(), want);
     }

@@ -50,11 +50,11 @@ legal_differ o s P f g e = grind arith
 pub changes_are_legal : ChangesAreLegal
 changes_are_legal old new names h g are x e = legal_differ _ _ _ (h x) (λ s is. name_of_symbol _ x (g x s is).named) (sym (are.each x) ∙ e)
 
-same_class_tells : (a b : Option Class) → (same_class a b ≡ true) ↔ (a ≡ b)
-same_class_tells a b = search (rules, class_again, eqb-true, eq-eqb)
+same_class_reports : (a b : Option Class) → (same_class a b ≡ true) ↔ (a ≡ b)
+same_class_reports a b = search (rules, class_again, eqb-true, eq-eqb)
 
 alike : (a b : Option (Option Class × List ℕ)) → (differ a b ≡ false) ↔ (a ≡ b)
-alike a b = search (rules, and_parts, not-false, same_class_tells)
+alike a b = search (rules, and_parts, not-false, same_class_reports)
 
 pub unchanged_is_kept : UnchangedIsKept
 unchanged_is_kept old new x = search (rules, alike, texts_are_of_entries)

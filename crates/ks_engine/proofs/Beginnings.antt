@@ -1,5 +1,5 @@
 -- Trees to begin with, and the one plan of a synchronisation.
-use Rattle.ks_engine.proofs.Prelude.{AreSources, ◌≡◌, inl, inr, ℕ, ◌<◌, ◌^◌, List, Option, refl, sym, ◌∙◌, subst, nat_cmp, arith, slice_cmp, nat_list_cmp_total, empty, get-empty, same_map, slice_cmp-IsAntisymmetric, nat_cmp-IsAntisymmetric, auto_path, stamp_path, HasNumber, Texts, IsFirstAuto, Sources, EmptyTreeShows, UsualTreeShows, UntypedTreeShows, PlansAreOne, KconfigText, rules, generation_fits}
+use Rattle.ks_engine.proofs.Prelude.{AreConfigInputs, ◌≡◌, inl, inr, ℕ, ◌<◌, ◌^◌, List, Option, refl, sym, ◌∙◌, subst, nat_cmp, arith, slice_cmp, nat_list_cmp_total, empty, get-empty, same_map, slice_cmp-IsAntisymmetric, nat_cmp-IsAntisymmetric, auto_path, stamp_path, HasNumber, Texts, IsFirstAuto, ConfigInputs, EmptyTreeShows, UsualTreeShows, UntypedTreeShows, PlansAreOne, KconfigText, rules, generation_fits}
 
 -- the generation of a first auto.conf fits 64 bits
 first_fits : (texts : Texts) (generation : ℕ) (file : Option (List ℕ)) → IsFirstAuto texts generation file → generation < 2 ^ 64
@@ -20,7 +20,7 @@ empty_shows =
     usual_shows empty no_texts (subst (IsFirstAuto no_texts 0) (sym (get-empty (slice_cmp nat_cmp) auto_path)) (refl, refl))
     (λ x name. subst (λ file. HasNumber file 0) (sym (get-empty (slice_cmp nat_cmp) (stamp_path x))) refl)
 
-one_source : (kconfig : KconfigText) (dotconfig : List ℕ) (s t : Sources) → AreSources kconfig dotconfig s → AreSources kconfig dotconfig t → s ≡ t
+one_source : (kconfig : KconfigText) (dotconfig : List ℕ) (s t : ConfigInputs) → AreConfigInputs kconfig dotconfig s → AreConfigInputs kconfig dotconfig t → s ≡ t
 one_source kconfig dotconfig s t a b =
     let config = same_map nat_list_cmp_total (slice_cmp-IsAntisymmetric nat_cmp-IsAntisymmetric) s.config t.config (λ x. a.settings x ∙ sym (b.settings x)) in
     λ i. record { title = (a.title ∙ sym b.title) i; config = config i; unknown = (a.unknown ∙ sym b.unknown) i }

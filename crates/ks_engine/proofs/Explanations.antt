@@ -1,8 +1,8 @@
 -- Why an object is stale: what a shown tree gives of a recorded object, and that places are first.
-use Rattle.ks_engine.proofs.Prelude.{map, ◌≡◌, ◌⊎◌, inl, inr, ℕ, List, [], ◌∷◌, ◌++◌, Some, Result, Ok, Err, true, false, nat_lt, ◌∙◌, ap, refl, subst, get_or, append-nil, bytes_eq, filter, not, All, list_all, list_any, cond-false, cond-true, not-true, All-nil, All-head, All-tail, All-append, All-map, All-same, All-filter, filter_passes, list_any-append, list_any_at, bytes_eq-Decides, is_in, Dep, Config, Role, all_noted, noted, new_names, deps_after, source_of, record_of, Files, EngineError, Cause, Explanation, IsGivenUpAnswer, History, LastRecord, done, last_record, found, suspect_since, Shows, stamp, placed, names_placed, cause, IsByStamps, IsExplained, listed, IsExplanationJudged, first_with, listed_last, is_listed, last_path, length, PlacesAreFirst, PlacesAreTheirs, rules, arith, common_steps, cond_both, All-push}
+use Rattle.ks_engine.proofs.Prelude.{map, ◌≡◌, ◌⊎◌, inl, inr, ℕ, List, [], ◌∷◌, ◌++◌, Some, Result, Ok, Err, true, false, nat_lt, ◌∙◌, ap, refl, subst, get_or, append-nil, bytes_eq, filter, not, All, list_all, list_any, cond-false, cond-true, not-true, All-nil, All-head, All-tail, All-append, All-map, All-same, All-filter, filter_passes, list_any-append, list_any_at, bytes_eq-Decides, is_in, Dep, Config, Role, all_noted, noted, new_names, deps_after, source_of, record_of, Files, EngineError, Cause, Explanation, IsAbortedAnswer, History, LastRecord, done, last_record, found, suspect_since, Shows, stamp, placed, names_placed, cause, IsByStamps, IsExplained, listed, IsExplanationEvaluated, first_with, listed_last, is_listed, last_path, length, PlacesAreFirst, PlacesAreTheirs, rules, arith, common_steps, cond_both, All-push}
 use Rattle.ks_fixdep.specs.declared.dependency_file.Role.TheVariants as role
-use Rattle.ks_engine.specs.declared.question.Limit.TheVariants.{All as Every}
-use Rattle.ks_engine.proofs.Asking.{asked_shown, by_stamps, gave_up_told, judges, of_record, same_on}
+use Rattle.ks_engine.specs.declared.query.Limit.TheVariants.{All as Every}
+use Rattle.ks_engine.proofs.Querying.{asked_shown, by_stamps, aborted_reported, evaluates, of_record, same_on}
 use Rattle.ks_engine.proofs.Heart.{suspect_since-lt}
 use Rattle.ks_engine.proofs.Listing.{listed_by, listed_next}
 
@@ -27,16 +27,16 @@ listed_shown files h o r causes shows last is =
       rw are (All-map (λ c. c.generation ≡ stamp h c.name) (cause (stamp h)) (filter (λ p. nat_lt g (stamp h p.0)) names) (λ k d within. refl)),
     )
 
-pub explanation_judged : (files : Files) (h : History) (o : List ℕ) (r : LastRecord) (answer : Result Explanation EngineError)
-    → IsGivenUpAnswer answer ⊎ IsExplained Every files o answer → Shows files h → last_record h o ≡ Some r → IsExplanationJudged files h o r answer
-explanation_judged files h o r answer (inl given) shows last = search (rules, judges, gave_up_told)
-explanation_judged files h o r (Err e) (inr is) shows last =
+pub explanation_evaluated : (files : Files) (h : History) (o : List ℕ) (r : LastRecord) (answer : Result Explanation EngineError)
+    → IsAbortedAnswer answer ⊎ IsExplained Every files o answer → Shows files h → last_record h o ≡ Some r → IsExplanationEvaluated files h o r answer
+explanation_evaluated files h o r answer (inl given) shows last = search (rules, evaluates, aborted_reported)
+explanation_evaluated files h o r (Err e) (inr is) shows last =
     let by = rw (asked_shown files h o r shows last) at is in
-    record { judged = judges Every files h o r (Err e) shows last (inr (Err e, by.0, by.1)); suspects = tt; numbers = tt }
-explanation_judged files h o r (Ok e) (inr is) shows last =
+    record { evaluated = evaluates Every files h o r (Err e) shows last (inr (Err e, by.0, by.1)); suspects = tt; numbers = tt }
+explanation_evaluated files h o r (Ok e) (inr is) shows last =
     let by = rw (asked_shown files h o r shows last) at is in
     let listed = listed_shown files h o r e.causes.items shows last by.0 in
-    record { judged = judges Every files h o r (Ok e.verdict) shows last (inr (Ok e.causes.items, by.0, by.1)); suspects = listed.0; numbers = listed.1 }
+    record { evaluated = evaluates Every files h o r (Ok e.verdict) shows last (inr (Ok e.causes.items, by.0, by.1)); suspects = listed.0; numbers = listed.1 }
 
 -- ---- places are first
 

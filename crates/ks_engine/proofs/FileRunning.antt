@@ -1,10 +1,10 @@
 -- A run by the files goes on by one command; and each history that its first files show goes on with it.
-use Rattle.ks_engine.proofs.Prelude.{◌≡◌, ◌∙◌, ℕ, ◌+◌, ◌<◌, List, [], ◌∷◌, ◌++◌, refl, sym, ap, ap₂, subst, Ok, Err, map, take, length, length-map, length-take, get_or, ⊤, take_more, map-append, Action, Dialect, Sync, Record, Call, action, call_of, calls_of, reply_to, Command, CommandReply, Reply, FileState, Files, LeavesFiles, Ages, StepsTo, FileRun, TreeState, at, History, IsJudgedReply, FollowsQuestion, Leaves, read_in, Run, Shows, told, arith, common_steps, rules}
-use Rattle.ks_engine.specs.Actions.{SyncStamped, Depfile, Stale, Why, After, Age, Outdated, Read, Synced, Recorded, Judged, Explained, Built, Found}
+use Rattle.ks_engine.proofs.Prelude.{◌≡◌, ◌∙◌, ℕ, ◌+◌, ◌<◌, List, [], ◌∷◌, ◌++◌, refl, sym, ap, ap₂, subst, Ok, Err, map, take, length, length-map, length-take, get_or, ⊤, take_more, map-append, Action, Dialect, Sync, Record, Call, action, call_of, calls_of, reply_to, Command, CommandReply, Reply, FileState, Files, LeavesFiles, BackdateScope, StepsTo, FileRun, TreeState, at, History, IsEvaluatedReply, FollowsQuery, Leaves, read_in, Run, Shows, reported, arith, common_steps, rules}
+use Rattle.ks_engine.specs.Actions.{SyncAllStamps, Depfile, Stale, Why, Predicted, Backdate, Outdated, Read, Synced, Recorded, Evaluated, Explained, Built, Found}
 use Rattle.ks_engine.specs.Depfile.{ruled_by}
-use Rattle.ks_engine.proofs.Asking.{stale_judged}
+use Rattle.ks_engine.proofs.Querying.{stale_evaluated}
 use Rattle.ks_engine.proofs.DepfileLemmas.{depfile_follows}
-use Rattle.ks_engine.proofs.Explanations.{explanation_judged}
+use Rattle.ks_engine.proofs.Explanations.{explanation_evaluated}
 use Rattle.ks_engine.proofs.Following.{sync_follows}
 use Rattle.ks_engine.proofs.RecordSteps.{record_follows}
 use Rattle.ks_engine.proofs.Running.{no_steps, step_first}
@@ -38,9 +38,9 @@ more dialect honest first cs i d rs new mid r last test as_many run step items =
     (run_more dialect honest first (calls_of acts rs) mid (call_of a r) last run step)
 
 -- what is said of an honest tree by its honesty
-ages_on_honest : (honest : Type 0) (old : FileState) (a : Action) (r : Reply) (aged : List (List ℕ)) → honest → Ages honest old a r aged → Ages ⊤ old a r aged
-ages_on_honest honest old (Age which o) (Explained r spelling) aged is ages = λ t. ages is
-ages_on_honest honest old a r aged is ages = ages
+backdates_on_honest : (honest : Type 0) (old : FileState) (a : Action) (r : Reply) (backdated : List (List ℕ)) → honest → BackdateScope honest old a r backdated → BackdateScope ⊤ old a r backdated
+backdates_on_honest honest old (Backdate which o) (Explained r spelling) backdated is backdates = λ t. backdates is
+backdates_on_honest honest old a r backdated is backdates = backdates
 
 pub on_honest : (dialect : Dialect) (honest : Type 0) (first : FileState) (calls : List Call) (last : FileState) → honest → FileRun dialect honest first calls last
     → FileRun dialect ⊤ first calls last
@@ -50,7 +50,7 @@ on_honest dialect honest first (call ∷ calls) last is run =
       run.0,
       record {
         leaves = λ t. step.leaves is;
-        ages = ages_on_honest honest first call.action call.reply run.0.aged is step.ages;
+        backdates = backdates_on_honest honest first call.action call.reply run.0.backdated is step.backdates;
         later = step.later;
         cause = step.cause;
         uncounted = step.uncounted;
@@ -63,19 +63,19 @@ on_honest dialect honest first (call ∷ calls) last is run =
 abbrev with : FileState → History → TreeState
 with s h = at s.files s.failures h
 
-judged : (dialect : Dialect) (old : FileState) (a : Action) (r : Reply) (new : FileState) (h : History) → Shows old.files h → LeavesFiles dialect old.files a r new.files
-    → IsJudgedReply (with old h) a r
-judged dialect old (Stale o) (Judged r) new h shows is = λ w last. stale_judged old.files h o w r is.1 shows last
-judged dialect old (Stale o) (Explained r spelling) new h shows is = λ w last. stale_judged old.files h o w (told r) is.1 shows last
-judged dialect old (Age which o) (Explained r spelling) new h shows is = λ w last. stale_judged old.files h o w (told r) is.1 shows last
-judged dialect old (Why o) (Explained r spelling) new h shows is = λ w last. (explanation_judged old.files h o w r is.1.by_files shows last).judged
-judged dialect old a r new h shows is = tt
+evaluated : (dialect : Dialect) (old : FileState) (a : Action) (r : Reply) (new : FileState) (h : History) → Shows old.files h → LeavesFiles dialect old.files a r new.files
+    → IsEvaluatedReply (with old h) a r
+evaluated dialect old (Stale o) (Evaluated r) new h shows is = λ w last. stale_evaluated old.files h o w r is.1 shows last
+evaluated dialect old (Stale o) (Explained r spelling) new h shows is = λ w last. stale_evaluated old.files h o w (reported r) is.1 shows last
+evaluated dialect old (Backdate which o) (Explained r spelling) new h shows is = λ w last. stale_evaluated old.files h o w (reported r) is.1 shows last
+evaluated dialect old (Why o) (Explained r spelling) new h shows is = λ w last. (explanation_evaluated old.files h o w r is.1.by_files shows last).evaluated
+evaluated dialect old a r new h shows is = tt
 
 stays : (dialect : Dialect) (old : FileState) (a : Action) (r : Reply) (new : FileState) (h : History) → Shows old.files h → LeavesFiles dialect old.files a r new.files
-    → new.files ≡ old.files → (next : History) × FollowsQuestion dialect (with old h) a r (with new next) × Shows new.files next
+    → new.files ≡ old.files → (next : History) × FollowsQuery dialect (with old h) a r (with new next) × Shows new.files next
 stays dialect old a r new h shows is same = (
   h,
-  record { same = (same, refl); by_files = is; recorded = judged dialect old a r new h shows is },
+  record { same = (same, refl); by_files = is; recorded = evaluated dialect old a r new h shows is },
   subst (λ (f : Files). Shows f h) (sym same) shows,
 )
 
@@ -85,9 +85,9 @@ step_goes_on dialect old (Sync k d) (Synced (Ok report)) new h shows is =
     sync_follows old.files new.files old.failures new.failures h (read_in dialect k) d (Ok report) shows is tt
 step_goes_on dialect old (Sync k d) (Synced (Err e)) new h shows is =
     sync_follows old.files new.files old.failures new.failures h (read_in dialect k) d (Err e) shows tt is
-step_goes_on dialect old (SyncStamped k d) (Synced (Ok report)) new h shows is =
+step_goes_on dialect old (SyncAllStamps k d) (Synced (Ok report)) new h shows is =
     stamped_follows old.files new.files old.failures new.failures h (read_in dialect k) d (Ok report) shows is tt
-step_goes_on dialect old (SyncStamped k d) (Synced (Err e)) new h shows is =
+step_goes_on dialect old (SyncAllStamps k d) (Synced (Err e)) new h shows is =
     stamped_follows old.files new.files old.failures new.failures h (read_in dialect k) d (Err e) shows tt is
 step_goes_on dialect old (Record d t c) (Recorded (Ok answer)) new h shows is =
     record_follows dialect old.files new.files old.failures new.failures h d t c (Ok answer) shows is tt
@@ -97,11 +97,11 @@ step_goes_on dialect old (Depfile header d t c) (Recorded (Ok answer)) new h sho
     depfile_follows (ruled_by header dialect) old.failures new.failures h d t c (Ok answer) shows is tt
 step_goes_on dialect old (Depfile header d t c) (Recorded (Err e)) new h shows is =
     depfile_follows (ruled_by header dialect) old.failures new.failures h d t c (Err e) shows tt is
-step_goes_on dialect old (Stale o) (Judged r) new h shows is = stays dialect old (Stale o) (Judged r) new h shows is is.0
+step_goes_on dialect old (Stale o) (Evaluated r) new h shows is = stays dialect old (Stale o) (Evaluated r) new h shows is is.0
 step_goes_on dialect old (Why o) (Explained r spelling) new h shows is = stays dialect old (Why o) (Explained r spelling) new h shows is is.0
 step_goes_on dialect old (Stale o) (Explained r spelling) new h shows is = stays dialect old (Stale o) (Explained r spelling) new h shows is is.0
-step_goes_on dialect old (After k d o) (Explained r spelling) new h shows is = stays dialect old (After k d o) (Explained r spelling) new h shows is is.0
-step_goes_on dialect old (Age which o) (Explained r spelling) new h shows is = stays dialect old (Age which o) (Explained r spelling) new h shows is is.0
+step_goes_on dialect old (Predicted k d o) (Explained r spelling) new h shows is = stays dialect old (Predicted k d o) (Explained r spelling) new h shows is is.0
+step_goes_on dialect old (Backdate which o) (Explained r spelling) new h shows is = stays dialect old (Backdate which o) (Explained r spelling) new h shows is is.0
 step_goes_on dialect old (Outdated o c) (Built r) new h shows is = stays dialect old (Outdated o c) (Built r) new h shows is is.0
 step_goes_on dialect old (Read o) (Found r) new h shows is = stays dialect old (Read o) (Found r) new h shows is is.0
 step_goes_on dialect old a r new h shows is = absurd is

@@ -1,9 +1,9 @@
 -- A synchronisation goes on with each history that the files show.
-use Rattle.ks_engine.proofs.Prelude.{inl, inr, ◌≡◌, ◌⊎◌, ⊎_elim, ℕ, ◌+◌, List, Result, Ok, Err, IfOk, IfErr, ◌∙◌, ap, refl, Files, EngineError, IsGivenUp, Report, History, Synced, Shows, IsSynced, IsSyncPlan, IsSyncRefused, at, FollowsSync, KconfigText, rules}
+use Rattle.ks_engine.proofs.Prelude.{inl, inr, ◌≡◌, ◌⊎◌, ⊎_elim, ℕ, ◌+◌, List, Result, Ok, Err, IfOk, IfErr, ◌∙◌, ap, refl, Files, EngineError, IsAborted, Report, History, Synced, Shows, IsSynced, IsSyncPlan, IsSyncRefused, at, FollowsSync, KconfigText, rules}
 use Rattle.ks_engine.proofs.Steps.{plan_facts, broken_shows, synced_shows}
 
 -- A synchronisation that stops before its first write is refused or given up.
-pub unwritten : (old new : Files) (k : KconfigText) (d : List ℕ) (e : EngineError) → new ≡ old → IsGivenUp e ⊎ IsSyncPlan old k d (Err e) → IsSyncRefused old new k d e
+pub unwritten : (old new : Files) (k : KconfigText) (d : List ℕ) (e : EngineError) → new ≡ old → IsAborted e ⊎ IsSyncPlan old k d (Err e) → IsSyncRefused old new k d e
 unwritten old new k d e same (inl given) = inr (given, inl same)
 unwritten old new k d e same (inr bad) = inl (bad, same)
 

@@ -1,5 +1,5 @@
 -- What is kept of a tree: what a look-up finds holds of the files, and what is added does.
-use Rattle.ks_engine.proofs.Prelude.{place_from_lookup, ◌≡◌, Ok, arith, length, length-append, append-nil, ◌≢◌, ◌⊎◌, is_some, cond, ℕ, slice_get, false, List, [], ◌∷◌, ◌++◌, Some, refl, ap, sym, ◌∙◌, subst, bytes_eq, All, All-nil, All-cons, All-head, All-tail, bytes_eq-Decides, lookup, insert_entry, get_or_append_left, get_or-append_seam, found_of, Files, content, SameButBoth, auto_path, command_path, command_temporary, AutoConf, Stamp, CommandFile, CommandTemporary, Memo, Rules, last_generation, pairs_of, value_of, with_pair, Grows, IsKept, AreScanned, IsNoSource, IsMemoOf, scanned, common_steps, rules, slice_get_within, get_or_from_slice_get, cond_both, ⊎_elim, IsTrue, is_name, stamp_path}
+use Rattle.ks_engine.proofs.Prelude.{place_from_lookup, ◌≡◌, Ok, arith, length, length-append, append-nil, ◌≢◌, ◌⊎◌, is_some, cond, ℕ, slice_get, false, List, [], ◌∷◌, ◌++◌, Some, refl, ap, sym, ◌∙◌, subst, bytes_eq, All, All-nil, All-cons, All-head, All-tail, bytes_eq-Decides, lookup, insert_entry, get_or_append_left, get_or-append_seam, found_of, Files, content, SameButBoth, auto_path, command_path, command_temporary, AutoConf, Stamp, CommandFile, CommandTemporary, Cache, ScanRules, last_generation, pairs_of, value_of, with_pair, Grows, IsCached, AreScanned, IsNoSource, IsCacheOf, scanned, common_steps, rules, slice_get_within, get_or_from_slice_get, cond_both, ⊎_elim, IsTrue, is_name, stamp_path}
 use Rattle.std.specs.Prelude.{string_bytes, vec_items}
 use Rattle.ks_engine.proofs.LowerLaws.{apart}
 
@@ -38,16 +38,16 @@ module _ {K V : Type 0} (bytes : K → List ℕ) where
 
 -- ---- what a record writes is nothing that is kept
 
-pub memo_kept : (old new : Files) (o : List ℕ) (memo : Memo) → SameButBoth (command_temporary o) (command_path o) old new
-    → IsNoSource (command_temporary o) memo → IsNoSource (command_path o) memo → IsMemoOf old memo → IsMemoOf new memo
-memo_kept old new o memo others no_temporary no_path is =
+pub cache_kept : (old new : Files) (o : List ℕ) (cache : Cache) → SameButBoth (command_temporary o) (command_path o) old new
+    → IsNoSource (command_temporary o) cache → IsNoSource (command_path o) cache → IsCacheOf old cache → IsCacheOf new cache
+cache_kept old new o cache others no_temporary no_path is =
     let kept = λ (x : List ℕ) (name : IsTrue (is_name x)).
     others (stamp_path x) (apart (Stamp x) (CommandTemporary o) name tt (λ e. cc)) (apart (Stamp x) (CommandFile o) name tt (λ e. cc)) in
     record {
       generation = λ g known. ap last_generation (others auto_path (apart AutoConf (CommandTemporary o) tt tt (λ e. cc))
           (apart AutoConf (CommandFile o) tt tt (λ e. cc))) ∙ is.generation g known;
       stamps = λ k d lt. let (name, has) = is.stamps k d lt in (name, rw (kept _ name) has);
-      sources = λ k d lt. let (within, said) = is.sources k d lt in (within, rw (others _ (no_temporary k d lt) (no_path k d lt)) said);
+      sources = λ k d lt. let (within, stated) = is.sources k d lt in (within, rw (others _ (no_temporary k d lt) (no_path k d lt)) stated);
     }
 
 -- ---- a path that a map has not
@@ -58,19 +58,19 @@ not_kept x (e ∷ es) none = search (rules, All-cons, (bytes_eq-Decides x e.0), 
 
 -- ---- more sources
 
-sources_longer : (r : Rules) (files : Files) (found more : List (List (List ℕ))) (es : List (List ℕ × ℕ)) → AreScanned r files found es → AreScanned r files (found ++ more) es
+sources_longer : (r : ScanRules) (files : Files) (found more : List (List (List ℕ))) (es : List (List ℕ × ℕ)) → AreScanned r files found es → AreScanned r files (found ++ more) es
 sources_longer r files found more es are = λ k d lt. search (rules, length-append, get_or_append_left, (are k d lt))
 
 -- the names of one more file are kept at the end
-pub last_kept : (r : Rules) (files : Files) (found : List (List (List ℕ))) (path : List ℕ) (names : List (List ℕ)) (all : List (List (List ℕ))) (place : ℕ)
-    → place ≡ length found → all ≡ found ++ names ∷ [] → scanned r path (content files path) ≡ Ok names → IsKept r files all path place
-last_kept r files found path names all place at is said = search (rules, length-append, get_or-append_seam)
+pub last_kept : (r : ScanRules) (files : Files) (found : List (List (List ℕ))) (path : List ℕ) (names : List (List ℕ)) (all : List (List (List ℕ))) (place : ℕ)
+    → place ≡ length found → all ≡ found ++ names ∷ [] → scanned r path (content files path) ≡ Ok names → IsCached r files all path place
+last_kept r files found path names all place at is stated = search (rules, length-append, get_or-append_seam)
 
 -- what is kept is as before, and there may be more sources
-pub memo_grown : (files : Files) (old new : Memo) → new.rules ≡ old.rules → new.generation ≡ old.generation → pairs_of string_bytes new.stamps.entries ≡ pairs_of string_bytes old.stamps.entries
-    → pairs_of vec_items new.sources.entries ≡ pairs_of vec_items old.sources.entries → Grows (found_of old.found.scan) (found_of new.found.scan) → IsMemoOf files old
-    → IsMemoOf files new
-memo_grown files old new rules generation stamps sources grows is = grind (arith, common_steps, sources_longer)
+pub cache_grown : (files : Files) (old new : Cache) → new.rules ≡ old.rules → new.generation ≡ old.generation → pairs_of string_bytes new.stamps.entries ≡ pairs_of string_bytes old.stamps.entries
+    → pairs_of vec_items new.sources.entries ≡ pairs_of vec_items old.sources.entries → Grows (found_of old.found.scan) (found_of new.found.scan) → IsCacheOf files old
+    → IsCacheOf files new
+cache_grown files old new rules generation stamps sources grows is = grind (arith, common_steps, sources_longer)
 
 pub grows_none : (old new : List (List (List ℕ))) → new ≡ old → Grows old new
 grows_none old new same = ([], same ∙ sym (append-nil old))

@@ -10,9 +10,9 @@ pub mod Writes
 pub mod Steps
 pub mod Following
 pub mod Listing
-pub mod Asking
+pub mod Querying
 pub mod Explanations
-pub mod Foreseeing
+pub mod Predicting
 pub mod Tallying
 pub mod Pieces
 pub mod Scanning

@@ -1,7 +1,7 @@
 -- The causes that stamps give, name by name, and the verdict of them.
-use Rattle.ks_engine.proofs.Prelude.{map, ◌≡◌, ◌⊎◌, inl, inr, ⊎_elim, ℕ, ◌+◌, ◌≤◌, List, [], ◌∷◌, ◌++◌, Ok, Err, cond, nat_lt, sym, ◌∙◌, ap, refl, arith, length, drop, append_assoc, bytes_eq, find, filter, All, cond-true, cond_both, cases_Bool, drop_all, map-append, All-nil, All-push, filter-append, bytes_eq-Decides, Dep, File, Config, Files, content, stamp_path, HasNumber, IsStampRefusal, TreeError, Cause, Limit, First, placed, cause, AreCauses, AreEnough, AreTooFew, IsByStamps, verdict_of, of_stamp, IsGivenUp, verdict, take, suc, rules}
+use Rattle.ks_engine.proofs.Prelude.{map, ◌≡◌, ◌⊎◌, inl, inr, ⊎_elim, ℕ, ◌+◌, ◌≤◌, List, [], ◌∷◌, ◌++◌, Ok, Err, cond, nat_lt, sym, ◌∙◌, ap, refl, arith, length, drop, append_assoc, bytes_eq, find, filter, All, cond-true, cond_both, cases_Bool, drop_all, map-append, All-nil, All-push, filter-append, bytes_eq-Decides, Dep, File, Config, Files, content, stamp_path, HasNumber, IsStampRefusal, TreeError, Cause, Limit, First, placed, cause, AreCauses, AreEnough, AreTooFew, IsByStamps, verdict_of, of_stamp, IsAborted, verdict, take, suc, rules}
 use Rattle.ks_tree.proofs.StampLemmas.{number_unique}
-use Rattle.ks_engine.specs.declared.question.Limit.TheVariants.{All as Every}
+use Rattle.ks_engine.specs.declared.query.Limit.TheVariants.{All as Every}
 
 -- ---- the numbers of stamps
 
@@ -89,7 +89,7 @@ module _ (files : Files) (g : ℕ) (source : List ℕ) (deps : List Dep) (i : �
   -- a stamp without a number ends it
   pub looked_refused : (limit : Limit) (x place : List ℕ) (e : TreeError) → drop i deps ≡ Config x ∷ drop (i + 1) deps
       → IsStampRefusal x (content files (stamp_path x)) e → AreTooFew limit causes → LookedAt files g source deps i place causes
-      → IsGivenUp (of_stamp e) ⊎ IsByStamps limit files g (placed source deps) (Err (of_stamp e))
+      → IsAborted (of_stamp e) ⊎ IsByStamps limit files g (placed source deps) (Err (of_stamp e))
   looked_refused limit x place e next why few l = search rules
 
 -- ---- the verdict of the causes

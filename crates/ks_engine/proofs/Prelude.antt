@@ -20,7 +20,7 @@ pub use Rattle.ks_fixdep.specs.declared.command_file.Dep.{Dep}
 pub use Rattle.ks_fixdep.specs.declared.command_file.Dep.TheVariants.{Config, File}
 pub use Rattle.ks_fixdep.specs.declared.command_file.borrowed.BorrowedDep.{BorrowedDep}
 pub use Rattle.ks_symbols.specs.declared.dialect.Dialect.{Dialect}
-pub use Rattle.ks_fixdep.specs.declared.dialect.Rules.{Rules}
+pub use Rattle.ks_fixdep.specs.declared.dialect.ScanRules.{ScanRules}
 pub use Rattle.ks_fixdep.specs.declared.dependency_file.Role.{Role}
 pub use Rattle.ks_fixdep.specs.declared.seed.Seed.{Seed}
 pub use Rattle.ks_output.proofs.SmallNumbers.{generation_fits}
@@ -31,39 +31,39 @@ pub use Rattle.ks_tree.proofs.Places.{paths_never_meet}
 pub use Rattle.ks_tree.specs.declared.fault.TreeError.{TreeError}
 pub use Rattle.ks_tree.specs.declared.fault.TreeFault.{TreeFault}
 pub use Rattle.ks_engine.specs.Actions.{Action, Call, Record, Reply, Sync, action, call_of, calls_of, reply_to}
-pub use Rattle.ks_engine.specs.Asked.{Asked, AtOnce, ByStamps, IsAnswer, IsAnswerOn, IsExplained, IsExplainedBy, asked_of, asked_since, command_file, listed, told, verdict_by}
+pub use Rattle.ks_engine.specs.Asked.{Asked, AtOnce, ByStamps, IsAnswer, IsAnswerOn, IsExplained, IsExplainedBy, asked_of, asked_since, command_file, listed, reported, verdict_by}
 unfoldable pub use Rattle.ks_engine.specs.Asked.{asked}
-pub use Rattle.ks_engine.specs.BuildStates.{Asks, BuildAsked, IsBuildState, IsStateOn, build_asked_of, judged}
+pub use Rattle.ks_engine.specs.BuildStates.{Asks, BuildAsked, IsBuildState, IsStateOn, build_asked_of, evaluated}
 unfoldable pub use Rattle.ks_engine.specs.BuildStates.{build_asked}
 pub use Rattle.ks_engine.specs.Causes.{AreCauses, AreEnough, AreTooFew, EndsAt, IsByStamps, cause, names_placed, placed, verdict_of}
 pub use Rattle.ks_engine.specs.Costs.{AreCosts, AreOnce, AreTallies, IsTally, by_cost, cost_of, counted, number_in, one_if, seen_cost, tallies_of, tally_cost, tally_pairs}
 pub use Rattle.ks_engine.specs.Depfile.{FollowsDepfile, IsDepfileRecorded, IsDepfileRefused, IsOldOrRule, RuleDone, RuleLeaves, RuleTried}
 unfoldable pub use Rattle.ks_engine.specs.Depfile.{is_own_file}
 pub use Rattle.ks_engine.specs.Drafts.{IsDraft}
-pub use Rattle.ks_engine.specs.Explained.{IsExplanationJudged, IsExplanationOn, PlacesAreFirst, PlacesAreTheirs, first_with, is_listed, last_path, listed_last}
-pub use Rattle.ks_engine.specs.FileRuns.{Ages, FileRun, FileState, LeavesDepfile, LeavesFiles, LeavesRecord, LeavesStamped, LeavesSync, StepsTo, state}
+pub use Rattle.ks_engine.specs.Explained.{IsExplanationEvaluated, IsExplanationOn, PlacesAreFirst, PlacesAreTheirs, first_with, is_listed, last_path, listed_last}
+pub use Rattle.ks_engine.specs.FileRuns.{BackdateScope, FileRun, FileState, LeavesDepfile, LeavesFiles, LeavesRecord, LeavesStamped, LeavesSync, StepsTo, state}
 pub use Rattle.ks_engine.specs.Follows.{FollowsRecordedUnder, FollowsRecord, FollowsRecordUnder, FollowsSync, IsRecordEvent, TreeState, at}
 pub use Rattle.ks_engine.specs.History.{Begun, Broken, History, LastRecord, NoneBroken, Recorded, Synced, WasSynced, before, done, last_record}
-pub use Rattle.ks_engine.specs.Impact.{IsAfter, IsAnswerAfter, IsImpactOf, JudgesAfter}
-pub use Rattle.ks_engine.specs.Judged.{HasSameDefinitions, IsBuildJudged, IsJudged}
+pub use Rattle.ks_engine.specs.Impact.{IsAfter, IsAnswerAfter, IsImpactOf, EvaluatesAfter}
+pub use Rattle.ks_engine.specs.Evaluated.{HasSameDefinitions, IsBuildEvaluated, IsEvaluated}
 pub use Rattle.ks_engine.specs.LastSync.{OldAuto, last_generation, read_unless, synced_at}
 unfoldable pub use Rattle.ks_engine.specs.LastSync.{old_auto}
 pub use Rattle.ks_engine.specs.Laws.{AreNotNumbered, EmptyTreeShows, HasChangeAfter, MadeStampsShow, NotNumberedTreeShows, PlansAreOne, SuspicionsHaveCauses, UntypedTreeShows, UsualTreeShows}
 pub use Rattle.ks_engine.specs.Legal.{AreAllRenewed, IsHistory, IsLegalSync, MayBeHeader}
-pub use Rattle.ks_engine.specs.Memos.{AreScanned, Grows, IsKept, IsMemoOf, IsNoSource, IsStamp, are_placed, pairs_of, value_of, with_pair}
+pub use Rattle.ks_engine.specs.Caches.{AreScanned, Grows, IsCached, IsCacheOf, IsNoSource, IsStamp, are_placed, pairs_of, value_of, with_pair}
 pub use Rattle.ks_engine.specs.OtherRecords.{OtherRecordsDoNotMatter, own_history}
-pub use Rattle.ks_engine.specs.Questions.{IsAnswerTo, IsSeen, limit_of}
+pub use Rattle.ks_engine.specs.Queries.{IsAnswerTo, IsSeen, limit_of}
 pub use Rattle.ks_engine.specs.Recorded.{IsRecordPlanUnder, IsRecordRefused, IsRecordRefusedUnder, IsRecordTried, IsRecordTriedUnder, IsRecorded, IsRecordedUnder, RecordPlan, drafted, numbered, record_plan, usual}
 unfoldable pub use Rattle.ks_engine.specs.Recorded.{record_plan_under}
-pub use Rattle.ks_engine.specs.Recording.{followed, listed_unless, scanned, there, with_command, words}
+pub use Rattle.ks_engine.specs.Recording.{followed, listed_unless, scanned, there, with_command, args}
 unfoldable pub use Rattle.ks_engine.specs.Recording.{scanned_all}
-pub use Rattle.ks_engine.specs.Refusals.{IsGivenUp, IsGivenUpAnswer, and_then, of_auto, of_source, of_stamp, of_tree}
-pub use Rattle.ks_engine.specs.Runs.{Follows, FollowsQuestion, IsShown, Leads, Leaves, Run, Step}
+pub use Rattle.ks_engine.specs.Refusals.{IsAborted, IsAbortedAnswer, and_then, of_auto, of_source, of_stamp, of_tree}
+pub use Rattle.ks_engine.specs.Runs.{Follows, FollowsQuery, IsShown, Leads, Leaves, Run, Step}
 pub use Rattle.ks_engine.specs.Shows.{IsFirstAuto, IsAuto, IsCommandFile, Shows, stamp}
 pub use Rattle.ks_engine.specs.Staleness.{changed_since, first_suspect, found, renewed_since_sync, suspect_since, verdict}
-pub use Rattle.ks_engine.specs.SyncPlan.{AreSources, IsSyncPlan, Plan, Sources, plan_over, source_refusal}
+pub use Rattle.ks_engine.specs.SyncPlan.{AreConfigInputs, IsSyncPlan, Plan, ConfigInputs, plan_over, source_refusal}
 pub use Rattle.ks_engine.specs.Synchronised.{AreCleared, AreLegalChanges, IsSyncRefused, IsSynced, SyncDone, SyncLeaves}
-pub use Rattle.ks_engine.specs.Verdicts.{IsChangedVerdict, IsGivenUpSync, IsJudgedReply, IsSafeVerdict, IsSuspectVerdict}
+pub use Rattle.ks_engine.specs.Verdicts.{IsChangedVerdict, IsAbortedSync, IsEvaluatedReply, IsSafeVerdict, IsSuspectVerdict}
 pub use Rattle.ks_engine.specs.Views.{IsWork, IsPlanned, PlansOver, Reports, old_of, sources_of}
 pub use Rattle.ks_engine.specs.declared.commands.Command.{Command}
 pub use Rattle.ks_engine.specs.declared.commands.Reply.{Reply as CommandReply}
@@ -76,18 +76,18 @@ pub use Rattle.ks_engine.specs.declared.error.EngineError.TheVariants.{BadComman
 pub use Rattle.ks_engine.specs.declared.explaining.Cause.{Cause}
 pub use Rattle.ks_engine.specs.declared.explaining.Explanation.{Explanation}
 pub use Rattle.ks_engine.specs.declared.impact.Impact.{Impact}
-pub use Rattle.ks_engine.specs.declared.memos.Memo.{Memo}
+pub use Rattle.ks_engine.specs.declared.caches.Cache.{Cache}
 pub use Rattle.ks_engine.specs.declared.planning.Planned.{Planned}
-pub use Rattle.ks_engine.specs.declared.question.Limit.{Limit}
-pub use Rattle.ks_engine.specs.declared.question.Limit.TheVariants.{First}
-pub use Rattle.ks_engine.specs.declared.question.Question.{Question}
-pub use Rattle.ks_engine.specs.declared.question.Question.TheVariants.{After, Stale, Why}
+pub use Rattle.ks_engine.specs.declared.query.Limit.{Limit}
+pub use Rattle.ks_engine.specs.declared.query.Limit.TheVariants.{First}
+pub use Rattle.ks_engine.specs.declared.query.Query.{Query}
+pub use Rattle.ks_engine.specs.declared.query.Query.TheVariants.{Predicted, Stale, Why}
 pub use Rattle.ks_engine.specs.declared.recording.Draft.{Draft}
 pub use Rattle.ks_engine.specs.declared.staleness.BuildState.{BuildState}
 pub use Rattle.ks_engine.specs.declared.staleness.Verdict.{Verdict}
 pub use Rattle.ks_engine.specs.declared.staleness.Verdict.TheVariants.{Fresh}
 pub use Rattle.ks_engine.specs.declared.synchronise.Report.{Report}
-pub use Rattle.ks_engine.specs.Stamped.{FollowsSyncStamped, IsStampedRefused, IsStamped}
+pub use Rattle.ks_engine.specs.AllStamps.{FollowsSyncAllStamps, IsStampedRefused, IsStamped}
 pub use Rattle.ks_fixdep.specs.FoundNames.{names_of}
 pub use Rattle.std.proofs.Math.Logic.{⊎_map}
 pub use Rattle.ks_tree.specs.Paths.{Header}

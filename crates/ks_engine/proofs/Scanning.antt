@@ -1,5 +1,5 @@
 -- Prerequisites scanned one after the other.
-use Rattle.ks_engine.proofs.Prelude.{are_placed, add-one, ap, refl, ◌∙◌, get_or-append_seam, ◌≡◌, ◌<◌, true, get_or, length-append, ℕ, ◌+◌, ◌≤◌, List, [], ◌∷◌, ◌++◌, Some, Result, Ok, Err, length, drop, append_assoc, append-nil, arith, slice_get, drop-cons, and_from, and_parts, lt-ltb, ltb-true, drop_all, get_or_append_left, map-append, list_all-append, picked, Grows, slice_get_within, get_or_from_slice_get, Role, Rules, Files, content, scanned, scanned_all, followed, EngineError, rules}
+use Rattle.ks_engine.proofs.Prelude.{are_placed, add-one, ap, refl, ◌∙◌, get_or-append_seam, ◌≡◌, ◌<◌, true, get_or, length-append, ℕ, ◌+◌, ◌≤◌, List, [], ◌∷◌, ◌++◌, Some, Result, Ok, Err, length, drop, append_assoc, append-nil, arith, slice_get, drop-cons, and_from, and_parts, lt-ltb, ltb-true, drop_all, get_or_append_left, map-append, list_all-append, picked, Grows, slice_get_within, get_or_from_slice_get, Role, ScanRules, Files, content, scanned, scanned_all, followed, EngineError, rules}
 
 -- the names found so far, and then those
 abbrev pub following : List (List (List ℕ)) → Result (List (List (List ℕ))) EngineError → Result (List (List (List ℕ))) EngineError
@@ -18,13 +18,13 @@ drop_get : {A : Type 0} (xs : List A) (i : ℕ) (p : A) → slice_get xs i ≡ S
 drop_get xs i p is = let within = slice_get_within xs i p is in rw (add-one, drop-cons xs i p) (cc (get_or_from_slice_get xs i p p is))
 
 -- the next of them, whatever comes of it
-pub scanned_step : (r : Rules) (files : Files) (ps : List (List ℕ × Role)) (i : ℕ) (p : List ℕ × Role) (found : List (List (List ℕ))) (one : Result (List (List ℕ)) EngineError)
+pub scanned_step : (r : ScanRules) (files : Files) (ps : List (List ℕ × Role)) (i : ℕ) (p : List ℕ × Role) (found : List (List (List ℕ))) (one : Result (List (List ℕ)) EngineError)
     (whole : Result (List (List (List ℕ))) EngineError) → slice_get ps i ≡ Some p → scanned r p.0 (content files p.0) ≡ one
     → whole ≡ following found (scanned_all r files (drop i ps)) → whole ≡ following found (followed one (scanned_all r files (drop (i + 1) ps)))
 unfolding scanned_all
 scanned_step r files ps i p found one whole is ok before = cc (drop_get ps i p is)
 
-pub scanned_end : (r : Rules) (files : Files) (ps : List (List ℕ × Role)) (i : ℕ) (found : List (List (List ℕ))) (whole : Result (List (List (List ℕ))) EngineError)
+pub scanned_end : (r : ScanRules) (files : Files) (ps : List (List ℕ × Role)) (i : ℕ) (found : List (List (List ℕ))) (whole : Result (List (List (List ℕ))) EngineError)
     → length ps ≤ i → whole ≡ following found (scanned_all r files (drop i ps)) → whole ≡ Ok found
 unfolding scanned_all
 scanned_end r files ps i found whole past before = search (rules, drop_all, append-nil)

@@ -1,5 +1,5 @@
 -- The stamps that are made after a synchronisation.
-use Rattle.ks_engine.proofs.Prelude.{IsStamped, IsStampedRefused, IsSyncRefused, IsSynced, IsSyncPlan, FollowsSyncStamped, ◌≡◌, ◌∙◌, inl, inr, ℕ, true, List, Option, Some, None, Ok, Err, Result, IfOk, IfErr, IsTrue, refl, sym, and_parts, is_some, declared, kconfig_refusal, is_name, Files, EngineError, Kind, Plan, Report, History, Shows, at, KconfigText}
+use Rattle.ks_engine.proofs.Prelude.{IsStamped, IsStampedRefused, IsSyncRefused, IsSynced, IsSyncPlan, FollowsSyncAllStamps, ◌≡◌, ◌∙◌, inl, inr, ℕ, true, List, Option, Some, None, Ok, Err, Result, IfOk, IfErr, IsTrue, refl, sym, and_parts, is_some, declared, kconfig_refusal, is_name, Files, EngineError, Kind, Plan, Report, History, Shows, at, KconfigText}
 unfoldable use Rattle.ks_symbols.specs.Kinds.{is_symbol_name}
 use Rattle.ks_symbols.proofs.Configured.{declares_names}
 use Rattle.ks_symbols.proofs.Story.{none_both}
@@ -27,14 +27,14 @@ declared_named old new k d report synced x is =
 
 -- Each history that the files show goes on with a synchronisation that was refused or given up.
 pub refused_follows : (old new : Files) (m n : ℕ) (h : History) (k : KconfigText) (d : List ℕ) (e : EngineError) → Shows old h → IsSyncRefused old new k d e
-    → (next : History) × FollowsSyncStamped k d (Err e) (at old m h) (at new n next) × Shows new next
+    → (next : History) × FollowsSyncAllStamps k d (Err e) (at old m h) (at new n next) × Shows new next
 refused_follows old new m n h k d e shows refused =
     let next = sync_follows old new m n h k d (Err e) shows tt refused in (next.0, inl next.1, next.2)
 
 -- Each history that the files show goes on with a synchronisation and the stamps after it.
 pub stamped_follows : (old new : Files) (m n : ℕ) (h : History) (k : KconfigText) (d : List ℕ) (r : Result Report EngineError)
     → Shows old h → IfOk r (IsStamped old new k d) → IfErr r (IsStampedRefused old new k d)
-    → (next : History) × FollowsSyncStamped k d r (at old m h) (at new n next) × Shows new next
+    → (next : History) × FollowsSyncAllStamps k d r (at old m h) (at new n next) × Shows new next
 stamped_follows old new m n h k d (Ok report) shows is refused =
     let next = sync_follows old is.between m n h k d (Ok report) shows is.synced tt in (
       next.0,

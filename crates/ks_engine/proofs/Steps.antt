@@ -1,5 +1,5 @@
 -- The files after each call show the history after it.
-use Rattle.ks_engine.proofs.Prelude.{Header, AreLegalChanges, AutoConf, AutoTemporary, Begun, Bool, Broken, CommandFile, CommandTemporary, Err, Files, HasNumber, HeaderTemporary, History, IsAuto, IsCommandFile, IsHistory, IsLegalPlace, IsLegalSync, IsSyncPlan, IsTrue, KconfigText, LastRecord, List, None, Ok, OldAuto, Option, Place, Plan, Recorded, SameButBoth, Shows, Some, Sources, Stamp, StampTemporary, SyncLeaves, Synced, Texts, WasSynced, and_then, ap, arith, auto_path, auto_text, before, both_ways, bytes_eq, bytes_eq-Decides, cases_Bool, command_path, command_temporary, cond, content, differs, done, eqb-false, false, header_path, header_text, inl, inr, is_in, is_name, last_record, length, ltb-false, max_bytes, old_auto, path_of, plan_over, refl, rules, stamp, stamp_path, stamp_text, subst, sym, ℕ, ⊎_elim, ◌+◌, ◌<◌, ◌^◌, ◌∙◌, ◌≡◌, ◌≤◌}
+use Rattle.ks_engine.proofs.Prelude.{Header, AreLegalChanges, AutoConf, AutoTemporary, Begun, Bool, Broken, CommandFile, CommandTemporary, Err, Files, HasNumber, HeaderTemporary, History, IsAuto, IsCommandFile, IsHistory, IsLegalPlace, IsLegalSync, IsSyncPlan, IsTrue, KconfigText, LastRecord, List, None, Ok, OldAuto, Option, Place, Plan, Recorded, SameButBoth, Shows, Some, ConfigInputs, Stamp, StampTemporary, SyncLeaves, Synced, Texts, WasSynced, and_then, ap, arith, auto_path, auto_text, before, both_ways, bytes_eq, bytes_eq-Decides, cases_Bool, command_path, command_temporary, cond, content, differs, done, eqb-false, false, header_path, header_text, inl, inr, is_in, is_name, last_record, length, ltb-false, max_bytes, old_auto, path_of, plan_over, refl, rules, stamp, stamp_path, stamp_text, subst, sym, ℕ, ⊎_elim, ◌+◌, ◌<◌, ◌^◌, ◌∙◌, ◌≡◌, ◌≤◌}
 use Rattle.ks_engine.proofs.Heart.{record_cases, recorded_synced}
 use Rattle.ks_engine.proofs.LowerLaws.{texts_back, generation_back, accepted, apart}
 use Rattle.ks_engine.proofs.Reading.{old_some, ok_ok, err_ok}
@@ -22,7 +22,7 @@ unfolding old_auto
 auto_read (Begun texts generation stamps) None legal is = record { auto = _; reads = refl; texts = sym is.0; generation = sym is.1 }
 auto_read (Begun texts generation stamps) (Some b) legal is = record { auto = _; reads = old_some _ b None refl is.0; texts = is.2; generation = is.1 }
 auto_read (Synced t config past) b legal is =
-    let room = legal.2 in
+    let headroom = legal.2 in
     let small : done past + 1 < 2 ^ 64 = omega arith in
     record {
       auto = _;
@@ -38,10 +38,10 @@ pub record PlanFacts (old : Texts) (generation : ℕ) (plan : Plan) : Type 0 whe
   pub source : IsLegalSync plan.title plan.config
   pub same_old : plan.old ≡ old
   pub same_generation : plan.generation ≡ generation
-  pub room : plan.generation ≡ 18446744073709551615 → ⊥
+  pub headroom : plan.generation ≡ 18446744073709551615 → ⊥
   pub small : length (auto_text plan.title plan.config (plan.generation + 1)) ≤ max_bytes
 
-pub plan_over_facts : (s : Sources) (auto : OldAuto) (plan : Plan) → IsLegalSync s.title s.config → plan_over s auto ≡ Ok plan
+pub plan_over_facts : (s : ConfigInputs) (auto : OldAuto) (plan : Plan) → IsLegalSync s.title s.config → plan_over s auto ≡ Ok plan
     → PlanFacts auto.texts auto.generation plan
 plan_over_facts s auto plan legal e = search (rules, err_ok, ok_ok, eqb-false, ltb-false)
 
@@ -77,11 +77,11 @@ module _ (old new : Files) (h : History) (plan : Plan) (changed renewed : List (
   differs_now : (x : List ℕ) → is_in changed x ≡ differs (before h) plan.config x
   differs_now x = are.are.each x ∙ ap (λ (t : Texts). differs t plan.config x) facts.same_old
 
-  room : done h < 18446744073709551615
-  room = let le = done_le h shows.history in let other : done h ≡ 18446744073709551615 → ⊥ = λ e. facts.room (facts.same_generation ∙ e) in omega arith
+  headroom : done h < 18446744073709551615
+  headroom = let le = done_le h shows.history in let other : done h ≡ 18446744073709551615 → ⊥ = λ e. facts.headroom (facts.same_generation ∙ e) in omega arith
 
   next_stamp : (x : List ℕ) → IsTrue (is_name x) → HasNumber (content new (stamp_path x)) (cond (is_in renewed x) (done h + 1) (stamp h x))
-  next_stamp x name = search (rules, room, number_cond)
+  next_stamp x name = search (rules, headroom, number_cond)
 
   next_commands : (o : List ℕ) (r : LastRecord) → last_record h o ≡ Some r → (b : List ℕ) × (content new (command_path o) ≡ Some b) × IsCommandFile o r b
   next_commands o r last = let was = shows.commands o r last in (was.0, command_kept old new plan changed renewed are leaves o ∙ was.1, was.2)
@@ -100,7 +100,7 @@ module _ (old new : Files) (h : History) (plan : Plan) (changed renewed : List (
 
   pub synced_shows : renewed ≡ changed → content new header_path ≡ Some (header_text plan.title plan.config)
       → content new auto_path ≡ Some (auto_text plan.title plan.config (plan.generation + 1)) → Shows new (Synced plan.title plan.config h)
-  synced_shows all header auto = search (rules, room, differs_now, next_stamp, next_commands)
+  synced_shows all header auto = search (rules, headroom, differs_now, next_stamp, next_commands)
 
 -- ---- files that show the same
 

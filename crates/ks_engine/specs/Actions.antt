@@ -2,7 +2,7 @@
 use Rattle.std.specs.Prelude.{ℕ, List, [], ◌∷◌, Option, Some, None, Result, Ok, Err}
 use Rattle.ks_fixdep.specs.declared.dependency_file.Header.{Header}
 use Rattle.ks_fixdep.specs.CommandFile.{CommandRecord}
-use Rattle.ks_engine.specs.declared.aging.Ages.{Ages}
+use Rattle.ks_engine.specs.declared.backdating.BackdateScope.{BackdateScope}
 use Rattle.ks_engine.specs.declared.commands.Command.{Command}
 use Rattle.ks_engine.specs.declared.commands.Command.TheVariants as command
 use Rattle.ks_engine.specs.declared.commands.Reply.{Reply as CommandReply}
@@ -17,15 +17,15 @@ use Rattle.ks_engine.specs.declared.synchronise.Report.{Report}
 pub data Action : Type 0 where
   Sync : (kconfig dotconfig : List ℕ) → Action
   -- and the missing stamps of all declared symbols are made
-  SyncStamped : (kconfig dotconfig : List ℕ) → Action
+  SyncAllStamps : (kconfig dotconfig : List ℕ) → Action
   Record : (depfile target command : List ℕ) → Action
   -- and the dependency file becomes one rule
   Depfile : Header → (depfile target command : List ℕ) → Action
   Stale : (target : List ℕ) → Action
   Why : (target : List ℕ) → Action
   -- whether it would be stale after a synchronisation with these texts
-  After : (kconfig dotconfig target : List ℕ) → Action
-  Age : Ages → (target : List ℕ) → Action
+  Predicted : (kconfig dotconfig target : List ℕ) → Action
+  Backdate : BackdateScope → (target : List ℕ) → Action
   Outdated : (target command : List ℕ) → Action
   -- what its command file says
   Read : (target : List ℕ) → Action
@@ -33,7 +33,7 @@ pub data Action : Type 0 where
 pub data Reply : Type 0 where
   Synced : Result Report EngineError → Reply
   Recorded : Result RecordAnswer EngineError → Reply
-  Judged : Result Verdict EngineError → Reply
+  Evaluated : Result Verdict EngineError → Reply
   -- and under which other spelling of its path the object is recorded
   Explained : Result Explanation EngineError → Option (List ℕ) → Reply
   Built : Result BuildState EngineError → Reply
@@ -52,7 +52,7 @@ error_in (Err e) = Some e
 abbrev pub error_of : Reply → Option EngineError
 error_of (Synced r) = error_in r
 error_of (Recorded r) = error_in r
-error_of (Judged r) = error_in r
+error_of (Evaluated r) = error_in r
 error_of (Explained r spelling) = error_in r
 error_of (Built r) = error_in r
 error_of (Found r) = error_in r
@@ -62,17 +62,17 @@ error_of (Found r) = error_in r
 -- the action of a command, without where its bytes lie
 abbrev pub action : Command → Action
 action (command.Sync kconfig dotconfig) = Sync kconfig.now dotconfig.now
-action (command.Record depfile target words) = Record depfile.now target.now words.now
+action (command.Record depfile target args) = Record depfile.now target.now args.now
 action (command.Stale target) = Stale target.now
 
 -- the reply to it
 abbrev pub reply_to : Action → CommandReply → Reply
 reply_to (Sync kconfig dotconfig) (reply.Refused e) = Synced (Err e)
 reply_to (Record depfile target command) (reply.Refused e) = Recorded (Err e)
-reply_to action (reply.Refused e) = Judged (Err e)
+reply_to action (reply.Refused e) = Evaluated (Err e)
 reply_to action (reply.Synced report) = Synced (Ok report)
 reply_to action (reply.Recorded answer) = Recorded (Ok answer)
-reply_to action (reply.Verdict verdict) = Judged (Ok verdict)
+reply_to action (reply.Verdict verdict) = Evaluated (Ok verdict)
 
 abbrev pub call_of : Action → CommandReply → Call
 call_of action reply = record { action = action; reply = reply_to action reply }

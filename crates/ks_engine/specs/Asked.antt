@@ -10,13 +10,13 @@ use Rattle.ks_engine.specs.declared.error.EngineError.{EngineError}
 use Rattle.ks_engine.specs.declared.error.EngineError.TheVariants.{TooLarge, BadPath, BadCommandFile}
 use Rattle.ks_engine.specs.declared.explaining.Cause.{Cause}
 use Rattle.ks_engine.specs.declared.explaining.Explanation.{Explanation}
-use Rattle.ks_engine.specs.declared.question.Limit.{Limit}
-use Rattle.ks_engine.specs.declared.question.Limit.TheVariants.{First}
+use Rattle.ks_engine.specs.declared.query.Limit.{Limit}
+use Rattle.ks_engine.specs.declared.query.Limit.TheVariants.{First}
 use Rattle.ks_engine.specs.declared.staleness.Verdict.{Verdict}
 use Rattle.ks_engine.specs.declared.staleness.Verdict.TheVariants.{NoCommandFile, Unnumbered, Ahead}
 use Rattle.ks_engine.specs.Causes.{IsByStamps, names_placed, verdict_of}
 use Rattle.ks_engine.specs.LastSync.{last_generation}
-use Rattle.ks_engine.specs.Refusals.{IsGivenUpAnswer}
+use Rattle.ks_engine.specs.Refusals.{IsAbortedAnswer}
 
 -- an answer at once, or by the stamps of these names, each with its place, against a generation
 pub data Asked : Type 0 where
@@ -64,14 +64,14 @@ IsAnswer files (ByStamps g names) answer = (found : Result (List Cause) EngineEr
 
 -- .. memory and the device aside
 abbrev pub IsAnswerOn : Files → List ℕ → Result Verdict EngineError → Type 0
-IsAnswerOn files o answer = IsGivenUpAnswer answer ⊎ IsAnswer files (asked files o) answer
+IsAnswerOn files o answer = IsAbortedAnswer answer ⊎ IsAnswer files (asked files o) answer
 
 -- ---- an explanation
 
 -- its verdict, and its causes
-abbrev pub told : Result Explanation EngineError → Result Verdict EngineError
-told (Ok e) = Ok e.verdict
-told (Err e) = Err e
+abbrev pub reported : Result Explanation EngineError → Result Verdict EngineError
+reported (Ok e) = Ok e.verdict
+reported (Err e) = Err e
 
 abbrev pub listed : Result Explanation EngineError → Result (List Cause) EngineError
 listed (Ok e) = Ok e.causes.items
@@ -79,8 +79,8 @@ listed (Err e) = Err e
 
 -- An answer at once has no causes.
 abbrev pub IsExplainedBy : Limit → Files → Asked → Result Explanation EngineError → Type 0
-IsExplainedBy limit files (AtOnce known) answer = (told answer ≡ known) × IfOk answer (λ e. e.causes.items ≡ [])
-IsExplainedBy limit files (ByStamps g names) answer = IsByStamps limit files g names (listed answer) × (told answer ≡ verdict_by (listed answer))
+IsExplainedBy limit files (AtOnce known) answer = (reported answer ≡ known) × IfOk answer (λ e. e.causes.items ≡ [])
+IsExplainedBy limit files (ByStamps g names) answer = IsByStamps limit files g names (listed answer) × (reported answer ≡ verdict_by (listed answer))
 
 abbrev pub IsExplained : Limit → Files → List ℕ → Result Explanation EngineError → Type 0
 IsExplained limit files o answer = IsExplainedBy limit files (asked files o) answer

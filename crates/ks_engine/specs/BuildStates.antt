@@ -8,9 +8,9 @@ use Rattle.ks_engine.specs.declared.error.EngineError.{EngineError}
 use Rattle.ks_engine.specs.declared.error.EngineError.TheVariants.{BadPath, BadCommand}
 use Rattle.ks_engine.specs.declared.staleness.Verdict.{Verdict}
 use Rattle.ks_engine.specs.declared.staleness.BuildState.{BuildState}
-use Rattle.ks_engine.specs.declared.staleness.BuildState.TheVariants.{CommandDiffers, Verdict as Judged}
+use Rattle.ks_engine.specs.declared.staleness.BuildState.TheVariants.{CommandDiffers, Verdict as Evaluated}
 use Rattle.ks_engine.specs.Asked.{Asked, AtOnce, asked_of, command_file, IsAnswer}
-use Rattle.ks_engine.specs.Refusals.{IsGivenUpAnswer}
+use Rattle.ks_engine.specs.Refusals.{IsAbortedAnswer}
 
 -- the saved command is another one, or the rest is as asked
 pub data BuildAsked : Type 0 where
@@ -28,14 +28,14 @@ build_asked files o command =
     else Asks (AtOnce (Err BadCommand)))
     else Asks (AtOnce (Err (BadPath 0)))
 
-abbrev pub judged : Result Verdict EngineError → Result BuildState EngineError
-judged (Ok verdict) = Ok (Judged verdict)
-judged (Err e) = Err e
+abbrev pub evaluated : Result Verdict EngineError → Result BuildState EngineError
+evaluated (Ok verdict) = Ok (Evaluated verdict)
+evaluated (Err e) = Err e
 
 abbrev pub IsBuildState : Files → BuildAsked → Result BuildState EngineError → Type 0
 IsBuildState files Differs answer = answer ≡ Ok CommandDiffers
-IsBuildState files (Asks question) answer = (verdict : Result Verdict EngineError) × IsAnswer files question verdict × (answer ≡ judged verdict)
+IsBuildState files (Asks query) answer = (verdict : Result Verdict EngineError) × IsAnswer files query verdict × (answer ≡ evaluated verdict)
 
 -- memory and the device aside
 abbrev pub IsStateOn : Files → List ℕ → List ℕ → Result BuildState EngineError → Type 0
-IsStateOn files o command answer = IsGivenUpAnswer answer ⊎ IsBuildState files (build_asked files o command) answer
+IsStateOn files o command answer = IsAbortedAnswer answer ⊎ IsBuildState files (build_asked files o command) answer

@@ -10,8 +10,8 @@ use Rattle.ks_tree.specs.Stamps.{HasNumber, IsNoStamp}
 use Rattle.ks_engine.specs.declared.error.EngineError.{EngineError}
 use Rattle.ks_engine.specs.declared.error.EngineError.TheVariants.{TooLarge, BadStamp}
 use Rattle.ks_engine.specs.declared.explaining.Cause.{Cause}
-use Rattle.ks_engine.specs.declared.question.Limit.{Limit}
-use Rattle.ks_engine.specs.declared.question.Limit.TheVariants.{First, All as Every}
+use Rattle.ks_engine.specs.declared.query.Limit.{Limit}
+use Rattle.ks_engine.specs.declared.query.Limit.TheVariants.{First, All as Every}
 use Rattle.ks_engine.specs.declared.staleness.Verdict.{Verdict}
 use Rattle.ks_engine.specs.declared.staleness.Verdict.TheVariants.{Fresh, Changed}
 

@@ -15,8 +15,8 @@ use Rattle.ks_engine.specs.declared.costs.Cost.{Cost}
 use Rattle.ks_engine.specs.declared.costs.Costs.{Costs}
 use Rattle.ks_engine.specs.declared.costs.Tally.{Tally}
 use Rattle.ks_engine.specs.Asked.{command_file}
-use Rattle.ks_engine.specs.Memos.{value_of}
-use Rattle.ks_engine.specs.Refusals.{IsGivenUpAnswer}
+use Rattle.ks_engine.specs.Caches.{value_of}
+use Rattle.ks_engine.specs.Refusals.{IsAbortedAnswer}
 
 -- the record of an object, or that it has none, or why it can't be read
 abbrev pub record_at : Files → List ℕ → Result (Option CommandRecord) EngineError
@@ -24,7 +24,7 @@ record_at files o = if is_target o then command_file o (content files (command_p
 
 -- .. memory and the device aside
 abbrev pub IsRead : Files → List ℕ → Result (Option CommandRecord) EngineError → Type 0
-IsRead files o answer = IsGivenUpAnswer answer ⊎ (answer ≡ record_at files o)
+IsRead files o answer = IsAbortedAnswer answer ⊎ (answer ≡ record_at files o)
 
 -- ---- what symbols cost
 

@@ -17,7 +17,7 @@ use Rattle.ks_engine.specs.declared.error.EngineError.{EngineError}
 use Rattle.ks_engine.specs.declared.error.EngineError.TheVariants.{BadPath}
 use Rattle.ks_engine.specs.declared.recording.Recorded.{Recorded as RecordAnswer}
 use Rattle.ks_engine.specs.declared.depfile.Ruled.{Ruled}
-use Rattle.ks_engine.specs.Refusals.{IsGivenUp}
+use Rattle.ks_engine.specs.Refusals.{IsAborted}
 use Rattle.ks_engine.specs.Recording.{scanned_all}
 use Rattle.ks_engine.specs.Recorded.{RecordPlan, IsRecordedUnder, IsRecordRefusedUnder}
 use Rattle.ks_engine.specs.Drafts.{IsDraft}
@@ -96,7 +96,7 @@ abbrev pub IsDepfileRefused : Conventions → Files → Files → List ℕ → L
 IsDepfileRefused conventions old new depfile target command e =
     ((is_own_file depfile ≡ true) × (e ≡ BadPath 0) × (new ≡ old))
     ⊎ (((is_own_file depfile ≡ false) × IsRecordRefusedUnder conventions old new depfile target command e)
-    ⊎ (IsGivenUp e × IsDepfileBroken conventions old new depfile target command))
+    ⊎ (IsAborted e × IsDepfileBroken conventions old new depfile target command))
 
 -- The dependency file is the old one, or whole by its rule.
 abbrev pub IsOldOrRule : Header → Option (List ℕ) → Option (List ℕ) → Type 0
@@ -126,4 +126,4 @@ abbrev pub FollowsDepfile : Conventions → List ℕ → List ℕ → List ℕ �
 FollowsDepfile conventions depfile target command (Ok answer) old new = FollowsRuleDone conventions old depfile target command answer new
 FollowsDepfile conventions depfile target command (Err e) old new =
     ((is_own_file depfile ≡ true) × (e ≡ BadPath 0) × IsSame old new)
-    ⊎ (FollowsRecordUnder conventions depfile target command (Err e) old new ⊎ (IsGivenUp e × FollowsRuleTried conventions old depfile target command new))
+    ⊎ (FollowsRecordUnder conventions depfile target command (Err e) old new ⊎ (IsAborted e × FollowsRuleTried conventions old depfile target command new))

@@ -4,7 +4,7 @@ use Rattle.ks_fixdep.specs.CommandFile.{command_text}
 use Rattle.ks_fixdep.specs.DependencyFile.{prerequisites_without}
 use Rattle.ks_fixdep.specs.Record.{config_names}
 use Rattle.ks_fixdep.specs.declared.dependency_file.Role.{Role}
-use Rattle.ks_fixdep.specs.declared.dialect.Rules.{Rules}
+use Rattle.ks_fixdep.specs.declared.dialect.ScanRules.{ScanRules}
 use Rattle.ks_tree.specs.Files.{Files, content}
 use Rattle.ks_tree.specs.Paths.{auto_path}
 use Rattle.ks_engine.specs.declared.conventions.Conventions.{Conventions}
@@ -17,7 +17,7 @@ use Rattle.ks_engine.specs.Recording.{scanned_all, with_command}
 use Rattle.ks_engine.specs.Refusals.{and_then}
 
 -- what is planned once the prerequisites are known: under the last generation, with the names that are found by such rules
-abbrev pub drafted_by : Rules → Bool → Files → List ℕ → List ℕ → List (List ℕ × Role) → Result RecordPlan EngineError
+abbrev pub drafted_by : ScanRules → Bool → Files → List ℕ → List ℕ → List (List ℕ × Role) → Result RecordPlan EngineError
 drafted_by r scans_command files target command ps =
     and_then (last_generation (content files auto_path)) (λ g.
     and_then (scanned_all r files ps) (λ found. drafted target command ps g (with_command scans_command r command found)))

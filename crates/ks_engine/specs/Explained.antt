@@ -8,19 +8,19 @@ use Rattle.ks_fixdep.specs.Record.{record_of, source_of}
 use Rattle.ks_tree.specs.Files.{Files}
 use Rattle.ks_engine.specs.declared.error.EngineError.{EngineError}
 use Rattle.ks_engine.specs.declared.explaining.Explanation.{Explanation}
-use Rattle.ks_engine.specs.declared.question.Limit.TheVariants.{All as Every}
+use Rattle.ks_engine.specs.declared.query.Limit.TheVariants.{All as Every}
 use Rattle.ks_engine.specs.History.{History, LastRecord, last_record}
 use Rattle.ks_engine.specs.Staleness.{found, suspect_since}
 use Rattle.ks_engine.specs.Shows.{Shows, stamp}
 use Rattle.ks_engine.specs.Causes.{names_placed}
-use Rattle.ks_engine.specs.Asked.{asked, told, IsAnswer, IsExplained}
-use Rattle.ks_engine.specs.Judged.{IsJudged}
-use Rattle.ks_engine.specs.Refusals.{IsGivenUpAnswer}
+use Rattle.ks_engine.specs.Asked.{asked, reported, IsAnswer, IsExplained}
+use Rattle.ks_engine.specs.Evaluated.{IsEvaluated}
+use Rattle.ks_engine.specs.Refusals.{IsAbortedAnswer}
 
 -- of a recorded object
-pub record IsExplanationJudged (files : Files) (h : History) (o : List ℕ) (r : LastRecord) (answer : Result Explanation EngineError) : Type 0 where
+pub record IsExplanationEvaluated (files : Files) (h : History) (o : List ℕ) (r : LastRecord) (answer : Result Explanation EngineError) : Type 0 where
   -- The verdict is as any other one.
-  pub judged : IsJudged files h o r (told answer)
+  pub evaluated : IsEvaluated files h o r (reported answer)
   -- The causes are the names that are suspect, in the order in which they were found, ..
   pub suspects : IfOk answer (λ e. map (λ c. c.name) e.causes.items ≡ filter (suspect_since h o) (found h o))
   -- .. each with the number of the last synchronisation that touched it.
@@ -28,11 +28,11 @@ pub record IsExplanationJudged (files : Files) (h : History) (o : List ℕ) (r :
 
 -- of each object that is recorded in a history that the files show
 abbrev pub ExplainsRecorded : Files → List ℕ → Result Explanation EngineError → Type 0
-ExplainsRecorded files o answer = (h : History) (r : LastRecord) → Shows files h → last_record h o ≡ Some r → IsExplanationJudged files h o r answer
+ExplainsRecorded files o answer = (h : History) (r : LastRecord) → Shows files h → last_record h o ≡ Some r → IsExplanationEvaluated files h o r answer
 
 -- what a question is answered with all of its causes
 pub record IsExplanationOn (files : Files) (o : List ℕ) (answer : Result Explanation EngineError) : Type 0 where
-  pub by_files : IsGivenUpAnswer answer ⊎ IsExplained Every files o answer
+  pub by_files : IsAbortedAnswer answer ⊎ IsExplained Every files o answer
   -- The verdict is one that is answered to a question for the first of them.
   pub verdict : IfOk answer (λ e. IsAnswer files (asked files o) (Ok e.verdict))
 

@@ -11,8 +11,8 @@ use Rattle.ks_engine.specs.declared.recording.Recorded.{Recorded as RecordAnswer
 use Rattle.ks_engine.specs.declared.synchronise.Report.{Report}
 use Rattle.ks_engine.specs.Actions.{Action, Call, Reply, error_of}
 use Rattle.ks_engine.specs.Actions as asked
-use Rattle.ks_engine.specs.Aged.{IsAged}
-use Rattle.ks_engine.specs.Asked.{IsAnswerOn, told}
+use Rattle.ks_engine.specs.Backdated.{IsBackdated}
+use Rattle.ks_engine.specs.Asked.{IsAnswerOn, reported}
 use Rattle.ks_engine.specs.BuildStates.{IsStateOn}
 use Rattle.ks_engine.specs.Costs.{IsRead}
 use Rattle.ks_engine.specs.Depfile.{IsDepfileRecorded, IsDepfileRefused, ruled_by}
@@ -20,7 +20,7 @@ use Rattle.ks_engine.specs.Explained.{IsExplanationOn}
 use Rattle.ks_engine.specs.Impact.{IsAnswerAfter}
 use Rattle.ks_engine.specs.Recorded.{IsRecorded, IsRecordRefused}
 use Rattle.ks_engine.specs.Spelling.{spelling_of}
-use Rattle.ks_engine.specs.Stamped.{IsStamped, IsStampedRefused}
+use Rattle.ks_engine.specs.AllStamps.{IsStamped, IsStampedRefused}
 use Rattle.ks_engine.specs.Synchronised.{IsSynced, IsSyncRefused}
 
 -- ---- what an action leaves and is answered
@@ -44,14 +44,14 @@ LeavesDepfile conventions old new d t c (Err e) = IsDepfileRefused conventions o
 -- The files after each action, by its reply: a question leaves them as they are. No action is answered as another one.
 abbrev pub LeavesFiles : Dialect → Files → Action → Reply → Files → Type 0
 LeavesFiles dialect old (asked.Sync k d) (asked.Synced r) new = LeavesSync old new (read_in dialect k) d r
-LeavesFiles dialect old (asked.SyncStamped k d) (asked.Synced r) new = LeavesStamped old new (read_in dialect k) d r
+LeavesFiles dialect old (asked.SyncAllStamps k d) (asked.Synced r) new = LeavesStamped old new (read_in dialect k) d r
 LeavesFiles dialect old (asked.Record d t c) (asked.Recorded r) new = LeavesRecord dialect old new d t c r
 LeavesFiles dialect old (asked.Depfile header d t c) (asked.Recorded r) new = LeavesDepfile (ruled_by header dialect) old new d t c r
-LeavesFiles dialect old (asked.Stale o) (asked.Judged r) new = (new ≡ old) × IsAnswerOn old o r
-LeavesFiles dialect old (asked.Stale o) (asked.Explained r spelling) new = (new ≡ old) × IsAnswerOn old o (told r)
+LeavesFiles dialect old (asked.Stale o) (asked.Evaluated r) new = (new ≡ old) × IsAnswerOn old o r
+LeavesFiles dialect old (asked.Stale o) (asked.Explained r spelling) new = (new ≡ old) × IsAnswerOn old o (reported r)
 LeavesFiles dialect old (asked.Why o) (asked.Explained r spelling) new = (new ≡ old) × IsExplanationOn old o r × (spelling ≡ spelling_of old o r)
-LeavesFiles dialect old (asked.After k d o) (asked.Explained r spelling) new = (new ≡ old) × IsAnswerAfter old (read_in dialect k) d o (told r)
-LeavesFiles dialect old (asked.Age which o) (asked.Explained r spelling) new = (new ≡ old) × IsAnswerOn old o (told r)
+LeavesFiles dialect old (asked.Predicted k d o) (asked.Explained r spelling) new = (new ≡ old) × IsAnswerAfter old (read_in dialect k) d o (reported r)
+LeavesFiles dialect old (asked.Backdate which o) (asked.Explained r spelling) new = (new ≡ old) × IsAnswerOn old o (reported r)
 LeavesFiles dialect old (asked.Outdated o c) (asked.Built r) new = (new ≡ old) × IsStateOn old o c r
 LeavesFiles dialect old (asked.Read o) (asked.Found r) new = (new ≡ old) × IsRead old o r
 LeavesFiles dialect old action reply new = ⊥
@@ -62,15 +62,15 @@ LeavesFiles dialect old action reply new = ⊥
 pub record FileState : Type 0 where
   pub files : Files
   pub failures : ℕ
-  pub aged : List (List ℕ)
+  pub backdated : List (List ℕ)
 
 abbrev pub state : {T : Type 0} → Ghosts T → T → FileState
-state tree t = record { files = tree.files t; failures = tree.failures t; aged = tree.aged t }
+state tree t = record { files = tree.files t; failures = tree.failures t; backdated = tree.backdated t }
 
 -- what is aged after an action: on an honest tree what `age` ages, and nothing more for any other
-abbrev pub Ages : Type 0 → FileState → Action → Reply → List (List ℕ) → Type 0
-Ages honest old (asked.Age which o) (asked.Explained r spelling) aged = honest → IsAged which old.files o old.aged (told r) aged
-Ages honest old action reply aged = aged ≡ old.aged
+abbrev pub BackdateScope : Type 0 → FileState → Action → Reply → List (List ℕ) → Type 0
+BackdateScope honest old (asked.Backdate which o) (asked.Explained r spelling) backdated = honest → IsBackdated which old.files o old.backdated (reported r) backdated
+BackdateScope honest old action reply backdated = backdated ≡ old.backdated
 
 -- It asks once: `why` looks for another spelling once it has its answer.
 abbrev pub AsksOnce : Action → Type 0
@@ -81,7 +81,7 @@ AsksOnce action = ⊤
 -- of memory only where it didn't.
 pub record StepsTo (dialect : Dialect) (honest : Type 0) (old : FileState) (action : Action) (reply : Reply) (new : FileState) : Type 0 where
   pub leaves : honest → LeavesFiles dialect old.files action reply new.files
-  pub ages : Ages honest old action reply new.aged
+  pub backdates : BackdateScope honest old action reply new.backdated
   pub later : old.failures ≤ new.failures
   pub cause : error_of reply ≡ Some Device → HasRisen old.failures new.failures
   pub uncounted : AsksOnce action → error_of reply ≡ Some OutOfMemory → new.failures ≡ old.failures

@@ -9,7 +9,7 @@ use Rattle.ks_engine.specs.declared.conventions.Conventions.{Conventions}
 use Rattle.ks_engine.specs.declared.error.EngineError.{EngineError}
 use Rattle.ks_engine.specs.declared.recording.Recorded.{Recorded as RecordAnswer}
 use Rattle.ks_engine.specs.declared.synchronise.Report.{Report}
-use Rattle.ks_engine.specs.Refusals.{IsGivenUp}
+use Rattle.ks_engine.specs.Refusals.{IsAborted}
 use Rattle.ks_engine.specs.History.{History, Synced, Broken, Recorded, before, done, WasSynced}
 use Rattle.ks_engine.specs.Shows.{Shows}
 use Rattle.ks_engine.specs.Recorded.{record_plan_under, usual, IsRecordedUnder, IsRecordTriedUnder}
@@ -52,7 +52,7 @@ abbrev pub FollowsSync : KconfigText → List ℕ → Result Report EngineError 
 FollowsSync kconfig dotconfig (Ok report) old new = FollowsSynced old kconfig dotconfig report new
 FollowsSync kconfig dotconfig (Err e) old new =
     (IsSyncPlan old.files kconfig dotconfig (Err e) × IsSame old new)
-    ⊎ (IsGivenUp e × (IsSame old new ⊎ ((broken : IsBrokenOff old.files new.files kconfig dotconfig)
+    ⊎ (IsAborted e × (IsSame old new ⊎ ((broken : IsBrokenOff old.files new.files kconfig dotconfig)
     × IsBrokenEvent old.history broken.plan broken.some.0 new.history)))
 
 -- ---- recording
@@ -75,7 +75,7 @@ abbrev pub FollowsRecordUnder : Conventions → List ℕ → List ℕ → List �
 FollowsRecordUnder conventions depfile target command (Ok answer) old new = FollowsRecordedUnder conventions old depfile target command answer new
 FollowsRecordUnder conventions depfile target command (Err e) old new =
     ((record_plan_under conventions old.files depfile target command ≡ Err e) × IsSame old new)
-    ⊎ (IsGivenUp e × (IsSame old new ⊎ ((tried : IsRecordTriedUnder conventions old.files new.files depfile target command)
+    ⊎ (IsAborted e × (IsSame old new ⊎ ((tried : IsRecordTriedUnder conventions old.files new.files depfile target command)
     × ((new.history ≡ old.history) ⊎ IsRecordEvent old target command tried.plan.names new.history))))
 
 abbrev pub FollowsRecord : Dialect → List ℕ → List ℕ → List ℕ → Result RecordAnswer EngineError → TreeState → TreeState → Type 0

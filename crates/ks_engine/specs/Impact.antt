@@ -17,7 +17,7 @@ use Rattle.ks_engine.specs.Shows.{Shows}
 use Rattle.ks_engine.specs.LastSync.{last_generation}
 use Rattle.ks_engine.specs.Synchronised.{IsSynced}
 use Rattle.ks_engine.specs.Asked.{IsAnswerOn}
-use Rattle.ks_engine.specs.Judged.{IsJudged}
+use Rattle.ks_engine.specs.Evaluated.{IsEvaluated}
 
 -- There is a tree that a completed synchronisation of these texts leaves, with this report.
 abbrev pub IsImpactOf : Files → KconfigText → List ℕ → Impact → Type 0
@@ -28,10 +28,10 @@ abbrev pub IsAnswerAfter : Files → KconfigText → List ℕ → List ℕ → R
 IsAnswerAfter files kconfig dotconfig o answer = (after : Files) (report : Report) → IsSynced files after kconfig dotconfig report → IsAnswerOn after o answer
 
 -- Of each object that is recorded in a history that the files show, it is judged by that history with the synchronisation added.
-abbrev pub JudgesAfter : Files → KconfigText → List ℕ → List ℕ → Result Verdict EngineError → Type 0
-JudgesAfter files kconfig dotconfig o answer =
+abbrev pub EvaluatesAfter : Files → KconfigText → List ℕ → List ℕ → Result Verdict EngineError → Type 0
+EvaluatesAfter files kconfig dotconfig o answer =
     (after : Files) (report : Report) (synced : IsSynced files after kconfig dotconfig report) (h : History) (r : LastRecord) → Shows files h
-    → last_record h o ≡ Some r → IsJudged after (Synced synced.plan.title synced.plan.config h) o r answer
+    → last_record h o ≡ Some r → IsEvaluated after (Synced synced.plan.title synced.plan.config h) o r answer
 
 -- What a question asks of such a tree: its generation and the touched stamps are of the report, all else is as before.
 pub record IsAfter (files after : Files) (report : Report) : Type 0 where

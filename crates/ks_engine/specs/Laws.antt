@@ -27,8 +27,8 @@ use Rattle.ks_engine.specs.Actions.{Call}
 use Rattle.ks_engine.specs.FileRuns.{FileState, FileRun}
 use Rattle.ks_engine.specs.BuildStates.{IsStateOn}
 use Rattle.ks_engine.specs.Explained.{ExplainsRecorded, IsExplanationOn}
-use Rattle.ks_engine.specs.Impact.{IsAnswerAfter, JudgesAfter}
-use Rattle.ks_engine.specs.Judged.{JudgesBuild, JudgesRecorded}
+use Rattle.ks_engine.specs.Impact.{IsAnswerAfter, EvaluatesAfter}
+use Rattle.ks_engine.specs.Evaluated.{EvaluatesBuild, EvaluatesRecorded}
 use Rattle.ks_engine.specs.Follows.{at}
 use Rattle.ks_engine.specs.Runs.{Run}
 
@@ -91,24 +91,24 @@ FileRunsGoOn =
     → (next : History) × Run dialect (at first.files first.failures h) calls (at last.files last.failures next)
 
 -- What is answered by the files is judged by each history that they show: a verdict, ..
-abbrev pub VerdictsAreJudged : Type 0
-VerdictsAreJudged = (files : Files) (o : List ℕ) (answer : Result Verdict EngineError) → IsAnswerOn files o answer → JudgesRecorded files o answer
+abbrev pub VerdictsAreEvaluated : Type 0
+VerdictsAreEvaluated = (files : Files) (o : List ℕ) (answer : Result Verdict EngineError) → IsAnswerOn files o answer → EvaluatesRecorded files o answer
 
 -- .. an explanation, ..
-abbrev pub ExplanationsAreJudged : Type 0
-ExplanationsAreJudged =
+abbrev pub ExplanationsAreEvaluated : Type 0
+ExplanationsAreEvaluated =
     (files : Files) (o : List ℕ) (answer : Result Explanation EngineError) → IsExplanationOn files o answer → ExplainsRecorded files o answer
 
 -- .. a verdict after a synchronisation, with that one as the last event, ..
-abbrev pub ImpactsAreJudged : Type 0
-ImpactsAreJudged =
+abbrev pub ImpactsAreEvaluated : Type 0
+ImpactsAreEvaluated =
     (files : Files) (kconfig : KconfigText) (dotconfig o : List ℕ) (answer : Result Verdict EngineError) → IsAnswerAfter files kconfig dotconfig o answer
-    → JudgesAfter files kconfig dotconfig o answer
+    → EvaluatesAfter files kconfig dotconfig o answer
 
 -- .. and whether an object was built by a command.
-abbrev pub BuildsAreJudged : Type 0
-BuildsAreJudged =
-    (files : Files) (o command : List ℕ) (answer : Result BuildState EngineError) → IsStateOn files o command answer → JudgesBuild files o command answer
+abbrev pub BuildsAreEvaluated : Type 0
+BuildsAreEvaluated =
+    (files : Files) (o command : List ℕ) (answer : Result BuildState EngineError) → IsStateOn files o command answer → EvaluatesBuild files o command answer
 
 -- To make the missing stamps of names says nothing: the files show each history then that they showed before.
 abbrev pub MadeStampsShow : Type 0

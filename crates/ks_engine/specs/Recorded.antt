@@ -14,9 +14,9 @@ use Rattle.ks_engine.specs.declared.conventions.Conventions.{Conventions}
 use Rattle.ks_engine.specs.declared.error.EngineError.{EngineError}
 use Rattle.ks_engine.specs.declared.error.EngineError.TheVariants.{TooLarge}
 use Rattle.ks_engine.specs.declared.recording.Recorded.{Recorded}
-use Rattle.ks_engine.specs.Refusals.{IsGivenUp, and_then}
+use Rattle.ks_engine.specs.Refusals.{IsAborted, and_then}
 use Rattle.ks_engine.specs.LastSync.{last_generation}
-use Rattle.ks_engine.specs.Recording.{words, there, listed_without, scanned_all, with_command}
+use Rattle.ks_engine.specs.Recording.{args, there, listed_without, scanned_all, with_command}
 
 -- a record against which no refusal stands
 pub record RecordPlan : Type 0 where
@@ -38,7 +38,7 @@ drafted target command ps g found =
 -- and the command where it is scanned; and then what would be written.
 unfoldable pub record_plan_under : Conventions → Files → List ℕ → List ℕ → List ℕ → Result RecordPlan EngineError
 record_plan_under conventions files depfile target command =
-    and_then (words depfile target command) (λ _.
+    and_then (args depfile target command) (λ _.
     and_then (there depfile (content files depfile)) (λ d.
     and_then (listed_without conventions.header d) (λ ps.
     and_then (last_generation (content files auto_path)) (λ g.
@@ -71,7 +71,7 @@ pub record IsRecordTriedUnder (conventions : Conventions) (old new : Files) (dep
 abbrev pub IsRecordRefusedUnder : Conventions → Files → Files → List ℕ → List ℕ → List ℕ → EngineError → Type 0
 IsRecordRefusedUnder conventions old new depfile target command e =
     ((record_plan_under conventions old depfile target command ≡ Err e) × (new ≡ old))
-    ⊎ (IsGivenUp e × ((new ≡ old) ⊎ IsRecordTriedUnder conventions old new depfile target command))
+    ⊎ (IsAborted e × ((new ≡ old) ⊎ IsRecordTriedUnder conventions old new depfile target command))
 
 -- ---- the same without the usual header, and by the prerequisites alone
 

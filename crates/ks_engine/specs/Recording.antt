@@ -9,15 +9,15 @@ use Rattle.ks_fixdep.specs.declared.dependency_file.Role.{Role}
 use Rattle.ks_fixdep.specs.CommandFile.{is_command}
 use Rattle.ks_fixdep.specs.DependencyFile.{prerequisites_without, refusal_without, usual_header}
 use Rattle.ks_fixdep.specs.Dialects.{names_in_as}
-use Rattle.ks_fixdep.specs.declared.dialect.Rules.{Rules}
+use Rattle.ks_fixdep.specs.declared.dialect.ScanRules.{ScanRules}
 use Rattle.ks_tree.specs.Files.{Files, content}
 use Rattle.ks_engine.specs.declared.error.EngineError.{EngineError}
 use Rattle.ks_engine.specs.declared.error.EngineError.TheVariants.{TooLarge, BadPath, BadCommand, MissingFile}
 use Rattle.ks_engine.specs.Refusals.{of_dep}
 
 -- the three words
-abbrev pub words : List ℕ → List ℕ → List ℕ → Result (Unit {0}) EngineError
-words depfile target command =
+abbrev pub args : List ℕ → List ℕ → List ℕ → Result (Unit {0}) EngineError
+args depfile target command =
     if is_path depfile then (if is_target target then (if is_command command then Ok tt else Err BadCommand) else Err (BadPath 0))
     else Err (BadPath 0)
 
@@ -39,7 +39,7 @@ abbrev pub listed : Dialect → List ℕ → Result (List (List ℕ × Role)) En
 listed dialect d = listed_without (usual_header dialect) d
 
 -- the names of the file at a path by such rules, each once
-abbrev pub scanned : Rules → List ℕ → Option (List ℕ) → Result (List (List ℕ)) EngineError
+abbrev pub scanned : ScanRules → List ℕ → Option (List ℕ) → Result (List (List ℕ)) EngineError
 scanned r path None = Err (MissingFile path)
 scanned r path (Some b) = if nat_lt max_bytes (length b) then Err TooLarge else Ok (names_in_as r b)
 
@@ -50,11 +50,11 @@ followed (Ok x) (Err e) = Err e
 followed (Ok x) (Ok xs) = Ok (x ∷ xs)
 
 -- the names of the file of each prerequisite, in their order
-unfoldable pub scanned_all : Rules → Files → List (List ℕ × Role) → Result (List (List (List ℕ))) EngineError
+unfoldable pub scanned_all : ScanRules → Files → List (List ℕ × Role) → Result (List (List (List ℕ))) EngineError
 scanned_all r files [] = Ok []
 scanned_all r files (p ∷ ps) = followed (scanned r p.0 (content files p.0)) (scanned_all r files ps)
 
 -- and then the names of the words of the command, where these are scanned too
-abbrev pub with_command : Bool → Rules → List ℕ → List (List (List ℕ)) → List (List (List ℕ))
+abbrev pub with_command : Bool → ScanRules → List ℕ → List (List (List ℕ)) → List (List (List ℕ))
 with_command false r command found = found
 with_command true r command found = found ++ names_in_as r command ∷ []

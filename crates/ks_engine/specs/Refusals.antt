@@ -49,20 +49,20 @@ of_stamp stamp.Device = Device
 of_stamp (stamp.BadStamp name) = BadStamp name
 
 -- want of memory, or a failure of the device: no file decides these
-abbrev pub IsGivenUp : EngineError → Type 0
-IsGivenUp OutOfMemory = ⊤
-IsGivenUp Device = ⊤
-IsGivenUp e = ⊥
+abbrev pub IsAborted : EngineError → Type 0
+IsAborted OutOfMemory = ⊤
+IsAborted Device = ⊤
+IsAborted e = ⊥
 
 -- an answer that is one of these two; no success is
-abbrev pub IsGivenUpAnswer : {A : Type 0} → Result A EngineError → Type 0
-IsGivenUpAnswer (Ok x) = ⊥
-IsGivenUpAnswer (Err e) = IsGivenUp e
+abbrev pub IsAbortedAnswer : {A : Type 0} → Result A EngineError → Type 0
+IsAbortedAnswer (Ok x) = ⊥
+IsAbortedAnswer (Err e) = IsAborted e
 
 -- A call answers what a step comes to, or gives up.
 abbrev pub Answers : {A V : Type 0} → Result V EngineError → (A → V) → Result A EngineError → Type 0
 Answers step view (Ok x) = step ≡ Ok (view x)
-Answers step view (Err e) = IsGivenUp e ⊎ (step ≡ Err e)
+Answers step view (Err e) = IsAborted e ⊎ (step ≡ Err e)
 
 -- the next step, unless this one refuses
 abbrev pub and_then : {A B : Type 0} → Result A EngineError → (A → Result B EngineError) → Result B EngineError

@@ -5,31 +5,31 @@ use Rattle.ks_symbols.specs.declared.dialect.Dialect.{Dialect}
 use Rattle.ks_symbols.specs.Dialects.{read_in}
 use Rattle.ks_tree.specs.Files.{HasRisen}
 use Rattle.ks_engine.specs.declared.error.EngineError.TheVariants.{Device}
-use Rattle.ks_engine.specs.Actions.{Action, Call, Reply, Sync, SyncStamped, Record, Depfile, Synced, Recorded, error_of}
+use Rattle.ks_engine.specs.Actions.{Action, Call, Reply, Sync, SyncAllStamps, Record, Depfile, Synced, Recorded, error_of}
 use Rattle.ks_engine.specs.Depfile.{FollowsDepfile, ruled_by}
 use Rattle.ks_engine.specs.FileRuns.{LeavesFiles}
 use Rattle.ks_engine.specs.History.{NoneBroken}
 use Rattle.ks_engine.specs.Shows.{Shows}
 use Rattle.ks_engine.specs.Follows.{TreeState, IsSame, FollowsSync, FollowsRecord}
-use Rattle.ks_engine.specs.Stamped.{FollowsSyncStamped}
-use Rattle.ks_engine.specs.Verdicts.{IsJudgedReply, IsSuspectVerdict, IsChangedVerdict, IsSafeVerdict, IsGivenUpSync}
+use Rattle.ks_engine.specs.AllStamps.{FollowsSyncAllStamps}
+use Rattle.ks_engine.specs.Verdicts.{IsEvaluatedReply, IsSuspectVerdict, IsChangedVerdict, IsSafeVerdict, IsAbortedSync}
 
 abbrev pub IsShown : TreeState → Type 0
 IsShown s = Shows s.files s.history
 
 -- A question changes nothing, and is answered by the files; of a recorded object, as its history says.
-pub record FollowsQuestion (dialect : Dialect) (old : TreeState) (action : Action) (reply : Reply) (new : TreeState) : Type 0 where
+pub record FollowsQuery (dialect : Dialect) (old : TreeState) (action : Action) (reply : Reply) (new : TreeState) : Type 0 where
   pub same : IsSame old new
   pub by_files : LeavesFiles dialect old.files action reply new.files
-  pub recorded : IsJudgedReply old action reply
+  pub recorded : IsEvaluatedReply old action reply
 
 -- the state after an action, by its reply; sources and Kconfigs are read in such a dialect
 abbrev pub Leaves : Dialect → TreeState → Action → Reply → TreeState → Type 0
 Leaves dialect old (Sync kconfig dotconfig) (Synced r) new = FollowsSync (read_in dialect kconfig) dotconfig r old new
-Leaves dialect old (SyncStamped kconfig dotconfig) (Synced r) new = FollowsSyncStamped (read_in dialect kconfig) dotconfig r old new
+Leaves dialect old (SyncAllStamps kconfig dotconfig) (Synced r) new = FollowsSyncAllStamps (read_in dialect kconfig) dotconfig r old new
 Leaves dialect old (Record depfile target command) (Recorded r) new = FollowsRecord dialect depfile target command r old new
 Leaves dialect old (Depfile header depfile target command) (Recorded r) new = FollowsDepfile (ruled_by header dialect) depfile target command r old new
-Leaves dialect old action reply new = FollowsQuestion dialect old action reply new
+Leaves dialect old action reply new = FollowsQuery dialect old action reply new
 
 -- .. where the count of failures never fell, and the device is to blame only where it rose
 pub record Follows (dialect : Dialect) (action : Action) (reply : Reply) (old new : TreeState) : Type 0 where
@@ -67,4 +67,4 @@ pub record Run (dialect : Dialect) (first : TreeState) (calls : List Call) (last
   -- and of each that is fresh the header defines the names as at its record
   pub safe : All (λ step. IsSafeVerdict step.before step.action step.reply) steps
   -- and none was broken off where no synchronisation was given up
-  pub unbroken : NoneBroken first.history → All (λ step. IsGivenUpSync step.action step.reply → ⊥) steps → NoneBroken last.history
+  pub unbroken : NoneBroken first.history → All (λ step. IsAbortedSync step.action step.reply → ⊥) steps → NoneBroken last.history

@@ -22,13 +22,13 @@ use Rattle.ks_engine.specs.LastSync.{OldAuto, old_auto}
 abbrev pub source_refusal : KconfigText → List ℕ → Option SourceError
 source_refusal kconfig dotconfig = or_else (kconfig_refusal kconfig) (dotconfig_refusal (declared kconfig) dotconfig)
 
-pub record Sources : Type 0 where
+pub record ConfigInputs : Type 0 where
   pub title : List ℕ
   pub config : Configuration
   pub unknown : ℕ
 
 -- what the two texts set
-pub record AreSources (kconfig : KconfigText) (dotconfig : List ℕ) (s : Sources) : Type 0 where
+pub record AreConfigInputs (kconfig : KconfigText) (dotconfig : List ℕ) (s : ConfigInputs) : Type 0 where
   pub accepted : source_refusal kconfig dotconfig ≡ None
   pub title : s.title ≡ title_of kconfig
   pub settings : (x : List ℕ) → map.get s.config x ≡ setting (declared kconfig) (lines dotconfig) x
@@ -44,10 +44,10 @@ pub record Plan : Type 0 where
   -- of the last completed one
   pub generation : ℕ
 
-abbrev pub plan_of : Sources → OldAuto → Plan
+abbrev pub plan_of : ConfigInputs → OldAuto → Plan
 plan_of s auto = record { title = s.title; config = s.config; unknown = s.unknown; old = auto.texts; generation = auto.generation }
 
-abbrev pub plan_over : Sources → OldAuto → Result Plan EngineError
+abbrev pub plan_over : ConfigInputs → OldAuto → Result Plan EngineError
 plan_over s auto =
     if nat_eq auto.generation 18446744073709551615 then Err GenerationFull
     else (if nat_lt max_bytes (length (auto_text s.title s.config (auto.generation + 1))) then Err TooLarge else Ok (plan_of s auto))
@@ -56,4 +56,4 @@ plan_over s auto =
 abbrev pub IsSyncPlan : Files → KconfigText → List ℕ → Result Plan EngineError → Type 0
 IsSyncPlan files kconfig dotconfig result =
     ((e : SourceError) × (source_refusal kconfig dotconfig ≡ Some e) × (result ≡ Err (of_source e)))
-    ⊎ ((s : Sources) × AreSources kconfig dotconfig s × (result ≡ and_then (old_auto (content files auto_path)) (plan_over s)))
+    ⊎ ((s : ConfigInputs) × AreConfigInputs kconfig dotconfig s × (result ≡ and_then (old_auto (content files auto_path)) (plan_over s)))

@@ -13,7 +13,7 @@ use Rattle.ks_tree.specs.Stamps.{left_over, stamp_text}
 use Rattle.ks_engine.specs.declared.error.EngineError.{EngineError}
 use Rattle.ks_engine.specs.declared.error.EngineError.TheVariants.{Device, OutOfMemory}
 use Rattle.ks_engine.specs.declared.synchronise.Report.{Report}
-use Rattle.ks_engine.specs.Refusals.{IsGivenUp}
+use Rattle.ks_engine.specs.Refusals.{IsAborted}
 use Rattle.ks_symbols.specs.Configuration.{Configuration}
 use Rattle.ks_output.specs.OldConfig.{Texts}
 use Rattle.ks_engine.specs.SyncPlan.{Plan, IsSyncPlan}
@@ -73,7 +73,7 @@ pub record IsBrokenOff (old new : Files) (kconfig : KconfigText) (dotconfig : Li
 -- It was refused with nothing changed, or given up before its first write or after it.
 abbrev pub IsSyncRefused : Files → Files → KconfigText → List ℕ → EngineError → Type 0
 IsSyncRefused old new kconfig dotconfig e =
-    (IsSyncPlan old kconfig dotconfig (Err e) × (new ≡ old)) ⊎ (IsGivenUp e × ((new ≡ old) ⊎ IsBrokenOff old new kconfig dotconfig))
+    (IsSyncPlan old kconfig dotconfig (Err e) × (new ≡ old)) ⊎ (IsAborted e × ((new ≡ old) ⊎ IsBrokenOff old new kconfig dotconfig))
 
 -- How a synchronisation is counted: the device is to blame only where the tree counted a failure, and where all went well, or
 -- memory was wanting, none was. No file is made older.
@@ -81,4 +81,4 @@ pub record IsSyncCall {T : Type 0} (tree : Ghosts T) (old new : T) (answer : Res
   pub counted : Counted tree old new (IsErrOf answer Device)
   pub passed : OnOk answer (tree.failures new ≡ tree.failures old)
   pub uncounted : IsErrOf answer OutOfMemory → tree.failures new ≡ tree.failures old
-  pub kept : tree.aged new ≡ tree.aged old
+  pub kept : tree.backdated new ≡ tree.backdated old

@@ -5,28 +5,28 @@ use Rattle.ks_output.specs.AutoText.{auto_text}
 use Rattle.ks_output.specs.Header.{header_text}
 use Rattle.ks_output.specs.OldConfig.{OldTexts}
 use Rattle.ks_tree.specs.Files.{Files}
-use Rattle.ks_engine.specs.declared.planning.Sources.{Sources as SourceValues}
+use Rattle.ks_engine.specs.declared.planning.ConfigInputs.{ConfigInputs as SourceValues}
 use Rattle.ks_engine.specs.declared.planning.Planned.{Planned}
 use Rattle.ks_engine.specs.declared.synchronise.Report.{Report}
 use Rattle.ks_engine.specs.declared.synchronise.Work.{Work}
 use Rattle.ks_engine.specs.Synchronised.{AreLegalChanges}
-use Rattle.ks_engine.specs.SyncPlan.{Sources, Plan, IsSyncPlan}
+use Rattle.ks_engine.specs.SyncPlan.{ConfigInputs, Plan, IsSyncPlan}
 use Rattle.ks_engine.specs.LastSync.{OldAuto}
 
 abbrev pub old_of : OldTexts → OldAuto
 old_of old = record { texts = old.texts; generation = old.generation }
 
-abbrev pub sources_of : SourceValues → Sources
+abbrev pub sources_of : SourceValues → ConfigInputs
 sources_of s = record { title = s.title.items; config = s.settings.entries; unknown = s.settings.unknown }
 
 -- what is reported over an old auto.conf
-pub record Reports (s : Sources) (old : OldAuto) (report : Report) : Type 0 where
-  pub room : old.generation ≢ 18446744073709551615
+pub record Reports (s : ConfigInputs) (old : OldAuto) (report : Report) : Type 0 where
+  pub headroom : old.generation ≢ 18446744073709551615
   pub generation : report.generation ≡ old.generation + 1
   pub unknown : report.unknown ≡ s.unknown
   pub changed : AreLegalChanges old.texts s.config report.touched.items
 
-abbrev pub PlansOver : Sources → OldAuto → Option Report → Type 0
+abbrev pub PlansOver : ConfigInputs → OldAuto → Option Report → Type 0
 PlansOver s old None = old.generation ≡ 18446744073709551615
 PlansOver s old (Some report) = Reports s old report
 

@@ -5,12 +5,12 @@ ghost use Rattle.ks_engine.specs.Shows.{Shows};
 ghost use Rattle.ks_engine.specs.Follows.{at};
 ghost use Rattle.ks_engine.specs.Actions.{action, calls_of, reply_to};
 ghost use Rattle.ks_engine.specs.FileRuns.{FileRun, StepsTo, state};
-ghost use Rattle.ks_engine.specs.Memos.{IsMemoOf};
+ghost use Rattle.ks_engine.specs.Caches.{IsCacheOf};
 ghost use Rattle.ks_engine.specs.Runs.{Run};
 
-use crate::memos::Memo;
+use crate::caches::Cache;
 use crate::recording::record_by;
-use crate::{EngineError, Question, Recorded, Report, Verdict, ask, sync};
+use crate::{EngineError, Query, Recorded, Report, Verdict, query_object, sync};
 use ks_fixdep::Seed;
 use ks_symbols::{Dialect, Kconfig};
 use ks_tree::Tree;
@@ -46,18 +46,18 @@ pub enum Reply {
 fn answer<T: Tree>(
     alloc: Global,
     tree: &mut T,
-    memo: &mut Memo,
+    cache: &mut Cache,
     dialect: Dialect,
     command: &Command<'_>,
 ) -> Reply
-    requires memo { T.is_honest → IsMemoOf (T.files tree.old) memo.old }
-    ensures memo { T.is_honest → IsMemoOf (T.files tree.new) memo.new }
+    requires cache { T.is_honest → IsCacheOf (T.files tree.old) cache.old }
+    ensures cache { T.is_honest → IsCacheOf (T.files tree.new) cache.new }
     ensures step { let asked = action command.now in StepsTo dialect T.is_honest (state T.Tree tree.old) asked (reply_to asked result) (state T.Tree tree.new) }
-    ensures kept { T.aged tree.new ≡ T.aged tree.old }
+    ensures kept { T.backdated tree.new ≡ T.backdated tree.old }
 {
     match command {
         Command::Sync { kconfig, dotconfig } => {
-            memo.clear();
+            cache.clear();
             match sync(alloc, tree, &Kconfig::new(dialect, kconfig), dotconfig) {
                 Ok(report) => Reply::Synced(report),
                 Err(error) => Reply::Refused(error),
@@ -67,11 +67,11 @@ fn answer<T: Tree>(
             depfile,
             target,
             command,
-        } => match record_by(alloc, tree, memo, dialect, depfile, target, command) {
+        } => match record_by(alloc, tree, cache, dialect, depfile, target, command) {
             Ok(recorded) => Reply::Recorded(recorded),
             Err(error) => Reply::Refused(error),
         },
-        Command::Stale { target } => match ask(alloc, tree, memo, Question::Stale, target) {
+        Command::Stale { target } => match query_object(alloc, tree, cache, Query::Stale, target) {
             Ok(answer) => Reply::Verdict(answer.verdict),
             Err(error) => Reply::Refused(error),
         },
@@ -82,21 +82,21 @@ fn answer<T: Tree>(
 fn answer_all<T: Tree>(
     alloc: Global,
     tree: &mut T,
-    memo: &mut Memo,
+    cache: &mut Cache,
     dialect: Dialect,
     commands: &[Command<'_>],
     replies: &mut Vec<Reply>,
 )
-    requires memo { T.is_honest → IsMemoOf (T.files tree.old) memo.old }
+    requires cache { T.is_honest → IsCacheOf (T.files tree.old) cache.old }
     requires none { replies.old.items ≡ [] }
-    requires room { length commands.now ≤ vec_capacity replies.old }
+    requires headroom { length commands.now ≤ vec_capacity replies.old }
     ensures steps { FileRun dialect T.is_honest (state T.Tree tree.old) (calls_of (map action commands.now) replies.new.items) (state T.Tree tree.new) }
     ensures each { length replies.new.items ≡ length commands.now }
     ensures later { T.failures tree.old ≤ T.failures tree.new }
-    ensures kept { T.aged tree.new ≡ T.aged tree.old }
+    ensures kept { T.backdated tree.new ≡ T.backdated tree.old }
 {
     for command in commands {
-        let reply = answer(alloc, tree, memo, dialect, command);
+        let reply = answer(alloc, tree, cache, dialect, command);
         replies.push(reply).unwrap();
     }
 }
@@ -118,10 +118,10 @@ pub fn run<T: Tree>(
     // Where memory is refused for the replies, nothing was asked of the tree.
     ensures untouched { OnErr result (tree.new ≡ tree.old) }
     ensures later { T.failures tree.old ≤ T.failures tree.new }
-    ensures kept { T.aged tree.new ≡ T.aged tree.old }
+    ensures kept { T.backdated tree.new ≡ T.backdated tree.old }
 {
     let mut replies = Vec::with_capacity(alloc, commands.len())?;
-    let mut memo = Memo::with_seed(alloc, Seed::new(tree.seed()));
-    answer_all(alloc, tree, &mut memo, dialect, commands, &mut replies);
+    let mut cache = Cache::with_seed(alloc, Seed::new(tree.seed()));
+    answer_all(alloc, tree, &mut cache, dialect, commands, &mut replies);
     Ok(replies)
 }

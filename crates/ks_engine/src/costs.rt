@@ -6,9 +6,9 @@ ghost use Rattle.ks_symbols.specs.Names.{is_in};
 ghost use Rattle.ks_fixdep.specs.Borrowed.{borrowed_view, seen_dep};
 ghost use Rattle.ks_fixdep.specs.Record.{config_names};
 ghost use Rattle.ks_tree.specs.Frames.{Reads};
-ghost use Rattle.ks_engine.specs.Refusals.{Answers, IsGivenUp};
+ghost use Rattle.ks_engine.specs.Refusals.{Answers, IsAborted};
 ghost use Rattle.ks_engine.specs.Asked.{command_file};
-ghost use Rattle.ks_engine.specs.Memos.{value_of, with_pair};
+ghost use Rattle.ks_engine.specs.Caches.{value_of, with_pair};
 ghost use Rattle.ks_engine.specs.Costs.{AreCosts, AreSound, AreTallies, by_cost, cost_of, counted, one_if, record_at, seen_cost, tallies_of, tally_cost, tally_pairs};
 
 use crate::EngineError;
@@ -29,7 +29,7 @@ pub fn read_record<T: Tree>(
     ensures reads { Reads T.Tree tree.old tree.new (IsErrOf result EngineError.Device) }
     ensures read { T.is_honest → IfOk result (λ found.
         record_at (T.files tree.old) target.now ≡ command_file target.now (option_map (λ v. v.items) found)) }
-    ensures refused { T.is_honest → IfErr result (λ e. IsGivenUp e ⊎ (record_at (T.files tree.old) target.now ≡ Err e)) }
+    ensures refused { T.is_honest → IfErr result (λ e. IsAborted e ⊎ (record_at (T.files tree.old) target.now ≡ Err e)) }
     ensures passed { OnOk result (T.failures tree.new ≡ T.failures tree.old) }
     ensures uncounted { IsErrOf result EngineError.OutOfMemory → T.failures tree.new ≡ T.failures tree.old }
 {
@@ -126,7 +126,7 @@ impl Costs {
 
     /// Adds a record, by its dependency lines. After an error nothing is known of the costs.
     pub fn add(&mut self, alloc: Global, deps: &[BorrowedDep<'_>]) -> Result<(), AllocError>
-        requires room { self.old.records < usize.MAX }
+        requires headroom { self.old.records < usize.MAX }
         requires sound { AreTallies self.old.records (tallies_of self.old) }
         ensures more { OnOk result (self.new.records ≡ self.old.records + 1) }
         ensures sound { OnOk result (AreTallies self.new.records (tallies_of self.new)) }
@@ -142,7 +142,7 @@ impl Costs {
     }
 
     /// What each symbol costs that some record names, the dearest first.
-    pub fn dearest(&self, alloc: Global) -> Result<Vec<Cost<'_>>, AllocError>
+    pub fn most_expensive(&self, alloc: Global) -> Result<Vec<Cost<'_>>, AllocError>
         requires { AreTallies self.now.records (tallies_of self.now) }
         ensures { IfOk result (λ costs. AreCosts (cost_of self.now) (map seen_cost costs.items)) }
     {

@@ -11,15 +11,15 @@ ghost use Rattle.ks_fixdep.specs.Tokens.{tokens};
 ghost use Rattle.ks_tree.specs.Files.{content};
 ghost use Rattle.ks_tree.specs.Frames.{Counted, Reads};
 ghost use Rattle.ks_tree.specs.Paths.{temporary};
-ghost use Rattle.ks_engine.specs.Refusals.{IsGivenUp};
+ghost use Rattle.ks_engine.specs.Refusals.{IsAborted};
 ghost use Rattle.ks_engine.specs.Recorded.{RecordPlan, IsRecordPlanUnder, record_plan_under};
 ghost use Rattle.ks_engine.specs.Follows.{GoesOn};
-ghost use Rattle.ks_engine.specs.Memos.{IsMemoOf};
+ghost use Rattle.ks_engine.specs.Caches.{IsCacheOf};
 ghost use Rattle.ks_engine.specs.Depfile.{FollowsDepfile, IsDepfileRecorded, IsDepfileRefused, IsOldOrRule, IsRuled, NamesCommand, RuleDone, RuleTried, is_own_file, ruled_by};
 
 use crate::EngineError;
+use crate::caches::Cache;
 use crate::conventions::Conventions;
-use crate::memos::Memo;
 use crate::recording::{Draft, Prepared, Recorded, prepare, write_record};
 use ks_fixdep::{Header, NamesBySource, Seed, listed_names, rule_text};
 use ks_symbols::{Dialect, Name};
@@ -73,24 +73,24 @@ fn make_rule(alloc: Global, prepared: Prepared, found: &NamesBySource) -> Result
 fn prepare_rule_by<T: Tree>(
     alloc: Global,
     tree: &mut T,
-    memo: &mut Memo,
+    cache: &mut Cache,
     conventions: Conventions<'_>,
     depfile: &[u8],
     target: &[u8],
     command: &[u8],
 ) -> Result<Ruled, EngineError>
-    requires memo { T.is_honest → IsMemoOf (T.files tree.old) memo.old }
+    requires cache { T.is_honest → IsCacheOf (T.files tree.old) cache.old }
     ensures reads { Reads T.Tree tree.old tree.new (IsErrOf result EngineError.Device) }
     ensures passed { OnOk result (T.failures tree.new ≡ T.failures tree.old) }
     ensures uncounted { IsErrOf result EngineError.OutOfMemory → T.failures tree.new ≡ T.failures tree.old }
     ensures planned { T.is_honest → IfOk result (λ r. (plan : RecordPlan)
         × IsRecordPlanUnder conventions.entry (T.files tree.old) depfile.now target.now command.now plan
         × IsRuled conventions.entry (T.files tree.old) depfile.now plan r) }
-    ensures refused { T.is_honest → IfErr result (λ e. IsGivenUp e
+    ensures refused { T.is_honest → IfErr result (λ e. IsAborted e
         ⊎ (record_plan_under conventions.entry (T.files tree.old) depfile.now target.now command.now ≡ Err e)) }
 {
-    let prepared = prepare(alloc, tree, memo, conventions, depfile, target, command)?;
-    make_rule(alloc, prepared, &memo.found)
+    let prepared = prepare(alloc, tree, cache, conventions, depfile, target, command)?;
+    make_rule(alloc, prepared, &cache.found)
 }
 
 /// All steps before the first write.
@@ -108,14 +108,14 @@ fn prepare_rule<T: Tree>(
     ensures planned { T.is_honest → IfOk result (λ r. (plan : RecordPlan)
         × IsRecordPlanUnder conventions.entry (T.files tree.old) depfile.now target.now command.now plan
         × IsRuled conventions.entry (T.files tree.old) depfile.now plan r) }
-    ensures refused { T.is_honest → IfErr result (λ e. IsGivenUp e
+    ensures refused { T.is_honest → IfErr result (λ e. IsAborted e
         ⊎ (record_plan_under conventions.entry (T.files tree.old) depfile.now target.now command.now ≡ Err e)) }
 {
-    let mut memo = Memo::of_one_object(alloc, Seed::new(tree.seed()));
+    let mut cache = Cache::of_one_object(alloc, Seed::new(tree.seed()));
     prepare_rule_by(
         alloc,
         tree,
-        &mut memo,
+        &mut cache,
         conventions,
         depfile,
         target,
@@ -135,11 +135,11 @@ fn leave_rule<T: Tree>(
     requires legal { T.is_honest → (x : List ℕ) → is_in names.now x ≡ true → IsTrue (is_name x) }
     ensures done { T.is_honest → OnOk result (RuleDone (T.files tree.old) (T.files tree.new) depfile.now names.now rule.now) }
     ensures tried { T.is_honest → OnErr result (RuleTried (T.files tree.old) (T.files tree.new) depfile.now names.now rule.now) }
-    ensures given { IfErr result IsGivenUp }
+    ensures given { IfErr result IsAborted }
     ensures counted { Counted T.Tree tree.old tree.new (IsErrOf result EngineError.Device) }
     ensures passed { OnOk result (T.failures tree.new ≡ T.failures tree.old) }
     ensures uncounted { IsErrOf result EngineError.OutOfMemory → T.failures tree.new ≡ T.failures tree.old }
-    ensures kept { T.aged tree.new ≡ T.aged tree.old }
+    ensures kept { T.backdated tree.new ≡ T.backdated tree.old }
 {
     let temporary = temporary(alloc, depfile)?;
     make_stamps(alloc, tree, names)?;
@@ -172,7 +172,7 @@ pub fn record_depfile<T: Tree>(
     ensures counted { Counted T.Tree tree.old tree.new (IsErrOf result EngineError.Device) }
     ensures passed { OnOk result (T.failures tree.new ≡ T.failures tree.old) }
     ensures uncounted { IsErrOf result EngineError.OutOfMemory → T.failures tree.new ≡ T.failures tree.old }
-    ensures kept { T.aged tree.new ≡ T.aged tree.old }
+    ensures kept { T.backdated tree.new ≡ T.backdated tree.old }
 {
     if is_own_file(depfile) {
         return Err(EngineError::BadPath(0));

@@ -9,17 +9,17 @@ ghost use Rattle.ks_fixdep.specs.CommandFile.{IsLegal, is_dep};
 ghost use Rattle.ks_fixdep.specs.Borrowed.{seen_dep, borrowed_view};
 ghost use Rattle.ks_tree.specs.Files.{Files};
 ghost use Rattle.ks_tree.specs.Frames.{Reads};
-ghost use Rattle.ks_engine.specs.Refusals.{IsGivenUpAnswer, IsGivenUp};
+ghost use Rattle.ks_engine.specs.Refusals.{IsAbortedAnswer, IsAborted};
 ghost use Rattle.ks_engine.specs.Asked.{asked, asked_since, IsAnswer, IsExplained, IsExplainedBy};
 ghost use Rattle.ks_engine.specs.Causes.{placed, names_placed, verdict_of, IsByStamps};
 ghost use Rattle.ks_engine.specs.Explained.{ExplainsRecorded};
-ghost use Rattle.ks_engine.specs.Memos.{IsMemoOf};
-ghost use Rattle.ks_engine.specs.Questions.{IsSeen, limit_of, IsAnswerTo};
-ghost use Rattle.ks_engine.specs.declared.question.Limit.TheVariants.{All};
+ghost use Rattle.ks_engine.specs.Caches.{IsCacheOf};
+ghost use Rattle.ks_engine.specs.Queries.{IsSeen, limit_of, IsAnswerTo};
+ghost use Rattle.ks_engine.specs.declared.query.Limit.TheVariants.{All};
 
 use crate::EngineError;
-use crate::memos::Memo;
-use crate::question::{Limit, Question};
+use crate::caches::Cache;
+use crate::query::{Limit, Query};
 use crate::staleness::{Verdict, borrow_for, read_command_text};
 use ks_fixdep::{BorrowedCommand, BorrowedDep, BorrowedName, Seed};
 use ks_symbols::{Name, Path, target_is_legal};
@@ -89,32 +89,32 @@ fn verdict_of(alloc: Global, causes: &[Cause]) -> Result<Verdict, AllocError>
 fn find_causes<T: Tree>(
     alloc: Global,
     tree: &mut T,
-    memo: &mut Memo,
-    question: Question<'_>,
+    cache: &mut Cache,
+    query: Query<'_>,
     source: &[u8],
     deps: &[BorrowedDep<'_>],
     generation: u64,
 ) -> Result<Vec<Cause>, EngineError>
-    requires memo { T.is_honest → IsMemoOf (T.files tree.old) memo.old }
+    requires cache { T.is_honest → IsCacheOf (T.files tree.old) cache.old }
     requires source { IsTrue (is_path source.now) }
     requires deps { IsTrue (list_all is_dep (map seen_dep deps.now)) }
     ensures reads { Reads T.Tree tree.old tree.new (IsErrOf result EngineError.Device) }
     ensures passed { OnOk result (T.failures tree.new ≡ T.failures tree.old) }
     ensures uncounted { IsErrOf result EngineError.OutOfMemory → T.failures tree.new ≡ T.failures tree.old }
-    ensures memo { T.is_honest → IsMemoOf (T.files tree.new) memo.new }
-    ensures causes { T.is_honest → (after : Files) → IsSeen question.entry (T.files tree.old) after
-        → IfOk result (λ causes. IsByStamps (limit_of question.entry) after generation (placed source.now (map seen_dep deps.now)) (Ok causes.items)) }
-    ensures refused { T.is_honest → (after : Files) → IsSeen question.entry (T.files tree.old) after
-        → IfErr result (λ e. IsGivenUp e ⊎ IsByStamps (limit_of question.entry) after generation (placed source.now (map seen_dep deps.now)) (Err e)) }
+    ensures cache { T.is_honest → IsCacheOf (T.files tree.new) cache.new }
+    ensures causes { T.is_honest → (after : Files) → IsSeen query.entry (T.files tree.old) after
+        → IfOk result (λ causes. IsByStamps (limit_of query.entry) after generation (placed source.now (map seen_dep deps.now)) (Ok causes.items)) }
+    ensures refused { T.is_honest → (after : Files) → IsSeen query.entry (T.files tree.old) after
+        → IfErr result (λ e. IsAborted e ⊎ IsByStamps (limit_of query.entry) after generation (placed source.now (map seen_dep deps.now)) (Err e)) }
 {
-    let limit = question.limit();
+    let limit = query.limit();
     let mut causes = Vec::new(alloc);
     let mut place = source;
     for dep in deps {
         match dep {
             BorrowedDep::File(path) => place = path,
             BorrowedDep::Config(name) => {
-                let number = memo.stamp(alloc, tree, question, name.as_bytes())?;
+                let number = cache.stamp(alloc, tree, query, name.as_bytes())?;
                 if generation < number {
                     let cause = copy_cause(alloc, name, number, place)?;
                     causes.push(cause)?;
@@ -130,34 +130,34 @@ fn find_causes<T: Tree>(
 }
 
 /// The explanation of an object that has a command file.
-pub(crate) fn judge<T: Tree>(
+pub(crate) fn evaluate<T: Tree>(
     alloc: Global,
     tree: &mut T,
-    memo: &mut Memo,
-    question: Question<'_>,
+    cache: &mut Cache,
+    query: Query<'_>,
     file: &BorrowedCommand<'_>,
 ) -> Result<Explanation, EngineError>
-    requires memo { T.is_honest → IsMemoOf (T.files tree.old) memo.old }
+    requires cache { T.is_honest → IsCacheOf (T.files tree.old) cache.old }
     requires legal { IsLegal (borrowed_view file.now) }
     ensures reads { Reads T.Tree tree.old tree.new (IsErrOf result EngineError.Device) }
     ensures passed { OnOk result (T.failures tree.new ≡ T.failures tree.old) }
     ensures uncounted { IsErrOf result EngineError.OutOfMemory → T.failures tree.new ≡ T.failures tree.old }
-    ensures memo { T.is_honest → IsMemoOf (T.files tree.new) memo.new }
-    ensures answer { T.is_honest → (after : Files) → IsSeen question.entry (T.files tree.old) after
-        → IsGivenUpAnswer result ⊎ IsExplainedBy (limit_of question.entry) after (asked_since after (names_placed (borrowed_view file.now)) file.now.generation) result }
+    ensures cache { T.is_honest → IsCacheOf (T.files tree.new) cache.new }
+    ensures answer { T.is_honest → (after : Files) → IsSeen query.entry (T.files tree.old) after
+        → IsAbortedAnswer result ⊎ IsExplainedBy (limit_of query.entry) after (asked_since after (names_placed (borrowed_view file.now)) file.now.generation) result }
 {
     let Some(generation) = file.generation else {
         return Ok(without_causes(alloc, Verdict::Unnumbered));
     };
-    let last = question.generation(alloc, tree, memo)?;
+    let last = query.generation(alloc, tree, cache)?;
     if last < generation {
         return Ok(without_causes(alloc, Verdict::Ahead));
     }
     let causes = find_causes(
         alloc,
         tree,
-        memo,
-        question,
+        cache,
+        query,
         file.source,
         &file.deps,
         generation,
@@ -167,21 +167,21 @@ pub(crate) fn judge<T: Tree>(
 }
 
 /// What answers a question about an object, by what was read before and what is still to be read. It writes nothing.
-pub fn ask<T: Tree>(
+pub fn query_object<T: Tree>(
     alloc: Global,
     tree: &mut T,
-    memo: &mut Memo,
-    question: Question<'_>,
+    cache: &mut Cache,
+    query: Query<'_>,
     target: &[u8],
 ) -> Result<Explanation, EngineError>
-    requires memo { T.is_honest → IsMemoOf (T.files tree.old) memo.old }
+    requires cache { T.is_honest → IsCacheOf (T.files tree.old) cache.old }
     ensures reads { Reads T.Tree tree.old tree.new (IsErrOf result EngineError.Device) }
     ensures passed { OnOk result (T.failures tree.new ≡ T.failures tree.old) }
     ensures uncounted { IsErrOf result EngineError.OutOfMemory → T.failures tree.new ≡ T.failures tree.old }
-    ensures memo { T.is_honest → IsMemoOf (T.files tree.new) memo.new }
-    // Memory and the device aside, what its steps answer by the files. The law `answers_are_judged` says what that tells of a
+    ensures cache { T.is_honest → IsCacheOf (T.files tree.new) cache.new }
+    // Memory and the device aside, what its steps answer by the files. The law `answers_are_evaluated` says what that tells of a
     // recorded object.
-    ensures answer { T.is_honest → IsAnswerTo question.entry (T.files tree.old) target.now result }
+    ensures answer { T.is_honest → IsAnswerTo query.entry (T.files tree.old) target.now result }
 {
     if !target_is_legal(target) {
         return Err(EngineError::BadPath(0));
@@ -190,7 +190,7 @@ pub fn ask<T: Tree>(
         return Ok(without_causes(alloc, Verdict::NoCommandFile));
     };
     let file = borrow_for(alloc, target, &text)?;
-    judge(alloc, tree, memo, question, &file)
+    evaluate(alloc, tree, cache, query, &file)
 }
 
 /// Why an object is stale, if it is. It writes nothing. A stamp without a number is refused also after the first cause, where
@@ -203,12 +203,12 @@ pub fn explain<T: Tree>(
     ensures reads { Reads T.Tree tree.old tree.new (IsErrOf result EngineError.Device) }
     ensures uncounted { IsErrOf result EngineError.OutOfMemory → T.failures tree.new ≡ T.failures tree.old }
     // By the files: memory and the device aside, what its steps answer.
-    ensures answer { T.is_honest → IsGivenUpAnswer result ⊎ IsExplained All (T.files tree.old) target.now result }
+    ensures answer { T.is_honest → IsAbortedAnswer result ⊎ IsExplained All (T.files tree.old) target.now result }
     // The verdict is the one that `stale` answers.
     ensures verdict { T.is_honest → IfOk result (λ e. IsAnswer (T.files tree.old) (asked (T.files tree.old) target.now) (Ok e.verdict)) }
     // By histories: all that was touched since a recorded object's record.
     ensures recorded { T.is_honest → ExplainsRecorded (T.files tree.old) target.now result }
 {
-    let mut memo = Memo::with_seed(alloc, Seed::new(tree.seed()));
-    ask(alloc, tree, &mut memo, Question::Why, target)
+    let mut cache = Cache::with_seed(alloc, Seed::new(tree.seed()));
+    query_object(alloc, tree, &mut cache, Query::Why, target)
 }

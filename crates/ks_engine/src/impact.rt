@@ -3,11 +3,11 @@
 //! they would be, so one that is stale already is told as well.
 ghost use Rattle.std.specs.Prelude.{◌≡◌, ◌⊎◌, Err, IfOk, IfErr, IsErrOf, OnOk};
 ghost use Rattle.ks_tree.specs.Frames.{Reads};
-ghost use Rattle.ks_engine.specs.Refusals.{IsGivenUp};
+ghost use Rattle.ks_engine.specs.Refusals.{IsAborted};
 ghost use Rattle.ks_engine.specs.SyncPlan.{IsSyncPlan};
 ghost use Rattle.ks_engine.specs.Impact.{IsImpactOf};
 
-use crate::planning::{plan_sources, read_sources};
+use crate::planning::{plan_config_inputs, read_config_inputs};
 use crate::{EngineError, Report};
 use ks_symbols::Kconfig;
 use ks_tree::Tree;
@@ -32,11 +32,11 @@ impl Impact {
         ensures passed { OnOk result (T.failures tree.new ≡ T.failures tree.old) }
         ensures uncounted { IsErrOf result EngineError.OutOfMemory → T.failures tree.new ≡ T.failures tree.old }
         // Where it isn't refused, a synchronisation can be completed, and this is what that reports.
-        ensures told { T.is_honest → IfOk result (IsImpactOf (T.files tree.old) kconfig.now dotconfig.now) }
-        ensures refused { T.is_honest → IfErr result (λ e. IsGivenUp e ⊎ IsSyncPlan (T.files tree.old) kconfig.now dotconfig.now (Err e)) }
+        ensures reported { T.is_honest → IfOk result (IsImpactOf (T.files tree.old) kconfig.now dotconfig.now) }
+        ensures refused { T.is_honest → IfErr result (λ e. IsAborted e ⊎ IsSyncPlan (T.files tree.old) kconfig.now dotconfig.now (Err e)) }
     {
-        let sources = read_sources(alloc, kconfig, dotconfig)?;
-        let planned = plan_sources(alloc, tree, sources)?;
+        let sources = read_config_inputs(alloc, kconfig, dotconfig)?;
+        let planned = plan_config_inputs(alloc, tree, sources)?;
         Ok(Impact {
             report: planned.report,
         })

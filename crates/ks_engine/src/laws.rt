@@ -1,7 +1,7 @@
 //! Laws of the definitions, each the contract of a function that does nothing.
 ghost use Rattle.ks_engine.specs.OtherRecords.{OtherRecordsDoNotMatter};
 ghost use Rattle.ks_engine.specs.Explained.{PlacesAreFirst, PlacesAreTheirs};
-ghost use Rattle.ks_engine.specs.Laws.{BuildsAreJudged, EmptyTreeShows, ExplanationsAreJudged, FileRunsGoOn, ImpactsAreJudged, MadeStampsShow, NotNumberedTreeShows, UsualTreeShows, UntypedTreeShows, PlansAreOne, SuspicionsHaveCauses, VerdictsAreJudged};
+ghost use Rattle.ks_engine.specs.Laws.{BuildsAreEvaluated, EmptyTreeShows, ExplanationsAreEvaluated, FileRunsGoOn, ImpactsAreEvaluated, MadeStampsShow, NotNumberedTreeShows, UsualTreeShows, UntypedTreeShows, PlansAreOne, SuspicionsHaveCauses, VerdictsAreEvaluated};
 
 /// There are trees to begin with: an empty one, each of Kbuild, and each that the untyped form left, whose stamps may
 /// be one above the generation where a synchronisation was broken off. And each whose command files have lost their numbers: as
@@ -44,11 +44,11 @@ pub fn file_runs_go_on()
 
 /// What is answered by the files says of a recorded object what was touched since its record, or would be, by each history that the
 /// files show.
-pub fn answers_are_judged()
-    ensures verdicts { VerdictsAreJudged }
-    ensures explanations { ExplanationsAreJudged }
-    ensures impacts { ImpactsAreJudged }
-    ensures builds { BuildsAreJudged }
+pub fn answers_are_evaluated()
+    ensures verdicts { VerdictsAreEvaluated }
+    ensures explanations { ExplanationsAreEvaluated }
+    ensures impacts { ImpactsAreEvaluated }
+    ensures builds { BuildsAreEvaluated }
 {}
 
 /// A missing stamp counts as 0, and one that is made holds 0. So a tree shows what it showed where missing ones are made.

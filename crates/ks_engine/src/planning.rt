@@ -7,8 +7,8 @@ ghost use Rattle.ks_symbols.specs.Dialects.{KconfigText};
 ghost use Rattle.ks_symbols.specs.Kconfig.{declared};
 ghost use Rattle.ks_symbols.specs.Refusals.{RefusedBy};
 ghost use Rattle.ks_tree.specs.Frames.{Reads};
-ghost use Rattle.ks_engine.specs.Refusals.{IsGivenUp};
-ghost use Rattle.ks_engine.specs.SyncPlan.{AreSources, IsSyncPlan, plan_of, plan_over, source_refusal};
+ghost use Rattle.ks_engine.specs.Refusals.{IsAborted};
+ghost use Rattle.ks_engine.specs.SyncPlan.{AreConfigInputs, IsSyncPlan, plan_of, plan_over, source_refusal};
 ghost use Rattle.ks_engine.specs.Views.{old_of, sources_of, IsPlanned, IsReport, PlansOver};
 
 use crate::last_sync::read_old;
@@ -16,7 +16,7 @@ use crate::{EngineError, Report};
 use ks_compare::changed;
 use ks_output::{OldConfig, auto_len};
 use ks_symbols::{
-    Kconfig, MAX_BYTES, Settings, SourceError, Symbols, draft_settings, read_dotconfig,
+    Kconfig, MAX_BYTES, Settings, SourceError, Symbols, build_settings, read_dotconfig,
     read_kconfig,
 };
 use ks_tree::Tree;
@@ -24,51 +24,51 @@ use std::alloc::{AllocError, Global};
 
 /// What a Kconfig and a `.config` say.
 #[derive(Drop)]
-pub struct Sources {
+pub struct ConfigInputs {
     pub title: Vec<u8>,
     pub settings: Settings,
 }
 
 /// Reads a Kconfig and a `.config`, in this order. The symbols are let go once the settings are read: nothing asks for
 /// them any more, and they are as large as these.
-pub fn read_sources(
+pub fn read_config_inputs(
     alloc: Global,
     kconfig: &Kconfig<'_>,
     dotconfig: &[u8],
-) -> Result<Sources, SourceError>
-    ensures read { IfOk result (λ s. AreSources kconfig.now dotconfig.now (sources_of s)) }
+) -> Result<ConfigInputs, SourceError>
+    ensures read { IfOk result (λ s. AreConfigInputs kconfig.now dotconfig.now (sources_of s)) }
     ensures refusal { RefusedBy SourceError.OutOfMemory result (source_refusal kconfig.now dotconfig.now) }
 {
     let symbols = read_kconfig(alloc, kconfig)?;
-    let draft = draft_settings(alloc, dotconfig, &symbols)?;
+    let draft = build_settings(alloc, dotconfig, &symbols)?;
     let title = Vec::from_slice(alloc, symbols.title())?;
     drop(symbols);
-    let settings = draft.close(alloc)?;
-    Ok(Sources { title, settings })
+    let settings = draft.finish(alloc)?;
+    Ok(ConfigInputs { title, settings })
 }
 
 /// What a Kconfig and a `.config` say, and the symbols that the one declares.
 #[derive(Drop)]
 pub struct Parsed {
-    pub sources: Sources,
+    pub sources: ConfigInputs,
     pub symbols: Symbols,
 }
 
-/// Reads them as `read_sources` does and keeps the symbols, for who asks for more of these than what is set: nothing is parsed
+/// Reads them as `read_config_inputs` does and keeps the symbols, for who asks for more of these than what is set: nothing is parsed
 /// a second time for that.
-pub fn parse_sources(
+pub fn parse_config_inputs(
     alloc: Global,
     kconfig: &Kconfig<'_>,
     dotconfig: &[u8],
 ) -> Result<Parsed, SourceError>
-    ensures read { IfOk result (λ p. AreSources kconfig.now dotconfig.now (sources_of p.sources)) }
+    ensures read { IfOk result (λ p. AreConfigInputs kconfig.now dotconfig.now (sources_of p.sources)) }
     ensures declared { IfOk result (λ p. (x : List ℕ) → map.get p.symbols.kinds x ≡ declared kconfig.now x) }
     ensures refusal { RefusedBy SourceError.OutOfMemory result (source_refusal kconfig.now dotconfig.now) }
 {
     let symbols = read_kconfig(alloc, kconfig)?;
     let settings = read_dotconfig(alloc, dotconfig, &symbols)?;
     let copied = Vec::from_slice(alloc, symbols.title())?;
-    let sources = Sources {
+    let sources = ConfigInputs {
         title: copied,
         settings,
     };
@@ -76,7 +76,11 @@ pub fn parse_sources(
 }
 
 /// What a synchronisation over an old auto.conf reports, or `None` where no generation comes after that one.
-pub fn plan(alloc: Global, sources: &Sources, old: &OldConfig) -> Result<Option<Report>, AllocError>
+pub fn plan(
+    alloc: Global,
+    sources: &ConfigInputs,
+    old: &OldConfig,
+) -> Result<Option<Report>, AllocError>
     ensures { IfOk result (PlansOver (sources_of sources.now) (old_of old.now)) }
 {
     old.keeps_names();
@@ -95,11 +99,15 @@ pub fn plan(alloc: Global, sources: &Sources, old: &OldConfig) -> Result<Option<
 }
 
 /// What a synchronisation over an old auto.conf reports, unless its auto.conf would be too long to be read again.
-fn report_over(alloc: Global, sources: &Sources, old: &OldConfig) -> Result<Report, EngineError>
+fn report_over(
+    alloc: Global,
+    sources: &ConfigInputs,
+    old: &OldConfig,
+) -> Result<Report, EngineError>
     ensures no_device { IsErrOf result EngineError.Device → ⊥ }
     ensures planned { IfOk result (λ report. (plan_over (sources_of sources.now) (old_of old.now) ≡ Ok (plan_of (sources_of sources.now) (old_of old.now)))
         × IsReport (plan_of (sources_of sources.now) (old_of old.now)) report) }
-    ensures refused { IfErr result (λ e. IsGivenUp e ⊎ (plan_over (sources_of sources.now) (old_of old.now) ≡ Err e)) }
+    ensures refused { IfErr result (λ e. IsAborted e ⊎ (plan_over (sources_of sources.now) (old_of old.now) ≡ Err e)) }
 {
     let Some(report) = plan(alloc, sources, old)? else {
         return Err(EngineError::GenerationFull);
@@ -113,25 +121,25 @@ fn report_over(alloc: Global, sources: &Sources, old: &OldConfig) -> Result<Repo
 /// What was read for a synchronisation, and what it would report.
 #[derive(Drop)]
 pub struct Planned {
-    pub sources: Sources,
+    pub sources: ConfigInputs,
     pub old: OldConfig,
     pub report: Report,
 }
 
 /// What a synchronisation of a tree comes to by what was read of its two texts. It is refused where that would be before its
 /// first write.
-pub fn plan_sources<T: Tree>(
+pub fn plan_config_inputs<T: Tree>(
     alloc: Global,
     tree: &mut T,
-    sources: Sources,
+    sources: ConfigInputs,
 ) -> Result<Planned, EngineError>
     ensures reads { Reads T.Tree tree.old tree.new (IsErrOf result EngineError.Device) }
     ensures passed { OnOk result (T.failures tree.new ≡ T.failures tree.old) }
     ensures uncounted { IsErrOf result EngineError.OutOfMemory → T.failures tree.new ≡ T.failures tree.old }
-    ensures planned { T.is_honest → (kconfig : KconfigText) (dotconfig : List ℕ) → AreSources kconfig dotconfig (sources_of sources)
+    ensures planned { T.is_honest → (kconfig : KconfigText) (dotconfig : List ℕ) → AreConfigInputs kconfig dotconfig (sources_of sources)
         → IfOk result (IsPlanned (T.files tree.old) kconfig dotconfig) }
-    ensures refused { T.is_honest → (kconfig : KconfigText) (dotconfig : List ℕ) → AreSources kconfig dotconfig (sources_of sources)
-        → IfErr result (λ e. IsGivenUp e ⊎ IsSyncPlan (T.files tree.old) kconfig dotconfig (Err e)) }
+    ensures refused { T.is_honest → (kconfig : KconfigText) (dotconfig : List ℕ) → AreConfigInputs kconfig dotconfig (sources_of sources)
+        → IfErr result (λ e. IsAborted e ⊎ IsSyncPlan (T.files tree.old) kconfig dotconfig (Err e)) }
 {
     let old = read_old(alloc, tree)?;
     let report = report_over(alloc, &sources, &old)?;

@@ -8,19 +8,19 @@ ghost use Rattle.ks_fixdep.specs.SourceScan.{found_of, listed_of, names_by};
 ghost use Rattle.ks_tree.specs.Frames.{Counted, Reads};
 ghost use Rattle.ks_tree.specs.Files.{Files, SameButBoth, content};
 ghost use Rattle.ks_tree.specs.Paths.{command_path, command_temporary};
-ghost use Rattle.ks_engine.specs.Refusals.{Answers, IsGivenUp};
-ghost use Rattle.ks_engine.specs.Recording.{words, there, with_command};
+ghost use Rattle.ks_engine.specs.Refusals.{Answers, IsAborted};
+ghost use Rattle.ks_engine.specs.Recording.{args, there, with_command};
 ghost use Rattle.ks_engine.specs.Recorded.{RecordPlan, drafted, usual, record_plan_under, IsRecordPlanUnder, IsRecorded, IsRecordRefused};
 ghost use Rattle.ks_engine.specs.Follows.{GoesOn, FollowsRecord};
-ghost use Rattle.ks_engine.specs.Memos.{are_placed, IsMemoOf, IsNoSource};
+ghost use Rattle.ks_engine.specs.Caches.{are_placed, IsCacheOf, IsNoSource};
 ghost use Rattle.ks_engine.specs.Drafts.{IsDraft, IsPrepared, drafted_by};
 
 use crate::EngineError;
+use crate::caches::Cache;
 use crate::conventions::Conventions;
-use crate::memos::Memo;
 use crate::sources::scan_all_by;
 use ks_fixdep::{
-    Header, NamesBySource, Prerequisites, Rules, Seed, command_is_legal, read_depfile_without,
+    Header, NamesBySource, Prerequisites, ScanRules, Seed, command_is_legal, read_depfile_without,
     record_text,
 };
 use ks_symbols::{Dialect, MAX_BYTES, Path, path_is_legal, target_is_legal};
@@ -51,8 +51,8 @@ pub(crate) struct Prepared {
 }
 
 /// Refuses words that no command file can hold. The paths are looked at before the command.
-pub fn check_words(depfile: &[u8], target: &[u8], command: &[u8]) -> Result<(), EngineError>
-    ensures words { result ≡ words depfile.now target.now command.now }
+pub fn check_args(depfile: &[u8], target: &[u8], command: &[u8]) -> Result<(), EngineError>
+    ensures args { result ≡ args depfile.now target.now command.now }
     ensures depfile { OnOk result (IsTrue (is_path depfile.now)) }
     ensures target { OnOk result (IsTrue (is_target target.now)) }
     ensures command { OnOk result (IsTrue (is_command command.now)) }
@@ -94,7 +94,7 @@ fn make_draft(
     ensures no_device { IsErrOf result EngineError.Device → ⊥ }
     ensures drafted { IfOk result (λ d. (plan : RecordPlan)
         × (drafted target.now command.now prerequisites.now generation (names_by found.old) ≡ Ok plan) × IsLegal plan.file × IsDraft plan d) }
-    ensures refused { IfErr result (λ e. IsGivenUp e ⊎ (drafted target.now command.now prerequisites.now generation (names_by found.old) ≡ Err e)) }
+    ensures refused { IfErr result (λ e. IsAborted e ⊎ (drafted target.now command.now prerequisites.now generation (names_by found.old) ≡ Err e)) }
     ensures listed { OnOk result (listed_of found.new ≡ names_of (names_by found.old)) }
     ensures scan { found.new.scan ≡ found.old.scan }
     ensures sources { found.new.sources ≡ found.old.sources }
@@ -115,13 +115,13 @@ fn make_draft(
 }
 
 /// Scans the command of an object whose prerequisites were scanned, where that is asked for.
-fn scan_command_by(memo: &mut Memo, scans_command: bool, command: &[u8]) -> Result<(), AllocError>
-    ensures memo { (files : Files) → IsMemoOf files memo.old → IsMemoOf files memo.new }
-    ensures names { IsTrue (are_placed (found_of memo.old.found.scan) memo.old.found.sources.items)
-        → OnOk result (names_by memo.new.found ≡ with_command scans_command memo.old.rules command.now (names_by memo.old.found)) }
+fn scan_command_by(cache: &mut Cache, scans_command: bool, command: &[u8]) -> Result<(), AllocError>
+    ensures cache { (files : Files) → IsCacheOf files cache.old → IsCacheOf files cache.new }
+    ensures names { IsTrue (are_placed (found_of cache.old.found.scan) cache.old.found.sources.items)
+        → OnOk result (names_by cache.new.found ≡ with_command scans_command cache.old.rules command.now (names_by cache.old.found)) }
 {
     if scans_command {
-        return memo.scan_command(command);
+        return cache.scan_command(command);
     }
     Ok(())
 }
@@ -130,35 +130,35 @@ fn scan_command_by(memo: &mut Memo, scans_command: bool, command: &[u8]) -> Resu
 fn draft_by<T: Tree>(
     alloc: Global,
     tree: &mut T,
-    memo: &mut Memo,
+    cache: &mut Cache,
     scans_command: bool,
     target: &[u8],
     command: &[u8],
     prerequisites: &Prerequisites,
 ) -> Result<Draft, EngineError>
-    requires memo { T.is_honest → IsMemoOf (T.files tree.old) memo.old }
+    requires cache { T.is_honest → IsCacheOf (T.files tree.old) cache.old }
     requires target { IsTrue (is_target target.now) }
     requires command { IsTrue (is_command command.now) }
-    ensures memo { T.is_honest → IsMemoOf (T.files tree.new) memo.new }
+    ensures cache { T.is_honest → IsCacheOf (T.files tree.new) cache.new }
     ensures reads { Reads T.Tree tree.old tree.new (IsErrOf result EngineError.Device) }
     ensures passed { OnOk result (T.failures tree.new ≡ T.failures tree.old) }
     ensures uncounted { IsErrOf result EngineError.OutOfMemory → T.failures tree.new ≡ T.failures tree.old }
     ensures drafted { T.is_honest → IfOk result (λ d. (plan : RecordPlan)
-        × (drafted_by memo.old.rules scans_command (T.files tree.old) target.now command.now prerequisites.now ≡ Ok plan) × IsLegal plan.file
-        × IsDraft plan d × (plan.names ≡ listed_of memo.new.found)) }
-    ensures refused { T.is_honest → IfErr result (λ e. IsGivenUp e
-        ⊎ (drafted_by memo.old.rules scans_command (T.files tree.old) target.now command.now prerequisites.now ≡ Err e)) }
+        × (drafted_by cache.old.rules scans_command (T.files tree.old) target.now command.now prerequisites.now ≡ Ok plan) × IsLegal plan.file
+        × IsDraft plan d × (plan.names ≡ listed_of cache.new.found)) }
+    ensures refused { T.is_honest → IfErr result (λ e. IsAborted e
+        ⊎ (drafted_by cache.old.rules scans_command (T.files tree.old) target.now command.now prerequisites.now ≡ Err e)) }
 {
-    let generation = memo.generation(alloc, tree)?;
-    scan_all_by(alloc, tree, memo, prerequisites)?;
-    scan_command_by(memo, scans_command, command)?;
+    let generation = cache.generation(alloc, tree)?;
+    scan_all_by(alloc, tree, cache, prerequisites)?;
+    scan_command_by(cache, scans_command, command)?;
     make_draft(
         alloc,
         target,
         command,
         prerequisites,
         generation,
-        &mut memo.found,
+        &mut cache.found,
     )
 }
 
@@ -166,32 +166,32 @@ fn draft_by<T: Tree>(
 pub(crate) fn prepare<T: Tree>(
     alloc: Global,
     tree: &mut T,
-    memo: &mut Memo,
+    cache: &mut Cache,
     conventions: Conventions<'_>,
     depfile: &[u8],
     target: &[u8],
     command: &[u8],
 ) -> Result<Prepared, EngineError>
-    requires memo { T.is_honest → IsMemoOf (T.files tree.old) memo.old }
-    ensures memo { T.is_honest → IsMemoOf (T.files tree.new) memo.new }
+    requires cache { T.is_honest → IsCacheOf (T.files tree.old) cache.old }
+    ensures cache { T.is_honest → IsCacheOf (T.files tree.new) cache.new }
     ensures reads { Reads T.Tree tree.old tree.new (IsErrOf result EngineError.Device) }
     ensures passed { OnOk result (T.failures tree.new ≡ T.failures tree.old) }
     ensures uncounted { IsErrOf result EngineError.OutOfMemory → T.failures tree.new ≡ T.failures tree.old }
     ensures planned { T.is_honest → IfOk result (λ p. (plan : RecordPlan)
         × IsRecordPlanUnder conventions.entry (T.files tree.old) depfile.now target.now command.now plan
-        × IsPrepared conventions.entry (T.files tree.old) depfile.now plan (listed_of memo.new.found) p) }
-    ensures refused { T.is_honest → IfErr result (λ e. IsGivenUp e
+        × IsPrepared conventions.entry (T.files tree.old) depfile.now plan (listed_of cache.new.found) p) }
+    ensures refused { T.is_honest → IfErr result (λ e. IsAborted e
         ⊎ (record_plan_under conventions.entry (T.files tree.old) depfile.now target.now command.now ≡ Err e)) }
 {
-    check_words(depfile, target, command)?;
+    check_args(depfile, target, command)?;
     let text = read_there(alloc, tree, depfile)?;
     let header = conventions.header;
     let prerequisites = read_depfile_without(alloc, Seed::new(tree.seed()), header, &text)?;
-    memo.scan_by(Rules::for_target(conventions.dialect, target));
+    cache.scan_by(ScanRules::for_target(conventions.dialect, target));
     let draft = draft_by(
         alloc,
         tree,
-        memo,
+        cache,
         conventions.scans_command,
         target,
         command,
@@ -217,11 +217,11 @@ pub(crate) fn write_record<T: Tree>(
         ((content (T.files tree.new) (command_path target.now) ≡ content (T.files tree.old) (command_path target.now))
         ⊎ (content (T.files tree.new) (command_path target.now) ≡ Some text.now)) }
     ensures others { T.is_honest → SameButBoth (command_temporary target.now) (command_path target.now) (T.files tree.old) (T.files tree.new) }
-    ensures given { IfErr result IsGivenUp }
+    ensures given { IfErr result IsAborted }
     ensures counted { Counted T.Tree tree.old tree.new (IsErrOf result EngineError.Device) }
     ensures passed { OnOk result (T.failures tree.new ≡ T.failures tree.old) }
     ensures uncounted { IsErrOf result EngineError.OutOfMemory → T.failures tree.new ≡ T.failures tree.old }
-    ensures kept { T.aged tree.new ≡ T.aged tree.old }
+    ensures kept { T.backdated tree.new ≡ T.backdated tree.old }
 {
     let path = command_path(alloc, target)?;
     let temporary = command_temporary(alloc, target)?;
@@ -230,12 +230,12 @@ pub(crate) fn write_record<T: Tree>(
 }
 
 /// Forgets what was kept of an object's command file and its temporary file, since both are to be written.
-fn forget_record(alloc: Global, memo: &mut Memo, target: &[u8]) -> Result<(), AllocError>
-    ensures memo { (files : Files) → IsMemoOf files memo.old → IsMemoOf files memo.new }
-    ensures gone { OnOk result (IsNoSource (command_path target.now) memo.new × IsNoSource (command_temporary target.now) memo.new) }
+fn forget_record(alloc: Global, cache: &mut Cache, target: &[u8]) -> Result<(), AllocError>
+    ensures cache { (files : Files) → IsCacheOf files cache.old → IsCacheOf files cache.new }
+    ensures gone { OnOk result (IsNoSource (command_path target.now) cache.new × IsNoSource (command_temporary target.now) cache.new) }
 {
-    memo.forget(&command_temporary(alloc, target)?);
-    memo.forget(&command_path(alloc, target)?);
+    cache.invalidate(&command_temporary(alloc, target)?);
+    cache.invalidate(&command_path(alloc, target)?);
     Ok(())
 }
 
@@ -243,28 +243,28 @@ fn forget_record(alloc: Global, memo: &mut Memo, target: &[u8]) -> Result<(), Al
 pub(crate) fn record_by<T: Tree>(
     alloc: Global,
     tree: &mut T,
-    memo: &mut Memo,
+    cache: &mut Cache,
     dialect: Dialect,
     depfile: &[u8],
     target: &[u8],
     command: &[u8],
 ) -> Result<Recorded, EngineError>
-    requires memo { T.is_honest → IsMemoOf (T.files tree.old) memo.old }
-    ensures memo { T.is_honest → IsMemoOf (T.files tree.new) memo.new }
+    requires cache { T.is_honest → IsCacheOf (T.files tree.old) cache.old }
+    ensures cache { T.is_honest → IsCacheOf (T.files tree.new) cache.new }
     ensures recorded { T.is_honest → IfOk result (IsRecorded dialect (T.files tree.old) (T.files tree.new) depfile.now target.now command.now) }
     ensures refused { T.is_honest → IfErr result (IsRecordRefused dialect (T.files tree.old) (T.files tree.new) depfile.now target.now command.now) }
     ensures counted { Counted T.Tree tree.old tree.new (IsErrOf result EngineError.Device) }
     ensures passed { OnOk result (T.failures tree.new ≡ T.failures tree.old) }
     ensures uncounted { IsErrOf result EngineError.OutOfMemory → T.failures tree.new ≡ T.failures tree.old }
-    ensures kept { T.aged tree.new ≡ T.aged tree.old }
+    ensures kept { T.backdated tree.new ≡ T.backdated tree.old }
 {
     let conventions = Conventions {
         header: Header::usual(dialect),
         dialect,
         scans_command: false,
     };
-    let prepared = prepare(alloc, tree, memo, conventions, depfile, target, command)?;
-    forget_record(alloc, memo, target)?;
+    let prepared = prepare(alloc, tree, cache, conventions, depfile, target, command)?;
+    forget_record(alloc, cache, target)?;
     write_record(alloc, tree, target, &prepared.draft.text)?;
     Ok(prepared.draft.answer)
 }
@@ -288,8 +288,8 @@ pub fn record_object<T: Tree>(
     ensures counted { Counted T.Tree tree.old tree.new (IsErrOf result EngineError.Device) }
     ensures passed { OnOk result (T.failures tree.new ≡ T.failures tree.old) }
     ensures uncounted { IsErrOf result EngineError.OutOfMemory → T.failures tree.new ≡ T.failures tree.old }
-    ensures kept { T.aged tree.new ≡ T.aged tree.old }
+    ensures kept { T.backdated tree.new ≡ T.backdated tree.old }
 {
-    let mut memo = Memo::of_one_object(alloc, Seed::new(tree.seed()));
-    record_by(alloc, tree, &mut memo, dialect, depfile, target, command)
+    let mut cache = Cache::of_one_object(alloc, Seed::new(tree.seed()));
+    record_by(alloc, tree, &mut cache, dialect, depfile, target, command)
 }

@@ -6,13 +6,13 @@ ghost use Rattle.ks_fixdep.specs.declared.dependency_file.Role.{Role};
 ghost use Rattle.ks_fixdep.specs.SourceScan.{found_of, names_by};
 ghost use Rattle.ks_tree.specs.Frames.{Reads};
 ghost use Rattle.ks_tree.specs.Files.{content};
-ghost use Rattle.ks_engine.specs.Refusals.{IsGivenUp};
-ghost use Rattle.ks_engine.specs.Memos.{are_placed, IsMemoOf, IsKept, Grows};
+ghost use Rattle.ks_engine.specs.Refusals.{IsAborted};
+ghost use Rattle.ks_engine.specs.Caches.{are_placed, IsCacheOf, IsCached, Grows};
 ghost use Rattle.ks_engine.specs.Recording.{scanned, scanned_all};
 
 use crate::EngineError;
-use crate::memos::Memo;
-use ks_fixdep::{NamesBySource, Prerequisites, Rules, Seed, SourceScan};
+use crate::caches::Cache;
+use ks_fixdep::{NamesBySource, Prerequisites, ScanRules, Seed, SourceScan};
 use ks_symbols::{MAX_BYTES, Path};
 use ks_tree::Tree;
 use std::alloc::Global;
@@ -26,31 +26,31 @@ pub(crate) fn scan_file<T: Tree>(
     alloc: Global,
     tree: &mut T,
     path: &[u8],
-    room: &mut [u8],
-    rules: Rules,
+    buffer: &mut [u8],
+    rules: ScanRules,
     scan: &mut SourceScan,
 ) -> Result<(), EngineError>
     requires path { IsTrue (is_path path.now) }
-    requires room { length room.old ≡ 4096 }
+    requires buffer { length buffer.old ≡ 4096 }
     ensures reads { Reads T.Tree tree.old tree.new (IsErrOf result EngineError.Device) }
     ensures passed { OnOk result (T.failures tree.new ≡ T.failures tree.old) }
     ensures uncounted { IsErrOf result EngineError.OutOfMemory → T.failures tree.new ≡ T.failures tree.old }
     ensures scanned { OnOk result ((names : List (List ℕ)) × (found_of scan.new ≡ found_of scan.old ++ names ∷ [])
         × (T.is_honest → scanned rules path.now (content (T.files tree.old) path.now) ≡ Ok names)) }
     ensures kept { OnErr result (found_of scan.new ≡ found_of scan.old) }
-    ensures refused { T.is_honest → IfErr result (λ e. IsGivenUp e ⊎ (scanned rules path.now (content (T.files tree.old) path.now) ≡ Err e)) }
+    ensures refused { T.is_honest → IfErr result (λ e. IsAborted e ⊎ (scanned rules path.now (content (T.files tree.old) path.now) ≡ Err e)) }
 {
     scan.begin_source();
     let mut offset: u64 = 0;
     loop {
-        let Some(count) = tree.read_at(alloc, path, offset, room)? else {
+        let Some(count) = tree.read_at(alloc, path, offset, buffer)? else {
             return Err(EngineError::MissingFile(Path::new(alloc, path)?));
         };
         offset += count as u64;
         if offset > MAX_BYTES as u64 {
             return Err(EngineError::TooLarge);
         }
-        scan.feed_as(rules, &room[..count])?;
+        scan.feed_as(rules, &buffer[..count])?;
         if count < PIECE {
             scan.end_source_as(rules)?;
             return Ok(());
@@ -63,30 +63,30 @@ pub(crate) fn scan_file<T: Tree>(
 pub(crate) fn scan_all_by<T: Tree>(
     alloc: Global,
     tree: &mut T,
-    memo: &mut Memo,
+    cache: &mut Cache,
     prerequisites: &Prerequisites,
 ) -> Result<(), EngineError>
-    requires memo { T.is_honest → IsMemoOf (T.files tree.old) memo.old }
-    ensures memo { T.is_honest → IsMemoOf (T.files tree.new) memo.new }
+    requires cache { T.is_honest → IsCacheOf (T.files tree.old) cache.old }
+    ensures cache { T.is_honest → IsCacheOf (T.files tree.new) cache.new }
     ensures reads { Reads T.Tree tree.old tree.new (IsErrOf result EngineError.Device) }
     ensures passed { OnOk result (T.failures tree.new ≡ T.failures tree.old) }
     ensures uncounted { IsErrOf result EngineError.OutOfMemory → T.failures tree.new ≡ T.failures tree.old }
-    ensures names { T.is_honest → OnOk result (scanned_all memo.old.rules (T.files tree.old) prerequisites.now ≡ Ok (names_by memo.new.found)) }
-    ensures refused { T.is_honest → IfErr result (λ e. IsGivenUp e ⊎ (scanned_all memo.old.rules (T.files tree.old) prerequisites.now ≡ Err e)) }
-    ensures placed { T.is_honest → OnOk result (IsTrue (are_placed (found_of memo.new.found.scan) memo.new.found.sources.items)) }
-    ensures each { OnOk result (length memo.new.found.sources.items ≡ length prerequisites.now) }
-    ensures rules { memo.new.rules ≡ memo.old.rules }
+    ensures names { T.is_honest → OnOk result (scanned_all cache.old.rules (T.files tree.old) prerequisites.now ≡ Ok (names_by cache.new.found)) }
+    ensures refused { T.is_honest → IfErr result (λ e. IsAborted e ⊎ (scanned_all cache.old.rules (T.files tree.old) prerequisites.now ≡ Err e)) }
+    ensures placed { T.is_honest → OnOk result (IsTrue (are_placed (found_of cache.new.found.scan) cache.new.found.sources.items)) }
+    ensures each { OnOk result (length cache.new.found.sources.items ≡ length prerequisites.now) }
+    ensures rules { cache.new.rules ≡ cache.old.rules }
 {
-    let mut room = [0; PIECE];
+    let mut buffer = [0; PIECE];
     let mut sources = Vec::with_capacity(alloc, prerequisites.len())?;
     for place in 0..prerequisites.len() {
         let Some((path, _)) = prerequisites.get(place) else {
             unreachable!();
         };
-        let source = memo.source_at(alloc, tree, path, &mut room)?;
+        let source = cache.source_at(alloc, tree, path, &mut buffer)?;
         sources.push(source)?;
     }
-    memo.found.sources = sources;
+    cache.found.sources = sources;
     Ok(())
 }
 
@@ -94,18 +94,18 @@ pub(crate) fn scan_all_by<T: Tree>(
 pub fn scan_all<T: Tree>(
     alloc: Global,
     tree: &mut T,
-    rules: Rules,
+    rules: ScanRules,
     prerequisites: &Prerequisites,
 ) -> Result<NamesBySource, EngineError>
     ensures reads { Reads T.Tree tree.old tree.new (IsErrOf result EngineError.Device) }
     ensures passed { OnOk result (T.failures tree.new ≡ T.failures tree.old) }
     ensures uncounted { IsErrOf result EngineError.OutOfMemory → T.failures tree.new ≡ T.failures tree.old }
     ensures names { T.is_honest → IfOk result (λ found. scanned_all rules (T.files tree.old) prerequisites.now ≡ Ok (names_by found)) }
-    ensures refused { T.is_honest → IfErr result (λ e. IsGivenUp e ⊎ (scanned_all rules (T.files tree.old) prerequisites.now ≡ Err e)) }
+    ensures refused { T.is_honest → IfErr result (λ e. IsAborted e ⊎ (scanned_all rules (T.files tree.old) prerequisites.now ≡ Err e)) }
     ensures each { IfOk result (λ found. length found.sources.items ≡ length prerequisites.now) }
 {
-    let mut memo = Memo::of_one_object(alloc, Seed::new(tree.seed()));
-    memo.scan_by(rules);
-    scan_all_by(alloc, tree, &mut memo, prerequisites)?;
-    Ok(memo.found)
+    let mut cache = Cache::of_one_object(alloc, Seed::new(tree.seed()));
+    cache.scan_by(rules);
+    scan_all_by(alloc, tree, &mut cache, prerequisites)?;
+    Ok(cache.found)
 }

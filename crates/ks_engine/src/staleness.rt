@@ -5,16 +5,16 @@ ghost use Rattle.ks_fixdep.specs.Borrowed.{borrowed_view};
 ghost use Rattle.ks_tree.specs.Frames.{Reads};
 ghost use Rattle.ks_tree.specs.Files.{Files, content};
 ghost use Rattle.ks_tree.specs.Paths.{command_path};
-ghost use Rattle.ks_engine.specs.Refusals.{Answers, IsGivenUp};
+ghost use Rattle.ks_engine.specs.Refusals.{Answers, IsAborted};
 ghost use Rattle.ks_engine.specs.Asked.{IsAnswerOn, command_file};
-ghost use Rattle.ks_engine.specs.Memos.{IsMemoOf};
+ghost use Rattle.ks_engine.specs.Caches.{IsCacheOf};
 ghost use Rattle.ks_engine.specs.BuildStates.{IsStateOn};
-ghost use Rattle.ks_engine.specs.Judged.{JudgesBuild, JudgesRecorded};
+ghost use Rattle.ks_engine.specs.Evaluated.{EvaluatesBuild, EvaluatesRecorded};
 
 use crate::EngineError;
-use crate::explaining::{ask, judge};
-use crate::memos::Memo;
-use crate::question::Question;
+use crate::caches::Cache;
+use crate::explaining::{evaluate, query_object};
+use crate::query::Query;
 use ks_fixdep::{BorrowedCommand, Seed, borrow_command, command_is_legal};
 use ks_symbols::{Name, target_is_legal};
 use ks_tree::{Tree, command_path};
@@ -49,7 +49,7 @@ pub(crate) fn read_command_text<T: Tree>(
 ) -> Result<Option<Vec<u8>>, EngineError>
     ensures reads { Reads T.Tree tree.old tree.new (IsErrOf result EngineError.Device) }
     ensures read { T.is_honest → IfOk result (λ found. option_map (λ v. v.items) found ≡ content (T.files tree.old) (command_path target.now)) }
-    ensures refused { T.is_honest → IfErr result (λ e. IsGivenUp e ⊎ (command_file target.now (content (T.files tree.old) (command_path target.now)) ≡ Err e)) }
+    ensures refused { T.is_honest → IfErr result (λ e. IsAborted e ⊎ (command_file target.now (content (T.files tree.old) (command_path target.now)) ≡ Err e)) }
     ensures passed { OnOk result (T.failures tree.new ≡ T.failures tree.old) }
     ensures uncounted { IsErrOf result EngineError.OutOfMemory → T.failures tree.new ≡ T.failures tree.old }
 {
@@ -82,17 +82,17 @@ fn has_command(file: &BorrowedCommand<'_>, command: &[u8]) -> bool
 }
 
 /// Whether an object was built by a command, by the files.
-fn ask_built<T: Tree>(
+fn query_command<T: Tree>(
     alloc: Global,
     tree: &mut T,
-    memo: &mut Memo,
+    cache: &mut Cache,
     target: &[u8],
     command: &[u8],
 ) -> Result<BuildState, EngineError>
-    requires memo { T.is_honest → IsMemoOf (T.files tree.old) memo.old }
+    requires cache { T.is_honest → IsCacheOf (T.files tree.old) cache.old }
     ensures reads { Reads T.Tree tree.old tree.new (IsErrOf result EngineError.Device) }
     ensures uncounted { IsErrOf result EngineError.OutOfMemory → T.failures tree.new ≡ T.failures tree.old }
-    ensures memo { T.is_honest → IsMemoOf (T.files tree.new) memo.new }
+    ensures cache { T.is_honest → IsCacheOf (T.files tree.new) cache.new }
     ensures answer { T.is_honest → IsStateOn (T.files tree.old) target.now command.now result }
 {
     if !target_is_legal(target) {
@@ -108,23 +108,23 @@ fn ask_built<T: Tree>(
     if !has_command(&file, command) {
         return Ok(BuildState::CommandDiffers);
     }
-    let judged = judge(alloc, tree, memo, Question::Stale, &file)?;
-    Ok(BuildState::Verdict(judged.verdict))
+    let evaluated = evaluate(alloc, tree, cache, Query::Stale, &file)?;
+    Ok(BuildState::Verdict(evaluated.verdict))
 }
 
 /// Whether an object is stale, by what was read before and what is still to be read.
 fn stale_by<T: Tree>(
     alloc: Global,
     tree: &mut T,
-    memo: &mut Memo,
+    cache: &mut Cache,
     target: &[u8],
 ) -> Result<Verdict, EngineError>
-    requires memo { T.is_honest → IsMemoOf (T.files tree.old) memo.old }
+    requires cache { T.is_honest → IsCacheOf (T.files tree.old) cache.old }
     ensures reads { Reads T.Tree tree.old tree.new (IsErrOf result EngineError.Device) }
     ensures uncounted { IsErrOf result EngineError.OutOfMemory → T.failures tree.new ≡ T.failures tree.old }
     ensures answer { T.is_honest → IsAnswerOn (T.files tree.old) target.now result }
 {
-    let answer = ask(alloc, tree, memo, Question::Stale, target)?;
+    let answer = query_object(alloc, tree, cache, Query::Stale, target)?;
     Ok(answer.verdict)
 }
 
@@ -135,10 +135,10 @@ pub fn stale<T: Tree>(alloc: Global, tree: &mut T, target: &[u8]) -> Result<Verd
     // By the files: memory and the device aside, what its steps answer.
     ensures answer { T.is_honest → IsAnswerOn (T.files tree.old) target.now result }
     // By histories: what was touched since a recorded object's record.
-    ensures recorded { T.is_honest → JudgesRecorded (T.files tree.old) target.now result }
+    ensures recorded { T.is_honest → EvaluatesRecorded (T.files tree.old) target.now result }
 {
-    let mut memo = Memo::with_seed(alloc, Seed::new(tree.seed()));
-    stale_by(alloc, tree, &mut memo, target)
+    let mut cache = Cache::with_seed(alloc, Seed::new(tree.seed()));
+    stale_by(alloc, tree, &mut cache, target)
 }
 
 /// Whether an object was built by this command, and whether it is stale. It writes nothing.
@@ -153,8 +153,8 @@ pub fn outdated<T: Tree>(
     // By the files: memory and the device aside, what its steps answer.
     ensures answer { T.is_honest → IsStateOn (T.files tree.old) target.now command.now result }
     // By histories: the command is compared with that of the record, and then as `stale`.
-    ensures recorded { T.is_honest → JudgesBuild (T.files tree.old) target.now command.now result }
+    ensures recorded { T.is_honest → EvaluatesBuild (T.files tree.old) target.now command.now result }
 {
-    let mut memo = Memo::with_seed(alloc, Seed::new(tree.seed()));
-    ask_built(alloc, tree, &mut memo, target, command)
+    let mut cache = Cache::with_seed(alloc, Seed::new(tree.seed()));
+    query_command(alloc, tree, &mut cache, target, command)
 }

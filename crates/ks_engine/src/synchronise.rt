@@ -10,7 +10,7 @@ ghost use Rattle.ks_engine.specs.Follows.{GoesOn, FollowsSync};
 ghost use Rattle.ks_engine.specs.Views.{IsPlanned, IsPlannedBy, IsWork};
 
 use crate::EngineError;
-use crate::planning::{Planned, plan_sources, read_sources};
+use crate::planning::{Planned, plan_config_inputs, read_config_inputs};
 use ks_output::{write_auto, write_header};
 use ks_symbols::{Kconfig, Name};
 use ks_tree::{
@@ -68,7 +68,7 @@ fn write_all<T: Tree>(alloc: Global, tree: &mut T, work: &Work) -> Result<(), Tr
     ensures counted { Counted T.Tree tree.old tree.new (IsErrOf result TreeFault.Device) }
     ensures passed { OnOk result (T.failures tree.new ≡ T.failures tree.old) }
     ensures uncounted { IsErrOf result TreeFault.OutOfMemory → T.failures tree.new ≡ T.failures tree.old }
-    ensures kept { T.aged tree.new ≡ T.aged tree.old }
+    ensures kept { T.backdated tree.new ≡ T.backdated tree.old }
 {
     touch_all(alloc, tree, &work.report.touched, work.report.generation)?;
     replace(alloc, tree, header_temporary(), header_path(), &work.header)?;
@@ -107,6 +107,6 @@ pub fn sync<T: Tree>(
     ensures follows { GoesOn T.Tree tree.old tree.new (FollowsSync kconfig.now dotconfig.now result) }
     ensures counted { IsSyncCall T.Tree tree.old tree.new result }
 {
-    let planned = plan_sources(alloc, tree, read_sources(alloc, kconfig, dotconfig)?)?;
+    let planned = plan_config_inputs(alloc, tree, read_config_inputs(alloc, kconfig, dotconfig)?)?;
     carry_out(alloc, tree, planned)
 }

@@ -84,7 +84,7 @@ fn check_definitions(
 
 /// Asks of the object, and holds that against what is wanted. Where it is fresh, the header defines each of its names as the
 /// header at its record did.
-fn ask(
+fn query_object(
     rt: &impl Abort,
     alloc: Global,
     tree: &mut MemoryTree,
@@ -141,7 +141,7 @@ fn holds(
         (Step::Read("include/config/auto.conf"), left.auto),
     ];
     play(rt, alloc, tree, &files)?;
-    ask(rt, alloc, tree, HEADER, left.verdict)
+    query_object(rt, alloc, tree, HEADER, left.verdict)
 }
 
 /// The synchronisation is asked for again, and then is completed.
@@ -194,11 +194,11 @@ fn recorded_between(
     let [record, at_once, back, last] = answers_between(left);
     let recording = Step::Record("x.d", "x.o", "cc -c x.c");
     play(rt, alloc, tree, &[(recording, record)])?;
-    ask(rt, alloc, tree, left.header, at_once)?;
+    query_object(rt, alloc, tree, left.header, at_once)?;
     play(rt, alloc, tree, &[(Step::Sync(KCONFIG, BOTH), back)])?;
-    ask(rt, alloc, tree, left.header, left.verdict)?;
+    query_object(rt, alloc, tree, left.header, left.verdict)?;
     play(rt, alloc, tree, &[(recording, last)])?;
-    ask(rt, alloc, tree, HEADER, "fresh")
+    query_object(rt, alloc, tree, HEADER, "fresh")
 }
 
 /// What a synchronisation leaves that is broken off in this way is completed, or an object is recorded on it.

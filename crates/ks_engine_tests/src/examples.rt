@@ -42,12 +42,12 @@ fn reply_text(alloc: Global, reply: &Reply) -> Result<String, AllocError> {
 
 /// Replies, one after the other.
 fn replies_text(alloc: Global, replies: &[Reply]) -> Result<String, AllocError> {
-    let mut told = String::new(alloc);
+    let mut reported = String::new(alloc);
     for reply in replies {
-        told.push_str(reply_text(alloc, reply)?.as_str())?;
-        told.push_str("; ")?;
+        reported.push_str(reply_text(alloc, reply)?.as_str())?;
+        reported.push_str("; ")?;
     }
-    Ok(told)
+    Ok(reported)
 }
 
 /// The replies to four commands.
@@ -73,11 +73,11 @@ fn replies<T: Tree>(alloc: Global, tree: &mut T) -> Result<String, AllocError> {
 fn one_reply_for_each_command(rt: HostRuntime) -> Result<(), AllocError> {
     let mut tree = MemoryTree::new(rt.alloc());
     play(&rt, rt.alloc(), &mut tree, SOURCES)?;
-    let told = replies(rt.alloc(), &mut tree)?;
+    let reported = replies(rt.alloc(), &mut tree)?;
     check_text(
         &rt,
         "four commands",
-        told.as_str(),
+        reported.as_str(),
         "generation 1 touched A B unknown 0; generation 1 names 3; fresh; 21 BadPath token 0; ",
     );
     Ok(())

@@ -1,9 +1,9 @@
 //! Why an object is stale: a history, and what is explained after each step of it.
-ghost use Rattle.ks_engine.specs.Memos.{IsMemoOf};
+ghost use Rattle.ks_engine.specs.Caches.{IsCacheOf};
 
 use crate::golden::*;
 use crate::steps::{Step, check_text, play, text, verdict_text};
-use ks_engine::{Cause, EngineError, Explanation, Memo, Question, ask, explain};
+use ks_engine::{Cache, Cause, EngineError, Explanation, Query, explain, query_object};
 use ks_fixdep::Seed;
 use ks_tree::{MemoryTree, Tree};
 use std::alloc::{AllocError, Global};
@@ -33,7 +33,10 @@ fn explanation_text(alloc: Global, explanation: &Explanation) -> Result<String, 
 }
 
 /// The same, or the refusal.
-fn told(alloc: Global, answer: &Result<Explanation, EngineError>) -> Result<String, AllocError> {
+fn reported(
+    alloc: Global,
+    answer: &Result<Explanation, EngineError>,
+) -> Result<String, AllocError> {
     match answer {
         Ok(explanation) => explanation_text(alloc, explanation),
         Err(error) => error.to_string(alloc),
@@ -67,7 +70,7 @@ fn check_step<T: Tree>(
     (step, want, explained): (Step<'_>, &str, &str),
 ) -> Result<(), AllocError> {
     play(rt, alloc, tree, &[(step, want)])?;
-    let why = told(alloc, &explain(alloc, tree, b"x.o"))?;
+    let why = reported(alloc, &explain(alloc, tree, b"x.o"))?;
     check_text(rt, want, why.as_str(), explained);
     Ok(())
 }
@@ -86,22 +89,22 @@ fn all_that_speaks_for_a_verdict(rt: HostRuntime) -> Result<(), AllocError> {
 fn why<T: Tree>(
     alloc: Global,
     tree: &mut T,
-    memo: &mut Memo,
+    cache: &mut Cache,
     object: &[u8],
 ) -> Result<String, AllocError>
-    requires memo { T.is_honest → IsMemoOf (T.files tree.old) memo.old }
-    ensures memo { T.is_honest → IsMemoOf (T.files tree.new) memo.new }
+    requires cache { T.is_honest → IsCacheOf (T.files tree.old) cache.old }
+    ensures cache { T.is_honest → IsCacheOf (T.files tree.new) cache.new }
 {
-    let answer = ask(alloc, tree, memo, Question::Why, object);
-    told(alloc, &answer)
+    let answer = query_object(alloc, tree, cache, Query::Why, object);
+    reported(alloc, &answer)
 }
 
 /// What is explained of two objects by one memo, and of a target that is no path.
 fn whys<T: Tree>(alloc: Global, tree: &mut T) -> [Result<String, AllocError>; 3] {
-    let mut memo = Memo::with_seed(alloc, Seed::new(0));
-    let first = why(alloc, tree, &mut memo, b"x.o");
-    let second = why(alloc, tree, &mut memo, b"y.o");
-    let last = why(alloc, tree, &mut memo, b"a$b");
+    let mut cache = Cache::with_seed(alloc, Seed::new(0));
+    let first = why(alloc, tree, &mut cache, b"x.o");
+    let second = why(alloc, tree, &mut cache, b"y.o");
+    let last = why(alloc, tree, &mut cache, b"a$b");
     [first, second, last]
 }
 

@@ -10,9 +10,9 @@ mod examples;
 #[cfg(test)]
 mod explained;
 #[cfg(test)]
-mod foreseen;
-#[cfg(test)]
 mod golden;
+#[cfg(test)]
+mod predicted;
 #[cfg(test)]
 mod steps;
 #[cfg(test)]

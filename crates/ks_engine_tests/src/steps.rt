@@ -88,7 +88,7 @@ fn noted(alloc: Global, outcome: Result<Recorded, EngineError>) -> Result<String
     }
 }
 
-fn judged<T: Tree>(alloc: Global, tree: &mut T, target: &str) -> Result<String, AllocError> {
+fn evaluated<T: Tree>(alloc: Global, tree: &mut T, target: &str) -> Result<String, AllocError> {
     match stale(alloc, tree, target.as_bytes()) {
         Ok(verdict) => verdict_text(alloc, &verdict),
         Err(error) => error.to_string(alloc),
@@ -149,7 +149,7 @@ pub(crate) fn answer<T: Tree>(
             let outcome = record_depfile(alloc, tree, header, dialect, depfile, target, command);
             noted(alloc, outcome)
         }
-        Step::Stale(target) => judged(alloc, tree, target),
+        Step::Stale(target) => evaluated(alloc, tree, target),
         Step::Outdated(target, command) => compared(alloc, tree, target, command),
         Step::Put(path, bytes) => put(alloc, tree, path, bytes),
         Step::Read(path) => read(alloc, tree, path),

@@ -1,8 +1,8 @@
 -- A refusal names the first line that does not fit: whatever stands after that line it is refused again, and with other lines in its place
 -- the lines before it are read.
-use Rattle.ks_fixdep.proofs.Prelude.{◌≡◌, ℕ, suc, ◌+◌, ◌-◌, ◌<◌, ◌≤◌, List, [], ◌∷◌, ◌++◌, length, take, drop, refl, sym, ap, ◌∙◌, arith, Option, Some, None, Result, Ok, Err, subst, codes, option_or, if◌then◌else◌, bytes_eq, is_target, is_path, Dep, content, CommandRecord, is_command, deps_begin, target_line, deps_end, ended, IsFirstMisfit, checked, dep_in, saved_command, source_in, generation_in, is_sound, ◌>>=◌, fixed_at, form_at, deps_in, generation_from, end_from, record_in, source_line, common_steps, rules}
-use Rattle.ks_fixdep.proofs.CommandFormLemmas.{bytes-refl, saved_command-line, source_in-line, dep_in-none}
-use Rattle.ks_fixdep.proofs.CommandFitLemmas.{fixed-form, said-is, lines-fit, lines-read}
+use Rattle.ks_fixdep.proofs.Prelude.{◌≡◌, ℕ, suc, ◌+◌, ◌-◌, ◌<◌, ◌≤◌, List, [], ◌∷◌, ◌++◌, length, take, drop, refl, sym, ap, ◌∙◌, arith, Option, Some, None, Result, Ok, Err, subst, codes, option_or, if◌then◌else◌, bytes_eq, is_target, is_path, Dep, content, CommandRecord, is_command, deps_begin, target_line, deps_end, ended, IsFirstMisfit, checked, dep_in, saved_command, source_in, generation_in, is_sound, ◌>>=◌, fixed_at, pattern_at, deps_in, generation_from, end_from, record_in, source_line, common_steps, rules}
+use Rattle.ks_fixdep.proofs.CommandPatternLemmas.{bytes-refl, saved_command-line, source_in-line, dep_in-none}
+use Rattle.ks_fixdep.proofs.CommandFitLemmas.{fixed-pattern, stated-is, lines-fit, lines-read}
 use Rattle.ks_fixdep.proofs.CommandTextLemmas.{content-ended}
 
 -- a reader of lines from number n on refuses line m
@@ -55,24 +55,24 @@ first-line n k reader next (Some a) l ls more value m after first reads e rest =
 
 -- ---- one line
 
-form-reader : {A Y : Type 0} (n k : ℕ) (form : List ℕ → Option A) (x : List ℕ) (a : A) (next : A → List (List ℕ) → Result Y ℕ) → k ≡ n + 1 → form x ≡ Some a
-    → ((b : A) (line : List ℕ) → form line ≡ Some b → IsReader k (next b)) → IsReader n (λ ls. form_at n form ls >>= λ p. next p.0 p.1)
-unfolding form_at
-form-reader {A = A} {Y = Y} n k form x a next after says readers = record { lines = ended x ∷ r.lines; value = r.value; reads = reads; refuses = refuses }
+pattern-reader : {A Y : Type 0} (n k : ℕ) (pattern : List ℕ → Option A) (x : List ℕ) (a : A) (next : A → List (List ℕ) → Result Y ℕ) → k ≡ n + 1 → pattern x ≡ Some a
+    → ((b : A) (line : List ℕ) → pattern line ≡ Some b → IsReader k (next b)) → IsReader n (λ ls. pattern_at n pattern ls >>= λ p. next p.0 p.1)
+unfolding pattern_at
+pattern-reader {A = A} {Y = Y} n k pattern x a next after says readers = record { lines = ended x ∷ r.lines; value = r.value; reads = reads; refuses = refuses }
   where
     r : IsReader k (next a)
     r = readers a x says
 
-    first : (l : List ℕ) (ls : List (List ℕ)) → (form_at n form (l ∷ ls) >>= λ p. next p.0 p.1) ≡ tried n (form (content l)) next ls
+    first : (l : List ℕ) (ls : List (List ℕ)) → (pattern_at n pattern (l ∷ ls) >>= λ p. next p.0 p.1) ≡ tried n (pattern (content l)) next ls
     first l ls = search rules
 
-    reads : (form_at n form (ended x ∷ r.lines) >>= λ p. next p.0 p.1) ≡ Ok r.value
-    reads = first (ended x) r.lines ∙ ap (λ o. tried n o next r.lines) (ap form (content-ended x) ∙ says) ∙ r.reads
+    reads : (pattern_at n pattern (ended x ∷ r.lines) >>= λ p. next p.0 p.1) ≡ Ok r.value
+    reads = first (ended x) r.lines ∙ ap (λ o. tried n o next r.lines) (ap pattern (content-ended x) ∙ says) ∙ r.reads
 
-    refuses : (ls : List (List ℕ)) (m : ℕ) → (form_at n form ls >>= λ p. next p.0 p.1) ≡ Err m → Refuses n (λ ls. form_at n form ls >>= λ p. next p.0 p.1) ls m
+    refuses : (ls : List (List ℕ)) (m : ℕ) → (pattern_at n pattern ls >>= λ p. next p.0 p.1) ≡ Err m → Refuses n (λ ls. pattern_at n pattern ls >>= λ p. next p.0 p.1) ls m
     refuses [] m e = let same : n ≡ m = cc in at-first n _ [] (ended x ∷ r.lines) r.value m reads same (λ xs lt. absurd (omega arith))
     refuses (l ∷ ls) m e =
-        first-line n k _ next (form (content l)) l ls (ended x ∷ r.lines) r.value m after (first l) reads e
+        first-line n k _ next (pattern (content l)) l ls (ended x ∷ r.lines) r.value m after (first l) reads e
         (λ b is. (readers b (content l) is).refuses ls m)
 
 -- a reader that answers as another one does
@@ -82,7 +82,7 @@ alike-reader n f g same r = search rules
 fixed-reader : {Y : Type 0} (n k : ℕ) (x : List ℕ) (next : List (List ℕ) → Result Y ℕ) → k ≡ n + 1 → IsReader k next
     → IsReader n (λ ls. fixed_at n x ls >>= next)
 fixed-reader n k x next after r =
-    alike-reader n _ _ (fixed-form n x next) (form-reader n k (checked (λ l. bytes_eq l x)) x x (λ _. next) after
+    alike-reader n _ _ (fixed-pattern n x next) (pattern-reader n k (checked (λ l. bytes_eq l x)) x x (λ _. next) after
     (ap (λ b. if b then Some x else None) (bytes-refl x)) (λ _ _ _. r))
 
 then-then : {A B C : Type 0} (r : Result A ℕ) (f : A → Result B ℕ) (g : B → Result C ℕ) → ((r >>= f) >>= g) ≡ (r >>= λ a. f a >>= g)
@@ -98,7 +98,7 @@ fixed-then n k x next h after r = alike-reader n _ _ (λ ls. then-then (fixed_at
 generation-first : {Y : Type 0} (n : ℕ) (h : Option ℕ → Y) (l : List ℕ) (ls : List (List ℕ)) → (generation_from n (l ∷ ls) >>= λ g. Ok (h g))
     ≡ tried n (if is_sound l then Some (generation_in l) else None) (λ own xs. generation_from (n + 1) xs >>= λ g. Ok (h (option_or g own))) ls
 unfolding generation_from
-generation-first n h l ls = grind (arith, common_steps, said-is)
+generation-first n h l ls = grind (arith, common_steps, stated-is)
 
 generation-refuses : {Y : Type 0} (n : ℕ) (h : Option ℕ → Y) (ls : List (List ℕ)) (m : ℕ) → (generation_from n ls >>= λ g. Ok (h g)) ≡ Err m
     → Refuses n (λ xs. generation_from n xs >>= λ g. Ok (h g)) ls m
@@ -189,9 +189,9 @@ tail-reader t c s =
 record-reader : IsReader 1 record_in
 unfolding record_in is_target is_path is_command
 record-reader =
-    form-reader 1 2 saved_command (codes "savedcmd_x := ") (codes "x", []) _ refl (saved_command-line (codes "x") [] refl refl)
+    pattern-reader 1 2 saved_command (codes "savedcmd_x := ") (codes "x", []) _ refl (saved_command-line (codes "x") [] refl refl)
     (λ saved line is. fixed-reader 2 3 [] _ refl
-    (form-reader 3 4 (source_in saved.0) (source_line saved.0 (codes "x")) (codes "x") _ refl (source_in-line saved.0 (codes "x") refl)
+    (pattern-reader 3 4 (source_in saved.0) (source_line saved.0 (codes "x")) (codes "x") _ refl (source_in-line saved.0 (codes "x") refl)
     (λ source line is. fixed-reader 4 5 [] _ refl
     (fixed-reader 5 6 (deps_begin saved.0) _ refl (tail-reader saved.0 saved.1 source)))))
 

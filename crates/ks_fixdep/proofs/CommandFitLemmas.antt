@@ -1,9 +1,9 @@
 -- Lines that fit the layout are read, and lines that are read fit it.
-use Rattle.ks_fixdep.proofs.Prelude.{◌≡◌, ℕ, ◌+◌, true, List, [], ◌∷◌, ◌++◌, length, take, drop, refl, sym, ap, ap₂, ◌∙◌, Option, Some, None, Result, Ok, map, append_assoc, subst, ◌<◌, ◌^◌, if◌then◌else◌, IfSome, not, ◌||◌, option_and_then, before, between, following, line_feed, generation_mark, decimal_value, option_or, list_all, filter_map, cons_option, bytes_eq, map-append, cond-true, ltb-true, and_from, and_parts, last_of, is_path, Dep, content, CommandRecord, back_lines, checked, is_dep, IsLegal, dep_line, deps_begin, target_line, deps_end, layout, generation_in, is_sound, LinesRead, dep_in, saved_command, source_in, ◌>>=◌, or_fault, fixed_at, form_at, deps_in, onto_deps, said, generation_from, end_from, record_in, source_line, arith, common_steps, rules}
+use Rattle.ks_fixdep.proofs.Prelude.{◌≡◌, ℕ, ◌+◌, true, List, [], ◌∷◌, ◌++◌, length, take, drop, refl, sym, ap, ap₂, ◌∙◌, Option, Some, None, Result, Ok, map, append_assoc, subst, ◌<◌, ◌^◌, if◌then◌else◌, IfSome, not, ◌||◌, option_and_then, before, between, following, line_feed, generation_mark, decimal_value, option_or, list_all, filter_map, cons_option, bytes_eq, map-append, cond-true, ltb-true, and_from, and_parts, last_of, is_path, Dep, content, CommandRecord, back_lines, checked, is_dep, IsLegal, dep_line, deps_begin, target_line, deps_end, layout, generation_in, is_sound, LinesRead, dep_in, saved_command, source_in, ◌>>=◌, or_fault, fixed_at, pattern_at, deps_in, onto_deps, stated, generation_from, end_from, record_in, source_line, arith, common_steps, rules}
 use Rattle.std.specs.Prelude.{is_some}
-use Rattle.ks_fixdep.specs.CommandReading.{said_after}
+use Rattle.ks_fixdep.specs.CommandReading.{stated_after}
 use Rattle.std.proofs.lemmas.List.{take-append-drop}
-use Rattle.ks_fixdep.proofs.CommandFormLemmas.{SavedLine, bytes-refl, bytes-same, if-some, saved_command-line, source_in-line, dep-line, dep_in-none, saved_command-is, source_in-is, dep_in-is}
+use Rattle.ks_fixdep.proofs.CommandPatternLemmas.{SavedLine, bytes-refl, bytes-same, if-some, saved_command-line, source_in-line, dep-line, dep_in-none, saved_command-is, source_in-is, dep_in-is}
 
 -- ---- dependency lines
 
@@ -23,16 +23,16 @@ deps-fit (d ∷ ds) (l ∷ ls) xs more e legal =
 
 -- ---- the generation
 
-said_after-is : (n : ℕ) (after : Option (List ℕ)) → let g = option_and_then decimal_value (option_and_then (before line_feed) after) in
-    said_after n after ≡ or_fault n (if not (is_some after) || is_some g then Some g else None)
-said_after-is n None = refl
-said_after-is n (Some x) =
+stated_after-is : (n : ℕ) (after : Option (List ℕ)) → let g = option_and_then decimal_value (option_and_then (before line_feed) after) in
+    stated_after n after ≡ or_fault n (if not (is_some after) || is_some g then Some g else None)
+stated_after-is n None = refl
+stated_after-is n (Some x) =
     elim (option_and_then decimal_value (before line_feed x)) as (λ g. (or_fault n g >>= λ g. Ok (Some g)) ≡ or_fault n (if is_some g then Some g else None))
     [ None ↦ refl | Some g ↦ refl ]
 
-pub said-is : (n : ℕ) (line : List ℕ) → said n line ≡ or_fault n (if is_sound line then Some (generation_in line) else None)
-unfolding said
-said-is n line = said_after-is n (following generation_mark line)
+pub stated-is : (n : ℕ) (line : List ℕ) → stated n line ≡ or_fault n (if is_sound line then Some (generation_in line) else None)
+unfolding stated
+stated-is n line = stated_after-is n (following generation_mark line)
 
 last-cons : (o : Option ℕ) (xs : List ℕ) → option_or (last_of xs) o ≡ last_of (cons_option o xs)
 unfolding last_of
@@ -43,7 +43,7 @@ last-cons o (x ∷ y ∷ xs) = grind (arith, common_steps, (last-cons o (y ∷ x
 generation-sound : (n : ℕ) (ls : List (List ℕ)) → list_all is_sound ls ≡ true → generation_from n ls ≡ Ok (last_of (filter_map generation_in ls))
 unfolding generation_from last_of
 generation-sound n [] sound = refl
-generation-sound n (l ∷ ls) sound = grind (arith, common_steps, said-is, last-cons, and_parts, (generation-sound (n + 1) ls))
+generation-sound n (l ∷ ls) sound = grind (arith, common_steps, stated-is, last-cons, and_parts, (generation-sound (n + 1) ls))
 
 -- ---- the whole
 
@@ -55,7 +55,7 @@ end-fits n t ls more e = absurd cc
 record-fits : (f : CommandRecord) (ls more : List (List ℕ)) → IsLegal f → map content ls ≡ layout f
     → generation_from (6 + length f.deps + 4) more ≡ Ok f.generation
     → record_in (ls ++ more) ≡ Ok f
-unfolding record_in form_at fixed_at
+unfolding record_in pattern_at fixed_at
 record-fits f (a ∷ b ∷ c ∷ d ∷ g ∷ ls) more legal e generation =
     let rest : map content ls ≡ map dep_line f.deps ++ back_lines f.target = cc in
     let deps = deps-fit f.deps ls _ more rest legal.deps in
@@ -70,10 +70,10 @@ lines-read f ls is = search (rules, record-fits, generation-sound)
 -- ---- what is read fits
 
 -- these bytes are a form
-pub fixed-form : {Y : Type 0} (n : ℕ) (x : List ℕ) (next : List (List ℕ) → Result Y ℕ) (ls : List (List ℕ))
-    → (fixed_at n x ls >>= next) ≡ (form_at n (checked (λ l. bytes_eq l x)) ls >>= λ p. next p.1)
-unfolding fixed_at form_at
-fixed-form n x next ls = grind (arith, common_steps)
+pub fixed-pattern : {Y : Type 0} (n : ℕ) (x : List ℕ) (next : List (List ℕ) → Result Y ℕ) (ls : List (List ℕ))
+    → (fixed_at n x ls >>= next) ≡ (pattern_at n (checked (λ l. bytes_eq l x)) ls >>= λ p. next p.1)
+unfolding fixed_at pattern_at
+fixed-pattern n x next ls = grind (arith, common_steps)
 
 -- a line that says this, and the lines after it, which are read on
 record Taken {A Y : Type 0} (Says : A → List ℕ → Type 0) (next : A × List (List ℕ) → Result Y ℕ) (ls : List (List ℕ)) (y : Y) : Type 0 where
@@ -84,14 +84,14 @@ record Taken {A Y : Type 0} (Says : A → List ℕ → Type 0) (next : A × List
   says : Says value (content line)
   reads : next (value, rest) ≡ Ok y
 
-form-taken : {A Y : Type 0} (Says : A → List ℕ → Type 0) (n : ℕ) (form : List ℕ → Option A) (next : A × List (List ℕ) → Result Y ℕ) (ls : List (List ℕ)) (y : Y)
-    → ((a : A) (x : List ℕ) → form x ≡ Some a → Says a x) → (form_at n form ls >>= next) ≡ Ok y → Taken Says next ls y
-unfolding form_at
-form-taken Says n form next ls y says e = search (rules, says)
+pattern-taken : {A Y : Type 0} (Says : A → List ℕ → Type 0) (n : ℕ) (pattern : List ℕ → Option A) (next : A × List (List ℕ) → Result Y ℕ) (ls : List (List ℕ)) (y : Y)
+    → ((a : A) (x : List ℕ) → pattern x ≡ Some a → Says a x) → (pattern_at n pattern ls >>= next) ≡ Ok y → Taken Says next ls y
+unfolding pattern_at
+pattern-taken Says n pattern next ls y says e = search (rules, says)
 
 fixed-taken : {Y : Type 0} (n : ℕ) (x : List ℕ) (next : List (List ℕ) → Result Y ℕ) (ls : List (List ℕ)) (y : Y) → (fixed_at n x ls >>= next) ≡ Ok y
     → Taken {A = List ℕ} (λ _ c. c ≡ x) (λ p. next p.1) ls y
-fixed-taken n x next ls y e = search (rules, form-taken, bytes-same, if-some, fixed-form)
+fixed-taken n x next ls y e = search (rules, pattern-taken, bytes-same, if-some, fixed-pattern)
 
 -- the dependency lines in front
 deps-begin : (ls : List (List ℕ)) → (map content (take (length (deps_in ls)) ls) ≡ map dep_line (deps_in ls)) × (list_all is_dep (deps_in ls) ≡ true)
@@ -113,15 +113,15 @@ record Steps {A B : Type 0} (from : Result A ℕ) (step : A → Result B ℕ) (t
 steps : {A B : Type 0} (from : Result A ℕ) (step : A → Result B ℕ) (to : B) → (from >>= step) ≡ Ok to → Steps from step to
 steps from step to e = search rules
 
-sound-is : (n : ℕ) (line : List ℕ) (o : Option ℕ) → said n line ≡ Ok o → is_sound line ≡ true
-unfolding said
+sound-is : (n : ℕ) (line : List ℕ) (o : Option ℕ) → stated n line ≡ Ok o → is_sound line ≡ true
+unfolding stated
 sound-is n line o e = search rules
 
 generation-sounds : (n : ℕ) (ls : List (List ℕ)) (g : Option ℕ) → generation_from n ls ≡ Ok g → list_all is_sound ls ≡ true
 unfolding generation_from
 generation-sounds n [] g e = refl
 generation-sounds n (l ∷ ls) g e =
-    let own = steps (said n l) _ g e in
+    let own = steps (stated n l) _ g e in
     let later = steps (generation_from (n + 1) ls) _ g own.next in
     and_from (is_sound l) (list_all is_sound ls) (sound-is n l own.value own.first) (generation-sounds (n + 1) ls later.value later.first)
 
@@ -164,12 +164,12 @@ record Front (xs more ls : List (List ℕ)) : Type 0 where
   parts : ls ≡ laid ++ more
   fits : map content laid ≡ xs
 
-front-one : {x line : List ℕ} {xs more rest ls : List (List ℕ)} → ls ≡ line ∷ rest → content line ≡ x → Front xs more rest → Front (x ∷ xs) more ls
-front-one {line = line} is says f = record { laid = line ∷ f.laid; parts = is ∙ ap (λ l. line ∷ l) f.parts; fits = ap₂ (λ c l. c ∷ l) says f.fits }
+prefix-one : {x line : List ℕ} {xs more rest ls : List (List ℕ)} → ls ≡ line ∷ rest → content line ≡ x → Front xs more rest → Front (x ∷ xs) more ls
+prefix-one {line = line} is says f = record { laid = line ∷ f.laid; parts = is ∙ ap (λ l. line ∷ l) f.parts; fits = ap₂ (λ c l. c ∷ l) says f.fits }
 
-front-deps : (ds : List Dep) (xs more ls : List (List ℕ)) → map content (take (length ds) ls) ≡ map dep_line ds → Front xs more (drop (length ds) ls)
+prefix-deps : (ds : List Dep) (xs more ls : List (List ℕ)) → map content (take (length ds) ls) ≡ map dep_line ds → Front xs more (drop (length ds) ls)
     → Front (map dep_line ds ++ xs) more ls
-front-deps ds xs more ls fits f =
+prefix-deps ds xs more ls fits f =
     let n = length ds in
     record {
       laid = take n ls ++ f.laid;
@@ -180,7 +180,7 @@ front-deps ds xs more ls fits f =
 -- the lines after the dependency lines
 record Ends (t : List ℕ) (ls : List (List ℕ)) (g : Option ℕ) : Type 0 where
   more : List (List ℕ)
-  front : Front (back_lines t) more ls
+  prefix : Front (back_lines t) more ls
   sound : list_all is_sound more ≡ true
   last : g ≡ last_of (filter_map generation_in more)
 
@@ -195,7 +195,7 @@ end-ends n t ls g e =
     let none : Front [] e4.rest e4.rest = record { laid = []; parts = refl; fits = refl } in
     record {
       more = e4.rest;
-      front = front-one e1.is e1.says (front-one e2.is e2.says (front-one e3.is e3.says (front-one e4.is e4.says none)));
+      prefix = prefix-one e1.is e1.says (prefix-one e2.is e2.says (prefix-one e3.is e3.says (prefix-one e4.is e4.says none)));
       sound = says.0;
       last = says.1;
     }
@@ -204,10 +204,10 @@ end-ends n t ls g e =
 pub lines-fit : (f : CommandRecord) (ls : List (List ℕ)) → record_in ls ≡ Ok f → LinesRead ls f
 unfolding record_in
 lines-fit f ls e =
-    let s1 = form-taken (λ p x. SavedLine x p.0 p.1) 1 saved_command _ ls f (λ p x. saved_command-is x p.0 p.1) e in
+    let s1 = pattern-taken (λ p x. SavedLine x p.0 p.1) 1 saved_command _ ls f (λ p x. saved_command-is x p.0 p.1) e in
     let t = s1.value.0 in
     let s2 = fixed-taken 2 [] _ s1.rest f s1.reads in
-    let s3 = form-taken (λ s x. (is_path s ≡ true) × (x ≡ source_line t s)) 3 (source_in t) _ s2.rest f (λ s x. source_in-is t x s) s2.reads in
+    let s3 = pattern-taken (λ s x. (is_path s ≡ true) × (x ≡ source_line t s)) 3 (source_in t) _ s2.rest f (λ s x. source_in-is t x s) s2.reads in
     let s4 = fixed-taken 4 [] _ s3.rest f s3.reads in
     let s5 = fixed-taken 5 (deps_begin t) _ s4.rest f s4.reads in
     let ds = deps_in s5.rest in
@@ -215,11 +215,11 @@ lines-fit f ls e =
     let s6 = steps (end_from (6 + length ds) t (drop (length ds) s5.rest)) _ f s5.reads in
     let end = end-ends (6 + length ds) t (drop (length ds) s5.rest) s6.value s6.first in
     let r : CommandRecord = record { target = t; command = s1.value.1; source = s3.value; deps = ds; generation = s6.value } in
-    let front : Front (layout r) end.more ls =
-    front-one s1.is s1.says.is (front-one s2.is s2.says (front-one s3.is s3.says.1 (front-one s4.is s4.says (front-one s5.is s5.says
-    (front-deps ds (back_lines t) end.more s5.rest deps.0 end.front))))) in
+    let prefix : Front (layout r) end.more ls =
+    prefix-one s1.is s1.says.is (prefix-one s2.is s2.says (prefix-one s3.is s3.says.1 (prefix-one s4.is s4.says (prefix-one s5.is s5.says
+    (prefix-deps ds (back_lines t) end.more s5.rest deps.0 end.prefix))))) in
     subst (LinesRead ls) {x = r} (ok-same r f (Ok r) refl s6.next) (record {
-      laid_out = front.laid;
+      laid_out = prefix.laid;
       appended = end.more;
       legal = record {
         target = s1.says.target_legal;
@@ -228,8 +228,8 @@ lines-fit f ls e =
         deps = deps.1;
         generation = subst IsBelow (sym end.last) (last-below end.more);
       };
-      parts = front.parts;
-      fits = front.fits;
+      parts = prefix.parts;
+      fits = prefix.fits;
       sound = end.sound;
       generation = end.last;
     })

@@ -22,7 +22,7 @@ lines-whole (b ∷ d ∷ t) some none =
     search (rules, cond-false, false_from_ne_true, (lines-whole (d ∷ t) (omega arith) (λ j lt. none (suc j) (omega arith))))
 
 -- equality, part by part
-pub front-eq : (part rest more : List ℕ) → bytes_eq rest (part ++ more) ≡ (bytes_eq (take (length part) rest) part && bytes_eq (drop (length part) rest) more)
-front-eq [] rest more = refl
-front-eq (b ∷ part) [] more = refl
-front-eq (b ∷ part) (d ∷ rest) more = grind (arith, common_steps, once, (front-eq part rest more))
+pub prefix-eq : (part rest more : List ℕ) → bytes_eq rest (part ++ more) ≡ (bytes_eq (take (length part) rest) part && bytes_eq (drop (length part) rest) more)
+prefix-eq [] rest more = refl
+prefix-eq (b ∷ part) [] more = refl
+prefix-eq (b ∷ part) (d ∷ rest) more = grind (arith, common_steps, once, (prefix-eq part rest more))

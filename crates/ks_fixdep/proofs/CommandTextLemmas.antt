@@ -1,6 +1,6 @@
 -- The lines of a written text are those of the layout and the line of the generation, and so the text reads as what was written.
 use Rattle.ks_fixdep.proofs.Prelude.{◌≡◌, ℕ, ◌<◌, ◌^◌, Bool, true, false, List, [], ◌∷◌, ◌++◌, refl, ap, ◌∙◌, Option, Some, None, append_assoc, map, ◌==◌, not, arith, common_steps, flat_map, decimal, IfSome, unwrap_or, list_all, filter_map, cond-false, and_parts, and_from, not-true, list_all-map, map-append, list_all-append, last_of, is_name, is_path, is_path_byte, decimal_value, Dep, File, Config, lines, content, CommandRecord, is_command, is_dep, IsLegal, dep_line, layout, generation_mark, generation_line, ended, command_text, generation_in, is_sound, CommandReads, rules}
-use Rattle.ks_fixdep.proofs.CommandFormLemmas.{other-byte, all-imp, path-bytes, target-path, before-end, after-front}
+use Rattle.ks_fixdep.proofs.CommandPatternLemmas.{other-byte, all-imp, path-bytes, target-path, before-end, after-prefix}
 
 -- ---- no line of the layout has a line feed in it, so the lines of the text are these
 
@@ -10,15 +10,15 @@ is_plain_byte b = not (b == 10)
 abbrev pub is_plain : List ℕ → Bool
 is_plain x = list_all is_plain_byte x
 
-lines-front : (x rest : List ℕ) → is_plain x ≡ true → lines (x ++ 10 ∷ rest) ≡ (x ++ 10 ∷ []) ∷ lines rest
+lines-prefix : (x rest : List ℕ) → is_plain x ≡ true → lines (x ++ 10 ∷ rest) ≡ (x ++ 10 ∷ []) ∷ lines rest
 unfolding lines
-lines-front [] rest plain = refl
-lines-front (b ∷ x) rest plain = search (rules, and_parts, cond-false, not-true, (lines-front x rest))
+lines-prefix [] rest plain = refl
+lines-prefix (b ∷ x) rest plain = search (rules, and_parts, cond-false, not-true, (lines-prefix x rest))
 
 lines-ended : (xs : List (List ℕ)) → list_all is_plain xs ≡ true → lines (flat_map ended xs) ≡ map ended xs
 unfolding lines
 lines-ended [] plain = refl
-lines-ended (x ∷ xs) plain = search (rules, and_parts, append_assoc, lines-front, (lines-ended xs))
+lines-ended (x ∷ xs) plain = search (rules, and_parts, append_assoc, lines-prefix, (lines-ended xs))
 
 pub content-ended : (x : List ℕ) → content (ended x) ≡ x
 unfolding content
@@ -55,7 +55,7 @@ contents-ended (x ∷ xs) = search (rules, content-ended, (contents-ended xs))
 
 -- the line of a generation says it
 generation_in-line : (g : ℕ) → decimal_value (decimal g) ≡ Some g → generation_in (ended (generation_mark ++ decimal g)) ≡ Some g
-generation_in-line g back = search (rules, after-front, before-end)
+generation_in-line g back = search (rules, after-prefix, before-end)
 
 appended-sound : (g : Option ℕ) → IfSome g (λ x. decimal_value (decimal x) ≡ Some x) → list_all is_sound (map ended (generation_line g)) ≡ true
 appended-sound g back = grind (arith, common_steps, generation_in-line)

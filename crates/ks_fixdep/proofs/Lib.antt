@@ -13,7 +13,7 @@ pub mod TableLemmas
 pub mod DepsLemmas
 pub mod CommandLineLemmas
 pub mod CommandStepLemmas
-pub mod CommandFormLemmas
+pub mod CommandPatternLemmas
 pub mod CommandFitLemmas
 pub mod CommandTextLemmas
 pub mod CommandFaultLemmas

@@ -65,14 +65,14 @@ run-at t i le =
         fits = omega (arith, front_fits (drop i t) (word (drop i t)) _ split, length-drop i t);
         reads = at_reads 0 t (word (drop i t)) i _ split;
       };
-      words = word-passes (drop i t);
+      symbol_patterns = word-passes (drop i t);
       ends = ap is_word_byte (sym (get_or-drop i t (length (word (drop i t))) 0)) ∙ word-stops (drop i t);
     }
 
 run-only : (t : List ℕ) (i : ℕ) (run : List ℕ) → IsRun t i run → word (drop i t) ≡ run
 run-only t i run is =
     let here : i + length run + 0 ≡ i + length run = omega arith in
-    ap word (OccursAt-split t run i is.stands) ∙ word-is run _ is.words (rw (get_or-drop (i + length run) t 0 0, here) is.ends)
+    ap word (OccursAt-split t run i is.stands) ∙ word-is run _ is.symbol_patterns (rw (get_or-drop (i + length run) t 0 0, here) is.ends)
 
 -- nothing stands before the first place
 begins : (t : List ℕ) (i : ℕ) → (is_word_byte (get_or (0 ∷ t) i 0) ≡ false → (i ≡ 0) ⊎ (is_word_byte (get_or t (i - 1) 0) ≡ false))

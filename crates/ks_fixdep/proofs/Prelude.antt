@@ -13,14 +13,14 @@ unfoldable pub use Rattle.memchr.specs.Find.{first_of, last_of, matches_from}
 unfoldable pub use Rattle.ks_fixdep.specs.CommandExamples.{example, example_front, example_lines}
 pub use Rattle.ks_fixdep.specs.CommandFile.{CommandRecord, IsLegal, back_lines, command_text, dep_line, ended, front_lines, generation_line, is_dep, layout}
 unfoldable pub use Rattle.ks_fixdep.specs.CommandFile.{is_command}
-pub use Rattle.ks_fixdep.specs.CommandForms.{checked, either_dep, split_once}
-unfoldable pub use Rattle.ks_fixdep.specs.CommandForms.{dep_in, name_in, path_in, saved_command, source_in}
+pub use Rattle.ks_fixdep.specs.CommandPatterns.{checked, either_dep, split_once}
+unfoldable pub use Rattle.ks_fixdep.specs.CommandPatterns.{dep_in, name_in, path_in, saved_command, source_in}
 pub use Rattle.ks_fixdep.specs.CommandLaws.{ReadFits, ReadsBack}
 pub use Rattle.ks_fixdep.specs.CommandLayout.{assignment, deps_begin, deps_end, file_end, file_line, file_mark, generation_mark, name_end, name_line, name_mark, saved_line, saved_mark, source_line, target_line}
 pub use Rattle.ks_fixdep.specs.CommandLines.{before, between, following, line_feed}
 unfoldable pub use Rattle.ks_fixdep.specs.CommandLines.{content, lines}
 pub use Rattle.ks_fixdep.specs.CommandReading.{onto_deps, or_fault, reading, ◌>>=◌}
-unfoldable pub use Rattle.ks_fixdep.specs.CommandReading.{deps_in, end_from, fixed_at, form_at, generation_from, record_in, said}
+unfoldable pub use Rattle.ks_fixdep.specs.CommandReading.{deps_in, end_from, fixed_at, pattern_at, generation_from, record_in, stated}
 pub use Rattle.ks_fixdep.specs.CommandReads.{CommandReads, IsFirstMisfit, LinesRead, generation_in, is_sound}
 pub use Rattle.ks_fixdep.specs.CommandWriting.{deps_text}
 pub use Rattle.ks_fixdep.specs.DependencyFile.{added, fault_after, first_fault, is_header, is_kept, is_target_token, paths_of, role_after, usual_header, with_roles}
@@ -48,7 +48,7 @@ pub use Rattle.ks_fixdep.specs.declared.dep_error.DepError.{DepError}
 pub use Rattle.ks_fixdep.specs.declared.dependency_file.Header.{Header}
 pub use Rattle.ks_fixdep.specs.declared.dependency_file.Role.{Role}
 pub use Rattle.ks_fixdep.specs.Dialects.{names_in_as, rules_for}
-pub use Rattle.ks_fixdep.specs.Words.{Word, word_names, passed, nothing, after_word}
+pub use Rattle.ks_fixdep.specs.SymbolPatterns.{Word, word_names, passed, nothing, after_word}
 unfoldable pub use Rattle.ks_fixdep.specs.Rule.{rule_text}
 pub use Rattle.std.proofs.lemmas.Option.{cond_some, slice_get_cases, none-some}
 pub use Rattle.ks_fixdep.specs.WordScan.{word_ended, next, known_after, ended_by, at_start, Knows, Known}

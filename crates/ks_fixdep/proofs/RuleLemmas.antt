@@ -4,7 +4,7 @@ unfoldable use Rattle.ks_fixdep.specs.DependencyFile.{refusal_without, token_ref
 use Rattle.ks_fixdep.specs.DependencyFile.{is_target_token}
 use Rattle.ks_fixdep.specs.declared.dependency_file.Header.{Header}
 use Rattle.ks_fixdep.specs.declared.dep_error.DepError.TheVariants as errors
-use Rattle.ks_fixdep.proofs.CommandFormLemmas.{other-byte, all-imp}
+use Rattle.ks_fixdep.proofs.CommandPatternLemmas.{other-byte, all-imp}
 use Rattle.ks_fixdep.proofs.TokenLemmas.{tokens-nil, tokens-separator, tokens-trim, tokens-first, tokens-none, separators-end}
 
 -- ---- what stands before a separator is a token

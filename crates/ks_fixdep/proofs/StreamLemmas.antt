@@ -103,8 +103,8 @@ module _ (p head : List ℕ) (is : head ≡ word p) (short : length head < lengt
   pub head-before : head ≡ word (before_last_word p)
   head-before = grind (arith, append-nil, (word-before p [] other))
 
-  pub piece-front : (tail : List ℕ) → tail ≡ last_word p → take (length p - length tail) p ≡ before_last_word p
-  piece-front tail last =
+  pub piece-prefix : (tail : List ℕ) → tail ≡ last_word p → take (length p - length tail) p ≡ before_last_word p
+  piece-prefix tail last =
       let n = length p - length tail in
       let sizes = sym (length-append (before_last_word p) (last_word p)) ∙ ap length (split p) in
       let size : length (before_last_word p) ≡ n = omega (arith, ap length last, sizes) in

@@ -13,7 +13,7 @@ lines (b ∷ text) = if b == 10 then line_feed ∷ lines text else onto_first b 
 
 -- what stands after a front
 abbrev pub following : List ℕ → List ℕ → Option (List ℕ)
-following front xs = if bytes_eq (take (length front) xs) front then Some (drop (length front) xs) else None
+following prefix xs = if bytes_eq (take (length prefix) xs) prefix then Some (drop (length prefix) xs) else None
 
 -- what stands before an end
 abbrev pub before : List ℕ → List ℕ → Option (List ℕ)
@@ -21,7 +21,7 @@ before end xs = if bytes_eq (drop (length xs - length end) xs) end then Some (ta
 
 -- what stands between a front and an end
 abbrev pub between : List ℕ → List ℕ → List ℕ → Option (List ℕ)
-between front end xs = option_and_then (before end) (following front xs)
+between prefix end xs = option_and_then (before end) (following prefix xs)
 
 -- a line without its line feed
 unfoldable pub content : List ℕ → List ℕ

@@ -7,7 +7,7 @@ use Rattle.ks_fixdep.specs.declared.command_file.Dep.{Dep}
 use Rattle.ks_fixdep.specs.CommandLines.{line_feed, lines, content, following, before}
 use Rattle.ks_fixdep.specs.CommandLayout.{deps_begin, target_line, deps_end, generation_mark}
 use Rattle.ks_fixdep.specs.CommandFile.{CommandRecord}
-use Rattle.ks_fixdep.specs.CommandForms.{saved_command, source_in, dep_in}
+use Rattle.ks_fixdep.specs.CommandPatterns.{saved_command, source_in, dep_in}
 
 infixl 10 ◌>>=◌
 abbrev pub ◌>>=◌ : {A B : Type 0} → Result A ℕ → (A → Result B ℕ) → Result B ℕ
@@ -30,10 +30,10 @@ fixed_at n bytes ls = do
   if bytes_eq first.0 bytes then Ok first.1 else Err n
 
 -- one line of a form
-unfoldable pub form_at : {A : Type 0} → ℕ → (List ℕ → Option A) → List (List ℕ) → Result (A × List (List ℕ)) ℕ
-form_at n form ls = do
+unfoldable pub pattern_at : {A : Type 0} → ℕ → (List ℕ → Option A) → List (List ℕ) → Result (A × List (List ℕ)) ℕ
+pattern_at n pattern ls = do
   first ← line_at n ls
-  x ← or_fault n (form first.0)
+  x ← or_fault n (pattern first.0)
   Ok (x, first.1)
 
 abbrev pub onto_deps : Option Dep → List Dep → List Dep
@@ -46,18 +46,18 @@ deps_in [] = []
 deps_in (l ∷ ls) = onto_deps (dep_in (content l)) (deps_in ls)
 
 -- what a line after the layout says of the generation: a generation line has a decimal and its end
-abbrev pub said_after : ℕ → Option (List ℕ) → Result (Option ℕ) ℕ
-said_after n None = Ok None
-said_after n (Some x) = or_fault n (option_and_then decimal_value (before line_feed x)) >>= λ g. Ok (Some g)
+abbrev pub stated_after : ℕ → Option (List ℕ) → Result (Option ℕ) ℕ
+stated_after n None = Ok None
+stated_after n (Some x) = or_fault n (option_and_then decimal_value (before line_feed x)) >>= λ g. Ok (Some g)
 
-unfoldable pub said : ℕ → List ℕ → Result (Option ℕ) ℕ
-said n line = said_after n (following generation_mark line)
+unfoldable pub stated : ℕ → List ℕ → Result (Option ℕ) ℕ
+stated n line = stated_after n (following generation_mark line)
 
 -- the last one counts
 unfoldable pub generation_from : ℕ → List (List ℕ) → Result (Option ℕ) ℕ
 generation_from n [] = Ok None
 generation_from n (l ∷ ls) = do
-  own ← said n l
+  own ← stated n l
   later ← generation_from (n + 1) ls
   Ok (option_or later own)
 
@@ -72,9 +72,9 @@ end_from n target ls = do
 
 unfoldable pub record_in : List (List ℕ) → Result CommandRecord ℕ
 record_in ls = do
-  saved ← form_at 1 saved_command ls
+  saved ← pattern_at 1 saved_command ls
   ls ← fixed_at 2 [] saved.1
-  source ← form_at 3 (source_in saved.0.0) ls
+  source ← pattern_at 3 (source_in saved.0.0) ls
   ls ← fixed_at 4 [] source.1
   ls ← fixed_at 5 (deps_begin saved.0.0) ls
   generation ← end_from (6 + length (deps_in ls)) saved.0.0 (drop (length (deps_in ls)) ls)

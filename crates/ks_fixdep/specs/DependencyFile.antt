@@ -22,12 +22,12 @@ abbrev pub is_target_token : List ℕ → Bool
 is_target_token x = ends_with nat_eq x (codes ":")
 
 -- nothing, or what a slash ends
-abbrev pub is_folder : List ℕ → Bool
-is_folder front = length front == 0 || ends_with nat_eq front (codes "/")
+abbrev pub is_directory : List ℕ → Bool
+is_directory prefix = length prefix == 0 || ends_with nat_eq prefix (codes "/")
 
 -- a path, or a longer one that ends in it after a slash
 abbrev pub ends_in_path : List ℕ → List ℕ → Bool
-ends_in_path x path = ends_with nat_eq x path && is_folder (take (length x - length path) x)
+ends_in_path x path = ends_with nat_eq x path && is_directory (take (length x - length path) x)
 
 -- The header of all symbols: that of Linux and U-Boot by the end of its path alone, another one by its path or the end of it after a slash.
 abbrev pub is_header : Header → List ℕ → Bool

@@ -9,7 +9,7 @@ pub mod FoundNames
 pub mod PlaceSet
 pub mod SourceTable
 pub mod SourceScan
-pub mod Words
+pub mod SymbolPatterns
 pub mod Dialects
 pub mod DialectExamples
 pub mod WordScan
@@ -21,7 +21,7 @@ pub mod CommandLayout
 pub mod CommandFile
 pub mod Borrowed
 pub mod CommandReads
-pub mod CommandForms
+pub mod CommandPatterns
 pub mod CommandReading
 pub mod CommandAnswers
 pub mod CommandLaws

@@ -14,7 +14,7 @@ pub record IsPlace (t : List ℕ) (i : ℕ) : Type 0 where
 -- the longest run of word bytes from place i on; what is after the end of the text is no word byte
 pub record IsRun (t : List ℕ) (i : ℕ) (run : List ℕ) : Type 0 where
   pub stands : OccursAt t run i
-  pub words : IsTrue (list_all is_word_byte run)
+  pub symbol_patterns : IsTrue (list_all is_word_byte run)
   pub ends : is_word_byte (slice_index t (i + length run)) ≡ false
 
 -- x is taken: at its place, with the run after `CONFIG_` less one final `_MODULE` as its legal name

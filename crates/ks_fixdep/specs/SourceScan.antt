@@ -4,12 +4,12 @@ use Rattle.ks_fixdep.specs.declared.source_scan.NamesBySource.{NamesBySource}
 use Rattle.ks_fixdep.specs.declared.source_scan.SourceScan.{SourceScan}
 use Rattle.ks_fixdep.specs.Scan.{bare_name}
 use Rattle.ks_fixdep.specs.Stream.{ended, kept}
-use Rattle.ks_fixdep.specs.Dialects.{words_of}
+use Rattle.ks_fixdep.specs.Dialects.{patterns_of}
 use Rattle.ks_fixdep.specs.FoundNames.{all_noted}
 use Rattle.ks_fixdep.specs.SourceTable.{names_at}
 use Rattle.ks_fixdep.specs.WordScan.{Knows, at_start, known_after}
-use Rattle.ks_fixdep.specs.declared.dialect.Rules.{Rules}
-use Rattle.ks_fixdep.specs.declared.dialect.Rules.TheVariants as rules
+use Rattle.ks_fixdep.specs.declared.dialect.ScanRules.{ScanRules}
+use Rattle.ks_fixdep.specs.declared.dialect.ScanRules.TheVariants as rules
 
 -- the names of each source that has ended
 abbrev pub found_of : SourceScan → List (List (List ℕ))
@@ -21,11 +21,11 @@ pub record StandsAfter (s : SourceScan) (t : List ℕ) : Type 0 where
   pub names : s.table.current ≡ all_noted [] (map bare_name (ended t))
 
 -- The same under the rules of an object: where a text is scanned by its words, as much is known as of t.
-abbrev pub StandsAfterAs : Rules → SourceScan → List ℕ → Type 0
+abbrev pub StandsAfterAs : ScanRules → SourceScan → List ℕ → Type 0
 StandsAfterAs rules.Linux s t = StandsAfter s t
-StandsAfterAs (rules.UBoot phase) s t = Knows s.words s.table (known_after (words_of (rules.UBoot phase)) at_start t)
-StandsAfterAs rules.BusyBox s t = Knows s.words s.table (known_after (words_of rules.BusyBox) at_start t)
-StandsAfterAs rules.Coreboot s t = Knows s.words s.table (known_after (words_of rules.Coreboot) at_start t)
+StandsAfterAs (rules.UBoot phase) s t = Knows s.symbol_patterns s.table (known_after (patterns_of (rules.UBoot phase)) at_start t)
+StandsAfterAs rules.BusyBox s t = Knows s.symbol_patterns s.table (known_after (patterns_of rules.BusyBox) at_start t)
+StandsAfterAs rules.Coreboot s t = Knows s.symbol_patterns s.table (known_after (patterns_of rules.Coreboot) at_start t)
 
 -- the lists at these places, of which one that there is not is empty
 abbrev pub picked : List (List (List ℕ)) → List ℕ → List (List (List ℕ))

@@ -10,7 +10,7 @@ ghost use Rattle.ks_symbols.specs.Lines.{max_bytes};
 ghost use Rattle.ks_symbols.specs.Names.{is_path, header_path};
 ghost use Rattle.ks_symbols.specs.Refusals.{IsRefusal, RefusedBy};
 ghost use Rattle.ks_fixdep.specs.Tokens.{tokens};
-ghost use Rattle.ks_fixdep.specs.DependencyFile.{is_target_token, is_folder, ends_in_path, is_header, usual_header, added, paths_of, borrowed_pair, prerequisites, prerequisites_without, token_refusal, dependency_refusal, refusal_without};
+ghost use Rattle.ks_fixdep.specs.DependencyFile.{is_target_token, is_directory, ends_in_path, is_header, usual_header, added, paths_of, borrowed_pair, prerequisites, prerequisites_without, token_refusal, dependency_refusal, refusal_without};
 ghost use Rattle.ks_fixdep.specs.Progress.{after_target};
 
 use crate::dep_error::DepError;
@@ -154,10 +154,10 @@ fn ends_as_usual(token: &[u8]) -> bool
 }
 
 /// Whether what stands before a path leaves it a path of its own.
-fn names_folder(front: &[u8]) -> bool
-    ensures { result ≡ is_folder front.now }
+fn names_directory(prefix: &[u8]) -> bool
+    ensures { result ≡ is_directory prefix.now }
 {
-    front.is_empty() || front.ends_with(b"/")
+    prefix.is_empty() || prefix.ends_with(b"/")
 }
 
 /// Whether a token is a path, or ends in it after a slash.
@@ -165,7 +165,7 @@ fn ends_in_path(token: &[u8], path: &[u8]) -> bool
     ensures { result ≡ ends_in_path token.now path.now }
 {
     match token.strip_suffix(path) {
-        Some(front) => names_folder(front),
+        Some(prefix) => names_directory(prefix),
         None => false,
     }
 }

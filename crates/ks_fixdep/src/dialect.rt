@@ -2,37 +2,37 @@
 //! words.
 //! What U-Boot's ask for depends on the object too, since there one source goes into several programs.
 ghost use Rattle.std.specs.Prelude.{◌≡◌};
-ghost use Rattle.ks_fixdep.specs.Dialects.{phase_of, phase_prefix, rules_for, words_of};
-ghost use Rattle.ks_fixdep.specs.Words.{AreShort};
+ghost use Rattle.ks_fixdep.specs.Dialects.{phase_of, phase_prefix, rules_for, patterns_of};
+ghost use Rattle.ks_fixdep.specs.SymbolPatterns.{AreShort};
 
-use crate::words::{Form, Macro, Words};
+use crate::symbol_patterns::{Macro, Pattern, SymbolPatterns};
 use ks_symbols::Dialect;
 
 /// The form of each project that has modules.
-const WITH_MODULES: &[Form<'static>] = &[Form {
+const WITH_MODULES: &[Pattern<'static>] = &[Pattern {
     begin: b"CONFIG_",
     end: b"",
     has_modules: true,
 }];
 
 /// The forms of BusyBox: a macro of the preprocessor, a number, and two macros for what stands in their parentheses.
-const IN_BUSYBOX: &[Form<'static>] = &[
-    Form {
+const IN_BUSYBOX: &[Pattern<'static>] = &[
+    Pattern {
         begin: b"CONFIG_",
         end: b"",
         has_modules: false,
     },
-    Form {
+    Pattern {
         begin: b"ENABLE_",
         end: b"",
         has_modules: false,
     },
-    Form {
+    Pattern {
         begin: b"IF_NOT_",
         end: b"",
         has_modules: false,
     },
-    Form {
+    Pattern {
         begin: b"IF_",
         end: b"",
         has_modules: false,
@@ -70,12 +70,12 @@ pub enum Phase {
     Tpl,
     Vpl,
     /// Programs of the machine that builds.
-    Tools,
+    HostTools,
 }
 
 /// The rules by which the sources of one object are scanned.
 #[derive(Clone, Copy, Debug)]
-pub enum Rules {
+pub enum ScanRules {
     Linux,
     UBoot(Phase),
     BusyBox,
@@ -83,7 +83,7 @@ pub enum Rules {
 }
 
 impl Phase {
-    /// The phase of a target, by its first folder.
+    /// The phase of a target, by its first directory.
     pub fn of_target(target: &[u8]) -> Phase
         ensures { result ≡ phase_of target.now }
     {
@@ -97,7 +97,7 @@ impl Phase {
             return Phase::Vpl;
         }
         if target.starts_with(b"tools/") {
-            return Phase::Tools;
+            return Phase::HostTools;
         }
         Phase::Proper
     }
@@ -111,50 +111,50 @@ impl Phase {
             Phase::Spl => b"SPL_",
             Phase::Tpl => b"TPL_",
             Phase::Vpl => b"VPL_",
-            Phase::Tools => b"TOOLS_",
+            Phase::HostTools => b"TOOLS_",
         }
     }
 }
 
-impl Rules {
+impl ScanRules {
     /// The rules for the sources of a target.
-    pub fn for_target(dialect: Dialect, target: &[u8]) -> Rules
+    pub fn for_target(dialect: Dialect, target: &[u8]) -> ScanRules
         ensures { result ≡ rules_for dialect target.now }
     {
         match dialect {
-            Dialect::Linux => Rules::Linux,
-            Dialect::UBoot => Rules::UBoot(Phase::of_target(target)),
-            Dialect::BusyBox => Rules::BusyBox,
-            Dialect::Coreboot => Rules::Coreboot,
+            Dialect::Linux => ScanRules::Linux,
+            Dialect::UBoot => ScanRules::UBoot(Phase::of_target(target)),
+            Dialect::BusyBox => ScanRules::BusyBox,
+            Dialect::Coreboot => ScanRules::Coreboot,
         }
     }
 
     /// The words by which these rules find names.
-    #[tactic(auto, unfolding(crate::specs::Dialects::words_of))]
-    pub(crate) fn words(self) -> Words<'static>
-        ensures words { result ≡ words_of self }
+    #[tactic(auto, unfolding(crate::specs::Dialects::patterns_of))]
+    pub(crate) fn symbol_patterns(self) -> SymbolPatterns<'static>
+        ensures symbol_patterns { result ≡ patterns_of self }
         ensures short { AreShort result }
     {
         match self {
-            Rules::Linux => Words {
-                forms: WITH_MODULES,
+            ScanRules::Linux => SymbolPatterns {
+                patterns: WITH_MODULES,
                 macros: &[],
-                front: b"",
+                prefix: b"",
             },
-            Rules::UBoot(phase) => Words {
-                forms: WITH_MODULES,
+            ScanRules::UBoot(phase) => SymbolPatterns {
+                patterns: WITH_MODULES,
                 macros: IN_UBOOT,
-                front: phase.prefix(),
+                prefix: phase.prefix(),
             },
-            Rules::BusyBox => Words {
-                forms: IN_BUSYBOX,
+            ScanRules::BusyBox => SymbolPatterns {
+                patterns: IN_BUSYBOX,
                 macros: &[],
-                front: b"",
+                prefix: b"",
             },
-            Rules::Coreboot => Words {
-                forms: WITH_MODULES,
+            ScanRules::Coreboot => SymbolPatterns {
+                patterns: WITH_MODULES,
                 macros: IN_COREBOOT,
-                front: b"",
+                prefix: b"",
             },
         }
     }

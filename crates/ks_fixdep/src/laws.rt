@@ -11,7 +11,7 @@ ghost use Rattle.ks_fixdep.specs.DependencyFile.{prerequisites, dependency_refus
 ghost use Rattle.ks_fixdep.specs.declared.command_file.Dep.TheVariants.{File, Config};
 ghost use Rattle.ks_fixdep.specs.declared.dep_error.DepError.TheVariants as errors;
 ghost use Rattle.ks_symbols.specs.declared.dialect.Dialect.TheVariants as dialect;
-ghost use Rattle.ks_fixdep.specs.declared.dialect.Rules.TheVariants as rules;
+ghost use Rattle.ks_fixdep.specs.declared.dialect.ScanRules.TheVariants as rules;
 ghost use Rattle.ks_fixdep.specs.declared.dependency_file.Role.{Role};
 ghost use Rattle.ks_fixdep.specs.declared.dependency_file.Role.TheVariants as role;
 

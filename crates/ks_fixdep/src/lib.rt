@@ -1,7 +1,6 @@
 //! What an object was built from: the names in its sources, its dependency file, and the command file that records both.
 #![tactic(auto)]
 
-mod awaited;
 mod building;
 mod command_file;
 mod dep_error;
@@ -12,7 +11,8 @@ mod laws;
 mod listing;
 mod name_iter;
 mod object_names;
-mod open_word;
+mod partial_token;
+mod pending_macro_args;
 mod place_set;
 mod prefix_finder;
 mod rule;
@@ -22,9 +22,9 @@ mod scanner;
 mod seed;
 mod source_scan;
 mod source_table;
+mod symbol_patterns;
 mod tokens;
 mod word_scan;
-mod words;
 
 pub use building::{build, build_from};
 pub use command_file::{
@@ -36,7 +36,7 @@ pub use dep_error::DepError;
 pub use dependency_file::{
     BorrowedPrerequisites, Header, Prerequisites, Role, read_depfile, read_depfile_without,
 };
-pub use dialect::{Phase, Rules};
+pub use dialect::{Phase, ScanRules};
 pub use found_names::{BorrowedNames, FoundNames};
 pub use laws::{
     dialect_examples, ended_names_are_followed, linux_words_are_at_its_places, names_by_places,

@@ -10,15 +10,15 @@ ghost use Rattle.ks_fixdep.specs.Scan.{placed, taken};
 ghost use Rattle.ks_fixdep.specs.Stream.{kept, kept_name, lengthened, ended, borrowed_after, before_last_word};
 
 use crate::name_iter::NameIter;
-use crate::open_word::OpenWord;
+use crate::partial_token::PartialToken;
 use crate::runs::{leading_word, trailing_word};
 use std::marker::Model;
 
 /// A scan of a text that comes in pieces. It keeps the word that ends the text so far.
 #[derive(Drop)]
 pub struct Scanner {
-    word: OpenWord,
-    borrowed: OpenWord,
+    word: PartialToken,
+    borrowed: PartialToken,
 }
 
 impl Model for Scanner {
@@ -43,8 +43,8 @@ impl Scanner {
         ensures { result ≡ kept [] }
     {
         Scanner {
-            word: OpenWord::new(),
-            borrowed: OpenWord::new(),
+            word: PartialToken::new(),
+            borrowed: PartialToken::new(),
         }
     }
 

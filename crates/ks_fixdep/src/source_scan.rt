@@ -9,9 +9,9 @@ ghost use Rattle.ks_fixdep.specs.NameIter.{names_left};
 ghost use Rattle.ks_fixdep.specs.Scan.{bare_name};
 ghost use Rattle.ks_fixdep.specs.SourceScan.{found_of};
 ghost use Rattle.ks_fixdep.specs.Stream.{list_of};
-ghost use Rattle.ks_fixdep.specs.Words.{AreShort};
+ghost use Rattle.ks_fixdep.specs.SymbolPatterns.{AreShort};
 
-use crate::dialect::Rules;
+use crate::dialect::ScanRules;
 use crate::found_names::FoundNames;
 use crate::name_iter::NameIter;
 use crate::place_set::PlaceSet;
@@ -19,8 +19,8 @@ use crate::prefix_finder::PrefixFinder;
 use crate::scanner::Scanner;
 use crate::seed::Seed;
 use crate::source_table::SourceTable;
+use crate::symbol_patterns::SymbolPatterns;
 use crate::word_scan::WordScan;
-use crate::words::Words;
 use std::alloc::{AllocError, Global};
 
 /// The names of the sources that have ended, and of the one that is being read.
@@ -28,7 +28,7 @@ use std::alloc::{AllocError, Global};
 pub struct SourceScan {
     finder: PrefixFinder,
     scanner: Scanner,
-    words: WordScan,
+    symbol_patterns: WordScan,
     pub(crate) table: SourceTable,
 }
 
@@ -72,18 +72,18 @@ fn note_carried(table: &mut SourceTable, carried: Option<&[u8]>) -> Result<(), A
 impl SourceScan {
     ghost use Rattle.ks_fixdep.specs.SourceScan.{StandsAfter, StandsAfterAs};
     ghost use Rattle.ks_fixdep.specs.WordScan.{Known, Knows, at_start, known_after, word_ended};
-    ghost use Rattle.ks_fixdep.specs.declared.dialect.Rules.{Rules};
+    ghost use Rattle.ks_fixdep.specs.declared.dialect.ScanRules.{ScanRules};
 
     /// A scan that stands before the first source, with names that are sought by a seed. It takes no memory.
     pub fn with_seed(alloc: Global, seed: Seed) -> Self
         ensures stands { StandsAfter result [] }
-        ensures under_rules { (rules : Rules) → StandsAfterAs rules result [] }
+        ensures under_rules { (rules : ScanRules) → StandsAfterAs rules result [] }
         ensures found { found_of result ≡ [] }
     {
         SourceScan {
             finder: PrefixFinder::new(),
             scanner: Scanner::new(),
-            words: WordScan::new(),
+            symbol_patterns: WordScan::new(),
             table: SourceTable::new(alloc, seed),
         }
     }
@@ -91,11 +91,11 @@ impl SourceScan {
     /// Begins the next source, and forgets what was read of one that was broken off.
     pub fn begin_source(&mut self)
         ensures stands { StandsAfter self.new [] }
-        ensures under_rules { (rules : Rules) → StandsAfterAs rules self.new [] }
+        ensures under_rules { (rules : ScanRules) → StandsAfterAs rules self.new [] }
         ensures found { found_of self.new ≡ found_of self.old }
     {
         self.scanner = Scanner::new();
-        self.words = WordScan::new();
+        self.symbol_patterns = WordScan::new();
         self.table.restart();
     }
 
@@ -127,49 +127,55 @@ impl SourceScan {
     }
 
     /// Takes the next piece of a source that is scanned by its words.
-    fn feed_words(&mut self, words: &Words<'_>, piece: &[u8]) -> Result<(), AllocError>
-        requires { AreShort words.now }
-        ensures knows { (k : Known) → Knows self.old.words self.old.table k → OnOk result (Knows self.new.words self.new.table (known_after words.now k piece.now)) }
+    fn feed_words(
+        &mut self,
+        symbol_patterns: &SymbolPatterns<'_>,
+        piece: &[u8],
+    ) -> Result<(), AllocError>
+        requires { AreShort symbol_patterns.now }
+        ensures knows { (k : Known) → Knows self.old.symbol_patterns self.old.table k → OnOk result (Knows self.new.symbol_patterns self.new.table (known_after symbol_patterns.now k piece.now)) }
         ensures found { found_of self.new ≡ found_of self.old }
     {
-        self.words.feed(words, piece, &mut self.table)
+        self.symbol_patterns
+            .feed(symbol_patterns, piece, &mut self.table)
     }
 
     /// Ends a source that is scanned by its words.
-    fn end_words(&mut self, words: &Words<'_>) -> Result<(), AllocError>
-        requires { AreShort words.now }
-        ensures knows { OnOk result (Knows self.new.words self.new.table at_start) }
-        ensures found { (k : Known) → Knows self.old.words self.old.table k → OnOk result (found_of self.new ≡ found_of self.old ++ all_noted [] (word_ended words.now k).names ∷ []) }
+    fn end_words(&mut self, symbol_patterns: &SymbolPatterns<'_>) -> Result<(), AllocError>
+        requires { AreShort symbol_patterns.now }
+        ensures knows { OnOk result (Knows self.new.symbol_patterns self.new.table at_start) }
+        ensures found { (k : Known) → Knows self.old.symbol_patterns self.old.table k → OnOk result (found_of self.new ≡ found_of self.old ++ all_noted [] (word_ended symbol_patterns.now k).names ∷ []) }
         ensures err { OnErr result (found_of self.new ≡ found_of self.old) }
     {
-        self.words.finish(words, &mut self.table)?;
+        self.symbol_patterns
+            .finish(symbol_patterns, &mut self.table)?;
         self.table.end_source()
     }
 
     /// `feed` under the rules of an object. The pieces of one source are all fed under the same.
-    pub fn feed_as(&mut self, rules: Rules, piece: &[u8]) -> Result<(), AllocError>
+    pub fn feed_as(&mut self, rules: ScanRules, piece: &[u8]) -> Result<(), AllocError>
         ensures stands { (t : List ℕ) → StandsAfterAs rules self.old t → OnOk result (StandsAfterAs rules self.new (t ++ piece.now)) }
         ensures found { found_of self.new ≡ found_of self.old }
     {
         match rules {
-            Rules::Linux => self.feed(piece),
-            Rules::UBoot(_) => self.feed_words(&rules.words(), piece),
-            Rules::BusyBox => self.feed_words(&rules.words(), piece),
-            Rules::Coreboot => self.feed_words(&rules.words(), piece),
+            ScanRules::Linux => self.feed(piece),
+            ScanRules::UBoot(_) => self.feed_words(&rules.symbol_patterns(), piece),
+            ScanRules::BusyBox => self.feed_words(&rules.symbol_patterns(), piece),
+            ScanRules::Coreboot => self.feed_words(&rules.symbol_patterns(), piece),
         }
     }
 
     /// `end_source` under the rules by which the source was fed.
-    pub fn end_source_as(&mut self, rules: Rules) -> Result<(), AllocError>
+    pub fn end_source_as(&mut self, rules: ScanRules) -> Result<(), AllocError>
         ensures stands { (t : List ℕ) → StandsAfterAs rules self.old t → OnOk result (StandsAfterAs rules self.new []) }
         ensures found { (t : List ℕ) → StandsAfterAs rules self.old t → OnOk result (found_of self.new ≡ found_of self.old ++ names_in_as rules t ∷ []) }
         ensures err { OnErr result (found_of self.new ≡ found_of self.old) }
     {
         match rules {
-            Rules::Linux => self.end_source(),
-            Rules::UBoot(_) => self.end_words(&rules.words()),
-            Rules::BusyBox => self.end_words(&rules.words()),
-            Rules::Coreboot => self.end_words(&rules.words()),
+            ScanRules::Linux => self.end_source(),
+            ScanRules::UBoot(_) => self.end_words(&rules.symbol_patterns()),
+            ScanRules::BusyBox => self.end_words(&rules.symbol_patterns()),
+            ScanRules::Coreboot => self.end_words(&rules.symbol_patterns()),
         }
     }
 

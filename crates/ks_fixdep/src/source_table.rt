@@ -5,7 +5,7 @@ ghost use Rattle.std.specs.Prelude.{◌≡◌, ◌++◌, ◌∷◌, [], ℕ, IfS
 ghost use Rattle.std.specs.List.{list_any};
 ghost use Rattle.std.specs.Option.{option_copied, option_map};
 ghost use Rattle.ks_symbols.specs.Names.{is_name};
-ghost use Rattle.ks_fixdep.specs.Words.{legal, of_module};
+ghost use Rattle.ks_fixdep.specs.SymbolPatterns.{legal, of_module};
 ghost use Rattle.ks_fixdep.specs.FoundNames.{all_noted, noted};
 ghost use Rattle.ks_fixdep.specs.SourceTable.{names_at};
 
@@ -127,11 +127,11 @@ impl SourceTable {
     }
 
     /// Notes what two parts are together, and before it the tristate of which that is the macro as a module, where these are names.
-    pub(crate) fn note_joined(&mut self, front: &[u8], rest: &[u8]) -> Result<(), AllocError>
+    pub(crate) fn note_joined(&mut self, prefix: &[u8], rest: &[u8]) -> Result<(), AllocError>
         ensures found { self.new.found ≡ self.old.found }
-        ensures current { OnOk result (self.new.current ≡ all_noted self.old.current (of_module (front.now ++ rest.now) ++ legal (front.now ++ rest.now))) }
+        ensures current { OnOk result (self.new.current ≡ all_noted self.old.current (of_module (prefix.now ++ rest.now) ++ legal (prefix.now ++ rest.now))) }
     {
-        let mut name = Vec::from_slice(self.alloc, front)?;
+        let mut name = Vec::from_slice(self.alloc, prefix)?;
         name.extend_from_slice(rest)?;
         self.note_module(&name)?;
         self.note_legal(&name)

@@ -5,121 +5,139 @@ ghost use Rattle.std.specs.Prelude.{◌≡◌, ◌<◌, ◌≤◌, ◌++◌, Som
 ghost use Rattle.ks_symbols.specs.Names.{is_word_byte};
 ghost use Rattle.ks_fixdep.specs.FoundNames.{all_noted};
 ghost use Rattle.ks_fixdep.specs.WordScan.{Known, Knows, known_after, next, word_ended};
-ghost use Rattle.ks_fixdep.specs.Words.{AreShort, argument_names, arguments_of, named_by, nothing, own_names, seen_form, seen_macro, word_names};
+ghost use Rattle.ks_fixdep.specs.SymbolPatterns.{AreShort, argument_names, arguments_of, named_by, nothing, own_names, seen_pattern, seen_macro, word_names};
 
-use crate::awaited::Awaited;
-use crate::open_word::OpenWord;
+use crate::partial_token::PartialToken;
+use crate::pending_macro_args::PendingMacroArgs;
 use crate::runs::{leading_word, without_module};
 use crate::source_table::SourceTable;
-use crate::words::{Form, Words, arguments_of};
+use crate::symbol_patterns::{Pattern, SymbolPatterns, arguments_of};
 use std::alloc::AllocError;
 
 /// What is known after the pieces so far.
 #[derive(Drop)]
 pub(crate) struct WordScan {
-    word: OpenWord,
-    awaited: Awaited,
+    word: PartialToken,
+    pending: PendingMacroArgs,
 }
 
 /// What a word names by a form, were it a legal name.
-#[tactic(auto, unfolding(crate::specs::Words::named_by))]
-fn note_form(form: &Form<'_>, word: &[u8], table: &mut SourceTable) -> Result<(), AllocError>
+#[tactic(auto, unfolding(crate::specs::SymbolPatterns::named_by))]
+fn note_pattern(
+    pattern: &Pattern<'_>,
+    word: &[u8],
+    table: &mut SourceTable,
+) -> Result<(), AllocError>
     ensures found { table.new.found ≡ table.old.found }
-    ensures current { OnOk result (table.new.current ≡ all_noted table.old.current (named_by (seen_form form.now) word.now)) }
+    ensures current { OnOk result (table.new.current ≡ all_noted table.old.current (named_by (seen_pattern pattern.now) word.now)) }
 {
-    let Some(rest) = word.strip_prefix(form.begin) else {
+    let Some(rest) = word.strip_prefix(pattern.begin) else {
         return Ok(());
     };
-    let Some(name) = rest.strip_suffix(form.end) else {
+    let Some(name) = rest.strip_suffix(pattern.end) else {
         return Ok(());
     };
-    if form.has_modules {
+    if pattern.has_modules {
         return table.note_legal(without_module(name));
     }
     table.note_legal(name)
 }
 
 /// Notes what a word names by itself, by each form.
-fn note_forms(forms: &[Form<'_>], word: &[u8], table: &mut SourceTable) -> Result<(), AllocError>
+fn note_patterns(
+    patterns: &[Pattern<'_>],
+    word: &[u8],
+    table: &mut SourceTable,
+) -> Result<(), AllocError>
     ensures found { table.new.found ≡ table.old.found }
-    ensures current { OnOk result (table.new.current ≡ all_noted table.old.current (flat_map (λ form. named_by form word.now) (map seen_form forms.now))) }
+    ensures current { OnOk result (table.new.current ≡ all_noted table.old.current (flat_map (λ pattern. named_by pattern word.now) (map seen_pattern patterns.now))) }
 {
-    for form in forms {
-        note_form(form, word, table)?;
+    for pattern in patterns {
+        note_pattern(pattern, word, table)?;
     }
     Ok(())
 }
 
 /// Notes the symbol that a word names as an argument, if it is one.
 fn note_argument(
-    words: &Words<'_>,
+    symbol_patterns: &SymbolPatterns<'_>,
     is_argument: bool,
     word: &[u8],
     table: &mut SourceTable,
 ) -> Result<(), AllocError>
     ensures found { table.new.found ≡ table.old.found }
-    ensures current { OnOk result (table.new.current ≡ all_noted table.old.current (argument_names words.now.front is_argument word.now)) }
+    ensures current { OnOk result (table.new.current ≡ all_noted table.old.current (argument_names symbol_patterns.now.prefix is_argument word.now)) }
 {
     if is_argument {
-        return table.note_joined(words.front, word);
+        return table.note_joined(symbol_patterns.prefix, word);
     }
     Ok(())
 }
 
 /// Notes what a word names by itself.
-fn note_own(words: &Words<'_>, word: &[u8], table: &mut SourceTable) -> Result<(), AllocError>
+fn note_own(
+    symbol_patterns: &SymbolPatterns<'_>,
+    word: &[u8],
+    table: &mut SourceTable,
+) -> Result<(), AllocError>
     ensures found { table.new.found ≡ table.old.found }
-    ensures current { OnOk result (table.new.current ≡ all_noted table.old.current (own_names words.now word.now)) }
+    ensures current { OnOk result (table.new.current ≡ all_noted table.old.current (own_names symbol_patterns.now word.now)) }
 {
-    if arguments_of(words.macros, word) == 0 {
-        return note_forms(words.forms, word, table);
+    if arguments_of(symbol_patterns.macros, word) == 0 {
+        return note_patterns(symbol_patterns.patterns, word, table);
     }
     Ok(())
 }
 
 /// Notes the names of a word.
 fn note_word(
-    words: &Words<'_>,
-    awaited: Awaited,
+    symbol_patterns: &SymbolPatterns<'_>,
+    pending: PendingMacroArgs,
     word: &[u8],
     table: &mut SourceTable,
 ) -> Result<(), AllocError>
     ensures found { table.new.found ≡ table.old.found }
-    ensures current { OnOk result (table.new.current ≡ all_noted table.old.current (word_names words.now awaited word.now)) }
+    ensures current { OnOk result (table.new.current ≡ all_noted table.old.current (word_names symbol_patterns.now pending word.now)) }
 {
-    note_argument(words, awaited.at_word > 0, word, table)?;
-    note_own(words, word, table)
+    note_argument(symbol_patterns, pending.args_at_word > 0, word, table)?;
+    note_own(symbol_patterns, word, table)
 }
 
 impl WordScan {
     /// A scan that stands before a text.
     pub(crate) fn new() -> Self
         ensures word { result.word ≡ Some [] }
-        ensures awaited { result.awaited ≡ nothing }
+        ensures pending { result.pending ≡ nothing }
     {
         WordScan {
-            word: OpenWord::new(),
-            awaited: Awaited::nothing(),
+            word: PartialToken::new(),
+            pending: PendingMacroArgs::nothing(),
         }
     }
 
     /// Ends the word that stands open, if there is one.
-    fn end_word(&mut self, words: &Words<'_>, table: &mut SourceTable) -> Result<(), AllocError>
-        requires { AreShort words.now }
+    fn end_word(
+        &mut self,
+        symbol_patterns: &SymbolPatterns<'_>,
+        table: &mut SourceTable,
+    ) -> Result<(), AllocError>
+        requires { AreShort symbol_patterns.now }
         ensures found { table.new.found ≡ table.old.found }
-        ensures knows { (k : Known) → Knows self.old table.old k → OnOk result (Knows self.new table.new (word_ended words.now k)) }
+        ensures knows { (k : Known) → Knows self.old table.old k → OnOk result (Knows self.new table.new (word_ended symbol_patterns.now k)) }
     {
         let Some(word) = self.word.bytes() else {
             // too long for a name, and for a macro
-            self.awaited = self.awaited.following(0);
+            self.pending = self.pending.following(0);
             self.word.clear();
             return Ok(());
         };
         if word.is_empty() {
             return Ok(());
         }
-        note_word(words, self.awaited, word, table)?;
-        self.awaited = self.awaited.following(arguments_of(words.macros, word));
+        note_word(symbol_patterns, self.pending, word, table)?;
+        self.pending = self
+            .pending
+            .following(arguments_of(symbol_patterns.macros, word));
         self.word.clear();
         Ok(())
     }
@@ -127,56 +145,56 @@ impl WordScan {
     /// Takes a byte that is no word byte.
     fn pass(
         &mut self,
-        words: &Words<'_>,
+        symbol_patterns: &SymbolPatterns<'_>,
         byte: u8,
         table: &mut SourceTable,
     ) -> Result<(), AllocError>
         requires byte { is_word_byte byte ≡ false }
-        requires short { AreShort words.now }
+        requires short { AreShort symbol_patterns.now }
         ensures found { table.new.found ≡ table.old.found }
-        ensures knows { (k : Known) → Knows self.old table.old k → OnOk result (Knows self.new table.new (next words.now k byte)) }
+        ensures knows { (k : Known) → Knows self.old table.old k → OnOk result (Knows self.new table.new (next symbol_patterns.now k byte)) }
     {
-        self.end_word(words, table)?;
-        self.awaited = self.awaited.passed(byte);
+        self.end_word(symbol_patterns, table)?;
+        self.pending = self.pending.passed(byte);
         Ok(())
     }
 
     /// Takes the word that a rest of a piece begins with, and the byte after it. It tells how many bytes these are.
     fn take_word(
         &mut self,
-        words: &Words<'_>,
+        symbol_patterns: &SymbolPatterns<'_>,
         rest: &[u8],
         table: &mut SourceTable,
     ) -> Result<usize, AllocError>
         requires some { 0 < length rest.now }
-        requires short { AreShort words.now }
+        requires short { AreShort symbol_patterns.now }
         ensures taken { IfOk result (λ n. (0 < n) × (n ≤ length rest.now)) }
         ensures found { table.new.found ≡ table.old.found }
-        ensures knows { (k : Known) → Knows self.old table.old k → IfOk result (λ n. Knows self.new table.new (known_after words.now k (take n rest.now))) }
+        ensures knows { (k : Known) → Knows self.old table.old k → IfOk result (λ n. Knows self.new table.new (known_after symbol_patterns.now k (take n rest.now))) }
     {
         let head = leading_word(rest);
         self.word.push(head);
         if head.len() == rest.len() {
             return Ok(head.len());
         }
-        self.pass(words, rest[head.len()], table)?;
+        self.pass(symbol_patterns, rest[head.len()], table)?;
         Ok(head.len() + 1)
     }
 
     /// Takes the next piece of a text, and notes the names that it completes.
     pub(crate) fn feed(
         &mut self,
-        words: &Words<'_>,
+        symbol_patterns: &SymbolPatterns<'_>,
         piece: &[u8],
         table: &mut SourceTable,
     ) -> Result<(), AllocError>
-        requires { AreShort words.now }
+        requires { AreShort symbol_patterns.now }
         ensures found { table.new.found ≡ table.old.found }
-        ensures knows { (k : Known) → Knows self.old table.old k → OnOk result (Knows self.new table.new (known_after words.now k piece.now)) }
+        ensures knows { (k : Known) → Knows self.old table.old k → OnOk result (Knows self.new table.new (known_after symbol_patterns.now k piece.now)) }
     {
         let mut place = 0;
         while place < piece.len() {
-            place += self.take_word(words, &piece[place..], table)?;
+            place += self.take_word(symbol_patterns, &piece[place..], table)?;
         }
         Ok(())
     }
@@ -184,16 +202,16 @@ impl WordScan {
     /// Ends the text, and notes the names of the word that ends it.
     pub(crate) fn finish(
         &mut self,
-        words: &Words<'_>,
+        symbol_patterns: &SymbolPatterns<'_>,
         table: &mut SourceTable,
     ) -> Result<(), AllocError>
-        requires { AreShort words.now }
+        requires { AreShort symbol_patterns.now }
         ensures found { table.new.found ≡ table.old.found }
-        ensures names { (k : Known) → Knows self.old table.old k → OnOk result (table.new.current ≡ all_noted [] (word_ended words.now k).names) }
+        ensures names { (k : Known) → Knows self.old table.old k → OnOk result (table.new.current ≡ all_noted [] (word_ended symbol_patterns.now k).names) }
         ensures word { OnOk result (self.new.word ≡ Some []) }
-        ensures awaited { OnOk result (self.new.awaited ≡ nothing) }
+        ensures pending { OnOk result (self.new.pending ≡ nothing) }
     {
-        self.end_word(words, table)?;
+        self.end_word(symbol_patterns, table)?;
         *self = WordScan::new();
         Ok(())
     }

@@ -1,5 +1,5 @@
 -- What remarks leave, read one after the other from the first on.
-use Rattle.ks_output.proofs.Prelude.{◌≡◌, ℕ, Bool, ◌≤◌, List, [], ◌∷◌, ◌++◌, length, reverse, get_or, Option, option_map, refl, ap, ◌∙◌, arith, filter_map, reverse_onto, cond-false, nat_tests, filter_map-append, Class, Texts, Remark, Gives, Numbers, Silent, seen_remark, remarks, is_typed, neighbours, class_by, given, number, texts_given, auto_generation, auto_fault, auto_refusal, rules, common_steps}
+use Rattle.ks_output.proofs.Prelude.{◌≡◌, ℕ, Bool, ◌≤◌, List, [], ◌∷◌, ◌++◌, length, reverse, get_or, Option, option_map, refl, ap, ◌∙◌, arith, filter_map, reverse_onto, cond-false, nat_tests, filter_map-append, Class, Texts, Remark, Gives, Numbers, CommentOrBlank, seen_remark, remarks, is_typed, neighbours, class_by, given, number, texts_given, auto_generation, auto_fault, auto_refusal, rules, common_steps}
 use Rattle.std.proofs.Common.{map as map_list}
 use Rattle.std.specs.FinMap as map
 use Rattle.ks_output.specs.declared.auto_conf.AutoError.TheVariants as fault
@@ -32,42 +32,42 @@ with_given typed m before r = m
 -- the map after remarks, when there were a map and a remark before
 unfoldable pub texts_after : Bool → Texts → Remark → List Remark → Texts
 texts_after typed m before [] = m
-texts_after typed m before (r ∷ said) = texts_after typed (with_given typed m before r) r said
+texts_after typed m before (r ∷ stated) = texts_after typed (with_given typed m before r) r stated
 
 given_one : (typed : Bool) (m : Texts) (before r : Remark) → put_all m (filter_map (given typed) ((before, r) ∷ [])) ≡ with_given typed m before r
 unfolding put_all with_given
 given_one typed m before r = grind arith
 
-after_all : (typed : Bool) (m : Texts) (before : Remark) (said : List Remark) → texts_after typed m before said
-    ≡ put_all m (filter_map (given typed) (reverse (neighbours before said)))
+after_all : (typed : Bool) (m : Texts) (before : Remark) (stated : List Remark) → texts_after typed m before stated
+    ≡ put_all m (filter_map (given typed) (reverse (neighbours before stated)))
 unfolding texts_after put_all neighbours
 after_all typed m before [] = refl
-after_all typed m before (r ∷ said) = search (rules, put_all, latest_last, put_all-append, given_one, (after_all typed (with_given typed m before r) r said))
+after_all typed m before (r ∷ stated) = search (rules, put_all, latest_last, put_all-append, given_one, (after_all typed (with_given typed m before r) r stated))
 
-pub texts_after-empty : (said : List Remark) → texts_after (is_typed said) map.empty Silent said ≡ texts_given said
+pub texts_after-empty : (stated : List Remark) → texts_after (is_typed stated) map.empty CommentOrBlank stated ≡ texts_given stated
 unfolding texts_given
-texts_after-empty said = after_all (is_typed said) map.empty Silent said ∙ put_all-empty (filter_map (given (is_typed said)) (reverse (neighbours Silent said)))
+texts_after-empty stated = after_all (is_typed stated) map.empty CommentOrBlank stated ∙ put_all-empty (filter_map (given (is_typed stated)) (reverse (neighbours CommentOrBlank stated)))
 
 -- of the remark before, the class alone counts
 with_given-class : (typed : Bool) (m : Texts) (a b r : Remark) → class_by typed a ≡ class_by typed b → with_given typed m a r ≡ with_given typed m b r
 unfolding with_given
 with_given-class typed m a b r e = grind arith
 
-pub texts_after-class : (typed : Bool) (m : Texts) (a b : Remark) (said : List Remark) → class_by typed a ≡ class_by typed b → texts_after typed m a said
-    ≡ texts_after typed m b said
+pub texts_after-class : (typed : Bool) (m : Texts) (a b : Remark) (stated : List Remark) → class_by typed a ≡ class_by typed b → texts_after typed m a stated
+    ≡ texts_after typed m b stated
 unfolding texts_after
 texts_after-class typed m a b [] e = refl
-texts_after-class typed m a b (r ∷ said) e = ap (λ n. texts_after typed n r said) (with_given-class typed m a b r e)
+texts_after-class typed m a b (r ∷ stated) e = ap (λ n. texts_after typed n r stated) (with_given-class typed m a b r e)
 
 -- before the mark and the first entry not even that
-at_front : (m : Texts) (a b r : Remark) (said : List Remark) → with_given (is_typed (r ∷ said)) m a r ≡ with_given (is_typed (r ∷ said)) m b r
+at_front : (m : Texts) (a b r : Remark) (stated : List Remark) → with_given (is_typed (r ∷ stated)) m a r ≡ with_given (is_typed (r ∷ stated)) m b r
 unfolding with_given is_typed
-at_front m a b r said = grind arith
+at_front m a b r stated = grind arith
 
-pub texts_after-front : (m : Texts) (a b : Remark) (said : List Remark) → texts_after (is_typed said) m a said ≡ texts_after (is_typed said) m b said
+pub texts_after-front : (m : Texts) (a b : Remark) (stated : List Remark) → texts_after (is_typed stated) m a stated ≡ texts_after (is_typed stated) m b stated
 unfolding texts_after
 texts_after-front m a b [] = refl
-texts_after-front m a b (r ∷ said) = ap (λ n. texts_after (is_typed (r ∷ said)) n r said) (at_front m a b r said)
+texts_after-front m a b (r ∷ stated) = ap (λ n. texts_after (is_typed (r ∷ stated)) n r stated) (at_front m a b r stated)
 
 first_of_two : (xs ys : List ℕ) (g : ℕ) → get_or (xs ++ ys) 0 g ≡ get_or xs 0 (get_or ys 0 g)
 first_of_two xs ys g = grind (arith, common_steps)
@@ -79,26 +79,26 @@ with_number g r = g
 -- the generation after remarks, when there was one before
 unfoldable pub number_after : ℕ → List Remark → ℕ
 number_after g [] = g
-number_after g (r ∷ said) = number_after (with_number g r) said
+number_after g (r ∷ stated) = number_after (with_number g r) stated
 
 number_one : (g : ℕ) (r : Remark) → get_or (filter_map number (r ∷ [])) 0 g ≡ with_number g r
 unfolding with_number
 number_one g r = grind arith
 
-number_is : (g : ℕ) (said : List Remark) → number_after g said ≡ get_or (filter_map number (reverse said)) 0 g
+number_is : (g : ℕ) (stated : List Remark) → number_after g stated ≡ get_or (filter_map number (reverse stated)) 0 g
 unfolding number_after
 number_is g [] = refl
-number_is g (r ∷ said) = search (rules, latest_last, first_of_two, number_one, (number_is (with_number g r) said))
+number_is g (r ∷ stated) = search (rules, latest_last, first_of_two, number_one, (number_is (with_number g r) stated))
 
 pub with_number-others : (g : ℕ) (r : auto_lines.Remark) → ((n : ℕ) → r ≡ seen.Numbers n → ⊥) → with_number g (seen_remark r) ≡ g
 unfolding with_number
 with_number-others g r ne = grind arith
 
 -- entries leave the number as it is
-pub passed_number : (g : ℕ) (entries : List (List ℕ × List ℕ)) (said : List Remark) → number_after g (map_list (λ e. Gives e.0 e.1) entries ++ said) ≡ number_after g said
+pub passed_number : (g : ℕ) (entries : List (List ℕ × List ℕ)) (stated : List Remark) → number_after g (map_list (λ e. Gives e.0 e.1) entries ++ stated) ≡ number_after g stated
 unfolding number_after with_number
-passed_number g [] said = refl
-passed_number g (e ∷ entries) said = passed_number g entries said
+passed_number g [] stated = refl
+passed_number g (e ∷ entries) stated = passed_number g entries stated
 
 pub number_after-zero : (text : List ℕ) → number_after 0 (remarks text) ≡ auto_generation text
 unfolding auto_generation

@@ -1,5 +1,5 @@
 -- What is written of a configuration reads back.
-use Rattle.ks_output.proofs.Prelude.{common_steps, take-append_seam, eq-eqb, byte_at_end, lt-ltb, drop-append_seam, order, first, second, ◌≡◌, ℕ, ◌+◌, ◌<◌, ◌^◌, Bool, true, arith, T, List, [], ◌∷◌, ◌++◌, drop, codes, decimal, Option, Some, None, option_map, refl, sym, ap, ◌∙◌, append_assoc, nat_list_cmp_total, find, is_sorted, slice_cmp-IsAntisymmetric, nat_cmp-IsAntisymmetric, cases_Bool, cond-true, cond-false, ne_eqb, and_parts, or_right, digits_decimal, lines-nil, Kind, Class, class_of, is_name, is_symbol_name, Assigns, is_title, IsConfiguration, IsEntry, Configuration, own, reads_back, statements_are_spelled, run_is, word_bytes, heading, class_line, entry_line, entry_lines, generation_line, auto_text, Remark, Gives, Marks, Types, Numbers, Silent, numbered, spelled_class, class_remark, said_by, remark, remarks, is_typed, class_by, auto_map, texts_given, heard, first_faulty, auto_fault, Texts, kept, TextsReadBack, GenerationReadsBack, HasNoFault, IsAccepted, rules, class_end}
+use Rattle.ks_output.proofs.Prelude.{common_steps, take-append_seam, eq-eqb, byte_at_end, lt-ltb, drop-append_seam, order, first, second, ◌≡◌, ℕ, ◌+◌, ◌<◌, ◌^◌, Bool, true, arith, T, List, [], ◌∷◌, ◌++◌, drop, codes, decimal, Option, Some, None, option_map, refl, sym, ap, ◌∙◌, append_assoc, nat_list_cmp_total, find, is_sorted, slice_cmp-IsAntisymmetric, nat_cmp-IsAntisymmetric, cases_Bool, cond-true, cond-false, ne_eqb, and_parts, or_right, digits_decimal, lines-nil, Kind, Class, class_of, is_name, is_symbol_name, Assigns, is_title, IsConfiguration, IsEntry, Configuration, own, reads_back, statements_are_spelled, run_is, word_bytes, heading, class_line, entry_line, entry_lines, generation_line, auto_text, Remark, Gives, Marks, Types, Numbers, CommentOrBlank, numbered, spelled_class, class_remark, stated_by, remark, remarks, is_typed, class_by, auto_map, texts_given, heard, first_faulty, auto_fault, Texts, kept, TextsReadBack, GenerationReadsBack, HasNoFault, IsAccepted, rules, class_end}
 use Rattle.std.proofs.Common.{map as map_list}
 use Rattle.std.specs.FinMap as map
 use Rattle.ks_symbols.specs.declared.kinds.Class.TheVariants as class
@@ -9,43 +9,43 @@ use Rattle.ks_output.proofs.Texts.{texts_are_of_entries}
 use Rattle.ks_output.proofs.WrittenLines.{is_plain, plain-append, plain_name, plain_digits, plain_title, plain_text, lines-plain, ends_with-plain}
 
 -- the remarks of a text by its first line
-next : (l rest : List ℕ) (r : Remark) → is_plain l ≡ true → said_by true l ≡ r → remarks (l ++ 10 ∷ rest) ≡ r ∷ remarks rest
+next : (l rest : List ℕ) (r : Remark) → is_plain l ≡ true → stated_by true l ≡ r → remarks (l ++ 10 ∷ rest) ≡ r ∷ remarks rest
 next l rest r h is = grind (arith, common_steps, lines-plain, ends_with-plain, lt-ltb, byte_at_end, cond-true, eq-eqb, take-append_seam)
 
-said_by_comment : (l : List ℕ) → said_by true (35 ∷ 32 ∷ l) ≡ Silent
-unfolding said_by
-said_by_comment l = search (rules, or_right)
+stated_by_comment : (l : List ℕ) → stated_by true (35 ∷ 32 ∷ l) ≡ CommentOrBlank
+unfolding stated_by
+stated_by_comment l = search (rules, or_right)
 
 heading_lines : (title rest : List ℕ) → heading title ++ rest ≡ (35 ∷ []) ++ 10
     ∷ (codes "# Automatically generated file; DO NOT EDIT." ++ 10 ∷ ((codes "# " ++ title) ++ 10 ∷ ((35 ∷ []) ++ 10 ∷ (codes "#typed" ++ 10 ∷ rest))))
 heading_lines title rest = search (rules, append_assoc)
 
 headed : List Remark → List Remark
-headed said = Silent ∷ Silent ∷ Silent ∷ Silent ∷ Marks ∷ said
+headed stated = CommentOrBlank ∷ CommentOrBlank ∷ CommentOrBlank ∷ CommentOrBlank ∷ Marks ∷ stated
 
 heading_remarks : (title rest : List ℕ) → is_title title ≡ true → remarks (heading title ++ rest) ≡ headed (remarks rest)
-unfolding headed said_by
+unfolding headed stated_by
 heading_remarks title rest h =
     let mark = codes "#typed" ++ 10 ∷ rest in
     let last = (35 ∷ []) ++ 10 ∷ mark in
     let comment = codes "# Automatically generated file; DO NOT EDIT." in
     let titled = (codes "# " ++ title) ++ 10 ∷ last in
-    ap remarks (heading_lines title rest) ∙ next (35 ∷ []) (comment ++ 10 ∷ titled) Silent refl refl
-    ∙ ap (λ q. Silent ∷ q) (next comment titled Silent refl (said_by_comment (codes "Automatically generated file; DO NOT EDIT."))
-    ∙ ap (λ q. Silent ∷ q) (next (codes "# " ++ title) last Silent (plain-append (codes "# ") title refl (plain_title title h)) (said_by_comment title)
-    ∙ ap (λ q. Silent ∷ q) (next (35 ∷ []) mark Silent refl refl ∙ ap (λ q. Silent ∷ q) (next (codes "#typed") rest Marks refl refl))))
+    ap remarks (heading_lines title rest) ∙ next (35 ∷ []) (comment ++ 10 ∷ titled) CommentOrBlank refl refl
+    ∙ ap (λ q. CommentOrBlank ∷ q) (next comment titled CommentOrBlank refl (stated_by_comment (codes "Automatically generated file; DO NOT EDIT."))
+    ∙ ap (λ q. CommentOrBlank ∷ q) (next (codes "# " ++ title) last CommentOrBlank (plain-append (codes "# ") title refl (plain_title title h)) (stated_by_comment title)
+    ∙ ap (λ q. CommentOrBlank ∷ q) (next (35 ∷ []) mark CommentOrBlank refl refl ∙ ap (λ q. CommentOrBlank ∷ q) (next (codes "#typed") rest Marks refl refl))))
 
 -- the lines of the entries
-pub said_by_entry : (ended : Bool) (name text : List ℕ) → is_name name ≡ true → said_by ended (codes "CONFIG_" ++ name ++ codes "=" ++ text) ≡ Gives name text
-unfolding said_by
-said_by_entry ended name text h =
-    let told = (statements_are_spelled (codes "CONFIG_" ++ name ++ codes "=" ++ text) (Assigns name text)).1 (h, refl) in
-    search (rules, ne_eqb, told)
+pub stated_by_entry : (ended : Bool) (name text : List ℕ) → is_name name ≡ true → stated_by ended (codes "CONFIG_" ++ name ++ codes "=" ++ text) ≡ Gives name text
+unfolding stated_by
+stated_by_entry ended name text h =
+    let known = (statements_are_spelled (codes "CONFIG_" ++ name ++ codes "=" ++ text) (Assigns name text)).1 (h, refl) in
+    search (rules, ne_eqb, known)
 
 pub entry_remark : (name text rest : List ℕ) → is_name name ≡ true → is_plain text ≡ true → remarks (entry_line name text ++ rest) ≡ Gives name text ∷ remarks rest
 entry_remark name text rest h p =
     ap remarks (append_assoc (codes "CONFIG_" ++ name ++ codes "=" ++ text) (10 ∷ []) rest)
-    ∙ next (codes "CONFIG_" ++ name ++ codes "=" ++ text) rest (Gives name text) (search (rules, plain-append, plain_name)) (said_by_entry true name text h)
+    ∙ next (codes "CONFIG_" ++ name ++ codes "=" ++ text) rest (Gives name text) (search (rules, plain-append, plain_name)) (stated_by_entry true name text h)
 
 -- the remark, if there is one, that says the class of an entry
 types : List ℕ → Class → List Remark
@@ -54,7 +54,7 @@ types name k = Types name k ∷ []
 
 types_one : (name end rest : List ℕ) (k : Class) → is_name name ≡ true → is_plain (32 ∷ end) ≡ true → spelled_class (32 ∷ end) ≡ Some k
     → remarks ((codes "#type " ++ name ++ (32 ∷ end) ++ codes "\n") ++ rest) ≡ Types name k ∷ remarks rest
-unfolding said_by class_remark
+unfolding stated_by class_remark
 types_one name end rest k h p is =
     let line = codes "#type " ++ name ++ 32 ∷ end in
     ap remarks (append_assoc line (10 ∷ []) rest)
@@ -79,7 +79,7 @@ entries_remarks [] rest h = refl
 entries_remarks (e ∷ es) rest h = search (rules, append_assoc, class_remarks, types, entry_remark, gives_all, (entries_remarks es rest h.1))
 
 generation_remark : (g : ℕ) → g < 2 ^ 64 → remarks (generation_line g) ≡ Numbers g ∷ []
-unfolding said_by
+unfolding stated_by
 generation_remark g h =
     let plain = plain-append (codes "#generation ") (decimal g) refl (plain_digits (decimal g) (digits_decimal own g h)) in
     next (codes "#generation " ++ decimal g) [] (Numbers g) plain (ap (numbered true) (reads_back g h))
@@ -150,9 +150,9 @@ texts_given_at (e ∷ es) m before g x h b =
     let low = find_below e.0 es (first _ _ h) in
     search (rules, low, append_assoc, entry_text, second, (texts_given_at es), map.get-insert, nat_list_cmp_total, cases_Bool, cond-true, cond-false, tied)
 
-headed_texts : (said : List Remark) → texts_given (headed said) ≡ texts_after true map.empty Marks said
+headed_texts : (stated : List Remark) → texts_given (headed stated) ≡ texts_after true map.empty Marks stated
 unfolding headed is_typed with_given texts_after
-headed_texts said = sym (texts_after-empty (headed said))
+headed_texts stated = sym (texts_after-empty (headed stated))
 
 texts_at : (title : List ℕ) (settings : Configuration) (g : ℕ) → is_title title ≡ true → IsConfiguration settings → g < 2 ^ 64
     → (x : List ℕ) → map.get (auto_map (auto_text title settings g)) x ≡ option_map kept (map.get settings x)

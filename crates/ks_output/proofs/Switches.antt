@@ -8,8 +8,8 @@ use Rattle.ks_output.proofs.WrittenLines.{is_plain}
 -- of one byte
 entry_ahead : (text name written : List ℕ) (b : ℕ) → statement text ≡ Some (Assigns name written) → is_plain (b ∷ []) ≡ true
     → starts_with nat_eq written (b ∷ 10 ∷ []) ≡ true → remarks text ≡ Gives name (take 1 written) ∷ remarks (drop 2 written)
-entry_ahead text name written b said plain begins =
-    let (legal, spelled) = (statements_are_spelled text (Assigns name written)).0 said in
+entry_ahead text name written b stated plain begins =
+    let (legal, spelled) = (statements_are_spelled text (Assigns name written)).0 stated in
     let rest = drop 2 written in
     let split = opened written (b ∷ 10 ∷ []) begins in
     let grouped : codes "CONFIG_" ++ name ++ codes "=" ++ ((b ∷ 10 ∷ []) ++ rest) ≡ entry_line name (b ∷ []) ++ rest = search (rules, append_assoc) in
@@ -19,7 +19,7 @@ entry_ahead text name written b said plain begins =
 pub switch_ahead : (text name written : List ℕ) → statement text ≡ Some (Assigns name written)
     → starts_with nat_eq written (codes "y\n") || starts_with nat_eq written (codes "m\n") ≡ true
     → remarks text ≡ Gives name (take 1 written) ∷ remarks (take (length written - 2) (drop 2 written))
-switch_ahead text name written said begins =
+switch_ahead text name written stated begins =
     let rest = sym (take_rest written 2) in
     subst (λ r. remarks text ≡ Gives name (take 1 written) ∷ remarks r) rest
-    (⊎_elim (entry_ahead text name written 121 said refl) (entry_ahead text name written 109 said refl) (or_cases _ _ begins))
+    (⊎_elim (entry_ahead text name written 121 stated refl) (entry_ahead text name written 109 stated refl) (or_cases _ _ begins))

@@ -48,8 +48,8 @@ pub plain_title : (title : List ℕ) → is_title title ≡ true → is_plain ti
 unfolding is_title
 plain_title title e = search (rules, plain_from, and_parts)
 
-literal : (text said : List ℕ) → is_plain said ≡ true → bytes_eq text said ≡ true → is_plain text ≡ true
-literal text said h e = ap is_plain ((bytes_decides text said).0 e) ∙ h
+literal : (text stated : List ℕ) → is_plain stated ≡ true → bytes_eq text stated ≡ true → is_plain text ≡ true
+literal text stated h e = ap is_plain ((bytes_decides text stated).0 e) ∙ h
 
 plain_hexadecimal : (text : List ℕ) → is_hexadecimal text ≡ true → is_plain text ≡ true
 plain_hexadecimal text e = search (rules, cond-true, plain-append, opened, or_cases, cond-false, cases_Bool, plain_from, and_parts)

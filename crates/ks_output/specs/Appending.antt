@@ -7,5 +7,5 @@ abbrev pub Keeps : List ℕ → List ℕ → Type 0
 Keeps old new = take (length old) new ≡ old
 
 -- room for the definitions of entries: at most 25 bytes beside a name and its text, but for escapes
-abbrev pub definitions_room : List (List ℕ × (Kind × List ℕ)) → ℕ
-definitions_room entries = sum_by (λ e. length e.0 + length e.1.1 + 25) entries
+abbrev pub definitions_capacity : List (List ℕ × (Kind × List ℕ)) → ℕ
+definitions_capacity entries = sum_by (λ e. length e.0 + length e.1.1 + 25) entries

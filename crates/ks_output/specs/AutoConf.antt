@@ -8,20 +8,20 @@ use Rattle.ks_symbols.specs.declared.kinds.Class.TheVariants as class
 use Rattle.ks_symbols.specs.Lines.{max_bytes}
 use Rattle.ks_output.specs.declared.auto_conf.AutoError.{AutoError}
 use Rattle.ks_output.specs.declared.auto_conf.AutoError.TheVariants as fault
-use Rattle.ks_output.specs.AutoLines.{Remark, Gives, Marks, Types, Mistypes, Numbers, Silent, Faulty, remarks}
+use Rattle.ks_output.specs.AutoLines.{Remark, Gives, Marks, Types, Mistypes, Numbers, CommentOrBlank, Faulty, remarks}
 use Rattle.ks_output.specs.OldConfig.{Texts}
 
 -- A file is typed where the mark stands before its first entry.
 unfoldable pub is_typed : List Remark → Bool
 is_typed [] = false
-is_typed (Marks ∷ said) = true
-is_typed (Gives name text ∷ said) = false
-is_typed (r ∷ said) = is_typed said
+is_typed (Marks ∷ stated) = true
+is_typed (Gives name text ∷ stated) = false
+is_typed (r ∷ stated) = is_typed stated
 
 -- each remark after the one of the line before it
 unfoldable pub neighbours : Remark → List Remark → List (Remark × Remark)
 neighbours before [] = []
-neighbours before (r ∷ said) = (before, r) ∷ neighbours r said
+neighbours before (r ∷ stated) = (before, r) ∷ neighbours r stated
 
 -- In a typed file the line right before an entry says its class, and where it says none the entry is a bool or tristate.
 abbrev pub class_by : Bool → Remark → Option Class
@@ -35,7 +35,7 @@ given typed pair = None
 
 -- The texts with their classes: of each name the last line counts.
 unfoldable pub texts_given : List Remark → Texts
-texts_given said = map.from_entries (filter_map (given (is_typed said)) (reverse (neighbours Silent said)))
+texts_given stated = map.from_entries (filter_map (given (is_typed stated)) (reverse (neighbours CommentOrBlank stated)))
 
 unfoldable pub auto_map : List ℕ → Texts
 auto_map text = texts_given (remarks text)
@@ -46,21 +46,21 @@ number r = None
 
 -- The generation: the last line counts, and none is 0.
 abbrev pub last_number : List Remark → ℕ
-last_number said = slice_index (filter_map number (reverse said)) 0
+last_number stated = slice_index (filter_map number (reverse stated)) 0
 
 unfoldable pub auto_generation : List ℕ → ℕ
 auto_generation text = last_number (remarks text)
 
 abbrev pub without_class : Remark → Remark
-without_class (Types name k) = Silent
-without_class Mistypes = Silent
+without_class (Types name k) = CommentOrBlank
+without_class Mistypes = CommentOrBlank
 without_class r = r
 
 -- Lines on classes say nothing in an untyped file, nor before the mark of a typed one.
 unfoldable pub heard : Bool → List Remark → List Remark
 heard typed [] = []
-heard typed (Marks ∷ said) = Marks ∷ (if typed then said else heard typed said)
-heard typed (r ∷ said) = without_class r ∷ heard typed said
+heard typed (Marks ∷ stated) = Marks ∷ (if typed then stated else heard typed stated)
+heard typed (r ∷ stated) = without_class r ∷ heard typed stated
 
 -- The line of a class stands right before an entry of its name.
 abbrev pub is_followed : List ℕ → List Remark → Bool
@@ -80,7 +80,7 @@ first_faulty n [] = None
 first_faulty n (r ∷ later) = if is_faulty r later then Some n else first_faulty (n + 1) later
 
 abbrev pub fault_in : List Remark → Option ℕ
-fault_in said = first_faulty 1 (heard (is_typed said) said)
+fault_in stated = first_faulty 1 (heard (is_typed stated) stated)
 
 unfoldable pub auto_fault : List ℕ → Option ℕ
 auto_fault text = fault_in (remarks text)

@@ -7,7 +7,7 @@ use Rattle.ks_symbols.specs.declared.kinds.Class.{Class}
 use Rattle.ks_symbols.specs.declared.kinds.Class.TheVariants as class
 use Rattle.ks_symbols.specs.Names.{is_word_byte, is_name}
 use Rattle.ks_symbols.specs.Decimal.{decimal_value}
-use Rattle.ks_symbols.specs.Statements.{Statement, Assigns, statement, is_silent}
+use Rattle.ks_symbols.specs.Statements.{Statement, Assigns, statement, is_comment_or_blank}
 use Rattle.ks_output.specs.AutoText.{class_end}
 use Rattle.ks_output.specs.declared.auto_lines.Remark as auto_lines
 use Rattle.ks_output.specs.declared.auto_lines.Remark.TheVariants as seen
@@ -24,7 +24,7 @@ pub data Remark : Type 0 where
   -- the generation
   Numbers : ℕ → Remark
   -- a comment or an empty line
-  Silent : Remark
+  CommentOrBlank : Remark
   -- none of these
   Faulty : Remark
 
@@ -35,7 +35,7 @@ seen_remark seen.Marks = Marks
 seen_remark (seen.Types name k) = Types name.now k
 seen_remark seen.Mistypes = Mistypes
 seen_remark (seen.Numbers g) = Numbers g
-seen_remark seen.Silent = Silent
+seen_remark seen.CommentOrBlank = CommentOrBlank
 seen_remark seen.Faulty = Faulty
 
 abbrev pub generation_mark : List ℕ
@@ -71,19 +71,19 @@ class_remark rest =
 -- a text is given as in a `.config`, but as it stands
 abbrev pub assigned : Option Statement → Remark
 assigned (Some (Assigns name text)) = Gives name text
-assigned said = Faulty
+assigned stated = Faulty
 
 -- what a line says, by what it is without its end and whether it had one
-unfoldable pub said_by : Bool → List ℕ → Remark
-said_by ended bare =
+unfoldable pub stated_by : Bool → List ℕ → Remark
+stated_by ended bare =
     if starts_with nat_eq bare generation_mark then numbered ended (decimal_value (drop 12 bare))
     else (if bytes_eq bare (codes "#typed") then Marks
     else (if starts_with nat_eq bare class_mark then class_remark (drop 6 bare)
-    else (if is_silent bare then Silent else assigned (statement bare))))
+    else (if is_comment_or_blank bare then CommentOrBlank else assigned (statement bare))))
 
 -- what a line says, which is given with its end
 abbrev pub remark : List ℕ → Remark
-remark line = said_by (ends_with nat_eq line (codes "\n")) (without_terminator line)
+remark line = stated_by (ends_with nat_eq line (codes "\n")) (without_terminator line)
 
 -- what the lines of a text say, in their order
 abbrev pub remarks : List ℕ → List Remark

@@ -5,7 +5,7 @@ use Rattle.ks_symbols.specs.declared.kinds.Kind.TheVariants as kind
 use Rattle.ks_symbols.specs.declared.kinds.Class.TheVariants as class
 use Rattle.ks_symbols.specs.Configuration.{Configuration}
 use Rattle.ks_output.specs.AutoText.{auto_text, entry_lines}
-use Rattle.ks_output.specs.AutoLines.{Gives, Marks, Types, Mistypes, Numbers, Silent, Faulty, remark}
+use Rattle.ks_output.specs.AutoLines.{Gives, Marks, Types, Mistypes, Numbers, CommentOrBlank, Faulty, remark}
 use Rattle.ks_output.specs.AutoConf.{fault_in}
 use Rattle.ks_output.specs.Header.{definition_line, header_text}
 use Rattle.ks_output.specs.Definitions.{defines}
@@ -49,26 +49,26 @@ LinesRead =
     × (remark (codes "CONFIG_S=n\n") ≡ Gives (codes "S") (codes "n"))
     × (remark (codes "CONFIG_S=") ≡ Gives (codes "S") [])
     × (remark (codes "CONFIG_../x=y\n") ≡ Faulty)
-    × (remark (codes "# CONFIG_S is not set\n") ≡ Silent)
+    × (remark (codes "# CONFIG_S is not set\n") ≡ CommentOrBlank)
     × (remark (codes "#generation 5\n") ≡ Numbers 5)
     × (remark (codes "#generation 05\n") ≡ Faulty)
     × (remark (codes "#generation 5") ≡ Faulty)
     × (remark (codes "#typed\n") ≡ Marks)
-    × (remark (codes "#typed \n") ≡ Silent)
+    × (remark (codes "#typed \n") ≡ CommentOrBlank)
     × (remark (codes "#type S string\n") ≡ Types (codes "S") class.Text)
     × (remark (codes "#type H hex") ≡ Types (codes "H") class.Hex)
     × (remark (codes "#type F flag\n") ≡ Types (codes "F") class.Flag)
     × (remark (codes "#type R raw\n") ≡ Types (codes "R") class.Raw)
     × (remark (codes "#type S bool\n") ≡ Mistypes)
     × (remark (codes "#type  string\n") ≡ Mistypes)
-    × (remark (codes "#type\n") ≡ Silent)
+    × (remark (codes "#type\n") ≡ CommentOrBlank)
 
 -- Lines on classes count after the mark alone, which counts before the first entry alone.
 abbrev pub FaultsFound : Type 0
 FaultsFound =
     (fault_in (Marks ∷ Types (codes "S") class.Text ∷ Gives (codes "S") (codes "y") ∷ []) ≡ None)
     × (fault_in (Marks ∷ Types (codes "S") class.Text ∷ Gives (codes "T") (codes "x") ∷ []) ≡ Some 2)
-    × (fault_in (Marks ∷ Types (codes "S") class.Text ∷ Silent ∷ Gives (codes "S") (codes "y") ∷ []) ≡ Some 2)
+    × (fault_in (Marks ∷ Types (codes "S") class.Text ∷ CommentOrBlank ∷ Gives (codes "S") (codes "y") ∷ []) ≡ Some 2)
     × (fault_in (Marks ∷ Gives (codes "S") (codes "y") ∷ Mistypes ∷ []) ≡ Some 3)
     × (fault_in (Types (codes "S") class.Text ∷ Marks ∷ Gives (codes "T") (codes "x") ∷ []) ≡ None)
     × (fault_in (Gives (codes "T") (codes "x") ∷ Marks ∷ Mistypes ∷ []) ≡ None)

@@ -57,19 +57,19 @@ blamed position n = n
 
 -- the first faulty line, where the lines that are left are counted from n on
 unfoldable pub fault_left : Position → ℕ → List Remark → Option ℕ
-fault_left Front n said = first_faulty n (heard (is_typed said) said)
-fault_left Untyped n said = first_faulty n (heard false said)
-fault_left Typed n said = first_faulty n said
-fault_left (Entry x k) n said = first_faulty (n - 1) (Types x k ∷ said)
+fault_left Front n stated = first_faulty n (heard (is_typed stated) stated)
+fault_left Untyped n stated = first_faulty n (heard false stated)
+fault_left Typed n stated = first_faulty n stated
+fault_left (Entry x k) n stated = first_faulty (n - 1) (Types x k ∷ stated)
 
 -- what the lines say that are left
-abbrev pub said_left : Lines → List Remark
-said_left l = map_list remark l.left
+abbrev pub stated_left : Lines → List Remark
+stated_left l = map_list remark l.left
 
 -- The lines are those of a text that are left: their first fault is the text's.
 pub record AreLeftOf (text : List ℕ) (l : Lines) : Type 0 where
   pub small : length text ≤ 67108864
-  pub fault : fault_left (seen_position l.position) l.number (said_left l) ≡ auto_fault text
+  pub fault : fault_left (seen_position l.position) l.number (stated_left l) ≡ auto_fault text
 
 -- Entries were passed over: all that was said before is what they say, and what is said after them.
 abbrev pub ArePassed : List Remark → List Remark → Type 0
@@ -77,12 +77,12 @@ ArePassed before after = (entries : List (List ℕ × List ℕ)) × (before ≡ 
 
 -- all lines of a text, or that it is too large
 abbrev pub BeginsAs : List ℕ → Result Lines AutoError → Type 0
-BeginsAs text (Ok l) = AreLeftOf text l × (seen_position l.position ≡ Front) × (said_left l ≡ remarks text)
+BeginsAs text (Ok l) = AreLeftOf text l × (seen_position l.position ≡ Front) × (stated_left l ≡ remarks text)
 BeginsAs text (Err e) = auto_refusal text ≡ Some e
 
 -- one line further on; at the end the text has no fault
-abbrev pub Judged : List ℕ → Lines → Result (Option (auto_lines.Remark × Option Class)) AutoError → Lines → Type 0
-Judged text old (Ok None) new = (said_left old ≡ []) × (auto_refusal text ≡ None)
-Judged text old (Ok (Some x)) new = AreLeftOf text new × (said_left old ≡ seen_remark x.0 ∷ said_left new)
+abbrev pub Evaluated : List ℕ → Lines → Result (Option (auto_lines.Remark × Option Class)) AutoError → Lines → Type 0
+Evaluated text old (Ok None) new = (stated_left old ≡ []) × (auto_refusal text ≡ None)
+Evaluated text old (Ok (Some x)) new = AreLeftOf text new × (stated_left old ≡ seen_remark x.0 ∷ stated_left new)
     × (Some (seen_position new.position) ≡ following (seen_position old.position) (seen_remark x.0)) × (x.1 ≡ class_at (seen_position old.position))
-Judged text old (Err e) new = auto_refusal text ≡ Some e
+Evaluated text old (Err e) new = auto_refusal text ≡ Some e

@@ -46,7 +46,7 @@ pub(crate) struct Lines<'a> {
 }
 
 impl<'a> Lines<'a> {
-    ghost use Rattle.ks_output.specs.Positions.{AreLeftOf, ArePassed, Judged, BeginsAs, said_left};
+    ghost use Rattle.ks_output.specs.Positions.{AreLeftOf, ArePassed, Evaluated, BeginsAs, stated_left};
 
     /// All lines of a text, unless it is too large.
     fn of(text: &'a [u8]) -> Result<Lines<'a>, AutoError>
@@ -67,7 +67,7 @@ impl<'a> Lines<'a> {
     /// the lines after them depend on.
     #[inline(always)]
     fn pass_switches(&mut self)
-        ensures passed { ArePassed (said_left self.old) (said_left self.new) }
+        ensures passed { ArePassed (stated_left self.old) (stated_left self.new) }
         ensures left { (text : List ℕ) → AreLeftOf text self.old → AreLeftOf text self.new }
     {
         let Position::Typed = self.position else {
@@ -83,7 +83,7 @@ impl<'a> Lines<'a> {
     /// Most lines of a typed file are a y or an m: they end right behind it, so no end is looked for.
     #[inline(always)]
     fn next_line(&mut self) -> Result<Option<(Remark<'a>, Option<Class>)>, AutoError>
-        ensures judged { (text : List ℕ) → AreLeftOf text self.old → Judged text self.old result self.new }
+        ensures evaluated { (text : List ℕ) → AreLeftOf text self.old → Evaluated text self.old result self.new }
         ensures memory { IsErrOf result AutoError.OutOfMemory → ⊥ }
     {
         if let Position::Typed = self.position
@@ -129,7 +129,7 @@ pub fn read_auto(alloc: Global, text: &[u8]) -> Result<OldConfig, AutoError>
             _ => {}
         }
     }
-    Ok(OldConfig::new(texts.close(alloc)?, generation))
+    Ok(OldConfig::new(texts.finish(alloc)?, generation))
 }
 
 /// The generation that an auto.conf has. Its lines are looked at as `read_auto` does, and no text is kept.

@@ -8,7 +8,7 @@ ghost use Rattle.bstr.specs.Text.{without_terminator};
 ghost use Rattle.ks_output.specs.AutoLines.{Gives, seen_remark, remark, remarks, class_remark, spelled_class};
 
 use ks_symbols::{
-    Class, Statement, is_silent, name_is_legal, parse_statement, read_decimal, split_word,
+    Class, Statement, is_comment_or_blank, name_is_legal, parse_statement, read_decimal, split_word,
 };
 
 /// What a line says.
@@ -25,7 +25,7 @@ pub(crate) enum Remark<'a> {
     /// The generation.
     Numbers(u64),
     /// A comment or an empty line.
-    Silent,
+    CommentOrBlank,
     /// None of these.
     Faulty,
 }
@@ -80,7 +80,7 @@ fn parse_class(text: &[u8]) -> Remark<'_>
 
 /// What a line says, which is given with its end.
 #[inline]
-#[tactic(auto, unfolding(crate::specs::AutoLines::said_by))]
+#[tactic(auto, unfolding(crate::specs::AutoLines::stated_by))]
 pub(crate) fn parse_remark(line: &[u8]) -> Remark<'_>
     ensures { seen_remark result ≡ remark line.now }
 {
@@ -94,8 +94,8 @@ pub(crate) fn parse_remark(line: &[u8]) -> Remark<'_>
         Remark::Marks
     } else if bare.starts_with(b"#type ") {
         parse_class(&bare[6..])
-    } else if is_silent(bare) {
-        Remark::Silent
+    } else if is_comment_or_blank(bare) {
+        Remark::CommentOrBlank
     } else {
         match parse_statement(bare) {
             Some(Statement::Assigns(name, text)) => Remark::Gives(name, text),

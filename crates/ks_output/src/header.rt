@@ -5,7 +5,7 @@
 //! BusyBox one of those that its conf writes. That the names rise is a rule of this project.
 ghost use Rattle.std.specs.Prelude.{◌≡◌, ◌≤◌, ◌++◌, OnOk, OnErr};
 ghost use Rattle.ks_symbols.specs.Values.{quoted};
-ghost use Rattle.ks_output.specs.Appending.{Keeps, definitions_room};
+ghost use Rattle.ks_output.specs.Appending.{Keeps, definitions_capacity};
 ghost use Rattle.std.specs.FinMap as map;
 ghost use Rattle.ks_output.specs.Header.{header_text, header_heading, definition_line, defined_as, front};
 
@@ -97,19 +97,19 @@ fn append_definition(
 }
 
 /// How many bytes the definitions of the entries take at most, but for what has to be escaped in them.
-fn definitions_room(settings: &Settings) -> usize
-    ensures { result ≤ definitions_room (map.entries settings.now.entries) }
+fn definitions_capacity(settings: &Settings) -> usize
+    ensures { result ≤ definitions_capacity (map.entries settings.now.entries) }
 {
-    let mut room: usize = 0;
+    let mut capacity: usize = 0;
     for (name, kind, text) in settings.entries() {
         let rest = match kind.class() {
             Class::Switch | Class::Flag => b"#define CONFIG__MODULE 1\n".len(),
             Class::Text | Class::Int | Class::Hex | Class::Raw => b"#define CONFIG_ \"\"\n".len()
                 + text.len(),
         };
-        room = room.saturating_add(name.len()).saturating_add(rest);
+        capacity = capacity.saturating_add(name.len()).saturating_add(rest);
     }
-    room
+    capacity
 }
 
 /// Appends the header, or a beginning of it. The room is made at once: a vector that grows leaves its smaller selves behind.
@@ -119,7 +119,7 @@ fn append_header(settings: &Settings, title: &[u8], out: &mut Vec<u8>) -> Result
     ensures kept { Keeps out.old.items out.new.items }
 {
     append_heading(title, out)?;
-    out.reserve_exact(definitions_room(settings))?;
+    out.reserve_exact(definitions_capacity(settings))?;
     for (name, kind, text) in settings.entries() {
         append_definition(name, kind, text, out)?;
     }

@@ -1,10 +1,10 @@
 -- A record goes by the files at the paths that it reads.
-use Rattle.ks_parallel.proofs.Prelude.{◌≡◌, ◌≢◌, ◌⊎◌, inl, inr, ⊎_elim, ℕ, List, [], ◌∷◌, true, false, Option, Some, None, Result, Ok, Err, sym, ◌∙◌, ap, refl, subst, map, cases_Bool, both_ways, or_left, or_right, or_cases, bytes_eq-Decides, is_in, is_name, IsTrue, DepError, Role, Rules, rules_for, Conventions, Files, content, kept_or, auto_path, command_path, command_temporary, stamp_path, temporary, EngineError, and_then, last_generation, words, there, listed_unless, scanned_all, record_plan_under, IsRecordedUnder, RuleLeaves, legal_names, RecordsGoByWhatTheyRead, RecordsWriteTwoPaths, DepfilesWriteTheirPaths, IsMadeStamp, is_stamp_of, rules}
+use Rattle.ks_parallel.proofs.Prelude.{◌≡◌, ◌≢◌, ◌⊎◌, inl, inr, ⊎_elim, ℕ, List, [], ◌∷◌, true, false, Option, Some, None, Result, Ok, Err, sym, ◌∙◌, ap, refl, subst, map, cases_Bool, both_ways, or_left, or_right, or_cases, bytes_eq-Decides, is_in, is_name, IsTrue, DepError, Role, ScanRules, rules_for, Conventions, Files, content, kept_or, auto_path, command_path, command_temporary, stamp_path, temporary, EngineError, and_then, last_generation, args, there, listed_unless, scanned_all, record_plan_under, IsRecordedUnder, RuleLeaves, legal_names, RecordsGoByWhatTheyRead, RecordsWriteTwoPaths, DepfilesWriteTheirPaths, IsMadeStamp, is_stamp_of, rules}
 use Rattle.ks_engine.specs.declared.recording.Recorded.{Recorded}
 use Rattle.ks_engine.specs.Recording.{listed_without}
 use Rattle.ks_parallel.proofs.Stamping.{is_stamp}
 
-same_scans : (r : Rules) (f g : Files) (ps : List (List ℕ × Role)) → ((q : List ℕ) → is_in (map (λ p. p.0) ps) q ≡ true → content g q ≡ content f q)
+same_scans : (r : ScanRules) (f g : Files) (ps : List (List ℕ × Role)) → ((q : List ℕ) → is_in (map (λ p. p.0) ps) q ≡ true → content g q ≡ content f q)
     → scanned_all r g ps ≡ scanned_all r f ps
 unfolding scanned_all
 same_scans r f g [] same = refl
@@ -29,7 +29,7 @@ unfolding record_plan_under
 records_go_by_what_they_read by f g d t c same =
     let depfile : content g d ≡ content f d = search (rules, or_left, bytes_eq-Decides) in
     let auto : content g auto_path ≡ content f auto_path = search (rules, or_left, or_right, bytes_eq-Decides) in
-    then_same (words d t c) _ _ (λ _ _.
+    then_same (args d t c) _ _ (λ _ _.
     rw (depfile, auto) (then_same (there d (content f d)) _ _ (λ text at.
     then_same (listed_without by.header text) _ _ (λ ps is.
     then_same (last_generation (content f auto_path)) _ _ (λ n _.

@@ -2,7 +2,7 @@
 use Rattle.ks_parallel.proofs.Prelude.{Bool, ◌≡◌, ⊎_elim, ℕ, List, [], ◌∷◌, Some, None, true, false, not, ◌&&◌, sym, ◌∙◌, ap, refl, subst, subst₂, bytes_eq, nat_eq, filter, cases_Bool, cond-false, false_from_ne_true, not_from_false, and_from, and_parts, or_from, or_cases, or_left, or_right, eqb-true, eqb-false, eq-eqb, bytes_eq-Decides, Files, content, command_path, Place, AutoConf, Header, Stamp, CommandFile, CommandTemporary, path_of, IsLegalPlace, HasNumber, paths_never_meet, History, LastRecord, IsHistory, Shows, own_history, last_record, IsCommandFile, view, after_all, own, all, EachOf, Jobs, is_own_job, is_others_job, AreApart, is_written_for, sees, without, target_of, SeesPlaces, AllPlacesAreSeen, ViewsShow, RecordEvent, with_records, IsOfJob, ShufflesAreShown, SideBySide, rules, Any-from_list_any, list_any-from_Any, ne_eqb, not_from_true, others_do_not_matter, ShufflesSayTheSame}
 use Rattle.ks_parallel.proofs.Each.{Each, each_own, each_all}
 use Rattle.ks_parallel.proofs.Apart.{seen_in_view, views_are_honest}
-use Rattle.ks_parallel.proofs.Parts.{Said, said, same_said, said_with, legal_without, none_left, own_without, MayFollow, legal_with, may_follow, own_with, alike, alike_file}
+use Rattle.ks_parallel.proofs.Parts.{Stated, stated, same_stated, stated_with, legal_without, none_left, own_without, MayFollow, legal_with, may_follow, own_with, alike, alike_file}
 
 -- ---- which paths are seen
 
@@ -46,21 +46,21 @@ recorded f k g h o shows same file r last =
     let s = alike h g o r same last in let was = shows.commands o s.0 s.1 in search (rules, alike_file)
 
 -- and all else
-carried : (f k : Files) (g h : History) → Shows f g → said g ≡ said h → AreBeside f k → IsHistory h
+carried : (f k : Files) (g h : History) → Shows f g → stated g ≡ stated h → AreBeside f k → IsHistory h
     → ((o : List ℕ) (r : LastRecord) → last_record h o ≡ Some r → (b : List ℕ) × (content k (command_path o) ≡ Some b) × IsCommandFile o r b) → Shows k h
 carried f k g h shows same files legal commands = record {
   history = legal;
-  auto = subst₂ (λ (w : Said) file. w.auto file) same (files AutoConf tt refl) shows.auto;
-  header = λ some. let was = shows.header (subst (λ (w : Said). w.synced) (sym same) some) in
-      (was.0, sym (files Header tt refl) ∙ was.1, subst (λ (w : Said). w.header was.0) same was.2);
-  stamps = λ x name. subst₂ HasNumber (files (Stamp x) name refl) (ap (λ (w : Said). w.stamp x) same) (shows.stamps x name);
+  auto = subst₂ (λ (w : Stated) file. w.auto file) same (files AutoConf tt refl) shows.auto;
+  header = λ some. let was = shows.header (subst (λ (w : Stated). w.synced) (sym same) some) in
+      (was.0, sym (files Header tt refl) ∙ was.1, subst (λ (w : Stated). w.header was.0) same was.2);
+  stamps = λ x name. subst₂ HasNumber (files (Stamp x) name refl) (ap (λ (w : Stated). w.stamp x) same) (shows.stamps x name);
   commands = commands;
 }
 
 pub views_show : ViewsShow
 views_show jobs seen i files h places shows =
     let p = is_others_job jobs i in
-    carried files (view (seen i) files) h (without p h) shows (sym (same_said p h)) (beside jobs seen places i files) (legal_without p h shows.history)
+    carried files (view (seen i) files) h (without p h) shows (sym (same_stated p h)) (beside jobs seen places i files) (legal_without p h shows.history)
     (λ o r last. ⊎_elim
     (λ out. let none = none_left p h o out in absurd cc)
     (λ kept. recorded files _ h _ o shows (own_without p h o kept) (at_command jobs seen places i files o kept) r last)
@@ -122,13 +122,13 @@ module _ (jobs : Jobs) (seen : ℕ → List ℕ → Bool) (files : Files) (h : H
 
   -- each record may follow the history
   each_follows : EachOf (λ i. MayFollow h) s
-  each_follows = each_all (λ i. MayFollow h) s (λ i. subst (λ (w : Said). Each (λ e. w.synced × w.header e.header) (own i s))
-      (same_said (is_others_job jobs i) h) (may_follow (without (is_others_job jobs i) h) (own i s) (shown i).history).1)
+  each_follows = each_all (λ i. MayFollow h) s (λ i. subst (λ (w : Stated). Each (λ e. w.synced × w.header e.header) (own i s))
+      (same_stated (is_others_job jobs i) h) (may_follow (without (is_others_job jobs i) h) (own i s) (shown i).history).1)
 
   pub joined : Shows files (with_records h (all s))
   joined =
       carried (view (seen 0) files) files (with_records (without (is_others_job jobs 0) h) (own 0 s)) (with_records h (all s)) (shown 0)
-      (said_with (without (is_others_job jobs 0) h) (own 0 s) ∙ same_said (is_others_job jobs 0) h ∙ sym (said_with h (all s)))
+      (stated_with (without (is_others_job jobs 0) h) (own 0 s) ∙ same_stated (is_others_job jobs 0) h ∙ sym (stated_with h (all s)))
       (λ q legal none. sym (beside jobs seen places 0 files q legal none))
       (legal_with h (all s) legal (all_follow s each_follows))
       (λ o. let i = viewer jobs o are in

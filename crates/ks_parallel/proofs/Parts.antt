@@ -5,7 +5,7 @@ use Rattle.ks_parallel.proofs.Each.{Each}
 -- ---- a history without the records of some objects
 
 -- what is said of a history by all but its records
-pub record Said : Type 1 where
+pub record Stated : Type 1 where
   pub before : Texts
   pub done : ℕ
   pub stamp : List ℕ → ℕ
@@ -13,31 +13,31 @@ pub record Said : Type 1 where
   pub header : List ℕ → Type 0
   pub auto : Option (List ℕ) → Type 0
 
-abbrev pub said : History → Said
-said h = record { before = before h; done = done h; stamp = stamp h; synced = WasSynced h; header = MayBeHeader h; auto = IsAuto h }
+abbrev pub stated : History → Stated
+stated h = record { before = before h; done = done h; stamp = stamp h; synced = WasSynced h; header = MayBeHeader h; auto = IsAuto h }
 
 module _ (p : List ℕ → Bool) where
-  pub same_said : (h : History) → said (without p h) ≡ said h
-  same_said (Begun texts generation stamps) = refl
-  same_said (Synced title config past) = ap (λ (w : Said). record (said (Synced title config past)) {
+  pub same_stated : (h : History) → stated (without p h) ≡ stated h
+  same_stated (Begun texts generation stamps) = refl
+  same_stated (Synced title config past) = ap (λ (w : Stated). record (stated (Synced title config past)) {
     done = w.done + 1;
     stamp = λ x. cond (differs w.before config x) (w.done + 1) (w.stamp x);
     auto = λ file. (file ≡ Some (auto_text title config (w.done + 1))) × (length (auto_text title config (w.done + 1)) ≤ max_bytes);
-  }) (same_said past)
-  same_said (Broken title config renewed past) = ap (λ (w : Said). record w {
+  }) (same_stated past)
+  same_stated (Broken title config renewed past) = ap (λ (w : Stated). record w {
     stamp = λ x. cond (is_in renewed x) (w.done + 1) (w.stamp x);
     header = λ b. (AreAllRenewed renewed w.before config × (b ≡ header_text title config)) ⊎ w.header b;
-  }) (same_said past)
-  same_said (Recorded object command names header past) =
-      elim (p object) as (λ b. said (cond b (without p past) (Recorded object command names header (without p past))) ≡ said past)
-      [ true ↦ same_said past | false ↦ same_said past ]
+  }) (same_stated past)
+  same_stated (Recorded object command names header past) =
+      elim (p object) as (λ b. stated (cond b (without p past) (Recorded object command names header (without p past))) ≡ stated past)
+      [ true ↦ same_stated past | false ↦ same_stated past ]
 
   pub legal_without : (h : History) → IsHistory h → IsHistory (without p h)
   legal_without (Begun texts generation stamps) is = is
-  legal_without (Synced title config past) is = let same = same_said past in search (rules, (legal_without past is.0), (ap (λ (w : Said). w.done) same))
-  legal_without (Broken title config renewed past) is = search (rules, (ap (λ (w : Said). w.before) (same_said past)), (legal_without past is.0))
+  legal_without (Synced title config past) is = let same = same_stated past in search (rules, (legal_without past is.0), (ap (λ (w : Stated). w.done) same))
+  legal_without (Broken title config renewed past) is = search (rules, (ap (λ (w : Stated). w.before) (same_stated past)), (legal_without past is.0))
   legal_without (Recorded object command names header past) is =
-      search (rules, (subst (λ (w : Said). w.synced × w.header header) (sym (same_said past)) (is.1, is.2)), (legal_without past is.0))
+      search (rules, (subst (λ (w : Stated). w.synced × w.header header) (sym (same_stated past)) (is.1, is.2)), (legal_without past is.0))
 
   -- an object whose records are left out has none, ..
   pub none_left : (h : History) (o : List ℕ) → p o ≡ true → last_record (without p h) o ≡ None
@@ -56,9 +56,9 @@ module _ (p : List ℕ → Bool) where
 -- ---- a history with more records
 
 -- which says the same by all but its records
-pub said_with : (h : History) (es : List RecordEvent) → said (with_records h es) ≡ said h
-said_with h [] = refl
-said_with h (e ∷ es) = said_with (with_record h e) es
+pub stated_with : (h : History) (es : List RecordEvent) → stated (with_records h es) ≡ stated h
+stated_with h [] = refl
+stated_with h (e ∷ es) = stated_with (with_record h e) es
 
 -- A record may follow: a synchronisation was completed, and the header is one of that time.
 abbrev pub MayFollow : History → RecordEvent → Type 0
@@ -86,25 +86,25 @@ own_done (Broken title config renewed past) o = own_done past o
 own_done (Recorded object command names header past) o = search (rules, (own_done past o))
 
 -- what of a record the command file says
-abbrev pub told : LastRecord → List ℕ × List (List ℕ) × ℕ
-told r = (r.command, r.names, done r.past)
+abbrev pub reported : LastRecord → List ℕ × List (List ℕ) × ℕ
+reported r = (r.command, r.names, done r.past)
 
-told_own : (h : History) (o : List ℕ) → option_map told (last_record (own_history h o) o) ≡ option_map told (last_record h o)
-told_own (Begun texts generation stamps) o = refl
-told_own (Synced title config past) o = told_own past o
-told_own (Broken title config renewed past) o = told_own past o
-told_own (Recorded object command names header past) o = search (rules, cond-true, own_done, (told_own past o))
+reported_own : (h : History) (o : List ℕ) → option_map reported (last_record (own_history h o) o) ≡ option_map reported (last_record h o)
+reported_own (Begun texts generation stamps) o = refl
+reported_own (Synced title config past) o = reported_own past o
+reported_own (Broken title config renewed past) o = reported_own past o
+reported_own (Recorded object command names header past) o = search (rules, cond-true, own_done, (reported_own past o))
 
 -- the last records by two histories that are the same to the object
 pub alike : (g h : History) (o : List ℕ) (r : LastRecord) → own_history g o ≡ own_history h o → last_record g o ≡ Some r → (s : LastRecord)
-    × (last_record h o ≡ Some s) × (told s ≡ told r)
+    × (last_record h o ≡ Some s) × (reported s ≡ reported r)
 alike g h o r same last =
-    found (last_record h o) refl (sym (told_own h o) ∙ sym (ap (λ k. option_map told (last_record k o)) same) ∙ told_own g o ∙ ap (option_map told) last)
+    found (last_record h o) refl (sym (reported_own h o) ∙ sym (ap (λ k. option_map reported (last_record k o)) same) ∙ reported_own g o ∙ ap (option_map reported) last)
   where
-    found : (found : Option LastRecord) → last_record h o ≡ found → option_map told found ≡ Some (told r) → (s : LastRecord)
-        × (last_record h o ≡ Some s) × (told s ≡ told r)
+    found : (found : Option LastRecord) → last_record h o ≡ found → option_map reported found ≡ Some (reported r) → (s : LastRecord)
+        × (last_record h o ≡ Some s) × (reported s ≡ reported r)
     found None at e = absurd cc
     found (Some s) at e = (s, at, cc)
 
-pub alike_file : (o : List ℕ) (r s : LastRecord) (b : List ℕ) → told s ≡ told r → IsCommandFile o s b → IsCommandFile o r b
+pub alike_file : (o : List ℕ) (r s : LastRecord) (b : List ℕ) → reported s ≡ reported r → IsCommandFile o s b → IsCommandFile o r b
 alike_file o r s b same is = search rules

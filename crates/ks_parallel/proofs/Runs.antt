@@ -4,7 +4,7 @@ use Rattle.ks_parallel.specs.Runs.{Recording, Ruling}
 use Rattle.ks_engine.specs.declared.error.EngineError.{EngineError}
 use Rattle.ks_engine.specs.declared.recording.Recorded.{Recorded}
 use Rattle.ks_parallel.proofs.Each.{Each, each_all}
-use Rattle.ks_parallel.proofs.Parts.{Said, same_said}
+use Rattle.ks_parallel.proofs.Parts.{Stated, same_stated}
 use Rattle.ks_parallel.proofs.Apart.{view_at}
 use Rattle.ks_parallel.proofs.Joined.{views_show}
 use Rattle.ks_parallel.proofs.Stamping.{stampers_side_by_side}
@@ -104,7 +104,7 @@ module _ (rs : List Process) (seen : ℕ → List ℕ → Bool) (names : List (L
   whole : (i : ℕ) (o c : List ℕ) (answer : Result Recorded EngineError) (es : List RecordEvent)
       → AddsBy (view (seen i) files) (without (is_others_job (targets_of rs) i) h) o c answer es → AddsBy files h o c answer es
   whole i o c (Ok answer) es is =
-      let same = ap (λ (w : Said). w.synced) (same_said (is_others_job (targets_of rs) i) h) in
+      let same = ap (λ (w : Stated). w.synced) (same_stated (is_others_job (targets_of rs) i) h) in
       let header = view_some (seen i) files header_path in grind (arith, header, same)
   whole i o c (Err fault) es is = let header = view_some (seen i) files header_path in grind (arith, header)
 

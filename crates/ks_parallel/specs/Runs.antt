@@ -8,7 +8,7 @@ use Rattle.ks_engine.specs.declared.error.EngineError.{EngineError}
 use Rattle.ks_engine.specs.declared.recording.Recorded.{Recorded}
 use Rattle.ks_engine.specs.FileRuns.{LeavesDepfile, LeavesRecord}
 use Rattle.ks_engine.specs.History.{History, WasSynced}
-use Rattle.ks_engine.specs.Refusals.{IsGivenUp}
+use Rattle.ks_engine.specs.Refusals.{IsAborted}
 use Rattle.ks_engine.specs.Shows.{Shows}
 use Rattle.ks_parallel.specs.Calls.{view}
 use Rattle.ks_parallel.specs.Orders.{own, all, IsOrderOf}
@@ -66,7 +66,7 @@ pub record IsRecordOf (files : Files) (o c : List ℕ) (e : RecordEvent) : Type 
 abbrev pub AddsBy : Files → History → List ℕ → List ℕ → Result Recorded EngineError → List RecordEvent → Type 0
 AddsBy files h o c (Ok answer) es =
     (WasSynced h × ((e : RecordEvent) × (es ≡ e ∷ []) × IsRecordOf files o c e × (answer.names ≡ length e.names))) ⊎ ((WasSynced h → ⊥) × (es ≡ []))
-AddsBy files h o c (Err fault) es = (es ≡ []) ⊎ (IsGivenUp fault × ((e : RecordEvent) × (es ≡ e ∷ []) × IsRecordOf files o c e))
+AddsBy files h o c (Err fault) es = (es ≡ []) ⊎ (IsAborted fault × ((e : RecordEvent) × (es ≡ e ∷ []) × IsRecordOf files o c e))
 
 -- There are records of the processes such that the files show every shuffle of them after the history.
 pub record RunsAreShown (rs : List Process) (old new : Files) (h : History) : Type 0 where

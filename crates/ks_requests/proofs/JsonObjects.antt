@@ -1,7 +1,7 @@
 -- What a reader of JSON finds in the line of an answer.
 use Rattle.ks_requests.proofs.Prelude.{◌≡◌, ◌<◌, ◌≤◌, ◌∙◌, ◌^◌, ◌&&◌, ℕ, Bool, true, false, List, [], ◌∷◌, ◌++◌, Some, option_and_then, Ok, Err, append-nil, append_assoc, ap, ap₂, arith, codes, cond, flat_map, map, refl, sym, All, All-head, All-tail, encodes_same, ArePrintable, ArePrintable-json_tokens, HasNumbers, IsNumber-decimal, IsPrintable, Items, ItemsHaveNumbers, Json, Lexeme, Token, begins, between, colon, comma, content-escape, depth, document, document-print, ends, ends_word, escape, fresh, if_last, in_word-ended, items_depth, items_of, items_tokens, json_tokens, lex, lex-escape, lex-number, max_depth, print, print_from, punctuate, quoted, separator, string_token, token, token_text, value, word, Cause, Explanation, Limit, Verdict, CharactersTellApart, LinesAreObjects, asked_values, cause_value, first_values, json_answer}
 use Rattle.json.specs.Token as t
-use Rattle.ks_engine.specs.declared.question.Limit.TheVariants as limit
+use Rattle.ks_engine.specs.declared.query.Limit.TheVariants as limit
 use Rattle.ks_engine.specs.declared.staleness.Verdict.TheVariants as verdict
 
 -- ---- what is read of tokens that are printed in front of a text

@@ -9,4 +9,4 @@ pub mod JsonObjects
 mod ScriptFaults
 mod ScriptSpellings
 mod ScriptSyncing
-mod ScriptWords
+mod ScriptArgs

@@ -9,7 +9,7 @@ pub use Rattle.ks_tree.proofs.Prelude.{IfSome}
 pub use Rattle.std.proofs.Common.{nat_le, tests}
 pub use Rattle.std.proofs.lemmas.Iterator.Search.{any_from_yields_List}
 pub use Rattle.std.specs.Prelude.{IsUtf8, is_none}
-pub use Rattle.ks_symbols.specs.Statements.{is_silent}
+pub use Rattle.ks_symbols.specs.Statements.{is_comment_or_blank}
 pub use Rattle.std.proofs.lemmas.List.Sums.{fold-append}
 pub use Rattle.bstr.specs.Find.{IsFirstByte, is_byte}
 pub use Rattle.json.proofs.Printed.Decimals.{IsNumber-decimal}
@@ -35,11 +35,11 @@ pub use Rattle.ks_engine.specs.declared.commands.Reply.{Reply}
 pub use Rattle.ks_engine.specs.declared.error.EngineError.{EngineError}
 pub use Rattle.ks_engine.specs.declared.explaining.Cause.{Cause}
 pub use Rattle.ks_engine.specs.declared.explaining.Explanation.{Explanation}
-pub use Rattle.ks_engine.specs.declared.question.Limit.{Limit}
+pub use Rattle.ks_engine.specs.declared.query.Limit.{Limit}
 pub use Rattle.ks_engine.specs.declared.staleness.Verdict.{Verdict}
 pub use Rattle.ks_engine.specs.Refusals.{of_auto, of_source}
 pub use Rattle.ks_output.specs.declared.auto_conf.AutoError.{AutoError}
-pub use Rattle.ks_streams.proofs.Writing.{told, told_first, told_more}
+pub use Rattle.ks_streams.proofs.Writing.{reported, reported_first, reported_more}
 pub use Rattle.ks_symbols.proofs.Configured.{chain}
 pub use Rattle.ks_symbols.proofs.Spellings.{run_split}
 pub use Rattle.ks_symbols.specs.declared.error.SourceError.{SourceError}
@@ -67,7 +67,7 @@ unfoldable pub use Rattle.ks_requests.specs.Unknown.{unknown_lines}
 pub use Rattle.ks_requests.specs.Views.{seen_inputs, seen_site, seen_texts}
 pub use Rattle.ks_requests.specs.declared.script_error.ScriptError.{ScriptError}
 pub use Rattle.ks_requests.specs.declared.sites.Part.{Part}
-pub use Rattle.ks_requests.specs.Endings.{Complains, Ending, IsUnknown, TellsUnknown}
+pub use Rattle.ks_requests.specs.Endings.{Complains, Ending, IsUnknown, ReportsUnknown}
 pub use Rattle.ks_requests.specs.Requests.{IsBatchOf, IsPreviewOf}
 pub use Rattle.ks_requests.specs.Inputs.{given, given_if_named}
-pub use Rattle.ks_requests.specs.Targets.{file_of, targets_at, with_file, words_of}
+pub use Rattle.ks_requests.specs.Targets.{file_of, targets_at, with_file, args_of}

@@ -29,47 +29,47 @@ first_of_five : (a b c d e : Bool) → (a && b && c && d && e) ≡ true → a �
 first_of_five true b c d e h = refl
 first_of_five false b c d e h = absurd (cc h)
 
-path_words : (xs : List ℕ) → list_all is_path_byte xs ≡ true → list_all is_word_byte xs ≡ true
-path_words [] h = refl
-path_words (x ∷ xs) h =
+path_args : (xs : List ℕ) → list_all is_path_byte xs ≡ true → list_all is_word_byte xs ≡ true
+path_args [] h = refl
+path_args (x ∷ xs) h =
     let parts = and_parts (is_path_byte x) (list_all is_path_byte xs) h in
-    and_from (is_word_byte x) (list_all is_word_byte xs) (no_space x parts.0) (path_words xs parts.1)
+    and_from (is_word_byte x) (list_all is_word_byte xs) (no_space x parts.0) (path_args xs parts.1)
   where
     no_space : (x : ℕ) → is_path_byte x ≡ true → is_word_byte x ≡ true
     no_space x e = let h = first_of_five (nat_le 33 x) (nat_le x 126) (not (x == 36)) (not (x == 35)) (not (x == 92)) e in grind (arith, nat_tests)
 
 path_is_word : (path : List ℕ) → is_path path ≡ true → is_word path ≡ true
 unfolding is_path
-path_is_word path e = search (rules, and_parts, and_from, path_words)
+path_is_word path e = search (rules, and_parts, and_from, path_args)
 
-says_sync : (line words : List ℕ) (said : Line) → line ≡ codes "sync " ++ words → sync_line words ≡ Some said → Says line said
+says_sync : (line args : List ℕ) (stated : Line) → line ≡ codes "sync " ++ args → sync_line args ≡ Some stated → Says line stated
 unfolding sync_line
-says_sync line words said is e =
-    let cut = chain (λ (c : List ℕ × List ℕ). cond (is_path c.0 && is_path c.1) (Some (Sync c.0 c.1)) None) (first_word words) said e in
-    let told = cond_some (is_path cut.0.0 && is_path cut.0.1) (Sync cut.0.0 cut.0.1) said cut.2 in
-    let paths = and_parts (is_path cut.0.0) (is_path cut.0.1) told.0 in
-    subst (Says line) told.1 (paths.0, paths.1, is ∙ ap (λ (l : List ℕ). codes "sync " ++ l) (cut_of words cut.0 cut.1).1)
+says_sync line args stated is e =
+    let cut = chain (λ (c : List ℕ × List ℕ). cond (is_path c.0 && is_path c.1) (Some (Sync c.0 c.1)) None) (first_word args) stated e in
+    let reported = cond_some (is_path cut.0.0 && is_path cut.0.1) (Sync cut.0.0 cut.0.1) stated cut.2 in
+    let paths = and_parts (is_path cut.0.0) (is_path cut.0.1) reported.0 in
+    subst (Says line) reported.1 (paths.0, paths.1, is ∙ ap (λ (l : List ℕ). codes "sync " ++ l) (cut_of args cut.0 cut.1).1)
 
 four_pieces : (a b c d e : List ℕ) → a ++ b ++ (c ++ d ++ e) ≡ a ++ b ++ c ++ d ++ e
 four_pieces a b c d e = sym (append_assoc (a ++ b) (c ++ d) e) ∙ ap (λ (l : List ℕ). l ++ e) (sym (append_assoc (a ++ b) c d))
 
-says_record : (line words : List ℕ) (said : Line) → line ≡ codes "record " ++ words → record_line words ≡ Some said → Says line said
+says_record : (line args : List ℕ) (stated : Line) → line ≡ codes "record " ++ args → record_line args ≡ Some stated → Says line stated
 unfolding record_line
-says_record line words said is e = search (rules, chain, mapped, cut_of, four_pieces)
+says_record line args stated is e = search (rules, chain, mapped, cut_of, four_pieces)
 
-says_stale : (line words : List ℕ) (said : Line) → line ≡ codes "stale " ++ words → stale_line words ≡ Some said → Says line said
+says_stale : (line args : List ℕ) (stated : Line) → line ≡ codes "stale " ++ args → stale_line args ≡ Some stated → Says line stated
 unfolding stale_line
-says_stale line words said is e = search (rules, cond_some)
+says_stale line args stated is e = search (rules, cond_some)
 
-spelled : (line : List ℕ) (said : Line) → script_line line ≡ Some said → Says line said
+spelled : (line : List ℕ) (stated : Line) → script_line line ≡ Some stated → Says line stated
 unfolding script_line
-spelled line said e = search (rules, says_sync, opened, cond-true, cond-false, says_record, says_stale, cases_Bool)
+spelled line stated e = search (rules, says_sync, opened, cond-true, cond-false, says_record, says_stale, cases_Bool)
 
-spells : (line : List ℕ) (said : Line) → Says line said → script_line line ≡ Some said
+spells : (line : List ℕ) (stated : Line) → Says line stated → script_line line ≡ Some stated
 unfolding script_line sync_line record_line stale_line
 spells line (Sync kconfig dotconfig) h = search (rules, first_word_is, path_is_word, cond-true, and_from)
 spells line (Record depfile target command) h = search (rules, four_pieces, first_word_is)
 spells line (Stale target) h = ap script_line h.1 ∙ cond-true (is_word target) _ _ h.0
 
 pub lines_are_spelled : LinesAreSpelled
-lines_are_spelled line said = (spelled line said, spells line said)
+lines_are_spelled line stated = (spelled line stated, spells line stated)

@@ -1,5 +1,5 @@
 -- Whether a script synchronises is told by how its lines begin, where none of them is faulty.
-use Rattle.ks_requests.proofs.Prelude.{◌≡◌, ◌∙◌, ◌⊎◌, ◌+◌, ◌<◌, ◌≤◌, ◌&&◌, ◌||◌, ℕ, Bool, true, false, not, nat_le, List, [], ◌∷◌, length, Option, Some, None, option_map, refl, sym, ap, inl, inr, arith, cases_Bool, cases_lt, cond-true, cond-false, cons_option, false≢true, filter_map, is_none, is_silent, lines, list_any, nat_tests, nil_from_length, not-false, not-true, opened, or_cases, or_parts, position_from, rules, Line, Sync, Record, Stale, Says, ScriptError, begins_sync, is_faulty, is_sync, script_line, script_lines, script_refusal, script_syncs}
+use Rattle.ks_requests.proofs.Prelude.{◌≡◌, ◌∙◌, ◌⊎◌, ◌+◌, ◌<◌, ◌≤◌, ◌&&◌, ◌||◌, ℕ, Bool, true, false, not, nat_le, List, [], ◌∷◌, length, Option, Some, None, option_map, refl, sym, ap, inl, inr, arith, cases_Bool, cases_lt, cond-true, cond-false, cons_option, false≢true, filter_map, is_none, is_comment_or_blank, lines, list_any, nat_tests, nil_from_length, not-false, not-true, opened, or_cases, or_parts, position_from, rules, Line, Sync, Record, Stale, Says, ScriptError, begins_sync, is_faulty, is_sync, script_line, script_lines, script_refusal, script_syncs}
 use Rattle.ks_requests.proofs.ScriptFaults.{not_large, too_large}
 use Rattle.ks_requests.proofs.ScriptSpellings.{lines_are_spelled}
 use Rattle.ks_requests.specs.declared.script_error.ScriptError.TheVariants as fault
@@ -24,25 +24,25 @@ none_is_faulty text (inr small) h = not-true _ (faultless text small ∙ h)
 
 -- ---- a line that is not faulty
 
-said_syncs : (line : List ℕ) (said : Line) → Says line said → is_sync said ≡ begins_sync line
-said_syncs line (Sync kconfig dotconfig) h = sym (ap begins_sync h.2)
-said_syncs line (Record depfile target command) h = sym (ap begins_sync h.2)
-said_syncs line (Stale target) h = sym (ap begins_sync h.1)
+stated_syncs : (line : List ℕ) (stated : Line) → Says line stated → is_sync stated ≡ begins_sync line
+stated_syncs line (Sync kconfig dotconfig) h = sym (ap begins_sync h.2)
+stated_syncs line (Record depfile target command) h = sym (ap begins_sync h.2)
+stated_syncs line (Stale target) h = sym (ap begins_sync h.1)
 
-silent_begins_not : (line : List ℕ) → is_silent line ≡ true → begins_sync line ≡ false
-silent_begins_not line h = search (rules, or_cases, opened, nil_from_length)
+comment_or_blank_begins_not : (line : List ℕ) → is_comment_or_blank line ≡ true → begins_sync line ≡ false
+comment_or_blank_begins_not line h = search (rules, or_cases, opened, nil_from_length)
 
 or_nothing : (b : Bool) → (b || false) ≡ b
 or_nothing true = refl
 or_nothing false = refl
 
-line_syncs : (line : List ℕ) (said : Option Line) → script_line line ≡ said → is_faulty line ≡ false → list_any is_sync (cons_option said []) ≡ begins_sync line
-line_syncs line None e h = sym (silent_begins_not line (search (rules, not-false)))
-line_syncs line (Some said) e h = or_nothing (is_sync said) ∙ said_syncs line said ((lines_are_spelled line said).0 e)
+line_syncs : (line : List ℕ) (stated : Option Line) → script_line line ≡ stated → is_faulty line ≡ false → list_any is_sync (cons_option stated []) ≡ begins_sync line
+line_syncs line None e h = sym (comment_or_blank_begins_not line (search (rules, not-false)))
+line_syncs line (Some stated) e h = or_nothing (is_sync stated) ∙ stated_syncs line stated ((lines_are_spelled line stated).0 e)
 
 among : (o : Option Line) (xs : List Line) → list_any is_sync (cons_option o xs) ≡ (list_any is_sync (cons_option o []) || list_any is_sync xs)
 among None xs = refl
-among (Some said) xs = ap (λ b. b || list_any is_sync xs) (sym (or_nothing (is_sync said)))
+among (Some stated) xs = ap (λ b. b || list_any is_sync xs) (sym (or_nothing (is_sync stated)))
 
 lines_sync : (xs : List (List ℕ)) → list_any is_faulty xs ≡ false → list_any is_sync (filter_map script_line xs) ≡ list_any begins_sync xs
 lines_sync [] h = refl

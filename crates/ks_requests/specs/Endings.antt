@@ -3,7 +3,7 @@ use Rattle.std.specs.Prelude.{◌≡◌, ◌⊎◌, ◌++◌, ℕ, List, [], Opt
 use Rattle.ks_streams.specs.Streams.{Breaks, Prints, PrintsOrBreaks, State}
 use Rattle.ks_engine.specs.declared.error.EngineError.{EngineError}
 use Rattle.ks_engine.specs.declared.error.EngineError.TheVariants.{OutOfMemory}
-use Rattle.ks_engine.specs.Refusals.{IsGivenUp}
+use Rattle.ks_engine.specs.Refusals.{IsAborted}
 use Rattle.ks_requests.specs.declared.refusal.Refusal.{Refusal}
 use Rattle.ks_requests.specs.declared.refusal.Refusal.TheVariants.{Engine, Output}
 use Rattle.ks_requests.specs.declared.status.Count.{Count}
@@ -17,13 +17,13 @@ abbrev pub Ending : Type 0
 Ending = Result Outcome Refusal
 
 -- this text, this status and this count, unless memory is refused for them
-abbrev pub TellsCount : List ℕ → ℕ → Option Count → Ending → Type 0
-TellsCount text status count (Ok o) = (o.text.items ≡ text) × (code_of o.status ≡ status) × (o.count ≡ count)
-TellsCount text status count (Err e) = e ≡ Engine OutOfMemory
+abbrev pub ReportsCount : List ℕ → ℕ → Option Count → Ending → Type 0
+ReportsCount text status count (Ok o) = (o.text.items ≡ text) × (code_of o.status ≡ status) × (o.count ≡ count)
+ReportsCount text status count (Err e) = e ≡ Engine OutOfMemory
 
 -- .. and no count
-abbrev pub Tells : List ℕ → ℕ → Ending → Type 0
-Tells text status ended = TellsCount text status None ended
+abbrev pub Reports : List ℕ → ℕ → Ending → Type 0
+Reports text status ended = ReportsCount text status None ended
 
 -- .. and these lines about unknown names
 abbrev pub IsUnknown : List ℕ → Option Count → Type 0
@@ -32,18 +32,18 @@ IsUnknown lines (Some (count.Unknown text)) = text.items ≡ lines
 IsUnknown lines (Some (count.Stale stale all)) = ⊥
 IsUnknown lines (Some (count.Users users all)) = ⊥
 
-abbrev pub TellsUnknown : List ℕ → ℕ → List ℕ → Ending → Type 0
-TellsUnknown text status unknown (Ok o) = (o.text.items ≡ text) × (code_of o.status ≡ status) × IsUnknown unknown o.count
-TellsUnknown text status unknown (Err e) = e ≡ Engine OutOfMemory
+abbrev pub ReportsUnknown : List ℕ → ℕ → List ℕ → Ending → Type 0
+ReportsUnknown text status unknown (Ok o) = (o.text.items ≡ text) × (code_of o.status ≡ status) × IsUnknown unknown o.count
+ReportsUnknown text status unknown (Err e) = e ≡ Engine OutOfMemory
 
 -- an answer of the engine with the status 0, or its refusal
 abbrev pub Answered : {A : Type 0} → (A → List ℕ) → Result A EngineError → Ending → Type 0
-Answered text (Ok x) ended = Tells (text x) 0 ended
+Answered text (Ok x) ended = Reports (text x) 0 ended
 Answered text (Err e) ended = ended ≡ Err (Engine e)
 
 -- it is refused as a step before it is, or memory or the device fails there
 abbrev pub Stopped : {A : Type 0} → Result A EngineError → Ending → Type 0
-Stopped step ended = (e : EngineError) × (IsGivenUp e ⊎ (step ≡ Err e)) × (ended ≡ Err (Engine e))
+Stopped step ended = (e : EngineError) × (IsAborted e ⊎ (step ≡ Err e)) × (ended ≡ Err (Engine e))
 
 -- ---- what is printed of it
 
@@ -65,7 +65,7 @@ pub record PrintsAnswers (o : Outcome) (before after err_before err_after : Stat
 -- A write to the output failed, with a beginning of the text out, and that is refused.
 pub record IsCutOff (o : Outcome) (before after err_before err_after : State) (status : ℕ) : Type 0 where
   pub output : Breaks o.text.items before after
-  pub told : Complains Output [] err_before err_after
+  pub reported : Complains Output [] err_before err_after
   pub refused : status ≡ 2
 
 -- A refusal leaves the output alone, and is told with what stands after its line.

@@ -14,7 +14,7 @@ legal path = if is_path path then Ok tt else Err (BadPath 0)
 
 -- whether each of these words is one
 abbrev pub are_paths : List (List ℕ) → Bool
-are_paths words = list_all is_path words
+are_paths args = list_all is_path args
 
 -- the file that a word names
 abbrev pub given : Files → List ℕ → Result (List ℕ) EngineError

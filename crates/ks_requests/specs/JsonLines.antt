@@ -7,12 +7,12 @@ use Rattle.json.specs.Value.{items_of}
 use Rattle.ks_engine.specs.declared.error.EngineError.{EngineError}
 use Rattle.ks_engine.specs.declared.explaining.Cause.{Cause}
 use Rattle.ks_engine.specs.declared.explaining.Explanation.{Explanation}
-use Rattle.ks_engine.specs.declared.question.Limit.{Limit}
-use Rattle.ks_engine.specs.declared.question.Limit.TheVariants.{First, All}
+use Rattle.ks_engine.specs.declared.query.Limit.{Limit}
+use Rattle.ks_engine.specs.declared.query.Limit.TheVariants.{First, All}
 use Rattle.ks_engine.specs.declared.staleness.Verdict.{Verdict}
 use Rattle.ks_engine.specs.declared.staleness.Verdict.TheVariants as verdict
-use Rattle.ks_requests.specs.declared.request.Form.{Form}
-use Rattle.ks_requests.specs.declared.request.Form.TheVariants as form
+use Rattle.ks_requests.specs.declared.request.OutputFormat.{OutputFormat}
+use Rattle.ks_requests.specs.declared.request.OutputFormat.TheVariants as format
 use Rattle.ks_requests.specs.Faults.{fault_text}
 use Rattle.ks_requests.specs.Replies.{answer_line, explanation_lines}
 
@@ -63,6 +63,6 @@ unfoldable pub json_answer : Limit → List ℕ → Result Explanation EngineErr
 json_answer limit target answer = print (json_tokens (answer_value limit target answer)) ++ codes "\n"
 
 -- what is told of an object, in either form
-abbrev pub answer_in : Form → Limit → List ℕ → Result Explanation EngineError → List ℕ
-answer_in form.Text limit target answer = answer_line (explanation_lines limit) target answer
-answer_in form.Json limit target answer = json_answer limit target answer
+abbrev pub answer_in : OutputFormat → Limit → List ℕ → Result Explanation EngineError → List ℕ
+answer_in format.Text limit target answer = answer_line (explanation_lines limit) target answer
+answer_in format.Json limit target answer = json_answer limit target answer

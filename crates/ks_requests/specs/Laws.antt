@@ -4,7 +4,7 @@ use Rattle.std.specs.List.{All}
 use Rattle.json.specs.Json.{document}
 use Rattle.ks_engine.specs.declared.error.EngineError.{EngineError}
 use Rattle.ks_engine.specs.declared.explaining.Explanation.{Explanation}
-use Rattle.ks_engine.specs.declared.question.Limit.{Limit}
+use Rattle.ks_engine.specs.declared.query.Limit.{Limit}
 use Rattle.ks_requests.specs.JsonLines.{answer_value, characters, json_answer}
 
 -- other bytes are other characters

@@ -11,7 +11,7 @@ use Rattle.ks_output.specs.AutoConf.{auto_map, auto_generation, auto_refusal}
 use Rattle.ks_engine.specs.declared.error.EngineError.{EngineError}
 use Rattle.ks_engine.specs.declared.error.EngineError.TheVariants.{GenerationFull, OutOfMemory}
 use Rattle.ks_engine.specs.Refusals.{of_auto, of_source}
-use Rattle.ks_engine.specs.SyncPlan.{Sources, AreSources, source_refusal}
+use Rattle.ks_engine.specs.SyncPlan.{ConfigInputs, AreConfigInputs, source_refusal}
 use Rattle.ks_engine.specs.Synchronised.{AreLegalChanges}
 use Rattle.ks_requests.specs.declared.preview.PreviewError.{PreviewError}
 use Rattle.ks_requests.specs.declared.preview.PreviewError.TheVariants.{Engine, Output}
@@ -45,9 +45,9 @@ preview_refusal kconfig dotconfig old =
 -- a preview of texts that are accepted: the names that differ from the old auto.conf, and the auto.conf of the generation after it
 pub record IsPreview (kconfig : KconfigText) (dotconfig : List ℕ) (old : Option (List ℕ)) (text : List ℕ) : Type 0 where
   pub accepted : preview_refusal kconfig dotconfig old ≡ None
-  pub sources : Sources
+  pub sources : ConfigInputs
   pub names : List (List ℕ)
-  pub are_sources : AreSources kconfig dotconfig sources
+  pub are_config_inputs : AreConfigInputs kconfig dotconfig sources
   pub changed : AreLegalChanges (old_texts old) sources.config names
   pub whole : text ≡ touch_lines names ++ auto_text sources.title sources.config (old_generation old + 1)
 

@@ -3,12 +3,12 @@ use Rattle.std.specs.Prelude.{ℕ, List, [], ◌∷◌, ◌++◌, decimal, flat_
 use Rattle.ks_engine.specs.declared.error.EngineError.{EngineError}
 use Rattle.ks_engine.specs.declared.explaining.Cause.{Cause}
 use Rattle.ks_engine.specs.declared.explaining.Explanation.{Explanation}
-use Rattle.ks_engine.specs.declared.question.Limit.{Limit}
-use Rattle.ks_engine.specs.declared.question.Limit.TheVariants.{First, All}
+use Rattle.ks_engine.specs.declared.query.Limit.{Limit}
+use Rattle.ks_engine.specs.declared.query.Limit.TheVariants.{First, All}
 use Rattle.ks_engine.specs.declared.recording.Recorded.{Recorded as RecordAnswer}
 use Rattle.ks_engine.specs.declared.synchronise.Report.{Report}
 use Rattle.ks_engine.specs.declared.staleness.BuildState.{BuildState}
-use Rattle.ks_engine.specs.declared.staleness.BuildState.TheVariants.{CommandDiffers, Verdict as Judged}
+use Rattle.ks_engine.specs.declared.staleness.BuildState.TheVariants.{CommandDiffers, Verdict as Evaluated}
 use Rattle.ks_engine.specs.declared.staleness.Verdict.{Verdict as VerdictValue}
 use Rattle.ks_engine.specs.declared.staleness.Verdict.TheVariants as verdict
 use Rattle.ks_engine.specs.declared.commands.Reply.{Reply}
@@ -62,7 +62,7 @@ report_lines r = counted (codes "generation ") r.generation ++ codes "\n" ++ tou
 -- an object that was built by another command, or its verdict
 unfoldable pub build_line : List ℕ → BuildState → List ℕ
 build_line target CommandDiffers = target ++ codes " command-differs\n"
-build_line target (Judged v) = verdict_line target v
+build_line target (Evaluated v) = verdict_line target v
 
 -- a fault, and that of an object
 unfoldable pub refused_line : EngineError → List ℕ

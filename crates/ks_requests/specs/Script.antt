@@ -35,13 +35,13 @@ first_word text =
 
 -- The same as a function: the one thing that a line asks for, word by word.
 unfoldable pub sync_line : List ℕ → Option Line
-sync_line words = option_and_then (λ cut. if is_path cut.0 && is_path cut.1 then Some (Sync cut.0 cut.1) else None) (first_word words)
+sync_line args = option_and_then (λ cut. if is_path cut.0 && is_path cut.1 then Some (Sync cut.0 cut.1) else None) (first_word args)
 
 unfoldable pub record_line : List ℕ → Option Line
-record_line words = option_and_then (λ cut. option_map (λ following. Record cut.0 following.0 following.1) (first_word cut.1)) (first_word words)
+record_line args = option_and_then (λ cut. option_map (λ following. Record cut.0 following.0 following.1) (first_word cut.1)) (first_word args)
 
 unfoldable pub stale_line : List ℕ → Option Line
-stale_line words = if is_word words then Some (Stale words) else None
+stale_line args = if is_word args then Some (Stale args) else None
 
 unfoldable pub script_line : List ℕ → Option Line
 script_line line =

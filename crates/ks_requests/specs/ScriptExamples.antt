@@ -9,7 +9,7 @@ pub record Examples : Type 0 where
   pub whole_command : script_line (codes "record x.d x.o cc  -c x.c ") ≡ Some (Record (codes "x.d") (codes "x.o") (codes "cc  -c x.c "))
   pub empty_command : script_line (codes "record x.d x.o ") ≡ Some (Record (codes "x.d") (codes "x.o") [])
   pub no_third_space : script_line (codes "record x.d x.o") ≡ None
-  pub question : script_line (codes "stale x.o") ≡ Some (Stale (codes "x.o"))
+  pub query : script_line (codes "stale x.o") ≡ Some (Stale (codes "x.o"))
   pub no_target : script_line (codes "stale ") ≡ None
   pub two_targets : script_line (codes "stale x.o y.o") ≡ None
   pub two_spaces : script_line (codes "stale  x.o") ≡ None

@@ -2,14 +2,14 @@
 use Rattle.std.specs.Prelude.{ℕ, ◌&&◌, Bool, not, nat_lt, is_none, List, length, Option, Some, None, option_map, if◌then◌else◌}
 use Rattle.std.specs.List.{position_from}
 use Rattle.ks_symbols.specs.Lines.{max_bytes, lines}
-use Rattle.ks_symbols.specs.Statements.{is_silent}
+use Rattle.ks_symbols.specs.Statements.{is_comment_or_blank}
 use Rattle.ks_requests.specs.declared.script_error.ScriptError.{ScriptError}
 use Rattle.ks_requests.specs.declared.script_error.ScriptError.TheVariants as fault
 use Rattle.ks_requests.specs.Script.{script_line}
 
 -- neither a command nor a comment nor an empty line
 abbrev pub is_faulty : List ℕ → Bool
-is_faulty line = is_none (script_line line) && not (is_silent line)
+is_faulty line = is_none (script_line line) && not (is_comment_or_blank line)
 
 -- the refusal of the line of a number
 unfoldable pub line_fault : ℕ → List ℕ → Option ScriptError

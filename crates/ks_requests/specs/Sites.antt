@@ -13,7 +13,7 @@ use Rattle.ks_engine.specs.declared.error.EngineError.TheVariants.{BadAuto, BadP
 use Rattle.ks_requests.specs.declared.refusal.Refusal.{Refusal}
 use Rattle.ks_requests.specs.declared.refusal.Refusal.TheVariants.{Engine, BadScript}
 use Rattle.ks_requests.specs.declared.request.Request.{Request}
-use Rattle.ks_requests.specs.declared.request.Request.TheVariants.{Age, Batch, Cost, Depfile, Diff, Fixdep, Impact, Outdated, Preview, Record, Stale, Sync, Users, Why}
+use Rattle.ks_requests.specs.declared.request.Request.TheVariants.{Backdate, Batch, Cost, Depfile, Diff, Fixdep, Impact, Outdated, Preview, Record, Stale, Sync, Users, Why}
 use Rattle.ks_requests.specs.declared.sites.Part.{Part}
 use Rattle.ks_requests.specs.declared.sites.Part.TheVariants.{Whole, Line, Token}
 use Rattle.ks_requests.specs.Endings.{Ending}
@@ -60,15 +60,15 @@ script_site script _ = None
 abbrev pub site_of : Request → Refusal → Option Site
 site_of (Sync k d stamps) refusal = config_site (string_bytes k) (string_bytes d) (Some auto_path) refusal
 site_of (Preview k d o) refusal = config_site (string_bytes k) (string_bytes d) (option_map (λ path. string_bytes path) o) refusal
-site_of (Diff k d telling) refusal = config_site (string_bytes k) (string_bytes d) (Some auto_path) refusal
-site_of (Impact k d targets form) refusal = config_site (string_bytes k) (string_bytes d) (Some auto_path) refusal
+site_of (Diff k d report_style) refusal = config_site (string_bytes k) (string_bytes d) (Some auto_path) refusal
+site_of (Impact k d targets format) refusal = config_site (string_bytes k) (string_bytes d) (Some auto_path) refusal
 site_of (Fixdep d t c) refusal = depfile_site (string_bytes d) refusal
 site_of (Record d t c after) refusal = record_site (string_bytes d) refusal
 site_of (Depfile end d t c) refusal = record_site (string_bytes d) refusal
 site_of (Batch script) refusal = script_site (string_bytes script) refusal
-site_of (Stale targets form) refusal = None
-site_of (Why targets form) refusal = None
-site_of (Age which targets) refusal = None
+site_of (Stale targets format) refusal = None
+site_of (Why targets format) refusal = None
+site_of (Backdate which targets) refusal = None
 site_of (Outdated t c) refusal = None
 site_of (Users symbols targets) refusal = None
 site_of (Cost top targets) refusal = None

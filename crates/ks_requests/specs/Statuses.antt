@@ -3,7 +3,7 @@ use Rattle.std.specs.Prelude.{◌==◌, ℕ, List, Result, Ok, Err, filter, fold
 use Rattle.ks_engine.specs.declared.error.EngineError.{EngineError}
 use Rattle.ks_engine.specs.declared.explaining.Explanation.{Explanation}
 use Rattle.ks_engine.specs.declared.staleness.BuildState.{BuildState}
-use Rattle.ks_engine.specs.declared.staleness.BuildState.TheVariants.{CommandDiffers, Verdict as Judged}
+use Rattle.ks_engine.specs.declared.staleness.BuildState.TheVariants.{CommandDiffers, Verdict as Evaluated}
 use Rattle.ks_engine.specs.declared.staleness.Verdict.{Verdict as VerdictValue}
 use Rattle.ks_engine.specs.declared.staleness.Verdict.TheVariants as verdict
 use Rattle.ks_engine.specs.declared.commands.Reply.{Reply}
@@ -21,7 +21,7 @@ explanation_status e = verdict_status e.verdict
 
 abbrev pub build_status : BuildState → ℕ
 build_status CommandDiffers = 1
-build_status (Judged v) = verdict_status v
+build_status (Evaluated v) = verdict_status v
 
 abbrev pub status_unless_refused : {A : Type 0} → (A → ℕ) → Result A EngineError → ℕ
 status_unless_refused of (Ok x) = of x

@@ -9,7 +9,7 @@ symbol_of word = if starts_with nat_eq word (codes "CONFIG_") then drop 7 word e
 
 -- .. of these words
 abbrev pub symbols_of : {Y : Type 0} → List (String Y) → List (List ℕ)
-symbols_of words = map (λ w. symbol_of (string_bytes w)) words
+symbols_of args = map (λ w. symbol_of (string_bytes w)) args
 
 -- an object that names a symbol, the symbol, and the file that brought it in
 unfoldable pub use_line : List ℕ → List ℕ × List ℕ → List ℕ

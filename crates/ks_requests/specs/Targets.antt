@@ -18,14 +18,14 @@ targets_if_named (Some text) = targets_in text
 
 -- the targets of the words, and then those of the file
 abbrev pub with_file : List (List ℕ) → Option (List ℕ) → List (List ℕ)
-with_file words text = words ++ targets_if_named text
+with_file args text = args ++ targets_if_named text
 
-abbrev pub words_of : Targets → List (List ℕ)
-words_of targets = map (λ word. string_bytes word) targets.words.items
+abbrev pub args_of : Targets → List (List ℕ)
+args_of targets = map (λ word. string_bytes word) targets.args.items
 
 abbrev pub file_of : Targets → Option (List ℕ)
 file_of targets = option_map (λ path. string_bytes path) targets.from
 
 -- all of them, or why the file is refused
 abbrev pub targets_at : Files → Targets → Result (List (List ℕ)) EngineError
-targets_at files targets = and_then (given_if_named files (file_of targets)) (λ text. Ok (with_file (words_of targets) text))
+targets_at files targets = and_then (given_if_named files (file_of targets)) (λ text. Ok (with_file (args_of targets) text))

@@ -9,7 +9,7 @@ use Rattle.ks_symbols.specs.Statements.{Statement, name_of, statement}
 -- the name of a statement, where it is not declared
 abbrev pub unknown_in : (List ℕ → Option Kind) → Option Statement → List (List ℕ)
 unknown_in kinds None = []
-unknown_in kinds (Some said) = if is_none (kinds (name_of said)) then name_of said ∷ [] else []
+unknown_in kinds (Some stated) = if is_none (kinds (name_of stated)) then name_of stated ∷ [] else []
 
 -- the names of all such lines, in order
 abbrev pub unknown_names : (List ℕ → Option Kind) → List (List ℕ) → List (List ℕ)

@@ -127,7 +127,7 @@ pub fn texts_at<T: Reading>(
     ensures texts { T.is_honest → Answers (texts_at (T.files tree.old) kconfig.now dotconfig.now) seen_texts result }
     ensures once { OnOk result (ReadsEach T.reads tree.old (kconfig.now ∷ dotconfig.now ∷ []) tree.new) }
     ensures no_other { ReadsSome T.reads tree.old (kconfig.now ∷ dotconfig.now ∷ []) tree.new }
-    ensures words_first { are_paths (kconfig.now ∷ dotconfig.now ∷ []) ≡ false → tree.new ≡ tree.old }
+    ensures args_first { are_paths (kconfig.now ∷ dotconfig.now ∷ []) ≡ false → tree.new ≡ tree.old }
 {
     check_path(kconfig)?;
     check_path(dotconfig)?;
@@ -171,7 +171,7 @@ pub fn inputs_at<T: Reading>(
     ensures inputs { T.is_honest → Answers (inputs_at (T.files tree.old) kconfig.now dotconfig.now (option_map (λ p. p.now) old.entry)) seen_inputs result }
     ensures once { OnOk result (ReadsEach T.reads tree.old (kconfig.now ∷ dotconfig.now ∷ if_named (option_map (λ p. p.now) old.entry)) tree.new) }
     ensures no_other { ReadsSome T.reads tree.old (kconfig.now ∷ dotconfig.now ∷ if_named (option_map (λ p. p.now) old.entry)) tree.new }
-    ensures words_first { are_paths (kconfig.now ∷ dotconfig.now ∷ if_named (option_map (λ p. p.now) old.entry)) ≡ false → tree.new ≡ tree.old }
+    ensures args_first { are_paths (kconfig.now ∷ dotconfig.now ∷ if_named (option_map (λ p. p.now) old.entry)) ≡ false → tree.new ≡ tree.old }
 {
     check_path(kconfig)?;
     check_path(dotconfig)?;

@@ -8,7 +8,7 @@ ghost use Rattle.std.specs.Str.{IsUtf8};
 ghost use Rattle.json.specs.Token.{begin_array, begin_object, end_object, key, string};
 ghost use Rattle.json.specs.Tree.{items_tokens, json_tokens};
 ghost use Rattle.json.specs.Value.{items_of};
-ghost use Rattle.ks_engine.specs.Questions.{limit_of};
+ghost use Rattle.ks_engine.specs.Queries.{limit_of};
 ghost use Rattle.ks_requests.specs.Faults.{fault_text};
 ghost use Rattle.ks_requests.specs.JsonLines.{answer_value, asked_values, cause_value, characters, first_values, json_answer, verdict_word};
 ghost use Rattle.ks_requests.specs.Statuses.{code_of, explanation_status, status_unless_refused};
@@ -17,7 +17,7 @@ use crate::faults::write_fault;
 use crate::replies::answer_status;
 use crate::status::Status;
 use json::Writer;
-use ks_engine::{Cause, EngineError, Explanation, Limit, Question, Verdict};
+use ks_engine::{Cause, EngineError, Explanation, Limit, Query, Verdict};
 use std::alloc::{AllocError, Global};
 
 /// A character for each byte, the one with that number.
@@ -82,14 +82,14 @@ fn write_first(alloc: Global, verdict: &Verdict, out: &mut Writer) -> Result<(),
 /// The causes that a question asks for, and the end of their array.
 fn write_asked(
     alloc: Global,
-    question: Question<'_>,
+    query: Query<'_>,
     explanation: &Explanation,
     out: &mut Writer,
 ) -> Result<(), AllocError>
-    ensures tokens { OnOk result (out.new.tokens ≡ out.old.tokens ++ items_tokens (asked_values (limit_of question.entry) explanation.now)) }
+    ensures tokens { OnOk result (out.new.tokens ≡ out.old.tokens ++ items_tokens (asked_values (limit_of query.entry) explanation.now)) }
     ensures before { out.new.before ≡ out.old.before }
 {
-    match question.limit() {
+    match query.limit() {
         Limit::First => write_first(alloc, &explanation.verdict, out),
         Limit::All => write_causes(alloc, &explanation.causes, out),
     }
@@ -141,18 +141,18 @@ fn write_refusal(alloc: Global, error: &EngineError, out: &mut Writer) -> Result
 /// The object of an answer.
 fn write_object(
     alloc: Global,
-    question: Question<'_>,
+    query: Query<'_>,
     target: &[u8],
     answer: &Result<Explanation, EngineError>,
     out: &mut Writer,
 ) -> Result<(), AllocError>
-    ensures tokens { OnOk result (out.new.tokens ≡ out.old.tokens ++ json_tokens (answer_value (limit_of question.entry) target.now answer.now)) }
+    ensures tokens { OnOk result (out.new.tokens ≡ out.old.tokens ++ json_tokens (answer_value (limit_of query.entry) target.now answer.now)) }
     ensures before { out.new.before ≡ out.old.before }
 {
     match answer {
         Ok(explanation) => {
             write_beginning(alloc, target, word_of(&explanation.verdict), out)?;
-            write_asked(alloc, question, explanation, out)?;
+            write_asked(alloc, query, explanation, out)?;
             out.end_object()
         }
         Err(error) => {
@@ -167,15 +167,15 @@ fn write_object(
 #[tactic(auto, unfolding(crate::specs::JsonLines::json_answer))]
 fn line_of(
     alloc: Global,
-    question: Question<'_>,
+    query: Query<'_>,
     target: &[u8],
     answer: &Result<Explanation, EngineError>,
 ) -> Result<Vec<u8>, AllocError>
-    ensures line { IfOk result (λ line. line.items ≡ json_answer (limit_of question.entry) target.now answer.now) }
-    ensures utf8 { OnOk result (IsUtf8 (json_answer (limit_of question.entry) target.now answer.now)) }
+    ensures line { IfOk result (λ line. line.items ≡ json_answer (limit_of query.entry) target.now answer.now) }
+    ensures utf8 { OnOk result (IsUtf8 (json_answer (limit_of query.entry) target.now answer.now)) }
 {
     let mut out = Writer::new(Vec::new(alloc));
-    write_object(alloc, question, target, answer, &mut out)?;
+    write_object(alloc, query, target, answer, &mut out)?;
     let mut line = out.into_inner();
     line.push(b'\n')?;
     Ok(line)
@@ -184,17 +184,17 @@ fn line_of(
 /// Appends an answer as a line `{"target":..,"verdict":..,"causes":[..]}`, with `"refused":..` after the causes of one that is
 /// refused; or leaves the text as it was.
 pub fn write_json_answer(
-    question: Question<'_>,
+    query: Query<'_>,
     target: &[u8],
     answer: &Result<Explanation, EngineError>,
     text: &mut Vec<u8>,
 ) -> Result<Status, AllocError>
-    ensures line { OnOk result (text.new.items ≡ text.old.items ++ json_answer (limit_of question.entry) target.now answer.now) }
-    ensures utf8 { OnOk result (IsUtf8 (json_answer (limit_of question.entry) target.now answer.now)) }
+    ensures line { OnOk result (text.new.items ≡ text.old.items ++ json_answer (limit_of query.entry) target.now answer.now) }
+    ensures utf8 { OnOk result (IsUtf8 (json_answer (limit_of query.entry) target.now answer.now)) }
     ensures status { IfOk result (λ s. code_of s ≡ status_unless_refused explanation_status answer.now) }
     ensures kept { OnErr result (text.new.items ≡ text.old.items) }
 {
-    let line = line_of(*text.allocator(), question, target, answer)?;
+    let line = line_of(*text.allocator(), query, target, answer)?;
     text.extend_from_slice(&line)?;
     Ok(answer_status(answer))
 }

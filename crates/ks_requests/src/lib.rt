@@ -11,6 +11,7 @@ mod preview;
 mod reading;
 mod refusal;
 mod replies;
+mod report_style;
 mod request;
 mod script;
 mod script_error;
@@ -18,7 +19,6 @@ mod sites;
 mod status;
 mod symbols;
 mod targets;
-mod telling;
 mod unknown;
 
 pub use inputs::{Inputs, Texts, borrowed, borrowed_path, inputs_at, read_given, texts_at};
@@ -29,15 +29,15 @@ pub use preview::{PreviewError, preview_to};
 pub use reading::Reading;
 pub use refusal::Refusal;
 pub use replies::{
-    build_status, tell_depfile, tell_recorded, tell_replies, tell_report, write_answer,
+    build_status, report_depfile, report_recorded, report_replies, report_sync, write_answer,
     write_build_line, write_refused_target,
 };
-pub use request::{DepfileAfter, Form, Request, Stamps, Targets};
+pub use report_style::ReportStyle;
+pub use request::{DepfileAfter, OutputFormat, Request, Stamps, Targets};
 pub use script::{ScriptLine, read_script, script_syncs};
 pub use script_error::ScriptError;
 pub use sites::{Part, Site, site_of};
 pub use status::{Count, Outcome, Status, stale_of, worse};
 pub use symbols::{symbols_of, write_cost, write_unrecorded, write_use};
 pub use targets::{all_targets, each_once, read_targets};
-pub use telling::Telling;
 pub use unknown::unknown_lines;

@@ -95,7 +95,7 @@ fn print_site<E: Writer>(err: &mut Stream<E>, site: &Site<'_>, text: Option<&[u8
 /// Prints `confstamp: ` and why a command was refused, as well as that goes. The status is 2 also where that fails.
 pub fn refuse<E: Writer>(err: &mut Stream<E>, refusal: &Refusal) -> u8
     ensures status { result ≡ 2 }
-    ensures told { Complains refusal.now [] (state_of E.Writer err.old) (state_of E.Writer err.new) }
+    ensures reported { Complains refusal.now [] (state_of E.Writer err.old) (state_of E.Writer err.new) }
 {
     let _ = print_complaint(err, refusal);
     2
@@ -129,7 +129,7 @@ pub fn refuse_at<T: Tree, E: Writer>(
 ) -> u8
     ensures status { result ≡ 2 }
     ensures reads { Reads T.Tree tree.old tree.new ⊥ }
-    ensures told { (line : List ℕ) × IsSiteLine T.is_honest (T.files tree.old) (Some (seen_site site.now)) line
+    ensures reported { (line : List ℕ) × IsSiteLine T.is_honest (T.files tree.old) (Some (seen_site site.now)) line
         × Complains refusal.now line (state_of E.Writer err.old) (state_of E.Writer err.new) }
 {
     if print_complaint(err, refusal) {

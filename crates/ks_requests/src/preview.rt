@@ -7,7 +7,7 @@ ghost use Rattle.ks_output.specs.AutoText.{auto_text};
 ghost use Rattle.ks_requests.specs.declared.preview.PreviewError.TheVariants.{Engine};
 ghost use Rattle.ks_requests.specs.Preview.{IsPreview, IsNoPreview, Previews, old_generation, old_refusal, old_texts, preview_refusal, touch_lines};
 
-use ks_engine::{EngineError, Report, Sources, plan, read_sources};
+use ks_engine::{ConfigInputs, EngineError, Report, plan, read_config_inputs};
 use ks_output::{AutoError, OldConfig, read_auto, write_auto};
 use ks_symbols::{Kconfig, Name};
 use std::alloc::{AllocError, Global};
@@ -58,7 +58,11 @@ pub(crate) fn write_touches(names: &[Name], out: &mut Vec<u8>) -> Result<(), All
 }
 
 /// The touch lines, and then auto.conf. The names are let go between the two.
-fn preview_text(alloc: Global, report: Report, sources: &Sources) -> Result<Vec<u8>, AllocError>
+fn preview_text(
+    alloc: Global,
+    report: Report,
+    sources: &ConfigInputs,
+) -> Result<Vec<u8>, AllocError>
     ensures { IfOk result (λ t. t.items ≡ touch_lines report.touched.items
         ++ auto_text sources.now.title.items sources.now.settings.entries report.generation) }
 {
@@ -80,7 +84,7 @@ fn preview_of(
     ensures text { IfOk result (λ t. IsPreview kconfig.now dotconfig.now (option_map (λ t. t.now) old.entry) t.items) }
     ensures refusal { RefusedBy EngineError.OutOfMemory result (preview_refusal kconfig.now dotconfig.now (option_map (λ t. t.now) old.entry)) }
 {
-    let sources = read_sources(alloc, kconfig, dotconfig)?;
+    let sources = read_config_inputs(alloc, kconfig, dotconfig)?;
     let before = read_old(alloc, old)?;
     let Some(report) = plan(alloc, &sources, &before)? else {
         return Err(EngineError::GenerationFull);

@@ -23,7 +23,7 @@ pub trait Reading: Tree {
         ensures small { Self.is_honest → IfOk result (λ found. (b : List ℕ) → content (Self.files self.old) path.now ≡ Some b → length b ≤ max_bytes) }
         ensures too_large { Self.is_honest → IsErrOf result TreeFault.TooLarge → IsTooLarge (content (Self.files self.old) path.now) }
         ensures unchanged { Self.is_honest → Self.files self.new ≡ Self.files self.old }
-        ensures kept { Self.aged self.new ≡ Self.aged self.old }
+        ensures kept { Self.backdated self.new ≡ Self.backdated self.old }
         ensures later { Self.failures self.old ≤ Self.failures self.new }
         ensures passed { OnOk result (Self.failures self.new ≡ Self.failures self.old) }
         ensures uncounted { IsErrOf result TreeFault.OutOfMemory → Self.failures self.new ≡ Self.failures self.old }

@@ -3,7 +3,7 @@
 //! A line of a verdict or of a refusal is the same for one object and in a script.
 ghost use Rattle.std.specs.Prelude.{◌≡◌, ◌++◌, List, ℕ, None, OnOk, IfOk, flat_map, map, length};
 ghost use Rattle.ks_engine.specs.Actions.{action};
-ghost use Rattle.ks_engine.specs.Questions.{limit_of};
+ghost use Rattle.ks_engine.specs.Queries.{limit_of};
 ghost use Rattle.ks_requests.specs.Faults.{counted};
 ghost use Rattle.ks_requests.specs.Replies.{answer_line, build_line, cause_line, depfile_line, explanation_lines, recorded_as, recorded_line, refused_line, refused_target_line, reply_line, reply_lines, report_lines, synced_line, verdict_line, verdict_text};
 ghost use Rattle.ks_requests.specs.Statuses.{build_status, code_of, explanation_status, reply_status, status_unless_refused, verdict_status, worst};
@@ -13,7 +13,7 @@ use crate::preview::write_touches;
 use crate::status::{Outcome, Status, worse};
 use itoa::Buffer;
 use ks_engine::{
-    BuildState, Cause, Command, EngineError, Explanation, Limit, Question, Recorded, Reply, Report,
+    BuildState, Cause, Command, EngineError, Explanation, Limit, Query, Recorded, Reply, Report,
     Verdict,
 };
 use std::alloc::{AllocError, Global};
@@ -87,15 +87,15 @@ fn write_causes(causes: &[Cause], text: &mut Vec<u8>) -> Result<(), AllocError>
 /// The line of a verdict, and where all causes were asked for a line for each.
 #[tactic(auto, unfolding(crate::specs::Replies::explanation_lines))]
 fn write_explanation(
-    question: Question<'_>,
+    query: Query<'_>,
     target: &[u8],
     explanation: &Explanation,
     text: &mut Vec<u8>,
 ) -> Result<(), AllocError>
-    ensures { OnOk result (text.new.items ≡ text.old.items ++ explanation_lines (limit_of question.entry) target.now explanation.now) }
+    ensures { OnOk result (text.new.items ≡ text.old.items ++ explanation_lines (limit_of query.entry) target.now explanation.now) }
 {
     write_verdict_line(target, &explanation.verdict, text)?;
-    match question.limit() {
+    match query.limit() {
         Limit::First => Ok(()),
         Limit::All => write_causes(&explanation.causes, text),
     }
@@ -193,17 +193,17 @@ pub fn write_refused_target(
 /// Appends the lines of an answer: `TARGET refused FAULT`, or its verdict, and after `why` a line `  NAME generation G PLACE` for
 /// each of its causes.
 pub fn write_answer(
-    question: Question<'_>,
+    query: Query<'_>,
     target: &[u8],
     answer: &Result<Explanation, EngineError>,
     text: &mut Vec<u8>,
 ) -> Result<Status, AllocError>
-    ensures lines { OnOk result (text.new.items ≡ text.old.items ++ answer_line (explanation_lines (limit_of question.entry)) target.now answer.now) }
+    ensures lines { OnOk result (text.new.items ≡ text.old.items ++ answer_line (explanation_lines (limit_of query.entry)) target.now answer.now) }
     ensures status { IfOk result (λ s. code_of s ≡ status_unless_refused explanation_status answer.now) }
 {
     match answer {
         Ok(explanation) => {
-            write_explanation(question, target, explanation, text)?;
+            write_explanation(query, target, explanation, text)?;
             Ok(verdict_status(&explanation.verdict))
         }
         Err(error) => {
@@ -236,7 +236,7 @@ fn write_reply(command: &Command<'_>, reply: &Reply, text: &mut Vec<u8>) -> Resu
 
 /// The lines of commands with their replies, in order, and what these come to: one that is refused has its line, as any
 /// other, and makes the status `Refused`.
-pub fn tell_replies(
+pub fn report_replies(
     alloc: Global,
     commands: &[Command<'_>],
     replies: &[Reply],
@@ -316,7 +316,7 @@ fn reply_status(reply: &Reply) -> Status
 }
 
 /// A synchronisation that is done, told name by name: `generation N`, a line `touch NAME` for each, and `unknown U`.
-pub fn tell_report(alloc: Global, report: &Report) -> Result<Outcome, AllocError>
+pub fn report_sync(alloc: Global, report: &Report) -> Result<Outcome, AllocError>
     ensures { IfOk result (λ o. (o.text.items ≡ report_lines report.now) × (code_of o.status ≡ 0) × (o.count ≡ None)) }
 {
     let mut text = Vec::new(alloc);
@@ -325,7 +325,7 @@ pub fn tell_report(alloc: Global, report: &Report) -> Result<Outcome, AllocError
 }
 
 /// What was recorded of an object, told in one line: `record TARGET generation N names M`.
-pub fn tell_recorded(
+pub fn report_recorded(
     alloc: Global,
     target: &[u8],
     recorded: &Recorded,
@@ -339,7 +339,7 @@ pub fn tell_recorded(
 
 /// What was recorded of an object whose dependency file is by its rule now, told in one line: `depfile TARGET generation N
 /// names M`.
-pub fn tell_depfile(
+pub fn report_depfile(
     alloc: Global,
     target: &[u8],
     recorded: &Recorded,

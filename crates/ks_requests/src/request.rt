@@ -1,17 +1,17 @@
 //! What the program can be asked to do.
-use crate::telling::Telling;
-use ks_engine::Ages;
+use crate::report_style::ReportStyle;
+use ks_engine::BackdateScope;
 
 /// The objects that a question is about: those among the words, and after them those of a file, one a line.
 #[derive(Debug, Drop)]
 pub struct Targets {
-    pub words: Vec<String>,
+    pub args: Vec<String>,
     pub from: Option<String>,
 }
 
 /// How the answers about objects are printed.
 #[derive(Clone, Copy, Debug, PartialEq, Eq)]
-pub enum Form {
+pub enum OutputFormat {
     /// Lines for people.
     Text,
     /// A line of JSON for each object, for scripts.
@@ -55,7 +55,7 @@ pub enum Request {
     Diff {
         kconfig: String,
         dotconfig: String,
-        telling: Telling,
+        report_style: ReportStyle,
     },
     /// The command file of an object, without a generation.
     Fixdep {
@@ -81,23 +81,23 @@ pub enum Request {
     /// Which of these objects are stale.
     Stale {
         targets: Targets,
-        form: Form,
+        format: OutputFormat,
     },
     /// Why these objects are stale.
     Why {
         targets: Targets,
-        form: Form,
+        format: OutputFormat,
     },
     /// Which of these objects would be stale after a synchronisation.
     Impact {
         kconfig: String,
         dotconfig: String,
         targets: Targets,
-        form: Form,
+        format: OutputFormat,
     },
     /// Which of these objects are stale, and those of them are aged.
-    Age {
-        which: Ages,
+    Backdate {
+        which: BackdateScope,
         targets: Targets,
     },
     /// Whether an object was built by another command, or is stale.

@@ -13,7 +13,7 @@ ghost use Rattle.ks_symbols.specs.Refusals.{RefusedBy};
 
 use crate::script_error::ScriptError;
 use bstr::ByteSlice;
-use ks_symbols::{MAX_BYTES, is_silent, path_is_legal};
+use ks_symbols::{MAX_BYTES, is_comment_or_blank, path_is_legal};
 use std::alloc::Global;
 
 /// A line of a script that asks for a command, by its words as they stand.
@@ -63,10 +63,10 @@ fn first_word(text: &[u8]) -> Option<(&[u8], &[u8])>
 }
 
 #[tactic(auto, unfolding(crate::specs::Script::sync_line))]
-fn sync_line(words: &[u8]) -> Option<ScriptLine<'_>>
-    ensures { option_map seen_line result ≡ sync_line words.now }
+fn sync_line(args: &[u8]) -> Option<ScriptLine<'_>>
+    ensures { option_map seen_line result ≡ sync_line args.now }
 {
-    let (kconfig, dotconfig) = first_word(words)?;
+    let (kconfig, dotconfig) = first_word(args)?;
     if path_is_legal(kconfig) && path_is_legal(dotconfig) {
         Some(ScriptLine::Sync(kconfig, dotconfig))
     } else {
@@ -75,20 +75,20 @@ fn sync_line(words: &[u8]) -> Option<ScriptLine<'_>>
 }
 
 #[tactic(auto, unfolding(crate::specs::Script::record_line))]
-fn record_line(words: &[u8]) -> Option<ScriptLine<'_>>
-    ensures { option_map seen_line result ≡ record_line words.now }
+fn record_line(args: &[u8]) -> Option<ScriptLine<'_>>
+    ensures { option_map seen_line result ≡ record_line args.now }
 {
-    let (depfile, rest) = first_word(words)?;
+    let (depfile, rest) = first_word(args)?;
     let (target, command) = first_word(rest)?;
     Some(ScriptLine::Record(depfile, target, command))
 }
 
 #[tactic(auto, unfolding(crate::specs::Script::stale_line))]
-fn stale_line(words: &[u8]) -> Option<ScriptLine<'_>>
-    ensures { option_map seen_line result ≡ stale_line words.now }
+fn stale_line(args: &[u8]) -> Option<ScriptLine<'_>>
+    ensures { option_map seen_line result ≡ stale_line args.now }
 {
-    if is_word(words) {
-        Some(ScriptLine::Stale(words))
+    if is_word(args) {
+        Some(ScriptLine::Stale(args))
     } else {
         None
     }
@@ -122,9 +122,9 @@ fn take_line<'a>(
     ensures memory { IsErrOf result ScriptError.OutOfMemory → line_fault number line.now ≡ None }
 {
     match parse_line(line) {
-        Some(said) => lines.push(said)?,
+        Some(stated) => lines.push(stated)?,
         None => {
-            if !is_silent(line) {
+            if !is_comment_or_blank(line) {
                 return Err(ScriptError::BadScript(number));
             }
         }
@@ -177,7 +177,7 @@ fn has_sync(text: &[u8]) -> bool
 fn is_faulty(line: &[u8]) -> bool
     ensures { result ≡ is_faulty line.now }
 {
-    parse_line(line).is_none() && !is_silent(line)
+    parse_line(line).is_none() && !is_comment_or_blank(line)
 }
 
 /// Whether a script isn't refused. Nothing is kept of its lines.

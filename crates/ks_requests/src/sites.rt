@@ -175,7 +175,7 @@ pub fn site_of<'a>(request: &'a Request, refusal: &Refusal) -> Option<Site<'a>>
         Request::Batch { script } => script_site(script.as_bytes(), refusal),
         Request::Stale { .. }
         | Request::Why { .. }
-        | Request::Age { .. }
+        | Request::Backdate { .. }
         | Request::Outdated { .. }
         | Request::Users { .. }
         | Request::Cost { .. } => None,

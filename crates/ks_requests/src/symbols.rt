@@ -19,11 +19,11 @@ fn symbol_of(word: &[u8]) -> &[u8]
 }
 
 /// The symbols that words ask for, in their order. They borrow the words.
-pub fn symbols_of<'a>(alloc: Global, words: &'a [String]) -> Result<Vec<&'a [u8]>, AllocError>
-    ensures { IfOk result (λ symbols. map (λ s. s.now) symbols.items ≡ symbols_of words.now) }
+pub fn symbols_of<'a>(alloc: Global, args: &'a [String]) -> Result<Vec<&'a [u8]>, AllocError>
+    ensures { IfOk result (λ symbols. map (λ s. s.now) symbols.items ≡ symbols_of args.now) }
 {
-    let mut symbols = Vec::with_capacity(alloc, words.len())?;
-    for word in words {
+    let mut symbols = Vec::with_capacity(alloc, args.len())?;
+    for word in args {
         symbols.push(symbol_of(word.as_bytes()))?;
     }
     Ok(symbols)

@@ -8,7 +8,7 @@ ghost use Rattle.ks_engine.specs.Refusals.{Answers};
 ghost use Rattle.ks_fixdep.specs.FoundNames.{all_noted};
 ghost use Rattle.ks_requests.specs.Inputs.{given_if_named};
 ghost use Rattle.ks_requests.specs.Readings.{ReadsEach, ReadsSome, if_named};
-ghost use Rattle.ks_requests.specs.Targets.{file_of, targets_in, with_file, words_of};
+ghost use Rattle.ks_requests.specs.Targets.{file_of, targets_in, with_file, args_of};
 
 use crate::inputs::{borrowed_path, read_named};
 use crate::reading::Reading;
@@ -32,10 +32,10 @@ fn push_lines<'a>(text: &'a [u8], targets: &mut Vec<&'a [u8]>) -> Result<(), All
 }
 
 /// Appends the words.
-fn push_words<'a>(words: &'a [String], targets: &mut Vec<&'a [u8]>) -> Result<(), AllocError>
-    ensures { OnOk result (map (λ t. t.now) targets.new.items ≡ map (λ t. t.now) targets.old.items ++ map (λ w. string_bytes w) words.now) }
+fn push_args<'a>(args: &'a [String], targets: &mut Vec<&'a [u8]>) -> Result<(), AllocError>
+    ensures { OnOk result (map (λ t. t.now) targets.new.items ≡ map (λ t. t.now) targets.old.items ++ map (λ w. string_bytes w) args.now) }
 {
-    for word in words {
+    for word in args {
         targets.push(word.as_bytes())?;
     }
     Ok(())
@@ -64,10 +64,10 @@ pub fn all_targets<'a>(
     targets: &'a Targets,
     text: Option<&'a [u8]>,
 ) -> Result<Vec<&'a [u8]>, AllocError>
-    ensures { IfOk result (λ all. map (λ t. t.now) all.items ≡ with_file (words_of targets.now) (option_map (λ t. t.now) text.entry)) }
+    ensures { IfOk result (λ all. map (λ t. t.now) all.items ≡ with_file (args_of targets.now) (option_map (λ t. t.now) text.entry)) }
 {
-    let mut all = Vec::with_capacity(alloc, targets.words.len())?;
-    push_words(&targets.words, &mut all)?;
+    let mut all = Vec::with_capacity(alloc, targets.args.len())?;
+    push_args(&targets.args, &mut all)?;
     if let Some(text) = text {
         push_lines(text, &mut all)?;
     }

@@ -1,5 +1,5 @@
 -- What calls that are made anew come to, and what is written by several.
-use Rattle.ks_streams.proofs.Prelude.{◌≡◌, ◌≤◌, ◌<◌, ◌+◌, ◌-◌, inl, inr, ℕ, true, false, true≢false, refl, List, [], take, take_all, drop, length, length-drop, take_rest, subst, sym, ◌∙◌, append-nil, arith, Appends, Keeps, Breaks, HasFailed, HasTaken, IsGivenUp, IsInterrupted, IsLeft, IsSeenOut, Prints, State, Takes, counted, tries}
+use Rattle.ks_streams.proofs.Prelude.{◌≡◌, ◌≤◌, ◌<◌, ◌+◌, ◌-◌, inl, inr, ℕ, true, false, true≢false, refl, List, [], take, take_all, drop, length, length-drop, take_rest, subst, sym, ◌∙◌, append-nil, arith, Appends, Keeps, Breaks, HasFailed, HasTaken, IsAborted, IsInterrupted, IsLeft, IsSeenOut, Prints, State, Takes, counted, tries}
 use Rattle.ks_streams.proofs.Writing.{appends_nothing, breaks_more, caused, kept_appended, kept_twice, keeps_same, no_part, part_written, takes_more, takes_unread, written_more}
 
 -- ---- calls that are made anew
@@ -46,7 +46,7 @@ seen_after n a b c w t = record {
 pub left_after : (n : ℕ) (a b c : State) → IsWaiting n a b → IsLeft b c → IsLeft a c
 left_after n a b c w l = record { bytes = kept_twice _ _ _ w.bytes l.bytes; is_unread = l.is_unread; failures = l.failures ∙ w.failures }
 
-pub failed_after : (n : ℕ) (a b c : State) → IsWaiting n a b → HasFailed b c → IsGivenUp a c
+pub failed_after : (n : ℕ) (a b c : State) → IsWaiting n a b → HasFailed b c → IsAborted a c
 failed_after n a b c w f = record {
   bytes = kept_twice _ _ _ w.bytes f.bytes;
   is_unread = f.is_unread ∙ w.is_unread;
@@ -56,7 +56,7 @@ failed_after n a b c w f = record {
 enough : (n many : ℕ) → 1000 ≤ n → n ≤ many → tries ≤ many
 enough n many all so_far = omega (arith, all, so_far)
 
-pub waited : (n : ℕ) (a b : State) → 1000 ≤ n → IsWaiting n a b → IsGivenUp a b
+pub waited : (n : ℕ) (a b : State) → 1000 ≤ n → IsWaiting n a b → IsAborted a b
 waited n a b all w = record { bytes = w.bytes; is_unread = w.is_unread; cause = inr (enough n b.interruptions all w.interruptions) }
 
 -- ---- a text by several calls
@@ -99,7 +99,7 @@ left n text a b c w l = record {
   failures = l.failures ∙ w.failures;
 }
 
-pub ended : (n : ℕ) (text : List ℕ) (a b c : State) → IsWriting n text a b → IsGivenUp b c → Breaks text a c
+pub ended : (n : ℕ) (text : List ℕ) (a b c : State) → IsWriting n text a b → IsAborted b c → Breaks text a c
 ended n text a b c w g = record {
   bytes = part_written _ _ _ text n w.bytes g.bytes;
   is_read = w.was_read;
@@ -141,8 +141,8 @@ prints_left a b l = record {
   seen_out = λ read. absurd (true≢false (sym l.is_unread ∙ read));
 }
 
-pub breaks_given_up : (a b : State) → a.is_unread ≡ false → IsGivenUp a b → Breaks [] a b
-breaks_given_up a b read g = record { bytes = no_part a.bytes b.bytes [] g.bytes; is_read = read; cause = g.cause }
+pub breaks_aborted : (a b : State) → a.is_unread ≡ false → IsAborted a b → Breaks [] a b
+breaks_aborted a b read g = record { bytes = no_part a.bytes b.bytes [] g.bytes; is_read = read; cause = g.cause }
 
 pub printed : (text : List ℕ) (a b c : State) → Takes text a b → Prints [] b c → Prints text a c
 printed text a b c p q = record {

@@ -4,6 +4,6 @@ pub use Rattle.std.proofs.Math.Seq.{take-add}
 pub use Rattle.std.proofs.lemmas.List.{take-append-drop, take_more, take_rest}
 pub use Rattle.std.proofs.lemmas.List.Concat.{flat_map-append}
 pub use Rattle.std.specs.Io.KnownBytes.{Appends, Keeps}
-pub use Rattle.ks_streams.specs.declared.fault.WriteFault.{WriteFault}
+pub use Rattle.ks_streams.specs.declared.write_error.WriteError.{WriteError}
 pub use Rattle.ks_streams.specs.Writers.{HasFailed, HasTaken, IsInterrupted, IsLeft, IsSeenOut, counted}
-pub use Rattle.ks_streams.specs.Streams.{Breaks, IsCause, IsGivenUp, IsPart, Prints, PrintsOrBreaks, State, Takes, state_of, tries}
+pub use Rattle.ks_streams.specs.Streams.{Breaks, IsCause, IsAborted, IsPart, Prints, PrintsOrBreaks, State, Takes, state_of, tries}

@@ -1,5 +1,5 @@
 -- What a stream has taken, over several writes.
-use Rattle.ks_streams.proofs.Prelude.{◌≡◌, inl, inr, ◌+◌, ◌-◌, ◌<◌, ◌≤◌, ◌⊎◌, ℕ, suc, refl, Bool, true, false, true≢false, IsTrue, List, [], ◌∷◌, ◌++◌, Option, Some, None, Result, Err, WriteFault, Bor, subst, sym, ap, ◌∙◌, append_assoc, append-nil, take, drop, length, get_or, flat_map, drop-cons, take_rest, take-append-drop, take_more, flat_map-append, take-add, Appends, Keeps, Breaks, IsCause, IsPart, Prints, PrintsOrBreaks, State, Takes, counted, tries}
+use Rattle.ks_streams.proofs.Prelude.{◌≡◌, inl, inr, ◌+◌, ◌-◌, ◌<◌, ◌≤◌, ◌⊎◌, ℕ, suc, refl, Bool, true, false, true≢false, IsTrue, List, [], ◌∷◌, ◌++◌, Option, Some, None, Result, Err, WriteError, Bor, subst, sym, ap, ◌∙◌, append_assoc, append-nil, take, drop, length, get_or, flat_map, drop-cons, take_rest, take-append-drop, take_more, flat_map-append, take-add, Appends, Keeps, Breaks, IsCause, IsPart, Prints, PrintsOrBreaks, State, Takes, counted, tries}
 
 pub keeps_same : (first : Option (List ℕ)) → Keeps first first
 keeps_same None = tt
@@ -22,7 +22,7 @@ kept_twice (Some x) (Some y) None j k = absurd k
 kept_twice (Some x) (Some y) (Some z) j k = k ∙ j
 
 -- an answer has one reason
-pub same_refusal : {V : Type 0} (answer : Result V WriteFault) (f e : WriteFault) → answer ≡ Err f → answer ≡ Err e → f ≡ e
+pub same_refusal : {V : Type 0} (answer : Result V WriteError) (f e : WriteError) → answer ≡ Err f → answer ≡ Err e → f ≡ e
 same_refusal answer f e p q = cc
 
 -- what was appended stays
@@ -161,14 +161,14 @@ takes_unread text s unread = record {
 
 -- ---- what is printed, by its answer and one text after the other
 
-pub told : (went : Bool) (text : List ℕ) (before after : State) → (IsTrue went → Prints text before after) → (went ≡ false → Breaks text before after)
+pub reported : (went : Bool) (text : List ℕ) (before after : State) → (IsTrue went → Prints text before after) → (went ≡ false → Breaks text before after)
     → PrintsOrBreaks text before after
-told true text before after whole broken = inl (whole refl)
-told false text before after whole broken = inr (broken refl)
+reported true text before after whole broken = inl (whole refl)
+reported false text before after whole broken = inr (broken refl)
 
-pub told_first : (a b : List ℕ) (before after : State) → Breaks a before after → PrintsOrBreaks (a ++ b) before after
-told_first a b before after p = inr (breaks_longer a b before after p)
+pub reported_first : (a b : List ℕ) (before after : State) → Breaks a before after → PrintsOrBreaks (a ++ b) before after
+reported_first a b before after p = inr (breaks_longer a b before after p)
 
-pub told_more : (a b : List ℕ) (first second third : State) → Prints a first second → PrintsOrBreaks b second third → PrintsOrBreaks (a ++ b) first third
-told_more a b first second third p (inl q) = inl (record { takes = takes_more a b first second third p.takes q.takes; seen_out = q.seen_out })
-told_more a b first second third p (inr q) = inr (breaks_more a b first second third p.takes q)
+pub reported_more : (a b : List ℕ) (first second third : State) → Prints a first second → PrintsOrBreaks b second third → PrintsOrBreaks (a ++ b) first third
+reported_more a b first second third p (inl q) = inl (record { takes = takes_more a b first second third p.takes q.takes; seen_out = q.seen_out })
+reported_more a b first second third p (inr q) = inr (breaks_more a b first second third p.takes q)

@@ -37,7 +37,7 @@ abbrev pub IsCause : State → State → Type 0
 IsCause before after = (after.failures ≡ counted before.failures) ⊎ (tries ≤ after.interruptions)
 
 -- Nothing was taken, for a cause.
-pub record IsGivenUp (before after : State) : Type 0 where
+pub record IsAborted (before after : State) : Type 0 where
   pub bytes : Keeps before.bytes after.bytes
   pub is_unread : after.is_unread ≡ before.is_unread
   pub cause : IsCause before after

@@ -2,14 +2,14 @@
 //! a part, be interrupted or fail.
 #![tactic(auto)]
 
-mod fault;
 mod notes;
 mod scripted;
 mod stream;
+mod write_error;
 mod writer;
 
-pub use fault::WriteFault;
 pub use notes::Notes;
 pub use scripted::{Scripted, Step};
 pub use stream::Stream;
+pub use write_error::WriteError;
 pub use writer::Writer;

@@ -1,11 +1,11 @@
 //! What a writer notes of the answers to its calls, so that what is told of a failure is told of a call that failed.
 ghost use Rattle.std.specs.Prelude.{◌≡◌, ℕ, IsErrOf, List, Option, false};
 ghost use Rattle.std.specs.Io.KnownBytes.{Appends, Keeps};
-ghost use Rattle.ks_streams.specs.declared.fault.WriteFault.{WriteFault};
+ghost use Rattle.ks_streams.specs.declared.write_error.WriteError.{WriteError};
 ghost use Rattle.ks_streams.specs.Noted.{noted};
 ghost use Rattle.ks_streams.specs.Writers.{HasFailed, HasTaken, IsInterrupted, IsLeft, IsSeenOut};
 
-use crate::WriteFault;
+use crate::WriteError;
 
 /// Whether nobody reads any more, whether bytes may be kept back, how many calls have failed, and how many of the latest ones
 /// were interrupted.
@@ -54,19 +54,19 @@ impl Notes {
     }
 
     /// A call did nothing, for a reason, which is its answer.
-    pub fn refuse<V>(&mut self, fault: WriteFault) -> Result<V, WriteFault>
-        ensures told { IsErrOf result fault }
-        ensures interrupted { fault ≡ WriteFault.Interrupted → (before after : Option (List ℕ)) → Keeps before after → IsInterrupted (noted before self.old) (noted after self.new) }
-        ensures unread { fault ≡ WriteFault.NoReader → (before after : Option (List ℕ)) → Keeps before after → IsLeft (noted before self.old) (noted after self.new) }
-        ensures failed { fault ≡ WriteFault.Failed → (before after : Option (List ℕ)) → Keeps before after → HasFailed (noted before self.old) (noted after self.new) }
+    pub fn refuse<V>(&mut self, fault: WriteError) -> Result<V, WriteError>
+        ensures reported { IsErrOf result fault }
+        ensures interrupted { fault ≡ WriteError.Interrupted → (before after : Option (List ℕ)) → Keeps before after → IsInterrupted (noted before self.old) (noted after self.new) }
+        ensures unread { fault ≡ WriteError.NoReader → (before after : Option (List ℕ)) → Keeps before after → IsLeft (noted before self.old) (noted after self.new) }
+        ensures failed { fault ≡ WriteError.Failed → (before after : Option (List ℕ)) → Keeps before after → HasFailed (noted before self.old) (noted after self.new) }
     {
         match fault {
-            WriteFault::Interrupted => self.interruptions = self.interruptions.saturating_add(1),
-            WriteFault::NoReader => {
+            WriteError::Interrupted => self.interruptions = self.interruptions.saturating_add(1),
+            WriteError::NoReader => {
                 self.is_unread = true;
                 self.interruptions = 0;
             }
-            WriteFault::Failed => {
+            WriteError::Failed => {
                 self.failures = self.failures.saturating_add(1);
                 self.interruptions = 0;
             }

@@ -3,7 +3,7 @@
 ghost use Rattle.std.specs.Prelude.{◌≡◌, Some};
 ghost use Rattle.ks_streams.specs.Noted.{noted};
 
-use crate::{Notes, WriteFault, Writer};
+use crate::{Notes, WriteError, Writer};
 
 /// What one call does.
 #[derive(Clone, Copy, Debug, Drop)]
@@ -11,7 +11,7 @@ pub enum Step {
     /// It takes so many bytes at most, and one at least; a flush is done.
     Take(usize),
     /// It takes nothing, for this reason.
-    Refuse(WriteFault),
+    Refuse(WriteError),
 }
 
 /// Steps that come in turn, from the first one again after the last. Where there is none each call takes all.
@@ -74,7 +74,7 @@ impl Writer for Scripted {
     ghost state = { λ s. noted (Some s.taken.items) s.notes };
 
     /// Memory that is refused is a failure.
-    fn write(&mut self, bytes: &[u8]) -> Result<usize, WriteFault> {
+    fn write(&mut self, bytes: &[u8]) -> Result<usize, WriteError> {
         let most = match self.script.step() {
             Step::Take(most) => most,
             Step::Refuse(fault) => return self.notes.refuse(fault),
@@ -85,11 +85,11 @@ impl Writer for Scripted {
                 self.notes.took();
                 Ok(count)
             }
-            Err(_) => self.notes.refuse(WriteFault::Failed),
+            Err(_) => self.notes.refuse(WriteError::Failed),
         }
     }
 
-    fn flush(&mut self) -> Result<(), WriteFault> {
+    fn flush(&mut self) -> Result<(), WriteError> {
         if let Step::Refuse(fault) = self.script.step() {
             return self.notes.refuse(fault);
         }

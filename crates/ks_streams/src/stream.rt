@@ -4,11 +4,11 @@
 //! A reader may go away before all is read, as `head` does once it has its lines. Nothing has failed then: who asked has what was
 //! wanted. So what nobody reads counts as taken, and the command goes on to its end.
 ghost use Rattle.std.specs.Prelude.{◌≡◌, ◌<◌, ◌≤◌, [], IfOk, IsErrOf, IsTrue, OnOk, false, flat_map, length, take};
-ghost use Rattle.ks_streams.specs.declared.fault.WriteFault.{WriteFault};
-ghost use Rattle.ks_streams.specs.Streams.{Breaks, IsGivenUp, Prints, Takes, state_of};
+ghost use Rattle.ks_streams.specs.declared.write_error.WriteError.{WriteError};
+ghost use Rattle.ks_streams.specs.Streams.{Breaks, IsAborted, Prints, Takes, state_of};
 ghost use Rattle.ks_streams.specs.Writers.{HasTaken, IsLeft, IsSeenOut};
 
-use crate::{WriteFault, Writer};
+use crate::{WriteError, Writer};
 
 /// How often a call is made that is interrupted each time.
 const TRIES: usize = 1000;
@@ -43,41 +43,41 @@ impl<W: Writer> Stream<W> {
     }
 
     /// Offers some bytes, anew where a signal comes first, and tells how many were taken.
-    fn offer(&mut self, bytes: &[u8]) -> Result<usize, WriteFault>
+    fn offer(&mut self, bytes: &[u8]) -> Result<usize, WriteError>
         ensures within { IfOk result (λ n. n ≤ length bytes.now) }
         ensures some { IfOk result (λ n. 0 < length bytes.now → 0 < n) }
         ensures taken { IfOk result (λ n. HasTaken (take n bytes.now) (state_of W.Writer self.old) (state_of W.Writer self.new)) }
-        ensures unread { IsErrOf result WriteFault.NoReader → IsLeft (state_of W.Writer self.old) (state_of W.Writer self.new) }
-        ensures failed { IsErrOf result WriteFault.Failed → IsGivenUp (state_of W.Writer self.old) (state_of W.Writer self.new) }
-        ensures interrupted { IsErrOf result WriteFault.Interrupted → IsGivenUp (state_of W.Writer self.old) (state_of W.Writer self.new) }
+        ensures unread { IsErrOf result WriteError.NoReader → IsLeft (state_of W.Writer self.old) (state_of W.Writer self.new) }
+        ensures failed { IsErrOf result WriteError.Failed → IsAborted (state_of W.Writer self.old) (state_of W.Writer self.new) }
+        ensures interrupted { IsErrOf result WriteError.Interrupted → IsAborted (state_of W.Writer self.old) (state_of W.Writer self.new) }
     {
         for _ in 0..TRIES {
             match self.writer.write(bytes) {
                 Ok(count) => return Ok(count),
-                Err(WriteFault::Interrupted) => {}
-                Err(WriteFault::NoReader) => return Err(WriteFault::NoReader),
-                Err(WriteFault::Failed) => return Err(WriteFault::Failed),
+                Err(WriteError::Interrupted) => {}
+                Err(WriteError::NoReader) => return Err(WriteError::NoReader),
+                Err(WriteError::Failed) => return Err(WriteError::Failed),
             }
         }
-        Err(WriteFault::Interrupted)
+        Err(WriteError::Interrupted)
     }
 
     /// Has the writer let go what it keeps back, anew where a signal comes first.
-    fn let_go(&mut self) -> Result<(), WriteFault>
+    fn let_go(&mut self) -> Result<(), WriteError>
         ensures seen_out { OnOk result (IsSeenOut (state_of W.Writer self.old) (state_of W.Writer self.new)) }
-        ensures unread { IsErrOf result WriteFault.NoReader → IsLeft (state_of W.Writer self.old) (state_of W.Writer self.new) }
-        ensures failed { IsErrOf result WriteFault.Failed → IsGivenUp (state_of W.Writer self.old) (state_of W.Writer self.new) }
-        ensures interrupted { IsErrOf result WriteFault.Interrupted → IsGivenUp (state_of W.Writer self.old) (state_of W.Writer self.new) }
+        ensures unread { IsErrOf result WriteError.NoReader → IsLeft (state_of W.Writer self.old) (state_of W.Writer self.new) }
+        ensures failed { IsErrOf result WriteError.Failed → IsAborted (state_of W.Writer self.old) (state_of W.Writer self.new) }
+        ensures interrupted { IsErrOf result WriteError.Interrupted → IsAborted (state_of W.Writer self.old) (state_of W.Writer self.new) }
     {
         for _ in 0..TRIES {
             match self.writer.flush() {
                 Ok(()) => return Ok(()),
-                Err(WriteFault::Interrupted) => {}
-                Err(WriteFault::NoReader) => return Err(WriteFault::NoReader),
-                Err(WriteFault::Failed) => return Err(WriteFault::Failed),
+                Err(WriteError::Interrupted) => {}
+                Err(WriteError::NoReader) => return Err(WriteError::NoReader),
+                Err(WriteError::Failed) => return Err(WriteError::Failed),
             }
         }
-        Err(WriteFault::Interrupted)
+        Err(WriteError::Interrupted)
     }
 
     /// Writes some bytes, as many as go out before there is a cause to end, and tells whether all did.
@@ -93,9 +93,9 @@ impl<W: Writer> Stream<W> {
         while done < bytes.len() {
             match self.offer(&bytes[done..]) {
                 Ok(count) => done += count,
-                Err(WriteFault::NoReader) => return true,
-                Err(WriteFault::Failed) => return false,
-                Err(WriteFault::Interrupted) => return false,
+                Err(WriteError::NoReader) => return true,
+                Err(WriteError::Failed) => return false,
+                Err(WriteError::Interrupted) => return false,
             }
         }
         true
@@ -125,9 +125,9 @@ impl<W: Writer> Stream<W> {
         }
         match self.let_go() {
             Ok(()) => true,
-            Err(WriteFault::NoReader) => true,
-            Err(WriteFault::Failed) => false,
-            Err(WriteFault::Interrupted) => false,
+            Err(WriteError::NoReader) => true,
+            Err(WriteError::Failed) => false,
+            Err(WriteError::Interrupted) => false,
         }
     }
 

@@ -1,5 +1,5 @@
 -- Declarations of one name with two kinds.
-use Rattle.ks_symbols.proofs.Prelude.{eq-eqb, ◌≡◌, ℕ, arith, ◌+◌, Bool, true, false, cond, List, [], ◌∷◌, ◌++◌, Option, Some, None, option_map, bytes_eq, length, take, drop, get_or, ◌<◌, refl, ap, append_assoc, cases_Bool, cond-true, cond-false, not-false, eqb-true, nat_list_cmp_total, find, Kind, SourceError, NameMap, kinds_in, or_else, clashes, fits, Form, Declaration, Declared, seen, Progress, progress_after, clash_fault, step_fault, no_kinds, first_kind, last_kind, first_clash, without_text, rules, is_eq-slice_cmp, at_drop_more, map_more}
+use Rattle.ks_symbols.proofs.Prelude.{eq-eqb, ◌≡◌, ℕ, arith, ◌+◌, Bool, true, false, cond, List, [], ◌∷◌, ◌++◌, Option, Some, None, option_map, bytes_eq, length, take, drop, get_or, ◌<◌, refl, ap, append_assoc, cases_Bool, cond-true, cond-false, not-false, eqb-true, nat_list_cmp_total, find, Kind, SourceError, NameMap, kinds_in, or_else, clashes, fits, LineKind, Declaration, Declared, seen, Progress, progress_after, clash_fault, step_fault, no_kinds, first_kind, last_kind, first_clash, without_text, rules, is_eq-slice_cmp, at_drop_more, map_more}
 use Rattle.std.proofs.Common.{map as map_list}
 use Rattle.std.specs.FinMap as map
 use Rattle.ks_symbols.specs.declared.error.SourceError.TheVariants as fault
@@ -47,7 +47,7 @@ are_first_next kinds before d ds are fits x = search (rules, cases_Bool, cond-tr
 -- ---- a line
 
 -- what is gathered of a line that is not refused by itself is what it adds to the first clash
-pub gathered : (ds : List Declared) (t : Option (List ℕ)) (b : Bool) (w : Option (ℕ × List ℕ)) (n : ℕ) (f : Form) (R : Option SourceError)
+pub gathered : (ds : List Declared) (t : Option (List ℕ)) (b : Bool) (w : Option (ℕ × List ℕ)) (n : ℕ) (f : LineKind) (R : Option SourceError)
     → step_fault no_kinds (record { declared = ds; title = t; started = b; waiting = w }) n f ≡ None
     → or_else (first_clash [] ds) (or_else (step_fault (last_kind ds) (record { declared = ds; title = t; started = b; waiting = w }) n f) R)
     ≡ or_else (first_clash [] (progress_after (record { declared = ds; title = t; started = b; waiting = w }) n f).declared)
@@ -55,7 +55,7 @@ pub gathered : (ds : List Declared) (t : Option (List ℕ)) (b : Bool) (w : Opti
 gathered ds t b w n f R none = grind (arith, or_assoc, clash-push)
 
 -- a line that is refused by itself is refused
-pub refused_anyway : (s : Progress) (n : ℕ) (f : Form) (e : SourceError) → step_fault no_kinds s n f ≡ Some e → step_fault (last_kind s.declared) s n f ≡ Some e
+pub refused_anyway : (s : Progress) (n : ℕ) (f : LineKind) (e : SourceError) → step_fault no_kinds s n f ≡ Some e → step_fault (last_kind s.declared) s n f ≡ Some e
 refused_anyway s n f e = search (rules, cases_Bool)
 
 -- ---- the kinds of a table

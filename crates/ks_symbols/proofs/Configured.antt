@@ -1,5 +1,5 @@
 -- Settings have names of symbols and texts of their kinds.
-use Rattle.ks_symbols.proofs.Prelude.{is_title, ◌≡◌, ℕ, ◌+◌, false, List, [], ◌∷◌, ◌++◌, Option, Some, None, option_and_then, IsTrue, bytes_eq, refl, sym, ◌∙◌, lookup, cond-true, cond-false, cases_Bool, append-nil, Kind, is_name, is_symbol_name, is_text, is_off, text_of, lines, Statement, statement, setting, gives, last_about, Form, Title, Entry, HasKind, title_in, title_of, entry_of, declares, declarations, declared, story, form_fault, kind_fault, goes_on, first_form_fault, kconfig_refusal, IsConfiguration, HasSymbolNames, Configuration, SettingsAreConfigurations, KconfigText, rules, arith, option_and_then_some}
+use Rattle.ks_symbols.proofs.Prelude.{is_title, ◌≡◌, ℕ, ◌+◌, false, List, [], ◌∷◌, ◌++◌, Option, Some, None, option_and_then, IsTrue, bytes_eq, refl, sym, ◌∙◌, lookup, cond-true, cond-false, cases_Bool, append-nil, Kind, is_name, is_symbol_name, is_text, is_off, text_of, lines, Statement, statement, setting, gives, last_about, LineKind, Title, Entry, HasKind, title_in, title_of, entry_of, declares, declarations, declared, story, line_kind_fault, kind_fault, goes_on, first_line_kind_fault, kconfig_refusal, IsConfiguration, HasSymbolNames, Configuration, SettingsAreConfigurations, KconfigText, rules, arith, option_and_then_some}
 use Rattle.ks_symbols.specs.declared.kinds.Kind.TheVariants as kind
 use Rattle.std.specs.FinMap as map
 use Rattle.ks_symbols.proofs.Readings.{reads_are_texts}
@@ -10,7 +10,7 @@ Fits : Kind → Option (List ℕ) → Type 0
 Fits k None = Unit {0}
 Fits k (Some x) = IsTrue (is_symbol_name k x)
 
-Legal : List Form → Type 0
+Legal : List LineKind → Type 0
 Legal [] = Unit {0}
 Legal (Title t ∷ earlier) = IsTrue (is_title t) × Legal earlier
 Legal (Entry x ∷ earlier) = IsTrue (is_name x) × Legal earlier
@@ -21,22 +21,22 @@ LegalName : Option (List ℕ) → Type 0
 LegalName None = Unit {0}
 LegalName (Some x) = IsTrue (is_name x)
 
-entry_legal : (said : List Form) → Legal said → LegalName (entry_of said)
+entry_legal : (stated : List LineKind) → Legal stated → LegalName (entry_of stated)
 unfolding Legal LegalName
-entry_legal said h = grind arith
+entry_legal stated h = grind arith
 
-kind_ok : (n : ℕ) (said : List Form) (k : Kind) (o : Option (List ℕ)) → LegalName o → kind_fault n said k o ≡ None → Fits k o
+kind_ok : (n : ℕ) (stated : List LineKind) (k : Kind) (o : Option (List ℕ)) → LegalName o → kind_fault n stated k o ≡ None → Fits k o
 unfolding Fits LegalName is_symbol_name
-kind_ok n said k o h e = grind arith
+kind_ok n stated k o h e = grind arith
 
-one_more : (n : ℕ) (said : List Form) (f : Form) (later : List Form) → Legal said → form_fault n said f later ≡ None → Legal (goes_on f said)
+one_more : (n : ℕ) (stated : List LineKind) (f : LineKind) (later : List LineKind) → Legal stated → line_kind_fault n stated f later ≡ None → Legal (goes_on f stated)
 unfolding Legal
-one_more n said f later h e = grind (arith, kind_ok, entry_legal)
+one_more n stated f later h e = grind (arith, kind_ok, entry_legal)
 
-all_legal : (n : ℕ) (said forms : List Form) → Legal said → first_form_fault n said forms ≡ None → Legal (story_after said forms)
-unfolding first_form_fault story_after
-all_legal n said [] h e = h
-all_legal n said (f ∷ later) h e = search (rules, none_both, one_more, (all_legal (n + 1) (goes_on f said) later))
+all_legal : (n : ℕ) (stated line_kinds : List LineKind) → Legal stated → first_line_kind_fault n stated line_kinds ≡ None → Legal (story_after stated line_kinds)
+unfolding first_line_kind_fault story_after
+all_legal n stated [] h e = h
+all_legal n stated (f ∷ later) h e = search (rules, none_both, one_more, (all_legal (n + 1) (goes_on f stated) later))
 
 declares_legal : (x : List ℕ) (k d : Kind) (o : Option (List ℕ)) (rest : List (List ℕ × Kind)) → Fits d o → lookup (bytes_eq x) (declares d o ++ rest)
     ≡ Some k
@@ -44,21 +44,21 @@ declares_legal : (x : List ℕ) (k d : Kind) (o : Option (List ℕ)) (rest : Lis
 unfolding Fits
 declares_legal x k d o rest h e later = search (rules, cond-true, cond-false, cases_Bool)
 
-declared_legal : (said : List Form) (x : List ℕ) (k : Kind) → Legal said → lookup (bytes_eq x) (declarations said) ≡ Some k → IsTrue (is_symbol_name k x)
+declared_legal : (stated : List LineKind) (x : List ℕ) (k : Kind) → Legal stated → lookup (bytes_eq x) (declarations stated) ≡ Some k → IsTrue (is_symbol_name k x)
 unfolding declarations Legal
 declared_legal [] x k h e = absurd (cc e)
-declared_legal (HasKind d ∷ said) x k h e = search (rules, declares_legal, (declared_legal said x k))
-declared_legal (f ∷ said) x k h e = search (rules, (declared_legal said x k))
+declared_legal (HasKind d ∷ stated) x k h e = search (rules, declares_legal, (declared_legal stated x k))
+declared_legal (f ∷ stated) x k h e = search (rules, (declared_legal stated x k))
 
 story_legal : (text : KconfigText) → kconfig_refusal text ≡ None → Legal (story text)
 unfolding kconfig_refusal Legal
 story_legal text e = search (rules, cases_Bool, cond-true, cond-false, story_after, story_is, append-nil, Legal, all_legal)
 
-latest : (said : List Form) → Legal said → IsTrue (is_title (title_in said))
+latest : (stated : List LineKind) → Legal stated → IsTrue (is_title (title_in stated))
 unfolding title_in Legal is_title
 latest [] h = refl
-latest (Title t ∷ said) h = h.0
-latest (f ∷ said) h = search (rules, (latest said))
+latest (Title t ∷ stated) h = h.0
+latest (f ∷ stated) h = search (rules, (latest stated))
 
 -- the title of an accepted text is a title
 pub title_is_title : (text : KconfigText) → kconfig_refusal text ≡ None → IsTrue (is_title (title_of text))
@@ -76,17 +76,17 @@ text_ok k w t e = search (rules, (reads_are_texts k w t))
 IsGiven : Kind → Kind × List ℕ → Type 0
 IsGiven k s = (k ≡ s.0) × IsTrue (is_text s.0 s.1) × (is_off s.0 s.1 ≡ false)
 
-gives_text : (k : Kind) (said : Option Statement) (s : Kind × List ℕ) → gives k said ≡ Some s → IsGiven k s
+gives_text : (k : Kind) (stated : Option Statement) (s : Kind × List ℕ) → gives k stated ≡ Some s → IsGiven k s
 unfolding gives IsGiven
-gives_text k said s e = grind (arith, text_ok)
+gives_text k stated s e = grind (arith, text_ok)
 
 -- what symbols with legal names are set to is a configuration
 pub configured : (kinds : List ℕ → Option Kind) (all : List (List ℕ)) (settings : Configuration) → HasSymbolNames kinds
     → ((x : List ℕ) → map.get settings x ≡ setting kinds all x) → IsConfiguration settings
 unfolding setting IsGiven
 configured kinds all settings names are x s e =
-    option_and_then_some _ (kinds x) s (sym (are x) ∙ e) (λ k is told.
-    option_and_then_some _ (last_about x all) s told (λ line at gave. search (rules, (gives_text k (statement line) s gave), (names x k is))))
+    option_and_then_some _ (kinds x) s (sym (are x) ∙ e) (λ k is known.
+    option_and_then_some _ (last_about x all) s known (λ line at gave. search (rules, (gives_text k (statement line) s gave), (names x k is))))
 
 -- accepted texts declare legal names
 pub declares_names : (text : KconfigText) → kconfig_refusal text ≡ None → HasSymbolNames (declared text)

@@ -3,10 +3,10 @@ use Rattle.ks_symbols.proofs.Prelude.{◌≡◌, ℕ, cond, List, [], ◌∷◌,
 use Rattle.std.specs.List.{find}
 
 -- a statement about a declared symbol changes that symbol alone
-pub declared_after : (kinds : List ℕ → Option Kind) (k : Kind) (said : Statement) → kinds (name_of said) ≡ Some k
-    → (x : List ℕ) (before : Option (Kind × List ℕ)) → cond (bytes_eq (name_of said) x) (gives k (Some said)) before
-    ≡ after_statement (kinds x) x (Some said) before
-declared_after kinds k said is x before = grind (arith, bytes_decides)
+pub declared_after : (kinds : List ℕ → Option Kind) (k : Kind) (stated : Statement) → kinds (name_of stated) ≡ Some k
+    → (x : List ℕ) (before : Option (Kind × List ℕ)) → cond (bytes_eq (name_of stated) x) (gives k (Some stated)) before
+    ≡ after_statement (kinds x) x (Some stated) before
+declared_after kinds k stated is x before = grind (arith, bytes_decides)
 
 -- what a name of a kind has after lines, when it had something before
 unfoldable pub settled : Option Kind → List ℕ → Option (Kind × List ℕ) → List (List ℕ) → Option (Kind × List ℕ)

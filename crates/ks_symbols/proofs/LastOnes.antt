@@ -25,9 +25,9 @@ pub turned : (x y : List ℕ) → order y x ≡ ordering_reverse (order x y)
 turned x y = nat_list_cmp_total.antisymm y x
 
 -- the last that is said of a name
-pub last_said : {Y : Type 0} → List ℕ → List (List ℕ × Y) → Option Y
-last_said q [] = None
-last_said q (e ∷ es) = or_else (last_said q es) (cond (bytes_eq q e.0) (Some e.1) None)
+pub last_stated : {Y : Type 0} → List ℕ → List (List ℕ × Y) → Option Y
+last_stated q [] = None
+last_stated q (e ∷ es) = or_else (last_stated q es) (cond (bytes_eq q e.0) (Some e.1) None)
 
 -- what the lines make of a map: the last one about a name counts
 got_line : {X : Type 0} (m : NameMap X) (x : List ℕ) (o : Option X) (q : List ℕ) → map.get (after_line m x o) q ≡ cond (bytes_eq q x) o (map.get m q)
@@ -37,8 +37,8 @@ pub given_line : {X : Type 0} (m : NameMap X) (x : List ℕ) (o : Option X) (q :
 given_line m x o q = grind (arith, map.get-remove, map.get-insert, nat_list_cmp_total, is_eq-slice_cmp, nat_list_eq_equiv)
 
 pub got_lines : {X : Type 0} (m : NameMap X) (es : List (List ℕ × Option X)) (q : List ℕ) → map.get (after_lines m es) q
-    ≡ unwrap_or (last_said q es) (map.get m q)
-unfolding after_lines last_said
+    ≡ unwrap_or (last_stated q es) (map.get m q)
+unfolding after_lines last_stated
 got_lines m [] q = refl
 got_lines m (e ∷ es) q = grind (arith, got_line, (got_lines (after_line m e.0 e.1) es q))
 
@@ -52,10 +52,10 @@ after_push m (f ∷ es) e = after_push (after_line m f.0 f.1) es e
 pub or_none : {Y : Type 0} (o : Option Y) → or_else o None ≡ o
 or_none o = grind arith
 
-said_kept : {Y : Type 0} (q : List ℕ) (es : List (List ℕ × Y)) → last_said q (filter (λ e. bytes_eq q e.0) es) ≡ last_said q es
-unfolding last_said
-said_kept q [] = refl
-said_kept q (e ∷ es) = grind (arith, (said_kept q es))
+stated_kept : {Y : Type 0} (q : List ℕ) (es : List (List ℕ × Y)) → last_stated q (filter (λ e. bytes_eq q e.0) es) ≡ last_stated q es
+unfolding last_stated
+stated_kept q [] = refl
+stated_kept q (e ∷ es) = grind (arith, (stated_kept q es))
 
 filter_shown : {X Y : Type 0} (p : Y → Bool) (f : X → Y) (xs : List X) → filter p (map_list f xs) ≡ map_list f (filter (λ x. p (f x)) xs)
 filter_shown p f [] = refl
@@ -78,11 +78,11 @@ module _ {X : Type 0} (key : X → List ℕ) (xs ys : List X) (stable : IsStable
   named_kept : (q : List ℕ) → filter (is_named q) ys ≡ filter (is_named q) xs
   named_kept q = search (rules, some_kept, alike_at)
 
-said_sorted : {X Y : Type 0} (f : X → List ℕ × Y) (xs ys : List X) → IsStableByKey (λ x. (f x).0) order xs ys → (q : List ℕ)
-    → last_said q (map_list f ys) ≡ last_said q (map_list f xs)
-said_sorted f xs ys stable q =
+stated_sorted : {X Y : Type 0} (f : X → List ℕ × Y) (xs ys : List X) → IsStableByKey (λ x. (f x).0) order xs ys → (q : List ℕ)
+    → last_stated q (map_list f ys) ≡ last_stated q (map_list f xs)
+stated_sorted f xs ys stable q =
     let kept = named_kept (λ x. (f x).0) xs ys stable q in
-    sym (said_kept q (map_list f ys)) ∙ search (rules, filter_shown, kept) ∙ said_kept q (map_list f xs)
+    sym (stated_kept q (map_list f ys)) ∙ search (rules, filter_shown, kept) ∙ stated_kept q (map_list f xs)
 
 -- no name is below the one before it
 abbrev NotAbove : {Y : Type 0} → List ℕ → List (List ℕ × Y) → Type 0
@@ -137,20 +137,20 @@ last_ones_rise [] r = tt
 last_ones_rise (e ∷ es) r = grind (arith, two, below, apart, (last_ones_rise es r.1))
 
 -- and have what is said last
-none_above : {Y : Type 0} (q : List ℕ) (es : List (List ℕ × Y)) → Above q es → last_said q es ≡ None
-unfolding last_said
+none_above : {Y : Type 0} (q : List ℕ) (es : List (List ℕ × Y)) → Above q es → last_stated q es ≡ None
+unfolding last_stated
 none_above q [] h = refl
-none_above q (e ∷ es) h = let apart = sym (is_eq-slice_cmp q e.0) ∙ ap is_eq h.0 in search (rules, last_said, apart, cond-false, (none_above q es h.1))
+none_above q (e ∷ es) h = let apart = sym (is_eq-slice_cmp q e.0) ∙ ap is_eq h.0 in search (rules, last_stated, apart, cond-false, (none_above q es h.1))
 
-said_again : {Y : Type 0} (q x : List ℕ) (es : List (List ℕ × Y)) (y : Y) → begins_with x es ≡ true
-    → or_else (last_said q es) (cond (bytes_eq q x) (Some y) None) ≡ last_said q es
-unfolding last_said
-said_again q x es y b = grind (arith, bytes_decides)
+stated_again : {Y : Type 0} (q x : List ℕ) (es : List (List ℕ × Y)) (y : Y) → begins_with x es ≡ true
+    → or_else (last_stated q es) (cond (bytes_eq q x) (Some y) None) ≡ last_stated q es
+unfolding last_stated
+stated_again q x es y b = grind (arith, bytes_decides)
 
-found : {X : Type 0} (q : List ℕ) (es : List (List ℕ × Option X)) → Rises es → find order q (last_ones es) ≡ unwrap_or (last_said q es) None
-unfolding last_ones last_said
+found : {X : Type 0} (q : List ℕ) (es : List (List ℕ × Option X)) → Rises es → find order q (last_ones es) ≡ unwrap_or (last_stated q es) None
+unfolding last_ones last_stated
 found q [] r = refl
-found q (e ∷ es) r = search (rules, last_said, said_again, cases_Bool, none_above, apart, is_eq-slice_cmp, or_none, cond-true, cond-false, (found q es r.1))
+found q (e ∷ es) r = search (rules, last_stated, stated_again, cases_Bool, none_above, apart, is_eq-slice_cmp, or_none, cond-true, cond-false, (found q es r.1))
 
 -- Lines that are put in order by their names, stably: what is left rises, and is the map that the lines make.
 pub closed_rise : {X S : Type 0} (f : X → List ℕ × Option S) (ys : List X) → IsSortedByKey (λ x. (f x).0) order ys
@@ -161,4 +161,4 @@ pub closed : {X S : Type 0} (f : X → List ℕ × Option S) (xs ys : List X) �
     → map.from_entries {R = order} (last_ones (map_list f ys)) ≡ after_lines map.empty (map_list f xs)
 closed f xs ys sorted stable =
     map.same_map nat_list_cmp_total bytes_exact _ _
-    (λ q. search (rules, map.get-from_entries, nat_list_cmp_total, found, rises, said_sorted, map.get-empty, got_lines))
+    (λ q. search (rules, map.get-from_entries, nat_list_cmp_total, found, rises, stated_sorted, map.get-empty, got_lines))

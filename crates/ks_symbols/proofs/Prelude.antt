@@ -40,11 +40,11 @@ unfoldable pub use Rattle.ks_symbols.specs.Configuration.{kinds_in}
 pub use Rattle.ks_symbols.specs.Decimal.{decimal_value, is_canonical, starts_well}
 pub use Rattle.ks_symbols.specs.DotConfig.{is_about, is_of_unknown, last_about, unknown_count}
 unfoldable pub use Rattle.ks_symbols.specs.DotConfig.{dotconfig_refusal, first_fault, gives, line_fault, setting}
-pub use Rattle.ks_symbols.specs.Forms.{Entry, Form, HasKind, Title, is_blank, is_no_blank, is_no_quote}
-unfoldable pub use Rattle.ks_symbols.specs.Forms.{after_quote, form, kind_form, title_form, word_form}
+pub use Rattle.ks_symbols.specs.LineKinds.{Entry, LineKind, HasKind, Title, is_blank, is_no_blank, is_no_quote}
+unfoldable pub use Rattle.ks_symbols.specs.LineKinds.{after_quote, line_kind, kind_line_kind, title_line_kind, word_line_kind}
 pub use Rattle.ks_symbols.specs.Dialects.{KconfigText, read_in}
-pub use Rattle.ks_symbols.specs.Kconfig.{clashes, declares, entry_of, form_fault, forms, goes_on, kind_fault, kind_in, lacks_kind, opens, says, story}
-unfoldable pub use Rattle.ks_symbols.specs.Kconfig.{declarations, declared, first_form_fault, kconfig_refusal, title_in, title_of}
+pub use Rattle.ks_symbols.specs.Kconfig.{clashes, declares, entry_of, line_kind_fault, line_kinds, goes_on, kind_fault, kind_in, lacks_kind, opens, says, story}
+unfoldable pub use Rattle.ks_symbols.specs.Kconfig.{declarations, declared, first_line_kind_fault, kconfig_refusal, title_in, title_of}
 pub use Rattle.ks_symbols.specs.Kinds.{class_again, class_of, fits, is_hexadecimal, is_off, is_string_byte}
 unfoldable pub use Rattle.ks_symbols.specs.Kinds.{is_symbol_name, is_text}
 pub use Rattle.ks_symbols.specs.Laws.{NoLineHoldsALineFeed, ReadsAreTexts, SettingsAreConfigurations, StatementsAreSpelled}
@@ -58,7 +58,7 @@ pub use Rattle.ks_symbols.specs.Refusals.{IsRefusal, RefusedBy, or_else}
 pub use Rattle.ks_symbols.specs.Settling.{after_statement}
 pub use Rattle.ks_symbols.specs.Statements.{Assigns, Says, Statement, name_of}
 unfoldable pub use Rattle.ks_symbols.specs.Statements.{assignment, statement, unsetting}
-pub use Rattle.ks_symbols.specs.Table.{AreHeaded, LieIn, after_line, begins_with, by_heads, entry_in, head_of, name_in, said_in}
+pub use Rattle.ks_symbols.specs.Table.{AreHeaded, LieIn, after_line, begins_with, by_heads, entry_in, head_of, name_in, stated_in}
 unfoldable pub use Rattle.ks_symbols.specs.Table.{after_lines, last_ones}
 pub use Rattle.ks_symbols.specs.Titles.{ends_comment}
 unfoldable pub use Rattle.ks_symbols.specs.Titles.{is_title}

@@ -38,15 +38,15 @@ spelled (b ∷ c ∷ rest) t e =
     let Spells = λ (l : List ℕ). IsTrue (list_all is_string_byte l) × (b ∷ c ∷ rest ≡ flat_map escape l ++ 34 ∷ []) in
     elim (eqb_tells b 92) [
       | inl w ↦
-          let told = chosen (is_escaped c) _ t (sym (cond-true (b == 92) _ _ w.0) ∙ e) in
-          let m = mapped c (unquoted_rest rest) t told.1 in
-          let s = step_escape c rest m.0 told.0 (spelled rest m.0 m.1) in
+          let known = chosen (is_escaped c) _ t (sym (cond-true (b == 92) _ _ w.0) ∙ e) in
+          let m = mapped c (unquoted_rest rest) t known.1 in
+          let s = step_escape c rest m.0 known.0 (spelled rest m.0 m.1) in
           subst Spells m.2 (s.0, ap (λ (x : ℕ). x ∷ c ∷ rest) w.1 ∙ s.1)
       | inr w ↦
-          let told = passed (b == 34 || not (is_string_byte b)) _ t (sym (cond-false (b == 92) _ _ w.0) ∙ e) in
-          let m = mapped b (unquoted_rest (c ∷ rest)) t told.1 in
-          let plain : is_escaped b ≡ false = grind (arith, told.0, w.0) in
-          let byte : is_string_byte b ≡ true = grind (arith, told.0) in
+          let known = passed (b == 34 || not (is_string_byte b)) _ t (sym (cond-false (b == 92) _ _ w.0) ∙ e) in
+          let m = mapped b (unquoted_rest (c ∷ rest)) t known.1 in
+          let plain : is_escaped b ≡ false = grind (arith, known.0, w.0) in
+          let byte : is_string_byte b ≡ true = grind (arith, known.0) in
           subst Spells m.2 (step_byte b (c ∷ rest) m.0 plain byte (spelled (c ∷ rest) m.0 m.1))
     ]
 

@@ -1,5 +1,5 @@
 -- Records over bytes: they stay what they are when bytes are appended, and are found where their names rise.
-use Rattle.ks_symbols.proofs.Prelude.{ordering_reverse, ◌≡◌, ℕ, zero, suc, ◌+◌, ◌<◌, ◌≤◌, false, T, length, List, [], ◌∷◌, ◌++◌, Option, Some, None, option_map, get_or, slice_range, refl, sym, ap, ap₂, add-one, ◌∙◌, arith, inl, inr, length-append, take-length, drop-append_seam, map-append, cases_lt, is_lt, is_eq, ordering_index, nat_list_cmp_total, Ordering, Less, Equal, Greater, find, is_sorted, below_all, IsNonDecreasingBy, IsPartitionPoint, searchable_from_sorted, slice_get, same_Some, bytes_eq, begins_with, Record, NameMap, name_in, entry_in, said_in, LieIn, common_steps, rules, same_map}
+use Rattle.ks_symbols.proofs.Prelude.{ordering_reverse, ◌≡◌, ℕ, zero, suc, ◌+◌, ◌<◌, ◌≤◌, false, T, length, List, [], ◌∷◌, ◌++◌, Option, Some, None, option_map, get_or, slice_range, refl, sym, ap, ap₂, add-one, ◌∙◌, arith, inl, inr, length-append, take-length, drop-append_seam, map-append, cases_lt, is_lt, is_eq, ordering_index, nat_list_cmp_total, Ordering, Less, Equal, Greater, find, is_sorted, below_all, IsNonDecreasingBy, IsPartitionPoint, searchable_from_sorted, slice_get, same_Some, bytes_eq, begins_with, Record, NameMap, name_in, entry_in, stated_in, LieIn, common_steps, rules, same_map}
 use Rattle.std.proofs.Common.{map as map_list}
 use Rattle.std.specs.FinMap as map
 use Rattle.ks_symbols.proofs.LastOnes.{order, bytes_exact, first, second, turned, tied}
@@ -20,10 +20,10 @@ pub lie_push : {V : Type 0} (n : ℕ) (rs : List (Record V)) (r : Record V) → 
 lie_push n [] r h p q = (p, q, tt)
 lie_push n (s ∷ rs) r h p q = search (rules, (lie_push n rs r))
 
-pub said_more : {V : Type 0} (bs more : List ℕ) (rs : List (Record (Option V))) → LieIn (length bs) rs → map_list (said_in (bs ++ more)) rs
-    ≡ map_list (said_in bs) rs
-said_more bs more [] h = refl
-said_more bs more (r ∷ rs) h = search (rules, range_more, (said_more bs more rs h.2))
+pub stated_more : {V : Type 0} (bs more : List ℕ) (rs : List (Record (Option V))) → LieIn (length bs) rs → map_list (stated_in (bs ++ more)) rs
+    ≡ map_list (stated_in bs) rs
+stated_more bs more [] h = refl
+stated_more bs more (r ∷ rs) h = search (rules, range_more, (stated_more bs more rs h.2))
 
 pub entry_more : {V : Type 0} (bs more : List ℕ) (rs : List (Record V)) → LieIn (length bs) rs → map_list (entry_in (bs ++ more)) rs ≡ map_list (entry_in bs) rs
 entry_more bs more [] h = refl
@@ -36,10 +36,10 @@ pub entry_pushed : {V : Type 0} (bs name text : List ℕ) (rs : List (Record V))
 entry_pushed bs name text rs r h from mid to = search (rules, length-append, range_more, range_end, map-append, entry_more, lie_more)
 
 -- a record that is pushed after its name and its text
-pub said_pushed : {V : Type 0} (bs name text : List ℕ) (rs : List (Record (Option V))) (r : Record (Option V)) → LieIn (length bs) rs
+pub stated_pushed : {V : Type 0} (bs name text : List ℕ) (rs : List (Record (Option V))) (r : Record (Option V)) → LieIn (length bs) rs
     → r.start ≡ length bs → r.middle ≡ length bs + length name → r.end ≡ length bs + length name + length text
-    → map_list (said_in ((bs ++ name) ++ text)) (rs ++ r ∷ []) ≡ map_list (said_in bs) rs ++ (name, option_map (λ v. (v, text)) r.value) ∷ []
-said_pushed bs name text rs r h from mid to = search (rules, length-append, range_more, range_end, map-append, said_more, lie_more)
+    → map_list (stated_in ((bs ++ name) ++ text)) (rs ++ r ∷ []) ≡ map_list (stated_in bs) rs ++ (name, option_map (λ v. (v, text)) r.value) ∷ []
+stated_pushed bs name text rs r h from mid to = search (rules, length-append, range_more, range_end, map-append, stated_more, lie_more)
 
 pub find_after : {X : Type 0} (q : List ℕ) (e : List ℕ × X) (es : List (List ℕ × X)) → is_eq (order e.0 q) ≡ false → find order q (e ∷ es) ≡ find order q es
 find_after q e es ne = grind (arith, turned)
@@ -113,7 +113,7 @@ entries_of es h =
 
 -- whether the first record has a name
 pub begins_at : {V : Type 0} (bs name : List ℕ) (rs : List (Record (Option V))) (r : Record (Option V)) → Some r ≡ slice_get rs 0
-    → begins_with name (map_list (said_in bs) rs) ≡ bytes_eq name (name_in bs r)
+    → begins_with name (map_list (stated_in bs) rs) ≡ bytes_eq name (name_in bs r)
 begins_at bs name [] r e = absurd (cc e)
 begins_at {V} bs name (s ∷ rs) r e = ap (λ (x : Record (Option V)). bytes_eq name (name_in bs x)) (same_Some s r (sym e))
 

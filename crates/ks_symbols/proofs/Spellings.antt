@@ -18,29 +18,29 @@ pub word_bytes : (name : List ℕ) → is_name name ≡ true → list_all is_wor
 unfolding is_name
 word_bytes name e = (and_parts _ _ e).1
 
-says_assignment : (line text : List ℕ) (said : Statement) → line ≡ codes "CONFIG_" ++ text → assignment text ≡ Some said → Says line said
+says_assignment : (line text : List ℕ) (stated : Statement) → line ≡ codes "CONFIG_" ++ text → assignment text ≡ Some stated → Says line stated
 unfolding assignment
-says_assignment line text said is e = search (rules, cond_some, and_parts, run_split, opened, append_assoc)
+says_assignment line text stated is e = search (rules, cond_some, and_parts, run_split, opened, append_assoc)
 
-says_unsetting : (line text : List ℕ) (said : Statement) → line ≡ codes "# CONFIG_" ++ text → unsetting text ≡ Some said → Says line said
+says_unsetting : (line text : List ℕ) (stated : Statement) → line ≡ codes "# CONFIG_" ++ text → unsetting text ≡ Some stated → Says line stated
 unfolding unsetting
-says_unsetting line text said is e = search (rules, cond_some, and_parts, run_split, append_assoc)
+says_unsetting line text stated is e = search (rules, cond_some, and_parts, run_split, append_assoc)
 
-spelled : (line : List ℕ) (said : Statement) → statement line ≡ Some said → Says line said
+spelled : (line : List ℕ) (stated : Statement) → statement line ≡ Some stated → Says line stated
 unfolding statement
-spelled line said e = elim (cases_Bool (starts_with nat_eq line (codes "CONFIG_"))) [
-  | inl set ↦ says_assignment line (drop 7 line) said (opened line (codes "CONFIG_") set) (sym (cond-true _ _ _ set) ∙ e)
+spelled line stated e = elim (cases_Bool (starts_with nat_eq line (codes "CONFIG_"))) [
+  | inl set ↦ says_assignment line (drop 7 line) stated (opened line (codes "CONFIG_") set) (sym (cond-true _ _ _ set) ∙ e)
   | inr other ↦
       let rest = sym (cond-false _ _ _ other) ∙ e in
       elim (cases_Bool (starts_with nat_eq line (codes "# CONFIG_"))) [
-        | inl unset ↦ says_unsetting line (drop 9 line) said (opened line (codes "# CONFIG_") unset) (sym (cond-true _ _ _ unset) ∙ rest)
-        | inr silent ↦ absurd (cc (sym (cond-false _ _ _ silent) ∙ rest))
+        | inl unset ↦ says_unsetting line (drop 9 line) stated (opened line (codes "# CONFIG_") unset) (sym (cond-true _ _ _ unset) ∙ rest)
+        | inr comment_or_blank ↦ absurd (cc (sym (cond-false _ _ _ comment_or_blank) ∙ rest))
       ]
 ]
 
-spells : (line : List ℕ) (said : Statement) → Says line said → statement line ≡ Some said
+spells : (line : List ℕ) (stated : Statement) → Says line stated → statement line ≡ Some stated
 unfolding statement assignment unsetting
-spells line said h = search (rules, append_assoc, run_is, word_bytes, drop-append_seam)
+spells line stated h = search (rules, append_assoc, run_is, word_bytes, drop-append_seam)
 
 pub statements_are_spelled : StatementsAreSpelled
-statements_are_spelled line said = (spelled line said, spells line said)
+statements_are_spelled line stated = (spelled line stated, spells line stated)

@@ -45,7 +45,7 @@ pub run_ends : (p : ℕ → Bool) (xs : List ℕ) (seen at end : ℕ) → at ≤
 run_ends p xs seen at end overlap fits front run stops = sym (prefix_len_is p xs end 0 fits (passes_on p xs seen at end overlap front run) stops)
 
 -- Of sixteen bytes the lanes z are set by f where no word goes on.
-module _ (text : List ℕ) (at r : ℕ) (f : ℕ → ℕ) (z : List ℕ) (room : at + 16 ≤ length text) (fits : (k : ℕ) → Fits w8 (get_or text k 0))
+module _ (text : List ℕ) (at r : ℕ) (f : ℕ → ℕ) (z : List ℕ) (headroom : at + 16 ≤ length text) (fits : (k : ℕ) → Fits w8 (get_or text k 0))
     (lanes : z ≡ map f (chunk at 16 text))
     (found : r ≡ cond (eqb (mask_l (map (top 7) z) % 2 ^ 64) 0) 16 (trailing_zeros w64 (mask_l (map (top 7) z) % 2 ^ 64)))
     (agrees : agree_below (λ x. top 7 (f x)) (λ x. not (is_word_byte x)) 256 ≡ true) where
@@ -55,16 +55,16 @@ module _ (text : List ℕ) (at r : ℕ) (f : ℕ → ℕ) (z : List ℕ) (room :
   counted : r ≡ prefix_len (λ x. not (stops x)) (chunk at 16 text)
   counted =
       let v = chunk at 16 text in
-      let long = length-chunk at 16 text room in
+      let long = length-chunk at 16 text headroom in
       let mask = ap (λ l. mask_l l % 2 ^ 64) (ap (map (top 7)) lanes ∙ map-map (top 7) f v) ∙ mask_l-mod (map stops v) 64 (omega (arith, length-map v stops, long)) in
       found ∙ ap (λ m. cond (eqb m 0) 16 (trailing_zeros w64 m)) mask ∙ first_set_mask_l stops v 16 long (omega arith)
 
-  tells : (k : ℕ) → not (is_word_byte (get_or text k 0)) ≡ stops (get_or text k 0)
-  tells k = sym (agree_below_at stops (λ x. not (is_word_byte x)) 256 (get_or text k 0) agrees (fits k).fits)
+  reports : (k : ℕ) → not (is_word_byte (get_or text k 0)) ≡ stops (get_or text k 0)
+  reports k = sym (agree_below_at stops (λ x. not (is_word_byte x)) 256 (get_or text k 0) agrees (fits k).fits)
 
   pub run_of_lanes : (r ≤ 16) × ((k : ℕ) → at ≤ k → k < at + r → is_word_byte (get_or text k 0) ≡ true) × (r < 16 → is_word_byte (get_or text (at + r) 0) ≡ false)
   run_of_lanes = (
-    run_in_chunk_le stops text at 16 r 0 room counted,
-    λ k from to. not-false _ (tells k ∙ run_in_chunk_fails stops text at 16 r 0 room counted k from to),
-    λ short. not-true _ (tells (at + r) ∙ run_in_chunk_stops stops text at 16 r 0 room counted short),
+    run_in_chunk_le stops text at 16 r 0 headroom counted,
+    λ k from to. not-false _ (reports k ∙ run_in_chunk_fails stops text at 16 r 0 headroom counted k from to),
+    λ short. not-true _ (reports (at + r) ∙ run_in_chunk_stops stops text at 16 r 0 headroom counted short),
   )

@@ -7,7 +7,7 @@ use Rattle.ks_symbols.specs.Lines.{max_bytes, lines}
 use Rattle.ks_symbols.specs.Kinds.{is_off}
 use Rattle.ks_symbols.specs.Values.{text_of}
 use Rattle.ks_symbols.specs.Refusals.{or_else}
-use Rattle.ks_symbols.specs.Statements.{Statement, statement, name_of, is_silent, is_of, Assigns, Unsets}
+use Rattle.ks_symbols.specs.Statements.{Statement, statement, name_of, is_comment_or_blank, is_of, Assigns, Unsets}
 
 abbrev pub is_about : List ℕ → List ℕ → Bool
 is_about name line = is_of name (statement line)
@@ -32,7 +32,7 @@ setting kinds lines name = option_and_then (λ k. option_and_then (λ line. give
 -- a line about a name that is not declared
 abbrev pub is_of_unknown : (List ℕ → Option Kind) → Option Statement → Bool
 is_of_unknown kinds None = false
-is_of_unknown kinds (Some said) = is_none (kinds (name_of said))
+is_of_unknown kinds (Some stated) = is_none (kinds (name_of stated))
 
 abbrev pub unknown_count : (List ℕ → Option Kind) → List (List ℕ) → ℕ
 unknown_count kinds lines = count_by (λ line. is_of_unknown kinds (statement line)) lines
@@ -43,7 +43,7 @@ value_fault number written None = None
 value_fault number written (Some k) = if is_none (text_of k written) then Some (fault.BadValue number) else None
 
 abbrev pub fault_of_statement : (List ℕ → Option Kind) → ℕ → List ℕ → Option Statement → Option SourceError
-fault_of_statement kinds number line None = if is_silent line then None else Some (fault.NotAConfigLine number)
+fault_of_statement kinds number line None = if is_comment_or_blank line then None else Some (fault.NotAConfigLine number)
 fault_of_statement kinds number line (Some (Assigns name written)) = value_fault number written (kinds name)
 fault_of_statement kinds number line (Some (Unsets name)) = None
 

@@ -26,7 +26,7 @@ ReadsAreTexts = (k : Kind) (written text : List ℕ) → (text_of k written ≡ 
 
 -- A line says what it spells, and nothing else.
 abbrev pub StatementsAreSpelled : Type 0
-StatementsAreSpelled = (line : List ℕ) (said : Statement) → (statement line ≡ Some said) ↔ Says line said
+StatementsAreSpelled = (line : List ℕ) (stated : Statement) → (statement line ≡ Some stated) ↔ Says line stated
 
 -- Two configurations that agree at each name are one.
 abbrev pub AgreeingIsBeingOne : Type 0

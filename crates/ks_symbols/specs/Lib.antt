@@ -9,11 +9,11 @@ pub mod Configuration
 pub mod Statements
 pub mod DotConfig
 pub mod Titles
-pub mod Forms
+pub mod LineKinds
 pub mod Kconfig
 pub mod Progress
 pub mod Settling
 pub mod Laws
 pub mod Examples
 pub mod Table
-pub mod Placed
+pub mod WrittenValues

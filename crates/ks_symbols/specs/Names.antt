@@ -32,7 +32,7 @@ is_path_byte b = nat_le 33 b && nat_le b 126 && not (b == 36) && not (b == 35) &
 unfoldable pub is_path : List ℕ → Bool
 is_path path = not (length path == 0) && nat_le (length path) 1024 && list_all is_path_byte path && not (slice_index path (length path - 1) == 58)
 
--- a path that names no folder
+-- a path that names no directory
 unfoldable pub is_target : List ℕ → Bool
 is_target path = is_path path && not (slice_index path (length path - 1) == 47)
 

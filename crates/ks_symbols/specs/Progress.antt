@@ -8,7 +8,7 @@ use Rattle.ks_symbols.specs.Names.{is_name}
 use Rattle.ks_symbols.specs.Kinds.{coded_kind, fits}
 use Rattle.ks_symbols.specs.Refusals.{or_else}
 use Rattle.ks_symbols.specs.Titles.{is_title}
-use Rattle.ks_symbols.specs.Forms.{Form, Silent, Title, Untitled, Entry, ModuleEntry, HasKind, Unknown}
+use Rattle.ks_symbols.specs.LineKinds.{LineKind, CommentOrBlank, Title, Untitled, Entry, ModuleEntry, HasKind, Unknown}
 use Rattle.ks_symbols.specs.Kconfig.{clashes}
 use Rattle.ks_symbols.specs.declared.kconfig.Declaration.{Declaration}
 
@@ -54,7 +54,7 @@ abbrev pub with_kind : Progress → ℕ → Kind → Option (ℕ × List ℕ) �
 with_kind s number k None = s
 with_kind s number k (Some w) = record s { declared = s.declared ++ (w.1, (k, number)) ∷ []; waiting = None }
 
-abbrev pub progress_after : Progress → ℕ → Form → Progress
+abbrev pub progress_after : Progress → ℕ → LineKind → Progress
 progress_after s number (Title title) = record s { title = Some title; started = true }
 progress_after s number (Entry name) = record s { started = true; waiting = Some (number, name) }
 progress_after s number (HasKind k) = with_kind s number k s.waiting
@@ -84,8 +84,8 @@ abbrev pub title_fault : Bool → ℕ → List ℕ → Option SourceError
 title_fault started number title = if is_title title && not started then None else Some (fault.BadTitle number)
 
 -- what is wrong with a line where names have these kinds
-abbrev pub step_fault : (List ℕ → Option Kind) → Progress → ℕ → Form → Option SourceError
-step_fault kinds s number Silent = None
+abbrev pub step_fault : (List ℕ → Option Kind) → Progress → ℕ → LineKind → Option SourceError
+step_fault kinds s number CommentOrBlank = None
 step_fault kinds s number Unknown = Some (fault.NotBare number)
 step_fault kinds s number Untitled = or_else (waiting_fault s.waiting) (Some (fault.BadTitle number))
 step_fault kinds s number ModuleEntry = or_else (waiting_fault s.waiting) (Some (fault.ModuleName number))

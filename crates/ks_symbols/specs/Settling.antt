@@ -6,5 +6,5 @@ use Rattle.ks_symbols.specs.DotConfig.{gives}
 
 -- what a symbol of a kind, if it is declared, has after a statement, when it had something before
 abbrev pub after_statement : Option Kind → List ℕ → Option Statement → Option (Kind × List ℕ) → Option (Kind × List ℕ)
-after_statement None name said before = before
-after_statement (Some k) name said before = if is_of name said then gives k said else before
+after_statement None name stated before = before
+after_statement (Some k) name stated before = if is_of name stated then gives k stated else before

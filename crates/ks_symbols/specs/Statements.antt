@@ -2,7 +2,7 @@
 use Rattle.std.specs.Prelude.{ℕ, Bool, ◌||◌, ◌&&◌, ◌==◌, nat_eq, List, length, codes, ◌≡◌, IsTrue, ◌++◌, drop, bytes_eq, Option, Some, None, if◌then◌else◌, false, take_while}
 use Rattle.std.specs.List.{starts_with}
 use Rattle.ks_symbols.specs.declared.statements.Statement as dotconfig
-use Rattle.ks_symbols.specs.declared.statements.Statement.TheVariants as said
+use Rattle.ks_symbols.specs.declared.statements.Statement.TheVariants as stated
 use Rattle.ks_symbols.specs.Names.{is_word_byte, is_name}
 
 -- A line about a symbol gives it a value, or says that it is not set.
@@ -34,18 +34,18 @@ statement line =
 
 -- a statement of the code, without where its bytes lie
 abbrev pub seen_statement : dotconfig.Statement → Statement
-seen_statement (said.Assigns name written) = Assigns name.now written.now
-seen_statement (said.Unsets name) = Unsets name.now
+seen_statement (stated.Assigns name written) = Assigns name.now written.now
+seen_statement (stated.Unsets name) = Unsets name.now
 
 abbrev pub name_of : Statement → List ℕ
 name_of (Assigns name written) = name
 name_of (Unsets name) = name
 
 -- a line that need not be a statement: a comment or an empty line
-abbrev pub is_silent : List ℕ → Bool
-is_silent line = length line == 0 || starts_with nat_eq line (codes "#")
+abbrev pub is_comment_or_blank : List ℕ → Bool
+is_comment_or_blank line = length line == 0 || starts_with nat_eq line (codes "#")
 
 -- whether a statement, if there is one, is about the name
 abbrev pub is_of : List ℕ → Option Statement → Bool
 is_of name None = false
-is_of name (Some said) = bytes_eq (name_of said) name
+is_of name (Some stated) = bytes_eq (name_of stated) name

@@ -20,8 +20,8 @@ abbrev pub entry_in : {V : Type 0} → List ℕ → Record V → List ℕ × (V 
 entry_in bytes r = (name_in bytes r, (r.value, text_in bytes r))
 
 -- what the record of a line says: a name, and what it gets, if it gets something
-abbrev pub said_in : {V : Type 0} → List ℕ → Record (Option V) → List ℕ × Option (V × List ℕ)
-said_in bytes r = (name_in bytes r, option_map (λ v. (v, text_in bytes r)) r.value)
+abbrev pub stated_in : {V : Type 0} → List ℕ → Record (Option V) → List ℕ × Option (V × List ℕ)
+stated_in bytes r = (name_in bytes r, option_map (λ v. (v, text_in bytes r)) r.value)
 
 -- All names and texts lie in the first n bytes.
 abbrev pub LieIn : {V : Type 0} → ℕ → List (Record V) → Type 0

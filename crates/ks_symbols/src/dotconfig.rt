@@ -16,24 +16,24 @@ ghost use Rattle.ks_symbols.specs.Settling.{after_statement};
 use crate::error::SourceError;
 use crate::kinds::Kind;
 use crate::limits::MAX_BYTES;
-use crate::placed::Placed;
-use crate::settings::{Settings, SettingsDraft};
-use crate::statements::{Statement, is_silent, parse_statement};
+use crate::settings::{Settings, SettingsBuilder};
+use crate::statements::{Statement, is_comment_or_blank, parse_statement};
 use crate::symbols::Symbols;
 use crate::values::is_value;
+use crate::written_values::WrittenValues;
 use bstr::ByteSlice;
 use std::alloc::Global;
 
 /// Takes in a value of the declared symbol at a place.
 fn assign<'a>(
     alloc: Global,
-    settings: &mut Placed<'a>,
+    settings: &mut WrittenValues<'a>,
     number: u64,
-    place: usize,
+    index: usize,
     kind: Kind,
     written: &'a [u8],
 ) -> Result<(), SourceError>
-    ensures entries { OnOk result ((name x : List ℕ) → slice_get (map.entries settings.old.kinds) place ≡ Some (name, kind) → map.get settings.new.entries x
+    ensures entries { OnOk result ((name x : List ℕ) → slice_get (map.entries settings.old.kinds) index ≡ Some (name, kind) → map.get settings.new.entries x
         ≡ cond (bytes_eq name x) (entry_with kind (text_of kind written.now)) (map.get settings.old.entries x)) }
     ensures kinds { OnOk result (settings.new.kinds ≡ settings.old.kinds) }
     ensures unknown { OnOk result (settings.new.unknown ≡ settings.old.unknown) }
@@ -43,40 +43,40 @@ fn assign<'a>(
     if !is_value(alloc, kind, written)? {
         return Err(SourceError::BadValue(number));
     }
-    settings.note(place, Some(written));
+    settings.note(index, Some(written));
     Ok(())
 }
 
 /// Takes in what a line says of the declared symbol at a place.
 fn take<'a>(
     alloc: Global,
-    settings: &mut Placed<'a>,
+    settings: &mut WrittenValues<'a>,
     number: u64,
-    place: usize,
+    index: usize,
     kind: Kind,
-    said: Statement<'a>,
+    stated: Statement<'a>,
 ) -> Result<(), SourceError>
-    ensures entries { OnOk result ((x : List ℕ) → slice_get (map.entries settings.old.kinds) place ≡ Some (name_of (seen_statement said.entry), kind)
+    ensures entries { OnOk result ((x : List ℕ) → slice_get (map.entries settings.old.kinds) index ≡ Some (name_of (seen_statement stated.entry), kind)
         → map.get settings.new.entries x
-        ≡ cond (bytes_eq (name_of (seen_statement said.entry)) x) (gives kind (Some (seen_statement said.entry))) (map.get settings.old.entries x)) }
+        ≡ cond (bytes_eq (name_of (seen_statement stated.entry)) x) (gives kind (Some (seen_statement stated.entry))) (map.get settings.old.entries x)) }
     ensures kinds { OnOk result (settings.new.kinds ≡ settings.old.kinds) }
     ensures unknown { OnOk result (settings.new.unknown ≡ settings.old.unknown) }
-    ensures refusal { (kinds : List ℕ → Option Kind) (line : List ℕ) → kinds (name_of (seen_statement said.entry)) ≡ Some kind
-        → RefusedBy SourceError.OutOfMemory result (fault_of_statement kinds number line (Some (seen_statement said.entry))) }
+    ensures refusal { (kinds : List ℕ → Option Kind) (line : List ℕ) → kinds (name_of (seen_statement stated.entry)) ≡ Some kind
+        → RefusedBy SourceError.OutOfMemory result (fault_of_statement kinds number line (Some (seen_statement stated.entry))) }
 {
-    match said {
+    match stated {
         Statement::Unsets(_) => {
-            settings.note(place, None);
+            settings.note(index, None);
             Ok(())
         }
-        Statement::Assigns(_, written) => assign(alloc, settings, number, place, kind, written),
+        Statement::Assigns(_, written) => assign(alloc, settings, number, index, kind, written),
     }
 }
 
 /// Takes in the line of a number.
 fn apply<'a>(
     alloc: Global,
-    settings: &mut Placed<'a>,
+    settings: &mut WrittenValues<'a>,
     number: u64,
     line: &'a [u8],
 ) -> Result<(), SourceError>
@@ -89,15 +89,15 @@ fn apply<'a>(
     ensures refusal { RefusedBy SourceError.OutOfMemory result (fault_of_statement (map.get settings.old.kinds) number line.now (statement line.now)) }
     ensures memory { IsErrOf result SourceError.OutOfMemory → (statement line.now ≢ None) × (is_of_unknown (map.get settings.old.kinds) (statement line.now) ≡ false) }
 {
-    let Some(said) = parse_statement(line) else {
-        return if is_silent(line) {
+    let Some(stated) = parse_statement(line) else {
+        return if is_comment_or_blank(line) {
             Ok(())
         } else {
             Err(SourceError::NotAConfigLine(number))
         };
     };
-    match settings.look_up(said.name()) {
-        Some((place, kind)) => take(alloc, settings, number, place, kind, said),
+    match settings.look_up(stated.name()) {
+        Some((index, kind)) => take(alloc, settings, number, index, kind, stated),
         None => {
             settings.skip();
             Ok(())
@@ -106,11 +106,11 @@ fn apply<'a>(
 }
 
 /// What the lines of a `.config` give to the declared symbols. These are asked for no more after it.
-pub fn draft_settings(
+pub fn build_settings(
     alloc: Global,
     text: &[u8],
     symbols: &Symbols,
-) -> Result<SettingsDraft, SourceError>
+) -> Result<SettingsBuilder, SourceError>
     ensures entries { IfOk result (λ s. (x : List ℕ) → map.get s.entries x ≡ setting (map.get symbols.now.kinds) (lines text.now) x) }
     ensures unknown { IfOk result (λ s. s.unknown ≡ unknown_count (map.get symbols.now.kinds) (lines text.now)) }
     ensures refusal { RefusedBy SourceError.OutOfMemory result (dotconfig_refusal (map.get symbols.now.kinds) text.now) }
@@ -122,13 +122,13 @@ pub fn draft_settings(
         return Err(SourceError::TooLarge);
     }
     symbols.keeps_names();
-    let mut settings = Placed::new(alloc, symbols)?;
+    let mut settings = WrittenValues::new(alloc, symbols)?;
     let mut number: u64 = 1;
     for line in text.lines() {
         apply(alloc, &mut settings, number, line)?;
         number += 1;
     }
-    Ok(settings.close(alloc)?)
+    Ok(settings.finish(alloc)?)
 }
 
 /// The settings that a `.config` gives to the declared symbols.
@@ -143,6 +143,6 @@ pub fn read_dotconfig(
     ensures memory { IsErrOf result SourceError.OutOfMemory → length text.now ≤ max_bytes }
     ensures configured { IfOk result (λ s. IsConfiguration s.entries) }
 {
-    let draft = draft_settings(alloc, text, symbols)?;
-    Ok(draft.close(alloc)?)
+    let draft = build_settings(alloc, text, symbols)?;
+    Ok(draft.finish(alloc)?)
 }

@@ -12,15 +12,15 @@ ghost use Rattle.ks_symbols.specs.Configuration.{HasSymbolNames};
 ghost use Rattle.ks_symbols.specs.Progress.{no_progress, waiting_fault, progress_after, step_fault, no_kinds, seen, first_kind, last_kind, first_clash, without_text};
 ghost use Rattle.ks_symbols.specs.Dialects.{read_in};
 ghost use Rattle.ks_symbols.specs.Names.{is_name};
-ghost use Rattle.ks_symbols.specs.Forms.{form, entry_form, Title, Entry, HasKind};
+ghost use Rattle.ks_symbols.specs.LineKinds.{line_kind, entry_line_kind, Title, Entry, HasKind};
 ghost use Rattle.ks_symbols.specs.Titles.{is_title};
 ghost use Rattle.ks_symbols.specs.Kconfig.{clashes, declared, title_of, kconfig_refusal};
 
 use crate::dialect::{Dialect, Kconfig};
 use crate::error::SourceError;
-use crate::forms::{Form, form_of, is_kept_free, plain_entry};
 use crate::kinds::{Kind, fits};
 use crate::limits::MAX_BYTES;
+use crate::line_kinds::{LineKind, is_kept_free, line_kind_of, plain_entry};
 use crate::names::name_is_legal;
 use crate::order::Order;
 use crate::symbols::Symbols;
@@ -51,13 +51,13 @@ fn first_kinds(alloc: Global, declared: &[Declaration<'_>]) -> Result<Table<Kind
     ensures { IfOk result (λ t. (x : List ℕ) → map.get t x ≡ option_map without_text (first_kind (map_list seen declared.now) x)) }
 {
     let mut kinds = Draft::new(alloc);
-    let mut place = declared.len();
-    while place > 0 {
-        place -= 1;
-        let declaration = &declared[place];
+    let mut index = declared.len();
+    while index > 0 {
+        index -= 1;
+        let declaration = &declared[index];
         kinds.put(declaration.name, declaration.kind, b"")?;
     }
-    kinds.close(alloc)
+    kinds.finish(alloc)
 }
 
 /// Whether a declaration has another kind than its name has here, which is looked for at the place `near` first. That becomes the
@@ -71,8 +71,8 @@ fn has_other_kind(
     ensures { result ≡ clashes declaration.now.kind (option_map (λ s. s.0) (map.get kinds.now declaration.now.name.now)) }
 {
     match kinds.get_near(declaration.name, *near) {
-        Some((place, first, _)) => {
-            *near = order.after(place);
+        Some((index, first, _)) => {
+            *near = order.after(index);
             clashes(declaration.kind, first)
         }
         None => false,
@@ -192,8 +192,8 @@ impl<'a> Reader<'a> {
         name: &'a [u8],
     ) -> Result<(), SourceError>
         requires { IsTrue (is_name name.now) }
-        ensures progress { OnOk result (self.new ≡ progress_after self.old number (entry_form dialect name.now)) }
-        ensures refusal { RefusedBy SourceError.OutOfMemory result (step_fault no_kinds self.old number (entry_form dialect name.now)) }
+        ensures progress { OnOk result (self.new ≡ progress_after self.old number (entry_line_kind dialect name.now)) }
+        ensures refusal { RefusedBy SourceError.OutOfMemory result (step_fault no_kinds self.old number (entry_line_kind dialect name.now)) }
         ensures memory { IsErrOf result SourceError.OutOfMemory → ⊥ }
         ensures kept { OnErr result (self.new.declared ≡ self.old.declared) }
     {
@@ -230,28 +230,28 @@ impl<'a> Reader<'a> {
         number: u64,
         line: &'a [u8],
     ) -> Result<(), SourceError>
-        ensures progress { OnOk result (self.new ≡ progress_after self.old number (form dialect line.now)) }
-        ensures refusal { RefusedBy SourceError.OutOfMemory result (step_fault no_kinds self.old number (form dialect line.now)) }
-        ensures memory { IsErrOf result SourceError.OutOfMemory → step_fault no_kinds self.old number (form dialect line.now) ≡ None }
+        ensures progress { OnOk result (self.new ≡ progress_after self.old number (line_kind dialect line.now)) }
+        ensures refusal { RefusedBy SourceError.OutOfMemory result (step_fault no_kinds self.old number (line_kind dialect line.now)) }
+        ensures memory { IsErrOf result SourceError.OutOfMemory → step_fault no_kinds self.old number (line_kind dialect line.now) ≡ None }
         ensures kept { OnErr result (self.new.declared ≡ self.old.declared) }
     {
         if let Some(name) = plain_entry(line) {
             return self.take_name(dialect, number, name);
         }
-        match form_of(dialect, line) {
-            Form::Silent => Ok(()),
-            Form::Title(title) => self.take_title(number, title),
-            Form::Untitled => {
+        match line_kind_of(dialect, line) {
+            LineKind::CommentOrBlank => Ok(()),
+            LineKind::Title(title) => self.take_title(number, title),
+            LineKind::Untitled => {
                 self.check_waiting()?;
                 Err(SourceError::BadTitle(number))
             }
-            Form::Entry(name) => self.take_entry(number, name),
-            Form::ModuleEntry => {
+            LineKind::Entry(name) => self.take_entry(number, name),
+            LineKind::ModuleEntry => {
                 self.check_waiting()?;
                 Err(SourceError::ModuleName(number))
             }
-            Form::HasKind(kind) => self.take_kind(number, kind),
-            Form::Unknown => Err(SourceError::NotBare(number)),
+            LineKind::HasKind(kind) => self.take_kind(number, kind),
+            LineKind::Unknown => Err(SourceError::NotBare(number)),
         }
     }
 

@@ -5,14 +5,13 @@ mod decimal;
 mod dialect;
 mod dotconfig;
 mod error;
-mod forms;
 mod kconfig;
 mod kinds;
 mod laws;
 mod limits;
+mod line_kinds;
 mod names;
 mod order;
-mod placed;
 mod settings;
 mod statements;
 mod symbols;
@@ -20,10 +19,11 @@ mod table;
 mod titles;
 mod values;
 mod word_runs;
+mod written_values;
 
 pub use decimal::{decimals_read_back, read_decimal, write_decimal};
 pub use dialect::{Dialect, Kconfig};
-pub use dotconfig::{draft_settings, read_dotconfig};
+pub use dotconfig::{build_settings, read_dotconfig};
 pub use error::SourceError;
 pub use kconfig::read_kconfig;
 pub use kinds::{Class, Kind, value_is_valid};
@@ -35,7 +35,7 @@ pub use limits::MAX_BYTES;
 pub use names::{
     Legal, Name, OfNames, OfPaths, Path, Rule, name_is_legal, path_is_legal, target_is_legal,
 };
-pub use settings::{Entries, Settings, SettingsDraft};
-pub use statements::{Statement, is_silent, parse_statement, split_word};
+pub use settings::{Entries, Settings, SettingsBuilder};
+pub use statements::{Statement, is_comment_or_blank, parse_statement, split_word};
 pub use symbols::Symbols;
 pub use table::{Draft, Rows, Table};

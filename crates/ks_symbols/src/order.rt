@@ -23,16 +23,16 @@ impl Order {
     }
 
     /// Notes the next place.
-    pub(crate) fn push(&mut self, place: usize) {
+    pub(crate) fn push(&mut self, index: usize) {
         match self.last {
             Some(last) => {
                 if let Some(following) = self.following.get_mut(last) {
-                    *following = place;
+                    *following = index;
                 }
             }
-            None => self.first = place,
+            None => self.first = index,
         }
-        self.last = Some(place);
+        self.last = Some(index);
     }
 
     /// The first place, or 0 where there is none.
@@ -41,8 +41,8 @@ impl Order {
     }
 
     /// The place after this one.
-    pub(crate) fn after(&self, place: usize) -> usize {
-        match self.following.get(place) {
+    pub(crate) fn after(&self, index: usize) -> usize {
+        match self.following.get(index) {
             Some(following) => *following,
             None => 0,
         }

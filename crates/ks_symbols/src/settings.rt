@@ -94,12 +94,12 @@ impl Settings {
 
 /// Settings as the lines of a `.config` give them, which may not be asked before they are known to be a configuration.
 #[derive(Drop)]
-pub struct SettingsDraft {
+pub struct SettingsBuilder {
     entries: Table<Kind>,
     unknown: u64,
 }
 
-impl Model for SettingsDraft {
+impl Model for SettingsBuilder {
     ghost use Rattle.ks_symbols.specs.Configuration.{SettingsView, coded_settings_view};
 
     ghost Value = { SettingsView };
@@ -109,16 +109,16 @@ impl Model for SettingsDraft {
     ghost view = { λ s. record { entries = s.entries; unknown = s.unknown } };
 }
 
-impl SettingsDraft {
-    pub(crate) fn new(entries: Table<Kind>, unknown: u64) -> SettingsDraft
+impl SettingsBuilder {
+    pub(crate) fn new(entries: Table<Kind>, unknown: u64) -> SettingsBuilder
         ensures entries { result.entries ≡ entries }
         ensures unknown { result.unknown ≡ unknown }
     {
-        SettingsDraft { entries, unknown }
+        SettingsBuilder { entries, unknown }
     }
 
     /// The settings. They are in order since their lines were read, so no memory is asked for.
-    pub fn close(self, _alloc: Global) -> Result<Settings, AllocError>
+    pub fn finish(self, _alloc: Global) -> Result<Settings, AllocError>
         requires { IsConfiguration self.entries }
         ensures { IfOk result (λ s. s ≡ self) }
     {

@@ -5,7 +5,7 @@
 ghost use Rattle.std.specs.Prelude.{◌≡◌, IsTrue, codes, drop, length, nat_eq, option_map, take_while};
 ghost use Rattle.std.specs.List.{list_all, starts_with};
 ghost use Rattle.ks_symbols.specs.Names.{is_word_byte};
-ghost use Rattle.ks_symbols.specs.Statements.{seen_statement, name_of, statement, assignment, unsetting, is_silent};
+ghost use Rattle.ks_symbols.specs.Statements.{seen_statement, name_of, statement, assignment, unsetting, is_comment_or_blank};
 
 use crate::names::word_is_name;
 use crate::word_runs::word_end;
@@ -95,8 +95,8 @@ pub fn parse_statement(line: &[u8]) -> Option<Statement<'_>>
 }
 
 /// Whether a line is a comment or empty. `# CONFIG_NAME is not set` is a comment too, and a statement.
-pub fn is_silent(line: &[u8]) -> bool
-    ensures { result ≡ is_silent line.now }
+pub fn is_comment_or_blank(line: &[u8]) -> bool
+    ensures { result ≡ is_comment_or_blank line.now }
 {
     line.is_empty() || line.starts_with(b"#")
 }

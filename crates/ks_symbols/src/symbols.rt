@@ -62,13 +62,13 @@ impl Symbols {
     }
 
     /// The place of the symbol that is declared first.
-    pub(crate) fn first_place(&self) -> usize {
+    pub(crate) fn first_index(&self) -> usize {
         self.order.first()
     }
 
     /// The place of the symbol that is declared after the one at this place.
-    pub(crate) fn place_after(&self, place: usize) -> usize {
-        self.order.after(place)
+    pub(crate) fn index_after(&self, index: usize) -> usize {
+        self.order.after(index)
     }
 
     /// How many symbols are declared.
@@ -81,10 +81,10 @@ impl Symbols {
     /// The place and the kind of a declared symbol, which is looked for at the place `near` first.
     pub(crate) fn kind_near(&self, name: &[u8], near: usize) -> Option<(usize, Kind)>
         ensures kind { option_map (λ s. s.1) result ≡ map.get self.now.kinds name.now }
-        ensures place { IfSome result (λ s. slice_get (map.entries self.now.kinds) s.0 ≡ Some (name.now, s.1)) }
+        ensures index { IfSome result (λ s. slice_get (map.entries self.now.kinds) s.0 ≡ Some (name.now, s.1)) }
     {
         match self.kinds.get_near(name, near) {
-            Some((place, kind, _)) => Some((place, kind)),
+            Some((index, kind, _)) => Some((index, kind)),
             None => None,
         }
     }

@@ -12,7 +12,7 @@ ghost use Rattle.std.specs.Map.Iter.{TakesFirst};
 ghost use Rattle.std.specs.Ordering.{nat_cmp};
 ghost use Rattle.std.specs.Cmp.Lexicographic.{slice_cmp};
 ghost use Rattle.std.specs.List.Sorted.{IsSortedByKey, IsStableByKey};
-ghost use Rattle.ks_symbols.specs.Table.{name_in, text_in, entry_in, said_in, after_line, begins_with, last_ones, borrowed_row, head_of, by_heads, AreHeaded};
+ghost use Rattle.ks_symbols.specs.Table.{name_in, text_in, entry_in, stated_in, after_line, begins_with, last_ones, borrowed_row, head_of, by_heads, AreHeaded};
 
 use crate::order::Order;
 use std::alloc::{AllocError, Global};
@@ -31,11 +31,11 @@ pub(crate) struct Record<V> {
 }
 
 /// The byte at a place of a name, or 0 where it has none.
-fn byte_at(name: &[u8], place: usize) -> u32
-    ensures value { result ≡ slice_index name.now place }
+fn byte_at(name: &[u8], index: usize) -> u32
+    ensures value { result ≡ slice_index name.now index }
     ensures bound { result < 256 }
 {
-    match name.get(place) {
+    match name.get(index) {
         Some(byte) => u32::from(*byte),
         None => 0,
     }
@@ -91,7 +91,7 @@ fn sort_records<V>(bytes: &[u8], records: &mut Vec<Record<V>>) -> Result<(), All
 
 /// Whether the first of the records has the name.
 fn begins_with<V>(bytes: &[u8], records: &[Record<Option<V>>], name: &[u8]) -> bool
-    ensures { result ≡ begins_with name.now (map_list (said_in bytes.now) records.now) }
+    ensures { result ≡ begins_with name.now (map_list (stated_in bytes.now) records.now) }
 {
     match records.first() {
         Some(first) => name == name_of(bytes, first),
@@ -105,7 +105,7 @@ fn last_ones<V: Copy>(
     bytes: &[u8],
     records: &[Record<Option<V>>],
 ) -> Result<Vec<Record<V>>, AllocError>
-    ensures { IfOk result (λ kept. map_list (entry_in bytes.now) kept.items ≡ last_ones (map_list (said_in bytes.now) records.now)) }
+    ensures { IfOk result (λ kept. map_list (entry_in bytes.now) kept.items ≡ last_ones (map_list (stated_in bytes.now) records.now)) }
 {
     let mut kept = Vec::with_capacity(alloc, records.len())?;
     let mut rest = records;
@@ -134,7 +134,7 @@ fn find<'a, V: Copy>(
 ) -> Option<(usize, V, &'a [u8])>
     requires { T (is_sorted (slice_cmp nat_cmp) (map_list (entry_in bytes.now) records.now)) }
     ensures value { option_map (λ s. (s.1, s.2.now)) result ≡ find (slice_cmp nat_cmp) name.now (map_list (entry_in bytes.now) records.now) }
-    ensures place { IfSome result (λ s. slice_get (map_list (entry_in bytes.now) records.now) s.0 ≡ Some (name.now, (s.1, s.2.now))) }
+    ensures index { IfSome result (λ s. slice_get (map_list (entry_in bytes.now) records.now) s.0 ≡ Some (name.now, (s.1, s.2.now))) }
 {
     match records.binary_search_by(|at| name_of(bytes, at).cmp(name)) {
         Ok(index) => {
@@ -150,16 +150,16 @@ fn found_at<'a, V: Copy>(
     bytes: &'a [u8],
     records: &[Record<V>],
     name: &[u8],
-    place: usize,
+    index: usize,
 ) -> Option<(usize, V, &'a [u8])>
     requires { T (is_sorted (slice_cmp nat_cmp) (map_list (entry_in bytes.now) records.now)) }
     ensures value { IfSome result (λ s. Some (s.1, s.2.now) ≡ find (slice_cmp nat_cmp) name.now (map_list (entry_in bytes.now) records.now)) }
-    ensures place { IfSome result (λ s. slice_get (map_list (entry_in bytes.now) records.now) s.0 ≡ Some (name.now, (s.1, s.2.now))) }
+    ensures index { IfSome result (λ s. slice_get (map_list (entry_in bytes.now) records.now) s.0 ≡ Some (name.now, (s.1, s.2.now))) }
 {
-    if place < records.len() {
-        let at = &records[place];
+    if index < records.len() {
+        let at = &records[index];
         if name_of(bytes, at) == name {
-            return Some((place, at.value, text_of(bytes, at)));
+            return Some((index, at.value, text_of(bytes, at)));
         }
     }
     None
@@ -182,9 +182,9 @@ impl<V> Model for Draft<V> {
 
     ghost coded = { code (coded_list coded_ℕ) (coded× V.code (coded_list coded_ℕ)) };
 
-    ghost use Rattle.ks_symbols.specs.Table.{said_in, after_lines, LieIn, AreHeaded};
+    ghost use Rattle.ks_symbols.specs.Table.{stated_in, after_lines, LieIn, AreHeaded};
 
-    ghost view = { λ d. after_lines empty (map (said_in d.bytes.items) d.records.items) };
+    ghost view = { λ d. after_lines empty (map (stated_in d.bytes.items) d.records.items) };
 
     ghost invariant = { λ d. LieIn (length d.bytes.items) d.records.items × AreHeaded d.bytes.items d.records.items };
 }
@@ -232,7 +232,7 @@ impl<V: Copy> Draft<V> {
     }
 
     /// The map, put in order.
-    pub fn close(self, alloc: Global) -> Result<Table<V>, AllocError>
+    pub fn finish(self, alloc: Global) -> Result<Table<V>, AllocError>
         ensures { IfOk result (λ t. t ≡ self) }
     {
         let Draft { bytes, mut records } = self;
@@ -294,7 +294,7 @@ impl<V: Copy> RowList<V> {
     }
 
     /// The map of rows that were put in rising order of their names.
-    pub(crate) fn close(self) -> Table<V>
+    pub(crate) fn finish(self) -> Table<V>
         requires { T (is_sorted (slice_cmp nat_cmp) self) }
         ensures { result ≡ map.from_entries self }
     {
@@ -360,7 +360,7 @@ impl<V: Copy> Table<V> {
     /// The place, the value and the text of a name, which is looked for at one place first.
     pub(crate) fn get_near(&self, name: &[u8], near: usize) -> Option<(usize, V, &[u8])>
         ensures value { option_map (λ s. (s.1, s.2.now)) result ≡ map.get self.now name.now }
-        ensures place { IfSome result (λ s. slice_get (map.entries self.now) s.0 ≡ Some (name.now, (s.1, s.2.now))) }
+        ensures index { IfSome result (λ s. slice_get (map.entries self.now) s.0 ≡ Some (name.now, (s.1, s.2.now))) }
     {
         match found_at(&self.bytes, &self.records, name, near) {
             Some(found) => Some(found),
@@ -372,13 +372,13 @@ impl<V: Copy> Table<V> {
     /// name is looked for.
     pub(crate) fn latest_first(&self, alloc: Global) -> Result<Order, AllocError> {
         let mut starts = Vec::with_capacity(alloc, self.records.len())?;
-        for (place, at) in self.records.iter().enumerate() {
-            starts.push((at.start, place))?;
+        for (index, at) in self.records.iter().enumerate() {
+            starts.push((at.start, index))?;
         }
         starts.sort_unstable_by(|one, other| other.0.cmp(&one.0));
         let mut order = Order::new(alloc, starts.len())?;
-        for (_, place) in &starts {
-            order.push(*place);
+        for (_, index) in &starts {
+            order.push(*index);
         }
         Ok(order)
     }

@@ -28,19 +28,19 @@ ahead_read file offset n old new a some within at bytes = (
 )
 
 -- what was read into the room is ahead
-pub ahead_in_room : (file : Option (List ℕ)) (offset o n size : ℕ) (old new rest : List ℕ) → IsSomeReadAt file offset old new n → n ≤ length new
+pub ahead_in_buffer : (file : Option (List ℕ)) (offset o n size : ℕ) (old new rest : List ℕ) → IsSomeReadAt file offset old new n → n ≤ length new
     → length new ≡ size → o ≡ offset
     → (is_some file ≡ true) × ((b : List ℕ) → file ≡ Some b
     → take n (take size (new ++ rest)) ≡ take (length (take n (take size (new ++ rest)))) (drop o b))
-ahead_in_room file offset o n size old new rest some within long at =
+ahead_in_buffer file offset o n size old new rest some within long at =
     ahead_read file offset n old new (record { path = []; offset = o; bytes = take n (take size (new ++ rest)) }) some within at
     (ap (take n) (take_at new rest size long))
 
 -- none is read at the end alone
 pub read_none : (file : Option (List ℕ)) (offset o n : ℕ) (old new : List ℕ) → IsSomeReadAt file offset old new n → 0 < length old → o ≡ offset → n ≡ 0
     → (b : List ℕ) → file ≡ Some b → length b ≤ o
-read_none file offset o n old new some room at none b there =
-    let end = some.2.end none room in
+read_none file offset o n old new some buffer at none b there =
+    let end = some.2.end none buffer in
     subst (λ b. length b ≤ o) (some_same file some.0 b some.1 there) (subst (λ k. length some.0 ≤ k) (sym at) end)
 
 -- what is left after some was given is ahead
@@ -59,7 +59,7 @@ served_ahead file o o' n xs xs' is within left at = (
 )
 
 empty : (a b n : ℕ) → n ≡ min a b → n ≡ 0 → 0 < b → a ≡ 0
-empty a b n is none room = omega arith
+empty a b n is none buffer = omega arith
 
 -- what was given are the next bytes
 pub served : (file : Option (List ℕ)) (a : Ahead) (old new : List ℕ) (n : ℕ) → IsAheadOf file a → n ≡ min (length a.bytes) (length old)
@@ -74,6 +74,6 @@ served file a old new n is count given end =
       record {
         bytes = let twice = take-take n (length a.bytes) (drop a.offset b.0) (omega arith) in cc;
         within = grind arith;
-        end = λ none room. end (empty (length a.bytes) (length old) n count none room) b.0 b.1;
+        end = λ none buffer. end (empty (length a.bytes) (length old) n count none buffer) b.0 b.1;
       },
     )

@@ -44,8 +44,8 @@ read_on file b read old new more n so_far there some is = record {
 
 pub read_whole : (file : Option (List ℕ)) (b read old new : List ℕ) (n : ℕ) → IsReadTo file read → file ≡ Some b → IsSomeRead b (length read) old new n
     → n ≡ 0 → 0 < length old → file ≡ Some read
-read_whole file b read old new n so_far there some none room =
-    let all = take_all (length read) b (some.end none room) in let is = so_far.is b there in cc
+read_whole file b read old new n so_far there some none buffer =
+    let all = take_all (length read) b (some.end none buffer) in let is = so_far.is b there in cc
 
 -- the same of a file as a call found it
 pub read_on_at : (file now : Option (List ℕ)) (read old new more : List ℕ) (k n : ℕ) → IsReadTo file read → now ≡ file
@@ -55,8 +55,8 @@ read_on_at file now read old new more k n so_far same some here grows =
 
 pub read_whole_at : (file now : Option (List ℕ)) (read old new : List ℕ) (k n : ℕ) → IsReadTo file read → now ≡ file
     → IsSomeReadAt now k old new n → k ≡ length read → n ≡ 0 → 0 < length old → file ≡ Some read
-read_whole_at file now read old new k n so_far same some here none room =
-    read_whole file some.0 read old new n so_far (sym same ∙ some.1) (subst (λ k. IsSomeRead some.0 k old new n) here some.2) none room
+read_whole_at file now read old new k n so_far same some here none buffer =
+    read_whole file some.0 read old new n so_far (sym same ∙ some.1) (subst (λ k. IsSomeRead some.0 k old new n) here some.2) none buffer
 
 pub large_at : (file now : Option (List ℕ)) (read old new : List ℕ) (k n : ℕ) → IsReadTo file read → now ≡ file
     → IsSomeReadAt now k old new n → k ≡ length read → max_bytes < length read + n → IsTooLarge file
@@ -80,8 +80,8 @@ put_long g into new within same =
     let whole = ap length (put_all g into new within) in let parts = length-append (take g into) new in let before = length-take-le g into within in
     let rest = ap length (take_rest into g) in let after = length-drop g into in omega arith
 
-pub rest_room : (g : ℕ) (into : List ℕ) → g ≤ length into → g ≢ length into → 0 < length (take (length into - g) (drop g into))
-rest_room g into within differs = let rest = ap length (take_rest into g) in let after = length-drop g into in omega arith
+pub rest_buffer : (g : ℕ) (into : List ℕ) → g ≤ length into → g ≢ length into → 0 < length (take (length into - g) (drop g into))
+rest_buffer g into within differs = let rest = ap length (take_rest into g) in let after = length-drop g into in omega arith
 
 -- what was put after the first bytes follows them
 take_past : (g n : ℕ) (xs ys : List ℕ) → length xs ≡ g → take (g + n) (xs ++ ys) ≡ xs ++ take n ys

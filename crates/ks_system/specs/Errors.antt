@@ -37,13 +37,13 @@ IsPassed meaning None = ⊤
 IsPassed meaning (Some e) = meaning_of e ≡ meaning
 
 -- What is told is the error of the last call, or one of this kind where that call went well.
-abbrev pub IsTold : ErrorKind → Option Error → Error → Type 0
-IsTold own last e = (last ≡ Some e) ⊎ ((last ≡ None) × (error_kind e ≡ own))
+abbrev pub IsReported : ErrorKind → Option Error → Error → Type 0
+IsReported own last e = (last ≡ Some e) ⊎ ((last ≡ None) × (error_kind e ≡ own))
 
 -- The same, where an error of this meaning is passed over.
-abbrev pub IsToldBut : Meaning → ErrorKind → Option Error → Error → Type 0
-IsToldBut meaning own last e = (last ≡ Some e) ⊎ (IsPassed meaning last × (error_kind e ≡ own))
+abbrev pub IsReportedBut : Meaning → ErrorKind → Option Error → Error → Type 0
+IsReportedBut meaning own last e = (last ≡ Some e) ⊎ (IsPassed meaning last × (error_kind e ≡ own))
 
 -- What is told of writing: the error of the last call, that it writes nothing more, or that it is interrupted without end.
-abbrev pub IsToldOfWriting : Option Error → Error → Type 0
-IsToldOfWriting last e = IsTold kind.WriteZero last e ⊎ IsToldBut Interrupted kind.Other last e
+abbrev pub IsReportedOfWriting : Option Error → Error → Type 0
+IsReportedOfWriting last e = IsReported kind.WriteZero last e ⊎ IsReportedBut Interrupted kind.Other last e

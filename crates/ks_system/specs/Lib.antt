@@ -2,5 +2,5 @@ pub mod Errors
 pub mod System
 pub mod Reading
 pub mod Held
-pub mod Places
+pub mod HostPaths
 pub mod Disk

@@ -1,7 +1,7 @@
 -- What was read of a file, in turn, and before it was asked for.
 use Rattle.std.specs.Prelude.{◌≡◌, ◌≤◌, ℕ, List, [], Bool, true, false, Option, Some, Result, Ok, Err, is_some, length, take, drop, ⊤}
-use Rattle.ks_system.specs.declared.fault.ReadFault.{ReadFault}
-use Rattle.ks_system.specs.declared.fault.ReadFault.TheVariants.{System}
+use Rattle.ks_system.specs.declared.fs_error.ReadError.{ReadError}
+use Rattle.ks_system.specs.declared.fs_error.ReadError.TheVariants.{System}
 use Rattle.ks_system.specs.declared.system.Kind.{Kind}
 use Rattle.ks_system.specs.declared.system.Kind.TheVariants as kind
 
@@ -35,7 +35,7 @@ abbrev pub HasNoEnd : Kind → Type 0
 HasNoEnd found = has_an_end found ≡ false
 
 -- Nothing was read since the system failed, and not for the length or for want of memory.
-abbrev pub IsOfSystem : {V : Type 0} → Result V ReadFault → Type 0
+abbrev pub IsOfSystem : {V : Type 0} → Result V ReadError → Type 0
 IsOfSystem (Ok v) = ⊥
 IsOfSystem (Err (System e)) = ⊤
 IsOfSystem (Err _) = ⊥

@@ -25,8 +25,8 @@ pub enum Turn {
     Interrupted,
     /// It fails.
     Fails,
-    /// A folder is missing, where a file is to be made.
-    NoFolder,
+    /// A directory is missing, where a file is to be made.
+    NoDirectory,
     /// Another program has claimed the file.
     Claimed,
 }
@@ -41,14 +41,14 @@ pub struct DiskHandle {
 
 /// Files in memory, and what becomes of each call in turn. After the script all calls are whole.
 #[derive(Drop)]
-pub struct ScriptedDisk<'a> {
+pub struct MockDisk<'a> {
     files: DiskFiles,
     alloc: Global,
     script: &'a [Turn],
     calls: usize,
     faults: u64,
     signals: u64,
-    aged: Vec<Vec<u8>>,
+    backdated: Vec<Vec<u8>>,
     dated: Vec<Vec<u8>>,
     last_error: Option<io::Error>,
 }
@@ -81,17 +81,17 @@ fn copy_some(bytes: &[u8], offset: u64, most: usize, into: &mut [u8]) -> usize
     count
 }
 
-impl<'a> ScriptedDisk<'a> {
+impl<'a> MockDisk<'a> {
     /// A disk with no files, and what becomes of its calls.
-    pub fn new(alloc: Global, script: &'a [Turn]) -> ScriptedDisk<'a> {
-        ScriptedDisk {
+    pub fn new(alloc: Global, script: &'a [Turn]) -> MockDisk<'a> {
+        MockDisk {
             files: DiskFiles::new(alloc),
             alloc,
             script,
             calls: 0,
             faults: 0,
             signals: 0,
-            aged: Vec::new(alloc),
+            backdated: Vec::new(alloc),
             dated: Vec::new(alloc),
             last_error: None,
         }
@@ -109,8 +109,8 @@ impl<'a> ScriptedDisk<'a> {
     }
 
     /// The paths of the files that were made older than all others, in turn.
-    pub fn aged(&self) -> &[Vec<u8>] {
-        &self.aged
+    pub fn backdated(&self) -> &[Vec<u8>] {
+        &self.backdated
     }
 
     /// The paths of the files that were given a time long past when they were made, in turn.
@@ -126,7 +126,7 @@ impl<'a> ScriptedDisk<'a> {
     /// What becomes of the next call.
     fn turn(&mut self) -> Turn
         ensures files { self.new.files ≡ self.old.files }
-        ensures aged { self.new.aged ≡ self.old.aged }
+        ensures backdated { self.new.backdated ≡ self.old.backdated }
         ensures dated { self.new.dated ≡ self.old.dated }
         ensures faults { self.new.faults ≡ self.old.faults }
         ensures signals { self.new.signals ≡ self.old.signals }
@@ -143,7 +143,7 @@ impl<'a> ScriptedDisk<'a> {
         ensures error { result ≡ Err error }
         ensures last { self.new.last_error ≡ Some error }
         ensures files { self.new.files ≡ self.old.files }
-        ensures aged { self.new.aged ≡ self.old.aged }
+        ensures backdated { self.new.backdated ≡ self.old.backdated }
         ensures dated { self.new.dated ≡ self.old.dated }
         ensures faults { self.new.faults ≡ self.old.faults }
         ensures signals { self.new.signals ≡ self.old.signals }
@@ -158,7 +158,7 @@ impl<'a> ScriptedDisk<'a> {
         ensures last { self.new.last_error ≡ Some error }
         ensures counted { HasRisen self.old.faults self.new.faults }
         ensures files { self.new.files ≡ self.old.files }
-        ensures aged { self.new.aged ≡ self.old.aged }
+        ensures backdated { self.new.backdated ≡ self.old.backdated }
         ensures dated { self.new.dated ≡ self.old.dated }
     {
         self.faults = self.faults.saturating_add(1);
@@ -173,7 +173,7 @@ impl<'a> ScriptedDisk<'a> {
         ensures interrupted { Says Meaning.Interrupted result → ⊥ }
         ensures counted { Counts result self.old.faults self.new.faults }
         ensures files { self.new.files ≡ self.old.files }
-        ensures aged { self.new.aged ≡ self.old.aged }
+        ensures backdated { self.new.backdated ≡ self.old.backdated }
         ensures dated { self.new.dated ≡ self.old.dated }
         ensures error { self.old.last_error ≡ None → IsErrorOf result self.new.last_error }
     {
@@ -191,7 +191,7 @@ impl<'a> ScriptedDisk<'a> {
         ensures stands { Says Meaning.Stands result → ⊥ }
         ensures interrupted { Says Meaning.Interrupted result → ⊥ }
         ensures counted { Counts result self.old.faults self.new.faults }
-        ensures aged { self.new.aged ≡ self.old.aged }
+        ensures backdated { self.new.backdated ≡ self.old.backdated }
         ensures dated { self.new.dated ≡ self.old.dated }
         ensures error { self.old.last_error ≡ None → IsErrorOf result self.new.last_error }
     {
@@ -209,7 +209,7 @@ impl<'a> ScriptedDisk<'a> {
         ensures counted { CountsBut Meaning.Interrupted result self.old.faults self.new.faults }
         ensures signals { Says Meaning.Interrupted result → HasRisen self.old.signals self.new.signals }
         ensures files { self.new.files ≡ self.old.files }
-        ensures aged { self.new.aged ≡ self.old.aged }
+        ensures backdated { self.new.backdated ≡ self.old.backdated }
         ensures dated { self.new.dated ≡ self.old.dated }
         ensures error { IsErrorOf result self.new.last_error }
     {
@@ -229,7 +229,7 @@ impl<'a> ScriptedDisk<'a> {
         ensures stands { Says Meaning.Stands result → ⊥ }
         ensures counted { Counts result self.old.faults self.new.faults }
         ensures files { self.new.files ≡ self.old.files }
-        ensures aged { self.new.aged ≡ self.old.aged }
+        ensures backdated { self.new.backdated ≡ self.old.backdated }
         ensures dated { self.new.dated ≡ self.old.dated }
         ensures error { IsErrorOf result self.new.last_error }
     {
@@ -257,7 +257,7 @@ impl<'a> ScriptedDisk<'a> {
         ensures made { IfOk result (λ h. h.made ≡ made) }
         ensures counted { Counts result self.old.faults self.new.faults }
         ensures files { self.new.files ≡ self.old.files }
-        ensures aged { self.new.aged ≡ self.old.aged }
+        ensures backdated { self.new.backdated ≡ self.old.backdated }
         ensures dated { self.new.dated ≡ self.old.dated }
         ensures error { self.old.last_error ≡ None → IsErrorOf result self.new.last_error }
     {
@@ -269,7 +269,7 @@ impl<'a> ScriptedDisk<'a> {
     }
 }
 
-impl<'a> System for ScriptedDisk<'a> {
+impl<'a> System for MockDisk<'a> {
     ghost use Rattle.ks_system.specs.System.{Opened};
     ghost use Rattle.ks_system.specs.declared.system.Kind.TheVariants as kind;
 
@@ -279,13 +279,13 @@ impl<'a> System for ScriptedDisk<'a> {
 
     ghost is_honest = { ⊤ };
 
-    ghost path_at = { λ place. place };
+    ghost path_at = { λ host_path. host_path };
 
     ghost opened = { λ h. record { path = h.path.items; names = 0; made = h.made } };
 
     ghost is_claimed = { λ h. h.is_claimed };
 
-    ghost aged = { λ s. map (λ path. path.items) s.aged.items };
+    ghost backdated = { λ s. map (λ path. path.items) s.backdated.items };
 
     ghost faults = { λ s. s.faults };
 
@@ -295,16 +295,20 @@ impl<'a> System for ScriptedDisk<'a> {
 
     ghost kind_at = { λ s path. option_map (λ b. kind.File) (content s.files path) };
 
-    fn place<'p>(&self, _alloc: Global, path: &'p [u8]) -> Result<Option<CowStr<'p>>, AllocError> {
+    fn host_path<'p>(
+        &self,
+        _alloc: Global,
+        path: &'p [u8],
+    ) -> Result<Option<CowStr<'p>>, AllocError> {
         match str::from_utf8(path) {
-            Ok(place) => Ok(Some(CowStr::Borrowed(place))),
+            Ok(host_path) => Ok(Some(CowStr::Borrowed(host_path))),
             Err(_) => Ok(None),
         }
     }
 
-    fn look(&mut self, place: &str) -> io::Result<Look> {
+    fn look(&mut self, host_path: &str) -> io::Result<Look> {
         self.begin()?;
-        match self.files.get(place.as_bytes()) {
+        match self.files.get(host_path.as_bytes()) {
             Some(bytes) => Ok(Look {
                 kind: Kind::File,
                 size: bytes.len() as u64,
@@ -313,24 +317,24 @@ impl<'a> System for ScriptedDisk<'a> {
         }
     }
 
-    fn kind(&mut self, place: &str) -> io::Result<Kind> {
+    fn kind(&mut self, host_path: &str) -> io::Result<Kind> {
         self.begin()?;
-        match self.files.get(place.as_bytes()) {
+        match self.files.get(host_path.as_bytes()) {
             Some(_) => Ok(Kind::File),
             None => self.answer(io::Error::from(ErrorKind::NotFound)),
         }
     }
 
-    fn open(&mut self, place: &str) -> io::Result<DiskHandle> {
+    fn open(&mut self, host_path: &str) -> io::Result<DiskHandle> {
         self.begin()?;
-        if self.files.get(place.as_bytes()).is_none() {
+        if self.files.get(host_path.as_bytes()).is_none() {
             return self.answer(io::Error::from(ErrorKind::NotFound));
         }
-        self.handle(place.as_bytes(), false)
+        self.handle(host_path.as_bytes(), false)
     }
 
-    fn open_left_over(&mut self, place: &str) -> io::Result<DiskHandle> {
-        self.open(place)
+    fn open_left_over(&mut self, host_path: &str) -> io::Result<DiskHandle> {
+        self.open(host_path)
     }
 
     fn read_at(&mut self, handle: &DiskHandle, offset: u64, into: &mut [u8]) -> io::Result<usize> {
@@ -344,19 +348,19 @@ impl<'a> System for ScriptedDisk<'a> {
         }
     }
 
-    fn create_new(&mut self, place: &str) -> io::Result<DiskHandle> {
-        if self.begin()? == Turn::NoFolder {
+    fn create_new(&mut self, host_path: &str) -> io::Result<DiskHandle> {
+        if self.begin()? == Turn::NoDirectory {
             return self.fail(io::Error::from(ErrorKind::NotFound));
         }
-        if self.files.get(place.as_bytes()).is_some() {
+        if self.files.get(host_path.as_bytes()).is_some() {
             return self.answer(io::Error::from(ErrorKind::AlreadyExists));
         }
-        let handle = self.handle(place.as_bytes(), true)?;
-        self.store(place.as_bytes(), Vec::new(self.alloc))?;
+        let handle = self.handle(host_path.as_bytes(), true)?;
+        self.store(host_path.as_bytes(), Vec::new(self.alloc))?;
         Ok(handle)
     }
 
-    fn make_folders(&mut self, _place: &str) -> io::Result<()> {
+    fn make_directories(&mut self, _host_path: &str) -> io::Result<()> {
         self.begin()?;
         Ok(())
     }
@@ -374,9 +378,9 @@ impl<'a> System for ScriptedDisk<'a> {
         Ok(self.files.get(&handle.path).is_some())
     }
 
-    fn is_at(&mut self, handle: &DiskHandle, place: &str) -> io::Result<bool> {
+    fn is_at(&mut self, handle: &DiskHandle, host_path: &str) -> io::Result<bool> {
         self.begin()?;
-        Ok(handle.path.as_slice() == place.as_bytes())
+        Ok(handle.path.as_slice() == host_path.as_bytes())
     }
 
     fn write(&mut self, handle: &mut DiskHandle, bytes: &[u8]) -> io::Result<usize> {
@@ -401,29 +405,29 @@ impl<'a> System for ScriptedDisk<'a> {
         }
     }
 
-    fn age(&mut self, place: &str, _file: Option<DiskHandle>) -> io::Result<()>
-        ensures aged { OnOk result (map (λ path. path.items) self.new.aged.items ≡ map (λ path. path.items) self.old.aged.items ++ place.now ∷ []) }
-        ensures failed { OnErr result (map (λ path. path.items) self.new.aged.items ≡ map (λ path. path.items) self.old.aged.items) }
+    fn backdate(&mut self, host_path: &str, _file: Option<DiskHandle>) -> io::Result<()>
+        ensures backdated { OnOk result (map (λ path. path.items) self.new.backdated.items ≡ map (λ path. path.items) self.old.backdated.items ++ host_path.now ∷ []) }
+        ensures failed { OnErr result (map (λ path. path.items) self.new.backdated.items ≡ map (λ path. path.items) self.old.backdated.items) }
         ensures unchanged { world_of self.new.files (map (λ path. path.items) self.new.dated.items)
             ≡ world_of self.old.files (map (λ path. path.items) self.old.dated.items) }
         ensures faults { Counts result self.old.faults self.new.faults }
         ensures error { IsErrorOf result self.new.last_error }
     {
         self.begin()?;
-        let path = self.owned(place.as_bytes())?;
-        match self.aged.push(path) {
+        let path = self.owned(host_path.as_bytes())?;
+        match self.backdated.push(path) {
             Ok(()) => Ok(()),
             Err(error) => self.fail(io::Error::from(error)),
         }
     }
 
-    fn remove_file(&mut self, place: &str) -> io::Result<()> {
+    fn remove_file(&mut self, host_path: &str) -> io::Result<()> {
         self.begin()?;
-        self.files.remove(place.as_bytes());
+        self.files.remove(host_path.as_bytes());
         Ok(())
     }
 
-    fn remove_folder(&mut self, _place: &str) -> io::Result<()> {
+    fn remove_directory(&mut self, _host_path: &str) -> io::Result<()> {
         self.fail(failed())
     }
 

@@ -11,7 +11,7 @@ use std::io::ErrorKind;
 /// What an error says.
 #[derive(Clone, Copy, Debug, PartialEq, Eq)]
 pub enum Meaning {
-    /// There is no such file, or no folder for it.
+    /// There is no such file, or no directory for it.
     Missing,
     /// Something stands there.
     Stands,

@@ -1,10 +1,10 @@
-//! The system itself, below a folder. Each call is passed on to std, and no contract says what the system then does: that it acts as
-//! `System` has it is the premise under which the theorems are read for a folder. Where a path stands is proved.
+//! The system itself, below a directory. Each call is passed on to std, and no contract says what the system then does: that it acts as
+//! `System` has it is the premise under which the theorems are read for a directory. Where a path stands is proved.
 ghost use Rattle.std.specs.Prelude.{◌≡◌, [], None, false, true, IfOk, IsNone, IsOk, MatchOption, IsUtf8, string_bytes};
 ghost use Rattle.std.specs.Cow.{cow_str_bytes};
 ghost use Rattle.std.specs.FinMap as map;
 ghost use Rattle.std.specs.Fs.{asks_create_new};
-ghost use Rattle.ks_system.specs.Places.{place_of};
+ghost use Rattle.ks_system.specs.HostPaths.{host_path_of};
 
 use crate::{Kind, Look, System};
 use ks_tree::stamp_temporary;
@@ -30,14 +30,14 @@ impl Claim for File {
     }
 }
 
-/// A folder of the system, by its path. A path that begins with `/` names that file itself, any other one below the folder.
+/// A directory of the system, by its path. A path that begins with `/` names that file itself, any other one below the directory.
 #[derive(Drop)]
 pub struct Host<R: Files> {
     files: R,
     root: String,
-    /// Whether the folder is locked for this program alone.
+    /// Whether the directory is locked for this program alone.
     is_alone: bool,
-    /// Whether the lock on the folder claims the file that was made last.
+    /// Whether the lock on the directory claims the file that was made last.
     is_claimed: bool,
 }
 
@@ -49,7 +49,7 @@ fn kind_of(found: &Metadata) -> Kind {
     let kind = found.file_type();
     match () {
         _ if kind.is_file() => Kind::File,
-        _ if kind.is_dir() => Kind::Folder,
+        _ if kind.is_dir() => Kind::Directory,
         _ if kind.is_block_device() => Kind::Disk,
         _ if kind.is_char_device() && found.rdev() == NULL_DEVICE => Kind::Null,
         _ if kind.is_char_device() => Kind::Device,
@@ -73,7 +73,7 @@ fn for_a_new_file() -> OpenOptions
 }
 
 impl<R: Files> Host<R> {
-    /// The system below a folder. An empty root is the current folder.
+    /// The system below a directory. An empty root is the current directory.
     pub fn new(files: R, root: String) -> Host<R> {
         Host {
             files,
@@ -83,16 +83,16 @@ impl<R: Files> Host<R> {
         }
     }
 
-    /// From now on the folder is locked for this program alone, and that lock claims what stamps are written at: only a
-    /// synchronisation writes there, and no other one is at work in the folder.
+    /// From now on the directory is locked for this program alone, and that lock claims what stamps are written at: only a
+    /// synchronisation writes there, and no other one is at work in the directory.
     pub(crate) fn claim_stamps(&mut self) {
         self.is_alone = true;
     }
 }
 
 /// Whether a stamp is written at a place before it is moved.
-fn is_of_stamps(place: &str) -> bool {
-    place.as_bytes().ends_with(stamp_temporary())
+fn is_of_stamps(host_path: &str) -> bool {
+    host_path.as_bytes().ends_with(stamp_temporary())
 }
 
 impl<R: Files> System for Host<R>
@@ -107,13 +107,13 @@ where
 
     ghost is_honest = { ⊥ };
 
-    ghost path_at = { λ place. place };
+    ghost path_at = { λ host_path. host_path };
 
     ghost opened = { λ h. record { path = []; names = 0; made = false } };
 
     ghost is_claimed = { λ h. true };
 
-    ghost aged = { λ s. [] };
+    ghost backdated = { λ s. [] };
 
     ghost faults = { λ s. 0 };
 
@@ -123,9 +123,9 @@ where
 
     ghost kind_at = { λ s path. None };
 
-    fn place<'a>(&self, alloc: Global, path: &'a [u8]) -> Result<Option<CowStr<'a>>, AllocError>
+    fn host_path<'a>(&self, alloc: Global, path: &'a [u8]) -> Result<Option<CowStr<'a>>, AllocError>
         ensures { IfOk result (λ found. MatchOption found (IsUtf8 path.now → ⊥)
-            (λ place. cow_str_bytes place ≡ place_of (string_bytes self.now.root) path.now)) }
+            (λ host_path. cow_str_bytes host_path ≡ host_path_of (string_bytes self.now.root) path.now)) }
     {
         let Ok(path) = str::from_utf8(path) else {
             return Ok(None);
@@ -137,46 +137,46 @@ where
         Ok(Some(CowStr::Owned(format!(in alloc; "{root}/{path}")?)))
     }
 
-    fn look(&mut self, place: &str) -> io::Result<Look> {
-        let found = fs::metadata(&self.files, place)?;
+    fn look(&mut self, host_path: &str) -> io::Result<Look> {
+        let found = fs::metadata(&self.files, host_path)?;
         Ok(Look {
             kind: kind_of(&found),
             size: found.len(),
         })
     }
 
-    fn kind(&mut self, place: &str) -> io::Result<Kind> {
-        Ok(kind_of(&fs::symlink_metadata(&self.files, place)?))
+    fn kind(&mut self, host_path: &str) -> io::Result<Kind> {
+        Ok(kind_of(&fs::symlink_metadata(&self.files, host_path)?))
     }
 
-    fn open(&mut self, place: &str) -> io::Result<R::File> {
-        fs::open(&self.files, place)
+    fn open(&mut self, host_path: &str) -> io::Result<R::File> {
+        fs::open(&self.files, host_path)
     }
 
-    fn open_left_over(&mut self, place: &str) -> io::Result<R::File> {
+    fn open_left_over(&mut self, host_path: &str) -> io::Result<R::File> {
         // Some file systems lock only what is opened for writing.
         let mut options = OpenOptions::new();
         options.read(true).write(true);
         options
-            .open(&self.files, place)
-            .or_else(|_| fs::open(&self.files, place))
+            .open(&self.files, host_path)
+            .or_else(|_| fs::open(&self.files, host_path))
     }
 
     fn read_at(&mut self, file: &R::File, offset: u64, into: &mut [u8]) -> io::Result<usize> {
         file.read_at(into, offset)
     }
 
-    fn create_new(&mut self, place: &str) -> io::Result<R::File> {
+    fn create_new(&mut self, host_path: &str) -> io::Result<R::File> {
         // What is left over there may be claimed by another program that had no lock.
         self.is_claimed = false;
-        let file = for_a_new_file().open(&self.files, place)?;
-        self.is_claimed = self.is_alone && is_of_stamps(place);
+        let file = for_a_new_file().open(&self.files, host_path)?;
+        self.is_claimed = self.is_alone && is_of_stamps(host_path);
         Ok(file)
     }
 
-    fn make_folders(&mut self, place: &str) -> io::Result<()> {
-        match place.rsplit_once('/') {
-            Some((folder, _)) => fs::create_dir_all(&self.files, folder),
+    fn make_directories(&mut self, host_path: &str) -> io::Result<()> {
+        match host_path.rsplit_once('/') {
+            Some((directory, _)) => fs::create_dir_all(&self.files, directory),
             None => Ok(()),
         }
     }
@@ -189,8 +189,11 @@ where
         Ok(self.is_claimed || file.metadata()?.nlink() > 0)
     }
 
-    fn is_at(&mut self, file: &R::File, place: &str) -> io::Result<bool> {
-        let (file, found) = (file.metadata()?, fs::symlink_metadata(&self.files, place)?);
+    fn is_at(&mut self, file: &R::File, host_path: &str) -> io::Result<bool> {
+        let (file, found) = (
+            file.metadata()?,
+            fs::symlink_metadata(&self.files, host_path)?,
+        );
         Ok(file.dev() == found.dev() && file.ino() == found.ino())
     }
 
@@ -202,7 +205,7 @@ where
         make_long_past(file)
     }
 
-    fn age(&mut self, _place: &str, file: Option<R::File>) -> io::Result<()>
+    fn backdate(&mut self, _host_path: &str, file: Option<R::File>) -> io::Result<()>
         ensures { IsNone file → IsOk result }
     {
         match file {
@@ -211,12 +214,12 @@ where
         }
     }
 
-    fn remove_file(&mut self, place: &str) -> io::Result<()> {
-        fs::remove_file(&self.files, place)
+    fn remove_file(&mut self, host_path: &str) -> io::Result<()> {
+        fs::remove_file(&self.files, host_path)
     }
 
-    fn remove_folder(&mut self, place: &str) -> io::Result<()> {
-        fs::remove_dir(&self.files, place)
+    fn remove_directory(&mut self, host_path: &str) -> io::Result<()> {
+        fs::remove_dir(&self.files, host_path)
     }
 
     fn rename(&mut self, from: &str, to: &str) -> io::Result<()> {

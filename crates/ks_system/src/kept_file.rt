@@ -7,14 +7,14 @@ ghost use Rattle.ks_system.specs.System.{HasFailed, IsSomeReadAt};
 ghost use Rattle.ks_system.specs.Reading.{IsAheadOf, nothing_of};
 
 use crate::System;
-use crate::reading::{never_done, read_some, room};
+use crate::reading::{buffer, never_done, read_some};
 use std::alloc::{AllocError, Global};
 use std::io;
 use std::io::ErrorKind;
 use std::marker::Model;
 
 /// How much is read from the system at once. Most headers are shorter.
-const ROOM: usize = 32768;
+const BUFFER: usize = 32768;
 
 /// Bytes that were read before they were asked for: of which file, and from which offset on.
 #[derive(Drop)]
@@ -22,7 +22,7 @@ pub(crate) struct ReadAhead {
     path: Vec<u8>,
     /// The offset of the room in the file.
     base: u64,
-    room: Vec<u8>,
+    buffer: Vec<u8>,
     start: usize,
     end: usize,
 }
@@ -33,9 +33,9 @@ impl Model for ReadAhead {
 
     ghost Value = { Ahead };
 
-    ghost view = { λ a. record { path = a.path.items; offset = a.base + a.start; bytes = drop a.start (take a.end a.room.items) } };
+    ghost view = { λ a. record { path = a.path.items; offset = a.base + a.start; bytes = drop a.start (take a.end a.buffer.items) } };
 
-    ghost invariant = { λ a. (a.start ≤ a.end) × (a.end ≤ length a.room.items) × (0 < length a.room.items) };
+    ghost invariant = { λ a. (a.start ≤ a.end) × (a.end ≤ length a.buffer.items) × (0 < length a.buffer.items) };
 }
 
 impl ReadAhead {
@@ -46,7 +46,7 @@ impl ReadAhead {
         Ok(ReadAhead {
             path: path.to_vec(alloc)?,
             base: 0,
-            room: room(alloc, ROOM)?,
+            buffer: buffer(alloc, BUFFER)?,
             start: 0,
             end: 0,
         })
@@ -115,7 +115,7 @@ impl ReadAhead {
         ensures path { self.new.path ≡ self.old.path }
         ensures offset { self.new.offset ≡ self.old.offset + result }
     {
-        let ahead = &self.room[self.start..self.end];
+        let ahead = &self.buffer[self.start..self.end];
         let count = ahead.len().min(into.len());
         into[..count].copy_from_slice(&ahead[..count]);
         self.start += count;
@@ -132,7 +132,7 @@ impl ReadAhead {
         ensures path { self.new.path ≡ self.old.path }
         ensures offset { self.new.offset ≡ self.old.offset }
         ensures unchanged { S.is_honest → S.world system.new ≡ S.world system.old }
-        ensures kept { S.aged system.new ≡ S.aged system.old }
+        ensures kept { S.backdated system.new ≡ S.backdated system.old }
         ensures passed { S.is_honest → OnOk result (S.faults system.new ≡ S.faults system.old) }
         ensures cause { S.is_honest → OnErr result (HasFailed (S.faults system.old) (S.faults system.new) (S.signals system.new)
             ⊎ (18446744073709551615 < self.old.offset)) }
@@ -143,7 +143,7 @@ impl ReadAhead {
         self.base = offset;
         self.start = 0;
         self.end = 0;
-        let count = read_some(system, file, offset, &mut self.room)?;
+        let count = read_some(system, file, offset, &mut self.buffer)?;
         self.end = count;
         Ok(count)
     }
@@ -195,7 +195,7 @@ impl<S: System> KeptFile<S> {
         ensures offset { self.new.ahead.offset ≡ self.old.ahead.offset }
         ensures file { self.new.file ≡ self.old.file }
         ensures unchanged { S.is_honest → S.world system.new ≡ S.world system.old }
-        ensures kept { S.aged system.new ≡ S.aged system.old }
+        ensures kept { S.backdated system.new ≡ S.backdated system.old }
         ensures passed { S.is_honest → OnOk result (S.faults system.new ≡ S.faults system.old) }
         ensures cause { S.is_honest → OnErr result (HasFailed (S.faults system.old) (S.faults system.new) (S.signals system.new)
             ⊎ (18446744073709551615 < self.old.ahead.offset)) }
@@ -214,11 +214,11 @@ impl<S: System> KeptFile<S> {
         ensures ahead { S.is_honest → OnOk result (IsAheadOf (content (S.world system.old).files (S.opened self.old.file).path) self.new.ahead) }
         ensures offset { IfOk result (λ n. self.new.ahead.offset ≡ self.old.ahead.offset + n) }
         ensures within { IfOk result (λ n. n ≤ length into.new) }
-        ensures room { length into.new ≡ length into.old }
+        ensures buffer { length into.new ≡ length into.old }
         ensures path { self.new.ahead.path ≡ self.old.ahead.path }
         ensures file { self.new.file ≡ self.old.file }
         ensures unchanged { S.is_honest → S.world system.new ≡ S.world system.old }
-        ensures kept { S.aged system.new ≡ S.aged system.old }
+        ensures kept { S.backdated system.new ≡ S.backdated system.old }
         ensures passed { S.is_honest → OnOk result (S.faults system.new ≡ S.faults system.old) }
         ensures cause { S.is_honest → OnErr result (HasFailed (S.faults system.old) (S.faults system.new) (S.signals system.new)
             ⊎ (18446744073709551615 < self.old.ahead.offset)) }
@@ -238,7 +238,7 @@ impl<S: System> KeptFile<S> {
         ensures path { self.new.ahead.path ≡ self.old.ahead.path }
         ensures file { self.new.file ≡ self.old.file }
         ensures unchanged { S.is_honest → S.world system.new ≡ S.world system.old }
-        ensures kept { S.aged system.new ≡ S.aged system.old }
+        ensures kept { S.backdated system.new ≡ S.backdated system.old }
         ensures cause { S.is_honest → OnErr result (HasFailed (S.faults system.old) (S.faults system.new) (S.signals system.new)
             ⊎ (18446744073709551615 < offset + length into.old)) }
     {

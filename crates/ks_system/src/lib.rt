@@ -4,8 +4,8 @@
 mod disk;
 mod disk_files;
 mod errors;
-mod fault;
 mod folder_tree;
+mod fs_error;
 mod held;
 mod host;
 mod kept_file;
@@ -14,10 +14,10 @@ mod reading;
 mod system;
 mod system_tree;
 
-pub use disk::{DiskHandle, ScriptedDisk, Turn};
+pub use disk::{DiskHandle, MockDisk, Turn};
 pub use errors::Meaning;
-pub use fault::{FolderFault, reason_of};
 pub use folder_tree::FolderTree;
+pub use fs_error::{FsError, reason_of};
 pub use host::{Claim, Host};
 pub use system::{Kind, Look, System};
 pub use system_tree::SystemTree;

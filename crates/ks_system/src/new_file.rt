@@ -5,7 +5,7 @@ ghost use Rattle.std.specs.Prelude.{◌≡◌, ◌⊎◌, ◌≤◌, ◌++◌, �
 ghost use Rattle.std.specs.declared.io.ErrorKind.TheVariants as kind;
 ghost use Rattle.std.specs.IoError.{error_kind};
 ghost use Rattle.ks_tree.specs.Files.{IsHalfCreated, SameBut, content, kept_or};
-ghost use Rattle.ks_system.specs.Errors.{IsPassed, IsTold, IsToldBut, IsToldOfWriting, meaning_of};
+ghost use Rattle.ks_system.specs.Errors.{IsPassed, IsReported, IsReportedBut, IsReportedOfWriting, meaning_of};
 ghost use Rattle.ks_system.specs.System.{Begun, IsAppended, IsMade};
 ghost use Rattle.ks_system.specs.declared.errors.Meaning.{Meaning};
 
@@ -29,9 +29,9 @@ fn write_some<S: System>(system: &mut S, handle: &mut S::Handle, bytes: &[u8]) -
     ensures failed { S.is_honest → OnErr result (S.world system.new ≡ S.world system.old) }
     ensures opened { S.opened handle.new ≡ S.opened handle.old }
     ensures claimed { S.is_claimed handle.new ≡ S.is_claimed handle.old }
-    ensures kept { S.aged system.new ≡ S.aged system.old }
+    ensures kept { S.backdated system.new ≡ S.backdated system.old }
     ensures passed { S.is_honest → OnOk result (S.last_error system.new ≡ None) }
-    ensures told { S.is_honest → IfErr result (IsToldBut Meaning.Interrupted kind.Other (S.last_error system.new)) }
+    ensures reported { S.is_honest → IfErr result (IsReportedBut Meaning.Interrupted kind.Other (S.last_error system.new)) }
 {
     for _ in 0..u64::MAX {
         match system.write(handle, bytes) {
@@ -54,8 +54,8 @@ fn fill_new<S: System>(system: &mut S, handle: &mut S::Handle, bytes: &[u8]) -> 
     ensures dated { S.is_honest → (S.world system.new).dated ≡ (S.world system.old).dated }
     ensures opened { S.opened handle.new ≡ S.opened handle.old }
     ensures claimed { S.is_claimed handle.new ≡ S.is_claimed handle.old }
-    ensures kept { S.aged system.new ≡ S.aged system.old }
-    ensures told { S.is_honest → IfErr result (IsToldOfWriting (S.last_error system.new)) }
+    ensures kept { S.backdated system.new ≡ S.backdated system.old }
+    ensures reported { S.is_honest → IfErr result (IsReportedOfWriting (S.last_error system.new)) }
 {
     let mut written = 0;
     for _ in 0..u64::MAX {
@@ -84,9 +84,9 @@ fn write_claimed<S: System>(
     ensures claimed { IfOk result (λ found. IfSome found (λ h. (S.is_claimed h ≡ true) × (S.opened h ≡ S.opened handle))) }
     ensures others { S.is_honest → SameBut (S.opened handle).path (S.world system.old).files (S.world system.new).files }
     ensures dated { S.is_honest → (S.world system.new).dated ≡ (S.world system.old).dated }
-    ensures kept { S.aged system.new ≡ S.aged system.old }
+    ensures kept { S.backdated system.new ≡ S.backdated system.old }
     ensures passed { S.is_honest → IfOk result (λ found. IsNone found → S.last_error system.new ≡ None) }
-    ensures told { S.is_honest → IfErr result (IsToldOfWriting (S.last_error system.new)) }
+    ensures reported { S.is_honest → IfErr result (IsReportedOfWriting (S.last_error system.new)) }
 {
     if !system.claim(&mut handle) {
         return Ok(None);
@@ -99,103 +99,103 @@ fn write_claimed<S: System>(
     Ok(Some(handle))
 }
 
-/// Writes a new file at a place, and gives it, claimed. Folders that are missing are made.
+/// Writes a new file at a place, and gives it, claimed. Directories that are missing are made.
 pub(crate) fn write_new<S: System>(
     system: &mut S,
-    place: &str,
+    host_path: &str,
     bytes: &[u8],
 ) -> io::Result<S::Handle>
-    ensures written { S.is_honest → OnOk result (content (S.world system.new).files (S.path_at place.now) ≡ Some bytes.now) }
+    ensures written { S.is_honest → OnOk result (content (S.world system.new).files (S.path_at host_path.now) ≡ Some bytes.now) }
     ensures claimed { IfOk result (λ h. S.is_claimed h ≡ true) }
-    ensures of_path { S.is_honest → IfOk result (λ h. (S.opened h).path ≡ S.path_at place.now) }
-    ensures others { S.is_honest → SameBut (S.path_at place.now) (S.world system.old).files (S.world system.new).files }
+    ensures of_path { S.is_honest → IfOk result (λ h. (S.opened h).path ≡ S.path_at host_path.now) }
+    ensures others { S.is_honest → SameBut (S.path_at host_path.now) (S.world system.old).files (S.world system.new).files }
     ensures dated { S.is_honest → (S.world system.new).dated ≡ (S.world system.old).dated }
-    ensures kept { S.aged system.new ≡ S.aged system.old }
-    ensures told { S.is_honest → IfErr result (λ e. IsToldOfWriting (S.last_error system.new) e ⊎ IsToldBut Meaning.Missing kind.ResourceBusy (S.last_error system.new) e) }
+    ensures kept { S.backdated system.new ≡ S.backdated system.old }
+    ensures reported { S.is_honest → IfErr result (λ e. IsReportedOfWriting (S.last_error system.new) e ⊎ IsReportedBut Meaning.Missing kind.ResourceBusy (S.last_error system.new) e) }
 {
     for _ in 0..TRIES {
-        match system.create_new(place) {
+        match system.create_new(host_path) {
             Ok(handle) => {
                 if let Some(file) = write_claimed(system, handle, bytes)? {
                     return Ok(file);
                 }
             }
-            Err(error) => make_way(system, place, error)?,
+            Err(error) => make_way(system, host_path, error)?,
         }
     }
     Err(claimed())
 }
 
 /// Does what lets a file be made at a place where that failed, or gives the failure back.
-fn make_way<S: System>(system: &mut S, place: &str, error: io::Error) -> io::Result<()>
+fn make_way<S: System>(system: &mut S, host_path: &str, error: io::Error) -> io::Result<()>
     requires last { S.is_honest → S.last_error system.old ≡ Some error }
-    ensures others { S.is_honest → SameBut (S.path_at place.now) (S.world system.old).files (S.world system.new).files }
+    ensures others { S.is_honest → SameBut (S.path_at host_path.now) (S.world system.old).files (S.world system.new).files }
     ensures dated { S.is_honest → (S.world system.new).dated ≡ (S.world system.old).dated }
-    ensures kept { S.aged system.new ≡ S.aged system.old }
+    ensures kept { S.backdated system.new ≡ S.backdated system.old }
     ensures passed { S.is_honest → OnOk result (IfSome (S.last_error system.new) (λ e. (meaning_of e ≡ Meaning.Missing) × (meaning_of error ≡ Meaning.Stands))) }
-    ensures told { S.is_honest → IfErr result (IsTold kind.ResourceBusy (S.last_error system.new)) }
+    ensures reported { S.is_honest → IfErr result (IsReported kind.ResourceBusy (S.last_error system.new)) }
 {
     match meaning_of(&error) {
-        Meaning::Stands => clear(system, place),
-        Meaning::Missing => system.make_folders(place),
+        Meaning::Stands => clear(system, host_path),
+        Meaning::Missing => system.make_directories(host_path),
         _ => Err(error),
     }
 }
 
 /// Makes a file, or gives `None` where something stands.
-fn make_once<S: System>(system: &mut S, place: &str) -> io::Result<Option<S::Handle>>
+fn make_once<S: System>(system: &mut S, host_path: &str) -> io::Result<Option<S::Handle>>
     ensures made { S.is_honest → IfOk result (λ found. MatchOption found
-        (IsSome (content (S.world system.old).files (S.path_at place.now)) × (S.world system.new ≡ S.world system.old))
-        (λ h. IsMade (S.path_at place.now) (S.world system.old).files (S.world system.new).files
-        × (S.opened h ≡ record { path = S.path_at place.now; names = (S.world system.new).names; made = true }))) }
+        (IsSome (content (S.world system.old).files (S.path_at host_path.now)) × (S.world system.new ≡ S.world system.old))
+        (λ h. IsMade (S.path_at host_path.now) (S.world system.old).files (S.world system.new).files
+        × (S.opened h ≡ record { path = S.path_at host_path.now; names = (S.world system.new).names; made = true }))) }
     ensures dated { S.is_honest → (S.world system.new).dated ≡ (S.world system.old).dated }
     ensures failed { S.is_honest → OnErr result (S.world system.new ≡ S.world system.old) }
-    ensures kept { S.aged system.new ≡ S.aged system.old }
-    ensures told { S.is_honest → IfErr result (λ e. S.last_error system.new ≡ Some e) }
+    ensures kept { S.backdated system.new ≡ S.backdated system.old }
+    ensures reported { S.is_honest → IfErr result (λ e. S.last_error system.new ≡ Some e) }
 {
-    match system.create_new(place) {
+    match system.create_new(host_path) {
         Ok(handle) => Ok(Some(handle)),
         Err(error) if meaning_of(&error) == Meaning::Stands => Ok(None),
         Err(error) => Err(error),
     }
 }
 
-/// The same, and folders that are missing are made.
-fn make_in_folders<S: System>(system: &mut S, place: &str) -> io::Result<Option<S::Handle>>
+/// The same, and directories that are missing are made.
+fn make_in_directories<S: System>(system: &mut S, host_path: &str) -> io::Result<Option<S::Handle>>
     ensures made { S.is_honest → IfOk result (λ found. MatchOption found
-        (IsSome (content (S.world system.old).files (S.path_at place.now)) × (S.world system.new ≡ S.world system.old))
-        (λ h. IsMade (S.path_at place.now) (S.world system.old).files (S.world system.new).files
-        × (S.opened h ≡ record { path = S.path_at place.now; names = (S.world system.new).names; made = true }))) }
+        (IsSome (content (S.world system.old).files (S.path_at host_path.now)) × (S.world system.new ≡ S.world system.old))
+        (λ h. IsMade (S.path_at host_path.now) (S.world system.old).files (S.world system.new).files
+        × (S.opened h ≡ record { path = S.path_at host_path.now; names = (S.world system.new).names; made = true }))) }
     ensures dated { S.is_honest → (S.world system.new).dated ≡ (S.world system.old).dated }
     ensures failed { S.is_honest → OnErr result (S.world system.new ≡ S.world system.old) }
-    ensures kept { S.aged system.new ≡ S.aged system.old }
-    ensures told { S.is_honest → IfErr result (λ e. S.last_error system.new ≡ Some e) }
+    ensures kept { S.backdated system.new ≡ S.backdated system.old }
+    ensures reported { S.is_honest → IfErr result (λ e. S.last_error system.new ≡ Some e) }
 {
-    match make_once(system, place) {
+    match make_once(system, host_path) {
         Ok(found) => return Ok(found),
         Err(error) if meaning_of(&error) == Meaning::Missing => {}
         Err(error) => return Err(error),
     }
-    system.make_folders(place)?;
-    make_once(system, place)
+    system.make_directories(host_path)?;
+    make_once(system, host_path)
 }
 
-/// Makes a file of these bytes, unless something stands at the place. Folders that are missing are made. The file's time is long
+/// Makes a file of these bytes, unless something stands at the place. Directories that are missing are made. The file's time is long
 /// past: one of now would be newer than what was built just before, and a build that goes by times would build it once more.
-pub(crate) fn create_new<S: System>(system: &mut S, place: &str, bytes: &[u8]) -> io::Result<()>
-    ensures made { S.is_honest → OnOk result (content (S.world system.new).files (S.path_at place.now)
-        ≡ Some (kept_or (content (S.world system.old).files (S.path_at place.now)) bytes.now)) }
-    ensures failed { S.is_honest → OnErr result (IsHalfCreated (content (S.world system.old).files (S.path_at place.now)) bytes.now
-        (content (S.world system.new).files (S.path_at place.now))) }
-    ensures others { S.is_honest → SameBut (S.path_at place.now) (S.world system.old).files (S.world system.new).files }
-    ensures dated { S.is_honest → OnOk result (content (S.world system.old).files (S.path_at place.now) ≡ None →
-        (S.world system.new).dated ≡ (S.world system.old).dated ++ S.path_at place.now ∷ []) }
-    ensures stood { S.is_honest → IsSome (content (S.world system.old).files (S.path_at place.now)) → (S.world system.new).dated ≡ (S.world system.old).dated }
+pub(crate) fn create_new<S: System>(system: &mut S, host_path: &str, bytes: &[u8]) -> io::Result<()>
+    ensures made { S.is_honest → OnOk result (content (S.world system.new).files (S.path_at host_path.now)
+        ≡ Some (kept_or (content (S.world system.old).files (S.path_at host_path.now)) bytes.now)) }
+    ensures failed { S.is_honest → OnErr result (IsHalfCreated (content (S.world system.old).files (S.path_at host_path.now)) bytes.now
+        (content (S.world system.new).files (S.path_at host_path.now))) }
+    ensures others { S.is_honest → SameBut (S.path_at host_path.now) (S.world system.old).files (S.world system.new).files }
+    ensures dated { S.is_honest → OnOk result (content (S.world system.old).files (S.path_at host_path.now) ≡ None →
+        (S.world system.new).dated ≡ (S.world system.old).dated ++ S.path_at host_path.now ∷ []) }
+    ensures stood { S.is_honest → IsSome (content (S.world system.old).files (S.path_at host_path.now)) → (S.world system.new).dated ≡ (S.world system.old).dated }
     ensures undated { S.is_honest → OnErr result ((S.world system.new).dated ≡ (S.world system.old).dated) }
-    ensures kept { S.aged system.new ≡ S.aged system.old }
-    ensures told { S.is_honest → IfErr result (IsToldOfWriting (S.last_error system.new)) }
+    ensures kept { S.backdated system.new ≡ S.backdated system.old }
+    ensures reported { S.is_honest → IfErr result (IsReportedOfWriting (S.last_error system.new)) }
 {
-    let Some(mut handle) = make_in_folders(system, place)? else {
+    let Some(mut handle) = make_in_directories(system, host_path)? else {
         return Ok(());
     };
     fill_new(system, &mut handle, bytes)?;
@@ -210,55 +210,55 @@ fn claimed() -> io::Error
 }
 
 /// Removes what is left over at a place, if it hasn't gone by now.
-fn clear<S: System>(system: &mut S, place: &str) -> io::Result<()>
-    ensures others { S.is_honest → SameBut (S.path_at place.now) (S.world system.old).files (S.world system.new).files }
+fn clear<S: System>(system: &mut S, host_path: &str) -> io::Result<()>
+    ensures others { S.is_honest → SameBut (S.path_at host_path.now) (S.world system.old).files (S.world system.new).files }
     ensures dated { S.is_honest → (S.world system.new).dated ≡ (S.world system.old).dated }
-    ensures kept { S.aged system.new ≡ S.aged system.old }
+    ensures kept { S.backdated system.new ≡ S.backdated system.old }
     ensures passed { S.is_honest → OnOk result (IsPassed Meaning.Missing (S.last_error system.new)) }
-    ensures told { S.is_honest → IfErr result (IsTold kind.ResourceBusy (S.last_error system.new)) }
+    ensures reported { S.is_honest → IfErr result (IsReported kind.ResourceBusy (S.last_error system.new)) }
 {
-    match remove(system, place) {
+    match remove(system, host_path) {
         Err(error) if meaning_of(&error) == Meaning::Missing => Ok(()),
         outcome => outcome,
     }
 }
 
-/// Removes a file, a link, a pipe or an empty folder. A device is nobody's left-over.
-fn remove<S: System>(system: &mut S, place: &str) -> io::Result<()>
-    ensures others { S.is_honest → SameBut (S.path_at place.now) (S.world system.old).files (S.world system.new).files }
+/// Removes a file, a link, a pipe or an empty directory. A device is nobody's left-over.
+fn remove<S: System>(system: &mut S, host_path: &str) -> io::Result<()>
+    ensures others { S.is_honest → SameBut (S.path_at host_path.now) (S.world system.old).files (S.world system.new).files }
     ensures dated { S.is_honest → (S.world system.new).dated ≡ (S.world system.old).dated }
-    ensures kept { S.aged system.new ≡ S.aged system.old }
+    ensures kept { S.backdated system.new ≡ S.backdated system.old }
     ensures passed { S.is_honest → OnOk result (S.last_error system.new ≡ None) }
-    ensures told { S.is_honest → IfErr result (IsTold kind.ResourceBusy (S.last_error system.new)) }
+    ensures reported { S.is_honest → IfErr result (IsReported kind.ResourceBusy (S.last_error system.new)) }
 {
-    match system.kind(place)? {
+    match system.kind(host_path)? {
         Kind::Disk | Kind::Null | Kind::Device => {
             Err(io::Error::new(ErrorKind::ResourceBusy, "A device stands there"))
         }
-        Kind::Folder => system.remove_folder(place),
-        Kind::File => remove_unclaimed(system, place),
-        Kind::Other => system.remove_file(place),
+        Kind::Directory => system.remove_directory(host_path),
+        Kind::File => remove_unclaimed(system, host_path),
+        Kind::Other => system.remove_file(host_path),
     }
 }
 
 /// Removes a regular file, but none that another program has claimed.
-fn remove_unclaimed<S: System>(system: &mut S, place: &str) -> io::Result<()>
-    ensures others { S.is_honest → SameBut (S.path_at place.now) (S.world system.old).files (S.world system.new).files }
+fn remove_unclaimed<S: System>(system: &mut S, host_path: &str) -> io::Result<()>
+    ensures others { S.is_honest → SameBut (S.path_at host_path.now) (S.world system.old).files (S.world system.new).files }
     ensures dated { S.is_honest → (S.world system.new).dated ≡ (S.world system.old).dated }
-    ensures kept { S.aged system.new ≡ S.aged system.old }
+    ensures kept { S.backdated system.new ≡ S.backdated system.old }
     ensures passed { S.is_honest → OnOk result (S.last_error system.new ≡ None) }
-    ensures told { S.is_honest → IfErr result (IsTold kind.ResourceBusy (S.last_error system.new)) }
+    ensures reported { S.is_honest → IfErr result (IsReported kind.ResourceBusy (S.last_error system.new)) }
 {
-    let Ok(mut handle) = system.open_left_over(place) else {
-        return system.remove_file(place);
+    let Ok(mut handle) = system.open_left_over(host_path) else {
+        return system.remove_file(host_path);
     };
     let is_free = system.claim(&mut handle);
     if !is_free {
         return Err(claimed());
     }
     // Before it was claimed it may have been moved, and a file of another program may stand here.
-    if system.is_at(&handle, place)? {
-        return system.remove_file(place);
+    if system.is_at(&handle, host_path)? {
+        return system.remove_file(host_path);
     }
     Ok(())
 }

@@ -1,7 +1,7 @@
-//! A tree that is a folder of a system: what users meet. Over a system that does what is asked of it, it is an honest tree, whatever is
+//! A tree that is a directory of a system: what users meet. Over a system that does what is asked of it, it is an honest tree, whatever is
 //! short, interrupted or fails, so what is proved over every honest tree holds of it.
 //!
-//! Only the system's "no such file" counts as a missing file. A folder, a file in the place of a folder, and every other
+//! Only the system's "no such file" counts as a missing file. A directory, a file in the place of a directory, and every other
 //! failure are `Device`, since a build that takes an unreadable file for a missing one would call objects fresh.
 ghost use Rattle.std.specs.Prelude.{◌≡◌, ◌≢◌, ◌⊎◌, ◌≤◌, ◌<◌, ◌+◌, ◌++◌, ◌∷◌, ℕ, List, [], Bool, true, is_some, min, length, take, drop, Some, None, IsSome, IfErr, IfOk, IfSome, OnOk, OnErr, IsErrOf, MatchOption, IsUtf8, option_map, string_bytes};
 ghost use Rattle.std.proofs.Props.{props};
@@ -13,13 +13,13 @@ ghost use Rattle.ks_system.specs.Reading.{HasNoEnd, IsAheadOf};
 ghost use Rattle.ks_system.specs.declared.system.Kind.{Kind};
 
 use crate::errors::found_of;
-use crate::fault::{FolderFault, ReadFault};
+use crate::fs_error::{FsError, ReadError};
 use crate::held::HeldReading;
 use crate::kept_file::KeptFile;
 use crate::new_file::{create_new, write_new};
 use crate::reading::{read_whole, without_an_end};
 use crate::{Kind, System};
-use ks_tree::{Aging, Tree, TreeFault};
+use ks_tree::{Backdating, Tree, TreeFault};
 use std::alloc::Global;
 use std::io;
 
@@ -30,7 +30,7 @@ pub struct SystemTree<S: System + Drop> {
     seed: u64,
     failures: u64,
     /// What failed last, where something can be said of it.
-    last_fault: Option<FolderFault>,
+    last_error: Option<FsError>,
     /// The file of the last `read_at`, kept open so that a prerequisite costs one open however many pieces it has.
     kept: Option<KeptFile<S>>,
     /// The file that was written last, claimed until it is moved or another one is written.
@@ -53,7 +53,7 @@ impl<S: System + Drop> SystemTree<S> {
             system,
             seed: 0,
             failures: 0,
-            last_fault: None,
+            last_error: None,
             kept: None,
             written: None,
             held: None,
@@ -91,8 +91,8 @@ impl<S: System + Drop> SystemTree<S> {
     }
 
     /// What failed last, or `None` where nothing has failed, or nothing can be said of it for want of memory.
-    pub fn last_fault(&self) -> Option<&FolderFault> {
-        self.last_fault.as_ref()
+    pub fn last_error(&self) -> Option<&FsError> {
+        self.last_error.as_ref()
     }
 
     /// Gives up the system, as the calls have left it.
@@ -105,7 +105,7 @@ impl<S: System + Drop> SystemTree<S> {
     /// Counts a failure of the system.
     fn device(&mut self) -> TreeFault
         ensures device { result ≡ TreeFault.Device }
-        ensures untold { self.new.last_fault ≡ None }
+        ensures untold { self.new.last_error ≡ None }
         ensures system { self.new.system ≡ self.old.system }
         ensures claim { self.new.written ≡ self.old.written }
         ensures held { self.new.held ≡ self.old.held }
@@ -113,14 +113,14 @@ impl<S: System + Drop> SystemTree<S> {
         ensures counted { self.new.failures ≡ min (self.old.failures + 1) 18446744073709551615 }
     {
         self.failures = self.failures.saturating_add(1);
-        self.last_fault = None;
+        self.last_error = None;
         TreeFault::Device
     }
 
     /// Counts a failure of the system at a path, and keeps what can be told of it.
     fn fault(&mut self, alloc: Global, path: &[u8], error: &io::Error) -> TreeFault
         ensures device { result ≡ TreeFault.Device }
-        ensures told { IfSome self.new.last_fault (λ fault. string_bytes fault.path ≡ path.now) }
+        ensures reported { IfSome self.new.last_error (λ fault. string_bytes fault.path ≡ path.now) }
         ensures system { self.new.system ≡ self.old.system }
         ensures claim { self.new.written ≡ self.old.written }
         ensures held { self.new.held ≡ self.old.held }
@@ -128,7 +128,7 @@ impl<S: System + Drop> SystemTree<S> {
         ensures cause { HasRisen self.old.failures self.new.failures }
     {
         let fault = self.device();
-        self.last_fault = FolderFault::new(alloc, path, error);
+        self.last_error = FsError::new(alloc, path, error);
         fault
     }
 
@@ -148,7 +148,7 @@ impl<S: System + Drop> SystemTree<S> {
         ensures gone { S.is_honest → OnOk result (content (S.world self.new.system).files path.now ≡ None) }
         ensures others { S.is_honest → SameBut path.now (S.world self.old.system).files (S.world self.new.system).files }
         ensures failed { S.is_honest → OnErr result ((S.world self.new.system).files ≡ (S.world self.old.system).files) }
-        ensures kept { S.aged self.new.system ≡ S.aged self.old.system }
+        ensures kept { S.backdated self.new.system ≡ S.backdated self.old.system }
         ensures undated { S.is_honest → (S.world self.new.system).dated ≡ (S.world self.old.system).dated }
         ensures never { IsErrOf result TreeFault.TooLarge → ⊥ }
         ensures later { self.old.failures ≤ self.new.failures }
@@ -156,13 +156,13 @@ impl<S: System + Drop> SystemTree<S> {
         ensures uncounted { IsErrOf result TreeFault.OutOfMemory → self.new.failures ≡ self.old.failures }
         ensures cause { IsErrOf result TreeFault.Device → HasRisen self.old.failures self.new.failures }
         ensures forgotten { self.new.held ≡ None }
-        ensures told { IsErrOf result TreeFault.Device → IfSome self.new.last_fault (λ fault. string_bytes fault.path ≡ path.now) }
+        ensures reported { IsErrOf result TreeFault.Device → IfSome self.new.last_error (λ fault. string_bytes fault.path ≡ path.now) }
     {
         self.forget_readings();
-        let Some(place) = self.system.place(alloc, path)? else {
+        let Some(host_path) = self.system.host_path(alloc, path)? else {
             return Err(self.device());
         };
-        match self.system.remove_file(place.as_str()) {
+        match self.system.remove_file(host_path.as_str()) {
             Ok(()) => Ok(()),
             Err(error) => Err(self.fault(alloc, path, &error)),
         }
@@ -180,10 +180,10 @@ impl<S: System + Drop> SystemTree<S> {
             (λ k. ((S.opened k.file).names ≡ (S.world self.old.system).names) × ((S.opened k.file).path ≡ path.now)
             × IsAheadOf (content (S.world self.old.system).files path.now) k.ahead)) }
         ensures of_path { IfOk result (λ found. IfSome found (λ k. k.ahead.path ≡ path.now)) }
-        ensures told { IsErrOf result TreeFault.Device → IfSome self.new.last_fault (λ fault. string_bytes fault.path ≡ path.now) }
+        ensures reported { IsErrOf result TreeFault.Device → IfSome self.new.last_error (λ fault. string_bytes fault.path ≡ path.now) }
         ensures claim { self.new.written ≡ self.old.written }
         ensures unchanged { S.is_honest → S.world self.new.system ≡ S.world self.old.system }
-        ensures kept { S.aged self.new.system ≡ S.aged self.old.system }
+        ensures kept { S.backdated self.new.system ≡ S.backdated self.old.system }
         ensures later { self.old.failures ≤ self.new.failures }
         ensures cause { IsErrOf result TreeFault.Device → HasRisen self.old.failures self.new.failures }
         ensures passed { OnOk result (self.new.failures ≡ self.old.failures) }
@@ -199,10 +199,10 @@ impl<S: System + Drop> SystemTree<S> {
             }
             earlier = Some(kept);
         }
-        let Some(place) = self.system.place(alloc, path)? else {
+        let Some(host_path) = self.system.host_path(alloc, path)? else {
             return Err(self.device());
         };
-        match found_of(self.system.open(place.as_str())) {
+        match found_of(self.system.open(host_path.as_str())) {
             Ok(Some(file)) => Ok(Some(KeptFile::open(alloc, earlier, path, file)?)),
             Ok(None) => Ok(None),
             Err(error) => Err(self.fault(alloc, path, &error)),
@@ -217,7 +217,7 @@ impl<S: System + Drop> Tree for SystemTree<S> {
 
     ghost failures = { λ t. t.failures };
 
-    ghost aged = { λ t. S.aged t.system };
+    ghost backdated = { λ t. S.backdated t.system };
 
     /// Reads a file, or gives what is held for it.
     fn read(&mut self, alloc: Global, path: &[u8]) -> Result<Option<Vec<u8>>, TreeFault>
@@ -225,7 +225,7 @@ impl<S: System + Drop> Tree for SystemTree<S> {
         ensures small { S.is_honest → IfOk result (λ found. (b : List ℕ) → content (S.world self.old.system).files path.now ≡ Some b → length b ≤ max_bytes) }
         ensures too_large { S.is_honest → IsErrOf result TreeFault.TooLarge → IsTooLarge (content (S.world self.old.system).files path.now) }
         ensures unchanged { S.is_honest → (S.world self.new.system).files ≡ (S.world self.old.system).files }
-        ensures kept { S.aged self.new.system ≡ S.aged self.old.system }
+        ensures kept { S.backdated self.new.system ≡ S.backdated self.old.system }
         ensures later { self.old.failures ≤ self.new.failures }
         ensures passed { OnOk result (self.new.failures ≡ self.old.failures) }
         ensures uncounted { IsErrOf result TreeFault.OutOfMemory → self.new.failures ≡ self.old.failures }
@@ -234,7 +234,7 @@ impl<S: System + Drop> Tree for SystemTree<S> {
         // Of the files' times, the claim, what is held, and what is told.
         ensures undated { S.is_honest → (S.world self.new.system).dated ≡ (S.world self.old.system).dated }
         ensures claim { self.new.written ≡ self.old.written }
-        ensures told { IsErrOf result TreeFault.Device → IfSome self.new.last_fault (λ fault. string_bytes fault.path ≡ path.now) }
+        ensures reported { IsErrOf result TreeFault.Device → IfSome self.new.last_error (λ fault. string_bytes fault.path ≡ path.now) }
         ensures held { IfSome self.old.held (λ held. held.path ≡ path.now →
             IfOk result (λ found. option_map (λ v. v.items) found ≡ held.found) × IfErr result (λ _. ⊥)) }
         ensures once { IfSome self.old.held (λ held. held.path ≡ path.now → self.new.held ≡ None) }
@@ -245,14 +245,14 @@ impl<S: System + Drop> Tree for SystemTree<S> {
         if let Some(found) = HeldReading::take(&mut self.held, path) {
             return Ok(found);
         }
-        let Some(place) = self.system.place(alloc, path)? else {
+        let Some(host_path) = self.system.host_path(alloc, path)? else {
             return Err(self.device());
         };
-        match read_whole(alloc, &mut self.system, place.as_str()) {
+        match read_whole(alloc, &mut self.system, host_path.as_str()) {
             Ok(found) => Ok(found),
-            Err(ReadFault::TooLarge) => Err(TreeFault::TooLarge),
-            Err(ReadFault::OutOfMemory) => Err(TreeFault::OutOfMemory),
-            Err(ReadFault::System(error)) => Err(self.fault(alloc, path, &error)),
+            Err(ReadError::TooLarge) => Err(TreeFault::TooLarge),
+            Err(ReadError::OutOfMemory) => Err(TreeFault::OutOfMemory),
+            Err(ReadError::System(error)) => Err(self.fault(alloc, path, &error)),
         }
     }
 
@@ -266,7 +266,7 @@ impl<S: System + Drop> Tree for SystemTree<S> {
         ensures found { S.is_honest → IfOk result (IsReadAt (content (S.world self.old.system).files path.now) offset into.old into.new) }
         ensures within { IfOk result (λ found. IfSome found (λ n. n ≤ length into.new)) }
         ensures unchanged { S.is_honest → (S.world self.new.system).files ≡ (S.world self.old.system).files }
-        ensures kept { S.aged self.new.system ≡ S.aged self.old.system }
+        ensures kept { S.backdated self.new.system ≡ S.backdated self.old.system }
         ensures never { IsErrOf result TreeFault.TooLarge → ⊥ }
         ensures later { self.old.failures ≤ self.new.failures }
         ensures passed { OnOk result (self.new.failures ≡ self.old.failures) }
@@ -275,7 +275,7 @@ impl<S: System + Drop> Tree for SystemTree<S> {
         // Of the files' times, the claim, and what is told.
         ensures undated { S.is_honest → (S.world self.new.system).dated ≡ (S.world self.old.system).dated }
         ensures claim { self.new.written ≡ self.old.written }
-        ensures told { IsErrOf result TreeFault.Device → IfSome self.new.last_fault (λ fault. string_bytes fault.path ≡ path.now) }
+        ensures reported { IsErrOf result TreeFault.Device → IfSome self.new.last_error (λ fault. string_bytes fault.path ≡ path.now) }
         ensures due { S.is_honest → IsErrOf result TreeFault.Device →
             HasFailed (S.faults self.old.system) (S.faults self.new.system) (S.signals self.new.system)
             ⊎ ((IsUtf8 path.now → ⊥) ⊎ (18446744073709551615 < offset + length into.old)) }
@@ -296,7 +296,7 @@ impl<S: System + Drop> Tree for SystemTree<S> {
     fn write(&mut self, alloc: Global, path: &[u8], bytes: &[u8]) -> Result<(), TreeFault>
         ensures written { S.is_honest → OnOk result (content (S.world self.new.system).files path.now ≡ Some bytes.now) }
         ensures others { S.is_honest → SameBut path.now (S.world self.old.system).files (S.world self.new.system).files }
-        ensures kept { S.aged self.new.system ≡ S.aged self.old.system }
+        ensures kept { S.backdated self.new.system ≡ S.backdated self.old.system }
         ensures refused { S.is_honest → IsErrOf result TreeFault.OutOfMemory → (S.world self.new.system).files ≡ (S.world self.old.system).files }
         ensures never { IsErrOf result TreeFault.TooLarge → ⊥ }
         ensures later { self.old.failures ≤ self.new.failures }
@@ -308,14 +308,14 @@ impl<S: System + Drop> Tree for SystemTree<S> {
         ensures claimed { OnOk result (MatchOption self.new.written ⊥ (λ h. S.is_claimed h ≡ true)) }
         ensures of_path { S.is_honest → OnOk result (IfSome self.new.written (λ h. (S.opened h).path ≡ path.now)) }
         ensures forgotten { self.new.held ≡ None }
-        ensures told { IsErrOf result TreeFault.Device → IfSome self.new.last_fault (λ fault. string_bytes fault.path ≡ path.now) }
+        ensures reported { IsErrOf result TreeFault.Device → IfSome self.new.last_error (λ fault. string_bytes fault.path ≡ path.now) }
     {
         self.forget_readings();
         self.written = None;
-        let Some(place) = self.system.place(alloc, path)? else {
+        let Some(host_path) = self.system.host_path(alloc, path)? else {
             return Err(self.device());
         };
-        match write_new(&mut self.system, place.as_str(), bytes) {
+        match write_new(&mut self.system, host_path.as_str(), bytes) {
             Ok(file) => {
                 self.written = Some(file);
                 Ok(())
@@ -329,7 +329,7 @@ impl<S: System + Drop> Tree for SystemTree<S> {
         ensures made { S.is_honest → OnOk result (content (S.world self.new.system).files path.now ≡ Some (kept_or (content (S.world self.old.system).files path.now) bytes.now)) }
         ensures failed { S.is_honest → OnErr result (IsHalfCreated (content (S.world self.old.system).files path.now) bytes.now (content (S.world self.new.system).files path.now)) }
         ensures others { S.is_honest → SameBut path.now (S.world self.old.system).files (S.world self.new.system).files }
-        ensures kept { S.aged self.new.system ≡ S.aged self.old.system }
+        ensures kept { S.backdated self.new.system ≡ S.backdated self.old.system }
         ensures refused { S.is_honest → IsErrOf result TreeFault.OutOfMemory → (S.world self.new.system).files ≡ (S.world self.old.system).files }
         ensures never { IsErrOf result TreeFault.TooLarge → ⊥ }
         ensures later { self.old.failures ≤ self.new.failures }
@@ -342,13 +342,13 @@ impl<S: System + Drop> Tree for SystemTree<S> {
         ensures stood { S.is_honest → IsSome (content (S.world self.old.system).files path.now) → (S.world self.new.system).dated ≡ (S.world self.old.system).dated }
         ensures undated { S.is_honest → OnErr result ((S.world self.new.system).dated ≡ (S.world self.old.system).dated) }
         ensures forgotten { self.new.held ≡ None }
-        ensures told { IsErrOf result TreeFault.Device → IfSome self.new.last_fault (λ fault. string_bytes fault.path ≡ path.now) }
+        ensures reported { IsErrOf result TreeFault.Device → IfSome self.new.last_error (λ fault. string_bytes fault.path ≡ path.now) }
     {
         self.forget_readings();
-        let Some(place) = self.system.place(alloc, path)? else {
+        let Some(host_path) = self.system.host_path(alloc, path)? else {
             return Err(self.device());
         };
-        match create_new(&mut self.system, place.as_str(), bytes) {
+        match create_new(&mut self.system, host_path.as_str(), bytes) {
             Ok(()) => Ok(()),
             Err(error) => Err(self.fault(alloc, path, &error)),
         }
@@ -359,7 +359,7 @@ impl<S: System + Drop> Tree for SystemTree<S> {
         requires differ { from.now ≢ to.now }
         requires there { S.is_honest → IsSome (content (S.world self.old.system).files from.now) }
         ensures moved { S.is_honest → OnOk result (IsMoved from.now to.now (S.world self.old.system).files (S.world self.new.system).files) }
-        ensures kept { S.aged self.new.system ≡ S.aged self.old.system }
+        ensures kept { S.backdated self.new.system ≡ S.backdated self.old.system }
         ensures failed { S.is_honest → OnErr result (((S.world self.new.system).files ≡ (S.world self.old.system).files)
             ⊎ IsMoved from.now to.now (S.world self.old.system).files (S.world self.new.system).files) }
         ensures refused { S.is_honest → IsErrOf result TreeFault.OutOfMemory → (S.world self.new.system).files ≡ (S.world self.old.system).files }
@@ -371,15 +371,15 @@ impl<S: System + Drop> Tree for SystemTree<S> {
         // Of the files' times, the readings, and what is told.
         ensures undated { S.is_honest → (S.world self.new.system).dated ≡ (S.world self.old.system).dated }
         ensures forgotten { self.new.held ≡ None }
-        ensures told { IsErrOf result TreeFault.Device → IfSome self.new.last_fault (λ fault. string_bytes fault.path ≡ to.now) }
+        ensures reported { IsErrOf result TreeFault.Device → IfSome self.new.last_error (λ fault. string_bytes fault.path ≡ to.now) }
         ensures due { S.is_honest → IsErrOf result TreeFault.Device → HasRisen (S.faults self.old.system) (S.faults self.new.system)
             ⊎ ((IsUtf8 from.now → ⊥) ⊎ (IsUtf8 to.now → ⊥)) }
     {
         self.forget_readings();
-        let Some(old) = self.system.place(alloc, from)? else {
+        let Some(old) = self.system.host_path(alloc, from)? else {
             return Err(self.device());
         };
-        let Some(new) = self.system.place(alloc, to)? else {
+        let Some(new) = self.system.host_path(alloc, to)? else {
             return Err(self.device());
         };
         let outcome = self.system.rename(old.as_str(), new.as_str());
@@ -399,41 +399,41 @@ impl<S: System + Drop> Tree for SystemTree<S> {
 }
 
 /// Opens a regular file, to make it older than all others, or gives `None` where there is none. A pipe isn't opened.
-fn open_to_age<S: System>(system: &mut S, place: &str) -> io::Result<Option<S::Handle>>
-    ensures opened { S.is_honest → IfOk result (λ file. MatchOption file (content (S.world system.old).files (S.path_at place.now) ≡ None)
-        (λ h. (S.opened h).path ≡ S.path_at place.now)) }
+fn open_to_backdate<S: System>(system: &mut S, host_path: &str) -> io::Result<Option<S::Handle>>
+    ensures opened { S.is_honest → IfOk result (λ file. MatchOption file (content (S.world system.old).files (S.path_at host_path.now) ≡ None)
+        (λ h. (S.opened h).path ≡ S.path_at host_path.now)) }
     ensures unchanged { S.is_honest → S.world system.new ≡ S.world system.old }
-    ensures kept { S.aged system.new ≡ S.aged system.old }
+    ensures kept { S.backdated system.new ≡ S.backdated system.old }
     ensures passed { S.is_honest → OnOk result (S.faults system.new ≡ S.faults system.old) }
-    ensures cause { S.is_honest → OnErr result (HasRisen (S.faults system.old) (S.faults system.new) ⊎ IsNoFile (S.kind_at system.old (S.path_at place.now))) }
+    ensures cause { S.is_honest → OnErr result (HasRisen (S.faults system.old) (S.faults system.new) ⊎ IsNoFile (S.kind_at system.old (S.path_at host_path.now))) }
 {
-    let Some(look) = found_of(system.look(place))? else {
+    let Some(look) = found_of(system.look(host_path))? else {
         return Ok(None);
     };
     if look.kind != Kind::File {
         return Err(without_an_end(look.kind));
     }
-    found_of(system.open(place))
+    found_of(system.open(host_path))
 }
 
 /// Makes the file at a place older than all others, if there is one.
-fn age_file<S: System>(system: &mut S, place: &str) -> io::Result<()>
-    ensures aged { S.is_honest → OnOk result (S.aged system.new ≡ S.aged system.old ++ S.path_at place.now ∷ []) }
-    ensures failed { S.is_honest → OnErr result (S.aged system.new ≡ S.aged system.old) }
+fn backdate_file<S: System>(system: &mut S, host_path: &str) -> io::Result<()>
+    ensures backdated { S.is_honest → OnOk result (S.backdated system.new ≡ S.backdated system.old ++ S.path_at host_path.now ∷ []) }
+    ensures failed { S.is_honest → OnErr result (S.backdated system.new ≡ S.backdated system.old) }
     ensures unchanged { S.is_honest → S.world system.new ≡ S.world system.old }
-    ensures cause { S.is_honest → OnErr result (HasRisen (S.faults system.old) (S.faults system.new) ⊎ IsNoFile (S.kind_at system.old (S.path_at place.now))) }
+    ensures cause { S.is_honest → OnErr result (HasRisen (S.faults system.old) (S.faults system.new) ⊎ IsNoFile (S.kind_at system.old (S.path_at host_path.now))) }
 {
-    let file = open_to_age(system, place)?;
-    system.age(place, file)
+    let file = open_to_backdate(system, host_path)?;
+    system.backdate(host_path, file)
 }
 
-impl<S: System + Drop> Aging for SystemTree<S> {
+impl<S: System + Drop> Backdating for SystemTree<S> {
     /// The file gets the first second of 1970 as its time, as a stamp that was made.
-    fn age(&mut self, alloc: Global, path: &[u8]) -> Result<(), TreeFault>
-        ensures aged { S.is_honest → OnOk result (S.aged self.new.system ≡ S.aged self.old.system ++ path.now ∷ []) }
-        ensures failed { S.is_honest → OnErr result ((S.aged self.new.system ≡ S.aged self.old.system)
-            ⊎ (S.aged self.new.system ≡ S.aged self.old.system ++ path.now ∷ [])) }
-        ensures refused { S.is_honest → IsErrOf result TreeFault.OutOfMemory → S.aged self.new.system ≡ S.aged self.old.system }
+    fn backdate(&mut self, alloc: Global, path: &[u8]) -> Result<(), TreeFault>
+        ensures backdated { S.is_honest → OnOk result (S.backdated self.new.system ≡ S.backdated self.old.system ++ path.now ∷ []) }
+        ensures failed { S.is_honest → OnErr result ((S.backdated self.new.system ≡ S.backdated self.old.system)
+            ⊎ (S.backdated self.new.system ≡ S.backdated self.old.system ++ path.now ∷ [])) }
+        ensures refused { S.is_honest → IsErrOf result TreeFault.OutOfMemory → S.backdated self.new.system ≡ S.backdated self.old.system }
         ensures unchanged { S.is_honest → (S.world self.new.system).files ≡ (S.world self.old.system).files }
         ensures never { IsErrOf result TreeFault.TooLarge → ⊥ }
         ensures later { self.old.failures ≤ self.new.failures }
@@ -443,14 +443,14 @@ impl<S: System + Drop> Aging for SystemTree<S> {
         // Of the files that were made, the claim, what is told, and what a failure comes of.
         ensures undated { S.is_honest → (S.world self.new.system).dated ≡ (S.world self.old.system).dated }
         ensures claim { self.new.written ≡ self.old.written }
-        ensures told { IsErrOf result TreeFault.Device → IfSome self.new.last_fault (λ fault. string_bytes fault.path ≡ path.now) }
+        ensures reported { IsErrOf result TreeFault.Device → IfSome self.new.last_error (λ fault. string_bytes fault.path ≡ path.now) }
         ensures due { S.is_honest → IsErrOf result TreeFault.Device → HasRisen (S.faults self.old.system) (S.faults self.new.system)
             ⊎ ((IsUtf8 path.now → ⊥) ⊎ IsNoFile (S.kind_at self.old.system path.now)) }
     {
-        let Some(place) = self.system.place(alloc, path)? else {
+        let Some(host_path) = self.system.host_path(alloc, path)? else {
             return Err(self.device());
         };
-        match age_file(&mut self.system, place.as_str()) {
+        match backdate_file(&mut self.system, host_path.as_str()) {
             Ok(()) => Ok(()),
             Err(error) => Err(self.fault(alloc, path, &error)),
         }

@@ -129,9 +129,9 @@ const DAMAGES: &[(&str, &[u8], &[u8], Result<Option<u64>, u64>)] = &[
     ("a leading zero",            b"generation 1",    b"generation 01",                  Err(15)),
     ("no line feed after it",    b"generation 1\n",  b"generation 1",                   Err(15)),
     ("another comment",           b"#generation 1\n", b"#generations 1",                 Ok(None)),
-    ("a folder above",            b"config/A)",       b"config/../A)",                   Err(6)),
+    ("a directory above",            b"config/A)",       b"config/../A)",                   Err(6)),
     ("three spaces",              b"    $(wildcard include/config/B", b"   $(wildcard include/config/B", Err(7)),
-    ("a folder as target",        b"x.o",             b"x/",                             Err(1)),
+    ("a directory as target",        b"x.o",             b"x/",                             Err(1)),
     ("a carriage return",         b"cc -c",           b"cc\r-c",                         Err(1)),
     ("another target's source",   b"source_x.o",      b"source_y.o",                     Err(3)),
     ("a source with a space",     b":= x.c",          b":= x .c",                        Err(3)),
@@ -261,7 +261,7 @@ const REFUSALS: &[(CommandError, &str)] = &[
 ];
 
 #[test]
-fn refusals_tell_their_number_and_line(rt: HostRuntime) -> Result<(), Fail> {
+fn refusals_report_their_number_and_line(rt: HostRuntime) -> Result<(), Fail> {
     for (error, want) in REFUSALS {
         let text = error.to_string(rt.alloc())?;
         check_text(&rt, "a refusal", text.as_str(), *want);

@@ -4,7 +4,7 @@ ghost use Rattle.std.specs.Prelude.{◌<◌};
 use crate::check::{check_bytes, check_cut};
 use crate::fixdep::{in_pieces, note_source};
 use ks_fixdep::{
-    DepError, Header, NamesBySource, Prerequisites, Rules, Seed, listed_names, read_depfile,
+    DepError, Header, NamesBySource, Prerequisites, ScanRules, Seed, listed_names, read_depfile,
     read_depfile_without, record_text,
 };
 use ks_symbols::{Dialect, Name};
@@ -13,7 +13,11 @@ use std::process::Abort;
 use std::test::Fail;
 
 /// Scans a source that comes in these pieces, as the next prerequisite.
-fn scan_by(found: &mut NamesBySource, rules: Rules, pieces: &[&[u8]]) -> Result<(), AllocError> {
+fn scan_by(
+    found: &mut NamesBySource,
+    rules: ScanRules,
+    pieces: &[&[u8]],
+) -> Result<(), AllocError> {
     for piece in pieces {
         found.scan.feed_as(rules, piece)?;
     }
@@ -41,7 +45,7 @@ fn listed(alloc: Global, found: &mut NamesBySource) -> Result<Vec<u8>, DepError>
 /// Scans a source, and lists the names of its record.
 fn listed_by(
     alloc: Global,
-    rules: Rules,
+    rules: ScanRules,
     pieces: &[&[u8]],
     found: &mut NamesBySource,
 ) -> Result<Vec<u8>, DepError> {
@@ -50,7 +54,7 @@ fn listed_by(
 }
 
 /// The names of a text that comes in pieces of a size, each after a space.
-fn names_by(alloc: Global, rules: Rules, text: &[u8], size: usize) -> Result<Vec<u8>, DepError>
+fn names_by(alloc: Global, rules: ScanRules, text: &[u8], size: usize) -> Result<Vec<u8>, DepError>
     requires { 0 < size }
 {
     let pieces = in_pieces(alloc, text, size)?;
@@ -62,7 +66,7 @@ fn names_by(alloc: Global, rules: Rules, text: &[u8], size: usize) -> Result<Vec
 fn check_names(
     rt: &impl Abort,
     alloc: Global,
-    rules: Rules,
+    rules: ScanRules,
     text: &[u8],
     want: &[u8],
 ) -> Result<(), Fail> {
@@ -91,7 +95,7 @@ const WORDS_OF_BUSYBOX: &[(&[u8], &[u8])] = &[
 
 #[test]
 fn words_of_busybox(rt: HostRuntime) -> Result<(), Fail> {
-    let rules = Rules::for_target(Dialect::BusyBox, b"x.o");
+    let rules = ScanRules::for_target(Dialect::BusyBox, b"x.o");
     for &(text, want) in WORDS_OF_BUSYBOX {
         check_names(&rt, rt.alloc(), rules, text, want)?;
     }
@@ -121,7 +125,7 @@ const MACROS_OF_U_BOOT: &[(&[u8], &[u8], &[u8])] = &[
 #[test]
 fn macros_of_u_boot(rt: HostRuntime) -> Result<(), Fail> {
     for &(target, text, want) in MACROS_OF_U_BOOT {
-        let rules = Rules::for_target(Dialect::UBoot, target);
+        let rules = ScanRules::for_target(Dialect::UBoot, target);
         check_names(&rt, rt.alloc(), rules, text, want)?;
     }
     Ok(())
@@ -139,7 +143,7 @@ const MACROS_OF_COREBOOT: &[(&[u8], &[u8])] = &[
 
 #[test]
 fn macro_of_coreboot(rt: HostRuntime) -> Result<(), Fail> {
-    let rules = Rules::for_target(Dialect::Coreboot, b"x.o");
+    let rules = ScanRules::for_target(Dialect::Coreboot, b"x.o");
     for &(text, want) in MACROS_OF_COREBOOT {
         check_names(&rt, rt.alloc(), rules, text, want)?;
     }
@@ -148,7 +152,7 @@ fn macro_of_coreboot(rt: HostRuntime) -> Result<(), Fail> {
 
 #[test]
 fn linux_by_its_dialect(rt: HostRuntime) -> Result<(), Fail> {
-    let rules = Rules::for_target(Dialect::Linux, b"spl/x.o");
+    let rules = ScanRules::for_target(Dialect::Linux, b"spl/x.o");
     let text = b"CONFIG_A ENABLE_B CONFIG_C_MODULE CONFIG_IS_ENABLED(D)";
     check_names(&rt, rt.alloc(), rules, text, b" A C IS_ENABLED")
 }

@@ -674,7 +674,7 @@ fn refusal_of(alloc: Global, target: &[u8], command: &[u8]) -> Result<String, Al
 
 #[rattlefmt::skip]
 const FAULTY_WORDS: &[(&str, &[u8], &[u8], &str)] = &[
-    ("a folder",            b"d/",  b"cc",   "21 BadPath token 0"),
+    ("a directory",            b"d/",  b"cc",   "21 BadPath token 0"),
     ("no target",           b"",    b"cc",   "21 BadPath token 0"),
     ("two lines",           b"x.o", b"a\nb", "22 BadCommand"),
     ("a NUL",               b"x.o", b"a\0",  "22 BadCommand"),

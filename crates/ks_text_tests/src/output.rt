@@ -258,7 +258,7 @@ fn push_entry(
 }
 
 /// The entries of an old configuration that its look-ups confirm.
-fn entries_said(alloc: Global, old: &OldConfig) -> Result<String, AllocError> {
+fn entries_stated(alloc: Global, old: &OldConfig) -> Result<String, AllocError> {
     let mut whole = String::new(alloc);
     for (name, class, text) in old.entries() {
         if old.get(name).is_some() && old.class(name) == class {
@@ -268,15 +268,15 @@ fn entries_said(alloc: Global, old: &OldConfig) -> Result<String, AllocError> {
     Ok(whole)
 }
 
-fn config_said(alloc: Global, old: &OldConfig) -> Result<String, AllocError> {
-    let entries = entries_said(alloc, old)?;
+fn config_stated(alloc: Global, old: &OldConfig) -> Result<String, AllocError> {
+    let entries = entries_stated(alloc, old)?;
     format!(in alloc; "{entries}#{}", old.generation())
 }
 
 /// What an auto.conf says, entry by entry and then its generation, or the refusal.
-fn said(alloc: Global, auto: &[u8]) -> Result<String, AllocError> {
+fn stated(alloc: Global, auto: &[u8]) -> Result<String, AllocError> {
     match read_auto(alloc, auto) {
-        Ok(old) => config_said(alloc, &old),
+        Ok(old) => config_stated(alloc, &old),
         Err(error) => error.to_string(alloc),
     }
 }
@@ -302,7 +302,7 @@ const READINGS: &[(&str, &[u8], &str)] = &[
     ("a generation with an idle zero", b"#generation 05\n", "11 BadAuto line 1"),
     ("no generation", b"#generation \n", "11 BadAuto line 1"),
     ("a generation without its end", b"#\n# Auto\n# Demo\n#\nCONFIG_A=y\nCONFIG_B=m\n#generation 1", "11 BadAuto line 7"),
-    ("a name that leaves its folder", b"#\n# Auto\n# Demo\n#\nCONFIG_../x=y\n", "11 BadAuto line 5"),
+    ("a name that leaves its directory", b"#\n# Auto\n# Demo\n#\nCONFIG_../x=y\n", "11 BadAuto line 5"),
     ("no name", b"CONFIG_=y\n", "11 BadAuto line 1"),
     ("no text", b"\nCONFIG_A\n", "11 BadAuto line 2"),
     ("a blank in front", b" CONFIG_A=y\n", "11 BadAuto line 1"),
@@ -321,14 +321,14 @@ const READINGS: &[(&str, &[u8], &str)] = &[
 fn readings(rt: HostRuntime) -> Result<(), AllocError> {
     let alloc = rt.alloc();
     for &(name, auto, want) in READINGS {
-        let found = said(alloc, auto)?;
+        let found = stated(alloc, auto)?;
         check_text(&rt, name, found.as_str(), want);
     }
     Ok(())
 }
 
 /// The generation of a text, or the refusal.
-fn generation_said(alloc: Global, auto: &[u8]) -> Result<String, AllocError> {
+fn generation_stated(alloc: Global, auto: &[u8]) -> Result<String, AllocError> {
     match read_auto_generation(auto) {
         Ok(generation) => format!(in alloc; "#{generation}"),
         Err(error) => error.to_string(alloc),
@@ -336,9 +336,9 @@ fn generation_said(alloc: Global, auto: &[u8]) -> Result<String, AllocError> {
 }
 
 /// What both readers say of a text: the entries, and that both give its generation or the same refusal.
-fn said_twice(alloc: Global, auto: &[u8]) -> Result<String, AllocError> {
-    let mut found = said(alloc, auto)?;
-    let generation = generation_said(alloc, auto)?;
+fn stated_twice(alloc: Global, auto: &[u8]) -> Result<String, AllocError> {
+    let mut found = stated(alloc, auto)?;
+    let generation = generation_stated(alloc, auto)?;
     if !found.as_str().ends_with(generation.as_str()) {
         found.push_str(" but ")?;
         found.push_str(&generation)?;
@@ -377,7 +377,7 @@ const TYPED_READINGS: &[(&str, &[u8], &str)] = &[
 fn typed_readings(rt: HostRuntime) -> Result<(), AllocError> {
     let alloc = rt.alloc();
     for &(name, auto, want) in TYPED_READINGS {
-        let found = said_twice(alloc, auto)?;
+        let found = stated_twice(alloc, auto)?;
         check_text(&rt, name, found.as_str(), want);
     }
     Ok(())
@@ -386,7 +386,7 @@ fn typed_readings(rt: HostRuntime) -> Result<(), AllocError> {
 const CLASS: &[u8] = b"#typed\nCONFIG_A=y\n#type S string\nCONFIG_S=y\n";
 
 /// What is said of a text that ends there.
-fn said_of_cut(end: usize) -> &'static str {
+fn stated_of_cut(end: usize) -> &'static str {
     let line = 18; // where the line of the class begins
     if end < line + 6 {
         "A:switch=y #0"
@@ -403,8 +403,8 @@ fn said_of_cut(end: usize) -> &'static str {
 #[test]
 fn cut_classes(rt: HostRuntime) -> Result<(), AllocError> {
     for end in 18..=CLASS.len() {
-        let found = said_twice(rt.alloc(), &CLASS[..end])?;
-        check_cut(&rt, end, found.as_bytes(), said_of_cut(end).as_bytes());
+        let found = stated_twice(rt.alloc(), &CLASS[..end])?;
+        check_cut(&rt, end, found.as_bytes(), stated_of_cut(end).as_bytes());
     }
     Ok(())
 }
@@ -413,10 +413,10 @@ fn cut_classes(rt: HostRuntime) -> Result<(), AllocError> {
 fn size_limit(rt: HostRuntime) -> Result<(), AllocError> {
     let alloc = rt.alloc();
     let mut auto = vec![in alloc; b'#'; 67_108_864]?;
-    let found = said(alloc, &auto)?;
+    let found = stated(alloc, &auto)?;
     check_text(&rt, "as much as may be", found.as_str(), "#0");
     auto.push(b'\n')?;
-    let found = said(alloc, &auto)?;
+    let found = stated(alloc, &auto)?;
     check_text(&rt, "a byte more", found.as_str(), "9 TooLarge");
     Ok(())
 }

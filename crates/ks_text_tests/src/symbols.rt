@@ -1,9 +1,9 @@
 //! Kconfig and `.config` texts as they stand in files, what is read of them, and the rules of names, paths, values and lines.
 use crate::check::{check, check_bytes, check_text};
 use ks_symbols::{
-    Dialect, Kconfig, Kind, Name, Path, Settings, SourceError, Statement, Symbols, is_silent,
-    name_is_legal, parse_statement, path_is_legal, read_decimal, read_dotconfig, read_kconfig,
-    target_is_legal, value_is_valid, write_decimal,
+    Dialect, Kconfig, Kind, Name, Path, Settings, SourceError, Statement, Symbols,
+    is_comment_or_blank, name_is_legal, parse_statement, path_is_legal, read_decimal,
+    read_dotconfig, read_kconfig, target_is_legal, value_is_valid, write_decimal,
 };
 use std::alloc::{AllocError, Global};
 use std::process::Abort;
@@ -21,7 +21,7 @@ const ALIKE: &[u8] =
 const LONGEST: &[u8; 128] = &[b'N'; 128];
 
 /// The title and the kind of a name.
-fn symbols_said(alloc: Global, symbols: &Symbols, name: &[u8]) -> Result<String, AllocError> {
+fn symbols_stated(alloc: Global, symbols: &Symbols, name: &[u8]) -> Result<String, AllocError> {
     let title = String::from_utf8_lossy(alloc, symbols.title())?;
     let kind = symbols.kind_of(name);
     format!(in alloc; "{title} {kind:?}")
@@ -34,7 +34,7 @@ fn kconfig_outcome(
     name: &[u8],
 ) -> Result<String, AllocError> {
     match read_kconfig(alloc, kconfig) {
-        Ok(symbols) => symbols_said(alloc, &symbols, name),
+        Ok(symbols) => symbols_stated(alloc, &symbols, name),
         Err(error) => error.to_string(alloc),
     }
 }
@@ -236,17 +236,17 @@ const NAMES: &[(&str, &[u8], bool)] = &[
 
 #[rattlefmt::skip]
 const PATHS: &[(&str, &[u8], bool)] = &[
-    ("a folder above", b"/a/../b.h", true),
+    ("a directory above", b"/a/../b.h", true),
     ("a space",        b"a b",       false),
     ("a dollar",       b"a$b",       false),
     ("a colon",        b"a:",        false),
-    ("a folder",       b"a/",        true),
+    ("a directory",       b"a/",        true),
     ("no byte",        b"",          false),
 ];
 
 #[rattlefmt::skip]
 const TARGETS: &[(&str, &[u8], bool)] = &[
-    ("a folder", b"a/",    false),
+    ("a directory", b"a/",    false),
     ("a file",   b"d/x.o", true),
 ];
 
@@ -346,9 +346,9 @@ fn check_statements(rt: &impl Abort) {
         "no set",
         parse_statement(b"# CONFIG_A is not").is_none(),
     );
-    check(rt, "no byte", is_silent(b""));
-    check(rt, "a comment", is_silent(b"#"));
-    check(rt, "a blank", !is_silent(b" "));
+    check(rt, "no byte", is_comment_or_blank(b""));
+    check(rt, "a comment", is_comment_or_blank(b"#"));
+    check(rt, "a blank", !is_comment_or_blank(b" "));
 }
 
 #[test]

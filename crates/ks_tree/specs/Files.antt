@@ -41,7 +41,7 @@ IsTooLarge file = (b : List ℕ) × (file ≡ Some b) × (max_bytes < length b)
 
 -- the bytes from an offset on, as many as there is room for
 abbrev pub piece : List ℕ → ℕ → ℕ → List ℕ
-piece b offset room = take room (drop offset b)
+piece b offset size = take size (drop offset b)
 
 -- The room holds the piece of b, and after it what it held before.
 pub record IsPieceRead (b : List ℕ) (offset : ℕ) (old new : List ℕ) (count : ℕ) : Type 0 where

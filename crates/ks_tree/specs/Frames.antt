@@ -11,5 +11,5 @@ pub record Counted {T : Type 0} (tree : Ghosts T) (old new : T) (device : Type 0
 -- A call that only reads.
 pub record Reads {T : Type 0} (tree : Ghosts T) (old new : T) (device : Type 0) : Type 0 where
   pub unchanged : tree.is_honest → tree.files new ≡ tree.files old
-  pub kept : tree.aged new ≡ tree.aged old
+  pub kept : tree.backdated new ≡ tree.backdated old
   pub counted : Counted tree old new device

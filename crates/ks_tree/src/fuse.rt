@@ -3,7 +3,7 @@
 ghost use Rattle.std.specs.Prelude.{◌≡◌, ◌≢◌, ◌+◌, ◌≤◌, IsErrOf};
 ghost use Rattle.ks_tree.specs.Files.{HasRisen};
 
-use crate::{Aging, Tree, TreeFault};
+use crate::{Backdating, Tree, TreeFault};
 use std::alloc::Global;
 
 /// What the first failing call leaves. Each later one does nothing.
@@ -106,7 +106,7 @@ impl<T: Tree + Drop> Tree for FuseTree<T> {
 
     ghost failures = { λ t. T.failures t.inner + t.fuse.failed };
 
-    ghost aged = { λ t. T.aged t.inner };
+    ghost backdated = { λ t. T.backdated t.inner };
 
     ghost reads_whole = { λ old path new answer. IsFuseCall T.Tree old new (IsErrOf answer TreeFault.Device)
         × OnlyReadsAt (turn_of (fuse_of old)) (T.reads_whole (inner_of old) path (inner_of new) answer) (inner_of old) (inner_of new) };
@@ -181,13 +181,13 @@ impl<T: Tree + Drop> Tree for FuseTree<T> {
     }
 }
 
-impl<T: Aging + Drop> Aging for FuseTree<T> {
-    fn age(&mut self, alloc: Global, path: &[u8]) -> Result<(), TreeFault> {
+impl<T: Backdating + Drop> Backdating for FuseTree<T> {
+    fn backdate(&mut self, alloc: Global, path: &[u8]) -> Result<(), TreeFault> {
         match self.fuse.turn() {
-            Turn::Pass => self.inner.age(alloc, path),
+            Turn::Pass => self.inner.backdate(alloc, path),
             Turn::Fail => Err(TreeFault::Device),
             Turn::HalfDone => {
-                let _ = self.inner.age(alloc, path);
+                let _ = self.inner.backdate(alloc, path);
                 Err(TreeFault::Device)
             }
         }

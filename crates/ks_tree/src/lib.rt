@@ -1,8 +1,8 @@
 //! Trees of files, replacing files in them, and the stamps of names.
 #![tactic(auto)]
 
-mod aged;
-mod aging;
+mod backdated;
+mod backdating;
 mod fault;
 mod fuse;
 mod memory;
@@ -12,8 +12,8 @@ mod replacement;
 mod stamps;
 mod tree;
 
-pub use aged::AgedTree;
-pub use aging::Aging;
+pub use backdated::BackdatingTree;
+pub use backdating::Backdating;
 pub use fault::{TreeError, TreeFault};
 pub use fuse::{FuseMode, FuseTree};
 pub use memory::{FilesIter, MemoryTree};

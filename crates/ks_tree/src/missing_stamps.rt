@@ -21,7 +21,7 @@ fn make_stamp<T: Tree>(alloc: Global, tree: &mut T, name: &Name) -> Result<(), T
     ensures others { T.is_honest → SameBut (stamp_path name.now) (T.files tree.old) (T.files tree.new) }
     ensures never { IsErrOf result TreeFault.TooLarge → ⊥ }
     ensures counted { Counted T.Tree tree.old tree.new (IsErrOf result TreeFault.Device) }
-    ensures kept { T.aged tree.new ≡ T.aged tree.old }
+    ensures kept { T.backdated tree.new ≡ T.backdated tree.old }
     ensures passed { OnOk result (T.failures tree.new ≡ T.failures tree.old) }
     ensures uncounted { IsErrOf result TreeFault.OutOfMemory → T.failures tree.new ≡ T.failures tree.old }
 {
@@ -37,7 +37,7 @@ pub fn make_stamps<T: Tree>(alloc: Global, tree: &mut T, names: &[Name]) -> Resu
     ensures some { T.is_honest → OnErr result ((n : ℕ) × MakesStamps (take n names.now) (T.files tree.old) (T.files tree.new)) }
     ensures never { IsErrOf result TreeFault.TooLarge → ⊥ }
     ensures counted { Counted T.Tree tree.old tree.new (IsErrOf result TreeFault.Device) }
-    ensures kept { T.aged tree.new ≡ T.aged tree.old }
+    ensures kept { T.backdated tree.new ≡ T.backdated tree.old }
     ensures passed { OnOk result (T.failures tree.new ≡ T.failures tree.old) }
     ensures uncounted { IsErrOf result TreeFault.OutOfMemory → T.failures tree.new ≡ T.failures tree.old }
 {

@@ -58,8 +58,8 @@ pub fn stamp_temporary() -> &'static [u8]
     b"include/config/stamp.tmp"
 }
 
-/// How many bytes of a path name its folder, the last slash among them.
-fn folder_len(path: &[u8]) -> usize
+/// How many bytes of a path name its directory, the last slash among them.
+fn directory_len(path: &[u8]) -> usize
     ensures within { result ≤ length path.now }
     ensures border { dotted path.now ≡ take result path.now ++ 46 ∷ drop result path.now }
 {
@@ -76,8 +76,8 @@ fn folder_len(path: &[u8]) -> usize
 fn hidden(alloc: Global, path: &[u8], end: &[u8]) -> Result<Vec<u8>, AllocError>
     ensures { IfOk result (λ hidden. hidden.items ≡ dotted path.now ++ end.now) }
 {
-    let (folder, file) = path.split_at(folder_len(path));
-    let mut hidden = Vec::from_slice(alloc, folder)?;
+    let (directory, file) = path.split_at(directory_len(path));
+    let mut hidden = Vec::from_slice(alloc, directory)?;
     hidden.push(b'.')?;
     hidden.extend_from_slice(file)?;
     hidden.extend_from_slice(end)?;

@@ -23,7 +23,7 @@ pub fn replace<T: Tree>(
     ensures others { T.is_honest → SameButBoth temporary.now path.now (T.files tree.old) (T.files tree.new) }
     ensures never { IsErrOf result TreeFault.TooLarge → ⊥ }
     ensures counted { Counted T.Tree tree.old tree.new (IsErrOf result TreeFault.Device) }
-    ensures kept { T.aged tree.new ≡ T.aged tree.old }
+    ensures kept { T.backdated tree.new ≡ T.backdated tree.old }
     ensures passed { OnOk result (T.failures tree.new ≡ T.failures tree.old) }
     ensures uncounted { IsErrOf result TreeFault.OutOfMemory → T.failures tree.new ≡ T.failures tree.old }
 {

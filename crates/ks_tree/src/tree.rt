@@ -1,5 +1,5 @@
 //! A tree of files, by what each of its calls may do. Everything above this crate stands on this contract alone, so that it
-//! holds of a tree in memory, of one whose calls fail, and of a folder that acts as it says.
+//! holds of a tree in memory, of one whose calls fail, and of a directory that acts as it says.
 ghost use Rattle.std.specs.Prelude.{◌≡◌, ◌≢◌, ◌⊎◌, ◌<◌, ◌≤◌, ℕ, List, [], Option, Result, Vec, length, Some, None, IsSome, IfSome, IfOk, OnOk, OnErr, IsErrOf, option_map, ⊤};
 ghost use Rattle.std.specs.declared.alloc.Global.{Global};
 ghost use Rattle.ks_symbols.specs.Lines.{max_bytes};
@@ -20,8 +20,8 @@ pub trait Tree {
     /// How often the device has failed.
     ghost failures: { Self → ℕ };
 
-    /// The paths whose files were made older than all others, in turn, of a tree that can (`Aging`).
-    ghost aged: { Self → List (List ℕ) } = { λ tree. [] };
+    /// The paths whose files were made older than all others, in turn, of a tree that can (`Backdating`).
+    ghost backdated: { Self → List (List ℕ) } = { λ tree. [] };
 
     /// What a reading of a whole file is known to do: of the tree, the path, the tree after the call and its answer. In a contract
     /// over any tree it says that the call was made, since nothing else gives it.
@@ -47,7 +47,7 @@ pub trait Tree {
         ensures small { is_honest → IfOk result (λ found. (b : List ℕ) → content (files self.old) path.now ≡ Some b → length b ≤ max_bytes) }
         ensures too_large { is_honest → IsErrOf result TreeFault.TooLarge → IsTooLarge (content (files self.old) path.now) }
         ensures unchanged { is_honest → files self.new ≡ files self.old }
-        ensures kept { aged self.new ≡ aged self.old }
+        ensures kept { backdated self.new ≡ backdated self.old }
         ensures later { failures self.old ≤ failures self.new }
         ensures passed { OnOk result (failures self.new ≡ failures self.old) }
         ensures uncounted { IsErrOf result TreeFault.OutOfMemory → failures self.new ≡ failures self.old }
@@ -67,7 +67,7 @@ pub trait Tree {
         ensures called { reads_at self.old path.now offset self.new result }
         ensures within { IfOk result (λ found. IfSome found (λ n. n ≤ length into.new)) }
         ensures unchanged { is_honest → files self.new ≡ files self.old }
-        ensures kept { aged self.new ≡ aged self.old }
+        ensures kept { backdated self.new ≡ backdated self.old }
         ensures never { IsErrOf result TreeFault.TooLarge → ⊥ }
         ensures later { failures self.old ≤ failures self.new }
         ensures passed { OnOk result (failures self.new ≡ failures self.old) }
@@ -79,7 +79,7 @@ pub trait Tree {
         ensures written { is_honest → OnOk result (content (files self.new) path.now ≡ Some bytes.now) }
         ensures called { writes self.old path.now bytes.now self.new result }
         ensures others { is_honest → SameBut path.now (files self.old) (files self.new) }
-        ensures kept { aged self.new ≡ aged self.old }
+        ensures kept { backdated self.new ≡ backdated self.old }
         ensures refused { is_honest → IsErrOf result TreeFault.OutOfMemory → files self.new ≡ files self.old }
         ensures never { IsErrOf result TreeFault.TooLarge → ⊥ }
         ensures later { failures self.old ≤ failures self.new }
@@ -94,7 +94,7 @@ pub trait Tree {
         ensures called { creates self.old path.now bytes.now self.new result }
         ensures failed { is_honest → OnErr result (IsHalfCreated (content (files self.old) path.now) bytes.now (content (files self.new) path.now)) }
         ensures others { is_honest → SameBut path.now (files self.old) (files self.new) }
-        ensures kept { aged self.new ≡ aged self.old }
+        ensures kept { backdated self.new ≡ backdated self.old }
         ensures refused { is_honest → IsErrOf result TreeFault.OutOfMemory → files self.new ≡ files self.old }
         ensures never { IsErrOf result TreeFault.TooLarge → ⊥ }
         ensures later { failures self.old ≤ failures self.new }
@@ -107,7 +107,7 @@ pub trait Tree {
         requires differ { from.now ≢ to.now }
         requires there { is_honest → IsSome (content (files self.old) from.now) }
         ensures moved { is_honest → OnOk result (IsMoved from.now to.now (files self.old) (files self.new)) }
-        ensures kept { aged self.new ≡ aged self.old }
+        ensures kept { backdated self.new ≡ backdated self.old }
         ensures called { renames self.old from.now to.now self.new result }
         ensures failed { is_honest → OnErr result ((files self.new ≡ files self.old) ⊎ IsMoved from.now to.now (files self.old) (files self.new)) }
         ensures refused { is_honest → IsErrOf result TreeFault.OutOfMemory → files self.new ≡ files self.old }

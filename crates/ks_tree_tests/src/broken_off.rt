@@ -2,7 +2,7 @@
 use crate::steps::{Step, answer, check_row, name};
 use ks_symbols::Name;
 use ks_tree::FuseMode::{self, Clean, Half};
-use ks_tree::{AgedTree, Aging, FuseTree, MemoryTree, Tree, touch_all};
+use ks_tree::{Backdating, BackdatingTree, FuseTree, MemoryTree, Tree, touch_all};
 use std::alloc::{AllocError, Global};
 use std::test::Fail;
 
@@ -47,7 +47,7 @@ const CALLS: &[Step<'_>] = &[
     Step::Replace("a", "newer"),
 ];
 
-const PLACES: &[Step<'_>] = &[Step::Read("a"), Step::Read("t.tmp")];
+const HOST_PATHS: &[Step<'_>] = &[Step::Read("a"), Step::Read("t.tmp")];
 
 /// A tree with one file, where there is memory for it.
 fn one_file(alloc: Global) -> MemoryTree {
@@ -67,38 +67,42 @@ fn outcome(
     let mut tree = FuseTree::new(one_file(alloc), passes, fails, mode);
     add_signs(alloc, &mut tree, CALLS, &mut story)?;
     let mut tree = tree.into_inner();
-    add_answers(alloc, &mut tree, PLACES, &mut story)?;
+    add_answers(alloc, &mut tree, HOST_PATHS, &mut story)?;
     Ok(story)
 }
 
 /// Ages three files, and adds the sign of each call.
-fn age_three<T: Aging>(alloc: Global, tree: &mut T, story: &mut String) -> Result<(), AllocError> {
+fn backdate_three<T: Backdating>(
+    alloc: Global,
+    tree: &mut T,
+    story: &mut String,
+) -> Result<(), AllocError> {
     for path in ["a", "b", "c"] {
-        let outcome = tree.age(alloc, path.as_bytes());
+        let outcome = tree.backdate(alloc, path.as_bytes());
         story.push(sign(outcome.is_err()))?;
     }
     Ok(())
 }
 
-fn add_aged(tree: &AgedTree<MemoryTree>, story: &mut String) -> Result<(), AllocError> {
-    for path in tree.aged() {
+fn add_backdated(tree: &BackdatingTree<MemoryTree>, story: &mut String) -> Result<(), AllocError> {
+    for path in tree.backdated() {
         story.push_str(str::from_utf8(path).unwrap_or("not text"))?;
     }
     Ok(())
 }
 
 /// Which of three files are aged behind a fuse, by their paths, with `.` or `!` for each call.
-fn aged(
+fn backdated(
     alloc: Global,
     passes: u64,
     fails: Option<u64>,
     mode: FuseMode,
 ) -> Result<String, AllocError> {
     let mut story = String::new(alloc);
-    let tree = AgedTree::new(alloc, MemoryTree::new(alloc));
+    let tree = BackdatingTree::new(alloc, MemoryTree::new(alloc));
     let mut tree = FuseTree::new(tree, passes, fails, mode);
-    age_three(alloc, &mut tree, &mut story)?;
-    add_aged(&tree.into_inner(), &mut story)?;
+    backdate_three(alloc, &mut tree, &mut story)?;
+    add_backdated(&tree.into_inner(), &mut story)?;
     Ok(story)
 }
 
@@ -114,9 +118,9 @@ const AGINGS: &[(u64, Option<u64>, FuseMode, &str)] = &[
 ];
 
 #[test]
-fn aging_fails_in_turn(rt: HostRuntime) -> Result<(), Fail> {
+fn backdating_fails_in_turn(rt: HostRuntime) -> Result<(), Fail> {
     for &(passes, fails, mode, want) in AGINGS {
-        let got = aged(rt.alloc(), passes, fails, mode)?;
+        let got = backdated(rt.alloc(), passes, fails, mode)?;
         check_row(&rt, got.as_str(), want, passes);
     }
     Ok(())

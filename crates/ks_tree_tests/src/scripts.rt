@@ -1,8 +1,8 @@
 //! The tree over a disk whose calls are short, interrupted or fail. Rows of scripts: what becomes of each call of the disk, what is
 //! done to the tree, what it answers, and what the disk has then.
 use crate::steps::{done, piece, read};
-use ks_system::{ScriptedDisk, System, SystemTree, Turn};
-use ks_tree::{Aging, Tree, TreeFault};
+use ks_system::{MockDisk, System, SystemTree, Turn};
+use ks_tree::{Backdating, Tree, TreeFault};
 use std::alloc::{AllocError, Global};
 use std::process::Abort;
 use std::test::Fail;
@@ -16,7 +16,7 @@ enum Deed<'a> {
     Write(&'a str, &'a str),
     Create(&'a str, &'a str),
     Move(&'a str, &'a str),
-    Age(&'a str),
+    Backdate(&'a str),
 }
 
 /// A script, deeds with the answers that are wanted, and what the disk has after them.
@@ -145,8 +145,8 @@ const ROWS: &[Row<'static>] = &[
         failures: 0,
     },
     Row {
-        name: "a folder that is missing is made",
-        script: &[Turn::NoFolder, W, W, W, W, W, Turn::NoFolder],
+        name: "a directory that is missing is made",
+        script: &[Turn::NoDirectory, W, W, W, W, W, Turn::NoDirectory],
         deeds: &[
             (Deed::Write("d/c", "new"), "done"),
             (Deed::Create("e/c", "new"), "done"),
@@ -155,8 +155,8 @@ const ROWS: &[Row<'static>] = &[
         failures: 0,
     },
     Row {
-        name: "a folder that can't be made",
-        script: &[Turn::NoFolder, F],
+        name: "a directory that can't be made",
+        script: &[Turn::NoDirectory, F],
         deeds: &[(Deed::Create("e/c", "new"), "30 Device")],
         disk: &[("e/c", "none"), ("dated", "")],
         failures: 1,
@@ -191,7 +191,7 @@ const ROWS: &[Row<'static>] = &[
     Row {
         name: "files are made older than all others, and a missing one is passed over",
         script: &[],
-        deeds: &[(Deed::Age("a"), "done"), (Deed::Age("b"), "done")],
+        deeds: &[(Deed::Backdate("a"), "done"), (Deed::Backdate("b"), "done")],
         disk: &[("aged", "a b"), ("a", "abcdefgh"), ("b", "none")],
         failures: 0,
     },
@@ -206,7 +206,11 @@ fn move_file<T: Tree>(alloc: Global, tree: &mut T, from: &str, to: &str) -> Resu
 }
 
 /// What comes of a deed: what was read, `done`, or the fault.
-fn answer<T: Aging>(alloc: Global, tree: &mut T, deed: Deed<'_>) -> Result<String, AllocError> {
+fn answer<T: Backdating>(
+    alloc: Global,
+    tree: &mut T,
+    deed: Deed<'_>,
+) -> Result<String, AllocError> {
     let outcome = match deed {
         Deed::Read(path) => read(alloc, tree, path),
         Deed::Piece(path, offset) => piece(alloc, tree, path, offset),
@@ -220,7 +224,7 @@ fn answer<T: Aging>(alloc: Global, tree: &mut T, deed: Deed<'_>) -> Result<Strin
             let outcome = move_file(alloc, tree, from, to);
             done(alloc, outcome)
         }
-        Deed::Age(path) => done(alloc, tree.age(alloc, path.as_bytes())),
+        Deed::Backdate(path) => done(alloc, tree.backdate(alloc, path.as_bytes())),
     };
     match outcome {
         Ok(text) => Ok(text),
@@ -241,9 +245,9 @@ fn listed(alloc: Global, paths: &[Vec<u8>]) -> Result<String, AllocError> {
 }
 
 /// What a disk has at a path, or which files were aged or dated.
-fn found(alloc: Global, disk: &ScriptedDisk<'_>, path: &str) -> Result<String, AllocError> {
+fn found(alloc: Global, disk: &MockDisk<'_>, path: &str) -> Result<String, AllocError> {
     match path {
-        "aged" => return listed(alloc, disk.aged()),
+        "aged" => return listed(alloc, disk.backdated()),
         "dated" => return listed(alloc, disk.dated()),
         _ => {}
     }
@@ -279,7 +283,7 @@ fn play<S: System + Drop>(
 fn check_disk(
     rt: &impl Abort,
     alloc: Global,
-    disk: &ScriptedDisk<'_>,
+    disk: &MockDisk<'_>,
     row: &Row<'_>,
 ) -> Result<(), AllocError> {
     for (path, want) in row.disk {
@@ -290,7 +294,7 @@ fn check_disk(
 }
 
 fn run(rt: &impl Abort, alloc: Global, row: &Row<'_>) -> Result<(), AllocError> {
-    let mut disk = ScriptedDisk::new(alloc, row.script);
+    let mut disk = MockDisk::new(alloc, row.script);
     disk.put(b"a", b"abcdefgh")?;
     let mut tree = SystemTree::over(disk);
     play(rt, alloc, &mut tree, row)?;

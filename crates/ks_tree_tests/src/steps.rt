@@ -156,11 +156,11 @@ pub(crate) fn run<T: Tree>(
     tree: &mut T,
     steps: &[(Step<'_>, &str)],
 ) -> Result<(), AllocError> {
-    let mut place = 0_u64;
+    let mut host_path = 0_u64;
     for (step, want) in steps {
         let got = answer(alloc, tree, *step)?;
-        check_row(rt, got.as_str(), *want, place);
-        place = place.saturating_add(1);
+        check_row(rt, got.as_str(), *want, host_path);
+        host_path = host_path.saturating_add(1);
     }
     Ok(())
 }

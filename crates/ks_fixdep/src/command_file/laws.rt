@@ -22,7 +22,7 @@ pub fn command_files_fit()
 
 /// The worked command file: its text; a line of Kbuild's after it; a faulty generation line; a text that ends too early, one that
 /// is cut just before the line feed of a fitting line, within a line and before an empty line; the empty text; a name that
-/// would lead out of its folder.
+/// would lead out of its directory.
 pub fn command_examples()
     ensures text { command_text (record example { generation = None }) ≡ example_lines }
     ensures further { reading (example_lines ++ codes "#generation 1\n#SYMVER f 0x1\n") ≡ Ok example }
@@ -33,5 +33,5 @@ pub fn command_examples()
     ensures cut_in_line { reading (take (length example_front - 2) example_front) ≡ Err 8 }
     ensures cut_at_empty { reading (codes "savedcmd_x.o := cc -c x.c\n") ≡ Err 2 }
     ensures empty { reading [] ≡ Err 1 }
-    ensures folder_above { reading (example_front ++ codes "    $(wildcard include/config/../A) \\\n") ≡ Err 9 }
+    ensures directory_above { reading (example_front ++ codes "    $(wildcard include/config/../A) \\\n") ≡ Err 9 }
 {}

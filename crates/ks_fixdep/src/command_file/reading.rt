@@ -8,7 +8,7 @@ ghost use Rattle.ks_symbols.specs.Lines.{max_bytes};
 ghost use Rattle.ks_fixdep.specs.CommandLines.{lines, content, between};
 ghost use Rattle.ks_fixdep.specs.CommandFile.{view};
 ghost use Rattle.ks_fixdep.specs.Borrowed.{seen_dep, borrowed_view};
-ghost use Rattle.ks_fixdep.specs.CommandForms as Forms;
+ghost use Rattle.ks_fixdep.specs.CommandPatterns as Patterns;
 ghost use Rattle.ks_fixdep.specs.CommandReading as Reading;
 ghost use Rattle.ks_fixdep.specs.CommandReading.{reading};
 ghost use Rattle.ks_fixdep.specs.CommandAnswers.{Gives, copied_pair};
@@ -84,9 +84,9 @@ fn fixed_at<'a>(number: u64, parts: &[&[u8]], text: &'a [u8]) -> Result<&'a [u8]
 }
 
 /// The target and the command of a line.
-#[tactic(auto, unfolding(crate::specs::CommandForms::saved_command, ks_symbols::specs::Names::is_target))]
+#[tactic(auto, unfolding(crate::specs::CommandPatterns::saved_command, ks_symbols::specs::Names::is_target))]
 fn saved_command(line: &[u8]) -> Option<(&[u8], &[u8])>
-    ensures value { copied_pair result ≡ Forms.saved_command line.now }
+    ensures value { copied_pair result ≡ Patterns.saved_command line.now }
     ensures legal { IfSome result (λ p. IsTrue (is_path p.0.now)) }
 {
     let named = line.strip_prefix(layout::SAVED_MARK)?;
@@ -100,7 +100,7 @@ fn saved_command(line: &[u8]) -> Option<(&[u8], &[u8])>
 
 /// The bytes, where they are a path.
 fn legal_path(bytes: &[u8]) -> Option<&[u8]>
-    ensures value { option_copied result ≡ Forms.checked is_path bytes.now }
+    ensures value { option_copied result ≡ Patterns.checked is_path bytes.now }
     ensures legal { IfSome result (λ x. IsTrue (is_path x.now)) }
 {
     if path_is_legal(bytes) {
@@ -118,9 +118,9 @@ fn between<'a>(begin: &[u8], end: &[u8], line: &'a [u8]) -> Option<&'a [u8]>
 }
 
 /// The source of a line.
-#[tactic(auto, unfolding(crate::specs::CommandForms::source_in))]
+#[tactic(auto, unfolding(crate::specs::CommandPatterns::source_in))]
 fn source_in<'a>(target: &[u8], line: &'a [u8]) -> Option<&'a [u8]>
-    ensures value { option_copied result ≡ Forms.source_in target.now line.now }
+    ensures value { option_copied result ≡ Patterns.source_in target.now line.now }
     ensures legal { IfSome result (λ x. IsTrue (is_path x.now)) }
 {
     let named = line
@@ -130,9 +130,9 @@ fn source_in<'a>(target: &[u8], line: &'a [u8]) -> Option<&'a [u8]>
 }
 
 /// The name of a dependency line.
-#[tactic(auto, unfolding(crate::specs::CommandForms::name_in))]
+#[tactic(auto, unfolding(crate::specs::CommandPatterns::name_in))]
 fn name_in(line: &[u8]) -> Option<&[u8]>
-    ensures value { option_copied result ≡ Forms.name_in line.now }
+    ensures value { option_copied result ≡ Patterns.name_in line.now }
     ensures legal { IfSome result (λ x. IsTrue (is_name x.now)) }
 {
     let name = between(layout::NAME_MARK, layout::NAME_END, line)?;
@@ -144,18 +144,18 @@ fn name_in(line: &[u8]) -> Option<&[u8]>
 }
 
 /// The path of a dependency line.
-#[tactic(auto, unfolding(crate::specs::CommandForms::path_in))]
+#[tactic(auto, unfolding(crate::specs::CommandPatterns::path_in))]
 fn path_in(line: &[u8]) -> Option<&[u8]>
-    ensures value { option_copied result ≡ Forms.path_in line.now }
+    ensures value { option_copied result ≡ Patterns.path_in line.now }
     ensures legal { IfSome result (λ x. IsTrue (is_path x.now)) }
 {
     legal_path(between(layout::FILE_MARK, layout::FILE_END, line)?)
 }
 
 /// What a line says of the generation.
-#[tactic(auto, unfolding(crate::specs::CommandReading::said))]
-fn said(number: u64, line: &[u8]) -> Result<Option<u64>, CommandError>
-    ensures { Gives (λ g. g) result (Reading.said number line.now) }
+#[tactic(auto, unfolding(crate::specs::CommandReading::stated))]
+fn stated(number: u64, line: &[u8]) -> Result<Option<u64>, CommandError>
+    ensures { Gives (λ g. g) result (Reading.stated number line.now) }
 {
     let Some(after) = line.strip_prefix(layout::GENERATION_MARK) else {
         return Ok(None);
@@ -179,7 +179,7 @@ fn generation_from(first: u64, text: &[u8]) -> Result<Option<u64>, CommandError>
     let mut rest = text;
     while !rest.is_empty() {
         let (line, after) = split_line(rest);
-        generation = said(number, line)?.or(generation);
+        generation = stated(number, line)?.or(generation);
         number += 1;
         rest = after;
     }
@@ -200,9 +200,9 @@ fn end_from(number: u64, target: &[u8], text: &[u8]) -> Result<Option<u64>, Comm
 }
 
 /// The target and the command of the first line, and what follows it.
-#[tactic(auto, unfolding(crate::specs::CommandReading::form_at))]
+#[tactic(auto, unfolding(crate::specs::CommandReading::pattern_at))]
 fn saved_at(text: &[u8]) -> Result<((&[u8], &[u8]), &[u8]), CommandError>
-    ensures value { Gives (λ x. ((x.0.0.now, x.0.1.now), lines x.1.now)) result (Reading.form_at 1 Forms.saved_command (lines text.now)) }
+    ensures value { Gives (λ x. ((x.0.0.now, x.0.1.now), lines x.1.now)) result (Reading.pattern_at 1 Patterns.saved_command (lines text.now)) }
     ensures legal { IfOk result (λ x. IsTrue (is_path x.0.0.now)) }
     ensures shorter { IfOk result (λ x. length x.1.now < length text.now) }
 {
@@ -214,9 +214,9 @@ fn saved_at(text: &[u8]) -> Result<((&[u8], &[u8]), &[u8]), CommandError>
 }
 
 /// The source of the line with number 3, and what follows it.
-#[tactic(auto, unfolding(crate::specs::CommandReading::form_at))]
+#[tactic(auto, unfolding(crate::specs::CommandReading::pattern_at))]
 fn source_at<'a>(target: &[u8], text: &'a [u8]) -> Result<(&'a [u8], &'a [u8]), CommandError>
-    ensures value { Gives (λ x. (x.0.now, lines x.1.now)) result (Reading.form_at 3 (Forms.source_in target.now) (lines text.now)) }
+    ensures value { Gives (λ x. (x.0.now, lines x.1.now)) result (Reading.pattern_at 3 (Patterns.source_in target.now) (lines text.now)) }
     ensures legal { IfOk result (λ x. IsTrue (is_path x.0.now)) }
     ensures shorter { IfOk result (λ x. length x.1.now < length text.now) }
 {
@@ -228,9 +228,9 @@ fn source_at<'a>(target: &[u8], text: &'a [u8]) -> Result<(&'a [u8], &'a [u8]), 
 }
 
 /// The file or the name of a dependency line, in its memory.
-#[tactic(auto, unfolding(crate::specs::CommandForms::dep_in))]
+#[tactic(auto, unfolding(crate::specs::CommandPatterns::dep_in))]
 fn borrowed_dep_in(line: &[u8]) -> Option<BorrowedDep<'_>>
-    ensures { option_map seen_dep result ≡ Forms.dep_in line.now }
+    ensures { option_map seen_dep result ≡ Patterns.dep_in line.now }
 {
     if let Some(name) = name_in(line) {
         return Some(BorrowedDep::Config(BorrowedName::new(name)));

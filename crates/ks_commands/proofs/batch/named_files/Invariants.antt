@@ -5,7 +5,7 @@ use Rattle.ks_commands.proofs.batch.named_files.Given as goal
 abbrev pub invariant-loop-line : goal.invariant-loop-line
 invariant-loop-line g l = record {
   unchanged : g.T.Tree.is_honest → g.T.Tree.files l.tree ≡ g.T.Tree.files l.fn.tree;
-  kept : g.T.Tree.aged l.tree ≡ g.T.Tree.aged l.fn.tree;
+  kept : g.T.Tree.backdated l.tree ≡ g.T.Tree.backdated l.fn.tree;
   later : g.T.Tree.failures l.fn.tree ≤ g.T.Tree.failures l.tree;
   given : g.T.Tree.is_honest → AreGiven (g.T.Tree.files l.fn.tree) l.kept;
   here : All (λ line. AreKept l.kept (seen_line line)) (take l.line-index l.lines);

@@ -1,16 +1,16 @@
 use Rattle.ks_commands.proofs.Prelude.{ℕ, List, Option, ◌∙◌, ap, ap₂, flat_map, err_from_is_err_and, Kind, Configuration, Texts, difference_line, difference_status, lines_asked, rules}
 use Rattle.std.specs.FinMap as map
-use Rattle.ks_commands.proofs.Unknowns.{counted_unknown, told_unknown}
+use Rattle.ks_commands.proofs.Unknowns.{counted_unknown, reported_unknown}
 use Rattle.ks_commands.proofs.differences.differences.Goals as goal
 
-pub returns-clause-told : goal.returns-clause-told
-returns-clause-told g c = λ honest.
+pub returns-clause-reported : goal.returns-clause-reported
+returns-clause-reported g c = λ honest.
     let sources = c.in_ok-parsed.ensures.read in
     let kinds : List ℕ → Option Kind = map.get c.in_ok-parsed.parsed.symbols.kinds in
     let planned = c.in_ok-planned.ensures.planned honest c.args.kconfig.now c.args.dotconfig.now sources in
     let read = c.in_ok-planned.planned in
     let names = read.report.touched.items in
-    let lines : Texts → Configuration → List (List ℕ) → List ℕ = λ old new names. lines_asked c.args.telling (flat_map (difference_line old new) names) in (
+    let lines : Texts → Configuration → List (List ℕ) → List ℕ = λ old new names. lines_asked c.args.report_style (flat_map (difference_line old new) names) in (
       (
         planned.0,
         planned.1,
@@ -20,10 +20,10 @@ returns-clause-told g c = λ honest.
           lines = c.in_ok-text.ensures
               ∙ ap (lines read.old.texts read.sources.settings.entries) c.deref.ensures.value
               ∙ ap₂ (λ old new. lines old new names) planned.2.old planned.2.config;
-          status_of = c.difference_status-status.ensures.status ∙ ap (difference_status c.args.telling) c.deref-2.ensures.value;
+          status_of = c.difference_status-status.ensures.status ∙ ap (difference_status c.args.report_style) c.deref-2.ensures.value;
         },
       ),
-      told_unknown c.args.telling c.args.kconfig.now c.args.dotconfig.now kinds _ c.in_ok-parsed.ensures.declared
+      reported_unknown c.args.report_style c.args.kconfig.now c.args.dotconfig.now kinds _ c.in_ok-parsed.ensures.declared
           (c.in_ok-count.ensures (counted_unknown c.args.kconfig.now c.args.dotconfig.now kinds _ c.in_ok-parsed.ensures.declared (c.unknown-unknown.ensures ∙ sources.unknown))),
     )
 

@@ -1,33 +1,33 @@
-use Rattle.ks_commands.proofs.Prelude.{length-take, ◌≡◌, ◌∙◌, ◌+◌, ◌++◌, ◌∷◌, refl, ℕ, List, [], Bor, TellsAll, ap, arith, code_of, length-map, map, map_more, reading, records_in, state, subst, sym, take, take_all, rules}
+use Rattle.ks_commands.proofs.Prelude.{length-take, ◌≡◌, ◌∙◌, ◌+◌, ◌++◌, ◌∷◌, refl, ℕ, List, [], Bor, ReportsAll, ap, arith, code_of, length-map, map, map_more, reading, records_in, state, subst, sym, take, take_all, rules}
 use Rattle.ks_commands.proofs.Objects.{few_records, kept_more, read_over}
-use Rattle.ks_commands.proofs.Walks.{as_many, nothing_told, told_more}
+use Rattle.ks_commands.proofs.Walks.{as_many, nothing_reported, reported_more}
 use Rattle.ks_commands.proofs.readings.read_objects.Goals as goal
 
 pub read_one-requires : goal.read_one-requires
 read_one-requires g c =
-    let (parts, tells, kept) = c.loop-target.invariant.told in
+    let (parts, reports, kept) = c.loop-target.invariant.reported in
     let ts = c.args.objects.now in
     let i = c.loop-target.target-index in
-    (records_in parts, omega (arith, few_records parts, as_many parts _ tells.of_objects, length-map (take i ts) (λ t. t.now), length-take i ts), kept)
+    (records_in parts, omega (arith, few_records parts, as_many parts _ reports.of_objects, length-map (take i ts) (λ t. t.now), length-take i ts), kept)
 
 pub loop-target-init : goal.loop-target-init
 loop-target-init g c =
     let first = state g.T.Tree c.args.tree.now in
-    let asking = reading g.T.Tree.is_honest (g.T.Tree.files c.args.tree.now) (g.R.Reader.line (g.R.Reader.asked c.args.reader.now)) in
+    let querying = reading g.T.Tree.is_honest (g.T.Tree.files c.args.tree.now) (g.R.Reader.line (g.R.Reader.asked c.args.reader.now)) in
     record {
       unchanged = λ honest. refl;
       kept = refl;
       later = search rules;
       same = refl;
-      told = ([], subst (λ l. TellsAll asking [] first [] l 0 first) (sym c.new-text.ensures.items) (nothing_told asking first), c.requires);
+      reported = ([], subst (λ l. ReportsAll querying [] first [] l 0 first) (sym c.new-text.ensures.items) (nothing_reported querying first), c.requires);
     }
 
 pub loop-target-preserved : goal.loop-target-preserved
 loop-target-preserved g c =
     let was = c.loop-target.invariant in
-    let (parts, tells, kept) = was.told in
+    let (parts, reports, kept) = was.reported in
     let reads = c.in_ok-one.ensures.reads in
-    let (one, adds) = c.in_ok-one.ensures.told in
+    let (one, adds) = c.in_ok-one.ensures.reported in
     let ts = c.args.objects.now in
     let i = c.loop-target.target-index in
     let nothing : Bor (List ℕ) = record { ref_ptr = (0, 0); now = [] } in
@@ -39,9 +39,9 @@ loop-target-preserved g c =
       kept = reads.kept ∙ was.kept;
       later = omega (arith, was.later, reads.counted.later);
       same = c.in_ok-one.ensures.same ∙ was.same;
-      told = (
+      reported = (
         parts ++ one.part ∷ [],
-        told_more (reading g.T.Tree.is_honest files line) (map (λ t. t.now) (take (i + 1) ts)) (code_of c.worse-status.result) tells
+        reported_more (reading g.T.Tree.is_honest files line) (map (λ t. t.now) (take (i + 1) ts)) (code_of c.worse-status.result) reports
             (record {
               part = one.part;
               of_object = one.of_object;
@@ -55,14 +55,14 @@ loop-target-preserved g c =
       );
     }
 
-pub returns-clause-told : goal.returns-clause-told
-returns-clause-told g c =
+pub returns-clause-reported : goal.returns-clause-reported
+returns-clause-reported g c =
     let ts = c.args.objects.now in
-    let (parts, tells, kept) = c.loop-target.invariant.told in
+    let (parts, reports, kept) = c.loop-target.invariant.reported in
     let all : map (λ t. t.now) (take c.loop-target.target-index ts) ≡ map (λ t. t.now) ts
     = ap (map (λ t. t.now)) (take_all c.loop-target.target-index ts c.loop-target-test.false) in (
       parts,
-      record { of_objects = tells.of_objects ∙ all; walks = tells.walks; lines = tells.lines; worst_of = tells.worst_of },
+      record { of_objects = reports.of_objects ∙ all; walks = reports.walks; lines = reports.lines; worst_of = reports.worst_of },
       kept,
-      sym (length-map ts (λ t. t.now)) ∙ sym (as_many parts _ (tells.of_objects ∙ all)),
+      sym (length-map ts (λ t. t.now)) ∙ sym (as_many parts _ (reports.of_objects ∙ all)),
     )

@@ -7,7 +7,7 @@ error_is e f same = cc
 pub returns-in-Err-clause-step : goal.returns-in-Err-clause-step
 returns-in-Err-clause-step g c = record {
   leaves = λ honest. rw (c.in-Sync.is, ← c.new.ensures) (c.in-Err.ensures.refused honest);
-  ages = search rules;
+  backdates = search rules;
   later = search rules;
   cause = search (rules, error_is);
   uncounted = search (rules, error_is);
@@ -16,8 +16,8 @@ returns-in-Err-clause-step g c = record {
 pub returns-in-Err-record_by-clause-step : goal.returns-in-Err-record_by-clause-step
 returns-in-Err-record_by-clause-step g c = search (rules, error_is)
 
-pub returns-in-Ok-clause-memo : goal.returns-in-Ok-clause-memo
-returns-in-Ok-clause-memo g c = λ honest. c.clear.ensures (g.T.Tree.files c.sync.new.tree)
+pub returns-in-Ok-clause-cache : goal.returns-in-Ok-clause-cache
+returns-in-Ok-clause-cache g c = λ honest. c.clear.ensures (g.T.Tree.files c.sync.new.tree)
 
-pub returns-in-Err-clause-memo : goal.returns-in-Err-clause-memo
-returns-in-Err-clause-memo g c = λ honest. c.clear.ensures (g.T.Tree.files c.sync.new.tree)
+pub returns-in-Err-clause-cache : goal.returns-in-Err-clause-cache
+returns-in-Err-clause-cache g c = λ honest. c.clear.ensures (g.T.Tree.files c.sync.new.tree)

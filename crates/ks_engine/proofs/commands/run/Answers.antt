@@ -4,9 +4,9 @@ use Rattle.ks_engine.proofs.commands.run.Goals as goal
 
 pub answer_all-requires : goal.answer_all-requires
 answer_all-requires g c = record {
-  memo = λ honest. c.with_seed-memo.ensures (g.T.Tree.files c.args.tree.now);
+  cache = λ honest. c.with_seed-cache.ensures (g.T.Tree.files c.args.tree.now);
   none = c.in_ok-replies.ensures.items;
-  room = search rules;
+  headroom = search rules;
 }
 
 pub returns-clause-runs : goal.returns-clause-runs

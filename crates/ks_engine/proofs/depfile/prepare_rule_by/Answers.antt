@@ -9,6 +9,6 @@ unfolding rule_text
 returns-clause-planned g c = λ honest.
     let planned = c.in_ok-prepared.ensures.planned honest in
     let files = g.T.Tree.files c.args.tree.now in
-    let Rules : Ruled → Type 0 = λ r. (plan : RecordPlan) × IsRecordPlanUnder c.args.conventions files c.args.depfile.now c.args.target.now c.args.command.now plan
+    let ScanRules : Ruled → Type 0 = λ r. (plan : RecordPlan) × IsRecordPlanUnder c.args.conventions files c.args.depfile.now c.args.target.now c.args.command.now plan
     × IsRuled c.args.conventions files c.args.depfile.now plan r in
-    IfOk-weaker _ _ Rules (λ r ruled. (planned.0, planned.1, search rules)) c.make_rule.ensures.ruled
+    IfOk-weaker _ _ ScanRules (λ r ruled. (planned.0, planned.1, search rules)) c.make_rule.ensures.ruled

@@ -1,4 +1,4 @@
 use Rattle.ks_engine.proofs.recording.forget_record.Goals as goal
 
-pub returns-clause-memo : goal.returns-clause-memo
-returns-clause-memo c = λ files is. c.forget-2.ensures.memo _ (c.forget.ensures.memo _ is)
+pub returns-clause-cache : goal.returns-clause-cache
+returns-clause-cache c = λ files is. c.invalidate-2.ensures.cache _ (c.invalidate.ensures.cache _ is)

@@ -1,4 +1,4 @@
-use Rattle.ks_engine.proofs.Prelude.{◌≡◌, ℕ, List, Option, Some, Ok, ◌∙◌, ap, err_from_is_err_and, there, record_plan_under, rules, sym, subst, IsMemoOf}
+use Rattle.ks_engine.proofs.Prelude.{◌≡◌, ℕ, List, Option, Some, Ok, ◌∙◌, ap, err_from_is_err_and, there, record_plan_under, rules, sym, subst, IsCacheOf}
 use Rattle.ks_engine.specs.Drafts.{drafted_by}
 use Rattle.ks_engine.proofs.Reading.{ok_ok, err_ok}
 use Rattle.ks_engine.proofs.Drafting.{at_prerequisites, or_given}
@@ -6,9 +6,9 @@ use Rattle.ks_engine.proofs.recording.prepare.Given as given
 use Rattle.ks_engine.proofs.recording.prepare.Goals as goal
 use Rattle.ks_engine.proofs.recording.prepare.Goals.{After-draft_by}
 
-pub returns-in_err-check_words-clause-refused : goal.returns-in_err-check_words-clause-refused
+pub returns-in_err-check_args-clause-refused : goal.returns-in_err-check_args-clause-refused
 unfolding record_plan_under
-returns-in_err-check_words-clause-refused g c = search (rules, err_from_is_err_and)
+returns-in_err-check_args-clause-refused g c = search (rules, err_from_is_err_and)
 
 pub returns-in_err-text-clause-refused : goal.returns-in_err-text-clause-refused
 unfolding record_plan_under
@@ -18,15 +18,15 @@ pub returns-in_err-prerequisites-clause-refused : goal.returns-in_err-prerequisi
 unfolding record_plan_under
 returns-in_err-prerequisites-clause-refused g c = search (rules, err_from_is_err_and)
 
-pub draft_by-requires-clause-memo : goal.draft_by-requires-clause-memo
-draft_by-requires-clause-memo g c = λ honest.
-    c.scan_by.ensures.memo _ (subst (λ f. IsMemoOf f c.args.memo.now) (sym (c.in_ok-text.ensures.reads.unchanged honest)) (c.requires.memo honest))
+pub draft_by-requires-clause-cache : goal.draft_by-requires-clause-cache
+draft_by-requires-clause-cache g c = λ honest.
+    c.scan_by.ensures.cache _ (subst (λ f. IsCacheOf f c.args.cache.now) (sym (c.in_ok-text.ensures.reads.unchanged honest)) (c.requires.cache honest))
 
 -- nothing was refused before the draft
 at_draft : (g : given.Over) (c : After-draft_by g) → g.T.Tree.is_honest
     → record_plan_under c.args.conventions (g.T.Tree.files c.args.tree.now) c.args.depfile.now c.args.target.now c.args.command.now
     ≡ drafted_by c.scan_by.new.self.rules c.args.conventions.scans_command (g.T.Tree.files c.read_there.new.tree) c.args.target.now c.args.command.now c.in_ok-prerequisites.prerequisites
-at_draft g c honest = at_prerequisites _ _ _ _ _ _ _ _ _ (sym c.in_ok-check_words.ensures.words)
+at_draft g c honest = at_prerequisites _ _ _ _ _ _ _ _ _ (sym c.in_ok-check_args.ensures.args)
     (c.in_ok-text.ensures.bytes honest ∙ ap (λ b. Ok b) (sym c.deref.ensures.value)) c.in_ok-prerequisites.ensures.refusal c.in_ok-prerequisites.ensures.value
     (c.in_ok-text.ensures.reads.unchanged honest) (c.scan_by.ensures.rules ∙ c.for_target.ensures)
 

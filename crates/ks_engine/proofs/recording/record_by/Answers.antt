@@ -1,6 +1,6 @@
 use Rattle.ks_engine.proofs.Prelude.{inr, err_from_is_err_and, rules}
 use Rattle.ks_engine.proofs.DepfileLemmas.{recorded_from, tried_from}
-use Rattle.ks_engine.proofs.Keeping.{memo_kept}
+use Rattle.ks_engine.proofs.Keeping.{cache_kept}
 use Rattle.ks_engine.proofs.recording.record_by.Goals as goal
 
 pub returns-in_err-write_record-clause-refused : goal.returns-in_err-write_record-clause-refused
@@ -12,15 +12,15 @@ returns-in_err-write_record-clause-refused g c = λ honest.
 pub returns-clause-recorded : goal.returns-clause-recorded
 returns-clause-recorded g c = search (rules, recorded_from)
 
-pub returns-in_err-forget_record-clause-memo : goal.returns-in_err-forget_record-clause-memo
-returns-in_err-forget_record-clause-memo g c = λ honest. c.forget_record.ensures.memo _ (c.prepare.ensures.memo honest)
+pub returns-in_err-forget_record-clause-cache : goal.returns-in_err-forget_record-clause-cache
+returns-in_err-forget_record-clause-cache g c = λ honest. c.forget_record.ensures.cache _ (c.prepare.ensures.cache honest)
 
-pub returns-in_err-write_record-clause-memo : goal.returns-in_err-write_record-clause-memo
-returns-in_err-write_record-clause-memo g c = λ honest.
-    memo_kept _ _ _ _ (c.write_record.ensures.others honest) c.in_ok-forget_record.ensures.gone.1 c.in_ok-forget_record.ensures.gone.0
-    (c.forget_record.ensures.memo _ (c.prepare.ensures.memo honest))
+pub returns-in_err-write_record-clause-cache : goal.returns-in_err-write_record-clause-cache
+returns-in_err-write_record-clause-cache g c = λ honest.
+    cache_kept _ _ _ _ (c.write_record.ensures.others honest) c.in_ok-forget_record.ensures.gone.1 c.in_ok-forget_record.ensures.gone.0
+    (c.forget_record.ensures.cache _ (c.prepare.ensures.cache honest))
 
-pub returns-clause-memo : goal.returns-clause-memo
-returns-clause-memo g c = λ honest.
-    memo_kept _ _ _ _ (c.write_record.ensures.others honest) c.in_ok-forget_record.ensures.gone.1 c.in_ok-forget_record.ensures.gone.0
-    (c.forget_record.ensures.memo _ (c.prepare.ensures.memo honest))
+pub returns-clause-cache : goal.returns-clause-cache
+returns-clause-cache g c = λ honest.
+    cache_kept _ _ _ _ (c.write_record.ensures.others honest) c.in_ok-forget_record.ensures.gone.1 c.in_ok-forget_record.ensures.gone.0
+    (c.forget_record.ensures.cache _ (c.prepare.ensures.cache honest))

@@ -6,9 +6,9 @@ use Rattle.ks_engine.proofs.sources.scan_all_by.Goals as goal
 pub returns-in_err-source-clause-refused : goal.returns-in_err-source-clause-refused
 returns-in_err-source-clause-refused g c = λ honest.
     let p = err_from_is_err_and c.from_residual-in_err-source.result c.from_residual-in_err-source.ensures.1 in
-    let said = rw (c.loop-place.invariant.unchanged honest, c.loop-place.invariant.rules) at (c.in_err-source.ensures.refused honest) in
+    let stated = rw (c.loop-place.invariant.unchanged honest, c.loop-place.invariant.rules) at (c.in_err-source.ensures.refused honest) in
     rw (p.1, p.2) (or_given (λ bad. scanned_step _ _ c.args.prerequisites.now c.loop-place.place _ _ _ _ (sym c.in-Some.ensures.value) bad
-    (c.loop-place.invariant.scanned honest).1) said)
+    (c.loop-place.invariant.scanned honest).1) stated)
 
 pub loop-place-init : goal.loop-place-init
 loop-place-init g c = record {
@@ -17,24 +17,24 @@ loop-place-init g c = record {
   same = refl;
   within = omega arith;
   rules = refl;
-  room = search rules;
-  memo = c.requires.memo;
+  buffer = search rules;
+  cache = c.requires.cache;
   counts = search rules;
   scanned = λ honest. rw c.in_ok-sources.ensures.items (refl, following_none _);
 }
 
 pub source_at-requires : goal.source_at-requires
-source_at-requires g c = record { memo = c.loop-place.invariant.memo; path = search rules; room = c.loop-place.invariant.room }
+source_at-requires g c = record { cache = c.loop-place.invariant.cache; path = search rules; buffer = c.loop-place.invariant.buffer }
 
 pub loop-place-preserved : goal.loop-place-preserved
 loop-place-preserved g c = record {
   unchanged = search rules;
   kept = search rules;
   same = search rules;
-  memo = c.in_ok-source.ensures.memo;
+  cache = c.in_ok-source.ensures.cache;
   within = omega arith;
   rules = search rules;
-  room = search rules;
+  buffer = search rules;
   counts = search (rules, length-append);
   scanned = λ honest.
       let so_far = c.loop-place.invariant.scanned honest in
@@ -43,8 +43,8 @@ loop-place-preserved g c = record {
       (next.0, rw next.1 (scanned_step _ _ c.args.prerequisites.now c.loop-place.place _ _ _ _ (sym c.in-Some.ensures.value) kept.1 so_far.1 ∙ after_next _ _ _));
 }
 
-pub returns-clause-memo : goal.returns-clause-memo
-returns-clause-memo g c = search rules
+pub returns-clause-cache : goal.returns-clause-cache
+returns-clause-cache g c = search rules
 
 pub returns-clause-names : goal.returns-clause-names
 returns-clause-names g c = search (rules, scanned_end)

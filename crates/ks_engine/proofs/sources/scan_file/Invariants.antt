@@ -5,9 +5,9 @@ use Rattle.ks_engine.proofs.sources.scan_file.Given as goal
 abbrev pub invariant-loop-count : goal.invariant-loop-count
 invariant-loop-count g l = record {
   unchanged : g.T.Tree.is_honest → g.T.Tree.files l.tree ≡ g.T.Tree.files l.fn.tree;
-  kept : g.T.Tree.aged l.tree ≡ g.T.Tree.aged l.fn.tree;
+  kept : g.T.Tree.backdated l.tree ≡ g.T.Tree.backdated l.fn.tree;
   same : g.T.Tree.failures l.tree ≡ g.T.Tree.failures l.fn.tree;
-  full : length l.room ≡ 4096;
+  full : length l.buffer ≡ 4096;
   found : found_of l.scan ≡ found_of l.fn.scan;
   small : l.offset ≤ 67108864;
   stands : (t : List ℕ) × StandsAfterAs l.rules l.scan t

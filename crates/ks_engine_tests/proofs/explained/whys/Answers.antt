@@ -1,4 +1,4 @@
 use Rattle.ks_engine_tests.proofs.explained.whys.Goals as goal
 
 pub why-first-requires : goal.why-first-requires
-why-first-requires g c = record { memo = λ honest. c.with_seed-memo.ensures (g.T.Tree.files c.args.tree.now) }
+why-first-requires g c = record { cache = λ honest. c.with_seed-cache.ensures (g.T.Tree.files c.args.tree.now) }

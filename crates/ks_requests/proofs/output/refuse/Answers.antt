@@ -1,5 +1,5 @@
-use Rattle.ks_requests.proofs.Prelude.{append-nil, told, rules}
+use Rattle.ks_requests.proofs.Prelude.{append-nil, reported, rules}
 use Rattle.ks_requests.proofs.output.refuse.Goals as goal
 
-pub returns-clause-told : goal.returns-clause-told
-returns-clause-told g c = search (rules, append-nil, told)
+pub returns-clause-reported : goal.returns-clause-reported
+returns-clause-reported g c = search (rules, append-nil, reported)

@@ -24,7 +24,7 @@ returns-clause-text c =
       accepted = returns-clause-refusal c;
       sources = s;
       names = names;
-      are_sources = c.in_ok-sources.ensures.read;
+      are_config_inputs = c.in_ok-sources.ensures.read;
       changed = subst (λ (texts : Texts). AreLegalChanges texts s.config names) c.in_ok-before.ensures.texts planned.changed;
       whole = c.in_ok-preview_text.ensures ∙ ap (λ (g : ℕ). touch_lines names ++ auto_text s.title s.config g)
           (planned.generation ∙ ap (λ n. n + 1) c.in_ok-before.ensures.generation);

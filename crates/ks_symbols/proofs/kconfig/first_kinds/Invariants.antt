@@ -4,12 +4,12 @@ use Rattle.std.specs.FinMap as map
 use Rattle.ks_symbols.proofs.kconfig.first_kinds.Given as goal
 
 -- what the declarations before this place say first, and else those after it
-abbrev pub invariant-loop-place : goal.invariant-loop-place
-invariant-loop-place l = record {
-  within : l.place ≤ length l.declared;
-  kinds : (x : List ℕ) → or_else (option_map without_text (first_kind (map_list seen (take l.place l.declared)) x)) (map.get l.kinds x)
+abbrev pub invariant-loop-index : goal.invariant-loop-index
+invariant-loop-index l = record {
+  within : l.index ≤ length l.declared;
+  kinds : (x : List ℕ) → or_else (option_map without_text (first_kind (map_list seen (take l.index l.declared)) x)) (map.get l.kinds x)
       ≡ option_map without_text (first_kind (map_list seen l.declared) x);
 }
 
-abbrev pub decreases-loop-place : goal.decreases-loop-place
-decreases-loop-place l = l.place
+abbrev pub decreases-loop-index : goal.decreases-loop-index
+decreases-loop-index l = l.index

@@ -6,8 +6,8 @@ use Rattle.ks_system.proofs.new_file.write_new.Given as goal
 
 abbrev pub invariant-loop : goal.invariant-loop
 invariant-loop g l = record {
-  others : g.S.System.is_honest → SameBut (g.S.System.path_at l.place) (g.S.System.world l.fn.system).files (g.S.System.world l.system).files;
+  others : g.S.System.is_honest → SameBut (g.S.System.path_at l.host_path) (g.S.System.world l.fn.system).files (g.S.System.world l.system).files;
   dated : g.S.System.is_honest → (g.S.System.world l.system).dated ≡ (g.S.System.world l.fn.system).dated;
   last : g.S.System.is_honest → 0 < l.counter → IsPassed Missing (g.S.System.last_error l.system);
-  kept : g.S.System.aged l.system ≡ g.S.System.aged l.fn.system;
+  kept : g.S.System.backdated l.system ≡ g.S.System.backdated l.fn.system;
 }

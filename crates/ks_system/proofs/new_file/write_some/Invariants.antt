@@ -9,5 +9,5 @@ invariant-loop g l = record {
   opened : g.S.System.opened l.handle ≡ g.S.System.opened l.fn.handle;
   claimed : g.S.System.is_claimed l.handle ≡ g.S.System.is_claimed l.fn.handle;
   last : g.S.System.is_honest → 0 < l.counter → IsPassed Interrupted (g.S.System.last_error l.system);
-  kept : g.S.System.aged l.system ≡ g.S.System.aged l.fn.system;
+  kept : g.S.System.backdated l.system ≡ g.S.System.backdated l.fn.system;
 }

@@ -2,7 +2,7 @@ use Rattle.std.proofs.Common.{rules, arith, [], Some, ap, sym, ◌∙◌, length
 use Rattle.std.proofs.lemmas.List.{length-drop, length-take-le, take_rest}
 use Rattle.ks_tree.specs.Files.{content}
 use Rattle.ks_system.proofs.Counted.{failed_since, on_err}
-use Rattle.ks_system.proofs.Pieces.{nothing_read, put_before, put_long, put_more, read_on_at, read_whole_at, rest_room}
+use Rattle.ks_system.proofs.Pieces.{nothing_read, put_before, put_long, put_more, read_on_at, read_whole_at, rest_buffer}
 use Rattle.ks_system.proofs.reading.fill.Goals as goal
 
 pub loop-init : goal.loop-init
@@ -10,7 +10,7 @@ loop-init g c = record {
   world = search rules;
   read = λ honest. nothing_read _ [];
   within = search rules;
-  room = search rules;
+  buffer = search rules;
   kept = search rules;
   faults = search rules;
   many = search rules;
@@ -23,11 +23,11 @@ loop-preserved g c = record {
       read_on_at _ _ _ _ _ _ _ _ (c.loop.invariant.read honest) (ap (λ w. content w.files (g.S.System.opened c.args.handle.now).path) (c.loop.invariant.world honest))
       (c.in_ok-count.ensures.read honest) (sym (length-take-le _ _ c.loop.invariant.within)) (put_more _ _ _ _ c.loop.invariant.within);
   within =
-      let long = put_long _ _ _ c.loop.invariant.within c.in_ok-count.ensures.room in
+      let long = put_long _ _ _ c.loop.invariant.within c.in_ok-count.ensures.buffer in
       let count = c.in_ok-count.ensures.within in
-      let room = c.in_ok-count.ensures.room in let rest = ap length (take_rest c.loop.into c.loop.given) in let after = length-drop c.loop.given c.loop.into in
+      let buffer = c.in_ok-count.ensures.buffer in let rest = ap length (take_rest c.loop.into c.loop.given) in let after = length-drop c.loop.given c.loop.into in
       let before = c.loop.invariant.within in omega arith;
-  room = put_long _ _ _ c.loop.invariant.within c.in_ok-count.ensures.room ∙ c.loop.invariant.room;
+  buffer = put_long _ _ _ c.loop.invariant.within c.in_ok-count.ensures.buffer ∙ c.loop.invariant.buffer;
   kept = search rules;
   faults = search rules;
   many = search rules;
@@ -37,7 +37,7 @@ pub returns-then-count-eq0-clause-whole : goal.returns-then-count-eq0-clause-who
 returns-then-count-eq0-clause-whole g c = λ honest less.
     read_whole_at _ _ _ _ _ _ _ (c.loop.invariant.read honest) (ap (λ w. content w.files (g.S.System.opened c.args.handle.now).path) (c.loop.invariant.world honest))
     (c.in_ok-count.ensures.read honest) (sym (length-take-le _ _ c.loop.invariant.within)) c.if-count-eq0.true
-    (rest_room _ _ c.loop.invariant.within (search rules)) ∙ ap Some (sym (put_before _ _ _ c.loop.invariant.within))
+    (rest_buffer _ _ c.loop.invariant.within (search rules)) ∙ ap Some (sym (put_before _ _ _ c.loop.invariant.within))
 
 pub returns-in_err-count-clause-cause : goal.returns-in_err-count-clause-cause
 returns-in_err-count-clause-cause g c = λ honest. on_err _ _ (failed_since _ _ _ _ (c.loop.invariant.faults honest) (c.in_err-count.ensures.cause honest))

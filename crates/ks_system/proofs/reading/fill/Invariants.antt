@@ -8,8 +8,8 @@ invariant-loop g l = record {
   world : g.S.System.is_honest → g.S.System.world l.system ≡ g.S.System.world l.fn.system;
   read : g.S.System.is_honest → IsReadTo (content (g.S.System.world l.fn.system).files (g.S.System.opened l.handle).path) (take l.given l.into);
   within : l.given ≤ length l.into;
-  room : length l.into ≡ length l.fn.into;
-  kept : g.S.System.aged l.system ≡ g.S.System.aged l.fn.system;
+  buffer : length l.into ≡ length l.fn.into;
+  kept : g.S.System.backdated l.system ≡ g.S.System.backdated l.fn.system;
   faults : g.S.System.is_honest → g.S.System.faults l.system ≡ g.S.System.faults l.fn.system;
   many : l.counter ≤ l.given;
 }

@@ -15,7 +15,7 @@ loop-preserved g c =
           read_on_at _ _ _ _ _ _ _ _ (c.loop.invariant.read honest)
           (ap (λ w. content w.files (g.S.System.opened c.args.handle.now).path) (c.loop.invariant.world honest))
           (c.in_ok-count.ensures.read honest) (search rules) c.in_ok-extend_from_slice.ensures.items;
-      room = c.in_ok-count.ensures.room ∙ c.loop.invariant.room;
+      buffer = c.in_ok-count.ensures.buffer ∙ c.loop.invariant.buffer;
       small = omega arith;
       kept = c.in_ok-count.ensures.kept ∙ c.loop.invariant.kept;
       faults = λ honest. c.in_ok-count.ensures.passed honest ∙ c.loop.invariant.faults honest;
@@ -27,7 +27,7 @@ returns-then-count-eq0-clause-read g c = λ honest.
     read_whole_at _ _ _ _ _ _ _ (c.loop.invariant.read honest)
     (ap (λ w. content w.files (g.S.System.opened c.args.handle.now).path) (c.loop.invariant.world honest))
     (c.in_ok-count.ensures.read honest) (search rules) c.if-count-eq0.true
-    (subst (λ n. 0 < n) (sym c.loop.invariant.room) c.requires.room)
+    (subst (λ n. 0 < n) (sym c.loop.invariant.buffer) c.requires.buffer)
 
 pub returns-then-count-len-clause-too_large : goal.returns-then-count-len-clause-too_large
 returns-then-count-len-clause-too_large g c = λ honest large.

@@ -8,9 +8,9 @@ abbrev pub invariant-loop : goal.invariant-loop
 invariant-loop g l = record {
   world : g.S.System.is_honest → g.S.System.world l.system ≡ g.S.System.world l.fn.system;
   read : g.S.System.is_honest → IsReadTo (content (g.S.System.world l.fn.system).files (g.S.System.opened l.handle).path) l.bytes.items;
-  room : length l.room ≡ length l.fn.room;
+  buffer : length l.buffer ≡ length l.fn.buffer;
   small : length l.bytes.items ≤ max_bytes;
-  kept : g.S.System.aged l.system ≡ g.S.System.aged l.fn.system;
+  kept : g.S.System.backdated l.system ≡ g.S.System.backdated l.fn.system;
   faults : g.S.System.is_honest → g.S.System.faults l.system ≡ g.S.System.faults l.fn.system;
   many : l.counter ≤ length l.bytes.items;
 }

@@ -1,4 +1,4 @@
-use Rattle.ks_fixdep.specs.CommandForms.{saved_command}
+use Rattle.ks_fixdep.specs.CommandPatterns.{saved_command}
 use Rattle.ks_symbols.specs.Names.{is_target}
 use Rattle.ks_fixdep.proofs.Prelude.{arith, common_steps}
 use Rattle.ks_fixdep.proofs.command_file.reading.saved_command.Goals as goal

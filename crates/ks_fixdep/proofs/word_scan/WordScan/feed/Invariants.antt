@@ -6,7 +6,7 @@ abbrev pub invariant-loop-place : goal.invariant-loop-place
 invariant-loop-place l = record {
   fits : l.place ≤ length l.piece;
   found : l.table.found ≡ l.fn.table.found;
-  knows : (k : Known) → Knows l.fn.self l.fn.table k → Knows l.self l.table (known_after l.words k (take l.place l.piece));
+  knows : (k : Known) → Knows l.fn.self l.fn.table k → Knows l.self l.table (known_after l.symbol_patterns k (take l.place l.piece));
 }
 
 abbrev pub decreases-loop-place : goal.decreases-loop-place

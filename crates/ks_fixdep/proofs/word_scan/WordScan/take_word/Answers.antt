@@ -10,5 +10,5 @@ pub pass-requires : goal.pass-requires
 pass-requires c = grind (arith, common_steps, word-stops)
 
 pub returns-clause-knows : goal.returns-clause-knows
-returns-clause-knows c = λ k knows. rw (word-more c.args.words.now k c.args.rest.now c.leading_word-head.result.now c.leading_word-head.ensures.word (omega arith))
-    (c.in_ok-pass.ensures.knows _ (knows-pushed c.args.words.now k _ _ _ _ _ c.leading_word-head.ensures.passes c.push.ensures knows))
+returns-clause-knows c = λ k knows. rw (word-more c.args.symbol_patterns.now k c.args.rest.now c.leading_word-head.result.now c.leading_word-head.ensures.word (omega arith))
+    (c.in_ok-pass.ensures.knows _ (knows-pushed c.args.symbol_patterns.now k _ _ _ _ _ c.leading_word-head.ensures.passes c.push.ensures knows))

@@ -1,5 +1,5 @@
 use Rattle.ks_streams.proofs.Prelude.{Err, ap, sym, state_of}
-use Rattle.ks_streams.proofs.Offering.{breaks_given_up, prints_left, prints_seen, prints_unread}
+use Rattle.ks_streams.proofs.Offering.{breaks_aborted, prints_left, prints_seen, prints_unread}
 use Rattle.ks_streams.proofs.stream.Stream.see_out.Goals as goal
 
 pub returns-then-is_unread-clause-whole : goal.returns-then-is_unread-clause-whole
@@ -13,8 +13,8 @@ returns-in-Err-NoReader-clause-whole g c = λ yes. prints_left _ _ (c.in-Err-NoR
 
 pub returns-in-Err-Failed-clause-broken : goal.returns-in-Err-Failed-clause-broken
 returns-in-Err-Failed-clause-broken g c = λ no.
-    breaks_given_up _ _ (sym c.if-is_unread.ensures) (c.in-Err-Failed.ensures.failed (ap (λ f. Err f) c.in-Err-Failed.field-0-is))
+    breaks_aborted _ _ (sym c.if-is_unread.ensures) (c.in-Err-Failed.ensures.failed (ap (λ f. Err f) c.in-Err-Failed.field-0-is))
 
 pub returns-in-Err-Interrupted-clause-broken : goal.returns-in-Err-Interrupted-clause-broken
 returns-in-Err-Interrupted-clause-broken g c = λ no.
-    breaks_given_up _ _ (sym c.if-is_unread.ensures) (c.in-Err-Interrupted.ensures.interrupted (ap (λ f. Err f) c.in-Err-Interrupted.field-0-is))
+    breaks_aborted _ _ (sym c.if-is_unread.ensures) (c.in-Err-Interrupted.ensures.interrupted (ap (λ f. Err f) c.in-Err-Interrupted.field-0-is))

@@ -1,4 +1,4 @@
-use Rattle.ks_symbols.proofs.Prelude.{ap, err_from_is_err_and, on_ok_weaker, lines, form, declared, title_of, read_in, waiting_fault, first_clash, rules}
+use Rattle.ks_symbols.proofs.Prelude.{ap, err_from_is_err_and, on_ok_weaker, lines, line_kind, declared, title_of, read_in, waiting_fault, first_clash, rules}
 use Rattle.std.proofs.Common.{map as map_list}
 use Rattle.ks_symbols.proofs.Faults.{refused}
 use Rattle.ks_symbols.proofs.Clashes.{gathered, refused_anyway}
@@ -22,7 +22,7 @@ returns-clause-refusal c = search (rules, found)
 pub returns-clause-kinds : goal.returns-clause-kinds
 unfolding declared
 returns-clause-kinds c =
-    let empty = ap (map_list (form c.args.dialect)) c.in-None.ensures.steps.0 in
+    let empty = ap (map_list (line_kind c.args.dialect)) c.in-None.ensures.steps.0 in
     on_ok_weaker c.check_waiting.result (λ none clear. (read_all (read_in c.args.dialect c.args.text.now) c.loop-line.self c.loop-line.number _ _
     empty c.loop-line.invariant.ends clear c.loop-line.invariant.refusal (ap waiting_fault none)).kinds)
     c.check_waiting.ensures.none
@@ -30,7 +30,7 @@ returns-clause-kinds c =
 pub returns-clause-title : goal.returns-clause-title
 unfolding title_of
 returns-clause-title c =
-    let empty = ap (map_list (form c.args.dialect)) c.in-None.ensures.steps.0 in
+    let empty = ap (map_list (line_kind c.args.dialect)) c.in-None.ensures.steps.0 in
     on_ok_weaker c.check_waiting.result (λ none clear. (read_all (read_in c.args.dialect c.args.text.now) c.loop-line.self c.loop-line.number _ _
     empty c.loop-line.invariant.ends clear c.loop-line.invariant.refusal (ap waiting_fault none)).title)
     c.check_waiting.ensures.none

@@ -1,5 +1,5 @@
 use Rattle.ks_symbols.proofs.Prelude.{rules}
-use Rattle.ks_symbols.proofs.Places.{entries-kinds_in}
+use Rattle.ks_symbols.proofs.Indices.{entries-kinds_in}
 use Rattle.ks_symbols.proofs.symbols.Symbols.rows.Goals as goal
 
 pub returns : goal.returns

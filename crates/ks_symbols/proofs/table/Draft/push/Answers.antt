@@ -1,8 +1,8 @@
-use Rattle.ks_symbols.proofs.Prelude.{◌≡◌, ◌+◌, length, ◌++◌, List, ℕ, option_map, sym, ap, subst, ◌∙◌, arith, length-append, AreHeaded, said_in, after_line, after_lines, rules}
+use Rattle.ks_symbols.proofs.Prelude.{◌≡◌, ◌+◌, length, ◌++◌, List, ℕ, option_map, sym, ap, subst, ◌∙◌, arith, length-append, AreHeaded, stated_in, after_line, after_lines, rules}
 use Rattle.std.proofs.Common.{map as map_list}
 use Rattle.std.specs.FinMap as map
 use Rattle.ks_symbols.proofs.LastOnes.{after_push}
-use Rattle.ks_symbols.proofs.Records.{lie_more, lie_push, said_pushed}
+use Rattle.ks_symbols.proofs.Records.{lie_more, lie_push, stated_pushed}
 use Rattle.ks_symbols.proofs.Heads.{headed_more, headed_line, headed_push}
 use Rattle.ks_symbols.proofs.table.Draft.push.Given as given
 use Rattle.ks_symbols.proofs.table.Draft.push.Goals as goal
@@ -73,6 +73,6 @@ returns g c =
     let rs = c.self.inside.records.items in
     let here = (goal.at.returns g c).After-len-end in
     rw (bytes g here, c.in_ok-push.ensures.items)
-    (ap (after_lines map.empty) (said_pushed old name text rs _ c.self.invariant.0 (start g here) (middle g here) (end g here))
-    ∙ after_push map.empty (map_list (said_in old) rs) (name, option_map (λ v. (v, text)) c.args.value)
+    (ap (after_lines map.empty) (stated_pushed old name text rs _ c.self.invariant.0 (start g here) (middle g here) (end g here))
+    ∙ after_push map.empty (map_list (stated_in old) rs) (name, option_map (λ v. (v, text)) c.args.value)
     ∙ ap (λ m. after_line m name (option_map (λ v. (v, text)) c.args.value)) c.self.view_is)

@@ -12,7 +12,7 @@ returns-then-count-eq0-clause-found g c = λ honest.
     read_end _ _ _ _ _ _ _ _ _ _ _ (c.loop.invariant.read honest)
     (ap₂ (λ w h. content w.files (g.S.System.opened h).path) (c.loop.invariant.world honest) c.loop.invariant.file)
     (c.in_ok-count.ensures.read honest) c.loop.invariant.at (take_rest c.loop.into c.loop.given)
-    (put_all _ _ _ c.loop.invariant.within) c.if-count-eq0.true c.loop.invariant.room c.loop.invariant.within
+    (put_all _ _ _ c.loop.invariant.within) c.if-count-eq0.true c.loop.invariant.buffer c.loop.invariant.within
 
 pub loop-init : goal.loop-init
 loop-init g c = record {
@@ -21,7 +21,7 @@ loop-init g c = record {
   ahead = λ honest. c.go_to.ensures.ahead _ (c.requires.ahead honest);
   at = search rules;
   within = search rules;
-  room = search rules;
+  buffer = search rules;
   path = search rules;
   file = search rules;
   kept = search rules;
@@ -43,11 +43,11 @@ loop-preserved g c = record {
       (c.in_ok-count.ensures.ahead honest);
   at = let moved = c.in_ok-count.ensures.offset in let at = c.loop.invariant.at in omega arith;
   within =
-      let long = put_long _ _ _ c.loop.invariant.within c.in_ok-count.ensures.room in
+      let long = put_long _ _ _ c.loop.invariant.within c.in_ok-count.ensures.buffer in
       let count = c.in_ok-count.ensures.within in
-      let room = c.in_ok-count.ensures.room in let rest = ap length (take_rest c.loop.into c.loop.given) in let after = length-drop c.loop.given c.loop.into in
+      let buffer = c.in_ok-count.ensures.buffer in let rest = ap length (take_rest c.loop.into c.loop.given) in let after = length-drop c.loop.given c.loop.into in
       let before = c.loop.invariant.within in omega arith;
-  room = put_long _ _ _ c.loop.invariant.within c.in_ok-count.ensures.room ∙ c.loop.invariant.room;
+  buffer = put_long _ _ _ c.loop.invariant.within c.in_ok-count.ensures.buffer ∙ c.loop.invariant.buffer;
   path = c.in_ok-count.ensures.path ∙ c.loop.invariant.path;
   file = c.in_ok-count.ensures.file ∙ c.loop.invariant.file;
   kept = c.in_ok-count.ensures.kept ∙ c.loop.invariant.kept;
@@ -57,9 +57,9 @@ loop-preserved g c = record {
 
 pub returns-in_err-count-clause-cause : goal.returns-in_err-count-clause-cause
 returns-in_err-count-clause-cause g c = λ honest.
-    let within = subst (λ n. c.loop.given ≤ n) c.loop.invariant.room c.loop.invariant.within in
+    let within = subst (λ n. c.loop.given ≤ n) c.loop.invariant.buffer c.loop.invariant.within in
     on_err _ _ (failed_at _ _ _ _ _ _ _ _ (c.loop.invariant.faults honest) c.loop.invariant.at within (c.in_err-count.ensures.cause honest))
 
 pub returns-then-given-into-clause-found : goal.returns-then-given-into-clause-found
 returns-then-given-into-clause-found g c = λ honest.
-    read_full _ _ _ _ _ (c.loop.invariant.read honest) (c.loop.invariant.ahead honest).0 c.if-given-into.true c.loop.invariant.room
+    read_full _ _ _ _ _ (c.loop.invariant.read honest) (c.loop.invariant.ahead honest).0 c.if-given-into.true c.loop.invariant.buffer

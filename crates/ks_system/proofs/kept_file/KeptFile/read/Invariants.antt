@@ -11,10 +11,10 @@ invariant-loop g l = record {
   ahead : g.S.System.is_honest → IsAheadOf (content (g.S.System.world l.fn.system).files (g.S.System.opened l.fn.self.file).path) l.self.ahead;
   at : l.self.ahead.offset ≡ l.offset + l.given;
   within : l.given ≤ length l.into;
-  room : length l.into ≡ length l.fn.into;
+  buffer : length l.into ≡ length l.fn.into;
   path : l.self.ahead.path ≡ l.fn.self.ahead.path;
   file : l.self.file ≡ l.fn.self.file;
-  kept : g.S.System.aged l.system ≡ g.S.System.aged l.fn.system;
+  kept : g.S.System.backdated l.system ≡ g.S.System.backdated l.fn.system;
   faults : g.S.System.is_honest → g.S.System.faults l.system ≡ g.S.System.faults l.fn.system;
   many : l.counter ≤ l.given;
 }

@@ -1,5 +1,0 @@
-use Rattle.ks_builds.proofs.Aged.{what_is_not_aged_is_fresh, what_is_not_aged_is_safe}
-use Rattle.ks_builds.proofs.laws.what_is_not_aged_is_safe.Goals as goal
-
-pub returns : goal.returns
-returns c = record { fresh = what_is_not_aged_is_fresh; safe = what_is_not_aged_is_safe }

@@ -1,0 +1,4 @@
+pub mod Prelude
+pub mod RuleLemmas
+pub mod ArgLemmas
+pub mod Reported

@@ -1,0 +1,141 @@
+-- Words of the command line, the requests that they make, and why they make none.
+use Rattle.std.specs.Prelude.{◌≡◌, ◌≢◌, ◌⊎◌, ℕ, Bool, false, true, nat_lt, List, [], ◌∷◌, bytes_eq, codes, option_map, slice_index, string_bytes, unwrap_or, ⊤, if◌then◌else◌, ◌<◌, ◌^◌, Option, Some, None, map}
+use Rattle.std.specs.List.{All, list_any}
+use Rattle.std.specs.Option.{option_map_or}
+use Rattle.clap.specs.Words.{Row, Text, all_of, first_of, one_of}
+use Rattle.ks_engine.specs.declared.backdating.BackdateScope.{BackdateScope}
+use Rattle.ks_engine.specs.declared.backdating.BackdateScope.TheVariants as backdates
+use Rattle.ks_requests.specs.declared.request.DepfileAfter.{DepfileAfter}
+use Rattle.ks_requests.specs.declared.request.DepfileAfter.TheVariants as depfile
+use Rattle.ks_requests.specs.declared.request.OutputFormat.{OutputFormat}
+use Rattle.ks_requests.specs.declared.request.OutputFormat.TheVariants as format
+use Rattle.std.specs.Str.Parse.{IsNumeral, digits_value, without_leading_plus}
+use Rattle.ks_requests.specs.declared.request.Request.{Request}
+use Rattle.ks_requests.specs.declared.request.Stamps.{Stamps}
+use Rattle.ks_requests.specs.declared.request.Stamps.TheVariants as stamps
+use Rattle.ks_requests.specs.declared.request.Targets.{Targets}
+use Rattle.ks_requests.specs.declared.request.Request.TheVariants as request
+use Rattle.ks_requests.specs.Targets.{file_of, args_of}
+use Rattle.ks_requests.specs.declared.report_style.ReportStyle.{ReportStyle}
+use Rattle.ks_requests.specs.declared.report_style.ReportStyle.TheVariants.{Lines, LinesAndStatus, Status}
+use Rattle.ks_cli.specs.declared.args.WordsError.{WordsError}
+use Rattle.ks_cli.specs.declared.args.WordsError.TheVariants.{OutOfMemory, Refused}
+use Rattle.clap.specs.Words.{kind_of}
+use Rattle.clap.specs.declared.error.Error.{Error}
+use Rattle.clap.specs.declared.error.kind.ErrorKind.{ErrorKind}
+use Rattle.clap.specs.declared.error.kind.ErrorKind.TheVariants.{DisplayHelp, DisplayVersion, OutOfMemory as NoMemory}
+
+-- the word does not begin with `-`
+abbrev pub IsPlainArg : List ℕ → Type 0
+IsPlainArg arg = slice_index arg 0 ≢ 45
+
+-- memory was refused
+abbrev pub IsWantOfMemory : WordsError → Type 0
+IsWantOfMemory OutOfMemory = Unit {0}
+IsWantOfMemory _ = ⊥
+
+-- help, or the version
+abbrev pub is_help : ErrorKind → Bool
+is_help DisplayHelp = true
+is_help DisplayVersion = true
+is_help kind = false
+
+abbrev pub is_no_memory : ErrorKind → Bool
+is_no_memory NoMemory = true
+is_no_memory kind = false
+
+-- there is something to see in it
+abbrev pub is_visible : List ℕ → Bool
+is_visible text = list_any (nat_lt 32) text
+
+-- An explanation of a mistake, of help or of the version has a text.
+abbrev pub HasText : WordsError → Type 0
+HasText (Refused help) = is_visible (string_bytes help.text) ≡ true
+HasText OutOfMemory = ⊤
+
+-- An error of `clap` is told as one of its kind, but want of memory, or memory is refused for the text.
+abbrev pub IsReported : Error → WordsError → Type 0
+IsReported e (Refused help) = (help.kind ≡ kind_of e) × (is_no_memory (kind_of e) ≡ false) × (is_visible (string_bytes help.text) ≡ true)
+IsReported e OutOfMemory = ⊤
+
+-- the word that stands for this name, and the words that stand for it
+abbrev pub arg_at : Text → List Row → Text
+arg_at name rows = unwrap_or (first_of name rows) []
+
+abbrev pub args_at : Text → List Row → List Text
+args_at name rows = unwrap_or (all_of name rows) []
+
+-- whether this option stands there
+abbrev pub is_set : Text → List Row → Bool
+is_set name rows = option_map_or (λ text. bytes_eq text (codes "true")) (first_of name rows) false
+
+-- what `diff` is to tell; `--quiet` says more than `--exit-code`
+abbrev pub report_style_of : List Row → ReportStyle
+report_style_of rows = if is_set (codes "quiet") rows then Status else (if is_set (codes "exit-code") rows then LinesAndStatus else Lines)
+
+-- which stamps `sync` is to leave
+abbrev pub stamps_of : List Row → Stamps
+stamps_of rows = if is_set (codes "stamps") rows then stamps.Declared else stamps.Touched
+
+-- what `record` is to leave of the dependency file
+abbrev pub depfile_after : List Row → DepfileAfter
+depfile_after rows = if is_set (codes "remove-depfile") rows then depfile.Removed else depfile.Kept
+
+-- which stale objects `age` is to age
+abbrev pub backdates_of : List Row → BackdateScope
+backdates_of rows = if is_set (codes "unrecorded") rows then backdates.Unrecorded else backdates.Recorded
+
+-- the name is that of no command but `stale`
+abbrev pub IsNoOther : Text → Type 0
+IsNoOther name = All (λ other. name ≢ other)
+    (codes "sync" ∷ codes "preview" ∷ codes "diff" ∷ codes "fixdep" ∷ codes "record" ∷ codes "depfile" ∷ codes "batch" ∷ codes "outdated"
+    ∷ codes "why" ∷ codes "impact" ∷ codes "age" ∷ codes "users" ∷ codes "cost" ∷ codes "backdate" ∷ codes "explain" ∷ [])
+
+-- the objects of a question
+abbrev pub AreTargets : List Row → Targets → Type 0
+AreTargets rows targets = (args_of targets ≡ args_at (codes "TARGET") rows) × (file_of targets ≡ first_of (codes "FILE") rows)
+
+-- the form of its answers
+abbrev pub format_of : List Row → OutputFormat
+format_of rows = if is_set (codes "json") rows then format.Json else format.Text
+
+-- the number that a word spells, with a + in front or without; `clap` takes no word that spells none
+abbrev pub IsNumberOf : Option Text → Option ℕ → Type 0
+IsNumberOf None number = number ≡ None
+IsNumberOf (Some arg) (Some n) = IsNumeral 10 (without_leading_plus arg) × (n ≡ digits_value 10 (without_leading_plus arg))
+IsNumberOf (Some arg) None = (IsNumeral 10 (without_leading_plus arg) × (digits_value 10 (without_leading_plus arg) < 2 ^ 64)) → ⊥
+
+-- the request is that of the command, and holds what `clap` found for each of its words
+abbrev pub IsRequestOf : Text → List Row → Request → Type 0
+IsRequestOf command rows (request.Sync k d stamps) = (command ≡ codes "sync")
+    × (string_bytes k ≡ arg_at (codes "KCONFIG") rows) × (string_bytes d ≡ arg_at (codes "DOTCONFIG") rows)
+    × (stamps ≡ stamps_of rows)
+IsRequestOf command rows (request.Preview k d o) = (command ≡ codes "preview")
+    × (string_bytes k ≡ arg_at (codes "KCONFIG") rows) × (string_bytes d ≡ arg_at (codes "DOTCONFIG") rows)
+    × (option_map (λ path. string_bytes path) o ≡ first_of (codes "OLDAUTO") rows)
+IsRequestOf command rows (request.Diff k d report_style) = (command ≡ codes "diff")
+    × (string_bytes k ≡ arg_at (codes "KCONFIG") rows) × (string_bytes d ≡ arg_at (codes "DOTCONFIG") rows)
+    × (report_style ≡ report_style_of rows)
+IsRequestOf command rows (request.Fixdep d t c) = (command ≡ codes "fixdep")
+    × (string_bytes d ≡ arg_at (codes "DEPFILE") rows) × (string_bytes t ≡ arg_at (codes "TARGET") rows)
+    × (string_bytes c ≡ arg_at (codes "COMMAND") rows)
+IsRequestOf command rows (request.Record d t c after) = (command ≡ codes "record")
+    × (string_bytes d ≡ arg_at (codes "DEPFILE") rows) × (string_bytes t ≡ arg_at (codes "TARGET") rows)
+    × (string_bytes c ≡ arg_at (codes "COMMAND") rows) × (after ≡ depfile_after rows)
+IsRequestOf command rows (request.Depfile end d t c) = (command ≡ codes "depfile")
+    × (option_map (λ path. string_bytes path) end ≡ first_of (codes "SUFFIX") rows) × (string_bytes d ≡ arg_at (codes "DEPFILE") rows)
+    × (string_bytes t ≡ arg_at (codes "TARGET") rows) × (string_bytes c ≡ arg_at (codes "COMMAND") rows)
+IsRequestOf command rows (request.Stale ts f) =
+    IsNoOther command × AreTargets rows ts × (f ≡ format_of rows)
+IsRequestOf command rows (request.Why ts f) = (command ≡ codes "why") × AreTargets rows ts × (f ≡ format_of rows)
+IsRequestOf command rows (request.Impact k d ts f) = (command ≡ codes "impact")
+    × (string_bytes k ≡ arg_at (codes "KCONFIG") rows) × (string_bytes d ≡ arg_at (codes "DOTCONFIG") rows) × AreTargets rows ts
+    × (f ≡ format_of rows)
+IsRequestOf command rows (request.Backdate which ts) = ((command ≡ codes "backdate") ⊎ (command ≡ codes "age")) × (which ≡ backdates_of rows) × AreTargets rows ts
+IsRequestOf command rows (request.Batch s) =
+    (command ≡ codes "batch") × (string_bytes s ≡ arg_at (codes "SCRIPT") rows)
+IsRequestOf command rows (request.Outdated t c) = (command ≡ codes "outdated")
+    × (string_bytes t ≡ arg_at (codes "TARGET") rows) × (string_bytes c ≡ arg_at (codes "COMMAND") rows)
+IsRequestOf command rows (request.Users symbols ts) = (command ≡ codes "users")
+    × (map (λ s. string_bytes s) symbols.items ≡ args_at (codes "SYMBOL") rows) × AreTargets rows ts
+IsRequestOf command rows (request.Cost top ts) = (command ≡ codes "cost") × IsNumberOf (one_of (codes "N") rows) top × AreTargets rows ts

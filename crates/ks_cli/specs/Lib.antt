@@ -1,0 +1,4 @@
+pub mod CommandLine
+pub mod Args
+pub mod Meaning
+pub mod Laws

@@ -1,0 +1,347 @@
+//! What the words after the program's name ask for.
+ghost use Rattle.std.specs.Prelude.{◌≡◌, ◌≢◌, ℕ, List, [], ◌∷◌, IfErr, IfOk, codes, true, map, None, option_map, string_bytes, if◌then◌else◌};
+ghost use Rattle.clap.specs.Words.{first_of, found_of, kind_of, one_of, rows_of, takes};
+ghost use Rattle.clap.specs.Walk.{texts};
+ghost use Rattle.ks_requests.specs.Requests.{IsBatchOf, IsPreviewOf};
+ghost use Rattle.ks_cli.specs.CommandLine.{command_line_app};
+ghost use Rattle.ks_cli.specs.Meaning.{IsPageNamed, IsPageReported, IsReason, IsTakenAs, Makes};
+ghost use Rattle.ks_cli.specs.Args.{AreTargets, IsPlainArg, IsRequestOf, HasText, IsReported, IsWantOfMemory, is_no_memory, is_set, report_style_of, arg_at, args_at, format_of, IsNumberOf};
+
+use crate::command_line::command_line;
+use crate::help_text::HelpText;
+use clap::ArgMatches;
+use clap::error::ErrorKind;
+use ks_engine::BackdateScope;
+use ks_requests::{DepfileAfter, OutputFormat, ReportStyle, Request, Stamps, Targets};
+use std::alloc::{AllocError, Global};
+use thiserror::Error;
+
+/// Why the words are no request.
+#[derive(Debug, Drop, Error)]
+pub enum WordsError {
+    /// What is said in place of a request: a mistake in the words, help, the version, or what is known of an error.
+    #[error("{0}")]
+    Refused(HelpText),
+    #[error("10 OutOfMemory")]
+    OutOfMemory,
+}
+
+impl From<AllocError> for WordsError {
+    ghost from_gives = { λ _ w. IsWantOfMemory w };
+
+    fn from(_error: AllocError) -> WordsError {
+        WordsError::OutOfMemory
+    }
+}
+
+/// Whether `clap` was refused memory.
+fn lacks_memory(error: &clap::Error) -> bool
+    ensures { result ≡ is_no_memory (kind_of error.now) }
+{
+    matches!(error.kind(), ErrorKind::OutOfMemory)
+}
+
+/// What an error of `clap` says, unless memory is refused.
+fn refused(alloc: Global, error: &clap::Error) -> WordsError
+    ensures { IsReported error.now result }
+{
+    if lacks_memory(error) {
+        return WordsError::OutOfMemory;
+    }
+    match HelpText::of(alloc, error) {
+        Ok(help) => WordsError::Refused(help),
+        Err(_) => WordsError::OutOfMemory,
+    }
+}
+
+/// The word of the argument `id`, or an empty one.
+#[tactic(auto, using(crate::proofs::ArgLemmas::first_at))]
+fn text_of<'a>(matches: &ArgMatches<'a>, id: &str) -> &'a str
+    ensures { result.now ≡ arg_at id.now (rows_of (found_of matches.now)) }
+{
+    matches.get_str(id).unwrap_or("")
+}
+
+/// The word of the required argument `id`.
+fn arg(alloc: Global, matches: &ArgMatches<'_>, id: &str) -> Result<String, AllocError>
+    ensures { IfOk result (λ s. string_bytes s ≡ arg_at id.now (rows_of (found_of matches.now))) }
+{
+    String::from_str(alloc, text_of(matches, id))
+}
+
+/// The word of the argument `id`, where it is there.
+#[tactic(auto, using(crate::proofs::ArgLemmas::first_at))]
+fn optional_arg(
+    alloc: Global,
+    matches: &ArgMatches<'_>,
+    id: &str,
+) -> Result<Option<String>, AllocError>
+    ensures { IfOk result (λ o. option_map (λ s. string_bytes s) o ≡ first_of id.now (rows_of (found_of matches.now))) }
+{
+    match matches.get_str(id) {
+        Some(text) => Ok(Some(String::from_str(alloc, text)?)),
+        None => Ok(None),
+    }
+}
+
+/// Whether the option `id` stands there, which takes no word.
+#[tactic(auto, using(crate::proofs::ArgLemmas::first_at))]
+fn is_set(matches: &ArgMatches<'_>, id: &str) -> bool
+    ensures { result ≡ is_set id.now (rows_of (found_of matches.now)) }
+{
+    match matches.get_str(id) {
+        Some(text) => text == "true",
+        None => false,
+    }
+}
+
+/// One of two values, by whether the option `id` stands there.
+fn chosen<C: Copy>(matches: &ArgMatches<'_>, id: &str, set: C, unset: C) -> C
+    ensures { result ≡ (if is_set id.now (rows_of (found_of matches.now)) then set else unset) }
+{
+    if is_set(matches, id) { set } else { unset }
+}
+
+/// The words of the argument `id`.
+fn all_args(alloc: Global, matches: &ArgMatches<'_>, id: &str) -> Result<Vec<String>, AllocError>
+    ensures { IfOk result (λ ws. map (λ s. string_bytes s) ws.items ≡ args_at id.now (rows_of (found_of matches.now))) }
+{
+    let mut args = Vec::new(alloc);
+    let Some(texts) = matches.get_strs(id) else {
+        return Ok(args);
+    };
+    for text in texts {
+        args.push(String::from_str(alloc, *text)?)?;
+    }
+    Ok(args)
+}
+
+/// The objects of a question.
+fn targets(alloc: Global, matches: &ArgMatches<'_>) -> Result<Targets, AllocError>
+    ensures { IfOk result (AreTargets (rows_of (found_of matches.now))) }
+{
+    let args = all_args(alloc, matches, "TARGET")?;
+    let from = optional_arg(alloc, matches, "FILE")?;
+    Ok(Targets { args, from })
+}
+
+/// The form of the answers.
+fn format(matches: &ArgMatches<'_>) -> OutputFormat
+    ensures { result ≡ format_of (rows_of (found_of matches.now)) }
+{
+    chosen(matches, "json", OutputFormat::Json, OutputFormat::Text)
+}
+
+fn sync_request(alloc: Global, matches: &ArgMatches<'_>) -> Result<Request, AllocError>
+    ensures { IfOk result (IsRequestOf (codes "sync") (rows_of (found_of matches.now))) }
+{
+    Ok(Request::Sync {
+        kconfig: arg(alloc, matches, "KCONFIG")?,
+        dotconfig: arg(alloc, matches, "DOTCONFIG")?,
+        stamps: chosen(matches, "stamps", Stamps::Declared, Stamps::Touched),
+    })
+}
+
+fn preview_request(alloc: Global, matches: &ArgMatches<'_>) -> Result<Request, AllocError>
+    ensures { IfOk result (IsRequestOf (codes "preview") (rows_of (found_of matches.now))) }
+{
+    let kconfig = arg(alloc, matches, "KCONFIG")?;
+    let dotconfig = arg(alloc, matches, "DOTCONFIG")?;
+    let old = optional_arg(alloc, matches, "OLDAUTO")?;
+    Ok(Request::Preview {
+        kconfig,
+        dotconfig,
+        old,
+    })
+}
+
+/// What `diff` is to tell.
+fn report_style(matches: &ArgMatches<'_>) -> ReportStyle
+    ensures { result ≡ report_style_of (rows_of (found_of matches.now)) }
+{
+    if is_set(matches, "quiet") {
+        ReportStyle::Status
+    } else if is_set(matches, "exit-code") {
+        ReportStyle::LinesAndStatus
+    } else {
+        ReportStyle::Lines
+    }
+}
+
+fn diff_request(alloc: Global, matches: &ArgMatches<'_>) -> Result<Request, AllocError>
+    ensures { IfOk result (IsRequestOf (codes "diff") (rows_of (found_of matches.now))) }
+{
+    Ok(Request::Diff {
+        kconfig: arg(alloc, matches, "KCONFIG")?,
+        dotconfig: arg(alloc, matches, "DOTCONFIG")?,
+        report_style: report_style(matches),
+    })
+}
+
+fn fixdep_request(alloc: Global, matches: &ArgMatches<'_>) -> Result<Request, AllocError>
+    ensures { IfOk result (IsRequestOf (codes "fixdep") (rows_of (found_of matches.now))) }
+{
+    Ok(Request::Fixdep {
+        depfile: arg(alloc, matches, "DEPFILE")?,
+        target: arg(alloc, matches, "TARGET")?,
+        command: arg(alloc, matches, "COMMAND")?,
+    })
+}
+
+fn record_request(alloc: Global, matches: &ArgMatches<'_>) -> Result<Request, AllocError>
+    ensures { IfOk result (IsRequestOf (codes "record") (rows_of (found_of matches.now))) }
+{
+    Ok(Request::Record {
+        depfile: arg(alloc, matches, "DEPFILE")?,
+        target: arg(alloc, matches, "TARGET")?,
+        command: arg(alloc, matches, "COMMAND")?,
+        after: chosen(
+            matches,
+            "remove-depfile",
+            DepfileAfter::Removed,
+            DepfileAfter::Kept,
+        ),
+    })
+}
+
+fn depfile_request(alloc: Global, matches: &ArgMatches<'_>) -> Result<Request, AllocError>
+    ensures { IfOk result (IsRequestOf (codes "depfile") (rows_of (found_of matches.now))) }
+{
+    Ok(Request::Depfile {
+        header: optional_arg(alloc, matches, "SUFFIX")?,
+        depfile: arg(alloc, matches, "DEPFILE")?,
+        target: arg(alloc, matches, "TARGET")?,
+        command: arg(alloc, matches, "COMMAND")?,
+    })
+}
+
+fn outdated_request(alloc: Global, matches: &ArgMatches<'_>) -> Result<Request, AllocError>
+    ensures { IfOk result (IsRequestOf (codes "outdated") (rows_of (found_of matches.now))) }
+{
+    Ok(Request::Outdated {
+        target: arg(alloc, matches, "TARGET")?,
+        command: arg(alloc, matches, "COMMAND")?,
+    })
+}
+
+fn impact_request(alloc: Global, matches: &ArgMatches<'_>) -> Result<Request, AllocError>
+    ensures { IfOk result (IsRequestOf (codes "impact") (rows_of (found_of matches.now))) }
+{
+    Ok(Request::Impact {
+        kconfig: arg(alloc, matches, "KCONFIG")?,
+        dotconfig: arg(alloc, matches, "DOTCONFIG")?,
+        targets: targets(alloc, matches)?,
+        format: format(matches),
+    })
+}
+
+/// The number of the argument `id`, where it is there. `clap` takes no other word for it.
+fn number(matches: &ArgMatches<'_>, id: &str) -> Option<u64>
+    ensures { IsNumberOf (one_of id.now (rows_of (found_of matches.now))) result }
+{
+    matches.get_one(id)
+}
+
+fn users_request(alloc: Global, matches: &ArgMatches<'_>) -> Result<Request, AllocError>
+    ensures { IfOk result (IsRequestOf (codes "users") (rows_of (found_of matches.now))) }
+{
+    Ok(Request::Users {
+        symbols: all_args(alloc, matches, "SYMBOL")?,
+        targets: targets(alloc, matches)?,
+    })
+}
+
+fn cost_request(alloc: Global, matches: &ArgMatches<'_>) -> Result<Request, AllocError>
+    ensures { IfOk result (IsRequestOf (codes "cost") (rows_of (found_of matches.now))) }
+{
+    Ok(Request::Cost {
+        top: number(matches, "N"),
+        targets: targets(alloc, matches)?,
+    })
+}
+
+/// What `explain` says: the page of the error that its word names, unless memory is refused.
+fn page_asked(alloc: Global, matches: &ArgMatches<'_>) -> WordsError
+    ensures { IsPageReported (arg_at (codes "NUMBER") (rows_of (found_of matches.now))) result }
+{
+    match HelpText::of_error(alloc, text_of(matches, "NUMBER")) {
+        Ok(help) => WordsError::Refused(help),
+        Err(_) => WordsError::OutOfMemory,
+    }
+}
+
+/// The request of the command `name` with these matches, where `clap` let that name through.
+fn request_named(alloc: Global, name: &str, matches: &ArgMatches<'_>) -> Result<Request, AllocError>
+    requires { name.now ≢ codes "explain" }
+    ensures { IfOk result (IsRequestOf name.now (rows_of (found_of matches.now))) }
+{
+    match name {
+        "sync" => sync_request(alloc, matches),
+        "preview" => preview_request(alloc, matches),
+        "diff" => diff_request(alloc, matches),
+        "fixdep" => fixdep_request(alloc, matches),
+        "record" => record_request(alloc, matches),
+        "depfile" => depfile_request(alloc, matches),
+        "outdated" => outdated_request(alloc, matches),
+        "batch" => Ok(Request::Batch {
+            script: arg(alloc, matches, "SCRIPT")?,
+        }),
+        "why" => Ok(Request::Why {
+            targets: targets(alloc, matches)?,
+            format: format(matches),
+        }),
+        "impact" => impact_request(alloc, matches),
+        "backdate" | "age" => Ok(Request::Backdate {
+            which: chosen(
+                matches,
+                "unrecorded",
+                BackdateScope::Unrecorded,
+                BackdateScope::Recorded,
+            ),
+            targets: targets(alloc, matches)?,
+        }),
+        "users" => users_request(alloc, matches),
+        "cost" => cost_request(alloc, matches),
+        _ => Ok(Request::Stale {
+            targets: targets(alloc, matches)?,
+            format: format(matches),
+        }),
+    }
+}
+
+/// What the command `name` with these matches asks for: a request, or the page of an error in its place.
+#[tactic(auto, using(crate::proofs::ArgLemmas::page_named, crate::proofs::ArgLemmas::page_report_style))]
+fn asked(alloc: Global, name: &str, matches: &ArgMatches<'_>) -> Result<Request, WordsError>
+    ensures made { IfOk result (IsRequestOf name.now (rows_of (found_of matches.now))) }
+    ensures page { IfErr result (IsPageNamed name.now (rows_of (found_of matches.now))) }
+    ensures report_style { IfErr result HasText }
+{
+    if name == "explain" {
+        return Err(page_asked(alloc, matches));
+    }
+    Ok(request_named(alloc, name, matches)?)
+}
+
+/// The request that the words after the program's name make. A word that begins with `-` is taken after `--`.
+pub fn request_of<'a>(alloc: Global, args: &'a [&'a str]) -> Result<Request, WordsError>
+    ensures exact { IfOk result (λ r. Makes (texts args.entry.now) r) }
+    ensures taken { IfErr result (λ e. takes command_line_app (texts args.entry.now) ≡ true → IsTakenAs (texts args.entry.now) e) }
+    ensures fault { IfErr result (IsReason (texts args.entry.now)) }
+    ensures report_style { IfErr result HasText }
+    ensures batch { IfOk result (λ r. (p : List ℕ) → texts args.entry.now ≡ codes "batch" ∷ p ∷ []
+        → IsPlainArg p → IsBatchOf p r) }
+    ensures preview { IfOk result (λ r. (k d : List ℕ)
+        → texts args.entry.now ≡ codes "preview" ∷ k ∷ d ∷ []
+        → IsPlainArg k → IsPlainArg d → IsPreviewOf k d None r) }
+{
+    let command = command_line(alloc)?;
+    let matches = match command.try_get_matches_from(args) {
+        Ok(matches) => matches,
+        Err(error) => return Err(refused(alloc, &error)),
+    };
+    match matches.subcommand() {
+        Some((name, inner)) => asked(alloc, name, inner),
+        // `clap` refuses words without a command itself.
+        None => unreachable!(),
+    }
+}

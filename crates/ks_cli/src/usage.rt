@@ -1,0 +1,374 @@
+//! What each command is for and which words it takes: the table of which the command line and its help are made.
+
+/// What the program is for.
+pub(crate) const ABOUT: &str =
+    "Which objects of a kernel build are stale after a change of .config";
+
+/// How the program is called.
+pub(crate) const USAGE: &str =
+    "confstamp [-C DIR]... [--begin] [--dialect NAME] [--wait SECONDS] <COMMAND>";
+
+/// What holds for all commands.
+pub(crate) const AFTER_HELP: &str = "\
+Files are looked up in the current directory, or below DIR of -C DIR in front of the command.
+--begin lets a sync begin its numbers again, where files hold some and auto.conf has no generation.
+--dialect says in whose words sources and Kconfigs are read: linux, as without it, u-boot, busybox or coreboot.
+--wait tries again for SECONDS seconds where another confstamp is at work in the directory.
+A word that begins with - is taken after --.
+
+Exit status:
+  0    done, and nothing is stale
+  1    some object is stale, or was built by another command; of diff --exit-code and --quiet, a symbol differs
+  2    something was refused, or the words are no command
+  65   numbers would be lost, so nothing was done
+  75   another confstamp is at work in the directory, so nothing was done
+  141  nobody reads the output any more; all else is done
+
+A refusal is told by its number and its name, and by its place where it has one (confstamp explain NUMBER says more):
+  Kconfig       1 NotBare, 2 BadName, 3 ModuleName, 4 NoType, 5 TypeClash, 6 BadTitle
+  .config       7 NotAConfigLine, 8 BadValue
+  any file      9 TooLarge, 40 MissingFile
+  auto.conf     11 BadAuto, 41 NeverSynced, 42 GenerationFull
+  DEPFILE       20 NoTarget, 21 BadPath; token 0 is a word of the command line
+  COMMAND       22 BadCommand
+  command file  23 BadCommandFile
+  stamp         31 BadStamp
+  SCRIPT        50 BadScript
+  the system    10 OutOfMemory, 30 Device, 51 Output";
+
+/// How a word may stand.
+#[derive(Clone, Copy)]
+pub(crate) enum NumArgs {
+    Once,
+    AtMostOnce,
+    AnyNumber,
+    /// After the option of this name, at most once.
+    Following(&'static str),
+    /// It is an option itself, of its own name, and no word stands after it.
+    Flag,
+    AtLeastOnce,
+    /// After the option of this name, once.
+    OnceAfter(&'static str),
+    /// A number after the option of this name, at most once.
+    NumberAfter(&'static str),
+}
+
+/// A word after a command.
+#[derive(Clone, Copy)]
+pub(crate) struct ArgUsage {
+    pub(crate) name: &'static str,
+    pub(crate) num_args: NumArgs,
+    pub(crate) help: &'static str,
+}
+
+/// A command. Its notes say what it prints, and give an example.
+#[derive(Clone, Copy)]
+pub(crate) struct Usage {
+    pub(crate) name: &'static str,
+    pub(crate) about: &'static str,
+    pub(crate) args: &'static [ArgUsage],
+    /// How it is called, where `clap` would not say so. Without any word it is told how.
+    pub(crate) override_usage: Option<&'static str>,
+    pub(crate) after_help: &'static str,
+}
+
+// The words that several commands take. A word of one command alone stands in its row of the table.
+
+const KCONFIG: ArgUsage = ArgUsage {
+    name: "KCONFIG",
+    num_args: NumArgs::Once,
+    help: "The Kconfig file: the title, and each symbol with its kind",
+};
+
+const DOTCONFIG: ArgUsage = ArgUsage {
+    name: "DOTCONFIG",
+    num_args: NumArgs::Once,
+    help: "The .config file: what the symbols are set to",
+};
+
+const DEPFILE: ArgUsage = ArgUsage {
+    name: "DEPFILE",
+    num_args: NumArgs::Once,
+    help: "The dependency file that the compiler wrote with -MD",
+};
+
+const TARGET: ArgUsage = ArgUsage {
+    name: "TARGET",
+    num_args: NumArgs::Once,
+    help: "The object; the command file of d/x.o is d/.x.o.cmd",
+};
+
+const TARGETS: ArgUsage = ArgUsage {
+    name: "TARGET",
+    num_args: NumArgs::AnyNumber,
+    help: "The objects; the command file of d/x.o is d/.x.o.cmd",
+};
+
+const FROM: ArgUsage = ArgUsage {
+    name: "FILE",
+    num_args: NumArgs::Following("from"),
+    help: "A file with further objects, one a line; they come after the others, and empty lines are skipped",
+};
+
+const JSON: ArgUsage = ArgUsage {
+    name: "json",
+    num_args: NumArgs::Flag,
+    help: "Print a line of JSON for each object: its target, its verdict and the causes",
+};
+
+const UNRECORDED: ArgUsage = ArgUsage {
+    name: "unrecorded",
+    num_args: NumArgs::Flag,
+    help: "Backdate objects without a command file or without a number too",
+};
+
+const COMMAND: ArgUsage = ArgUsage {
+    name: "COMMAND",
+    num_args: NumArgs::Once,
+    help: "The command line that builds the object, as one word",
+};
+
+pub(crate) const USAGES: &[Usage] = &[
+    Usage {
+        name: "sync",
+        about: "Write auto.conf, the header and the stamps of all symbols that changed",
+        args: &[
+            ArgUsage {
+                name: "stamps",
+                num_args: NumArgs::Flag,
+                help: "Make the missing stamp of each symbol of KCONFIG too, empty, so that a build can list them all",
+            },
+            KCONFIG,
+            DOTCONFIG,
+        ],
+        override_usage: Some("confstamp sync [--stamps] <KCONFIG> <DOTCONFIG>"),
+        after_help: "\
+Prints the generation, touch NAME for each stamp, and how many lines name an unknown symbol.
+
+Example: confstamp sync Kconfig .config",
+    },
+    Usage {
+        name: "preview",
+        about: "Show what sync would touch, and the auto.conf that it would write",
+        args: &[
+            KCONFIG,
+            DOTCONFIG,
+            ArgUsage {
+                name: "OLDAUTO",
+                num_args: NumArgs::AtMostOnce,
+                help: "The auto.conf to start from; without it, as if nothing had been synchronised yet",
+            },
+        ],
+        override_usage: None,
+        after_help: "\
+Prints touch NAME for each stamp, then auto.conf. Writes no file.
+
+Example: confstamp preview Kconfig .config include/config/auto.conf",
+    },
+    Usage {
+        name: "diff",
+        about: "Show what sync would touch, with the old and the new value of each symbol",
+        args: &[
+            ArgUsage {
+                name: "exit-code",
+                num_args: NumArgs::Flag,
+                help: "End with status 1 where a symbol differs",
+            },
+            ArgUsage {
+                name: "quiet",
+                num_args: NumArgs::Flag,
+                help: "Print nothing, and end with status 1 where a symbol differs",
+            },
+            KCONFIG,
+            DOTCONFIG,
+        ],
+        override_usage: Some("confstamp diff [--exit-code] [--quiet] <KCONFIG> <DOTCONFIG>"),
+        after_help: "\
+Prints NAME OLD -> NEW for each, n where a symbol has no value, and both kinds where the values are alike.
+To standard error goes unknown NAME for each line of DOTCONFIG that names no symbol of KCONFIG. Writes no file.
+
+Example: confstamp diff --exit-code Kconfig .config",
+    },
+    Usage {
+        name: "fixdep",
+        about: "Show the command file of an object, from the compiler's dependency file",
+        args: &[DEPFILE, TARGET, COMMAND],
+        override_usage: None,
+        after_help: "\
+Prints what record would write, but for its generation. Writes no file.
+
+Example: confstamp fixdep x.d x.o 'cc -c x.c'",
+    },
+    Usage {
+        name: "record",
+        about: "Write the command file of an object that was just built",
+        args: &[
+            ArgUsage {
+                name: "remove-depfile",
+                num_args: NumArgs::Flag,
+                help: "Remove DEPFILE once the object is recorded; refused, it stays",
+            },
+            DEPFILE,
+            TARGET,
+            COMMAND,
+        ],
+        override_usage: Some("confstamp record [--remove-depfile] <DEPFILE> <TARGET> <COMMAND>"),
+        after_help: "\
+Is run directly after the compiler. Prints the generation, and how many names were found.
+
+Example: confstamp record x.d x.o 'cc -c x.c'",
+    },
+    Usage {
+        name: "depfile",
+        about: "Record an object, and put the stamps of its names into its dependency file, for ninja",
+        args: &[
+            ArgUsage {
+                name: "SUFFIX",
+                num_args: NumArgs::Following("header"),
+                help: "The header of all symbols, by the end of its path; without it, include/generated/autoconf.h",
+            },
+            DEPFILE,
+            TARGET,
+            COMMAND,
+        ],
+        override_usage: Some("confstamp depfile [--header SUFFIX] <DEPFILE> <TARGET> <COMMAND>"),
+        after_help: "\
+Does what record does. Then it makes the missing stamps, empty, and leaves one rule in DEPFILE: without the header,
+and with the stamp of each name. Refused, it leaves DEPFILE as it was. Prints what record prints.
+
+Example: confstamp depfile x.d x.o 'cc -c x.c'",
+    },
+    Usage {
+        name: "stale",
+        about: "Say which objects have to be built again because the configuration changed",
+        args: &[TARGETS, FROM, JSON],
+        override_usage: Some("confstamp stale [--json] [--from FILE] [TARGET]..."),
+        after_help: "\
+Prints a line for each object: fresh, stale and why, or refused and why. One of the words is needed.
+
+Example: confstamp stale x.o y.o",
+    },
+    Usage {
+        name: "why",
+        about: "Say which objects are stale, and list every symbol that changed since each was built",
+        args: &[TARGETS, FROM, JSON],
+        override_usage: Some("confstamp why [--json] [--from FILE] [TARGET]..."),
+        after_help: "\
+Prints the lines of stale, and below an object NAME generation N PLACE for each symbol: when it changed, and where
+it was found; or recorded as PATH, where that is another spelling of its path. One of the words is needed.
+
+Example: confstamp why x.o y.o",
+    },
+    Usage {
+        name: "impact",
+        about: "Say which objects would have to be built again after a sync",
+        args: &[KCONFIG, DOTCONFIG, TARGETS, FROM, JSON],
+        override_usage: Some(
+            "confstamp impact [--json] [--from FILE] <KCONFIG> <DOTCONFIG> [TARGET]...",
+        ),
+        after_help: "\
+Prints what stale would print after sync KCONFIG DOTCONFIG, and N of M stale to standard error. Writes no file.
+
+Example: confstamp impact Kconfig .config x.o y.o",
+    },
+    Usage {
+        name: "backdate",
+        about: "Say which objects are stale, and backdate them, so that make builds them whatever their times",
+        args: &[UNRECORDED, TARGETS, FROM],
+        override_usage: Some("confstamp backdate [--unrecorded] [--from FILE] [TARGET]..."),
+        after_help: "\
+Prints the lines of stale. The file of an object that is stale by its record gets the first second of 1970 as its
+time, and keeps its bytes. One of the words is needed.
+
+Example: confstamp backdate --from objects",
+    },
+    Usage {
+        name: "age",
+        about: "The old name of backdate, which the next release takes no longer",
+        args: &[UNRECORDED, TARGETS, FROM],
+        override_usage: Some("confstamp age [--unrecorded] [--from FILE] [TARGET]..."),
+        after_help: "\
+Does what backdate does. One of the words is needed.
+
+Example: confstamp age --from objects",
+    },
+    Usage {
+        name: "batch",
+        about: "Run the commands of a script, one after the other",
+        args: &[ArgUsage {
+            name: "SCRIPT",
+            num_args: NumArgs::Once,
+            help: "A file with a command sync, record or stale on each line; empty lines and those that begin with # are skipped",
+        }],
+        override_usage: None,
+        after_help: "\
+Prints a line for each command of the script. A refused one does not end it.
+
+Example: confstamp batch steps",
+    },
+    Usage {
+        name: "outdated",
+        about: "Say whether an object was built by another command, or is stale",
+        args: &[TARGET, COMMAND],
+        override_usage: None,
+        after_help: "\
+Prints command-differs after the object, or what stale prints.
+
+Example: confstamp outdated x.o 'cc -c x.c'",
+    },
+    Usage {
+        name: "users",
+        about: "Say which objects name a symbol, so that a change of it makes them stale",
+        args: &[
+            ArgUsage {
+                name: "FILE",
+                num_args: NumArgs::OnceAfter("from"),
+                help: "A file with the objects, one a line; empty lines are skipped",
+            },
+            ArgUsage {
+                name: "SYMBOL",
+                num_args: NumArgs::AtLeastOnce,
+                help: "The symbols, with or without CONFIG_ in front",
+            },
+        ],
+        override_usage: Some("confstamp users --from FILE <SYMBOL>..."),
+        after_help: "\
+Prints OBJECT SYMBOL PLACE for each, with the first file that mentions the symbol, and N of M objects to standard
+error. Looks at each object once, and at command files alone.
+
+Example: confstamp users --from objects PRINTK",
+    },
+    Usage {
+        name: "cost",
+        about: "Say how many objects name each symbol, so that a change of it makes them stale",
+        args: &[
+            TARGETS,
+            FROM,
+            ArgUsage {
+                name: "N",
+                num_args: NumArgs::NumberAfter("top"),
+                help: "Print the N dearest symbols alone",
+            },
+        ],
+        override_usage: Some("confstamp cost [--from FILE] [--top N] [TARGET]..."),
+        after_help: "\
+Prints SYMBOL N for each, the dearest first. Looks at each object once, and at command files alone. One of the words
+is needed.
+
+Example: confstamp cost --from objects --top 20",
+    },
+    Usage {
+        name: "explain",
+        about: "Say what an error means, with an example, and what to do",
+        args: &[ArgUsage {
+            name: "NUMBER",
+            num_args: NumArgs::AtMostOnce,
+            help: "The number of the error, or its name; without it, the mistake is told with all that there are",
+        }],
+        override_usage: None,
+        after_help: "\
+Reads and writes no file.
+
+Example: confstamp explain 41",
+    },
+];

@@ -1,7 +1,0 @@
-use Rattle.ks_commands.proofs.Prelude.{◌∙◌, ◌++◌, ap, option_map}
-use Rattle.ks_commands.specs.Spelling.{spelling_line}
-use Rattle.ks_commands.proofs.questions.write_spelled.Goals as goal
-
-pub returns-clause-lines : goal.returns-clause-lines
-returns-clause-lines c =
-    c.in_ok-write_spelling.ensures ∙ ap (λ l. l ++ spelling_line (option_map (λ v. v.items) c.args.told.now.spelling)) c.in_ok-status.ensures.lines

@@ -1,0 +1,3 @@
+mod GlobalOptionsLemmas
+mod Generations
+mod Starting

@@ -1,3 +1,0 @@
-mod FrontLemmas
-mod Generations
-mod Starting

@@ -1,8 +1,0 @@
-use Rattle.ks_symbols.proofs.Prelude.{◌≡◌, ◌+◌, ◌-◌, ◌≤◌, length, drop, prefix_len, is_no_blank}
-use Rattle.ks_symbols.proofs.forms.split_blank.Given as goal
-
-abbrev pub invariant-loop-end : goal.invariant-loop-end
-invariant-loop-end l = (l.end ≤ length l.text) × (l.end + prefix_len is_no_blank (drop l.end l.text) ≡ prefix_len is_no_blank l.text)
-
-abbrev pub decreases-loop-end : goal.decreases-loop-end
-decreases-loop-end l = length l.text - l.end

@@ -1,4 +1,0 @@
-pub mod Prelude
-pub mod RuleLemmas
-pub mod WordLemmas
-pub mod Told

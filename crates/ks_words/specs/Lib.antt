@@ -1,4 +1,0 @@
-pub mod CommandLine
-pub mod Words
-pub mod Meaning
-pub mod Laws

@@ -114,7 +114,7 @@ fn begins_as_switch(text: &[u8]) -> bool
 }
 
 /// The entry of a y or an m that a text begins with, if it does: the name, its text, and what follows the line.
-#[inline]
+#[inline(always)]
 pub(crate) fn split_switch(text: &[u8]) -> Option<(&[u8], &[u8], &[u8])>
     ensures { IfSome result (λ e. remarks text.now ≡ Gives e.0.now e.1.now ∷ remarks e.2.now) }
 {

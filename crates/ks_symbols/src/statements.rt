@@ -42,7 +42,7 @@ pub fn split_word(text: &[u8]) -> (&[u8], &[u8])
 
 /// The same of what stands behind the `CONFIG_` of a line. It is a part of the word that the line begins with, so of most lines
 /// there are bytes enough for many to be looked at at once.
-#[inline]
+#[inline(always)]
 fn split_entry(line: &[u8]) -> (&[u8], &[u8])
     requires { IsTrue (starts_with nat_eq line.now (codes "CONFIG_")) }
     ensures word { result.0.now ≡ take_while is_word_byte (drop 7 line.now) }
@@ -53,7 +53,7 @@ fn split_entry(line: &[u8]) -> (&[u8], &[u8])
     (&line[7..end], &line[end..])
 }
 
-#[inline]
+#[inline(always)]
 #[tactic(auto, unfolding(crate::specs::Statements::assignment))]
 fn assignment(line: &[u8]) -> Option<Statement<'_>>
     requires { IsTrue (starts_with nat_eq line.now (codes "CONFIG_")) }
@@ -80,7 +80,7 @@ fn unsetting(text: &[u8]) -> Option<Statement<'_>>
 }
 
 /// What a line, without its end, says of a symbol, if it is one of the two.
-#[inline]
+#[inline(always)]
 #[tactic(auto, unfolding(crate::specs::Statements::statement))]
 pub fn parse_statement(line: &[u8]) -> Option<Statement<'_>>
     ensures { option_map seen_statement result ≡ statement line.now }

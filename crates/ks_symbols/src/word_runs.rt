@@ -55,7 +55,7 @@ fn short_word_end(text: &[u8]) -> usize
 }
 
 /// How many bytes at the front are word bytes, of which so many are known.
-#[inline]
+#[inline(always)]
 pub(crate) fn word_end(text: &[u8], known: usize) -> usize
     requires fits { known ≤ length text.now }
     requires passes { IsTrue (list_all is_word_byte (take known text.now)) }

@@ -93,7 +93,7 @@ install_tool() {
     command -v "$1" > /dev/null
 }
 
-# The run is written in the temporary directory, so that one which is broken off leaves nothing.
+# The run is written in the temporary directory, so that one which is interrupted leaves nothing.
 start_run() {
     cut -d ' ' -f 1-3 /proc/loadavg > "$work/load"
     run=$work/run

@@ -30,8 +30,8 @@ report() {
     echo "kbuild/${0##*/}: $*" >&2
 }
 
-# use_dialect DIALECT: the project of the tree. In BusyBox's the tool has fixed places for .config and for the list of the
-# Kconfig files that it has read.
+# use_dialect DIALECT: the project of the tree. BusyBox's tool has fixed paths for .config and for the list of the Kconfig
+# files that it has read.
 use_dialect() {
     dialect=$1
     config=${KCONFIG_CONFIG:-.config}
@@ -85,7 +85,7 @@ make_work_directory() {
     trap 'exit 2' HUP INT TERM
 }
 
-# find_there WORD..: find. What is gone meanwhile, as beside a make, is no failure; all else is told, and has status 1.
+# find_there WORD..: find. What is gone meanwhile, as beside a make, is no failure; all else is reported, and has status 1.
 find_there() {
     ended=0
     { complaints=$(find "$@" 2>&1 >&3) || ended=$?; } 3>&1
@@ -97,7 +97,7 @@ find_there() {
     return 1
 }
 
-# list_targets DIR..: $tmpdir/targets has what was recorded there. Where that is nothing the hook ends.
+# list_targets DIR..: writes what was recorded there to $tmpdir/targets. If that is nothing, the hook ends.
 list_targets() {
     "$here/objects" "$@" > "$tmpdir/targets"
     if [ ! -s "$tmpdir/targets" ]; then
@@ -110,8 +110,8 @@ nothing_here() {
     report "nothing was recorded below ${*:-.}: run it in the directory where make runs"
 }
 
-# recorded DIR..: of what was recorded `targets` has what is there, and `answers` what isn't. And objects that nothing was
-# recorded of are targets: hidden ones are steps of the link of vmlinux, which make takes no record of.
+# recorded DIR..: writes the recorded objects that exist to `targets`, the others to `answers`. Objects that were never recorded
+# are targets too, except hidden ones, which are steps of the link of vmlinux, and which make doesn't record.
 recorded() {
     "$here/objects" "$@" > "$tmpdir/recorded"
     while read -r target; do
@@ -169,7 +169,7 @@ undeclared() {
     ' "$1" "$config"
 }
 
-# Was the last synchronisation one by the hooks? Linux's own tool writes auto.conf.cmd first of all, without the mark, and then
+# Did the hooks make the last synchronisation? Linux's own tool writes auto.conf.cmd first, without the mark, and then
 # empties stamps; auto.conf comes last. BusyBox's own tools leave auto.conf as it was, but their split-include empties each header
 # in include/config that is no symbol's. Where the hooks call it they write theirs anew.
 synchronised() {
@@ -185,7 +185,7 @@ synchronised() {
     esac
 }
 
-# A program of an earlier edition can't wait for another one in its directory.
+# A program of an earlier version can't wait for another one in its directory.
 knows_wait() {
     case $("$confstamp" --help) in
     *--wait*) ;;
@@ -193,8 +193,8 @@ knows_wait() {
     esac
 }
 
-# patiently TOLD WORD..: the program, with its standard error in TOLD. Where another one is at work in this directory (status 75) it waits
-# ten seconds for that.
+# patiently MESSAGES ARG..: runs the program, with its standard error in MESSAGES. If another confstamp is at work in this directory
+# (status 75), it waits for ten seconds.
 patiently() {
     messages=$1
     shift
@@ -215,10 +215,11 @@ age_files() {
     tr '\n' '\0' | TZ=UTC0 xargs -0 -r touch -c -t 197001010000.01
 }
 
-# mark_due DIRECTORY RECORDED [symbol]: of DIRECTORY/targets each object that is stale, that is refused, or that has no number is due; with
-# `symbol` only what is stale by one. Its command file gets lines that say the stamp of its symbol in place of the saved command, so
-# make compiles it, whatever any clock said, and V=2 says why. The record of that has no such line. DIRECTORY/answers are those of all.
-# `directories` are those of what was recorded, and those above them. Status 1 where an answer is missing, or the system fails.
+# mark_due DIRECTORY RECORDED [symbol]: marks each object of DIRECTORY/targets that is stale, is refused, or has no number as due; with
+# `symbol` only those that are stale by a symbol. In a command file that is marked, lines with the stamp of the symbol replace the saved
+# command, so make compiles the object whatever its mtime, and V=2 says why. The next record has no such line. The answers about all
+# are in DIRECTORY/answers. `directories` are those of recorded objects, and those above them. Status 1: an answer is missing, or the
+# system fails.
 mark_due() {
     : > "$1/answers"
     [ ! -s "$1/targets" ] || patiently "$1/messages" stale --from "$1/targets" > "$1/answers" || :
@@ -254,8 +255,8 @@ mark_due() {
     done < "$1/due"
 }
 
-# mark_commands STAMP FILE..: in these command files. A mark that is there goes. None is written into, since it may be a file of
-# another tree as well.
+# mark_commands STAMP FILE..: marks these command files, and removes earlier marks. Each file is replaced and not written into, since it
+# may be a file of another tree as well (a hard link).
 mark_commands() {
     stamp=$1
     shift
@@ -266,8 +267,8 @@ mark_commands() {
     }" "$@"
 }
 
-# age_to_come DIRECTORY RECORDED: what has a time to come would look newer than what it is made of, once make has written that. So
-# what make links or packs gets a time before all others. Such products stand in one of `directories`, beside what was recorded or above
+# age_to_come DIRECTORY RECORDED: a product with a future mtime would look newer than what make writes from now on. So what make
+# links or packs is backdated. Such products stand in one of `directories`, beside what was recorded or above
 # it, and have a command file. BusyBox itself has none.
 age_to_come() {
     : > "$1/now"
@@ -290,7 +291,7 @@ age_to_come() {
 }
 
 # tools_to_come DIRECTORY: a tool that has a makefile of its own, as Linux's objtool, is made of objects that nobody records. As long as
-# one has a time to come each make links the tool anew, and compiles what depends on it. So such an object gets the time of its
+# one has a future mtime each make links the tool anew, and compiles what depends on it. So such an object gets the time of its
 # command file, which was written behind it, or that of the tool.
 tools_to_come() {
     for tool in tools/objtool/objtool tools/bpf/resolve_btfids/resolve_btfids; do
@@ -304,8 +305,8 @@ tools_to_come() {
     done
 }
 
-# bring_to_now DIRECTORY: an object of DIRECTORY/ahead is fresh, but make may be about to write a file that it is made of, as the
-# packed kernel of the boot code. So it gets the present time. Where such a file has a time to come as well make would compile
+# bring_to_now DIRECTORY: an object of DIRECTORY/ahead is fresh, but make may be about to write a file that it is made of, such as
+# the packed kernel of the boot code. So it gets the present time. Where such a file has a future mtime as well make would compile
 # the object each time until then, so it keeps its own.
 bring_to_now() {
     sed 's,[^/]*$,.&.cmd,' "$1/ahead" | tr '\n' '\0' | xargs -0 awk '
@@ -343,7 +344,7 @@ time_of() {
     listing "$1" 2> /dev/null | cut -d ' ' -f 1
 }
 
-# The witness is a file that says its own time, so whoever finds it elsewhere knows whether times came along. In a file system without
+# The witness is a file that holds its own mtime, so where it was copied to one can see whether mtimes were kept. In a file system without
 # times to less than a second it says another one. One that is wrong stays so until kbuild/restore has mended the times.
 leave_witness() {
     touch "$clock_ref.now" && time_of "$clock_ref.now" | sed 's/\.0*$/.5/' > "$clock_ref.tmp" &&
@@ -369,8 +370,8 @@ difference_of_config() {
     fi
 }
 
-# by_directory ANSWERS: a table of the directories in which something is stale: how many of how many objects, and of the symbols that
-# they are stale by the three most frequent ones. The directory with the most comes first.
+# by_directory ANSWERS: prints a table of the directories with stale objects: how many are stale, of how many, and the three symbols that
+# most of them are stale by. The directory with the most comes first.
 by_directory() {
     awk '
         /^ / { next }
@@ -394,7 +395,7 @@ by_directory() {
     '
 }
 
-# makefiles_of_targets: those of the directories of `targets`, and of the directories above them.
+# makefiles_of_targets: the makefiles of the directories of `targets`, and of those above them.
 makefiles_of_targets() {
     awk '{ directory = "./" $0; while (sub(/\/[^\/]*$/, "", directory)) if (!seen[directory]++) print directory }' "$tmpdir/targets" |
         while read -r directory; do

@@ -1,6 +1,6 @@
 # SPDX-License-Identifier: Apache-2.0 OR MIT
 # The part of confstamp's hooks that make reads. kbuild/install-hooks puts the lines that include it into a kernel tree, and
-# each of these names into one place of the tree's own makefiles. Where this file isn't found the names are empty,
+# each of these names in one place of the tree's own makefiles. Where this file isn't found the names are empty,
 # and the kernel's own tools do the work.
 
 # The program that was installed with the hooks, or the one in PATH.
@@ -17,8 +17,8 @@ confstamp-prefix = $(if $(findstring savedcmd_,$(value cmd-check)),,cmd_)
 confstamp-elsewhere = $(filter-out . $(CURDIR),$(objtree))
 confstamp-named = $(if $(confstamp-elsewhere),$(abspath $(1)),$(1))
 
-# CONFSTAMP_VERIFY says that each record is held against the project's own fixdep, and each synchronisation against its own
-# conf. In a tree whose edition was not tried it is so until a make of all has ended well.
+# With CONFSTAMP_VERIFY each record is compared with the project's own fixdep, and each synchronisation with its own conf. In a
+# tree whose version was not tried, so it is until a make of all has ended well.
 confstamp-verified = $(if $(confstamp-elsewhere),$(confstamp-elsewhere)/)include/config/confstamp.verified-all
 ifndef CONFSTAMP_VERIFY
 ifeq ($(confstamp-untried)$(wildcard $(confstamp-verified)),yes)
@@ -27,10 +27,10 @@ endif
 endif
 confstamp-verifies = $(filter-out 0 no,$(CONFSTAMP_VERIFY))
 
-# In front of the kernel's own fixdep stands a function of the shell, so the words of fixdep are its own, and the command's text
+# In front of the kernel's own fixdep stands a function of the shell, so the arguments of fixdep are its own, and the command's text
 # stands once. fixdep runs only where what stands before it has failed. The program comes first, since a shell for each object
 # costs more than the record; it removes the dependency file itself, and the recipe ends there, without the process by which Kbuild
-# would. Of the editions with cmd_T autoksyms.h has to be left out of the dependency file before the record, where it is in use; the
+# would. Of the versions with cmd_T autoksyms.h has to be left out of the dependency file before the record, where it is in use; the
 # hook does that. Where the hook says that fixdep has found another name, with status 3, the recipe ends.
 confstamp-record = $(confstamp-begin)confstamp_fixdep() { $(if $(confstamp-by-hook),,$(confstamp-directly) ||) $(confstamp-hook) \
 	"$$2" "$$3" "$$4" $(confstamp-prefix) || $(if $(confstamp-verifies),{ [ $$? != 3 ] || exit 1; false; } ||) "$$@"; }; \
@@ -43,8 +43,8 @@ confstamp-directly = { $(CONFSTAMP) record --remove-depfile -- "$$2" "$$3" "$$4"
 	$(if $(confstamp-prefix),&& echo 'cmd_$@ := $$(savedcmd_$@)' >> $(confstamp-command-file)) && exit; }
 
 # In the makefiles of U-Boot and BusyBox the command file is written aside, and moved to its place behind the call of fixdep; in
-# those of Xen it isn't. The sources are scanned by the project's own words, and own-stamps.sed adds what its own tools would
-# look for. Xen's words are those of Linux, which U-Boot's are with more, and its conf is as old as U-Boot's.
+# those of Xen it isn't. The sources are scanned for the project's own patterns, and own-stamps.sed adds what its own tools
+# would look for. Xen's patterns are those of Linux, U-Boot has more, and Xen's conf is as old as U-Boot's.
 ifdef confstamp-dialect
 confstamp-stripped = $(@D)/.$(@F).$(if $(confstamp-in-place),cmd.)tmp
 confstamp-directly = { $(CONFSTAMP) $(confstamp-dialect) record -- "$$2" "$$3" "$$4" > /dev/null 2>&1 \
@@ -128,9 +128,9 @@ confstamp-rules :=
 endif
 confstamp-never = $(error confstamp has synchronised $(MAKE_RESTARTS) times, and $(confstamp-config) still isn't what was synchronised)
 
-# kbuild/restore wants to know whether the last make of the whole ended well. Where one begins this file says `begun`, and at its
-# end `ended`, unless make was told to pass over errors. A make of some goals alone turns `ended` into `part`. The recipe comes out
-# empty, so no process is started. Behind the word stands this directory. Where that is another one the tree may be a copy by hard
+# kbuild/restore needs to know whether the last make of all ended well. When one begins, this file gets the word `begun`, and at its
+# end `ended`, unless make ignores errors. A make of some goals alone turns `ended` into `part`. The recipe is empty, so no process
+# is started. This directory stands after the word. Where that is another one the tree may be a copy by hard
 # links, and what is written into here must not be a file of the other tree.
 confstamp-make-mark = include/config/confstamp.make
 ifndef confstamp-whole
@@ -174,19 +174,19 @@ export CONFSTAMP_MARKED := $(KBUILD_EXTMOD)
 $(if $(KBUILD_EXTMOD),$(confstamp-mark-due))
 endif
 
-# What is due says a stamp in place of its saved command. make takes that for a newer file: with V=2 it names it, and with
+# In the command file of what is due a stamp replaces the saved command. make takes it for a newer file: with V=2 it names it, and with
 # KBUILD_NOCMDDEP=1, where no command counts, it compiles the object even so. BusyBox has a word for commands alone.
 confstamp-pending = $(if $(word 2,$(savedcmd_$@)),,$(filter-out $?,$(filter include/config/%,$(savedcmd_$@))))
 $(foreach word,newer-prereqs any-prereq arg-check,$(eval $(word) = $(value $(word))$$(confstamp-pending)))
 
 # kbuild/stale --make asks what make would do, by make -n. Recipes that begin with `+` run even then, and the link of vmlinux and
-# of modules does, and rustc. So no recipe is left. Of each target that make comes to, lines are told:
+# of modules does, and rustc. So no recipe is left. Of each target that make comes to, lines are reported:
 #   - confstamp-visited: its name,
 #   - confstamp-rebuild: of an object with a list of dependencies that isn't up to date, its command as a word of the shell, and
-#     the files that make takes for newer. Of what make would write anew it takes all for newer;
+#     the files that make takes for newer. It takes all for newer of what it would rewrite;
 #   - confstamp-linked: of what is made of other files whether its command differs, and these files. vmlinux is an object of
 #     both kinds. BusyBox links without a saved command, each time, so what counts there is these files;
-#   - confstamp-text: a text that would come out otherwise. The commands that print it run, since that is what says so.
+#   - confstamp-text: a text that would come out otherwise. The commands that print it run, since they show it.
 # A line that has $(MAKE) in it runs as well, and in Linux 6.1 one of them writes autoksyms.h and include/ksym/, so it gets a
 # shell that does nothing.
 ifdef CONFSTAMP_ASKS

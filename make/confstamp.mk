@@ -1,6 +1,6 @@
 # SPDX-License-Identifier: Apache-2.0 OR MIT
-# confstamp.mk: lets a makefile compile by symbol. For a build whose sources all include one header of all symbols, and that has
-# no fixdep. docs/make.md tells how it is used; examples/make-fragment is a makefile that does.
+# confstamp.mk: has a makefile rebuild only what mentions a changed symbol. For a build whose sources all include one header of all
+# symbols, and that has no fixdep. docs/make.md says how it is used; examples/make-fragment is a makefile that does.
 #
 # Before the line that includes it the makefile may set
 #
@@ -11,8 +11,8 @@
 #     confstamp-header      the header, where the project's own tool writes it (include/generated/autoconf.h of that directory)
 #     confstamp-maker       the target whose recipe writes these files, where the project's own tool has a part in it
 #     confstamp-inputs      what it makes them from: a change of their text is seen, whatever their time
-#     confstamp-dialect     whose words the sources have, where they have more than CONFIG_X: u-boot, busybox or coreboot. Where
-#                           it changes, all has to be made from nothing
+#     confstamp-dialect     the project whose patterns the sources use, if they use more than CONFIG_X: u-boot, busybox or coreboot.
+#                           When it changes, all has to be made from nothing
 #     confstamp-silent      empty where labels are printed even with -s, as in a makefile that puts -s into MAKEFLAGS itself
 #
 # Behind it there are
@@ -23,7 +23,7 @@
 #     $(call confstamp-link,COMMAND,LABEL)        COMMAND makes $@ of files that name no symbol, as a link does
 #     $(call confstamp-watch,TARGETS)             a line of the makefile: all targets whose recipes are one of these calls
 #     $(confstamp-prerequisites)                  $^ of a target that is watched: of each there is one prerequisite more
-#     $(confstamp-comma)                          a comma of COMMAND, since make takes the words of a call apart at commas
+#     $(confstamp-comma)                          a comma of COMMAND, since make splits the arguments of a call at commas
 #     $(confstamp-depfile)                        the list of what $@ was made from, as the compiler writes it
 #     CONFIG_X                                    each symbol, from auto.conf
 #
@@ -49,7 +49,7 @@ confstamp-hash := \#
 confstamp-comma := ,
 
 # What was synchronised: the files that the synchronisation goes by and those that it wrote, one after the other. As make
-# begins these texts are compared. Times don't say it: a .config that was copied back may have an old one.
+# begins these texts are compared. Times can't be used: a .config that was copied back may have an old one.
 confstamp-sources := $(sort $(confstamp-kconfig) $(confstamp-config) $(confstamp-inputs))
 confstamp-kept := $(confstamp-state)/confstamp.kept
 confstamp-texts = $(confstamp-sources) $(confstamp-state)/auto.conf $(confstamp-header)
@@ -62,7 +62,7 @@ endif
 
 # The synchronisation, in a makefile that is included: make makes that anew before all else, and then begins again, with the
 # symbols of auto.conf, and asks which objects are stale. The text of the sources is taken before, so a change meanwhile is
-# seen. What was synchronised is told last, so one that was broken off is done again. A tool that writes the same text once
+# seen. What was synchronised is kept last, so a synchronisation that was interrupted is done again. A tool that writes the same text once
 # more is no reason, else make would begin again for ever.
 include $(confstamp-state)/confstamp.mk
 ifdef confstamp-maker
@@ -153,7 +153,7 @@ confstamp-ask = $(file > $(confstamp-list),$(subst $(confstamp-space),$(confstam
 confstamp-to-now = tr '\n' '\0' < $(confstamp-list) | xargs -0r sh -c \
 	'find "$$@" -prune -newer $(confstamp-now) -exec touch -r $(confstamp-now) {} + 2> /dev/null' -
 
-# A link with a time to come is made again, since nobody knows what it is older than.
+# A link with a future mtime is made again, since nobody knows what it is older than.
 confstamp-look = $(if $(1),$(eval confstamp-future += $(shell find $(1) -prune -newer $(confstamp-now))))
 
 .DEFAULT_GOAL := $(confstamp-first-goal)

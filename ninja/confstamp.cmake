@@ -1,4 +1,4 @@
-# confstamp.cmake: the synchronisation in a build by CMake, whose objects are compiled by symbol. It is included after `project`,
+# confstamp.cmake: the synchronisation in a build by CMake with confstamp-cc. It is included after `project`,
 # and before the targets.
 #
 #     set(confstamp_kconfig FILE)      the Kconfig (Kconfig of the sources)

@@ -6,8 +6,9 @@
 
    A case is a tree and some commands over it: up to four at random, or the story of a build, so that objects are recorded
    and symbols change after their records. Half of the cases are in the words of Linux, the others in those of U-Boot or BusyBox,
-   and at times a command goes by those of another project. The same seed makes the same cases. The directory is the current one, and is emptied.
-   At the first difference the case is left there and told, status 1. */
+   and at times a command goes by those of another project. The same seed makes the same cases. The directory is the current one,
+   and is emptied.
+   At the first difference the case is left there and printed, status 1. */
 #define _GNU_SOURCE
 #include "program.h"
 

@@ -5,7 +5,7 @@
 # They go side by side, as many as there are processors, or as CHECKS_AT_ONCE says. One that fails is tried once more while no
 # other runs, since those of several programs at once depend on the load of the machine; what the first try said is shown.
 #
-# Status 0 of a check says passed; 77 skipped, since a package that it needs isn't here; any other failed. What comes of them is
+# Status 0 of a check is passed, 77 skipped, since a package that it needs isn't here; any other failed. What comes of them is
 # counted in `passed` and `skipped`, and by name in `failed`; `reasons` has the last lines of each that failed. `log` is a file.
 # shellcheck shell=bash disable=SC2154
 

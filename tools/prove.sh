@@ -1,15 +1,15 @@
 # SPDX-License-Identifier: Apache-2.0 OR MIT
 # Proves the crates of the program side by side and builds it. Sourced by tools/install and tools/release, after they have set
-# `top`, the top of the repository, and `log`, the file for the prover's own words.
+# `top`, the top of the repository, and `log`, the file for the prover's output.
 #
-# The gate's own command does it, `rt ci`, over a copy that has neither the mutants nor the crates of tests. So as many
-# checks run at once as there are processors and as memory allows, what the gate or an earlier call proved on this
-# machine is taken from where the kit keeps it, and what comes of it is the program that the gate tries.
+# CI's own command does it, `rt ci`, over a copy that has neither the mutants nor the crates of tests. So as many
+# checks run at once as there are processors and as memory allows, what CI or an earlier call proved on this
+# machine is taken from where the kit keeps it, and what comes of it is the program that CI tries.
 
-# The program logic that the proofs were written for: what `rt version` has to tell, whichever kit it is.
+# The program logic that the proofs were written for: what `rt version` has to print, whichever kit it is.
 logic=dac8208d650f15bf
 
-# Seconds that a proof of each crate takes on a machine of four processors, as measured in a whole gate.
+# Seconds that a proof of each crate takes on a machine of four processors, as measured in a whole CI run.
 seconds='ks_symbols 227
 ks_output 113
 ks_compare 29
@@ -142,7 +142,7 @@ prove_copy() {
     run_gate "$1" RT_JOBS=1
 }
 
-# prove_object COPY: the same, and its object file is there too, crates/confstamp/out/confstamp.o. What the gate keeps is linked
+# prove_object COPY: the same, and its object file is there too, crates/confstamp/out/confstamp.o. What CI keeps is linked
 # already, so the line of crates.txt is made to differ, by the status that holds without it as well: then everything but the program
 # is taken as it is kept, and the program is compiled.
 prove_object() {

@@ -595,7 +595,7 @@ no_answers() {
     same_as_clean
 }
 
-# ahead: all objects get times two hours to come, and a symbol changes that many of them mention.
+# ahead: all objects get mtimes two hours in the future, and a symbol changes that many of them mention.
 ahead() {
     find . -name '*.o' -exec touch -d '+2 hours' {} +
     ends 0 "${source:-.}/scripts/config --enable DEBUG_LIST && make olddefconfig"
@@ -702,7 +702,7 @@ twenty_jobs() {
 }
 
 # What ended with status 0 and a wrong product once. Each story ends with the same sources and the same .config, so one clean build is
-# held against all of them. No object is compiled twice by one make.
+# compared with all of them. No object is compiled twice by one make.
 one_source_more() {
     echo 'const int params_of_log = CONFIG_LOG_BUF_SHIFT;' >> kernel/params.c
     changed=kernel/params.c
@@ -777,8 +777,8 @@ errors_passed_over() {
     say "$label: make compiled $(how_many "$work/compiled") after it had failed; $asked"
 }
 
-# The directory is switched off as the tree is listed, so only M= knows of it. The kernel that M= finds lacks what FAT selects, which modpost
-# would call an error.
+# The directory is switched off as the tree is listed, so only M= knows of it. The kernel that M= finds lacks what FAT selects, which
+# modpost would call an error.
 driver_by_M() {
     begin 'a directory that make M= builds first, two hours ahead'
     one_source_more

@@ -246,7 +246,7 @@ mark_due() {
             exit answered < asked
         }
     ' file=targets "$1/targets" file=answers "$1/answers" file=recorded "$2") || {
-        report "nobody can say what is stale: $(head -n 1 "$1/messages")"
+        report "it is not known what is stale: $(head -n 1 "$1/messages")"
         return 1
     }
     while read -r stamp commands; do

@@ -82,7 +82,7 @@ needs_strace() {
     strace -o "$work/log" true 2> "$work/errors" || skip "strace may not trace here: $(head -n 1 "$work/errors")"
 }
 
-# model_words: `TYPED=1` where auto.conf tells the kinds of its entries, by docs/formats.md.
+# model_words: `TYPED=1` if auto.conf has the kinds of its entries, by docs/formats.md.
 model_words() {
     ! grep -q '^#typed$' "$root/docs/formats.md" || echo TYPED=1
 }

@@ -9,7 +9,7 @@
 #include <stddef.h>
 #include <stdint.h>
 
-/* Whether auto.conf tells the kinds of its entries (`#typed`, `#type NAME KIND`). */
+/* Whether auto.conf has the kinds of its entries (`#typed`, `#type NAME KIND`). */
 extern bool auto_is_typed;
 
 enum { MAX_BYTES = 67108864 };

@@ -85,7 +85,7 @@ in_words() {
     fi
 }
 
-# report CRATE HOW: one line of progress. What is left to do goes by what the crates that were proved until now took here.
+# report CRATE HOW: one line of progress. The time that is left is estimated by what the crates took here until now.
 report() {
     passed=$(($(date +%s) - started))
     printf '  %2d:%02d %s %s' "$((passed / 60))" "$((passed % 60))" "$1" "$2"

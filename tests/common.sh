@@ -117,6 +117,20 @@ error_line() {
     head -n 1 "$work/errors"
 }
 
+# error_text: standard error without the hint at its end, which has the number of the error that the first line reports, or that of a
+# failure of the system. Where that hint is missing it says so.
+error_text() {
+    number=$(sed -n '1s/^confstamp: \([0-9][0-9]*\) .*/\1/p' "$work/errors")
+    if tail -n 1 "$work/errors" | grep -q "^hint: ..* (confstamp explain ${number:-30})\$"; then
+        sed '$d' "$work/errors"
+    elif [ -z "$number" ]; then
+        cat "$work/errors"
+    else
+        echo "no hint below error $number"
+        cat "$work/errors"
+    fi
+}
+
 # copy FROM TO: a fresh copy of a directory.
 copy() {
     rm -rf "$2"

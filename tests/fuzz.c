@@ -604,18 +604,44 @@ static bool tells_device(Bytes output)
     return memmem(output.at, output.length, line, sizeof line - 1) || memmem(output.at, output.length, object, sizeof object - 1);
 }
 
-/* Whether standard error is the line that is expected, and after it at most one line more, of two spaces and a place. Where
-   nothing is expected there may be such a line if the output tells a failure of the system. */
+/* The length of the first line. */
+static size_t line_length(Bytes text)
+{
+    const char *end = text.length ? memchr(text.at, '\n', text.length) : NULL;
+    return end ? (size_t)(end - text.at) + 1 : text.length;
+}
+
+static const char before_error[] = "confstamp: ";
+
+static bool has_error(Bytes line)
+{
+    return line.length > sizeof before_error && memcmp(line.at, before_error, sizeof before_error - 1) == 0;
+}
+
+/* Whether a text is the hint of the error that a line reports; without such a line it is that of 30 Device. */
+static bool is_hint(Bytes text, Bytes line)
+{
+    int number = has_error(line) ? atoi(line.at + sizeof before_error - 1) : 30;
+    char ends[64];
+    size_t length = (size_t)snprintf(ends, sizeof ends, " (confstamp explain %d)\n", number);
+    return text.length > length + 6 && line_length(text) == text.length && memcmp(text.at, "hint: ", 6) == 0 &&
+           memcmp(text.at + text.length - length, ends, length) == 0;
+}
+
+/* Whether standard error is the line that is expected, after it at most one line of two spaces and a place, and in the end the hint of
+   that error. Where no error is expected there may be such lines if the output tells a failure of the system. */
 static bool is_told(Bytes error, Bytes expected, Bytes output)
 {
     if (error.length < expected.length || (expected.length && memcmp(error.at, expected.at, expected.length)))
         return false;
     Bytes rest = {error.at + expected.length, error.length - expected.length};
-    if (rest.length == 0)
-        return true;
-    bool may_be = expected.length > 0 || tells_device(output);
-    bool is_place = may_be && rest.length > 3 && memcmp(rest.at, "  ", 2) == 0;
-    return is_place && memchr(rest.at, '\n', rest.length) == rest.at + rest.length - 1;
+    if (!has_error(expected) && (rest.length == 0 || !tells_device(output)))
+        return rest.length == 0;
+    if (rest.length > 3 && memcmp(rest.at, "  ", 2) == 0) {
+        size_t place = line_length(rest);
+        rest = (Bytes){rest.at + place, rest.length - place};
+    }
+    return is_hint(rest, expected);
 }
 
 /* A usage text is any text but the line of a refusal. */

@@ -13,6 +13,7 @@ mod standard;
 use host::OwnHost;
 use ks_cli::{WordsError, request_of};
 use ks_commands::execute;
+use ks_errors::{DEVICE, KnownError};
 use ks_requests::Request;
 use ks_session::{
     ArgError, CommandArgs, Loss, ParsedOptions, Ready, Settings, Start, enter_directory,
@@ -64,6 +65,15 @@ fn texts_of(alloc: Global, args: &[String]) -> Result<Vec<&str>, AllocError> {
     Ok(texts)
 }
 
+/// Prints what to do where the system failed.
+fn print_device_hint(rt: &HostRuntime) {
+    let error = KnownError::of(&DEVICE);
+    let _ = eprintln!(rt;
+        "hint: {} (confstamp explain {})",
+        error.advice, error.number
+    );
+}
+
 /// Tells that the directory of `-C` is not to be had, and why.
 fn print_no_directory(
     rt: &HostRuntime,
@@ -84,6 +94,7 @@ fn print_no_lock(rt: &HostRuntime, directory: &str, error: &io::Error) -> Result
     let directory = if directory.is_empty() { "." } else { directory };
     let reason = reason_of(rt.alloc(), error)?;
     let _ = eprintln!(rt; "confstamp: 30 Device\n  the lock on {directory}: {reason}");
+    print_device_hint(rt);
     Ok(())
 }
 
@@ -114,6 +125,7 @@ fn print_no_start<P: Drop, L: Drop>(
         }
         Start::NoSeed => {
             let _ = eprintln!(rt; "confstamp: 30 Device\n  the system gives no random number");
+            print_device_hint(rt);
             Ok(REFUSED)
         }
         Start::Busy => {
@@ -213,14 +225,14 @@ fn run(rt: &HostRuntime) -> io::Result<u8> {
     Ok(run_args(rt, &texts)?)
 }
 
-/// Says where the system failed last, and why, after all else. Where memory is refused for it the line is left out.
+/// Prints where the system failed last, why, and what to do, after all else. Where memory is refused for the reason it is left out.
 fn print_failure<S: System + Drop>(rt: &HostRuntime, tree: &SystemTree<S>) {
-    let Some(fault) = tree.last_error() else {
-        return;
-    };
-    if let Ok(reported) = fault.describe(rt.alloc()) {
-        let _ = eprintln!(rt; "  {reported}");
+    if let Some(fault) = tree.last_error() {
+        if let Ok(reported) = fault.describe(rt.alloc()) {
+            let _ = eprintln!(rt; "  {reported}");
+        }
     }
+    print_device_hint(rt);
 }
 
 /// What cannot even be read of the words, or made room for, is told as a refusal.

@@ -46,6 +46,10 @@ known_line error = codes "  " ++ error.number ++ codes " " ++ error.name ++ code
 abbrev pub known_errors : List ℕ
 known_errors = codes "error: NUMBER is none of these\n\n" ++ flat_map known_line errors
 
+-- how an error begins as it is printed
+abbrev pub title_of : Texts → List ℕ
+title_of error = error.number ++ codes " " ++ error.name
+
 -- the line below a refusal: what to do, and where to read more
 unfoldable pub hint : Texts → List ℕ
 hint error = codes "hint: " ++ error.advice ++ codes " (confstamp explain " ++ error.number ++ codes ")\n"

@@ -6,4 +6,9 @@ mod pages;
 mod table;
 
 pub use pages::{error_of, known_errors, page_of};
-pub use table::{ERRORS, KnownError, Row};
+pub use table::{
+    BAD_AUTO, BAD_COMMAND, BAD_COMMAND_FILE, BAD_NAME, BAD_PATH, BAD_SCRIPT, BAD_STAMP, BAD_TITLE,
+    BAD_VALUE, DEVICE, ERRORS, GENERATION_FULL, KnownError, MISSING_FILE, MODULE_NAME,
+    NEVER_SYNCED, NO_TARGET, NO_TYPE, NOT_A_CONFIG_LINE, NOT_BARE, OUT_OF_MEMORY, OUTPUT, Row,
+    TOO_LARGE, TYPE_CLASH,
+};

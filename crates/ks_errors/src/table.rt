@@ -26,7 +26,7 @@ pub struct KnownError {
 
 impl KnownError {
     /// What a row says.
-    pub(crate) fn of(row: &Row) -> KnownError
+    pub fn of(row: &Row) -> KnownError
         ensures { seen result ≡ texts_of row.now }
     {
         let (number, name, meaning, example, advice) = *row;
@@ -40,160 +40,204 @@ impl KnownError {
     }
 }
 
+pub const NOT_BARE: Row = (
+    "1",
+    "NotBare",
+    "a line of Kconfig that is not supported: it is no title, entry or type, or a type that follows no entry",
+    "`choice`",
+    "leave the line out, or make a Kconfig without such lines: `bare-kconfig .config . > Kconfig.bare`",
+);
+
+pub const BAD_NAME: Row = (
+    "2",
+    "BadName",
+    "the name of an entry isn't 1 to 128 letters, digits and `_`",
+    "`config A-B`",
+    "rename the symbol",
+);
+
+pub const MODULE_NAME: Row = (
+    "3",
+    "ModuleName",
+    "the name of an entry ends in `_MODULE`, as the macro of another symbol with the value m",
+    "`config A_MODULE`",
+    "rename the symbol; in BusyBox write `--dialect busybox` in front of the command",
+);
+
+pub const NO_TYPE: Row = (
+    "4",
+    "NoType",
+    "an entry has no type: the next line that isn't empty or a comment is another entry, `mainmenu`, or the end",
+    "`config A`",
+    "write `bool`, `tristate`, `string`, `int` or `hex` into the line after the entry",
+);
+
+pub const TYPE_CLASH: Row = (
+    "5",
+    "TypeClash",
+    "a symbol is declared again with another type",
+    "`config A`, `bool`, `config A`, `int`",
+    "give both entries one type",
+);
+
+pub const BAD_TITLE: Row = (
+    "6",
+    "BadTitle",
+    "a line whose first word is `mainmenu` is no title, is repeated, or stands after an entry",
+    "`mainmenu`",
+    "write `mainmenu \"TITLE\"` into the first line, or leave it out",
+);
+
+pub const NOT_A_CONFIG_LINE: Row = (
+    "7",
+    "NotAConfigLine",
+    "a line of `.config` is no value, no \"is not set\", no comment and not empty",
+    "`A=y`",
+    "correct the line, as `CONFIG_A=y`; no blanks stand around `=`",
+);
+
+pub const BAD_VALUE: Row = (
+    "8",
+    "BadValue",
+    "a value of `.config` is none of the symbol's type",
+    "`CONFIG_A=m`",
+    "correct the value or the type; leave out an empty int or hex; for raw strings write `--dialect u-boot` or `busybox` in front",
+);
+
+pub const TOO_LARGE: Row = (
+    "9",
+    "TooLarge",
+    "an input, or an auto.conf or `.cmd` file to be written, has more than 67,108,864 bytes",
+    "67,108,865 line feeds",
+    "look at what made the file",
+);
+
+pub const OUT_OF_MEMORY: Row = (
+    "10",
+    "OutOfMemory",
+    "memory was refused; this may replace any other answer",
+    "depends on the machine",
+    "free memory, and repeat the command",
+);
+
+pub const BAD_AUTO: Row = (
+    "11",
+    "BadAuto",
+    "a line of auto.conf is damaged",
+    "`x`",
+    "restore `include/config` and all `.cmd` files from one copy; or remove them, synchronise, and build everything",
+);
+
+pub const NO_TARGET: Row = (
+    "20",
+    "NoTarget",
+    "a dependency file has a prerequisite before any target, or none at all",
+    "an empty `x.d`",
+    "let the compiler write it with `-MD`",
+);
+
+pub const BAD_PATH: Row = (
+    "21",
+    "BadPath",
+    "token N of the dependency file is no path; token 0: an argument isn't, or a target ends in `/`",
+    "`x.o: x.c a$b.h`",
+    "rename the file: a path has no spaces, `$`, `#`, `\\` or non-ASCII bytes",
+);
+
+pub const BAD_COMMAND: Row = (
+    "22",
+    "BadCommand",
+    "the command contains LF, CR or NUL",
+    "`confstamp fixdep x.d x.o \"$(printf 'a\\nb')\"`",
+    "pass the command on one line",
+);
+
+pub const BAD_COMMAND_FILE: Row = (
+    "23",
+    "BadCommandFile",
+    "the first line of a `.cmd` file that doesn't fit or is missing; line 1 also if the file is of another target",
+    "an empty `.x.o.cmd`",
+    "build and record the object again; `confstamp why` names another spelling under which it is recorded",
+);
+
+pub const DEVICE: Row = (
+    "30",
+    "Device",
+    "the system failed (no permission, a full disk, a directory where a file should be), another program is writing the same temporary file, or there is no random number",
+    "`confstamp preview . .config`",
+    "remove the cause, and repeat the command: it completes what was interrupted",
+);
+
+pub const BAD_STAMP: Row = (
+    "31",
+    "BadStamp",
+    "a stamp is neither empty nor a decimal and LF",
+    "`include/config/A` of `x`",
+    "write auto.conf's generation plus one and a line feed into the stamp; don't remove it",
+);
+
+pub const MISSING_FILE: Row = (
+    "40",
+    "MissingFile",
+    "a file that an argument, a script or a dependency file names isn't there",
+    "`confstamp preview Kconfig none`",
+    "give the path below the current directory, or below that of `-C`",
+);
+
+pub const NEVER_SYNCED: Row = (
+    "41",
+    "NeverSynced",
+    "auto.conf is missing or has no generation",
+    "`confstamp record x.d x.o cc` in a new tree",
+    "synchronise first: `confstamp sync Kconfig .config`",
+);
+
+pub const GENERATION_FULL: Row = (
+    "42",
+    "GenerationFull",
+    "auto.conf has the greatest generation, 18446744073709551615",
+    "that in OLDAUTO",
+    "start over: remove `include/config` and all `.cmd` files, synchronise, and build everything",
+);
+
+pub const BAD_SCRIPT: Row = (
+    "50",
+    "BadScript",
+    "a line of a script is no command; nothing was run",
+    "`stale`",
+    "write one space between arguments, and one target for each `stale`",
+);
+
+pub const OUTPUT: Row = (
+    "51",
+    "Output",
+    "standard output couldn't be written. A reader who has gone, as after `head`, is status 141 instead",
+    "`confstamp preview Kconfig .config > /dev/full`",
+    "the work of `sync`, `record`, `depfile` and `batch` is done; repeat others",
+);
+
 /// All of them, in rising order.
 pub const ERRORS: &[Row] = &[
-    (
-        "1",
-        "NotBare",
-        "a line of Kconfig that is not supported: it is no title, entry or type, or a type that follows no entry",
-        "`choice`",
-        "leave the line out, or make a Kconfig without such lines: `bare-kconfig .config . > Kconfig.bare`",
-    ),
-    (
-        "2",
-        "BadName",
-        "the name of an entry isn't 1 to 128 letters, digits and `_`",
-        "`config A-B`",
-        "rename the symbol",
-    ),
-    (
-        "3",
-        "ModuleName",
-        "the name of an entry ends in `_MODULE`, as the macro of another symbol with the value m",
-        "`config A_MODULE`",
-        "rename the symbol; in BusyBox write `--dialect busybox` in front of the command",
-    ),
-    (
-        "4",
-        "NoType",
-        "an entry has no type: the next line that isn't empty or a comment is another entry, `mainmenu`, or the end",
-        "`config A`",
-        "write `bool`, `tristate`, `string`, `int` or `hex` into the line after the entry",
-    ),
-    (
-        "5",
-        "TypeClash",
-        "a symbol is declared again with another type",
-        "`config A`, `bool`, `config A`, `int`",
-        "give both entries one type",
-    ),
-    (
-        "6",
-        "BadTitle",
-        "a line whose first word is `mainmenu` is no title, is repeated, or stands after an entry",
-        "`mainmenu`",
-        "write `mainmenu \"TITLE\"` into the first line, or leave it out",
-    ),
-    (
-        "7",
-        "NotAConfigLine",
-        "a line of `.config` is no value, no \"is not set\", no comment and not empty",
-        "`A=y`",
-        "correct the line, as `CONFIG_A=y`; no blanks stand around `=`",
-    ),
-    (
-        "8",
-        "BadValue",
-        "a value of `.config` is none of the symbol's type",
-        "`CONFIG_A=m`",
-        "correct the value or the type; leave out an empty int or hex; for raw strings write `--dialect u-boot` or `busybox` in front",
-    ),
-    (
-        "9",
-        "TooLarge",
-        "an input, or an auto.conf or `.cmd` file to be written, has more than 67,108,864 bytes",
-        "67,108,865 line feeds",
-        "look at what made the file",
-    ),
-    (
-        "10",
-        "OutOfMemory",
-        "memory was refused; this may replace any other answer",
-        "depends on the machine",
-        "free memory, and repeat the command",
-    ),
-    (
-        "11",
-        "BadAuto",
-        "a line of auto.conf is damaged",
-        "`x`",
-        "restore `include/config` and all `.cmd` files from one copy; or remove them, synchronise, and build everything",
-    ),
-    (
-        "20",
-        "NoTarget",
-        "a dependency file has a prerequisite before any target, or none at all",
-        "an empty `x.d`",
-        "let the compiler write it with `-MD`",
-    ),
-    (
-        "21",
-        "BadPath",
-        "token N of the dependency file is no path; token 0: an argument isn't, or a target ends in `/`",
-        "`x.o: x.c a$b.h`",
-        "rename the file: a path has no spaces, `$`, `#`, `\\` or non-ASCII bytes",
-    ),
-    (
-        "22",
-        "BadCommand",
-        "the command contains LF, CR or NUL",
-        "`confstamp fixdep x.d x.o \"$(printf 'a\\nb')\"`",
-        "pass the command on one line",
-    ),
-    (
-        "23",
-        "BadCommandFile",
-        "the first line of a `.cmd` file that doesn't fit or is missing; line 1 also if the file is of another target",
-        "an empty `.x.o.cmd`",
-        "build and record the object again; `confstamp why` names another spelling under which it is recorded",
-    ),
-    (
-        "30",
-        "Device",
-        "the system failed (no permission, a full disk, a directory where a file should be), another program is writing the same temporary file, or there is no random number",
-        "`confstamp preview . .config`",
-        "remove the cause, and repeat the command: it completes what was interrupted",
-    ),
-    (
-        "31",
-        "BadStamp",
-        "a stamp is neither empty nor a decimal and LF",
-        "`include/config/A` of `x`",
-        "write auto.conf's generation plus one and a line feed into the stamp; don't remove it",
-    ),
-    (
-        "40",
-        "MissingFile",
-        "a file that an argument, a script or a dependency file names isn't there",
-        "`confstamp preview Kconfig none`",
-        "give the path below the current directory, or below that of `-C`",
-    ),
-    (
-        "41",
-        "NeverSynced",
-        "auto.conf is missing or has no generation",
-        "`confstamp record x.d x.o cc` in a new tree",
-        "synchronise first: `confstamp sync Kconfig .config`",
-    ),
-    (
-        "42",
-        "GenerationFull",
-        "auto.conf has the greatest generation, 18446744073709551615",
-        "that in OLDAUTO",
-        "start over: remove `include/config` and all `.cmd` files, synchronise, and build everything",
-    ),
-    (
-        "50",
-        "BadScript",
-        "a line of a script is no command; nothing was run",
-        "`stale`",
-        "write one space between arguments, and one target for each `stale`",
-    ),
-    (
-        "51",
-        "Output",
-        "standard output couldn't be written. A reader who has gone, as after `head`, is status 141 instead",
-        "`confstamp preview Kconfig .config > /dev/full`",
-        "the work of `sync`, `record`, `depfile` and `batch` is done; repeat others",
-    ),
+    NOT_BARE,
+    BAD_NAME,
+    MODULE_NAME,
+    NO_TYPE,
+    TYPE_CLASH,
+    BAD_TITLE,
+    NOT_A_CONFIG_LINE,
+    BAD_VALUE,
+    TOO_LARGE,
+    OUT_OF_MEMORY,
+    BAD_AUTO,
+    NO_TARGET,
+    BAD_PATH,
+    BAD_COMMAND,
+    BAD_COMMAND_FILE,
+    DEVICE,
+    BAD_STAMP,
+    MISSING_FILE,
+    NEVER_SYNCED,
+    GENERATION_FULL,
+    BAD_SCRIPT,
+    OUTPUT,
 ];

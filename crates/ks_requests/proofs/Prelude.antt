@@ -43,8 +43,9 @@ pub use Rattle.ks_streams.proofs.Writing.{reported, reported_first, reported_mor
 pub use Rattle.ks_symbols.proofs.Configured.{chain}
 pub use Rattle.ks_symbols.proofs.Spellings.{run_split}
 pub use Rattle.ks_symbols.specs.declared.error.SourceError.{SourceError}
-pub use Rattle.ks_requests.specs.Faults.{complaint}
-unfoldable pub use Rattle.ks_requests.specs.Faults.{counted}
+unfoldable pub use Rattle.ks_errors.specs.Errors.{hint}
+unfoldable pub use Rattle.ks_requests.specs.Faults.{complaint, hint_of}
+unfoldable pub use Rattle.ks_requests.specs.Faults.{counted, fault_text, known_error, refusal_text, source_text}
 pub use Rattle.ks_requests.specs.JsonLines.{answer_in, asked_values, cause_value, first_values}
 unfoldable pub use Rattle.ks_requests.specs.JsonLines.{json_answer}
 pub use Rattle.ks_requests.specs.Laws.{CharactersTellApart, LinesAreObjects}

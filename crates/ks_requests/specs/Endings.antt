@@ -9,7 +9,7 @@ use Rattle.ks_requests.specs.declared.refusal.Refusal.TheVariants.{Engine, Outpu
 use Rattle.ks_requests.specs.declared.status.Count.{Count}
 use Rattle.ks_requests.specs.declared.status.Count.TheVariants as count
 use Rattle.ks_requests.specs.declared.status.Outcome.{Outcome}
-use Rattle.ks_requests.specs.Faults.{complaint}
+use Rattle.ks_requests.specs.Faults.{complaint, hint_of}
 use Rattle.ks_requests.specs.Replies.{count_line}
 use Rattle.ks_requests.specs.Statuses.{code_of}
 
@@ -47,9 +47,9 @@ Stopped step ended = (e : EngineError) × (IsAborted e ⊎ (step ≡ Err e)) × 
 
 -- ---- what is printed of it
 
--- The line of the refusal goes to standard error, and after it what stands after it.
+-- The line of the refusal goes to standard error, after it what stands after it, and in the end what to do.
 abbrev pub Complains : Refusal → List ℕ → State → State → Type 0
-Complains refusal following before after = PrintsOrBreaks (complaint refusal ++ following) before after
+Complains refusal following before after = PrintsOrBreaks (complaint refusal ++ following ++ hint_of refusal) before after
 
 -- The line of a count goes to standard error; without one that is left alone.
 abbrev pub CountGoes : Option Count → State → State → Type 0

@@ -1,5 +1,8 @@
 -- The texts of refusals, as users see them: a number, a name and the place.
-use Rattle.std.specs.Prelude.{ℕ, List, [], ◌++◌, codes, decimal}
+use Rattle.std.specs.Prelude.{if◌then◌else◌, ℕ, List, [], ◌++◌, Option, Some, None, bytes_eq, codes, decimal}
+use Rattle.std.specs.Char.{is_ascii_digit}
+use Rattle.std.specs.List.{take_while}
+use Rattle.ks_errors.specs.Errors.{Texts, error_of, hint, seen, title_of}
 use Rattle.ks_symbols.specs.declared.error.SourceError.{SourceError}
 use Rattle.ks_symbols.specs.declared.error.SourceError.TheVariants as source
 use Rattle.ks_engine.specs.declared.error.EngineError.{EngineError}
@@ -50,6 +53,19 @@ refusal_text Output = codes "51 Output"
 unfoldable pub complaint : Refusal → List ℕ
 complaint refusal = codes "confstamp: " ++ refusal_text refusal ++ codes "\n"
 
+-- the error of the table with the number that a text begins with
+unfoldable pub known_error : List ℕ → Option Texts
+known_error text = error_of (take_while is_ascii_digit text)
+
+-- Of a failure of the system the program prints it itself, below what the system said.
+abbrev pub hint_line : Option Texts → List ℕ
+hint_line None = []
+hint_line (Some error) = if bytes_eq error.number (codes "30") then [] else hint error
+
+-- the line below: what to do
+unfoldable pub hint_of : Refusal → List ℕ
+hint_of refusal = hint_line (known_error (refusal_text refusal))
+
 -- a text as the code has it before it is written
 abbrev pub place_text : FaultPlace → List ℕ
 place_text Nowhere = []
@@ -57,4 +73,4 @@ place_text (Numbered n) = decimal n
 place_text (Named bytes) = bytes.now
 
 abbrev pub whole_text : FaultText → List ℕ
-whole_text text = text.name.now ++ place_text text.place
+whole_text text = title_of (seen text.error) ++ text.label.now ++ place_text text.place

@@ -81,9 +81,9 @@ part_text Whole text = None
 part_text (Line n) text = slice_get (lines text) (n - 1)
 part_text (Token n) text = slice_get (tokens text) (n - 1)
 
--- a byte that no terminal takes for a command
+-- a byte that no terminal takes for a command: a tab as a space, any other control byte as `?`
 abbrev pub visible : ℕ → ℕ
-visible b = if nat_lt b 32 || b == 127 then 63 else b
+visible b = if b == 9 then 32 else if nat_lt b 32 || b == 127 then 63 else b
 
 -- at most 120 bytes
 abbrev pub excerpt : List ℕ → List ℕ

@@ -1,12 +1,19 @@
 //! The texts of refusals, which make the lines of refused targets and commands, and the one line on standard error.
 //!
 //! A text is a number, a name and the place. It is made without taking memory, so that want of memory is told too.
-ghost use Rattle.std.specs.Prelude.{◌≡◌, ◌++◌, OnOk};
-ghost use Rattle.ks_requests.specs.Faults.{counted, fault_text, refusal_text, source_text, whole_text};
+ghost use Rattle.std.specs.Prelude.{◌≡◌, ◌++◌, OnOk, Some, codes};
+ghost use Rattle.ks_errors.specs.Errors.{seen, texts_of, title_of};
+ghost use Rattle.ks_requests.specs.Faults.{counted, fault_text, known_error, refusal_text, source_text, whole_text};
 
 use crate::refusal::Refusal;
 use itoa::Buffer;
 use ks_engine::EngineError;
+use ks_errors::{
+    BAD_AUTO, BAD_COMMAND, BAD_COMMAND_FILE, BAD_NAME, BAD_PATH, BAD_SCRIPT, BAD_STAMP, BAD_TITLE,
+    BAD_VALUE, DEVICE, GENERATION_FULL, KnownError, MISSING_FILE, MODULE_NAME, NEVER_SYNCED,
+    NO_TARGET, NO_TYPE, NOT_A_CONFIG_LINE, NOT_BARE, OUT_OF_MEMORY, OUTPUT, Row, TOO_LARGE,
+    TYPE_CLASH,
+};
 use ks_symbols::SourceError;
 use std::alloc::AllocError;
 
@@ -23,81 +30,98 @@ pub(crate) enum FaultPlace<'a> {
 /// The text of a refusal, before it is written.
 #[derive(Drop)]
 pub(crate) struct FaultText<'a> {
-    pub(crate) name: &'static [u8],
+    pub(crate) error: KnownError,
+    /// What stands between the name and the place.
+    pub(crate) label: &'static str,
     pub(crate) place: FaultPlace<'a>,
 }
 
-fn plain<'a>(name: &'static [u8]) -> FaultText<'a>
-    ensures { whole_text result ≡ name.now }
+fn plain<'a>(row: &Row) -> FaultText<'a>
+    ensures text { whole_text result ≡ title_of (texts_of row.now) }
+    ensures error { seen result.error ≡ texts_of row.now }
 {
-    let place = FaultPlace::Nowhere;
-    FaultText { name, place }
+    FaultText {
+        error: KnownError::of(row),
+        label: "",
+        place: FaultPlace::Nowhere,
+    }
 }
 
 #[tactic(auto, unfolding(crate::specs::Faults::counted))]
-fn numbered<'a>(name: &'static [u8], number: u64) -> FaultText<'a>
-    ensures { whole_text result ≡ counted name.now number }
+fn numbered<'a>(row: &Row, label: &'static str, number: u64) -> FaultText<'a>
+    ensures text { whole_text result ≡ counted (title_of (texts_of row.now) ++ label.now) number }
+    ensures error { seen result.error ≡ texts_of row.now }
 {
-    let place = FaultPlace::Numbered(number);
-    FaultText { name, place }
+    FaultText {
+        error: KnownError::of(row),
+        label,
+        place: FaultPlace::Numbered(number),
+    }
 }
 
-fn named<'a>(name: &'static [u8], bytes: &'a [u8]) -> FaultText<'a>
-    ensures { whole_text result ≡ name.now ++ bytes.now }
+fn named<'a>(row: &Row, bytes: &'a [u8]) -> FaultText<'a>
+    ensures text { whole_text result ≡ title_of (texts_of row.now) ++ codes " " ++ bytes.now }
+    ensures error { seen result.error ≡ texts_of row.now }
 {
-    let place = FaultPlace::Named(bytes);
-    FaultText { name, place }
+    FaultText {
+        error: KnownError::of(row),
+        label: " ",
+        place: FaultPlace::Named(bytes),
+    }
 }
 
 #[tactic(auto, unfolding(crate::specs::Faults::source_text))]
 fn source_fault<'a>(error: &SourceError) -> FaultText<'a>
-    ensures { whole_text result ≡ source_text error.now }
+    ensures text { whole_text result ≡ source_text error.now }
+    ensures error { known_error (source_text error.now) ≡ Some (seen result.error) }
 {
     match error {
-        SourceError::NotBare(line) => numbered(b"1 NotBare line ", *line),
-        SourceError::BadName(line) => numbered(b"2 BadName line ", *line),
-        SourceError::ModuleName(line) => numbered(b"3 ModuleName line ", *line),
-        SourceError::NoType(line) => numbered(b"4 NoType line ", *line),
-        SourceError::TypeClash(line) => numbered(b"5 TypeClash line ", *line),
-        SourceError::BadTitle(line) => numbered(b"6 BadTitle line ", *line),
-        SourceError::NotAConfigLine(line) => numbered(b"7 NotAConfigLine line ", *line),
-        SourceError::BadValue(line) => numbered(b"8 BadValue line ", *line),
-        SourceError::TooLarge => plain(b"9 TooLarge"),
-        SourceError::OutOfMemory => plain(b"10 OutOfMemory"),
+        SourceError::NotBare(line) => numbered(&NOT_BARE, " line ", *line),
+        SourceError::BadName(line) => numbered(&BAD_NAME, " line ", *line),
+        SourceError::ModuleName(line) => numbered(&MODULE_NAME, " line ", *line),
+        SourceError::NoType(line) => numbered(&NO_TYPE, " line ", *line),
+        SourceError::TypeClash(line) => numbered(&TYPE_CLASH, " line ", *line),
+        SourceError::BadTitle(line) => numbered(&BAD_TITLE, " line ", *line),
+        SourceError::NotAConfigLine(line) => numbered(&NOT_A_CONFIG_LINE, " line ", *line),
+        SourceError::BadValue(line) => numbered(&BAD_VALUE, " line ", *line),
+        SourceError::TooLarge => plain(&TOO_LARGE),
+        SourceError::OutOfMemory => plain(&OUT_OF_MEMORY),
     }
 }
 
 /// The text of a refusal of the engine, of its parts, or of a word or a file.
 #[tactic(auto, unfolding(crate::specs::Faults::fault_text))]
 fn engine_fault(error: &EngineError) -> FaultText<'_>
-    ensures { whole_text result ≡ fault_text error.now }
+    ensures text { whole_text result ≡ fault_text error.now }
+    ensures error { known_error (fault_text error.now) ≡ Some (seen result.error) }
 {
     match error {
         EngineError::Source(error) => source_fault(error),
-        EngineError::TooLarge => plain(b"9 TooLarge"),
-        EngineError::OutOfMemory => plain(b"10 OutOfMemory"),
-        EngineError::BadAuto(line) => numbered(b"11 BadAuto line ", *line),
-        EngineError::NoTarget => plain(b"20 NoTarget"),
-        EngineError::BadPath(token) => numbered(b"21 BadPath token ", *token),
-        EngineError::BadCommand => plain(b"22 BadCommand"),
-        EngineError::BadCommandFile(line) => numbered(b"23 BadCommandFile line ", *line),
-        EngineError::Device => plain(b"30 Device"),
-        EngineError::BadStamp(name) => named(b"31 BadStamp ", name.as_bytes()),
-        EngineError::MissingFile(path) => named(b"40 MissingFile ", path.as_bytes()),
-        EngineError::NeverSynced => plain(b"41 NeverSynced"),
-        EngineError::GenerationFull => plain(b"42 GenerationFull"),
+        EngineError::TooLarge => plain(&TOO_LARGE),
+        EngineError::OutOfMemory => plain(&OUT_OF_MEMORY),
+        EngineError::BadAuto(line) => numbered(&BAD_AUTO, " line ", *line),
+        EngineError::NoTarget => plain(&NO_TARGET),
+        EngineError::BadPath(token) => numbered(&BAD_PATH, " token ", *token),
+        EngineError::BadCommand => plain(&BAD_COMMAND),
+        EngineError::BadCommandFile(line) => numbered(&BAD_COMMAND_FILE, " line ", *line),
+        EngineError::Device => plain(&DEVICE),
+        EngineError::BadStamp(name) => named(&BAD_STAMP, name.as_bytes()),
+        EngineError::MissingFile(path) => named(&MISSING_FILE, path.as_bytes()),
+        EngineError::NeverSynced => plain(&NEVER_SYNCED),
+        EngineError::GenerationFull => plain(&GENERATION_FULL),
     }
 }
 
 /// The text of a refusal of a whole command.
 #[tactic(auto, unfolding(crate::specs::Faults::refusal_text))]
 pub(crate) fn refusal_fault(refusal: &Refusal) -> FaultText<'_>
-    ensures { whole_text result ≡ refusal_text refusal.now }
+    ensures text { whole_text result ≡ refusal_text refusal.now }
+    ensures error { known_error (refusal_text refusal.now) ≡ Some (seen result.error) }
 {
     match refusal {
         Refusal::Engine(error) => engine_fault(error),
-        Refusal::BadScript(line) => numbered(b"50 BadScript line ", *line),
-        Refusal::Output => plain(b"51 Output"),
+        Refusal::BadScript(line) => numbered(&BAD_SCRIPT, " line ", *line),
+        Refusal::Output => plain(&OUTPUT),
     }
 }
 
@@ -106,7 +130,10 @@ pub(crate) fn write_fault(error: &EngineError, text: &mut Vec<u8>) -> Result<(),
     ensures { OnOk result (text.new.items ≡ text.old.items ++ fault_text error.now) }
 {
     let fault = engine_fault(error);
-    text.extend_from_slice(fault.name)?;
+    text.extend_from_slice(fault.error.number.as_bytes())?;
+    text.extend_from_slice(b" ")?;
+    text.extend_from_slice(fault.error.name.as_bytes())?;
+    text.extend_from_slice(fault.label.as_bytes())?;
     match fault.place {
         FaultPlace::Nowhere => Ok(()),
         FaultPlace::Numbered(number) => {

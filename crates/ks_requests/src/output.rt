@@ -1,10 +1,11 @@
 //! What a command prints: its text to the output, and refusals and counts to standard error. All that is put there is seen out
 //! at once, so that a failure is told by the command that met it.
-ghost use Rattle.std.specs.Prelude.{◌≡◌, ◌++◌, List, [], ℕ, IsTrue, Ok, Some, codes, false, option_map};
+ghost use Rattle.std.specs.Prelude.{◌≡◌, ◌⊎◌, ◌++◌, List, [], ℕ, IsTrue, Ok, Some, codes, false, option_map};
 ghost use Rattle.ks_streams.specs.Streams.{Breaks, Prints, PrintsOrBreaks, state_of};
 ghost use Rattle.ks_tree.specs.Frames.{Reads};
 ghost use Rattle.ks_requests.specs.Endings.{Complains, CountGoes, Printed};
-ghost use Rattle.ks_requests.specs.Faults.{complaint};
+ghost use Rattle.ks_errors.specs.Errors.{hint, seen};
+ghost use Rattle.ks_requests.specs.Faults.{complaint, hint_of};
 ghost use Rattle.ks_requests.specs.Sites.{IsSiteLine, shown, site_line};
 ghost use Rattle.ks_requests.specs.Replies.{count_line};
 ghost use Rattle.ks_requests.specs.Views.{seen_site};
@@ -15,16 +16,25 @@ use crate::refusal::Refusal;
 use crate::sites::{Part, Site, excerpt_at};
 use crate::status::{Count, Outcome, exit_status};
 use itoa::Buffer;
+use ks_errors::{DEVICE, KnownError};
 use ks_streams::{Stream, Writer};
 use ks_tree::Tree;
 use std::alloc::Global;
 
-/// Prints the line of a text with its place, and tells whether all of it went out.
-fn print_fault_line<E: Writer>(err: &mut Stream<E>, name: &[u8], place: &[u8]) -> bool
-    ensures whole { IsTrue result → Prints (codes "confstamp: " ++ (name.now ++ place.now) ++ codes "\n") (state_of E.Writer err.old) (state_of E.Writer err.new) }
-    ensures broken { result ≡ false → Breaks (codes "confstamp: " ++ (name.now ++ place.now) ++ codes "\n") (state_of E.Writer err.old) (state_of E.Writer err.new) }
+/// Prints the line of an error, by its number and name, with its place, and tells whether all of it went out.
+fn print_fault_line<E: Writer>(
+    err: &mut Stream<E>,
+    number: &[u8],
+    name: &[u8],
+    label: &[u8],
+    place: &[u8],
+) -> bool
+    ensures whole { IsTrue result → Prints (codes "confstamp: " ++ (number.now ++ codes " " ++ name.now ++ label.now ++ place.now) ++ codes "\n")
+        (state_of E.Writer err.old) (state_of E.Writer err.new) }
+    ensures broken { result ≡ false → Breaks (codes "confstamp: " ++ (number.now ++ codes " " ++ name.now ++ label.now ++ place.now) ++ codes "\n")
+        (state_of E.Writer err.old) (state_of E.Writer err.new) }
 {
-    err.print(&[b"confstamp: ", name, place, b"\n"])
+    err.print(&[b"confstamp: ", number, b" ", name, label, place, b"\n"])
 }
 
 /// Prints the line of a refusal, and tells whether all of it went out.
@@ -34,12 +44,43 @@ fn print_complaint<E: Writer>(err: &mut Stream<E>, refusal: &Refusal) -> bool
     ensures broken { result ≡ false → Breaks (complaint refusal.now) (state_of E.Writer err.old) (state_of E.Writer err.new) }
 {
     let fault = refusal_fault(refusal);
+    let number = fault.error.number.as_bytes();
+    let name = fault.error.name.as_bytes();
+    let label = fault.label.as_bytes();
     match fault.place {
-        FaultPlace::Nowhere => print_fault_line(err, fault.name, b""),
-        FaultPlace::Numbered(number) => {
-            print_fault_line(err, fault.name, Buffer::new().format(number).as_bytes())
+        FaultPlace::Nowhere => print_fault_line(err, number, name, label, b""),
+        FaultPlace::Numbered(at) => {
+            print_fault_line(
+                err,
+                number,
+                name,
+                label,
+                Buffer::new().format(at).as_bytes(),
+            )
         }
-        FaultPlace::Named(bytes) => print_fault_line(err, fault.name, bytes),
+        FaultPlace::Named(bytes) => print_fault_line(err, number, name, label, bytes),
+    }
+}
+
+/// Prints what to do about an error, as well as that goes.
+#[tactic(auto, unfolding(ks_errors::specs::Errors::hint))]
+fn print_advice<E: Writer>(err: &mut Stream<E>, error: &KnownError)
+    ensures { PrintsOrBreaks (hint (seen error.now)) (state_of E.Writer err.old) (state_of E.Writer err.new) }
+{
+    let advice = error.advice.as_bytes();
+    let number = error.number.as_bytes();
+    let _ = err.print(&[b"hint: ", advice, b" (confstamp explain ", number, b")\n"]);
+}
+
+/// Prints what to do about a refusal. The program itself prints that of a failure of the system, below what the system said.
+#[tactic(auto, unfolding(crate::specs::Faults::hint_of))]
+fn print_hint<E: Writer>(err: &mut Stream<E>, refusal: &Refusal)
+    ensures { ((hint_of refusal.now ≡ []) × (state_of E.Writer err.new ≡ state_of E.Writer err.old))
+        ⊎ PrintsOrBreaks (hint_of refusal.now) (state_of E.Writer err.old) (state_of E.Writer err.new) }
+{
+    let error = refusal_fault(refusal).error;
+    if error.number != DEVICE.0 {
+        print_advice(err, &error);
     }
 }
 
@@ -92,33 +133,37 @@ fn print_site<E: Writer>(err: &mut Stream<E>, site: &Site<'_>, text: Option<&[u8
     }
 }
 
-/// Prints `confstamp: ` and why a command was refused, as well as that goes. The status is 2 also where that fails.
-pub fn refuse<E: Writer>(err: &mut Stream<E>, refusal: &Refusal) -> u8
+/// Prints `confstamp: ` and why a command was refused, and what to do, as well as that goes. The status is 2 also where that fails.
+pub fn refuse<E: Writer>(err: &mut Stream<E>, error: &Refusal) -> u8
     ensures status { result ≡ 2 }
-    ensures reported { Complains refusal.now [] (state_of E.Writer err.old) (state_of E.Writer err.new) }
+    ensures reported { Complains error.now [] (state_of E.Writer err.old) (state_of E.Writer err.new) }
 {
-    let _ = print_complaint(err, refusal);
+    if print_complaint(err, error) {
+        print_hint(err, error);
+    }
     2
 }
 
-/// Prints where a refusal points, with what stands there, where the file can be read and has such a part.
+/// Prints where a refusal points, with what stands there, where the file can be read and has such a part. Tells whether all of it
+/// went out.
 fn print_found<T: Tree, E: Writer>(
     alloc: Global,
     tree: &mut T,
     site: &Site<'_>,
     err: &mut Stream<E>,
-)
+) -> bool
     ensures reads { Reads T.Tree tree.old tree.new ⊥ }
     ensures line { (line : List ℕ) × IsSiteLine T.is_honest (T.files tree.old) (Some (seen_site site.now)) line
-        × PrintsOrBreaks line (state_of E.Writer err.old) (state_of E.Writer err.new) }
+        × (IsTrue result → Prints line (state_of E.Writer err.old) (state_of E.Writer err.new))
+        × (result ≡ false → Breaks line (state_of E.Writer err.old) (state_of E.Writer err.new)) }
 {
-    let _ = match excerpt_at(alloc, tree, site) {
+    match excerpt_at(alloc, tree, site) {
         Ok(text) => print_site(err, site, borrowed(&text)),
         Err(_) => print_site(err, site, None),
-    };
+    }
 }
 
-/// Prints why a command was refused, and after it which file that is about and what stands there. The file is read
+/// Prints why a command was refused, after it which file that is about and what stands there, and what to do. The file is read
 /// again once the refusal is told. The status is 2 also where that fails.
 pub fn refuse_at<T: Tree, E: Writer>(
     alloc: Global,
@@ -133,7 +178,9 @@ pub fn refuse_at<T: Tree, E: Writer>(
         × Complains refusal.now line (state_of E.Writer err.old) (state_of E.Writer err.new) }
 {
     if print_complaint(err, refusal) {
-        print_found(alloc, tree, site, err);
+        if print_found(alloc, tree, site, err) {
+            print_hint(err, refusal);
+        }
     }
     2
 }

@@ -193,10 +193,10 @@ fn line_at(text: &[u8], number: u64) -> Option<&[u8]>
 fn visible(byte: u8) -> u8
     ensures { result ≡ visible byte }
 {
-    if byte < b' ' || byte == 127 {
-        b'?'
-    } else {
-        byte
+    match byte {
+        b'\t' => b' ',
+        0..=31 | 127 => b'?',
+        _ => byte,
     }
 }
 

@@ -1,4 +1,4 @@
-use Rattle.ks_requests.proofs.Prelude.{◌≡◌, ◌∙◌, ℕ, List, Option, Ok, Err, None, IfSome, excerpt, option_map, refl, seen_site, site_line, subst, sym, reported}
+use Rattle.ks_requests.proofs.Prelude.{◌≡◌, ◌∙◌, ℕ, List, Option, Ok, Err, None, IfSome, excerpt, option_map, refl, seen_site, site_line, subst, sym}
 use Rattle.ks_requests.proofs.Siting.{seen_excerpt}
 use Rattle.ks_tree.specs.declared.fault.TreeFault.TheVariants.{OutOfMemory}
 use Rattle.ks_requests.proofs.output.print_found.Goals as goal
@@ -16,12 +16,14 @@ returns-in-Ok-clause-line g c =
         ),
         refl,
       ),
-      reported _ _ _ _ c.print_site.ensures.whole c.print_site.ensures.broken,
+      c.print_site.ensures.whole,
+      c.print_site.ensures.broken,
     )
 
 pub returns-in-Err-clause-line : goal.returns-in-Err-clause-line
 returns-in-Err-clause-line g c = (
   site_line (seen_site c.args.site.now) None,
   (Err OutOfMemory, tt, refl),
-  reported _ _ _ _ c.print_site-in-Err.ensures.whole c.print_site-in-Err.ensures.broken,
+  c.print_site-in-Err.ensures.whole,
+  c.print_site-in-Err.ensures.broken,
 )

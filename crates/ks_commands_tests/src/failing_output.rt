@@ -51,15 +51,15 @@ fn run_broken_off<T: Backdating>(
     Ok(run_onto(alloc, tree, Dialect::Linux, &asked, scripts))
 }
 
+/// What standard error has then.
+const REFUSED_FOR_ITS_OUTPUT: &[u8] = b"confstamp: 51 Output\n\
+    hint: the work of `sync`, `record`, `depfile` and `batch` is done; repeat others (confstamp explain 51)\n";
+
 /// The command is refused for its output, of which those bytes came that were let through.
 fn check_refused(rt: &impl Abort, run: &Run, passes: usize, place: &str) {
     check(rt, place, run.status == 2);
     check(rt, place, run.out.len() == passes);
-    check(
-        rt,
-        place,
-        run.err.as_slice() == b"confstamp: 51 Output\n".as_slice(),
-    );
+    check(rt, place, run.err.as_slice() == REFUSED_FOR_ITS_OUTPUT);
 }
 
 /// A case over an output that fails after so many calls. The tree is then as after the whole command.

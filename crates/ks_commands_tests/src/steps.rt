@@ -87,9 +87,18 @@ pub(crate) fn shown<T: Tree>(alloc: Global, tree: &mut T, path: &str) -> Result<
     }
 }
 
+/// Standard error without the hint at its end, for which `tests/main` has rows.
+pub(crate) fn without_hint(err: &str) -> &str {
+    match err.split_once("hint: ") {
+        Some((before, _)) => before,
+        None => err,
+    }
+}
+
 /// The status, the output and standard error, one after the other.
 fn run_text(alloc: Global, run: &Run) -> Result<String, Fail> {
     let (out, err) = (str::from_utf8(&run.out)?, str::from_utf8(&run.err)?);
+    let err = without_hint(err);
     Ok(format!(in alloc; "{} {out}{err}", run.status)?)
 }
 

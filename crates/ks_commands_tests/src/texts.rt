@@ -1,6 +1,6 @@
 //! From texts to texts, without the words of a command line: what previews print, and why there is none; what differs from
 //! auto.conf; and scripts whose lines name files more than once.
-use crate::steps::{Run, check_text, run_asked};
+use crate::steps::{Run, check_text, run_asked, without_hint};
 use ks_requests::{PreviewError, ReportStyle, Request, preview_to};
 use ks_symbols::{Dialect, Kconfig};
 use ks_tree::{Backdating, BackdatingTree, MemoryTree, Tree};
@@ -137,6 +137,7 @@ fn put_all<T: Tree>(alloc: Global, tree: &mut T, files: &[(&str, &[u8])]) -> Res
 /// The status of a run, and what it prints.
 fn run_text(alloc: Global, run: &Run) -> Result<String, Fail> {
     let (out, err) = (str::from_utf8(&run.out)?, str::from_utf8(&run.err)?);
+    let err = without_hint(err);
     Ok(format!(in alloc; "{}\n{out}{err}", run.status)?)
 }
 

@@ -20,7 +20,7 @@ fn try_directory(directory: &File, lock: DirectoryLock) -> Result<(), TryLockErr
     }
 }
 
-/// Tries for the lock until these seconds are over, while another program is in the way. After the first one it is told.
+/// Tries for the lock until these seconds are over, while another program is in the way. After the first second that is reported.
 fn try_directory_for(
     rt: &HostRuntime,
     directory: &File,

@@ -15,7 +15,7 @@ use std::io::ErrorKind;
 use std::os::unix::fs::MetadataExt;
 use std::{fs, io};
 
-/// Where the stamps are. Behind a link of another name they can't be told from other files, so this is looked into first.
+/// Where the stamps are. Behind a link of another name they can't be distinguished from other files, so this is looked into first.
 const STAMPS: &str = "include/config";
 
 /// How many directories may stand one above the other: a path of them is as long as the system takes.

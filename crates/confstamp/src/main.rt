@@ -13,7 +13,7 @@ mod standard;
 use host::OwnHost;
 use ks_cli::{WordsError, request_of};
 use ks_commands::execute;
-use ks_errors::{DEVICE, KnownError};
+use ks_errors::{DEVICE, KnownError, OUT_OF_MEMORY, Row};
 use ks_requests::Request;
 use ks_session::{
     ArgError, CommandArgs, Loss, ParsedOptions, Ready, Settings, Start, enter_directory,
@@ -47,7 +47,7 @@ const NO_GENERATION: &str =
 const BUSY: &str = "confstamp: another confstamp is at work in this directory\n\
     hint: wait, and repeat the command; or let confstamp --wait SECONDS do so";
 
-/// What is said of words in front of a command that are none.
+/// What is printed of options in front of a command that are wrong.
 fn text_of(fault: ArgError) -> &'static str {
     match fault {
         ArgError::NoDirectory => "-C: a directory is needed after it",
@@ -56,7 +56,7 @@ fn text_of(fault: ArgError) -> &'static str {
     }
 }
 
-/// The texts of the words.
+/// The texts of the arguments.
 fn texts_of(alloc: Global, args: &[String]) -> Result<Vec<&str>, AllocError> {
     let mut texts = Vec::with_capacity(alloc, args.len())?;
     for arg in args {
@@ -65,16 +65,16 @@ fn texts_of(alloc: Global, args: &[String]) -> Result<Vec<&str>, AllocError> {
     Ok(texts)
 }
 
-/// Prints what to do where the system failed.
-fn print_device_hint(rt: &HostRuntime) {
-    let error = KnownError::of(&DEVICE);
+/// Prints what to do about an error.
+fn print_hint(rt: &HostRuntime, row: &Row) {
+    let error = KnownError::of(row);
     let _ = eprintln!(rt;
         "hint: {} (confstamp explain {})",
         error.advice, error.number
     );
 }
 
-/// Tells that the directory of `-C` is not to be had, and why.
+/// Prints that the directory of `-C` is not to be had, and why.
 fn print_no_directory(
     rt: &HostRuntime,
     directory: &str,
@@ -89,16 +89,16 @@ fn print_no_directory(
     Ok(())
 }
 
-/// Tells that nobody knows whether another program is at work in the directory, and why.
+/// Prints that nobody knows whether another program is at work in the directory, and why.
 fn print_no_lock(rt: &HostRuntime, directory: &str, error: &io::Error) -> Result<(), AllocError> {
     let directory = if directory.is_empty() { "." } else { directory };
     let reason = reason_of(rt.alloc(), error)?;
     let _ = eprintln!(rt; "confstamp: 30 Device\n  the lock on {directory}: {reason}");
-    print_device_hint(rt);
+    print_hint(rt, &DEVICE);
     Ok(())
 }
 
-/// Tells which numbers would be lost.
+/// Prints which numbers would be lost.
 fn print_loss(rt: &HostRuntime, loss: Loss) {
     let _ = match loss {
         Loss::Number(path) => eprintln!(rt; "confstamp: {path} has a number, {NO_GENERATION}"),
@@ -108,7 +108,7 @@ fn print_loss(rt: &HostRuntime, loss: Loss) {
     };
 }
 
-/// Tells why a command did not come to its directory, and answers its exit status, by which a script tells what may be tried again from
+/// Prints why a command did not come to its directory, and returns its exit status, by which a script knows what may be tried again from
 /// what has to be mended. These statuses stay.
 fn print_no_start<P: Drop, L: Drop>(
     rt: &HostRuntime,
@@ -125,7 +125,7 @@ fn print_no_start<P: Drop, L: Drop>(
         }
         Start::NoSeed => {
             let _ = eprintln!(rt; "confstamp: 30 Device\n  the system gives no random number");
-            print_device_hint(rt);
+            print_hint(rt, &DEVICE);
             Ok(REFUSED)
         }
         Start::Busy => {
@@ -192,7 +192,7 @@ fn perform_locked<S: System + Drop, L: Drop>(
     perform(rt, &mut tree, dialect, asked)
 }
 
-/// Runs the command in the directory that stands in front of it, or tells why it didn't come there.
+/// Runs the command in the directory that stands in front of it, or prints why it did not.
 fn run_in_directory(
     rt: &HostRuntime,
     settings: &Settings,
@@ -205,7 +205,7 @@ fn run_in_directory(
     }
 }
 
-/// Runs the command that the words name, over the directory in front of it and the standard streams.
+/// Runs the command that the arguments name, over the directory in front of it and the standard streams.
 fn run_args(rt: &HostRuntime, args: &[&str]) -> Result<u8, AllocError> {
     match parse_global_options(rt.alloc(), args)? {
         ParsedOptions::Taken(CommandArgs { settings, args }) => {
@@ -218,7 +218,7 @@ fn run_args(rt: &HostRuntime, args: &[&str]) -> Result<u8, AllocError> {
     }
 }
 
-/// Runs the command of the program's own words.
+/// Runs the command of the program's own arguments.
 fn run(rt: &HostRuntime) -> io::Result<u8> {
     let args: Vec<String> = env::args(rt)?.skip(1).collect(rt.alloc())?;
     let texts = texts_of(rt.alloc(), &args)?;
@@ -232,20 +232,30 @@ fn print_failure<S: System + Drop>(rt: &HostRuntime, tree: &SystemTree<S>) {
             let _ = eprintln!(rt; "  {reported}");
         }
     }
-    print_device_hint(rt);
+    print_hint(rt, &DEVICE);
 }
 
-/// What cannot even be read of the words, or made room for, is told as a refusal.
+/// Prints that memory was refused before the command began.
+fn print_no_memory(rt: &HostRuntime) {
+    let _ = eprintln!(rt; "confstamp: 10 OutOfMemory");
+    print_hint(rt, &OUT_OF_MEMORY);
+}
+
+/// Prints that an argument is no text.
+fn print_no_text(rt: &HostRuntime) {
+    let _ = eprintln!(rt; "confstamp: the arguments are not UTF-8 text");
+}
+
+/// Arguments that are no text, and want of memory for them, are reported as errors.
 fn main(rt: HostRuntime) -> ExitCode {
     match run(&rt) {
         Ok(status) => ExitCode::from(status),
         Err(error) => {
-            let text = match error.kind() {
-                ErrorKind::OutOfMemory => "confstamp: 10 OutOfMemory",
-                _ => "confstamp: the words are not UTF-8 text",
-            };
-            let _ = eprintln!(rt; "{text}");
-            ExitCode::from(2)
+            match error.kind() {
+                ErrorKind::OutOfMemory => print_no_memory(&rt),
+                _ => print_no_text(&rt),
+            }
+            ExitCode::from(REFUSED)
         }
     }
 }

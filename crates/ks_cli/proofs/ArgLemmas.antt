@@ -1,4 +1,4 @@
--- What the command line makes of words that begin with no hyphen.
+-- What the command line makes of arguments that begin with no hyphen.
 use Rattle.ks_cli.proofs.Prelude.{◌≡◌, ◌≢◌, ◌==◌, inl, inr, ap, sym, subst, ◌∙◌, ℕ, List, [], ◌∷◌, Option, Some, None, refl, codes, true, false, slice_index, option_map, arith, true≢false, nat_tests, Error, HasKind, IsAmong, Kinds, kind_of, Row, Text, first_of, first_value, is_simple, is_simple_and_free, rows_of, subcommand_name_of, subcommand_of, subcommand_rows_of, takes, is_some, same_Some, IsBatchOf, IsPreviewOf, Request, WordsError, IfErr, IfOk, IsPageNamed, IsPageReported, IsReason, IsRequestOf, IsTakenAs, HasText, IsReported, Makes, Ok, Err, Result, fault_of, is_no_memory, ArgMatches, CommandLine, reading_of, strip_byte, bytes_eq, Found, first_value-rows, clap_on_literals, command_line_app, rules}
 use Rattle.clap.specs.declared.error.kind.ErrorKind.{ErrorKind}
 use Rattle.clap.specs.declared.error.kind.ErrorKind.TheVariants.{OutOfMemory as NoMemory}
@@ -92,7 +92,7 @@ batch_of p (request.Backdate which ts) h = elim h.0 [
 ]
 batch_of p r h = absurd (true≢false (ap (λ t. slice_index t 0 == 98) h.0))
 
--- an error that is told is of a kind of its words
+-- an error that is reported is of a kind of its arguments
 pub fault_reported : (e : Error) (asked : List Text) (reported : WordsError) → HasKind (fault_of command_line_app asked) e → IsReported e reported
     → IsReason asked reported
 fault_reported e asked (args.Refused help) (inl memory) h = absurd (true≢false (sym (ap is_no_memory memory) ∙ h.1))
@@ -113,7 +113,7 @@ pub page_visible : (error : Texts) → is_visible (page error) ≡ true
 unfolding page
 page_visible error = refl
 
--- the page that is told for its word is that of the command
+-- the page that is printed for its argument is that of the command
 pub page_named : (name : Text) (rows : List Row) (reported : WordsError) → name ≡ codes "explain" → IsPageReported (arg_at (codes "NUMBER") rows) reported
     → IsPageNamed name rows reported
 page_named name rows (args.Refused help) is h = (is, h.0)
@@ -123,7 +123,7 @@ pub page_report_style : (arg : Text) (reported : WordsError) → IsPageReported 
 page_report_style arg (args.Refused help) h = h.1
 page_report_style arg args.OutOfMemory h = tt
 
--- what holds of the command that was entered holds of the one that the words name
+-- what holds of the command that was entered holds of the one that the arguments name
 pub made_by : (o : Option (Text × List Row)) (name : Text) (rows : List Row) (r : Result Request WordsError)
     → Some name ≡ option_map (λ p. p.0) o → Some rows ≡ option_map (λ p. p.1) o → IfOk r (IsRequestOf name rows)
     → IfOk r (λ q. IsSomeAnd o (λ p. IsRequestOf p.0 p.1 q))
@@ -136,7 +136,7 @@ pub paged_by : (o : Option (Text × List Row)) (name : Text) (rows : List Row) (
 paged_by o name rows (Ok q) e f h = tt
 paged_by o name rows (Err reported) e f h = both o name rows (λ n ws. IsPageNamed n ws reported) e f h
 
--- .. so the words that are taken make no request for its page alone
+-- .. so arguments that are accepted make no request for its page alone
 pub page_taken : (asked : List Text) (r : Result Request WordsError)
     → IfErr r (λ reported. IsSomeAnd (subcommand_of command_line_app asked) (λ p. IsPageNamed p.0 p.1 reported))
     → IfErr r (λ reported. takes command_line_app asked ≡ true → IsTakenAs asked reported)

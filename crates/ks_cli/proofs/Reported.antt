@@ -1,4 +1,4 @@
--- The words of a preview and of a script.
+-- The arguments of a preview and of a script.
 use Rattle.ks_cli.proofs.Prelude.{PreviewArgs, BatchArgs, rules}
 use Rattle.ks_cli.proofs.ArgLemmas.{batch_of, batch_rows, batch_takes, preview_of, preview_rows, preview_takes}
 

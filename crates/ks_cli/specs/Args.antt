@@ -1,4 +1,4 @@
--- Words of the command line, the requests that they make, and why they make none.
+-- Arguments of the command line, the requests that they make, and why they make none.
 use Rattle.std.specs.Prelude.{◌≡◌, ◌≢◌, ◌⊎◌, ℕ, Bool, false, true, nat_lt, List, [], ◌∷◌, bytes_eq, codes, option_map, slice_index, string_bytes, unwrap_or, ⊤, if◌then◌else◌, ◌<◌, ◌^◌, Option, Some, None, map}
 use Rattle.std.specs.List.{All, list_any}
 use Rattle.std.specs.Option.{option_map_or}
@@ -25,7 +25,7 @@ use Rattle.clap.specs.declared.error.Error.{Error}
 use Rattle.clap.specs.declared.error.kind.ErrorKind.{ErrorKind}
 use Rattle.clap.specs.declared.error.kind.ErrorKind.TheVariants.{DisplayHelp, DisplayVersion, OutOfMemory as NoMemory}
 
--- the word does not begin with `-`
+-- the argument does not begin with `-`
 abbrev pub IsPlainArg : List ℕ → Type 0
 IsPlainArg arg = slice_index arg 0 ≢ 45
 
@@ -53,12 +53,12 @@ abbrev pub HasText : WordsError → Type 0
 HasText (Refused help) = is_visible (string_bytes help.text) ≡ true
 HasText OutOfMemory = ⊤
 
--- An error of `clap` is told as one of its kind, but want of memory, or memory is refused for the text.
+-- An error of `clap` is reported as one of its kind, but want of memory, or memory is refused for the text.
 abbrev pub IsReported : Error → WordsError → Type 0
 IsReported e (Refused help) = (help.kind ≡ kind_of e) × (is_no_memory (kind_of e) ≡ false) × (is_visible (string_bytes help.text) ≡ true)
 IsReported e OutOfMemory = ⊤
 
--- the word that stands for this name, and the words that stand for it
+-- the argument of this name, and all arguments of it
 abbrev pub arg_at : Text → List Row → Text
 arg_at name rows = unwrap_or (first_of name rows) []
 
@@ -105,7 +105,7 @@ IsNumberOf None number = number ≡ None
 IsNumberOf (Some arg) (Some n) = IsNumeral 10 (without_leading_plus arg) × (n ≡ digits_value 10 (without_leading_plus arg))
 IsNumberOf (Some arg) None = (IsNumeral 10 (without_leading_plus arg) × (digits_value 10 (without_leading_plus arg) < 2 ^ 64)) → ⊥
 
--- the request is that of the command, and holds what `clap` found for each of its words
+-- the request is that of the command, and holds what `clap` found for each of its arguments
 abbrev pub IsRequestOf : Text → List Row → Request → Type 0
 IsRequestOf command rows (request.Sync k d stamps) = (command ≡ codes "sync")
     × (string_bytes k ≡ arg_at (codes "KCONFIG") rows) × (string_bytes d ≡ arg_at (codes "DOTCONFIG") rows)

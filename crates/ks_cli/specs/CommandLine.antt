@@ -1,4 +1,4 @@
--- The command line as `clap` sees it. The words are this project's.
+-- The command line as `clap` sees it. The names are this project's.
 use Rattle.std.specs.Prelude.{List, [], ◌∷◌, codes, true, fold, map, Option, Some, None}
 use Rattle.std.specs.Borrow.{Bor}
 use Rattle.clap.specs.Words.{App, Rule, Text, new_app, new_rule, with_rule, with_subcommand}
@@ -51,11 +51,11 @@ rule_for name (NumberAfter option) = number_following option.now name
 abbrev pub arg_rule : ArgUsage → Rule
 arg_rule arg = rule_for arg.name.now arg.num_args
 
--- a command that takes these words
+-- a command that takes these arguments
 abbrev pub taking : Text → List Rule → App
 taking name rules = fold with_rule (new_app name) rules
 
--- a command that needs one of its words
+-- a command that needs one of its arguments
 abbrev pub needing_one : App → App
 needing_one app = on_top (λ s. record s { arg_required_else_help = true }) app
 

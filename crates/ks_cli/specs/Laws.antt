@@ -1,4 +1,4 @@
--- Laws of the definitions: the words of a preview and of a script that begin with no hyphen.
+-- Laws of the definitions: the arguments of a preview and of a script that begin with no hyphen.
 use Rattle.std.specs.Prelude.{◌≡◌, List, [], ◌∷◌, None, codes, true}
 use Rattle.clap.specs.Words.{Text, takes}
 use Rattle.ks_requests.specs.Requests.{IsBatchOf, IsPreviewOf}
@@ -7,7 +7,7 @@ use Rattle.ks_cli.specs.CommandLine.{command_line_app}
 use Rattle.ks_cli.specs.Meaning.{Makes}
 use Rattle.ks_cli.specs.Args.{IsPlainArg}
 
--- `clap` takes the words, and each request that they make is of this kind.
+-- `clap` accepts the arguments, and each request that they make is of this kind.
 pub record AreArgsOf (args : List Text) (Is : Request → Type 0) : Type 0 where
   pub taken : takes command_line_app args ≡ true
   pub made : (request : Request) → Makes args request → Is request

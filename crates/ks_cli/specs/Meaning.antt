@@ -1,4 +1,4 @@
--- What the words after the program's name mean: a request, a mistake, or that help is asked for.
+-- What the arguments mean: a request, a mistake, or that help is asked for.
 use Rattle.std.specs.Prelude.{◌≡◌, ◌⊎◌, ℕ, List, [], IsSomeAnd, codes, false, string_bytes, true, ⊤}
 use Rattle.std.specs.Option.{MatchOption}
 use Rattle.std.specs.Bool.{MatchBool}
@@ -14,11 +14,11 @@ use Rattle.ks_cli.specs.declared.help_text.HelpText.{HelpText}
 use Rattle.ks_cli.specs.declared.args.WordsError.{WordsError}
 use Rattle.ks_cli.specs.declared.args.WordsError.TheVariants.{OutOfMemory, Refused}
 
--- The request is that of the command that `clap` finds in the words, with what it finds for each of its words.
+-- The request is that of the command that `clap` finds in the arguments, with what it finds for each of them.
 abbrev pub Makes : List Text → Request → Type 0
 Makes args request = IsSomeAnd (subcommand_of command_line_app args) (λ command. IsRequestOf command.0 command.1 request)
 
--- The page of the error of this number or name, as help is told; or of none, and which errors there are, as a mistake is told.
+-- The page of the error of this number or name, printed as help; or of none, and the list of errors, printed as a mistake.
 abbrev pub IsPageOf : Text → HelpText → Type 0
 IsPageOf arg help = MatchOption (error_of arg)
     ((is_help help.kind ≡ false) × (string_bytes help.text ≡ known_errors))
@@ -29,22 +29,22 @@ abbrev pub IsPageReported : Text → WordsError → Type 0
 IsPageReported arg (Refused help) = IsPageOf arg help × (is_visible (string_bytes help.text) ≡ true)
 IsPageReported arg OutOfMemory = ⊤
 
--- .. by a command and its words: those of `explain`
+-- .. by a command and its arguments: those of `explain`
 abbrev pub IsPageNamed : Text → List Row → WordsError → Type 0
 IsPageNamed name rows (Refused help) = (name ≡ codes "explain") × IsPageOf (arg_at (codes "NUMBER") rows) help
 IsPageNamed name rows OutOfMemory = ⊤
 
--- The words ask `explain` about an error, and this is its page.
+-- The arguments ask `explain` about an error, and this is its page.
 abbrev pub IsPageFor : List Text → HelpText → Type 0
 IsPageFor args help = IsSomeAnd (subcommand_of command_line_app args)
     (λ command. (command.0 ≡ codes "explain") × IsPageOf (arg_at (codes "NUMBER") command.1) help)
 
--- Why words that `clap` takes make no request: they ask for a page, or memory was refused.
+-- Why arguments that `clap` accepts make no request: they ask for a page, or memory was refused.
 abbrev pub IsTakenAs : List Text → WordsError → Type 0
 IsTakenAs args (Refused help) = IsPageFor args help
 IsTakenAs args OutOfMemory = ⊤
 
--- Why any words make none: it is of a kind that these words have, or they ask for a page.
+-- Why any arguments make none: it is of a kind that these arguments have, or they ask for a page.
 abbrev pub IsReason : List Text → WordsError → Type 0
 IsReason args (Refused help) = IsAmong help.kind (fault_of command_line_app args) ⊎ IsPageFor args help
 IsReason args OutOfMemory = ⊤
@@ -63,7 +63,7 @@ abbrev pub IsHelp : HelpText → State → State → State → State → ℕ →
 IsHelp help before after err_before err_after status = MatchBool (is_help help.kind)
     (IsShown (string_bytes help.text) before after err_before err_after status) (IsBlamed (string_bytes help.text) before after err_before err_after status)
 
--- `clap` does not take the words, for a reason of a kind that these words have, or they ask for a page; there is something to see in what is said
+-- `clap` does not accept the arguments, for a reason of a kind that they have, or they ask for a page; there is something to see in what is said
 -- of it, and that is printed.
 pub record Explains (args : List Text) (help : HelpText) (before after err_before err_after : State) (status : ℕ) : Type 0 where
   pub refused : takes command_line_app args ≡ true → IsPageFor args help

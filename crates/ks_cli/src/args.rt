@@ -1,4 +1,4 @@
-//! What the words after the program's name ask for.
+//! What the arguments ask for.
 ghost use Rattle.std.specs.Prelude.{◌≡◌, ◌≢◌, ℕ, List, [], ◌∷◌, IfErr, IfOk, codes, true, map, None, option_map, string_bytes, if◌then◌else◌};
 ghost use Rattle.clap.specs.Words.{first_of, found_of, kind_of, one_of, rows_of, takes};
 ghost use Rattle.clap.specs.Walk.{texts};
@@ -16,10 +16,10 @@ use ks_requests::{DepfileAfter, OutputFormat, ReportStyle, Request, Stamps, Targ
 use std::alloc::{AllocError, Global};
 use thiserror::Error;
 
-/// Why the words are no request.
+/// Why the arguments are no request.
 #[derive(Debug, Drop, Error)]
 pub enum WordsError {
-    /// What is said in place of a request: a mistake in the words, help, the version, or what is known of an error.
+    /// What is said in place of a request: a mistake in the arguments, help, the version, or what is known of an error.
     #[error("{0}")]
     Refused(HelpText),
     #[error("10 OutOfMemory")]
@@ -54,7 +54,7 @@ fn refused(alloc: Global, error: &clap::Error) -> WordsError
     }
 }
 
-/// The word of the argument `id`, or an empty one.
+/// The text of the argument `id`, or an empty one.
 #[tactic(auto, using(crate::proofs::ArgLemmas::first_at))]
 fn text_of<'a>(matches: &ArgMatches<'a>, id: &str) -> &'a str
     ensures { result.now ≡ arg_at id.now (rows_of (found_of matches.now)) }
@@ -62,14 +62,14 @@ fn text_of<'a>(matches: &ArgMatches<'a>, id: &str) -> &'a str
     matches.get_str(id).unwrap_or("")
 }
 
-/// The word of the required argument `id`.
+/// The text of the required argument `id`.
 fn arg(alloc: Global, matches: &ArgMatches<'_>, id: &str) -> Result<String, AllocError>
     ensures { IfOk result (λ s. string_bytes s ≡ arg_at id.now (rows_of (found_of matches.now))) }
 {
     String::from_str(alloc, text_of(matches, id))
 }
 
-/// The word of the argument `id`, where it is there.
+/// The text of the argument `id`, where it is there.
 #[tactic(auto, using(crate::proofs::ArgLemmas::first_at))]
 fn optional_arg(
     alloc: Global,
@@ -84,7 +84,7 @@ fn optional_arg(
     }
 }
 
-/// Whether the option `id` stands there, which takes no word.
+/// Whether the option `id` stands there, which takes no value.
 #[tactic(auto, using(crate::proofs::ArgLemmas::first_at))]
 fn is_set(matches: &ArgMatches<'_>, id: &str) -> bool
     ensures { result ≡ is_set id.now (rows_of (found_of matches.now)) }
@@ -102,7 +102,7 @@ fn chosen<C: Copy>(matches: &ArgMatches<'_>, id: &str, set: C, unset: C) -> C
     if is_set(matches, id) { set } else { unset }
 }
 
-/// The words of the argument `id`.
+/// The texts of the argument `id`.
 fn all_args(alloc: Global, matches: &ArgMatches<'_>, id: &str) -> Result<Vec<String>, AllocError>
     ensures { IfOk result (λ ws. map (λ s. string_bytes s) ws.items ≡ args_at id.now (rows_of (found_of matches.now))) }
 {
@@ -155,7 +155,7 @@ fn preview_request(alloc: Global, matches: &ArgMatches<'_>) -> Result<Request, A
     })
 }
 
-/// What `diff` is to tell.
+/// What `diff` is to print.
 fn report_style(matches: &ArgMatches<'_>) -> ReportStyle
     ensures { result ≡ report_style_of (rows_of (found_of matches.now)) }
 {
@@ -235,7 +235,7 @@ fn impact_request(alloc: Global, matches: &ArgMatches<'_>) -> Result<Request, Al
     })
 }
 
-/// The number of the argument `id`, where it is there. `clap` takes no other word for it.
+/// The number of the argument `id`, where it is there. `clap` takes no other text for it.
 fn number(matches: &ArgMatches<'_>, id: &str) -> Option<u64>
     ensures { IsNumberOf (one_of id.now (rows_of (found_of matches.now))) result }
 {
@@ -260,7 +260,7 @@ fn cost_request(alloc: Global, matches: &ArgMatches<'_>) -> Result<Request, Allo
     })
 }
 
-/// What `explain` says: the page of the error that its word names, unless memory is refused.
+/// What `explain` says: the page of the error that its argument names, unless memory is refused.
 fn page_asked(alloc: Global, matches: &ArgMatches<'_>) -> WordsError
     ensures { IsPageReported (arg_at (codes "NUMBER") (rows_of (found_of matches.now))) result }
 {
@@ -322,7 +322,7 @@ fn asked(alloc: Global, name: &str, matches: &ArgMatches<'_>) -> Result<Request,
     Ok(request_named(alloc, name, matches)?)
 }
 
-/// The request that the words after the program's name make. A word that begins with `-` is taken after `--`.
+/// The request that the arguments make. One that begins with `-` is taken after `--`.
 pub fn request_of<'a>(alloc: Global, args: &'a [&'a str]) -> Result<Request, WordsError>
     ensures exact { IfOk result (λ r. Makes (texts args.entry.now) r) }
     ensures taken { IfErr result (λ e. takes command_line_app (texts args.entry.now) ≡ true → IsTakenAs (texts args.entry.now) e) }
@@ -341,7 +341,7 @@ pub fn request_of<'a>(alloc: Global, args: &'a [&'a str]) -> Result<Request, Wor
     };
     match matches.subcommand() {
         Some((name, inner)) => asked(alloc, name, inner),
-        // `clap` refuses words without a command itself.
+        // `clap` refuses arguments without a command itself.
         None => unreachable!(),
     }
 }

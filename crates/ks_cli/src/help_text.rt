@@ -1,6 +1,6 @@
-//! What is said where the words are no request: help, the version, what is known of an error, or which word is a mistake.
+//! What is printed where the arguments are no request: help, the version, the page of an error, or which argument is a mistake.
 //!
-//! The text is made with the request, or in its place: who prints it asks for no memory, so a mistake is never told as want of it.
+//! The text is made with the request, or in its place: who prints it asks for no memory, so a mistake is never reported as want of it.
 ghost use Rattle.std.specs.Prelude.{◌≡◌, IfOk, string_bytes, true};
 ghost use Rattle.clap.specs.Words.{kind_of};
 ghost use Rattle.ks_streams.specs.Streams.{state_of};
@@ -15,7 +15,7 @@ use std::alloc::{AllocError, Global};
 use std::fmt;
 
 /// What is said where `clap` says nothing.
-const NO_COMMAND: &str = "error: these words are no command\n";
+const NO_COMMAND: &str = "error: these arguments are no command\n";
 
 /// A text in place of a request, and of which kind it is.
 #[derive(Debug, Drop)]
@@ -46,7 +46,7 @@ impl HelpText {
         Ok(HelpText { kind, text })
     }
 
-    /// The page of the error of this number or name; of any other word, which errors there are.
+    /// The page of the error of this number or name; of any other text, the list of errors.
     pub(crate) fn of_error(alloc: Global, arg: &str) -> Result<HelpText, AllocError>
         ensures page { IfOk result (IsPageOf arg.now) }
         ensures text { IfOk result (λ help. is_visible (string_bytes help.text) ≡ true) }
@@ -80,7 +80,7 @@ impl fmt::Display for HelpText {
     }
 }
 
-/// Prints what is said in place of a request: help, the version and the page of an error to the output, status 0, and a mistake in the words to
+/// Prints what is said in place of a request: help, the version and the page of an error to the output, status 0, and a mistake in the arguments to
 /// standard error, status 2. Where the output fails that is refused, and the status is 2.
 pub fn print_help<W: Writer, E: Writer>(
     help: &HelpText,

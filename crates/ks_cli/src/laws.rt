@@ -1,7 +1,7 @@
 //! Laws of the definitions, each the contract of a function that does nothing.
 ghost use Rattle.ks_cli.specs.Laws.{BatchArgs, PreviewArgs};
 
-/// `preview` and two words without a hyphen are a preview of these files, as the first one.
+/// `preview` and two arguments without a hyphen are a preview of these files, as the first one.
 pub fn preview_args()
     ensures { PreviewArgs }
 {}

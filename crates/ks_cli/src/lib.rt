@@ -1,4 +1,4 @@
-//! What the words after the program's name mean: a request of ks_requests, or what `clap` says in its place. It performs
+//! What the arguments mean: a request of ks_requests, or what `clap` says in its place. It performs
 //! nothing and knows no files, so it is proved beside ks_commands, and no other crate needs the rules of `clap`.
 #![tactic(auto)]
 

@@ -1,4 +1,4 @@
-//! What each command is for and which words it takes: the table of which the command line and its help are made.
+//! What each command is for and which arguments it takes: the table from which the command line and its help are made.
 
 /// What the program is for.
 pub(crate) const ABOUT: &str =
@@ -10,33 +10,33 @@ pub(crate) const USAGE: &str =
 
 /// What holds for all commands.
 pub(crate) const AFTER_HELP: &str = "\
-Files are looked up in the current directory, or below DIR of -C DIR in front of the command.
---begin lets a sync begin its numbers again, where files hold some and auto.conf has no generation.
---dialect says in whose words sources and Kconfigs are read: linux, as without it, u-boot, busybox or coreboot.
---wait tries again for SECONDS seconds where another confstamp is at work in the directory.
-A word that begins with - is taken after --.
+Paths are relative to the current directory, or to DIR with -C DIR in front of the command.
+--begin lets sync number from 1 again where files have numbers and auto.conf has no generation.
+--dialect says whose macros and Kconfig are read: linux (the default), u-boot, busybox or coreboot.
+--wait tries again for SECONDS seconds while another confstamp is at work in the directory.
+An argument that begins with - has to stand after --.
 
 Exit status:
   0    done, and nothing is stale
-  1    some object is stale, or was built by another command; of diff --exit-code and --quiet, a symbol differs
-  2    something was refused, or the words are no command
+  1    an object is stale, or was built by another command; with diff --exit-code or --quiet, a symbol differs
+  2    an error, or the arguments are wrong
   65   numbers would be lost, so nothing was done
   75   another confstamp is at work in the directory, so nothing was done
   141  nobody reads the output any more; all else is done
 
-A refusal is told by its number and its name, and by its place where it has one (confstamp explain NUMBER says more):
+An error has a number, a name and often a place; confstamp explain NUMBER says what to do. By what they are about:
   Kconfig       1 NotBare, 2 BadName, 3 ModuleName, 4 NoType, 5 TypeClash, 6 BadTitle
   .config       7 NotAConfigLine, 8 BadValue
   any file      9 TooLarge, 40 MissingFile
   auto.conf     11 BadAuto, 41 NeverSynced, 42 GenerationFull
-  DEPFILE       20 NoTarget, 21 BadPath; token 0 is a word of the command line
+  DEPFILE       20 NoTarget, 21 BadPath; token 0 is an argument of the command line
   COMMAND       22 BadCommand
   command file  23 BadCommandFile
   stamp         31 BadStamp
   SCRIPT        50 BadScript
   the system    10 OutOfMemory, 30 Device, 51 Output";
 
-/// How a word may stand.
+/// How often an argument may stand there, and after what.
 #[derive(Clone, Copy)]
 pub(crate) enum NumArgs {
     Once,
@@ -44,7 +44,7 @@ pub(crate) enum NumArgs {
     AnyNumber,
     /// After the option of this name, at most once.
     Following(&'static str),
-    /// It is an option itself, of its own name, and no word stands after it.
+    /// It is an option itself, of its own name, and takes no value.
     Flag,
     AtLeastOnce,
     /// After the option of this name, once.
@@ -53,7 +53,7 @@ pub(crate) enum NumArgs {
     NumberAfter(&'static str),
 }
 
-/// A word after a command.
+/// An argument of a command.
 #[derive(Clone, Copy)]
 pub(crate) struct ArgUsage {
     pub(crate) name: &'static str,
@@ -67,12 +67,12 @@ pub(crate) struct Usage {
     pub(crate) name: &'static str,
     pub(crate) about: &'static str,
     pub(crate) args: &'static [ArgUsage],
-    /// How it is called, where `clap` would not say so. Without any word it is told how.
+    /// How it is called, where `clap` would not say so. Without any argument this is printed.
     pub(crate) override_usage: Option<&'static str>,
     pub(crate) after_help: &'static str,
 }
 
-// The words that several commands take. A word of one command alone stands in its row of the table.
+// The arguments that several commands take. One of a single command stands in its row of the table.
 
 const KCONFIG: ArgUsage = ArgUsage {
     name: "KCONFIG",
@@ -125,7 +125,7 @@ const UNRECORDED: ArgUsage = ArgUsage {
 const COMMAND: ArgUsage = ArgUsage {
     name: "COMMAND",
     num_args: NumArgs::Once,
-    help: "The command line that builds the object, as one word",
+    help: "The command line that builds the object, as one argument",
 };
 
 pub(crate) const USAGES: &[Usage] = &[
@@ -244,7 +244,7 @@ Example: confstamp depfile x.d x.o 'cc -c x.c'",
         args: &[TARGETS, FROM, JSON],
         override_usage: Some("confstamp stale [--json] [--from FILE] [TARGET]..."),
         after_help: "\
-Prints a line for each object: fresh, stale and why, or refused and why. One of the words is needed.
+Prints a line for each object: fresh, stale and why, or refused and why. A TARGET or --from is needed.
 
 Example: confstamp stale x.o y.o",
     },
@@ -255,7 +255,7 @@ Example: confstamp stale x.o y.o",
         override_usage: Some("confstamp why [--json] [--from FILE] [TARGET]..."),
         after_help: "\
 Prints the lines of stale, and below an object NAME generation N PLACE for each symbol: when it changed, and where
-it was found; or recorded as PATH, where that is another spelling of its path. One of the words is needed.
+it was found; or recorded as PATH, where that is another spelling of its path. A TARGET or --from is needed.
 
 Example: confstamp why x.o y.o",
     },
@@ -278,7 +278,7 @@ Example: confstamp impact Kconfig .config x.o y.o",
         override_usage: Some("confstamp backdate [--unrecorded] [--from FILE] [TARGET]..."),
         after_help: "\
 Prints the lines of stale. The file of an object that is stale by its record gets the first second of 1970 as its
-time, and keeps its bytes. One of the words is needed.
+time, and keeps its bytes. A TARGET or --from is needed.
 
 Example: confstamp backdate --from objects",
     },
@@ -288,7 +288,7 @@ Example: confstamp backdate --from objects",
         args: &[UNRECORDED, TARGETS, FROM],
         override_usage: Some("confstamp age [--unrecorded] [--from FILE] [TARGET]..."),
         after_help: "\
-Does what backdate does. One of the words is needed.
+Does what backdate does. A TARGET or --from is needed.
 
 Example: confstamp age --from objects",
     },
@@ -334,7 +334,7 @@ Example: confstamp outdated x.o 'cc -c x.c'",
         override_usage: Some("confstamp users --from FILE <SYMBOL>..."),
         after_help: "\
 Prints OBJECT SYMBOL PLACE for each, with the first file that mentions the symbol, and N of M objects to standard
-error. Looks at each object once, and at command files alone.
+error. Looks at each object once, and only at command files.
 
 Example: confstamp users --from objects PRINTK",
     },
@@ -347,13 +347,13 @@ Example: confstamp users --from objects PRINTK",
             ArgUsage {
                 name: "N",
                 num_args: NumArgs::NumberAfter("top"),
-                help: "Print the N dearest symbols alone",
+                help: "Print only the N most expensive symbols",
             },
         ],
         override_usage: Some("confstamp cost [--from FILE] [--top N] [TARGET]..."),
         after_help: "\
-Prints SYMBOL N for each, the dearest first. Looks at each object once, and at command files alone. One of the words
-is needed.
+Prints SYMBOL N for each, the most expensive first. Looks at each object once, and only at command files. A TARGET or
+--from is needed.
 
 Example: confstamp cost --from objects --top 20",
     },
@@ -363,7 +363,7 @@ Example: confstamp cost --from objects --top 20",
         args: &[ArgUsage {
             name: "NUMBER",
             num_args: NumArgs::AtMostOnce,
-            help: "The number of the error, or its name; without it, the mistake is told with all that there are",
+            help: "The number of the error, or its name; without it, all errors are listed",
         }],
         override_usage: None,
         after_help: "\

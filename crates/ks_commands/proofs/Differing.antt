@@ -1,4 +1,4 @@
--- What is told of a comparison, and what its status says.
+-- What is printed of a comparison, and what its status says.
 use Rattle.ks_commands.proofs.Prelude.{◌≡◌, ◌↔◌, ◌∙◌, ℕ, List, [], ◌∷◌, true, ◌||◌, cond, Ok, refl, sym, ap, bytes_eq-Decides, Configuration, is_in, Texts, AreChanges, differs, ReportStyle, Outcome, IsUnknown, ReportsUnknown, code_of, unknown_lines, Files, IsDiff, asks_status, difference_status, lines_asked, StatusesReportDifferences, KconfigText, rules}
 
 -- an outcome tells what it holds

@@ -36,7 +36,7 @@ pub none_before_program : (dialect : Dialect) (r : Request) (ended : Ending) (ol
 none_before_program dialect (request.Batch p) ended old new (a, b, is) none = search (rules, none_first)
 none_before_program dialect asked ended old new (a, b, is) none = search (rules, none_before_stamps, none_before_recorded, none_before_depfile)
 
--- ---- what is told then
+-- ---- what is printed then
 
 -- the verdict of a recorded object
 evaluated_reports : (s : TreeState) (o : List ℕ) (answer : Result VerdictValue EngineError) → NoneBroken s.history

@@ -18,7 +18,7 @@ left_named symbols place name deps i b next is = search rules
 pub err_as : {A B : Type 0} {e f : EngineError} → ◌≡◌ {A = Result A EngineError} (Err e) (Err f) → ◌≡◌ {A = Result B EngineError} (Err e) (Err f)
 err_as {A} {B} {e} {f} is = let same : e ≡ f = cc in ap (λ x. Err x) same
 
--- an object that is told of by its record
+-- an object that is reported by its record
 abbrev pub read_part : (List ℕ → Option CommandRecord → List ℕ) → List ℕ → Result (Option CommandRecord) EngineError → Part (Option CommandRecord)
 read_part line o answer = record { object = o; answer = answer; lines = answer_line line o answer; status = status_unless_refused (λ _. 0) answer }
 

@@ -34,7 +34,7 @@ reported_spelled files query format o answer reported spelling (inl (same, alike
     subst (λ a. spelling_reported (limit_of query) format spelling ≡ spelling_reported (limit_of query) format (spelling_of files o a)) (sym same) alike
 reported_spelled files query format o answer reported spelling (inr (why, up, none)) = rw (none, no_spelling files o reported up) refl
 
--- an object that is told of by files that are the same
+-- an object that is reported by files that are the same
 pub is_explained : (honest : Type 0) (then files : Files) (backdates : Option BackdateScope) (format : OutputFormat) (query : Query) (o : List ℕ) (answer : Result Explanation EngineError)
     (spelling : Option (List ℕ)) → (honest → then ≡ files) → (honest → IsAnswerTo query then o answer)
     → (honest → spelling_reported (limit_of query) format spelling ≡ spelling_reported (limit_of query) format (spelling_of then o answer))

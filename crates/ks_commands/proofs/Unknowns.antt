@@ -1,4 +1,4 @@
--- Names that no Kconfig declares, and what is told of them.
+-- Names that no Kconfig declares, and what is printed of them.
 use Rattle.ks_commands.proofs.Prelude.{◌≡◌, ◌∙◌, ◌+◌, ◌++◌, ℕ, List, [], ◌∷◌, Option, Some, None, cond, flat_map, refl, sym, ap, ap₂, arith, Kind, is_of_unknown, unknown_count, declared, lines, Statement, statement, unknown-cons, unknown_in, unknown_line, unknown_lines, unknown_names, IsUnknown, ReportStyle, lines_asked, KconfigText, rules}
 use Rattle.ks_requests.specs.declared.status.Count.{Count}
 use Rattle.ks_requests.specs.declared.report_style.ReportStyle.TheVariants.{Status}

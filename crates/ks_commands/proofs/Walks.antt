@@ -46,7 +46,7 @@ pub stale_more : {A : Type 0} (parts : List (Part A)) (p : Part A) (n m one : �
     → n + m ≡ stale_among (statuses (parts ++ p ∷ []))
 stale_more parts p n m one so_far is stale = search (rules, map-append, filter-append, length-append)
 
--- ---- what is told by more is told by less
+-- ---- what is printed of more is printed of less
 
 pub steps_weaker : {A : Type 0} (P Q : Querying A) (first : FileState) (ps : List (Part A)) (last : FileState)
     → ((s : FileState) (p : Part A) (t : FileState) → IsStep P s p t → IsStep Q s p t) → Walks P first ps last → Walks Q first ps last

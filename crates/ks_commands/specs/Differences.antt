@@ -1,4 +1,4 @@
--- What differs between auto.conf and what a synchronisation would write, told with the texts of both. The form is this project's.
+-- What differs between auto.conf and what a synchronisation would write, printed with the texts of both. The form is this project's.
 use Rattle.std.specs.Prelude.{◌≡◌, ◌++◌, ℕ, Bool, true, false, List, [], ◌∷◌, codes, bytes_eq, flat_map, Ok, Option, Some, None, option_map, if◌then◌else◌}
 use Rattle.std.specs.FinMap as map
 use Rattle.ks_symbols.specs.declared.kinds.Class.{Class}
@@ -65,7 +65,7 @@ pub record ReportsChanges (report_style : ReportStyle) (old : Texts) (new : Conf
   pub lines : text ≡ lines_asked report_style (flat_map (difference_line old new) names)
   pub status_of : status ≡ difference_status report_style names
 
--- what a synchronisation of these two texts would touch, told
+-- what a synchronisation of these two texts would touch, printed
 abbrev pub IsDiff : ReportStyle → Files → KconfigText → List ℕ → List ℕ → ℕ → Type 0
 IsDiff report_style files kconfig dotconfig text status =
     (plan : Plan) × IsSyncPlan files kconfig dotconfig (Ok plan) × ReportsChanges report_style plan.old plan.config text status

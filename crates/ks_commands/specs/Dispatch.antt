@@ -1,4 +1,4 @@
--- What the program does with its words.
+-- What the program does with its arguments.
 use Rattle.std.specs.Prelude.{◌≡◌, ℕ, List, [], Result, Ok, Err, true}
 use Rattle.clap.specs.Words.{Text, takes}
 use Rattle.ks_streams.specs.Streams.{State}
@@ -17,19 +17,19 @@ use Rattle.ks_cli.specs.Args.{HasText}
 use Rattle.ks_cli.specs.declared.args.WordsError.{WordsError}
 use Rattle.ks_cli.specs.declared.args.WordsError.TheVariants as why
 
--- The words make this request; or they make none for this reason, or memory was refused.
+-- The arguments make this request; or they make none for this reason, or memory was refused.
 abbrev pub IsAskedBy : List Text → Result Request WordsError → Type 0
 IsAskedBy args (Ok request) = Makes args request
 IsAskedBy args (Err e) = (takes command_line_app args ≡ true → IsTakenAs args e) × IsReason args e × HasText e
 
--- What is said of the words is printed; or memory was refused for them, and that is told.
+-- What is said of the arguments is printed; or memory was refused for them, and that is reported.
 abbrev pub Refuses : List Text → WordsError → State → State → State → State → ℕ → Type 0
 Refuses asked (why.Refused printed) before after err_before err_after status = Explains asked printed before after err_before err_after status
 Refuses asked why.OutOfMemory before after err_before err_after status =
     Printed [] (Err (Engine OutOfMemory)) before after err_before err_after status
 
--- A request was performed, and then no more than read: a refusal is told with where it points. Where there is none the tree is as before, and all
--- words that make none for this reason are explained, or memory was refused for them.
+-- A request was performed, and then no more than read: a refusal is printed with where it points. Where there is none the tree is as before, and all
+-- arguments that make none for this reason are explained, or memory was refused for them.
 abbrev pub Executes : {T : Type 0} → Ghosts T → Dialect → Result Request WordsError → T → T → State → State → State → State → ℕ → Type 0
 Executes {T} tree dialect (Ok request) old new before after err_before err_after status =
     (ended : Ending) × (done : T) × Performs tree dialect old done request ended × Reads tree done new ⊥

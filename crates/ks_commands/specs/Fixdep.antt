@@ -1,4 +1,4 @@
--- What `fixdep` makes of the files: the words first, then each file in its order.
+-- What `fixdep` makes of the files: the arguments first, then each file in its order.
 use Rattle.std.specs.Prelude.{ℕ, List, Result, Ok}
 use Rattle.ks_fixdep.specs.CommandFile.{command_text}
 use Rattle.ks_fixdep.specs.Dialects.{rules_for}
@@ -10,7 +10,7 @@ use Rattle.ks_engine.specs.Recording.{listed, scanned_all, args}
 use Rattle.ks_engine.specs.Refusals.{and_then}
 use Rattle.ks_requests.specs.Inputs.{given}
 
--- The command file of an object, without a generation: the words, the dependency file, then each prerequisite.
+-- The command file of an object, without a generation: the arguments, the dependency file, then each prerequisite.
 unfoldable pub command_file_at : Dialect → Files → List ℕ → List ℕ → List ℕ → Result (List ℕ) EngineError
 command_file_at dialect files depfile target command =
     and_then (args depfile target command) (λ _.

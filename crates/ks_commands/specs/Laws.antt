@@ -44,7 +44,7 @@ RequestsGoOn =
     → Ends ⊤ (by_files dialect ⊤ old new) old request ended new → (next : History)
     × Continues dialect request ended (at old.files old.failures h) (at new.files new.failures next) × Shows new.files next
 
--- A preview is done or refused, leaves the files as they are, and once done it has printed what is said of these words, to whoever reads it.
+-- A preview is done or refused, leaves the files as they are, and once done it has printed what is said of these arguments, to whoever reads it.
 pub record IsPreviewed (dialect : Dialect) (k d : List ℕ) (o : Option (List ℕ)) (old new : Files) (before after : State) (status : ℕ) : Type 0 where
   pub answered : (status ≡ 0) ⊎ (status ≡ 2)
   pub written : status ≡ 0 → after.is_unread ≡ false → WritesPreview dialect old k d o before.bytes after.bytes

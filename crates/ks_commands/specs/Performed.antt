@@ -74,11 +74,11 @@ EndsSync files effects stamps k d ended =
     ⊎ ((t : Texts) × (texts_at files k d ≡ Ok t)
     × (answer : Result Report EngineError) × effects.sync stamps t.kconfig t.dotconfig answer × Answered report_lines answer ended)
 
--- The engine looks at the words of a record itself.
+-- The engine looks at the arguments of a record itself.
 abbrev pub EndsRecord : Effects → List ℕ → List ℕ → List ℕ → Ending → Type 0
 EndsRecord effects d t c ended = (answer : Result RecordAnswer EngineError) × effects.recording d t c answer × Answered (recorded_line t) answer ended
 
--- It is refused for the word that names the header, or ends as the engine answers for this header.
+-- It is refused for the argument that names the header, or ends as the engine answers for this header.
 abbrev pub EndsDepfile : Effects → Option (List ℕ) → List ℕ → List ℕ → List ℕ → Ending → Type 0
 EndsDepfile effects end d t c ended =
     (effects.same × IsNoHeader end × (ended ≡ Err (Engine (BadPath 0))))
@@ -96,7 +96,7 @@ EndsPreview dialect files k d o ended =
 abbrev pub StoppedSync : Dialect → Files → Texts → Ending → Type 0
 StoppedSync dialect files t ended = (e : EngineError) × (IsAborted e ⊎ IsSyncPlan files (read_in dialect t.kconfig) t.dotconfig (Err e)) × (ended ≡ Err (Engine e))
 
--- What a synchronisation would touch, told; or the refusal that it would have before its first write.
+-- What a synchronisation would touch, printed; or the refusal that it would have before its first write.
 abbrev pub EndsDiff : Dialect → ReportStyle → Files → List ℕ → List ℕ → Ending → Type 0
 EndsDiff dialect report_style files k d ended =
     Stopped (texts_at files k d) ended
@@ -113,7 +113,7 @@ EndsFixdep dialect files d t c ended =
 abbrev pub CanBeSynced : Dialect → Files → Texts → Type 0
 CanBeSynced dialect files t = (after : Files) × (report : Report) × IsSynced files after (read_in dialect t.kconfig) t.dotconfig report
 
--- What would be stale after a synchronisation, told; or the refusal that it would have before its first write, or the file of its targets has.
+-- What would be stale after a synchronisation, printed; or the refusal that it would have before its first write, or the file of its targets has.
 abbrev pub EndsImpact : Type 0 → Dialect → (List ℕ → List ℕ → List ℕ → Result Verdict EngineError → Type 0) → FileState → List ℕ → List ℕ → OutputFormat
     → Targets → Ending → FileState → Type 0
 EndsImpact honest dialect impact old k d format targets ended new =

@@ -52,7 +52,7 @@ abbrev pub ReportsAfter : TreeState → KconfigText → List ℕ → List ℕ �
 ReportsAfter s k d o answer = (after : Files) (report : Report) (synced : IsSynced s.files after k d report)
     → ReportsChange (at after s.failures (Synced synced.plan.title synced.plan.config s.history)) o answer
 
--- So does an answer about a command that builds it: another one is told exactly where that of the record is another one.
+-- So does an answer about a command that builds it: another one is reported exactly where that of the record is another one.
 pub record ReportsBuild (s : TreeState) (o command : List ℕ) (answer : Result BuildState EngineError) : Type 0 where
   pub differs : (r : LastRecord) → last_record s.history o ≡ Some r → bytes_eq r.command command ≡ false → IsAbortedAnswer answer ⊎ (answer ≡ Ok CommandDiffers)
   pub same : (r : LastRecord) → last_record s.history o ≡ Some r → bytes_eq r.command command ≡ true
@@ -68,7 +68,7 @@ pub record StepsReportChanges (dialect : Dialect) (old new : TreeState) (actions
   pub changed : All (λ step. IsChangedVerdict step.before.history step.action step.reply) steps
   pub safe : All (λ step. IsSafeVerdict step.before step.action step.reply) steps
 
--- What changes a tree does so as by its history; what is told of recorded objects tells what changed.
+-- What changes a tree does so as by its history; what is printed of recorded objects shows what changed.
 abbrev pub changes_reported : Dialect → TreeState → TreeState → Effects
 changes_reported dialect old new = record (by_histories dialect old new) {
   stale = ReportsChange old;

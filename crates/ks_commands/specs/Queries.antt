@@ -62,7 +62,7 @@ abbrev pub MayBackdate : Query → Option BackdateScope → Type 0
 MayBackdate query None = ⊤
 MayBackdate query (Some which) = query ≡ Stale
 
--- an object that is told of by its answer and a spelling
+-- an object that is reported by its answer and a spelling
 abbrev pub explained : OutputFormat → Limit → List ℕ → Result Explanation EngineError → Option (List ℕ) → Part Explanation
 explained format limit o answer spelling =
     record { object = o; answer = answer; lines = spelled_in format limit o answer spelling; status = status_unless_refused explanation_status answer }
@@ -73,7 +73,7 @@ counted_of Stale parts = None
 counted_of Why parts = None
 counted_of (Predicted impact) parts = stale_count parts
 
--- An answer is told as it is, with its spelling where lines tell one; or memory or the device fails on the way to that.
+-- An answer is printed as it is, with its spelling where lines show one; or memory or the device fails on the way to that.
 abbrev pub IsSpelled : Files → Query → OutputFormat → List ℕ → Result Explanation EngineError → Result Explanation EngineError → Option (List ℕ) → Type 0
 IsSpelled files query format o answer reported spelling =
     ((reported ≡ answer) × (spelling_reported (limit_of query) format spelling ≡ spelling_reported (limit_of query) format (spelling_of files o answer)))

@@ -20,7 +20,7 @@ record_in _ = []
 abbrev pub records_in : List (Part (Option CommandRecord)) → List CommandRecord
 records_in parts = flat_map (λ p. record_in p.answer) parts
 
--- These objects were told of one after the other, and their records read.
+-- These objects were reported one after the other, and their records read.
 abbrev pub AreRead : Querying (Option CommandRecord) → (List CommandRecord → Type 0) → List (List ℕ) → FileState → Reported → FileState → Type 0
 AreRead querying has_read objects first all last = (parts : List (Part (Option CommandRecord)))
     × ReportsAll querying parts first objects all.text.items (code_of all.status) last × has_read (records_in parts) × (all.all ≡ length parts)

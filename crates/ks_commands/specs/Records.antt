@@ -16,7 +16,7 @@ use Rattle.ks_requests.specs.Statuses.{code_of, status_unless_refused, worst}
 use Rattle.ks_requests.specs.Symbols.{cost_line, unrecorded_line, use_line}
 use Rattle.ks_commands.specs.Walks.{Querying, Part, statuses, text_of}
 
--- an object is told of by the lines of what its command file was read as; the status is 2 where that is refused
+-- an object is reported by the lines of what its command file was read as; the status is 2 where that is refused
 pub record IsReadIn (honest : Type 0) (files : Files) (line : List ℕ → Option CommandRecord → List ℕ) (p : Part (Option CommandRecord)) : Type 0 where
   pub read : honest → IsRead files p.object p.answer
   pub lines : p.lines ≡ answer_line line p.object p.answer
@@ -69,7 +69,7 @@ at_most (Some n) xs = take n xs
 abbrev pub cost_lines : Option ℕ → List (List ℕ × ℕ) → List ℕ
 cost_lines top costs = flat_map cost_line (at_most top costs)
 
--- Each object that has no record, or is refused, is told of; and then what each symbol costs by the others, the dearest first.
+-- Each object that has no record, or is refused, is reported; and then what each symbol costs by the others, the most expensive first.
 abbrev pub reports_cost : Option ℕ → List (Part (Option CommandRecord)) → Outcome → Type 0
 reports_cost top parts o = (costs : List (List ℕ × ℕ)) × AreCosts (cost_among parts) costs × (o.text.items ≡ text_of parts ++ cost_lines top costs)
     × (code_of o.status ≡ worst (statuses parts)) × (o.count ≡ None)

@@ -1,4 +1,4 @@
--- What is told of another spelling under which an object is recorded.
+-- What is printed of another spelling under which an object is recorded.
 use Rattle.std.specs.Prelude.{◌≡◌, ◌++◌, ℕ, List, [], Option, Some, None, Result, codes}
 use Rattle.ks_engine.specs.declared.error.EngineError.{EngineError}
 use Rattle.ks_engine.specs.declared.explaining.Explanation.{Explanation}
@@ -18,10 +18,10 @@ spelling_reported First format spelling = []
 spelling_reported All Json spelling = []
 spelling_reported All Text spelling = spelling_line spelling
 
--- all that is written of a spelling is told
+-- all that is written of a spelling is printed
 abbrev pub IsLine : Limit → OutputFormat → Option (List ℕ) → Type 0
 IsLine limit format spelling = spelling_line spelling ≡ spelling_reported limit format spelling
 
--- what is told of an object, with a spelling
+-- what is printed of an object, with a spelling
 abbrev pub spelled_in : OutputFormat → Limit → List ℕ → Result Explanation EngineError → Option (List ℕ) → List ℕ
 spelled_in format limit o answer spelling = answer_in format limit o answer ++ spelling_reported limit format spelling

@@ -1,4 +1,4 @@
--- A walk over objects: each is asked about and told of before the next one is.
+-- A walk over objects: each is asked about and reported before the next one is.
 use Rattle.std.specs.Prelude.{◌≡◌, ◌⊎◌, ◌≤◌, ◌++◌, Bool, ℕ, List, [], ◌∷◌, Option, None, Result, Ok, Err, IfErr, flat_map, map, take, if◌then◌else◌}
 use Rattle.ks_fixdep.specs.FoundNames.{all_noted}
 use Rattle.ks_tree.specs.declared.tree.Tree.{Ghosts}
@@ -34,7 +34,7 @@ pub record Querying (A : Type 0) : Type 1 where
   pub reported : Part A → Type 0
   pub backdates : Part A → List (List ℕ) → List (List ℕ) → Type 0
 
--- An object is told of, from one standing to the next.
+-- An object is reported, from one standing to the next.
 pub record IsStep {A : Type 0} (querying : Querying A) (first : FileState) (p : Part A) (next : FileState) : Type 0 where
   pub reported : querying.reported p
   pub counted : IsCounted first.failures p.answer next.failures
@@ -57,7 +57,7 @@ statuses parts = map (λ p. p.status) parts
 
 -- ---- the objects of a question
 
--- They are its words, and the lines of a text where a file is named, which on an honest tree it holds. The walk begins once they are read.
+-- They are its arguments, and the lines of a text where a file is named, which on an honest tree it holds. The walk begins once they are read.
 pub record AreAsked (honest : Type 0) (old : FileState) (targets : Targets) (objects : List (List ℕ)) (first : FileState) : Type 0 where
   pub from : Option (List ℕ)
   pub named : file_of targets ≡ None → from ≡ None
@@ -70,7 +70,7 @@ pub record AreAsked (honest : Type 0) (old : FileState) (targets : Targets) (obj
 abbrev pub each_of : Bool → List (List ℕ) → List (List ℕ)
 each_of once objects = if once then all_noted [] objects else objects
 
--- All of them were told of, and it ended so; or memory was refused, and a beginning of them was.
+-- All of them were reported, and it ended so; or memory was refused, and a beginning of them was.
 abbrev pub ReportedAll : {A E : Type 0} → (List (Part A) → Outcome → Type 0) → List (List ℕ) → List (Part A) → Result Outcome E → Type 0
 ReportedAll reports objects parts (Ok o) = (objects_of parts ≡ objects) × reports parts o
 ReportedAll reports objects parts (Err e) = (n : ℕ) × (objects_of parts ≡ take n objects)
@@ -88,7 +88,7 @@ EndsWalk {A} querying once reports honest old targets ended new =
 
 -- ---- for the proof of the bodies
 
--- This object was told of, after the text before.
+-- This object was reported, after the text before.
 pub record ReportsOne {A : Type 0} (querying : Querying A) (first : FileState) (o before after : List ℕ) (code : ℕ) (last : FileState) : Type 0 where
   pub part : Part A
   pub of_object : part.object ≡ o

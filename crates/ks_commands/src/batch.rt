@@ -123,7 +123,7 @@ fn kept_file<'a>(kept: &'a MemoryTree, path: &[u8]) -> &'a [u8]
     kept.get(path).unwrap()
 }
 
-/// The command of a line, which borrows its words and the files that it names.
+/// The command of a line, which borrows its arguments and the files that it names.
 fn command<'a>(line: &ScriptLine<'a>, kept: &'a MemoryTree) -> Command<'a>
     requires { AreKept kept.now (seen_line line.now) }
     ensures spelled { line_of (action result) ≡ without_files (seen_line line.now) }
@@ -178,7 +178,7 @@ fn run_commands<T: Tree>(
     Ok(report_replies(alloc, commands, &replies)?)
 }
 
-/// Runs the script at a path, and tells a line for each of its commands.
+/// Runs the script at a path, and prints a line for each of its commands.
 pub(crate) fn run_script<T: Tree>(
     alloc: Global,
     tree: &mut T,

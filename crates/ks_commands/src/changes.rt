@@ -41,7 +41,7 @@ fn sync_with<T: Tree>(
     }
 }
 
-/// Brings a tree to the configuration of the files that two words name, and tells what that touched.
+/// Brings a tree to the configuration of the files that two arguments name, and prints what that touched.
 pub(crate) fn synchronise<T: Tree>(
     alloc: Global,
     tree: &mut T,
@@ -63,7 +63,7 @@ pub(crate) fn synchronise<T: Tree>(
     Ok(report_sync(alloc, &report)?)
 }
 
-/// Writes the command file of an object, and tells under which generation. Its words are looked at by the engine.
+/// Writes the command file of an object, and prints under which generation. Its arguments are looked at by the engine.
 pub(crate) fn record_target<T: Tree>(
     alloc: Global,
     tree: &mut T,

@@ -49,7 +49,7 @@ fn shown<'a, 'b>(costs: &'a [Cost<'b>], top: Option<u64>) -> &'a [Cost<'b>]
     }
 }
 
-/// Writes a line for each of the dearest symbols.
+/// Writes a line for each of the most expensive symbols.
 fn write_costs(costs: &[Cost<'_>], top: Option<u64>, text: &mut Vec<u8>) -> Result<(), AllocError>
     ensures { OnOk result (text.new.items ≡ text.old.items ++ cost_lines top (map seen_cost costs.now)) }
 {
@@ -59,7 +59,7 @@ fn write_costs(costs: &[Cost<'_>], top: Option<u64>, text: &mut Vec<u8>) -> Resu
     Ok(())
 }
 
-/// Tells what each symbol costs that the targets among the words, or those of a file, name.
+/// Prints what each symbol costs that the targets among the arguments, or those of a file, name.
 pub(crate) fn report_cost<T: Tree>(
     alloc: Global,
     tree: &mut T,

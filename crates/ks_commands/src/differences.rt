@@ -1,4 +1,4 @@
-//! What a synchronisation would touch, told with the texts that each name has and would have.
+//! What a synchronisation would touch, with the texts that each name has and would have.
 //!
 //! It is planned as a synchronisation is, and so is refused where that would be before its first write. Nothing is written.
 ghost use Rattle.std.specs.Prelude.{◌≡◌, ◌⊎◌, ◌++◌, Err, IfErr, IfOk, IsErrOf, OnOk, flat_map, option_map};
@@ -190,7 +190,7 @@ fn unknown_asked(
     }
 }
 
-/// What a synchronisation of a tree would touch, told, unless that would be refused.
+/// What a synchronisation of a tree would touch, printed, unless that would be refused.
 fn differences<T: Tree>(
     alloc: Global,
     tree: &mut T,
@@ -221,7 +221,7 @@ fn differences<T: Tree>(
     })
 }
 
-/// Tells what a synchronisation with the files that two words name would touch.
+/// Prints what a synchronisation with the files that two arguments name would touch.
 pub(crate) fn report_differences<T: Tree>(
     alloc: Global,
     tree: &mut T,

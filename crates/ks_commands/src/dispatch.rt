@@ -29,7 +29,7 @@ use ks_symbols::{Dialect, Kconfig};
 use ks_tree::{Backdating, Tree};
 use std::alloc::Global;
 
-/// What a synchronisation would do. The files of the words are read for it, and no other one.
+/// What a synchronisation would do. The files of the arguments are read for it, and no other one.
 fn preview<T: Reading>(
     alloc: Global,
     tree: &mut T,

@@ -1,6 +1,6 @@
 //! The command file of an object, as scripts/basic/fixdep.c prints it, from the compiler's dependency file.
 //!
-//! The words are looked at first, then the dependency file is read, then each prerequisite in order, in pieces.
+//! The arguments are looked at first, then the dependency file is read, then each prerequisite in order, in pieces.
 ghost use Rattle.std.specs.Prelude.{◌≡◌, Err, IsErrOf, Ok, OnErr};
 ghost use Rattle.ks_fixdep.specs.CommandFile.{command_text};
 ghost use Rattle.ks_fixdep.specs.Dialects.{rules_for};

@@ -7,7 +7,7 @@ pub fn requests_go_on()
     ensures { RequestsGoOn }
 {}
 
-/// What is said of a preview as a caller has its words.
+/// What is said of a preview as a caller has its arguments.
 pub fn previews_are_performed()
     ensures { PreviewsArePerformed }
 {}

@@ -1,6 +1,6 @@
-//! The program `confstamp` over any tree of files and any two writers: what its words ask for is done, or it is said why
+//! The program `confstamp` over any tree of files and any two writers: what its arguments ask for is done, or it is said why
 //! they ask for nothing; and what follows for any list of runs. It knows no directory, no lock and no streams of the system: those
-//! are for the crate `confstamp`. How it is asked and answered is defined in ks_requests, and what words mean in ks_words.
+//! are for the crate `confstamp`. How it is asked and answered is defined in ks_requests, and what arguments mean in ks_cli.
 #![tactic(auto)]
 
 mod asked_symbols;

@@ -1,4 +1,4 @@
-//! The program over any tree and any two writers: what its words ask for in, its status out. The words are taken as a request
+//! The program over any tree and any two writers: what its arguments ask for in, its status out. The arguments are taken as a request
 //! once, by `request_of` of ks_words, so that what is looked at before the command runs is what runs.
 //!
 //! The whole text of a command is there before its first byte is written. A command that is refused as a whole writes nothing
@@ -17,7 +17,7 @@ use ks_symbols::Dialect;
 use ks_tree::Backdating;
 use std::alloc::Global;
 
-/// Tells why words make no request.
+/// Prints why arguments make no request.
 fn report_why<W: Writer, E: Writer>(
     error: &WordsError,
     out: &mut Stream<W>,
@@ -32,7 +32,7 @@ fn report_why<W: Writer, E: Writer>(
     }
 }
 
-/// Runs the command that the words after the program's name ask for, and answers the exit status: 0 done and nothing stale,
+/// Runs the command that the arguments ask for, and answers the exit status: 0 done and nothing stale,
 /// 1 something stale or built by another command, 2 something refused. Sources and Kconfigs are read in the dialect.
 pub fn execute<T: Backdating, W: Writer, E: Writer>(
     alloc: Global,

@@ -39,14 +39,14 @@ use ks_symbols::{Dialect, Kconfig};
 use ks_tree::{Backdating, Tree};
 use std::alloc::{AllocError, Global};
 
-/// An answer, and the other spelling under which the object stands, where that is told.
+/// An answer, and the other spelling under which the object stands, where that is printed.
 #[derive(Drop)]
 pub(crate) struct Spelled {
     answer: Result<Explanation, EngineError>,
     spelling: Option<Vec<u8>>,
 }
 
-/// Looks for another spelling, where lines are to tell one.
+/// Looks for another spelling, where lines are to show one.
 fn reported_spelling<T: Tree>(
     alloc: Global,
     tree: &mut T,
@@ -71,7 +71,7 @@ fn reported_spelling<T: Tree>(
     }
 }
 
-/// An answer with another spelling, where lines are to tell one.
+/// An answer with another spelling, where lines are to show one.
 fn with_spelling<T: Tree>(
     alloc: Global,
     tree: &mut T,
@@ -153,7 +153,7 @@ fn answer<T: Backdating>(
         None => query_object(alloc, tree, cache, query, target),
     }
 }
-/// The same, with another spelling where lines are to tell one.
+/// The same, with another spelling where lines are to show one.
 fn spelled_answer<T: Backdating>(
     alloc: Global,
     tree: &mut T,
@@ -239,7 +239,7 @@ fn query_all<T: Backdating>(
     query_each(alloc, tree, &mut cache, query, backdates, format, targets)
 }
 
-/// Asks of each object among the words, and then of each in the file. What is stale is aged, where it is to be.
+/// Asks of each object among the arguments, and then of each in the file. What is stale is aged, where it is to be.
 pub(crate) fn query_targets<T: Backdating>(
     alloc: Global,
     tree: &mut T,
@@ -259,7 +259,7 @@ pub(crate) fn query_targets<T: Backdating>(
     Ok(query_all(alloc, tree, query, backdates, format, &targets)?)
 }
 
-/// Asks of each object whether it would be stale after a synchronisation with the files that two words name.
+/// Asks of each object whether it would be stale after a synchronisation with the files that two arguments name.
 pub(crate) fn query_predicted<T: Backdating>(
     alloc: Global,
     tree: &mut T,

@@ -51,11 +51,11 @@ pub(crate) trait Reader {
         ensures more { (before : List CommandRecord) → has_read self.old before
             → OnOk result (has_read self.new (before ++ borrowed_view file.now ∷ [])) };
 
-    /// Of an object that has no record every question tells alike.
+    /// Of an object that has no record every question prints alike.
     ghost unrecorded: { (symbols : List (List ℕ)) (o : List ℕ) → line symbols o None ≡ unrecorded_line o };
 }
 
-/// What was told of all objects.
+/// What was printed of all objects.
 #[derive(Drop)]
 pub(crate) struct Reported {
     pub(crate) text: Vec<u8>,
@@ -138,7 +138,7 @@ fn read_once<T: Tree, R: Reader>(
     read_objects(alloc, tree, reader, objects)
 }
 
-/// Reads the command file of each target, among the words and in the file, one after the other.
+/// Reads the command file of each target, among the arguments and in the file, one after the other.
 pub(crate) fn read_each<T: Tree, R: Reader>(
     alloc: Global,
     tree: &mut T,

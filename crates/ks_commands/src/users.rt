@@ -26,7 +26,7 @@ struct Users<'a> {
     users: usize,
 }
 
-/// Writes a line for each name of a record that is asked for, and tells whether there is one.
+/// Writes a line for each name of a record that is asked for, and returns whether there is one.
 fn write_uses(
     symbols: &AskedSymbols<'_>,
     target: &[u8],
@@ -78,7 +78,7 @@ impl Reader for Users<'_> {
     ghost unrecorded = { λ symbols o. refl };
 }
 
-/// Tells of each target of a file, or among the words, whether it names one of the symbols, and which files brought them in.
+/// Prints of each target of a file, or among the arguments, whether it names one of the symbols, and which files brought them in.
 pub(crate) fn report_users<T: Tree>(
     alloc: Global,
     tree: &mut T,

@@ -1,4 +1,4 @@
-//! Which request the words make, and which words are refused. What help and the version print, tests/main holds against
+//! Which request the arguments make, and which arguments are refused. What help and the version print, tests/main holds against
 //! the built program.
 use crate::steps::{Step, check, check_text, reported};
 use ks_cli::request_of;
@@ -27,7 +27,7 @@ const MEANINGS: &[(&str, &[&str], &str)] = &[
     ("stale of several", &["stale", "x.o", "z.o", "x.o"], r#"Stale { targets: Targets { args: ["x.o", "z.o", "x.o"], from: None }, format: Text }"#),
     ("stale of a file", &["stale", "--from", "f"], r#"Stale { targets: Targets { args: [], from: Some("f") }, format: Text }"#),
     ("stale of a word and a file", &["stale", "x.o", "--from", "f"], r#"Stale { targets: Targets { args: ["x.o"], from: Some("f") }, format: Text }"#),
-    ("a file between two words", &["stale", "x.o", "--from=-f", "y.o"], r#"Stale { targets: Targets { args: ["x.o", "y.o"], from: Some("-f") }, format: Text }"#),
+    ("a file between two arguments", &["stale", "x.o", "--from=-f", "y.o"], r#"Stale { targets: Targets { args: ["x.o", "y.o"], from: Some("-f") }, format: Text }"#),
     ("a word that looks like one", &["stale", "--", "--from", "f"], r#"Stale { targets: Targets { args: ["--from", "f"], from: None }, format: Text }"#),
     ("why of several", &["why", "x.o", "z.o"], r#"Why { targets: Targets { args: ["x.o", "z.o"], from: None }, format: Text }"#),
     ("why of a word and a file", &["why", "--from", "f", "x.o"], r#"Why { targets: Targets { args: ["x.o"], from: Some("f") }, format: Text }"#),
@@ -41,7 +41,7 @@ const MEANINGS: &[(&str, &[&str], &str)] = &[
     ("outdated", &["outdated", "x.o", "cc"], r#"Outdated { target: "x.o", command: "cc" }"#),
     ("an empty command", &["outdated", "x.o", ""], r#"Outdated { target: "x.o", command: "" }"#),
     ("an empty file", &["batch", ""], r#"Batch { script: "" }"#),
-    ("a command of words", &["outdated", "x.o", "cc -c x.c"], r#"Outdated { target: "x.o", command: "cc -c x.c" }"#),
+    ("a command with blanks", &["outdated", "x.o", "cc -c x.c"], r#"Outdated { target: "x.o", command: "cc -c x.c" }"#),
     ("a hyphen alone", &["batch", "-"], r#"Batch { script: "-" }"#),
     ("a flag after --", &["outdated", "x.o", "--", "-c"], r#"Outdated { target: "x.o", command: "-c" }"#),
     ("all after --", &["sync", "--", "-K", "--help"], r#"Sync { kconfig: "-K", dotconfig: "--help", stamps: Touched }"#),
@@ -49,10 +49,10 @@ const MEANINGS: &[(&str, &[&str], &str)] = &[
     ("names of commands", &["stale", "sync", "help"], r#"Stale { targets: Targets { args: ["sync", "help"], from: None }, format: Text }"#),
     ("users of two symbols", &["users", "A", "--from", "f", "CONFIG_B"], r#"Users { symbols: ["A", "CONFIG_B"], targets: Targets { args: [], from: Some("f") } }"#),
     ("cost of one", &["cost", "x.o"], r#"Cost { top: None, targets: Targets { args: ["x.o"], from: None } }"#),
-    ("the dearest of a file", &["cost", "--top", "007", "--from", "f"], r#"Cost { top: Some(7), targets: Targets { args: [], from: Some("f") } }"#),
+    ("the most expensive of a file", &["cost", "--top", "007", "--from", "f"], r#"Cost { top: Some(7), targets: Targets { args: [], from: Some("f") } }"#),
 ];
 
-/// The request that the words make.
+/// The request that the arguments make.
 fn meaning(alloc: Global, args: &[&str]) -> Result<String, AllocError> {
     match request_of(alloc, args) {
         Ok(request) => format!(in alloc; "{request:?}"),
@@ -90,11 +90,11 @@ const ARGS_THAT_ARE_NO_COMMAND: &[(&str, &[&str])] = &[
     ("diff with an option twice", &["diff", "--quiet", "--quiet", "K", "c"]),
     ("sync with an option of diff", &["sync", "--quiet", "K", "c"]),
     ("impact of one word", &["impact", "K"]),
-    ("fixdep of two words", &["fixdep", "x.d", "x.o"]),
+    ("fixdep of two arguments", &["fixdep", "x.d", "x.o"]),
     ("fixdep of four", &["fixdep", "x.d", "x.o", "cc", "-c"]),
-    ("record of two words", &["record", "x.d", "x.o"]),
+    ("record of two arguments", &["record", "x.d", "x.o"]),
     ("record of four", &["record", "x.d", "x.o", "cc", "x.c"]),
-    ("depfile of two words", &["depfile", "x.d", "x.o"]),
+    ("depfile of two arguments", &["depfile", "x.d", "x.o"]),
     ("depfile of two headers", &["depfile", "--header", "a.h", "--header", "b.h", "x.d", "x.o", "cc"]),
     ("sync with an option twice", &["sync", "--stamps", "--stamps", "K", "c"]),
     ("stale of a file without a name", &["stale", "x.o", "--from"]),
@@ -111,11 +111,11 @@ const ARGS_THAT_ARE_NO_COMMAND: &[(&str, &[&str])] = &[
     ("outdated of three", &["outdated", "x.o", "cc", "x.c"]),
     ("users of no file", &["users", "A"]),
     ("users of no symbol", &["users", "--from", "f"]),
-    ("the dearest of no number", &["cost", "x.o", "--top"]),
-    ("the dearest of a word", &["cost", "x.o", "--top", "x"]),
-    ("the dearest of a number below 0", &["cost", "x.o", "--top=-1"]),
-    ("the dearest of a number that is too large", &["cost", "x.o", "--top", "18446744073709551616"]),
-    ("the dearest of two numbers", &["cost", "--top", "1", "--top", "2"]),
+    ("the most expensive of no number", &["cost", "x.o", "--top"]),
+    ("the most expensive of a text", &["cost", "x.o", "--top", "x"]),
+    ("the most expensive of a number below 0", &["cost", "x.o", "--top=-1"]),
+    ("the most expensive of a number that is too large", &["cost", "x.o", "--top", "18446744073709551616"]),
+    ("the most expensive of two numbers", &["cost", "--top", "1", "--top", "2"]),
 ];
 
 #[test]

@@ -100,13 +100,16 @@ fn reported(alloc: Global, lines: &str) -> Result<String, AllocError> {
     Ok(reported)
 }
 
-/// Aged is what is told, or where a call may be half done two objects.
+/// Backdated is what is reported, or where a call may be half done two objects.
 fn check_as_reported(rt: &impl Abort, reported: &str, backdated: &str, may_be_half: bool) {
     let is_as_reported = reported == backdated || may_be_half && backdated == "x.o w.o ";
-    assert!(rt; is_as_reported, "told {reported}, aged {backdated}");
+    assert!(rt;
+        is_as_reported,
+        "reported {reported}, backdated {backdated}"
+    );
 }
 
-/// What is told as stale was aged, and nothing else but maybe the one object of which 30 is told. The object stays as it is.
+/// What is reported as stale was backdated, and nothing else but maybe the one object of which 30 is reported. The object stays as it is.
 fn check_reported(
     rt: &impl Abort,
     alloc: Global,

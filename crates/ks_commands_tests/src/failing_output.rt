@@ -1,4 +1,4 @@
-//! An output that fails: the command's work on the tree stays done, the refusal is told where that goes, and the
+//! An output that fails: the command's work on the tree stays done, the refusal is printed where that goes, and the
 //! status is 2 also where it doesn't.
 use crate::golden::{AUTO, COMMAND_FILE};
 use crate::steps::{

@@ -1,4 +1,4 @@
-//! The inputs of the examples, whole files, and what is asked and told.
+//! The inputs of the examples, whole files, and what is asked and printed.
 use crate::steps::Step;
 
 const KCONFIG: &str = "mainmenu \"Demo\"\nconfig A\n\tbool\nconfig B\n\ttristate\n";

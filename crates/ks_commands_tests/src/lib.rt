@@ -1,5 +1,5 @@
 //! The tests of ks_commands: whole commands over trees in memory, what each prints and leaves, each refusal, and outputs and
-//! devices that fail; those of ks_words, which request the words make; and those of the scripts of ks_requests. They are a crate
+//! devices that fail; those of ks_cli, which request the arguments make; and those of the scripts of ks_requests. They are a crate
 //! of their own since a crate that has tests is proved once more for them. Nothing stands on it, and without its tests it is
 //! empty.
 #![tactic(auto)]

@@ -171,7 +171,7 @@ fn check_long_line<T: Backdating>(
     play(rt, alloc, tree, &[(Step::Args(&args), want.as_str())])
 }
 
-/// Where the file can't be read again, its name and the number are still told.
+/// Where the file can't be read again, its name and the number are still printed.
 const NOT_READ_AGAIN: &[(Step<'_>, &str)] = &[(
     Step::Args(&["sync", "K1", "faulty"]),
     "2 confstamp: 8 BadValue line 2\n  faulty:2\n",

@@ -1,4 +1,4 @@
-//! Worked examples over a tree in memory: tables of words, and of the status and all that is printed.
+//! Worked examples over a tree in memory: tables of arguments, and of the status and all that is printed.
 use crate::golden;
 use ks_cli::{WordsError, request_of};
 use ks_commands::execute;
@@ -69,7 +69,7 @@ pub(crate) fn run_asked<T: Backdating>(
     run_onto(alloc, tree, dialect, asked, scripts)
 }
 
-/// Runs the command that the words ask for.
+/// Runs the command that the arguments ask for.
 pub(crate) fn run_over<'a, T: Backdating>(
     alloc: Global,
     tree: &mut T,
@@ -102,7 +102,7 @@ fn run_text(alloc: Global, run: &Run) -> Result<String, Fail> {
     Ok(format!(in alloc; "{} {out}{err}", run.status)?)
 }
 
-/// The same of the command that the words ask for.
+/// The same of the command that the arguments ask for.
 fn printed<'a, T: Backdating>(
     alloc: Global,
     tree: &mut T,

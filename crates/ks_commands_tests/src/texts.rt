@@ -1,4 +1,4 @@
-//! From texts to texts, without the words of a command line: what previews print, and why there is none; what differs from
+//! From texts to texts, without the arguments of a command line: what previews print, and why there is none; what differs from
 //! auto.conf; and scripts whose lines name files more than once.
 use crate::steps::{Run, check_text, run_asked, without_hint};
 use ks_requests::{PreviewError, ReportStyle, Request, preview_to};

@@ -31,11 +31,11 @@ IsRead files o answer = IsAbortedAnswer answer ⊎ (answer ≡ record_at files o
 abbrev pub one_if : Bool → ℕ
 one_if b = if b then 1 else 0
 
--- the dearer one first, and of equal ones the lesser name
+-- the more expensive one first, and of equal ones the lesser name
 abbrev pub by_cost : List ℕ × ℕ → List ℕ × ℕ → Ordering
 by_cost c d = ordering_then (nat_cmp d.1 c.1) (slice_cmp nat_cmp c.0 d.0)
 
--- Each symbol that costs something stands there once, with what it costs, and no other; the dearest first.
+-- Each symbol that costs something stands there once, with what it costs, and no other; the most expensive first.
 pub record AreCosts (cost : List ℕ → ℕ) (costs : List (List ℕ × ℕ)) : Type 0 where
   pub each : All (λ c. (0 < c.1) × (c.1 ≡ cost c.0)) costs
   pub once : (x : List ℕ) → 0 < cost x → count_by (λ c. bytes_eq x c.0) costs ≡ 1

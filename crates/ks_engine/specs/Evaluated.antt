@@ -32,7 +32,7 @@ pub record IsEvaluated (files : Files) (h : History) (o : List ℕ) (r : LastRec
 abbrev pub EvaluatesRecorded : Files → List ℕ → Result Verdict EngineError → Type 0
 EvaluatesRecorded files o answer = (h : History) (r : LastRecord) → Shows files h → last_record h o ≡ Some r → IsEvaluated files h o r answer
 
--- Its command is told apart first: where it is another one than that of the record, nothing else is said.
+-- Its command is compared first: where it is another one than that of the record, nothing else is said.
 pub record IsBuildEvaluated (files : Files) (h : History) (o command : List ℕ) (r : LastRecord) (answer : Result BuildState EngineError) : Type 0 where
   pub differs : bytes_eq r.command command ≡ false → IsAbortedAnswer answer ⊎ (answer ≡ Ok CommandDiffers)
   pub same : bytes_eq r.command command ≡ true → (verdict : Result Verdict EngineError) × (answer ≡ evaluated verdict) × IsEvaluated files h o r verdict

@@ -44,6 +44,6 @@ is_unknown (Ok e) = is_unknown_verdict e.verdict
 is_unknown (Err (BadCommandFile line)) = line == 1
 is_unknown (Err _) = false
 
--- then it is told under which one it is recorded
+-- then it is reported under which one it is recorded
 abbrev pub spelling_of : Files → List ℕ → Result Explanation EngineError → Option (List ℕ)
 spelling_of files o answer = if is_unknown answer then recorded_as files o else None

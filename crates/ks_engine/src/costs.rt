@@ -141,7 +141,7 @@ impl Costs {
         Ok(())
     }
 
-    /// What each symbol costs that some record names, the dearest first.
+    /// What each symbol costs that some record names, the most expensive first.
     pub fn most_expensive(&self, alloc: Global) -> Result<Vec<Cost<'_>>, AllocError>
         requires { AreTallies self.now.records (tallies_of self.now) }
         ensures { IfOk result (λ costs. AreCosts (cost_of self.now) (map seen_cost costs.items)) }
@@ -152,7 +152,7 @@ impl Costs {
     }
 }
 
-/// How two costs stand: the dearer one first, and of equal ones the lesser name.
+/// How two costs stand: the more expensive one first, and of equal ones the lesser name.
 fn by_cost(cost: &Cost<'_>, other: &Cost<'_>) -> Ordering
     ensures { result ≡ by_cost (seen_cost cost.now) (seen_cost other.now) }
 {

@@ -1,6 +1,6 @@
 //! What a synchronisation would touch, were it done now. Who had to synchronise to learn this would make objects stale by a
 //! configuration that was only asked about. Nothing is written; an object that is asked about after it is judged by the stamps as
-//! they would be, so one that is stale already is told as well.
+//! they would be, so one that is stale already is reported as well.
 ghost use Rattle.std.specs.Prelude.{◌≡◌, ◌⊎◌, Err, IfOk, IfErr, IsErrOf, OnOk};
 ghost use Rattle.ks_tree.specs.Frames.{Reads};
 ghost use Rattle.ks_engine.specs.Refusals.{IsAborted};

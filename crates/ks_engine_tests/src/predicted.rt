@@ -22,7 +22,7 @@ const BEFORE: &[(Step<'_>, &str)] = &[
     (Step::Put(".a.o.cmd", "savedcmd_a.o := cc\n\nsource_a.o := a.c\n\ndeps_a.o := \\\n    $(wildcard include/config/A) \\\n\na.o: $(deps_a.o)\n\n$(deps_a.o):\n#generation 5\n"), "done"),
 ];
 
-/// A `.config`, and what is told of it and of each object.
+/// A `.config`, and what is reported of it and of each object.
 #[rattlefmt::skip]
 const ROWS: &[(&str, &str)] = &[
     ("CONFIG_A=y\nCONFIG_B=m\nCONFIG_D=y\n", "generation 2 touched D unknown 0; fresh; not-numbered; generation-ahead; no-command-file"),
@@ -90,7 +90,7 @@ fn synced<T: Tree>(alloc: Global, tree: &mut T, dotconfig: &str) -> Result<Strin
     Ok(reported)
 }
 
-/// What is told of a `.config`, before its synchronisation and after it.
+/// What is reported of a `.config`, before its synchronisation and after it.
 fn check_row<T: Tree>(
     rt: &impl Abort,
     alloc: Global,

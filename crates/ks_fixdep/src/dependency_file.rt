@@ -287,7 +287,7 @@ fn prerequisites_of(
 }
 
 /// The prerequisites of a dependency file. Of several faults the first token that is at fault counts; that there
-/// is no prerequisite is told at the end.
+/// is no prerequisite is reported at the end.
 pub fn read_depfile(alloc: Global, text: &[u8]) -> Result<Prerequisites, DepError>
     ensures value { IfOk result (λ p. p ≡ prerequisites text.now) }
     ensures refusal { RefusedBy DepError.OutOfMemory result (dependency_refusal text.now) }

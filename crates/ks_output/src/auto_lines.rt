@@ -1,7 +1,7 @@
 //! What one line of an auto.conf says.
 //!
 //! The lines of Kbuild are among those that are read. A line that begins as one of this project's own, on the
-//! generation or a class, and is none, is told from a comment: what it meant to say would be lost.
+//! generation or a class, and is none, is kept apart from a comment: what it meant to say would be lost.
 ghost use Rattle.std.specs.Prelude.{◌≡◌, ◌≤◌, ◌∷◌, ◌||◌, IfSome, IsTrue, codes, length, nat_eq};
 ghost use Rattle.std.specs.List.{starts_with};
 ghost use Rattle.bstr.specs.Text.{without_terminator};

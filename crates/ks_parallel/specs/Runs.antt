@@ -21,7 +21,7 @@ pub data Way : Type 0 where
   Recording : (dialect : Dialect) → Way
   Ruling : (conventions : Conventions) → Way
 
--- one process: its command with its words, and what it answered
+-- one process: its command with its arguments, and what it answered
 pub record Process : Type 0 where
   pub way : Way
   pub depfile : List ℕ

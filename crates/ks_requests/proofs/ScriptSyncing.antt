@@ -1,4 +1,4 @@
--- Whether a script synchronises is told by how its lines begin, where none of them is faulty.
+-- Whether a script synchronises shows in how its lines begin, where none of them is faulty.
 use Rattle.ks_requests.proofs.Prelude.{◌≡◌, ◌∙◌, ◌⊎◌, ◌+◌, ◌<◌, ◌≤◌, ◌&&◌, ◌||◌, ℕ, Bool, true, false, not, nat_le, List, [], ◌∷◌, length, Option, Some, None, option_map, refl, sym, ap, inl, inr, arith, cases_Bool, cases_lt, cond-true, cond-false, cons_option, false≢true, filter_map, is_none, is_comment_or_blank, lines, list_any, nat_tests, nil_from_length, not-false, not-true, opened, or_cases, or_parts, position_from, rules, Line, Sync, Record, Stale, Says, ScriptError, begins_sync, is_faulty, is_sync, script_line, script_lines, script_refusal, script_syncs}
 use Rattle.ks_requests.proofs.ScriptFaults.{not_large, too_large}
 use Rattle.ks_requests.proofs.ScriptSpellings.{lines_are_spelled}

@@ -68,7 +68,7 @@ pub record IsCutOff (o : Outcome) (before after err_before err_after : State) (s
   pub reported : Complains Output [] err_before err_after
   pub refused : status ≡ 2
 
--- A refusal leaves the output alone, and is told with what stands after its line.
+-- A refusal leaves the output alone, and is printed with what stands after its line.
 abbrev pub Printed : List ℕ → Ending → State → State → State → State → ℕ → Type 0
 Printed following (Ok o) before after err_before err_after status =
     PrintsAnswers o before after err_before err_after status ⊎ IsCutOff o before after err_before err_after status

@@ -12,7 +12,7 @@ use Rattle.ks_engine.specs.Recording.{there}
 abbrev pub legal : List ℕ → Result (Unit {0}) EngineError
 legal path = if is_path path then Ok tt else Err (BadPath 0)
 
--- whether each of these words is one
+-- whether each of these arguments is one
 abbrev pub are_paths : List (List ℕ) → Bool
 are_paths args = list_all is_path args
 

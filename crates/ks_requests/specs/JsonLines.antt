@@ -62,7 +62,7 @@ answer_value limit target (Err e) =
 unfoldable pub json_answer : Limit → List ℕ → Result Explanation EngineError → List ℕ
 json_answer limit target answer = print (json_tokens (answer_value limit target answer)) ++ codes "\n"
 
--- what is told of an object, in either form
+-- what is printed of an object, in either form
 abbrev pub answer_in : OutputFormat → Limit → List ℕ → Result Explanation EngineError → List ℕ
 answer_in format.Text limit target answer = answer_line (explanation_lines limit) target answer
 answer_in format.Json limit target answer = json_answer limit target answer

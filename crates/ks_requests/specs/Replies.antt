@@ -76,7 +76,7 @@ abbrev pub answer_line : {A : Type 0} → (List ℕ → A → List ℕ) → List
 answer_line line target (Ok x) = line target x
 answer_line line target (Err e) = refused_target_line target e
 
--- how many of all objects are stale, which names are unknown, or how many objects name a symbol, where that is told
+-- how many of all objects are stale, which names are unknown, or how many objects name a symbol, where that is printed
 unfoldable pub count_line : Option Count → List ℕ
 count_line None = []
 count_line (Some (count.Stale stale all)) = decimal stale ++ counted (codes " of ") all ++ codes " stale\n"

@@ -1,4 +1,4 @@
--- The objects that a question is about: those among its words, and after them those that a file holds, one a line.
+-- The objects that a question is about: those among its arguments, and after them those that a file holds, one a line.
 use Rattle.std.specs.Prelude.{◌++◌, ◌==◌, not, ℕ, List, [], length, map, option_map, string_bytes, Option, Some, None, Result, Ok}
 use Rattle.std.specs.List.{filter}
 use Rattle.ks_symbols.specs.Lines.{lines}
@@ -16,7 +16,7 @@ abbrev pub targets_if_named : Option (List ℕ) → List (List ℕ)
 targets_if_named None = []
 targets_if_named (Some text) = targets_in text
 
--- the targets of the words, and then those of the file
+-- the targets of the arguments, and then those of the file
 abbrev pub with_file : List (List ℕ) → Option (List ℕ) → List (List ℕ)
 with_file args text = args ++ targets_if_named text
 

@@ -1,6 +1,6 @@
 //! The texts of refusals, which make the lines of refused targets and commands, and the one line on standard error.
 //!
-//! A text is a number, a name and the place. It is made without taking memory, so that want of memory is told too.
+//! A text is a number, a name and the place. It is made without taking memory, so that want of memory is reported too.
 ghost use Rattle.std.specs.Prelude.{◌≡◌, ◌++◌, OnOk, Some, codes};
 ghost use Rattle.ks_errors.specs.Errors.{seen, texts_of, title_of};
 ghost use Rattle.ks_requests.specs.Faults.{counted, fault_text, known_error, refusal_text, source_text, whole_text};

@@ -1,6 +1,6 @@
-//! The files that a command's words name.
+//! The files that a command's arguments name.
 //!
-//! All paths are looked at before the first file is read, so that a misspelt word costs nothing; and all files
+//! All paths are looked at before the first file is read, so that a misspelt argument costs nothing; and all files
 //! are read before anything is parsed. Each is read once, and nothing else is asked of the tree meanwhile.
 ghost use Rattle.std.specs.Prelude.{◌≡◌, ◌⊎◌, ◌∷◌, ◌++◌, [], false, IfOk, IsErrOf, None, OnOk, option_map, string_bytes};
 ghost use Rattle.std.specs.Bool.{MatchBool};
@@ -112,8 +112,8 @@ fn read_texts<T: Reading>(
     Ok(Texts { kconfig, dotconfig })
 }
 
-/// The files that the two words of a synchronisation name. An error is that of `read_given` for the first of the two that
-/// has one, but a word that is no path is told before any file is read.
+/// The files that the two arguments of a synchronisation name. An error is that of `read_given` for the first of the two that
+/// has one, but an argument that is no path is reported before any file is read.
 #[tactic(auto, unfolding(crate::specs::Inputs::texts_at))]
 pub fn texts_at<T: Reading>(
     alloc: Global,
@@ -155,7 +155,7 @@ fn read_inputs<T: Reading>(
     Ok(Inputs { texts, old })
 }
 
-/// The files that the words of a preview name, in the order of the words, with the errors of `texts_at`. Without an old
+/// The files that the arguments of a preview name, in their order, with the errors of `texts_at`. Without an old
 /// auto.conf no third file is looked for.
 #[tactic(auto, unfolding(crate::specs::Inputs::inputs_at))]
 pub fn inputs_at<T: Reading>(

@@ -1,5 +1,5 @@
 //! What a command prints: its text to the output, and refusals and counts to standard error. All that is put there is seen out
-//! at once, so that a failure is told by the command that met it.
+//! at once, so that a failure is reported by the command that met it.
 ghost use Rattle.std.specs.Prelude.{◌≡◌, ◌⊎◌, ◌++◌, List, [], ℕ, IsTrue, Ok, Some, codes, false, option_map};
 ghost use Rattle.ks_streams.specs.Streams.{Breaks, Prints, PrintsOrBreaks, state_of};
 ghost use Rattle.ks_tree.specs.Frames.{Reads};
@@ -21,7 +21,7 @@ use ks_streams::{Stream, Writer};
 use ks_tree::Tree;
 use std::alloc::Global;
 
-/// Prints the line of an error, by its number and name, with its place, and tells whether all of it went out.
+/// Prints the line of an error, by its number and name, with its place, and returns whether all of it went out.
 fn print_fault_line<E: Writer>(
     err: &mut Stream<E>,
     number: &[u8],
@@ -37,7 +37,7 @@ fn print_fault_line<E: Writer>(
     err.print(&[b"confstamp: ", number, b" ", name, label, place, b"\n"])
 }
 
-/// Prints the line of a refusal, and tells whether all of it went out.
+/// Prints the line of a refusal, and returns whether all of it went out.
 #[tactic(auto, unfolding(crate::specs::Faults::complaint))]
 fn print_complaint<E: Writer>(err: &mut Stream<E>, refusal: &Refusal) -> bool
     ensures whole { IsTrue result → Prints (complaint refusal.now) (state_of E.Writer err.old) (state_of E.Writer err.new) }
@@ -103,7 +103,7 @@ fn print_site_line<E: Writer>(
     }
 }
 
-/// Prints where a refusal points, and tells whether all of it went out.
+/// Prints where a refusal points, and returns whether all of it went out.
 #[tactic(auto, unfolding(crate::specs::Sites::site_line, crate::specs::Sites::part_label, crate::specs::Faults::counted))]
 fn print_site<E: Writer>(err: &mut Stream<E>, site: &Site<'_>, text: Option<&[u8]>) -> bool
     ensures whole { IsTrue result → Prints (site_line (seen_site site.now) (option_map (λ t. t.now) text.entry)) (state_of E.Writer err.old) (state_of E.Writer err.new) }
@@ -164,7 +164,7 @@ fn print_found<T: Tree, E: Writer>(
 }
 
 /// Prints why a command was refused, after it which file that is about and what stands there, and what to do. The file is read
-/// again once the refusal is told. The status is 2 also where that fails.
+/// again once the refusal is printed. The status is 2 also where that fails.
 pub fn refuse_at<T: Tree, E: Writer>(
     alloc: Global,
     tree: &mut T,
@@ -192,7 +192,7 @@ fn print_count_line<E: Writer>(err: &mut Stream<E>, some: &[u8], all: &[u8], kin
     let _ = err.print(&[some, b" of ", all, kind]);
 }
 
-/// Prints how many of all objects are of a kind, or which names are unknown, where that is told.
+/// Prints how many of all objects are of a kind, or which names are unknown, where that is printed.
 #[tactic(auto, unfolding(crate::specs::Replies::count_line, crate::specs::Faults::counted))]
 fn print_count<E: Writer>(err: &mut Stream<E>, count: &Option<Count>)
     ensures { CountGoes count.now (state_of E.Writer err.old) (state_of E.Writer err.new) }
@@ -218,7 +218,7 @@ fn print_count<E: Writer>(err: &mut Stream<E>, count: &Option<Count>)
 }
 
 /// Prints what is to be printed of a command, and answers the exit status. The text goes to `out`, which is seen out, and a
-/// count to `err` as well as that goes. Where the output fails that is told as 51 Output, with the status 2.
+/// count to `err` as well as that goes. Where the output fails that is reported as 51 Output, with the status 2.
 pub fn print<W: Writer, E: Writer>(
     outcome: &Outcome,
     out: &mut Stream<W>,

@@ -1,4 +1,4 @@
-//! Trees of which a contract can say what was read. A command that read one file more than its words name would be refused for
+//! Trees of which a contract can say what was read. A command that read one file more than its arguments name would be refused for
 //! a file that is none of its business, and one that read a file twice could meet two texts under one name.
 //!
 //! So what reads the files of words is generic over any such tree: what it knows of a reading comes of one call alone.

@@ -315,7 +315,7 @@ fn reply_status(reply: &Reply) -> Status
     }
 }
 
-/// A synchronisation that is done, told name by name: `generation N`, a line `touch NAME` for each, and `unknown U`.
+/// A synchronisation that is done, name by name: `generation N`, a line `touch NAME` for each, and `unknown U`.
 pub fn report_sync(alloc: Global, report: &Report) -> Result<Outcome, AllocError>
     ensures { IfOk result (λ o. (o.text.items ≡ report_lines report.now) × (code_of o.status ≡ 0) × (o.count ≡ None)) }
 {
@@ -324,7 +324,7 @@ pub fn report_sync(alloc: Global, report: &Report) -> Result<Outcome, AllocError
     Ok(Outcome::done(text))
 }
 
-/// What was recorded of an object, told in one line: `record TARGET generation N names M`.
+/// What was recorded of an object, in one line: `record TARGET generation N names M`.
 pub fn report_recorded(
     alloc: Global,
     target: &[u8],
@@ -337,7 +337,7 @@ pub fn report_recorded(
     Ok(Outcome::done(text))
 }
 
-/// What was recorded of an object whose dependency file is by its rule now, told in one line: `depfile TARGET generation N
+/// What was recorded of an object whose dependency file is by its rule now, in one line: `depfile TARGET generation N
 /// names M`.
 pub fn report_depfile(
     alloc: Global,

@@ -1,6 +1,6 @@
-//! What `diff` tells of the names that differ: as git's, lines alone, lines with a status, or a status alone.
+//! What `diff` prints of the names that differ: as git's, lines alone, lines with a status, or a status alone.
 
-/// What `diff` tells.
+/// What `diff` prints.
 #[derive(Clone, Copy, Debug)]
 pub enum ReportStyle {
     /// A line for each name that differs. The status doesn't say whether there is one.

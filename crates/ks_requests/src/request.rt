@@ -114,7 +114,7 @@ pub enum Request {
         symbols: Vec<String>,
         targets: Targets,
     },
-    /// What each symbol costs: how many of these objects name it. Of the dearest so many, or all.
+    /// What each symbol costs: how many of these objects name it. Of the most expensive so many, or all.
     Cost {
         top: Option<u64>,
         targets: Targets,

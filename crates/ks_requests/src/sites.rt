@@ -1,7 +1,7 @@
 //! Where a refusal points: which file it is about, the line or the token of it, and what stands there.
 //!
 //! The number of a line is of no use without the name of its file. What stands there is read again once the refusal is
-//! told, and is left out where the file has no such line or gives no answer: so it never takes the place of the refusal.
+//! printed, and is left out where the file has no such line or gives no answer: so it never takes the place of the refusal.
 ghost use Rattle.std.specs.Prelude.{◌≡◌, ◌-◌, ℕ, List, Some, IfOk, IfSome, IsErrOf, map, option_map, slice_get, string_bytes};
 ghost use Rattle.ks_symbols.specs.Lines.{lines};
 ghost use Rattle.ks_tree.specs.Files.{IsTooLarge, content};

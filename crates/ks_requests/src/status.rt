@@ -14,7 +14,7 @@ pub enum Status {
     Refused,
 }
 
-/// What is told on standard error of what was counted.
+/// What is printed to standard error of what was counted.
 #[derive(Drop)]
 pub enum Count {
     /// How many of all objects are stale.
@@ -40,7 +40,7 @@ pub struct Outcome {
     /// The whole output: lines, each with its line feed, or nothing.
     pub text: Vec<u8>,
     pub status: Status,
-    /// What is told on standard error, of a command that counts.
+    /// What is printed to standard error, of a command that counts.
     pub count: Option<Count>,
 }
 

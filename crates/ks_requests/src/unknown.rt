@@ -1,5 +1,5 @@
-//! The names in a `.config` that its Kconfig doesn't declare, as a misspelt one or one of another edition. A synchronisation
-//! counts their lines; who only asks what it would do is told which.
+//! The names in a `.config` that its Kconfig doesn't declare, as a misspelt one or one of another version. A synchronisation
+//! counts their lines; who only asks what it would do gets their names.
 ghost use Rattle.std.specs.Prelude.{◌≡◌, ◌++◌, IfOk, OnOk, flat_map};
 ghost use Rattle.std.specs.FinMap as map;
 ghost use Rattle.ks_symbols.specs.Lines.{lines};

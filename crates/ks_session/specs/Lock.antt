@@ -37,7 +37,7 @@ IsAccessOf (request.Sync k d stamps) access = (access.lock ≡ Exclusive) × (ac
 IsAccessOf (request.Batch script) access = IsScriptAccess (string_bytes script) access
 IsAccessOf _ access = (access.lock ≡ Shared) × (access.script ≡ None)
 
--- Where the words make no request nothing is locked.
+-- Where the arguments make no request nothing is locked.
 abbrev pub AreLocked : Result Request WordsError → Option Access → Type 0
 AreLocked (Ok request) (Some access) = IsAccessOf request access
 AreLocked (Ok request) None = ⊥

@@ -69,18 +69,18 @@ begins_option [] = false
 begins_option (arg ∷ rest) =
     bytes_eq arg (codes "-C") || bytes_eq arg (codes "--begin") || bytes_eq arg (codes "--dialect") || bytes_eq arg (codes "--wait")
 
--- a word that is missing, or is none of those that are needed
+-- an argument that is missing, or is none of those that are needed
 abbrev pub Lacks : (List ℕ → Type 0) → List (List ℕ) → Type 0
 Lacks bad [] = ⊤
 Lacks bad (arg ∷ rest) = bad arg
 
--- an option without a word after it that does
+-- an option without an argument after it that does
 abbrev pub IsFaulty : ArgError → List (List ℕ) → Type 0
 IsFaulty fault.NoDirectory args = (rest : List (List ℕ)) × (args ≡ codes "-C" ∷ rest) × Lacks (λ dir. dir ≡ []) rest
 IsFaulty fault.NoDialect args = (rest : List (List ℕ)) × (args ≡ codes "--dialect" ∷ rest) × Lacks (λ name. dialect_named name ≡ None) rest
 IsFaulty fault.NoSeconds args = (rest : List (List ℕ)) × (args ≡ codes "--wait" ∷ rest) × Lacks (λ number. decimal_value number ≡ None) rest
 
--- The words begin with an option of so many words; or with a faulty one; or with none.
+-- The arguments begin with an option of so many of them; or with a faulty one; or with none.
 abbrev pub BeginsWith : List (List ℕ) → NextOption → Type 0
 BeginsWith args (beginning.Option option count) = Spells (take count args) (seen_option option) × (0 < count) × (count ≤ length args)
 BeginsWith args (beginning.Faulty fault) = IsFaulty fault args
@@ -88,7 +88,7 @@ BeginsWith args beginning.Command = begins_option args ≡ false
 
 -- ---- the whole
 
--- Options are taken off, up to words that begin with none; or one of them is faulty.
+-- Options are taken off, up to arguments that begin with none; or one of them is faulty.
 abbrev pub ParsesGlobalOptions : List (List ℕ) → ParsedOptions → Type 0
 ParsesGlobalOptions args (global_options.Taken invocation) = (options : List OptionView) × SpellsAll args options (map (λ w. w.now) invocation.args.now)
     × (begins_option (map (λ w. w.now) invocation.args.now) ≡ false) × (seen_settings invocation.settings ≡ fold stated nothing options)

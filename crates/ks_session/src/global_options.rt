@@ -1,6 +1,6 @@
 //! What stands in front of the command: the directory that `-C DIR` names, whether numbers may begin again, which dialect the tree
-//! has, and how long another program is waited for. It is taken off before the words are looked at as a command, so that what is
-//! said of a command's words holds of those after it.
+//! has, and how long another program is waited for. It is taken off before the arguments are looked at as a command, so that what is
+//! said of a command's arguments holds of those after it.
 ghost use Rattle.std.specs.Prelude.{◌≡◌, ◌∷◌, codes, IfOk, OnOk, map, string_bytes};
 ghost use Rattle.ks_session.specs.Directories.{dialect_named};
 ghost use Rattle.ks_session.specs.ParsedOptions.{BeginsWith, ParsesGlobalOptions, nothing, stated, seen_option, seen_settings};
@@ -9,7 +9,7 @@ use crate::directory::below;
 use ks_symbols::{Dialect, read_decimal};
 use std::alloc::{AllocError, Global};
 
-/// Why the words in front of a command are none.
+/// Why the options in front of a command are wrong.
 #[derive(Clone, Copy)]
 pub enum ArgError {
     /// A `-C` without a directory after it, or with an empty word.
@@ -29,10 +29,10 @@ pub enum GlobalOption<'a> {
     Wait(u64),
 }
 
-/// What words begin with.
+/// What arguments begin with.
 #[derive(Clone, Copy)]
 pub enum NextOption<'a> {
-    /// An option, and how many words it has.
+    /// An option, and how many arguments it has.
     Option(GlobalOption<'a>, usize),
     Faulty(ArgError),
     Command,
@@ -51,7 +51,7 @@ pub struct Settings {
     pub seconds: u64,
 }
 
-/// The words of a command, and what stood in front of it.
+/// The arguments of a command, and what stood in front of it.
 #[derive(Drop)]
 pub struct CommandArgs<'a> {
     pub settings: Settings,
@@ -78,7 +78,7 @@ fn dialect_named(name: &str) -> Option<Dialect>
     }
 }
 
-/// The option `-C`, by the words after it.
+/// The option `-C`, by the arguments after it.
 fn directory_option<'a>(rest: &'a [&'a str]) -> NextOption<'a>
     ensures { BeginsWith (codes "-C" ∷ map (λ w. w.now) rest.entry.now) result }
 {
@@ -88,7 +88,7 @@ fn directory_option<'a>(rest: &'a [&'a str]) -> NextOption<'a>
     }
 }
 
-/// The option `--dialect`, by the words after it.
+/// The option `--dialect`, by the arguments after it.
 fn dialect_option<'a>(rest: &'a [&'a str]) -> NextOption<'a>
     ensures { BeginsWith (codes "--dialect" ∷ map (λ w. w.now) rest.entry.now) result }
 {
@@ -101,7 +101,7 @@ fn dialect_option<'a>(rest: &'a [&'a str]) -> NextOption<'a>
     }
 }
 
-/// The option `--wait`, by the words after it.
+/// The option `--wait`, by the arguments after it.
 fn wait_option<'a>(rest: &'a [&'a str]) -> NextOption<'a>
     ensures { BeginsWith (codes "--wait" ∷ map (λ w. w.now) rest.entry.now) result }
 {
@@ -114,7 +114,7 @@ fn wait_option<'a>(rest: &'a [&'a str]) -> NextOption<'a>
     }
 }
 
-/// What the words begin with.
+/// What the arguments begin with.
 fn first_option<'a>(args: &'a [&'a str]) -> NextOption<'a>
     ensures { BeginsWith (map (λ w. w.now) args.entry.now) result }
 {
@@ -161,7 +161,7 @@ impl Settings {
     }
 }
 
-/// What the words after the program's name say in front of the command.
+/// What the arguments say in front of the command.
 pub fn parse_global_options<'a>(
     alloc: Global,
     args: &'a [&'a str],

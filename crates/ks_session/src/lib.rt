@@ -1,4 +1,4 @@
-//! How a command comes to its directory: what stands in front of its words, the lock that it needs, and whether numbers would be lost. All
+//! How a command comes to its directory: what stands in front of it, the lock that it needs, and whether numbers would be lost. All
 //! of it is decided over any system that answers a few calls, so that it is proved without one; the program gives its own.
 #![tactic(auto)]
 

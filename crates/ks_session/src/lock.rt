@@ -100,7 +100,7 @@ fn request_access<T: Reading>(
     }
 }
 
-/// The access that what was asked for needs, or `None` where the words make no request, which is told later.
+/// The access that what was asked for needs, or `None` where the arguments make no request, which is reported later.
 pub fn access_of<T: Reading>(
     alloc: Global,
     tree: &mut T,

@@ -1,4 +1,4 @@
-//! What a writer notes of the answers to its calls, so that what is told of a failure is told of a call that failed.
+//! What a writer notes of the answers to its calls, so that a failure is reported only of a call that failed.
 ghost use Rattle.std.specs.Prelude.{◌≡◌, ℕ, IsErrOf, List, Option, false};
 ghost use Rattle.std.specs.Io.KnownBytes.{Appends, Keeps};
 ghost use Rattle.ks_streams.specs.declared.write_error.WriteError.{WriteError};

@@ -296,7 +296,7 @@ impl<'a> Reader<'a> {
     }
 }
 
-/// Which line is the first with another kind than a name has is known only when all lines are read, and then told before the fault of
+/// Which line is the first with another kind than a name has is known only when all lines are read, and then reported before the fault of
 /// any line after it.
 fn read_text(alloc: Global, dialect: Dialect, text: &[u8]) -> Result<Symbols, SourceError>
     ensures kinds { IfOk result (λ s. (x : List ℕ) → map.get s.kinds x ≡ declared (read_in dialect text.now) x) }

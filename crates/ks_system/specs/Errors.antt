@@ -1,4 +1,4 @@
--- What an error of the system says. This table is the only place where errors are told apart.
+-- What an error of the system says. This table is the only place where errors are distinguished.
 use Rattle.std.specs.Prelude.{◌≡◌, ◌⊎◌, Option, Some, None, Result, Ok, Err, ⊤}
 use Rattle.std.specs.IoError.{error_kind}
 use Rattle.std.specs.declared.io.Error.{Error}
@@ -36,7 +36,7 @@ abbrev pub IsPassed : Meaning → Option Error → Type 0
 IsPassed meaning None = ⊤
 IsPassed meaning (Some e) = meaning_of e ≡ meaning
 
--- What is told is the error of the last call, or one of this kind where that call went well.
+-- What is reported is the error of the last call, or one of this kind where that call went well.
 abbrev pub IsReported : ErrorKind → Option Error → Error → Type 0
 IsReported own last e = (last ≡ Some e) ⊎ ((last ≡ None) × (error_kind e ≡ own))
 
@@ -44,6 +44,6 @@ IsReported own last e = (last ≡ Some e) ⊎ ((last ≡ None) × (error_kind e 
 abbrev pub IsReportedBut : Meaning → ErrorKind → Option Error → Error → Type 0
 IsReportedBut meaning own last e = (last ≡ Some e) ⊎ (IsPassed meaning last × (error_kind e ≡ own))
 
--- What is told of writing: the error of the last call, that it writes nothing more, or that it is interrupted without end.
+-- What is reported of a write: the error of the last call, that it writes nothing more, or that it is interrupted without end.
 abbrev pub IsReportedOfWriting : Option Error → Error → Type 0
 IsReportedOfWriting last e = IsReported kind.WriteZero last e ⊎ IsReportedBut Interrupted kind.Other last e

@@ -1,4 +1,4 @@
-//! What an error of the system says: the one table by which errors are told apart. A build that takes a file that it may not read
+//! What an error of the system says: the one table by which errors are distinguished. A build that takes a file that it may not read
 //! for a missing one would call objects fresh, and so would one that takes an interrupted read for the end.
 ghost use Rattle.std.specs.Prelude.{◌≡◌, ◌↔◌, ℕ, Ok, Err, IfErr, IfOk, IsTrue, MatchOption};
 ghost use Rattle.ks_system.specs.Errors.{Says, found_of, meaning_of};

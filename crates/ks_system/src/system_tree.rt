@@ -117,7 +117,7 @@ impl<S: System + Drop> SystemTree<S> {
         TreeFault::Device
     }
 
-    /// Counts a failure of the system at a path, and keeps what can be told of it.
+    /// Counts a failure of the system at a path, and keeps what can be reported of it.
     fn fault(&mut self, alloc: Global, path: &[u8], error: &io::Error) -> TreeFault
         ensures device { result ≡ TreeFault.Device }
         ensures reported { IfSome self.new.last_error (λ fault. string_bytes fault.path ≡ path.now) }
@@ -231,7 +231,7 @@ impl<S: System + Drop> Tree for SystemTree<S> {
         ensures uncounted { IsErrOf result TreeFault.OutOfMemory → self.new.failures ≡ self.old.failures }
         ensures too_large_uncounted { IsErrOf result TreeFault.TooLarge → self.new.failures ≡ self.old.failures }
         ensures cause { IsErrOf result TreeFault.Device → HasRisen self.old.failures self.new.failures }
-        // Of the files' times, the claim, what is held, and what is told.
+        // Of the files' times, the claim, what is held, and what is reported.
         ensures undated { S.is_honest → (S.world self.new.system).dated ≡ (S.world self.old.system).dated }
         ensures claim { self.new.written ≡ self.old.written }
         ensures reported { IsErrOf result TreeFault.Device → IfSome self.new.last_error (λ fault. string_bytes fault.path ≡ path.now) }
@@ -272,7 +272,7 @@ impl<S: System + Drop> Tree for SystemTree<S> {
         ensures passed { OnOk result (self.new.failures ≡ self.old.failures) }
         ensures uncounted { IsErrOf result TreeFault.OutOfMemory → self.new.failures ≡ self.old.failures }
         ensures cause { IsErrOf result TreeFault.Device → HasRisen self.old.failures self.new.failures }
-        // Of the files' times, the claim, and what is told.
+        // Of the files' times, the claim, and what is reported.
         ensures undated { S.is_honest → (S.world self.new.system).dated ≡ (S.world self.old.system).dated }
         ensures claim { self.new.written ≡ self.old.written }
         ensures reported { IsErrOf result TreeFault.Device → IfSome self.new.last_error (λ fault. string_bytes fault.path ≡ path.now) }
@@ -303,7 +303,7 @@ impl<S: System + Drop> Tree for SystemTree<S> {
         ensures passed { OnOk result (self.new.failures ≡ self.old.failures) }
         ensures uncounted { IsErrOf result TreeFault.OutOfMemory → self.new.failures ≡ self.old.failures }
         ensures cause { IsErrOf result TreeFault.Device → HasRisen self.old.failures self.new.failures }
-        // Of the files' times, the claim, the readings, and what is told.
+        // Of the files' times, the claim, the readings, and what is reported.
         ensures undated { S.is_honest → (S.world self.new.system).dated ≡ (S.world self.old.system).dated }
         ensures claimed { OnOk result (MatchOption self.new.written ⊥ (λ h. S.is_claimed h ≡ true)) }
         ensures of_path { S.is_honest → OnOk result (IfSome self.new.written (λ h. (S.opened h).path ≡ path.now)) }
@@ -336,7 +336,7 @@ impl<S: System + Drop> Tree for SystemTree<S> {
         ensures passed { OnOk result (self.new.failures ≡ self.old.failures) }
         ensures uncounted { IsErrOf result TreeFault.OutOfMemory → self.new.failures ≡ self.old.failures }
         ensures cause { IsErrOf result TreeFault.Device → HasRisen self.old.failures self.new.failures }
-        // Of the files' times, the readings, and what is told.
+        // Of the files' times, the readings, and what is reported.
         ensures dated { S.is_honest → OnOk result (content (S.world self.old.system).files path.now ≡ None →
             (S.world self.new.system).dated ≡ (S.world self.old.system).dated ++ path.now ∷ []) }
         ensures stood { S.is_honest → IsSome (content (S.world self.old.system).files path.now) → (S.world self.new.system).dated ≡ (S.world self.old.system).dated }
@@ -354,7 +354,7 @@ impl<S: System + Drop> Tree for SystemTree<S> {
         }
     }
 
-    /// A failure is told at the path that the file was to have, since the temporary one says nothing to a user.
+    /// A failure is reported at the path that the file was to have, since the temporary one says nothing to a user.
     fn rename(&mut self, alloc: Global, from: &[u8], to: &[u8]) -> Result<(), TreeFault>
         requires differ { from.now ≢ to.now }
         requires there { S.is_honest → IsSome (content (S.world self.old.system).files from.now) }
@@ -368,7 +368,7 @@ impl<S: System + Drop> Tree for SystemTree<S> {
         ensures passed { OnOk result (self.new.failures ≡ self.old.failures) }
         ensures uncounted { IsErrOf result TreeFault.OutOfMemory → self.new.failures ≡ self.old.failures }
         ensures cause { IsErrOf result TreeFault.Device → HasRisen self.old.failures self.new.failures }
-        // Of the files' times, the readings, and what is told.
+        // Of the files' times, the readings, and what is reported.
         ensures undated { S.is_honest → (S.world self.new.system).dated ≡ (S.world self.old.system).dated }
         ensures forgotten { self.new.held ≡ None }
         ensures reported { IsErrOf result TreeFault.Device → IfSome self.new.last_error (λ fault. string_bytes fault.path ≡ to.now) }
@@ -440,7 +440,7 @@ impl<S: System + Drop> Backdating for SystemTree<S> {
         ensures passed { OnOk result (self.new.failures ≡ self.old.failures) }
         ensures uncounted { IsErrOf result TreeFault.OutOfMemory → self.new.failures ≡ self.old.failures }
         ensures cause { IsErrOf result TreeFault.Device → HasRisen self.old.failures self.new.failures }
-        // Of the files that were made, the claim, what is told, and what a failure comes of.
+        // Of the files that were made, the claim, what is reported, and what a failure comes of.
         ensures undated { S.is_honest → (S.world self.new.system).dated ≡ (S.world self.old.system).dated }
         ensures claim { self.new.written ≡ self.old.written }
         ensures reported { IsErrOf result TreeFault.Device → IfSome self.new.last_error (λ fault. string_bytes fault.path ≡ path.now) }

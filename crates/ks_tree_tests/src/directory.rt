@@ -45,7 +45,7 @@ enum Deed<'a> {
     IsLongPast(&'a str),
     /// Two files have one mode.
     HaveOneMode(&'a str, &'a str),
-    /// What is told of the last failure.
+    /// What is reported of the last failure.
     Reported(&'a str),
     Failures(u64),
 }
@@ -181,7 +181,7 @@ fn failures_of<S: System + Drop>(tree: &mut SystemTree<S>) -> u64 {
     tree.failures()
 }
 
-/// What is told of the last failure.
+/// What is reported of the last failure.
 fn reported<S: System + Drop>(
     alloc: Global,
     tree: &mut SystemTree<S>,

@@ -8,8 +8,7 @@ use Rattle.ks_tree.specs.Paths.{auto_path, stamp_path, command_path}
 use Rattle.ks_tree.specs.Stamps.{HasNumber, stamp_text}
 use Rattle.ks_engine.specs.History.{History, Begun, Broken, LastRecord, before, done}
 use Rattle.ks_engine.specs.LastSync.{OldAuto, old_auto}
-use Rattle.ks_output.specs.Header.{header_text}
-use Rattle.ks_engine.specs.Legal.{IsLegalSync}
+use Rattle.ks_engine.specs.Legal.{Defines, IsLegalSync}
 use Rattle.ks_engine.specs.Shows.{Shows, IsCommandFile, stamp}
 use Rattle.ks_parallel.specs.Views.{without}
 
@@ -30,8 +29,8 @@ OthersMayWrite = (h : History) (old new : Files) → Shows old h → SaysTheSame
 abbrev pub LostRecordsAreLeftOut : Type 0
 LostRecordsAreLeftOut = (h : History) (gone : List ℕ → Bool) (old new : Files) → Shows old h → SaysTheSame gone old new → Shows new (without gone h)
 
--- Another tool synchronised, and it is repaired: auto.conf is what it was, the header is by the other tool's configuration, and each name that this one
--- sets otherwise than auto.conf has a stamp of the next number. What it compiled has no record any more.
+-- Another tool synchronised, and it is repaired: auto.conf is what it was, the header defines what the other tool's configuration does, and each name
+-- that this one sets otherwise than auto.conf has a stamp of the next number. What it compiled has no record any more.
 pub record IsRepaired (gone : List ℕ → Bool) (title : List ℕ) (config : Configuration) (renewed : List (List ℕ)) (old new : Files) : Type 0 where
   pub last : OldAuto
   pub read : old_auto (content old auto_path) ≡ Ok last
@@ -39,7 +38,7 @@ pub record IsRepaired (gone : List ℕ → Bool) (title : List ℕ) (config : Co
   pub legal : IsLegalSync title config
   pub each : (x : List ℕ) → is_in renewed x ≡ differs last.texts config x
   pub auto : content new auto_path ≡ content old auto_path
-  pub header : content new header_path ≡ Some (header_text title config)
+  pub header : (b : List ℕ) × (content new header_path ≡ Some b) × Defines b title config
   pub stamps : (x : List ℕ) → IsTrue (is_name x) → content new (stamp_path x)
       ≡ (if is_in renewed x then Some (stamp_text (last.generation + 1)) else content old (stamp_path x))
   pub commands : (o : List ℕ) → gone o ≡ false → content new (command_path o) ≡ content old (command_path o)

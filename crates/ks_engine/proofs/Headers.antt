@@ -6,16 +6,16 @@ use Rattle.ks_engine.proofs.Heart.{record_cases, recorded_synced}
 record HeaderAt (texts : Texts) (x : List ℕ) (b : List ℕ) : Type 0 where
   title : List ℕ
   config : Configuration
-  written : b ≡ header_text title config
+  written : definitions x b ≡ definitions x (header_text title config)
   source : IsLegalSync title config
   text : get (texts_of config) x ≡ get texts x
 
 header_at : (h : History) (x : List ℕ) (b : List ℕ) → IsHistory h → MayBeHeader h b → renewed_since_sync h x ≡ false → HeaderAt (before h) x b
 header_at (Begun texts generation stamps) x b is may out = absurd may
-header_at (Synced t config past) x b is may out = record { title = t; config = config; written = may; source = is.1; text = refl }
+header_at (Synced t config past) x b is may out = record { title = t; config = config; written = may x; source = is.1; text = refl }
 header_at (Broken t config renewed past) x b is (inl new) out =
     let kept = unchanged_is_kept (before past) config x in
-    record { title = t; config = config; written = new.1; source = is.1; text = grind (arith, common_steps, kept, (new.0 x)) }
+    record { title = t; config = config; written = new.1 x; source = is.1; text = grind (arith, common_steps, kept, (new.0 x)) }
 header_at (Broken t config renewed past) x b is (inr old) out = header_at past x b is.0 old (or_parts (is_in renewed x) _ out).1
 header_at (Recorded o command names header past) x b is may out = header_at past x b is.0 may out
 

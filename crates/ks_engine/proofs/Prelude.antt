@@ -49,7 +49,7 @@ pub use Rattle.ks_engine.specs.Evaluated.{HasSameDefinitions, IsBuildEvaluated, 
 pub use Rattle.ks_engine.specs.LastSync.{OldAuto, last_generation, read_unless, synced_at}
 unfoldable pub use Rattle.ks_engine.specs.LastSync.{old_auto}
 pub use Rattle.ks_engine.specs.Laws.{AreNotNumbered, EmptyTreeShows, HasChangeAfter, MadeStampsShow, NotNumberedTreeShows, PlansAreOne, SuspicionsHaveCauses, UntypedTreeShows, UsualTreeShows}
-pub use Rattle.ks_engine.specs.Legal.{AreAllRenewed, IsHistory, IsLegalSync, MayBeHeader}
+pub use Rattle.ks_engine.specs.Legal.{AreAllRenewed, Defines, IsHistory, IsLegalSync, MayBeHeader}
 pub use Rattle.ks_engine.specs.Caches.{AreScanned, Grows, IsCached, IsCacheOf, IsNoSource, IsStamp, are_placed, pairs_of, value_of, with_pair}
 pub use Rattle.ks_engine.specs.OtherRecords.{OtherRecordsDoNotMatter, own_history}
 pub use Rattle.ks_engine.specs.Queries.{IsAnswerTo, IsSeen, limit_of}

@@ -92,7 +92,7 @@ module _ (old new : Files) (h : History) (plan : Plan) (changed renewed : List (
     auto = subst (IsAuto h) (sym auto) shows.auto;
     header = λ some. ⊎_elim
         (λ kept. let was = shows.header some in (was.0, kept ∙ was.1, inr was.2))
-        (λ made. (header_text plan.title plan.config, made.1, inl ((λ x d. ap (λ xs. is_in xs x) made.0 ∙ differs_now x ∙ d), refl)))
+        (λ made. (header_text plan.title plan.config, made.1, inl ((λ x d. ap (λ xs. is_in xs x) made.0 ∙ differs_now x ∙ d), λ x. refl)))
         leaves.header;
     stamps = next_stamp;
     commands = next_commands;

@@ -2,6 +2,7 @@
 use Rattle.std.specs.Prelude.{◌≡◌, ◌⊎◌, ℕ, ◌+◌, ◌<◌, ◌≤◌, List, true, IsTrue}
 use Rattle.ks_symbols.specs.Configuration.{IsConfiguration, Configuration}
 use Rattle.ks_symbols.specs.Titles.{is_title}
+use Rattle.ks_output.specs.Definitions.{definitions}
 use Rattle.ks_output.specs.Header.{header_text}
 use Rattle.ks_symbols.specs.Names.{is_in}
 use Rattle.ks_compare.specs.Changes.{differs}
@@ -12,11 +13,15 @@ use Rattle.ks_engine.specs.History.{History, Begun, Synced, Broken, Recorded, be
 abbrev pub AreAllRenewed : List (List ℕ) → Texts → Configuration → Type 0
 AreAllRenewed renewed old new = (x : List ℕ) → differs old new x ≡ true → is_in renewed x ≡ true
 
--- The header is that of the last completed synchronisation, or of one that was broken off after it with all stamps renewed.
+-- A header defines each name in the same lines as the one that is written of this configuration.
+abbrev pub Defines : List ℕ → List ℕ → Configuration → Type 0
+Defines b title config = (x : List ℕ) → definitions x b ≡ definitions x (header_text title config)
+
+-- The header is as that of the last completed synchronisation, or of one that was broken off after it with all stamps renewed.
 abbrev pub MayBeHeader : History → List ℕ → Type 0
 MayBeHeader (Begun texts generation stamps) b = ⊥
-MayBeHeader (Synced title config past) b = b ≡ header_text title config
-MayBeHeader (Broken title config renewed past) b = (AreAllRenewed renewed (before past) config × (b ≡ header_text title config)) ⊎ MayBeHeader past b
+MayBeHeader (Synced title config past) b = Defines b title config
+MayBeHeader (Broken title config renewed past) b = (AreAllRenewed renewed (before past) config × Defines b title config) ⊎ MayBeHeader past b
 MayBeHeader (Recorded object command names header past) b = MayBeHeader past b
 
 -- what a synchronisation writes is a title and a configuration

@@ -1,5 +1,5 @@
 -- A history without the records of some objects, and with more records: what is said of it by all else is the same.
-use Rattle.ks_parallel.proofs.Prelude.{◌≡◌, ◌⊎◌, ℕ, ◌+◌, ◌≤◌, List, [], ◌∷◌, Option, Some, None, Bool, true, false, cond, length, option_map, sym, ◌∙◌, ap, refl, subst, bytes_eq, filter, cond-true, cond-false, false_from_ne_true, bytes_eq-Decides, max_bytes, is_in, auto_text, header_text, Texts, differs, History, Begun, Synced, Broken, Recorded, LastRecord, before, done, WasSynced, last_record, IsHistory, MayBeHeader, AreAllRenewed, IsAuto, stamp, IsCommandFile, own_history, without, RecordEvent, with_record, with_records, rules}
+use Rattle.ks_parallel.proofs.Prelude.{◌≡◌, ◌⊎◌, ℕ, ◌+◌, ◌≤◌, List, [], ◌∷◌, Option, Some, None, Bool, true, false, cond, length, option_map, sym, ◌∙◌, ap, refl, subst, bytes_eq, filter, cond-true, cond-false, false_from_ne_true, bytes_eq-Decides, max_bytes, is_in, auto_text, Defines, Texts, differs, History, Begun, Synced, Broken, Recorded, LastRecord, before, done, WasSynced, last_record, IsHistory, MayBeHeader, AreAllRenewed, IsAuto, stamp, IsCommandFile, own_history, without, RecordEvent, with_record, with_records, rules}
 use Rattle.ks_parallel.proofs.Each.{Each}
 
 -- ---- a history without the records of some objects
@@ -26,7 +26,7 @@ module _ (p : List ℕ → Bool) where
   }) (same_stated past)
   same_stated (Broken title config renewed past) = ap (λ (w : Stated). record w {
     stamp = λ x. cond (is_in renewed x) (w.done + 1) (w.stamp x);
-    header = λ b. (AreAllRenewed renewed w.before config × (b ≡ header_text title config)) ⊎ w.header b;
+    header = λ b. (AreAllRenewed renewed w.before config × Defines b title config) ⊎ w.header b;
   }) (same_stated past)
   same_stated (Recorded object command names header past) =
       elim (p object) as (λ b. stated (cond b (without p past) (Recorded object command names header (without p past))) ≡ stated past)

@@ -1,5 +1,5 @@
 -- What the proofs of this crate import: one name for each thing.
-pub use Rattle.ks_engine.proofs.Prelude.{All-cons, All-nil, AreAllRenewed, AutoConf, Begun, Bool, Broken, CommandFile, CommandTemporary, Err, Files, HasNumber, History, IsAuto, IsCommandFile, IsHistory, IsLegalPlace, IsRecordEvent, IsRecordTried, IsRecorded, LastRecord, List, MayBeHeader, None, Ok, Option, Place, RecordPlan, Recorded, Result, SameBut, Shows, Some, Stamp, Synced, Texts, WasSynced, [], and_from, and_parts, and_then, ap, append-nil, ap₂, arith, at, auto_path, auto_text, before, bytes_eq, bytes_eq-Decides, cases_Bool, command_path, command_temporary, common_steps, cond, cond-false, cond-true, content, differs, done, drop, drop-cons, eqb-false, err_from_is_err_and, false, false_from_ne_true, followed, get-empty, get-insert, get_or, header_path, header_text, inl, inr, is_eq-slice_cmp, is_in, last_generation, last_record, length, length-append, list_any, listed_unless, map, max_bytes, nat_cmp, nat_cmp-IsAntisymmetric, nat_eq, nat_list_cmp_total, ne_eqb, option_map, or_cases, or_from, or_left, or_parts, or_right, own_history, path_of, paths_never_meet, record_plan, refl, rules, rules_for, same_map, scanned, slice_cmp, slice_cmp-IsAntisymmetric, stamp, subst, subst₂, suc, sym, take, take_more, there, true, true≢false, args, zero, ℕ, ⊎_elim, ◌&&◌, ◌++◌, ◌+◌, ◌<◌, ◌∙◌, ◌∷◌, ◌≡◌, ◌≢◌, ◌≤◌, ◌⊎◌, HasRisen, IsAborted, IsRecordRefused, IsTooLarge, count_by, list_any-append, lt-ltb, min, synced_at, vec_items, read_unless, both_ways, IfErr, All-push, take_all, IsTrue, is_name, kept_or, IsRecordedUnder, RuleLeaves, drafted, temporary, with_command, ◌||◌}
+pub use Rattle.ks_engine.proofs.Prelude.{All-cons, All-nil, AreAllRenewed, Defines, AutoConf, Begun, Bool, Broken, CommandFile, CommandTemporary, Err, Files, HasNumber, History, IsAuto, IsCommandFile, IsHistory, IsLegalPlace, IsRecordEvent, IsRecordTried, IsRecorded, LastRecord, List, MayBeHeader, None, Ok, Option, Place, RecordPlan, Recorded, Result, SameBut, Shows, Some, Stamp, Synced, Texts, WasSynced, [], and_from, and_parts, and_then, ap, append-nil, ap₂, arith, at, auto_path, auto_text, before, bytes_eq, bytes_eq-Decides, cases_Bool, command_path, command_temporary, common_steps, cond, cond-false, cond-true, content, differs, done, drop, drop-cons, eqb-false, err_from_is_err_and, false, false_from_ne_true, followed, get-empty, get-insert, get_or, header_path, header_text, inl, inr, is_eq-slice_cmp, is_in, last_generation, last_record, length, length-append, list_any, listed_unless, map, max_bytes, nat_cmp, nat_cmp-IsAntisymmetric, nat_eq, nat_list_cmp_total, ne_eqb, option_map, or_cases, or_from, or_left, or_parts, or_right, own_history, path_of, paths_never_meet, record_plan, refl, rules, rules_for, same_map, scanned, slice_cmp, slice_cmp-IsAntisymmetric, stamp, subst, subst₂, suc, sym, take, take_more, there, true, true≢false, args, zero, ℕ, ⊎_elim, ◌&&◌, ◌++◌, ◌+◌, ◌<◌, ◌∙◌, ◌∷◌, ◌≡◌, ◌≢◌, ◌≤◌, ◌⊎◌, HasRisen, IsAborted, IsRecordRefused, IsTooLarge, count_by, list_any-append, lt-ltb, min, synced_at, vec_items, read_unless, both_ways, IfErr, All-push, take_all, IsTrue, is_name, kept_or, IsRecordedUnder, RuleLeaves, drafted, temporary, with_command, ◌||◌}
 unfoldable pub use Rattle.ks_engine.proofs.Prelude.{old_auto, record_plan_under, scanned_all, auto_refusal, stamp_path}
 pub use Rattle.ks_symbols.proofs.Prelude.{add-one, bytes_decides, cases_eq, eq_by_cmp, eqb-true, get-remove, get-retain_keys, get_or-set_other, get_or-set_same, length-set, not, not_from_false, not_from_true, set}
 pub use Rattle.ks_tree.proofs.Prelude.{Header, IsMoved}

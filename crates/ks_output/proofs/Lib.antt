@@ -4,6 +4,7 @@ pub mod Entries
 pub mod LastLine
 pub mod LastRemark
 pub mod LegalNames
+pub mod Marks
 pub mod PositionSteps
 pub mod PlainTexts
 pub mod ReadBack

@@ -9,7 +9,7 @@ ghost use Rattle.ks_output.specs.declared.auto_conf.AutoError.TheVariants.{OutOf
 ghost use Rattle.ks_output.specs.AutoConf.{auto_map, auto_generation, auto_refusal};
 ghost use Rattle.ks_output.specs.OldConfig.{HasNames};
 
-use crate::auto_lines::{Remark, parse_remark, split_switch};
+use crate::auto_lines::{Remark, after_switch, parse_remark, split_switch};
 use crate::old_config::OldConfig;
 use crate::positions::Position;
 use bstr::{ByteSlice, LinesWithTerminator};
@@ -73,7 +73,7 @@ impl<'a> Lines<'a> {
         let Position::Typed = self.position else {
             return;
         };
-        'switches: while let Some((_, _, rest)) = split_switch(self.left.as_bytes()) {
+        'switches: while let Some(rest) = after_switch(self.left.as_bytes()) {
             self.left = rest.lines_with_terminator();
             self.number += 1;
         }

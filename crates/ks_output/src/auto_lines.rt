@@ -2,13 +2,13 @@
 //!
 //! The lines of Kbuild are among those that are read. A line that begins as one of this project's own, on the
 //! generation or a class, and is none, is kept apart from a comment: what it meant to say would be lost.
-ghost use Rattle.std.specs.Prelude.{◌≡◌, ◌≤◌, ◌∷◌, ◌||◌, IfSome, IsTrue, codes, length, nat_eq};
-ghost use Rattle.std.specs.List.{starts_with};
+ghost use Rattle.std.specs.Prelude.{◌≡◌, ◌≤◌, ◌∷◌, ◌||◌, IfSome, IsTrue, List, ℕ, codes, length, nat_eq};
+ghost use Rattle.std.specs.List.{ends_with, starts_with};
 ghost use Rattle.bstr.specs.Text.{without_terminator};
-ghost use Rattle.ks_output.specs.AutoLines.{Gives, seen_remark, remark, remarks, class_remark, spelled_class};
+ghost use Rattle.ks_output.specs.AutoLines.{Gives, seen_remark, stated_by, remark, remarks, class_remark, spelled_class};
 
 use ks_symbols::{
-    Class, Statement, is_comment_or_blank, name_is_legal, parse_statement, read_decimal, split_word,
+    Class, Statement, entry_ahead, parse_statement, read_decimal, split_word, word_is_name,
 };
 
 /// What a line says.
@@ -69,7 +69,7 @@ fn parse_class(text: &[u8]) -> Remark<'_>
     ensures { seen_remark result ≡ class_remark text.now }
 {
     let (name, following) = split_word(text);
-    if !name_is_legal(name) {
+    if !word_is_name(name) {
         return Remark::Mistypes;
     }
     match spelled_class(following) {
@@ -78,29 +78,43 @@ fn parse_class(text: &[u8]) -> Remark<'_>
     }
 }
 
-/// What a line says, which is given with its end.
+/// What a line says that begins with a `#`, by the line and by what it is without its end. The lines of classes are most.
 #[inline]
-#[tactic(auto, unfolding(crate::specs::AutoLines::stated_by))]
-pub(crate) fn parse_remark(line: &[u8]) -> Remark<'_>
-    ensures { seen_remark result ≡ remark line.now }
+#[tactic(auto, using(crate::proofs::Marks::typed_mark, crate::proofs::Marks::marks_comment), unfolding(crate::specs::AutoLines::stated_by))]
+fn parse_mark<'a>(line: &[u8], bare: &'a [u8]) -> Remark<'a>
+    requires mark { IsTrue (starts_with nat_eq bare.now (codes "#")) }
+    ensures { seen_remark result ≡ stated_by (ends_with nat_eq line.now (codes "\n")) bare.now }
 {
-    let bare = without_end(line);
-    if bare.starts_with(b"#generation ") {
+    if bare.starts_with(b"#type ") {
+        parse_class(&bare[6..])
+    } else if bare.starts_with(b"#generation ") {
         match read_decimal(&bare[12..]) {
             Some(generation) if line.ends_with(b"\n") => Remark::Numbers(generation),
             _ => Remark::Faulty,
         }
     } else if bare == b"#typed".as_slice() {
         Remark::Marks
-    } else if bare.starts_with(b"#type ") {
-        parse_class(&bare[6..])
-    } else if is_comment_or_blank(bare) {
-        Remark::CommentOrBlank
     } else {
-        match parse_statement(bare) {
-            Some(Statement::Assigns(name, text)) => Remark::Gives(name, text),
-            _ => Remark::Faulty,
-        }
+        Remark::CommentOrBlank
+    }
+}
+
+/// What a line says, which is given with its end.
+#[inline]
+#[tactic(auto, using(crate::proofs::Marks::unmarked), unfolding(crate::specs::AutoLines::stated_by))]
+pub(crate) fn parse_remark(line: &[u8]) -> Remark<'_>
+    ensures { seen_remark result ≡ remark line.now }
+{
+    let bare = without_end(line);
+    if bare.starts_with(b"#") {
+        return parse_mark(line, bare);
+    }
+    if bare.is_empty() {
+        return Remark::CommentOrBlank;
+    }
+    match parse_statement(bare) {
+        Some(Statement::Assigns(name, text)) => Remark::Gives(name, text),
+        _ => Remark::Faulty,
     }
 }
 
@@ -118,10 +132,33 @@ fn begins_as_switch(text: &[u8]) -> bool
 pub(crate) fn split_switch(text: &[u8]) -> Option<(&[u8], &[u8], &[u8])>
     ensures { IfSome result (λ e. remarks text.now ≡ Gives e.0.now e.1.now ∷ remarks e.2.now) }
 {
+    if !text.starts_with(b"C") {
+        return None;
+    }
     match parse_statement(text) {
         Some(Statement::Assigns(name, written)) if begins_as_switch(written) => {
             Some((name, &written[..1], &written[2..]))
         }
+        _ => None,
+    }
+}
+
+/// Whether what stands behind a name gives it a y or an m, and ends the line.
+#[inline(always)]
+fn gives_switch(rest: &[u8]) -> bool
+    requires { 3 ≤ length rest.now }
+    ensures { result ≡ (starts_with nat_eq rest.now (codes "=y\n") || starts_with nat_eq rest.now (codes "=m\n")) }
+{
+    rest[0] == b'=' && rest[2] == b'\n' && (rest[1] == b'y' || rest[1] == b'm')
+}
+
+/// What follows the entry of a y or an m that a text begins with, if it does.
+#[inline(always)]
+pub(crate) fn after_switch(text: &[u8]) -> Option<&[u8]>
+    ensures { IfSome result (λ rest. (e : List ℕ × List ℕ) × (remarks text.now ≡ Gives e.0 e.1 ∷ remarks rest.now)) }
+{
+    match entry_ahead(text) {
+        Some((_, rest)) if gives_switch(rest) => Some(&rest[3..]),
         _ => None,
     }
 }

@@ -34,8 +34,9 @@ pub use laws::{
 pub use limits::MAX_BYTES;
 pub use names::{
     Legal, Name, OfNames, OfPaths, Path, Rule, name_is_legal, path_is_legal, target_is_legal,
+    word_is_name,
 };
 pub use settings::{Entries, Settings, SettingsBuilder};
-pub use statements::{Statement, is_comment_or_blank, parse_statement, split_word};
+pub use statements::{Statement, entry_ahead, is_comment_or_blank, parse_statement, split_word};
 pub use symbols::Symbols;
 pub use table::{Draft, Rows, Table};

@@ -2,13 +2,13 @@
 //! `CONFIG_NAME=value` and `# CONFIG_NAME is not set`.
 //!
 //! auto.conf is made of the first of them, so its reader asks here too.
-ghost use Rattle.std.specs.Prelude.{◌≡◌, IsTrue, codes, drop, length, nat_eq, option_map, take_while};
+ghost use Rattle.std.specs.Prelude.{◌≡◌, ◌≤◌, ◌+◌, ◌++◌, IfSome, IsTrue, codes, drop, length, nat_eq, option_map, take_while};
 ghost use Rattle.std.specs.List.{list_all, starts_with};
-ghost use Rattle.ks_symbols.specs.Names.{is_word_byte};
+ghost use Rattle.ks_symbols.specs.Names.{is_name, is_word_byte};
 ghost use Rattle.ks_symbols.specs.Statements.{seen_statement, name_of, statement, assignment, unsetting, is_comment_or_blank};
 
 use crate::names::word_is_name;
-use crate::word_runs::word_end;
+use crate::word_runs::{WIDE, wide_run_at, word_end};
 
 /// What a line says about a symbol.
 #[derive(Drop)]
@@ -53,6 +53,14 @@ fn split_entry(line: &[u8]) -> (&[u8], &[u8])
     (&line[7..end], &line[end..])
 }
 
+/// Whether a line begins as an entry. Four bytes are compared at once, where seven would be one by one.
+#[inline(always)]
+fn begins_as_entry(line: &[u8]) -> bool
+    ensures { result ≡ starts_with nat_eq line.now (codes "CONFIG_") }
+{
+    line.starts_with(b"CONF") && line[4..].starts_with(b"IG_")
+}
+
 #[inline(always)]
 #[tactic(auto, unfolding(crate::specs::Statements::assignment))]
 fn assignment(line: &[u8]) -> Option<Statement<'_>>
@@ -85,13 +93,44 @@ fn unsetting(text: &[u8]) -> Option<Statement<'_>>
 pub fn parse_statement(line: &[u8]) -> Option<Statement<'_>>
     ensures { option_map seen_statement result ≡ statement line.now }
 {
-    if line.starts_with(b"CONFIG_") {
+    if begins_as_entry(line) {
         assignment(line)
     } else if line.starts_with(b"# CONFIG_") {
         unsetting(&line[9..])
     } else {
         None
     }
+}
+
+/// The entry that a text begins with: its name, and what follows the name. Nothing is found near the end of the text.
+fn long_entry_ahead(text: &[u8]) -> Option<(&[u8], &[u8])>
+    requires { IsTrue (starts_with nat_eq text.now (codes "CONFIG_")) }
+    ensures { IfSome result (λ e. IsTrue (is_name e.0.now) × (text.now ≡ codes "CONFIG_" ++ e.0.now ++ e.1.now) × (3 ≤ length e.1.now)) }
+{
+    let (name, rest) = split_entry(text);
+    if word_is_name(name) && rest.len() >= 3 {
+        Some((name, rest))
+    } else {
+        None
+    }
+}
+
+/// The same of any text: an entry is found if so many bytes follow that most names are looked at at once.
+#[inline(always)]
+pub fn entry_ahead(text: &[u8]) -> Option<(&[u8], &[u8])>
+    ensures { IfSome result (λ e. IsTrue (is_name e.0.now) × (text.now ≡ codes "CONFIG_" ++ e.0.now ++ e.1.now) × (3 ≤ length e.1.now)) }
+{
+    if text.len() < 7 + WIDE + 3 || !begins_as_entry(text) {
+        return None;
+    }
+    let run = wide_run_at(text, 7);
+    if run == 0 {
+        return None;
+    }
+    if run < WIDE {
+        return Some((&text[7..7 + run], &text[7 + run..]));
+    }
+    long_entry_ahead(text)
 }
 
 /// Whether a line is a comment or empty. `# CONFIG_NAME is not set` is a comment too, and a statement.

@@ -14,13 +14,16 @@ use std::simd::prelude::*;
 /// How many bytes are looked at side by side.
 const LANES: usize = 16;
 
+/// The same where most words are longer.
+pub(crate) const WIDE: usize = 32;
+
 /// The place of the lowest bit that is set, or where none is how many bytes there are.
 #[inline(always)]
-fn first_set(bits: u64) -> usize
-    ensures { result ≡ (if bits == 0 then LANES else trailing_zeros w64 bits) }
+fn first_set(bits: u64, lanes: usize) -> usize
+    ensures { result ≡ (if bits == 0 then lanes else trailing_zeros w64 bits) }
 {
     if bits == 0 {
-        LANES
+        lanes
     } else {
         bits.trailing_zeros() as usize
     }
@@ -35,11 +38,31 @@ fn run_at(text: &[u8], at: usize) -> usize
     ensures stops { result < LANES → is_word_byte (slice_index text.now (at + result)) ≡ false }
 {
     let bytes = u8x16::from_slice(&text[at..]);
-    let from_letter = (bytes | u8x16::splat(0x20)) - u8x16::splat(b'a');
-    let from_digit = bytes - u8x16::splat(b'0');
-    let no_alphanumeric = from_letter.simd_ge(u8x16::splat(26))
-        & from_digit.simd_ge(u8x16::splat(10));
-    first_set((no_alphanumeric & bytes.simd_ne(u8x16::splat(b'_'))).to_bitmask())
+    let letters = (bytes | u8x16::splat(0x20)) - u8x16::splat(b'a');
+    let digits = (bytes - u8x16::splat(b'0')).simd_min(u8x16::splat(10)) + u8x16::splat(16);
+    let no_alphanumeric = letters.simd_min(digits).simd_eq(u8x16::splat(26));
+    first_set(
+        (no_alphanumeric & bytes.simd_ne(u8x16::splat(b'_'))).to_bitmask(),
+        LANES,
+    )
+}
+
+/// The same of twice as many bytes.
+#[inline(always)]
+pub(crate) fn wide_run_at(text: &[u8], at: usize) -> usize
+    requires { at + WIDE ≤ length text.now }
+    ensures fits { result ≤ WIDE }
+    ensures passes { (k : ℕ) → at ≤ k → k < at + result → is_word_byte (slice_index text.now k) ≡ true }
+    ensures stops { result < WIDE → is_word_byte (slice_index text.now (at + result)) ≡ false }
+{
+    let bytes = u8x32::from_slice(&text[at..]);
+    let letters = (bytes | u8x32::splat(0x20)) - u8x32::splat(b'a');
+    let digits = (bytes - u8x32::splat(b'0')).simd_min(u8x32::splat(10)) + u8x32::splat(16);
+    let no_alphanumeric = letters.simd_min(digits).simd_eq(u8x32::splat(26));
+    first_set(
+        (no_alphanumeric & bytes.simd_ne(u8x32::splat(b'_'))).to_bitmask(),
+        WIDE,
+    )
 }
 
 /// How many bytes at the front are word bytes, byte by byte.

@@ -8,6 +8,7 @@ switches-init c = passing_none _ (search rules)
 
 pub switches-preserved : goal.switches-preserved
 switches-preserved c =
-    let line = ap (map_list remark) (sym c.as_bytes.ensures) ∙ c.in-Some.ensures in
-    let split = line ∙ ap (λ ls. Gives c.in-Some.field-0-0.now c.in-Some.field-0-1.now ∷ map_list remark ls) (sym c.lines_with_terminator-self.ensures.value) in
+    let ((name, text), passed) = c.in-Some.ensures in
+    let line = ap (map_list remark) (sym c.as_bytes.ensures) ∙ passed in
+    let split = line ∙ ap (λ ls. Gives name text ∷ map_list remark ls) (sym c.lines_with_terminator-self.ensures.value) in
     passing_on _ _ _ _ _ c.switches.invariant split refl refl

@@ -5,8 +5,9 @@
     bench/recipes.py ROUNDS SMALL RAW NAME=TRACE,TREE..
 
 TRACE is what `strace -f -e trace=execve -s 200000` wrote of a make in TREE. The recipes of each object run by turns, ROUNDS times
-and once before that isn't counted, in their trees, and each leaves what it makes. RAW gets lines `CASE-NAME,OBJECT,NANOSECONDS`:
-of each object the median of the rounds, where CASE is `all`, and `small` for the SMALL objects that name the fewest files.
+and once before that isn't counted, in their trees, and each leaves what it makes. objtool is left out. RAW gets lines
+`CASE-NAME,OBJECT,NANOSECONDS`: of each object the median of the rounds, where CASE is `all`, and `small` for the SMALL objects that
+name the fewest files.
 It prints how many objects that were. Status: 0, or 2 where a recipe fails or there is none.
 """
 import os
@@ -16,6 +17,8 @@ import sys
 
 # A recipe that compiles: it tells so first.
 RECIPE = re.compile(r"""\d+ +execve\("[^"]*/(?:ba|da)?sh", \["[^"]*", "-e?c", "(set -e;  ?echo '  (?:CC|AS) (?:\[M\] )? *(\S+)'.*)"\], 0x""")
+# A command by itself: it begins a line of shell, or stands behind `;`.
+OBJTOOL = re.compile(r"((?:^|;) *)(?:\./)?tools/objtool/objtool ")
 
 
 def recipes(trace):
@@ -25,7 +28,8 @@ def recipes(trace):
         for line in lines:
             match = RECIPE.match(line)
             if match:
-                found[match[2]] = match[1].encode("latin-1").decode("unicode_escape")
+                text = match[1].encode("latin-1").decode("unicode_escape")
+                found[match[2]] = OBJTOOL.sub(r"\1: ", text)
     return found
 
 

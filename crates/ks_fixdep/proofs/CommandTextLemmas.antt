@@ -1,6 +1,8 @@
 -- The lines of a written text are those of the layout and the line of the generation, and so the text reads as what was written.
-use Rattle.ks_fixdep.proofs.Prelude.{◌≡◌, ℕ, ◌<◌, ◌^◌, Bool, true, false, List, [], ◌∷◌, ◌++◌, refl, ap, ◌∙◌, Option, Some, None, append_assoc, map, ◌==◌, not, arith, common_steps, flat_map, decimal, IfSome, unwrap_or, list_all, filter_map, cond-false, and_parts, and_from, not-true, list_all-map, map-append, list_all-append, last_of, is_name, is_path, is_path_byte, decimal_value, Dep, File, Config, lines, content, CommandRecord, is_command, is_dep, IsLegal, dep_line, layout, generation_mark, generation_line, ended, command_text, generation_in, is_sound, CommandReads, rules}
-use Rattle.ks_fixdep.proofs.CommandPatternLemmas.{other-byte, all-imp, path-bytes, target-path, before-end, after-prefix}
+use Rattle.ks_fixdep.proofs.Prelude.{sym, ap₂, take, take-append-drop, bytes_eq, take_while, is_word_byte, drop, dep_in, deps_in, line_feed, length, length-append, ◌≡◌, ℕ, ◌<◌, ◌^◌, Bool, true, false, List, [], ◌∷◌, ◌++◌, refl, ap, ◌∙◌, Option, Some, None, append_assoc, map, ◌==◌, not, arith, common_steps, flat_map, decimal, IfSome, unwrap_or, list_all, filter_map, cond-false, and_parts, and_from, not-true, list_all-map, map-append, list_all-append, last_of, is_name, is_path, is_path_byte, decimal_value, Dep, File, Config, lines, content, CommandRecord, is_command, is_dep, IsLegal, dep_line, layout, generation_mark, generation_line, ended, command_text, generation_in, is_sound, CommandReads, rules}
+use Rattle.ks_fixdep.specs.CommandReading.{onto_deps}
+use Rattle.ks_symbols.proofs.Spellings.{run_split}
+use Rattle.ks_fixdep.proofs.CommandPatternLemmas.{bytes-same, dep-line, other-byte, all-imp, path-bytes, target-path, before-end, after-prefix}
 
 -- ---- no line of the layout has a line feed in it, so the lines of the text are these
 
@@ -38,6 +40,26 @@ plain-dep : (d : Dep) → is_dep d ≡ true → is_plain (dep_line d) ≡ true
 unfolding is_name
 plain-dep (File p) legal = search (rules, plain-append, plain-path)
 plain-dep (Config x) legal = search (rules, plain-append, and_parts, plain-bytes)
+
+-- a dependency line that a text begins with, by its bytes
+pub dep-ahead : (d : Dep) (text rest : List ℕ) → is_dep d ≡ true → text ≡ dep_line d ++ line_feed ++ rest
+    → (deps_in (lines text) ≡ d ∷ deps_in (lines rest)) × (lines rest ≡ drop 1 (lines text)) × (length rest < length text)
+unfolding deps_in
+dep-ahead d text rest legal is =
+    let first = ap lines (is ∙ append_assoc (dep_line d) line_feed rest) ∙ lines-prefix (dep_line d) rest (plain-dep d legal) in
+    let says = ap dep_in (content-ended (dep_line d)) ∙ dep-line d legal in (
+      ap deps_in first ∙ ap (λ o. onto_deps o (deps_in (lines rest))) says,
+      sym (ap (drop 1) first),
+      omega (arith, ap length is, length-append (dep_line d ++ line_feed) rest, length-append (dep_line d) line_feed),
+    )
+
+-- a text is the mark that it begins with and what follows
+pub mark-split : (text mark after : List ℕ) → bytes_eq (take (length mark) text) mark ≡ true → after ≡ drop (length mark) text → text ≡ mark ++ after
+mark-split text mark after a b = sym (take-append-drop (length mark) text) ∙ ap₂ (λ x y. x ++ y) (bytes-same _ _ a) (sym b)
+
+-- a text is the word that it begins with and what follows
+pub word-split : (after name rest : List ℕ) → name ≡ take_while is_word_byte after → rest ≡ drop (length name) after → after ≡ name ++ rest
+word-split after name rest a b = run_split is_word_byte after ∙ sym (ap₂ (λ x y. x ++ y) a (b ∙ ap (λ x. drop (length x) after) a))
 
 plain-generation : (g : Option ℕ) → IfSome g (λ x. decimal_value (decimal x) ≡ Some x) → list_all is_plain (generation_line g) ≡ true
 plain-generation None back = refl

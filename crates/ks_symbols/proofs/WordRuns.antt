@@ -1,5 +1,5 @@
 -- The run of word bytes that a text begins with: past bytes that are known to pass, and among bytes that are looked at at once.
-use Rattle.ks_symbols.proofs.Prelude.{◌≡◌, ℕ, ◌+◌, ◌-◌, ◌%◌, ◌^◌, ◌<◌, ◌≤◌, Bool, true, false, cond, not, List, [], ◌∷◌, map, refl, sym, ap, ◌∙◌, arith, inl, inr, length, get_or, get_or-take, take, drop, AllPass-from_list_all, take_while, list_all, starts_with, nat_eq, codes, prefix_len, prefix_len_is, length-prefix_len, take_rest, drop-drop, is_name, length-drop, length-take-le, take-append-drop, and_from, ne_eqb, ◌++◌, not-false, not-true, cases_Bool, cases_lt, cond-true, cond-false, take_while-cons, length-map, is_word_byte, rules}
+use Rattle.ks_symbols.proofs.Prelude.{◌≡◌, ℕ, zero, suc, ◌+◌, ◌-◌, ◌%◌, ◌^◌, ◌<◌, ◌≤◌, Bool, true, false, cond, not, List, [], ◌∷◌, map, refl, sym, ap, ◌∙◌, arith, inl, inr, length, get_or, get_or-take, take, drop, AllPass-from_list_all, take_while, list_all, starts_with, nat_eq, codes, prefix_len, prefix_len_is, length-prefix_len, take_rest, drop-drop, is_name, length-drop, length-take-le, take-append-drop, and_from, ne_eqb, ◌++◌, not-false, not-true, cases_Bool, cases_lt, cond-true, cond-false, take_while-cons, length-map, is_word_byte, rules}
 use Rattle.ks_symbols.proofs.Spellings.{opened}
 use Rattle.std.proofs.Common.{Fits, w8, w64, eqb, ltb}
 use Rattle.std.proofs.lemmas.Bool.{le-leb, agree_below, agree_below_at}
@@ -77,11 +77,11 @@ pub min_of_maps : {V : Type 0} (g h : V → ℕ) (vs : List V) {xs ys : List ℕ
     → sel_l (map (top 7) (zip2 (λ (a b : ℕ). cond {A = ℕ} (ltb a b) 255 0) xs ys)) xs ys ≡ map (λ v. cond (top 7 (cond {A = ℕ} (ltb (g v) (h v)) 255 0)) (g v) (h v)) vs
 min_of_maps g h vs a b = (λ i. sel_l (map (top 7) (zip2 (λ (a b : ℕ). cond {A = ℕ} (ltb a b) 255 0) (a i) (b i))) (a i) (b i)) ∙ sel_of_maps g h vs
 
--- Of n bytes the lanes z are set by f where no word goes on.
-module _ (n : ℕ) (few : n ≤ 64) (text : List ℕ) (at r : ℕ) (f : ℕ → ℕ) (z : List ℕ) (headroom : at + n ≤ length text) (fits : (k : ℕ) → Fits w8 (get_or text k 0))
+-- Of n bytes the lanes z are set by f where p fails.
+module _ (p : ℕ → Bool) (n : ℕ) (few : n ≤ 64) (text : List ℕ) (at r : ℕ) (f : ℕ → ℕ) (z : List ℕ) (headroom : at + n ≤ length text) (fits : (k : ℕ) → Fits w8 (get_or text k 0))
     (lanes : z ≡ map f (chunk at n text))
     (found : r ≡ cond (eqb (mask_l (map (top 7) z) % 2 ^ 64) 0) n (trailing_zeros w64 (mask_l (map (top 7) z) % 2 ^ 64)))
-    (agrees : agree_below (λ x. top 7 (f x)) (λ x. not (is_word_byte x)) 256 ≡ true) where
+    (agrees : agree_below (λ x. top 7 (f x)) (λ x. not (p x)) 256 ≡ true) where
   abbrev stops : ℕ → Bool
   stops x = top 7 (f x)
 
@@ -92,12 +92,18 @@ module _ (n : ℕ) (few : n ≤ 64) (text : List ℕ) (at r : ℕ) (f : ℕ → 
       let mask = ap (λ l. mask_l l % 2 ^ 64) (ap (map (top 7)) lanes ∙ map-map (top 7) f v) ∙ mask_l-mod (map stops v) 64 (omega (arith, length-map v stops, long, few)) in
       found ∙ ap (λ m. cond (eqb m 0) n (trailing_zeros w64 m)) mask ∙ first_set_mask_l stops v n long few
 
-  reports : (k : ℕ) → not (is_word_byte (get_or text k 0)) ≡ stops (get_or text k 0)
-  reports k = sym (agree_below_at stops (λ x. not (is_word_byte x)) 256 (get_or text k 0) agrees (fits k).fits)
+  reports : (k : ℕ) → not (p (get_or text k 0)) ≡ stops (get_or text k 0)
+  reports k = sym (agree_below_at stops (λ x. not (p x)) 256 (get_or text k 0) agrees (fits k).fits)
 
-  pub run_of_lanes : (r ≤ n) × ((k : ℕ) → at ≤ k → k < at + r → is_word_byte (get_or text k 0) ≡ true) × (r < n → is_word_byte (get_or text (at + r) 0) ≡ false)
+  pub run_of_lanes : (r ≤ n) × ((k : ℕ) → at ≤ k → k < at + r → p (get_or text k 0) ≡ true) × (r < n → p (get_or text (at + r) 0) ≡ false)
   run_of_lanes = (
     run_in_chunk_le stops text at n r 0 headroom counted,
     λ k from to. not-false _ (reports k ∙ run_in_chunk_fails stops text at n r 0 headroom counted k from to),
     λ short. not-true _ (reports (at + r) ∙ run_in_chunk_stops stops text at n r 0 headroom counted short),
   )
+
+-- from each byte to all of them
+pub all_from_run : (p : ℕ → Bool) (xs : List ℕ) (n : ℕ) → ((k : ℕ) → k < n → p (get_or xs k 0) ≡ true) → n ≤ length xs → list_all p (take n xs) ≡ true
+all_from_run p xs zero pass fits = refl
+all_from_run p [] (suc n) pass fits = refl
+all_from_run p (x ∷ xs) (suc n) pass fits = and_from (p x) _ (pass 0 (omega arith)) (all_from_run p xs n (λ k lt. pass (suc k) (omega arith)) (omega arith))

@@ -12,6 +12,7 @@ mod limits;
 mod line_kinds;
 mod names;
 mod order;
+mod path_runs;
 mod settings;
 mod statements;
 mod symbols;
@@ -33,9 +34,10 @@ pub use laws::{
 };
 pub use limits::MAX_BYTES;
 pub use names::{
-    Legal, Name, OfNames, OfPaths, Path, Rule, name_is_legal, path_is_legal, target_is_legal,
-    word_is_name,
+    Legal, Name, OfNames, OfPaths, Path, Rule, name_is_legal, path_bytes_are_path, path_is_legal,
+    target_is_legal, word_is_name,
 };
+pub use path_runs::split_path_bytes;
 pub use settings::{Entries, Settings, SettingsBuilder};
 pub use statements::{Statement, entry_ahead, is_comment_or_blank, parse_statement, split_word};
 pub use symbols::Symbols;

@@ -12,14 +12,14 @@ use crate::names::is_word_byte;
 use std::simd::prelude::*;
 
 /// How many bytes are looked at side by side.
-const LANES: usize = 16;
+pub(crate) const LANES: usize = 16;
 
 /// The same where most words are longer.
 pub(crate) const WIDE: usize = 32;
 
 /// The place of the lowest bit that is set, or where none is how many bytes there are.
 #[inline(always)]
-fn first_set(bits: u64, lanes: usize) -> usize
+pub(crate) fn first_set(bits: u64, lanes: usize) -> usize
     ensures { result ≡ (if bits == 0 then lanes else trailing_zeros w64 bits) }
 {
     if bits == 0 {

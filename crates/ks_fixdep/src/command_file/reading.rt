@@ -1,13 +1,14 @@
 //! Reading a command file. Each function takes one line, or the lines from one number on, and answers what the definition of
 //! these lines answers: what they say, or the number of the first that does not fit.
-ghost use Rattle.std.specs.Prelude.{◌≡◌, ◌∷◌, [], ◌<◌, ◌≤◌, ◌+◌, ◌^◌, List, ℕ, length, drop, IfOk, IfSome, IsTrue, IsErrOf, OnOk, map};
+ghost use Rattle.std.specs.Prelude.{◌≡◌, ◌∷◌, [], ◌<◌, ◌≤◌, ◌+◌, ◌++◌, ◌^◌, None, List, ℕ, length, drop, IfOk, IfSome, IsTrue, IsErrOf, OnOk, map};
 ghost use Rattle.std.specs.Option.{option_copied, option_map};
 ghost use Rattle.std.specs.Str.{bytes_eq};
 ghost use Rattle.ks_symbols.specs.Names.{is_name, is_path, is_target};
 ghost use Rattle.ks_symbols.specs.Lines.{max_bytes};
-ghost use Rattle.ks_fixdep.specs.CommandLines.{lines, content, between};
-ghost use Rattle.ks_fixdep.specs.CommandFile.{view};
+ghost use Rattle.ks_fixdep.specs.CommandLines.{lines, line_feed, content, between};
+ghost use Rattle.ks_fixdep.specs.CommandFile.{is_dep, dep_line, view};
 ghost use Rattle.ks_fixdep.specs.Borrowed.{seen_dep, borrowed_view};
+ghost use Rattle.ks_fixdep.specs.CommandLayout.{file_line, name_line};
 ghost use Rattle.ks_fixdep.specs.CommandPatterns as Patterns;
 ghost use Rattle.ks_fixdep.specs.CommandReading as Reading;
 ghost use Rattle.ks_fixdep.specs.CommandReading.{reading};
@@ -21,7 +22,10 @@ use super::{
     command_is_legal, layout,
 };
 use bstr::ByteSlice;
-use ks_symbols::{MAX_BYTES, name_is_legal, path_is_legal, read_decimal, target_is_legal};
+use ks_symbols::{
+    MAX_BYTES, name_is_legal, path_bytes_are_path, path_is_legal, read_decimal, split_path_bytes,
+    split_word, target_is_legal, word_is_name,
+};
 use memchr::memchr;
 use std::alloc::{AllocError, Global};
 
@@ -241,6 +245,62 @@ fn borrowed_dep_in(line: &[u8]) -> Option<BorrowedDep<'_>>
     }
 }
 
+/// The name of a dependency line that a text begins with, and what follows the line, if so many bytes follow.
+#[inline(always)]
+fn name_ahead(text: &[u8]) -> Option<(&[u8], &[u8])>
+    ensures { IfSome result (λ r. IsTrue (is_name r.0.now) × (text.now ≡ name_line r.0.now ++ line_feed ++ r.1.now)) }
+{
+    let (name, rest) = split_word(text.strip_prefix(layout::NAME_MARK)?);
+    if !word_is_name(name) {
+        return None;
+    }
+    Some((name, rest.strip_prefix(b") \\\n")?))
+}
+
+/// The path of a dependency line that a text begins with, and what follows the line, if so many bytes follow.
+#[inline(always)]
+fn path_ahead(text: &[u8]) -> Option<(&[u8], &[u8])>
+    ensures { IfSome result (λ r. IsTrue (is_path r.0.now) × (text.now ≡ file_line r.0.now ++ line_feed ++ r.1.now)) }
+{
+    let (path, rest) = split_path_bytes(text.strip_prefix(layout::FILE_MARK)?);
+    if !path_bytes_are_path(path) {
+        return None;
+    }
+    Some((path, rest.strip_prefix(b" \\\n")?))
+}
+
+/// What a dependency line says that a text begins with, and what follows the line. It is read from its beginning on: no end is
+/// looked for, and no byte is judged again.
+#[inline(always)]
+fn dep_ahead(text: &[u8]) -> Option<(BorrowedDep<'_>, &[u8])>
+    ensures { IfSome result (λ r. IsTrue (is_dep (seen_dep r.0)) × (text.now ≡ dep_line (seen_dep r.0) ++ line_feed ++ r.1.now)) }
+{
+    if let Some((path, rest)) = path_ahead(text) {
+        return Some((BorrowedDep::File(path), rest));
+    }
+    let (name, rest) = name_ahead(text)?;
+    Some((BorrowedDep::Config(BorrowedName::new(name)), rest))
+}
+
+/// What the first line says as a dependency line, and what follows it.
+#[tactic(auto, unfolding(crate::specs::CommandReading::deps_in))]
+fn dep_at(text: &[u8]) -> Option<(BorrowedDep<'_>, &[u8])>
+    requires { 0 < length text.now }
+    ensures first { IfSome result (λ r. Reading.deps_in (lines text.now) ≡ seen_dep r.0 ∷ Reading.deps_in (lines r.1.now)) }
+    ensures rest { IfSome result (λ r. lines r.1.now ≡ drop 1 (lines text.now)) }
+    ensures shorter { IfSome result (λ r. length r.1.now < length text.now) }
+    ensures none { result ≡ None → Reading.deps_in (lines text.now) ≡ [] }
+{
+    if let Some((dep, rest)) = dep_ahead(text) {
+        return Some((dep, rest));
+    }
+    let (line, rest) = split_line(text);
+    match borrowed_dep_in(content_of(line)) {
+        Some(dep) => Some((dep, rest)),
+        None => None,
+    }
+}
+
 /// The dependency lines in front, in their memory, and what follows them.
 fn borrowed_dependencies(
     alloc: Global,
@@ -252,9 +312,8 @@ fn borrowed_dependencies(
 {
     let mut deps = Vec::new(alloc);
     let mut rest = text;
-    while !rest.is_empty() {
-        let (line, after) = split_line(rest);
-        let Some(dep) = borrowed_dep_in(content_of(line)) else {
+    'lines: while !rest.is_empty() {
+        let Some((dep, after)) = dep_at(rest) else {
             return Ok((deps, rest));
         };
         deps.push(dep)?;

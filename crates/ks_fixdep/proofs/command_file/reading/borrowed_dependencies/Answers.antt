@@ -6,9 +6,9 @@ pub returns-in_default-clause-deps : goal.returns-in_default-clause-deps
 unfolding deps_in
 returns-in_default-clause-deps c = grind (arith, common_steps, nat_tests, append-nil)
 
-pub loop-line-preserved : goal.loop-line-preserved
+pub lines-preserved : goal.lines-preserved
 unfolding deps_in
-loop-line-preserved c = grind (arith, common_steps, nat_tests, map-append, length-append, append_assoc, drop-one)
+lines-preserved c = grind (arith, common_steps, nat_tests, map-append, length-append, append_assoc, drop-one)
 
 pub returns-clause-deps : goal.returns-clause-deps
 unfolding deps_in lines

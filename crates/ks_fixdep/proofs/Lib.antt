@@ -6,6 +6,7 @@ pub mod StreamLemmas
 pub mod NotedLemmas
 pub mod TokenLemmas
 pub mod RoleLemmas
+pub mod HeaderLemmas
 pub mod NameLemmas
 pub mod OnceLemmas
 pub mod PlaceSetLemmas

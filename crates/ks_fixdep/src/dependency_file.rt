@@ -145,12 +145,12 @@ fn names_target(token: &[u8]) -> bool
     token.ends_with(b":")
 }
 
-/// Whether a token ends in the usual path of the header.
-#[tactic(auto, unfolding(ks_symbols::specs::Names::header_path))]
+/// Whether a token ends in the usual path of the header. Most tokens differ in their last four bytes, which are compared at once.
+#[tactic(auto, using(crate::proofs::HeaderLemmas::no_header), unfolding(ks_symbols::specs::Names::header_path))]
 fn ends_as_usual(token: &[u8]) -> bool
     ensures { result ≡ ends_with nat_eq token.now header_path }
 {
-    token.ends_with(HEADER)
+    token.ends_with(b"nf.h") && token.ends_with(HEADER)
 }
 
 /// Whether what stands before a path leaves it a path of its own.

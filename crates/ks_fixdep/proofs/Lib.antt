@@ -19,6 +19,5 @@ pub mod CommandFitLemmas
 pub mod CommandTextLemmas
 pub mod CommandFaultLemmas
 pub mod CommandWriteLemmas
-pub mod SeedLemmas
 pub mod RuleLemmas
 pub mod WordLemmas

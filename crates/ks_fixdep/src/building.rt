@@ -14,9 +14,8 @@ use crate::dep_error::DepError;
 use crate::dependency_file::Prerequisites;
 use crate::found_names::{FoundNames, names_of_text};
 use crate::listing::record_text;
-use crate::seed::Seed;
 use crate::source_scan::NamesBySource;
-use ks_symbols::target_is_legal;
+use ks_symbols::{Seed, target_is_legal};
 use std::alloc::{AllocError, Global};
 
 /// Adds the lists as the names of sources, one for each prerequisite.

@@ -14,11 +14,10 @@ ghost use Rattle.ks_fixdep.specs.DependencyFile.{is_target_token, is_directory, 
 ghost use Rattle.ks_fixdep.specs.Progress.{after_target};
 
 use crate::dep_error::DepError;
-use crate::seed::{Seed, path_text};
 use crate::tokens::Tokens;
 use indexmap::IndexMap;
 use indexmap::map::Iter;
-use ks_symbols::{Dialect, MAX_BYTES, path_is_legal};
+use ks_symbols::{Dialect, MAX_BYTES, Seed, path_is_legal, path_text};
 use std::alloc::{AllocError, Global};
 use std::marker::Model;
 

@@ -9,8 +9,8 @@ ghost use Rattle.ks_fixdep.specs.FoundNames.{borrowed_text, names_in};
 
 use crate::prefix_finder::PrefixFinder;
 use crate::scan::names;
-use crate::seed::{Seed, name_text};
 use indexmap::IndexSet;
+use ks_symbols::{Seed, name_text};
 use std::alloc::{AllocError, Global};
 use std::marker::Model;
 use std::slice::Iter;

@@ -17,10 +17,10 @@ use crate::name_iter::NameIter;
 use crate::place_set::PlaceSet;
 use crate::prefix_finder::PrefixFinder;
 use crate::scanner::Scanner;
-use crate::seed::Seed;
 use crate::source_table::SourceTable;
 use crate::symbol_patterns::SymbolPatterns;
 use crate::word_scan::WordScan;
+use ks_symbols::Seed;
 use std::alloc::{AllocError, Global};
 
 /// The names of the sources that have ended, and of the one that is being read.

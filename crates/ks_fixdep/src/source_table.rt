@@ -11,8 +11,7 @@ ghost use Rattle.ks_fixdep.specs.SourceTable.{names_at};
 
 use crate::found_names::FoundNames;
 use crate::place_set::PlaceSet;
-use crate::seed::Seed;
-use ks_symbols::name_is_legal;
+use ks_symbols::{Seed, name_is_legal};
 use std::alloc::{AllocError, Global};
 use std::marker::Model;
 

@@ -3,6 +3,8 @@ use Rattle.ks_output.proofs.Prelude.{drop-append_seam, take-append_seam, order, 
 use Rattle.std.proofs.Common.{flat_map, map as map_list, inl, inr}
 use Rattle.std.specs.FinMap as map
 use Rattle.ks_symbols.specs.declared.kinds.Kind.TheVariants as kind
+use Rattle.std.specs.List.{starts_with}
+use Rattle.ks_output.specs.Written.{older_heading, heading_of}
 use Rattle.ks_output.proofs.Entries.{find_below, tied, AllEntries, all_entries}
 use Rattle.ks_output.proofs.Texts.{texts_are_of_entries}
 use Rattle.ks_output.proofs.WrittenLines.{is_plain, plain-append, plain_name, plain_title, plain_text, lines-plain, ends_with-plain}
@@ -64,10 +66,10 @@ symbol_defines x name d h (rest, inr is) =
 abbrev Defined : List ℕ → Kind × List ℕ → Type 0
 Defined name s = (is_symbol_name s.0 name ≡ true) × (is_plain s.1 ≡ true)
 
-abbrev line_of : List ℕ → Kind × List ℕ → List ℕ
+abbrev pub line_of : List ℕ → Kind × List ℕ → List ℕ
 line_of name s = front s.0 ++ name ++ defined_as s.0 s.1
 
-line_defines : (x name : List ℕ) (k : Kind) (text : List ℕ) → is_symbol_name k name ≡ true → defines x (line_of name (k, text)) ≡ bytes_eq name x
+pub line_defines : (x name : List ℕ) (k : Kind) (text : List ℕ) → is_symbol_name k name ≡ true → defines x (line_of name (k, text)) ≡ bytes_eq name x
 unfolding is_symbol_name
 line_defines x name kind.Flag text h = search (rules, flag_defines, word_bytes, and_parts)
 line_defines x name k text h = symbol_defines x name _ h (shape k text)
@@ -85,7 +87,7 @@ lines_of_entries [] h = search (rules, lines-nil)
 lines_of_entries (e ∷ es) h = search (rules, append_assoc, next, plain_line, (lines_of_entries es h.1))
 
 -- of lines of rising names at most one is about a name
-same_test : (x y : List ℕ) → bytes_eq y x ≡ is_eq (order x y)
+pub same_test : (x y : List ℕ) → bytes_eq y x ≡ is_eq (order x y)
 same_test x y = nat_list_eq_equiv.symm y x ∙ sym (is_eq-slice_cmp x y)
 
 found : (es : List (List ℕ × (Kind × List ℕ))) (x : List ℕ) → T (is_sorted order es) → AllEntries Defined es
@@ -105,6 +107,25 @@ heading_lines title rest = search (rules, append_assoc)
 heading_defines : (x title rest : List ℕ) → is_title title ≡ true → filter (defines x) (lf_lines (header_heading title ++ rest))
     ≡ filter (defines x) (lf_lines rest)
 heading_defines x title rest h = search (rules, heading_lines, next, plain-append, plain_title)
+
+-- .. and that of an older conf
+older_lines : (title rest : List ℕ) → older_heading title ++ rest ≡ codes "/*" ++ 10 ∷ (codes " *" ++ 10
+    ∷ (codes " * Automatically generated file; DO NOT EDIT." ++ 10 ∷ ((codes " * " ++ title) ++ 10 ∷ (codes " *" ++ 10 ∷ (codes " */" ++ 10 ∷ rest)))))
+older_lines title rest = search (rules, append_assoc)
+
+older_heading_defines : (x title rest : List ℕ) → is_title title ≡ true → filter (defines x) (lf_lines (older_heading title ++ rest))
+    ≡ filter (defines x) (lf_lines rest)
+older_heading_defines x title rest h = search (rules, older_lines, next, plain-append, plain_title)
+
+pub heading_of_defines : (x title header rest : List ℕ) → is_title title ≡ true → filter (defines x) (lf_lines (heading_of title header ++ rest))
+    ≡ filter (defines x) (lf_lines rest)
+unfolding heading_of
+heading_of_defines x title header rest h =
+    (elim (starts_with nat_eq header (older_heading title)) as (λ b. filter (defines x) (lf_lines (cond b (older_heading title) (header_heading title) ++ rest))
+    ≡ filter (defines x) (lf_lines rest)) [
+      | true ↦ older_heading_defines x title rest h
+      | false ↦ heading_defines x title rest h
+    ])
 
 defined : (x : List ℕ) (s : Kind × List ℕ) → IsEntry x s → Defined x s
 defined x s h = search (rules, plain_text)

@@ -13,3 +13,7 @@ pub mod SmallNumbers
 pub mod Texts
 pub mod Worked
 pub mod WrittenLines
+pub mod SeenLemmas
+pub mod WrittenPairs
+pub mod WrittenConfigured
+pub mod WrittenAlike

@@ -1,5 +1,5 @@
 -- Worked examples of the formats, as they stand on a disk.
-use Rattle.std.specs.Prelude.{◌≡◌, true, false, [], ◌∷◌, codes, Some, None}
+use Rattle.std.specs.Prelude.{◌≡◌, true, false, [], ◌∷◌, codes, Some, None, Ok, Err}
 use Rattle.std.specs.FinMap as map
 use Rattle.ks_symbols.specs.declared.kinds.Kind.TheVariants as kind
 use Rattle.ks_symbols.specs.declared.kinds.Class.TheVariants as class
@@ -9,6 +9,8 @@ use Rattle.ks_output.specs.AutoLines.{Gives, Marks, Types, Mistypes, Numbers, Co
 use Rattle.ks_output.specs.AutoConf.{fault_in}
 use Rattle.ks_output.specs.Header.{definition_line, header_text}
 use Rattle.ks_output.specs.Definitions.{defines}
+use Rattle.ks_output.specs.Written.{explained, with_pairs}
+use Rattle.ks_output.specs.declared.written.WrittenError.TheVariants as fault
 
 -- a bool and a module: both files
 abbrev pub FilesOfSwitches : Type 0
@@ -84,3 +86,30 @@ MacrosRead =
     × (defines (codes "B_MODULE") (codes "#define ENABLE_B_MODULE 1") ≡ true)
     × (defines (codes "B") (codes "#define ENABLE_B_MODULE 1") ≡ false)
     × (defines (codes "B") (codes "#define CONFIG_B") ≡ false)
+
+-- lines that conf writes: which kind explains the line of the header
+abbrev pub KindsOfWritten : Type 0
+KindsOfWritten =
+    (explained (codes "A") (codes "y") (codes "#define CONFIG_A 1\n") ≡ Some kind.Bool)
+    × (explained (codes "A") (codes "m") (codes "#define CONFIG_A_MODULE 1\n") ≡ Some kind.Tristate)
+    × (explained (codes "A") (codes "y") (codes "#define CONFIG_A \"y\"\n") ≡ Some kind.Text)
+    × (explained (codes "A") [] (codes "#define CONFIG_A \"\"\n") ≡ Some kind.Text)
+    × (explained (codes "A") (codes "10") (codes "#define CONFIG_A 10\n") ≡ Some kind.Int)
+    × (explained (codes "A") (codes "10") (codes "#define CONFIG_A 0x10\n") ≡ Some kind.Hex)
+    × (explained (codes "A") (codes "\"b\"") (codes "#define CONFIG_A \"b\"\n") ≡ Some kind.Raw)
+    × (explained (codes "A") (codes "\"b\"") (codes "#define CONFIG_A \"\\\"b\\\"\"\n") ≡ Some kind.Text)
+    × (explained (codes "A") (codes "10") (codes "#define CONFIG_A 11\n") ≡ None)
+    × (explained (codes "A") (codes "10") (codes "#define CONFIG_A 10") ≡ None)
+    × (explained (codes "A") (codes "y") (codes "#define CONFIG_B 1\n") ≡ None)
+
+-- lines that follow the headings
+abbrev pub PairsOfWritten : Type 0
+PairsOfWritten =
+    (with_pairs 5 map.empty (codes "CONFIG_B=m\n" ∷ codes "CONFIG_A=y\n" ∷ []) (codes "#define CONFIG_B_MODULE 1\n" ∷ codes "#define CONFIG_A 1\n" ∷ [])
+    ≡ Ok (map.insert (map.insert map.empty (codes "B") (kind.Tristate, codes "m")) (codes "A") (kind.Bool, codes "y")))
+    × (with_pairs 5 map.empty (codes "CONFIG_A=y\n" ∷ []) (codes "#define CONFIG_A 1\n" ∷ codes "#define CONFIG_B 1\n" ∷ []) ≡ Err (fault.Undeclared 6))
+    × (with_pairs 5 map.empty (codes "CONFIG_A=y\n" ∷ codes "CONFIG_B=y\n" ∷ []) (codes "#define CONFIG_A 1\n" ∷ []) ≡ Err (fault.Undefined 6))
+    × (with_pairs 5 map.empty (codes "# CONFIG_B is not set\n" ∷ []) (codes "#define CONFIG_B 1\n" ∷ []) ≡ Err (fault.NotAnEntry 5))
+    × (with_pairs 5 map.empty (codes "CONFIG_A_MODULE=y\n" ∷ []) (codes "#define CONFIG_A_MODULE 1\n" ∷ []) ≡ Err (fault.ModuleSymbol 5))
+    × (with_pairs 5 map.empty (codes "CONFIG_A=n\n" ∷ []) (codes "#define CONFIG_A 0\n" ∷ []) ≡ Err (fault.Unexplained 5))
+    × (with_pairs 5 map.empty (codes "CONFIG_A=y\n" ∷ codes "CONFIG_A=y\n" ∷ []) (codes "#define CONFIG_A 1\n" ∷ codes "#define CONFIG_A 1\n" ∷ []) ≡ Err (fault.Twice 6))

@@ -4,7 +4,10 @@ pub mod OldConfig
 pub mod AutoConf
 pub mod Header
 pub mod Definitions
+pub mod SeenNames
+pub mod Written
 pub mod Laws
+pub mod WrittenLaws
 pub mod HeaderLaws
 pub mod Examples
 pub mod Appending

@@ -14,7 +14,7 @@ use ks_symbols::{Class, Kind, Settings};
 use std::alloc::AllocError;
 
 /// Appends the heading with a title.
-fn append_heading(title: &[u8], out: &mut Vec<u8>) -> Result<(), AllocError>
+pub(crate) fn append_heading(title: &[u8], out: &mut Vec<u8>) -> Result<(), AllocError>
     ensures written { OnOk result (out.new.items ≡ out.old.items ++ header_heading title.now) }
     ensures kept { Keeps out.old.items out.new.items }
 {
@@ -80,7 +80,7 @@ fn append_value(kind: Kind, text: &[u8], out: &mut Vec<u8>) -> Result<(), AllocE
 }
 
 /// Appends the definition of an entry.
-fn append_definition(
+pub(crate) fn append_definition(
     name: &[u8],
     kind: Kind,
     text: &[u8],

@@ -1,8 +1,9 @@
 //! Laws of the definitions: what the layers above rest on, and what a reader may check the definitions by.
 //!
 //! Each law is the contract of a call that does nothing.
-ghost use Rattle.ks_output.specs.Examples.{DefinitionLines, EntryLines, FaultsFound, FilesOfSwitches, LinesRead, MacrosRead};
+ghost use Rattle.ks_output.specs.Examples.{DefinitionLines, EntryLines, FaultsFound, FilesOfSwitches, KindsOfWritten, LinesRead, MacrosRead, PairsOfWritten};
 ghost use Rattle.ks_output.specs.HeaderLaws.{AlikeIsDefinedAlike, DefinitionsAreLines, DefinitionsAreOfEntries};
+ghost use Rattle.ks_output.specs.WrittenLaws.{AcceptedIsConfiguration, HeadersDefineAlike};
 ghost use Rattle.ks_output.specs.Laws.{GenerationFits, GenerationReadsBack, HasNoFault, IsAccepted, LastLineCounts, TextsAreOfEntries, TextsHaveNames, TextsReadBack, UntypedHasNoClass};
 
 /// An auto.conf gives a name what the last line about it spells, one of the untyped form no class, and its generation
@@ -47,4 +48,16 @@ pub fn examples_are_worked()
     ensures lines { LinesRead }
     ensures faults { FaultsFound }
     ensures macros { MacrosRead }
+{}
+
+/// What conf wrote, where it is accepted, means a configuration whose header defines each name as the one that was read.
+pub fn written_is_defined_alike()
+    ensures configuration { AcceptedIsConfiguration }
+    ensures alike { HeadersDefineAlike }
+{}
+
+/// What conf writes, by worked examples.
+pub fn written_is_worked()
+    ensures kinds { KindsOfWritten }
+    ensures pairs { PairsOfWritten }
 {}

@@ -9,12 +9,15 @@ mod header;
 mod laws;
 mod old_config;
 mod positions;
+mod seen_names;
+mod written;
 
 pub use auto_conf::{AutoError, read_auto, read_auto_generation};
 pub use auto_text::{auto_len, write_auto};
 pub use header::{write_header, write_quoted};
 pub use laws::{
     auto_texts_read_back, definitions_are_lines, entries_are_defined, examples_are_worked,
-    last_lines_count, texts_are_of_entries,
+    last_lines_count, texts_are_of_entries, written_is_defined_alike, written_is_worked,
 };
 pub use old_config::{OldConfig, OldEntries};
+pub use written::{Written, WrittenError, read_written};

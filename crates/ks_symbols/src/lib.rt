@@ -13,6 +13,7 @@ mod line_kinds;
 mod names;
 mod order;
 mod path_runs;
+mod seed;
 mod settings;
 mod statements;
 mod symbols;
@@ -38,7 +39,9 @@ pub use names::{
     target_is_legal, word_is_name,
 };
 pub use path_runs::split_path_bytes;
+pub use seed::{Seed, name_text, path_text};
 pub use settings::{Entries, Settings, SettingsBuilder};
 pub use statements::{Statement, entry_ahead, is_comment_or_blank, parse_statement, split_word};
 pub use symbols::Symbols;
 pub use table::{Draft, Rows, Table};
+pub use titles::is_title;

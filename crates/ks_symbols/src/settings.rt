@@ -110,7 +110,8 @@ impl Model for SettingsBuilder {
 }
 
 impl SettingsBuilder {
-    pub(crate) fn new(entries: Table<Kind>, unknown: u64) -> SettingsBuilder
+    /// The settings of these entries, and how many lines spoke of names that are not declared.
+    pub fn new(entries: Table<Kind>, unknown: u64) -> SettingsBuilder
         ensures entries { result.entries ≡ entries }
         ensures unknown { result.unknown ≡ unknown }
     {

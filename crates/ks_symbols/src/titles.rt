@@ -37,7 +37,7 @@ fn all_title_bytes(bytes: &[u8]) -> bool
 
 /// Whether the bytes are a title: 1 to 256 bytes from the space on, without DEL, `"`, `\` and `*/`.
 #[tactic(auto, unfolding(crate::specs::Titles::is_title))]
-pub(crate) fn is_title(title: &[u8]) -> bool
+pub fn is_title(title: &[u8]) -> bool
     ensures { result ≡ is_title title.now }
 {
     !title.is_empty() && title.len() <= MAX_TITLE && all_title_bytes(title) && !ends_comment(title)

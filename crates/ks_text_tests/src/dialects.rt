@@ -4,10 +4,10 @@ ghost use Rattle.std.specs.Prelude.{◌<◌};
 use crate::check::{check_bytes, check_cut};
 use crate::fixdep::{in_pieces, note_source};
 use ks_fixdep::{
-    DepError, Header, NamesBySource, Prerequisites, ScanRules, Seed, listed_names, read_depfile,
+    DepError, Header, NamesBySource, Prerequisites, ScanRules, listed_names, read_depfile,
     read_depfile_without, record_text,
 };
-use ks_symbols::{Dialect, Name};
+use ks_symbols::{Dialect, Name, Seed};
 use std::alloc::{AllocError, Global};
 use std::process::Abort;
 use std::test::Fail;

@@ -4,10 +4,10 @@ ghost use Rattle.std.specs.Prelude.{◌<◌};
 use crate::check::{check, check_bytes, check_cut, check_text};
 use crate::golden;
 use ks_fixdep::{
-    CommandFile, DepError, FoundNames, NamesBySource, Prerequisites, Role, Scanner, Seed, build,
+    CommandFile, DepError, FoundNames, NamesBySource, Prerequisites, Role, Scanner, build,
     build_from, names, read_depfile, record_text, token_at, write_command,
 };
-use ks_symbols::{MAX_BYTES, name_is_legal, write_decimal};
+use ks_symbols::{MAX_BYTES, Seed, name_is_legal, write_decimal};
 use std::alloc::{AllocError, Global};
 use std::process::Abort;
 use std::test::Fail;

@@ -20,3 +20,5 @@ mod golden;
 mod output;
 #[cfg(test)]
 mod symbols;
+#[cfg(test)]
+mod written;

@@ -46,7 +46,7 @@ pub fn name_text(name: &[u8]) -> &str
 
 /// A path as text.
 #[inline]
-pub(crate) fn path_text(path: &[u8]) -> &str
+pub fn path_text(path: &[u8]) -> &str
     requires { IsTrue (is_path path.now) }
     ensures { result.now ≡ path.now }
 {

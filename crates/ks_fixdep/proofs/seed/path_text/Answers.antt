@@ -1,6 +1,0 @@
-use Rattle.ks_fixdep.proofs.Prelude.{IsUtf8-from_ascii}
-use Rattle.ks_fixdep.proofs.SeedLemmas.{path-IsAscii}
-use Rattle.ks_fixdep.proofs.seed.path_text.Goals as goal
-
-pub from_utf8_unchecked-requires : goal.from_utf8_unchecked-requires
-from_utf8_unchecked-requires c = IsUtf8-from_ascii _ (path-IsAscii _ c.requires)

@@ -1,5 +1,5 @@
 -- Arguments of the command line, the requests that they make, and why they make none.
-use Rattle.std.specs.Prelude.{◌≡◌, ◌≢◌, ◌⊎◌, ℕ, Bool, false, true, nat_lt, List, [], ◌∷◌, bytes_eq, codes, option_map, slice_index, string_bytes, unwrap_or, ⊤, if◌then◌else◌, ◌<◌, ◌^◌, Option, Some, None, map}
+use Rattle.std.specs.Prelude.{◌≡◌, ◌≢◌, ◌⊎◌, ℕ, Bool, false, true, nat_lt, List, [], ◌∷◌, bytes_eq, codes, not, option_map, slice_index, string_bytes, unwrap_or, ⊤, ◌&&◌, if◌then◌else◌, ◌<◌, ◌^◌, Option, Some, None, map}
 use Rattle.std.specs.List.{All, list_any}
 use Rattle.std.specs.Option.{option_map_or}
 use Rattle.clap.specs.Words.{Row, Text, all_of, first_of, one_of}
@@ -77,6 +77,10 @@ report_style_of rows = if is_set (codes "quiet") rows then Status else (if is_se
 abbrev pub stamps_of : List Row → Stamps
 stamps_of rows = if is_set (codes "stamps") rows then stamps.Declared else stamps.Touched
 
+-- whether `sync` takes what conf wrote; `--stamps` is about a Kconfig
+abbrev pub is_written : List Row → Bool
+is_written rows = is_set (codes "written") rows && not (is_set (codes "stamps") rows)
+
 -- what `record` is to leave of the dependency file
 abbrev pub depfile_after : List Row → DepfileAfter
 depfile_after rows = if is_set (codes "remove-depfile") rows then depfile.Removed else depfile.Kept
@@ -109,7 +113,9 @@ IsNumberOf (Some arg) None = (IsNumeral 10 (without_leading_plus arg) × (digits
 abbrev pub IsRequestOf : Text → List Row → Request → Type 0
 IsRequestOf command rows (request.Sync k d stamps) = (command ≡ codes "sync")
     × (string_bytes k ≡ arg_at (codes "KCONFIG") rows) × (string_bytes d ≡ arg_at (codes "DOTCONFIG") rows)
-    × (stamps ≡ stamps_of rows)
+    × (stamps ≡ stamps_of rows) × (is_written rows ≡ false)
+IsRequestOf command rows (request.SyncWritten a h) = (command ≡ codes "sync") × (is_written rows ≡ true)
+    × (string_bytes a ≡ arg_at (codes "KCONFIG") rows) × (string_bytes h ≡ arg_at (codes "DOTCONFIG") rows)
 IsRequestOf command rows (request.Preview k d o) = (command ≡ codes "preview")
     × (string_bytes k ≡ arg_at (codes "KCONFIG") rows) × (string_bytes d ≡ arg_at (codes "DOTCONFIG") rows)
     × (option_map (λ path. string_bytes path) o ≡ first_of (codes "OLDAUTO") rows)

@@ -79,7 +79,7 @@ bare_app =
 -- the whole command line
 abbrev pub command_line_app : App
 command_line_app = with_all bare_app
-    (needing_one (taking (codes "sync") (flag (codes "stamps") ∷ once (codes "KCONFIG") ∷ once (codes "DOTCONFIG") ∷ []))
+    (needing_one (taking (codes "sync") (flag (codes "stamps") ∷ flag (codes "written") ∷ once (codes "KCONFIG") ∷ once (codes "DOTCONFIG") ∷ []))
     ∷ taking (codes "preview") (once (codes "KCONFIG") ∷ once (codes "DOTCONFIG") ∷ at_most_once (codes "OLDAUTO") ∷ [])
     ∷ needing_one (taking (codes "diff") (flag (codes "exit-code") ∷ flag (codes "quiet") ∷ once (codes "KCONFIG") ∷ once (codes "DOTCONFIG") ∷ []))
     ∷ taking (codes "fixdep") (once (codes "DEPFILE") ∷ once (codes "TARGET") ∷ once (codes "COMMAND") ∷ [])

@@ -135,6 +135,11 @@ fn format(matches: &ArgMatches<'_>) -> OutputFormat
 fn sync_request(alloc: Global, matches: &ArgMatches<'_>) -> Result<Request, AllocError>
     ensures { IfOk result (IsRequestOf (codes "sync") (rows_of (found_of matches.now))) }
 {
+    if is_set(matches, "written") && !is_set(matches, "stamps") {
+        let auto = arg(alloc, matches, "KCONFIG")?;
+        let header = arg(alloc, matches, "DOTCONFIG")?;
+        return Ok(Request::SyncWritten { auto, header });
+    }
     Ok(Request::Sync {
         kconfig: arg(alloc, matches, "KCONFIG")?,
         dotconfig: arg(alloc, matches, "DOTCONFIG")?,

@@ -29,6 +29,7 @@ An error has a number, a name and often a place; confstamp explain NUMBER says w
   .config       7 NotAConfigLine, 8 BadValue
   any file      9 TooLarge, 40 MissingFile
   auto.conf     11 BadAuto, 41 NeverSynced, 42 GenerationFull
+  conf's files  12 BadHeading, 13 NotAnEntry, 14 ModuleSymbol, 15 Unexplained, 16 Undefined, 17 Undeclared, 18 Twice
   DEPFILE       20 NoTarget, 21 BadPath; token 0 is an argument of the command line
   COMMAND       22 BadCommand
   command file  23 BadCommandFile
@@ -138,10 +139,15 @@ pub(crate) const USAGES: &[Usage] = &[
                 num_args: NumArgs::Flag,
                 help: "Make the missing stamp of each symbol of KCONFIG too, empty, so that a build can list them all",
             },
+            ArgUsage {
+                name: "written",
+                num_args: NumArgs::Flag,
+                help: "Take the auto.conf and the header that conf wrote, in place of KCONFIG and DOTCONFIG; not with --stamps",
+            },
             KCONFIG,
             DOTCONFIG,
         ],
-        override_usage: Some("confstamp sync [--stamps] <KCONFIG> <DOTCONFIG>"),
+        override_usage: Some("confstamp sync [--stamps | --written] <KCONFIG> <DOTCONFIG>"),
         after_help: "\
 Prints the generation, touch NAME for each stamp, and how many lines name an unknown symbol.
 

@@ -1,8 +1,9 @@
 -- Each history that the files show goes on with a request, by what is said of it by the files.
 use Rattle.ks_commands.proofs.Prelude.{Dialect, ◌≡◌, ℕ, List, Option, Result, inl, inr, refl, sym, subst, ⊤, option_map, string_bytes, read_in, Files, FileState, History, Shows, at, EngineError, Report, Reply, Action, calls_of, Run, RunsOn, Runs, LeavesStamps, FollowsStamps, Stamps, Ending, EndsDepfile, EndsSync, by_files, by_histories, RequestsGoOn}
-use Rattle.ks_engine.specs.Actions.{Sync, SyncAllStamps, Record, Depfile, Synced, Recorded}
+use Rattle.ks_engine.specs.Actions.{Sync, SyncWritten, SyncAllStamps, Record, Depfile, Synced, Recorded}
 use Rattle.ks_requests.specs.declared.request.Request.TheVariants as request
 use Rattle.ks_requests.specs.declared.request.Stamps.TheVariants as stamps
+use Rattle.ks_commands.specs.Performed.{EndsSyncWritten}
 use Rattle.ks_engine.proofs.FileRunning.{goes_on, step_goes_on}
 
 -- ---- each call of the engine
@@ -48,7 +49,18 @@ rule_goes_on dialect end d t c ended old new h shows (inr (header, named, answer
     let next = step_goes_on dialect old (Depfile header d t c) (Recorded answer) new h shows is in
     (next.0, inr (header, named, answer, next.1, reported), next.2)
 
+written_goes_on : (dialect : Dialect) (a b : List ℕ) (ended : Ending) (old new : FileState) (h : History) → Shows old.files h
+    → EndsSyncWritten old.files (by_files dialect ⊤ old new) a b ended
+    → (next : History) × EndsSyncWritten old.files (by_histories dialect (at old.files old.failures h) (at new.files new.failures next)) a b ended × Shows new.files next
+written_goes_on dialect a b ended old new h shows (inl (same, stopped)) = (h, inl ((same, refl), stopped), stays old new h shows same)
+written_goes_on dialect a b ended old new h shows (inr (t, there, answer, is, reported)) =
+    let next = step_goes_on dialect old (SyncWritten t.kconfig t.dotconfig) (Synced answer) new h shows is in
+    (next.0, inr (t, there, answer, next.1, reported), next.2)
+
 pub requests_go_on : RequestsGoOn
+requests_go_on dialect (request.SyncWritten a b) ended old new h shows ends =
+    let next = written_goes_on dialect (string_bytes a) (string_bytes b) ended old new h shows (ends tt) in
+    (next.0, (old.backdated, new.backdated, λ t. next.1), next.2)
 requests_go_on dialect (request.Sync k d which) ended old new h shows ends =
     let next = sync_goes_on dialect which (string_bytes k) (string_bytes d) ended old new h shows (ends tt) in
     (next.0, (old.backdated, new.backdated, λ t. next.1), next.2)

@@ -1,4 +1,5 @@
 -- A preview over the auto.conf of a tree, and a synchronisation of it; and that no refusal of a preview is the device's.
+use Rattle.ks_engine.specs.Sources.{FromKconfig}
 use Rattle.std.specs.Prelude.{if◌then◌else◌, nat_eq}
 use Rattle.std.specs.Option.{is_some}
 use Rattle.std.specs.Result.{is_err}
@@ -50,11 +51,11 @@ planned_of false true p plan h = absurd cc
 planned_of false false p plan h = cc
 
 plan_is : (files : Files) (k : KconfigText) (d : List ℕ) (s : ConfigInputs) (plan : Plan) → AreConfigInputs k d s → old_refusal (content files auto_path) ≡ None
-    → IsSyncPlan files k d (Ok plan) → plan ≡ plan_of s (auto_of (content files auto_path))
+    → IsSyncPlan files (FromKconfig k d) (Ok plan) → plan ≡ plan_of s (auto_of (content files auto_path))
 plan_is files k d s plan are fine planned =
     let auto = auto_of (content files auto_path) in
     planned_of (nat_eq auto.generation 18446744073709551615) (nat_lt max_bytes (length (auto_text s.title s.config (auto.generation + 1)))) (plan_of s auto) plan
-    (one_plan files k d (plan_over s auto) (Ok plan) (plan_of_over files k d s auto _ are (old_read _ fine) refl) planned)
+    (one_plan files (FromKconfig k d) (plan_over s auto) (Ok plan) (plan_of_over files (FromKconfig k d) s auto _ are (old_read _ fine) refl) planned)
 
 pub previews_report_syncs : PreviewsReportSyncs
 previews_report_syncs old new k d text report p s =

@@ -1,4 +1,5 @@
 -- Walks over objects.
+use Rattle.ks_engine.specs.Sources.{FromKconfig}
 use Rattle.ks_commands.proofs.Prelude.{◌≡◌, ◌⊎◌, ◌<◌, ◌≤◌, ◌+◌, ◌++◌, ◌∙◌, Bool, false, ℕ, List, [], ◌∷◌, Option, None, Result, Ok, Err, inl, inr, refl, sym, subst, ap, arith, max, append-nil, fold, length, length-append, length-map, map-append, filter-append, fold-append, flat_map-append, Bor, EngineError, Ending, Explanation, Limit, OutputFormat, Outcome, Targets, Dialect, Files, KconfigText, IsAnswerAfter, IsAnswerTo, IsAborted, IsImpactOf, reported as verdict, stale_among, file_of, given_if_named, targets_at, Querying, EndsImpact, EndsWalk, IsExplainedIn, IsStep, Part, FileState, ReportsAll, ReportsOne, Walks, querying_by, counted_of, explaining, objects_of, stale_count, statuses, reports, rules}
 use Rattle.ks_engine.specs.declared.backdating.BackdateScope.{BackdateScope}
 use Rattle.ks_engine.specs.declared.impact.Impact.{Impact}
@@ -98,9 +99,9 @@ impact_weaker honest dialect P Q old k d format targets ended new f (inr (t, the
 
 -- what is asked after the reads of a synchronisation that isn't made
 pub impact_asked : (honest : Type 0) (format : OutputFormat) (impact : Bor Impact) (k : KconfigText) (d : List ℕ) (old mid : FileState) (targets : Targets) (ended : Ending)
-    (new : FileState) → (honest → mid.files ≡ old.files) → old.failures ≤ mid.failures → mid.backdated ≡ old.backdated → (honest → IsImpactOf old.files k d impact.now)
+    (new : FileState) → (honest → mid.files ≡ old.files) → old.failures ≤ mid.failures → mid.backdated ≡ old.backdated → (honest → IsImpactOf old.files (FromKconfig k d) impact.now)
     → EndsWalk (querying_by honest mid.files None format (Predicted impact)) false (reports (counted_of (Predicted impact))) honest mid targets ended new
-    → EndsWalk (explaining honest old.files None format First (λ o answer. IsAnswerAfter old.files k d o (verdict answer))) false (reports stale_count) honest old targets ended new
+    → EndsWalk (explaining honest old.files None format First (λ o answer. IsAnswerAfter old.files (FromKconfig k d) o (verdict answer))) false (reports stale_count) honest old targets ended new
 impact_asked honest format impact k d old mid targets ended new same later kept reported_of (inl (e, why, is, unaged)) =
     inl (e, λ h. subst (λ f. IsAborted e ⊎ (targets_at f targets ≡ Err e)) (same h) (why h), is, unaged ∙ kept)
 impact_asked honest format impact k d old mid targets ended new same later kept reported_of (inr (objects, first, parts, asked, walks, reported, memory)) = inr (
@@ -116,10 +117,10 @@ impact_asked honest format impact k d old mid targets ended new same later kept 
     backdated = asked.backdated ∙ kept;
   },
   steps_weaker (querying_by honest mid.files None format (Predicted impact))
-      (explaining honest old.files None format First (λ o answer. IsAnswerAfter old.files k d o (verdict answer))) first parts new
+      (explaining honest old.files None format First (λ o answer. IsAnswerAfter old.files (FromKconfig k d) o (verdict answer))) first parts new
       (λ s p t step. record {
         reported = record {
-          answered = λ h. subst (λ f. IsAnswerTo (Predicted impact) f p.object p.answer) (same h) (step.reported.answered h) k d (reported_of h);
+          answered = λ h. subst (λ f. IsAnswerTo (Predicted impact) f p.object p.answer) (same h) (step.reported.answered h) (FromKconfig k d) (reported_of h);
           spelling = step.reported.spelling;
           spelled = λ h. refl;
           lines = step.reported.lines;

@@ -5,6 +5,7 @@ use Rattle.ks_symbols.specs.declared.kinds.Class.{Class}
 use Rattle.ks_symbols.specs.declared.kinds.Class.TheVariants as class
 use Rattle.ks_symbols.specs.Configuration.{Configuration}
 use Rattle.ks_symbols.specs.Dialects.{KconfigText}
+use Rattle.ks_engine.specs.Sources.{FromKconfig}
 use Rattle.ks_symbols.specs.Values.{quoted}
 use Rattle.ks_output.specs.OldConfig.{Texts}
 use Rattle.ks_compare.specs.Changes.{AreChanges, compared}
@@ -68,4 +69,4 @@ pub record ReportsChanges (report_style : ReportStyle) (old : Texts) (new : Conf
 -- what a synchronisation of these two texts would touch, printed
 abbrev pub IsDiff : ReportStyle → Files → KconfigText → List ℕ → List ℕ → ℕ → Type 0
 IsDiff report_style files kconfig dotconfig text status =
-    (plan : Plan) × IsSyncPlan files kconfig dotconfig (Ok plan) × ReportsChanges report_style plan.old plan.config text status
+    (plan : Plan) × IsSyncPlan files (FromKconfig kconfig dotconfig) (Ok plan) × ReportsChanges report_style plan.old plan.config text status

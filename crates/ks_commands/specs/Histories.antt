@@ -9,6 +9,7 @@ use Rattle.ks_engine.specs.Actions.{Action, calls_of}
 use Rattle.ks_engine.specs.Depfile.{FollowsDepfile, ruled_by}
 use Rattle.ks_engine.specs.FileRuns.{FileState}
 use Rattle.ks_engine.specs.Follows.{TreeState, at, IsSame, FollowsRecord, FollowsSync}
+use Rattle.ks_engine.specs.Sources.{FromConf, FromKconfig}
 use Rattle.ks_engine.specs.Runs.{Run}
 use Rattle.ks_engine.specs.AllStamps.{FollowsSyncAllStamps}
 use Rattle.ks_requests.specs.declared.request.Request.{Request}
@@ -23,7 +24,7 @@ state_of s backdated = record { files = s.files; failures = s.failures; backdate
 
 -- a synchronisation, by which stamps it is to leave
 abbrev pub FollowsStamps : Stamps → KconfigText → List ℕ → Result Report EngineError → TreeState → TreeState → Type 0
-FollowsStamps Touched k d answer old new = FollowsSync k d answer old new
+FollowsStamps Touched k d answer old new = FollowsSync (FromKconfig k d) answer old new
 FollowsStamps Declared k d answer old new = FollowsSyncAllStamps k d answer old new
 
 -- The files of a script are read before its run begins.
@@ -35,6 +36,7 @@ abbrev pub by_histories : Dialect → TreeState → TreeState → Effects
 by_histories dialect old new = record (by_files dialect ⊤ (state_of old []) (state_of new [])) {
   same = IsSame old new;
   sync = λ stamps k d answer. FollowsStamps stamps (read_in dialect k) d answer old new;
+  written = λ a h answer. FollowsSync (FromConf a h) answer old new;
   recording = λ d t c answer. FollowsRecord dialect d t c answer old new;
   ruling = λ header d t c answer. FollowsDepfile (ruled_by header dialect) d t c answer old new;
   run = Runs dialect old new;

@@ -22,7 +22,8 @@ use Rattle.ks_engine.specs.Depfile.{ruled_by}
 use Rattle.ks_engine.specs.Explained.{IsExplanationOn}
 use Rattle.ks_engine.specs.Impact.{IsAnswerAfter}
 use Rattle.ks_engine.specs.Refusals.{Answers, IsAborted}
-use Rattle.ks_engine.specs.FileRuns.{FileRun, FileState, LeavesDepfile, LeavesRecord, state}
+use Rattle.ks_engine.specs.FileRuns.{FileRun, FileState, LeavesDepfile, LeavesRecord, state, LeavesSync}
+use Rattle.ks_engine.specs.Sources.{FromConf, FromKconfig}
 use Rattle.ks_engine.specs.SyncPlan.{IsSyncPlan}
 use Rattle.ks_engine.specs.Synchronised.{IsSynced}
 use Rattle.ks_requests.specs.declared.refusal.Refusal.{Refusal}
@@ -32,7 +33,7 @@ use Rattle.ks_requests.specs.declared.request.OutputFormat.TheVariants.{Text}
 use Rattle.ks_requests.specs.declared.request.Request.{Request}
 use Rattle.ks_requests.specs.declared.request.Stamps.{Stamps}
 use Rattle.ks_requests.specs.declared.request.Targets.{Targets}
-use Rattle.ks_requests.specs.declared.request.Request.TheVariants.{Backdate, Batch, Cost, Depfile, Diff, Fixdep, Impact, Outdated, Preview, Record, Stale, Sync, Users, Why}
+use Rattle.ks_requests.specs.declared.request.Request.TheVariants.{Backdate, Batch, Cost, Depfile, Diff, Fixdep, Impact, Outdated, Preview, Record, Stale, Sync, SyncWritten, Users, Why}
 use Rattle.ks_requests.specs.declared.report_style.ReportStyle.{ReportStyle}
 use Rattle.ks_requests.specs.declared.status.Status.TheVariants.{Done}
 use Rattle.ks_requests.specs.Endings.{Answered, Ending, Stopped, Reports, ReportsUnknown}
@@ -59,6 +60,8 @@ pub record Effects : Type 1 where
   -- all is as before
   pub same : Type 0
   pub sync : Stamps → (kconfig dotconfig : List ℕ) → Result Report EngineError → Type 0
+  -- with what conf wrote
+  pub written : (auto header : List ℕ) → Result Report EngineError → Type 0
   pub recording : (depfile target command : List ℕ) → Result RecordAnswer EngineError → Type 0
   pub ruling : (header : Header) (depfile target command : List ℕ) → Result RecordAnswer EngineError → Type 0
   pub stale : (target : List ℕ) → Result Verdict EngineError → Type 0
@@ -73,6 +76,13 @@ EndsSync files effects stamps k d ended =
     (effects.same × Stopped (texts_at files k d) ended)
     ⊎ ((t : Texts) × (texts_at files k d ≡ Ok t)
     × (answer : Result Report EngineError) × effects.sync stamps t.kconfig t.dotconfig answer × Answered report_lines answer ended)
+
+-- So does one with what conf wrote.
+abbrev pub EndsSyncWritten : Files → Effects → List ℕ → List ℕ → Ending → Type 0
+EndsSyncWritten files effects a h ended =
+    (effects.same × Stopped (texts_at files a h) ended)
+    ⊎ ((t : Texts) × (texts_at files a h ≡ Ok t)
+    × (answer : Result Report EngineError) × effects.written t.kconfig t.dotconfig answer × Answered report_lines answer ended)
 
 -- The engine looks at the arguments of a record itself.
 abbrev pub EndsRecord : Effects → List ℕ → List ℕ → List ℕ → Ending → Type 0
@@ -94,7 +104,7 @@ EndsPreview dialect files k d o ended =
 
 -- A synchronisation of these texts is refused before its first write, or memory or the device fails before that.
 abbrev pub StoppedSync : Dialect → Files → Texts → Ending → Type 0
-StoppedSync dialect files t ended = (e : EngineError) × (IsAborted e ⊎ IsSyncPlan files (read_in dialect t.kconfig) t.dotconfig (Err e)) × (ended ≡ Err (Engine e))
+StoppedSync dialect files t ended = (e : EngineError) × (IsAborted e ⊎ IsSyncPlan files (FromKconfig (read_in dialect t.kconfig) t.dotconfig) (Err e)) × (ended ≡ Err (Engine e))
 
 -- What a synchronisation would touch, printed; or the refusal that it would have before its first write.
 abbrev pub EndsDiff : Dialect → ReportStyle → Files → List ℕ → List ℕ → Ending → Type 0
@@ -111,7 +121,7 @@ EndsFixdep dialect files d t c ended =
 
 -- There is a tree that a completed synchronisation of these texts leaves.
 abbrev pub CanBeSynced : Dialect → Files → Texts → Type 0
-CanBeSynced dialect files t = (after : Files) × (report : Report) × IsSynced files after (read_in dialect t.kconfig) t.dotconfig report
+CanBeSynced dialect files t = (after : Files) × (report : Report) × IsSynced files after (FromKconfig (read_in dialect t.kconfig) t.dotconfig) report
 
 -- What would be stale after a synchronisation, printed; or the refusal that it would have before its first write, or the file of its targets has.
 abbrev pub EndsImpact : Type 0 → Dialect → (List ℕ → List ℕ → List ℕ → Result Verdict EngineError → Type 0) → FileState → List ℕ → List ℕ → OutputFormat
@@ -119,7 +129,7 @@ abbrev pub EndsImpact : Type 0 → Dialect → (List ℕ → List ℕ → List �
 EndsImpact honest dialect impact old k d format targets ended new =
     StoppedBy honest (λ e. texts_at old.files k d ≡ Err e) old ended new
     ⊎ ((t : Texts) × (honest → texts_at old.files k d ≡ Ok t)
-    × (StoppedBy honest (λ e. IsSyncPlan old.files (read_in dialect t.kconfig) t.dotconfig (Err e)) old ended new
+    × (StoppedBy honest (λ e. IsSyncPlan old.files (FromKconfig (read_in dialect t.kconfig) t.dotconfig) (Err e)) old ended new
     ⊎ ((honest → CanBeSynced dialect old.files t)
     × EndsWalk (explaining honest old.files None format First (λ o answer. impact t.kconfig t.dotconfig o (reported answer))) false (reports stale_count) honest old targets ended new)))
 
@@ -144,6 +154,7 @@ EndsBatch honest effects files path ended =
 -- The request ended so. What the device is blamed for was counted on any tree; all else is said of honest ones.
 abbrev pub Ends : Type 0 → Effects → FileState → Request → Ending → FileState → Type 0
 Ends honest effects old (Sync k d stamps) ended new = honest → EndsSync old.files effects stamps (string_bytes k) (string_bytes d) ended
+Ends honest effects old (SyncWritten a h) ended new = honest → EndsSyncWritten old.files effects (string_bytes a) (string_bytes h) ended
 Ends honest effects old (Preview k d o) ended new =
     honest → effects.same × EndsPreview effects.dialect old.files (string_bytes k) (string_bytes d) (option_map (λ path. string_bytes path) o) ended
 Ends honest effects old (Diff k d report_style) ended new = honest → effects.same × EndsDiff effects.dialect report_style old.files (string_bytes k) (string_bytes d) ended
@@ -182,11 +193,12 @@ by_files dialect honest old new = record {
   dialect = dialect;
   same = new.files ≡ old.files;
   sync = λ stamps k. LeavesStamps old.files new.files stamps (read_in dialect k);
+  written = λ a h. LeavesSync old.files new.files (FromConf a h);
   recording = LeavesRecord dialect old.files new.files;
   ruling = λ header. LeavesDepfile (ruled_by header dialect) old.files new.files;
   stale = IsAnswerOn old.files;
   why = IsExplanationOn old.files;
-  impact = λ k. IsAnswerAfter old.files (read_in dialect k);
+  impact = λ k d. IsAnswerAfter old.files (FromKconfig (read_in dialect k) d);
   outdated = IsStateOn old.files;
   run = RunsOn dialect honest old new;
 }

@@ -4,6 +4,7 @@ use Rattle.std.specs.List.{All}
 use Rattle.ks_fixdep.specs.CommandFile.{is_command}
 use Rattle.ks_symbols.specs.declared.dialect.Dialect.{Dialect}
 use Rattle.ks_symbols.specs.Dialects.{KconfigText, read_in}
+use Rattle.ks_engine.specs.Sources.{FromKconfig}
 use Rattle.ks_engine.specs.declared.commands.Reply.{Reply}
 use Rattle.ks_engine.specs.declared.error.EngineError.{EngineError}
 use Rattle.ks_tree.specs.Files.{Files}
@@ -49,7 +50,7 @@ pub record ReportsCauses (s : TreeState) (o : List ℕ) (answer : Result Explana
 
 -- So does an answer after a synchronisation of two texts, of each state that this would leave.
 abbrev pub ReportsAfter : TreeState → KconfigText → List ℕ → List ℕ → Result Verdict EngineError → Type 0
-ReportsAfter s k d o answer = (after : Files) (report : Report) (synced : IsSynced s.files after k d report)
+ReportsAfter s k d o answer = (after : Files) (report : Report) (synced : IsSynced s.files after (FromKconfig k d) report)
     → ReportsChange (at after s.failures (Synced synced.plan.title synced.plan.config s.history)) o answer
 
 -- So does an answer about a command that builds it: another one is reported exactly where that of the record is another one.

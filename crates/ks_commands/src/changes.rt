@@ -4,15 +4,18 @@
 ghost use Rattle.std.specs.Prelude.{◌≡◌, Err, IfErr, IfOk, IsErrOf, OnOk, option_map};
 ghost use Rattle.ks_tree.specs.Files.{HasRisen};
 ghost use Rattle.ks_tree.specs.Frames.{Counted};
-ghost use Rattle.ks_engine.specs.FileRuns.{state};
+ghost use Rattle.ks_engine.specs.FileRuns.{LeavesSync, state};
+ghost use Rattle.ks_engine.specs.Sources.{FromConf};
 ghost use Rattle.ks_engine.specs.declared.error.EngineError.TheVariants.{BadPath, Device, OutOfMemory};
 ghost use Rattle.ks_requests.specs.declared.refusal.Refusal.TheVariants.{Engine};
 ghost use Rattle.ks_requests.specs.declared.status.Status.TheVariants.{Done};
 ghost use Rattle.ks_commands.specs.Depfiles.{IsHeaderOf, IsNoHeader};
 ghost use Rattle.ks_commands.specs.Stamps.{LeavesStamps};
-ghost use Rattle.ks_commands.specs.Performed.{EndsDepfile, EndsRecord, EndsSync, by_files};
+ghost use Rattle.ks_commands.specs.Performed.{EndsDepfile, EndsRecord, EndsSync, EndsSyncWritten, by_files};
 
-use ks_engine::{EngineError, Report, record_depfile, record_object, sync, sync_all_stamps};
+use ks_engine::{
+    EngineError, Report, record_depfile, record_object, sync, sync_all_stamps, sync_written,
+};
 use ks_fixdep::Header;
 use ks_requests::{
     Outcome, Refusal, Stamps, report_depfile, report_recorded, report_sync, texts_at,
@@ -41,6 +44,22 @@ fn sync_with<T: Tree>(
     }
 }
 
+/// Synchronises a tree with what conf wrote.
+fn sync_from_conf<T: Tree>(
+    alloc: Global,
+    tree: &mut T,
+    auto: &[u8],
+    header: &[u8],
+) -> Result<Report, EngineError>
+    ensures files { T.is_honest → LeavesSync (T.files tree.old) (T.files tree.new) (FromConf auto.now header.now) result }
+    ensures counted { Counted T.Tree tree.old tree.new (IsErrOf result EngineError.Device) }
+    ensures passed { OnOk result (T.failures tree.new ≡ T.failures tree.old) }
+    ensures uncounted { IsErrOf result EngineError.OutOfMemory → T.failures tree.new ≡ T.failures tree.old }
+    ensures kept { T.backdated tree.new ≡ T.backdated tree.old }
+{
+    sync_written(alloc, tree, auto, header)
+}
+
 /// Brings a tree to the configuration of the files that two arguments name, and prints what that touched.
 pub(crate) fn synchronise<T: Tree>(
     alloc: Global,
@@ -60,6 +79,26 @@ pub(crate) fn synchronise<T: Tree>(
     let texts = texts_at(alloc, tree, kconfig, dotconfig)?;
     let kconfig = Kconfig::new(dialect, &texts.kconfig);
     let report = sync_with(alloc, tree, stamps, &kconfig, &texts.dotconfig)?;
+    Ok(report_sync(alloc, &report)?)
+}
+
+/// Brings a tree to the configuration that conf wrote as the two files that arguments name, and prints what that touched.
+pub(crate) fn synchronise_written<T: Tree>(
+    alloc: Global,
+    tree: &mut T,
+    dialect: Dialect,
+    auto: &[u8],
+    header: &[u8],
+) -> Result<Outcome, Refusal>
+    ensures done { IfOk result (λ o. o.status ≡ Done) }
+    ensures files { T.is_honest → EndsSyncWritten (T.files tree.old) (by_files dialect T.is_honest (state T.Tree tree.old) (state T.Tree tree.new))
+        auto.now header.now result }
+    ensures cause { result ≡ Err (Engine Device) → HasRisen (T.failures tree.old) (T.failures tree.new) }
+    ensures memory { result ≡ Err (Engine OutOfMemory) → T.failures tree.new ≡ T.failures tree.old }
+    ensures kept { T.backdated tree.new ≡ T.backdated tree.old }
+{
+    let texts = texts_at(alloc, tree, auto, header)?;
+    let report = sync_from_conf(alloc, tree, &texts.kconfig, &texts.dotconfig)?;
     Ok(report_sync(alloc, &report)?)
 }
 

@@ -11,8 +11,9 @@ ghost use Rattle.ks_commands.specs.Walks.{EndsWalk};
 
 use crate::readings::{Reader, Reported, read_each};
 use ks_engine::{Cost, Costs};
-use ks_fixdep::{BorrowedCommand, Seed};
+use ks_fixdep::BorrowedCommand;
 use ks_requests::{Outcome, Refusal, Targets, write_cost};
+use ks_symbols::Seed;
 use ks_tree::Tree;
 use std::alloc::{AllocError, Global};
 

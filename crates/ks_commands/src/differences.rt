@@ -6,6 +6,7 @@ ghost use Rattle.std.specs.FinMap as map;
 ghost use Rattle.ks_compare.specs.Changes.{compared};
 ghost use Rattle.ks_tree.specs.Frames.{Reads};
 ghost use Rattle.ks_engine.specs.Refusals.{IsAborted};
+ghost use Rattle.ks_engine.specs.Sources.{FromKconfig};
 ghost use Rattle.ks_engine.specs.SyncPlan.{IsSyncPlan};
 ghost use Rattle.ks_engine.specs.declared.error.EngineError.TheVariants.{Device, OutOfMemory};
 ghost use Rattle.ks_requests.specs.declared.refusal.Refusal.TheVariants.{Engine};
@@ -203,7 +204,7 @@ fn differences<T: Tree>(
     ensures uncounted { IsErrOf result EngineError.OutOfMemory → T.failures tree.new ≡ T.failures tree.old }
     ensures reported { T.is_honest → IfOk result (λ o. IsDiff report_style (T.files tree.old) kconfig.now dotconfig.now o.text.items (code_of o.status)
         × IsUnknown (lines_asked report_style (unknown_lines kconfig.now dotconfig.now)) o.count) }
-    ensures refused { T.is_honest → IfErr result (λ e. IsAborted e ⊎ IsSyncPlan (T.files tree.old) kconfig.now dotconfig.now (Err e)) }
+    ensures refused { T.is_honest → IfErr result (λ e. IsAborted e ⊎ IsSyncPlan (T.files tree.old) (FromKconfig kconfig.now dotconfig.now) (Err e)) }
 {
     let parsed = parse_config_inputs(alloc, kconfig, dotconfig)?;
     let unknown = parsed.sources.settings.unknown();

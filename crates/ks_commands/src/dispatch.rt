@@ -14,7 +14,7 @@ ghost use Rattle.ks_requests.specs.Requests.{IsNoQuery, IsOneStep};
 ghost use Rattle.ks_commands.specs.Performed.{Ends, EndsFixdep, EndsPreview, IsNoWalk, by_files};
 
 use crate::batch::run_script;
-use crate::changes::{record_rule, record_target, synchronise};
+use crate::changes::{record_rule, record_target, synchronise, synchronise_written};
 use crate::cost::report_cost;
 use crate::differences::report_differences;
 use crate::fixdep::command_file_text;
@@ -97,6 +97,9 @@ pub(crate) fn outcome<T: Backdating>(
         } => {
             let (kconfig, dotconfig) = (kconfig.as_bytes(), dotconfig.as_bytes());
             synchronise(alloc, tree, dialect, *stamps, kconfig, dotconfig)
+        }
+        Request::SyncWritten { auto, header } => {
+            synchronise_written(alloc, tree, dialect, auto.as_bytes(), header.as_bytes())
         }
         Request::Preview {
             kconfig,

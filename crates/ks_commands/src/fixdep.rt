@@ -13,10 +13,10 @@ ghost use Rattle.ks_commands.specs.Fixdep.{command_file_at};
 
 use ks_engine::{EngineError, check_args, scan_all};
 use ks_fixdep::{
-    Header, NamesBySource, Prerequisites, ScanRules, Seed, read_depfile_without, record_text,
+    Header, NamesBySource, Prerequisites, ScanRules, read_depfile_without, record_text,
 };
 use ks_requests::read_given;
-use ks_symbols::Dialect;
+use ks_symbols::{Dialect, Seed};
 use ks_tree::Tree;
 use std::alloc::Global;
 

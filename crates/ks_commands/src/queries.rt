@@ -6,6 +6,7 @@ ghost use Rattle.std.specs.Prelude.{◌≡◌, ◌⊎◌, ◌++◌, List, Err, I
 ghost use Rattle.ks_symbols.specs.Dialects.{read_in};
 ghost use Rattle.ks_tree.specs.Files.{Files, HasRisen};
 ghost use Rattle.ks_tree.specs.Frames.{Reads};
+ghost use Rattle.ks_engine.specs.Sources.{FromKconfig};
 ghost use Rattle.ks_engine.specs.FileRuns.{state};
 ghost use Rattle.ks_engine.specs.BuildStates.{IsStateOn};
 ghost use Rattle.ks_engine.specs.Impact.{IsAnswerAfter};
@@ -29,13 +30,12 @@ use ks_engine::{
     BackdateScope, Cache, EngineError, Explanation, Impact, Query, backdate_if_stale, outdated,
     query_object,
 };
-use ks_fixdep::Seed;
 use ks_requests::{
     Count, Outcome, OutputFormat, Refusal, Status, Targets, all_targets, borrowed, build_status,
     read_targets, stale_of, texts_at, worse, write_answer, write_build_line, write_json_answer,
     write_refused_target,
 };
-use ks_symbols::{Dialect, Kconfig};
+use ks_symbols::{Dialect, Kconfig, Seed};
 use ks_tree::{Backdating, Tree};
 use std::alloc::{AllocError, Global};
 
@@ -271,7 +271,7 @@ pub(crate) fn query_predicted<T: Backdating>(
 ) -> Result<Outcome, Refusal>
     ensures unchanged { T.is_honest → T.files tree.new ≡ T.files tree.old }
     ensures cause { result ≡ Err (Engine Device) → HasRisen (T.failures tree.old) (T.failures tree.new) }
-    ensures reported { EndsImpact T.is_honest dialect (λ k. IsAnswerAfter (T.files tree.old) (read_in dialect k)) (state T.Tree tree.old)
+    ensures reported { EndsImpact T.is_honest dialect (λ k d. IsAnswerAfter (T.files tree.old) (FromKconfig (read_in dialect k) d)) (state T.Tree tree.old)
         kconfig.now dotconfig.now format targets.now result (state T.Tree tree.new) }
 {
     let texts = texts_at(alloc, tree, kconfig, dotconfig)?;

@@ -18,11 +18,12 @@ ghost use Rattle.ks_commands.specs.Records.{reading};
 ghost use Rattle.ks_commands.specs.Walks.{AreAsked, StoppedBy, ReportsOne};
 
 use ks_engine::{borrow_record, read_record};
-use ks_fixdep::{BorrowedCommand, Seed};
+use ks_fixdep::BorrowedCommand;
 use ks_requests::{
     Refusal, Status, Targets, all_targets, borrowed, each_once, read_targets, worse,
     write_refused_target, write_unrecorded,
 };
+use ks_symbols::Seed;
 use ks_tree::Tree;
 use std::alloc::{AllocError, Global};
 

@@ -10,6 +10,8 @@ use std::test::Fail;
 const MEANINGS: &[(&str, &[&str], &str)] = &[
     ("sync", &["sync", "K", "c"], r#"Sync { kconfig: "K", dotconfig: "c", stamps: Touched }"#),
     ("sync with all stamps", &["sync", "--stamps", "K", "c"], r#"Sync { kconfig: "K", dotconfig: "c", stamps: Declared }"#),
+    ("sync with what conf wrote", &["sync", "--written", "a", "h"], r#"SyncWritten { auto: "a", header: "h" }"#),
+    ("stamps are those of a Kconfig", &["sync", "--written", "--stamps", "K", "c"], r#"Sync { kconfig: "K", dotconfig: "c", stamps: Declared }"#),
     ("a first preview", &["preview", "K", "c"], r#"Preview { kconfig: "K", dotconfig: "c", old: None }"#),
     ("a preview", &["preview", "K", "c", "a"], r#"Preview { kconfig: "K", dotconfig: "c", old: Some("a") }"#),
     ("diff", &["diff", "K", "c"], r#"Diff { kconfig: "K", dotconfig: "c", report_style: Lines }"#),

@@ -42,6 +42,24 @@ const SYNC_AND_PREVIEW: &[(Step<'_>, &str)] = &[
 ];
 
 #[rattlefmt::skip]
+const WRITTEN: &[(Step<'_>, &str)] = &[
+    (Step::Put("W", "#\n# Automatically generated file; DO NOT EDIT.\n# Demo\n#\nCONFIG_S=y\nCONFIG_A=y\n"), "done"),
+    (Step::Put("w.h", "/*\n * Automatically generated file; DO NOT EDIT.\n * Demo\n */\n#define CONFIG_S \"y\"\n#define CONFIG_A 1\n"), "done"),
+    (Step::Args(&["sync", "--written", "W", "a$b"]), "2 confstamp: 21 BadPath token 0\n"),
+    (Step::Args(&["sync", "--written", "W", "missing"]), "2 confstamp: 40 MissingFile missing\n"),
+    (Step::Args(&["sync", "--written", "w.h", "W"]), "2 confstamp: 12 BadHeading\n  w.h\n"),
+    (Step::Put("v.h", "/*\n * Automatically generated file; DO NOT EDIT.\n * Demo\n */\n#define CONFIG_S \"y\"\n"), "done"),
+    (Step::Args(&["sync", "--written", "W", "v.h"]), "2 confstamp: 16 Undefined line 6\n  W:6: CONFIG_A=y\n"),
+    (Step::Put("v.h", "/*\n * Automatically generated file; DO NOT EDIT.\n * Demo\n */\n#define CONFIG_S \"y\"\n#define CONFIG_A 2\n"), "done"),
+    (Step::Args(&["sync", "--written", "W", "v.h"]), "2 confstamp: 15 Unexplained line 6\n  v.h:6: #define CONFIG_A 2\n"),
+    (Step::Args(&["sync", "--stamps", "--written", "W", "w.h"]), "2 confstamp: 1 NotBare line 5\n  W:5: CONFIG_S=y\n"),
+    (Step::Read("include/config/auto.conf"), "none"),
+    (Step::Args(&["sync", "--written", "W", "w.h"]), "0 generation 1\ntouch A\ntouch S\nunknown 0\n"),
+    (Step::Read("include/generated/autoconf.h"), "/*\n * Automatically generated file; DO NOT EDIT.\n * Demo\n */\n#define CONFIG_A 1\n#define CONFIG_S \"y\"\n"),
+    (Step::Read("include/config/auto.conf"), "#\n# Automatically generated file; DO NOT EDIT.\n# Demo\n#\n#typed\nCONFIG_A=y\n#type S string\nCONFIG_S=y\n#generation 1\n"),
+];
+
+#[rattlefmt::skip]
 const FIXDEP_AND_RECORD: &[(Step<'_>, &str)] = &[
     (Step::Args(&["fixdep", "a$b", "d/", "a\nb"]), "2 confstamp: 21 BadPath token 0\n"),
     (Step::Args(&["fixdep", "missing", "d/", "a\nb"]), "2 confstamp: 21 BadPath token 0\n"),
@@ -113,7 +131,7 @@ fn whole_commands_refused(rt: HostRuntime) -> Result<(), Fail> {
     play_each(
         &rt,
         rt.alloc(),
-        &[SYNC_AND_PREVIEW, FIXDEP_AND_RECORD, SCRIPTS],
+        &[SYNC_AND_PREVIEW, WRITTEN, FIXDEP_AND_RECORD, SCRIPTS],
     )
 }
 

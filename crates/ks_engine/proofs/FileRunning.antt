@@ -1,6 +1,6 @@
 -- A run by the files goes on by one command; and each history that its first files show goes on with it.
-use Rattle.ks_engine.proofs.Prelude.{◌≡◌, ◌∙◌, ℕ, ◌+◌, ◌<◌, List, [], ◌∷◌, ◌++◌, refl, sym, ap, ap₂, subst, Ok, Err, map, take, length, length-map, length-take, get_or, ⊤, take_more, map-append, Action, Dialect, Sync, Record, Call, action, call_of, calls_of, reply_to, Command, CommandReply, Reply, FileState, Files, LeavesFiles, BackdateScope, StepsTo, FileRun, TreeState, at, History, IsEvaluatedReply, FollowsQuery, Leaves, read_in, Run, Shows, reported, arith, common_steps, rules}
-use Rattle.ks_engine.specs.Actions.{SyncAllStamps, Depfile, Stale, Why, Predicted, Backdate, Outdated, Read, Synced, Recorded, Evaluated, Explained, Built, Found}
+use Rattle.ks_engine.proofs.Prelude.{FromKconfig, FromConf, ◌≡◌, ◌∙◌, ℕ, ◌+◌, ◌<◌, List, [], ◌∷◌, ◌++◌, refl, sym, ap, ap₂, subst, Ok, Err, map, take, length, length-map, length-take, get_or, ⊤, take_more, map-append, Action, Dialect, Sync, Record, Call, action, call_of, calls_of, reply_to, Command, CommandReply, Reply, FileState, Files, LeavesFiles, BackdateScope, StepsTo, FileRun, TreeState, at, History, IsEvaluatedReply, FollowsQuery, Leaves, read_in, Run, Shows, reported, arith, common_steps, rules}
+use Rattle.ks_engine.specs.Actions.{SyncWritten, SyncAllStamps, Depfile, Stale, Why, Predicted, Backdate, Outdated, Read, Synced, Recorded, Evaluated, Explained, Built, Found}
 use Rattle.ks_engine.specs.Depfile.{ruled_by}
 use Rattle.ks_engine.proofs.Querying.{stale_evaluated}
 use Rattle.ks_engine.proofs.DepfileLemmas.{depfile_follows}
@@ -82,9 +82,13 @@ stays dialect old a r new h shows is same = (
 pub step_goes_on : (dialect : Dialect) (old : FileState) (a : Action) (r : Reply) (new : FileState) (h : History) → Shows old.files h → LeavesFiles dialect old.files a r new.files
     → (next : History) × Leaves dialect (with old h) a r (with new next) × Shows new.files next
 step_goes_on dialect old (Sync k d) (Synced (Ok report)) new h shows is =
-    sync_follows old.files new.files old.failures new.failures h (read_in dialect k) d (Ok report) shows is tt
+    sync_follows old.files new.files old.failures new.failures h (FromKconfig (read_in dialect k) d) (Ok report) shows is tt
 step_goes_on dialect old (Sync k d) (Synced (Err e)) new h shows is =
-    sync_follows old.files new.files old.failures new.failures h (read_in dialect k) d (Err e) shows tt is
+    sync_follows old.files new.files old.failures new.failures h (FromKconfig (read_in dialect k) d) (Err e) shows tt is
+step_goes_on dialect old (SyncWritten auto header) (Synced (Ok report)) new h shows is =
+    sync_follows old.files new.files old.failures new.failures h (FromConf auto header) (Ok report) shows is tt
+step_goes_on dialect old (SyncWritten auto header) (Synced (Err e)) new h shows is =
+    sync_follows old.files new.files old.failures new.failures h (FromConf auto header) (Err e) shows tt is
 step_goes_on dialect old (SyncAllStamps k d) (Synced (Ok report)) new h shows is =
     stamped_follows old.files new.files old.failures new.failures h (read_in dialect k) d (Ok report) shows is tt
 step_goes_on dialect old (SyncAllStamps k d) (Synced (Err e)) new h shows is =

@@ -1,5 +1,5 @@
 -- The tree that a synchronisation would leave, what is answered over it, and a name among rising ones.
-use Rattle.ks_engine.proofs.Prelude.{list_any_none, exact_bytes, ◌≡◌, ◌⊎◌, inr, ℕ, ◌+◌, ◌<◌, ◌^◌, ◌≢◌, List, [], ◌∷◌, Option, Some, None, Result, Ok, Err, true, false, sym, ◌∙◌, refl, arith, length, get_or, IsTrue, bytes_eq, nat_cmp, Less-from_sorted, is_eq-slice_cmp, or_left, or_right, false_from_ne_true, searchable_from_sorted, bytes_eq-Decides, tied_itself, slice_cmp, nat_list_cmp_total, insert, get-insert, remove, get-remove, IsStrictlySortedBy, IsSearchInRange, IsBinarySearchResult, is_ok, Ordering, Equal, is_name, is_in, header_path, auto_text, header_text, Files, content, SameBut, SameButBoth, auto_path, auto_temporary, header_temporary, stamp_path, stamp_temporary, left_over, AutoConf, AutoTemporary, Header, HeaderTemporary, Stamp, StampTemporary, stamp_text, Touches, EngineError, Impact, Explanation, Planned, Query, Stale, Why, Predicted, Verdict, Report, IsAbortedAnswer, OldAuto, old_auto, Plan, AreLegalChanges, SyncDone, IsSynced, IsExplained, IsPlanned, IsImpactOf, IsAfter, IsAnswerAfter, IsAnswerOn, IsAnswerTo, EvaluatesAfter, IsSeen, limit_of, KconfigText, rules, generation_fits, list_any_at, both_ways, ⊎_elim, cases_Bool}
+use Rattle.ks_engine.proofs.Prelude.{list_any_none, exact_bytes, ◌≡◌, ◌⊎◌, inr, ℕ, ◌+◌, ◌<◌, ◌^◌, ◌≢◌, List, [], ◌∷◌, Option, Some, None, Result, Ok, Err, true, false, sym, ◌∙◌, refl, arith, length, get_or, IsTrue, bytes_eq, nat_cmp, Less-from_sorted, is_eq-slice_cmp, or_left, or_right, false_from_ne_true, searchable_from_sorted, bytes_eq-Decides, tied_itself, slice_cmp, nat_list_cmp_total, insert, get-insert, remove, get-remove, IsStrictlySortedBy, IsSearchInRange, IsBinarySearchResult, is_ok, Ordering, Equal, is_name, is_in, header_path, auto_text, header_text, Files, content, SameBut, SameButBoth, auto_path, auto_temporary, header_temporary, stamp_path, stamp_temporary, left_over, AutoConf, AutoTemporary, Header, HeaderTemporary, Stamp, StampTemporary, stamp_text, Touches, EngineError, Impact, Explanation, Planned, Query, Stale, Why, Predicted, Verdict, Report, IsAbortedAnswer, OldAuto, old_auto, Plan, AreLegalChanges, SyncDone, IsSynced, IsExplained, IsPlanned, IsImpactOf, IsAfter, IsAnswerAfter, IsAnswerOn, IsAnswerTo, EvaluatesAfter, IsSeen, limit_of, Source, rules, generation_fits, list_any_at, both_ways, ⊎_elim, cases_Bool}
 use Rattle.ks_engine.proofs.LowerLaws.{generation_back, accepted, apart}
 use Rattle.ks_engine.proofs.Reading.{last_some, ok_ok}
 use Rattle.ks_engine.proofs.Writes.{cleared, finished, header_stays}
@@ -113,9 +113,9 @@ done_by files plan names are =
           (replaced_gone two auto_temporary auto_path auto (apart AutoTemporary AutoConf tt tt (λ e. cc)));
     }
 
-pub impact_reported : (files : Files) (k : KconfigText) (d : List ℕ) (planned : Planned) → IsPlanned files k d planned
-    → IsImpactOf files k d (record { report = planned.report })
-impact_reported files k d planned is = (leave files is.0 planned.report.touched.items, search (rules, done_by))
+pub impact_reported : (files : Files) (k : Source) (planned : Planned) → IsPlanned files k planned
+    → IsImpactOf files k (record { report = planned.report })
+impact_reported files k planned is = (leave files is.0 planned.report.touched.items, search (rules, done_by))
 
 -- ---- what stands in each such tree
 
@@ -123,12 +123,12 @@ old_fits : (file : Option (List ℕ)) (auto : OldAuto) → old_auto file ≡ Ok 
 unfolding old_auto
 old_fits file auto is = grind (arith, generation_fits)
 
-is_after : (files after : Files) (k : KconfigText) (d : List ℕ) (impact : Impact) (report : Report) → IsImpactOf files k d impact → IsSynced files after k d report
+is_after : (files after : Files) (k : Source) (impact : Impact) (report : Report) → IsImpactOf files k impact → IsSynced files after k report
     → IsAfter files after impact.report
-is_after files after k d impact report reported synced =
+is_after files after k impact report reported synced =
     let plan = synced.plan in
-    let same : reported.1.plan ≡ plan = ok_ok _ _ (one_plan files k d (Ok reported.1.plan) (Ok plan) reported.1.planned synced.planned) in
-    let (auto, read, facts) = plan_stands files k d plan synced.planned in
+    let same : reported.1.plan ≡ plan = ok_ok _ _ (one_plan files k (Ok reported.1.plan) (Ok plan) reported.1.planned synced.planned) in
+    let (auto, read, facts) = plan_stands files k plan synced.planned in
     let fits = old_fits (content files auto_path) auto read in
     let small : plan.generation + 1 < 2 ^ 64 = grind (arith, facts) in
     let g : impact.report.generation ≡ plan.generation + 1 = rw (reported.1.generation, same) refl in
@@ -147,14 +147,17 @@ is_after files after k d impact report reported synced =
 -- ---- what a question is answered
 
 -- What is answered over all that stands so is answered over each tree that it leaves.
-after_sync : (files : Files) (k : KconfigText) (d o : List ℕ) (impact : Impact) (answer : Result Verdict EngineError)
-    → ((after : Files) → IsAfter files after impact.report → IsAnswerOn after o answer) → IsImpactOf files k d impact → IsAnswerAfter files k d o answer
-after_sync files k d o impact answer stated reported = λ after report synced. stated after (is_after files after k d impact report reported synced)
+after_sync : (files : Files) (k : Source) (o : List ℕ) (impact : Impact) (answer : Result Verdict EngineError)
+    → ((after : Files) → IsAfter files after impact.report → IsAnswerOn after o answer) → IsImpactOf files k impact → IsAnswerAfter files k o answer
+after_sync files k o impact answer stated reported = λ after report synced. stated after (is_after files after k impact report reported synced)
 
-pub impact_evaluated : (files : Files) (k : KconfigText) (d o : List ℕ) (answer : Result Verdict EngineError) → IsAnswerAfter files k d o answer
-    → EvaluatesAfter files k d o answer
-impact_evaluated files k d o answer stated = λ after report synced h r shows last.
-    let by = stated after report synced in search (rules, stale_evaluated, synced_shows, plan_facts, by)
+pub impact_evaluated : (files : Files) (k : Source) (o : List ℕ) (answer : Result Verdict EngineError) → IsAnswerAfter files k o answer
+    → EvaluatesAfter files k o answer
+impact_evaluated files k o answer stated = λ after report synced h r shows last.
+    let facts = plan_facts files h k synced.plan shows synced.planned in
+    let names = report.touched.items in
+    let shown = synced_shows files after h synced.plan names names shows facts synced.changed synced.done.leaves refl synced.done.header synced.done.auto in
+    stale_evaluated after _ o r answer (stated after report synced) shown last
 
 pub answers_to : (q : Query) (files : Files) (o : List ℕ) (answer : Result Explanation EngineError)
     → ((after : Files) → IsSeen q files after → IsAbortedAnswer answer ⊎ IsExplained (limit_of q) after o answer) → IsAnswerTo q files o answer

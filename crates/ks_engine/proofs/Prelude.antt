@@ -22,7 +22,7 @@ pub use Rattle.ks_fixdep.specs.declared.command_file.borrowed.BorrowedDep.{Borro
 pub use Rattle.ks_symbols.specs.declared.dialect.Dialect.{Dialect}
 pub use Rattle.ks_fixdep.specs.declared.dialect.ScanRules.{ScanRules}
 pub use Rattle.ks_fixdep.specs.declared.dependency_file.Role.{Role}
-pub use Rattle.ks_fixdep.specs.declared.seed.Seed.{Seed}
+pub use Rattle.ks_symbols.specs.declared.seed.Seed.{Seed}
 pub use Rattle.ks_output.proofs.SmallNumbers.{generation_fits}
 pub use Rattle.ks_output.specs.declared.auto_conf.AutoError.{AutoError}
 pub use Rattle.ks_symbols.specs.declared.kinds.Kind.{Kind}
@@ -61,7 +61,8 @@ pub use Rattle.ks_engine.specs.Refusals.{IsAborted, IsAbortedAnswer, and_then, o
 pub use Rattle.ks_engine.specs.Runs.{Follows, FollowsQuery, IsShown, Leads, Leaves, Run, Step}
 pub use Rattle.ks_engine.specs.Shows.{IsFirstAuto, IsAuto, IsCommandFile, Shows, stamp}
 pub use Rattle.ks_engine.specs.Staleness.{changed_since, first_suspect, found, renewed_since_sync, suspect_since, verdict}
-pub use Rattle.ks_engine.specs.SyncPlan.{AreConfigInputs, IsSyncPlan, Plan, ConfigInputs, plan_over, source_refusal}
+pub use Rattle.ks_engine.specs.Sources.{FromConf, FromKconfig, Source}
+pub use Rattle.ks_engine.specs.SyncPlan.{AreConfigInputs, AreInputs, AreWritten, IsSyncPlan, Plan, ConfigInputs, plan_over, source_refusal}
 pub use Rattle.ks_engine.specs.Synchronised.{AreCleared, AreLegalChanges, IsSyncRefused, IsSynced, SyncDone, SyncLeaves}
 pub use Rattle.ks_engine.specs.Verdicts.{IsChangedVerdict, IsAbortedSync, IsEvaluatedReply, IsSafeVerdict, IsSuspectVerdict}
 pub use Rattle.ks_engine.specs.Views.{IsWork, IsPlanned, PlansOver, Reports, old_of, sources_of}

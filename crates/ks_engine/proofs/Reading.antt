@@ -1,5 +1,5 @@
 -- What the calls of the layers below give for the definitions of auto.conf and of the two texts.
-use Rattle.ks_engine.proofs.Prelude.{⊎_map, AreConfigInputs, ◌≡◌, ◌⊎◌, inl, inr, ℕ, ◌+◌, ◌≤◌, List, Option, Some, None, Result, Ok, Err, ap, refl, length, lt-ltb, le-ltb, ne_eqb, cond-true, cond-false, get, empty, Kind, IsConfiguration, Configuration, max_bytes, declared, title_of, kconfig_refusal, setting, unknown_count, dotconfig_refusal, IsRefusal, AutoError, auto_text, auto_map, auto_generation, auto_refusal, OldTexts, HasNames, Files, content, IsTooLarge, auto_path, TreeFault, EngineError, NeverSynced, of_tree, of_auto, IsAborted, and_then, AreChanges, IsLegalSync, AreLegalChanges, OldAuto, read_unless, old_auto, synced_at, last_generation, ConfigInputs, Plan, plan_over, IsSyncPlan, old_of, KconfigText, rules, changes_are_legal, arith}
+use Rattle.ks_engine.proofs.Prelude.{⊎_map, AreConfigInputs, AreInputs, Source, FromKconfig, FromConf, ◌≡◌, ◌⊎◌, inl, inr, ℕ, ◌+◌, ◌≤◌, List, Option, Some, None, Result, Ok, Err, ap, refl, length, lt-ltb, le-ltb, ne_eqb, cond-true, cond-false, get, empty, Kind, IsConfiguration, Configuration, max_bytes, declared, title_of, kconfig_refusal, setting, unknown_count, dotconfig_refusal, IsRefusal, AutoError, auto_text, auto_map, auto_generation, auto_refusal, OldTexts, HasNames, Files, content, IsTooLarge, auto_path, TreeFault, EngineError, NeverSynced, of_tree, of_auto, IsAborted, and_then, AreChanges, IsLegalSync, AreLegalChanges, OldAuto, read_unless, old_auto, synced_at, last_generation, ConfigInputs, Plan, plan_over, IsSyncPlan, old_of, KconfigText, rules, changes_are_legal, arith}
 use Rattle.ks_symbols.specs.Lines.{lines}
 use Rattle.ks_output.specs.declared.auto_conf.AutoError.TheVariants as auto
 use Rattle.ks_tree.specs.declared.fault.TreeFault.TheVariants as fault
@@ -75,13 +75,15 @@ last_some file b g at fine is some = rw (old_some file b None at fine, ← is, n
 
 -- ---- the plan of a synchronisation, by its sources and by auto.conf
 
-pub plan_of_old : (files : Files) (kconfig : KconfigText) (dotconfig : List ℕ) (s : ConfigInputs) (e : EngineError) → AreConfigInputs kconfig dotconfig s
-    → old_auto (content files auto_path) ≡ Err e → IsSyncPlan files kconfig dotconfig (Err e)
-plan_of_old files kconfig dotconfig s e are bad = inr (s, are, rw bad refl)
+pub plan_of_old : (files : Files) (source : Source) (s : ConfigInputs) (e : EngineError) → AreInputs source s
+    → old_auto (content files auto_path) ≡ Err e → IsSyncPlan files source (Err e)
+plan_of_old files (FromKconfig kconfig dotconfig) s e are bad = inr (s, are, rw bad refl)
+plan_of_old files (FromConf auto header) s e are bad = inr (s, are, rw bad refl)
 
-pub plan_of_over : (files : Files) (kconfig : KconfigText) (dotconfig : List ℕ) (s : ConfigInputs) (a : OldAuto) (r : Result Plan EngineError)
-    → AreConfigInputs kconfig dotconfig s → old_auto (content files auto_path) ≡ Ok a → plan_over s a ≡ r → IsSyncPlan files kconfig dotconfig r
-plan_of_over files kconfig dotconfig s a r are read over = inr (s, are, rw (read, over) refl)
+pub plan_of_over : (files : Files) (source : Source) (s : ConfigInputs) (a : OldAuto) (r : Result Plan EngineError)
+    → AreInputs source s → old_auto (content files auto_path) ≡ Ok a → plan_over s a ≡ r → IsSyncPlan files source r
+plan_of_over files (FromKconfig kconfig dotconfig) s a r are read over = inr (s, are, rw (read, over) refl)
+plan_of_over files (FromConf auto header) s a r are read over = inr (s, are, rw (read, over) refl)
 
 -- a fault that is no TooLarge gives up
 pub given_fault : (f : TreeFault) → (f ≡ fault.TooLarge → ⊥) → IsAborted (of_tree f)

@@ -1,5 +1,5 @@
 -- The files after each call show the history after it.
-use Rattle.ks_engine.proofs.Prelude.{Header, AreLegalChanges, AutoConf, AutoTemporary, Begun, Bool, Broken, CommandFile, CommandTemporary, Err, Files, HasNumber, HeaderTemporary, History, IsAuto, IsCommandFile, IsHistory, IsLegalPlace, IsLegalSync, IsSyncPlan, IsTrue, KconfigText, LastRecord, List, None, Ok, OldAuto, Option, Place, Plan, Recorded, SameButBoth, Shows, Some, ConfigInputs, Stamp, StampTemporary, SyncLeaves, Synced, Texts, WasSynced, and_then, ap, arith, auto_path, auto_text, before, both_ways, bytes_eq, bytes_eq-Decides, cases_Bool, command_path, command_temporary, cond, content, differs, done, eqb-false, false, header_path, header_text, inl, inr, is_in, is_name, last_record, length, ltb-false, max_bytes, old_auto, path_of, plan_over, refl, rules, stamp, stamp_path, stamp_text, subst, sym, ℕ, ⊎_elim, ◌+◌, ◌<◌, ◌^◌, ◌∙◌, ◌≡◌, ◌≤◌}
+use Rattle.ks_engine.proofs.Prelude.{Header, AreLegalChanges, AutoConf, AutoTemporary, Begun, Bool, Broken, CommandFile, CommandTemporary, Err, Files, HasNumber, HeaderTemporary, History, IsAuto, IsCommandFile, IsHistory, IsLegalPlace, IsLegalSync, IsSyncPlan, IsTrue, Source, FromKconfig, FromConf, LastRecord, List, None, Ok, OldAuto, Option, Place, Plan, Recorded, SameButBoth, Shows, Some, ConfigInputs, Stamp, StampTemporary, SyncLeaves, Synced, Texts, WasSynced, and_then, ap, arith, auto_path, auto_text, before, both_ways, bytes_eq, bytes_eq-Decides, cases_Bool, command_path, command_temporary, cond, content, differs, done, eqb-false, false, header_path, header_text, inl, inr, is_in, is_name, last_record, length, ltb-false, max_bytes, old_auto, path_of, plan_over, refl, rules, stamp, stamp_path, stamp_text, subst, sym, ℕ, ⊎_elim, ◌+◌, ◌<◌, ◌^◌, ◌∙◌, ◌≡◌, ◌≤◌}
 use Rattle.ks_engine.proofs.Heart.{record_cases, recorded_synced}
 use Rattle.ks_engine.proofs.LowerLaws.{texts_back, generation_back, accepted, apart}
 use Rattle.ks_engine.proofs.Reading.{old_some, ok_ok, err_ok}
@@ -45,16 +45,22 @@ pub plan_over_facts : (s : ConfigInputs) (auto : OldAuto) (plan : Plan) → IsLe
     → PlanFacts auto.texts auto.generation plan
 plan_over_facts s auto plan legal e = search (rules, err_ok, ok_ok, eqb-false, ltb-false)
 
--- what stands where a plan was made, also over files that show no history
-pub plan_stands : (files : Files) (k : KconfigText) (d : List ℕ) (plan : Plan) → IsSyncPlan files k d (Ok plan) → (auto : OldAuto)
-    × (old_auto (content files auto_path) ≡ Ok auto) × PlanFacts auto.texts auto.generation plan
-plan_stands files k d plan (inl refused) = absurd cc
-plan_stands files k d plan (inr made) = elim (old_auto (content files auto_path)) as (λ r. Ok plan ≡ and_then r (plan_over made.0) → (auto : OldAuto) × (r ≡ Ok auto)
-    × PlanFacts auto.texts auto.generation plan) [ Ok auto ↦ λ is. (auto, refl, plan_over_facts made.0 auto plan made.1.legal (sym is)) | Err e ↦ λ is. absurd cc ] made.2
+plan_of_inputs : (files : Files) (s : ConfigInputs) (plan : Plan) → IsLegalSync s.title s.config → Ok plan ≡ and_then (old_auto (content files auto_path)) (plan_over s)
+    → (auto : OldAuto) × (old_auto (content files auto_path) ≡ Ok auto) × PlanFacts auto.texts auto.generation plan
+plan_of_inputs files s plan legal made = elim (old_auto (content files auto_path)) as (λ r. Ok plan ≡ and_then r (plan_over s) → (auto : OldAuto) × (r ≡ Ok auto)
+    × PlanFacts auto.texts auto.generation plan) [ Ok auto ↦ λ is. (auto, refl, plan_over_facts s auto plan legal (sym is)) | Err e ↦ λ is. absurd cc ] made
 
-pub plan_facts : (files : Files) (h : History) (kconfig : KconfigText) (dotconfig : List ℕ) (plan : Plan) → Shows files h → IsSyncPlan files kconfig dotconfig (Ok plan)
+-- what stands where a plan was made, also over files that show no history
+pub plan_stands : (files : Files) (k : Source) (plan : Plan) → IsSyncPlan files k (Ok plan) → (auto : OldAuto)
+    × (old_auto (content files auto_path) ≡ Ok auto) × PlanFacts auto.texts auto.generation plan
+plan_stands files (FromKconfig kconfig dotconfig) plan (inl refused) = absurd cc
+plan_stands files (FromConf auto header) plan (inl refused) = absurd cc
+plan_stands files (FromKconfig kconfig dotconfig) plan (inr made) = plan_of_inputs files made.0 plan made.1.legal made.2
+plan_stands files (FromConf auto header) plan (inr made) = plan_of_inputs files made.0 plan made.1.legal made.2
+
+pub plan_facts : (files : Files) (h : History) (k : Source) (plan : Plan) → Shows files h → IsSyncPlan files k (Ok plan)
     → PlanFacts (before h) (done h) plan
-plan_facts files h kconfig dotconfig plan shows planned = search (rules, auto_read, plan_stands, ok_ok)
+plan_facts files h k plan shows planned = search (rules, auto_read, plan_stands, ok_ok)
 
 -- ---- the stamps, the header and the command files of the next history
 

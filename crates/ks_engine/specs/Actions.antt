@@ -16,6 +16,8 @@ use Rattle.ks_engine.specs.declared.synchronise.Report.{Report}
 
 pub data Action : Type 0 where
   Sync : (kconfig dotconfig : List ℕ) → Action
+  -- with the configuration that conf wrote
+  SyncWritten : (auto header : List ℕ) → Action
   -- and the missing stamps of all declared symbols are made
   SyncAllStamps : (kconfig dotconfig : List ℕ) → Action
   Record : (depfile target command : List ℕ) → Action

@@ -1,6 +1,7 @@
 -- What a synchronisation leaves that makes the missing stamp of each declared symbol too.
 use Rattle.std.specs.Prelude.{◌≡◌, ◌⊎◌, ℕ, List, Result, Ok, Err, is_some, true}
 use Rattle.ks_symbols.specs.Dialects.{KconfigText}
+use Rattle.ks_engine.specs.Sources.{FromKconfig}
 use Rattle.ks_symbols.specs.Kconfig.{declared}
 use Rattle.ks_symbols.specs.Names.{is_in}
 use Rattle.ks_tree.specs.Files.{Files}
@@ -24,7 +25,7 @@ AreSomeDeclared kconfig names = (x : List ℕ) → is_in names x ≡ true → is
 -- It was synchronised, and then the missing stamps of all declared symbols were made.
 pub record IsStamped (old new : Files) (kconfig : KconfigText) (dotconfig : List ℕ) (report : Report) : Type 0 where
   pub between : Files
-  pub synced : IsSynced old between kconfig dotconfig report
+  pub synced : IsSynced old between (FromKconfig kconfig dotconfig) report
   pub names : List (List ℕ)
   pub declared : AreDeclared kconfig names
   pub stamps : MakesStamps names between new
@@ -33,7 +34,7 @@ pub record IsStamped (old new : Files) (kconfig : KconfigText) (dotconfig : List
 pub record IsPartlyStamped (old new : Files) (kconfig : KconfigText) (dotconfig : List ℕ) : Type 0 where
   pub report : Report
   pub between : Files
-  pub synced : IsSynced old between kconfig dotconfig report
+  pub synced : IsSynced old between (FromKconfig kconfig dotconfig) report
   pub names : List (List ℕ)
   pub declared : AreSomeDeclared kconfig names
   pub stamps : MakesStamps names between new
@@ -41,13 +42,13 @@ pub record IsPartlyStamped (old new : Files) (kconfig : KconfigText) (dotconfig 
 -- It was refused or given up as a synchronisation is, or after one that was done.
 abbrev pub IsStampedRefused : Files → Files → KconfigText → List ℕ → EngineError → Type 0
 IsStampedRefused old new kconfig dotconfig e =
-    IsSyncRefused old new kconfig dotconfig e ⊎ (IsAborted e × IsPartlyStamped old new kconfig dotconfig)
+    IsSyncRefused old new (FromKconfig kconfig dotconfig) e ⊎ (IsAborted e × IsPartlyStamped old new kconfig dotconfig)
 
 -- ---- by histories: the synchronisation is the event, and nothing after it is one
 
 pub record FollowsStamped (old : TreeState) (kconfig : KconfigText) (dotconfig : List ℕ) (report : Report) (new : TreeState) : Type 0 where
   pub between : TreeState
-  pub synced : FollowsSynced old kconfig dotconfig report between
+  pub synced : FollowsSynced old (FromKconfig kconfig dotconfig) report between
   pub history : new.history ≡ between.history
   pub names : List (List ℕ)
   pub declared : AreDeclared kconfig names
@@ -56,7 +57,7 @@ pub record FollowsStamped (old : TreeState) (kconfig : KconfigText) (dotconfig :
 pub record FollowsPartlyStamped (old : TreeState) (kconfig : KconfigText) (dotconfig : List ℕ) (new : TreeState) : Type 0 where
   pub report : Report
   pub between : TreeState
-  pub synced : FollowsSynced old kconfig dotconfig report between
+  pub synced : FollowsSynced old (FromKconfig kconfig dotconfig) report between
   pub history : new.history ≡ between.history
   pub names : List (List ℕ)
   pub declared : AreSomeDeclared kconfig names
@@ -65,4 +66,4 @@ pub record FollowsPartlyStamped (old : TreeState) (kconfig : KconfigText) (dotco
 abbrev pub FollowsSyncAllStamps : KconfigText → List ℕ → Result Report EngineError → TreeState → TreeState → Type 0
 FollowsSyncAllStamps kconfig dotconfig (Ok report) old new = FollowsStamped old kconfig dotconfig report new
 FollowsSyncAllStamps kconfig dotconfig (Err e) old new =
-    FollowsSync kconfig dotconfig (Err e) old new ⊎ (IsAborted e × FollowsPartlyStamped old kconfig dotconfig new)
+    FollowsSync (FromKconfig kconfig dotconfig) (Err e) old new ⊎ (IsAborted e × FollowsPartlyStamped old kconfig dotconfig new)

@@ -1,6 +1,6 @@
 -- What each call does to the files of a tree and to its history.
 use Rattle.std.specs.Prelude.{◌≡◌, ◌⊎◌, ℕ, ◌<◌, List, Some, Result, Ok, Err}
-use Rattle.ks_symbols.specs.Dialects.{KconfigText}
+use Rattle.ks_engine.specs.Sources.{Source}
 use Rattle.ks_symbols.specs.Names.{header_path}
 use Rattle.ks_symbols.specs.declared.dialect.Dialect.{Dialect}
 use Rattle.ks_tree.specs.declared.tree.Tree.{Ghosts}
@@ -38,8 +38,8 @@ IsSame old new = (new.files ≡ old.files) × (new.history ≡ old.history)
 -- ---- synchronising
 
 -- A completed synchronisation is the newest event, and reports what changed since the one before it.
-pub record FollowsSynced (old : TreeState) (kconfig : KconfigText) (dotconfig : List ℕ) (report : Report) (new : TreeState) : Type 0 where
-  pub files : IsSynced old.files new.files kconfig dotconfig report
+pub record FollowsSynced (old : TreeState) (source : Source) (report : Report) (new : TreeState) : Type 0 where
+  pub files : IsSynced old.files new.files source report
   pub history : new.history ≡ Synced files.plan.title files.plan.config old.history
   pub generation : report.generation ≡ done new.history
   pub changed : AreLegalChanges (before old.history) files.plan.config report.touched.items
@@ -48,11 +48,11 @@ pub record FollowsSynced (old : TreeState) (kconfig : KconfigText) (dotconfig : 
 abbrev pub IsBrokenEvent : History → Plan → List (List ℕ) → History → Type 0
 IsBrokenEvent past plan renewed next = (next ≡ Broken plan.title plan.config renewed past) ⊎ (next ≡ Synced plan.title plan.config past)
 
-abbrev pub FollowsSync : KconfigText → List ℕ → Result Report EngineError → TreeState → TreeState → Type 0
-FollowsSync kconfig dotconfig (Ok report) old new = FollowsSynced old kconfig dotconfig report new
-FollowsSync kconfig dotconfig (Err e) old new =
-    (IsSyncPlan old.files kconfig dotconfig (Err e) × IsSame old new)
-    ⊎ (IsAborted e × (IsSame old new ⊎ ((broken : IsBrokenOff old.files new.files kconfig dotconfig)
+abbrev pub FollowsSync : Source → Result Report EngineError → TreeState → TreeState → Type 0
+FollowsSync source (Ok report) old new = FollowsSynced old source report new
+FollowsSync source (Err e) old new =
+    (IsSyncPlan old.files source (Err e) × IsSame old new)
+    ⊎ (IsAborted e × (IsSame old new ⊎ ((broken : IsBrokenOff old.files new.files source)
     × IsBrokenEvent old.history broken.plan broken.some.0 new.history)))
 
 -- ---- recording

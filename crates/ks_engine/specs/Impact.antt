@@ -3,7 +3,7 @@ use Rattle.std.specs.Prelude.{◌≡◌, ℕ, List, Some, Result, Ok, true, fals
 use Rattle.std.specs.Ordering.{nat_cmp}
 use Rattle.std.specs.Cmp.Lexicographic.{slice_cmp}
 use Rattle.std.specs.List.Sorted.{IsStrictlySortedBy}
-use Rattle.ks_symbols.specs.Dialects.{KconfigText}
+use Rattle.ks_engine.specs.Sources.{Source}
 use Rattle.ks_symbols.specs.Names.{is_name, is_in}
 use Rattle.ks_tree.specs.Files.{Files, content}
 use Rattle.ks_tree.specs.Paths.{auto_path, stamp_path, command_path}
@@ -20,17 +20,17 @@ use Rattle.ks_engine.specs.Asked.{IsAnswerOn}
 use Rattle.ks_engine.specs.Evaluated.{IsEvaluated}
 
 -- There is a tree that a completed synchronisation of these texts leaves, with this report.
-abbrev pub IsImpactOf : Files → KconfigText → List ℕ → Impact → Type 0
-IsImpactOf files kconfig dotconfig impact = (after : Files) × IsSynced files after kconfig dotconfig impact.report
+abbrev pub IsImpactOf : Files → Source → Impact → Type 0
+IsImpactOf files source impact = (after : Files) × IsSynced files after source impact.report
 
 -- It is an answer of `stale` over each tree that a completed synchronisation of these texts leaves.
-abbrev pub IsAnswerAfter : Files → KconfigText → List ℕ → List ℕ → Result Verdict EngineError → Type 0
-IsAnswerAfter files kconfig dotconfig o answer = (after : Files) (report : Report) → IsSynced files after kconfig dotconfig report → IsAnswerOn after o answer
+abbrev pub IsAnswerAfter : Files → Source → List ℕ → Result Verdict EngineError → Type 0
+IsAnswerAfter files source o answer = (after : Files) (report : Report) → IsSynced files after source report → IsAnswerOn after o answer
 
 -- Of each object that is recorded in a history that the files show, it is judged by that history with the synchronisation added.
-abbrev pub EvaluatesAfter : Files → KconfigText → List ℕ → List ℕ → Result Verdict EngineError → Type 0
-EvaluatesAfter files kconfig dotconfig o answer =
-    (after : Files) (report : Report) (synced : IsSynced files after kconfig dotconfig report) (h : History) (r : LastRecord) → Shows files h
+abbrev pub EvaluatesAfter : Files → Source → List ℕ → Result Verdict EngineError → Type 0
+EvaluatesAfter files source o answer =
+    (after : Files) (report : Report) (synced : IsSynced files after source report) (h : History) (r : LastRecord) → Shows files h
     → last_record h o ≡ Some r → IsEvaluated after (Synced synced.plan.title synced.plan.config h) o r answer
 
 -- What a question asks of such a tree: its generation and the touched stamps are of the report, all else is as before.

@@ -2,7 +2,7 @@
 -- that a run by the files is one of each history that the first of them show, and that what is answered by the files is judged by it.
 use Rattle.std.specs.Prelude.{◌≡◌, ◌⊎◌, ℕ, ◌+◌, ◌≤◌, List, Some, None, Result, Ok, true, IsTrue, ⊤}
 use Rattle.std.specs.FinMap.{empty}
-use Rattle.ks_symbols.specs.Dialects.{KconfigText}
+use Rattle.ks_engine.specs.Sources.{Source}
 use Rattle.ks_symbols.specs.Names.{is_name, is_in}
 use Rattle.ks_tree.specs.Files.{Files, content}
 use Rattle.ks_tree.specs.Paths.{auto_path, command_path, stamp_path}
@@ -69,7 +69,7 @@ NotNumberedTreeShows =
 -- The files and the two texts determine what a synchronisation comes to: it has a plan or is refused, and for one reason.
 abbrev pub PlansAreOne : Type 0
 PlansAreOne =
-    (files : Files) (kconfig : KconfigText) (dotconfig : List ℕ) (r s : Result Plan EngineError) → IsSyncPlan files kconfig dotconfig r → IsSyncPlan files kconfig dotconfig s
+    (files : Files) (source : Source) (r s : Result Plan EngineError) → IsSyncPlan files source r → IsSyncPlan files source s
     → r ≡ s
 
 -- A synchronisation, completed or broken off, that began when g or more were completed, and whose configuration differs at x from the last of these.
@@ -102,8 +102,8 @@ ExplanationsAreEvaluated =
 -- .. a verdict after a synchronisation, with that one as the last event, ..
 abbrev pub ImpactsAreEvaluated : Type 0
 ImpactsAreEvaluated =
-    (files : Files) (kconfig : KconfigText) (dotconfig o : List ℕ) (answer : Result Verdict EngineError) → IsAnswerAfter files kconfig dotconfig o answer
-    → EvaluatesAfter files kconfig dotconfig o answer
+    (files : Files) (source : Source) (o : List ℕ) (answer : Result Verdict EngineError) → IsAnswerAfter files source o answer
+    → EvaluatesAfter files source o answer
 
 -- .. and whether an object was built by a command.
 abbrev pub BuildsAreEvaluated : Type 0

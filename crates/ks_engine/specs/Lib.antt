@@ -3,6 +3,7 @@ pub mod Staleness
 pub mod Legal
 pub mod Refusals
 pub mod LastSync
+pub mod Sources
 pub mod SyncPlan
 pub mod Synchronised
 pub mod Causes

@@ -1,6 +1,6 @@
 -- What each question is answered: which files it is asked of, and how many causes it lists.
 use Rattle.std.specs.Prelude.{◌≡◌, ℕ, List, Result}
-use Rattle.ks_symbols.specs.Dialects.{KconfigText}
+use Rattle.ks_engine.specs.Sources.{Source}
 use Rattle.ks_tree.specs.Files.{Files}
 use Rattle.ks_engine.specs.declared.error.EngineError.{EngineError}
 use Rattle.ks_engine.specs.declared.explaining.Explanation.{Explanation}
@@ -29,4 +29,4 @@ abbrev pub IsAnswerTo : Query → Files → List ℕ → Result Explanation Engi
 IsAnswerTo Stale files o answer = IsAnswerOn files o (reported answer)
 IsAnswerTo Why files o answer = IsExplanationOn files o answer
 IsAnswerTo (Predicted impact) files o answer =
-    (kconfig : KconfigText) (dotconfig : List ℕ) → IsImpactOf files kconfig dotconfig impact.now → IsAnswerAfter files kconfig dotconfig o (reported answer)
+    (source : Source) → IsImpactOf files source impact.now → IsAnswerAfter files source o (reported answer)

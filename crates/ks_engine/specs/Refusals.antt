@@ -4,6 +4,8 @@ use Rattle.ks_symbols.specs.declared.error.SourceError.{SourceError}
 use Rattle.ks_symbols.specs.declared.error.SourceError.TheVariants as source
 use Rattle.ks_output.specs.declared.auto_conf.AutoError.{AutoError}
 use Rattle.ks_output.specs.declared.auto_conf.AutoError.TheVariants as auto
+use Rattle.ks_output.specs.declared.written.WrittenError.{WrittenError}
+use Rattle.ks_output.specs.declared.written.WrittenError.TheVariants as written
 use Rattle.ks_tree.specs.declared.fault.TreeFault.{TreeFault}
 use Rattle.ks_tree.specs.declared.fault.TreeFault.TheVariants as fault
 use Rattle.ks_tree.specs.declared.fault.TreeError.{TreeError}
@@ -13,7 +15,7 @@ use Rattle.ks_fixdep.specs.declared.command_file.CommandError.TheVariants as com
 use Rattle.ks_fixdep.specs.declared.dep_error.DepError.{DepError}
 use Rattle.ks_fixdep.specs.declared.dep_error.DepError.TheVariants as dep
 use Rattle.ks_engine.specs.declared.error.EngineError.{EngineError}
-use Rattle.ks_engine.specs.declared.error.EngineError.TheVariants.{Source, TooLarge, OutOfMemory, BadAuto, NoTarget, BadPath, BadCommand, BadCommandFile, BadStamp, Device}
+use Rattle.ks_engine.specs.declared.error.EngineError.TheVariants.{Source, Written, TooLarge, OutOfMemory, BadAuto, NoTarget, BadPath, BadCommand, BadCommandFile, BadStamp, Device}
 
 abbrev pub of_source : SourceError → EngineError
 of_source source.TooLarge = TooLarge
@@ -24,6 +26,11 @@ abbrev pub of_auto : AutoError → EngineError
 of_auto (auto.BadAuto line) = BadAuto line
 of_auto auto.TooLarge = TooLarge
 of_auto auto.OutOfMemory = OutOfMemory
+
+abbrev pub of_written : WrittenError → EngineError
+of_written written.TooLarge = TooLarge
+of_written written.OutOfMemory = OutOfMemory
+of_written e = Written e
 
 abbrev pub of_command : CommandError → EngineError
 of_command (command.BadCommandFile line) = BadCommandFile line

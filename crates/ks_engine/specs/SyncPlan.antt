@@ -12,7 +12,10 @@ use Rattle.ks_tree.specs.Files.{Files, content}
 use Rattle.ks_tree.specs.Paths.{auto_path}
 use Rattle.ks_engine.specs.declared.error.EngineError.{EngineError}
 use Rattle.ks_engine.specs.declared.error.EngineError.TheVariants.{TooLarge, GenerationFull}
-use Rattle.ks_engine.specs.Refusals.{of_source, and_then}
+use Rattle.ks_output.specs.declared.written.WrittenError.{WrittenError}
+use Rattle.ks_output.specs.Written.{title_in, written}
+use Rattle.ks_engine.specs.Sources.{Source, FromKconfig, FromConf}
+use Rattle.ks_engine.specs.Refusals.{of_source, of_written, and_then}
 use Rattle.ks_symbols.specs.Configuration.{Configuration}
 use Rattle.ks_output.specs.OldConfig.{Texts}
 use Rattle.ks_engine.specs.Legal.{IsLegalSync}
@@ -35,6 +38,18 @@ pub record AreConfigInputs (kconfig : KconfigText) (dotconfig : List ℕ) (s : C
   pub unknown : s.unknown ≡ unknown_count (declared kconfig) (lines dotconfig)
   pub legal : IsLegalSync s.title s.config
 
+-- what the auto.conf and the header that conf wrote set
+pub record AreWritten (auto header : List ℕ) (s : ConfigInputs) : Type 0 where
+  pub settings : written auto header ≡ Ok s.config
+  pub title : s.title ≡ title_in auto
+  pub unknown : s.unknown ≡ 0
+  pub legal : IsLegalSync s.title s.config
+
+-- what either of them sets
+abbrev pub AreInputs : Source → ConfigInputs → Type 0
+AreInputs (FromKconfig kconfig dotconfig) s = AreConfigInputs kconfig dotconfig s
+AreInputs (FromConf auto header) s = AreWritten auto header s
+
 -- a synchronisation against which no refusal stands
 pub record Plan : Type 0 where
   pub title : List ℕ
@@ -53,7 +68,10 @@ plan_over s auto =
     else (if nat_lt max_bytes (length (auto_text s.title s.config (auto.generation + 1))) then Err TooLarge else Ok (plan_of s auto))
 
 -- What is to be done, or why it is refused: first the texts, then auto.conf, then what would be written.
-abbrev pub IsSyncPlan : Files → KconfigText → List ℕ → Result Plan EngineError → Type 0
-IsSyncPlan files kconfig dotconfig result =
+abbrev pub IsSyncPlan : Files → Source → Result Plan EngineError → Type 0
+IsSyncPlan files (FromKconfig kconfig dotconfig) result =
     ((e : SourceError) × (source_refusal kconfig dotconfig ≡ Some e) × (result ≡ Err (of_source e)))
     ⊎ ((s : ConfigInputs) × AreConfigInputs kconfig dotconfig s × (result ≡ and_then (old_auto (content files auto_path)) (plan_over s)))
+IsSyncPlan files (FromConf auto header) result =
+    ((e : WrittenError) × (written auto header ≡ Err e) × (result ≡ Err (of_written e)))
+    ⊎ ((s : ConfigInputs) × AreWritten auto header s × (result ≡ and_then (old_auto (content files auto_path)) (plan_over s)))

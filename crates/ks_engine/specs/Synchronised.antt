@@ -1,6 +1,6 @@
 -- What a synchronisation leaves: all of its plan, or a part of it where it was broken off.
 use Rattle.std.specs.Prelude.{◌≡◌, ◌≢◌, ◌⊎◌, ℕ, ◌+◌, List, Some, None, Ok, Err, true, if◌then◌else◌, IsTrue, Result, OnOk, IsErrOf}
-use Rattle.ks_symbols.specs.Dialects.{KconfigText}
+use Rattle.ks_engine.specs.Sources.{Source}
 use Rattle.ks_symbols.specs.Names.{is_name, is_in, header_path}
 use Rattle.ks_output.specs.AutoText.{auto_text}
 use Rattle.ks_output.specs.Header.{header_text}
@@ -54,26 +54,26 @@ abbrev pub SyncSome : Files → Files → Plan → List (List ℕ) → Type 0
 SyncSome old new plan changed = (renewed : List (List ℕ)) × SyncLeaves old new plan changed renewed
 
 -- It ran to its end, and this is its report.
-pub record IsSynced (old new : Files) (kconfig : KconfigText) (dotconfig : List ℕ) (report : Report) : Type 0 where
+pub record IsSynced (old new : Files) (source : Source) (report : Report) : Type 0 where
   pub plan : Plan
-  pub planned : IsSyncPlan old kconfig dotconfig (Ok plan)
+  pub planned : IsSyncPlan old source (Ok plan)
   pub generation : report.generation ≡ plan.generation + 1
   pub unknown : report.unknown ≡ plan.unknown
   pub changed : AreLegalChanges plan.old plan.config report.touched.items
   pub done : SyncDone old new plan report.touched.items
 
 -- It reached its first write and was given up.
-pub record IsBrokenOff (old new : Files) (kconfig : KconfigText) (dotconfig : List ℕ) : Type 0 where
+pub record IsBrokenOff (old new : Files) (source : Source) : Type 0 where
   pub plan : Plan
-  pub planned : IsSyncPlan old kconfig dotconfig (Ok plan)
+  pub planned : IsSyncPlan old source (Ok plan)
   pub names : List (List ℕ)
   pub changed : AreLegalChanges plan.old plan.config names
   pub some : SyncSome old new plan names
 
 -- It was refused with nothing changed, or given up before its first write or after it.
-abbrev pub IsSyncRefused : Files → Files → KconfigText → List ℕ → EngineError → Type 0
-IsSyncRefused old new kconfig dotconfig e =
-    (IsSyncPlan old kconfig dotconfig (Err e) × (new ≡ old)) ⊎ (IsAborted e × ((new ≡ old) ⊎ IsBrokenOff old new kconfig dotconfig))
+abbrev pub IsSyncRefused : Files → Files → Source → EngineError → Type 0
+IsSyncRefused old new source e =
+    (IsSyncPlan old source (Err e) × (new ≡ old)) ⊎ (IsAborted e × ((new ≡ old) ⊎ IsBrokenOff old new source))
 
 -- How a synchronisation is counted: the device is to blame only where the tree counted a failure, and where all went well, or
 -- memory was wanting, none was. No file is made older.

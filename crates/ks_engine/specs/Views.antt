@@ -1,6 +1,6 @@
 -- Values of the code as the definitions have them.
 use Rattle.std.specs.Prelude.{◌≡◌, ◌≢◌, ℕ, ◌+◌, List, Option, Some, None, Ok}
-use Rattle.ks_symbols.specs.Dialects.{KconfigText}
+use Rattle.ks_engine.specs.Sources.{Source}
 use Rattle.ks_output.specs.AutoText.{auto_text}
 use Rattle.ks_output.specs.Header.{header_text}
 use Rattle.ks_output.specs.OldConfig.{OldTexts}
@@ -44,8 +44,8 @@ pub record IsPlannedBy (plan : Plan) (planned : Planned) : Type 0 where
   pub report : IsReport plan planned.report
 
 -- the plan for these files and texts
-abbrev pub IsPlanned : Files → KconfigText → List ℕ → Planned → Type 0
-IsPlanned files kconfig dotconfig planned = (plan : Plan) × IsSyncPlan files kconfig dotconfig (Ok plan) × IsPlannedBy plan planned
+abbrev pub IsPlanned : Files → Source → Planned → Type 0
+IsPlanned files source planned = (plan : Plan) × IsSyncPlan files source (Ok plan) × IsPlannedBy plan planned
 
 -- the work of a plan: its report and its texts
 pub record IsWork (plan : Plan) (work : Work) : Type 0 where

@@ -20,8 +20,8 @@ use crate::last_sync::read_generation;
 use crate::query::Query;
 use crate::sources::scan_file;
 use indexmap::IndexMap;
-use ks_fixdep::{NamesBySource, ScanRules, Seed, name_text};
-use ks_symbols::Name;
+use ks_fixdep::{NamesBySource, ScanRules};
+use ks_symbols::{Name, Seed, name_text};
 use ks_tree::{Tree, TreeError, read_stamp};
 use std::alloc::{AllocError, Global};
 

@@ -11,8 +11,7 @@ ghost use Rattle.ks_engine.specs.Runs.{Run};
 use crate::caches::Cache;
 use crate::recording::record_by;
 use crate::{EngineError, Query, Recorded, Report, Verdict, query_object, sync};
-use ks_fixdep::Seed;
-use ks_symbols::{Dialect, Kconfig};
+use ks_symbols::{Dialect, Kconfig, Seed};
 use ks_tree::Tree;
 use std::alloc::{AllocError, Global};
 

@@ -14,8 +14,8 @@ ghost use Rattle.ks_engine.specs.Costs.{AreCosts, AreSound, AreTallies, by_cost,
 use crate::EngineError;
 use crate::staleness::{borrow_for, read_command_text};
 use indexmap::IndexMap;
-use ks_fixdep::{BorrowedCommand, BorrowedDep, Seed};
-use ks_symbols::target_is_legal;
+use ks_fixdep::{BorrowedCommand, BorrowedDep};
+use ks_symbols::{Seed, target_is_legal};
 use ks_tree::Tree;
 use std::alloc::{AllocError, Global};
 use std::cmp::Ordering;

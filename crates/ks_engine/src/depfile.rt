@@ -21,8 +21,8 @@ use crate::EngineError;
 use crate::caches::Cache;
 use crate::conventions::Conventions;
 use crate::recording::{Draft, Prepared, Recorded, prepare, write_record};
-use ks_fixdep::{Header, NamesBySource, Seed, listed_names, rule_text};
-use ks_symbols::{Dialect, Name};
+use ks_fixdep::{Header, NamesBySource, listed_names, rule_text};
+use ks_symbols::{Dialect, Name, Seed};
 use ks_tree::{Tree, header_path, make_stamps, replace};
 use std::alloc::{AllocError, Global};
 

@@ -2,10 +2,10 @@
 //! files that are too large have one member each, whichever layer met them.
 ghost use Rattle.std.specs.Prelude.{◌≡◌};
 ghost use Rattle.ks_engine.specs.declared.error.EngineError.TheVariants.{OutOfMemory};
-ghost use Rattle.ks_engine.specs.Refusals.{of_source, of_auto, of_command, of_dep, of_tree, of_stamp};
+ghost use Rattle.ks_engine.specs.Refusals.{of_source, of_auto, of_written, of_command, of_dep, of_tree, of_stamp};
 
 use ks_fixdep::{CommandError, DepError};
-use ks_output::AutoError;
+use ks_output::{AutoError, WrittenError};
 use ks_symbols::{Name, Path, SourceError};
 use ks_tree::{TreeError, TreeFault};
 use std::alloc::{AllocError, AllocFailed};
@@ -18,6 +18,9 @@ pub enum EngineError {
     /// A faulty line of Kconfig or `.config`.
     #[error(transparent)]
     Source(SourceError),
+    /// A faulty line of what conf wrote.
+    #[error(transparent)]
+    Written(WrittenError),
     #[error("9 TooLarge")]
     TooLarge,
     #[error("10 OutOfMemory")]
@@ -79,6 +82,18 @@ impl From<AutoError> for EngineError {
             AutoError::BadAuto(line) => EngineError::BadAuto(line),
             AutoError::TooLarge => EngineError::TooLarge,
             AutoError::OutOfMemory => EngineError::OutOfMemory,
+        }
+    }
+}
+
+impl From<WrittenError> for EngineError {
+    ghost from_gives = { λ error e. e ≡ of_written error };
+
+    fn from(error: WrittenError) -> EngineError {
+        match error {
+            WrittenError::TooLarge => EngineError::TooLarge,
+            WrittenError::OutOfMemory => EngineError::OutOfMemory,
+            other => EngineError::Written(other),
         }
     }
 }

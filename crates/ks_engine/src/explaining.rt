@@ -21,8 +21,8 @@ use crate::EngineError;
 use crate::caches::Cache;
 use crate::query::{Limit, Query};
 use crate::staleness::{Verdict, borrow_for, read_command_text};
-use ks_fixdep::{BorrowedCommand, BorrowedDep, BorrowedName, Seed};
-use ks_symbols::{Name, Path, target_is_legal};
+use ks_fixdep::{BorrowedCommand, BorrowedDep, BorrowedName};
+use ks_symbols::{Name, Path, Seed, target_is_legal};
 use ks_tree::Tree;
 use std::alloc::{AllocError, Global};
 

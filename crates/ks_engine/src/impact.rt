@@ -4,6 +4,7 @@
 ghost use Rattle.std.specs.Prelude.{◌≡◌, ◌⊎◌, Err, IfOk, IfErr, IsErrOf, OnOk};
 ghost use Rattle.ks_tree.specs.Frames.{Reads};
 ghost use Rattle.ks_engine.specs.Refusals.{IsAborted};
+ghost use Rattle.ks_engine.specs.Sources.{FromKconfig};
 ghost use Rattle.ks_engine.specs.SyncPlan.{IsSyncPlan};
 ghost use Rattle.ks_engine.specs.Impact.{IsImpactOf};
 
@@ -32,8 +33,8 @@ impl Impact {
         ensures passed { OnOk result (T.failures tree.new ≡ T.failures tree.old) }
         ensures uncounted { IsErrOf result EngineError.OutOfMemory → T.failures tree.new ≡ T.failures tree.old }
         // Where it isn't refused, a synchronisation can be completed, and this is what that reports.
-        ensures reported { T.is_honest → IfOk result (IsImpactOf (T.files tree.old) kconfig.now dotconfig.now) }
-        ensures refused { T.is_honest → IfErr result (λ e. IsAborted e ⊎ IsSyncPlan (T.files tree.old) kconfig.now dotconfig.now (Err e)) }
+        ensures reported { T.is_honest → IfOk result (IsImpactOf (T.files tree.old) (FromKconfig kconfig.now dotconfig.now)) }
+        ensures refused { T.is_honest → IfErr result (λ e. IsAborted e ⊎ IsSyncPlan (T.files tree.old) (FromKconfig kconfig.now dotconfig.now) (Err e)) }
     {
         let sources = read_config_inputs(alloc, kconfig, dotconfig)?;
         let planned = plan_config_inputs(alloc, tree, sources)?;

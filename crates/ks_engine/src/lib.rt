@@ -43,4 +43,4 @@ pub use query::{Limit, Query};
 pub use recording::{Recorded, check_args, record_object};
 pub use sources::scan_all;
 pub use staleness::{BuildState, Verdict, outdated, stale};
-pub use synchronise::{Report, sync};
+pub use synchronise::{Report, sync, sync_written};

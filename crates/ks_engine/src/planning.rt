@@ -3,20 +3,21 @@
 //! needs none.
 ghost use Rattle.std.specs.Prelude.{◌≡◌, ◌⊎◌, List, ℕ, Ok, Err, IfOk, IfErr, IsErrOf, OnOk};
 ghost use Rattle.std.specs.FinMap as map;
-ghost use Rattle.ks_symbols.specs.Dialects.{KconfigText};
 ghost use Rattle.ks_symbols.specs.Kconfig.{declared};
 ghost use Rattle.ks_symbols.specs.Refusals.{RefusedBy};
+ghost use Rattle.ks_output.specs.Written.{written};
 ghost use Rattle.ks_tree.specs.Frames.{Reads};
 ghost use Rattle.ks_engine.specs.Refusals.{IsAborted};
-ghost use Rattle.ks_engine.specs.SyncPlan.{AreConfigInputs, IsSyncPlan, plan_of, plan_over, source_refusal};
+ghost use Rattle.ks_engine.specs.Sources.{Source};
+ghost use Rattle.ks_engine.specs.SyncPlan.{AreConfigInputs, AreInputs, AreWritten, IsSyncPlan, plan_of, plan_over, source_refusal};
 ghost use Rattle.ks_engine.specs.Views.{old_of, sources_of, IsPlanned, IsReport, PlansOver};
 
 use crate::last_sync::read_old;
 use crate::{EngineError, Report};
 use ks_compare::changed;
-use ks_output::{OldConfig, auto_len};
+use ks_output::{OldConfig, Written, WrittenError, auto_len, read_written};
 use ks_symbols::{
-    Kconfig, MAX_BYTES, Settings, SourceError, Symbols, build_settings, read_dotconfig,
+    Kconfig, MAX_BYTES, Seed, Settings, SourceError, Symbols, build_settings, read_dotconfig,
     read_kconfig,
 };
 use ks_tree::Tree;
@@ -44,6 +45,21 @@ pub fn read_config_inputs(
     let title = Vec::from_slice(alloc, symbols.title())?;
     drop(symbols);
     let settings = draft.finish(alloc)?;
+    Ok(ConfigInputs { title, settings })
+}
+
+/// Reads the auto.conf and the header that conf wrote. Names are looked up by a seed.
+pub fn read_written_inputs(
+    alloc: Global,
+    seed: Seed,
+    auto: &[u8],
+    header: &[u8],
+) -> Result<ConfigInputs, WrittenError>
+    ensures read { IfOk result (λ s. AreWritten auto.now header.now (sources_of s)) }
+    ensures refused { IfErr result (λ e. (e ≡ WrittenError.OutOfMemory) ⊎ (written auto.now header.now ≡ Err e)) }
+{
+    let Written { title, settings } = read_written(alloc, seed, auto, header)?;
+    settings.keeps_configuration();
     Ok(ConfigInputs { title, settings })
 }
 
@@ -136,10 +152,10 @@ pub fn plan_config_inputs<T: Tree>(
     ensures reads { Reads T.Tree tree.old tree.new (IsErrOf result EngineError.Device) }
     ensures passed { OnOk result (T.failures tree.new ≡ T.failures tree.old) }
     ensures uncounted { IsErrOf result EngineError.OutOfMemory → T.failures tree.new ≡ T.failures tree.old }
-    ensures planned { T.is_honest → (kconfig : KconfigText) (dotconfig : List ℕ) → AreConfigInputs kconfig dotconfig (sources_of sources)
-        → IfOk result (IsPlanned (T.files tree.old) kconfig dotconfig) }
-    ensures refused { T.is_honest → (kconfig : KconfigText) (dotconfig : List ℕ) → AreConfigInputs kconfig dotconfig (sources_of sources)
-        → IfErr result (λ e. IsAborted e ⊎ IsSyncPlan (T.files tree.old) kconfig dotconfig (Err e)) }
+    ensures planned { T.is_honest → (source : Source) → AreInputs source (sources_of sources)
+        → IfOk result (IsPlanned (T.files tree.old) source) }
+    ensures refused { T.is_honest → (source : Source) → AreInputs source (sources_of sources)
+        → IfErr result (λ e. IsAborted e ⊎ IsSyncPlan (T.files tree.old) source (Err e)) }
 {
     let old = read_old(alloc, tree)?;
     let report = report_over(alloc, &sources, &old)?;

@@ -20,10 +20,10 @@ use crate::caches::Cache;
 use crate::conventions::Conventions;
 use crate::sources::scan_all_by;
 use ks_fixdep::{
-    Header, NamesBySource, Prerequisites, ScanRules, Seed, command_is_legal, read_depfile_without,
+    Header, NamesBySource, Prerequisites, ScanRules, command_is_legal, read_depfile_without,
     record_text,
 };
-use ks_symbols::{Dialect, MAX_BYTES, Path, path_is_legal, target_is_legal};
+use ks_symbols::{Dialect, MAX_BYTES, Path, Seed, path_is_legal, target_is_legal};
 use ks_tree::{Tree, command_path, command_temporary, replace};
 use std::alloc::{AllocError, Global};
 

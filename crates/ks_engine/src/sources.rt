@@ -12,8 +12,8 @@ ghost use Rattle.ks_engine.specs.Recording.{scanned, scanned_all};
 
 use crate::EngineError;
 use crate::caches::Cache;
-use ks_fixdep::{NamesBySource, Prerequisites, ScanRules, Seed, SourceScan};
-use ks_symbols::{MAX_BYTES, Path};
+use ks_fixdep::{NamesBySource, Prerequisites, ScanRules, SourceScan};
+use ks_symbols::{MAX_BYTES, Path, Seed};
 use ks_tree::Tree;
 use std::alloc::Global;
 

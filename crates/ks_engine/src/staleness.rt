@@ -15,8 +15,8 @@ use crate::EngineError;
 use crate::caches::Cache;
 use crate::explaining::{evaluate, query_object};
 use crate::query::Query;
-use ks_fixdep::{BorrowedCommand, Seed, borrow_command, command_is_legal};
-use ks_symbols::{Name, target_is_legal};
+use ks_fixdep::{BorrowedCommand, borrow_command, command_is_legal};
+use ks_symbols::{Name, Seed, target_is_legal};
 use ks_tree::{Tree, command_path};
 use std::alloc::Global;
 

@@ -2,17 +2,17 @@
 //! recorded under the old auto.conf is then stale as soon as a stamp says so, wherever the synchronisation is broken off.
 //! (conf_write_autoconf of scripts/kconfig/confdata.c writes in the same order.)
 ghost use Rattle.std.specs.Prelude.{◌≡◌, ◌⊎◌, ◌↔◌, ◌≤◌, ◌+◌, List, ℕ, Some, Ok, Err, IfOk, IfErr, OnOk, OnErr, MatchResult, IsErrOf};
-ghost use Rattle.ks_symbols.specs.Dialects.{KconfigText};
 ghost use Rattle.ks_tree.specs.Frames.{Counted};
+ghost use Rattle.ks_engine.specs.Sources.{Source, FromConf, FromKconfig};
 ghost use Rattle.ks_engine.specs.Synchronised.{SyncDone, SyncSome, IsSyncCall, IsSynced, IsSyncRefused};
 ghost use Rattle.ks_engine.specs.SyncPlan.{Plan};
 ghost use Rattle.ks_engine.specs.Follows.{GoesOn, FollowsSync};
 ghost use Rattle.ks_engine.specs.Views.{IsPlanned, IsPlannedBy, IsWork};
 
 use crate::EngineError;
-use crate::planning::{Planned, plan_config_inputs, read_config_inputs};
+use crate::planning::{Planned, plan_config_inputs, read_config_inputs, read_written_inputs};
 use ks_output::{write_auto, write_header};
-use ks_symbols::{Kconfig, Name};
+use ks_symbols::{Kconfig, Name, Seed};
 use ks_tree::{
     Tree, TreeFault, auto_path, auto_temporary, header_path, header_temporary, replace, touch_all,
 };
@@ -81,10 +81,10 @@ pub(crate) fn carry_out<T: Tree>(
     tree: &mut T,
     planned: Planned,
 ) -> Result<Report, EngineError>
-    ensures synced { T.is_honest → (kconfig : KconfigText) (dotconfig : List ℕ) → IsPlanned (T.files tree.old) kconfig dotconfig planned
-        → IfOk result (IsSynced (T.files tree.old) (T.files tree.new) kconfig dotconfig) }
-    ensures refused { T.is_honest → (kconfig : KconfigText) (dotconfig : List ℕ) → IsPlanned (T.files tree.old) kconfig dotconfig planned
-        → IfErr result (IsSyncRefused (T.files tree.old) (T.files tree.new) kconfig dotconfig) }
+    ensures synced { T.is_honest → (source : Source) → IsPlanned (T.files tree.old) source planned
+        → IfOk result (IsSynced (T.files tree.old) (T.files tree.new) source) }
+    ensures refused { T.is_honest → (source : Source) → IsPlanned (T.files tree.old) source planned
+        → IfErr result (IsSyncRefused (T.files tree.old) (T.files tree.new) source) }
     ensures counted { IsSyncCall T.Tree tree.old tree.new result }
 {
     let work = work_of(alloc, planned)?;
@@ -101,12 +101,32 @@ pub fn sync<T: Tree>(
     dotconfig: &[u8],
 ) -> Result<Report, EngineError>
     // By the files: it did all of it, or it was refused, or given up in one of the named states.
-    ensures synced { T.is_honest → IfOk result (IsSynced (T.files tree.old) (T.files tree.new) kconfig.now dotconfig.now) }
-    ensures refused { T.is_honest → IfErr result (IsSyncRefused (T.files tree.old) (T.files tree.new) kconfig.now dotconfig.now) }
+    ensures synced { T.is_honest → IfOk result (IsSynced (T.files tree.old) (T.files tree.new) (FromKconfig kconfig.now dotconfig.now)) }
+    ensures refused { T.is_honest → IfErr result (IsSyncRefused (T.files tree.old) (T.files tree.new) (FromKconfig kconfig.now dotconfig.now)) }
     // By histories: each one that the files show goes on with this answer, and the files show the next one.
-    ensures follows { GoesOn T.Tree tree.old tree.new (FollowsSync kconfig.now dotconfig.now result) }
+    ensures follows { GoesOn T.Tree tree.old tree.new (FollowsSync (FromKconfig kconfig.now dotconfig.now) result) }
     ensures counted { IsSyncCall T.Tree tree.old tree.new result }
 {
     let planned = plan_config_inputs(alloc, tree, read_config_inputs(alloc, kconfig, dotconfig)?)?;
+    carry_out(alloc, tree, planned)
+}
+
+/// Brings them up to the configuration that conf wrote as an auto.conf and a header, as `sync` does.
+pub fn sync_written<T: Tree>(
+    alloc: Global,
+    tree: &mut T,
+    auto: &[u8],
+    header: &[u8],
+) -> Result<Report, EngineError>
+    // By the files: it did all of it, or it was refused, or given up in one of the named states.
+    ensures synced { T.is_honest → IfOk result (IsSynced (T.files tree.old) (T.files tree.new) (FromConf auto.now header.now)) }
+    ensures refused { T.is_honest → IfErr result (IsSyncRefused (T.files tree.old) (T.files tree.new) (FromConf auto.now header.now)) }
+    // By histories: each one that the files show goes on with this answer, and the files show the next one.
+    ensures follows { GoesOn T.Tree tree.old tree.new (FollowsSync (FromConf auto.now header.now) result) }
+    ensures counted { IsSyncCall T.Tree tree.old tree.new result }
+{
+    let seed = Seed::new(tree.seed());
+    let sources = read_written_inputs(alloc, seed, auto, header)?;
+    let planned = plan_config_inputs(alloc, tree, sources)?;
     carry_out(alloc, tree, planned)
 }

@@ -4,7 +4,7 @@ ghost use Rattle.ks_engine.specs.Caches.{IsCacheOf};
 use crate::golden::*;
 use crate::steps::{Step, check_text, play, text, verdict_text};
 use ks_engine::{Cache, Cause, EngineError, Explanation, Query, explain, query_object};
-use ks_fixdep::Seed;
+use ks_symbols::Seed;
 use ks_tree::{MemoryTree, Tree};
 use std::alloc::{AllocError, Global};
 use std::process::Abort;

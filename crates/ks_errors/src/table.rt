@@ -128,6 +128,62 @@ pub const BAD_AUTO: Row = (
     "restore `include/config` and all `.cmd` files from one copy; or remove them, synchronise, and build everything",
 );
 
+pub const BAD_HEADING: Row = (
+    "12",
+    "BadHeading",
+    "the auto.conf and the header that conf wrote don't begin with conf's four lines and one title",
+    "`confstamp sync --written .config autoconf.h`",
+    "pass conf's auto.conf first, and then its header",
+);
+
+pub const NOT_AN_ENTRY: Row = (
+    "13",
+    "NotAnEntry",
+    "a line of the auto.conf that conf wrote gives no name a value, or doesn't end in a line feed",
+    "`# CONFIG_A is not set`",
+    "let conf write both files again",
+);
+
+pub const MODULE_SYMBOL: Row = (
+    "14",
+    "ModuleSymbol",
+    "a name in the auto.conf that conf wrote ends in `_MODULE`, as the macro of another symbol with the value m",
+    "`CONFIG_A_MODULE=y`",
+    "rename the symbol, or synchronise with a Kconfig and `.config`",
+);
+
+pub const UNEXPLAINED: Row = (
+    "15",
+    "Unexplained",
+    "a line of the header that conf wrote defines something else than the line of that number in auto.conf says",
+    "`CONFIG_A=y` beside `#define CONFIG_A 2`",
+    "let conf write both files again; give an int or hex without a value a default",
+);
+
+pub const UNDEFINED: Row = (
+    "16",
+    "Undefined",
+    "the header that conf wrote ends before this line of auto.conf",
+    "`CONFIG_A=y` beside no line",
+    "let conf write both files again",
+);
+
+pub const UNDECLARED: Row = (
+    "17",
+    "Undeclared",
+    "the auto.conf that conf wrote ends before this line of the header",
+    "no line beside `#define CONFIG_A 1`",
+    "let conf write both files again",
+);
+
+pub const TWICE: Row = (
+    "18",
+    "Twice",
+    "an earlier line of the auto.conf that conf wrote gives the name of this one",
+    "`CONFIG_A=y`, `CONFIG_A=y`",
+    "let conf write both files again",
+);
+
 pub const NO_TARGET: Row = (
     "20",
     "NoTarget",
@@ -229,6 +285,13 @@ pub const ERRORS: &[Row] = &[
     TOO_LARGE,
     OUT_OF_MEMORY,
     BAD_AUTO,
+    BAD_HEADING,
+    NOT_AN_ENTRY,
+    MODULE_SYMBOL,
+    UNEXPLAINED,
+    UNDEFINED,
+    UNDECLARED,
+    TWICE,
     NO_TARGET,
     BAD_PATH,
     BAD_COMMAND,

@@ -5,6 +5,8 @@ use Rattle.std.specs.List.{take_while}
 use Rattle.ks_errors.specs.Errors.{Texts, error_of, hint, seen, title_of}
 use Rattle.ks_symbols.specs.declared.error.SourceError.{SourceError}
 use Rattle.ks_symbols.specs.declared.error.SourceError.TheVariants as source
+use Rattle.ks_output.specs.declared.written.WrittenError.{WrittenError}
+use Rattle.ks_output.specs.declared.written.WrittenError.TheVariants as written
 use Rattle.ks_engine.specs.declared.error.EngineError.{EngineError}
 use Rattle.ks_engine.specs.declared.error.EngineError.TheVariants as engine
 use Rattle.ks_requests.specs.declared.refusal.Refusal.{Refusal}
@@ -29,8 +31,20 @@ source_text (source.BadValue line) = counted (codes "8 BadValue line ") line
 source_text source.TooLarge = codes "9 TooLarge"
 source_text source.OutOfMemory = codes "10 OutOfMemory"
 
+unfoldable pub written_text : WrittenError → List ℕ
+written_text written.TooLarge = codes "9 TooLarge"
+written_text written.OutOfMemory = codes "10 OutOfMemory"
+written_text written.BadHeading = codes "12 BadHeading"
+written_text (written.NotAnEntry line) = counted (codes "13 NotAnEntry line ") line
+written_text (written.ModuleSymbol line) = counted (codes "14 ModuleSymbol line ") line
+written_text (written.Unexplained line) = counted (codes "15 Unexplained line ") line
+written_text (written.Undefined line) = counted (codes "16 Undefined line ") line
+written_text (written.Undeclared line) = counted (codes "17 Undeclared line ") line
+written_text (written.Twice line) = counted (codes "18 Twice line ") line
+
 unfoldable pub fault_text : EngineError → List ℕ
 fault_text (engine.Source e) = source_text e
+fault_text (engine.Written e) = written_text e
 fault_text engine.TooLarge = codes "9 TooLarge"
 fault_text engine.OutOfMemory = codes "10 OutOfMemory"
 fault_text (engine.BadAuto line) = counted (codes "11 BadAuto line ") line

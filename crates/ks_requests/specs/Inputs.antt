@@ -1,4 +1,4 @@
--- The files that words name: all words first, then the files in their order.
+-- The files that arguments name: all arguments first, then the files in their order.
 use Rattle.std.specs.Prelude.{ℕ, Bool, List, Option, Some, None, Result, Ok, Err, if◌then◌else◌}
 use Rattle.std.specs.List.{list_all}
 use Rattle.ks_symbols.specs.Names.{is_path}

@@ -1,7 +1,7 @@
 -- What is asked of the program, without where its arguments lie.
 use Rattle.std.specs.Prelude.{◌≡◌, ℕ, List, Option, option_map, string_bytes, ⊤}
 use Rattle.ks_requests.specs.declared.request.Request.{Request}
-use Rattle.ks_requests.specs.declared.request.Request.TheVariants.{Backdate, Batch, Cost, Depfile, Diff, Fixdep, Impact, Outdated, Preview, Record, Stale, Sync, Users, Why}
+use Rattle.ks_requests.specs.declared.request.Request.TheVariants.{Backdate, Batch, Cost, Depfile, Diff, Fixdep, Impact, Outdated, Preview, Record, Stale, Sync, SyncWritten, Users, Why}
 use Rattle.ks_requests.specs.declared.report_style.ReportStyle.TheVariants.{LinesAndStatus, Status}
 
 -- the request is a preview of these two files, over this old auto.conf if there is one
@@ -32,6 +32,7 @@ IsNoQuery _ = ⊤
 -- a request of one step: it neither answers object by object nor runs a script
 abbrev pub IsOneStep : Request → Type 0
 IsOneStep (Sync kconfig dotconfig stamps) = ⊤
+IsOneStep (SyncWritten auto header) = ⊤
 IsOneStep (Preview kconfig dotconfig old) = ⊤
 IsOneStep (Diff kconfig dotconfig report_style) = ⊤
 IsOneStep (Fixdep depfile target command) = ⊤

@@ -4,16 +4,18 @@ use Rattle.std.specs.Prelude.{option_and_then, codes, map, take, slice_get, stri
 use Rattle.ks_symbols.specs.Lines.{lines}
 use Rattle.ks_symbols.specs.declared.error.SourceError.{SourceError}
 use Rattle.ks_symbols.specs.declared.error.SourceError.TheVariants as source
+use Rattle.ks_output.specs.declared.written.WrittenError.{WrittenError}
+use Rattle.ks_output.specs.declared.written.WrittenError.TheVariants as written
 use Rattle.ks_fixdep.specs.Tokens.{tokens}
 use Rattle.ks_tree.specs.Files.{Files, IsTooLarge, content}
 use Rattle.ks_tree.specs.declared.fault.TreeFault.{TreeFault}
 use Rattle.ks_tree.specs.declared.fault.TreeFault.TheVariants.{TooLarge}
 use Rattle.ks_tree.specs.Paths.{auto_path}
-use Rattle.ks_engine.specs.declared.error.EngineError.TheVariants.{BadAuto, BadPath, NoTarget, Source}
+use Rattle.ks_engine.specs.declared.error.EngineError.TheVariants.{BadAuto, BadPath, NoTarget, Source, Written}
 use Rattle.ks_requests.specs.declared.refusal.Refusal.{Refusal}
 use Rattle.ks_requests.specs.declared.refusal.Refusal.TheVariants.{Engine, BadScript}
 use Rattle.ks_requests.specs.declared.request.Request.{Request}
-use Rattle.ks_requests.specs.declared.request.Request.TheVariants.{Backdate, Batch, Cost, Depfile, Diff, Fixdep, Impact, Outdated, Preview, Record, Stale, Sync, Users, Why}
+use Rattle.ks_requests.specs.declared.request.Request.TheVariants.{Backdate, Batch, Cost, Depfile, Diff, Fixdep, Impact, Outdated, Preview, Record, Stale, Sync, SyncWritten, Users, Why}
 use Rattle.ks_requests.specs.declared.sites.Part.{Part}
 use Rattle.ks_requests.specs.declared.sites.Part.TheVariants.{Whole, Line, Token}
 use Rattle.ks_requests.specs.Endings.{Ending}
@@ -35,6 +37,23 @@ source_site kconfig dotconfig (source.BadTitle line) = Some (kconfig, Line line)
 source_site kconfig dotconfig (source.NotAConfigLine line) = Some (dotconfig, Line line)
 source_site kconfig dotconfig (source.BadValue line) = Some (dotconfig, Line line)
 source_site kconfig dotconfig _ = None
+
+-- of what conf wrote: the header where that line is the wrong one, else auto.conf
+abbrev pub written_site : List ℕ → List ℕ → WrittenError → Option Site
+written_site auto header written.BadHeading = Some (auto, Whole)
+written_site auto header (written.NotAnEntry line) = Some (auto, Line line)
+written_site auto header (written.ModuleSymbol line) = Some (auto, Line line)
+written_site auto header (written.Unexplained line) = Some (header, Line line)
+written_site auto header (written.Undefined line) = Some (auto, Line line)
+written_site auto header (written.Undeclared line) = Some (header, Line line)
+written_site auto header (written.Twice line) = Some (auto, Line line)
+written_site auto header _ = None
+
+-- .. or of the tree's auto.conf
+abbrev pub pair_site : List ℕ → List ℕ → Refusal → Option Site
+pair_site auto header (Engine (Written e)) = written_site auto header e
+pair_site auto header (Engine (BadAuto line)) = Some (auto_path, Line line)
+pair_site auto header _ = None
 
 -- of a Kconfig, a `.config` and an auto.conf
 abbrev pub config_site : List ℕ → List ℕ → Option (List ℕ) → Refusal → Option Site
@@ -59,6 +78,7 @@ script_site script _ = None
 -- A word that is refused, a missing file and a stamp are named by the refusal itself, and objects by their lines.
 abbrev pub site_of : Request → Refusal → Option Site
 site_of (Sync k d stamps) refusal = config_site (string_bytes k) (string_bytes d) (Some auto_path) refusal
+site_of (SyncWritten a h) refusal = pair_site (string_bytes a) (string_bytes h) refusal
 site_of (Preview k d o) refusal = config_site (string_bytes k) (string_bytes d) (option_map (λ path. string_bytes path) o) refusal
 site_of (Diff k d report_style) refusal = config_site (string_bytes k) (string_bytes d) (Some auto_path) refusal
 site_of (Impact k d targets format) refusal = config_site (string_bytes k) (string_bytes d) (Some auto_path) refusal

@@ -7,7 +7,7 @@ use Rattle.ks_requests.specs.Faults.{counted}
 abbrev pub symbol_of : List ℕ → List ℕ
 symbol_of word = if starts_with nat_eq word (codes "CONFIG_") then drop 7 word else word
 
--- .. of these words
+-- .. of these arguments
 abbrev pub symbols_of : {Y : Type 0} → List (String Y) → List (List ℕ)
 symbols_of args = map (λ w. symbol_of (string_bytes w)) args
 

@@ -3,17 +3,19 @@
 //! A text is a number, a name and the place. It is made without taking memory, so that want of memory is reported too.
 ghost use Rattle.std.specs.Prelude.{◌≡◌, ◌++◌, OnOk, Some, codes};
 ghost use Rattle.ks_errors.specs.Errors.{seen, texts_of, title_of};
-ghost use Rattle.ks_requests.specs.Faults.{counted, fault_text, known_error, refusal_text, source_text, whole_text};
+ghost use Rattle.ks_requests.specs.Faults.{counted, fault_text, known_error, refusal_text, source_text, whole_text, written_text};
 
 use crate::refusal::Refusal;
 use itoa::Buffer;
 use ks_engine::EngineError;
 use ks_errors::{
-    BAD_AUTO, BAD_COMMAND, BAD_COMMAND_FILE, BAD_NAME, BAD_PATH, BAD_SCRIPT, BAD_STAMP, BAD_TITLE,
-    BAD_VALUE, DEVICE, GENERATION_FULL, KnownError, MISSING_FILE, MODULE_NAME, NEVER_SYNCED,
-    NO_TARGET, NO_TYPE, NOT_A_CONFIG_LINE, NOT_BARE, OUT_OF_MEMORY, OUTPUT, Row, TOO_LARGE,
-    TYPE_CLASH,
+    BAD_AUTO, BAD_COMMAND, BAD_COMMAND_FILE, BAD_HEADING, BAD_NAME, BAD_PATH, BAD_SCRIPT,
+    BAD_STAMP, BAD_TITLE, BAD_VALUE, DEVICE, GENERATION_FULL, KnownError, MISSING_FILE,
+    MODULE_NAME, MODULE_SYMBOL, NEVER_SYNCED, NO_TARGET, NO_TYPE, NOT_A_CONFIG_LINE, NOT_AN_ENTRY,
+    NOT_BARE, OUT_OF_MEMORY, OUTPUT, Row, TOO_LARGE, TWICE, TYPE_CLASH, UNDECLARED, UNDEFINED,
+    UNEXPLAINED,
 };
+use ks_output::WrittenError;
 use ks_symbols::SourceError;
 use std::alloc::AllocError;
 
@@ -89,6 +91,24 @@ fn source_fault<'a>(error: &SourceError) -> FaultText<'a>
     }
 }
 
+#[tactic(auto, unfolding(crate::specs::Faults::written_text))]
+fn written_fault<'a>(error: &WrittenError) -> FaultText<'a>
+    ensures text { whole_text result ≡ written_text error.now }
+    ensures error { known_error (written_text error.now) ≡ Some (seen result.error) }
+{
+    match error {
+        WrittenError::TooLarge => plain(&TOO_LARGE),
+        WrittenError::OutOfMemory => plain(&OUT_OF_MEMORY),
+        WrittenError::BadHeading => plain(&BAD_HEADING),
+        WrittenError::NotAnEntry(line) => numbered(&NOT_AN_ENTRY, " line ", *line),
+        WrittenError::ModuleSymbol(line) => numbered(&MODULE_SYMBOL, " line ", *line),
+        WrittenError::Unexplained(line) => numbered(&UNEXPLAINED, " line ", *line),
+        WrittenError::Undefined(line) => numbered(&UNDEFINED, " line ", *line),
+        WrittenError::Undeclared(line) => numbered(&UNDECLARED, " line ", *line),
+        WrittenError::Twice(line) => numbered(&TWICE, " line ", *line),
+    }
+}
+
 /// The text of a refusal of the engine, of its parts, or of a word or a file.
 #[tactic(auto, unfolding(crate::specs::Faults::fault_text))]
 fn engine_fault(error: &EngineError) -> FaultText<'_>
@@ -97,6 +117,7 @@ fn engine_fault(error: &EngineError) -> FaultText<'_>
 {
     match error {
         EngineError::Source(error) => source_fault(error),
+        EngineError::Written(error) => written_fault(error),
         EngineError::TooLarge => plain(&TOO_LARGE),
         EngineError::OutOfMemory => plain(&OUT_OF_MEMORY),
         EngineError::BadAuto(line) => numbered(&BAD_AUTO, " line ", *line),

@@ -1,4 +1,4 @@
-//! What the program `confstamp` is asked, and how it answers: requests, scripts, the files that words name, and the texts
+//! What the program `confstamp` is asked, and how it answers: requests, scripts, the files that arguments name, and the texts
 //! of answers and refusals, over any tree of files and any two writers. What a request does is for the crate above.
 #![tactic(auto)]
 

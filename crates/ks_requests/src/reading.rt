@@ -1,7 +1,7 @@
 //! Trees of which a contract can say what was read. A command that read one file more than its arguments name would be refused for
 //! a file that is none of its business, and one that read a file twice could meet two texts under one name.
 //!
-//! So what reads the files of words is generic over any such tree: what it knows of a reading comes of one call alone.
+//! So what reads the files of arguments is generic over any such tree: what it knows of a reading comes of one call alone.
 ghost use Rattle.std.specs.Prelude.{◌≡◌, ◌≤◌, ℕ, List, length, IfOk, IsErrOf, OnOk, Some, option_map, ⊤};
 ghost use Rattle.ks_symbols.specs.Lines.{max_bytes};
 ghost use Rattle.ks_tree.specs.declared.fault.TreeFault.{TreeFault};

@@ -2,7 +2,7 @@
 use crate::report_style::ReportStyle;
 use ks_engine::BackdateScope;
 
-/// The objects that a question is about: those among the words, and after them those of a file, one a line.
+/// The objects that a question is about: those among the arguments, and after them those of a file, one a line.
 #[derive(Debug, Drop)]
 pub struct Targets {
     pub args: Vec<String>,
@@ -36,7 +36,7 @@ pub enum DepfileAfter {
     Removed,
 }
 
-/// One command of the program, with its words in order.
+/// One command of the program, with its arguments in order.
 #[derive(Debug, Drop)]
 pub enum Request {
     /// Bring the tree to a configuration.
@@ -44,6 +44,11 @@ pub enum Request {
         kconfig: String,
         dotconfig: String,
         stamps: Stamps,
+    },
+    /// Bring the tree to the configuration that conf wrote.
+    SyncWritten {
+        auto: String,
+        header: String,
     },
     /// What a synchronisation would do, over an old auto.conf or as the first one.
     Preview {

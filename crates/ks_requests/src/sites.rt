@@ -6,7 +6,7 @@ ghost use Rattle.std.specs.Prelude.{◌≡◌, ◌-◌, ℕ, List, Some, IfOk, I
 ghost use Rattle.ks_symbols.specs.Lines.{lines};
 ghost use Rattle.ks_tree.specs.Files.{IsTooLarge, content};
 ghost use Rattle.ks_tree.specs.Frames.{Reads};
-ghost use Rattle.ks_requests.specs.Sites.{config_site, depfile_site, excerpt, excerpt_at, excerpt_in, part_text, record_site, script_site, site_of, source_site, visible};
+ghost use Rattle.ks_requests.specs.Sites.{config_site, depfile_site, excerpt, excerpt_at, excerpt_in, pair_site, part_text, record_site, script_site, site_of, source_site, visible, written_site};
 ghost use Rattle.ks_requests.specs.declared.sites.Part.TheVariants.{Line};
 ghost use Rattle.ks_requests.specs.Views.{seen_site};
 
@@ -15,6 +15,7 @@ use crate::request::Request;
 use bstr::ByteSlice;
 use ks_engine::EngineError;
 use ks_fixdep::token_at;
+use ks_output::WrittenError;
 use ks_symbols::SourceError;
 use ks_tree::{Tree, TreeFault, auto_path};
 use std::alloc::{AllocError, Global};
@@ -33,7 +34,7 @@ pub enum Part {
     Token(u64),
 }
 
-/// A place in a file: its path, as the words of the request have it, or that of auto.conf, and the part.
+/// A place in a file: its path, as the arguments of the request have it, or that of auto.conf, and the part.
 #[derive(Drop)]
 pub struct Site<'a> {
     pub path: &'a [u8],
@@ -62,6 +63,35 @@ fn source_site<'a>(kconfig: &'a [u8], dotconfig: &'a [u8], error: &SourceError) 
             dotconfig, *line,
         ),
         SourceError::TooLarge | SourceError::OutOfMemory => None,
+    }
+}
+
+/// The line of the auto.conf or the header that conf wrote.
+fn written_site<'a>(auto: &'a [u8], header: &'a [u8], error: &WrittenError) -> Option<Site<'a>>
+    ensures { option_map seen_site result ≡ written_site auto.now header.now error.now }
+{
+    match error {
+        WrittenError::BadHeading => {
+            let (path, part) = (auto, Part::Whole);
+            Some(Site { path, part })
+        }
+        WrittenError::NotAnEntry(line)
+        | WrittenError::ModuleSymbol(line)
+        | WrittenError::Undefined(line)
+        | WrittenError::Twice(line) => at_line(auto, *line),
+        WrittenError::Unexplained(line) | WrittenError::Undeclared(line) => at_line(header, *line),
+        WrittenError::TooLarge | WrittenError::OutOfMemory => None,
+    }
+}
+
+/// The line of what conf wrote, or of the tree's auto.conf.
+fn pair_site<'a>(auto: &'a [u8], header: &'a [u8], refusal: &Refusal) -> Option<Site<'a>>
+    ensures { option_map seen_site result ≡ pair_site auto.now header.now refusal.now }
+{
+    match refusal {
+        Refusal::Engine(EngineError::Written(error)) => written_site(auto, header, error),
+        Refusal::Engine(EngineError::BadAuto(line)) => at_line(auto_path(), *line),
+        _ => None,
     }
 }
 
@@ -156,6 +186,11 @@ pub fn site_of<'a>(request: &'a Request, refusal: &Refusal) -> Option<Site<'a>>
             kconfig.as_bytes(),
             dotconfig.as_bytes(),
             Some(auto_path()),
+            refusal,
+        ),
+        Request::SyncWritten { auto, header } => pair_site(
+            auto.as_bytes(),
+            header.as_bytes(),
             refusal,
         ),
         Request::Preview {

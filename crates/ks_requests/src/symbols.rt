@@ -18,7 +18,7 @@ fn symbol_of(word: &[u8]) -> &[u8]
     word.strip_prefix(b"CONFIG_").unwrap_or(word)
 }
 
-/// The symbols that words ask for, in their order. They borrow the words.
+/// The symbols that arguments ask for, in their order. They borrow the arguments.
 pub fn symbols_of<'a>(alloc: Global, args: &'a [String]) -> Result<Vec<&'a [u8]>, AllocError>
     ensures { IfOk result (λ symbols. map (λ s. s.now) symbols.items ≡ symbols_of args.now) }
 {

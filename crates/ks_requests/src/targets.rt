@@ -1,4 +1,4 @@
-//! The objects that a question is about: those among its words, and after them those that a file holds, one a line.
+//! The objects that a question is about: those among its arguments, and after them those that a file holds, one a line.
 //!
 //! A target of the file is a piece of its text and is not copied, since there can be as many as a kernel has objects. A line
 //! that is no legal target is one all the same: it is answered in its place, as the word would be.
@@ -16,7 +16,7 @@ use crate::request::Targets;
 use bstr::ByteSlice;
 use indexmap::IndexSet;
 use ks_engine::EngineError;
-use ks_fixdep::Seed;
+use ks_symbols::Seed;
 use std::alloc::{AllocError, Global};
 
 /// Appends the lines of a text that are not empty.
@@ -31,7 +31,7 @@ fn push_lines<'a>(text: &'a [u8], targets: &mut Vec<&'a [u8]>) -> Result<(), All
     Ok(())
 }
 
-/// Appends the words.
+/// Appends the arguments.
 fn push_args<'a>(args: &'a [String], targets: &mut Vec<&'a [u8]>) -> Result<(), AllocError>
     ensures { OnOk result (map (λ t. t.now) targets.new.items ≡ map (λ t. t.now) targets.old.items ++ map (λ w. string_bytes w) args.now) }
 {
@@ -57,7 +57,7 @@ pub fn read_targets<T: Reading>(
     read_named(alloc, tree, borrowed_path(&targets.from))
 }
 
-/// All targets, in their order: the words, and then the lines of the text, without their LF or CR LF. They borrow both. Repeats
+/// All targets, in their order: the arguments, and then the lines of the text, without their LF or CR LF. They borrow both. Repeats
 /// stay, and no target is looked at: one that is not legal is refused where it is asked about.
 pub fn all_targets<'a>(
     alloc: Global,

@@ -4,6 +4,10 @@ pub returns-in-Sync-clause-ends : goal.returns-in-Sync-clause-ends
 returns-in-Sync-clause-ends g c =
     rw (c.in-Sync.is, ← c.as_bytes-kconfig.ensures.value, ← c.as_bytes-dotconfig.ensures.value) c.synchronise.ensures.files
 
+pub returns-in-SyncWritten-clause-ends : goal.returns-in-SyncWritten-clause-ends
+returns-in-SyncWritten-clause-ends g c =
+    rw (c.in-SyncWritten.is, ← c.as_bytes.ensures.value, ← c.as_bytes-in-SyncWritten.ensures.value) c.synchronise_written.ensures.files
+
 pub returns-in-Diff-clause-ends : goal.returns-in-Diff-clause-ends
 returns-in-Diff-clause-ends g c =
     rw (c.in-Diff.is, ← c.as_bytes-kconfig-in-Diff.ensures.value, ← c.as_bytes-dotconfig-in-Diff.ensures.value)

@@ -1,4 +1,5 @@
 use Rattle.ks_commands.proofs.Prelude.{inl, inr, Err, ap, ◌≡◌, ◌∙◌, ◌≤◌, arith, err_from_is_err_and, IsImpactOf, read_in, seen_texts, state, rules}
+use Rattle.ks_engine.specs.Sources.{FromKconfig}
 use Rattle.ks_commands.proofs.Walks.{impact_asked}
 use Rattle.ks_commands.proofs.queries.query_predicted.Goals as goal
 
@@ -31,7 +32,7 @@ returns-clause-reported g c =
     = λ honest. predicted.unchanged honest ∙ there.unchanged honest in
     let later : g.T.Tree.failures c.args.tree.now ≤ g.T.Tree.failures c.of.new.tree
     = omega (arith, there.counted.later, predicted.counted.later) in
-    let reported_of : g.T.Tree.is_honest → IsImpactOf files (read_in c.args.dialect texts.kconfig) texts.dotconfig impact
+    let reported_of : g.T.Tree.is_honest → IsImpactOf files (FromKconfig (read_in c.args.dialect texts.kconfig) texts.dotconfig) impact
     = λ honest. rw (← c.deref.ensures.value, ← c.new-kconfig.ensures, ← c.deref-2.ensures.value, ← there.unchanged honest) (c.in_ok-impact.ensures.reported honest) in
     inr (
       texts,

@@ -1,4 +1,4 @@
-use Rattle.ks_engine.proofs.Prelude.{inl, inr, ◌∙◌, ap, is_some, subst, sym, take, Ok, Err, err_from_is_err_and, IsSynced, MakesStamps, rules}
+use Rattle.ks_engine.proofs.Prelude.{FromKconfig, inl, inr, ◌∙◌, ap, is_some, subst, sym, take, Ok, Err, err_from_is_err_and, IsSynced, MakesStamps, rules}
 use Rattle.ks_engine.specs.AllStamps.{AreDeclared}
 use Rattle.ks_engine.proofs.Reading.{given_fault}
 use Rattle.ks_engine.proofs.Following.{unwritten}
@@ -10,10 +10,10 @@ use Rattle.ks_engine.proofs.all_stamps.sync_all_stamps.Goals.{After-make_stamps}
 
 -- what was done before the stamps is a synchronisation
 synced : (g : given.Over) (c : After-make_stamps g) → g.T.Tree.is_honest
-    → IsSynced (g.T.Tree.files c.args.tree.now) (g.T.Tree.files c.carry_out.new.tree) c.args.kconfig.now c.args.dotconfig.now c.in_ok-report.report
+    → IsSynced (g.T.Tree.files c.args.tree.now) (g.T.Tree.files c.carry_out.new.tree) (FromKconfig c.args.kconfig.now c.args.dotconfig.now) c.in_ok-report.report
 synced g c honest =
-    (rw (c.plan_config_inputs.ensures.reads.unchanged honest) at (c.in_ok-report.ensures.synced honest c.args.kconfig.now c.args.dotconfig.now))
-    (c.in_ok-planned.ensures.planned honest _ _ c.in_ok-parsed.ensures.read)
+    (rw (c.plan_config_inputs.ensures.reads.unchanged honest) at (c.in_ok-report.ensures.synced honest (FromKconfig c.args.kconfig.now c.args.dotconfig.now)))
+    (c.in_ok-planned.ensures.planned honest (FromKconfig c.args.kconfig.now c.args.dotconfig.now) c.in_ok-parsed.ensures.read)
 
 -- the names are those that the Kconfig declares
 all_declared : (g : given.Over) (c : After-make_stamps g) → AreDeclared c.args.kconfig.now c.in_ok-names.names.items
@@ -28,26 +28,26 @@ returns-in_err-parsed-clause-follows g c = search (rules, err_from_is_err_and)
 pub returns-in_err-planned-clause-refused : goal.returns-in_err-planned-clause-refused
 returns-in_err-planned-clause-refused g c = λ honest.
     let p = err_from_is_err_and c.from_residual-in_err-planned.result c.from_residual-in_err-planned.ensures.1 in
-    rw (p.1, p.2) (inl (unwritten _ _ _ _ _ (c.plan_config_inputs.ensures.reads.unchanged honest)
-    (c.in_err-planned.ensures.refused honest _ _ c.in_ok-parsed.ensures.read)))
+    rw (p.1, p.2) (inl (unwritten _ _ (FromKconfig c.args.kconfig.now c.args.dotconfig.now) _ (c.plan_config_inputs.ensures.reads.unchanged honest)
+    (c.in_err-planned.ensures.refused honest (FromKconfig c.args.kconfig.now c.args.dotconfig.now) c.in_ok-parsed.ensures.read)))
 
 pub returns-in_err-planned-clause-follows : goal.returns-in_err-planned-clause-follows
 returns-in_err-planned-clause-follows g c = λ honest h shows.
     let p = err_from_is_err_and c.from_residual-in_err-planned.result c.from_residual-in_err-planned.ensures.1 in
-    rw (p.1, p.2) (refused_follows _ _ _ _ h _ _ _ shows (unwritten _ _ _ _ _ (c.plan_config_inputs.ensures.reads.unchanged honest)
-    (c.in_err-planned.ensures.refused honest _ _ c.in_ok-parsed.ensures.read)))
+    rw (p.1, p.2) (refused_follows _ _ _ _ h _ _ _ shows (unwritten _ _ (FromKconfig c.args.kconfig.now c.args.dotconfig.now) _ (c.plan_config_inputs.ensures.reads.unchanged honest)
+    (c.in_err-planned.ensures.refused honest (FromKconfig c.args.kconfig.now c.args.dotconfig.now) c.in_ok-parsed.ensures.read)))
 
 pub returns-in_err-report-clause-refused : goal.returns-in_err-report-clause-refused
 returns-in_err-report-clause-refused g c = λ honest.
     let p = err_from_is_err_and c.from_residual-in_err-report.result c.from_residual-in_err-report.ensures.1 in
-    let refused = rw (c.plan_config_inputs.ensures.reads.unchanged honest) at (c.in_err-report.ensures.refused honest c.args.kconfig.now c.args.dotconfig.now) in
-    rw (p.1, p.2) (inl (refused (c.in_ok-planned.ensures.planned honest _ _ c.in_ok-parsed.ensures.read)))
+    let refused = rw (c.plan_config_inputs.ensures.reads.unchanged honest) at (c.in_err-report.ensures.refused honest (FromKconfig c.args.kconfig.now c.args.dotconfig.now)) in
+    rw (p.1, p.2) (inl (refused (c.in_ok-planned.ensures.planned honest (FromKconfig c.args.kconfig.now c.args.dotconfig.now) c.in_ok-parsed.ensures.read)))
 
 pub returns-in_err-report-clause-follows : goal.returns-in_err-report-clause-follows
 returns-in_err-report-clause-follows g c = λ honest h shows.
     let p = err_from_is_err_and c.from_residual-in_err-report.result c.from_residual-in_err-report.ensures.1 in
-    let refused = rw (c.plan_config_inputs.ensures.reads.unchanged honest) at (c.in_err-report.ensures.refused honest c.args.kconfig.now c.args.dotconfig.now) in
-    rw (p.1, p.2) (refused_follows _ _ _ _ h _ _ _ shows (refused (c.in_ok-planned.ensures.planned honest _ _ c.in_ok-parsed.ensures.read)))
+    let refused = rw (c.plan_config_inputs.ensures.reads.unchanged honest) at (c.in_err-report.ensures.refused honest (FromKconfig c.args.kconfig.now c.args.dotconfig.now)) in
+    rw (p.1, p.2) (refused_follows _ _ _ _ h _ _ _ shows (refused (c.in_ok-planned.ensures.planned honest (FromKconfig c.args.kconfig.now c.args.dotconfig.now) c.in_ok-parsed.ensures.read)))
 
 pub returns-in_err-make_stamps-clause-refused : goal.returns-in_err-make_stamps-clause-refused
 returns-in_err-make_stamps-clause-refused g c = λ honest.

@@ -3,7 +3,7 @@ use Rattle.ks_engine.proofs.Reading.{given_fault}
 use Rattle.ks_engine.proofs.synchronise.carry_out.Goals as goal
 
 pub returns-in_err-write_all-clause-refused : goal.returns-in_err-write_all-clause-refused
-returns-in_err-write_all-clause-refused g c = λ honest kconfig dotconfig planned.
+returns-in_err-write_all-clause-refused g c = λ honest source planned.
     let p = err_from_is_err_and c.from_residual-in_err-write_all.result c.from_residual-in_err-write_all.ensures.1 in
     let work = c.in_ok-work.ensures planned.0 planned.2 in
     let some = c.in_err-write_all.ensures.some honest planned.0 work in
@@ -13,7 +13,7 @@ returns-in_err-write_all-clause-refused g c = λ honest kconfig dotconfig planne
     ))
 
 pub returns-clause-synced : goal.returns-clause-synced
-returns-clause-synced g c = λ honest kconfig dotconfig planned.
+returns-clause-synced g c = λ honest source planned.
     let work = c.in_ok-work.ensures planned.0 planned.2 in
     record {
       plan = planned.0;

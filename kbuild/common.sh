@@ -148,6 +148,12 @@ kconfigs() {
     ' "$read_kconfigs"
 }
 
+# bare_of_config: the bare Kconfig of .config as it is now.
+bare_of_config() {
+    # shellcheck disable=SC2046 # the list is words, and Kbuild takes no path with a blank
+    "$here/../tools/bare-kconfig" ${dialect:+--dialect "$dialect"} "$config" $(kconfigs) || [ "$?" = 1 ]
+}
+
 # declared: the names that the project's Kconfig files declare, in order, each once. Of a file that can't be read nobody knows them.
 declared() {
     kconfigs > "$tmpdir/kconfigs" && tr '\n' '\0' < "$tmpdir/kconfigs" |
@@ -360,7 +366,8 @@ difference_of_config() {
         echo 'there is none'
     elif ! grep -qsxFf "$generation_file" "$auto" || ! cmp -s "$config" "$synced_config"; then
         {
-            "$confstamp" ${dialect:+--dialect "$dialect"} diff "$bare" "$config" 2>&1 || echo "confstamp diff ended with $?"
+            bare_of_config > "$tmpdir/bare" 2> "$tmpdir/messages" || cat "$tmpdir/messages"
+            "$confstamp" ${dialect:+--dialect "$dialect"} diff "$tmpdir/bare" "$config" 2>&1 || echo "confstamp diff ended with $?"
         } | awk '
             / warning: / { next }
             $1 == "unknown" { $0 = $2 " is new" }

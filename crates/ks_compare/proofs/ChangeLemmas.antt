@@ -1,10 +1,16 @@
 -- Laws of the changes.
-use Rattle.ks_compare.proofs.Prelude.{map-id, order, ◌≡◌, ◌↔◌, ℕ, true, false, List, [], ◌∷◌, Option, Some, option_map, refl, sym, ap, ◌∙◌, cases_Bool, false≢true, eq-eqb, eqb-true, and_parts, not-false, is_eq, nat_list_cmp_total, bytes_decides, Less, Equal, Greater, IsStrictlySortedBy, Class, class_again, is_in, name_of_symbol, tied, texts_are_of_entries, alike_is_defined_alike, Kind, compared, same_class, differ, ChangesExist, ChangesAreOne, ChangesAreLegal, NothingChanges, UnchangedIsKept, UnchangedIsDefinedAlike, rules, arith, or_from, or_left, is_eq-slice_cmp}
+use Rattle.ks_compare.proofs.Prelude.{about, differs, as_companion, companion_differs, is_name, IsTrue, Configuration, Texts, entry_differs, FirstChangesAreNames, ap₂, ◌++◌, map-id, order, ◌≡◌, ◌↔◌, ℕ, true, false, List, [], ◌∷◌, Option, Some, option_map, refl, sym, ap, ◌∙◌, cases_Bool, false≢true, eq-eqb, eqb-true, and_parts, not-false, is_eq, nat_list_cmp_total, bytes_decides, Less, Equal, Greater, IsStrictlySortedBy, Class, class_again, is_in, name_of_symbol, tied, texts_are_of_entries, alike_is_defined_alike, Kind, compared, same_class, differ, ChangesExist, ChangesAreOne, ChangesAreLegal, NothingChanges, UnchangedIsKept, UnchangedIsDefinedAlike, rules, arith, or_from, or_left, is_eq-slice_cmp}
+use Rattle.ks_output.specs.OldConfig.{HasNames, texts_of}
+use Rattle.ks_symbols.proofs.Prelude.{IsConfiguration, ⊎_elim, or_cases, or_parts, not, not-true, length, module_end}
+use Rattle.std.specs.Prelude.{◌==◌, ◌&&◌, ◌||◌, Bool, None, cond, is_some}
 use Rattle.std.specs.FinMap as map
-use Rattle.ks_compare.proofs.Merge.{Above, merged_changes, turned}
+use Rattle.ks_compare.proofs.Merge.{Above, merged_entries, turned}
+use Rattle.ks_compare.proofs.BaseLemmas.{are_with_bases, base_back, changes_by, differs_so, legal_base}
 
 pub changes_exist : ChangesExist
-changes_exist old new = (_, merged_changes (λ e. e) (λ y. y) old new (map.entries old) (map.entries new) (map-id _) (map-id _))
+changes_exist old new =
+    let entries = merged_entries (λ e. e) (λ y. y) old new (map.entries old) (map.entries new) (map-id _) (map-id _) in
+    (_, changes_by old new _ _ _ entries refl (are_with_bases _ _))
 
 -- a name below all of a list is not in it
 not_in : (x : List ℕ) (names : List (List ℕ)) → Above x names → is_in names x ≡ false
@@ -47,8 +53,16 @@ legal_differ : (o : Option (Option Class × List ℕ)) (s : Option (Kind × List
     → ((t : Kind × List ℕ) → s ≡ Some t → P) → differ o (option_map compared s) ≡ true → P
 legal_differ o s P f g e = grind arith
 
+legal_entry : (old : Texts) (new : Configuration) → HasNames old → IsConfiguration new → (x : List ℕ) → entry_differs old new x ≡ true → IsTrue (is_name x)
+legal_entry old new h g x e = legal_differ _ _ _ (h x) (λ s is. name_of_symbol _ x (g x s is).named) e
+
 pub changes_are_legal : ChangesAreLegal
-changes_are_legal old new names h g are x e = legal_differ _ _ _ (h x) (λ s is. name_of_symbol _ x (g x s is).named) (sym (are.each x) ∙ e)
+unfolding differs
+changes_are_legal old new names h g are x e =
+    ⊎_elim
+    (legal_entry old new h g x)
+    (λ other. let parts = and_parts _ _ other in legal_base (x ++ module_end) x (legal_entry old new h g (x ++ module_end) (differs_so (map.get old (x ++ module_end)) (option_map compared (map.get new (x ++ module_end))) parts.1)) (base_back x (not-true _ parts.0)))
+    (or_cases _ _ (sym (are.each x) ∙ e))
 
 same_class_reports : (a b : Option Class) → (same_class a b ≡ true) ↔ (a ≡ b)
 same_class_reports a b = search (rules, class_again, eqb-true, eq-eqb)
@@ -56,12 +70,63 @@ same_class_reports a b = search (rules, class_again, eqb-true, eq-eqb)
 alike : (a b : Option (Option Class × List ℕ)) → (differ a b ≡ false) ↔ (a ≡ b)
 alike a b = search (rules, and_parts, not-false, same_class_reports)
 
+kept_entry : (old : Texts) (new : Configuration) (x : List ℕ) → (entry_differs old new x ≡ false) ↔ (map.get old x ≡ map.get (texts_of new) x)
+kept_entry old new x = search (rules, alike, texts_are_of_entries)
+
+kept_companion : (old : Texts) (new : Configuration) (x : List ℕ)
+    → (companion_differs old new x ≡ false) ↔ (as_companion (map.get old x) ≡ as_companion (map.get (texts_of new) x))
+kept_companion old new x =
+    let is = ap as_companion (texts_are_of_entries new x) in
+    let both = alike (as_companion (map.get old x)) (as_companion (option_map compared (map.get new x))) in
+    (λ e. both.0 e ∙ sym is, λ e. both.1 (e ∙ is))
+
+pairs : {X : Type 0} (z : Bool) (p q p' q' : Option X) → p ≡ q → (z ≡ false → p' ≡ q') → ◌≡◌ {A = Option X × Option X} (p, cond z None p') (q, cond z None q')
+pairs true p q p' q' e f = ap (λ r. (r, None)) e
+pairs false p q p' q' e f = ap₂ (λ r t. (r, t)) e (f refl)
+
+apart : {X : Type 0} (z : Bool) (p q : Option X) → cond z None p ≡ cond z None q → z ≡ false → p ≡ q
+apart true p q e f = absurd (cc f)
+apart false p q e f = e
+
+unlike_entry : (z b : Bool) → (not z && b) ≡ false → z ≡ false → b ≡ false
+unlike_entry z b e f = grind arith
+
+none_differs : (a z b : Bool) → a ≡ false → (z ≡ false → b ≡ false) → (a || (not z && b)) ≡ false
+none_differs a true b e f = grind arith
+none_differs a false b e f = let one = f refl in grind (arith, one)
+
 pub unchanged_is_kept : UnchangedIsKept
-unchanged_is_kept old new x = search (rules, alike, texts_are_of_entries)
+unfolding differs about
+unchanged_is_kept old new x = (
+  λ e.
+      let parts = or_parts (entry_differs old new x) _ e in
+      pairs (length x == 0) _ _ _ _ ((kept_entry old new x).0 parts.0) (λ long. (kept_companion old new (x ++ module_end)).0 (unlike_entry _ _ parts.1 long)),
+  λ e.
+      none_differs _ (length x == 0) _ ((kept_entry old new x).1 (ap (λ p. p.0) e))
+      (λ long. (kept_companion old new (x ++ module_end)).1 (apart (length x == 0) _ _ (ap (λ p. p.1) e) long)),
+)
 
 pub nothing_changes : NothingChanges
 unfolding IsStrictlySortedBy
-nothing_changes settings = record { rising = tt; each = search (rules, unchanged_is_kept) }
+nothing_changes settings = record { rising = tt; each = λ x. sym ((unchanged_is_kept (texts_of settings) settings x).1 refl) }
+
+given : (o : Option (Option Class × List ℕ)) → differ None o ≡ is_some o
+given None = refl
+given (Some s) = refl
+
+kept_some : (o : Option (Kind × List ℕ)) → is_some (option_map compared o) ≡ is_some o
+kept_some None = refl
+kept_some (Some s) = refl
+
+pub first_changes_are_names : FirstChangesAreNames
+unfolding differs
+first_changes_are_names settings x =
+    let y = x ++ module_end in
+    let own = ap (λ (o : Option (Option Class × List ℕ)). differ o (option_map compared (map.get settings x))) (map.get-empty order x) ∙ given (option_map compared (map.get settings x))
+    ∙ kept_some (map.get settings x) in
+    let other = ap (λ (o : Option (Option Class × List ℕ)). differ (as_companion o) (as_companion (option_map compared (map.get settings y)))) (map.get-empty order y)
+    ∙ given (as_companion (option_map compared (map.get settings y))) in
+    ap₂ (λ a b. a || (not (length x == 0) && b)) own other
 
 pub unchanged_is_defined_alike : UnchangedIsDefinedAlike
 unchanged_is_defined_alike title later old new s t g h x same = search (rules, alike_is_defined_alike, unchanged_is_kept)

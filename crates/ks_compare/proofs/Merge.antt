@@ -1,6 +1,6 @@
 -- The names that differ between two lists of entries, each in rising order, by one pass over both.
-use Rattle.ks_compare.proofs.Prelude.{took, nil_from_length, rest_so_far, Run, order, first, second, is_less, two, ◌≡◌, ℕ, Bool, true, false, cond, T, List, [], ◌∷◌, ◌++◌, bytes_eq, Option, Some, None, option_map, refl, sym, ap, subst, ◌∙◌, cases_Bool, inl, inr, is_lt, is_eq, nat_list_cmp_total, Ordering, Less, Equal, Greater, find, is_sorted, below_all, AllByRecursion, AllEntries, IsStrictlySortedBy, is_eq-slice_cmp, Kind, Class, Configuration, find_below, tied, is_in, Texts, TakesFirst, compared, differ, AreChanges, changed_name, OldItem, NewItem, EitherOrBoth, Left, Right, Both, map_any, merge_join_by, merge_join_by-nil, by_ordering, cons_option, filter_map, arith, rules}
-use Rattle.std.proofs.Common.{map as map_list, map-id}
+use Rattle.ks_compare.proofs.Prelude.{took, rest_so_far, Run, order, first, second, is_less, two, ◌≡◌, ℕ, Bool, true, false, cond, T, List, [], ◌∷◌, ◌++◌, bytes_eq, Option, Some, None, option_map, refl, sym, ap, subst, cases_Bool, inl, inr, is_lt, is_eq, nat_list_cmp_total, Ordering, Less, Equal, Greater, find, is_sorted, below_all, AllByRecursion, AllEntries, IsStrictlySortedBy, is_eq-slice_cmp, Kind, Class, Configuration, find_below, tied, is_in, Texts, TakesFirst, compared, differ, AreChangedEntries, changed_name, OldItem, NewItem, EitherOrBoth, Left, Right, Both, map_any, merge_join_by, merge_join_by-nil, by_ordering, cons_option, filter_map, arith, rules}
+use Rattle.std.proofs.Common.{map as map_list}
 use Rattle.std.specs.FinMap as map
 
 abbrev pub Above : List ℕ → List (List ℕ) → Type 0
@@ -23,7 +23,7 @@ Ahead k es = T (is_sorted order es) → T (below_all order k es)
 ahead : {X : Type 0} (k : List ℕ) (e : List ℕ × X) (es : List (List ℕ × X)) → order k e.0 ≡ Less → Ahead k (e ∷ es)
 ahead k e es p h = search (rules, two, is_less, below_more, first)
 
-keys_above : {X : Type 0} (k : List ℕ) (es : List (List ℕ × X)) → T (below_all order k es) → AllEntries (λ n _. order k n ≡ Less) es
+pub keys_above : {X : Type 0} (k : List ℕ) (es : List (List ℕ × X)) → T (below_all order k es) → AllEntries (λ n _. order k n ≡ Less) es
 keys_above k [] h = tt
 keys_above k (e ∷ es) h = search (rules, less, first, second, (keys_above k es))
 
@@ -126,23 +126,12 @@ module _ {A B : Type 0} (f : A → OldItem) (g : B → NewItem) where
       (one_more (f a).0 (Some (f a).1) (Some (g b).1) xs ys (first _ _ h) (subst (λ (n : List ℕ). T (below_all order n (map_list g ys))) (sym same) (first _ _ k))
       (q (second _ _ h) (second _ _ k)))) xs ys
 
-  -- the pass gives the changes of two maps
-  pub merged_changes : (old : Texts) (new : Configuration) (xs : List A) (ys : List B) → map_list f xs ≡ map.entries old → map_list g ys ≡ map.entries new
-      → AreChanges old new (names xs ys)
-  merged_changes old new xs ys is was =
+  -- the pass gives the changed entries of two maps
+  pub merged_entries : (old : Texts) (new : Configuration) (xs : List A) (ys : List B) → map_list f xs ≡ map.entries old → map_list g ys ≡ map.entries new
+      → AreChangedEntries old new (names xs ys)
+  merged_entries old new xs ys is was =
       let all = good xs ys (rw is (map.entries_sorted old)) (rw was (map.entries_sorted new)) in
       record { rising = all.rising; each = λ x. search (rules, all.each, is, was, map.get-entries) }
-
-keys : (ys : List NewItem) → names (λ e. e) (λ y. y) [] ys ≡ map_list (λ y. y.0) ys
-keys [] = refl
-keys (y ∷ ys) = search (rules, (keys ys))
-
-none_left : map.entries (map.empty {X = Option Class × List ℕ} {R = order}) ≡ []
-none_left = nil_from_length _ (sym (map.len-entries map.empty) ∙ map.len-empty order (Option Class × List ℕ))
-
--- against no texts each name changes
-pub first_names : (new : Configuration) → AreChanges map.empty new (map_list (λ e. e.0) (map.entries new))
-first_names new = rw (← keys (map.entries new)) (merged_changes (λ e. e) (λ y. y) map.empty new [] (map.entries new) (sym none_left) (map-id (map.entries new)))
 
 -- what holds of each entry holds of those that a run has taken
 fronts : {X : Type 0} (P : List ℕ → X → Type 0) (es rest : List (List ℕ × X)) → AllEntries P (es ++ rest) → AllEntries P es

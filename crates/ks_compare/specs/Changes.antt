@@ -1,6 +1,6 @@
--- The names whose entries differ between an old auto.conf and new settings (conf_touch_deps of scripts/kconfig/confdata.c; that classes
--- count and that the names rise are rules of this project).
-use Rattle.std.specs.Prelude.{◌≡◌, ℕ, Bool, true, false, not, ◌&&◌, ◌==◌, List, bytes_eq, Option, Some, None, option_map}
+-- The names whose entries or companions differ between an old auto.conf and new settings (conf_touch_deps of scripts/kconfig/confdata.c;
+-- that classes and companions count and that the names rise are rules of this project).
+use Rattle.std.specs.Prelude.{◌≡◌, ℕ, Bool, true, false, not, ◌&&◌, ◌||◌, ◌==◌, List, ◌++◌, length, bytes_eq, Option, Some, None, option_map}
 use Rattle.std.specs.Ordering.{nat_cmp}
 use Rattle.std.specs.Cmp.Lexicographic.{slice_cmp}
 use Rattle.std.specs.Option.{option_eq}
@@ -9,11 +9,11 @@ use Rattle.std.specs.List.Sorted.{IsStrictlySortedBy}
 use Rattle.ks_symbols.specs.declared.kinds.Kind.{Kind}
 use Rattle.ks_symbols.specs.declared.kinds.Class.{Class}
 use Rattle.ks_symbols.specs.Kinds.{class_of, class_number}
-use Rattle.ks_symbols.specs.Names.{is_in}
+use Rattle.ks_symbols.specs.Names.{is_in, module_end}
 use Rattle.ks_symbols.specs.Configuration.{Configuration}
-use Rattle.ks_output.specs.OldConfig.{Texts}
+use Rattle.ks_output.specs.OldConfig.{Texts, as_companion}
 
--- What of an entry counts: its class and its text. A comparison tells no more of it; what each name has and would have `diff` takes from both.
+-- What of an entry counts: its class and its text
 abbrev pub compared : Kind × List ℕ → Option Class × List ℕ
 compared s = (Some (class_of s.0), s.1)
 
@@ -30,8 +30,16 @@ differ (Some t) (Some u) = unlike t u
 differ t u = true
 
 -- Whether a name has a text in one of the two alone, or two that differ
-abbrev pub differs : Texts → Configuration → List ℕ → Bool
-differs old new x = differ (map.get old x) (option_map compared (map.get new x))
+abbrev pub entry_differs : Texts → Configuration → List ℕ → Bool
+entry_differs old new x = differ (map.get old x) (option_map compared (map.get new x))
+
+-- .. and the same as companions
+abbrev pub companion_differs : Texts → Configuration → List ℕ → Bool
+companion_differs old new x = differ (as_companion (map.get old x)) (as_companion (option_map compared (map.get new x)))
+
+-- Whether a name's entry differs, by `differ`, or its companion's
+unfoldable pub differs : Texts → Configuration → List ℕ → Bool
+differs old new x = entry_differs old new x || (not (length x == 0) && companion_differs old new (x ++ module_end))
 
 -- The names that differ, rising, each once
 pub record AreChanges (old : Texts) (new : Configuration) (names : List (List ℕ)) : Type 0 where

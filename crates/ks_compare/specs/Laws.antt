@@ -1,10 +1,10 @@
 -- Laws of the changes: there is one list of them, of legal names, and what did not change is defined alike.
-use Rattle.std.specs.Prelude.{◌≡◌, ◌↔◌, ℕ, true, false, List, [], map as map_list, IsTrue}
+use Rattle.std.specs.Prelude.{◌≡◌, ◌↔◌, ℕ, true, false, ◌&&◌, ◌||◌, ◌==◌, not, List, [], ◌++◌, length, is_some, option_map, IsTrue}
 use Rattle.std.specs.FinMap as map
-use Rattle.ks_symbols.specs.Names.{is_name, is_in}
+use Rattle.ks_symbols.specs.Names.{is_name, is_in, module_end}
 use Rattle.ks_symbols.specs.Titles.{is_title}
 use Rattle.ks_symbols.specs.Configuration.{IsConfiguration, Configuration}
-use Rattle.ks_output.specs.OldConfig.{Texts, HasNames, texts_of}
+use Rattle.ks_output.specs.OldConfig.{Texts, HasNames, about, as_companion, kept, texts_of}
 use Rattle.ks_output.specs.Header.{header_text}
 use Rattle.ks_output.specs.Definitions.{definitions}
 use Rattle.ks_compare.specs.Changes.{differs, AreChanges}
@@ -24,17 +24,21 @@ ChangesAreLegal =
     (old : Texts) (new : Configuration) (names : List (List ℕ)) → HasNames old → IsConfiguration new → AreChanges old new names
     → (x : List ℕ) → is_in names x ≡ true → IsTrue (is_name x)
 
--- Against no texts at all each name of a configuration changes; against its own texts none does.
+-- Against no texts at all a name changes that a configuration has, or whose companion it has; against its own texts none does.
 abbrev pub FirstChangesAreNames : Type 0
-FirstChangesAreNames = (settings : Configuration) → AreChanges map.empty settings (map_list (λ e. e.0) (map.entries settings))
+FirstChangesAreNames =
+    (settings : Configuration) (x : List ℕ)
+    → differs map.empty settings x
+    ≡ (map.contains_key settings x
+    || (not (length x == 0) && is_some (as_companion (option_map kept (map.get settings (x ++ module_end))))))
 
 abbrev pub NothingChanges : Type 0
 NothingChanges = (settings : Configuration) → AreChanges (texts_of settings) settings []
 
--- A name that does not differ has, in the old auto.conf, what the next one keeps of it.
+-- A name that does not differ has, in the old auto.conf, what the next one keeps of it, and so has its companion.
 abbrev pub UnchangedIsKept : Type 0
 UnchangedIsKept =
-    (old : Texts) (new : Configuration) (x : List ℕ) → (differs old new x ≡ false) ↔ (map.get old x ≡ map.get (texts_of new) x)
+    (old : Texts) (new : Configuration) (x : List ℕ) → (differs old new x ≡ false) ↔ (about old x ≡ about (texts_of new) x)
 
 -- .. and the two headers define it by the same lines.
 abbrev pub UnchangedIsDefinedAlike : Type 0

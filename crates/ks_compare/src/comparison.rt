@@ -7,9 +7,11 @@ ghost use Rattle.std.specs.Prelude.{◌≡◌, IfOk, option_map};
 ghost use Rattle.itertools.specs.EitherOrBoth.{map_any};
 ghost use Rattle.ks_output.specs.OldConfig.{borrowed_old_entry};
 ghost use Rattle.ks_symbols.specs.Configuration.{borrowed_entry};
+ghost use Rattle.ks_compare.specs.Bases.{AreChangedEntries};
 ghost use Rattle.ks_compare.specs.Changes.{AreChanges};
 ghost use Rattle.ks_compare.specs.Pass as pass;
 
+use crate::bases::{changed_companions, with_bases};
 use itertools::{EitherOrBoth, merge_join_by};
 use ks_output::OldConfig;
 use ks_symbols::{Class, Kind, Name, Settings};
@@ -32,10 +34,9 @@ fn changed_name<'a>(pair: EitherOrBoth<OldEntry<'a>, NewEntry<'a>>) -> Option<&'
     }
 }
 
-/// The names that have a text in one of the two alone, or in both another text or another class: rising, each once. A
-/// name that has no class yet, as in an auto.conf of the untyped form, has another one now.
-pub fn changed(alloc: Global, old: &OldConfig, new: &Settings) -> Result<Vec<Name>, AllocError>
-    ensures { IfOk result (λ names. AreChanges old.now.texts new.now.entries names.items) }
+/// The names that have a text in one of the two alone, or in both another text or another class.
+fn changed_entries(alloc: Global, old: &OldConfig, new: &Settings) -> Result<Vec<Name>, AllocError>
+    ensures { IfOk result (λ names. AreChangedEntries old.now.texts new.now.entries names.items) }
 {
     old.keeps_names();
     new.keeps_configuration();
@@ -46,4 +47,17 @@ pub fn changed(alloc: Global, old: &OldConfig, new: &Settings) -> Result<Vec<Nam
         }
     }
     Ok(names)
+}
+
+/// The names that have a text in one of the two alone, or in both another text or another class, or whose companions have: rising,
+/// each once. A name that has no class yet, as in an auto.conf of the untyped form, has another one now.
+pub fn changed(alloc: Global, old: &OldConfig, new: &Settings) -> Result<Vec<Name>, AllocError>
+    ensures { IfOk result (λ names. AreChanges old.now.texts new.now.entries names.items) }
+{
+    let names = changed_entries(alloc, old, new)?;
+    let companions = changed_companions(alloc, old, new, &names)?;
+    if companions.is_empty() {
+        return Ok(names);
+    }
+    with_bases(alloc, &names, &companions)
 }

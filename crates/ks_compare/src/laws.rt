@@ -14,7 +14,7 @@ pub fn changes_are_legal()
     ensures { ChangesAreLegal }
 {}
 
-/// The first synchronisation changes each name that has a value, and one after it with the same settings none.
+/// The first synchronisation changes each name that has a value or a companion, and one after it with the same settings none.
 pub fn first_changes_are_names()
     ensures names { FirstChangesAreNames }
     ensures again { NothingChanges }

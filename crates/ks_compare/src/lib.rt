@@ -1,6 +1,7 @@
 //! Which names changed between an old auto.conf and new settings: these, and no others.
 #![tactic(auto)]
 
+mod bases;
 mod comparison;
 mod laws;
 

@@ -147,8 +147,8 @@ pub const NOT_AN_ENTRY: Row = (
 pub const MODULE_SYMBOL: Row = (
     "14",
     "ModuleSymbol",
-    "a name in the auto.conf that conf wrote ends in `_MODULE`, as the macro of another symbol with the value m",
-    "`CONFIG_A_MODULE=y`",
+    "a name in the auto.conf that conf wrote ends in `_MODULE`, and its symbol is no bool `y`",
+    "`CONFIG_A_MODULE=m`",
     "rename the symbol, or synchronise with a Kconfig and `.config`",
 );
 
@@ -157,7 +157,7 @@ pub const UNEXPLAINED: Row = (
     "Unexplained",
     "a line of the header that conf wrote defines something else than the line of that number in auto.conf says",
     "`CONFIG_A=y` beside `#define CONFIG_A 2`",
-    "let conf write both files again; give an int or hex without a value a default",
+    "let conf write both files again",
 );
 
 pub const UNDEFINED: Row = (

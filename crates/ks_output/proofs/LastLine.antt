@@ -15,7 +15,7 @@ gives_here line name h e =
     let ended = ends_with nat_eq line (codes "\n") in
     ap (stated_by ended) (opened bare (beginning name) e) ∙ stated_by_entry ended name (drop (length (beginning name)) bare) h
 
-begins : (needle rest : List ℕ) → starts_with nat_eq (needle ++ rest) needle ≡ true
+pub begins : (needle rest : List ℕ) → starts_with nat_eq (needle ++ rest) needle ≡ true
 begins needle rest = search (rules, bytes_decides, take-append_seam)
 
 -- another line gives another name a text, or nothing

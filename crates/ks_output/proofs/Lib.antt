@@ -1,4 +1,5 @@
 pub mod Prelude
+pub mod Companions
 pub mod Definitions
 pub mod Entries
 pub mod LastLine
@@ -17,3 +18,9 @@ pub mod SeenLemmas
 pub mod WrittenPairs
 pub mod WrittenConfigured
 pub mod WrittenAlike
+pub mod WrittenByConf
+pub mod BlockSteps
+pub mod BlockTexts
+pub mod BlockTaken
+pub mod BlocksAlike
+pub mod ConfTexts

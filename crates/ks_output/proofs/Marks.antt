@@ -1,5 +1,5 @@
 -- A line of auto.conf by its first byte: only one that begins with a `#` is a mark, and each mark is told from the others.
-use Rattle.ks_output.proofs.Prelude.{opened, ◌≡◌, ℕ, Bool, true, false, List, [], ◌∷◌, ◌++◌, ◌&&◌, length, drop, codes, starts_with, nat_eq, bytes_eq, sym, ap, refl, ◌∙◌, statement, stated_by, class_remark, assigned, Remark, CommentOrBlank, rules, cond-true, cond-false, false≢true, ne_eqb}
+use Rattle.ks_output.proofs.Prelude.{opened, ◌≡◌, ℕ, Bool, true, false, List, [], ◌∷◌, ◌&&◌, length, drop, codes, starts_with, nat_eq, bytes_eq, sym, ap, refl, ◌∙◌, statement, stated_by, class_remark, assigned, rules, cond-false, false≢true, ne_eqb}
 use Rattle.std.proofs.Common.{◌||◌, ◌==◌}
 
 left_false : (same : Bool) → (same && true) ≡ false → same ≡ false

@@ -1,5 +1,5 @@
 -- Names that came so far.
-use Rattle.ks_output.proofs.Prelude.{◌≡◌, ◌++◌, ℕ, Bool, true, false, not, List, [], ◌∷◌, inl, inr, refl, ap, sym, ◌∙◌, bytes_eq, arith, rules, common_steps, cond-true, cond-false, cases_Bool, bytes_decides, map-append, or_right, Configuration, Kind, is_eq, is_eq-slice_cmp, order, nat_list_cmp_total}
+use Rattle.ks_output.proofs.Prelude.{◌≡◌, ◌++◌, ℕ, true, List, [], ◌∷◌, inl, inr, refl, ap, sym, ◌∙◌, bytes_eq, arith, rules, common_steps, cond, cond-true, cond-false, cases_Bool, bytes_decides, map-append, Configuration, Kind, is_eq, is_eq-slice_cmp, order, nat_list_cmp_total}
 use Rattle.std.specs.Prelude.{◌||◌, String, string_bytes, map as map_list}
 use Rattle.std.specs.List.{list_any}
 use Rattle.std.specs.FinMap as map
@@ -26,7 +26,7 @@ there x y xs e = elim (cases_Bool (bytes_eq x y)) [
 ]
 
 -- and a new one behind the others
-behind : (x y : List ℕ) (xs : List (List ℕ)) → list_any (bytes_eq x) (xs ++ y ∷ []) ≡ (bytes_eq x y || list_any (bytes_eq x) xs)
+pub behind : (x y : List ℕ) (xs : List (List ℕ)) → list_any (bytes_eq x) (xs ++ y ∷ []) ≡ (bytes_eq x y || list_any (bytes_eq x) xs)
 behind x y xs = grind (arith, common_steps, list_any-append)
 
 module _ {Y : Type 0} where
@@ -39,6 +39,17 @@ module _ {Y : Type 0} where
         | inl old ↦ ap (λ all. list_any (bytes_eq x) (map_list string_bytes all)) (cond-true _ _ _ old) ∙ there x (string_bytes k) (map_list string_bytes ks) (sym any ∙ old)
         | inr new ↦ ap (λ all. list_any (bytes_eq x) (map_list string_bytes all)) (cond-false _ _ _ new)
             ∙ ap (list_any (bytes_eq x)) (map-append string_bytes ks (k ∷ [])) ∙ behind x (string_bytes k) (map_list string_bytes ks)
+      ]
+
+  -- the keys of a set after one more of them
+  pub keys_after : (ks : List (String Y)) (k : String Y)
+      → map_list string_bytes (insert_key (λ a b. bytes_eq (string_bytes a) (string_bytes b)) ks k)
+      ≡ cond (list_any (bytes_eq (string_bytes k)) (map_list string_bytes ks)) (map_list string_bytes ks) (map_list string_bytes ks ++ string_bytes k ∷ [])
+  keys_after ks k =
+      let any = names-any (string_bytes k) ks in
+      elim (cases_Bool (list_any (λ y. bytes_eq (string_bytes k) (string_bytes y)) ks)) [
+        | inl old ↦ ap (map_list string_bytes) (cond-true _ _ _ old) ∙ sym (cond-true _ _ _ (sym any ∙ old))
+        | inr new ↦ ap (map_list string_bytes) (cond-false _ _ _ new) ∙ map-append string_bytes ks (k ∷ []) ∙ sym (cond-false _ _ _ (sym any ∙ new))
       ]
 
 pub nothing_seen : (m : Configuration) (names : List (List ℕ)) → m ≡ map.empty → names ≡ [] → AreNamesOf m names

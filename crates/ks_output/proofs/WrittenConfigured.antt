@@ -1,16 +1,13 @@
 -- What an accepted pair means: a configuration, whose header defines each name as the header that was read does.
-use Rattle.ks_output.proofs.Prelude.{inl, inr, ◌≡◌, ◌+◌, ℕ, Bool, true, false, not, nat_eq, List, [], ◌∷◌, codes, Option, Some, None, Ok, refl, sym, ap, ◌∙◌, ends_with, subst, cond, cond-true, cond-false, cases_Bool, and_parts, and_from, not-true, is_eq, order, IsEntry, IsConfiguration, Configuration, Kind, is_name, is_symbol_name, module_end, Statement, Assigns, statement, statements_are_spelled, nat_list_cmp_total}
+use Rattle.ks_output.proofs.Prelude.{inl, inr, ◌≡◌, ◌+◌, ℕ, Bool, true, false, nat_eq, List, [], ◌∷◌, codes, Option, Some, None, Ok, refl, sym, ap, ◌∙◌, ends_with, subst, cond-true, cond-false, cases_Bool, and_parts, and_from, not-true, is_eq, order, IsEntry, IsConfiguration, Configuration, Kind, is_name, is_symbol_name, Statement, Assigns, statement, statements_are_spelled, nat_list_cmp_total}
 use Rattle.std.specs.Prelude.{Err, Result, find}
 use Rattle.std.specs.FinMap as map
-use Rattle.ks_symbols.specs.declared.kinds.Kind.TheVariants as kind
-use Rattle.ks_symbols.specs.Kinds.{fits}
 use Rattle.ks_output.specs.Written.{given_by, as_entry, explains, explained, kinds, with_kind, with_entry, with_pairs, chain}
 use Rattle.ks_output.specs.declared.written.WrittenError.{WrittenError}
-use Rattle.ks_output.specs.declared.written.WrittenError.TheVariants as fault
 use Rattle.ks_output.proofs.Entries.{tied}
 
 -- what finds something finds what passes
-found_passes : {X : Type 0} (p : X → Bool) (xs : List X) (y : X) → find p xs ≡ Some y → p y ≡ true
+pub found_passes : {X : Type 0} (p : X → Bool) (xs : List X) (y : X) → find p xs ≡ Some y → p y ≡ true
 found_passes p [] y e = absurd (cc e)
 found_passes p (x ∷ xs) y e = elim (cases_Bool (p x)) [
   | inl holds ↦ cc (holds, sym (cond-true _ _ _ holds) ∙ e)
@@ -26,7 +23,6 @@ pub record Taken (m : Configuration) (l h : List ℕ) (later : Configuration) : 
   pub kind : Kind
   pub value : List ℕ
   pub given : given_by l ≡ Some (name, value)
-  pub free : ends_with nat_eq name module_end ≡ false
   pub new : map.contains_key m name ≡ false
   pub passes : explains name value h kind ≡ true
   pub is : later ≡ map.insert m name (kind, value)
@@ -37,21 +33,14 @@ unfolding explained
 kinded n m name value h None later found e = absurd (cc e)
 kinded n m name value h (Some k) later found e = (k, found_passes (explains name value h) kinds k found, cc e)
 
-taken_new : (n : ℕ) (m : Configuration) (l h : List ℕ) (p : List ℕ × List ℕ) (later : Configuration) → given_by l ≡ Some p → ends_with nat_eq p.0 module_end ≡ false
-    → cond (map.contains_key m p.0) (Err (fault.Twice n)) (with_kind n m p.0 p.1 (explained p.0 p.1 h)) ≡ Ok later → Taken m l h later
-taken_new n m l h p later given free e = elim (cases_Bool (map.contains_key m p.0)) [
-  | inl old ↦ absurd (cc (sym (cond-true _ _ _ old) ∙ e))
-  | inr new ↦
-      let k = kinded n m p.0 p.1 h (explained p.0 p.1 h) later refl (sym (cond-false _ _ _ new) ∙ e) in
-      record { name = p.0; kind = k.0; value = p.1; given = given; free = free; new = new; passes = k.1; is = k.2 }
-]
-
 taken_by : (n : ℕ) (m : Configuration) (l h : List ℕ) (o : Option (List ℕ × List ℕ)) (later : Configuration) → given_by l ≡ o → with_entry n m h o ≡ Ok later → Taken m l h later
 unfolding with_entry
 taken_by n m l h None later given e = absurd (cc e)
-taken_by n m l h (Some p) later given e = elim (cases_Bool (ends_with nat_eq p.0 module_end)) [
-  | inl modular ↦ absurd (cc (sym (cond-true _ _ _ modular) ∙ e))
-  | inr free ↦ taken_new n m l h p later given free (sym (cond-false _ _ _ free) ∙ e)
+taken_by n m l h (Some p) later given e = elim (cases_Bool (map.contains_key m p.0)) [
+  | inl old ↦ absurd (cc (sym (cond-true _ _ _ old) ∙ e))
+  | inr new ↦
+      let k = kinded n m p.0 p.1 h (explained p.0 p.1 h) later refl (sym (cond-false _ _ _ new) ∙ e) in
+      record { name = p.0; kind = k.0; value = p.1; given = given; new = new; passes = k.1; is = k.2 }
 ]
 
 -- two lists of lines, one pair further on
@@ -70,7 +59,7 @@ unfolding with_pairs
 one_on n m l h ls hs end e = chained n m l h ls hs end (with_entry n m h (given_by l)) refl e
 
 -- its entry
-some_same : {X : Type 0} (a b : X) → Some a ≡ Some b → a ≡ b
+pub some_same : {X : Type 0} (a b : X) → Some a ≡ Some b → a ≡ b
 some_same a b e = cc e
 
 entry_named : (o : Option Statement) (name value : List ℕ) → as_entry o ≡ Some (name, value) → o ≡ Some (Assigns name value)
@@ -87,21 +76,18 @@ given_name l name value e = elim (cases_Bool (ends_with nat_eq l (codes "\n"))) 
   | inr other ↦ absurd (cc (sym (cond-false _ _ _ other) ∙ e))
 ]
 
-fits_free : (k : Kind) (name : List ℕ) → ends_with nat_eq name module_end ≡ false → fits k name ≡ true
-fits_free kind.Flag name e = refl
-fits_free k name e = ap not e
-
 pub entry_of : (m : Configuration) (l h : List ℕ) (later : Configuration) (t : Taken m l h later) → IsEntry t.name (t.kind, t.value)
 unfolding is_symbol_name explains
 entry_of m l h later t =
     let outer = and_parts _ _ t.passes in
-    let inner = and_parts _ _ outer.0 in record {
-      named = and_from _ _ (given_name l t.name t.value t.given) (fits_free t.kind t.name t.free);
-      typed = inner.0;
+    let inner = and_parts _ _ outer.0 in
+    let both = and_parts _ _ inner.0 in record {
+      named = and_from _ _ (given_name l t.name t.value t.given) both.0;
+      typed = both.1;
       on = not-true _ inner.1;
     }
 
-entries_kept : (m : Configuration) (name : List ℕ) (s : Kind × List ℕ) → IsConfiguration m → IsEntry name s → IsConfiguration (map.insert m name s)
+pub entries_kept : (m : Configuration) (name : List ℕ) (s : Kind × List ℕ) → IsConfiguration m → IsEntry name s → IsConfiguration (map.insert m name s)
 entries_kept m name s h entry x t is =
     let got = map.get-insert nat_list_cmp_total m name s x in
     elim (cases_Bool (is_eq (order x name))) [

@@ -1,4 +1,7 @@
 -- Lines that hold no end of a line, each followed by a line feed.
+use Rattle.std.specs.Prelude.{◌==◌}
+use Rattle.std.proofs.lemmas.Bool.{eqb-true}
+use Rattle.std.proofs.lemmas.List.{nil_from_length}
 use Rattle.ks_output.proofs.Prelude.{drop-append_seam, opened, ◌≡◌, ℕ, suc, Bool, true, false, nat_eq, List, [], ◌∷◌, ◌++◌, length, length-append, take, drop, bytes_eq, refl, ap, ◌∙◌, arith, list_all, ends_with, is_ascii_digit, bytes_decides, cond-true, cond-false, cases_Bool, and_parts, or_cases, list_all-append, line_len, lines_of, lines-step, Kind, is_name, is_string_byte, is_text, is_hexadecimal, is_title, common_steps, rules, and_from, nat_tests}
 use Rattle.ks_symbols.specs.declared.kinds.Kind.TheVariants as kind
 
@@ -54,7 +57,12 @@ literal text stated h e = ap is_plain ((bytes_decides text stated).0 e) ∙ h
 plain_hexadecimal : (text : List ℕ) → is_hexadecimal text ≡ true → is_plain text ≡ true
 plain_hexadecimal text e = search (rules, cond-true, plain-append, opened, or_cases, cond-false, cases_Bool, plain_from, and_parts)
 
+no_bytes : (text : List ℕ) → (length text == 0) ≡ true → text ≡ []
+no_bytes text e = nil_from_length text (eqb-true _ _ e)
+
 pub plain_text : (k : Kind) (text : List ℕ) → is_text k text ≡ true → is_plain text ≡ true
 unfolding is_text
 plain_text kind.Hex text e = plain_hexadecimal text e
+plain_text kind.EmptyInt text e = ap is_plain (no_bytes text e)
+plain_text kind.EmptyHex text e = ap is_plain (no_bytes text e)
 plain_text k text e = search (rules, plain-append, opened, cond-true, cond-false, cases_Bool, literal, plain_digits, and_parts, or_cases)

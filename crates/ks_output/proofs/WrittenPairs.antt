@@ -1,7 +1,7 @@
 -- What one more pair of lines does to what several come to.
 use Rattle.ks_output.proofs.Prelude.{cond-true, cond-false, ends_with, module_end, order, is_eq, Kind, ◌≡◌, ◌⊎◌, inl, inr, ℕ, ◌+◌, List, [], ◌∷◌, Ok, Some, None, true, false, Bool, cond, ◌&&◌, refl, ap, sym, ◌∙◌, Configuration, arith, length, drop, nat_eq, starts_with, is_title}
 use Rattle.std.specs.FinMap as map
-use Rattle.std.specs.Prelude.{Err, Result, is_some, ◌||◌}
+use Rattle.std.specs.Prelude.{Err, Result, is_some, ◌||◌, if◌then◌else◌}
 use Rattle.ks_output.proofs.SeenLemmas.{entered}
 use Rattle.ks_output.specs.Written.{title_in, conf_heading, heading_of, bodies, given_by, explained, with_kind, with_entry, with_pairs, chain}
 use Rattle.ks_output.specs.declared.written.WrittenError.{WrittenError}
@@ -73,19 +73,19 @@ headed auto header title is e f g =
     ∙ ap (λ t. Some (drop (length (conf_heading t)) auto, drop (length (heading_of t header)) header)) (sym is)
 
 -- the first pair, by what it comes to
-pub first : (l h name value : List ℕ) (k : Kind) (ls hs : List (List ℕ)) → given_by l ≡ Some (name, value) → ends_with nat_eq name module_end ≡ false
+pub first : (l h name value : List ℕ) (k : Kind) (ls hs : List (List ℕ)) → given_by l ≡ Some (name, value)
     → explained name value h ≡ Some k → with_pairs 5 map.empty (l ∷ ls) (h ∷ hs) ≡ with_pairs 6 (map.insert map.empty name (k, value)) ls hs
 unfolding with_entry with_pairs
-first l h name value k ls hs given free is =
+first l h name value k ls hs given is =
     goes_on 5 map.empty (map.insert map.empty name (k, value)) l h ls hs
-    (ap (with_entry 5 map.empty h) given ∙ cond-false _ _ _ free ∙ cond-false _ _ _ (ap is_some (map.get-empty order name)) ∙ ap (with_kind 5 map.empty name value) is)
+    (ap (with_entry 5 map.empty h) given ∙ cond-false _ _ _ (ap is_some (map.get-empty order name)) ∙ ap (with_kind 5 map.empty name value) is)
 
-pub first_unexplained : (l h name value : List ℕ) (ls hs : List (List ℕ)) → given_by l ≡ Some (name, value) → ends_with nat_eq name module_end ≡ false
-    → explained name value h ≡ None → with_pairs 5 map.empty (l ∷ ls) (h ∷ hs) ≡ Err (fault.Unexplained 5)
+pub first_unexplained : (l h name value : List ℕ) (ls hs : List (List ℕ)) → given_by l ≡ Some (name, value)
+    → explained name value h ≡ None → with_pairs 5 map.empty (l ∷ ls) (h ∷ hs) ≡ Err (if ends_with nat_eq name module_end then fault.ModuleSymbol 5 else fault.Unexplained 5)
 unfolding with_entry with_pairs
-first_unexplained l h name value ls hs given free is =
-    stops 5 map.empty l h ls hs (fault.Unexplained 5)
-    (ap (with_entry 5 map.empty h) given ∙ cond-false _ _ _ free ∙ cond-false _ _ _ (ap is_some (map.get-empty order name)) ∙ ap (with_kind 5 map.empty name value) is)
+first_unexplained l h name value ls hs given is =
+    stops 5 map.empty l h ls hs (if ends_with nat_eq name module_end then fault.ModuleSymbol 5 else fault.Unexplained 5)
+    (ap (with_entry 5 map.empty h) given ∙ cond-false _ _ _ (ap is_some (map.get-empty order name)) ∙ ap (with_kind 5 map.empty name value) is)
 
 -- a second one
 abbrev none : Configuration
@@ -94,18 +94,18 @@ none = map.empty
 holds : (name x : List ℕ) (s : Kind × List ℕ) (b : Bool) → is_eq (order x name) ≡ b → map.contains_key (map.insert none name s) x ≡ b
 holds name x s b is = entered map.empty name s x ∙ ap (λ c. c || map.contains_key none x) is ∙ ap (λ c. b || c) (ap is_some (map.get-empty order x)) ∙ or-false b
 
-pub second : (l h name value before : List ℕ) (s : Kind × List ℕ) (k : Kind) (ls hs : List (List ℕ)) → given_by l ≡ Some (name, value) → ends_with nat_eq name module_end ≡ false
+pub second : (l h name value before : List ℕ) (s : Kind × List ℕ) (k : Kind) (ls hs : List (List ℕ)) → given_by l ≡ Some (name, value)
     → is_eq (order name before) ≡ false → explained name value h ≡ Some k
     → with_pairs 6 (map.insert map.empty before s) (l ∷ ls) (h ∷ hs) ≡ with_pairs 7 (map.insert (map.insert map.empty before s) name (k, value)) ls hs
 unfolding with_entry with_pairs
-second l h name value before s k ls hs given free other is =
+second l h name value before s k ls hs given other is =
     let m = map.insert map.empty before s in
     goes_on 6 m (map.insert m name (k, value)) l h ls hs
-    (ap (with_entry 6 m h) given ∙ cond-false _ _ _ free ∙ cond-false _ _ _ (holds before name s false other) ∙ ap (with_kind 6 m name value) is)
+    (ap (with_entry 6 m h) given ∙ cond-false _ _ _ (holds before name s false other) ∙ ap (with_kind 6 m name value) is)
 
-pub second_twice : (l h name value : List ℕ) (s : Kind × List ℕ) (ls hs : List (List ℕ)) → given_by l ≡ Some (name, value) → ends_with nat_eq name module_end ≡ false
+pub second_twice : (l h name value : List ℕ) (s : Kind × List ℕ) (ls hs : List (List ℕ)) → given_by l ≡ Some (name, value)
     → is_eq (order name name) ≡ true → with_pairs 6 (map.insert map.empty name s) (l ∷ ls) (h ∷ hs) ≡ Err (fault.Twice 6)
 unfolding with_entry with_pairs
-second_twice l h name value s ls hs given free same =
+second_twice l h name value s ls hs given same =
     let m = map.insert map.empty name s in
-    stops 6 m l h ls hs (fault.Twice 6) (ap (with_entry 6 m h) given ∙ cond-false _ _ _ free ∙ cond-true _ _ _ (holds name name s true same))
+    stops 6 m l h ls hs (fault.Twice 6) (ap (with_entry 6 m h) given ∙ cond-true _ _ _ (holds name name s true same))

@@ -1,8 +1,8 @@
 -- What any text of C says of a name: the lines that define one of its macros, or that of its module. It knows bytes alone.
-use Rattle.std.specs.Prelude.{◌≡◌, ◌⊎◌, ℕ, ◌-◌, Bool, ◌&&◌, ◌||◌, nat_eq, List, ◌++◌, length, take, drop, codes, bytes_eq, take_while, map as map_list, filter, IsTrue, if◌then◌else◌}
+use Rattle.std.specs.Prelude.{◌≡◌, ◌⊎◌, ℕ, ◌-◌, Bool, ◌&&◌, ◌||◌, not, nat_eq, List, ◌++◌, length, take, drop, codes, bytes_eq, take_while, map as map_list, filter, IsTrue, if◌then◌else◌}
 use Rattle.std.specs.List.{starts_with, ends_with, list_all}
 use Rattle.bstr.specs.Text.{lines_of}
-use Rattle.ks_symbols.specs.Names.{is_word_byte, without_module}
+use Rattle.ks_symbols.specs.Names.{is_word_byte, module_end, without_module}
 
 -- a line as it stands in a text, without the LF at its end
 abbrev pub without_lf : List ℕ → List ℕ
@@ -36,6 +36,13 @@ defines name line =
     (defines_macro (codes "#define ENABLE_") line && bytes_eq (run_of line) name)
     || (defines_macro (codes "#define CONFIG_") line && bytes_eq (without_module (run_of line)) name)
 
--- The definitions of a name in a text, in their order
+-- Whether the macro of a line is that of a module. It is another one than the name's own, so the order of the two says nothing to a compiler.
+abbrev pub is_of_module : List ℕ → Bool
+is_of_module line = starts_with nat_eq line (codes "#define CONFIG_") && ends_with nat_eq (run_of line) module_end
+
+unfoldable pub modules_last : List (List ℕ) → List (List ℕ)
+modules_last lines = filter (λ line. not (is_of_module line)) lines ++ filter is_of_module lines
+
+-- The definitions of a name in a text: those of its own macro in their order, then those of its module's
 unfoldable pub definitions : List ℕ → List ℕ → List (List ℕ)
-definitions name text = filter (defines name) (lf_lines text)
+definitions name text = modules_last (filter (defines name) (lf_lines text))

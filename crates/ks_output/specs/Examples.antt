@@ -10,6 +10,7 @@ use Rattle.ks_output.specs.AutoConf.{fault_in}
 use Rattle.ks_output.specs.Header.{definition_line, header_text}
 use Rattle.ks_output.specs.Definitions.{defines}
 use Rattle.ks_output.specs.Written.{explained, with_pairs}
+use Rattle.ks_output.specs.WrittenLaws.{Entries, AreOfConf, conf_auto, conf_header}
 use Rattle.ks_output.specs.declared.written.WrittenError.TheVariants as fault
 
 -- a bool and a module: both files
@@ -42,6 +43,9 @@ DefinitionLines =
     × (definition_line (codes "H") kind.Hex (codes "0X1F") ≡ codes "#define CONFIG_H 0X1F\n")
     × (definition_line (codes "I") kind.Int (codes "-12") ≡ codes "#define CONFIG_I -12\n")
     × (definition_line (codes "F_MODULE") kind.Flag (codes "y") ≡ codes "#define ENABLE_F_MODULE 1\n")
+    × (definition_line (codes "A_MODULE") kind.Companion (codes "y") ≡ codes "#define CONFIG_A_MODULE 1\n")
+    × (definition_line (codes "I") kind.EmptyInt [] ≡ codes "#define CONFIG_I \n")
+    × (definition_line (codes "H") kind.EmptyHex [] ≡ codes "#define CONFIG_H 0x\n")
     × (definition_line (codes "R") kind.Raw (codes "\"a\\b\"") ≡ codes "#define CONFIG_R \"a\\b\"\n")
 
 -- lines of an auto.conf
@@ -98,6 +102,11 @@ KindsOfWritten =
     × (explained (codes "A") (codes "10") (codes "#define CONFIG_A 0x10\n") ≡ Some kind.Hex)
     × (explained (codes "A") (codes "\"b\"") (codes "#define CONFIG_A \"b\"\n") ≡ Some kind.Raw)
     × (explained (codes "A") (codes "\"b\"") (codes "#define CONFIG_A \"\\\"b\\\"\"\n") ≡ Some kind.Text)
+    × (explained (codes "A_MODULE") (codes "y") (codes "#define CONFIG_A_MODULE 1\n") ≡ Some kind.Companion)
+    × (explained (codes "A_MODULE") (codes "m") (codes "#define CONFIG_A_MODULE_MODULE 1\n") ≡ None)
+    × (explained (codes "_MODULE") (codes "y") (codes "#define CONFIG__MODULE 1\n") ≡ None)
+    × (explained (codes "A") [] (codes "#define CONFIG_A \n") ≡ Some kind.EmptyInt)
+    × (explained (codes "A") [] (codes "#define CONFIG_A 0x\n") ≡ Some kind.EmptyHex)
     × (explained (codes "A") (codes "10") (codes "#define CONFIG_A 11\n") ≡ None)
     × (explained (codes "A") (codes "10") (codes "#define CONFIG_A 10") ≡ None)
     × (explained (codes "A") (codes "y") (codes "#define CONFIG_B 1\n") ≡ None)
@@ -110,6 +119,23 @@ PairsOfWritten =
     × (with_pairs 5 map.empty (codes "CONFIG_A=y\n" ∷ []) (codes "#define CONFIG_A 1\n" ∷ codes "#define CONFIG_B 1\n" ∷ []) ≡ Err (fault.Undeclared 6))
     × (with_pairs 5 map.empty (codes "CONFIG_A=y\n" ∷ codes "CONFIG_B=y\n" ∷ []) (codes "#define CONFIG_A 1\n" ∷ []) ≡ Err (fault.Undefined 6))
     × (with_pairs 5 map.empty (codes "# CONFIG_B is not set\n" ∷ []) (codes "#define CONFIG_B 1\n" ∷ []) ≡ Err (fault.NotAnEntry 5))
-    × (with_pairs 5 map.empty (codes "CONFIG_A_MODULE=y\n" ∷ []) (codes "#define CONFIG_A_MODULE 1\n" ∷ []) ≡ Err (fault.ModuleSymbol 5))
+    × (with_pairs 5 map.empty (codes "CONFIG_A_MODULE=y\n" ∷ []) (codes "#define CONFIG_A_MODULE 1\n" ∷ [])
+    ≡ Ok (map.insert map.empty (codes "A_MODULE") (kind.Companion, codes "y")))
+    × (with_pairs 5 map.empty (codes "CONFIG_A_MODULE=1\n" ∷ []) (codes "#define CONFIG_A_MODULE 1\n" ∷ []) ≡ Err (fault.ModuleSymbol 5))
     × (with_pairs 5 map.empty (codes "CONFIG_A=n\n" ∷ []) (codes "#define CONFIG_A 0\n" ∷ []) ≡ Err (fault.Unexplained 5))
     × (with_pairs 5 map.empty (codes "CONFIG_A=y\n" ∷ codes "CONFIG_A=y\n" ∷ []) (codes "#define CONFIG_A 1\n" ∷ codes "#define CONFIG_A 1\n" ∷ []) ≡ Err (fault.Twice 6))
+
+-- What conf writes of a symbol of each kind, and what it is headed by; of the two strings a project's conf knows one form alone.
+abbrev pub entries_of_conf : Entries
+entries_of_conf =
+    (codes "S", (kind.Text, codes "a\"b")) ∷ (codes "M", (kind.Tristate, codes "m")) ∷ (codes "A", (kind.Bool, codes "y"))
+    ∷ (codes "I", (kind.Int, codes "-7")) ∷ (codes "H", (kind.Hex, codes "1f")) ∷ (codes "R", (kind.Raw, codes "\"a\\b\"")) ∷ []
+
+abbrev pub FilesOfConf : Type 0
+FilesOfConf =
+    AreOfConf entries_of_conf
+    × (conf_auto (codes "Demo") entries_of_conf
+    ≡ codes "#\n# Automatically generated file; DO NOT EDIT.\n# Demo\n#\nCONFIG_S=a\"b\nCONFIG_M=m\nCONFIG_A=y\nCONFIG_I=-7\nCONFIG_H=1f\nCONFIG_R=\"a\\b\"\n")
+    × (conf_header false (codes "Demo") entries_of_conf
+    ≡ codes "/*\n * Automatically generated file; DO NOT EDIT.\n * Demo\n */\n#define CONFIG_S \"a\\\"b\"\n#define CONFIG_M_MODULE 1\n#define CONFIG_A 1\n#define CONFIG_I -7\n#define CONFIG_H 0x1f\n#define CONFIG_R \"a\\b\"\n")
+    × (conf_header true (codes "Demo") [] ≡ codes "/*\n *\n * Automatically generated file; DO NOT EDIT.\n * Demo\n *\n */\n")

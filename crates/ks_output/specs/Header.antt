@@ -33,6 +33,9 @@ defined_as kind.Int text = codes " " ++ text
 defined_as kind.Hex text = codes " " ++ (if has_radix text then [] else codes "0x") ++ text
 defined_as kind.Raw text = codes " " ++ text
 defined_as kind.Flag text = codes " 1"
+defined_as kind.Companion text = codes " 1"
+defined_as kind.EmptyInt text = codes " " ++ text
+defined_as kind.EmptyHex text = codes " " ++ (if has_radix text then [] else codes "0x") ++ text
 
 abbrev pub definition_line : List ℕ → Kind → List ℕ → List ℕ
 definition_line name k text = front k ++ name ++ defined_as k text ++ codes "\n"

@@ -6,9 +6,13 @@ pub mod Header
 pub mod Definitions
 pub mod SeenNames
 pub mod Written
+pub mod Blocks
+pub mod ConfTexts
 pub mod Laws
 pub mod WrittenLaws
+pub mod BlocksLaws
 pub mod HeaderLaws
 pub mod Examples
+pub mod BlockExamples
 pub mod Appending
 pub mod Positions

@@ -8,7 +8,7 @@ use Rattle.ks_symbols.specs.declared.kinds.Kind.{Kind}
 use Rattle.ks_symbols.specs.declared.kinds.Kind.TheVariants as kind
 use Rattle.ks_symbols.specs.Names.{module_end}
 use Rattle.ks_symbols.specs.Lines.{max_bytes, is_no_line_feed}
-use Rattle.ks_symbols.specs.Kinds.{is_text, is_off}
+use Rattle.ks_symbols.specs.Kinds.{fits, is_text, is_off}
 use Rattle.ks_symbols.specs.Titles.{is_title}
 use Rattle.ks_symbols.specs.Statements.{Statement, Assigns, statement}
 use Rattle.ks_symbols.specs.Configuration.{Configuration}
@@ -45,26 +45,26 @@ as_entry said = None
 unfoldable pub given_by : List ℕ → Option (List ℕ × List ℕ)
 given_by line = if ends_with nat_eq line (codes "\n") then as_entry (statement (take (length line - 1) line)) else None
 
--- A kind explains a line of the header: the value is one of the kind, no n, and the line is the one that confstamp would write of it.
+-- A kind explains a line of the header: name and value are such as the kind has, the value is no n, and the line is the one that confstamp
+-- would write of them.
 unfoldable pub explains : List ℕ → List ℕ → List ℕ → Kind → Bool
-explains name value line k = is_text k value && not (is_off k value) && bytes_eq line (definition_line name k value)
+explains name value line k = fits k name && is_text k value && not (is_off k value) && bytes_eq line (definition_line name k value)
 
 abbrev pub kinds : List Kind
-kinds = kind.Bool ∷ kind.Tristate ∷ kind.Int ∷ kind.Hex ∷ kind.Text ∷ kind.Raw ∷ []
+kinds = kind.Bool ∷ kind.Tristate ∷ kind.Int ∷ kind.Hex ∷ kind.Text ∷ kind.Raw ∷ kind.Companion ∷ kind.EmptyInt ∷ kind.EmptyHex ∷ []
 
 unfoldable pub explained : List ℕ → List ℕ → List ℕ → Option Kind
 explained name value line = find (explains name value line) kinds
 
 -- The configuration after one more pair of lines, which have one number, or what is wrong with them
 abbrev pub with_kind : ℕ → Configuration → List ℕ → List ℕ → Option Kind → Result Configuration WrittenError
-with_kind n before name value None = Err (fault.Unexplained n)
+with_kind n before name value None = Err (if ends_with nat_eq name module_end then fault.ModuleSymbol n else fault.Unexplained n)
 with_kind n before name value (Some k) = Ok (map.insert before name (k, value))
 
 unfoldable pub with_entry : ℕ → Configuration → List ℕ → Option (List ℕ × List ℕ) → Result Configuration WrittenError
 with_entry n before line None = Err (fault.NotAnEntry n)
 with_entry n before line (Some e) =
-    if ends_with nat_eq e.0 module_end then Err (fault.ModuleSymbol n)
-    else (if map.contains_key before e.0 then Err (fault.Twice n) else with_kind n before e.0 e.1 (explained e.0 e.1 line))
+    if map.contains_key before e.0 then Err (fault.Twice n) else with_kind n before e.0 e.1 (explained e.0 e.1 line)
 
 abbrev pub chain : Result Configuration WrittenError → (Configuration → Result Configuration WrittenError) → Result Configuration WrittenError
 chain (Ok settings) later = later settings

@@ -1,7 +1,7 @@
 //! The C header `include/generated/autoconf.h`: a macro for each symbol that has a value.
 //!
 //! It is what an object is compiled with, so the staleness of objects rests on it: the definitions of a name depend
-//! on that name's entry alone. The forms are those of print_symbol_for_c in scripts/kconfig/confdata.c, and for a bool of
+//! on that name's entry and its companion's alone. The forms are those of print_symbol_for_c in scripts/kconfig/confdata.c, and for a bool of
 //! BusyBox one of those that its conf writes. That the names rise is a rule of this project.
 ghost use Rattle.std.specs.Prelude.{◌≡◌, ◌≤◌, ◌++◌, OnOk, OnErr};
 ghost use Rattle.ks_symbols.specs.Values.{quoted};
@@ -69,9 +69,9 @@ fn append_value(kind: Kind, text: &[u8], out: &mut Vec<u8>) -> Result<(), AllocE
             out.extend_from_slice(b" ")?;
             write_quoted(text, out)
         }
-        Kind::Int | Kind::Raw => append_all(&[b" ", text], out),
-        Kind::Flag => out.extend_from_slice(b" 1"),
-        Kind::Hex => {
+        Kind::Int | Kind::EmptyInt | Kind::Raw => append_all(&[b" ", text], out),
+        Kind::Flag | Kind::Companion => out.extend_from_slice(b" 1"),
+        Kind::Hex | Kind::EmptyHex => {
             let has_radix = text.starts_with(b"0x") || text.starts_with(b"0X");
             out.extend_from_slice(if has_radix { b" " } else { b" 0x" })?;
             out.extend_from_slice(text)

@@ -1,7 +1,7 @@
 //! The names that came so far in a text, in which none may come again.
 ghost use Rattle.std.specs.Prelude.{◌≡◌, ◌||◌, List, ℕ, IfOk, IsTrue, OnOk, [], bytes_eq, not};
 ghost use Rattle.ks_symbols.specs.Names.{is_name};
-ghost use Rattle.ks_output.specs.SeenNames.{is_in};
+ghost use Rattle.ks_output.specs.SeenNames.{is_in, with_name};
 
 use indexmap::IndexSet;
 use ks_symbols::{Seed, name_text};
@@ -38,6 +38,7 @@ impl SeenNames {
     pub(crate) fn note(&mut self, name: &[u8]) -> Result<bool, AllocError>
         requires { IsTrue (is_name name.now) }
         ensures new { IfOk result (λ new. new ≡ not (is_in name.now self.old)) }
+        ensures kept { OnOk result (self.new ≡ with_name name.now self.old) }
         ensures noted { OnOk result ((x : List ℕ) → is_in x self.new ≡ (bytes_eq x name.now || is_in x self.old)) }
     {
         let owned = String::from_str(self.alloc, name_text(name))?;

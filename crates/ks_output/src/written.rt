@@ -7,17 +7,18 @@
 ghost use Rattle.std.specs.Prelude.{◌≡◌, ◌⊎◌, ◌&&◌, ◌++◌, ℕ, List, not, Some, None, if◌then◌else◌, IfOk, IfErr, IfSome, IsTrue, OnOk, Ok, Err, nat_eq, option_map, length, drop, take_while};
 ghost use Rattle.ks_symbols.specs.Lines.{is_no_line_feed};
 ghost use Rattle.ks_symbols.specs.Kinds.{is_text, is_off};
-ghost use Rattle.ks_symbols.specs.Names.{is_name};
+ghost use Rattle.std.specs.List.{ends_with};
+ghost use Rattle.ks_symbols.specs.Names.{is_name, module_end};
 ghost use Rattle.ks_output.specs.SeenNames.{AreNamesOf};
 ghost use Rattle.ks_output.specs.Written.{conf_heading, older_heading, heading_of, title_in, given_by, explains, explained, with_entry, bodies, pairs_of, written};
-ghost use Rattle.ks_output.specs.declared.written.WrittenError.TheVariants.{OutOfMemory};
+ghost use Rattle.ks_output.specs.declared.written.WrittenError.TheVariants.{ModuleSymbol, OutOfMemory, Unexplained};
 
 use crate::appending::append_all;
 use crate::header::{append_definition, append_heading};
 use crate::seen_names::SeenNames;
 use bstr::ByteSlice;
 use ks_symbols::{
-    Draft, Kind, MAX_BYTES, Seed, Settings, SettingsBuilder, Statement, Table, is_title,
+    Draft, Kind, MAX_BYTES, Seed, Settings, SettingsBuilder, Statement, Table, fits, is_title,
     parse_statement, value_is_valid,
 };
 use std::alloc::{AllocError, Global};
@@ -36,7 +37,7 @@ pub enum WrittenError {
     /// A line of auto.conf gives no name a value.
     #[error("13 NotAnEntry line {0}")]
     NotAnEntry(u64),
-    /// A name ends in _MODULE: its macro would be that of a module.
+    /// A name ends in _MODULE, and is not that of a bool that is on: its macro would be that of a module.
     #[error("14 ModuleSymbol line {0}")]
     ModuleSymbol(u64),
     /// The line of the header is under no kind what the line of auto.conf comes to.
@@ -69,7 +70,7 @@ pub struct Written {
 }
 
 /// The bytes up to the first LF.
-fn first_line(text: &[u8]) -> &[u8]
+pub(crate) fn first_line(text: &[u8]) -> &[u8]
     ensures { result.now ≡ take_while is_no_line_feed text.now }
 {
     let mut end = 0;
@@ -80,7 +81,7 @@ fn first_line(text: &[u8]) -> &[u8]
 }
 
 /// The bytes from a place on, as far as there are any.
-fn rest_from(text: &[u8], start: usize) -> &[u8]
+pub(crate) fn rest_from(text: &[u8], start: usize) -> &[u8]
     ensures { result.now ≡ drop start text.now }
 {
     &text[start.min(text.len())..]
@@ -152,7 +153,7 @@ fn given_by(line: &[u8]) -> Option<(&[u8], &[u8])>
 }
 
 /// Whether a text is a value of the kind, and not the n of a bool or tristate.
-fn is_on(kind: Kind, text: &[u8]) -> bool
+pub(crate) fn is_on(kind: Kind, text: &[u8]) -> bool
     ensures { result ≡ (is_text kind text.now && not (is_off kind text.now)) }
 {
     value_is_valid(kind, text)
@@ -174,7 +175,7 @@ fn explains(
 ) -> Result<bool, AllocError>
     ensures { IfOk result (λ yes. yes ≡ explains name.now value.now line.now kind) }
 {
-    if !is_on(kind, value) {
+    if !fits(kind, name) || !is_on(kind, value) {
         return Ok(false);
     }
     aside.clear();
@@ -210,7 +211,26 @@ fn explained(
     if explains(name, value, line, Kind::Raw, aside)? {
         return Ok(Some(Kind::Raw));
     }
+    if explains(name, value, line, Kind::Companion, aside)? {
+        return Ok(Some(Kind::Companion));
+    }
+    if explains(name, value, line, Kind::EmptyInt, aside)? {
+        return Ok(Some(Kind::EmptyInt));
+    }
+    if explains(name, value, line, Kind::EmptyHex, aside)? {
+        return Ok(Some(Kind::EmptyHex));
+    }
     Ok(None)
+}
+
+/// Why a pair of lines is refused that no kind explains.
+fn refusal(number: u64, name: &[u8]) -> WrittenError
+    ensures { result ≡ (if ends_with nat_eq name.now module_end then ModuleSymbol number else Unexplained number) }
+{
+    if name.ends_with(b"_MODULE") {
+        return WrittenError::ModuleSymbol(number);
+    }
+    WrittenError::Unexplained(number)
 }
 
 /// Takes in one more pair of lines.
@@ -231,14 +251,11 @@ fn take(
     let Some((name, value)) = given_by(line) else {
         return Err(WrittenError::NotAnEntry(number));
     };
-    if name.ends_with(b"_MODULE") {
-        return Err(WrittenError::ModuleSymbol(number));
-    }
     if !seen.note(name)? {
         return Err(WrittenError::Twice(number));
     }
     let Some(kind) = explained(name, value, definition, aside)? else {
-        return Err(WrittenError::Unexplained(number));
+        return Err(refusal(number, name));
     };
     draft.put(name, kind, value)?;
     Ok(())
@@ -300,9 +317,9 @@ fn read_pairs(
     Ok(entries)
 }
 
-/// The configuration that conf wrote as these two texts. Names are looked up by a seed.
+/// The configuration that conf wrote as this auto.conf and header. Names are looked up by a seed.
 #[tactic(auto, unfolding(crate::specs::Written::written))]
-pub fn read_written(
+pub(crate) fn read_pair(
     alloc: Global,
     seed: Seed,
     auto: &[u8],

@@ -41,13 +41,18 @@ is_text kind.Int text = is_integer text
 is_text kind.Hex text = is_hexadecimal text
 is_text kind.Raw text = is_raw text
 is_text kind.Flag text = bytes_eq text (codes "y") || bytes_eq text (codes "n")
+is_text kind.Companion text = bytes_eq text (codes "y")
+is_text kind.EmptyInt text = length text == 0
+is_text kind.EmptyHex text = length text == 0
 
--- whether a symbol of the kind may have the name: with _MODULE at its end its macro would be that of a module, but a flag's begins otherwise
+-- whether a symbol of the kind may have the name: with _MODULE at its end its macro would be that of a module, but a flag's begins otherwise,
+-- and a companion's is that very macro
 abbrev pub fits : Kind → List ℕ → Bool
 fits kind.Flag name = true
+fits kind.Companion name = nat_lt 7 (length name) && ends_with nat_eq name module_end
 fits k name = not (ends_with nat_eq name module_end)
 
--- a name whose macro is no other symbol's
+-- a name that a symbol of the kind may have
 unfoldable pub is_symbol_name : Kind → List ℕ → Bool
 is_symbol_name k name = is_name name && fits k name
 
@@ -67,6 +72,9 @@ class_of kind.Int = class.Int
 class_of kind.Hex = class.Hex
 class_of kind.Raw = class.Raw
 class_of kind.Flag = class.Flag
+class_of kind.Companion = class.Switch
+class_of kind.EmptyInt = class.Int
+class_of kind.EmptyHex = class.Hex
 
 -- kinds as numbers, by which a proof tells them apart
 abbrev pub kind_number : Kind → ℕ
@@ -77,9 +85,12 @@ kind_number kind.Int = 3
 kind_number kind.Hex = 4
 kind_number kind.Raw = 5
 kind_number kind.Flag = 6
+kind_number kind.Companion = 7
+kind_number kind.EmptyInt = 8
+kind_number kind.EmptyHex = 9
 
 abbrev pub numbered_kind : ℕ → Kind
-numbered_kind n = if n == 0 then kind.Bool else if n == 1 then kind.Tristate else if n == 2 then kind.Text else if n == 3 then kind.Int else if n == 4 then kind.Hex else if n == 5 then kind.Raw else kind.Flag
+numbered_kind n = if n == 0 then kind.Bool else if n == 1 then kind.Tristate else if n == 2 then kind.Text else if n == 3 then kind.Int else if n == 4 then kind.Hex else if n == 5 then kind.Raw else if n == 6 then kind.Flag else if n == 7 then kind.Companion else if n == 8 then kind.EmptyInt else kind.EmptyHex
 
 abbrev pub numbered_again : (k : Kind) → numbered_kind (kind_number k) ≡ k
 numbered_again kind.Bool = refl
@@ -89,6 +100,9 @@ numbered_again kind.Int = refl
 numbered_again kind.Hex = refl
 numbered_again kind.Raw = refl
 numbered_again kind.Flag = refl
+numbered_again kind.Companion = refl
+numbered_again kind.EmptyInt = refl
+numbered_again kind.EmptyHex = refl
 
 abbrev pub coded_kind : Coded Kind
 coded_kind = code_by ℕ coded_ℕ kind_number numbered_kind numbered_again

@@ -24,6 +24,12 @@ pub enum Kind {
     Raw,
     /// `bool` in BusyBox, whose macro begins with `ENABLE_`: y or n.
     Flag,
+    /// `bool` with a name that ends in `_MODULE`, in what conf wrote: y. No Kconfig gives it.
+    Companion,
+    /// `int` without a value, in what conf wrote: no bytes. No Kconfig gives it.
+    EmptyInt,
+    /// `hex` without a value, likewise.
+    EmptyHex,
 }
 
 /// What of a kind the header depends on: `bool` and `tristate` are one class.
@@ -48,10 +54,10 @@ impl Kind {
         ensures { result ≡ class_of self }
     {
         match self {
-            Kind::Bool | Kind::Tristate => Class::Switch,
+            Kind::Bool | Kind::Tristate | Kind::Companion => Class::Switch,
             Kind::Text => Class::Text,
-            Kind::Int => Class::Int,
-            Kind::Hex => Class::Hex,
+            Kind::Int | Kind::EmptyInt => Class::Int,
+            Kind::Hex | Kind::EmptyHex => Class::Hex,
             Kind::Raw => Class::Raw,
             Kind::Flag => Class::Flag,
         }
@@ -127,15 +133,19 @@ pub fn value_is_valid(kind: Kind, text: &[u8]) -> bool
         Kind::Int => is_integer(text),
         Kind::Hex => is_hexadecimal(text),
         Kind::Raw => is_raw(text),
+        Kind::Companion => text == b"y".as_slice(),
+        Kind::EmptyInt | Kind::EmptyHex => text.is_empty(),
     }
 }
 
-/// Whether a symbol of the kind may have a legal name: where the name ends in `_MODULE`, that of a module's macro is kept free.
-pub(crate) fn fits(kind: Kind, name: &[u8]) -> bool
+/// Whether a symbol of the kind may have a legal name: one that ends in `_MODULE` is kept free for the macro of a module, but for a
+/// companion, which has that macro.
+pub fn fits(kind: Kind, name: &[u8]) -> bool
     ensures { result ≡ fits kind name.now }
 {
     match kind {
         Kind::Flag => true,
+        Kind::Companion => name.len() > 7 && name.ends_with(b"_MODULE"),
         _ => !name.ends_with(b"_MODULE"),
     }
 }

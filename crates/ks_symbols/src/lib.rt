@@ -28,7 +28,7 @@ pub use dialect::{Dialect, Kconfig};
 pub use dotconfig::{build_settings, read_dotconfig};
 pub use error::SourceError;
 pub use kconfig::read_kconfig;
-pub use kinds::{Class, Kind, value_is_valid};
+pub use kinds::{Class, Kind, fits, value_is_valid};
 pub use laws::{
     agreeing_configurations_are_one, examples_hold, lines_are_the_text, reads_are_texts,
     settings_are_configurations, statements_are_spelled,

@@ -297,6 +297,12 @@ const VALUES_OF_KINDS: &[(&str, Kind, &[u8], bool)] = &[
     ("two lines of a raw one", Kind::Raw,      b"\"a\nb\"",   false),
     ("y of a flag",            Kind::Flag,     b"y",          true),
     ("m of a flag",            Kind::Flag,     b"m",          false),
+    ("y of a companion",       Kind::Companion, b"y",         true),
+    ("m of a companion",       Kind::Companion, b"m",         false),
+    ("n of a companion",       Kind::Companion, b"n",         false),
+    ("no value of an int",     Kind::EmptyInt, b"",           true),
+    ("no bytes of an int",     Kind::Int,      b"",           false),
+    ("a value of an empty hex", Kind::EmptyHex, b"0",         false),
 ];
 
 fn check_values(rt: &impl Abort) {

@@ -1,7 +1,7 @@
 //! What a project's conf writes, in the forms of Linux 6.12, U-Boot 2023.01 and Xen 4.17, and what is read of it.
 use crate::check::check_text;
 use ks_output::{Written, WrittenError, read_written};
-use ks_symbols::Seed;
+use ks_symbols::{Dialect, Seed};
 use std::alloc::{AllocError, Global};
 
 const AUTO_HEAD: &[u8] = b"#\n# Automatically generated file; DO NOT EDIT.\n# Demo\n#\n";
@@ -32,7 +32,11 @@ fn spelled(alloc: Global, written: &Written) -> Result<String, AllocError> {
     Ok(all)
 }
 
-fn outcome(alloc: Global, read: Result<Written, WrittenError>) -> Result<String, AllocError> {
+/// What is said of what was read.
+pub(crate) fn outcome(
+    alloc: Global,
+    read: Result<Written, WrittenError>,
+) -> Result<String, AllocError> {
     match read {
         Ok(written) => spelled(alloc, &written),
         Err(error) => error.to_string(alloc),
@@ -45,7 +49,10 @@ fn said(alloc: Global, auto: &[u8], header: &[u8]) -> Result<String, AllocError>
     first.extend_from_slice(auto)?;
     let mut second = Vec::from_slice(alloc, HEADER_HEAD)?;
     second.extend_from_slice(header)?;
-    outcome(alloc, read_written(alloc, Seed::new(0), &first, &second))
+    outcome(
+        alloc,
+        read_written(alloc, Seed::new(0), Dialect::Linux, &first, &second),
+    )
 }
 
 #[rattlefmt::skip]
@@ -65,7 +72,9 @@ const READINGS: &[(&str, &[u8], &[u8], &str)] = &[
     ("another number", b"CONFIG_I=10\n", b"#define CONFIG_I 11\n", "15 Unexplained line 5"),
     ("another name", b"CONFIG_A=y\n", b"#define CONFIG_B 1\n", "15 Unexplained line 5"),
     ("a module as a bool", b"CONFIG_A=m\n", b"#define CONFIG_A 1\n", "15 Unexplained line 5"),
-    ("an int without a value", b"CONFIG_I=\n", b"#define CONFIG_I \n", "15 Unexplained line 5"),
+    ("an int without a value", b"CONFIG_I=\n", b"#define CONFIG_I \n", "Demo EmptyInt I="),
+    ("a hex without a value", b"CONFIG_H=\n", b"#define CONFIG_H 0x\n", "Demo EmptyHex H="),
+    ("a macro without a space", b"CONFIG_I=\n", b"#define CONFIG_I\n", "15 Unexplained line 5"),
     ("lines in another order", b"CONFIG_A=y\nCONFIG_B=y\n", b"#define CONFIG_B 1\n#define CONFIG_A 1\n", "15 Unexplained line 5"),
     ("lines that end in CR LF", b"CONFIG_S=a\r\n", b"#define CONFIG_S \"a\r\"\n", "15 Unexplained line 5"),
     ("a last line without its end", b"CONFIG_A=y", b"#define CONFIG_A 1\n", "13 NotAnEntry line 5"),
@@ -74,7 +83,14 @@ const READINGS: &[(&str, &[u8], &[u8], &str)] = &[
     ("a macro too few", b"CONFIG_A=y\nCONFIG_B=y\n", b"#define CONFIG_A 1\n", "16 Undefined line 6"),
     ("BusyBox's macros", b"CONFIG_A=y\n", b"#define CONFIG_A 1\n#define ENABLE_A 1\n", "17 Undeclared line 6"),
     ("the first of two", b"CONFIG_A=y\nCONFIG_A=y\n", b"#define CONFIG_A 1\n#define CONFIG_A 1\n", "18 Twice line 6"),
-    ("a module and its bool", b"CONFIG_A=m\nCONFIG_A_MODULE=y\n", b"#define CONFIG_A_MODULE 1\n#define CONFIG_A_MODULE 1\n", "14 ModuleSymbol line 6"),
+    ("a companion", b"CONFIG_A_MODULE=y\nCONFIG_A=y\n", b"#define CONFIG_A_MODULE 1\n#define CONFIG_A 1\n", "Demo Bool A=y Companion A_MODULE=y"),
+    ("a module and its companion", b"CONFIG_A=m\nCONFIG_A_MODULE=y\n", b"#define CONFIG_A_MODULE 1\n#define CONFIG_A_MODULE 1\n", "Demo Tristate A=m Companion A_MODULE=y"),
+    ("a companion of a companion", b"CONFIG_A_MODULE_MODULE=y\n", b"#define CONFIG_A_MODULE_MODULE 1\n", "Demo Companion A_MODULE_MODULE=y"),
+    ("a companion that is a module", b"CONFIG_A_MODULE=m\n", b"#define CONFIG_A_MODULE_MODULE 1\n", "14 ModuleSymbol line 5"),
+    ("a companion with a number", b"CONFIG_A_MODULE=1\n", b"#define CONFIG_A_MODULE 1\n", "14 ModuleSymbol line 5"),
+    ("a companion of no name", b"CONFIG__MODULE=y\n", b"#define CONFIG__MODULE 1\n", "14 ModuleSymbol line 5"),
+    ("a companion with another macro", b"CONFIG_A_MODULE=y\n", b"#define CONFIG_B_MODULE 1\n", "14 ModuleSymbol line 5"),
+    ("a companion twice", b"CONFIG_A_MODULE=y\nCONFIG_A_MODULE=y\n", b"#define CONFIG_A_MODULE 1\n#define CONFIG_A_MODULE 1\n", "18 Twice line 6"),
 ];
 
 #[test]
@@ -92,7 +108,13 @@ fn headings(rt: HostRuntime) -> Result<(), AllocError> {
     let alloc = rt.alloc();
     let found = outcome(
         alloc,
-        read_written(alloc, Seed::new(0), HEADER_HEAD, HEADER_HEAD),
+        read_written(
+            alloc,
+            Seed::new(0),
+            Dialect::Linux,
+            HEADER_HEAD,
+            HEADER_HEAD,
+        ),
     )?;
     check_text(
         &rt,
@@ -100,11 +122,20 @@ fn headings(rt: HostRuntime) -> Result<(), AllocError> {
         found.as_str(),
         "12 BadHeading",
     );
-    let found = outcome(alloc, read_written(alloc, Seed::new(0), b"", b""))?;
+    let found = outcome(
+        alloc,
+        read_written(alloc, Seed::new(0), Dialect::Linux, b"", b""),
+    )?;
     check_text(&rt, "nothing at all", found.as_str(), "12 BadHeading");
     let found = outcome(
         alloc,
-        read_written(alloc, Seed::new(0), AUTO_WITH_A, OLDER_WITH_A),
+        read_written(
+            alloc,
+            Seed::new(0),
+            Dialect::Linux,
+            AUTO_WITH_A,
+            OLDER_WITH_A,
+        ),
     )?;
     check_text(
         &rt,

@@ -1,39 +1,18 @@
-use Rattle.itertools.proofs.AdaptorLemmas.{items_from_whole_run, run_to_end, run_to_item}
-use Rattle.ks_compare.proofs.Prelude.{rules, arith, common_steps, seen, YieldsList-from_rest, filter_map-append, [], refl, sym, ap, ap₂, subst, ◌∙◌, append-nil, IsTrue, filter_map, merge_join_by, AllByRecursion, AreChanges, all_entries, name_of_symbol, is_name, borrowed_entry, borrowed_old_entry}
-use Rattle.ks_compare.proofs.Merge.{by_name, name_of, every, taken, among, merged_changes}
+use Rattle.ks_compare.proofs.Prelude.{rules, ap, subst, ◌∙◌, ℕ, List, AreWithBases, changed_companions}
+use Rattle.std.proofs.Common.{Vec, Global}
+use Rattle.std.proofs.lemmas.List.{nil_from_length}
+use Rattle.std.proofs.lemmas.Result.{IfOk-weaker}
+use Rattle.ks_compare.proofs.BaseLemmas.{changes_alone, changes_by}
 use Rattle.ks_compare.proofs.comparison.changed.Goals as goal
 
-pub new-requires : goal.new-requires
-new-requires c =
-    let p = run_to_item _ _ c.loop-pair.yielded c.loop-pair.yielded_by c.in-Some.pair c.in-Some.ensures.steps in
-    let (inner, from, runs) = c.merge_join_by-pair-items.ensures.runs in
-    let (a, at_a, behind) = runs p (seen _) c.into_iter-pair-iterator.ensures.into_iter_gives in
-    let (b, at_b, gives) = behind in
-    let by = by_name borrowed_old_entry borrowed_entry in
-    let (more, is) = (gives.1 by (λ x y r f' k. search rules)).2 [] [] (λ _. refl) (λ _. refl) in
-    let every_legal = every borrowed_old_entry borrowed_entry (λ n. IsTrue (is_name n)) a.items b.items
-    (taken borrowed_old_entry _ a _ (at_a ∙ from ∙ c.entries.ensures) (all_entries _ _ c.keeps_names.ensures))
-    (taken borrowed_entry _ b _ (at_b ∙ c.merge_join_by-pair-items.ensures.second.0 ∙ c.entries-2.ensures) (all_entries _ _ (λ x s is. name_of_symbol _ x (c.keeps_configuration.ensures x s is).named))) in
-    among (λ n. IsTrue (is_name n)) (name_of borrowed_old_entry borrowed_entry) c.loop-pair.yielded more c.in-Some.pair _ (sym c.in-Some-changed_name.ensures)
-    (subst (λ l. AllByRecursion (λ n. IsTrue (is_name n)) (filter_map (name_of borrowed_old_entry borrowed_entry) l))
-    (ap₂ (merge_join_by by) (sym (append-nil a.items)) (sym (append-nil b.items)) ∙ is) every_legal)
-
-pub loop-pair-preserved-in_ok-push : goal.loop-pair-preserved-in_ok-push
-loop-pair-preserved-in_ok-push c = grind (arith, common_steps, filter_map-append)
-
-pub loop-pair-preserved : goal.loop-pair-preserved
-loop-pair-preserved c = grind (arith, common_steps, filter_map-append, append-nil)
+pub returns-then-is_empty : goal.returns-then-is_empty
+returns-then-is_empty c =
+    let these = c.in_ok-companions.ensures ∙ ap (changed_companions c.args.old.now.texts c.args.new.now.entries) c.deref.ensures.value in
+    changes_alone _ _ _ _ c.in_ok-names.ensures these (nil_from_length _ (search rules))
 
 pub returns : goal.returns
 returns c =
-    let p = run_to_end _ _ c.loop-pair.yielded c.loop-pair.yielded_by c.in-None.ensures.steps in
-    let (inner, from, runs) = c.merge_join_by-pair-items.ensures.runs in
-    let (a, at_a, behind) = runs p (seen _) c.into_iter-pair-iterator.ensures.into_iter_gives in
-    let (b, at_b, gives) = behind in
-    let whole = gives.0 refl in
-    let is = (gives.1 (by_name borrowed_old_entry borrowed_entry) (λ x y r f' k. search rules)).1 refl in
-    subst (AreChanges c.args.old.now.texts c.args.new.now.entries)
-    (sym (c.loop-pair.invariant ∙ ap (filter_map (name_of borrowed_old_entry borrowed_entry)) is))
-    (merged_changes borrowed_old_entry borrowed_entry _ _ a.items b.items
-    (items_from_whole_run (YieldsList-from_rest _ (from ∙ c.entries.ensures)) a at_a whole.0)
-    (items_from_whole_run (YieldsList-from_rest _ (c.merge_join_by-pair-items.ensures.second.0 ∙ c.entries-2.ensures)) b at_b whole.1))
+    let these = c.in_ok-companions.ensures ∙ ap (changed_companions c.args.old.now.texts c.args.new.now.entries) c.deref.ensures.value in
+    IfOk-weaker _ _ _ (λ (all : Vec (List ℕ) Global) is.
+    changes_by _ _ _ _ all.items c.in_ok-names.ensures these (subst (λ names. AreWithBases names c.in_ok-companions.companions.items all.items) c.deref-2.ensures.value
+    (subst (λ companions. AreWithBases c.deref-2.result.now companions all.items) c.deref-3.ensures.value is))) c.with_bases.ensures

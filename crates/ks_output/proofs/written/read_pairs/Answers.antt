@@ -1,5 +1,4 @@
-use Rattle.ks_output.proofs.Prelude.{ap, length, arith, common_steps, rules, lines_of, inr}
-use Rattle.std.specs.Prelude.{◌-◌}
+use Rattle.ks_output.proofs.Prelude.{ap, length, arith, common_steps, rules, inr}
 use Rattle.std.proofs.lemmas.Result.{err_from_is_err_and}
 use Rattle.ks_output.specs.Written.{pairs_of, with_pairs}
 use Rattle.ks_output.proofs.WrittenPairs.{undefined, undeclared, ended, goes_on, taken_wrong}

@@ -1,7 +1,7 @@
 use Rattle.ks_output.proofs.Prelude.{rules}
 use Rattle.ks_output.specs.Written.{written}
 use Rattle.ks_output.proofs.WrittenAlike.{accepted_is_configuration}
-use Rattle.ks_output.proofs.written.read_written.Goals as goal
+use Rattle.ks_output.proofs.written.read_pair.Goals as goal
 
 pub returns-clause-read : goal.returns-clause-read
 unfolding written

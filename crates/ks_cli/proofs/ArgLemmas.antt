@@ -1,11 +1,14 @@
 -- What the command line makes of arguments that begin with no hyphen.
-use Rattle.ks_cli.proofs.Prelude.{◌≡◌, ◌≢◌, ◌==◌, inl, inr, ap, sym, subst, ◌∙◌, ℕ, List, [], ◌∷◌, Option, Some, None, refl, codes, true, false, slice_index, option_map, arith, true≢false, nat_tests, Error, HasKind, IsAmong, Kinds, kind_of, Row, Text, first_of, first_value, is_simple, is_simple_and_free, rows_of, subcommand_name_of, subcommand_of, subcommand_rows_of, takes, is_some, same_Some, IsBatchOf, IsPreviewOf, Request, WordsError, IfErr, IfOk, IsPageNamed, IsPageReported, IsReason, IsRequestOf, IsTakenAs, HasText, IsReported, Makes, Ok, Err, Result, fault_of, is_no_memory, ArgMatches, CommandLine, reading_of, strip_byte, bytes_eq, Found, first_value-rows, clap_on_literals, command_line_app, rules}
+use Rattle.ks_cli.proofs.Prelude.{◌≡◌, ◌≢◌, ◌==◌, inl, inr, ap, sym, subst, ◌∙◌, ℕ, List, [], ◌∷◌, Option, Some, None, refl, codes, true, false, slice_index, option_map, arith, true≢false, nat_tests, Error, HasKind, IsAmong, kind_of, Row, Text, first_of, first_value, is_simple, is_simple_and_free, rows_of, subcommand_name_of, subcommand_of, subcommand_rows_of, takes, is_some, same_Some, IsBatchOf, IsPreviewOf, Request, WordsError, IfErr, IfOk, IsPageNamed, IsPageReported, IsReason, IsRequestOf, IsTakenAs, HasText, IsReported, Makes, Ok, Err, Result, fault_of, is_no_memory, ArgMatches, CommandLine, reading_of, strip_byte, bytes_eq, Found, first_value-rows, clap_on_literals, command_line_app, rules}
 use Rattle.clap.specs.declared.error.kind.ErrorKind.{ErrorKind}
 use Rattle.clap.specs.declared.error.kind.ErrorKind.TheVariants.{OutOfMemory as NoMemory}
 use Rattle.std.specs.Prelude.{IsSomeAnd}
 use Rattle.ks_errors.specs.Errors.{Texts}
 unfoldable use Rattle.ks_errors.specs.Errors.{page}
-use Rattle.ks_cli.specs.Args.{IsPlainArg, is_visible, arg_at}
+use Rattle.ks_cli.specs.Args.{IsPlainArg, asks_both, is_visible, arg_at}
+use Rattle.ks_cli.specs.Meaning.{IsBothReported}
+use Rattle.clap.specs.declared.parser.matches.ValueSource.TheVariants.{DefaultValue}
+use Rattle.ks_engine.specs.declared.planning.ConfigForm.TheVariants.{Kconfig}
 use Rattle.ks_requests.specs.declared.request.Request.TheVariants as request
 use Rattle.ks_cli.specs.declared.args.WordsError.TheVariants as args
 use Rattle.clap.specs.declared.builder.value_parser.ValueParser.TheVariants as vp
@@ -26,6 +29,16 @@ given id arg = record {
   count = None;
   source = Some CommandLine;
   reading = reading_of vp.String;
+}
+
+-- .. and of an option that was not
+abbrev pub not_given : Text → Row
+not_given id = record {
+  id = id;
+  values = codes "false" ∷ [];
+  count = None;
+  source = Some DefaultValue;
+  reading = reading_of vp.Bool;
 }
 
 -- the first byte is no hyphen
@@ -50,7 +63,7 @@ unfolding clap_on_literals
 batch_takes p f = simp (no_escape p f, no_hyphen p f) refl
 
 pub preview_rows : (k d : Text) → slice_index k 0 ≢ 45 → slice_index d 0 ≢ 45
-    → subcommand_of command_line_app (codes "preview" ∷ k ∷ d ∷ []) ≡ Some (codes "preview", given (codes "KCONFIG") k ∷ given (codes "DOTCONFIG") d ∷ [])
+    → subcommand_of command_line_app (codes "preview" ∷ k ∷ d ∷ []) ≡ Some (codes "preview", given (codes "KCONFIG") k ∷ given (codes "DOTCONFIG") d ∷ not_given (codes "written") ∷ [])
 unfolding clap_on_literals
 preview_rows k d f g = simp (no_escape k f, no_hyphen k f, no_escape d g, no_hyphen d g) refl
 
@@ -73,9 +86,9 @@ both None name rows P e f h = absurd (true≢false (ap is_some e))
 both (Some p) name rows P e f h = subst (λ n. P n p.1) (same_Some _ _ e) (subst (P name) (same_Some _ _ f) h)
 
 -- the request of a command is no other command's: their names begin with other letters, and `stale` is the rest
-pub preview_of : (k d : Text) (r : Request) → IsRequestOf (codes "preview") (given (codes "KCONFIG") k ∷ given (codes "DOTCONFIG") d ∷ []) r
-    → IsPreviewOf k d None r
-preview_of k d (request.Preview k' d' o) h = (h.1, h.2, h.3)
+pub preview_of : (k d : Text) (r : Request) → IsRequestOf (codes "preview") (given (codes "KCONFIG") k ∷ given (codes "DOTCONFIG") d ∷ not_given (codes "written") ∷ []) r
+    → IsPreviewOf Kconfig k d None r
+preview_of k d (request.Preview c o) h = (h.1.0, h.1.1, h.1.2, h.2)
 preview_of k d (request.Stale ts f) h = absurd (h.0 1 [] (omega arith) refl)
 preview_of k d (request.Backdate which ts) h = elim h.0 [
   | inl e ↦ absurd (true≢false (ap (λ t. slice_index t 0 == 112) e))
@@ -116,8 +129,18 @@ page_visible error = refl
 -- the page that is printed for its argument is that of the command
 pub page_named : (name : Text) (rows : List Row) (reported : WordsError) → name ≡ codes "explain" → IsPageReported (arg_at (codes "NUMBER") rows) reported
     → IsPageNamed name rows reported
-page_named name rows (args.Refused help) is h = (is, h.0)
+page_named name rows (args.Refused help) is h = inl (is, h.0)
 page_named name rows args.OutOfMemory is h = tt
+
+-- .. and so is what is said of two options
+pub both_named : (name : Text) (rows : List Row) (reported : WordsError) → name ≡ codes "sync" → asks_both rows ≡ true → IsBothReported reported
+    → IsPageNamed name rows reported
+both_named name rows (args.Refused help) is both h = inr (is, both, h.0, h.1)
+both_named name rows args.OutOfMemory is both h = tt
+
+pub both_report_style : (reported : WordsError) → IsBothReported reported → HasText reported
+both_report_style (args.Refused help) h = h.2
+both_report_style args.OutOfMemory h = tt
 
 pub page_report_style : (arg : Text) (reported : WordsError) → IsPageReported arg reported → HasText reported
 page_report_style arg (args.Refused help) h = h.1
@@ -157,7 +180,7 @@ batch_made asked (Ok q) made = λ p are plain. batch_of p q (subst (λ o. IsSome
 batch_made asked (Err reported) made = tt
 
 pub preview_made : (asked : List Text) (r : Result Request WordsError) → IfOk r (λ q. Makes asked q)
-    → IfOk r (λ q. (k d : List ℕ) → asked ≡ codes "preview" ∷ k ∷ d ∷ [] → IsPlainArg k → IsPlainArg d → IsPreviewOf k d None q)
+    → IfOk r (λ q. (k d : List ℕ) → asked ≡ codes "preview" ∷ k ∷ d ∷ [] → IsPlainArg k → IsPlainArg d → IsPreviewOf Kconfig k d None q)
 preview_made asked (Ok q) made = λ k d are first second. preview_of k d q (subst (λ o. IsSomeAnd o (λ c. IsRequestOf c.0 c.1 q))
     (ap (subcommand_of command_line_app) are ∙ preview_rows k d first second) made)
 preview_made asked (Err reported) made = tt

@@ -1,10 +1,13 @@
 -- Arguments of the command line, the requests that they make, and why they make none.
-use Rattle.std.specs.Prelude.{◌≡◌, ◌≢◌, ◌⊎◌, ℕ, Bool, false, true, nat_lt, List, [], ◌∷◌, bytes_eq, codes, not, option_map, slice_index, string_bytes, unwrap_or, ⊤, ◌&&◌, if◌then◌else◌, ◌<◌, ◌^◌, Option, Some, None, map}
+use Rattle.std.specs.Prelude.{◌≡◌, ◌≢◌, ◌⊎◌, ℕ, Bool, false, true, nat_lt, List, [], ◌∷◌, bytes_eq, codes, option_map, slice_index, string_bytes, unwrap_or, ⊤, ◌&&◌, if◌then◌else◌, ◌<◌, ◌^◌, Option, Some, None, map}
 use Rattle.std.specs.List.{All, list_any}
 use Rattle.std.specs.Option.{option_map_or}
 use Rattle.clap.specs.Words.{Row, Text, all_of, first_of, one_of}
 use Rattle.ks_engine.specs.declared.backdating.BackdateScope.{BackdateScope}
 use Rattle.ks_engine.specs.declared.backdating.BackdateScope.TheVariants as backdates
+use Rattle.ks_engine.specs.declared.planning.ConfigForm.{ConfigForm}
+use Rattle.ks_engine.specs.declared.planning.ConfigForm.TheVariants as form
+use Rattle.ks_requests.specs.declared.request.ConfigPaths.{ConfigPaths}
 use Rattle.ks_requests.specs.declared.request.DepfileAfter.{DepfileAfter}
 use Rattle.ks_requests.specs.declared.request.DepfileAfter.TheVariants as depfile
 use Rattle.ks_requests.specs.declared.request.OutputFormat.{OutputFormat}
@@ -77,9 +80,16 @@ report_style_of rows = if is_set (codes "quiet") rows then Status else (if is_se
 abbrev pub stamps_of : List Row → Stamps
 stamps_of rows = if is_set (codes "stamps") rows then stamps.Declared else stamps.Touched
 
--- whether `sync` takes what conf wrote; `--stamps` is about a Kconfig
-abbrev pub is_written : List Row → Bool
-is_written rows = is_set (codes "written") rows && not (is_set (codes "stamps") rows)
+-- what the two files of a configuration are, and which they are
+abbrev pub form_of : List Row → ConfigForm
+form_of rows = if is_set (codes "written") rows then form.Written else form.Kconfig
+
+abbrev pub AreConfig : List Row → ConfigPaths → Type 0
+AreConfig rows c = (c.form ≡ form_of rows) × (string_bytes c.first ≡ arg_at (codes "KCONFIG") rows) × (string_bytes c.second ≡ arg_at (codes "DOTCONFIG") rows)
+
+-- whether `sync` is asked for a stamp of each declared symbol by what conf wrote, which doesn't say what is declared
+abbrev pub asks_both : List Row → Bool
+asks_both rows = is_set (codes "stamps") rows && is_set (codes "written") rows
 
 -- what `record` is to leave of the dependency file
 abbrev pub depfile_after : List Row → DepfileAfter
@@ -111,17 +121,10 @@ IsNumberOf (Some arg) None = (IsNumeral 10 (without_leading_plus arg) × (digits
 
 -- the request is that of the command, and holds what `clap` found for each of its arguments
 abbrev pub IsRequestOf : Text → List Row → Request → Type 0
-IsRequestOf command rows (request.Sync k d stamps) = (command ≡ codes "sync")
-    × (string_bytes k ≡ arg_at (codes "KCONFIG") rows) × (string_bytes d ≡ arg_at (codes "DOTCONFIG") rows)
-    × (stamps ≡ stamps_of rows) × (is_written rows ≡ false)
-IsRequestOf command rows (request.SyncWritten a h) = (command ≡ codes "sync") × (is_written rows ≡ true)
-    × (string_bytes a ≡ arg_at (codes "KCONFIG") rows) × (string_bytes h ≡ arg_at (codes "DOTCONFIG") rows)
-IsRequestOf command rows (request.Preview k d o) = (command ≡ codes "preview")
-    × (string_bytes k ≡ arg_at (codes "KCONFIG") rows) × (string_bytes d ≡ arg_at (codes "DOTCONFIG") rows)
+IsRequestOf command rows (request.Sync c stamps) = (command ≡ codes "sync") × AreConfig rows c × (stamps ≡ stamps_of rows) × (asks_both rows ≡ false)
+IsRequestOf command rows (request.Preview c o) = (command ≡ codes "preview") × AreConfig rows c
     × (option_map (λ path. string_bytes path) o ≡ first_of (codes "OLDAUTO") rows)
-IsRequestOf command rows (request.Diff k d report_style) = (command ≡ codes "diff")
-    × (string_bytes k ≡ arg_at (codes "KCONFIG") rows) × (string_bytes d ≡ arg_at (codes "DOTCONFIG") rows)
-    × (report_style ≡ report_style_of rows)
+IsRequestOf command rows (request.Diff c report_style) = (command ≡ codes "diff") × AreConfig rows c × (report_style ≡ report_style_of rows)
 IsRequestOf command rows (request.Fixdep d t c) = (command ≡ codes "fixdep")
     × (string_bytes d ≡ arg_at (codes "DEPFILE") rows) × (string_bytes t ≡ arg_at (codes "TARGET") rows)
     × (string_bytes c ≡ arg_at (codes "COMMAND") rows)
@@ -134,9 +137,7 @@ IsRequestOf command rows (request.Depfile end d t c) = (command ≡ codes "depfi
 IsRequestOf command rows (request.Stale ts f) =
     IsNoOther command × AreTargets rows ts × (f ≡ format_of rows)
 IsRequestOf command rows (request.Why ts f) = (command ≡ codes "why") × AreTargets rows ts × (f ≡ format_of rows)
-IsRequestOf command rows (request.Impact k d ts f) = (command ≡ codes "impact")
-    × (string_bytes k ≡ arg_at (codes "KCONFIG") rows) × (string_bytes d ≡ arg_at (codes "DOTCONFIG") rows) × AreTargets rows ts
-    × (f ≡ format_of rows)
+IsRequestOf command rows (request.Impact c ts f) = (command ≡ codes "impact") × AreConfig rows c × AreTargets rows ts × (f ≡ format_of rows)
 IsRequestOf command rows (request.Backdate which ts) = ((command ≡ codes "backdate") ⊎ (command ≡ codes "age")) × (which ≡ backdates_of rows) × AreTargets rows ts
 IsRequestOf command rows (request.Batch s) =
     (command ≡ codes "batch") × (string_bytes s ≡ arg_at (codes "SCRIPT") rows)

@@ -76,20 +76,26 @@ abbrev pub bare_app : App
 bare_app =
     on_top (λ s. record s { has_version = true; subcommand_required = true; no_binary_name = true }) (new_app (codes "confstamp"))
 
--- the whole command line
-abbrev pub command_line_app : App
-command_line_app = with_all bare_app
+-- the commands that write a configuration or a record, or show what they would write
+abbrev pub writing_apps : List App
+writing_apps =
     (needing_one (taking (codes "sync") (flag (codes "stamps") ∷ flag (codes "written") ∷ once (codes "KCONFIG") ∷ once (codes "DOTCONFIG") ∷ []))
-    ∷ taking (codes "preview") (once (codes "KCONFIG") ∷ once (codes "DOTCONFIG") ∷ at_most_once (codes "OLDAUTO") ∷ [])
-    ∷ needing_one (taking (codes "diff") (flag (codes "exit-code") ∷ flag (codes "quiet") ∷ once (codes "KCONFIG") ∷ once (codes "DOTCONFIG") ∷ []))
+    ∷ needing_one (taking (codes "preview") (flag (codes "written") ∷ once (codes "KCONFIG") ∷ once (codes "DOTCONFIG") ∷ at_most_once (codes "OLDAUTO") ∷ []))
+    ∷ needing_one (taking (codes "diff") (flag (codes "exit-code") ∷ flag (codes "quiet") ∷ flag (codes "written") ∷ once (codes "KCONFIG")
+    ∷ once (codes "DOTCONFIG") ∷ []))
     ∷ taking (codes "fixdep") (once (codes "DEPFILE") ∷ once (codes "TARGET") ∷ once (codes "COMMAND") ∷ [])
     ∷ needing_one (taking (codes "record") (flag (codes "remove-depfile") ∷ once (codes "DEPFILE") ∷ once (codes "TARGET")
     ∷ once (codes "COMMAND") ∷ []))
     ∷ needing_one (taking (codes "depfile") (following (codes "header") (codes "SUFFIX") ∷ once (codes "DEPFILE") ∷ once (codes "TARGET")
     ∷ once (codes "COMMAND") ∷ []))
-    ∷ needing_one (taking (codes "stale") (any_number (codes "TARGET") ∷ following (codes "from") (codes "FILE") ∷ flag (codes "json") ∷ []))
+    ∷ [])
+
+-- .. and those about objects, the scripts and the errors
+abbrev pub asking_apps : List App
+asking_apps =
+    (needing_one (taking (codes "stale") (any_number (codes "TARGET") ∷ following (codes "from") (codes "FILE") ∷ flag (codes "json") ∷ []))
     ∷ needing_one (taking (codes "why") (any_number (codes "TARGET") ∷ following (codes "from") (codes "FILE") ∷ flag (codes "json") ∷ []))
-    ∷ needing_one (taking (codes "impact") (once (codes "KCONFIG") ∷ once (codes "DOTCONFIG") ∷ any_number (codes "TARGET")
+    ∷ needing_one (taking (codes "impact") (flag (codes "written") ∷ once (codes "KCONFIG") ∷ once (codes "DOTCONFIG") ∷ any_number (codes "TARGET")
     ∷ following (codes "from") (codes "FILE") ∷ flag (codes "json") ∷ []))
     ∷ needing_one (taking (codes "backdate") (flag (codes "unrecorded") ∷ any_number (codes "TARGET") ∷ following (codes "from") (codes "FILE") ∷ []))
     ∷ needing_one (taking (codes "age") (flag (codes "unrecorded") ∷ any_number (codes "TARGET") ∷ following (codes "from") (codes "FILE") ∷ []))
@@ -100,3 +106,7 @@ command_line_app = with_all bare_app
     ∷ number_following (codes "top") (codes "N") ∷ []))
     ∷ taking (codes "explain") (at_most_once (codes "NUMBER") ∷ [])
     ∷ [])
+
+-- the whole command line
+abbrev pub command_line_app : App
+command_line_app = with_all (with_all bare_app writing_apps) asking_apps

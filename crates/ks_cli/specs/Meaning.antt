@@ -9,7 +9,7 @@ use Rattle.ks_requests.specs.declared.refusal.Refusal.TheVariants.{Output}
 use Rattle.ks_requests.specs.declared.request.Request.{Request}
 use Rattle.ks_requests.specs.Endings.{Complains}
 use Rattle.ks_cli.specs.CommandLine.{command_line_app}
-use Rattle.ks_cli.specs.Args.{IsRequestOf, is_help, is_visible, arg_at}
+use Rattle.ks_cli.specs.Args.{IsRequestOf, asks_both, is_help, is_visible, arg_at}
 use Rattle.ks_cli.specs.declared.help_text.HelpText.{HelpText}
 use Rattle.ks_cli.specs.declared.args.WordsError.{WordsError}
 use Rattle.ks_cli.specs.declared.args.WordsError.TheVariants.{OutOfMemory, Refused}
@@ -29,22 +29,33 @@ abbrev pub IsPageReported : Text → WordsError → Type 0
 IsPageReported arg (Refused help) = IsPageOf arg help × (is_visible (string_bytes help.text) ≡ true)
 IsPageReported arg OutOfMemory = ⊤
 
--- .. by a command and its arguments: those of `explain`
+-- What is said of two options that exclude each other, as `clap` says it; or memory was refused for it.
+unfoldable pub both_text : List ℕ
+both_text = codes "error: the argument '--stamps' cannot be used with '--written'\n\nUsage: confstamp sync [--stamps | --written] <KCONFIG> <DOTCONFIG>\n\nFor more information, try '--help'.\n"
+
+abbrev pub IsBothReported : WordsError → Type 0
+IsBothReported (Refused help) = (is_help help.kind ≡ false) × (string_bytes help.text ≡ both_text) × (is_visible (string_bytes help.text) ≡ true)
+IsBothReported OutOfMemory = ⊤
+
+-- What a command and its arguments are told in place of a request: `explain` a page, and `sync` that two options exclude each other.
+abbrev pub IsTold : Text → List Row → HelpText → Type 0
+IsTold name rows help = ((name ≡ codes "explain") × IsPageOf (arg_at (codes "NUMBER") rows) help)
+    ⊎ ((name ≡ codes "sync") × (asks_both rows ≡ true) × (is_help help.kind ≡ false) × (string_bytes help.text ≡ both_text))
+
 abbrev pub IsPageNamed : Text → List Row → WordsError → Type 0
-IsPageNamed name rows (Refused help) = (name ≡ codes "explain") × IsPageOf (arg_at (codes "NUMBER") rows) help
+IsPageNamed name rows (Refused help) = IsTold name rows help
 IsPageNamed name rows OutOfMemory = ⊤
 
--- The arguments ask `explain` about an error, and this is its page.
+-- The arguments are told so: they ask `explain` about an error, or `sync` for both.
 abbrev pub IsPageFor : List Text → HelpText → Type 0
-IsPageFor args help = IsSomeAnd (subcommand_of command_line_app args)
-    (λ command. (command.0 ≡ codes "explain") × IsPageOf (arg_at (codes "NUMBER") command.1) help)
+IsPageFor args help = IsSomeAnd (subcommand_of command_line_app args) (λ command. IsTold command.0 command.1 help)
 
--- Why arguments that `clap` accepts make no request: they ask for a page, or memory was refused.
+-- Why arguments that `clap` accepts make no request: they are told so, or memory was refused.
 abbrev pub IsTakenAs : List Text → WordsError → Type 0
 IsTakenAs args (Refused help) = IsPageFor args help
 IsTakenAs args OutOfMemory = ⊤
 
--- Why any arguments make none: it is of a kind that these arguments have, or they ask for a page.
+-- Why any arguments make none: it is of a kind that these arguments have, or they are told so.
 abbrev pub IsReason : List Text → WordsError → Type 0
 IsReason args (Refused help) = IsAmong help.kind (fault_of command_line_app args) ⊎ IsPageFor args help
 IsReason args OutOfMemory = ⊤
@@ -63,7 +74,7 @@ abbrev pub IsHelp : HelpText → State → State → State → State → ℕ →
 IsHelp help before after err_before err_after status = MatchBool (is_help help.kind)
     (IsShown (string_bytes help.text) before after err_before err_after status) (IsBlamed (string_bytes help.text) before after err_before err_after status)
 
--- `clap` does not accept the arguments, for a reason of a kind that they have, or they ask for a page; there is something to see in what is said
+-- `clap` does not accept the arguments, for a reason of a kind that they have, or they ask for a page or for both options; there is something to see in what is said
 -- of it, and that is printed.
 pub record Explains (args : List Text) (help : HelpText) (before after err_before err_after : State) (status : ℕ) : Type 0 where
   pub refused : takes command_line_app args ≡ true → IsPageFor args help

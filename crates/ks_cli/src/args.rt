@@ -1,18 +1,18 @@
 //! What the arguments ask for.
-ghost use Rattle.std.specs.Prelude.{◌≡◌, ◌≢◌, ℕ, List, [], ◌∷◌, IfErr, IfOk, codes, true, map, None, option_map, string_bytes, if◌then◌else◌};
+ghost use Rattle.std.specs.Prelude.{◌≡◌, ◌≢◌, ℕ, List, [], ◌∷◌, IfErr, IfOk, codes, false, true, map, None, option_map, string_bytes, if◌then◌else◌};
 ghost use Rattle.clap.specs.Words.{first_of, found_of, kind_of, one_of, rows_of, takes};
 ghost use Rattle.clap.specs.Walk.{texts};
 ghost use Rattle.ks_requests.specs.Requests.{IsBatchOf, IsPreviewOf};
 ghost use Rattle.ks_cli.specs.CommandLine.{command_line_app};
-ghost use Rattle.ks_cli.specs.Meaning.{IsPageNamed, IsPageReported, IsReason, IsTakenAs, Makes};
-ghost use Rattle.ks_cli.specs.Args.{AreTargets, IsPlainArg, IsRequestOf, HasText, IsReported, IsWantOfMemory, is_no_memory, is_set, report_style_of, arg_at, args_at, format_of, IsNumberOf};
+ghost use Rattle.ks_cli.specs.Meaning.{IsBothReported, IsPageNamed, IsPageReported, IsReason, IsTakenAs, Makes};
+ghost use Rattle.ks_cli.specs.Args.{AreConfig, AreTargets, IsPlainArg, IsRequestOf, HasText, IsReported, IsWantOfMemory, asks_both, is_no_memory, is_set, report_style_of, arg_at, args_at, format_of, IsNumberOf};
 
 use crate::command_line::command_line;
 use crate::help_text::HelpText;
 use clap::ArgMatches;
 use clap::error::ErrorKind;
-use ks_engine::BackdateScope;
-use ks_requests::{DepfileAfter, OutputFormat, ReportStyle, Request, Stamps, Targets};
+use ks_engine::{BackdateScope, ConfigForm};
+use ks_requests::{ConfigPaths, DepfileAfter, OutputFormat, ReportStyle, Request, Stamps, Targets};
 use std::alloc::{AllocError, Global};
 use thiserror::Error;
 
@@ -132,17 +132,30 @@ fn format(matches: &ArgMatches<'_>) -> OutputFormat
     chosen(matches, "json", OutputFormat::Json, OutputFormat::Text)
 }
 
+/// The two files of a configuration.
+fn config(alloc: Global, matches: &ArgMatches<'_>) -> Result<ConfigPaths, AllocError>
+    ensures { IfOk result (AreConfig (rows_of (found_of matches.now))) }
+{
+    Ok(ConfigPaths {
+        form: chosen(matches, "written", ConfigForm::Written, ConfigForm::Kconfig),
+        first: arg(alloc, matches, "KCONFIG")?,
+        second: arg(alloc, matches, "DOTCONFIG")?,
+    })
+}
+
+/// Whether `sync` is asked for the stamps of all declared symbols by what conf wrote, which doesn't say what is declared.
+fn asks_both(matches: &ArgMatches<'_>) -> bool
+    ensures { result ≡ asks_both (rows_of (found_of matches.now)) }
+{
+    is_set(matches, "stamps") && is_set(matches, "written")
+}
+
 fn sync_request(alloc: Global, matches: &ArgMatches<'_>) -> Result<Request, AllocError>
+    requires { asks_both (rows_of (found_of matches.now)) ≡ false }
     ensures { IfOk result (IsRequestOf (codes "sync") (rows_of (found_of matches.now))) }
 {
-    if is_set(matches, "written") && !is_set(matches, "stamps") {
-        let auto = arg(alloc, matches, "KCONFIG")?;
-        let header = arg(alloc, matches, "DOTCONFIG")?;
-        return Ok(Request::SyncWritten { auto, header });
-    }
     Ok(Request::Sync {
-        kconfig: arg(alloc, matches, "KCONFIG")?,
-        dotconfig: arg(alloc, matches, "DOTCONFIG")?,
+        config: config(alloc, matches)?,
         stamps: chosen(matches, "stamps", Stamps::Declared, Stamps::Touched),
     })
 }
@@ -150,13 +163,9 @@ fn sync_request(alloc: Global, matches: &ArgMatches<'_>) -> Result<Request, Allo
 fn preview_request(alloc: Global, matches: &ArgMatches<'_>) -> Result<Request, AllocError>
     ensures { IfOk result (IsRequestOf (codes "preview") (rows_of (found_of matches.now))) }
 {
-    let kconfig = arg(alloc, matches, "KCONFIG")?;
-    let dotconfig = arg(alloc, matches, "DOTCONFIG")?;
-    let old = optional_arg(alloc, matches, "OLDAUTO")?;
     Ok(Request::Preview {
-        kconfig,
-        dotconfig,
-        old,
+        config: config(alloc, matches)?,
+        old: optional_arg(alloc, matches, "OLDAUTO")?,
     })
 }
 
@@ -177,8 +186,7 @@ fn diff_request(alloc: Global, matches: &ArgMatches<'_>) -> Result<Request, Allo
     ensures { IfOk result (IsRequestOf (codes "diff") (rows_of (found_of matches.now))) }
 {
     Ok(Request::Diff {
-        kconfig: arg(alloc, matches, "KCONFIG")?,
-        dotconfig: arg(alloc, matches, "DOTCONFIG")?,
+        config: config(alloc, matches)?,
         report_style: report_style(matches),
     })
 }
@@ -233,8 +241,7 @@ fn impact_request(alloc: Global, matches: &ArgMatches<'_>) -> Result<Request, Al
     ensures { IfOk result (IsRequestOf (codes "impact") (rows_of (found_of matches.now))) }
 {
     Ok(Request::Impact {
-        kconfig: arg(alloc, matches, "KCONFIG")?,
-        dotconfig: arg(alloc, matches, "DOTCONFIG")?,
+        config: config(alloc, matches)?,
         targets: targets(alloc, matches)?,
         format: format(matches),
     })
@@ -275,9 +282,21 @@ fn page_asked(alloc: Global, matches: &ArgMatches<'_>) -> WordsError
     }
 }
 
+/// What `sync` says of two options that exclude each other, unless memory is refused. `clap` isn't told that they do: whatever
+/// it takes is then a request, or is answered here.
+fn both_asked(alloc: Global) -> WordsError
+    ensures { IsBothReported result }
+{
+    match HelpText::of_both(alloc) {
+        Ok(help) => WordsError::Refused(help),
+        Err(_) => WordsError::OutOfMemory,
+    }
+}
+
 /// The request of the command `name` with these matches, where `clap` let that name through.
 fn request_named(alloc: Global, name: &str, matches: &ArgMatches<'_>) -> Result<Request, AllocError>
-    requires { name.now ≢ codes "explain" }
+    requires request { name.now ≢ codes "explain" }
+    requires one { name.now ≡ codes "sync" → asks_both (rows_of (found_of matches.now)) ≡ false }
     ensures { IfOk result (IsRequestOf name.now (rows_of (found_of matches.now))) }
 {
     match name {
@@ -314,8 +333,9 @@ fn request_named(alloc: Global, name: &str, matches: &ArgMatches<'_>) -> Result<
     }
 }
 
-/// What the command `name` with these matches asks for: a request, or the page of an error in its place.
-#[tactic(auto, using(crate::proofs::ArgLemmas::page_named, crate::proofs::ArgLemmas::page_report_style))]
+/// What the command `name` with these matches asks for: a request, or in its place the page of an error, or two options that
+/// exclude each other.
+#[tactic(auto, using(crate::proofs::ArgLemmas::page_named, crate::proofs::ArgLemmas::page_report_style, crate::proofs::ArgLemmas::both_named, crate::proofs::ArgLemmas::both_report_style))]
 fn asked(alloc: Global, name: &str, matches: &ArgMatches<'_>) -> Result<Request, WordsError>
     ensures made { IfOk result (IsRequestOf name.now (rows_of (found_of matches.now))) }
     ensures page { IfErr result (IsPageNamed name.now (rows_of (found_of matches.now))) }
@@ -323,6 +343,9 @@ fn asked(alloc: Global, name: &str, matches: &ArgMatches<'_>) -> Result<Request,
 {
     if name == "explain" {
         return Err(page_asked(alloc, matches));
+    }
+    if name == "sync" && asks_both(matches) {
+        return Err(both_asked(alloc));
     }
     Ok(request_named(alloc, name, matches)?)
 }
@@ -337,7 +360,7 @@ pub fn request_of<'a>(alloc: Global, args: &'a [&'a str]) -> Result<Request, Wor
         → IsPlainArg p → IsBatchOf p r) }
     ensures preview { IfOk result (λ r. (k d : List ℕ)
         → texts args.entry.now ≡ codes "preview" ∷ k ∷ d ∷ []
-        → IsPlainArg k → IsPlainArg d → IsPreviewOf k d None r) }
+        → IsPlainArg k → IsPlainArg d → IsPreviewOf ConfigForm.Kconfig k d None r) }
 {
     let command = command_line(alloc)?;
     let matches = match command.try_get_matches_from(args) {

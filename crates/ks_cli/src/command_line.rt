@@ -1,10 +1,12 @@
 //! The command line of the program, as `clap` reads it: one level of subcommands.
-ghost use Rattle.std.specs.Prelude.{◌≡◌, IfOk, false};
+ghost use Rattle.std.specs.Prelude.{◌≡◌, IfOk, false, map};
 ghost use Rattle.clap.specs.Words.{app_of, rule_of};
 ghost use Rattle.clap.specs.declared.builder.command.Command.TheViews.{out-Command};
-ghost use Rattle.ks_cli.specs.CommandLine.{bare_app, command_line_app, usage_app, arg_rule};
+ghost use Rattle.ks_cli.specs.CommandLine.{bare_app, command_line_app, usage_app, with_all, arg_rule};
 
-use crate::usage::{ABOUT, AFTER_HELP, ArgUsage, NumArgs, USAGE, USAGES, Usage};
+use crate::usage::{
+    ABOUT, AFTER_HELP, ASKING_USAGES, ArgUsage, NumArgs, USAGE, Usage, WRITING_USAGES,
+};
 use clap::{Arg, ArgAction, Command, value_parser};
 use std::alloc::{AllocError, Global};
 
@@ -57,13 +59,27 @@ fn bare_command<'a>(alloc: Global) -> Result<Command<'a>, AllocError>
     )
 }
 
+/// A command line with the commands of a table below it. The table is an argument, so that the loop's proof doesn't hold its text.
+fn with_usages<'a>(
+    alloc: Global,
+    command: Command<'a>,
+    usages: &[Usage],
+) -> Result<Command<'a>, AllocError>
+    ensures { IfOk result (λ c. app_of c ≡ with_all (app_of command.entry) (map usage_app usages.now)) }
+{
+    let mut command = command;
+    for usage in usages {
+        command = command.subcommand(subcommand(alloc, usage)?)?;
+    }
+    Ok(command)
+}
+
 /// The program's command line.
 pub(crate) fn command_line<'a>(alloc: Global) -> Result<Command<'a>, AllocError>
     ensures { IfOk result (λ c. app_of c ≡ command_line_app) }
 {
-    let mut command = bare_command(alloc)?;
-    for usage in USAGES {
-        command = command.subcommand(subcommand(alloc, usage)?)?;
-    }
-    Ok(command)
+    let bare = bare_command(alloc)?;
+    let writing = with_usages(alloc, bare, WRITING_USAGES)?;
+    let all = with_usages(alloc, writing, ASKING_USAGES)?;
+    Ok(all)
 }

@@ -1,10 +1,10 @@
 //! What is printed where the arguments are no request: help, the version, the page of an error, or which argument is a mistake.
 //!
 //! The text is made with the request, or in its place: who prints it asks for no memory, so a mistake is never reported as want of it.
-ghost use Rattle.std.specs.Prelude.{◌≡◌, IfOk, string_bytes, true};
+ghost use Rattle.std.specs.Prelude.{◌≡◌, IfOk, false, string_bytes, true};
 ghost use Rattle.clap.specs.Words.{kind_of};
 ghost use Rattle.ks_streams.specs.Streams.{state_of};
-ghost use Rattle.ks_cli.specs.Meaning.{IsPageOf, IsHelp};
+ghost use Rattle.ks_cli.specs.Meaning.{IsPageOf, IsHelp, both_text};
 ghost use Rattle.ks_cli.specs.Args.{is_help, is_visible};
 
 use clap::error::ErrorKind;
@@ -16,6 +16,10 @@ use std::fmt;
 
 /// What is said where `clap` says nothing.
 const NO_COMMAND: &str = "error: these arguments are no command\n";
+
+/// What is said of `sync` with both, as `clap` would say it.
+const BOTH: &str =
+    "error: the argument '--stamps' cannot be used with '--written'\n\nUsage: confstamp sync [--stamps | --written] <KCONFIG> <DOTCONFIG>\n\nFor more information, try '--help'.\n";
 
 /// A text in place of a request, and of which kind it is.
 #[derive(Debug, Drop)]
@@ -61,6 +65,18 @@ impl HelpText {
                 text: known_errors(alloc)?,
             }),
         }
+    }
+
+    /// That `--stamps` and `--written` exclude each other.
+    #[tactic(auto, unfolding(crate::specs::Meaning::both_text))]
+    pub(crate) fn of_both(alloc: Global) -> Result<HelpText, AllocError>
+        ensures both { IfOk result (λ help. (is_help help.kind ≡ false) × (string_bytes help.text ≡ both_text)) }
+        ensures text { IfOk result (λ help. is_visible (string_bytes help.text) ≡ true) }
+    {
+        Ok(HelpText {
+            kind: ErrorKind::ArgumentConflict,
+            text: String::from_str(alloc, BOTH)?,
+        })
     }
 
     /// Whether it is help or the version, and no mistake.

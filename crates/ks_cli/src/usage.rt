@@ -87,6 +87,12 @@ const DOTCONFIG: ArgUsage = ArgUsage {
     help: "The .config file: what the symbols are set to",
 };
 
+const WRITTEN: ArgUsage = ArgUsage {
+    name: "written",
+    num_args: NumArgs::Flag,
+    help: "Take the auto.conf and the header that conf wrote, in place of KCONFIG and DOTCONFIG",
+};
+
 const DEPFILE: ArgUsage = ArgUsage {
     name: "DEPFILE",
     num_args: NumArgs::Once,
@@ -129,7 +135,8 @@ const COMMAND: ArgUsage = ArgUsage {
     help: "The command line that builds the object, as one argument",
 };
 
-pub(crate) const USAGES: &[Usage] = &[
+/// The commands that write a configuration or a record, or show what they would write.
+pub(crate) const WRITING_USAGES: &[Usage] = &[
     Usage {
         name: "sync",
         about: "Write auto.conf, the header and the stamps of all symbols that changed",
@@ -139,11 +146,7 @@ pub(crate) const USAGES: &[Usage] = &[
                 num_args: NumArgs::Flag,
                 help: "Make the missing stamp of each symbol of KCONFIG too, empty, so that a build can list them all",
             },
-            ArgUsage {
-                name: "written",
-                num_args: NumArgs::Flag,
-                help: "Take the auto.conf and the header that conf wrote, in place of KCONFIG and DOTCONFIG; not with --stamps",
-            },
+            WRITTEN,
             KCONFIG,
             DOTCONFIG,
         ],
@@ -157,6 +160,7 @@ Example: confstamp sync Kconfig .config",
         name: "preview",
         about: "Show what sync would touch, and the auto.conf that it would write",
         args: &[
+            WRITTEN,
             KCONFIG,
             DOTCONFIG,
             ArgUsage {
@@ -165,7 +169,7 @@ Example: confstamp sync Kconfig .config",
                 help: "The auto.conf to start from; without it, as if nothing had been synchronised yet",
             },
         ],
-        override_usage: None,
+        override_usage: Some("confstamp preview [--written] <KCONFIG> <DOTCONFIG> [OLDAUTO]"),
         after_help: "\
 Prints touch NAME for each stamp, then auto.conf. Writes no file.
 
@@ -185,10 +189,13 @@ Example: confstamp preview Kconfig .config include/config/auto.conf",
                 num_args: NumArgs::Flag,
                 help: "Print nothing, and end with status 1 where a symbol differs",
             },
+            WRITTEN,
             KCONFIG,
             DOTCONFIG,
         ],
-        override_usage: Some("confstamp diff [--exit-code] [--quiet] <KCONFIG> <DOTCONFIG>"),
+        override_usage: Some(
+            "confstamp diff [--exit-code] [--quiet] [--written] <KCONFIG> <DOTCONFIG>",
+        ),
         after_help: "\
 Prints NAME OLD -> NEW for each, n where a symbol has no value, and both kinds where the values are alike.
 To standard error goes unknown NAME for each line of DOTCONFIG that names no symbol of KCONFIG. Writes no file.
@@ -244,6 +251,10 @@ and with the stamp of each name. Refused, it leaves DEPFILE as it was. Prints wh
 
 Example: confstamp depfile x.d x.o 'cc -c x.c'",
     },
+];
+
+/// The commands about objects, the scripts and the errors, which come after them.
+pub(crate) const ASKING_USAGES: &[Usage] = &[
     Usage {
         name: "stale",
         about: "Say which objects have to be built again because the configuration changed",
@@ -268,9 +279,9 @@ Example: confstamp why x.o y.o",
     Usage {
         name: "impact",
         about: "Say which objects would have to be built again after a sync",
-        args: &[KCONFIG, DOTCONFIG, TARGETS, FROM, JSON],
+        args: &[WRITTEN, KCONFIG, DOTCONFIG, TARGETS, FROM, JSON],
         override_usage: Some(
-            "confstamp impact [--json] [--from FILE] <KCONFIG> <DOTCONFIG> [TARGET]...",
+            "confstamp impact [--json] [--from FILE] [--written] <KCONFIG> <DOTCONFIG> [TARGET]...",
         ),
         after_help: "\
 Prints what stale would print after sync KCONFIG DOTCONFIG, and N of M stale to standard error. Writes no file.

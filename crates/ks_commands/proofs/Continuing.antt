@@ -1,36 +1,20 @@
 -- What a call of the engine leaves, after reads that changed no file.
-use Rattle.ks_commands.proofs.Prelude.{Dialect, ◌≡◌, ◌⊎◌, ◌≤◌, ℕ, List, Result, Ok, Err, subst, Files, Reply, EngineError, Report, Action, calls_of, FileRun, FileState, Stamps, LeavesStamps, IfOk, IfErr, IsAborted, Refusal, Engine, Ending, given, RunsAll, RunsOn, IsAbortedRefusal, script_actions, script_at, KconfigText, rules}
-use Rattle.std.proofs.Common.{inr}
-use Rattle.ks_engine.specs.FileRuns.{LeavesSync}
-use Rattle.ks_requests.specs.Inputs.{Texts, texts_at}
-use Rattle.ks_commands.specs.Performed.{EndsSyncWritten, by_files}
-use Rattle.ks_engine.specs.Sources.{FromConf}
+use Rattle.ks_commands.proofs.Prelude.{Dialect, ◌≡◌, ◌⊎◌, ◌≤◌, ℕ, List, Result, Ok, Err, subst, Files, Reply, EngineError, Report, Action, calls_of, FileRun, FileState, IfOk, IfErr, IsAborted, Refusal, Engine, Ending, given, RunsAll, RunsOn, IsAbortedRefusal, script_actions, script_at, KconfigText, rules}
+use Rattle.ks_engine.specs.FileRuns.{LeavesStamped, LeavesSync}
+use Rattle.ks_engine.specs.AllStamps.{IsStamped, IsStampedRefused}
+use Rattle.ks_engine.specs.Sources.{Source}
 use Rattle.ks_engine.specs.Synchronised.{IsSynced, IsSyncRefused}
 
 -- what a synchronisation leaves is what the one or the other call leaves
-pub sync_printed : (which : Stamps) (old new : Files) (k : KconfigText) (d : List ℕ) (r : Result Report EngineError)
-    → IfOk r (λ report. LeavesStamps old new which k d (Ok report)) → IfErr r (λ e. LeavesStamps old new which k d (Err e)) → LeavesStamps old new which k d r
-sync_printed which old new k d (Ok report) ok err = ok
-sync_printed which old new k d (Err e) ok err = err
+pub sync_printed : (old new : Files) (source : Source) (r : Result Report EngineError)
+    → IfOk r (IsSynced old new source) → IfErr r (IsSyncRefused old new source) → LeavesSync old new source r
+sync_printed old new source (Ok report) ok err = ok
+sync_printed old new source (Err e) ok err = err
 
-pub written_printed : (old new : Files) (a h : List ℕ) (r : Result Report EngineError)
-    → IfOk r (IsSynced old new (FromConf a h)) → IfErr r (IsSyncRefused old new (FromConf a h)) → LeavesSync old new (FromConf a h) r
-written_printed old new a h (Ok report) ok err = ok
-written_printed old new a h (Err e) ok err = err
-
--- .. and one that was refused after its texts were read
-pub written_refused : (dialect : Dialect) (honest : Type 0) (old new : FileState) (mid : Files) (a h : List ℕ) (t : Texts) (r : Result Report EngineError)
-    (e : EngineError) (ended : Ending) → mid ≡ old.files → texts_at old.files a h ≡ Ok t → LeavesSync mid new.files (FromConf t.kconfig t.dotconfig) r
-    → r ≡ Err e → ended ≡ Err (Engine e) → EndsSyncWritten old.files (by_files dialect honest old new) a h ended
-written_refused dialect honest old new mid a h t r e ended same there leaves is stopped =
-    inr (
-      t,
-      there,
-      Err e,
-      subst (λ files. LeavesSync files new.files (FromConf t.kconfig t.dotconfig) (Err e)) same
-          (subst (λ answer. LeavesSync mid new.files (FromConf t.kconfig t.dotconfig) answer) is leaves),
-      stopped,
-    )
+pub stamped_printed : (old new : Files) (k : KconfigText) (d : List ℕ) (r : Result Report EngineError)
+    → IfOk r (IsStamped old new k d) → IfErr r (IsStampedRefused old new k d) → LeavesStamped old new k d r
+stamped_printed old new k d (Ok report) ok err = ok
+stamped_printed old new k d (Err e) ok err = err
 
 -- a script that is refused where it is read
 pub script_missing : (files : Files) (path : List ℕ) (e : EngineError) → IsAborted e ⊎ (given files path ≡ Err e) → IsAbortedRefusal (Engine e)

@@ -1,12 +1,14 @@
 -- What is printed of a comparison, and what its status says.
-use Rattle.ks_commands.proofs.Prelude.{◌≡◌, ◌↔◌, ◌∙◌, ℕ, List, [], ◌∷◌, true, ◌||◌, cond, Ok, refl, sym, ap, bytes_eq-Decides, Configuration, is_in, Texts, AreChanges, differs, ReportStyle, Outcome, IsUnknown, ReportsUnknown, code_of, unknown_lines, Files, IsDiff, asks_status, difference_status, lines_asked, StatusesReportDifferences, KconfigText, rules}
+use Rattle.ks_commands.proofs.Prelude.{◌≡◌, ◌↔◌, ◌∙◌, ℕ, List, [], ◌∷◌, true, ◌||◌, cond, Ok, refl, sym, ap, bytes_eq-Decides, Configuration, is_in, Texts, AreChanges, differs, ReportStyle, Outcome, IsUnknown, ReportsUnknown, code_of, Files, IsDiff, asks_status, difference_status, lines_asked, StatusesReportDifferences, rules}
+use Rattle.ks_engine.specs.Sources.{Source}
+use Rattle.ks_commands.specs.Differences.{unknown_of}
 
 -- an outcome tells what it holds
-pub reported_of : (report_style : ReportStyle) (files : Files) (kconfig : KconfigText) (dotconfig : List ℕ) (o : Outcome)
-    → IsDiff report_style files kconfig dotconfig o.text.items (code_of o.status) × IsUnknown (lines_asked report_style (unknown_lines kconfig dotconfig)) o.count
-    → (text : List ℕ) × (status : ℕ) × IsDiff report_style files kconfig dotconfig text status
-    × ReportsUnknown text status (lines_asked report_style (unknown_lines kconfig dotconfig)) (Ok o)
-reported_of report_style files kconfig dotconfig o both = (o.text.items, code_of o.status, both.0, (refl, refl, both.1))
+pub reported_of : (report_style : ReportStyle) (files : Files) (source : Source) (o : Outcome)
+    → IsDiff report_style files source o.text.items (code_of o.status) × IsUnknown (lines_asked report_style (unknown_of source)) o.count
+    → (text : List ℕ) × (status : ℕ) × IsDiff report_style files source text status
+    × ReportsUnknown text status (lines_asked report_style (unknown_of source)) (Ok o)
+reported_of report_style files source o both = (o.text.items, code_of o.status, both.0, (refl, refl, both.1))
 
 first_is_in : (x : List ℕ) (xs : List (List ℕ)) → is_in (x ∷ xs) x ≡ true
 first_is_in x xs = ap (λ b. b || is_in xs x) ((bytes_eq-Decides x x).1 refl)

@@ -7,7 +7,7 @@ use Rattle.ks_requests.specs.declared.status.Status.TheVariants as status
 -- ---- refusals
 
 pub refusals_change_nothing : RefusalsChangeNothing
-refusals_change_nothing dialect (request.Sync k d stamps.Declared) r old new plain ends = search rules
+refusals_change_nothing dialect (request.Sync c stamps.Declared) r old new plain ends = search rules
 refusals_change_nothing dialect asked r old new plain ends = search rules
 
 -- ---- statuses
@@ -22,5 +22,5 @@ statuses_are_at_most_two ended following b a eb ea s printed = search (rules, co
 -- ---- previews
 
 pub previews_are_performed : PreviewsArePerformed
-previews_are_performed dialect k d o (request.Preview k' d' o') (Ok outcome) following old new b a eb ea s is ends printed = search rules
-previews_are_performed dialect k d o asked ended following old new b a eb ea s is ends printed = search rules
+previews_are_performed dialect form k d o (request.Preview c o') (Ok outcome) following old new b a eb ea s is ends printed = search rules
+previews_are_performed dialect form k d o asked ended following old new b a eb ea s is ends printed = search rules

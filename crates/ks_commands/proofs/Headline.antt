@@ -1,13 +1,12 @@
 -- What scripts and runs of the program tell: no synchronisation was broken off before one of them where none was at the end.
-use Rattle.ks_commands.proofs.Prelude.{⊤, IsAnswerAfter, IsAnswerOn, IsExplanationOn, IsEvaluated, IsShown, IsStateOn, filter_agree, Dialect, ◌≡◌, ◌<◌, ℕ, List, [], ◌∷◌, Some, Result, Ok, Err, IfOk, IsTrue, inl, inr, subst, filter, map, fold, max, arith, All, is_command, All-nil, All-cons, Reply, Refused, EngineError, Explanation, BuildState, Report, Action, Sync, TreeState, FollowsDepfile, FollowsStamps, Stamps, History, LastRecord, NoneBroken, last_record, Leads, Leaves, Step, changed_since, found, suspect_since, IsAbortedSync, suspect_since-changed_since, Request, Ending, reply_status, None, state_of, reports, no_count, BatchReportsChanges, Continues, Runs, ProgramRun, ProgramReportsChanges, StepsReportChanges, ReportsAfter, ReportsBuild, ReportsCauses, ReportsChange, KconfigText, read_in, rules, Call, call_in, call_of, calls_of, reply_to, FollowsRecord}
+use Rattle.ks_commands.proofs.Prelude.{⊤, IsAnswerAfter, IsAnswerOn, IsExplanationOn, IsEvaluated, IsShown, IsStateOn, filter_agree, Dialect, ◌≡◌, ◌<◌, ℕ, List, [], ◌∷◌, Some, Result, Ok, Err, IfOk, IsTrue, inl, inr, subst, filter, map, fold, max, arith, All, is_command, All-nil, All-cons, Reply, Refused, EngineError, Explanation, BuildState, Report, Action, Sync, TreeState, FollowsDepfile, FollowsStamps, Stamps, History, LastRecord, NoneBroken, last_record, Step, changed_since, found, suspect_since, IsAbortedSync, suspect_since-changed_since, Request, Ending, reply_status, None, state_of, reports, no_count, BatchReportsChanges, Continues, Runs, ProgramReportsChanges, StepsReportChanges, ReportsAfter, ReportsBuild, ReportsCauses, ReportsChange, rules, Call, call_in, call_of, calls_of, reply_to, FollowsRecord}
 use Rattle.ks_engine.proofs.Querying.{build_evaluated, stale_evaluated}
 use Rattle.ks_engine.proofs.Explanations.{explanation_evaluated}
 use Rattle.ks_engine.proofs.Predicting.{impact_evaluated}
 use Rattle.ks_engine.proofs.Running.{goes_on, none_first}
-use Rattle.ks_engine.specs.Actions.{SyncWritten, SyncAllStamps, Record, Depfile, Synced, Recorded}
+use Rattle.ks_engine.specs.Actions.{SyncFrom, SyncAllStamps, Record, Depfile, Synced, Recorded}
 use Rattle.ks_engine.specs.Depfile.{ruled_by}
-use Rattle.ks_engine.specs.Follows.{FollowsSync}
-use Rattle.ks_engine.specs.Sources.{FromConf, FromKconfig}
+use Rattle.ks_engine.specs.Sources.{FromConf, FromKconfig, Source}
 use Rattle.ks_fixdep.specs.declared.dependency_file.Header.{Header}
 use Rattle.ks_engine.specs.declared.recording.Recorded.{Recorded as RecordAnswer}
 use Rattle.ks_engine.specs.declared.staleness.Verdict.{Verdict as VerdictValue}
@@ -21,14 +20,11 @@ use Rattle.ks_commands.proofs.Walks.{answers_weaker, below_two, impact_weaker}
 
 -- ---- none was broken off before a step where none is after it
 
-none_before_stamps : (dialect : Dialect) (which : Stamps) (k d : List ℕ) (answer : Result Report EngineError) (old new : TreeState)
-    → FollowsStamps which (read_in dialect k) d answer old new → NoneBroken new.history → NoneBroken old.history
-none_before_stamps dialect stamps.Touched k d answer old new is none = (goes_on dialect old (Sync k d) (Synced answer) new is).0 none
-none_before_stamps dialect stamps.Declared k d answer old new is none = (goes_on dialect old (SyncAllStamps k d) (Synced answer) new is).0 none
-
-none_before_written : (dialect : Dialect) (a b : List ℕ) (answer : Result Report EngineError) (old new : TreeState)
-    → FollowsSync (FromConf a b) answer old new → NoneBroken new.history → NoneBroken old.history
-none_before_written dialect a b answer old new is none = (goes_on dialect old (SyncWritten a b) (Synced answer) new is).0 none
+none_before_stamps : (dialect : Dialect) (which : Stamps) (source : Source) (answer : Result Report EngineError) (old new : TreeState)
+    → FollowsStamps which source answer old new → NoneBroken new.history → NoneBroken old.history
+none_before_stamps dialect stamps.Touched source answer old new is none = (goes_on dialect old (SyncFrom source) (Synced answer) new is).0 none
+none_before_stamps dialect stamps.Declared (FromKconfig k d) answer old new is none = (goes_on dialect old (SyncAllStamps k d) (Synced answer) new is).0 none
+none_before_stamps dialect stamps.Declared (FromConf d a b) answer old new is none = (goes_on dialect old (SyncFrom (FromConf d a b)) (Synced answer) new is).0 none
 
 none_before_recorded : (dialect : Dialect) (d t c : List ℕ) (answer : Result RecordAnswer EngineError) (old new : TreeState)
     → FollowsRecord dialect d t c answer old new → NoneBroken new.history → NoneBroken old.history
@@ -40,7 +36,7 @@ none_before_depfile dialect header d t c answer old new is none = (goes_on diale
 
 pub none_before_program : (dialect : Dialect) (r : Request) (ended : Ending) (old new : TreeState) → Continues dialect r ended old new → NoneBroken new.history → NoneBroken old.history
 none_before_program dialect (request.Batch p) ended old new (a, b, is) none = search (rules, none_first)
-none_before_program dialect asked ended old new (a, b, is) none = search (rules, none_before_stamps, (none_before_written dialect), none_before_recorded, none_before_depfile)
+none_before_program dialect asked ended old new (a, b, is) none = search (rules, (none_before_stamps dialect), none_before_recorded, none_before_depfile)
 
 -- ---- what is printed then
 
@@ -82,11 +78,11 @@ causes_report old o answer shown none is =
     let evaluated = λ (r : LastRecord) (was : last_record old.history o ≡ Some r). explanation_evaluated old.files old.history o r answer is.by_files shown was in
     record { reports = evaluated_reports old o (reported answer) none (λ r was. (evaluated r was).evaluated); causes = λ r was. causes_changed old o answer none (evaluated r was).suspects }
 
-after_reports : (old : TreeState) (k : KconfigText) (d o : List ℕ) (answer : Result VerdictValue EngineError) → IsShown old → NoneBroken old.history
-    → IsAnswerAfter old.files (FromKconfig k d) o answer → ReportsAfter old k d o answer
-after_reports old k d o answer shown none is = λ after report synced.
+after_reports : (old : TreeState) (source : Source) (o : List ℕ) (answer : Result VerdictValue EngineError) → IsShown old → NoneBroken old.history
+    → IsAnswerAfter old.files source o answer → ReportsAfter old source o answer
+after_reports old source o answer shown none is = λ after report synced.
     evaluated_reports (at after old.failures (Past synced.plan.title synced.plan.config old.history)) o answer none
-    (λ r was. impact_evaluated old.files (FromKconfig k d) o answer is after report synced old.history r shown was)
+    (λ r was. impact_evaluated old.files source o answer is after report synced old.history r shown was)
 
 pub program_reports : (dialect : Dialect) (r : Request) (ended : Ending) (old new : TreeState) → IsShown old → NoneBroken old.history → NoneBroken new.history
     → Continues dialect r ended old new → ProgramReportsChanges (record { dialect = dialect; before = old; request = r; ended = ended; after = new })
@@ -117,13 +113,13 @@ program_reports dialect (request.Why ts f) ended old new shown none later (a, b,
         (λ o answer. causes_report old o answer shown none) is.1,
   ),
 )
-program_reports dialect (request.Impact k d ts f) ended old new shown none later (a, b, is) = (
+program_reports dialect (request.Impact c ts f) ended old new shown none later (a, b, is) = (
   a,
   b,
   (
     is.0,
-    impact_weaker ⊤ dialect (λ k d. IsAnswerAfter old.files (FromKconfig (read_in dialect k) d)) (λ k. ReportsAfter old (read_in dialect k)) (state_of old a) _ _ f ts ended
-        (state_of new b) (λ k d o answer. after_reports old (read_in dialect k) d o answer shown none) is.1,
+    impact_weaker ⊤ dialect (IsAnswerAfter old.files) (ReportsAfter old) (state_of old a) c f ts ended
+        (state_of new b) (λ source o answer. after_reports old source o answer shown none) is.1,
   ),
 )
 program_reports dialect asked ended old new shown none later (a, b, is) = (a, b, search (rules, build_reports, steps_report))
@@ -132,7 +128,7 @@ program_reports dialect asked ended old new shown none later (a, b, is) = (a, b,
 
 not_aborted : (a : Action) (r : Reply) → reply_status r < 2 → IsAbortedSync a (reply_to a r) → ⊥
 not_aborted (Sync k d) (Refused e) small given = omega (arith, small)
-not_aborted (SyncWritten a h) (Refused e) small given = given
+not_aborted (SyncFrom source) (Refused e) small given = given
 not_aborted (SyncAllStamps k d) (Refused e) small given = given
 not_aborted a r small given = given
 

@@ -1,18 +1,21 @@
 -- Each history that the files show goes on with a request, by what is said of it by the files.
-use Rattle.ks_commands.proofs.Prelude.{Dialect, ◌≡◌, ℕ, List, Option, Result, inl, inr, refl, sym, subst, ⊤, option_map, string_bytes, read_in, Files, FileState, History, Shows, at, EngineError, Report, Reply, Action, calls_of, Run, RunsOn, Runs, LeavesStamps, FollowsStamps, Stamps, Ending, EndsDepfile, EndsSync, by_files, by_histories, RequestsGoOn}
-use Rattle.ks_engine.specs.Actions.{Sync, SyncWritten, SyncAllStamps, Record, Depfile, Synced, Recorded}
+use Rattle.ks_commands.proofs.Prelude.{Dialect, ◌≡◌, ℕ, List, Option, Result, inl, inr, refl, sym, subst, ⊤, option_map, string_bytes, Files, FileState, History, Shows, at, EngineError, Report, Reply, Action, calls_of, Run, RunsOn, Runs, LeavesStamps, FollowsStamps, Stamps, Ending, EndsDepfile, EndsSync, by_files, by_histories, RequestsGoOn}
+use Rattle.ks_engine.specs.Actions.{SyncFrom, SyncAllStamps, Record, Depfile, Synced, Recorded}
 use Rattle.ks_requests.specs.declared.request.Request.TheVariants as request
 use Rattle.ks_requests.specs.declared.request.Stamps.TheVariants as stamps
-use Rattle.ks_commands.specs.Performed.{EndsSyncWritten}
+use Rattle.ks_engine.specs.Sources.{FromConf, FromKconfig, Source}
+use Rattle.ks_requests.specs.Inputs.{source_at}
+use Rattle.ks_requests.specs.declared.request.ConfigPaths.{ConfigPaths}
 use Rattle.ks_engine.proofs.FileRunning.{goes_on, step_goes_on}
 
 -- ---- each call of the engine
 
-stamps_follow : (dialect : Dialect) (which : Stamps) (old new : FileState) (h : History) (k d : List ℕ) (r : Result Report EngineError) → Shows old.files h
-    → LeavesStamps old.files new.files which (read_in dialect k) d r
-    → (next : History) × FollowsStamps which (read_in dialect k) d r (at old.files old.failures h) (at new.files new.failures next) × Shows new.files next
-stamps_follow dialect stamps.Touched old new h k d r shows is = step_goes_on dialect old (Sync k d) (Synced r) new h shows is
-stamps_follow dialect stamps.Declared old new h k d r shows is = step_goes_on dialect old (SyncAllStamps k d) (Synced r) new h shows is
+stamps_follow : (dialect : Dialect) (which : Stamps) (old new : FileState) (h : History) (source : Source) (r : Result Report EngineError) → Shows old.files h
+    → LeavesStamps old.files new.files which source r
+    → (next : History) × FollowsStamps which source r (at old.files old.failures h) (at new.files new.failures next) × Shows new.files next
+stamps_follow dialect stamps.Touched old new h source r shows is = step_goes_on dialect old (SyncFrom source) (Synced r) new h shows is
+stamps_follow dialect stamps.Declared old new h (FromKconfig k d) r shows is = step_goes_on dialect old (SyncAllStamps k d) (Synced r) new h shows is
+stamps_follow dialect stamps.Declared old new h (FromConf d a b) r shows is = step_goes_on dialect old (SyncFrom (FromConf d a b)) (Synced r) new h shows is
 
 run_follows : (dialect : Dialect) (old new : FileState) (h : History) (actions : List Action) (replies : List Reply) → Shows old.files h
     → RunsOn dialect ⊤ old new actions replies
@@ -33,12 +36,12 @@ run_follows dialect old new h actions replies shows ran =
 stays : (old new : FileState) (h : History) → Shows old.files h → new.files ≡ old.files → Shows new.files h
 stays old new h shows same = subst (λ (f : Files). Shows f h) (sym same) shows
 
-sync_goes_on : (dialect : Dialect) (which : Stamps) (k d : List ℕ) (ended : Ending) (old new : FileState) (h : History) → Shows old.files h
-    → EndsSync old.files (by_files dialect ⊤ old new) which k d ended
-    → (next : History) × EndsSync old.files (by_histories dialect (at old.files old.failures h) (at new.files new.failures next)) which k d ended × Shows new.files next
-sync_goes_on dialect which k d ended old new h shows (inl (same, stopped)) = (h, inl ((same, refl), stopped), stays old new h shows same)
-sync_goes_on dialect which k d ended old new h shows (inr (t, there, answer, is, reported)) =
-    let next = stamps_follow dialect which old new h t.kconfig t.dotconfig answer shows is in
+sync_goes_on : (dialect : Dialect) (which : Stamps) (c : ConfigPaths) (ended : Ending) (old new : FileState) (h : History) → Shows old.files h
+    → EndsSync old.files (by_files dialect ⊤ old new) which c ended
+    → (next : History) × EndsSync old.files (by_histories dialect (at old.files old.failures h) (at new.files new.failures next)) which c ended × Shows new.files next
+sync_goes_on dialect which c ended old new h shows (inl (same, stopped)) = (h, inl ((same, refl), stopped), stays old new h shows same)
+sync_goes_on dialect which c ended old new h shows (inr (t, there, answer, is, reported)) =
+    let next = stamps_follow dialect which old new h (source_at dialect c.form t) answer shows is in
     (next.0, inr (t, there, answer, next.1, reported), next.2)
 
 rule_goes_on : (dialect : Dialect) (end : Option (List ℕ)) (d t c : List ℕ) (ended : Ending) (old new : FileState) (h : History) → Shows old.files h
@@ -49,20 +52,9 @@ rule_goes_on dialect end d t c ended old new h shows (inr (header, named, answer
     let next = step_goes_on dialect old (Depfile header d t c) (Recorded answer) new h shows is in
     (next.0, inr (header, named, answer, next.1, reported), next.2)
 
-written_goes_on : (dialect : Dialect) (a b : List ℕ) (ended : Ending) (old new : FileState) (h : History) → Shows old.files h
-    → EndsSyncWritten old.files (by_files dialect ⊤ old new) a b ended
-    → (next : History) × EndsSyncWritten old.files (by_histories dialect (at old.files old.failures h) (at new.files new.failures next)) a b ended × Shows new.files next
-written_goes_on dialect a b ended old new h shows (inl (same, stopped)) = (h, inl ((same, refl), stopped), stays old new h shows same)
-written_goes_on dialect a b ended old new h shows (inr (t, there, answer, is, reported)) =
-    let next = step_goes_on dialect old (SyncWritten t.kconfig t.dotconfig) (Synced answer) new h shows is in
-    (next.0, inr (t, there, answer, next.1, reported), next.2)
-
 pub requests_go_on : RequestsGoOn
-requests_go_on dialect (request.SyncWritten a b) ended old new h shows ends =
-    let next = written_goes_on dialect (string_bytes a) (string_bytes b) ended old new h shows (ends tt) in
-    (next.0, (old.backdated, new.backdated, λ t. next.1), next.2)
-requests_go_on dialect (request.Sync k d which) ended old new h shows ends =
-    let next = sync_goes_on dialect which (string_bytes k) (string_bytes d) ended old new h shows (ends tt) in
+requests_go_on dialect (request.Sync c which) ended old new h shows ends =
+    let next = sync_goes_on dialect which c ended old new h shows (ends tt) in
     (next.0, (old.backdated, new.backdated, λ t. next.1), next.2)
 requests_go_on dialect (request.Record d t c after) ended old new h shows ends =
     let is = ends tt in
@@ -78,9 +70,9 @@ requests_go_on dialect (request.Batch script) ended old new h shows (inr (text, 
 requests_go_on dialect (request.Batch script) ended old new h shows (inr (text, actions, spelled, there, inr (replies, ran, reported))) =
     let next = run_follows dialect old new h actions replies shows ran in
     (next.0, (old.backdated, new.backdated, inr (text, actions, spelled, there, inr (replies, next.1, reported))), next.2)
-requests_go_on dialect (request.Preview k d o) ended old new h shows ends =
+requests_go_on dialect (request.Preview c o) ended old new h shows ends =
     (h, (old.backdated, new.backdated, λ t. (((ends t).0, refl), (ends t).1)), stays old new h shows (ends tt).0)
-requests_go_on dialect (request.Diff k d report_style) ended old new h shows ends =
+requests_go_on dialect (request.Diff c report_style) ended old new h shows ends =
     (h, (old.backdated, new.backdated, λ t. (((ends t).0, refl), (ends t).1)), stays old new h shows (ends tt).0)
 requests_go_on dialect (request.Fixdep d o c) ended old new h shows ends =
     (h, (old.backdated, new.backdated, λ t. (((ends t).0, refl), (ends t).1)), stays old new h shows (ends tt).0)

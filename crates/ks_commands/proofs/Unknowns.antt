@@ -1,5 +1,8 @@
 -- Names that no Kconfig declares, and what is printed of them.
 use Rattle.ks_commands.proofs.Prelude.{◌≡◌, ◌∙◌, ◌+◌, ◌++◌, ℕ, List, [], ◌∷◌, Option, Some, None, cond, flat_map, refl, sym, ap, ap₂, arith, Kind, is_of_unknown, unknown_count, declared, lines, Statement, statement, unknown-cons, unknown_in, unknown_line, unknown_lines, unknown_names, IsUnknown, ReportStyle, lines_asked, KconfigText, rules}
+use Rattle.ks_commands.proofs.Prelude.{inl, inr, option_map, IsRefusal, SourceError, of_source}
+use Rattle.ks_symbols.specs.declared.error.SourceError.TheVariants as source
+use Rattle.ks_engine.specs.declared.error.EngineError.TheVariants.{OutOfMemory}
 use Rattle.ks_requests.specs.declared.status.Count.{Count}
 use Rattle.ks_requests.specs.declared.report_style.ReportStyle.TheVariants.{Status}
 
@@ -34,3 +37,8 @@ pub counted_unknown : (kconfig : KconfigText) (dotconfig : List ℕ) (kinds : Li
 counted_unknown kconfig dotconfig kinds n same counted =
     let kinds_same : kinds ≡ declared kconfig = λ i x. same x i in
     rw kinds_same counted
+
+-- a refusal of the texts, as the engine has it
+pub engine_refused : (e : SourceError) (r : Option SourceError) → IsRefusal source.OutOfMemory e r → IsRefusal OutOfMemory (of_source e) (option_map of_source r)
+engine_refused e r (inl memory) = inl (ap of_source memory)
+engine_refused e r (inr is) = inr (ap (option_map of_source) is)

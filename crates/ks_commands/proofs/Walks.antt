@@ -1,6 +1,8 @@
 -- Walks over objects.
-use Rattle.ks_engine.specs.Sources.{FromKconfig}
-use Rattle.ks_commands.proofs.Prelude.{◌≡◌, ◌⊎◌, ◌<◌, ◌≤◌, ◌+◌, ◌++◌, ◌∙◌, Bool, false, ℕ, List, [], ◌∷◌, Option, None, Result, Ok, Err, inl, inr, refl, sym, subst, ap, arith, max, append-nil, fold, length, length-append, length-map, map-append, filter-append, fold-append, flat_map-append, Bor, EngineError, Ending, Explanation, Limit, OutputFormat, Outcome, Targets, Dialect, Files, KconfigText, IsAnswerAfter, IsAnswerTo, IsAborted, IsImpactOf, reported as verdict, stale_among, file_of, given_if_named, targets_at, Querying, EndsImpact, EndsWalk, IsExplainedIn, IsStep, Part, FileState, ReportsAll, ReportsOne, Walks, querying_by, counted_of, explaining, objects_of, stale_count, statuses, reports, rules}
+use Rattle.ks_engine.specs.Sources.{Source}
+use Rattle.ks_requests.specs.Inputs.{source_at}
+use Rattle.ks_requests.specs.declared.request.ConfigPaths.{ConfigPaths}
+use Rattle.ks_commands.proofs.Prelude.{◌≡◌, ◌⊎◌, ◌<◌, ◌≤◌, ◌+◌, ◌++◌, ◌∙◌, Bool, false, ℕ, List, [], ◌∷◌, Option, None, Result, Ok, Err, inl, inr, refl, sym, subst, ap, arith, max, append-nil, fold, length, length-append, length-map, map-append, filter-append, fold-append, flat_map-append, Bor, EngineError, Ending, Explanation, Limit, OutputFormat, Outcome, Targets, Dialect, Files, IsAnswerAfter, IsAnswerTo, IsAborted, IsImpactOf, reported as verdict, stale_among, file_of, given_if_named, targets_at, Querying, EndsImpact, EndsWalk, IsExplainedIn, IsStep, Part, FileState, ReportsAll, ReportsOne, Walks, querying_by, counted_of, explaining, objects_of, stale_count, statuses, reports, rules}
 use Rattle.ks_engine.specs.declared.backdating.BackdateScope.{BackdateScope}
 use Rattle.ks_engine.specs.declared.impact.Impact.{Impact}
 use Rattle.ks_engine.specs.declared.query.Limit.TheVariants.{First}
@@ -82,29 +84,30 @@ answers_weaker honest backdates format limit P Q ends old targets ended new f wa
     (λ s p t step. record { reported = explained_weaker honest old.files format limit P Q f p step.reported; counted = step.counted; backdated = step.backdated }) walk
 
 -- .. and so of an answer after a synchronisation
-pub impact_weaker : (honest : Type 0) (dialect : Dialect) (P Q : (k d o : List ℕ) → Result Verdict EngineError → Type 0) (old : FileState) (k d : List ℕ)
-    (format : OutputFormat) (targets : Targets) (ended : Ending) (new : FileState) → ((k d o : List ℕ) (answer : Result Verdict EngineError) → P k d o answer → Q k d o answer)
-    → EndsImpact honest dialect P old k d format targets ended new → EndsImpact honest dialect Q old k d format targets ended new
-impact_weaker honest dialect P Q old k d format targets ended new f (inl stopped) = inl stopped
-impact_weaker honest dialect P Q old k d format targets ended new f (inr (t, there, inl refused)) = inr (t, there, inl refused)
-impact_weaker honest dialect P Q old k d format targets ended new f (inr (t, there, inr (can, walk))) = inr (
+pub impact_weaker : (honest : Type 0) (dialect : Dialect) (P Q : Source → List ℕ → Result Verdict EngineError → Type 0) (old : FileState) (c : ConfigPaths)
+    (format : OutputFormat) (targets : Targets) (ended : Ending) (new : FileState)
+    → ((source : Source) (o : List ℕ) (answer : Result Verdict EngineError) → P source o answer → Q source o answer)
+    → EndsImpact honest dialect P old c format targets ended new → EndsImpact honest dialect Q old c format targets ended new
+impact_weaker honest dialect P Q old c format targets ended new f (inl stopped) = inl stopped
+impact_weaker honest dialect P Q old c format targets ended new f (inr (t, there, inl refused)) = inr (t, there, inl refused)
+impact_weaker honest dialect P Q old c format targets ended new f (inr (t, there, inr (can, walk))) = let source = source_at dialect c.form t in inr (
   t,
   there,
   inr (
     can,
-    answers_weaker honest None format First (λ o answer. P t.kconfig t.dotconfig o (verdict answer)) (λ o answer. Q t.kconfig t.dotconfig o (verdict answer))
-        (reports stale_count) old targets ended new (λ o answer. f t.kconfig t.dotconfig o (verdict answer)) walk,
+    answers_weaker honest None format First (λ o answer. P source o (verdict answer)) (λ o answer. Q source o (verdict answer))
+        (reports stale_count) old targets ended new (λ o answer. f source o (verdict answer)) walk,
   ),
 )
 
 -- what is asked after the reads of a synchronisation that isn't made
-pub impact_asked : (honest : Type 0) (format : OutputFormat) (impact : Bor Impact) (k : KconfigText) (d : List ℕ) (old mid : FileState) (targets : Targets) (ended : Ending)
-    (new : FileState) → (honest → mid.files ≡ old.files) → old.failures ≤ mid.failures → mid.backdated ≡ old.backdated → (honest → IsImpactOf old.files (FromKconfig k d) impact.now)
+pub impact_asked : (honest : Type 0) (format : OutputFormat) (impact : Bor Impact) (source : Source) (old mid : FileState) (targets : Targets) (ended : Ending)
+    (new : FileState) → (honest → mid.files ≡ old.files) → old.failures ≤ mid.failures → mid.backdated ≡ old.backdated → (honest → IsImpactOf old.files source impact.now)
     → EndsWalk (querying_by honest mid.files None format (Predicted impact)) false (reports (counted_of (Predicted impact))) honest mid targets ended new
-    → EndsWalk (explaining honest old.files None format First (λ o answer. IsAnswerAfter old.files (FromKconfig k d) o (verdict answer))) false (reports stale_count) honest old targets ended new
-impact_asked honest format impact k d old mid targets ended new same later kept reported_of (inl (e, why, is, unaged)) =
+    → EndsWalk (explaining honest old.files None format First (λ o answer. IsAnswerAfter old.files source o (verdict answer))) false (reports stale_count) honest old targets ended new
+impact_asked honest format impact source old mid targets ended new same later kept reported_of (inl (e, why, is, unaged)) =
     inl (e, λ h. subst (λ f. IsAborted e ⊎ (targets_at f targets ≡ Err e)) (same h) (why h), is, unaged ∙ kept)
-impact_asked honest format impact k d old mid targets ended new same later kept reported_of (inr (objects, first, parts, asked, walks, reported, memory)) = inr (
+impact_asked honest format impact source old mid targets ended new same later kept reported_of (inr (objects, first, parts, asked, walks, reported, memory)) = inr (
   objects,
   first,
   parts,
@@ -117,10 +120,10 @@ impact_asked honest format impact k d old mid targets ended new same later kept 
     backdated = asked.backdated ∙ kept;
   },
   steps_weaker (querying_by honest mid.files None format (Predicted impact))
-      (explaining honest old.files None format First (λ o answer. IsAnswerAfter old.files (FromKconfig k d) o (verdict answer))) first parts new
+      (explaining honest old.files None format First (λ o answer. IsAnswerAfter old.files source o (verdict answer))) first parts new
       (λ s p t step. record {
         reported = record {
-          answered = λ h. subst (λ f. IsAnswerTo (Predicted impact) f p.object p.answer) (same h) (step.reported.answered h) (FromKconfig k d) (reported_of h);
+          answered = λ h. subst (λ f. IsAnswerTo (Predicted impact) f p.object p.answer) (same h) (step.reported.answered h) source (reported_of h);
           spelling = step.reported.spelling;
           spelled = λ h. refl;
           lines = step.reported.lines;

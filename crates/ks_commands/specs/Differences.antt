@@ -4,13 +4,13 @@ use Rattle.std.specs.FinMap as map
 use Rattle.ks_symbols.specs.declared.kinds.Class.{Class}
 use Rattle.ks_symbols.specs.declared.kinds.Class.TheVariants as class
 use Rattle.ks_symbols.specs.Configuration.{Configuration}
-use Rattle.ks_symbols.specs.Dialects.{KconfigText}
-use Rattle.ks_engine.specs.Sources.{FromKconfig}
+use Rattle.ks_engine.specs.Sources.{FromConf, FromKconfig, Source}
 use Rattle.ks_symbols.specs.Values.{quoted}
 use Rattle.ks_output.specs.OldConfig.{Texts}
-use Rattle.ks_compare.specs.Changes.{AreChanges, compared}
+use Rattle.ks_compare.specs.Changes.{AreChanges, compared, entry_differs}
 use Rattle.ks_tree.specs.Files.{Files}
 use Rattle.ks_engine.specs.SyncPlan.{IsSyncPlan, Plan}
+use Rattle.ks_requests.specs.Unknown.{unknown_lines}
 use Rattle.ks_requests.specs.declared.report_style.ReportStyle.{ReportStyle}
 use Rattle.ks_requests.specs.declared.report_style.ReportStyle.TheVariants.{Lines, LinesAndStatus, Status}
 
@@ -40,8 +40,10 @@ shown_classes t u = []
 unfoldable pub change_line : List ℕ → Option (Option Class × List ℕ) → Option (Option Class × List ℕ) → List ℕ
 change_line name old new = name ++ codes " " ++ shown_value old ++ codes " -> " ++ shown_value new ++ shown_classes old new ++ codes "\n"
 
+-- .. if it differs itself: with its companion alone it has none
 abbrev pub difference_line : Texts → Configuration → List ℕ → List ℕ
-difference_line old new name = change_line name (map.get old name) (option_map compared (map.get new name))
+difference_line old new name =
+    if entry_differs old new name then change_line name (map.get old name) (option_map compared (map.get new name)) else []
 
 -- the lines, unless the status alone is asked for
 abbrev pub lines_asked : ReportStyle → List ℕ → List ℕ
@@ -59,7 +61,7 @@ abbrev pub difference_status : ReportStyle → List (List ℕ) → ℕ
 difference_status report_style [] = 0
 difference_status report_style (name ∷ names) = if asks_status report_style then 1 else 0
 
--- a line for exactly the names that differ, by rising names, each once; and their status
+-- a line for each of the names that differ, by rising names, each once; and their status
 pub record ReportsChanges (report_style : ReportStyle) (old : Texts) (new : Configuration) (text : List ℕ) (status : ℕ) : Type 0 where
   pub names : List (List ℕ)
   pub changed : AreChanges old new names
@@ -67,6 +69,11 @@ pub record ReportsChanges (report_style : ReportStyle) (old : Texts) (new : Conf
   pub status_of : status ≡ difference_status report_style names
 
 -- what a synchronisation of these two texts would touch, printed
-abbrev pub IsDiff : ReportStyle → Files → KconfigText → List ℕ → List ℕ → ℕ → Type 0
-IsDiff report_style files kconfig dotconfig text status =
-    (plan : Plan) × IsSyncPlan files (FromKconfig kconfig dotconfig) (Ok plan) × ReportsChanges report_style plan.old plan.config text status
+abbrev pub IsDiff : ReportStyle → Files → Source → List ℕ → ℕ → Type 0
+IsDiff report_style files source text status =
+    (plan : Plan) × IsSyncPlan files source (Ok plan) × ReportsChanges report_style plan.old plan.config text status
+
+-- a line for each line of a `.config` whose name is not declared; what conf wrote has none
+abbrev pub unknown_of : Source → List ℕ
+unknown_of (FromKconfig kconfig dotconfig) = unknown_lines kconfig dotconfig
+unknown_of (FromConf dialect first header) = []

@@ -1,7 +1,6 @@
 -- How a history that the files show goes on with a request, by how the request ended.
 use Rattle.std.specs.Prelude.{◌≤◌, ℕ, List, [], Result, ⊤}
 use Rattle.ks_symbols.specs.declared.dialect.Dialect.{Dialect}
-use Rattle.ks_symbols.specs.Dialects.{KconfigText, read_in}
 use Rattle.ks_engine.specs.declared.commands.Reply.{Reply}
 use Rattle.ks_engine.specs.declared.error.EngineError.{EngineError}
 use Rattle.ks_engine.specs.declared.synchronise.Report.{Report}
@@ -9,7 +8,7 @@ use Rattle.ks_engine.specs.Actions.{Action, calls_of}
 use Rattle.ks_engine.specs.Depfile.{FollowsDepfile, ruled_by}
 use Rattle.ks_engine.specs.FileRuns.{FileState}
 use Rattle.ks_engine.specs.Follows.{TreeState, at, IsSame, FollowsRecord, FollowsSync}
-use Rattle.ks_engine.specs.Sources.{FromConf, FromKconfig}
+use Rattle.ks_engine.specs.Sources.{FromConf, FromKconfig, Source}
 use Rattle.ks_engine.specs.Runs.{Run}
 use Rattle.ks_engine.specs.AllStamps.{FollowsSyncAllStamps}
 use Rattle.ks_requests.specs.declared.request.Request.{Request}
@@ -23,9 +22,10 @@ abbrev pub state_of : TreeState → List (List ℕ) → FileState
 state_of s backdated = record { files = s.files; failures = s.failures; backdated = backdated }
 
 -- a synchronisation, by which stamps it is to leave
-abbrev pub FollowsStamps : Stamps → KconfigText → List ℕ → Result Report EngineError → TreeState → TreeState → Type 0
-FollowsStamps Touched k d answer old new = FollowsSync (FromKconfig k d) answer old new
-FollowsStamps Declared k d answer old new = FollowsSyncAllStamps k d answer old new
+abbrev pub FollowsStamps : Stamps → Source → Result Report EngineError → TreeState → TreeState → Type 0
+FollowsStamps Touched source answer old new = FollowsSync source answer old new
+FollowsStamps Declared (FromKconfig k d) answer old new = FollowsSyncAllStamps k d answer old new
+FollowsStamps Declared (FromConf d a h) answer old new = FollowsSync (FromConf d a h) answer old new
 
 -- The files of a script are read before its run begins.
 abbrev pub Runs : Dialect → TreeState → TreeState → List Action → List Reply → Type 0
@@ -35,8 +35,7 @@ Runs dialect old new actions replies = (failures : ℕ) × (old.failures ≤ fai
 abbrev pub by_histories : Dialect → TreeState → TreeState → Effects
 by_histories dialect old new = record (by_files dialect ⊤ (state_of old []) (state_of new [])) {
   same = IsSame old new;
-  sync = λ stamps k d answer. FollowsStamps stamps (read_in dialect k) d answer old new;
-  written = λ a h answer. FollowsSync (FromConf a h) answer old new;
+  sync = λ stamps source answer. FollowsStamps stamps source answer old new;
   recording = λ d t c answer. FollowsRecord dialect d t c answer old new;
   ruling = λ header d t c answer. FollowsDepfile (ruled_by header dialect) d t c answer old new;
   run = Runs dialect old new;

@@ -20,6 +20,7 @@ use Rattle.ks_requests.specs.declared.request.Targets.{Targets}
 use Rattle.ks_requests.specs.declared.status.Outcome.{Outcome}
 use Rattle.ks_requests.specs.declared.status.Status.TheVariants.{Done}
 use Rattle.ks_requests.specs.Endings.{Ending, Printed}
+use Rattle.ks_engine.specs.declared.planning.ConfigForm.{ConfigForm}
 use Rattle.ks_requests.specs.Outputs.{WritesPreview}
 use Rattle.ks_requests.specs.Requests.{IsPreviewOf}
 use Rattle.ks_requests.specs.Statuses.{code_of}
@@ -45,17 +46,17 @@ RequestsGoOn =
     × Continues dialect request ended (at old.files old.failures h) (at new.files new.failures next) × Shows new.files next
 
 -- A preview is done or refused, leaves the files as they are, and once done it has printed what is said of these arguments, to whoever reads it.
-pub record IsPreviewed (dialect : Dialect) (k d : List ℕ) (o : Option (List ℕ)) (old new : Files) (before after : State) (status : ℕ) : Type 0 where
+pub record IsPreviewed (dialect : Dialect) (form : ConfigForm) (k d : List ℕ) (o : Option (List ℕ)) (old new : Files) (before after : State) (status : ℕ) : Type 0 where
   pub answered : (status ≡ 0) ⊎ (status ≡ 2)
-  pub written : status ≡ 0 → after.is_unread ≡ false → WritesPreview dialect old k d o before.bytes after.bytes
+  pub written : status ≡ 0 → after.is_unread ≡ false → WritesPreview dialect form old k d o before.bytes after.bytes
   pub unchanged : new ≡ old
 
 abbrev pub PreviewsArePerformed : Type 0
 PreviewsArePerformed =
-    (dialect : Dialect) (k d : List ℕ) (o : Option (List ℕ)) (request : Request) (ended : Ending) (following : List ℕ) (old new : FileState)
+    (dialect : Dialect) (form : ConfigForm) (k d : List ℕ) (o : Option (List ℕ)) (request : Request) (ended : Ending) (following : List ℕ) (old new : FileState)
     (before after err_before err_after : State) (status : ℕ)
-    → IsPreviewOf k d o request → Ends ⊤ (by_files dialect ⊤ old new) old request ended new → Printed following ended before after err_before err_after status
-    → IsPreviewed dialect k d o old.files new.files before after status
+    → IsPreviewOf form k d o request → Ends ⊤ (by_files dialect ⊤ old new) old request ended new → Printed following ended before after err_before err_after status
+    → IsPreviewed dialect form k d o old.files new.files before after status
 
 -- A refusal of the whole command leaves the files as before, but for want of memory and a failure of the device.
 abbrev pub RefusalsChangeNothing : Type 0

@@ -2,7 +2,6 @@
 use Rattle.std.specs.Prelude.{◌≡◌, ◌⊎◌, ◌≤◌, ℕ, List, Option, None, Some, Result, Ok, Err, false, map, option_map, string_bytes, true, IfOk, ⊤}
 use Rattle.ks_fixdep.specs.declared.dependency_file.Header.{Header}
 use Rattle.ks_symbols.specs.declared.dialect.Dialect.{Dialect}
-use Rattle.ks_symbols.specs.Dialects.{read_in}
 use Rattle.ks_symbols.specs.Refusals.{IsRefusal}
 use Rattle.ks_tree.specs.declared.tree.Tree.{Ghosts}
 use Rattle.ks_tree.specs.Files.{Files, HasRisen}
@@ -22,30 +21,30 @@ use Rattle.ks_engine.specs.Depfile.{ruled_by}
 use Rattle.ks_engine.specs.Explained.{IsExplanationOn}
 use Rattle.ks_engine.specs.Impact.{IsAnswerAfter}
 use Rattle.ks_engine.specs.Refusals.{Answers, IsAborted}
-use Rattle.ks_engine.specs.FileRuns.{FileRun, FileState, LeavesDepfile, LeavesRecord, state, LeavesSync}
-use Rattle.ks_engine.specs.Sources.{FromConf, FromKconfig}
+use Rattle.ks_engine.specs.FileRuns.{FileRun, FileState, LeavesDepfile, LeavesRecord, state}
+use Rattle.ks_engine.specs.Sources.{Source, source_in}
 use Rattle.ks_engine.specs.SyncPlan.{IsSyncPlan}
 use Rattle.ks_engine.specs.Synchronised.{IsSynced}
 use Rattle.ks_requests.specs.declared.refusal.Refusal.{Refusal}
 use Rattle.ks_requests.specs.declared.refusal.Refusal.TheVariants.{Engine}
+use Rattle.ks_requests.specs.declared.request.ConfigPaths.{ConfigPaths}
 use Rattle.ks_requests.specs.declared.request.OutputFormat.{OutputFormat}
 use Rattle.ks_requests.specs.declared.request.OutputFormat.TheVariants.{Text}
 use Rattle.ks_requests.specs.declared.request.Request.{Request}
 use Rattle.ks_requests.specs.declared.request.Stamps.{Stamps}
 use Rattle.ks_requests.specs.declared.request.Targets.{Targets}
-use Rattle.ks_requests.specs.declared.request.Request.TheVariants.{Backdate, Batch, Cost, Depfile, Diff, Fixdep, Impact, Outdated, Preview, Record, Stale, Sync, SyncWritten, Users, Why}
+use Rattle.ks_requests.specs.declared.request.Request.TheVariants.{Backdate, Batch, Cost, Depfile, Diff, Fixdep, Impact, Outdated, Preview, Record, Stale, Sync, Users, Why}
 use Rattle.ks_requests.specs.declared.report_style.ReportStyle.{ReportStyle}
 use Rattle.ks_requests.specs.declared.status.Status.TheVariants.{Done}
 use Rattle.ks_requests.specs.Endings.{Answered, Ending, Stopped, Reports, ReportsUnknown}
-use Rattle.ks_requests.specs.Unknown.{unknown_lines}
-use Rattle.ks_requests.specs.Inputs.{Inputs, Texts, inputs_at, texts_at}
+use Rattle.ks_requests.specs.Inputs.{Inputs, Texts, config_at, inputs_at, source_at}
 use Rattle.ks_requests.specs.Preview.{IsPreview, preview_refusal}
 use Rattle.ks_requests.specs.Replies.{answer_line, build_line, depfile_line, recorded_line, reply_lines, report_lines}
 use Rattle.ks_requests.specs.Requests.{IsNoQuery, IsOneStep}
 use Rattle.ks_requests.specs.Statuses.{build_status, reply_status, status_unless_refused, worst}
 use Rattle.ks_requests.specs.Symbols.{symbols_of}
 use Rattle.ks_commands.specs.Depfiles.{IsHeaderOf, IsNoHeader}
-use Rattle.ks_commands.specs.Differences.{IsDiff, lines_asked}
+use Rattle.ks_commands.specs.Differences.{IsDiff, lines_asked, unknown_of}
 use Rattle.ks_commands.specs.Fixdep.{command_file_at}
 use Rattle.ks_commands.specs.Queries.{explaining, no_count, stale_count, reports}
 use Rattle.ks_commands.specs.Stamps.{LeavesStamps}
@@ -59,30 +58,21 @@ pub record Effects : Type 1 where
   pub dialect : Dialect
   -- all is as before
   pub same : Type 0
-  pub sync : Stamps → (kconfig dotconfig : List ℕ) → Result Report EngineError → Type 0
-  -- with what conf wrote
-  pub written : (auto header : List ℕ) → Result Report EngineError → Type 0
+  pub sync : Stamps → Source → Result Report EngineError → Type 0
   pub recording : (depfile target command : List ℕ) → Result RecordAnswer EngineError → Type 0
   pub ruling : (header : Header) (depfile target command : List ℕ) → Result RecordAnswer EngineError → Type 0
   pub stale : (target : List ℕ) → Result Verdict EngineError → Type 0
   pub why : (target : List ℕ) → Result Explanation EngineError → Type 0
-  pub impact : (kconfig dotconfig target : List ℕ) → Result Verdict EngineError → Type 0
+  pub impact : Source → (target : List ℕ) → Result Verdict EngineError → Type 0
   pub outdated : (target command : List ℕ) → Result BuildState EngineError → Type 0
   pub run : List Action → List Reply → Type 0
 
 -- Nothing has changed where the two files can't be read. Else it ends as the engine answers.
-abbrev pub EndsSync : Files → Effects → Stamps → List ℕ → List ℕ → Ending → Type 0
-EndsSync files effects stamps k d ended =
-    (effects.same × Stopped (texts_at files k d) ended)
-    ⊎ ((t : Texts) × (texts_at files k d ≡ Ok t)
-    × (answer : Result Report EngineError) × effects.sync stamps t.kconfig t.dotconfig answer × Answered report_lines answer ended)
-
--- So does one with what conf wrote.
-abbrev pub EndsSyncWritten : Files → Effects → List ℕ → List ℕ → Ending → Type 0
-EndsSyncWritten files effects a h ended =
-    (effects.same × Stopped (texts_at files a h) ended)
-    ⊎ ((t : Texts) × (texts_at files a h ≡ Ok t)
-    × (answer : Result Report EngineError) × effects.written t.kconfig t.dotconfig answer × Answered report_lines answer ended)
+abbrev pub EndsSync : Files → Effects → Stamps → ConfigPaths → Ending → Type 0
+EndsSync files effects stamps c ended =
+    (effects.same × Stopped (config_at files c) ended)
+    ⊎ ((t : Texts) × (config_at files c ≡ Ok t)
+    × (answer : Result Report EngineError) × effects.sync stamps (source_at effects.dialect c.form t) answer × Answered report_lines answer ended)
 
 -- The engine looks at the arguments of a record itself.
 abbrev pub EndsRecord : Effects → List ℕ → List ℕ → List ℕ → Ending → Type 0
@@ -96,42 +86,43 @@ EndsDepfile effects end d t c ended =
     × (answer : Result RecordAnswer EngineError) × effects.ruling header d t c answer × Answered (depfile_line t) answer ended)
 
 -- A preview of what the files hold, or the refusal that their texts have, or want of memory.
-abbrev pub EndsPreview : Dialect → Files → List ℕ → List ℕ → Option (List ℕ) → Ending → Type 0
-EndsPreview dialect files k d o ended =
-    Stopped (inputs_at files k d o) ended
-    ⊎ ((i : Inputs) × (inputs_at files k d o ≡ Ok i) × (((text : List ℕ) × IsPreview (read_in dialect i.kconfig) i.dotconfig i.old text × Reports text 0 ended)
-    ⊎ ((e : EngineError) × IsRefusal OutOfMemory e (preview_refusal (read_in dialect i.kconfig) i.dotconfig i.old) × (ended ≡ Err (Engine e)))))
+abbrev pub EndsPreview : Dialect → Files → ConfigPaths → Option (List ℕ) → Ending → Type 0
+EndsPreview dialect files c o ended =
+    Stopped (inputs_at files (string_bytes c.first) (string_bytes c.second) o) ended
+    ⊎ ((i : Inputs) × (inputs_at files (string_bytes c.first) (string_bytes c.second) o ≡ Ok i)
+    × (((text : List ℕ) × IsPreview (source_in dialect c.form i.kconfig i.dotconfig) i.old text × Reports text 0 ended)
+    ⊎ ((e : EngineError) × IsRefusal OutOfMemory e (preview_refusal (source_in dialect c.form i.kconfig i.dotconfig) i.old) × (ended ≡ Err (Engine e)))))
 
 -- A synchronisation of these texts is refused before its first write, or memory or the device fails before that.
-abbrev pub StoppedSync : Dialect → Files → Texts → Ending → Type 0
-StoppedSync dialect files t ended = (e : EngineError) × (IsAborted e ⊎ IsSyncPlan files (FromKconfig (read_in dialect t.kconfig) t.dotconfig) (Err e)) × (ended ≡ Err (Engine e))
+abbrev pub StoppedSync : Files → Source → Ending → Type 0
+StoppedSync files source ended = (e : EngineError) × (IsAborted e ⊎ IsSyncPlan files source (Err e)) × (ended ≡ Err (Engine e))
 
 -- What a synchronisation would touch, printed; or the refusal that it would have before its first write.
-abbrev pub EndsDiff : Dialect → ReportStyle → Files → List ℕ → List ℕ → Ending → Type 0
-EndsDiff dialect report_style files k d ended =
-    Stopped (texts_at files k d) ended
-    ⊎ ((t : Texts) × (texts_at files k d ≡ Ok t)
-    × (((text : List ℕ) × (status : ℕ) × IsDiff report_style files (read_in dialect t.kconfig) t.dotconfig text status
-    × ReportsUnknown text status (lines_asked report_style (unknown_lines (read_in dialect t.kconfig) t.dotconfig)) ended)
-    ⊎ StoppedSync dialect files t ended))
+abbrev pub EndsDiff : Dialect → ReportStyle → Files → ConfigPaths → Ending → Type 0
+EndsDiff dialect report_style files c ended =
+    Stopped (config_at files c) ended
+    ⊎ ((t : Texts) × (config_at files c ≡ Ok t)
+    × (((text : List ℕ) × (status : ℕ) × IsDiff report_style files (source_at dialect c.form t) text status
+    × ReportsUnknown text status (lines_asked report_style (unknown_of (source_at dialect c.form t))) ended)
+    ⊎ StoppedSync files (source_at dialect c.form t) ended))
 
 abbrev pub EndsFixdep : Dialect → Files → List ℕ → List ℕ → List ℕ → Ending → Type 0
 EndsFixdep dialect files d t c ended =
     (answer : Result (List ℕ) EngineError) × Answers (command_file_at dialect files d t c) (λ text. text) answer × Answered (λ text. text) answer ended
 
 -- There is a tree that a completed synchronisation of these texts leaves.
-abbrev pub CanBeSynced : Dialect → Files → Texts → Type 0
-CanBeSynced dialect files t = (after : Files) × (report : Report) × IsSynced files after (FromKconfig (read_in dialect t.kconfig) t.dotconfig) report
+abbrev pub CanBeSynced : Files → Source → Type 0
+CanBeSynced files source = (after : Files) × (report : Report) × IsSynced files after source report
 
 -- What would be stale after a synchronisation, printed; or the refusal that it would have before its first write, or the file of its targets has.
-abbrev pub EndsImpact : Type 0 → Dialect → (List ℕ → List ℕ → List ℕ → Result Verdict EngineError → Type 0) → FileState → List ℕ → List ℕ → OutputFormat
+abbrev pub EndsImpact : Type 0 → Dialect → (Source → List ℕ → Result Verdict EngineError → Type 0) → FileState → ConfigPaths → OutputFormat
     → Targets → Ending → FileState → Type 0
-EndsImpact honest dialect impact old k d format targets ended new =
-    StoppedBy honest (λ e. texts_at old.files k d ≡ Err e) old ended new
-    ⊎ ((t : Texts) × (honest → texts_at old.files k d ≡ Ok t)
-    × (StoppedBy honest (λ e. IsSyncPlan old.files (FromKconfig (read_in dialect t.kconfig) t.dotconfig) (Err e)) old ended new
-    ⊎ ((honest → CanBeSynced dialect old.files t)
-    × EndsWalk (explaining honest old.files None format First (λ o answer. impact t.kconfig t.dotconfig o (reported answer))) false (reports stale_count) honest old targets ended new)))
+EndsImpact honest dialect impact old c format targets ended new =
+    StoppedBy honest (λ e. config_at old.files c ≡ Err e) old ended new
+    ⊎ ((t : Texts) × (honest → config_at old.files c ≡ Ok t)
+    × (StoppedBy honest (λ e. IsSyncPlan old.files (source_at dialect c.form t) (Err e)) old ended new
+    ⊎ ((honest → CanBeSynced old.files (source_at dialect c.form t))
+    × EndsWalk (explaining honest old.files None format First (λ o answer. impact (source_at dialect c.form t) o (reported answer))) false (reports stale_count) honest old targets ended new)))
 
 abbrev pub EndsOutdated : Type 0 → (List ℕ → List ℕ → Result BuildState EngineError → Type 0) → FileState → List ℕ → List ℕ → Ending → FileState → Type 0
 EndsOutdated honest outdated old o c ended new =
@@ -153,11 +144,10 @@ EndsBatch honest effects files path ended =
 
 -- The request ended so. What the device is blamed for was counted on any tree; all else is said of honest ones.
 abbrev pub Ends : Type 0 → Effects → FileState → Request → Ending → FileState → Type 0
-Ends honest effects old (Sync k d stamps) ended new = honest → EndsSync old.files effects stamps (string_bytes k) (string_bytes d) ended
-Ends honest effects old (SyncWritten a h) ended new = honest → EndsSyncWritten old.files effects (string_bytes a) (string_bytes h) ended
-Ends honest effects old (Preview k d o) ended new =
-    honest → effects.same × EndsPreview effects.dialect old.files (string_bytes k) (string_bytes d) (option_map (λ path. string_bytes path) o) ended
-Ends honest effects old (Diff k d report_style) ended new = honest → effects.same × EndsDiff effects.dialect report_style old.files (string_bytes k) (string_bytes d) ended
+Ends honest effects old (Sync c stamps) ended new = honest → EndsSync old.files effects stamps c ended
+Ends honest effects old (Preview c o) ended new =
+    honest → effects.same × EndsPreview effects.dialect old.files c (option_map (λ path. string_bytes path) o) ended
+Ends honest effects old (Diff c report_style) ended new = honest → effects.same × EndsDiff effects.dialect report_style old.files c ended
 Ends honest effects old (Fixdep d t c) ended new =
     honest → effects.same × EndsFixdep effects.dialect old.files (string_bytes d) (string_bytes t) (string_bytes c) ended
 Ends honest effects old (Record d t c after) ended new = honest → EndsRecord effects (string_bytes d) (string_bytes t) (string_bytes c) ended
@@ -167,8 +157,8 @@ Ends honest effects old (Stale targets format) ended new = (honest → effects.s
     × EndsWalk (explaining honest old.files None format First (λ o answer. effects.stale o (reported answer))) false (reports no_count) honest old targets ended new
 Ends honest effects old (Why targets format) ended new =
     (honest → effects.same) × EndsWalk (explaining honest old.files None format Every effects.why) false (reports no_count) honest old targets ended new
-Ends honest effects old (Impact k d targets format) ended new =
-    (honest → effects.same) × EndsImpact honest effects.dialect effects.impact old (string_bytes k) (string_bytes d) format targets ended new
+Ends honest effects old (Impact c targets format) ended new =
+    (honest → effects.same) × EndsImpact honest effects.dialect effects.impact old c format targets ended new
 Ends honest effects old (Backdate which targets) ended new = (honest → effects.same)
     × EndsWalk (explaining honest old.files (Some which) Text First (λ o answer. effects.stale o (reported answer))) false (reports no_count) honest old targets ended new
 Ends honest effects old (Outdated t c) ended new =
@@ -192,13 +182,12 @@ abbrev pub by_files : Dialect → Type 0 → FileState → FileState → Effects
 by_files dialect honest old new = record {
   dialect = dialect;
   same = new.files ≡ old.files;
-  sync = λ stamps k. LeavesStamps old.files new.files stamps (read_in dialect k);
-  written = λ a h. LeavesSync old.files new.files (FromConf a h);
+  sync = LeavesStamps old.files new.files;
   recording = LeavesRecord dialect old.files new.files;
   ruling = λ header. LeavesDepfile (ruled_by header dialect) old.files new.files;
   stale = IsAnswerOn old.files;
   why = IsExplanationOn old.files;
-  impact = λ k d. IsAnswerAfter old.files (FromKconfig (read_in dialect k) d);
+  impact = IsAnswerAfter old.files;
   outdated = IsStateOn old.files;
   run = RunsOn dialect honest old new;
 }
@@ -209,7 +198,7 @@ by_files dialect honest old new = record {
 abbrev pub IsNoWalk : Request → Type 0
 IsNoWalk (Stale targets format) = ⊥
 IsNoWalk (Why targets format) = ⊥
-IsNoWalk (Impact kconfig dotconfig targets format) = ⊥
+IsNoWalk (Impact config targets format) = ⊥
 IsNoWalk (Backdate which targets) = ⊥
 IsNoWalk (Users symbols targets) = ⊥
 IsNoWalk (Cost top targets) = ⊥

@@ -1,10 +1,9 @@
 -- Runs of the program, one after the other over the files of one tree.
-use Rattle.std.specs.Prelude.{◌≡◌, ◌⊎◌, ◌≤◌, ℕ, List, [], ◌∷◌, Some, Result, Ok, IfOk, IsTrue, bytes_eq, filter, false, map, true, ⊤}
+use Rattle.std.specs.Prelude.{◌≡◌, ◌⊎◌, ◌≤◌, ℕ, List, Some, Result, Ok, IfOk, IsTrue, bytes_eq, filter, false, map, true, ⊤}
 use Rattle.std.specs.List.{All}
 use Rattle.ks_fixdep.specs.CommandFile.{is_command}
 use Rattle.ks_symbols.specs.declared.dialect.Dialect.{Dialect}
-use Rattle.ks_symbols.specs.Dialects.{KconfigText, read_in}
-use Rattle.ks_engine.specs.Sources.{FromKconfig}
+use Rattle.ks_engine.specs.Sources.{Source}
 use Rattle.ks_engine.specs.declared.commands.Reply.{Reply}
 use Rattle.ks_engine.specs.declared.error.EngineError.{EngineError}
 use Rattle.ks_tree.specs.Files.{Files}
@@ -17,17 +16,17 @@ use Rattle.ks_engine.specs.declared.staleness.Verdict.TheVariants.{Fresh}
 use Rattle.ks_engine.specs.Actions.{Action, calls_of}
 use Rattle.ks_engine.specs.BuildStates.{evaluated}
 use Rattle.ks_engine.specs.Asked.{reported}
-use Rattle.ks_engine.specs.Follows.{TreeState, IsSame, at}
+use Rattle.ks_engine.specs.Follows.{TreeState, at}
 use Rattle.ks_engine.specs.History.{LastRecord, Synced, last_record}
 use Rattle.ks_engine.specs.Evaluated.{HasSameDefinitions}
 use Rattle.ks_engine.specs.Refusals.{IsAbortedAnswer}
-use Rattle.ks_engine.specs.Runs.{IsShown, Leads, Step, call_in}
+use Rattle.ks_engine.specs.Runs.{Leads, Step, call_in}
 use Rattle.ks_engine.specs.Staleness.{changed_since, first_changed, found, verdict}
 use Rattle.ks_engine.specs.Synchronised.{IsSynced}
 use Rattle.ks_engine.specs.Verdicts.{IsChangedVerdict, IsSafeVerdict}
 use Rattle.ks_requests.specs.declared.request.Request.{Request}
 use Rattle.ks_requests.specs.Endings.{Ending}
-use Rattle.ks_commands.specs.Histories.{Continues, by_histories, state_of}
+use Rattle.ks_commands.specs.Histories.{by_histories, state_of}
 use Rattle.ks_commands.specs.Performed.{Effects, Ends}
 
 pub record ProgramRun : Type 0 where
@@ -49,8 +48,8 @@ pub record ReportsCauses (s : TreeState) (o : List ℕ) (answer : Result Explana
       → IfOk answer (λ e. map (λ c. c.name) e.causes.items ≡ filter (changed_since s.history o) (found s.history o))
 
 -- So does an answer after a synchronisation of two texts, of each state that this would leave.
-abbrev pub ReportsAfter : TreeState → KconfigText → List ℕ → List ℕ → Result Verdict EngineError → Type 0
-ReportsAfter s k d o answer = (after : Files) (report : Report) (synced : IsSynced s.files after (FromKconfig k d) report)
+abbrev pub ReportsAfter : TreeState → Source → List ℕ → Result Verdict EngineError → Type 0
+ReportsAfter s source o answer = (after : Files) (report : Report) (synced : IsSynced s.files after source report)
     → ReportsChange (at after s.failures (Synced synced.plan.title synced.plan.config s.history)) o answer
 
 -- So does an answer about a command that builds it: another one is reported exactly where that of the record is another one.
@@ -74,7 +73,7 @@ abbrev pub changes_reported : Dialect → TreeState → TreeState → Effects
 changes_reported dialect old new = record (by_histories dialect old new) {
   stale = ReportsChange old;
   why = ReportsCauses old;
-  impact = λ k. ReportsAfter old (read_in dialect k);
+  impact = ReportsAfter old;
   outdated = λ o command answer. IsTrue (is_command command) → ReportsBuild old o command answer;
   run = StepsReportChanges dialect old new;
 }

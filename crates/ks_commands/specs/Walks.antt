@@ -1,8 +1,7 @@
 -- A walk over objects: each is asked about and reported before the next one is.
 use Rattle.std.specs.Prelude.{◌≡◌, ◌⊎◌, ◌≤◌, ◌++◌, Bool, ℕ, List, [], ◌∷◌, Option, None, Result, Ok, Err, IfErr, flat_map, map, take, if◌then◌else◌}
 use Rattle.ks_fixdep.specs.FoundNames.{all_noted}
-use Rattle.ks_tree.specs.declared.tree.Tree.{Ghosts}
-use Rattle.ks_tree.specs.Files.{Files, HasRisen}
+use Rattle.ks_tree.specs.Files.{HasRisen}
 use Rattle.ks_engine.specs.declared.error.EngineError.{EngineError}
 use Rattle.ks_engine.specs.declared.error.EngineError.TheVariants.{Device, OutOfMemory}
 use Rattle.ks_engine.specs.FileRuns.{FileState}

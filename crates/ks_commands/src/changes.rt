@@ -4,101 +4,86 @@
 ghost use Rattle.std.specs.Prelude.{◌≡◌, Err, IfErr, IfOk, IsErrOf, OnOk, option_map};
 ghost use Rattle.ks_tree.specs.Files.{HasRisen};
 ghost use Rattle.ks_tree.specs.Frames.{Counted};
-ghost use Rattle.ks_engine.specs.FileRuns.{LeavesSync, state};
-ghost use Rattle.ks_engine.specs.Sources.{FromConf};
+ghost use Rattle.ks_engine.specs.FileRuns.{state};
+ghost use Rattle.ks_engine.specs.Sources.{config_source};
 ghost use Rattle.ks_engine.specs.declared.error.EngineError.TheVariants.{BadPath, Device, OutOfMemory};
 ghost use Rattle.ks_requests.specs.declared.refusal.Refusal.TheVariants.{Engine};
+ghost use Rattle.ks_requests.specs.declared.request.Stamps.TheVariants.{Declared};
 ghost use Rattle.ks_requests.specs.declared.status.Status.TheVariants.{Done};
 ghost use Rattle.ks_commands.specs.Depfiles.{IsHeaderOf, IsNoHeader};
 ghost use Rattle.ks_commands.specs.Stamps.{LeavesStamps};
-ghost use Rattle.ks_commands.specs.Performed.{EndsDepfile, EndsRecord, EndsSync, EndsSyncWritten, by_files};
+ghost use Rattle.ks_commands.specs.Performed.{EndsDepfile, EndsRecord, EndsSync, by_files};
 
 use ks_engine::{
-    EngineError, Report, record_depfile, record_object, sync, sync_all_stamps, sync_written,
+    ConfigForm, ConfigTexts, EngineError, Report, record_depfile, record_object, sync,
+    sync_all_stamps,
 };
 use ks_fixdep::Header;
 use ks_requests::{
-    Outcome, Refusal, Stamps, report_depfile, report_recorded, report_sync, texts_at,
+    ConfigPaths, Outcome, Refusal, Stamps, config_at, report_depfile, report_recorded, report_sync,
 };
 use ks_symbols::{Dialect, Kconfig, path_is_legal};
 use ks_tree::Tree;
 use std::alloc::Global;
+
+/// Synchronises a tree with two texts, and leaves a stamp of each symbol that a Kconfig declares. What conf wrote doesn't say which
+/// these are.
+fn sync_declared<T: Tree>(
+    alloc: Global,
+    tree: &mut T,
+    texts: &ConfigTexts<'_>,
+) -> Result<Report, EngineError>
+    ensures files { T.is_honest → LeavesStamps (T.files tree.old) (T.files tree.new) Declared (config_source texts.now) result }
+    ensures counted { Counted T.Tree tree.old tree.new (IsErrOf result EngineError.Device) }
+    ensures passed { OnOk result (T.failures tree.new ≡ T.failures tree.old) }
+    ensures uncounted { IsErrOf result EngineError.OutOfMemory → T.failures tree.new ≡ T.failures tree.old }
+    ensures kept { T.backdated tree.new ≡ T.backdated tree.old }
+{
+    match texts.form {
+        ConfigForm::Kconfig => {
+            let kconfig = Kconfig::new(texts.dialect, texts.first);
+            sync_all_stamps(alloc, tree, &kconfig, texts.second)
+        }
+        ConfigForm::Written => sync(alloc, tree, texts),
+    }
+}
 
 /// Synchronises a tree with two texts, and leaves these stamps.
 fn sync_with<T: Tree>(
     alloc: Global,
     tree: &mut T,
     stamps: Stamps,
-    kconfig: &Kconfig<'_>,
-    dotconfig: &[u8],
+    texts: &ConfigTexts<'_>,
 ) -> Result<Report, EngineError>
-    ensures files { T.is_honest → LeavesStamps (T.files tree.old) (T.files tree.new) stamps kconfig.now dotconfig.now result }
+    ensures files { T.is_honest → LeavesStamps (T.files tree.old) (T.files tree.new) stamps (config_source texts.now) result }
     ensures counted { Counted T.Tree tree.old tree.new (IsErrOf result EngineError.Device) }
     ensures passed { OnOk result (T.failures tree.new ≡ T.failures tree.old) }
     ensures uncounted { IsErrOf result EngineError.OutOfMemory → T.failures tree.new ≡ T.failures tree.old }
     ensures kept { T.backdated tree.new ≡ T.backdated tree.old }
 {
     match stamps {
-        Stamps::Touched => sync(alloc, tree, kconfig, dotconfig),
-        Stamps::Declared => sync_all_stamps(alloc, tree, kconfig, dotconfig),
+        Stamps::Touched => sync(alloc, tree, texts),
+        Stamps::Declared => sync_declared(alloc, tree, texts),
     }
 }
 
-/// Synchronises a tree with what conf wrote.
-fn sync_from_conf<T: Tree>(
-    alloc: Global,
-    tree: &mut T,
-    auto: &[u8],
-    header: &[u8],
-) -> Result<Report, EngineError>
-    ensures files { T.is_honest → LeavesSync (T.files tree.old) (T.files tree.new) (FromConf auto.now header.now) result }
-    ensures counted { Counted T.Tree tree.old tree.new (IsErrOf result EngineError.Device) }
-    ensures passed { OnOk result (T.failures tree.new ≡ T.failures tree.old) }
-    ensures uncounted { IsErrOf result EngineError.OutOfMemory → T.failures tree.new ≡ T.failures tree.old }
-    ensures kept { T.backdated tree.new ≡ T.backdated tree.old }
-{
-    sync_written(alloc, tree, auto, header)
-}
-
-/// Brings a tree to the configuration of the files that two arguments name, and prints what that touched.
+/// Brings a tree to the configuration of two files, and prints what that touched.
 pub(crate) fn synchronise<T: Tree>(
     alloc: Global,
     tree: &mut T,
     dialect: Dialect,
     stamps: Stamps,
-    kconfig: &[u8],
-    dotconfig: &[u8],
+    config: &ConfigPaths,
 ) -> Result<Outcome, Refusal>
     ensures done { IfOk result (λ o. o.status ≡ Done) }
     ensures files { T.is_honest → EndsSync (T.files tree.old) (by_files dialect T.is_honest (state T.Tree tree.old) (state T.Tree tree.new))
-        stamps kconfig.now dotconfig.now result }
+        stamps config.now result }
     ensures cause { result ≡ Err (Engine Device) → HasRisen (T.failures tree.old) (T.failures tree.new) }
     ensures memory { result ≡ Err (Engine OutOfMemory) → T.failures tree.new ≡ T.failures tree.old }
     ensures kept { T.backdated tree.new ≡ T.backdated tree.old }
 {
-    let texts = texts_at(alloc, tree, kconfig, dotconfig)?;
-    let kconfig = Kconfig::new(dialect, &texts.kconfig);
-    let report = sync_with(alloc, tree, stamps, &kconfig, &texts.dotconfig)?;
-    Ok(report_sync(alloc, &report)?)
-}
-
-/// Brings a tree to the configuration that conf wrote as the two files that arguments name, and prints what that touched.
-pub(crate) fn synchronise_written<T: Tree>(
-    alloc: Global,
-    tree: &mut T,
-    dialect: Dialect,
-    auto: &[u8],
-    header: &[u8],
-) -> Result<Outcome, Refusal>
-    ensures done { IfOk result (λ o. o.status ≡ Done) }
-    ensures files { T.is_honest → EndsSyncWritten (T.files tree.old) (by_files dialect T.is_honest (state T.Tree tree.old) (state T.Tree tree.new))
-        auto.now header.now result }
-    ensures cause { result ≡ Err (Engine Device) → HasRisen (T.failures tree.old) (T.failures tree.new) }
-    ensures memory { result ≡ Err (Engine OutOfMemory) → T.failures tree.new ≡ T.failures tree.old }
-    ensures kept { T.backdated tree.new ≡ T.backdated tree.old }
-{
-    let texts = texts_at(alloc, tree, auto, header)?;
-    let report = sync_from_conf(alloc, tree, &texts.kconfig, &texts.dotconfig)?;
+    let texts = config_at(alloc, tree, config)?;
+    let report = sync_with(alloc, tree, stamps, &texts.config(dialect, config.form))?;
     Ok(report_sync(alloc, &report)?)
 }
 

@@ -3,11 +3,12 @@
 //! It is planned as a synchronisation is, and so is refused where that would be before its first write. Nothing is written.
 ghost use Rattle.std.specs.Prelude.{◌≡◌, ◌⊎◌, ◌++◌, Err, IfErr, IfOk, IsErrOf, OnOk, flat_map, option_map};
 ghost use Rattle.std.specs.FinMap as map;
-ghost use Rattle.ks_compare.specs.Changes.{compared};
+ghost use Rattle.ks_compare.specs.Changes.{compared, differ};
 ghost use Rattle.ks_tree.specs.Frames.{Reads};
 ghost use Rattle.ks_engine.specs.Refusals.{IsAborted};
-ghost use Rattle.ks_engine.specs.Sources.{FromKconfig};
-ghost use Rattle.ks_engine.specs.SyncPlan.{IsSyncPlan};
+ghost use Rattle.ks_engine.specs.Sources.{FromKconfig, config_source};
+ghost use Rattle.ks_engine.specs.SyncPlan.{AreConfigInputs, AreInputs, IsSyncPlan, refusal_of};
+ghost use Rattle.ks_engine.specs.Views.{sources_of};
 ghost use Rattle.ks_engine.specs.declared.error.EngineError.TheVariants.{Device, OutOfMemory};
 ghost use Rattle.ks_requests.specs.declared.refusal.Refusal.TheVariants.{Engine};
 ghost use Rattle.ks_requests.specs.declared.status.Status.TheVariants.{Done};
@@ -16,14 +17,20 @@ ghost use Rattle.ks_requests.specs.Endings.{IsUnknown};
 ghost use Rattle.ks_requests.specs.Unknown.{unknown_line, unknown_lines, unknown_names};
 ghost use Rattle.ks_symbols.specs.DotConfig.{unknown_count};
 ghost use Rattle.ks_symbols.specs.Lines.{lines};
-ghost use Rattle.ks_commands.specs.Differences.{IsDiff, change_line, class_word, difference_line, difference_status, lines_asked, shown_classes, shown_value};
+ghost use Rattle.ks_symbols.specs.Refusals.{IsRefusal};
+ghost use Rattle.ks_commands.specs.Differences.{IsDiff, change_line, class_word, difference_line, difference_status, lines_asked, shown_classes, shown_value, unknown_of};
 ghost use Rattle.ks_commands.specs.Performed.{EndsDiff};
 ghost use Rattle.ks_commands.specs.Views.{seen_value};
 
-use ks_engine::{EngineError, parse_config_inputs, plan_config_inputs};
+use ks_engine::{
+    ConfigForm, ConfigInputs, ConfigTexts, EngineError, parse_config_inputs, plan_config_inputs,
+    read_inputs,
+};
 use ks_output::{OldConfig, write_quoted};
-use ks_requests::{Count, Outcome, Refusal, ReportStyle, Status, texts_at, unknown_lines};
-use ks_symbols::{Class, Dialect, Kconfig, Name, Settings, Symbols};
+use ks_requests::{
+    ConfigPaths, Count, Outcome, Refusal, ReportStyle, Status, config_at, unknown_lines,
+};
+use ks_symbols::{Class, Dialect, Kconfig, Name, Seed, Settings, Symbols};
 use ks_tree::Tree;
 use std::alloc::{AllocError, Global};
 
@@ -121,7 +128,35 @@ fn write_change(
     text.extend_from_slice(b"\n")
 }
 
-/// A line for each name.
+/// Whether what a name has and what it would have differ. It may be among the changes for its companion alone.
+fn differ(old: Option<Value<'_>>, new: Option<Value<'_>>) -> bool
+    ensures { result ≡ differ (option_map seen_value old.entry) (option_map seen_value new.entry) }
+{
+    match (old, new) {
+        (None, None) => false,
+        (Some(old), Some(new)) => old.class != new.class || old.text != new.text,
+        _ => true,
+    }
+}
+
+/// The line of a name, if it differs itself.
+fn write_difference(
+    name: &[u8],
+    old: &OldConfig,
+    new: &Settings,
+    text: &mut Vec<u8>,
+) -> Result<(), AllocError>
+    ensures { OnOk result (text.new.items ≡ text.old.items ++ difference_line old.now.texts new.now.entries name.now) }
+{
+    let was = old_value(old, name);
+    let is = new_value(new, name);
+    if differ(was, is) {
+        write_change(name, was, is, text)?;
+    }
+    Ok(())
+}
+
+/// A line for each name that differs itself.
 fn write_changes(
     names: &[Name],
     old: &OldConfig,
@@ -131,8 +166,7 @@ fn write_changes(
     ensures { OnOk result (text.new.items ≡ text.old.items ++ flat_map (difference_line old.now.texts new.now.entries) names.now) }
 {
     for name in names {
-        let name = name.as_bytes();
-        write_change(name, old_value(old, name), new_value(new, name), text)?;
+        write_difference(name.as_bytes(), old, new, text)?;
     }
     Ok(())
 }
@@ -191,26 +225,72 @@ fn unknown_asked(
     }
 }
 
+/// What two texts say, and the lines of unknown names.
+#[derive(Drop)]
+struct Asked {
+    sources: ConfigInputs,
+    count: Option<Count>,
+}
+
+/// What a Kconfig and a `.config` say, and the lines of unknown names. The symbols are let go once these are made.
+fn kconfig_asked(
+    alloc: Global,
+    kconfig: &Kconfig<'_>,
+    dotconfig: &[u8],
+    report_style: ReportStyle,
+) -> Result<Asked, EngineError>
+    ensures read { IfOk result (λ a. AreConfigInputs kconfig.now dotconfig.now (sources_of a.sources)
+        × IsUnknown (lines_asked report_style (unknown_lines kconfig.now dotconfig.now)) a.count) }
+    ensures refused { IfErr result (λ e. IsRefusal EngineError.OutOfMemory e (refusal_of (FromKconfig kconfig.now dotconfig.now))) }
+{
+    let parsed = parse_config_inputs(alloc, kconfig, dotconfig)?;
+    let unknown = parsed.sources.settings.unknown();
+    let count = unknown_asked(alloc, report_style, &parsed.symbols, dotconfig, unknown)?;
+    let sources = parsed.sources;
+    Ok(Asked { sources, count })
+}
+
+/// What two texts say, by their form. What conf wrote has no lines of unknown names.
+fn inputs_asked(
+    alloc: Global,
+    seed: Seed,
+    texts: &ConfigTexts<'_>,
+    report_style: ReportStyle,
+) -> Result<Asked, EngineError>
+    ensures read { IfOk result (λ a. AreInputs (config_source texts.now) (sources_of a.sources)
+        × IsUnknown (lines_asked report_style (unknown_of (config_source texts.now))) a.count) }
+    ensures refused { IfErr result (λ e. IsRefusal EngineError.OutOfMemory e (refusal_of (config_source texts.now))) }
+{
+    match texts.form {
+        ConfigForm::Kconfig => {
+            let kconfig = Kconfig::new(texts.dialect, texts.first);
+            kconfig_asked(alloc, &kconfig, texts.second, report_style)
+        }
+        ConfigForm::Written => {
+            let sources = read_inputs(alloc, seed, texts)?;
+            let count = None;
+            Ok(Asked { sources, count })
+        }
+    }
+}
+
 /// What a synchronisation of a tree would touch, printed, unless that would be refused.
 fn differences<T: Tree>(
     alloc: Global,
     tree: &mut T,
-    kconfig: &Kconfig<'_>,
-    dotconfig: &[u8],
+    texts: &ConfigTexts<'_>,
     report_style: ReportStyle,
 ) -> Result<Outcome, EngineError>
     ensures done { report_style ≡ ReportStyle.Lines → IfOk result (λ o. o.status ≡ Done) }
     ensures reads { Reads T.Tree tree.old tree.new (IsErrOf result EngineError.Device) }
     ensures uncounted { IsErrOf result EngineError.OutOfMemory → T.failures tree.new ≡ T.failures tree.old }
-    ensures reported { T.is_honest → IfOk result (λ o. IsDiff report_style (T.files tree.old) kconfig.now dotconfig.now o.text.items (code_of o.status)
-        × IsUnknown (lines_asked report_style (unknown_lines kconfig.now dotconfig.now)) o.count) }
-    ensures refused { T.is_honest → IfErr result (λ e. IsAborted e ⊎ IsSyncPlan (T.files tree.old) (FromKconfig kconfig.now dotconfig.now) (Err e)) }
+    ensures reported { T.is_honest → IfOk result (λ o. IsDiff report_style (T.files tree.old) (config_source texts.now) o.text.items (code_of o.status)
+        × IsUnknown (lines_asked report_style (unknown_of (config_source texts.now))) o.count) }
+    ensures refused { T.is_honest → IfErr result (λ e. IsAborted e ⊎ IsSyncPlan (T.files tree.old) (config_source texts.now) (Err e)) }
 {
-    let parsed = parse_config_inputs(alloc, kconfig, dotconfig)?;
-    let unknown = parsed.sources.settings.unknown();
-    let count = unknown_asked(alloc, report_style, &parsed.symbols, dotconfig, unknown)?;
-    drop(parsed.symbols);
-    let planned = plan_config_inputs(alloc, tree, parsed.sources)?;
+    let seed = Seed::new(tree.seed());
+    let asked = inputs_asked(alloc, seed, texts, report_style)?;
+    let planned = plan_config_inputs(alloc, tree, asked.sources)?;
     let names = &planned.report.touched;
     let settings = &planned.sources.settings;
     let text = lines_asked(alloc, report_style, names, &planned.old, settings)?;
@@ -218,25 +298,28 @@ fn differences<T: Tree>(
     Ok(Outcome {
         text,
         status,
-        count,
+        count: asked.count,
     })
 }
 
-/// Prints what a synchronisation with the files that two arguments name would touch.
+/// Prints what a synchronisation with the configuration of two files would touch.
 pub(crate) fn report_differences<T: Tree>(
     alloc: Global,
     tree: &mut T,
     dialect: Dialect,
-    kconfig: &[u8],
-    dotconfig: &[u8],
+    config: &ConfigPaths,
     report_style: ReportStyle,
 ) -> Result<Outcome, Refusal>
     ensures done { report_style ≡ ReportStyle.Lines → IfOk result (λ o. o.status ≡ Done) }
     ensures reads { Reads T.Tree tree.old tree.new (result ≡ Err (Engine Device)) }
     ensures memory { result ≡ Err (Engine OutOfMemory) → T.failures tree.new ≡ T.failures tree.old }
-    ensures reported { T.is_honest → EndsDiff dialect report_style (T.files tree.old) kconfig.now dotconfig.now result }
+    ensures reported { T.is_honest → EndsDiff dialect report_style (T.files tree.old) config.now result }
 {
-    let texts = texts_at(alloc, tree, kconfig, dotconfig)?;
-    let kconfig = Kconfig::new(dialect, &texts.kconfig);
-    Ok(differences(alloc, tree, &kconfig, &texts.dotconfig, report_style)?)
+    let texts = config_at(alloc, tree, config)?;
+    Ok(differences(
+        alloc,
+        tree,
+        &texts.config(dialect, config.form),
+        report_style,
+    )?)
 }

@@ -2,7 +2,7 @@
 //!
 //! The whole text of a command is made here, before `execute` prints its first byte, so that a command that is refused as a
 //! whole writes nothing to the output.
-ghost use Rattle.std.specs.Prelude.{◌≡◌, ◌∷◌, Err, IfOk, option_map};
+ghost use Rattle.std.specs.Prelude.{◌≡◌, ◌∷◌, Err, IfOk, option_map, string_bytes};
 ghost use Rattle.ks_tree.specs.Files.{HasRisen};
 ghost use Rattle.ks_tree.specs.Frames.{Reads};
 ghost use Rattle.ks_engine.specs.FileRuns.{state};
@@ -14,7 +14,7 @@ ghost use Rattle.ks_requests.specs.Requests.{IsNoQuery, IsOneStep};
 ghost use Rattle.ks_commands.specs.Performed.{Ends, EndsFixdep, EndsPreview, IsNoWalk, by_files};
 
 use crate::batch::run_script;
-use crate::changes::{record_rule, record_target, synchronise, synchronise_written};
+use crate::changes::{record_rule, record_target, synchronise};
 use crate::cost::report_cost;
 use crate::differences::report_differences;
 use crate::fixdep::command_file_text;
@@ -22,10 +22,10 @@ use crate::queries::{outdated_target, query_predicted, query_targets};
 use crate::users::report_users;
 use ks_engine::{EngineError, Query};
 use ks_requests::{
-    Outcome, OutputFormat, PreviewError, Reading, Refusal, Request, borrowed, borrowed_path,
-    inputs_at, preview_to,
+    ConfigPaths, Outcome, OutputFormat, PreviewError, Reading, Refusal, Request, borrowed,
+    borrowed_path, inputs_at, preview_to,
 };
-use ks_symbols::{Dialect, Kconfig};
+use ks_symbols::{Dialect, Seed};
 use ks_tree::{Backdating, Tree};
 use std::alloc::Global;
 
@@ -34,22 +34,22 @@ fn preview<T: Reading>(
     alloc: Global,
     tree: &mut T,
     dialect: Dialect,
-    kconfig: &[u8],
-    dotconfig: &[u8],
+    config: &ConfigPaths,
     old: Option<&str>,
 ) -> Result<Outcome, Refusal>
     ensures done { IfOk result (λ o. o.status ≡ Done) }
     ensures reads { Reads T.Tree tree.old tree.new (result ≡ Err (Engine Device)) }
     ensures memory { result ≡ Err (Engine OutOfMemory) → T.failures tree.new ≡ T.failures tree.old }
-    ensures reported { T.is_honest → EndsPreview dialect (T.files tree.old) kconfig.now dotconfig.now (option_map (λ p. p.now) old.entry) result }
-    ensures no_other { ReadsSome T.reads tree.old (kconfig.now ∷ dotconfig.now ∷ if_named (option_map (λ p. p.now) old.entry)) tree.new }
+    ensures reported { T.is_honest → EndsPreview dialect (T.files tree.old) config.now (option_map (λ p. p.now) old.entry) result }
+    ensures no_other { ReadsSome T.reads tree.old (string_bytes config.now.first ∷ string_bytes config.now.second ∷ if_named (option_map (λ p. p.now) old.entry)) tree.new }
 {
-    let inputs = inputs_at(alloc, tree, kconfig, dotconfig, old)?;
-    let texts = &inputs.texts;
+    let (first, second) = (config.first.as_bytes(), config.second.as_bytes());
+    let inputs = inputs_at(alloc, tree, first, second, old)?;
+    let texts = inputs.texts.config(dialect, config.form);
     let old = borrowed(&inputs.old);
-    let kconfig = Kconfig::new(dialect, &texts.kconfig);
+    let seed = Seed::new(tree.seed());
     let mut text = Vec::new(alloc);
-    match preview_to(alloc, &kconfig, &texts.dotconfig, old, &mut text) {
+    match preview_to(alloc, seed, &texts, old, &mut text) {
         Ok(()) => Ok(Outcome::done(text)),
         Err(PreviewError::Engine(error)) => Err(Refusal::Engine(error)),
         // A vector takes any text but for want of memory.
@@ -90,33 +90,14 @@ pub(crate) fn outcome<T: Backdating>(
     ensures kept { IsNoWalk request.now → T.backdated tree.new ≡ T.backdated tree.old }
 {
     match request {
-        Request::Sync {
-            kconfig,
-            dotconfig,
-            stamps,
-        } => {
-            let (kconfig, dotconfig) = (kconfig.as_bytes(), dotconfig.as_bytes());
-            synchronise(alloc, tree, dialect, *stamps, kconfig, dotconfig)
-        }
-        Request::SyncWritten { auto, header } => {
-            synchronise_written(alloc, tree, dialect, auto.as_bytes(), header.as_bytes())
-        }
-        Request::Preview {
-            kconfig,
-            dotconfig,
-            old,
-        } => {
-            let (kconfig, dotconfig) = (kconfig.as_bytes(), dotconfig.as_bytes());
-            preview(alloc, tree, dialect, kconfig, dotconfig, borrowed_path(old))
+        Request::Sync { config, stamps } => synchronise(alloc, tree, dialect, *stamps, config),
+        Request::Preview { config, old } => {
+            preview(alloc, tree, dialect, config, borrowed_path(old))
         }
         Request::Diff {
-            kconfig,
-            dotconfig,
+            config,
             report_style,
-        } => {
-            let (kconfig, dotconfig) = (kconfig.as_bytes(), dotconfig.as_bytes());
-            report_differences(alloc, tree, dialect, kconfig, dotconfig, *report_style)
-        }
+        } => report_differences(alloc, tree, dialect, config, *report_style),
         Request::Fixdep {
             depfile,
             target,
@@ -160,14 +141,10 @@ pub(crate) fn outcome<T: Backdating>(
             query_targets(alloc, tree, Query::Why, None, *format, targets)
         }
         Request::Impact {
-            kconfig,
-            dotconfig,
+            config,
             targets,
             format,
-        } => {
-            let (kconfig, dotconfig) = (kconfig.as_bytes(), dotconfig.as_bytes());
-            query_predicted(alloc, tree, dialect, kconfig, dotconfig, *format, targets)
-        }
+        } => query_predicted(alloc, tree, dialect, config, *format, targets),
         Request::Backdate { which, targets } => query_targets(
             alloc,
             tree,

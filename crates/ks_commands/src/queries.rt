@@ -3,10 +3,8 @@
 //!
 //! A refused question is a line of the output, and the questions after it are still answered.
 ghost use Rattle.std.specs.Prelude.{◌≡◌, ◌⊎◌, ◌++◌, List, Err, IfErr, IfOk, IsErrOf, OnOk, false, length, map, option_map};
-ghost use Rattle.ks_symbols.specs.Dialects.{read_in};
 ghost use Rattle.ks_tree.specs.Files.{Files, HasRisen};
 ghost use Rattle.ks_tree.specs.Frames.{Reads};
-ghost use Rattle.ks_engine.specs.Sources.{FromKconfig};
 ghost use Rattle.ks_engine.specs.FileRuns.{state};
 ghost use Rattle.ks_engine.specs.BuildStates.{IsStateOn};
 ghost use Rattle.ks_engine.specs.Impact.{IsAnswerAfter};
@@ -31,11 +29,11 @@ use ks_engine::{
     query_object,
 };
 use ks_requests::{
-    Count, Outcome, OutputFormat, Refusal, Status, Targets, all_targets, borrowed, build_status,
-    read_targets, stale_of, texts_at, worse, write_answer, write_build_line, write_json_answer,
-    write_refused_target,
+    ConfigPaths, Count, Outcome, OutputFormat, Refusal, Status, Targets, all_targets, borrowed,
+    build_status, config_at, read_targets, stale_of, worse, write_answer, write_build_line,
+    write_json_answer, write_refused_target,
 };
-use ks_symbols::{Dialect, Kconfig, Seed};
+use ks_symbols::{Dialect, Seed};
 use ks_tree::{Backdating, Tree};
 use std::alloc::{AllocError, Global};
 
@@ -259,24 +257,22 @@ pub(crate) fn query_targets<T: Backdating>(
     Ok(query_all(alloc, tree, query, backdates, format, &targets)?)
 }
 
-/// Asks of each object whether it would be stale after a synchronisation with the files that two arguments name.
+/// Asks of each object whether it would be stale after a synchronisation with the configuration of two files.
 pub(crate) fn query_predicted<T: Backdating>(
     alloc: Global,
     tree: &mut T,
     dialect: Dialect,
-    kconfig: &[u8],
-    dotconfig: &[u8],
+    config: &ConfigPaths,
     format: OutputFormat,
     targets: &Targets,
 ) -> Result<Outcome, Refusal>
     ensures unchanged { T.is_honest → T.files tree.new ≡ T.files tree.old }
     ensures cause { result ≡ Err (Engine Device) → HasRisen (T.failures tree.old) (T.failures tree.new) }
-    ensures reported { EndsImpact T.is_honest dialect (λ k d. IsAnswerAfter (T.files tree.old) (FromKconfig (read_in dialect k) d)) (state T.Tree tree.old)
-        kconfig.now dotconfig.now format targets.now result (state T.Tree tree.new) }
+    ensures reported { EndsImpact T.is_honest dialect (IsAnswerAfter (T.files tree.old)) (state T.Tree tree.old)
+        config.now format targets.now result (state T.Tree tree.new) }
 {
-    let texts = texts_at(alloc, tree, kconfig, dotconfig)?;
-    let kconfig = Kconfig::new(dialect, &texts.kconfig);
-    let impact = Impact::of(alloc, tree, &kconfig, &texts.dotconfig)?;
+    let texts = config_at(alloc, tree, config)?;
+    let impact = Impact::of(alloc, tree, &texts.config(dialect, config.form))?;
     query_targets(
         alloc,
         tree,

@@ -10,6 +10,7 @@ fn commands_over_trees(rt: HostRuntime) -> Result<(), Fail> {
         rt.alloc(),
         &[
             EACH_COMMAND,
+            BY_EITHER_FORM,
             BY_RULES,
             QUERIES,
             AS_JSON,

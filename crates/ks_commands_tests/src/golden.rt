@@ -32,6 +32,9 @@ const PREVIEW: &str =
 const PREVIEW_OVER: &str =
     "0 touch A\n#\n# Automatically generated file; DO NOT EDIT.\n# Demo\n#\n#typed\nCONFIG_B=m\n#generation 2\n";
 
+const NOTHING_OVER: &str =
+    "0 #\n# Automatically generated file; DO NOT EDIT.\n# Demo\n#\n#typed\nCONFIG_B=m\n#generation 3\n";
+
 const FROM_OBJECTS: &str =
     "2 x.o fresh\na$b refused 21 BadPath token 0\n@z.o stale no-command-file\n z.o refused 21 BadPath token 0\n";
 
@@ -89,6 +92,27 @@ pub const EACH_COMMAND: &[(Step<'_>, &str)] = &[
     (Step::Args(&["diff", "--quiet", "K1", "c3"]), "1 "),
     (Step::Read("include/config/auto.conf"), AUTO),
     (Step::Args(&["sync", "K1", "c2"]), "0 generation 2\nunknown 1\n"),
+];
+
+/// Either form of a configuration is answered alike: `only_b`, and what conf would write of it. An unknown name is none of conf's.
+#[rattlefmt::skip]
+pub const BY_EITHER_FORM: &[(Step<'_>, &str)] = &[
+    (Step::Put("w", "#\n# Automatically generated file; DO NOT EDIT.\n# Demo\n#\nCONFIG_B=m\n"), "done"),
+    (Step::Put("w.h", "/*\n * Automatically generated file; DO NOT EDIT.\n * Demo\n */\n#define CONFIG_B_MODULE 1\n"), "done"),
+    (Step::Args(&["sync", "K1", "c1"]), "0 generation 1\ntouch A\ntouch B\nunknown 0\n"),
+    (Step::Args(&["record", "x.d", "x.o", "cc -c x.c"]), "0 record x.o generation 1 names 3\n"),
+    (Step::Args(&["preview", "K1", "only_b", "include/config/auto.conf"]), PREVIEW_OVER),
+    (Step::Args(&["preview", "--written", "w", "w.h", "include/config/auto.conf"]), PREVIEW_OVER),
+    (Step::Args(&["diff", "--exit-code", "K1", "c3"]), "1 A y -> n\nunknown D\n"),
+    (Step::Args(&["diff", "--exit-code", "--written", "w", "w.h"]), "1 A y -> n\n"),
+    (Step::Args(&["diff", "--quiet", "--written", "w", "w.h"]), "1 "),
+    (Step::Args(&["impact", "--json", "K1", "only_b", "x.o", "z.o"]), IMPACT_AS_JSON),
+    (Step::Args(&["impact", "--json", "--written", "w", "w.h", "x.o", "z.o"]), IMPACT_AS_JSON),
+    (Step::Read("include/config/auto.conf"), AUTO),
+    (Step::Args(&["sync", "--written", "w", "w.h"]), "0 generation 2\ntouch A\nunknown 0\n"),
+    (Step::Args(&["preview", "K1", "only_b", "include/config/auto.conf"]), NOTHING_OVER),
+    (Step::Args(&["preview", "--written", "w", "w.h", "include/config/auto.conf"]), NOTHING_OVER),
+    (Step::Args(&["stale", "x.o"]), "1 x.o stale A\n"),
 ];
 
 /// What `depfile` leaves of `x.d`.

@@ -1,8 +1,9 @@
 //! From texts to texts, without the arguments of a command line: what previews print, and why there is none; what differs from
 //! auto.conf; and scripts whose lines name files more than once.
 use crate::steps::{Run, check_text, run_asked, without_hint};
-use ks_requests::{PreviewError, ReportStyle, Request, preview_to};
-use ks_symbols::{Dialect, Kconfig};
+use ks_engine::{ConfigForm, ConfigTexts};
+use ks_requests::{ConfigPaths, PreviewError, ReportStyle, Request, preview_to};
+use ks_symbols::{Dialect, Seed};
 use ks_tree::{Backdating, BackdatingTree, MemoryTree, Tree};
 use std::alloc::{AllocError, Global};
 use std::test::Fail;
@@ -28,9 +29,9 @@ fn outcome(
     dotconfig: &[u8],
     old: Option<&[u8]>,
 ) -> Result<String, AllocError> {
-    let kconfig = Kconfig::new(Dialect::Linux, kconfig);
+    let texts = ConfigTexts::of_kconfig(Dialect::Linux, kconfig, dotconfig);
     let mut out = Vec::new(alloc);
-    match preview_to(alloc, &kconfig, dotconfig, old, &mut out) {
+    match preview_to(alloc, Seed::new(0), &texts, old, &mut out) {
         Ok(()) => String::from_utf8_lossy(alloc, &out),
         Err(error) => error.to_string(alloc),
     }
@@ -109,8 +110,8 @@ fn refusals(rt: HostRuntime) -> Result<(), AllocError> {
 fn a_full_output_is_refused(rt: HostRuntime) -> Result<(), AllocError> {
     let mut buffer = [0; 4];
     let mut out = buffer.as_mut_slice();
-    let kconfig = Kconfig::new(Dialect::Linux, DEMO);
-    let found = preview_to(rt.alloc(), &kconfig, b"CONFIG_A=y\n", None, &mut out);
+    let texts = ConfigTexts::of_kconfig(Dialect::Linux, DEMO, b"CONFIG_A=y\n");
+    let found = preview_to(rt.alloc(), Seed::new(0), &texts, None, &mut out);
     let reported = match found {
         Ok(()) => "nothing",
         Err(PreviewError::Engine(_)) => "a text",
@@ -177,11 +178,13 @@ fn scripts(rt: HostRuntime) -> Result<(), Fail> {
 }
 
 fn diff_request(alloc: Global) -> Result<Request, AllocError> {
-    let kconfig = "K".to_string(alloc)?;
-    let dotconfig = "c".to_string(alloc)?;
+    let config = ConfigPaths {
+        form: ConfigForm::Kconfig,
+        first: "K".to_string(alloc)?,
+        second: "c".to_string(alloc)?,
+    };
     Ok(Request::Diff {
-        kconfig,
-        dotconfig,
+        config,
         report_style: ReportStyle::Lines,
     })
 }

@@ -1,5 +1,6 @@
 -- Trees to begin with, and the one plan of a synchronisation.
-use Rattle.ks_engine.proofs.Prelude.{AreConfigInputs, AreWritten, FromKconfig, FromConf, ◌≡◌, inl, inr, ℕ, ◌<◌, ◌^◌, List, Option, refl, sym, ◌∙◌, subst, nat_cmp, arith, slice_cmp, nat_list_cmp_total, empty, get-empty, same_map, slice_cmp-IsAntisymmetric, nat_cmp-IsAntisymmetric, auto_path, stamp_path, HasNumber, Texts, IsFirstAuto, ConfigInputs, EmptyTreeShows, UsualTreeShows, UntypedTreeShows, PlansAreOne, KconfigText, rules, generation_fits}
+use Rattle.ks_engine.proofs.Prelude.{Dialect, AreConfigInputs, AreInputs, Source, and_then, ap, content, old_auto, plan_over, AreWritten, FromKconfig, FromConf, ◌≡◌, inl, inr, ℕ, ◌<◌, ◌^◌, List, Option, refl, sym, ◌∙◌, subst, nat_cmp, arith, slice_cmp, nat_list_cmp_total, empty, get-empty, same_map, slice_cmp-IsAntisymmetric, nat_cmp-IsAntisymmetric, auto_path, stamp_path, HasNumber, Texts, IsFirstAuto, ConfigInputs, EmptyTreeShows, UsualTreeShows, UntypedTreeShows, PlansAreOne, KconfigText, rules, generation_fits}
+use Rattle.ks_engine.proofs.Reading.{inputs_accepted}
 
 -- the generation of a first auto.conf fits 64 bits
 first_fits : (texts : Texts) (generation : ℕ) (file : Option (List ℕ)) → IsFirstAuto texts generation file → generation < 2 ^ 64
@@ -25,17 +26,18 @@ one_source kconfig dotconfig s t a b =
     let config = same_map nat_list_cmp_total (slice_cmp-IsAntisymmetric nat_cmp-IsAntisymmetric) s.config t.config (λ x. a.settings x ∙ sym (b.settings x)) in
     λ i. record { title = (a.title ∙ sym b.title) i; config = config i; unknown = (a.unknown ∙ sym b.unknown) i }
 
-one_written : (auto header : List ℕ) (s t : ConfigInputs) → AreWritten auto header s → AreWritten auto header t → s ≡ t
-one_written auto header s t a b =
+one_written : (d : Dialect) (first header : List ℕ) (s t : ConfigInputs) → AreWritten d first header s → AreWritten d first header t → s ≡ t
+one_written d first header s t a b =
     let config : s.config ≡ t.config = cc (a.settings, b.settings) in
     λ i. record { title = (a.title ∙ sym b.title) i; config = config i; unknown = (a.unknown ∙ sym b.unknown) i }
 
+pub one_input : (source : Source) (s t : ConfigInputs) → AreInputs source s → AreInputs source t → s ≡ t
+one_input (FromKconfig k d) s t a b = one_source k d s t a b
+one_input (FromConf d first header) s t a b = one_written d first header s t a b
+
 pub one_plan : PlansAreOne
-one_plan files (FromKconfig k d) r s (inl a) (inl b) = cc
-one_plan files (FromKconfig k d) r s (inl a) (inr b) = absurd cc
-one_plan files (FromKconfig k d) r s (inr a) (inl b) = absurd cc
-one_plan files (FromKconfig k d) r s (inr a) (inr b) = search (rules, one_source)
-one_plan files (FromConf auto header) r s (inl a) (inl b) = cc
-one_plan files (FromConf auto header) r s (inl a) (inr b) = absurd (cc (a.1, b.1.settings))
-one_plan files (FromConf auto header) r s (inr a) (inl b) = absurd (cc (a.1.settings, b.1))
-one_plan files (FromConf auto header) r s (inr a) (inr b) = search (rules, one_written)
+one_plan files source r s (inl a) (inl b) = cc
+one_plan files source r s (inl a) (inr b) = let accepted = (inputs_accepted source b.0 b.1).0 in absurd cc
+one_plan files source r s (inr a) (inl b) = let accepted = (inputs_accepted source a.0 a.1).0 in absurd cc
+one_plan files source r s (inr a) (inr b) =
+    a.2 ∙ ap (λ i. and_then (old_auto (content files auto_path)) (plan_over i)) (one_input source a.0 b.0 a.1 b.1) ∙ sym b.2

@@ -1,6 +1,6 @@
 -- A run by the files goes on by one command; and each history that its first files show goes on with it.
-use Rattle.ks_engine.proofs.Prelude.{FromKconfig, FromConf, ◌≡◌, ◌∙◌, ℕ, ◌+◌, ◌<◌, List, [], ◌∷◌, ◌++◌, refl, sym, ap, ap₂, subst, Ok, Err, map, take, length, length-map, length-take, get_or, ⊤, take_more, map-append, Action, Dialect, Sync, Record, Call, action, call_of, calls_of, reply_to, Command, CommandReply, Reply, FileState, Files, LeavesFiles, BackdateScope, StepsTo, FileRun, TreeState, at, History, IsEvaluatedReply, FollowsQuery, Leaves, read_in, Run, Shows, reported, arith, common_steps, rules}
-use Rattle.ks_engine.specs.Actions.{SyncWritten, SyncAllStamps, Depfile, Stale, Why, Predicted, Backdate, Outdated, Read, Synced, Recorded, Evaluated, Explained, Built, Found}
+use Rattle.ks_engine.proofs.Prelude.{FromKconfig, ◌≡◌, ◌∙◌, ℕ, ◌+◌, ◌<◌, List, [], ◌∷◌, ◌++◌, refl, sym, ap, ap₂, subst, Ok, Err, map, take, length, length-map, length-take, get_or, ⊤, take_more, map-append, Action, Dialect, Sync, Record, Call, action, call_of, calls_of, reply_to, Command, CommandReply, Reply, FileState, Files, LeavesFiles, BackdateScope, StepsTo, FileRun, TreeState, at, History, IsEvaluatedReply, FollowsQuery, Leaves, read_in, Run, Shows, reported, arith, common_steps, rules}
+use Rattle.ks_engine.specs.Actions.{SyncFrom, SyncAllStamps, Depfile, Stale, Why, Predicted, Backdate, Outdated, Read, Synced, Recorded, Evaluated, Explained, Built, Found}
 use Rattle.ks_engine.specs.Depfile.{ruled_by}
 use Rattle.ks_engine.proofs.Querying.{stale_evaluated}
 use Rattle.ks_engine.proofs.DepfileLemmas.{depfile_follows}
@@ -85,14 +85,14 @@ step_goes_on dialect old (Sync k d) (Synced (Ok report)) new h shows is =
     sync_follows old.files new.files old.failures new.failures h (FromKconfig (read_in dialect k) d) (Ok report) shows is tt
 step_goes_on dialect old (Sync k d) (Synced (Err e)) new h shows is =
     sync_follows old.files new.files old.failures new.failures h (FromKconfig (read_in dialect k) d) (Err e) shows tt is
-step_goes_on dialect old (SyncWritten auto header) (Synced (Ok report)) new h shows is =
-    sync_follows old.files new.files old.failures new.failures h (FromConf auto header) (Ok report) shows is tt
-step_goes_on dialect old (SyncWritten auto header) (Synced (Err e)) new h shows is =
-    sync_follows old.files new.files old.failures new.failures h (FromConf auto header) (Err e) shows tt is
+step_goes_on dialect old (SyncFrom source) (Synced (Ok report)) new h shows is =
+    sync_follows old.files new.files old.failures new.failures h source (Ok report) shows is tt
+step_goes_on dialect old (SyncFrom source) (Synced (Err e)) new h shows is =
+    sync_follows old.files new.files old.failures new.failures h source (Err e) shows tt is
 step_goes_on dialect old (SyncAllStamps k d) (Synced (Ok report)) new h shows is =
-    stamped_follows old.files new.files old.failures new.failures h (read_in dialect k) d (Ok report) shows is tt
+    stamped_follows old.files new.files old.failures new.failures h k d (Ok report) shows is tt
 step_goes_on dialect old (SyncAllStamps k d) (Synced (Err e)) new h shows is =
-    stamped_follows old.files new.files old.failures new.failures h (read_in dialect k) d (Err e) shows tt is
+    stamped_follows old.files new.files old.failures new.failures h k d (Err e) shows tt is
 step_goes_on dialect old (Record d t c) (Recorded (Ok answer)) new h shows is =
     record_follows dialect old.files new.files old.failures new.failures h d t c (Ok answer) shows is tt
 step_goes_on dialect old (Record d t c) (Recorded (Err e)) new h shows is =
@@ -104,7 +104,7 @@ step_goes_on dialect old (Depfile header d t c) (Recorded (Err e)) new h shows i
 step_goes_on dialect old (Stale o) (Evaluated r) new h shows is = stays dialect old (Stale o) (Evaluated r) new h shows is is.0
 step_goes_on dialect old (Why o) (Explained r spelling) new h shows is = stays dialect old (Why o) (Explained r spelling) new h shows is is.0
 step_goes_on dialect old (Stale o) (Explained r spelling) new h shows is = stays dialect old (Stale o) (Explained r spelling) new h shows is is.0
-step_goes_on dialect old (Predicted k d o) (Explained r spelling) new h shows is = stays dialect old (Predicted k d o) (Explained r spelling) new h shows is is.0
+step_goes_on dialect old (Predicted s o) (Explained r spelling) new h shows is = stays dialect old (Predicted s o) (Explained r spelling) new h shows is is.0
 step_goes_on dialect old (Backdate which o) (Explained r spelling) new h shows is = stays dialect old (Backdate which o) (Explained r spelling) new h shows is is.0
 step_goes_on dialect old (Outdated o c) (Built r) new h shows is = stays dialect old (Outdated o c) (Built r) new h shows is is.0
 step_goes_on dialect old (Read o) (Found r) new h shows is = stays dialect old (Read o) (Found r) new h shows is is.0

@@ -1,5 +1,5 @@
 -- A synchronisation goes on with each history that the files show.
-use Rattle.ks_engine.proofs.Prelude.{inl, inr, ◌≡◌, ◌⊎◌, ⊎_elim, ℕ, ◌+◌, List, Result, Ok, Err, IfOk, IfErr, ◌∙◌, ap, refl, Files, EngineError, IsAborted, Report, History, Synced, Shows, IsSynced, IsSyncPlan, IsSyncRefused, at, FollowsSync, Source, rules}
+use Rattle.ks_engine.proofs.Prelude.{inl, inr, ◌≡◌, ◌⊎◌, ⊎_elim, ℕ, ◌+◌, Result, Ok, Err, IfOk, IfErr, ◌∙◌, ap, refl, Files, EngineError, IsAborted, Report, History, Synced, Shows, IsSynced, IsSyncPlan, IsSyncRefused, at, FollowsSync, Source, rules}
 use Rattle.ks_engine.proofs.Steps.{plan_facts, broken_shows, synced_shows}
 
 -- A synchronisation that stops before its first write is refused or given up.

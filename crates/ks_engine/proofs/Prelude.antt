@@ -5,7 +5,7 @@ pub use Rattle.ks_fixdep.proofs.Prelude.{CommandRecord, IsLegal, ReadFits, Reads
 unfoldable pub use Rattle.ks_fixdep.proofs.Prelude.{rule_text}
 pub use Rattle.ks_tree.proofs.Prelude.{AutoConf, AutoTemporary, CommandFile, CommandTemporary, Files, HasNumber, HasRisen, HeaderTemporary, IsLegalPlace, IsPieceRead, IsStampRefusal, IsTooLarge, MakesStamps, Place, SameBut, SameButBoth, Stamp, StampTemporary, Touches, auto_temporary, content, dotted, header_temporary, kept_or, left_over, nat_cmp, path_of, reads_back, stamp_temporary, stamp_text, take-take, temporary}
 unfoldable pub use Rattle.ks_tree.proofs.Prelude.{auto_path, command_path, command_temporary, stamp_path}
-pub use Rattle.ks_output.proofs.Prelude.{HasNames, OldTexts, Texts, auto_generation, auto_map, auto_text, definitions, header_text, texts_of}
+pub use Rattle.ks_output.proofs.Prelude.{HasNames, OldTexts, Texts, about, auto_generation, auto_map, auto_text, definitions, header_text, texts_of}
 unfoldable pub use Rattle.ks_output.proofs.Prelude.{auto_refusal}
 pub use Rattle.ks_compare.proofs.Prelude.{AreChanges, alike_is_defined_alike, differs}
 pub use Rattle.std.proofs.Common.{add-one, find, is_some, take_all, vec_items}
@@ -57,12 +57,12 @@ pub use Rattle.ks_engine.specs.Recorded.{IsRecordPlanUnder, IsRecordRefused, IsR
 unfoldable pub use Rattle.ks_engine.specs.Recorded.{record_plan_under}
 pub use Rattle.ks_engine.specs.Recording.{followed, listed_unless, scanned, there, with_command, args}
 unfoldable pub use Rattle.ks_engine.specs.Recording.{scanned_all}
-pub use Rattle.ks_engine.specs.Refusals.{IsAborted, IsAbortedAnswer, and_then, of_auto, of_source, of_stamp, of_tree}
+pub use Rattle.ks_engine.specs.Refusals.{IsAborted, IsAbortedAnswer, and_then, of_auto, of_source, of_stamp, of_tree, of_written}
 pub use Rattle.ks_engine.specs.Runs.{Follows, FollowsQuery, IsShown, Leads, Leaves, Run, Step}
 pub use Rattle.ks_engine.specs.Shows.{IsFirstAuto, IsAuto, IsCommandFile, Shows, stamp}
 pub use Rattle.ks_engine.specs.Staleness.{changed_since, first_suspect, found, renewed_since_sync, suspect_since, verdict}
-pub use Rattle.ks_engine.specs.Sources.{FromConf, FromKconfig, Source}
-pub use Rattle.ks_engine.specs.SyncPlan.{AreConfigInputs, AreInputs, AreWritten, IsSyncPlan, Plan, ConfigInputs, plan_over, source_refusal}
+pub use Rattle.ks_engine.specs.Sources.{FromConf, FromKconfig, Source, config_source}
+pub use Rattle.ks_engine.specs.SyncPlan.{AreConfigInputs, AreInputs, AreWritten, IsSyncPlan, Plan, ConfigInputs, plan_over, refusal_of, source_refusal, written_refusal}
 pub use Rattle.ks_engine.specs.Synchronised.{AreCleared, AreLegalChanges, IsSyncRefused, IsSynced, SyncDone, SyncLeaves}
 pub use Rattle.ks_engine.specs.Verdicts.{IsChangedVerdict, IsAbortedSync, IsEvaluatedReply, IsSafeVerdict, IsSuspectVerdict}
 pub use Rattle.ks_engine.specs.Views.{IsWork, IsPlanned, PlansOver, Reports, old_of, sources_of}

@@ -1,6 +1,7 @@
 -- What the calls of the layers below give for the definitions of auto.conf and of the two texts.
-use Rattle.ks_engine.proofs.Prelude.{⊎_map, AreConfigInputs, AreInputs, Source, FromKconfig, FromConf, ◌≡◌, ◌⊎◌, inl, inr, ℕ, ◌+◌, ◌≤◌, List, Option, Some, None, Result, Ok, Err, ap, refl, length, lt-ltb, le-ltb, ne_eqb, cond-true, cond-false, get, empty, Kind, IsConfiguration, Configuration, max_bytes, declared, title_of, kconfig_refusal, setting, unknown_count, dotconfig_refusal, IsRefusal, AutoError, auto_text, auto_map, auto_generation, auto_refusal, OldTexts, HasNames, Files, content, IsTooLarge, auto_path, TreeFault, EngineError, NeverSynced, of_tree, of_auto, IsAborted, and_then, AreChanges, IsLegalSync, AreLegalChanges, OldAuto, read_unless, old_auto, synced_at, last_generation, ConfigInputs, Plan, plan_over, IsSyncPlan, old_of, KconfigText, rules, changes_are_legal, arith}
+use Rattle.ks_engine.proofs.Prelude.{⊎_map, subst, sym, option_map, of_source, refusal_of, written_refusal, AreConfigInputs, AreInputs, Source, FromKconfig, FromConf, ◌≡◌, ◌⊎◌, inl, inr, ℕ, ◌+◌, ◌≤◌, List, Option, Some, None, Result, Ok, Err, ap, refl, length, lt-ltb, le-ltb, ne_eqb, cond-true, cond-false, get, empty, Kind, IsConfiguration, Configuration, max_bytes, declared, title_of, kconfig_refusal, setting, unknown_count, dotconfig_refusal, IsRefusal, AutoError, auto_text, auto_map, auto_generation, auto_refusal, OldTexts, HasNames, Files, content, IsTooLarge, auto_path, TreeFault, EngineError, NeverSynced, of_tree, of_auto, IsAborted, and_then, AreChanges, IsLegalSync, AreLegalChanges, OldAuto, read_unless, old_auto, synced_at, last_generation, ConfigInputs, Plan, plan_over, IsSyncPlan, old_of, KconfigText, rules, changes_are_legal, arith}
 use Rattle.ks_symbols.specs.Lines.{lines}
+use Rattle.ks_engine.specs.declared.error.EngineError.TheVariants.{OutOfMemory}
 use Rattle.ks_output.specs.declared.auto_conf.AutoError.TheVariants as auto
 use Rattle.ks_tree.specs.declared.fault.TreeFault.TheVariants as fault
 
@@ -77,13 +78,22 @@ last_some file b g at fine is some = rw (old_some file b None at fine, ← is, n
 
 pub plan_of_old : (files : Files) (source : Source) (s : ConfigInputs) (e : EngineError) → AreInputs source s
     → old_auto (content files auto_path) ≡ Err e → IsSyncPlan files source (Err e)
-plan_of_old files (FromKconfig kconfig dotconfig) s e are bad = inr (s, are, rw bad refl)
-plan_of_old files (FromConf auto header) s e are bad = inr (s, are, rw bad refl)
+plan_of_old files source s e are bad = inr (s, are, rw bad refl)
 
 pub plan_of_over : (files : Files) (source : Source) (s : ConfigInputs) (a : OldAuto) (r : Result Plan EngineError)
     → AreInputs source s → old_auto (content files auto_path) ≡ Ok a → plan_over s a ≡ r → IsSyncPlan files source r
-plan_of_over files (FromKconfig kconfig dotconfig) s a r are read over = inr (s, are, rw (read, over) refl)
-plan_of_over files (FromConf auto header) s a r are read over = inr (s, are, rw (read, over) refl)
+plan_of_over files source s a r are read over = inr (s, are, rw (read, over) refl)
+
+-- what is read is not refused, and is legal
+pub inputs_accepted : (source : Source) (s : ConfigInputs) → AreInputs source s → (refusal_of source ≡ None) × IsLegalSync s.title s.config
+inputs_accepted (FromKconfig kconfig dotconfig) s are = (ap (option_map of_source) are.accepted, are.legal)
+inputs_accepted (FromConf d first header) s are = (ap written_refusal are.settings, are.legal)
+
+-- .. and a plan that is refused for it is refused so
+pub source_refused : (files : Files) (source : Source) (e : EngineError) → IsRefusal OutOfMemory e (refusal_of source)
+    → IsAborted e ⊎ IsSyncPlan files source (Err e)
+source_refused files source e (inl memory) = inl (subst IsAborted (sym memory) tt)
+source_refused files source e (inr is) = inr (inl (e, is, refl))
 
 -- a fault that is no TooLarge gives up
 pub given_fault : (f : TreeFault) → (f ≡ fault.TooLarge → ⊥) → IsAborted (of_tree f)

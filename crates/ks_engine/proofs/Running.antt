@@ -1,6 +1,6 @@
 -- What the last history of a run says of each of its steps.
 use Rattle.ks_engine.proofs.Prelude.{◌≡◌, ◌⊎◌, ℕ, Some, last_record, List, [], ◌∷◌, ap, refl, subst, Ok, Err, IfOk, LastRecord, All-nil, All-head, All-tail, Action, Call, Dialect, Sync, Record, Reply, IsAbortedAnswer, History, NoneBroken, TreeState, IsShown, Step, Follows, Leaves, Leads, Run, IsEvaluated, IsEvaluatedReply, IsSuspectVerdict, IsChangedVerdict, IsSafeVerdict, IsAbortedSync, HasSameDefinitions, Result, EngineError, first_suspect, verdict, Fresh, rules}
-use Rattle.ks_engine.specs.Actions.{SyncWritten, SyncAllStamps, Depfile, Stale, Why, Backdate, Synced, Recorded, Evaluated, Explained}
+use Rattle.ks_engine.specs.Actions.{SyncFrom, SyncAllStamps, Depfile, Stale, Why, Backdate, Synced, Recorded, Evaluated, Explained}
 use Rattle.ks_engine.specs.Asked.{reported as verdict_in}
 use Rattle.ks_engine.specs.declared.staleness.Verdict.{Verdict as VerdictValue}
 use Rattle.ks_engine.specs.Staleness.{first_changed}
@@ -15,8 +15,8 @@ pub goes_on : (dialect : Dialect) (old : TreeState) (a : Action) (r : Reply) (ne
     → GoesOn (IsAbortedSync a r) old.history new.history
 goes_on dialect old (Sync k d) (Synced (Ok report)) new is = search rules
 goes_on dialect old (Sync k d) (Synced (Err e)) new is = search rules
-goes_on dialect old (SyncWritten a h) (Synced (Ok report)) new is = search rules
-goes_on dialect old (SyncWritten a h) (Synced (Err e)) new is = search rules
+goes_on dialect old (SyncFrom s) (Synced (Ok report)) new is = search rules
+goes_on dialect old (SyncFrom s) (Synced (Err e)) new is = search rules
 goes_on dialect old (SyncAllStamps k d) (Synced (Ok report)) new is = search rules
 goes_on dialect old (SyncAllStamps k d) (Synced (Err e)) new is = search rules
 goes_on dialect old (Record d o c) (Recorded (Ok answer)) new is = search rules
@@ -59,7 +59,7 @@ says s a r is = (tt, λ none. tt, tt)
 
 reported : (dialect : Dialect) (old : TreeState) (a : Action) (r : Reply) (new : TreeState) → Leaves dialect old a r new → Says old a r
 reported dialect old (Sync k d) (Synced r) new is = (tt, λ none. tt, tt)
-reported dialect old (SyncWritten a h) (Synced r) new is = (tt, λ none. tt, tt)
+reported dialect old (SyncFrom s) (Synced r) new is = (tt, λ none. tt, tt)
 reported dialect old (SyncAllStamps k d) (Synced r) new is = (tt, λ none. tt, tt)
 reported dialect old (Record d t c) (Recorded r) new is = (tt, λ none. tt, tt)
 reported dialect old (Depfile header d t c) (Recorded r) new is = (tt, λ none. tt, tt)

@@ -1,8 +1,8 @@
 -- The files after each call show the history after it.
-use Rattle.ks_engine.proofs.Prelude.{Header, AreLegalChanges, AutoConf, AutoTemporary, Begun, Bool, Broken, CommandFile, CommandTemporary, Err, Files, HasNumber, HeaderTemporary, History, IsAuto, IsCommandFile, IsHistory, IsLegalPlace, IsLegalSync, IsSyncPlan, IsTrue, Source, FromKconfig, FromConf, LastRecord, List, None, Ok, OldAuto, Option, Place, Plan, Recorded, SameButBoth, Shows, Some, ConfigInputs, Stamp, StampTemporary, SyncLeaves, Synced, Texts, WasSynced, and_then, ap, arith, auto_path, auto_text, before, both_ways, bytes_eq, bytes_eq-Decides, cases_Bool, command_path, command_temporary, cond, content, differs, done, eqb-false, false, header_path, header_text, inl, inr, is_in, is_name, last_record, length, ltb-false, max_bytes, old_auto, path_of, plan_over, refl, rules, stamp, stamp_path, stamp_text, subst, sym, ℕ, ⊎_elim, ◌+◌, ◌<◌, ◌^◌, ◌∙◌, ◌≡◌, ◌≤◌}
+use Rattle.ks_engine.proofs.Prelude.{Header, AreLegalChanges, AutoConf, AutoTemporary, Begun, Bool, Broken, CommandFile, CommandTemporary, Err, Files, HasNumber, HeaderTemporary, History, IsAuto, IsCommandFile, IsHistory, IsLegalPlace, IsLegalSync, IsSyncPlan, IsTrue, Source, LastRecord, List, None, Ok, OldAuto, Option, Place, Plan, Recorded, SameButBoth, Shows, Some, ConfigInputs, Stamp, StampTemporary, SyncLeaves, Synced, Texts, WasSynced, and_then, ap, arith, auto_path, auto_text, before, both_ways, bytes_eq, bytes_eq-Decides, cases_Bool, command_path, command_temporary, cond, content, differs, done, eqb-false, false, header_path, header_text, inl, inr, is_in, is_name, last_record, length, ltb-false, max_bytes, old_auto, path_of, plan_over, refl, rules, stamp, stamp_path, stamp_text, subst, sym, ℕ, ⊎_elim, ◌+◌, ◌<◌, ◌^◌, ◌∙◌, ◌≡◌, ◌≤◌}
 use Rattle.ks_engine.proofs.Heart.{record_cases, recorded_synced}
 use Rattle.ks_engine.proofs.LowerLaws.{texts_back, generation_back, accepted, apart}
-use Rattle.ks_engine.proofs.Reading.{old_some, ok_ok, err_ok}
+use Rattle.ks_engine.proofs.Reading.{inputs_accepted, old_some, ok_ok, err_ok}
 
 pub done_le : (h : History) → IsHistory h → done h ≤ 18446744073709551615
 done_le (Begun texts generation stamps) is = is.0
@@ -53,10 +53,8 @@ plan_of_inputs files s plan legal made = elim (old_auto (content files auto_path
 -- what stands where a plan was made, also over files that show no history
 pub plan_stands : (files : Files) (k : Source) (plan : Plan) → IsSyncPlan files k (Ok plan) → (auto : OldAuto)
     × (old_auto (content files auto_path) ≡ Ok auto) × PlanFacts auto.texts auto.generation plan
-plan_stands files (FromKconfig kconfig dotconfig) plan (inl refused) = absurd cc
-plan_stands files (FromConf auto header) plan (inl refused) = absurd cc
-plan_stands files (FromKconfig kconfig dotconfig) plan (inr made) = plan_of_inputs files made.0 plan made.1.legal made.2
-plan_stands files (FromConf auto header) plan (inr made) = plan_of_inputs files made.0 plan made.1.legal made.2
+plan_stands files source plan (inl refused) = absurd cc
+plan_stands files source plan (inr made) = plan_of_inputs files made.0 plan (inputs_accepted source made.0 made.1).1 made.2
 
 pub plan_facts : (files : Files) (h : History) (k : Source) (plan : Plan) → Shows files h → IsSyncPlan files k (Ok plan)
     → PlanFacts (before h) (done h) plan

@@ -1,7 +1,9 @@
 -- What is asked of a tree, and what is answered, by the bytes alone.
 use Rattle.std.specs.Prelude.{ℕ, List, [], ◌∷◌, Option, Some, None, Result, Ok, Err}
+use Rattle.ks_symbols.specs.Dialects.{KconfigText}
 use Rattle.ks_fixdep.specs.declared.dependency_file.Header.{Header}
 use Rattle.ks_fixdep.specs.CommandFile.{CommandRecord}
+use Rattle.ks_engine.specs.Sources.{Source}
 use Rattle.ks_engine.specs.declared.backdating.BackdateScope.{BackdateScope}
 use Rattle.ks_engine.specs.declared.commands.Command.{Command}
 use Rattle.ks_engine.specs.declared.commands.Command.TheVariants as command
@@ -16,17 +18,17 @@ use Rattle.ks_engine.specs.declared.synchronise.Report.{Report}
 
 pub data Action : Type 0 where
   Sync : (kconfig dotconfig : List ℕ) → Action
-  -- with the configuration that conf wrote
-  SyncWritten : (auto header : List ℕ) → Action
+  -- with a configuration of either form
+  SyncFrom : Source → Action
   -- and the missing stamps of all declared symbols are made
-  SyncAllStamps : (kconfig dotconfig : List ℕ) → Action
+  SyncAllStamps : (kconfig : KconfigText) (dotconfig : List ℕ) → Action
   Record : (depfile target command : List ℕ) → Action
   -- and the dependency file becomes one rule
   Depfile : Header → (depfile target command : List ℕ) → Action
   Stale : (target : List ℕ) → Action
   Why : (target : List ℕ) → Action
-  -- whether it would be stale after a synchronisation with these texts
-  Predicted : (kconfig dotconfig target : List ℕ) → Action
+  -- whether it would be stale after a synchronisation
+  Predicted : Source → (target : List ℕ) → Action
   Backdate : BackdateScope → (target : List ℕ) → Action
   Outdated : (target command : List ℕ) → Action
   -- what its command file says

@@ -2,7 +2,7 @@
 use Rattle.std.specs.Prelude.{◌≡◌, ◌≤◌, ℕ, List, [], ◌∷◌, Some, Result, Ok, Err, ⊤}
 use Rattle.ks_symbols.specs.declared.dialect.Dialect.{Dialect}
 use Rattle.ks_symbols.specs.Dialects.{KconfigText, read_in}
-use Rattle.ks_engine.specs.Sources.{Source, FromKconfig, FromConf}
+use Rattle.ks_engine.specs.Sources.{Source, FromKconfig}
 use Rattle.ks_tree.specs.declared.tree.Tree.{Ghosts}
 use Rattle.ks_tree.specs.Files.{Files, HasRisen}
 use Rattle.ks_engine.specs.declared.conventions.Conventions.{Conventions}
@@ -45,14 +45,14 @@ LeavesDepfile conventions old new d t c (Err e) = IsDepfileRefused conventions o
 -- The files after each action, by its reply: a question leaves them as they are. No action is answered as another one.
 abbrev pub LeavesFiles : Dialect → Files → Action → Reply → Files → Type 0
 LeavesFiles dialect old (asked.Sync k d) (asked.Synced r) new = LeavesSync old new (FromKconfig (read_in dialect k) d) r
-LeavesFiles dialect old (asked.SyncWritten auto header) (asked.Synced r) new = LeavesSync old new (FromConf auto header) r
-LeavesFiles dialect old (asked.SyncAllStamps k d) (asked.Synced r) new = LeavesStamped old new (read_in dialect k) d r
+LeavesFiles dialect old (asked.SyncFrom source) (asked.Synced r) new = LeavesSync old new source r
+LeavesFiles dialect old (asked.SyncAllStamps k d) (asked.Synced r) new = LeavesStamped old new k d r
 LeavesFiles dialect old (asked.Record d t c) (asked.Recorded r) new = LeavesRecord dialect old new d t c r
 LeavesFiles dialect old (asked.Depfile header d t c) (asked.Recorded r) new = LeavesDepfile (ruled_by header dialect) old new d t c r
 LeavesFiles dialect old (asked.Stale o) (asked.Evaluated r) new = (new ≡ old) × IsAnswerOn old o r
 LeavesFiles dialect old (asked.Stale o) (asked.Explained r spelling) new = (new ≡ old) × IsAnswerOn old o (reported r)
 LeavesFiles dialect old (asked.Why o) (asked.Explained r spelling) new = (new ≡ old) × IsExplanationOn old o r × (spelling ≡ spelling_of old o r)
-LeavesFiles dialect old (asked.Predicted k d o) (asked.Explained r spelling) new = (new ≡ old) × IsAnswerAfter old (FromKconfig (read_in dialect k) d) o (reported r)
+LeavesFiles dialect old (asked.Predicted source o) (asked.Explained r spelling) new = (new ≡ old) × IsAnswerAfter old source o (reported r)
 LeavesFiles dialect old (asked.Backdate which o) (asked.Explained r spelling) new = (new ≡ old) × IsAnswerOn old o (reported r)
 LeavesFiles dialect old (asked.Outdated o c) (asked.Built r) new = (new ≡ old) × IsStateOn old o c r
 LeavesFiles dialect old (asked.Read o) (asked.Found r) new = (new ≡ old) × IsRead old o r

@@ -3,10 +3,10 @@ use Rattle.std.specs.Prelude.{◌≡◌, ◌≤◌, List, [], ◌∷◌, Some, m
 use Rattle.std.specs.List.{All}
 use Rattle.ks_symbols.specs.declared.dialect.Dialect.{Dialect}
 use Rattle.ks_symbols.specs.Dialects.{read_in}
-use Rattle.ks_engine.specs.Sources.{FromKconfig, FromConf}
+use Rattle.ks_engine.specs.Sources.{FromKconfig}
 use Rattle.ks_tree.specs.Files.{HasRisen}
 use Rattle.ks_engine.specs.declared.error.EngineError.TheVariants.{Device}
-use Rattle.ks_engine.specs.Actions.{Action, Call, Reply, Sync, SyncWritten, SyncAllStamps, Record, Depfile, Synced, Recorded, error_of}
+use Rattle.ks_engine.specs.Actions.{Action, Call, Reply, Sync, SyncFrom, SyncAllStamps, Record, Depfile, Synced, Recorded, error_of}
 use Rattle.ks_engine.specs.Depfile.{FollowsDepfile, ruled_by}
 use Rattle.ks_engine.specs.FileRuns.{LeavesFiles}
 use Rattle.ks_engine.specs.History.{NoneBroken}
@@ -27,8 +27,8 @@ pub record FollowsQuery (dialect : Dialect) (old : TreeState) (action : Action) 
 -- the state after an action, by its reply; sources and Kconfigs are read in such a dialect
 abbrev pub Leaves : Dialect → TreeState → Action → Reply → TreeState → Type 0
 Leaves dialect old (Sync kconfig dotconfig) (Synced r) new = FollowsSync (FromKconfig (read_in dialect kconfig) dotconfig) r old new
-Leaves dialect old (SyncWritten auto header) (Synced r) new = FollowsSync (FromConf auto header) r old new
-Leaves dialect old (SyncAllStamps kconfig dotconfig) (Synced r) new = FollowsSyncAllStamps (read_in dialect kconfig) dotconfig r old new
+Leaves dialect old (SyncFrom source) (Synced r) new = FollowsSync source r old new
+Leaves dialect old (SyncAllStamps kconfig dotconfig) (Synced r) new = FollowsSyncAllStamps kconfig dotconfig r old new
 Leaves dialect old (Record depfile target command) (Recorded r) new = FollowsRecord dialect depfile target command r old new
 Leaves dialect old (Depfile header depfile target command) (Recorded r) new = FollowsDepfile (ruled_by header dialect) depfile target command r old new
 Leaves dialect old action reply new = FollowsQuery dialect old action reply new

@@ -1,9 +1,10 @@
 -- What a synchronisation comes to, by the files before it and the two texts.
-use Rattle.std.specs.Prelude.{◌≡◌, ◌⊎◌, ℕ, ◌+◌, List, Option, Some, None, Result, Ok, Err, nat_eq, nat_lt, if◌then◌else◌, length}
+use Rattle.std.specs.Prelude.{◌≡◌, ◌⊎◌, ℕ, ◌+◌, List, Option, Some, None, Result, Ok, Err, nat_eq, nat_lt, if◌then◌else◌, length, option_map}
 use Rattle.std.specs.FinMap as map
 use Rattle.ks_symbols.specs.declared.error.SourceError.{SourceError}
 use Rattle.ks_symbols.specs.Lines.{max_bytes, lines}
 use Rattle.ks_symbols.specs.Refusals.{or_else}
+use Rattle.ks_symbols.specs.declared.dialect.Dialect.{Dialect}
 use Rattle.ks_symbols.specs.Dialects.{KconfigText}
 use Rattle.ks_symbols.specs.Kconfig.{declared, title_of, kconfig_refusal}
 use Rattle.ks_symbols.specs.DotConfig.{setting, unknown_count, dotconfig_refusal}
@@ -13,7 +14,7 @@ use Rattle.ks_tree.specs.Paths.{auto_path}
 use Rattle.ks_engine.specs.declared.error.EngineError.{EngineError}
 use Rattle.ks_engine.specs.declared.error.EngineError.TheVariants.{TooLarge, GenerationFull}
 use Rattle.ks_output.specs.declared.written.WrittenError.{WrittenError}
-use Rattle.ks_output.specs.Written.{title_in, written}
+use Rattle.ks_output.specs.ConfTexts.{title_written_in, written_in}
 use Rattle.ks_engine.specs.Sources.{Source, FromKconfig, FromConf}
 use Rattle.ks_engine.specs.Refusals.{of_source, of_written, and_then}
 use Rattle.ks_symbols.specs.Configuration.{Configuration}
@@ -38,17 +39,25 @@ pub record AreConfigInputs (kconfig : KconfigText) (dotconfig : List ℕ) (s : C
   pub unknown : s.unknown ≡ unknown_count (declared kconfig) (lines dotconfig)
   pub legal : IsLegalSync s.title s.config
 
--- what the auto.conf and the header that conf wrote set
-pub record AreWritten (auto header : List ℕ) (s : ConfigInputs) : Type 0 where
-  pub settings : written auto header ≡ Ok s.config
-  pub title : s.title ≡ title_in auto
+-- what the two texts that conf wrote set
+pub record AreWritten (d : Dialect) (first header : List ℕ) (s : ConfigInputs) : Type 0 where
+  pub settings : written_in d first header ≡ Ok s.config
+  pub title : s.title ≡ title_written_in d first
   pub unknown : s.unknown ≡ 0
   pub legal : IsLegalSync s.title s.config
 
--- what either of them sets
+-- what either of them sets, or why it is refused
 abbrev pub AreInputs : Source → ConfigInputs → Type 0
 AreInputs (FromKconfig kconfig dotconfig) s = AreConfigInputs kconfig dotconfig s
-AreInputs (FromConf auto header) s = AreWritten auto header s
+AreInputs (FromConf d first header) s = AreWritten d first header s
+
+abbrev pub written_refusal : Result Configuration WrittenError → Option EngineError
+written_refusal (Ok config) = None
+written_refusal (Err e) = Some (of_written e)
+
+abbrev pub refusal_of : Source → Option EngineError
+refusal_of (FromKconfig kconfig dotconfig) = option_map of_source (source_refusal kconfig dotconfig)
+refusal_of (FromConf d first header) = written_refusal (written_in d first header)
 
 -- a synchronisation against which no refusal stands
 pub record Plan : Type 0 where
@@ -69,9 +78,6 @@ plan_over s auto =
 
 -- What is to be done, or why it is refused: first the texts, then auto.conf, then what would be written.
 abbrev pub IsSyncPlan : Files → Source → Result Plan EngineError → Type 0
-IsSyncPlan files (FromKconfig kconfig dotconfig) result =
-    ((e : SourceError) × (source_refusal kconfig dotconfig ≡ Some e) × (result ≡ Err (of_source e)))
-    ⊎ ((s : ConfigInputs) × AreConfigInputs kconfig dotconfig s × (result ≡ and_then (old_auto (content files auto_path)) (plan_over s)))
-IsSyncPlan files (FromConf auto header) result =
-    ((e : WrittenError) × (written auto header ≡ Err e) × (result ≡ Err (of_written e)))
-    ⊎ ((s : ConfigInputs) × AreWritten auto header s × (result ≡ and_then (old_auto (content files auto_path)) (plan_over s)))
+IsSyncPlan files source result =
+    ((e : EngineError) × (refusal_of source ≡ Some e) × (result ≡ Err e))
+    ⊎ ((s : ConfigInputs) × AreInputs source s × (result ≡ and_then (old_auto (content files auto_path)) (plan_over s)))

@@ -3,7 +3,7 @@ use Rattle.std.specs.Prelude.{◌≡◌, ℕ, List, Option, Some, None, Result, 
 use Rattle.ks_engine.specs.declared.error.EngineError.{EngineError}
 use Rattle.ks_engine.specs.declared.staleness.Verdict.{Verdict}
 use Rattle.ks_engine.specs.declared.staleness.Verdict.TheVariants.{Fresh}
-use Rattle.ks_engine.specs.Actions.{Action, Reply, Sync, SyncWritten, SyncAllStamps, Stale, Why, Backdate, Synced, Evaluated, Explained}
+use Rattle.ks_engine.specs.Actions.{Action, Reply, Sync, SyncFrom, SyncAllStamps, Stale, Why, Backdate, Synced, Evaluated, Explained}
 use Rattle.ks_engine.specs.Asked.{reported}
 use Rattle.ks_engine.specs.Refusals.{IsAborted}
 use Rattle.ks_engine.specs.History.{History, LastRecord, last_record}
@@ -39,6 +39,6 @@ IsSafeVerdict s a r =
 -- A synchronisation that was given up may have been broken off.
 abbrev pub IsAbortedSync : Action → Reply → Type 0
 IsAbortedSync (Sync kconfig dotconfig) (Synced (Err e)) = IsAborted e
-IsAbortedSync (SyncWritten auto header) (Synced (Err e)) = IsAborted e
+IsAbortedSync (SyncFrom source) (Synced (Err e)) = IsAborted e
 IsAbortedSync (SyncAllStamps kconfig dotconfig) (Synced (Err e)) = IsAborted e
 IsAbortedSync action reply = ⊥

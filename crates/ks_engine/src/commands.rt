@@ -10,8 +10,8 @@ ghost use Rattle.ks_engine.specs.Runs.{Run};
 
 use crate::caches::Cache;
 use crate::recording::record_by;
-use crate::{EngineError, Query, Recorded, Report, Verdict, query_object, sync};
-use ks_symbols::{Dialect, Kconfig, Seed};
+use crate::{ConfigTexts, EngineError, Query, Recorded, Report, Verdict, query_object, sync};
+use ks_symbols::{Dialect, Seed};
 use ks_tree::Tree;
 use std::alloc::{AllocError, Global};
 
@@ -57,7 +57,8 @@ fn answer<T: Tree>(
     match command {
         Command::Sync { kconfig, dotconfig } => {
             cache.clear();
-            match sync(alloc, tree, &Kconfig::new(dialect, kconfig), dotconfig) {
+            let texts = ConfigTexts::of_kconfig(dialect, kconfig, dotconfig);
+            match sync(alloc, tree, &texts) {
                 Ok(report) => Reply::Synced(report),
                 Err(error) => Reply::Refused(error),
             }

@@ -4,13 +4,12 @@
 ghost use Rattle.std.specs.Prelude.{◌≡◌, ◌⊎◌, Err, IfOk, IfErr, IsErrOf, OnOk};
 ghost use Rattle.ks_tree.specs.Frames.{Reads};
 ghost use Rattle.ks_engine.specs.Refusals.{IsAborted};
-ghost use Rattle.ks_engine.specs.Sources.{FromKconfig};
+ghost use Rattle.ks_engine.specs.Sources.{config_source};
 ghost use Rattle.ks_engine.specs.SyncPlan.{IsSyncPlan};
 ghost use Rattle.ks_engine.specs.Impact.{IsImpactOf};
 
-use crate::planning::{plan_config_inputs, read_config_inputs};
+use crate::planning::{ConfigTexts, plan_texts};
 use crate::{EngineError, Report};
-use ks_symbols::Kconfig;
 use ks_tree::Tree;
 use std::alloc::Global;
 
@@ -26,18 +25,16 @@ impl Impact {
     pub fn of<T: Tree>(
         alloc: Global,
         tree: &mut T,
-        kconfig: &Kconfig<'_>,
-        dotconfig: &[u8],
+        texts: &ConfigTexts<'_>,
     ) -> Result<Impact, EngineError>
         ensures reads { Reads T.Tree tree.old tree.new (IsErrOf result EngineError.Device) }
         ensures passed { OnOk result (T.failures tree.new ≡ T.failures tree.old) }
         ensures uncounted { IsErrOf result EngineError.OutOfMemory → T.failures tree.new ≡ T.failures tree.old }
         // Where it isn't refused, a synchronisation can be completed, and this is what that reports.
-        ensures reported { T.is_honest → IfOk result (IsImpactOf (T.files tree.old) (FromKconfig kconfig.now dotconfig.now)) }
-        ensures refused { T.is_honest → IfErr result (λ e. IsAborted e ⊎ IsSyncPlan (T.files tree.old) (FromKconfig kconfig.now dotconfig.now) (Err e)) }
+        ensures reported { T.is_honest → IfOk result (IsImpactOf (T.files tree.old) (config_source texts.now)) }
+        ensures refused { T.is_honest → IfErr result (λ e. IsAborted e ⊎ IsSyncPlan (T.files tree.old) (config_source texts.now) (Err e)) }
     {
-        let sources = read_config_inputs(alloc, kconfig, dotconfig)?;
-        let planned = plan_config_inputs(alloc, tree, sources)?;
+        let planned = plan_texts(alloc, tree, texts)?;
         Ok(Impact {
             report: planned.report,
         })

@@ -36,11 +36,11 @@ pub use laws::{
     places_are_first, plans_are_one, suspicions_have_causes,
 };
 pub use planning::{
-    ConfigInputs, Parsed, Planned, parse_config_inputs, plan, plan_config_inputs,
-    read_config_inputs,
+    ConfigForm, ConfigInputs, ConfigTexts, Parsed, Planned, parse_config_inputs, plan,
+    plan_config_inputs, read_inputs,
 };
 pub use query::{Limit, Query};
 pub use recording::{Recorded, check_args, record_object};
 pub use sources::scan_all;
 pub use staleness::{BuildState, Verdict, outdated, stale};
-pub use synchronise::{Report, sync, sync_written};
+pub use synchronise::{Report, sync};

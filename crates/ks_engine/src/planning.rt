@@ -5,11 +5,11 @@ ghost use Rattle.std.specs.Prelude.{◌≡◌, ◌⊎◌, List, ℕ, Ok, Err, If
 ghost use Rattle.std.specs.FinMap as map;
 ghost use Rattle.ks_symbols.specs.Kconfig.{declared};
 ghost use Rattle.ks_symbols.specs.Refusals.{RefusedBy};
-ghost use Rattle.ks_output.specs.Written.{written};
+ghost use Rattle.ks_output.specs.ConfTexts.{written_in};
 ghost use Rattle.ks_tree.specs.Frames.{Reads};
 ghost use Rattle.ks_engine.specs.Refusals.{IsAborted};
-ghost use Rattle.ks_engine.specs.Sources.{Source};
-ghost use Rattle.ks_engine.specs.SyncPlan.{AreConfigInputs, AreInputs, AreWritten, IsSyncPlan, plan_of, plan_over, source_refusal};
+ghost use Rattle.ks_engine.specs.Sources.{Source, source_in, config_source};
+ghost use Rattle.ks_engine.specs.SyncPlan.{AreConfigInputs, AreInputs, AreWritten, IsSyncPlan, plan_of, plan_over, refusal_of, source_refusal};
 ghost use Rattle.ks_engine.specs.Views.{old_of, sources_of, IsPlanned, IsReport, PlansOver};
 
 use crate::last_sync::read_old;
@@ -17,13 +17,45 @@ use crate::{EngineError, Report};
 use ks_compare::changed;
 use ks_output::{OldConfig, Written, WrittenError, auto_len, read_written};
 use ks_symbols::{
-    Kconfig, MAX_BYTES, Seed, Settings, SourceError, Symbols, build_settings, read_dotconfig,
-    read_kconfig,
+    Dialect, Kconfig, MAX_BYTES, Seed, Settings, SourceError, Symbols, build_settings,
+    read_dotconfig, read_kconfig,
 };
 use ks_tree::Tree;
 use std::alloc::{AllocError, Global};
 
-/// What a Kconfig and a `.config` say.
+/// What the two texts of a configuration are.
+#[derive(Clone, Copy, Debug, PartialEq, Eq)]
+pub enum ConfigForm {
+    /// A Kconfig and a `.config`.
+    Kconfig,
+    /// The auto.conf and the header that the project's own conf wrote.
+    Written,
+}
+
+/// The two texts of a configuration, and in which dialect they are read.
+#[derive(Clone, Copy)]
+pub struct ConfigTexts<'a> {
+    pub dialect: Dialect,
+    pub form: ConfigForm,
+    pub first: &'a [u8],
+    pub second: &'a [u8],
+}
+
+impl<'a> ConfigTexts<'a> {
+    /// A Kconfig and a `.config`.
+    pub fn of_kconfig(dialect: Dialect, kconfig: &'a [u8], dotconfig: &'a [u8]) -> ConfigTexts<'a>
+        ensures { config_source result ≡ source_in dialect ConfigForm.Kconfig kconfig.now dotconfig.now }
+    {
+        ConfigTexts {
+            dialect,
+            form: ConfigForm::Kconfig,
+            first: kconfig,
+            second: dotconfig,
+        }
+    }
+}
+
+/// What the two texts say.
 #[derive(Drop)]
 pub struct ConfigInputs {
     pub title: Vec<u8>,
@@ -48,19 +80,41 @@ pub fn read_config_inputs(
     Ok(ConfigInputs { title, settings })
 }
 
-/// Reads the auto.conf and the header that conf wrote. Names are looked up by a seed.
+/// Reads the two texts that conf wrote, of which the header is the second. Names are looked up by a seed.
 pub fn read_written_inputs(
     alloc: Global,
     seed: Seed,
-    auto: &[u8],
+    dialect: Dialect,
+    first: &[u8],
     header: &[u8],
 ) -> Result<ConfigInputs, WrittenError>
-    ensures read { IfOk result (λ s. AreWritten auto.now header.now (sources_of s)) }
-    ensures refused { IfErr result (λ e. (e ≡ WrittenError.OutOfMemory) ⊎ (written auto.now header.now ≡ Err e)) }
+    ensures read { IfOk result (λ s. AreWritten dialect first.now header.now (sources_of s)) }
+    ensures refused { IfErr result (λ e. (e ≡ WrittenError.OutOfMemory) ⊎ (written_in dialect first.now header.now ≡ Err e)) }
 {
-    let Written { title, settings } = read_written(alloc, seed, auto, header)?;
+    let Written { title, settings } = read_written(alloc, seed, dialect, first, header)?;
     settings.keeps_configuration();
     Ok(ConfigInputs { title, settings })
+}
+
+/// Reads the two texts of a configuration, by their form.
+pub fn read_inputs(
+    alloc: Global,
+    seed: Seed,
+    texts: &ConfigTexts<'_>,
+) -> Result<ConfigInputs, EngineError>
+    ensures read { IfOk result (λ s. AreInputs (config_source texts.now) (sources_of s)) }
+    ensures refusal { RefusedBy EngineError.OutOfMemory result (refusal_of (config_source texts.now)) }
+{
+    match texts.form {
+        ConfigForm::Kconfig => {
+            let kconfig = Kconfig::new(texts.dialect, texts.first);
+            Ok(read_config_inputs(alloc, &kconfig, texts.second)?)
+        }
+        ConfigForm::Written => {
+            let (dialect, first, header) = (texts.dialect, texts.first, texts.second);
+            Ok(read_written_inputs(alloc, seed, dialect, first, header)?)
+        }
+    }
 }
 
 /// What a Kconfig and a `.config` say, and the symbols that the one declares.
@@ -164,4 +218,21 @@ pub fn plan_config_inputs<T: Tree>(
         old,
         report,
     })
+}
+
+/// What a synchronisation of a tree with two texts comes to.
+pub fn plan_texts<T: Tree>(
+    alloc: Global,
+    tree: &mut T,
+    texts: &ConfigTexts<'_>,
+) -> Result<Planned, EngineError>
+    ensures reads { Reads T.Tree tree.old tree.new (IsErrOf result EngineError.Device) }
+    ensures passed { OnOk result (T.failures tree.new ≡ T.failures tree.old) }
+    ensures uncounted { IsErrOf result EngineError.OutOfMemory → T.failures tree.new ≡ T.failures tree.old }
+    ensures planned { T.is_honest → IfOk result (IsPlanned (T.files tree.old) (config_source texts.now)) }
+    ensures refused { T.is_honest → IfErr result (λ e. IsAborted e ⊎ IsSyncPlan (T.files tree.old) (config_source texts.now) (Err e)) }
+{
+    let seed = Seed::new(tree.seed());
+    let sources = read_inputs(alloc, seed, texts)?;
+    plan_config_inputs(alloc, tree, sources)
 }

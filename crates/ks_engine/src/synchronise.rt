@@ -3,16 +3,16 @@
 //! (conf_write_autoconf of scripts/kconfig/confdata.c writes in the same order.)
 ghost use Rattle.std.specs.Prelude.{◌≡◌, ◌⊎◌, ◌↔◌, ◌≤◌, ◌+◌, List, ℕ, Some, Ok, Err, IfOk, IfErr, OnOk, OnErr, MatchResult, IsErrOf};
 ghost use Rattle.ks_tree.specs.Frames.{Counted};
-ghost use Rattle.ks_engine.specs.Sources.{Source, FromConf, FromKconfig};
+ghost use Rattle.ks_engine.specs.Sources.{Source, config_source};
 ghost use Rattle.ks_engine.specs.Synchronised.{SyncDone, SyncSome, IsSyncCall, IsSynced, IsSyncRefused};
 ghost use Rattle.ks_engine.specs.SyncPlan.{Plan};
 ghost use Rattle.ks_engine.specs.Follows.{GoesOn, FollowsSync};
 ghost use Rattle.ks_engine.specs.Views.{IsPlanned, IsPlannedBy, IsWork};
 
 use crate::EngineError;
-use crate::planning::{Planned, plan_config_inputs, read_config_inputs, read_written_inputs};
+use crate::planning::{ConfigTexts, Planned, plan_texts};
 use ks_output::{write_auto, write_header};
-use ks_symbols::{Kconfig, Name, Seed};
+use ks_symbols::Name;
 use ks_tree::{
     Tree, TreeFault, auto_path, auto_temporary, header_path, header_temporary, replace, touch_all,
 };
@@ -24,7 +24,7 @@ pub struct Report {
     pub generation: u64,
     /// The names whose stamps were renewed, in rising order.
     pub touched: Vec<Name>,
-    /// How many lines of the `.config` spoke of names that are not declared.
+    /// How many lines of a `.config` spoke of names that are not declared.
     pub unknown: u64,
 }
 
@@ -97,36 +97,15 @@ pub(crate) fn carry_out<T: Tree>(
 pub fn sync<T: Tree>(
     alloc: Global,
     tree: &mut T,
-    kconfig: &Kconfig<'_>,
-    dotconfig: &[u8],
+    texts: &ConfigTexts<'_>,
 ) -> Result<Report, EngineError>
     // By the files: it did all of it, or it was refused, or given up in one of the named states.
-    ensures synced { T.is_honest → IfOk result (IsSynced (T.files tree.old) (T.files tree.new) (FromKconfig kconfig.now dotconfig.now)) }
-    ensures refused { T.is_honest → IfErr result (IsSyncRefused (T.files tree.old) (T.files tree.new) (FromKconfig kconfig.now dotconfig.now)) }
+    ensures synced { T.is_honest → IfOk result (IsSynced (T.files tree.old) (T.files tree.new) (config_source texts.now)) }
+    ensures refused { T.is_honest → IfErr result (IsSyncRefused (T.files tree.old) (T.files tree.new) (config_source texts.now)) }
     // By histories: each one that the files show goes on with this answer, and the files show the next one.
-    ensures follows { GoesOn T.Tree tree.old tree.new (FollowsSync (FromKconfig kconfig.now dotconfig.now) result) }
+    ensures follows { GoesOn T.Tree tree.old tree.new (FollowsSync (config_source texts.now) result) }
     ensures counted { IsSyncCall T.Tree tree.old tree.new result }
 {
-    let planned = plan_config_inputs(alloc, tree, read_config_inputs(alloc, kconfig, dotconfig)?)?;
-    carry_out(alloc, tree, planned)
-}
-
-/// Brings them up to the configuration that conf wrote as an auto.conf and a header, as `sync` does.
-pub fn sync_written<T: Tree>(
-    alloc: Global,
-    tree: &mut T,
-    auto: &[u8],
-    header: &[u8],
-) -> Result<Report, EngineError>
-    // By the files: it did all of it, or it was refused, or given up in one of the named states.
-    ensures synced { T.is_honest → IfOk result (IsSynced (T.files tree.old) (T.files tree.new) (FromConf auto.now header.now)) }
-    ensures refused { T.is_honest → IfErr result (IsSyncRefused (T.files tree.old) (T.files tree.new) (FromConf auto.now header.now)) }
-    // By histories: each one that the files show goes on with this answer, and the files show the next one.
-    ensures follows { GoesOn T.Tree tree.old tree.new (FollowsSync (FromConf auto.now header.now) result) }
-    ensures counted { IsSyncCall T.Tree tree.old tree.new result }
-{
-    let seed = Seed::new(tree.seed());
-    let sources = read_written_inputs(alloc, seed, auto, header)?;
-    let planned = plan_config_inputs(alloc, tree, sources)?;
+    let planned = plan_texts(alloc, tree, texts)?;
     carry_out(alloc, tree, planned)
 }

@@ -4,8 +4,8 @@ ghost use Rattle.ks_engine.specs.Caches.{IsCacheOf};
 
 use crate::golden::*;
 use crate::steps::{Step, answer, check_text, play, report_text, verdict_text};
-use ks_engine::{Cache, Impact, Query, query_object};
-use ks_symbols::{Dialect, Kconfig, Seed};
+use ks_engine::{Cache, ConfigTexts, Impact, Query, query_object};
+use ks_symbols::{Dialect, Seed};
 use ks_tree::{MemoryTree, Tree};
 use std::alloc::{AllocError, Global};
 use std::process::Abort;
@@ -61,8 +61,9 @@ fn predicted_of<T: Tree>(
 
 /// What is foreseen of a synchronisation with a `.config`.
 fn predicted<T: Tree>(alloc: Global, tree: &mut T, dotconfig: &str) -> Result<String, AllocError> {
-    let kconfig = Kconfig::new(Dialect::Linux, KCONFIG_D.as_bytes());
-    let impact = match Impact::of(alloc, tree, &kconfig, dotconfig.as_bytes()) {
+    let kconfig = KCONFIG_D.as_bytes();
+    let texts = ConfigTexts::of_kconfig(Dialect::Linux, kconfig, dotconfig.as_bytes());
+    let impact = match Impact::of(alloc, tree, &texts) {
         Ok(impact) => impact,
         Err(error) => return error.to_string(alloc),
     };

@@ -1,10 +1,10 @@
 //! Tables of what is asked of a tree, and of what is answered.
 use ks_engine::{
-    BuildState, EngineError, Recorded, Report, Verdict, outdated, record_depfile, record_object,
-    stale, sync,
+    BuildState, ConfigTexts, EngineError, Recorded, Report, Verdict, outdated, record_depfile,
+    record_object, stale, sync,
 };
 use ks_fixdep::Header;
-use ks_symbols::{Dialect, Kconfig, Name};
+use ks_symbols::{Dialect, Name};
 use ks_tree::{MemoryTree, Tree};
 use std::alloc::{AllocError, Global};
 use std::process::Abort;
@@ -73,8 +73,8 @@ fn synced<T: Tree>(
     kconfig: &str,
     dotconfig: &str,
 ) -> Result<String, AllocError> {
-    let kconfig = Kconfig::new(Dialect::Linux, kconfig.as_bytes());
-    match sync(alloc, tree, &kconfig, dotconfig.as_bytes()) {
+    let texts = ConfigTexts::of_kconfig(Dialect::Linux, kconfig.as_bytes(), dotconfig.as_bytes());
+    match sync(alloc, tree, &texts) {
         Ok(report) => report_text(alloc, &report),
         Err(error) => error.to_string(alloc),
     }

@@ -1,7 +1,7 @@
 -- What the proofs of this crate import: one name for each thing.
 pub use Rattle.ks_symbols.proofs.Prelude.{All, All-head, All-tail, Bool, Err, IsRefusal, IsTrue, KconfigText, List, None, Ok, Option, Some, YieldsList-from_rest, [], and_from, and_parts, ap, append_assoc, ap₂, arith, bytes_eq, cases_Bool, cases_lt, codes, common_steps, cond, cond-false, cond-true, cond_some, cons_option, drop, drop-append_seam, drop-cons, drop_all, encodes_same, err_from_is_err_and, false, false_from_ne_true, false≢true, filter, filter_map, flat_map, flat_map-append, get_or, inl, inr, is_path_byte, length, list_all, list_any, map, map-append, map_more, max, max_bytes, nat_lt, nat_tests, ne_eqb, nil_from_length, not, not-false, not-true, nth_from_yields_List, option_and_then, option_map, or_cases, or_else, or_parts, position_from, position_or_len, position_or_len_is, refl, rules, slice_get, statement, string_bytes, subst, suc, sym, take, take_while, take_while-cons, true, unwrap_or, ℕ, ◌&&◌, ◌++◌, ◌+◌, ◌-◌, ◌<◌, ◌==◌, ◌^◌, ◌||◌, ◌∙◌, ◌∷◌, ◌≡◌, ◌≢◌, ◌≤◌, ◌⊎◌}
 unfoldable pub use Rattle.ks_symbols.proofs.Prelude.{is_path, line_len, lines, lines_from}
-pub use Rattle.ks_engine.proofs.Prelude.{AreLegalChanges, Files, PlansOver, Reports, Texts, action, all_noted, append-nil, auto_text, is_some, noted, old_of, source_refusal, sources_of}
+pub use Rattle.ks_engine.proofs.Prelude.{AreLegalChanges, Files, PlansOver, Reports, Texts, action, all_noted, append-nil, auto_text, is_some, noted, old_of, refusal_of, Source, sources_of}
 pub use Rattle.ks_streams.proofs.Prelude.{Bor, Breaks, Prints, PrintsOrBreaks, state_of}
 pub use Rattle.ks_output.proofs.Prelude.{eq-eqb, opened, run_is}
 pub use Rattle.ks_fixdep.proofs.Prelude.{insert_key}

@@ -1,6 +1,5 @@
 -- The refusal of a part is that of the preview, where the parts before it are not refused.
-use Rattle.ks_requests.proofs.Prelude.{◌≡◌, ◌∙◌, inl, inr, ◌≢◌, ◌-◌, ◌^◌, ℕ, List, Option, Some, None, option_map, ap, cond-true, cond-false, eq-eqb, ne_eqb, refl, SourceError, or_else, IsRefusal, AutoError, EngineError, of_auto, of_source, source_refusal, old_refusal, old_generation, full_refusal, preview_refusal, KconfigText, rules}
-use Rattle.ks_symbols.specs.declared.error.SourceError.TheVariants as source
+use Rattle.ks_requests.proofs.Prelude.{◌≡◌, ◌∙◌, inl, inr, ◌≢◌, ◌-◌, ◌^◌, ℕ, List, Option, Some, None, option_map, ap, cond-true, cond-false, eq-eqb, ne_eqb, refl, Source, or_else, IsRefusal, AutoError, EngineError, of_auto, refusal_of, old_refusal, old_generation, full_refusal, preview_refusal, rules}
 use Rattle.ks_output.specs.declared.auto_conf.AutoError.TheVariants as auto
 use Rattle.ks_engine.specs.declared.error.EngineError.TheVariants.{GenerationFull, OutOfMemory}
 
@@ -14,21 +13,22 @@ pub auto_refused : (e : AutoError) (r : Option AutoError) (later : Option Engine
     → IsRefusal OutOfMemory (of_auto e) (or_else (option_map of_auto r) later)
 auto_refused e r later h = part_refused of_auto auto.OutOfMemory e r later refl h
 
-pub texts_refused : (kconfig : KconfigText) (dotconfig : List ℕ) (old : Option (List ℕ)) (e : SourceError) → IsRefusal source.OutOfMemory e (source_refusal kconfig dotconfig)
-    → IsRefusal OutOfMemory (of_source e) (preview_refusal kconfig dotconfig old)
+pub texts_refused : (from : Source) (old : Option (List ℕ)) (e : EngineError) → IsRefusal OutOfMemory e (refusal_of from)
+    → IsRefusal OutOfMemory e (preview_refusal from old)
 unfolding preview_refusal
-texts_refused kconfig dotconfig old e h = part_refused of_source source.OutOfMemory e (source_refusal kconfig dotconfig) _ refl h
+texts_refused from old e (inl h) = inl h
+texts_refused from old e (inr h) = inr (ap (λ o. or_else o (or_else (option_map of_auto (old_refusal old)) (full_refusal (old_generation old)))) h)
 
 -- where the texts are not refused
-pub preview_refusal-old : (kconfig : KconfigText) (dotconfig : List ℕ) (old : Option (List ℕ)) → source_refusal kconfig dotconfig ≡ None
-    → preview_refusal kconfig dotconfig old ≡ or_else (option_map of_auto (old_refusal old)) (full_refusal (old_generation old))
+pub preview_refusal-old : (from : Source) (old : Option (List ℕ)) → refusal_of from ≡ None
+    → preview_refusal from old ≡ or_else (option_map of_auto (old_refusal old)) (full_refusal (old_generation old))
 unfolding preview_refusal
-preview_refusal-old kconfig dotconfig old h = search rules
+preview_refusal-old from old h = search rules
 
 -- where the old auto.conf is not refused either
-pub preview_refusal-full : (kconfig : KconfigText) (dotconfig : List ℕ) (old : Option (List ℕ)) → source_refusal kconfig dotconfig ≡ None → old_refusal old ≡ None
-    → preview_refusal kconfig dotconfig old ≡ full_refusal (old_generation old)
-preview_refusal-full kconfig dotconfig old h k = search (rules, preview_refusal-old)
+pub preview_refusal-full : (from : Source) (old : Option (List ℕ)) → refusal_of from ≡ None → old_refusal old ≡ None
+    → preview_refusal from old ≡ full_refusal (old_generation old)
+preview_refusal-full from old h k = search (rules, preview_refusal-old)
 
 pub full_refusal-full : (generation : ℕ) → generation ≡ 2 ^ 64 - 1 → full_refusal generation ≡ Some GenerationFull
 full_refusal-full generation h = cond-true _ _ _ (eq-eqb generation (2 ^ 64 - 1) h)

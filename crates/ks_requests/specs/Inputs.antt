@@ -1,5 +1,5 @@
 -- The files that arguments name: all arguments first, then the files in their order.
-use Rattle.std.specs.Prelude.{ℕ, Bool, List, Option, Some, None, Result, Ok, Err, if◌then◌else◌}
+use Rattle.std.specs.Prelude.{ℕ, Bool, List, Option, Some, None, Result, Ok, Err, if◌then◌else◌, string_bytes}
 use Rattle.std.specs.List.{list_all}
 use Rattle.ks_symbols.specs.Names.{is_path}
 use Rattle.ks_tree.specs.Files.{Files, content}
@@ -7,6 +7,10 @@ use Rattle.ks_engine.specs.declared.error.EngineError.{EngineError}
 use Rattle.ks_engine.specs.declared.error.EngineError.TheVariants.{BadPath}
 use Rattle.ks_engine.specs.Refusals.{and_then}
 use Rattle.ks_engine.specs.Recording.{there}
+use Rattle.ks_engine.specs.Sources.{Source, source_in}
+use Rattle.ks_engine.specs.declared.planning.ConfigForm.{ConfigForm}
+use Rattle.ks_symbols.specs.declared.dialect.Dialect.{Dialect}
+use Rattle.ks_requests.specs.declared.request.ConfigPaths.{ConfigPaths}
 
 -- a word that has to be a path
 abbrev pub legal : List ℕ → Result (Unit {0}) EngineError
@@ -29,7 +33,7 @@ abbrev pub given_if_named : Files → Option (List ℕ) → Result (Option (List
 given_if_named files None = Ok None
 given_if_named files (Some path) = and_then (given files path) (λ b. Ok (Some b))
 
--- a Kconfig and a `.config`, ..
+-- the two files of a configuration: a Kconfig and a `.config`, or in their places the auto.conf and the header that conf wrote
 pub record Texts : Type 0 where
   pub kconfig : List ℕ
   pub dotconfig : List ℕ
@@ -39,6 +43,14 @@ read_texts files k d = and_then (given files k) (λ kconfig. and_then (given fil
 
 unfoldable pub texts_at : Files → List ℕ → List ℕ → Result Texts EngineError
 texts_at files k d = and_then (legal k) (λ _. and_then (legal d) (λ _. read_texts files k d))
+
+-- what they say, by their form
+abbrev pub source_at : Dialect → ConfigForm → Texts → Source
+source_at dialect form t = source_in dialect form t.kconfig t.dotconfig
+
+-- the files that the words of a request name
+abbrev pub config_at : Files → ConfigPaths → Result Texts EngineError
+config_at files c = texts_at files (string_bytes c.first) (string_bytes c.second)
 
 -- .. and an old auto.conf, if one is named
 pub record Inputs : Type 0 where

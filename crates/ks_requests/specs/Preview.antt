@@ -2,7 +2,6 @@
 use Rattle.std.specs.Prelude.{◌≡◌, ◌+◌, ◌-◌, ◌^◌, ◌==◌, ◌++◌, ℕ, List, codes, flat_map, Option, Some, None, option_map, if◌then◌else◌}
 use Rattle.std.specs.FinMap as map
 use Rattle.std.specs.Io.KnownBytes.{Appends}
-use Rattle.ks_symbols.specs.Dialects.{KconfigText}
 use Rattle.ks_symbols.specs.Refusals.{or_else, IsRefusal}
 use Rattle.ks_output.specs.OldConfig.{Texts}
 use Rattle.ks_output.specs.declared.auto_conf.AutoError.{AutoError}
@@ -10,8 +9,9 @@ use Rattle.ks_output.specs.AutoText.{auto_text}
 use Rattle.ks_output.specs.AutoConf.{auto_map, auto_generation, auto_refusal}
 use Rattle.ks_engine.specs.declared.error.EngineError.{EngineError}
 use Rattle.ks_engine.specs.declared.error.EngineError.TheVariants.{GenerationFull, OutOfMemory}
-use Rattle.ks_engine.specs.Refusals.{of_auto, of_source}
-use Rattle.ks_engine.specs.SyncPlan.{ConfigInputs, AreConfigInputs, source_refusal}
+use Rattle.ks_engine.specs.Refusals.{of_auto}
+use Rattle.ks_engine.specs.Sources.{Source}
+use Rattle.ks_engine.specs.SyncPlan.{ConfigInputs, AreInputs, refusal_of}
 use Rattle.ks_engine.specs.Synchronised.{AreLegalChanges}
 use Rattle.ks_requests.specs.declared.preview.PreviewError.{PreviewError}
 use Rattle.ks_requests.specs.declared.preview.PreviewError.TheVariants.{Engine, Output}
@@ -37,27 +37,27 @@ old_refusal (Some text) = auto_refusal text
 abbrev pub full_refusal : ℕ → Option EngineError
 full_refusal generation = if generation == 2 ^ 64 - 1 then Some GenerationFull else None
 
-unfoldable pub preview_refusal : KconfigText → List ℕ → Option (List ℕ) → Option EngineError
-preview_refusal kconfig dotconfig old =
-    or_else (option_map of_source (source_refusal kconfig dotconfig))
+unfoldable pub preview_refusal : Source → Option (List ℕ) → Option EngineError
+preview_refusal source old =
+    or_else (refusal_of source)
     (or_else (option_map of_auto (old_refusal old)) (full_refusal (old_generation old)))
 
 -- a preview of texts that are accepted: the names that differ from the old auto.conf, and the auto.conf of the generation after it
-pub record IsPreview (kconfig : KconfigText) (dotconfig : List ℕ) (old : Option (List ℕ)) (text : List ℕ) : Type 0 where
-  pub accepted : preview_refusal kconfig dotconfig old ≡ None
+pub record IsPreview (source : Source) (old : Option (List ℕ)) (text : List ℕ) : Type 0 where
+  pub accepted : preview_refusal source old ≡ None
   pub sources : ConfigInputs
   pub names : List (List ℕ)
-  pub are_config_inputs : AreConfigInputs kconfig dotconfig sources
+  pub are_inputs : AreInputs source sources
   pub changed : AreLegalChanges (old_texts old) sources.config names
   pub whole : text ≡ touch_lines names ++ auto_text sources.title sources.config (old_generation old + 1)
 
 -- a writer's known bytes grow by a preview
-pub record Previews (kconfig : KconfigText) (dotconfig : List ℕ) (old before after : Option (List ℕ)) : Type 0 where
+pub record Previews (source : Source) (old before after : Option (List ℕ)) : Type 0 where
   pub text : List ℕ
-  pub is_preview : IsPreview kconfig dotconfig old text
+  pub is_preview : IsPreview source old text
   pub appended : Appends before after text
 
 -- The texts are refused as the definitions have it, or for memory, and nothing is written; or what is not refused didn't go out.
-abbrev pub IsNoPreview : KconfigText → List ℕ → Option (List ℕ) → Option (List ℕ) → Option (List ℕ) → PreviewError → Type 0
-IsNoPreview kconfig dotconfig old before after (Engine e) = IsRefusal OutOfMemory e (preview_refusal kconfig dotconfig old) × (after ≡ before)
-IsNoPreview kconfig dotconfig old before after Output = preview_refusal kconfig dotconfig old ≡ None
+abbrev pub IsNoPreview : Source → Option (List ℕ) → Option (List ℕ) → Option (List ℕ) → PreviewError → Type 0
+IsNoPreview source old before after (Engine e) = IsRefusal OutOfMemory e (preview_refusal source old) × (after ≡ before)
+IsNoPreview source old before after Output = preview_refusal source old ≡ None

@@ -14,8 +14,9 @@ use Rattle.ks_tree.specs.Paths.{auto_path}
 use Rattle.ks_engine.specs.declared.error.EngineError.TheVariants.{BadAuto, BadPath, NoTarget, Source, Written}
 use Rattle.ks_requests.specs.declared.refusal.Refusal.{Refusal}
 use Rattle.ks_requests.specs.declared.refusal.Refusal.TheVariants.{Engine, BadScript}
+use Rattle.ks_requests.specs.declared.request.ConfigPaths.{ConfigPaths}
 use Rattle.ks_requests.specs.declared.request.Request.{Request}
-use Rattle.ks_requests.specs.declared.request.Request.TheVariants.{Backdate, Batch, Cost, Depfile, Diff, Fixdep, Impact, Outdated, Preview, Record, Stale, Sync, SyncWritten, Users, Why}
+use Rattle.ks_requests.specs.declared.request.Request.TheVariants.{Backdate, Batch, Cost, Depfile, Diff, Fixdep, Impact, Outdated, Preview, Record, Stale, Sync, Users, Why}
 use Rattle.ks_requests.specs.declared.sites.Part.{Part}
 use Rattle.ks_requests.specs.declared.sites.Part.TheVariants.{Whole, Line, Token}
 use Rattle.ks_requests.specs.Endings.{Ending}
@@ -43,23 +44,18 @@ abbrev pub written_site : List ℕ → List ℕ → WrittenError → Option Site
 written_site auto header written.BadHeading = Some (auto, Whole)
 written_site auto header (written.NotAnEntry line) = Some (auto, Line line)
 written_site auto header (written.ModuleSymbol line) = Some (auto, Line line)
-written_site auto header (written.Unexplained line) = Some (header, Line line)
+written_site auto header (written.Unexplained line) = Some (auto, Line line)
 written_site auto header (written.Undefined line) = Some (auto, Line line)
-written_site auto header (written.Undeclared line) = Some (header, Line line)
+written_site auto header (written.Undeclared line) = Some (header, Whole)
 written_site auto header (written.Twice line) = Some (auto, Line line)
 written_site auto header _ = None
 
--- .. or of the tree's auto.conf
-abbrev pub pair_site : List ℕ → List ℕ → Refusal → Option Site
-pair_site auto header (Engine (Written e)) = written_site auto header e
-pair_site auto header (Engine (BadAuto line)) = Some (auto_path, Line line)
-pair_site auto header _ = None
-
--- of a Kconfig, a `.config` and an auto.conf
-abbrev pub config_site : List ℕ → List ℕ → Option (List ℕ) → Refusal → Option Site
-config_site kconfig dotconfig auto (Engine (Source e)) = source_site kconfig dotconfig e
-config_site kconfig dotconfig auto (Engine (BadAuto line)) = option_map (λ path. (path, Line line)) auto
-config_site kconfig dotconfig auto _ = None
+-- of the two files of a configuration, and an old auto.conf
+abbrev pub config_site : ConfigPaths → Option (List ℕ) → Refusal → Option Site
+config_site c auto (Engine (Source e)) = source_site (string_bytes c.first) (string_bytes c.second) e
+config_site c auto (Engine (Written e)) = written_site (string_bytes c.first) (string_bytes c.second) e
+config_site c auto (Engine (BadAuto line)) = option_map (λ path. (path, Line line)) auto
+config_site c auto _ = None
 
 -- of a dependency file; token 0 is a word of the command line
 abbrev pub depfile_site : List ℕ → Refusal → Option Site
@@ -77,11 +73,10 @@ script_site script _ = None
 
 -- A word that is refused, a missing file and a stamp are named by the refusal itself, and objects by their lines.
 abbrev pub site_of : Request → Refusal → Option Site
-site_of (Sync k d stamps) refusal = config_site (string_bytes k) (string_bytes d) (Some auto_path) refusal
-site_of (SyncWritten a h) refusal = pair_site (string_bytes a) (string_bytes h) refusal
-site_of (Preview k d o) refusal = config_site (string_bytes k) (string_bytes d) (option_map (λ path. string_bytes path) o) refusal
-site_of (Diff k d report_style) refusal = config_site (string_bytes k) (string_bytes d) (Some auto_path) refusal
-site_of (Impact k d targets format) refusal = config_site (string_bytes k) (string_bytes d) (Some auto_path) refusal
+site_of (Sync c stamps) refusal = config_site c (Some auto_path) refusal
+site_of (Preview c o) refusal = config_site c (option_map (λ path. string_bytes path) o) refusal
+site_of (Diff c report_style) refusal = config_site c (Some auto_path) refusal
+site_of (Impact c targets format) refusal = config_site c (Some auto_path) refusal
 site_of (Fixdep d t c) refusal = depfile_site (string_bytes d) refusal
 site_of (Record d t c after) refusal = record_site (string_bytes d) refusal
 site_of (Depfile end d t c) refusal = record_site (string_bytes d) refusal

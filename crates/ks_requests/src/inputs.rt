@@ -7,21 +7,38 @@ ghost use Rattle.std.specs.Bool.{MatchBool};
 ghost use Rattle.ks_symbols.specs.Names.{is_path};
 ghost use Rattle.ks_tree.specs.Frames.{Reads};
 ghost use Rattle.ks_engine.specs.Refusals.{Answers};
-ghost use Rattle.ks_requests.specs.Inputs.{are_paths, given, given_if_named, inputs_at, legal, legal_if_named, texts_at};
+ghost use Rattle.ks_engine.specs.Sources.{config_source, source_in};
+ghost use Rattle.ks_requests.specs.Inputs.{are_paths, config_at, given, given_if_named, inputs_at, legal, legal_if_named, texts_at};
 ghost use Rattle.ks_requests.specs.Inputs as inputs;
 ghost use Rattle.ks_requests.specs.Readings.{ReadsEach, ReadsSome, if_named};
 ghost use Rattle.ks_requests.specs.Views.{seen_inputs, seen_texts};
 
 use crate::reading::Reading;
-use ks_engine::EngineError;
-use ks_symbols::{Path, path_is_legal};
+use crate::request::ConfigPaths;
+use ks_engine::{ConfigForm, ConfigTexts, EngineError};
+use ks_symbols::{Dialect, Path, path_is_legal};
 use std::alloc::Global;
 
-/// A Kconfig and a `.config`: the bytes of each file as they were read, still to be parsed.
+/// The two files of a configuration: the bytes of each as they were read, still to be parsed. What conf wrote stands here in the
+/// places of a Kconfig and a `.config`.
 #[derive(Drop)]
 pub struct Texts {
     pub kconfig: Vec<u8>,
     pub dotconfig: Vec<u8>,
+}
+
+impl Texts {
+    /// As the engine takes them.
+    pub fn config(&self, dialect: Dialect, form: ConfigForm) -> ConfigTexts<'_>
+        ensures { config_source result ≡ source_in dialect form self.now.kconfig.items self.now.dotconfig.items }
+    {
+        ConfigTexts {
+            dialect,
+            form,
+            first: &self.kconfig,
+            second: &self.dotconfig,
+        }
+    }
 }
 
 /// The texts of a preview, with the old auto.conf where one is named.
@@ -132,6 +149,25 @@ pub fn texts_at<T: Reading>(
     check_path(kconfig)?;
     check_path(dotconfig)?;
     read_texts(alloc, tree, kconfig, dotconfig)
+}
+
+/// The two files of a configuration, as `texts_at` reads them.
+pub fn config_at<T: Reading>(
+    alloc: Global,
+    tree: &mut T,
+    config: &ConfigPaths,
+) -> Result<Texts, EngineError>
+    ensures reads { Reads T.Tree tree.old tree.new (IsErrOf result EngineError.Device) }
+    ensures passed { OnOk result (T.failures tree.new ≡ T.failures tree.old) }
+    ensures uncounted { IsErrOf result EngineError.OutOfMemory → T.failures tree.new ≡ T.failures tree.old }
+    ensures texts { T.is_honest → Answers (config_at (T.files tree.old) config.now) seen_texts result }
+{
+    texts_at(
+        alloc,
+        tree,
+        config.first.as_bytes(),
+        config.second.as_bytes(),
+    )
 }
 
 /// The files of a preview, the old auto.conf last.

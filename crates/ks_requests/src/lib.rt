@@ -21,7 +21,9 @@ mod symbols;
 mod targets;
 mod unknown;
 
-pub use inputs::{Inputs, Texts, borrowed, borrowed_path, inputs_at, read_given, texts_at};
+pub use inputs::{
+    Inputs, Texts, borrowed, borrowed_path, config_at, inputs_at, read_given, texts_at,
+};
 pub use json_lines::write_json_answer;
 pub use laws::{json_lines_are_objects, script_examples, script_lines_are_spelled};
 pub use output::{print, refuse, refuse_at};
@@ -33,7 +35,7 @@ pub use replies::{
     write_build_line, write_refused_target,
 };
 pub use report_style::ReportStyle;
-pub use request::{DepfileAfter, OutputFormat, Request, Stamps, Targets};
+pub use request::{ConfigPaths, DepfileAfter, OutputFormat, Request, Stamps, Targets};
 pub use script::{ScriptLine, read_script, script_syncs};
 pub use script_error::ScriptError;
 pub use sites::{Part, Site, site_of};

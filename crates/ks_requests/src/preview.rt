@@ -4,12 +4,13 @@
 ghost use Rattle.std.specs.Prelude.{◌≡◌, ◌+◌, ◌++◌, None, IfErr, IfOk, OnOk, option_map};
 ghost use Rattle.ks_symbols.specs.Refusals.{RefusedBy};
 ghost use Rattle.ks_output.specs.AutoText.{auto_text};
+ghost use Rattle.ks_engine.specs.Sources.{config_source};
 ghost use Rattle.ks_requests.specs.declared.preview.PreviewError.TheVariants.{Engine};
 ghost use Rattle.ks_requests.specs.Preview.{IsPreview, IsNoPreview, Previews, old_generation, old_refusal, old_texts, preview_refusal, touch_lines};
 
-use ks_engine::{ConfigInputs, EngineError, Report, plan, read_config_inputs};
+use ks_engine::{ConfigInputs, ConfigTexts, EngineError, Report, plan, read_inputs};
 use ks_output::{AutoError, OldConfig, read_auto, write_auto};
-use ks_symbols::{Kconfig, Name};
+use ks_symbols::{Name, Seed};
 use std::alloc::{AllocError, Global};
 use std::io::Write;
 use thiserror::Error;
@@ -77,14 +78,14 @@ fn preview_text(
 /// The text of a preview, of any length, though a synchronisation refuses an auto.conf of more than 64 MiB.
 fn preview_of(
     alloc: Global,
-    kconfig: &Kconfig<'_>,
-    dotconfig: &[u8],
+    seed: Seed,
+    texts: &ConfigTexts<'_>,
     old: Option<&[u8]>,
 ) -> Result<Vec<u8>, EngineError>
-    ensures text { IfOk result (λ t. IsPreview kconfig.now dotconfig.now (option_map (λ t. t.now) old.entry) t.items) }
-    ensures refusal { RefusedBy EngineError.OutOfMemory result (preview_refusal kconfig.now dotconfig.now (option_map (λ t. t.now) old.entry)) }
+    ensures text { IfOk result (λ t. IsPreview (config_source texts.now) (option_map (λ t. t.now) old.entry) t.items) }
+    ensures refusal { RefusedBy EngineError.OutOfMemory result (preview_refusal (config_source texts.now) (option_map (λ t. t.now) old.entry)) }
 {
-    let sources = read_config_inputs(alloc, kconfig, dotconfig)?;
+    let sources = read_inputs(alloc, seed, texts)?;
     let before = read_old(alloc, old)?;
     let Some(report) = plan(alloc, &sources, &before)? else {
         return Err(EngineError::GenerationFull);
@@ -93,18 +94,18 @@ fn preview_of(
 }
 
 /// Writes what a synchronisation over an old auto.conf would touch, a line `touch NAME` each, and the auto.conf that it would
-/// write. Without an old one it is the first synchronisation.
+/// write. Without an old one it is the first synchronisation. The names of what conf wrote are looked up by a seed.
 pub fn preview_to<W: Write>(
     alloc: Global,
-    kconfig: &Kconfig<'_>,
-    dotconfig: &[u8],
+    seed: Seed,
+    texts: &ConfigTexts<'_>,
     old: Option<&[u8]>,
     out: &mut W,
 ) -> Result<(), PreviewError>
-    ensures written { OnOk result (Previews kconfig.now dotconfig.now (option_map (λ t. t.now) old.entry) (W.contents out.old) (W.contents out.new)) }
-    ensures refusal { IfErr result (IsNoPreview kconfig.now dotconfig.now (option_map (λ t. t.now) old.entry) (W.contents out.old) (W.contents out.new)) }
+    ensures written { OnOk result (Previews (config_source texts.now) (option_map (λ t. t.now) old.entry) (W.contents out.old) (W.contents out.new)) }
+    ensures refusal { IfErr result (IsNoPreview (config_source texts.now) (option_map (λ t. t.now) old.entry) (W.contents out.old) (W.contents out.new)) }
 {
-    let text = preview_of(alloc, kconfig, dotconfig, old)?;
+    let text = preview_of(alloc, seed, texts, old)?;
     match out.write_all(&text) {
         Ok(()) => Ok(()),
         Err(_) => Err(PreviewError::Output),

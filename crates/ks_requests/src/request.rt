@@ -1,12 +1,22 @@
 //! What the program can be asked to do.
 use crate::report_style::ReportStyle;
-use ks_engine::BackdateScope;
+use ks_engine::{BackdateScope, ConfigForm};
 
 /// The objects that a question is about: those among the arguments, and after them those of a file, one a line.
 #[derive(Debug, Drop)]
 pub struct Targets {
     pub args: Vec<String>,
     pub from: Option<String>,
+}
+
+/// The two files of a configuration, by what they are.
+#[derive(Debug, Drop)]
+pub struct ConfigPaths {
+    pub form: ConfigForm,
+    /// A Kconfig, or the auto.conf that conf wrote.
+    pub first: String,
+    /// A `.config`, or the header that conf wrote.
+    pub second: String,
 }
 
 /// How the answers about objects are printed.
@@ -23,7 +33,7 @@ pub enum OutputFormat {
 pub enum Stamps {
     /// Those of the symbols that were ever touched.
     Touched,
-    /// One of each declared symbol: an empty one where there would be none.
+    /// One of each symbol that a Kconfig declares: an empty one where there would be none.
     Declared,
 }
 
@@ -41,25 +51,17 @@ pub enum DepfileAfter {
 pub enum Request {
     /// Bring the tree to a configuration.
     Sync {
-        kconfig: String,
-        dotconfig: String,
+        config: ConfigPaths,
         stamps: Stamps,
-    },
-    /// Bring the tree to the configuration that conf wrote.
-    SyncWritten {
-        auto: String,
-        header: String,
     },
     /// What a synchronisation would do, over an old auto.conf or as the first one.
     Preview {
-        kconfig: String,
-        dotconfig: String,
+        config: ConfigPaths,
         old: Option<String>,
     },
     /// What a synchronisation would touch, with the old and the new texts.
     Diff {
-        kconfig: String,
-        dotconfig: String,
+        config: ConfigPaths,
         report_style: ReportStyle,
     },
     /// The command file of an object, without a generation.
@@ -95,8 +97,7 @@ pub enum Request {
     },
     /// Which of these objects would be stale after a synchronisation.
     Impact {
-        kconfig: String,
-        dotconfig: String,
+        config: ConfigPaths,
         targets: Targets,
         format: OutputFormat,
     },

@@ -6,12 +6,12 @@ ghost use Rattle.std.specs.Prelude.{◌≡◌, ◌-◌, ℕ, List, Some, IfOk, I
 ghost use Rattle.ks_symbols.specs.Lines.{lines};
 ghost use Rattle.ks_tree.specs.Files.{IsTooLarge, content};
 ghost use Rattle.ks_tree.specs.Frames.{Reads};
-ghost use Rattle.ks_requests.specs.Sites.{config_site, depfile_site, excerpt, excerpt_at, excerpt_in, pair_site, part_text, record_site, script_site, site_of, source_site, visible, written_site};
+ghost use Rattle.ks_requests.specs.Sites.{config_site, depfile_site, excerpt, excerpt_at, excerpt_in, part_text, record_site, script_site, site_of, source_site, visible, written_site};
 ghost use Rattle.ks_requests.specs.declared.sites.Part.TheVariants.{Line};
 ghost use Rattle.ks_requests.specs.Views.{seen_site};
 
 use crate::refusal::Refusal;
-use crate::request::Request;
+use crate::request::{ConfigPaths, Request};
 use bstr::ByteSlice;
 use ks_engine::EngineError;
 use ks_fixdep::token_at;
@@ -66,7 +66,7 @@ fn source_site<'a>(kconfig: &'a [u8], dotconfig: &'a [u8], error: &SourceError) 
     }
 }
 
-/// The line of the auto.conf or the header that conf wrote.
+/// The line of the first of the two files that conf wrote, which counts its lines; a line of the header may have another number there.
 fn written_site<'a>(auto: &'a [u8], header: &'a [u8], error: &WrittenError) -> Option<Site<'a>>
     ensures { option_map seen_site result ≡ written_site auto.now header.now error.now }
 {
@@ -77,35 +77,29 @@ fn written_site<'a>(auto: &'a [u8], header: &'a [u8], error: &WrittenError) -> O
         }
         WrittenError::NotAnEntry(line)
         | WrittenError::ModuleSymbol(line)
+        | WrittenError::Unexplained(line)
         | WrittenError::Undefined(line)
         | WrittenError::Twice(line) => at_line(auto, *line),
-        WrittenError::Unexplained(line) | WrittenError::Undeclared(line) => at_line(header, *line),
+        WrittenError::Undeclared(_) => {
+            let (path, part) = (header, Part::Whole);
+            Some(Site { path, part })
+        }
         WrittenError::TooLarge | WrittenError::OutOfMemory => None,
     }
 }
 
-/// The line of what conf wrote, or of the tree's auto.conf.
-fn pair_site<'a>(auto: &'a [u8], header: &'a [u8], refusal: &Refusal) -> Option<Site<'a>>
-    ensures { option_map seen_site result ≡ pair_site auto.now header.now refusal.now }
-{
-    match refusal {
-        Refusal::Engine(EngineError::Written(error)) => written_site(auto, header, error),
-        Refusal::Engine(EngineError::BadAuto(line)) => at_line(auto_path(), *line),
-        _ => None,
-    }
-}
-
-/// The line of a Kconfig, a `.config` or the auto.conf that may be named.
+/// The line of one of the two files of a configuration, or of the old auto.conf that may be named.
 fn config_site<'a>(
-    kconfig: &'a [u8],
-    dotconfig: &'a [u8],
+    config: &'a ConfigPaths,
     auto: Option<&'a [u8]>,
     refusal: &Refusal,
 ) -> Option<Site<'a>>
-    ensures { option_map seen_site result ≡ config_site kconfig.now dotconfig.now (option_map (λ p. p.now) auto.entry) refusal.now }
+    ensures { option_map seen_site result ≡ config_site config.now (option_map (λ p. p.now) auto.entry) refusal.now }
 {
+    let (first, second) = (config.first.as_bytes(), config.second.as_bytes());
     match refusal {
-        Refusal::Engine(EngineError::Source(error)) => source_site(kconfig, dotconfig, error),
+        Refusal::Engine(EngineError::Source(error)) => source_site(first, second, error),
+        Refusal::Engine(EngineError::Written(error)) => written_site(first, second, error),
         Refusal::Engine(EngineError::BadAuto(line)) => at_line(auto?, *line),
         _ => None,
     }
@@ -168,41 +162,10 @@ pub fn site_of<'a>(request: &'a Request, refusal: &Refusal) -> Option<Site<'a>>
     ensures { option_map seen_site result ≡ site_of request.now refusal.now }
 {
     match request {
-        Request::Sync {
-            kconfig,
-            dotconfig,
-            ..
-        }
-        | Request::Diff {
-            kconfig,
-            dotconfig,
-            ..
-        }
-        | Request::Impact {
-            kconfig,
-            dotconfig,
-            ..
-        } => config_site(
-            kconfig.as_bytes(),
-            dotconfig.as_bytes(),
-            Some(auto_path()),
-            refusal,
-        ),
-        Request::SyncWritten { auto, header } => pair_site(
-            auto.as_bytes(),
-            header.as_bytes(),
-            refusal,
-        ),
-        Request::Preview {
-            kconfig,
-            dotconfig,
-            old,
-        } => config_site(
-            kconfig.as_bytes(),
-            dotconfig.as_bytes(),
-            path_bytes(old),
-            refusal,
-        ),
+        Request::Sync { config, .. }
+        | Request::Diff { config, .. }
+        | Request::Impact { config, .. } => config_site(config, Some(auto_path()), refusal),
+        Request::Preview { config, old } => config_site(config, path_bytes(old), refusal),
         Request::Fixdep { depfile, .. } => depfile_site(depfile.as_bytes(), refusal),
         Request::Record { depfile, .. } | Request::Depfile { depfile, .. } => {
             record_site(depfile.as_bytes(), refusal)

@@ -33,8 +33,7 @@ IsScriptAccess path access = LocksScript path access.script access.lock
 
 -- Every other command shares it, and looks at no script.
 abbrev pub IsAccessOf : Request → Access → Type 0
-IsAccessOf (request.Sync k d stamps) access = (access.lock ≡ Exclusive) × (access.script ≡ None)
-IsAccessOf (request.SyncWritten auto header) access = (access.lock ≡ Exclusive) × (access.script ≡ None)
+IsAccessOf (request.Sync config stamps) access = (access.lock ≡ Exclusive) × (access.script ≡ None)
 IsAccessOf (request.Batch script) access = IsScriptAccess (string_bytes script) access
 IsAccessOf _ access = (access.lock ≡ Shared) × (access.script ≡ None)
 

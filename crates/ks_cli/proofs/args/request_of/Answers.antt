@@ -1,4 +1,4 @@
-use Rattle.ks_cli.proofs.Prelude.{◌∙◌, ap, subst, IfErr, IfOk, IsSomeAnd, IsPageNamed, texts, HasKind, fault_of, is_simple, is_simple_and_free, subcommand_of, takes, command_line_app, IsRequestOf}
+use Rattle.ks_cli.proofs.Prelude.{◌∙◌, ap, subst, IfErr, IfOk, IsSomeAnd, IsPageNamed, texts, HasKind, fault_of, is_simple, is_simple_and_free, subcommand_of, takes, IsRequestOf}
 use Rattle.ks_cli.proofs.ArgLemmas.{batch_made, entered_name, fault_reported, is_free_line, is_simple_line, made_by, memory_reported, page_reason, page_taken, paged_by, preview_made, visibly_reported}
 use Rattle.ks_cli.proofs.args.request_of.Goals as goal
 

@@ -6,4 +6,4 @@ pub returns-in-Touched-clause-files : goal.returns-in-Touched-clause-files
 returns-in-Touched-clause-files g c = search (rules, sync_printed)
 
 pub returns-in-Declared-clause-files : goal.returns-in-Declared-clause-files
-returns-in-Declared-clause-files g c = search (rules, sync_printed)
+returns-in-Declared-clause-files g c = search rules

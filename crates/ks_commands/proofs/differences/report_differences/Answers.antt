@@ -1,4 +1,5 @@
-use Rattle.ks_commands.proofs.Prelude.{inl, inr, Err, ap, ◌∙◌, err_from_is_err_and, seen_texts, read_in}
+use Rattle.ks_commands.proofs.Prelude.{inl, inr, Err, ap, ◌∙◌, err_from_is_err_and, seen_texts}
+use Rattle.ks_requests.specs.Inputs.{source_at}
 use Rattle.ks_commands.proofs.Differing.{reported_of}
 use Rattle.ks_commands.proofs.differences.report_differences.Goals as goal
 
@@ -11,7 +12,7 @@ returns-in_err-differences-clause-reported g c = λ honest.
       c.in_ok-texts.ensures.texts honest,
       inr (
         c.in_err-differences.field-0.0,
-        rw (← c.deref.ensures.value, ← c.new-kconfig.ensures, ← c.deref-2.ensures.value, ← same) (c.in_err-differences.ensures.refused honest),
+        rw (← c.config.ensures, ← same) (c.in_err-differences.ensures.refused honest),
         p.1 ∙ ap (λ r. Err r) p.2,
       ),
     )
@@ -23,6 +24,6 @@ returns-clause-reported g c = λ honest.
     inr (
       texts,
       c.in_ok-texts.ensures.texts honest,
-      inl (reported_of c.args.report_style (g.T.Tree.files c.args.tree.now) (read_in c.args.dialect texts.kconfig) texts.dotconfig c.in_ok-differences.field-0
-          (rw (← c.deref.ensures.value, ← c.new-kconfig.ensures, ← c.deref-2.ensures.value, ← same) (c.in_ok-differences.ensures.reported honest))),
+      inl (reported_of c.args.report_style (g.T.Tree.files c.args.tree.now) (source_at c.args.dialect c.args.config.now.form texts) c.in_ok-differences.field-0
+          (rw (← c.config.ensures, ← same) (c.in_ok-differences.ensures.reported honest))),
     )

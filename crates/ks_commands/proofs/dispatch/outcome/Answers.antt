@@ -2,16 +2,11 @@ use Rattle.ks_commands.proofs.dispatch.outcome.Goals as goal
 
 pub returns-in-Sync-clause-ends : goal.returns-in-Sync-clause-ends
 returns-in-Sync-clause-ends g c =
-    rw (c.in-Sync.is, ← c.as_bytes-kconfig.ensures.value, ← c.as_bytes-dotconfig.ensures.value) c.synchronise.ensures.files
-
-pub returns-in-SyncWritten-clause-ends : goal.returns-in-SyncWritten-clause-ends
-returns-in-SyncWritten-clause-ends g c =
-    rw (c.in-SyncWritten.is, ← c.as_bytes.ensures.value, ← c.as_bytes-in-SyncWritten.ensures.value) c.synchronise_written.ensures.files
+    rw c.in-Sync.is c.synchronise.ensures.files
 
 pub returns-in-Diff-clause-ends : goal.returns-in-Diff-clause-ends
 returns-in-Diff-clause-ends g c =
-    rw (c.in-Diff.is, ← c.as_bytes-kconfig-in-Diff.ensures.value, ← c.as_bytes-dotconfig-in-Diff.ensures.value)
-    (λ honest. (c.report_differences.ensures.reads.unchanged honest, c.report_differences.ensures.reported honest))
+    rw c.in-Diff.is (λ honest. (c.report_differences.ensures.reads.unchanged honest, c.report_differences.ensures.reported honest))
 
 pub returns-in-Stale-clause-ends : goal.returns-in-Stale-clause-ends
 returns-in-Stale-clause-ends g c = rw c.in-Stale.is (c.query_targets.ensures.unchanged, c.query_targets.ensures.reported)
@@ -24,8 +19,7 @@ returns-in-Backdate-clause-ends g c = rw c.in-Backdate.is (c.query_targets-in-Ba
 
 pub returns-in-Impact-clause-ends : goal.returns-in-Impact-clause-ends
 returns-in-Impact-clause-ends g c =
-    rw (c.in-Impact.is, ← c.as_bytes-kconfig-in-Impact.ensures.value, ← c.as_bytes-dotconfig-in-Impact.ensures.value)
-    (c.query_predicted.ensures.unchanged, c.query_predicted.ensures.reported)
+    rw c.in-Impact.is (c.query_predicted.ensures.unchanged, c.query_predicted.ensures.reported)
 
 pub returns-in-Outdated-clause-ends : goal.returns-in-Outdated-clause-ends
 returns-in-Outdated-clause-ends g c =

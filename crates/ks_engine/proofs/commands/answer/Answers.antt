@@ -1,4 +1,4 @@
-use Rattle.ks_engine.proofs.Prelude.{◌≡◌, EngineError, Some, rules}
+use Rattle.ks_engine.proofs.Prelude.{◌≡◌, EngineError, IsSyncRefused, Some, subst, rules}
 use Rattle.ks_engine.proofs.commands.answer.Goals as goal
 
 error_is : (e f : EngineError) → Some e ≡ Some f → e ≡ f
@@ -6,7 +6,8 @@ error_is e f same = cc
 
 pub returns-in-Err-clause-step : goal.returns-in-Err-clause-step
 returns-in-Err-clause-step g c = record {
-  leaves = λ honest. rw (c.in-Sync.is, ← c.new.ensures) (c.in-Err.ensures.refused honest);
+  leaves = λ honest. rw c.in-Sync.is (subst (λ source. IsSyncRefused (g.T.Tree.files c.args.tree.now) (g.T.Tree.files c.sync.new.tree) source c.in-Err.error)
+      c.of_kconfig-texts.ensures (c.in-Err.ensures.refused honest));
   backdates = search rules;
   later = search rules;
   cause = search (rules, error_is);

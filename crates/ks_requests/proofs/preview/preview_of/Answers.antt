@@ -3,7 +3,9 @@ use Rattle.ks_requests.proofs.Refusing.{texts_refused, auto_refused, preview_ref
 use Rattle.ks_requests.proofs.preview.preview_of.Goals as goal
 
 pub returns-in_err-sources-clause-refusal : goal.returns-in_err-sources-clause-refusal
-returns-in_err-sources-clause-refusal c = search (rules, err_from_is_err_and, texts_refused)
+returns-in_err-sources-clause-refusal c =
+    let p = err_from_is_err_and c.from_residual.result c.from_residual.ensures.1 in
+    rw (p.1, p.2) (texts_refused _ _ _ c.in_err-sources.ensures.refusal)
 
 pub returns-in_err-before-clause-refusal : goal.returns-in_err-before-clause-refusal
 returns-in_err-before-clause-refusal c = search (rules, err_from_is_err_and, preview_refusal-old, auto_refused)
@@ -24,7 +26,7 @@ returns-clause-text c =
       accepted = returns-clause-refusal c;
       sources = s;
       names = names;
-      are_config_inputs = c.in_ok-sources.ensures.read;
+      are_inputs = c.in_ok-sources.ensures.read;
       changed = subst (λ (texts : Texts). AreLegalChanges texts s.config names) c.in_ok-before.ensures.texts planned.changed;
       whole = c.in_ok-preview_text.ensures ∙ ap (λ (g : ℕ). touch_lines names ++ auto_text s.title s.config g)
           (planned.generation ∙ ap (λ n. n + 1) c.in_ok-before.ensures.generation);

@@ -208,6 +208,47 @@ static Bytes made_auto(void)
     return perhaps_damaged(&text, 10);
 }
 
+/* What conf writes of a name behind it, in auto.conf and in the header; the last five it would not write. */
+static const char *const written_values[][2] = {
+    {"y", " 1"}, {"m", "_MODULE 1"}, {"12", " 12"}, {"-3", " -3"}, {"0", " 0"}, {"y", " 1"}, {"0x1F", " 0x1F"}, {"0X1f", " 0X1f"}, {"1f", " 0x1f"},
+    {"10", " 0x10"}, {"", " \"\""}, {"y", " \"y\""}, {"10", " \"10\""}, {"n", " \"n\""}, {"a b", " \"a b\""}, {"q\"\\", " \"q\\\"\\\\\""},
+    {"\"a\\b\"", " \"a\\b\""}, {"\"q\"", " \"\\\"q\\\"\""}, {"\303\244", " \"\303\244\""}, {"", " "}, {"", " 0x"}, {"007", " 007"}, {"0x", " 0x"}, {"n", " 1"}, {"-0", " -0"},
+    {"\"", " \""},
+};
+
+enum { WRITTEN_VALUES = sizeof written_values / sizeof *written_values };
+
+/* A pair: a line in each for some names, in any order; seldom one is left out, is none, or lacks its end. */
+static void put_written(Tree *tree)
+{
+    static const char *const titles[] = {"Demo", "Linux/x86 6.1.0 Kernel Configuration", "*/", "a\\b", ""};
+    const char *title = titles[one_in(20) ? below(5) : below(2)], *star = one_in(3) ? "\n *" : "";
+    static const char *const companions[] = {"A_MODULE", "B_MODULE", "S_MODULE", "A_MODULE_MODULE", "_MODULE"};
+    bool is_taken[sizeof names / sizeof *names] = {false};
+    Text entries = {0}, definitions = {0};
+    add_text(&entries, "#\n# Automatically generated file; DO NOT EDIT.\n# %s\n#\n", title);
+    add_text(&definitions, "/*%s\n * Automatically generated file; DO NOT EDIT.\n * %s%s\n */\n", star, title, star);
+    for (size_t count = below(12); count > 0; count--) {
+        size_t which = below(sizeof names / sizeof *names - 1), value = below(WRITTEN_VALUES - (rarely(40) ? 0 : 5));
+        const char *entry = rarely(30) ? name() : names[which];
+        if (is_taken[which] && !rarely(40))
+            continue;
+        is_taken[which] = true;
+        if (one_in(10)) {
+            entry = PICK(companions);
+            value = rarely(30) ? value : 0;
+        }
+        if (!rarely(60))
+            add_text(&entries, rarely(60) ? "# CONFIG_%s is not set\n" : "CONFIG_%s=%s\n", entry, written_values[value][0]);
+        if (!rarely(60))
+            add_text(&definitions, "#define CONFIG_%s%s\n", entry, written_values[value][1]);
+    }
+    entries.length -= rarely(60);
+    definitions.length -= rarely(60);
+    put(tree, bytes_of("conf.auto"), perhaps_damaged(&entries, 14));
+    put(tree, bytes_of("conf.h"), perhaps_damaged(&definitions, 14));
+}
+
 /* Words of other projects, and what stands between them. */
 static void add_words(Text *text)
 {
@@ -338,6 +379,7 @@ static Tree made_tree(void)
     put_text(&tree, "Kconfig", made_kconfig());
     put_text(&tree, ".config", made_dotconfig());
     put_text(&tree, "c2", made_dotconfig());
+    put_written(&tree);
     put_text(&tree, "x.d", made_depfile());
     put_text(&tree, "script", made_script());
     put_text(&tree, "list", made_list());
@@ -385,23 +427,6 @@ static void words_of_record(Command *made, const char *command_word)
     word(made, command());
 }
 
-/* `sync`, or what tells of one before it: its two files. */
-static void words_of_sync(Command *made, const char *command_word)
-{
-    word(made, command_word);
-    word(made, file_word(one_in(4) ? "K2" : "Kconfig"));
-    word(made, file_word(one_in(3) ? "c2" : ".config"));
-}
-
-static void words_of_preview(Command *made)
-{
-    word(made, "preview");
-    word(made, file_word("Kconfig"));
-    word(made, file_word(".config"));
-    if (one_in(2))
-        word(made, file_word("include/config/auto.conf"));
-}
-
 /* An option, and the word after it where it has one: right after the command, or after all words so far. */
 static void put_option(Command *made, const char *option, const char *after)
 {
@@ -413,6 +438,28 @@ static void put_option(Command *made, const char *option, const char *after)
     memmove(made->words + place + told.count, made->words + place, (made->count - place) * sizeof *made->words);
     memcpy(made->words + place, told.words, told.count * sizeof *told.words);
     made->count += told.count;
+}
+
+/* The two files of a `sync`, or of what tells of one before it: a Kconfig and a .config, or what conf wrote. */
+static void words_of_sync(Command *made, const char *command_word)
+{
+    bool is_written = !is_of("busybox") && one_in(3), is_swapped = rarely(20);
+    word(made, command_word);
+    if (is_written) {
+        word(made, file_word(is_swapped ? "conf.h" : "conf.auto"));
+        word(made, file_word(is_swapped ? "conf.auto" : "conf.h"));
+        put_option(made, "--written", NULL);
+    } else {
+        word(made, file_word(one_in(4) ? "K2" : "Kconfig"));
+        word(made, file_word(one_in(3) ? "c2" : ".config"));
+    }
+}
+
+static void words_of_preview(Command *made)
+{
+    words_of_sync(made, "preview");
+    if (one_in(2))
+        word(made, file_word("include/config/auto.conf"));
 }
 
 /* Up to three targets, and perhaps a file of targets; at times neither, which is no command. */
@@ -709,10 +756,10 @@ static bool agrees(Tree *tree, const Command *command)
     return false;
 }
 
-/* A file of the tree becomes another one, as an editor or a compiler makes it. */
+/* A file of the tree becomes another one, as an editor, a compiler or conf makes it. */
 static void edit(Tree *tree)
 {
-    switch (below(4)) {
+    switch (below(5)) {
     case 0:
         put_text(tree, ".config", made_dotconfig());
         write_file(bytes_of(".config"), find(tree, bytes_of(".config"))->bytes);
@@ -720,6 +767,11 @@ static void edit(Tree *tree)
     case 1:
         put_text(tree, "c2", made_dotconfig());
         write_file(bytes_of("c2"), find(tree, bytes_of("c2"))->bytes);
+        break;
+    case 2:
+        put_written(tree);
+        write_file(bytes_of("conf.auto"), find(tree, bytes_of("conf.auto"))->bytes);
+        write_file(bytes_of("conf.h"), find(tree, bytes_of("conf.h"))->bytes);
         break;
     default:
         break;

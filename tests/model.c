@@ -697,6 +697,24 @@ static void add_quoted(Text *text, Bytes bytes)
     add_text(text, "\"");
 }
 
+/* The line of the header that defines a setting, without its end. */
+static void add_definition(Text *text, const Symbol *setting)
+{
+    bool is_switch = class_of(setting->kind) == TRISTATE || setting->kind == FLAG;
+    add_text(text, "#define %s_", setting->kind == FLAG ? "ENABLE" : "CONFIG");
+    add(text, setting->name);
+    add_text(text, is_switch && is_text(setting->text, "m") ? "_MODULE " : " ");
+    if (is_switch)
+        add_text(text, "1");
+    else if (setting->kind == STRING)
+        add_quoted(text, setting->text);
+    else {
+        bool has_prefix = starts(setting->text, "0x") || starts(setting->text, "0X");
+        add_text(text, setting->kind == HEX && !has_prefix ? "0x" : "");
+        add(text, setting->text);
+    }
+}
+
 static Bytes header_text(const Symbols *settings)
 {
     Text text = {0};
@@ -704,23 +722,106 @@ static Bytes header_text(const Symbols *settings)
     add(&text, settings->title);
     add_text(&text, "\n */\n");
     for (size_t i = 0; i < settings->count; i++) {
-        const Symbol *setting = &settings->symbols[i];
-        bool is_switch = class_of(setting->kind) == TRISTATE || setting->kind == FLAG;
-        add_text(&text, "#define %s_", setting->kind == FLAG ? "ENABLE" : "CONFIG");
-        add(&text, setting->name);
-        add_text(&text, is_switch && is_text(setting->text, "m") ? "_MODULE " : " ");
-        if (is_switch)
-            add_text(&text, "1");
-        else if (setting->kind == STRING)
-            add_quoted(&text, setting->text);
-        else {
-            bool has_prefix = starts(setting->text, "0x") || starts(setting->text, "0X");
-            add_text(&text, setting->kind == HEX && !has_prefix ? "0x" : "");
-            add(&text, setting->text);
-        }
+        add_definition(&text, &settings->symbols[i]);
         add_text(&text, "\n");
     }
     return of_text(&text);
+}
+
+/* What conf wrote */
+
+/* Cuts off a beginning, if the text has it. */
+static bool cut(Bytes *text, const Text *front)
+{
+    if (text->length < front->length || memcmp(text->at, front->at, front->length))
+        return false;
+    *text = from(*text, front->length);
+    return true;
+}
+
+/* A heading: its lines up to the title, that, and its lines after it. */
+static bool cut_heading(Bytes *text, const char *before, Bytes title, const char *after)
+{
+    Text heading = {0};
+    add_text(&heading, "%s", before);
+    add(&heading, title);
+    add_text(&heading, "%s", after);
+    return cut(text, &heading);
+}
+
+/* Cuts off both headings, which have one title; that of the header may be the one of an older conf. */
+static bool cut_headings(Bytes *entries, Bytes *definitions, Bytes *title)
+{
+    static const char before[] = "#\n# Automatically generated file; DO NOT EDIT.\n# ";
+    if (!starts(*entries, before))
+        return false;
+    *title = from(*entries, sizeof before - 1);
+    *title = upto(*title, place_of(*title, '\n'));
+    return is_title(*title) && cut_heading(entries, before, *title, "\n#\n") &&
+           (cut_heading(definitions, "/*\n * Automatically generated file; DO NOT EDIT.\n * ", *title, "\n */\n") ||
+            cut_heading(definitions, "/*\n *\n * Automatically generated file; DO NOT EDIT.\n * ", *title, "\n *\n */\n"));
+}
+
+/* Whether conf has such a setting: a companion is a bool, and an int or hex may have no value. */
+static bool is_setting(const Symbol *setting)
+{
+    Bytes read, text = setting->text;
+    if (ends(setting->name, "_MODULE"))
+        return setting->kind == BOOL && setting->name.length > strlen("_MODULE") && is_text(text, "y");
+    if (setting->kind == STRING)
+        return is_command(text);
+    if ((setting->kind == INT || setting->kind == HEX) && text.length == 0)
+        return true;
+    return read_value(setting->kind, text, &read) && !is_off(setting->kind, text);
+}
+
+/* The first kind under which the definition is what is written of the value, or NO_KIND. */
+static Kind explaining_kind(Bytes name, Bytes value, Bytes definition)
+{
+    static const Kind in_order[] = {BOOL, TRISTATE, INT, HEX, STRING, RAW};
+    for (size_t i = 0; i < sizeof in_order / sizeof *in_order; i++) {
+        Symbol setting = {.name = name, .kind = in_order[i], .text = value};
+        Text text = {0};
+        add_definition(&text, &setting);
+        if (is_setting(&setting) && same(of_text(&text), definition))
+            return setting.kind;
+    }
+    return NO_KIND;
+}
+
+/* One line of auto.conf and that of the header. */
+static Fault read_pair(const Lines *entries, const Lines *definitions, Symbols *symbols)
+{
+    Bytes name, value;
+    if (!entries->is_ended || !split_statement(entries->line, &name, &value))
+        return fault("13 NotAnEntry line %" PRIu64, entries->number);
+    if (symbol_named(symbols, name))
+        return fault("18 Twice line %" PRIu64, entries->number);
+    Kind kind = definitions->is_ended ? explaining_kind(name, value, definitions->line) : NO_KIND;
+    if (kind == NO_KIND)
+        return fault("%s line %" PRIu64, ends(name, "_MODULE") ? "14 ModuleSymbol" : "15 Unexplained", entries->number);
+    declare(symbols, name, kind);
+    symbols->symbols[symbols->count - 1].text = value;
+    symbols->symbols[symbols->count - 1].is_set = true;
+    return none;
+}
+
+/* Of BusyBox's pair it knows that its headings are others. */
+static Fault read_written(Bytes auto_conf, Bytes header, Symbols *symbols)
+{
+    *symbols = (Symbols){.count = 0};
+    if (dialect == BUSYBOX || !cut_headings(&auto_conf, &header, &symbols->title))
+        return fault("12 BadHeading");
+    Lines entries = lines_of(auto_conf), definitions = lines_of(header);
+    entries.number = definitions.number = 4;
+    while (next_plain_line(&entries)) {
+        if (!next_plain_line(&definitions))
+            return fault("16 Undefined line %" PRIu64, entries.number);
+        Fault found = read_pair(&entries, &definitions, symbols);
+        if (refused(found))
+            return found;
+    }
+    return next_plain_line(&definitions) ? fault("17 Undeclared line %" PRIu64, definitions.number) : none;
 }
 
 static int by_bytes(const void *a, const void *b)
@@ -736,10 +837,29 @@ static bool differs(const Symbol *old, const Symbol *new)
     return is_other_kind || !same(old->text, new->text);
 }
 
-/* The names that differ, rising. */
+/* Whether there is one that differs from the other. */
+static bool is_change(const Symbol *old, const Symbol *new)
+{
+    return (old || new) && differs(old, new);
+}
+
+/* Adds the names whose companions are among these. A flag is no companion. */
+static size_t with_bases(const Old *old, const Symbols *settings, Bytes *names, size_t count)
+{
+    size_t own = count;
+    for (size_t i = 0; i < own; i++) {
+        const Symbol *was = symbol_named(&old->entries, names[i]), *is = symbol_named(settings, names[i]);
+        bool is_companion = (was && was->kind != FLAG) || (is && is->kind != FLAG);
+        if (is_companion && ends(names[i], "_MODULE") && names[i].length > strlen("_MODULE"))
+            names[count++] = upto(names[i], names[i].length - strlen("_MODULE"));
+    }
+    return count;
+}
+
+/* The names that differ, or whose companions do: rising, each once. */
 static size_t changes(const Old *old, const Symbols *settings, Bytes **names)
 {
-    *names = keep((old->entries.count + settings->count + 1) * sizeof **names);
+    *names = keep((2 * (old->entries.count + settings->count) + 1) * sizeof **names);
     size_t count = 0;
     for (size_t i = 0; i < old->entries.count; i++) {
         const Symbol *entry = &old->entries.symbols[i];
@@ -749,8 +869,13 @@ static size_t changes(const Old *old, const Symbols *settings, Bytes **names)
     for (size_t i = 0; i < settings->count; i++)
         if (!symbol_named(&old->entries, settings->symbols[i].name))
             (*names)[count++] = settings->symbols[i].name;
+    count = with_bases(old, settings, *names, count);
     qsort(*names, count, sizeof **names, by_bytes);
-    return count;
+    size_t once = 0;
+    for (size_t i = 0; i < count; i++)
+        if (i == 0 || !same((*names)[i], (*names)[once - 1]))
+            (*names)[once++] = (*names)[i];
+    return once;
 }
 
 /* The scan, dependency files, command files */
@@ -1234,12 +1359,15 @@ typedef struct {
     Symbols settings;
 } Plan;
 
-static Fault plan_of(Bytes kconfig, Bytes dotconfig, Plan *plan)
+/* The settings of a Kconfig and a .config, or of what conf wrote. */
+static Fault plan_of(const Bytes *texts, bool is_written, Plan *plan)
 {
     Symbols symbols;
-    Fault found = read_kconfig(kconfig, &symbols);
-    if (!refused(found))
-        found = read_dotconfig(dotconfig, &symbols, &plan->unknown, &plan->unknown_lines);
+    Fault found = is_written ? read_written(texts[0], texts[1], &symbols) : read_kconfig(texts[0], &symbols);
+    plan->unknown = 0;
+    plan->unknown_lines = (Text){0};
+    if (!refused(found) && !is_written)
+        found = read_dotconfig(texts[1], &symbols, &plan->unknown, &plan->unknown_lines);
     if (!refused(found))
         plan->settings = settings_of(&symbols);
     return found;
@@ -1254,10 +1382,10 @@ static Fault plan_over(const Old *old, Plan *plan)
     return none;
 }
 
-static Fault synchronise(Tree *tree, Bytes kconfig, Bytes dotconfig, Plan *plan)
+static Fault synchronise(Tree *tree, const Bytes *texts, bool is_written, Plan *plan)
 {
     Old old;
-    Fault found = plan_of(kconfig, dotconfig, plan);
+    Fault found = plan_of(texts, is_written, plan);
     if (!refused(found))
         found = read_old(tree, &old);
     if (!refused(found))
@@ -1570,14 +1698,14 @@ static void add_touched(Text *output, const Plan *plan)
         add(output, joined("touch ", plan->touched[i], "\n"));
 }
 
-static Answer run_sync(Tree *tree, const Bytes *words)
+static Answer run_sync(Tree *tree, const Bytes *words, bool is_written)
 {
     Bytes texts[2];
     Plan plan;
     Text output = {0};
     Fault found = load_all(tree, words, 2, texts);
     if (!refused(found))
-        found = synchronise(tree, texts[0], texts[1], &plan);
+        found = synchronise(tree, texts, is_written, &plan);
     if (refused(found))
         return refusal(found);
     add_text(&output, "generation %" PRIu64 "\n", plan.generation);
@@ -1586,7 +1714,7 @@ static Answer run_sync(Tree *tree, const Bytes *words)
     return (Answer){0, of_text(&output), {NULL, 0}, false};
 }
 
-static Answer run_preview(const Tree *tree, const Bytes *words, size_t count)
+static Answer run_preview(const Tree *tree, const Bytes *words, size_t count, bool is_written)
 {
     Bytes texts[3];
     Plan plan;
@@ -1594,7 +1722,7 @@ static Answer run_preview(const Tree *tree, const Bytes *words, size_t count)
     Text output = {0};
     Fault found = load_all(tree, words, count, texts);
     if (!refused(found))
-        found = plan_of(texts[0], texts[1], &plan);
+        found = plan_of(texts, is_written, &plan);
     if (!refused(found) && count == 3)
         found = read_auto(texts[2], &old);
     if (!refused(found))
@@ -1717,6 +1845,7 @@ static Answer run_impact(const Tree *tree, Bytes *words, size_t count)
     Plan plan;
     Names targets = {0};
     size_t stale;
+    bool is_written = take_option(words, &count, "--written", NULL);
     bool is_json = take_option(words, &count, "--json", NULL);
     bool has_file = take_option(words, &count, "--from", &path);
     if (count < 2)
@@ -1724,7 +1853,7 @@ static Answer run_impact(const Tree *tree, Bytes *words, size_t count)
     Tree after = copy_of_tree(tree);
     Fault found = load_all(tree, words, 2, texts);
     if (!refused(found))
-        found = synchronise(&after, texts[0], texts[1], &plan);
+        found = synchronise(&after, texts, is_written, &plan);
     if (!refused(found))
         found = targets_of(tree, words + 2, count - 2, has_file ? &path : NULL, &targets);
     if (refused(found))
@@ -1898,6 +2027,7 @@ static Answer run_diff(const Tree *tree, Bytes *words, size_t count)
     Plan plan;
     Old old;
     Text output = {0};
+    bool is_written = take_option(words, &count, "--written", NULL);
     bool is_quiet = take_option(words, &count, "--quiet", NULL);
     bool has_status = take_option(words, &count, "--exit-code", NULL) || is_quiet;
     if (count != 2)
@@ -1905,14 +2035,16 @@ static Answer run_diff(const Tree *tree, Bytes *words, size_t count)
     Tree after = copy_of_tree(tree);
     Fault found = load_all(tree, words, 2, texts);
     if (!refused(found))
-        found = synchronise(&after, texts[0], texts[1], &plan);
+        found = synchronise(&after, texts, is_written, &plan);
     if (!refused(found))
         found = read_old(tree, &old);
     if (refused(found))
         return refusal(found);
     for (size_t i = 0; i < plan.count && !is_quiet; i++) {
         Bytes name = plan.touched[i];
-        add_difference(&output, name, symbol_named(&old.entries, name), symbol_named(&plan.settings, name));
+        const Symbol *was = symbol_named(&old.entries, name), *is = symbol_named(&plan.settings, name);
+        if (is_change(was, is))
+            add_difference(&output, name, was, is);
     }
     Text no_lines = {0};
     return (Answer){has_status && plan.count > 0, of_text(&output), of_text(is_quiet ? &no_lines : &plan.unknown_lines), false};
@@ -1994,7 +2126,7 @@ static void run_step(Tree *tree, const Step *step, const Bytes *texts, Text *out
             add_text(output, " generation %" PRIu64 " names %zu\n", generation, names);
         }
     } else {
-        found = synchronise(tree, texts[0], texts[1], &plan);
+        found = synchronise(tree, texts, false, &plan);
         if (!refused(found))
             add_text(output, "sync generation %" PRIu64 " touched %zu unknown %" PRIu64 "\n", plan.generation, plan.count, plan.unknown);
     }
@@ -2033,10 +2165,12 @@ static Answer run_batch(Tree *tree, Bytes script)
 
 static Answer run_command(Tree *tree, Bytes *words, size_t count)
 {
+    bool is_preview = is_text(words[0], "preview");
+    bool is_written = (is_preview || is_text(words[0], "sync")) && take_option(words, &count, "--written", NULL);
     if (is_text(words[0], "sync") && count == 3)
-        return run_sync(tree, words + 1);
-    if (is_text(words[0], "preview") && (count == 3 || count == 4))
-        return run_preview(tree, words + 1, count - 1);
+        return run_sync(tree, words + 1, is_written);
+    if (is_preview && (count == 3 || count == 4))
+        return run_preview(tree, words + 1, count - 1, is_written);
     if (is_text(words[0], "fixdep") && count == 4)
         return run_fixdep(tree, words + 1);
     if (is_text(words[0], "record") && count == 4)

@@ -7,8 +7,6 @@ case $0 in
 *) here=$(cd "$(dirname "$0")" && pwd) ;;
 esac
 auto=include/config/auto.conf
-bare=include/config/Kconfig.bare
-kinds=include/config/Kconfig.kinds
 synced_config=include/config/confstamp.config
 generation_file=include/config/confstamp.generation
 records=include/config/confstamp.records
@@ -128,16 +126,21 @@ recorded() {
     done < "$tmpdir/objects" >> "$tmpdir/targets"
 }
 
-# kconfigs: the Kconfig files that the project's tool has read, where they stand. Kbuild takes no path with a blank. Whoever
-# isn't called by make has a link `source` in a build directory of its own, and in one of BusyBox its makefile; a file there comes
-# before the one of the sources.
-kconfigs() {
+# find_sources: where the sources are, in `sources`. Whoever isn't called by make has a link `source` in a build directory of its
+# own, and in one of BusyBox its makefile.
+find_sources() {
     sources=${srctree:-.}
     if [ "$dialect" = busybox ]; then
         [ -e "$sources/Config.in" ] || sources=$(sed -n 's/^KERNELSRC *:= *//p' Makefile)
     else
         [ -e "$sources/Kconfig" ] || [ ! -e source/Kconfig ] || sources=source
     fi
+}
+
+# kconfigs: the Kconfig files that the project's tool has read, where they stand. Kbuild takes no path with a blank. A file here comes
+# before the one of the sources.
+kconfigs() {
+    find_sources
     awk -v sources="$sources" '
         /^deps_config := / { inside = 1; next }
         !inside { next }
@@ -148,10 +151,59 @@ kconfigs() {
     ' "$read_kconfigs"
 }
 
-# bare_of_config: the bare Kconfig of .config as it is now.
-bare_of_config() {
-    # shellcheck disable=SC2046 # the list is words, and Kbuild takes no path with a blank
-    "$here/../tools/bare-kconfig" ${dialect:+--dialect "$dialect"} "$config" $(kconfigs) || [ "$?" = 1 ]
+# ask_conf: runs the project's own conf on a copy of .config as it is now; a symbol that is new gets its default. It runs in a directory
+# of its own, where links stand for the files that are here, so nothing is written here. `asked` are the three files that it wrote: its
+# .config, and the two that `confstamp --written` takes. The environment is the one that conf had from make. Status 1: it failed,
+# as $tmpdir/messages says.
+ask_conf() {
+    here_now=$(pwd -P)
+    aside=$tmpdir/conf
+    mkdir "$aside"
+    ln -s "$here_now"/* "$aside"
+    rm -f "$aside/include"
+    mkdir -p "$aside/include/config" "$aside/include/generated"
+    cp "$config" "$aside/.config" 2> "$tmpdir/messages" || return 1
+    find_sources
+    (
+        cd "$aside"
+        while IFS= read -r line; do
+            [ -z "$line" ] || export "$line"
+        done << END
+$(sed -n 's/^ifneq "\$(\([A-Za-z_][A-Za-z0-9_]*\))" "\(.*\)"$/\1=\2/p' "$here_now/$read_kconfigs")
+END
+        case $sources in
+        /*) srctree=$sources ;;
+        *) srctree=$here_now/$sources ;;
+        esac
+        KCONFIG_CONFIG=.config
+        KCONFIG_AUTOCONFIG=$auto
+        KCONFIG_AUTOHEADER=include/generated/autoconf.h
+        KCONFIG_RUSTCCFG=include/generated/rustc_cfg
+        export srctree KCONFIG_CONFIG KCONFIG_AUTOCONFIG KCONFIG_AUTOHEADER KCONFIG_RUSTCCFG
+        run_conf
+    ) > "$tmpdir/messages" 2>&1 < /dev/null || return 1
+    case $dialect in
+    busybox) set -- .config include/autoconf.h ;;
+    *) set -- "$auto" include/generated/autoconf.h ;;
+    esac
+    asked_config=$aside/.config
+    asked_first=$aside/$1
+    asked_second=$aside/$2
+}
+
+# An auto.conf that says what .config says gives conf no stamp to make.
+run_conf() {
+    conf=scripts/kconfig/conf
+    [ -x "$conf" ] || conf=tools/kconfig/conf
+    [ -x "$conf" ] || { echo 'there is no scripts/kconfig/conf: make syncconfig builds it' && return 1; }
+    case $dialect in
+    busybox)
+        KERNELVERSION=$(sed -n 's/^ \* Busybox version: //p' "$here_now/include/autoconf.h")
+        export KERNELVERSION
+        yes '' | "./$conf" -o Config.in
+        ;;
+    *) "./$conf" --olddefconfig Kconfig && cp .config "$auto" && "./$conf" --syncconfig Kconfig ;;
+    esac
 }
 
 # declared: the names that the project's Kconfig files declare, in order, each once. Of a file that can't be read nobody knows them.
@@ -163,16 +215,6 @@ declared() {
 # can_tell_declared: is it known here which names are declared?
 can_tell_declared() {
     [ -e "$read_kconfigs" ] && declared > "$tmpdir/declared" 2> "$tmpdir/messages" && [ -s "$tmpdir/declared" ]
-}
-
-# undeclared KCONFIG: the names of .config that it doesn't declare.
-undeclared() {
-    awk '
-        NR == FNR { if ($1 == "config") declared[$2]; next }
-        /^CONFIG_/ { name = substr($0, 8, index($0, "=") - 8) }
-        /^# CONFIG_.* is not set$/ { name = substr($0, 10, length($0) - 20) }
-        name != "" { if (!(name in declared)) print name; name = "" }
-    ' "$1" "$config"
 }
 
 # Did the hooks make the last synchronisation? Linux's own tool writes auto.conf.cmd first, without the mark, and then
@@ -366,11 +408,13 @@ difference_of_config() {
         echo 'there is none'
     elif ! grep -qsxFf "$generation_file" "$auto" || ! cmp -s "$config" "$synced_config"; then
         {
-            bare_of_config > "$tmpdir/bare" 2> "$tmpdir/messages" || cat "$tmpdir/messages"
-            "$confstamp" ${dialect:+--dialect "$dialect"} diff "$tmpdir/bare" "$config" 2>&1 || echo "confstamp diff ended with $?"
+            if ask_conf; then
+                "$confstamp" ${dialect:+--dialect "$dialect"} diff --written "$asked_first" "$asked_second" 2>&1 ||
+                    echo "confstamp diff ended with $?"
+            else
+                echo "conf can't read it: $(tail -n 1 "$tmpdir/messages")"
+            fi
         } | awk '
-            / warning: / { next }
-            $1 == "unknown" { $0 = $2 " is new" }
             { if (!count++) first = substr($0, 1, 120) }
             END { if (count) print first (count > 1 ? ", and " count - 1 " more" : "") }
         '
@@ -420,7 +464,7 @@ builds_of_targets() {
     sources=${srctree:-.}
     [ -e "$sources/Makefile" ] && [ ! -e source/Makefile ] || sources=source
     makefiles_of_targets > "$tmpdir/makefiles"
-    awk -v makefiles="$tmpdir/makefiles" -v synchronised="$auto" -v wanted="$config" '
+    awk -v makefiles="$tmpdir/makefiles" -v synchronised="$auto" -v wanted="$asked_config" '
         function read_values(time, file,    line, name) {
             while ((getline line < file) > 0) {
                 if (line !~ /^CONFIG_[A-Za-z0-9_]+=[ym]$/) continue

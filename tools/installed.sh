@@ -15,7 +15,6 @@ ninja/confstamp-sync bin/confstamp-sync
 ninja/confstamp.cmake lib/confstamp/ninja/confstamp.cmake
 kbuild/confstamp-kbuild bin/confstamp-kbuild
 make/confstamp.mk lib/confstamp/make/confstamp.mk
-tools/bare-kconfig lib/confstamp/tools/bare-kconfig
 $made/bash share/bash-completion/completions/confstamp
 $made/zsh share/zsh/site-functions/_confstamp
 $made/fish share/fish/vendor_completions.d/confstamp.fish

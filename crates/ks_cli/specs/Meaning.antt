@@ -37,25 +37,25 @@ abbrev pub IsBothReported : WordsError → Type 0
 IsBothReported (Refused help) = (is_help help.kind ≡ false) × (string_bytes help.text ≡ both_text) × (is_visible (string_bytes help.text) ≡ true)
 IsBothReported OutOfMemory = ⊤
 
--- What a command and its arguments are told in place of a request: `explain` a page, and `sync` that two options exclude each other.
-abbrev pub IsTold : Text → List Row → HelpText → Type 0
-IsTold name rows help = ((name ≡ codes "explain") × IsPageOf (arg_at (codes "NUMBER") rows) help)
+-- What a command and its arguments get in place of a request: `explain` a page, and `sync` that two options exclude each other.
+abbrev pub IsReportedInstead : Text → List Row → HelpText → Type 0
+IsReportedInstead name rows help = ((name ≡ codes "explain") × IsPageOf (arg_at (codes "NUMBER") rows) help)
     ⊎ ((name ≡ codes "sync") × (asks_both rows ≡ true) × (is_help help.kind ≡ false) × (string_bytes help.text ≡ both_text))
 
 abbrev pub IsPageNamed : Text → List Row → WordsError → Type 0
-IsPageNamed name rows (Refused help) = IsTold name rows help
+IsPageNamed name rows (Refused help) = IsReportedInstead name rows help
 IsPageNamed name rows OutOfMemory = ⊤
 
--- The arguments are told so: they ask `explain` about an error, or `sync` for both.
+-- The arguments get such a text: they ask `explain` about an error, or `sync` for both.
 abbrev pub IsPageFor : List Text → HelpText → Type 0
-IsPageFor args help = IsSomeAnd (subcommand_of command_line_app args) (λ command. IsTold command.0 command.1 help)
+IsPageFor args help = IsSomeAnd (subcommand_of command_line_app args) (λ command. IsReportedInstead command.0 command.1 help)
 
--- Why arguments that `clap` accepts make no request: they are told so, or memory was refused.
+-- Why arguments that `clap` accepts make no request: they get such a text, or memory was refused.
 abbrev pub IsTakenAs : List Text → WordsError → Type 0
 IsTakenAs args (Refused help) = IsPageFor args help
 IsTakenAs args OutOfMemory = ⊤
 
--- Why any arguments make none: it is of a kind that these arguments have, or they are told so.
+-- Why any arguments make none: it is of a kind that these arguments have, or they get such a text.
 abbrev pub IsReason : List Text → WordsError → Type 0
 IsReason args (Refused help) = IsAmong help.kind (fault_of command_line_app args) ⊎ IsPageFor args help
 IsReason args OutOfMemory = ⊤

@@ -282,7 +282,7 @@ fn page_asked(alloc: Global, matches: &ArgMatches<'_>) -> WordsError
     }
 }
 
-/// What `sync` says of two options that exclude each other, unless memory is refused. `clap` isn't told that they do: whatever
+/// What `sync` says of two options that exclude each other, unless memory is refused. `clap` doesn't know that they do: whatever
 /// it takes is then a request, or is answered here.
 fn both_asked(alloc: Global) -> WordsError
     ensures { IsBothReported result }

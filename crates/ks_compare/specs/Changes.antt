@@ -37,7 +37,7 @@ entry_differs old new x = differ (map.get old x) (option_map compared (map.get n
 abbrev pub companion_differs : Texts → Configuration → List ℕ → Bool
 companion_differs old new x = differ (as_companion (map.get old x)) (as_companion (option_map compared (map.get new x)))
 
--- Whether a name's entry differs, by `differ`, or its companion's
+-- Whether a name's entry differs, or its companion's
 unfoldable pub differs : Texts → Configuration → List ℕ → Bool
 differs old new x = entry_differs old new x || (not (length x == 0) && companion_differs old new (x ++ module_end))
 

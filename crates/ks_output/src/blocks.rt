@@ -8,7 +8,6 @@ ghost use Rattle.std.specs.List.{list_all};
 ghost use Rattle.bstr.specs.Text.{lines_of};
 ghost use Rattle.ks_symbols.specs.Names.{is_name};
 ghost use Rattle.ks_symbols.specs.Kinds.{is_string_byte};
-ghost use Rattle.ks_symbols.specs.Titles.{ends_comment};
 ghost use Rattle.ks_symbols.specs.Statements.{seen_statement, name_of};
 ghost use Rattle.ks_output.specs.SeenNames.{is_in};
 ghost use Rattle.ks_output.specs.Blocks.{after_time, behind, block_title, blocks_written, config_body, enabling, explained_block, explains_block, first_walk, header_body, header_front, is_between, is_menu_line, is_time_byte, missing, off_block, on_block, said, stated, titled, value_line, valued, walk_at, with_line, with_lines};
@@ -21,7 +20,7 @@ use crate::seen_names::SeenNames;
 use crate::written::{Written, WrittenError, first_line, is_on, rest_from};
 use bstr::ByteSlice;
 use ks_symbols::{
-    Draft, Kind, MAX_BYTES, Seed, SettingsBuilder, Statement, Table, fits, is_title,
+    Draft, Kind, MAX_BYTES, Seed, SettingsBuilder, Statement, Table, ends_comment, fits, is_title,
     parse_statement, value_is_valid,
 };
 use std::alloc::{AllocError, Global};
@@ -266,20 +265,6 @@ fn said(line: &[u8]) -> Option<Statement<'_>>
         return None;
     }
     parse_statement(&line[..line.len() - 1])
-}
-
-/// Whether the end of a C comment stands in a text.
-fn ends_comment(text: &[u8]) -> bool
-    ensures { result ≡ ends_comment text.now }
-{
-    let mut rest = text;
-    while !rest.is_empty() {
-        if rest.starts_with(b"*/") {
-            return true;
-        }
-        rest = &rest[1..];
-    }
-    false
 }
 
 /// Whether the bytes can stand in a string.

@@ -44,4 +44,4 @@ pub use settings::{Entries, Settings, SettingsBuilder};
 pub use statements::{Statement, entry_ahead, is_comment_or_blank, parse_statement, split_word};
 pub use symbols::Symbols;
 pub use table::{Draft, Rows, Table};
-pub use titles::is_title;
+pub use titles::{ends_comment, is_title};

@@ -10,7 +10,7 @@ ghost use Rattle.ks_symbols.specs.Titles.{is_title_byte, ends_comment, is_title}
 const MAX_TITLE: usize = 256;
 
 /// Whether the end of a C comment stands in the bytes.
-fn ends_comment(text: &[u8]) -> bool
+pub fn ends_comment(text: &[u8]) -> bool
     ensures { result ≡ ends_comment text.now }
 {
     let mut rest = text;

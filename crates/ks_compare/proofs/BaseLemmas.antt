@@ -1,5 +1,5 @@
 -- The names that others are about, as the names of a table.
-use Rattle.ks_compare.proofs.Prelude.{differs, compared, option_map, arith, common_steps, ◌≡◌, ℕ, Bool, true, false, List, [], ◌∷◌, ◌++◌, Option, Some, None, bytes_eq, bytes_decides, refl, sym, ap, ap₂, subst, ◌∙◌, cases_Bool, inl, inr, and_parts, T, IsTrue, is_in, is_eq, order, is_eq-slice_cmp, is_sorted, find, first, second, tied, AllByRecursion, AllEntries, IsStrictlySortedBy, Less, nat_list_cmp_total, ends_so, joined, less-module, AreLegal, AreChanges, AreChangedEntries, Noted, base_of, with_base, with_name, Texts, Configuration, AreWithBases, with_names, with_bases, filter, Class, changed_companions, companion_differs, as_companion, differ, entry_differs}
+use Rattle.ks_compare.proofs.Prelude.{differs, compared, option_map, arith, common_steps, ◌≡◌, ℕ, Bool, true, false, List, [], ◌∷◌, ◌++◌, Option, Some, None, bytes_eq, bytes_decides, refl, sym, ap, ap₂, subst, ◌∙◌, cases_Bool, inl, inr, and_parts, T, IsTrue, is_in, is_eq, order, is_eq-slice_cmp, is_sorted, find, first, second, tied, AllByRecursion, AllEntries, IsStrictlySortedBy, Less, nat_list_cmp_total, ends_so, joined, less-module, AreLegal, AreChanges, AreChangedEntries, Noted, base_of, AreNoted, is_base_of, Texts, Configuration, AreWithBases, filter, Class, changed_companions, companion_differs, as_companion, differ, entry_differs}
 use Rattle.ks_symbols.proofs.Prelude.{is_name, is_word_byte, list_all-append, not, length, length-append, cond-true, cond-false, and_from, not-true, module_end, ends_with, nat_eq, eqb-false, lt-ltb, ltb-true, ne_eqb}
 use Rattle.std.specs.Prelude.{◌==◌, ◌&&◌, ◌||◌, ◌-◌, ◌<◌, nat_lt, take, is_some}
 use Rattle.std.specs.FinMap as map
@@ -51,7 +51,10 @@ base_hits n x = same_by _ _
     let is = (bytes_decides (x ++ module_end) n).0 parts.1 in
     ap (λ m. base_is (base_of m) x) (sym is) ∙ ap (λ o. base_is o x) (base_back x (not-true _ parts.0)) ∙ (bytes_decides x x).1 refl)
 
--- the table of all
+-- a table with a name more
+abbrev pub with_name : Noted → List ℕ → Noted
+with_name m n = map.insert m n (tt, [])
+
 entered : (m : Noted) (n x : List ℕ) → map.contains_key (with_name m n) x ≡ (bytes_eq x n || map.contains_key m x)
 entered m n x =
     let got = map.get-insert nat_list_cmp_total m n (tt, []) x in
@@ -61,36 +64,51 @@ entered m n x =
       | inr other ↦ grind (arith, common_steps, got, other, same)
     ]
 
-based : (m : Noted) (o : Option (List ℕ)) (x : List ℕ) → map.contains_key (with_base m o) x ≡ (base_is o x || map.contains_key m x)
-based m None x = refl
-based m (Some b) x = entered m b x
+turned : (c e : Bool) → (e || c) ≡ (c || (e || false))
+turned c e = grind arith
 
-regroup : (c e i : Bool) → ((e || c) || i) ≡ (c || (e || i))
-regroup c e i = grind arith
-
-nothing : (c : Bool) → c ≡ (c || false)
-nothing c = grind arith
-
-all_named : (m : Noted) (ns : List (List ℕ)) (x : List ℕ) → map.contains_key (with_names m ns) x ≡ (map.contains_key m x || is_in ns x)
-unfolding with_names
-all_named m [] x = nothing (map.contains_key m x)
-all_named m (n ∷ ns) x =
-    all_named (with_name m n) ns x ∙ ap (λ a. a || is_in ns x) (entered m n x) ∙ regroup (map.contains_key m x) (bytes_eq x n) (is_in ns x)
+turned_long : (c z f : Bool) → ((z && f) || c) ≡ (c || (z && (f || false)))
+turned_long c z f = grind arith
 
 no_more : (c z : Bool) → c ≡ (c || (z && false))
 no_more c z = grind arith
 
-one_more : (c z f j : Bool) → (((z && f) || c) || (z && j)) ≡ (c || (z && (f || j)))
-one_more c z f j = grind arith
+one_noted : (m : Noted) (n : List ℕ) → AreNoted m (is_in (n ∷ [])) (with_name m n)
+one_noted m n x = entered m n x ∙ turned (map.contains_key m x) (bytes_eq x n)
 
-all_based : (m : Noted) (ns : List (List ℕ)) (x : List ℕ)
-    → map.contains_key (with_bases m ns) x ≡ (map.contains_key m x || (not (length x == 0) && is_in ns (x ++ module_end)))
-unfolding with_bases
-all_based m [] x = no_more (map.contains_key m x) (not (length x == 0))
-all_based m (n ∷ ns) x =
-    all_based (with_base m (base_of n)) ns x
-    ∙ ap (λ a. a || (not (length x == 0) && is_in ns (x ++ module_end))) (based m (base_of n) x ∙ ap (λ b. b || map.contains_key m x) (base_hits n x))
-    ∙ one_more (map.contains_key m x) (not (length x == 0)) (bytes_eq (x ++ module_end) n) (is_in ns (x ++ module_end))
+pub base_noted : (m later : Noted) (n b : List ℕ) → base_of n ≡ Some b → later ≡ with_name m b → AreNoted m (is_base_of (n ∷ [])) later
+base_noted m later n b e is x =
+    ap (λ (t : Noted). map.contains_key t x) is ∙ entered m b x
+    ∙ ap (λ f. f || map.contains_key m x) (ap (λ o. base_is o x) (sym e) ∙ base_hits n x)
+    ∙ turned_long (map.contains_key m x) (not (length x == 0)) (bytes_eq (x ++ module_end) n)
+
+pub no_base_noted : (m : Noted) (n : List ℕ) → base_of n ≡ None → AreNoted m (is_base_of (n ∷ [])) m
+no_base_noted m n e x =
+    ap (λ f. f || map.contains_key m x) (ap (λ o. base_is o x) (sym e) ∙ base_hits n x)
+    ∙ turned_long (map.contains_key m x) (not (length x == 0)) (bytes_eq (x ++ module_end) n)
+
+-- What is left to be noted, noted too, comes to all.
+abbrev pub AreLeft : Noted → Noted → (List ℕ → Bool) → (List ℕ → Bool) → Type 0
+AreLeft first now left all = (x : List ℕ) → (map.contains_key now x || left x) ≡ (map.contains_key first x || all x)
+
+regroup : (c e i : Bool) → ((c || (e || false)) || i) ≡ (c || (e || i))
+regroup c e i = grind arith
+
+regroup_long : (c z f j : Bool) → ((c || (z && (f || false))) || (z && j)) ≡ (c || (z && (f || j)))
+regroup_long c z f j = grind arith
+
+pub name_left : (first m later : Noted) (n : List ℕ) (left ns : List (List ℕ)) (all : List ℕ → Bool) → left ≡ n ∷ ns → later ≡ with_name m n
+    → AreLeft first m (is_in left) all → AreLeft first later (is_in ns) all
+name_left first m later n left ns all cut is are x =
+    ap (λ (t : Noted). map.contains_key t x || is_in ns x) is ∙ ap (λ c. c || is_in ns x) (one_noted m n x)
+    ∙ regroup (map.contains_key m x) (bytes_eq x n) (is_in ns x) ∙ ap (λ l. map.contains_key m x || is_in l x) (sym cut) ∙ are x
+
+pub base_left : (first m later : Noted) (n : List ℕ) (left ns : List (List ℕ)) (all : List ℕ → Bool) → left ≡ n ∷ ns → AreNoted m (is_base_of (n ∷ [])) later
+    → AreLeft first m (is_base_of left) all → AreLeft first later (is_base_of ns) all
+base_left first m later n left ns all cut noted are x =
+    ap (λ c. c || is_base_of ns x) (noted x)
+    ∙ regroup_long (map.contains_key m x) (not (length x == 0)) (bytes_eq (x ++ module_end) n) (is_in ns (x ++ module_end))
+    ∙ ap (λ l. map.contains_key m x || is_base_of l x) (sym cut) ∙ are x
 
 -- the names of a table
 names_above : {X : Type 0} (z : List ℕ) (es : List (List ℕ × X)) → AllEntries (λ n _. order z n ≡ Less) es → AllByRecursion (λ n. order z n ≡ Less) (map_list (λ e. e.0) es)
@@ -112,23 +130,64 @@ in_names (e ∷ es) x =
       | inr other ↦ grind (arith, common_steps, again, other, same)
     ]
 
-abbrev pub none : Noted
-none = map.empty
+pub with_bases_by : (names companions all : List (List ℕ)) (before middle table : Noted) → before ≡ map.empty → AreNoted before (is_in names) middle
+    → AreNoted middle (is_base_of companions) table → all ≡ map_list (λ e. e.0) (map.entries table) → AreWithBases names companions all
+with_bases_by names companions all before middle table empty front is listed = record {
+  rising = subst (IsStrictlySortedBy order) (sym listed) (rising_names (map.entries table) (map.entries_sorted table));
+  each = λ x. ap (λ l. is_in l x) listed ∙ in_names (map.entries table) x ∙ ap is_some (sym (map.get-entries table x)) ∙ is x
+      ∙ ap (λ c. c || is_base_of companions x) (front x ∙ ap (λ (t : Noted). map.contains_key t x || is_in names x) empty ∙ ap (λ o. is_some o || is_in names x) (map.get-empty order x));
+}
 
-pub are_with_bases : (names companions : List (List ℕ)) → AreWithBases names companions (map_list (λ e. e.0) (map.entries (with_bases (with_names none names) companions)))
+-- there are such names
+with_all : Noted → List (List ℕ) → Noted
+with_all m [] = m
+with_all m (n ∷ ns) = with_all (with_name m n) ns
+
+nothing : (c : Bool) → c ≡ (c || false)
+nothing c = grind arith
+
+turn : (c e i : Bool) → ((e || c) || i) ≡ (c || (e || i))
+turn c e i = grind arith
+
+all_named : (m : Noted) (ns : List (List ℕ)) → AreNoted m (is_in ns) (with_all m ns)
+unfolding with_all
+all_named m [] x = nothing (map.contains_key m x)
+all_named m (n ∷ ns) x =
+    all_named (with_name m n) ns x ∙ ap (λ a. a || is_in ns x) (entered m n x) ∙ turn (map.contains_key m x) (bytes_eq x n) (is_in ns x)
+
+one_base : (z f j : Bool) → ((z && f) || (z && j)) ≡ (z && (f || j))
+one_base z f j = grind arith
+
+no_base : (z : Bool) → false ≡ (z && false)
+no_base z = grind arith
+
+more_bases : (n : List ℕ) (ns bases : List (List ℕ)) (o : Option (List ℕ)) → base_of n ≡ o → ((x : List ℕ) → is_in bases x ≡ is_base_of ns x)
+    → (all : List (List ℕ)) × ((x : List ℕ) → is_in all x ≡ is_base_of (n ∷ ns) x)
+more_bases n ns bases None e are = (
+  bases,
+  λ x.
+      ap (λ f. f || is_in bases x) (ap (λ o. base_is o x) (sym e) ∙ base_hits n x) ∙ ap (λ j. is_companion_of n x || j) (are x)
+      ∙ one_base (not (length x == 0)) (bytes_eq (x ++ module_end) n) (is_in ns (x ++ module_end)),
+)
+more_bases n ns bases (Some b) e are = (
+  b ∷ bases,
+  λ x.
+      ap (λ f. f || is_in bases x) (ap (λ o. base_is o x) (sym e) ∙ base_hits n x) ∙ ap (λ j. is_companion_of n x || j) (are x)
+      ∙ one_base (not (length x == 0)) (bytes_eq (x ++ module_end) n) (is_in ns (x ++ module_end)),
+)
+
+bases_of : (ns : List (List ℕ)) → (all : List (List ℕ)) × ((x : List ℕ) → is_in all x ≡ is_base_of ns x)
+bases_of [] = ([], λ x. no_base (not (length x == 0)))
+bases_of (n ∷ ns) = let rest = bases_of ns in more_bases n ns rest.0 (base_of n) refl rest.1
+
+pub are_with_bases : (names companions : List (List ℕ)) → (all : List (List ℕ)) × AreWithBases names companions all
 are_with_bases names companions =
-    let table = with_bases (with_names none names) companions in record {
-      rising = rising_names (map.entries table) (map.entries_sorted table);
-      each = λ x. in_names (map.entries table) x ∙ ap is_some (sym (map.get-entries table x)) ∙ all_based (with_names none names) companions x
-          ∙ ap (λ a. a || (not (length x == 0) && is_in companions (x ++ module_end)))
-          (all_named none names x ∙ ap (λ o. is_some o || is_in names x) (map.get-empty order x));
-    }
-
-pub with_bases_by : (names companions all : List (List ℕ)) (before middle table : Noted) → before ≡ map.empty → middle ≡ with_names before names
-    → table ≡ with_bases middle companions → all ≡ map_list (λ e. e.0) (map.entries table) → AreWithBases names companions all
-with_bases_by names companions all before middle table empty front is listed =
-    let whole = is ∙ ap (λ (t : Noted). with_bases t companions) (front ∙ ap (λ (t : Noted). with_names t names) empty) in
-    subst (AreWithBases names companions) (sym (listed ∙ ap (λ (t : Noted). map_list (λ e. e.0) (map.entries t)) whole)) (are_with_bases names companions)
+    let bases = bases_of companions in
+    let named = with_all map.empty names in (
+      _,
+      with_bases_by names companions _ map.empty named (with_all named bases.0) refl (all_named map.empty names)
+          (λ x. all_named named bases.0 x ∙ ap (λ f. map.contains_key named x || f) (bases.1 x)) refl,
+    )
 
 -- the changed companions among the changed names
 and_none : (a : Bool) → false ≡ (a && false)

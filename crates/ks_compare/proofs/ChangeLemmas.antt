@@ -10,7 +10,8 @@ use Rattle.ks_compare.proofs.BaseLemmas.{are_with_bases, base_back, changes_by, 
 pub changes_exist : ChangesExist
 changes_exist old new =
     let entries = merged_entries (λ e. e) (λ y. y) old new (map.entries old) (map.entries new) (map-id _) (map-id _) in
-    (_, changes_by old new _ _ _ entries refl (are_with_bases _ _))
+    let all = are_with_bases _ _ in
+    (all.0, changes_by old new _ _ _ entries refl all.1)
 
 -- a name below all of a list is not in it
 not_in : (x : List ℕ) (names : List (List ℕ)) → Above x names → is_in names x ≡ false

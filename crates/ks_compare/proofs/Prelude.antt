@@ -9,8 +9,7 @@ pub use Rattle.ks_output.proofs.Texts.{name_of_symbol, texts_are_of_entries}
 pub use Rattle.ks_symbols.proofs.LastOnes.{is_less, two}
 pub use Rattle.ks_symbols.specs.declared.kinds.Class.{Class}
 pub use Rattle.ks_symbols.specs.declared.kinds.Kind.{Kind}
-pub use Rattle.ks_compare.specs.Bases.{AreChangedEntries, AreLegal, AreWithBases, Noted, base_of, changed_companions, with_base, with_name}
-unfoldable pub use Rattle.ks_compare.specs.Bases.{with_bases, with_names}
+pub use Rattle.ks_compare.specs.Bases.{AreChangedEntries, AreLegal, AreNoted, AreWithBases, Noted, base_of, changed_companions, is_base_of}
 pub use Rattle.ks_compare.specs.Changes.{AreChanges, companion_differs, compared, differ, entry_differs, same_class}
 unfoldable pub use Rattle.ks_compare.specs.Changes.{differs}
 unfoldable pub use Rattle.ks_output.proofs.Prelude.{about}

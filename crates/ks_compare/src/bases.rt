@@ -2,10 +2,11 @@
 //!
 //! A companion has the macro of another name's module, and a source that has this macro waits for the stamp of that name. So
 //! it changes with its companion.
-ghost use Rattle.std.specs.Prelude.{◌≡◌, IfOk, OnOk, map as map_list, option_map};
+ghost use Rattle.std.specs.Prelude.{◌≡◌, ◌∷◌, [], IfOk, OnOk, map as map_list, option_map};
 ghost use Rattle.std.specs.FinMap as map;
+ghost use Rattle.ks_symbols.specs.Names.{is_in};
 ghost use Rattle.ks_output.specs.OldConfig.{as_companion};
-ghost use Rattle.ks_compare.specs.Bases.{AreLegal, AreWithBases, base_of, changed_companions, with_base, with_bases, with_name, with_names};
+ghost use Rattle.ks_compare.specs.Bases.{AreLegal, AreNoted, AreWithBases, base_of, changed_companions, is_base_of};
 ghost use Rattle.ks_compare.specs.Changes.{companion_differs, compared};
 ghost use Rattle.ks_compare.specs.Views.{seen_value};
 
@@ -76,10 +77,9 @@ pub(crate) fn changed_companions(
 }
 
 /// Notes the names.
-#[tactic(auto, unfolding(crate::specs::Bases::with_names))]
 fn note_names(names: &[Name], draft: &mut Draft<()>) -> Result<(), AllocError>
     requires { AreLegal draft.old }
-    ensures noted { OnOk result (draft.new ≡ with_names draft.old names.now) }
+    ensures noted { OnOk result (AreNoted draft.old (is_in names.now) draft.new) }
     ensures legal { OnOk result (AreLegal draft.new) }
 {
     for name in names {
@@ -91,7 +91,7 @@ fn note_names(names: &[Name], draft: &mut Draft<()>) -> Result<(), AllocError>
 /// Notes the name whose companion this one is.
 fn note_base(name: &Name, draft: &mut Draft<()>) -> Result<(), AllocError>
     requires { AreLegal draft.old }
-    ensures noted { OnOk result (draft.new ≡ with_base draft.old (base_of name.now)) }
+    ensures noted { OnOk result (AreNoted draft.old (is_base_of (name.now ∷ [])) draft.new) }
     ensures legal { OnOk result (AreLegal draft.new) }
 {
     let name = name.as_bytes();
@@ -102,10 +102,9 @@ fn note_base(name: &Name, draft: &mut Draft<()>) -> Result<(), AllocError>
 }
 
 /// Notes the names whose companions these are.
-#[tactic(auto, unfolding(crate::specs::Bases::with_bases))]
 fn note_bases(companions: &[Name], draft: &mut Draft<()>) -> Result<(), AllocError>
     requires { AreLegal draft.old }
-    ensures noted { OnOk result (draft.new ≡ with_bases draft.old companions.now) }
+    ensures noted { OnOk result (AreNoted draft.old (is_base_of companions.now) draft.new) }
     ensures legal { OnOk result (AreLegal draft.new) }
 {
     for name in companions {

@@ -131,7 +131,7 @@ pub const BAD_AUTO: Row = (
 pub const BAD_HEADING: Row = (
     "12",
     "BadHeading",
-    "the auto.conf and the header that conf wrote don't begin with conf's four lines and one title",
+    "conf's auto.conf (BusyBox: `.config`) and header don't begin with conf's first lines and one title",
     "`confstamp sync --written .config autoconf.h`",
     "pass conf's auto.conf first, and then its header",
 );
@@ -139,7 +139,7 @@ pub const BAD_HEADING: Row = (
 pub const NOT_AN_ENTRY: Row = (
     "13",
     "NotAnEntry",
-    "a line of the auto.conf that conf wrote gives no name a value, or doesn't end in a line feed",
+    "a line of conf's auto.conf (BusyBox: `.config`) gives no name a value, or doesn't end in a line feed",
     "`# CONFIG_A is not set`",
     "let conf write both files again",
 );
@@ -147,7 +147,7 @@ pub const NOT_AN_ENTRY: Row = (
 pub const MODULE_SYMBOL: Row = (
     "14",
     "ModuleSymbol",
-    "a name in the auto.conf that conf wrote ends in `_MODULE`, and its symbol is no bool `y`",
+    "a name in conf's auto.conf (BusyBox: `.config`) ends in `_MODULE`, and its symbol is no bool `y`",
     "`CONFIG_A_MODULE=m`",
     "rename the symbol, or synchronise with a Kconfig and `.config`",
 );
@@ -155,7 +155,7 @@ pub const MODULE_SYMBOL: Row = (
 pub const UNEXPLAINED: Row = (
     "15",
     "Unexplained",
-    "a line of the header that conf wrote defines something else than the line of that number in auto.conf says",
+    "a line of conf's header defines something else than that line of conf's auto.conf (BusyBox: `.config`) says",
     "`CONFIG_A=y` beside `#define CONFIG_A 2`",
     "let conf write both files again",
 );
@@ -163,7 +163,7 @@ pub const UNEXPLAINED: Row = (
 pub const UNDEFINED: Row = (
     "16",
     "Undefined",
-    "the header that conf wrote ends before this line of auto.conf",
+    "conf's header ends before this line of its auto.conf (BusyBox: `.config`)",
     "`CONFIG_A=y` beside no line",
     "let conf write both files again",
 );
@@ -171,7 +171,7 @@ pub const UNDEFINED: Row = (
 pub const UNDECLARED: Row = (
     "17",
     "Undeclared",
-    "the auto.conf that conf wrote ends before this line of the header",
+    "conf's auto.conf (BusyBox: `.config`) ends before this line of the header",
     "no line beside `#define CONFIG_A 1`",
     "let conf write both files again",
 );
@@ -179,7 +179,7 @@ pub const UNDECLARED: Row = (
 pub const TWICE: Row = (
     "18",
     "Twice",
-    "an earlier line of the auto.conf that conf wrote gives the name of this one",
+    "an earlier line of conf's auto.conf (BusyBox: `.config`) gives the name of this one",
     "`CONFIG_A=y`, `CONFIG_A=y`",
     "let conf write both files again",
 );

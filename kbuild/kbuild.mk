@@ -71,12 +71,14 @@ confstamp-syncconfig = $(if $(filter syncconfig silentoldconfig,$@),$(CONFSTAMP_
 	$(if $(confstamp-project),--project $(confstamp-project)) $(if $(findstring s,$(firstword -$(MAKEFLAGS))),--quiet))
 
 # BusyBox's .config has a fixed place. What a synchronisation writes last is its header, and make then splits that into stamps. This
-# empties confstamp.h, a header of no symbol, so a synchronisation without the hooks is seen by it. `make mrproper` removes the
-# header of confstamp as well.
+# empties confstamp.h, a header of no symbol, so a synchronisation without the hooks is seen by it. `make oldconfig` writes the header
+# as well, and so does a synchronisation that is killed: then the old .config may come back, so the header's text counts too.
+# `make mrproper` removes the header of confstamp as well.
 ifeq ($(confstamp-dialect),--dialect busybox)
 confstamp-config = .config
 confstamp-last-file = include/autoconf.h
 confstamp-ours = include/config/confstamp.h
+confstamp-header = include/config/confstamp.header
 override cmd_split_autoconf = scripts/basic/split-include include/autoconf.h include/config && \
 	echo '/* Split by the hooks of confstamp */' > $(confstamp-ours)
 MRPROPER_DIRS += include/generated
@@ -102,13 +104,15 @@ confstamp-number = $(and $(confstamp-last),$(findstring $(confstamp-line-feed)$(
 # are the same where one is part of the other, and no more than blanks are around it.
 confstamp-equal = $(and $(findstring $(1),$(2)),$(findstring $(2),$(1)))
 confstamp-same = $(and $(or $(findstring $(1),$(2)),$(findstring $(2),$(1))),$(call confstamp-equal,$(strip $(1)),$(strip $(2))))
-confstamp-split = $(if $(confstamp-ours),$(file < $(confstamp-ours)),yes)
+confstamp-split = $(if $(confstamp-ours),$(and $(file < $(confstamp-ours)),$(call confstamp-same,$(file \
+	< $(confstamp-last-file)),$(file < $(confstamp-header)))),yes)
 confstamp-alone = $(if $(confstamp-dialect),yes,$(findstring $(confstamp-mark),$(file < include/config/auto.conf.cmd)))
 confstamp-synchronised = $(and $(confstamp-number),$(confstamp-split),$(confstamp-alone),$(call confstamp-same,$(file \
 	< $(confstamp-config)),$(file < include/config/confstamp.config)))
 else
 confstamp-synchronised = $(shell grep -qsxFf include/config/confstamp.generation include/config/auto.conf && \
-	cmp -s $(confstamp-config) include/config/confstamp.config $(if $(confstamp-ours),&& [ -s $(confstamp-ours) ]) \
+	cmp -s $(confstamp-config) include/config/confstamp.config $(if $(confstamp-ours),&& [ -s $(confstamp-ours) ] && \
+	cmp -s $(confstamp-last-file) $(confstamp-header)) \
 	$(if $(confstamp-dialect),,&& grep -qsF '$(confstamp-mark)' include/config/auto.conf.cmd) && echo yes)
 endif
 

@@ -76,9 +76,14 @@ need_program() {
     exit 2
 }
 
-# $tmpdir: a directory that goes when the hook ends.
+# $tmpdir: a directory that goes when the hook ends. A TMPDIR that the program can't name, or that can't be written, is left aside, as the
+# compiler does.
 make_work_directory() {
     need_program
+    case ${TMPDIR:-} in
+    *[!A-Za-z0-9_./+,@%=:~-]*) TMPDIR=/tmp ;;
+    *) [ -w "${TMPDIR:-/tmp}" ] || TMPDIR=/tmp ;;
+    esac
     tmpdir=$(mktemp -d)
     trap 'rm -rf "$tmpdir"' EXIT
     trap 'exit 2' HUP INT TERM

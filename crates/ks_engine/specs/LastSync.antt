@@ -1,5 +1,5 @@
 -- What an auto.conf says of the last completed synchronisation.
-use Rattle.std.specs.Prelude.{ℕ, List, Option, Some, None, Result, Ok, Err, nat_eq, if◌then◌else◌}
+use Rattle.std.specs.Prelude.{◌≡◌, ◌<◌, ◌≤◌, ◌+◌, ◌-◌, ◌++◌, length, take, drop, ℕ, List, Option, Some, None, Result, Ok, Err, nat_eq, if◌then◌else◌}
 use Rattle.std.specs.FinMap as map
 use Rattle.ks_output.specs.declared.auto_conf.AutoError.{AutoError}
 use Rattle.ks_output.specs.AutoConf.{auto_map, auto_generation, auto_refusal}
@@ -28,3 +28,10 @@ synced_at auto = if nat_eq auto.generation 0 then Err NeverSynced else Ok auto.g
 -- the generation of the last completed synchronisation
 abbrev pub last_generation : Option (List ℕ) → Result ℕ EngineError
 last_generation file = and_then (old_auto file) synced_at
+
+-- What a read of a file behind the first bytes of a room leaves there, up to an end: these, and the next bytes of the file, which are
+-- all that are left where the room isn't full.
+abbrev pub IsReadBehind : Option (List ℕ) → ℕ → ℕ → List ℕ → List ℕ → Option ℕ → Type 0
+IsReadBehind file offset kept old new None = file ≡ None
+IsReadBehind file offset kept old new (Some end) = (b : List ℕ) × (file ≡ Some b) × (take end new ≡ take kept old ++ take (end - kept) (drop offset b))
+    × (end < length new → length b ≤ offset + (end - kept))

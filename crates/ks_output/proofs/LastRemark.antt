@@ -1,5 +1,5 @@
 -- What remarks leave, read one after the other from the first on.
-use Rattle.ks_output.proofs.Prelude.{◌≡◌, ℕ, Bool, ◌≤◌, List, [], ◌∷◌, ◌++◌, length, reverse, get_or, Option, option_map, refl, ap, ◌∙◌, arith, filter_map, reverse_onto, cond-false, nat_tests, filter_map-append, Class, Texts, Remark, Gives, Numbers, CommentOrBlank, seen_remark, remarks, is_typed, neighbours, class_by, given, number, texts_given, auto_generation, auto_fault, auto_refusal, rules, common_steps}
+use Rattle.ks_output.proofs.Prelude.{◌≡◌, ℕ, Bool, ◌≤◌, List, [], ◌∷◌, ◌++◌, length, reverse, get_or, Option, option_map, refl, sym, ap, ◌∙◌, arith, filter_map, reverse_onto, cond-false, nat_tests, filter_map-append, Class, Texts, Remark, Gives, Numbers, CommentOrBlank, seen_remark, remarks, is_typed, neighbours, class_by, given, last_number, number, texts_given, auto_generation, auto_fault, auto_refusal, rules, common_steps}
 use Rattle.std.proofs.Common.{map as map_list}
 use Rattle.std.specs.FinMap as map
 use Rattle.ks_output.specs.declared.auto_conf.AutoError.TheVariants as fault
@@ -95,10 +95,18 @@ unfolding with_number
 with_number-others g r ne = grind arith
 
 -- entries leave the number as it is
-pub passed_number : (g : ℕ) (entries : List (List ℕ × List ℕ)) (stated : List Remark) → number_after g (map_list (λ e. Gives e.0 e.1) entries ++ stated) ≡ number_after g stated
+pub passed_number : (g : ℕ) (entries : List (List ℕ × List ℕ)) → number_after g (map_list (λ e. Gives e.0 e.1) entries) ≡ g
 unfolding number_after with_number
-passed_number g [] stated = refl
-passed_number g (e ∷ entries) stated = passed_number g entries stated
+passed_number g [] = refl
+passed_number g (e ∷ entries) = passed_number g entries
+
+pub number_after-append : (g : ℕ) (xs ys : List Remark) → number_after g (xs ++ ys) ≡ number_after (number_after g xs) ys
+unfolding number_after
+number_after-append g [] ys = refl
+number_after-append g (r ∷ xs) ys = number_after-append (with_number g r) xs ys
+
+pub number_counts : (g : ℕ) (stated : List Remark) → last_number (Numbers g ∷ stated) ≡ number_after g stated
+number_counts g stated = ap (λ ns. get_or ns 0 0) (latest_last number (Numbers g) stated) ∙ first_of_two (filter_map number (reverse stated)) (g ∷ []) 0 ∙ sym (number_is g stated)
 
 pub number_after-zero : (text : List ℕ) → number_after 0 (remarks text) ≡ auto_generation text
 unfolding auto_generation

@@ -7,6 +7,8 @@ pub mod LastRemark
 pub mod LegalNames
 pub mod Marks
 pub mod PositionSteps
+pub mod PieceLines
+pub mod ScanSteps
 pub mod PlainTexts
 pub mod ReadBack
 pub mod Switches

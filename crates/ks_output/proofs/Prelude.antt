@@ -15,9 +15,9 @@ pub use Rattle.ks_symbols.proofs.Spellings.{run_split, opened, run_is, statement
 pub use Rattle.ks_symbols.specs.declared.kinds.Class.{Class}
 pub use Rattle.ks_symbols.specs.declared.kinds.Kind.{Kind}
 pub use Rattle.ks_output.specs.Appending.{Keeps, definitions_capacity}
-pub use Rattle.ks_output.specs.AutoConf.{class_by, given, number}
+pub use Rattle.ks_output.specs.AutoConf.{class_by, given, last_number, number}
 unfoldable pub use Rattle.ks_output.specs.AutoConf.{auto_fault, auto_generation, auto_map, auto_refusal, first_faulty, heard, is_typed, neighbours, texts_given}
-pub use Rattle.ks_output.specs.AutoLines.{Gives, Marks, Numbers, Remark, CommentOrBlank, Types, assigned, classed, numbered, remark, remarks, seen_remark, spelled_class}
+pub use Rattle.ks_output.specs.AutoLines.{AreWhole, Gives, Marks, Numbers, Remark, CommentOrBlank, Types, assigned, classed, numbered, remark, remarks, seen_remark, spelled_class}
 unfoldable pub use Rattle.ks_output.specs.AutoLines.{class_remark, stated_by}
 pub use Rattle.ks_output.specs.AutoText.{class_end, class_line, entry_line, entry_lines, generation_line, heading}
 unfoldable pub use Rattle.ks_output.specs.AutoText.{auto_text}
@@ -30,9 +30,12 @@ pub use Rattle.ks_output.specs.HeaderLaws.{AlikeIsDefinedAlike, DefinitionsAreLi
 pub use Rattle.ks_output.specs.Laws.{GenerationFits, GenerationReadsBack, HasNoFault, IsAccepted, LastLineCounts, TextsAreOfEntries, TextsHaveNames, TextsReadBack, UntypedHasNoClass, beginning}
 pub use Rattle.ks_output.specs.OldConfig.{HasNames, OldTexts, Texts, as_companion, borrowed_old_entry, kept}
 unfoldable pub use Rattle.ks_output.specs.OldConfig.{about, texts_of}
-pub use Rattle.ks_output.specs.Positions.{AreLeftOf, ArePassed, BeginsAs, Entry, Front, Evaluated, Position, Typed, Untyped, blamed, class_at, following, stated_left, seen_position, wants_entry}
+pub use Rattle.ks_output.specs.Positions.{AreLeftOf, AreRefused, Entry, Front, Evaluated, IsWantedAfter, Passed, PassedEntries, Position, RanOut, Typed, Untyped, before_class, blamed, class_at, following, refusal_with, stated_left, seen_position, wants_entry}
 unfoldable pub use Rattle.ks_output.specs.Positions.{fault_left}
 pub use Rattle.ks_output.specs.declared.auto_conf.Lines.{Lines}
+pub use Rattle.ks_output.specs.declared.auto_conf.AutoError.{AutoError}
+pub use Rattle.ks_output.specs.declared.auto_scan.AutoScan.{AutoScan}
+pub use Rattle.ks_output.specs.AutoScan.{StandsAfter, refusal_after}
 pub use Rattle.std.proofs.lemmas.List.{map-append}
 pub use Rattle.std.proofs.lemmas.Option.{cond_some}
 pub use Rattle.ks_symbols.proofs.WordRuns.{run_passes}

@@ -1,6 +1,6 @@
 -- What one line of an auto.conf says. Kbuild's lines are among those that are read; the lines of a generation, of the typed form
 -- and of a class are rules of this project.
-use Rattle.std.specs.Prelude.{ℕ, Bool, true, nat_eq, List, length, drop, take_while, codes, bytes_eq, map as map_list, Option, Some, None, if◌then◌else◌}
+use Rattle.std.specs.Prelude.{◌≡◌, ℕ, Bool, true, nat_eq, List, ◌++◌, length, drop, take_while, codes, bytes_eq, map as map_list, Option, Some, None, if◌then◌else◌}
 use Rattle.std.specs.List.{starts_with, ends_with}
 use Rattle.bstr.specs.Text.{lines_of, without_terminator}
 use Rattle.ks_symbols.specs.declared.kinds.Class.{Class}
@@ -88,3 +88,7 @@ remark line = stated_by (ends_with nat_eq line (codes "\n")) (without_terminator
 -- what the lines of a text say, in their order
 abbrev pub remarks : List ℕ → List Remark
 remarks text = map_list remark (lines_of text)
+
+-- The bytes are whole lines: what follows them begins a line of its own.
+abbrev pub AreWhole : List ℕ → Type 0
+AreWhole bytes = (rest : List ℕ) → lines_of (bytes ++ rest) ≡ lines_of bytes ++ lines_of rest

@@ -16,3 +16,4 @@ pub mod Examples
 pub mod BlockExamples
 pub mod Appending
 pub mod Positions
+pub mod AutoScan

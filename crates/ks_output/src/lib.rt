@@ -4,6 +4,7 @@
 mod appending;
 mod auto_conf;
 mod auto_lines;
+mod auto_scan;
 mod auto_text;
 mod blocks;
 mod conf_texts;
@@ -14,7 +15,8 @@ mod positions;
 mod seen_names;
 mod written;
 
-pub use auto_conf::{AutoError, read_auto, read_auto_generation};
+pub use auto_conf::{AutoError, read_auto};
+pub use auto_scan::{AutoScan, read_auto_generation};
 pub use auto_text::{auto_len, write_auto};
 pub use conf_texts::read_written;
 pub use header::{write_header, write_quoted};

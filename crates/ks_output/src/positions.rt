@@ -4,7 +4,7 @@
 //! once its mark or its first entry is read, and stays so.
 ghost use Rattle.std.specs.Prelude.{◌≡◌, ◌<◌, option_map};
 ghost use Rattle.ks_output.specs.AutoLines.{seen_remark};
-ghost use Rattle.ks_output.specs.Positions.{seen_position, class_at, following, wants_entry, blamed};
+ghost use Rattle.ks_output.specs.Positions.{seen_position, before_class, class_at, following, wants_entry, blamed};
 
 use crate::auto_lines::Remark;
 use ks_symbols::Class;
@@ -58,6 +58,17 @@ impl<'a> Position<'a> {
         match self {
             Position::Entry(_, _) => true,
             _ => false,
+        }
+    }
+
+    /// The position before the line of a class that stands right before it, if one does, or else itself.
+    pub(crate) fn before_class(self) -> Position<'static>
+        ensures { seen_position result ≡ before_class (seen_position self.entry) }
+    {
+        match self {
+            Position::Front => Position::Front,
+            Position::Untyped => Position::Untyped,
+            Position::Typed | Position::Entry(_, _) => Position::Typed,
         }
     }
 

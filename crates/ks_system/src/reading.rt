@@ -157,7 +157,7 @@ fn read_opened<S: System>(
 }
 
 /// Whether a file can be read to its end without waiting for anybody: a regular file, a disk, and `/dev/null`.
-fn has_an_end(kind: Kind) -> bool
+pub(crate) fn has_an_end(kind: Kind) -> bool
     ensures { result ≡ has_an_end kind }
 {
     matches!(kind, Kind::File | Kind::Disk | Kind::Null)

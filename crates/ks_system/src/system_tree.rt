@@ -17,11 +17,15 @@ use crate::fs_error::{FsError, ReadError};
 use crate::held::HeldReading;
 use crate::kept_file::KeptFile;
 use crate::new_file::{create_new, write_new};
-use crate::reading::{read_whole, without_an_end};
+use crate::reading::{has_an_end, read_whole, without_an_end};
 use crate::{Kind, System};
 use ks_tree::{Backdating, Tree, TreeFault};
 use std::alloc::Global;
 use std::io;
+
+/// The most that is read of a file without a look at it before: of so little, as of a prerequisite's first piece, the look would cost
+/// more than the reading.
+const SMALL: usize = 4096;
 
 /// The tree of a system's files.
 #[derive(Drop)]
@@ -208,6 +212,33 @@ impl<S: System + Drop> SystemTree<S> {
             Err(error) => Err(self.fault(alloc, path, &error)),
         }
     }
+
+    /// Looks whether what stands at a path can be read to its end, if anything does.
+    fn look_for_an_end(&mut self, alloc: Global, path: &[u8]) -> Result<(), TreeFault>
+        ensures reported { IsErrOf result TreeFault.Device → IfSome self.new.last_error (λ fault. string_bytes fault.path ≡ path.now) }
+        ensures claim { self.new.written ≡ self.old.written }
+        ensures unchanged { S.is_honest → S.world self.new.system ≡ S.world self.old.system }
+        ensures kept { S.backdated self.new.system ≡ S.backdated self.old.system }
+        ensures later { self.old.failures ≤ self.new.failures }
+        ensures cause { IsErrOf result TreeFault.Device → HasRisen self.old.failures self.new.failures }
+        ensures passed { OnOk result (self.new.failures ≡ self.old.failures) }
+        ensures uncounted { IsErrOf result TreeFault.OutOfMemory → self.new.failures ≡ self.old.failures }
+        ensures never { IsErrOf result TreeFault.TooLarge → ⊥ }
+        ensures unfailed { S.is_honest → OnOk result (S.faults self.new.system ≡ S.faults self.old.system) }
+        ensures due { S.is_honest → IsErrOf result TreeFault.Device → HasRisen (S.faults self.old.system) (S.faults self.new.system)
+            ⊎ ((IsUtf8 path.now → ⊥) ⊎ ((k : Kind) × (S.kind_at self.old.system path.now ≡ Some k) × HasNoEnd k)) }
+    {
+        let Some(host_path) = self.system.host_path(alloc, path)? else {
+            return Err(self.device());
+        };
+        match found_of(self.system.look(host_path.as_str())) {
+            Ok(Some(look)) if !has_an_end(look.kind) => {
+                Err(self.fault(alloc, path, &without_an_end(look.kind)))
+            }
+            Ok(_) => Ok(()),
+            Err(error) => Err(self.fault(alloc, path, &error)),
+        }
+    }
 }
 
 impl<S: System + Drop> Tree for SystemTree<S> {
@@ -278,8 +309,12 @@ impl<S: System + Drop> Tree for SystemTree<S> {
         ensures reported { IsErrOf result TreeFault.Device → IfSome self.new.last_error (λ fault. string_bytes fault.path ≡ path.now) }
         ensures due { S.is_honest → IsErrOf result TreeFault.Device →
             HasFailed (S.faults self.old.system) (S.faults self.new.system) (S.signals self.new.system)
-            ⊎ ((IsUtf8 path.now → ⊥) ⊎ (18446744073709551615 < offset + length into.old)) }
+            ⊎ ((IsUtf8 path.now → ⊥) ⊎ ((18446744073709551615 < offset + length into.old)
+            ⊎ ((k : Kind) × (S.kind_at self.old.system path.now ≡ Some k) × HasNoEnd k))) }
     {
+        if offset == 0 && into.len() > SMALL {
+            self.look_for_an_end(alloc, path)?;
+        }
         let Some(mut kept) = self.take_kept(alloc, path, offset)? else {
             return Ok(None);
         };

@@ -1,10 +1,6 @@
-use Rattle.ks_output.proofs.Prelude.{auto_fault, auto_refusal, nat_tests, cond-true, fault_left, rules}
+use Rattle.ks_output.proofs.Prelude.{ap, remark}
+use Rattle.std.proofs.Common.{map as map_list}
 use Rattle.ks_output.proofs.auto_conf.Lines.of.Goals as goal
 
-pub returns-then-text-gt-MAX_BYTES-clause-begins : goal.returns-then-text-gt-MAX_BYTES-clause-begins
-unfolding auto_refusal
-returns-then-text-gt-MAX_BYTES-clause-begins c = search (rules, cond-true, nat_tests)
-
-pub returns-clause-begins : goal.returns-clause-begins
-unfolding fault_left auto_fault
-returns-clause-begins c = search rules
+pub returns-clause-left : goal.returns-clause-left
+returns-clause-left c = ap (map_list remark) c.lines_with_terminator.ensures.value

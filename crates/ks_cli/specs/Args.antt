@@ -10,6 +10,7 @@ use Rattle.ks_engine.specs.declared.planning.ConfigForm.TheVariants as form
 use Rattle.ks_requests.specs.declared.request.ConfigPaths.{ConfigPaths}
 use Rattle.ks_requests.specs.declared.request.DepfileAfter.{DepfileAfter}
 use Rattle.ks_requests.specs.declared.request.DepfileAfter.TheVariants as depfile
+use Rattle.ks_requests.specs.declared.request.KeptPaths.{KeptPaths}
 use Rattle.ks_requests.specs.declared.request.OutputFormat.{OutputFormat}
 use Rattle.ks_requests.specs.declared.request.OutputFormat.TheVariants as format
 use Rattle.std.specs.Str.Parse.{IsNumeral, digits_value, without_leading_plus}
@@ -103,7 +104,12 @@ backdates_of rows = if is_set (codes "unrecorded") rows then backdates.Unrecorde
 abbrev pub IsNoOther : Text → Type 0
 IsNoOther name = All (λ other. name ≢ other)
     (codes "sync" ∷ codes "preview" ∷ codes "diff" ∷ codes "fixdep" ∷ codes "record" ∷ codes "depfile" ∷ codes "batch" ∷ codes "outdated"
-    ∷ codes "why" ∷ codes "impact" ∷ codes "age" ∷ codes "users" ∷ codes "cost" ∷ codes "backdate" ∷ codes "explain" ∷ [])
+    ∷ codes "why" ∷ codes "impact" ∷ codes "age" ∷ codes "users" ∷ codes "cost" ∷ codes "backdate" ∷ codes "explain" ∷ codes "repair" ∷ [])
+
+-- what was kept is named by both words; a header that isn't there is a path of no bytes, which is none
+abbrev pub AreKept : List Row → Option KeptPaths → Type 0
+AreKept rows None = first_of (codes "AUTO") rows ≡ None
+AreKept rows (Some k) = (first_of (codes "AUTO") rows ≡ Some (string_bytes k.auto)) × (string_bytes k.header ≡ arg_at (codes "HEADER") rows)
 
 -- the objects of a question
 abbrev pub AreTargets : List Row → Targets → Type 0
@@ -134,6 +140,8 @@ IsRequestOf command rows (request.Record d t c after) = (command ≡ codes "reco
 IsRequestOf command rows (request.Depfile end d t c) = (command ≡ codes "depfile")
     × (option_map (λ path. string_bytes path) end ≡ first_of (codes "SUFFIX") rows) × (string_bytes d ≡ arg_at (codes "DEPFILE") rows)
     × (string_bytes t ≡ arg_at (codes "TARGET") rows) × (string_bytes c ≡ arg_at (codes "COMMAND") rows)
+IsRequestOf command rows (request.Repair s t k) = (command ≡ codes "repair") × (string_bytes s ≡ arg_at (codes "STAMPS") rows)
+    × (string_bytes t ≡ arg_at (codes "TARGETS") rows) × AreKept rows k
 IsRequestOf command rows (request.Stale ts f) =
     IsNoOther command × AreTargets rows ts × (f ≡ format_of rows)
 IsRequestOf command rows (request.Why ts f) = (command ≡ codes "why") × AreTargets rows ts × (f ≡ format_of rows)

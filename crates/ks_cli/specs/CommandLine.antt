@@ -88,6 +88,8 @@ writing_apps =
     ∷ once (codes "COMMAND") ∷ []))
     ∷ needing_one (taking (codes "depfile") (following (codes "header") (codes "SUFFIX") ∷ once (codes "DEPFILE") ∷ once (codes "TARGET")
     ∷ once (codes "COMMAND") ∷ []))
+    ∷ needing_one (taking (codes "repair") (once_after (codes "stamps") (codes "STAMPS") ∷ once_after (codes "targets") (codes "TARGETS")
+    ∷ at_most_once (codes "AUTO") ∷ at_most_once (codes "HEADER") ∷ []))
     ∷ [])
 
 -- .. and those about objects, the scripts and the errors

@@ -5,14 +5,16 @@ ghost use Rattle.clap.specs.Walk.{texts};
 ghost use Rattle.ks_requests.specs.Requests.{IsBatchOf, IsPreviewOf};
 ghost use Rattle.ks_cli.specs.CommandLine.{command_line_app};
 ghost use Rattle.ks_cli.specs.Meaning.{IsBothReported, IsPageNamed, IsPageReported, IsReason, IsTakenAs, Makes};
-ghost use Rattle.ks_cli.specs.Args.{AreConfig, AreTargets, IsPlainArg, IsRequestOf, HasText, IsReported, IsWantOfMemory, asks_both, is_no_memory, is_set, report_style_of, arg_at, args_at, format_of, IsNumberOf};
+ghost use Rattle.ks_cli.specs.Args.{AreConfig, AreKept, AreTargets, IsPlainArg, IsRequestOf, HasText, IsReported, IsWantOfMemory, asks_both, is_no_memory, is_set, report_style_of, arg_at, args_at, format_of, IsNumberOf};
 
 use crate::command_line::command_line;
 use crate::help_text::HelpText;
 use clap::ArgMatches;
 use clap::error::ErrorKind;
 use ks_engine::{BackdateScope, ConfigForm};
-use ks_requests::{ConfigPaths, DepfileAfter, OutputFormat, ReportStyle, Request, Stamps, Targets};
+use ks_requests::{
+    ConfigPaths, DepfileAfter, KeptPaths, OutputFormat, ReportStyle, Request, Stamps, Targets,
+};
 use std::alloc::{AllocError, Global};
 use thiserror::Error;
 
@@ -228,6 +230,29 @@ fn depfile_request(alloc: Global, matches: &ArgMatches<'_>) -> Result<Request, A
     })
 }
 
+/// What was kept, where it is named.
+fn kept(alloc: Global, matches: &ArgMatches<'_>) -> Result<Option<KeptPaths>, AllocError>
+    ensures { IfOk result (AreKept (rows_of (found_of matches.now))) }
+{
+    match optional_arg(alloc, matches, "AUTO")? {
+        Some(auto) => Ok(Some(KeptPaths {
+            auto,
+            header: arg(alloc, matches, "HEADER")?,
+        })),
+        None => Ok(None),
+    }
+}
+
+fn repair_request(alloc: Global, matches: &ArgMatches<'_>) -> Result<Request, AllocError>
+    ensures { IfOk result (IsRequestOf (codes "repair") (rows_of (found_of matches.now))) }
+{
+    Ok(Request::Repair {
+        stamps: arg(alloc, matches, "STAMPS")?,
+        targets: arg(alloc, matches, "TARGETS")?,
+        kept: kept(alloc, matches)?,
+    })
+}
+
 fn outdated_request(alloc: Global, matches: &ArgMatches<'_>) -> Result<Request, AllocError>
     ensures { IfOk result (IsRequestOf (codes "outdated") (rows_of (found_of matches.now))) }
 {
@@ -306,6 +331,7 @@ fn request_named(alloc: Global, name: &str, matches: &ArgMatches<'_>) -> Result<
         "fixdep" => fixdep_request(alloc, matches),
         "record" => record_request(alloc, matches),
         "depfile" => depfile_request(alloc, matches),
+        "repair" => repair_request(alloc, matches),
         "outdated" => outdated_request(alloc, matches),
         "batch" => Ok(Request::Batch {
             script: arg(alloc, matches, "SCRIPT")?,

@@ -251,6 +251,38 @@ and with the stamp of each name. Refused, it leaves DEPFILE as it was. Prints wh
 
 Example: confstamp depfile x.d x.o 'cc -c x.c'",
     },
+    Usage {
+        name: "repair",
+        about: "Put back auto.conf, the header and the lost stamps, where another tool wrote them",
+        args: &[
+            ArgUsage {
+                name: "STAMPS",
+                num_args: NumArgs::OnceAfter("stamps"),
+                help: "A file with the names of all stamps, one a line",
+            },
+            ArgUsage {
+                name: "TARGETS",
+                num_args: NumArgs::OnceAfter("targets"),
+                help: "A file with the objects that were recorded, one a line",
+            },
+            ArgUsage {
+                name: "AUTO",
+                num_args: NumArgs::AtMostOnce,
+                help: "The auto.conf of the last completed sync, as it was kept",
+            },
+            ArgUsage {
+                name: "HEADER",
+                num_args: NumArgs::AtMostOnce,
+                help: "The header of that sync; needed with AUTO",
+            },
+        ],
+        override_usage: Some("confstamp repair --stamps FILE --targets FILE [AUTO HEADER]"),
+        after_help: "\
+Each stamp that is empty, 0, faulty or missing counts as changed after that sync. Prints put back GENERATION touched N; or,
+where numbers are higher than AUTO's, and nothing is written, numbers lost HIGHEST; or no numbers.
+
+Example: confstamp repair --stamps stamps --targets objects kept.auto kept.h",
+    },
 ];
 
 /// The commands about objects, the scripts and the errors, which come after them.

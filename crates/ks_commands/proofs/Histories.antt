@@ -53,28 +53,29 @@ rule_goes_on dialect end d t c ended old new h shows (inr (header, named, answer
     (next.0, inr (header, named, answer, next.1, reported), next.2)
 
 pub requests_go_on : RequestsGoOn
-requests_go_on dialect (request.Sync c which) ended old new h shows ends =
+requests_go_on dialect (request.Sync c which) ended old new h told shows ends =
     let next = sync_goes_on dialect which c ended old new h shows (ends tt) in
     (next.0, (old.backdated, new.backdated, λ t. next.1), next.2)
-requests_go_on dialect (request.Record d t c after) ended old new h shows ends =
+requests_go_on dialect (request.Record d t c after) ended old new h told shows ends =
     let is = ends tt in
     let next = step_goes_on dialect old (Record (string_bytes d) (string_bytes t) (string_bytes c)) (Recorded is.0) new h shows is.1 in
     (next.0, (old.backdated, new.backdated, λ u. (is.0, next.1, is.2)), next.2)
-requests_go_on dialect (request.Depfile end d t c) ended old new h shows ends =
+requests_go_on dialect (request.Depfile end d t c) ended old new h told shows ends =
     let next = rule_goes_on dialect (option_map (λ p. string_bytes p) end) (string_bytes d) (string_bytes t) (string_bytes c) ended old new h shows (ends tt) in
     (next.0, (old.backdated, new.backdated, λ u. next.1), next.2)
-requests_go_on dialect (request.Batch script) ended old new h shows (inl (r, why, is)) =
+requests_go_on dialect (request.Batch script) ended old new h told shows (inl (r, why, is)) =
     (h, (old.backdated, new.backdated, inl (r, λ t. (((why t).0, refl), (why t).1), is)), stays old new h shows (why tt).0)
-requests_go_on dialect (request.Batch script) ended old new h shows (inr (text, actions, spelled, there, inl (same, memory))) =
+requests_go_on dialect (request.Batch script) ended old new h told shows (inr (text, actions, spelled, there, inl (same, memory))) =
     (h, (old.backdated, new.backdated, inr (text, actions, spelled, there, inl (λ t. (same t, refl), memory))), stays old new h shows (same tt))
-requests_go_on dialect (request.Batch script) ended old new h shows (inr (text, actions, spelled, there, inr (replies, ran, reported))) =
+requests_go_on dialect (request.Batch script) ended old new h told shows (inr (text, actions, spelled, there, inr (replies, ran, reported))) =
     let next = run_follows dialect old new h actions replies shows ran in
     (next.0, (old.backdated, new.backdated, inr (text, actions, spelled, there, inr (replies, next.1, reported))), next.2)
-requests_go_on dialect (request.Preview c o) ended old new h shows ends =
+requests_go_on dialect (request.Repair s t k) ended old new h told shows ends = absurd told
+requests_go_on dialect (request.Preview c o) ended old new h told shows ends =
     (h, (old.backdated, new.backdated, λ t. (((ends t).0, refl), (ends t).1)), stays old new h shows (ends tt).0)
-requests_go_on dialect (request.Diff c report_style) ended old new h shows ends =
+requests_go_on dialect (request.Diff c report_style) ended old new h told shows ends =
     (h, (old.backdated, new.backdated, λ t. (((ends t).0, refl), (ends t).1)), stays old new h shows (ends tt).0)
-requests_go_on dialect (request.Fixdep d o c) ended old new h shows ends =
+requests_go_on dialect (request.Fixdep d o c) ended old new h told shows ends =
     (h, (old.backdated, new.backdated, λ t. (((ends t).0, refl), (ends t).1)), stays old new h shows (ends tt).0)
-requests_go_on dialect asked ended old new h shows ends =
+requests_go_on dialect asked ended old new h told shows ends =
     (h, (old.backdated, new.backdated, (λ t. (ends.0 t, refl), ends.1)), stays old new h shows (ends.0 tt))

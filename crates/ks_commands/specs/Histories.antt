@@ -12,6 +12,7 @@ use Rattle.ks_engine.specs.Sources.{FromConf, FromKconfig, Source}
 use Rattle.ks_engine.specs.Runs.{Run}
 use Rattle.ks_engine.specs.AllStamps.{FollowsSyncAllStamps}
 use Rattle.ks_requests.specs.declared.request.Request.{Request}
+use Rattle.ks_requests.specs.declared.request.Request.TheVariants.{Repair}
 use Rattle.ks_requests.specs.declared.request.Stamps.{Stamps}
 use Rattle.ks_requests.specs.declared.request.Stamps.TheVariants.{Touched, Declared}
 use Rattle.ks_requests.specs.Endings.{Ending}
@@ -31,6 +32,11 @@ FollowsStamps Declared (FromConf d a h) answer old new = FollowsSync (FromConf d
 abbrev pub Runs : Dialect → TreeState → TreeState → List Action → List Reply → Type 0
 Runs dialect old new actions replies = (failures : ℕ) × (old.failures ≤ failures) × Run dialect (at old.files failures old.history) (calls_of actions replies) new
 
+-- A request of which histories tell. A repair is none: what was kept may be anything.
+abbrev pub IsTold : Request → Type 0
+IsTold (Repair stamps targets kept) = ⊥
+IsTold request = ⊤
+
 -- What changes a tree is the next event. A question adds none, and what it is answered by the files holds of each history that they show.
 abbrev pub by_histories : Dialect → TreeState → TreeState → Effects
 by_histories dialect old new = record (by_files dialect ⊤ (state_of old []) (state_of new [])) {
@@ -38,6 +44,7 @@ by_histories dialect old new = record (by_files dialect ⊤ (state_of old []) (s
   sync = λ stamps source answer. FollowsStamps stamps source answer old new;
   recording = λ d t c answer. FollowsRecord dialect d t c answer old new;
   ruling = λ header d t c answer. FollowsDepfile (ruled_by header dialect) d t c answer old new;
+  repair = λ inputs answer. ⊥;
   run = Runs dialect old new;
 }
 

@@ -11,6 +11,7 @@ use Rattle.ks_engine.specs.declared.commands.Reply.{Reply}
 use Rattle.ks_engine.specs.declared.explaining.Explanation.{Explanation}
 use Rattle.ks_engine.specs.declared.query.Limit.TheVariants.{First, All as Every}
 use Rattle.ks_engine.specs.declared.recording.Recorded.{Recorded as RecordAnswer}
+use Rattle.ks_engine.specs.declared.repairing.Repaired.{Repaired}
 use Rattle.ks_engine.specs.declared.synchronise.Report.{Report}
 use Rattle.ks_engine.specs.declared.staleness.BuildState.{BuildState}
 use Rattle.ks_engine.specs.declared.staleness.Verdict.{Verdict}
@@ -28,18 +29,19 @@ use Rattle.ks_engine.specs.Synchronised.{IsSynced}
 use Rattle.ks_requests.specs.declared.refusal.Refusal.{Refusal}
 use Rattle.ks_requests.specs.declared.refusal.Refusal.TheVariants.{Engine}
 use Rattle.ks_requests.specs.declared.request.ConfigPaths.{ConfigPaths}
+use Rattle.ks_requests.specs.declared.request.KeptPaths.{KeptPaths}
 use Rattle.ks_requests.specs.declared.request.OutputFormat.{OutputFormat}
 use Rattle.ks_requests.specs.declared.request.OutputFormat.TheVariants.{Text}
 use Rattle.ks_requests.specs.declared.request.Request.{Request}
 use Rattle.ks_requests.specs.declared.request.Stamps.{Stamps}
 use Rattle.ks_requests.specs.declared.request.Targets.{Targets}
-use Rattle.ks_requests.specs.declared.request.Request.TheVariants.{Backdate, Batch, Cost, Depfile, Diff, Fixdep, Impact, Outdated, Preview, Record, Stale, Sync, Users, Why}
+use Rattle.ks_requests.specs.declared.request.Request.TheVariants.{Backdate, Batch, Cost, Depfile, Diff, Fixdep, Impact, Outdated, Preview, Record, Repair, Stale, Sync, Users, Why}
 use Rattle.ks_requests.specs.declared.report_style.ReportStyle.{ReportStyle}
 use Rattle.ks_requests.specs.declared.status.Status.TheVariants.{Done}
 use Rattle.ks_requests.specs.Endings.{Answered, Ending, Stopped, Reports, ReportsUnknown}
 use Rattle.ks_requests.specs.Inputs.{Inputs, Texts, config_at, inputs_at, source_at}
 use Rattle.ks_requests.specs.Preview.{IsPreview, preview_refusal}
-use Rattle.ks_requests.specs.Replies.{answer_line, build_line, depfile_line, recorded_line, reply_lines, report_lines}
+use Rattle.ks_requests.specs.Replies.{answer_line, build_line, depfile_line, recorded_line, repair_line, reply_lines, report_lines}
 use Rattle.ks_requests.specs.Requests.{IsNoQuery, IsOneStep}
 use Rattle.ks_requests.specs.Statuses.{build_status, reply_status, status_unless_refused, worst}
 use Rattle.ks_requests.specs.Symbols.{symbols_of}
@@ -50,6 +52,7 @@ use Rattle.ks_commands.specs.Queries.{explaining, no_count, stale_count, reports
 use Rattle.ks_commands.specs.Stamps.{LeavesStamps}
 use Rattle.ks_commands.specs.Records.{reading, reports_cost, unread_lines, user_count, uses_lines}
 use Rattle.ks_commands.specs.Scripts.{AreSpelled, IsAbortedRefusal, script_at}
+use Rattle.ks_commands.specs.Repairing.{LeavesRepair, RepairInputs, repair_at}
 use Rattle.ks_commands.specs.Walks.{EndsWalk, IsCounted, StoppedBy}
 
 -- What the engine's calls answer and leave. It is said by the files here, and by histories in the laws of this crate.
@@ -61,6 +64,7 @@ pub record Effects : Type 1 where
   pub sync : Stamps → Source → Result Report EngineError → Type 0
   pub recording : (depfile target command : List ℕ) → Result RecordAnswer EngineError → Type 0
   pub ruling : (header : Header) (depfile target command : List ℕ) → Result RecordAnswer EngineError → Type 0
+  pub repair : RepairInputs → Result Repaired EngineError → Type 0
   pub stale : (target : List ℕ) → Result Verdict EngineError → Type 0
   pub why : (target : List ℕ) → Result Explanation EngineError → Type 0
   pub impact : Source → (target : List ℕ) → Result Verdict EngineError → Type 0
@@ -84,6 +88,13 @@ EndsDepfile effects end d t c ended =
     (effects.same × IsNoHeader end × (ended ≡ Err (Engine (BadPath 0))))
     ⊎ ((header : Header) × IsHeaderOf effects.dialect end header
     × (answer : Result RecordAnswer EngineError) × effects.ruling header d t c answer × Answered (depfile_line t) answer ended)
+
+-- Nothing has changed where the lists or what was kept can't be read. Else it ends as the engine answers.
+abbrev pub EndsRepair : Files → Effects → List ℕ → List ℕ → Option KeptPaths → Ending → Type 0
+EndsRepair files effects stamps targets kept ended =
+    (effects.same × Stopped (repair_at files stamps targets kept) ended)
+    ⊎ ((i : RepairInputs) × (repair_at files stamps targets kept ≡ Ok i)
+    × (answer : Result Repaired EngineError) × effects.repair i answer × Answered repair_line answer ended)
 
 -- A preview of what the files hold, or the refusal that their texts have, or want of memory.
 abbrev pub EndsPreview : Dialect → Files → ConfigPaths → Option (List ℕ) → Ending → Type 0
@@ -153,6 +164,8 @@ Ends honest effects old (Fixdep d t c) ended new =
 Ends honest effects old (Record d t c after) ended new = honest → EndsRecord effects (string_bytes d) (string_bytes t) (string_bytes c) ended
 Ends honest effects old (Depfile end d t c) ended new =
     honest → EndsDepfile effects (option_map (λ path. string_bytes path) end) (string_bytes d) (string_bytes t) (string_bytes c) ended
+Ends honest effects old (Repair stamps targets kept) ended new =
+    honest → EndsRepair old.files effects (string_bytes stamps) (string_bytes targets) kept ended
 Ends honest effects old (Stale targets format) ended new = (honest → effects.same)
     × EndsWalk (explaining honest old.files None format First (λ o answer. effects.stale o (reported answer))) false (reports no_count) honest old targets ended new
 Ends honest effects old (Why targets format) ended new =
@@ -185,6 +198,7 @@ by_files dialect honest old new = record {
   sync = LeavesStamps old.files new.files;
   recording = LeavesRecord dialect old.files new.files;
   ruling = λ header. LeavesDepfile (ruled_by header dialect) old.files new.files;
+  repair = LeavesRepair old.files new.files;
   stale = IsAnswerOn old.files;
   why = IsExplanationOn old.files;
   impact = IsAnswerAfter old.files;

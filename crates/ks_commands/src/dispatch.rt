@@ -19,6 +19,7 @@ use crate::cost::report_cost;
 use crate::differences::report_differences;
 use crate::fixdep::command_file_text;
 use crate::queries::{outdated_target, query_predicted, query_targets};
+use crate::repairs::repair_tree;
 use crate::users::report_users;
 use ks_engine::{EngineError, Query};
 use ks_requests::{
@@ -134,6 +135,11 @@ pub(crate) fn outcome<T: Backdating>(
                 command,
             )
         }
+        Request::Repair {
+            stamps,
+            targets,
+            kept,
+        } => repair_tree(alloc, tree, stamps.as_bytes(), targets.as_bytes(), kept),
         Request::Stale { targets, format } => {
             query_targets(alloc, tree, Query::Stale, None, *format, targets)
         }

@@ -14,6 +14,7 @@ mod laws;
 mod program;
 mod queries;
 mod readings;
+mod repairs;
 mod spelling;
 mod users;
 

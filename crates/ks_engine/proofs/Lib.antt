@@ -24,3 +24,5 @@ pub mod Running
 pub mod FileRunning
 pub mod Beginnings
 pub mod NotNumbered
+pub mod PuttingBack
+pub mod Surveying

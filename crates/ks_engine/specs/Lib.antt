@@ -30,4 +30,5 @@ pub mod Queries
 pub mod Verdicts
 pub mod Runs
 pub mod OtherRecords
+pub mod Repairs
 pub mod Laws

@@ -16,6 +16,7 @@ mod laws;
 mod planning;
 mod query;
 mod recording;
+mod repairing;
 mod sources;
 mod staleness;
 mod synchronise;
@@ -41,6 +42,7 @@ pub use planning::{
 };
 pub use query::{Limit, Query};
 pub use recording::{Recorded, check_args, record_object};
+pub use repairing::{Kept, Repaired, repair};
 pub use sources::scan_all;
 pub use staleness::{BuildState, Verdict, outdated, stale};
 pub use synchronise::{Report, sync};

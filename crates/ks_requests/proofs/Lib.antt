@@ -10,3 +10,4 @@ mod ScriptFaults
 mod ScriptSpellings
 mod ScriptSyncing
 mod ScriptArgs
+pub mod NameLines

@@ -11,6 +11,7 @@ pub mod Sites
 pub mod Readings
 pub mod Inputs
 pub mod Targets
+pub mod NameLists
 pub mod Unknown
 pub mod Preview
 pub mod Refusals

@@ -16,7 +16,7 @@ use Rattle.ks_requests.specs.declared.refusal.Refusal.{Refusal}
 use Rattle.ks_requests.specs.declared.refusal.Refusal.TheVariants.{Engine, BadScript}
 use Rattle.ks_requests.specs.declared.request.ConfigPaths.{ConfigPaths}
 use Rattle.ks_requests.specs.declared.request.Request.{Request}
-use Rattle.ks_requests.specs.declared.request.Request.TheVariants.{Backdate, Batch, Cost, Depfile, Diff, Fixdep, Impact, Outdated, Preview, Record, Stale, Sync, Users, Why}
+use Rattle.ks_requests.specs.declared.request.Request.TheVariants.{Backdate, Batch, Cost, Depfile, Diff, Fixdep, Impact, Outdated, Preview, Record, Repair, Stale, Sync, Users, Why}
 use Rattle.ks_requests.specs.declared.sites.Part.{Part}
 use Rattle.ks_requests.specs.declared.sites.Part.TheVariants.{Whole, Line, Token}
 use Rattle.ks_requests.specs.Endings.{Ending}
@@ -71,6 +71,11 @@ abbrev pub script_site : List ℕ → Refusal → Option Site
 script_site script (BadScript line) = Some (script, Line line)
 script_site script _ = None
 
+-- of a list of names
+abbrev pub names_site : List ℕ → Refusal → Option Site
+names_site list (Engine (Source (source.BadName line))) = Some (list, Line line)
+names_site list _ = None
+
 -- A word that is refused, a missing file and a stamp are named by the refusal itself, and objects by their lines.
 abbrev pub site_of : Request → Refusal → Option Site
 site_of (Sync c stamps) refusal = config_site c (Some auto_path) refusal
@@ -81,6 +86,7 @@ site_of (Fixdep d t c) refusal = depfile_site (string_bytes d) refusal
 site_of (Record d t c after) refusal = record_site (string_bytes d) refusal
 site_of (Depfile end d t c) refusal = record_site (string_bytes d) refusal
 site_of (Batch script) refusal = script_site (string_bytes script) refusal
+site_of (Repair stamps targets kept) refusal = names_site (string_bytes stamps) refusal
 site_of (Stale targets format) refusal = None
 site_of (Why targets format) refusal = None
 site_of (Backdate which targets) refusal = None

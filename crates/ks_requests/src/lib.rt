@@ -6,6 +6,7 @@ mod faults;
 mod inputs;
 mod json_lines;
 mod laws;
+mod name_list;
 mod output;
 mod preview;
 mod reading;
@@ -26,20 +27,21 @@ pub use inputs::{
 };
 pub use json_lines::write_json_answer;
 pub use laws::{json_lines_are_objects, script_examples, script_lines_are_spelled};
+pub use name_list::names_in;
 pub use output::{print, refuse, refuse_at};
 pub use preview::{PreviewError, preview_to};
 pub use reading::Reading;
 pub use refusal::Refusal;
 pub use replies::{
-    build_status, report_depfile, report_recorded, report_replies, report_sync, write_answer,
-    write_build_line, write_refused_target,
+    build_status, report_depfile, report_recorded, report_repair, report_replies, report_sync,
+    write_answer, write_build_line, write_refused_target,
 };
 pub use report_style::ReportStyle;
-pub use request::{ConfigPaths, DepfileAfter, OutputFormat, Request, Stamps, Targets};
+pub use request::{ConfigPaths, DepfileAfter, KeptPaths, OutputFormat, Request, Stamps, Targets};
 pub use script::{ScriptLine, read_script, script_syncs};
 pub use script_error::ScriptError;
 pub use sites::{Part, Site, site_of};
 pub use status::{Count, Outcome, Status, stale_of, worse};
 pub use symbols::{symbols_of, write_cost, write_unrecorded, write_use};
-pub use targets::{all_targets, each_once, read_targets};
+pub use targets::{all_targets, each_once, listed_targets, read_targets};
 pub use unknown::unknown_lines;

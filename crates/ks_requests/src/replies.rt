@@ -5,7 +5,7 @@ ghost use Rattle.std.specs.Prelude.{◌≡◌, ◌++◌, List, ℕ, None, OnOk, 
 ghost use Rattle.ks_engine.specs.Actions.{action};
 ghost use Rattle.ks_engine.specs.Queries.{limit_of};
 ghost use Rattle.ks_requests.specs.Faults.{counted};
-ghost use Rattle.ks_requests.specs.Replies.{answer_line, build_line, cause_line, depfile_line, explanation_lines, recorded_as, recorded_line, refused_line, refused_target_line, reply_line, reply_lines, report_lines, synced_line, verdict_line, verdict_text};
+ghost use Rattle.ks_requests.specs.Replies.{answer_line, build_line, cause_line, depfile_line, explanation_lines, recorded_as, recorded_line, refused_line, refused_target_line, repair_line, reply_line, reply_lines, report_lines, synced_line, verdict_line, verdict_text};
 ghost use Rattle.ks_requests.specs.Statuses.{build_status, code_of, explanation_status, reply_status, status_unless_refused, verdict_status, worst};
 
 use crate::faults::write_fault;
@@ -13,8 +13,8 @@ use crate::preview::write_touches;
 use crate::status::{Outcome, Status, worse};
 use itoa::Buffer;
 use ks_engine::{
-    BuildState, Cause, Command, EngineError, Explanation, Limit, Query, Recorded, Reply, Report,
-    Verdict,
+    BuildState, Cause, Command, EngineError, Explanation, Limit, Query, Recorded, Repaired, Reply,
+    Report, Verdict,
 };
 use std::alloc::{AllocError, Global};
 
@@ -321,6 +321,34 @@ pub fn report_sync(alloc: Global, report: &Report) -> Result<Outcome, AllocError
 {
     let mut text = Vec::new(alloc);
     write_report(report, &mut text)?;
+    Ok(Outcome::done(text))
+}
+
+/// `put back G touched N`, `numbers lost G` or `no numbers`.
+#[tactic(auto, unfolding(crate::specs::Replies::repair_line))]
+fn write_repair(repaired: Repaired, text: &mut Vec<u8>) -> Result<(), AllocError>
+    ensures { OnOk result (text.new.items ≡ text.old.items ++ repair_line repaired) }
+{
+    match repaired {
+        Repaired::PutBack { generation, stamps } => {
+            write_count(b"put back ", generation, text)?;
+            write_count(b" touched ", stamps as u64, text)?;
+            text.extend_from_slice(b"\n")
+        }
+        Repaired::Lost { highest } => {
+            write_count(b"numbers lost ", highest, text)?;
+            text.extend_from_slice(b"\n")
+        }
+        Repaired::Nothing => text.extend_from_slice(b"no numbers\n"),
+    }
+}
+
+/// What a repair did, in one line.
+pub fn report_repair(alloc: Global, repaired: Repaired) -> Result<Outcome, AllocError>
+    ensures { IfOk result (λ o. (o.text.items ≡ repair_line repaired) × (code_of o.status ≡ 0) × (o.count ≡ None)) }
+{
+    let mut text = Vec::new(alloc);
+    write_repair(repaired, &mut text)?;
     Ok(Outcome::done(text))
 }
 

@@ -19,6 +19,13 @@ pub struct ConfigPaths {
     pub second: String,
 }
 
+/// What somebody kept of the last completed synchronisation.
+#[derive(Debug, Drop)]
+pub struct KeptPaths {
+    pub auto: String,
+    pub header: String,
+}
+
 /// How the answers about objects are printed.
 #[derive(Clone, Copy, Debug, PartialEq, Eq)]
 pub enum OutputFormat {
@@ -53,6 +60,13 @@ pub enum Request {
     Sync {
         config: ConfigPaths,
         stamps: Stamps,
+    },
+    /// Put back what was kept of the last completed synchronisation, where another tool was at work. One file lists the names that
+    /// have a stamp, the other one the objects.
+    Repair {
+        stamps: String,
+        targets: String,
+        kept: Option<KeptPaths>,
     },
     /// What a synchronisation would do, over an old auto.conf or as the first one.
     Preview {

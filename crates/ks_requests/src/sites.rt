@@ -6,7 +6,7 @@ ghost use Rattle.std.specs.Prelude.{◌≡◌, ◌-◌, ℕ, List, Some, IfOk, I
 ghost use Rattle.ks_symbols.specs.Lines.{lines};
 ghost use Rattle.ks_tree.specs.Files.{IsTooLarge, content};
 ghost use Rattle.ks_tree.specs.Frames.{Reads};
-ghost use Rattle.ks_requests.specs.Sites.{config_site, depfile_site, excerpt, excerpt_at, excerpt_in, part_text, record_site, script_site, site_of, source_site, visible, written_site};
+ghost use Rattle.ks_requests.specs.Sites.{config_site, depfile_site, excerpt, excerpt_at, excerpt_in, names_site, part_text, record_site, script_site, site_of, source_site, visible, written_site};
 ghost use Rattle.ks_requests.specs.declared.sites.Part.TheVariants.{Line};
 ghost use Rattle.ks_requests.specs.Views.{seen_site};
 
@@ -156,6 +156,16 @@ fn path_bytes(path: &Option<String>) -> Option<&[u8]>
     }
 }
 
+/// The line of a list of names.
+fn names_site<'a>(list: &'a [u8], refusal: &Refusal) -> Option<Site<'a>>
+    ensures { option_map seen_site result ≡ names_site list.now refusal.now }
+{
+    match refusal {
+        Refusal::Engine(EngineError::Source(SourceError::BadName(line))) => at_line(list, *line),
+        _ => None,
+    }
+}
+
 /// Which file a refusal of a request is about, where it doesn't name that itself: `None` for a word, a missing file, memory,
 /// the device, the output, and for questions about objects, whose refusals are lines of their own.
 pub fn site_of<'a>(request: &'a Request, refusal: &Refusal) -> Option<Site<'a>>
@@ -171,6 +181,7 @@ pub fn site_of<'a>(request: &'a Request, refusal: &Refusal) -> Option<Site<'a>>
             record_site(depfile.as_bytes(), refusal)
         }
         Request::Batch { script } => script_site(script.as_bytes(), refusal),
+        Request::Repair { stamps, .. } => names_site(stamps.as_bytes(), refusal),
         Request::Stale { .. }
         | Request::Why { .. }
         | Request::Backdate { .. }

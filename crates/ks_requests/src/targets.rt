@@ -74,6 +74,15 @@ pub fn all_targets<'a>(
     Ok(all)
 }
 
+/// The targets of a file that holds nothing else, in their order.
+pub fn listed_targets<'a>(alloc: Global, text: &'a [u8]) -> Result<Vec<&'a [u8]>, AllocError>
+    ensures { IfOk result (λ all. map (λ t. t.now) all.items ≡ targets_in text.now) }
+{
+    let mut all = Vec::new(alloc);
+    push_lines(text, &mut all)?;
+    Ok(all)
+}
+
 /// The targets in their order, each where it is given first.
 pub fn each_once<'a>(
     alloc: Global,

@@ -18,7 +18,7 @@ found_syncs (Some text) = script_syncs text
 
 -- ---- locks
 
--- a synchronisation has its directory for itself
+-- a synchronisation has its directory for itself, as a repair
 abbrev pub lock_for : Bool → DirectoryLock
 lock_for syncs = if syncs then Exclusive else Shared
 
@@ -34,6 +34,7 @@ IsScriptAccess path access = LocksScript path access.script access.lock
 -- Every other command shares it, and looks at no script.
 abbrev pub IsAccessOf : Request → Access → Type 0
 IsAccessOf (request.Sync config stamps) access = (access.lock ≡ Exclusive) × (access.script ≡ None)
+IsAccessOf (request.Repair stamps targets kept) access = (access.lock ≡ Exclusive) × (access.script ≡ None)
 IsAccessOf (request.Batch script) access = IsScriptAccess (string_bytes script) access
 IsAccessOf _ access = (access.lock ≡ Shared) × (access.script ≡ None)
 

@@ -1,5 +1,5 @@
 -- What was done before a command runs, call by call, from the opening of its tree on.
-use Rattle.std.specs.Prelude.{◌≡◌, ◌≢◌, ◌&&◌, ℕ, Bool, true, false, not, List, Option, Some, None, Result, Ok, Err, IfErr, IsErrOf, option_map, string_bytes}
+use Rattle.std.specs.Prelude.{◌≡◌, ◌≢◌, ◌&&◌, ◌||◌, ℕ, Bool, true, false, not, List, Option, Some, None, Result, Ok, Err, IfErr, IsErrOf, option_map, string_bytes}
 use Rattle.ks_tree.specs.Files.{HasRisen, content}
 use Rattle.ks_tree.specs.Paths.{auto_path}
 use Rattle.ks_tree.specs.declared.tree.Tree.{Ghosts}
@@ -7,6 +7,7 @@ use Rattle.ks_engine.specs.declared.error.EngineError.{EngineError}
 use Rattle.ks_engine.specs.declared.error.EngineError.TheVariants.{Device, OutOfMemory}
 use Rattle.ks_engine.specs.Refusals.{Answers}
 use Rattle.ks_requests.specs.declared.request.Request.{Request}
+use Rattle.ks_requests.specs.declared.request.Request.TheVariants.{Repair}
 use Rattle.ks_cli.specs.declared.args.WordsError.{WordsError}
 use Rattle.ks_session.specs.Calls.{Calls}
 use Rattle.ks_session.specs.Lock.{AreLocked, HoldsScript, LooksAtScript}
@@ -63,10 +64,19 @@ abbrev pub is_alone : DirectoryLock → Bool
 is_alone Exclusive = true
 is_alone Shared = false
 
+abbrev pub is_repair : Request → Bool
+is_repair (Repair stamps targets kept) = true
+is_repair request = false
+
+-- a repair is asked for, which begins no numbers
+abbrev pub asks_repair : Result Request WordsError → Bool
+asks_repair (Ok request) = is_repair request
+asks_repair (Err e) = false
+
 -- a command that synchronises, where nobody said that numbers may begin again
-abbrev pub needs_look : Bool → Option Access → Bool
-needs_look may_begin None = false
-needs_look may_begin (Some access) = is_alone access.lock && not may_begin
+abbrev pub needs_look : Bool → Bool → Option Access → Bool
+needs_look may_begin repairs None = false
+needs_look may_begin repairs (Some access) = is_alone access.lock && not (may_begin || repairs)
 
 -- what was found of auto.conf, as it is held
 abbrev pub IsAutoConf : {P : Type 0} → Ghosts P → P → Option Script → Type 0
@@ -120,7 +130,7 @@ pub record LooksLocked {P L : Type 0} (tree : Ghosts P) (calls : Calls P L) (rea
     (access : Option Access) (lock : Option L) (numbers : Numbers) (work_tree : P) : Type 0 where
   pub before : P
   pub locked : AsksForLock tree calls reads settings asked access (Had lock) before
-  pub looks : LooksIf (needs_look settings.may_begin access) tree calls reads (string_bytes settings.directory) before numbers work_tree
+  pub looks : LooksIf (needs_look settings.may_begin (asks_repair asked) access) tree calls reads (string_bytes settings.directory) before numbers work_tree
 
 -- A command that is to run has its lock and its dialect, and none of its numbers would be lost; the script, or auto.conf, is held as it was read.
 pub record IsReady {P L : Type 0} (tree : Ghosts P) (calls : Calls P L) (reads : Readings P) (settings : Settings) (asked : Result Request WordsError)

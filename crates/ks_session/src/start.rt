@@ -5,7 +5,7 @@
 //! All of it is decided here, over any system that answers these calls. `main` gives the system's own, and goes by the answer.
 ghost use Rattle.std.specs.Prelude.{◌≡◌, IfOk, option_map, string_bytes};
 ghost use Rattle.ks_session.specs.Calls.{Calls, no_calls};
-ghost use Rattle.ks_session.specs.Start.{Enters, Holds, IsKept, Locks, Looks, LooksIf, Opens, Starts, first_held, needs_look};
+ghost use Rattle.ks_session.specs.Start.{Enters, Holds, IsKept, Locks, Looks, LooksIf, Opens, Starts, asks_repair, first_held, needs_look};
 
 use crate::global_options::Settings;
 use crate::lock::{Access, DirectoryLock, Script, access_of};
@@ -230,12 +230,30 @@ fn look_for_numbers<H: Host>(
     }
 }
 
-/// Whether a command that has this access could lose numbers: one that synchronises, unless they may begin again.
-fn needs_look(settings: &Settings, access: &Option<Access>) -> bool
-    ensures { result ≡ needs_look settings.now.may_begin access.now }
+/// Whether it is a repair that is asked for, which begins no numbers.
+fn asks_repair(asked: &Result<Request, WordsError>) -> bool
+    ensures { result ≡ asks_repair asked.now }
 {
+    match asked {
+        Ok(request) => match request {
+            Request::Repair { .. } => true,
+            _ => false,
+        },
+        Err(_) => false,
+    }
+}
+
+/// Whether a command that has this access could lose numbers: one that synchronises, unless they may begin again.
+fn needs_look(
+    settings: &Settings,
+    asked: &Result<Request, WordsError>,
+    access: &Option<Access>,
+) -> bool
+    ensures { result ≡ needs_look settings.now.may_begin (asks_repair asked.now) access.now }
+{
+    let allowed = settings.may_begin || asks_repair(asked);
     match access {
-        Some(access) => matches!(access.lock, DirectoryLock::Exclusive) && !settings.may_begin,
+        Some(access) => matches!(access.lock, DirectoryLock::Exclusive) && !allowed,
         None => false,
     }
 }
@@ -246,11 +264,12 @@ fn look_if_needed<H: Host>(
     alloc: Global,
     work_tree: &mut H::WorkTree,
     settings: &Settings,
+    asked: &Result<Request, WordsError>,
     access: &Option<Access>,
 ) -> Result<Numbers, AllocError>
-    ensures { IfOk result (λ numbers. LooksIf (needs_look settings.now.may_begin access.now) H.WorkTree.Tree (H.calls host.now) H.WorkTree.reads (string_bytes settings.now.directory) work_tree.old numbers work_tree.new) }
+    ensures { IfOk result (λ numbers. LooksIf (needs_look settings.now.may_begin (asks_repair asked.now) access.now) H.WorkTree.Tree (H.calls host.now) H.WorkTree.reads (string_bytes settings.now.directory) work_tree.old numbers work_tree.new) }
 {
-    if needs_look(settings, access) {
+    if needs_look(settings, asked, access) {
         look_for_numbers(host, alloc, work_tree, settings.directory.as_str())
     } else {
         Ok(Numbers::Kept(None))
@@ -297,7 +316,7 @@ fn prepare<H: Host>(
         access,
         lock,
     } = entered;
-    match look_if_needed(host, alloc, &mut work_tree, settings, &access)? {
+    match look_if_needed(host, alloc, &mut work_tree, settings, asked, &access)? {
         Numbers::Lost(loss) => Ok(Start::Lost(loss)),
         Numbers::Kept(auto) => {
             hold_readings(host, &mut work_tree, first_held(access, auto));

@@ -33,3 +33,7 @@ returns-in-Users-clause-ends g c = rw (c.in-Users.is, ← c.deref.ensures.value)
 
 pub returns-in-Cost-clause-ends : goal.returns-in-Cost-clause-ends
 returns-in-Cost-clause-ends g c = rw c.in-Cost.is (c.report_cost.ensures.reads.unchanged, c.report_cost.ensures.reported)
+
+pub returns-in-Repair-clause-ends : goal.returns-in-Repair-clause-ends
+returns-in-Repair-clause-ends g c =
+    rw (c.in-Repair.is, ← c.as_bytes-in-Repair.ensures.value, ← c.as_bytes-in-Repair-2.ensures.value) (λ honest. c.repair_tree.ensures.files honest c.args.dialect)

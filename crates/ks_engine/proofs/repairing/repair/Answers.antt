@@ -1,0 +1,36 @@
+use Rattle.ks_engine.proofs.Prelude.{IfErr-weaker, ◌∙◌}
+use Rattle.std.proofs.lemmas.Result.{IfOk-weaker}
+use Rattle.ks_engine.proofs.Surveying.{finds_lost, lost_answer, lost_refused, put_back_refused, puts_back}
+use Rattle.ks_engine.proofs.repairing.repair.Goals as goal
+
+pub returns-in-Some-clause-repaired : goal.returns-in-Some-clause-repaired
+returns-in-Some-clause-repaired g c = λ honest.
+    let same = c.in_ok-found.ensures.reads.unchanged honest in
+    let last = c.in-Some.ensures.last in
+    IfOk-weaker c.put_back.result _ _
+    (λ r is. puts_back _ _ _ _ _ _ _ _ (c.in_ok-found.ensures.found honest) _ _ r last.0 last.1 is.0 is.1 is.2)
+    (rw same at (c.put_back.ensures.done honest))
+
+pub returns-in-Some-clause-refused : goal.returns-in-Some-clause-refused
+returns-in-Some-clause-refused g c = λ honest.
+    let same = c.in_ok-found.ensures.reads.unchanged honest in
+    let last = c.in-Some.ensures.last in
+    IfErr-weaker c.put_back.result _ _
+    (λ e is. put_back_refused _ _ _ _ _ _ _ _ (c.in_ok-found.ensures.found honest) _ _ e last.0 last.1 is)
+    (rw same at (c.put_back.ensures.refused honest))
+
+pub returns-clause-repaired : goal.returns-clause-repaired
+returns-clause-repaired g c = λ honest.
+    let same = c.in_ok-found.ensures.reads.unchanged honest in
+    IfOk-weaker c.report_lost.result _ _
+    (λ r is. lost_answer _ _ _ _ _ r (finds_lost _ _ _ _ _ _ _ _ (c.in_ok-found.ensures.found honest) _ r c.in-None.ensures.not_last
+    (c.report_lost.ensures.reads.unchanged honest ∙ same) is))
+    (rw same at (c.report_lost.ensures.found honest))
+
+pub returns-clause-refused : goal.returns-clause-refused
+returns-clause-refused g c = λ honest.
+    let same = c.in_ok-found.ensures.reads.unchanged honest in
+    IfErr-weaker c.report_lost.result _ _
+    (λ e is. lost_refused _ _ _ _ _ _ _ _ (c.in_ok-found.ensures.found honest) _ e c.in-None.ensures.not_last
+    (c.report_lost.ensures.reads.unchanged honest ∙ same) is)
+    (rw same at (c.report_lost.ensures.refused honest))

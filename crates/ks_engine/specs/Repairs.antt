@@ -1,0 +1,166 @@
+-- Putting back what the last completed synchronisation left, where another tool was at work: what is looked at, and what is left.
+use Rattle.std.specs.Prelude.{◌≡◌, ◌≢◌, ◌⊎◌, ◌+◌, ◌<◌, ◌≤◌, ◌==◌, ℕ, List, Option, Some, None, Result, Ok, Err, option_map, max, length, IsTrue, true, false, if◌then◌else◌}
+use Rattle.std.specs.List.{All}
+use Rattle.ks_symbols.specs.Names.{is_in, is_name, is_target, header_path}
+use Rattle.ks_fixdep.specs.CommandFile.{CommandRecord}
+use Rattle.ks_tree.specs.Files.{Files, IsTooLarge, content}
+use Rattle.ks_tree.specs.Paths.{auto_path, auto_temporary, command_path, header_temporary, stamp_path, stamp_temporary}
+use Rattle.ks_tree.specs.Stamps.{HasNumber, IsNoStamp, stamp_text}
+use Rattle.ks_engine.specs.Asked.{command_file}
+use Rattle.ks_engine.specs.LastSync.{old_auto}
+use Rattle.ks_engine.specs.Refusals.{IsAborted, and_then}
+use Rattle.ks_engine.specs.declared.error.EngineError.{EngineError}
+use Rattle.ks_engine.specs.declared.error.EngineError.TheVariants.{BadPath, GenerationFull, TooLarge}
+use Rattle.ks_engine.specs.declared.repairing.Kept.{Kept}
+use Rattle.ks_engine.specs.declared.repairing.Repaired.{Repaired}
+use Rattle.ks_engine.specs.declared.repairing.Repaired.TheVariants.{PutBack, Lost, Nothing}
+
+-- ---- which numbers there are
+
+-- the generation of an auto.conf; a missing one has 0
+abbrev pub generation_in : Option (List ℕ) → Result ℕ EngineError
+generation_in file = and_then (old_auto file) (λ auto. Ok auto.generation)
+
+abbrev pub kept_auto : Option Kept → Option (List ℕ)
+kept_auto kept = option_map (λ k. k.auto.items) kept
+
+-- The stamp says nothing: it is missing, empty or faulty, or its number is 0.
+abbrev pub IsLostStamp : Option (List ℕ) → Type 0
+IsLostStamp stamp = HasNumber stamp 0 ⊎ IsNoStamp stamp
+
+-- It has one of at most so much.
+abbrev pub HasNumberUpTo : ℕ → Option (List ℕ) → Type 0
+HasNumberUpTo highest stamp = (n : ℕ) × HasNumber stamp n × (0 < n) × (n ≤ highest)
+
+-- a number above 0, or that there is none
+abbrev pub IsStampNumber : Option (List ℕ) → Option ℕ → Type 0
+IsStampNumber stamp None = IsLostStamp stamp
+IsStampNumber stamp (Some n) = HasNumber stamp n × (0 < n)
+
+-- Of these names those that lost their stamp, and the highest number of the others.
+pub record AreStamps (files : Files) (names lost : List (List ℕ)) (highest : ℕ) : Type 0 where
+  pub legal : All (λ x. IsTrue (is_name x)) lost
+  pub are_lost : All (λ x. (is_in names x ≡ true) × IsLostStamp (content files (stamp_path x))) lost
+  pub others : All (λ x. (is_in lost x ≡ true) ⊎ HasNumberUpTo highest (content files (stamp_path x))) names
+  pub one : (highest ≡ 0) ⊎ ((x : List ℕ) × (is_in names x ≡ true) × HasNumber (content files (stamp_path x)) highest)
+
+-- A command file says that its object was recorded at this generation.
+abbrev pub IsRecordedAt : List ℕ → Option (List ℕ) → ℕ → Type 0
+IsRecordedAt o found g = (file : CommandRecord) × (command_file o found ≡ Ok (Some file)) × (file.generation ≡ Some g)
+
+-- Its generation, or 0 where it is missing or faulty, or has none.
+pub record IsRecordNumber (o : List ℕ) (found : Option (List ℕ)) (n : ℕ) : Type 0 where
+  pub each : (g : ℕ) → IsRecordedAt o found g → g ≤ n
+  pub one : (n ≡ 0) ⊎ IsRecordedAt o found n
+
+-- The highest generation of these objects' records.
+pub record IsHighestRecord (files : Files) (targets : List (List ℕ)) (highest : ℕ) : Type 0 where
+  pub each : All (λ o. (g : ℕ) → IsRecordedAt o (content files (command_path o)) g → g ≤ highest) targets
+  pub one : (highest ≡ 0) ⊎ ((o : List ℕ) × (is_in targets o ≡ true) × IsRecordedAt o (content files (command_path o)) highest)
+
+-- The generation of what was kept, the highest of the records and of the stamps, and the names that lost their stamp.
+pub record IsSurvey (files : Files) (kept : Option Kept) (names targets : List (List ℕ)) (generation records stamps : ℕ) (lost : List (List ℕ)) : Type 0 where
+  pub is_kept : generation_in (kept_auto kept) ≡ Ok generation
+  pub are_records : IsHighestRecord files targets records
+  pub are_stamps : AreStamps files names lost stamps
+
+-- What was kept is of the last synchronisation that left numbers here, but for one that was broken off among its stamps.
+pub record IsLast (generation records stamps : ℕ) : Type 0 where
+  pub numbered : 0 < generation
+  pub above_records : records ≤ generation
+  pub above_stamps : stamps ≤ generation + 1
+
+-- ---- what a repair leaves
+
+-- Stamps of some of the lost names are renewed. Where all are, the header may be the kept one, and then auto.conf may be. All else but the
+-- temporary files is as before.
+pub record RepairLeaves (old new : Files) (k : Kept) (number : ℕ) (lost renewed : List (List ℕ)) : Type 0 where
+  pub within : (x : List ℕ) → is_in renewed x ≡ true → is_in lost x ≡ true
+  pub stamps : (x : List ℕ) → IsTrue (is_name x) → content new (stamp_path x)
+      ≡ (if is_in renewed x then Some (stamp_text number) else content old (stamp_path x))
+  pub header : (content new header_path ≡ content old header_path) ⊎ ((renewed ≡ lost) × (content new header_path ≡ Some k.header.items))
+  pub auto : (content new auto_path ≡ content old auto_path)
+      ⊎ ((renewed ≡ lost) × (content new header_path ≡ Some k.header.items) × (content new auto_path ≡ Some k.auto.items))
+  pub others : (q : List ℕ) → ((x : List ℕ) → is_in lost x ≡ true → q ≢ stamp_path x) → q ≢ header_path → q ≢ auto_path
+      → q ≢ stamp_temporary → q ≢ header_temporary → q ≢ auto_temporary → content new q ≡ content old q
+
+-- All of it is done.
+pub record IsPutBack (old new : Files) (k : Kept) (number : ℕ) (lost : List (List ℕ)) : Type 0 where
+  pub leaves : RepairLeaves old new k number lost lost
+  pub header : content new header_path ≡ Some k.header.items
+  pub auto : content new auto_path ≡ Some k.auto.items
+
+-- It was put back, with the number that the next synchronisation gets too.
+pub record PutsBack (old new : Files) (kept : Option Kept) (names targets : List (List ℕ)) (generation count : ℕ) : Type 0 where
+  pub records : ℕ
+  pub stamps : ℕ
+  pub lost : List (List ℕ)
+  pub survey : IsSurvey old kept names targets generation records stamps lost
+  pub last : IsLast generation records stamps
+  pub headroom : generation < 18446744073709551615
+  pub counted : count ≡ length lost
+  pub k : Kept
+  pub given : kept ≡ Some k
+  pub done : IsPutBack old new k (generation + 1) lost
+
+abbrev pub lost_or_nothing : ℕ → Repaired
+lost_or_nothing highest = if highest == 0 then Nothing else Lost highest
+
+-- What was kept is not of the last synchronisation, so nothing has changed, and the highest number of all is reported.
+pub record FindsLost (old new : Files) (kept : Option Kept) (names targets : List (List ℕ)) (answer : Repaired) : Type 0 where
+  pub generation : ℕ
+  pub records : ℕ
+  pub stamps : ℕ
+  pub lost : List (List ℕ)
+  pub survey : IsSurvey old kept names targets generation records stamps lost
+  pub not_last : IsLast generation records stamps → ⊥
+  pub present : ℕ
+  pub auto : generation_in (content old auto_path) ≡ Ok present
+  pub reported : answer ≡ lost_or_nothing (max (max generation records) (max stamps present))
+  pub unchanged : new ≡ old
+
+abbrev pub IsRepaired : Files → Files → Option Kept → List (List ℕ) → List (List ℕ) → Repaired → Type 0
+IsRepaired old new kept names targets (PutBack generation count) = PutsBack old new kept names targets generation count
+IsRepaired old new kept names targets answer = FindsLost old new kept names targets answer
+
+-- ---- why it is refused
+
+abbrev pub HasBadTarget : List (List ℕ) → Type 0
+HasBadTarget targets = (o : List ℕ) × (is_in targets o ≡ true) × (is_target o ≡ false)
+
+abbrev pub HasLargeStamp : Files → List (List ℕ) → Type 0
+HasLargeStamp files names = (x : List ℕ) × (is_in names x ≡ true) × IsTooLarge (content files (stamp_path x))
+
+-- It is known whether what was kept is of the last synchronisation.
+pub record IsKnown (files : Files) (kept : Option Kept) (names targets : List (List ℕ)) (generation : ℕ) (decides : Type 0 → Type 0) : Type 0 where
+  pub records : ℕ
+  pub stamps : ℕ
+  pub lost : List (List ℕ)
+  pub survey : IsSurvey files kept names targets generation records stamps lost
+  pub decided : decides (IsLast generation records stamps)
+
+-- What was kept, a target, a stamp, or the auto.conf that is there refuses it, or no generation is left.
+abbrev pub IsRepairRefusal : Files → Option Kept → List (List ℕ) → List (List ℕ) → EngineError → Type 0
+IsRepairRefusal files kept names targets e =
+    (generation_in (kept_auto kept) ≡ Err e)
+    ⊎ (HasBadTarget targets × (e ≡ BadPath 0))
+    ⊎ (HasLargeStamp files names × (e ≡ TooLarge))
+    ⊎ (IsKnown files kept names targets 18446744073709551615 (λ last. last) × (e ≡ GenerationFull))
+    ⊎ (((generation : ℕ) × IsKnown files kept names targets generation (λ last. last → ⊥)) × (generation_in (content files auto_path) ≡ Err e))
+
+-- It reached its first write and was given up.
+pub record IsRepairBrokenOff (old new : Files) (kept : Option Kept) (names targets : List (List ℕ)) : Type 0 where
+  pub generation : ℕ
+  pub records : ℕ
+  pub stamps : ℕ
+  pub lost : List (List ℕ)
+  pub survey : IsSurvey old kept names targets generation records stamps lost
+  pub last : IsLast generation records stamps
+  pub k : Kept
+  pub given : kept ≡ Some k
+  pub renewed : List (List ℕ)
+  pub leaves : RepairLeaves old new k (generation + 1) lost renewed
+
+abbrev pub IsRepairRefused : Files → Files → Option Kept → List (List ℕ) → List (List ℕ) → EngineError → Type 0
+IsRepairRefused old new kept names targets e =
+    ((new ≡ old) × IsRepairRefusal old kept names targets e) ⊎ (IsAborted e × ((new ≡ old) ⊎ IsRepairBrokenOff old new kept names targets))

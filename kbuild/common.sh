@@ -13,10 +13,11 @@ records=include/config/confstamp.records
 module_records=.confstamp.records
 dialects=include/config/confstamp.dialect
 split=include/config/confstamp.h
-kept_header=include/config/confstamp.header
+conf_header=include/config/confstamp.header
 make_mark=include/config/confstamp.make
 clock_ref=include/config/confstamp.time
 kept_auto=include/config/confstamp.auto
+kept_header=include/config/confstamp.autoconf
 verified=include/config/confstamp.verified
 mark='# Synchronised by the hooks of confstamp'
 marked='^[a-z]*cmd_[^ ]* := include.config.[^ ]*$'

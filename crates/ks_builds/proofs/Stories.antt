@@ -10,7 +10,7 @@ use Rattle.ks_builds.proofs.Between.{lost_records_are_left_out, repairs_are_brea
 
 one_happens : (e : Happening) (old new : FileState) (h : History) → Shows old.files h → LeavesFiles e old new
     → (next : History) × Leaves e (at old.files old.failures h) (at new.files new.failures next) × Shows new.files next
-one_happens (Ran dialect request ended) old new h shows ends = requests_go_on dialect request ended old new h shows ends
+one_happens (Ran dialect request ended) old new h shows ends = requests_go_on dialect request ended old new h ends.0 shows ends.1
 one_happens (Written gone) old new h shows same = (without gone h, (same, refl), lost_records_are_left_out h gone old.files new.files shows same)
 one_happens (Repaired gone title config renewed) old new h shows is =
     (Broken title config renewed (without gone h), (is, refl), repairs_are_breaks h gone title config renewed old.files new.files shows is)

@@ -1,5 +1,5 @@
 -- What other programs do to the files of a tree between two runs of the program, and which history these show then.
-use Rattle.std.specs.Prelude.{◌≡◌, ◌<◌, ◌+◌, ℕ, List, Some, Ok, Bool, false, if◌then◌else◌, IsTrue}
+use Rattle.std.specs.Prelude.{◌≡◌, ◌<◌, ◌+◌, ℕ, List, Option, Some, Ok, Bool, true, false, if◌then◌else◌, IsTrue}
 use Rattle.ks_symbols.specs.Configuration.{Configuration}
 use Rattle.ks_symbols.specs.Names.{is_name, is_in, header_path}
 use Rattle.ks_compare.specs.Changes.{differs}
@@ -9,7 +9,9 @@ use Rattle.ks_tree.specs.Stamps.{HasNumber, stamp_text}
 use Rattle.ks_engine.specs.History.{History, Begun, Broken, LastRecord, before, done}
 use Rattle.ks_engine.specs.LastSync.{OldAuto, old_auto}
 use Rattle.ks_engine.specs.Legal.{Defines, IsLegalSync}
+use Rattle.ks_engine.specs.Repairs.{PutsBack}
 use Rattle.ks_engine.specs.Shows.{Shows, IsCommandFile, stamp}
+use Rattle.ks_engine.specs.declared.repairing.Kept.{Kept}
 use Rattle.ks_parallel.specs.Views.{without}
 
 -- auto.conf and the header are as before, each stamp has the number that it had, and each command file says what it said, but those of these objects,
@@ -48,6 +50,26 @@ abbrev pub RepairsAreBreaks : Type 0
 RepairsAreBreaks =
     (h : History) (gone : List ℕ → Bool) (title : List ℕ) (config : Configuration) (renewed : List (List ℕ)) (old new : Files) → Shows old h
     → IsRepaired gone title config renewed old new → Shows new (Broken title config renewed (without gone h))
+
+-- What another tool leaves before `confstamp repair` runs: each stamp but the lost ones says what it said, and so does each command file, but those
+-- of these objects. auto.conf and the header may be any.
+pub record LeavesTraces (gone : List ℕ → Bool) (lost : List (List ℕ)) (old found : Files) : Type 0 where
+  pub stamps : (x : List ℕ) (n : ℕ) → IsTrue (is_name x) → is_in lost x ≡ false → HasNumber (content old (stamp_path x)) n → HasNumber (content found (stamp_path x)) n
+  pub commands : (o : List ℕ) (r : LastRecord) (b : List ℕ) → gone o ≡ false → content old (command_path o) ≡ Some b → IsCommandFile o r b
+      → (now : List ℕ) × (content found (command_path o) ≡ Some now) × IsCommandFile o r now
+
+-- What was kept is the auto.conf and the header that stood here.
+pub record IsCopyOf (old : Files) (k : Kept) : Type 0 where
+  pub auto : content old auto_path ≡ Some k.auto.items
+  pub header : content old header_path ≡ Some k.header.items
+
+-- What `confstamp repair` puts back is a synchronisation that was broken off among the lost stamps, by each configuration that differs in these names.
+abbrev pub PutBackIsShown : Type 0
+PutBackIsShown =
+    (h : History) (gone : List ℕ → Bool) (title : List ℕ) (config : Configuration) (old found new : Files) (kept : Option Kept) (names targets : List (List ℕ))
+    (generation count : ℕ) (puts : PutsBack found new kept names targets generation count) → Shows old h → IsCopyOf old puts.k → LeavesTraces gone puts.lost old found
+    → IsLegalSync title config → ((x : List ℕ) → is_in puts.lost x ≡ true → differs (before h) config x ≡ true)
+    → Shows new (Broken title config puts.lost (without gone h))
 
 -- Whatever happened in a tree, its files also show the history that begins now: so what is recorded after the next synchronisation is judged exactly.
 abbrev pub TreesBeginAgain : Type 0

@@ -27,6 +27,14 @@ const MEANINGS: &[(&str, &[&str], &str)] = &[
     ("record without its file", &["record", "--remove-depfile", "x.d", "x.o", "cc"], r#"Record { depfile: "x.d", target: "x.o", command: "cc", after: Removed }"#),
     ("depfile", &["depfile", "x.d", "x.o", "cc"], r#"Depfile { header: None, depfile: "x.d", target: "x.o", command: "cc" }"#),
     ("depfile with another header", &["depfile", "x.d", "x.o", "cc", "--header", "a.h"], r#"Depfile { header: Some("a.h"), depfile: "x.d", target: "x.o", command: "cc" }"#),
+    ("repair without what was kept", &["repair", "--stamps", "s", "--targets", "t"], r#"Repair { stamps: "s", targets: "t", kept: None }"#),
+    ("repair by what was kept", &["repair", "a", "--targets", "t", "h", "--stamps", "s"], r#"Repair { stamps: "s", targets: "t", kept: Some(KeptPaths { auto: "a", header: "h" }) }"#),
+    ("repair without a header", &["repair", "--stamps", "s", "--targets", "t", "a"], r#"Repair { stamps: "s", targets: "t", kept: Some(KeptPaths { auto: "a", header: "" }) }"#),
+];
+
+/// Those of queries, and what is read as such a one.
+#[rattlefmt::skip]
+const MEANINGS_OF_QUERIES: &[(&str, &[&str], &str)] = &[
     ("stale of one", &["stale", "x.o"], r#"Stale { targets: Targets { args: ["x.o"], from: None }, format: Text }"#),
     ("stale of several", &["stale", "x.o", "z.o", "x.o"], r#"Stale { targets: Targets { args: ["x.o", "z.o", "x.o"], from: None }, format: Text }"#),
     ("stale of a file", &["stale", "--from", "f"], r#"Stale { targets: Targets { args: [], from: Some("f") }, format: Text }"#),
@@ -52,9 +60,6 @@ const MEANINGS: &[(&str, &[&str], &str)] = &[
     ("-- after --", &["stale", "--", "x.o", "--"], r#"Stale { targets: Targets { args: ["x.o", "--"], from: None }, format: Text }"#),
     ("names of commands", &["stale", "sync", "help"], r#"Stale { targets: Targets { args: ["sync", "help"], from: None }, format: Text }"#),
     ("users of two symbols", &["users", "A", "--from", "f", "CONFIG_B"], r#"Users { symbols: ["A", "CONFIG_B"], targets: Targets { args: [], from: Some("f") } }"#),
-    ("repair without what was kept", &["repair", "--stamps", "s", "--targets", "t"], r#"Repair { stamps: "s", targets: "t", kept: None }"#),
-    ("repair by what was kept", &["repair", "a", "--targets", "t", "h", "--stamps", "s"], r#"Repair { stamps: "s", targets: "t", kept: Some(KeptPaths { auto: "a", header: "h" }) }"#),
-    ("repair without a header", &["repair", "--stamps", "s", "--targets", "t", "a"], r#"Repair { stamps: "s", targets: "t", kept: Some(KeptPaths { auto: "a", header: "" }) }"#),
     ("cost of one", &["cost", "x.o"], r#"Cost { top: None, targets: Targets { args: ["x.o"], from: None } }"#),
     ("the most expensive of a file", &["cost", "--top", "007", "--from", "f"], r#"Cost { top: Some(7), targets: Targets { args: [], from: Some("f") } }"#),
 ];
@@ -70,6 +75,15 @@ fn meaning(alloc: Global, args: &[&str]) -> Result<String, AllocError> {
 #[test]
 fn args_are_taken_as_meant(rt: HostRuntime) -> Result<(), AllocError> {
     for &(name, args, want) in MEANINGS {
+        let found = meaning(rt.alloc(), args)?;
+        check_text(&rt, name, found.as_str(), want);
+    }
+    Ok(())
+}
+
+#[test]
+fn queries_are_taken_as_meant(rt: HostRuntime) -> Result<(), AllocError> {
+    for &(name, args, want) in MEANINGS_OF_QUERIES {
         let found = meaning(rt.alloc(), args)?;
         check_text(&rt, name, found.as_str(), want);
     }

@@ -1,5 +1,7 @@
 -- What other programs do to the files of a tree between two runs of the program, and which history these show then.
 use Rattle.std.specs.Prelude.{◌≡◌, ◌<◌, ◌+◌, ℕ, List, Option, Some, Ok, Bool, true, false, if◌then◌else◌, IsTrue}
+use Rattle.std.specs.List.{All}
+use Rattle.std.specs.FinMap.{empty}
 use Rattle.ks_symbols.specs.Configuration.{Configuration}
 use Rattle.ks_symbols.specs.Names.{is_name, is_in, header_path}
 use Rattle.ks_compare.specs.Changes.{differs}
@@ -9,9 +11,11 @@ use Rattle.ks_tree.specs.Stamps.{HasNumber, stamp_text}
 use Rattle.ks_engine.specs.History.{History, Begun, Broken, LastRecord, before, done}
 use Rattle.ks_engine.specs.LastSync.{OldAuto, old_auto}
 use Rattle.ks_engine.specs.Legal.{Defines, IsLegalSync}
-use Rattle.ks_engine.specs.Repairs.{PutsBack}
+use Rattle.ks_engine.specs.Repairs.{IsNumbered, PutsBack}
+use Rattle.ks_engine.specs.Repairs.{IsRepaired as IsRepairedTree}
 use Rattle.ks_engine.specs.Shows.{Shows, IsCommandFile, stamp}
 use Rattle.ks_engine.specs.declared.repairing.Kept.{Kept}
+use Rattle.ks_engine.specs.declared.repairing.Repaired.TheVariants.{BegunAgain}
 use Rattle.ks_parallel.specs.Views.{without}
 
 -- auto.conf and the header are as before, each stamp has the number that it had, and each command file says what it said, but those of these objects,
@@ -74,3 +78,11 @@ PutBackIsShown =
 -- Whatever happened in a tree, its files also show the history that begins now: so what is recorded after the next synchronisation is judged exactly.
 abbrev pub TreesBeginAgain : Type 0
 TreesBeginAgain = (h : History) (files : Files) → Shows files h → Shows files (Begun (before h) (done h) (stamp h))
+
+-- What `confstamp repair` leaves where numbers were lost shows the history that begins then, and no record of these objects has a number. The premise: only
+-- these names have a stamp with a number.
+abbrev pub LostNumbersBeginAgain : Type 0
+LostNumbersBeginAgain =
+    (old new : Files) (kept : Option Kept) (names targets : List (List ℕ)) (generation : ℕ) → IsRepairedTree old new kept names targets (BegunAgain generation)
+    → ((x : List ℕ) → IsTrue (is_name x) → is_in names x ≡ false → HasNumber (content old (stamp_path x)) 0)
+    → Shows new (Begun empty generation (λ x. if is_in names x then generation else 0)) × All (λ o. IsNumbered new o → ⊥) targets

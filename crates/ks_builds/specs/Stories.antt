@@ -9,7 +9,7 @@ use Rattle.ks_engine.specs.Runs.{IsShown}
 use Rattle.ks_engine.specs.Shows.{Shows}
 use Rattle.ks_requests.specs.declared.request.Request.{Request}
 use Rattle.ks_requests.specs.Endings.{Ending}
-use Rattle.ks_commands.specs.Histories.{Continues, IsTold}
+use Rattle.ks_commands.specs.Histories.{Continues, IsNoRepair}
 use Rattle.ks_commands.specs.Programs.{ProgramReportsChanges}
 use Rattle.ks_commands.specs.Performed.{Ends, by_files}
 use Rattle.ks_parallel.specs.Views.{without}
@@ -25,7 +25,7 @@ pub data Happening : Type 0 where
 
 -- by the files of the tree
 abbrev pub LeavesFiles : Happening → FileState → FileState → Type 0
-LeavesFiles (Ran dialect request ended) old new = IsTold request × Ends ⊤ (by_files dialect ⊤ old new) old request ended new
+LeavesFiles (Ran dialect request ended) old new = IsNoRepair request × Ends ⊤ (by_files dialect ⊤ old new) old request ended new
 LeavesFiles (Written gone) old new = SaysTheSame gone old.files new.files
 LeavesFiles (Repaired gone title config renewed) old new = IsRepaired gone title config renewed old.files new.files
 

@@ -1,6 +1,6 @@
 //! Laws of the definitions, each the contract of a function that does nothing.
 ghost use Rattle.ks_builds.specs.Adopted.{NeverTouchedIsTheSame};
-ghost use Rattle.ks_builds.specs.Between.{LostRecordsAreLeftOut, OthersMayWrite, PutBackIsShown, RepairsAreBreaks, TreesBeginAgain};
+ghost use Rattle.ks_builds.specs.Between.{LostNumbersBeginAgain, LostRecordsAreLeftOut, OthersMayWrite, PutBackIsShown, RepairsAreBreaks, TreesBeginAgain};
 ghost use Rattle.ks_builds.specs.Builds.{BuildsAreRight, WhatIsNotBackdatedIsFresh, WhatIsNotBackdatedIsSafe};
 ghost use Rattle.ks_builds.specs.Stories.{StoriesAreShown, StoriesReportChanges};
 
@@ -10,6 +10,7 @@ pub fn foreign_writes_are_shown()
     ensures lost { LostRecordsAreLeftOut }
     ensures repaired { RepairsAreBreaks }
     ensures put_back { PutBackIsShown }
+    ensures begun { LostNumbersBeginAgain }
     ensures again { TreesBeginAgain }
 {}
 

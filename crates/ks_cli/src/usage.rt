@@ -278,8 +278,9 @@ Example: confstamp depfile x.d x.o 'cc -c x.c'",
         ],
         override_usage: Some("confstamp repair --stamps FILE --targets FILE [AUTO HEADER]"),
         after_help: "\
-Each stamp that is empty, 0, faulty or missing counts as changed after that sync. Prints put back GENERATION touched N; or,
-where numbers are higher than AUTO's, and nothing is written, numbers lost HIGHEST; or no numbers.
+Each stamp that is empty, 0, faulty or missing counts as changed after that sync: put back GENERATION touched N. Where a
+number is higher than AUTO's, or AUTO isn't given, no object keeps its number, and numbers begin again above all others:
+began again GENERATION. Where there are none, nothing is written: no numbers.
 
 Example: confstamp repair --stamps stamps --targets objects kept.auto kept.h",
     },

@@ -33,9 +33,9 @@ abbrev pub Runs : Dialect → TreeState → TreeState → List Action → List R
 Runs dialect old new actions replies = (failures : ℕ) × (old.failures ≤ failures) × Run dialect (at old.files failures old.history) (calls_of actions replies) new
 
 -- A request of which histories tell. A repair is none: what was kept may be anything.
-abbrev pub IsTold : Request → Type 0
-IsTold (Repair stamps targets kept) = ⊥
-IsTold request = ⊤
+abbrev pub IsNoRepair : Request → Type 0
+IsNoRepair (Repair stamps targets kept) = ⊥
+IsNoRepair request = ⊤
 
 -- What changes a tree is the next event. A question adds none, and what it is answered by the files holds of each history that they show.
 abbrev pub by_histories : Dialect → TreeState → TreeState → Effects

@@ -26,3 +26,4 @@ pub mod Beginnings
 pub mod NotNumbered
 pub mod PuttingBack
 pub mod Surveying
+pub mod BeginningAgain

@@ -1,21 +1,27 @@
 -- What is known of the numbers of a tree, record by record and stamp by stamp.
-use Rattle.ks_engine.proofs.Prelude.{◌≡◌, ◌⊎◌, inl, inr, ⊎_elim, ⊎_map, ℕ, List, [], ◌∷◌, ◌++◌, ◌≤◌, ◌<◌, Option, Some, None, true, ◌∙◌, sym, refl, subst, arith, All, All-nil, All-push, All-weaker, bytes_eq, bytes_eq-Decides, list_any-append, list_any_at, length, length-map, get_or, get_or-map, map, ap, false, Bool, cond, Ok, Err, EngineError, BadPath, TooLarge, IsTooLarge, IsAborted, and_then, old_auto, auto_refusal, auto_generation, auto_path, ◌+◌, is_target, or_left, or_right, is_in, is_name, IsTrue, Files, content, HasNumber, command_path, stamp_path}
-use Rattle.std.specs.Prelude.{max}
+use Rattle.ks_engine.proofs.Prelude.{◌≡◌, ◌⊎◌, inl, inr, ⊎_elim, ⊎_map, ℕ, List, [], ◌∷◌, ◌++◌, ◌≤◌, ◌<◌, Option, Some, None, true, ◌∙◌, append_assoc, sym, refl, subst, subst₂, arith, common_steps, All, All-nil, All-push, All-take, All-weaker, take-append_seam, bytes_eq, bytes_eq-Decides, list_any-append, list_any_at, length, length-map, get_or, get_or-map, map, ap, false, Ok, Err, EngineError, BadPath, TooLarge, IsTooLarge, IsAborted, and_then, old_auto, auto_refusal, auto_generation, auto_path, ◌+◌, is_target, or_left, or_right, is_in, is_name, IsTrue, Files, content, HasNumber, command_path, stamp_path}
+use Rattle.std.specs.Prelude.{IsPermutation, max}
+use Rattle.std.specs.Ordering.{nat_cmp, ord_max}
+use Rattle.std.proofs.lemmas.List.Sorted.{All-permutation, IsPermutation-append_comm, IsPermutation-append_left, IsPermutation-append_right, IsPermutation-refl, IsPermutation-trans}
 use Rattle.ks_engine.specs.declared.repairing.Kept.{Kept}
 use Rattle.ks_engine.specs.declared.repairing.Repaired.{Repaired}
-use Rattle.ks_engine.specs.declared.repairing.Repaired.TheVariants.{PutBack, Lost, Nothing}
+use Rattle.ks_engine.specs.declared.repairing.Repaired.TheVariants.{PutBack, BegunAgain, Nothing}
 use Rattle.ks_engine.specs.declared.error.EngineError.TheVariants.{GenerationFull}
 use Rattle.std.specs.Borrow.{Bor}
 use Rattle.ks_engine.proofs.Reading.{ok_ok, old_some}
 use Rattle.ks_tree.specs.declared.tree.Tree.{Ghosts}
-use Rattle.ks_tree.specs.Frames.{Reads}
-use Rattle.ks_engine.specs.Repairs.{AreStamps, FindsLost, IsLast, IsPutBack, IsRepairRefused, IsRepaired, IsSurvey, RepairLeaves, kept_auto, lost_or_nothing, HasBadTarget, HasLargeStamp, HasNumberUpTo, generation_in, IsHighestRecord, IsLostStamp, IsRecordNumber, IsRecordedAt, IsStampNumber}
+use Rattle.ks_tree.specs.Files.{HasRisen}
+use Rattle.ks_tree.specs.Frames.{Counted, Reads}
+use Rattle.ks_engine.specs.Repairs.{AreLost, AreStamps, Begins, IsBeginningRefused, IsBegun, IsLast, IsPutBack, IsRepairRefused, IsRepaired, IsSurvey, RepairLeaves, kept_auto, HasBadTarget, HasLargeStamp, HasNumberUpTo, generation_in, IsHighestRecord, IsLostStamp, IsRecordNumber, IsRecordedAt, IsStampNumber}
 
 pub in_more : (xs : List (List ℕ)) (y x : List ℕ) → is_in xs x ≡ true → is_in (xs ++ y ∷ []) x ≡ true
 in_more xs y x is = list_any-append (bytes_eq x) xs (y ∷ []) ∙ or_left _ _ is
 
 pub in_last : (xs : List (List ℕ)) (y : List ℕ) → is_in (xs ++ y ∷ []) y ≡ true
 in_last xs y = list_any-append (bytes_eq y) xs (y ∷ []) ∙ or_right _ _ (or_left _ _ ((bytes_eq-Decides y y).1 refl))
+
+pub max_is : (a b : ℕ) → ord_max nat_cmp a b ≡ max a b
+max_is a b = grind (arith, common_steps)
 
 -- the greater of two numbers is one of them
 either : (a b : ℕ) → (max a b ≡ a) ⊎ (max a b ≡ b)
@@ -47,23 +53,24 @@ records_more files done o highest n was is = record {
 }
 
 pub no_stamps : (files : Files) → AreStamps files [] [] 0
-no_stamps files = record { legal = All-nil _; are_lost = All-nil _; others = All-nil _; one = inl refl }
+no_stamps files = record { legal = All-nil _; are_lost = All-nil _; others = []; numbered = All-nil _; all = IsPermutation-refl []; one = inl refl }
+
+moved : (lost others : List (List ℕ)) (x : List ℕ) → IsPermutation ((lost ++ others) ++ x ∷ []) ((lost ++ x ∷ []) ++ others)
+moved lost others x = subst₂ IsPermutation (sym (append_assoc lost others (x ∷ []))) (sym (append_assoc lost (x ∷ []) others))
+    (IsPermutation-append_right lost (others ++ x ∷ []) (x ∷ others) (IsPermutation-append_comm others (x ∷ [])))
 
 module _ (files : Files) (done lost : List (List ℕ)) (x : List ℕ) (highest : ℕ) (was : AreStamps files done lost highest) where
-  lost_among : All (λ y. (is_in (done ++ x ∷ []) y ≡ true) × IsLostStamp (content files (stamp_path y))) lost
-  lost_among = All-weaker (λ y. (is_in done y ≡ true) × IsLostStamp (content files (stamp_path y)))
-      (λ y. (is_in (done ++ x ∷ []) y ≡ true) × IsLostStamp (content files (stamp_path y))) (λ y is. (in_more done x y is.0, is.1)) lost was.are_lost
-
   -- a stamp with a number
-  pub stamps_more : (n : ℕ) → IsStampNumber (content files (stamp_path x)) (Some n) → AreStamps files (done ++ x ∷ []) lost (max highest n)
-  stamps_more n is = record {
-    legal = was.legal;
-    are_lost = lost_among;
-    others = All-push (λ y. (is_in lost y ≡ true) ⊎ HasNumberUpTo (max highest n) (content files (stamp_path y))) done x
-        (All-weaker (λ y. (is_in lost y ≡ true) ⊎ HasNumberUpTo highest (content files (stamp_path y)))
-        (λ y. (is_in lost y ≡ true) ⊎ HasNumberUpTo (max highest n) (content files (stamp_path y)))
-        (λ y. ⊎_map (λ in_lost. in_lost) (λ has. (has.0, has.1, has.2, up has.0 highest n has.3))) done was.others)
-        (inr (n, is.0, is.1, up_right n highest n (omega arith)));
+  pub stamps_more : (n : ℕ) → IsTrue (is_name x) → IsStampNumber (content files (stamp_path x)) (Some n) → AreStamps files (done ++ x ∷ []) lost (max highest n)
+  stamps_more n legal is = record {
+    legal = All-push (λ y. IsTrue (is_name y)) done x was.legal legal;
+    are_lost = was.are_lost;
+    others = was.others ++ x ∷ [];
+    numbered = All-push (λ y. HasNumberUpTo (max highest n) (content files (stamp_path y))) was.others x
+        (All-weaker (λ y. HasNumberUpTo highest (content files (stamp_path y))) (λ y. HasNumberUpTo (max highest n) (content files (stamp_path y)))
+        (λ y has. (has.0, has.1, has.2, up has.0 highest n has.3)) was.others was.numbered)
+        (n, is.0, is.1, up_right n highest n (omega arith));
+    all = subst (IsPermutation (done ++ x ∷ [])) (append_assoc lost was.others (x ∷ [])) (IsPermutation-append_left (x ∷ []) done (lost ++ was.others) was.all);
     one = ⊎_elim
         (λ first. ⊎_map (λ zero. first ∙ zero)
         (λ found. (found.0, in_more done x found.0 found.1, subst (HasNumber (content files (stamp_path found.0))) (sym first) found.2)) was.one)
@@ -74,15 +81,20 @@ module _ (files : Files) (done lost : List (List ℕ)) (x : List ℕ) (highest :
   -- a stamp that says nothing
   pub lost_more : IsTrue (is_name x) → IsStampNumber (content files (stamp_path x)) None → AreStamps files (done ++ x ∷ []) (lost ++ x ∷ []) highest
   lost_more legal is = record {
-    legal = All-push (λ y. IsTrue (is_name y)) lost x was.legal legal;
-    are_lost = All-push (λ y. (is_in (done ++ x ∷ []) y ≡ true) × IsLostStamp (content files (stamp_path y))) lost x lost_among (in_last done x, is);
-    others = All-push (λ y. (is_in (lost ++ x ∷ []) y ≡ true) ⊎ HasNumberUpTo highest (content files (stamp_path y))) done x
-        (All-weaker (λ y. (is_in lost y ≡ true) ⊎ HasNumberUpTo highest (content files (stamp_path y)))
-        (λ y. (is_in (lost ++ x ∷ []) y ≡ true) ⊎ HasNumberUpTo highest (content files (stamp_path y)))
-        (λ y. ⊎_map (in_more lost x y) (λ has. has)) done was.others)
-        (inl (in_last lost x));
+    legal = All-push (λ y. IsTrue (is_name y)) done x was.legal legal;
+    are_lost = All-push (λ y. IsLostStamp (content files (stamp_path y))) lost x was.are_lost is;
+    others = was.others;
+    numbered = was.numbered;
+    all = IsPermutation-trans (done ++ x ∷ []) ((lost ++ was.others) ++ x ∷ []) ((lost ++ x ∷ []) ++ was.others)
+        (IsPermutation-append_left (x ∷ []) done (lost ++ was.others) was.all)
+        (moved lost was.others x);
     one = ⊎_map (λ zero. zero) (λ found. (found.0, in_more done x found.0 found.1, found.2)) was.one;
   }
+
+-- The names that lost their stamp are legal.
+pub lost_legal : (files : Files) (names lost : List (List ℕ)) (highest : ℕ) → AreStamps files names lost highest → All (λ x. IsTrue (is_name x)) lost
+lost_legal files names lost highest are = subst (All (λ x. IsTrue (is_name x))) (take-append_seam lost are.others)
+    (All-take (λ x. IsTrue (is_name x)) (length lost) (lost ++ are.others) (All-permutation (λ x. IsTrue (is_name x)) names (lost ++ are.others) are.all are.legal))
 
 -- ---- steps that may refuse
 
@@ -93,6 +105,13 @@ reads_more tree a b c device first second = record {
   kept = second.kept ∙ first.kept;
   counted = record { later = omega (arith, first.counted.later, second.counted.later); cause = λ never. absurd never };
 }
+
+risen : (a b c : ℕ) → a ≤ b → HasRisen b c → HasRisen a c
+risen a b c le is = omega (arith, le, is)
+
+-- One more call that writes
+pub counted_more : {T : Type 0} (tree : Ghosts T) (a b c : T) (device : Type 0) → Counted tree a b ⊥ → Counted tree b c device → Counted tree a c device
+counted_more tree a b c device first second = record { later = omega (arith, first.later, second.later); cause = λ is. risen (tree.failures a) (tree.failures b) (tree.failures c) first.later (second.cause is) }
 
 pub generation_refused : (file : Option (List ℕ)) (e : EngineError) → IsAborted e ⊎ (old_auto file ≡ Err e) → IsAborted e ⊎ (generation_in file ≡ Err e)
 generation_refused file e = ⊎_map (λ given. given) (ap (λ o. and_then o (λ auto. Ok auto.generation)))
@@ -160,7 +179,7 @@ module _ (files : Files) (kept : Option Kept) (names targets : List (List ℕ)) 
       full.2,
     )))),
   )
-  put_back_refused new k e given last (inr off) = inr (
+  put_back_refused new k e given last (inr off) = inr (inl (
     off.0,
     inr (record {
       generation = g;
@@ -174,46 +193,47 @@ module _ (files : Files) (kept : Option Kept) (names targets : List (List ℕ)) 
       renewed = off.1.0;
       leaves = off.1.1;
     }),
-  )
+  ))
 
   not_last_by : (kept ≡ None) ⊎ (IsLast g r s → ⊥) → IsLast g r s → ⊥
   not_last_by (inl none) last = nothing_kept kept g r s none survey.is_kept last
   not_last_by (inr denied) last = denied last
 
-  pub finds_lost : (new : Files) (answer : Repaired) → (kept ≡ None) ⊎ (IsLast g r s → ⊥) → new ≡ files
-      → (present : ℕ) × (generation_in (content files auto_path) ≡ Ok present) × (answer ≡ lost_or_nothing (max (max g r) (max s present)))
-      → FindsLost files new kept names targets answer
-  finds_lost new answer not_last same found = record {
+  are_lost : (kept ≡ None) ⊎ (IsLast g r s → ⊥) → (present : ℕ) → generation_in (content files auto_path) ≡ Ok present
+      → AreLost files kept names targets (max (max g r) present) s
+  are_lost not_last present is = record {
     generation = g;
     records = r;
-    stamps = s;
     lost = lost;
     survey = survey;
     not_last = not_last_by not_last;
-    present = found.0;
-    auto = found.1;
-    reported = found.2;
-    unchanged = same;
+    present = present;
+    auto = is;
+    highest = refl;
   }
 
-  pub lost_refused : (new : Files) (e : EngineError) → (kept ≡ None) ⊎ (IsLast g r s → ⊥) → new ≡ files
-      → IsAborted e ⊎ (generation_in (content files auto_path) ≡ Err e) → IsRepairRefused files new kept names targets e
-  lost_refused new e not_last same (inl aborted) = inr (aborted, inl same)
-  lost_refused new e not_last same (inr bad) = inl (
+  pub begins : (new : Files) (answer : Repaired) → (kept ≡ None) ⊎ (IsLast g r s → ⊥)
+      → (present : ℕ) × (generation_in (content files auto_path) ≡ Ok present) × IsBegun files new (max (max g r) present) s names targets answer
+      → Begins files new kept names targets answer
+  begins new answer not_last found = (max (max g r) found.0, s, are_lost not_last found.0 found.1, found.2)
+
+  pub begin_refused : (new : Files) (e : EngineError) → (kept ≡ None) ⊎ (IsLast g r s → ⊥)
+      → ((new ≡ files) × (IsAborted e ⊎ (generation_in (content files auto_path) ≡ Err e)))
+      ⊎ ((present : ℕ) × (generation_in (content files auto_path) ≡ Ok present) × IsBeginningRefused files new (max (max (max g r) present) s) names targets e)
+      → IsRepairRefused files new kept names targets e
+  begin_refused new e not_last (inl (same, inl aborted)) = inr (inl (aborted, inl same))
+  begin_refused new e not_last (inl (same, inr bad)) = inl (
     same,
     inr (inr (inr (inr (
       (g, record { records = r; stamps = s; lost = lost; survey = survey; decided = not_last_by not_last }),
       bad,
     )))),
   )
+  begin_refused new e not_last (inr (present, read, refused)) = inr (inr (max (max g r) present, s, are_lost not_last present read, refused))
 
-no_put_back : (zero_is : Bool) (highest g n : ℕ) → PutBack g n ≡ cond zero_is Nothing (Lost highest) → ⊥
-no_put_back true highest g n e = cc
-no_put_back false highest g n e = cc
-
--- An answer that is neither is none that puts back.
-pub lost_answer : (files new : Files) (kept : Option Kept) (names targets : List (List ℕ)) (answer : Repaired) → FindsLost files new kept names targets answer
+-- An answer of a beginning is none that puts back.
+pub begun_answer : (files new : Files) (kept : Option Kept) (names targets : List (List ℕ)) (answer : Repaired) → Begins files new kept names targets answer
     → IsRepaired files new kept names targets answer
-lost_answer files new kept names targets (PutBack g n) found = absurd (no_put_back _ _ g n found.reported)
-lost_answer files new kept names targets (Lost n) found = found
-lost_answer files new kept names targets Nothing found = found
+begun_answer files new kept names targets (PutBack g n) found = absurd found.3
+begun_answer files new kept names targets (BegunAgain n) found = found
+begun_answer files new kept names targets Nothing found = found

@@ -1,10 +1,12 @@
 -- Putting back what the last completed synchronisation left, where another tool was at work: what is looked at, and what is left.
-use Rattle.std.specs.Prelude.{◌≡◌, ◌≢◌, ◌⊎◌, ◌+◌, ◌<◌, ◌≤◌, ◌==◌, ℕ, List, Option, Some, None, Result, Ok, Err, option_map, max, length, IsTrue, true, false, if◌then◌else◌}
+use Rattle.std.specs.Prelude.{◌≡◌, ◌≢◌, ◌⊎◌, ◌+◌, ◌<◌, ◌≤◌, ◌++◌, ℕ, IsPermutation, List, Vec, Option, Some, None, Result, Ok, Err, option_map, max, length, IsTrue, true, false, if◌then◌else◌}
 use Rattle.std.specs.List.{All}
+use Rattle.std.specs.declared.alloc.Global.{Global}
 use Rattle.ks_symbols.specs.Names.{is_in, is_name, is_target, header_path}
-use Rattle.ks_fixdep.specs.CommandFile.{CommandRecord}
+use Rattle.ks_fixdep.specs.CommandFile.{CommandRecord, command_text}
+use Rattle.ks_output.specs.AutoText.{generation_line}
 use Rattle.ks_tree.specs.Files.{Files, IsTooLarge, content}
-use Rattle.ks_tree.specs.Paths.{auto_path, auto_temporary, command_path, header_temporary, stamp_path, stamp_temporary}
+use Rattle.ks_tree.specs.Paths.{auto_path, auto_temporary, command_path, command_temporary, header_temporary, stamp_path, stamp_temporary}
 use Rattle.ks_tree.specs.Stamps.{HasNumber, IsNoStamp, stamp_text}
 use Rattle.ks_engine.specs.Asked.{command_file}
 use Rattle.ks_engine.specs.LastSync.{old_auto}
@@ -13,7 +15,7 @@ use Rattle.ks_engine.specs.declared.error.EngineError.{EngineError}
 use Rattle.ks_engine.specs.declared.error.EngineError.TheVariants.{BadPath, GenerationFull, TooLarge}
 use Rattle.ks_engine.specs.declared.repairing.Kept.{Kept}
 use Rattle.ks_engine.specs.declared.repairing.Repaired.{Repaired}
-use Rattle.ks_engine.specs.declared.repairing.Repaired.TheVariants.{PutBack, Lost, Nothing}
+use Rattle.ks_engine.specs.declared.repairing.Repaired.TheVariants.{PutBack, BegunAgain, Nothing}
 
 -- ---- which numbers there are
 
@@ -37,11 +39,13 @@ abbrev pub IsStampNumber : Option (List ℕ) → Option ℕ → Type 0
 IsStampNumber stamp None = IsLostStamp stamp
 IsStampNumber stamp (Some n) = HasNumber stamp n × (0 < n)
 
--- Of these names those that lost their stamp, and the highest number of the others.
+-- Of these names those that lost their stamp, as often as they are named, and the highest number of the others.
 pub record AreStamps (files : Files) (names lost : List (List ℕ)) (highest : ℕ) : Type 0 where
-  pub legal : All (λ x. IsTrue (is_name x)) lost
-  pub are_lost : All (λ x. (is_in names x ≡ true) × IsLostStamp (content files (stamp_path x))) lost
-  pub others : All (λ x. (is_in lost x ≡ true) ⊎ HasNumberUpTo highest (content files (stamp_path x))) names
+  pub legal : All (λ x. IsTrue (is_name x)) names
+  pub are_lost : All (λ x. IsLostStamp (content files (stamp_path x))) lost
+  pub others : List (List ℕ)
+  pub numbered : All (λ x. HasNumberUpTo highest (content files (stamp_path x))) others
+  pub all : IsPermutation names (lost ++ others)
   pub one : (highest ≡ 0) ⊎ ((x : List ℕ) × (is_in names x ≡ true) × HasNumber (content files (stamp_path x)) highest)
 
 -- A command file says that its object was recorded at this generation.
@@ -103,25 +107,88 @@ pub record PutsBack (old new : Files) (kept : Option Kept) (names targets : List
   pub given : kept ≡ Some k
   pub done : IsPutBack old new k (generation + 1) lost
 
-abbrev pub lost_or_nothing : ℕ → Repaired
-lost_or_nothing highest = if highest == 0 then Nothing else Lost highest
+-- ---- what a beginning leaves
 
--- What was kept is not of the last synchronisation, so nothing has changed, and the highest number of all is reported.
-pub record FindsLost (old new : Files) (kept : Option Kept) (names targets : List (List ℕ)) (answer : Repaired) : Type 0 where
+-- A command file of an object says a number.
+abbrev pub SaysNumber : List ℕ → Option (List ℕ) → Type 0
+SaysNumber o found = (g : ℕ) × (0 < g) × IsRecordedAt o found g
+
+abbrev pub IsNumbered : Files → List ℕ → Type 0
+IsNumbered files o = SaysNumber o (content files (command_path o))
+
+-- It said a number, and says all else that it said.
+pub record LosesNumber (o : List ℕ) (found : Option (List ℕ)) (plain : List ℕ) : Type 0 where
+  pub file : CommandRecord
+  pub was : command_file o found ≡ Ok (Some file)
+  pub number : ℕ
+  pub some : 0 < number
+  pub numbered : file.generation ≡ Some number
+  pub text : plain ≡ command_text (record file { generation = None })
+
+abbrev pub IsWithoutNumber : List ℕ → List ℕ → Option (Vec ℕ Global) → Type 0
+IsWithoutNumber o text None = SaysNumber o (Some text) → ⊥
+IsWithoutNumber o text (Some plain) = LosesNumber o (Some text) plain.items
+
+-- The command file of an object lost its number.
+abbrev pub IsForgotten : Files → Files → List ℕ → Type 0
+IsForgotten old new o = (plain : List ℕ) × (content new (command_path o) ≡ Some plain) × LosesNumber o (content old (command_path o)) plain
+
+-- Each file is as before, or it is the command file of one of these objects and lost its number, or the temporary file of one.
+abbrev pub ForgetsSome : List (List ℕ) → Files → Files → Type 0
+ForgetsSome targets old new = (q : List ℕ) → (content new q ≡ content old q)
+    ⊎ ((o : List ℕ) × (is_in targets o ≡ true) × (((q ≡ command_path o) × IsForgotten old new o) ⊎ (q ≡ command_temporary o)))
+
+-- No record of these objects has a number any more.
+pub record Forgets (targets : List (List ℕ)) (old new : Files) : Type 0 where
+  pub none : All (λ o. IsNumbered new o → ⊥) targets
+  pub paths : ForgetsSome targets old new
+
+-- Stamps of some of the names are renewed. Where all are, records may be forgotten, and where all of these are, auto.conf may be that of the number.
+-- All else but the temporary files is as before.
+pub record BeginningLeaves (old new : Files) (number : ℕ) (names targets renewed : List (List ℕ)) : Type 0 where
+  pub within : (x : List ℕ) → is_in renewed x ≡ true → is_in names x ≡ true
+  pub stamps : (x : List ℕ) → IsTrue (is_name x) → content new (stamp_path x)
+      ≡ (if is_in renewed x then Some (stamp_text number) else content old (stamp_path x))
+  pub records : (o : List ℕ) → (content new (command_path o) ≡ content old (command_path o))
+      ⊎ ((renewed ≡ names) × (is_in targets o ≡ true) × IsForgotten old new o)
+  pub auto : (content new auto_path ≡ content old auto_path)
+      ⊎ ((renewed ≡ names) × All (λ o. IsNumbered new o → ⊥) targets × (content new auto_path ≡ Some (generation_line number)))
+  pub others : (q : List ℕ) → ((x : List ℕ) → is_in names x ≡ true → q ≢ stamp_path x)
+      → ((o : List ℕ) → is_in targets o ≡ true → (q ≢ command_path o) × (q ≢ command_temporary o)) → q ≢ auto_path
+      → q ≢ stamp_temporary → q ≢ auto_temporary → content new q ≡ content old q
+
+-- All of it is done.
+pub record IsBeginning (old new : Files) (number : ℕ) (names targets : List (List ℕ)) : Type 0 where
+  pub leaves : BeginningLeaves old new number names targets names
+  pub none : All (λ o. IsNumbered new o → ⊥) targets
+  pub auto : content new auto_path ≡ Some (generation_line number)
+
+-- By the highest of all other numbers, and that of the stamps: without one nothing is written. A stamp of 1 is left of a first synchronisation
+-- that was interrupted.
+abbrev pub IsBegun : Files → Files → ℕ → ℕ → List (List ℕ) → List (List ℕ) → Repaired → Type 0
+IsBegun old new numbered stamps names targets (BegunAgain generation) = ((numbered ≡ 0) × (stamps ≤ 1) → ⊥)
+    × (generation ≡ max numbered stamps + 1) × (generation ≤ 18446744073709551615) × IsBeginning old new generation names targets
+IsBegun old new numbered stamps names targets Nothing = (numbered ≡ 0) × (stamps ≤ 1) × (new ≡ old)
+IsBegun old new numbered stamps names targets answer = ⊥
+
+-- What was kept is not of the last synchronisation. `numbered` is the highest of its generation, of the records, and of the auto.conf that is there.
+pub record AreLost (files : Files) (kept : Option Kept) (names targets : List (List ℕ)) (numbered stamps : ℕ) : Type 0 where
   pub generation : ℕ
   pub records : ℕ
-  pub stamps : ℕ
   pub lost : List (List ℕ)
-  pub survey : IsSurvey old kept names targets generation records stamps lost
+  pub survey : IsSurvey files kept names targets generation records stamps lost
   pub not_last : IsLast generation records stamps → ⊥
   pub present : ℕ
-  pub auto : generation_in (content old auto_path) ≡ Ok present
-  pub reported : answer ≡ lost_or_nothing (max (max generation records) (max stamps present))
-  pub unchanged : new ≡ old
+  pub auto : generation_in (content files auto_path) ≡ Ok present
+  pub highest : numbered ≡ max (max generation records) present
+
+-- The numbers begin again, or there are none.
+abbrev pub Begins : Files → Files → Option Kept → List (List ℕ) → List (List ℕ) → Repaired → Type 0
+Begins old new kept names targets answer = (numbered : ℕ) × (stamps : ℕ) × AreLost old kept names targets numbered stamps × IsBegun old new numbered stamps names targets answer
 
 abbrev pub IsRepaired : Files → Files → Option Kept → List (List ℕ) → List (List ℕ) → Repaired → Type 0
 IsRepaired old new kept names targets (PutBack generation count) = PutsBack old new kept names targets generation count
-IsRepaired old new kept names targets answer = FindsLost old new kept names targets answer
+IsRepaired old new kept names targets answer = Begins old new kept names targets answer
 
 -- ---- why it is refused
 
@@ -161,6 +228,13 @@ pub record IsRepairBrokenOff (old new : Files) (kept : Option Kept) (names targe
   pub renewed : List (List ℕ)
   pub leaves : RepairLeaves old new k (generation + 1) lost renewed
 
+-- So was a beginning, after which each number is below 2 ^ 64.
+abbrev pub IsBeginningRefused : Files → Files → ℕ → List (List ℕ) → List (List ℕ) → EngineError → Type 0
+IsBeginningRefused old new highest names targets e = ((new ≡ old) × (highest ≡ 18446744073709551615) × (e ≡ GenerationFull))
+    ⊎ (IsAborted e × (renewed : List (List ℕ)) × BeginningLeaves old new (highest + 1) names targets renewed)
+
 abbrev pub IsRepairRefused : Files → Files → Option Kept → List (List ℕ) → List (List ℕ) → EngineError → Type 0
 IsRepairRefused old new kept names targets e =
-    ((new ≡ old) × IsRepairRefusal old kept names targets e) ⊎ (IsAborted e × ((new ≡ old) ⊎ IsRepairBrokenOff old new kept names targets))
+    ((new ≡ old) × IsRepairRefusal old kept names targets e)
+    ⊎ (IsAborted e × ((new ≡ old) ⊎ IsRepairBrokenOff old new kept names targets))
+    ⊎ ((numbered : ℕ) × (stamps : ℕ) × AreLost old kept names targets numbered stamps × IsBeginningRefused old new (max numbered stamps) names targets e)

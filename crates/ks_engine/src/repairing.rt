@@ -1,23 +1,25 @@
 //! Putting back what the last completed synchronisation left, where another tool was at work in the tree: it may have written
 //! auto.conf and the header anew, and have emptied the stamps of what it changed. What was recorded with a number is still about
 //! the auto.conf that was kept. So that comes back with its header, and each name whose stamp says nothing counts as changed now.
-//! Where the tree has numbers that the kept auto.conf can't know of, nothing is written: what they are about is lost.
-ghost use Rattle.std.specs.Prelude.{◌≡◌, ◌⊎◌, ◌<◌, ◌+◌, ℕ, List, Some, None, Ok, Err, true, false, IfErr, IfNone, IfOk, IfSome, IsErrOf, IsTrue, OnErr, OnOk, length, map, max};
+//! Where the tree has numbers that the kept auto.conf can't know of, what they are about is lost: no record keeps its number, and the
+//! numbers begin again above all of them.
+ghost use Rattle.std.specs.Prelude.{◌≡◌, ◌⊎◌, ◌<◌, ◌≤◌, ◌+◌, ℕ, List, [], ◌∷◌, Some, None, Ok, Err, true, false, IfErr, IfNone, IfOk, IfSome, IsErrOf, IsTrue, OnErr, OnOk, length, map, max};
 ghost use Rattle.std.specs.List.{All};
 ghost use Rattle.ks_symbols.specs.Names.{is_name, is_target};
 ghost use Rattle.ks_tree.specs.Files.{IsTooLarge, content};
 ghost use Rattle.ks_tree.specs.Frames.{Counted, Reads};
 ghost use Rattle.ks_tree.specs.Paths.{auto_path, command_path, stamp_path};
 ghost use Rattle.ks_engine.specs.Refusals.{Answers, IsAborted};
-ghost use Rattle.ks_engine.specs.Repairs.{AreStamps, HasBadTarget, HasLargeStamp, IsHighestRecord, IsLast, IsPutBack, IsRecordNumber, IsRepairRefusal, IsRepaired, IsRepairRefused, IsStampNumber, IsSurvey, RepairLeaves, generation_in, kept_auto, lost_or_nothing};
+ghost use Rattle.ks_engine.specs.Repairs.{AreStamps, BeginningLeaves, Forgets, ForgetsSome, HasBadTarget, HasLargeStamp, IsBeginning, IsBeginningRefused, IsBegun, IsHighestRecord, IsLast, IsPutBack, IsRecordNumber, IsRepairRefusal, IsRepaired, IsRepairRefused, IsStampNumber, IsSurvey, IsWithoutNumber, RepairLeaves, generation_in, kept_auto};
 
 use crate::EngineError;
 use crate::staleness::borrow_for;
-use ks_output::read_auto_generation;
+use ks_fixdep::{CommandError, read_command, write_command};
+use ks_output::{append_generation, read_auto_generation};
 use ks_symbols::{Name, target_is_legal};
 use ks_tree::{
-    Tree, TreeError, TreeFault, auto_path, auto_temporary, command_path, header_path,
-    header_temporary, read_stamp, replace, touch_all,
+    Tree, TreeError, TreeFault, auto_path, auto_temporary, command_path, command_temporary,
+    header_path, header_temporary, read_stamp, replace, touch_all,
 };
 use std::alloc::{AllocError, Global};
 
@@ -33,17 +35,10 @@ pub struct Kept {
 pub enum Repaired {
     /// The kept auto.conf of this generation is back, and so many stamps count as changed after it.
     PutBack { generation: u64, stamps: usize },
-    /// Numbers are lost, of which this is the highest. Nothing was written.
-    Lost { highest: u64 },
-    /// There is no number at all.
+    /// Numbers were lost. They begin again at this generation, and no record has one.
+    BegunAgain { generation: u64 },
+    /// There is no number yet. Nothing was written.
     Nothing,
-}
-
-/// The greater of two numbers.
-fn greater(a: u64, b: u64) -> u64
-    ensures { result ≡ max a b }
-{
-    if a < b { b } else { a }
 }
 
 /// The generation of what was kept, which is 0 where nothing was.
@@ -83,11 +78,8 @@ fn number_in(alloc: Global, target: &[u8], text: &[u8]) -> Result<u64, AllocErro
 fn record_number<T: Tree>(alloc: Global, tree: &mut T, target: &[u8]) -> Result<u64, EngineError>
     ensures reads { Reads T.Tree tree.old tree.new (IsErrOf result EngineError.Device) }
     ensures number { T.is_honest → IfOk result (IsRecordNumber target.now (content (T.files tree.old) (command_path target.now))) }
-    ensures refused { IfErr result (λ e. IsAborted e ⊎ ((is_target target.now ≡ false) × (e ≡ EngineError.BadPath 0))) }
+    ensures refused { IfErr result IsAborted }
 {
-    if !target_is_legal(target) {
-        return Err(EngineError::BadPath(0));
-    }
     let path = command_path(alloc, target)?;
     match tree.read(alloc, &path) {
         Ok(Some(text)) => Ok(number_in(alloc, target, &text)?),
@@ -108,8 +100,10 @@ fn highest_record<T: Tree>(
 {
     let mut highest = 0;
     for target in targets {
-        let number = record_number(alloc, tree, target)?;
-        highest = greater(highest, number);
+        if !target_is_legal(target) {
+            return Err(EngineError::BadPath(0));
+        }
+        highest = highest.max(record_number(alloc, tree, target)?);
     }
     Ok(highest)
 }
@@ -150,9 +144,10 @@ fn look_at_stamps<T: Tree>(
     let mut lost = Vec::new(alloc);
     let mut highest = 0;
     for name in names {
+        let bytes = name.as_bytes();
         match stamp_number(alloc, tree, name)? {
-            Some(number) => highest = greater(highest, number),
-            None => lost.push(Name::new(alloc, name.as_bytes())?)?,
+            Some(number) => highest = highest.max(number),
+            None => lost.push(Name::new(alloc, bytes)?)?,
         }
     }
     Ok(StampNumbers { lost, highest })
@@ -264,29 +259,123 @@ fn put_back<T: Tree>(
     })
 }
 
-/// The highest number of all, that of the auto.conf that is there included.
-fn report_lost<T: Tree>(
+/// The text of a command file without its number, if it has one. What Kbuild has appended goes with it.
+fn without_number(alloc: Global, target: &[u8], text: &[u8]) -> Result<Option<Vec<u8>>, AllocError>
+    ensures { IfOk result (IsWithoutNumber target.now text.now) }
+{
+    let mut file = match read_command(alloc, text) {
+        Ok(file) => file,
+        Err(CommandError::OutOfMemory) => return Err(AllocError),
+        Err(_) => return Ok(None),
+    };
+    if file.target.as_bytes() != target || file.generation.unwrap_or(0) == 0 {
+        return Ok(None);
+    }
+    file.generation = None;
+    let mut plain = Vec::new(alloc);
+    write_command(&file, &mut plain)?;
+    Ok(Some(plain))
+}
+
+/// Takes its number from the record of an object.
+fn forget_record<T: Tree>(alloc: Global, tree: &mut T, target: &[u8]) -> Result<(), EngineError>
+    ensures all { T.is_honest → OnOk result (Forgets (target.now ∷ []) (T.files tree.old) (T.files tree.new)) }
+    ensures some { T.is_honest → OnErr result (ForgetsSome (target.now ∷ []) (T.files tree.old) (T.files tree.new)) }
+    ensures refused { IfErr result IsAborted }
+    ensures counted { Counted T.Tree tree.old tree.new (IsErrOf result EngineError.Device) }
+    ensures kept { T.backdated tree.new ≡ T.backdated tree.old }
+{
+    let path = command_path(alloc, target)?;
+    let text = match tree.read(alloc, &path) {
+        Ok(Some(text)) => text,
+        Ok(None) | Err(TreeFault::TooLarge) => return Ok(()),
+        Err(fault) => return Err(EngineError::from(fault)),
+    };
+    match without_number(alloc, target, &text)? {
+        Some(plain) => {
+            let temporary = command_temporary(alloc, target)?;
+            Ok(replace(alloc, tree, &temporary, &path, &plain)?)
+        }
+        None => Ok(()),
+    }
+}
+
+/// Takes their numbers from the records of these objects.
+fn forget_records<T: Tree>(
+    alloc: Global,
+    tree: &mut T,
+    targets: &[&[u8]],
+) -> Result<(), EngineError>
+    ensures all { T.is_honest → OnOk result (Forgets (map (λ t. t.now) targets.now) (T.files tree.old) (T.files tree.new)) }
+    ensures some { T.is_honest → OnErr result (ForgetsSome (map (λ t. t.now) targets.now) (T.files tree.old) (T.files tree.new)) }
+    ensures refused { IfErr result IsAborted }
+    ensures counted { Counted T.Tree tree.old tree.new (IsErrOf result EngineError.Device) }
+    ensures kept { T.backdated tree.new ≡ T.backdated tree.old }
+{
+    for target in targets {
+        forget_record(alloc, tree, target)?;
+    }
+    Ok(())
+}
+
+/// The stamps, then the records, then an auto.conf of the number alone: as long as that isn't there, the next repair finds the same.
+fn write_beginning<T: Tree>(
+    alloc: Global,
+    tree: &mut T,
+    names: &[Name],
+    targets: &[&[u8]],
+    number: u64,
+) -> Result<(), EngineError>
+    requires legal { T.is_honest → All (λ x. IsTrue (is_name x)) names.now }
+    ensures all { T.is_honest → OnOk result (IsBeginning (T.files tree.old) (T.files tree.new) number names.now (map (λ t. t.now) targets.now)) }
+    ensures some { T.is_honest → OnErr result ((renewed : List (List ℕ)) × BeginningLeaves (T.files tree.old) (T.files tree.new) number names.now (map (λ t. t.now) targets.now) renewed) }
+    ensures refused { IfErr result IsAborted }
+    ensures counted { Counted T.Tree tree.old tree.new (IsErrOf result EngineError.Device) }
+    ensures kept { T.backdated tree.new ≡ T.backdated tree.old }
+{
+    let mut auto = Vec::new(alloc);
+    append_generation(number, &mut auto)?;
+    touch_all(alloc, tree, names, number)?;
+    forget_records(alloc, tree, targets)?;
+    Ok(replace(alloc, tree, auto_temporary(), auto_path(), &auto)?)
+}
+
+/// Begins the numbers again, if there are any, above all of them. A stamp of 1 alone is left of a first synchronisation that was
+/// interrupted, and counts for none.
+fn begin_again<T: Tree>(
     alloc: Global,
     tree: &mut T,
     survey: &Survey,
+    names: &[Name],
+    targets: &[&[u8]],
 ) -> Result<Repaired, EngineError>
-    ensures reads { Reads T.Tree tree.old tree.new (IsErrOf result EngineError.Device) }
-    ensures found { T.is_honest → IfOk result (λ r. (present : ℕ) × (generation_in (content (T.files tree.old) auto_path) ≡ Ok present)
-        × (r ≡ lost_or_nothing (max (max survey.now.generation survey.now.records) (max survey.now.stamps present)))) }
-    ensures refused { T.is_honest → IfErr result (λ e. IsAborted e ⊎ (generation_in (content (T.files tree.old) auto_path) ≡ Err e)) }
+    requires legal { T.is_honest → All (λ x. IsTrue (is_name x)) names.now }
+    ensures begun { T.is_honest → IfOk result (λ r. (present : ℕ) × (generation_in (content (T.files tree.old) auto_path) ≡ Ok present)
+        × IsBegun (T.files tree.old) (T.files tree.new) (max (max survey.now.generation survey.now.records) present) survey.now.stamps names.now (map (λ t. t.now) targets.now) r) }
+    ensures refused { T.is_honest → IfErr result (λ e. ((T.files tree.new ≡ T.files tree.old) × (IsAborted e ⊎ (generation_in (content (T.files tree.old) auto_path) ≡ Err e)))
+        ⊎ ((present : ℕ) × (generation_in (content (T.files tree.old) auto_path) ≡ Ok present)
+        × IsBeginningRefused (T.files tree.old) (T.files tree.new) (max (max (max survey.now.generation survey.now.records) present) survey.now.stamps) names.now (map (λ t. t.now) targets.now) e)) }
+    ensures counted { Counted T.Tree tree.old tree.new (IsErrOf result EngineError.Device) }
+    ensures kept { T.backdated tree.new ≡ T.backdated tree.old }
 {
     let present = present_generation(alloc, tree)?;
-    let recorded = greater(survey.generation, survey.records);
-    let highest = greater(recorded, greater(survey.stamps, present));
-    if highest == 0 {
+    let numbered = survey.generation.max(survey.records).max(present);
+    if numbered == 0 && survey.stamps <= 1 {
         return Ok(Repaired::Nothing);
     }
-    Ok(Repaired::Lost { highest })
+    let highest = numbered.max(survey.stamps);
+    if highest == u64::MAX {
+        return Err(EngineError::GenerationFull);
+    }
+    let generation = highest + 1;
+    write_beginning(alloc, tree, names, targets, generation)?;
+    Ok(Repaired::BegunAgain { generation })
 }
 
 /// Puts back what was kept, where no record and no stamp says that a synchronisation came after it: each of these names whose stamp
-/// says nothing gets the next number, then the header comes back, then auto.conf. Else nothing is written. After `OutOfMemory` or
-/// `Device` some of it may be done, and the next repair completes it.
+/// says nothing gets the next number, then the header comes back, then auto.conf. Else the numbers begin again above all others: each
+/// of these names gets that number, no record of these objects keeps one, and then auto.conf says it, and nothing else. After
+/// `OutOfMemory` or `Device` some of it may be done, and the next repair completes it.
 pub fn repair<T: Tree>(
     alloc: Global,
     tree: &mut T,
@@ -302,6 +391,6 @@ pub fn repair<T: Tree>(
     let found = survey_tree(alloc, tree, kept, names, targets)?;
     match last_kept(kept, &found) {
         Some(last) => put_back(alloc, tree, last, &found),
-        None => report_lost(alloc, tree, &found),
+        None => begin_again(alloc, tree, &found, names, targets),
     }
 }

@@ -1,7 +1,11 @@
 -- What is written of a configuration reads back.
-use Rattle.ks_output.proofs.Prelude.{common_steps, take-append_seam, eq-eqb, byte_at_end, lt-ltb, drop-append_seam, order, first, second, ◌≡◌, ℕ, ◌+◌, ◌<◌, ◌^◌, Bool, true, arith, T, List, [], ◌∷◌, ◌++◌, drop, codes, decimal, Option, Some, None, option_map, refl, sym, ap, ◌∙◌, append_assoc, nat_list_cmp_total, find, is_sorted, slice_cmp-IsAntisymmetric, nat_cmp-IsAntisymmetric, cases_Bool, cond-true, cond-false, ne_eqb, and_parts, or_right, digits_decimal, lines-nil, Kind, Class, class_of, is_name, is_symbol_name, Assigns, is_title, IsConfiguration, IsEntry, Configuration, own, reads_back, statements_are_spelled, run_is, word_bytes, heading, class_line, entry_line, entry_lines, generation_line, auto_text, Remark, Gives, Marks, Types, Numbers, CommentOrBlank, numbered, spelled_class, class_remark, stated_by, remark, remarks, is_typed, class_by, auto_map, texts_given, heard, first_faulty, auto_fault, Texts, kept, TextsReadBack, GenerationReadsBack, HasNoFault, IsAccepted, rules, class_end}
+use Rattle.ks_output.proofs.Prelude.{common_steps, take-append_seam, eq-eqb, byte_at_end, lt-ltb, drop-append_seam, order, first, second, ◌≡◌, ℕ, ◌+◌, ◌<◌, ◌^◌, Bool, true, arith, T, List, [], ◌∷◌, ◌++◌, drop, codes, decimal, Option, Some, None, option_map, refl, sym, ap, ◌∙◌, append_assoc, nat_list_cmp_total, find, is_sorted, slice_cmp-IsAntisymmetric, nat_cmp-IsAntisymmetric, cases_Bool, cond-true, cond-false, ne_eqb, and_parts, or_right, digits_decimal, lines-nil, Kind, Class, class_of, is_name, is_symbol_name, Assigns, is_title, IsConfiguration, IsEntry, Configuration, own, reads_back, length, length-append, ◌≤◌, statements_are_spelled, run_is, word_bytes, heading, class_line, entry_line, entry_lines, generation_line, auto_text, Remark, Gives, Marks, Types, Numbers, CommentOrBlank, numbered, spelled_class, class_remark, stated_by, remark, remarks, is_typed, class_by, auto_map, texts_given, heard, first_faulty, auto_fault, Texts, kept, TextsReadBack, GenerationReadsBack, HasNoFault, IsAccepted, last_number, auto_generation, neighbours, rules, class_end}
 use Rattle.std.proofs.Common.{map as map_list}
 use Rattle.std.specs.FinMap as map
+use Rattle.std.proofs.lemmas.Fmt.{length-decimal-le}
+use Rattle.ks_output.specs.Laws.{NumberAloneReadsBack}
+use Rattle.ks_output.specs.AutoConf.{fault_in}
+use Rattle.ks_output.specs.declared.auto_conf.AutoError.TheVariants as fault
 use Rattle.ks_symbols.specs.declared.kinds.Class.TheVariants as class
 use Rattle.ks_output.proofs.Entries.{find_below, tied, AllEntries, all_entries}
 use Rattle.ks_output.proofs.LastRemark.{with_given, texts_after, texts_after-empty, with_number, number_after, number_after-zero, not_large}
@@ -167,3 +171,17 @@ texts_read_back title settings g t h small =
 pub is_accepted : IsAccepted
 unfolding auto_fault
 is_accepted title settings g t h small few = search (rules, not_large, has_no_fault)
+
+-- ---- the line of a generation alone
+
+short : (g : ℕ) → g < 2 ^ 64 → length (generation_line g) ≤ 67108864
+short g small = grind (arith, common_steps, length-append, (length-decimal-le 20 g))
+
+pub number_alone : NumberAloneReadsBack
+unfolding auto_fault auto_generation auto_map texts_given is_typed heard first_faulty neighbours
+number_alone g small =
+    let read = generation_remark g small in (
+      not_large (generation_line g) (short g small) ∙ ap (λ stated. option_map fault.BadAuto (fault_in stated)) read,
+      ap last_number read,
+      ap texts_given read,
+    )

@@ -6,7 +6,7 @@ use Rattle.ks_symbols.specs.Names.{is_name}
 use Rattle.ks_symbols.specs.Lines.{lines, max_bytes}
 use Rattle.ks_symbols.specs.Titles.{is_title}
 use Rattle.ks_symbols.specs.Configuration.{IsConfiguration, Configuration}
-use Rattle.ks_output.specs.AutoText.{auto_text}
+use Rattle.ks_output.specs.AutoText.{auto_text, generation_line}
 use Rattle.ks_output.specs.AutoLines.{remarks}
 use Rattle.ks_output.specs.AutoConf.{is_typed, auto_map, auto_generation, auto_fault, auto_refusal}
 use Rattle.ks_output.specs.OldConfig.{HasNames, class_in, kept, texts_of}
@@ -50,6 +50,11 @@ HasNoFault = OfWritten (λ title settings g. auto_fault (auto_text title setting
 -- .. and is not refused, unless it is too large.
 abbrev pub IsAccepted : Type 0
 IsAccepted = OfWritten (λ title settings g. length (auto_text title settings g) ≤ max_bytes → auto_refusal (auto_text title settings g) ≡ None)
+
+-- An auto.conf that is the line of a generation alone is accepted, says that generation, and nothing of any name.
+abbrev pub NumberAloneReadsBack : Type 0
+NumberAloneReadsBack = (g : ℕ) → g < 2 ^ 64
+    → (auto_refusal (generation_line g) ≡ None) × (auto_generation (generation_line g) ≡ g) × (auto_map (generation_line g) ≡ map.empty)
 
 -- The texts of a configuration are those of its entries, with their classes and under legal names.
 abbrev pub TextsAreOfEntries : Type 0

@@ -50,8 +50,8 @@ fn append_entry(name: &[u8], text: &[u8], out: &mut Vec<u8>) -> Result<(), Alloc
     append_all(&[b"CONFIG_", name, b"=", text, b"\n"], out)
 }
 
-/// Appends the line of a generation.
-fn append_generation(generation: u64, out: &mut Vec<u8>) -> Result<(), AllocError>
+/// Appends the line of a generation, or a beginning of it. Alone it is an auto.conf that says nothing of any name.
+pub fn append_generation(generation: u64, out: &mut Vec<u8>) -> Result<(), AllocError>
     ensures written { OnOk result (out.new.items ≡ out.old.items ++ generation_line generation) }
     ensures kept { Keeps out.old.items out.new.items }
 {

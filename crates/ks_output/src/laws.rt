@@ -6,7 +6,7 @@ ghost use Rattle.ks_output.specs.HeaderLaws.{AlikeIsDefinedAlike, DefinitionsAre
 ghost use Rattle.ks_output.specs.BlocksLaws.{BlocksAreConfiguration, BlocksDefineAlike, EntriesAreLines};
 ghost use Rattle.ks_output.specs.BlockExamples.{BlocksOfValues, PairsOfBlocks};
 ghost use Rattle.ks_output.specs.WrittenLaws.{AcceptedIsConfiguration, ConfIsAccepted, HeadersDefineAlike, QuotedIsRaw};
-ghost use Rattle.ks_output.specs.Laws.{GenerationFits, GenerationReadsBack, HasNoFault, IsAccepted, LastLineCounts, TextsAreOfEntries, TextsHaveNames, TextsReadBack, UntypedHasNoClass};
+ghost use Rattle.ks_output.specs.Laws.{GenerationFits, GenerationReadsBack, HasNoFault, IsAccepted, LastLineCounts, NumberAloneReadsBack, TextsAreOfEntries, TextsHaveNames, TextsReadBack, UntypedHasNoClass};
 
 /// An auto.conf gives a name what the last line about it spells, one of the untyped form no class, and its generation
 /// fits 64 bits.
@@ -17,12 +17,13 @@ pub fn last_lines_count()
 {}
 
 /// An auto.conf that was written of a configuration reads back: its texts with their classes and its generation, and
-/// it is accepted.
+/// it is accepted. So does one of a generation alone.
 pub fn auto_texts_read_back()
     ensures texts { TextsReadBack }
     ensures generation { GenerationReadsBack }
     ensures fault { HasNoFault }
     ensures accepted { IsAccepted }
+    ensures alone { NumberAloneReadsBack }
 {}
 
 /// What an auto.conf keeps of a configuration is the class and the text of each entry.

@@ -17,7 +17,7 @@ mod written;
 
 pub use auto_conf::{AutoError, read_auto};
 pub use auto_scan::{AutoScan, read_auto_generation};
-pub use auto_text::{auto_len, write_auto};
+pub use auto_text::{append_generation, auto_len, write_auto};
 pub use conf_texts::read_written;
 pub use header::{write_header, write_quoted};
 pub use laws::{

@@ -7,7 +7,7 @@ use Rattle.ks_engine.specs.declared.query.Limit.{Limit}
 use Rattle.ks_engine.specs.declared.query.Limit.TheVariants.{First, All}
 use Rattle.ks_engine.specs.declared.recording.Recorded.{Recorded as RecordAnswer}
 use Rattle.ks_engine.specs.declared.repairing.Repaired.{Repaired}
-use Rattle.ks_engine.specs.declared.repairing.Repaired.TheVariants.{PutBack, Lost, Nothing}
+use Rattle.ks_engine.specs.declared.repairing.Repaired.TheVariants.{PutBack, BegunAgain, Nothing}
 use Rattle.ks_engine.specs.declared.synchronise.Report.{Report}
 use Rattle.ks_engine.specs.declared.staleness.BuildState.{BuildState}
 use Rattle.ks_engine.specs.declared.staleness.BuildState.TheVariants.{CommandDiffers, Verdict as Evaluated}
@@ -64,7 +64,7 @@ report_lines r = counted (codes "generation ") r.generation ++ codes "\n" ++ tou
 -- the generation that is back with the number of stamps that were renewed, or the highest number of those that are lost
 unfoldable pub repair_line : Repaired → List ℕ
 repair_line (PutBack generation stamps) = counted (codes "put back ") generation ++ counted (codes " touched ") stamps ++ codes "\n"
-repair_line (Lost highest) = counted (codes "numbers lost ") highest ++ codes "\n"
+repair_line (BegunAgain generation) = counted (codes "began again ") generation ++ codes "\n"
 repair_line Nothing = codes "no numbers\n"
 
 -- an object that was built by another command, or its verdict

@@ -324,7 +324,7 @@ pub fn report_sync(alloc: Global, report: &Report) -> Result<Outcome, AllocError
     Ok(Outcome::done(text))
 }
 
-/// `put back G touched N`, `numbers lost G` or `no numbers`.
+/// `put back G touched N`, `began again G` or `no numbers`.
 #[tactic(auto, unfolding(crate::specs::Replies::repair_line))]
 fn write_repair(repaired: Repaired, text: &mut Vec<u8>) -> Result<(), AllocError>
     ensures { OnOk result (text.new.items ≡ text.old.items ++ repair_line repaired) }
@@ -335,8 +335,8 @@ fn write_repair(repaired: Repaired, text: &mut Vec<u8>) -> Result<(), AllocError
             write_count(b" touched ", stamps as u64, text)?;
             text.extend_from_slice(b"\n")
         }
-        Repaired::Lost { highest } => {
-            write_count(b"numbers lost ", highest, text)?;
+        Repaired::BegunAgain { generation } => {
+            write_count(b"began again ", generation, text)?;
             text.extend_from_slice(b"\n")
         }
         Repaired::Nothing => text.extend_from_slice(b"no numbers\n"),

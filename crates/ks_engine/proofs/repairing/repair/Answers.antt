@@ -1,6 +1,6 @@
-use Rattle.ks_engine.proofs.Prelude.{IfErr-weaker, ◌∙◌}
+use Rattle.ks_engine.proofs.Prelude.{IfErr-weaker}
 use Rattle.std.proofs.lemmas.Result.{IfOk-weaker}
-use Rattle.ks_engine.proofs.Surveying.{finds_lost, lost_answer, lost_refused, put_back_refused, puts_back}
+use Rattle.ks_engine.proofs.Surveying.{begin_refused, begins, begun_answer, lost_legal, put_back_refused, puts_back}
 use Rattle.ks_engine.proofs.repairing.repair.Goals as goal
 
 pub returns-in-Some-clause-repaired : goal.returns-in-Some-clause-repaired
@@ -22,15 +22,19 @@ returns-in-Some-clause-refused g c = λ honest.
 pub returns-clause-repaired : goal.returns-clause-repaired
 returns-clause-repaired g c = λ honest.
     let same = c.in_ok-found.ensures.reads.unchanged honest in
-    IfOk-weaker c.report_lost.result _ _
-    (λ r is. lost_answer _ _ _ _ _ r (finds_lost _ _ _ _ _ _ _ _ (c.in_ok-found.ensures.found honest) _ r c.in-None.ensures.not_last
-    (c.report_lost.ensures.reads.unchanged honest ∙ same) is))
-    (rw same at (c.report_lost.ensures.found honest))
+    IfOk-weaker c.begin_again.result _ _
+    (λ r is. begun_answer _ _ _ _ _ r (begins _ _ _ _ _ _ _ _ (c.in_ok-found.ensures.found honest) _ r c.in-None.ensures.not_last is))
+    (rw same at (c.begin_again.ensures.begun honest))
 
 pub returns-clause-refused : goal.returns-clause-refused
 returns-clause-refused g c = λ honest.
     let same = c.in_ok-found.ensures.reads.unchanged honest in
-    IfErr-weaker c.report_lost.result _ _
-    (λ e is. lost_refused _ _ _ _ _ _ _ _ (c.in_ok-found.ensures.found honest) _ e c.in-None.ensures.not_last
-    (c.report_lost.ensures.reads.unchanged honest ∙ same) is)
-    (rw same at (c.report_lost.ensures.refused honest))
+    IfErr-weaker c.begin_again.result _ _
+    (λ e is. begin_refused _ _ _ _ _ _ _ _ (c.in_ok-found.ensures.found honest) _ e c.in-None.ensures.not_last is)
+    (rw same at (c.begin_again.ensures.refused honest))
+
+pub put_back-requires : goal.put_back-requires
+put_back-requires g c = record { legal = λ honest. lost_legal _ _ _ _ (c.in_ok-found.ensures.found honest).are_stamps }
+
+pub begin_again-requires : goal.begin_again-requires
+begin_again-requires g c = record { legal = λ honest. (c.in_ok-found.ensures.found honest).are_stamps.legal }

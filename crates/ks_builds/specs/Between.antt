@@ -11,8 +11,7 @@ use Rattle.ks_tree.specs.Stamps.{HasNumber, stamp_text}
 use Rattle.ks_engine.specs.History.{History, Begun, Broken, LastRecord, before, done}
 use Rattle.ks_engine.specs.LastSync.{OldAuto, old_auto}
 use Rattle.ks_engine.specs.Legal.{Defines, IsLegalSync}
-use Rattle.ks_engine.specs.Repairs.{IsNumbered, PutsBack}
-use Rattle.ks_engine.specs.Repairs.{IsRepaired as IsRepairedTree}
+use Rattle.ks_engine.specs.Repairs.{IsNumbered, IsRepaired as IsRepairedTree, PutsBack}
 use Rattle.ks_engine.specs.Shows.{Shows, IsCommandFile, stamp}
 use Rattle.ks_engine.specs.declared.repairing.Kept.{Kept}
 use Rattle.ks_engine.specs.declared.repairing.Repaired.TheVariants.{BegunAgain}

@@ -1,20 +1,21 @@
 -- What a beginning leaves, write by write.
-use Rattle.ks_engine.proofs.Prelude.{◌≡◌, ◌⊎◌, inl, inr, ⊎_elim, ℕ, ◌<◌, ◌≤◌, List, [], ◌∷◌, ◌++◌, Option, Some, None, Ok, Result, true, ◌∙◌, sym, ap, refl, subst, All, All-head, All-nil, All-push, All-weaker, or_right, true≢false, bytes_eq, bytes_eq-Decides, cases_Bool, list_any-append, is_in, is_name, IsTrue, Files, content, SameButBoth, auto_path, auto_temporary, command_file, command_path, command_temporary, Place, AutoConf, CommandFile, CommandTemporary, Stamp, AutoTemporary, StampTemporary, path_of, IsLegalPlace, paths_never_meet, Touches, length, arith, map, take, drop, get_or, take-append-drop, or_left, ◌+◌, rules}
+use Rattle.ks_engine.proofs.Prelude.{◌≡◌, ◌⊎◌, inl, inr, ⊎_elim, ℕ, ◌<◌, ◌≤◌, List, [], ◌∷◌, ◌++◌, Option, Some, None, Ok, Result, true, ◌∙◌, sym, ap, refl, subst, All, All-head, All-nil, All-push, All-weaker, or_right, true≢false, bytes_eq, bytes_eq-Decides, cases_Bool, list_any-append, is_in, is_name, IsTrue, Files, content, SameButBoth, auto_path, auto_temporary, command_file, command_path, command_temporary, Place, AutoConf, CommandFile, CommandTemporary, Stamp, AutoTemporary, StampTemporary, path_of, IsLegalPlace, paths_never_meet, stamp_temporary, left_over, Touches, length, arith, map, take, get_or, ◌+◌, rules}
 use Rattle.std.specs.Borrow.{Bor}
 use Rattle.std.specs.Option.{unwrap_or}
 use Rattle.std.proofs.lemmas.Bool.Decides.{nat_tests}
-use Rattle.std.proofs.lemmas.List.{map-append, map_more}
+use Rattle.std.proofs.lemmas.List.{map_more, take-map}
 use Rattle.ks_fixdep.specs.CommandFile.{CommandRecord, IsLegal, command_text}
 use Rattle.ks_fixdep.specs.CommandReading.{reading}
 use Rattle.ks_output.specs.AutoText.{generation_line}
 use Rattle.ks_engine.proofs.LowerLaws.{apart, read_fits, written_reads}
-use Rattle.ks_engine.proofs.Surveying.{in_last, in_more}
-use Rattle.ks_engine.specs.Repairs.{BeginningLeaves, Forgets, ForgetsSome, IsBeginning, IsForgotten, IsNumbered, LosesNumber, SaysNumber}
+use Rattle.ks_engine.proofs.Surveying.{in_last, in_more, seen}
+use Rattle.ks_engine.proofs.Writes.{beginning, beside_touched}
+use Rattle.ks_engine.specs.Repairs.{BeginningLeaves, Forgets, ForgetsSome, IsBeginning, IsForgotten, IsNumbered, IsOldOrGone, LosesNumber, SaysNumber}
 
 same_path : (q p : List ℕ) → (q ≡ p) ⊎ (q ≡ p → ⊥)
 same_path q p = ⊎_elim (λ is. inl ((bytes_eq-Decides q p).0 is)) (λ not. inr (λ same. true≢false (sym ((bytes_eq-Decides q p).1 same) ∙ not))) (cases_Bool (bytes_eq q p))
 
-same_target : (o p : List ℕ) → command_path o ≡ command_path p → o ≡ p
+pub same_target : (o p : List ℕ) → command_path o ≡ command_path p → o ≡ p
 same_target o p is = (let equal : CommandFile o ≡ CommandFile p = paths_never_meet (CommandFile o) (CommandFile p) tt tt is in cc)
 
 -- ---- the records
@@ -78,9 +79,8 @@ kept_number old new o is has = subst (SaysNumber o) is has
 had_number : (o : List ℕ) (found : Option (List ℕ)) (plain : List ℕ) → LosesNumber o found plain → SaysNumber o found
 had_number o found plain loses = (loses.number, loses.some, (loses.file, loses.was, loses.numbered))
 
--- Where nothing is written, since there is no number
-pub none_forgotten : (files : Files) (o : List ℕ) → (IsNumbered files o → ⊥) → Forgets (o ∷ []) files files
-none_forgotten files o none = record { none = All-push (λ p. IsNumbered files p → ⊥) [] o (All-nil _) none; paths = λ q. inl refl }
+no_temporary : (p o : List ℕ) → command_path p ≡ command_temporary o → ⊥
+no_temporary p o is = apart (CommandFile p) (CommandTemporary o) tt tt (λ e. cc) is
 
 -- Replacing the command file of one that has a number, by one without
 module _ (old new : Files) (o plain : List ℕ) (loses : LosesNumber o (content old (command_path o)) plain)
@@ -94,17 +94,19 @@ module _ (old new : Files) (o plain : List ℕ) (loses : LosesNumber o (content 
       (same_path q (command_path o)))
       (same_path q (command_temporary o))
 
-  pub one_forgotten : content new (command_path o) ≡ Some plain → Forgets (o ∷ []) old new
-  one_forgotten made = record {
+  pub one_forgotten : content new (command_path o) ≡ Some plain → content new (command_temporary o) ≡ None → Forgets (o ∷ []) old new
+  one_forgotten made gone = record {
     none = All-push (λ p. IsNumbered new p → ⊥) [] o (All-nil _) (forgotten_none new o (content old (command_path o)) plain made loses);
     paths = some_forgotten (inr made);
+    cleared = λ p. ⊎_elim (λ same. inr (rw same gone)) (λ other. inl (others (command_temporary p) other (λ is. no_temporary o p (sym is))))
+        (same_path (command_temporary p) (command_temporary o));
   }
-
-no_temporary : (p o : List ℕ) → command_path p ≡ command_temporary o → ⊥
-no_temporary p o is = apart (CommandFile p) (CommandTemporary o) tt tt (λ e. cc) is
 
 in_end : (xs : List (List ℕ)) (o p : List ℕ) → is_in (o ∷ []) p ≡ true → is_in (xs ++ o ∷ []) p ≡ true
 in_end xs o p is = list_any-append (bytes_eq p) xs (o ∷ []) ∙ or_right _ _ is
+
+old_or_gone : (a b c : Files) (q : List ℕ) → IsOldOrGone a b q → IsOldOrGone b c q → IsOldOrGone a c q
+old_or_gone a b c q first second = ⊎_elim (λ same. ⊎_elim (λ was. inl (same ∙ was)) (λ gone. inr (same ∙ gone)) first) (λ gone. inr gone) second
 
 -- One object more
 module _ (a b c : Files) (done : List (List ℕ)) (o : List ℕ) where
@@ -160,45 +162,37 @@ module _ (a b c : Files) (done : List (List ℕ)) (o : List ℕ) where
         (All-weaker (λ p. IsNumbered b p → ⊥) (λ p. IsNumbered c p → ⊥) (none_after second.paths) done first.none)
         (All-head (λ p. IsNumbered c p → ⊥) o [] second.none);
     paths = some_more first.paths second.paths;
+    cleared = λ p. old_or_gone a b c (command_temporary p) (first.cleared p) (second.cleared p);
   }
 
 pub none_forgets : (files : Files) → Forgets [] files files
-none_forgets files = record { none = All-nil _; paths = λ q. inl refl }
+none_forgets files = record { none = All-nil _; paths = λ q. inl refl; cleared = λ o. inl refl }
 
 -- what was forgotten of a beginning of the objects
 pub some_within : (xs ys : List (List ℕ)) (old new : Files) → ((x : List ℕ) → is_in xs x ≡ true → is_in ys x ≡ true) → ForgetsSome xs old new → ForgetsSome ys old new
 some_within xs ys old new within some q = ⊎_elim (λ same. inl same) (λ at. inr (at.0, within at.0 at.1, at.2)) (some q)
 
-abbrev seen : Bor (List ℕ) → List ℕ
-seen t = t.now
-
-beginning_of : (ts : List (Bor (List ℕ))) (n : ℕ) (x : List ℕ) → is_in (map seen (take n ts)) x ≡ true → is_in (map seen ts) x ≡ true
-beginning_of ts n x among = sym (ap (λ l. is_in (map seen l) x) (take-append-drop n ts)) ∙ ap (λ l. is_in l x) (map-append seen (take n ts) (drop n ts))
-    ∙ list_any-append (bytes_eq x) (map seen (take n ts)) (map seen (drop n ts)) ∙ or_left _ _ among
+among_first : (ts : List (Bor (List ℕ))) (n : ℕ) (x : List ℕ) → is_in (map seen (take n ts)) x ≡ true → is_in (map seen ts) x ≡ true
+among_first ts n x among = beginning (map seen ts) n x (subst (λ l. is_in l x ≡ true) (sym (take-map seen n ts)) among)
 
 -- what was forgotten where an object fails, after those before it
 pub some_of : (ts : List (Bor (List ℕ))) (i : ℕ) (d : Bor (List ℕ)) (a b c : Files) → i < length ts → Forgets (map seen (take i ts)) a b
     → ForgetsSome ((get_or ts i d).now ∷ []) b c → ForgetsSome (map seen ts) a c
 some_of ts i d a b c within first second =
-    some_within (map seen (take i ts) ++ (get_or ts i d).now ∷ []) (map seen ts) a c (λ x among. beginning_of ts (i + 1) x (subst (λ l. is_in l x ≡ true) (sym (map_more seen ts i d within)) among))
+    some_within (map seen (take i ts) ++ (get_or ts i d).now ∷ []) (map seen ts) a c (λ x among. among_first ts (i + 1) x (subst (λ l. is_in l x ≡ true) (sym (map_more seen ts i d within)) among))
     (some_more a b c (map seen (take i ts)) (get_or ts i d).now first.paths second)
 
 -- ---- the stamps, the records and auto.conf
 
 module _ (old : Files) (number : ℕ) (names targets : List (List ℕ)) (legal : (x : List ℕ) → is_in names x ≡ true → IsTrue (is_name x)) where
-  beside_stamps : (new : Files) (renewed : List (List ℕ)) → ((x : List ℕ) → is_in renewed x ≡ true → is_in names x ≡ true) → Touches renewed number old new
-      → (p : Place) → IsLegalPlace p → (p ≡ StampTemporary → ⊥) → ((x : List ℕ) → p ≡ Stamp x → ⊥) → content new (path_of p) ≡ content old (path_of p)
-  beside_stamps new renewed within touched p is_legal no_temporary no_stamp =
-      touched.others (path_of p) (apart p StampTemporary is_legal tt no_temporary) (λ x among. apart p (Stamp x) is_legal (legal x (within x among)) (no_stamp x))
-
   -- after some stamps
   pub after_names : (new : Files) (renewed : List (List ℕ)) → ((x : List ℕ) → is_in renewed x ≡ true → is_in names x ≡ true)
       → Touches renewed number old new → BeginningLeaves old new number names targets renewed
   after_names new renewed within touched = record {
     within = within;
     stamps = touched.stamps;
-    records = λ o. inl (beside_stamps new renewed within touched (CommandFile o) tt (λ e. cc) (λ x e. cc));
-    auto = inl (beside_stamps new renewed within touched AutoConf tt (λ e. cc) (λ x e. cc));
+    records = λ o. inl (beside_touched names legal within touched (CommandFile o) tt (λ e. cc) (λ x e. cc));
+    auto = inl (beside_touched names legal within touched AutoConf tt (λ e. cc) (λ x e. cc));
     others = λ q stamps commands auto ts ta. touched.others q ts (λ x among. stamps x (within x among));
   }
 
@@ -217,14 +211,14 @@ module _ (old : Files) (number : ℕ) (names targets : List (List ℕ)) (legal :
   since_stamps one two touched o forgot = (
     forgot.0,
     forgot.1,
-    subst (λ f. LosesNumber o f forgot.0) (beside_stamps one names (λ x among. among) touched (CommandFile o) tt (λ e. cc) (λ x e. cc)) forgot.2,
+    subst (λ f. LosesNumber o f forgot.0) (beside_touched names legal (λ x among. among) touched (CommandFile o) tt (λ e. cc) (λ x e. cc)) forgot.2,
   )
 
   -- after the stamps, some records
   pub after_records : (one two : Files) → Touches names number old one → ForgetsSome targets one two → BeginningLeaves old two number names targets names
   after_records one two touched some =
       let was = after_names one names (λ x among. among) touched in
-      let file_kept = λ (o : List ℕ). beside_stamps one names (λ x among. among) touched (CommandFile o) tt (λ e. cc) (λ x e. cc) in
+      let file_kept = λ (o : List ℕ). beside_touched names legal (λ x among. among) touched (CommandFile o) tt (λ e. cc) (λ x e. cc) in
       record {
         within = λ x among. among;
         stamps = λ x name. beside_records one two some (Stamp x) name (λ o e. cc) (λ o e. cc) ∙ was.stamps x name;
@@ -236,7 +230,7 @@ module _ (old : Files) (number : ℕ) (names targets : List (List ℕ)) (legal :
             (λ temporary. absurd (no_temporary o at.0 temporary))
             at.2)
             (some (command_path o));
-        auto = inl (beside_records one two some AutoConf tt (λ o e. cc) (λ o e. cc) ∙ beside_stamps one names (λ x among. among) touched AutoConf tt (λ e. cc) (λ x e. cc));
+        auto = inl (beside_records one two some AutoConf tt (λ o e. cc) (λ o e. cc) ∙ beside_touched names legal (λ x among. among) touched AutoConf tt (λ e. cc) (λ x e. cc));
         others = λ q stamps commands auto ts ta. ⊎_elim
             (λ same. same ∙ was.others q stamps commands auto ts ta)
             (λ at. absurd (⊎_elim (λ forgot. (commands at.0 at.1).0 forgot.0) (λ temporary. (commands at.0 at.1).1 temporary) at.2))
@@ -257,7 +251,7 @@ module _ (old : Files) (number : ℕ) (names targets : List (List ℕ)) (legal :
       let kept = λ (p : Place) (is_legal : IsLegalPlace p) (temporary : p ≡ AutoTemporary → ⊥) (conf : p ≡ AutoConf → ⊥).
       others (path_of p) (apart p AutoTemporary is_legal tt temporary) (apart p AutoConf is_legal tt conf) in
       let auto_kept = beside_records one two forgets.paths AutoConf tt (λ o e. cc) (λ o e. cc)
-      ∙ beside_stamps one names (λ x among. among) touched AutoConf tt (λ e. cc) (λ x e. cc) in
+      ∙ beside_touched names legal (λ x among. among) touched AutoConf tt (λ e. cc) (λ x e. cc) in
       record {
         within = λ x among. among;
         stamps = λ x name. kept (Stamp x) name (λ e. cc) (λ e. cc) ∙ was.stamps x name;
@@ -269,10 +263,19 @@ module _ (old : Files) (number : ℕ) (names targets : List (List ℕ)) (legal :
         others = λ q stamps commands auto ts ta. others q ta auto ∙ was.others q stamps commands auto ts ta;
       }
 
-  pub all_begun : (one two three : Files) → Touches names number old one → Forgets targets one two → SameButBoth auto_temporary auto_path two three
-      → content three auto_path ≡ Some (generation_line number) → IsBeginning old three number names targets
-  all_begun one two three touched forgets others made = record {
-    leaves = after_auto one two three touched forgets others (inr made);
-    none = none_left two three others forgets.none;
-    auto = made;
-  }
+  pub all_begun : (one two three : Files) → Touches names number old one → content one stamp_temporary ≡ left_over names (content old stamp_temporary)
+      → Forgets targets one two → SameButBoth auto_temporary auto_path two three → content three auto_path ≡ Some (generation_line number)
+      → content three auto_temporary ≡ None → IsBeginning old three number names targets
+  all_begun one two three touched stamps forgets others made gone =
+      let kept = λ (p : Place) (is_legal : IsLegalPlace p) (temporary : p ≡ AutoTemporary → ⊥) (conf : p ≡ AutoConf → ⊥).
+      others (path_of p) (apart p AutoTemporary is_legal tt temporary) (apart p AutoConf is_legal tt conf) in
+      record {
+        leaves = after_auto one two three touched forgets others (inr made);
+        none = none_left two three others forgets.none;
+        auto = made;
+        stamps_cleared = kept StampTemporary tt (λ e. cc) (λ e. cc) ∙ beside_records one two forgets.paths StampTemporary tt (λ o e. cc) (λ o e. cc) ∙ stamps;
+        commands_cleared = λ o. old_or_gone old one three (command_temporary o)
+            (inl (beside_touched names legal (λ x among. among) touched (CommandTemporary o) tt (λ e. cc) (λ x e. cc)))
+            (old_or_gone one two three (command_temporary o) (forgets.cleared o) (inl (kept (CommandTemporary o) tt (λ e. cc) (λ e. cc))));
+        auto_cleared = gone;
+      }

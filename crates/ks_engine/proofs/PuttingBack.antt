@@ -1,6 +1,7 @@
 -- What a repair leaves, write by write.
-use Rattle.ks_engine.proofs.Prelude.{Header, ◌≡◌, ◌⊎◌, inl, inr, ⊎_elim, ℕ, List, [], ◌∷◌, Some, true, ◌∙◌, sym, refl, All, All-head, All-tail, or_cases, true≢false, bytes_eq, bytes_eq-Decides, subst, is_in, is_name, IsTrue, header_path, Files, content, SameButBoth, auto_path, auto_temporary, header_temporary, stamp_path, Place, AutoConf, Stamp, AutoTemporary, HeaderTemporary, StampTemporary, path_of, IsLegalPlace, Touches}
+use Rattle.ks_engine.proofs.Prelude.{Header, ◌≡◌, ◌⊎◌, inl, inr, ⊎_elim, ℕ, List, [], ◌∷◌, Some, true, ◌∙◌, sym, refl, All, All-head, All-tail, or_cases, true≢false, bytes_eq, bytes_eq-Decides, subst, is_in, is_name, IsTrue, header_path, Files, content, SameButBoth, auto_path, auto_temporary, header_temporary, stamp_path, AutoConf, Stamp, AutoTemporary, HeaderTemporary, Touches}
 use Rattle.ks_engine.proofs.LowerLaws.{apart}
+use Rattle.ks_engine.proofs.Writes.{beside_touched}
 use Rattle.ks_engine.specs.declared.repairing.Kept.{Kept}
 use Rattle.ks_engine.specs.Repairs.{RepairLeaves}
 
@@ -13,19 +14,14 @@ among P (y ∷ ys) all x is = ⊎_elim
     (or_cases (bytes_eq x y) (is_in ys x) is)
 
 module _ (old : Files) (k : Kept) (number : ℕ) (lost : List (List ℕ)) (legal : (x : List ℕ) → is_in lost x ≡ true → IsTrue (is_name x)) where
-  kept_beside : (new : Files) (renewed : List (List ℕ)) → ((x : List ℕ) → is_in renewed x ≡ true → is_in lost x ≡ true) → Touches renewed number old new
-      → (p : Place) → IsLegalPlace p → (p ≡ StampTemporary → ⊥) → ((x : List ℕ) → p ≡ Stamp x → ⊥) → content new (path_of p) ≡ content old (path_of p)
-  kept_beside new renewed within touched p is_legal no_temporary no_stamp =
-      touched.others (path_of p) (apart p StampTemporary is_legal tt no_temporary) (λ x among. apart p (Stamp x) is_legal (legal x (within x among)) (no_stamp x))
-
   -- after the stamps of some names
   pub after_stamps : (new : Files) (renewed : List (List ℕ)) → ((x : List ℕ) → is_in renewed x ≡ true → is_in lost x ≡ true)
       → Touches renewed number old new → RepairLeaves old new k number lost renewed
   after_stamps new renewed within touched = record {
     within = within;
     stamps = touched.stamps;
-    header = inl (kept_beside new renewed within touched Header tt (λ e. cc) (λ x e. cc));
-    auto = inl (kept_beside new renewed within touched AutoConf tt (λ e. cc) (λ x e. cc));
+    header = inl (beside_touched lost legal within touched Header tt (λ e. cc) (λ x e. cc));
+    auto = inl (beside_touched lost legal within touched AutoConf tt (λ e. cc) (λ x e. cc));
     others = λ q stamps header auto ts th ta. touched.others q ts (λ x among. stamps x (within x among));
   }
 
@@ -34,7 +30,7 @@ module _ (old : Files) (k : Kept) (number : ℕ) (lost : List (List ℕ)) (legal
       → (content two header_path ≡ content one header_path) ⊎ (content two header_path ≡ Some k.header.items)
       → RepairLeaves old two k number lost lost
   headed one two touched others header =
-      let kept = kept_beside one lost (λ x among. among) touched in
+      let kept = beside_touched lost legal (λ x among. among) touched in
       let stamped = after_stamps one lost (λ x among. among) touched in
       record {
         within = λ x among. among;
@@ -57,7 +53,7 @@ module _ (old : Files) (k : Kept) (number : ℕ) (lost : List (List ℕ)) (legal
       let was = headed one two touched others (inr made) in
       let header = header_stays two three others_then ∙ made in
       let auto_kept = others auto_path (apart AutoConf HeaderTemporary tt tt (λ e. cc)) (apart AutoConf Header tt tt (λ e. cc))
-      ∙ kept_beside one lost (λ x among. among) touched AutoConf tt (λ e. cc) (λ x e. cc) in
+      ∙ beside_touched lost legal (λ x among. among) touched AutoConf tt (λ e. cc) (λ x e. cc) in
       record {
         within = λ x among. among;
         stamps = λ x name. others_then (stamp_path x) (apart (Stamp x) AutoTemporary name tt (λ e. cc)) (apart (Stamp x) AutoConf name tt (λ e. cc)) ∙ was.stamps x name;

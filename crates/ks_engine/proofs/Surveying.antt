@@ -127,7 +127,7 @@ generation_some file b g at fine is = rw (old_some file b None at fine, ← is) 
 pub at_place : (xs : List (List ℕ)) (i : ℕ) (d x : List ℕ) → i < length xs → x ≡ get_or xs i d → is_in xs x ≡ true
 at_place xs i d x within is = list_any_at (bytes_eq x) xs i d within ((bytes_eq-Decides x (get_or xs i d)).1 is)
 
-abbrev seen : Bor (List ℕ) → List ℕ
+abbrev pub seen : Bor (List ℕ) → List ℕ
 seen t = t.now
 
 pub bad_target : (ts : List (Bor (List ℕ))) (i : ℕ) (d : Bor (List ℕ)) (e : EngineError) → i < length ts
@@ -219,7 +219,7 @@ module _ (files : Files) (kept : Option Kept) (names targets : List (List ℕ)) 
 
   pub begin_refused : (new : Files) (e : EngineError) → (kept ≡ None) ⊎ (IsLast g r s → ⊥)
       → ((new ≡ files) × (IsAborted e ⊎ (generation_in (content files auto_path) ≡ Err e)))
-      ⊎ ((present : ℕ) × (generation_in (content files auto_path) ≡ Ok present) × IsBeginningRefused files new (max (max (max g r) present) s) names targets e)
+      ⊎ ((present : ℕ) × (generation_in (content files auto_path) ≡ Ok present) × IsBeginningRefused files new (max (max g r) present) s names targets e)
       → IsRepairRefused files new kept names targets e
   begin_refused new e not_last (inl (same, inl aborted)) = inr (inl (aborted, inl same))
   begin_refused new e not_last (inl (same, inr bad)) = inl (

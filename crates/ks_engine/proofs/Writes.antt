@@ -1,21 +1,23 @@
 -- What the writes of a synchronisation leave, one after another.
-use Rattle.ks_engine.proofs.Prelude.{Header, ◌≡◌, ◌⊎◌, inl, inr, ⊎_elim, ℕ, ◌+◌, List, Some, None, true, sym, ap, ◌∙◌, refl, subst, take, drop, take-append-drop, list_any-append, or_left, bytes_eq, Result, Ok, Err, OnErr, OnOk, auto_text, header_text, is_in, header_path, Files, content, SameButBoth, auto_path, auto_temporary, header_temporary, stamp_path, stamp_temporary, left_over, AreCleared, Place, AutoConf, Stamp, AutoTemporary, HeaderTemporary, StampTemporary, path_of, IsLegalPlace, Touches, AreLegalChanges, SyncLeaves, Plan, rules}
+use Rattle.ks_engine.proofs.Prelude.{Header, ◌≡◌, ◌⊎◌, inl, inr, ⊎_elim, ℕ, ◌+◌, List, Some, None, true, sym, ap, ◌∙◌, refl, subst, take, drop, take-append-drop, list_any-append, or_left, bytes_eq, Result, Ok, Err, OnErr, OnOk, auto_text, header_text, is_in, header_path, Files, content, SameButBoth, auto_path, auto_temporary, header_temporary, stamp_path, stamp_temporary, left_over, AreCleared, Place, AutoConf, Stamp, AutoTemporary, HeaderTemporary, StampTemporary, path_of, IsLegalPlace, Touches, AreLegalChanges, SyncLeaves, Plan, rules, is_name, IsTrue}
 use Rattle.ks_engine.proofs.LowerLaws.{apart}
 
-module _ (old : Files) (plan : Plan) (changed : List (List ℕ)) (are : AreLegalChanges plan.old plan.config changed) where
-  stamped_kept : (new : Files) (renewed : List (List ℕ)) (g : ℕ) → ((x : List ℕ) → is_in renewed x ≡ true → is_in changed x ≡ true) → Touches renewed g old new
-      → (p : Place) → IsLegalPlace p → (p ≡ StampTemporary → ⊥) → ((x : List ℕ) → p ≡ Stamp x → ⊥) → content new (path_of p) ≡ content old (path_of p)
-  stamped_kept new renewed g within touched p legal no_temporary no_stamp =
-      touched.others (path_of p) (apart p StampTemporary legal tt no_temporary) (λ x among. apart p (Stamp x) legal (are.legal x (within x among)) (no_stamp x))
+-- What is no stamp is left by stamps that are renewed.
+pub beside_touched : {old new : Files} {renewed : List (List ℕ)} {g : ℕ} (names : List (List ℕ)) → ((x : List ℕ) → is_in names x ≡ true → IsTrue (is_name x))
+    → ((x : List ℕ) → is_in renewed x ≡ true → is_in names x ≡ true) → Touches renewed g old new
+    → (p : Place) → IsLegalPlace p → (p ≡ StampTemporary → ⊥) → ((x : List ℕ) → p ≡ Stamp x → ⊥) → content new (path_of p) ≡ content old (path_of p)
+beside_touched names legal within touched p is_legal no_temporary no_stamp =
+    touched.others (path_of p) (apart p StampTemporary is_legal tt no_temporary) (λ x among. apart p (Stamp x) is_legal (legal x (within x among)) (no_stamp x))
 
+module _ (old : Files) (plan : Plan) (changed : List (List ℕ)) (are : AreLegalChanges plan.old plan.config changed) where
   -- after the stamps of some changes
   pub after_stamps : (new : Files) (renewed : List (List ℕ)) → ((x : List ℕ) → is_in renewed x ≡ true → is_in changed x ≡ true)
       → Touches renewed (plan.generation + 1) old new → SyncLeaves old new plan changed renewed
   after_stamps new renewed within touched = record {
     within = within;
     stamps = touched.stamps;
-    header = inl (stamped_kept new renewed _ within touched Header tt (λ e. cc) (λ x e. cc));
-    auto = inl (stamped_kept new renewed _ within touched AutoConf tt (λ e. cc) (λ x e. cc));
+    header = inl (beside_touched changed are.legal within touched Header tt (λ e. cc) (λ x e. cc));
+    auto = inl (beside_touched changed are.legal within touched AutoConf tt (λ e. cc) (λ x e. cc));
     others = λ q stamps header auto ts th ta. touched.others q ts (λ x among. stamps x (within x among));
   }
 
@@ -24,7 +26,7 @@ module _ (old : Files) (plan : Plan) (changed : List (List ℕ)) (are : AreLegal
       → (content two header_path ≡ content one header_path) ⊎ (content two header_path ≡ Some (header_text plan.title plan.config))
       → SyncLeaves old two plan changed changed
   headed g one two is touched others header =
-      let kept = stamped_kept one changed g (λ x among. among) touched in
+      let kept = beside_touched changed are.legal (λ x among. among) touched in
       let stamped = after_stamps one changed (λ x among. among) (subst (λ n. Touches changed n old one) is touched) in
       record {
         within = λ x among. among;
@@ -47,7 +49,7 @@ module _ (old : Files) (plan : Plan) (changed : List (List ℕ)) (are : AreLegal
       let was = headed g one two is touched others (inr made) in
       let header = header_stays two three others_then ∙ made in
       let auto_kept = others auto_path (apart AutoConf HeaderTemporary tt tt (λ e. cc)) (apart AutoConf Header tt tt (λ e. cc))
-      ∙ stamped_kept one changed g (λ x among. among) touched AutoConf tt (λ e. cc) (λ x e. cc) in
+      ∙ beside_touched changed are.legal (λ x among. among) touched AutoConf tt (λ e. cc) (λ x e. cc) in
       record {
         within = λ x among. among;
         stamps = λ x name. others_then (stamp_path x) (apart (Stamp x) AutoTemporary name tt (λ e. cc)) (apart (Stamp x) AutoConf name tt (λ e. cc)) ∙ was.stamps x name;

@@ -7,10 +7,11 @@ use Rattle.ks_fixdep.specs.CommandFile.{CommandRecord, command_text}
 use Rattle.ks_output.specs.AutoText.{generation_line}
 use Rattle.ks_tree.specs.Files.{Files, IsTooLarge, content}
 use Rattle.ks_tree.specs.Paths.{auto_path, auto_temporary, command_path, command_temporary, header_temporary, stamp_path, stamp_temporary}
-use Rattle.ks_tree.specs.Stamps.{HasNumber, IsNoStamp, stamp_text}
+use Rattle.ks_tree.specs.Stamps.{HasNumber, IsNoStamp, left_over, stamp_text}
 use Rattle.ks_engine.specs.Asked.{command_file}
 use Rattle.ks_engine.specs.LastSync.{old_auto}
 use Rattle.ks_engine.specs.Refusals.{IsAborted, and_then}
+use Rattle.ks_engine.specs.Synchronised.{AreCleared}
 use Rattle.ks_engine.specs.declared.error.EngineError.{EngineError}
 use Rattle.ks_engine.specs.declared.error.EngineError.TheVariants.{BadPath, GenerationFull, TooLarge}
 use Rattle.ks_engine.specs.declared.repairing.Kept.{Kept}
@@ -93,6 +94,7 @@ pub record IsPutBack (old new : Files) (k : Kept) (number : ℕ) (lost : List (L
   pub leaves : RepairLeaves old new k number lost lost
   pub header : content new header_path ≡ Some k.header.items
   pub auto : content new auto_path ≡ Some k.auto.items
+  pub cleared : AreCleared old new lost
 
 -- It was put back, with the number that the next synchronisation gets too.
 pub record PutsBack (old new : Files) (kept : Option Kept) (names targets : List (List ℕ)) (generation count : ℕ) : Type 0 where
@@ -138,10 +140,14 @@ abbrev pub ForgetsSome : List (List ℕ) → Files → Files → Type 0
 ForgetsSome targets old new = (q : List ℕ) → (content new q ≡ content old q)
     ⊎ ((o : List ℕ) × (is_in targets o ≡ true) × (((q ≡ command_path o) × IsForgotten old new o) ⊎ (q ≡ command_temporary o)))
 
+abbrev pub IsOldOrGone : Files → Files → List ℕ → Type 0
+IsOldOrGone old new q = (content new q ≡ content old q) ⊎ (content new q ≡ None)
+
 -- No record of these objects has a number any more.
 pub record Forgets (targets : List (List ℕ)) (old new : Files) : Type 0 where
   pub none : All (λ o. IsNumbered new o → ⊥) targets
   pub paths : ForgetsSome targets old new
+  pub cleared : (o : List ℕ) → IsOldOrGone old new (command_temporary o)
 
 -- Stamps of some of the names are renewed. Where all are, records may be forgotten, and where all of these are, auto.conf may be that of the number.
 -- All else but the temporary files is as before.
@@ -157,11 +163,14 @@ pub record BeginningLeaves (old new : Files) (number : ℕ) (names targets renew
       → ((o : List ℕ) → is_in targets o ≡ true → (q ≢ command_path o) × (q ≢ command_temporary o)) → q ≢ auto_path
       → q ≢ stamp_temporary → q ≢ auto_temporary → content new q ≡ content old q
 
--- All of it is done.
+-- All of it is done, and no temporary file of it is left.
 pub record IsBeginning (old new : Files) (number : ℕ) (names targets : List (List ℕ)) : Type 0 where
   pub leaves : BeginningLeaves old new number names targets names
   pub none : All (λ o. IsNumbered new o → ⊥) targets
   pub auto : content new auto_path ≡ Some (generation_line number)
+  pub stamps_cleared : content new stamp_temporary ≡ left_over names (content old stamp_temporary)
+  pub commands_cleared : (o : List ℕ) → IsOldOrGone old new (command_temporary o)
+  pub auto_cleared : content new auto_temporary ≡ None
 
 -- By the highest of all other numbers, and that of the stamps: without one nothing is written. A stamp of 1 is left of a first synchronisation
 -- that was interrupted.
@@ -228,13 +237,14 @@ pub record IsRepairBrokenOff (old new : Files) (kept : Option Kept) (names targe
   pub renewed : List (List ℕ)
   pub leaves : RepairLeaves old new k (generation + 1) lost renewed
 
--- So was a beginning, after which each number is below 2 ^ 64.
-abbrev pub IsBeginningRefused : Files → Files → ℕ → List (List ℕ) → List (List ℕ) → EngineError → Type 0
-IsBeginningRefused old new highest names targets e = ((new ≡ old) × (highest ≡ 18446744073709551615) × (e ≡ GenerationFull))
-    ⊎ (IsAborted e × (renewed : List (List ℕ)) × BeginningLeaves old new (highest + 1) names targets renewed)
+-- So was a beginning, which there is only where there are numbers. After it each is below 2 ^ 64.
+abbrev pub IsBeginningRefused : Files → Files → ℕ → ℕ → List (List ℕ) → List (List ℕ) → EngineError → Type 0
+IsBeginningRefused old new numbered stamps names targets e = ((numbered ≡ 0) × (stamps ≤ 1) → ⊥)
+    × (((new ≡ old) × (max numbered stamps ≡ 18446744073709551615) × (e ≡ GenerationFull))
+    ⊎ (IsAborted e × (renewed : List (List ℕ)) × BeginningLeaves old new (max numbered stamps + 1) names targets renewed))
 
 abbrev pub IsRepairRefused : Files → Files → Option Kept → List (List ℕ) → List (List ℕ) → EngineError → Type 0
 IsRepairRefused old new kept names targets e =
     ((new ≡ old) × IsRepairRefusal old kept names targets e)
     ⊎ (IsAborted e × ((new ≡ old) ⊎ IsRepairBrokenOff old new kept names targets))
-    ⊎ ((numbered : ℕ) × (stamps : ℕ) × AreLost old kept names targets numbered stamps × IsBeginningRefused old new (max numbered stamps) names targets e)
+    ⊎ ((numbered : ℕ) × (stamps : ℕ) × AreLost old kept names targets numbered stamps × IsBeginningRefused old new numbered stamps names targets e)

@@ -318,7 +318,8 @@ fn forget_records<T: Tree>(
     Ok(())
 }
 
-/// The stamps, then the records, then an auto.conf of the number alone: as long as that isn't there, the next repair finds the same.
+/// The stamps, then the records, then an auto.conf of the number alone. If it is broken off, the next repair begins again, mostly at
+/// the number after this one.
 fn write_beginning<T: Tree>(
     alloc: Global,
     tree: &mut T,
@@ -354,7 +355,7 @@ fn begin_again<T: Tree>(
         × IsBegun (T.files tree.old) (T.files tree.new) (max (max survey.now.generation survey.now.records) present) survey.now.stamps names.now (map (λ t. t.now) targets.now) r) }
     ensures refused { T.is_honest → IfErr result (λ e. ((T.files tree.new ≡ T.files tree.old) × (IsAborted e ⊎ (generation_in (content (T.files tree.old) auto_path) ≡ Err e)))
         ⊎ ((present : ℕ) × (generation_in (content (T.files tree.old) auto_path) ≡ Ok present)
-        × IsBeginningRefused (T.files tree.old) (T.files tree.new) (max (max (max survey.now.generation survey.now.records) present) survey.now.stamps) names.now (map (λ t. t.now) targets.now) e)) }
+        × IsBeginningRefused (T.files tree.old) (T.files tree.new) (max (max survey.now.generation survey.now.records) present) survey.now.stamps names.now (map (λ t. t.now) targets.now) e)) }
     ensures counted { Counted T.Tree tree.old tree.new (IsErrOf result EngineError.Device) }
     ensures kept { T.backdated tree.new ≡ T.backdated tree.old }
 {
@@ -375,7 +376,7 @@ fn begin_again<T: Tree>(
 /// Puts back what was kept, where no record and no stamp says that a synchronisation came after it: each of these names whose stamp
 /// says nothing gets the next number, then the header comes back, then auto.conf. Else the numbers begin again above all others: each
 /// of these names gets that number, no record of these objects keeps one, and then auto.conf says it, and nothing else. After
-/// `OutOfMemory` or `Device` some of it may be done, and the next repair completes it.
+/// `OutOfMemory` or `Device` some of it may be done, and the next repair does all of it.
 pub fn repair<T: Tree>(
     alloc: Global,
     tree: &mut T,

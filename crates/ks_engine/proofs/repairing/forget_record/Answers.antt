@@ -27,4 +27,5 @@ returns-in-Some-clause-all g c = λ honest.
     let others = rw (c.deref-in-Some.ensures.value, c.deref-in-Some-2.ensures.value, c.in_ok-temporary-in-Some.ensures, c.in_ok-path.ensures, same)
     at (c.replace.ensures.others honest) in
     let written = rw (c.deref-in-Some-2.ensures.value, c.deref-in-Some-3.ensures.value, c.in_ok-path.ensures) at (c.in_ok-replace-in-Some.ensures.written honest) in
-    one_forgotten _ _ _ _ (subst (λ f. LosesNumber c.args.target.now f c.in-Some.plain.items) found loses) others written
+    let gone = rw (c.deref-in-Some.ensures.value, c.in_ok-temporary-in-Some.ensures) at (c.in_ok-replace-in-Some.ensures.gone honest) in
+    one_forgotten _ _ _ _ (subst (λ f. LosesNumber c.args.target.now f c.in-Some.plain.items) found loses) others written gone

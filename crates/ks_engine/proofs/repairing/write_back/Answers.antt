@@ -1,6 +1,6 @@
-use Rattle.ks_engine.proofs.Prelude.{Header, on_ok_weaker, on_err_weaker, ◌≡◌, ◌⊎◌, inr, Some, ◌∙◌, take, content, is_name, IsTrue, header_path, auto_path, AutoConf, HeaderTemporary, AutoTemporary}
+use Rattle.ks_engine.proofs.Prelude.{Header, AreCleared, on_ok_weaker, on_err_weaker, ◌≡◌, ◌⊎◌, inr, Some, None, ◌∙◌, take, content, is_name, IsTrue, header_path, auto_path, auto_temporary, AutoConf, HeaderTemporary, AutoTemporary}
 use Rattle.ks_engine.proofs.LowerLaws.{apart}
-use Rattle.ks_engine.proofs.Writes.{on_err, beginning}
+use Rattle.ks_engine.proofs.Writes.{beginning, both_ok, cleared, on_err}
 use Rattle.ks_engine.proofs.PuttingBack.{after_stamps, among, finished, headed, header_stays}
 use Rattle.ks_engine.specs.Repairs.{RepairLeaves}
 use Rattle.ks_engine.proofs.repairing.write_back.Given as given
@@ -21,6 +21,15 @@ last_write g c honest =
       header_stays (g.T.Tree.files c.args.tree.now) c.args.kept.now c.args.number c.args.lost.now legal _ _ others_then ∙ headed_by,
       finished (g.T.Tree.files c.args.tree.now) c.args.kept.now c.args.number c.args.lost.now legal _ _ _ touched others headed_by others_then,
     )
+
+-- no temporary file is left where that of auto.conf isn't
+last_cleared : (g : given.Over) (c : goal.After-replace-2 g) → g.T.Tree.is_honest → content (g.T.Tree.files c.replace-2.new.tree) auto_temporary ≡ None
+    → AreCleared (g.T.Tree.files c.args.tree.now) (g.T.Tree.files c.replace-2.new.tree) c.args.lost.now
+last_cleared g c honest auto =
+    let others = rw (c.header_temporary.ensures, c.header_path.ensures) at (c.replace.ensures.others honest) in
+    let header = rw c.header_temporary.ensures at (c.in_ok-replace.ensures.gone honest) in
+    let others_then = rw (c.auto_temporary.ensures, c.auto_path.ensures) at (c.replace-2.ensures.others honest) in
+    cleared (g.T.Tree.files c.args.tree.now) _ _ _ c.args.lost.now (c.in_ok-touch_all.ensures.gone honest) others header others_then auto
 
 pub replace-requires : goal.replace-requires
 replace-requires g c = rw (c.header_temporary.ensures, c.header_path.ensures) (apart HeaderTemporary Header tt tt (λ e. cc))
@@ -52,7 +61,10 @@ pub returns-clause-all : goal.returns-clause-all
 returns-clause-all g c = λ honest.
     let last = last_write g c honest in
     let written = rw (c.auto_path.ensures, c.deref-2.ensures.value) at (c.replace-2.ensures.written honest) in
-    on_ok_weaker c.replace-2.result (λ is. record { leaves = last.1 (inr is); header = last.0; auto = is }) written
+    let gone = rw c.auto_temporary.ensures at (c.replace-2.ensures.gone honest) in
+    on_ok_weaker c.replace-2.result
+    (λ both. record { leaves = last.1 (inr both.0); header = last.0; auto = both.0; cleared = last_cleared g c honest both.1 })
+    (both_ok c.replace-2.result _ _ written gone)
 
 pub returns-clause-some : goal.returns-clause-some
 returns-clause-some g c = λ honest.

@@ -42,5 +42,6 @@ returns-clause-all g c = λ honest.
     let names = c.args.names.now in
     let others = rw (c.auto_temporary.ensures, c.auto_path.ensures) at (c.replace.ensures.others honest) in
     let made = rw (c.auto_path.ensures, c.deref.ensures.value, c.in_ok-append_generation.ensures.written, c.new-auto.ensures.items) at (c.in_ok-replace.ensures.written honest) in
+    let gone = rw c.auto_temporary.ensures at (c.in_ok-replace.ensures.gone honest) in
     all_begun (g.T.Tree.files c.args.tree.now) c.args.number names _ (among (λ x. IsTrue (is_name x)) names (c.requires.legal honest)) _ _ _
-    (c.in_ok-touch_all.ensures.all honest) (c.in_ok-forget_records.ensures.all honest) others made
+    (c.in_ok-touch_all.ensures.all honest) (c.in_ok-touch_all.ensures.gone honest) (c.in_ok-forget_records.ensures.all honest) others made gone

@@ -2,3 +2,4 @@ mod Between
 mod Backdated
 mod Stories
 mod Adopted
+mod Marked

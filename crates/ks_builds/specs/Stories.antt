@@ -9,14 +9,14 @@ use Rattle.ks_engine.specs.Runs.{IsShown}
 use Rattle.ks_engine.specs.Shows.{Shows}
 use Rattle.ks_requests.specs.declared.request.Request.{Request}
 use Rattle.ks_requests.specs.Endings.{Ending}
-use Rattle.ks_commands.specs.Histories.{Continues, IsNoRepair}
+use Rattle.ks_commands.specs.Histories.{Continues, IsFollowed}
 use Rattle.ks_commands.specs.Programs.{ProgramReportsChanges}
 use Rattle.ks_commands.specs.Performed.{Ends, by_files}
 use Rattle.ks_parallel.specs.Views.{without}
 use Rattle.ks_builds.specs.Between.{IsRepaired, SaysTheSame}
 
 pub data Happening : Type 0 where
-  -- a run of the program, over an honest tree, of a request that is no repair
+  -- a run of the program, over an honest tree, of a request that histories follow
   Ran : (dialect : Dialect) (request : Request) (ended : Ending) → Happening
   -- others wrote, and the records of these objects are gone
   Written : (gone : List ℕ → Bool) → Happening
@@ -25,7 +25,7 @@ pub data Happening : Type 0 where
 
 -- by the files of the tree
 abbrev pub LeavesFiles : Happening → FileState → FileState → Type 0
-LeavesFiles (Ran dialect request ended) old new = IsNoRepair request × Ends ⊤ (by_files dialect ⊤ old new) old request ended new
+LeavesFiles (Ran dialect request ended) old new = IsFollowed request × Ends ⊤ (by_files dialect ⊤ old new) old request ended new
 LeavesFiles (Written gone) old new = SaysTheSame gone old.files new.files
 LeavesFiles (Repaired gone title config renewed) old new = IsRepaired gone title config renewed old.files new.files
 

@@ -2,6 +2,7 @@
 ghost use Rattle.ks_builds.specs.Adopted.{NeverTouchedIsTheSame};
 ghost use Rattle.ks_builds.specs.Between.{LostNumbersBeginAgain, LostRecordsAreLeftOut, OthersMayWrite, PutBackIsShown, RepairsAreBreaks, TreesBeginAgain};
 ghost use Rattle.ks_builds.specs.Builds.{BuildsAreRight, WhatIsNotBackdatedIsFresh, WhatIsNotBackdatedIsSafe};
+ghost use Rattle.ks_builds.specs.Marked.{WhatIsNotMarkedIsSafe};
 ghost use Rattle.ks_builds.specs.Stories.{StoriesAreShown, StoriesReportChanges};
 
 /// What any program may do between two runs, and which history the files show then.
@@ -23,6 +24,11 @@ pub fn never_touched_is_the_same()
 pub fn what_is_not_backdated_is_safe()
     ensures fresh { WhatIsNotBackdatedIsFresh }
     ensures safe { WhatIsNotBackdatedIsSafe }
+{}
+
+/// What `mark` leaves alone.
+pub fn what_is_not_marked_is_safe()
+    ensures { WhatIsNotMarkedIsSafe }
 {}
 
 /// What make may leave as it is: what is reported fresh.

@@ -7,5 +7,5 @@ mod laws;
 
 pub use laws::{
     builds_are_right, foreign_writes_are_shown, never_touched_is_the_same, stories_are_shown,
-    what_is_not_backdated_is_safe,
+    what_is_not_backdated_is_safe, what_is_not_marked_is_safe,
 };

@@ -97,14 +97,14 @@ abbrev pub depfile_after : List Row → DepfileAfter
 depfile_after rows = if is_set (codes "remove-depfile") rows then depfile.Removed else depfile.Kept
 
 -- which stale objects `age` is to age
-abbrev pub backdates_of : List Row → BackdateScope
-backdates_of rows = if is_set (codes "unrecorded") rows then backdates.Unrecorded else backdates.Recorded
+abbrev pub scope_of : List Row → BackdateScope
+scope_of rows = if is_set (codes "unrecorded") rows then backdates.Unrecorded else backdates.Recorded
 
 -- the name is that of no command but `stale`
 abbrev pub IsNoOther : Text → Type 0
 IsNoOther name = All (λ other. name ≢ other)
     (codes "sync" ∷ codes "preview" ∷ codes "diff" ∷ codes "fixdep" ∷ codes "record" ∷ codes "depfile" ∷ codes "batch" ∷ codes "outdated"
-    ∷ codes "why" ∷ codes "impact" ∷ codes "age" ∷ codes "users" ∷ codes "cost" ∷ codes "backdate" ∷ codes "explain" ∷ codes "repair" ∷ [])
+    ∷ codes "why" ∷ codes "impact" ∷ codes "age" ∷ codes "users" ∷ codes "cost" ∷ codes "backdate" ∷ codes "explain" ∷ codes "repair" ∷ codes "mark" ∷ [])
 
 -- what was kept is named by both words; a header that isn't there is a path of no bytes, which is none
 abbrev pub AreKept : List Row → Option KeptPaths → Type 0
@@ -146,7 +146,8 @@ IsRequestOf command rows (request.Stale ts f) =
     IsNoOther command × AreTargets rows ts × (f ≡ format_of rows)
 IsRequestOf command rows (request.Why ts f) = (command ≡ codes "why") × AreTargets rows ts × (f ≡ format_of rows)
 IsRequestOf command rows (request.Impact c ts f) = (command ≡ codes "impact") × AreConfig rows c × AreTargets rows ts × (f ≡ format_of rows)
-IsRequestOf command rows (request.Backdate which ts) = ((command ≡ codes "backdate") ⊎ (command ≡ codes "age")) × (which ≡ backdates_of rows) × AreTargets rows ts
+IsRequestOf command rows (request.Backdate which ts) = ((command ≡ codes "backdate") ⊎ (command ≡ codes "age")) × (which ≡ scope_of rows) × AreTargets rows ts
+IsRequestOf command rows (request.Mark which ts) = (command ≡ codes "mark") × (which ≡ scope_of rows) × AreTargets rows ts
 IsRequestOf command rows (request.Batch s) =
     (command ≡ codes "batch") × (string_bytes s ≡ arg_at (codes "SCRIPT") rows)
 IsRequestOf command rows (request.Outdated t c) = (command ≡ codes "outdated")

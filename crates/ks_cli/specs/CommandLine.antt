@@ -101,6 +101,7 @@ asking_apps =
     ∷ following (codes "from") (codes "FILE") ∷ flag (codes "json") ∷ []))
     ∷ needing_one (taking (codes "backdate") (flag (codes "unrecorded") ∷ any_number (codes "TARGET") ∷ following (codes "from") (codes "FILE") ∷ []))
     ∷ needing_one (taking (codes "age") (flag (codes "unrecorded") ∷ any_number (codes "TARGET") ∷ following (codes "from") (codes "FILE") ∷ []))
+    ∷ needing_one (taking (codes "mark") (flag (codes "unrecorded") ∷ any_number (codes "TARGET") ∷ following (codes "from") (codes "FILE") ∷ []))
     ∷ taking (codes "batch") (once (codes "SCRIPT") ∷ [])
     ∷ taking (codes "outdated") (once (codes "TARGET") ∷ once (codes "COMMAND") ∷ [])
     ∷ needing_one (taking (codes "users") (once_after (codes "from") (codes "FILE") ∷ at_least_once (codes "SYMBOL") ∷ []))

@@ -5,7 +5,7 @@ ghost use Rattle.clap.specs.Walk.{texts};
 ghost use Rattle.ks_requests.specs.Requests.{IsBatchOf, IsPreviewOf};
 ghost use Rattle.ks_cli.specs.CommandLine.{command_line_app};
 ghost use Rattle.ks_cli.specs.Meaning.{IsBothReported, IsPageNamed, IsPageReported, IsReason, IsTakenAs, Makes};
-ghost use Rattle.ks_cli.specs.Args.{AreConfig, AreKept, AreTargets, IsPlainArg, IsRequestOf, HasText, IsReported, IsWantOfMemory, asks_both, is_no_memory, is_set, report_style_of, arg_at, args_at, format_of, IsNumberOf};
+ghost use Rattle.ks_cli.specs.Args.{AreConfig, AreKept, AreTargets, IsPlainArg, IsRequestOf, HasText, IsReported, IsWantOfMemory, asks_both, is_no_memory, is_set, report_style_of, arg_at, args_at, format_of, scope_of, IsNumberOf};
 
 use crate::command_line::command_line;
 use crate::help_text::HelpText;
@@ -318,6 +318,18 @@ fn both_asked(alloc: Global) -> WordsError
     }
 }
 
+/// Which objects are meant, of those that are stale.
+fn scope(matches: &ArgMatches<'_>) -> BackdateScope
+    ensures { result ≡ scope_of (rows_of (found_of matches.now)) }
+{
+    chosen(
+        matches,
+        "unrecorded",
+        BackdateScope::Unrecorded,
+        BackdateScope::Recorded,
+    )
+}
+
 /// The request of the command `name` with these matches, where `clap` let that name through.
 fn request_named(alloc: Global, name: &str, matches: &ArgMatches<'_>) -> Result<Request, AllocError>
     requires request { name.now ≢ codes "explain" }
@@ -342,12 +354,11 @@ fn request_named(alloc: Global, name: &str, matches: &ArgMatches<'_>) -> Result<
         }),
         "impact" => impact_request(alloc, matches),
         "backdate" | "age" => Ok(Request::Backdate {
-            which: chosen(
-                matches,
-                "unrecorded",
-                BackdateScope::Unrecorded,
-                BackdateScope::Recorded,
-            ),
+            which: scope(matches),
+            targets: targets(alloc, matches)?,
+        }),
+        "mark" => Ok(Request::Mark {
+            which: scope(matches),
             targets: targets(alloc, matches)?,
         }),
         "users" => users_request(alloc, matches),

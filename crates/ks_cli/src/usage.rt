@@ -129,6 +129,12 @@ const UNRECORDED: ArgUsage = ArgUsage {
     help: "Backdate objects without a command file or without a number too",
 };
 
+const UNNUMBERED: ArgUsage = ArgUsage {
+    name: "unrecorded",
+    num_args: NumArgs::Flag,
+    help: "Mark objects too that are refused, or whose command file has no number",
+};
+
 const COMMAND: ArgUsage = ArgUsage {
     name: "COMMAND",
     num_args: NumArgs::Once,
@@ -341,6 +347,18 @@ Example: confstamp backdate --from objects",
 Does what backdate does. A TARGET or --from is needed.
 
 Example: confstamp age --from objects",
+    },
+    Usage {
+        name: "mark",
+        about: "Mark the command files of stale objects, so that make compiles these whatever their times",
+        args: &[UNNUMBERED, TARGETS, FROM],
+        override_usage: Some("confstamp mark [--unrecorded] [--from FILE] [TARGET]..."),
+        after_help: "\
+At the end of the command file of an object that is stale by its record the path of the stamp that says so becomes the saved
+command, and make compiles what has another command. A command file that is refused is emptied. The next record has no mark.
+Prints marked N. A TARGET or --from is needed.
+
+Example: confstamp mark --from objects",
     },
     Usage {
         name: "batch",

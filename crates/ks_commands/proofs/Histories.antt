@@ -71,6 +71,7 @@ requests_go_on dialect (request.Batch script) ended old new h told shows (inr (t
     let next = run_follows dialect old new h actions replies shows ran in
     (next.0, (old.backdated, new.backdated, inr (text, actions, spelled, there, inr (replies, next.1, reported))), next.2)
 requests_go_on dialect (request.Repair s t k) ended old new h told shows ends = absurd told
+requests_go_on dialect (request.Mark which ts) ended old new h told shows ends = absurd told
 requests_go_on dialect (request.Preview c o) ended old new h told shows ends =
     (h, (old.backdated, new.backdated, λ t. (((ends t).0, refl), (ends t).1)), stays old new h shows (ends tt).0)
 requests_go_on dialect (request.Diff c report_style) ended old new h told shows ends =

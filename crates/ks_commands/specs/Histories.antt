@@ -12,7 +12,7 @@ use Rattle.ks_engine.specs.Sources.{FromConf, FromKconfig, Source}
 use Rattle.ks_engine.specs.Runs.{Run}
 use Rattle.ks_engine.specs.AllStamps.{FollowsSyncAllStamps}
 use Rattle.ks_requests.specs.declared.request.Request.{Request}
-use Rattle.ks_requests.specs.declared.request.Request.TheVariants.{Repair}
+use Rattle.ks_requests.specs.declared.request.Request.TheVariants.{Mark, Repair}
 use Rattle.ks_requests.specs.declared.request.Stamps.{Stamps}
 use Rattle.ks_requests.specs.declared.request.Stamps.TheVariants.{Touched, Declared}
 use Rattle.ks_requests.specs.Endings.{Ending}
@@ -32,10 +32,11 @@ FollowsStamps Declared (FromConf d a h) answer old new = FollowsSync (FromConf d
 abbrev pub Runs : Dialect → TreeState → TreeState → List Action → List Reply → Type 0
 Runs dialect old new actions replies = (failures : ℕ) × (old.failures ≤ failures) × Run dialect (at old.files failures old.history) (calls_of actions replies) new
 
--- A request of which histories tell. A repair is none: what was kept may be anything.
-abbrev pub IsNoRepair : Request → Type 0
-IsNoRepair (Repair stamps targets kept) = ⊥
-IsNoRepair request = ⊤
+-- A request that histories follow. A repair is none, since what was kept may be anything, nor is a mark, since what is marked has no record then.
+abbrev pub IsFollowed : Request → Type 0
+IsFollowed (Repair stamps targets kept) = ⊥
+IsFollowed (Mark which targets) = ⊥
+IsFollowed request = ⊤
 
 -- What changes a tree is the next event. A question adds none, and what it is answered by the files holds of each history that they show.
 abbrev pub by_histories : Dialect → TreeState → TreeState → Effects
@@ -45,6 +46,7 @@ by_histories dialect old new = record (by_files dialect ⊤ (state_of old []) (s
   recording = λ d t c answer. FollowsRecord dialect d t c answer old new;
   ruling = λ header d t c answer. FollowsDepfile (ruled_by header dialect) d t c answer old new;
   repair = λ inputs answer. ⊥;
+  mark = λ which objects answer. ⊥;
   run = Runs dialect old new;
 }
 

@@ -25,7 +25,7 @@ use Rattle.ks_requests.specs.Outputs.{WritesPreview}
 use Rattle.ks_requests.specs.Requests.{IsPreviewOf}
 use Rattle.ks_requests.specs.Statuses.{code_of}
 use Rattle.ks_requests.specs.Targets.{targets_at}
-use Rattle.ks_commands.specs.Histories.{Continues, IsNoRepair, by_histories}
+use Rattle.ks_commands.specs.Histories.{Continues, IsFollowed, by_histories}
 use Rattle.ks_commands.specs.Performed.{Ends, EndsBatch, by_files}
 use Rattle.ks_commands.specs.Queries.{explaining, no_count, reports}
 use Rattle.ks_commands.specs.Walks.{EndsWalk}
@@ -41,7 +41,7 @@ use Rattle.ks_commands.specs.Scripts.{IsAbortedRefusal}
 -- them show.
 abbrev pub RequestsGoOn : Type 0
 RequestsGoOn =
-    (dialect : Dialect) (request : Request) (ended : Ending) (old new : FileState) (h : History) → IsNoRepair request → Shows old.files h
+    (dialect : Dialect) (request : Request) (ended : Ending) (old new : FileState) (h : History) → IsFollowed request → Shows old.files h
     → Ends ⊤ (by_files dialect ⊤ old new) old request ended new → (next : History)
     × Continues dialect request ended (at old.files old.failures h) (at new.files new.failures next) × Shows new.files next
 

@@ -5,6 +5,7 @@ use Rattle.ks_symbols.specs.declared.dialect.Dialect.{Dialect}
 use Rattle.ks_symbols.specs.Refusals.{IsRefusal}
 use Rattle.ks_tree.specs.declared.tree.Tree.{Ghosts}
 use Rattle.ks_tree.specs.Files.{Files, HasRisen}
+use Rattle.ks_engine.specs.declared.backdating.BackdateScope.{BackdateScope}
 use Rattle.ks_engine.specs.declared.error.EngineError.{EngineError}
 use Rattle.ks_engine.specs.declared.error.EngineError.TheVariants.{BadPath, OutOfMemory, Device}
 use Rattle.ks_engine.specs.declared.commands.Reply.{Reply}
@@ -21,6 +22,7 @@ use Rattle.ks_engine.specs.BuildStates.{IsStateOn}
 use Rattle.ks_engine.specs.Depfile.{ruled_by}
 use Rattle.ks_engine.specs.Explained.{IsExplanationOn}
 use Rattle.ks_engine.specs.Impact.{IsAnswerAfter}
+use Rattle.ks_engine.specs.Marks.{MarksAll, MarksSome}
 use Rattle.ks_engine.specs.Refusals.{Answers, IsAborted}
 use Rattle.ks_engine.specs.FileRuns.{FileRun, FileState, LeavesDepfile, LeavesRecord, state}
 use Rattle.ks_engine.specs.Sources.{Source, source_in}
@@ -35,16 +37,17 @@ use Rattle.ks_requests.specs.declared.request.OutputFormat.TheVariants.{Text}
 use Rattle.ks_requests.specs.declared.request.Request.{Request}
 use Rattle.ks_requests.specs.declared.request.Stamps.{Stamps}
 use Rattle.ks_requests.specs.declared.request.Targets.{Targets}
-use Rattle.ks_requests.specs.declared.request.Request.TheVariants.{Backdate, Batch, Cost, Depfile, Diff, Fixdep, Impact, Outdated, Preview, Record, Repair, Stale, Sync, Users, Why}
+use Rattle.ks_requests.specs.declared.request.Request.TheVariants.{Backdate, Batch, Cost, Depfile, Diff, Fixdep, Impact, Mark, Outdated, Preview, Record, Repair, Stale, Sync, Users, Why}
 use Rattle.ks_requests.specs.declared.report_style.ReportStyle.{ReportStyle}
 use Rattle.ks_requests.specs.declared.status.Status.TheVariants.{Done}
 use Rattle.ks_requests.specs.Endings.{Answered, Ending, Stopped, Reports, ReportsUnknown}
 use Rattle.ks_requests.specs.Inputs.{Inputs, Texts, config_at, inputs_at, source_at}
 use Rattle.ks_requests.specs.Preview.{IsPreview, preview_refusal}
-use Rattle.ks_requests.specs.Replies.{answer_line, build_line, depfile_line, recorded_line, repair_line, reply_lines, report_lines}
+use Rattle.ks_requests.specs.Replies.{answer_line, build_line, depfile_line, marked_line, recorded_line, repair_line, reply_lines, report_lines}
 use Rattle.ks_requests.specs.Requests.{IsNoQuery, IsOneStep}
 use Rattle.ks_requests.specs.Statuses.{build_status, reply_status, status_unless_refused, worst}
 use Rattle.ks_requests.specs.Symbols.{symbols_of}
+use Rattle.ks_requests.specs.Targets.{targets_at}
 use Rattle.ks_commands.specs.Depfiles.{IsHeaderOf, IsNoHeader}
 use Rattle.ks_commands.specs.Differences.{IsDiff, lines_asked, unknown_of}
 use Rattle.ks_commands.specs.Fixdep.{command_file_at}
@@ -65,6 +68,7 @@ pub record Effects : Type 1 where
   pub recording : (depfile target command : List ℕ) → Result RecordAnswer EngineError → Type 0
   pub ruling : (header : Header) (depfile target command : List ℕ) → Result RecordAnswer EngineError → Type 0
   pub repair : RepairInputs → Result Repaired EngineError → Type 0
+  pub mark : BackdateScope → List (List ℕ) → Result ℕ EngineError → Type 0
   pub stale : (target : List ℕ) → Result Verdict EngineError → Type 0
   pub why : (target : List ℕ) → Result Explanation EngineError → Type 0
   pub impact : Source → (target : List ℕ) → Result Verdict EngineError → Type 0
@@ -95,6 +99,13 @@ EndsRepair files effects stamps targets kept ended =
     (effects.same × Stopped (repair_at files stamps targets kept) ended)
     ⊎ ((i : RepairInputs) × (repair_at files stamps targets kept ≡ Ok i)
     × (answer : Result Repaired EngineError) × effects.repair i answer × Answered repair_line answer ended)
+
+-- Nothing has changed where the file of the objects can't be read. Else it ends as the engine answers.
+abbrev pub EndsMark : Files → Effects → BackdateScope → Targets → Ending → Type 0
+EndsMark files effects which targets ended =
+    (effects.same × Stopped (targets_at files targets) ended)
+    ⊎ ((objects : List (List ℕ)) × (targets_at files targets ≡ Ok objects)
+    × (answer : Result ℕ EngineError) × effects.mark which objects answer × Answered marked_line answer ended)
 
 -- A preview of what the files hold, or the refusal that their texts have, or want of memory.
 abbrev pub EndsPreview : Dialect → Files → ConfigPaths → Option (List ℕ) → Ending → Type 0
@@ -174,6 +185,7 @@ Ends honest effects old (Impact c targets format) ended new =
     (honest → effects.same) × EndsImpact honest effects.dialect effects.impact old c format targets ended new
 Ends honest effects old (Backdate which targets) ended new = (honest → effects.same)
     × EndsWalk (explaining honest old.files (Some which) Text First (λ o answer. effects.stale o (reported answer))) false (reports no_count) honest old targets ended new
+Ends honest effects old (Mark which targets) ended new = honest → EndsMark old.files effects which targets ended
 Ends honest effects old (Outdated t c) ended new =
     (honest → effects.same) × EndsOutdated honest effects.outdated old (string_bytes t) (string_bytes c) ended new
 Ends honest effects old (Batch script) ended new = EndsBatch honest effects old.files (string_bytes script) ended
@@ -183,6 +195,10 @@ Ends honest effects old (Cost top targets) ended new =
     (honest → effects.same) × EndsWalk (reading honest old.files unread_lines) true (reports_cost top) honest old targets ended new
 
 -- ---- what the calls of the engine leave
+
+abbrev pub LeavesMarks : Files → Files → BackdateScope → List (List ℕ) → Result ℕ EngineError → Type 0
+LeavesMarks old new which targets (Ok count) = MarksAll which targets old new count
+LeavesMarks old new which targets (Err e) = IsAborted e × MarksSome which targets old new
 
 -- The files of a script are read before its run begins.
 pub record RunsOn (dialect : Dialect) (honest : Type 0) (old new : FileState) (actions : List Action) (replies : List Reply) : Type 0 where
@@ -199,6 +215,7 @@ by_files dialect honest old new = record {
   recording = LeavesRecord dialect old.files new.files;
   ruling = λ header. LeavesDepfile (ruled_by header dialect) old.files new.files;
   repair = LeavesRepair old.files new.files;
+  mark = LeavesMarks old.files new.files;
   stale = IsAnswerOn old.files;
   why = IsExplanationOn old.files;
   impact = IsAnswerAfter old.files;

@@ -18,6 +18,7 @@ use crate::changes::{record_rule, record_target, synchronise};
 use crate::cost::report_cost;
 use crate::differences::report_differences;
 use crate::fixdep::command_file_text;
+use crate::marks::mark_targets;
 use crate::queries::{outdated_target, query_predicted, query_targets};
 use crate::repairs::repair_tree;
 use crate::users::report_users;
@@ -159,6 +160,7 @@ pub(crate) fn outcome<T: Backdating>(
             OutputFormat::Text,
             targets,
         ),
+        Request::Mark { which, targets } => mark_targets(alloc, tree, *which, targets),
         Request::Outdated { target, command } => {
             outdated_target(alloc, tree, target.as_bytes(), command.as_bytes())
         }

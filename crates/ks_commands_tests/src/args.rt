@@ -30,6 +30,8 @@ const MEANINGS: &[(&str, &[&str], &str)] = &[
     ("repair without what was kept", &["repair", "--stamps", "s", "--targets", "t"], r#"Repair { stamps: "s", targets: "t", kept: None }"#),
     ("repair by what was kept", &["repair", "a", "--targets", "t", "h", "--stamps", "s"], r#"Repair { stamps: "s", targets: "t", kept: Some(KeptPaths { auto: "a", header: "h" }) }"#),
     ("repair without a header", &["repair", "--stamps", "s", "--targets", "t", "a"], r#"Repair { stamps: "s", targets: "t", kept: Some(KeptPaths { auto: "a", header: "" }) }"#),
+    ("mark", &["mark", "--from", "f"], r#"Mark { which: Recorded, targets: Targets { args: [], from: Some("f") } }"#),
+    ("mark of what has no number too", &["mark", "x.o", "--unrecorded"], r#"Mark { which: Unrecorded, targets: Targets { args: ["x.o"], from: None } }"#),
 ];
 
 /// Those of queries, and what is read as such a one.

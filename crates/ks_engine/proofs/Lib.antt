@@ -27,3 +27,4 @@ pub mod NotNumbered
 pub mod PuttingBack
 pub mod Surveying
 pub mod BeginningAgain
+pub mod MarkSteps

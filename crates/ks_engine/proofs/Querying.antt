@@ -207,7 +207,7 @@ of_record files h o r shows last =
     }
 
 -- THE ANSWER: of a recorded object, the first of its names that is suspect.
-answer_shown : (limit : Limit) (files : Files) (h : History) (o : List ℕ) (r : LastRecord) (found : Result (List Cause) EngineError) (shows : Shows files h)
+pub answer_shown : (limit : Limit) (files : Files) (h : History) (o : List ℕ) (r : LastRecord) (found : Result (List Cause) EngineError) (shows : Shows files h)
     (last : last_record h o ≡ Some r) → IsByStamps limit files (done r.past) (names_placed (shows.commands o r last).2.file) found
     → verdict_by found ≡ Ok (verdict (first_suspect h o))
 answer_shown limit files h o r found shows last is =

@@ -31,4 +31,5 @@ pub mod Verdicts
 pub mod Runs
 pub mod OtherRecords
 pub mod Repairs
+pub mod Marks
 pub mod Laws

@@ -15,7 +15,7 @@ use crate::staleness::Verdict;
 use ks_tree::Backdating;
 use std::alloc::Global;
 
-/// Which stale objects are aged.
+/// Which stale objects are aged, or marked.
 #[derive(Clone, Copy, Debug, PartialEq, Eq)]
 pub enum BackdateScope {
     /// Those whose records say so, by a symbol or by a generation to come.
@@ -25,8 +25,8 @@ pub enum BackdateScope {
 }
 
 impl BackdateScope {
-    /// Whether an object with this verdict is aged.
-    fn covers(self, verdict: &Verdict) -> bool
+    /// Whether an object with this verdict is aged, or marked.
+    pub(crate) fn covers(self, verdict: &Verdict) -> bool
         ensures { result ≡ backdates self verdict.now }
     {
         match verdict {

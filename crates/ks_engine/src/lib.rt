@@ -13,6 +13,7 @@ mod explaining;
 mod impact;
 mod last_sync;
 mod laws;
+mod marking;
 mod planning;
 mod query;
 mod recording;
@@ -36,6 +37,7 @@ pub use laws::{
     beginnings_are_shown, file_runs_go_on, made_stamps_show, other_records_do_not_matter,
     places_are_first, plans_are_one, suspicions_have_causes,
 };
+pub use marking::mark_due;
 pub use planning::{
     ConfigForm, ConfigInputs, ConfigTexts, Parsed, Planned, parse_config_inputs, plan,
     plan_config_inputs, read_inputs,

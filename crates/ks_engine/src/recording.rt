@@ -230,7 +230,11 @@ pub(crate) fn write_record<T: Tree>(
 }
 
 /// Forgets what was kept of an object's command file and its temporary file, since both are to be written.
-fn forget_record(alloc: Global, cache: &mut Cache, target: &[u8]) -> Result<(), AllocError>
+pub(crate) fn forget_record(
+    alloc: Global,
+    cache: &mut Cache,
+    target: &[u8],
+) -> Result<(), AllocError>
     ensures cache { (files : Files) → IsCacheOf files cache.old → IsCacheOf files cache.new }
     ensures gone { OnOk result (IsNoSource (command_path target.now) cache.new × IsNoSource (command_temporary target.now) cache.new) }
 {

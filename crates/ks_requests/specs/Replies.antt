@@ -67,6 +67,10 @@ repair_line (PutBack generation stamps) = counted (codes "put back ") generation
 repair_line (BegunAgain generation) = counted (codes "began again ") generation ++ codes "\n"
 repair_line Nothing = codes "no numbers\n"
 
+-- how many objects are marked
+unfoldable pub marked_line : ℕ → List ℕ
+marked_line count = counted (codes "marked ") count ++ codes "\n"
+
 -- an object that was built by another command, or its verdict
 unfoldable pub build_line : List ℕ → BuildState → List ℕ
 build_line target CommandDiffers = target ++ codes " command-differs\n"

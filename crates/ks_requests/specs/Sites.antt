@@ -16,7 +16,7 @@ use Rattle.ks_requests.specs.declared.refusal.Refusal.{Refusal}
 use Rattle.ks_requests.specs.declared.refusal.Refusal.TheVariants.{Engine, BadScript}
 use Rattle.ks_requests.specs.declared.request.ConfigPaths.{ConfigPaths}
 use Rattle.ks_requests.specs.declared.request.Request.{Request}
-use Rattle.ks_requests.specs.declared.request.Request.TheVariants.{Backdate, Batch, Cost, Depfile, Diff, Fixdep, Impact, Outdated, Preview, Record, Repair, Stale, Sync, Users, Why}
+use Rattle.ks_requests.specs.declared.request.Request.TheVariants.{Backdate, Batch, Cost, Depfile, Diff, Fixdep, Impact, Mark, Outdated, Preview, Record, Repair, Stale, Sync, Users, Why}
 use Rattle.ks_requests.specs.declared.sites.Part.{Part}
 use Rattle.ks_requests.specs.declared.sites.Part.TheVariants.{Whole, Line, Token}
 use Rattle.ks_requests.specs.Endings.{Ending}
@@ -90,6 +90,7 @@ site_of (Repair stamps targets kept) refusal = names_site (string_bytes stamps) 
 site_of (Stale targets format) refusal = None
 site_of (Why targets format) refusal = None
 site_of (Backdate which targets) refusal = None
+site_of (Mark which targets) refusal = None
 site_of (Outdated t c) refusal = None
 site_of (Users symbols targets) refusal = None
 site_of (Cost top targets) refusal = None

@@ -33,8 +33,8 @@ pub use preview::{PreviewError, preview_to};
 pub use reading::Reading;
 pub use refusal::Refusal;
 pub use replies::{
-    build_status, report_depfile, report_recorded, report_repair, report_replies, report_sync,
-    write_answer, write_build_line, write_refused_target,
+    build_status, report_depfile, report_marked, report_recorded, report_repair, report_replies,
+    report_sync, write_answer, write_build_line, write_refused_target,
 };
 pub use report_style::ReportStyle;
 pub use request::{ConfigPaths, DepfileAfter, KeptPaths, OutputFormat, Request, Stamps, Targets};

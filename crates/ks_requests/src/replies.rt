@@ -5,7 +5,7 @@ ghost use Rattle.std.specs.Prelude.{◌≡◌, ◌++◌, List, ℕ, None, OnOk, 
 ghost use Rattle.ks_engine.specs.Actions.{action};
 ghost use Rattle.ks_engine.specs.Queries.{limit_of};
 ghost use Rattle.ks_requests.specs.Faults.{counted};
-ghost use Rattle.ks_requests.specs.Replies.{answer_line, build_line, cause_line, depfile_line, explanation_lines, recorded_as, recorded_line, refused_line, refused_target_line, repair_line, reply_line, reply_lines, report_lines, synced_line, verdict_line, verdict_text};
+ghost use Rattle.ks_requests.specs.Replies.{answer_line, build_line, cause_line, depfile_line, explanation_lines, marked_line, recorded_as, recorded_line, refused_line, refused_target_line, repair_line, reply_line, reply_lines, report_lines, synced_line, verdict_line, verdict_text};
 ghost use Rattle.ks_requests.specs.Statuses.{build_status, code_of, explanation_status, reply_status, status_unless_refused, verdict_status, worst};
 
 use crate::faults::write_fault;
@@ -349,6 +349,17 @@ pub fn report_repair(alloc: Global, repaired: Repaired) -> Result<Outcome, Alloc
 {
     let mut text = Vec::new(alloc);
     write_repair(repaired, &mut text)?;
+    Ok(Outcome::done(text))
+}
+
+/// How many objects are marked, in one line: `marked N`.
+#[tactic(auto, unfolding(crate::specs::Replies::marked_line))]
+pub fn report_marked(alloc: Global, count: usize) -> Result<Outcome, AllocError>
+    ensures { IfOk result (λ o. (o.text.items ≡ marked_line count) × (code_of o.status ≡ 0) × (o.count ≡ None)) }
+{
+    let mut text = Vec::new(alloc);
+    write_count(b"marked ", count as u64, &mut text)?;
+    text.extend_from_slice(b"\n")?;
     Ok(Outcome::done(text))
 }
 

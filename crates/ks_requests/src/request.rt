@@ -120,6 +120,11 @@ pub enum Request {
         which: BackdateScope,
         targets: Targets,
     },
+    /// Mark those of these objects that are stale, so that make compiles them.
+    Mark {
+        which: BackdateScope,
+        targets: Targets,
+    },
     /// Whether an object was built by another command, or is stale.
     Outdated {
         target: String,

@@ -185,6 +185,7 @@ pub fn site_of<'a>(request: &'a Request, refusal: &Refusal) -> Option<Site<'a>>
         Request::Stale { .. }
         | Request::Why { .. }
         | Request::Backdate { .. }
+        | Request::Mark { .. }
         | Request::Outdated { .. }
         | Request::Users { .. }
         | Request::Cost { .. } => None,

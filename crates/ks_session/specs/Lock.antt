@@ -18,7 +18,7 @@ found_syncs (Some text) = script_syncs text
 
 -- ---- locks
 
--- a synchronisation has its directory for itself, as a repair
+-- a synchronisation has its directory for itself, as a repair, and as what marks
 abbrev pub lock_for : Bool → DirectoryLock
 lock_for syncs = if syncs then Exclusive else Shared
 
@@ -35,6 +35,7 @@ IsScriptAccess path access = LocksScript path access.script access.lock
 abbrev pub IsAccessOf : Request → Access → Type 0
 IsAccessOf (request.Sync config stamps) access = (access.lock ≡ Exclusive) × (access.script ≡ None)
 IsAccessOf (request.Repair stamps targets kept) access = (access.lock ≡ Exclusive) × (access.script ≡ None)
+IsAccessOf (request.Mark which targets) access = (access.lock ≡ Exclusive) × (access.script ≡ None)
 IsAccessOf (request.Batch script) access = IsScriptAccess (string_bytes script) access
 IsAccessOf _ access = (access.lock ≡ Shared) × (access.script ≡ None)
 

@@ -7,7 +7,7 @@ use Rattle.ks_engine.specs.declared.error.EngineError.{EngineError}
 use Rattle.ks_engine.specs.declared.error.EngineError.TheVariants.{Device, OutOfMemory}
 use Rattle.ks_engine.specs.Refusals.{Answers}
 use Rattle.ks_requests.specs.declared.request.Request.{Request}
-use Rattle.ks_requests.specs.declared.request.Request.TheVariants.{Repair}
+use Rattle.ks_requests.specs.declared.request.Request.TheVariants.{Mark, Repair}
 use Rattle.ks_cli.specs.declared.args.WordsError.{WordsError}
 use Rattle.ks_session.specs.Calls.{Calls}
 use Rattle.ks_session.specs.Lock.{AreLocked, HoldsScript, LooksAtScript}
@@ -64,14 +64,15 @@ abbrev pub is_alone : DirectoryLock → Bool
 is_alone Exclusive = true
 is_alone Shared = false
 
-abbrev pub is_repair : Request → Bool
-is_repair (Repair stamps targets kept) = true
-is_repair request = false
+abbrev pub needs_no_numbers : Request → Bool
+needs_no_numbers (Repair stamps targets kept) = true
+needs_no_numbers (Mark which targets) = true
+needs_no_numbers request = false
 
--- a repair is asked for, which begins no numbers
-abbrev pub asks_repair : Result Request WordsError → Bool
-asks_repair (Ok request) = is_repair request
-asks_repair (Err e) = false
+-- what is asked for begins no numbers
+abbrev pub begins_none : Result Request WordsError → Bool
+begins_none (Ok request) = needs_no_numbers request
+begins_none (Err e) = false
 
 -- a command that synchronises, where nobody said that numbers may begin again
 abbrev pub needs_look : Bool → Bool → Option Access → Bool
@@ -130,7 +131,7 @@ pub record LooksLocked {P L : Type 0} (tree : Ghosts P) (calls : Calls P L) (rea
     (access : Option Access) (lock : Option L) (numbers : Numbers) (work_tree : P) : Type 0 where
   pub before : P
   pub locked : AsksForLock tree calls reads settings asked access (Had lock) before
-  pub looks : LooksIf (needs_look settings.may_begin (asks_repair asked) access) tree calls reads (string_bytes settings.directory) before numbers work_tree
+  pub looks : LooksIf (needs_look settings.may_begin (begins_none asked) access) tree calls reads (string_bytes settings.directory) before numbers work_tree
 
 -- A command that is to run has its lock and its dialect, and none of its numbers would be lost; the script, or auto.conf, is held as it was read.
 pub record IsReady {P L : Type 0} (tree : Ghosts P) (calls : Calls P L) (reads : Readings P) (settings : Settings) (asked : Result Request WordsError)

@@ -96,6 +96,7 @@ fn request_access<T: Reading>(
     match request {
         Request::Sync { .. } => Ok(Access::with_nothing_held(DirectoryLock::Exclusive)),
         Request::Repair { .. } => Ok(Access::with_nothing_held(DirectoryLock::Exclusive)),
+        Request::Mark { .. } => Ok(Access::with_nothing_held(DirectoryLock::Exclusive)),
         Request::Batch { script } => script_access(alloc, tree, script.as_str()),
         _ => Ok(Access::with_nothing_held(DirectoryLock::Shared)),
     }

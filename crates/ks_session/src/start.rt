@@ -5,7 +5,7 @@
 //! All of it is decided here, over any system that answers these calls. `main` gives the system's own, and goes by the answer.
 ghost use Rattle.std.specs.Prelude.{◌≡◌, IfOk, option_map, string_bytes};
 ghost use Rattle.ks_session.specs.Calls.{Calls, no_calls};
-ghost use Rattle.ks_session.specs.Start.{Enters, Holds, IsKept, Locks, Looks, LooksIf, Opens, Starts, asks_repair, first_held, needs_look};
+ghost use Rattle.ks_session.specs.Start.{Enters, Holds, IsKept, Locks, Looks, LooksIf, Opens, Starts, begins_none, first_held, needs_look};
 
 use crate::global_options::Settings;
 use crate::lock::{Access, DirectoryLock, Script, access_of};
@@ -230,13 +230,13 @@ fn look_for_numbers<H: Host>(
     }
 }
 
-/// Whether it is a repair that is asked for, which begins no numbers.
-fn asks_repair(asked: &Result<Request, WordsError>) -> bool
-    ensures { result ≡ asks_repair asked.now }
+/// Whether what is asked for begins no numbers: a repair, and what marks.
+fn begins_none(asked: &Result<Request, WordsError>) -> bool
+    ensures { result ≡ begins_none asked.now }
 {
     match asked {
         Ok(request) => match request {
-            Request::Repair { .. } => true,
+            Request::Repair { .. } | Request::Mark { .. } => true,
             _ => false,
         },
         Err(_) => false,
@@ -249,9 +249,9 @@ fn needs_look(
     asked: &Result<Request, WordsError>,
     access: &Option<Access>,
 ) -> bool
-    ensures { result ≡ needs_look settings.now.may_begin (asks_repair asked.now) access.now }
+    ensures { result ≡ needs_look settings.now.may_begin (begins_none asked.now) access.now }
 {
-    let allowed = settings.may_begin || asks_repair(asked);
+    let allowed = settings.may_begin || begins_none(asked);
     match access {
         Some(access) => matches!(access.lock, DirectoryLock::Exclusive) && !allowed,
         None => false,
@@ -267,7 +267,7 @@ fn look_if_needed<H: Host>(
     asked: &Result<Request, WordsError>,
     access: &Option<Access>,
 ) -> Result<Numbers, AllocError>
-    ensures { IfOk result (λ numbers. LooksIf (needs_look settings.now.may_begin (asks_repair asked.now) access.now) H.WorkTree.Tree (H.calls host.now) H.WorkTree.reads (string_bytes settings.now.directory) work_tree.old numbers work_tree.new) }
+    ensures { IfOk result (λ numbers. LooksIf (needs_look settings.now.may_begin (begins_none asked.now) access.now) H.WorkTree.Tree (H.calls host.now) H.WorkTree.reads (string_bytes settings.now.directory) work_tree.old numbers work_tree.new) }
 {
     if needs_look(settings, asked, access) {
         look_for_numbers(host, alloc, work_tree, settings.directory.as_str())

@@ -37,3 +37,6 @@ returns-in-Cost-clause-ends g c = rw c.in-Cost.is (c.report_cost.ensures.reads.u
 pub returns-in-Repair-clause-ends : goal.returns-in-Repair-clause-ends
 returns-in-Repair-clause-ends g c =
     rw (c.in-Repair.is, ← c.as_bytes-in-Repair.ensures.value, ← c.as_bytes-in-Repair-2.ensures.value) (λ honest. c.repair_tree.ensures.files honest c.args.dialect)
+
+pub returns-in-Mark-clause-ends : goal.returns-in-Mark-clause-ends
+returns-in-Mark-clause-ends g c = rw c.in-Mark.is (λ honest. c.mark_targets.ensures.files honest c.args.dialect)

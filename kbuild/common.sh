@@ -20,7 +20,6 @@ kept_auto=include/config/confstamp.auto
 kept_header=include/config/confstamp.autoconf
 verified=include/config/confstamp.verified
 mark='# Synchronised by the hooks of confstamp'
-marked='^[a-z]*cmd_[^ ]* := include.config.[^ ]*$'
 
 # The program: the one of CONFSTAMP, or that was installed with the hooks, or the one in PATH.
 confstamp=${CONFSTAMP:-$here/../../../bin/confstamp}
@@ -115,8 +114,8 @@ nothing_here() {
     report "nothing was recorded below ${*:-.}: run it in the directory where make runs"
 }
 
-# recorded DIR..: writes the recorded objects that exist to `targets`, the others to `answers`. Objects that were never recorded
-# are targets too, except hidden ones, which are steps of the link of vmlinux, and which make doesn't record.
+# recorded DIR..: writes the recorded objects that exist to `targets`, the others to `answers`. Objects that were never recorded, or whose
+# command file was emptied, are targets too, except hidden ones, which are steps of the link of vmlinux, and which make doesn't record.
 recorded() {
     "$here/objects" "$@" > "$tmpdir/recorded"
     while read -r target; do
@@ -127,10 +126,14 @@ recorded() {
         fi
     done < "$tmpdir/recorded" 3> "$tmpdir/targets" > "$tmpdir/answers"
     [ "$#" -gt 0 ] || set -- .
-    find_there -H "$@" -name '[!.]*.o' -type f > "$tmpdir/objects" || exit 2
-    while read -r object; do
-        [ -s "${object%/*}/.${object##*/}.cmd" ] || echo "${object#./}"
-    done < "$tmpdir/objects" >> "$tmpdir/targets"
+    find_there -H "$@" \( -name '[!.]*.o' -o -name '.[!.]*.cmd' -size 0 \) -type f > "$tmpdir/objects" || exit 2
+    while read -r file; do
+        object=${file%/*}/${file##*/.}
+        case ${file##*/} in
+        .*) [ ! -e "${object%.cmd}" ] || echo "${object%.cmd}" ;;
+        *) [ -e "${file%/*}/.${file##*/}.cmd" ] || echo "$file" ;;
+        esac
+    done < "$tmpdir/objects" | sed 's,^\./,,' >> "$tmpdir/targets"
 }
 
 # find_sources: where the sources are, in `sources`. Whoever isn't called by make has a link `source` in a build directory of its
@@ -270,64 +273,33 @@ age_files() {
     tr '\n' '\0' | TZ=UTC0 xargs -0 -r touch -c -t 197001010000.01
 }
 
-# mark_due DIRECTORY RECORDED [symbol]: marks each object of DIRECTORY/targets that is stale, is refused, or has no number as due; with
-# `symbol` only those that are stale by a symbol. In a command file that is marked, lines with the stamp of the symbol replace the saved
-# command, so make compiles the object whatever its mtime, and V=2 says why. The next record has no such line. The answers about all
-# are in DIRECTORY/answers. `directories` are those of recorded objects, and those above them. Status 1: an answer is missing, or the
-# system fails.
+# mark_due DIRECTORY [--unrecorded]: each object of DIRECTORY/targets that is stale by its record is due, and with --unrecorded also what is
+# refused, or has no number. `confstamp mark` makes the stamp of the symbol the saved command, so make compiles the object whatever its
+# mtime, and V=2 says why. The next record has no mark. `due` is how many are. A record of another make may come between two parts of
+# the list. Status 1: it isn't known, or the system fails.
 mark_due() {
-    : > "$1/answers"
-    [ ! -s "$1/targets" ] || patiently "$1/messages" stale --from "$1/targets" > "$1/answers" || :
-    directories=$(awk -v due_by="${3:-all}" -v due="$1/due" '
-        function mark(stamp) { print stamp files[stamp] > due; files[stamp] = "" }
-        BEGIN { printf "" > due; print "." }
-        file == "targets" { asked++; next }
-        file == "recorded" {
-            while (sub(/\/[^\/]*$/, "") && $0 != "" && !($0 in known)) { known[$0]; print }
-            next
+    due=0
+    split -l 1000 "$1/targets" "$1/part."
+    for part in "$1"/part.*; do
+        [ -e "$part" ] || continue
+        marked=$("$confstamp" --wait 100 mark ${2:-} --from "$part" 2> "$1/messages") || {
+            report "it is not known what is stale: $(head -n 2 "$1/messages" | tr '\n' ' ')"
+            return 1
         }
-        / refused 30 Device$/ { next }
-        { answered++ }
-        $2 == "fresh" || $3 ~ /^no-/ { next }
-        { by_symbol = $2 == "stale" && $3 !~ /-/ }
-        !by_symbol && due_by == "symbol" && $3 != "generation-ahead" { next }
-        match($1, /[^\/]*$/) {
-            stamp = by_symbol ? $3 : "auto.conf"
-            files[stamp] = files[stamp] " " substr($1, 1, RSTART - 1) "." substr($1, RSTART) ".cmd"
-            if (!(++count[stamp] % 1000)) mark(stamp)
-        }
-        END {
-            for (stamp in files) if (files[stamp] != "") mark(stamp)
-            exit answered < asked
-        }
-    ' file=targets "$1/targets" file=answers "$1/answers" file=recorded "$2") || {
-        report "it is not known what is stale: $(head -n 1 "$1/messages")"
-        return 1
-    }
-    while read -r stamp commands; do
-        # shellcheck disable=SC2086 # the list is words, and Kbuild takes no path with a blank
-        mark_commands "$stamp" $commands || return 1
-    done < "$1/due"
-}
-
-# mark_commands STAMP FILE..: marks these command files, and removes earlier marks. Each file is replaced and not written into, since it
-# may be a file of another tree as well (a hard link).
-mark_commands() {
-    stamp=$1
-    shift
-    sed -i -e "/$marked/ { \$!d; s/.*/#/; }" -e '/^[a-z]*cmd_[^ ]* := /H' -e "\$ {
-        x; s,\( := \)[^\n]*,\1include/config/$stamp,g; x
-        /^#\$/! { G; x; s/.*//; x; b; }
-        g; s/^\n//; x; s/.*//; x
-    }" "$@"
+        due=$((due + ${marked##* }))
+    done
 }
 
 # age_to_come DIRECTORY RECORDED: a product with a future mtime would look newer than what make writes from now on. So what make
-# links or packs is backdated. Such products stand in one of `directories`, beside what was recorded or above
-# it, and have a command file. BusyBox itself has none.
+# links or packs is backdated. Such products stand beside what was recorded or above it, and have a command file. BusyBox itself
+# has none.
 age_to_come() {
     : > "$1/now"
     tools_to_come "$1"
+    directories=$(awk '
+        BEGIN { print "." }
+        { while (sub(/\/[^\/]*$/, "") && $0 != "" && !($0 in known)) { known[$0]; print } }
+    ' "$2")
     # shellcheck disable=SC2086 # the list is words, and Kbuild takes no path with a blank
     find_there $directories -maxdepth 1 ! -name '*.[chS]' ! -name '.*.cmd' -type f -newer "$1/now" > "$1/newer" || return 1
     [ -s "$1/newer" ] || return 0

@@ -175,13 +175,17 @@ confstamp-mark-due = $(if $(CONFSTAMP_ASKS),,$(if $(shell $(if $(confstamp-elsew
 	$(if $(confstamp-elsewhere),$(CURDIR),$(KBUILD_EXTMOD)) || echo failed),$(error stale objects could not be marked)))
 ifneq ($(KBUILD_EXTMOD),$(CONFSTAMP_MARKED))
 export CONFSTAMP_MARKED := $(KBUILD_EXTMOD)
-$(if $(KBUILD_EXTMOD),$(confstamp-mark-due))
+$(if $(and $(KBUILD_EXTMOD),$(filter-out clean help modules_install,$(or $(MAKECMDGOALS),modules))),$(confstamp-mark-due))
 endif
 
 # In the command file of what is due a stamp replaces the saved command. make takes it for a newer file: with V=2 it names it, and with
-# KBUILD_NOCMDDEP=1, where no command counts, it compiles the object even so. BusyBox has a word for commands alone.
-confstamp-pending = $(if $(word 2,$(savedcmd_$@)),,$(filter-out $?,$(filter include/config/%,$(savedcmd_$@))))
-$(foreach word,newer-prereqs any-prereq arg-check,$(eval $(word) = $(value $(word))$$(confstamp-pending)))
+# KBUILD_NOCMDDEP=1, where no command counts, it compiles the object even so. An object of an external module may have a command under
+# its whole path alone. BusyBox has a word for commands alone.
+confstamp-stamp-in = $(if $(word 2,$(1)),,$(filter include/config/%,$(1)))
+confstamp-due-by = $(call confstamp-stamp-in,$(savedcmd_$@)) $(if $(confstamp-elsewhere),$(call \
+	confstamp-stamp-in,$(savedcmd_$(confstamp-target))))
+confstamp-pending = $(filter-out $?,$(sort $(confstamp-due-by)))
+$(foreach word,newer-prereqs any-prereq arg-check,$(eval $(word) = $$(strip $(value $(word)) $$(confstamp-pending))))
 
 # kbuild/stale --make asks what make would do, by make -n. Recipes that begin with `+` run even then, and the link of vmlinux and
 # of modules does, and rustc. So no recipe is left. Of each target that make comes to, lines are reported:

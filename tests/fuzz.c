@@ -355,6 +355,16 @@ static Bytes made_list(void)
     return perhaps_damaged(&text, 10);
 }
 
+/* The names of stamps, one a line. */
+static Bytes made_names(void)
+{
+    Text text = {0};
+    for (size_t i = 0; i < sizeof names / sizeof *names; i++)
+        if (!one_in(4))
+            add_text(&text, "%s%s", one_in(60) ? "A-B" : names[i], line_end());
+    return perhaps_damaged(&text, 30);
+}
+
 static void put_text(Tree *tree, const char *path, Bytes bytes)
 {
     put(tree, bytes_of(path), bytes);
@@ -383,6 +393,9 @@ static Tree made_tree(void)
     put_text(&tree, "x.d", made_depfile());
     put_text(&tree, "script", made_script());
     put_text(&tree, "list", made_list());
+    put_text(&tree, "names", made_names());
+    if (one_in(3))
+        put_text(&tree, "kept.auto", made_auto());
     for (size_t i = 0; i < 5; i++)
         if (!rarely(40))
             put_text(&tree, sources[i], made_source());
@@ -509,6 +522,28 @@ static void words_of_cost(Command *made)
         put_option(made, "--top", PICK(numbers));
 }
 
+static void words_of_mark(Command *made)
+{
+    word(made, "mark");
+    objects(made);
+    if (one_in(2))
+        put_option(made, "--unrecorded", NULL);
+}
+
+/* A repair, by what was kept or without. */
+static void words_of_repair(Command *made)
+{
+    word(made, "repair");
+    if (one_in(2)) {
+        word(made, file_word("kept.auto"));
+        if (!one_in(20))
+            word(made, file_word("conf.h"));
+    }
+    put_option(made, "--stamps", file_word("names"));
+    if (!one_in(40))
+        put_option(made, "--targets", file_word("list"));
+}
+
 /* What writes nothing: `stale` or `why`, `impact`, `diff`, `users` or `cost`. */
 static Command made_question(void)
 {
@@ -539,7 +574,7 @@ static Command made_question(void)
 static Command made_command(void)
 {
     Command made = {.count = 0};
-    switch (below(13)) {
+    switch (below(16)) {
     case 0:
     case 1:
         words_of_sync(&made, "sync");
@@ -561,6 +596,13 @@ static Command made_command(void)
         word(&made, "batch");
         word(&made, file_word("script"));
         break;
+    case 8:
+        words_of_mark(&made);
+        break;
+    case 9:
+    case 10:
+        words_of_repair(&made);
+        break;
     default:
         return made_question();
     }
@@ -575,6 +617,8 @@ static Command made_step(size_t step)
         words_of_sync(&made, "sync");
     else if (step < 3)
         words_of_record(&made, "record");
+    else if (one_in(4))
+        words_of_mark(&made);
     else
         return made_question();
     return made;

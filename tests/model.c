@@ -1823,6 +1823,194 @@ static Answer run_questions(const Tree *tree, Bytes *words, size_t count, bool a
     return refused(found) ? refusal(found) : answer_all(tree, &targets, (Question){asks_why, is_json, NULL}, &stale);
 }
 
+/* The record of a target with lines behind it that give its command this path, unless it ends so. What is none is emptied. */
+static Bytes marked_text(const Tree *tree, Bytes target, Bytes cause)
+{
+    Text text = {0}, mark = {0};
+    Bytes old = find(tree, command_path(target))->bytes;
+    if (!is_recorded(tree, target) || !ends(old, "\n"))
+        return of_text(&text);
+    add(&mark, joined("\nsavedcmd_", target, " := "));
+    add(&mark, joined("", cause, "\ncmd_"));
+    add(&mark, joined("", target, " := "));
+    add(&mark, joined("", cause, "\n"));
+    add(&text, old);
+    if (text.length < mark.length || !same(from(old, text.length - mark.length), of_text(&mark)))
+        add(&text, of_text(&mark));
+    return of_text(&text);
+}
+
+/* What makes an object due: the path of a stamp, or of auto.conf. With `is_all` what is refused is due, and what has no number. */
+static bool is_due(const Finding *finding, bool is_all, Bytes *cause)
+{
+    *cause = bytes_of("include/config/auto.conf");
+    if (refused(finding->fault))
+        return is_all;
+    if (finding->verdict == CHANGED)
+        *cause = joined("include/config/", finding->causes[0].name, "");
+    return finding->verdict == CHANGED || finding->verdict == GENERATION_AHEAD || (is_all && finding->verdict == NOT_NUMBERED);
+}
+
+static Answer run_mark(Tree *tree, Bytes *words, size_t count)
+{
+    Bytes path, cause;
+    Names targets = {0};
+    Text output = {0};
+    size_t marked = 0;
+    bool is_all = take_option(words, &count, "--unrecorded", NULL);
+    bool has_file = take_option(words, &count, "--from", &path);
+    if (!has_file && !is_all && count == 0)
+        return no_command();
+    Fault found = targets_of(tree, words, count, has_file ? &path : NULL, &targets);
+    if (refused(found))
+        return refusal(found);
+    for (size_t i = 0; i < targets.count; i++) {
+        Bytes target = targets.names[i];
+        Finding finding = {.count = 0};
+        finding.fault = find_verdict(tree, target, (Question){false, false, NULL}, &finding);
+        bool is_due_now = is_due(&finding, is_all, &cause);
+        if (is_text(finding.fault.text, "30 Device") || (is_due_now && is_no_file(tree, command_path(target))))
+            return refusal(fault("30 Device"));
+        if (!is_due_now || !find(tree, command_path(target)))
+            continue;
+        put(tree, command_path(target), marked_text(tree, target, cause));
+        marked++;
+    }
+    add_text(&output, "marked %zu\n", marked);
+    return (Answer){0, of_text(&output), {NULL, 0}, false};
+}
+
+/* What decides a repair: the generation of what was kept, the highest of the records and of the stamps, and the names without a number. */
+typedef struct {
+    uint64_t generation, records, stamps;
+    Names lost;
+} Survey;
+
+static Fault names_of_file(Bytes text, Names *names)
+{
+    Lines lines = lines_of(text);
+    while (next_line(&lines)) {
+        if (!is_name(lines.line))
+            return fault("2 BadName line %" PRIu64, lines.number);
+        note(names, lines.line);
+    }
+    return none;
+}
+
+/* The number of an object's record, or 0. What can't be parsed, or is too large, is none. */
+static Fault number_of_record(const Tree *tree, Bytes target, uint64_t *number)
+{
+    CommandFile file;
+    bool is_there;
+    *number = 0;
+    Fault found = record_of(tree, target, &file, &is_there);
+    if (refused(found))
+        return is_text(found.text, "30 Device") || !is_target(target) ? found : none;
+    if (is_there && file.has_generation)
+        *number = file.generation;
+    return none;
+}
+
+static Fault survey(const Tree *tree, const Bytes *kept, const Names *names, const Names *targets, Survey *seen)
+{
+    Old old = {.generation = 0};
+    uint64_t number;
+    *seen = (Survey){.generation = 0};
+    Fault found = kept ? read_auto(*kept, &old) : none;
+    seen->generation = old.generation;
+    for (size_t i = 0; !refused(found) && i < targets->count; i++) {
+        found = number_of_record(tree, targets->names[i], &number);
+        seen->records = number > seen->records ? number : seen->records;
+    }
+    for (size_t i = 0; !refused(found) && i < names->count; i++) {
+        found = read_stamp(tree, names->names[i], &number);
+        if (starts(found.text, "31 ")) {
+            found = none;
+            number = 0;
+        }
+        if (number == 0)
+            note(&seen->lost, names->names[i]);
+        seen->stamps = number > seen->stamps ? number : seen->stamps;
+    }
+    return found;
+}
+
+static void touch(Tree *tree, const Names *names, uint64_t number)
+{
+    Text text = {0};
+    add_text(&text, "%" PRIu64 "\n", number);
+    for (size_t i = 0; i < names->count; i++)
+        put(tree, joined("include/config/", names->names[i], ""), of_text(&text));
+}
+
+/* The lines of the layout alone. */
+static Bytes without_number(Bytes text)
+{
+    CommandFile file = {.has_generation = false};
+    Lines lines = lines_of(text);
+    int step = 0;
+    while (step < 9 && next_plain_line(&lines))
+        fits(lines.line, &step, &file);
+    return upto(text, text.length - lines.rest.length);
+}
+
+static Answer begin_again(Tree *tree, const Names *names, const Names *targets, const Survey *seen)
+{
+    Old old;
+    Text output = {0}, text = {0};
+    uint64_t number;
+    Fault found = read_old(tree, &old);
+    if (refused(found))
+        return refusal(found);
+    uint64_t numbered = seen->generation > seen->records ? seen->generation : seen->records;
+    numbered = old.generation > numbered ? old.generation : numbered;
+    if (numbered == 0 && seen->stamps <= 1)
+        return (Answer){0, bytes_of("no numbers\n"), {NULL, 0}, false};
+    uint64_t highest = numbered > seen->stamps ? numbered : seen->stamps;
+    if (highest == UINT64_MAX)
+        return refusal(fault("42 GenerationFull"));
+    touch(tree, names, highest + 1);
+    for (size_t i = 0; i < targets->count; i++)
+        if (!refused(number_of_record(tree, targets->names[i], &number)) && number > 0)
+            put(tree, command_path(targets->names[i]), without_number(find(tree, command_path(targets->names[i]))->bytes));
+    add_text(&text, "#generation %" PRIu64 "\n", highest + 1);
+    put(tree, bytes_of(auto_path), of_text(&text));
+    add_text(&output, "began again %" PRIu64 "\n", highest + 1);
+    return (Answer){0, of_text(&output), {NULL, 0}, false};
+}
+
+static Answer run_repair(Tree *tree, Bytes *words, size_t count)
+{
+    Bytes paths[2], lists[2], kept[2];
+    Names names = {0}, targets = {0};
+    Survey seen;
+    Text output = {0};
+    bool has_stamps = take_option(words, &count, "--stamps", &paths[0]), has_targets = take_option(words, &count, "--targets", &paths[1]);
+    if (!has_stamps || !has_targets || count > 2)
+        return no_command();
+    Bytes named[2] = {count > 0 ? words[0] : bytes_of(""), count > 1 ? words[1] : bytes_of("")};
+    Fault found = count > 0 ? load_all(tree, named, 2, kept) : none;
+    if (!refused(found))
+        found = load_all(tree, paths, 2, lists);
+    if (!refused(found))
+        found = names_of_file(lists[0], &names);
+    if (!refused(found))
+        found = targets_of(tree, NULL, 0, &paths[1], &targets);
+    if (!refused(found))
+        found = survey(tree, count > 0 ? kept : NULL, &names, &targets, &seen);
+    if (refused(found))
+        return refusal(found);
+    if (seen.generation == 0 || seen.records > seen.generation || (seen.stamps > 0 && seen.stamps - 1 > seen.generation))
+        return begin_again(tree, &names, &targets, &seen);
+    if (seen.generation == UINT64_MAX)
+        return refusal(fault("42 GenerationFull"));
+    touch(tree, &seen.lost, seen.generation + 1);
+    put(tree, bytes_of(header_path), kept[1]);
+    put(tree, bytes_of(auto_path), kept[0]);
+    add_text(&output, "put back %" PRIu64 " touched %zu\n", seen.generation, seen.lost.count);
+    return (Answer){0, of_text(&output), {NULL, 0}, false};
+}
+
 static Answer run_outdated(const Tree *tree, const Bytes *words)
 {
     Names targets = {0};
@@ -2185,6 +2373,10 @@ static Answer run_command(Tree *tree, Bytes *words, size_t count)
         return run_users(tree, words + 1, count - 1);
     if (is_text(words[0], "cost"))
         return run_cost(tree, words + 1, count - 1);
+    if (is_text(words[0], "mark"))
+        return run_mark(tree, words + 1, count - 1);
+    if (is_text(words[0], "repair"))
+        return run_repair(tree, words + 1, count - 1);
     if (is_text(words[0], "outdated") && count == 3)
         return run_outdated(tree, words + 1);
     if (is_text(words[0], "batch") && count == 2)

@@ -243,27 +243,19 @@ synchronised() {
     esac
 }
 
-# A program of an earlier version can't wait for another one in its directory.
-knows_wait() {
-    case $("$confstamp" --help) in
-    *--wait*) ;;
-    *) return 1 ;;
-    esac
-}
-
 # patiently MESSAGES ARG..: runs the program, with its standard error in MESSAGES. If another confstamp is at work in this directory
-# (status 75), it waits for ten seconds.
+# (status 75), it waits: for a second, and then, as it reports, for a hundred.
 patiently() {
     messages=$1
     shift
     status=0
-    "$confstamp" "$@" 2> "$messages" || status=$?
-    if [ "$status" = 75 ] && knows_wait; then
+    "$confstamp" --wait 1 "$@" 2> "$messages" || status=$?
+    if [ "$status" = 75 ]; then
         report 'waiting for another confstamp that is at work in this directory'
         status=0
-        "$confstamp" --wait 10 "$@" 2> "$messages" || status=$?
-        sed -i '/^confstamp: waiting /d' "$messages"
+        "$confstamp" --wait 100 "$@" 2> "$messages" || status=$?
     fi
+    [ ! -s "$messages" ] || sed -i '/^confstamp: waiting /d' "$messages"
     return "$status"
 }
 
@@ -282,7 +274,7 @@ mark_due() {
     split -l 1000 "$1/targets" "$1/part."
     for part in "$1"/part.*; do
         [ -e "$part" ] || continue
-        marked=$("$confstamp" --wait 100 mark ${2:-} --from "$part" 2> "$1/messages") || {
+        marked=$(patiently "$1/messages" mark ${2:-} --from "$part") || {
             report "it is not known what is stale: $(head -n 2 "$1/messages" | tr '\n' ' ')"
             return 1
         }

@@ -1851,6 +1851,26 @@ static bool is_due(const Finding *finding, bool is_all, Bytes *cause)
     return finding->verdict == CHANGED || finding->verdict == GENERATION_AHEAD || (is_all && finding->verdict == NOT_NUMBERED);
 }
 
+/* Whether the system's calls are given these bytes as a path: UTF-8 without NUL. */
+static bool is_text_path(Bytes path)
+{
+    for (size_t i = 0; i < path.length;) {
+        unsigned char first = (unsigned char)path.at[i++];
+        size_t more = first < 0x80 ? 0 : first >= 0xc2 && first < 0xe0 ? 1 : first >= 0xe0 && first < 0xf0 ? 2 : first >= 0xf0 && first < 0xf5 ? 3 : 4;
+        if (first == 0 || more == 4 || path.length - i < more)
+            return false;
+        for (size_t k = 0; k < more; k++) {
+            unsigned char next = (unsigned char)path.at[i + k];
+            unsigned char least = k || (first != 0xe0 && first != 0xf0) ? 0x80 : first == 0xe0 ? 0xa0 : 0x90;
+            unsigned char most = k || (first != 0xed && first != 0xf4) ? 0xbf : first == 0xed ? 0x9f : 0x8f;
+            if (next < least || next > most)
+                return false;
+        }
+        i += more;
+    }
+    return true;
+}
+
 static Answer run_mark(Tree *tree, Bytes *words, size_t count)
 {
     Bytes path, cause;
@@ -1869,7 +1889,8 @@ static Answer run_mark(Tree *tree, Bytes *words, size_t count)
         Finding finding = {.count = 0};
         finding.fault = find_verdict(tree, target, (Question){false, false, NULL}, &finding);
         bool is_due_now = is_due(&finding, is_all, &cause);
-        if (is_text(finding.fault.text, "30 Device") || (is_due_now && is_no_file(tree, command_path(target))))
+        bool is_no_path = is_due_now && (is_no_file(tree, command_path(target)) || !is_text_path(target));
+        if (is_text(finding.fault.text, "30 Device") || is_no_path)
             return refusal(fault("30 Device"));
         if (!is_due_now || !find(tree, command_path(target)))
             continue;

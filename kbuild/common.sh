@@ -268,10 +268,22 @@ age_files() {
 # mark_due DIRECTORY [--unrecorded]: each object of DIRECTORY/targets that is stale by its record is due, and with --unrecorded also what is
 # refused, or has no number. `confstamp mark` makes the stamp of the symbol the saved command, so make compiles the object whatever its
 # mtime, and V=2 says why. The next record has no mark. `due` is how many are. A record of another make may come between two parts of
-# the list. Status 1: it isn't known, or the system fails.
+# the list. Where a name has bytes that the program refuses, and perhaps can't name, the command file is removed. Status 1: it isn't
+# known, or the system fails.
 mark_due() {
     due=0
-    split -l 1000 "$1/targets" "$1/part."
+    awk -v directory="$1" '
+        BEGIN { printf "" > (directory "/refused") }
+        /[^!-~]/ { print > (directory "/refused"); next }
+        { print > (directory "/part." int(count / 1000)); count++ }
+    ' "$1/targets"
+    while [ -n "${2:-}" ] && IFS= read -r object; do
+        case $object in
+        */*) commands=${object%/*}/.${object##*/}.cmd ;;
+        *) commands=.$object.cmd ;;
+        esac
+        [ ! -e "$commands" ] || { rm -f "$commands" && due=$((due + 1)); }
+    done < "$1/refused"
     for part in "$1"/part.*; do
         [ -e "$part" ] || continue
         marked=$(patiently "$1/messages" mark ${2:-} --from "$part") || {

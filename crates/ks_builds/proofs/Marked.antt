@@ -1,11 +1,12 @@
 -- What marking leaves of a history, object by object.
 use Rattle.ks_parallel.proofs.Prelude.{◌≡◌, ◌⊎◌, ◌||◌, ℕ, List, [], ◌∷◌, Option, Some, None, Bool, true, false, cond, option_map, sym, ◌∙◌, ap, refl, subst, subst₂, inr, ⊎_elim, or_cases, or_left, or_right, true≢false, bytes_eq, bytes_eq-Decides, cond-false, false_from_ne_true, content, Files, HasNumber, command_path, stamp_path, auto_path, is_in, History, Begun, Synced, Broken, Recorded, LastRecord, Shows, last_record, without, rules}
-use Rattle.ks_engine.proofs.Prelude.{AutoConf, CommandFile, CommandTemporary, Header, Stamp, EngineError, IsAnswer, Result, Ok, first_suspect, header_path, HasSameDefinitions, is_some}
+use Rattle.ks_engine.proofs.Prelude.{AutoConf, CommandFile, CommandTemporary, Header, Stamp, IsAnswer, Result, Ok, first_suspect, header_path, HasSameDefinitions, is_some}
 unfoldable use Rattle.ks_engine.proofs.Prelude.{asked}
 use Rattle.ks_engine.proofs.BeginningAgain.{same_target}
 use Rattle.ks_engine.proofs.LowerLaws.{apart}
 use Rattle.ks_engine.proofs.Querying.{answer_shown, asked_shown, stale_evaluated}
 use Rattle.ks_engine.specs.declared.backdating.BackdateScope.{BackdateScope}
+use Rattle.ks_engine.specs.declared.error.EngineError.{EngineError}
 use Rattle.ks_engine.specs.declared.query.Limit.TheVariants.{First}
 use Rattle.ks_engine.specs.declared.staleness.Verdict.{Verdict}
 use Rattle.ks_engine.specs.declared.staleness.Verdict.TheVariants.{Fresh}
@@ -27,12 +28,30 @@ without_both f g (Recorded object command names header past) = (elim (f object) 
       | false ↦ ap (λ h. cond (g object) h (Recorded object command names header h)) (without_both f g past)
     ])
 
-last_without : (p : List ℕ → Bool) (h : History) (o : List ℕ) → p o ≡ false
-    → last_record (without p h) o ≡ option_map (λ r. record r { past = without p r.past }) (last_record h o)
+abbrev past_without : (List ℕ → Bool) → LastRecord → LastRecord
+past_without p r = record r { past = without p r.past }
+
+abbrev Left : (List ℕ → Bool) → History → List ℕ → Type 0
+Left p h o = last_record (without p h) o ≡ option_map (past_without p) (last_record h o)
+
+last_without : (p : List ℕ → Bool) (h : History) (o : List ℕ) → p o ≡ false → Left p h o
 last_without p (Begun texts generation stamps) o kept = refl
 last_without p (Synced title config past) o kept = last_without p past o kept
 last_without p (Broken title config renewed past) o kept = last_without p past o kept
-last_without p (Recorded object command names header past) o kept = search (rules, cond-false, false_from_ne_true, bytes_eq-Decides, (last_without p past o kept))
+last_without p (Recorded object command names header past) o kept = (elim (p object) as (λ b. p object ≡ b → last_record (cond b (without p past) (Recorded object command names header (without p past))) o
+    ≡ option_map (past_without p) (cond (bytes_eq object o) (Some (record { command = command; names = names; header = header; past = past })) (last_record past o))) [
+      | true ↦ λ out.
+          let other : bytes_eq object o ≡ false = (elim (bytes_eq object o) as (λ b. bytes_eq object o ≡ b → b ≡ false) [
+            | true ↦ λ same. absurd (true≢false (sym out ∙ ap p ((bytes_eq-Decides object o).0 same) ∙ kept))
+            | false ↦ λ differs. refl
+          ]) refl in
+          rw other (last_without p past o kept)
+      | false ↦ λ stays. (elim (bytes_eq object o) as (λ b. cond b (Some (record { command = command; names = names; header = header; past = without p past })) (last_record (without p past) o)
+          ≡ option_map (past_without p) (cond b (Some (record { command = command; names = names; header = header; past = past })) (last_record past o))) [
+            | true ↦ refl
+            | false ↦ last_without p past o kept
+          ])
+    ]) refl
 
 no_record_left : (h : History) → without (λ o. false) h ≡ h
 no_record_left (Begun texts generation stamps) = refl
@@ -98,7 +117,7 @@ module _ (which : BackdateScope) (o : List ℕ) (os : List (List ℕ)) (old betw
   left : IsDueBy which old o None → GoesOnWithout os old new h → GoesOnWithout (o ∷ os) old new h
   left due rest = record {
     gone = rest.gone;
-    marks = λ p out. let was = rest.marks p out in (or_right _ _ was.0, was.1);
+    marks = λ p out. let was = rest.marks p out in (or_right _ _ was.0, was.1, was.2, was.3);
     kept = rest.kept;
     shows = rest.shows;
     safe = λ p r among stays last. ⊎_elim
@@ -113,7 +132,7 @@ module _ (which : BackdateScope) (o : List ℕ) (os : List (List ℕ)) (old betw
     gone = λ p. is_that o p || rest.gone p;
     marks = λ p out. (elim (rest.gone p) as (λ b. rest.gone p ≡ b → (is_in (o ∷ os) p ≡ true) × (path : List ℕ) × (before : Files)
         × (content new (command_path p) ≡ marked_in p path (content before (command_path p)))) [
-          | true ↦ λ later. (let was = rest.marks p later in (or_right _ _ was.0, was.1))
+          | true ↦ λ later. (let was = rest.marks p later in (or_right _ _ was.0, was.1, was.2, was.3))
           | false ↦ λ none. (let that : is_that o p ≡ true = ⊎_elim (λ same. same) (λ later. absurd (true≢false (sym later ∙ none))) (or_cases (is_that o p) (rest.gone p) out) in
               let here : p ≡ o = (bytes_eq-Decides p o).0 that in
               (or_left _ _ that, path, old, rest.kept p none ∙ rw here is.text))
@@ -123,7 +142,7 @@ module _ (which : BackdateScope) (o : List ℕ) (os : List (List ℕ)) (old betw
     safe = λ p r among stays last.
         let both = or_false (is_that o p) (rest.gone p) stays in
         let later = ⊎_elim (λ same. absurd (true≢false (sym same ∙ both.0))) (λ later. later) (or_cases (bytes_eq p o) (is_in os p) among) in
-        let since = rest.safe p (record r { past = without (is_that o) r.past }) later both.1 (last_without (is_that o) h p both.0 ∙ ap (option_map (λ r. record r { past = without (is_that o) r.past })) last) in
+        let since = rest.safe p (past_without (is_that o) r) later both.1 (last_without (is_that o) h p both.0 ∙ ap (option_map (past_without (is_that o))) last) in
         λ x named. (let was = since x named in (was.0, sym (same_header old between o path is) ∙ was.1, was.2));
   }
 

@@ -1,6 +1,8 @@
 -- The lines of a written text are those of the layout and the line of the generation, and so the text reads as what was written.
-use Rattle.ks_fixdep.proofs.Prelude.{sym, ap₂, take, take-append-drop, bytes_eq, take_while, is_word_byte, drop, dep_in, deps_in, line_feed, length, length-append, ◌≡◌, ℕ, ◌<◌, ◌^◌, Bool, true, false, List, [], ◌∷◌, ◌++◌, refl, ap, ◌∙◌, Option, Some, None, append_assoc, map, ◌==◌, not, arith, common_steps, flat_map, decimal, IfSome, unwrap_or, list_all, filter_map, cond-false, and_parts, and_from, not-true, list_all-map, map-append, list_all-append, last_of, is_name, is_path, is_path_byte, decimal_value, Dep, File, Config, lines, content, CommandRecord, is_command, is_dep, IsLegal, dep_line, layout, generation_mark, generation_line, ended, command_text, generation_in, is_sound, CommandReads, rules}
+use Rattle.ks_fixdep.proofs.Prelude.{append-nil, filter_map-append, following, subst, flat_map-append, sym, ap₂, take, take-append-drop, bytes_eq, take_while, is_word_byte, drop, dep_in, deps_in, line_feed, length, length-append, ◌≡◌, ℕ, ◌<◌, ◌^◌, Bool, true, false, List, [], ◌∷◌, ◌++◌, refl, ap, ◌∙◌, Option, Some, None, append_assoc, map, ◌==◌, not, arith, common_steps, flat_map, decimal, IfSome, unwrap_or, list_all, filter_map, cond-false, and_parts, and_from, not-true, list_all-map, map-append, list_all-append, last_of, is_name, is_path, is_path_byte, decimal_value, Dep, File, Config, lines, content, CommandRecord, is_command, is_dep, IsLegal, dep_line, layout, generation_mark, generation_line, ended, command_text, generation_in, is_sound, CommandReads, rules}
+use Rattle.ks_fixdep.specs.CommandFile.{is_command_byte}
 use Rattle.ks_fixdep.specs.CommandReading.{onto_deps}
+use Rattle.ks_fixdep.specs.OwnLines.{is_further}
 use Rattle.ks_symbols.proofs.Spellings.{run_split}
 use Rattle.ks_fixdep.proofs.CommandPatternLemmas.{bytes-same, dep-line, other-byte, all-imp, path-bytes, target-path, before-end, after-prefix}
 
@@ -86,18 +88,50 @@ appended-last : (g : Option ℕ) → IfSome g (λ x. decimal_value (decimal x) �
 unfolding last_of
 appended-last g back = grind (arith, common_steps, generation_in-line)
 
--- what is written of a command file reads as it
-pub written-reads : ((n : ℕ) → n < 2 ^ 64 → decimal_value (decimal n) ≡ Some n) → (f : CommandRecord) → IsLegal f → CommandReads (command_text f) f
-written-reads back f legal =
+-- a line that is no comment says no generation, and is sound
+further-none : (line : List ℕ) → is_further line ≡ true → following generation_mark (ended line) ≡ None
+further-none [] is = refl
+further-none (b ∷ line) is = grind (arith, common_steps, and_parts, not-true)
+
+furthers-none : (ls : List (List ℕ)) → list_all is_further ls ≡ true → filter_map generation_in (map ended ls) ≡ []
+furthers-none [] are = refl
+furthers-none (l ∷ ls) are = search (rules, and_parts, further-none, (furthers-none ls))
+
+further-sound : (line : List ℕ) → is_further line ≡ true → is_sound (ended line) ≡ true
+further-sound line is = search (rules, further-none)
+
+further-plain : (line : List ℕ) → is_further line ≡ true → is_plain line ≡ true
+unfolding is_command
+further-plain [] is = refl
+further-plain (b ∷ line) is = plain-bytes is_command_byte (b ∷ line) refl (and_parts _ _ is).1
+
+sounds : (g : Option ℕ) (ls : List (List ℕ)) → IfSome g (λ x. decimal_value (decimal x) ≡ Some x) → list_all is_further ls ≡ true
+    → list_all is_sound (map ended (generation_line g ++ ls)) ≡ true
+sounds g ls back are = search (rules, map-append, list_all-append, list_all-map, and_from, appended-sound, all-imp, further-sound)
+
+lasts : (g : Option ℕ) (ls : List (List ℕ)) → IfSome g (λ x. decimal_value (decimal x) ≡ Some x) → list_all is_further ls ≡ true
+    → g ≡ last_of (filter_map generation_in (map ended (generation_line g ++ ls)))
+lasts g ls back are = search (rules, map-append, filter_map-append, furthers-none, append-nil, appended-last)
+
+-- what is written of a command file reads as it, whatever such lines follow
+pub followed-reads : ((n : ℕ) → n < 2 ^ 64 → decimal_value (decimal n) ≡ Some n) → (f : CommandRecord) (ls : List (List ℕ)) → IsLegal f → list_all is_further ls ≡ true
+    → CommandReads (command_text f ++ flat_map ended ls) f
+followed-reads back f ls legal are =
     let g : IfSome f.generation (λ x. decimal_value (decimal x) ≡ Some x) = grind (arith, common_steps, back) in
-    let plain = list_all-append is_plain (layout f) (generation_line f.generation)
-    ∙ and_from _ _ (plain-layout f legal) (plain-generation f.generation g) in
+    let more = generation_line f.generation ++ ls in
+    let last = list_all-append is_plain (generation_line f.generation) ls
+    ∙ and_from _ _ (plain-generation f.generation g) (all-imp is_further is_plain further-plain ls are) in
+    let plain = list_all-append is_plain (layout f) more ∙ and_from _ _ (plain-layout f legal) last in
+    let whole = sym (flat_map-append ended (layout f ++ generation_line f.generation) ls) ∙ ap (flat_map ended) (append_assoc (layout f) (generation_line f.generation) ls) in
     record {
       laid_out = map ended (layout f);
-      appended = map ended (generation_line f.generation);
+      appended = map ended more;
       legal = legal;
-      parts = lines-ended (layout f ++ generation_line f.generation) plain ∙ map-append ended (layout f) (generation_line f.generation);
+      parts = ap lines whole ∙ lines-ended (layout f ++ more) plain ∙ map-append ended (layout f) more;
       fits = contents-ended (layout f);
-      sound = appended-sound f.generation g;
-      generation = appended-last f.generation g;
+      sound = sounds f.generation ls g are;
+      generation = lasts f.generation ls g are;
     }
+
+pub written-reads : ((n : ℕ) → n < 2 ^ 64 → decimal_value (decimal n) ≡ Some n) → (f : CommandRecord) → IsLegal f → CommandReads (command_text f) f
+written-reads back f legal = subst (λ t. CommandReads t f) (append-nil (command_text f)) (followed-reads back f [] legal refl)

@@ -21,3 +21,4 @@ pub mod CommandFaultLemmas
 pub mod CommandWriteLemmas
 pub mod RuleLemmas
 pub mod WordLemmas
+pub mod OwnLineLemmas

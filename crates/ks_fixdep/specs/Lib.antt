@@ -29,3 +29,4 @@ pub mod CommandExamples
 pub mod CommandWriting
 pub mod Record
 pub mod Rule
+pub mod OwnLines

@@ -28,8 +28,8 @@ mod word_scan;
 pub use building::{build, build_from};
 pub use command_file::{
     BorrowedCommand, BorrowedDep, BorrowedName, CommandError, CommandFile, Dep, borrow_command,
-    command_examples, command_files_fit, command_is_legal, command_texts_read_back, read_command,
-    write_command,
+    command_examples, command_files_fit, command_is_legal, command_texts_read_back,
+    own_lines_are_further, push_own_lines, read_command, write_command,
 };
 pub use dep_error::DepError;
 pub use dependency_file::{

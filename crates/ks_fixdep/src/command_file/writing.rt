@@ -9,7 +9,7 @@ use ks_symbols::write_decimal;
 use std::alloc::AllocError;
 
 /// Writes parts, and then a line feed.
-fn push_line(out: &mut Vec<u8>, parts: &[&[u8]]) -> Result<(), AllocError>
+pub(super) fn push_line(out: &mut Vec<u8>, parts: &[&[u8]]) -> Result<(), AllocError>
     ensures ok { OnOk result (out.new.items ≡ out.old.items ++ ended (joined parts.now)) }
     ensures extends { Extends out.old.items out.new.items }
 {

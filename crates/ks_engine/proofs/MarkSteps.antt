@@ -1,9 +1,10 @@
 -- What is marked, object by object.
-use Rattle.ks_engine.proofs.Prelude.{◌≡◌, Some, None, Result, true, false, ℕ, Bool, ◌+◌, ◌++◌, List, [], ◌∷◌, sym, refl, subst, take, map, get_or, length, ◌<◌, arith, Files, get_or-map, length-map}
+use Rattle.ks_engine.proofs.Prelude.{◌≡◌, ◌∙◌, ap, option_map, Some, None, Result, true, false, ℕ, Bool, ◌+◌, ◌++◌, List, [], ◌∷◌, sym, refl, subst, take, map, get_or, length, ◌<◌, arith, Files}
 use Rattle.ks_engine.specs.declared.backdating.BackdateScope.{BackdateScope}
 use Rattle.std.specs.Borrow.{Bor}
 use Rattle.std.proofs.lemmas.List.{take-map}
-use Rattle.ks_engine.proofs.Surveying.{at_place, seen}
+use Rattle.std.proofs.lemmas.Option.{slice_get-get_or, slice_get-map}
+use Rattle.ks_engine.proofs.Surveying.{seen}
 use Rattle.ks_engine.specs.Asked.{IsAnswer, asked}
 use Rattle.ks_engine.specs.declared.error.EngineError.{EngineError}
 use Rattle.ks_engine.specs.declared.staleness.Verdict.{Verdict}
@@ -36,7 +37,7 @@ some_marked which ts i d a b c n within all given = record {
   count = n;
   first = subst (λ l. MarksAll which l a b n) (sym (take-map seen i ts)) all;
   o = (get_or ts i d).now;
-  among = at_place (map seen ts) i d.now (get_or ts i d).now (rw length-map within) (sym (get_or-map seen ts i d d.now within));
+  here = slice_get-map seen ts i ∙ ap (option_map seen) (slice_get-get_or ts i d within);
   given_up = given;
 }
 

@@ -1,13 +1,14 @@
 -- What marking leaves: at the end of the command file of an object that is due stands the path of what made it so as its command, or the file is
 -- empty.
-use Rattle.std.specs.Prelude.{◌≡◌, ◌⊎◌, ◌&&◌, ◌+◌, ◌++◌, ℕ, Bool, true, false, List, [], ◌∷◌, Option, Some, None, Result, Ok, Err, codes, is_some, nat_eq, take, if◌then◌else◌}
+use Rattle.std.specs.Prelude.{◌≡◌, ◌⊎◌, ◌&&◌, ◌+◌, ◌++◌, ℕ, Bool, true, false, List, [], ◌∷◌, Option, Some, None, Result, Ok, Err, codes, is_some, nat_eq, slice_get, take, if◌then◌else◌}
 use Rattle.std.specs.List.{ends_with}
-use Rattle.ks_symbols.specs.Names.{is_in}
 use Rattle.ks_fixdep.specs.CommandFile.{CommandRecord}
 use Rattle.ks_tree.specs.Files.{Files, SameButBoth, content}
 use Rattle.ks_tree.specs.Paths.{auto_path, command_path, command_temporary, stamp_path}
 use Rattle.ks_engine.specs.declared.backdating.BackdateScope.{BackdateScope}
 use Rattle.ks_engine.specs.declared.error.EngineError.{EngineError}
+use Rattle.ks_engine.specs.declared.marking.Marking.{Marking}
+use Rattle.ks_engine.specs.declared.marking.Marking.TheVariants.{Done, Missing, Text}
 use Rattle.ks_engine.specs.declared.staleness.Verdict.{Verdict}
 use Rattle.ks_engine.specs.declared.staleness.Verdict.TheVariants.{Fresh, Changed, NoCommandFile, Unnumbered, Ahead}
 use Rattle.ks_engine.specs.Asked.{IsAnswer, asked, command_file}
@@ -39,15 +40,15 @@ IsDueBy which files o due = (answer : Result Verdict EngineError) × IsAnswer fi
 
 -- ---- what a mark leaves
 
--- Make takes the last line in which a variable gets its value. The command of an object has one of these two. An empty line comes first, since
--- the last one may be cut off behind a backslash.
 abbrev pub assignment : List ℕ → List ℕ → List ℕ → List ℕ
 assignment variable o path = variable ++ o ++ codes " := " ++ path ++ codes "\n"
 
+-- Make takes the last line in which a variable gets its value. The command of an object has one of these two. An empty line comes first, since
+-- the last one may be cut off behind a backslash.
 unfoldable pub mark : List ℕ → List ℕ → List ℕ
 mark o path = codes "\n" ++ assignment (codes "savedcmd_") o path ++ assignment (codes "cmd_") o path
 
--- A mark that is there already isn't written again.
+-- a text that ends with it, which it may do already
 abbrev pub with_mark : List ℕ → List ℕ → List ℕ
 with_mark text mark = if ends_with nat_eq text mark then text else text ++ mark
 
@@ -61,9 +62,16 @@ marked_in o path None = None
 marked_in o path (Some b) =
     Some (if is_record (command_file o (Some b)) && ends_with nat_eq b (codes "\n") then with_mark b (mark o path) else [])
 
+-- what the code makes of a command file: there is none, or it is marked already, or it is to have a text
+abbrev pub ComesTo : Marking → List ℕ → List ℕ → Option (List ℕ) → Type 0
+ComesTo Missing o path file = file ≡ None
+ComesTo Done o path file = (is_some file ≡ true) × (file ≡ marked_in o path file)
+ComesTo (Text text) o path file = (is_some file ≡ true) × (Some text.items ≡ marked_in o path file)
+
+-- The temporary file is gone where the command file was written.
 pub record IsMarked (old new : Files) (o path : List ℕ) : Type 0 where
   pub text : content new (command_path o) ≡ marked_in o path (content old (command_path o))
-  pub gone : content new (command_temporary o) ≡ None
+  pub gone : (new ≡ old) ⊎ (content new (command_temporary o) ≡ None)
   pub others : SameButBoth (command_temporary o) (command_path o) old new
 
 -- The mark was given up: the command file is the old one or marked.
@@ -92,12 +100,12 @@ MarksAll which [] old new count = (new ≡ old) × (count ≡ 0)
 MarksAll which (o ∷ os) old new count = (between : Files) × (done : Bool) × (later : ℕ) × MarksOne which o old between done
     × MarksAll which os between new later × (count ≡ one_if done + later)
 
--- The first of them are, and then one of them was given up.
+-- The first n of them are, and then the next one was given up.
 pub record MarksSome (which : BackdateScope) (targets : List (List ℕ)) (old new : Files) : Type 0 where
   pub n : ℕ
   pub between : Files
   pub count : ℕ
   pub first : MarksAll which (take n targets) old between count
   pub o : List ℕ
-  pub among : is_in targets o ≡ true
+  pub here : slice_get targets n ≡ Some o
   pub given_up : GivesUpMark which o between new

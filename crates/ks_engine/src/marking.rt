@@ -1,13 +1,13 @@
 //! Marking what is stale, so that make compiles it whatever its times say. Make compiles an object whose saved command is another one
 //! than the command that it would run now. So at the end of the command file of what is due the saved command gets the path of the
 //! stamp that says so for its value. A file that is no record of its object is emptied. The next record has no such lines.
-ghost use Rattle.std.specs.Prelude.{◌≡◌, ◌⊎◌, ◌++◌, Some, true, IfErr, IfOk, IsErrOf, OnErr, OnOk, Result, is_some, map, option_map};
+ghost use Rattle.std.specs.Prelude.{◌≡◌, ◌⊎◌, ◌++◌, Some, true, IfErr, IfOk, IsErrOf, OnErr, OnOk, Result, is_some, map, option_map, unwrap_or};
 ghost use Rattle.ks_tree.specs.Files.{content};
 ghost use Rattle.ks_tree.specs.Frames.{Counted, Reads};
 ghost use Rattle.ks_tree.specs.Paths.{command_path};
 ghost use Rattle.ks_engine.specs.Asked.{IsAnswer, asked, command_file};
 ghost use Rattle.ks_engine.specs.Caches.{IsCacheOf};
-ghost use Rattle.ks_engine.specs.Marks.{GivesUpMark, MarksAll, MarksOne, MarksSome, MayBeMarked, WritesMark, assignment, cause_path, due_by, is_record, mark, marked_in, or_unnumbered, with_mark};
+ghost use Rattle.ks_engine.specs.Marks.{ComesTo, GivesUpMark, MarksAll, MarksOne, MarksSome, MayBeMarked, WritesMark, assignment, cause_path, due_by, is_record, mark, marked_in, or_unnumbered};
 ghost use Rattle.ks_engine.specs.Refusals.{IsAborted};
 
 use crate::EngineError;
@@ -97,16 +97,6 @@ fn mark_of(alloc: Global, target: &[u8], path: &[u8]) -> Result<Vec<u8>, AllocEr
     Ok(text)
 }
 
-/// Puts a mark behind a text, if it doesn't end so.
-fn add_mark(text: &mut Vec<u8>, mark: &[u8]) -> Result<(), AllocError>
-    ensures { OnOk result (text.new.items ≡ with_mark text.old.items mark.now) }
-{
-    if text.ends_with(mark) {
-        return Ok(());
-    }
-    text.extend_from_slice(mark)
-}
-
 /// Whether a text is a record of an object.
 fn is_record(alloc: Global, target: &[u8], text: &[u8]) -> Result<bool, AllocError>
     ensures { IfOk result (λ is. is ≡ is_record (command_file target.now (Some text.now))) }
@@ -118,44 +108,65 @@ fn is_record(alloc: Global, target: &[u8], text: &[u8]) -> Result<bool, AllocErr
     }
 }
 
-/// The text of a command file once it is marked: empty, where it is no record of this object or was cut off.
+/// The text of a command file once it is marked, if that is another one: empty, where it is no record of this object or was cut off.
 fn marked_text(
     alloc: Global,
     target: &[u8],
     mut text: Vec<u8>,
     path: &[u8],
-) -> Result<Vec<u8>, AllocError>
-    ensures { IfOk result (λ marked. Some marked.items ≡ marked_in target.now path.now (Some text.items)) }
+) -> Result<Option<Vec<u8>>, AllocError>
+    ensures { IfOk result (λ marked. Some (unwrap_or (option_map (λ v. v.items) marked) text.items) ≡ marked_in target.now path.now (Some text.items)) }
 {
     if !is_record(alloc, target, &text)? || !text.ends_with(b"\n") {
-        return Ok(Vec::new(alloc));
+        return Ok(if text.is_empty() {
+            None
+        } else {
+            Some(Vec::new(alloc))
+        });
     }
-    add_mark(&mut text, &mark_of(alloc, target, path)?)?;
-    Ok(text)
+    let mark = mark_of(alloc, target, path)?;
+    if text.ends_with(&mark) {
+        return Ok(None);
+    }
+    text.extend_from_slice(&mark)?;
+    Ok(Some(text))
 }
 
-/// What the command file of an object becomes, if there is one.
+/// What a mark comes to.
+#[derive(Drop)]
+enum Marking {
+    /// There is no command file.
+    Missing,
+    /// It is as the mark leaves it.
+    Done,
+    /// It is to have this text.
+    Text(Vec<u8>),
+}
+
+/// What the mark of an object comes to.
 fn read_marked<T: Tree>(
     alloc: Global,
     tree: &mut T,
     target: &[u8],
     path: &[u8],
-) -> Result<Option<Vec<u8>>, EngineError>
+) -> Result<Marking, EngineError>
     ensures reads { Reads T.Tree tree.old tree.new (IsErrOf result EngineError.Device) }
-    ensures marked { T.is_honest → IfOk result (λ text. option_map (λ v. v.items) text
-        ≡ marked_in target.now path.now (content (T.files tree.old) (command_path target.now))) }
+    ensures marked { T.is_honest → IfOk result (λ m. ComesTo m target.now path.now (content (T.files tree.old) (command_path target.now))) }
     ensures given { IfErr result IsAborted }
 {
     let file = command_path(alloc, target)?;
     match tree.read(alloc, &file) {
-        Ok(Some(text)) => Ok(Some(marked_text(alloc, target, text, path)?)),
-        Ok(None) => Ok(None),
-        Err(TreeFault::TooLarge) => Ok(Some(Vec::new(alloc))),
+        Ok(Some(text)) => match marked_text(alloc, target, text, path)? {
+            Some(text) => Ok(Marking::Text(text)),
+            None => Ok(Marking::Done),
+        },
+        Ok(None) => Ok(Marking::Missing),
+        Err(TreeFault::TooLarge) => Ok(Marking::Text(Vec::new(alloc))),
         Err(fault) => Err(EngineError::from(fault)),
     }
 }
 
-/// Marks an object by a path, if it has a command file, and answers whether it has.
+/// Marks an object by a path, if it has a command file, and answers whether it has. One that is marked so already isn't written again.
 fn write_mark<T: Tree>(
     alloc: Global,
     tree: &mut T,
@@ -172,8 +183,10 @@ fn write_mark<T: Tree>(
     ensures counted { Counted T.Tree tree.old tree.new (IsErrOf result EngineError.Device) }
     ensures kept { T.backdated tree.new ≡ T.backdated tree.old }
 {
-    let Some(text) = read_marked(alloc, tree, target, path)? else {
-        return Ok(false);
+    let text = match read_marked(alloc, tree, target, path)? {
+        Marking::Missing => return Ok(false),
+        Marking::Done => return Ok(true),
+        Marking::Text(text) => text,
     };
     forget_record(alloc, cache, target)?;
     write_record(alloc, tree, target, &text)?;

@@ -1,12 +1,11 @@
 -- What is reported fresh, and what `age` leaves alone.
-use Rattle.ks_commands.proofs.Prelude.{◌≡◌, ◌⊎◌, ◌++◌, ◌<◌, ◌∙◌, ℕ, Bool, true, false, List, [], ◌∷◌, Option, Some, None, Result, Ok, Err, inl, inr, refl, sym, subst, max, append-nil, arith, common_steps, true≢false, bytes_eq, bytes_eq-Decides, is_in, Files, EngineError, Explanation, History, LastRecord, Shows, IsAnswerOn, IsAbortedAnswer, code_of, explanation_status, status_unless_refused, statuses, objects_of, targets_at, with_file, args_of, and_then, fold, ap, Querying, Part, FileState, Walks, rules, content, CommandRecord, last_record, IsEvaluated, command_file, names_placed}
+use Rattle.ks_commands.proofs.Prelude.{◌≡◌, ◌⊎◌, ◌<◌, ◌∙◌, ℕ, true, false, List, [], ◌∷◌, Option, Some, None, Result, Ok, Err, inl, inr, refl, sym, subst, max, arith, common_steps, true≢false, bytes_eq, bytes_eq-Decides, is_in, Files, EngineError, Explanation, History, LastRecord, Shows, IsAnswerOn, IsAbortedAnswer, explanation_status, status_unless_refused, statuses, objects_of, targets_at, with_file, args_of, and_then, fold, ap, Part, FileState, Walks, content, CommandRecord, last_record, command_file, names_placed}
 use Rattle.ks_engine.proofs.Prelude.{IsAnswer, asked_of, asked_since, reading, first_suspect, is_target, cond, HasSameDefinitions}
 unfoldable use Rattle.ks_engine.proofs.Prelude.{asked, command_path}
 use Rattle.std.proofs.lemmas.List.Folds.{list_any-append}
 use Rattle.ks_engine.proofs.Querying.{stale_evaluated}
 use Rattle.ks_engine.specs.declared.backdating.BackdateScope.{BackdateScope}
 use Rattle.ks_engine.specs.declared.backdating.BackdateScope.TheVariants.{Unrecorded}
-use Rattle.ks_engine.specs.declared.error.EngineError.TheVariants.{Device}
 use Rattle.ks_engine.specs.declared.staleness.Verdict.{Verdict}
 use Rattle.ks_engine.specs.declared.staleness.Verdict.TheVariants.{Fresh, Changed, NoCommandFile, Unnumbered, Ahead}
 use Rattle.ks_engine.specs.Backdated.{IsBackdated, backdated_by, backdates}
@@ -15,8 +14,6 @@ use Rattle.ks_engine.specs.declared.error.EngineError.TheVariants.{BadPath}
 use Rattle.ks_engine.specs.Staleness.{verdict}
 use Rattle.ks_commands.proofs.BackdatingLemmas.{backdates_stale, stays_backdated}
 use Rattle.ks_commands.proofs.Walks.{below_two}
-use Rattle.ks_requests.specs.declared.request.Targets.{Targets}
-use Rattle.ks_requests.specs.declared.status.Outcome.{Outcome}
 use Rattle.ks_builds.specs.Builds.{BuildsAreRight, HasBackdated, HasTrueRecords, IsLeft, WhatIsNotBackdatedIsFresh, WhatIsNotBackdatedIsSafe}
 
 -- ---- what was answered of an object that was left alone
@@ -93,21 +90,21 @@ fresh_since : (files : Files) (names : List (List ℕ × List ℕ)) (g : Option 
 fresh_since files names None is = absurd cc
 fresh_since files names (Some n) is = (n, refl)
 
-abbrev Read : Type 0
+abbrev pub Read : Type 0
 Read = Result (Option CommandRecord) EngineError
 
-fresh_of : (files : Files) (r : Read) → IsAnswer files (asked_of files r) (Ok Fresh)
+pub fresh_of : (files : Files) (r : Read) → IsAnswer files (asked_of files r) (Ok Fresh)
     → (file : CommandRecord) × (n : ℕ) × (r ≡ Ok (Some file)) × (file.generation ≡ Some n)
 fresh_of files (Err e) is = absurd cc
 fresh_of files (Ok None) is = absurd cc
 fresh_of files (Ok (Some file)) is = let n = fresh_since files (names_placed file) file.generation is in (file, n.0, refl, n.1)
 
-read_of : (o : List ℕ) (c : Option (List ℕ)) (file : CommandRecord) → ◌≡◌ {A = Read} (command_file o c) (Ok (Some file))
+pub read_of : (o : List ℕ) (c : Option (List ℕ)) (file : CommandRecord) → ◌≡◌ {A = Read} (command_file o c) (Ok (Some file))
     → (b : List ℕ) × (c ≡ Some b) × (reading b ≡ Ok file)
 read_of o None file is = absurd cc
 read_of o (Some b) file is = (b, refl, grind arith)
 
-fresh_asked : (files : Files) (o : List ℕ) → IsAnswer files (asked files o) (Ok Fresh)
+pub fresh_asked : (files : Files) (o : List ℕ) → IsAnswer files (asked files o) (Ok Fresh)
     → IsAnswer files (asked_of files (command_file o (content files (command_path o)))) (Ok Fresh)
 unfolding asked
 fresh_asked files o is = (elim (is_target o) as (λ b. IsAnswer files (cond b (asked_of files (command_file o (content files (command_path o)))) (AtOnce (Err (BadPath 0)))) (Ok Fresh)

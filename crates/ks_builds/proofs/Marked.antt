@@ -1,5 +1,5 @@
 -- What marking leaves of a history, object by object.
-use Rattle.ks_parallel.proofs.Prelude.{◌≡◌, ◌⊎◌, ◌||◌, ℕ, List, [], ◌∷◌, Option, Some, None, Bool, true, false, cond, option_map, sym, ◌∙◌, ap, refl, subst, subst₂, inr, ⊎_elim, or_cases, or_left, or_right, true≢false, bytes_eq, bytes_eq-Decides, cond-false, false_from_ne_true, content, Files, HasNumber, command_path, stamp_path, auto_path, is_in, History, Begun, Synced, Broken, Recorded, LastRecord, Shows, last_record, without, rules}
+use Rattle.ks_parallel.proofs.Prelude.{◌≡◌, ◌||◌, ℕ, List, [], ◌∷◌, Option, Some, None, Bool, true, false, cond, option_map, sym, ◌∙◌, ap, refl, subst, subst₂, inr, ⊎_elim, or_cases, or_left, or_right, true≢false, bytes_eq, bytes_eq-Decides, content, Files, HasNumber, command_path, stamp_path, auto_path, is_in, History, Begun, Synced, Broken, Recorded, LastRecord, Shows, last_record, without}
 use Rattle.ks_engine.proofs.Prelude.{AutoConf, CommandFile, CommandTemporary, Header, Stamp, IsAnswer, Result, Ok, first_suspect, header_path, HasSameDefinitions, is_some}
 unfoldable use Rattle.ks_engine.proofs.Prelude.{asked}
 use Rattle.ks_engine.proofs.BeginningAgain.{same_target}

@@ -1,11 +1,11 @@
 -- Each history goes on with a story, and what the runs of one without a break print is what changed.
-use Rattle.ks_commands.proofs.Prelude.{⊤, ◌≡◌, ℕ, List, [], ◌∷◌, refl, subst, Bool, true, false, cond, Shows, History, at, TreeState, NoneBroken, IsShown, rules}
+use Rattle.ks_commands.proofs.Prelude.{ℕ, List, [], ◌∷◌, refl, subst, Bool, true, false, cond, Shows, History, at, TreeState, NoneBroken, IsShown}
 use Rattle.ks_commands.proofs.Headline.{none_before_program, program_reports}
 use Rattle.ks_commands.proofs.Histories.{requests_go_on}
 use Rattle.ks_engine.specs.FileRuns.{FileState}
 use Rattle.ks_engine.specs.History.{Begun, Synced, Broken, Recorded}
 use Rattle.ks_parallel.specs.Views.{without}
-use Rattle.ks_builds.specs.Stories.{FileStory, Happening, Leaves, LeavesFiles, Ran, Repaired, StoriesAreShown, StoriesReportChanges, Story, ReportingStory, ReportsBy, Written}
+use Rattle.ks_builds.specs.Stories.{Happening, Leaves, LeavesFiles, Ran, Repaired, StoriesAreShown, StoriesReportChanges, Story, ReportsBy, Written}
 use Rattle.ks_builds.proofs.Between.{lost_records_are_left_out, repairs_are_breaks}
 
 one_happens : (e : Happening) (old new : FileState) (h : History) → Shows old.files h → LeavesFiles e old new

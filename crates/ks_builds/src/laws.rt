@@ -1,5 +1,5 @@
 //! Laws of the definitions, each the contract of a function that does nothing.
-ghost use Rattle.ks_builds.specs.Adopted.{NeverTouchedIsTheSame};
+ghost use Rattle.ks_builds.specs.Adopted.{NeverTouchedIsTheSame, NumberZeroIsRight};
 ghost use Rattle.ks_builds.specs.Between.{LostNumbersBeginAgain, LostRecordsAreLeftOut, OthersMayWrite, PutBackIsShown, RepairsAreBreaks, TreesBeginAgain};
 ghost use Rattle.ks_builds.specs.Builds.{BuildsAreRight, WhatIsNotBackdatedIsFresh, WhatIsNotBackdatedIsSafe};
 ghost use Rattle.ks_builds.specs.Marked.{WhatIsNotMarkedIsSafe};
@@ -15,9 +15,10 @@ pub fn foreign_writes_are_shown()
     ensures again { TreesBeginAgain }
 {}
 
-/// What another tool compiled may count as recorded before all synchronisations.
+/// What another tool compiled may count as recorded before all synchronisations, and what that says of an object.
 pub fn never_touched_is_the_same()
-    ensures { NeverTouchedIsTheSame }
+    ensures same { NeverTouchedIsTheSame }
+    ensures zero { NumberZeroIsRight }
 {}
 
 /// What `age` leaves alone.

@@ -155,20 +155,20 @@ by_stamps limit files f g names found held is =
     let (same, enough) = ends_well limit files f is.causes found is.left is.ends parts.1 in
     (is.causes, same, (is.seen, is.left, is.stands, is.are.above ∙ listed_same files is.are.number f g is.seen is.are.held parts.0, enough))
 
-verdict_by_stamps : (limit : Limit) (files : Files) (f : List ℕ → ℕ) (g : ℕ) (names : List (List ℕ × List ℕ)) (found : Result (List Cause) EngineError)
+pub verdict_by_stamps : (limit : Limit) (files : Files) (f : List ℕ → ℕ) (g : ℕ) (names : List (List ℕ × List ℕ)) (found : Result (List Cause) EngineError)
     → Held files f names → IsByStamps limit files g names found → verdict_by found ≡ Ok (verdict (find (λ x. nat_lt g (f x)) (map (λ p. p.0) names)))
 verdict_by_stamps limit files f g names found held is =
     let (causes, are, (seen, left, stands, listed, enough)) = by_stamps limit files f g names found held is in
     rw are (ap (λ v. Ok v) (verdict_enough limit f g names seen left causes stands listed enough ∙ verdict_found f g names))
 
 -- the stamps of legal dependencies
-held_shown : (files : Files) (f : List ℕ → ℕ) (place : List ℕ) (deps : List Dep)
+pub held_shown : (files : Files) (f : List ℕ → ℕ) (place : List ℕ) (deps : List Dep)
     → ((x : List ℕ) → IsTrue (is_name x) → HasNumber (content files (stamp_path x)) (f x)) → list_all is_dep deps ≡ true → Held files f (placed place deps)
 held_shown files f place [] stamps legal = All-nil _
 held_shown files f place (File path ∷ deps) stamps legal = search (rules, and_parts, (held_shown files f path deps stamps))
 held_shown files f place (Config x ∷ deps) stamps legal = search (rules, All-cons, and_parts, (held_shown files f place deps stamps))
 
-names_are : (place : List ℕ) (deps : List Dep) → map (λ p. p.0) (placed place deps) ≡ config_names deps
+pub names_are : (place : List ℕ) (deps : List Dep) → map (λ p. p.0) (placed place deps) ≡ config_names deps
 names_are place [] = refl
 names_are place (File path ∷ deps) = names_are path deps
 names_are place (Config x ∷ deps) = ap (λ l. x ∷ l) (names_are place deps)
@@ -216,7 +216,7 @@ answer_shown limit files h o r found shows last is =
     rw (verdict_by_stamps limit files (stamp h) (done r.past) _ found at.stamps is, at.names, last) (ap (λ o. Ok (verdict o)) same)
 
 -- nothing found: no member passes
-find_none : (p : List ℕ → Bool) (xs : List (List ℕ)) (x : List ℕ) → find p xs ≡ None → is_in xs x ≡ true → p x ≡ false
+pub find_none : (p : List ℕ → Bool) (xs : List (List ℕ)) (x : List ℕ) → find p xs ≡ None → is_in xs x ≡ true → p x ≡ false
 find_none p [] x none among = absurd cc
 find_none p (y ∷ xs) x none among = grind (arith, common_steps, (bytes_eq-Decides x y), (find_none p xs x))
 

@@ -432,9 +432,9 @@ static const char *file_word(const char *usual)
     return one_in(40) ? PICK(odd_paths) : usual;
 }
 
-static void words_of_record(Command *made, const char *command_word)
+static void words_of_fixdep(Command *made)
 {
-    word(made, command_word);
+    word(made, "fixdep");
     word(made, file_word("x.d"));
     word(made, target());
     word(made, command());
@@ -530,6 +530,18 @@ static void words_of_mark(Command *made)
         put_option(made, "--unrecorded", NULL);
 }
 
+static void words_of_record(Command *made)
+{
+    word(made, "record");
+    word(made, file_word("x.d"));
+    word(made, target());
+    word(made, command());
+    if (one_in(3))
+        put_option(made, "--cmd", NULL);
+    if (one_in(3))
+        put_option(made, "--before-sync", NULL);
+}
+
 /* A repair, by what was kept or without. */
 static void words_of_repair(Command *made)
 {
@@ -585,7 +597,10 @@ static Command made_command(void)
     case 3:
     case 4:
     case 5:
-        words_of_record(&made, one_in(3) ? "fixdep" : "record");
+        if (one_in(3))
+            words_of_fixdep(&made);
+        else
+            words_of_record(&made);
         break;
     case 6:
         word(&made, "outdated");
@@ -616,7 +631,7 @@ static Command made_step(size_t step)
     if (step == 0 || step == 3)
         words_of_sync(&made, "sync");
     else if (step < 3)
-        words_of_record(&made, "record");
+        words_of_record(&made);
     else if (one_in(4))
         words_of_mark(&made);
     else

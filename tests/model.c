@@ -1452,20 +1452,61 @@ static Fault command_text(const Tree *tree, const Prerequisites *list, Bytes tar
     return found;
 }
 
-static Fault record(Tree *tree, Bytes depfile, Bytes target, Bytes command, uint64_t *generation, size_t *count)
+/* What is asked of a record beside it: what make and the project's own tools look for, and a number where there is no auto.conf. */
+typedef struct {
+    bool has_cmd, is_before_sync;
+} RecordOptions;
+
+/* The generation of a record. Nothing but a missing auto.conf is one of before any synchronisation. */
+static Fault record_generation(const Tree *tree, RecordOptions options, uint64_t *generation)
+{
+    Bytes text;
+    bool is_there = true;
+    *generation = 0;
+    Fault found = options.is_before_sync ? read_file(tree, bytes_of(auto_path), &text, &is_there) : none;
+    return refused(found) || !is_there ? found : last_generation(tree, generation);
+}
+
+/* Behind a record: the command under its other name, and outside of Linux a rule of the stamps that the project's own tools have. */
+static void add_cmd(Text *text, Bytes target)
+{
+    CommandFile file;
+    if (refused(read_command(of_text(text), &file)))
+        return;
+    Names names = file.names;
+    add(text, joined("cmd_", target, " := $(savedcmd_"));
+    add(text, joined("", target, ")\n"));
+    if (dialect == LINUX)
+        return;
+    add(text, joined("", target, ": \\\n"));
+    for (size_t i = 0; i < names.count; i++) {
+        add_text(text, "    $(wildcard include/config/");
+        for (size_t k = 0; k < names.names[i].length; k++) {
+            char c = names.names[i].at[k];
+            add_text(text, "%c", c == '_' ? '/' : tolower((unsigned char)c));
+        }
+        add_text(text, ".h) \\\n");
+    }
+    add_text(text, "\n");
+}
+
+static Fault record(Tree *tree, RecordOptions options, const Bytes *words, uint64_t *generation, size_t *count)
 {
     Prerequisites list;
     Text text = {0};
+    Bytes depfile = words[0], target = words[1], command = words[2];
     Fault found = check_record(depfile, target, command);
     if (!refused(found))
         found = read_prerequisites(tree, depfile, &list);
     if (!refused(found))
-        found = last_generation(tree, generation);
+        found = record_generation(tree, options, generation);
     if (!refused(found))
         found = command_text(tree, &list, target, command, &text, count);
     if (refused(found))
         return found;
     add_text(&text, "#generation %" PRIu64 "\n", *generation);
+    if (options.has_cmd)
+        add_cmd(&text, target);
     if (text.length > MAX_BYTES)
         return fault("9 TooLarge");
     if (is_no_file(tree, command_path(target)))
@@ -1747,12 +1788,12 @@ static Answer run_fixdep(const Tree *tree, const Bytes *words)
     return refused(found) ? refusal(found) : (Answer){0, of_text(&output), {NULL, 0}, false};
 }
 
-static Answer run_record(Tree *tree, const Bytes *words)
+static Answer run_record(Tree *tree, RecordOptions options, const Bytes *words)
 {
     uint64_t generation;
     size_t count;
     Text output = {0};
-    Fault found = record(tree, words[0], words[1], words[2], &generation, &count);
+    Fault found = record(tree, options, words, &generation, &count);
     if (refused(found))
         return refusal(found);
     add(&output, joined("record ", words[1], ""));
@@ -2329,7 +2370,7 @@ static void run_step(Tree *tree, const Step *step, const Bytes *texts, Text *out
     size_t names;
     Fault found;
     if (step->command == RECORD) {
-        found = record(tree, step->words[0], step->words[1], step->words[2], &generation, &names);
+        found = record(tree, (RecordOptions){false, false}, step->words, &generation, &names);
         if (!refused(found)) {
             add(output, joined("record ", step->words[1], ""));
             add_text(output, " generation %" PRIu64 " names %zu\n", generation, names);
@@ -2376,14 +2417,19 @@ static Answer run_command(Tree *tree, Bytes *words, size_t count)
 {
     bool is_preview = is_text(words[0], "preview");
     bool is_written = (is_preview || is_text(words[0], "sync")) && take_option(words, &count, "--written", NULL);
+    bool is_record = is_text(words[0], "record");
+    RecordOptions options = {
+        .has_cmd = is_record && take_option(words, &count, "--cmd", NULL),
+        .is_before_sync = is_record && take_option(words, &count, "--before-sync", NULL),
+    };
     if (is_text(words[0], "sync") && count == 3)
         return run_sync(tree, words + 1, is_written);
     if (is_preview && (count == 3 || count == 4))
         return run_preview(tree, words + 1, count - 1, is_written);
     if (is_text(words[0], "fixdep") && count == 4)
         return run_fixdep(tree, words + 1);
-    if (is_text(words[0], "record") && count == 4)
-        return run_record(tree, words + 1);
+    if (is_record && count == 4)
+        return run_record(tree, options, words + 1);
     if (is_text(words[0], "diff"))
         return run_diff(tree, words + 1, count - 1);
     if (is_text(words[0], "stale") || is_text(words[0], "why"))

@@ -8,7 +8,7 @@ use Rattle.ks_cli.specs.declared.args.WordsError.{WordsError}
 
 -- that of a record that is to remove it, once the record is done
 abbrev pub spent : ℕ → Result Request WordsError → Option (List ℕ)
-spent status (Ok (Record depfile target command Removed)) = if status == 0 then Some (string_bytes depfile) else None
+spent status (Ok (Record depfile target command Removed options)) = if status == 0 then Some (string_bytes depfile) else None
 spent status asked = None
 
 -- That file is gone, and all others stay; where there is none, all stay.

@@ -8,6 +8,7 @@ use Rattle.ks_engine.specs.declared.backdating.BackdateScope.TheVariants as back
 use Rattle.ks_engine.specs.declared.planning.ConfigForm.{ConfigForm}
 use Rattle.ks_engine.specs.declared.planning.ConfigForm.TheVariants as form
 use Rattle.ks_requests.specs.declared.request.ConfigPaths.{ConfigPaths}
+use Rattle.ks_engine.specs.declared.conventions.RecordOptions.{RecordOptions}
 use Rattle.ks_requests.specs.declared.request.DepfileAfter.{DepfileAfter}
 use Rattle.ks_requests.specs.declared.request.DepfileAfter.TheVariants as depfile
 use Rattle.ks_requests.specs.declared.request.KeptPaths.{KeptPaths}
@@ -96,6 +97,10 @@ asks_both rows = is_set (codes "stamps") rows && is_set (codes "written") rows
 abbrev pub depfile_after : List Row → DepfileAfter
 depfile_after rows = if is_set (codes "remove-depfile") rows then depfile.Removed else depfile.Kept
 
+-- what `record` is to write beside the record
+abbrev pub options_of : List Row → RecordOptions
+options_of rows = record { adds_own_lines = is_set (codes "cmd") rows; before_sync = is_set (codes "before-sync") rows }
+
 -- which stale objects `age` is to age
 abbrev pub scope_of : List Row → BackdateScope
 scope_of rows = if is_set (codes "unrecorded") rows then backdates.Unrecorded else backdates.Recorded
@@ -134,9 +139,9 @@ IsRequestOf command rows (request.Diff c report_style) = (command ≡ codes "dif
 IsRequestOf command rows (request.Fixdep d t c) = (command ≡ codes "fixdep")
     × (string_bytes d ≡ arg_at (codes "DEPFILE") rows) × (string_bytes t ≡ arg_at (codes "TARGET") rows)
     × (string_bytes c ≡ arg_at (codes "COMMAND") rows)
-IsRequestOf command rows (request.Record d t c after) = (command ≡ codes "record")
+IsRequestOf command rows (request.Record d t c after options) = (command ≡ codes "record")
     × (string_bytes d ≡ arg_at (codes "DEPFILE") rows) × (string_bytes t ≡ arg_at (codes "TARGET") rows)
-    × (string_bytes c ≡ arg_at (codes "COMMAND") rows) × (after ≡ depfile_after rows)
+    × (string_bytes c ≡ arg_at (codes "COMMAND") rows) × (after ≡ depfile_after rows) × (options ≡ options_of rows)
 IsRequestOf command rows (request.Depfile end d t c) = (command ≡ codes "depfile")
     × (option_map (λ path. string_bytes path) end ≡ first_of (codes "SUFFIX") rows) × (string_bytes d ≡ arg_at (codes "DEPFILE") rows)
     × (string_bytes t ≡ arg_at (codes "TARGET") rows) × (string_bytes c ≡ arg_at (codes "COMMAND") rows)

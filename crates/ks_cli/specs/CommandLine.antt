@@ -84,7 +84,7 @@ writing_apps =
     ∷ needing_one (taking (codes "diff") (flag (codes "exit-code") ∷ flag (codes "quiet") ∷ flag (codes "written") ∷ once (codes "KCONFIG")
     ∷ once (codes "DOTCONFIG") ∷ []))
     ∷ taking (codes "fixdep") (once (codes "DEPFILE") ∷ once (codes "TARGET") ∷ once (codes "COMMAND") ∷ [])
-    ∷ needing_one (taking (codes "record") (flag (codes "remove-depfile") ∷ once (codes "DEPFILE") ∷ once (codes "TARGET")
+    ∷ needing_one (taking (codes "record") (flag (codes "remove-depfile") ∷ flag (codes "cmd") ∷ flag (codes "before-sync") ∷ once (codes "DEPFILE") ∷ once (codes "TARGET")
     ∷ once (codes "COMMAND") ∷ []))
     ∷ needing_one (taking (codes "depfile") (following (codes "header") (codes "SUFFIX") ∷ once (codes "DEPFILE") ∷ once (codes "TARGET")
     ∷ once (codes "COMMAND") ∷ []))

@@ -11,7 +11,7 @@ use crate::command_line::command_line;
 use crate::help_text::HelpText;
 use clap::ArgMatches;
 use clap::error::ErrorKind;
-use ks_engine::{BackdateScope, ConfigForm};
+use ks_engine::{BackdateScope, ConfigForm, RecordOptions};
 use ks_requests::{
     ConfigPaths, DepfileAfter, KeptPaths, OutputFormat, ReportStyle, Request, Stamps, Targets,
 };
@@ -216,6 +216,10 @@ fn record_request(alloc: Global, matches: &ArgMatches<'_>) -> Result<Request, Al
             DepfileAfter::Removed,
             DepfileAfter::Kept,
         ),
+        options: RecordOptions {
+            adds_own_lines: is_set(matches, "cmd"),
+            before_sync: is_set(matches, "before-sync"),
+        },
     })
 }
 

@@ -227,11 +227,23 @@ Example: confstamp fixdep x.d x.o 'cc -c x.c'",
                 num_args: NumArgs::Flag,
                 help: "Remove DEPFILE once the object is recorded; refused, it stays",
             },
+            ArgUsage {
+                name: "cmd",
+                num_args: NumArgs::Flag,
+                help: "Add cmd_TARGET, as make looks for it before Linux 6.3; outside of Linux the project's own stamps too",
+            },
+            ArgUsage {
+                name: "before-sync",
+                num_args: NumArgs::Flag,
+                help: "Where there is no auto.conf yet: record the object under generation 0",
+            },
             DEPFILE,
             TARGET,
             COMMAND,
         ],
-        override_usage: Some("confstamp record [--remove-depfile] <DEPFILE> <TARGET> <COMMAND>"),
+        override_usage: Some(
+            "confstamp record [--remove-depfile] [--cmd] [--before-sync] <DEPFILE> <TARGET> <COMMAND>",
+        ),
         after_help: "\
 Is run directly after the compiler. Prints the generation, and how many names were found.
 

@@ -1,5 +1,8 @@
 -- What scripts and runs of the program tell: no synchronisation was broken off before one of them where none was at the end.
-use Rattle.ks_commands.proofs.Prelude.{⊤, IsAnswerAfter, IsAnswerOn, IsExplanationOn, IsEvaluated, IsShown, IsStateOn, filter_agree, Dialect, ◌≡◌, ◌<◌, ℕ, List, [], ◌∷◌, Some, Result, Ok, Err, IfOk, IsTrue, inl, inr, subst, filter, map, fold, max, arith, All, is_command, All-nil, All-cons, Reply, Refused, EngineError, Explanation, BuildState, Report, Action, Sync, TreeState, FollowsDepfile, FollowsStamps, Stamps, History, LastRecord, NoneBroken, last_record, Step, changed_since, found, suspect_since, IsAbortedSync, suspect_since-changed_since, Request, Ending, reply_status, None, state_of, reports, no_count, BatchReportsChanges, Continues, Runs, ProgramReportsChanges, StepsReportChanges, ReportsAfter, ReportsBuild, ReportsCauses, ReportsChange, rules, Call, call_in, call_of, calls_of, reply_to, FollowsRecord}
+use Rattle.ks_commands.proofs.Prelude.{⊤, IsAnswerAfter, IsAnswerOn, IsExplanationOn, IsEvaluated, IsShown, IsStateOn, filter_agree, Dialect, ◌≡◌, ◌<◌, ℕ, List, [], ◌∷◌, Some, Result, Ok, Err, IfOk, IsTrue, inl, inr, subst, filter, map, fold, max, arith, All, is_command, All-nil, All-cons, Reply, Refused, EngineError, Explanation, BuildState, Report, Action, Sync, TreeState, FollowsDepfile, FollowsStamps, Stamps, History, LastRecord, NoneBroken, last_record, Step, changed_since, found, suspect_since, IsAbortedSync, suspect_since-changed_since, Request, Ending, reply_status, None, state_of, reports, no_count, BatchReportsChanges, Continues, Runs, ProgramReportsChanges, StepsReportChanges, ReportsAfter, ReportsBuild, ReportsCauses, ReportsChange, rules, Call, call_in, call_of, calls_of, reply_to}
+use Rattle.ks_engine.specs.declared.conventions.RecordOptions.{RecordOptions}
+use Rattle.ks_engine.specs.Follows.{FollowsRecordUnder}
+use Rattle.ks_engine.specs.Recorded.{usual_with}
 use Rattle.ks_engine.proofs.Querying.{build_evaluated, stale_evaluated}
 use Rattle.ks_engine.proofs.Explanations.{explanation_evaluated}
 use Rattle.ks_engine.proofs.Predicting.{impact_evaluated}
@@ -26,9 +29,9 @@ none_before_stamps dialect stamps.Touched source answer old new is none = (goes_
 none_before_stamps dialect stamps.Declared (FromKconfig k d) answer old new is none = (goes_on dialect old (SyncAllStamps k d) (Synced answer) new is).0 none
 none_before_stamps dialect stamps.Declared (FromConf d a b) answer old new is none = (goes_on dialect old (SyncFrom (FromConf d a b)) (Synced answer) new is).0 none
 
-none_before_recorded : (dialect : Dialect) (d t c : List ℕ) (answer : Result RecordAnswer EngineError) (old new : TreeState)
-    → FollowsRecord dialect d t c answer old new → NoneBroken new.history → NoneBroken old.history
-none_before_recorded dialect d t c answer old new is none = (goes_on dialect old (Record d t c) (Recorded answer) new is).0 none
+none_before_recorded : (dialect : Dialect) (options : RecordOptions) (d t c : List ℕ) (answer : Result RecordAnswer EngineError) (old new : TreeState)
+    → FollowsRecordUnder (usual_with options dialect) d t c answer old new → NoneBroken new.history → NoneBroken old.history
+none_before_recorded dialect options d t c answer old new is none = (goes_on dialect old (Record options d t c) (Recorded answer) new is).0 none
 
 none_before_depfile : (dialect : Dialect) (header : Header) (d t c : List ℕ) (answer : Result RecordAnswer EngineError) (old new : TreeState)
     → FollowsDepfile (ruled_by header dialect) d t c answer old new → NoneBroken new.history → NoneBroken old.history

@@ -56,9 +56,9 @@ pub requests_go_on : RequestsGoOn
 requests_go_on dialect (request.Sync c which) ended old new h told shows ends =
     let next = sync_goes_on dialect which c ended old new h shows (ends tt) in
     (next.0, (old.backdated, new.backdated, λ t. next.1), next.2)
-requests_go_on dialect (request.Record d t c after) ended old new h told shows ends =
+requests_go_on dialect (request.Record d t c after options) ended old new h told shows ends =
     let is = ends tt in
-    let next = step_goes_on dialect old (Record (string_bytes d) (string_bytes t) (string_bytes c)) (Recorded is.0) new h shows is.1 in
+    let next = step_goes_on dialect old (Record options (string_bytes d) (string_bytes t) (string_bytes c)) (Recorded is.0) new h shows is.1 in
     (next.0, (old.backdated, new.backdated, λ u. (is.0, next.1, is.2)), next.2)
 requests_go_on dialect (request.Depfile end d t c) ended old new h told shows ends =
     let next = rule_goes_on dialect (option_map (λ p. string_bytes p) end) (string_bytes d) (string_bytes t) (string_bytes c) ended old new h shows (ends tt) in

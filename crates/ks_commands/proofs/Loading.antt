@@ -2,6 +2,7 @@
 use Rattle.ks_commands.proofs.Prelude.{◌≡◌, ◌∙◌, ◌<◌, ◌+◌, ℕ, true, false, List, [], ◌∷◌, ◌++◌, Option, Some, None, IsSome, take, Result, Ok, Err, map, drop, length, get_or, refl, ap, subst, sym, arith, drop-cons, append_assoc, bytes_eq, true≢false, All, map-append, map_more, take_more, All-append, All-cons, All-nil, All-weaker, bytes_decides, Files, SameBut, content, none_some, some_same, EngineError, Action, followed, and_then, Line, given, AreGiven, AreKept, IsKept, action_at, actions_at, line_of, without_files, common_steps, rules}
 use Rattle.std.specs.FinMap as map_of
 use Rattle.ks_engine.specs.Actions as asked
+use Rattle.ks_engine.specs.Recorded.{no_options}
 use Rattle.ks_requests.specs.Script.{Sync, Record, Stale}
 use Rattle.ks_requests.specs.Inputs.{Texts}
 
@@ -70,7 +71,7 @@ kept_action files kept (Sync k d) given are =
     let has_k = some_of _ are.0 in
     let has_d = some_of _ are.1 in
     (asked.Sync has_k.0 has_d.0, sync_action files k d has_k.0 has_d.0 (given k has_k.0 has_k.1) (given d has_d.0 has_d.1))
-kept_action files kept (Record d t c) given are = (asked.Record d t c, refl)
+kept_action files kept (Record d t c) given are = (asked.Record no_options d t c, refl)
 kept_action files kept (Stale t) given are = (asked.Stale t, refl)
 
 are_more : (old new : Files) → ((q : List ℕ) → IsKept old q → IsKept new q) → (line : Line) → AreKept old line → AreKept new line

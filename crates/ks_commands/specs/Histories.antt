@@ -7,7 +7,8 @@ use Rattle.ks_engine.specs.declared.synchronise.Report.{Report}
 use Rattle.ks_engine.specs.Actions.{Action, calls_of}
 use Rattle.ks_engine.specs.Depfile.{FollowsDepfile, ruled_by}
 use Rattle.ks_engine.specs.FileRuns.{FileState}
-use Rattle.ks_engine.specs.Follows.{TreeState, at, IsSame, FollowsRecord, FollowsSync}
+use Rattle.ks_engine.specs.Follows.{TreeState, at, IsSame, FollowsRecordUnder, FollowsSync}
+use Rattle.ks_engine.specs.Recorded.{usual_with}
 use Rattle.ks_engine.specs.Sources.{FromConf, FromKconfig, Source}
 use Rattle.ks_engine.specs.Runs.{Run}
 use Rattle.ks_engine.specs.AllStamps.{FollowsSyncAllStamps}
@@ -43,7 +44,7 @@ abbrev pub by_histories : Dialect → TreeState → TreeState → Effects
 by_histories dialect old new = record (by_files dialect ⊤ (state_of old []) (state_of new [])) {
   same = IsSame old new;
   sync = λ stamps source answer. FollowsStamps stamps source answer old new;
-  recording = λ d t c answer. FollowsRecord dialect d t c answer old new;
+  recording = λ options d t c answer. FollowsRecordUnder (usual_with options dialect) d t c answer old new;
   ruling = λ header d t c answer. FollowsDepfile (ruled_by header dialect) d t c answer old new;
   repair = λ inputs answer. ⊥;
   mark = λ which objects answer. ⊥;

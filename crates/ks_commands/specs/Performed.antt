@@ -6,6 +6,7 @@ use Rattle.ks_symbols.specs.Refusals.{IsRefusal}
 use Rattle.ks_tree.specs.declared.tree.Tree.{Ghosts}
 use Rattle.ks_tree.specs.Files.{Files, HasRisen}
 use Rattle.ks_engine.specs.declared.backdating.BackdateScope.{BackdateScope}
+use Rattle.ks_engine.specs.declared.conventions.RecordOptions.{RecordOptions}
 use Rattle.ks_engine.specs.declared.error.EngineError.{EngineError}
 use Rattle.ks_engine.specs.declared.error.EngineError.TheVariants.{BadPath, OutOfMemory, Device}
 use Rattle.ks_engine.specs.declared.commands.Reply.{Reply}
@@ -23,6 +24,7 @@ use Rattle.ks_engine.specs.Depfile.{ruled_by}
 use Rattle.ks_engine.specs.Explained.{IsExplanationOn}
 use Rattle.ks_engine.specs.Impact.{IsAnswerAfter}
 use Rattle.ks_engine.specs.Marks.{MarksAll, MarksSome}
+use Rattle.ks_engine.specs.Recorded.{usual_with}
 use Rattle.ks_engine.specs.Refusals.{Answers, IsAborted}
 use Rattle.ks_engine.specs.FileRuns.{FileRun, FileState, LeavesDepfile, LeavesRecord, state}
 use Rattle.ks_engine.specs.Sources.{Source, source_in}
@@ -65,7 +67,7 @@ pub record Effects : Type 1 where
   -- all is as before
   pub same : Type 0
   pub sync : Stamps → Source → Result Report EngineError → Type 0
-  pub recording : (depfile target command : List ℕ) → Result RecordAnswer EngineError → Type 0
+  pub recording : RecordOptions → (depfile target command : List ℕ) → Result RecordAnswer EngineError → Type 0
   pub ruling : (header : Header) (depfile target command : List ℕ) → Result RecordAnswer EngineError → Type 0
   pub repair : RepairInputs → Result Repaired EngineError → Type 0
   pub mark : BackdateScope → List (List ℕ) → Result ℕ EngineError → Type 0
@@ -83,8 +85,8 @@ EndsSync files effects stamps c ended =
     × (answer : Result Report EngineError) × effects.sync stamps (source_at effects.dialect c.form t) answer × Answered report_lines answer ended)
 
 -- The engine looks at the arguments of a record itself.
-abbrev pub EndsRecord : Effects → List ℕ → List ℕ → List ℕ → Ending → Type 0
-EndsRecord effects d t c ended = (answer : Result RecordAnswer EngineError) × effects.recording d t c answer × Answered (recorded_line t) answer ended
+abbrev pub EndsRecord : Effects → RecordOptions → List ℕ → List ℕ → List ℕ → Ending → Type 0
+EndsRecord effects options d t c ended = (answer : Result RecordAnswer EngineError) × effects.recording options d t c answer × Answered (recorded_line t) answer ended
 
 -- It is refused for the argument that names the header, or ends as the engine answers for this header.
 abbrev pub EndsDepfile : Effects → Option (List ℕ) → List ℕ → List ℕ → List ℕ → Ending → Type 0
@@ -172,7 +174,7 @@ Ends honest effects old (Preview c o) ended new =
 Ends honest effects old (Diff c report_style) ended new = honest → effects.same × EndsDiff effects.dialect report_style old.files c ended
 Ends honest effects old (Fixdep d t c) ended new =
     honest → effects.same × EndsFixdep effects.dialect old.files (string_bytes d) (string_bytes t) (string_bytes c) ended
-Ends honest effects old (Record d t c after) ended new = honest → EndsRecord effects (string_bytes d) (string_bytes t) (string_bytes c) ended
+Ends honest effects old (Record d t c after options) ended new = honest → EndsRecord effects options (string_bytes d) (string_bytes t) (string_bytes c) ended
 Ends honest effects old (Depfile end d t c) ended new =
     honest → EndsDepfile effects (option_map (λ path. string_bytes path) end) (string_bytes d) (string_bytes t) (string_bytes c) ended
 Ends honest effects old (Repair stamps targets kept) ended new =
@@ -212,7 +214,7 @@ by_files dialect honest old new = record {
   dialect = dialect;
   same = new.files ≡ old.files;
   sync = LeavesStamps old.files new.files;
-  recording = LeavesRecord dialect old.files new.files;
+  recording = λ options. LeavesRecord (usual_with options dialect) old.files new.files;
   ruling = λ header. LeavesDepfile (ruled_by header dialect) old.files new.files;
   repair = LeavesRepair old.files new.files;
   mark = LeavesMarks old.files new.files;

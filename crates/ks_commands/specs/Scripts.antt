@@ -4,6 +4,7 @@ use Rattle.ks_tree.specs.Files.{Files}
 use Rattle.ks_engine.specs.declared.error.EngineError.{EngineError}
 use Rattle.ks_engine.specs.Actions.{Action}
 use Rattle.ks_engine.specs.Actions as asked
+use Rattle.ks_engine.specs.Recorded.{no_options}
 use Rattle.ks_engine.specs.Recording.{followed}
 use Rattle.ks_engine.specs.Refusals.{IsAborted, and_then}
 use Rattle.ks_requests.specs.Script.{Line, Sync, Record, Stale, script_lines}
@@ -21,7 +22,7 @@ without_files line = line
 
 abbrev pub line_of : Action → Line
 line_of (asked.Sync kconfig dotconfig) = Sync [] []
-line_of (asked.Record depfile target command) = Record depfile target command
+line_of (asked.Record options depfile target command) = Record depfile target command
 line_of (asked.Stale target) = Stale target
 line_of action = Stale []
 
@@ -33,7 +34,7 @@ pub record AreSpelled (text : List ℕ) (actions : List Action) : Type 0 where
 -- what a line asks for, with the files at its paths
 abbrev pub action_at : Files → Line → Result Action EngineError
 action_at files (Sync kconfig dotconfig) = and_then (read_texts files kconfig dotconfig) (λ t. Ok (asked.Sync t.kconfig t.dotconfig))
-action_at files (Record depfile target command) = Ok (asked.Record depfile target command)
+action_at files (Record depfile target command) = Ok (asked.Record no_options depfile target command)
 action_at files (Stale target) = Ok (asked.Stale target)
 
 -- the actions of lines in their order, or the first refusal

@@ -15,8 +15,8 @@ ghost use Rattle.ks_commands.specs.Stamps.{LeavesStamps};
 ghost use Rattle.ks_commands.specs.Performed.{EndsDepfile, EndsRecord, EndsSync, by_files};
 
 use ks_engine::{
-    ConfigForm, ConfigTexts, EngineError, Report, record_depfile, record_object, sync,
-    sync_all_stamps,
+    ConfigForm, ConfigTexts, EngineError, RecordOptions, Report, record_depfile,
+    record_object_with, sync, sync_all_stamps,
 };
 use ks_fixdep::Header;
 use ks_requests::{
@@ -92,17 +92,18 @@ pub(crate) fn record_target<T: Tree>(
     alloc: Global,
     tree: &mut T,
     dialect: Dialect,
+    options: RecordOptions,
     depfile: &[u8],
     target: &[u8],
     command: &[u8],
 ) -> Result<Outcome, Refusal>
     ensures done { IfOk result (λ o. o.status ≡ Done) }
-    ensures files { T.is_honest → EndsRecord (by_files dialect T.is_honest (state T.Tree tree.old) (state T.Tree tree.new)) depfile.now target.now command.now result }
+    ensures files { T.is_honest → EndsRecord (by_files dialect T.is_honest (state T.Tree tree.old) (state T.Tree tree.new)) options depfile.now target.now command.now result }
     ensures cause { result ≡ Err (Engine Device) → HasRisen (T.failures tree.old) (T.failures tree.new) }
     ensures memory { result ≡ Err (Engine OutOfMemory) → T.failures tree.new ≡ T.failures tree.old }
     ensures kept { T.backdated tree.new ≡ T.backdated tree.old }
 {
-    let recorded = record_object(alloc, tree, dialect, depfile, target, command)?;
+    let recorded = record_object_with(alloc, tree, options, dialect, depfile, target, command)?;
     Ok(report_recorded(alloc, target, &recorded)?)
 }
 

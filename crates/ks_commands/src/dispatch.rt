@@ -114,9 +114,11 @@ pub(crate) fn outcome<T: Backdating>(
             target,
             command,
             after: _,
+            options,
         } => {
             let (depfile, command) = (depfile.as_bytes(), command.as_bytes());
-            record_target(alloc, tree, dialect, depfile, target.as_bytes(), command)
+            let target = target.as_bytes();
+            record_target(alloc, tree, dialect, *options, depfile, target, command)
         }
         Request::Depfile {
             header,

@@ -174,14 +174,14 @@ names_command header dialect old new d t c answer is =
     let plan = is.recorded.plan in
     let planned = is.recorded.planned in
     let made = made_of under old d t c plan planned.planned in
-    let parts = drafted_of t c made.ps made.g (all_found made) plan made.draft in
+    let parts = drafted_of under t c made.ps made.g (all_found made) plan made.draft in
     record {
       was = made.text;
       was_there = there_some d (content old d) made.text made.at;
       found = made.found;
       scanned = subst (λ ps. scanned_all (rules_for dialect t) old ps ≡ Ok made.found) (all_listed _ _ made.ps made.listed) made.all;
       file = plan.file;
-      written = command_kept is.between new d t _ plan.names plan.names is.free (legal_names under old d t c plan planned) is.rule.leaves ∙ is.recorded.written;
+      written = command_kept is.between new d t _ plan.names plan.names is.free (legal_names under old d t c plan planned) is.rule.leaves ∙ is.recorded.written ∙ ap (λ b. Some b) parts.text;
       names = count_names under old d t c plan planned ∙ parts.names;
     }
 

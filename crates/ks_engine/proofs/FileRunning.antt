@@ -2,11 +2,12 @@
 use Rattle.ks_engine.proofs.Prelude.{FromKconfig, ◌≡◌, ◌∙◌, ℕ, ◌+◌, ◌<◌, List, [], ◌∷◌, ◌++◌, refl, sym, ap, ap₂, subst, Ok, Err, map, take, length, length-map, length-take, get_or, ⊤, take_more, map-append, Action, Dialect, Sync, Record, Call, action, call_of, calls_of, reply_to, Command, CommandReply, Reply, FileState, Files, LeavesFiles, BackdateScope, StepsTo, FileRun, TreeState, at, History, IsEvaluatedReply, FollowsQuery, Leaves, read_in, Run, Shows, reported, arith, common_steps, rules}
 use Rattle.ks_engine.specs.Actions.{SyncFrom, SyncAllStamps, Depfile, Stale, Why, Predicted, Backdate, Outdated, Read, Synced, Recorded, Evaluated, Explained, Built, Found}
 use Rattle.ks_engine.specs.Depfile.{ruled_by}
+use Rattle.ks_engine.specs.Recorded.{usual_with}
 use Rattle.ks_engine.proofs.Querying.{stale_evaluated}
 use Rattle.ks_engine.proofs.DepfileLemmas.{depfile_follows}
 use Rattle.ks_engine.proofs.Explanations.{explanation_evaluated}
 use Rattle.ks_engine.proofs.Following.{sync_follows}
-use Rattle.ks_engine.proofs.RecordSteps.{record_follows}
+use Rattle.ks_engine.proofs.RecordSteps.{record_follows_under}
 use Rattle.ks_engine.proofs.Running.{no_steps, step_first}
 use Rattle.ks_engine.proofs.Stamping.{stamped_follows}
 
@@ -93,10 +94,10 @@ step_goes_on dialect old (SyncAllStamps k d) (Synced (Ok report)) new h shows is
     stamped_follows old.files new.files old.failures new.failures h k d (Ok report) shows is tt
 step_goes_on dialect old (SyncAllStamps k d) (Synced (Err e)) new h shows is =
     stamped_follows old.files new.files old.failures new.failures h k d (Err e) shows tt is
-step_goes_on dialect old (Record d t c) (Recorded (Ok answer)) new h shows is =
-    record_follows dialect old.files new.files old.failures new.failures h d t c (Ok answer) shows is tt
-step_goes_on dialect old (Record d t c) (Recorded (Err e)) new h shows is =
-    record_follows dialect old.files new.files old.failures new.failures h d t c (Err e) shows tt is
+step_goes_on dialect old (Record options d t c) (Recorded (Ok answer)) new h shows is =
+    record_follows_under (usual_with options dialect) old.files new.files old.failures new.failures h d t c (Ok answer) shows is tt
+step_goes_on dialect old (Record options d t c) (Recorded (Err e)) new h shows is =
+    record_follows_under (usual_with options dialect) old.files new.files old.failures new.failures h d t c (Err e) shows tt is
 step_goes_on dialect old (Depfile header d t c) (Recorded (Ok answer)) new h shows is =
     depfile_follows (ruled_by header dialect) old.failures new.failures h d t c (Ok answer) shows is tt
 step_goes_on dialect old (Depfile header d t c) (Recorded (Err e)) new h shows is =

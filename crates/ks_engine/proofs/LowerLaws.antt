@@ -4,6 +4,9 @@ use Rattle.ks_engine.proofs.Prelude.{◌≡◌, ◌≢◌, lines, command_text, 
 pub use Rattle.ks_output.proofs.ReadBack.{generation_reads_back as generation_back, is_accepted as accepted, texts_read_back as texts_back}
 -- a generation that is read fits 64 bits
 pub use Rattle.ks_output.proofs.SmallNumbers.{generation_fits as small_generation}
+-- lines that follow a record change nothing of how it reads
+use Rattle.ks_fixdep.proofs.OwnLineLemmas.{own_lines_read as own_lines_read_by}
+use Rattle.ks_fixdep.specs.OwnLines.{OwnLinesAreFurther}
 -- the names of a record are those found in its prerequisites
 pub use Rattle.ks_fixdep.proofs.DepsLemmas.{record_names as names_of_record}
 
@@ -18,3 +21,7 @@ read_fits text f reads = lines-fit f (lines text) reads
 -- a command file that is written reads back
 pub written_reads : ReadsBack
 written_reads f legal = lines-read f (lines (command_text f)) (written-reads reads_back f legal)
+
+-- and it does with the lines behind it that a build asks for
+pub own_lines_read : OwnLinesAreFurther
+own_lines_read = own_lines_read_by reads_back

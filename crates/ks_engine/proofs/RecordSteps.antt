@@ -1,9 +1,12 @@
 -- A record goes on with each history that the files show.
-use Rattle.ks_engine.proofs.Prelude.{names_of, there, ◌≡◌, ◌⊎◌, inl, inr, ⊎_elim, ℕ, ◌<◌, ◌≤◌, List, [], Some, Result, Ok, Err, IfOk, IfErr, sym, ◌∙◌, ap, refl, length, ltb-false, eqb-false, max_bytes, Conventions, Dialect, Role, rules_for, usual, CommandRecord, command_text, config_names, record_of, Files, content, SameButBoth, auto_path, command_path, command_temporary, EngineError, and_then, History, done, WasSynced, Shows, IsCommandFile, at, FollowsRecord, FollowsRecordUnder, IsRecordEvent, OldAuto, synced_at, last_generation, scanned_all, with_command, RecordPlan, numbered, drafted, record_plan_under, IsRecordPlanUnder, IsRecorded, IsRecordedUnder, IsRecordRefused, IsRecordRefusedUnder, rules}
+use Rattle.ks_engine.proofs.Prelude.{Bool, true, false, subst, IsLegal, Option, None, reading, names_of, there, ◌≡◌, ◌⊎◌, inl, inr, ⊎_elim, ℕ, ◌<◌, ◌≤◌, List, [], Some, Result, Ok, Err, IfOk, IfErr, sym, ◌∙◌, ap, refl, length, ltb-false, eqb-false, max_bytes, Conventions, Dialect, Role, rules_for, CommandRecord, command_text, config_names, record_of, Files, content, SameButBoth, auto_path, command_path, command_temporary, EngineError, and_then, History, done, WasSynced, Shows, IsCommandFile, at, FollowsRecordUnder, IsRecordEvent, OldAuto, synced_at, last_generation, scanned_all, with_command, RecordPlan, numbered, drafted, record_plan_under, IsRecordPlanUnder, IsRecordedUnder, IsRecordRefusedUnder, rules}
 use Rattle.ks_engine.specs.declared.recording.Recorded.{Recorded as Answer}
 use Rattle.ks_engine.specs.Recording.{listed_without}
 use Rattle.ks_engine.proofs.Heart.{synced_or_not}
-use Rattle.ks_engine.proofs.LowerLaws.{names_of_record, written_reads}
+use Rattle.ks_engine.specs.History.{Begun, Synced, Broken, Recorded}
+use Rattle.ks_engine.specs.Recorded.{recorded_at, with_own_lines}
+use Rattle.ks_engine.specs.Shows.{IsAuto}
+use Rattle.ks_engine.proofs.LowerLaws.{names_of_record, own_lines_read, written_reads}
 use Rattle.ks_engine.proofs.Reading.{ok_ok, err_ok}
 use Rattle.ks_engine.proofs.Steps.{auto_read, recorded_shows, unclaimed_shows, untouched_shows}
 
@@ -21,9 +24,9 @@ pub record Made (conventions : Conventions) (files : Files) (d t c : List ℕ) (
   pub found : List (List (List ℕ))
   pub at : there d (content files d) ≡ Ok text
   pub listed : listed_without conventions.header text ≡ Ok ps
-  pub synced : last_generation (content files auto_path) ≡ Ok g
+  pub synced : recorded_at conventions.options.before_sync (content files auto_path) ≡ Ok g
   pub all : scanned_all (rules_for conventions.dialect t) files ps ≡ Ok found
-  pub draft : drafted t c ps g (with_command conventions.scans_command (rules_for conventions.dialect t) c found) ≡ Ok plan
+  pub draft : drafted conventions t c ps g (with_command conventions.scans_command (rules_for conventions.dialect t) c found) ≡ Ok plan
 
 -- what is found of it
 abbrev pub all_found : {conventions : Conventions} {files : Files} {d t c : List ℕ} {plan : RecordPlan} → Made conventions files d t c plan → List (List (List ℕ))
@@ -35,15 +38,16 @@ unfolding record_plan_under
 made_of conventions files d t c plan e = search (rules, then_made)
 
 -- the parts of what was drafted
-pub record Drafted (t c : List ℕ) (ps : List (List ℕ × Role)) (g : ℕ) (found : List (List (List ℕ))) (plan : RecordPlan) : Type 0 where
+pub record Drafted (conventions : Conventions) (t c : List ℕ) (ps : List (List ℕ × Role)) (g : ℕ) (found : List (List (List ℕ))) (plan : RecordPlan) : Type 0 where
   pub file : plan.file ≡ numbered (record_of t c ps found) g
   pub generation : plan.generation ≡ g
   pub names : plan.names ≡ names_of found
-  pub small : length (command_text plan.file) ≤ max_bytes
+  pub text : plan.text ≡ with_own_lines conventions.options.adds_own_lines conventions.dialect t plan.names (command_text plan.file)
+  pub small : length plan.text ≤ max_bytes
 
-pub drafted_of : (t c : List ℕ) (ps : List (List ℕ × Role)) (g : ℕ) (found : List (List (List ℕ))) (plan : RecordPlan) → drafted t c ps g found ≡ Ok plan
-    → Drafted t c ps g found plan
-drafted_of t c ps g found plan e = search (rules, err_ok, ok_ok, ltb-false)
+pub drafted_of : (conventions : Conventions) (t c : List ℕ) (ps : List (List ℕ × Role)) (g : ℕ) (found : List (List (List ℕ))) (plan : RecordPlan)
+    → drafted conventions t c ps g found ≡ Ok plan → Drafted conventions t c ps g found plan
+drafted_of conventions t c ps g found plan e = search (rules, err_ok, ok_ok, ltb-false)
 
 -- ---- the names of a plan are those of its command file
 
@@ -51,7 +55,7 @@ pub count_names : (conventions : Conventions) (files : Files) (d t c : List ℕ)
 count_names conventions files d t c plan is =
     let made = made_of conventions files d t c plan is.planned in
     let found = all_found made in
-    let parts = drafted_of t c made.ps made.g found plan made.draft in
+    let parts = drafted_of conventions t c made.ps made.g found plan made.draft in
     ap (λ (f : CommandRecord). config_names f.deps) parts.file ∙ names_of_record made.ps found ∙ sym parts.names
 
 -- ---- the history goes on
@@ -63,23 +67,61 @@ synced_at_shown auto h g same e = search (rules, err_ok, ok_ok, eqb-false)
 plan_synced : (files : Files) (h : History) (g : ℕ) → Shows files h → last_generation (content files auto_path) ≡ Ok g → (g ≡ done h) × (0 < done h)
 plan_synced files h g shows is = search (rules, auto_read, synced_at_shown)
 
+-- as long as there is no auto.conf nothing was synchronised
+none_done : (h : History) → IsAuto h None → done h ≡ 0
+none_done (Begun texts generation stamps) is = is.1
+none_done (Synced title config past) is = absurd cc
+none_done (Broken title config renewed past) is = none_done past is
+none_done (Recorded object command names header past) is = none_done past is
+
+plan_numbered_at : (before_sync : Bool) (files : Files) (h : History) (g : ℕ) (file : Option (List ℕ)) → Shows files h → file ≡ content files auto_path → recorded_at before_sync file ≡ Ok g
+    → (g ≡ done h) × (before_sync ≡ false → 0 < done h)
+plan_numbered_at true files h g None shows at is = (sym (ok_ok 0 g is) ∙ sym (none_done h (subst (IsAuto h) (sym at) shows.auto)), λ plain. absurd cc)
+plan_numbered_at true files h g (Some b) shows at is = let synced = plan_synced files h g shows (ap last_generation (sym at) ∙ is) in (synced.0, λ plain. synced.1)
+plan_numbered_at false files h g file shows at is = let synced = plan_synced files h g shows (ap last_generation (sym at) ∙ is) in (synced.0, λ plain. synced.1)
+
+plan_numbered : (before_sync : Bool) (files : Files) (h : History) (g : ℕ) → Shows files h → recorded_at before_sync (content files auto_path) ≡ Ok g
+    → (g ≡ done h) × (before_sync ≡ false → 0 < done h)
+plan_numbered before_sync files h g shows is = plan_numbered_at before_sync files h g (content files auto_path) shows refl is
+
+-- a command file reads as its record, whatever a build asks for behind it
+text_reads : (adds : Bool) (dialect : Dialect) (f : CommandRecord) (names : List (List ℕ)) → IsLegal f → names ≡ config_names f.deps
+    → reading (with_own_lines adds dialect f.target names (command_text f)) ≡ Ok f
+text_reads false dialect f names legal are = written_reads f legal
+text_reads true dialect f names legal are = rw are (own_lines_read dialect f legal)
+
 -- the command file of a plan says what is recorded
 plan_records : (under : Conventions) (files : Files) (h : History) (d t c header : List ℕ) (plan : RecordPlan) → Shows files h → IsRecordPlanUnder under files d t c plan
-    → (0 < done h) × (plan.generation ≡ done h) × IsCommandFile t (record { command = c; names = plan.names; header = header; past = h }) (command_text plan.file)
+    → (under.options.before_sync ≡ false → 0 < done h) × (plan.generation ≡ done h)
+    × IsCommandFile t (record { command = c; names = plan.names; header = header; past = h }) plan.text
 plan_records under files h d t c header plan shows is =
     let made = made_of under files d t c plan is.planned in
-    let parts = drafted_of t c made.ps made.g (all_found made) plan made.draft in
-    let synced = plan_synced files h made.g shows made.synced in
-    search (rules, written_reads, count_names, parts.file)
+    let parts = drafted_of under t c made.ps made.g (all_found made) plan made.draft in
+    let synced = plan_numbered under.options.before_sync files h made.g shows made.synced in
+    let names = count_names under files d t c plan is in
+    let target = ap (λ (f : CommandRecord). f.target) parts.file in
+    let reads = text_reads under.options.adds_own_lines under.dialect plan.file plan.names is.legal (sym names) in (
+      synced.1,
+      parts.generation ∙ synced.0,
+      record {
+        small = parts.small;
+        file = plan.file;
+        reads = ap reading (parts.text ∙ ap (λ o. with_own_lines under.options.adds_own_lines under.dialect o plan.names (command_text plan.file)) (sym target)) ∙ reads;
+        target = target;
+        command = ap (λ (f : CommandRecord). f.command) parts.file;
+        names = names;
+        generation = ap (λ (f : CommandRecord). f.generation) parts.file ∙ ap (λ g. Some g) synced.0;
+      },
+    )
 
 module _ (under : Conventions) (old new : Files) (m : ℕ) (h : History) (d t c : List ℕ) (shows : Shows old h) where
   -- a command file that was written is the newest event, unless the history has no synchronisation yet
-  added : (plan : RecordPlan) → IsRecordPlanUnder under old d t c plan → content new (command_path t) ≡ Some (command_text plan.file)
+  added : (plan : RecordPlan) → IsRecordPlanUnder under old d t c plan → content new (command_path t) ≡ Some plan.text
       → SameButBoth (command_temporary t) (command_path t) old new
       → (next : History) × ((WasSynced h × IsRecordEvent (at old m h) t c plan.names next) ⊎ ((WasSynced h → ⊥) × (next ≡ h))) × Shows new next
   added plan is written others = ⊎_elim
       (λ some. let header = shows.header some in
-      let shown = recorded_shows old new h t c plan.names header.0 (command_text plan.file) shows some header.1 (plan_records under old h d t c header.0 plan shows is).2 written others in
+      let shown = recorded_shows old new h t c plan.names header.0 plan.text shows some header.1 (plan_records under old h d t c header.0 plan shows is).2 written others in
       search rules)
       (λ none. (h, inr (none, refl), unclaimed_shows old new h t shows none others))
       (synced_or_not h)
@@ -98,8 +140,3 @@ record_follows_under under old new m n h d t c (Err e) shows ok (inr (given, inr
     (λ made. let next = added under old new m h d t c shows is.plan is.planned made is.others in
     (next.0, inr (given, inr (is, ⊎_elim (λ event. inr event.1) (λ none. inl none.1) next.1)), next.2))
     is.either
-
-pub record_follows : (dialect : Dialect) (old new : Files) (m n : ℕ) (h : History) (d t c : List ℕ) (r : Result Answer EngineError) → Shows old h
-    → IfOk r (IsRecorded dialect old new d t c) → IfErr r (IsRecordRefused dialect old new d t c)
-    → (next : History) × FollowsRecord dialect d t c r (at old m h) (at new n next) × Shows new next
-record_follows dialect old new m n h d t c r shows ok err = record_follows_under (usual dialect) old new m n h d t c r shows ok err

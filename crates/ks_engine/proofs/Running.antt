@@ -19,8 +19,8 @@ goes_on dialect old (SyncFrom s) (Synced (Ok report)) new is = search rules
 goes_on dialect old (SyncFrom s) (Synced (Err e)) new is = search rules
 goes_on dialect old (SyncAllStamps k d) (Synced (Ok report)) new is = search rules
 goes_on dialect old (SyncAllStamps k d) (Synced (Err e)) new is = search rules
-goes_on dialect old (Record d o c) (Recorded (Ok answer)) new is = search rules
-goes_on dialect old (Record d o c) (Recorded (Err e)) new is = search rules
+goes_on dialect old (Record options d o c) (Recorded (Ok answer)) new is = search rules
+goes_on dialect old (Record options d o c) (Recorded (Err e)) new is = search rules
 goes_on dialect old (Depfile header d o c) (Recorded (Ok answer)) new is = search rules
 goes_on dialect old (Depfile header d o c) (Recorded (Err e)) new is = search rules
 goes_on dialect old a r new is = search rules
@@ -61,7 +61,7 @@ reported : (dialect : Dialect) (old : TreeState) (a : Action) (r : Reply) (new :
 reported dialect old (Sync k d) (Synced r) new is = (tt, λ none. tt, tt)
 reported dialect old (SyncFrom s) (Synced r) new is = (tt, λ none. tt, tt)
 reported dialect old (SyncAllStamps k d) (Synced r) new is = (tt, λ none. tt, tt)
-reported dialect old (Record d t c) (Recorded r) new is = (tt, λ none. tt, tt)
+reported dialect old (Record options d t c) (Recorded r) new is = (tt, λ none. tt, tt)
 reported dialect old (Depfile header d t c) (Recorded r) new is = (tt, λ none. tt, tt)
 reported dialect old a r new is = says old a r is.recorded
 

@@ -3,9 +3,11 @@ use Rattle.std.specs.Prelude.{ℕ, List, [], ◌∷◌, Option, Some, None, Resu
 use Rattle.ks_symbols.specs.Dialects.{KconfigText}
 use Rattle.ks_fixdep.specs.declared.dependency_file.Header.{Header}
 use Rattle.ks_fixdep.specs.CommandFile.{CommandRecord}
+use Rattle.ks_engine.specs.Recorded.{no_options}
 use Rattle.ks_engine.specs.Sources.{Source}
 use Rattle.ks_engine.specs.declared.backdating.BackdateScope.{BackdateScope}
 use Rattle.ks_engine.specs.declared.commands.Command.{Command}
+use Rattle.ks_engine.specs.declared.conventions.RecordOptions.{RecordOptions}
 use Rattle.ks_engine.specs.declared.commands.Command.TheVariants as command
 use Rattle.ks_engine.specs.declared.commands.Reply.{Reply as CommandReply}
 use Rattle.ks_engine.specs.declared.commands.Reply.TheVariants as reply
@@ -22,7 +24,7 @@ pub data Action : Type 0 where
   SyncFrom : Source → Action
   -- and the missing stamps of all declared symbols are made
   SyncAllStamps : (kconfig : KconfigText) (dotconfig : List ℕ) → Action
-  Record : (depfile target command : List ℕ) → Action
+  Record : RecordOptions → (depfile target command : List ℕ) → Action
   -- and the dependency file becomes one rule
   Depfile : Header → (depfile target command : List ℕ) → Action
   Stale : (target : List ℕ) → Action
@@ -66,13 +68,13 @@ error_of (Found r) = error_in r
 -- the action of a command, without where its bytes lie
 abbrev pub action : Command → Action
 action (command.Sync kconfig dotconfig) = Sync kconfig.now dotconfig.now
-action (command.Record depfile target args) = Record depfile.now target.now args.now
+action (command.Record depfile target args) = Record no_options depfile.now target.now args.now
 action (command.Stale target) = Stale target.now
 
 -- the reply to it
 abbrev pub reply_to : Action → CommandReply → Reply
 reply_to (Sync kconfig dotconfig) (reply.Refused e) = Synced (Err e)
-reply_to (Record depfile target command) (reply.Refused e) = Recorded (Err e)
+reply_to (Record options depfile target command) (reply.Refused e) = Recorded (Err e)
 reply_to action (reply.Refused e) = Evaluated (Err e)
 reply_to action (reply.Synced report) = Synced (Ok report)
 reply_to action (reply.Recorded answer) = Recorded (Ok answer)

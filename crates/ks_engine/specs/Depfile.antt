@@ -19,7 +19,7 @@ use Rattle.ks_engine.specs.declared.recording.Recorded.{Recorded as RecordAnswer
 use Rattle.ks_engine.specs.declared.depfile.Ruled.{Ruled}
 use Rattle.ks_engine.specs.Refusals.{IsAborted}
 use Rattle.ks_engine.specs.Recording.{scanned_all}
-use Rattle.ks_engine.specs.Recorded.{RecordPlan, IsRecordedUnder, IsRecordRefusedUnder}
+use Rattle.ks_engine.specs.Recorded.{RecordPlan, IsRecordedUnder, IsRecordRefusedUnder, no_options}
 use Rattle.ks_engine.specs.Drafts.{IsDraft}
 use Rattle.ks_engine.specs.Follows.{TreeState, IsSame, FollowsRecordedUnder, FollowsRecordUnder}
 
@@ -31,7 +31,7 @@ is_own_file path =
 
 -- How an object is read that is recorded so: by this header, and with the words of its command.
 abbrev pub ruled_by : Header → Dialect → Conventions
-ruled_by header dialect = record { header = header; dialect = dialect; scans_command = true }
+ruled_by header dialect = record { header = header; dialect = dialect; scans_command = true; options = no_options }
 
 -- ---- after the record
 

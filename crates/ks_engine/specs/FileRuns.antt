@@ -19,7 +19,7 @@ use Rattle.ks_engine.specs.Costs.{IsRead}
 use Rattle.ks_engine.specs.Depfile.{IsDepfileRecorded, IsDepfileRefused, ruled_by}
 use Rattle.ks_engine.specs.Explained.{IsExplanationOn}
 use Rattle.ks_engine.specs.Impact.{IsAnswerAfter}
-use Rattle.ks_engine.specs.Recorded.{IsRecorded, IsRecordRefused}
+use Rattle.ks_engine.specs.Recorded.{IsRecordedUnder, IsRecordRefusedUnder, usual_with}
 use Rattle.ks_engine.specs.Spelling.{spelling_of}
 use Rattle.ks_engine.specs.AllStamps.{IsStamped, IsStampedRefused}
 use Rattle.ks_engine.specs.Synchronised.{IsSynced, IsSyncRefused}
@@ -34,9 +34,9 @@ abbrev pub LeavesStamped : Files → Files → KconfigText → List ℕ → Resu
 LeavesStamped old new k d (Ok report) = IsStamped old new k d report
 LeavesStamped old new k d (Err e) = IsStampedRefused old new k d e
 
-abbrev pub LeavesRecord : Dialect → Files → Files → List ℕ → List ℕ → List ℕ → Result RecordAnswer EngineError → Type 0
-LeavesRecord dialect old new d t c (Ok answer) = IsRecorded dialect old new d t c answer
-LeavesRecord dialect old new d t c (Err e) = IsRecordRefused dialect old new d t c e
+abbrev pub LeavesRecord : Conventions → Files → Files → List ℕ → List ℕ → List ℕ → Result RecordAnswer EngineError → Type 0
+LeavesRecord conventions old new d t c (Ok answer) = IsRecordedUnder conventions old new d t c answer
+LeavesRecord conventions old new d t c (Err e) = IsRecordRefusedUnder conventions old new d t c e
 
 abbrev pub LeavesDepfile : Conventions → Files → Files → List ℕ → List ℕ → List ℕ → Result RecordAnswer EngineError → Type 0
 LeavesDepfile conventions old new d t c (Ok answer) = IsDepfileRecorded conventions old new d t c answer
@@ -47,7 +47,7 @@ abbrev pub LeavesFiles : Dialect → Files → Action → Reply → Files → Ty
 LeavesFiles dialect old (asked.Sync k d) (asked.Synced r) new = LeavesSync old new (FromKconfig (read_in dialect k) d) r
 LeavesFiles dialect old (asked.SyncFrom source) (asked.Synced r) new = LeavesSync old new source r
 LeavesFiles dialect old (asked.SyncAllStamps k d) (asked.Synced r) new = LeavesStamped old new k d r
-LeavesFiles dialect old (asked.Record d t c) (asked.Recorded r) new = LeavesRecord dialect old new d t c r
+LeavesFiles dialect old (asked.Record options d t c) (asked.Recorded r) new = LeavesRecord (usual_with options dialect) old new d t c r
 LeavesFiles dialect old (asked.Depfile header d t c) (asked.Recorded r) new = LeavesDepfile (ruled_by header dialect) old new d t c r
 LeavesFiles dialect old (asked.Stale o) (asked.Evaluated r) new = (new ≡ old) × IsAnswerOn old o r
 LeavesFiles dialect old (asked.Stale o) (asked.Explained r spelling) new = (new ≡ old) × IsAnswerOn old o (reported r)

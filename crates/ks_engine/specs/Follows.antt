@@ -1,5 +1,5 @@
 -- What each call does to the files of a tree and to its history.
-use Rattle.std.specs.Prelude.{◌≡◌, ◌⊎◌, ℕ, ◌<◌, List, Some, Result, Ok, Err}
+use Rattle.std.specs.Prelude.{◌≡◌, ◌⊎◌, ℕ, ◌<◌, false, List, Some, Result, Ok, Err}
 use Rattle.ks_engine.specs.Sources.{Source}
 use Rattle.ks_symbols.specs.Names.{header_path}
 use Rattle.ks_symbols.specs.declared.dialect.Dialect.{Dialect}
@@ -62,11 +62,12 @@ abbrev pub IsRecordEvent : TreeState → List ℕ → List ℕ → List (List �
 IsRecordEvent old target command names next =
     (header : List ℕ) × (content old.files header_path ≡ Some header) × (next ≡ Recorded target command names header old.history)
 
--- It is recorded under the last generation. Before the first synchronisation of its history it is not claimed: no event is added.
+-- It is recorded under the last generation, or under 0 where a build asks for that before there is any. Before the first synchronisation of
+-- its history it is not claimed: no event is added.
 pub record FollowsRecordedUnder (conventions : Conventions) (old : TreeState) (depfile target command : List ℕ) (answer : RecordAnswer) (new : TreeState) : Type 0 where
   pub files : IsRecordedUnder conventions old.files new.files depfile target command answer
   pub generation : answer.generation ≡ done old.history
-  pub some : 0 < done old.history
+  pub some : conventions.options.before_sync ≡ false → 0 < done old.history
   pub history : (WasSynced old.history × IsRecordEvent old target command files.plan.names new.history)
       ⊎ ((WasSynced old.history → ⊥) × (new.history ≡ old.history))
 

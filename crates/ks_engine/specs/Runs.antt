@@ -11,7 +11,8 @@ use Rattle.ks_engine.specs.Depfile.{FollowsDepfile, ruled_by}
 use Rattle.ks_engine.specs.FileRuns.{LeavesFiles}
 use Rattle.ks_engine.specs.History.{NoneBroken}
 use Rattle.ks_engine.specs.Shows.{Shows}
-use Rattle.ks_engine.specs.Follows.{TreeState, IsSame, FollowsSync, FollowsRecord}
+use Rattle.ks_engine.specs.Follows.{TreeState, IsSame, FollowsSync, FollowsRecordUnder}
+use Rattle.ks_engine.specs.Recorded.{usual_with}
 use Rattle.ks_engine.specs.AllStamps.{FollowsSyncAllStamps}
 use Rattle.ks_engine.specs.Verdicts.{IsEvaluatedReply, IsSuspectVerdict, IsChangedVerdict, IsSafeVerdict, IsAbortedSync}
 
@@ -29,7 +30,7 @@ abbrev pub Leaves : Dialect → TreeState → Action → Reply → TreeState →
 Leaves dialect old (Sync kconfig dotconfig) (Synced r) new = FollowsSync (FromKconfig (read_in dialect kconfig) dotconfig) r old new
 Leaves dialect old (SyncFrom source) (Synced r) new = FollowsSync source r old new
 Leaves dialect old (SyncAllStamps kconfig dotconfig) (Synced r) new = FollowsSyncAllStamps kconfig dotconfig r old new
-Leaves dialect old (Record depfile target command) (Recorded r) new = FollowsRecord dialect depfile target command r old new
+Leaves dialect old (Record options depfile target command) (Recorded r) new = FollowsRecordUnder (usual_with options dialect) depfile target command r old new
 Leaves dialect old (Depfile header depfile target command) (Recorded r) new = FollowsDepfile (ruled_by header dialect) depfile target command r old new
 Leaves dialect old action reply new = FollowsQuery dialect old action reply new
 

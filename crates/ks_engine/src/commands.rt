@@ -9,6 +9,7 @@ ghost use Rattle.ks_engine.specs.Caches.{IsCacheOf};
 ghost use Rattle.ks_engine.specs.Runs.{Run};
 
 use crate::caches::Cache;
+use crate::conventions::{Conventions, NO_OPTIONS};
 use crate::recording::record_by;
 use crate::{ConfigTexts, EngineError, Query, Recorded, Report, Verdict, query_object, sync};
 use ks_symbols::{Dialect, Seed};
@@ -67,10 +68,13 @@ fn answer<T: Tree>(
             depfile,
             target,
             command,
-        } => match record_by(alloc, tree, cache, dialect, depfile, target, command) {
-            Ok(recorded) => Reply::Recorded(recorded),
-            Err(error) => Reply::Refused(error),
-        },
+        } => {
+            let conventions = Conventions::of_record(dialect, NO_OPTIONS);
+            match record_by(alloc, tree, cache, conventions, depfile, target, command) {
+                Ok(recorded) => Reply::Recorded(recorded),
+                Err(error) => Reply::Refused(error),
+            }
+        }
         Command::Stale { target } => match query_object(alloc, tree, cache, Query::Stale, target) {
             Ok(answer) => Reply::Verdict(answer.verdict),
             Err(error) => Reply::Refused(error),

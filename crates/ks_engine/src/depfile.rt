@@ -19,7 +19,7 @@ ghost use Rattle.ks_engine.specs.Depfile.{FollowsDepfile, IsDepfileRecorded, IsD
 
 use crate::EngineError;
 use crate::caches::Cache;
-use crate::conventions::Conventions;
+use crate::conventions::{Conventions, NO_OPTIONS};
 use crate::recording::{Draft, Prepared, Recorded, prepare, write_record};
 use ks_fixdep::{Header, NamesBySource, listed_names, rule_text};
 use ks_symbols::{Dialect, Name, Seed};
@@ -181,6 +181,7 @@ pub fn record_depfile<T: Tree>(
         header,
         dialect,
         scans_command: true,
+        options: NO_OPTIONS,
     };
     let ruled = prepare_rule(alloc, tree, conventions, depfile, target, command)?;
     write_record(alloc, tree, target, &ruled.draft.text)?;

@@ -26,7 +26,7 @@ pub use all_stamps::sync_all_stamps;
 pub use backdating::{BackdateScope, backdate_if_stale};
 pub use caches::Cache;
 pub use commands::{Command, Reply, run};
-pub use conventions::Conventions;
+pub use conventions::{Conventions, RecordOptions};
 pub use costs::{Cost, Costs, borrow_record, read_record};
 pub use depfile::record_depfile;
 pub use error::EngineError;
@@ -43,7 +43,7 @@ pub use planning::{
     plan_config_inputs, read_inputs,
 };
 pub use query::{Limit, Query};
-pub use recording::{Recorded, check_args, record_object};
+pub use recording::{Recorded, check_args, record_object, record_object_with};
 pub use repairing::{Kept, Repaired, repair};
 pub use sources::scan_all;
 pub use staleness::{BuildState, Verdict, outdated, stale};

@@ -1,30 +1,30 @@
 //! Recording an object: the command that builds it, the files that it is made of, and the names in them, under the generation of
 //! the last completed synchronisation. A greater number, as that of a stamp, would hide a synchronisation that was broken off.
-ghost use Rattle.std.specs.Prelude.{◌≡◌, ◌⊎◌, Ok, Err, Some, None, IfOk, IfErr, OnOk, OnErr, IsTrue, IsErrOf, length};
+ghost use Rattle.std.specs.Prelude.{◌≡◌, ◌⊎◌, is_some, Ok, Err, Some, None, IfOk, IfErr, OnOk, OnErr, IsTrue, IsErrOf, length};
 ghost use Rattle.ks_symbols.specs.Names.{is_path, is_target};
 ghost use Rattle.ks_fixdep.specs.CommandFile.{is_command, IsLegal};
 ghost use Rattle.ks_fixdep.specs.FoundNames.{names_of};
 ghost use Rattle.ks_fixdep.specs.SourceScan.{found_of, listed_of, names_by};
 ghost use Rattle.ks_tree.specs.Frames.{Counted, Reads};
 ghost use Rattle.ks_tree.specs.Files.{Files, SameButBoth, content};
-ghost use Rattle.ks_tree.specs.Paths.{command_path, command_temporary};
+ghost use Rattle.ks_tree.specs.Paths.{auto_path, command_path, command_temporary};
 ghost use Rattle.ks_engine.specs.Refusals.{Answers, IsAborted};
 ghost use Rattle.ks_engine.specs.Recording.{args, there, with_command};
-ghost use Rattle.ks_engine.specs.Recorded.{RecordPlan, drafted, usual, record_plan_under, IsRecordPlanUnder, IsRecorded, IsRecordRefused};
-ghost use Rattle.ks_engine.specs.Follows.{GoesOn, FollowsRecord};
+ghost use Rattle.ks_engine.specs.Recorded.{RecordPlan, drafted, recorded_at, usual_with, record_plan_under, with_own_lines, IsRecordPlanUnder, IsRecorded, IsRecordedUnder, IsRecordRefused, IsRecordRefusedUnder};
+ghost use Rattle.ks_engine.specs.Follows.{GoesOn, FollowsRecord, FollowsRecordUnder};
 ghost use Rattle.ks_engine.specs.Caches.{are_placed, IsCacheOf, IsNoSource};
 ghost use Rattle.ks_engine.specs.Drafts.{IsDraft, IsPrepared, drafted_by};
 
 use crate::EngineError;
 use crate::caches::Cache;
-use crate::conventions::Conventions;
+use crate::conventions::{Conventions, NO_OPTIONS, RecordOptions};
 use crate::sources::scan_all_by;
 use ks_fixdep::{
-    Header, NamesBySource, Prerequisites, ScanRules, command_is_legal, read_depfile_without,
-    record_text,
+    NamesBySource, Prerequisites, ScanRules, command_is_legal, listed_names, push_own_lines,
+    read_depfile_without, record_text,
 };
 use ks_symbols::{Dialect, MAX_BYTES, Path, Seed, path_is_legal, target_is_legal};
-use ks_tree::{Tree, command_path, command_temporary, replace};
+use ks_tree::{Tree, auto_path, command_path, command_temporary, replace};
 use std::alloc::{AllocError, Global};
 
 /// What was recorded.
@@ -80,9 +80,30 @@ fn read_there<T: Tree>(alloc: Global, tree: &mut T, path: &[u8]) -> Result<Vec<u
     }
 }
 
+/// Adds the lines that follow a record, where they are asked for. In Linux no name stands in them.
+fn add_own_lines(
+    alloc: Global,
+    conventions: Conventions<'_>,
+    target: &[u8],
+    found: &NamesBySource,
+    text: &mut Vec<u8>,
+) -> Result<(), AllocError>
+    ensures { OnOk result (text.new.items ≡ with_own_lines conventions.entry.options.adds_own_lines conventions.entry.dialect target.now (listed_of found.now) text.old.items) }
+{
+    if !conventions.options.adds_own_lines {
+        return Ok(());
+    }
+    let names = match conventions.dialect {
+        Dialect::Linux => Vec::new(alloc),
+        _ => listed_names(alloc, found)?,
+    };
+    push_own_lines(text, conventions.dialect, target, &names)
+}
+
 /// The command file that is to be written, before it is.
 fn make_draft(
     alloc: Global,
+    conventions: Conventions<'_>,
     target: &[u8],
     command: &[u8],
     prerequisites: &Prerequisites,
@@ -93,14 +114,15 @@ fn make_draft(
     requires command { IsTrue (is_command command.now) }
     ensures no_device { IsErrOf result EngineError.Device → ⊥ }
     ensures drafted { IfOk result (λ d. (plan : RecordPlan)
-        × (drafted target.now command.now prerequisites.now generation (names_by found.old) ≡ Ok plan) × IsLegal plan.file × IsDraft plan d) }
-    ensures refused { IfErr result (λ e. IsAborted e ⊎ (drafted target.now command.now prerequisites.now generation (names_by found.old) ≡ Err e)) }
+        × (drafted conventions.entry target.now command.now prerequisites.now generation (names_by found.old) ≡ Ok plan) × IsLegal plan.file × IsDraft plan d) }
+    ensures refused { IfErr result (λ e. IsAborted e ⊎ (drafted conventions.entry target.now command.now prerequisites.now generation (names_by found.old) ≡ Err e)) }
     ensures listed { OnOk result (listed_of found.new ≡ names_of (names_by found.old)) }
     ensures scan { found.new.scan ≡ found.old.scan }
     ensures sources { found.new.sources ≡ found.old.sources }
 {
     let numbered = Some(generation);
-    let written = record_text(alloc, target, command, prerequisites, found, numbered)?;
+    let mut written = record_text(alloc, target, command, prerequisites, found, numbered)?;
+    add_own_lines(alloc, conventions, target, found, &mut written.text)?;
     if written.text.len() > MAX_BYTES {
         return Err(EngineError::TooLarge);
     }
@@ -126,12 +148,44 @@ fn scan_command_by(cache: &mut Cache, scans_command: bool, command: &[u8]) -> Re
     Ok(())
 }
 
+/// Whether there is an auto.conf.
+fn has_auto<T: Tree>(alloc: Global, tree: &mut T) -> Result<bool, EngineError>
+    ensures reads { Reads T.Tree tree.old tree.new (IsErrOf result EngineError.Device) }
+    ensures passed { OnOk result (T.failures tree.new ≡ T.failures tree.old) }
+    ensures uncounted { IsErrOf result EngineError.OutOfMemory → T.failures tree.new ≡ T.failures tree.old }
+    ensures given { IfErr result IsAborted }
+    ensures found { T.is_honest → IfOk result (λ has. has ≡ is_some (content (T.files tree.old) auto_path)) }
+{
+    Ok(tree.read_at(alloc, auto_path(), 0, &mut [0; 1])?.is_some())
+}
+
+/// The generation under which an object is recorded.
+fn generation_by<T: Tree>(
+    alloc: Global,
+    tree: &mut T,
+    cache: &mut Cache,
+    before_sync: bool,
+) -> Result<u64, EngineError>
+    requires cache { T.is_honest → IsCacheOf (T.files tree.old) cache.old }
+    ensures reads { Reads T.Tree tree.old tree.new (IsErrOf result EngineError.Device) }
+    ensures passed { OnOk result (T.failures tree.new ≡ T.failures tree.old) }
+    ensures uncounted { IsErrOf result EngineError.OutOfMemory → T.failures tree.new ≡ T.failures tree.old }
+    ensures cache { T.is_honest → IsCacheOf (T.files tree.new) cache.new }
+    ensures rules { cache.new.rules ≡ cache.old.rules }
+    ensures read { T.is_honest → Answers (recorded_at before_sync (content (T.files tree.old) auto_path)) (λ g. g) result }
+{
+    if before_sync && !has_auto(alloc, tree)? {
+        return Ok(0);
+    }
+    cache.generation(alloc, tree)
+}
+
 /// Drafts the command file of an object that has these prerequisites, by the rules of what is kept.
 fn draft_by<T: Tree>(
     alloc: Global,
     tree: &mut T,
     cache: &mut Cache,
-    scans_command: bool,
+    conventions: Conventions<'_>,
     target: &[u8],
     command: &[u8],
     prerequisites: &Prerequisites,
@@ -144,16 +198,17 @@ fn draft_by<T: Tree>(
     ensures passed { OnOk result (T.failures tree.new ≡ T.failures tree.old) }
     ensures uncounted { IsErrOf result EngineError.OutOfMemory → T.failures tree.new ≡ T.failures tree.old }
     ensures drafted { T.is_honest → IfOk result (λ d. (plan : RecordPlan)
-        × (drafted_by cache.old.rules scans_command (T.files tree.old) target.now command.now prerequisites.now ≡ Ok plan) × IsLegal plan.file
+        × (drafted_by cache.old.rules conventions.entry (T.files tree.old) target.now command.now prerequisites.now ≡ Ok plan) × IsLegal plan.file
         × IsDraft plan d × (plan.names ≡ listed_of cache.new.found)) }
     ensures refused { T.is_honest → IfErr result (λ e. IsAborted e
-        ⊎ (drafted_by cache.old.rules scans_command (T.files tree.old) target.now command.now prerequisites.now ≡ Err e)) }
+        ⊎ (drafted_by cache.old.rules conventions.entry (T.files tree.old) target.now command.now prerequisites.now ≡ Err e)) }
 {
-    let generation = cache.generation(alloc, tree)?;
+    let generation = generation_by(alloc, tree, cache, conventions.options.before_sync)?;
     scan_all_by(alloc, tree, cache, prerequisites)?;
-    scan_command_by(cache, scans_command, command)?;
+    scan_command_by(cache, conventions.scans_command, command)?;
     make_draft(
         alloc,
+        conventions,
         target,
         command,
         prerequisites,
@@ -192,7 +247,7 @@ pub(crate) fn prepare<T: Tree>(
         alloc,
         tree,
         cache,
-        conventions.scans_command,
+        conventions,
         target,
         command,
         &prerequisites,
@@ -248,29 +303,58 @@ pub(crate) fn record_by<T: Tree>(
     alloc: Global,
     tree: &mut T,
     cache: &mut Cache,
-    dialect: Dialect,
+    conventions: Conventions<'_>,
     depfile: &[u8],
     target: &[u8],
     command: &[u8],
 ) -> Result<Recorded, EngineError>
     requires cache { T.is_honest → IsCacheOf (T.files tree.old) cache.old }
     ensures cache { T.is_honest → IsCacheOf (T.files tree.new) cache.new }
-    ensures recorded { T.is_honest → IfOk result (IsRecorded dialect (T.files tree.old) (T.files tree.new) depfile.now target.now command.now) }
-    ensures refused { T.is_honest → IfErr result (IsRecordRefused dialect (T.files tree.old) (T.files tree.new) depfile.now target.now command.now) }
+    ensures recorded { T.is_honest → IfOk result (IsRecordedUnder conventions.entry (T.files tree.old) (T.files tree.new) depfile.now target.now command.now) }
+    ensures refused { T.is_honest → IfErr result (IsRecordRefusedUnder conventions.entry (T.files tree.old) (T.files tree.new) depfile.now target.now command.now) }
     ensures counted { Counted T.Tree tree.old tree.new (IsErrOf result EngineError.Device) }
     ensures passed { OnOk result (T.failures tree.new ≡ T.failures tree.old) }
     ensures uncounted { IsErrOf result EngineError.OutOfMemory → T.failures tree.new ≡ T.failures tree.old }
     ensures kept { T.backdated tree.new ≡ T.backdated tree.old }
 {
-    let conventions = Conventions {
-        header: Header::usual(dialect),
-        dialect,
-        scans_command: false,
-    };
     let prepared = prepare(alloc, tree, cache, conventions, depfile, target, command)?;
     forget_record(alloc, cache, target)?;
     write_record(alloc, tree, target, &prepared.draft.text)?;
     Ok(prepared.draft.answer)
+}
+
+/// Records an object as `record_object` does, with these options.
+pub fn record_object_with<T: Tree>(
+    alloc: Global,
+    tree: &mut T,
+    options: RecordOptions,
+    dialect: Dialect,
+    depfile: &[u8],
+    target: &[u8],
+    command: &[u8],
+) -> Result<Recorded, EngineError>
+    // By the files: the command file is written and all else is as before, or it was refused, or given up at the write.
+    ensures recorded { T.is_honest → IfOk result (IsRecordedUnder (usual_with options dialect) (T.files tree.old) (T.files tree.new) depfile.now target.now command.now) }
+    ensures refused { T.is_honest → IfErr result (IsRecordRefusedUnder (usual_with options dialect) (T.files tree.old) (T.files tree.new) depfile.now target.now command.now) }
+    // By histories: each one that the files show goes on with this answer, and the files show the next one.
+    ensures follows { GoesOn T.Tree tree.old tree.new (FollowsRecordUnder (usual_with options dialect) depfile.now target.now command.now result) }
+    // The device is to blame only where the tree counted a failure.
+    ensures counted { Counted T.Tree tree.old tree.new (IsErrOf result EngineError.Device) }
+    ensures passed { OnOk result (T.failures tree.new ≡ T.failures tree.old) }
+    ensures uncounted { IsErrOf result EngineError.OutOfMemory → T.failures tree.new ≡ T.failures tree.old }
+    ensures kept { T.backdated tree.new ≡ T.backdated tree.old }
+{
+    let mut cache = Cache::of_one_object(alloc, Seed::new(tree.seed()));
+    let conventions = Conventions::of_record(dialect, options);
+    record_by(
+        alloc,
+        tree,
+        &mut cache,
+        conventions,
+        depfile,
+        target,
+        command,
+    )
 }
 
 /// Records an object: by which command it is built, and what the files of its dependency file name. The header at this time is
@@ -294,6 +378,5 @@ pub fn record_object<T: Tree>(
     ensures uncounted { IsErrOf result EngineError.OutOfMemory → T.failures tree.new ≡ T.failures tree.old }
     ensures kept { T.backdated tree.new ≡ T.backdated tree.old }
 {
-    let mut cache = Cache::of_one_object(alloc, Seed::new(tree.seed()));
-    record_by(alloc, tree, &mut cache, dialect, depfile, target, command)
+    record_object_with(alloc, tree, NO_OPTIONS, dialect, depfile, target, command)
 }

@@ -1,6 +1,7 @@
 -- A record goes by the files at the paths that it reads.
-use Rattle.ks_parallel.proofs.Prelude.{◌≡◌, ◌≢◌, ◌⊎◌, inl, inr, ⊎_elim, ℕ, List, [], ◌∷◌, true, false, Option, Some, None, Result, Ok, Err, sym, ◌∙◌, ap, refl, subst, map, cases_Bool, both_ways, or_left, or_right, or_cases, bytes_eq-Decides, is_in, is_name, IsTrue, DepError, Role, ScanRules, rules_for, Conventions, Files, content, kept_or, auto_path, command_path, command_temporary, stamp_path, temporary, EngineError, and_then, last_generation, args, there, listed_unless, scanned_all, record_plan_under, IsRecordedUnder, RuleLeaves, legal_names, RecordsGoByWhatTheyRead, RecordsWriteTwoPaths, DepfilesWriteTheirPaths, IsMadeStamp, is_stamp_of, rules}
+use Rattle.ks_parallel.proofs.Prelude.{◌≡◌, ◌≢◌, ◌⊎◌, inl, inr, ⊎_elim, ℕ, List, [], ◌∷◌, true, false, Option, Some, None, Result, Ok, Err, sym, ◌∙◌, ap, refl, subst, map, cases_Bool, both_ways, or_left, or_right, or_cases, bytes_eq-Decides, is_in, is_name, IsTrue, DepError, Role, ScanRules, rules_for, Conventions, Files, content, kept_or, auto_path, command_path, command_temporary, stamp_path, temporary, EngineError, and_then, args, there, listed_unless, scanned_all, record_plan_under, IsRecordedUnder, RuleLeaves, legal_names, RecordsGoByWhatTheyRead, RecordsWriteTwoPaths, DepfilesWriteTheirPaths, IsMadeStamp, is_stamp_of, rules}
 use Rattle.ks_engine.specs.declared.recording.Recorded.{Recorded}
+use Rattle.ks_engine.specs.Recorded.{recorded_at}
 use Rattle.ks_engine.specs.Recording.{listed_without}
 use Rattle.ks_parallel.proofs.Stamping.{is_stamp}
 
@@ -32,13 +33,13 @@ records_go_by_what_they_read by f g d t c same =
     then_same (args d t c) _ _ (λ _ _.
     rw (depfile, auto) (then_same (there d (content f d)) _ _ (λ text at.
     then_same (listed_without by.header text) _ _ (λ ps is.
-    then_same (last_generation (content f auto_path)) _ _ (λ n _.
+    then_same (recorded_at by.options.before_sync (content f auto_path)) _ _ (λ n _.
     let scans = same_scans (rules_for by.dialect t) f g ps in
     search (rules, scans, or_right, (there_some d (content f d) text at), (prerequisites_of _ _ ps is)))))))
 
 pub records_write_two_paths : RecordsWriteTwoPaths
-records_write_two_paths dialect old new d t c (Ok answer) is = is.others
-records_write_two_paths dialect old new d t c (Err e) is = search rules
+records_write_two_paths conventions old new d t c (Ok answer) is = is.others
+records_write_two_paths conventions old new d t c (Err e) is = search rules
 
 -- ---- the paths of a record that goes by its dependency file
 

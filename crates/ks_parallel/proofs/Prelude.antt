@@ -6,7 +6,7 @@ pub use Rattle.ks_tree.proofs.Prelude.{Header, IsMoved}
 pub use Rattle.ks_compare.proofs.Prelude.{eq-eqb}
 pub use Rattle.std.proofs.Common.{filter, decimal}
 pub use Rattle.ks_engine.proofs.OtherRecords.{others_do_not_matter}
-pub use Rattle.ks_engine.proofs.RecordSteps.{record_follows}
+pub use Rattle.ks_engine.proofs.RecordSteps.{record_follows_under}
 pub use Rattle.ks_engine.proofs.Steps.{untouched_shows, same_shows}
 pub use Rattle.ks_engine.specs.Recording.{listed}
 pub use Rattle.ks_engine.specs.declared.conventions.Conventions.{Conventions}

@@ -1,5 +1,5 @@
 -- Each process alone shows its record after what its command does, so all together show each shuffle of them.
-use Rattle.ks_parallel.proofs.Prelude.{◌≡◌, inl, inr, ⊎_elim, ℕ, zero, suc, ◌+◌, ◌<◌, ◌≤◌, List, [], ◌∷◌, Bool, true, Some, Result, Ok, Err, length, get_or, sym, ◌∙◌, ap, refl, arith, cases_lt, or_left, or_right, and_from, eq-eqb, bytes_eq-Decides, header_path, Files, content, History, Shows, at, depfile_follows, record_follows, Conventions, Dialect, IsRecordEvent, IsRecordOf, LeavesBy, Way, get_or_default, own, view, is_own_job, is_others_job, without, RecordEvent, with_records, IsOfJob, Act, after_acts, Process, targets_from, targets_of, RunsApart, RunsSideBySide, AddsBy, rules}
+use Rattle.ks_parallel.proofs.Prelude.{◌≡◌, inl, inr, ⊎_elim, ℕ, zero, suc, ◌+◌, ◌<◌, ◌≤◌, List, [], ◌∷◌, Bool, true, Some, Result, Ok, Err, length, get_or, sym, ◌∙◌, ap, refl, arith, cases_lt, or_left, or_right, and_from, eq-eqb, bytes_eq-Decides, header_path, Files, content, History, Shows, at, depfile_follows, record_follows_under, Conventions, IsRecordEvent, IsRecordOf, LeavesBy, Way, get_or_default, own, view, is_own_job, is_others_job, without, RecordEvent, with_records, IsOfJob, Act, after_acts, Process, targets_from, targets_of, RunsApart, RunsSideBySide, AddsBy, rules}
 use Rattle.ks_parallel.specs.Runs.{Recording, Ruling}
 use Rattle.ks_engine.specs.declared.error.EngineError.{EngineError}
 use Rattle.ks_engine.specs.declared.recording.Recorded.{Recorded}
@@ -27,17 +27,17 @@ record IsAdded (files now : Files) (h : History) (o c : List ℕ) (answer : Resu
   shows : Shows now (with_records h es)
 
 module _ (files now : Files) (h : History) (shows : Shows files h) where
-  recorded : (dialect : Dialect) (d t c : List ℕ) (answer : Result Recorded EngineError) → LeavesBy (Recording dialect) files now d t c answer
+  recorded : (conventions : Conventions) (d t c : List ℕ) (answer : Result Recorded EngineError) → LeavesBy (Recording conventions) files now d t c answer
       → IsAdded files now h t c answer
-  recorded dialect d t c (Ok answer) leaves =
-      let next = record_follows dialect files now 0 0 h d t c (Ok answer) shows leaves tt in
+  recorded conventions d t c (Ok answer) leaves =
+      let next = record_follows_under conventions files now 0 0 h d t c (Ok answer) shows leaves tt in
       ⊎_elim
       (λ some. let e = event files 0 h next.0 t c next.1.files.plan.names some.1 in
       record { es = e.0 ∷ []; adds = inl (some.0, (e.0, refl, e.2, next.1.files.names ∙ ap length (sym e.3))); shows = rw e.1 at next.2 })
       (λ none. record { es = []; adds = inr (none.0, refl); shows = rw none.1 at next.2 })
       next.1.history
-  recorded dialect d t c (Err fault) leaves =
-      let next = record_follows dialect files now 0 0 h d t c (Err fault) shows tt leaves in
+  recorded conventions d t c (Err fault) leaves =
+      let next = record_follows_under conventions files now 0 0 h d t c (Err fault) shows tt leaves in
       let unchanged : next.0 ≡ h → IsAdded files now h t c (Err fault) = λ same. record { es = []; adds = inl refl; shows = rw same at next.2 } in
       ⊎_elim
       (λ plain. unchanged plain.1.1)
@@ -81,7 +81,7 @@ module _ (files now : Files) (h : History) (shows : Shows files h) where
       next.1
 
   added_alone : (way : Way) (d t c : List ℕ) (answer : Result Recorded EngineError) → LeavesBy way files now d t c answer → IsAdded files now h t c answer
-  added_alone (Recording dialect) d t c answer leaves = recorded dialect d t c answer leaves
+  added_alone (Recording conventions) d t c answer leaves = recorded conventions d t c answer leaves
   added_alone (Ruling conventions) d t c answer leaves = ruled conventions d t c answer leaves
 
 -- ---- all of them

@@ -3,7 +3,6 @@ use Rattle.std.specs.Prelude.{◌≡◌, ◌≢◌, ◌⊎◌, ℕ, List, [], �
 use Rattle.ks_symbols.specs.Names.{is_in, is_name}
 use Rattle.ks_fixdep.specs.DependencyFile.{prerequisites_without}
 use Rattle.ks_fixdep.specs.declared.dependency_file.Header.{Header}
-use Rattle.ks_symbols.specs.declared.dialect.Dialect.{Dialect}
 use Rattle.ks_tree.specs.Files.{Files, content, SameButBoth}
 use Rattle.ks_tree.specs.Paths.{auto_path, command_path, command_temporary, stamp_path, temporary}
 use Rattle.ks_engine.specs.declared.conventions.Conventions.{Conventions}
@@ -31,7 +30,7 @@ RecordsGoByWhatTheyRead =
 -- A record, done or refused or given up, leaves each path but its command file and that one's temporary file.
 abbrev pub RecordsWriteTwoPaths : Type 0
 RecordsWriteTwoPaths =
-    (dialect : Dialect) (old new : Files) (depfile target command : List ℕ) (answer : Result Recorded EngineError) → LeavesRecord dialect old new depfile target command answer
+    (conventions : Conventions) (old new : Files) (depfile target command : List ℕ) (answer : Result Recorded EngineError) → LeavesRecord conventions old new depfile target command answer
     → SameButBoth (command_temporary target) (command_path target) old new
 
 -- the stamp of a name, which was missing and is empty

@@ -1,6 +1,5 @@
 -- Runs of `record` and of `depfile` by several processes, in any order of their calls: what each of them alone is promised to leave, all of them leave.
 use Rattle.std.specs.Prelude.{◌≡◌, ◌⊎◌, ℕ, ◌+◌, ◌<◌, ◌≤◌, List, [], ◌∷◌, Bool, true, Some, Result, Ok, Err, length, get_or, IsTrue}
-use Rattle.ks_symbols.specs.declared.dialect.Dialect.{Dialect}
 use Rattle.ks_symbols.specs.Names.{is_in, is_name, header_path}
 use Rattle.ks_tree.specs.Files.{Files, content}
 use Rattle.ks_engine.specs.declared.conventions.Conventions.{Conventions}
@@ -18,7 +17,7 @@ use Rattle.ks_parallel.specs.Stamping.{Act, AllActsFind, MakeStampsApart, after_
 
 -- which of the two commands is run, and how it reads the sources
 pub data Way : Type 0 where
-  Recording : (dialect : Dialect) → Way
+  Recording : (conventions : Conventions) → Way
   Ruling : (conventions : Conventions) → Way
 
 -- one process: its command with its arguments, and what it answered
@@ -31,7 +30,7 @@ pub record Process : Type 0 where
 
 -- what its command is promised to leave of some files by its answer: done, refused or given up
 abbrev pub LeavesBy : Way → Files → Files → List ℕ → List ℕ → List ℕ → Result Recorded EngineError → Type 0
-LeavesBy (Recording dialect) old new d t c answer = LeavesRecord dialect old new d t c answer
+LeavesBy (Recording conventions) old new d t c answer = LeavesRecord conventions old new d t c answer
 LeavesBy (Ruling conventions) old new d t c answer = LeavesDepfile conventions old new d t c answer
 
 abbrev pub LeavesRun : Files → Files → Process → Type 0

@@ -98,7 +98,7 @@ count_line (Some (count.Users users all)) = decimal users ++ counted (codes " of
 -- the line of an action with its reply
 unfoldable pub reply_line : Action → Reply → List ℕ
 reply_line (Sync kconfig dotconfig) (Synced report) = synced_line report
-reply_line (Record depfile target command) (Recorded answer) = recorded_line target answer
+reply_line (Record options depfile target command) (Recorded answer) = recorded_line target answer
 reply_line (Stale target) (Verdict v) = verdict_line target v
 reply_line (Stale target) (Refused e) = refused_target_line target e
 reply_line _ (Refused e) = refused_line e

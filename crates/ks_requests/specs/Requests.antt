@@ -36,6 +36,6 @@ IsOneStep (Sync config stamps) = ⊤
 IsOneStep (Preview config old) = ⊤
 IsOneStep (Diff config report_style) = ⊤
 IsOneStep (Fixdep depfile target command) = ⊤
-IsOneStep (Record depfile target command after) = ⊤
+IsOneStep (Record depfile target command after options) = ⊤
 IsOneStep (Depfile header depfile target command) = ⊤
 IsOneStep _ = ⊥

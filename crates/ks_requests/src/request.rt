@@ -1,6 +1,6 @@
 //! What the program can be asked to do.
 use crate::report_style::ReportStyle;
-use ks_engine::{BackdateScope, ConfigForm};
+use ks_engine::{BackdateScope, ConfigForm, RecordOptions};
 
 /// The objects that a question is about: those among the arguments, and after them those of a file, one a line.
 #[derive(Debug, Drop)]
@@ -90,6 +90,7 @@ pub enum Request {
         target: String,
         command: String,
         after: DepfileAfter,
+        options: RecordOptions,
     },
     /// Record an object for a build that goes by its dependency file, which gets the stamps of the names that were found in the
     /// place of the header. The header is named by the end of its path, or it is the usual one.

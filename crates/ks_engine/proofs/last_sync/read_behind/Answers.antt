@@ -1,4 +1,3 @@
-use Rattle.ks_engine.proofs.Prelude.{rules}
 use Rattle.std.proofs.lemmas.List.{take_rest}
 use Rattle.ks_engine.proofs.Pieces.{behind}
 use Rattle.ks_engine.proofs.last_sync.read_behind.Goals as goal

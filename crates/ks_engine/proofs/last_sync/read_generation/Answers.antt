@@ -1,4 +1,4 @@
-use Rattle.ks_engine.proofs.Prelude.{◌≡◌, ◌<◌, ◌≤◌, ◌+◌, ◌-◌, ◌++◌, List, ℕ, Some, Err, inl, inr, refl, sym, ap, subst, ◌∙◌, take, drop, length, content, auto_path, err_from_is_err_and, arith, rules}
+use Rattle.ks_engine.proofs.Prelude.{◌≡◌, ◌<◌, ◌++◌, inr, sym, ap, ◌∙◌, take, length, content, auto_path, err_from_is_err_and, arith, rules}
 use Rattle.std.proofs.Common.{length-append, length-take-le}
 use Rattle.ks_tree.specs.declared.fault.TreeFault.TheVariants as fault
 use Rattle.ks_engine.proofs.Reading.{last_none, last_refused, last_some, last_zero, old_fault, old_refused}

@@ -18,12 +18,12 @@ returns-in_err-scan_all_by-clause-refused g c = search (rules, err_from_is_err_a
 
 -- nothing was refused before the draft
 at_draft : (g : given.Over) (c : After-make_draft g) → g.T.Tree.is_honest
-    → drafted_by c.args.cache.now.rules c.args.scans_command (g.T.Tree.files c.args.tree.now) c.args.target.now c.args.command.now c.args.prerequisites.now
-    ≡ drafted c.args.target.now c.args.command.now c.args.prerequisites.now c.in_ok-generation.generation (names_by c.scan_command_by.new.cache.found)
-at_draft g c honest = at_drafted _ _ _ _ _ _ _ _ _ _ _ (c.in_ok-generation.ensures.read honest) (c.in_ok-generation.ensures.reads.unchanged honest)
+    → drafted_by c.args.cache.now.rules c.args.conventions (g.T.Tree.files c.args.tree.now) c.args.target.now c.args.command.now c.args.prerequisites.now
+    ≡ drafted c.args.conventions c.args.target.now c.args.command.now c.args.prerequisites.now c.in_ok-generation.generation (names_by c.scan_command_by.new.cache.found)
+at_draft g c honest = at_drafted c.args.conventions _ _ _ _ _ _ _ _ _ _ (c.in_ok-generation.ensures.read honest) (c.in_ok-generation.ensures.reads.unchanged honest)
     c.in_ok-generation.ensures.rules (c.in_ok-scan_all_by.ensures.names honest)
     (c.in_ok-scan_command_by.ensures.names (c.in_ok-scan_all_by.ensures.placed honest)
-    ∙ ap (λ r. with_command c.args.scans_command r c.args.command.now (names_by c.scan_all_by.new.cache.found)) c.in_ok-scan_all_by.ensures.rules)
+    ∙ ap (λ r. with_command c.args.conventions.scans_command r c.args.command.now (names_by c.scan_all_by.new.cache.found)) c.in_ok-scan_all_by.ensures.rules)
 
 pub returns-clause-refused : goal.returns-clause-refused
 returns-clause-refused g c = λ honest.
@@ -34,14 +34,14 @@ pub returns-clause-drafted : goal.returns-clause-drafted
 returns-clause-drafted g c = λ honest.
     let at = at_draft g (goal.at.returns-clause-drafted g c).After-make_draft honest in
     let Drafts : Draft → Type 0 = λ d. (plan : RecordPlan)
-    × (drafted_by c.args.cache.now.rules c.args.scans_command (g.T.Tree.files c.args.tree.now) c.args.target.now c.args.command.now c.args.prerequisites.now ≡ Ok plan)
+    × (drafted_by c.args.cache.now.rules c.args.conventions (g.T.Tree.files c.args.tree.now) c.args.target.now c.args.command.now c.args.prerequisites.now ≡ Ok plan)
     × IsLegal plan.file × IsDraft plan d × (plan.names ≡ listed_of c.make_draft.new.found) in
     IfOk-weaker _ _ Drafts (λ d made. (
       made.0.0,
       at ∙ made.0.1,
       made.0.2,
       made.0.3,
-      (drafted_of _ _ c.args.prerequisites.now c.in_ok-generation.generation (names_by c.scan_command_by.new.cache.found) made.0.0 made.0.1).names ∙ sym made.1,
+      (drafted_of c.args.conventions _ _ c.args.prerequisites.now c.in_ok-generation.generation (names_by c.scan_command_by.new.cache.found) made.0.0 made.0.1).names ∙ sym made.1,
     )) (both _ _ _ c.make_draft.ensures.drafted c.make_draft.ensures.listed)
 
 pub returns-in_err-scan_command_by-clause-cache : goal.returns-in_err-scan_command_by-clause-cache

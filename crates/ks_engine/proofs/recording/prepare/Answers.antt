@@ -25,7 +25,7 @@ draft_by-requires-clause-cache g c = λ honest.
 -- nothing was refused before the draft
 at_draft : (g : given.Over) (c : After-draft_by g) → g.T.Tree.is_honest
     → record_plan_under c.args.conventions (g.T.Tree.files c.args.tree.now) c.args.depfile.now c.args.target.now c.args.command.now
-    ≡ drafted_by c.scan_by.new.self.rules c.args.conventions.scans_command (g.T.Tree.files c.read_there.new.tree) c.args.target.now c.args.command.now c.in_ok-prerequisites.prerequisites
+    ≡ drafted_by c.scan_by.new.self.rules c.args.conventions (g.T.Tree.files c.read_there.new.tree) c.args.target.now c.args.command.now c.in_ok-prerequisites.prerequisites
 at_draft g c honest = at_prerequisites _ _ _ _ _ _ _ _ _ (sym c.in_ok-check_args.ensures.args)
     (c.in_ok-text.ensures.bytes honest ∙ ap (λ b. Ok b) (sym c.deref.ensures.value)) c.in_ok-prerequisites.ensures.refusal c.in_ok-prerequisites.ensures.value
     (c.in_ok-text.ensures.reads.unchanged honest) (c.scan_by.ensures.rules ∙ c.for_target.ensures)

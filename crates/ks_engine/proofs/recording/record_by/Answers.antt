@@ -9,7 +9,7 @@ returns-in_err-write_record-clause-refused g c = λ honest.
     let planned = c.in_ok-prepared.ensures.planned honest in
     let tried = tried_from planned.1 planned.2.draft (c.prepare.ensures.reads.unchanged honest) c.deref.ensures.value (c.write_record.ensures.others honest)
     (c.in_err-write_record.ensures.either honest) in
-    rw (p.1, p.2) (inr (c.in_err-write_record.ensures.given, inr (rw c.usual.ensures at tried)))
+    rw (p.1, p.2) (inr (c.in_err-write_record.ensures.given, inr tried))
 
 pub returns-clause-recorded : goal.returns-clause-recorded
 returns-clause-recorded g c = search (rules, recorded_from)

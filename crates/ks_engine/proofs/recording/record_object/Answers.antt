@@ -1,8 +1,0 @@
-use Rattle.ks_engine.proofs.RecordSteps.{record_follows}
-use Rattle.ks_engine.proofs.recording.record_object.Goals as goal
-
-pub record_by-requires : goal.record_by-requires
-record_by-requires g c = record { cache = λ honest. c.of_one_object-cache.ensures (g.T.Tree.files c.args.tree.now) }
-
-pub returns-clause-follows : goal.returns-clause-follows
-returns-clause-follows g c = λ honest h shows. record_follows _ _ _ _ _ h _ _ _ _ shows (c.record_by.ensures.recorded honest) (c.record_by.ensures.refused honest)

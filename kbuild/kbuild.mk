@@ -39,17 +39,17 @@ confstamp-by-hook = $(confstamp-verifies)$(confstamp-elsewhere)$(and $(confstamp
 confstamp-hook = $(CONFSTAMP_KBUILD)/fixdep $(confstamp-dialect) $(if $(confstamp-in-place),--in-place) \
 	$(if $(confstamp-elsewhere),--tree $(objtree)) \
 	$(if $(confstamp-verifies),--verify $(or $(objtree),.)/$(or $(confstamp-fixdep),scripts/basic/fixdep))
-confstamp-directly = { $(CONFSTAMP) record --remove-depfile -- "$$2" "$$3" "$$4" > /dev/null 2>&1 \
-	$(if $(confstamp-prefix),&& echo 'cmd_$@ := $$(savedcmd_$@)' >> $(confstamp-command-file)) && exit; }
+confstamp-directly = { $(CONFSTAMP) record --remove-depfile $(if $(confstamp-prefix),--cmd) $(confstamp-early) -- "$$2" "$$3" "$$4" \
+	> /dev/null 2>&1 && exit; }
 
-# In the makefiles of U-Boot and BusyBox the command file is written aside, and moved to its place behind the call of fixdep; in
-# those of Xen it isn't. The sources are scanned for the project's own patterns, and own-stamps.sed adds what its own tools
-# would look for. Xen's patterns are those of Linux, U-Boot has more, and Xen's conf is as old as U-Boot's.
+# What is compiled before there is any auto.conf, as host programs are.
+confstamp-early = $(if $(wildcard include/config/auto.conf),,--before-sync)
+
+# The makefiles of U-Boot and BusyBox write the command file aside, and move it to its place behind the call of fixdep; those of Xen don't.
+# The sources are scanned for the project's own patterns. Xen's are those of Linux, U-Boot has more, and Xen's conf is as old as U-Boot's.
 ifdef confstamp-dialect
-confstamp-stripped = $(@D)/.$(@F).$(if $(confstamp-in-place),cmd.)tmp
-confstamp-directly = { $(CONFSTAMP) $(confstamp-dialect) record -- "$$2" "$$3" "$$4" > /dev/null 2>&1 \
-	&& sed -nf $(CONFSTAMP_KBUILD)/own-stamps.sed $(confstamp-command-file) > $(confstamp-stripped) \
-	$(if $(confstamp-in-place),&& mv -f $(confstamp-stripped) $(confstamp-command-file)); }
+confstamp-directly = { $(CONFSTAMP) $(confstamp-dialect) record --cmd $(confstamp-early) -- "$$2" "$$3" "$$4" > /dev/null 2>&1 \
+	$(if $(confstamp-in-place),,&& cat $(confstamp-command-file)); }
 endif
 
 # In front of the command by which Xen removes auto.conf before each synchronisation: that touches all symbols.

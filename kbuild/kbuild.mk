@@ -42,7 +42,7 @@ confstamp-hook = $(CONFSTAMP_KBUILD)/fixdep $(confstamp-dialect) $(if $(confstam
 confstamp-directly = { $(CONFSTAMP) record --remove-depfile $(if $(confstamp-prefix),--cmd) $(confstamp-early) -- "$$2" "$$3" "$$4" \
 	> /dev/null 2>&1 && exit; }
 
-# What is compiled before there is any auto.conf, as host programs are.
+# Where there is no auto.conf yet, as for the first host programs, a record has the number 0.
 confstamp-early = $(if $(wildcard include/config/auto.conf),,--before-sync)
 
 # The makefiles of U-Boot and BusyBox write the command file aside, and move it to its place behind the call of fixdep; those of Xen don't.

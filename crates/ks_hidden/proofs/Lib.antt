@@ -1,0 +1,5 @@
+pub mod TextLemmas
+pub mod IncludeLemmas
+pub mod HeaderLines
+pub mod HeaderLinesWorked
+pub mod WholeHeaders

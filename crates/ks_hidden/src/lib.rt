@@ -1,0 +1,21 @@
+//! What an object may depend on beside the names that its files mention: what no list of the compiler's tells.
+#![tactic(auto)]
+
+mod candidates;
+mod header_lines;
+mod hidden;
+mod includes;
+mod lacking;
+mod laws;
+mod precompiled;
+mod texts;
+mod words;
+
+pub use candidates::precompiled_candidates;
+pub use header_lines::foreign_line;
+pub use hidden::Hidden;
+pub use lacking::lacks_definition;
+pub use laws::{
+    explained_lines_are_definitions, header_lines_are_worked, written_headers_lack_none,
+};
+pub use texts::{find_hidden, line_number};

@@ -1,0 +1,171 @@
+//! What a text may hold that has the compiler read a file which it lists nowhere, or makes an object one of the time of its compile.
+//!
+//! Most texts hold nothing of that. So each is searched as a whole, and for few words.
+ghost use Rattle.std.specs.Prelude.{◌≡◌, ◌≤◌, ◌<◌, ◌+◌, ℕ, IfSome, None, option_map, length, drop};
+ghost use Rattle.memchr.specs.Find.{OccursAt};
+ghost use Rattle.ks_symbols.specs.LineKinds.{is_blank, skip_blanks};
+ghost use Rattle.ks_hidden.specs.Texts.{HidesNothing, IsComputedAt, IsComputedBy, IsHiddenAt, IsMarkAt, after, after_include, begins_other, follows_computed, is_computed, line_number};
+
+use memchr::{memchr_iter, memmem};
+
+fn is_blank(byte: u8) -> bool
+    ensures { result ≡ is_blank byte }
+{
+    byte == b' ' || byte == b'\t'
+}
+
+/// A text from its first byte on that is no blank.
+fn skip_blanks(text: &[u8]) -> &[u8]
+    ensures { result.now ≡ skip_blanks text.now }
+{
+    let mut end = 0;
+    while end < text.len() && is_blank(text[end]) {
+        end += 1;
+    }
+    &text[end..]
+}
+
+/// The first place of a word.
+fn find(text: &[u8], word: &[u8]) -> Option<usize>
+    ensures none { result ≡ None → (k : ℕ) → OccursAt text.now word.now k → ⊥ }
+    ensures some { IfSome result (OccursAt text.now word.now) }
+{
+    memmem::find(text, word)
+}
+
+/// A place of one of the words that hide a file.
+fn find_mark(text: &[u8]) -> Option<usize>
+    ensures none { result ≡ None → (k : ℕ) → IsMarkAt text.now k → ⊥ }
+    ensures some { IfSome result (IsMarkAt text.now) }
+{
+    if let Some(at) = find(text, b"__has_include") {
+        return Some(at);
+    }
+    if let Some(at) = find(text, b"__has_embed") {
+        return Some(at);
+    }
+    if let Some(at) = find(text, b"__DATE__") {
+        return Some(at);
+    }
+    if let Some(at) = find(text, b"__TIME") {
+        return Some(at);
+    }
+    if let Some(at) = find(text, b".incbin") {
+        return Some(at);
+    }
+    find(text, b".include")
+}
+
+/// What follows a word with which a text begins.
+fn after<'a>(word: &[u8], text: &'a [u8]) -> Option<&'a [u8]>
+    ensures { option_map (λ t. t.now) result ≡ after word.now text.now }
+{
+    text.strip_prefix(word)
+}
+
+/// What follows the word of an include with which a text begins.
+#[tactic(auto, unfolding(crate::specs::Texts::after_include))]
+fn after_include(text: &[u8]) -> Option<&[u8]>
+    ensures { option_map (λ t. t.now) result ≡ after_include text.now }
+{
+    if let Some(rest) = after(b"include_next", text) {
+        return Some(rest);
+    }
+    if let Some(rest) = after(b"include", text) {
+        return Some(rest);
+    }
+    if let Some(rest) = after(b"import", text) {
+        return Some(rest);
+    }
+    after(b"embed", text)
+}
+
+/// Whether a text begins with what is no quote, no angle and no end of a line.
+fn begins_other(text: &[u8]) -> bool
+    ensures { result ≡ begins_other text.now }
+{
+    match text.first() {
+        Some(byte) => !matches!(*byte, b'"' | b'<' | b'\n' | b'\r'),
+        None => false,
+    }
+}
+
+/// Whether what follows the word of an include is no name in quotes or angles.
+fn follows_computed(rest: &[u8]) -> bool
+    ensures { result ≡ follows_computed rest.now }
+{
+    match rest.split_first() {
+        Some((b'\\' | b'/', _)) => true,
+        Some((byte, rest)) => is_blank(*byte) && begins_other(skip_blanks(rest)),
+        None => false,
+    }
+}
+
+/// Whether what follows a `#` includes what a macro says.
+#[tactic(auto, unfolding(crate::specs::Texts::is_computed))]
+fn is_computed(text: &[u8]) -> bool
+    ensures { result ≡ is_computed text.now }
+{
+    match after_include(skip_blanks(text)) {
+        Some(rest) => follows_computed(rest),
+        None => false,
+    }
+}
+
+/// The bytes from a place on, as far as there are any.
+fn rest_from(text: &[u8], start: usize) -> &[u8]
+    ensures { result.now ≡ drop start text.now }
+{
+    &text[start.min(text.len())..]
+}
+
+/// The first include behind such a sign whose file is computed.
+fn find_computed_by(text: &[u8], sign: &[u8]) -> Option<usize>
+    requires some { 0 < length sign.now }
+    ensures none { result ≡ None → (k : ℕ) → IsComputedBy sign.now text.now k → ⊥ }
+    ensures some { IfSome result (IsComputedBy sign.now text.now) }
+{
+    let mut start = 0;
+    while let Some(offset) = memmem::find(rest_from(text, start), sign) {
+        let at = start + offset;
+        if is_computed(rest_from(text, at + sign.len())) {
+            return Some(at);
+        }
+        start = at + 1;
+    }
+    None
+}
+
+/// The first include whose file is computed.
+fn find_computed(text: &[u8]) -> Option<usize>
+    ensures none { result ≡ None → (k : ℕ) → IsComputedAt text.now k → ⊥ }
+    ensures some { IfSome result (IsComputedAt text.now) }
+{
+    if let Some(at) = find_computed_by(text, b"#") {
+        return Some(at);
+    }
+    if let Some(at) = find_computed_by(text, b"%:") {
+        return Some(at);
+    }
+    find_computed_by(text, b"??=")
+}
+
+/// The first place of what hides a file, if any.
+pub fn find_hidden(text: &[u8]) -> Option<usize>
+    ensures none { result ≡ None → HidesNothing text.now }
+    ensures some { IfSome result (IsHiddenAt text.now) }
+{
+    match find_mark(text) {
+        Some(at) => Some(at),
+        None => find_computed(text),
+    }
+}
+
+/// The number of the line in which a place stands, counted from 1.
+#[tactic(auto, unfolding(crate::specs::Texts::line_number))]
+pub fn line_number(text: &[u8], at: usize) -> u64
+    ensures { result ≡ line_number text.now at }
+{
+    let before = &text[..at.min(text.len())];
+    memchr_iter(b'\n', before).count() as u64 + 1
+}

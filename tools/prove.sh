@@ -13,6 +13,7 @@ logic=dac8208d650f15bf
 seconds='ks_symbols 227
 ks_output 113
 ks_compare 29
+ks_hidden 60
 ks_fixdep 318
 ks_tree 127
 ks_system 350

@@ -86,7 +86,7 @@ writing_apps =
     ∷ taking (codes "fixdep") (once (codes "DEPFILE") ∷ once (codes "TARGET") ∷ once (codes "COMMAND") ∷ [])
     ∷ needing_one (taking (codes "record") (flag (codes "remove-depfile") ∷ flag (codes "cmd") ∷ flag (codes "before-sync") ∷ once (codes "DEPFILE") ∷ once (codes "TARGET")
     ∷ once (codes "COMMAND") ∷ []))
-    ∷ needing_one (taking (codes "depfile") (following (codes "header") (codes "SUFFIX") ∷ once (codes "DEPFILE") ∷ once (codes "TARGET")
+    ∷ needing_one (taking (codes "depfile") (following (codes "header") (codes "SUFFIX") ∷ following (codes "strict") (codes "PATH") ∷ once (codes "DEPFILE") ∷ once (codes "TARGET")
     ∷ once (codes "COMMAND") ∷ []))
     ∷ needing_one (taking (codes "repair") (once_after (codes "stamps") (codes "STAMPS") ∷ once_after (codes "targets") (codes "TARGETS")
     ∷ at_most_once (codes "AUTO") ∷ at_most_once (codes "HEADER") ∷ []))

@@ -228,6 +228,7 @@ fn depfile_request(alloc: Global, matches: &ArgMatches<'_>) -> Result<Request, A
 {
     Ok(Request::Depfile {
         header: optional_arg(alloc, matches, "SUFFIX")?,
+        strict: optional_arg(alloc, matches, "PATH")?,
         depfile: arg(alloc, matches, "DEPFILE")?,
         target: arg(alloc, matches, "TARGET")?,
         command: arg(alloc, matches, "COMMAND")?,

@@ -33,6 +33,7 @@ An error has a number, a name and often a place; confstamp explain NUMBER says w
   DEPFILE       20 NoTarget, 21 BadPath; token 0 is an argument of the command line
   COMMAND       22 BadCommand
   command file  23 BadCommandFile
+  --strict      24 HiddenInput, 25 ForeignLine, 26 OtherHeader, 27 Precompiled, 28 MissingLine
   stamp         31 BadStamp
   SCRIPT        50 BadScript
   the system    10 OutOfMemory, 30 Device, 51 Output";
@@ -258,11 +259,18 @@ Example: confstamp record x.d x.o 'cc -c x.c'",
                 num_args: NumArgs::Following("header"),
                 help: "The header of all symbols, by the end of its path; without it, include/generated/autoconf.h",
             },
+            ArgUsage {
+                name: "PATH",
+                num_args: NumArgs::Following("strict"),
+                help: "Refuse an object to which more than names may matter; PATH: how the compiler may name the header",
+            },
             DEPFILE,
             TARGET,
             COMMAND,
         ],
-        override_usage: Some("confstamp depfile [--header SUFFIX] <DEPFILE> <TARGET> <COMMAND>"),
+        override_usage: Some(
+            "confstamp depfile [--header SUFFIX] [--strict PATH] <DEPFILE> <TARGET> <COMMAND>",
+        ),
         after_help: "\
 Does what record does. Then it makes the missing stamps, empty, and leaves one rule in DEPFILE: without the header,
 and with the stamp of each name. Refused, it leaves DEPFILE as it was. Prints what record prints.

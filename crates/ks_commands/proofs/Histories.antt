@@ -44,13 +44,13 @@ sync_goes_on dialect which c ended old new h shows (inr (t, there, answer, is, r
     let next = stamps_follow dialect which old new h (source_at dialect c.form t) answer shows is in
     (next.0, inr (t, there, answer, next.1, reported), next.2)
 
-rule_goes_on : (dialect : Dialect) (end : Option (List ℕ)) (d t c : List ℕ) (ended : Ending) (old new : FileState) (h : History) → Shows old.files h
-    → EndsDepfile (by_files dialect ⊤ old new) end d t c ended
-    → (next : History) × EndsDepfile (by_histories dialect (at old.files old.failures h) (at new.files new.failures next)) end d t c ended × Shows new.files next
-rule_goes_on dialect end d t c ended old new h shows (inl (same, none, reported)) = (h, inl ((same, refl), none, reported), stays old new h shows same)
-rule_goes_on dialect end d t c ended old new h shows (inr (header, named, answer, is, reported)) =
+rule_goes_on : (dialect : Dialect) (end strict : Option (List ℕ)) (d t c : List ℕ) (ended : Ending) (old new : FileState) (h : History) → Shows old.files h
+    → EndsDepfile old.files (by_files dialect ⊤ old new) end strict d t c ended
+    → (next : History) × EndsDepfile old.files (by_histories dialect (at old.files old.failures h) (at new.files new.failures next)) end strict d t c ended × Shows new.files next
+rule_goes_on dialect end strict d t c ended old new h shows (inl (same, stopped)) = (h, inl ((same, refl), stopped), stays old new h shows same)
+rule_goes_on dialect end strict d t c ended old new h shows (inr (header, named, allowed, answer, is, reported)) =
     let next = step_goes_on dialect old (Depfile header d t c) (Recorded answer) new h shows is in
-    (next.0, inr (header, named, answer, next.1, reported), next.2)
+    (next.0, inr (header, named, allowed, answer, next.1, reported), next.2)
 
 pub requests_go_on : RequestsGoOn
 requests_go_on dialect (request.Sync c which) ended old new h told shows ends =
@@ -60,8 +60,8 @@ requests_go_on dialect (request.Record d t c after options) ended old new h told
     let is = ends tt in
     let next = step_goes_on dialect old (Record options (string_bytes d) (string_bytes t) (string_bytes c)) (Recorded is.0) new h shows is.1 in
     (next.0, (old.backdated, new.backdated, λ u. (is.0, next.1, is.2)), next.2)
-requests_go_on dialect (request.Depfile end d t c) ended old new h told shows ends =
-    let next = rule_goes_on dialect (option_map (λ p. string_bytes p) end) (string_bytes d) (string_bytes t) (string_bytes c) ended old new h shows (ends tt) in
+requests_go_on dialect (request.Depfile end strict d t c) ended old new h told shows ends =
+    let next = rule_goes_on dialect (option_map (λ p. string_bytes p) end) (option_map (λ p. string_bytes p) strict) (string_bytes d) (string_bytes t) (string_bytes c) ended old new h shows (ends tt) in
     (next.0, (old.backdated, new.backdated, λ u. next.1), next.2)
 requests_go_on dialect (request.Batch script) ended old new h told shows (inl (r, why, is)) =
     (h, (old.backdated, new.backdated, inl (r, λ t. (((why t).0, refl), (why t).1), is)), stays old new h shows (why tt).0)

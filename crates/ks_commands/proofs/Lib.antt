@@ -13,3 +13,4 @@ pub mod Spelled
 pub mod Objects
 pub mod BackdatingLemmas
 pub mod Searching
+pub mod LookingLemmas

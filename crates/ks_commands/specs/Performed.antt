@@ -53,6 +53,7 @@ use Rattle.ks_requests.specs.Targets.{targets_at}
 use Rattle.ks_commands.specs.Depfiles.{IsHeaderOf, IsNoHeader}
 use Rattle.ks_commands.specs.Differences.{IsDiff, lines_asked, unknown_of}
 use Rattle.ks_commands.specs.Fixdep.{command_file_at}
+use Rattle.ks_commands.specs.Looking.{AllowsRecord, RefusesRecord}
 use Rattle.ks_commands.specs.Queries.{explaining, no_count, stale_count, reports}
 use Rattle.ks_commands.specs.Stamps.{LeavesStamps}
 use Rattle.ks_commands.specs.Records.{reading, reports_cost, unread_lines, user_count, uses_lines}
@@ -88,11 +89,16 @@ EndsSync files effects stamps c ended =
 abbrev pub EndsRecord : Effects → RecordOptions → List ℕ → List ℕ → List ℕ → Ending → Type 0
 EndsRecord effects options d t c ended = (answer : Result RecordAnswer EngineError) × effects.recording options d t c answer × Answered (recorded_line t) answer ended
 
--- It is refused for the argument that names the header, or ends as the engine answers for this header.
-abbrev pub EndsDepfile : Effects → Option (List ℕ) → List ℕ → List ℕ → List ℕ → Ending → Type 0
-EndsDepfile effects end d t c ended =
-    (effects.same × IsNoHeader end × (ended ≡ Err (Engine (BadPath 0))))
-    ⊎ ((header : Header) × IsHeaderOf effects.dialect end header
+-- It is refused for the argument that names the header, or for what may matter beside names; or it ends as the engine answers.
+abbrev pub StopsDepfile : Files → Dialect → Option (List ℕ) → Option (List ℕ) → List ℕ → List ℕ → Ending → Type 0
+StopsDepfile files dialect end strict d c ended =
+    (IsNoHeader end × (ended ≡ Err (Engine (BadPath 0))))
+    ⊎ ((header : Header) × IsHeaderOf dialect end header × RefusesRecord files dialect header strict d c ended)
+
+abbrev pub EndsDepfile : Files → Effects → Option (List ℕ) → Option (List ℕ) → List ℕ → List ℕ → List ℕ → Ending → Type 0
+EndsDepfile files effects end strict d t c ended =
+    (effects.same × StopsDepfile files effects.dialect end strict d c ended)
+    ⊎ ((header : Header) × IsHeaderOf effects.dialect end header × AllowsRecord files effects.dialect header strict d c
     × (answer : Result RecordAnswer EngineError) × effects.ruling header d t c answer × Answered (depfile_line t) answer ended)
 
 -- Nothing has changed where the lists or what was kept can't be read. Else it ends as the engine answers.
@@ -175,8 +181,9 @@ Ends honest effects old (Diff c report_style) ended new = honest → effects.sam
 Ends honest effects old (Fixdep d t c) ended new =
     honest → effects.same × EndsFixdep effects.dialect old.files (string_bytes d) (string_bytes t) (string_bytes c) ended
 Ends honest effects old (Record d t c after options) ended new = honest → EndsRecord effects options (string_bytes d) (string_bytes t) (string_bytes c) ended
-Ends honest effects old (Depfile end d t c) ended new =
-    honest → EndsDepfile effects (option_map (λ path. string_bytes path) end) (string_bytes d) (string_bytes t) (string_bytes c) ended
+Ends honest effects old (Depfile end strict d t c) ended new =
+    honest → EndsDepfile old.files effects (option_map (λ path. string_bytes path) end) (option_map (λ path. string_bytes path) strict) (string_bytes d)
+    (string_bytes t) (string_bytes c) ended
 Ends honest effects old (Repair stamps targets kept) ended new =
     honest → EndsRepair old.files effects (string_bytes stamps) (string_bytes targets) kept ended
 Ends honest effects old (Stale targets format) ended new = (honest → effects.same)
@@ -197,6 +204,11 @@ Ends honest effects old (Cost top targets) ended new =
     (honest → effects.same) × EndsWalk (reading honest old.files unread_lines) true (reports_cost top) honest old targets ended new
 
 -- ---- what the calls of the engine leave
+
+-- an object is recorded by a header that is known, and its dependency file left as a rule
+abbrev pub RecordsRule : Dialect → Files → Files → Header → List ℕ → List ℕ → List ℕ → Ending → Type 0
+RecordsRule dialect old new header d t c ended =
+    (answer : Result RecordAnswer EngineError) × LeavesDepfile (ruled_by header dialect) old new d t c answer × Answered (depfile_line t) answer ended
 
 abbrev pub LeavesMarks : Files → Files → BackdateScope → List (List ℕ) → Result ℕ EngineError → Type 0
 LeavesMarks old new which targets (Ok count) = MarksAll which targets old new count

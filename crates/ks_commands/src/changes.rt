@@ -3,7 +3,7 @@
 //! A refusal of the engine is one of the whole command, and prints nothing to the output.
 ghost use Rattle.std.specs.Prelude.{◌≡◌, Err, IfErr, IfOk, IsErrOf, OnOk, option_map};
 ghost use Rattle.ks_tree.specs.Files.{HasRisen};
-ghost use Rattle.ks_tree.specs.Frames.{Counted};
+ghost use Rattle.ks_tree.specs.Frames.{Counted, Reads};
 ghost use Rattle.ks_engine.specs.FileRuns.{state};
 ghost use Rattle.ks_engine.specs.Sources.{config_source};
 ghost use Rattle.ks_engine.specs.declared.error.EngineError.TheVariants.{BadPath, Device, OutOfMemory};
@@ -11,9 +11,11 @@ ghost use Rattle.ks_requests.specs.declared.refusal.Refusal.TheVariants.{Engine}
 ghost use Rattle.ks_requests.specs.declared.request.Stamps.TheVariants.{Declared};
 ghost use Rattle.ks_requests.specs.declared.status.Status.TheVariants.{Done};
 ghost use Rattle.ks_commands.specs.Depfiles.{IsHeaderOf, IsNoHeader};
+ghost use Rattle.ks_commands.specs.Looking.{AllowsRecord, RefusesRecord};
 ghost use Rattle.ks_commands.specs.Stamps.{LeavesStamps};
-ghost use Rattle.ks_commands.specs.Performed.{EndsDepfile, EndsRecord, EndsSync, by_files};
+ghost use Rattle.ks_commands.specs.Performed.{EndsDepfile, EndsRecord, EndsSync, RecordsRule, by_files};
 
+use crate::looking::find_cause;
 use ks_engine::{
     ConfigForm, ConfigTexts, EngineError, RecordOptions, Report, record_depfile,
     record_object_with, sync, sync_all_stamps,
@@ -121,24 +123,79 @@ fn header_of<'a>(dialect: Dialect, end: Option<&'a str>) -> Result<Header<'a>, E
     Ok(Header::At(end.as_bytes()))
 }
 
+/// Refuses an object to which more than names may matter, where that is asked for.
+fn look_if_strict<T: Tree>(
+    alloc: Global,
+    tree: &mut T,
+    dialect: Dialect,
+    header: Header<'_>,
+    strict: Option<&str>,
+    depfile: &[u8],
+    command: &[u8],
+) -> Result<(), Refusal>
+    ensures reads { Reads T.Tree tree.old tree.new (result ≡ Err (Engine Device)) }
+    ensures passed { OnOk result (T.failures tree.new ≡ T.failures tree.old) }
+    ensures memory { result ≡ Err (Engine OutOfMemory) → T.failures tree.new ≡ T.failures tree.old }
+    ensures allowed { T.is_honest → OnOk result (AllowsRecord (T.files tree.old) dialect header.entry (option_map (λ p. p.now) strict.entry) depfile.now command.now) }
+    ensures refused { T.is_honest → IfErr result (λ r. RefusesRecord (T.files tree.old) dialect header.entry (option_map (λ p. p.now) strict.entry)
+        depfile.now command.now (Err r)) }
+{
+    let Some(alias) = strict else {
+        return Ok(());
+    };
+    match find_cause(
+        alloc,
+        tree,
+        dialect,
+        header,
+        alias.as_bytes(),
+        depfile,
+        command,
+    )? {
+        Some(hidden) => Err(Refusal::Hidden(hidden)),
+        None => Ok(()),
+    }
+}
+
+/// Records an object whose header is known, and writes its dependency file anew, by its rule.
+fn record_by_header<T: Tree>(
+    alloc: Global,
+    tree: &mut T,
+    dialect: Dialect,
+    header: Header<'_>,
+    depfile: &[u8],
+    target: &[u8],
+    command: &[u8],
+) -> Result<Outcome, Refusal>
+    ensures done { IfOk result (λ o. o.status ≡ Done) }
+    ensures files { T.is_honest → RecordsRule dialect (T.files tree.old) (T.files tree.new) header.entry depfile.now target.now command.now result }
+    ensures counted { Counted T.Tree tree.old tree.new (result ≡ Err (Engine Device)) }
+    ensures memory { result ≡ Err (Engine OutOfMemory) → T.failures tree.new ≡ T.failures tree.old }
+    ensures kept { T.backdated tree.new ≡ T.backdated tree.old }
+{
+    let recorded = record_depfile(alloc, tree, header, dialect, depfile, target, command)?;
+    Ok(report_depfile(alloc, target, &recorded)?)
+}
+
 /// Writes the command file of an object, and then its dependency file anew, by its rule.
 pub(crate) fn record_rule<T: Tree>(
     alloc: Global,
     tree: &mut T,
     dialect: Dialect,
     header: Option<&str>,
+    strict: Option<&str>,
     depfile: &[u8],
     target: &[u8],
     command: &[u8],
 ) -> Result<Outcome, Refusal>
     ensures done { IfOk result (λ o. o.status ≡ Done) }
-    ensures files { T.is_honest → EndsDepfile (by_files dialect T.is_honest (state T.Tree tree.old) (state T.Tree tree.new))
-        (option_map (λ p. p.now) header.entry) depfile.now target.now command.now result }
+    ensures files { T.is_honest → EndsDepfile (T.files tree.old) (by_files dialect T.is_honest (state T.Tree tree.old) (state T.Tree tree.new))
+        (option_map (λ p. p.now) header.entry) (option_map (λ p. p.now) strict.entry) depfile.now target.now command.now result }
     ensures cause { result ≡ Err (Engine Device) → HasRisen (T.failures tree.old) (T.failures tree.new) }
     ensures memory { result ≡ Err (Engine OutOfMemory) → T.failures tree.new ≡ T.failures tree.old }
     ensures kept { T.backdated tree.new ≡ T.backdated tree.old }
 {
     let header = header_of(dialect, header)?;
-    let recorded = record_depfile(alloc, tree, header, dialect, depfile, target, command)?;
-    Ok(report_depfile(alloc, target, &recorded)?)
+    look_if_strict(alloc, tree, dialect, header, strict, depfile, command)?;
+    record_by_header(alloc, tree, dialect, header, depfile, target, command)
 }

@@ -122,17 +122,18 @@ pub(crate) fn outcome<T: Backdating>(
         }
         Request::Depfile {
             header,
+            strict,
             depfile,
             target,
             command,
         } => {
             let (depfile, command) = (depfile.as_bytes(), command.as_bytes());
-            let header = borrowed_path(header);
             record_rule(
                 alloc,
                 tree,
                 dialect,
-                header,
+                borrowed_path(header),
+                borrowed_path(strict),
                 depfile,
                 target.as_bytes(),
                 command,

@@ -11,6 +11,7 @@ mod differences;
 mod dispatch;
 mod fixdep;
 mod laws;
+mod looking;
 mod marks;
 mod program;
 mod queries;

@@ -216,6 +216,46 @@ pub const BAD_COMMAND_FILE: Row = (
     "build and record the object again; `confstamp why` names another spelling under which it is recorded",
 );
 
+pub const HIDDEN_INPUT: Row = (
+    "24",
+    "HiddenInput",
+    "with `--strict`: a file of the object may read another one that no dependency file lists, or has the time of the compile",
+    "`__TIME__` or `.incbin` in x.c",
+    "don't record the object: compile it after each change",
+);
+
+pub const FOREIGN_LINE: Row = (
+    "25",
+    "ForeignLine",
+    "with `--strict`: a line of the header is none that was synchronised",
+    "`#define HAVE_X 1`",
+    "synchronise, or keep only the configuration in that header",
+);
+
+pub const OTHER_HEADER: Row = (
+    "26",
+    "OtherHeader",
+    "with `--strict`: a file ends as the header's path, and is another one",
+    "`x.o: x.c other/include/generated/autoconf.h`",
+    "synchronise where that header is",
+);
+
+pub const PRECOMPILED: Row = (
+    "27",
+    "Precompiled",
+    "with `--strict`: the object may be made of a precompiled header",
+    "`all.h.gch` beside `all.h`",
+    "don't record the object: compile it after each change",
+);
+
+pub const MISSING_LINE: Row = (
+    "28",
+    "MissingLine",
+    "with `--strict`: the header lacks a line that was synchronised",
+    "autoconf.h without the line of A",
+    "run the tool that writes that header, then synchronise",
+);
+
 pub const DEVICE: Row = (
     "30",
     "Device",
@@ -296,6 +336,11 @@ pub const ERRORS: &[Row] = &[
     BAD_PATH,
     BAD_COMMAND,
     BAD_COMMAND_FILE,
+    HIDDEN_INPUT,
+    FOREIGN_LINE,
+    OTHER_HEADER,
+    PRECOMPILED,
+    MISSING_LINE,
     DEVICE,
     BAD_STAMP,
     MISSING_FILE,

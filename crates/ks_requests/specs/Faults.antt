@@ -7,10 +7,12 @@ use Rattle.ks_symbols.specs.declared.error.SourceError.{SourceError}
 use Rattle.ks_symbols.specs.declared.error.SourceError.TheVariants as source
 use Rattle.ks_output.specs.declared.written.WrittenError.{WrittenError}
 use Rattle.ks_output.specs.declared.written.WrittenError.TheVariants as written
+use Rattle.ks_hidden.specs.declared.hidden.Hidden.{Hidden}
+use Rattle.ks_hidden.specs.declared.hidden.Hidden.TheVariants as hidden
 use Rattle.ks_engine.specs.declared.error.EngineError.{EngineError}
 use Rattle.ks_engine.specs.declared.error.EngineError.TheVariants as engine
 use Rattle.ks_requests.specs.declared.refusal.Refusal.{Refusal}
-use Rattle.ks_requests.specs.declared.refusal.Refusal.TheVariants.{Engine, BadScript, Output}
+use Rattle.ks_requests.specs.declared.refusal.Refusal.TheVariants.{Engine, Hidden as OfHidden, BadScript, Output}
 use Rattle.ks_requests.specs.declared.faults.FaultText.{FaultText}
 use Rattle.ks_requests.specs.declared.faults.FaultPlace.{FaultPlace}
 use Rattle.ks_requests.specs.declared.faults.FaultPlace.TheVariants.{Nowhere, Numbered, Named}
@@ -58,8 +60,16 @@ fault_text (engine.MissingFile path) = codes "40 MissingFile " ++ path
 fault_text engine.NeverSynced = codes "41 NeverSynced"
 fault_text engine.GenerationFull = codes "42 GenerationFull"
 
+unfoldable pub hidden_text : Hidden → List ℕ
+hidden_text (hidden.Input path line) = codes "24 HiddenInput " ++ path
+hidden_text (hidden.Line path line) = codes "25 ForeignLine " ++ path
+hidden_text (hidden.OtherHeader path) = codes "26 OtherHeader " ++ path
+hidden_text (hidden.Precompiled path) = codes "27 Precompiled " ++ path
+hidden_text (hidden.MissingLine path) = codes "28 MissingLine " ++ path
+
 unfoldable pub refusal_text : Refusal → List ℕ
 refusal_text (Engine e) = fault_text e
+refusal_text (OfHidden h) = hidden_text h
 refusal_text (BadScript line) = counted (codes "50 BadScript line ") line
 refusal_text Output = codes "51 Output"
 

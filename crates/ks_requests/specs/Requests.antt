@@ -37,5 +37,5 @@ IsOneStep (Preview config old) = ⊤
 IsOneStep (Diff config report_style) = ⊤
 IsOneStep (Fixdep depfile target command) = ⊤
 IsOneStep (Record depfile target command after options) = ⊤
-IsOneStep (Depfile header depfile target command) = ⊤
+IsOneStep (Depfile header strict depfile target command) = ⊤
 IsOneStep _ = ⊥

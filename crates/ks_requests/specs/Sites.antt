@@ -11,9 +11,11 @@ use Rattle.ks_tree.specs.Files.{Files, IsTooLarge, content}
 use Rattle.ks_tree.specs.declared.fault.TreeFault.{TreeFault}
 use Rattle.ks_tree.specs.declared.fault.TreeFault.TheVariants.{TooLarge}
 use Rattle.ks_tree.specs.Paths.{auto_path}
+use Rattle.ks_hidden.specs.declared.hidden.Hidden.{Hidden}
+use Rattle.ks_hidden.specs.declared.hidden.Hidden.TheVariants as hidden
 use Rattle.ks_engine.specs.declared.error.EngineError.TheVariants.{BadAuto, BadPath, NoTarget, Source, Written}
 use Rattle.ks_requests.specs.declared.refusal.Refusal.{Refusal}
-use Rattle.ks_requests.specs.declared.refusal.Refusal.TheVariants.{Engine, BadScript}
+use Rattle.ks_requests.specs.declared.refusal.Refusal.TheVariants.{Engine, Hidden as OfHidden, BadScript}
 use Rattle.ks_requests.specs.declared.request.ConfigPaths.{ConfigPaths}
 use Rattle.ks_requests.specs.declared.request.Request.{Request}
 use Rattle.ks_requests.specs.declared.request.Request.TheVariants.{Backdate, Batch, Cost, Depfile, Diff, Fixdep, Impact, Mark, Outdated, Preview, Record, Repair, Stale, Sync, Users, Why}
@@ -67,6 +69,16 @@ abbrev pub record_site : List ℕ → Refusal → Option Site
 record_site depfile (Engine (BadAuto line)) = Some (auto_path, Line line)
 record_site depfile refusal = depfile_site depfile refusal
 
+-- of an object that may depend on more than names
+abbrev pub hidden_site : Hidden → Option Site
+hidden_site (hidden.Input path line) = Some (path, Line line)
+hidden_site (hidden.Line path line) = Some (path, Line line)
+hidden_site _ = None
+
+abbrev pub rule_site : List ℕ → Refusal → Option Site
+rule_site depfile (OfHidden h) = hidden_site h
+rule_site depfile refusal = record_site depfile refusal
+
 abbrev pub script_site : List ℕ → Refusal → Option Site
 script_site script (BadScript line) = Some (script, Line line)
 script_site script _ = None
@@ -84,7 +96,7 @@ site_of (Diff c report_style) refusal = config_site c (Some auto_path) refusal
 site_of (Impact c targets format) refusal = config_site c (Some auto_path) refusal
 site_of (Fixdep d t c) refusal = depfile_site (string_bytes d) refusal
 site_of (Record d t c after options) refusal = record_site (string_bytes d) refusal
-site_of (Depfile end d t c) refusal = record_site (string_bytes d) refusal
+site_of (Depfile end strict d t c) refusal = rule_site (string_bytes d) refusal
 site_of (Batch script) refusal = script_site (string_bytes script) refusal
 site_of (Repair stamps targets kept) refusal = names_site (string_bytes stamps) refusal
 site_of (Stale targets format) refusal = None

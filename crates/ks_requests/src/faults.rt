@@ -3,18 +3,19 @@
 //! A text is a number, a name and the place. It is made without taking memory, so that want of memory is reported too.
 ghost use Rattle.std.specs.Prelude.{◌≡◌, ◌++◌, OnOk, Some, codes};
 ghost use Rattle.ks_errors.specs.Errors.{seen, texts_of, title_of};
-ghost use Rattle.ks_requests.specs.Faults.{counted, fault_text, known_error, refusal_text, source_text, whole_text, written_text};
+ghost use Rattle.ks_requests.specs.Faults.{counted, fault_text, hidden_text, known_error, refusal_text, source_text, whole_text, written_text};
 
 use crate::refusal::Refusal;
 use itoa::Buffer;
 use ks_engine::EngineError;
 use ks_errors::{
     BAD_AUTO, BAD_COMMAND, BAD_COMMAND_FILE, BAD_HEADING, BAD_NAME, BAD_PATH, BAD_SCRIPT,
-    BAD_STAMP, BAD_TITLE, BAD_VALUE, DEVICE, GENERATION_FULL, KnownError, MISSING_FILE,
-    MODULE_NAME, MODULE_SYMBOL, NEVER_SYNCED, NO_TARGET, NO_TYPE, NOT_A_CONFIG_LINE, NOT_AN_ENTRY,
-    NOT_BARE, OUT_OF_MEMORY, OUTPUT, Row, TOO_LARGE, TWICE, TYPE_CLASH, UNDECLARED, UNDEFINED,
-    UNEXPLAINED,
+    BAD_STAMP, BAD_TITLE, BAD_VALUE, DEVICE, FOREIGN_LINE, GENERATION_FULL, HIDDEN_INPUT,
+    KnownError, MISSING_FILE, MISSING_LINE, MODULE_NAME, MODULE_SYMBOL, NEVER_SYNCED, NO_TARGET,
+    NO_TYPE, NOT_A_CONFIG_LINE, NOT_AN_ENTRY, NOT_BARE, OTHER_HEADER, OUT_OF_MEMORY, OUTPUT,
+    PRECOMPILED, Row, TOO_LARGE, TWICE, TYPE_CLASH, UNDECLARED, UNDEFINED, UNEXPLAINED,
 };
+use ks_hidden::Hidden;
 use ks_output::WrittenError;
 use ks_symbols::SourceError;
 use std::alloc::AllocError;
@@ -133,6 +134,21 @@ fn engine_fault(error: &EngineError) -> FaultText<'_>
     }
 }
 
+/// The text of what an object may depend on beside names.
+#[tactic(auto, unfolding(crate::specs::Faults::hidden_text))]
+fn hidden_fault(hidden: &Hidden) -> FaultText<'_>
+    ensures text { whole_text result ≡ hidden_text hidden.now }
+    ensures error { known_error (hidden_text hidden.now) ≡ Some (seen result.error) }
+{
+    match hidden {
+        Hidden::Input(path, _) => named(&HIDDEN_INPUT, path.as_bytes()),
+        Hidden::Line(path, _) => named(&FOREIGN_LINE, path.as_bytes()),
+        Hidden::OtherHeader(path) => named(&OTHER_HEADER, path.as_bytes()),
+        Hidden::Precompiled(path) => named(&PRECOMPILED, path.as_bytes()),
+        Hidden::MissingLine(path) => named(&MISSING_LINE, path.as_bytes()),
+    }
+}
+
 /// The text of a refusal of a whole command.
 #[tactic(auto, unfolding(crate::specs::Faults::refusal_text))]
 pub(crate) fn refusal_fault(refusal: &Refusal) -> FaultText<'_>
@@ -141,6 +157,7 @@ pub(crate) fn refusal_fault(refusal: &Refusal) -> FaultText<'_>
 {
     match refusal {
         Refusal::Engine(error) => engine_fault(error),
+        Refusal::Hidden(hidden) => hidden_fault(hidden),
         Refusal::BadScript(line) => numbered(&BAD_SCRIPT, " line ", *line),
         Refusal::Output => plain(&OUTPUT),
     }

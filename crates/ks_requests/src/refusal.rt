@@ -6,6 +6,7 @@ ghost use Rattle.ks_requests.specs.declared.refusal.Refusal.TheVariants.{Engine}
 
 use crate::script_error::ScriptError;
 use ks_engine::EngineError;
+use ks_hidden::Hidden;
 use std::alloc::{AllocError, AllocFailed};
 
 /// Why a command was refused as a whole.
@@ -13,6 +14,8 @@ use std::alloc::{AllocError, AllocFailed};
 pub enum Refusal {
     /// A word, a file, its text or the tree, under the engine's numbers 1 to 42.
     Engine(EngineError),
+    /// An object may depend on more than names, under the numbers 24 to 27.
+    Hidden(Hidden),
     /// The line of a script that is no command.
     BadScript(u64),
     /// The output failed; a beginning of the text may be out.

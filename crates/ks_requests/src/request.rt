@@ -93,9 +93,11 @@ pub enum Request {
         options: RecordOptions,
     },
     /// Record an object for a build that goes by its dependency file, which gets the stamps of the names that were found in the
-    /// place of the header. The header is named by the end of its path, or it is the usual one.
+    /// place of the header. The header is named by the end of its path, or it is the usual one. Where it has a path under which it
+    /// may stand there too, an object is refused that may depend on more than names.
     Depfile {
         header: Option<String>,
+        strict: Option<String>,
         depfile: String,
         target: String,
         command: String,

@@ -6,7 +6,7 @@ ghost use Rattle.std.specs.Prelude.{◌≡◌, ◌-◌, ℕ, List, Some, IfOk, I
 ghost use Rattle.ks_symbols.specs.Lines.{lines};
 ghost use Rattle.ks_tree.specs.Files.{IsTooLarge, content};
 ghost use Rattle.ks_tree.specs.Frames.{Reads};
-ghost use Rattle.ks_requests.specs.Sites.{config_site, depfile_site, excerpt, excerpt_at, excerpt_in, names_site, part_text, record_site, script_site, site_of, source_site, visible, written_site};
+ghost use Rattle.ks_requests.specs.Sites.{config_site, depfile_site, excerpt, excerpt_at, excerpt_in, hidden_site, names_site, part_text, record_site, rule_site, script_site, site_of, source_site, visible, written_site};
 ghost use Rattle.ks_requests.specs.declared.sites.Part.TheVariants.{Line};
 ghost use Rattle.ks_requests.specs.Views.{seen_site};
 
@@ -15,6 +15,7 @@ use crate::request::{ConfigPaths, Request};
 use bstr::ByteSlice;
 use ks_engine::EngineError;
 use ks_fixdep::token_at;
+use ks_hidden::Hidden;
 use ks_output::WrittenError;
 use ks_symbols::SourceError;
 use ks_tree::{Tree, TreeFault, auto_path};
@@ -136,6 +137,26 @@ fn record_site<'a>(depfile: &'a [u8], refusal: &Refusal) -> Option<Site<'a>>
     }
 }
 
+/// The line at which an object may depend on more than names.
+fn hidden_site(hidden: &Hidden) -> Option<Site<'_>>
+    ensures { option_map seen_site result ≡ hidden_site hidden.now }
+{
+    match hidden {
+        Hidden::Input(path, line) | Hidden::Line(path, line) => at_line(path.as_bytes(), *line),
+        Hidden::OtherHeader(_) | Hidden::Precompiled(_) | Hidden::MissingLine(_) => None,
+    }
+}
+
+/// The line of what an object may depend on, or what a record points at.
+fn rule_site<'a>(depfile: &'a [u8], refusal: &'a Refusal) -> Option<Site<'a>>
+    ensures { option_map seen_site result ≡ rule_site depfile.now refusal.now }
+{
+    match refusal {
+        Refusal::Hidden(hidden) => hidden_site(hidden),
+        _ => record_site(depfile, refusal),
+    }
+}
+
 /// The line of a script.
 fn script_site<'a>(script: &'a [u8], refusal: &Refusal) -> Option<Site<'a>>
     ensures { option_map seen_site result ≡ script_site script.now refusal.now }
@@ -166,9 +187,9 @@ fn names_site<'a>(list: &'a [u8], refusal: &Refusal) -> Option<Site<'a>>
     }
 }
 
-/// Which file a refusal of a request is about, where it doesn't name that itself: `None` for a word, a missing file, memory,
+/// Which file a refusal of a request is about, where the refusal has no path of it, or a line beside it: `None` for a word, a missing file, memory,
 /// the device, the output, and for questions about objects, whose refusals are lines of their own.
-pub fn site_of<'a>(request: &'a Request, refusal: &Refusal) -> Option<Site<'a>>
+pub fn site_of<'a>(request: &'a Request, refusal: &'a Refusal) -> Option<Site<'a>>
     ensures { option_map seen_site result ≡ site_of request.now refusal.now }
 {
     match request {
@@ -177,9 +198,8 @@ pub fn site_of<'a>(request: &'a Request, refusal: &Refusal) -> Option<Site<'a>>
         | Request::Impact { config, .. } => config_site(config, Some(auto_path()), refusal),
         Request::Preview { config, old } => config_site(config, path_bytes(old), refusal),
         Request::Fixdep { depfile, .. } => depfile_site(depfile.as_bytes(), refusal),
-        Request::Record { depfile, .. } | Request::Depfile { depfile, .. } => {
-            record_site(depfile.as_bytes(), refusal)
-        }
+        Request::Record { depfile, .. } => record_site(depfile.as_bytes(), refusal),
+        Request::Depfile { depfile, .. } => rule_site(depfile.as_bytes(), refusal),
         Request::Batch { script } => script_site(script.as_bytes(), refusal),
         Request::Repair { stamps, .. } => names_site(stamps.as_bytes(), refusal),
         Request::Stale { .. }

@@ -1,0 +1,19 @@
+use Rattle.ks_commands.proofs.Prelude.{◌≡◌, None, Some, content, map, rules}
+use Rattle.std.specs.Prelude.{slice_get, vec_items}
+use Rattle.std.proofs.lemmas.Option.{slice_get-map, slice_get_read, slice_get-get_or}
+use Rattle.ks_commands.proofs.LookingLemmas.{one_more}
+use Rattle.ks_commands.proofs.looking.find_precompiled.Goals as goal
+
+pub loop-place-preserved : goal.loop-place-preserved
+loop-place-preserved g c = record {
+  unchanged = search rules;
+  kept = search rules;
+  same = search rules;
+  within = search rules;
+  absent = λ honest.
+      let there : slice_get (map vec_items c.args.paths.now) c.loop-place.place ≡ Some c.as_slice-path.result.now =
+      search (rules, slice_get-map, slice_get_read, slice_get-get_or) in
+      let none : content (g.T.Tree.files c.args.tree.now) c.as_slice-path.result.now ≡ None = search rules in
+      one_more (λ i p. content (g.T.Tree.files c.args.tree.now) p ≡ None) (map vec_items c.args.paths.now) c.loop-place.place
+      c.as_slice-path.result.now there none (c.loop-place.invariant.absent honest);
+}

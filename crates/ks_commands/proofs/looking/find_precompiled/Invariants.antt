@@ -1,0 +1,14 @@
+use Rattle.ks_commands.proofs.Prelude.{◌≡◌, ◌<◌, ◌≤◌, ℕ, List, None, Some, length, map, content}
+use Rattle.std.specs.Prelude.{slice_get, vec_items}
+use Rattle.ks_commands.proofs.looking.find_precompiled.Given as goal
+
+-- there is no file at the paths that were looked at
+abbrev pub invariant-loop-place : goal.invariant-loop-place
+invariant-loop-place g l = record {
+  unchanged : g.T.Tree.is_honest → g.T.Tree.files l.tree ≡ g.T.Tree.files l.fn.tree;
+  kept : g.T.Tree.backdated l.tree ≡ g.T.Tree.backdated l.fn.tree;
+  same : g.T.Tree.failures l.tree ≡ g.T.Tree.failures l.fn.tree;
+  within : l.place ≤ length l.paths;
+  absent : g.T.Tree.is_honest → (i : ℕ) (p : List ℕ) → i < l.place → slice_get (map vec_items l.paths) i ≡ Some p
+      → content (g.T.Tree.files l.fn.tree) p ≡ None;
+}

@@ -1,0 +1,16 @@
+use Rattle.ks_commands.proofs.Prelude.{◌≡◌, ◌<◌, ◌≤◌, ℕ, List, None, Some, length}
+use Rattle.std.specs.Prelude.{slice_get}
+use Rattle.ks_fixdep.specs.declared.dependency_file.Role.{Role}
+use Rattle.ks_commands.specs.Looking.{IsLookedAt, looked_by}
+use Rattle.ks_commands.proofs.looking.look_at_all.Given as goal
+
+-- the files that were looked at are as they should be
+abbrev pub invariant-loop-place : goal.invariant-loop-place
+invariant-loop-place g l = record {
+  unchanged : g.T.Tree.is_honest → g.T.Tree.files l.tree ≡ g.T.Tree.files l.fn.tree;
+  kept : g.T.Tree.backdated l.tree ≡ g.T.Tree.backdated l.fn.tree;
+  same : g.T.Tree.failures l.tree ≡ g.T.Tree.failures l.fn.tree;
+  within : l.place ≤ length l.prerequisites;
+  plain : g.T.Tree.is_honest → (i : ℕ) (p : List ℕ × Role) → i < l.place → slice_get l.prerequisites i ≡ Some p
+      → IsLookedAt (looked_by l.look) (g.T.Tree.files l.fn.tree) p.0 None;
+}

@@ -1,0 +1,332 @@
+//! Whether an object may depend on more than the names that its files mention, which is looked at before a strict record.
+//!
+//! A build that leaves the header of all symbols out of an object's dependencies is right where nothing but these names can matter. What
+//! the compiler has read says whether that is known. In doubt the object isn't recorded, and its dependencies stay.
+ghost use Rattle.std.specs.Prelude.{◌≡◌, ◌⊎◌, List, ℕ, Err, IfErr, IfOk, IsErrOf, IsTrue, OnOk, Some, is_some, map, slice_get, true, vec_items};
+ghost use Rattle.ks_symbols.specs.Names.{is_path};
+ghost use Rattle.ks_fixdep.specs.DependencyFile.{ends_in_path, is_directory, is_header};
+ghost use Rattle.ks_fixdep.specs.declared.dependency_file.Role.{Role};
+ghost use Rattle.ks_hidden.specs.declared.hidden.Hidden.TheVariants.{Precompiled};
+ghost use Rattle.ks_tree.specs.Files.{content};
+ghost use Rattle.ks_tree.specs.Frames.{Reads};
+ghost use Rattle.ks_engine.specs.Refusals.{IsAborted};
+ghost use Rattle.ks_requests.specs.Inputs.{given};
+ghost use Rattle.ks_commands.specs.Looking.{AreListed, AreLookedAt, IsFound, IsHeader, IsInput, IsListRefused, IsLooked, IsLookedAt, IsSought, IsUnread, has_source, is_header_name, is_of_system, is_own, is_source, looked_by, path_of};
+
+use ks_engine::{EngineError, read_old};
+use ks_fixdep::{Header, Prerequisites, read_depfile_without};
+use ks_hidden::{
+    Hidden, find_hidden, foreign_line, lacks_definition, line_number, precompiled_candidates,
+};
+use ks_output::OldConfig;
+use ks_requests::read_given;
+use ks_symbols::{Dialect, Path, Seed, path_is_legal};
+use ks_tree::{Tree, header_path};
+use std::alloc::{AllocError, Global};
+
+/// How the files of an object are looked at.
+#[derive(Drop)]
+struct Looking<'a> {
+    dialect: Dialect,
+    header: Header<'a>,
+    /// Another path that the header may have.
+    alias: &'a [u8],
+    /// What the last synchronisation wrote.
+    config: OldConfig,
+    command: &'a [u8],
+}
+
+/// Whether what stands before a path leaves it a path of its own.
+fn names_directory(prefix: &[u8]) -> bool
+    ensures { result ≡ is_directory prefix.now }
+{
+    prefix.is_empty() || prefix.ends_with(b"/")
+}
+
+/// Whether a path is another one, or ends in it after a slash.
+fn ends_in_path(path: &[u8], end: &[u8]) -> bool
+    ensures { result ≡ ends_in_path path.now end.now }
+{
+    match path.strip_suffix(end) {
+        Some(prefix) => names_directory(prefix),
+        None => false,
+    }
+}
+
+/// Whether a path is the header's, by its end.
+fn is_header(header: Header<'_>, path: &[u8]) -> bool
+    ensures { result ≡ is_header header.entry path.now }
+{
+    match header {
+        Header::Usual => path.ends_with(header_path()),
+        Header::BusyBox => ends_in_path(path, b"include/autoconf.h"),
+        Header::At(end) => ends_in_path(path, end),
+    }
+}
+
+/// The path by which sources include the header.
+fn path_of<'a>(header: Header<'a>) -> &'a [u8]
+    ensures { result.now ≡ path_of header.entry }
+{
+    match header {
+        Header::Usual => header_path(),
+        Header::BusyBox => b"include/autoconf.h",
+        Header::At(path) => path,
+    }
+}
+
+/// Whether a path is that of the header of this directory.
+fn is_own(header: Header<'_>, alias: &[u8], path: &[u8]) -> bool
+    ensures { result ≡ is_own header.entry alias.now path.now }
+{
+    path == alias || path == path_of(header)
+}
+
+/// Whether a file is the system's.
+fn is_of_system(path: &[u8]) -> bool
+    ensures { result ≡ is_of_system path.now }
+{
+    path.starts_with(b"/usr/")
+}
+
+/// Whether a file is a header by its name.
+fn is_header_name(path: &[u8]) -> bool
+    ensures { result ≡ is_header_name path.now }
+{
+    path.ends_with(b".h")
+        || path.ends_with(b".hh")
+        || path.ends_with(b".hpp")
+        || path.ends_with(b".hxx")
+}
+
+/// Looks at the header.
+fn look_at_header<T: Tree>(
+    alloc: Global,
+    tree: &mut T,
+    look: &Looking<'_>,
+    path: &[u8],
+) -> Result<Option<Hidden>, EngineError>
+    requires legal { IsTrue (is_path path.now) }
+    ensures reads { Reads T.Tree tree.old tree.new (IsErrOf result EngineError.Device) }
+    ensures passed { OnOk result (T.failures tree.new ≡ T.failures tree.old) }
+    ensures uncounted { IsErrOf result EngineError.OutOfMemory → T.failures tree.new ≡ T.failures tree.old }
+    ensures looked { T.is_honest → IfOk result (IsHeader (looked_by look.now) (T.files tree.old) path.now) }
+    ensures refused { T.is_honest → IfErr result (λ e. IsAborted e ⊎ (given (T.files tree.old) path.now ≡ Err e)) }
+{
+    if !is_own(look.header, look.alias, path) {
+        return Ok(Some(Hidden::OtherHeader(Path::new(alloc, path)?)));
+    }
+    let text = read_given(alloc, tree, path)?;
+    if let Some(line) = foreign_line(alloc, look.dialect, &look.config, &text)? {
+        return Ok(Some(Hidden::Line(Path::new(alloc, path)?, line)));
+    }
+    if lacks_definition(alloc, Seed::new(tree.seed()), &look.config, &text)? {
+        return Ok(Some(Hidden::MissingLine(Path::new(alloc, path)?)));
+    }
+    Ok(None)
+}
+
+/// Whether there is a file at a path.
+fn is_there<T: Tree>(alloc: Global, tree: &mut T, path: &[u8]) -> Result<bool, EngineError>
+    ensures reads { Reads T.Tree tree.old tree.new (IsErrOf result EngineError.Device) }
+    ensures passed { OnOk result (T.failures tree.new ≡ T.failures tree.old) }
+    ensures uncounted { IsErrOf result EngineError.OutOfMemory → T.failures tree.new ≡ T.failures tree.old }
+    ensures given { IfErr result IsAborted }
+    ensures found { T.is_honest → IfOk result (λ has. has ≡ is_some (content (T.files tree.old) path.now)) }
+{
+    Ok(tree.read_at(alloc, path, 0, &mut [0; 1])?.is_some())
+}
+
+/// Whether there is a file at one of these paths. One that is no path can't be looked at.
+fn find_precompiled<T: Tree>(
+    alloc: Global,
+    tree: &mut T,
+    source: &[u8],
+    paths: &[Vec<u8>],
+) -> Result<Option<Hidden>, EngineError>
+    requires legal { IsTrue (is_path source.now) }
+    ensures reads { Reads T.Tree tree.old tree.new (IsErrOf result EngineError.Device) }
+    ensures passed { OnOk result (T.failures tree.new ≡ T.failures tree.old) }
+    ensures uncounted { IsErrOf result EngineError.OutOfMemory → T.failures tree.new ≡ T.failures tree.old }
+    ensures found { T.is_honest → IfOk result (IsSought (T.files tree.old) source.now (map vec_items paths.now)) }
+    ensures given { IfErr result IsAborted }
+{
+    for place in 0..paths.len() {
+        let path = paths[place].as_slice();
+        if !path_is_legal(path) {
+            return Ok(Some(Hidden::Precompiled(Path::new(alloc, source)?)));
+        }
+        if is_there(alloc, tree, path)? {
+            return Ok(Some(Hidden::Precompiled(Path::new(alloc, path)?)));
+        }
+    }
+    Ok(None)
+}
+
+/// Looks at a file that the compiler has read.
+fn look_at_input<T: Tree>(
+    alloc: Global,
+    tree: &mut T,
+    command: &[u8],
+    path: &[u8],
+) -> Result<Option<Hidden>, EngineError>
+    requires legal { IsTrue (is_path path.now) }
+    ensures reads { Reads T.Tree tree.old tree.new (IsErrOf result EngineError.Device) }
+    ensures passed { OnOk result (T.failures tree.new ≡ T.failures tree.old) }
+    ensures uncounted { IsErrOf result EngineError.OutOfMemory → T.failures tree.new ≡ T.failures tree.old }
+    ensures looked { T.is_honest → IfOk result (IsInput command.now (T.files tree.old) path.now) }
+    ensures refused { T.is_honest → IfErr result (λ e. IsAborted e ⊎ (given (T.files tree.old) path.now ≡ Err e)) }
+{
+    let text = read_given(alloc, tree, path)?;
+    if let Some(at) = find_hidden(&text) {
+        return Ok(Some(Hidden::Input(Path::new(alloc, path)?, line_number(&text, at))));
+    }
+    if is_header_name(path) {
+        return Ok(None);
+    }
+    let paths = precompiled_candidates(alloc, path, &text, command)?;
+    find_precompiled(alloc, tree, path, &paths)
+}
+
+/// Looks at a file that the dependency file lists.
+fn look_at<T: Tree>(
+    alloc: Global,
+    tree: &mut T,
+    look: &Looking<'_>,
+    path: &[u8],
+) -> Result<Option<Hidden>, EngineError>
+    requires legal { IsTrue (is_path path.now) }
+    ensures reads { Reads T.Tree tree.old tree.new (IsErrOf result EngineError.Device) }
+    ensures passed { OnOk result (T.failures tree.new ≡ T.failures tree.old) }
+    ensures uncounted { IsErrOf result EngineError.OutOfMemory → T.failures tree.new ≡ T.failures tree.old }
+    ensures looked { T.is_honest → IfOk result (IsLookedAt (looked_by look.now) (T.files tree.old) path.now) }
+    ensures refused { T.is_honest → IfErr result (λ e. IsAborted e ⊎ (given (T.files tree.old) path.now ≡ Err e)) }
+{
+    if is_header(look.header, path) {
+        return look_at_header(alloc, tree, look, path);
+    }
+    if is_of_system(path) {
+        return Ok(None);
+    }
+    look_at_input(alloc, tree, look.command, path)
+}
+
+/// Whether a file is compiled, and not included.
+fn is_source(header: Header<'_>, path: &[u8]) -> bool
+    ensures { result ≡ is_source header.entry path.now }
+{
+    !is_header(header, path) && !is_of_system(path) && !is_header_name(path)
+}
+
+/// Whether one of the files that a dependency file lists is compiled.
+fn has_source(header: Header<'_>, prerequisites: &Prerequisites) -> bool
+    ensures { result ≡ has_source header.entry prerequisites.now }
+{
+    for place in 0..prerequisites.len() {
+        let Some((path, _)) = prerequisites.get(place) else {
+            unreachable!();
+        };
+        if is_source(header, path) {
+            return true;
+        }
+    }
+    false
+}
+
+/// The precompiled header that an object is, where none of its files is compiled.
+fn without_source(
+    alloc: Global,
+    prerequisites: &Prerequisites,
+) -> Result<Option<Hidden>, AllocError>
+    ensures { IfOk result (λ found. (p : List ℕ × Role) × (slice_get prerequisites.now 0 ≡ Some p) × (found ≡ Some (Precompiled p.0))) }
+{
+    let first = prerequisites.len() - prerequisites.len();
+    let Some((path, _)) = prerequisites.get(first) else {
+        unreachable!();
+    };
+    Ok(Some(Hidden::Precompiled(Path::new(alloc, path)?)))
+}
+
+/// Looks at all files that a dependency file lists, in their order.
+fn look_at_all<T: Tree>(
+    alloc: Global,
+    tree: &mut T,
+    look: &Looking<'_>,
+    prerequisites: &Prerequisites,
+) -> Result<Option<Hidden>, EngineError>
+    ensures reads { Reads T.Tree tree.old tree.new (IsErrOf result EngineError.Device) }
+    ensures passed { OnOk result (T.failures tree.new ≡ T.failures tree.old) }
+    ensures uncounted { IsErrOf result EngineError.OutOfMemory → T.failures tree.new ≡ T.failures tree.old }
+    ensures found { T.is_honest → IfOk result (AreLookedAt (looked_by look.now) (T.files tree.old) prerequisites.now) }
+    ensures refused { T.is_honest → IfErr result (λ e. IsAborted e ⊎ ((path : List ℕ) × (given (T.files tree.old) path ≡ Err e))) }
+{
+    for place in 0..prerequisites.len() {
+        let Some((path, _)) = prerequisites.get(place) else {
+            unreachable!();
+        };
+        if let Some(hidden) = look_at(alloc, tree, look, path)? {
+            return Ok(Some(hidden));
+        }
+    }
+    Ok(None)
+}
+
+/// What may matter to an object whose dependency file lists these, if anything.
+fn look_for_cause<T: Tree>(
+    alloc: Global,
+    tree: &mut T,
+    look: &Looking<'_>,
+    prerequisites: &Prerequisites,
+) -> Result<Option<Hidden>, EngineError>
+    ensures reads { Reads T.Tree tree.old tree.new (IsErrOf result EngineError.Device) }
+    ensures passed { OnOk result (T.failures tree.new ≡ T.failures tree.old) }
+    ensures uncounted { IsErrOf result EngineError.OutOfMemory → T.failures tree.new ≡ T.failures tree.old }
+    ensures found { T.is_honest → IfOk result (IsFound (looked_by look.now) (T.files tree.old) prerequisites.now) }
+    ensures refused { T.is_honest → IfErr result (λ e. IsAborted e ⊎ ((path : List ℕ) × (given (T.files tree.old) path ≡ Err e))) }
+{
+    if let Some(hidden) = look_at_all(alloc, tree, look, prerequisites)? {
+        return Ok(Some(hidden));
+    }
+    if has_source(look.header, prerequisites) {
+        return Ok(None);
+    }
+    Ok(without_source(alloc, prerequisites)?)
+}
+
+/// The files that a dependency file lists, the header among them: no path ends in a line feed.
+fn read_listed(alloc: Global, seed: Seed, text: &[u8]) -> Result<Prerequisites, EngineError>
+    ensures listed { IfOk result (AreListed text.now) }
+    ensures refused { IfErr result (λ e. IsAborted e ⊎ IsListRefused text.now e) }
+    ensures no_device { IsErrOf result EngineError.Device → ⊥ }
+{
+    Ok(read_depfile_without(alloc, seed, Header::At(b"\n"), text)?)
+}
+
+/// What may matter to an object beside the names that its files mention, if anything, by the dependency file that the compiler wrote.
+pub(crate) fn find_cause<T: Tree>(
+    alloc: Global,
+    tree: &mut T,
+    dialect: Dialect,
+    header: Header<'_>,
+    alias: &[u8],
+    depfile: &[u8],
+    command: &[u8],
+) -> Result<Option<Hidden>, EngineError>
+    ensures reads { Reads T.Tree tree.old tree.new (IsErrOf result EngineError.Device) }
+    ensures passed { OnOk result (T.failures tree.new ≡ T.failures tree.old) }
+    ensures uncounted { IsErrOf result EngineError.OutOfMemory → T.failures tree.new ≡ T.failures tree.old }
+    ensures looked { T.is_honest → IfOk result (IsLooked dialect header.entry alias.now (T.files tree.old) depfile.now command.now) }
+    ensures refused { T.is_honest → IfErr result (λ e. IsAborted e ⊎ IsUnread (T.files tree.old) depfile.now e) }
+{
+    let text = read_given(alloc, tree, depfile)?;
+    let prerequisites = read_listed(alloc, Seed::new(tree.seed()), &text)?;
+    let config = read_old(alloc, tree)?;
+    let look = Looking {
+        dialect,
+        header,
+        alias,
+        config,
+        command,
+    };
+    look_for_cause(alloc, tree, &look, &prerequisites)
+}

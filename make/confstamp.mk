@@ -77,7 +77,7 @@ $(confstamp-state)/confstamp.mk: $(confstamp-sources) $(confstamp-pending)
 	> /dev/null && \
 	cat $(@D)/auto.conf $(confstamp-header) >> $(confstamp-kept).new && { echo '-include $(@D)/auto.conf' && \
 	sed -n 's/^#generation /confstamp-generation := /p' $(@D)/auto.conf; } > $@ && \
-	cp -p $(@D)/../generated/autoconf.h $(@D)/header.kept && mv $(confstamp-kept).new $(confstamp-kept); }
+	mv $(confstamp-kept).new $(confstamp-kept); }
 
 .PHONY: confstamp-always
 confstamp-always:

@@ -7,7 +7,7 @@ use Rattle.ks_symbols.specs.declared.dialect.Dialect.{Dialect}
 use Rattle.ks_output.specs.OldConfig.{Texts}
 use Rattle.ks_hidden.specs.HeaderLines.{foreign_line, lacks}
 use Rattle.ks_hidden.specs.Candidates.{candidates}
-use Rattle.ks_hidden.specs.Texts.{HidesNothing, IsHiddenAt, line_number}
+use Rattle.ks_hidden.specs.Texts.{HidesNothing, IsHiddenLine}
 use Rattle.ks_hidden.specs.declared.hidden.Hidden.{Hidden}
 use Rattle.ks_hidden.specs.declared.hidden.Hidden.TheVariants as hidden
 use Rattle.ks_fixdep.specs.DependencyFile.{is_header, prerequisites_without, refusal_without}
@@ -50,9 +50,10 @@ path_of (At path) = path.now
 abbrev pub is_own : Header → List ℕ → List ℕ → Bool
 is_own header alias path = bytes_eq path alias || bytes_eq path (path_of header)
 
--- a file of the system, which mentions no symbol and is the same for all
+-- a file of the system, which is the same for all; none of a project that stands in /usr
 abbrev pub is_of_system : List ℕ → Bool
 is_of_system path = starts_with nat_eq path (codes "/usr/")
+    && not (starts_with nat_eq path (codes "/usr/src/")) && not (starts_with nat_eq path (codes "/usr/local/src/"))
 
 -- a header by its name: no precompiled one is sought for what it includes
 abbrev pub is_header_name : List ℕ → Bool
@@ -85,7 +86,7 @@ IsPlainText command files path b = HidesNothing b × (is_header_name path ≡ fa
 
 -- or this is why not
 abbrev pub IsTextCause : List ℕ → Files → List ℕ → List ℕ → Hidden → Type 0
-IsTextCause command files path b (hidden.Input p n) = (p ≡ path) × (k : ℕ) × IsHiddenAt b k × (n ≡ line_number b k)
+IsTextCause command files path b (hidden.Input p n) = (p ≡ path) × IsHiddenLine b n
 IsTextCause command files path b h = IsSought files path (candidates path b command) (Some h)
 
 abbrev pub IsInput : List ℕ → Files → List ℕ → Option Hidden → Type 0

@@ -15,9 +15,7 @@ ghost use Rattle.ks_commands.specs.Looking.{AreListed, AreLookedAt, IsFound, IsH
 
 use ks_engine::{EngineError, read_old};
 use ks_fixdep::{Header, Prerequisites, read_depfile_without};
-use ks_hidden::{
-    Hidden, find_hidden, foreign_line, lacks_definition, line_number, precompiled_candidates,
-};
+use ks_hidden::{Hidden, foreign_line, hidden_line, lacks_definition, precompiled_candidates};
 use ks_output::OldConfig;
 use ks_requests::read_given;
 use ks_symbols::{Dialect, Path, Seed, path_is_legal};
@@ -87,6 +85,8 @@ fn is_of_system(path: &[u8]) -> bool
     ensures { result ≡ is_of_system path.now }
 {
     path.starts_with(b"/usr/")
+        && !path.starts_with(b"/usr/src/")
+        && !path.starts_with(b"/usr/local/src/")
 }
 
 /// Whether a file is a header by its name.
@@ -178,8 +178,8 @@ fn look_at_input<T: Tree>(
     ensures refused { T.is_honest → IfErr result (λ e. IsAborted e ⊎ (given (T.files tree.old) path.now ≡ Err e)) }
 {
     let text = read_given(alloc, tree, path)?;
-    if let Some(at) = find_hidden(&text) {
-        return Ok(Some(Hidden::Input(Path::new(alloc, path)?, line_number(&text, at))));
+    if let Some(line) = hidden_line(&text) {
+        return Ok(Some(Hidden::Input(Path::new(alloc, path)?, line)));
     }
     if is_header_name(path) {
         return Ok(None);

@@ -1,9 +1,9 @@
 -- What a text of C or of an assembler may hold that has the compiler read a file which it lists nowhere, or makes an object one of the
 -- time of its compile. The words are those of the C preprocessor and of the GNU assembler.
 use Rattle.std.specs.Prelude.{◌≡◌, ◌⊎◌, ◌+◌, ◌==◌, ◌||◌, not, ℕ, Bool, true, false, List, [], ◌∷◌, Option, Some, None, codes, drop, take, nat_eq, length, if◌then◌else◌}
-use Rattle.std.specs.List.{starts_with}
-use Rattle.memchr.specs.Find.{places, OccursAt, is_byte}
-use Rattle.ks_symbols.specs.LineKinds.{is_blank, skip_blanks}
+use Rattle.std.specs.List.{prefix_len, starts_with}
+use Rattle.memchr.specs.Find.{OccursAt, is_byte, places}
+use Rattle.ks_symbols.specs.Lines.{lines}
 
 -- ---- marks
 
@@ -11,9 +11,16 @@ use Rattle.ks_symbols.specs.LineKinds.{is_blank, skip_blanks}
 abbrev pub IsMarkAt : List ℕ → ℕ → Type 0
 IsMarkAt text k =
     OccursAt text (codes ".incbin") k ⊎ (OccursAt text (codes ".include") k ⊎ (OccursAt text (codes "__has_include") k
-    ⊎ (OccursAt text (codes "__has_embed") k ⊎ (OccursAt text (codes "__DATE__") k ⊎ OccursAt text (codes "__TIME") k))))
+    ⊎ (OccursAt text (codes "__has_embed") k ⊎ (OccursAt text (codes "__DATE__") k ⊎ (OccursAt text (codes "__TIME__") k ⊎ OccursAt text (codes "__TIMESTAMP__") k)))))
 
 -- ---- includes whose file is computed
+
+-- a space, a tab, a vertical tab or a form feed
+abbrev pub is_blank : ℕ → Bool
+is_blank b = b == 32 || b == 9 || b == 11 || b == 12
+
+abbrev pub skip_blanks : List ℕ → List ℕ
+skip_blanks text = drop (prefix_len is_blank text) text
 
 -- what follows a word with which a text begins
 abbrev pub after : List ℕ → List ℕ → Option (List ℕ)
@@ -33,37 +40,53 @@ abbrev pub begins_other : List ℕ → Bool
 begins_other [] = false
 begins_other (b ∷ rest) = not (b == 34 || b == 60 || b == 10 || b == 13)
 
--- No name in quotes or angles follows the word, but, after blanks, something else; or at once a backslash or a slash, behind which the
--- compiler goes on in the next line, or after a comment.
+-- or with a backslash, a slash or a question mark: behind these a compiler may go on in the next line, or after a comment
+abbrev pub begins_joined : List ℕ → Bool
+begins_joined [] = false
+begins_joined (b ∷ rest) = b == 92 || b == 47 || b == 63
+
+-- No name in quotes or angles follows the word, but, after blanks, something else; or at once what may join it to that.
 abbrev pub follows_computed : List ℕ → Bool
 follows_computed [] = false
-follows_computed (b ∷ rest) = if b == 92 || b == 47 then true else if is_blank b then begins_other (skip_blanks rest) else false
+follows_computed (b ∷ rest) = if b == 92 || b == 47 || b == 63 then true else if is_blank b then begins_other (skip_blanks rest) else false
 
 abbrev pub has_computed : Option (List ℕ) → Bool
 has_computed None = false
 has_computed (Some rest) = follows_computed rest
 
--- what follows a `#` includes what a macro says
+-- what follows the sign of a directive includes what a macro says
 unfoldable pub is_computed : List ℕ → Bool
-is_computed text = has_computed (after_include (skip_blanks text))
+is_computed text = if begins_joined (skip_blanks text) then true else has_computed (after_include (skip_blanks text))
 
--- Such a sign stands at a place: a `#`, or what a compiler takes for one.
-pub record IsComputedBy (sign text : List ℕ) (k : ℕ) : Type 0 where
-  pub there : OccursAt text sign k
-  pub computed : is_computed (drop (k + length sign) text) ≡ true
+-- what follows the sign, in one of its three spellings, with which a text begins
+unfoldable pub after_sign : List ℕ → Option (List ℕ)
+after_sign text = or_else (after (codes "#") text) (or_else (after (codes "%:") text) (after (codes "??=") text))
 
-abbrev pub IsComputedAt : List ℕ → ℕ → Type 0
-IsComputedAt text k = IsComputedBy (codes "#") text k ⊎ (IsComputedBy (codes "%:") text k ⊎ IsComputedBy (codes "??=") text k)
+abbrev pub directs_computed : Option (List ℕ) → Bool
+directs_computed None = false
+directs_computed (Some rest) = is_computed rest
+
+unfoldable pub is_computed_line : List ℕ → Bool
+is_computed_line line = directs_computed (after_sign (skip_blanks line))
+
+-- the number of the first such line, where they are counted from n on, and in a text from 1 on
+unfoldable pub computed_from : ℕ → List (List ℕ) → Option ℕ
+computed_from n [] = None
+computed_from n (l ∷ ls) = if is_computed_line l then Some n else computed_from (n + 1) ls
+
+unfoldable pub first_computed : List ℕ → Option ℕ
+first_computed text = computed_from 1 (lines text)
 
 -- ---- both
-
-abbrev pub IsHiddenAt : List ℕ → ℕ → Type 0
-IsHiddenAt text k = IsMarkAt text k ⊎ IsComputedAt text k
-
--- nothing of that stands in a text
-abbrev pub HidesNothing : List ℕ → Type 0
-HidesNothing text = (k : ℕ) → IsHiddenAt text k → ⊥
 
 -- the number of the line in which a place stands: one more than there are ends of lines before it
 unfoldable pub line_number : List ℕ → ℕ → ℕ
 line_number text k = length (places (is_byte 10) (take k text)) + 1
+
+-- a line has such a mark, or is the first that includes what a macro says
+abbrev pub IsHiddenLine : List ℕ → ℕ → Type 0
+IsHiddenLine text n = ((k : ℕ) × IsMarkAt text k × (n ≡ line_number text k)) ⊎ (first_computed text ≡ Some n)
+
+-- nothing of that stands in a text
+abbrev pub HidesNothing : List ℕ → Type 0
+HidesNothing text = ((k : ℕ) → IsMarkAt text k → ⊥) × (first_computed text ≡ None)

@@ -18,4 +18,4 @@ pub use lacking::lacks_definition;
 pub use laws::{
     explained_lines_are_definitions, header_lines_are_worked, written_headers_lack_none,
 };
-pub use texts::{find_hidden, line_number};
+pub use texts::hidden_line;

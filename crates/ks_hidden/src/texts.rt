@@ -1,17 +1,17 @@
 //! What a text may hold that has the compiler read a file which it lists nowhere, or makes an object one of the time of its compile.
 //!
 //! Most texts hold nothing of that. So each is searched as a whole, and for few words.
-ghost use Rattle.std.specs.Prelude.{◌≡◌, ◌≤◌, ◌<◌, ◌+◌, ℕ, IfSome, None, option_map, length, drop};
+ghost use Rattle.std.specs.Prelude.{◌≡◌, ℕ, IfSome, None, option_map};
 ghost use Rattle.memchr.specs.Find.{OccursAt};
-ghost use Rattle.ks_symbols.specs.LineKinds.{is_blank, skip_blanks};
-ghost use Rattle.ks_hidden.specs.Texts.{HidesNothing, IsComputedAt, IsComputedBy, IsHiddenAt, IsMarkAt, after, after_include, begins_other, follows_computed, is_computed, line_number};
+ghost use Rattle.ks_hidden.specs.Texts.{HidesNothing, IsHiddenLine, IsMarkAt, after, after_include, after_sign, begins_joined, begins_other, first_computed, follows_computed, is_blank, is_computed, is_computed_line, line_number, skip_blanks};
 
+use bstr::ByteSlice;
 use memchr::{memchr_iter, memmem};
 
 fn is_blank(byte: u8) -> bool
     ensures { result ≡ is_blank byte }
 {
-    byte == b' ' || byte == b'\t'
+    matches!(byte, b' ' | b'\t' | 11 | 12)
 }
 
 /// A text from its first byte on that is no blank.
@@ -47,7 +47,10 @@ fn find_mark(text: &[u8]) -> Option<usize>
     if let Some(at) = find(text, b"__DATE__") {
         return Some(at);
     }
-    if let Some(at) = find(text, b"__TIME") {
+    if let Some(at) = find(text, b"__TIME__") {
+        return Some(at);
+    }
+    if let Some(at) = find(text, b"__TIMESTAMP__") {
         return Some(at);
     }
     if let Some(at) = find(text, b".incbin") {
@@ -95,77 +98,93 @@ fn follows_computed(rest: &[u8]) -> bool
     ensures { result ≡ follows_computed rest.now }
 {
     match rest.split_first() {
-        Some((b'\\' | b'/', _)) => true,
+        Some((b'\\' | b'/' | b'?', _)) => true,
         Some((byte, rest)) => is_blank(*byte) && begins_other(skip_blanks(rest)),
         None => false,
     }
 }
 
-/// Whether what follows a `#` includes what a macro says.
+/// Whether a text begins with what joins lines, or with a comment.
+fn begins_joined(text: &[u8]) -> bool
+    ensures { result ≡ begins_joined text.now }
+{
+    match text.first() {
+        Some(byte) => matches!(*byte, b'\\' | b'/' | b'?'),
+        None => false,
+    }
+}
+
+/// Whether what follows the sign of a directive includes what a macro says.
 #[tactic(auto, unfolding(crate::specs::Texts::is_computed))]
 fn is_computed(text: &[u8]) -> bool
     ensures { result ≡ is_computed text.now }
 {
-    match after_include(skip_blanks(text)) {
+    let text = skip_blanks(text);
+    if begins_joined(text) {
+        return true;
+    }
+    match after_include(text) {
         Some(rest) => follows_computed(rest),
         None => false,
     }
 }
 
-/// The bytes from a place on, as far as there are any.
-fn rest_from(text: &[u8], start: usize) -> &[u8]
-    ensures { result.now ≡ drop start text.now }
+/// What follows the sign of a directive with which a text begins.
+#[tactic(auto, unfolding(crate::specs::Texts::after_sign))]
+fn after_sign(text: &[u8]) -> Option<&[u8]>
+    ensures { option_map (λ t. t.now) result ≡ after_sign text.now }
 {
-    &text[start.min(text.len())..]
+    if let Some(rest) = after(b"#", text) {
+        return Some(rest);
+    }
+    if let Some(rest) = after(b"%:", text) {
+        return Some(rest);
+    }
+    after(b"??=", text)
 }
 
-/// The first include behind such a sign whose file is computed.
-fn find_computed_by(text: &[u8], sign: &[u8]) -> Option<usize>
-    requires some { 0 < length sign.now }
-    ensures none { result ≡ None → (k : ℕ) → IsComputedBy sign.now text.now k → ⊥ }
-    ensures some { IfSome result (IsComputedBy sign.now text.now) }
+/// Whether a line includes what a macro says.
+#[tactic(auto, unfolding(crate::specs::Texts::is_computed_line))]
+fn is_computed_line(line: &[u8]) -> bool
+    ensures { result ≡ is_computed_line line.now }
 {
-    let mut start = 0;
-    while let Some(offset) = memmem::find(rest_from(text, start), sign) {
-        let at = start + offset;
-        if is_computed(rest_from(text, at + sign.len())) {
-            return Some(at);
+    match after_sign(skip_blanks(line)) {
+        Some(rest) => is_computed(rest),
+        None => false,
+    }
+}
+
+/// The number of the first line that includes what a macro says.
+#[tactic(auto, unfolding(crate::specs::Texts::computed_from))]
+fn first_computed(text: &[u8]) -> Option<u64>
+    ensures { result ≡ first_computed text.now }
+{
+    let mut number: u64 = 1;
+    for line in text.lines() {
+        if is_computed_line(line) {
+            return Some(number);
         }
-        start = at + 1;
+        number += 1;
     }
     None
 }
 
-/// The first include whose file is computed.
-fn find_computed(text: &[u8]) -> Option<usize>
-    ensures none { result ≡ None → (k : ℕ) → IsComputedAt text.now k → ⊥ }
-    ensures some { IfSome result (IsComputedAt text.now) }
-{
-    if let Some(at) = find_computed_by(text, b"#") {
-        return Some(at);
-    }
-    if let Some(at) = find_computed_by(text, b"%:") {
-        return Some(at);
-    }
-    find_computed_by(text, b"??=")
-}
-
-/// The first place of what hides a file, if any.
-pub fn find_hidden(text: &[u8]) -> Option<usize>
-    ensures none { result ≡ None → HidesNothing text.now }
-    ensures some { IfSome result (IsHiddenAt text.now) }
-{
-    match find_mark(text) {
-        Some(at) => Some(at),
-        None => find_computed(text),
-    }
-}
-
 /// The number of the line in which a place stands, counted from 1.
 #[tactic(auto, unfolding(crate::specs::Texts::line_number))]
-pub fn line_number(text: &[u8], at: usize) -> u64
+fn line_number(text: &[u8], at: usize) -> u64
     ensures { result ≡ line_number text.now at }
 {
     let before = &text[..at.min(text.len())];
     memchr_iter(b'\n', before).count() as u64 + 1
+}
+
+/// The number of a line that hides a file, if any.
+pub fn hidden_line(text: &[u8]) -> Option<u64>
+    ensures none { result ≡ None → HidesNothing text.now }
+    ensures some { IfSome result (IsHiddenLine text.now) }
+{
+    match find_mark(text) {
+        Some(at) => Some(line_number(text, at)),
+        None => first_computed(text),
+    }
 }

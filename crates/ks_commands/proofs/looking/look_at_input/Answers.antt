@@ -12,7 +12,7 @@ returns-then-is_header_name-clause-looked g c = λ honest.
       text,
       given_is (g.T.Tree.files c.args.tree.now) c.args.path.now text (c.in_ok-text.ensures.bytes honest),
       (
-        rw (c.deref.ensures.value) at (c.find_hidden.ensures.none c.in_default.is),
+        rw (c.deref.ensures.value) at (c.hidden_line.ensures.none c.in_default.is),
         λ named. absurd (false≢true (sym named ∙ sym c.is_header_name.ensures ∙ c.if-is_header_name.true)),
       ),
     )
@@ -21,7 +21,7 @@ pub returns-clause-looked : goal.returns-clause-looked
 returns-clause-looked g c = λ honest.
     let text = c.in_ok-text.text.items in
     let there = given_is (g.T.Tree.files c.args.tree.now) c.args.path.now text (c.in_ok-text.ensures.bytes honest) in
-    let hides = rw (c.deref.ensures.value) at (c.find_hidden.ensures.none c.in_default.is) in
+    let hides = rw (c.deref.ensures.value) at (c.hidden_line.ensures.none c.in_default.is) in
     let are : map vec_items c.deref-3.result.now ≡ candidates c.args.path.now text c.args.command.now =
     rw (c.deref-3.ensures.value, c.in_ok-paths.ensures, c.deref-2.ensures.value) refl in
     let found = rw (c.in_ok-text.ensures.reads.unchanged honest) at (c.find_precompiled.ensures.found honest) in

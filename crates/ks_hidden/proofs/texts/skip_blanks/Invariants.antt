@@ -1,6 +1,6 @@
 use Rattle.std.proofs.Common.{◌≡◌, ◌+◌, ◌-◌, ◌≤◌, length, drop}
 use Rattle.std.specs.List.{prefix_len}
-use Rattle.ks_symbols.specs.LineKinds.{is_blank}
+use Rattle.ks_hidden.specs.Texts.{is_blank}
 use Rattle.ks_hidden.proofs.texts.skip_blanks.Given as goal
 
 abbrev pub invariant-loop-end : goal.invariant-loop-end

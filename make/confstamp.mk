@@ -115,8 +115,8 @@ confstamp-known = sed -e '/^  \(\/.*\/\)*include\/config\/[A-Za-z0-9_]*\( \\\)*$
 confstamp-options = $(if $(confstamp-own-header),--header $(confstamp-own-header))
 confstamp-cc = confstamp-cc $(if $(confstamp-elsewhere),-C $(confstamp-dir)) $(confstamp-words) $(confstamp-options) \
 	$(1) -MD -MF $(confstamp-depfile)
-confstamp-record = $(1) && { $(confstamp-program) $(confstamp-words) -C $(confstamp-dir) depfile $(confstamp-options) -- \
-	$(confstamp-depfile) $@ '$(confstamp-text)' > /dev/null || rm -f $(confstamp-cmd); }
+confstamp-record = $(1) && { $(confstamp-program) $(confstamp-words) -C $(confstamp-dir) depfile $(confstamp-options) \
+	--strict $(abspath $(confstamp-header)) -- $(confstamp-depfile) $@ '$(confstamp-text)' > /dev/null || rm -f $(confstamp-cmd); }
 
 confstamp-compile = $(if $(confstamp-why),$(call confstamp-run,$(1),$(2),$(confstamp-cc),$(confstamp-known)))
 confstamp-generate = $(if $(confstamp-why),$(call confstamp-run,$(1),$(2),$(confstamp-record),$(confstamp-known)))

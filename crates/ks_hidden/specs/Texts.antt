@@ -1,17 +1,21 @@
 -- What a text of C or of an assembler may hold that has the compiler read a file which it lists nowhere, or makes an object one of the
 -- time of its compile. The words are those of the C preprocessor and of the GNU assembler.
-use Rattle.std.specs.Prelude.{◌≡◌, ◌⊎◌, ◌+◌, ◌==◌, ◌||◌, not, ℕ, Bool, true, false, List, [], ◌∷◌, Option, Some, None, codes, drop, take, nat_eq, length, if◌then◌else◌}
-use Rattle.std.specs.List.{prefix_len, starts_with}
+use Rattle.std.specs.Prelude.{◌≡◌, ◌⊎◌, ◌+◌, ◌-◌, ◌==◌, ◌||◌, ◌&&◌, not, ℕ, Bool, true, false, List, [], ◌∷◌, Option, Some, None, codes, drop, take, nat_eq, length, slice_get, if◌then◌else◌}
+use Rattle.std.specs.List.{ends_with, prefix_len}
 use Rattle.memchr.specs.Find.{OccursAt, is_byte, places}
 use Rattle.ks_symbols.specs.Lines.{lines}
+use Rattle.ks_symbols.specs.Names.{is_word_byte}
+use Rattle.ks_symbols.specs.Refusals.{or_else}
+use Rattle.ks_hidden.specs.Words.{behind}
 
 -- ---- marks
 
--- At a place stands what reads a file, looks for one, or is of the time of a compile.
-abbrev pub IsMarkAt : List ℕ → ℕ → Type 0
-IsMarkAt text k =
-    OccursAt text (codes ".incbin") k ⊎ (OccursAt text (codes ".include") k ⊎ (OccursAt text (codes "__has_include") k
-    ⊎ (OccursAt text (codes "__has_embed") k ⊎ (OccursAt text (codes "__DATE__") k ⊎ (OccursAt text (codes "__TIME__") k ⊎ OccursAt text (codes "__TIMESTAMP__") k)))))
+-- At a place stands what reads a file, looks for one, or is of the time of a compile. The assembler takes its words in either case.
+abbrev pub IsWordAt : List ℕ → ℕ → Type 0
+IsWordAt text k =
+    OccursAt text (codes "incbin") k ⊎ (OccursAt text (codes "INCBIN") k ⊎ (OccursAt text (codes ".include") k ⊎ (OccursAt text (codes ".INCLUDE") k
+    ⊎ (OccursAt text (codes "__has_include") k ⊎ (OccursAt text (codes "__has_embed") k
+    ⊎ (OccursAt text (codes "__DATE__") k ⊎ (OccursAt text (codes "__TIME__") k ⊎ OccursAt text (codes "__TIMESTAMP__") k)))))))
 
 -- ---- includes whose file is computed
 
@@ -22,18 +26,10 @@ is_blank b = b == 32 || b == 9 || b == 11 || b == 12
 abbrev pub skip_blanks : List ℕ → List ℕ
 skip_blanks text = drop (prefix_len is_blank text) text
 
--- what follows a word with which a text begins
-abbrev pub after : List ℕ → List ℕ → Option (List ℕ)
-after word text = if starts_with nat_eq text word then Some (drop (length word) text) else None
-
-abbrev pub or_else : Option (List ℕ) → Option (List ℕ) → Option (List ℕ)
-or_else None other = other
-or_else found other = found
-
 -- what follows the word of an include with which a text begins
 unfoldable pub after_include : List ℕ → Option (List ℕ)
 after_include text =
-    or_else (after (codes "include_next") text) (or_else (after (codes "include") text) (or_else (after (codes "import") text) (after (codes "embed") text)))
+    or_else (behind (codes "include_next") text) (or_else (behind (codes "include") text) (or_else (behind (codes "import") text) (behind (codes "embed") text)))
 
 -- a text begins with what is no quote, no angle and no end of a line
 abbrev pub begins_other : List ℕ → Bool
@@ -60,7 +56,7 @@ is_computed text = if begins_joined (skip_blanks text) then true else has_comput
 
 -- what follows the sign, in one of its three spellings, with which a text begins
 unfoldable pub after_sign : List ℕ → Option (List ℕ)
-after_sign text = or_else (after (codes "#") text) (or_else (after (codes "%:") text) (after (codes "??=") text))
+after_sign text = or_else (behind (codes "#") text) (or_else (behind (codes "%:") text) (behind (codes "??=") text))
 
 abbrev pub directs_computed : Option (List ℕ) → Bool
 directs_computed None = false
@@ -69,6 +65,47 @@ directs_computed (Some rest) = is_computed rest
 unfoldable pub is_computed_line : List ℕ → Bool
 is_computed_line line = directs_computed (after_sign (skip_blanks line))
 
+-- ---- joints
+
+-- whether a byte is there, and is of a word
+abbrev pub is_of_word : Option ℕ → Bool
+is_of_word None = false
+is_of_word (Some b) = is_word_byte b
+
+-- or joins the next line, too
+abbrev pub is_of_word_or_joins : Option ℕ → Bool
+is_of_word_or_joins None = false
+is_of_word_or_joins (Some b) = is_word_byte b || b == 92
+
+abbrev pub begins_word : Option (List ℕ) → Bool
+begins_word None = false
+begins_word (Some text) = is_of_word_or_joins (slice_get text 0)
+
+-- what follows the end of a line with which a text begins
+unfoldable pub after_line_end : List ℕ → Option (List ℕ)
+after_line_end text = or_else (behind (codes "\n") text) (behind (codes "\r\n") text)
+
+-- What stands before a backslash and what the next line begins with are parts of one word.
+unfoldable pub joins_word : List ℕ → List ℕ → Bool
+joins_word before rest = is_of_word (slice_get before (length before - 1)) && begins_word (after_line_end (skip_blanks rest))
+
+-- What stands before a slash makes it the end of a comment, behind which such a directive stands.
+unfoldable pub ends_comment : List ℕ → List ℕ → Bool
+ends_comment before rest = ends_with nat_eq before (codes "*") && is_computed_line rest
+
+-- the one of a backslash, and the other of a slash
+abbrev pub is_joint_of : List ℕ → List ℕ → Option ℕ → Bool
+is_joint_of before rest None = false
+is_joint_of before rest (Some b) = if b == 92 then joins_word before rest else if b == 47 then ends_comment before rest else false
+
+unfoldable pub is_joint : List ℕ → ℕ → Bool
+is_joint text k = is_joint_of (take k text) (drop (k + 1) text) (slice_get text k)
+
+-- ---- both kinds of places, and lines
+
+abbrev pub IsMarkAt : List ℕ → ℕ → Type 0
+IsMarkAt text k = IsWordAt text k ⊎ (is_joint text k ≡ true)
+
 -- the number of the first such line, where they are counted from n on, and in a text from 1 on
 unfoldable pub computed_from : ℕ → List (List ℕ) → Option ℕ
 computed_from n [] = None
@@ -76,8 +113,6 @@ computed_from n (l ∷ ls) = if is_computed_line l then Some n else computed_fro
 
 unfoldable pub first_computed : List ℕ → Option ℕ
 first_computed text = computed_from 1 (lines text)
-
--- ---- both
 
 -- the number of the line in which a place stands: one more than there are ends of lines before it
 unfoldable pub line_number : List ℕ → ℕ → ℕ

@@ -1,12 +1,13 @@
 //! What a text may hold that has the compiler read a file which it lists nowhere, or makes an object one of the time of its compile.
 //!
 //! Most texts hold nothing of that. So each is searched as a whole, and for few words.
-ghost use Rattle.std.specs.Prelude.{◌≡◌, ℕ, IfSome, None, option_map};
+ghost use Rattle.std.specs.Prelude.{◌≡◌, ℕ, IfSome, None, option_map, true};
 ghost use Rattle.memchr.specs.Find.{OccursAt};
-ghost use Rattle.ks_hidden.specs.Texts.{HidesNothing, IsHiddenLine, IsMarkAt, after, after_include, after_sign, begins_joined, begins_other, first_computed, follows_computed, is_blank, is_computed, is_computed_line, line_number, skip_blanks};
+ghost use Rattle.ks_hidden.specs.Texts.{HidesNothing, IsHiddenLine, IsMarkAt, IsWordAt, after_include, after_line_end, after_sign, begins_joined, begins_other, ends_comment, first_computed, follows_computed, is_blank, is_computed, is_computed_line, is_joint, is_of_word, is_of_word_or_joins, joins_word, line_number, skip_blanks};
 
+use crate::words::behind;
 use bstr::ByteSlice;
-use memchr::{memchr_iter, memmem};
+use memchr::{memchr_iter, memchr2_iter, memmem};
 
 fn is_blank(byte: u8) -> bool
     ensures { result ≡ is_blank byte }
@@ -34,9 +35,9 @@ fn find(text: &[u8], word: &[u8]) -> Option<usize>
 }
 
 /// A place of one of the words that hide a file.
-fn find_mark(text: &[u8]) -> Option<usize>
-    ensures none { result ≡ None → (k : ℕ) → IsMarkAt text.now k → ⊥ }
-    ensures some { IfSome result (IsMarkAt text.now) }
+fn find_word(text: &[u8]) -> Option<usize>
+    ensures none { result ≡ None → (k : ℕ) → IsWordAt text.now k → ⊥ }
+    ensures some { IfSome result (IsWordAt text.now) }
 {
     if let Some(at) = find(text, b"__has_include") {
         return Some(at);
@@ -53,17 +54,16 @@ fn find_mark(text: &[u8]) -> Option<usize>
     if let Some(at) = find(text, b"__TIMESTAMP__") {
         return Some(at);
     }
-    if let Some(at) = find(text, b".incbin") {
+    if let Some(at) = find(text, b"incbin") {
         return Some(at);
     }
-    find(text, b".include")
-}
-
-/// What follows a word with which a text begins.
-fn after<'a>(word: &[u8], text: &'a [u8]) -> Option<&'a [u8]>
-    ensures { option_map (λ t. t.now) result ≡ after word.now text.now }
-{
-    text.strip_prefix(word)
+    if let Some(at) = find(text, b"INCBIN") {
+        return Some(at);
+    }
+    if let Some(at) = find(text, b".include") {
+        return Some(at);
+    }
+    find(text, b".INCLUDE")
 }
 
 /// What follows the word of an include with which a text begins.
@@ -71,16 +71,16 @@ fn after<'a>(word: &[u8], text: &'a [u8]) -> Option<&'a [u8]>
 fn after_include(text: &[u8]) -> Option<&[u8]>
     ensures { option_map (λ t. t.now) result ≡ after_include text.now }
 {
-    if let Some(rest) = after(b"include_next", text) {
+    if let Some(rest) = behind(b"include_next", text) {
         return Some(rest);
     }
-    if let Some(rest) = after(b"include", text) {
+    if let Some(rest) = behind(b"include", text) {
         return Some(rest);
     }
-    if let Some(rest) = after(b"import", text) {
+    if let Some(rest) = behind(b"import", text) {
         return Some(rest);
     }
-    after(b"embed", text)
+    behind(b"embed", text)
 }
 
 /// Whether a text begins with what is no quote, no angle and no end of a line.
@@ -134,13 +134,13 @@ fn is_computed(text: &[u8]) -> bool
 fn after_sign(text: &[u8]) -> Option<&[u8]>
     ensures { option_map (λ t. t.now) result ≡ after_sign text.now }
 {
-    if let Some(rest) = after(b"#", text) {
+    if let Some(rest) = behind(b"#", text) {
         return Some(rest);
     }
-    if let Some(rest) = after(b"%:", text) {
+    if let Some(rest) = behind(b"%:", text) {
         return Some(rest);
     }
-    after(b"??=", text)
+    behind(b"??=", text)
 }
 
 /// Whether a line includes what a macro says.
@@ -167,6 +167,95 @@ fn first_computed(text: &[u8]) -> Option<u64>
         number += 1;
     }
     None
+}
+
+/// What follows the end of a line with which a text begins.
+#[tactic(auto, unfolding(crate::specs::Texts::after_line_end))]
+fn after_line_end(text: &[u8]) -> Option<&[u8]>
+    ensures { option_map (λ t. t.now) result ≡ after_line_end text.now }
+{
+    if let Some(rest) = behind(b"\n", text) {
+        return Some(rest);
+    }
+    behind(b"\r\n", text)
+}
+
+/// Whether a byte is there, and is of a word.
+fn is_of_word(byte: Option<u8>) -> bool
+    ensures { result ≡ is_of_word byte }
+{
+    match byte {
+        Some(byte) => byte.is_ascii_alphanumeric() || byte == b'_',
+        None => false,
+    }
+}
+
+/// Whether a byte is there, and is of a word, or joins the next line, too.
+fn is_of_word_or_joins(byte: Option<u8>) -> bool
+    ensures { result ≡ is_of_word_or_joins byte }
+{
+    match byte {
+        Some(byte) => byte.is_ascii_alphanumeric() || byte == b'_' || byte == b'\\',
+        None => false,
+    }
+}
+
+/// Whether a backslash between these texts joins two parts of a word.
+#[tactic(auto, unfolding(crate::specs::Texts::joins_word))]
+fn joins_word(before: &[u8], rest: &[u8]) -> bool
+    ensures { result ≡ joins_word before.now rest.now }
+{
+    if !is_of_word(before.last().copied()) {
+        return false;
+    }
+    match after_line_end(skip_blanks(rest)) {
+        Some(next) => is_of_word_or_joins(next.first().copied()),
+        None => false,
+    }
+}
+
+/// Whether a slash between these texts ends a comment, behind which a line includes what a macro says.
+#[tactic(auto, unfolding(crate::specs::Texts::ends_comment))]
+fn ends_comment(before: &[u8], rest: &[u8]) -> bool
+    ensures { result ≡ ends_comment before.now rest.now }
+{
+    before.ends_with(b"*") && is_computed_line(rest)
+}
+
+/// Whether a text has a joint at a place: what a compiler joins there, but a search for words doesn't.
+#[tactic(auto, unfolding(crate::specs::Texts::is_joint))]
+fn is_joint(text: &[u8], at: usize) -> bool
+    ensures { result ≡ is_joint text.now at }
+{
+    match text.get(at) {
+        Some(b'\\') => joins_word(&text[..at], &text[at + 1..]),
+        Some(b'/') => ends_comment(&text[..at], &text[at + 1..]),
+        _ => false,
+    }
+}
+
+/// The first joint.
+fn find_joint(text: &[u8]) -> Option<usize>
+    ensures none { result ≡ None → (k : ℕ) → is_joint text.now k ≡ true → ⊥ }
+    ensures some { IfSome result (λ k. is_joint text.now k ≡ true) }
+{
+    for at in memchr2_iter(b'\\', b'/', text) {
+        if is_joint(text, at) {
+            return Some(at);
+        }
+    }
+    None
+}
+
+/// A place at which a text may hide a file.
+fn find_mark(text: &[u8]) -> Option<usize>
+    ensures none { result ≡ None → (k : ℕ) → IsMarkAt text.now k → ⊥ }
+    ensures some { IfSome result (IsMarkAt text.now) }
+{
+    match find_word(text) {
+        Some(at) => Some(at),
+        None => find_joint(text),
+    }
 }
 
 /// The number of the line in which a place stands, counted from 1.

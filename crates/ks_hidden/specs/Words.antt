@@ -84,9 +84,14 @@ abbrev pub option_values : List (List ℕ) → List (List ℕ) → List (List �
 option_values names [] = []
 option_values names (word ∷ next) = filter_map (option_value next word) names ++ option_values names next
 
--- the options that name a directory in which headers are sought
-abbrev pub directory_options : List (List ℕ)
-directory_options = codes "-I" ∷ codes "-isystem" ∷ codes "-iquote" ∷ codes "-idirafter" ∷ []
+-- the directories of headers that are named between quotes
+abbrev pub quote_directories : List (List ℕ) → List (List ℕ)
+quote_directories words = option_values (codes "-iquote" ∷ []) words
+
+-- the directories of all headers, in the order in which a compiler goes through them
+abbrev pub searched_directories : List (List ℕ) → List (List ℕ)
+searched_directories words =
+    option_values (codes "-I" ∷ []) words ++ (option_values (codes "-isystem" ∷ []) words ++ option_values (codes "-idirafter" ∷ []) words)
 
 -- the options that name a header which comes before the source
 abbrev pub header_options : List (List ℕ)

@@ -1,7 +1,7 @@
 //! The words of a compile command, and the directories and headers that its options name.
 ghost use Rattle.std.specs.Prelude.{◌≡◌, ℕ, List, [], ◌∷◌, ◌++◌, IfOk, OnOk, map, option_map, slice_get};
 ghost use Rattle.std.specs.List.{filter_map};
-ghost use Rattle.ks_hidden.specs.Words.{behind, directory_options, ends_word, header_options, is_inside, is_part, mode_after, option_value, option_values, texts, words_of, words_with};
+ghost use Rattle.ks_hidden.specs.Words.{behind, ends_word, header_options, is_inside, is_part, mode_after, option_value, option_values, quote_directories, searched_directories, texts, words_of, words_with};
 
 use std::alloc::{AllocError, Global};
 use std::mem;
@@ -212,18 +212,29 @@ fn option_values(
     Ok(values)
 }
 
-/// The directories that options name, in which headers are sought, in their order.
+/// The directories of headers that are named between quotes.
+pub(crate) fn quote_directories(
+    alloc: Global,
+    words: &[Vec<u8>],
+) -> Result<Vec<Vec<u8>>, AllocError>
+    ensures { IfOk result (λ v. texts v.items ≡ quote_directories (texts words.now)) }
+{
+    option_values(alloc, &[b"-iquote"], words)
+}
+
+/// The directories of all headers, in the order in which a compiler goes through them.
 pub(crate) fn searched_directories(
     alloc: Global,
     words: &[Vec<u8>],
 ) -> Result<Vec<Vec<u8>>, AllocError>
-    ensures { IfOk result (λ v. texts v.items ≡ option_values directory_options (texts words.now)) }
+    ensures { IfOk result (λ v. texts v.items ≡ searched_directories (texts words.now)) }
 {
-    option_values(
-        alloc,
-        &[b"-I", b"-isystem", b"-iquote", b"-idirafter"],
-        words,
-    )
+    let mut directories = option_values(alloc, &[b"-I"], words)?;
+    let mut of_system = option_values(alloc, &[b"-isystem"], words)?;
+    let mut last = option_values(alloc, &[b"-idirafter"], words)?;
+    directories.append(&mut of_system)?;
+    directories.append(&mut last)?;
+    Ok(directories)
 }
 
 /// The headers that options name, which come before the source, in their order.

@@ -33,7 +33,7 @@ An error has a number, a name and often a place; confstamp explain NUMBER says w
   DEPFILE       20 NoTarget, 21 BadPath; token 0 is an argument of the command line
   COMMAND       22 BadCommand
   command file  23 BadCommandFile
-  --strict      24 HiddenInput, 25 ForeignLine, 26 OtherHeader, 27 Precompiled, 28 MissingLine
+  --strict      24 HiddenInput, 25 ForeignLine, 26 OtherHeader, 27 Precompiled, 28 MissingLine, 29 UnknownArgument
   stamp         31 BadStamp
   SCRIPT        50 BadScript
   the system    10 OutOfMemory, 30 Device, 51 Output";

@@ -256,6 +256,14 @@ pub const MISSING_LINE: Row = (
     "run the tool that writes that header, then synchronise",
 );
 
+pub const UNKNOWN_ARGUMENT: Row = (
+    "29",
+    "UnknownArgument",
+    "with `--strict`: this word of a compile, which has `-c`, may bring a file that no dependency file lists, or isn't known",
+    "`@x.rsp`, `-fplugin=x.so`",
+    "don't record the object: compile it after each change",
+);
+
 pub const DEVICE: Row = (
     "30",
     "Device",
@@ -341,6 +349,7 @@ pub const ERRORS: &[Row] = &[
     OTHER_HEADER,
     PRECOMPILED,
     MISSING_LINE,
+    UNKNOWN_ARGUMENT,
     DEVICE,
     BAD_STAMP,
     MISSING_FILE,

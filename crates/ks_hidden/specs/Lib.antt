@@ -1,4 +1,5 @@
 pub mod Words
+pub mod Arguments
 pub mod Includes
 pub mod Precompiled
 pub mod Candidates

@@ -21,6 +21,9 @@ pub enum Hidden {
     /// The header lacks a definition that the last synchronisation has, as where its tool hasn't run since.
     #[error("28 MissingLine {}", shown(.0.as_bytes()))]
     MissingLine(Path),
+    /// This word of the command, counted from 1, is none that is known.
+    #[error("29 UnknownArgument word {}", .0)]
+    Argument(u64),
 }
 
 /// The bytes of a path as text, which they are: it is ASCII.

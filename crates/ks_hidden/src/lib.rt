@@ -1,6 +1,7 @@
 //! What an object may depend on beside the names that its files mention: what no list of the compiler's tells.
 #![tactic(auto)]
 
+mod arguments;
 mod candidates;
 mod header_lines;
 mod hidden;
@@ -11,6 +12,7 @@ mod precompiled;
 mod texts;
 mod words;
 
+pub use arguments::unknown_argument;
 pub use candidates::precompiled_candidates;
 pub use header_lines::foreign_line;
 pub use hidden::Hidden;

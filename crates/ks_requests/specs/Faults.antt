@@ -66,6 +66,7 @@ hidden_text (hidden.Line path line) = codes "25 ForeignLine " ++ path
 hidden_text (hidden.OtherHeader path) = codes "26 OtherHeader " ++ path
 hidden_text (hidden.Precompiled path) = codes "27 Precompiled " ++ path
 hidden_text (hidden.MissingLine path) = codes "28 MissingLine " ++ path
+hidden_text (hidden.Argument word) = counted (codes "29 UnknownArgument word ") word
 
 unfoldable pub refusal_text : Refusal → List ℕ
 refusal_text (Engine e) = fault_text e

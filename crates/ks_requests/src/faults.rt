@@ -14,6 +14,7 @@ use ks_errors::{
     KnownError, MISSING_FILE, MISSING_LINE, MODULE_NAME, MODULE_SYMBOL, NEVER_SYNCED, NO_TARGET,
     NO_TYPE, NOT_A_CONFIG_LINE, NOT_AN_ENTRY, NOT_BARE, OTHER_HEADER, OUT_OF_MEMORY, OUTPUT,
     PRECOMPILED, Row, TOO_LARGE, TWICE, TYPE_CLASH, UNDECLARED, UNDEFINED, UNEXPLAINED,
+    UNKNOWN_ARGUMENT,
 };
 use ks_hidden::Hidden;
 use ks_output::WrittenError;
@@ -146,6 +147,7 @@ fn hidden_fault(hidden: &Hidden) -> FaultText<'_>
         Hidden::OtherHeader(path) => named(&OTHER_HEADER, path.as_bytes()),
         Hidden::Precompiled(path) => named(&PRECOMPILED, path.as_bytes()),
         Hidden::MissingLine(path) => named(&MISSING_LINE, path.as_bytes()),
+        Hidden::Argument(word) => numbered(&UNKNOWN_ARGUMENT, " word ", *word),
     }
 }
 

@@ -143,7 +143,8 @@ fn hidden_site(hidden: &Hidden) -> Option<Site<'_>>
 {
     match hidden {
         Hidden::Input(path, line) | Hidden::Line(path, line) => at_line(path.as_bytes(), *line),
-        Hidden::OtherHeader(_) | Hidden::Precompiled(_) | Hidden::MissingLine(_) => None,
+        Hidden::OtherHeader(_) | Hidden::Precompiled(_) => None,
+        Hidden::MissingLine(_) | Hidden::Argument(_) => None,
     }
 }
 

@@ -1,5 +1,5 @@
 use Rattle.ks_requests.proofs.Prelude.{Some, ap, known_error, sym, ◌∙◌}
-use Rattle.ks_requests.specs.Faults.{hidden_text}
+use Rattle.ks_requests.specs.Faults.{counted, hidden_text}
 use Rattle.ks_requests.proofs.faults.hidden_fault.Goals as goal
 
 pub returns-in-Input-clause-error : goal.returns-in-Input-clause-error
@@ -21,3 +21,7 @@ returns-in-Precompiled-clause-error c = ap (λ x. known_error (hidden_text x)) c
 pub returns-in-MissingLine-clause-error : goal.returns-in-MissingLine-clause-error
 unfolding known_error hidden_text
 returns-in-MissingLine-clause-error c = ap (λ x. known_error (hidden_text x)) c.in-MissingLine.is ∙ ap Some (sym c.named-in-MissingLine.ensures.error)
+
+pub returns-in-Argument-clause-error : goal.returns-in-Argument-clause-error
+unfolding known_error hidden_text counted
+returns-in-Argument-clause-error c = ap (λ x. known_error (hidden_text x)) c.in-Argument.is ∙ ap Some (sym c.numbered.ensures.error)

@@ -1,0 +1,163 @@
+-- Which arguments of a compile are known: they bring no file that the compiler doesn't list. The options are those of gcc, clang and the
+-- GNU assembler, and in front of the compiler those of env, nice, ccache and distcc.
+use Rattle.std.specs.Prelude.{ℕ, ◌+◌, ◌&&◌, ◌||◌, Bool, false, not, List, [], ◌∷◌, Option, Some, None, bytes_eq, nat_eq, codes, if◌then◌else◌}
+use Rattle.std.specs.List.{ends_with, list_any, starts_with}
+use Rattle.ks_hidden.specs.Words.{words_of}
+use Rattle.ks_hidden.specs.declared.arguments.Expected.{Expected}
+use Rattle.ks_hidden.specs.declared.arguments.Expected.TheVariants.{Front, FrontValue, Argument, Value, Language, Inner}
+
+-- ---- lists
+
+abbrev pub is_one_of : List (List ℕ) → List ℕ → Bool
+is_one_of texts word = list_any (λ t. bytes_eq word t) texts
+
+abbrev pub begins_with_one : List (List ℕ) → List ℕ → Bool
+begins_with_one texts word = list_any (λ t. starts_with nat_eq word t) texts
+
+abbrev pub ends_with_one : List (List ℕ) → List ℕ → Bool
+ends_with_one texts word = list_any (λ t. ends_with nat_eq word t) texts
+
+-- whether a part stands anywhere in a word
+abbrev pub has : List ℕ → List ℕ → Bool
+has [] part = false
+has (b ∷ rest) part = starts_with nat_eq (b ∷ rest) part || has rest part
+
+abbrev pub has_one : List (List ℕ) → List ℕ → Bool
+has_one texts word = list_any (has word) texts
+
+-- ---- in front of the compiler
+
+unfoldable pub is_tool : List ℕ → Bool
+is_tool word =
+    is_one_of (codes "env" ∷ codes "nice" ∷ codes "ccache" ∷ codes "distcc" ∷ []) word
+    || ends_with_one (codes "/env" ∷ codes "/nice" ∷ codes "/ccache" ∷ codes "/distcc" ∷ []) word
+
+unfoldable pub has_tool_value : List ℕ → Bool
+has_tool_value word = is_one_of (codes "-u" ∷ codes "-n" ∷ codes "-C" ∷ []) word
+
+unfoldable pub is_tool_option : List ℕ → Bool
+is_tool_option word = begins_with_one (codes "-i" ∷ codes "--unset=" ∷ codes "--adjustment=" ∷ []) word
+
+-- another option, or a variable that a compiler or a cache goes by
+unfoldable pub is_other_option : List ℕ → Bool
+is_other_option word = begins_with_one (codes "-" ∷ codes "CCACHE_" ∷ codes "GCC_" ∷ codes "CCC_" ∷ []) word || has word (codes "PATH=")
+
+-- what is expected behind a word there: the first that is none of these is the compiler
+unfoldable pub after_front : List ℕ → Option Expected
+after_front word =
+    if is_tool word || is_tool_option word then Some Front
+    else if has_tool_value word then Some FrontValue
+    else if is_other_option word then None
+    else if has word (codes "=") then Some Front
+    else Some Argument
+
+-- ---- options
+
+-- the next word is a value, which the compiler takes as it stands
+unfoldable pub takes_value : List ℕ → Bool
+takes_value word =
+    is_one_of
+    (codes "-D" ∷ codes "-I" ∷ codes "-U" ∷ codes "-o" ∷ codes "-MF" ∷ codes "-MQ" ∷ codes "-MT" ∷ codes "-include" ∷ codes "-imacros" ∷ codes "-isystem"
+    ∷ codes "-iquote" ∷ codes "-idirafter" ∷ codes "-isysroot" ∷ codes "-target" ∷ codes "-arch" ∷ codes "--param" ∷ codes "-mllvm" ∷ []) word
+
+-- the next word is an option of a part of the compiler
+unfoldable pub takes_inner : List ℕ → Bool
+takes_inner word = begins_with_one (codes "-Xa" ∷ codes "-Xc" ∷ codes "-Xp" ∷ []) word
+
+unfoldable pub is_plain_option : List ℕ → Bool
+is_plain_option word =
+    is_one_of
+    (codes "-c" ∷ codes "-MD" ∷ codes "-MMD" ∷ codes "-MP" ∷ codes "-w" ∷ codes "-s" ∷ codes "-p" ∷ codes "-P" ∷ codes "-C" ∷ codes "-CC" ∷ codes "-v" ∷ codes "-pg"
+    ∷ codes "-pipe" ∷ codes "-pthread" ∷ codes "-ansi" ∷ codes "-undef" ∷ codes "-trigraphs" ∷ codes "-rdynamic" ∷ codes "--coverage" ∷ []) word
+
+-- an option with its value
+unfoldable pub has_known_front : List ℕ → Bool
+has_known_front word =
+    begins_with_one
+    (codes "-D" ∷ codes "-U" ∷ codes "-I" ∷ codes "-O" ∷ codes "-g" ∷ codes "-W" ∷ codes "-o" ∷ codes "-MF" ∷ codes "-MQ" ∷ codes "-MT" ∷ codes "-isystem" ∷ codes "-iquote"
+    ∷ codes "-idirafter" ∷ codes "-imacros" ∷ codes "-include" ∷ codes "-pedantic" ∷ codes "-l" ∷ codes "-L" ∷ codes "-nostd" ∷ codes "-static" ∷ codes "-shared"
+    ∷ codes "-stdlib=" ∷ codes "-std=" ∷ codes "--std=" ∷ codes "--param=" ∷ codes "--sysroot=" ∷ codes "--target=" ∷ codes "--gcc-toolchain=" ∷ []) word
+
+-- or one that begins as such, and names a directory by another one, a precompiled header, or options for a part of the compiler
+unfoldable pub has_refused_front : List ℕ → Bool
+has_refused_front word =
+    begins_with_one
+    (codes "-I=" ∷ codes "-I$" ∷ codes "-isystem=" ∷ codes "-iquote=" ∷ codes "-idirafter=" ∷ codes "-include-pch" ∷ codes "-Wa," ∷ codes "-Wp," ∷ []) word
+
+-- options for the preprocessor and the assembler that are known
+unfoldable pub is_known_inside : List ℕ → Bool
+is_known_inside word =
+    begins_with_one
+    (codes "-Wp,-MD," ∷ codes "-Wp,-MMD," ∷ codes "-Wa,--" ∷ codes "-Wa,-W" ∷ codes "-Wa,-m" ∷ codes "-Wa,-M" ∷ codes "-Wa,-n" ∷ []) word
+    && not (has word (codes "@"))
+
+-- how code is made: no file is used, as a profile or a plugin
+unfoldable pub is_known_flag : List ℕ → Bool
+is_known_flag word =
+    begins_with_one (codes "-fno-" ∷ []) word
+    || (starts_with nat_eq word (codes "-f") && (has word (codes "-prefix-map=")
+    || (not (begins_with_one (codes "-fauto-profile" ∷ codes "-fbranch-" ∷ codes "-fmodule" ∷ codes "-fprebuilt-module" ∷ []) word)
+    && not (has_one (codes "use" ∷ codes "plugin" ∷ codes "list" ∷ codes "/" ∷ codes "@" ∷ []) word))))
+
+-- and for which machine
+unfoldable pub is_known_machine : List ℕ → Bool
+is_known_machine word = starts_with nat_eq word (codes "-m") && not (has_one (codes "/" ∷ codes "@" ∷ []) word)
+
+-- the language of what follows, which is no header
+unfoldable pub is_known_language : List ℕ → Bool
+is_known_language word = starts_with nat_eq word (codes "-x") && not (ends_with nat_eq word (codes "-header"))
+
+unfoldable pub is_known_option : List ℕ → Bool
+is_known_option word =
+    is_plain_option word || (has_known_front word && not (has_refused_front word)) || is_known_inside word || is_known_flag word || is_known_machine word
+    || is_known_language word
+
+-- ---- files
+
+-- a source, an object or a library; none that is another one each time
+unfoldable pub is_known_file : List ℕ → Bool
+is_known_file word =
+    ends_with_one
+    (codes ".c" ∷ codes ".C" ∷ codes ".i" ∷ codes ".s" ∷ codes ".S" ∷ codes ".m" ∷ codes ".M" ∷ codes ".cc" ∷ codes ".cpp" ∷ codes ".cxx" ∷ codes ".c++" ∷ codes ".cp"
+    ∷ codes ".ii" ∷ codes ".sx" ∷ codes ".mm" ∷ codes ".o" ∷ codes ".a" ∷ codes ".so" ∷ []) word
+    && not (begins_with_one (codes "@" ∷ codes "-" ∷ codes "/dev/std" ∷ codes "/dev/fd/" ∷ codes "/proc/" ∷ []) word)
+
+-- ---- words
+
+unfoldable pub after_argument : List ℕ → Option Expected
+after_argument word =
+    if takes_value word then Some Value
+    else if bytes_eq word (codes "-x") then Some Language
+    else if takes_inner word then Some Inner
+    else if is_known_option word || is_known_file word then Some Argument
+    else None
+
+-- no option of a part of the compiler that brings a file
+unfoldable pub is_known_inner : List ℕ → Bool
+is_known_inner word =
+    not (has_one (codes "include" ∷ codes "load" ∷ codes "plugin" ∷ codes "pch" ∷ codes "module" ∷ codes "header" ∷ codes "/" ∷ codes "@" ∷ codes "=" ∷ codes "." ∷ []) word)
+
+abbrev pub argument_if : Bool → Option Expected
+argument_if known = if known then Some Argument else None
+
+-- what is expected behind a word, where it is known
+abbrev pub after_word : Expected → List ℕ → Option Expected
+after_word Front word = after_front word
+after_word FrontValue word = Some Front
+after_word Argument word = after_argument word
+after_word Value word = argument_if (not (begins_with_one (codes "@" ∷ codes "=" ∷ codes "$" ∷ []) word))
+after_word Language word = argument_if (not (ends_with nat_eq word (codes "-header")) && not (starts_with nat_eq word (codes "@")))
+after_word Inner word = argument_if (is_known_inner word)
+
+-- the number of the first word that isn't known, where they are counted from n on
+abbrev pub unknown_from : ℕ → Option Expected → List (List ℕ) → Option ℕ
+unknown_from n None words = Some n
+unknown_from n (Some expected) [] = None
+unknown_from n (Some expected) (word ∷ words) = unknown_from (n + 1) (after_word expected word) words
+
+-- the number of the first word of a compile, which has -c, that isn't known; they are counted from 1 on
+abbrev pub unknown_word : List (List ℕ) → Option ℕ
+unknown_word words = if is_one_of words (codes "-c") then unknown_from 0 (Some Front) words else None
+
+unfoldable pub unknown_argument : List ℕ → Option ℕ
+unknown_argument command = unknown_word (words_of command)

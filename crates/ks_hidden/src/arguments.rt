@@ -1,0 +1,458 @@
+//! Which arguments of a compile are known: they bring no file that the compiler doesn't list.
+//!
+//! In doubt an argument isn't known.
+ghost use Rattle.std.specs.Prelude.{◌≡◌, Some, IfOk, codes, map};
+ghost use Rattle.ks_hidden.specs.Arguments.{after_argument, after_front, after_word, argument_if, begins_with_one, ends_with_one, has, has_known_front, has_one, has_refused_front, has_tool_value, is_known_file, is_known_flag, is_known_inner, is_known_inside, is_known_language, is_known_machine, is_known_option, is_one_of, is_other_option, is_plain_option, is_tool, is_tool_option, takes_inner, takes_value, unknown_argument, unknown_from};
+ghost use Rattle.ks_hidden.specs.declared.arguments.Expected.TheVariants.{Front};
+ghost use Rattle.ks_hidden.specs.Words.{texts};
+
+use crate::words::words;
+use std::alloc::{AllocError, Global};
+
+/// What the next word of a command is.
+#[derive(Clone, Copy, Debug)]
+enum Expected {
+    /// The compiler, or what stands in front of it.
+    Front,
+    /// The value of an option of `env` or `nice`.
+    FrontValue,
+    Argument,
+    /// The value of an option.
+    Value,
+    /// The language behind `-x`.
+    Language,
+    /// An option of a part of the compiler, behind `-Xclang` and its like.
+    Inner,
+}
+
+/// Whether a word is one of these.
+fn is_one_of(texts: &[&[u8]], word: &[u8]) -> bool
+    ensures { result ≡ is_one_of (map (λ t. t.now) texts.now) word.now }
+{
+    for text in texts {
+        if word == *text {
+            return true;
+        }
+    }
+    false
+}
+
+/// Whether a word begins with one of these.
+fn begins_with_one(texts: &[&[u8]], word: &[u8]) -> bool
+    ensures { result ≡ begins_with_one (map (λ t. t.now) texts.now) word.now }
+{
+    for text in texts {
+        if word.starts_with(*text) {
+            return true;
+        }
+    }
+    false
+}
+
+/// Whether a word ends with one of these.
+fn ends_with_one(texts: &[&[u8]], word: &[u8]) -> bool
+    ensures { result ≡ ends_with_one (map (λ t. t.now) texts.now) word.now }
+{
+    for text in texts {
+        if word.ends_with(*text) {
+            return true;
+        }
+    }
+    false
+}
+
+/// Whether a part stands anywhere in a word.
+fn has(word: &[u8], part: &[u8]) -> bool
+    ensures { result ≡ has word.now part.now }
+{
+    let mut rest = word;
+    while let Some((_, after)) = rest.split_first() {
+        if rest.starts_with(part) {
+            return true;
+        }
+        rest = after;
+    }
+    false
+}
+
+/// Whether one of these stands anywhere in a word.
+fn has_one(texts: &[&[u8]], word: &[u8]) -> bool
+    ensures { result ≡ has_one (map (λ t. t.now) texts.now) word.now }
+{
+    for text in texts {
+        if has(word, *text) {
+            return true;
+        }
+    }
+    false
+}
+
+/// Whether a word is a program that runs the compiler.
+#[tactic(auto, unfolding(crate::specs::Arguments::is_tool))]
+fn is_tool(word: &[u8]) -> bool
+    ensures { result ≡ is_tool word.now }
+{
+    is_one_of(&[b"env", b"nice", b"ccache", b"distcc"], word)
+        || ends_with_one(&[b"/env", b"/nice", b"/ccache", b"/distcc"], word)
+}
+
+/// Whether a value follows this option of such a program.
+#[tactic(auto, unfolding(crate::specs::Arguments::has_tool_value))]
+fn has_tool_value(word: &[u8]) -> bool
+    ensures { result ≡ has_tool_value word.now }
+{
+    is_one_of(&[b"-u", b"-n", b"-C"], word)
+}
+
+/// Whether a word is another known option of such a program.
+#[tactic(auto, unfolding(crate::specs::Arguments::is_tool_option))]
+fn is_tool_option(word: &[u8]) -> bool
+    ensures { result ≡ is_tool_option word.now }
+{
+    begins_with_one(&[b"-i", b"--unset=", b"--adjustment="], word)
+}
+
+/// Whether a word in front is an option that isn't known, or a variable that a compiler or a cache goes by.
+#[tactic(auto, unfolding(crate::specs::Arguments::is_other_option))]
+fn is_other_option(word: &[u8]) -> bool
+    ensures { result ≡ is_other_option word.now }
+{
+    begins_with_one(&[b"-", b"CCACHE_", b"GCC_", b"CCC_"], word) || has(word, b"PATH=")
+}
+
+/// What is expected behind a word in front of the compiler, or behind the compiler.
+#[tactic(auto, unfolding(crate::specs::Arguments::after_front))]
+fn after_front(word: &[u8]) -> Option<Expected>
+    ensures { result ≡ after_front word.now }
+{
+    if is_tool(word) || is_tool_option(word) {
+        return Some(Expected::Front);
+    }
+    if has_tool_value(word) {
+        return Some(Expected::FrontValue);
+    }
+    if is_other_option(word) {
+        return None;
+    }
+    if has(word, b"=") {
+        return Some(Expected::Front);
+    }
+    Some(Expected::Argument)
+}
+
+/// Whether a value follows an option, which the compiler takes as it stands.
+#[tactic(auto, unfolding(crate::specs::Arguments::takes_value))]
+fn takes_value(word: &[u8]) -> bool
+    ensures { result ≡ takes_value word.now }
+{
+    is_one_of(
+        &[
+            b"-D",
+            b"-I",
+            b"-U",
+            b"-o",
+            b"-MF",
+            b"-MQ",
+            b"-MT",
+            b"-include",
+            b"-imacros",
+            b"-isystem",
+            b"-iquote",
+            b"-idirafter",
+            b"-isysroot",
+            b"-target",
+            b"-arch",
+            b"--param",
+            b"-mllvm",
+        ],
+        word,
+    )
+}
+
+/// Whether an option of a part of the compiler follows.
+#[tactic(auto, unfolding(crate::specs::Arguments::takes_inner))]
+fn takes_inner(word: &[u8]) -> bool
+    ensures { result ≡ takes_inner word.now }
+{
+    begins_with_one(&[b"-Xa", b"-Xc", b"-Xp"], word)
+}
+
+/// Whether an option says all itself.
+#[tactic(auto, unfolding(crate::specs::Arguments::is_plain_option))]
+fn is_plain_option(word: &[u8]) -> bool
+    ensures { result ≡ is_plain_option word.now }
+{
+    is_one_of(
+        &[
+            b"-c",
+            b"-MD",
+            b"-MMD",
+            b"-MP",
+            b"-w",
+            b"-s",
+            b"-p",
+            b"-P",
+            b"-C",
+            b"-CC",
+            b"-v",
+            b"-pg",
+            b"-pipe",
+            b"-pthread",
+            b"-ansi",
+            b"-undef",
+            b"-trigraphs",
+            b"-rdynamic",
+            b"--coverage",
+        ],
+        word,
+    )
+}
+
+/// Whether a word begins as an option that is known with any value.
+#[tactic(auto, unfolding(crate::specs::Arguments::has_known_front))]
+fn has_known_front(word: &[u8]) -> bool
+    ensures { result ≡ has_known_front word.now }
+{
+    begins_with_one(
+        &[
+            b"-D",
+            b"-U",
+            b"-I",
+            b"-O",
+            b"-g",
+            b"-W",
+            b"-o",
+            b"-MF",
+            b"-MQ",
+            b"-MT",
+            b"-isystem",
+            b"-iquote",
+            b"-idirafter",
+            b"-imacros",
+            b"-include",
+            b"-pedantic",
+            b"-l",
+            b"-L",
+            b"-nostd",
+            b"-static",
+            b"-shared",
+            b"-stdlib=",
+            b"-std=",
+            b"--std=",
+            b"--param=",
+            b"--sysroot=",
+            b"--target=",
+            b"--gcc-toolchain=",
+        ],
+        word,
+    )
+}
+
+/// Whether it is none of these all the same.
+#[tactic(auto, unfolding(crate::specs::Arguments::has_refused_front))]
+fn has_refused_front(word: &[u8]) -> bool
+    ensures { result ≡ has_refused_front word.now }
+{
+    begins_with_one(
+        &[
+            b"-I=",
+            b"-I$",
+            b"-isystem=",
+            b"-iquote=",
+            b"-idirafter=",
+            b"-include-pch",
+            b"-Wa,",
+            b"-Wp,",
+        ],
+        word,
+    )
+}
+
+/// Whether it is a known option for the preprocessor or the assembler.
+#[tactic(auto, unfolding(crate::specs::Arguments::is_known_inside))]
+fn is_known_inside(word: &[u8]) -> bool
+    ensures { result ≡ is_known_inside word.now }
+{
+    begins_with_one(
+        &[
+            b"-Wp,-MD,",
+            b"-Wp,-MMD,",
+            b"-Wa,--",
+            b"-Wa,-W",
+            b"-Wa,-m",
+            b"-Wa,-M",
+            b"-Wa,-n",
+        ],
+        word,
+    ) && !has(word, b"@")
+}
+
+/// Whether it says how code is made, and names no file.
+#[tactic(auto, unfolding(crate::specs::Arguments::is_known_flag))]
+fn is_known_flag(word: &[u8]) -> bool
+    ensures { result ≡ is_known_flag word.now }
+{
+    if begins_with_one(&[b"-fno-"], word) {
+        return true;
+    }
+    if !word.starts_with(b"-f") {
+        return false;
+    }
+    if has(word, b"-prefix-map=") {
+        return true;
+    }
+    !begins_with_one(
+        &[
+            b"-fauto-profile",
+            b"-fbranch-",
+            b"-fmodule",
+            b"-fprebuilt-module",
+        ],
+        word,
+    ) && !has_one(&[b"use", b"plugin", b"list", b"/", b"@"], word)
+}
+
+/// Whether it says for which machine, and names no file.
+#[tactic(auto, unfolding(crate::specs::Arguments::is_known_machine))]
+fn is_known_machine(word: &[u8]) -> bool
+    ensures { result ≡ is_known_machine word.now }
+{
+    word.starts_with(b"-m") && !has_one(&[b"/", b"@"], word)
+}
+
+/// Whether it says the language, and isn't that of a header.
+#[tactic(auto, unfolding(crate::specs::Arguments::is_known_language))]
+fn is_known_language(word: &[u8]) -> bool
+    ensures { result ≡ is_known_language word.now }
+{
+    word.starts_with(b"-x") && !word.ends_with(b"-header")
+}
+
+/// Whether an option is known, which takes no other word.
+#[tactic(auto, unfolding(crate::specs::Arguments::is_known_option))]
+fn is_known_option(word: &[u8]) -> bool
+    ensures { result ≡ is_known_option word.now }
+{
+    is_plain_option(word)
+        || (has_known_front(word) && !has_refused_front(word))
+        || is_known_inside(word)
+        || is_known_flag(word)
+        || is_known_machine(word)
+        || is_known_language(word)
+}
+
+/// Whether a word is a source, an object or a library.
+#[tactic(auto, unfolding(crate::specs::Arguments::is_known_file))]
+fn is_known_file(word: &[u8]) -> bool
+    ensures { result ≡ is_known_file word.now }
+{
+    ends_with_one(
+        &[
+            b".c", b".C", b".i", b".s", b".S", b".m", b".M", b".cc", b".cpp", b".cxx", b".c++",
+            b".cp", b".ii", b".sx", b".mm", b".o", b".a", b".so",
+        ],
+        word,
+    ) && !begins_with_one(&[b"@", b"-", b"/dev/std", b"/dev/fd/", b"/proc/"], word)
+}
+
+/// What is expected behind an argument.
+#[tactic(auto, unfolding(crate::specs::Arguments::after_argument))]
+fn after_argument(word: &[u8]) -> Option<Expected>
+    ensures { result ≡ after_argument word.now }
+{
+    if takes_value(word) {
+        return Some(Expected::Value);
+    }
+    if word == b"-x".as_slice() {
+        return Some(Expected::Language);
+    }
+    if takes_inner(word) {
+        return Some(Expected::Inner);
+    }
+    if is_known_option(word) || is_known_file(word) {
+        return Some(Expected::Argument);
+    }
+    None
+}
+
+/// Whether an option of a part of the compiler brings no file.
+#[tactic(auto, unfolding(crate::specs::Arguments::is_known_inner))]
+fn is_known_inner(word: &[u8]) -> bool
+    ensures { result ≡ is_known_inner word.now }
+{
+    !has_one(
+        &[
+            b"include", b"load", b"plugin", b"pch", b"module", b"header", b"/", b"@", b"=", b".",
+        ],
+        word,
+    )
+}
+
+/// An argument is expected where the word was known.
+fn argument_if(known: bool) -> Option<Expected>
+    ensures { result ≡ argument_if known }
+{
+    if known {
+        Some(Expected::Argument)
+    } else {
+        None
+    }
+}
+
+impl Expected {
+    /// What is expected behind a word, where that is known.
+    fn after(self, word: &[u8]) -> Option<Expected>
+        ensures { result ≡ after_word self word.now }
+    {
+        match self {
+            Expected::Front => after_front(word),
+            Expected::FrontValue => Some(Expected::Front),
+            Expected::Argument => after_argument(word),
+            Expected::Value => argument_if(!begins_with_one(&[b"@", b"=", b"$"], word)),
+            Expected::Language => {
+                argument_if(!word.ends_with(b"-header") && !word.starts_with(b"@"))
+            }
+            Expected::Inner => argument_if(is_known_inner(word)),
+        }
+    }
+}
+
+/// Whether one of these words is that one.
+fn are_compile(words: &[Vec<u8>]) -> bool
+    ensures { result ≡ is_one_of (texts words.now) (codes "-c") }
+{
+    for word in words {
+        if word.as_slice() == b"-c".as_slice() {
+            return true;
+        }
+    }
+    false
+}
+
+/// The number of the first word that isn't known, from 1.
+fn first_unknown(words: &[Vec<u8>]) -> Option<u64>
+    ensures { result ≡ unknown_from 0 (Some Front) (texts words.now) }
+{
+    let mut expected = Expected::Front;
+    let mut number: u64 = 0;
+    for word in words {
+        number += 1;
+        match expected.after(word) {
+            Some(next) => expected = next,
+            None => return Some(number),
+        }
+    }
+    None
+}
+
+/// The number of the first word of a compile that isn't known, from 1. A command without `-c` is none.
+#[tactic(auto, unfolding(crate::specs::Arguments::unknown_argument))]
+pub fn unknown_argument(alloc: Global, command: &[u8]) -> Result<Option<u64>, AllocError>
+    ensures { IfOk result (λ n. n ≡ unknown_argument command.now) }
+{
+    let words = words(alloc, command)?;
+    if are_compile(&words) {
+        return Ok(first_unknown(&words));
+    }
+    Ok(None)
+}

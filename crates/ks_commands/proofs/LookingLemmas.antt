@@ -1,23 +1,31 @@
 -- What was looked at, one place after the other, and what a file that was read is.
 use native.Mathlib.Omega.{arith}
-use Rattle.ks_commands.proofs.Prelude.{◌<◌, ◌≡◌, ◌≤◌, ◌∙◌, ℕ, List, None, Some, Ok, Err, Option, Result, IfOk, Files, Bool, true, false, All-from_get_or, [], ◌∷◌, inl, inr, sym, refl, ap, common_steps, content, given, length, list_any_at, list_any_none, get_or}
+use Rattle.ks_commands.proofs.Prelude.{◌<◌, ◌≡◌, ◌≤◌, ◌∙◌, ℕ, List, None, Some, Ok, Err, Option, Result, IfErr, IfOk, Files, Bool, true, false, All-from_get_or, [], ◌∷◌, inl, inr, sym, refl, ap, common_steps, content, given, length, list_any_at, list_any_none, get_or, ◌||◌, bytes_eq, bytes_eq-Decides, cond, drop, drop-cons, fun_ext, subst}
 use Rattle.std.specs.Prelude.{slice_get, ◌+◌, ◌⊎◌, codes}
 use Rattle.std.specs.Borrow.{Bor}
 use Rattle.std.specs.List.{list_any}
 use Rattle.std.proofs.lemmas.Option.{get_or_from_slice_get, slice_get-get_or, slice_get_within}
 use Rattle.std.proofs.lemmas.Bool.{cases_lt}
+use Rattle.std.proofs.Common.{suc}
+use Rattle.ks_symbols.specs.declared.dialect.Dialect.{Dialect}
+use Rattle.ks_hidden.specs.Arguments.{unknown_argument}
 use Rattle.ks_hidden.specs.Candidates.{candidates}
 use Rattle.ks_hidden.specs.Texts.{HidesNothing}
 use Rattle.ks_hidden.specs.declared.hidden.Hidden.{Hidden}
 use Rattle.ks_hidden.specs.declared.hidden.Hidden.TheVariants as hidden
 use Rattle.ks_symbols.specs.Refusals.{IsRefusal}
 use Rattle.ks_fixdep.specs.DependencyFile.{refusal_without}
+use Rattle.ks_fixdep.specs.declared.dependency_file.Role.{Role}
 use Rattle.ks_fixdep.specs.declared.dep_error.DepError.{DepError}
 use Rattle.ks_fixdep.specs.declared.dep_error.DepError.TheVariants as dep
+use Rattle.ks_fixdep.specs.declared.dependency_file.Header.{Header}
 use Rattle.ks_fixdep.specs.declared.dependency_file.Header.TheVariants.{At}
+use Rattle.ks_tree.specs.Paths.{auto_path}
 use Rattle.ks_engine.specs.Recording.{there}
+use Rattle.ks_engine.specs.LastSync.{old_auto}
 use Rattle.ks_engine.specs.Refusals.{IsAborted, of_dep}
-use Rattle.ks_commands.specs.Looking.{IsInput, IsListRefused, IsSought}
+use Rattle.ks_engine.specs.declared.error.EngineError.{EngineError}
+use Rattle.ks_commands.specs.Looking.{AreListed, FirstRead, IsInput, IsListRefused, IsSought, IsUnread, IsUnreadAmong, Look, is_header_name, is_listed, look_by}
 
 -- What holds of each of the first places and of the next one holds of one more.
 pub one_more : {X : Type 0} (P : ℕ → X → Type 0) (xs : List X) (n : ℕ) (x : X) → slice_get xs n ≡ Some x → P n x
@@ -39,6 +47,10 @@ pub if_ok : {A E : Type 0} (P Q : A → Type 0) (r : Result A E) → ((x : A) �
 if_ok P Q (Ok x) f p = f x p
 if_ok P Q (Err e) f p = p
 
+pub if_err : {A E : Type 0} (P Q : E → Type 0) (r : Result A E) → ((e : E) → P e → Q e) → IfErr r P → IfErr r Q
+if_err P Q (Ok x) f p = p
+if_err P Q (Err e) f p = f e p
+
 there_is : (path : List ℕ) (file : Option (List ℕ)) (b : List ℕ) → there path file ≡ Ok b → file ≡ Some b
 there_is path None b is = grind (arith, common_steps, is)
 there_is path (Some x) b is = grind (arith, common_steps, is)
@@ -46,14 +58,17 @@ there_is path (Some x) b is = grind (arith, common_steps, is)
 pub given_is : (files : Files) (path b : List ℕ) → given files path ≡ Ok b → content files path ≡ Some b
 given_is files path b is = grind (arith, common_steps, is, (there_is path (content files path) b))
 
-pub input_of_sought : (command : List ℕ) (files : Files) (path b : List ℕ) (paths : List (List ℕ)) → content files path ≡ Some b → HidesNothing b
-    → paths ≡ candidates path b command → (found : Option Hidden) → IsSought files path paths found → IsInput command files path found
-input_of_sought command files path b paths at hides are None sought = (b, at, (hides, λ named. rw (sym are) sought))
-input_of_sought command files path b paths at hides are (Some (hidden.Input p n)) (i, q, there, none) = absurd none
-input_of_sought command files path b paths at hides are (Some (hidden.Line p n)) sought = (b, at, rw (sym are) sought)
-input_of_sought command files path b paths at hides are (Some (hidden.OtherHeader p)) sought = (b, at, rw (sym are) sought)
-input_of_sought command files path b paths at hides are (Some (hidden.Precompiled p)) sought = (b, at, rw (sym are) sought)
-input_of_sought command files path b paths at hides are (Some (hidden.MissingLine p)) sought = (b, at, rw (sym are) sought)
+-- a text that hides nothing, by where its precompiled headers are sought
+pub input_of_sought : (look : Look) (files : Files) (path b : List ℕ) (paths : List (List ℕ)) → content files path ≡ Some b → HidesNothing b
+    → is_header_name path ≡ false → paths ≡ candidates look.is_listed path b look.command → (found : Option Hidden) → IsSought files path paths found
+    → IsInput look files path found
+input_of_sought look files path b paths at hides named are None sought = (b, at, (hides, λ _. rw (sym are) sought))
+input_of_sought look files path b paths at hides named are (Some (hidden.Input p n)) (i, q, there, before, none) = absurd none
+input_of_sought look files path b paths at hides named are (Some (hidden.Line p n)) sought = (b, at, (hides, named, rw (sym are) sought))
+input_of_sought look files path b paths at hides named are (Some (hidden.OtherHeader p)) sought = (b, at, (hides, named, rw (sym are) sought))
+input_of_sought look files path b paths at hides named are (Some (hidden.Precompiled p)) sought = (b, at, (hides, named, rw (sym are) sought))
+input_of_sought look files path b paths at hides named are (Some (hidden.MissingLine p)) sought = (b, at, (hides, named, rw (sym are) sought))
+input_of_sought look files path b paths at hides named are (Some (hidden.Argument n)) sought = (b, at, (hides, named, rw (sym are) sought))
 
 pub source_there : {X : Type 0} (p : X → Bool) (xs : List X) (n : ℕ) (x : X) → slice_get xs n ≡ Some x → p x ≡ true → list_any p xs ≡ true
 source_there p xs n x at is =
@@ -70,3 +85,53 @@ pub list_refused : (none : Bor (List ℕ)) → none.now ≡ codes "\n" → (text
     → IsRefusal dep.OutOfMemory fault (refusal_without (At none) text) → IsAborted (of_dep fault) ⊎ IsListRefused text (of_dep fault)
 list_refused none now text fault (inl same) = inl (rw same tt)
 list_refused none now text fault (inr is) = inr (none, now, fault, is, refl)
+
+-- what is left of a list begins with what stands at the place
+pub listed_from : (x : List ℕ) (listed : List (List ℕ × Role)) (n : ℕ) (p : List ℕ × Role) → slice_get listed n ≡ Some p
+    → is_listed (drop n listed) x ≡ (bytes_eq x p.0 || is_listed (drop (n + 1) listed) x)
+listed_from x listed n p at =
+    let within = slice_get_within listed n p at in
+    let here : get_or listed n p ≡ p = get_or_from_slice_get listed n p p at in
+    let next : n + 1 ≡ suc n = omega arith in
+    rw next
+    (ap (λ ps. is_listed ps x) (drop-cons listed n p within) ∙ ap (λ (q : List ℕ × Role). bytes_eq x q.0 || is_listed (drop (suc n) listed) x) here)
+
+-- a path is equal to what is equal to it
+pub mirrored : (x y : List ℕ) → bytes_eq x y ≡ bytes_eq y x
+mirrored x y = grind (arith, common_steps, bytes_eq-Decides)
+
+-- one path goes from those that are left into the set
+pub moved : (in_old in_new here later : Bool) → in_new ≡ cond here true in_old → (in_new || later) ≡ (in_old || (here || later))
+moved true in_new true later e = grind arith
+moved true in_new false later e = grind arith
+moved false in_new true later e = grind arith
+moved false in_new false later e = grind arith
+
+-- ---- how the files are looked at, by a set and by a list of the same paths
+
+abbrev pub with_listed : Look → (List ℕ → Bool) → Look
+with_listed look f = record {
+  dialect = look.dialect;
+  header = look.header;
+  alias = look.alias;
+  texts = look.texts;
+  is_listed = f;
+  command = look.command;
+}
+
+pub same_listed : (P : Look → Type 0) (look : Look) (f : List ℕ → Bool) → ((x : List ℕ) → look.is_listed x ≡ f x) → P look → P (with_listed look f)
+same_listed P look f same p = subst (λ h. P (with_listed look h)) (fun_ext same) p
+
+-- ---- what can't be read
+
+pub auto_unread : (dialect : Dialect) (header : Header) (alias : List ℕ) (files : Files) (depfile command was : List ℕ) (listed : List (List ℕ × Role))
+    (e : EngineError) → unknown_argument command ≡ None → content files depfile ≡ Some was → AreListed was listed
+    → IsAborted e ⊎ (old_auto (content files auto_path) ≡ Err e) → IsAborted e ⊎ IsUnread dialect header alias files depfile command e
+auto_unread dialect header alias files depfile command was listed e none at are (inl aborted) = inl aborted
+auto_unread dialect header alias files depfile command was listed e none at are (inr is) = inr (none, inr (inl (was, at, inr (listed, are, is))))
+
+pub file_unread : (dialect : Dialect) (header : Header) (alias : List ℕ) (files : Files) (depfile command : List ℕ) (read : FirstRead files depfile)
+    (e : EngineError) → unknown_argument command ≡ None
+    → IsAborted e ⊎ IsUnreadAmong (look_by dialect header alias command read) files read.listed e → IsAborted e ⊎ IsUnread dialect header alias files depfile command e
+file_unread dialect header alias files depfile command read e none (inl aborted) = inl aborted
+file_unread dialect header alias files depfile command read e none (inr is) = inr (none, inr (inr (read, is)))

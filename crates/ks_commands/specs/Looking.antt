@@ -1,12 +1,14 @@
 -- What a strict record of an object looks at first: whether anything but the names that its files mention may matter to it.
-use Rattle.std.specs.Prelude.{◌≡◌, ◌≢◌, ◌⊎◌, ◌&&◌, ◌||◌, ℕ, Bool, true, false, not, List, Option, Some, None, Ok, Err, bytes_eq, nat_eq, codes, slice_get, ⊤}
+use Rattle.std.specs.Prelude.{◌≡◌, ◌≢◌, ◌⊎◌, ◌<◌, ◌&&◌, ◌||◌, ℕ, Bool, true, false, not, List, Option, Some, None, Ok, Err, bytes_eq, nat_eq, codes, length, slice_get, if◌then◌else◌, ⊤}
 use Rattle.std.specs.Borrow.{Bor}
 use Rattle.std.specs.List.{starts_with, ends_with, list_any}
 use Rattle.ks_symbols.specs.Names.{header_path, is_path}
 use Rattle.ks_symbols.specs.declared.dialect.Dialect.{Dialect}
 use Rattle.ks_output.specs.OldConfig.{Texts}
 use Rattle.ks_hidden.specs.HeaderLines.{foreign_line, lacks}
+use Rattle.ks_hidden.specs.Arguments.{unknown_argument}
 use Rattle.ks_hidden.specs.Candidates.{candidates}
+use Rattle.ks_hidden.specs.Precompiled.{is_among}
 use Rattle.ks_hidden.specs.Texts.{HidesNothing, IsHiddenLine}
 use Rattle.ks_hidden.specs.declared.hidden.Hidden.{Hidden}
 use Rattle.ks_hidden.specs.declared.hidden.Hidden.TheVariants as hidden
@@ -26,17 +28,25 @@ use Rattle.ks_requests.specs.Inputs.{given}
 use Rattle.ks_requests.specs.declared.refusal.Refusal.TheVariants.{Engine, Hidden as OfHidden}
 
 -- how the files of an object are looked at: as sources of a project, by its header, the other path that this may have, what the last
--- synchronisation wrote, and the command
+-- synchronisation wrote, the paths that are listed, and the command
 pub record Look : Type 0 where
   pub dialect : Dialect
   pub header : Header
   pub alias : List ℕ
   pub texts : Texts
+  pub is_listed : List ℕ → Bool
   pub command : List ℕ
 
 -- what the code holds of that
 abbrev pub looked_by : Looking → Look
-looked_by l = record { dialect = l.dialect; header = l.header; alias = l.alias.now; texts = l.config.texts; command = l.command.now }
+looked_by l = record {
+  dialect = l.dialect;
+  header = l.header;
+  alias = l.alias.now;
+  texts = l.config.texts;
+  is_listed = is_among l.listed;
+  command = l.command.now;
+}
 
 -- ---- paths
 
@@ -66,38 +76,47 @@ is_source header path = not (is_header header path) && not (is_of_system path) &
 
 -- ---- precompiled headers
 
--- There is no file at one of these paths; or one is found, or one is no path, so it is the source that is named.
-abbrev pub AreAbsent : Files → List (List ℕ) → Type 0
-AreAbsent files paths = (i : ℕ) (p : List ℕ) → slice_get paths i ≡ Some p → content files p ≡ None
+-- there is no file at any of the first n of these paths, or at any of them
+abbrev pub AreAbsentBefore : Files → List (List ℕ) → ℕ → Type 0
+AreAbsentBefore files paths n = (i : ℕ) (p : List ℕ) → i < n → slice_get paths i ≡ Some p → content files p ≡ None
 
+abbrev pub AreAbsent : Files → List (List ℕ) → Type 0
+AreAbsent files paths = AreAbsentBefore files paths (length paths)
+
+-- one is found, or one is no path, so it is the source that is named
 abbrev pub IsFoundAt : Files → List ℕ → List ℕ → Hidden → Type 0
 IsFoundAt files source path (hidden.Precompiled p) = ((p ≡ path) × (content files path ≢ None)) ⊎ ((p ≡ source) × (is_path path ≡ false))
 IsFoundAt files source path _ = ⊥
 
+-- none is found, or the first
 abbrev pub IsSought : Files → List ℕ → List (List ℕ) → Option Hidden → Type 0
 IsSought files source paths None = AreAbsent files paths
-IsSought files source paths (Some h) = (i : ℕ) × (path : List ℕ) × (slice_get paths i ≡ Some path) × IsFoundAt files source path h
+IsSought files source paths (Some h) =
+    (i : ℕ) × (path : List ℕ) × (slice_get paths i ≡ Some path) × AreAbsentBefore files paths i × IsFoundAt files source path h
 
 -- ---- a file
 
 -- A text hides nothing, and where it is a source no compiler finds a precompiled header for what it begins with.
-abbrev pub IsPlainText : List ℕ → Files → List ℕ → List ℕ → Type 0
-IsPlainText command files path b = HidesNothing b × (is_header_name path ≡ false → AreAbsent files (candidates path b command))
+abbrev pub IsPlainText : Look → Files → List ℕ → List ℕ → Type 0
+IsPlainText look files path b = HidesNothing b × (is_header_name path ≡ false → AreAbsent files (candidates look.is_listed path b look.command))
 
 -- or this is why not
-abbrev pub IsTextCause : List ℕ → Files → List ℕ → List ℕ → Hidden → Type 0
-IsTextCause command files path b (hidden.Input p n) = (p ≡ path) × IsHiddenLine b n
-IsTextCause command files path b h = IsSought files path (candidates path b command) (Some h)
+abbrev pub IsTextCause : Look → Files → List ℕ → List ℕ → Hidden → Type 0
+IsTextCause look files path b (hidden.Input p n) = (p ≡ path) × IsHiddenLine b n
+IsTextCause look files path b h =
+    HidesNothing b × (is_header_name path ≡ false) × IsSought files path (candidates look.is_listed path b look.command) (Some h)
 
-abbrev pub IsInput : List ℕ → Files → List ℕ → Option Hidden → Type 0
-IsInput command files path None = (b : List ℕ) × (content files path ≡ Some b) × IsPlainText command files path b
-IsInput command files path (Some h) = (b : List ℕ) × (content files path ≡ Some b) × IsTextCause command files path b h
+abbrev pub IsInput : Look → Files → List ℕ → Option Hidden → Type 0
+IsInput look files path None = (b : List ℕ) × (content files path ≡ Some b) × IsPlainText look files path b
+IsInput look files path (Some h) = (b : List ℕ) × (content files path ≡ Some b) × IsTextCause look files path b h
 
 -- The header is this directory's, and has the definitions of the last synchronisation, these and no others; or this is why not.
 abbrev pub IsHeaderCause : Look → Files → List ℕ → Hidden → Type 0
 IsHeaderCause look files path (hidden.OtherHeader p) = (p ≡ path) × (is_own look.header look.alias path ≡ false)
-IsHeaderCause look files path (hidden.Line p n) = (p ≡ path) × (b : List ℕ) × (content files path ≡ Some b) × (foreign_line look.dialect look.texts b ≡ Some n)
-IsHeaderCause look files path (hidden.MissingLine p) = (p ≡ path) × (b : List ℕ) × (content files path ≡ Some b) × (lacks look.texts b ≡ true)
+IsHeaderCause look files path (hidden.Line p n) = (p ≡ path) × (is_own look.header look.alias path ≡ true)
+    × (b : List ℕ) × (content files path ≡ Some b) × (foreign_line look.dialect look.texts b ≡ Some n)
+IsHeaderCause look files path (hidden.MissingLine p) = (p ≡ path) × (is_own look.header look.alias path ≡ true)
+    × (b : List ℕ) × (content files path ≡ Some b) × (foreign_line look.dialect look.texts b ≡ None) × (lacks look.texts b ≡ true)
 IsHeaderCause look files path h = ⊥
 
 abbrev pub IsHeader : Look → Files → List ℕ → Option Hidden → Type 0
@@ -110,7 +129,7 @@ abbrev pub IsLookedAt : Look → Files → List ℕ → Option Hidden → Type 0
 IsLookedAt look files path found =
     ((is_header look.header path ≡ true) × IsHeader look files path found)
     ⊎ ((is_header look.header path ≡ false)
-    × (((is_of_system path ≡ true) × (found ≡ None)) ⊎ IsInput look.command files path found))
+    × (((is_of_system path ≡ true) × (found ≡ None)) ⊎ ((is_of_system path ≡ false) × IsInput look files path found)))
 
 -- ---- all of them
 
@@ -121,39 +140,87 @@ AreListed text listed = (none : Bor (List ℕ)) × (none.now ≡ codes "\n") × 
 abbrev pub IsListRefused : List ℕ → EngineError → Type 0
 IsListRefused text e = (none : Bor (List ℕ)) × (none.now ≡ codes "\n") × (fault : DepError) × (refusal_without (At none) text ≡ Some fault) × (e ≡ of_dep fault)
 
--- each is as it should be, or one is the cause
+-- whether a path is listed
+abbrev pub is_listed : List (List ℕ × Role) → List ℕ → Bool
+is_listed listed path = list_any (λ p. bytes_eq path p.0) listed
+
+-- the first n of them are as they should be, or all
+abbrev pub ArePlainBefore : Look → Files → List (List ℕ × Role) → ℕ → Type 0
+ArePlainBefore look files listed n = (i : ℕ) (p : List ℕ × Role) → i < n → slice_get listed i ≡ Some p → IsLookedAt look files p.0 None
+
+abbrev pub ArePlain : Look → Files → List (List ℕ × Role) → Type 0
+ArePlain look files listed = ArePlainBefore look files listed (length listed)
+
+-- the first that isn't has this cause
+abbrev pub IsFirstCause : Look → Files → List (List ℕ × Role) → Hidden → Type 0
+IsFirstCause look files listed h =
+    (i : ℕ) × (p : List ℕ × Role) × (slice_get listed i ≡ Some p) × ArePlainBefore look files listed i × IsLookedAt look files p.0 (Some h)
+
 abbrev pub AreLookedAt : Look → Files → List (List ℕ × Role) → Option Hidden → Type 0
-AreLookedAt look files listed None = (i : ℕ) (p : List ℕ × Role) → slice_get listed i ≡ Some p → IsLookedAt look files p.0 None
-AreLookedAt look files listed (Some h) = (i : ℕ) × (p : List ℕ × Role) × (slice_get listed i ≡ Some p) × IsLookedAt look files p.0 (Some h)
+AreLookedAt look files listed None = ArePlain look files listed
+AreLookedAt look files listed (Some h) = IsFirstCause look files listed h
+
+-- or the first that isn't can't be read
+abbrev pub is_read : Look → List ℕ → Bool
+is_read look path = if is_header look.header path then is_own look.header look.alias path else not (is_of_system path)
+
+abbrev pub IsUnreadAmong : Look → Files → List (List ℕ × Role) → EngineError → Type 0
+IsUnreadAmong look files listed e =
+    (i : ℕ) × (p : List ℕ × Role) × (slice_get listed i ≡ Some p) × ArePlainBefore look files listed i
+    × (is_read look p.0 ≡ true) × (given files p.0 ≡ Err e)
 
 -- one of them is compiled, and not included
 abbrev pub has_source : Header → List (List ℕ × Role) → Bool
 has_source header listed = list_any (λ p. is_source header p.0) listed
 
--- Nothing but names can matter to an object: each of its files is as it should be, and one is compiled. Or one is the cause, or none is
--- compiled, as where a header is precompiled.
+-- Nothing but names can matter to an object: each of its files is as it should be, and one is compiled. Or the first that isn't is the
+-- cause, or none is compiled, as where a header is precompiled.
 abbrev pub IsFound : Look → Files → List (List ℕ × Role) → Option Hidden → Type 0
-IsFound look files listed None = AreLookedAt look files listed None × (has_source look.header listed ≡ true)
+IsFound look files listed None = ArePlain look files listed × (has_source look.header listed ≡ true)
 IsFound look files listed (Some h) =
-    AreLookedAt look files listed (Some h)
-    ⊎ ((has_source look.header listed ≡ false) × (p : List ℕ × Role) × (slice_get listed 0 ≡ Some p) × (h ≡ hidden.Precompiled p.0))
+    IsFirstCause look files listed h
+    ⊎ (ArePlain look files listed × (has_source look.header listed ≡ false)
+    × (p : List ℕ × Role) × (slice_get listed 0 ≡ Some p) × (h ≡ hidden.Precompiled p.0))
 
--- What was looked at of an object: the dependency file and auto.conf are there and read, and this was found.
-pub record IsLooked (dialect : Dialect) (header : Header) (alias : List ℕ) (files : Files) (depfile command : List ℕ) (found : Option Hidden) : Type 0 where
+-- what is read first: the dependency file and auto.conf
+pub record FirstRead (files : Files) (depfile : List ℕ) : Type 0 where
   pub was : List ℕ
   pub was_there : content files depfile ≡ Some was
   pub listed : List (List ℕ × Role)
   pub are_listed : AreListed was listed
   pub auto : OldAuto
   pub auto_is : old_auto (content files auto_path) ≡ Ok auto
-  pub is_found : IsFound (record { dialect = dialect; header = header; alias = alias; texts = auto.texts; command = command }) files listed found
 
--- A file that has to be read isn't there or is too large, or the dependency file or auto.conf is refused.
-abbrev pub IsUnread : Files → List ℕ → EngineError → Type 0
-IsUnread files depfile e =
-    ((path : List ℕ) × (given files path ≡ Err e))
-    ⊎ (((was : List ℕ) × (content files depfile ≡ Some was) × IsListRefused was e)
-    ⊎ (old_auto (content files auto_path) ≡ Err e))
+-- how the files are looked at then
+abbrev pub look_by : Dialect → Header → List ℕ → List ℕ → {files : Files} {depfile : List ℕ} → FirstRead files depfile → Look
+look_by dialect header alias command r = record {
+  dialect = dialect;
+  header = header;
+  alias = alias;
+  texts = r.auto.texts;
+  is_listed = is_listed r.listed;
+  command = command;
+}
+
+-- What was found of an object: an argument that isn't known, or by its files.
+abbrev pub IsLooked : Dialect → Header → List ℕ → Files → List ℕ → List ℕ → Option Hidden → Type 0
+IsLooked dialect header alias files depfile command found =
+    ((word : ℕ) × (unknown_argument command ≡ Some word) × (found ≡ Some (hidden.Argument word)))
+    ⊎ ((unknown_argument command ≡ None)
+    × (r : FirstRead files depfile) × IsFound (look_by dialect header alias command r) files r.listed found)
+
+-- The first of what has to be read is refused, or can't be: the dependency file, auto.conf, or one of the files.
+abbrev pub IsUnreadFile : Dialect → Header → List ℕ → Files → List ℕ → List ℕ → EngineError → Type 0
+IsUnreadFile dialect header alias files depfile command e =
+    (given files depfile ≡ Err e)
+    ⊎ (((was : List ℕ) × (content files depfile ≡ Some was)
+    × (IsListRefused was e ⊎ ((listed : List (List ℕ × Role)) × AreListed was listed × (old_auto (content files auto_path) ≡ Err e))))
+    ⊎ ((r : FirstRead files depfile) × IsUnreadAmong (look_by dialect header alias command r) files r.listed e))
+
+-- Each argument is known, and this is so.
+abbrev pub IsUnread : Dialect → Header → List ℕ → Files → List ℕ → List ℕ → EngineError → Type 0
+IsUnread dialect header alias files depfile command e =
+    (unknown_argument command ≡ None) × IsUnreadFile dialect header alias files depfile command e
 
 -- ---- before a record
 
@@ -167,4 +234,4 @@ abbrev pub RefusesRecord : Files → Dialect → Header → Option (List ℕ) �
 RefusesRecord files dialect header None depfile command ended = ⊥
 RefusesRecord files dialect header (Some alias) depfile command ended =
     ((h : Hidden) × IsLooked dialect header alias files depfile command (Some h) × (ended ≡ Err (OfHidden h)))
-    ⊎ ((e : EngineError) × (IsAborted e ⊎ IsUnread files depfile e) × (ended ≡ Err (Engine e)))
+    ⊎ ((e : EngineError) × (IsAborted e ⊎ IsUnread dialect header alias files depfile command e) × (ended ≡ Err (Engine e)))

@@ -6,16 +6,20 @@ ghost use Rattle.std.specs.Prelude.{◌≡◌, ◌⊎◌, List, ℕ, Err, IfErr,
 ghost use Rattle.ks_symbols.specs.Names.{is_path};
 ghost use Rattle.ks_fixdep.specs.DependencyFile.{ends_in_path, is_directory, is_header};
 ghost use Rattle.ks_fixdep.specs.declared.dependency_file.Role.{Role};
+ghost use Rattle.ks_hidden.specs.Precompiled.{is_among};
 ghost use Rattle.ks_hidden.specs.declared.hidden.Hidden.TheVariants.{Precompiled};
 ghost use Rattle.ks_tree.specs.Files.{content};
 ghost use Rattle.ks_tree.specs.Frames.{Reads};
 ghost use Rattle.ks_engine.specs.Refusals.{IsAborted};
 ghost use Rattle.ks_requests.specs.Inputs.{given};
-ghost use Rattle.ks_commands.specs.Looking.{AreListed, AreLookedAt, IsFound, IsHeader, IsInput, IsListRefused, IsLooked, IsLookedAt, IsSought, IsUnread, has_source, is_header_name, is_of_system, is_own, is_source, looked_by, path_of};
+ghost use Rattle.ks_commands.specs.Looking.{AreListed, AreLookedAt, IsFound, IsHeader, IsInput, IsListRefused, IsLooked, IsLookedAt, IsSought, IsUnread, IsUnreadAmong, has_source, is_header_name, is_listed, is_of_system, is_own, is_read, is_source, looked_by, path_of};
 
+use indexmap::IndexSet;
 use ks_engine::{EngineError, read_old};
 use ks_fixdep::{Header, Prerequisites, read_depfile_without};
-use ks_hidden::{Hidden, foreign_line, hidden_line, lacks_definition, precompiled_candidates};
+use ks_hidden::{
+    Hidden, foreign_line, hidden_line, lacks_definition, precompiled_candidates, unknown_argument,
+};
 use ks_output::OldConfig;
 use ks_requests::read_given;
 use ks_symbols::{Dialect, Path, Seed, path_is_legal};
@@ -31,6 +35,8 @@ struct Looking<'a> {
     alias: &'a [u8],
     /// What the last synchronisation wrote.
     config: OldConfig,
+    /// The paths of all files.
+    listed: IndexSet<&'a [u8], Seed>,
     command: &'a [u8],
 }
 
@@ -111,7 +117,7 @@ fn look_at_header<T: Tree>(
     ensures passed { OnOk result (T.failures tree.new ≡ T.failures tree.old) }
     ensures uncounted { IsErrOf result EngineError.OutOfMemory → T.failures tree.new ≡ T.failures tree.old }
     ensures looked { T.is_honest → IfOk result (IsHeader (looked_by look.now) (T.files tree.old) path.now) }
-    ensures refused { T.is_honest → IfErr result (λ e. IsAborted e ⊎ (given (T.files tree.old) path.now ≡ Err e)) }
+    ensures refused { T.is_honest → IfErr result (λ e. IsAborted e ⊎ ((is_own look.now.header look.now.alias.now path.now ≡ true) × (given (T.files tree.old) path.now ≡ Err e))) }
 {
     if !is_own(look.header, look.alias, path) {
         return Ok(Some(Hidden::OtherHeader(Path::new(alloc, path)?)));
@@ -167,14 +173,14 @@ fn find_precompiled<T: Tree>(
 fn look_at_input<T: Tree>(
     alloc: Global,
     tree: &mut T,
-    command: &[u8],
+    look: &Looking<'_>,
     path: &[u8],
 ) -> Result<Option<Hidden>, EngineError>
     requires legal { IsTrue (is_path path.now) }
     ensures reads { Reads T.Tree tree.old tree.new (IsErrOf result EngineError.Device) }
     ensures passed { OnOk result (T.failures tree.new ≡ T.failures tree.old) }
     ensures uncounted { IsErrOf result EngineError.OutOfMemory → T.failures tree.new ≡ T.failures tree.old }
-    ensures looked { T.is_honest → IfOk result (IsInput command.now (T.files tree.old) path.now) }
+    ensures looked { T.is_honest → IfOk result (IsInput (looked_by look.now) (T.files tree.old) path.now) }
     ensures refused { T.is_honest → IfErr result (λ e. IsAborted e ⊎ (given (T.files tree.old) path.now ≡ Err e)) }
 {
     let text = read_given(alloc, tree, path)?;
@@ -184,7 +190,7 @@ fn look_at_input<T: Tree>(
     if is_header_name(path) {
         return Ok(None);
     }
-    let paths = precompiled_candidates(alloc, path, &text, command)?;
+    let paths = precompiled_candidates(alloc, &look.listed, path, &text, look.command)?;
     find_precompiled(alloc, tree, path, &paths)
 }
 
@@ -200,7 +206,7 @@ fn look_at<T: Tree>(
     ensures passed { OnOk result (T.failures tree.new ≡ T.failures tree.old) }
     ensures uncounted { IsErrOf result EngineError.OutOfMemory → T.failures tree.new ≡ T.failures tree.old }
     ensures looked { T.is_honest → IfOk result (IsLookedAt (looked_by look.now) (T.files tree.old) path.now) }
-    ensures refused { T.is_honest → IfErr result (λ e. IsAborted e ⊎ (given (T.files tree.old) path.now ≡ Err e)) }
+    ensures refused { T.is_honest → IfErr result (λ e. IsAborted e ⊎ ((is_read (looked_by look.now) path.now ≡ true) × (given (T.files tree.old) path.now ≡ Err e))) }
 {
     if is_header(look.header, path) {
         return look_at_header(alloc, tree, look, path);
@@ -208,7 +214,7 @@ fn look_at<T: Tree>(
     if is_of_system(path) {
         return Ok(None);
     }
-    look_at_input(alloc, tree, look.command, path)
+    look_at_input(alloc, tree, look, path)
 }
 
 /// Whether a file is compiled, and not included.
@@ -258,7 +264,7 @@ fn look_at_all<T: Tree>(
     ensures passed { OnOk result (T.failures tree.new ≡ T.failures tree.old) }
     ensures uncounted { IsErrOf result EngineError.OutOfMemory → T.failures tree.new ≡ T.failures tree.old }
     ensures found { T.is_honest → IfOk result (AreLookedAt (looked_by look.now) (T.files tree.old) prerequisites.now) }
-    ensures refused { T.is_honest → IfErr result (λ e. IsAborted e ⊎ ((path : List ℕ) × (given (T.files tree.old) path ≡ Err e))) }
+    ensures refused { T.is_honest → IfErr result (λ e. IsAborted e ⊎ IsUnreadAmong (looked_by look.now) (T.files tree.old) prerequisites.now e) }
 {
     for place in 0..prerequisites.len() {
         let Some((path, _)) = prerequisites.get(place) else {
@@ -282,7 +288,7 @@ fn look_for_cause<T: Tree>(
     ensures passed { OnOk result (T.failures tree.new ≡ T.failures tree.old) }
     ensures uncounted { IsErrOf result EngineError.OutOfMemory → T.failures tree.new ≡ T.failures tree.old }
     ensures found { T.is_honest → IfOk result (IsFound (looked_by look.now) (T.files tree.old) prerequisites.now) }
-    ensures refused { T.is_honest → IfErr result (λ e. IsAborted e ⊎ ((path : List ℕ) × (given (T.files tree.old) path ≡ Err e))) }
+    ensures refused { T.is_honest → IfErr result (λ e. IsAborted e ⊎ IsUnreadAmong (looked_by look.now) (T.files tree.old) prerequisites.now e) }
 {
     if let Some(hidden) = look_at_all(alloc, tree, look, prerequisites)? {
         return Ok(Some(hidden));
@@ -302,6 +308,24 @@ fn read_listed(alloc: Global, seed: Seed, text: &[u8]) -> Result<Prerequisites, 
     Ok(read_depfile_without(alloc, seed, Header::At(b"\n"), text)?)
 }
 
+/// The paths of all files that a dependency file lists.
+fn path_set<'a>(
+    alloc: Global,
+    seed: Seed,
+    prerequisites: &'a Prerequisites,
+) -> Result<IndexSet<&'a [u8], Seed>, AllocError>
+    ensures { IfOk result (λ set. (path : List ℕ) → is_among set path ≡ is_listed prerequisites.now path) }
+{
+    let mut listed = IndexSet::with_hasher(alloc, seed);
+    for place in 0..prerequisites.len() {
+        let Some((path, _)) = prerequisites.get(place) else {
+            unreachable!();
+        };
+        listed.insert(path)?;
+    }
+    Ok(listed)
+}
+
 /// What may matter to an object beside the names that its files mention, if anything, by the dependency file that the compiler wrote.
 pub(crate) fn find_cause<T: Tree>(
     alloc: Global,
@@ -316,16 +340,21 @@ pub(crate) fn find_cause<T: Tree>(
     ensures passed { OnOk result (T.failures tree.new ≡ T.failures tree.old) }
     ensures uncounted { IsErrOf result EngineError.OutOfMemory → T.failures tree.new ≡ T.failures tree.old }
     ensures looked { T.is_honest → IfOk result (IsLooked dialect header.entry alias.now (T.files tree.old) depfile.now command.now) }
-    ensures refused { T.is_honest → IfErr result (λ e. IsAborted e ⊎ IsUnread (T.files tree.old) depfile.now e) }
+    ensures refused { T.is_honest → IfErr result (λ e. IsAborted e ⊎ IsUnread dialect header.entry alias.now (T.files tree.old) depfile.now command.now e) }
 {
+    if let Some(word) = unknown_argument(alloc, command)? {
+        return Ok(Some(Hidden::Argument(word)));
+    }
     let text = read_given(alloc, tree, depfile)?;
     let prerequisites = read_listed(alloc, Seed::new(tree.seed()), &text)?;
     let config = read_old(alloc, tree)?;
+    let listed = path_set(alloc, Seed::new(tree.seed()), &prerequisites)?;
     let look = Looking {
         dialect,
         header,
         alias,
         config,
+        listed,
         command,
     };
     look_for_cause(alloc, tree, &look, &prerequisites)

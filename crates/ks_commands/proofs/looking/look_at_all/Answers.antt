@@ -1,5 +1,4 @@
 use Rattle.ks_commands.proofs.Prelude.{None, arith, rules, sym}
-use Rattle.std.proofs.lemmas.Option.{slice_get_within}
 use Rattle.ks_commands.specs.Looking.{IsLookedAt, looked_by}
 use Rattle.ks_commands.proofs.LookingLemmas.{one_more}
 use Rattle.ks_commands.proofs.looking.look_at_all.Goals as goal
@@ -17,6 +16,5 @@ loop-place-preserved g c = record {
 }
 
 pub returns-clause-found : goal.returns-clause-found
-returns-clause-found g c = λ honest i p at.
-    c.loop-place.invariant.plain honest i p
-    (omega (arith, c.loop-place-test.false, c.len-place-end.ensures.len, slice_get_within c.args.prerequisites.now i p at)) at
+returns-clause-found g c = λ honest i p within at.
+    c.loop-place.invariant.plain honest i p (omega (arith, c.loop-place-test.false, c.len-place-end.ensures.len, within)) at

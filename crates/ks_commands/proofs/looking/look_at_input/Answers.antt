@@ -2,7 +2,7 @@ use Rattle.ks_commands.proofs.Prelude.{◌≡◌, ◌∙◌, map, refl, sym}
 use Rattle.std.specs.Prelude.{vec_items}
 use Rattle.ks_hidden.specs.Candidates.{candidates}
 use Rattle.std.proofs.lemmas.Bool.{false≢true}
-use Rattle.ks_commands.specs.Looking.{IsInput, IsSought}
+use Rattle.ks_commands.specs.Looking.{IsInput, IsSought, looked_by}
 use Rattle.ks_commands.proofs.LookingLemmas.{given_is, if_ok, input_of_sought}
 use Rattle.ks_commands.proofs.looking.look_at_input.Goals as goal
 
@@ -20,11 +20,13 @@ returns-then-is_header_name-clause-looked g c = λ honest.
 pub returns-clause-looked : goal.returns-clause-looked
 returns-clause-looked g c = λ honest.
     let text = c.in_ok-text.text.items in
+    let look = looked_by c.args.look.now in
     let there = given_is (g.T.Tree.files c.args.tree.now) c.args.path.now text (c.in_ok-text.ensures.bytes honest) in
     let hides = rw (c.deref.ensures.value) at (c.hidden_line.ensures.none c.in_default.is) in
-    let are : map vec_items c.deref-3.result.now ≡ candidates c.args.path.now text c.args.command.now =
+    let named = sym c.is_header_name.ensures ∙ c.if-is_header_name.false in
+    let are : map vec_items c.deref-3.result.now ≡ candidates look.is_listed c.args.path.now text look.command =
     rw (c.deref-3.ensures.value, c.in_ok-paths.ensures, c.deref-2.ensures.value) refl in
     let found = rw (c.in_ok-text.ensures.reads.unchanged honest) at (c.find_precompiled.ensures.found honest) in
     if_ok (IsSought (g.T.Tree.files c.args.tree.now) c.args.path.now (map vec_items c.deref-3.result.now))
-    (IsInput c.args.command.now (g.T.Tree.files c.args.tree.now) c.args.path.now) c.find_precompiled.result
-    (input_of_sought c.args.command.now (g.T.Tree.files c.args.tree.now) c.args.path.now text (map vec_items c.deref-3.result.now) there hides are) found
+    (IsInput look (g.T.Tree.files c.args.tree.now) c.args.path.now) c.find_precompiled.result
+    (input_of_sought look (g.T.Tree.files c.args.tree.now) c.args.path.now text (map vec_items c.deref-3.result.now) there hides named are) found

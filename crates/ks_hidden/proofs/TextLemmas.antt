@@ -1,16 +1,32 @@
 -- Where a search found nothing there is nothing, and each joint is at a backslash or a slash.
 use native.Mathlib.Omega.{arith}
-use Rattle.std.proofs.Common.{◌≡◌, ◌∙◌, ◌+◌, ◌-◌, ◌≤◌, ◌<◌, ◌==◌, ℕ, suc, zero, Bool, true, false, cond, List, ◌∷◌, None, Some, inl, inr, length, take, drop, refl, sym, ap, subst}
+use Rattle.std.proofs.Common.{◌≡◌, ◌∙◌, ◌+◌, ◌-◌, ◌≤◌, ◌<◌, ◌==◌, ℕ, suc, zero, Bool, true, false, cond, List, [], ◌∷◌, codes, None, Some, inl, inr, length, take, drop, refl, sym, ap, subst}
 use Rattle.std.proofs.lemmas.Bool.{cases_lt, false≢true}
 use Rattle.std.proofs.lemmas.Option.{slice_get_cases}
 use Rattle.std.proofs.lemmas.Grind.{common_steps, get_or_default_zero}
 use Rattle.std.specs.List.{Contains}
 use Rattle.std.specs.Prelude.{slice_index}
 use Rattle.memchr.specs.Find.{FindsNeedle, OccursAt, is_byte2, places, places_from}
-use Rattle.ks_hidden.specs.Texts.{is_joint, is_joint_of}
+use Rattle.ks_hidden.specs.Texts.{IsMacroAt, is_joint, is_joint_of}
 
 pub absent : (text needle : List ℕ) → FindsNeedle text needle 0 None → (k : ℕ) → OccursAt text needle k → ⊥
 absent text needle none k there = none k (omega arith) (omega (arith, there.fits)) there
+
+-- where a word stands that begins with two underscores, these stand
+underscores_at : (text rest : List ℕ) (k j : ℕ) → OccursAt text (95 ∷ 95 ∷ rest) k → j < 2 → slice_index text (k + j) ≡ slice_index (95 ∷ 95 ∷ []) j
+underscores_at text rest k zero at within = at.reads 0 (omega arith)
+underscores_at text rest k (suc zero) at within = at.reads 1 (omega arith)
+underscores_at text rest k (suc (suc j)) at within = absurd (omega (arith, within))
+
+underscores : (text rest : List ℕ) (k : ℕ) → OccursAt text (95 ∷ 95 ∷ rest) k → OccursAt text (95 ∷ 95 ∷ []) k
+underscores text rest k at = record { fits = omega (arith, at.fits); reads = λ j within. underscores_at text rest k j at within }
+
+pub no_macro : (text : List ℕ) → ((k : ℕ) → OccursAt text (codes "__") k → ⊥) → (k : ℕ) → IsMacroAt text k → ⊥
+no_macro text none k (inl at) = none k (underscores text _ k at)
+no_macro text none k (inr (inl at)) = none k (underscores text _ k at)
+no_macro text none k (inr (inr (inl at))) = none k (underscores text _ k at)
+no_macro text none k (inr (inr (inr (inl at)))) = none k (underscores text _ k at)
+no_macro text none k (inr (inr (inr (inr at)))) = none k (underscores text _ k at)
 
 -- ---- joints
 

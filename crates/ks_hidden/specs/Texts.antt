@@ -10,12 +10,16 @@ use Rattle.ks_hidden.specs.Words.{behind}
 
 -- ---- marks
 
--- At a place stands what reads a file, looks for one, or is of the time of a compile. The assembler takes its words in either case.
-abbrev pub IsWordAt : List ℕ → ℕ → Type 0
-IsWordAt text k =
-    OccursAt text (codes "incbin") k ⊎ (OccursAt text (codes "INCBIN") k ⊎ (OccursAt text (codes ".include") k ⊎ (OccursAt text (codes ".INCLUDE") k
-    ⊎ (OccursAt text (codes "__has_include") k ⊎ (OccursAt text (codes "__has_embed") k
-    ⊎ (OccursAt text (codes "__DATE__") k ⊎ (OccursAt text (codes "__TIME__") k ⊎ OccursAt text (codes "__TIMESTAMP__") k)))))))
+-- At a place stands a word of the assembler that reads a file. It takes these in either case.
+abbrev pub IsDirectiveAt : List ℕ → ℕ → Type 0
+IsDirectiveAt text k =
+    OccursAt text (codes "incbin") k ⊎ (OccursAt text (codes ".include") k ⊎ (OccursAt text (codes "INCBIN") k ⊎ OccursAt text (codes ".INCLUDE") k))
+
+-- or a word of the preprocessor that looks for a file, or is of the time of a compile
+abbrev pub IsMacroAt : List ℕ → ℕ → Type 0
+IsMacroAt text k =
+    OccursAt text (codes "__has_include") k ⊎ (OccursAt text (codes "__has_embed") k
+    ⊎ (OccursAt text (codes "__DATE__") k ⊎ (OccursAt text (codes "__TIME__") k ⊎ OccursAt text (codes "__TIMESTAMP__") k)))
 
 -- ---- includes whose file is computed
 
@@ -104,7 +108,7 @@ is_joint text k = is_joint_of (take k text) (drop (k + 1) text) (slice_get text 
 -- ---- both kinds of places, and lines
 
 abbrev pub IsMarkAt : List ℕ → ℕ → Type 0
-IsMarkAt text k = IsWordAt text k ⊎ (is_joint text k ≡ true)
+IsMarkAt text k = IsMacroAt text k ⊎ (IsDirectiveAt text k ⊎ (is_joint text k ≡ true))
 
 -- the number of the first such line, where they are counted from n on, and in a text from 1 on
 unfoldable pub computed_from : ℕ → List (List ℕ) → Option ℕ

@@ -3,7 +3,7 @@
 //! Most texts hold nothing of that. So each is searched as a whole, and for few words.
 ghost use Rattle.std.specs.Prelude.{◌≡◌, ℕ, IfSome, None, option_map, true};
 ghost use Rattle.memchr.specs.Find.{OccursAt};
-ghost use Rattle.ks_hidden.specs.Texts.{HidesNothing, IsHiddenLine, IsMarkAt, IsWordAt, after_include, after_line_end, after_sign, begins_joined, begins_other, ends_comment, first_computed, follows_computed, is_blank, is_computed, is_computed_line, is_joint, is_of_word, is_of_word_or_joins, joins_word, line_number, skip_blanks};
+ghost use Rattle.ks_hidden.specs.Texts.{HidesNothing, IsDirectiveAt, IsHiddenLine, IsMacroAt, IsMarkAt, after_include, after_line_end, after_sign, begins_joined, begins_other, ends_comment, first_computed, follows_computed, is_blank, is_computed, is_computed_line, is_joint, is_of_word, is_of_word_or_joins, joins_word, line_number, skip_blanks};
 
 use crate::words::behind;
 use bstr::ByteSlice;
@@ -34,10 +34,10 @@ fn find(text: &[u8], word: &[u8]) -> Option<usize>
     memmem::find(text, word)
 }
 
-/// A place of one of the words that hide a file.
-fn find_word(text: &[u8]) -> Option<usize>
-    ensures none { result ≡ None → (k : ℕ) → IsWordAt text.now k → ⊥ }
-    ensures some { IfSome result (IsWordAt text.now) }
+/// A place of a word of the preprocessor that looks for a file, or is of the time of a compile.
+fn find_macro(text: &[u8]) -> Option<usize>
+    ensures none { result ≡ None → (k : ℕ) → IsMacroAt text.now k → ⊥ }
+    ensures some { IfSome result (IsMacroAt text.now) }
 {
     if let Some(at) = find(text, b"__has_include") {
         return Some(at);
@@ -51,16 +51,32 @@ fn find_word(text: &[u8]) -> Option<usize>
     if let Some(at) = find(text, b"__TIME__") {
         return Some(at);
     }
-    if let Some(at) = find(text, b"__TIMESTAMP__") {
-        return Some(at);
+    find(text, b"__TIMESTAMP__")
+}
+
+/// The same. Many texts have no two underscores side by side, and are passed at once.
+fn find_macro_quickly(text: &[u8]) -> Option<usize>
+    ensures none { result ≡ None → (k : ℕ) → IsMacroAt text.now k → ⊥ }
+    ensures some { IfSome result (IsMacroAt text.now) }
+{
+    match find(text, b"__") {
+        Some(_) => find_macro(text),
+        None => None,
     }
+}
+
+/// A place of a word of the assembler that reads a file.
+fn find_directive(text: &[u8]) -> Option<usize>
+    ensures none { result ≡ None → (k : ℕ) → IsDirectiveAt text.now k → ⊥ }
+    ensures some { IfSome result (IsDirectiveAt text.now) }
+{
     if let Some(at) = find(text, b"incbin") {
         return Some(at);
     }
-    if let Some(at) = find(text, b"INCBIN") {
+    if let Some(at) = find(text, b".include") {
         return Some(at);
     }
-    if let Some(at) = find(text, b".include") {
+    if let Some(at) = find(text, b"INCBIN") {
         return Some(at);
     }
     find(text, b".INCLUDE")
@@ -252,7 +268,10 @@ fn find_mark(text: &[u8]) -> Option<usize>
     ensures none { result ≡ None → (k : ℕ) → IsMarkAt text.now k → ⊥ }
     ensures some { IfSome result (IsMarkAt text.now) }
 {
-    match find_word(text) {
+    if let Some(at) = find_macro_quickly(text) {
+        return Some(at);
+    }
+    match find_directive(text) {
         Some(at) => Some(at),
         None => find_joint(text),
     }

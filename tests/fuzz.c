@@ -542,6 +542,30 @@ static void words_of_record(Command *made)
         put_option(made, "--before-sync", NULL);
 }
 
+/* A command of a compile, whose words mention symbols at times. */
+static const char *naming_command(void)
+{
+    static const char *const naming_commands[] = {
+        "cc -DX=CONFIG_A -c x.c", "cc -DCONFIG_B -c x.c", "cc -DX=CONFIG_S_MODULE -DY=CONFIG_C -DZ=CONFIG_C", "CONFIG_IS_ENABLED(A) CONFIG_VAL(H)",
+        "cc -DX=ENABLE_H -DY=IF_NOT_A(x)", "cc -DX='CONFIG(E_1)'", "CONFIG_x86",
+    };
+    return one_in(2) ? PICK(naming_commands) : command();
+}
+
+/* A record of which the dependency file is written anew: mostly the compiler's, seldom one that is not to be. */
+static void words_of_depfile(Command *made)
+{
+    static const char *const own_files[] = {"include/config/x.d", "include/config/A", "include/generated/autoconf.h", "x.tmp", "d/.y.o.cmd"};
+    static const char *const suffixes[] = {"a.h", "c.h", "d/c.h", "h", ".h", "./a.h", "x.c", "include/generated/autoconf.h", "generated/autoconf.h", "none.h"};
+    static const char *const odd_suffixes[] = {"", "a$b.h", "a.h:", "a h", "d/", "/c.h"};
+    word(made, "depfile");
+    word(made, one_in(40) ? PICK(own_files) : file_word("x.d"));
+    word(made, target());
+    word(made, naming_command());
+    if (one_in(3))
+        put_option(made, "--header", one_in(12) ? PICK(odd_suffixes) : PICK(suffixes));
+}
+
 /* A repair, by what was kept or without. */
 static void words_of_repair(Command *made)
 {
@@ -597,8 +621,10 @@ static Command made_command(void)
     case 3:
     case 4:
     case 5:
-        if (one_in(3))
+        if (one_in(4))
             words_of_fixdep(&made);
+        else if (one_in(2))
+            words_of_depfile(&made);
         else
             words_of_record(&made);
         break;
@@ -630,6 +656,8 @@ static Command made_step(size_t step)
     Command made = {.count = 0};
     if (step == 0 || step == 3)
         words_of_sync(&made, "sync");
+    else if (step < 3 && one_in(2))
+        words_of_depfile(&made);
     else if (step < 3)
         words_of_record(&made);
     else if (one_in(4))
@@ -831,6 +859,10 @@ static void edit(Tree *tree)
         put_written(tree);
         write_file(bytes_of("conf.auto"), find(tree, bytes_of("conf.auto"))->bytes);
         write_file(bytes_of("conf.h"), find(tree, bytes_of("conf.h"))->bytes);
+        break;
+    case 3:
+        put_text(tree, "x.d", made_depfile());
+        write_file(bytes_of("x.d"), find(tree, bytes_of("x.d"))->bytes);
         break;
     default:
         break;

@@ -1,6 +1,7 @@
 /* SPDX-License-Identifier: Apache-2.0 OR MIT */
 #include "model.h"
 
+#include <ctype.h>
 #include <inttypes.h>
 #include <stdarg.h>
 #include <stdio.h>
@@ -11,6 +12,9 @@ bool auto_is_typed;
 
 /* The project in whose words Kconfigs, configurations and sources are read: that of the command which runs. */
 static enum { LINUX, U_BOOT, BUSYBOX, COREBOOT } dialect;
+
+/* The end of the path of the header of all symbols, which the command that runs was given; NULL where it is the usual one. */
+static const Bytes *header_suffix;
 
 /* Memory and texts */
 
@@ -1059,12 +1063,23 @@ static void add_prerequisite(Prerequisites *list, Bytes path, Role role)
     list->all[list->count++] = (Prerequisite){path, role};
 }
 
+/* Whether a path is this one, or ends in it after a slash. */
+static bool is_or_is_below(Bytes path, Bytes suffix)
+{
+    if (path.length <= suffix.length)
+        return same(path, suffix);
+    size_t place = path.length - suffix.length;
+    return path.at[place - 1] == '/' && same(from(path, place), suffix);
+}
+
 /* The header that every object depends on. */
 static bool is_header(Bytes token)
 {
-    if (dialect != BUSYBOX)
-        return ends(token, "include/generated/autoconf.h");
-    return is_text(token, "include/autoconf.h") || ends(token, "/include/autoconf.h");
+    if (header_suffix)
+        return is_or_is_below(token, *header_suffix);
+    if (dialect == BUSYBOX)
+        return is_or_is_below(token, bytes_of("include/autoconf.h"));
+    return ends(token, "include/generated/autoconf.h");
 }
 
 static Fault read_depfile(Bytes text, Prerequisites *list)
@@ -1404,10 +1419,18 @@ static Fault synchronise(Tree *tree, const Bytes *texts, bool is_written, Plan *
     return none;
 }
 
-/* The command file's text up to its last line, and how many names it has. */
-static Fault list_prerequisites(const Tree *tree, const Prerequisites *list, Bytes target, Text *text, size_t *count)
+/* Scans a text, and adds a line for each name that wasn't found before. */
+static void list_names(Bytes source, Bytes target, Names *names, Text *text)
 {
-    Names names = {0};
+    size_t first = names->count;
+    scan(source, target, names);
+    for (; first < names->count; first++)
+        add(text, joined("    $(wildcard include/config/", names->names[first], ") \\\n"));
+}
+
+/* The lines of the prerequisites and of the names that are found in them. */
+static Fault list_prerequisites(const Tree *tree, const Prerequisites *list, Bytes target, Names *names, Text *text)
+{
     for (size_t i = 0; i < list->count; i++) {
         Bytes source;
         Fault found = load(tree, list->all[i].path, &source);
@@ -1415,12 +1438,8 @@ static Fault list_prerequisites(const Tree *tree, const Prerequisites *list, Byt
             return found;
         if (list->all[i].role == LISTED)
             add(text, joined("  ", list->all[i].path, " \\\n"));
-        size_t first = names.count;
-        scan(source, target, &names);
-        for (; first < names.count; first++)
-            add(text, joined("    $(wildcard include/config/", names.names[first], ") \\\n"));
+        list_names(source, target, names, text);
     }
-    *count = names.count;
     return none;
 }
 
@@ -1438,23 +1457,29 @@ static Fault read_prerequisites(const Tree *tree, Bytes depfile, Prerequisites *
     return refused(found) ? found : read_depfile(bytes, list);
 }
 
-static Fault command_text(const Tree *tree, const Prerequisites *list, Bytes target, Bytes command, Text *text, size_t *count)
+/* The command file up to its last line, and how many names it has: those of the files, and at times those of the command. */
+static Fault command_text(const Tree *tree, const Prerequisites *list, Bytes target, Bytes command, bool has_command_names, Text *text, size_t *count)
 {
+    Names names = {0};
     add(text, joined("savedcmd_", target, " := "));
     add(text, joined("", command, "\n\n"));
     add(text, joined("source_", target, " := "));
     add(text, joined("", list->all[0].path, "\n\n"));
     add(text, joined("deps_", target, " := \\\n"));
-    Fault found = list_prerequisites(tree, list, target, text, count);
+    Fault found = list_prerequisites(tree, list, target, &names, text);
+    if (has_command_names)
+        list_names(command, target, &names, text);
+    *count = names.count;
     add(text, joined("\n", target, ": $(deps_"));
     add(text, joined("", target, ")\n\n"));
     add(text, joined("$(deps_", target, "):\n"));
     return found;
 }
 
-/* What is asked of a record beside it: what make and the project's own tools look for, and a number where there is no auto.conf. */
+/* What is asked of a record beside it: what make and the project's own tools look for, a number where there is no auto.conf, and the
+   names that the command mentions. */
 typedef struct {
-    bool has_cmd, is_before_sync;
+    bool has_cmd, is_before_sync, has_command_names;
 } RecordOptions;
 
 /* The generation of a record. Nothing but a missing auto.conf is one of before any synchronisation. */
@@ -1501,7 +1526,7 @@ static Fault record(Tree *tree, RecordOptions options, const Bytes *words, uint6
     if (!refused(found))
         found = record_generation(tree, options, generation);
     if (!refused(found))
-        found = command_text(tree, &list, target, command, &text, count);
+        found = command_text(tree, &list, target, command, options.has_command_names, &text, count);
     if (refused(found))
         return found;
     add_text(&text, "#generation %" PRIu64 "\n", *generation);
@@ -1775,32 +1800,6 @@ static Answer run_preview(const Tree *tree, const Bytes *words, size_t count, bo
     return (Answer){0, of_text(&output), {NULL, 0}, false};
 }
 
-static Answer run_fixdep(const Tree *tree, const Bytes *words)
-{
-    Prerequisites list;
-    Text output = {0};
-    size_t count;
-    Fault found = check_record(words[0], words[1], words[2]);
-    if (!refused(found))
-        found = read_prerequisites(tree, words[0], &list);
-    if (!refused(found))
-        found = command_text(tree, &list, words[1], words[2], &output, &count);
-    return refused(found) ? refusal(found) : (Answer){0, of_text(&output), {NULL, 0}, false};
-}
-
-static Answer run_record(Tree *tree, RecordOptions options, const Bytes *words)
-{
-    uint64_t generation;
-    size_t count;
-    Text output = {0};
-    Fault found = record(tree, options, words, &generation, &count);
-    if (refused(found))
-        return refusal(found);
-    add(&output, joined("record ", words[1], ""));
-    add_text(&output, " generation %" PRIu64 " names %zu\n", generation, count);
-    return (Answer){0, of_text(&output), {NULL, 0}, false};
-}
-
 /* Words that are no command: a usage text goes to standard error, and the model doesn't know which. */
 static Answer no_command(void)
 {
@@ -1820,6 +1819,98 @@ static bool take_option(Bytes *words, size_t *count, const char *option, Bytes *
             return true;
         }
     return false;
+}
+
+static Answer run_fixdep(const Tree *tree, const Bytes *words)
+{
+    Prerequisites list;
+    Text output = {0};
+    size_t count;
+    Fault found = check_record(words[0], words[1], words[2]);
+    if (!refused(found))
+        found = read_prerequisites(tree, words[0], &list);
+    if (!refused(found))
+        found = command_text(tree, &list, words[1], words[2], false, &output, &count);
+    return refused(found) ? refusal(found) : (Answer){0, of_text(&output), {NULL, 0}, false};
+}
+
+/* What is printed of an object that was recorded. */
+static Answer recorded(const char *command_word, Bytes target, uint64_t generation, size_t count)
+{
+    Text output = {0};
+    add_text(&output, "%s ", command_word);
+    add(&output, target);
+    add_text(&output, " generation %" PRIu64 " names %zu\n", generation, count);
+    return (Answer){0, of_text(&output), {NULL, 0}, false};
+}
+
+static Answer run_record(Tree *tree, RecordOptions options, const Bytes *words)
+{
+    uint64_t generation;
+    size_t count;
+    Fault found = record(tree, options, words, &generation, &count);
+    return refused(found) ? refusal(found) : recorded("record", words[1], generation, count);
+}
+
+/* Whether a dependency file isn't to be written anew, as it is one of the program's own files. */
+static bool is_own_file(Bytes path)
+{
+    return starts(path, "include/config/") || is_text(path, header_path) || ends(path, ".cmd") || ends(path, ".tmp");
+}
+
+/* The rule of a dependency file: its first token, its prerequisites, the stamps of the names. */
+static Bytes rule_text(Bytes depfile, const Prerequisites *list, const Names *names)
+{
+    Text text = {0};
+    Bytes rest = depfile, token;
+    next_token(&rest, &token);
+    add(&text, token);
+    for (size_t i = 0; i < list->count; i++)
+        add(&text, joined(" \\\n  ", list->all[i].path, ""));
+    for (size_t i = 0; i < names->count; i++)
+        add(&text, joined(" \\\n  include/config/", names->names[i], ""));
+    add_text(&text, "\n");
+    return of_text(&text);
+}
+
+/* The missing ones of these stamps, empty. */
+static void make_stamps(Tree *tree, const Names *names)
+{
+    for (size_t i = 0; i < names->count; i++) {
+        Bytes path = joined("include/config/", names->names[i], "");
+        if (!find(tree, path))
+            put(tree, path, bytes_of(""));
+    }
+}
+
+/* Behind a record of an object, when the dependency file was read: the stamps of its names, and the rule with them. */
+static void write_rule(Tree *tree, Bytes path, Bytes target, Bytes depfile, const Prerequisites *list)
+{
+    CommandFile file = {0};
+    read_command(find(tree, command_path(target))->bytes, &file);
+    make_stamps(tree, &file.names);
+    put(tree, path, rule_text(depfile, list, &file.names));
+}
+
+static Answer run_depfile(Tree *tree, Bytes *words, size_t count)
+{
+    static Bytes suffix;
+    Prerequisites list;
+    Bytes depfile;
+    uint64_t generation;
+    bool has_header = take_option(words, &count, "--header", &suffix);
+    if (count != 3)
+        return no_command();
+    if ((has_header && !is_path(suffix)) || is_own_file(words[0]))
+        return refusal(fault("21 BadPath token 0"));
+    header_suffix = has_header ? &suffix : NULL;
+    Fault found = record(tree, (RecordOptions){.has_command_names = true}, words, &generation, &count);
+    if (refused(found))
+        return refusal(found);
+    load(tree, words[0], &depfile);
+    read_depfile(depfile, &list);
+    write_rule(tree, words[0], words[1], depfile, &list);
+    return recorded("depfile", words[1], generation, count);
 }
 
 /* The targets among the words, and after them the lines of the file that aren't empty. */
@@ -2370,7 +2461,7 @@ static void run_step(Tree *tree, const Step *step, const Bytes *texts, Text *out
     size_t names;
     Fault found;
     if (step->command == RECORD) {
-        found = record(tree, (RecordOptions){false, false}, step->words, &generation, &names);
+        found = record(tree, (RecordOptions){false, false, false}, step->words, &generation, &names);
         if (!refused(found)) {
             add(output, joined("record ", step->words[1], ""));
             add_text(output, " generation %" PRIu64 " names %zu\n", generation, names);
@@ -2430,6 +2521,8 @@ static Answer run_command(Tree *tree, Bytes *words, size_t count)
         return run_fixdep(tree, words + 1);
     if (is_record && count == 4)
         return run_record(tree, options, words + 1);
+    if (is_text(words[0], "depfile"))
+        return run_depfile(tree, words + 1, count - 1);
     if (is_text(words[0], "diff"))
         return run_diff(tree, words + 1, count - 1);
     if (is_text(words[0], "stale") || is_text(words[0], "why"))
@@ -2456,6 +2549,7 @@ static Answer run_command(Tree *tree, Bytes *words, size_t count)
 Answer run_words(Tree *tree, const Bytes *words, size_t count)
 {
     dialect = LINUX;
+    header_suffix = NULL;
     if (count > 2 && is_text(words[0], "--dialect")) {
         dialect = is_text(words[1], "busybox")    ? BUSYBOX
                   : is_text(words[1], "u-boot")   ? U_BOOT

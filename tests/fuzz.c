@@ -259,6 +259,16 @@ static void add_words(Text *text)
         add_text(text, "%s%s%s", name(), PICK(marks), one_in(2) ? name() : "");
 }
 
+/* What --strict refuses in a file, and what is like it. */
+static void add_hiding(Text *text)
+{
+    static const char *const hiding[] = {
+        ".incbin \"b\"", ".include \"b\"", "#if __has_include(<b.h>)", "__has_embed(x)", "__DATE__", "(__TIME__)", "__TIMESTAMP__", "#include NAME", "ab\\\ncd",
+        "#include \"a.h\"", "#include <none.h>", "__TIME", "__DATES__", "ab \\\n cd", "ab\\\n",
+    };
+    add_text(text, "\n%s\n", PICK(hiding));
+}
+
 static Bytes made_source(void)
 {
     static const char *const between[] = {" ", "\n", "\t", "(", ")", "x", "_", "CONFIG_", "_MODULE", "\0", "\r\n", "-", "\377", "CONFIG"};
@@ -271,23 +281,36 @@ static Bytes made_source(void)
         const char *gap = PICK(between);
         add(&text, (Bytes){gap, *gap ? strlen(gap) : 1});
     }
+    if (one_in(is_build ? 10 : 60))
+        add_hiding(&text);
     return of_text(&text);
 }
 
 static const char *const sources[] = {"x.c", "a.h", "b.h", "d/c.h", "t.s", "./a.h", "d//c.h"};
 static const char *const odd_paths[] = {"none.h", "d", "x.c/y", "a$b.h", "include/generated/autoconf.h", "y.o:", "a.h", "\303\244.h", "a#b", "a;b", "(a)", "d/", "include/autoconf.h", "d/include/autoconf.h", "my_include/autoconf.h"};
 
+/* Whether the last dependency file is as a compiler writes one: not damaged. */
+static bool is_compiled;
+
+/* That of a build has a source first, and more often the header of all symbols. */
 static Bytes made_depfile(void)
 {
+    static const char *const headers[] = {"include/generated/autoconf.h", "include/generated/autoconf.h", "./include/generated/autoconf.h", "d/include/autoconf.h"};
     Text text = {0};
     if (!rarely(30))
         add_text(&text, "x.o:");
+    if (is_build)
+        add_text(&text, " %s", one_in(3) ? "t.s" : "x.c");
     for (size_t count = below(8) + !rarely(20); count > 0; count--)
         add_text(&text, "%s%s", one_in(5) ? " \\\n " : " ", rarely(12) ? PICK(odd_paths) : PICK(sources));
+    if (is_build && one_in(3))
+        add_text(&text, " %s", PICK(headers));
     if (one_in(4))
         add_text(&text, "\ny.o: %s %s", PICK(sources), PICK(sources));
     add_text(&text, "%s", line_end());
-    return perhaps_damaged(&text, 20);
+    Bytes made = perhaps_damaged(&text, 20);
+    is_compiled = same(made, of_text(&text));
+    return made;
 }
 
 static const char *const targets[] = {"x.o", "d/y.o", "d/e/z.o"};
@@ -552,18 +575,51 @@ static const char *naming_command(void)
     return one_in(2) ? PICK(naming_commands) : command();
 }
 
+/* A compile of words that --strict knows, and at times one that it doesn't. */
+static Bytes compile_command(void)
+{
+    static const char *const fronts[] = {"env ", "nice -n 5 ", "/usr/bin/ccache ", "distcc ", "X=1 ", "env -i ", "env -u X ", "env --unset=X ", "GCC_X=1 ", "PATH=/x ", "nice -5 "};
+    static const char *const known[] = {
+        "-O2", "-g", "-Wall", "-DX=CONFIG_A", "-D X=CONFIG_S", "-o x.o", "-std=gnu11", "-fno-plugin", "-fPIC", "-m64", "-MD", "-MF x.d", "-Wp,-MD,x.d", "-Wa,--x",
+        "-x c", "-xc", "-Xassembler --x", "-Xclang -x", "y.S", "libx.a", "-w", "-pipe", "-I d", "-Id", "-fmacro-prefix-map=/a=b",
+    };
+    static const char *const unknown[] = {
+        "@x.rsp", "-fplugin=x.so", "-", "-include-pch", "x.h", "-I=d", "-x c-header", "-xc++-header", "-Xclang -load", "-Xpreprocessor a.h", "-Wp,-include",
+        "-Wp,-MD,@x", "-Wa,@x", "-m@x", "-fprofile-use", "-fmodules", "-D @x", "/dev/stdin.c", "/proc/1/x.c", "--x", "-T", "-fuse-ld=x", "x",
+    };
+    Text text = {0};
+    while (one_in(4))
+        add_text(&text, "%s", one_in(2) ? fronts[below(7)] : PICK(fronts));
+    add_text(&text, "cc%s", one_in(20) ? "" : " -c");
+    for (size_t count = below(6); count > 0; count--)
+        add_text(&text, " %s", one_in(10) ? PICK(unknown) : PICK(known));
+    return of_text(&text);
+}
+
+/* --strict, with the other spelling of the header. It is asked for where the model knows the answer: in the story of a build, as there
+   the header is one that a `sync` wrote, and of a dependency file as a compiler writes it. */
+static void ask_strictly(Command *made)
+{
+    static const char *const others[] = {"include/generated/autoconf.h", "./include/generated/autoconf.h", "d/include/autoconf.h", "a$b"};
+    made->words[made->count - 1] = copy_of(compile_command());
+    put_option(made, "--strict", PICK(others));
+}
+
 /* A record of which the dependency file is written anew: mostly the compiler's, seldom one that is not to be. */
 static void words_of_depfile(Command *made)
 {
     static const char *const own_files[] = {"include/config/x.d", "include/config/A", "include/generated/autoconf.h", "x.tmp", "d/.y.o.cmd"};
-    static const char *const suffixes[] = {"a.h", "c.h", "d/c.h", "h", ".h", "./a.h", "x.c", "include/generated/autoconf.h", "generated/autoconf.h", "none.h"};
-    static const char *const odd_suffixes[] = {"", "a$b.h", "a.h:", "a h", "d/", "/c.h"};
+    static const char *const suffixes[] = {"a.h", "c.h", "d/c.h", "h", ".h", "/c.h", "./a.h", "x.c"};
+    static const char *const suffixes_of_build[] = {"include/generated/autoconf.h", "generated/autoconf.h", "autoconf.h", "none.h"};
+    static const char *const odd_suffixes[] = {"", "a$b.h", "a.h:", "a h", "d/"};
     word(made, "depfile");
-    word(made, one_in(40) ? PICK(own_files) : file_word("x.d"));
+    word(made, one_in(15) ? PICK(own_files) : file_word("x.d"));
     word(made, target());
     word(made, naming_command());
-    if (one_in(3))
-        put_option(made, "--header", one_in(12) ? PICK(odd_suffixes) : PICK(suffixes));
+    if (is_build && is_compiled && one_in(2))
+        ask_strictly(made);
+    if (one_in(is_build ? 4 : 2))
+        put_option(made, "--header", one_in(12) ? PICK(odd_suffixes) : one_in(4) || is_build ? PICK(suffixes_of_build) : PICK(suffixes));
 }
 
 /* A repair, by what was kept or without. */
@@ -843,6 +899,23 @@ static bool agrees(Tree *tree, const Command *command)
     return false;
 }
 
+/* The header gets another line, or loses its last one, as where another tool writes it. */
+static void edit_header(Tree *tree)
+{
+    const File *header = find(tree, bytes_of("include/generated/autoconf.h"));
+    if (!header)
+        return;
+    Text text = {0};
+    add(&text, header->bytes);
+    if (one_in(2))
+        add_text(&text, "#define %s 1\n", one_in(2) ? "HAVE_X" : "CONFIG_NONE");
+    else
+        for (text.length--; text.length && text.at[text.length - 1] != '\n'; text.length--)
+            ;
+    put(tree, header->path, of_text(&text));
+    write_file(header->path, of_text(&text));
+}
+
 /* A file of the tree becomes another one, as an editor, a compiler or conf makes it. */
 static void edit(Tree *tree)
 {
@@ -865,7 +938,8 @@ static void edit(Tree *tree)
         write_file(bytes_of("x.d"), find(tree, bytes_of("x.d"))->bytes);
         break;
     default:
-        break;
+        if (is_build && one_in(2))
+            edit_header(tree);
     }
 }
 

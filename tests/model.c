@@ -1892,19 +1892,283 @@ static void write_rule(Tree *tree, Bytes path, Bytes target, Bytes depfile, cons
     put(tree, path, rule_text(depfile, list, &file.names));
 }
 
+/* What --strict looks at: the words of a compile, by the table of ks_hidden/specs/Arguments.antt, the header, and the files. The model knows
+   words between spaces alone, headers that a `sync` wrote up to their last lines, and plain words in files; and no precompiled header. */
+
+static bool begins_with_one(Bytes word, const char *const *texts)
+{
+    while (*texts && !starts(word, *texts))
+        texts++;
+    return *texts;
+}
+
+static bool ends_with_one(Bytes word, const char *const *texts)
+{
+    while (*texts && !ends(word, *texts))
+        texts++;
+    return *texts;
+}
+
+static bool is_one_of(Bytes word, const char *const *texts)
+{
+    while (*texts && !is_text(word, *texts))
+        texts++;
+    return *texts;
+}
+
+static bool has_text(Bytes word, const char *text)
+{
+    for (size_t i = 0; i < word.length; i++)
+        if (starts(from(word, i), text))
+            return true;
+    return false;
+}
+
+static bool has_one(Bytes word, const char *const *texts)
+{
+    while (*texts && !has_text(word, *texts))
+        texts++;
+    return *texts;
+}
+
+#define ONE_OF(...) ((const char *const[]){__VA_ARGS__, NULL})
+
+/* What stands where a word stands: something in front of the compiler or the value of that, or an argument, the value of one, a
+   language, or an option for a part of the compiler. */
+typedef enum { FRONT, FRONT_VALUE, ARGUMENT, VALUE, LANGUAGE, INNER, UNKNOWN } Expected;
+
+static Expected after_front(Bytes word)
+{
+    if (is_one_of(word, ONE_OF("env", "nice", "ccache", "distcc")) || ends_with_one(word, ONE_OF("/env", "/nice", "/ccache", "/distcc")) ||
+        begins_with_one(word, ONE_OF("-i", "--unset=", "--adjustment=")))
+        return FRONT;
+    if (is_one_of(word, ONE_OF("-u", "-n", "-C")))
+        return FRONT_VALUE;
+    if (begins_with_one(word, ONE_OF("-", "CCACHE_", "GCC_", "CCC_")) || has_text(word, "PATH="))
+        return UNKNOWN;
+    return has_text(word, "=") ? FRONT : ARGUMENT;
+}
+
+static bool takes_value(Bytes word)
+{
+    return is_one_of(word, ONE_OF("-D", "-I", "-U", "-o", "-MF", "-MQ", "-MT", "-include", "-imacros", "-isystem", "-iquote", "-idirafter", "-isysroot", "-target",
+                                  "-arch", "--param", "-mllvm"));
+}
+
+static bool is_plain_option(Bytes word)
+{
+    return is_one_of(word, ONE_OF("-c", "-MD", "-MMD", "-MP", "-w", "-s", "-p", "-P", "-C", "-CC", "-v", "-pg", "-pipe", "-pthread", "-ansi", "-undef", "-trigraphs",
+                                  "-rdynamic", "--coverage"));
+}
+
+static bool has_known_front(Bytes word)
+{
+    return begins_with_one(word, ONE_OF("-D", "-U", "-I", "-O", "-g", "-W", "-o", "-MF", "-MQ", "-MT", "-isystem", "-iquote", "-idirafter", "-imacros", "-include",
+                                        "-pedantic", "-l", "-L", "-nostd", "-static", "-shared", "-stdlib=", "-std=", "--std=", "--param=", "--sysroot=", "--target=",
+                                        "--gcc-toolchain=")) &&
+           !begins_with_one(word, ONE_OF("-I=", "-I$", "-isystem=", "-iquote=", "-idirafter=", "-include-pch", "-Wa,", "-Wp,"));
+}
+
+static bool is_known_inside(Bytes word)
+{
+    return begins_with_one(word, ONE_OF("-Wp,-MD,", "-Wp,-MMD,", "-Wa,--", "-Wa,-W", "-Wa,-m", "-Wa,-M", "-Wa,-n")) && !has_text(word, "@");
+}
+
+static bool is_known_flag(Bytes word)
+{
+    if (!starts(word, "-f"))
+        return false;
+    if (starts(word, "-fno-") || has_text(word, "-prefix-map="))
+        return true;
+    return !begins_with_one(word, ONE_OF("-fauto-profile", "-fbranch-", "-fmodule", "-fprebuilt-module")) &&
+           !has_one(word, ONE_OF("use", "plugin", "list", "/", "@"));
+}
+
+static bool is_known_option(Bytes word)
+{
+    bool is_machine = starts(word, "-m") && !has_one(word, ONE_OF("/", "@"));
+    bool is_language = starts(word, "-x") && !ends(word, "-header");
+    return is_plain_option(word) || has_known_front(word) || is_known_inside(word) || is_known_flag(word) || is_machine || is_language;
+}
+
+static bool is_known_file(Bytes word)
+{
+    return ends_with_one(word, ONE_OF(".c", ".C", ".i", ".s", ".S", ".m", ".M", ".cc", ".cpp", ".cxx", ".c++", ".cp", ".ii", ".sx", ".mm", ".o", ".a", ".so")) &&
+           !begins_with_one(word, ONE_OF("@", "-", "/dev/std", "/dev/fd/", "/proc/"));
+}
+
+static Expected after_argument(Bytes word)
+{
+    if (takes_value(word))
+        return VALUE;
+    if (is_text(word, "-x"))
+        return LANGUAGE;
+    if (begins_with_one(word, ONE_OF("-Xa", "-Xc", "-Xp")))
+        return INNER;
+    return is_known_option(word) || is_known_file(word) ? ARGUMENT : UNKNOWN;
+}
+
+/* What stands behind a word of which this was expected. */
+static Expected after_word(Expected expected, Bytes word)
+{
+    bool is_known = true;
+    switch (expected) {
+    case FRONT:
+        return after_front(word);
+    case FRONT_VALUE:
+        return FRONT;
+    case ARGUMENT:
+        return after_argument(word);
+    case VALUE:
+        is_known = !begins_with_one(word, ONE_OF("@", "=", "$"));
+        break;
+    case LANGUAGE:
+        is_known = !ends(word, "-header") && !starts(word, "@");
+        break;
+    default:
+        is_known = !has_one(word, ONE_OF("include", "load", "plugin", "pch", "module", "header", "/", "@", "=", "."));
+    }
+    return is_known ? ARGUMENT : UNKNOWN;
+}
+
+/* The next of the words between spaces. */
+static bool next_word(Bytes *rest, Bytes *word)
+{
+    while (starts(*rest, " "))
+        *rest = from(*rest, 1);
+    *word = upto(*rest, place_of(*rest, ' '));
+    *rest = from(*rest, word->length);
+    return word->length > 0;
+}
+
+/* The first word of a compile, which has -c, that isn't known. */
+static Fault check_words(Bytes command)
+{
+    Bytes rest = command, word;
+    uint64_t number = 0;
+    Expected expected = FRONT;
+    bool is_compile = false;
+    while (next_word(&rest, &word))
+        is_compile = is_compile || is_text(word, "-c");
+    for (rest = command; is_compile && next_word(&rest, &word);) {
+        number++;
+        expected = after_word(expected, word);
+        if (expected == UNKNOWN)
+            return fault("29 UnknownArgument word %" PRIu64, number);
+    }
+    return none;
+}
+
+/* Whether a line of the header is what a synchronisation writes for an entry of auto.conf. */
+static bool is_definition(Bytes line, const Old *old)
+{
+    for (size_t i = 0; i < old->entries.count; i++) {
+        Text text = {0};
+        add_definition(&text, &old->entries.symbols[i]);
+        if (same(of_text(&text), line))
+            return true;
+    }
+    return false;
+}
+
+/* Of a header that a synchronisation wrote, at the most with other definitions behind, or some cut off. */
+static Fault check_header(const Tree *tree, Bytes path, Bytes other, const Old *old)
+{
+    static const char usual[] = "include/generated/autoconf.h", usual_of_busybox[] = "include/autoconf.h";
+    Bytes text, spelled = header_suffix ? *header_suffix : bytes_of(dialect == BUSYBOX ? usual_of_busybox : usual);
+    size_t count = 0;
+    if (!same(path, spelled) && !same(path, other))
+        return fault_of("26 OtherHeader", path);
+    Fault found = load(tree, path, &text);
+    if (refused(found))
+        return found;
+    Lines lines = lines_of(text);
+    for (; next_plain_line(&lines); count++)
+        if (starts(lines.line, "#define ") && !is_definition(lines.line, old))
+            return fault_of("25 ForeignLine", path);
+    return count < 4 + old->entries.count ? fault_of("28 MissingLine", path) : none;
+}
+
+/* Whether a text has this word: no word byte stands beside it. */
+static bool has_word(Bytes text, const char *word)
+{
+    for (size_t i = 0; i < text.length; i++) {
+        size_t end = i + strlen(word);
+        if (starts(from(text, i), word) && (i == 0 || !is_word_byte(text.at[i - 1])) && (end == text.length || !is_word_byte(text.at[end])))
+            return true;
+    }
+    return false;
+}
+
+/* Whether a text has one of the words by which a file may hide what it is made of, plainly. */
+static bool is_hiding(Bytes text)
+{
+    static const char *const hiding[] = {".incbin", ".include", "__has_include", "__has_embed", "__DATE__", "__TIME__", "__TIMESTAMP__", NULL};
+    for (size_t i = 0; hiding[i]; i++)
+        if (has_word(text, hiding[i]))
+            return true;
+    for (size_t i = 0; i + 1 < text.length; i++) {
+        bool is_within = i > 0 && is_word_byte(text.at[i - 1]) && i + 2 < text.length && is_word_byte(text.at[i + 2]);
+        if (is_within && starts(from(text, i), "\\\n"))
+            return true;
+        Bytes after = from(text, i);
+        if ((i == 0 || text.at[i - 1] == '\n') && starts(after, "#include ") && after.length > 9 && is_word_byte(after.at[9]))
+            return true;
+    }
+    return false;
+}
+
+static Fault check_file(const Tree *tree, Bytes path)
+{
+    Bytes text;
+    Fault found = load(tree, path, &text);
+    return !refused(found) && is_hiding(text) ? fault_of("24 HiddenInput", path) : found;
+}
+
+/* What an object is made of, in the order of its dependency file. */
+static Fault check_files(const Tree *tree, Bytes depfile, Bytes other)
+{
+    Old old;
+    Bytes token;
+    Fault found = read_old(tree, &old);
+    while (!refused(found) && next_token(&depfile, &token))
+        if (!ends(token, ":"))
+            found = is_header(token) ? check_header(tree, token, other, &old) : check_file(tree, token);
+    return found;
+}
+
+/* What is refused of a `depfile --strict`; `other` is the other spelling of the header. */
+static Fault check_strictly(const Tree *tree, const Bytes *words, Bytes other)
+{
+    Prerequisites list;
+    Bytes depfile;
+    Fault found = check_words(words[2]);
+    if (!refused(found) && !is_path(words[0]))
+        found = fault("21 BadPath token 0");
+    if (!refused(found))
+        found = load(tree, words[0], &depfile);
+    if (!refused(found))
+        found = read_depfile(depfile, &list);
+    return refused(found) ? found : check_files(tree, depfile, other);
+}
+
 static Answer run_depfile(Tree *tree, Bytes *words, size_t count)
 {
     static Bytes suffix;
     Prerequisites list;
-    Bytes depfile;
+    Bytes depfile, other;
     uint64_t generation;
-    bool has_header = take_option(words, &count, "--header", &suffix);
+    bool has_header = take_option(words, &count, "--header", &suffix), is_strict = take_option(words, &count, "--strict", &other);
     if (count != 3)
         return no_command();
-    if ((has_header && !is_path(suffix)) || is_own_file(words[0]))
+    if (has_header && !is_path(suffix))
         return refusal(fault("21 BadPath token 0"));
     header_suffix = has_header ? &suffix : NULL;
-    Fault found = record(tree, (RecordOptions){.has_command_names = true}, words, &generation, &count);
+    Fault found = is_strict ? check_strictly(tree, words, other) : none;
+    if (!refused(found) && is_own_file(words[0]))
+        found = fault("21 BadPath token 0");
+    if (!refused(found))
+        found = record(tree, (RecordOptions){.has_command_names = true}, words, &generation, &count);
     if (refused(found))
         return refusal(found);
     load(tree, words[0], &depfile);

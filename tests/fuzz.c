@@ -263,8 +263,8 @@ static void add_words(Text *text)
 static void add_hiding(Text *text)
 {
     static const char *const hiding[] = {
-        ".incbin \"b\"", ".include \"b\"", "#if __has_include(<b.h>)", "__has_embed(x)", "__DATE__", "(__TIME__)", "__TIMESTAMP__", "#include NAME", "ab\\\ncd",
-        "#include \"a.h\"", "#include <none.h>", "__TIME", "__DATES__", "ab \\\n cd", "ab\\\n",
+        ".incbin \"b\"", ".include \"b\"", "#if __has_include(<b.h>)", "__has_embed(x)", "__DATE__", "(__TIME__)", "__TIMESTAMP__",
+        "#include NAME", "ab\\\ncd", "#include \"a.h\"", "#include <none.h>", "__TIME", "__DATES__", "ab \\\n cd", "ab\\\n",
     };
     add_text(text, "\n%s\n", PICK(hiding));
 }
@@ -578,14 +578,17 @@ static const char *naming_command(void)
 /* A compile of words that --strict knows, and at times one that it doesn't. */
 static Bytes compile_command(void)
 {
-    static const char *const fronts[] = {"env ", "nice -n 5 ", "/usr/bin/ccache ", "distcc ", "X=1 ", "env -i ", "env -u X ", "env --unset=X ", "GCC_X=1 ", "PATH=/x ", "nice -5 "};
+    static const char *const fronts[] = {
+        "env ", "nice -n 5 ", "/usr/bin/ccache ", "distcc ", "X=1 ", "env -i ", "env -u X ", "env --unset=X ", "GCC_X=1 ", "PATH=/x ", "nice -5 ",
+    };
     static const char *const known[] = {
-        "-O2", "-g", "-Wall", "-DX=CONFIG_A", "-D X=CONFIG_S", "-o x.o", "-std=gnu11", "-fno-plugin", "-fPIC", "-m64", "-MD", "-MF x.d", "-Wp,-MD,x.d", "-Wa,--x",
-        "-x c", "-xc", "-Xassembler --x", "-Xclang -x", "y.S", "libx.a", "-w", "-pipe", "-I d", "-Id", "-fmacro-prefix-map=/a=b",
+        "-O2", "-g", "-Wall", "-DX=CONFIG_A", "-D X=CONFIG_S", "-o x.o", "-std=gnu11", "-fno-plugin", "-fPIC", "-m64", "-MD", "-MF x.d",
+        "-Wp,-MD,x.d", "-Wa,--x", "-x c", "-xc", "-Xassembler --x", "-Xclang -x", "y.S", "libx.a", "-w", "-pipe", "-I d", "-Id", "-fmacro-prefix-map=/a=b",
     };
     static const char *const unknown[] = {
-        "@x.rsp", "-fplugin=x.so", "-", "-include-pch", "x.h", "-I=d", "-x c-header", "-xc++-header", "-Xclang -load", "-Xpreprocessor a.h", "-Wp,-include",
-        "-Wp,-MD,@x", "-Wa,@x", "-m@x", "-fprofile-use", "-fmodules", "-D @x", "/dev/stdin.c", "/proc/1/x.c", "--x", "-T", "-fuse-ld=x", "x",
+        "@x.rsp", "-fplugin=x.so", "-", "-include-pch", "x.h", "-I=d", "-x c-header", "-xc++-header", "-Xclang -load", "-Xpreprocessor a.h",
+        "-Wp,-include", "-Wp,-MD,@x", "-Wa,@x", "-m@x", "-fprofile-use", "-fmodules", "-D @x", "/dev/stdin.c", "/proc/1/x.c", "--x", "-T",
+        "-fuse-ld=x", "x",
     };
     Text text = {0};
     while (one_in(4))

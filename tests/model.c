@@ -1951,22 +1951,30 @@ static Expected after_front(Bytes word)
 
 static bool takes_value(Bytes word)
 {
-    return is_one_of(word, ONE_OF("-D", "-I", "-U", "-o", "-MF", "-MQ", "-MT", "-include", "-imacros", "-isystem", "-iquote", "-idirafter", "-isysroot", "-target",
-                                  "-arch", "--param", "-mllvm"));
+    static const char *const valued[] = {
+        "-D", "-I", "-U", "-o", "-MF", "-MQ", "-MT", "-include", "-imacros", "-isystem", "-iquote", "-idirafter", "-isysroot", "-target", "-arch",
+        "--param", "-mllvm", NULL,
+    };
+    return is_one_of(word, valued);
 }
 
 static bool is_plain_option(Bytes word)
 {
-    return is_one_of(word, ONE_OF("-c", "-MD", "-MMD", "-MP", "-w", "-s", "-p", "-P", "-C", "-CC", "-v", "-pg", "-pipe", "-pthread", "-ansi", "-undef", "-trigraphs",
-                                  "-rdynamic", "--coverage"));
+    static const char *const plain[] = {
+        "-c", "-MD", "-MMD", "-MP", "-w", "-s", "-p", "-P", "-C", "-CC", "-v", "-pg", "-pipe", "-pthread", "-ansi", "-undef", "-trigraphs",
+        "-rdynamic", "--coverage", NULL,
+    };
+    return is_one_of(word, plain);
 }
 
 static bool has_known_front(Bytes word)
 {
-    return begins_with_one(word, ONE_OF("-D", "-U", "-I", "-O", "-g", "-W", "-o", "-MF", "-MQ", "-MT", "-isystem", "-iquote", "-idirafter", "-imacros", "-include",
-                                        "-pedantic", "-l", "-L", "-nostd", "-static", "-shared", "-stdlib=", "-std=", "--std=", "--param=", "--sysroot=", "--target=",
-                                        "--gcc-toolchain=")) &&
-           !begins_with_one(word, ONE_OF("-I=", "-I$", "-isystem=", "-iquote=", "-idirafter=", "-include-pch", "-Wa,", "-Wp,"));
+    static const char *const fronts[] = {
+        "-D", "-U", "-I", "-O", "-g", "-W", "-o", "-MF", "-MQ", "-MT", "-isystem", "-iquote", "-idirafter", "-imacros", "-include", "-pedantic",
+        "-l", "-L", "-nostd", "-static", "-shared", "-stdlib=", "-std=", "--std=", "--param=", "--sysroot=", "--target=", "--gcc-toolchain=", NULL,
+    };
+    static const char *const refused_fronts[] = {"-I=", "-I$", "-isystem=", "-iquote=", "-idirafter=", "-include-pch", "-Wa,", "-Wp,", NULL};
+    return begins_with_one(word, fronts) && !begins_with_one(word, refused_fronts);
 }
 
 static bool is_known_inside(Bytes word)
@@ -1993,8 +2001,10 @@ static bool is_known_option(Bytes word)
 
 static bool is_known_file(Bytes word)
 {
-    return ends_with_one(word, ONE_OF(".c", ".C", ".i", ".s", ".S", ".m", ".M", ".cc", ".cpp", ".cxx", ".c++", ".cp", ".ii", ".sx", ".mm", ".o", ".a", ".so")) &&
-           !begins_with_one(word, ONE_OF("@", "-", "/dev/std", "/dev/fd/", "/proc/"));
+    static const char *const endings[] = {
+        ".c", ".C", ".i", ".s", ".S", ".m", ".M", ".cc", ".cpp", ".cxx", ".c++", ".cp", ".ii", ".sx", ".mm", ".o", ".a", ".so", NULL,
+    };
+    return ends_with_one(word, endings) && !begins_with_one(word, ONE_OF("@", "-", "/dev/std", "/dev/fd/", "/proc/"));
 }
 
 static Expected after_argument(Bytes word)
@@ -2108,11 +2118,11 @@ static bool is_hiding(Bytes text)
         if (has_word(text, hiding[i]))
             return true;
     for (size_t i = 0; i + 1 < text.length; i++) {
-        bool is_within = i > 0 && is_word_byte(text.at[i - 1]) && i + 2 < text.length && is_word_byte(text.at[i + 2]);
-        if (is_within && starts(from(text, i), "\\\n"))
-            return true;
         Bytes after = from(text, i);
-        if ((i == 0 || text.at[i - 1] == '\n') && starts(after, "#include ") && after.length > 9 && is_word_byte(after.at[9]))
+        bool is_word_before = i > 0 && is_word_byte(text.at[i - 1]), is_line = i == 0 || text.at[i - 1] == '\n';
+        if (is_word_before && starts(after, "\\\n") && after.length > 2 && is_word_byte(after.at[2]))
+            return true;
+        if (is_line && starts(after, "#include ") && after.length > 9 && is_word_byte(after.at[9]))
             return true;
     }
     return false;

@@ -588,7 +588,7 @@ static Bytes compile_command(void)
     static const char *const unknown[] = {
         "@x.rsp", "-fplugin=x.so", "-", "-include-pch", "x.h", "-I=d", "-x c-header", "-xc++-header", "-Xclang -load", "-Xpreprocessor a.h",
         "-Wp,-include", "-Wp,-MD,@x", "-Wa,@x", "-m@x", "-fprofile-use", "-fmodules", "-D @x", "/dev/stdin.c", "/proc/1/x.c", "--x", "-T",
-        "-fuse-ld=x", "x",
+        "-fuse-ld=x", "x", "-I =d", "-isystem $X",
     };
     Text text = {0};
     while (one_in(4))

@@ -2093,10 +2093,14 @@ static Fault check_header(const Tree *tree, Bytes path, Bytes other, const Old *
     if (refused(found))
         return found;
     Lines lines = lines_of(text);
-    for (; next_plain_line(&lines); count++)
-        if (starts(lines.line, "#define ") && !is_definition(lines.line, old))
+    while (next_plain_line(&lines)) {
+        if (!starts(lines.line, "#define "))
+            continue;
+        if (!is_definition(lines.line, old))
             return fault_of("25 ForeignLine", path);
-    return count < 4 + old->entries.count ? fault_of("28 MissingLine", path) : none;
+        count++;
+    }
+    return count < old->entries.count ? fault_of("28 MissingLine", path) : none;
 }
 
 /* Whether a text has this word: no word byte stands beside it. */

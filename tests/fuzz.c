@@ -264,7 +264,9 @@ static void add_hiding(Text *text)
 {
     static const char *const hiding[] = {
         ".incbin \"b\"", ".include \"b\"", "#if __has_include(<b.h>)", "__has_embed(x)", "__DATE__", "(__TIME__)", "__TIMESTAMP__",
-        "#include NAME", "ab\\\ncd", "#include \"a.h\"", "#include <none.h>", "__TIME", "__DATES__", "ab \\\n cd", "ab\\\n",
+        "#include NAME", "#include NAME", "#include NAME\r", "#include OTHER x", "#include _NAME", "#include NAME(x)", "#include CONFIG_A",
+        "#ifdef NAME", "#if defined(NAME)", "defined ( NAME", "#undef\tNAME", "ifdef\vNAME", "#define NAME x", "OTHER", "NAMES", "_NAME",
+        "ab\\\ncd", "#include \"a.h\"", "#include <none.h>", "__TIME", "__DATES__", "ab \\\n cd", "ab\\\n",
     };
     add_text(text, "\n%s\n", PICK(hiding));
 }
@@ -583,12 +585,14 @@ static Bytes compile_command(void)
     };
     static const char *const known[] = {
         "-O2", "-g", "-Wall", "-DX=CONFIG_A", "-D X=CONFIG_S", "-o x.o", "-std=gnu11", "-fno-plugin", "-fPIC", "-m64", "-MD", "-MF x.d",
-        "-Wp,-MD,x.d", "-Wa,--x", "-x c", "-xc", "-Xassembler --x", "-Xclang -x", "y.S", "libx.a", "-w", "-pipe", "-I d", "-Id", "-fmacro-prefix-map=/a=b",
+        "-Wp,-MD,x.d", "-Wp,-D_X=1", "-Wp,-U_X", "-fuse-ld=x", "-DNAMES", "-UNAME", "-Wa,--x",
+        "-x c", "-xc", "-Xassembler --x", "-Xclang -x", "y.S", "libx.a", "-w", "-pipe", "-I d", "-Id", "-fmacro-prefix-map=/a=b",
     };
     static const char *const unknown[] = {
         "@x.rsp", "-fplugin=x.so", "-", "-include-pch", "x.h", "-I=d", "-x c-header", "-xc++-header", "-Xclang -load", "-Xpreprocessor a.h",
         "-Wp,-include", "-Wp,-MD,@x", "-Wa,@x", "-m@x", "-fprofile-use", "-fmodules", "-D @x", "/dev/stdin.c", "/proc/1/x.c", "--x", "-T",
-        "-fuse-ld=x", "x", "-I =d", "-isystem $X",
+        "-fuse-use", "x", "-I =d", "-isystem $X", "-DNAME=x", "-D OTHER", "-DNAME", "-Wp,-MD,x.d,-DNAME", "-Wp,-DX", "-Wp,-U_X,-DX",
+        "-Wa,--x,-Id", "-o -DNAME",
     };
     Text text = {0};
     while (one_in(4))

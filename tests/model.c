@@ -1962,7 +1962,7 @@ static bool is_plain_option(Bytes word)
 {
     static const char *const plain[] = {
         "-c", "-MD", "-MMD", "-MP", "-w", "-s", "-p", "-P", "-C", "-CC", "-v", "-pg", "-pipe", "-pthread", "-ansi", "-undef", "-trigraphs",
-        "-rdynamic", "--coverage", NULL,
+        "-rdynamic", "--coverage", "-pie", "-no-pie", "-nodefaultlibs", "-nostartfiles", "-Qunused-arguments", "-EB", "-EL", NULL,
     };
     return is_one_of(word, plain);
 }
@@ -1977,16 +1977,21 @@ static bool has_known_front(Bytes word)
     return begins_with_one(word, fronts) && !begins_with_one(word, refused_fronts);
 }
 
+/* Options for the preprocessor, behind which nothing else stands, and for the assembler. */
 static bool is_known_inside(Bytes word)
 {
-    return begins_with_one(word, ONE_OF("-Wp,-MD,", "-Wp,-MMD,", "-Wa,--", "-Wa,-W", "-Wa,-m", "-Wa,-M", "-Wa,-n")) && !has_text(word, "@");
+    static const char *const fronts[] = {"-Wp,-MD,", "-Wp,-MMD,", "-Wp,-D_", "-Wp,-U", NULL};
+    for (size_t i = 0; fronts[i]; i++)
+        if (starts(word, fronts[i]))
+            return !has_one(from(word, strlen(fronts[i])), ONE_OF(",", "@"));
+    return begins_with_one(word, ONE_OF("-Wa,--", "-Wa,-W", "-Wa,-m", "-Wa,-M", "-Wa,-n")) && !has_one(word, ONE_OF(",-I", "@"));
 }
 
 static bool is_known_flag(Bytes word)
 {
     if (!starts(word, "-f"))
         return false;
-    if (starts(word, "-fno-") || has_text(word, "-prefix-map="))
+    if (begins_with_one(word, ONE_OF("-fno-", "-fuse-ld=", "-fuse-cxa-atexit")) || has_text(word, "-prefix-map="))
         return true;
     return !begins_with_one(word, ONE_OF("-fauto-profile", "-fbranch-", "-fmodule", "-fprebuilt-module")) &&
            !has_one(word, ONE_OF("use", "plugin", "list", "/", "@"));
@@ -2114,10 +2119,26 @@ static bool has_word(Bytes text, const char *word)
     return false;
 }
 
-/* Whether a text has one of the words by which a file may hide what it is made of, plainly. */
-static bool is_hiding(Bytes text)
+static bool ends_name(char byte)
+{
+    return byte == ' ' || byte == '\t' || byte == '\v' || byte == '\f' || byte == '\r' || byte == '\n';
+}
+
+/* The macro that a line includes by its name, which begins at this place: a letter, word bytes, and then a blank or the line's end. */
+static bool is_macro_at(Bytes text, size_t place, Bytes *macro)
+{
+    *macro = word_at(text, place);
+    Bytes behind = from(text, place + macro->length);
+    bool has_end = behind.length == 0 || ends_name(behind.at[0]);
+    return macro->length > 0 && isalpha((unsigned char)macro->at[0]) && has_end;
+}
+
+/* Whether a text has one of the words by which a file may hide what it is made of, plainly. The macros that it includes by their names
+   are noted. */
+static bool is_hiding(Bytes text, Names *included)
 {
     static const char *const hiding[] = {".incbin", ".include", "__has_include", "__has_embed", "__DATE__", "__TIME__", "__TIMESTAMP__", NULL};
+    Bytes macro;
     for (size_t i = 0; hiding[i]; i++)
         if (has_word(text, hiding[i]))
             return true;
@@ -2126,29 +2147,76 @@ static bool is_hiding(Bytes text)
         bool is_word_before = i > 0 && is_word_byte(text.at[i - 1]), is_line = i == 0 || text.at[i - 1] == '\n';
         if (is_word_before && starts(after, "\\\n") && after.length > 2 && is_word_byte(after.at[2]))
             return true;
-        if (is_line && starts(after, "#include ") && after.length > 9 && is_word_byte(after.at[9]))
+        if (!is_line || !starts(after, "#include ") || after.length <= 9 || !is_word_byte(after.at[9]))
+            continue;
+        if (!is_macro_at(text, i + 9, &macro))
+            return true;
+        note_once(included, macro);
+    }
+    return false;
+}
+
+/* Whether the name of one of these macros stands in a text otherwise than behind a word that asks for it, or includes it. */
+static bool may_define(Bytes text, const Names *macros)
+{
+    static const char *const questions[] = {
+        "defined(", "defined (", "defined", "ifdef", "ifndef", "include", "include_next", "import", "embed", "undef", NULL,
+    };
+    for (size_t i = 0; i < text.length; i++) {
+        Bytes before = upto(text, i);
+        if (!is_word_byte(text.at[i]) || (i > 0 && is_word_byte(text.at[i - 1])) || !has_name(macros, word_at(text, i)))
+            continue;
+        while (before.length > 0 && strchr(" \t\n\f\r", before.at[before.length - 1]) && before.at[before.length - 1])
+            before = upto(before, before.length - 1);
+        if (!ends_with_one(before, questions))
             return true;
     }
     return false;
 }
 
-static Fault check_file(const Tree *tree, Bytes path)
+/* A word of the command that defines one of these macros, or else the first file that may. */
+static Fault check_macros(const Tree *tree, const Names *macros, Bytes depfile, Bytes command)
+{
+    Bytes word, token, text;
+    uint64_t number = 0;
+    while (next_word(&command, &word)) {
+        Bytes next = command, value = starts(word, "-D") ? from(word, 2) : bytes_of("");
+        number++;
+        if (is_text(word, "-D"))
+            next_word(&next, &value);
+        if (value.length > 0 && has_name(macros, word_at(value, 0)))
+            return fault("29 UnknownArgument word %" PRIu64, number);
+    }
+    while (next_token(&depfile, &token)) {
+        if (ends(token, ":"))
+            continue;
+        Fault found = load(tree, token, &text);
+        if (refused(found))
+            return found;
+        if (may_define(text, macros))
+            return fault_of("24 HiddenInput", token);
+    }
+    return none;
+}
+
+static Fault check_file(const Tree *tree, Bytes path, Names *included)
 {
     Bytes text;
     Fault found = load(tree, path, &text);
-    return !refused(found) && is_hiding(text) ? fault_of("24 HiddenInput", path) : found;
+    return !refused(found) && is_hiding(text, included) ? fault_of("24 HiddenInput", path) : found;
 }
 
 /* What an object is made of, in the order of its dependency file. */
-static Fault check_files(const Tree *tree, Bytes depfile, Bytes other)
+static Fault check_files(const Tree *tree, Bytes depfile, Bytes other, Bytes command)
 {
     Old old;
-    Bytes token;
+    Names included = {0};
+    Bytes token, rest = depfile;
     Fault found = read_old(tree, &old);
-    while (!refused(found) && next_token(&depfile, &token))
+    while (!refused(found) && next_token(&rest, &token))
         if (!ends(token, ":"))
-            found = is_header(token) ? check_header(tree, token, other, &old) : check_file(tree, token);
-    return found;
+            found = is_header(token) ? check_header(tree, token, other, &old) : check_file(tree, token, &included);
+    return refused(found) || included.count == 0 ? found : check_macros(tree, &included, depfile, command);
 }
 
 /* What is refused of a `depfile --strict`; `other` is the other spelling of the header. */
@@ -2163,7 +2231,7 @@ static Fault check_strictly(const Tree *tree, const Bytes *words, Bytes other)
         found = load(tree, words[0], &depfile);
     if (!refused(found))
         found = read_depfile(depfile, &list);
-    return refused(found) ? found : check_files(tree, depfile, other);
+    return refused(found) ? found : check_files(tree, depfile, other, words[2]);
 }
 
 static Answer run_depfile(Tree *tree, Bytes *words, size_t count)

@@ -1,16 +1,22 @@
 -- What was looked at, one place after the other, and what a file that was read is.
 use native.Mathlib.Omega.{arith}
-use Rattle.ks_commands.proofs.Prelude.{◌<◌, ◌≡◌, ◌≤◌, ◌∙◌, ℕ, List, None, Some, Ok, Err, Option, Result, IfErr, IfOk, Files, Bool, true, false, All-from_get_or, [], ◌∷◌, inl, inr, sym, refl, ap, common_steps, content, given, length, list_any_at, list_any_none, get_or, ◌||◌, bytes_eq, bytes_eq-Decides, cond, drop, drop-cons, fun_ext, subst}
+use Rattle.ks_commands.proofs.Prelude.{◌<◌, ◌≡◌, ◌≤◌, ◌∙◌, ℕ, List, None, Some, Ok, Err, Option, Result, IfErr, IfOk, Files, Bool, true, false, All-from_get_or, [], ◌∷◌, inl, inr, sym, refl, ap, common_steps, content, given, length, list_any_at, list_any_none, get_or, ◌||◌, bytes_eq, drop, drop-cons, fun_ext, subst}
 use Rattle.std.specs.Prelude.{slice_get, ◌+◌, ◌⊎◌, codes}
 use Rattle.std.specs.Borrow.{Bor}
 use Rattle.std.specs.List.{list_any}
 use Rattle.std.proofs.lemmas.Option.{get_or_from_slice_get, slice_get-get_or, slice_get_within}
+use Rattle.std.proofs.Math.ListN.{drop_of_length-le}
 use Rattle.std.proofs.lemmas.Bool.{cases_lt}
 use Rattle.std.proofs.Common.{suc}
 use Rattle.ks_symbols.specs.declared.dialect.Dialect.{Dialect}
 use Rattle.ks_hidden.specs.Arguments.{unknown_argument}
 use Rattle.ks_hidden.specs.Candidates.{candidates}
-use Rattle.ks_hidden.specs.Texts.{HidesNothing}
+use Rattle.indexmap.specs.IndexSet.{IndexSet, index_set_len}
+use Rattle.std.proofs.Common.{Vec}
+use Rattle.ks_output.proofs.Prelude.{bytes_decides}
+use Rattle.ks_hidden.specs.Macros.{DefinesNone, defines_one, defining_from, defining_word, is_in, may_define}
+use Rattle.ks_hidden.specs.Texts.{HidesNothing, front_word}
+use Rattle.ks_hidden.specs.Words.{option_value, words_of}
 use Rattle.ks_hidden.specs.declared.hidden.Hidden.{Hidden}
 use Rattle.ks_hidden.specs.declared.hidden.Hidden.TheVariants as hidden
 use Rattle.ks_symbols.specs.Refusals.{IsRefusal}
@@ -25,7 +31,7 @@ use Rattle.ks_engine.specs.Recording.{there}
 use Rattle.ks_engine.specs.LastSync.{old_auto}
 use Rattle.ks_engine.specs.Refusals.{IsAborted, of_dep}
 use Rattle.ks_engine.specs.declared.error.EngineError.{EngineError}
-use Rattle.ks_commands.specs.Looking.{AreListed, FirstRead, IsInput, IsListRefused, IsSought, IsUnread, IsUnreadAmong, Look, is_header_name, is_listed, look_by}
+use Rattle.ks_commands.specs.Looking.{AreListed, ArePlain, FirstRead, IsDefinition, IsFound, IsInput, IsListRefused, IsSought, IsUnread, IsUnreadDefinition, IsUnreadListed, Look, file_includes, has_source, is_header_name, is_included, is_listed, look_by}
 
 -- What holds of each of the first places and of the next one holds of one more.
 pub one_more : {X : Type 0} (P : ℕ → X → Type 0) (xs : List X) (n : ℕ) (x : X) → slice_get xs n ≡ Some x → P n x
@@ -46,6 +52,10 @@ one_more P xs n x there holds before i y below at =
 pub if_ok : {A E : Type 0} (P Q : A → Type 0) (r : Result A E) → ((x : A) → P x → Q x) → IfOk r P → IfOk r Q
 if_ok P Q (Ok x) f p = f x p
 if_ok P Q (Err e) f p = p
+
+pub all_ok : {A E : Type 0} (Q : A → Type 0) (r : Result A E) → ((x : A) → Q x) → IfOk r Q
+all_ok Q (Ok x) f = f x
+all_ok Q (Err e) f = tt
 
 pub if_err : {A E : Type 0} (P Q : E → Type 0) (r : Result A E) → ((e : E) → P e → Q e) → IfErr r P → IfErr r Q
 if_err P Q (Ok x) f p = p
@@ -96,16 +106,16 @@ listed_from x listed n p at =
     rw next
     (ap (λ ps. is_listed ps x) (drop-cons listed n p within) ∙ ap (λ (q : List ℕ × Role). bytes_eq x q.0 || is_listed (drop (suc n) listed) x) here)
 
--- a path is equal to what is equal to it
-pub mirrored : (x y : List ℕ) → bytes_eq x y ≡ bytes_eq y x
-mirrored x y = grind (arith, common_steps, bytes_eq-Decides)
-
--- one path goes from those that are left into the set
-pub moved : (in_old in_new here later : Bool) → in_new ≡ cond here true in_old → (in_new || later) ≡ (in_old || (here || later))
-moved true in_new true later e = grind arith
-moved true in_new false later e = grind arith
-moved false in_new true later e = grind arith
-moved false in_new false later e = grind arith
+-- the same of the macros that files include
+pub included_from : (look : Look) (files : Files) (x : List ℕ) (listed : List (List ℕ × Role)) (n : ℕ) (p : List ℕ × Role) → slice_get listed n ≡ Some p
+    → is_included look files (drop n listed) x ≡ (file_includes look files p.0 x || is_included look files (drop (n + 1) listed) x)
+included_from look files x listed n p at =
+    let within = slice_get_within listed n p at in
+    let here : get_or listed n p ≡ p = get_or_from_slice_get listed n p p at in
+    let next : n + 1 ≡ suc n = omega arith in
+    rw next
+    (ap (λ ps. is_included look files ps x) (drop-cons listed n p within)
+    ∙ ap (λ (q : List ℕ × Role). file_includes look files q.0 x || is_included look files (drop (suc n) listed) x) here)
 
 -- ---- how the files are looked at, by a set and by a list of the same paths
 
@@ -122,6 +132,71 @@ with_listed look f = record {
 pub same_listed : (P : Look → Type 0) (look : Look) (f : List ℕ → Bool) → ((x : List ℕ) → look.is_listed x ≡ f x) → P look → P (with_listed look f)
 same_listed P look f same p = subst (λ h. P (with_listed look h)) (fun_ext same) p
 
+-- ---- macros
+
+-- where there is no macro nothing defines one
+no_value : (f : List ℕ → Bool) → ((x : List ℕ) → f x ≡ false) → (o : Option (List ℕ)) → defines_one f o ≡ false
+no_value f none None = refl
+no_value f none (Some v) = none (front_word v)
+
+no_word : (f : List ℕ → Bool) → ((x : List ℕ) → f x ≡ false) → (n : ℕ) (words : List (List ℕ)) → defining_from f n words ≡ None
+no_word f none n [] = refl
+no_word f none n (w ∷ ws) = rw (no_value f none (option_value ws w (codes "-D"))) (no_word f none (n + 1) ws)
+
+none_in_words : (f : List ℕ → Bool) → ((x : List ℕ) → f x ≡ false) → (command : List ℕ) → defining_word f command ≡ None
+unfolding defining_word
+none_in_words f none command = no_word f none 1 (words_of command)
+
+none_in_text : (f : List ℕ → Bool) → ((x : List ℕ) → f x ≡ false) → (b : List ℕ) → DefinesNone f b
+unfolding may_define
+none_in_text f none b k is = grind (arith, common_steps, none (front_word (drop k b)), is)
+
+pub none_defined : (f : List ℕ → Bool) → ((x : List ℕ) → f x ≡ false) → (files : Files) (command : List ℕ) (listed : List (List ℕ × Role))
+    → IsDefinition f files command listed None
+none_defined f none files command listed = (none_in_words f none command, λ i p below at b is. none_in_text f none b)
+
+-- the macros by a set, and by the files that include them
+pub same_macros : (P : (List ℕ → Bool) → Type 0) (f h : List ℕ → Bool) → ((x : List ℕ) → f x ≡ h x) → P f → P h
+same_macros P f h same p = subst P (fun_ext same) p
+
+pub none_left : (look : Look) (files : Files) (x : List ℕ) (listed : List (List ℕ × Role)) (n : ℕ) → length listed ≤ n
+    → is_included look files (drop n listed) x ≡ false
+none_left look files x listed n past = ap (λ ps. is_included look files ps x) (drop_of_length-le listed past)
+
+-- a set without a key has none, and another one some
+pub in_none : {S Y : Type 0} (s : IndexSet (Vec ℕ Y) S) → s.keys ≡ [] → (x : List ℕ) → is_in s x ≡ false
+in_none s empty x = ap (list_any (λ v. bytes_eq x v.items)) empty
+
+no_keys : {X : Type 0} (ks : List X) → length ks ≡ 0 → ks ≡ []
+no_keys [] none = refl
+no_keys (k ∷ ks) none = absurd (omega (arith, none))
+
+pub in_empty : {S Y : Type 0} (s : IndexSet (Vec ℕ Y) S) → index_set_len s ≡ 0 → (x : List ℕ) → is_in s x ≡ false
+in_empty s none x = in_none s (no_keys s.keys none) x
+
+some_key : {Y : Type 0} (ks : List (Vec ℕ Y)) → (length ks ≡ 0 → ⊥) → (name : List ℕ) × (list_any (λ v. bytes_eq name v.items) ks ≡ true)
+some_key [] some = absurd (some refl)
+some_key (v ∷ vs) some = (v.items, rw ((bytes_decides v.items v.items).1 refl) refl)
+
+pub has_some : {S Y : Type 0} (s : IndexSet (Vec ℕ Y) S) → (index_set_len s ≡ 0 → ⊥) → (name : List ℕ) × (is_in s name ≡ true)
+has_some s some = some_key s.keys some
+
+-- what defines a macro, and what can't be read, by a set of these
+pub found_of : (look : Look) (files : Files) (listed : List (List ℕ × Role)) → ArePlain look files listed → has_source look.header listed ≡ true
+    → (f : List ℕ → Bool) → ((x : List ℕ) → f x ≡ is_included look files listed x)
+    → (h : Option Hidden) → IsDefinition f files look.command listed h → IsFound look files listed h
+found_of look files listed plain sourced f same None is =
+    ((plain, sourced), same_macros (λ m. IsDefinition m files look.command listed None) f (is_included look files listed) same is)
+found_of look files listed plain sourced f same (Some h) is =
+    inr (inr ((plain, sourced), same_macros (λ m. IsDefinition m files look.command listed (Some h)) f (is_included look files listed) same is))
+
+pub unread_of : (look : Look) (files : Files) (listed : List (List ℕ × Role)) → ArePlain look files listed → has_source look.header listed ≡ true
+    → (f : List ℕ → Bool) → ((x : List ℕ) → f x ≡ is_included look files listed x) → (name : List ℕ) × (f name ≡ true)
+    → (e : EngineError) → IsAborted e ⊎ IsUnreadDefinition f files look.command listed e → IsAborted e ⊎ IsUnreadListed look files listed e
+unread_of look files listed plain sourced f same (name, one) e (inl aborted) = inl aborted
+unread_of look files listed plain sourced f same (name, one) e (inr is) =
+    inr (inr ((plain, sourced), name, sym (same name) ∙ one, same_macros (λ m. IsUnreadDefinition m files look.command listed e) f (is_included look files listed) same is))
+
 -- ---- what can't be read
 
 pub auto_unread : (dialect : Dialect) (header : Header) (alias : List ℕ) (files : Files) (depfile command was : List ℕ) (listed : List (List ℕ × Role))
@@ -132,6 +207,6 @@ auto_unread dialect header alias files depfile command was listed e none at are 
 
 pub file_unread : (dialect : Dialect) (header : Header) (alias : List ℕ) (files : Files) (depfile command : List ℕ) (read : FirstRead files depfile)
     (e : EngineError) → unknown_argument command ≡ None
-    → IsAborted e ⊎ IsUnreadAmong (look_by dialect header alias command read) files read.listed e → IsAborted e ⊎ IsUnread dialect header alias files depfile command e
+    → IsAborted e ⊎ IsUnreadListed (look_by dialect header alias command read) files read.listed e → IsAborted e ⊎ IsUnread dialect header alias files depfile command e
 file_unread dialect header alias files depfile command read e none (inl aborted) = inl aborted
 file_unread dialect header alias files depfile command read e none (inr is) = inr (none, inr (inr (read, is)))

@@ -8,8 +8,9 @@ use Rattle.ks_output.specs.OldConfig.{Texts}
 use Rattle.ks_hidden.specs.HeaderLines.{foreign_line, lacks}
 use Rattle.ks_hidden.specs.Arguments.{unknown_argument}
 use Rattle.ks_hidden.specs.Candidates.{candidates}
+use Rattle.ks_hidden.specs.Macros.{DefinesNone, defining_word, includes, may_define}
 use Rattle.ks_hidden.specs.Precompiled.{is_among}
-use Rattle.ks_hidden.specs.Texts.{HidesNothing, IsHiddenLine}
+use Rattle.ks_hidden.specs.Texts.{HidesNothing, IsHiddenLine, line_number}
 use Rattle.ks_hidden.specs.declared.hidden.Hidden.{Hidden}
 use Rattle.ks_hidden.specs.declared.hidden.Hidden.TheVariants as hidden
 use Rattle.ks_fixdep.specs.DependencyFile.{is_header, prerequisites_without, refusal_without}
@@ -173,14 +174,67 @@ IsUnreadAmong look files listed e =
 abbrev pub has_source : Header → List (List ℕ × Role) → Bool
 has_source header listed = list_any (λ p. is_source header p.0) listed
 
--- Nothing but names can matter to an object: each of its files is as it should be, and one is compiled. Or the first that isn't is the
--- cause, or none is compiled, as where a header is precompiled.
+-- ---- macros that they include by their names
+
+abbrev pub includes_macro : Option (List ℕ) → List ℕ → Bool
+includes_macro None name = false
+includes_macro (Some text) name = includes text name
+
+-- a file that is looked at includes a macro of this name
+abbrev pub file_includes : Look → Files → List ℕ → List ℕ → Bool
+file_includes look files path name =
+    not (is_header look.header path) && (not (is_of_system path) && includes_macro (content files path) name)
+
+-- one of them does
+abbrev pub is_included : Look → Files → List (List ℕ × Role) → List ℕ → Bool
+is_included look files listed name = list_any (λ p. file_includes look files p.0 name) listed
+
+-- the first n of all the files define none of these macros
+abbrev pub DefineNoneBefore : (List ℕ → Bool) → Files → List (List ℕ × Role) → ℕ → Type 0
+DefineNoneBefore is_macro files listed n =
+    (i : ℕ) (p : List ℕ × Role) → i < n → slice_get listed i ≡ Some p → (b : List ℕ) → content files p.0 ≡ Some b → DefinesNone is_macro b
+
+-- a line of a text may define one
+abbrev pub DefinesAt : (List ℕ → Bool) → List ℕ → ℕ → Type 0
+DefinesAt is_macro b n = (k : ℕ) × (may_define is_macro b k ≡ true) × (n ≡ line_number b k)
+
+-- Nothing defines one of these macros; or a word of the command does, or a line of the first file in which they may be defined.
+abbrev pub IsDefinition : (List ℕ → Bool) → Files → List ℕ → List (List ℕ × Role) → Option Hidden → Type 0
+IsDefinition is_macro files command listed None =
+    (defining_word is_macro command ≡ None) × DefineNoneBefore is_macro files listed (length listed)
+IsDefinition is_macro files command listed (Some (hidden.Argument n)) = defining_word is_macro command ≡ Some n
+IsDefinition is_macro files command listed (Some (hidden.Input path n)) = (defining_word is_macro command ≡ None)
+    × (i : ℕ) × (p : List ℕ × Role) × (slice_get listed i ≡ Some p) × DefineNoneBefore is_macro files listed i × (path ≡ p.0)
+    × (b : List ℕ) × (content files p.0 ≡ Some b) × DefinesAt is_macro b n
+IsDefinition is_macro files command listed (Some h) = ⊥
+
+-- or the first file in which they may be defined can't be read
+abbrev pub IsUnreadDefinition : (List ℕ → Bool) → Files → List ℕ → List (List ℕ × Role) → EngineError → Type 0
+IsUnreadDefinition is_macro files command listed e = (defining_word is_macro command ≡ None)
+    × (i : ℕ) × (p : List ℕ × Role) × (slice_get listed i ≡ Some p) × DefineNoneBefore is_macro files listed i × (given files p.0 ≡ Err e)
+
+-- ---- an object
+
+-- each of its files is as it should be, and one of them is compiled
+abbrev pub ArePlainWithSource : Look → Files → List (List ℕ × Role) → Type 0
+ArePlainWithSource look files listed = ArePlain look files listed × (has_source look.header listed ≡ true)
+
+-- Nothing but names can matter to an object: so are its files, and nothing defines a macro that one of them includes by its name. Or
+-- this does, or the first file that isn't as it should be is the cause, or none is compiled, as where a header is precompiled.
 abbrev pub IsFound : Look → Files → List (List ℕ × Role) → Option Hidden → Type 0
-IsFound look files listed None = ArePlain look files listed × (has_source look.header listed ≡ true)
+IsFound look files listed None = ArePlainWithSource look files listed × IsDefinition (is_included look files listed) files look.command listed None
 IsFound look files listed (Some h) =
     IsFirstCause look files listed h
-    ⊎ (ArePlain look files listed × (has_source look.header listed ≡ false)
+    ⊎ ((ArePlain look files listed × (has_source look.header listed ≡ false)
     × (p : List ℕ × Role) × (slice_get listed 0 ≡ Some p) × (h ≡ hidden.Precompiled p.0))
+    ⊎ (ArePlainWithSource look files listed × IsDefinition (is_included look files listed) files look.command listed (Some h)))
+
+-- The first file that isn't as it should be can't be read, or one that may define a macro which another one includes.
+abbrev pub IsUnreadListed : Look → Files → List (List ℕ × Role) → EngineError → Type 0
+IsUnreadListed look files listed e =
+    IsUnreadAmong look files listed e
+    ⊎ (ArePlainWithSource look files listed
+    × (name : List ℕ) × (is_included look files listed name ≡ true) × IsUnreadDefinition (is_included look files listed) files look.command listed e)
 
 -- what is read first: the dependency file and auto.conf
 pub record FirstRead (files : Files) (depfile : List ℕ) : Type 0 where
@@ -215,7 +269,7 @@ IsUnreadFile dialect header alias files depfile command e =
     (given files depfile ≡ Err e)
     ⊎ (((was : List ℕ) × (content files depfile ≡ Some was)
     × (IsListRefused was e ⊎ ((listed : List (List ℕ × Role)) × AreListed was listed × (old_auto (content files auto_path) ≡ Err e))))
-    ⊎ ((r : FirstRead files depfile) × IsUnreadAmong (look_by dialect header alias command r) files r.listed e))
+    ⊎ ((r : FirstRead files depfile) × IsUnreadListed (look_by dialect header alias command r) files r.listed e))
 
 -- Each argument is known, and this is so.
 abbrev pub IsUnread : Dialect → Header → List ℕ → Files → List ℕ → List ℕ → EngineError → Type 0

@@ -2,23 +2,25 @@
 //!
 //! A build that leaves the header of all symbols out of an object's dependencies is right where nothing but these names can matter. What
 //! the compiler has read says whether that is known. In doubt the object isn't recorded, and its dependencies stay.
-ghost use Rattle.std.specs.Prelude.{◌≡◌, ◌⊎◌, List, ℕ, Err, IfErr, IfOk, IsErrOf, IsTrue, OnOk, Some, is_some, map, slice_get, true, vec_items};
+ghost use Rattle.std.specs.Prelude.{◌≡◌, ◌⊎◌, ◌||◌, List, ℕ, Err, IfErr, IfOk, IsErrOf, IsTrue, None, OnOk, Some, is_some, map, slice_get, true, vec_items};
 ghost use Rattle.ks_symbols.specs.Names.{is_path};
 ghost use Rattle.ks_fixdep.specs.DependencyFile.{ends_in_path, is_directory, is_header};
 ghost use Rattle.ks_fixdep.specs.declared.dependency_file.Role.{Role};
+ghost use Rattle.ks_hidden.specs.Macros.{is_in};
 ghost use Rattle.ks_hidden.specs.Precompiled.{is_among};
 ghost use Rattle.ks_hidden.specs.declared.hidden.Hidden.TheVariants.{Precompiled};
 ghost use Rattle.ks_tree.specs.Files.{content};
 ghost use Rattle.ks_tree.specs.Frames.{Reads};
 ghost use Rattle.ks_engine.specs.Refusals.{IsAborted};
 ghost use Rattle.ks_requests.specs.Inputs.{given};
-ghost use Rattle.ks_commands.specs.Looking.{AreListed, AreLookedAt, IsFound, IsHeader, IsInput, IsListRefused, IsLooked, IsLookedAt, IsSought, IsUnread, IsUnreadAmong, has_source, is_header_name, is_listed, is_of_system, is_own, is_read, is_source, looked_by, path_of};
+ghost use Rattle.ks_commands.specs.Looking.{AreListed, AreLookedAt, IsDefinition, IsFound, IsHeader, IsInput, IsListRefused, IsLooked, IsLookedAt, IsSought, IsUnread, IsUnreadAmong, IsUnreadDefinition, IsUnreadListed, file_includes, has_source, includes_macro, is_header_name, is_included, is_listed, is_of_system, is_own, is_read, is_source, looked_by, path_of};
 
 use indexmap::IndexSet;
 use ks_engine::{EngineError, read_old};
 use ks_fixdep::{Header, Prerequisites, read_depfile_without};
 use ks_hidden::{
-    Hidden, foreign_line, hidden_line, lacks_definition, precompiled_candidates, unknown_argument,
+    Hidden, defining_line, defining_word, foreign_line, hidden_line, lacks_definition,
+    precompiled_candidates, unknown_argument,
 };
 use ks_output::OldConfig;
 use ks_requests::read_given;
@@ -169,11 +171,12 @@ fn find_precompiled<T: Tree>(
     Ok(None)
 }
 
-/// Looks at a file that the compiler has read.
+/// Looks at a file that the compiler has read. The macros that it includes by their names are noted.
 fn look_at_input<T: Tree>(
     alloc: Global,
     tree: &mut T,
     look: &Looking<'_>,
+    included: &mut IndexSet<Vec<u8>, Seed>,
     path: &[u8],
 ) -> Result<Option<Hidden>, EngineError>
     requires legal { IsTrue (is_path path.now) }
@@ -181,10 +184,12 @@ fn look_at_input<T: Tree>(
     ensures passed { OnOk result (T.failures tree.new ≡ T.failures tree.old) }
     ensures uncounted { IsErrOf result EngineError.OutOfMemory → T.failures tree.new ≡ T.failures tree.old }
     ensures looked { T.is_honest → IfOk result (IsInput (looked_by look.now) (T.files tree.old) path.now) }
+    ensures noted { T.is_honest → IfOk result (λ found. found ≡ None → (name : List ℕ)
+        → is_in included.new name ≡ (is_in included.old name || includes_macro (content (T.files tree.old) path.now) name)) }
     ensures refused { T.is_honest → IfErr result (λ e. IsAborted e ⊎ (given (T.files tree.old) path.now ≡ Err e)) }
 {
     let text = read_given(alloc, tree, path)?;
-    if let Some(line) = hidden_line(&text) {
+    if let Some(line) = hidden_line(alloc, included, &text)? {
         return Ok(Some(Hidden::Input(Path::new(alloc, path)?, line)));
     }
     if is_header_name(path) {
@@ -199,6 +204,7 @@ fn look_at<T: Tree>(
     alloc: Global,
     tree: &mut T,
     look: &Looking<'_>,
+    included: &mut IndexSet<Vec<u8>, Seed>,
     path: &[u8],
 ) -> Result<Option<Hidden>, EngineError>
     requires legal { IsTrue (is_path path.now) }
@@ -206,6 +212,8 @@ fn look_at<T: Tree>(
     ensures passed { OnOk result (T.failures tree.new ≡ T.failures tree.old) }
     ensures uncounted { IsErrOf result EngineError.OutOfMemory → T.failures tree.new ≡ T.failures tree.old }
     ensures looked { T.is_honest → IfOk result (IsLookedAt (looked_by look.now) (T.files tree.old) path.now) }
+    ensures noted { T.is_honest → IfOk result (λ found. found ≡ None → (name : List ℕ)
+        → is_in included.new name ≡ (is_in included.old name || file_includes (looked_by look.now) (T.files tree.old) path.now name)) }
     ensures refused { T.is_honest → IfErr result (λ e. IsAborted e ⊎ ((is_read (looked_by look.now) path.now ≡ true) × (given (T.files tree.old) path.now ≡ Err e))) }
 {
     if is_header(look.header, path) {
@@ -214,7 +222,7 @@ fn look_at<T: Tree>(
     if is_of_system(path) {
         return Ok(None);
     }
-    look_at_input(alloc, tree, look, path)
+    look_at_input(alloc, tree, look, included, path)
 }
 
 /// Whether a file is compiled, and not included.
@@ -258,20 +266,52 @@ fn look_at_all<T: Tree>(
     alloc: Global,
     tree: &mut T,
     look: &Looking<'_>,
+    included: &mut IndexSet<Vec<u8>, Seed>,
     prerequisites: &Prerequisites,
 ) -> Result<Option<Hidden>, EngineError>
     ensures reads { Reads T.Tree tree.old tree.new (IsErrOf result EngineError.Device) }
     ensures passed { OnOk result (T.failures tree.new ≡ T.failures tree.old) }
     ensures uncounted { IsErrOf result EngineError.OutOfMemory → T.failures tree.new ≡ T.failures tree.old }
     ensures found { T.is_honest → IfOk result (AreLookedAt (looked_by look.now) (T.files tree.old) prerequisites.now) }
+    ensures noted { T.is_honest → IfOk result (λ found. found ≡ None → (name : List ℕ)
+        → is_in included.new name ≡ (is_in included.old name || is_included (looked_by look.now) (T.files tree.old) prerequisites.now name)) }
     ensures refused { T.is_honest → IfErr result (λ e. IsAborted e ⊎ IsUnreadAmong (looked_by look.now) (T.files tree.old) prerequisites.now e) }
 {
     for place in 0..prerequisites.len() {
         let Some((path, _)) = prerequisites.get(place) else {
             unreachable!();
         };
-        if let Some(hidden) = look_at(alloc, tree, look, path)? {
+        if let Some(hidden) = look_at(alloc, tree, look, included, path)? {
             return Ok(Some(hidden));
+        }
+    }
+    Ok(None)
+}
+
+/// What may define one of these macros, if anything: a word of the command, or a line of a file.
+fn find_definition<T: Tree>(
+    alloc: Global,
+    tree: &mut T,
+    macros: &IndexSet<Vec<u8>, Seed>,
+    command: &[u8],
+    prerequisites: &Prerequisites,
+) -> Result<Option<Hidden>, EngineError>
+    ensures reads { Reads T.Tree tree.old tree.new (IsErrOf result EngineError.Device) }
+    ensures passed { OnOk result (T.failures tree.new ≡ T.failures tree.old) }
+    ensures uncounted { IsErrOf result EngineError.OutOfMemory → T.failures tree.new ≡ T.failures tree.old }
+    ensures found { T.is_honest → IfOk result (IsDefinition (is_in macros.now) (T.files tree.old) command.now prerequisites.now) }
+    ensures refused { T.is_honest → IfErr result (λ e. IsAborted e ⊎ IsUnreadDefinition (is_in macros.now) (T.files tree.old) command.now prerequisites.now e) }
+{
+    if let Some(word) = defining_word(alloc, macros, command)? {
+        return Ok(Some(Hidden::Argument(word)));
+    }
+    for place in 0..prerequisites.len() {
+        let Some((path, _)) = prerequisites.get(place) else {
+            unreachable!();
+        };
+        let text = read_given(alloc, tree, path)?;
+        if let Some(line) = defining_line(macros, &text) {
+            return Ok(Some(Hidden::Input(Path::new(alloc, path)?, line)));
         }
     }
     Ok(None)
@@ -288,15 +328,19 @@ fn look_for_cause<T: Tree>(
     ensures passed { OnOk result (T.failures tree.new ≡ T.failures tree.old) }
     ensures uncounted { IsErrOf result EngineError.OutOfMemory → T.failures tree.new ≡ T.failures tree.old }
     ensures found { T.is_honest → IfOk result (IsFound (looked_by look.now) (T.files tree.old) prerequisites.now) }
-    ensures refused { T.is_honest → IfErr result (λ e. IsAborted e ⊎ IsUnreadAmong (looked_by look.now) (T.files tree.old) prerequisites.now e) }
+    ensures refused { T.is_honest → IfErr result (λ e. IsAborted e ⊎ IsUnreadListed (looked_by look.now) (T.files tree.old) prerequisites.now e) }
 {
-    if let Some(hidden) = look_at_all(alloc, tree, look, prerequisites)? {
+    let mut included = IndexSet::with_hasher(alloc, Seed::new(tree.seed()));
+    if let Some(hidden) = look_at_all(alloc, tree, look, &mut included, prerequisites)? {
         return Ok(Some(hidden));
     }
-    if has_source(look.header, prerequisites) {
+    if !has_source(look.header, prerequisites) {
+        return Ok(without_source(alloc, prerequisites)?);
+    }
+    if included.is_empty() {
         return Ok(None);
     }
-    Ok(without_source(alloc, prerequisites)?)
+    find_definition(alloc, tree, &included, look.command, prerequisites)
 }
 
 /// The files that a dependency file lists, the header among them: no path ends in a line feed.

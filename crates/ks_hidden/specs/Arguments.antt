@@ -2,7 +2,7 @@
 -- GNU assembler, and in front of the compiler those of env, nice, ccache and distcc.
 use Rattle.std.specs.Prelude.{ℕ, ◌+◌, ◌&&◌, ◌||◌, Bool, false, not, List, [], ◌∷◌, Option, Some, None, bytes_eq, nat_eq, codes, if◌then◌else◌}
 use Rattle.std.specs.List.{ends_with, list_any, starts_with}
-use Rattle.ks_hidden.specs.Words.{words_of}
+use Rattle.ks_hidden.specs.Words.{behind, words_of}
 use Rattle.ks_hidden.specs.declared.arguments.Expected.{Expected}
 use Rattle.ks_hidden.specs.declared.arguments.Expected.TheVariants.{Front, FrontValue, Argument, Value, Language, Inner}
 
@@ -68,7 +68,8 @@ unfoldable pub is_plain_option : List ℕ → Bool
 is_plain_option word =
     is_one_of
     (codes "-c" ∷ codes "-MD" ∷ codes "-MMD" ∷ codes "-MP" ∷ codes "-w" ∷ codes "-s" ∷ codes "-p" ∷ codes "-P" ∷ codes "-C" ∷ codes "-CC" ∷ codes "-v" ∷ codes "-pg"
-    ∷ codes "-pipe" ∷ codes "-pthread" ∷ codes "-ansi" ∷ codes "-undef" ∷ codes "-trigraphs" ∷ codes "-rdynamic" ∷ codes "--coverage" ∷ []) word
+    ∷ codes "-pipe" ∷ codes "-pthread" ∷ codes "-ansi" ∷ codes "-undef" ∷ codes "-trigraphs" ∷ codes "-rdynamic" ∷ codes "--coverage" ∷ codes "-pie" ∷ codes "-no-pie"
+    ∷ codes "-nodefaultlibs" ∷ codes "-nostartfiles" ∷ codes "-Qunused-arguments" ∷ codes "-EB" ∷ codes "-EL" ∷ []) word
 
 -- an option with its value
 unfoldable pub has_known_front : List ℕ → Bool
@@ -84,17 +85,23 @@ has_refused_front word =
     begins_with_one
     (codes "-I=" ∷ codes "-I$" ∷ codes "-isystem=" ∷ codes "-iquote=" ∷ codes "-idirafter=" ∷ codes "-include-pch" ∷ codes "-Wa," ∷ codes "-Wp," ∷ []) word
 
--- options for the preprocessor and the assembler that are known
+-- nothing follows the value of an option, which no file gives
+abbrev pub is_plain_value : Option (List ℕ) → Bool
+is_plain_value None = false
+is_plain_value (Some value) = not (has_one (codes "," ∷ codes "@" ∷ []) value)
+
+-- options for the preprocessor and the assembler that are known: a dependency file, a macro of the compiler's own, and no directory
 unfoldable pub is_known_inside : List ℕ → Bool
 is_known_inside word =
-    begins_with_one
-    (codes "-Wp,-MD," ∷ codes "-Wp,-MMD," ∷ codes "-Wa,--" ∷ codes "-Wa,-W" ∷ codes "-Wa,-m" ∷ codes "-Wa,-M" ∷ codes "-Wa,-n" ∷ []) word
-    && not (has word (codes "@"))
+    is_plain_value (behind (codes "-Wp,-MD,") word) || is_plain_value (behind (codes "-Wp,-MMD,") word) || is_plain_value (behind (codes "-Wp,-D_") word)
+    || is_plain_value (behind (codes "-Wp,-U") word)
+    || (begins_with_one (codes "-Wa,--" ∷ codes "-Wa,-W" ∷ codes "-Wa,-m" ∷ codes "-Wa,-M" ∷ codes "-Wa,-n" ∷ []) word
+    && not (has_one (codes ",-I" ∷ codes "@" ∷ []) word))
 
 -- how code is made: no file is used, as a profile or a plugin
 unfoldable pub is_known_flag : List ℕ → Bool
 is_known_flag word =
-    begins_with_one (codes "-fno-" ∷ []) word
+    begins_with_one (codes "-fno-" ∷ codes "-fuse-ld=" ∷ codes "-fuse-cxa-atexit" ∷ []) word
     || (starts_with nat_eq word (codes "-f") && (has word (codes "-prefix-map=")
     || (not (begins_with_one (codes "-fauto-profile" ∷ codes "-fbranch-" ∷ codes "-fmodule" ∷ codes "-fprebuilt-module" ∷ []) word)
     && not (has_one (codes "use" ∷ codes "plugin" ∷ codes "list" ∷ codes "/" ∷ codes "@" ∷ []) word))))

@@ -1,6 +1,7 @@
 pub mod Words
 pub mod Arguments
 pub mod Includes
+pub mod Macros
 pub mod Precompiled
 pub mod Candidates
 pub mod Texts

@@ -12,7 +12,7 @@ precompiled header = header ++ codes ".gch"
 abbrev pub beside : List ℕ → List ℕ → List ℕ
 beside header directory = directory ++ (codes "/" ++ header)
 
--- the paths that a dependency file lists
+-- whether a path is one of those that a dependency file lists
 abbrev pub is_among : {S : Type 0} → IndexSet (Bor (List ℕ)) S → List ℕ → Bool
 is_among listed path = contains_by (λ p. bytes_eq path p.now) listed
 

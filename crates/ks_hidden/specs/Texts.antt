@@ -1,7 +1,8 @@
 -- What a text of C or of an assembler may hold that has the compiler read a file which it lists nowhere, or makes an object one of the
 -- time of its compile. The words are those of the C preprocessor and of the GNU assembler.
-use Rattle.std.specs.Prelude.{◌≡◌, ◌⊎◌, ◌+◌, ◌-◌, ◌==◌, ◌||◌, ◌&&◌, not, ℕ, Bool, true, false, List, [], ◌∷◌, Option, Some, None, codes, drop, take, nat_eq, length, slice_get, if◌then◌else◌}
-use Rattle.std.specs.List.{ends_with, prefix_len}
+use Rattle.std.specs.Prelude.{◌≡◌, ◌⊎◌, ◌+◌, ◌-◌, ◌==◌, ◌||◌, ◌&&◌, not, ℕ, Bool, true, false, List, [], ◌∷◌, Option, Some, None, codes, drop, take, nat_eq, is_none, length, slice_get, if◌then◌else◌}
+use Rattle.std.specs.List.{ends_with, filter_map, prefix_len}
+use Rattle.std.specs.Char.{is_ascii_alphabetic}
 use Rattle.memchr.specs.Find.{OccursAt, is_byte, places}
 use Rattle.ks_symbols.specs.Lines.{lines}
 use Rattle.ks_symbols.specs.Names.{is_word_byte}
@@ -10,10 +11,19 @@ use Rattle.ks_hidden.specs.Words.{behind}
 
 -- ---- marks
 
--- At a place stands a word of the assembler that reads a file. It takes these in either case.
+-- the byte is there, and is of the name of a directive
+abbrev pub is_of_directive : Option ℕ → Bool
+is_of_directive None = false
+is_of_directive (Some b) = is_word_byte b || b == 46 || b == 36
+
+-- At a place stands the name of a directive, and no longer one.
+abbrev pub IsDirective : List ℕ → List ℕ → ℕ → Type 0
+IsDirective text name k = OccursAt text name k × (is_of_directive (slice_get text (k + length name)) ≡ false)
+
+-- or what the assembler reads a file by. It takes these in either case.
 abbrev pub IsDirectiveAt : List ℕ → ℕ → Type 0
 IsDirectiveAt text k =
-    OccursAt text (codes "incbin") k ⊎ (OccursAt text (codes ".include") k ⊎ (OccursAt text (codes "INCBIN") k ⊎ OccursAt text (codes ".INCLUDE") k))
+    OccursAt text (codes "incbin") k ⊎ (IsDirective text (codes ".include") k ⊎ (OccursAt text (codes "INCBIN") k ⊎ IsDirective text (codes ".INCLUDE") k))
 
 -- or a word of the preprocessor that looks for a file, or is of the time of a compile
 abbrev pub IsMacroAt : List ℕ → ℕ → Type 0
@@ -69,6 +79,46 @@ directs_computed (Some rest) = is_computed rest
 unfoldable pub is_computed_line : List ℕ → Bool
 is_computed_line line = directs_computed (after_sign (skip_blanks line))
 
+-- ---- includes of a macro by its name
+
+-- the word with which a text begins
+abbrev pub front_word : List ℕ → List ℕ
+front_word text = take (prefix_len is_word_byte text) text
+
+-- a text is empty, or begins with a blank or a carriage return
+abbrev pub begins_blank : List ℕ → Bool
+begins_blank [] = true
+begins_blank (b ∷ rest) = is_blank b || b == 13
+
+-- or begins with a letter; with an underscore begin the macros that a compiler has of its own
+abbrev pub begins_letter : List ℕ → Bool
+begins_letter [] = false
+begins_letter (b ∷ rest) = is_ascii_alphabetic b
+
+-- a text begins with the name of a macro, behind which are blanks or nothing
+unfoldable pub macro_name : List ℕ → Option (List ℕ)
+macro_name text = if begins_letter text && begins_blank (drop (length (front_word text)) text) then Some (front_word text) else None
+
+-- what follows the word of an include names a macro, behind blanks
+abbrev pub macro_behind : Option (List ℕ) → Option (List ℕ)
+macro_behind None = None
+macro_behind (Some rest) = if begins_blank rest then macro_name (skip_blanks rest) else None
+
+abbrev pub macro_directed : Option (List ℕ) → Option (List ℕ)
+macro_directed None = None
+macro_directed (Some rest) = macro_behind (after_include (skip_blanks rest))
+
+-- The macro that a line includes. Where nothing defines it, no compiler gets there.
+unfoldable pub included_macro : List ℕ → Option (List ℕ)
+included_macro line = if is_computed_line line then macro_directed (after_sign (skip_blanks line)) else None
+
+unfoldable pub included_macros : List ℕ → List (List ℕ)
+included_macros text = filter_map included_macro (lines text)
+
+-- a line includes what a macro says, but not by its name
+abbrev pub is_hidden_include : List ℕ → Bool
+is_hidden_include line = is_computed_line line && is_none (included_macro line)
+
 -- ---- joints
 
 -- whether a byte is there, and is of a word
@@ -113,7 +163,7 @@ IsMarkAt text k = IsMacroAt text k ⊎ (IsDirectiveAt text k ⊎ (is_joint text 
 -- the number of the first such line, where they are counted from n on, and in a text from 1 on
 unfoldable pub computed_from : ℕ → List (List ℕ) → Option ℕ
 computed_from n [] = None
-computed_from n (l ∷ ls) = if is_computed_line l then Some n else computed_from (n + 1) ls
+computed_from n (l ∷ ls) = if is_hidden_include l then Some n else computed_from (n + 1) ls
 
 unfoldable pub first_computed : List ℕ → Option ℕ
 first_computed text = computed_from 1 (lines text)
@@ -122,7 +172,7 @@ first_computed text = computed_from 1 (lines text)
 unfoldable pub line_number : List ℕ → ℕ → ℕ
 line_number text k = length (places (is_byte 10) (take k text)) + 1
 
--- a line has such a mark, or is the first that includes what a macro says
+-- a line has such a mark, or is the first that includes what a macro says, but not by its name
 abbrev pub IsHiddenLine : List ℕ → ℕ → Type 0
 IsHiddenLine text n = ((k : ℕ) × IsMarkAt text k × (n ≡ line_number text k)) ⊎ (first_computed text ≡ Some n)
 

@@ -1,12 +1,12 @@
 //! Which arguments of a compile are known: they bring no file that the compiler doesn't list.
 //!
 //! In doubt an argument isn't known.
-ghost use Rattle.std.specs.Prelude.{◌≡◌, Some, IfOk, codes, map};
-ghost use Rattle.ks_hidden.specs.Arguments.{after_argument, after_front, after_word, argument_if, begins_with_one, ends_with_one, has, has_known_front, has_one, has_refused_front, has_tool_value, is_known_file, is_known_flag, is_known_inner, is_known_inside, is_known_language, is_known_machine, is_known_option, is_one_of, is_other_option, is_plain_option, is_tool, is_tool_option, takes_inner, takes_value, unknown_argument, unknown_from};
+ghost use Rattle.std.specs.Prelude.{◌≡◌, Some, IfOk, codes, map, option_map};
+ghost use Rattle.ks_hidden.specs.Arguments.{after_argument, after_front, after_word, argument_if, begins_with_one, ends_with_one, has, has_known_front, has_one, has_refused_front, has_tool_value, is_known_file, is_known_flag, is_known_inner, is_known_inside, is_known_language, is_known_machine, is_known_option, is_one_of, is_other_option, is_plain_option, is_plain_value, is_tool, is_tool_option, takes_inner, takes_value, unknown_argument, unknown_from};
 ghost use Rattle.ks_hidden.specs.declared.arguments.Expected.TheVariants.{Front};
 ghost use Rattle.ks_hidden.specs.Words.{texts};
 
-use crate::words::words;
+use crate::words::{behind, words};
 use std::alloc::{AllocError, Global};
 
 /// What the next word of a command is.
@@ -50,7 +50,7 @@ fn begins_with_one(texts: &[&[u8]], word: &[u8]) -> bool
 }
 
 /// Whether a word ends with one of these.
-fn ends_with_one(texts: &[&[u8]], word: &[u8]) -> bool
+pub(crate) fn ends_with_one(texts: &[&[u8]], word: &[u8]) -> bool
     ensures { result ≡ ends_with_one (map (λ t. t.now) texts.now) word.now }
 {
     for text in texts {
@@ -203,6 +203,13 @@ fn is_plain_option(word: &[u8]) -> bool
             b"-trigraphs",
             b"-rdynamic",
             b"--coverage",
+            b"-pie",
+            b"-no-pie",
+            b"-nodefaultlibs",
+            b"-nostartfiles",
+            b"-Qunused-arguments",
+            b"-EB",
+            b"-EL",
         ],
         word,
     )
@@ -268,23 +275,29 @@ fn has_refused_front(word: &[u8]) -> bool
     )
 }
 
+/// Whether nothing follows the value of an option, and no file gives it.
+fn is_plain_value(value: Option<&[u8]>) -> bool
+    ensures { result ≡ is_plain_value (option_map (λ v. v.now) value.entry) }
+{
+    match value {
+        Some(value) => !has_one(&[b",", b"@"], value),
+        None => false,
+    }
+}
+
 /// Whether it is a known option for the preprocessor or the assembler.
 #[tactic(auto, unfolding(crate::specs::Arguments::is_known_inside))]
 fn is_known_inside(word: &[u8]) -> bool
     ensures { result ≡ is_known_inside word.now }
 {
-    begins_with_one(
-        &[
-            b"-Wp,-MD,",
-            b"-Wp,-MMD,",
-            b"-Wa,--",
-            b"-Wa,-W",
-            b"-Wa,-m",
-            b"-Wa,-M",
-            b"-Wa,-n",
-        ],
-        word,
-    ) && !has(word, b"@")
+    is_plain_value(behind(b"-Wp,-MD,", word))
+        || is_plain_value(behind(b"-Wp,-MMD,", word))
+        || is_plain_value(behind(b"-Wp,-D_", word))
+        || is_plain_value(behind(b"-Wp,-U", word))
+        || (begins_with_one(
+            &[b"-Wa,--", b"-Wa,-W", b"-Wa,-m", b"-Wa,-M", b"-Wa,-n"],
+            word,
+        ) && !has_one(&[b",-I", b"@"], word))
 }
 
 /// Whether it says how code is made, and names no file.
@@ -292,7 +305,7 @@ fn is_known_inside(word: &[u8]) -> bool
 fn is_known_flag(word: &[u8]) -> bool
     ensures { result ≡ is_known_flag word.now }
 {
-    if begins_with_one(&[b"-fno-"], word) {
+    if begins_with_one(&[b"-fno-", b"-fuse-ld=", b"-fuse-cxa-atexit"], word) {
         return true;
     }
     if !word.starts_with(b"-f") {

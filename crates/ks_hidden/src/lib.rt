@@ -8,6 +8,7 @@ mod hidden;
 mod includes;
 mod lacking;
 mod laws;
+mod macros;
 mod precompiled;
 mod texts;
 mod words;
@@ -20,4 +21,5 @@ pub use lacking::lacks_definition;
 pub use laws::{
     explained_lines_are_definitions, header_lines_are_worked, written_headers_lack_none,
 };
+pub use macros::{defining_line, defining_word};
 pub use texts::hidden_line;

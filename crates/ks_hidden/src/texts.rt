@@ -1,13 +1,17 @@
 //! What a text may hold that has the compiler read a file which it lists nowhere, or makes an object one of the time of its compile.
 //!
 //! Most texts hold nothing of that. So each is searched as a whole, and for few words.
-ghost use Rattle.std.specs.Prelude.{◌≡◌, ℕ, IfSome, None, option_map, true};
+ghost use Rattle.std.specs.Prelude.{◌≡◌, ◌<◌, ◌≤◌, ◌||◌, ℕ, IfOk, IfSome, List, None, OnOk, drop, length, option_map, slice_get, true};
 ghost use Rattle.memchr.specs.Find.{OccursAt};
-ghost use Rattle.ks_hidden.specs.Texts.{HidesNothing, IsDirectiveAt, IsHiddenLine, IsMacroAt, IsMarkAt, after_include, after_line_end, after_sign, begins_joined, begins_other, ends_comment, first_computed, follows_computed, is_blank, is_computed, is_computed_line, is_joint, is_of_word, is_of_word_or_joins, joins_word, line_number, skip_blanks};
+ghost use Rattle.ks_hidden.specs.Macros.{includes, is_in, is_name};
+ghost use Rattle.ks_hidden.specs.Texts.{HidesNothing, IsDirective, IsDirectiveAt, IsHiddenLine, IsMacroAt, IsMarkAt, after_include, after_line_end, after_sign, begins_blank, begins_joined, begins_letter, begins_other, ends_comment, first_computed, follows_computed, front_word, included_macro, is_blank, is_computed, is_computed_line, is_hidden_include, is_joint, is_of_directive, is_of_word, is_of_word_or_joins, joins_word, line_number, macro_behind, macro_directed, macro_name, skip_blanks};
 
 use crate::words::behind;
 use bstr::ByteSlice;
+use indexmap::IndexSet;
+use ks_symbols::Seed;
 use memchr::{memchr_iter, memchr2_iter, memmem};
+use std::alloc::{AllocError, Global};
 
 fn is_blank(byte: u8) -> bool
     ensures { result ≡ is_blank byte }
@@ -30,6 +34,7 @@ fn skip_blanks(text: &[u8]) -> &[u8]
 fn find(text: &[u8], word: &[u8]) -> Option<usize>
     ensures none { result ≡ None → (k : ℕ) → OccursAt text.now word.now k → ⊥ }
     ensures some { IfSome result (OccursAt text.now word.now) }
+    ensures first { IfSome result (λ i. (k : ℕ) → k < i → OccursAt text.now word.now k → ⊥) }
 {
     memmem::find(text, word)
 }
@@ -65,7 +70,49 @@ fn find_macro_quickly(text: &[u8]) -> Option<usize>
     }
 }
 
-/// A place of a word of the assembler that reads a file.
+/// Whether a byte is there, and is of the name of a directive.
+fn is_of_directive(byte: Option<u8>) -> bool
+    ensures { result ≡ is_of_directive byte }
+{
+    match byte {
+        Some(byte) => byte.is_ascii_alphanumeric() || matches!(byte, b'_' | b'.' | b'$'),
+        None => false,
+    }
+}
+
+/// Whether the byte at a place is there, and is of the name of a directive.
+fn goes_on(text: &[u8], at: usize) -> bool
+    ensures { result ≡ is_of_directive (slice_get text.now at) }
+{
+    is_of_directive(text.get(at).copied())
+}
+
+/// What stands from a place on.
+fn from(text: &[u8], at: usize) -> &[u8]
+    requires { at ≤ length text.now }
+    ensures { result.now ≡ drop at text.now }
+{
+    &text[at..]
+}
+
+/// The first place of a directive of this name.
+fn find_named(text: &[u8], name: &[u8]) -> Option<usize>
+    requires { 0 < length name.now }
+    ensures none { result ≡ None → (k : ℕ) → IsDirective text.now name.now k → ⊥ }
+    ensures some { IfSome result (IsDirective text.now name.now) }
+{
+    let mut start = 0;
+    while let Some(further) = find(from(text, start), name) {
+        let at = start + further;
+        if !goes_on(text, at + name.len()) {
+            return Some(at);
+        }
+        start = at + 1;
+    }
+    None
+}
+
+/// A place of what the assembler reads a file by.
 fn find_directive(text: &[u8]) -> Option<usize>
     ensures none { result ≡ None → (k : ℕ) → IsDirectiveAt text.now k → ⊥ }
     ensures some { IfSome result (IsDirectiveAt text.now) }
@@ -73,13 +120,13 @@ fn find_directive(text: &[u8]) -> Option<usize>
     if let Some(at) = find(text, b"incbin") {
         return Some(at);
     }
-    if let Some(at) = find(text, b".include") {
+    if let Some(at) = find_named(text, b".include") {
         return Some(at);
     }
     if let Some(at) = find(text, b"INCBIN") {
         return Some(at);
     }
-    find(text, b".INCLUDE")
+    find_named(text, b".INCLUDE")
 }
 
 /// What follows the word of an include with which a text begins.
@@ -170,19 +217,108 @@ fn is_computed_line(line: &[u8]) -> bool
     }
 }
 
-/// The number of the first line that includes what a macro says.
+/// The word with which a text begins.
+pub(crate) fn front_word(text: &[u8]) -> &[u8]
+    ensures { result.now ≡ front_word text.now }
+{
+    let mut end = 0;
+    while end < text.len() && is_of_word(Some(text[end])) {
+        end += 1;
+    }
+    &text[..end]
+}
+
+/// Whether a text is empty, or begins with a blank or a carriage return.
+fn begins_blank(text: &[u8]) -> bool
+    ensures { result ≡ begins_blank text.now }
+{
+    match text.first() {
+        Some(byte) => is_blank(*byte) || *byte == b'\r',
+        None => true,
+    }
+}
+
+/// Whether a text begins with a letter.
+fn begins_letter(text: &[u8]) -> bool
+    ensures { result ≡ begins_letter text.now }
+{
+    match text.first() {
+        Some(byte) => byte.is_ascii_alphabetic(),
+        None => false,
+    }
+}
+
+/// The name of a macro with which a text begins, behind which are blanks or nothing.
+#[tactic(auto, unfolding(crate::specs::Texts::macro_name))]
+fn macro_name(text: &[u8]) -> Option<&[u8]>
+    ensures { option_map (λ t. t.now) result ≡ macro_name text.now }
+{
+    let name = front_word(text);
+    if begins_letter(text) && begins_blank(&text[name.len()..]) {
+        Some(name)
+    } else {
+        None
+    }
+}
+
+/// The macro that is named behind the word of an include.
+fn macro_behind(rest: &[u8]) -> Option<&[u8]>
+    ensures { option_map (λ t. t.now) result ≡ macro_behind (Some rest.now) }
+{
+    if begins_blank(rest) {
+        macro_name(skip_blanks(rest))
+    } else {
+        None
+    }
+}
+
+/// The macro that a line includes by its name.
+#[tactic(auto, unfolding(crate::specs::Texts::included_macro))]
+fn included_macro(line: &[u8]) -> Option<&[u8]>
+    ensures { is_computed_line line.now ≡ true → option_map (λ t. t.now) result ≡ included_macro line.now }
+{
+    let rest = after_sign(skip_blanks(line))?;
+    let rest = after_include(skip_blanks(rest))?;
+    macro_behind(rest)
+}
+
+/// Whether a line includes what a macro says, but not by its name. Where it does by that, the name is noted.
+fn note_include(
+    alloc: Global,
+    included: &mut IndexSet<Vec<u8>, Seed>,
+    line: &[u8],
+) -> Result<bool, AllocError>
+    ensures told { IfOk result (λ hidden. hidden ≡ is_hidden_include line.now) }
+    ensures noted { OnOk result ((name : List ℕ) → is_in included.new name ≡ (is_in included.old name || is_name (included_macro line.now) name)) }
+{
+    if !is_computed_line(line) {
+        return Ok(false);
+    }
+    let Some(name) = included_macro(line) else {
+        return Ok(true);
+    };
+    included.insert(name.to_vec(alloc)?)?;
+    Ok(false)
+}
+
+/// The number of the first line that includes what a macro says, but not by its name. The names of the others are noted.
 #[tactic(auto, unfolding(crate::specs::Texts::computed_from))]
-fn first_computed(text: &[u8]) -> Option<u64>
-    ensures { result ≡ first_computed text.now }
+fn first_computed(
+    alloc: Global,
+    included: &mut IndexSet<Vec<u8>, Seed>,
+    text: &[u8],
+) -> Result<Option<u64>, AllocError>
+    ensures found { IfOk result (λ n. n ≡ first_computed text.now) }
+    ensures noted { IfOk result (λ n. n ≡ None → (name : List ℕ) → is_in included.new name ≡ (is_in included.old name || includes text.now name)) }
 {
     let mut number: u64 = 1;
     for line in text.lines() {
-        if is_computed_line(line) {
-            return Some(number);
+        if note_include(alloc, included, line)? {
+            return Ok(Some(number));
         }
         number += 1;
     }
-    None
+    Ok(None)
 }
 
 /// What follows the end of a line with which a text begins.
@@ -197,7 +333,7 @@ fn after_line_end(text: &[u8]) -> Option<&[u8]>
 }
 
 /// Whether a byte is there, and is of a word.
-fn is_of_word(byte: Option<u8>) -> bool
+pub(crate) fn is_of_word(byte: Option<u8>) -> bool
     ensures { result ≡ is_of_word byte }
 {
     match byte {
@@ -279,20 +415,25 @@ fn find_mark(text: &[u8]) -> Option<usize>
 
 /// The number of the line in which a place stands, counted from 1.
 #[tactic(auto, unfolding(crate::specs::Texts::line_number))]
-fn line_number(text: &[u8], at: usize) -> u64
+pub(crate) fn line_number(text: &[u8], at: usize) -> u64
     ensures { result ≡ line_number text.now at }
 {
     let before = &text[..at.min(text.len())];
     memchr_iter(b'\n', before).count() as u64 + 1
 }
 
-/// The number of a line that hides a file, if any.
-pub fn hidden_line(text: &[u8]) -> Option<u64>
-    ensures none { result ≡ None → HidesNothing text.now }
-    ensures some { IfSome result (IsHiddenLine text.now) }
+/// The number of a line that hides a file, if any. Without one, the macros that the text includes by their names are noted.
+pub fn hidden_line(
+    alloc: Global,
+    included: &mut IndexSet<Vec<u8>, Seed>,
+    text: &[u8],
+) -> Result<Option<u64>, AllocError>
+    ensures none { IfOk result (λ n. n ≡ None → HidesNothing text.now) }
+    ensures some { IfOk result (λ n. IfSome n (IsHiddenLine text.now)) }
+    ensures noted { IfOk result (λ n. n ≡ None → (name : List ℕ) → is_in included.new name ≡ (is_in included.old name || includes text.now name)) }
 {
     match find_mark(text) {
-        Some(at) => Some(line_number(text, at)),
-        None => first_computed(text),
+        Some(at) => Ok(Some(line_number(text, at))),
+        None => first_computed(alloc, included, text),
     }
 }

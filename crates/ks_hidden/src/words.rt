@@ -168,7 +168,7 @@ fn first_text(words: &[Vec<u8>]) -> Option<&[u8]>
 }
 
 /// What a word that begins with the name of an option gives: `-ID` gives `D`, and `-I` the next word.
-fn option_value<'a>(name: &[u8], word: &'a [u8], next: &'a [Vec<u8>]) -> Option<&'a [u8]>
+pub(crate) fn option_value<'a>(name: &[u8], word: &'a [u8], next: &'a [Vec<u8>]) -> Option<&'a [u8]>
     ensures { option_map (λ v. v.now) result ≡ option_value (texts next.now) word.now name.now }
 {
     let value = behind(name, word)?;

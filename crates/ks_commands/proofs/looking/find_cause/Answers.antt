@@ -1,7 +1,7 @@
 use Rattle.ks_commands.proofs.Prelude.{◌∙◌, ◌⊎◌, err_from_is_err_and, inr, sym}
 use Rattle.ks_engine.specs.Refusals.{IsAborted}
 use Rattle.ks_engine.specs.Views.{old_of}
-use Rattle.ks_commands.specs.Looking.{FirstRead, IsFound, IsLooked, IsUnread, IsUnreadAmong, is_listed}
+use Rattle.ks_commands.specs.Looking.{FirstRead, IsFound, IsLooked, IsUnread, IsUnreadListed, is_listed}
 use Rattle.ks_commands.proofs.LookingLemmas.{auto_unread, file_unread, given_is, if_err, if_ok, same_listed}
 use Rattle.ks_commands.proofs.looking.find_cause.Goals as goal
 
@@ -57,4 +57,4 @@ returns-clause-refused g c = λ honest.
     if_err _ (λ e. IsAborted e ⊎ IsUnread c.args.dialect c.args.header c.args.alias.now files c.args.depfile.now c.args.command.now e) c.look_for_cause.result
     (λ e is.
     file_unread c.args.dialect c.args.header c.args.alias.now files c.args.depfile.now c.args.command.now read e (sym c.in_ok-word.ensures ∙ c.in_default.is)
-    (same_listed (λ look. IsAborted e ⊎ IsUnreadAmong look files read.listed e) _ (is_listed read.listed) c.in_ok-listed.ensures is)) found
+    (same_listed (λ look. IsAborted e ⊎ IsUnreadListed look files read.listed e) _ (is_listed read.listed) c.in_ok-listed.ensures is)) found

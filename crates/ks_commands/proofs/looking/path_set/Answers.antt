@@ -1,6 +1,7 @@
 use Rattle.ks_commands.proofs.Prelude.{ℕ, List, arith, common_steps, rules, sym}
 use Rattle.std.specs.Borrow.{Bor}
-use Rattle.ks_commands.proofs.LookingLemmas.{listed_from, mirrored, moved}
+use Rattle.ks_hidden.proofs.TextLemmas.{mirrored, moved}
+use Rattle.ks_commands.proofs.LookingLemmas.{listed_from}
 use Rattle.ks_commands.proofs.looking.path_set.Goals as goal
 
 pub loop-place-preserved : goal.loop-place-preserved

@@ -2068,7 +2068,7 @@ static Fault check_words(Bytes command)
     for (rest = command; is_compile && next_word(&rest, &word);) {
         number++;
         expected = after_word(expected, word);
-        if (expected == UNKNOWN)
+        if (expected == UNKNOWN || has_one(word, ONE_OF("__has_include", "__has_embed", "__DATE__", "__TIME__", "__TIMESTAMP__")))
             return fault("29 UnknownArgument word %" PRIu64, number);
     }
     return none;
@@ -2180,11 +2180,10 @@ static Fault check_macros(const Tree *tree, const Names *macros, Bytes depfile, 
     Bytes word, token, text;
     uint64_t number = 0;
     while (next_word(&command, &word)) {
-        Bytes next = command, value = starts(word, "-D") ? from(word, 2) : bytes_of("");
+        Bytes next = command, value = from(word, starts(word, "-D") ? 2 : word.length);
+        bool is_definition = starts(word, "-D") && (value.length > 0 || next_word(&next, &value));
         number++;
-        if (is_text(word, "-D"))
-            next_word(&next, &value);
-        if (value.length > 0 && has_name(macros, word_at(value, 0)))
+        if (is_definition && (word_at(value, 0).length == 0 || has_name(macros, word_at(value, 0))))
             return fault("29 UnknownArgument word %" PRIu64, number);
     }
     while (next_token(&depfile, &token)) {

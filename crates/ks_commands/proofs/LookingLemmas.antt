@@ -134,27 +134,6 @@ same_listed P look f same p = subst (λ h. P (with_listed look h)) (fun_ext same
 
 -- ---- macros
 
--- where there is no macro nothing defines one
-no_value : (f : List ℕ → Bool) → ((x : List ℕ) → f x ≡ false) → (o : Option (List ℕ)) → defines_one f o ≡ false
-no_value f none None = refl
-no_value f none (Some v) = none (front_word v)
-
-no_word : (f : List ℕ → Bool) → ((x : List ℕ) → f x ≡ false) → (n : ℕ) (words : List (List ℕ)) → defining_from f n words ≡ None
-no_word f none n [] = refl
-no_word f none n (w ∷ ws) = rw (no_value f none (option_value ws w (codes "-D"))) (no_word f none (n + 1) ws)
-
-none_in_words : (f : List ℕ → Bool) → ((x : List ℕ) → f x ≡ false) → (command : List ℕ) → defining_word f command ≡ None
-unfolding defining_word
-none_in_words f none command = no_word f none 1 (words_of command)
-
-none_in_text : (f : List ℕ → Bool) → ((x : List ℕ) → f x ≡ false) → (b : List ℕ) → DefinesNone f b
-unfolding may_define
-none_in_text f none b k is = grind (arith, common_steps, none (front_word (drop k b)), is)
-
-pub none_defined : (f : List ℕ → Bool) → ((x : List ℕ) → f x ≡ false) → (files : Files) (command : List ℕ) (listed : List (List ℕ × Role))
-    → IsDefinition f files command listed None
-none_defined f none files command listed = (none_in_words f none command, λ i p below at b is. none_in_text f none b)
-
 -- the macros by a set, and by the files that include them
 pub same_macros : (P : (List ℕ → Bool) → Type 0) (f h : List ℕ → Bool) → ((x : List ℕ) → f x ≡ h x) → P f → P h
 same_macros P f h same p = subst P (fun_ext same) p
@@ -186,7 +165,7 @@ pub found_of : (look : Look) (files : Files) (listed : List (List ℕ × Role)) 
     → (f : List ℕ → Bool) → ((x : List ℕ) → f x ≡ is_included look files listed x)
     → (h : Option Hidden) → IsDefinition f files look.command listed h → IsFound look files listed h
 found_of look files listed plain sourced f same None is =
-    ((plain, sourced), same_macros (λ m. IsDefinition m files look.command listed None) f (is_included look files listed) same is)
+    ((plain, sourced), inr (same_macros (λ m. IsDefinition m files look.command listed None) f (is_included look files listed) same is))
 found_of look files listed plain sourced f same (Some h) is =
     inr (inr ((plain, sourced), same_macros (λ m. IsDefinition m files look.command listed (Some h)) f (is_included look files listed) same is))
 

@@ -222,7 +222,8 @@ ArePlainWithSource look files listed = ArePlain look files listed × (has_source
 -- Nothing but names can matter to an object: so are its files, and nothing defines a macro that one of them includes by its name. Or
 -- this does, or the first file that isn't as it should be is the cause, or none is compiled, as where a header is precompiled.
 abbrev pub IsFound : Look → Files → List (List ℕ × Role) → Option Hidden → Type 0
-IsFound look files listed None = ArePlainWithSource look files listed × IsDefinition (is_included look files listed) files look.command listed None
+IsFound look files listed None = ArePlainWithSource look files listed
+    × (((name : List ℕ) → is_included look files listed name ≡ false) ⊎ IsDefinition (is_included look files listed) files look.command listed None)
 IsFound look files listed (Some h) =
     IsFirstCause look files listed h
     ⊎ ((ArePlain look files listed × (has_source look.header listed ≡ false)

@@ -79,18 +79,18 @@ has_known_front word =
     ∷ codes "-idirafter" ∷ codes "-imacros" ∷ codes "-include" ∷ codes "-pedantic" ∷ codes "-l" ∷ codes "-L" ∷ codes "-nostd" ∷ codes "-static" ∷ codes "-shared"
     ∷ codes "-stdlib=" ∷ codes "-std=" ∷ codes "--std=" ∷ codes "--param=" ∷ codes "--sysroot=" ∷ codes "--target=" ∷ codes "--gcc-toolchain=" ∷ []) word
 
--- or one that begins as such, and names a directory by another one, a precompiled header, or options for a part of the compiler
+-- or one that begins as such, and names a directory by that of the system (=), a precompiled header, or options for a part of the compiler
 unfoldable pub has_refused_front : List ℕ → Bool
 has_refused_front word =
     begins_with_one
     (codes "-I=" ∷ codes "-I$" ∷ codes "-isystem=" ∷ codes "-iquote=" ∷ codes "-idirafter=" ∷ codes "-include-pch" ∷ codes "-Wa," ∷ codes "-Wp," ∷ []) word
 
--- nothing follows the value of an option, which no file gives
+-- the value of an option has no comma and no @
 abbrev pub is_plain_value : Option (List ℕ) → Bool
 is_plain_value None = false
 is_plain_value (Some value) = not (has_one (codes "," ∷ codes "@" ∷ []) value)
 
--- options for the preprocessor and the assembler that are known: a dependency file, a macro of the compiler's own, and no directory
+-- options for the preprocessor and the assembler that are known: none defines a macro without an underscore, or names a directory
 unfoldable pub is_known_inside : List ℕ → Bool
 is_known_inside word =
     is_plain_value (behind (codes "-Wp,-MD,") word) || is_plain_value (behind (codes "-Wp,-MMD,") word) || is_plain_value (behind (codes "-Wp,-D_") word)
@@ -156,11 +156,19 @@ after_word Value word = argument_if (not (begins_with_one (codes "@" ∷ codes "
 after_word Language word = argument_if (not (ends_with nat_eq word (codes "-header")) && not (starts_with nat_eq word (codes "@")))
 after_word Inner word = argument_if (is_known_inner word)
 
+-- a word has a macro that is of the time of a compile, or looks for a file
+unfoldable pub has_macro : List ℕ → Bool
+has_macro word = has_one (codes "__has_include" ∷ codes "__has_embed" ∷ codes "__DATE__" ∷ codes "__TIME__" ∷ codes "__TIMESTAMP__" ∷ []) word
+
+-- Most words have no two underscores side by side.
+abbrev pub is_marked : List ℕ → Bool
+is_marked word = has word (codes "__") && has_macro word
+
 -- the number of the first word that isn't known, where they are counted from n on
 abbrev pub unknown_from : ℕ → Option Expected → List (List ℕ) → Option ℕ
 unknown_from n None words = Some n
 unknown_from n (Some expected) [] = None
-unknown_from n (Some expected) (word ∷ words) = unknown_from (n + 1) (after_word expected word) words
+unknown_from n (Some expected) (word ∷ words) = if is_marked word then Some (n + 1) else unknown_from (n + 1) (after_word expected word) words
 
 -- the number of the first word of a compile, which has -c, that isn't known; they are counted from 1 on
 abbrev pub unknown_word : List (List ℕ) → Option ℕ

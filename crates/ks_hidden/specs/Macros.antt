@@ -1,10 +1,10 @@
--- The macros that a text includes by their names, and what may define these: an option of the command, or a text that doesn't only ask.
-use Rattle.std.specs.Prelude.{◌≡◌, ◌+◌, ◌-◌, ◌&&◌, ℕ, Bool, true, false, not, List, [], ◌∷◌, Option, Some, None, bytes_eq, codes, drop, length, slice_get, take, if◌then◌else◌, Vec}
+-- The macros that a text includes by their names, and what may define these: an option -D of the command, or a text.
+use Rattle.std.specs.Prelude.{◌≡◌, ◌+◌, ◌-◌, ◌&&◌, ◌||◌, ℕ, Bool, true, false, not, List, [], ◌∷◌, Option, Some, None, bytes_eq, codes, drop, length, slice_get, take, if◌then◌else◌, Vec}
 use Rattle.std.specs.List.{list_any, suffix_len}
 use Rattle.std.specs.Char.{is_ascii_whitespace}
 use Rattle.indexmap.specs.IndexSet.{IndexSet, contains_by}
 use Rattle.ks_hidden.specs.Arguments.{ends_with_one}
-use Rattle.ks_hidden.specs.Texts.{front_word, included_macros, is_of_word}
+use Rattle.ks_hidden.specs.Texts.{front_word, included_macros, is_of_word, skip_blanks}
 use Rattle.ks_hidden.specs.Words.{option_value, words_of}
 
 -- a name is among these
@@ -26,7 +26,7 @@ includes text name = list_any (bytes_eq name) (included_macros text)
 abbrev pub trimmed : List ℕ → List ℕ
 trimmed text = take (length text - suffix_len is_ascii_whitespace text) text
 
--- Where one of these stands before the name of a macro, a text only asks whether that is defined, or includes it.
+-- Where one of these stands before the name of a macro, a text doesn't define that.
 abbrev pub questions : List (List ℕ)
 questions =
     codes "defined(" ∷ codes "defined (" ∷ codes "defined" ∷ codes "ifdef" ∷ codes "ifndef" ∷ codes "include" ∷ codes "include_next" ∷ codes "import" ∷ codes "embed"
@@ -48,9 +48,10 @@ DefinesNone is_macro text = (k : ℕ) → may_define is_macro text k ≡ true �
 
 -- ---- in a command
 
+-- What a -D defines is one of these macros. What begins otherwise than as a name, as with a comment, may be any.
 abbrev pub defines_one : (List ℕ → Bool) → Option (List ℕ) → Bool
 defines_one is_macro None = false
-defines_one is_macro (Some value) = is_macro (front_word value)
+defines_one is_macro (Some value) = not (is_of_word (slice_get (skip_blanks value) 0)) || is_macro (front_word (skip_blanks value))
 
 -- the number of the first word whose -D defines one of these macros, where they are counted from n on
 abbrev pub defining_from : (List ℕ → Bool) → ℕ → List (List ℕ) → Option ℕ

@@ -20,7 +20,7 @@ is_of_directive (Some b) = is_word_byte b || b == 46 || b == 36
 abbrev pub IsDirective : List ℕ → List ℕ → ℕ → Type 0
 IsDirective text name k = OccursAt text name k × (is_of_directive (slice_get text (k + length name)) ≡ false)
 
--- or what the assembler reads a file by. It takes these in either case.
+-- or what the assembler reads a file by, in small or capital letters
 abbrev pub IsDirectiveAt : List ℕ → ℕ → Type 0
 IsDirectiveAt text k =
     OccursAt text (codes "incbin") k ⊎ (IsDirective text (codes ".include") k ⊎ (OccursAt text (codes "INCBIN") k ⊎ IsDirective text (codes ".INCLUDE") k))
@@ -39,6 +39,14 @@ is_blank b = b == 32 || b == 9 || b == 11 || b == 12
 
 abbrev pub skip_blanks : List ℕ → List ℕ
 skip_blanks text = drop (prefix_len is_blank text) text
+
+-- what stands behind the mark by which a text may say that it is in UTF-8, and behind blanks
+abbrev pub skip_mark : Option (List ℕ) → List ℕ → List ℕ
+skip_mark None text = skip_blanks text
+skip_mark (Some rest) text = skip_blanks rest
+
+abbrev pub skip_front : List ℕ → List ℕ
+skip_front text = skip_mark (behind (239 ∷ 187 ∷ 191 ∷ []) text) text
 
 -- what follows the word of an include with which a text begins
 unfoldable pub after_include : List ℕ → Option (List ℕ)
@@ -77,7 +85,7 @@ directs_computed None = false
 directs_computed (Some rest) = is_computed rest
 
 unfoldable pub is_computed_line : List ℕ → Bool
-is_computed_line line = directs_computed (after_sign (skip_blanks line))
+is_computed_line line = directs_computed (after_sign (skip_front line))
 
 -- ---- includes of a macro by its name
 
@@ -90,7 +98,7 @@ abbrev pub begins_blank : List ℕ → Bool
 begins_blank [] = true
 begins_blank (b ∷ rest) = is_blank b || b == 13
 
--- or begins with a letter; with an underscore begin the macros that a compiler has of its own
+-- or begins with a letter; a compiler's own macros that name a file, as __FILE__, begin with an underscore
 abbrev pub begins_letter : List ℕ → Bool
 begins_letter [] = false
 begins_letter (b ∷ rest) = is_ascii_alphabetic b
@@ -108,14 +116,14 @@ abbrev pub macro_directed : Option (List ℕ) → Option (List ℕ)
 macro_directed None = None
 macro_directed (Some rest) = macro_behind (after_include (skip_blanks rest))
 
--- The macro that a line includes. Where nothing defines it, no compiler gets there.
+-- The macro that a line includes by its name. Where nothing defines it, a compiler passes over the line, since there it would be an error.
 unfoldable pub included_macro : List ℕ → Option (List ℕ)
-included_macro line = if is_computed_line line then macro_directed (after_sign (skip_blanks line)) else None
+included_macro line = if is_computed_line line then macro_directed (after_sign (skip_front line)) else None
 
 unfoldable pub included_macros : List ℕ → List (List ℕ)
 included_macros text = filter_map included_macro (lines text)
 
--- a line includes what a macro says, but not by its name
+-- a line includes what a macro says, otherwise than by one plain name
 abbrev pub is_hidden_include : List ℕ → Bool
 is_hidden_include line = is_computed_line line && is_none (included_macro line)
 
@@ -172,7 +180,7 @@ first_computed text = computed_from 1 (lines text)
 unfoldable pub line_number : List ℕ → ℕ → ℕ
 line_number text k = length (places (is_byte 10) (take k text)) + 1
 
--- a line has such a mark, or is the first that includes what a macro says, but not by its name
+-- a line has such a mark, or is the first that includes what a macro says, otherwise than by one plain name
 abbrev pub IsHiddenLine : List ℕ → ℕ → Type 0
 IsHiddenLine text n = ((k : ℕ) × IsMarkAt text k × (n ≡ line_number text k)) ⊎ (first_computed text ≡ Some n)
 

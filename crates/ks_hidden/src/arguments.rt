@@ -2,7 +2,7 @@
 //!
 //! In doubt an argument isn't known.
 ghost use Rattle.std.specs.Prelude.{◌≡◌, Some, IfOk, codes, map, option_map};
-ghost use Rattle.ks_hidden.specs.Arguments.{after_argument, after_front, after_word, argument_if, begins_with_one, ends_with_one, has, has_known_front, has_one, has_refused_front, has_tool_value, is_known_file, is_known_flag, is_known_inner, is_known_inside, is_known_language, is_known_machine, is_known_option, is_one_of, is_other_option, is_plain_option, is_plain_value, is_tool, is_tool_option, takes_inner, takes_value, unknown_argument, unknown_from};
+ghost use Rattle.ks_hidden.specs.Arguments.{after_argument, after_front, after_word, argument_if, begins_with_one, ends_with_one, has, has_known_front, has_macro, has_one, has_refused_front, has_tool_value, is_known_file, is_known_flag, is_known_inner, is_known_inside, is_known_language, is_known_machine, is_known_option, is_marked, is_one_of, is_other_option, is_plain_option, is_plain_value, is_tool, is_tool_option, takes_inner, takes_value, unknown_argument, unknown_from};
 ghost use Rattle.ks_hidden.specs.declared.arguments.Expected.TheVariants.{Front};
 ghost use Rattle.ks_hidden.specs.Words.{texts};
 
@@ -442,6 +442,30 @@ fn are_compile(words: &[Vec<u8>]) -> bool
     false
 }
 
+/// Whether a word has a macro that is of the time of a compile, or looks for a file.
+#[tactic(auto, unfolding(crate::specs::Arguments::has_macro))]
+fn has_macro(word: &[u8]) -> bool
+    ensures { result ≡ has_macro word.now }
+{
+    has_one(
+        &[
+            b"__has_include",
+            b"__has_embed",
+            b"__DATE__",
+            b"__TIME__",
+            b"__TIMESTAMP__",
+        ],
+        word,
+    )
+}
+
+/// The same. Most words have no two underscores side by side, and are passed at once.
+fn is_marked(word: &[u8]) -> bool
+    ensures { result ≡ is_marked word.now }
+{
+    has(word, b"__") && has_macro(word)
+}
+
 /// The number of the first word that isn't known, from 1.
 fn first_unknown(words: &[Vec<u8>]) -> Option<u64>
     ensures { result ≡ unknown_from 0 (Some Front) (texts words.now) }
@@ -450,6 +474,9 @@ fn first_unknown(words: &[Vec<u8>]) -> Option<u64>
     let mut number: u64 = 0;
     for word in words {
         number += 1;
+        if is_marked(word) {
+            return Some(number);
+        }
         match expected.after(word) {
             Some(next) => expected = next,
             None => return Some(number),

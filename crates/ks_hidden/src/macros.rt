@@ -1,11 +1,11 @@
 //! What may define a macro that a text includes by its name. Where nothing does, the compiler has passed over that include.
-ghost use Rattle.std.specs.Prelude.{◌≡◌, ◌<◌, ℕ, IfOk, IfSome, None, codes, length, true};
+ghost use Rattle.std.specs.Prelude.{◌≡◌, ◌<◌, ◌||◌, ℕ, IfOk, IfSome, None, codes, length, not, slice_get, true};
 ghost use Rattle.ks_hidden.specs.Macros.{DefinesNone, begins_word_at, defines_one, defining_from, defining_word, is_asked, is_in, may_define, trimmed};
-ghost use Rattle.ks_hidden.specs.Texts.{line_number};
+ghost use Rattle.ks_hidden.specs.Texts.{front_word, is_of_word, line_number};
 ghost use Rattle.ks_hidden.specs.Words.{option_value, texts};
 
 use crate::arguments::ends_with_one;
-use crate::texts::{front_word, is_of_word, line_number};
+use crate::texts::{front_word, is_of_word, line_number, skip_blanks};
 use crate::words::{option_value, words};
 use indexmap::IndexSet;
 use ks_symbols::Seed;
@@ -70,12 +70,19 @@ pub fn defining_line(macros: &IndexSet<Vec<u8>, Seed>, text: &[u8]) -> Option<u6
     None
 }
 
+/// Whether a text begins with the name of one of these macros, or otherwise than as a name.
+fn may_name_one(macros: &IndexSet<Vec<u8>, Seed>, value: &[u8]) -> bool
+    ensures { result ≡ (not (is_of_word (slice_get value.now 0)) || is_in macros.now (front_word value.now)) }
+{
+    !is_of_word(value.first().copied()) || macros.contains(front_word(value))
+}
+
 /// Whether the option `-D` of a word defines one of these macros.
 fn defines_one(macros: &IndexSet<Vec<u8>, Seed>, word: &[u8], next: &[Vec<u8>]) -> bool
     ensures { result ≡ defines_one (is_in macros.now) (option_value (texts next.now) word.now (codes "-D")) }
 {
     match option_value(b"-D", word, next) {
-        Some(value) => macros.contains(front_word(value)),
+        Some(value) => may_name_one(macros, skip_blanks(value)),
         None => false,
     }
 }

@@ -4,7 +4,7 @@
 ghost use Rattle.std.specs.Prelude.{◌≡◌, ◌<◌, ◌≤◌, ◌||◌, ℕ, IfOk, IfSome, List, None, OnOk, drop, length, option_map, slice_get, true};
 ghost use Rattle.memchr.specs.Find.{OccursAt};
 ghost use Rattle.ks_hidden.specs.Macros.{includes, is_in, is_name};
-ghost use Rattle.ks_hidden.specs.Texts.{HidesNothing, IsDirective, IsDirectiveAt, IsHiddenLine, IsMacroAt, IsMarkAt, after_include, after_line_end, after_sign, begins_blank, begins_joined, begins_letter, begins_other, ends_comment, first_computed, follows_computed, front_word, included_macro, is_blank, is_computed, is_computed_line, is_hidden_include, is_joint, is_of_directive, is_of_word, is_of_word_or_joins, joins_word, line_number, macro_behind, macro_directed, macro_name, skip_blanks};
+ghost use Rattle.ks_hidden.specs.Texts.{HidesNothing, IsDirective, IsDirectiveAt, IsHiddenLine, IsMacroAt, IsMarkAt, after_include, after_line_end, after_sign, begins_blank, begins_joined, begins_letter, begins_other, ends_comment, first_computed, follows_computed, front_word, included_macro, is_blank, is_computed, is_computed_line, is_hidden_include, is_joint, is_of_directive, is_of_word, is_of_word_or_joins, joins_word, line_number, macro_behind, macro_directed, macro_name, skip_blanks, skip_front};
 
 use crate::words::behind;
 use bstr::ByteSlice;
@@ -20,7 +20,7 @@ fn is_blank(byte: u8) -> bool
 }
 
 /// A text from its first byte on that is no blank.
-fn skip_blanks(text: &[u8]) -> &[u8]
+pub(crate) fn skip_blanks(text: &[u8]) -> &[u8]
     ensures { result.now ≡ skip_blanks text.now }
 {
     let mut end = 0;
@@ -28,6 +28,16 @@ fn skip_blanks(text: &[u8]) -> &[u8]
         end += 1;
     }
     &text[end..]
+}
+
+/// A text from its first byte on that is no blank, behind the mark by which it may say that it is in UTF-8.
+fn skip_front(text: &[u8]) -> &[u8]
+    ensures { result.now ≡ skip_front text.now }
+{
+    match behind(b"\xEF\xBB\xBF", text) {
+        Some(rest) => skip_blanks(rest),
+        None => skip_blanks(text),
+    }
 }
 
 /// The first place of a word.
@@ -211,7 +221,7 @@ fn after_sign(text: &[u8]) -> Option<&[u8]>
 fn is_computed_line(line: &[u8]) -> bool
     ensures { result ≡ is_computed_line line.now }
 {
-    match after_sign(skip_blanks(line)) {
+    match after_sign(skip_front(line)) {
         Some(rest) => is_computed(rest),
         None => false,
     }
@@ -277,7 +287,7 @@ fn macro_behind(rest: &[u8]) -> Option<&[u8]>
 fn included_macro(line: &[u8]) -> Option<&[u8]>
     ensures { is_computed_line line.now ≡ true → option_map (λ t. t.now) result ≡ included_macro line.now }
 {
-    let rest = after_sign(skip_blanks(line))?;
+    let rest = after_sign(skip_front(line))?;
     let rest = after_include(skip_blanks(rest))?;
     macro_behind(rest)
 }

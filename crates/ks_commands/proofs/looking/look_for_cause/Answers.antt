@@ -1,9 +1,9 @@
-use Rattle.ks_commands.proofs.Prelude.{List, ℕ, ◌≡◌, ◌∙◌, ◌||◌, ap, rules, sym, true}
+use Rattle.ks_commands.proofs.Prelude.{List, ℕ, ◌≡◌, ◌∙◌, ◌||◌, ap, inl, rules, sym, true}
 use Rattle.std.proofs.lemmas.Bool.{false≢true}
 use Rattle.ks_commands.specs.Looking.{IsFound, IsUnreadListed, has_source, is_included, looked_by}
 use Rattle.ks_engine.specs.Refusals.{IsAborted}
 use Rattle.std.specs.Prelude.{◌⊎◌}
-use Rattle.ks_commands.proofs.LookingLemmas.{found_of, has_some, if_err, if_ok, in_empty, in_none, none_defined, unread_of}
+use Rattle.ks_commands.proofs.LookingLemmas.{found_of, has_some, if_err, if_ok, in_empty, in_none, unread_of}
 use Rattle.ks_commands.proofs.looking.look_for_cause.Goals as goal
 
 pub returns-then-is_empty-clause-found : goal.returns-then-is_empty-clause-found
@@ -16,7 +16,7 @@ returns-then-is_empty-clause-found g c = λ honest.
     let before = in_none c.with_hasher-included.result c.with_hasher-included.ensures.empty in
     let same = λ (x : List ℕ). c.in_ok-hidden.ensures.noted honest c.in_default.is x ∙ ap (λ b. b || is_included look files listed x) (before x) in
     let none = λ (x : List ℕ). sym (same x) ∙ in_empty c.look_at_all.new.included (c.is_empty.ensures.0 c.if-is_empty.true) x in
-    ((plain, sourced), none_defined (is_included look files listed) none files c.args.look.now.command.now listed)
+    ((plain, sourced), inl none)
 
 pub returns-clause-found : goal.returns-clause-found
 returns-clause-found g c = λ honest.

@@ -14,9 +14,9 @@ use Rattle.ks_hidden.specs.Candidates.{candidates}
 use Rattle.indexmap.specs.IndexSet.{IndexSet, index_set_len}
 use Rattle.std.proofs.Common.{Vec}
 use Rattle.ks_output.proofs.Prelude.{bytes_decides}
-use Rattle.ks_hidden.specs.Macros.{DefinesNone, defines_one, defining_from, defining_word, is_in, may_define}
-use Rattle.ks_hidden.specs.Texts.{HidesNothing, front_word}
-use Rattle.ks_hidden.specs.Words.{option_value, words_of}
+use Rattle.ks_hidden.specs.Macros.{is_in}
+use Rattle.ks_hidden.specs.Texts.{HiddenLine}
+pub use Rattle.ks_hidden.proofs.TextLemmas.{if_ok}
 use Rattle.ks_hidden.specs.declared.hidden.Hidden.{Hidden}
 use Rattle.ks_hidden.specs.declared.hidden.Hidden.TheVariants as hidden
 use Rattle.ks_symbols.specs.Refusals.{IsRefusal}
@@ -49,10 +49,6 @@ one_more P xs n x there holds before i y below at =
         → (i : ℕ) (y : X) → i ≡ n → slice_get xs i ≡ Some y → P i y
     at_place P xs n x there holds i y place at = rw (place, same x y (sym at ∙ ap (slice_get xs) place ∙ there)) holds
 
-pub if_ok : {A E : Type 0} (P Q : A → Type 0) (r : Result A E) → ((x : A) → P x → Q x) → IfOk r P → IfOk r Q
-if_ok P Q (Ok x) f p = f x p
-if_ok P Q (Err e) f p = p
-
 pub all_ok : {A E : Type 0} (Q : A → Type 0) (r : Result A E) → ((x : A) → Q x) → IfOk r Q
 all_ok Q (Ok x) f = f x
 all_ok Q (Err e) f = tt
@@ -69,7 +65,7 @@ pub given_is : (files : Files) (path b : List ℕ) → given files path ≡ Ok b
 given_is files path b is = grind (arith, common_steps, is, (there_is path (content files path) b))
 
 -- a text that hides nothing, by where its precompiled headers are sought
-pub input_of_sought : (look : Look) (files : Files) (path b : List ℕ) (paths : List (List ℕ)) → content files path ≡ Some b → HidesNothing b
+pub input_of_sought : (look : Look) (files : Files) (path b : List ℕ) (paths : List (List ℕ)) → content files path ≡ Some b → HiddenLine b None
     → is_header_name path ≡ false → paths ≡ candidates look.is_listed path b look.command → (found : Option Hidden) → IsSought files path paths found
     → IsInput look files path found
 input_of_sought look files path b paths at hides named are None sought = (b, at, (hides, λ _. rw (sym are) sought))
@@ -143,8 +139,13 @@ pub none_left : (look : Look) (files : Files) (x : List ℕ) (listed : List (Lis
 none_left look files x listed n past = ap (λ ps. is_included look files ps x) (drop_of_length-le listed past)
 
 -- a set without a key has none, and another one some
-pub in_none : {S Y : Type 0} (s : IndexSet (Vec ℕ Y) S) → s.keys ≡ [] → (x : List ℕ) → is_in s x ≡ false
+in_none : {S Y : Type 0} (s : IndexSet (Vec ℕ Y) S) → s.keys ≡ [] → (x : List ℕ) → is_in s x ≡ false
 in_none s empty x = ap (list_any (λ v. bytes_eq x v.items)) empty
+
+-- what was noted in such a set is all that it has
+pub noted_alone : {S Y : Type 0} (old new : IndexSet (Vec ℕ Y) S) (f : List ℕ → Bool) → old.keys ≡ []
+    → ((x : List ℕ) → is_in new x ≡ (is_in old x || f x)) → (x : List ℕ) → is_in new x ≡ f x
+noted_alone old new f empty noted x = noted x ∙ ap (λ b. b || f x) (in_none old empty x)
 
 no_keys : {X : Type 0} (ks : List X) → length ks ≡ 0 → ks ≡ []
 no_keys [] none = refl

@@ -8,9 +8,9 @@ use Rattle.ks_output.specs.OldConfig.{Texts}
 use Rattle.ks_hidden.specs.HeaderLines.{foreign_line, lacks}
 use Rattle.ks_hidden.specs.Arguments.{unknown_argument}
 use Rattle.ks_hidden.specs.Candidates.{candidates}
-use Rattle.ks_hidden.specs.Macros.{DefinesNone, defining_word, includes, may_define}
+use Rattle.ks_hidden.specs.Macros.{DefiningLine, defining_word, includes}
 use Rattle.ks_hidden.specs.Precompiled.{is_among}
-use Rattle.ks_hidden.specs.Texts.{HidesNothing, IsHiddenLine, line_number}
+use Rattle.ks_hidden.specs.Texts.{HiddenLine}
 use Rattle.ks_hidden.specs.declared.hidden.Hidden.{Hidden}
 use Rattle.ks_hidden.specs.declared.hidden.Hidden.TheVariants as hidden
 use Rattle.ks_fixdep.specs.DependencyFile.{is_header, prerequisites_without, refusal_without}
@@ -99,13 +99,13 @@ IsSought files source paths (Some h) =
 
 -- A text hides nothing, and where it is a source no compiler finds a precompiled header for what it begins with.
 abbrev pub IsPlainText : Look → Files → List ℕ → List ℕ → Type 0
-IsPlainText look files path b = HidesNothing b × (is_header_name path ≡ false → AreAbsent files (candidates look.is_listed path b look.command))
+IsPlainText look files path b = HiddenLine b None × (is_header_name path ≡ false → AreAbsent files (candidates look.is_listed path b look.command))
 
 -- or this is why not
 abbrev pub IsTextCause : Look → Files → List ℕ → List ℕ → Hidden → Type 0
-IsTextCause look files path b (hidden.Input p n) = (p ≡ path) × IsHiddenLine b n
+IsTextCause look files path b (hidden.Input p n) = (p ≡ path) × HiddenLine b (Some n)
 IsTextCause look files path b h =
-    HidesNothing b × (is_header_name path ≡ false) × IsSought files path (candidates look.is_listed path b look.command) (Some h)
+    HiddenLine b None × (is_header_name path ≡ false) × IsSought files path (candidates look.is_listed path b look.command) (Some h)
 
 abbrev pub IsInput : Look → Files → List ℕ → Option Hidden → Type 0
 IsInput look files path None = (b : List ℕ) × (content files path ≡ Some b) × IsPlainText look files path b
@@ -192,11 +192,7 @@ is_included look files listed name = list_any (λ p. file_includes look files p.
 -- the first n of all the files define none of these macros
 abbrev pub DefineNoneBefore : (List ℕ → Bool) → Files → List (List ℕ × Role) → ℕ → Type 0
 DefineNoneBefore is_macro files listed n =
-    (i : ℕ) (p : List ℕ × Role) → i < n → slice_get listed i ≡ Some p → (b : List ℕ) → content files p.0 ≡ Some b → DefinesNone is_macro b
-
--- a line of a text may define one
-abbrev pub DefinesAt : (List ℕ → Bool) → List ℕ → ℕ → Type 0
-DefinesAt is_macro b n = (k : ℕ) × (may_define is_macro b k ≡ true) × (n ≡ line_number b k)
+    (i : ℕ) (p : List ℕ × Role) → i < n → slice_get listed i ≡ Some p → (b : List ℕ) → content files p.0 ≡ Some b → DefiningLine is_macro b None
 
 -- Nothing defines one of these macros; or a word of the command does, or a line of the first file in which they may be defined.
 abbrev pub IsDefinition : (List ℕ → Bool) → Files → List ℕ → List (List ℕ × Role) → Option Hidden → Type 0
@@ -205,7 +201,7 @@ IsDefinition is_macro files command listed None =
 IsDefinition is_macro files command listed (Some (hidden.Argument n)) = defining_word is_macro command ≡ Some n
 IsDefinition is_macro files command listed (Some (hidden.Input path n)) = (defining_word is_macro command ≡ None)
     × (i : ℕ) × (p : List ℕ × Role) × (slice_get listed i ≡ Some p) × DefineNoneBefore is_macro files listed i × (path ≡ p.0)
-    × (b : List ℕ) × (content files p.0 ≡ Some b) × DefinesAt is_macro b n
+    × (b : List ℕ) × (content files p.0 ≡ Some b) × DefiningLine is_macro b (Some n)
 IsDefinition is_macro files command listed (Some h) = ⊥
 
 -- or the first file in which they may be defined can't be read

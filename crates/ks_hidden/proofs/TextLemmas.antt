@@ -1,9 +1,9 @@
 -- What a search of a text says, and what a set of names holds.
 use native.Mathlib.Omega.{arith}
-use Rattle.std.proofs.Common.{◌≡◌, ◌∙◌, ◌+◌, ◌-◌, ◌≤◌, ◌<◌, ◌==◌, ℕ, suc, zero, Bool, true, false, cond, List, [], ◌∷◌, ◌++◌, ◌||◌, codes, None, Some, inl, inr, length, take, drop, refl, sym, ap, subst}
+use Rattle.std.proofs.Common.{◌≡◌, ◌∙◌, ◌+◌, ◌-◌, ◌≤◌, ◌<◌, ◌==◌, ℕ, suc, zero, Bool, true, false, cond, List, [], ◌∷◌, ◌++◌, ◌||◌, ◌⊎◌, min, codes, None, Some, inl, inr, length, take, drop, refl, sym, ap, subst}
 use Rattle.std.proofs.lemmas.Bool.{cases_lt, false≢true}
 use Rattle.std.proofs.lemmas.Option.{slice_get_cases}
-use Rattle.std.proofs.lemmas.List.{get_or-drop, length-drop}
+use Rattle.std.proofs.lemmas.List.{get_or-drop, get_or-take, length-drop}
 use Rattle.std.proofs.lemmas.Grind.{common_steps, get_or_default_zero}
 use Rattle.std.proofs.lemmas.Slice.Eq.{bytes_eq-Decides}
 use Rattle.std.specs.List.{Contains, filter_map, list_any}
@@ -11,17 +11,120 @@ use Rattle.std.proofs.lemmas.List.Folds.{list_any-append}
 use Rattle.indexmap.specs.IndexSet.{insert_key}
 use Rattle.std.proofs.Common.{Vec}
 use Rattle.ks_output.proofs.Prelude.{bytes_decides, or_cases}
-use Rattle.std.specs.Prelude.{slice_index, Option, Result, Ok, Err, IfOk, IfSome, bytes_eq}
-use Rattle.memchr.specs.Find.{FindsNeedle, OccursAt, is_byte2, places, places_from}
+use Rattle.std.specs.Prelude.{slice_index, ⊤, Option, Result, Ok, Err, IfOk, IfSome, bytes_eq}
+use Rattle.memchr.specs.Find.{FindsNeedle, OccursAt, is_byte, is_byte2, places, places_from}
 use Rattle.ks_hidden.specs.Macros.{is_name, may_define}
-use Rattle.ks_hidden.specs.Texts.{IsMacroAt, included_macro, is_joint, is_joint_of}
+use Rattle.ks_hidden.specs.Texts.{HasLine, HiddenLine, IsLeast, IsMacroAt, IsMarkAt, first_computed, included_macro, is_joint, is_joint_of, is_stray, is_stray_of, lesser, line_number}
 
-pub absent : (text needle : List ℕ) → FindsNeedle text needle 0 None → (k : ℕ) → OccursAt text needle k → ⊥
-absent text needle none k there = none k (omega arith) (omega (arith, there.fits)) there
+-- ---- the least of some numbers
 
-pub first_of : (text needle : List ℕ) (r : Option ℕ) → FindsNeedle text needle 0 r → IfSome r (λ i. (k : ℕ) → k < i → OccursAt text needle k → ⊥)
-first_of text needle None none = tt
-first_of text needle (Some i) first = λ k below at. first.0.before k (omega arith) below at
+least_at : (holds : ℕ → Type 0) (l n : ℕ) → l ≡ n → IsLeast holds (Some n) → IsLeast holds (Some l)
+least_at holds l n same least = rw same least
+
+-- that of one kind or of another is the lesser of both
+least_of_either : (P Q : ℕ → Type 0) (r s : Option ℕ) → IsLeast P r → IsLeast Q s → IsLeast (λ k. P k ⊎ Q k) (lesser r s)
+least_of_either P Q None None none neither = λ k is. elim is [
+  | inl one ↦ none k one
+  | inr other ↦ neither k other
+]
+least_of_either P Q None (Some m) none (there, before) = (inr there, λ k below is. elim is [
+  | inl one ↦ none k one
+  | inr other ↦ before k below other
+])
+least_of_either P Q (Some n) None (here, before) none = (inl here, λ k below is. elim is [
+  | inl one ↦ before k below one
+  | inr other ↦ none k other
+])
+least_of_either P Q (Some n) (Some m) (here, before) (there, others) =
+    elim (cases_lt n m) [
+      | inl lower ↦
+          least_at (λ k. P k ⊎ Q k) (min n m) n (omega (arith, lower)) (inl here, λ k below is. elim is [
+            | inl one ↦ before k below one
+            | inr other ↦ others k (omega (arith, below, lower)) other
+          ])
+      | inr reaches ↦
+          least_at (λ k. P k ⊎ Q k) (min n m) m (omega (arith, reaches)) (inr there, λ k below is. elim is [
+            | inl one ↦ before k (omega (arith, below, reaches)) one
+            | inr other ↦ others k below other
+          ])
+    ]
+
+pub least_of_both : (P Q : ℕ → Type 0) (r s l : Option ℕ) → l ≡ lesser r s → IsLeast P r → IsLeast Q s → IsLeast (λ k. P k ⊎ Q k) l
+least_of_both P Q r s l same one other = rw same (least_of_either P Q r s one other)
+
+-- the first occurrence of a word
+pub first_found : (text needle : List ℕ) (r : Option ℕ) → FindsNeedle text needle 0 r → IsLeast (OccursAt text needle) r
+first_found text needle None none = λ k there. none k (omega arith) (omega (arith, there.fits)) there
+first_found text needle (Some i) (first, there) = (there, λ k below at. first.before k (omega arith) below at)
+
+-- ---- lines
+
+reads_alike : (test : ℕ → Bool) (a b : List ℕ) (i n : ℕ) → ((j : ℕ) → j < i + n → slice_index a j ≡ slice_index b j)
+    → places_from test a i n ≡ places_from test b i n
+unfolding places_from
+reads_alike test a b i zero alike = refl
+reads_alike test a b i (suc n) alike =
+    let later : places_from test a (i + 1) n ≡ places_from test b (i + 1) n = reads_alike test a b (i + 1) n (λ j below. alike j (omega (arith, below))) in
+    let here : slice_index a i ≡ slice_index b i = alike i (omega arith) in
+    rw (here, later) refl
+
+head_grows : (b : Bool) (i : ℕ) (xs ys : List ℕ) → length xs ≤ length ys → length (cond b (i ∷ xs) xs) ≤ length (cond b (i ∷ ys) ys)
+head_grows true i xs ys grows = omega (arith, grows)
+head_grows false i xs ys grows = grows
+
+more_places : (test : ℕ → Bool) (hay : List ℕ) (i n m : ℕ) → n ≤ m → length (places_from test hay i n) ≤ length (places_from test hay i m)
+unfolding places_from
+more_places test hay i zero m more = omega arith
+more_places test hay i (suc n) zero more = absurd (omega (arith, more))
+more_places test hay i (suc n) (suc m) more =
+    head_grows (test (slice_index hay i)) i (places_from test hay (i + 1) n) (places_from test hay (i + 1) m) (more_places test hay (i + 1) n m (omega (arith, more)))
+
+places_of_part : (test : ℕ → Bool) (text : List ℕ) (k : ℕ) → places test (take k text) ≡ places_from test text 0 (length (take k text))
+places_of_part test text k =
+    let all : length (take k text) - 0 ≡ length (take k text) = omega arith in
+    let most : length (take k text) ≤ k = grind (arith, common_steps) in
+    rw all (reads_alike test (take k text) text 0 (length (take k text)) (λ j below. get_or-take k text j 0 (omega (arith, below, most))))
+
+pub line_grows : (text : List ℕ) (k j : ℕ) → k ≤ j → line_number text k ≤ line_number text j
+unfolding line_number
+line_grows text k j more =
+    let part : length (take k text) ≤ length (take j text) = grind (arith, common_steps, more) in
+    let first = places_of_part (is_byte 10) text k in
+    let second = places_of_part (is_byte 10) text j in
+    let fewer = more_places (is_byte 10) text 0 (length (take k text)) (length (take j text)) part in
+    rw (first, second) (omega (arith, fewer))
+
+none_in_line : (text : List ℕ) (holds : ℕ → Type 0) → IsLeast holds None → (n : ℕ) → HasLine text holds n → ⊥
+none_in_line text holds none n (k, there, is) = none k there
+
+none_before : (text : List ℕ) (holds : ℕ → Type 0) (k : ℕ) → ((j : ℕ) → j < k → holds j → ⊥) → (n : ℕ) → n < line_number text k → HasLine text holds n → ⊥
+none_before text holds k before n below (j, there, is) =
+    elim (cases_lt j k) [
+      | inl lower ↦ before j lower there
+      | inr reaches ↦ absurd (omega (arith, below, is, line_grows text k j reaches))
+    ]
+
+-- the first line with such a place is that of the first place
+pub no_line : (text : List ℕ) (holds : ℕ → Type 0) → IsLeast holds None → IsLeast (HasLine text holds) None
+no_line text holds none = none_in_line text holds none
+
+pub first_line : (text : List ℕ) (holds : ℕ → Type 0) (k : ℕ) → IsLeast holds (Some k) → IsLeast (HasLine text holds) (Some (line_number text k))
+first_line text holds k (here, before) = ((k, here, refl), none_before text holds k before)
+
+-- what there is once is the least
+only_one : (r s : Option ℕ) → r ≡ s → IsLeast (λ n. r ≡ Some n) s
+only_one None None same = λ n is. absurd (grind (arith, common_steps, is))
+only_one (Some n) (Some m) same = (same, λ k below is. absurd (grind (arith, common_steps, is, same, below)))
+only_one None (Some m) same = absurd (grind (arith, common_steps, same))
+only_one (Some n) None same = absurd (grind (arith, common_steps, same))
+
+-- the first line that hides a file, by the first mark and the first include
+pub hidden_by_both : (text : List ℕ) (mark include l : Option ℕ) → l ≡ lesser mark include → IsLeast (HasLine text (IsMarkAt text)) mark
+    → include ≡ first_computed text → HiddenLine text l
+hidden_by_both text mark include l same marked computed =
+    least_of_both (HasLine text (IsMarkAt text)) (λ n. first_computed text ≡ Some n) mark include l same marked (only_one (first_computed text) include (sym computed))
+
+-- ---- words
 
 -- where a word stands that begins with two underscores, these stand
 underscores_at : (text rest : List ℕ) (k j : ℕ) → OccursAt text (95 ∷ 95 ∷ rest) k → j < 2 → slice_index text (k + j) ≡ slice_index (95 ∷ 95 ∷ []) j
@@ -32,7 +135,7 @@ underscores_at text rest k (suc (suc j)) at within = absurd (omega (arith, withi
 underscores : (text rest : List ℕ) (k : ℕ) → OccursAt text (95 ∷ 95 ∷ rest) k → OccursAt text (95 ∷ 95 ∷ []) k
 underscores text rest k at = record { fits = omega (arith, at.fits); reads = λ j within. underscores_at text rest k j at within }
 
-pub no_macro : (text : List ℕ) → ((k : ℕ) → OccursAt text (codes "__") k → ⊥) → (k : ℕ) → IsMacroAt text k → ⊥
+pub no_macro : (text : List ℕ) → IsLeast (OccursAt text (codes "__")) None → IsLeast (IsMacroAt text) None
 no_macro text none k (inl at) = none k (underscores text _ k at)
 no_macro text none k (inr (inl at)) = none k (underscores text _ k at)
 no_macro text none k (inr (inr (inl at))) = none k (underscores text _ k at)
@@ -56,7 +159,7 @@ earlier text needle n k from at = record {
       get_or-drop n text (k - n + j) 0 ∙ ap (λ p. slice_index text p) place ∙ at.reads j below;
 }
 
--- ---- joints
+-- ---- places of bytes
 
 pub head_contained : (x : ℕ) (xs : List ℕ) → Contains (x ∷ xs) x
 head_contained x xs = (0, omega arith, refl)
@@ -91,6 +194,63 @@ contained test hay k within is =
     let all : length hay - 0 ≡ length hay = omega arith in
     rw all (contained_from test hay 0 (length hay) k (omega arith) (omega (arith, within)) is)
 
+-- each is less than those that follow
+abbrev pub Rises : List ℕ → Type 0
+Rises [] = ⊤
+Rises (x ∷ xs) = ((k : ℕ) → Contains xs k → x < k) × Rises xs
+
+in_tail : (x : ℕ) (xs : List ℕ) (k : ℕ) → Contains (x ∷ xs) k → (x ≡ k) ⊎ Contains xs k
+in_tail x xs k (zero, within, is) = inl is
+in_tail x xs k (suc i, within, is) = inr (i, omega (arith, within), is)
+
+pub head_least : (x : ℕ) (xs : List ℕ) → Rises (x ∷ xs) → (k : ℕ) → k < x → Contains (x ∷ xs) k → ⊥
+head_least x xs rises k below h =
+    elim (in_tail x xs k h) [
+      | inl same ↦ omega (arith, same, below)
+      | inr later ↦ omega (arith, rises.0 k later, below)
+    ]
+
+-- what is none of them is among the others
+pub others_left : (x : ℕ) (xs : List ℕ) (k : ℕ) → (x ≡ k → ⊥) → Contains (x ∷ xs) k → Contains xs k
+others_left x xs k other h =
+    elim (in_tail x xs k h) [
+      | inl same ↦ absurd (other same)
+      | inr later ↦ later
+    ]
+
+above_head : (b : Bool) (i : ℕ) (xs : List ℕ) → ((k : ℕ) → Contains xs k → i < k) → (k : ℕ) → Contains (cond b (i ∷ xs) xs) k → i ≤ k
+above_head true i xs above k h =
+    elim (in_tail i xs k h) [
+      | inl same ↦ omega (arith, same)
+      | inr later ↦ omega (arith, above k later)
+    ]
+above_head false i xs above k h = omega (arith, above k h)
+
+nothing_in_none : (k : ℕ) → Contains {X = ℕ} [] k → ⊥
+nothing_in_none k (i, within, is) = omega (arith, within)
+
+above : (test : ℕ → Bool) (hay : List ℕ) (i n k : ℕ) → Contains (places_from test hay i n) k → i ≤ k
+unfolding places_from
+above test hay i zero k h = absurd (nothing_in_none k h)
+above test hay i (suc n) k h =
+    above_head (test (slice_index hay i)) i (places_from test hay (i + 1) n) (λ j later. omega (arith, above test hay (i + 1) n j later)) k h
+
+rises_with : (b : Bool) (i : ℕ) (xs : List ℕ) → ((k : ℕ) → Contains xs k → i < k) → Rises xs → Rises (cond b (i ∷ xs) xs)
+rises_with true i xs above rises = (above, rises)
+rises_with false i xs above rises = rises
+
+rising_from : (test : ℕ → Bool) (hay : List ℕ) (i n : ℕ) → Rises (places_from test hay i n)
+unfolding places_from
+rising_from test hay i zero = tt
+rising_from test hay i (suc n) =
+    rises_with (test (slice_index hay i)) i (places_from test hay (i + 1) n) (λ k later. omega (arith, above test hay (i + 1) n k later))
+    (rising_from test hay (i + 1) n)
+
+pub rising : (test : ℕ → Bool) (hay : List ℕ) → Rises (places test hay)
+rising test hay = rising_from test hay 0 (length hay - 0)
+
+-- ---- joints and stray bytes
+
 -- a joint is at a backslash or a slash
 joint_byte : (before rest : List ℕ) (b : ℕ) (back slash : Bool) → (b == 92) ≡ back → (b == 47) ≡ slash → is_joint_of before rest (Some b) ≡ true
     → is_byte2 92 47 b ≡ true
@@ -108,6 +268,22 @@ joint_contained text k is =
           contained (is_byte2 92 47) text k within (ap (is_byte2 92 47) byte ∙ joint_byte (take k text) (drop (k + 1) text) b (b == 92) (b == 47) refl refl of)
       | inr (past, at) ↦
           absurd (false≢true (subst (λ o. is_joint_of (take k text) (drop (k + 1) text) o ≡ true) at is))
+    ]
+
+-- a stray byte is NUL or a carriage return
+stray_byte : (rest : List ℕ) (b : ℕ) (returns : Bool) → (b == 13) ≡ returns → is_stray_of rest (Some b) ≡ true → is_byte2 13 0 b ≡ true
+stray_byte rest b true same is = grind (arith, common_steps, same)
+stray_byte rest b false other is = grind (arith, common_steps, other, is)
+
+pub stray_contained : (text : List ℕ) (k : ℕ) → is_stray text k ≡ true → Contains (places (is_byte2 13 0) text) k
+unfolding is_stray
+stray_contained text k is =
+    elim (slice_get_cases text k).1 [
+      | inl (b, within, at, value) ↦
+          let of : is_stray_of (drop (k + 1) text) (Some b) ≡ true = subst (λ o. is_stray_of (drop (k + 1) text) o ≡ true) at is in
+          let byte : slice_index text k ≡ b = grind (arith, common_steps, get_or_default_zero, within, value) in
+          contained (is_byte2 13 0) text k within (ap (is_byte2 13 0) byte ∙ stray_byte (drop (k + 1) text) b (b == 13) refl of)
+      | inr (past, at) ↦ absurd (false≢true (subst (λ o. is_stray_of (drop (k + 1) text) o ≡ true) at is))
     ]
 
 -- ---- macros

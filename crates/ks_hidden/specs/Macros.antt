@@ -4,7 +4,7 @@ use Rattle.std.specs.List.{list_any, suffix_len}
 use Rattle.std.specs.Char.{is_ascii_whitespace}
 use Rattle.indexmap.specs.IndexSet.{IndexSet, contains_by}
 use Rattle.ks_hidden.specs.Arguments.{ends_with_one}
-use Rattle.ks_hidden.specs.Texts.{front_word, included_macros, is_of_word, skip_blanks}
+use Rattle.ks_hidden.specs.Texts.{HasLine, IsLeast, front_word, included_macros, is_of_word, skip_blanks}
 use Rattle.ks_hidden.specs.Words.{option_value, words_of}
 
 -- a name is among these
@@ -43,8 +43,13 @@ begins_word_at text k = is_of_word (slice_get text k) && not (is_of_word (slice_
 unfoldable pub may_define : (List ℕ → Bool) → List ℕ → ℕ → Bool
 may_define is_macro text k = begins_word_at text k && (is_macro (front_word (drop k text)) && not (is_asked (take k text)))
 
-abbrev pub DefinesNone : (List ℕ → Bool) → List ℕ → Type 0
-DefinesNone is_macro text = (k : ℕ) → may_define is_macro text k ≡ true → ⊥
+-- or in a line
+abbrev pub DefinesAt : (List ℕ → Bool) → List ℕ → ℕ → Type 0
+DefinesAt is_macro text = HasLine text (λ k. may_define is_macro text k ≡ true)
+
+-- the first such line, if any
+abbrev pub DefiningLine : (List ℕ → Bool) → List ℕ → Option ℕ → Type 0
+DefiningLine is_macro text = IsLeast (DefinesAt is_macro text)
 
 -- ---- in a command
 

@@ -1,6 +1,6 @@
 -- What a text of C or of an assembler may hold that has the compiler read a file which it lists nowhere, or makes an object one of the
 -- time of its compile. The words are those of the C preprocessor and of the GNU assembler.
-use Rattle.std.specs.Prelude.{◌≡◌, ◌⊎◌, ◌+◌, ◌-◌, ◌==◌, ◌||◌, ◌&&◌, not, ℕ, Bool, true, false, List, [], ◌∷◌, Option, Some, None, codes, drop, take, nat_eq, is_none, length, slice_get, if◌then◌else◌}
+use Rattle.std.specs.Prelude.{◌≡◌, ◌⊎◌, ◌+◌, ◌-◌, ◌==◌, ◌||◌, ◌&&◌, not, ℕ, Bool, true, false, List, [], ◌∷◌, Option, Some, None, codes, drop, take, nat_eq, is_none, length, slice_get, min, ◌<◌, if◌then◌else◌}
 use Rattle.std.specs.List.{ends_with, filter_map, prefix_len}
 use Rattle.std.specs.Char.{is_ascii_alphabetic}
 use Rattle.memchr.specs.Find.{OccursAt, is_byte, places}
@@ -8,6 +8,27 @@ use Rattle.ks_symbols.specs.Lines.{lines}
 use Rattle.ks_symbols.specs.Names.{is_word_byte}
 use Rattle.ks_symbols.specs.Refusals.{or_else}
 use Rattle.ks_hidden.specs.Words.{behind}
+
+-- ---- the first of some places, or of some lines
+
+-- there is none, or it is the least number of which this holds
+abbrev pub IsLeast : (ℕ → Type 0) → Option ℕ → Type 0
+IsLeast holds None = (k : ℕ) → holds k → ⊥
+IsLeast holds (Some n) = holds n × ((k : ℕ) → k < n → holds k → ⊥)
+
+-- the lesser of two numbers, of which either may be missing
+abbrev pub lesser : Option ℕ → Option ℕ → Option ℕ
+lesser None other = other
+lesser (Some n) None = Some n
+lesser (Some n) (Some m) = Some (min n m)
+
+-- the number of the line in which a place stands: one more than there are ends of lines before it
+unfoldable pub line_number : List ℕ → ℕ → ℕ
+line_number text k = length (places (is_byte 10) (take k text)) + 1
+
+-- a line has such a place
+abbrev pub HasLine : List ℕ → (ℕ → Type 0) → ℕ → Type 0
+HasLine text holds n = (k : ℕ) × holds k × (n ≡ line_number text k)
 
 -- ---- marks
 
@@ -163,10 +184,20 @@ is_joint_of before rest (Some b) = if b == 92 then joins_word before rest else i
 unfoldable pub is_joint : List ℕ → ℕ → Bool
 is_joint text k = is_joint_of (take k text) (drop (k + 1) text) (slice_get text k)
 
--- ---- both kinds of places, and lines
+-- ---- stray bytes
+
+-- NUL, which a compiler passes over, and a carriage return that ends a line by itself
+abbrev pub is_stray_of : List ℕ → Option ℕ → Bool
+is_stray_of rest None = false
+is_stray_of rest (Some b) = if b == 13 then is_none (behind (codes "\n") rest) else b == 0
+
+unfoldable pub is_stray : List ℕ → ℕ → Bool
+is_stray text k = is_stray_of (drop (k + 1) text) (slice_get text k)
+
+-- ---- all these places, and lines
 
 abbrev pub IsMarkAt : List ℕ → ℕ → Type 0
-IsMarkAt text k = IsMacroAt text k ⊎ (IsDirectiveAt text k ⊎ (is_joint text k ≡ true))
+IsMarkAt text k = IsMacroAt text k ⊎ (IsDirectiveAt text k ⊎ ((is_joint text k ≡ true) ⊎ (is_stray text k ≡ true)))
 
 -- the number of the first such line, where they are counted from n on, and in a text from 1 on
 unfoldable pub computed_from : ℕ → List (List ℕ) → Option ℕ
@@ -176,14 +207,10 @@ computed_from n (l ∷ ls) = if is_hidden_include l then Some n else computed_fr
 unfoldable pub first_computed : List ℕ → Option ℕ
 first_computed text = computed_from 1 (lines text)
 
--- the number of the line in which a place stands: one more than there are ends of lines before it
-unfoldable pub line_number : List ℕ → ℕ → ℕ
-line_number text k = length (places (is_byte 10) (take k text)) + 1
-
 -- a line has such a mark, or is the first that includes what a macro says, otherwise than by one plain name
-abbrev pub IsHiddenLine : List ℕ → ℕ → Type 0
-IsHiddenLine text n = ((k : ℕ) × IsMarkAt text k × (n ≡ line_number text k)) ⊎ (first_computed text ≡ Some n)
+abbrev pub HidesAt : List ℕ → ℕ → Type 0
+HidesAt text n = HasLine text (IsMarkAt text) n ⊎ (first_computed text ≡ Some n)
 
--- nothing of that stands in a text
-abbrev pub HidesNothing : List ℕ → Type 0
-HidesNothing text = ((k : ℕ) → IsMarkAt text k → ⊥) × (first_computed text ≡ None)
+-- the first such line, if any
+abbrev pub HiddenLine : List ℕ → Option ℕ → Type 0
+HiddenLine text = IsLeast (HidesAt text)

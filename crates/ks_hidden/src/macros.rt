@@ -1,7 +1,7 @@
 //! What may define a macro that a text includes by its name. Where nothing does, the compiler has passed over that include.
 ghost use Rattle.std.specs.Prelude.{◌≡◌, ◌<◌, ◌||◌, ℕ, IfOk, IfSome, None, codes, length, not, slice_get, true};
-ghost use Rattle.ks_hidden.specs.Macros.{DefinesNone, begins_word_at, defines_one, defining_from, defining_word, is_asked, is_in, may_define, trimmed};
-ghost use Rattle.ks_hidden.specs.Texts.{front_word, is_of_word, line_number};
+ghost use Rattle.ks_hidden.specs.Macros.{DefiningLine, begins_word_at, defines_one, defining_from, defining_word, is_asked, is_in, may_define, trimmed};
+ghost use Rattle.ks_hidden.specs.Texts.{front_word, is_of_word};
 ghost use Rattle.ks_hidden.specs.Words.{option_value, texts};
 
 use crate::arguments::ends_with_one;
@@ -59,12 +59,11 @@ fn may_define(macros: &IndexSet<Vec<u8>, Seed>, text: &[u8], at: usize) -> bool
 
 /// The number of the first line of a text that may define one of these macros.
 pub fn defining_line(macros: &IndexSet<Vec<u8>, Seed>, text: &[u8]) -> Option<u64>
-    ensures none { result ≡ None → DefinesNone (is_in macros.now) text.now }
-    ensures some { IfSome result (λ n. (k : ℕ) × (may_define (is_in macros.now) text.now k ≡ true) × (n ≡ line_number text.now k)) }
+    ensures { DefiningLine (is_in macros.now) text.now result }
 {
     for at in 0..text.len() {
         if may_define(macros, text, at) {
-            return Some(line_number(text, at));
+            return Some(line_number(text, at) as u64);
         }
     }
     None

@@ -4,7 +4,7 @@
 ghost use Rattle.std.specs.Prelude.{◌≡◌, ◌<◌, ◌≤◌, ◌||◌, ℕ, IfOk, IfSome, List, None, OnOk, drop, length, option_map, slice_get, true};
 ghost use Rattle.memchr.specs.Find.{OccursAt};
 ghost use Rattle.ks_hidden.specs.Macros.{includes, is_in, is_name};
-ghost use Rattle.ks_hidden.specs.Texts.{HidesNothing, IsDirective, IsDirectiveAt, IsHiddenLine, IsMacroAt, IsMarkAt, after_include, after_line_end, after_sign, begins_blank, begins_joined, begins_letter, begins_other, ends_comment, first_computed, follows_computed, front_word, included_macro, is_blank, is_computed, is_computed_line, is_hidden_include, is_joint, is_of_directive, is_of_word, is_of_word_or_joins, joins_word, line_number, macro_behind, macro_directed, macro_name, skip_blanks, skip_front};
+ghost use Rattle.ks_hidden.specs.Texts.{HasLine, HiddenLine, IsDirective, IsDirectiveAt, IsLeast, IsMacroAt, IsMarkAt, after_include, after_line_end, after_sign, begins_blank, begins_joined, begins_letter, begins_other, ends_comment, first_computed, follows_computed, front_word, included_macro, is_blank, is_computed, is_computed_line, is_hidden_include, is_joint, is_of_directive, is_of_word, is_of_word_or_joins, is_stray, joins_word, lesser, line_number, macro_behind, macro_directed, macro_name, skip_blanks, skip_front};
 
 use crate::words::behind;
 use bstr::ByteSlice;
@@ -40,39 +40,38 @@ fn skip_front(text: &[u8]) -> &[u8]
     }
 }
 
+/// The lesser of two numbers, of which either may be missing.
+fn lesser(one: Option<usize>, other: Option<usize>) -> Option<usize>
+    ensures { result ≡ lesser one other }
+{
+    match (one, other) {
+        (None, other) => other,
+        (one, None) => one,
+        (Some(one), Some(other)) => Some(one.min(other)),
+    }
+}
+
 /// The first place of a word.
 fn find(text: &[u8], word: &[u8]) -> Option<usize>
-    ensures none { result ≡ None → (k : ℕ) → OccursAt text.now word.now k → ⊥ }
-    ensures some { IfSome result (OccursAt text.now word.now) }
-    ensures first { IfSome result (λ i. (k : ℕ) → k < i → OccursAt text.now word.now k → ⊥) }
+    ensures { IsLeast (OccursAt text.now word.now) result }
 {
     memmem::find(text, word)
 }
 
-/// A place of a word of the preprocessor that looks for a file, or is of the time of a compile.
+/// The first place of a word of the preprocessor that looks for a file, or is of the time of a compile.
 fn find_macro(text: &[u8]) -> Option<usize>
-    ensures none { result ≡ None → (k : ℕ) → IsMacroAt text.now k → ⊥ }
-    ensures some { IfSome result (IsMacroAt text.now) }
+    ensures { IsLeast (IsMacroAt text.now) result }
 {
-    if let Some(at) = find(text, b"__has_include") {
-        return Some(at);
-    }
-    if let Some(at) = find(text, b"__has_embed") {
-        return Some(at);
-    }
-    if let Some(at) = find(text, b"__DATE__") {
-        return Some(at);
-    }
-    if let Some(at) = find(text, b"__TIME__") {
-        return Some(at);
-    }
-    find(text, b"__TIMESTAMP__")
+    let first = find(text, b"__TIMESTAMP__");
+    let first = lesser(find(text, b"__TIME__"), first);
+    let first = lesser(find(text, b"__DATE__"), first);
+    let first = lesser(find(text, b"__has_embed"), first);
+    lesser(find(text, b"__has_include"), first)
 }
 
 /// The same. Many texts have no two underscores side by side, and are passed at once.
 fn find_macro_quickly(text: &[u8]) -> Option<usize>
-    ensures none { result ≡ None → (k : ℕ) → IsMacroAt text.now k → ⊥ }
-    ensures some { IfSome result (IsMacroAt text.now) }
+    ensures { IsLeast (IsMacroAt text.now) result }
 {
     match find(text, b"__") {
         Some(_) => find_macro(text),
@@ -108,8 +107,7 @@ fn from(text: &[u8], at: usize) -> &[u8]
 /// The first place of a directive of this name.
 fn find_named(text: &[u8], name: &[u8]) -> Option<usize>
     requires { 0 < length name.now }
-    ensures none { result ≡ None → (k : ℕ) → IsDirective text.now name.now k → ⊥ }
-    ensures some { IfSome result (IsDirective text.now name.now) }
+    ensures { IsLeast (IsDirective text.now name.now) result }
 {
     let mut start = 0;
     while let Some(further) = find(from(text, start), name) {
@@ -122,21 +120,14 @@ fn find_named(text: &[u8], name: &[u8]) -> Option<usize>
     None
 }
 
-/// A place of what the assembler reads a file by.
+/// The first place of what the assembler reads a file by.
 fn find_directive(text: &[u8]) -> Option<usize>
-    ensures none { result ≡ None → (k : ℕ) → IsDirectiveAt text.now k → ⊥ }
-    ensures some { IfSome result (IsDirectiveAt text.now) }
+    ensures { IsLeast (IsDirectiveAt text.now) result }
 {
-    if let Some(at) = find(text, b"incbin") {
-        return Some(at);
-    }
-    if let Some(at) = find_named(text, b".include") {
-        return Some(at);
-    }
-    if let Some(at) = find(text, b"INCBIN") {
-        return Some(at);
-    }
-    find_named(text, b".INCLUDE")
+    let first = find_named(text, b".INCLUDE");
+    let first = lesser(find(text, b"INCBIN"), first);
+    let first = lesser(find_named(text, b".include"), first);
+    lesser(find(text, b"incbin"), first)
 }
 
 /// What follows the word of an include with which a text begins.
@@ -317,11 +308,11 @@ fn first_computed(
     alloc: Global,
     included: &mut IndexSet<Vec<u8>, Seed>,
     text: &[u8],
-) -> Result<Option<u64>, AllocError>
+) -> Result<Option<usize>, AllocError>
     ensures found { IfOk result (λ n. n ≡ first_computed text.now) }
     ensures noted { IfOk result (λ n. n ≡ None → (name : List ℕ) → is_in included.new name ≡ (is_in included.old name || includes text.now name)) }
 {
-    let mut number: u64 = 1;
+    let mut number = 1;
     for line in text.lines() {
         if note_include(alloc, included, line)? {
             return Ok(Some(number));
@@ -398,8 +389,7 @@ fn is_joint(text: &[u8], at: usize) -> bool
 
 /// The first joint.
 fn find_joint(text: &[u8]) -> Option<usize>
-    ensures none { result ≡ None → (k : ℕ) → is_joint text.now k ≡ true → ⊥ }
-    ensures some { IfSome result (λ k. is_joint text.now k ≡ true) }
+    ensures { IsLeast (λ k. is_joint text.now k ≡ true) result }
 {
     for at in memchr2_iter(b'\\', b'/', text) {
         if is_joint(text, at) {
@@ -409,41 +399,68 @@ fn find_joint(text: &[u8]) -> Option<usize>
     None
 }
 
-/// A place at which a text may hide a file.
-fn find_mark(text: &[u8]) -> Option<usize>
-    ensures none { result ≡ None → (k : ℕ) → IsMarkAt text.now k → ⊥ }
-    ensures some { IfSome result (IsMarkAt text.now) }
+/// Whether a byte is NUL, or a carriage return that ends a line by itself.
+#[tactic(auto, unfolding(crate::specs::Texts::is_stray))]
+fn is_stray(text: &[u8], at: usize) -> bool
+    ensures { result ≡ is_stray text.now at }
 {
-    if let Some(at) = find_macro_quickly(text) {
-        return Some(at);
+    match text.get(at) {
+        Some(b'\r') => behind(b"\n", &text[at + 1..]).is_none(),
+        Some(byte) => *byte == 0,
+        None => false,
     }
-    match find_directive(text) {
-        Some(at) => Some(at),
-        None => find_joint(text),
+}
+
+/// The first such byte.
+fn find_stray(text: &[u8]) -> Option<usize>
+    ensures { IsLeast (λ k. is_stray text.now k ≡ true) result }
+{
+    for at in memchr2_iter(b'\r', 0, text) {
+        if is_stray(text, at) {
+            return Some(at);
+        }
     }
+    None
+}
+
+/// The first place at which a text may hide a file.
+fn find_mark(text: &[u8]) -> Option<usize>
+    ensures { IsLeast (IsMarkAt text.now) result }
+{
+    let first = lesser(find_joint(text), find_stray(text));
+    let first = lesser(find_directive(text), first);
+    lesser(find_macro_quickly(text), first)
 }
 
 /// The number of the line in which a place stands, counted from 1.
 #[tactic(auto, unfolding(crate::specs::Texts::line_number))]
-pub(crate) fn line_number(text: &[u8], at: usize) -> u64
+pub(crate) fn line_number(text: &[u8], at: usize) -> usize
     ensures { result ≡ line_number text.now at }
 {
     let before = &text[..at.min(text.len())];
-    memchr_iter(b'\n', before).count() as u64 + 1
+    memchr_iter(b'\n', before).count() + 1
 }
 
-/// The number of a line that hides a file, if any. Without one, the macros that the text includes by their names are noted.
+/// The number of the first line that has such a place.
+fn marked_line(text: &[u8]) -> Option<usize>
+    ensures { IsLeast (HasLine text.now (IsMarkAt text.now)) result }
+{
+    let at = find_mark(text)?;
+    Some(line_number(text, at))
+}
+
+/// The number of the first line that hides a file, if any. Without one, the macros that the text includes by their names are noted.
 pub fn hidden_line(
     alloc: Global,
     included: &mut IndexSet<Vec<u8>, Seed>,
     text: &[u8],
 ) -> Result<Option<u64>, AllocError>
-    ensures none { IfOk result (λ n. n ≡ None → HidesNothing text.now) }
-    ensures some { IfOk result (λ n. IfSome n (IsHiddenLine text.now)) }
+    ensures found { IfOk result (HiddenLine text.now) }
     ensures noted { IfOk result (λ n. n ≡ None → (name : List ℕ) → is_in included.new name ≡ (is_in included.old name || includes text.now name)) }
 {
-    match find_mark(text) {
-        Some(at) => Ok(Some(line_number(text, at))),
-        None => first_computed(alloc, included, text),
+    let include = first_computed(alloc, included, text)?;
+    match lesser(marked_line(text), include) {
+        Some(line) => Ok(Some(line as u64)),
+        None => Ok(None),
     }
 }

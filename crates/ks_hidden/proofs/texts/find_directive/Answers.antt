@@ -1,8 +1,8 @@
-use Rattle.std.proofs.Common.{inl, inr}
+use Rattle.ks_hidden.proofs.TextLemmas.{least_of_both}
 use Rattle.ks_hidden.proofs.texts.find_directive.Goals as goal
 
-pub returns-clause-none : goal.returns-clause-none
-returns-clause-none c is k (inl at) = c.find.ensures.none c.in_default.is k at
-returns-clause-none c is k (inr (inl at)) = c.find_named.ensures.none c.in_default-find_named.is k at
-returns-clause-none c is k (inr (inr (inl at))) = c.find-2.ensures.none c.in_default-find.is k at
-returns-clause-none c is k (inr (inr (inr at))) = c.find_named-2.ensures.none is k at
+pub returns : goal.returns
+returns c =
+    let first = least_of_both _ _ _ _ _ c.lesser-first.ensures c.find.ensures c.find_named-first.ensures in
+    let second = least_of_both _ _ _ _ _ c.lesser-first-2.ensures c.find_named.ensures first in
+    least_of_both _ _ _ _ _ c.lesser.ensures c.find-2.ensures second

@@ -1,7 +1,13 @@
-use Rattle.std.proofs.Common.{sym, ◌∙◌}
-use Rattle.ks_hidden.proofs.TextLemmas.{if_ok}
+use Rattle.std.proofs.Common.{◌∙◌, None, Some, sym}
+use Rattle.ks_hidden.proofs.TextLemmas.{hidden_by_both}
 use Rattle.ks_hidden.proofs.texts.hidden_line.Goals as goal
 
-pub returns-in-None-clause-none : goal.returns-in-None-clause-none
-returns-in-None-clause-none c =
-    if_ok _ _ c.first_computed.result (λ n is none. (c.find_mark.ensures.none c.in-None.is, sym is ∙ none)) c.first_computed.ensures.found
+pub returns-in-Some-clause-found : goal.returns-in-Some-clause-found
+returns-in-Some-clause-found c =
+    hidden_by_both c.args.text.now c.marked_line.result c.in_ok-include.include (Some c.in-Some.line) (sym c.in-Some.is ∙ c.lesser.ensures) c.marked_line.ensures
+    c.in_ok-include.ensures.found
+
+pub returns-in-None-clause-found : goal.returns-in-None-clause-found
+returns-in-None-clause-found c =
+    hidden_by_both c.args.text.now c.marked_line.result c.in_ok-include.include None (sym c.in-None.is ∙ c.lesser.ensures) c.marked_line.ensures
+    c.in_ok-include.ensures.found

@@ -13,6 +13,7 @@ use Rattle.std.proofs.Common.{Vec}
 use Rattle.ks_output.proofs.Prelude.{bytes_decides, or_cases}
 use Rattle.std.specs.Prelude.{slice_index, ⊤, Option, Result, Ok, Err, IfOk, IfSome, bytes_eq}
 use Rattle.memchr.specs.Find.{FindsNeedle, OccursAt, is_byte, is_byte2, places, places_from}
+use Rattle.ks_hidden.specs.Words.{is_such}
 use Rattle.ks_hidden.specs.Macros.{is_name, may_define}
 use Rattle.ks_hidden.specs.Texts.{HasLine, HiddenLine, IsLeast, IsMacroAt, IsMarkAt, first_computed, included_macro, is_joint, is_joint_of, is_stray, is_stray_of, lesser, line_number}
 
@@ -252,7 +253,7 @@ rising test hay = rising_from test hay 0 (length hay - 0)
 -- ---- joints and stray bytes
 
 -- a joint is at a backslash or a slash
-joint_byte : (before rest : List ℕ) (b : ℕ) (back slash : Bool) → (b == 92) ≡ back → (b == 47) ≡ slash → is_joint_of before rest (Some b) ≡ true
+joint_byte : (before rest : List ℕ) (b : ℕ) (back slash : Bool) → (b == 92) ≡ back → (b == 47) ≡ slash → is_joint_of before rest b ≡ true
     → is_byte2 92 47 b ≡ true
 joint_byte before rest b true slash first second is = grind (arith, common_steps, first)
 joint_byte before rest b false true first second is = grind (arith, common_steps, first, second)
@@ -263,15 +264,15 @@ unfolding is_joint
 joint_contained text k is =
     elim (slice_get_cases text k).1 [
       | inl (b, within, at, value) ↦
-          let of : is_joint_of (take k text) (drop (k + 1) text) (Some b) ≡ true = subst (λ o. is_joint_of (take k text) (drop (k + 1) text) o ≡ true) at is in
+          let of : is_joint_of (take k text) (drop (k + 1) text) b ≡ true = subst (λ o. is_such (is_joint_of (take k text) (drop (k + 1) text)) o ≡ true) at is in
           let byte : slice_index text k ≡ b = grind (arith, common_steps, get_or_default_zero, within, value) in
           contained (is_byte2 92 47) text k within (ap (is_byte2 92 47) byte ∙ joint_byte (take k text) (drop (k + 1) text) b (b == 92) (b == 47) refl refl of)
       | inr (past, at) ↦
-          absurd (false≢true (subst (λ o. is_joint_of (take k text) (drop (k + 1) text) o ≡ true) at is))
+          absurd (false≢true (subst (λ o. is_such (is_joint_of (take k text) (drop (k + 1) text)) o ≡ true) at is))
     ]
 
 -- a stray byte is NUL or a carriage return
-stray_byte : (rest : List ℕ) (b : ℕ) (returns : Bool) → (b == 13) ≡ returns → is_stray_of rest (Some b) ≡ true → is_byte2 13 0 b ≡ true
+stray_byte : (rest : List ℕ) (b : ℕ) (returns : Bool) → (b == 13) ≡ returns → is_stray_of rest b ≡ true → is_byte2 13 0 b ≡ true
 stray_byte rest b true same is = grind (arith, common_steps, same)
 stray_byte rest b false other is = grind (arith, common_steps, other, is)
 
@@ -280,10 +281,10 @@ unfolding is_stray
 stray_contained text k is =
     elim (slice_get_cases text k).1 [
       | inl (b, within, at, value) ↦
-          let of : is_stray_of (drop (k + 1) text) (Some b) ≡ true = subst (λ o. is_stray_of (drop (k + 1) text) o ≡ true) at is in
+          let of : is_stray_of (drop (k + 1) text) b ≡ true = subst (λ o. is_such (is_stray_of (drop (k + 1) text)) o ≡ true) at is in
           let byte : slice_index text k ≡ b = grind (arith, common_steps, get_or_default_zero, within, value) in
           contained (is_byte2 13 0) text k within (ap (is_byte2 13 0) byte ∙ stray_byte (drop (k + 1) text) b (b == 13) refl of)
-      | inr (past, at) ↦ absurd (false≢true (subst (λ o. is_stray_of (drop (k + 1) text) o ≡ true) at is))
+      | inr (past, at) ↦ absurd (false≢true (subst (λ o. is_such (is_stray_of (drop (k + 1) text)) o ≡ true) at is))
     ]
 
 -- ---- macros

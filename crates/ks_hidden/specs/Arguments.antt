@@ -2,7 +2,7 @@
 -- GNU assembler, and in front of the compiler those of env, nice, ccache and distcc.
 use Rattle.std.specs.Prelude.{ℕ, ◌+◌, ◌&&◌, ◌||◌, Bool, false, not, List, [], ◌∷◌, Option, Some, None, bytes_eq, nat_eq, codes, if◌then◌else◌}
 use Rattle.std.specs.List.{ends_with, list_any, starts_with}
-use Rattle.ks_hidden.specs.Words.{behind, words_of}
+use Rattle.ks_hidden.specs.Words.{behind, is_such, words_of}
 use Rattle.ks_hidden.specs.declared.arguments.Expected.{Expected}
 use Rattle.ks_hidden.specs.declared.arguments.Expected.TheVariants.{Front, FrontValue, Argument, Value, Language, Inner}
 
@@ -87,8 +87,7 @@ has_refused_front word =
 
 -- the value of an option has no comma and no @
 abbrev pub is_plain_value : Option (List ℕ) → Bool
-is_plain_value None = false
-is_plain_value (Some value) = not (has_one (codes "," ∷ codes "@" ∷ []) value)
+is_plain_value = is_such (λ value. not (has_one (codes "," ∷ codes "@" ∷ []) value))
 
 -- options for the preprocessor and the assembler that are known: none defines a macro without an underscore, or names a directory
 unfoldable pub is_known_inside : List ℕ → Bool

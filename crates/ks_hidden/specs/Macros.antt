@@ -5,7 +5,7 @@ use Rattle.std.specs.Char.{is_ascii_whitespace}
 use Rattle.indexmap.specs.IndexSet.{IndexSet, contains_by}
 use Rattle.ks_hidden.specs.Arguments.{ends_with_one}
 use Rattle.ks_hidden.specs.Texts.{HasLine, IsLeast, front_word, included_macros, is_of_word, skip_blanks}
-use Rattle.ks_hidden.specs.Words.{option_value, words_of}
+use Rattle.ks_hidden.specs.Words.{is_such, option_value, words_of}
 
 -- a name is among these
 abbrev pub is_in : {S Y : Type 0} → IndexSet (Vec ℕ Y) S → List ℕ → Bool
@@ -13,8 +13,7 @@ is_in names name = contains_by (λ v. bytes_eq name v.items) names
 
 -- a name is this one, where there is one
 abbrev pub is_name : Option (List ℕ) → List ℕ → Bool
-is_name None name = false
-is_name (Some other) name = bytes_eq name other
+is_name o name = is_such (bytes_eq name) o
 
 -- a text includes a macro of this name
 abbrev pub includes : List ℕ → List ℕ → Bool
@@ -55,8 +54,7 @@ DefiningLine is_macro text = IsLeast (DefinesAt is_macro text)
 
 -- What a -D defines is one of these macros. What begins otherwise than as a name, as with a comment, may be any.
 abbrev pub defines_one : (List ℕ → Bool) → Option (List ℕ) → Bool
-defines_one is_macro None = false
-defines_one is_macro (Some value) = not (is_of_word (slice_get (skip_blanks value) 0)) || is_macro (front_word (skip_blanks value))
+defines_one is_macro = is_such (λ value. not (is_of_word (slice_get (skip_blanks value) 0)) || is_macro (front_word (skip_blanks value)))
 
 -- the number of the first word whose -D defines one of these macros, where they are counted from n on
 abbrev pub defining_from : (List ℕ → Bool) → ℕ → List (List ℕ) → Option ℕ

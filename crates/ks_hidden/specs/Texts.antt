@@ -1,13 +1,13 @@
 -- What a text of C or of an assembler may hold that has the compiler read a file which it lists nowhere, or makes an object one of the
 -- time of its compile. The words are those of the C preprocessor and of the GNU assembler.
-use Rattle.std.specs.Prelude.{◌≡◌, ◌⊎◌, ◌+◌, ◌-◌, ◌==◌, ◌||◌, ◌&&◌, not, ℕ, Bool, true, false, List, [], ◌∷◌, Option, Some, None, codes, drop, take, nat_eq, is_none, length, slice_get, min, ◌<◌, if◌then◌else◌}
+use Rattle.std.specs.Prelude.{◌≡◌, ◌⊎◌, ◌+◌, ◌-◌, ◌==◌, ◌||◌, ◌&&◌, not, ℕ, Bool, true, false, List, [], ◌∷◌, Option, Some, None, codes, drop, take, nat_eq, is_none, option_and_then, unwrap_or, length, slice_get, min, ◌<◌, if◌then◌else◌}
 use Rattle.std.specs.List.{ends_with, filter_map, prefix_len}
 use Rattle.std.specs.Char.{is_ascii_alphabetic}
 use Rattle.memchr.specs.Find.{OccursAt, is_byte, places}
 use Rattle.ks_symbols.specs.Lines.{lines}
 use Rattle.ks_symbols.specs.Names.{is_word_byte}
 use Rattle.ks_symbols.specs.Refusals.{or_else}
-use Rattle.ks_hidden.specs.Words.{behind}
+use Rattle.ks_hidden.specs.Words.{behind, is_such}
 
 -- ---- the first of some places, or of some lines
 
@@ -34,8 +34,7 @@ HasLine text holds n = (k : ℕ) × holds k × (n ≡ line_number text k)
 
 -- the byte is there, and is of the name of a directive
 abbrev pub is_of_directive : Option ℕ → Bool
-is_of_directive None = false
-is_of_directive (Some b) = is_word_byte b || b == 46 || b == 36
+is_of_directive = is_such (λ b. is_word_byte b || b == 46 || b == 36)
 
 -- At a place stands the name of a directive, and no longer one.
 abbrev pub IsDirective : List ℕ → List ℕ → ℕ → Type 0
@@ -62,12 +61,8 @@ abbrev pub skip_blanks : List ℕ → List ℕ
 skip_blanks text = drop (prefix_len is_blank text) text
 
 -- what stands behind the mark by which a text may say that it is in UTF-8, and behind blanks
-abbrev pub skip_mark : Option (List ℕ) → List ℕ → List ℕ
-skip_mark None text = skip_blanks text
-skip_mark (Some rest) text = skip_blanks rest
-
 abbrev pub skip_front : List ℕ → List ℕ
-skip_front text = skip_mark (behind (239 ∷ 187 ∷ 191 ∷ []) text) text
+skip_front text = skip_blanks (unwrap_or (behind (239 ∷ 187 ∷ 191 ∷ []) text) text)
 
 -- what follows the word of an include with which a text begins
 unfoldable pub after_include : List ℕ → Option (List ℕ)
@@ -89,24 +84,16 @@ abbrev pub follows_computed : List ℕ → Bool
 follows_computed [] = false
 follows_computed (b ∷ rest) = if b == 92 || b == 47 || b == 63 then true else if is_blank b then begins_other (skip_blanks rest) else false
 
-abbrev pub has_computed : Option (List ℕ) → Bool
-has_computed None = false
-has_computed (Some rest) = follows_computed rest
-
 -- what follows the sign of a directive includes what a macro says
 unfoldable pub is_computed : List ℕ → Bool
-is_computed text = if begins_joined (skip_blanks text) then true else has_computed (after_include (skip_blanks text))
+is_computed text = if begins_joined (skip_blanks text) then true else is_such follows_computed (after_include (skip_blanks text))
 
 -- what follows the sign, in one of its three spellings, with which a text begins
 unfoldable pub after_sign : List ℕ → Option (List ℕ)
 after_sign text = or_else (behind (codes "#") text) (or_else (behind (codes "%:") text) (behind (codes "??=") text))
 
-abbrev pub directs_computed : Option (List ℕ) → Bool
-directs_computed None = false
-directs_computed (Some rest) = is_computed rest
-
 unfoldable pub is_computed_line : List ℕ → Bool
-is_computed_line line = directs_computed (after_sign (skip_front line))
+is_computed_line line = is_such is_computed (after_sign (skip_front line))
 
 -- ---- includes of a macro by its name
 
@@ -129,17 +116,14 @@ unfoldable pub macro_name : List ℕ → Option (List ℕ)
 macro_name text = if begins_letter text && begins_blank (drop (length (front_word text)) text) then Some (front_word text) else None
 
 -- what follows the word of an include names a macro, behind blanks
-abbrev pub macro_behind : Option (List ℕ) → Option (List ℕ)
-macro_behind None = None
-macro_behind (Some rest) = if begins_blank rest then macro_name (skip_blanks rest) else None
-
-abbrev pub macro_directed : Option (List ℕ) → Option (List ℕ)
-macro_directed None = None
-macro_directed (Some rest) = macro_behind (after_include (skip_blanks rest))
+abbrev pub macro_behind : List ℕ → Option (List ℕ)
+macro_behind rest = if begins_blank rest then macro_name (skip_blanks rest) else None
 
 -- The macro that a line includes by its name. Where nothing defines it, a compiler passes over the line, since there it would be an error.
 unfoldable pub included_macro : List ℕ → Option (List ℕ)
-included_macro line = if is_computed_line line then macro_directed (after_sign (skip_front line)) else None
+included_macro line =
+    if is_computed_line line then option_and_then (λ rest. option_and_then macro_behind (after_include (skip_blanks rest))) (after_sign (skip_front line))
+    else None
 
 unfoldable pub included_macros : List ℕ → List (List ℕ)
 included_macros text = filter_map included_macro (lines text)
@@ -152,17 +136,11 @@ is_hidden_include line = is_computed_line line && is_none (included_macro line)
 
 -- whether a byte is there, and is of a word
 abbrev pub is_of_word : Option ℕ → Bool
-is_of_word None = false
-is_of_word (Some b) = is_word_byte b
+is_of_word = is_such is_word_byte
 
 -- or joins the next line, too
 abbrev pub is_of_word_or_joins : Option ℕ → Bool
-is_of_word_or_joins None = false
-is_of_word_or_joins (Some b) = is_word_byte b || b == 92
-
-abbrev pub begins_word : Option (List ℕ) → Bool
-begins_word None = false
-begins_word (Some text) = is_of_word_or_joins (slice_get text 0)
+is_of_word_or_joins = is_such (λ b. is_word_byte b || b == 92)
 
 -- what follows the end of a line with which a text begins
 unfoldable pub after_line_end : List ℕ → Option (List ℕ)
@@ -170,29 +148,27 @@ after_line_end text = or_else (behind (codes "\n") text) (behind (codes "\r\n") 
 
 -- What stands before a backslash and what the next line begins with are parts of one word.
 unfoldable pub joins_word : List ℕ → List ℕ → Bool
-joins_word before rest = is_of_word (slice_get before (length before - 1)) && begins_word (after_line_end (skip_blanks rest))
+joins_word before rest = is_of_word (slice_get before (length before - 1)) && is_such (λ next. is_of_word_or_joins (slice_get next 0)) (after_line_end (skip_blanks rest))
 
 -- What stands before a slash makes it the end of a comment, behind which such a directive stands.
 unfoldable pub ends_comment : List ℕ → List ℕ → Bool
 ends_comment before rest = ends_with nat_eq before (codes "*") && is_computed_line rest
 
 -- the one of a backslash, and the other of a slash
-abbrev pub is_joint_of : List ℕ → List ℕ → Option ℕ → Bool
-is_joint_of before rest None = false
-is_joint_of before rest (Some b) = if b == 92 then joins_word before rest else if b == 47 then ends_comment before rest else false
+abbrev pub is_joint_of : List ℕ → List ℕ → ℕ → Bool
+is_joint_of before rest b = if b == 92 then joins_word before rest else if b == 47 then ends_comment before rest else false
 
 unfoldable pub is_joint : List ℕ → ℕ → Bool
-is_joint text k = is_joint_of (take k text) (drop (k + 1) text) (slice_get text k)
+is_joint text k = is_such (is_joint_of (take k text) (drop (k + 1) text)) (slice_get text k)
 
 -- ---- stray bytes
 
 -- NUL, which a compiler passes over, and a carriage return that ends a line by itself
-abbrev pub is_stray_of : List ℕ → Option ℕ → Bool
-is_stray_of rest None = false
-is_stray_of rest (Some b) = if b == 13 then is_none (behind (codes "\n") rest) else b == 0
+abbrev pub is_stray_of : List ℕ → ℕ → Bool
+is_stray_of rest b = if b == 13 then is_none (behind (codes "\n") rest) else b == 0
 
 unfoldable pub is_stray : List ℕ → ℕ → Bool
-is_stray text k = is_stray_of (drop (k + 1) text) (slice_get text k)
+is_stray text k = is_such (is_stray_of (drop (k + 1) text)) (slice_get text k)
 
 -- ---- all these places, and lines
 

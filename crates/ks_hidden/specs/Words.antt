@@ -64,6 +64,11 @@ words_of command = words_from Between [] command
 abbrev pub words_with : Reader → List ℕ → List (List ℕ)
 words_with r rest = texts r.ended.items ++ words_from r.mode r.word.items rest
 
+-- there is something, and it passes a test
+abbrev pub is_such : {A : Type 0} → (A → Bool) → Option A → Bool
+is_such test None = false
+is_such test (Some x) = test x
+
 -- ---- what options name
 
 -- what stands behind these bytes, where it begins with them

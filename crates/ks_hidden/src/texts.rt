@@ -4,7 +4,7 @@
 ghost use Rattle.std.specs.Prelude.{◌≡◌, ◌<◌, ◌≤◌, ◌||◌, ℕ, IfOk, IfSome, List, None, OnOk, drop, length, option_map, slice_get, true};
 ghost use Rattle.memchr.specs.Find.{OccursAt};
 ghost use Rattle.ks_hidden.specs.Macros.{includes, is_in, is_name};
-ghost use Rattle.ks_hidden.specs.Texts.{HasLine, HiddenLine, IsDirective, IsDirectiveAt, IsLeast, IsMacroAt, IsMarkAt, after_include, after_line_end, after_sign, begins_blank, begins_joined, begins_letter, begins_other, ends_comment, first_computed, follows_computed, front_word, included_macro, is_blank, is_computed, is_computed_line, is_hidden_include, is_joint, is_of_directive, is_of_word, is_of_word_or_joins, is_stray, joins_word, lesser, line_number, macro_behind, macro_directed, macro_name, skip_blanks, skip_front};
+ghost use Rattle.ks_hidden.specs.Texts.{HasLine, HiddenLine, IsDirective, IsDirectiveAt, IsLeast, IsMacroAt, IsMarkAt, after_include, after_line_end, after_sign, begins_blank, begins_joined, begins_letter, begins_other, ends_comment, first_computed, follows_computed, front_word, included_macro, is_blank, is_computed, is_computed_line, is_hidden_include, is_joint, is_of_directive, is_of_word, is_of_word_or_joins, is_stray, joins_word, lesser, line_number, macro_behind, macro_name, skip_blanks, skip_front};
 
 use crate::words::behind;
 use bstr::ByteSlice;
@@ -264,7 +264,7 @@ fn macro_name(text: &[u8]) -> Option<&[u8]>
 
 /// The macro that is named behind the word of an include.
 fn macro_behind(rest: &[u8]) -> Option<&[u8]>
-    ensures { option_map (λ t. t.now) result ≡ macro_behind (Some rest.now) }
+    ensures { option_map (λ t. t.now) result ≡ macro_behind rest.now }
 {
     if begins_blank(rest) {
         macro_name(skip_blanks(rest))

@@ -11,7 +11,7 @@ use Rattle.std.proofs.lemmas.List.Folds.{list_any-append}
 use Rattle.indexmap.specs.IndexSet.{insert_key}
 use Rattle.std.proofs.Common.{Vec}
 use Rattle.ks_output.proofs.Prelude.{bytes_decides, or_cases}
-use Rattle.std.specs.Prelude.{slice_index, ⊤, Option, Result, Ok, Err, IfOk, IfSome, bytes_eq}
+use Rattle.std.specs.Prelude.{slice_index, ⊤, Option, Result, Ok, Err, IfOk, bytes_eq}
 use Rattle.memchr.specs.Find.{FindsNeedle, OccursAt, is_byte, is_byte2, places, places_from}
 use Rattle.ks_hidden.specs.Words.{is_such}
 use Rattle.ks_hidden.specs.Macros.{is_name, may_define}

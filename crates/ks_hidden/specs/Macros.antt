@@ -1,5 +1,5 @@
 -- The macros that a text includes by their names, and what may define these: an option -D of the command, or a text.
-use Rattle.std.specs.Prelude.{◌≡◌, ◌+◌, ◌-◌, ◌&&◌, ◌||◌, ℕ, Bool, true, false, not, List, [], ◌∷◌, Option, Some, None, bytes_eq, codes, drop, length, slice_get, take, if◌then◌else◌, Vec}
+use Rattle.std.specs.Prelude.{◌≡◌, ◌+◌, ◌-◌, ◌&&◌, ◌||◌, ℕ, Bool, true, not, List, [], ◌∷◌, Option, Some, None, bytes_eq, codes, drop, length, slice_get, take, if◌then◌else◌, Vec}
 use Rattle.std.specs.List.{list_any, suffix_len}
 use Rattle.std.specs.Char.{is_ascii_whitespace}
 use Rattle.indexmap.specs.IndexSet.{IndexSet, contains_by}

@@ -31,23 +31,22 @@ use Rattle.ks_engine.specs.Recording.{there}
 use Rattle.ks_engine.specs.LastSync.{old_auto}
 use Rattle.ks_engine.specs.Refusals.{IsAborted, of_dep}
 use Rattle.ks_engine.specs.declared.error.EngineError.{EngineError}
-use Rattle.ks_commands.specs.Looking.{AreListed, ArePlain, FirstRead, IsDefinition, IsFound, IsInput, IsListRefused, IsSought, IsUnread, IsUnreadDefinition, IsUnreadListed, Look, file_includes, has_source, is_header_name, is_included, is_listed, look_by}
+use Rattle.ks_commands.specs.Looking.{AreFirst, AreListed, ArePlain, FirstRead, IsDefinition, IsFound, IsInput, IsListRefused, IsSought, IsUnread, IsUnreadDefinition, IsUnreadListed, Look, file_includes, has_source, is_header_name, is_included, is_listed, look_by}
 
--- What holds of each of the first places and of the next one holds of one more.
-pub one_more : {X : Type 0} (P : ℕ → X → Type 0) (xs : List X) (n : ℕ) (x : X) → slice_get xs n ≡ Some x → P n x
-    → ((i : ℕ) (y : X) → i < n → slice_get xs i ≡ Some y → P i y) → (i : ℕ) (y : X) → i < n + 1 → slice_get xs i ≡ Some y → P i y
-one_more P xs n x there holds before i y below at =
+-- What is so of the first ones and of the next is so of one more.
+pub one_more : {X : Type 0} (so : X → Type 0) (xs : List X) (n : ℕ) (x : X) → slice_get xs n ≡ Some x → so x → AreFirst so xs n → AreFirst so xs (n + 1)
+one_more so xs n x there here before i y below at =
     elim (cases_lt i n) [
       | inl lower ↦ before i y lower at
-      | inr reaches ↦ at_place P xs n x there holds i y (omega (arith, below, reaches)) at
+      | inr reaches ↦ at_place so xs n x there here i y (omega (arith, below, reaches)) at
     ]
   where
     same : {X : Type 0} (x y : X) → ◌≡◌ {A = Option X} (Some y) (Some x) → y ≡ x
     same x y is = grind (arith, common_steps, is)
 
-    at_place : {X : Type 0} (P : ℕ → X → Type 0) (xs : List X) (n : ℕ) (x : X) → slice_get xs n ≡ Some x → P n x
-        → (i : ℕ) (y : X) → i ≡ n → slice_get xs i ≡ Some y → P i y
-    at_place P xs n x there holds i y place at = rw (place, same x y (sym at ∙ ap (slice_get xs) place ∙ there)) holds
+    at_place : {X : Type 0} (so : X → Type 0) (xs : List X) (n : ℕ) (x : X) → slice_get xs n ≡ Some x → so x
+        → (i : ℕ) (y : X) → i ≡ n → slice_get xs i ≡ Some y → so y
+    at_place so xs n x there here i y place at = rw (same x y (sym at ∙ ap (slice_get xs) place ∙ there)) here
 
 pub all_ok : {A E : Type 0} (Q : A → Type 0) (r : Result A E) → ((x : A) → Q x) → IfOk r Q
 all_ok Q (Ok x) f = f x
@@ -81,7 +80,7 @@ source_there p xs n x at is =
     list_any_at p xs n x (slice_get_within xs n x at) (ap p (get_or_from_slice_get xs n x x at) ∙ is)
 
 pub source_nowhere : {X : Type 0} (p : X → Bool) (xs : List X) (n : ℕ) → length xs ≤ n
-    → ((i : ℕ) (x : X) → i < n → slice_get xs i ≡ Some x → p x ≡ false) → list_any p xs ≡ false
+    → AreFirst (λ x. p x ≡ false) xs n → list_any p xs ≡ false
 source_nowhere p [] n past none = refl
 source_nowhere p (y ∷ ys) n past none =
     list_any_none p (y ∷ ys) (All-from_get_or (λ x. p x ≡ false) (y ∷ ys) y (λ k lt.

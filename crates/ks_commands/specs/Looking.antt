@@ -11,6 +11,7 @@ use Rattle.ks_hidden.specs.Candidates.{candidates}
 use Rattle.ks_hidden.specs.Macros.{DefiningLine, defining_word, includes}
 use Rattle.ks_hidden.specs.Precompiled.{is_among}
 use Rattle.ks_hidden.specs.Texts.{HiddenLine}
+use Rattle.ks_hidden.specs.Words.{is_such}
 use Rattle.ks_hidden.specs.declared.hidden.Hidden.{Hidden}
 use Rattle.ks_hidden.specs.declared.hidden.Hidden.TheVariants as hidden
 use Rattle.ks_fixdep.specs.DependencyFile.{is_header, prerequisites_without, refusal_without}
@@ -49,6 +50,19 @@ looked_by l = record {
   command = l.command.now;
 }
 
+-- ---- one after the other
+
+-- each of the first n is so
+abbrev pub AreFirst : {X : Type 0} → (X → Type 0) → List X → ℕ → Type 0
+AreFirst {X} so xs n = (i : ℕ) (x : X) → i < n → slice_get xs i ≡ Some x → so x
+
+abbrev pub AreAll : {X : Type 0} → (X → Type 0) → List X → Type 0
+AreAll so xs = AreFirst so xs (length xs)
+
+-- one is otherwise, and each before it is so
+abbrev pub AreUpTo : {X : Type 0} → (X → Type 0) → (X → Type 0) → List X → Type 0
+AreUpTo {X} so otherwise xs = (i : ℕ) × (x : X) × (slice_get xs i ≡ Some x) × AreFirst so xs i × otherwise x
+
 -- ---- paths
 
 -- the path that every source includes the header by
@@ -77,12 +91,9 @@ is_source header path = not (is_header header path) && not (is_of_system path) &
 
 -- ---- precompiled headers
 
--- there is no file at any of the first n of these paths, or at any of them
-abbrev pub AreAbsentBefore : Files → List (List ℕ) → ℕ → Type 0
-AreAbsentBefore files paths n = (i : ℕ) (p : List ℕ) → i < n → slice_get paths i ≡ Some p → content files p ≡ None
-
-abbrev pub AreAbsent : Files → List (List ℕ) → Type 0
-AreAbsent files paths = AreAbsentBefore files paths (length paths)
+-- there is no file at a path
+abbrev pub IsAbsent : Files → List ℕ → Type 0
+IsAbsent files path = content files path ≡ None
 
 -- one is found, or one is no path, so it is the source that is named
 abbrev pub IsFoundAt : Files → List ℕ → List ℕ → Hidden → Type 0
@@ -91,15 +102,14 @@ IsFoundAt files source path _ = ⊥
 
 -- none is found, or the first
 abbrev pub IsSought : Files → List ℕ → List (List ℕ) → Option Hidden → Type 0
-IsSought files source paths None = AreAbsent files paths
-IsSought files source paths (Some h) =
-    (i : ℕ) × (path : List ℕ) × (slice_get paths i ≡ Some path) × AreAbsentBefore files paths i × IsFoundAt files source path h
+IsSought files source paths None = AreAll (IsAbsent files) paths
+IsSought files source paths (Some h) = AreUpTo (IsAbsent files) (λ path. IsFoundAt files source path h) paths
 
 -- ---- a file
 
 -- A text hides nothing, and where it is a source no compiler finds a precompiled header for what it begins with.
 abbrev pub IsPlainText : Look → Files → List ℕ → List ℕ → Type 0
-IsPlainText look files path b = HiddenLine b None × (is_header_name path ≡ false → AreAbsent files (candidates look.is_listed path b look.command))
+IsPlainText look files path b = HiddenLine b None × (is_header_name path ≡ false → AreAll (IsAbsent files) (candidates look.is_listed path b look.command))
 
 -- or this is why not
 abbrev pub IsTextCause : Look → Files → List ℕ → List ℕ → Hidden → Type 0
@@ -145,17 +155,16 @@ IsListRefused text e = (none : Bor (List ℕ)) × (none.now ≡ codes "\n") × (
 abbrev pub is_listed : List (List ℕ × Role) → List ℕ → Bool
 is_listed listed path = list_any (λ p. bytes_eq path p.0) listed
 
--- the first n of them are as they should be, or all
-abbrev pub ArePlainBefore : Look → Files → List (List ℕ × Role) → ℕ → Type 0
-ArePlainBefore look files listed n = (i : ℕ) (p : List ℕ × Role) → i < n → slice_get listed i ≡ Some p → IsLookedAt look files p.0 None
+-- one is as it should be, or all are
+abbrev pub IsPlain : Look → Files → List ℕ × Role → Type 0
+IsPlain look files p = IsLookedAt look files p.0 None
 
 abbrev pub ArePlain : Look → Files → List (List ℕ × Role) → Type 0
-ArePlain look files listed = ArePlainBefore look files listed (length listed)
+ArePlain look files listed = AreAll (IsPlain look files) listed
 
 -- the first that isn't has this cause
 abbrev pub IsFirstCause : Look → Files → List (List ℕ × Role) → Hidden → Type 0
-IsFirstCause look files listed h =
-    (i : ℕ) × (p : List ℕ × Role) × (slice_get listed i ≡ Some p) × ArePlainBefore look files listed i × IsLookedAt look files p.0 (Some h)
+IsFirstCause look files listed h = AreUpTo (IsPlain look files) (λ p. IsLookedAt look files p.0 (Some h)) listed
 
 abbrev pub AreLookedAt : Look → Files → List (List ℕ × Role) → Option Hidden → Type 0
 AreLookedAt look files listed None = ArePlain look files listed
@@ -166,9 +175,7 @@ abbrev pub is_read : Look → List ℕ → Bool
 is_read look path = if is_header look.header path then is_own look.header look.alias path else not (is_of_system path)
 
 abbrev pub IsUnreadAmong : Look → Files → List (List ℕ × Role) → EngineError → Type 0
-IsUnreadAmong look files listed e =
-    (i : ℕ) × (p : List ℕ × Role) × (slice_get listed i ≡ Some p) × ArePlainBefore look files listed i
-    × (is_read look p.0 ≡ true) × (given files p.0 ≡ Err e)
+IsUnreadAmong look files listed e = AreUpTo (IsPlain look files) (λ p. (is_read look p.0 ≡ true) × (given files p.0 ≡ Err e)) listed
 
 -- one of them is compiled, and not included
 abbrev pub has_source : Header → List (List ℕ × Role) → Bool
@@ -177,8 +184,7 @@ has_source header listed = list_any (λ p. is_source header p.0) listed
 -- ---- macros that they include by their names
 
 abbrev pub includes_macro : Option (List ℕ) → List ℕ → Bool
-includes_macro None name = false
-includes_macro (Some text) name = includes text name
+includes_macro text name = is_such (λ b. includes b name) text
 
 -- a file that is looked at includes a macro of this name
 abbrev pub file_includes : Look → Files → List ℕ → List ℕ → Bool
@@ -189,25 +195,23 @@ file_includes look files path name =
 abbrev pub is_included : Look → Files → List (List ℕ × Role) → List ℕ → Bool
 is_included look files listed name = list_any (λ p. file_includes look files p.0 name) listed
 
--- the first n of all the files define none of these macros
-abbrev pub DefineNoneBefore : (List ℕ → Bool) → Files → List (List ℕ × Role) → ℕ → Type 0
-DefineNoneBefore is_macro files listed n =
-    (i : ℕ) (p : List ℕ × Role) → i < n → slice_get listed i ≡ Some p → (b : List ℕ) → content files p.0 ≡ Some b → DefiningLine is_macro b None
+-- a file defines none of these macros
+abbrev pub DefinesNone : (List ℕ → Bool) → Files → List ℕ × Role → Type 0
+DefinesNone is_macro files p = (b : List ℕ) → content files p.0 ≡ Some b → DefiningLine is_macro b None
 
 -- Nothing defines one of these macros; or a word of the command does, or a line of the first file in which they may be defined.
 abbrev pub IsDefinition : (List ℕ → Bool) → Files → List ℕ → List (List ℕ × Role) → Option Hidden → Type 0
 IsDefinition is_macro files command listed None =
-    (defining_word is_macro command ≡ None) × DefineNoneBefore is_macro files listed (length listed)
+    (defining_word is_macro command ≡ None) × AreAll (DefinesNone is_macro files) listed
 IsDefinition is_macro files command listed (Some (hidden.Argument n)) = defining_word is_macro command ≡ Some n
 IsDefinition is_macro files command listed (Some (hidden.Input path n)) = (defining_word is_macro command ≡ None)
-    × (i : ℕ) × (p : List ℕ × Role) × (slice_get listed i ≡ Some p) × DefineNoneBefore is_macro files listed i × (path ≡ p.0)
-    × (b : List ℕ) × (content files p.0 ≡ Some b) × DefiningLine is_macro b (Some n)
+    × AreUpTo (DefinesNone is_macro files) (λ p. (path ≡ p.0) × (b : List ℕ) × (content files p.0 ≡ Some b) × DefiningLine is_macro b (Some n)) listed
 IsDefinition is_macro files command listed (Some h) = ⊥
 
 -- or the first file in which they may be defined can't be read
 abbrev pub IsUnreadDefinition : (List ℕ → Bool) → Files → List ℕ → List (List ℕ × Role) → EngineError → Type 0
-IsUnreadDefinition is_macro files command listed e = (defining_word is_macro command ≡ None)
-    × (i : ℕ) × (p : List ℕ × Role) × (slice_get listed i ≡ Some p) × DefineNoneBefore is_macro files listed i × (given files p.0 ≡ Err e)
+IsUnreadDefinition is_macro files command listed e =
+    (defining_word is_macro command ≡ None) × AreUpTo (DefinesNone is_macro files) (λ p. given files p.0 ≡ Err e) listed
 
 -- ---- an object
 

@@ -1,6 +1,6 @@
 use Rattle.ks_commands.proofs.Prelude.{◌≡◌, ◌≤◌, length}
 use Rattle.ks_hidden.specs.Macros.{is_in}
-use Rattle.ks_commands.specs.Looking.{DefineNoneBefore}
+use Rattle.ks_commands.specs.Looking.{AreFirst, DefinesNone}
 use Rattle.ks_commands.proofs.looking.find_definition.Given as goal
 
 -- the files that were looked at define none of these macros
@@ -10,5 +10,5 @@ invariant-loop-place g l = record {
   kept : g.T.Tree.backdated l.tree ≡ g.T.Tree.backdated l.fn.tree;
   same : g.T.Tree.failures l.tree ≡ g.T.Tree.failures l.fn.tree;
   within : l.place ≤ length l.prerequisites;
-  none : g.T.Tree.is_honest → DefineNoneBefore (is_in l.macros) (g.T.Tree.files l.fn.tree) l.prerequisites l.place;
+  none : g.T.Tree.is_honest → AreFirst (DefinesNone (is_in l.macros) (g.T.Tree.files l.fn.tree)) l.prerequisites l.place;
 }

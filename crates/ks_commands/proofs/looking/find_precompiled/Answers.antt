@@ -1,6 +1,7 @@
 use Rattle.ks_commands.proofs.Prelude.{◌≡◌, ◌≢◌, inl, None, Some, content, map, rules}
 use Rattle.std.specs.Prelude.{slice_get, vec_items}
 use Rattle.std.proofs.lemmas.Option.{slice_get-map, slice_get_read, slice_get-get_or}
+use Rattle.ks_commands.specs.Looking.{IsAbsent}
 use Rattle.ks_commands.proofs.LookingLemmas.{one_more}
 use Rattle.ks_commands.proofs.looking.find_precompiled.Goals as goal
 
@@ -14,7 +15,7 @@ loop-place-preserved g c = record {
       let there : slice_get (map vec_items c.args.paths.now) c.loop-place.place ≡ Some c.as_slice-path.result.now =
       search (rules, slice_get-map, slice_get_read, slice_get-get_or) in
       let none : content (g.T.Tree.files c.args.tree.now) c.as_slice-path.result.now ≡ None = search rules in
-      one_more (λ i p. content (g.T.Tree.files c.args.tree.now) p ≡ None) (map vec_items c.args.paths.now) c.loop-place.place
+      one_more (IsAbsent (g.T.Tree.files c.args.tree.now)) (map vec_items c.args.paths.now) c.loop-place.place
       c.as_slice-path.result.now there none (c.loop-place.invariant.absent honest);
 }
 

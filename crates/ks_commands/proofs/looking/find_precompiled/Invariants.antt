@@ -1,5 +1,6 @@
-use Rattle.ks_commands.proofs.Prelude.{◌≡◌, ◌<◌, ◌≤◌, ℕ, List, None, Some, length, map, content}
-use Rattle.std.specs.Prelude.{slice_get, vec_items}
+use Rattle.ks_commands.proofs.Prelude.{◌≡◌, ◌≤◌, length, map}
+use Rattle.std.specs.Prelude.{vec_items}
+use Rattle.ks_commands.specs.Looking.{AreFirst, IsAbsent}
 use Rattle.ks_commands.proofs.looking.find_precompiled.Given as goal
 
 -- there is no file at the paths that were looked at
@@ -9,6 +10,5 @@ invariant-loop-place g l = record {
   kept : g.T.Tree.backdated l.tree ≡ g.T.Tree.backdated l.fn.tree;
   same : g.T.Tree.failures l.tree ≡ g.T.Tree.failures l.fn.tree;
   within : l.place ≤ length l.paths;
-  absent : g.T.Tree.is_honest → (i : ℕ) (p : List ℕ) → i < l.place → slice_get (map vec_items l.paths) i ≡ Some p
-      → content (g.T.Tree.files l.fn.tree) p ≡ None;
+  absent : g.T.Tree.is_honest → AreFirst (IsAbsent (g.T.Tree.files l.fn.tree)) (map vec_items l.paths) l.place;
 }

@@ -11,7 +11,7 @@ returns-then-is_source c =
 pub loop-place-preserved : goal.loop-place-preserved
 loop-place-preserved c = record {
   within = search rules;
-  none = one_more (λ i p. is_source c.args.header p.0 ≡ false) c.args.prerequisites.now c.loop-place.place (c.in-Some.path.now, c.in-Some.field-0-1)
+  none = one_more (λ p. is_source c.args.header p.0 ≡ false) c.args.prerequisites.now c.loop-place.place (c.in-Some.path.now, c.in-Some.field-0-1)
       (sym c.in-Some.ensures.value) (sym c.is_source.ensures ∙ c.if-is_source.false) c.loop-place.invariant.none;
 }
 

@@ -1,5 +1,5 @@
 use Rattle.ks_commands.proofs.Prelude.{None, arith, common_steps, rules, sym}
-use Rattle.ks_commands.specs.Looking.{IsLookedAt, looked_by}
+use Rattle.ks_commands.specs.Looking.{IsPlain, looked_by}
 use Rattle.ks_commands.proofs.LookingLemmas.{included_from, none_left, one_more}
 use Rattle.ks_commands.proofs.looking.look_at_all.Goals as goal
 
@@ -11,7 +11,7 @@ loop-place-preserved g c = record {
   within = search rules;
   plain = λ honest.
       let looked = rw (c.loop-place.invariant.unchanged honest, c.in_default-2.is) at (c.in_ok-hidden.ensures.looked honest) in
-      one_more (λ i p. IsLookedAt (looked_by c.args.look.now) (g.T.Tree.files c.args.tree.now) p.0 None) c.args.prerequisites.now c.loop-place.place
+      one_more (IsPlain (looked_by c.args.look.now) (g.T.Tree.files c.args.tree.now)) c.args.prerequisites.now c.loop-place.place
       (c.in-Some.path.now, c.in-Some.field-0-1) (sym c.in-Some.ensures.value) looked (c.loop-place.invariant.plain honest);
   noted = λ honest x.
       let look = looked_by c.args.look.now in

@@ -12,7 +12,7 @@ returns-then-is_header_name-clause-looked g c = λ honest.
       text,
       given_is (g.T.Tree.files c.args.tree.now) c.args.path.now text (c.in_ok-text.ensures.bytes honest),
       (
-        rw (c.deref.ensures.value) at (c.in_ok-line.ensures.none c.in_default.is),
+        rw (c.deref.ensures.value, c.in_default.is) at c.in_ok-line.ensures.found,
         λ named. absurd (false≢true (sym named ∙ sym c.is_header_name.ensures ∙ c.if-is_header_name.true)),
       ),
     )
@@ -22,7 +22,7 @@ returns-clause-looked g c = λ honest.
     let text = c.in_ok-text.text.items in
     let look = looked_by c.args.look.now in
     let there = given_is (g.T.Tree.files c.args.tree.now) c.args.path.now text (c.in_ok-text.ensures.bytes honest) in
-    let hides = rw (c.deref.ensures.value) at (c.in_ok-line.ensures.none c.in_default.is) in
+    let hides = rw (c.deref.ensures.value, c.in_default.is) at c.in_ok-line.ensures.found in
     let named = sym c.is_header_name.ensures ∙ c.if-is_header_name.false in
     let are : map vec_items c.deref-3.result.now ≡ candidates look.is_listed c.args.path.now text look.command =
     rw (c.deref-3.ensures.value, c.in_ok-paths.ensures, c.deref-2.ensures.value) refl in

@@ -28,26 +28,38 @@ least_of_either P Q None None none neither = λ k is. elim is [
   | inl one ↦ none k one
   | inr other ↦ neither k other
 ]
-least_of_either P Q None (Some m) none (there, before) = (inr there, λ k below is. elim is [
-  | inl one ↦ none k one
-  | inr other ↦ before k below other
-])
-least_of_either P Q (Some n) None (here, before) none = (inl here, λ k below is. elim is [
-  | inl one ↦ before k below one
-  | inr other ↦ none k other
-])
+least_of_either P Q None (Some m) none (there, before) = (
+  inr there,
+  λ k below is. elim is [
+    | inl one ↦ none k one
+    | inr other ↦ before k below other
+  ],
+)
+least_of_either P Q (Some n) None (here, before) none = (
+  inl here,
+  λ k below is. elim is [
+    | inl one ↦ before k below one
+    | inr other ↦ none k other
+  ],
+)
 least_of_either P Q (Some n) (Some m) (here, before) (there, others) =
     elim (cases_lt n m) [
       | inl lower ↦
-          least_at (λ k. P k ⊎ Q k) (min n m) n (omega (arith, lower)) (inl here, λ k below is. elim is [
-            | inl one ↦ before k below one
-            | inr other ↦ others k (omega (arith, below, lower)) other
-          ])
+          least_at (λ k. P k ⊎ Q k) (min n m) n (omega (arith, lower)) (
+            inl here,
+            λ k below is. elim is [
+              | inl one ↦ before k below one
+              | inr other ↦ others k (omega (arith, below, lower)) other
+            ],
+          )
       | inr reaches ↦
-          least_at (λ k. P k ⊎ Q k) (min n m) m (omega (arith, reaches)) (inr there, λ k below is. elim is [
-            | inl one ↦ before k (omega (arith, below, reaches)) one
-            | inr other ↦ others k below other
-          ])
+          least_at (λ k. P k ⊎ Q k) (min n m) m (omega (arith, reaches)) (
+            inr there,
+            λ k below is. elim is [
+              | inl one ↦ before k (omega (arith, below, reaches)) one
+              | inr other ↦ others k below other
+            ],
+          )
     ]
 
 pub least_of_both : (P Q : ℕ → Type 0) (r s l : Option ℕ) → l ≡ lesser r s → IsLeast P r → IsLeast Q s → IsLeast (λ k. P k ⊎ Q k) l

@@ -16,6 +16,7 @@ split=include/config/confstamp.h
 conf_header=include/config/confstamp.header
 make_mark=include/config/confstamp.make
 clock_ref=include/config/confstamp.time
+kconfigs_ahead=include/config/confstamp.kconfigs
 kept_auto=include/config/confstamp.auto
 kept_header=include/config/confstamp.autoconf
 verified=include/config/confstamp.verified

@@ -116,13 +116,19 @@ confstamp-synchronised = $(shell grep -qsxFf include/config/confstamp.generation
 	$(if $(confstamp-dialect),,&& grep -qsF '$(confstamp-mark)' include/config/auto.conf.cmd) && echo yes)
 endif
 
+# Where auto.conf had to get a time to come, as a Kconfig file has one, this is a list of these files with their times and sizes: a
+# change of another one doesn't show by its time.
+confstamp-kconfigs = include/config/confstamp.kconfigs
+confstamp-changed = $(if $(wildcard $(confstamp-kconfigs)),$(shell sed 's/ .*//' $(confstamp-kconfigs) | tr '\n' '\0' | \
+	xargs -0 stat -Lc '%n %y %z %s' 2>&1 | cmp -s - $(confstamp-kconfigs) || echo changed))
+
 # Where a recipe fails make removes its targets, and with auto.conf the generation would be lost; a synchronisation that fails
 # leaves its files as they may be. One that is part of a build counts no objects, since make is about to compile them. After each
 # make begins again, and must find that all is synchronised: it doesn't go on for ever where it never does.
 define confstamp-rules
 .PRECIOUS: $(addprefix include/,config/auto.conf config/auto.conf.cmd generated/autoconf.h generated/rustc_cfg)
 export CONFSTAMP_BUILDS := yes
-$(if $(confstamp-synchronised),,$(if $(filter-out 1 2 3,$(MAKE_RESTARTS)),$(confstamp-never))$(confstamp-last-file): FORCE)
+$(if $(if $(confstamp-changed),,$(confstamp-synchronised)),,$(if $(filter-out 1 2 3,$(MAKE_RESTARTS)),$(confstamp-never))$(confstamp-last-file): FORCE)
 $(confstamp-marks)
 endef
 

@@ -75,8 +75,8 @@ $(confstamp-state)/confstamp.mk: $(confstamp-sources) $(confstamp-pending)
 	cat $(confstamp-sources) > $(confstamp-kept).new && \
 	$(confstamp-program) $(confstamp-words) -C $(confstamp-dir) --wait 60 sync $(abspath $(confstamp-kconfig) $(confstamp-config)) \
 	> /dev/null && \
-	cat $(@D)/auto.conf $(confstamp-header) >> $(confstamp-kept).new && { echo '-include $(@D)/auto.conf' && \
-	sed -n 's/^#generation /confstamp-generation := /p' $(@D)/auto.conf; } > $@ && \
+	cat $(@D)/auto.conf $(confstamp-header) >> $(confstamp-kept).new && \
+	sed -n -e '/^CONFIG_/{s/\\$$/&$$()/;p;}' -e 's/^#generation /confstamp-generation := /p' $(@D)/auto.conf > $@ && \
 	mv $(confstamp-kept).new $(confstamp-kept); }
 
 .PHONY: confstamp-always

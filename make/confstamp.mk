@@ -122,10 +122,10 @@ confstamp-compile = $(if $(confstamp-why),$(call confstamp-run,$(1),$(2),$(confs
 confstamp-generate = $(if $(confstamp-why),$(call confstamp-run,$(1),$(2),$(confstamp-record),$(confstamp-known)))
 confstamp-link = $(if $(or $(confstamp-why),$(filter $@,$(confstamp-future))),$(call confstamp-run,$(1),$(2),$(1),))
 
-# What is known is read, and confstamp is asked of the recorded targets: each that is stale is named, and removed, so that it is
-# made by whatever tool. One that it doesn't answer for counts as stale. Before that each with a future mtime gets the present
-# one, so that what is made of it now is newer. A make that was called by another one, of the same directory, removes nothing,
-# since the other one may be compiling; nor does make -n.
+# What is known is read, and confstamp is asked of the recorded targets, though of none of the tree that this one is a copy of: each
+# that is stale is named, and removed, so that it is made by whatever tool. One that it doesn't answer for counts as stale. Before
+# that each with a future mtime gets the present one, so that what is made of it now is newer. A make that was called by another
+# one, of the same directory, removes nothing, since the other one may be compiling; nor does make -n.
 confstamp-watch = $(if $(strip $(1)),$(eval $(1): confstamp-always) \
 	$(foreach target,$(1),$(eval confstamp-watched_$(target) := yes)) \
 	$(call confstamp-read,$(wildcard $(foreach target,$(1),$(call confstamp-mk,$(target))))) \
@@ -141,8 +141,8 @@ confstamp-now := $(confstamp-state)/confstamp.now
 confstamp-gone := $(confstamp-state)/confstamp.gone
 confstamp-first := $(if $(filter $(abspath $(confstamp-dir)),$(CONFSTAMP_ASKED))$(findstring n,$(firstword -$(MAKEFLAGS))),,yes)
 export CONFSTAMP_ASKED := $(abspath $(confstamp-dir))
-confstamp-ask = $(file > $(confstamp-list),$(subst $(confstamp-space),$(confstamp-line-feed),$(strip $(confstamp-recorded)))) \
-	$(eval confstamp-stale := $(shell touch $(confstamp-now); $(if $(confstamp-first),$(confstamp-to-now);) \
+confstamp-ask = $(file > $(confstamp-list),$(subst $(confstamp-space),$(confstamp-line-feed),$(filter $(1),$(confstamp-recorded)))) \
+	$(eval confstamp-stale += $(shell touch $(confstamp-now); $(if $(confstamp-first),$(confstamp-to-now);) \
 	$(confstamp-program) -C $(confstamp-dir) --wait 60 stale --from $(abspath $(confstamp-list)) | \
 	awk ' \
 		asked { if ($$1 != "") unanswered[$$1]; next } \

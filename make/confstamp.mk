@@ -63,7 +63,7 @@ endif
 # The synchronisation, in a makefile that is included: make makes that anew before all else, and then begins again, with the
 # symbols of auto.conf, and asks which objects are stale. The text of the sources is taken before, so a change meanwhile is
 # seen. What was synchronised is kept last, so a synchronisation that was interrupted is done again. A tool that writes the same text once
-# more is no reason, else make would begin again for ever.
+# more is no reason, else make would begin again for ever. Makes of other directories may do the same at once, so names have a number.
 include $(confstamp-state)/confstamp.mk
 ifdef confstamp-maker
 $(confstamp-maker): $(confstamp-pending)
@@ -72,12 +72,12 @@ endif
 $(confstamp-state)/confstamp.mk: $(confstamp-sources) $(confstamp-pending)
 	@$(if $(confstamp-pending),false,cat $(confstamp-texts) | cmp -s - $(confstamp-kept) && [ -e $@ ]) || { \
 	$(if $(confstamp-silent),:,echo '  SYNC    $(confstamp-config)'); mkdir -p $(@D) && \
-	cat $(confstamp-sources) > $(confstamp-kept).new && \
+	trap 'rm -f $(confstamp-kept).$$$$' EXIT && cat $(confstamp-sources) > $(confstamp-kept).$$$$ && \
 	$(confstamp-program) $(confstamp-words) -C $(confstamp-dir) --wait 60 sync $(abspath $(confstamp-kconfig) $(confstamp-config)) \
 	> /dev/null && \
-	cat $(@D)/auto.conf $(confstamp-header) >> $(confstamp-kept).new && \
-	sed -n -e '/^CONFIG_/{s/\\$$/&$$()/;p;}' -e 's/^#generation /confstamp-generation := /p' $(@D)/auto.conf > $@ && \
-	mv $(confstamp-kept).new $(confstamp-kept); }
+	cat $(@D)/auto.conf $(confstamp-header) >> $(confstamp-kept).$$$$ && \
+	sed -n -e '/^CONFIG_/{s/\\$$/&$$()/;p;}' -e 's/^#generation /confstamp-generation := /p' $(@D)/auto.conf > $@.$$$$ && \
+	mv $@.$$$$ $@ && mv $(confstamp-kept).$$$$ $(confstamp-kept); }
 
 .PHONY: confstamp-always
 confstamp-always:
@@ -136,9 +136,10 @@ define confstamp-line-feed
 
 endef
 confstamp-space := $(subst ,, )
-confstamp-list := $(confstamp-state)/confstamp.list
+# Makes of several directories may ask at once, so each has its own list.
+confstamp-list := $(confstamp-state)/confstamp.list.$(shell echo $$PPID)
 confstamp-now := $(confstamp-state)/confstamp.now
-confstamp-gone := $(confstamp-state)/confstamp.gone
+confstamp-gone := $(confstamp-list).gone
 confstamp-first := $(if $(filter $(abspath $(confstamp-dir)),$(CONFSTAMP_ASKED))$(findstring n,$(firstword -$(MAKEFLAGS))),,yes)
 export CONFSTAMP_ASKED := $(abspath $(confstamp-dir))
 confstamp-ask = $(file > $(confstamp-list),$(subst $(confstamp-space),$(confstamp-line-feed),$(filter $(1),$(confstamp-recorded)))) \
@@ -149,7 +150,8 @@ confstamp-ask = $(file > $(confstamp-list),$(subst $(confstamp-space),$(confstam
 		$$2 == "fresh" { delete unanswered[$$1] } \
 		END { for (target in unanswered) print target } \
 	' asked=yes $(confstamp-list) asked= - | \
-	$(if $(confstamp-first),tee $(confstamp-gone); tr '\n' '\0' < $(confstamp-gone) | xargs -0r rm -f,cat)))
+	$(if $(confstamp-first),tee $(confstamp-gone); tr '\n' '\0' < $(confstamp-gone) | xargs -0r rm -f,cat); \
+	rm -f $(confstamp-list) $(confstamp-gone)))
 confstamp-to-now = tr '\n' '\0' < $(confstamp-list) | xargs -0r sh -c \
 	'find "$$@" -prune -newer $(confstamp-now) -exec touch -r $(confstamp-now) {} + 2> /dev/null' -
 

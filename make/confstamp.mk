@@ -39,6 +39,7 @@ confstamp-config ?= .config
 confstamp-dir ?= .
 confstamp-elsewhere := $(filter-out .,$(confstamp-dir))
 confstamp-below := $(if $(confstamp-elsewhere),$(abspath $(confstamp-dir))/)
+confstamp-path = $(if $(confstamp-elsewhere),$(abspath $(1)),$(1))
 confstamp-own-header := $(confstamp-header)
 confstamp-header ?= $(confstamp-below)include/generated/autoconf.h
 confstamp-state := $(confstamp-below)include/config
@@ -73,8 +74,8 @@ $(confstamp-state)/confstamp.mk: $(confstamp-sources) $(confstamp-pending)
 	@$(if $(confstamp-pending),false,cat $(confstamp-texts) | cmp -s - $(confstamp-kept) && [ -e $@ ]) || { \
 	$(if $(confstamp-silent),:,echo '  SYNC    $(confstamp-config)'); mkdir -p $(@D) && \
 	trap 'rm -f $(confstamp-kept).$$$$' EXIT && cat $(confstamp-sources) > $(confstamp-kept).$$$$ && \
-	$(confstamp-program) $(confstamp-words) -C $(confstamp-dir) --wait 60 sync $(abspath $(confstamp-kconfig) $(confstamp-config)) \
-	> /dev/null && \
+	$(confstamp-program) $(confstamp-words) -C $(confstamp-dir) --wait 60 sync \
+	$(call confstamp-path,$(confstamp-kconfig) $(confstamp-config)) > /dev/null && \
 	cat $(@D)/auto.conf $(confstamp-header) >> $(confstamp-kept).$$$$ && \
 	sed -n -e '/^CONFIG_/{s/\\$$/&$$()/;p;}' -e 's/^#generation /confstamp-generation := /p' $(@D)/auto.conf > $@.$$$$ && \
 	mv $@.$$$$ $@ && mv $(confstamp-kept).$$$$ $(confstamp-kept); }
@@ -116,7 +117,8 @@ confstamp-options = $(if $(confstamp-own-header),--header $(confstamp-own-header
 confstamp-cc = confstamp-cc $(if $(confstamp-elsewhere),-C $(confstamp-dir)) $(confstamp-words) $(confstamp-options) \
 	$(1) -MD -MF $(confstamp-depfile)
 confstamp-record = $(1) && { $(confstamp-program) $(confstamp-words) -C $(confstamp-dir) depfile $(confstamp-options) \
-	--strict $(abspath $(confstamp-header)) -- $(confstamp-depfile) $@ '$(confstamp-text)' > /dev/null || rm -f $(confstamp-cmd); }
+	--strict '$(call confstamp-text,$(abspath $(confstamp-header)))' -- $(confstamp-depfile) $@ '$(confstamp-text)' > /dev/null || \
+	rm -f $(confstamp-cmd); }
 
 confstamp-compile = $(if $(confstamp-why),$(call confstamp-run,$(1),$(2),$(confstamp-cc),$(confstamp-known)))
 confstamp-generate = $(if $(confstamp-why),$(call confstamp-run,$(1),$(2),$(confstamp-record),$(confstamp-known)))
@@ -144,7 +146,7 @@ confstamp-first := $(if $(filter $(abspath $(confstamp-dir)),$(CONFSTAMP_ASKED))
 export CONFSTAMP_ASKED := $(abspath $(confstamp-dir))
 confstamp-ask = $(file > $(confstamp-list),$(subst $(confstamp-space),$(confstamp-line-feed),$(filter $(1),$(confstamp-recorded)))) \
 	$(eval confstamp-stale += $(shell touch $(confstamp-now); $(if $(confstamp-first),$(confstamp-to-now);) \
-	$(confstamp-program) -C $(confstamp-dir) --wait 60 stale --from $(abspath $(confstamp-list)) | \
+	$(confstamp-program) -C $(confstamp-dir) --wait 60 stale --from $(call confstamp-path,$(confstamp-list)) | \
 	awk ' \
 		asked { if ($$1 != "") unanswered[$$1]; next } \
 		$$2 == "fresh" { delete unanswered[$$1] } \

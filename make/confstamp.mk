@@ -73,7 +73,7 @@ endif
 $(confstamp-state)/confstamp.mk: $(confstamp-sources) $(confstamp-pending)
 	@$(if $(confstamp-pending),false,cat $(confstamp-texts) | cmp -s - $(confstamp-kept) && [ -e $@ ]) || { \
 	$(if $(confstamp-silent),:,echo '  SYNC    $(confstamp-config)'); mkdir -p $(@D) && \
-	trap 'rm -f $(confstamp-kept).$$$$' EXIT && cat $(confstamp-sources) > $(confstamp-kept).$$$$ && \
+	trap 'rm -f $(confstamp-kept).$$$$' EXIT INT TERM && cat $(confstamp-sources) > $(confstamp-kept).$$$$ && \
 	$(confstamp-program) $(confstamp-words) -C $(confstamp-dir) --wait 60 sync \
 	$(call confstamp-path,$(confstamp-kconfig) $(confstamp-config)) > /dev/null && \
 	cat $(@D)/auto.conf $(confstamp-header) >> $(confstamp-kept).$$$$ && \
@@ -145,15 +145,15 @@ confstamp-gone := $(confstamp-list).gone
 confstamp-first := $(if $(filter $(abspath $(confstamp-dir)),$(CONFSTAMP_ASKED))$(findstring n,$(firstword -$(MAKEFLAGS))),,yes)
 export CONFSTAMP_ASKED := $(abspath $(confstamp-dir))
 confstamp-ask = $(file > $(confstamp-list),$(subst $(confstamp-space),$(confstamp-line-feed),$(filter $(1),$(confstamp-recorded)))) \
-	$(eval confstamp-stale += $(shell touch $(confstamp-now); $(if $(confstamp-first),$(confstamp-to-now);) \
+	$(eval confstamp-stale += $(shell trap 'rm -f $(confstamp-list) $(confstamp-gone)' EXIT INT TERM; \
+	touch $(confstamp-now); $(if $(confstamp-first),$(confstamp-to-now);) \
 	$(confstamp-program) -C $(confstamp-dir) --wait 60 stale --from $(call confstamp-path,$(confstamp-list)) | \
 	awk ' \
 		asked { if ($$1 != "") unanswered[$$1]; next } \
 		$$2 == "fresh" { delete unanswered[$$1] } \
 		END { for (target in unanswered) print target } \
 	' asked=yes $(confstamp-list) asked= - | \
-	$(if $(confstamp-first),tee $(confstamp-gone); tr '\n' '\0' < $(confstamp-gone) | xargs -0r rm -f,cat); \
-	rm -f $(confstamp-list) $(confstamp-gone)))
+	$(if $(confstamp-first),tee $(confstamp-gone); tr '\n' '\0' < $(confstamp-gone) | xargs -0r rm -f,cat)))
 confstamp-to-now = tr '\n' '\0' < $(confstamp-list) | xargs -0r sh -c \
 	'find "$$@" -prune -newer $(confstamp-now) -exec touch -r $(confstamp-now) {} + 2> /dev/null' -
 

@@ -97,6 +97,7 @@ confstamp-built = $(subst $(confstamp-hash),$$(confstamp-hash),$(subst $$,$$$$,$
 # Why COMMAND is to run: nothing, where it isn't.
 confstamp-why = $(strip $(if $(confstamp-watched_$@),,$(error $@ is none of the targets of confstamp-watch)) \
 	$(if $(confstamp-pending),$(error nothing was read again after the synchronisation)) \
+	$(if $(filter confstamp-failed,$(confstamp-stale)),$(error $(confstamp-program) does not say which targets are stale)) \
 	$(filter-out confstamp-always,$?) $(if $(wildcard $@),,absent) $(filter $@,$(confstamp-stale)) \
 	$(filter-out $(confstamp-generation),$(confstamp-at_$@)) \
 	$(if $(call confstamp-same,$(strip $(1)),$(confstamp-built_$@)),,other))
@@ -125,9 +126,10 @@ confstamp-generate = $(if $(confstamp-why),$(call confstamp-run,$(1),$(2),$(conf
 confstamp-link = $(if $(or $(confstamp-why),$(filter $@,$(confstamp-future))),$(call confstamp-run,$(1),$(2),$(1),))
 
 # What is known is read, and confstamp is asked of the recorded targets, though of none of the tree that this one is a copy of: each
-# that is stale is named, and removed, so that it is made by whatever tool. One that it doesn't answer for counts as stale. Before
-# that each with a future mtime gets the present one, so that what is made of it now is newer. A make that was called by another
-# one, of the same directory, removes nothing, since the other one may be compiling; nor does make -n.
+# that is stale is named, and removed, so that it is made by whatever tool. One that it doesn't answer for counts as stale, unless it
+# answers for none: then nothing is made. Before that each with a future mtime gets the present one, so that what is made of it now
+# is newer. A make that was called by another one, of the same directory, removes nothing, since the other one may be compiling; nor
+# does make -n.
 confstamp-watch = $(if $(strip $(1)),$(eval $(1): confstamp-always) \
 	$(foreach target,$(1),$(eval confstamp-watched_$(target) := yes)) \
 	$(call confstamp-read,$(wildcard $(foreach target,$(1),$(call confstamp-mk,$(target))))) \
@@ -149,9 +151,10 @@ confstamp-ask = $(file > $(confstamp-list),$(subst $(confstamp-space),$(confstam
 	touch $(confstamp-now); $(if $(confstamp-first),$(confstamp-to-now);) \
 	$(confstamp-program) -C $(confstamp-dir) --wait 60 stale --from $(call confstamp-path,$(confstamp-list)) | \
 	awk ' \
-		asked { if ($$1 != "") unanswered[$$1]; next } \
+		asked { if ($$1 != "") { unanswered[$$1]; failed = 1 } next } \
+		{ failed = 0 } \
 		$$2 == "fresh" { delete unanswered[$$1] } \
-		END { for (target in unanswered) print target } \
+		END { if (failed) print "confstamp-failed"; else for (target in unanswered) print target } \
 	' asked=yes $(confstamp-list) asked= - | \
 	$(if $(confstamp-first),tee $(confstamp-gone); tr '\n' '\0' < $(confstamp-gone) | xargs -0r rm -f,cat)))
 confstamp-to-now = tr '\n' '\0' < $(confstamp-list) | xargs -0r sh -c \

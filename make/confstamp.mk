@@ -130,7 +130,7 @@ confstamp-link = $(if $(or $(confstamp-why),$(filter $@,$(confstamp-future))),$(
 # answers for none: then nothing is made. Before that each with a future mtime gets the present one, so that what is made of it now
 # is newer. A make that was called by another one, of the same directory, removes nothing, since the other one may be compiling; nor
 # does make -n.
-confstamp-watch = $(if $(strip $(1)),$(eval $(1): confstamp-always) \
+confstamp-watch = $(if $(strip $(1)),$(eval $(1): confstamp-always)$(eval confstamp-all += $(1)) \
 	$(foreach target,$(1),$(eval confstamp-watched_$(target) := yes)) \
 	$(call confstamp-read,$(wildcard $(foreach target,$(1),$(call confstamp-mk,$(target))))) \
 	$(if $(confstamp-pending),,$(confstamp-ask)$(call confstamp-look,$(wildcard $(filter-out $(confstamp-recorded),$(1))))))
@@ -140,14 +140,16 @@ define confstamp-line-feed
 
 endef
 confstamp-space := $(subst ,, )
-# Makes of several directories may ask at once, so each has its own list.
-confstamp-list := $(confstamp-state)/confstamp.list.$(shell echo $$PPID)
+# Makes of several directories may ask at once, so each has its own list; that of the last one stays.
+confstamp-last := $(confstamp-state)/confstamp.list
+confstamp-list := $(confstamp-last).$(shell echo $$PPID)
 confstamp-now := $(confstamp-state)/confstamp.now
 confstamp-gone := $(confstamp-list).gone
 confstamp-first := $(if $(filter $(abspath $(confstamp-dir)),$(CONFSTAMP_ASKED))$(findstring n,$(firstword -$(MAKEFLAGS))),,yes)
 export CONFSTAMP_ASKED := $(abspath $(confstamp-dir))
-confstamp-ask = $(file > $(confstamp-list),$(subst $(confstamp-space),$(confstamp-line-feed),$(filter $(1),$(confstamp-recorded)))) \
-	$(eval confstamp-stale += $(shell trap 'rm -f $(confstamp-list) $(confstamp-gone)' EXIT INT TERM; \
+confstamp-asked = $(filter $(confstamp-all),$(confstamp-recorded))
+confstamp-ask = $(file > $(confstamp-list),$(subst $(confstamp-space),$(confstamp-line-feed),$(confstamp-asked))) \
+	$(eval confstamp-stale := $(shell trap 'mv $(confstamp-list) $(confstamp-last) 2> /dev/null; rm -f $(confstamp-gone)' EXIT INT TERM; \
 	touch $(confstamp-now); $(if $(confstamp-first),$(confstamp-to-now);) \
 	$(confstamp-program) -C $(confstamp-dir) --wait 60 stale --from $(call confstamp-path,$(confstamp-list)) | \
 	awk ' \

@@ -94,10 +94,15 @@ confstamp-silent := $(if $(filter undefined,$(origin confstamp-silent)),$(findst
 confstamp-text = $(subst $(confstamp-quote),'\$(confstamp-quote)',$(strip $(1)))
 confstamp-built = $(subst $(confstamp-hash),$$(confstamp-hash),$(subst $$,$$$$,$(call confstamp-text,$(1))))
 
+# Of several goals one may write the configuration, as in `make defconfig all`: so it is compared once more before the first command.
+confstamp-written = $(if $(word 2,$(MAKECMDGOALS)),$(if $(filter undefined,$(origin confstamp-compared)),$(eval confstamp-compared := \
+	$(shell cat $(confstamp-texts) 2> /dev/null | cmp -s - $(confstamp-kept) || echo other)))$(confstamp-compared))
+
 # Why COMMAND is to run: nothing, where it isn't.
 confstamp-why = $(strip $(if $(confstamp-watched_$@),,$(error $@ is none of the targets of confstamp-watch)) \
 	$(if $(confstamp-pending),$(error nothing was read again after the synchronisation)) \
-	$(if $(filter confstamp-failed,$(confstamp-stale)),$(error $(confstamp-program) does not say which targets are stale)) \
+	$(if $(filter confstamp-failed,$(confstamp-stale)),$(error $(confstamp-program) doesn't say which targets are stale: is it in PATH?)) \
+	$(if $(confstamp-written),$(error another goal of this make has written the configuration: run make again)) \
 	$(filter-out confstamp-always,$?) $(if $(wildcard $@),,absent) $(filter $@,$(confstamp-stale)) \
 	$(filter-out $(confstamp-generation),$(confstamp-at_$@)) \
 	$(if $(call confstamp-same,$(strip $(1)),$(confstamp-built_$@)),,other))

@@ -1,6 +1,6 @@
 -- What was looked at, one place after the other, and what a file that was read is.
 use native.Mathlib.Omega.{arith}
-use Rattle.ks_commands.proofs.Prelude.{◌<◌, ◌≡◌, ◌≤◌, ◌∙◌, ℕ, List, None, Some, Ok, Err, Option, Result, IfErr, IfOk, Files, Bool, true, false, All-from_get_or, [], ◌∷◌, inl, inr, sym, refl, ap, common_steps, content, given, length, list_any_at, list_any_none, get_or, ◌||◌, bytes_eq, drop, drop-cons, fun_ext, subst}
+use Rattle.ks_commands.proofs.Prelude.{◌≡◌, ◌≤◌, ◌∙◌, ℕ, List, None, Some, Ok, Err, Option, Result, IfErr, IfOk, Files, Bool, true, false, All-from_get_or, [], ◌∷◌, inl, inr, sym, refl, ap, common_steps, content, given, length, list_any_at, list_any_none, get_or, ◌||◌, bytes_eq, drop, drop-cons, fun_ext, subst}
 use Rattle.std.specs.Prelude.{slice_get, ◌+◌, ◌⊎◌, codes}
 use Rattle.std.specs.Borrow.{Bor}
 use Rattle.std.specs.List.{list_any}
@@ -14,7 +14,7 @@ use Rattle.ks_hidden.specs.Candidates.{candidates}
 use Rattle.indexmap.specs.IndexSet.{IndexSet, index_set_len}
 use Rattle.std.proofs.Common.{Vec}
 use Rattle.ks_output.proofs.Prelude.{bytes_decides}
-use Rattle.ks_hidden.specs.Macros.{is_in}
+use Rattle.ks_hidden.specs.Macros.{DefiningLine, defining_word, is_in}
 use Rattle.ks_hidden.specs.Texts.{HiddenLine}
 pub use Rattle.ks_hidden.proofs.TextLemmas.{if_ok}
 use Rattle.ks_hidden.specs.declared.hidden.Hidden.{Hidden}
@@ -31,7 +31,7 @@ use Rattle.ks_engine.specs.Recording.{there}
 use Rattle.ks_engine.specs.LastSync.{old_auto}
 use Rattle.ks_engine.specs.Refusals.{IsAborted, of_dep}
 use Rattle.ks_engine.specs.declared.error.EngineError.{EngineError}
-use Rattle.ks_commands.specs.Looking.{AreFirst, AreListed, ArePlain, FirstRead, IsDefinition, IsFound, IsInput, IsListRefused, IsSought, IsUnread, IsUnreadDefinition, IsUnreadListed, Look, file_includes, has_source, is_header_name, is_included, is_listed, look_by}
+use Rattle.ks_commands.specs.Looking.{AreFirst, AreListed, ArePlain, DefinesNone, FirstRead, IsDefinition, IsFound, IsInput, IsListRefused, IsSought, IsUnread, IsUnreadDefinition, IsUnreadListed, Look, file_includes, has_source, is_header_name, is_included, is_listed, look_by}
 
 -- What is so of the first ones and of the next is so of one more.
 pub one_more : {X : Type 0} (so : X → Type 0) (xs : List X) (n : ℕ) (x : X) → slice_get xs n ≡ Some x → so x → AreFirst so xs n → AreFirst so xs (n + 1)
@@ -159,6 +159,20 @@ some_key (v ∷ vs) some = (v.items, rw ((bytes_decides v.items v.items).1 refl)
 
 pub has_some : {S Y : Type 0} (s : IndexSet (Vec ℕ Y) S) → (index_set_len s ≡ 0 → ⊥) → (name : List ℕ) × (is_in s name ≡ true)
 has_some s some = some_key s.keys some
+
+-- a file that can be read defines none where its text does, and one that can't may define some
+pub defines_none : (m : List ℕ → Bool) (files : Files) (p : List ℕ × Role) (text : List ℕ) → content files p.0 ≡ Some text → DefiningLine m text None
+    → DefinesNone m files p
+defines_none m files p text there none b at = subst (λ t. DefiningLine m t None) (same_text text b (sym there ∙ at)) none
+  where
+    same_text : (x y : List ℕ) → ◌≡◌ {A = Option (List ℕ)} (Some x) (Some y) → x ≡ y
+    same_text x y is = grind (arith, common_steps, is)
+
+pub unread_definition : (m : List ℕ → Bool) (files : Files) (command : List ℕ) (listed : List (List ℕ × Role)) (n : ℕ) (p : List ℕ × Role) (e : EngineError)
+    → defining_word m command ≡ None → slice_get listed n ≡ Some p → AreFirst (DefinesNone m files) listed n → IsAborted e ⊎ (given files p.0 ≡ Err e)
+    → IsAborted e ⊎ IsUnreadDefinition m files command listed e
+unread_definition m files command listed n p e none at first (inl aborted) = inl aborted
+unread_definition m files command listed n p e none at first (inr is) = inr (none, (n, p, at, first, is))
 
 -- what defines a macro, and what can't be read, by a set of these
 pub found_of : (look : Look) (files : Files) (listed : List (List ℕ × Role)) → ArePlain look files listed → has_source look.header listed ≡ true

@@ -1,4 +1,4 @@
-use Rattle.ks_commands.proofs.Prelude.{None, arith, common_steps, rules, sym}
+use Rattle.ks_commands.proofs.Prelude.{arith, common_steps, rules, sym}
 use Rattle.ks_commands.specs.Looking.{IsPlain, looked_by}
 use Rattle.ks_commands.proofs.LookingLemmas.{included_from, none_left, one_more}
 use Rattle.ks_commands.proofs.looking.look_at_all.Goals as goal

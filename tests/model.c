@@ -2133,14 +2133,17 @@ static bool is_macro_at(Bytes text, size_t place, Bytes *macro)
     return macro->length > 0 && isalpha((unsigned char)macro->at[0]) && has_end;
 }
 
-/* Whether a text has one of the words by which a file may hide what it is made of, plainly. The macros that it includes by their names
-   are noted. */
+/* Whether a text has one of the words by which a file may hide what it is made of, plainly, a NUL, or a carriage return that ends a line
+   alone. The macros that it includes by their names are noted. */
 static bool is_hiding(Bytes text, Names *included)
 {
     static const char *const hiding[] = {".incbin", ".include", "__has_include", "__has_embed", "__DATE__", "__TIME__", "__TIMESTAMP__", NULL};
     Bytes macro;
     for (size_t i = 0; hiding[i]; i++)
         if (has_word(text, hiding[i]))
+            return true;
+    for (size_t i = 0; i < text.length; i++)
+        if (!text.at[i] || (text.at[i] == '\r' && !starts(from(text, i), "\r\n")))
             return true;
     for (size_t i = 0; i + 1 < text.length; i++) {
         Bytes after = from(text, i);

@@ -94,9 +94,10 @@ confstamp-silent := $(if $(filter undefined,$(origin confstamp-silent)),$(findst
 confstamp-text = $(subst $(confstamp-quote),'\$(confstamp-quote)',$(strip $(1)))
 confstamp-built = $(subst $(confstamp-hash),$$(confstamp-hash),$(subst $$,$$$$,$(call confstamp-text,$(1))))
 
-# Of several goals one may write the configuration, as in `make defconfig all`: so it is compared once more before the first command.
+# Of several goals one may write the configuration, as in `make defconfig all`: so it is compared once more before the first command. Where
+# one has removed all numbers, as in `make clean all`, nothing is recorded.
 confstamp-written = $(if $(word 2,$(MAKECMDGOALS)),$(if $(filter undefined,$(origin confstamp-compared)),$(eval confstamp-compared := \
-	$(shell cat $(confstamp-texts) 2> /dev/null | cmp -s - $(confstamp-kept) || echo other)))$(confstamp-compared))
+	$(shell [ ! -e $(confstamp-kept) ] || cat $(confstamp-texts) 2> /dev/null | cmp -s - $(confstamp-kept) || echo other)))$(confstamp-compared))
 
 # Why COMMAND is to run: nothing, where it isn't.
 confstamp-why = $(strip $(if $(confstamp-watched_$@),,$(error $@ is none of the targets of confstamp-watch)) \

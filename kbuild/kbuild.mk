@@ -116,8 +116,8 @@ confstamp-synchronised = $(shell grep -qsxFf include/config/confstamp.generation
 	$(if $(confstamp-dialect),,&& grep -qsF '$(confstamp-mark)' include/config/auto.conf.cmd) && echo yes)
 endif
 
-# Where auto.conf had to get a time to come, as a Kconfig file has one, this is a list of these files with their times and sizes: a
-# change of another one doesn't show by its time.
+# Where auto.conf had to get a future mtime, as a Kconfig file has one, this is a list of these files with their mtimes and sizes: a
+# change of another one doesn't show by its mtime.
 confstamp-kconfigs = include/config/confstamp.kconfigs
 confstamp-changed = $(if $(wildcard $(confstamp-kconfigs)),$(shell sed 's/ .*//' $(confstamp-kconfigs) | tr '\n' '\0' | \
 	xargs -0 stat -Lc '%n %y %z %s' 2>&1 | cmp -s - $(confstamp-kconfigs) || echo changed))

@@ -266,7 +266,8 @@ static void add_hiding(Text *text)
         ".incbin \"b\"", ".include \"b\"", "#if __has_include(<b.h>)", "__has_embed(x)", "__DATE__", "(__TIME__)", "__TIMESTAMP__",
         "#include NAME", "#include NAME", "#include NAME\r", "#include OTHER x", "#include _NAME", "#include NAME(x)", "#include CONFIG_A",
         "#ifdef NAME", "#if defined(NAME)", "defined ( NAME", "#undef\tNAME", "ifdef\vNAME", "#define NAME x", "OTHER", "NAMES", "_NAME",
-        "ab\\\ncd", "#include \"a.h\"", "#include <none.h>", "__TIME", "__DATES__", "ab \\\n cd", "ab\\\n",
+        "ab\\\ncd", "#include \"a.h\"", "#include <none.h>", "__TIME", "__DATES__", "ab \\\n cd", "ab\\\n", ".IncBin \"b\"", ".Include \"b\"",
+        ".iNCLUDEs", ".include2",
     };
     add_text(text, "\n%s\n", PICK(hiding));
 }

@@ -7,6 +7,7 @@
 #include <stdio.h>
 #include <stdlib.h>
 #include <string.h>
+#include <strings.h>
 
 bool auto_is_typed;
 
@@ -2119,6 +2120,16 @@ static bool has_word(Bytes text, const char *word)
     return false;
 }
 
+/* The same of a directive of the assembler, whose letters are of either case. */
+static bool has_directive(Bytes text, const char *name)
+{
+    size_t length = strlen(name);
+    for (size_t i = 0; i + length <= text.length; i++)
+        if (strncasecmp(text.at + i, name, length) == 0 && (i + length == text.length || !is_word_byte(text.at[i + length])))
+            return true;
+    return false;
+}
+
 static bool ends_name(char byte)
 {
     return byte == ' ' || byte == '\t' || byte == '\v' || byte == '\f' || byte == '\r' || byte == '\n';
@@ -2137,8 +2148,10 @@ static bool is_macro_at(Bytes text, size_t place, Bytes *macro)
    alone. The macros that it includes by their names are noted. */
 static bool is_hiding(Bytes text, Names *included)
 {
-    static const char *const hiding[] = {".incbin", ".include", "__has_include", "__has_embed", "__DATE__", "__TIME__", "__TIMESTAMP__", NULL};
+    static const char *const hiding[] = {"__has_include", "__has_embed", "__DATE__", "__TIME__", "__TIMESTAMP__", NULL};
     Bytes macro;
+    if (has_directive(text, ".incbin") || has_directive(text, ".include"))
+        return true;
     for (size_t i = 0; hiding[i]; i++)
         if (has_word(text, hiding[i]))
             return true;

@@ -3,7 +3,7 @@ use native.Mathlib.Omega.{arith}
 use Rattle.std.proofs.Common.{◌≡◌, ◌∙◌, ◌+◌, ◌-◌, ◌≤◌, ◌<◌, ◌==◌, ℕ, suc, zero, Bool, true, false, cond, List, [], ◌∷◌, ◌++◌, ◌||◌, ◌⊎◌, min, codes, None, Some, inl, inr, length, take, drop, refl, sym, ap, subst}
 use Rattle.std.proofs.lemmas.Bool.{cases_lt, false≢true}
 use Rattle.std.proofs.lemmas.Option.{slice_get_cases}
-use Rattle.std.proofs.lemmas.List.{get_or-drop, get_or-take, length-drop}
+use Rattle.std.proofs.lemmas.List.{get_or-take}
 use Rattle.std.proofs.lemmas.Grind.{common_steps, get_or_default_zero}
 use Rattle.std.proofs.lemmas.Slice.Eq.{bytes_eq-Decides}
 use Rattle.std.specs.List.{Contains, filter_map, list_any}
@@ -11,11 +11,11 @@ use Rattle.std.proofs.lemmas.List.Folds.{list_any-append}
 use Rattle.indexmap.specs.IndexSet.{insert_key}
 use Rattle.std.proofs.Common.{Vec}
 use Rattle.ks_output.proofs.Prelude.{bytes_decides, or_cases}
-use Rattle.std.specs.Prelude.{slice_index, ⊤, Option, Result, Ok, Err, IfOk, bytes_eq}
-use Rattle.memchr.specs.Find.{FindsNeedle, OccursAt, is_byte, is_byte2, places, places_from}
+use Rattle.std.specs.Prelude.{◌↔◌, IsTrue, slice_get, slice_index, ⊤, Option, Result, Ok, Err, IfOk, bytes_eq}
+use Rattle.memchr.specs.Find.{FindsNeedle, OccursAt, is_byte, is_byte3, places, places_from}
 use Rattle.ks_hidden.specs.Words.{is_such}
 use Rattle.ks_hidden.specs.Macros.{is_name, may_define}
-use Rattle.ks_hidden.specs.Texts.{HasLine, HiddenLine, IsLeast, IsMacroAt, IsMarkAt, first_computed, included_macro, is_joint, is_joint_of, is_stray, is_stray_of, lesser, line_number}
+use Rattle.ks_hidden.specs.Texts.{HasLine, HiddenLine, IsLeast, IsMacroAt, IsMarkAt, IsMarkOf, first_computed, included_macro, is_mark, lesser, line_number, makes_mark}
 
 -- ---- the least of some numbers
 
@@ -64,6 +64,11 @@ least_of_either P Q (Some n) (Some m) (here, before) (there, others) =
 
 pub least_of_both : (P Q : ℕ → Type 0) (r s l : Option ℕ) → l ≡ lesser r s → IsLeast P r → IsLeast Q s → IsLeast (λ k. P k ⊎ Q k) l
 least_of_both P Q r s l same one other = rw same (least_of_either P Q r s one other)
+
+-- what is the same at each number has the same least one
+pub least_alike : (P Q : ℕ → Type 0) (o : Option ℕ) → ((k : ℕ) → P k → Q k) → ((k : ℕ) → Q k → P k) → IsLeast P o → IsLeast Q o
+least_alike P Q None to from none = λ k is. none k (from k is)
+least_alike P Q (Some n) to from (here, before) = (to n here, λ k below is. before k below (from k is))
 
 -- the first occurrence of a word
 pub first_found : (text needle : List ℕ) (r : Option ℕ) → FindsNeedle text needle 0 r → IsLeast (OccursAt text needle) r
@@ -155,23 +160,6 @@ no_macro text none k (inr (inr (inl at))) = none k (underscores text _ k at)
 no_macro text none k (inr (inr (inr (inl at)))) = none k (underscores text _ k at)
 no_macro text none k (inr (inr (inr (inr at)))) = none k (underscores text _ k at)
 
--- a place in what follows another one, and back
-pub later : (text needle : List ℕ) (n i : ℕ) → n ≤ length text → OccursAt (drop n text) needle i → OccursAt text needle (n + i)
-later text needle n i within at = record {
-  fits = omega (arith, within, at.fits, length-drop n text);
-  reads = λ j below.
-      let place : n + i + j ≡ n + (i + j) = omega arith in
-      ap (λ p. slice_index text p) place ∙ sym (get_or-drop n text (i + j) 0) ∙ at.reads j below;
-}
-
-pub earlier : (text needle : List ℕ) (n k : ℕ) → n ≤ k → OccursAt text needle k → OccursAt (drop n text) needle (k - n)
-earlier text needle n k from at = record {
-  fits = omega (arith, from, at.fits, length-drop n text);
-  reads = λ j below.
-      let place : n + (k - n + j) ≡ k + j = omega (arith, from) in
-      get_or-drop n text (k - n + j) 0 ∙ ap (λ p. slice_index text p) place ∙ at.reads j below;
-}
-
 -- ---- places of bytes
 
 pub head_contained : (x : ℕ) (xs : List ℕ) → Contains (x ∷ xs) x
@@ -207,14 +195,36 @@ contained test hay k within is =
     let all : length hay - 0 ≡ length hay = omega arith in
     rw all (contained_from test hay 0 (length hay) k (omega arith) (omega (arith, within)) is)
 
+in_tail : (x : ℕ) (xs : List ℕ) (k : ℕ) → Contains (x ∷ xs) k → (x ≡ k) ⊎ Contains xs k
+in_tail x xs k (zero, within, is) = inl is
+in_tail x xs k (suc i, within, is) = inr (i, omega (arith, within), is)
+
+nothing_in_none : (k : ℕ) → Contains {X = ℕ} [] k → ⊥
+nothing_in_none k (i, within, is) = omega (arith, within)
+
+passing_head : (test : ℕ → Bool) (hay : List ℕ) (b : Bool) (i k : ℕ) (later : List ℕ) → test (slice_index hay i) ≡ b
+    → (Contains later k → test (slice_index hay k) ≡ true) → Contains (cond b (i ∷ later) later) k → test (slice_index hay k) ≡ true
+passing_head test hay true i k later is f h =
+    elim (in_tail i later k h) [
+      | inl same ↦ subst (λ j. test (slice_index hay j) ≡ true) same is
+      | inr more ↦ f more
+    ]
+passing_head test hay false i k later is f h = f h
+
+passing_from : (test : ℕ → Bool) (hay : List ℕ) (i n k : ℕ) → Contains (places_from test hay i n) k → test (slice_index hay k) ≡ true
+unfolding places_from
+passing_from test hay i zero k h = absurd (nothing_in_none k h)
+passing_from test hay i (suc n) k h =
+    passing_head test hay (test (slice_index hay i)) i k (places_from test hay (i + 1) n) refl (passing_from test hay (i + 1) n k) h
+
+-- and the byte of each of them passes it
+pub passing : (test : ℕ → Bool) (hay : List ℕ) (k : ℕ) → Contains (places test hay) k → test (slice_index hay k) ≡ true
+passing test hay k h = passing_from test hay 0 (length hay - 0) k h
+
 -- each is less than those that follow
 abbrev pub Rises : List ℕ → Type 0
 Rises [] = ⊤
 Rises (x ∷ xs) = ((k : ℕ) → Contains xs k → x < k) × Rises xs
-
-in_tail : (x : ℕ) (xs : List ℕ) (k : ℕ) → Contains (x ∷ xs) k → (x ≡ k) ⊎ Contains xs k
-in_tail x xs k (zero, within, is) = inl is
-in_tail x xs k (suc i, within, is) = inr (i, omega (arith, within), is)
 
 pub head_least : (x : ℕ) (xs : List ℕ) → Rises (x ∷ xs) → (k : ℕ) → k < x → Contains (x ∷ xs) k → ⊥
 head_least x xs rises k below h =
@@ -239,9 +249,6 @@ above_head true i xs above k h =
     ]
 above_head false i xs above k h = omega (arith, above k h)
 
-nothing_in_none : (k : ℕ) → Contains {X = ℕ} [] k → ⊥
-nothing_in_none k (i, within, is) = omega (arith, within)
-
 above : (test : ℕ → Bool) (hay : List ℕ) (i n k : ℕ) → Contains (places_from test hay i n) k → i ≤ k
 unfolding places_from
 above test hay i zero k h = absurd (nothing_in_none k h)
@@ -262,42 +269,71 @@ rising_from test hay i (suc n) =
 pub rising : (test : ℕ → Bool) (hay : List ℕ) → Rises (places test hay)
 rising test hay = rising_from test hay 0 (length hay - 0)
 
--- ---- joints and stray bytes
+-- ---- marks
 
--- a joint is at a backslash or a slash
-joint_byte : (before rest : List ℕ) (b : ℕ) (back slash : Bool) → (b == 92) ≡ back → (b == 47) ≡ slash → is_joint_of before rest b ≡ true
-    → is_byte2 92 47 b ≡ true
-joint_byte before rest b true slash first second is = grind (arith, common_steps, first)
-joint_byte before rest b false true first second is = grind (arith, common_steps, first, second)
-joint_byte before rest b false false first second is = grind (arith, common_steps, first, second, is)
+-- what is true exactly where two texts are equal is whether they are
+pub decided : (b : Bool) (x y : List ℕ) (e : Bool) → bytes_eq x y ≡ e → (IsTrue b ↔ (x ≡ y)) → b ≡ e
+decided true x y true is test = refl
+decided false x y false is test = refl
+decided true x y false is test = absurd (false≢true (sym is ∙ (bytes_decides x y).1 (test.0 refl)))
+decided false x y true is test = absurd (false≢true (test.1 ((bytes_decides x y).0 is)))
 
-pub joint_contained : (text : List ℕ) (k : ℕ) → is_joint text k ≡ true → Contains (places (is_byte2 92 47) text) k
-unfolding is_joint
-joint_contained text k is =
+-- a mark is a byte of the text
+mark_is_there : (text : List ℕ) (k : ℕ) → is_mark text k ≡ true → (b : ℕ) × (k < length text) × (slice_get text k ≡ Some b) × (slice_index text k ≡ b)
+    × (makes_mark (take k text) (drop (k + 1) text) b ≡ true)
+unfolding is_mark
+mark_is_there text k is =
     elim (slice_get_cases text k).1 [
-      | inl (b, within, at, value) ↦
-          let of : is_joint_of (take k text) (drop (k + 1) text) b ≡ true = subst (λ o. is_such (is_joint_of (take k text) (drop (k + 1) text)) o ≡ true) at is in
-          let byte : slice_index text k ≡ b = grind (arith, common_steps, get_or_default_zero, within, value) in
-          contained (is_byte2 92 47) text k within (ap (is_byte2 92 47) byte ∙ joint_byte (take k text) (drop (k + 1) text) b (b == 92) (b == 47) refl refl of)
-      | inr (past, at) ↦
-          absurd (false≢true (subst (λ o. is_such (is_joint_of (take k text) (drop (k + 1) text)) o ≡ true) at is))
+      | inl (b, within, at, value) ↦ (
+        b,
+        within,
+        at,
+        grind (arith, common_steps, get_or_default_zero, within, value),
+        subst (λ o. is_such (makes_mark (take k text) (drop (k + 1) text)) o ≡ true) at is,
+      )
+      | inr (past, at) ↦ absurd (false≢true (subst (λ o. is_such (makes_mark (take k text) (drop (k + 1) text)) o ≡ true) at is))
     ]
 
--- a stray byte is NUL or a carriage return
-stray_byte : (rest : List ℕ) (b : ℕ) (returns : Bool) → (b == 13) ≡ returns → is_stray_of rest b ≡ true → is_byte2 13 0 b ≡ true
-stray_byte rest b true same is = grind (arith, common_steps, same)
-stray_byte rest b false other is = grind (arith, common_steps, other, is)
+-- one of three bytes is among their places
+pub mark_contained : (a b c : ℕ) (text : List ℕ) (k : ℕ) → IsMarkOf a b c text k → Contains (places (is_byte3 a b c) text) k
+mark_contained a b c text k (is, among) =
+    let (here, within, at, value, made) = mark_is_there text k is in
+    contained (is_byte3 a b c) text k within (ap (is_byte3 a b c) value ∙ subst (λ o. is_such (is_byte3 a b c) o ≡ true) at among)
 
-pub stray_contained : (text : List ℕ) (k : ℕ) → is_stray text k ≡ true → Contains (places (is_byte2 13 0) text) k
-unfolding is_stray
-stray_contained text k is =
-    elim (slice_get_cases text k).1 [
-      | inl (b, within, at, value) ↦
-          let of : is_stray_of (drop (k + 1) text) b ≡ true = subst (λ o. is_such (is_stray_of (drop (k + 1) text)) o ≡ true) at is in
-          let byte : slice_index text k ≡ b = grind (arith, common_steps, get_or_default_zero, within, value) in
-          contained (is_byte2 13 0) text k within (ap (is_byte2 13 0) byte ∙ stray_byte (drop (k + 1) text) b (b == 13) refl of)
-      | inr (past, at) ↦ absurd (false≢true (subst (λ o. is_such (is_stray_of (drop (k + 1) text)) o ≡ true) at is))
+-- and what is a mark, and among them, is such a one
+pub mark_of : (a b c : ℕ) (text : List ℕ) (k : ℕ) → is_mark text k ≡ true → Contains (places (is_byte3 a b c) text) k → IsMarkOf a b c text k
+mark_of a b c text k is h =
+    let (here, within, at, value, made) = mark_is_there text k is in
+    (is, rw at (sym (ap (is_byte3 a b c) value) ∙ passing (is_byte3 a b c) text k h))
+
+-- each mark is one of these bytes
+mark_byte : (before rest : List ℕ) (b : ℕ) (back slash dot small large returns : Bool) → (b == 92) ≡ back → (b == 47) ≡ slash → (b == 46) ≡ dot
+    → (b == 98) ≡ small → (b == 66) ≡ large → (b == 13) ≡ returns → makes_mark before rest b ≡ true
+    → (is_byte3 0 0 0 b || (is_byte3 47 92 13 b || is_byte3 46 98 66 b)) ≡ true
+mark_byte before rest b back slash dot small large returns e1 e2 e3 e4 e5 e6 is = grind (arith, common_steps, e1, e2, e3, e4, e5, e6, is)
+
+mark_among : (a b c : ℕ) (text : List ℕ) (k here : ℕ) → is_mark text k ≡ true → slice_get text k ≡ Some here → is_byte3 a b c here ≡ true → IsMarkOf a b c text k
+mark_among a b c text k here is at among = (is, rw at among)
+
+pub each_mark : (text : List ℕ) (k : ℕ) → IsMarkAt text k
+    → IsMacroAt text k ⊎ (IsMarkOf 0 0 0 text k ⊎ (IsMarkOf 47 92 13 text k ⊎ IsMarkOf 46 98 66 text k))
+each_mark text k (inl macro) = inl macro
+each_mark text k (inr is) =
+    let (here, within, at, value, made) = mark_is_there text k is in
+    let byte = mark_byte (take k text) (drop (k + 1) text) here _ _ _ _ _ _ refl refl refl refl refl refl made in
+    elim (or_cases _ _ byte) [
+      | inl nul ↦ inr (inl (mark_among 0 0 0 text k here is at nul))
+      | inr others ↦ elim (or_cases _ _ others) [
+        | inl one ↦ inr (inr (inl (mark_among 47 92 13 text k here is at one)))
+        | inr other ↦ inr (inr (inr (mark_among 46 98 66 text k here is at other)))
+      ]
     ]
+
+pub is_a_mark : (text : List ℕ) (k : ℕ) → IsMacroAt text k ⊎ (IsMarkOf 0 0 0 text k ⊎ (IsMarkOf 47 92 13 text k ⊎ IsMarkOf 46 98 66 text k)) → IsMarkAt text k
+is_a_mark text k (inl macro) = inl macro
+is_a_mark text k (inr (inl nul)) = inr nul.0
+is_a_mark text k (inr (inr (inl one))) = inr one.0
+is_a_mark text k (inr (inr (inr other))) = inr other.0
 
 -- ---- macros
 

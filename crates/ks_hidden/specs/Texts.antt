@@ -3,7 +3,8 @@
 use Rattle.std.specs.Prelude.{◌≡◌, ◌⊎◌, ◌+◌, ◌-◌, ◌==◌, ◌||◌, ◌&&◌, not, ℕ, Bool, true, false, List, [], ◌∷◌, Option, Some, None, codes, drop, take, nat_eq, is_none, option_and_then, unwrap_or, length, slice_get, min, ◌<◌, if◌then◌else◌}
 use Rattle.std.specs.List.{ends_with, filter_map, prefix_len}
 use Rattle.std.specs.Char.{is_ascii_alphabetic}
-use Rattle.memchr.specs.Find.{OccursAt, is_byte, places}
+use Rattle.std.specs.Str.{str_eq_ignore_ascii_case}
+use Rattle.memchr.specs.Find.{OccursAt, is_byte, is_byte3, places}
 use Rattle.ks_symbols.specs.Lines.{lines}
 use Rattle.ks_symbols.specs.Names.{is_word_byte}
 use Rattle.ks_symbols.specs.Refusals.{or_else}
@@ -32,20 +33,7 @@ HasLine text holds n = (k : ℕ) × holds k × (n ≡ line_number text k)
 
 -- ---- marks
 
--- the byte is there, and is of the name of a directive
-abbrev pub is_of_directive : Option ℕ → Bool
-is_of_directive = is_such (λ b. is_word_byte b || b == 46 || b == 36)
-
--- At a place stands the name of a directive, and no longer one.
-abbrev pub IsDirective : List ℕ → List ℕ → ℕ → Type 0
-IsDirective text name k = OccursAt text name k × (is_of_directive (slice_get text (k + length name)) ≡ false)
-
--- or what the assembler reads a file by, in small or capital letters
-abbrev pub IsDirectiveAt : List ℕ → ℕ → Type 0
-IsDirectiveAt text k =
-    OccursAt text (codes "incbin") k ⊎ (IsDirective text (codes ".include") k ⊎ (OccursAt text (codes "INCBIN") k ⊎ IsDirective text (codes ".INCLUDE") k))
-
--- or a word of the preprocessor that looks for a file, or is of the time of a compile
+-- a word of the preprocessor that looks for a file, or is of the time of a compile
 abbrev pub IsMacroAt : List ℕ → ℕ → Type 0
 IsMacroAt text k =
     OccursAt text (codes "__has_include") k ⊎ (OccursAt text (codes "__has_embed") k
@@ -132,7 +120,7 @@ included_macros text = filter_map included_macro (lines text)
 abbrev pub is_hidden_include : List ℕ → Bool
 is_hidden_include line = is_computed_line line && is_none (included_macro line)
 
--- ---- joints
+-- ---- joints: what a compiler takes for one, and a search for words doesn't
 
 -- whether a byte is there, and is of a word
 abbrev pub is_of_word : Option ℕ → Bool
@@ -154,26 +142,49 @@ joins_word before rest = is_of_word (slice_get before (length before - 1)) && is
 unfoldable pub ends_comment : List ℕ → List ℕ → Bool
 ends_comment before rest = ends_with nat_eq before (codes "*") && is_computed_line rest
 
--- the one of a backslash, and the other of a slash
-abbrev pub is_joint_of : List ℕ → List ℕ → ℕ → Bool
-is_joint_of before rest b = if b == 92 then joins_word before rest else if b == 47 then ends_comment before rest else false
+-- ---- what the assembler reads a file by, in letters of either case
 
-unfoldable pub is_joint : List ℕ → ℕ → Bool
-is_joint text k = is_such (is_joint_of (take k text) (drop (k + 1) text)) (slice_get text k)
+-- a text begins with a word, or ends in it
+abbrev pub begins_as : List ℕ → List ℕ → Bool
+begins_as word text = str_eq_ignore_ascii_case (take (length word) text) word
 
--- ---- stray bytes
+abbrev pub ends_as : List ℕ → List ℕ → Bool
+ends_as word text = str_eq_ignore_ascii_case (drop (length text - length word) text) word
 
--- NUL, which a compiler passes over, and a carriage return that ends a line by itself
-abbrev pub is_stray_of : List ℕ → ℕ → Bool
-is_stray_of rest b = if b == 13 then is_none (behind (codes "\n") rest) else b == 0
+-- the byte is there, and is of the name of a directive
+abbrev pub is_of_directive : Option ℕ → Bool
+is_of_directive = is_such (λ b. is_word_byte b || b == 46 || b == 36)
 
-unfoldable pub is_stray : List ℕ → ℕ → Bool
-is_stray text k = is_such (is_stray_of (drop (k + 1) text)) (slice_get text k)
+-- A dot and what follows it are the directive `.include`, and no longer one.
+unfoldable pub begins_include : List ℕ → Bool
+begins_include rest = begins_as (codes "include") rest && not (is_of_directive (slice_get rest 7))
+
+-- What stands before a `b`, and what follows it, make it that of `incbin`.
+unfoldable pub is_in_incbin : List ℕ → List ℕ → Bool
+is_in_incbin before rest = ends_as (codes "inc") before && begins_as (codes "in") rest
 
 -- ---- all these places, and lines
 
+-- A byte between two texts is a mark: a backslash, a slash, a dot or a `b` of these; a carriage return that ends a line by itself; or NUL,
+-- which a compiler passes over.
+abbrev pub makes_mark : List ℕ → List ℕ → ℕ → Bool
+makes_mark before rest b =
+    if b == 92 then joins_word before rest
+    else if b == 47 then ends_comment before rest
+    else if b == 46 then begins_include rest
+    else if b == 98 || b == 66 then is_in_incbin before rest
+    else if b == 13 then is_none (behind (codes "\n") rest)
+    else b == 0
+
+unfoldable pub is_mark : List ℕ → ℕ → Bool
+is_mark text k = is_such (makes_mark (take k text) (drop (k + 1) text)) (slice_get text k)
+
+-- one of three bytes is such a mark
+abbrev pub IsMarkOf : ℕ → ℕ → ℕ → List ℕ → ℕ → Type 0
+IsMarkOf a b c text k = (is_mark text k ≡ true) × (is_such (is_byte3 a b c) (slice_get text k) ≡ true)
+
 abbrev pub IsMarkAt : List ℕ → ℕ → Type 0
-IsMarkAt text k = IsMacroAt text k ⊎ (IsDirectiveAt text k ⊎ ((is_joint text k ≡ true) ⊎ (is_stray text k ≡ true)))
+IsMarkAt text k = IsMacroAt text k ⊎ (is_mark text k ≡ true)
 
 -- the number of the first such line, where they are counted from n on, and in a text from 1 on
 unfoldable pub computed_from : ℕ → List (List ℕ) → Option ℕ

@@ -2,15 +2,16 @@
 //!
 //! Most texts hold nothing of that. So each is searched as a whole, and for few words.
 ghost use Rattle.std.specs.Prelude.{◌≡◌, ◌<◌, ◌≤◌, ◌||◌, ℕ, IfOk, IfSome, List, None, OnOk, drop, length, option_map, slice_get, true};
+ghost use Rattle.std.specs.Str.{str_eq_ignore_ascii_case};
 ghost use Rattle.memchr.specs.Find.{OccursAt};
 ghost use Rattle.ks_hidden.specs.Macros.{includes, is_in, is_name};
-ghost use Rattle.ks_hidden.specs.Texts.{HasLine, HiddenLine, IsDirective, IsDirectiveAt, IsLeast, IsMacroAt, IsMarkAt, after_include, after_line_end, after_sign, begins_blank, begins_joined, begins_letter, begins_other, ends_comment, first_computed, follows_computed, front_word, included_macro, is_blank, is_computed, is_computed_line, is_hidden_include, is_joint, is_of_directive, is_of_word, is_of_word_or_joins, is_stray, joins_word, lesser, line_number, macro_behind, macro_name, skip_blanks, skip_front};
+ghost use Rattle.ks_hidden.specs.Texts.{HasLine, HiddenLine, IsLeast, IsMacroAt, IsMarkAt, IsMarkOf, after_include, after_line_end, after_sign, begins_as, begins_blank, begins_include, begins_joined, begins_letter, begins_other, ends_as, ends_comment, first_computed, follows_computed, front_word, included_macro, is_blank, is_computed, is_computed_line, is_hidden_include, is_in_incbin, is_mark, is_of_directive, is_of_word, is_of_word_or_joins, joins_word, lesser, line_number, macro_behind, macro_name, skip_blanks, skip_front};
 
 use crate::words::behind;
 use bstr::ByteSlice;
 use indexmap::IndexSet;
 use ks_symbols::Seed;
-use memchr::{memchr_iter, memchr2_iter, memmem};
+use memchr::{memchr_iter, memchr3_iter, memmem};
 use std::alloc::{AllocError, Global};
 
 fn is_blank(byte: u8) -> bool
@@ -77,57 +78,6 @@ fn find_macro_quickly(text: &[u8]) -> Option<usize>
         Some(_) => find_macro(text),
         None => None,
     }
-}
-
-/// Whether a byte is there, and is of the name of a directive.
-fn is_of_directive(byte: Option<u8>) -> bool
-    ensures { result ≡ is_of_directive byte }
-{
-    match byte {
-        Some(byte) => byte.is_ascii_alphanumeric() || matches!(byte, b'_' | b'.' | b'$'),
-        None => false,
-    }
-}
-
-/// Whether the byte at a place is there, and is of the name of a directive.
-fn goes_on(text: &[u8], at: usize) -> bool
-    ensures { result ≡ is_of_directive (slice_get text.now at) }
-{
-    is_of_directive(text.get(at).copied())
-}
-
-/// What stands from a place on.
-fn from(text: &[u8], at: usize) -> &[u8]
-    requires { at ≤ length text.now }
-    ensures { result.now ≡ drop at text.now }
-{
-    &text[at..]
-}
-
-/// The first place of a directive of this name.
-fn find_named(text: &[u8], name: &[u8]) -> Option<usize>
-    requires { 0 < length name.now }
-    ensures { IsLeast (IsDirective text.now name.now) result }
-{
-    let mut start = 0;
-    while let Some(further) = find(from(text, start), name) {
-        let at = start + further;
-        if !goes_on(text, at + name.len()) {
-            return Some(at);
-        }
-        start = at + 1;
-    }
-    None
-}
-
-/// The first place of what the assembler reads a file by.
-fn find_directive(text: &[u8]) -> Option<usize>
-    ensures { IsLeast (IsDirectiveAt text.now) result }
-{
-    let first = find_named(text, b".INCLUDE");
-    let first = lesser(find(text, b"INCBIN"), first);
-    let first = lesser(find_named(text, b".include"), first);
-    lesser(find(text, b"incbin"), first)
 }
 
 /// What follows the word of an include with which a text begins.
@@ -375,48 +325,75 @@ fn ends_comment(before: &[u8], rest: &[u8]) -> bool
     before.ends_with(b"*") && is_computed_line(rest)
 }
 
-/// Whether a text has a joint at a place: what a compiler joins there, but a search for words doesn't.
-#[tactic(auto, unfolding(crate::specs::Texts::is_joint))]
-fn is_joint(text: &[u8], at: usize) -> bool
-    ensures { result ≡ is_joint text.now at }
+/// Whether two texts are one, but for the case of their letters.
+fn is_alike(one: &[u8], other: &[u8]) -> bool
+    ensures { result ≡ str_eq_ignore_ascii_case one.now other.now }
+{
+    one.eq_ignore_ascii_case(other)
+}
+
+/// Whether a text begins with a word, in letters of either case.
+fn begins_as(text: &[u8], word: &[u8]) -> bool
+    ensures { result ≡ begins_as word.now text.now }
+{
+    is_alike(&text[..word.len().min(text.len())], word)
+}
+
+/// Whether a text ends in a word, in letters of either case.
+fn ends_as(text: &[u8], word: &[u8]) -> bool
+    ensures { result ≡ ends_as word.now text.now }
+{
+    is_alike(&text[text.len().saturating_sub(word.len())..], word)
+}
+
+/// Whether a byte is there, and is of the name of a directive.
+fn is_of_directive(byte: Option<u8>) -> bool
+    ensures { result ≡ is_of_directive byte }
+{
+    match byte {
+        Some(byte) => byte.is_ascii_alphanumeric() || matches!(byte, b'_' | b'.' | b'$'),
+        None => false,
+    }
+}
+
+/// Whether a dot before this is that of the directive by which the assembler includes a file.
+#[tactic(auto, unfolding(crate::specs::Texts::begins_include))]
+fn begins_include(rest: &[u8]) -> bool
+    ensures { result ≡ begins_include rest.now }
+{
+    begins_as(rest, b"include") && !is_of_directive(rest.get(7).copied())
+}
+
+/// Whether a `b` between these texts is that of the directive by which it takes over a file's bytes.
+#[tactic(auto, unfolding(crate::specs::Texts::is_in_incbin))]
+fn is_in_incbin(before: &[u8], rest: &[u8]) -> bool
+    ensures { result ≡ is_in_incbin before.now rest.now }
+{
+    ends_as(before, b"inc") && begins_as(rest, b"in")
+}
+
+/// Whether the byte at a place stands for more than a search for words sees.
+#[tactic(auto, unfolding(crate::specs::Texts::is_mark))]
+fn is_mark(text: &[u8], at: usize) -> bool
+    ensures { result ≡ is_mark text.now at }
 {
     match text.get(at) {
         Some(b'\\') => joins_word(&text[..at], &text[at + 1..]),
         Some(b'/') => ends_comment(&text[..at], &text[at + 1..]),
-        _ => false,
-    }
-}
-
-/// The first joint.
-fn find_joint(text: &[u8]) -> Option<usize>
-    ensures { IsLeast (λ k. is_joint text.now k ≡ true) result }
-{
-    for at in memchr2_iter(b'\\', b'/', text) {
-        if is_joint(text, at) {
-            return Some(at);
-        }
-    }
-    None
-}
-
-/// Whether a byte is NUL, or a carriage return that ends a line by itself.
-#[tactic(auto, unfolding(crate::specs::Texts::is_stray))]
-fn is_stray(text: &[u8], at: usize) -> bool
-    ensures { result ≡ is_stray text.now at }
-{
-    match text.get(at) {
+        Some(b'.') => begins_include(&text[at + 1..]),
+        Some(b'b' | b'B') => is_in_incbin(&text[..at], &text[at + 1..]),
         Some(b'\r') => behind(b"\n", &text[at + 1..]).is_none(),
         Some(byte) => *byte == 0,
         None => false,
     }
 }
 
-/// The first such byte.
-fn find_stray(text: &[u8]) -> Option<usize>
-    ensures { IsLeast (λ k. is_stray text.now k ≡ true) result }
+/// The first place of one of three bytes that is such a mark.
+fn find_of(text: &[u8], one: u8, other: u8, third: u8) -> Option<usize>
+    ensures { IsLeast (IsMarkOf one other third text.now) result }
 {
-    for at in memchr2_iter(b'\r', 0, text) {
-        if is_stray(text, at) {
+    for at in memchr3_iter(one, other, third, text) {
+        if is_mark(text, at) {
             return Some(at);
         }
     }
@@ -427,8 +404,11 @@ fn find_stray(text: &[u8]) -> Option<usize>
 fn find_mark(text: &[u8]) -> Option<usize>
     ensures { IsLeast (IsMarkAt text.now) result }
 {
-    let first = lesser(find_joint(text), find_stray(text));
-    let first = lesser(find_directive(text), first);
+    let first = lesser(
+        find_of(text, b'/', b'\\', b'\r'),
+        find_of(text, b'.', b'b', b'B'),
+    );
+    let first = lesser(find_of(text, 0, 0, 0), first);
     lesser(find_macro_quickly(text), first)
 }
 

@@ -9,7 +9,7 @@
 # counted in `passed` and `skipped`, and by name in `failed`; `reasons` has the last lines of each that failed. `log` is a file.
 # shellcheck shell=bash disable=SC2154
 
-seconds_allowed=300
+seconds_allowed=600
 
 # Those that take minutes. They begin first.
 longest='tests/refused-memory tests/kills examples/make examples/projects tests/fuzz'

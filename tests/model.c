@@ -1974,7 +1974,9 @@ static bool has_known_front(Bytes word)
         "-D", "-U", "-I", "-O", "-g", "-W", "-o", "-MF", "-MQ", "-MT", "-isystem", "-iquote", "-idirafter", "-imacros", "-include", "-pedantic",
         "-l", "-L", "-nostd", "-static", "-shared", "-stdlib=", "-std=", "--std=", "--param=", "--sysroot=", "--target=", "--gcc-toolchain=", NULL,
     };
-    static const char *const refused_fronts[] = {"-I=", "-I$", "-isystem=", "-iquote=", "-idirafter=", "-include-pch", "-Wa,", "-Wp,", NULL};
+    static const char *const refused_fronts[] = {
+        "-I=", "-I$", "-isystem=", "-iquote=", "-idirafter=", "-include-pch", "-Wa,", "-Wp,", "-g3", "-ggdb3", NULL,
+    };
     return begins_with_one(word, fronts) && !begins_with_one(word, refused_fronts);
 }
 
@@ -1994,7 +1996,7 @@ static bool is_known_flag(Bytes word)
         return false;
     if (begins_with_one(word, ONE_OF("-fno-", "-fuse-ld=", "-fuse-cxa-atexit")) || has_text(word, "-prefix-map="))
         return true;
-    return !begins_with_one(word, ONE_OF("-fauto-profile", "-fbranch-", "-fmodule", "-fprebuilt-module")) &&
+    return !begins_with_one(word, ONE_OF("-fauto-profile", "-fbranch-", "-fdebug-macro", "-fmodule", "-fprebuilt-module")) &&
            !has_one(word, ONE_OF("use", "plugin", "list", "/", "@"));
 }
 

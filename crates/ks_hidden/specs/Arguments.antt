@@ -79,11 +79,13 @@ has_known_front word =
     ∷ codes "-idirafter" ∷ codes "-imacros" ∷ codes "-include" ∷ codes "-pedantic" ∷ codes "-l" ∷ codes "-L" ∷ codes "-nostd" ∷ codes "-static" ∷ codes "-shared"
     ∷ codes "-stdlib=" ∷ codes "-std=" ∷ codes "--std=" ∷ codes "--param=" ∷ codes "--sysroot=" ∷ codes "--target=" ∷ codes "--gcc-toolchain=" ∷ []) word
 
--- or one that begins as such, and names a directory by that of the system (=), a precompiled header, or options for a part of the compiler
+-- or one that begins as such, and names a directory by that of the system (=), a precompiled header, or options for a part of the compiler, or
+-- puts all macros into the debug information
 unfoldable pub has_refused_front : List ℕ → Bool
 has_refused_front word =
     begins_with_one
-    (codes "-I=" ∷ codes "-I$" ∷ codes "-isystem=" ∷ codes "-iquote=" ∷ codes "-idirafter=" ∷ codes "-include-pch" ∷ codes "-Wa," ∷ codes "-Wp," ∷ []) word
+    (codes "-I=" ∷ codes "-I$" ∷ codes "-isystem=" ∷ codes "-iquote=" ∷ codes "-idirafter=" ∷ codes "-include-pch" ∷ codes "-Wa," ∷ codes "-Wp," ∷ codes "-g3"
+    ∷ codes "-ggdb3" ∷ []) word
 
 -- the value of an option has no comma and no @
 abbrev pub is_plain_value : Option (List ℕ) → Bool
@@ -97,12 +99,12 @@ is_known_inside word =
     || (begins_with_one (codes "-Wa,--" ∷ codes "-Wa,-W" ∷ codes "-Wa,-m" ∷ codes "-Wa,-M" ∷ codes "-Wa,-n" ∷ []) word
     && not (has_one (codes ",-I" ∷ codes "@" ∷ []) word))
 
--- how code is made: no file is used, as a profile or a plugin
+-- how code is made: no file is used, as a profile or a plugin, and no macro is kept
 unfoldable pub is_known_flag : List ℕ → Bool
 is_known_flag word =
     begins_with_one (codes "-fno-" ∷ codes "-fuse-ld=" ∷ codes "-fuse-cxa-atexit" ∷ []) word
     || (starts_with nat_eq word (codes "-f") && (has word (codes "-prefix-map=")
-    || (not (begins_with_one (codes "-fauto-profile" ∷ codes "-fbranch-" ∷ codes "-fmodule" ∷ codes "-fprebuilt-module" ∷ []) word)
+    || (not (begins_with_one (codes "-fauto-profile" ∷ codes "-fbranch-" ∷ codes "-fdebug-macro" ∷ codes "-fmodule" ∷ codes "-fprebuilt-module" ∷ []) word)
     && not (has_one (codes "use" ∷ codes "plugin" ∷ codes "list" ∷ codes "/" ∷ codes "@" ∷ []) word))))
 
 -- and for which machine

@@ -270,6 +270,8 @@ fn has_refused_front(word: &[u8]) -> bool
             b"-include-pch",
             b"-Wa,",
             b"-Wp,",
+            b"-g3",
+            b"-ggdb3",
         ],
         word,
     )
@@ -318,6 +320,7 @@ fn is_known_flag(word: &[u8]) -> bool
         &[
             b"-fauto-profile",
             b"-fbranch-",
+            b"-fdebug-macro",
             b"-fmodule",
             b"-fprebuilt-module",
         ],

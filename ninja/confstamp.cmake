@@ -16,7 +16,7 @@ if(NOT confstamp_dotconfig)
 endif()
 set_property(DIRECTORY APPEND PROPERTY CMAKE_CONFIGURE_DEPENDS ${confstamp_kconfig} ${confstamp_dotconfig})
 execute_process(COMMAND confstamp-sync -C ${CMAKE_BINARY_DIR} ${confstamp_kconfig} ${confstamp_dotconfig} COMMAND_ERROR_IS_FATAL ANY)
-foreach(confstamp_language C CXX ASM)
+foreach(confstamp_language C CXX OBJC OBJCXX)
   set(CMAKE_${confstamp_language}_COMPILER_LAUNCHER confstamp-cc ${CMAKE_${confstamp_language}_COMPILER_LAUNCHER})
 endforeach()
 

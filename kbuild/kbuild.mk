@@ -177,7 +177,7 @@ $(if $(KBUILD_EXTMOD),,$(confstamp-whole): ; $$(confstamp-ended))
 endef
 
 # The tree's numbers may have gone on since an external module's objects were recorded. So these are asked about as make begins.
-confstamp-mark-due = $(if $(CONFSTAMP_ASKS),,$(if $(shell $(if $(confstamp-elsewhere),cd $(objtree) &&) $(CONFSTAMP_KBUILD)/mark \
+confstamp-mark-due = $(if $(confstamp-only-asked),,$(if $(shell $(if $(confstamp-elsewhere),cd $(objtree) &&) $(CONFSTAMP_KBUILD)/mark \
 	$(if $(confstamp-elsewhere),$(CURDIR),$(KBUILD_EXTMOD)) || echo failed),$(error stale objects could not be marked)))
 ifneq ($(KBUILD_EXTMOD),$(CONFSTAMP_MARKED))
 export CONFSTAMP_MARKED := $(KBUILD_EXTMOD)

@@ -55,11 +55,19 @@ endif
 # In front of the command by which Xen removes auto.conf before each synchronisation: that touches all symbols.
 confstamp-keeps = @:
 
-# As make makes the recipe, before the compiler runs: the command file is emptied, so that make compiles once more what is compiled
-# and not recorded, as where it is killed in between; and the target is listed as one that was recorded in this tree, or, where it
-# stands elsewhere, in the directory of this external module. make itself writes, since a process for each object would cost more.
-confstamp-begin = $(if $(confstamp-only-asked),,$(if $(wildcard $(confstamp-command-file)),$(confstamp-empty))$(if $(wildcard \
-	$(confstamp-records)),$(confstamp-list)))
+# As make makes the recipe, before the compiler or linker runs: the command file is emptied, so that make makes once more what is
+# made and not recorded, as where it is killed in between. make itself writes, since a process for each target would cost more. Each
+# recipe with a command file expands make-cmd; BusyBox's has a `#`, so it is defined as a whole.
+confstamp-emptied = $(if $(confstamp-only-asked),,$(if $(wildcard $(confstamp-command-file)),$(confstamp-empty)))
+define confstamp-make-cmd
+define make-cmd
+$$(confstamp-emptied)$(value make-cmd)
+endef
+endef
+$(eval $(confstamp-make-cmd))
+
+# An object is also listed as one that was recorded in this tree, or, where it stands elsewhere, in the directory of this external module.
+confstamp-begin = $(if $(confstamp-only-asked),,$(if $(wildcard $(confstamp-records)),$(confstamp-list)))
 confstamp-command-file = $(@D)/.$(@F).cmd
 confstamp-records = $(if $(confstamp-outside),$(if $(confstamp-elsewhere),.,$(KBUILD_EXTMOD))/.confstamp.records,$(if \
 	$(confstamp-elsewhere),$(confstamp-elsewhere)/)include/config/confstamp.records)

@@ -134,6 +134,7 @@ confstamp-changed = $(if $(wildcard $(confstamp-kconfigs)),$(shell sed 's/ .*//'
 # leaves its files as they may be. One that is part of a build counts no objects, since make is about to compile them. After each
 # make begins again, and must find that all is synchronised: it doesn't go on for ever where it never does.
 define confstamp-rules
+$(confstamp-take-over)
 .PRECIOUS: $(addprefix include/,config/auto.conf config/auto.conf.cmd generated/autoconf.h generated/rustc_cfg)
 export CONFSTAMP_BUILDS := yes
 $(if $(if $(confstamp-changed),,$(confstamp-synchronised)),,$(if $(filter-out 1 2 3,$(MAKE_RESTARTS)),$(confstamp-never))$(confstamp-last-file): FORCE)
@@ -144,6 +145,9 @@ endef
 ifneq ($(filter %Makefile.build,$(MAKEFILE_LIST)),)
 confstamp-rules :=
 endif
+# U-Boot's make writes include/autoconf.mk after a synchronisation. Where it is killed before, it never begins again.
+confstamp-take-over = $(if $(and $(MAKE_RESTARTS),$(wildcard include/config/confstamp.pending)),$(shell mv -f \
+	include/config/confstamp.pending include/config/confstamp.config))
 confstamp-never = $(error confstamp has synchronised $(MAKE_RESTARTS) times, and $(confstamp-config) still isn't what was synchronised)
 
 # kbuild/restore needs to know whether the last make of all ended well. When one begins, this file gets the word `begun`, and at its

@@ -108,9 +108,11 @@ confstamp-why = $(strip $(if $(confstamp-watched_$@),,$(error $@ is none of the 
 	$(filter-out $(confstamp-generation),$(confstamp-at_$@)) \
 	$(if $(call confstamp-same,$(strip $(1)),$(confstamp-built_$@)),,other))
 
-# confstamp-run COMMAND LABEL WORDS KNOWN: the recipe. .TARGET.mk is emptied first, and has the command only at the end.
-confstamp-run = @$(call confstamp-report,$(1),$(2)); $(if $(wildcard $(@D)),,mkdir -p $(@D) &&) : > $(call confstamp-mk,$@) && \
-	( $(3) ) && { $(4) printf '%s\n' 'confstamp-built_$@ := $(call confstamp-built,$(1))'; } > $(call confstamp-mk,$@)
+# confstamp-run COMMAND LABEL WORDS KNOWN: the recipe. .TARGET.mk is emptied first, and has the command only at the end. COMMAND stands
+# in no list of && or ||, since a shell ignores `set -e` there.
+confstamp-run = @$(call confstamp-report,$(1),$(2)); $(if $(wildcard $(@D)),,mkdir -p $(@D) &&) : > $(call confstamp-mk,$@) || exit; \
+	( $(3) ); set -- $$?; [ $$1 = 0 ] || exit $$1; \
+	{ $(4) printf '%s\n' 'confstamp-built_$@ := $(call confstamp-built,$(1))'; } > $(call confstamp-mk,$@)
 confstamp-report = $(if $(confstamp-silent),:,$(if $(and $(2),$(if $(filter 1,$(V)),,yes)),printf '  %-7s %s\n' '$(2)' \
 	'$(patsubst $(CURDIR)/%,%,$@)',printf '%s\n' '$(confstamp-text)'))
 
@@ -155,7 +157,7 @@ confstamp-first := $(if $(filter $(abspath $(confstamp-dir)),$(CONFSTAMP_ASKED))
 export CONFSTAMP_ASKED := $(abspath $(confstamp-dir))
 confstamp-asked = $(filter $(confstamp-all),$(confstamp-recorded))
 confstamp-ask = $(file > $(confstamp-list),$(subst $(confstamp-space),$(confstamp-line-feed),$(confstamp-asked))) \
-	$(eval confstamp-stale := $(shell trap 'mv $(confstamp-list) $(confstamp-last) 2> /dev/null; rm -f $(confstamp-gone)' EXIT INT TERM; \
+	$(eval confstamp-stale := $(shell set +e; trap 'mv $(confstamp-list) $(confstamp-last) 2> /dev/null; rm -f $(confstamp-gone)' EXIT INT TERM; \
 	touch $(confstamp-now); $(if $(confstamp-first),$(confstamp-to-now);) \
 	$(confstamp-program) -C $(confstamp-dir) --wait 60 stale --from $(call confstamp-path,$(confstamp-list)) | \
 	awk ' \

@@ -84,14 +84,14 @@ $(confstamp-state)/confstamp.mk: $(confstamp-sources) $(confstamp-pending)
 confstamp-always:
 
 # What is known of a target stands in .TARGET.mk beside it: what it depends on, whether confstamp has a record of it or else the
-# generation at which it was made, and at last the command. Blanks of commands don't count.
+# generation at which it was made, and at last the command.
 confstamp-mk = $(dir $(1)).$(notdir $(1)).mk
 confstamp-cmd = $(dir $@).$(notdir $@).cmd
 confstamp-depfile = $(if $(confstamp-elsewhere),$(abspath $(@D)),$(@D))/.$(@F).d
 confstamp-prerequisites = $(filter-out confstamp-always,$^)
 confstamp-same = $(and $(findstring <$(1)>,<$(2)>),$(findstring <$(2)>,<$(1)>))
 confstamp-silent := $(if $(filter undefined,$(origin confstamp-silent)),$(findstring s,$(firstword -$(MAKEFLAGS))),$(confstamp-silent))
-confstamp-text = $(subst $(confstamp-quote),'\$(confstamp-quote)',$(strip $(1)))
+confstamp-text = $(subst $(confstamp-quote),'\$(confstamp-quote)',$(1))
 confstamp-built = $(subst $(confstamp-hash),$$(confstamp-hash),$(subst $$,$$$$,$(call confstamp-text,$(1))))
 
 # Of several goals one may write the configuration, as in `make defconfig all`: so it is compared once more before the first command. Where
@@ -106,13 +106,13 @@ confstamp-why = $(strip $(if $(confstamp-watched_$@),,$(error $@ is none of the 
 	$(if $(confstamp-written),$(error another goal of this make has written the configuration: run make again)) \
 	$(filter-out confstamp-always,$?) $(if $(wildcard $@),,absent) $(filter $@,$(confstamp-stale)) \
 	$(filter-out $(confstamp-generation),$(confstamp-at_$@)) \
-	$(if $(call confstamp-same,$(strip $(1)),$(confstamp-built_$@)),,other))
+	$(if $(call confstamp-same,$(1),$(confstamp-built_$@)),,other))
 
 # confstamp-run COMMAND LABEL WORDS KNOWN: the recipe. .TARGET.mk is emptied first, and has the command only at the end. COMMAND stands
 # in no list of && or ||, since a shell ignores `set -e` there.
 confstamp-run = @$(call confstamp-report,$(1),$(2)); $(if $(wildcard $(@D)),,mkdir -p $(@D) &&) : > $(call confstamp-mk,$@) || exit; \
 	( $(3) ); set -- $$?; [ $$1 = 0 ] || exit $$1; \
-	{ $(4) printf '%s\n' 'confstamp-built_$@ := $(call confstamp-built,$(1))'; } > $(call confstamp-mk,$@)
+	{ $(4) printf '%s\n' 'confstamp-built_$@ := $$()$(call confstamp-built,$(1))'; } > $(call confstamp-mk,$@)
 confstamp-report = $(if $(confstamp-silent),:,$(if $(and $(2),$(if $(filter 1,$(V)),,yes)),printf '  %-7s %s\n' '$(2)' \
 	'$(patsubst $(CURDIR)/%,%,$@)',printf '%s\n' '$(confstamp-text)'))
 

@@ -65,13 +65,14 @@ endif
 # symbols of auto.conf, and asks which objects are stale. The text of the sources is taken before, so a change meanwhile is
 # seen. What was synchronised is kept last, so a synchronisation that was interrupted is done again. A tool that writes the same text once
 # more is no reason, else make would begin again for ever. Makes of other directories may do the same at once, so names have a number.
+# The recipe is behind a `;`, whatever .RECIPEPREFIX is.
 include $(confstamp-state)/confstamp.mk
 ifdef confstamp-maker
 $(confstamp-maker): $(confstamp-pending)
 $(confstamp-kconfig) $(confstamp-config): $(confstamp-maker) ;
 endif
-$(confstamp-state)/confstamp.mk: $(confstamp-sources) $(confstamp-pending)
-	@$(if $(confstamp-pending),false,cat $(confstamp-texts) | cmp -s - $(confstamp-kept) && [ -e $@ ]) || { \
+$(confstamp-state)/confstamp.mk: $(confstamp-sources) $(confstamp-pending) ; @ \
+	$(if $(confstamp-pending),false,cat $(confstamp-texts) | cmp -s - $(confstamp-kept) && [ -e $@ ]) || { \
 	$(if $(confstamp-silent),:,echo '  SYNC    $(confstamp-config)'); mkdir -p $(@D) && \
 	trap 'rm -f $(confstamp-kept).$$$$' EXIT INT TERM && cat $(confstamp-sources) > $(confstamp-kept).$$$$ && \
 	$(confstamp-program) $(confstamp-words) -C $(confstamp-dir) --wait 60 sync \

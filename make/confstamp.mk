@@ -118,14 +118,18 @@ confstamp-report = $(if $(confstamp-silent),:,$(if $(and $(2),$(if $(filter 1,$(
 	'$(patsubst $(CURDIR)/%,%,$@)',printf '%s\n' '$(confstamp-text)'))
 
 # The stamps are left out of what make looks at, since the numbers are asked. A file that is gone counts as new. What the
-# launcher has no record of (docs/ninja.md says when) is made again at each other generation.
+# launcher has no record of (docs/ninja.md says when) is made again at each other generation. The source comes first. Where it is gone
+# the makefile says what there is instead. For an assembler's source gcc writes no list.
 confstamp-known = sed -e '/^  \(\/.*\/\)*include\/config\/[A-Za-z0-9_]*\( \\\)*$$/d' -e '1s/^[^:]*:/confstamp-files :=/' \
-	$(confstamp-depfile) && printf '\n%s\n' '$@: $$(confstamp-files)' '$$(confstamp-files):' && \
+	$(confstamp-depfile) && printf '\n%s\n' '$@: $$(confstamp-source) $$(confstamp-headers)' '$$(confstamp-headers):' \
+	'confstamp-files :=' && \
 	if [ -e $(confstamp-cmd) ]; then echo 'confstamp-recorded += $@'; \
 	else echo 'confstamp-at_$@ := $(confstamp-generation)'; fi &&
+confstamp-source = $(wildcard $(firstword $(confstamp-files)))
+confstamp-headers = $(wordlist 2,$(words $(confstamp-files)),$(confstamp-files))
 confstamp-options = $(if $(confstamp-own-header),--header $(confstamp-own-header))
 confstamp-cc = confstamp-cc $(if $(confstamp-elsewhere),-C $(confstamp-dir)) $(confstamp-words) $(confstamp-options) \
-	$(1) -MD -MF $(confstamp-depfile)
+	$(1) -MD -MF $(confstamp-depfile) && : >> $(confstamp-depfile)
 confstamp-record = $(1) && { $(confstamp-program) $(confstamp-words) -C $(confstamp-dir) depfile $(confstamp-options) \
 	--strict '$(call confstamp-text,$(abspath $(confstamp-header)))' -- $(confstamp-depfile) $@ '$(confstamp-text)' > /dev/null || \
 	rm -f $(confstamp-cmd); }
@@ -138,11 +142,12 @@ confstamp-link = $(if $(or $(confstamp-why),$(filter $@,$(confstamp-future))),$(
 # that is stale is named, and removed, so that it is made by whatever tool. One that it doesn't answer for counts as stale, unless it
 # answers for none: then nothing is made. Before that each with a future mtime gets the present one, so that what is made of it now
 # is newer. A make that was called by another one, of the same directory, removes nothing, since the other one may be compiling; nor
-# does make -n.
-confstamp-watch = $(if $(strip $(1)),$(eval $(1): confstamp-always)$(eval confstamp-all += $(1)) \
+# does make -n. make itself takes the ./ from a name.
+confstamp-watch = $(if $(strip $(1)),$(call confstamp-take,$(patsubst ./%,%,$(1))))
+confstamp-take = $(eval $(1): confstamp-always)$(eval confstamp-all += $(1)) \
 	$(foreach target,$(1),$(eval confstamp-watched_$(target) := yes)) \
 	$(call confstamp-read,$(wildcard $(foreach target,$(1),$(call confstamp-mk,$(target))))) \
-	$(if $(confstamp-pending),,$(confstamp-ask)$(call confstamp-look,$(wildcard $(filter-out $(confstamp-recorded),$(1))))))
+	$(if $(confstamp-pending),,$(confstamp-ask)$(call confstamp-look,$(wildcard $(filter-out $(confstamp-recorded),$(1)))))
 confstamp-read = $(if $(1),$(eval -include $(1))$(eval $(1): ;))
 define confstamp-line-feed
 

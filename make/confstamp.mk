@@ -64,7 +64,8 @@ endif
 # The synchronisation, in a makefile that is included: make makes that anew before all else, and then begins again, with the
 # symbols of auto.conf, and asks which objects are stale. The text of the sources is taken before, so a change meanwhile is
 # seen. What was synchronised is kept last, so a synchronisation that was interrupted is done again. A tool that writes the same text once
-# more is no reason, else make would begin again for ever. Makes of other directories may do the same at once, so names have a number.
+# more is no reason, else make would begin again for ever. Makes of other directories may do the same at once, so names have a number. So
+# has the generation, since it begins with 1 again where all numbers are removed.
 # The recipe is behind a `;`, whatever .RECIPEPREFIX is.
 include $(confstamp-state)/confstamp.mk
 ifdef confstamp-maker
@@ -78,7 +79,7 @@ $(confstamp-state)/confstamp.mk: $(confstamp-sources) $(confstamp-pending) ; @ \
 	$(confstamp-program) $(confstamp-words) -C $(confstamp-dir) --wait 60 sync \
 	$(call confstamp-path,$(confstamp-kconfig) $(confstamp-config)) > /dev/null && \
 	cat $(@D)/auto.conf $(confstamp-header) >> $(confstamp-kept).$$$$ && \
-	sed -n -e '/^CONFIG_/{s/\\$$/&$$()/;p;}' -e 's/^#generation /confstamp-generation := /p' $(@D)/auto.conf > $@.$$$$ && \
+	sed -n -e '/^CONFIG_/{s/\\$$/&$$()/;p;}' -e 's/^#generation /confstamp-generation := '$$$$-/p $(@D)/auto.conf > $@.$$$$ && \
 	mv $@.$$$$ $@ && mv $(confstamp-kept).$$$$ $(confstamp-kept); }
 
 .PHONY: confstamp-always

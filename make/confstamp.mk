@@ -66,7 +66,7 @@ endif
 # seen. What was synchronised is kept last, so a synchronisation that was interrupted is done again. A tool that writes the same text once
 # more is no reason, else make would begin again for ever. Makes of other directories may do the same at once, so names have a number. So
 # has the generation, since it begins with 1 again where all numbers are removed.
-# The recipe is behind a `;`, whatever .RECIPEPREFIX is.
+# What a killed make left is removed a day later. The recipe is behind a `;`, whatever .RECIPEPREFIX is.
 include $(confstamp-state)/confstamp.mk
 ifdef confstamp-maker
 $(confstamp-maker): $(confstamp-pending)
@@ -75,6 +75,7 @@ endif
 $(confstamp-state)/confstamp.mk: $(confstamp-sources) $(confstamp-pending) ; @ \
 	$(if $(confstamp-pending),false,cat $(confstamp-texts) | cmp -s - $(confstamp-kept) && [ -e $@ ]) || { \
 	$(if $(confstamp-silent),:,echo '  SYNC    $(confstamp-config)'); mkdir -p $(@D) && \
+	{ find $(@D) -name 'confstamp.*.*' -mtime +0 -exec rm -f {} + || :; } && \
 	trap 'rm -f $(confstamp-kept).$$$$' EXIT INT TERM && cat $(confstamp-sources) > $(confstamp-kept).$$$$ && \
 	$(confstamp-program) $(confstamp-words) -C $(confstamp-dir) --wait 60 sync \
 	$(call confstamp-path,$(confstamp-kconfig) $(confstamp-config)) > /dev/null && \

@@ -102,12 +102,18 @@ confstamp-built = $(subst $(confstamp-hash),$$(confstamp-hash),$(subst $$,$$$$,$
 confstamp-written = $(if $(word 2,$(MAKECMDGOALS)),$(if $(filter undefined,$(origin confstamp-compared)),$(eval confstamp-compared := \
 	$(shell [ ! -e $(confstamp-kept) ] || cat $(confstamp-texts) 2> /dev/null | cmp -s - $(confstamp-kept) || echo other)))$(confstamp-compared))
 
+# With -n, -q and -t make takes each prerequisite that has a recipe for a new one, so it is looked at those with nothing to do.
+confstamp-dry := $(strip $(foreach flag,n q t,$(findstring $(flag),$(firstword -$(MAKEFLAGS)))))
+confstamp-left = $(if $(confstamp-dry),$(eval confstamp-settled += $@))
+confstamp-newer = $(filter-out confstamp-always $(confstamp-settled),$?) $(if $(filter $(confstamp-settled),$?), \
+	$(shell find $(filter $(confstamp-settled),$?) -prune -newer $@))
+
 # Why COMMAND is to run: nothing, where it isn't.
 confstamp-why = $(strip $(if $(confstamp-watched_$@),,$(error $@ is none of the targets of confstamp-watch)) \
 	$(if $(confstamp-pending),$(error nothing was read again after the synchronisation)) \
 	$(if $(filter confstamp-failed,$(confstamp-stale)),$(error $(confstamp-program) doesn't say which targets are stale: is it in PATH?)) \
 	$(if $(confstamp-written),$(error another goal of this make has written the configuration: run make again)) \
-	$(filter-out confstamp-always,$?) $(if $(wildcard $@),,absent) $(filter $@,$(confstamp-stale)) \
+	$(confstamp-newer) $(if $(wildcard $@),,absent) $(filter $@,$(confstamp-stale)) \
 	$(filter-out $(confstamp-generation),$(confstamp-at_$@)) \
 	$(if $(call confstamp-same,$(1),$(confstamp-built_$@)),,other))
 
@@ -137,15 +143,15 @@ confstamp-record = $(1) && { $(confstamp-program) $(confstamp-words) -C $(confst
 	--strict '$(call confstamp-text,$(abspath $(confstamp-header)))' -- $(confstamp-depfile) $@ '$(confstamp-text)' > /dev/null || \
 	rm -f $(confstamp-cmd); }
 
-confstamp-compile = $(if $(confstamp-why),$(call confstamp-run,$(1),$(2),$(confstamp-cc),$(confstamp-known)))
-confstamp-generate = $(if $(confstamp-why),$(call confstamp-run,$(1),$(2),$(confstamp-record),$(confstamp-known)))
-confstamp-link = $(if $(or $(confstamp-why),$(filter $@,$(confstamp-future))),$(call confstamp-run,$(1),$(2),$(1),))
+confstamp-compile = $(if $(confstamp-why),$(call confstamp-run,$(1),$(2),$(confstamp-cc),$(confstamp-known)),$(confstamp-left))
+confstamp-generate = $(if $(confstamp-why),$(call confstamp-run,$(1),$(2),$(confstamp-record),$(confstamp-known)),$(confstamp-left))
+confstamp-link = $(if $(or $(confstamp-why),$(filter $@,$(confstamp-future))),$(call confstamp-run,$(1),$(2),$(1),),$(confstamp-left))
 
 # What is known is read, and confstamp is asked of the recorded targets, though of none of the tree that this one is a copy of: each
 # that is stale is named, and removed, so that it is made by whatever tool. One that it doesn't answer for counts as stale, unless it
 # answers for none: then nothing is made. Before that each with a future mtime gets the present one, so that what is made of it now
 # is newer. A make that was called by another one, of the same directory, removes nothing, since the other one may be compiling; nor
-# does make -n. make itself takes the ./ from a name.
+# do make -n, -q and -t. make itself takes the ./ from a name.
 confstamp-watch = $(if $(strip $(1)),$(call confstamp-take,$(patsubst ./%,%,$(1))))
 confstamp-take = $(eval $(1): confstamp-always)$(eval confstamp-all += $(1)) \
 	$(foreach target,$(1),$(eval confstamp-watched_$(target) := yes)) \
@@ -162,7 +168,7 @@ confstamp-last := $(confstamp-state)/confstamp.list
 confstamp-list := $(confstamp-last).$(shell echo $$PPID)
 confstamp-now := $(confstamp-state)/confstamp.now
 confstamp-gone := $(confstamp-list).gone
-confstamp-first := $(if $(filter $(abspath $(confstamp-dir)),$(CONFSTAMP_ASKED))$(findstring n,$(firstword -$(MAKEFLAGS))),,yes)
+confstamp-first := $(if $(filter $(abspath $(confstamp-dir)),$(CONFSTAMP_ASKED))$(confstamp-dry),,yes)
 export CONFSTAMP_ASKED := $(abspath $(confstamp-dir))
 confstamp-asked = $(filter $(confstamp-all),$(confstamp-recorded))
 confstamp-ask = $(file > $(confstamp-list),$(subst $(confstamp-space),$(confstamp-line-feed),$(confstamp-asked))) \

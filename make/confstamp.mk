@@ -128,12 +128,13 @@ confstamp-report = $(if $(confstamp-silent),:,$(if $(and $(2),$(if $(filter 1,$(
 
 # The stamps are left out of what make looks at, since the numbers are asked. A file that is gone counts as new. What the
 # launcher has no record of (docs/ninja.md says when) is made again at each other generation. The source comes first. Where it is gone
-# the makefile says what there is instead. For an assembler's source gcc writes no list.
+# the makefile says what there is instead. For an assembler's source gcc writes no list. A record with another number than this make's
+# is none, since the compiler may have read the header before another make synchronised.
 confstamp-known = sed -e '/^  \(\/.*\/\)*include\/config\/[A-Za-z0-9_]*\( \\\)*$$/d' -e '1s/^[^:]*:/confstamp-files :=/' \
 	$(confstamp-depfile) && printf '\n%s\n' '$@: $$(confstamp-source) $$(confstamp-headers)' '$$(confstamp-headers):' \
 	'confstamp-files :=' && \
-	if [ -e $(confstamp-cmd) ]; then echo 'confstamp-recorded += $@'; \
-	else echo 'confstamp-at_$@ := $(confstamp-generation)'; fi &&
+	if grep -qsx '$(confstamp-hash)generation $(lastword $(subst -, ,$(confstamp-generation)))' $(confstamp-cmd); \
+	then echo 'confstamp-recorded += $@'; else echo 'confstamp-at_$@ := $(confstamp-generation)'; fi &&
 confstamp-source = $(wildcard $(firstword $(confstamp-files)))
 confstamp-headers = $(wordlist 2,$(words $(confstamp-files)),$(confstamp-files))
 confstamp-options = $(if $(confstamp-own-header),--header $(confstamp-own-header))

@@ -130,7 +130,7 @@ confstamp-report = $(if $(confstamp-silent),:,$(if $(and $(2),$(if $(filter 1,$(
 # launcher has no record of (docs/ninja.md says when) is made again at each other generation. The source comes first. Where it is gone
 # the makefile says what there is instead. For an assembler's source gcc writes no list. A record with another number than this make's
 # is none, since the compiler may have read the header before another make synchronised.
-confstamp-known = sed -e '/^  \(\/.*\/\)*include\/config\/[A-Za-z0-9_]*\( \\\)*$$/d' -e '1s/^[^:]*:/confstamp-files :=/' \
+confstamp-known = sed -e '/^$$/q' -e '/^  \(\/.*\/\)*include\/config\/[A-Za-z0-9_]*\( \\\)*$$/d' -e '1s/^[^:]*:/confstamp-files :=/' \
 	$(confstamp-depfile) && printf '\n%s\n' '$@: $$(confstamp-source) $$(confstamp-headers)' '$$(confstamp-headers):' \
 	'confstamp-files :=' && \
 	if grep -qsx '$(confstamp-hash)generation $(lastword $(subst -, ,$(confstamp-generation)))' $(confstamp-cmd); \

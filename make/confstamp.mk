@@ -54,7 +54,7 @@ confstamp-comma := ,
 confstamp-sources := $(sort $(confstamp-kconfig) $(confstamp-config) $(confstamp-inputs))
 confstamp-kept := $(confstamp-state)/confstamp.kept
 confstamp-texts = $(confstamp-sources) $(confstamp-state)/auto.conf $(confstamp-header)
-confstamp-pending := $(shell cat $(confstamp-texts) 2> /dev/null | cmp -s - $(confstamp-kept) || echo confstamp-always)
+confstamp-pending := $(if $(shell cat $(confstamp-texts) 2> /dev/null | cmp -s - $(confstamp-kept) && echo same),,confstamp-always)
 ifneq ($(confstamp-pending),)
 ifneq ($(filter-out 1 2 3 4 5,$(MAKE_RESTARTS)),)
 $(error confstamp has synchronised again and again, and $(confstamp-config) still isn't what was synchronised)
@@ -100,7 +100,8 @@ confstamp-built = $(subst $(confstamp-hash),$$(confstamp-hash),$(subst $$,$$$$,$
 # Of several goals one may write the configuration, as in `make defconfig all`: so it is compared once more before the first command. Where
 # one has removed all numbers, as in `make clean all`, nothing is recorded.
 confstamp-written = $(if $(word 2,$(MAKECMDGOALS)),$(if $(filter undefined,$(origin confstamp-compared)),$(eval confstamp-compared := \
-	$(shell [ ! -e $(confstamp-kept) ] || cat $(confstamp-texts) 2> /dev/null | cmp -s - $(confstamp-kept) || echo other)))$(confstamp-compared))
+	$(if $(shell [ ! -e $(confstamp-kept) ] && echo none || cat $(confstamp-texts) 2> /dev/null | cmp -s - $(confstamp-kept) && \
+	echo same),,other)))$(confstamp-compared))
 
 # With -n, -q and -t make takes each prerequisite that has a recipe for a new one, so it is looked at those with nothing to do.
 confstamp-dry := $(strip $(foreach flag,n q t,$(findstring $(flag),$(firstword -$(MAKEFLAGS)))))
@@ -111,7 +112,7 @@ confstamp-newer = $(filter-out confstamp-always $(confstamp-settled),$?) $(if $(
 # Why COMMAND is to run: nothing, where it isn't.
 confstamp-why = $(strip $(if $(confstamp-watched_$@),,$(error $@ is none of the targets of confstamp-watch)) \
 	$(if $(confstamp-pending),$(error nothing was read again after the synchronisation)) \
-	$(if $(filter confstamp-failed,$(confstamp-stale)),$(error $(confstamp-program) doesn't say which targets are stale: is it in PATH?)) \
+	$(if $(filter confstamp-answered,$(confstamp-stale)),,$(error $(confstamp-program) doesn't say which targets are stale: is it in PATH?)) \
 	$(if $(confstamp-written),$(error another goal of this make has written the configuration: run make again)) \
 	$(confstamp-newer) $(if $(wildcard $@),,absent) $(filter $@,$(confstamp-stale)) \
 	$(filter-out $(confstamp-generation),$(confstamp-at_$@)) \
@@ -180,7 +181,7 @@ confstamp-ask = $(file > $(confstamp-list),$(subst $(confstamp-space),$(confstam
 		asked { if ($$1 != "") { unanswered[$$1]; failed = 1 } next } \
 		{ failed = 0 } \
 		$$2 == "fresh" { delete unanswered[$$1] } \
-		END { if (failed) print "confstamp-failed"; else for (target in unanswered) print target } \
+		END { if (!failed) { print "confstamp-answered"; for (target in unanswered) print target } } \
 	' asked=yes $(confstamp-list) asked= - | \
 	$(if $(confstamp-first),tee $(confstamp-gone); tr '\n' '\0' < $(confstamp-gone) | xargs -0r rm -f,cat)))
 confstamp-to-now = tr '\n' '\0' < $(confstamp-list) | xargs -0r sh -c \

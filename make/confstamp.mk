@@ -31,7 +31,7 @@
 # target is stale; no time is asked for the two last ones. What a command begun last has made is only taken for made once it is
 # recorded, so a kill or a failure in between costs one more run.
 #
-# CONFSTAMP is the program, V=1 has commands printed and not labels. Tried with GNU make 4.3.
+# CONFSTAMP is the program, V=1 has commands printed and not labels. Tried with GNU make 4.3 and 4.4.1.
 
 confstamp-first-goal := $(.DEFAULT_GOAL)
 confstamp-kconfig ?= Kconfig
@@ -107,7 +107,7 @@ confstamp-written = $(if $(word 2,$(MAKECMDGOALS)),$(if $(filter undefined,$(ori
 confstamp-dry := $(strip $(foreach flag,n q t,$(findstring $(flag),$(firstword -$(MAKEFLAGS)))))
 confstamp-left = $(if $(confstamp-dry),$(eval confstamp-settled += $@))
 confstamp-newer = $(filter-out confstamp-always $(confstamp-settled),$?) $(if $(filter $(confstamp-settled),$?), \
-	$(shell find $(filter $(confstamp-settled),$?) -prune -newer $@))
+	$(shell find $(filter $(confstamp-settled),$?) -prune -newer $@ 2> /dev/null))
 
 # Why COMMAND is to run: nothing, where it isn't.
 confstamp-why = $(strip $(if $(confstamp-watched_$@),,$(error $@ is none of the targets of confstamp-watch)) \

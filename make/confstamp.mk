@@ -65,8 +65,8 @@ endif
 # symbols of auto.conf, and asks which objects are stale. The text of the sources is taken before, so a change meanwhile is
 # seen. What was synchronised is kept last, so a synchronisation that was interrupted is done again. A tool that writes the same text once
 # more is no reason, else make would begin again for ever. Makes of other directories may do the same at once, so names have a number. So
-# has the generation, since it begins with 1 again where all numbers are removed.
-# What a killed make left is removed a day later. The recipe is behind a `;`, whatever .RECIPEPREFIX is.
+# has the generation, since it begins with 1 again where all numbers are removed. What a killed make left is removed a day later. The
+# recipe is behind a `;`, whatever .RECIPEPREFIX is.
 include $(confstamp-state)/confstamp.mk
 ifdef confstamp-maker
 $(confstamp-maker): $(confstamp-pending)
@@ -103,7 +103,7 @@ confstamp-written = $(if $(word 2,$(MAKECMDGOALS)),$(if $(filter undefined,$(ori
 	$(if $(shell [ ! -e $(confstamp-kept) ] && echo none || cat $(confstamp-texts) 2> /dev/null | cmp -s - $(confstamp-kept) && \
 	echo same),,other)))$(confstamp-compared))
 
-# With -n, -q and -t make takes each prerequisite that has a recipe for a new one, so it is looked at those with nothing to do.
+# With -n, -q and -t make takes each prerequisite that has a recipe for a new one, so those with nothing to do are looked at.
 confstamp-dry := $(strip $(foreach flag,n q t,$(findstring $(flag),$(firstword -$(MAKEFLAGS)))))
 confstamp-left = $(if $(confstamp-dry),$(eval confstamp-settled += $@))
 confstamp-newer = $(filter-out confstamp-always $(confstamp-settled),$?) $(if $(filter $(confstamp-settled),$?), \

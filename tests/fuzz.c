@@ -267,7 +267,7 @@ static void add_hiding(Text *text)
         "#include NAME", "#include NAME", "#include NAME\r", "#include OTHER x", "#include _NAME", "#include NAME(x)", "#include CONFIG_A",
         "#ifdef NAME", "#if defined(NAME)", "defined ( NAME", "#undef\tNAME", "ifdef\vNAME", "#define NAME x", "OTHER", "NAMES", "_NAME",
         "ab\\\ncd", "#include \"a.h\"", "#include <none.h>", "__TIME", "__DATES__", "ab \\\n cd", "ab\\\n", ".IncBin \"b\"", ".Include \"b\"",
-        ".iNCLUDEs", ".include2",
+        ".iNCLUDEs", ".include2", "#embed \"a.h\"", "# embed NAME", "ab?\?/\ncd", "ab?\?/cd",
     };
     add_text(text, "\n%s\n", PICK(hiding));
 }
@@ -587,13 +587,13 @@ static Bytes compile_command(void)
     static const char *const known[] = {
         "-O2", "-g", "-Wall", "-DX=CONFIG_A", "-D X=CONFIG_S", "-o x.o", "-std=gnu11", "-fno-plugin", "-fPIC", "-m64", "-MD", "-MF x.d",
         "-Wp,-MD,x.d", "-Wp,-D_X=1", "-Wp,-U_X", "-fuse-ld=x", "-DNAMES", "-UNAME", "-Wa,--x",
-        "-x c", "-xc", "-Xassembler --x", "-Xclang -x", "y.S", "libx.a", "-w", "-pipe", "-I d", "-Id", "-fmacro-prefix-map=/a=b",
+        "-x c", "-xc", "-Xassembler --x", "-Xclang -fx", "-Xclang +x", "y.S", "libx.a", "-w", "-pipe", "-I d", "-Id", "-fmacro-prefix-map=/a=b",
     };
     static const char *const unknown[] = {
         "@x.rsp", "-fplugin=x.so", "-", "-include-pch", "x.h", "-I=d", "-x c-header", "-xc++-header", "-Xclang -load", "-Xpreprocessor a.h",
         "-Wp,-include", "-Wp,-MD,@x", "-Wa,@x", "-m@x", "-fprofile-use", "-fmodules", "-D @x", "/dev/stdin.c", "/proc/1/x.c", "--x", "-T",
         "-fuse-use", "x", "-I =d", "-isystem $X", "-DNAME=x", "-D OTHER", "-DNAME", "-Wp,-MD,x.d,-DNAME", "-Wp,-DX", "-Wp,-U_X,-DX", "-g3",
-        "-Wa,--x,-Id", "-o -DNAME", "-DX=__TIME__", "-D X=__has_include", "-D/NAME",
+        "-Wa,--x,-Id", "-Wa,--gstabs", "-Xclang -x", "-fcoverage-mapping", "-Xassembler --x.y", "-o -DNAME", "-DX=__TIME__", "-D X=__has_include", "-D/NAME",
     };
     Text text = {0};
     while (one_in(4))

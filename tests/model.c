@@ -1987,7 +1987,7 @@ static bool is_known_inside(Bytes word)
     for (size_t i = 0; fronts[i]; i++)
         if (starts(word, fronts[i]))
             return !has_one(from(word, strlen(fronts[i])), ONE_OF(",", "@"));
-    return begins_with_one(word, ONE_OF("-Wa,--", "-Wa,-W", "-Wa,-m", "-Wa,-M", "-Wa,-n")) && !has_one(word, ONE_OF(",-I", "@"));
+    return begins_with_one(word, ONE_OF("-Wa,--", "-Wa,-W", "-Wa,-m", "-Wa,-M", "-Wa,-n")) && !has_one(word, ONE_OF(",-I", "@", "gstabs"));
 }
 
 static bool is_known_flag(Bytes word)
@@ -1996,15 +1996,22 @@ static bool is_known_flag(Bytes word)
         return false;
     if (begins_with_one(word, ONE_OF("-fno-", "-fuse-ld=", "-fuse-cxa-atexit")) || has_text(word, "-prefix-map="))
         return true;
-    return !begins_with_one(word, ONE_OF("-fauto-profile", "-fbranch-", "-fdebug-macro", "-fmodule", "-fprebuilt-module")) &&
-           !has_one(word, ONE_OF("use", "plugin", "list", "/", "@"));
+    static const char *const refused[] = {
+        "-fauto-profile", "-fbasic-block-sections=", "-fbranch-", "-fcoverage-", "-fdebug-macro", "-fembed-offload-", "-fmodule", "-fopenmp-host-ir-",
+        "-fprebuilt-module", "-fprofile-remapping-", "-frandomize-layout-seed-file", "-fthinlto-index", "-fxray-", NULL,
+    };
+    return !begins_with_one(word, refused) && !has_one(word, ONE_OF("use", "plugin", "list", "/", "@"));
+}
+
+static bool is_known_machine(Bytes word)
+{
+    return starts(word, "-m") && !has_one(word, ONE_OF("/", "@"));
 }
 
 static bool is_known_option(Bytes word)
 {
-    bool is_machine = starts(word, "-m") && !has_one(word, ONE_OF("/", "@"));
     bool is_language = starts(word, "-x") && !ends(word, "-header");
-    return is_plain_option(word) || has_known_front(word) || is_known_inside(word) || is_known_flag(word) || is_machine || is_language;
+    return is_plain_option(word) || has_known_front(word) || is_known_inside(word) || is_known_flag(word) || is_known_machine(word) || is_language;
 }
 
 static bool is_known_file(Bytes word)
@@ -2044,7 +2051,9 @@ static Expected after_word(Expected expected, Bytes word)
         is_known = !ends(word, "-header") && !starts(word, "@");
         break;
     default:
-        is_known = !has_one(word, ONE_OF("include", "load", "plugin", "pch", "module", "header", "/", "@", "=", "."));
+        is_known = is_known_flag(word) || is_known_machine(word) ||
+                   (begins_with_one(word, ONE_OF("-D", "-U", "-W", "-O", "-disable-", "-target-", "+", "--")) &&
+                    !has_one(word, ONE_OF("/", "@", "=", ".", ",", "gstabs")));
     }
     return is_known ? ARGUMENT : UNKNOWN;
 }
@@ -2152,7 +2161,7 @@ static bool is_hiding(Bytes text, Names *included)
 {
     static const char *const hiding[] = {"__has_include", "__has_embed", "__DATE__", "__TIME__", "__TIMESTAMP__", NULL};
     Bytes macro;
-    if (has_directive(text, ".incbin") || has_directive(text, ".include"))
+    if (has_directive(text, ".incbin") || has_directive(text, ".include") || has_word(text, "embed"))
         return true;
     for (size_t i = 0; hiding[i]; i++)
         if (has_word(text, hiding[i]))
@@ -2164,6 +2173,8 @@ static bool is_hiding(Bytes text, Names *included)
         Bytes after = from(text, i);
         bool is_word_before = i > 0 && is_word_byte(text.at[i - 1]), is_line = i == 0 || text.at[i - 1] == '\n';
         if (is_word_before && starts(after, "\\\n") && after.length > 2 && is_word_byte(after.at[2]))
+            return true;
+        if (starts(after, "?\?/\n"))
             return true;
         if (!is_line || !starts(after, "#include ") || after.length <= 9 || !is_word_byte(after.at[9]))
             continue;
@@ -2178,7 +2189,7 @@ static bool is_hiding(Bytes text, Names *included)
 static bool may_define(Bytes text, const Names *macros)
 {
     static const char *const questions[] = {
-        "defined(", "defined (", "defined", "ifdef", "ifndef", "include", "include_next", "import", "embed", "undef", NULL,
+        "defined(", "defined (", "defined", "ifdef", "ifndef", "include", "include_next", "import", "undef", NULL,
     };
     for (size_t i = 0; i < text.length; i++) {
         Bytes before = upto(text, i);

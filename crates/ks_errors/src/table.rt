@@ -219,7 +219,7 @@ pub const BAD_COMMAND_FILE: Row = (
 pub const HIDDEN_INPUT: Row = (
     "24",
     "HiddenInput",
-    "with `--strict`: a file of the object may read another one that no dependency file lists, or has the time of the compile",
+    "with `--strict`: a file of the object may read another one that no dependency file lists, embeds one, or has the time of the compile",
     "`__TIME__` or `.incbin` in x.c",
     "don't record the object: compile it after each change",
 );
@@ -259,7 +259,7 @@ pub const MISSING_LINE: Row = (
 pub const UNKNOWN_ARGUMENT: Row = (
     "29",
     "UnknownArgument",
-    "with `--strict`: this word of a compile, which has `-c`, may bring a file that no dependency file lists, or isn't known",
+    "with `--strict`: this word of a compile, which has `-c`, may bring a file that no dependency file lists, or the header's text, or isn't known",
     "`@x.rsp`, `-fplugin=x.so`",
     "don't record the object: compile it after each change",
 );

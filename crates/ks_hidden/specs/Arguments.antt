@@ -1,5 +1,5 @@
--- Which arguments of a compile are known: they bring no file that the compiler doesn't list. The options are those of gcc, clang and the
--- GNU assembler, and in front of the compiler those of env, nice, ccache and distcc.
+-- Which arguments of a compile are known: they bring no file that the compiler doesn't list, and into the object nothing of the header but what
+-- its sources name. The options are those of gcc, clang and the GNU assembler, and in front of the compiler those of env, nice, ccache and distcc.
 use Rattle.std.specs.Prelude.{ℕ, ◌+◌, ◌&&◌, ◌||◌, Bool, false, not, List, [], ◌∷◌, Option, Some, None, bytes_eq, nat_eq, codes, if◌then◌else◌}
 use Rattle.std.specs.List.{ends_with, list_any, starts_with}
 use Rattle.ks_hidden.specs.Words.{behind, is_such, words_of}
@@ -97,14 +97,18 @@ is_known_inside word =
     is_plain_value (behind (codes "-Wp,-MD,") word) || is_plain_value (behind (codes "-Wp,-MMD,") word) || is_plain_value (behind (codes "-Wp,-D_") word)
     || is_plain_value (behind (codes "-Wp,-U") word)
     || (begins_with_one (codes "-Wa,--" ∷ codes "-Wa,-W" ∷ codes "-Wa,-m" ∷ codes "-Wa,-M" ∷ codes "-Wa,-n" ∷ []) word
-    && not (has_one (codes ",-I" ∷ codes "@" ∷ []) word))
+    && not (has_one (codes ",-I" ∷ codes "@" ∷ codes "gstabs" ∷ []) word))
 
--- how code is made: no file is used, as a profile or a plugin, and no macro is kept
+-- how code is made: no file is used, as a profile or a plugin; and the object keeps no macro, nor the line at which the header defines one
 unfoldable pub is_known_flag : List ℕ → Bool
 is_known_flag word =
     begins_with_one (codes "-fno-" ∷ codes "-fuse-ld=" ∷ codes "-fuse-cxa-atexit" ∷ []) word
     || (starts_with nat_eq word (codes "-f") && (has word (codes "-prefix-map=")
-    || (not (begins_with_one (codes "-fauto-profile" ∷ codes "-fbranch-" ∷ codes "-fdebug-macro" ∷ codes "-fmodule" ∷ codes "-fprebuilt-module" ∷ []) word)
+    || (not
+    (begins_with_one
+    (codes "-fauto-profile" ∷ codes "-fbasic-block-sections=" ∷ codes "-fbranch-" ∷ codes "-fcoverage-" ∷ codes "-fdebug-macro" ∷ codes "-fembed-offload-"
+    ∷ codes "-fmodule" ∷ codes "-fopenmp-host-ir-" ∷ codes "-fprebuilt-module" ∷ codes "-fprofile-remapping-" ∷ codes "-frandomize-layout-seed-file"
+    ∷ codes "-fthinlto-index" ∷ codes "-fxray-" ∷ []) word)
     && not (has_one (codes "use" ∷ codes "plugin" ∷ codes "list" ∷ codes "/" ∷ codes "@" ∷ []) word))))
 
 -- and for which machine
@@ -140,10 +144,12 @@ after_argument word =
     else if is_known_option word || is_known_file word then Some Argument
     else None
 
--- no option of a part of the compiler that brings a file
+-- an option of a part of the compiler that is known
 unfoldable pub is_known_inner : List ℕ → Bool
 is_known_inner word =
-    not (has_one (codes "include" ∷ codes "load" ∷ codes "plugin" ∷ codes "pch" ∷ codes "module" ∷ codes "header" ∷ codes "/" ∷ codes "@" ∷ codes "=" ∷ codes "." ∷ []) word)
+    is_known_flag word || is_known_machine word
+    || (begins_with_one (codes "-D" ∷ codes "-U" ∷ codes "-W" ∷ codes "-O" ∷ codes "-disable-" ∷ codes "-target-" ∷ codes "+" ∷ codes "--" ∷ []) word
+    && not (has_one (codes "/" ∷ codes "@" ∷ codes "=" ∷ codes "." ∷ codes "," ∷ codes "gstabs" ∷ []) word))
 
 abbrev pub argument_if : Bool → Option Expected
 argument_if known = if known then Some Argument else None

@@ -28,8 +28,8 @@ trimmed text = take (length text - suffix_len is_ascii_whitespace text) text
 -- Where one of these stands before the name of a macro, a text doesn't define that.
 abbrev pub questions : List (List ℕ)
 questions =
-    codes "defined(" ∷ codes "defined (" ∷ codes "defined" ∷ codes "ifdef" ∷ codes "ifndef" ∷ codes "include" ∷ codes "include_next" ∷ codes "import" ∷ codes "embed"
-    ∷ codes "undef" ∷ []
+    codes "defined(" ∷ codes "defined (" ∷ codes "defined" ∷ codes "ifdef" ∷ codes "ifndef" ∷ codes "include" ∷ codes "include_next" ∷ codes "import" ∷ codes "undef"
+    ∷ []
 
 unfoldable pub is_asked : List ℕ → Bool
 is_asked before = ends_with_one questions (trimmed before)

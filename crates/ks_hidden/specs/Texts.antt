@@ -1,7 +1,7 @@
 -- What a text of C or of an assembler may hold that has the compiler read a file which it lists nowhere, or makes an object one of the
 -- time of its compile. The words are those of the C preprocessor and of the GNU assembler.
-use Rattle.std.specs.Prelude.{◌≡◌, ◌⊎◌, ◌+◌, ◌-◌, ◌==◌, ◌||◌, ◌&&◌, not, ℕ, Bool, true, false, List, [], ◌∷◌, Option, Some, None, codes, drop, take, nat_eq, is_none, option_and_then, unwrap_or, length, slice_get, min, ◌<◌, if◌then◌else◌}
-use Rattle.std.specs.List.{ends_with, filter_map, prefix_len}
+use Rattle.std.specs.Prelude.{◌≡◌, ◌⊎◌, ◌+◌, ◌-◌, ◌==◌, ◌||◌, ◌&&◌, not, ℕ, Bool, true, false, List, [], ◌∷◌, Option, Some, None, codes, drop, take, nat_eq, is_none, is_some, option_and_then, unwrap_or, length, slice_get, min, ◌<◌, if◌then◌else◌}
+use Rattle.std.specs.List.{ends_with, filter_map, prefix_len, starts_with}
 use Rattle.std.specs.Char.{is_ascii_alphabetic}
 use Rattle.std.specs.Str.{str_eq_ignore_ascii_case}
 use Rattle.memchr.specs.Find.{OccursAt, is_byte, is_byte3, places}
@@ -55,7 +55,7 @@ skip_front text = skip_blanks (unwrap_or (behind (239 ∷ 187 ∷ 191 ∷ []) te
 -- what follows the word of an include with which a text begins
 unfoldable pub after_include : List ℕ → Option (List ℕ)
 after_include text =
-    or_else (behind (codes "include_next") text) (or_else (behind (codes "include") text) (or_else (behind (codes "import") text) (behind (codes "embed") text)))
+    or_else (behind (codes "include_next") text) (or_else (behind (codes "include") text) (behind (codes "import") text))
 
 -- a text begins with what is no quote, no angle and no end of a line
 abbrev pub begins_other : List ℕ → Bool
@@ -72,9 +72,11 @@ abbrev pub follows_computed : List ℕ → Bool
 follows_computed [] = false
 follows_computed (b ∷ rest) = if b == 92 || b == 47 || b == 63 then true else if is_blank b then begins_other (skip_blanks rest) else false
 
--- what follows the sign of a directive includes what a macro says
+-- what follows the sign of a directive includes what a macro says, or takes over a file's bytes, as those of the header
 unfoldable pub is_computed : List ℕ → Bool
-is_computed text = if begins_joined (skip_blanks text) then true else is_such follows_computed (after_include (skip_blanks text))
+is_computed text =
+    if begins_joined (skip_blanks text) || starts_with nat_eq (skip_blanks text) (codes "embed") then true
+    else is_such follows_computed (after_include (skip_blanks text))
 
 -- what follows the sign, in one of its three spellings, with which a text begins
 unfoldable pub after_sign : List ℕ → Option (List ℕ)
@@ -142,6 +144,10 @@ joins_word before rest = is_of_word (slice_get before (length before - 1)) && is
 unfoldable pub ends_comment : List ℕ → List ℕ → Bool
 ends_comment before rest = ends_with nat_eq before (codes "*") && is_computed_line rest
 
+-- It ends the trigraph of a backslash, by which a line goes on.
+unfoldable pub ends_trigraph : List ℕ → List ℕ → Bool
+ends_trigraph before rest = ends_with nat_eq before (codes "??") && is_some (after_line_end (skip_blanks rest))
+
 -- ---- what the assembler reads a file by, in letters of either case
 
 -- a text begins with a word, or ends in it
@@ -157,7 +163,7 @@ is_of_directive = is_such (λ b. is_word_byte b || b == 46 || b == 36)
 
 -- A dot and what follows it are the directive `.include`, and no longer one.
 unfoldable pub begins_include : List ℕ → Bool
-begins_include rest = begins_as (codes "include") rest && not (is_of_directive (slice_get rest 7))
+begins_include rest = begins_as (codes "include") rest && not (is_of_directive (slice_get rest (length (codes "include"))))
 
 -- What stands before a `b`, and what follows it, make it that of `incbin`.
 unfoldable pub is_in_incbin : List ℕ → List ℕ → Bool
@@ -170,7 +176,7 @@ is_in_incbin before rest = ends_as (codes "inc") before && begins_as (codes "in"
 abbrev pub makes_mark : List ℕ → List ℕ → ℕ → Bool
 makes_mark before rest b =
     if b == 92 then joins_word before rest
-    else if b == 47 then ends_comment before rest
+    else if b == 47 then ends_comment before rest || ends_trigraph before rest
     else if b == 46 then begins_include rest
     else if b == 98 || b == 66 then is_in_incbin before rest
     else if b == 13 then is_none (behind (codes "\n") rest)

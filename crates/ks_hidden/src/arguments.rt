@@ -1,4 +1,5 @@
-//! Which arguments of a compile are known: they bring no file that the compiler doesn't list.
+//! Which arguments of a compile are known: they bring no file that the compiler doesn't list, and into the object nothing of the header but
+//! what its sources name.
 //!
 //! In doubt an argument isn't known.
 ghost use Rattle.std.specs.Prelude.{◌≡◌, Some, IfOk, codes, map, option_map};
@@ -299,7 +300,7 @@ fn is_known_inside(word: &[u8]) -> bool
         || (begins_with_one(
             &[b"-Wa,--", b"-Wa,-W", b"-Wa,-m", b"-Wa,-M", b"-Wa,-n"],
             word,
-        ) && !has_one(&[b",-I", b"@"], word))
+        ) && !has_one(&[b",-I", b"@", b"gstabs"], word))
 }
 
 /// Whether it says how code is made, and names no file.
@@ -319,10 +320,18 @@ fn is_known_flag(word: &[u8]) -> bool
     !begins_with_one(
         &[
             b"-fauto-profile",
+            b"-fbasic-block-sections=",
             b"-fbranch-",
+            b"-fcoverage-",
             b"-fdebug-macro",
+            b"-fembed-offload-",
             b"-fmodule",
+            b"-fopenmp-host-ir-",
             b"-fprebuilt-module",
+            b"-fprofile-remapping-",
+            b"-frandomize-layout-seed-file",
+            b"-fthinlto-index",
+            b"-fxray-",
         ],
         word,
     ) && !has_one(&[b"use", b"plugin", b"list", b"/", b"@"], word)
@@ -391,17 +400,26 @@ fn after_argument(word: &[u8]) -> Option<Expected>
     None
 }
 
-/// Whether an option of a part of the compiler brings no file.
+/// Whether an option of a part of the compiler is known.
 #[tactic(auto, unfolding(crate::specs::Arguments::is_known_inner))]
 fn is_known_inner(word: &[u8]) -> bool
     ensures { result ≡ is_known_inner word.now }
 {
-    !has_one(
-        &[
-            b"include", b"load", b"plugin", b"pch", b"module", b"header", b"/", b"@", b"=", b".",
-        ],
-        word,
-    )
+    is_known_flag(word)
+        || is_known_machine(word)
+        || (begins_with_one(
+            &[
+                b"-D",
+                b"-U",
+                b"-W",
+                b"-O",
+                b"-disable-",
+                b"-target-",
+                b"+",
+                b"--",
+            ],
+            word,
+        ) && !has_one(&[b"/", b"@", b"=", b".", b",", b"gstabs"], word))
 }
 
 /// An argument is expected where the word was known.

@@ -41,7 +41,6 @@ fn is_asked(before: &[u8]) -> bool
             b"include",
             b"include_next",
             b"import",
-            b"embed",
             b"undef",
         ],
         trimmed(before),

@@ -5,7 +5,7 @@ ghost use Rattle.std.specs.Prelude.{◌≡◌, ◌<◌, ◌≤◌, ◌||◌, ℕ
 ghost use Rattle.std.specs.Str.{str_eq_ignore_ascii_case};
 ghost use Rattle.memchr.specs.Find.{OccursAt};
 ghost use Rattle.ks_hidden.specs.Macros.{includes, is_in, is_name};
-ghost use Rattle.ks_hidden.specs.Texts.{HasLine, HiddenLine, IsLeast, IsMacroAt, IsMarkAt, IsMarkOf, after_include, after_line_end, after_sign, begins_as, begins_blank, begins_include, begins_joined, begins_letter, begins_other, ends_as, ends_comment, first_computed, follows_computed, front_word, included_macro, is_blank, is_computed, is_computed_line, is_hidden_include, is_in_incbin, is_mark, is_of_directive, is_of_word, is_of_word_or_joins, joins_word, lesser, line_number, macro_behind, macro_name, skip_blanks, skip_front};
+ghost use Rattle.ks_hidden.specs.Texts.{HasLine, HiddenLine, IsLeast, IsMacroAt, IsMarkAt, IsMarkOf, after_include, after_line_end, after_sign, begins_as, begins_blank, begins_include, begins_joined, begins_letter, begins_other, ends_as, ends_comment, ends_trigraph, first_computed, follows_computed, front_word, included_macro, is_blank, is_computed, is_computed_line, is_hidden_include, is_in_incbin, is_mark, is_of_directive, is_of_word, is_of_word_or_joins, joins_word, lesser, line_number, macro_behind, macro_name, skip_blanks, skip_front};
 
 use crate::words::behind;
 use bstr::ByteSlice;
@@ -91,10 +91,7 @@ fn after_include(text: &[u8]) -> Option<&[u8]>
     if let Some(rest) = behind(b"include", text) {
         return Some(rest);
     }
-    if let Some(rest) = behind(b"import", text) {
-        return Some(rest);
-    }
-    behind(b"embed", text)
+    behind(b"import", text)
 }
 
 /// Whether a text begins with what is no quote, no angle and no end of a line.
@@ -128,13 +125,13 @@ fn begins_joined(text: &[u8]) -> bool
     }
 }
 
-/// Whether what follows the sign of a directive includes what a macro says.
+/// Whether what follows the sign of a directive includes what a macro says, or takes over a file's bytes, as those of the header.
 #[tactic(auto, unfolding(crate::specs::Texts::is_computed))]
 fn is_computed(text: &[u8]) -> bool
     ensures { result ≡ is_computed text.now }
 {
     let text = skip_blanks(text);
-    if begins_joined(text) {
+    if begins_joined(text) || text.starts_with(b"embed") {
         return true;
     }
     match after_include(text) {
@@ -325,6 +322,14 @@ fn ends_comment(before: &[u8], rest: &[u8]) -> bool
     before.ends_with(b"*") && is_computed_line(rest)
 }
 
+/// Whether a slash between these texts is that of the trigraph of a backslash, by which a line goes on.
+#[tactic(auto, unfolding(crate::specs::Texts::ends_trigraph))]
+fn ends_trigraph(before: &[u8], rest: &[u8]) -> bool
+    ensures { result ≡ ends_trigraph before.now rest.now }
+{
+    before.ends_with(b"??") && after_line_end(skip_blanks(rest)).is_some()
+}
+
 /// Whether two texts are one, but for the case of their letters.
 fn is_alike(one: &[u8], other: &[u8]) -> bool
     ensures { result ≡ str_eq_ignore_ascii_case one.now other.now }
@@ -361,7 +366,8 @@ fn is_of_directive(byte: Option<u8>) -> bool
 fn begins_include(rest: &[u8]) -> bool
     ensures { result ≡ begins_include rest.now }
 {
-    begins_as(rest, b"include") && !is_of_directive(rest.get(7).copied())
+    let word = b"include";
+    begins_as(rest, word) && !is_of_directive(rest.get(word.len()).copied())
 }
 
 /// Whether a `b` between these texts is that of the directive by which it takes over a file's bytes.
@@ -379,7 +385,10 @@ fn is_mark(text: &[u8], at: usize) -> bool
 {
     match text.get(at) {
         Some(b'\\') => joins_word(&text[..at], &text[at + 1..]),
-        Some(b'/') => ends_comment(&text[..at], &text[at + 1..]),
+        Some(b'/') => {
+            ends_comment(&text[..at], &text[at + 1..])
+                || ends_trigraph(&text[..at], &text[at + 1..])
+        }
         Some(b'.') => begins_include(&text[at + 1..]),
         Some(b'b' | b'B') => is_in_incbin(&text[..at], &text[at + 1..]),
         Some(b'\r') => behind(b"\n", &text[at + 1..]).is_none(),

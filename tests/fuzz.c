@@ -593,7 +593,7 @@ static Bytes compile_command(void)
         "@x.rsp", "-fplugin=x.so", "-", "-include-pch", "x.h", "-I=d", "-x c-header", "-xc++-header", "-Xclang -load", "-Xpreprocessor a.h",
         "-Wp,-include", "-Wp,-MD,@x", "-Wa,@x", "-m@x", "-fprofile-use", "-fmodules", "-D @x", "/dev/stdin.c", "/proc/1/x.c", "--x", "-T",
         "-fuse-use", "x", "-I =d", "-isystem $X", "-DNAME=x", "-D OTHER", "-DNAME", "-Wp,-MD,x.d,-DNAME", "-Wp,-DX", "-Wp,-U_X,-DX", "-g3",
-        "-Wa,--x,-Id", "-Wa,--gstabs", "-Xclang -x", "-fcoverage-mapping", "-Xassembler --x.y", "-o -DNAME", "-DX=__TIME__", "-D X=__has_include", "-D/NAME",
+        "-Wa,--x,-Id", "-Wa,--gstabs", "-dM", "-Xclang -x", "-fcoverage-mapping", "-Xassembler --x.y", "-o -DNAME", "-DX=__TIME__", "-D X=__has_include", "-D/NAME",
     };
     Text text = {0};
     while (one_in(4))

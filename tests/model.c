@@ -1935,8 +1935,8 @@ static bool has_one(Bytes word, const char *const *texts)
 #define ONE_OF(...) ((const char *const[]){__VA_ARGS__, NULL})
 
 /* What stands where a word stands: something in front of the compiler or the value of that, or an argument, the value of one, a
-   language, or an option for a part of the compiler. */
-typedef enum { FRONT, FRONT_VALUE, ARGUMENT, VALUE, LANGUAGE, INNER, UNKNOWN } Expected;
+   language, or an option for a part of the compiler; or a word of a command that makes a text. */
+typedef enum { FRONT, FRONT_VALUE, ARGUMENT, VALUE, LANGUAGE, INNER, TEXT, UNKNOWN } Expected;
 
 static Expected after_front(Bytes word)
 {
@@ -2036,12 +2036,17 @@ static Expected after_argument(Bytes word)
 /* What stands behind a word of which this was expected. */
 static Expected after_word(Expected expected, Bytes word)
 {
+    static const char *const of_no_text[] = {
+        "-dD", "-dI", "-dM", "-dN", "-dU", "-g3", "-ggdb3", "-fcoverage-", "-fdebug-macro", "-fdirectives-only", "@", NULL,
+    };
     bool is_known = true;
     switch (expected) {
     case FRONT:
         return after_front(word);
     case FRONT_VALUE:
         return FRONT;
+    case TEXT:
+        return begins_with_one(word, of_no_text) ? UNKNOWN : TEXT;
     case ARGUMENT:
         return after_argument(word);
     case VALUE:
@@ -2068,16 +2073,15 @@ static bool next_word(Bytes *rest, Bytes *word)
     return word->length > 0;
 }
 
-/* The first word of a compile, which has -c, that isn't known. */
+/* The first word that isn't known, of a compile, which has -c, or of a command that makes a text. */
 static Fault check_words(Bytes command)
 {
     Bytes rest = command, word;
     uint64_t number = 0;
-    Expected expected = FRONT;
-    bool is_compile = false;
+    Expected expected = TEXT;
     while (next_word(&rest, &word))
-        is_compile = is_compile || is_text(word, "-c");
-    for (rest = command; is_compile && next_word(&rest, &word);) {
+        expected = is_text(word, "-c") ? FRONT : expected;
+    for (rest = command; next_word(&rest, &word);) {
         number++;
         expected = after_word(expected, word);
         if (expected == UNKNOWN || has_one(word, ONE_OF("__has_include", "__has_embed", "__DATE__", "__TIME__", "__TIMESTAMP__")))

@@ -259,7 +259,7 @@ pub const MISSING_LINE: Row = (
 pub const UNKNOWN_ARGUMENT: Row = (
     "29",
     "UnknownArgument",
-    "with `--strict`: this word of a compile, which has `-c`, may bring a file that no dependency file lists, or the header's text, or isn't known",
+    "with `--strict`: this word of the command may bring a file that no dependency file lists, or the header's text; or, in a compile, which has `-c`, it isn't known",
     "`@x.rsp`, `-fplugin=x.so`",
     "don't record the object: compile it after each change",
 );

@@ -4,7 +4,7 @@ use Rattle.std.specs.Prelude.{ℕ, ◌+◌, ◌&&◌, ◌||◌, Bool, false, not
 use Rattle.std.specs.List.{ends_with, list_any, starts_with}
 use Rattle.ks_hidden.specs.Words.{behind, is_such, words_of}
 use Rattle.ks_hidden.specs.declared.arguments.Expected.{Expected}
-use Rattle.ks_hidden.specs.declared.arguments.Expected.TheVariants.{Front, FrontValue, Argument, Value, Language, Inner}
+use Rattle.ks_hidden.specs.declared.arguments.Expected.TheVariants.{Front, FrontValue, Argument, Value, Language, Inner, Text}
 
 -- ---- lists
 
@@ -151,6 +151,14 @@ is_known_inner word =
     || (begins_with_one (codes "-D" ∷ codes "-U" ∷ codes "-W" ∷ codes "-O" ∷ codes "-disable-" ∷ codes "-target-" ∷ codes "+" ∷ codes "--" ∷ []) word
     && not (has_one (codes "/" ∷ codes "@" ∷ codes "=" ∷ codes "." ∷ codes "," ∷ codes "gstabs" ∷ []) word))
 
+-- no word of a command that makes a text by which that lists macros, or has words of a file
+unfoldable pub is_known_of_text : List ℕ → Bool
+is_known_of_text word =
+    not
+    (begins_with_one
+    (codes "-dD" ∷ codes "-dI" ∷ codes "-dM" ∷ codes "-dN" ∷ codes "-dU" ∷ codes "-g3" ∷ codes "-ggdb3" ∷ codes "-fcoverage-" ∷ codes "-fdebug-macro"
+    ∷ codes "-fdirectives-only" ∷ codes "@" ∷ []) word)
+
 abbrev pub argument_if : Bool → Option Expected
 argument_if known = if known then Some Argument else None
 
@@ -162,6 +170,7 @@ after_word Argument word = after_argument word
 after_word Value word = argument_if (not (begins_with_one (codes "@" ∷ codes "=" ∷ codes "$" ∷ []) word))
 after_word Language word = argument_if (not (ends_with nat_eq word (codes "-header")) && not (starts_with nat_eq word (codes "@")))
 after_word Inner word = argument_if (is_known_inner word)
+after_word Text word = if is_known_of_text word then Some Text else None
 
 -- a word has a macro that is of the time of a compile, or looks for a file
 unfoldable pub has_macro : List ℕ → Bool
@@ -177,9 +186,9 @@ unknown_from n None words = Some n
 unknown_from n (Some expected) [] = None
 unknown_from n (Some expected) (word ∷ words) = if is_marked word then Some (n + 1) else unknown_from (n + 1) (after_word expected word) words
 
--- the number of the first word of a compile, which has -c, that isn't known; they are counted from 1 on
+-- the number of the first word that isn't known, of a compile, which has -c, or of a command that makes a text; they are counted from 1 on
 abbrev pub unknown_word : List (List ℕ) → Option ℕ
-unknown_word words = if is_one_of words (codes "-c") then unknown_from 0 (Some Front) words else None
+unknown_word words = unknown_from 0 (Some (if is_one_of words (codes "-c") then Front else Text)) words
 
 unfoldable pub unknown_argument : List ℕ → Option ℕ
 unknown_argument command = unknown_word (words_of command)

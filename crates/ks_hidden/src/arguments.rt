@@ -3,8 +3,8 @@
 //!
 //! In doubt an argument isn't known.
 ghost use Rattle.std.specs.Prelude.{◌≡◌, Some, IfOk, codes, map, option_map};
-ghost use Rattle.ks_hidden.specs.Arguments.{after_argument, after_front, after_word, argument_if, begins_with_one, ends_with_one, has, has_known_front, has_macro, has_one, has_refused_front, has_tool_value, is_known_file, is_known_flag, is_known_inner, is_known_inside, is_known_language, is_known_machine, is_known_option, is_marked, is_one_of, is_other_option, is_plain_option, is_plain_value, is_tool, is_tool_option, takes_inner, takes_value, unknown_argument, unknown_from};
-ghost use Rattle.ks_hidden.specs.declared.arguments.Expected.TheVariants.{Front};
+ghost use Rattle.ks_hidden.specs.Arguments.{after_argument, after_front, after_word, argument_if, begins_with_one, ends_with_one, has, has_known_front, has_macro, has_one, has_refused_front, has_tool_value, is_known_file, is_known_flag, is_known_inner, is_known_inside, is_known_language, is_known_machine, is_known_of_text, is_known_option, is_marked, is_one_of, is_other_option, is_plain_option, is_plain_value, is_tool, is_tool_option, takes_inner, takes_value, unknown_argument, unknown_from};
+ghost use Rattle.ks_hidden.specs.declared.arguments.Expected.TheVariants.{Front, Text};
 ghost use Rattle.ks_hidden.specs.Words.{texts};
 
 use crate::words::{behind, words};
@@ -24,6 +24,8 @@ enum Expected {
     Language,
     /// An option of a part of the compiler, behind `-Xclang` and its like.
     Inner,
+    /// A word of a command that makes a text, and is no compile.
+    Text,
 }
 
 /// Whether a word is one of these.
@@ -422,6 +424,29 @@ fn is_known_inner(word: &[u8]) -> bool
         ) && !has_one(&[b"/", b"@", b"=", b".", b",", b"gstabs"], word))
 }
 
+/// Whether a word has no list of macros made, and no words read from a file.
+#[tactic(auto, unfolding(crate::specs::Arguments::is_known_of_text))]
+fn is_known_of_text(word: &[u8]) -> bool
+    ensures { result ≡ is_known_of_text word.now }
+{
+    !begins_with_one(
+        &[
+            b"-dD",
+            b"-dI",
+            b"-dM",
+            b"-dN",
+            b"-dU",
+            b"-g3",
+            b"-ggdb3",
+            b"-fcoverage-",
+            b"-fdebug-macro",
+            b"-fdirectives-only",
+            b"@",
+        ],
+        word,
+    )
+}
+
 /// An argument is expected where the word was known.
 fn argument_if(known: bool) -> Option<Expected>
     ensures { result ≡ argument_if known }
@@ -447,6 +472,13 @@ impl Expected {
                 argument_if(!word.ends_with(b"-header") && !word.starts_with(b"@"))
             }
             Expected::Inner => argument_if(is_known_inner(word)),
+            Expected::Text => {
+                if is_known_of_text(word) {
+                    Some(Expected::Text)
+                } else {
+                    None
+                }
+            }
         }
     }
 }
@@ -487,11 +519,11 @@ fn is_marked(word: &[u8]) -> bool
     has(word, b"__") && has_macro(word)
 }
 
-/// The number of the first word that isn't known, from 1.
-fn first_unknown(words: &[Vec<u8>]) -> Option<u64>
-    ensures { result ≡ unknown_from 0 (Some Front) (texts words.now) }
+/// The number of the first word that isn't known, from 1, where this is expected of the first.
+fn first_unknown(first: Expected, words: &[Vec<u8>]) -> Option<u64>
+    ensures { result ≡ unknown_from 0 (Some first) (texts words.now) }
 {
-    let mut expected = Expected::Front;
+    let mut expected = first;
     let mut number: u64 = 0;
     for word in words {
         number += 1;
@@ -506,14 +538,16 @@ fn first_unknown(words: &[Vec<u8>]) -> Option<u64>
     None
 }
 
-/// The number of the first word of a compile that isn't known, from 1. A command without `-c` is none.
+/// The number of the first word of a command that isn't known, from 1. One without `-c` is no compile, but makes a text.
 #[tactic(auto, unfolding(crate::specs::Arguments::unknown_argument))]
 pub fn unknown_argument(alloc: Global, command: &[u8]) -> Result<Option<u64>, AllocError>
     ensures { IfOk result (λ n. n ≡ unknown_argument command.now) }
 {
     let words = words(alloc, command)?;
-    if are_compile(&words) {
-        return Ok(first_unknown(&words));
-    }
-    Ok(None)
+    let first = if are_compile(&words) {
+        Expected::Front
+    } else {
+        Expected::Text
+    };
+    Ok(first_unknown(first, &words))
 }

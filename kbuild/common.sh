@@ -295,15 +295,15 @@ mark_due() {
     done
 }
 
-# age_to_come DIRECTORY RECORDED: a product with a future mtime would look newer than what make writes from now on. So what make
+# age_to_come DIRECTORY RECORDED [MODULE]: a product with a future mtime would look newer than what make writes from now on. So what make
 # links or packs is backdated. Such products stand beside what was recorded or above it, and have a command file. BusyBox itself
 # has none.
 age_to_come() {
     : > "$1/now"
     tools_to_come "$1"
-    directories=$(awk '
+    directories=$(awk -v module="${3:-}/" '
         BEGIN { print "." }
-        { while (sub(/\/[^\/]*$/, "") && $0 != "" && !($0 in known)) { known[$0]; print } }
+        { while (sub(/\/[^\/]*$/, "") && $0 != "" && !($0 in known)) { known[$0]; print; if (/^\// && index($0, module) != 1) next } }
     ' "$2")
     # shellcheck disable=SC2086 # the list is words, and Kbuild takes no path with a blank
     find_there $directories -maxdepth 1 ! -name '*.[chS]' ! -name '.*.cmd' -type f -newer "$1/now" > "$1/newer" || return 1

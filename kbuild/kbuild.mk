@@ -66,9 +66,11 @@ endef
 endef
 $(eval $(confstamp-make-cmd))
 
-# An object is also listed as one that was recorded in this tree, or, where it stands elsewhere, in the directory of this external module.
+# An object is also listed as one that was recorded in this tree, or, where it stands elsewhere, in the directory of this external module,
+# with the name of that.
 confstamp-begin = $(if $(confstamp-only-asked),,$(if $(wildcard $(confstamp-records)),$(confstamp-list)))
 confstamp-command-file = $(@D)/.$(@F).cmd
+confstamp-module = $(if $(confstamp-elsewhere),$(CURDIR),$(KBUILD_EXTMOD))
 confstamp-records = $(if $(confstamp-outside),$(if $(confstamp-elsewhere),.,$(KBUILD_EXTMOD))/.confstamp.records,$(if \
 	$(confstamp-elsewhere),$(confstamp-elsewhere)/)include/config/confstamp.records)
 confstamp-outside = $(if $(filter /% ../%,$(confstamp-target)),$(filter-out $(realpath $(or $(objtree),.))/%,$(realpath $(@D))/))
@@ -160,13 +162,13 @@ confstamp-whole = $(if $(confstamp-dialect),_all,all)
 endif
 ifeq ($(filter 3.% 4.0% 4.1%,$(MAKE_VERSION)),)
 confstamp-empty = $(file > $(confstamp-command-file))
-confstamp-list = $(file >> $(confstamp-records),record $(confstamp-target))
+confstamp-list = $(file >> $(confstamp-records),$(strip record $(confstamp-target) $(confstamp-module)))
 confstamp-write-make-mark = $(file > $(confstamp-make-mark),$(1) $(CURDIR))
 confstamp-verified-all = $(file > $(confstamp-verified),ended)
 confstamp-read-make-mark = $(file < $(confstamp-make-mark))
 else
 confstamp-empty = $(shell : > $(confstamp-command-file))
-confstamp-list = $(shell echo 'record $(confstamp-target)' >> $(confstamp-records))
+confstamp-list = $(shell echo '$(strip record $(confstamp-target) $(confstamp-module))' >> $(confstamp-records))
 confstamp-write-make-mark = $(shell echo '$(1) $(CURDIR)' > $(confstamp-make-mark))
 confstamp-verified-all = $(shell echo ended > $(confstamp-verified))
 confstamp-read-make-mark = $(shell cat $(confstamp-make-mark) 2> /dev/null)
@@ -190,7 +192,7 @@ endef
 
 # The tree's numbers may have gone on since an external module's objects were recorded. So these are asked about as make begins.
 confstamp-mark-due = $(if $(confstamp-only-asked),,$(if $(shell $(if $(confstamp-elsewhere),cd $(objtree) &&) $(CONFSTAMP_KBUILD)/mark \
-	$(if $(confstamp-elsewhere),$(CURDIR),$(KBUILD_EXTMOD)) || echo failed),$(error stale objects could not be marked)))
+	$(confstamp-module) || echo failed),$(error stale objects could not be marked)))
 ifneq ($(KBUILD_EXTMOD),$(CONFSTAMP_MARKED))
 export CONFSTAMP_MARKED := $(KBUILD_EXTMOD)
 $(if $(and $(KBUILD_EXTMOD),$(filter-out clean help modules_install,$(or $(MAKECMDGOALS),modules))),$(confstamp-mark-due))

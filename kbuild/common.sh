@@ -295,16 +295,16 @@ mark_due() {
     done
 }
 
-# age_to_come DIRECTORY RECORDED [MODULE]: a product with a future mtime would look newer than what make writes from now on. So what make
+# age_to_come DIRECTORY RECORDED: a product with a future mtime would look newer than what make writes from now on. So what make
 # links or packs is backdated. Such products stand beside what was recorded or above it, and have a command file. BusyBox itself
-# has none.
+# has none. A directory that may not be listed, as one above a module's, is passed over.
 age_to_come() {
     : > "$1/now"
     tools_to_come "$1"
-    directories=$(awk -v module="${3:-}/" '
+    directories=$(awk '
         BEGIN { print "." }
-        { while (sub(/\/[^\/]*$/, "") && $0 != "" && !($0 in known)) { known[$0]; print; if (/^\// && index($0, module) != 1) next } }
-    ' "$2")
+        { while (sub(/\/[^\/]*$/, "") && $0 != "" && !($0 in known)) { known[$0]; print } }
+    ' "$2" | while read -r directory; do [ ! -r "$directory" ] || echo "$directory"; done)
     # shellcheck disable=SC2086 # the list is words, and Kbuild takes no path with a blank
     find_there $directories -maxdepth 1 ! -name '*.[chS]' ! -name '.*.cmd' -type f -newer "$1/now" > "$1/newer" || return 1
     [ -s "$1/newer" ] || return 0

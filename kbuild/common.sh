@@ -90,13 +90,20 @@ make_work_directory() {
     trap 'exit 2' HUP INT TERM
 }
 
-# find_there WORD..: find. What is gone meanwhile, as beside a make, is no failure; all else is reported, and has status 1.
+# find_there WORD..: find. What is gone meanwhile, as beside a make, is no failure, and a directory that may not be entered, such as
+# lost+found, is none either: make comes to no file there. All else is reported, and has status 1.
 find_there() {
     ended=0
     { complaints=$(find "$@" 2>&1 >&3) || ended=$?; } 3>&1
     [ "$ended" != 0 ] || return 0
     complaints=${complaints:-find ended with $ended}
-    others=$(echo "$complaints" | sed '/^find: .*: No such file or directory$/d') || others=$complaints
+    others=$(echo "$complaints" | sed '/^find: .*: No such file or directory$/d' | while IFS= read -r line; do
+        path=${line#find: }
+        path=${path%: Permission denied}
+        path=${path#\'}
+        path=${path%\'}
+        { [ -d "$path" ] && [ ! -x "$path" ]; } || echo "$line"
+    done) || others=$complaints
     [ -n "$others" ] || return 0
     report "not all could be looked through: $(echo "$others" | head -n 1)"
     return 1

@@ -66,8 +66,8 @@ endef
 endef
 $(eval $(confstamp-make-cmd))
 
-# An object is also listed as one that was recorded in this tree, or, where it stands elsewhere, in the directory of this external module,
-# with the name of that.
+# An object is also listed as one that was recorded in this tree, or, where it stands elsewhere, in the directory of this external module;
+# of a module, together with the directory as make was given it.
 confstamp-begin = $(if $(confstamp-only-asked),,$(if $(wildcard $(confstamp-records)),$(confstamp-list)))
 confstamp-command-file = $(@D)/.$(@F).cmd
 confstamp-module = $(if $(confstamp-elsewhere),$(CURDIR),$(KBUILD_EXTMOD))

@@ -28,12 +28,16 @@ pub(crate) fn never_done() -> io::Error
     io::Error::new(ErrorKind::Other, "Interrupted without end")
 }
 
-/// So many bytes of room.
+/// So many bytes of room, copied many at once: one by one takes longer than to read as many.
 pub(crate) fn buffer(alloc: Global, size: usize) -> Result<Vec<u8>, AllocError>
     ensures { IfOk result (λ buffer. length buffer.items ≡ size) }
 {
+    let zeros = [0; 2048];
     let mut buffer = Vec::with_capacity(alloc, size)?;
-    buffer.resize(size, 0)?;
+    while buffer.len() < size {
+        let count = zeros.len().min(size - buffer.len());
+        buffer.extend_from_slice(&zeros[..count])?;
+    }
     Ok(buffer)
 }
 

@@ -15,7 +15,7 @@ use Rattle.std.specs.Prelude.{◌↔◌, IsTrue, slice_get, slice_index, ⊤, Op
 use Rattle.memchr.specs.Find.{FindsNeedle, OccursAt, is_byte, is_byte3, places, places_from}
 use Rattle.ks_hidden.specs.Words.{is_such}
 use Rattle.ks_hidden.specs.Macros.{is_name, may_define}
-use Rattle.ks_hidden.specs.Texts.{HasLine, HiddenLine, IsLeast, IsMacroAt, IsMarkAt, IsMarkOf, first_computed, included_macro, is_mark, lesser, line_number, makes_mark}
+use Rattle.ks_hidden.specs.Texts.{HasLine, HiddenLine, IsEitherAt, IsLeast, IsMacroAt, IsMarkAt, IsMarkOf, first_computed, included_macro, is_mark, lesser, line_number, makes_mark}
 
 -- ---- the least of some numbers
 
@@ -144,21 +144,32 @@ hidden_by_both text mark include l same marked computed =
 
 -- ---- words
 
--- where a word stands that begins with two underscores, these stand
-underscores_at : (text rest : List ℕ) (k j : ℕ) → OccursAt text (95 ∷ 95 ∷ rest) k → j < 2 → slice_index text (k + j) ≡ slice_index (95 ∷ 95 ∷ []) j
-underscores_at text rest k zero at within = at.reads 0 (omega arith)
-underscores_at text rest k (suc zero) at within = at.reads 1 (omega arith)
-underscores_at text rest k (suc (suc j)) at within = absurd (omega (arith, within))
+front_shorter : (front word : List ℕ) → front ≡ take (length front) word → length front ≤ length word
+front_shorter front word same =
+    let long : length front ≡ length (take (length front) word) = ap length same in
+    grind (arith, common_steps, long)
 
-underscores : (text rest : List ℕ) (k : ℕ) → OccursAt text (95 ∷ 95 ∷ rest) k → OccursAt text (95 ∷ 95 ∷ []) k
-underscores text rest k at = record { fits = omega (arith, at.fits); reads = λ j within. underscores_at text rest k j at within }
+front_reads : (front word : List ℕ) → front ≡ take (length front) word → (j : ℕ) → j < length front → slice_index word j ≡ slice_index front j
+front_reads front word same j within = sym (ap (λ t. slice_index t j) same ∙ get_or-take (length front) word j 0 within)
+
+-- where a word stands, that stands with which it begins
+front_at : (text front word : List ℕ) (k : ℕ) → bytes_eq front (take (length front) word) ≡ true → OccursAt text word k → OccursAt text front k
+front_at text front word k begins at =
+    let same : front ≡ take (length front) word = (bytes_decides front (take (length front) word)).0 begins in
+    let shorter : length front ≤ length word = front_shorter front word same in record {
+      fits = omega (arith, at.fits, shorter);
+      reads = λ j within. at.reads j (omega (arith, within, shorter)) ∙ front_reads front word same j within;
+    }
+
+pub either_none : (text front one other : List ℕ) → bytes_eq front (take (length front) one) ≡ true → bytes_eq front (take (length front) other) ≡ true
+    → IsLeast (OccursAt text front) None → IsLeast (IsEitherAt text one other) None
+either_none text front one other begins starts none k (inl at) = none k (front_at text front one k begins at)
+either_none text front one other begins starts none k (inr at) = none k (front_at text front other k starts at)
 
 pub no_macro : (text : List ℕ) → IsLeast (OccursAt text (codes "__")) None → IsLeast (IsMacroAt text) None
-no_macro text none k (inl at) = none k (underscores text _ k at)
-no_macro text none k (inr (inl at)) = none k (underscores text _ k at)
-no_macro text none k (inr (inr (inl at))) = none k (underscores text _ k at)
-no_macro text none k (inr (inr (inr (inl at)))) = none k (underscores text _ k at)
-no_macro text none k (inr (inr (inr (inr at)))) = none k (underscores text _ k at)
+no_macro text none k (inl has) = either_none text (codes "__") _ _ refl refl none k has
+no_macro text none k (inr (inl at)) = none k (front_at text (codes "__") _ k refl at)
+no_macro text none k (inr (inr time)) = either_none text (codes "__") _ _ refl refl none k time
 
 -- ---- places of bytes
 

@@ -1,7 +1,7 @@
 -- What a text of C or of an assembler may hold that has the compiler read a file which it lists nowhere, or makes an object one of the
 -- time of its compile. The words are those of the C preprocessor and of the GNU assembler.
 use Rattle.std.specs.Prelude.{◌≡◌, ◌⊎◌, ◌+◌, ◌-◌, ◌==◌, ◌||◌, ◌&&◌, not, ℕ, Bool, true, false, List, [], ◌∷◌, Option, Some, None, codes, drop, take, nat_eq, is_none, is_some, option_and_then, unwrap_or, length, slice_get, min, ◌<◌, if◌then◌else◌}
-use Rattle.std.specs.List.{ends_with, filter_map, prefix_len, starts_with}
+use Rattle.std.specs.List.{filter_map, prefix_len, starts_with}
 use Rattle.std.specs.Char.{is_ascii_alphabetic}
 use Rattle.std.specs.Str.{str_eq_ignore_ascii_case}
 use Rattle.memchr.specs.Find.{OccursAt, is_byte, is_byte3, places}
@@ -33,11 +33,15 @@ HasLine text holds n = (k : ℕ) × holds k × (n ≡ line_number text k)
 
 -- ---- marks
 
+-- one of two words
+abbrev pub IsEitherAt : List ℕ → List ℕ → List ℕ → ℕ → Type 0
+IsEitherAt text one other k = OccursAt text one k ⊎ OccursAt text other k
+
 -- a word of the preprocessor that looks for a file, or is of the time of a compile
 abbrev pub IsMacroAt : List ℕ → ℕ → Type 0
 IsMacroAt text k =
-    OccursAt text (codes "__has_include") k ⊎ (OccursAt text (codes "__has_embed") k
-    ⊎ (OccursAt text (codes "__DATE__") k ⊎ (OccursAt text (codes "__TIME__") k ⊎ OccursAt text (codes "__TIMESTAMP__") k)))
+    IsEitherAt text (codes "__has_include") (codes "__has_embed") k
+    ⊎ (OccursAt text (codes "__DATE__") k ⊎ IsEitherAt text (codes "__TIME__") (codes "__TIMESTAMP__") k)
 
 -- ---- includes whose file is computed
 
@@ -140,13 +144,17 @@ after_line_end text = or_else (behind (codes "\n") text) (behind (codes "\r\n") 
 unfoldable pub joins_word : List ℕ → List ℕ → Bool
 joins_word before rest = is_of_word (slice_get before (length before - 1)) && is_such (λ next. is_of_word_or_joins (slice_get next 0)) (after_line_end (skip_blanks rest))
 
+-- a text ends in a byte
+abbrev pub ends_in : ℕ → List ℕ → Bool
+ends_in byte text = is_such (λ b. b == byte) (slice_get text (length text - 1))
+
 -- What stands before a slash makes it the end of a comment, behind which such a directive stands.
 unfoldable pub ends_comment : List ℕ → List ℕ → Bool
-ends_comment before rest = ends_with nat_eq before (codes "*") && is_computed_line rest
+ends_comment before rest = ends_in 42 before && is_computed_line rest
 
 -- It ends the trigraph of a backslash, by which a line goes on.
 unfoldable pub ends_trigraph : List ℕ → List ℕ → Bool
-ends_trigraph before rest = ends_with nat_eq before (codes "??") && is_some (after_line_end (skip_blanks rest))
+ends_trigraph before rest = ends_in 63 before && (ends_in 63 (take (length before - 1) before) && is_some (after_line_end (skip_blanks rest)))
 
 -- ---- what the assembler reads a file by, in letters of either case
 

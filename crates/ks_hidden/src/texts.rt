@@ -1,11 +1,12 @@
 //! What a text may hold that has the compiler read a file which it lists nowhere, or makes an object one of the time of its compile.
 //!
 //! Most texts hold nothing of that. So each is searched as a whole, and for few words.
-ghost use Rattle.std.specs.Prelude.{◌≡◌, ◌<◌, ◌≤◌, ◌||◌, ℕ, IfOk, IfSome, List, None, OnOk, drop, length, option_map, slice_get, true};
+ghost use Rattle.std.specs.Prelude.{◌≡◌, ◌<◌, ◌≤◌, ◌||◌, ℕ, IfOk, IfSome, List, None, OnOk, drop, length, option_map, slice_get, false, nat_eq, true};
+ghost use Rattle.std.specs.List.{starts_with};
 ghost use Rattle.std.specs.Str.{str_eq_ignore_ascii_case};
 ghost use Rattle.memchr.specs.Find.{OccursAt};
 ghost use Rattle.ks_hidden.specs.Macros.{includes, is_in, is_name};
-ghost use Rattle.ks_hidden.specs.Texts.{HasLine, HiddenLine, IsLeast, IsMacroAt, IsMarkAt, IsMarkOf, after_include, after_line_end, after_sign, begins_as, begins_blank, begins_include, begins_joined, begins_letter, begins_other, ends_as, ends_comment, ends_trigraph, first_computed, follows_computed, front_word, included_macro, is_blank, is_computed, is_computed_line, is_hidden_include, is_in_incbin, is_mark, is_of_directive, is_of_word, is_of_word_or_joins, joins_word, lesser, line_number, macro_behind, macro_name, skip_blanks, skip_front};
+ghost use Rattle.ks_hidden.specs.Texts.{HasLine, HiddenLine, IsEitherAt, IsLeast, IsMacroAt, IsMarkAt, IsMarkOf, after_include, after_line_end, after_sign, begins_as, begins_blank, begins_include, begins_joined, begins_letter, begins_other, ends_as, ends_comment, ends_in, ends_trigraph, first_computed, follows_computed, front_word, included_macro, is_blank, is_computed, is_computed_line, is_hidden_include, is_in_incbin, is_mark, is_of_directive, is_of_word, is_of_word_or_joins, joins_word, lesser, line_number, macro_behind, macro_name, skip_blanks, skip_front};
 
 use crate::words::behind;
 use bstr::ByteSlice;
@@ -59,15 +60,28 @@ fn find(text: &[u8], word: &[u8]) -> Option<usize>
     memmem::find(text, word)
 }
 
+/// The first place of one of two words, which begin alike. Most texts have nothing that begins so, and are passed at once.
+fn find_either(text: &[u8], front: &[u8], one: &[u8], other: &[u8]) -> Option<usize>
+    requires one { starts_with nat_eq one.now front.now ≡ true }
+    requires other { starts_with nat_eq other.now front.now ≡ true }
+    ensures { IsLeast (IsEitherAt text.now one.now other.now) result }
+{
+    match find(text, front) {
+        Some(_) => lesser(find(text, one), find(text, other)),
+        None => None,
+    }
+}
+
 /// The first place of a word of the preprocessor that looks for a file, or is of the time of a compile.
 fn find_macro(text: &[u8]) -> Option<usize>
     ensures { IsLeast (IsMacroAt text.now) result }
 {
-    let first = find(text, b"__TIMESTAMP__");
-    let first = lesser(find(text, b"__TIME__"), first);
+    let first = find_either(text, b"__TIME", b"__TIME__", b"__TIMESTAMP__");
     let first = lesser(find(text, b"__DATE__"), first);
-    let first = lesser(find(text, b"__has_embed"), first);
-    lesser(find(text, b"__has_include"), first)
+    lesser(
+        find_either(text, b"__has_", b"__has_include", b"__has_embed"),
+        first,
+    )
 }
 
 /// The same. Many texts have no two underscores side by side, and are passed at once.
@@ -131,7 +145,7 @@ fn is_computed(text: &[u8]) -> bool
     ensures { result ≡ is_computed text.now }
 {
     let text = skip_blanks(text);
-    if begins_joined(text) || text.starts_with(b"embed") {
+    if begins_joined(text) || behind(b"embed", text).is_some() {
         return true;
     }
     match after_include(text) {
@@ -314,12 +328,22 @@ fn joins_word(before: &[u8], rest: &[u8]) -> bool
     }
 }
 
+/// Whether a text ends in a byte.
+fn ends_in(text: &[u8], byte: u8) -> bool
+    ensures { result ≡ ends_in byte text.now }
+{
+    match text.last() {
+        Some(last) => *last == byte,
+        None => false,
+    }
+}
+
 /// Whether a slash between these texts ends a comment, behind which a line includes what a macro says.
 #[tactic(auto, unfolding(crate::specs::Texts::ends_comment))]
 fn ends_comment(before: &[u8], rest: &[u8]) -> bool
     ensures { result ≡ ends_comment before.now rest.now }
 {
-    before.ends_with(b"*") && is_computed_line(rest)
+    ends_in(before, b'*') && is_computed_line(rest)
 }
 
 /// Whether a slash between these texts is that of the trigraph of a backslash, by which a line goes on.
@@ -327,13 +351,28 @@ fn ends_comment(before: &[u8], rest: &[u8]) -> bool
 fn ends_trigraph(before: &[u8], rest: &[u8]) -> bool
     ensures { result ≡ ends_trigraph before.now rest.now }
 {
-    before.ends_with(b"??") && after_line_end(skip_blanks(rest)).is_some()
+    ends_in(before, b'?')
+        && ends_in(&before[..before.len() - 1], b'?')
+        && after_line_end(skip_blanks(rest)).is_some()
 }
 
-/// Whether two texts are one, but for the case of their letters.
+/// Whether two texts begin otherwise, but for the case of their letters, by a look at their first bytes.
+fn begins_otherwise(one: &[u8], other: &[u8]) -> bool
+    ensures { result ≡ true → str_eq_ignore_ascii_case one.now other.now ≡ false }
+{
+    match (one.first(), other.first()) {
+        (Some(one), Some(other)) => one.to_ascii_lowercase() != other.to_ascii_lowercase(),
+        _ => false,
+    }
+}
+
+/// Whether two texts are one, but for the case of their letters. Most begin otherwise, and are told apart at once.
 fn is_alike(one: &[u8], other: &[u8]) -> bool
     ensures { result ≡ str_eq_ignore_ascii_case one.now other.now }
 {
+    if begins_otherwise(one, other) {
+        return false;
+    }
     one.eq_ignore_ascii_case(other)
 }
 

@@ -1,5 +1,5 @@
 //! The words of a compile command, and the directories and headers that its options name.
-ghost use Rattle.std.specs.Prelude.{◌≡◌, ℕ, List, [], ◌∷◌, ◌++◌, IfOk, OnOk, map, option_map, slice_get};
+ghost use Rattle.std.specs.Prelude.{◌≡◌, ℕ, List, [], ◌∷◌, ◌++◌, IfOk, OnOk, map, option_map, slice_get, true, None};
 ghost use Rattle.std.specs.List.{filter_map};
 ghost use Rattle.ks_hidden.specs.Words.{behind, ends_word, header_options, is_inside, is_part, mode_after, option_value, option_values, quote_directories, searched_directories, texts, words_of, words_with};
 
@@ -150,10 +150,23 @@ pub(crate) fn words(alloc: Global, command: &[u8]) -> Result<Vec<Vec<u8>>, Alloc
     reader.finish()
 }
 
-/// What stands behind these bytes, where the text begins with them.
+/// Whether a text begins otherwise, by a look at its first byte.
+fn begins_otherwise(front: &[u8], text: &[u8]) -> bool
+    ensures { result ≡ true → behind front.now text.now ≡ None }
+{
+    match (front.first(), text.first()) {
+        (Some(front), Some(byte)) => front != byte,
+        _ => false,
+    }
+}
+
+/// What stands behind these bytes, where the text begins with them. Most texts begin with another byte, and are passed at once.
 pub(crate) fn behind<'a>(front: &[u8], text: &'a [u8]) -> Option<&'a [u8]>
     ensures { option_map (λ r. r.now) result ≡ behind front.now text.now }
 {
+    if begins_otherwise(front, text) {
+        return None;
+    }
     text.strip_prefix(front)
 }
 

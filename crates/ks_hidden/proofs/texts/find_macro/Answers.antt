@@ -3,7 +3,5 @@ use Rattle.ks_hidden.proofs.texts.find_macro.Goals as goal
 
 pub returns : goal.returns
 returns c =
-    let first = least_of_both _ _ _ _ _ c.lesser-first.ensures c.find.ensures c.find-first.ensures in
-    let second = least_of_both _ _ _ _ _ c.lesser-first-2.ensures c.find-2.ensures first in
-    let third = least_of_both _ _ _ _ _ c.lesser-first-3.ensures c.find-3.ensures second in
-    least_of_both _ _ _ _ _ c.lesser.ensures c.find-4.ensures third
+    let first = least_of_both _ _ _ _ _ c.lesser-first.ensures c.find.ensures c.find_either-first.ensures in
+    least_of_both _ _ _ _ _ c.lesser.ensures c.find_either.ensures first

@@ -58,18 +58,19 @@ unfoldable pub takes_value : List ℕ → Bool
 takes_value word =
     is_one_of
     (codes "-D" ∷ codes "-I" ∷ codes "-U" ∷ codes "-o" ∷ codes "-MF" ∷ codes "-MQ" ∷ codes "-MT" ∷ codes "-include" ∷ codes "-imacros" ∷ codes "-isystem"
-    ∷ codes "-iquote" ∷ codes "-idirafter" ∷ codes "-isysroot" ∷ codes "-target" ∷ codes "-arch" ∷ codes "--param" ∷ codes "-mllvm" ∷ []) word
+    ∷ codes "-iquote" ∷ codes "-idirafter" ∷ codes "-isysroot" ∷ codes "-target" ∷ codes "-arch" ∷ codes "--param" ∷ []) word
 
 -- the next word is an option of a part of the compiler
 unfoldable pub takes_inner : List ℕ → Bool
-takes_inner word = begins_with_one (codes "-Xa" ∷ codes "-Xc" ∷ codes "-Xp" ∷ []) word
+takes_inner word = begins_with_one (codes "-Xa" ∷ codes "-Xc" ∷ codes "-Xp" ∷ codes "-mllvm" ∷ []) word
 
 unfoldable pub is_plain_option : List ℕ → Bool
 is_plain_option word =
     is_one_of
     (codes "-c" ∷ codes "-MD" ∷ codes "-MMD" ∷ codes "-MP" ∷ codes "-w" ∷ codes "-s" ∷ codes "-p" ∷ codes "-P" ∷ codes "-C" ∷ codes "-CC" ∷ codes "-v" ∷ codes "-pg"
     ∷ codes "-pipe" ∷ codes "-pthread" ∷ codes "-ansi" ∷ codes "-undef" ∷ codes "-trigraphs" ∷ codes "-rdynamic" ∷ codes "--coverage" ∷ codes "-pie" ∷ codes "-no-pie"
-    ∷ codes "-nodefaultlibs" ∷ codes "-nostartfiles" ∷ codes "-Qunused-arguments" ∷ codes "-EB" ∷ codes "-EL" ∷ []) word
+    ∷ codes "-nodefaultlibs" ∷ codes "-nostartfiles" ∷ codes "-nolibc" ∷ codes "-no-canonical-prefixes" ∷ codes "-integrated-as"
+    ∷ codes "-no-integrated-as" ∷ codes "-Qunused-arguments" ∷ codes "-EB" ∷ codes "-EL" ∷ []) word
 
 -- an option with its value
 unfoldable pub has_known_front : List ℕ → Bool
@@ -77,43 +78,58 @@ has_known_front word =
     begins_with_one
     (codes "-D" ∷ codes "-U" ∷ codes "-I" ∷ codes "-O" ∷ codes "-g" ∷ codes "-W" ∷ codes "-o" ∷ codes "-MF" ∷ codes "-MQ" ∷ codes "-MT" ∷ codes "-isystem" ∷ codes "-iquote"
     ∷ codes "-idirafter" ∷ codes "-imacros" ∷ codes "-include" ∷ codes "-pedantic" ∷ codes "-l" ∷ codes "-L" ∷ codes "-nostd" ∷ codes "-static" ∷ codes "-shared"
-    ∷ codes "-stdlib=" ∷ codes "-std=" ∷ codes "--std=" ∷ codes "--param=" ∷ codes "--sysroot=" ∷ codes "--target=" ∷ codes "--gcc-toolchain=" ∷ []) word
+    ∷ codes "-stdlib=" ∷ codes "-rtlib=" ∷ codes "--rtlib=" ∷ codes "-unwindlib=" ∷ codes "--unwindlib=" ∷ codes "-std=" ∷ codes "--std=" ∷ codes "--param=" ∷ codes "--sysroot=" ∷ codes "--target=" ∷ codes "--gcc-toolchain=" ∷ []) word
 
--- or one that begins as such, and names a directory by that of the system (=), a precompiled header, or options for a part of the compiler, or
--- puts all macros into the debug information
+-- or one that begins as such, and names a directory by that of the system (=), a precompiled header, or options for a part of the compiler
 unfoldable pub has_refused_front : List ℕ → Bool
 has_refused_front word =
     begins_with_one
-    (codes "-I=" ∷ codes "-I$" ∷ codes "-isystem=" ∷ codes "-iquote=" ∷ codes "-idirafter=" ∷ codes "-include-pch" ∷ codes "-Wa," ∷ codes "-Wp," ∷ codes "-g3"
-    ∷ codes "-ggdb3" ∷ []) word
+    (codes "-I=" ∷ codes "-I$" ∷ codes "-isystem=" ∷ codes "-iquote=" ∷ codes "-idirafter=" ∷ codes "-include-pch" ∷ codes "-Wa," ∷ codes "-Wp," ∷ []) word
+
+-- All macros come into the object or the text, or the line at which the header defines one.
+unfoldable pub keeps_macros : List ℕ → Bool
+keeps_macros word = begins_with_one (codes "-g3" ∷ codes "-ggdb3" ∷ codes "-gstabs3" ∷ codes "-fcoverage-" ∷ codes "-fdebug-macro" ∷ []) word
 
 -- the value of an option has no comma and no @
 abbrev pub is_plain_value : Option (List ℕ) → Bool
 is_plain_value = is_such (λ value. not (has_one (codes "," ∷ codes "@" ∷ []) value))
 
--- options for the preprocessor and the assembler that are known: none defines a macro without an underscore, or names a directory
+-- options for the preprocessor and the assembler that are known, one in a word: none defines a macro without an underscore, or names a file
 unfoldable pub is_known_inside : List ℕ → Bool
 is_known_inside word =
     is_plain_value (behind (codes "-Wp,-MD,") word) || is_plain_value (behind (codes "-Wp,-MMD,") word) || is_plain_value (behind (codes "-Wp,-D_") word)
     || is_plain_value (behind (codes "-Wp,-U") word)
     || (begins_with_one (codes "-Wa,--" ∷ codes "-Wa,-W" ∷ codes "-Wa,-m" ∷ codes "-Wa,-M" ∷ codes "-Wa,-n" ∷ []) word
-    && not (has_one (codes ",-I" ∷ codes "@" ∷ codes "gstabs" ∷ []) word))
+    && is_plain_value (behind (codes "-Wa,") word) && not (has word (codes "gstabs")))
 
--- how code is made: no file is used, as a profile or a plugin; and the object keeps no macro, nor the line at which the header defines one
+-- how code is made, and nothing is read at what it may name
+unfoldable pub is_plain_flag : List ℕ → Bool
+is_plain_flag word =
+    begins_with_one
+    (codes "-fno-" ∷ codes "-fuse-" ∷ codes "-fcrash-diagnostics-dir=" ∷ codes "-fdebug-compilation-dir=" ∷ codes "-ffile-compilation-dir="
+    ∷ codes "-finput-charset=UTF-8" ∷ codes "-finput-charset=utf-8" ∷ codes "-fprofile-dir=" ∷ codes "-fprofile-generate" ∷ codes "-frandom-seed=" ∷ []) word
+    || has word (codes "-prefix-map=")
+
+-- a file is read, or the sources otherwise
+unfoldable pub reads_file : List ℕ → Bool
+reads_file word =
+    begins_with_one
+    (codes "-fauto-profile" ∷ codes "-fbasic-block-sections=" ∷ codes "-fbranch-" ∷ codes "-fembed-offload-" ∷ codes "-finput-charset" ∷ codes "-fmodule"
+    ∷ codes "-fopenmp-host-ir-" ∷ codes "-fprebuilt-module" ∷ codes "-fpreprocessed" ∷ codes "-fprofile-remapping-" ∷ codes "-frandomize-layout-seed-file"
+    ∷ codes "-fthinlto-index" ∷ codes "-fxray-" ∷ []) word
+
+-- a file is named: a profile, a plugin, a list or one in another directory
+unfoldable pub names_file : List ℕ → Bool
+names_file word =
+    has_one
+    (codes "profile-use" ∷ codes "instr-use" ∷ codes "sample-use" ∷ codes "ment-use" ∷ codes "plugin" ∷ codes "list" ∷ codes "/" ∷ codes "@" ∷ []) word
+
 unfoldable pub is_known_flag : List ℕ → Bool
-is_known_flag word =
-    begins_with_one (codes "-fno-" ∷ codes "-fuse-ld=" ∷ codes "-fuse-cxa-atexit" ∷ []) word
-    || (starts_with nat_eq word (codes "-f") && (has word (codes "-prefix-map=")
-    || (not
-    (begins_with_one
-    (codes "-fauto-profile" ∷ codes "-fbasic-block-sections=" ∷ codes "-fbranch-" ∷ codes "-fcoverage-" ∷ codes "-fdebug-macro" ∷ codes "-fembed-offload-"
-    ∷ codes "-fmodule" ∷ codes "-fopenmp-host-ir-" ∷ codes "-fprebuilt-module" ∷ codes "-fprofile-remapping-" ∷ codes "-frandomize-layout-seed-file"
-    ∷ codes "-fthinlto-index" ∷ codes "-fxray-" ∷ []) word)
-    && not (has_one (codes "use" ∷ codes "plugin" ∷ codes "list" ∷ codes "/" ∷ codes "@" ∷ []) word))))
+is_known_flag word = starts_with nat_eq word (codes "-f") && not (keeps_macros word) && (is_plain_flag word || not (reads_file word || names_file word))
 
 -- and for which machine
 unfoldable pub is_known_machine : List ℕ → Bool
-is_known_machine word = starts_with nat_eq word (codes "-m") && not (has_one (codes "/" ∷ codes "@" ∷ []) word)
+is_known_machine word = starts_with nat_eq word (codes "-m") && not (has_one (codes "/" ∷ codes "@" ∷ codes "llvm" ∷ []) word)
 
 -- the language of what follows, which is no header
 unfoldable pub is_known_language : List ℕ → Bool
@@ -121,7 +137,7 @@ is_known_language word = starts_with nat_eq word (codes "-x") && not (ends_with 
 
 unfoldable pub is_known_option : List ℕ → Bool
 is_known_option word =
-    is_plain_option word || (has_known_front word && not (has_refused_front word)) || is_known_inside word || is_known_flag word || is_known_machine word
+    is_plain_option word || (has_known_front word && not (has_refused_front word) && not (keeps_macros word)) || is_known_inside word || is_known_flag word || is_known_machine word
     || is_known_language word
 
 -- ---- files
@@ -148,16 +164,15 @@ after_argument word =
 unfoldable pub is_known_inner : List ℕ → Bool
 is_known_inner word =
     is_known_flag word || is_known_machine word
-    || (begins_with_one (codes "-D" ∷ codes "-U" ∷ codes "-W" ∷ codes "-O" ∷ codes "-disable-" ∷ codes "-target-" ∷ codes "+" ∷ codes "--" ∷ []) word
+    || (begins_with_one (codes "-D" ∷ codes "-U" ∷ codes "-W" ∷ codes "-O" ∷ codes "-disable-" ∷ codes "-target-" ∷ codes "+" ∷ codes "--32" ∷ codes "--64"
+    ∷ codes "--compress" ∷ codes "--fatal-warnings" ∷ codes "--no" ∷ codes "--warn" ∷ []) word
     && not (has_one (codes "/" ∷ codes "@" ∷ codes "=" ∷ codes "." ∷ codes "," ∷ codes "gstabs" ∷ []) word))
 
 -- no word of a command that makes a text by which that lists macros, or has words of a file
 unfoldable pub is_known_of_text : List ℕ → Bool
 is_known_of_text word =
-    not
-    (begins_with_one
-    (codes "-dD" ∷ codes "-dI" ∷ codes "-dM" ∷ codes "-dN" ∷ codes "-dU" ∷ codes "-g3" ∷ codes "-ggdb3" ∷ codes "-fcoverage-" ∷ codes "-fdebug-macro"
-    ∷ codes "-fdirectives-only" ∷ codes "@" ∷ []) word)
+    not (keeps_macros word)
+    && not (begins_with_one (codes "-dD" ∷ codes "-dI" ∷ codes "-dM" ∷ codes "-dN" ∷ codes "-dU" ∷ codes "-fdirectives-only" ∷ codes "@" ∷ []) word)
 
 abbrev pub argument_if : Bool → Option Expected
 argument_if known = if known then Some Argument else None

@@ -3,7 +3,7 @@
 //!
 //! In doubt an argument isn't known.
 ghost use Rattle.std.specs.Prelude.{◌≡◌, Some, IfOk, codes, map, option_map};
-ghost use Rattle.ks_hidden.specs.Arguments.{after_argument, after_front, after_word, argument_if, begins_with_one, ends_with_one, has, has_known_front, has_macro, has_one, has_refused_front, has_tool_value, is_known_file, is_known_flag, is_known_inner, is_known_inside, is_known_language, is_known_machine, is_known_of_text, is_known_option, is_marked, is_one_of, is_other_option, is_plain_option, is_plain_value, is_tool, is_tool_option, takes_inner, takes_value, unknown_argument, unknown_from};
+ghost use Rattle.ks_hidden.specs.Arguments.{after_argument, after_front, after_word, argument_if, begins_with_one, ends_with_one, has, has_known_front, has_macro, has_one, has_refused_front, has_tool_value, is_known_file, is_known_flag, is_known_inner, is_known_inside, is_known_language, is_known_machine, is_known_of_text, is_known_option, is_marked, is_one_of, is_other_option, is_plain_flag, is_plain_option, is_plain_value, is_tool, is_tool_option, keeps_macros, names_file, reads_file, takes_inner, takes_value, unknown_argument, unknown_from};
 ghost use Rattle.ks_hidden.specs.declared.arguments.Expected.TheVariants.{Front, Text};
 ghost use Rattle.ks_hidden.specs.Words.{texts};
 
@@ -166,7 +166,6 @@ fn takes_value(word: &[u8]) -> bool
             b"-target",
             b"-arch",
             b"--param",
-            b"-mllvm",
         ],
         word,
     )
@@ -177,7 +176,7 @@ fn takes_value(word: &[u8]) -> bool
 fn takes_inner(word: &[u8]) -> bool
     ensures { result ≡ takes_inner word.now }
 {
-    begins_with_one(&[b"-Xa", b"-Xc", b"-Xp"], word)
+    begins_with_one(&[b"-Xa", b"-Xc", b"-Xp", b"-mllvm"], word)
 }
 
 /// Whether an option says all itself.
@@ -210,6 +209,10 @@ fn is_plain_option(word: &[u8]) -> bool
             b"-no-pie",
             b"-nodefaultlibs",
             b"-nostartfiles",
+            b"-nolibc",
+            b"-no-canonical-prefixes",
+            b"-integrated-as",
+            b"-no-integrated-as",
             b"-Qunused-arguments",
             b"-EB",
             b"-EL",
@@ -247,6 +250,10 @@ fn has_known_front(word: &[u8]) -> bool
             b"-static",
             b"-shared",
             b"-stdlib=",
+            b"-rtlib=",
+            b"--rtlib=",
+            b"-unwindlib=",
+            b"--unwindlib=",
             b"-std=",
             b"--std=",
             b"--param=",
@@ -273,8 +280,23 @@ fn has_refused_front(word: &[u8]) -> bool
             b"-include-pch",
             b"-Wa,",
             b"-Wp,",
+        ],
+        word,
+    )
+}
+
+/// Whether all macros come into the object or the text, or the line at which the header defines one.
+#[tactic(auto, unfolding(crate::specs::Arguments::keeps_macros))]
+fn keeps_macros(word: &[u8]) -> bool
+    ensures { result ≡ keeps_macros word.now }
+{
+    begins_with_one(
+        &[
             b"-g3",
             b"-ggdb3",
+            b"-gstabs3",
+            b"-fcoverage-",
+            b"-fdebug-macro",
         ],
         word,
     )
@@ -302,41 +324,85 @@ fn is_known_inside(word: &[u8]) -> bool
         || (begins_with_one(
             &[b"-Wa,--", b"-Wa,-W", b"-Wa,-m", b"-Wa,-M", b"-Wa,-n"],
             word,
-        ) && !has_one(&[b",-I", b"@", b"gstabs"], word))
+        ) && is_plain_value(behind(b"-Wa,", word))
+            && !has(word, b"gstabs"))
 }
 
-/// Whether it says how code is made, and names no file.
-#[tactic(auto, unfolding(crate::specs::Arguments::is_known_flag))]
-fn is_known_flag(word: &[u8]) -> bool
-    ensures { result ≡ is_known_flag word.now }
+/// Whether it says how code is made, and nothing is read at what it may name.
+#[tactic(auto, unfolding(crate::specs::Arguments::is_plain_flag))]
+fn is_plain_flag(word: &[u8]) -> bool
+    ensures { result ≡ is_plain_flag word.now }
 {
-    if begins_with_one(&[b"-fno-", b"-fuse-ld=", b"-fuse-cxa-atexit"], word) {
-        return true;
-    }
-    if !word.starts_with(b"-f") {
-        return false;
-    }
-    if has(word, b"-prefix-map=") {
-        return true;
-    }
-    !begins_with_one(
+    begins_with_one(
+        &[
+            b"-fno-",
+            b"-fuse-",
+            b"-fcrash-diagnostics-dir=",
+            b"-fdebug-compilation-dir=",
+            b"-ffile-compilation-dir=",
+            b"-finput-charset=UTF-8",
+            b"-finput-charset=utf-8",
+            b"-fprofile-dir=",
+            b"-fprofile-generate",
+            b"-frandom-seed=",
+        ],
+        word,
+    ) || has(word, b"-prefix-map=")
+}
+
+/// Whether a flag may have a file read, or the sources otherwise.
+#[tactic(auto, unfolding(crate::specs::Arguments::reads_file))]
+fn reads_file(word: &[u8]) -> bool
+    ensures { result ≡ reads_file word.now }
+{
+    begins_with_one(
         &[
             b"-fauto-profile",
             b"-fbasic-block-sections=",
             b"-fbranch-",
-            b"-fcoverage-",
-            b"-fdebug-macro",
             b"-fembed-offload-",
+            b"-finput-charset",
             b"-fmodule",
             b"-fopenmp-host-ir-",
             b"-fprebuilt-module",
+            b"-fpreprocessed",
             b"-fprofile-remapping-",
             b"-frandomize-layout-seed-file",
             b"-fthinlto-index",
             b"-fxray-",
         ],
         word,
-    ) && !has_one(&[b"use", b"plugin", b"list", b"/", b"@"], word)
+    )
+}
+
+/// Whether a flag may name a file that is read.
+#[tactic(auto, unfolding(crate::specs::Arguments::names_file))]
+fn names_file(word: &[u8]) -> bool
+    ensures { result ≡ names_file word.now }
+{
+    has_one(
+        &[
+            b"profile-use",
+            b"instr-use",
+            b"sample-use",
+            b"ment-use",
+            b"plugin",
+            b"list",
+            b"/",
+            b"@",
+        ],
+        word,
+    )
+}
+
+/// Whether it says how code is made, and has no file read.
+#[tactic(auto, unfolding(crate::specs::Arguments::is_known_flag))]
+fn is_known_flag(word: &[u8]) -> bool
+    ensures { result ≡ is_known_flag word.now }
+{
+    word.starts_with(b"-f")
+        && !keeps_macros(word)
+        && (is_plain_flag(word) || !(reads_file(word) || names_file(word)))
 }
 
 /// Whether it says for which machine, and names no file.
@@ -344,7 +410,7 @@ fn is_known_flag(word: &[u8]) -> bool
 fn is_known_machine(word: &[u8]) -> bool
     ensures { result ≡ is_known_machine word.now }
 {
-    word.starts_with(b"-m") && !has_one(&[b"/", b"@"], word)
+    word.starts_with(b"-m") && !has_one(&[b"/", b"@", b"llvm"], word)
 }
 
 /// Whether it says the language, and isn't that of a header.
@@ -361,7 +427,7 @@ fn is_known_option(word: &[u8]) -> bool
     ensures { result ≡ is_known_option word.now }
 {
     is_plain_option(word)
-        || (has_known_front(word) && !has_refused_front(word))
+        || (has_known_front(word) && !has_refused_front(word) && !keeps_macros(word))
         || is_known_inside(word)
         || is_known_flag(word)
         || is_known_machine(word)
@@ -418,7 +484,12 @@ fn is_known_inner(word: &[u8]) -> bool
                 b"-disable-",
                 b"-target-",
                 b"+",
-                b"--",
+                b"--32",
+                b"--64",
+                b"--compress",
+                b"--fatal-warnings",
+                b"--no",
+                b"--warn",
             ],
             word,
         ) && !has_one(&[b"/", b"@", b"=", b".", b",", b"gstabs"], word))
@@ -429,22 +500,19 @@ fn is_known_inner(word: &[u8]) -> bool
 fn is_known_of_text(word: &[u8]) -> bool
     ensures { result ≡ is_known_of_text word.now }
 {
-    !begins_with_one(
-        &[
-            b"-dD",
-            b"-dI",
-            b"-dM",
-            b"-dN",
-            b"-dU",
-            b"-g3",
-            b"-ggdb3",
-            b"-fcoverage-",
-            b"-fdebug-macro",
-            b"-fdirectives-only",
-            b"@",
-        ],
-        word,
-    )
+    !keeps_macros(word)
+        && !begins_with_one(
+            &[
+                b"-dD",
+                b"-dI",
+                b"-dM",
+                b"-dN",
+                b"-dU",
+                b"-fdirectives-only",
+                b"@",
+            ],
+            word,
+        )
 }
 
 /// An argument is expected where the word was known.

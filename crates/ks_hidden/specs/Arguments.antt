@@ -62,7 +62,7 @@ takes_value word =
 
 -- the next word is an option of a part of the compiler
 unfoldable pub takes_inner : List ℕ → Bool
-takes_inner word = begins_with_one (codes "-Xa" ∷ codes "-Xc" ∷ codes "-Xp" ∷ codes "-mllvm" ∷ []) word
+takes_inner word = begins_with_one (codes "-Xa" ∷ codes "-Xc" ∷ codes "-Xp" ∷ []) word || bytes_eq word (codes "-mllvm")
 
 unfoldable pub is_plain_option : List ℕ → Bool
 is_plain_option word =
@@ -88,7 +88,9 @@ has_refused_front word =
 
 -- All macros come into the object or the text, or the line at which the header defines one.
 unfoldable pub keeps_macros : List ℕ → Bool
-keeps_macros word = begins_with_one (codes "-g3" ∷ codes "-ggdb3" ∷ codes "-gstabs3" ∷ codes "-fcoverage-" ∷ codes "-fdebug-macro" ∷ []) word
+keeps_macros word =
+    begins_with_one (codes "-g3" ∷ codes "-ggdb3" ∷ codes "-gstabs3" ∷ codes "-fcoverage-" ∷ codes "-fdebug-macro" ∷ []) word
+    && not (begins_with_one (codes "-fcoverage-prefix-map=" ∷ codes "-fcoverage-compilation-dir=" ∷ []) word)
 
 -- the value of an option has no comma and no @
 abbrev pub is_plain_value : Option (List ℕ) → Bool
@@ -106,7 +108,7 @@ is_known_inside word =
 unfoldable pub is_plain_flag : List ℕ → Bool
 is_plain_flag word =
     begins_with_one
-    (codes "-fno-" ∷ codes "-fuse-" ∷ codes "-fcrash-diagnostics-dir=" ∷ codes "-fdebug-compilation-dir=" ∷ codes "-ffile-compilation-dir="
+    (codes "-fno-" ∷ codes "-fuse-" ∷ codes "-fcoverage-compilation-dir=" ∷ codes "-fcrash-diagnostics-dir=" ∷ codes "-fdebug-compilation-dir=" ∷ codes "-ffile-compilation-dir="
     ∷ codes "-finput-charset=UTF-8" ∷ codes "-finput-charset=utf-8" ∷ codes "-fprofile-dir=" ∷ codes "-fprofile-generate" ∷ codes "-frandom-seed=" ∷ []) word
     || has word (codes "-prefix-map=")
 

@@ -176,7 +176,7 @@ fn takes_value(word: &[u8]) -> bool
 fn takes_inner(word: &[u8]) -> bool
     ensures { result ≡ takes_inner word.now }
 {
-    begins_with_one(&[b"-Xa", b"-Xc", b"-Xp", b"-mllvm"], word)
+    begins_with_one(&[b"-Xa", b"-Xc", b"-Xp"], word) || word == b"-mllvm".as_slice()
 }
 
 /// Whether an option says all itself.
@@ -299,6 +299,9 @@ fn keeps_macros(word: &[u8]) -> bool
             b"-fdebug-macro",
         ],
         word,
+    ) && !begins_with_one(
+        &[b"-fcoverage-prefix-map=", b"-fcoverage-compilation-dir="],
+        word,
     )
 }
 
@@ -337,6 +340,7 @@ fn is_plain_flag(word: &[u8]) -> bool
         &[
             b"-fno-",
             b"-fuse-",
+            b"-fcoverage-compilation-dir=",
             b"-fcrash-diagnostics-dir=",
             b"-fdebug-compilation-dir=",
             b"-ffile-compilation-dir=",

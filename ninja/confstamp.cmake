@@ -7,7 +7,9 @@
 #
 # It synchronises when cmake configures. At the beginning of each build the texts of both files are compared with what was
 # synchronised, whatever their times: ninja runs cmake again where they differ, and under make each target waits for it.
+# A part of the project that includes it too, as by FetchContent, goes by the same files.
 
+include_guard(GLOBAL)
 if(NOT confstamp_kconfig)
   set(confstamp_kconfig ${CMAKE_SOURCE_DIR}/Kconfig)
 endif()

@@ -119,11 +119,12 @@ confstamp-why = $(strip $(if $(confstamp-watched_$@),,$(error $@ is none of the 
 	$(if $(call confstamp-same,$(1),$(confstamp-built_$@)),,other))
 
 # confstamp-run COMMAND LABEL WORDS KNOWN: the recipe. .TARGET.mk is emptied first, and has the command only at the end. COMMAND stands
-# in no list of && or ||, since a shell ignores `set -e` there. Half a line, as a full disk leaves it, would stop each later make.
+# in no list of && or ||, since a shell ignores `set -e` there. Half a line, as a full disk or two makes at once leave it, would stop each
+# later make, so the file gets its name when it is whole.
 confstamp-run = @$(call confstamp-report,$(1),$(2)); $(if $(wildcard $(@D)),,mkdir -p $(@D) &&) : > $(call confstamp-mk,$@) || exit; \
-	( $(3) ); set -- $$?; [ $$1 = 0 ] || exit $$1; \
-	{ $(4) printf '%s\n' 'confstamp-built_$@ := $$()$(call confstamp-built,$(1))'; } > $(call confstamp-mk,$@) || \
-	{ : > $(call confstamp-mk,$@); false; }
+	( $(3) ); set -- $$? $(call confstamp-mk,$@); [ $$1 = 0 ] || exit $$1; \
+	known=$$($(4) printf '%s\n' 'confstamp-built_$@ := $$()$(call confstamp-built,$(1))') && printf '%s\n' "$$known" > $$2.$$$$ && \
+	mv $$2.$$$$ $$2 || { rm -f $$2.$$$$; false; }
 confstamp-report = $(if $(confstamp-silent),:,$(if $(and $(2),$(if $(filter 1,$(V)),,yes)),printf '  %-7s %s\n' '$(2)' \
 	'$(patsubst $(CURDIR)/%,%,$@)',printf '%s\n' '$(confstamp-text)'))
 

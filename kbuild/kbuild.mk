@@ -58,13 +58,28 @@ confstamp-keeps = @:
 # As make makes the recipe, before the compiler or linker runs: the command file is emptied, so that make makes once more what is
 # made and not recorded, as where it is killed in between. make itself writes, since a process for each target would cost more. Each
 # recipe with a command file expands make-cmd; BusyBox's has a `#`, so it is defined as a whole.
-confstamp-emptied = $(if $(confstamp-only-asked),,$(if $(wildcard $(confstamp-command-file)),$(confstamp-empty)))
+confstamp-emptied = $(if $(confstamp-only-asked),,$(if $(wildcard $(confstamp-command-file)),$(call \
+	confstamp-empty,$(confstamp-command-file)))$(if $(filter %.ko,$@),$(confstamp-first-line)))
 define confstamp-make-cmd
 define make-cmd
 $$(confstamp-emptied)$(value make-cmd)
 endef
 endef
 $(eval $(confstamp-make-cmd))
+
+# Later lines of a recipe may change what the first one has recorded: genksyms appends to the command file, and pahole rewrites a
+# module. From the first line to the last another file stands beside that. Where it was left, as by a make that was killed, the target
+# is made once more.
+confstamp-late = $(if $(filter %.ko,$@),$(CONFIG_DEBUG_INFO_BTF_MODULES),$(or $(CONFIG_MODVERSIONS),$(CONFIG_TRIM_UNUSED_KSYMS),\
+	$(CONFIG_FTRACE_MCOUNT_USE_RECORDMCOUNT)))
+confstamp-begun-file = $(@D)/.$(@F).begun.tmp
+confstamp-unfinished = $(if $(confstamp-late),$(wildcard $(confstamp-begun-file)))
+confstamp-first-line = $(if $(confstamp-only-asked),,$(if $(confstamp-late),$(call confstamp-empty,$(confstamp-begun-file))))
+confstamp-last-line = $(if $(confstamp-late),$(confstamp-line-feed)@rm -f $(confstamp-begun-file))
+ifdef if-changed-cond
+override if_changed_rule = $(if $(if-changed-cond),$(confstamp-first-line)$(rule_$(1))$(confstamp-last-line),@:)
+$(eval cmd = $(value cmd)$$(if $$(filter btf_ko,$$(1)),$$(confstamp-last-line)))
+endif
 
 # An object is also listed as one that was recorded in this tree, or, where it stands elsewhere, in the directory of this external module;
 # of a module, together with the directory as make was given it.
@@ -102,11 +117,11 @@ endif
 # auto.conf.cmd before all else, and without the mark? make reads the files itself where it can (from GNU make 4.2 on), since each
 # process would cost more than that.
 confstamp-mark := Synchronised by the hooks of confstamp
-ifeq ($(filter 3.% 4.0% 4.1%,$(MAKE_VERSION)),)
 define confstamp-line-feed
 
 
 endef
+ifeq ($(filter 3.% 4.0% 4.1%,$(MAKE_VERSION)),)
 confstamp-last = $(strip $(file < include/config/confstamp.generation))
 confstamp-number = $(and $(confstamp-last),$(findstring $(confstamp-line-feed)$(confstamp-last)$(confstamp-line-feed),$(file \
 	< include/config/auto.conf)$(confstamp-line-feed)))
@@ -161,13 +176,13 @@ ifndef confstamp-whole
 confstamp-whole = $(if $(confstamp-dialect),_all,all)
 endif
 ifeq ($(filter 3.% 4.0% 4.1%,$(MAKE_VERSION)),)
-confstamp-empty = $(file > $(confstamp-command-file))
+confstamp-empty = $(file > $(1))
 confstamp-list = $(file >> $(confstamp-records),$(strip record $(confstamp-target) $(confstamp-module)))
 confstamp-write-make-mark = $(file > $(confstamp-make-mark),$(1) $(CURDIR))
 confstamp-verified-all = $(file > $(confstamp-verified),ended)
 confstamp-read-make-mark = $(file < $(confstamp-make-mark))
 else
-confstamp-empty = $(shell : > $(confstamp-command-file))
+confstamp-empty = $(shell : > $(1))
 confstamp-list = $(shell echo '$(strip record $(confstamp-target) $(confstamp-module))' >> $(confstamp-records))
 confstamp-write-make-mark = $(shell echo '$(1) $(CURDIR)' > $(confstamp-make-mark))
 confstamp-verified-all = $(shell echo ended > $(confstamp-verified))
@@ -204,8 +219,8 @@ endif
 confstamp-stamp-in = $(if $(word 2,$(1)),,$(filter include/config/%,$(1)))
 confstamp-due-by = $(call confstamp-stamp-in,$(savedcmd_$@)) $(if $(confstamp-elsewhere),$(call \
 	confstamp-stamp-in,$(savedcmd_$(confstamp-target))))
-confstamp-pending = $(filter-out $?,$(sort $(confstamp-due-by)))
-$(foreach word,newer-prereqs any-prereq arg-check,$(eval $(word) = $$(strip $(value $(word)) $$(confstamp-pending))))
+confstamp-pending = $(filter-out $?,$(sort $(confstamp-due-by) $(confstamp-unfinished)))
+$(foreach word,newer-prereqs any-prereq arg-check cmd-check,$(eval $(word) = $$(strip $(value $(word)) $$(confstamp-pending))))
 
 # kbuild/stale --make asks what make would do, by make -n. Recipes that begin with `+` run even then, and the link of vmlinux and
 # of modules does, and rustc. So no recipe is left. Of each target that make comes to, lines are reported:

@@ -450,10 +450,8 @@ makefiles_of_targets() {
 # builds_of_targets: how the configuration changes the build of an object of `targets`, by the lines `obj-$(CONFIG_X) += x.o` of
 # makefiles: `x.o n` where none builds it by .config, and `x.o X=m` or `x.o X=y` where it is built in by one of .config and the
 # synchronised configuration, and part of a module by the other. A line whose symbol isn't plain counts as y, and so does a
-# directory, or an object, that no line names.
+# directory, or an object, that no line names. ask_conf comes before.
 builds_of_targets() {
-    sources=${srctree:-.}
-    [ -e "$sources/Makefile" ] && [ ! -e source/Makefile ] || sources=source
     makefiles_of_targets > "$tmpdir/makefiles"
     awk -v makefiles="$tmpdir/makefiles" -v synchronised="$auto" -v wanted="$asked_config" '
         function read_values(time, file,    line, name) {

@@ -142,10 +142,11 @@ confstamp-synchronised = $(shell grep -qsxFf include/config/confstamp.generation
 endif
 
 # Where auto.conf had to get a future mtime, as a Kconfig file has one, this is a list of these files with their mtimes and sizes: a
-# change of another one doesn't show by its mtime.
+# change of another one doesn't show by its mtime. A make without confstamp in PATH removes the list of records, and what it compiled
+# has no number.
 confstamp-kconfigs = include/config/confstamp.kconfigs
-confstamp-changed = $(if $(wildcard $(confstamp-kconfigs)),$(shell sed 's/ .*//' $(confstamp-kconfigs) | tr '\n' '\0' | \
-	xargs -0 stat -Lc '%n %y %z %s' 2>&1 | cmp -s - $(confstamp-kconfigs) || echo changed))
+confstamp-changed = $(if $(wildcard include/config/confstamp.records),$(if $(wildcard $(confstamp-kconfigs)),$(shell sed 's/ .*//' \
+	$(confstamp-kconfigs) | tr '\n' '\0' | xargs -0 stat -Lc '%n %y %z %s' 2>&1 | cmp -s - $(confstamp-kconfigs) || echo changed)),yes)
 
 # Where a recipe fails make removes its targets, and with auto.conf the generation would be lost; a synchronisation that fails
 # leaves its files as they may be. One that is part of a build counts no objects, since make is about to compile them. After each

@@ -169,9 +169,9 @@ confstamp-take-over = $(if $(and $(MAKE_RESTARTS),$(wildcard include/config/conf
 confstamp-never = $(error confstamp has synchronised $(MAKE_RESTARTS) times, and $(confstamp-config) still isn't what was synchronised)
 
 # kbuild/restore needs to know whether the last make of all ended well. When one begins, this file gets the word `begun`, and at its
-# end `ended`, unless make ignores errors. A make of some goals alone turns `ended` into `part`. The recipe is empty, so no process
-# is started. This directory stands after the word. Where that is another one the tree may be a copy by hard
-# links, and what is written into here must not be a file of the other tree.
+# end `ended`, unless make ignores errors. A make of some goals alone turns `ended` into `part`, but for .kernelrelease, which is a part
+# of BusyBox's `make oldconfig`. The recipe is empty, so no process is started. This directory stands after the word. Where that is
+# another one the tree may be a copy by hard links, and what is written into here must not be a file of the other tree.
 confstamp-make-mark = include/config/confstamp.make
 ifndef confstamp-whole
 confstamp-whole = $(if $(confstamp-dialect),_all,all)
@@ -195,7 +195,7 @@ confstamp-marked = $(if $(KBUILD_EXTMOD)$(confstamp-only-asked),,$(wildcard incl
 confstamp-goals = $(or $(MAKECMDGOALS),all)
 confstamp-goals-of-all = all _all __all $(confstamp-whole:_%=%)
 confstamp-begun = $(if $(filter $(confstamp-goals-of-all),$(confstamp-goals)),begun,$(if $(filter begun \
-	part,$(confstamp-left-mark)),,part))
+	part,$(confstamp-left-mark))$(filter .kernelrelease,$(confstamp-goals)),,part))
 confstamp-left-mark = $(or $(firstword $(confstamp-read-make-mark)),$(if $(wildcard $(confstamp-make-mark)),begun))
 confstamp-ended = $(if $(confstamp-marked),$(if $(findstring i,$(confstamp-options)),,$(call confstamp-write-make-mark,ended)$(if \
 	$(confstamp-verifies),$(confstamp-verified-all))))

@@ -52,8 +52,9 @@ confstamp-directly = { $(CONFSTAMP) $(confstamp-dialect) record --cmd $(confstam
 	$(if $(confstamp-in-place),,&& cat $(confstamp-command-file)); }
 endif
 
-# In front of the command by which Xen removes auto.conf before each synchronisation: that touches all symbols.
-confstamp-keeps = @:
+# In front of the command by which Xen removes auto.conf before each synchronisation, and U-Boot where it can't write include/autoconf.mk:
+# without auto.conf their conf touches all symbols. It is an old file then, so that their own tools synchronise as well.
+confstamp-keeps = touch -c -d @1 include/config/auto.conf; :
 
 # As make makes the recipe, before the compiler or linker runs: the command file is emptied, so that make makes once more what is
 # made and not recorded, as where it is killed in between. make itself writes, since a process for each target would cost more. Each

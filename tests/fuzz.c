@@ -587,12 +587,13 @@ static Bytes compile_command(void)
     static const char *const known[] = {
         "-O2", "-g", "-Wall", "-DX=CONFIG_A", "-D X=CONFIG_S", "-o x.o", "-std=gnu11", "-fno-plugin", "-fPIC", "-m64", "-MD", "-MF x.d",
         "-Wp,-MD,x.d", "-Wp,-D_X=1", "-Wp,-U_X", "-fuse-ld=x", "-DNAMES", "-UNAME", "-Wa,--x",
-        "-x c", "-xc", "-Xassembler --x", "-Xclang -fx", "-Xclang +x", "y.S", "libx.a", "-w", "-pipe", "-I d", "-Id", "-fmacro-prefix-map=/a=b",
+        "-x c", "-xc", "-Xassembler --warn", "-Xclang -fx", "-Xclang +x", "y.S", "libx.a", "-w", "-pipe", "-I d", "-Id", "-fmacro-prefix-map=/a=b",
+        "-fuse-x=/y", "-finput-charset=UTF-8", "-frandom-seed=/x", "-feliminate-unused-x", "-fcoverage-prefix-map=/a=b", "-mllvm -fx", "-rtlib=x",
     };
     static const char *const unknown[] = {
         "@x.rsp", "-fplugin=x.so", "-", "-include-pch", "x.h", "-I=d", "-x c-header", "-xc++-header", "-Xclang -load", "-Xpreprocessor a.h",
         "-Wp,-include", "-Wp,-MD,@x", "-Wa,@x", "-m@x", "-fprofile-use", "-fmodules", "-D @x", "/dev/stdin.c", "/proc/1/x.c", "--x", "-T",
-        "-fuse-use", "x", "-I =d", "-isystem $X", "-DNAME=x", "-D OTHER", "-DNAME", "-Wp,-MD,x.d,-DNAME", "-Wp,-DX", "-Wp,-U_X,-DX", "-g3",
+        "-fprofile-instr-use", "-finput-charset=x", "-fpreprocessed", "-mllvm -x=y", "-mllvm=-x", "-gstabs3", "-Xassembler --x", "-Wa,--x,y.s", "x", "-I =d", "-isystem $X", "-DNAME=x", "-D OTHER", "-DNAME", "-Wp,-MD,x.d,-DNAME", "-Wp,-DX", "-Wp,-U_X,-DX", "-g3",
         "-Wa,--x,-Id", "-Wa,--gstabs", "-dM", "-Xclang -x", "-fcoverage-mapping", "-Xassembler --x.y", "-o -DNAME", "-DX=__TIME__", "-D X=__has_include", "-D/NAME",
     };
     Text text = {0};

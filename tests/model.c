@@ -1954,7 +1954,7 @@ static bool takes_value(Bytes word)
 {
     static const char *const valued[] = {
         "-D", "-I", "-U", "-o", "-MF", "-MQ", "-MT", "-include", "-imacros", "-isystem", "-iquote", "-idirafter", "-isysroot", "-target", "-arch",
-        "--param", "-mllvm", NULL,
+        "--param", NULL,
     };
     return is_one_of(word, valued);
 }
@@ -1963,49 +1963,66 @@ static bool is_plain_option(Bytes word)
 {
     static const char *const plain[] = {
         "-c", "-MD", "-MMD", "-MP", "-w", "-s", "-p", "-P", "-C", "-CC", "-v", "-pg", "-pipe", "-pthread", "-ansi", "-undef", "-trigraphs",
-        "-rdynamic", "--coverage", "-pie", "-no-pie", "-nodefaultlibs", "-nostartfiles", "-Qunused-arguments", "-EB", "-EL", NULL,
+        "-rdynamic", "--coverage", "-pie", "-no-pie", "-nodefaultlibs", "-nostartfiles", "-nolibc", "-no-canonical-prefixes",
+        "-integrated-as", "-no-integrated-as", "-Qunused-arguments", "-EB", "-EL", NULL,
     };
     return is_one_of(word, plain);
+}
+
+/* All macros come into what is made, or the line at which one is defined. */
+static bool keeps_macros(Bytes word)
+{
+    if (begins_with_one(word, ONE_OF("-fcoverage-prefix-map=", "-fcoverage-compilation-dir=")))
+        return false;
+    return begins_with_one(word, ONE_OF("-g3", "-ggdb3", "-gstabs3", "-fcoverage-", "-fdebug-macro"));
 }
 
 static bool has_known_front(Bytes word)
 {
     static const char *const fronts[] = {
         "-D", "-U", "-I", "-O", "-g", "-W", "-o", "-MF", "-MQ", "-MT", "-isystem", "-iquote", "-idirafter", "-imacros", "-include", "-pedantic",
-        "-l", "-L", "-nostd", "-static", "-shared", "-stdlib=", "-std=", "--std=", "--param=", "--sysroot=", "--target=", "--gcc-toolchain=", NULL,
+        "-l", "-L", "-nostd", "-static", "-shared", "-stdlib=", "-rtlib=", "--rtlib=", "-unwindlib=", "--unwindlib=", "-std=", "--std=", "--param=",
+        "--sysroot=", "--target=", "--gcc-toolchain=", NULL,
     };
     static const char *const refused_fronts[] = {
-        "-I=", "-I$", "-isystem=", "-iquote=", "-idirafter=", "-include-pch", "-Wa,", "-Wp,", "-g3", "-ggdb3", NULL,
+        "-I=", "-I$", "-isystem=", "-iquote=", "-idirafter=", "-include-pch", "-Wa,", "-Wp,", NULL,
     };
-    return begins_with_one(word, fronts) && !begins_with_one(word, refused_fronts);
+    return begins_with_one(word, fronts) && !begins_with_one(word, refused_fronts) && !keeps_macros(word);
 }
 
-/* Options for the preprocessor, behind which nothing else stands, and for the assembler. */
+/* Options for the preprocessor and for the assembler, behind which nothing else stands. */
 static bool is_known_inside(Bytes word)
 {
     static const char *const fronts[] = {"-Wp,-MD,", "-Wp,-MMD,", "-Wp,-D_", "-Wp,-U", NULL};
     for (size_t i = 0; fronts[i]; i++)
         if (starts(word, fronts[i]))
             return !has_one(from(word, strlen(fronts[i])), ONE_OF(",", "@"));
-    return begins_with_one(word, ONE_OF("-Wa,--", "-Wa,-W", "-Wa,-m", "-Wa,-M", "-Wa,-n")) && !has_one(word, ONE_OF(",-I", "@", "gstabs"));
+    return begins_with_one(word, ONE_OF("-Wa,--", "-Wa,-W", "-Wa,-m", "-Wa,-M", "-Wa,-n")) && !has_one(from(word, 4), ONE_OF(",", "@", "gstabs"));
 }
 
 static bool is_known_flag(Bytes word)
 {
-    if (!starts(word, "-f"))
+    if (!starts(word, "-f") || keeps_macros(word))
         return false;
-    if (begins_with_one(word, ONE_OF("-fno-", "-fuse-ld=", "-fuse-cxa-atexit")) || has_text(word, "-prefix-map="))
+    static const char *const plain[] = {
+        "-fno-", "-fuse-", "-fcoverage-compilation-dir=", "-fcrash-diagnostics-dir=", "-fdebug-compilation-dir=", "-ffile-compilation-dir=",
+        "-finput-charset=UTF-8", "-finput-charset=utf-8", "-fprofile-dir=", "-fprofile-generate", "-frandom-seed=", NULL,
+    };
+    if (begins_with_one(word, plain) || has_text(word, "-prefix-map="))
         return true;
     static const char *const refused[] = {
-        "-fauto-profile", "-fbasic-block-sections=", "-fbranch-", "-fcoverage-", "-fdebug-macro", "-fembed-offload-", "-fmodule", "-fopenmp-host-ir-",
-        "-fprebuilt-module", "-fprofile-remapping-", "-frandomize-layout-seed-file", "-fthinlto-index", "-fxray-", NULL,
+        "-fauto-profile", "-fbasic-block-sections=", "-fbranch-", "-fembed-offload-", "-finput-charset", "-fmodule", "-fopenmp-host-ir-",
+        "-fprebuilt-module", "-fpreprocessed", "-fprofile-remapping-", "-frandomize-layout-seed-file", "-fthinlto-index", "-fxray-", NULL,
     };
-    return !begins_with_one(word, refused) && !has_one(word, ONE_OF("use", "plugin", "list", "/", "@"));
+    static const char *const parts[] = {
+        "profile-use", "instr-use", "sample-use", "ment-use", "plugin", "list", "/", "@", NULL,
+    };
+    return !begins_with_one(word, refused) && !has_one(word, parts);
 }
 
 static bool is_known_machine(Bytes word)
 {
-    return starts(word, "-m") && !has_one(word, ONE_OF("/", "@"));
+    return starts(word, "-m") && !has_one(word, ONE_OF("/", "@", "llvm"));
 }
 
 static bool is_known_option(Bytes word)
@@ -2028,7 +2045,7 @@ static Expected after_argument(Bytes word)
         return VALUE;
     if (is_text(word, "-x"))
         return LANGUAGE;
-    if (begins_with_one(word, ONE_OF("-Xa", "-Xc", "-Xp")))
+    if (begins_with_one(word, ONE_OF("-Xa", "-Xc", "-Xp")) || is_text(word, "-mllvm"))
         return INNER;
     return is_known_option(word) || is_known_file(word) ? ARGUMENT : UNKNOWN;
 }
@@ -2037,7 +2054,10 @@ static Expected after_argument(Bytes word)
 static Expected after_word(Expected expected, Bytes word)
 {
     static const char *const of_no_text[] = {
-        "-dD", "-dI", "-dM", "-dN", "-dU", "-g3", "-ggdb3", "-fcoverage-", "-fdebug-macro", "-fdirectives-only", "@", NULL,
+        "-dD", "-dI", "-dM", "-dN", "-dU", "-fdirectives-only", "@", NULL,
+    };
+    static const char *const inner[] = {
+        "-D", "-U", "-W", "-O", "-disable-", "-target-", "+", "--32", "--64", "--compress", "--fatal-warnings", "--no", "--warn", NULL,
     };
     bool is_known = true;
     switch (expected) {
@@ -2046,7 +2066,7 @@ static Expected after_word(Expected expected, Bytes word)
     case FRONT_VALUE:
         return FRONT;
     case TEXT:
-        return begins_with_one(word, of_no_text) ? UNKNOWN : TEXT;
+        return begins_with_one(word, of_no_text) || keeps_macros(word) ? UNKNOWN : TEXT;
     case ARGUMENT:
         return after_argument(word);
     case VALUE:
@@ -2057,8 +2077,7 @@ static Expected after_word(Expected expected, Bytes word)
         break;
     default:
         is_known = is_known_flag(word) || is_known_machine(word) ||
-                   (begins_with_one(word, ONE_OF("-D", "-U", "-W", "-O", "-disable-", "-target-", "+", "--")) &&
-                    !has_one(word, ONE_OF("/", "@", "=", ".", ",", "gstabs")));
+                   (begins_with_one(word, inner) && !has_one(word, ONE_OF("/", "@", "=", ".", ",", "gstabs")));
     }
     return is_known ? ARGUMENT : UNKNOWN;
 }

@@ -417,6 +417,7 @@ static Tree made_tree(void)
     put_text(&tree, "c2", made_dotconfig());
     put_written(&tree);
     put_text(&tree, "x.d", made_depfile());
+    put_text(&tree, "cc", bytes_of("\177ELF\2"));
     put_text(&tree, "script", made_script());
     put_text(&tree, "list", made_list());
     put_text(&tree, "names", made_names());
@@ -609,9 +610,15 @@ static Bytes compile_command(void)
    the header is one that a `sync` wrote, and of a dependency file as a compiler writes it. */
 static void ask_strictly(Command *made)
 {
+    static const char *const tools[] = {"x.c", "none", "a$b", "Kconfig", "./cc"};
     static const char *const others[] = {"include/generated/autoconf.h", "./include/generated/autoconf.h", "d/include/autoconf.h", "a$b"};
     made->words[made->count - 1] = copy_of(compile_command());
     put_option(made, "--strict", PICK(others));
+    if (one_in(2))
+        return;
+    word(made, "--tools");
+    for (size_t count = 1 + below(2); count > 0; count--)
+        word(made, rarely(6) ? PICK(tools) : "cc");
 }
 
 /* A record of which the dependency file is written anew: mostly the compiler's, seldom one that is not to be. */

@@ -2270,12 +2270,27 @@ static Fault check_files(const Tree *tree, Bytes depfile, Bytes other, Bytes com
     return refused(found) || included.count == 0 ? found : check_macros(tree, &included, depfile, command);
 }
 
+/* The first tool that is no program, by its first four bytes. */
+static Fault check_tools(const Tree *tree, const Names *tools)
+{
+    for (size_t i = 0; i < tools->count; i++) {
+        if (!is_path(tools->names[i]))
+            return fault("21 BadPath token 0");
+        const File *file = find(tree, tools->names[i]);
+        if (!file || !starts(file->bytes, "\177ELF"))
+            return fault_of("24 HiddenInput", tools->names[i]);
+    }
+    return none;
+}
+
 /* What is refused of a `depfile --strict`; `other` is the other spelling of the header. */
-static Fault check_strictly(const Tree *tree, const Bytes *words, Bytes other)
+static Fault check_strictly(const Tree *tree, const Bytes *words, Bytes other, const Names *tools)
 {
     Prerequisites list;
     Bytes depfile;
     Fault found = check_words(words[2]);
+    if (!refused(found))
+        found = check_tools(tree, tools);
     if (!refused(found) && !is_path(words[0]))
         found = fault("21 BadPath token 0");
     if (!refused(found))
@@ -2291,13 +2306,25 @@ static Answer run_depfile(Tree *tree, Bytes *words, size_t count)
     Prerequisites list;
     Bytes depfile, other;
     uint64_t generation;
+    Names tools = {0};
+    if (count > 0 && is_text(words[count - 1], "--tools"))
+        return no_command();
+    for (size_t i = 0; i < count; i++)
+        if (is_text(words[i], "--tools")) {
+            size_t end = i + 1;
+            while (end < count && !starts(words[end], "--"))
+                note(&tools, words[end++]);
+            memmove(words + i, words + end, (count - end) * sizeof *words);
+            count -= end - i;
+            break;
+        }
     bool has_header = take_option(words, &count, "--header", &suffix), is_strict = take_option(words, &count, "--strict", &other);
     if (count != 3)
         return no_command();
     if (has_header && !is_path(suffix))
         return refusal(fault("21 BadPath token 0"));
     header_suffix = has_header ? &suffix : NULL;
-    Fault found = is_strict ? check_strictly(tree, words, other) : none;
+    Fault found = is_strict ? check_strictly(tree, words, other, &tools) : none;
     if (!refused(found) && is_own_file(words[0]))
         found = fault("21 BadPath token 0");
     if (!refused(found))

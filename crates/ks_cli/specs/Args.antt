@@ -12,6 +12,7 @@ use Rattle.ks_engine.specs.declared.conventions.RecordOptions.{RecordOptions}
 use Rattle.ks_requests.specs.declared.request.DepfileAfter.{DepfileAfter}
 use Rattle.ks_requests.specs.declared.request.DepfileAfter.TheVariants as depfile
 use Rattle.ks_requests.specs.declared.request.KeptPaths.{KeptPaths}
+use Rattle.ks_requests.specs.declared.request.StrictPaths.{StrictPaths}
 use Rattle.ks_requests.specs.declared.request.OutputFormat.{OutputFormat}
 use Rattle.ks_requests.specs.declared.request.OutputFormat.TheVariants as format
 use Rattle.std.specs.Str.Parse.{IsNumeral, digits_value, without_leading_plus}
@@ -101,7 +102,7 @@ depfile_after rows = if is_set (codes "remove-depfile") rows then depfile.Remove
 abbrev pub options_of : List Row → RecordOptions
 options_of rows = record { adds_own_lines = is_set (codes "cmd") rows; before_sync = is_set (codes "before-sync") rows }
 
--- which stale objects `age` is to age
+-- which stale objects `backdate` and `mark` are about
 abbrev pub scope_of : List Row → BackdateScope
 scope_of rows = if is_set (codes "unrecorded") rows then backdates.Unrecorded else backdates.Recorded
 
@@ -115,6 +116,12 @@ IsNoOther name = All (λ other. name ≢ other)
 abbrev pub AreKept : List Row → Option KeptPaths → Type 0
 AreKept rows None = first_of (codes "AUTO") rows ≡ None
 AreKept rows (Some k) = (first_of (codes "AUTO") rows ≡ Some (string_bytes k.auto)) × (string_bytes k.header ≡ arg_at (codes "HEADER") rows)
+
+-- what makes a record strict; without the path of the header it isn't
+abbrev pub AreStrict : List Row → Option StrictPaths → Type 0
+AreStrict rows None = first_of (codes "PATH") rows ≡ None
+AreStrict rows (Some s) = (first_of (codes "PATH") rows ≡ Some (string_bytes s.alias))
+    × (map (λ tool. string_bytes tool) s.tools.items ≡ args_at (codes "TOOL") rows)
 
 -- the objects of a question
 abbrev pub AreTargets : List Row → Targets → Type 0
@@ -144,7 +151,7 @@ IsRequestOf command rows (request.Record d t c after options) = (command ≡ cod
     × (string_bytes c ≡ arg_at (codes "COMMAND") rows) × (after ≡ depfile_after rows) × (options ≡ options_of rows)
 IsRequestOf command rows (request.Depfile end strict d t c) = (command ≡ codes "depfile")
     × (option_map (λ path. string_bytes path) end ≡ first_of (codes "SUFFIX") rows)
-    × (option_map (λ path. string_bytes path) strict ≡ first_of (codes "PATH") rows) × (string_bytes d ≡ arg_at (codes "DEPFILE") rows)
+    × AreStrict rows strict × (string_bytes d ≡ arg_at (codes "DEPFILE") rows)
     × (string_bytes t ≡ arg_at (codes "TARGET") rows) × (string_bytes c ≡ arg_at (codes "COMMAND") rows)
 IsRequestOf command rows (request.Repair s t k) = (command ≡ codes "repair") × (string_bytes s ≡ arg_at (codes "STAMPS") rows)
     × (string_bytes t ≡ arg_at (codes "TARGETS") rows) × AreKept rows k

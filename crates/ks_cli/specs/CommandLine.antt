@@ -6,7 +6,7 @@ use Rattle.clap.specs.Simple.{on_top}
 use Rattle.clap.specs.Lexer.{usize_max}
 use Rattle.clap.specs.declared.builder.action.ArgAction.TheVariants.{SetTrue}
 use Rattle.ks_cli.specs.declared.usage.NumArgs.{NumArgs}
-use Rattle.ks_cli.specs.declared.usage.NumArgs.TheVariants.{Once, AtMostOnce, AnyNumber, Following, Flag, AtLeastOnce, OnceAfter, NumberAfter}
+use Rattle.ks_cli.specs.declared.usage.NumArgs.TheVariants.{Once, AtMostOnce, AnyNumber, Following, Flag, AtLeastOnce, OnceAfter, NumberAfter, AnyAfter}
 use Rattle.clap.specs.declared.builder.value_parser.ValueParser.TheVariants as vp
 use Rattle.ks_cli.specs.declared.usage.Usage.{Usage}
 use Rattle.ks_cli.specs.declared.usage.ArgUsage.{ArgUsage}
@@ -37,6 +37,10 @@ once_after option name = record (following option name) { required = true }
 abbrev pub number_following : Text → Text → Rule
 number_following option name = record (following option name) { parser = Some (vp.Unsigned 0 18446744073709551615) }
 
+-- or any number of them after one
+abbrev pub any_following : Text → Text → Rule
+any_following option name = record (any_number name) { long = Some option }
+
 abbrev pub rule_for : Text → NumArgs → Rule
 rule_for name Once = once name
 rule_for name AtMostOnce = at_most_once name
@@ -46,6 +50,7 @@ rule_for name Flag = flag name
 rule_for name AtLeastOnce = at_least_once name
 rule_for name (OnceAfter option) = once_after option.now name
 rule_for name (NumberAfter option) = number_following option.now name
+rule_for name (AnyAfter option) = any_following option.now name
 
 -- the rule of a word of the program's table
 abbrev pub arg_rule : ArgUsage → Rule
@@ -86,8 +91,8 @@ writing_apps =
     ∷ taking (codes "fixdep") (once (codes "DEPFILE") ∷ once (codes "TARGET") ∷ once (codes "COMMAND") ∷ [])
     ∷ needing_one (taking (codes "record") (flag (codes "remove-depfile") ∷ flag (codes "cmd") ∷ flag (codes "before-sync") ∷ once (codes "DEPFILE") ∷ once (codes "TARGET")
     ∷ once (codes "COMMAND") ∷ []))
-    ∷ needing_one (taking (codes "depfile") (following (codes "header") (codes "SUFFIX") ∷ following (codes "strict") (codes "PATH") ∷ once (codes "DEPFILE") ∷ once (codes "TARGET")
-    ∷ once (codes "COMMAND") ∷ []))
+    ∷ needing_one (taking (codes "depfile") (following (codes "header") (codes "SUFFIX") ∷ following (codes "strict") (codes "PATH")
+    ∷ any_following (codes "tools") (codes "TOOL") ∷ once (codes "DEPFILE") ∷ once (codes "TARGET") ∷ once (codes "COMMAND") ∷ []))
     ∷ needing_one (taking (codes "repair") (once_after (codes "stamps") (codes "STAMPS") ∷ once_after (codes "targets") (codes "TARGETS")
     ∷ at_most_once (codes "AUTO") ∷ at_most_once (codes "HEADER") ∷ []))
     ∷ [])

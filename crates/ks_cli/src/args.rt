@@ -5,7 +5,7 @@ ghost use Rattle.clap.specs.Walk.{texts};
 ghost use Rattle.ks_requests.specs.Requests.{IsBatchOf, IsPreviewOf};
 ghost use Rattle.ks_cli.specs.CommandLine.{command_line_app};
 ghost use Rattle.ks_cli.specs.Meaning.{IsBothReported, IsPageNamed, IsPageReported, IsReason, IsTakenAs, Makes};
-ghost use Rattle.ks_cli.specs.Args.{AreConfig, AreKept, AreTargets, IsPlainArg, IsRequestOf, HasText, IsReported, IsWantOfMemory, asks_both, is_no_memory, is_set, report_style_of, arg_at, args_at, format_of, scope_of, IsNumberOf};
+ghost use Rattle.ks_cli.specs.Args.{AreConfig, AreKept, AreStrict, AreTargets, IsPlainArg, IsRequestOf, HasText, IsReported, IsWantOfMemory, asks_both, is_no_memory, is_set, report_style_of, arg_at, args_at, format_of, scope_of, IsNumberOf};
 
 use crate::command_line::command_line;
 use crate::help_text::HelpText;
@@ -13,7 +13,8 @@ use clap::ArgMatches;
 use clap::error::ErrorKind;
 use ks_engine::{BackdateScope, ConfigForm, RecordOptions};
 use ks_requests::{
-    ConfigPaths, DepfileAfter, KeptPaths, OutputFormat, ReportStyle, Request, Stamps, Targets,
+    ConfigPaths, DepfileAfter, KeptPaths, OutputFormat, ReportStyle, Request, Stamps, StrictPaths,
+    Targets,
 };
 use std::alloc::{AllocError, Global};
 use thiserror::Error;
@@ -223,12 +224,25 @@ fn record_request(alloc: Global, matches: &ArgMatches<'_>) -> Result<Request, Al
     })
 }
 
+/// By what a record is strict, where it is.
+fn strict(alloc: Global, matches: &ArgMatches<'_>) -> Result<Option<StrictPaths>, AllocError>
+    ensures { IfOk result (AreStrict (rows_of (found_of matches.now))) }
+{
+    match optional_arg(alloc, matches, "PATH")? {
+        Some(alias) => Ok(Some(StrictPaths {
+            alias,
+            tools: all_args(alloc, matches, "TOOL")?,
+        })),
+        None => Ok(None),
+    }
+}
+
 fn depfile_request(alloc: Global, matches: &ArgMatches<'_>) -> Result<Request, AllocError>
     ensures { IfOk result (IsRequestOf (codes "depfile") (rows_of (found_of matches.now))) }
 {
     Ok(Request::Depfile {
         header: optional_arg(alloc, matches, "SUFFIX")?,
-        strict: optional_arg(alloc, matches, "PATH")?,
+        strict: strict(alloc, matches)?,
         depfile: arg(alloc, matches, "DEPFILE")?,
         target: arg(alloc, matches, "TARGET")?,
         command: arg(alloc, matches, "COMMAND")?,

@@ -24,6 +24,7 @@ fn argument<'a>(alloc: Global, arg: &ArgUsage) -> Arg<'a>
         NumArgs::AtLeastOnce => argument.num_args(1..).required(true),
         NumArgs::OnceAfter(option) => argument.long(option).required(true),
         NumArgs::NumberAfter(option) => argument.long(option).value_parser(value_parser!(u64)),
+        NumArgs::AnyAfter(option) => argument.long(option).num_args(1..),
     }
 }
 

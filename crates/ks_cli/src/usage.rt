@@ -53,6 +53,8 @@ pub(crate) enum NumArgs {
     OnceAfter(&'static str),
     /// A number after the option of this name, at most once.
     NumberAfter(&'static str),
+    /// Any number of them after the option of this name.
+    AnyAfter(&'static str),
 }
 
 /// An argument of a command.
@@ -264,12 +266,17 @@ Example: confstamp record x.d x.o 'cc -c x.c'",
                 num_args: NumArgs::Following("strict"),
                 help: "Refuse an object to which more than names may matter; PATH: how the compiler may name the header",
             },
+            ArgUsage {
+                name: "TOOL",
+                num_args: NumArgs::AnyAfter("tools"),
+                help: "With --strict: the compiler and what runs it, each of which must be a program and no script",
+            },
             DEPFILE,
             TARGET,
             COMMAND,
         ],
         override_usage: Some(
-            "confstamp depfile [--header SUFFIX] [--strict PATH] <DEPFILE> <TARGET> <COMMAND>",
+            "confstamp depfile [--header SUFFIX] [--strict PATH [--tools TOOL...]] [--] <DEPFILE> <TARGET> <COMMAND>",
         ),
         after_help: "\
 Does what record does. Then it makes the missing stamps, empty, and leaves one rule in DEPFILE: without the header,

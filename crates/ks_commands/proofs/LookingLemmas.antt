@@ -1,7 +1,7 @@
 -- What was looked at, one place after the other, and what a file that was read is.
 use native.Mathlib.Omega.{arith}
 use Rattle.ks_commands.proofs.Prelude.{◌≡◌, ◌≤◌, ◌∙◌, ℕ, List, None, Some, Ok, Err, Option, Result, IfErr, IfOk, Files, Bool, true, false, All-from_get_or, [], ◌∷◌, inl, inr, sym, refl, ap, common_steps, content, given, length, list_any_at, list_any_none, get_or, ◌||◌, bytes_eq, drop, drop-cons, fun_ext, subst}
-use Rattle.std.specs.Prelude.{slice_get, ◌+◌, ◌⊎◌, codes}
+use Rattle.std.specs.Prelude.{slice_get, string_bytes, ◌+◌, ◌⊎◌, codes}
 use Rattle.std.specs.Borrow.{Bor}
 use Rattle.std.specs.List.{list_any}
 use Rattle.std.proofs.lemmas.Option.{get_or_from_slice_get, slice_get-get_or, slice_get_within}
@@ -9,7 +9,6 @@ use Rattle.std.proofs.Math.ListN.{drop_of_length-le}
 use Rattle.std.proofs.lemmas.Bool.{cases_lt}
 use Rattle.std.proofs.Common.{suc}
 use Rattle.ks_symbols.specs.declared.dialect.Dialect.{Dialect}
-use Rattle.ks_hidden.specs.Arguments.{unknown_argument}
 use Rattle.ks_hidden.specs.Candidates.{candidates}
 use Rattle.indexmap.specs.IndexSet.{IndexSet, index_set_len}
 use Rattle.std.proofs.Common.{Vec}
@@ -31,7 +30,9 @@ use Rattle.ks_engine.specs.Recording.{there}
 use Rattle.ks_engine.specs.LastSync.{old_auto}
 use Rattle.ks_engine.specs.Refusals.{IsAborted, of_dep}
 use Rattle.ks_engine.specs.declared.error.EngineError.{EngineError}
-use Rattle.ks_commands.specs.Looking.{AreFirst, AreListed, ArePlain, DefinesNone, FirstRead, IsDefinition, IsFound, IsInput, IsListRefused, IsSought, IsUnread, IsUnreadDefinition, IsUnreadListed, Look, file_includes, has_source, is_header_name, is_included, is_listed, look_by}
+use Rattle.ks_hidden.specs.Arguments.{unknown_argument}
+use Rattle.ks_requests.specs.declared.request.StrictPaths.{StrictPaths}
+use Rattle.ks_commands.specs.Looking.{AreFirst, AreListed, ArePlain, ArePrograms, IsBadTool, IsUnread, tools_of, DefinesNone, FirstRead, IsDefinition, IsFound, IsInput, IsListRefused, IsSought, IsUnreadDefinition, IsUnreadFile, IsUnreadListed, Look, file_includes, has_source, is_header_name, is_included, is_listed, look_by}
 
 -- What is so of the first ones and of the next is so of one more.
 pub one_more : {X : Type 0} (so : X → Type 0) (xs : List X) (n : ℕ) (x : X) → slice_get xs n ≡ Some x → so x → AreFirst so xs n → AreFirst so xs (n + 1)
@@ -193,13 +194,26 @@ unread_of look files listed plain sourced f same (name, one) e (inr is) =
 -- ---- what can't be read
 
 pub auto_unread : (dialect : Dialect) (header : Header) (alias : List ℕ) (files : Files) (depfile command was : List ℕ) (listed : List (List ℕ × Role))
-    (e : EngineError) → unknown_argument command ≡ None → content files depfile ≡ Some was → AreListed was listed
-    → IsAborted e ⊎ (old_auto (content files auto_path) ≡ Err e) → IsAborted e ⊎ IsUnread dialect header alias files depfile command e
-auto_unread dialect header alias files depfile command was listed e none at are (inl aborted) = inl aborted
-auto_unread dialect header alias files depfile command was listed e none at are (inr is) = inr (none, inr (inl (was, at, inr (listed, are, is))))
+    (e : EngineError) → content files depfile ≡ Some was → AreListed was listed
+    → IsAborted e ⊎ (old_auto (content files auto_path) ≡ Err e) → IsAborted e ⊎ IsUnreadFile dialect header alias files depfile command e
+auto_unread dialect header alias files depfile command was listed e at are (inl aborted) = inl aborted
+auto_unread dialect header alias files depfile command was listed e at are (inr is) = inr (inr (inl (was, at, inr (listed, are, is))))
 
 pub file_unread : (dialect : Dialect) (header : Header) (alias : List ℕ) (files : Files) (depfile command : List ℕ) (read : FirstRead files depfile)
-    (e : EngineError) → unknown_argument command ≡ None
-    → IsAborted e ⊎ IsUnreadListed (look_by dialect header alias command read) files read.listed e → IsAborted e ⊎ IsUnread dialect header alias files depfile command e
-file_unread dialect header alias files depfile command read e none (inl aborted) = inl aborted
-file_unread dialect header alias files depfile command read e none (inr is) = inr (none, inr (inr (read, is)))
+    (e : EngineError)
+    → IsAborted e ⊎ IsUnreadListed (look_by dialect header alias command read) files read.listed e → IsAborted e ⊎ IsUnreadFile dialect header alias files depfile command e
+file_unread dialect header alias files depfile command read e (inl aborted) = inl aborted
+file_unread dialect header alias files depfile command read e (inr is) = inr (inr (inr (read, is)))
+
+pub bad_tool : (dialect : Dialect) (header : Header) (strict : StrictPaths) (files : Files) (depfile command : List ℕ) (e : EngineError)
+    → unknown_argument command ≡ None → IsAborted e ⊎ IsBadTool files (tools_of strict) e → IsAborted e ⊎ IsUnread dialect header strict files depfile command e
+bad_tool dialect header strict files depfile command e none (inl aborted) = inl aborted
+bad_tool dialect header strict files depfile command e none (inr is) = inr (none, inl is)
+
+pub unread_behind : (dialect : Dialect) (header : Header) (strict : StrictPaths) (files now : Files) (alias depfile command : List ℕ) (e : EngineError)
+    → unknown_argument command ≡ None → ArePrograms files (tools_of strict) → now ≡ files → alias ≡ string_bytes strict.alias
+    → IsAborted e ⊎ IsUnreadFile dialect header alias now depfile command e → IsAborted e ⊎ IsUnread dialect header strict files depfile command e
+unread_behind dialect header strict files now alias depfile command e none are same spelled (inl aborted) = inl aborted
+unread_behind dialect header strict files now alias depfile command e none are same spelled (inr is) =
+    let spelled_so = subst (λ a. IsUnreadFile dialect header a now depfile command e) spelled is in
+    inr (none, inr (are, subst (λ f. IsUnreadFile dialect header (string_bytes strict.alias) f depfile command e) same spelled_so))

@@ -1,5 +1,5 @@
 -- What a strict record of an object looks at first: whether anything but the names that its files mention may matter to it.
-use Rattle.std.specs.Prelude.{◌≡◌, ◌≢◌, ◌⊎◌, ◌<◌, ◌&&◌, ◌||◌, ℕ, Bool, true, false, not, List, Option, Some, None, Ok, Err, bytes_eq, nat_eq, codes, length, slice_get, if◌then◌else◌, ⊤}
+use Rattle.std.specs.Prelude.{◌≡◌, ◌≢◌, ◌⊎◌, ◌<◌, ◌&&◌, ◌||◌, ℕ, Bool, true, false, not, List, Option, Some, None, Ok, Err, bytes_eq, nat_eq, codes, length, map, slice_get, string_bytes, take, if◌then◌else◌, ⊤, ◌∷◌}
 use Rattle.std.specs.Borrow.{Bor}
 use Rattle.std.specs.List.{starts_with, ends_with, list_any}
 use Rattle.ks_symbols.specs.Names.{header_path, is_path}
@@ -26,7 +26,8 @@ use Rattle.ks_engine.specs.Refusals.{IsAborted, of_dep}
 use Rattle.ks_engine.specs.declared.error.EngineError.{EngineError}
 use Rattle.ks_commands.specs.declared.looking.Looking.{Looking}
 use Rattle.ks_requests.specs.Endings.{Ending}
-use Rattle.ks_requests.specs.Inputs.{given}
+use Rattle.ks_requests.specs.Inputs.{given, legal}
+use Rattle.ks_requests.specs.declared.request.StrictPaths.{StrictPaths}
 use Rattle.ks_requests.specs.declared.refusal.Refusal.TheVariants.{Engine, Hidden as OfHidden}
 
 -- how the files of an object are looked at: as sources of a project, by its header, the other path that this may have, what the last
@@ -237,6 +238,35 @@ IsUnreadListed look files listed e =
     ⊎ (ArePlainWithSource look files listed
     × (name : List ℕ) × (is_included look files listed name ≡ true) × IsUnreadDefinition (is_included look files listed) files look.command listed e)
 
+-- ---- the tools
+
+-- a file is a program by its first bytes, and no script, which may bring words of its own
+abbrev pub is_program : Option (List ℕ) → Bool
+is_program = is_such (λ b. bytes_eq (take 4 b) (127 ∷ codes "ELF"))
+
+abbrev pub IsProgram : Files → List ℕ → Type 0
+IsProgram files tool = is_program (content files tool) ≡ true
+
+abbrev pub ArePrograms : Files → List (List ℕ) → Type 0
+ArePrograms files tools = AreAll (IsProgram files) tools
+
+-- The first that isn't has this cause: its first line.
+abbrev pub IsToolCause : Files → List (List ℕ) → Hidden → Type 0
+IsToolCause files tools h = AreUpTo (IsProgram files) (λ tool. (is_program (content files tool) ≡ false) × (h ≡ hidden.Input tool 1)) tools
+
+abbrev pub AreTools : Files → List (List ℕ) → Option Hidden → Type 0
+AreTools files tools None = ArePrograms files tools
+AreTools files tools (Some h) = IsToolCause files tools h
+
+-- or it is no path
+abbrev pub IsBadTool : Files → List (List ℕ) → EngineError → Type 0
+IsBadTool files tools e = AreUpTo (IsProgram files) (λ tool. legal tool ≡ Err e) tools
+
+abbrev pub tools_of : StrictPaths → List (List ℕ)
+tools_of strict = map (λ tool. string_bytes tool) strict.tools.items
+
+-- ---- a compile
+
 -- what is read first: the dependency file and auto.conf
 pub record FirstRead (files : Files) (depfile : List ℕ) : Type 0 where
   pub was : List ℕ
@@ -257,12 +287,17 @@ look_by dialect header alias command r = record {
   command = command;
 }
 
--- What was found of an object: an argument that isn't known, or by its files.
-abbrev pub IsLooked : Dialect → Header → List ℕ → Files → List ℕ → List ℕ → Option Hidden → Type 0
-IsLooked dialect header alias files depfile command found =
+abbrev pub AreFilesLooked : Dialect → Header → List ℕ → Files → List ℕ → List ℕ → Option Hidden → Type 0
+AreFilesLooked dialect header alias files depfile command found =
+    (r : FirstRead files depfile) × IsFound (look_by dialect header alias command r) files r.listed found
+
+-- What was found of an object: an argument that isn't known, a tool that is no program, or by its files.
+abbrev pub IsLooked : Dialect → Header → StrictPaths → Files → List ℕ → List ℕ → Option Hidden → Type 0
+IsLooked dialect header strict files depfile command found =
     ((word : ℕ) × (unknown_argument command ≡ Some word) × (found ≡ Some (hidden.Argument word)))
     ⊎ ((unknown_argument command ≡ None)
-    × (r : FirstRead files depfile) × IsFound (look_by dialect header alias command r) files r.listed found)
+    × (((h : Hidden) × IsToolCause files (tools_of strict) h × (found ≡ Some h))
+    ⊎ (ArePrograms files (tools_of strict) × AreFilesLooked dialect header (string_bytes strict.alias) files depfile command found)))
 
 -- The first of what has to be read is refused, or can't be: the dependency file, auto.conf, or one of the files.
 abbrev pub IsUnreadFile : Dialect → Header → List ℕ → Files → List ℕ → List ℕ → EngineError → Type 0
@@ -272,21 +307,23 @@ IsUnreadFile dialect header alias files depfile command e =
     × (IsListRefused was e ⊎ ((listed : List (List ℕ × Role)) × AreListed was listed × (old_auto (content files auto_path) ≡ Err e))))
     ⊎ ((r : FirstRead files depfile) × IsUnreadListed (look_by dialect header alias command r) files r.listed e))
 
--- Each argument is known, and this is so.
-abbrev pub IsUnread : Dialect → Header → List ℕ → Files → List ℕ → List ℕ → EngineError → Type 0
-IsUnread dialect header alias files depfile command e =
-    (unknown_argument command ≡ None) × IsUnreadFile dialect header alias files depfile command e
+-- Each argument is known, and a tool is no path, or each is a program and this is so.
+abbrev pub IsUnread : Dialect → Header → StrictPaths → Files → List ℕ → List ℕ → EngineError → Type 0
+IsUnread dialect header strict files depfile command e =
+    (unknown_argument command ≡ None)
+    × (IsBadTool files (tools_of strict) e
+    ⊎ (ArePrograms files (tools_of strict) × IsUnreadFile dialect header (string_bytes strict.alias) files depfile command e))
 
 -- ---- before a record
 
 -- Where it is asked for, nothing but names can matter.
-abbrev pub AllowsRecord : Files → Dialect → Header → Option (List ℕ) → List ℕ → List ℕ → Type 0
+abbrev pub AllowsRecord : Files → Dialect → Header → Option StrictPaths → List ℕ → List ℕ → Type 0
 AllowsRecord files dialect header None depfile command = ⊤
-AllowsRecord files dialect header (Some alias) depfile command = IsLooked dialect header alias files depfile command None
+AllowsRecord files dialect header (Some strict) depfile command = IsLooked dialect header strict files depfile command None
 
 -- or it is refused for what may matter, or what can't be looked at
-abbrev pub RefusesRecord : Files → Dialect → Header → Option (List ℕ) → List ℕ → List ℕ → Ending → Type 0
+abbrev pub RefusesRecord : Files → Dialect → Header → Option StrictPaths → List ℕ → List ℕ → Ending → Type 0
 RefusesRecord files dialect header None depfile command ended = ⊥
-RefusesRecord files dialect header (Some alias) depfile command ended =
-    ((h : Hidden) × IsLooked dialect header alias files depfile command (Some h) × (ended ≡ Err (OfHidden h)))
-    ⊎ ((e : EngineError) × (IsAborted e ⊎ IsUnread dialect header alias files depfile command e) × (ended ≡ Err (Engine e)))
+RefusesRecord files dialect header (Some strict) depfile command ended =
+    ((h : Hidden) × IsLooked dialect header strict files depfile command (Some h) × (ended ≡ Err (OfHidden h)))
+    ⊎ ((e : EngineError) × (IsAborted e ⊎ IsUnread dialect header strict files depfile command e) × (ended ≡ Err (Engine e)))

@@ -34,6 +34,7 @@ use Rattle.ks_requests.specs.declared.refusal.Refusal.{Refusal}
 use Rattle.ks_requests.specs.declared.refusal.Refusal.TheVariants.{Engine}
 use Rattle.ks_requests.specs.declared.request.ConfigPaths.{ConfigPaths}
 use Rattle.ks_requests.specs.declared.request.KeptPaths.{KeptPaths}
+use Rattle.ks_requests.specs.declared.request.StrictPaths.{StrictPaths}
 use Rattle.ks_requests.specs.declared.request.OutputFormat.{OutputFormat}
 use Rattle.ks_requests.specs.declared.request.OutputFormat.TheVariants.{Text}
 use Rattle.ks_requests.specs.declared.request.Request.{Request}
@@ -90,12 +91,12 @@ abbrev pub EndsRecord : Effects → RecordOptions → List ℕ → List ℕ → 
 EndsRecord effects options d t c ended = (answer : Result RecordAnswer EngineError) × effects.recording options d t c answer × Answered (recorded_line t) answer ended
 
 -- It is refused for the argument that names the header, or for what may matter beside names; or it ends as the engine answers.
-abbrev pub StopsDepfile : Files → Dialect → Option (List ℕ) → Option (List ℕ) → List ℕ → List ℕ → Ending → Type 0
+abbrev pub StopsDepfile : Files → Dialect → Option (List ℕ) → Option StrictPaths → List ℕ → List ℕ → Ending → Type 0
 StopsDepfile files dialect end strict d c ended =
     (IsNoHeader end × (ended ≡ Err (Engine (BadPath 0))))
     ⊎ ((header : Header) × IsHeaderOf dialect end header × RefusesRecord files dialect header strict d c ended)
 
-abbrev pub EndsDepfile : Files → Effects → Option (List ℕ) → Option (List ℕ) → List ℕ → List ℕ → List ℕ → Ending → Type 0
+abbrev pub EndsDepfile : Files → Effects → Option (List ℕ) → Option StrictPaths → List ℕ → List ℕ → List ℕ → Ending → Type 0
 EndsDepfile files effects end strict d t c ended =
     (effects.same × StopsDepfile files effects.dialect end strict d c ended)
     ⊎ ((header : Header) × IsHeaderOf effects.dialect end header × AllowsRecord files effects.dialect header strict d c
@@ -182,7 +183,7 @@ Ends honest effects old (Fixdep d t c) ended new =
     honest → effects.same × EndsFixdep effects.dialect old.files (string_bytes d) (string_bytes t) (string_bytes c) ended
 Ends honest effects old (Record d t c after options) ended new = honest → EndsRecord effects options (string_bytes d) (string_bytes t) (string_bytes c) ended
 Ends honest effects old (Depfile end strict d t c) ended new =
-    honest → EndsDepfile old.files effects (option_map (λ path. string_bytes path) end) (option_map (λ path. string_bytes path) strict) (string_bytes d)
+    honest → EndsDepfile old.files effects (option_map (λ path. string_bytes path) end) strict (string_bytes d)
     (string_bytes t) (string_bytes c) ended
 Ends honest effects old (Repair stamps targets kept) ended new =
     honest → EndsRepair old.files effects (string_bytes stamps) (string_bytes targets) kept ended

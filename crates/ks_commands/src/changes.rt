@@ -22,7 +22,8 @@ use ks_engine::{
 };
 use ks_fixdep::Header;
 use ks_requests::{
-    ConfigPaths, Outcome, Refusal, Stamps, config_at, report_depfile, report_recorded, report_sync,
+    ConfigPaths, Outcome, Refusal, Stamps, StrictPaths, config_at, report_depfile, report_recorded,
+    report_sync,
 };
 use ks_symbols::{Dialect, Kconfig, path_is_legal};
 use ks_tree::Tree;
@@ -129,29 +130,21 @@ fn look_if_strict<T: Tree>(
     tree: &mut T,
     dialect: Dialect,
     header: Header<'_>,
-    strict: Option<&str>,
+    strict: &Option<StrictPaths>,
     depfile: &[u8],
     command: &[u8],
 ) -> Result<(), Refusal>
     ensures reads { Reads T.Tree tree.old tree.new (result ≡ Err (Engine Device)) }
     ensures passed { OnOk result (T.failures tree.new ≡ T.failures tree.old) }
     ensures memory { result ≡ Err (Engine OutOfMemory) → T.failures tree.new ≡ T.failures tree.old }
-    ensures allowed { T.is_honest → OnOk result (AllowsRecord (T.files tree.old) dialect header.entry (option_map (λ p. p.now) strict.entry) depfile.now command.now) }
-    ensures refused { T.is_honest → IfErr result (λ r. RefusesRecord (T.files tree.old) dialect header.entry (option_map (λ p. p.now) strict.entry)
+    ensures allowed { T.is_honest → OnOk result (AllowsRecord (T.files tree.old) dialect header.entry strict.now depfile.now command.now) }
+    ensures refused { T.is_honest → IfErr result (λ r. RefusesRecord (T.files tree.old) dialect header.entry strict.now
         depfile.now command.now (Err r)) }
 {
-    let Some(alias) = strict else {
+    let Some(strict) = strict else {
         return Ok(());
     };
-    match find_cause(
-        alloc,
-        tree,
-        dialect,
-        header,
-        alias.as_bytes(),
-        depfile,
-        command,
-    )? {
+    match find_cause(alloc, tree, dialect, header, strict, depfile, command)? {
         Some(hidden) => Err(Refusal::Hidden(hidden)),
         None => Ok(()),
     }
@@ -183,14 +176,14 @@ pub(crate) fn record_rule<T: Tree>(
     tree: &mut T,
     dialect: Dialect,
     header: Option<&str>,
-    strict: Option<&str>,
+    strict: &Option<StrictPaths>,
     depfile: &[u8],
     target: &[u8],
     command: &[u8],
 ) -> Result<Outcome, Refusal>
     ensures done { IfOk result (λ o. o.status ≡ Done) }
     ensures files { T.is_honest → EndsDepfile (T.files tree.old) (by_files dialect T.is_honest (state T.Tree tree.old) (state T.Tree tree.new))
-        (option_map (λ p. p.now) header.entry) (option_map (λ p. p.now) strict.entry) depfile.now target.now command.now result }
+        (option_map (λ p. p.now) header.entry) strict.now depfile.now target.now command.now result }
     ensures cause { result ≡ Err (Engine Device) → HasRisen (T.failures tree.old) (T.failures tree.new) }
     ensures memory { result ≡ Err (Engine OutOfMemory) → T.failures tree.new ≡ T.failures tree.old }
     ensures kept { T.backdated tree.new ≡ T.backdated tree.old }

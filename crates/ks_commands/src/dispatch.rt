@@ -133,7 +133,7 @@ pub(crate) fn outcome<T: Backdating>(
                 tree,
                 dialect,
                 borrowed_path(header),
-                borrowed_path(strict),
+                strict,
                 depfile,
                 target.as_bytes(),
                 command,

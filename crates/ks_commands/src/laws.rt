@@ -38,7 +38,7 @@ pub fn batch_reports_changes()
     ensures { BatchReportsChanges }
 {}
 
-/// What `age` is for. Make compiles an object that is older than one of its prerequisites, and an aged one is older than each
+/// What `backdate` is for. Make compiles an object that is older than one of its prerequisites, and a backdated one is older than each
 /// stamp that a synchronisation has written: so make compiles what changed, whatever a clock said.
 pub fn what_changed_is_backdated()
     ensures { WhatChangedIsBackdated }

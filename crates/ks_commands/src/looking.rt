@@ -2,7 +2,7 @@
 //!
 //! A build that leaves the header of all symbols out of an object's dependencies is right where nothing but these names can matter. What
 //! the compiler has read says whether that is known. In doubt the object isn't recorded, and its dependencies stay.
-ghost use Rattle.std.specs.Prelude.{◌≡◌, ◌⊎◌, ◌||◌, List, ℕ, Err, IfErr, IfOk, IsErrOf, IsTrue, None, OnOk, Some, is_some, map, slice_get, true, vec_items};
+ghost use Rattle.std.specs.Prelude.{◌≡◌, ◌⊎◌, ◌||◌, List, ℕ, Err, IfErr, IfOk, IsErrOf, IsTrue, None, OnOk, Some, is_some, map, slice_get, string_bytes, true, vec_items};
 ghost use Rattle.ks_symbols.specs.Names.{is_path};
 ghost use Rattle.ks_fixdep.specs.DependencyFile.{ends_in_path, is_directory, is_header};
 ghost use Rattle.ks_fixdep.specs.declared.dependency_file.Role.{Role};
@@ -13,7 +13,7 @@ ghost use Rattle.ks_tree.specs.Files.{content};
 ghost use Rattle.ks_tree.specs.Frames.{Reads};
 ghost use Rattle.ks_engine.specs.Refusals.{IsAborted};
 ghost use Rattle.ks_requests.specs.Inputs.{given};
-ghost use Rattle.ks_commands.specs.Looking.{AreListed, AreLookedAt, IsDefinition, IsFound, IsHeader, IsInput, IsListRefused, IsLooked, IsLookedAt, IsSought, IsUnread, IsUnreadAmong, IsUnreadDefinition, IsUnreadListed, file_includes, has_source, includes_macro, is_header_name, is_included, is_listed, is_of_system, is_own, is_read, is_source, looked_by, path_of};
+ghost use Rattle.ks_commands.specs.Looking.{AreListed, AreLookedAt, IsDefinition, IsFound, IsHeader, IsInput, IsListRefused, IsLooked, IsLookedAt, IsSought, IsUnread, IsUnreadAmong, IsUnreadDefinition, IsUnreadFile, IsUnreadListed, AreFilesLooked, AreTools, IsBadTool, is_program, file_includes, has_source, includes_macro, is_header_name, is_included, is_listed, is_of_system, is_own, is_read, is_source, looked_by, path_of};
 
 use indexmap::IndexSet;
 use ks_engine::{EngineError, read_old};
@@ -23,7 +23,7 @@ use ks_hidden::{
     precompiled_candidates, unknown_argument,
 };
 use ks_output::OldConfig;
-use ks_requests::read_given;
+use ks_requests::{StrictPaths, read_given};
 use ks_symbols::{Dialect, Path, Seed, path_is_legal};
 use ks_tree::{Tree, header_path};
 use std::alloc::{AllocError, Global};
@@ -370,8 +370,47 @@ fn path_set<'a>(
     Ok(listed)
 }
 
-/// What may matter to an object beside the names that its files mention, if anything, by the dependency file that the compiler wrote.
-pub(crate) fn find_cause<T: Tree>(
+/// Whether the file at a path is a program, and no script, which may bring words of its own.
+fn is_program<T: Tree>(alloc: Global, tree: &mut T, tool: &[u8]) -> Result<bool, EngineError>
+    ensures reads { Reads T.Tree tree.old tree.new (IsErrOf result EngineError.Device) }
+    ensures passed { OnOk result (T.failures tree.new ≡ T.failures tree.old) }
+    ensures uncounted { IsErrOf result EngineError.OutOfMemory → T.failures tree.new ≡ T.failures tree.old }
+    ensures given { IfErr result IsAborted }
+    ensures found { T.is_honest → IfOk result (λ is. is ≡ is_program (content (T.files tree.old) tool.now)) }
+{
+    let mut front = [0; 4];
+    match tree.read_at(alloc, tool, 0, &mut front)? {
+        Some(count) => Ok(&front[..count] == b"\x7FELF".as_slice()),
+        None => Ok(false),
+    }
+}
+
+/// Looks at the tools that make an object.
+fn look_at_tools<T: Tree>(
+    alloc: Global,
+    tree: &mut T,
+    tools: &[String],
+) -> Result<Option<Hidden>, EngineError>
+    ensures reads { Reads T.Tree tree.old tree.new (IsErrOf result EngineError.Device) }
+    ensures passed { OnOk result (T.failures tree.new ≡ T.failures tree.old) }
+    ensures uncounted { IsErrOf result EngineError.OutOfMemory → T.failures tree.new ≡ T.failures tree.old }
+    ensures found { T.is_honest → IfOk result (AreTools (T.files tree.old) (map (λ tool. string_bytes tool) tools.now)) }
+    ensures refused { T.is_honest → IfErr result (λ e. IsAborted e ⊎ IsBadTool (T.files tree.old) (map (λ tool. string_bytes tool) tools.now) e) }
+{
+    for place in 0..tools.len() {
+        let tool = tools[place].as_bytes();
+        if !path_is_legal(tool) {
+            return Err(EngineError::BadPath(0));
+        }
+        if !is_program(alloc, tree, tool)? {
+            return Ok(Some(Hidden::Input(Path::new(alloc, tool)?, 1)));
+        }
+    }
+    Ok(None)
+}
+
+/// What may matter to an object by the files that its dependency file lists, if anything.
+fn look_at_files<T: Tree>(
     alloc: Global,
     tree: &mut T,
     dialect: Dialect,
@@ -383,12 +422,9 @@ pub(crate) fn find_cause<T: Tree>(
     ensures reads { Reads T.Tree tree.old tree.new (IsErrOf result EngineError.Device) }
     ensures passed { OnOk result (T.failures tree.new ≡ T.failures tree.old) }
     ensures uncounted { IsErrOf result EngineError.OutOfMemory → T.failures tree.new ≡ T.failures tree.old }
-    ensures looked { T.is_honest → IfOk result (IsLooked dialect header.entry alias.now (T.files tree.old) depfile.now command.now) }
-    ensures refused { T.is_honest → IfErr result (λ e. IsAborted e ⊎ IsUnread dialect header.entry alias.now (T.files tree.old) depfile.now command.now e) }
+    ensures looked { T.is_honest → IfOk result (AreFilesLooked dialect header.entry alias.now (T.files tree.old) depfile.now command.now) }
+    ensures refused { T.is_honest → IfErr result (λ e. IsAborted e ⊎ IsUnreadFile dialect header.entry alias.now (T.files tree.old) depfile.now command.now e) }
 {
-    if let Some(word) = unknown_argument(alloc, command)? {
-        return Ok(Some(Hidden::Argument(word)));
-    }
     let text = read_given(alloc, tree, depfile)?;
     let prerequisites = read_listed(alloc, Seed::new(tree.seed()), &text)?;
     let config = read_old(alloc, tree)?;
@@ -402,4 +438,31 @@ pub(crate) fn find_cause<T: Tree>(
         command,
     };
     look_for_cause(alloc, tree, &look, &prerequisites)
+}
+
+/// What may matter to an object beside the names that its files mention, if anything: by its command, by the tools that make it, and by
+/// the dependency file that the compiler wrote.
+pub(crate) fn find_cause<T: Tree>(
+    alloc: Global,
+    tree: &mut T,
+    dialect: Dialect,
+    header: Header<'_>,
+    strict: &StrictPaths,
+    depfile: &[u8],
+    command: &[u8],
+) -> Result<Option<Hidden>, EngineError>
+    ensures reads { Reads T.Tree tree.old tree.new (IsErrOf result EngineError.Device) }
+    ensures passed { OnOk result (T.failures tree.new ≡ T.failures tree.old) }
+    ensures uncounted { IsErrOf result EngineError.OutOfMemory → T.failures tree.new ≡ T.failures tree.old }
+    ensures looked { T.is_honest → IfOk result (IsLooked dialect header.entry strict.now (T.files tree.old) depfile.now command.now) }
+    ensures refused { T.is_honest → IfErr result (λ e. IsAborted e ⊎ IsUnread dialect header.entry strict.now (T.files tree.old) depfile.now command.now e) }
+{
+    if let Some(word) = unknown_argument(alloc, command)? {
+        return Ok(Some(Hidden::Argument(word)));
+    }
+    if let Some(hidden) = look_at_tools(alloc, tree, &strict.tools)? {
+        return Ok(Some(hidden));
+    }
+    let alias = strict.alias.as_bytes();
+    look_at_files(alloc, tree, dialect, header, alias, depfile, command)
 }

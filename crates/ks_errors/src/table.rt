@@ -219,7 +219,7 @@ pub const BAD_COMMAND_FILE: Row = (
 pub const HIDDEN_INPUT: Row = (
     "24",
     "HiddenInput",
-    "with `--strict`: a file of the object may read another one that no dependency file lists, embeds one, or has the time of the compile",
+    "with `--strict`: a file of the object may read another one that no dependency file lists, embeds one, or has the time of the compile; or a tool is a script",
     "`__TIME__` or `.incbin` in x.c",
     "don't record the object: compile it after each change",
 );

@@ -37,7 +37,9 @@ pub use replies::{
     report_sync, write_answer, write_build_line, write_refused_target,
 };
 pub use report_style::ReportStyle;
-pub use request::{ConfigPaths, DepfileAfter, KeptPaths, OutputFormat, Request, Stamps, Targets};
+pub use request::{
+    ConfigPaths, DepfileAfter, KeptPaths, OutputFormat, Request, Stamps, StrictPaths, Targets,
+};
 pub use script::{ScriptLine, read_script, script_syncs};
 pub use script_error::ScriptError;
 pub use sites::{Part, Site, site_of};

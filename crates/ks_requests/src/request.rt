@@ -26,6 +26,15 @@ pub struct KeptPaths {
     pub header: String,
 }
 
+/// By what a strict record is refused, beside the files that the compiler lists.
+#[derive(Debug, Drop)]
+pub struct StrictPaths {
+    /// Another path that the header may have.
+    pub alias: String,
+    /// The compiler, and what runs it.
+    pub tools: Vec<String>,
+}
+
 /// How the answers about objects are printed.
 #[derive(Clone, Copy, Debug, PartialEq, Eq)]
 pub enum OutputFormat {
@@ -93,11 +102,11 @@ pub enum Request {
         options: RecordOptions,
     },
     /// Record an object for a build that goes by its dependency file, which gets the stamps of the names that were found in the
-    /// place of the header. The header is named by the end of its path, or it is the usual one. Where it has a path under which it
-    /// may stand there too, an object is refused that may depend on more than names.
+    /// place of the header. The header is named by the end of its path, or it is the usual one. Where the record is strict, an object is
+    /// refused that may depend on more than names.
     Depfile {
         header: Option<String>,
-        strict: Option<String>,
+        strict: Option<StrictPaths>,
         depfile: String,
         target: String,
         command: String,
